@@ -5,7 +5,7 @@ use Rattle.vb_events.specs.declared.event.Event.{Event}
 use Rattle.vbucket.specs.Rows.{row_at}
 use Rattle.node_world.specs.declared.arm.Arm.{Arm}
 use Rattle.node_world.specs.declared.arm.Fired.{Fired}
-use Rattle.node_world.specs.declared.link.LinkLine.TheVariants as ask
+use Rattle.script_text.specs.declared.verb.LinkVerb.TheVariants as link_verb
 use Rattle.node_world.specs.declared.told.Told.{Told}
 use Rattle.node_world.specs.Arms.{fired_by}
 use Rattle.node_world.specs.Lines.{link_line_if, link_line_at}
@@ -36,15 +36,15 @@ armed_line n w kept arm told came x is said met =
     (subst (λ (t : Told). Comes kept came (after_fire n arm.out (fired_by arm.fuse (arm_in (x.0.nodes n)).fuse) (x.0, t))) said met)
 
 -- `down L B` is the line at the consumer's end
-pub down_is : (w : PlainWorld) (l wanted : ℕ) → link_line_at (ask.Down wanted) w l ≡ on_link w l consumer_node (down_in wanted)
+pub down_is : (w : PlainWorld) (l wanted : ℕ) → link_line_at (link_verb.Down wanted) w l ≡ on_link w l consumer_node (down_in wanted)
 down_is w l wanted = by (row_at link_number l w.links)
   where
-    by : (o : Option PlainLink) → link_line_if (ask.Down wanted) w o ≡ link_outcome w l consumer_node (down_in wanted) o
+    by : (o : Option PlainLink) → link_line_if (link_verb.Down wanted) w o ≡ link_outcome w l consumer_node (down_in wanted) o
     by None = refl
     by (Some link) = refl
 
 -- the link is not open
-pub down_none : (w : PlainWorld) (l wanted : ℕ) (kept : Kept) (told : Told) → row_at link_number l w.links ≡ None → Comes kept told (link_line_at (ask.Down wanted) w l) → Comes kept told (down_step w l wanted)
+pub down_none : (w : PlainWorld) (l wanted : ℕ) (kept : Kept) (told : Told) → row_at link_number l w.links ≡ None → Comes kept told (link_line_at (link_verb.Down wanted) w l) → Comes kept told (down_step w l wanted)
 down_none w l wanted kept told none came =
     subst (λ o. Comes kept told (down_outcome w l o (on_link w l consumer_node (down_in wanted)))) (sym none) (subst (Comes kept told) (down_is w l wanted) came)
 
@@ -58,8 +58,8 @@ module _ (w : PlainWorld) (l wanted n : ℕ) (link : PlainLink) (there : row_at 
   down_by kept came said = subst (λ o. Comes kept came (down_outcome w l o x)) (sym there) (subst (λ m. Comes kept came (with_broken m l w x)) (sym number) said)
 
   -- a rollback could not be written down
-  pub down_broken : (kept : Kept) (arm : Arm) (told came : Told) → arm ≡ arm_in (w.nodes n) → told ≡ (link_line_at (ask.Down wanted) w l).1 → is_broken_answer told.answer ≡ true
-      → (let y = link_line_at (ask.Down wanted) w l in Comes kept came (after_broken n l arm.out (fired_by arm.fuse (arm_in (y.0.nodes n)).fuse) (y.0, told))) → Comes kept came (down_step w l wanted)
+  pub down_broken : (kept : Kept) (arm : Arm) (told came : Told) → arm ≡ arm_in (w.nodes n) → told ≡ (link_line_at (link_verb.Down wanted) w l).1 → is_broken_answer told.answer ≡ true
+      → (let y = link_line_at (link_verb.Down wanted) w l in Comes kept came (after_broken n l arm.out (fired_by arm.fuse (arm_in (y.0.nodes n)).fuse) (y.0, told))) → Comes kept came (down_step w l wanted)
   down_broken kept arm told came is said broken met =
       let same : told ≡ x.1 = said ∙ ap (λ (o : Outcome). o.1) (down_is w l wanted) in
       let met' : Comes kept came (after_broken n l arm.out (fired_by arm.fuse (arm_in (x.0.nodes n)).fuse) (x.0, told))
@@ -71,7 +71,7 @@ module _ (w : PlainWorld) (l wanted n : ℕ) (link : PlainLink) (there : row_at 
       )
 
   -- or it went well
-  pub down_well : (kept : Kept) (told : Told) → is_broken_answer told.answer ≡ false → Comes kept told (link_line_at (ask.Down wanted) w l) → Comes kept told (down_step w l wanted)
+  pub down_well : (kept : Kept) (told : Told) → is_broken_answer told.answer ≡ false → Comes kept told (link_line_at (link_verb.Down wanted) w l) → Comes kept told (down_step w l wanted)
   down_well kept told well came =
       let there : Comes kept told x = subst (Comes kept told) (down_is w l wanted) came in
       down_by kept told (

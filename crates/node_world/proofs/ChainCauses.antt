@@ -105,7 +105,7 @@ module _ (n v : ℕ) (node : PlainNode) where
   abbrev row : Bool → Bool → Bool → PlainNode × Told → PlainNode × Told
   row a b c came = refused_or (first_cause ((a, cause.UnknownVb) ∷ (b, cause.WrongRole) ∷ (c, cause.ChainBad) ∷ [])) node came
 
-  chain_row : (others : Members) (o : Option Plain) (active fits : Bool) → node.vbs v ≡ o → is_active_one o ≡ active → is_chain n others ≡ fits
+  pub chain_row : (others : Members) (o : Option Plain) (active fits : Bool) → node.vbs v ≡ o → is_active_one o ≡ active → is_chain n others ≡ fits
       → chain_line n v others node ≡ row (not (is_some o)) (not active) (not fits) (chain_made n v others node)
   chain_row others o active fits here e f =
       ap (λ x. row (not (is_some x)) (not (is_active_one x)) (not (is_chain n others)) (chain_made n v others node)) here

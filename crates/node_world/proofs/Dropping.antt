@@ -14,7 +14,7 @@ use Rattle.node_core.specs.Outcomes.{value_at}
 use Rattle.node_world.specs.Arms.{no_arm}
 use Rattle.vbucket.specs.Rows.{row_at}
 use Rattle.node_world.specs.declared.link.Link.{Link}
-use Rattle.node_world.specs.declared.link.LinkLine.TheVariants as ask
+use Rattle.script_text.specs.declared.verb.LinkVerb.TheVariants as link_verb
 use Rattle.node_world.specs.declared.script_node.ScriptNode.{ScriptNode}
 use Rattle.node_world.specs.declared.told.Told.{Told}
 use Rattle.node_world.specs.Cuts.{unlinked}
@@ -101,7 +101,7 @@ cut_none n count turn kept w lt none c =
 
 -- a turn in which the first one is cut
 module _ (n count turn at : ℕ) (kept kept' : Kept) (w : PlainWorld) (link : Link) (told : Told) (placed : position (touching n) kept.links ≡ Some at) (is : link ≡ get_or kept.links at link)
-    (came : (v : PlainWorld) → WorldStands kept v → WorldStands kept' (link_line_at ask.Cut v link.number).0 × (told ≡ (link_line_at ask.Cut v link.number).1)) (c : Cutting n count turn kept w) where
+    (came : (v : PlainWorld) → WorldStands kept v → WorldStands kept' (link_line_at link_verb.Cut v link.number).0 × (told ≡ (link_line_at link_verb.Cut v link.number).1)) (c : Cutting n count turn kept w) where
   abbrev v : PlainWorld
   v = c.now
 
@@ -121,7 +121,7 @@ module _ (n count turn at : ℕ) (kept kept' : Kept) (w : PlainWorld) (link : Li
   is_found = ap (λ l. row_at link_number l v.links) number ∙ found ends kept.links v.links at link lt c.stands.links
 
   after : WorldStands kept' (unlinked p v)
-  after = subst (λ o. WorldStands kept' (link_line_if ask.Cut v o).0) is_found (came v c.stands).0
+  after = subst (λ o. WorldStands kept' (link_line_if link_verb.Cut v o).0) is_found (came v c.stands).0
 
   split : filter (touches n) v.links ≡ p ∷ filter (touches n) (remove v.links at)
   split =

@@ -56,7 +56,7 @@ module _ (n v : ℕ) where
   abbrev pub part_answer : FlushPart → PlainNode → Plain → Shelf → Answer
   part_answer p node vb shelf = answer_of n v (with_vb_at node.vbs v (plain_step vb call.Log).0) (with_shelf_at node.shelves v shelf) (part_job v p shelf.flush)
 
-  flushed_as : (p : FlushPart) (node : PlainNode) (vb : Plain) (shelf : Shelf) → node.vbs v ≡ Some vb → node.shelves v ≡ Some shelf
+  pub flushed_as : (p : FlushPart) (node : PlainNode) (vb : Plain) (shelf : Shelf) → node.vbs v ≡ Some vb → node.shelves v ≡ Some shelf
       → after_job (flush_at n v p) node.vbs node.shelves ≡ steps_of n v (with_vb_at node.vbs v (plain_step vb call.Log).0) (with_shelf_at node.shelves v shelf) (part_job v p shelf.flush)
   unfolding flush_job
   flushed_as p node vb shelf here kept =

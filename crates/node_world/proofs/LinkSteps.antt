@@ -17,8 +17,8 @@ use Rattle.node_core.specs.Outcomes.{live_dial}
 use Rattle.node_core.specs.Outs.{dial_answer}
 use Rattle.node_core.specs.Peers.{PlainPeer, peer_pulled}
 use Rattle.node_world.specs.declared.link.Link.{Link}
-use Rattle.node_world.specs.declared.link.LinkLine.{LinkLine}
-use Rattle.node_world.specs.declared.link.LinkLine.TheVariants as ask
+use Rattle.script_text.specs.declared.verb.LinkVerb.{LinkVerb}
+use Rattle.script_text.specs.declared.verb.LinkVerb.TheVariants as link_verb
 use Rattle.node_world.specs.declared.script_node.ScriptNode.{ScriptNode}
 use Rattle.node_world.specs.declared.told.Told.{Told}
 use Rattle.node_world.specs.Cuts.{closed_at}
@@ -38,13 +38,13 @@ keys_kept : (link : Link) (up down : List ℕ) → SameKeys link (record link { 
 keys_kept link up down = record { number = refl; producer = refl; conn = refl; node = refl; vb = refl }
 
 -- the node at an end is not made: no link has such an end
-pub unmade_producer : (asked : LinkLine) (nodes : List ScriptNode) (link : Link) (told : Told) (over : Bool) → position (λ node. node_number node == link.producer) nodes ≡ None → LinkStep asked nodes link told over nodes link
+pub unmade_producer : (asked : LinkVerb) (nodes : List ScriptNode) (link : Link) (told : Told) (over : Bool) → position (λ node. node_number node == link.producer) nodes ≡ None → LinkStep asked nodes link told over nodes link
 unmade_producer asked nodes link told over none = record {
   keys = keys_kept link link.up link.down;
   came = λ w plain stands ends. let no : None ≡ Some (live_peer (peer_of plain)) = sym (no_peer nodes link.producer link.conn none) ∙ ends.server in cc;
 }
 
-pub unmade_consumer : (asked : LinkLine) (nodes : List ScriptNode) (link : Link) (told : Told) (over : Bool) → position (λ node. node_number node == link.node) nodes ≡ None → LinkStep asked nodes link told over nodes link
+pub unmade_consumer : (asked : LinkVerb) (nodes : List ScriptNode) (link : Link) (told : Told) (over : Bool) → position (λ node. node_number node == link.node) nodes ≡ None → LinkStep asked nodes link told over nodes link
 unmade_consumer asked nodes link told over none = record {
   keys = keys_kept link link.up link.down;
   came = λ w plain stands ends. let no : None ≡ Some (live_dial (dial_of plain)) = sym (no_dial nodes link.node link.vb none) ∙ ends.consumer in cc;
@@ -117,7 +117,7 @@ module _ (nodes : List ScriptNode) (at : ℕ) (old new : ScriptNode) (link : Lin
           ),
         )
 
-    pub up_step : LinkStep (ask.Up wanted) nodes link up_said false nodes' upward
+    pub up_step : LinkStep (link_verb.Up wanted) nodes link up_said false nodes' upward
     up_step = record {
       keys = keys_kept link up down;
       came = λ w plain stands ends.
@@ -146,7 +146,7 @@ module _ (nodes : List ScriptNode) (at : ℕ) (old new : ScriptNode) (link : Lin
           ),
         )
 
-    pub pump_step : LinkStep (ask.Pump frames) nodes link (out_told out) false nodes' pumped
+    pub pump_step : LinkStep (link_verb.Pump frames) nodes link (out_told out) false nodes' pumped
     pump_step = record {
       keys = keys_kept link link.up down;
       came = λ w plain stands ends.
@@ -244,7 +244,7 @@ module _ (nodes : List ScriptNode) (at : ℕ) (old new : ScriptNode) (link : Lin
               (up_is ∙ (λ i. ends.up i ++ (said i).out)) (down_is ∙ ap (λ queue. drop (moved_len wanted queue) queue) ends.down),
         )
 
-    pub down_step : LinkStep (ask.Down wanted) nodes link down_said out.closed nodes'' downward
+    pub down_step : LinkStep (link_verb.Down wanted) nodes link down_said out.closed nodes'' downward
     down_step = record {
       keys = keys_kept link up down;
       came = λ w plain stands ends.
@@ -259,7 +259,7 @@ module _ (nodes : List ScriptNode) (at : ℕ) (old new : ScriptNode) (link : Lin
 
   -- `cut L`
   module _ (out : NodeOut) (cut : CutsDial link.vb old out new) where
-    pub cut_step : LinkStep ask.Cut nodes link (out_told out) true nodes'' link
+    pub cut_step : LinkStep link_verb.Cut nodes link (out_told out) true nodes'' link
     cut_step = record {
       keys = keys_kept link link.up link.down;
       came = λ w plain stands ends.
@@ -276,24 +276,24 @@ module _ (nodes : List ScriptNode) (at : ℕ) (old new : ScriptNode) (link : Lin
 -- the same lines, by what their parts tell
 module _ (nodes : List ScriptNode) (at : ℕ) (old new : ScriptNode) (link : Link) (wanted n : ℕ) (piece : List ℕ) (out : NodeOut) (up down : List ℕ) (told : Told) (is : old ≡ get_or nodes at old) where
   pub up_line : position (λ node. node_number node == link.producer) nodes ≡ Some at → n ≡ moved_len wanted link.up → piece ≡ take n link.up → FeedsPeer link.conn piece old out new → up ≡ drop n link.up → down ≡ link.down ++ out.out
-      → told ≡ moved n out.events → (over : Bool) → over ≡ false → LinkStep (ask.Up wanted) nodes link told over (set nodes at new) (record link { up = up; down = down })
+      → told ≡ moved n out.events → (over : Bool) → over ≡ false → LinkStep (link_verb.Up wanted) nodes link told over (set nodes at new) (record link { up = up; down = down })
   up_line placed len taken fed up_is down_is said over going =
       let fed' = subst (λ q. FeedsPeer link.conn q old out new) (taken ∙ ap (λ k. take k link.up) len) fed in
-      subst (λ t. LinkStep (ask.Up wanted) nodes link t over (set nodes at new) (record link { up = up; down = down })) (sym (said ∙ ap (λ k. moved k out.events) len))
-      (subst (λ b. LinkStep (ask.Up wanted) nodes link (moved (moved_len wanted link.up) out.events) b (set nodes at new) (record link { up = up; down = down })) (sym going)
+      subst (λ t. LinkStep (link_verb.Up wanted) nodes link t over (set nodes at new) (record link { up = up; down = down })) (sym (said ∙ ap (λ k. moved k out.events) len))
+      (subst (λ b. LinkStep (link_verb.Up wanted) nodes link (moved (moved_len wanted link.up) out.events) b (set nodes at new) (record link { up = up; down = down })) (sym going)
       (up_step nodes at old new link placed is wanted out up down fed' (up_is ∙ ap (λ k. drop k link.up) len) down_is))
 
   pub down_line : position (λ node. node_number node == link.node) nodes ≡ Some at → n ≡ moved_len wanted link.down → piece ≡ take n link.down → FeedsDial link.vb piece old out new → down ≡ drop n link.down → up ≡ link.up ++ out.out
-      → told ≡ moved_if n out → LinkStep (ask.Down wanted) nodes link told out.closed (set nodes at new) (record link { up = up; down = down })
+      → told ≡ moved_if n out → LinkStep (link_verb.Down wanted) nodes link told out.closed (set nodes at new) (record link { up = up; down = down })
   down_line placed len taken fed down_is up_is said =
       let fed' = subst (λ q. FeedsDial link.vb q old out new) (taken ∙ ap (λ k. take k link.down) len) fed in
-      subst (λ t. LinkStep (ask.Down wanted) nodes link t out.closed (set nodes at new) (record link { up = up; down = down })) (sym (said ∙ ap (λ k. moved_if k out) len))
+      subst (λ t. LinkStep (link_verb.Down wanted) nodes link t out.closed (set nodes at new) (record link { up = up; down = down })) (sym (said ∙ ap (λ k. moved_if k out) len))
       (down_step nodes at old new link placed is wanted out up down fed' (down_is ∙ ap (λ k. drop k link.down) len) up_is)
 
 module _ (nodes : List ScriptNode) (at : ℕ) (old new : ScriptNode) (link : Link) (frames : ℕ) (out : NodeOut) (down : List ℕ) (told : Told) (is : old ≡ get_or nodes at old) where
   pub pump_line : position (λ node. node_number node == link.producer) nodes ≡ Some at → PullsPeer link.conn frames old out new → down ≡ link.down ++ out.out → told ≡ out_told out → (over : Bool) → over ≡ false
-      → LinkStep (ask.Pump frames) nodes link told over (set nodes at new) (record link { up = link.up; down = down })
+      → LinkStep (link_verb.Pump frames) nodes link told over (set nodes at new) (record link { up = link.up; down = down })
   pump_line placed pulled down_is said over going =
-      subst (λ t. LinkStep (ask.Pump frames) nodes link t over (set nodes at new) (record link { up = link.up; down = down })) (sym said)
-      (subst (λ b. LinkStep (ask.Pump frames) nodes link (out_told out) b (set nodes at new) (record link { up = link.up; down = down })) (sym going)
+      subst (λ t. LinkStep (link_verb.Pump frames) nodes link t over (set nodes at new) (record link { up = link.up; down = down })) (sym said)
+      (subst (λ b. LinkStep (link_verb.Pump frames) nodes link (out_told out) b (set nodes at new) (record link { up = link.up; down = down })) (sym going)
       (pump_step nodes at old new link placed is frames out down pulled down_is))

@@ -109,7 +109,7 @@ module _ (w : PlainWorld) (n : ℕ) (node : PlainNode) (there : w.nodes n ≡ So
   F = node.arm.fuse
 
   -- the causes of a vBucket to be made
-  abbrev vb_row : Bool → Bool → List (Bool × Cause) → PlainNode × Told → PlainNode × Told
+  abbrev pub vb_row : Bool → Bool → List (Bool × Cause) → PlainNode × Told → PlainNode × Told
   vb_row a b rest came = refused_or (first_cause ((a, cause.VbExists) ∷ (b, cause.Limit) ∷ rest)) node came
 
   active_no : (v uuid : ℕ) (why : Cause) → vb_at w.uuids n v uuid node ≡ (node, refusal why) → (with_arm n w (on_node w n (vb_at w.uuids n v uuid))).1.answer ≡ answer.No why
@@ -136,10 +136,10 @@ module _ (w : PlainWorld) (n : ℕ) (node : PlainNode) (there : w.nodes n ≡ So
         ∙ ap (λ (x : PlainNode × Told). x.1.answer) is ∙ ap (λ fate. noted_answer (wrote_of fate) answer.Ok) (append_stands S v (State r (first_log r uuid)) shelf stands_there notes)
 
   -- the role and the id of a line that turns a vBucket
-  abbrev turn_row : Role → List (Bool × Cause) → Outcome → Option Plain → Outcome
+  abbrev pub turn_row : Role → List (Bool × Cause) → Outcome → Option Plain → Outcome
   turn_row r rest came o = refused_or (first_cause (role_causes r o ++ rest)) w came
 
-  turned_by : (v : ℕ) (r : Role) (rest : List (Bool × Cause)) (came : Outcome) (o : Option Plain) → node.vbs v ≡ o
+  pub turned_by : (v : ℕ) (r : Role) (rest : List (Bool × Cause)) (came : Outcome) (o : Option Plain) → node.vbs v ≡ o
       → refused_or (first_cause ((not (is_some (w.nodes n)), cause.UnknownNode) ∷ (is_off (w.nodes n), cause.NodeDown) ∷ role_causes r (vb_in (w.nodes n) v) ++ rest)) w came ≡ turn_row r rest came o
   turned_by v r rest came o e =
       ap (λ x. refused_or (first_cause ((not (is_some x), cause.UnknownNode) ∷ (is_off x, cause.NodeDown) ∷ role_causes r (vb_in x v) ++ rest)) w came) there
@@ -228,19 +228,19 @@ module _ (w : PlainWorld) (n : ℕ) (node : PlainNode) (there : w.nodes n ≡ So
   }
 
 -- which roles are not this one
-not_active : (r : Role) → r ≢ role.Active → is_role r role.Active ≡ false
+pub not_active : (r : Role) → r ≢ role.Active → is_role r role.Active ≡ false
 not_active role.Active ne = absurd (ne refl)
 not_active role.Replica ne = refl
 not_active role.Pending ne = refl
 not_active role.Dead ne = refl
 
-not_replica : (r : Role) → r ≢ role.Replica → is_role r role.Replica ≡ false
+pub not_replica : (r : Role) → r ≢ role.Replica → is_role r role.Replica ≡ false
 not_replica role.Active ne = refl
 not_replica role.Replica ne = absurd (ne refl)
 not_replica role.Pending ne = refl
 not_replica role.Dead ne = refl
 
-not_dead : (r : Role) → r ≢ role.Dead → is_role r role.Dead ≡ false
+pub not_dead : (r : Role) → r ≢ role.Dead → is_role r role.Dead ≡ false
 not_dead role.Active ne = refl
 not_dead role.Replica ne = refl
 not_dead role.Pending ne = refl

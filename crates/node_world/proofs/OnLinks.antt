@@ -9,8 +9,8 @@ use Rattle.vb_events.specs.declared.event.Cause.TheVariants as cause
 use Rattle.vbucket.specs.Rows.{row_at, row_put, row_out}
 use Rattle.vbucket.proofs.RowsAt.{at_place, not_placed}
 use Rattle.node_world.specs.declared.link.Link.{Link}
-use Rattle.node_world.specs.declared.link.LinkLine.{LinkLine}
-use Rattle.node_world.specs.declared.link.LinkLine.TheVariants as ask
+use Rattle.script_text.specs.declared.verb.LinkVerb.{LinkVerb}
+use Rattle.script_text.specs.declared.verb.LinkVerb.TheVariants as link_verb
 use Rattle.node_world.specs.declared.script_node.ScriptNode.{ScriptNode}
 use Rattle.node_world.specs.declared.told.Told.{Told}
 use Rattle.node_world.specs.Cuts.{closed_at, closed_in, unlinked}
@@ -34,17 +34,17 @@ remove_set (x ∷ xs) zero s = refl
 remove_set (x ∷ xs) (suc i) s = ap (λ ys. x ∷ ys) (remove_set xs i s)
 
 -- a line at an end of a link leaves the ids and the other links
-came_uuids : (asked : LinkLine) (w : PlainWorld) (plain : PlainLink) → (at_link asked w plain).0.uuids ≡ w.uuids
-came_uuids (ask.Up wanted) w plain = outcome_uuids w (producer_node plain) (Some plain, refusal cause.UnknownNode) (w.nodes (producer_node plain)) (up_at wanted plain)
-came_uuids (ask.Down wanted) w plain = outcome_uuids w (consumer_node plain) (Some plain, refusal cause.UnknownNode) (w.nodes (consumer_node plain)) (down_in wanted plain)
-came_uuids (ask.Pump frames) w plain = outcome_uuids w (producer_node plain) (Some plain, refusal cause.UnknownNode) (w.nodes (producer_node plain)) (pump_at frames plain)
-came_uuids ask.Cut w plain = refl
+came_uuids : (asked : LinkVerb) (w : PlainWorld) (plain : PlainLink) → (at_link asked w plain).0.uuids ≡ w.uuids
+came_uuids (link_verb.Up wanted) w plain = outcome_uuids w (producer_node plain) (Some plain, refusal cause.UnknownNode) (w.nodes (producer_node plain)) (up_at wanted plain)
+came_uuids (link_verb.Down wanted) w plain = outcome_uuids w (consumer_node plain) (Some plain, refusal cause.UnknownNode) (w.nodes (consumer_node plain)) (down_in wanted plain)
+came_uuids (link_verb.Pump frames) w plain = outcome_uuids w (producer_node plain) (Some plain, refusal cause.UnknownNode) (w.nodes (producer_node plain)) (pump_at frames plain)
+came_uuids link_verb.Cut w plain = refl
 
-came_links : (asked : LinkLine) (w : PlainWorld) (plain : PlainLink) → (at_link asked w plain).0.links ≡ w.links
-came_links (ask.Up wanted) w plain = outcome_links w (producer_node plain) (Some plain, refusal cause.UnknownNode) (w.nodes (producer_node plain)) (up_at wanted plain)
-came_links (ask.Down wanted) w plain = outcome_links w (consumer_node plain) (Some plain, refusal cause.UnknownNode) (w.nodes (consumer_node plain)) (down_in wanted plain)
-came_links (ask.Pump frames) w plain = outcome_links w (producer_node plain) (Some plain, refusal cause.UnknownNode) (w.nodes (producer_node plain)) (pump_at frames plain)
-came_links ask.Cut w plain = refl
+came_links : (asked : LinkVerb) (w : PlainWorld) (plain : PlainLink) → (at_link asked w plain).0.links ≡ w.links
+came_links (link_verb.Up wanted) w plain = outcome_links w (producer_node plain) (Some plain, refusal cause.UnknownNode) (w.nodes (producer_node plain)) (up_at wanted plain)
+came_links (link_verb.Down wanted) w plain = outcome_links w (consumer_node plain) (Some plain, refusal cause.UnknownNode) (w.nodes (consumer_node plain)) (down_in wanted plain)
+came_links (link_verb.Pump frames) w plain = outcome_links w (producer_node plain) (Some plain, refusal cause.UnknownNode) (w.nodes (producer_node plain)) (pump_at frames plain)
+came_links link_verb.Cut w plain = refl
 
 -- so does the end of its stream
 pub closed_uuids : (plain : PlainLink) (w : PlainWorld) → (closed_in plain w).uuids ≡ w.uuids
@@ -107,13 +107,13 @@ pub not_open : (ends : Ends) (l : ℕ) (links : List Link) (plain : List PlainLi
 not_open ends l links plain none h =
     is_none (row_at link_number l plain) (sym (numbers ends l links plain h) ∙ ap is_some (not_placed (λ (x : Link). x.number) l links none))
 
-pub closed_line : (kept : Kept) (w : PlainWorld) (asked : LinkLine) (l : ℕ) → position (λ (x : Link). x.number == l) kept.links ≡ None → WorldStands kept w
+pub closed_line : (kept : Kept) (w : PlainWorld) (asked : LinkVerb) (l : ℕ) → position (λ (x : Link). x.number == l) kept.links ≡ None → WorldStands kept w
     → WorldStands kept (link_line_at asked w l).0 × (refusal cause.LinkClosed ≡ (link_line_at asked w l).1)
 closed_line kept w asked l none stands =
     subst (λ o. WorldStands kept (link_line_if asked w o).0 × (refusal cause.LinkClosed ≡ (link_line_if asked w o).1)) (sym (not_open (ends_of kept.nodes) l kept.links w.links none stands.links.each)) (stands, refl)
 
 -- a line for a link that is open
-module _ (kept : Kept) (w : PlainWorld) (asked : LinkLine) (l at : ℕ) (link link' : Link) (told : Told) (over : Bool) (nodes' : List ScriptNode) (is_placed : position (λ (x : Link). x.number == l) kept.links ≡ Some at) (is : link ≡ get_or kept.links at link)
+module _ (kept : Kept) (w : PlainWorld) (asked : LinkVerb) (l at : ℕ) (link link' : Link) (told : Told) (over : Bool) (nodes' : List ScriptNode) (is_placed : position (λ (x : Link). x.number == l) kept.links ≡ Some at) (is : link ≡ get_or kept.links at link)
     (stands : WorldStands kept w) where
   first : (at < length kept.links) × (((get_or kept.links at link).number == l) ≡ true)
   first = let (lt, here, before) = position-Some (λ (x : Link). x.number == l) kept.links at link is_placed in (lt, here)

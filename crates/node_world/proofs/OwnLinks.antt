@@ -31,7 +31,7 @@ use Rattle.node_world.proofs.RoleJobs.{turn_stays}
 
 module _ {X : Type 0} (f : X → Bool) where
   -- the first of what meets a test meets it
-  meets : (x : X) (rest xs : List X) → filter f xs ≡ x ∷ rest → f x ≡ true
+  pub meets : (x : X) (rest xs : List X) → filter f xs ≡ x ∷ rest → f x ≡ true
   meets x rest [] e = cc
   meets x rest (y ∷ ys) e = by (f y) refl e (meets x rest ys)
     where
@@ -39,7 +39,7 @@ module _ {X : Type 0} (f : X → Bool) where
       by true t e later = let is : y ≡ x = cc in ap f (sym is) ∙ t
       by false t e later = later e
 
-  found : (x : X) (rest xs : List X) → filter f xs ≡ x ∷ rest → find f xs ≡ Some x
+  pub found : (x : X) (rest xs : List X) → filter f xs ≡ x ∷ rest → find f xs ≡ Some x
   found x rest [] e = cc
   found x rest (y ∷ ys) e = by (f y) e (found x rest ys)
     where
@@ -47,7 +47,7 @@ module _ {X : Type 0} (f : X → Bool) where
       by true e later = let is : y ≡ x = cc in ap Some is
       by false e later = later e
 
-  found_none : (xs : List X) → filter f xs ≡ [] → find f xs ≡ None
+  pub found_none : (xs : List X) → filter f xs ≡ [] → find f xs ≡ None
   found_none [] e = refl
   found_none (y ∷ ys) e = by (f y) e (found_none ys)
     where
@@ -57,7 +57,7 @@ module _ {X : Type 0} (f : X → Bool) where
 
   -- members that are changed in what neither the test nor the number reads
   module _ (g : X → X) (same : (x : X) → f (g x) ≡ f x) where
-    mapped : (xs : List X) → filter f (map g xs) ≡ map g (filter f xs)
+    pub mapped : (xs : List X) → filter f (map g xs) ≡ map g (filter f xs)
     mapped [] = refl
     mapped (x ∷ xs) = ap (λ b. cond b (g x ∷ filter f (map g xs)) (filter f (map g xs))) (same x) ∙ by (f x) (mapped xs)
       where
@@ -96,7 +96,7 @@ module _ (m u : ℕ) (ids : List ℕ) where
       by true = refl
       by false = refl
 
-  same_fed : (n v : ℕ) (link : PlainLink) → feeds n v (told_ended m u ids link) ≡ feeds n v link
+  pub same_fed : (n v : ℕ) (link : PlainLink) → feeds n v (told_ended m u ids link) ≡ feeds n v link
   same_fed n v link = by (producer_node link == m)
     where
       by : (b : Bool) → feeds n v (if b then record link { server = ended_by u ids link.server } else link) ≡ feeds n v link

@@ -7,6 +7,7 @@ use Rattle.client_session.specs.Serving.{PlainSession, new_session}
 use Rattle.disk_journals.specs.Books.{Book}
 use Rattle.script_text.specs.declared.verb.ScriptLine.{ScriptLine}
 use Rattle.script_text.specs.declared.verb.Verb.TheVariants as verb
+use Rattle.script_text.specs.declared.verb.NodeVerb.TheVariants as node_verb
 use Rattle.vb_calls.specs.declared.calls.Resolved.{Resolved}
 use Rattle.vb_disk.specs.declared.fuse.Fuse.{Fuse}
 use Rattle.vb_disk.specs.declared.fuse.Fuse.TheVariants as fuse
@@ -87,7 +88,7 @@ module _ (w : PlainWorld) (line n nanos : ℕ) (node : PlainNode) where
   abbrev set : PlainNode
   set = record node { clock = nanos }
 
-  came : w.nodes n ≡ Some node → node.off ≡ None → verb_step w line (verb.Clock n nanos) ≡ (with_node_at w n set, done [])
+  came : w.nodes n ≡ Some node → node.off ≡ None → verb_step w line (verb.AtNode n (node_verb.Clock nanos)) ≡ (with_node_at w n set, done [])
   came known up =
       ap (λ o. node_outcome w n (refusal cause.UnknownNode) o (if_up (clock_at nanos))) known
       ∙ ap (λ (q : Option (List Book)). let x : PlainNode × Told = if is_some q then (node, refusal cause.NodeDown) else clock_at nanos node in (with_node_at w n x.0, x.1)) up

@@ -10,6 +10,10 @@ use Rattle.mcbp_frame.specs.declared.frame.Frame.{Frame}
 use Rattle.script_text.specs.declared.verb.ScriptLine.{ScriptLine}
 use Rattle.script_text.specs.declared.verb.Verb.{Verb}
 use Rattle.script_text.specs.declared.verb.Verb.TheVariants as verb
+use Rattle.script_text.specs.declared.verb.VbVerb.TheVariants as vb_verb
+use Rattle.script_text.specs.declared.verb.NodeVerb.TheVariants as node_verb
+use Rattle.script_text.specs.declared.verb.LinkVerb.TheVariants as link_verb
+use Rattle.script_text.specs.declared.verb.ClientVerb.TheVariants as client_verb
 use Rattle.vb_calls.specs.Programs.{after}
 use Rattle.vb_calls.specs.Jobs.{after_job}
 use Rattle.vb_calls.specs.declared.calls.Resolved.{Resolved}
@@ -325,36 +329,36 @@ due_rests n v came rests = by (is_counted came.1.answer)
 -- a line, by its verb
 verb_rests : (w : PlainWorld) (line : ℕ) (said : Verb) → Rests w → Rests (verb_step w line said).0
 verb_rests w line (verb.Node n) rests = refused_rests (first_cause (node_causes w n)) w (with_node_at w n empty_node, done []) rests (node_rests w n empty_node rests (λ v. tt))
-verb_rests w line (verb.VbActive n v uuid) rests = arm_rests w n (on_node w n (vb_at w.uuids n v uuid)) (line_rests w n (vb_at w.uuids n v uuid) rests (vb_keeps w.uuids n v uuid))
-verb_rests w line (verb.VbReplica n v) rests = arm_rests w n (on_node w n (replica_at n v)) (line_rests w n (replica_at n v) rests (replica_keeps n v))
-verb_rests w line (verb.Chain n v others) rests = line_rests w n (chain_line n v others) rests (chain_keeps n v others)
-verb_rests w line (verb.Client n c) rests = line_rests w n (client_at n (base_of line) c) rests (client_keeps n (base_of line) c)
-verb_rests w line (verb.Bytes n c bytes) rests = line_rests w n (bytes_at c bytes) rests (bytes_keeps c bytes)
-verb_rests w line (verb.Hang n c) rests = line_rests w n (hang_at c) rests (hang_keeps c)
-verb_rests w line (verb.Clock n nanos) rests = line_rests w n (clock_at nanos) rests (λ v node h. h)
+verb_rests w line (verb.AtVb n v (vb_verb.MakeActive uuid)) rests = arm_rests w n (on_node w n (vb_at w.uuids n v uuid)) (line_rests w n (vb_at w.uuids n v uuid) rests (vb_keeps w.uuids n v uuid))
+verb_rests w line (verb.AtVb n v vb_verb.MakeReplica) rests = arm_rests w n (on_node w n (replica_at n v)) (line_rests w n (replica_at n v) rests (replica_keeps n v))
+verb_rests w line (verb.AtVb n v (vb_verb.Chain others)) rests = line_rests w n (chain_line n v others) rests (chain_keeps n v others)
+verb_rests w line (verb.AtClient n c client_verb.Open) rests = line_rests w n (client_at n (base_of line) c) rests (client_keeps n (base_of line) c)
+verb_rests w line (verb.AtClient n c (client_verb.Bytes bytes)) rests = line_rests w n (bytes_at c bytes) rests (bytes_keeps c bytes)
+verb_rests w line (verb.AtClient n c client_verb.Hang) rests = line_rests w n (hang_at c) rests (hang_keeps c)
+verb_rests w line (verb.AtNode n (node_verb.Clock nanos)) rests = line_rests w n (clock_at nanos) rests (λ v node h. h)
 verb_rests w line (verb.Link l m n v) rests = refused_rests (first_cause (link_causes w l m n v)) w (with_links w (with_dialed line l m n v w.links (ask_in w n v)), done []) rests rests
-verb_rests w line (verb.Up l wanted) rests = link_rests w l producer_node (up_at wanted) rests (moved_keeps wanted)
-verb_rests w line (verb.Down l wanted) rests = down_rests w l wanted rests
-verb_rests w line (verb.Pump l frames) rests = link_rests w l producer_node (pump_at frames) rests (λ link v node h. h)
-verb_rests w line (verb.Cut l) rests = cut_rests w (row_at link_number l w.links) rests
-verb_rests w line (verb.Promote n v uuid) rests =
+verb_rests w line (verb.AtLink l (link_verb.Up wanted)) rests = link_rests w l producer_node (up_at wanted) rests (moved_keeps wanted)
+verb_rests w line (verb.AtLink l (link_verb.Down wanted)) rests = down_rests w l wanted rests
+verb_rests w line (verb.AtLink l (link_verb.Pump frames)) rests = link_rests w l producer_node (pump_at frames) rests (λ link v node h. h)
+verb_rests w line (verb.AtLink l link_verb.Cut) rests = cut_rests w (row_at link_number l w.links) rests
+verb_rests w line (verb.AtVb n v (vb_verb.Promote uuid)) rests =
     arm_rests w n (promote_step w n v uuid) (refused_rests (first_cause (promote_causes w n v uuid)) w (role_outcome n v (admin.Promote uuid) w) rests (role_rests w n v (admin.Promote uuid) rests))
-verb_rests w line (verb.Follow n v) rests =
+verb_rests w line (verb.AtVb n v vb_verb.Follow) rests =
     arm_rests w n (turn_step w n v role.Replica admin.Follow) (refused_rests (first_cause (turn_causes w n v role.Replica)) w (role_outcome n v admin.Follow w) rests (role_rests w n v admin.Follow rests))
-verb_rests w line (verb.Dead n v) rests =
+verb_rests w line (verb.AtVb n v vb_verb.Dead) rests =
     arm_rests w n (turn_step w n v role.Dead admin.Dead) (refused_rests (first_cause (turn_causes w n v role.Dead)) w (role_outcome n v admin.Dead w) rests (role_rests w n v admin.Dead rests))
-verb_rests w line (verb.Seal n v) rests = line_rests w n (admin_line n v admin.Seal) rests (admin_keeps n v admin.Seal)
-verb_rests w line (verb.Take n v) rests = line_rests w n (flush_line n v part.Take) rests (flush_keeps n v part.Take)
-verb_rests w line (verb.Save n v) rests = arm_rests w n (on_node w n (save_line n v)) (line_rests w n (save_line n v) rests (save_keeps n v))
-verb_rests w line (verb.Done n v) rests = due_rests n v (on_node w n (flush_line n v part.Done)) (line_rests w n (flush_line n v part.Done) rests (flush_keeps n v part.Done))
-verb_rests w line (verb.Tick n v) rests = line_rests w n (tick_line n v) rests (tick_keeps n v)
-verb_rests w line (verb.Stat n v) rests = line_rests w n (admin_line n v admin.Stat) rests (admin_keeps n v admin.Stat)
-verb_rests w line (verb.Log n v) rests = line_rests w n (admin_line n v admin.Log) rests (admin_keeps n v admin.Log)
-verb_rests w line (verb.Show n v) rests = line_rests w n (admin_line n v admin.Show) rests (admin_keeps n v admin.Show)
-verb_rests w line (verb.Stop n call out) rests = made_rests w n (refusal cause.UnknownNode) (arm_at (stop_arm call out)) rests (λ v node h. h)
-verb_rests w line (verb.Fail n call) rests = made_rests w n (refusal cause.UnknownNode) (arm_at (fail_arm call)) rests (λ v node h. h)
-verb_rests w line (verb.Crash n out) rests = refused_rests (first_cause (crash_causes w n)) w (dropped n out w, done (down_lines n None w)) rests (dropped_rests n out w rests)
-verb_rests w line (verb.Start n uuids) rests =
+verb_rests w line (verb.AtVb n v vb_verb.Seal) rests = line_rests w n (admin_line n v admin.Seal) rests (admin_keeps n v admin.Seal)
+verb_rests w line (verb.AtVb n v vb_verb.Take) rests = line_rests w n (flush_line n v part.Take) rests (flush_keeps n v part.Take)
+verb_rests w line (verb.AtVb n v vb_verb.Save) rests = arm_rests w n (on_node w n (save_line n v)) (line_rests w n (save_line n v) rests (save_keeps n v))
+verb_rests w line (verb.AtVb n v vb_verb.Done) rests = due_rests n v (on_node w n (flush_line n v part.Done)) (line_rests w n (flush_line n v part.Done) rests (flush_keeps n v part.Done))
+verb_rests w line (verb.AtVb n v vb_verb.Tick) rests = line_rests w n (tick_line n v) rests (tick_keeps n v)
+verb_rests w line (verb.AtVb n v vb_verb.Stat) rests = line_rests w n (admin_line n v admin.Stat) rests (admin_keeps n v admin.Stat)
+verb_rests w line (verb.AtVb n v vb_verb.Log) rests = line_rests w n (admin_line n v admin.Log) rests (admin_keeps n v admin.Log)
+verb_rests w line (verb.AtVb n v vb_verb.Show) rests = line_rests w n (admin_line n v admin.Show) rests (admin_keeps n v admin.Show)
+verb_rests w line (verb.AtNode n (node_verb.Stop call out)) rests = made_rests w n (refusal cause.UnknownNode) (arm_at (stop_arm call out)) rests (λ v node h. h)
+verb_rests w line (verb.AtNode n (node_verb.Fail call)) rests = made_rests w n (refusal cause.UnknownNode) (arm_at (fail_arm call)) rests (λ v node h. h)
+verb_rests w line (verb.AtNode n (node_verb.Crash out)) rests = refused_rests (first_cause (crash_causes w n)) w (dropped n out w, done (down_lines n None w)) rests (dropped_rests n out w rests)
+verb_rests w line (verb.AtNode n (node_verb.Start uuids)) rests =
     refused_rests (first_cause (start_causes w n uuids)) w (on_made w n (start_at n uuids)) rests (made_rests w n (refusal cause.UnknownNode) (start_at n uuids) rests (start_keeps n uuids))
 
 pub world_rests : (w : PlainWorld) (line : ScriptLine) → Rests w → Rests (world_step w line).0

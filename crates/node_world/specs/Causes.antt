@@ -8,6 +8,10 @@ use Rattle.disk_journals.specs.Books.{Book}
 use Rattle.node_core.specs.Loading.{active_ones}
 use Rattle.script_text.specs.declared.verb.Verb.{Verb}
 use Rattle.script_text.specs.declared.verb.Verb.TheVariants as verb
+use Rattle.script_text.specs.declared.verb.VbVerb.TheVariants as vb_verb
+use Rattle.script_text.specs.declared.verb.NodeVerb.TheVariants as node_verb
+use Rattle.script_text.specs.declared.verb.LinkVerb.TheVariants as link_verb
+use Rattle.script_text.specs.declared.verb.ClientVerb.TheVariants as client_verb
 use Rattle.vb_events.specs.declared.event.Answer.{Answer}
 use Rattle.vb_events.specs.declared.event.Answer.TheVariants as answer
 use Rattle.vb_events.specs.declared.event.Cause.{Cause}
@@ -53,34 +57,34 @@ IsFree w uuid = list_any (λ given. given == uuid) w.uuids ≡ false
 
 -- lines that name the node n, but for the one that makes it and the one that dials, where it is not made
 pub record NoNode (w : PlainWorld) (n : ℕ) : Type 0 where
-  pub vb_active : (v uuid : ℕ) → RefusedFor w cause.UnknownNode (verb.VbActive n v uuid)
-  pub vb_replica : (v : ℕ) → RefusedFor w cause.UnknownNode (verb.VbReplica n v)
-  pub chain : (v : ℕ) (others : Members) → RefusedFor w cause.UnknownNode (verb.Chain n v others)
-  pub clock : (nanos : ℕ) → RefusedFor w cause.UnknownNode (verb.Clock n nanos)
-  pub client : (c : ℕ) → RefusedFor w cause.UnknownNode (verb.Client n c)
-  pub bytes : (c : ℕ) (bytes : List ℕ) → RefusedFor w cause.UnknownNode (verb.Bytes n c bytes)
-  pub hang : (c : ℕ) → RefusedFor w cause.UnknownNode (verb.Hang n c)
-  pub promote : (v uuid : ℕ) → RefusedFor w cause.UnknownNode (verb.Promote n v uuid)
-  pub follow : (v : ℕ) → RefusedFor w cause.UnknownNode (verb.Follow n v)
-  pub dead : (v : ℕ) → RefusedFor w cause.UnknownNode (verb.Dead n v)
-  pub seal : (v : ℕ) → RefusedFor w cause.UnknownNode (verb.Seal n v)
-  pub take : (v : ℕ) → RefusedFor w cause.UnknownNode (verb.Take n v)
-  pub save : (v : ℕ) → RefusedFor w cause.UnknownNode (verb.Save n v)
-  pub done : (v : ℕ) → RefusedFor w cause.UnknownNode (verb.Done n v)
-  pub tick : (v : ℕ) → RefusedFor w cause.UnknownNode (verb.Tick n v)
-  pub stat : (v : ℕ) → RefusedFor w cause.UnknownNode (verb.Stat n v)
-  pub log : (v : ℕ) → RefusedFor w cause.UnknownNode (verb.Log n v)
-  pub show : (v : ℕ) → RefusedFor w cause.UnknownNode (verb.Show n v)
-  pub stop : (call : ℕ) (out : Outcome) → RefusedFor w cause.UnknownNode (verb.Stop n call out)
-  pub fail : (call : ℕ) → RefusedFor w cause.UnknownNode (verb.Fail n call)
-  pub crash : (out : Outcome) → RefusedFor w cause.UnknownNode (verb.Crash n out)
-  pub start : (uuids : List ℕ) → RefusedFor w cause.UnknownNode (verb.Start n uuids)
+  pub vb_active : (v uuid : ℕ) → RefusedFor w cause.UnknownNode (verb.AtVb n v (vb_verb.MakeActive uuid))
+  pub vb_replica : (v : ℕ) → RefusedFor w cause.UnknownNode (verb.AtVb n v vb_verb.MakeReplica)
+  pub chain : (v : ℕ) (others : Members) → RefusedFor w cause.UnknownNode (verb.AtVb n v (vb_verb.Chain others))
+  pub clock : (nanos : ℕ) → RefusedFor w cause.UnknownNode (verb.AtNode n (node_verb.Clock nanos))
+  pub client : (c : ℕ) → RefusedFor w cause.UnknownNode (verb.AtClient n c client_verb.Open)
+  pub bytes : (c : ℕ) (bytes : List ℕ) → RefusedFor w cause.UnknownNode (verb.AtClient n c (client_verb.Bytes bytes))
+  pub hang : (c : ℕ) → RefusedFor w cause.UnknownNode (verb.AtClient n c client_verb.Hang)
+  pub promote : (v uuid : ℕ) → RefusedFor w cause.UnknownNode (verb.AtVb n v (vb_verb.Promote uuid))
+  pub follow : (v : ℕ) → RefusedFor w cause.UnknownNode (verb.AtVb n v vb_verb.Follow)
+  pub dead : (v : ℕ) → RefusedFor w cause.UnknownNode (verb.AtVb n v vb_verb.Dead)
+  pub seal : (v : ℕ) → RefusedFor w cause.UnknownNode (verb.AtVb n v vb_verb.Seal)
+  pub take : (v : ℕ) → RefusedFor w cause.UnknownNode (verb.AtVb n v vb_verb.Take)
+  pub save : (v : ℕ) → RefusedFor w cause.UnknownNode (verb.AtVb n v vb_verb.Save)
+  pub done : (v : ℕ) → RefusedFor w cause.UnknownNode (verb.AtVb n v vb_verb.Done)
+  pub tick : (v : ℕ) → RefusedFor w cause.UnknownNode (verb.AtVb n v vb_verb.Tick)
+  pub stat : (v : ℕ) → RefusedFor w cause.UnknownNode (verb.AtVb n v vb_verb.Stat)
+  pub log : (v : ℕ) → RefusedFor w cause.UnknownNode (verb.AtVb n v vb_verb.Log)
+  pub show : (v : ℕ) → RefusedFor w cause.UnknownNode (verb.AtVb n v vb_verb.Show)
+  pub stop : (call : ℕ) (out : Outcome) → RefusedFor w cause.UnknownNode (verb.AtNode n (node_verb.Stop call out))
+  pub fail : (call : ℕ) → RefusedFor w cause.UnknownNode (verb.AtNode n (node_verb.Fail call))
+  pub crash : (out : Outcome) → RefusedFor w cause.UnknownNode (verb.AtNode n (node_verb.Crash out))
+  pub start : (uuids : List ℕ) → RefusedFor w cause.UnknownNode (verb.AtNode n (node_verb.Start uuids))
 
 -- lines for the node n, where it is made, whether it is running or not
 pub record AtMade (w : PlainWorld) (n : ℕ) : Type 0 where
   pub made : RefusedFor w cause.NodeExists (verb.Node n)
-  pub stop : (call : ℕ) (out : Outcome) → AnsweredAs w answer.Ok (verb.Stop n call out)
-  pub fail : (call : ℕ) → AnsweredAs w answer.Ok (verb.Fail n call)
+  pub stop : (call : ℕ) (out : Outcome) → AnsweredAs w answer.Ok (verb.AtNode n (node_verb.Stop call out))
+  pub fail : (call : ℕ) → AnsweredAs w answer.Ok (verb.AtNode n (node_verb.Fail call))
 
 -- ids for new branches: none is 0, none was given before, and none stands twice
 pub record AreFree (w : PlainWorld) (uuids : List ℕ) : Type 0 where
@@ -96,54 +100,54 @@ LiesBeyond calls (fuse.Fail k) = calls < k
 
 -- lines that name the node n, but for the one that dials, where it is made and not running, and these records stand on its disks. A start makes one device call for each disk, and four for each vBucket that was active
 pub record AtDown (w : PlainWorld) (n : ℕ) (node : PlainNode) (books : List Book) : Type 0 where
-  pub vb_active : (v uuid : ℕ) → RefusedFor w cause.NodeDown (verb.VbActive n v uuid)
-  pub vb_replica : (v : ℕ) → RefusedFor w cause.NodeDown (verb.VbReplica n v)
-  pub chain : (v : ℕ) (others : Members) → RefusedFor w cause.NodeDown (verb.Chain n v others)
-  pub clock : (nanos : ℕ) → RefusedFor w cause.NodeDown (verb.Clock n nanos)
-  pub client : (c : ℕ) → RefusedFor w cause.NodeDown (verb.Client n c)
-  pub bytes : (c : ℕ) (bytes : List ℕ) → RefusedFor w cause.NodeDown (verb.Bytes n c bytes)
-  pub hang : (c : ℕ) → RefusedFor w cause.NodeDown (verb.Hang n c)
-  pub promote : (v uuid : ℕ) → RefusedFor w cause.NodeDown (verb.Promote n v uuid)
-  pub follow : (v : ℕ) → RefusedFor w cause.NodeDown (verb.Follow n v)
-  pub dead : (v : ℕ) → RefusedFor w cause.NodeDown (verb.Dead n v)
-  pub seal : (v : ℕ) → RefusedFor w cause.NodeDown (verb.Seal n v)
-  pub take : (v : ℕ) → RefusedFor w cause.NodeDown (verb.Take n v)
-  pub save : (v : ℕ) → RefusedFor w cause.NodeDown (verb.Save n v)
-  pub done : (v : ℕ) → RefusedFor w cause.NodeDown (verb.Done n v)
-  pub tick : (v : ℕ) → RefusedFor w cause.NodeDown (verb.Tick n v)
-  pub stat : (v : ℕ) → RefusedFor w cause.NodeDown (verb.Stat n v)
-  pub log : (v : ℕ) → RefusedFor w cause.NodeDown (verb.Log n v)
-  pub show : (v : ℕ) → RefusedFor w cause.NodeDown (verb.Show n v)
-  pub crash : (out : Outcome) → RefusedFor w cause.NodeDown (verb.Crash n out)
-  pub zero : (before later : List ℕ) → RefusedFor w cause.UuidZero (verb.Start n (before ++ 0 ∷ later))
-  pub used : (before later : List ℕ) (uuid : ℕ) → Each (λ id. id ≢ 0) (before ++ uuid ∷ later) → IsGiven w uuid → RefusedFor w cause.UuidUsed (verb.Start n (before ++ uuid ∷ later))
-  pub twice : (before between later : List ℕ) (uuid : ℕ) → Each (λ id. id ≢ 0) (before ++ uuid ∷ between ++ uuid ∷ later) → RefusedFor w cause.UuidUsed (verb.Start n (before ++ uuid ∷ between ++ uuid ∷ later))
-  pub unopened : (uuids : List ℕ) (k : ℕ) → AreFree w uuids → opens_all node.arm.fuse (length books) ≡ false → node.arm.fuse ≡ fuse.Fail k → RefusedFor w cause.Disk (verb.Start n uuids)
-  pub stopped : (uuids : List ℕ) (k : ℕ) → AreFree w uuids → opens_all node.arm.fuse (length books) ≡ false → node.arm.fuse ≡ fuse.Stop k → RefusedFor w cause.Stopped (verb.Start n uuids)
-  pub short : (uuids : List ℕ) → AreFree w uuids → opens_all node.arm.fuse (length books) ≡ true → length uuids < length (active_ones books) → RefusedFor w cause.IdsShort (verb.Start n uuids)
-  pub starts : (uuids : List ℕ) → AreFree w uuids → LiesBeyond (length books + 4 * length (active_ones books)) node.arm.fuse → length (active_ones books) ≤ length uuids → AnsweredAs w answer.Ok (verb.Start n uuids)
+  pub vb_active : (v uuid : ℕ) → RefusedFor w cause.NodeDown (verb.AtVb n v (vb_verb.MakeActive uuid))
+  pub vb_replica : (v : ℕ) → RefusedFor w cause.NodeDown (verb.AtVb n v vb_verb.MakeReplica)
+  pub chain : (v : ℕ) (others : Members) → RefusedFor w cause.NodeDown (verb.AtVb n v (vb_verb.Chain others))
+  pub clock : (nanos : ℕ) → RefusedFor w cause.NodeDown (verb.AtNode n (node_verb.Clock nanos))
+  pub client : (c : ℕ) → RefusedFor w cause.NodeDown (verb.AtClient n c client_verb.Open)
+  pub bytes : (c : ℕ) (bytes : List ℕ) → RefusedFor w cause.NodeDown (verb.AtClient n c (client_verb.Bytes bytes))
+  pub hang : (c : ℕ) → RefusedFor w cause.NodeDown (verb.AtClient n c client_verb.Hang)
+  pub promote : (v uuid : ℕ) → RefusedFor w cause.NodeDown (verb.AtVb n v (vb_verb.Promote uuid))
+  pub follow : (v : ℕ) → RefusedFor w cause.NodeDown (verb.AtVb n v vb_verb.Follow)
+  pub dead : (v : ℕ) → RefusedFor w cause.NodeDown (verb.AtVb n v vb_verb.Dead)
+  pub seal : (v : ℕ) → RefusedFor w cause.NodeDown (verb.AtVb n v vb_verb.Seal)
+  pub take : (v : ℕ) → RefusedFor w cause.NodeDown (verb.AtVb n v vb_verb.Take)
+  pub save : (v : ℕ) → RefusedFor w cause.NodeDown (verb.AtVb n v vb_verb.Save)
+  pub done : (v : ℕ) → RefusedFor w cause.NodeDown (verb.AtVb n v vb_verb.Done)
+  pub tick : (v : ℕ) → RefusedFor w cause.NodeDown (verb.AtVb n v vb_verb.Tick)
+  pub stat : (v : ℕ) → RefusedFor w cause.NodeDown (verb.AtVb n v vb_verb.Stat)
+  pub log : (v : ℕ) → RefusedFor w cause.NodeDown (verb.AtVb n v vb_verb.Log)
+  pub show : (v : ℕ) → RefusedFor w cause.NodeDown (verb.AtVb n v vb_verb.Show)
+  pub crash : (out : Outcome) → RefusedFor w cause.NodeDown (verb.AtNode n (node_verb.Crash out))
+  pub zero : (before later : List ℕ) → RefusedFor w cause.UuidZero (verb.AtNode n (node_verb.Start (before ++ 0 ∷ later)))
+  pub used : (before later : List ℕ) (uuid : ℕ) → Each (λ id. id ≢ 0) (before ++ uuid ∷ later) → IsGiven w uuid → RefusedFor w cause.UuidUsed (verb.AtNode n (node_verb.Start (before ++ uuid ∷ later)))
+  pub twice : (before between later : List ℕ) (uuid : ℕ) → Each (λ id. id ≢ 0) (before ++ uuid ∷ between ++ uuid ∷ later) → RefusedFor w cause.UuidUsed (verb.AtNode n (node_verb.Start (before ++ uuid ∷ between ++ uuid ∷ later)))
+  pub unopened : (uuids : List ℕ) (k : ℕ) → AreFree w uuids → opens_all node.arm.fuse (length books) ≡ false → node.arm.fuse ≡ fuse.Fail k → RefusedFor w cause.Disk (verb.AtNode n (node_verb.Start uuids))
+  pub stopped : (uuids : List ℕ) (k : ℕ) → AreFree w uuids → opens_all node.arm.fuse (length books) ≡ false → node.arm.fuse ≡ fuse.Stop k → RefusedFor w cause.Stopped (verb.AtNode n (node_verb.Start uuids))
+  pub short : (uuids : List ℕ) → AreFree w uuids → opens_all node.arm.fuse (length books) ≡ true → length uuids < length (active_ones books) → RefusedFor w cause.IdsShort (verb.AtNode n (node_verb.Start uuids))
+  pub starts : (uuids : List ℕ) → AreFree w uuids → LiesBeyond (length books + 4 * length (active_ones books)) node.arm.fuse → length (active_ones books) ≤ length uuids → AnsweredAs w answer.Ok (verb.AtNode n (node_verb.Start uuids))
 
 -- lines that name the vBucket v of the node n, but for those that make it and the one that dials, where it is not made
 pub record NoVb (w : PlainWorld) (n v : ℕ) : Type 0 where
-  pub chain : (others : Members) → RefusedFor w cause.UnknownVb (verb.Chain n v others)
-  pub promote : (uuid : ℕ) → RefusedFor w cause.UnknownVb (verb.Promote n v uuid)
-  pub follow : RefusedFor w cause.UnknownVb (verb.Follow n v)
-  pub dead : RefusedFor w cause.UnknownVb (verb.Dead n v)
-  pub seal : RefusedFor w cause.UnknownVb (verb.Seal n v)
-  pub take : RefusedFor w cause.UnknownVb (verb.Take n v)
-  pub save : RefusedFor w cause.UnknownVb (verb.Save n v)
-  pub done : RefusedFor w cause.UnknownVb (verb.Done n v)
-  pub tick : RefusedFor w cause.UnknownVb (verb.Tick n v)
-  pub stat : RefusedFor w cause.UnknownVb (verb.Stat n v)
-  pub log : RefusedFor w cause.UnknownVb (verb.Log n v)
-  pub show : RefusedFor w cause.UnknownVb (verb.Show n v)
+  pub chain : (others : Members) → RefusedFor w cause.UnknownVb (verb.AtVb n v (vb_verb.Chain others))
+  pub promote : (uuid : ℕ) → RefusedFor w cause.UnknownVb (verb.AtVb n v (vb_verb.Promote uuid))
+  pub follow : RefusedFor w cause.UnknownVb (verb.AtVb n v vb_verb.Follow)
+  pub dead : RefusedFor w cause.UnknownVb (verb.AtVb n v vb_verb.Dead)
+  pub seal : RefusedFor w cause.UnknownVb (verb.AtVb n v vb_verb.Seal)
+  pub take : RefusedFor w cause.UnknownVb (verb.AtVb n v vb_verb.Take)
+  pub save : RefusedFor w cause.UnknownVb (verb.AtVb n v vb_verb.Save)
+  pub done : RefusedFor w cause.UnknownVb (verb.AtVb n v vb_verb.Done)
+  pub tick : RefusedFor w cause.UnknownVb (verb.AtVb n v vb_verb.Tick)
+  pub stat : RefusedFor w cause.UnknownVb (verb.AtVb n v vb_verb.Stat)
+  pub log : RefusedFor w cause.UnknownVb (verb.AtVb n v vb_verb.Log)
+  pub show : RefusedFor w cause.UnknownVb (verb.AtVb n v vb_verb.Show)
 
 -- lines that name the link l, but for the one that dials, where no link of that number is open
 pub record NoLink (w : PlainWorld) (l : ℕ) : Type 0 where
-  pub up : (wanted : ℕ) → RefusedFor w cause.LinkClosed (verb.Up l wanted)
-  pub down : (wanted : ℕ) → RefusedFor w cause.LinkClosed (verb.Down l wanted)
-  pub pump : (frames : ℕ) → RefusedFor w cause.LinkClosed (verb.Pump l frames)
-  pub cut : RefusedFor w cause.LinkClosed (verb.Cut l)
+  pub up : (wanted : ℕ) → RefusedFor w cause.LinkClosed (verb.AtLink l (link_verb.Up wanted))
+  pub down : (wanted : ℕ) → RefusedFor w cause.LinkClosed (verb.AtLink l (link_verb.Down wanted))
+  pub pump : (frames : ℕ) → RefusedFor w cause.LinkClosed (verb.AtLink l (link_verb.Pump frames))
+  pub cut : RefusedFor w cause.LinkClosed (verb.AtLink l link_verb.Cut)
 
 -- the next record of a journal stands, whose disk is called under the node's arm
 abbrev pub Notes : PlainNode → Shelf → Type 0
@@ -151,21 +155,21 @@ Notes node shelf = fate_of (under node.arm.fuse shelf) ≡ Stood
 
 -- lines for the node n, where it is made and running. The first record of a new vBucket is to stand, on a disk that is there or a new one
 pub record AtNode (w : PlainWorld) (n : ℕ) (node : PlainNode) : Type 0 where
-  pub up : (uuids : List ℕ) → RefusedFor w cause.NodeUp (verb.Start n uuids)
-  pub crash : (out : Outcome) → AnsweredAs w answer.Ok (verb.Crash n out)
-  pub vb_exists : (v uuid : ℕ) (vb : Plain) → node.vbs v ≡ Some vb → RefusedFor w cause.VbExists (verb.VbActive n v uuid) × RefusedFor w cause.VbExists (verb.VbReplica n v)
-  pub limit : (v uuid : ℕ) → node.vbs v ≡ None → 64 ≤ node.made → RefusedFor w cause.Limit (verb.VbActive n v uuid) × RefusedFor w cause.Limit (verb.VbReplica n v)
-  pub zero : (v : ℕ) → node.vbs v ≡ None → node.made < 64 → RefusedFor w cause.UuidZero (verb.VbActive n v 0)
-  pub used : (v uuid : ℕ) → node.vbs v ≡ None → node.made < 64 → uuid ≢ 0 → IsGiven w uuid → RefusedFor w cause.UuidUsed (verb.VbActive n v uuid)
-  pub active : (v uuid : ℕ) → node.vbs v ≡ None → node.made < 64 → uuid ≢ 0 → IsFree w uuid → Notes node (shelf_or_blank (node.shelves v)) → AnsweredAs w answer.Ok (verb.VbActive n v uuid)
-  pub replica : (v : ℕ) → node.vbs v ≡ None → node.made < 64 → Notes node (shelf_or_blank (node.shelves v)) → AnsweredAs w answer.Ok (verb.VbReplica n v)
-  pub clock : (nanos : ℕ) → AnsweredAs w answer.Ok (verb.Clock n nanos)
+  pub up : (uuids : List ℕ) → RefusedFor w cause.NodeUp (verb.AtNode n (node_verb.Start uuids))
+  pub crash : (out : Outcome) → AnsweredAs w answer.Ok (verb.AtNode n (node_verb.Crash out))
+  pub vb_exists : (v uuid : ℕ) (vb : Plain) → node.vbs v ≡ Some vb → RefusedFor w cause.VbExists (verb.AtVb n v (vb_verb.MakeActive uuid)) × RefusedFor w cause.VbExists (verb.AtVb n v vb_verb.MakeReplica)
+  pub limit : (v uuid : ℕ) → node.vbs v ≡ None → 64 ≤ node.made → RefusedFor w cause.Limit (verb.AtVb n v (vb_verb.MakeActive uuid)) × RefusedFor w cause.Limit (verb.AtVb n v vb_verb.MakeReplica)
+  pub zero : (v : ℕ) → node.vbs v ≡ None → node.made < 64 → RefusedFor w cause.UuidZero (verb.AtVb n v (vb_verb.MakeActive 0))
+  pub used : (v uuid : ℕ) → node.vbs v ≡ None → node.made < 64 → uuid ≢ 0 → IsGiven w uuid → RefusedFor w cause.UuidUsed (verb.AtVb n v (vb_verb.MakeActive uuid))
+  pub active : (v uuid : ℕ) → node.vbs v ≡ None → node.made < 64 → uuid ≢ 0 → IsFree w uuid → Notes node (shelf_or_blank (node.shelves v)) → AnsweredAs w answer.Ok (verb.AtVb n v (vb_verb.MakeActive uuid))
+  pub replica : (v : ℕ) → node.vbs v ≡ None → node.made < 64 → Notes node (shelf_or_blank (node.shelves v)) → AnsweredAs w answer.Ok (verb.AtVb n v vb_verb.MakeReplica)
+  pub clock : (nanos : ℕ) → AnsweredAs w answer.Ok (verb.AtNode n (node_verb.Clock nanos))
   pub no_vb : (v : ℕ) → node.vbs v ≡ None → NoVb w n v
-  pub no_client : (c : ℕ) (bytes : List ℕ) → node.clients c ≡ None → RefusedFor w cause.LinkClosed (verb.Bytes n c bytes) × RefusedFor w cause.LinkClosed (verb.Hang n c)
-  pub client : (c : ℕ) → node.clients c ≡ None → AnsweredAs w answer.Ok (verb.Client n c)
-  pub client_open : (c : ℕ) (session : PlainSession) → node.clients c ≡ Some session → RefusedFor w cause.LinkOpen (verb.Client n c)
-  pub bytes : (c : ℕ) (bytes : List ℕ) (session : PlainSession) → node.clients c ≡ Some session → AnsweredAs w answer.Ok (verb.Bytes n c bytes)
-  pub hang : (c : ℕ) (session : PlainSession) → node.clients c ≡ Some session → AnsweredAs w answer.Ok (verb.Hang n c)
+  pub no_client : (c : ℕ) (bytes : List ℕ) → node.clients c ≡ None → RefusedFor w cause.LinkClosed (verb.AtClient n c (client_verb.Bytes bytes)) × RefusedFor w cause.LinkClosed (verb.AtClient n c client_verb.Hang)
+  pub client : (c : ℕ) → node.clients c ≡ None → AnsweredAs w answer.Ok (verb.AtClient n c client_verb.Open)
+  pub client_open : (c : ℕ) (session : PlainSession) → node.clients c ≡ Some session → RefusedFor w cause.LinkOpen (verb.AtClient n c client_verb.Open)
+  pub bytes : (c : ℕ) (bytes : List ℕ) (session : PlainSession) → node.clients c ≡ Some session → AnsweredAs w answer.Ok (verb.AtClient n c (client_verb.Bytes bytes))
+  pub hang : (c : ℕ) (session : PlainSession) → node.clients c ≡ Some session → AnsweredAs w answer.Ok (verb.AtClient n c client_verb.Hang)
 
 -- the other members that a chain of the node n may have: up to three, and of those that are set none is n and no two are the same
 pub record MayJoin (n : ℕ) (others : Members) : Type 0 where
@@ -175,34 +179,34 @@ pub record MayJoin (n : ℕ) (others : Members) : Type 0 where
 
 -- lines for the vBucket v of the node n, where it is made and the node is running
 pub record AtVb (w : PlainWorld) (n v : ℕ) (vb : Plain) : Type 0 where
-  pub active : (uuid : ℕ) → vb.role ≡ role.Active → RefusedFor w cause.WrongRole (verb.Promote n v uuid)
-  pub zero : vb.role ≢ role.Active → RefusedFor w cause.UuidZero (verb.Promote n v 0)
-  pub used : (uuid : ℕ) → vb.role ≢ role.Active → uuid ≢ 0 → IsGiven w uuid → RefusedFor w cause.UuidUsed (verb.Promote n v uuid)
-  pub replica : vb.role ≡ role.Replica → RefusedFor w cause.WrongRole (verb.Follow n v)
-  pub dead : vb.role ≡ role.Dead → RefusedFor w cause.WrongRole (verb.Dead n v)
-  pub chain_idle : (others : Members) → vb.role ≢ role.Active → RefusedFor w cause.WrongRole (verb.Chain n v others)
-  pub chain_long : (others : Members) → vb.role ≡ role.Active → 3 < length others → RefusedFor w cause.ChainBad (verb.Chain n v others)
-  pub chain_own : (before later : Members) → vb.role ≡ role.Active → RefusedFor w cause.ChainBad (verb.Chain n v (before ++ Some n ∷ later))
-  pub chain_twice : (before between later : Members) (m : ℕ) → vb.role ≡ role.Active → RefusedFor w cause.ChainBad (verb.Chain n v (before ++ Some m ∷ between ++ Some m ∷ later))
-  pub chain : (others : Members) → vb.role ≡ role.Active → MayJoin n others → AnsweredAs w answer.Ok (verb.Chain n v others)
-  pub tick_idle : vb.role ≢ role.Active → RefusedFor w cause.WrongRole (verb.Tick n v)
-  pub tick : vb.role ≡ role.Active → AnsweredAs w answer.Ok (verb.Tick n v)
-  pub stat : AnsweredAs w answer.Ok (verb.Stat n v)
-  pub log : AnsweredAs w answer.Ok (verb.Log n v)
-  pub show : AnsweredAs w answer.Ok (verb.Show n v)
-  pub seal : IsDone w (verb.Seal n v)
+  pub active : (uuid : ℕ) → vb.role ≡ role.Active → RefusedFor w cause.WrongRole (verb.AtVb n v (vb_verb.Promote uuid))
+  pub zero : vb.role ≢ role.Active → RefusedFor w cause.UuidZero (verb.AtVb n v (vb_verb.Promote 0))
+  pub used : (uuid : ℕ) → vb.role ≢ role.Active → uuid ≢ 0 → IsGiven w uuid → RefusedFor w cause.UuidUsed (verb.AtVb n v (vb_verb.Promote uuid))
+  pub replica : vb.role ≡ role.Replica → RefusedFor w cause.WrongRole (verb.AtVb n v vb_verb.Follow)
+  pub dead : vb.role ≡ role.Dead → RefusedFor w cause.WrongRole (verb.AtVb n v vb_verb.Dead)
+  pub chain_idle : (others : Members) → vb.role ≢ role.Active → RefusedFor w cause.WrongRole (verb.AtVb n v (vb_verb.Chain others))
+  pub chain_long : (others : Members) → vb.role ≡ role.Active → 3 < length others → RefusedFor w cause.ChainBad (verb.AtVb n v (vb_verb.Chain others))
+  pub chain_own : (before later : Members) → vb.role ≡ role.Active → RefusedFor w cause.ChainBad (verb.AtVb n v (vb_verb.Chain (before ++ Some n ∷ later)))
+  pub chain_twice : (before between later : Members) (m : ℕ) → vb.role ≡ role.Active → RefusedFor w cause.ChainBad (verb.AtVb n v (vb_verb.Chain (before ++ Some m ∷ between ++ Some m ∷ later)))
+  pub chain : (others : Members) → vb.role ≡ role.Active → MayJoin n others → AnsweredAs w answer.Ok (verb.AtVb n v (vb_verb.Chain others))
+  pub tick_idle : vb.role ≢ role.Active → RefusedFor w cause.WrongRole (verb.AtVb n v vb_verb.Tick)
+  pub tick : vb.role ≡ role.Active → AnsweredAs w answer.Ok (verb.AtVb n v vb_verb.Tick)
+  pub stat : AnsweredAs w answer.Ok (verb.AtVb n v vb_verb.Stat)
+  pub log : AnsweredAs w answer.Ok (verb.AtVb n v vb_verb.Log)
+  pub show : AnsweredAs w answer.Ok (verb.AtVb n v vb_verb.Show)
+  pub seal : IsDone w (verb.AtVb n v vb_verb.Seal)
 
 -- lines for the vBucket v of the node n, where its journal is there and the next record stands under the node's arm: a change of role is written down, and each step of a batch wants the one before it
 pub record AtShelf (w : PlainWorld) (n v : ℕ) (vb : Plain) (shelf : Shelf) : Type 0 where
-  pub promoted : (uuid : ℕ) → vb.role ≢ role.Active → uuid ≢ 0 → IsFree w uuid → log_lacks vb.log uuid ≡ true → AnsweredAs w answer.Ok (verb.Promote n v uuid)
-  pub follows : vb.role ≢ role.Replica → AnsweredAs w answer.Ok (verb.Follow n v)
-  pub dies : vb.role ≢ role.Dead → AnsweredAs w answer.Ok (verb.Dead n v)
-  pub out : shelf.flush ≢ Idle → RefusedFor w cause.BatchOut (verb.Take n v)
-  pub takes : shelf.flush ≡ Idle → Counts w (verb.Take n v)
-  pub untaken : ((batch : Batch) → shelf.flush ≢ Out batch) → RefusedFor w cause.NothingTaken (verb.Save n v)
-  pub saves : (batch : Batch) → shelf.flush ≡ Out batch → AnsweredAs w answer.Ok (verb.Save n v)
-  pub unsaved : ((seq : ℕ) → shelf.flush ≢ Written seq) → RefusedFor w cause.NothingTaken (verb.Done n v)
-  pub finishes : (seq : ℕ) → shelf.flush ≡ Written seq → Counts w (verb.Done n v)
+  pub promoted : (uuid : ℕ) → vb.role ≢ role.Active → uuid ≢ 0 → IsFree w uuid → log_lacks vb.log uuid ≡ true → AnsweredAs w answer.Ok (verb.AtVb n v (vb_verb.Promote uuid))
+  pub follows : vb.role ≢ role.Replica → AnsweredAs w answer.Ok (verb.AtVb n v vb_verb.Follow)
+  pub dies : vb.role ≢ role.Dead → AnsweredAs w answer.Ok (verb.AtVb n v vb_verb.Dead)
+  pub out : shelf.flush ≢ Idle → RefusedFor w cause.BatchOut (verb.AtVb n v vb_verb.Take)
+  pub takes : shelf.flush ≡ Idle → Counts w (verb.AtVb n v vb_verb.Take)
+  pub untaken : ((batch : Batch) → shelf.flush ≢ Out batch) → RefusedFor w cause.NothingTaken (verb.AtVb n v vb_verb.Save)
+  pub saves : (batch : Batch) → shelf.flush ≡ Out batch → AnsweredAs w answer.Ok (verb.AtVb n v vb_verb.Save)
+  pub unsaved : ((seq : ℕ) → shelf.flush ≢ Written seq) → RefusedFor w cause.NothingTaken (verb.AtVb n v vb_verb.Done)
+  pub finishes : (seq : ℕ) → shelf.flush ≡ Written seq → Counts w (verb.AtVb n v vb_verb.Done)
 
 -- a vBucket that takes a producer's changes
 abbrev pub Follows : Plain → Type 0
@@ -237,10 +241,10 @@ CantGoBack f other = ⊥
 
 -- lines that name the link l, but for the one that dials, where it is open and its nodes are made
 pub record AtLink (w : PlainWorld) (l : ℕ) (node : PlainNode) : Type 0 where
-  pub up : (wanted : ℕ) → IsDone w (verb.Up l wanted)
-  pub down : (wanted number : ℕ) (why : Cause) → (verb_step w number (verb.Down l wanted)).1.answer ≡ answer.No why → CantGoBack node.arm.fuse why
-  pub pump : (frames : ℕ) → IsDone w (verb.Pump l frames)
-  pub cut : AnsweredAs w answer.Ok (verb.Cut l)
+  pub up : (wanted : ℕ) → IsDone w (verb.AtLink l (link_verb.Up wanted))
+  pub down : (wanted number : ℕ) (why : Cause) → (verb_step w number (verb.AtLink l (link_verb.Down wanted))).1.answer ≡ answer.No why → CantGoBack node.arm.fuse why
+  pub pump : (frames : ℕ) → IsDone w (verb.AtLink l (link_verb.Pump frames))
+  pub cut : AnsweredAs w answer.Ok (verb.AtLink l link_verb.Cut)
 
 -- why lines are refused, and where they are not
 pub record CausesInOrder (w : PlainWorld) : Type 0 where

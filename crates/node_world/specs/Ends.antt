@@ -18,7 +18,7 @@ use Rattle.node_core.specs.Outcomes.{value_at, live_dial, dial_left}
 use Rattle.node_core.specs.Outs.{refused_out, done_out, pull_out, dial_out, cut_out, dial_ended, admin_out}
 use Rattle.node_core.specs.Peers.{PlainPeer, KeptPeer, new_peer, peer_pulled, peer_ended}
 use Rattle.node_world.specs.declared.link.Link.{Link}
-use Rattle.node_world.specs.declared.link.LinkLine.{LinkLine}
+use Rattle.script_text.specs.declared.verb.LinkVerb.{LinkVerb}
 use Rattle.node_world.specs.declared.script_node.ScriptNode.{ScriptNode}
 use Rattle.node_world.specs.declared.told.Told.{Told}
 use Rattle.node_world.specs.Cuts.{closed_in}
@@ -204,14 +204,14 @@ LinkLeft ends link before over None = (over ≡ true) × (ends.dials link.node l
 LinkLeft ends link before over (Some plain) = (over ≡ false) × LinkStands ends link plain
 
 -- what a line for a link comes to, where the nodes stand for those of this world and the link for this one
-pub record LinkCame (asked : LinkLine) (w : PlainWorld) (plain : PlainLink) (nodes : List ScriptNode) (link : Link) (told : Told) (over : Bool) (nodes' : List ScriptNode) (link' : Link) : Type 0 where
+pub record LinkCame (asked : LinkVerb) (w : PlainWorld) (plain : PlainLink) (nodes : List ScriptNode) (link : Link) (told : Told) (over : Bool) (nodes' : List ScriptNode) (link' : Link) : Type 0 where
   pub stands : NodesStand nodes' (at_link asked w plain).0
   pub others : KeepsOthers link (ends_of nodes) (ends_of nodes')
   pub said : told ≡ (at_link asked w plain).1.1
   pub left : LinkLeft (ends_of nodes') link' plain over (at_link asked w plain).1.0
 
 -- a line for a link, carried out at the nodes that keep its ends
-pub record LinkStep (asked : LinkLine) (nodes : List ScriptNode) (link : Link) (told : Told) (over : Bool) (nodes' : List ScriptNode) (link' : Link) : Type 0 where
+pub record LinkStep (asked : LinkVerb) (nodes : List ScriptNode) (link : Link) (told : Told) (over : Bool) (nodes' : List ScriptNode) (link' : Link) : Type 0 where
   pub keys : SameKeys link link'
   pub came : (w : PlainWorld) (plain : PlainLink) → NodesStand nodes w → LinkStands (ends_of nodes) link plain → LinkCame asked w plain nodes link told over nodes' link'
 

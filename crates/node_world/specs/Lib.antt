@@ -21,4 +21,11 @@ pub mod Dials
 pub mod Numberings
 pub mod Plumbing
 pub mod OpenEnds
-pub mod NodeVerbs
+pub mod Owed
+pub mod CallsMade
+pub mod OutcomesTold
+pub mod BytesMoved
+pub mod Clocked
+pub mod Counted
+pub mod Arguments
+pub mod StartIds

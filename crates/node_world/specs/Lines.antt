@@ -12,8 +12,8 @@ use Rattle.vbucket.specs.Rows.{row_at}
 use Rattle.node_core.specs.declared.admin.AdminCall.{AdminCall}
 use Rattle.node_core.specs.declared.admin.AdminCall.TheVariants as admin
 use Rattle.node_core.specs.declared.out.NodeOut.{NodeOut}
-use Rattle.node_world.specs.declared.link.LinkLine.{LinkLine}
-use Rattle.node_world.specs.declared.link.LinkLine.TheVariants as ask
+use Rattle.script_text.specs.declared.verb.LinkVerb.{LinkVerb}
+use Rattle.script_text.specs.declared.verb.LinkVerb.TheVariants as link_verb
 use Rattle.node_world.specs.declared.script_node.NodeLine.{NodeLine}
 use Rattle.node_world.specs.declared.script_node.NodeLine.TheVariants as node_line
 use Rattle.node_world.specs.declared.told.Told.{Told}
@@ -74,19 +74,19 @@ abbrev pub end_line : PlainWorld → ℕ → PlainLink → (PlainNode → PlainN
 end_line w n link f = node_outcome w n (Some link, refusal cause.UnknownNode) (w.nodes n) f
 
 -- a line for an open link
-abbrev pub at_link : LinkLine → PlainWorld → PlainLink → PlainWorld × LinkTold
-at_link (ask.Up wanted) w link = end_line w (producer_node link) link (up_at wanted link)
-at_link (ask.Down wanted) w link = end_line w (consumer_node link) link (down_in wanted link)
-at_link (ask.Pump frames) w link = end_line w (producer_node link) link (pump_at frames link)
-at_link ask.Cut w link = (w, (None, done (event.Ended (link_number link) reason.Cut ∷ [])))
+abbrev pub at_link : LinkVerb → PlainWorld → PlainLink → PlainWorld × LinkTold
+at_link (link_verb.Up wanted) w link = end_line w (producer_node link) link (up_at wanted link)
+at_link (link_verb.Down wanted) w link = end_line w (consumer_node link) link (down_in wanted link)
+at_link (link_verb.Pump frames) w link = end_line w (producer_node link) link (pump_at frames link)
+at_link link_verb.Cut w link = (w, (None, done (event.Ended (link_number link) reason.Cut ∷ [])))
 
 -- a line for the link of a number
-abbrev pub link_line_if : LinkLine → PlainWorld → Option PlainLink → Outcome
+abbrev pub link_line_if : LinkVerb → PlainWorld → Option PlainLink → Outcome
 link_line_if asked w None = (w, refusal cause.LinkClosed)
 link_line_if asked w (Some link) = with_link link (at_link asked w link)
 
 -- a line for the link l, which must be open
-abbrev pub link_line_at : LinkLine → PlainWorld → ℕ → Outcome
+abbrev pub link_line_at : LinkVerb → PlainWorld → ℕ → Outcome
 link_line_at asked w l = link_line_if asked w (row_at link_number l w.links)
 
 -- each of these calls changes a role, unless it is refused

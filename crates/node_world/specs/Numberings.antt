@@ -2,6 +2,7 @@
 use Rattle.std.specs.Prelude.{◌≡◌, ◌<◌, ◌%◌, ℕ, Some, None}
 use Rattle.client_session.specs.Serving.{PlainSession, next_waiter}
 use Rattle.script_text.specs.declared.verb.Verb.TheVariants as verb
+use Rattle.script_text.specs.declared.verb.ClientVerb.TheVariants as client_verb
 use Rattle.vb_events.specs.declared.event.Answer.TheVariants as answer
 use Rattle.vb_types.specs.declared.stream.StreamAsk.{StreamAsk}
 use Rattle.node_world.specs.Links.{link_number, new_link}
@@ -22,7 +23,7 @@ pub record BasesAreApart (line other : ℕ) : Type 0 where
 
 -- a line that opens a connection gives it the line's own base, and no wait
 pub record OpensApart (w : PlainWorld) (line n c : ℕ) : Type 0 where
-  pub opened : (verb_step w line (verb.Client n c)).1.answer ≡ answer.Ok → (node : PlainNode) × (session : PlainSession) × ((verb_step w line (verb.Client n c)).0.nodes n ≡ Some node) × (node.clients c ≡ Some session)
+  pub opened : (verb_step w line (verb.AtClient n c client_verb.Open)).1.answer ≡ answer.Ok → (node : PlainNode) × (session : PlainSession) × ((verb_step w line (verb.AtClient n c client_verb.Open)).0.nodes n ≡ Some node) × (node.clients c ≡ Some session)
       × (session.who.base ≡ line % 4294967296) × (session.used ≡ 0) × (session.awaited ≡ None)
 
 -- a new link has its own number and its line's, under which its stream is to be opened; it has no stream yet, and its first request for one has the opaque 4

@@ -1,6 +1,7 @@
 -- a change of role and the link that feeds the vBucket
 use Rattle.std.specs.Prelude.{◌≡◌, ℕ, List, [], ◌∷◌, Some, filter, length}
 use Rattle.script_text.specs.declared.verb.Verb.TheVariants as verb
+use Rattle.script_text.specs.declared.verb.VbVerb.TheVariants as vb_verb
 use Rattle.vb_events.specs.declared.event.Answer.TheVariants as answer
 use Rattle.vb_events.specs.declared.event.Event.{Event}
 use Rattle.vb_events.specs.declared.event.Event.TheVariants as event
@@ -18,6 +19,6 @@ pub record CutsOwn (n v : ℕ) (w : PlainWorld) (came : Outcome) : Type 0 where
 
 -- each change of role cuts the link that feeds the vBucket
 pub record RolesCutLinks (w : PlainWorld) (n v : ℕ) : Type 0 where
-  pub promote : (number uuid : ℕ) → CutsOwn n v w (verb_step w number (verb.Promote n v uuid))
-  pub follow : (number : ℕ) → CutsOwn n v w (verb_step w number (verb.Follow n v))
-  pub dead : (number : ℕ) → CutsOwn n v w (verb_step w number (verb.Dead n v))
+  pub promote : (number uuid : ℕ) → CutsOwn n v w (verb_step w number (verb.AtVb n v (vb_verb.Promote uuid)))
+  pub follow : (number : ℕ) → CutsOwn n v w (verb_step w number (verb.AtVb n v vb_verb.Follow))
+  pub dead : (number : ℕ) → CutsOwn n v w (verb_step w number (verb.AtVb n v vb_verb.Dead))

@@ -2,6 +2,7 @@
 use Rattle.std.specs.Prelude.{◌≡◌, ◌≢◌, ◌↔◌, ℕ, List, [], ◌∷◌, ◌++◌, Some, None}
 use Rattle.script_text.specs.declared.verb.ScriptLine.{ScriptLine}
 use Rattle.script_text.specs.declared.verb.Verb.TheVariants as verb
+use Rattle.script_text.specs.declared.verb.NodeVerb.TheVariants as node_verb
 use Rattle.vb_calls.specs.declared.calls.Resolved.{Resolved}
 use Rattle.vb_disk.specs.declared.fuse.Fuse.{Fuse}
 use Rattle.vb_disk.specs.declared.fuse.Fuse.TheVariants as fuse
@@ -51,10 +52,10 @@ pub record GroupsAreLines (w : PlainWorld) (line : ScriptLine) : Type 0 where
 
 -- a running node's clock shows what a line sets it to, which tells of nothing, and all else of the node stays
 pub record ClocksAreSet (w : PlainWorld) (line n nanos : ℕ) (node : PlainNode) : Type 0 where
-  pub shows : w.nodes n ≡ Some node → node.off ≡ None → (verb_step w line (verb.Clock n nanos)).0.nodes n ≡ Some (record node { clock = nanos })
-  pub told : w.nodes n ≡ Some node → node.off ≡ None → (verb_step w line (verb.Clock n nanos)).1 ≡ record { events = []; answer = answer.Ok }
-  pub others : (m : ℕ) → m ≢ n → (verb_step w line (verb.Clock n nanos)).0.nodes m ≡ w.nodes m
-  pub links : (verb_step w line (verb.Clock n nanos)).0.links ≡ w.links
+  pub shows : w.nodes n ≡ Some node → node.off ≡ None → (verb_step w line (verb.AtNode n (node_verb.Clock nanos))).0.nodes n ≡ Some (record node { clock = nanos })
+  pub told : w.nodes n ≡ Some node → node.off ≡ None → (verb_step w line (verb.AtNode n (node_verb.Clock nanos))).1 ≡ record { events = []; answer = answer.Ok }
+  pub others : (m : ℕ) → m ≢ n → (verb_step w line (verb.AtNode n (node_verb.Clock nanos))).0.nodes m ≡ w.nodes m
+  pub links : (verb_step w line (verb.AtNode n (node_verb.Clock nanos))).0.links ≡ w.links
 
 -- of two outcomes that two connections await the first is told first, with all that its connection goes on with, and then the second; where nobody awaits the first, the second alone
 pub record TellsInOrder (r s : Resolved) (node : PlainNode) : Type 0 where

@@ -3,6 +3,14 @@ use Rattle.std.specs.Prelude.{ℕ, ◌%◌, ◌^◌, ◌&&◌, ◌||◌, Bool, n
 use Rattle.std.specs.List.{flat_map}
 use Rattle.script_text.specs.declared.verb.Verb.{Verb}
 use Rattle.script_text.specs.declared.verb.Verb.TheVariants as verb
+use Rattle.script_text.specs.declared.verb.VbVerb.{VbVerb}
+use Rattle.script_text.specs.declared.verb.VbVerb.TheVariants as vb_verb
+use Rattle.script_text.specs.declared.verb.NodeVerb.{NodeVerb}
+use Rattle.script_text.specs.declared.verb.NodeVerb.TheVariants as node_verb
+use Rattle.script_text.specs.declared.verb.LinkVerb.{LinkVerb}
+use Rattle.script_text.specs.declared.verb.LinkVerb.TheVariants as link_verb
+use Rattle.script_text.specs.declared.verb.ClientVerb.{ClientVerb}
+use Rattle.script_text.specs.declared.verb.ClientVerb.TheVariants as client_verb
 use Rattle.script_text.specs.declared.verb.ScriptLine.{ScriptLine}
 use Rattle.vb_events.specs.declared.event.Cause.{Cause}
 use Rattle.vb_events.specs.declared.event.Cause.TheVariants as cause
@@ -105,36 +113,52 @@ cut_step w l = cut_outcome w (row_at link_number l w.links)
 abbrev pub base_of : ℕ → ℕ
 base_of line = line % 2 ^ 32
 
--- the world after the line of this number, by its verb
+-- a line for the node n
+abbrev pub node_verb_step : PlainWorld → ℕ → NodeVerb → Outcome
+node_verb_step w n (node_verb.Clock nanos) = on_node w n (clock_at nanos)
+node_verb_step w n (node_verb.Stop call out) = on_made w n (arm_at (stop_arm call out))
+node_verb_step w n (node_verb.Fail call) = on_made w n (arm_at (fail_arm call))
+node_verb_step w n (node_verb.Crash out) = crash_step w n out
+node_verb_step w n (node_verb.Start uuids) = start_step w n uuids
+
+-- a line for the vBucket v of the node n
+abbrev pub vb_verb_step : PlainWorld → ℕ → ℕ → VbVerb → Outcome
+vb_verb_step w n v (vb_verb.MakeActive uuid) = vb_step w n v uuid
+vb_verb_step w n v vb_verb.MakeReplica = with_arm n w (on_node w n (replica_at n v))
+vb_verb_step w n v (vb_verb.Chain others) = on_node w n (chain_line n v others)
+vb_verb_step w n v (vb_verb.Promote uuid) = with_arm n w (promote_step w n v uuid)
+vb_verb_step w n v vb_verb.Follow = with_arm n w (turn_step w n v role.Replica admin.Follow)
+vb_verb_step w n v vb_verb.Dead = with_arm n w (turn_step w n v role.Dead admin.Dead)
+vb_verb_step w n v vb_verb.Tick = on_node w n (tick_line n v)
+vb_verb_step w n v vb_verb.Seal = on_node w n (admin_line n v admin.Seal)
+vb_verb_step w n v vb_verb.Take = on_node w n (flush_line n v part.Take)
+vb_verb_step w n v vb_verb.Save = with_arm n w (on_node w n (save_line n v))
+vb_verb_step w n v vb_verb.Done = done_step w n v
+vb_verb_step w n v vb_verb.Stat = on_node w n (admin_line n v admin.Stat)
+vb_verb_step w n v vb_verb.Log = on_node w n (admin_line n v admin.Log)
+vb_verb_step w n v vb_verb.Show = on_node w n (admin_line n v admin.Show)
+
+-- what the line of this number makes of a node, for the connection of the client c
+abbrev pub client_verb_at : ℕ → ℕ → ℕ → ClientVerb → PlainNode → PlainNode × Told
+client_verb_at n line c client_verb.Open = client_at n (base_of line) c
+client_verb_at n line c (client_verb.Bytes bytes) = bytes_at c bytes
+client_verb_at n line c client_verb.Hang = hang_at c
+
+-- a line for the link l
+abbrev pub link_verb_step : PlainWorld → ℕ → LinkVerb → Outcome
+link_verb_step w l (link_verb.Up wanted) = on_link w l producer_node (up_at wanted)
+link_verb_step w l (link_verb.Down wanted) = down_step w l wanted
+link_verb_step w l (link_verb.Pump frames) = on_link w l producer_node (pump_at frames)
+link_verb_step w l link_verb.Cut = cut_step w l
+
+-- the world after the line of this number, by what its verb names
 abbrev pub verb_step : PlainWorld → ℕ → Verb → Outcome
 verb_step w line (verb.Node n) = node_step w n
-verb_step w line (verb.VbActive n v uuid) = vb_step w n v uuid
-verb_step w line (verb.VbReplica n v) = with_arm n w (on_node w n (replica_at n v))
-verb_step w line (verb.Chain n v others) = on_node w n (chain_line n v others)
-verb_step w line (verb.Client n c) = on_node w n (client_at n (base_of line) c)
-verb_step w line (verb.Bytes n c bytes) = on_node w n (bytes_at c bytes)
-verb_step w line (verb.Hang n c) = on_node w n (hang_at c)
-verb_step w line (verb.Clock n nanos) = on_node w n (clock_at nanos)
 verb_step w line (verb.Link l m n v) = link_step w line l m n v
-verb_step w line (verb.Up l wanted) = on_link w l producer_node (up_at wanted)
-verb_step w line (verb.Down l wanted) = down_step w l wanted
-verb_step w line (verb.Pump l frames) = on_link w l producer_node (pump_at frames)
-verb_step w line (verb.Cut l) = cut_step w l
-verb_step w line (verb.Promote n v uuid) = with_arm n w (promote_step w n v uuid)
-verb_step w line (verb.Follow n v) = with_arm n w (turn_step w n v role.Replica admin.Follow)
-verb_step w line (verb.Dead n v) = with_arm n w (turn_step w n v role.Dead admin.Dead)
-verb_step w line (verb.Seal n v) = on_node w n (admin_line n v admin.Seal)
-verb_step w line (verb.Take n v) = on_node w n (flush_line n v part.Take)
-verb_step w line (verb.Save n v) = with_arm n w (on_node w n (save_line n v))
-verb_step w line (verb.Done n v) = done_step w n v
-verb_step w line (verb.Tick n v) = on_node w n (tick_line n v)
-verb_step w line (verb.Stat n v) = on_node w n (admin_line n v admin.Stat)
-verb_step w line (verb.Log n v) = on_node w n (admin_line n v admin.Log)
-verb_step w line (verb.Show n v) = on_node w n (admin_line n v admin.Show)
-verb_step w line (verb.Stop n call out) = on_made w n (arm_at (stop_arm call out))
-verb_step w line (verb.Fail n call) = on_made w n (arm_at (fail_arm call))
-verb_step w line (verb.Crash n out) = crash_step w n out
-verb_step w line (verb.Start n uuids) = start_step w n uuids
+verb_step w line (verb.AtNode n what) = node_verb_step w n what
+verb_step w line (verb.AtVb n v what) = vb_verb_step w n v what
+verb_step w line (verb.AtClient n c what) = on_node w n (client_verb_at n line c what)
+verb_step w line (verb.AtLink l what) = link_verb_step w l what
 
 -- the group of a line of which this is told
 abbrev pub group_with : ℕ → Told → Group

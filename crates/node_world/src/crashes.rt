@@ -7,7 +7,8 @@ ghost use Rattle.{node_world.specs.Stands.{WorldStands}, node_world.specs.Worlds
 
 use crate::link::link_place;
 use crate::link_lines::node_place;
-use crate::{Alloc, Arm, Fired, Link, LinkLine, Told, World};
+use crate::{Alloc, Arm, Fired, Link, Told, World};
+use script_text::LinkVerb;
 use vb_disk::Outcome;
 use vb_events::{Answer, Cause, EndReason, Event};
 use vb_types::Listed;
@@ -161,7 +162,7 @@ impl World {
             return Ok(());
         };
         let number = self.links[at].number;
-        self.on_link(number, LinkLine::Cut)?;
+        self.on_link(number, LinkVerb::Cut)?;
         Ok(())
     }
 

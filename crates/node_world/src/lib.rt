@@ -7,6 +7,7 @@ mod ids;
 mod laws;
 mod link;
 mod link_lines;
+mod owed_laws;
 mod plumbing_laws;
 mod posts;
 mod power;
@@ -20,7 +21,11 @@ pub use laws::{
     causes_in_order, outcomes_go_to_who_awaits, roles_cut_links, stops_are_told_in_order,
     world_limits,
 };
-pub use link::{Link, LinkLine};
+pub use link::Link;
+pub use owed_laws::{
+    bytes_move_as_asked, dones_acknowledge, lines_are_calls, lines_pass_their_arguments,
+    roles_are_as_named, settled_ones_are_told, starts_count, writes_are_clocked,
+};
 pub use plumbing_laws::{
     ends_are_links, failures_are_told, lines_are_told_in_order, numberings_are_apart,
 };

@@ -17,19 +17,6 @@ pub struct Link {
     pub down: ByteQueue,
 }
 
-/// What a line asks of an open link.
-#[derive(Clone, Copy)]
-pub enum LinkLine {
-    /// The next bytes, at most so many, go up to the producer.
-    Up(u64),
-    /// The next bytes, at most so many, go down to the consumer.
-    Down(u64),
-    /// At most so many frames of the stream are put.
-    Pump(u32),
-    /// The link ends.
-    Cut,
-}
-
 /// Where the link of a number stands, if it is open.
 pub fn link_place(links: &[Link], l: u32) -> Option<usize>
     ensures { result ≡ position (λ link. link.number == l) links.now }

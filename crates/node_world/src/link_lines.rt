@@ -1,10 +1,11 @@
 //! Lines for links, at the nodes that keep their ends.
 ghost use Rattle.std.specs.Prelude.{◌≡◌, ◌==◌, false, IfOk};
 ghost use Rattle.{std.specs.List.{position}, node_world.specs.Ends.{LinkStep, Unlinks}, node_world.specs.Stands.{node_number}};
-ghost use Rattle.node_world.specs.declared.link.LinkLine.TheVariants.{Up, Down, Pump, Cut};
+ghost use Rattle.script_text.specs.declared.verb.LinkVerb.TheVariants.{Up, Down, Pump, Cut};
 
 use crate::link::moved_len;
-use crate::{Alloc, Link, LinkLine, ScriptNode, Told};
+use crate::{Alloc, Link, ScriptNode, Told};
+use script_text::LinkVerb;
 use std::alloc::Global;
 use vb_events::Cause;
 
@@ -94,15 +95,15 @@ pub fn link_line(
     alloc: Global,
     nodes: &mut [ScriptNode],
     link: &mut Link,
-    line: LinkLine,
+    line: LinkVerb,
 ) -> Alloc<LinkCame>
     ensures { IfOk result (λ came. LinkStep line nodes.old link.old came.told came.over nodes.new link.new) }
 {
     match line {
-        LinkLine::Up(wanted) => up(alloc, nodes, link, wanted),
-        LinkLine::Down(wanted) => down(alloc, nodes, link, wanted),
-        LinkLine::Pump(frames) => pump(alloc, nodes, link, frames),
-        LinkLine::Cut => cut(alloc, nodes, link),
+        LinkVerb::Up { bytes } => up(alloc, nodes, link, bytes),
+        LinkVerb::Down { bytes } => down(alloc, nodes, link, bytes),
+        LinkVerb::Pump { frames } => pump(alloc, nodes, link, frames),
+        LinkVerb::Cut => cut(alloc, nodes, link),
     }
 }
 

@@ -1,18 +1,18 @@
 //! The nodes of a script, and what its lines make of them.
 ghost use Rattle.std.specs.Prelude.{◌≡◌, ◌<◌, ◌++◌, true, length, IfOk};
-ghost use Rattle.{std.specs.Option.{option_copied}, node_world.specs.Ends.{LeavesLink, LeavesOwn}, node_world.specs.Dials.{OpensLink}, node_world.specs.NodeVerbs.{IsForNode}, node_world.specs.Lines.{ChangesRole, at_node, link_line_at, out_told}};
+ghost use Rattle.{std.specs.Option.{option_copied}, node_world.specs.Ends.{LeavesLink, LeavesOwn}, node_world.specs.Dials.{OpensLink}, node_world.specs.Lines.{ChangesRole, at_node, link_line_at, out_told}};
 ghost use Rattle.{node_world.specs.Rests.{Rests}, node_world.specs.Nodes.{arm_at}, node_world.specs.Power.{is_broken_answer, with_arm}, node_world.specs.Worlds.{on_made}};
 ghost use Rattle.{node_world.specs.Stands.{IsNodeIf, WorldStands}, node_world.specs.Turns.{posted_in, role_outcome, promote_step}};
 ghost use Rattle.{node_world.specs.Cuts.{own_link}, node_world.specs.Dues.{due_of, done_step, is_counted}, node_world.specs.World.{base_of}};
-ghost use Rattle.{node_world.specs.World.{down_step, empty_world, on_node, node_step, link_step, verb_step, world_step}, node_world.specs.Worlds.{PlainWorld}};
+ghost use Rattle.{node_world.specs.World.{client_verb_at, down_step, empty_world, link_verb_step, node_verb_step, on_node, node_step, link_step, vb_verb_step, verb_step, world_step}, node_world.specs.Worlds.{PlainWorld}};
 
 use crate::link::{link_place, own_place};
 use crate::link_lines::{link_line, node_place, shut};
-use crate::{Alloc, Arm, Ids, Link, LinkLine, NodeLine, ScriptNode, Told};
+use crate::{Alloc, Arm, Ids, Link, NodeLine, ScriptNode, Told};
 use disk_journals::DiskJournals;
 use mcbp_frame::ByteQueue;
 use node_core::{AdminCall, Node, NodeOut};
-use script_text::{ScriptLine, Verb};
+use script_text::{ClientVerb, LinkVerb, NodeVerb, ScriptLine, VbVerb, Verb};
 use std::alloc::Global;
 use std::marker::Model;
 use vb_disk::FuseDisk;
@@ -274,7 +274,7 @@ impl World {
     }
 
     /// Carries out a line for a link, which must be open. One that is over is taken out.
-    pub(crate) fn on_link(&mut self, l: u32, line: LinkLine) -> Alloc<Told>
+    pub(crate) fn on_link(&mut self, l: u32, line: LinkVerb) -> Alloc<Told>
         ensures { IfOk result (λ told. (w : PlainWorld) → WorldStands self.old w →
             WorldStands self.new (link_line_at line w l).0
             × (told ≡ (link_line_at line w l).1)) }
@@ -320,7 +320,7 @@ impl World {
         };
         let n = self.links[at].node;
         let arm = self.arm(n);
-        let told = self.on_link(l, LinkLine::Down(bytes))?;
+        let told = self.on_link(l, LinkVerb::Down { bytes })?;
         if is_broken_answer(told.answer) {
             return self.meet_broken(n, l, arm, told);
         }
@@ -355,39 +355,66 @@ impl World {
         Ok(told)
     }
 
-    /// Carries out a line for one node that is running.
-    fn tell_node(&mut self, line: u64, verb: &Verb) -> Alloc<Told>
-        requires { IsForNode verb.now }
-        ensures { IfOk result (λ told. (w : PlainWorld) → WorldStands self.old w →
-            WorldStands self.new (verb_step w line verb.now).0
-            × (told ≡ (verb_step w line verb.now).1)) }
+    /// Carries out a line for a node, whether it is running or not.
+    fn tell_node(&mut self, n: u8, what: &NodeVerb) -> Alloc<Told>
+        ensures { IfOk result (λ told. (w : PlainWorld) → WorldStands self.old w → Rests w →
+            WorldStands self.new (node_verb_step w n what.now).0 × (told ≡ (node_verb_step w n what.now).1)) }
     {
-        match verb {
-            &Verb::VbActive { node, vb, uuid } => {
-                self.on_armed(node, NodeLine::VbActive(vb, uuid))
-            }
-            &Verb::VbReplica { node, vb } => self.on_armed(node, NodeLine::VbReplica(vb)),
-            &Verb::Clock { node, nanos } => self.on_node(node, NodeLine::Clock(nanos)),
-            Verb::Chain { node, vb, others } => {
-                self.on_node(*node, NodeLine::Chain(*vb, others.as_slice()))
-            }
-            &Verb::Client { node, client } => {
-                self.on_node(node, NodeLine::Client(client, base_of(line)))
-            }
-            Verb::Bytes {
-                node,
-                client,
-                bytes,
-            } => self.on_node(*node, NodeLine::Bytes(*client, bytes.as_slice())),
-            &Verb::Hang { node, client } => self.on_node(node, NodeLine::Hang(client)),
-            &Verb::Seal { node, vb } => self.on_node(node, NodeLine::Seal(vb)),
-            &Verb::Take { node, vb } => self.on_node(node, NodeLine::Take(vb)),
-            &Verb::Save { node, vb } => self.on_armed(node, NodeLine::Save(vb)),
-            &Verb::Tick { node, vb } => self.on_node(node, NodeLine::Tick(vb)),
-            &Verb::Stat { node, vb } => self.on_node(node, NodeLine::Stat(vb)),
-            &Verb::Log { node, vb } => self.on_node(node, NodeLine::Log(vb)),
-            &Verb::Show { node, vb } => self.on_node(node, NodeLine::Show(vb)),
-            _ => unreachable!(),
+        match what {
+            &NodeVerb::Clock { nanos } => self.on_node(n, NodeLine::Clock(nanos)),
+            &NodeVerb::Stop { call, out } => Ok(self.set_arm(n, Arm::stop(call, out))),
+            &NodeVerb::Fail { call } => Ok(self.set_arm(n, Arm::fail(call))),
+            &NodeVerb::Crash { out } => self.crash(n, out),
+            NodeVerb::Start { uuids } => self.start(n, uuids.as_slice()),
+        }
+    }
+
+    /// Carries out a line for a vBucket of a node.
+    fn tell_vb(&mut self, n: u8, v: u16, what: &VbVerb) -> Alloc<Told>
+        ensures { IfOk result (λ told. (w : PlainWorld) → WorldStands self.old w → Rests w →
+            WorldStands self.new (vb_verb_step w n v what.now).0 × (told ≡ (vb_verb_step w n v what.now).1)) }
+    {
+        match what {
+            &VbVerb::MakeActive { uuid } => self.on_armed(n, NodeLine::VbActive(v, uuid)),
+            VbVerb::MakeReplica => self.on_armed(n, NodeLine::VbReplica(v)),
+            VbVerb::Chain { others } => self.on_node(n, NodeLine::Chain(v, others.as_slice())),
+            &VbVerb::Promote { uuid } => self.promote_armed(n, v, uuid),
+            VbVerb::Follow => self.set_role_armed(n, v, AdminCall::Follow),
+            VbVerb::Dead => self.set_role_armed(n, v, AdminCall::Dead),
+            VbVerb::Tick => self.on_node(n, NodeLine::Tick(v)),
+            VbVerb::Seal => self.on_node(n, NodeLine::Seal(v)),
+            VbVerb::Take => self.on_node(n, NodeLine::Take(v)),
+            VbVerb::Save => self.on_armed(n, NodeLine::Save(v)),
+            VbVerb::Done => self.done(n, v),
+            VbVerb::Stat => self.on_node(n, NodeLine::Stat(v)),
+            VbVerb::Log => self.on_node(n, NodeLine::Log(v)),
+            VbVerb::Show => self.on_node(n, NodeLine::Show(v)),
+        }
+    }
+
+    /// Carries out the line of a number for a client's connection to a node.
+    fn tell_client(&mut self, n: u8, line: u64, c: u32, what: &ClientVerb) -> Alloc<Told>
+        ensures { IfOk result (λ told. (w : PlainWorld) → WorldStands self.old w →
+            WorldStands self.new (on_node w n (client_verb_at n line c what.now)).0
+            × (told ≡ (on_node w n (client_verb_at n line c what.now)).1)) }
+    {
+        match what {
+            ClientVerb::Open => self.on_node(n, NodeLine::Client(c, base_of(line))),
+            ClientVerb::Bytes { bytes } => self.on_node(n, NodeLine::Bytes(c, bytes.as_slice())),
+            ClientVerb::Hang => self.on_node(n, NodeLine::Hang(c)),
+        }
+    }
+
+    /// Carries out a line for a link.
+    fn tell_link(&mut self, l: u32, what: LinkVerb) -> Alloc<Told>
+        ensures { IfOk result (λ told. (w : PlainWorld) → WorldStands self.old w →
+            WorldStands self.new (link_verb_step w l what).0 × (told ≡ (link_verb_step w l what).1)) }
+    {
+        match what {
+            LinkVerb::Up { bytes } => self.on_link(l, LinkVerb::Up { bytes }),
+            LinkVerb::Down { bytes } => self.down(l, bytes),
+            LinkVerb::Pump { frames } => self.on_link(l, LinkVerb::Pump { frames }),
+            LinkVerb::Cut => self.on_link(l, LinkVerb::Cut),
         }
     }
 
@@ -406,19 +433,10 @@ impl World {
                 node: to,
                 vb,
             }),
-            &Verb::Up { link, bytes } => self.on_link(link, LinkLine::Up(bytes)),
-            &Verb::Down { link, bytes } => self.down(link, bytes),
-            &Verb::Pump { link, frames } => self.on_link(link, LinkLine::Pump(frames)),
-            &Verb::Cut { link } => self.on_link(link, LinkLine::Cut),
-            &Verb::Promote { node, vb, uuid } => self.promote_armed(node, vb, uuid),
-            &Verb::Follow { node, vb } => self.set_role_armed(node, vb, AdminCall::Follow),
-            &Verb::Dead { node, vb } => self.set_role_armed(node, vb, AdminCall::Dead),
-            &Verb::Done { node, vb } => self.done(node, vb),
-            &Verb::Stop { node, call, out } => Ok(self.set_arm(node, Arm::stop(call, out))),
-            &Verb::Fail { node, call } => Ok(self.set_arm(node, Arm::fail(call))),
-            &Verb::Crash { node, out } => self.crash(node, out),
-            Verb::Start { node, uuids } => self.start(*node, uuids.as_slice()),
-            _ => self.tell_node(line, verb),
+            Verb::AtNode { node, what } => self.tell_node(*node, what),
+            Verb::AtVb { node, vb, what } => self.tell_vb(*node, *vb, what),
+            Verb::AtClient { node, client, what } => self.tell_client(*node, line, *client, what),
+            &Verb::AtLink { link, what } => self.tell_link(link, what),
         }
     }
 

@@ -12,6 +12,9 @@ use Rattle.vb_disk.specs.declared.made.Outcome.{Outcome}
 use Rattle.vb_disk.specs.declared.made.Outcome.TheVariants as outcome
 use Rattle.script_text.specs.declared.verb.Verb.{Verb}
 use Rattle.script_text.specs.declared.verb.Verb.TheVariants as verb
+use Rattle.script_text.specs.declared.verb.NodeVerb.TheVariants as node_verb
+use Rattle.script_text.specs.declared.verb.LinkVerb.TheVariants as link_verb
+use Rattle.script_text.specs.declared.verb.ClientVerb.TheVariants as client_verb
 use Rattle.script_text.specs.declared.verb.ScriptLine.{ScriptLine}
 use Rattle.script_text.specs.declared.script.Said.{Said}
 use Rattle.script_text.specs.declared.script.Said.TheVariants as said
@@ -30,33 +33,20 @@ outcome_fits text (outcome.Fill byte) h = h.0
 -- a verb that a line spells is within the limits
 pub verb_fits : (line : List ℕ) (v : Verb) → Says line v → VerbFits v
 verb_fits line (verb.Node n) h = h.0
-verb_fits line (verb.VbActive n k uuid) h = (h.0, h.1, h.2)
-verb_fits line (verb.VbReplica n k) h = (h.0, h.1)
-verb_fits line (verb.Chain n k others) h = (h.0, h.1, h.2, h.3)
-verb_fits line (verb.Clock n t) h = (h.0, h.1)
-verb_fits line (verb.Client n c) h = (h.0, h.1)
-verb_fits line (verb.Bytes n c bytes) h = (h.1.1, h.1.2, decoded_bytes h.0 bytes h.1.0.digits)
-verb_fits line (verb.Hang n c) h = (h.0, h.1)
+verb_fits line (verb.AtVb n k what) h = (h.0, h.1, h.2)
+verb_fits line (verb.AtNode n (node_verb.Clock t)) h = (h.0, h.1)
+verb_fits line (verb.AtClient n c client_verb.Open) h = (h.0, h.1)
+verb_fits line (verb.AtClient n c (client_verb.Bytes bytes)) h = (h.1.1, h.1.2, decoded_bytes h.0 bytes h.1.0.digits)
+verb_fits line (verb.AtClient n c client_verb.Hang) h = (h.0, h.1)
 verb_fits line (verb.Link l m n k) h = (h.0, h.1, h.2, h.3)
-verb_fits line (verb.Up l b) h = (h.0, h.1)
-verb_fits line (verb.Down l b) h = (h.0, h.1)
-verb_fits line (verb.Pump l k) h = (h.0, h.1, h.2)
-verb_fits line (verb.Cut l) h = h.0
-verb_fits line (verb.Promote n k uuid) h = (h.0, h.1, h.2)
-verb_fits line (verb.Follow n k) h = (h.0, h.1)
-verb_fits line (verb.Dead n k) h = (h.0, h.1)
-verb_fits line (verb.Tick n k) h = (h.0, h.1)
-verb_fits line (verb.Seal n k) h = (h.0, h.1)
-verb_fits line (verb.Take n k) h = (h.0, h.1)
-verb_fits line (verb.Save n k) h = (h.0, h.1)
-verb_fits line (verb.Done n k) h = (h.0, h.1)
-verb_fits line (verb.Stat n k) h = (h.0, h.1)
-verb_fits line (verb.Log n k) h = (h.0, h.1)
-verb_fits line (verb.Show n k) h = (h.0, h.1)
-verb_fits line (verb.Stop n k out) h = (h.1.1, h.1.2, outcome_fits h.0 out h.1.0)
-verb_fits line (verb.Fail n k) h = (h.0, h.1)
-verb_fits line (verb.Crash n out) h = (h.1.1, outcome_fits h.0 out h.1.0)
-verb_fits line (verb.Start n uuids) h = (h.0, h.1, h.2)
+verb_fits line (verb.AtLink l (link_verb.Up b)) h = (h.0, h.1)
+verb_fits line (verb.AtLink l (link_verb.Down b)) h = (h.0, h.1)
+verb_fits line (verb.AtLink l (link_verb.Pump k)) h = (h.0, h.1, h.2)
+verb_fits line (verb.AtLink l link_verb.Cut) h = h.0
+verb_fits line (verb.AtNode n (node_verb.Stop k out)) h = (h.1.1, h.1.2, outcome_fits h.0 out h.1.0)
+verb_fits line (verb.AtNode n (node_verb.Fail k)) h = (h.0, h.1)
+verb_fits line (verb.AtNode n (node_verb.Crash out)) h = (h.1.1, outcome_fits h.0 out h.1.0)
+verb_fits line (verb.AtNode n (node_verb.Start uuids)) h = (h.0, h.1, h.2)
 
 line_fits : (number : ℕ) (text : List ℕ) (s : Said) (more : List ScriptLine) → line_said number text ≡ s → ScriptFits more → ScriptFits (verb_line_in s ++ more)
 line_fits number text (said.Line line) more e h =

@@ -13,6 +13,8 @@ use Rattle.script_text.specs.Grammar.{start_line, branches_of, members_of, chain
 use Rattle.script_text.specs.Numbers.{node_of, vbucket_of, numbers_of}
 use Rattle.script_text.specs.declared.verb.Verb.{Verb}
 use Rattle.script_text.specs.declared.verb.Verb.TheVariants as verb
+use Rattle.script_text.specs.declared.verb.VbVerb.TheVariants as vb_verb
+use Rattle.script_text.specs.declared.verb.NodeVerb.TheVariants as node_verb
 use Rattle.script_text.specs.declared.line.TheConstants.{WORDS_READ, BRANCHES, OTHERS}
 
 -- a line ends at the first newline
@@ -82,7 +84,7 @@ more_than false words e h = refl
 too_many : (words : List (List ℕ)) → 65 ≤ length words → branches_of words ≡ None
 too_many words h = more_than (nat_le (length words) BRANCHES) words refl h
 
-none_started : (n : Option ℕ) → option_and_then (λ n. option_map (verb.Start n) None) n ≡ None
+none_started : (n : Option ℕ) → option_and_then (λ n. option_map (λ x. verb.AtNode n (node_verb.Start x)) None) n ≡ None
 none_started None = refl
 none_started (Some n) = refl
 
@@ -94,7 +96,7 @@ others_than : (t : Bool) (words : List (List ℕ)) → nat_le (length words) OTH
 others_than true words e h = let few : length words ≤ 3 = leb-true (length words) OTHERS e in absurd (omega (arith, few, h))
 others_than false words e h = refl
 
-none_chained : (n : Option ℕ) (v : Option ℕ) → option_and_then (λ n. option_and_then (λ v. option_map (verb.Chain n v) None) v) n ≡ None
+none_chained : (n : Option ℕ) (v : Option ℕ) → option_and_then (λ n. option_and_then (λ v. option_map (λ x. verb.AtVb n v (vb_verb.Chain x)) None) v) n ≡ None
 none_chained None v = refl
 none_chained (Some n) None = refl
 none_chained (Some n) (Some v) = refl

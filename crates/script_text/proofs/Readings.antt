@@ -7,48 +7,16 @@ use Rattle.script_text.specs.Grammar.{verb_of}
 use Rattle.script_text.specs.Sayings.{Says, IsBlank, IsOutside}
 use Rattle.script_text.specs.Scripts.{is_blank, verb_said, line_said}
 use Rattle.script_text.specs.declared.verb.Verb.{Verb}
-use Rattle.script_text.specs.declared.verb.Verb.TheVariants as verb
 use Rattle.script_text.specs.declared.verb.ScriptLine.{ScriptLine}
 use Rattle.script_text.specs.declared.script.Said.{Said}
 use Rattle.script_text.specs.declared.script.Said.TheVariants as said
-use Rattle.script_text.proofs.Spelled.{lines_say}
+use Rattle.script_text.proofs.Spelled.{lines_say, spelled_read}
 use Rattle.script_text.proofs.Steps.{line_shows}
-
--- a verb's spelling begins with a letter
-not_blank : (line : List ℕ) (v : Verb) → Says line v → is_blank line ≡ false
-not_blank line (verb.Node n) h = ap is_blank h.1
-not_blank line (verb.VbActive n k uuid) h = ap is_blank h.3
-not_blank line (verb.VbReplica n k) h = ap is_blank h.2
-not_blank line (verb.Chain n k others) h = ap is_blank h.4
-not_blank line (verb.Clock n t) h = ap is_blank h.2
-not_blank line (verb.Client n c) h = ap is_blank h.2
-not_blank line (verb.Bytes n c bytes) h = ap is_blank h.1.3
-not_blank line (verb.Hang n c) h = ap is_blank h.2
-not_blank line (verb.Link l m n k) h = ap is_blank h.4
-not_blank line (verb.Up l b) h = ap is_blank h.2
-not_blank line (verb.Down l b) h = ap is_blank h.2
-not_blank line (verb.Pump l k) h = ap is_blank h.3
-not_blank line (verb.Cut l) h = ap is_blank h.1
-not_blank line (verb.Promote n k uuid) h = ap is_blank h.3
-not_blank line (verb.Follow n k) h = ap is_blank h.2
-not_blank line (verb.Dead n k) h = ap is_blank h.2
-not_blank line (verb.Tick n k) h = ap is_blank h.2
-not_blank line (verb.Seal n k) h = ap is_blank h.2
-not_blank line (verb.Take n k) h = ap is_blank h.2
-not_blank line (verb.Save n k) h = ap is_blank h.2
-not_blank line (verb.Done n k) h = ap is_blank h.2
-not_blank line (verb.Stat n k) h = ap is_blank h.2
-not_blank line (verb.Log n k) h = ap is_blank h.2
-not_blank line (verb.Show n k) h = ap is_blank h.2
-not_blank line (verb.Stop n k out) h = ap is_blank h.1.3
-not_blank line (verb.Fail n k) h = ap is_blank h.2
-not_blank line (verb.Crash n out) h = ap is_blank h.1.2
-not_blank line (verb.Start n uuids) h = ap is_blank h.3
 
 read_back : (number : ℕ) (line : List ℕ) (read : ScriptLine) → read.line ≡ number → Says line read.verb → line_said number line ≡ said.Line read
 unfolding line_said
 read_back number line read e h =
-    ap (λ t. if t then said.Nothing else verb_said number (verb_of (words_of line))) (not_blank line read.verb h)
+    ap (λ t. if t then said.Nothing else verb_said number (verb_of (words_of line))) (spelled_read line read.verb h).1
     ∙ ap (verb_said number) ((lines_say line read.verb).1 h)
     ∙ ap (λ (n : ℕ). said.Line (record { line = n; verb = read.verb })) (sym e)
 

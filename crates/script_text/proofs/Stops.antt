@@ -17,6 +17,7 @@ use Rattle.script_text.specs.declared.line.TheConstants.{BRANCHES}
 use Rattle.script_text.specs.declared.numbers.TheConstants.{NODES, MOVED, BYTES}
 use Rattle.script_text.specs.declared.verb.Verb.{Verb}
 use Rattle.script_text.specs.declared.verb.Verb.TheVariants as verb
+use Rattle.script_text.specs.declared.verb.NodeVerb.TheVariants as node_verb
 use Rattle.script_text.proofs.Decimals.{decimal-number_of, number_of-decimal}
 use Rattle.script_text.proofs.Spelling.{if_yes, mapped, chained, number_below, number_moved, word_is, either, decimal_word, one, first, in_limit}
 
@@ -46,19 +47,19 @@ filled_spelled word byte out h =
 pub stop_spelled : (a b text : List ℕ) (o : Option Outcome) (v : Verb) → ((out : Outcome) → o ≡ Some out → SaysOutcome text out) → stop_line a b o ≡ Some v
     → Says (codes "stop" ++ 32 ∷ (a ++ 32 ∷ (b ++ 32 ∷ text))) v
 stop_spelled a b text o v said h =
-    let node = chained (λ n. option_and_then (λ k. option_map (verb.Stop n k) o) (moved_of b)) (node_of a) v h in
-    let call = chained (λ k. option_map (verb.Stop node.0 k) o) (moved_of b) v node.2 in
-    let out = mapped (verb.Stop node.0 call.0) o v call.2 in
+    let node = chained (λ n. option_and_then (λ k. option_map (λ x. verb.AtNode n (node_verb.Stop k x)) o) (moved_of b)) (node_of a) v h in
+    let call = chained (λ k. option_map (λ x. verb.AtNode node.0 (node_verb.Stop k x)) o) (moved_of b) v node.2 in
+    let out = mapped (λ x. verb.AtNode node.0 (node_verb.Stop call.0 x)) o v call.2 in
     let n = number_below NODES node.0 a node.1 in
     let k = number_moved call.0 b call.1 in
-    let made = verb.Stop node.0 call.0 out.0 in
+    let made = verb.AtNode node.0 (node_verb.Stop call.0 out.0) in
     subst (λ v. Says (codes "stop" ++ 32 ∷ (a ++ 32 ∷ (b ++ 32 ∷ text))) v) {x = made} out.2
     (text, (said out.0 out.1, n.1, k.1, λ i. codes "stop" ++ 32 ∷ (n.0 i ++ 32 ∷ (k.0 i ++ 32 ∷ text))))
 
 pub fail_spelled : (a b : List ℕ) (v : Verb) → fail_line a b ≡ Some v → Says (codes "fail" ++ 32 ∷ (a ++ 32 ∷ b)) v
 fail_spelled a b v h =
-    let node = chained (λ n. option_map (verb.Fail n) (moved_of b)) (node_of a) v h in
-    let call = mapped (verb.Fail node.0) (moved_of b) v node.2 in
+    let node = chained (λ n. option_map (λ x. verb.AtNode n (node_verb.Fail x)) (moved_of b)) (node_of a) v h in
+    let call = mapped (λ x. verb.AtNode node.0 (node_verb.Fail x)) (moved_of b) v node.2 in
     let n = number_below NODES node.0 a node.1 in
     let k = number_moved call.0 b call.1 in
     subst (λ v. Says (codes "fail" ++ 32 ∷ (a ++ 32 ∷ b)) v) call.2 (n.1, k.1, λ i. codes "fail" ++ 32 ∷ (n.0 i ++ 32 ∷ k.0 i))
@@ -66,10 +67,10 @@ fail_spelled a b v h =
 pub crash_spelled : (a text : List ℕ) (o : Option Outcome) (v : Verb) → ((out : Outcome) → o ≡ Some out → SaysOutcome text out) → crash_line a o ≡ Some v
     → Says (codes "crash" ++ 32 ∷ (a ++ 32 ∷ text)) v
 crash_spelled a text o v said h =
-    let node = chained (λ n. option_map (verb.Crash n) o) (node_of a) v h in
-    let out = mapped (verb.Crash node.0) o v node.2 in
+    let node = chained (λ n. option_map (λ x. verb.AtNode n (node_verb.Crash x)) o) (node_of a) v h in
+    let out = mapped (λ x. verb.AtNode node.0 (node_verb.Crash x)) o v node.2 in
     let n = number_below NODES node.0 a node.1 in
-    let made = verb.Crash node.0 out.0 in
+    let made = verb.AtNode node.0 (node_verb.Crash out.0) in
     subst (λ v. Says (codes "crash" ++ 32 ∷ (a ++ 32 ∷ text)) v) {x = made} out.2
     (text, (said out.0 out.1, n.1, λ i. codes "crash" ++ 32 ∷ (n.0 i ++ 32 ∷ text)))
 
@@ -86,14 +87,14 @@ numbers_spelled (text ∷ texts) ns h =
 
 pub start_spelled : (a : List ℕ) (more : List (List ℕ)) (v : Verb) → start_line a (branches_of more) ≡ Some v → Says (codes "start" ++ 32 ∷ join_with_byte 32 (a ∷ more)) v
 start_spelled a more v h =
-    let node = chained (λ n. option_map (verb.Start n) (branches_of more)) (node_of a) v h in
-    let uuids = mapped (verb.Start node.0) (branches_of more) v node.2 in
+    let node = chained (λ n. option_map (λ x. verb.AtNode n (node_verb.Start x)) (branches_of more)) (node_of a) v h in
+    let uuids = mapped (λ x. verb.AtNode node.0 (node_verb.Start x)) (branches_of more) v node.2 in
     let few = if_yes (nat_le (length more) BRANCHES) (numbers_of more) uuids.0 uuids.1 in
     let n = number_below NODES node.0 a node.1 in
     let ids = numbers_spelled more uuids.0 few.1 in
     let as_many : length more ≡ length uuids.0 = ap length ids.0 ∙ length-map uuids.0 decimal in
     let most : length more ≤ 64 = leb-true (length more) BRANCHES few.0 in
-    let made = verb.Start node.0 uuids.0 in
+    let made = verb.AtNode node.0 (node_verb.Start uuids.0) in
     subst (λ v. Says (codes "start" ++ 32 ∷ join_with_byte 32 (a ∷ more)) v) {x = made} uuids.2
     (n.1, omega (arith, as_many, most), ids.1, λ i. codes "start" ++ 32 ∷ join_with_byte 32 (n.0 i ∷ ids.0 i))
 
@@ -130,7 +131,7 @@ crash_said a text outcome.Old h = refl
 crash_said a text outcome.New h = refl
 crash_said a text (outcome.Fill byte) h = ap (crash_line a) (filled_read byte h.0)
 
-pub stop_read : (line : List ℕ) (n k : ℕ) (out : Outcome) → Says line (verb.Stop n k out) → verb_of (words_of line) ≡ Some (verb.Stop n k out)
+pub stop_read : (line : List ℕ) (n k : ℕ) (out : Outcome) → Says line (verb.AtNode n (node_verb.Stop k out)) → verb_of (words_of line) ≡ Some (verb.AtNode n (node_verb.Stop k out))
 stop_read line n k out h =
     let text = h.0 in
     let n_low : n < 2 ^ 64 = omega (arith, h.1.1) in
@@ -140,26 +141,26 @@ stop_read line n k out h =
     (first (decimal n) (decimal k ++ 32 ∷ text) (decimal k ∷ out_words out) (decimal_word n n_low)
     (first (decimal k) text (out_words out) (decimal_word k k_low) (said_words text out h.1.0)))
     ∙ stop_said (decimal n) (decimal k) text out h.1.0
-    ∙ ap (option_and_then (λ n. option_and_then (λ k. option_map (verb.Stop n k) (Some out)) (moved_of (decimal k)))) (in_limit NODES n h.1.1 n_low)
-    ∙ ap (option_and_then (λ k. option_map (verb.Stop n k) (Some out))) (moved_read k h.1.2)
+    ∙ ap (option_and_then (λ n. option_and_then (λ k. option_map (λ x. verb.AtNode n (node_verb.Stop k x)) (Some out)) (moved_of (decimal k)))) (in_limit NODES n h.1.1 n_low)
+    ∙ ap (option_and_then (λ k. option_map (λ x. verb.AtNode n (node_verb.Stop k x)) (Some out))) (moved_read k h.1.2)
 
-pub fail_read : (line : List ℕ) (n k : ℕ) → Says line (verb.Fail n k) → verb_of (words_of line) ≡ Some (verb.Fail n k)
+pub fail_read : (line : List ℕ) (n k : ℕ) → Says line (verb.AtNode n (node_verb.Fail k)) → verb_of (words_of line) ≡ Some (verb.AtNode n (node_verb.Fail k))
 fail_read line n k h =
     let n_low : n < 2 ^ 64 = omega (arith, h.0) in
     let k_low : k < 2 ^ 64 = omega (arith, h.1) in
     ap (λ l. verb_of (words_of l)) h.2
     ∙ ap (λ ws. verb_of (codes "fail" ∷ ws)) (first (decimal n) (decimal k) (decimal k ∷ []) (decimal_word n n_low) (one (decimal k) (decimal_word k k_low)))
-    ∙ ap (option_and_then (λ n. option_map (verb.Fail n) (moved_of (decimal k)))) (in_limit NODES n h.0 n_low)
-    ∙ ap (option_map (verb.Fail n)) (moved_read k h.1)
+    ∙ ap (option_and_then (λ n. option_map (λ x. verb.AtNode n (node_verb.Fail x)) (moved_of (decimal k)))) (in_limit NODES n h.0 n_low)
+    ∙ ap (option_map (λ x. verb.AtNode n (node_verb.Fail x))) (moved_read k h.1)
 
-pub crash_read : (line : List ℕ) (n : ℕ) (out : Outcome) → Says line (verb.Crash n out) → verb_of (words_of line) ≡ Some (verb.Crash n out)
+pub crash_read : (line : List ℕ) (n : ℕ) (out : Outcome) → Says line (verb.AtNode n (node_verb.Crash out)) → verb_of (words_of line) ≡ Some (verb.AtNode n (node_verb.Crash out))
 crash_read line n out h =
     let text = h.0 in
     let low : n < 2 ^ 64 = omega (arith, h.1.1) in
     ap (λ l. verb_of (words_of l)) h.1.2
     ∙ ap (λ ws. verb_of (codes "crash" ∷ ws)) (first (decimal n) text (out_words out) (decimal_word n low) (said_words text out h.1.0))
     ∙ crash_said (decimal n) text out h.1.0
-    ∙ ap (option_and_then (λ n. option_map (verb.Crash n) (Some out))) (in_limit NODES n h.1.1 low)
+    ∙ ap (option_and_then (λ n. option_map (λ x. verb.AtNode n (node_verb.Crash x)) (Some out))) (in_limit NODES n h.1.1 low)
 
 decimals_words : (n : ℕ) (ns : List ℕ) → n < 2 ^ 64 → All (λ n. n < 2 ^ 64) ns → words_of (join_with_byte 32 (map decimal (n ∷ ns))) ≡ map decimal (n ∷ ns)
 decimals_words n [] low h = one (decimal n) (decimal_word n low)
@@ -178,10 +179,10 @@ branches_read ns few h =
     let as_many : length (map decimal ns) ≡ length ns = length-map ns decimal in
     ap (λ t. if t then numbers_of (map decimal ns) else None) (le-leb (length (map decimal ns)) BRANCHES (omega (arith, as_many, few))) ∙ numbers_read ns h
 
-pub start_read : (line : List ℕ) (n : ℕ) (uuids : List ℕ) → Says line (verb.Start n uuids) → verb_of (words_of line) ≡ Some (verb.Start n uuids)
+pub start_read : (line : List ℕ) (n : ℕ) (uuids : List ℕ) → Says line (verb.AtNode n (node_verb.Start uuids)) → verb_of (words_of line) ≡ Some (verb.AtNode n (node_verb.Start uuids))
 start_read line n uuids h =
     let low : n < 2 ^ 64 = omega (arith, h.0) in
     ap (λ l. verb_of (words_of l)) h.3
     ∙ ap (λ ws. verb_of (codes "start" ∷ ws)) (decimals_words n uuids low h.2)
     ∙ ap (start_line (decimal n)) (branches_read uuids h.1 h.2)
-    ∙ ap (option_and_then (λ n. option_map (verb.Start n) (Some uuids))) (in_limit NODES n h.0 low)
+    ∙ ap (option_and_then (λ n. option_map (λ x. verb.AtNode n (node_verb.Start x)) (Some uuids))) (in_limit NODES n h.0 low)

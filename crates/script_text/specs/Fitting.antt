@@ -3,9 +3,12 @@ use Rattle.std.specs.Prelude.{ℕ, ◌<◌, ◌≤◌, ◌^◌, List, length}
 use Rattle.std.specs.List.{All}
 use Rattle.vb_disk.specs.declared.made.Outcome.{Outcome}
 use Rattle.vb_disk.specs.declared.made.Outcome.TheVariants as outcome
-use Rattle.script_text.specs.Sayings.{IsMember}
+use Rattle.script_text.specs.Sayings.{VbFits}
 use Rattle.script_text.specs.declared.verb.Verb.{Verb}
 use Rattle.script_text.specs.declared.verb.Verb.TheVariants as verb
+use Rattle.script_text.specs.declared.verb.NodeVerb.TheVariants as node_verb
+use Rattle.script_text.specs.declared.verb.LinkVerb.TheVariants as link_verb
+use Rattle.script_text.specs.declared.verb.ClientVerb.TheVariants as client_verb
 use Rattle.script_text.specs.declared.verb.ScriptLine.{ScriptLine}
 
 -- a node's number
@@ -37,33 +40,20 @@ IsOutcome (outcome.Fill byte) = byte < 256
 -- the numbers of a line are those of its grammar
 abbrev pub VerbFits : Verb → Type 0
 VerbFits (verb.Node n) = IsNode n
-VerbFits (verb.VbActive n v uuid) = IsNode n × IsVb v × (uuid < 2 ^ 64)
-VerbFits (verb.VbReplica n v) = IsNode n × IsVb v
-VerbFits (verb.Chain n v others) = IsNode n × IsVb v × (length others ≤ 3) × All IsMember others
-VerbFits (verb.Clock n nanos) = IsNode n × (nanos < 2 ^ 64)
-VerbFits (verb.Client n c) = IsNode n × IsConnection c
-VerbFits (verb.Bytes n c bytes) = IsNode n × IsConnection c × AreBytes bytes
-VerbFits (verb.Hang n c) = IsNode n × IsConnection c
+VerbFits (verb.AtVb n v what) = IsNode n × IsVb v × VbFits what
+VerbFits (verb.AtNode n (node_verb.Clock nanos)) = IsNode n × (nanos < 2 ^ 64)
+VerbFits (verb.AtClient n c client_verb.Open) = IsNode n × IsConnection c
+VerbFits (verb.AtClient n c (client_verb.Bytes bytes)) = IsNode n × IsConnection c × AreBytes bytes
+VerbFits (verb.AtClient n c client_verb.Hang) = IsNode n × IsConnection c
 VerbFits (verb.Link l m n v) = IsConnection l × IsNode m × IsNode n × IsVb v
-VerbFits (verb.Up l bytes) = IsConnection l × (bytes ≤ 1000000000)
-VerbFits (verb.Down l bytes) = IsConnection l × (bytes ≤ 1000000000)
-VerbFits (verb.Pump l frames) = IsConnection l × (1 ≤ frames) × (frames ≤ 1000000)
-VerbFits (verb.Cut l) = IsConnection l
-VerbFits (verb.Promote n v uuid) = IsNode n × IsVb v × (uuid < 2 ^ 64)
-VerbFits (verb.Follow n v) = IsNode n × IsVb v
-VerbFits (verb.Dead n v) = IsNode n × IsVb v
-VerbFits (verb.Tick n v) = IsNode n × IsVb v
-VerbFits (verb.Seal n v) = IsNode n × IsVb v
-VerbFits (verb.Take n v) = IsNode n × IsVb v
-VerbFits (verb.Save n v) = IsNode n × IsVb v
-VerbFits (verb.Done n v) = IsNode n × IsVb v
-VerbFits (verb.Stat n v) = IsNode n × IsVb v
-VerbFits (verb.Log n v) = IsNode n × IsVb v
-VerbFits (verb.Show n v) = IsNode n × IsVb v
-VerbFits (verb.Stop n k out) = IsNode n × IsCall k × IsOutcome out
-VerbFits (verb.Fail n k) = IsNode n × IsCall k
-VerbFits (verb.Crash n out) = IsNode n × IsOutcome out
-VerbFits (verb.Start n uuids) = IsNode n × (length uuids ≤ 64) × All (λ uuid. uuid < 2 ^ 64) uuids
+VerbFits (verb.AtLink l (link_verb.Up bytes)) = IsConnection l × (bytes ≤ 1000000000)
+VerbFits (verb.AtLink l (link_verb.Down bytes)) = IsConnection l × (bytes ≤ 1000000000)
+VerbFits (verb.AtLink l (link_verb.Pump frames)) = IsConnection l × (1 ≤ frames) × (frames ≤ 1000000)
+VerbFits (verb.AtLink l link_verb.Cut) = IsConnection l
+VerbFits (verb.AtNode n (node_verb.Stop k out)) = IsNode n × IsCall k × IsOutcome out
+VerbFits (verb.AtNode n (node_verb.Fail k)) = IsNode n × IsCall k
+VerbFits (verb.AtNode n (node_verb.Crash out)) = IsNode n × IsOutcome out
+VerbFits (verb.AtNode n (node_verb.Start uuids)) = IsNode n × (length uuids ≤ 64) × All (λ uuid. uuid < 2 ^ 64) uuids
 
 -- each line of a script says what its grammar can say
 abbrev pub ScriptFits : List ScriptLine → Type 0

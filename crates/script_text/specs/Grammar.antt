@@ -9,6 +9,11 @@ use Rattle.vb_disk.specs.declared.made.Outcome.{Outcome}
 use Rattle.vb_disk.specs.declared.made.Outcome.TheVariants as outcome
 use Rattle.script_text.specs.declared.verb.Verb.{Verb}
 use Rattle.script_text.specs.declared.verb.Verb.TheVariants as verb
+use Rattle.script_text.specs.declared.verb.VbVerb.{VbVerb}
+use Rattle.script_text.specs.declared.verb.VbVerb.TheVariants as vb_verb
+use Rattle.script_text.specs.declared.verb.NodeVerb.TheVariants as node_verb
+use Rattle.script_text.specs.declared.verb.LinkVerb.TheVariants as link_verb
+use Rattle.script_text.specs.declared.verb.ClientVerb.TheVariants as client_verb
 
 -- the bytes, if digits were decoded
 abbrev pub if_decoded : {E : Type 0} → Result (List ℕ) E → Option (List ℕ)
@@ -25,7 +30,7 @@ node_line node = option_map verb.Node (node_of node)
 
 -- `cut L`
 abbrev pub cut_line : List ℕ → Option Verb
-cut_line link = option_map verb.Cut (connection_of link)
+cut_line link = option_map (λ l. verb.AtLink l link_verb.Cut) (connection_of link)
 
 -- a line of two words, by its first
 abbrev pub two_words : List ℕ → List ℕ → Option Verb
@@ -36,46 +41,46 @@ two_words word a =
 
 -- `clock N T`
 abbrev pub clock_line : List ℕ → List ℕ → Option Verb
-clock_line node nanos = option_and_then (λ n. option_map (verb.Clock n) (number_of nanos)) (node_of node)
+clock_line node nanos = option_and_then (λ n. option_map (λ x. verb.AtNode n (node_verb.Clock x)) (number_of nanos)) (node_of node)
 
 -- `client N C`
 abbrev pub client_line : List ℕ → List ℕ → Option Verb
-client_line node client = option_and_then (λ n. option_map (verb.Client n) (connection_of client)) (node_of node)
+client_line node client = option_and_then (λ n. option_map (λ x. verb.AtClient n x client_verb.Open) (connection_of client)) (node_of node)
 
 -- `hang N C`
 abbrev pub hang_line : List ℕ → List ℕ → Option Verb
-hang_line node client = option_and_then (λ n. option_map (verb.Hang n) (connection_of client)) (node_of node)
+hang_line node client = option_and_then (λ n. option_map (λ x. verb.AtClient n x client_verb.Hang) (connection_of client)) (node_of node)
 
 -- `up L B`
 abbrev pub up_line : List ℕ → List ℕ → Option Verb
-up_line link bytes = option_and_then (λ l. option_map (verb.Up l) (moved_of bytes)) (connection_of link)
+up_line link bytes = option_and_then (λ l. option_map (λ x. verb.AtLink l (link_verb.Up x)) (moved_of bytes)) (connection_of link)
 
 -- `down L B`
 abbrev pub down_line : List ℕ → List ℕ → Option Verb
-down_line link bytes = option_and_then (λ l. option_map (verb.Down l) (moved_of bytes)) (connection_of link)
+down_line link bytes = option_and_then (λ l. option_map (λ x. verb.AtLink l (link_verb.Down x)) (moved_of bytes)) (connection_of link)
 
 -- `pump L K`
 abbrev pub pump_line : List ℕ → List ℕ → Option Verb
-pump_line link frames = option_and_then (λ l. option_map (verb.Pump l) (frames_of frames)) (connection_of link)
+pump_line link frames = option_and_then (λ l. option_map (λ x. verb.AtLink l (link_verb.Pump x)) (frames_of frames)) (connection_of link)
 
--- a line that names a vBucket of a node, and nothing else
-abbrev pub place_line : (ℕ → ℕ → Verb) → List ℕ → List ℕ → Option Verb
-place_line make node vb = option_and_then (λ n. option_map (make n) (vbucket_of vb)) (node_of node)
-
--- a line of three words that names a vBucket, by its first
-abbrev pub vbucket_words : List ℕ → List ℕ → List ℕ → Option Verb
-vbucket_words word node vb =
-    if bytes_eq word (codes "show") then place_line verb.Show node vb
-    else if bytes_eq word (codes "follow") then place_line verb.Follow node vb
-    else if bytes_eq word (codes "dead") then place_line verb.Dead node vb
-    else if bytes_eq word (codes "tick") then place_line verb.Tick node vb
-    else if bytes_eq word (codes "seal") then place_line verb.Seal node vb
-    else if bytes_eq word (codes "take") then place_line verb.Take node vb
-    else if bytes_eq word (codes "save") then place_line verb.Save node vb
-    else if bytes_eq word (codes "done") then place_line verb.Done node vb
-    else if bytes_eq word (codes "stat") then place_line verb.Stat node vb
-    else if bytes_eq word (codes "log") then place_line verb.Log node vb
+-- what a line of three words asks of a vBucket, by the first
+abbrev pub asked_of_vb : List ℕ → Option VbVerb
+asked_of_vb word =
+    if bytes_eq word (codes "show") then Some vb_verb.Show
+    else if bytes_eq word (codes "follow") then Some vb_verb.Follow
+    else if bytes_eq word (codes "dead") then Some vb_verb.Dead
+    else if bytes_eq word (codes "tick") then Some vb_verb.Tick
+    else if bytes_eq word (codes "seal") then Some vb_verb.Seal
+    else if bytes_eq word (codes "take") then Some vb_verb.Take
+    else if bytes_eq word (codes "save") then Some vb_verb.Save
+    else if bytes_eq word (codes "done") then Some vb_verb.Done
+    else if bytes_eq word (codes "stat") then Some vb_verb.Stat
+    else if bytes_eq word (codes "log") then Some vb_verb.Log
     else None
+
+-- a line of three words that names a vBucket of a node, by what is asked of it
+abbrev pub vbucket_words : List ℕ → List ℕ → List ℕ → Option Verb
+vbucket_words word node vb = option_and_then (λ n. option_and_then (λ v. option_map (verb.AtVb n v) (asked_of_vb word)) (vbucket_of vb)) (node_of node)
 
 -- what a crash leaves, in one word
 abbrev pub kept_of : List ℕ → Option Outcome
@@ -87,19 +92,19 @@ filled_of word byte = if bytes_eq word (codes "fill") then option_map outcome.Fi
 
 -- `stop N K OUT`, by what OUT says
 abbrev pub stop_line : List ℕ → List ℕ → Option Outcome → Option Verb
-stop_line node call out = option_and_then (λ n. option_and_then (λ k. option_map (verb.Stop n k) out) (moved_of call)) (node_of node)
+stop_line node call out = option_and_then (λ n. option_and_then (λ k. option_map (λ x. verb.AtNode n (node_verb.Stop k x)) out) (moved_of call)) (node_of node)
 
 -- `fail N K`
 abbrev pub fail_line : List ℕ → List ℕ → Option Verb
-fail_line node call = option_and_then (λ n. option_map (verb.Fail n) (moved_of call)) (node_of node)
+fail_line node call = option_and_then (λ n. option_map (λ x. verb.AtNode n (node_verb.Fail x)) (moved_of call)) (node_of node)
 
 -- `crash N OUT`, by what OUT says
 abbrev pub crash_line : List ℕ → Option Outcome → Option Verb
-crash_line node out = option_and_then (λ n. option_map (verb.Crash n) out) (node_of node)
+crash_line node out = option_and_then (λ n. option_map (λ x. verb.AtNode n (node_verb.Crash x)) out) (node_of node)
 
 -- `start N`, and the branches by what their words say
 abbrev pub start_line : List ℕ → Option (List ℕ) → Option Verb
-start_line node uuids = option_and_then (λ n. option_map (verb.Start n) uuids) (node_of node)
+start_line node uuids = option_and_then (λ n. option_map (λ x. verb.AtNode n (node_verb.Start x)) uuids) (node_of node)
 
 -- the branches that a line names, if they are not too many
 abbrev pub branches_of : List (List ℕ) → Option (List ℕ)
@@ -120,7 +125,7 @@ others_of words = if nat_le (length words) OTHERS then members_of words else Non
 
 -- `chain N V`, and the members by what their words say
 abbrev pub chain_line : List ℕ → List ℕ → Option (List (Option ℕ)) → Option Verb
-chain_line node vb others = option_and_then (λ n. option_and_then (λ v. option_map (verb.Chain n v) others) (vbucket_of vb)) (node_of node)
+chain_line node vb others = option_and_then (λ n. option_and_then (λ v. option_map (λ x. verb.AtVb n v (vb_verb.Chain x)) others) (vbucket_of vb)) (node_of node)
 
 -- a line that sets a chain, by what stands behind its node
 abbrev pub chain_words : List ℕ → List (List ℕ) → Option Verb
@@ -142,17 +147,21 @@ three_words word a b =
 
 -- `bytes N C HEX`, by what HEX says
 abbrev pub bytes_line : List ℕ → List ℕ → Option (List ℕ) → Option Verb
-bytes_line node client bytes = option_and_then (λ n. option_and_then (λ c. option_map (verb.Bytes n c) bytes) (connection_of client)) (node_of node)
+bytes_line node client bytes = option_and_then (λ n. option_and_then (λ c. option_map (λ x. verb.AtClient n c (client_verb.Bytes x)) bytes) (connection_of client)) (node_of node)
 
 -- `promote N V U`
 abbrev pub promote_line : List ℕ → List ℕ → List ℕ → Option Verb
 promote_line node vb uuid =
-    option_and_then (λ n. option_and_then (λ v. option_map (verb.Promote n v) (number_of uuid)) (vbucket_of vb)) (node_of node)
+    option_and_then (λ n. option_and_then (λ v. option_map (λ x. verb.AtVb n v (vb_verb.Promote x)) (number_of uuid)) (vbucket_of vb)) (node_of node)
+
+-- `vb N V replica`, by N and V
+abbrev pub replica_line : List ℕ → List ℕ → Option Verb
+replica_line node vb = option_and_then (λ n. option_map (λ v. verb.AtVb n v vb_verb.MakeReplica) (vbucket_of vb)) (node_of node)
 
 -- `vb N V replica`, or `promote N V U`
 abbrev pub vbucket_of_four : List ℕ → List ℕ → List ℕ → List ℕ → Option Verb
 vbucket_of_four word node vb c =
-    if bytes_eq word (codes "vb") && bytes_eq c (codes "replica") then place_line verb.VbReplica node vb
+    if bytes_eq word (codes "vb") && bytes_eq c (codes "replica") then replica_line node vb
     else if bytes_eq word (codes "promote") then promote_line node vb c
     else None
 
@@ -173,7 +182,7 @@ vb_line word node vb role uuid =
     if bytes_eq word (codes "vb")
     then
     (if bytes_eq role (codes "active")
-    then option_and_then (λ n. option_and_then (λ v. option_map (verb.VbActive n v) (number_of uuid)) (vbucket_of vb)) (node_of node)
+    then option_and_then (λ n. option_and_then (λ v. option_map (λ x. verb.AtVb n v (vb_verb.MakeActive x)) (number_of uuid)) (vbucket_of vb)) (node_of node)
     else None)
     else None
 

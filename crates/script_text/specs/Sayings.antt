@@ -1,11 +1,16 @@
 -- how each verb is spelled
 use Rattle.std.specs.Prelude.{◌≡◌, ℕ, ◌+◌, ◌%◌, ◌^◌, ◌<◌, ◌≤◌, ◌⊎◌, List, [], ◌∷◌, ◌++◌, length, map, Option, Some, None, Ok, codes, decimal}
-use Rattle.std.specs.List.{All, AllPass, join_with_byte}
+use Rattle.std.specs.List.{All, AllPass, flat_map, join_with_byte}
 use Rattle.hex.specs.Hex.{decode_of, is_hex_digit}
 use Rattle.vb_disk.specs.declared.made.Outcome.{Outcome}
 use Rattle.vb_disk.specs.declared.made.Outcome.TheVariants as outcome
 use Rattle.script_text.specs.declared.verb.Verb.{Verb}
 use Rattle.script_text.specs.declared.verb.Verb.TheVariants as verb
+use Rattle.script_text.specs.declared.verb.VbVerb.{VbVerb}
+use Rattle.script_text.specs.declared.verb.VbVerb.TheVariants as vb_verb
+use Rattle.script_text.specs.declared.verb.NodeVerb.TheVariants as node_verb
+use Rattle.script_text.specs.declared.verb.LinkVerb.TheVariants as link_verb
+use Rattle.script_text.specs.declared.verb.ClientVerb.TheVariants as client_verb
 
 -- one text and then another
 infixr 5 ◌⧺◌
@@ -37,6 +42,38 @@ abbrev pub member_text : Option ℕ → List ℕ
 member_text None = codes "-"
 member_text (Some m) = decimal m
 
+-- the word that a line begins with which asks this of a vBucket of a node
+abbrev pub vb_word : VbVerb → List ℕ
+vb_word (vb_verb.MakeActive uuid) = codes "vb"
+vb_word vb_verb.MakeReplica = codes "vb"
+vb_word (vb_verb.Chain others) = codes "chain"
+vb_word (vb_verb.Promote uuid) = codes "promote"
+vb_word vb_verb.Follow = codes "follow"
+vb_word vb_verb.Dead = codes "dead"
+vb_word vb_verb.Tick = codes "tick"
+vb_word vb_verb.Seal = codes "seal"
+vb_word vb_verb.Take = codes "take"
+vb_word vb_verb.Save = codes "save"
+vb_word vb_verb.Done = codes "done"
+vb_word vb_verb.Stat = codes "stat"
+vb_word vb_verb.Log = codes "log"
+vb_word vb_verb.Show = codes "show"
+
+-- the words behind the numbers of the node and the vBucket, each with a space in front
+abbrev pub vb_tail : VbVerb → List ℕ
+vb_tail (vb_verb.MakeActive uuid) = codes " active " ⧺ decimal uuid
+vb_tail vb_verb.MakeReplica = codes " replica"
+vb_tail (vb_verb.Chain others) = flat_map (λ m. codes " " ⧺ member_text m) others
+vb_tail (vb_verb.Promote uuid) = codes " " ⧺ decimal uuid
+vb_tail other = []
+
+-- what else a line asks of a vBucket has such numbers
+abbrev pub VbFits : VbVerb → Type 0
+VbFits (vb_verb.MakeActive uuid) = uuid < 2 ^ 64
+VbFits (vb_verb.Chain others) = (length others ≤ 3) × All IsMember others
+VbFits (vb_verb.Promote uuid) = uuid < 2 ^ 64
+VbFits other = Unit {0}
+
 -- The line is the verb's spelling. Nodes have numbers 0 to 15, vBuckets 0 to 1023, and client
 -- connections and links 0 to 999. A line moves at most 1,000,000,000 bytes, counts as many device
 -- calls, and asks for 1 to 1,000,000 stream frames. A node starts with at most 64 branches. A
@@ -44,48 +81,30 @@ member_text (Some m) = decimal m
 -- constant in the reader is refused here.
 abbrev pub Says : List ℕ → Verb → Type 0
 Says line (verb.Node n) = (n < 16) × (line ≡ codes "node " ⧺ decimal n)
-Says line (verb.VbActive n v uuid) =
-    (n < 16) × (v < 1024) × (uuid < 2 ^ 64)
-    × (line ≡ codes "vb " ⧺ decimal n ⧺ codes " " ⧺ decimal v ⧺ codes " active " ⧺ decimal uuid)
-Says line (verb.VbReplica n v) = (n < 16) × (v < 1024) × (line ≡ codes "vb " ⧺ decimal n ⧺ codes " " ⧺ decimal v ⧺ codes " replica")
-Says line (verb.Chain n v others) =
-    (n < 16) × (v < 1024) × (length others ≤ 3) × All IsMember others
-    × (line ≡ codes "chain " ⧺ join_with_byte 32 (decimal n ∷ decimal v ∷ map member_text others))
-Says line (verb.Clock n nanos) = (n < 16) × (nanos < 2 ^ 64) × (line ≡ codes "clock " ⧺ decimal n ⧺ codes " " ⧺ decimal nanos)
-Says line (verb.Client n c) = (n < 16) × (c < 1000) × (line ≡ codes "client " ⧺ decimal n ⧺ codes " " ⧺ decimal c)
-Says line (verb.Bytes n c bytes) =
+Says line (verb.AtVb n v what) =
+    (n < 16) × (v < 1024) × VbFits what × (line ≡ vb_word what ⧺ codes " " ⧺ decimal n ⧺ codes " " ⧺ decimal v ⧺ vb_tail what)
+Says line (verb.AtNode n (node_verb.Clock nanos)) = (n < 16) × (nanos < 2 ^ 64) × (line ≡ codes "clock " ⧺ decimal n ⧺ codes " " ⧺ decimal nanos)
+Says line (verb.AtClient n c client_verb.Open) = (n < 16) × (c < 1000) × (line ≡ codes "client " ⧺ decimal n ⧺ codes " " ⧺ decimal c)
+Says line (verb.AtClient n c (client_verb.Bytes bytes)) =
     (text : List ℕ)
     × (IsHexOf text bytes × (n < 16) × (c < 1000)
     × (line ≡ codes "bytes " ⧺ decimal n ⧺ codes " " ⧺ decimal c ⧺ codes " " ⧺ text))
-Says line (verb.Hang n c) = (n < 16) × (c < 1000) × (line ≡ codes "hang " ⧺ decimal n ⧺ codes " " ⧺ decimal c)
+Says line (verb.AtClient n c client_verb.Hang) = (n < 16) × (c < 1000) × (line ≡ codes "hang " ⧺ decimal n ⧺ codes " " ⧺ decimal c)
 Says line (verb.Link l m n v) =
     (l < 1000) × (m < 16) × (n < 16) × (v < 1024)
     × (line ≡ codes "link " ⧺ decimal l ⧺ codes " " ⧺ decimal m ⧺ codes " " ⧺ decimal n ⧺ codes " " ⧺ decimal v ⧺ codes " 0 follow")
-Says line (verb.Up l b) = (l < 1000) × (b ≤ 1000000000) × (line ≡ codes "up " ⧺ decimal l ⧺ codes " " ⧺ decimal b)
-Says line (verb.Down l b) = (l < 1000) × (b ≤ 1000000000) × (line ≡ codes "down " ⧺ decimal l ⧺ codes " " ⧺ decimal b)
-Says line (verb.Pump l k) = (l < 1000) × (1 ≤ k) × (k ≤ 1000000) × (line ≡ codes "pump " ⧺ decimal l ⧺ codes " " ⧺ decimal k)
-Says line (verb.Cut l) = (l < 1000) × (line ≡ codes "cut " ⧺ decimal l)
-Says line (verb.Promote n v uuid) =
-    (n < 16) × (v < 1024) × (uuid < 2 ^ 64)
-    × (line ≡ codes "promote " ⧺ decimal n ⧺ codes " " ⧺ decimal v ⧺ codes " " ⧺ decimal uuid)
-Says line (verb.Follow n v) = (n < 16) × (v < 1024) × (line ≡ codes "follow " ⧺ decimal n ⧺ codes " " ⧺ decimal v)
-Says line (verb.Dead n v) = (n < 16) × (v < 1024) × (line ≡ codes "dead " ⧺ decimal n ⧺ codes " " ⧺ decimal v)
-Says line (verb.Tick n v) = (n < 16) × (v < 1024) × (line ≡ codes "tick " ⧺ decimal n ⧺ codes " " ⧺ decimal v)
-Says line (verb.Seal n v) = (n < 16) × (v < 1024) × (line ≡ codes "seal " ⧺ decimal n ⧺ codes " " ⧺ decimal v)
-Says line (verb.Take n v) = (n < 16) × (v < 1024) × (line ≡ codes "take " ⧺ decimal n ⧺ codes " " ⧺ decimal v)
-Says line (verb.Save n v) = (n < 16) × (v < 1024) × (line ≡ codes "save " ⧺ decimal n ⧺ codes " " ⧺ decimal v)
-Says line (verb.Done n v) = (n < 16) × (v < 1024) × (line ≡ codes "done " ⧺ decimal n ⧺ codes " " ⧺ decimal v)
-Says line (verb.Stat n v) = (n < 16) × (v < 1024) × (line ≡ codes "stat " ⧺ decimal n ⧺ codes " " ⧺ decimal v)
-Says line (verb.Log n v) = (n < 16) × (v < 1024) × (line ≡ codes "log " ⧺ decimal n ⧺ codes " " ⧺ decimal v)
-Says line (verb.Show n v) = (n < 16) × (v < 1024) × (line ≡ codes "show " ⧺ decimal n ⧺ codes " " ⧺ decimal v)
-Says line (verb.Stop n k out) =
+Says line (verb.AtLink l (link_verb.Up b)) = (l < 1000) × (b ≤ 1000000000) × (line ≡ codes "up " ⧺ decimal l ⧺ codes " " ⧺ decimal b)
+Says line (verb.AtLink l (link_verb.Down b)) = (l < 1000) × (b ≤ 1000000000) × (line ≡ codes "down " ⧺ decimal l ⧺ codes " " ⧺ decimal b)
+Says line (verb.AtLink l (link_verb.Pump k)) = (l < 1000) × (1 ≤ k) × (k ≤ 1000000) × (line ≡ codes "pump " ⧺ decimal l ⧺ codes " " ⧺ decimal k)
+Says line (verb.AtLink l link_verb.Cut) = (l < 1000) × (line ≡ codes "cut " ⧺ decimal l)
+Says line (verb.AtNode n (node_verb.Stop k out)) =
     (text : List ℕ)
     × (SaysOutcome text out × (n < 16) × (k ≤ 1000000000)
     × (line ≡ codes "stop " ⧺ decimal n ⧺ codes " " ⧺ decimal k ⧺ codes " " ⧺ text))
-Says line (verb.Fail n k) = (n < 16) × (k ≤ 1000000000) × (line ≡ codes "fail " ⧺ decimal n ⧺ codes " " ⧺ decimal k)
-Says line (verb.Crash n out) =
+Says line (verb.AtNode n (node_verb.Fail k)) = (n < 16) × (k ≤ 1000000000) × (line ≡ codes "fail " ⧺ decimal n ⧺ codes " " ⧺ decimal k)
+Says line (verb.AtNode n (node_verb.Crash out)) =
     (text : List ℕ) × (SaysOutcome text out × (n < 16) × (line ≡ codes "crash " ⧺ decimal n ⧺ codes " " ⧺ text))
-Says line (verb.Start n uuids) =
+Says line (verb.AtNode n (node_verb.Start uuids)) =
     (n < 16) × (length uuids ≤ 64) × All (λ uuid. uuid < 2 ^ 64) uuids
     × (line ≡ codes "start " ⧺ join_with_byte 32 (map decimal (n ∷ uuids)))
 

@@ -20,6 +20,8 @@ use Rattle.vb_types.specs.declared.role.Role.TheVariants as role
 use Rattle.vb_disk.specs.declared.made.Outcome.TheVariants as outcome
 use Rattle.script_text.specs.declared.verb.Verb.{Verb}
 use Rattle.script_text.specs.declared.verb.Verb.TheVariants as verb
+use Rattle.script_text.specs.declared.verb.VbVerb.TheVariants as vb_verb
+use Rattle.script_text.specs.declared.verb.NodeVerb.TheVariants as node_verb
 use Rattle.script_text.specs.Grammar.{verb_of}
 use Rattle.script_text.specs.Lines.{words_of}
 use Rattle.script_text.specs.Transcript.{act_text, answer_text, cause_text, doc_text, event_text, flag_text, hex_text, level_text, reason_text, role_text, sent_text, spaced, why_text}
@@ -71,11 +73,11 @@ pub record AcknowledgementsAreTold : Type 0 where
 
 -- lines of chains and deadlines, at their limits: which members a chain may have is no matter of the grammar
 pub record ChainsAreRead : Type 0 where
-  pub alone : said_by (codes "chain 15 1023") ≡ Some (verb.Chain 15 1023 [])
-  pub one_other : said_by (codes "chain 0 0 15") ≡ Some (verb.Chain 0 0 (Some 15 ∷ []))
-  pub not_set : said_by (codes "chain 1 2 -") ≡ Some (verb.Chain 1 2 (None ∷ []))
-  pub most : said_by (codes "chain 1 2 1 - 1") ≡ Some (verb.Chain 1 2 (Some 1 ∷ None ∷ Some 1 ∷ []))
-  pub tick : said_by (codes "tick 15 1023") ≡ Some (verb.Tick 15 1023)
+  pub alone : said_by (codes "chain 15 1023") ≡ Some (verb.AtVb 15 1023 (vb_verb.Chain []))
+  pub one_other : said_by (codes "chain 0 0 15") ≡ Some (verb.AtVb 0 0 (vb_verb.Chain (Some 15 ∷ [])))
+  pub not_set : said_by (codes "chain 1 2 -") ≡ Some (verb.AtVb 1 2 (vb_verb.Chain (None ∷ [])))
+  pub most : said_by (codes "chain 1 2 1 - 1") ≡ Some (verb.AtVb 1 2 (vb_verb.Chain (Some 1 ∷ None ∷ Some 1 ∷ [])))
+  pub tick : said_by (codes "tick 15 1023") ≡ Some (verb.AtVb 15 1023 vb_verb.Tick)
 
 -- lines beside them that say nothing
 pub record ChainsAreRefused : Type 0 where
@@ -126,15 +128,15 @@ pub record StopsAreTold : Type 0 where
 
 -- lines of nodes that stop and start, at their limits
 pub record StopsAreRead : Type 0 where
-  pub stop_old : said_by (codes "stop 15 1000000000 old") ≡ Some (verb.Stop 15 1000000000 outcome.Old)
-  pub stop_new : said_by (codes "stop 0 0 new") ≡ Some (verb.Stop 0 0 outcome.New)
-  pub stop_fill : said_by (codes "stop 3 7 fill 255") ≡ Some (verb.Stop 3 7 (outcome.Fill 255))
-  pub fail : said_by (codes "fail 3 1000000000") ≡ Some (verb.Fail 3 1000000000)
-  pub crash_old : said_by (codes "crash 15 old") ≡ Some (verb.Crash 15 outcome.Old)
-  pub crash_new : said_by (codes "crash 0 new") ≡ Some (verb.Crash 0 outcome.New)
-  pub crash_fill : said_by (codes "crash 1 fill 0") ≡ Some (verb.Crash 1 (outcome.Fill 0))
-  pub start : said_by (codes "start 15") ≡ Some (verb.Start 15 [])
-  pub start_again : said_by (codes "start 2 18446744073709551615 0") ≡ Some (verb.Start 2 (18446744073709551615 ∷ 0 ∷ []))
+  pub stop_old : said_by (codes "stop 15 1000000000 old") ≡ Some (verb.AtNode 15 (node_verb.Stop 1000000000 outcome.Old))
+  pub stop_new : said_by (codes "stop 0 0 new") ≡ Some (verb.AtNode 0 (node_verb.Stop 0 outcome.New))
+  pub stop_fill : said_by (codes "stop 3 7 fill 255") ≡ Some (verb.AtNode 3 (node_verb.Stop 7 (outcome.Fill 255)))
+  pub fail : said_by (codes "fail 3 1000000000") ≡ Some (verb.AtNode 3 (node_verb.Fail 1000000000))
+  pub crash_old : said_by (codes "crash 15 old") ≡ Some (verb.AtNode 15 (node_verb.Crash outcome.Old))
+  pub crash_new : said_by (codes "crash 0 new") ≡ Some (verb.AtNode 0 (node_verb.Crash outcome.New))
+  pub crash_fill : said_by (codes "crash 1 fill 0") ≡ Some (verb.AtNode 1 (node_verb.Crash (outcome.Fill 0)))
+  pub start : said_by (codes "start 15") ≡ Some (verb.AtNode 15 (node_verb.Start []))
+  pub start_again : said_by (codes "start 2 18446744073709551615 0") ≡ Some (verb.AtNode 2 (node_verb.Start (18446744073709551615 ∷ 0 ∷ [])))
 
 -- lines beside them that say nothing
 pub record StopsAreRefused : Type 0 where

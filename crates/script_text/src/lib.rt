@@ -18,4 +18,4 @@ pub use laws::{
 };
 pub use script::{BadLine, parse};
 pub use transcript::print;
-pub use verb::{Script, ScriptLine, Verb};
+pub use verb::{ClientVerb, LinkVerb, NodeVerb, Script, ScriptLine, VbVerb, Verb};

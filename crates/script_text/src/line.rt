@@ -1,11 +1,11 @@
 //! Reads a script line.
 ghost use Rattle.std.specs.Prelude.{◌≡◌, ◌==◌, map, take, IfOk};
-ghost use Rattle.script_text.specs.Grammar.{hex_bytes_of, two_words, three_words, clock_line, client_line, hang_line, up_line, down_line, pump_line, fail_line, crash_line, stop_line, vbucket_words, kept_of, filled_of, start_line, branches_of, member_of, members_of, others_of, chain_line, chain_words, bytes_line, four_words, plain_of_four, vbucket_of_four, five_words, vb_line, is_link, linked, counted_verb, verb_of};
+ghost use Rattle.script_text.specs.Grammar.{hex_bytes_of, two_words, three_words, clock_line, client_line, hang_line, up_line, down_line, pump_line, fail_line, crash_line, stop_line, asked_of_vb, vbucket_words, kept_of, filled_of, start_line, branches_of, member_of, members_of, others_of, chain_line, chain_words, bytes_line, four_words, plain_of_four, vbucket_of_four, five_words, vb_line, is_link, linked, counted_verb, verb_of};
 ghost use Rattle.{std.specs.Str.{bytes_eq}, script_text.specs.Lines.{words_of}};
 ghost use Rattle.script_text.specs.Numbers.{numbers_of};
 
 use crate::numbers::{byte, connection, frames, moved, node, number, vbucket};
-use crate::verb::Verb;
+use crate::verb::{ClientVerb, LinkVerb, NodeVerb, VbVerb, Verb};
 use bytes::Bytes;
 use std::alloc::{AllocError, Global};
 use vb_disk::Outcome;
@@ -57,7 +57,10 @@ fn verb_of_two(word: &[u8], a: &[u8]) -> Option<Verb>
         Some(Verb::Node { node: node(a)? })
     } else if says(word, b"cut") {
         let link = connection(a)?;
-        Some(Verb::Cut { link })
+        Some(Verb::AtLink {
+            link,
+            what: LinkVerb::Cut,
+        })
     } else {
         None
     }
@@ -67,63 +70,72 @@ fn clock_verb(n: &[u8], t: &[u8]) -> Option<Verb>
     ensures { result ≡ clock_line n.now t.now }
 {
     let (node, nanos) = (node(n)?, number(t)?);
-    Some(Verb::Clock { node, nanos })
+    let what = NodeVerb::Clock { nanos };
+    Some(Verb::AtNode { node, what })
 }
 
 fn client_verb(n: &[u8], c: &[u8]) -> Option<Verb>
     ensures { result ≡ client_line n.now c.now }
 {
     let (node, client) = (node(n)?, connection(c)?);
-    Some(Verb::Client { node, client })
+    let what = ClientVerb::Open;
+    Some(Verb::AtClient { node, client, what })
 }
 
 fn hang_verb(n: &[u8], c: &[u8]) -> Option<Verb>
     ensures { result ≡ hang_line n.now c.now }
 {
     let (node, client) = (node(n)?, connection(c)?);
-    Some(Verb::Hang { node, client })
+    let what = ClientVerb::Hang;
+    Some(Verb::AtClient { node, client, what })
 }
 
 fn up_verb(l: &[u8], b: &[u8]) -> Option<Verb>
     ensures { result ≡ up_line l.now b.now }
 {
     let (link, bytes) = (connection(l)?, moved(b)?);
-    Some(Verb::Up { link, bytes })
+    let what = LinkVerb::Up { bytes };
+    Some(Verb::AtLink { link, what })
 }
 
 fn down_verb(l: &[u8], b: &[u8]) -> Option<Verb>
     ensures { result ≡ down_line l.now b.now }
 {
     let (link, bytes) = (connection(l)?, moved(b)?);
-    Some(Verb::Down { link, bytes })
+    let what = LinkVerb::Down { bytes };
+    Some(Verb::AtLink { link, what })
 }
 
 fn pump_verb(l: &[u8], k: &[u8]) -> Option<Verb>
     ensures { result ≡ pump_line l.now k.now }
 {
     let (link, frames) = (connection(l)?, frames(k)?);
-    Some(Verb::Pump { link, frames })
+    let what = LinkVerb::Pump { frames };
+    Some(Verb::AtLink { link, what })
 }
 
 fn fail_verb(n: &[u8], k: &[u8]) -> Option<Verb>
     ensures { result ≡ fail_line n.now k.now }
 {
     let (node, call) = (node(n)?, moved(k)?);
-    Some(Verb::Fail { node, call })
+    let what = NodeVerb::Fail { call };
+    Some(Verb::AtNode { node, what })
 }
 
 fn crash_verb(n: &[u8], out: Option<Outcome>) -> Option<Verb>
     ensures { result ≡ crash_line n.now out }
 {
     let (node, out) = (node(n)?, out?);
-    Some(Verb::Crash { node, out })
+    let what = NodeVerb::Crash { out };
+    Some(Verb::AtNode { node, what })
 }
 
 fn stop_verb(n: &[u8], k: &[u8], out: Option<Outcome>) -> Option<Verb>
     ensures { result ≡ stop_line n.now k.now out }
 {
     let (node, call, out) = (node(n)?, moved(k)?, out?);
-    Some(Verb::Stop { node, call, out })
+    let what = NodeVerb::Stop { call, out };
+    Some(Verb::AtNode { node, what })
 }
 
 /// What a line of three words says.
@@ -151,34 +163,42 @@ fn verb_of_three(word: &[u8], a: &[u8], b: &[u8]) -> Option<Verb>
     }
 }
 
+/// What a line of three words asks of a vBucket, by the first.
+fn asked_of_vb(word: &[u8]) -> Option<VbVerb>
+    ensures { result ≡ asked_of_vb word.now }
+{
+    if says(word, b"show") {
+        Some(VbVerb::Show)
+    } else if says(word, b"follow") {
+        Some(VbVerb::Follow)
+    } else if says(word, b"dead") {
+        Some(VbVerb::Dead)
+    } else if says(word, b"tick") {
+        Some(VbVerb::Tick)
+    } else if says(word, b"seal") {
+        Some(VbVerb::Seal)
+    } else if says(word, b"take") {
+        Some(VbVerb::Take)
+    } else if says(word, b"save") {
+        Some(VbVerb::Save)
+    } else if says(word, b"done") {
+        Some(VbVerb::Done)
+    } else if says(word, b"stat") {
+        Some(VbVerb::Stat)
+    } else if says(word, b"log") {
+        Some(VbVerb::Log)
+    } else {
+        None
+    }
+}
+
 /// What a line of three words says that names a vBucket.
 fn vbucket_verb(word: &[u8], n: &[u8], v: &[u8]) -> Option<Verb>
     ensures { result ≡ vbucket_words word.now n.now v.now }
 {
     let (node, vb) = (node(n)?, vbucket(v)?);
-    if says(word, b"show") {
-        Some(Verb::Show { node, vb })
-    } else if says(word, b"follow") {
-        Some(Verb::Follow { node, vb })
-    } else if says(word, b"dead") {
-        Some(Verb::Dead { node, vb })
-    } else if says(word, b"tick") {
-        Some(Verb::Tick { node, vb })
-    } else if says(word, b"seal") {
-        Some(Verb::Seal { node, vb })
-    } else if says(word, b"take") {
-        Some(Verb::Take { node, vb })
-    } else if says(word, b"save") {
-        Some(Verb::Save { node, vb })
-    } else if says(word, b"done") {
-        Some(Verb::Done { node, vb })
-    } else if says(word, b"stat") {
-        Some(Verb::Stat { node, vb })
-    } else if says(word, b"log") {
-        Some(Verb::Log { node, vb })
-    } else {
-        None
-    }
+    let what = asked_of_vb(word)?;
+    Some(Verb::AtVb { node, vb, what })
 }
 
 /// What a crash leaves, in one word.
@@ -208,11 +228,9 @@ fn filled(word: &[u8], h: &[u8]) -> Option<Outcome>
 fn bytes_verb(n: &[u8], c: &[u8], bytes: Option<Bytes>) -> Option<Verb>
     ensures { result ≡ bytes_line n.now c.now bytes }
 {
-    Some(Verb::Bytes {
-        node: node(n)?,
-        client: connection(c)?,
-        bytes: bytes?,
-    })
+    let (node, client) = (node(n)?, connection(c)?);
+    let what = ClientVerb::Bytes { bytes: bytes? };
+    Some(Verb::AtClient { node, client, what })
 }
 
 /// What a line of four words says.
@@ -251,10 +269,12 @@ fn vbucket_verb_of_four(word: &[u8], n: &[u8], v: &[u8], c: &[u8]) -> Option<Ver
 {
     let (node, vb) = (node(n)?, vbucket(v)?);
     if says(word, b"vb") && says(c, b"replica") {
-        Some(Verb::VbReplica { node, vb })
+        let what = VbVerb::MakeReplica;
+        Some(Verb::AtVb { node, vb, what })
     } else if says(word, b"promote") {
         let uuid = number(c)?;
-        Some(Verb::Promote { node, vb, uuid })
+        let what = VbVerb::Promote { uuid };
+        Some(Verb::AtVb { node, vb, what })
     } else {
         None
     }
@@ -279,7 +299,8 @@ fn vb_verb(word: &[u8], n: &[u8], v: &[u8], role: &[u8], u: &[u8]) -> Option<Ver
         return None;
     }
     let (node, vb, uuid) = (node(n)?, vbucket(v)?, number(u)?);
-    Some(Verb::VbActive { node, vb, uuid })
+    let what = VbVerb::MakeActive { uuid };
+    Some(Verb::AtVb { node, vb, what })
 }
 
 /// Whether a line makes a link that follows. So far each link goes with no flow-control buffer.
@@ -327,10 +348,9 @@ fn branches(alloc: Global, words: &[&[u8]]) -> Result<Option<Listed<u64>>, Alloc
 fn start_verb(n: &[u8], uuids: Option<Listed<u64>>) -> Option<Verb>
     ensures { result ≡ start_line n.now uuids }
 {
-    Some(Verb::Start {
-        node: node(n)?,
-        uuids: uuids?,
-    })
+    let node = node(n)?;
+    let what = NodeVerb::Start { uuids: uuids? };
+    Some(Verb::AtNode { node, what })
 }
 
 /// A member of a chain, where `-` is one that is not set.
@@ -371,11 +391,9 @@ fn others(alloc: Global, words: &[&[u8]]) -> Result<Option<Listed<Option<u8>>>, 
 fn chain_verb(n: &[u8], v: &[u8], others: Option<Listed<Option<u8>>>) -> Option<Verb>
     ensures { result ≡ chain_line n.now v.now others }
 {
-    Some(Verb::Chain {
-        node: node(n)?,
-        vb: vbucket(v)?,
-        others: others?,
-    })
+    let (node, vb) = (node(n)?, vbucket(v)?);
+    let what = VbVerb::Chain { others: others? };
+    Some(Verb::AtVb { node, vb, what })
 }
 
 /// What a line that sets a chain says behind its node.

@@ -2,28 +2,28 @@
 use Rattle.std.specs.Prelude.{◌≡◌, ◌∷◌, ◌++◌, ◌==◌, if◌then◌else◌}
 use Rattle.{branch_model.specs.Journals.{place_of}, transcript_law.specs.Chronicles.{Dial, DiskTold, Flushing, after_chain, after_done, after_group, ahead}, vb_calls.specs.Shelves.{Flush, Idle, Out, Written, Shelf}, vb_types.specs.declared.journal.Batch.{Batch}, vbucket.specs.Wholes.{BatchesAreWhole}}
 use Rattle.node_world.specs.{Nodes.{shelf_or_blank}, Rests.{Rests, RestsIf}, World.{base_of}, Worlds.{arm_in}}
-use Rattle.transcript_law.proofs.{Agreement.{DiskIsIf, IsArm, PowerIsIf, shelf_of, vb_of}, ArmedSteps.{shut_in}, Disks.{FlushIs, ShelfIs, parts_of, power_in}, Flushed.{told_flush}, LineAnswers.{AllTold, ArmTold, DisksTold, IsArmed, ShutTold}}
-use Rattle.transcript_law.proofs.Words.{ℕ, Bool, true, false, List, [], refl, ap, sym, ◌∙◌, subst, arith, Option, Some, None, ne_eqb, All-nil, All-head, All-tail, ScriptLine, Verb}
+use Rattle.transcript_law.proofs.{invariant.Agreement.{DiskIsIf, IsArm, PowerIsIf, shelf_of, vb_of}, disks.ArmedSteps.{shut_in}, disks.Disks.{FlushIs, ShelfIs, parts_of, power_in}, disks.Flushed.{told_flush}, verbs.LineAnswers.{AllTold, ArmTold, DisksTold, IsArmed, ShutTold}}
+use Rattle.transcript_law.proofs.Words.{ℕ, Bool, true, false, List, [], refl, ap, sym, ◌∙◌, subst, arith, Option, Some, None, ne_eqb, All-nil, All-head, All-tail, ScriptLine, Verb, VbVerb, NodeVerb, LinkVerb, ClientVerb}
 use Rattle.transcript_law.proofs.Words.{VerbFits, ScriptFits, Change, Plain, PlainNode, hist, StartsSound, StaysSound, TakesSnapshots, admin_line, PlainWorld, empty_world, client_at, bytes_at, hang_at}
 use Rattle.transcript_law.proofs.Words.{clock_at, with_branches, verb_step, world_step, groups_from, groups, Chronicle, empty_chronicle, after_verb, LawfulAnswer, LawfulGroups, Lawful, start_sound}
 use Rattle.transcript_law.proofs.Words.{AdminCall, consumer_node, option_map}
 use Rattle.transcript_law.specs.Firings.{FiresInLine}
-use Rattle.transcript_law.proofs.{Seats.{seat}, Settling.{Steady}}
-use Rattle.transcript_law.proofs.Agreement.{ChangeFits, EntryFits, AgreesAt, top, Agrees, GoesOn, LineGoes}
-use Rattle.transcript_law.proofs.{FiredLines.{DialsTold, IsStart, line_fires}, LineAnswers.{line_answered, refused_keep}, LinkRows.{found_is_link}}
-use Rattle.transcript_law.proofs.NodeLines.{node_goes, client_goes, hang_goes, clock_goes, on_node_goes, line_goes_on}
-use Rattle.transcript_law.proofs.{BoundAnswers.{bound_answered}, Branching.{vb_goes, replica_goes}}
-use Rattle.transcript_law.proofs.{ArmLines.{fail_goes, stop_goes}, Crashing.{crash_goes}, Chains.{chain_line_goes, tick_line_goes}, DoneLine.{done_goes}, FlushLines.{stat_goes, take_goes}, Saving.{save_goes}}
-use Rattle.transcript_law.proofs.Requesting.{bytes_goes}
-use Rattle.transcript_law.proofs.Ranged.{NodeRangedIf, IsRanged, start_ranged, line_ranged}
-use Rattle.transcript_law.proofs.Showing.{show_goes}
-use Rattle.transcript_law.proofs.Dials.{link_goes}
-use Rattle.transcript_law.proofs.Ups.{up_goes}
-use Rattle.transcript_law.proofs.DownLine.{down_answered, down_goes}
-use Rattle.transcript_law.proofs.Pumping.{pump_goes}
-use Rattle.transcript_law.proofs.Leaving.{cut_goes}
-use Rattle.transcript_law.proofs.Starting.{start_answered, start_fires, start_goes}
-use Rattle.transcript_law.proofs.RoleLines.{promote_line, follow_line, dead_line, seal_goes, log_goes}
+use Rattle.transcript_law.proofs.{invariant.Seats.{seat}, verbs.Settling.{Steady}}
+use Rattle.transcript_law.proofs.invariant.Agreement.{ChangeFits, EntryFits, AgreesAt, top, Agrees, GoesOn, LineGoes}
+use Rattle.transcript_law.proofs.{verbs.FiredLines.{DialsTold, IsStart, line_fires}, verbs.LineAnswers.{line_answered, refused_keep}, invariant.LinkRows.{found_is_link}}
+use Rattle.transcript_law.proofs.verbs.NodeLines.{node_goes, client_goes, hang_goes, clock_goes, on_node_goes, line_goes_on}
+use Rattle.transcript_law.proofs.{verbs.BoundAnswers.{bound_answered}, verbs.Branching.{vb_goes, replica_goes}}
+use Rattle.transcript_law.proofs.{verbs.ArmLines.{fail_goes, stop_goes}, verbs.Crashing.{crash_goes}, verbs.Chains.{chain_line_goes, tick_line_goes}, verbs.DoneLine.{done_goes}, verbs.FlushLines.{stat_goes, take_goes}, verbs.Saving.{save_goes}}
+use Rattle.transcript_law.proofs.verbs.Requesting.{bytes_goes}
+use Rattle.transcript_law.proofs.invariant.Ranged.{NodeRangedIf, IsRanged, start_ranged, line_ranged}
+use Rattle.transcript_law.proofs.verbs.Showing.{show_goes}
+use Rattle.transcript_law.proofs.verbs.Dials.{link_goes}
+use Rattle.transcript_law.proofs.verbs.Ups.{up_goes}
+use Rattle.transcript_law.proofs.verbs.DownLine.{down_answered, down_goes}
+use Rattle.transcript_law.proofs.verbs.Pumping.{pump_goes}
+use Rattle.transcript_law.proofs.verbs.Leaving.{cut_goes}
+use Rattle.transcript_law.proofs.verbs.Starting.{start_answered, start_fires, start_goes}
+use Rattle.transcript_law.proofs.verbs.RoleLines.{promote_line, follow_line, dead_line, seal_goes, log_goes}
 use Rattle.cluster_model.specs.Clusters as cluster
 
 -- before the first line
@@ -115,34 +115,34 @@ module _ (starts : StartsSound) (stays : StaysSound) (steady : Steady) (takes : 
   -- each line of a script
   pub line_goes : (w : PlainWorld) (r : Chronicle) (number : ℕ) (line : Verb) → VerbFits line → IsRanged w → Agrees w r → LineGoes (ahead r line (verb_step w number line).1.answer) (Told w r number line) (verb_step w number line)
   line_goes w r number (Verb.Node n) fits ranged a = goes_on w r number (Verb.Node n) (node_goes w r n a)
-  line_goes w r number (Verb.VbActive n v uuid) fits ranged a = vb_goes starts stays w r n v fits.1 a uuid fits.2
-  line_goes w r number (Verb.VbReplica n v) fits ranged a = replica_goes starts stays w r n v fits.1 a
-  line_goes w r number (Verb.Chain n v others) fits ranged a = goes_from w (after_chain r n v others (verb_step w number (Verb.Chain n v others)).1.answer) r number (Verb.Chain n v others) (chain_line_goes stays steady w r n v others ranged a)
-  line_goes w r number (Verb.Client n c) fits ranged a = goes_on w r number (Verb.Client n c) (on_node_goes w r n (client_at n (base_of number) c) a (λ node e up. client_goes w r n (base_of number) c node a e))
-  line_goes w r number (Verb.Bytes n c bytes) fits ranged a =
-      goes_on w r number (Verb.Bytes n c bytes) (on_node_goes w r n (bytes_at c bytes) a (λ node e up. bytes_goes stays steady w r n c bytes node fits.2 (subst (NodeRangedIf n) e (ranged n)) a e))
-  line_goes w r number (Verb.Hang n c) fits ranged a = goes_on w r number (Verb.Hang n c) (on_node_goes w r n (hang_at c) a (λ node e up. hang_goes w r n c node a e))
-  line_goes w r number (Verb.Clock n nanos) fits ranged a = goes_on w r number (Verb.Clock n nanos) (on_node_goes w r n (clock_at nanos) a (λ node e up. clock_goes w r n nanos node a e))
+  line_goes w r number (Verb.AtVb n v (VbVerb.MakeActive uuid)) fits ranged a = vb_goes starts stays w r n v fits.1 a uuid fits.2
+  line_goes w r number (Verb.AtVb n v VbVerb.MakeReplica) fits ranged a = replica_goes starts stays w r n v fits.1 a
+  line_goes w r number (Verb.AtVb n v (VbVerb.Chain others)) fits ranged a = goes_from w (after_chain r n v others (verb_step w number (Verb.AtVb n v (VbVerb.Chain others))).1.answer) r number (Verb.AtVb n v (VbVerb.Chain others)) (chain_line_goes stays steady w r n v others ranged a)
+  line_goes w r number (Verb.AtClient n c ClientVerb.Open) fits ranged a = goes_on w r number (Verb.AtClient n c ClientVerb.Open) (on_node_goes w r n (client_at n (base_of number) c) a (λ node e up. client_goes w r n (base_of number) c node a e))
+  line_goes w r number (Verb.AtClient n c (ClientVerb.Bytes bytes)) fits ranged a =
+      goes_on w r number (Verb.AtClient n c (ClientVerb.Bytes bytes)) (on_node_goes w r n (bytes_at c bytes) a (λ node e up. bytes_goes stays steady w r n c bytes node fits.2 (subst (NodeRangedIf n) e (ranged n)) a e))
+  line_goes w r number (Verb.AtClient n c ClientVerb.Hang) fits ranged a = goes_on w r number (Verb.AtClient n c ClientVerb.Hang) (on_node_goes w r n (hang_at c) a (λ node e up. hang_goes w r n c node a e))
+  line_goes w r number (Verb.AtNode n (NodeVerb.Clock nanos)) fits ranged a = goes_on w r number (Verb.AtNode n (NodeVerb.Clock nanos)) (on_node_goes w r n (clock_at nanos) a (λ node e up. clock_goes w r n nanos node a e))
   line_goes w r number (Verb.Link l m n v) fits ranged a = goes_on w r number (Verb.Link l m n v) (link_goes w r number l m n v fits a)
-  line_goes w r number (Verb.Up l wanted) fits ranged a = goes_on w r number (Verb.Up l wanted) (up_goes stays steady w r l wanted ranged a)
-  line_goes w r number (Verb.Down l wanted) fits ranged a = goes_on w r number (Verb.Down l wanted) (down_goes stays w r l wanted a)
-  line_goes w r number (Verb.Pump l frames) fits ranged a = goes_on w r number (Verb.Pump l frames) (pump_goes takes w r l frames a)
-  line_goes w r number (Verb.Cut l) fits ranged a = goes_on w r number (Verb.Cut l) (cut_goes stays w r l a)
-  line_goes w r number (Verb.Promote n v uuid) fits ranged a = promote_line stays steady w r n v uuid fits.2 ranged a
-  line_goes w r number (Verb.Follow n v) fits ranged a = follow_line stays steady w r n v ranged a
-  line_goes w r number (Verb.Dead n v) fits ranged a = dead_line stays steady w r n v ranged a
-  line_goes w r number (Verb.Seal n v) fits ranged a = goes_on w r number (Verb.Seal n v) (seal_goes stays w r n v a)
-  line_goes w r number (Verb.Take n v) fits ranged a = goes_on w r number (Verb.Take n v) (take_goes stays steady wholes w r n v ranged a)
-  line_goes w r number (Verb.Save n v) fits ranged a = save_goes stays w r n v a
-  line_goes w r number (Verb.Done n v) fits ranged a = goes_from w (after_done r n v (verb_step w number (Verb.Done n v)).1.answer) r number (Verb.Done n v) (done_goes stays steady wholes w r n v ranged a)
-  line_goes w r number (Verb.Tick n v) fits ranged a = goes_on w r number (Verb.Tick n v) (tick_line_goes stays steady w r n v ranged a)
-  line_goes w r number (Verb.Stat n v) fits ranged a = goes_on w r number (Verb.Stat n v) (on_node_goes w r n (admin_line n v AdminCall.Stat) a (λ node e up. stat_goes w r n v node a e up))
-  line_goes w r number (Verb.Log n v) fits ranged a = goes_on w r number (Verb.Log n v) (on_node_goes w r n (admin_line n v AdminCall.Log) a (λ node e up. log_goes w r n v node a e))
-  line_goes w r number (Verb.Show n v) fits ranged a = goes_on w r number (Verb.Show n v) (on_node_goes w r n (admin_line n v AdminCall.Show) a (λ node e up. show_goes w r n v node a e))
-  line_goes w r number (Verb.Stop n call out) fits ranged a = goes_on w r number (Verb.Stop n call out) (stop_goes w r n call out a)
-  line_goes w r number (Verb.Fail n call) fits ranged a = goes_on w r number (Verb.Fail n call) (fail_goes w r n call a)
-  line_goes w r number (Verb.Crash n out) fits ranged a = goes_on w r number (Verb.Crash n out) (crash_goes stays w r n out a)
-  line_goes w r number (Verb.Start n uuids) fits ranged a = start_goes steady w r n uuids fits.2 a
+  line_goes w r number (Verb.AtLink l (LinkVerb.Up wanted)) fits ranged a = goes_on w r number (Verb.AtLink l (LinkVerb.Up wanted)) (up_goes stays steady w r l wanted ranged a)
+  line_goes w r number (Verb.AtLink l (LinkVerb.Down wanted)) fits ranged a = goes_on w r number (Verb.AtLink l (LinkVerb.Down wanted)) (down_goes stays w r l wanted a)
+  line_goes w r number (Verb.AtLink l (LinkVerb.Pump frames)) fits ranged a = goes_on w r number (Verb.AtLink l (LinkVerb.Pump frames)) (pump_goes takes w r l frames a)
+  line_goes w r number (Verb.AtLink l LinkVerb.Cut) fits ranged a = goes_on w r number (Verb.AtLink l LinkVerb.Cut) (cut_goes stays w r l a)
+  line_goes w r number (Verb.AtVb n v (VbVerb.Promote uuid)) fits ranged a = promote_line stays steady w r n v uuid fits.2 ranged a
+  line_goes w r number (Verb.AtVb n v VbVerb.Follow) fits ranged a = follow_line stays steady w r n v ranged a
+  line_goes w r number (Verb.AtVb n v VbVerb.Dead) fits ranged a = dead_line stays steady w r n v ranged a
+  line_goes w r number (Verb.AtVb n v VbVerb.Seal) fits ranged a = goes_on w r number (Verb.AtVb n v VbVerb.Seal) (seal_goes stays w r n v a)
+  line_goes w r number (Verb.AtVb n v VbVerb.Take) fits ranged a = goes_on w r number (Verb.AtVb n v VbVerb.Take) (take_goes stays steady wholes w r n v ranged a)
+  line_goes w r number (Verb.AtVb n v VbVerb.Save) fits ranged a = save_goes stays w r n v a
+  line_goes w r number (Verb.AtVb n v VbVerb.Done) fits ranged a = goes_from w (after_done r n v (verb_step w number (Verb.AtVb n v VbVerb.Done)).1.answer) r number (Verb.AtVb n v VbVerb.Done) (done_goes stays steady wholes w r n v ranged a)
+  line_goes w r number (Verb.AtVb n v VbVerb.Tick) fits ranged a = goes_on w r number (Verb.AtVb n v VbVerb.Tick) (tick_line_goes stays steady w r n v ranged a)
+  line_goes w r number (Verb.AtVb n v VbVerb.Stat) fits ranged a = goes_on w r number (Verb.AtVb n v VbVerb.Stat) (on_node_goes w r n (admin_line n v AdminCall.Stat) a (λ node e up. stat_goes w r n v node a e up))
+  line_goes w r number (Verb.AtVb n v VbVerb.Log) fits ranged a = goes_on w r number (Verb.AtVb n v VbVerb.Log) (on_node_goes w r n (admin_line n v AdminCall.Log) a (λ node e up. log_goes w r n v node a e))
+  line_goes w r number (Verb.AtVb n v VbVerb.Show) fits ranged a = goes_on w r number (Verb.AtVb n v VbVerb.Show) (on_node_goes w r n (admin_line n v AdminCall.Show) a (λ node e up. show_goes w r n v node a e))
+  line_goes w r number (Verb.AtNode n (NodeVerb.Stop call out)) fits ranged a = goes_on w r number (Verb.AtNode n (NodeVerb.Stop call out)) (stop_goes w r n call out a)
+  line_goes w r number (Verb.AtNode n (NodeVerb.Fail call)) fits ranged a = goes_on w r number (Verb.AtNode n (NodeVerb.Fail call)) (fail_goes w r n call a)
+  line_goes w r number (Verb.AtNode n (NodeVerb.Crash out)) fits ranged a = goes_on w r number (Verb.AtNode n (NodeVerb.Crash out)) (crash_goes stays w r n out a)
+  line_goes w r number (Verb.AtNode n (NodeVerb.Start uuids)) fits ranged a = start_goes steady w r n uuids fits.2 a
 
   -- whether a vBucket changed since it was sealed is told
   opens_told : (w : PlainWorld) (r : Chronicle) → Agrees w r → AllTold w r
@@ -160,13 +160,13 @@ module _ (starts : StartsSound) (stays : StaysSound) (steady : Steady) (takes : 
 
   -- lines for which the arms of nodes count
   armed_answer : (w : PlainWorld) (r : Chronicle) (number : ℕ) (line : Verb) → VerbFits line → Agrees w r → IsArmed line → LawfulAnswer r line (verb_step w number line).1.events (verb_step w number line).1.answer
-  armed_answer w r number (Verb.Down l wanted) fits a i = down_answered stays w r l wanted a
-  armed_answer w r number (Verb.Start n uuids) fits a i = start_answered steady w r n uuids fits.2 a
+  armed_answer w r number (Verb.AtLink l (LinkVerb.Down wanted)) fits a i = down_answered stays w r l wanted a
+  armed_answer w r number (Verb.AtNode n (NodeVerb.Start uuids)) fits a i = start_answered steady w r n uuids fits.2 a
   armed_answer w r number line fits a i = absurd i
 
   -- what is told of arms that fired as a node starts
   start_fired : (w : PlainWorld) (r : Chronicle) (number : ℕ) (line : Verb) → VerbFits line → Agrees w r → IsStart line → FiresInLine r line (verb_step w number line).1.events (verb_step w number line).1.answer
-  start_fired w r number (Verb.Start n uuids) fits a i = start_fires steady w r n uuids fits.2 a
+  start_fired w r number (Verb.AtNode n (NodeVerb.Start uuids)) fits a i = start_fires steady w r n uuids fits.2 a
   start_fired w r number line fits a i = absurd i
 
   lawful_from : (w : PlainWorld) (r : Chronicle) (script : List ScriptLine) → ScriptFits script → IsRanged w → Agrees w r → LawfulGroups r script (groups_from w script)

@@ -11,8 +11,8 @@ pub use Rattle.branch_model.specs.Trees.{Branch, ForksBelow, IsNew, Shared, bran
 pub use Rattle.client_session.specs.Serving.{PlainSession, ended_at, new_session}
 unfoldable pub use Rattle.client_session.specs.Serving.{frame_served, request_served, bytes_served, told}
 pub use Rattle.cluster_model.proofs.Carrying.{at_le, kin_shared, start_cases}
-pub use Rattle.transcript_law.proofs.Bounded.{SoundCluster}
-pub use Rattle.transcript_law.proofs.Bounding.{keeps, tells, continues, rolls, shows, start_sound}
+pub use Rattle.transcript_law.proofs.invariant.Bounded.{SoundCluster}
+pub use Rattle.transcript_law.proofs.invariant.Bounding.{keeps, tells, continues, rolls, shows, start_sound}
 pub use Rattle.cluster_model.specs.Clusters.{Cluster, Feed, Flight, Leads, Linked, May, Member, Move, above, adopted, answered, flight_end, flight_from, fresh, ground, happens, made, marked_by, member_reach, put, received, Forks, owned}
 pub use Rattle.dcp_consumer.specs.Dialing.{name_request, open_request, sync_request, member_name}
 unfoldable pub use Rattle.dcp_consumer.specs.Dialing.{requests}
@@ -66,6 +66,10 @@ pub use Rattle.script_text.specs.Fitting.{ScriptFits, VerbFits}
 pub use Rattle.script_text.specs.Scripts.{IsScript}
 pub use Rattle.script_text.specs.declared.verb.ScriptLine.{ScriptLine}
 pub use Rattle.script_text.specs.declared.verb.Verb.{Verb}
+pub use Rattle.script_text.specs.declared.verb.VbVerb.{VbVerb}
+pub use Rattle.script_text.specs.declared.verb.NodeVerb.{NodeVerb}
+pub use Rattle.script_text.specs.declared.verb.LinkVerb.{LinkVerb}
+pub use Rattle.script_text.specs.declared.verb.ClientVerb.{ClientVerb}
 pub use Rattle.std.proofs.Common.{Bool, List, [], ap, append-nil, append_assoc, arith, cond, drop, false, fold, inl, inr, length, map, min, refl, subst, suc, sym, take, true, zero, ℕ, ⊎_elim, ◌++◌, ◌+◌, ◌<◌, ◌∙◌, ◌∷◌, ◌≡◌, ◌≤◌, take-append-drop, ◌≢◌}
 pub use Rattle.std.proofs.Math.Bool.{or-true}
 pub use Rattle.std.proofs.Math.Seq.{drop-nil}

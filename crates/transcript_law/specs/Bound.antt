@@ -2,6 +2,8 @@
 use Rattle.std.specs.Prelude.{◌≡◌, ℕ, ◌||◌, if◌then◌else◌, ◌⊎◌, Bool, List, [], ◌∷◌, Option, Some, None}
 use Rattle.script_text.specs.declared.verb.Verb.{Verb}
 use Rattle.script_text.specs.declared.verb.Verb.TheVariants as verb
+use Rattle.script_text.specs.declared.verb.NodeVerb.{NodeVerb}
+use Rattle.script_text.specs.declared.verb.NodeVerb.TheVariants as node_verb
 use Rattle.vb_events.specs.declared.event.Answer.{Answer}
 use Rattle.vb_events.specs.declared.event.Answer.TheVariants as answer
 use Rattle.vb_events.specs.declared.event.Cause.{Cause}
@@ -23,36 +25,22 @@ abbrev pub if_over : Option Dial → List Cause
 if_over None = cause.LinkClosed ∷ []
 if_over (Some dial) = []
 
--- the causes for one of which a line is bound to be refused, and none where it may be carried out: a node that is down carries out no line but those that arm and start it, and it is there; one that is not told down does not start; and over a link that is not dialed, or over, nothing goes
+-- a line for a node: one that is down is there, and carries out no line but those that arm and start it; one that is not told down does not start
+abbrev pub bound_node : Bool → NodeVerb → List Cause
+bound_node down (node_verb.Clock nanos) = if_down down
+bound_node down (node_verb.Stop call out) = []
+bound_node down (node_verb.Fail call) = []
+bound_node down (node_verb.Crash out) = if_down down
+bound_node down (node_verb.Start uuids) = if down then [] else cause.NodeUp ∷ cause.UnknownNode ∷ []
+
+-- the causes for one of which a line is bound to be refused, by what it names, and none where it may be carried out: a node that is down carries out no line for its vBuckets or its clients; and over a link that is not dialed, or over, nothing goes
 abbrev pub bound_by : Chronicle → Verb → List Cause
 bound_by chronicle (verb.Node n) = if is_told_down chronicle n then cause.NodeExists ∷ [] else []
-bound_by chronicle (verb.VbActive n v uuid) = if_down (is_told_down chronicle n)
-bound_by chronicle (verb.VbReplica n v) = if_down (is_told_down chronicle n)
-bound_by chronicle (verb.Chain n v others) = if_down (is_told_down chronicle n)
-bound_by chronicle (verb.Client n c) = if_down (is_told_down chronicle n)
-bound_by chronicle (verb.Bytes n c bytes) = if_down (is_told_down chronicle n)
-bound_by chronicle (verb.Hang n c) = if_down (is_told_down chronicle n)
-bound_by chronicle (verb.Clock n nanos) = if_down (is_told_down chronicle n)
 bound_by chronicle (verb.Link l m n v) = if is_told_down chronicle m || is_told_down chronicle n then cause.NodeDown ∷ cause.UnknownNode ∷ [] else []
-bound_by chronicle (verb.Up l wanted) = if_over (chronicle.dial_of l)
-bound_by chronicle (verb.Down l wanted) = if_over (chronicle.dial_of l)
-bound_by chronicle (verb.Pump l wanted) = if_over (chronicle.dial_of l)
-bound_by chronicle (verb.Cut l) = if_over (chronicle.dial_of l)
-bound_by chronicle (verb.Promote n v uuid) = if_down (is_told_down chronicle n)
-bound_by chronicle (verb.Follow n v) = if_down (is_told_down chronicle n)
-bound_by chronicle (verb.Dead n v) = if_down (is_told_down chronicle n)
-bound_by chronicle (verb.Seal n v) = if_down (is_told_down chronicle n)
-bound_by chronicle (verb.Take n v) = if_down (is_told_down chronicle n)
-bound_by chronicle (verb.Save n v) = if_down (is_told_down chronicle n)
-bound_by chronicle (verb.Done n v) = if_down (is_told_down chronicle n)
-bound_by chronicle (verb.Tick n v) = if_down (is_told_down chronicle n)
-bound_by chronicle (verb.Stat n v) = if_down (is_told_down chronicle n)
-bound_by chronicle (verb.Log n v) = if_down (is_told_down chronicle n)
-bound_by chronicle (verb.Show n v) = if_down (is_told_down chronicle n)
-bound_by chronicle (verb.Stop n call out) = []
-bound_by chronicle (verb.Fail n call) = []
-bound_by chronicle (verb.Crash n out) = if_down (is_told_down chronicle n)
-bound_by chronicle (verb.Start n uuids) = if is_told_down chronicle n then [] else cause.NodeUp ∷ cause.UnknownNode ∷ []
+bound_by chronicle (verb.AtNode n what) = bound_node (is_told_down chronicle n) what
+bound_by chronicle (verb.AtVb n v what) = if_down (is_told_down chronicle n)
+bound_by chronicle (verb.AtClient n c what) = if_down (is_told_down chronicle n)
+bound_by chronicle (verb.AtLink l what) = if_over (chronicle.dial_of l)
 
 -- a line is refused for one of these causes
 abbrev pub IsNoOf : List Cause → Answer → Type 0

@@ -3,6 +3,9 @@ use Rattle.std.specs.Prelude.{ℕ, ◌==◌, ◌&&◌, not, if◌then◌else◌,
 use Rattle.std.specs.List.{filter, list_any}
 use Rattle.script_text.specs.declared.verb.Verb.{Verb}
 use Rattle.script_text.specs.declared.verb.Verb.TheVariants as verb
+use Rattle.script_text.specs.declared.verb.VbVerb.TheVariants as vb_verb
+use Rattle.script_text.specs.declared.verb.NodeVerb.TheVariants as node_verb
+use Rattle.script_text.specs.declared.verb.LinkVerb.TheVariants as link_verb
 use Rattle.vb_events.specs.declared.event.Answer.{Answer}
 use Rattle.vb_events.specs.declared.event.Answer.TheVariants as answer
 use Rattle.vb_events.specs.declared.event.Event.{Event}
@@ -262,25 +265,25 @@ after_chain chronicle n v others other = chronicle
 
 -- what a line of the script tells by its answer, before the lines of its group are read, which rest on it: who is a vBucket's chain, and what counts as saved
 abbrev pub ahead : Chronicle → Verb → Answer → Chronicle
-ahead chronicle (verb.Chain n v others) said = after_chain chronicle n v others said
-ahead chronicle (verb.Done n v) said = after_done chronicle n v said
+ahead chronicle (verb.AtVb n v (vb_verb.Chain others)) said = after_chain chronicle n v others said
+ahead chronicle (verb.AtVb n v vb_verb.Done) said = after_done chronicle n v said
 ahead chronicle other said = chronicle
 
 -- what a line of the script tells, by the lines of its group and its answer, behind those lines: who dials, who is sealed, what was written down, what is to befall a node, and who stops and starts. What was read before the line comes first
 abbrev pub after_verb : Chronicle → Chronicle → Verb → List Event → Answer → Chronicle
-after_verb before chronicle (verb.VbActive n v uuid) lines said = after_made chronicle n v role.Active said
-after_verb before chronicle (verb.VbReplica n v) lines said = after_made chronicle n v role.Replica said
+after_verb before chronicle (verb.AtVb n v (vb_verb.MakeActive uuid)) lines said = after_made chronicle n v role.Active said
+after_verb before chronicle (verb.AtVb n v vb_verb.MakeReplica) lines said = after_made chronicle n v role.Replica said
 after_verb before chronicle (verb.Link l m n v) lines said = after_dial chronicle l m n v said
-after_verb before chronicle (verb.Down l wanted) lines said = after_rollback chronicle (rollback_of before (before.dial_of l) (before.point_of l)) lines said
-after_verb before chronicle (verb.Promote n v uuid) lines said = after_noted chronicle n v role.Active said
-after_verb before chronicle (verb.Follow n v) lines said = after_noted chronicle n v role.Replica said
-after_verb before chronicle (verb.Dead n v) lines said = after_noted chronicle n v role.Dead said
-after_verb before chronicle (verb.Seal n v) lines said = after_seal chronicle n v said
-after_verb before chronicle (verb.Save n v) lines said = after_append chronicle n v (saving (chronicle.disk_at n v)) said
-after_verb before chronicle (verb.Stop n call out) lines said = after_armed chronicle n (stop_told call out) said
-after_verb before chronicle (verb.Fail n call) lines said = after_armed chronicle n (fail_told call) said
-after_verb before chronicle (verb.Crash n out) lines said = after_crashed chronicle n out said
-after_verb before chronicle (verb.Start n uuids) lines said = after_start chronicle n lines said
+after_verb before chronicle (verb.AtLink l (link_verb.Down wanted)) lines said = after_rollback chronicle (rollback_of before (before.dial_of l) (before.point_of l)) lines said
+after_verb before chronicle (verb.AtVb n v (vb_verb.Promote uuid)) lines said = after_noted chronicle n v role.Active said
+after_verb before chronicle (verb.AtVb n v vb_verb.Follow) lines said = after_noted chronicle n v role.Replica said
+after_verb before chronicle (verb.AtVb n v vb_verb.Dead) lines said = after_noted chronicle n v role.Dead said
+after_verb before chronicle (verb.AtVb n v vb_verb.Seal) lines said = after_seal chronicle n v said
+after_verb before chronicle (verb.AtVb n v vb_verb.Save) lines said = after_append chronicle n v (saving (chronicle.disk_at n v)) said
+after_verb before chronicle (verb.AtNode n (node_verb.Stop call out)) lines said = after_armed chronicle n (stop_told call out) said
+after_verb before chronicle (verb.AtNode n (node_verb.Fail call)) lines said = after_armed chronicle n (fail_told call) said
+after_verb before chronicle (verb.AtNode n (node_verb.Crash out)) lines said = after_crashed chronicle n out said
+after_verb before chronicle (verb.AtNode n (node_verb.Start uuids)) lines said = after_start chronicle n lines said
 after_verb before chronicle other lines said = chronicle
 
 -- what is read with a whole group of a line

@@ -2,6 +2,7 @@
 use Rattle.std.specs.Prelude.{ℕ, false, List, [], ◌∷◌, ◌++◌, map, Some}
 use Rattle.durability.specs.Chains.{Members}
 use Rattle.script_text.specs.declared.verb.Verb.TheVariants as verb
+use Rattle.script_text.specs.declared.verb.VbVerb.TheVariants as vb_verb
 use Rattle.vb_types.specs.declared.change.Act.TheVariants as act
 use Rattle.vb_types.specs.declared.change.Change.{Change}
 use Rattle.vb_types.specs.declared.change.Level.{Level}
@@ -30,10 +31,10 @@ prepared_told how = after_lines empty_chronicle (active_told 0 5 ++ event.Change
 
 -- and then got this chain, and counts so much as saved
 abbrev pub chained_told : Chronicle → Members → Chronicle
-chained_told before others = ahead before (verb.Chain 0 0 others) answer.Ok
+chained_told before others = ahead before (verb.AtVb 0 0 (vb_verb.Chain others)) answer.Ok
 
 abbrev pub saved_told : Chronicle → ℕ → Chronicle
-saved_told before saved = ahead before (verb.Done 0 0) (answer.Number saved)
+saved_told before saved = ahead before (verb.AtVb 0 0 vb_verb.Done) (answer.Number saved)
 
 -- the lines by which it counts these acknowledgements, each of a node, up to a seqno
 abbrev pub counts_told : List (ℕ × ℕ) → List Event
@@ -69,7 +70,7 @@ chained_later = chained_told (after_lines (prepared_told level.Majority) (counts
 
 -- and when a line that sets a chain was refused
 abbrev pub unchained : Chronicle
-unchained = ahead (prepared_told level.Majority) (verb.Chain 0 0 (Some 1 ∷ [])) (answer.No cause.ChainBad)
+unchained = ahead (prepared_told level.Majority) (verb.AtVb 0 0 (vb_verb.Chain (Some 1 ∷ []))) (answer.No cause.ChainBad)
 
 -- what was read when it counted the node 1, and was dead then
 abbrev pub counted_dead : Chronicle

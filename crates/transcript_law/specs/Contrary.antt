@@ -9,6 +9,8 @@ use Rattle.vb_events.specs.declared.event.Answer.TheVariants as answer
 use Rattle.vb_events.specs.declared.event.Group.{Group}
 use Rattle.script_text.specs.declared.verb.ScriptLine.{ScriptLine}
 use Rattle.script_text.specs.declared.verb.Verb.TheVariants as verb
+use Rattle.script_text.specs.declared.verb.VbVerb.TheVariants as vb_verb
+use Rattle.script_text.specs.declared.verb.ClientVerb.TheVariants as client_verb
 use Rattle.vb_types.specs.declared.stream.AskAnswer.TheVariants as ask_answer
 use Rattle.vb_events.specs.declared.event.EndReason.TheVariants as reason
 use Rattle.vb_events.specs.declared.event.Event.{Event}
@@ -118,8 +120,8 @@ strange_change = record { seq = 1; key = 9 ∷ []; act = act.Set (first_doc 1 (8
 -- the key 7 is set on the branch 5, whose vBucket is sealed twice then
 abbrev pub set_and_sealed : List ScriptLine
 set_and_sealed =
-    script_line 1 (verb.Node 0) ∷ script_line 2 (verb.Client 0 1) ∷ script_line 3 (verb.VbActive 0 0 5)
-    ∷ set_line 4 (7 ∷ []) (8 ∷ []) ∷ script_line 5 (verb.Seal 0 0) ∷ script_line 6 (verb.Seal 0 0) ∷ []
+    script_line 1 (verb.Node 0) ∷ script_line 2 (verb.AtClient 0 1 client_verb.Open) ∷ script_line 3 (verb.AtVb 0 0 (vb_verb.MakeActive 5))
+    ∷ set_line 4 (7 ∷ []) (8 ∷ []) ∷ script_line 5 (verb.AtVb 0 0 vb_verb.Seal) ∷ script_line 6 (verb.AtVb 0 0 vb_verb.Seal) ∷ []
 
 -- what is told of that script, with these answers of the seals
 abbrev pub sealed_told : ℕ → ℕ → List Group
@@ -133,7 +135,7 @@ after_dead_changed = after_lines after_active (change_told 0 ∷ event.Role 0 0 
 
 -- a dead vBucket becomes active on the branch 7, and this is told of it, behind this number
 abbrev pub promotes_dead : List ScriptLine
-promotes_dead = script_line 1 (verb.Promote 0 0 7) ∷ []
+promotes_dead = script_line 1 (verb.AtVb 0 0 (vb_verb.Promote 7)) ∷ []
 
 abbrev pub promoted_told : ℕ → List Event → Answer → List Group
 promoted_told number lines said = group_answered number lines said ∷ []

@@ -3,6 +3,9 @@ use Rattle.std.specs.Prelude.{ℕ, ◌+◌, true, false, List, [], ◌∷◌, �
 use Rattle.script_text.specs.declared.verb.ScriptLine.{ScriptLine}
 use Rattle.script_text.specs.declared.verb.Verb.{Verb}
 use Rattle.script_text.specs.declared.verb.Verb.TheVariants as verb
+use Rattle.script_text.specs.declared.verb.VbVerb.TheVariants as vb_verb
+use Rattle.script_text.specs.declared.verb.NodeVerb.TheVariants as node_verb
+use Rattle.script_text.specs.declared.verb.ClientVerb.TheVariants as client_verb
 use Rattle.mcbp_frame.specs.Spelling.{spelling}
 use Rattle.vb_disk.specs.declared.made.Outcome.{Outcome}
 use Rattle.vb_disk.specs.declared.made.Outcome.TheVariants.{Old}
@@ -49,7 +52,7 @@ told_from n (said ∷ more) = group_answered n said.0 said.1 ∷ told_from (n + 
 -- the key 7 is set on the branch 5, which makes the one change of its vBucket, and then come these lines
 abbrev pub one_made : List Verb → List ScriptLine
 one_made more =
-    script_line 1 (verb.Node 0) ∷ script_line 2 (verb.Client 0 1) ∷ script_line 3 (verb.VbActive 0 0 5)
+    script_line 1 (verb.Node 0) ∷ script_line 2 (verb.AtClient 0 1 client_verb.Open) ∷ script_line 3 (verb.AtVb 0 0 (vb_verb.MakeActive 5))
     ∷ set_line 4 (7 ∷ []) (8 ∷ []) ∷ numbered 5 more
 
 -- what is told of that script
@@ -105,28 +108,28 @@ stat_of saved high = ok (event.Stat 0 0 0 0 1 saved high ∷ [])
 
 -- the change is taken, and written down under an arm
 abbrev pub save_under : Verb → List Verb
-save_under arm = verb.Take 0 0 ∷ arm ∷ verb.Save 0 0 ∷ []
+save_under arm = verb.AtVb 0 0 vb_verb.Take ∷ arm ∷ verb.AtVb 0 0 vb_verb.Save ∷ []
 
 abbrev pub save_under_told : Said → List Said
 save_under_told said = took ∷ ok [] ∷ said ∷ []
 
 -- the vBucket turns dead under an arm, and then this comes
 abbrev pub dead_under : Verb → Verb → List Verb
-dead_under arm next = arm ∷ verb.Dead 0 0 ∷ next ∷ []
+dead_under arm next = arm ∷ verb.AtVb 0 0 vb_verb.Dead ∷ next ∷ []
 
 abbrev pub dead_under_told : Said → Said → List Said
 dead_under_told dead next = ok [] ∷ dead ∷ next ∷ []
 
 -- an arm that hits the call behind those of one append: the change is written down, and then the vBucket turns dead
 abbrev pub save_and_dead : List Verb
-save_and_dead = verb.Take 0 0 ∷ verb.Fail 0 5 ∷ verb.Save 0 0 ∷ verb.Dead 0 0 ∷ []
+save_and_dead = verb.AtVb 0 0 vb_verb.Take ∷ verb.AtNode 0 (node_verb.Fail 5) ∷ verb.AtVb 0 0 vb_verb.Save ∷ verb.AtVb 0 0 vb_verb.Dead ∷ []
 
 abbrev pub save_and_dead_told : Said → List Said
 save_and_dead_told dead = took ∷ ok [] ∷ ok [] ∷ dead ∷ []
 
 -- there is an arm that nothing met, and the node crashes and starts
 abbrev pub crash_under : Verb → List Verb
-crash_under arm = arm ∷ verb.Crash 0 Old ∷ verb.Start 0 (7 ∷ []) ∷ []
+crash_under arm = arm ∷ verb.AtNode 0 (node_verb.Crash Old) ∷ verb.AtNode 0 (node_verb.Start (7 ∷ [])) ∷ []
 
 abbrev pub crash_under_told : Said → List Said
 crash_under_told started = ok [] ∷ crashed ∷ started ∷ []
@@ -135,27 +138,27 @@ crash_under_told started = ok [] ∷ crashed ∷ started ∷ []
 
 -- these lines come, the node crashes and starts, and then comes one more
 abbrev pub crashed_after : List Verb → Outcome → List ℕ → Verb → List Verb
-crashed_after lines out uuids last = lines ++ verb.Crash 0 out ∷ verb.Start 0 uuids ∷ last ∷ []
+crashed_after lines out uuids last = lines ++ verb.AtNode 0 (node_verb.Crash out) ∷ verb.AtNode 0 (node_verb.Start uuids) ∷ last ∷ []
 
 abbrev pub crashed_after_told : List Said → Said → Said → List Said
 crashed_after_told lines started last = lines ++ crashed ∷ started ∷ last ∷ []
 
 -- its lines in front of the crash, where the change is taken, written down, and counts as saved
 abbrev pub to_save : List Verb
-to_save = verb.Take 0 0 ∷ verb.Save 0 0 ∷ []
+to_save = verb.AtVb 0 0 vb_verb.Take ∷ verb.AtVb 0 0 vb_verb.Save ∷ []
 
 abbrev pub saved_told : List Said
 saved_told = took ∷ ok [] ∷ []
 
 abbrev pub to_done : List Verb
-to_done = verb.Take 0 0 ∷ verb.Save 0 0 ∷ verb.Done 0 0 ∷ []
+to_done = verb.AtVb 0 0 vb_verb.Take ∷ verb.AtVb 0 0 vb_verb.Save ∷ verb.AtVb 0 0 vb_verb.Done ∷ []
 
 abbrev pub counted_told : List Said
 counted_told = took ∷ ok [] ∷ ([], answer.Number 1) ∷ []
 
 -- the node stops inside a call of the save, starts, and then comes one more line
 abbrev pub stopped_in : ℕ → Outcome → Verb → List Verb
-stopped_in k out last = verb.Take 0 0 ∷ verb.Stop 0 k out ∷ verb.Save 0 0 ∷ verb.Start 0 (7 ∷ []) ∷ last ∷ []
+stopped_in k out last = verb.AtVb 0 0 vb_verb.Take ∷ verb.AtNode 0 (node_verb.Stop k out) ∷ verb.AtVb 0 0 vb_verb.Save ∷ verb.AtNode 0 (node_verb.Start (7 ∷ [])) ∷ last ∷ []
 
 abbrev pub stopped_in_told : ℕ → Said → List Said
 stopped_in_told at last = took ∷ ok [] ∷ stopped_behind [] ∷ restarted at ∷ last ∷ []
@@ -169,7 +172,7 @@ after_noted_back = record after_back { disk_at = λ n v. record { flushing = Idl
 
 -- its node crashes and starts, and its log is shown
 abbrev pub log_after_crash : List ScriptLine
-log_after_crash = numbered 1 (verb.Crash 1 Old ∷ verb.Start 1 [] ∷ verb.Log 1 0 ∷ [])
+log_after_crash = numbered 1 (verb.AtNode 1 (node_verb.Crash Old) ∷ verb.AtNode 1 (node_verb.Start []) ∷ verb.AtVb 1 0 vb_verb.Log ∷ [])
 
 abbrev pub log_after_crash_told : List LogEntry → List Group
 log_after_crash_told log = told_from 1 (ok [] ∷ ok [] ∷ ok (event.Logged 1 0 log ∷ []) ∷ [])
@@ -178,14 +181,14 @@ log_after_crash_told log = told_from 1 (ok [] ∷ ok [] ∷ ok (event.Logged 1 0
 
 -- the vBucket turns dead under an arm that fails a call, and the node crashes and starts
 abbrev pub dead_unnoted : Outcome → List Verb
-dead_unnoted out = verb.Fail 0 4 ∷ verb.Dead 0 0 ∷ verb.Crash 0 out ∷ verb.Start 0 (7 ∷ []) ∷ verb.Show 0 0 ∷ []
+dead_unnoted out = verb.AtNode 0 (node_verb.Fail 4) ∷ verb.AtVb 0 0 vb_verb.Dead ∷ verb.AtNode 0 (node_verb.Crash out) ∷ verb.AtNode 0 (node_verb.Start (7 ∷ [])) ∷ verb.AtVb 0 0 vb_verb.Show ∷ []
 
 abbrev pub dead_unnoted_told : Said → Said → List Said
 dead_unnoted_told started shown = ok [] ∷ failed_behind (dead_line ∷ []) ∷ crashed ∷ started ∷ shown ∷ []
 
 -- the vBucket wrote its change down, and comes back; a client sets the key 9 then
 abbrev pub set_after : List Verb
-set_after = to_save ++ verb.Crash 0 Old ∷ verb.Start 0 (7 ∷ []) ∷ verb.Client 0 1 ∷ verb.Bytes 0 1 (spelling (set_frame (9 ∷ []) (6 ∷ []))) ∷ []
+set_after = to_save ++ verb.AtNode 0 (node_verb.Crash Old) ∷ verb.AtNode 0 (node_verb.Start (7 ∷ [])) ∷ verb.AtClient 0 1 client_verb.Open ∷ verb.AtClient 0 1 (client_verb.Bytes (spelling (set_frame (9 ∷ []) (6 ∷ [])))) ∷ []
 
 abbrev pub set_after_told : ℕ → List Said
 set_after_told uuid = saved_told ++ crashed ∷ restarted 1 ∷ ok [] ∷ ok (event.Changed 0 0 uuid next_change ∷ []) ∷ []
@@ -199,7 +202,7 @@ commit_of n = record { seq = 3; key = 9 ∷ []; act = act.Commit n (first_doc 2 
 
 -- the vBucket wrote a prepare down, and comes back; then it is sealed
 abbrev pub seal_after : List Verb
-seal_after = verb.Bytes 0 1 [] ∷ to_save ++ verb.Crash 0 Old ∷ verb.Start 0 (7 ∷ []) ∷ verb.Seal 0 0 ∷ []
+seal_after = verb.AtClient 0 1 (client_verb.Bytes []) ∷ to_save ++ verb.AtNode 0 (node_verb.Crash Old) ∷ verb.AtNode 0 (node_verb.Start (7 ∷ [])) ∷ verb.AtVb 0 0 vb_verb.Seal ∷ []
 
 -- these lines are told as its node starts
 abbrev pub seal_after_told : List Event → List Said
@@ -207,7 +210,7 @@ seal_after_told lines = ok (event.Changed 0 0 5 prepared ∷ []) ∷ (event.Batc
 
 -- a vBucket is made under an arm that fails this call, and the node crashes and starts
 abbrev pub made_under : ℕ → Outcome → List ScriptLine
-made_under k out = numbered 1 (verb.Node 0 ∷ verb.Fail 0 k ∷ verb.VbActive 0 0 5 ∷ verb.Crash 0 out ∷ verb.Start 0 (7 ∷ []) ∷ verb.Show 0 0 ∷ [])
+made_under k out = numbered 1 (verb.Node 0 ∷ verb.AtNode 0 (node_verb.Fail k) ∷ verb.AtVb 0 0 (vb_verb.MakeActive 5) ∷ verb.AtNode 0 (node_verb.Crash out) ∷ verb.AtNode 0 (node_verb.Start (7 ∷ [])) ∷ verb.AtVb 0 0 vb_verb.Show ∷ [])
 
 abbrev pub made_under_told : Said → Said → List Group
 made_under_told started shown = told_from 1 (ok [] ∷ ok [] ∷ failed_behind (active_told 0 5) ∷ ok [] ∷ started ∷ shown ∷ [])

@@ -3,6 +3,7 @@ use Rattle.std.specs.Prelude.{ℕ, List, [], ◌∷◌}
 use Rattle.script_text.specs.declared.verb.ScriptLine.{ScriptLine}
 use Rattle.script_text.specs.declared.verb.Verb.{Verb}
 use Rattle.script_text.specs.declared.verb.Verb.TheVariants as verb
+use Rattle.script_text.specs.declared.verb.NodeVerb.TheVariants as node_verb
 use Rattle.vb_disk.specs.declared.made.Outcome.TheVariants.{Old}
 use Rattle.vb_events.specs.declared.event.Answer.TheVariants as answer
 use Rattle.vb_events.specs.declared.event.Cause.{Cause}
@@ -17,14 +18,14 @@ refused why = ([], answer.No why)
 
 -- the node crashes, and then this line comes
 abbrev pub crash_and : Verb → List Verb
-crash_and next = verb.Crash 0 Old ∷ next ∷ []
+crash_and next = verb.AtNode 0 (node_verb.Crash Old) ∷ next ∷ []
 
 abbrev pub crash_and_told : Said → List Said
 crash_and_told next = crashed ∷ next ∷ []
 
 -- it crashes and starts, and then this line comes
 abbrev pub start_and : Verb → List Verb
-start_and next = verb.Crash 0 Old ∷ verb.Start 0 (7 ∷ []) ∷ next ∷ []
+start_and next = verb.AtNode 0 (node_verb.Crash Old) ∷ verb.AtNode 0 (node_verb.Start (7 ∷ [])) ∷ next ∷ []
 
 abbrev pub start_and_told : Said → Said → List Said
 start_and_told started next = crashed ∷ started ∷ next ∷ []
@@ -35,7 +36,7 @@ begun_and_crashed n = after_crash (after_lines (granted_inside 2) (marker_told 0
 
 -- what was read when that stream was let continue; a node crashes, and then this line of the link comes
 abbrev pub crash_under_link : ℕ → Verb → List ScriptLine
-crash_under_link n next = numbered 1 (verb.Crash n Old ∷ next ∷ [])
+crash_under_link n next = numbered 1 (verb.AtNode n (node_verb.Crash Old) ∷ next ∷ [])
 
 abbrev pub crash_under_link_told : Said → List Group
 crash_under_link_told next = told_from 1 (ok [] ∷ next ∷ [])

@@ -2,6 +2,8 @@
 use Rattle.std.specs.Prelude.{false, List, [], ◌∷◌, ◌++◌, Some}
 use Rattle.script_text.specs.declared.verb.Verb.{Verb}
 use Rattle.script_text.specs.declared.verb.Verb.TheVariants as verb
+use Rattle.script_text.specs.declared.verb.VbVerb.TheVariants as vb_verb
+use Rattle.script_text.specs.declared.verb.NodeVerb.TheVariants as node_verb
 use Rattle.vb_disk.specs.declared.made.Outcome.TheVariants.{Old}
 use Rattle.vb_events.specs.declared.event.Answer.TheVariants as answer
 use Rattle.vb_events.specs.declared.event.Cause.TheVariants as cause
@@ -12,28 +14,28 @@ use Rattle.transcript_law.specs.Crashes.{Said, crashed, numbered, ok, save_under
 
 -- the vBucket is sealed while a call of its node is to fail
 abbrev pub seal_under : List Verb
-seal_under = verb.Fail 0 7 ∷ verb.Seal 0 0 ∷ []
+seal_under = verb.AtNode 0 (node_verb.Fail 7) ∷ verb.AtVb 0 0 vb_verb.Seal ∷ []
 
 abbrev pub seal_under_told : Said → List Said
 seal_under_told sealed = ok [] ∷ sealed ∷ []
 
 -- the change is written down while a call of that node and one of another are to fail
 abbrev pub two_armed : List Verb
-two_armed = verb.Node 1 ∷ verb.Fail 1 1 ∷ save_under (verb.Fail 0 1)
+two_armed = verb.Node 1 ∷ verb.AtNode 1 (node_verb.Fail 1) ∷ save_under (verb.AtNode 0 (node_verb.Fail 1))
 
 abbrev pub two_armed_told : Said → List Said
 two_armed_told said = ok [] ∷ ok [] ∷ save_under_told said
 
 -- the node crashes, and starts under an arm
 abbrev pub start_under : Verb → List Verb
-start_under arm = verb.Crash 0 Old ∷ arm ∷ verb.Start 0 (7 ∷ []) ∷ []
+start_under arm = verb.AtNode 0 (node_verb.Crash Old) ∷ arm ∷ verb.AtNode 0 (node_verb.Start (7 ∷ [])) ∷ []
 
 abbrev pub start_under_told : Said → List Said
 start_under_told started = crashed ∷ ok [] ∷ started ∷ []
 
 -- the same with no id, where one is needed
 abbrev pub start_short : Verb → List Verb
-start_short arm = verb.Crash 0 Old ∷ arm ∷ verb.Start 0 [] ∷ []
+start_short arm = verb.AtNode 0 (node_verb.Crash Old) ∷ arm ∷ verb.AtNode 0 (node_verb.Start []) ∷ []
 
 -- the node stops while it starts, behind these lines
 abbrev pub stopped_starting : List Event → Said

@@ -4,6 +4,9 @@ use Rattle.client_session.specs.Serving.{new_session}
 use Rattle.durability.specs.Chains.{Members}
 use Rattle.script_text.specs.declared.verb.ScriptLine.{ScriptLine}
 use Rattle.script_text.specs.declared.verb.Verb.TheVariants as verb
+use Rattle.script_text.specs.declared.verb.VbVerb.TheVariants as vb_verb
+use Rattle.script_text.specs.declared.verb.LinkVerb.TheVariants as link_verb
+use Rattle.script_text.specs.declared.verb.ClientVerb.TheVariants as client_verb
 use Rattle.vb_types.specs.declared.change.Act.TheVariants as act
 use Rattle.vb_types.specs.declared.change.Change.{Change}
 use Rattle.vb_types.specs.declared.change.Level.TheVariants as level
@@ -31,11 +34,11 @@ use Rattle.transcript_law.specs.Transcripts.{script_line, set_line, set_write, g
 -- two keys are set on the branch 5, and a replica at the node 1 follows over the link 1, and is shown
 abbrev pub two_followed : List ScriptLine
 two_followed =
-    script_line 1 (verb.Node 0) ∷ script_line 2 (verb.Node 1) ∷ script_line 3 (verb.Client 0 1)
-    ∷ script_line 4 (verb.VbActive 0 0 5) ∷ script_line 5 (verb.VbReplica 1 0)
+    script_line 1 (verb.Node 0) ∷ script_line 2 (verb.Node 1) ∷ script_line 3 (verb.AtClient 0 1 client_verb.Open)
+    ∷ script_line 4 (verb.AtVb 0 0 (vb_verb.MakeActive 5)) ∷ script_line 5 (verb.AtVb 1 0 vb_verb.MakeReplica)
     ∷ set_line 6 (7 ∷ []) (8 ∷ []) ∷ set_line 7 (9 ∷ []) (6 ∷ [])
-    ∷ script_line 8 (verb.Link 1 0 1 0) ∷ script_line 9 (verb.Up 1 1000) ∷ script_line 10 (verb.Down 1 1000)
-    ∷ script_line 11 (verb.Pump 1 9) ∷ script_line 12 (verb.Down 1 1000) ∷ script_line 13 (verb.Show 1 0) ∷ []
+    ∷ script_line 8 (verb.Link 1 0 1 0) ∷ script_line 9 (verb.AtLink 1 (link_verb.Up 1000)) ∷ script_line 10 (verb.AtLink 1 (link_verb.Down 1000))
+    ∷ script_line 11 (verb.AtLink 1 (link_verb.Pump 9)) ∷ script_line 12 (verb.AtLink 1 (link_verb.Down 1000)) ∷ script_line 13 (verb.AtVb 1 0 vb_verb.Show) ∷ []
 
 -- the key 9 is set to 6 by the second change
 abbrev pub next_change : Change

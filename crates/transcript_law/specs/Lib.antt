@@ -23,3 +23,4 @@ pub mod Alone
 pub mod BoundRows
 pub mod KindRows
 pub mod Effects
+pub mod RefusalRows

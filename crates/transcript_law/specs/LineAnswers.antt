@@ -3,6 +3,10 @@ use Rattle.std.specs.Prelude.{◌≡◌, ℕ, ◌+◌, ◌*◌, ◌<◌, ◌≤�
 use Rattle.std.specs.List.{filter, list_any}
 use Rattle.script_text.specs.declared.verb.Verb.{Verb}
 use Rattle.script_text.specs.declared.verb.Verb.TheVariants as verb
+use Rattle.script_text.specs.declared.verb.VbVerb.{VbVerb}
+use Rattle.script_text.specs.declared.verb.VbVerb.TheVariants as vb_verb
+use Rattle.script_text.specs.declared.verb.NodeVerb.TheVariants as node_verb
+use Rattle.script_text.specs.declared.verb.LinkVerb.TheVariants as link_verb
 use Rattle.vb_events.specs.declared.event.Answer.{Answer}
 use Rattle.vb_events.specs.declared.event.Answer.TheVariants as answer
 use Rattle.vb_events.specs.declared.event.Event.{Event}
@@ -227,33 +231,53 @@ IsStarted chronicle n uuids lines (answer.No cause.UnknownNode) = (lines ≡ [])
 IsStarted chronicle n uuids lines (answer.No cause.NodeUp) = (lines ≡ []) × ((chronicle.arm_at n).down ≡ false)
 IsStarted chronicle n uuids lines (answer.No why) = ⊥
 
--- a line of a script, after what was read, by the lines that its group has and by its answer; any may be refused. Each verb has a row of its own
+-- what a line does to a vBucket, as far as its answer and its node's disks tell
+pub data VbKind : Type 0 where
+  Plain : VbKind
+  Notes : VbKind
+  Seals : VbKind
+  Takes : VbKind
+  Saves : VbKind
+  Counts : VbKind
+
+-- each verb for a vBucket is of one kind: it appends a role, seals, takes a batch, appends it, counts it as saved, or does nothing that is counted
+abbrev pub vb_kind : VbVerb → VbKind
+vb_kind (vb_verb.MakeActive uuid) = Notes
+vb_kind vb_verb.MakeReplica = Notes
+vb_kind (vb_verb.Chain others) = Plain
+vb_kind (vb_verb.Promote uuid) = Notes
+vb_kind vb_verb.Follow = Notes
+vb_kind vb_verb.Dead = Notes
+vb_kind vb_verb.Tick = Plain
+vb_kind vb_verb.Seal = Seals
+vb_kind vb_verb.Take = Takes
+vb_kind vb_verb.Save = Saves
+vb_kind vb_verb.Done = Counts
+vb_kind vb_verb.Stat = Plain
+vb_kind vb_verb.Log = Plain
+vb_kind vb_verb.Show = Plain
+
+-- how a line of a kind is answered, of the vBucket v of the node n
+abbrev pub KindAnswer : Chronicle → ℕ → ℕ → VbKind → List Event → Answer → Type 0
+KindAnswer chronicle n v Plain lines said = IsCarriedOut said
+KindAnswer chronicle n v Notes lines said = IsNotedAt chronicle n v said
+KindAnswer chronicle n v Seals lines said = IsSealed (chronicle.open_at n v) said
+KindAnswer chronicle n v Takes lines said = IsTaken n v lines said
+KindAnswer chronicle n v Saves lines said = IsNotedAt chronicle n v said × IsAppended (chronicle.disk_at n v) said
+KindAnswer chronicle n v Counts lines said = IsSaved (chronicle.disk_at n v) said
+
+-- a line of a script, after what was read, by the lines that its group has and by its answer; any may be refused. Each verb has a row of its own, here or in its kind
 abbrev pub LawfulAnswer : Chronicle → Verb → List Event → Answer → Type 0
 LawfulAnswer chronicle (verb.Node n) lines said = IsCarriedOut said
-LawfulAnswer chronicle (verb.VbActive n v uuid) lines said = IsNotedAt chronicle n v said
-LawfulAnswer chronicle (verb.VbReplica n v) lines said = IsNotedAt chronicle n v said
-LawfulAnswer chronicle (verb.Chain n v others) lines said = IsCarriedOut said
-LawfulAnswer chronicle (verb.Client n c) lines said = IsCarriedOut said
-LawfulAnswer chronicle (verb.Bytes n c bytes) lines said = IsCarriedOut said
-LawfulAnswer chronicle (verb.Hang n c) lines said = IsCarriedOut said
-LawfulAnswer chronicle (verb.Clock n nanos) lines said = IsCarriedOut said
 LawfulAnswer chronicle (verb.Link l m n v) lines said = IsCarriedOut said
-LawfulAnswer chronicle (verb.Up l wanted) lines said = IsMoved wanted said
-LawfulAnswer chronicle (verb.Down l wanted) lines said = IsTakenDown wanted (back_of chronicle l) (closed_of_dial chronicle (chronicle.dial_of l)) (arm_of_dial chronicle (chronicle.dial_of l)) lines said
-LawfulAnswer chronicle (verb.Pump l wanted) lines said = IsPumped wanted lines said
-LawfulAnswer chronicle (verb.Cut l) lines said = IsCarriedOut said
-LawfulAnswer chronicle (verb.Promote n v uuid) lines said = IsNotedAt chronicle n v said
-LawfulAnswer chronicle (verb.Follow n v) lines said = IsNotedAt chronicle n v said
-LawfulAnswer chronicle (verb.Dead n v) lines said = IsNotedAt chronicle n v said
-LawfulAnswer chronicle (verb.Seal n v) lines said = IsSealed (chronicle.open_at n v) said
-LawfulAnswer chronicle (verb.Take n v) lines said = IsTaken n v lines said
-LawfulAnswer chronicle (verb.Save n v) lines said = IsNotedAt chronicle n v said × IsAppended (chronicle.disk_at n v) said
-LawfulAnswer chronicle (verb.Done n v) lines said = IsSaved (chronicle.disk_at n v) said
-LawfulAnswer chronicle (verb.Tick n v) lines said = IsCarriedOut said
-LawfulAnswer chronicle (verb.Stat n v) lines said = IsCarriedOut said
-LawfulAnswer chronicle (verb.Log n v) lines said = IsCarriedOut said
-LawfulAnswer chronicle (verb.Show n v) lines said = IsCarriedOut said
-LawfulAnswer chronicle (verb.Stop n call out) lines said = IsCarriedOut said
-LawfulAnswer chronicle (verb.Fail n call) lines said = IsCarriedOut said
-LawfulAnswer chronicle (verb.Crash n out) lines said = IsCarriedOut said
-LawfulAnswer chronicle (verb.Start n uuids) lines said = IsStarted chronicle n uuids lines said
+LawfulAnswer chronicle (verb.AtNode n (node_verb.Clock nanos)) lines said = IsCarriedOut said
+LawfulAnswer chronicle (verb.AtNode n (node_verb.Stop call out)) lines said = IsCarriedOut said
+LawfulAnswer chronicle (verb.AtNode n (node_verb.Fail call)) lines said = IsCarriedOut said
+LawfulAnswer chronicle (verb.AtNode n (node_verb.Crash out)) lines said = IsCarriedOut said
+LawfulAnswer chronicle (verb.AtNode n (node_verb.Start uuids)) lines said = IsStarted chronicle n uuids lines said
+LawfulAnswer chronicle (verb.AtVb n v what) lines said = KindAnswer chronicle n v (vb_kind what) lines said
+LawfulAnswer chronicle (verb.AtClient n c what) lines said = IsCarriedOut said
+LawfulAnswer chronicle (verb.AtLink l (link_verb.Up wanted)) lines said = IsMoved wanted said
+LawfulAnswer chronicle (verb.AtLink l (link_verb.Down wanted)) lines said = IsTakenDown wanted (back_of chronicle l) (closed_of_dial chronicle (chronicle.dial_of l)) (arm_of_dial chronicle (chronicle.dial_of l)) lines said
+LawfulAnswer chronicle (verb.AtLink l (link_verb.Pump wanted)) lines said = IsPumped wanted lines said
+LawfulAnswer chronicle (verb.AtLink l link_verb.Cut) lines said = IsCarriedOut said

@@ -4,6 +4,7 @@ use Rattle.std.specs.List.{All}
 use Rattle.client_session.specs.Serving.{PlainSession}
 use Rattle.script_text.specs.declared.verb.Verb.{Verb}
 use Rattle.script_text.specs.declared.verb.Verb.TheVariants as verb
+use Rattle.script_text.specs.declared.verb.VbVerb.TheVariants as vb_verb
 use Rattle.vb_events.specs.declared.event.Answer.TheVariants as answer
 use Rattle.vb_events.specs.declared.event.Cause.{Cause}
 use Rattle.vb_types.specs.Images.{Picture}
@@ -82,7 +83,7 @@ IsToldAt n Own line = (w : PlainWorld) (number : ℕ) → AreOwnIf n (w.nodes n)
 
 -- a promotion that is answered `ok` is told as its branch, its role and what it lets the vBucket commit, another change of role as the role, and a log as its line; what the node's clients are told with a change of role comes behind it
 pub record TurnsAreTold (n v : ℕ) : Type 0 where
-  pub promote : (uuid : ℕ) → IsToldAt n (IsPromotion n v uuid) (verb.Promote n v uuid)
-  pub follow : IsToldAt n (IsTurn n v role.Replica) (verb.Follow n v)
-  pub dead : IsToldAt n (IsTurn n v role.Dead) (verb.Dead n v)
-  pub log : IsToldAs (IsLogged n v) (verb.Log n v)
+  pub promote : (uuid : ℕ) → IsToldAt n (IsPromotion n v uuid) (verb.AtVb n v (vb_verb.Promote uuid))
+  pub follow : IsToldAt n (IsTurn n v role.Replica) (verb.AtVb n v vb_verb.Follow)
+  pub dead : IsToldAt n (IsTurn n v role.Dead) (verb.AtVb n v vb_verb.Dead)
+  pub log : IsToldAs (IsLogged n v) (verb.AtVb n v vb_verb.Log)

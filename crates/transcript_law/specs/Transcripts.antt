@@ -11,6 +11,8 @@ use Rattle.mcbp_kv.specs.declared.opcodes.TheConstants.{SET}
 use Rattle.script_text.specs.declared.verb.ScriptLine.{ScriptLine}
 use Rattle.script_text.specs.declared.verb.Verb.{Verb}
 use Rattle.script_text.specs.declared.verb.Verb.TheVariants as verb
+use Rattle.script_text.specs.declared.verb.VbVerb.TheVariants as vb_verb
+use Rattle.script_text.specs.declared.verb.ClientVerb.TheVariants as client_verb
 use Rattle.vb_types.specs.Limits.{IsKey, IsValue}
 use Rattle.vb_types.specs.declared.change.Act.TheVariants as act
 use Rattle.vb_types.specs.declared.change.Change.{Change}
@@ -51,7 +53,7 @@ set_frame key value = record {
 
 -- the line of this number sets a key at the vBucket 0 of the node 0
 abbrev pub set_line : ℕ → List ℕ → List ℕ → ScriptLine
-set_line number key value = script_line number (verb.Bytes 0 1 (spelling (set_frame key value)))
+set_line number key value = script_line number (verb.AtClient 0 1 (client_verb.Bytes (spelling (set_frame key value))))
 
 -- a frame that sets a key is whole, and asks for that write
 abbrev pub SetLinesAsk : Type 0
@@ -93,8 +95,8 @@ value_told value = event.Document (7 ∷ []) (first_doc 1 value) ∷ []
 -- the key 7 is set on the branch 5 and shown
 abbrev pub one_set : List ScriptLine
 one_set =
-    script_line 1 (verb.Node 0) ∷ script_line 2 (verb.Client 0 1) ∷ script_line 3 (verb.VbActive 0 0 5)
-    ∷ set_line 4 (7 ∷ []) (8 ∷ []) ∷ script_line 5 (verb.Show 0 0) ∷ []
+    script_line 1 (verb.Node 0) ∷ script_line 2 (verb.AtClient 0 1 client_verb.Open) ∷ script_line 3 (verb.AtVb 0 0 (vb_verb.MakeActive 5))
+    ∷ set_line 4 (7 ∷ []) (8 ∷ []) ∷ script_line 5 (verb.AtVb 0 0 vb_verb.Show) ∷ []
 
 -- what is told of that script, but for the reply: its `shown` line counts so many documents and prepares, and has these lines behind it
 abbrev pub one_set_told : ℕ → ℕ → List Event → List Group
@@ -105,8 +107,8 @@ one_set_told docs preps lines =
 -- two active vBuckets of the node 0, the second on this branch
 abbrev pub two_vbs : ℕ → List ScriptLine → List ScriptLine
 two_vbs uuid more =
-    script_line 1 (verb.Node 0) ∷ script_line 2 (verb.Client 0 1) ∷ script_line 3 (verb.VbActive 0 0 5)
-    ∷ script_line 4 (verb.VbActive 0 1 uuid) ∷ more
+    script_line 1 (verb.Node 0) ∷ script_line 2 (verb.AtClient 0 1 client_verb.Open) ∷ script_line 3 (verb.AtVb 0 0 (vb_verb.MakeActive 5))
+    ∷ script_line 4 (verb.AtVb 0 1 (vb_verb.MakeActive uuid)) ∷ more
 
 -- what is told of them
 abbrev pub two_vbs_told : ℕ → List Group → List Group
@@ -115,7 +117,7 @@ two_vbs_told uuid more =
 
 -- the key 7 is set at the vBucket 0, which is then shown
 abbrev pub set_and_show : List ScriptLine
-set_and_show = set_line 5 (7 ∷ []) (8 ∷ []) ∷ script_line 6 (verb.Show 0 0) ∷ []
+set_and_show = set_line 5 (7 ∷ []) (8 ∷ []) ∷ script_line 6 (verb.AtVb 0 0 vb_verb.Show) ∷ []
 
 -- the line of the set tells these changes, and nothing is told of the show
 abbrev pub sets_told : List Event → List Group

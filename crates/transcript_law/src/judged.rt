@@ -12,6 +12,8 @@ ghost use Rattle.transcript_law.specs.LineAnswers.{LawfulAnswer};
 ghost use Rattle.transcript_law.specs.Transcripts.{one_change, one_set, one_set_told, change_told, shown_one, value_told, two_vbs, two_vbs_told, set_and_show, sets_told, both_on_one, forked_at, shown_after_change, shown_unchanged};
 ghost use Rattle.vb_types.specs.declared.change.Level.TheVariants as level;
 ghost use Rattle.script_text.specs.declared.verb.Verb.TheVariants as verb;
+ghost use Rattle.script_text.specs.declared.verb.VbVerb.TheVariants as vb_verb;
+ghost use Rattle.script_text.specs.declared.verb.LinkVerb.TheVariants as link_verb;
 ghost use Rattle.vb_events.specs.declared.event.Answer.TheVariants as answer;
 ghost use Rattle.vb_types.specs.declared.stream.AskAnswer.TheVariants as ask_answer;
 ghost use Rattle.vb_events.specs.declared.event.Cause.TheVariants as cause;
@@ -217,22 +219,22 @@ pub fn judged_batches()
 /// more does already, and is not on its way any more; the numbers that are shown are these, the last
 /// seqno, at least one cursor, the flusher's, and no more spans than changes.
 pub fn judged_saves()
-    ensures taken { LawfulAnswer after_both (verb.Take 1 0) (batch_told 2 2 2) (answer.Number 2) }
-    ensures taken_other { LawfulAnswer after_both (verb.Take 1 0) (batch_told 2 2 2) (answer.Number 1) → ⊥ }
-    ensures taken_elsewhere { LawfulAnswer after_both (verb.Take 2 0) (batch_told 2 2 2) (answer.Number 2) → ⊥ }
-    ensures none { LawfulAnswer after_both (verb.Take 1 0) [] (answer.Number 0) }
-    ensures untold { LawfulAnswer after_both (verb.Take 1 0) [] (answer.Number 2) → ⊥ }
-    ensures refused { LawfulAnswer after_both (verb.Take 1 0) [] (answer.No cause.BatchOut) }
-    ensures refused_told { LawfulAnswer after_both (verb.Take 1 0) (batch_told 2 2 2) (answer.No cause.BatchOut) → ⊥ }
-    ensures saved { LawfulAnswer (with_written after_both (taken 2 2) [] 0) (verb.Save 1 0) [] answer.Ok }
-    ensures untaken { LawfulAnswer after_both (verb.Save 1 0) [] answer.Ok → ⊥ }
-    ensures twice { LawfulAnswer (with_written after_both (Written 2) (within 2 2 ∷ []) 0) (verb.Save 1 0) [] answer.Ok → ⊥ }
-    ensures done { LawfulAnswer (with_written after_both (Written 2) (within 2 2 ∷ []) 0) (verb.Done 1 0) [] (answer.Number 2) }
-    ensures falls { LawfulAnswer (with_written after_both (Written 2) (within 2 2 ∷ []) 1) (verb.Done 1 0) [] (answer.Number 1) → ⊥ }
-    ensures less { LawfulAnswer (with_written after_both (Written 1) (within 2 1 ∷ []) 2) (verb.Done 1 0) [] (answer.Number 1) → ⊥ }
-    ensures early { LawfulAnswer (with_written after_both (taken 2 2) [] 0) (verb.Done 1 0) [] (answer.Number 2) → ⊥ }
-    ensures stands { (after_group (with_written after_both (taken 2 2) [] 0) (verb.Save 1 0) [] answer.Ok).disk_at 1 0 ≡ (with_written after_both (Written 2) (within 2 2 ∷ []) 0).disk_at 1 0 }
-    ensures counts { (after_group (with_written after_both (Written 2) (within 2 2 ∷ []) 0) (verb.Done 1 0) [] (answer.Number 2)).disk_at 1 0 ≡ (with_stood after_both (within 2 2 ∷ []) 2).disk_at 1 0 }
+    ensures taken { LawfulAnswer after_both (verb.AtVb 1 0 vb_verb.Take) (batch_told 2 2 2) (answer.Number 2) }
+    ensures taken_other { LawfulAnswer after_both (verb.AtVb 1 0 vb_verb.Take) (batch_told 2 2 2) (answer.Number 1) → ⊥ }
+    ensures taken_elsewhere { LawfulAnswer after_both (verb.AtVb 2 0 vb_verb.Take) (batch_told 2 2 2) (answer.Number 2) → ⊥ }
+    ensures none { LawfulAnswer after_both (verb.AtVb 1 0 vb_verb.Take) [] (answer.Number 0) }
+    ensures untold { LawfulAnswer after_both (verb.AtVb 1 0 vb_verb.Take) [] (answer.Number 2) → ⊥ }
+    ensures refused { LawfulAnswer after_both (verb.AtVb 1 0 vb_verb.Take) [] (answer.No cause.BatchOut) }
+    ensures refused_told { LawfulAnswer after_both (verb.AtVb 1 0 vb_verb.Take) (batch_told 2 2 2) (answer.No cause.BatchOut) → ⊥ }
+    ensures saved { LawfulAnswer (with_written after_both (taken 2 2) [] 0) (verb.AtVb 1 0 vb_verb.Save) [] answer.Ok }
+    ensures untaken { LawfulAnswer after_both (verb.AtVb 1 0 vb_verb.Save) [] answer.Ok → ⊥ }
+    ensures twice { LawfulAnswer (with_written after_both (Written 2) (within 2 2 ∷ []) 0) (verb.AtVb 1 0 vb_verb.Save) [] answer.Ok → ⊥ }
+    ensures done { LawfulAnswer (with_written after_both (Written 2) (within 2 2 ∷ []) 0) (verb.AtVb 1 0 vb_verb.Done) [] (answer.Number 2) }
+    ensures falls { LawfulAnswer (with_written after_both (Written 2) (within 2 2 ∷ []) 1) (verb.AtVb 1 0 vb_verb.Done) [] (answer.Number 1) → ⊥ }
+    ensures less { LawfulAnswer (with_written after_both (Written 1) (within 2 1 ∷ []) 2) (verb.AtVb 1 0 vb_verb.Done) [] (answer.Number 1) → ⊥ }
+    ensures early { LawfulAnswer (with_written after_both (taken 2 2) [] 0) (verb.AtVb 1 0 vb_verb.Done) [] (answer.Number 2) → ⊥ }
+    ensures stands { (after_group (with_written after_both (taken 2 2) [] 0) (verb.AtVb 1 0 vb_verb.Save) [] answer.Ok).disk_at 1 0 ≡ (with_written after_both (Written 2) (within 2 2 ∷ []) 0).disk_at 1 0 }
+    ensures counts { (after_group (with_written after_both (Written 2) (within 2 2 ∷ []) 0) (verb.AtVb 1 0 vb_verb.Done) [] (answer.Number 2)).disk_at 1 0 ≡ (with_stood after_both (within 2 2 ∷ []) 2).disk_at 1 0 }
     ensures numbers { LawfulFrom (with_stood after_both (within 2 2 ∷ []) 2) (stat_told 1 2 2) }
     ensures more_saved { LawfulFrom (with_stood after_both (within 2 2 ∷ []) 1) (stat_told 1 2 2) → ⊥ }
     ensures other_last { LawfulFrom (with_stood after_both (within 2 2 ∷ []) 2) (stat_told 1 2 3) → ⊥ }
@@ -358,17 +360,17 @@ pub fn judged_acknowledgements()
 /// that has a producer put frames is answered by as many as its group tells of, and by `all` exactly
 /// where these are as many as were asked for. A line that counts nothing is answered by no number.
 pub fn judged_answers()
-    ensures moved { LawfulAnswer empty_chronicle (verb.Up 1 10) [] (answer.Number 10) }
-    ensures beyond { LawfulAnswer empty_chronicle (verb.Up 1 10) [] (answer.Number 11) → ⊥ }
-    ensures beyond_down { LawfulAnswer empty_chronicle (verb.Down 1 10) [] (answer.Number 11) → ⊥ }
-    ensures uncounted { LawfulAnswer empty_chronicle (verb.Up 1 10) [] answer.Ok → ⊥ }
-    ensures pumped { LawfulAnswer empty_chronicle (verb.Pump 1 9) both_told (answer.Pulled 3 why.Idle) }
-    ensures all { LawfulAnswer empty_chronicle (verb.Pump 1 3) both_told (answer.Pulled 3 why.All) }
-    ensures fewer { LawfulAnswer empty_chronicle (verb.Pump 1 9) both_told (answer.Pulled 2 why.Idle) → ⊥ }
-    ensures not_all { LawfulAnswer empty_chronicle (verb.Pump 1 9) both_told (answer.Pulled 3 why.All) → ⊥ }
-    ensures not_idle { LawfulAnswer empty_chronicle (verb.Pump 1 3) both_told (answer.Pulled 3 why.Idle) → ⊥ }
-    ensures excess { LawfulAnswer empty_chronicle (verb.Pump 1 2) both_told (answer.Pulled 3 why.All) → ⊥ }
-    ensures counted { LawfulAnswer empty_chronicle (verb.Promote 0 0 7) [] (answer.Number 0) → ⊥ }
+    ensures moved { LawfulAnswer empty_chronicle (verb.AtLink 1 (link_verb.Up 10)) [] (answer.Number 10) }
+    ensures beyond { LawfulAnswer empty_chronicle (verb.AtLink 1 (link_verb.Up 10)) [] (answer.Number 11) → ⊥ }
+    ensures beyond_down { LawfulAnswer empty_chronicle (verb.AtLink 1 (link_verb.Down 10)) [] (answer.Number 11) → ⊥ }
+    ensures uncounted { LawfulAnswer empty_chronicle (verb.AtLink 1 (link_verb.Up 10)) [] answer.Ok → ⊥ }
+    ensures pumped { LawfulAnswer empty_chronicle (verb.AtLink 1 (link_verb.Pump 9)) both_told (answer.Pulled 3 why.Idle) }
+    ensures all { LawfulAnswer empty_chronicle (verb.AtLink 1 (link_verb.Pump 3)) both_told (answer.Pulled 3 why.All) }
+    ensures fewer { LawfulAnswer empty_chronicle (verb.AtLink 1 (link_verb.Pump 9)) both_told (answer.Pulled 2 why.Idle) → ⊥ }
+    ensures not_all { LawfulAnswer empty_chronicle (verb.AtLink 1 (link_verb.Pump 9)) both_told (answer.Pulled 3 why.All) → ⊥ }
+    ensures not_idle { LawfulAnswer empty_chronicle (verb.AtLink 1 (link_verb.Pump 3)) both_told (answer.Pulled 3 why.Idle) → ⊥ }
+    ensures excess { LawfulAnswer empty_chronicle (verb.AtLink 1 (link_verb.Pump 2)) both_told (answer.Pulled 3 why.All) → ⊥ }
+    ensures counted { LawfulAnswer empty_chronicle (verb.AtVb 0 0 (vb_verb.Promote 7)) [] (answer.Number 0) → ⊥ }
 {}
 
 /// A dead vBucket is promoted, and its group has its branch and its role; or that is refused, for a
@@ -388,12 +390,12 @@ pub fn judged_seals()
     ensures not_once { Lawful set_and_sealed (sealed_told 0 0) → ⊥ }
     ensures not_twice { Lawful set_and_sealed (sealed_told 1 1) → ⊥ }
     ensures more { Lawful set_and_sealed (sealed_told 2 0) → ⊥ }
-    ensures role { LawfulAnswer after_dead_changed (verb.Seal 0 0) [] (answer.Number 0) }
-    ensures not_role { LawfulAnswer after_dead_changed (verb.Seal 0 0) [] (answer.Number 1) → ⊥ }
-    ensures marker { LawfulAnswer (after_lines (sent_told both_told) (range_told 0 0 2)) (verb.Seal 1 0) [] (answer.Number 0) }
-    ensures taken { LawfulAnswer after_both (verb.Seal 1 0) [] (answer.Number 1) }
-    ensures not_taken { LawfulAnswer after_both (verb.Seal 1 0) [] (answer.Number 0) → ⊥ }
-    ensures back { LawfulAnswer (after_lines after_both (rolled_told 1 0)) (verb.Seal 1 0) [] (answer.Number 0) }
+    ensures role { LawfulAnswer after_dead_changed (verb.AtVb 0 0 vb_verb.Seal) [] (answer.Number 0) }
+    ensures not_role { LawfulAnswer after_dead_changed (verb.AtVb 0 0 vb_verb.Seal) [] (answer.Number 1) → ⊥ }
+    ensures marker { LawfulAnswer (after_lines (sent_told both_told) (range_told 0 0 2)) (verb.AtVb 1 0 vb_verb.Seal) [] (answer.Number 0) }
+    ensures taken { LawfulAnswer after_both (verb.AtVb 1 0 vb_verb.Seal) [] (answer.Number 1) }
+    ensures not_taken { LawfulAnswer after_both (verb.AtVb 1 0 vb_verb.Seal) [] (answer.Number 0) → ⊥ }
+    ensures back { LawfulAnswer (after_lines after_both (rolled_told 1 0)) (verb.AtVb 1 0 vb_verb.Seal) [] (answer.Number 0) }
 {}
 
 /// A replica without its branch's one change follows the branch inside a snapshot of that change, and

@@ -17,6 +17,7 @@ mod kinds;
 mod lawful;
 mod steps;
 mod streams;
+mod untold;
 
 pub use alone::{judged_single_changes, judged_single_links, judged_single_streams};
 pub use bound::{judged_closed_links, judged_down_lines};
@@ -37,3 +38,4 @@ pub use kinds::{judged_firing_lines, judged_journal_lines, judged_kinds};
 pub use lawful::{groups_are_lawful, lines_are_known, set_lines_ask};
 pub use steps::plain_lines;
 pub use streams::streams_are_links;
+pub use untold::{judged_mishaps, judged_next_markers, judged_refusals};

@@ -1,12 +1,12 @@
 use Rattle.std.proofs.Common.{ℕ, List, ◌++◌, ◌∙◌, ap, sym, subst}
-use Rattle.node_world.specs.declared.link.LinkLine.TheVariants as ask
+use Rattle.script_text.specs.declared.verb.LinkVerb.TheVariants as link_verb
 use Rattle.node_world.specs.declared.script_node.ScriptNode.{ScriptNode}
 use Rattle.node_world.specs.Ends.{FeedsPeer}
 use Rattle.node_world.proofs.LinkSteps.{unmade_producer, up_line}
 use Rattle.node_world.proofs.link_lines.up.Goals as goal
 
 pub returns-in_default : goal.returns-in_default
-returns-in_default c = unmade_producer (ask.Up c.args.wanted) c.args.nodes.now c.args.link.now c.on.result.told c.on.result.over (sym c.node_place.ensures ∙ c.in_default.is)
+returns-in_default c = unmade_producer (link_verb.Up c.args.wanted) c.args.nodes.now c.args.link.now c.on.result.told c.on.result.over (sym c.node_place.ensures ∙ c.in_default.is)
 
 pub returns : goal.returns
 returns c =

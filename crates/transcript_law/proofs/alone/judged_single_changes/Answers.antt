@@ -1,4 +1,4 @@
-use Rattle.transcript_law.proofs.AloneRows.{branch, commits, unprepared, document, removal, history, waiting}
+use Rattle.transcript_law.proofs.rows.AloneRows.{branch, commits, unprepared, document, removal, history, waiting}
 use Rattle.transcript_law.proofs.alone.judged_single_changes.Goals as goal
 
 pub returns : goal.returns

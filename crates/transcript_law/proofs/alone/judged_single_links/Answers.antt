@@ -1,4 +1,4 @@
-use Rattle.transcript_law.proofs.AloneRows.{asked, asked_elsewhere, back, back_node, back_vb, range, range_anywhere, range_node, range_vb, range_below, range_unended, range_short, got_node, got_vb, got_held, got_value, dead, active, counted, counted_node, counted_vb}
+use Rattle.transcript_law.proofs.rows.AloneRows.{asked, asked_elsewhere, back, back_node, back_vb, range, range_anywhere, range_node, range_vb, range_below, range_unended, range_short, got_node, got_vb, got_held, got_value, dead, active, counted, counted_node, counted_vb}
 use Rattle.transcript_law.proofs.alone.judged_single_links.Goals as goal
 
 pub returns : goal.returns

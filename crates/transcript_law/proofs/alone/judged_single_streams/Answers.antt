@@ -1,4 +1,4 @@
-use Rattle.transcript_law.proofs.AloneRows.{item, item_behind, item_unbegun, item_act, ungranted, missing, more}
+use Rattle.transcript_law.proofs.rows.AloneRows.{item, item_behind, item_unbegun, item_act, ungranted, missing, more}
 use Rattle.transcript_law.proofs.alone.judged_single_streams.Goals as goal
 
 pub returns : goal.returns

@@ -1,20 +1,21 @@
 use Rattle.std.specs.Prelude.{◌≡◌}
 use Rattle.transcript_law.proofs.Words.{refl, Answer, Cause, empty_chronicle}
-use Rattle.transcript_law.proofs.BoundRows.{refused_for}
+use Rattle.transcript_law.proofs.rows.BoundRows.{refused_for}
 use Rattle.transcript_law.specs.BoundRows.{one_dialed, one_over}
 use Rattle.script_text.specs.declared.verb.Verb.TheVariants as verb
+use Rattle.script_text.specs.declared.verb.LinkVerb.TheVariants as link_verb
 use Rattle.transcript_law.proofs.bound.judged_closed_links.Goals as goal
 
 pub returns : goal.returns
 returns c = record {
-  up = λ wanted. refused_for one_over (verb.Up 1 wanted) Cause.LinkClosed refl refl;
-  down = λ wanted. refused_for one_over (verb.Down 1 wanted) Cause.LinkClosed refl refl;
-  pump = λ wanted. refused_for one_over (verb.Pump 1 wanted) Cause.LinkClosed refl refl;
-  cut = refused_for one_over (verb.Cut 1) Cause.LinkClosed refl refl;
-  up_undialed = λ l wanted. refused_for empty_chronicle (verb.Up l wanted) Cause.LinkClosed refl refl;
-  down_undialed = λ l wanted. refused_for empty_chronicle (verb.Down l wanted) Cause.LinkClosed refl refl;
-  pump_undialed = λ l wanted. refused_for empty_chronicle (verb.Pump l wanted) Cause.LinkClosed refl refl;
-  cut_undialed = λ l. refused_for empty_chronicle (verb.Cut l) Cause.LinkClosed refl refl;
+  up = λ wanted. refused_for one_over (verb.AtLink 1 (link_verb.Up wanted)) Cause.LinkClosed refl refl;
+  down = λ wanted. refused_for one_over (verb.AtLink 1 (link_verb.Down wanted)) Cause.LinkClosed refl refl;
+  pump = λ wanted. refused_for one_over (verb.AtLink 1 (link_verb.Pump wanted)) Cause.LinkClosed refl refl;
+  cut = refused_for one_over (verb.AtLink 1 link_verb.Cut) Cause.LinkClosed refl refl;
+  up_undialed = λ l wanted. refused_for empty_chronicle (verb.AtLink l (link_verb.Up wanted)) Cause.LinkClosed refl refl;
+  down_undialed = λ l wanted. refused_for empty_chronicle (verb.AtLink l (link_verb.Down wanted)) Cause.LinkClosed refl refl;
+  pump_undialed = λ l wanted. refused_for empty_chronicle (verb.AtLink l (link_verb.Pump wanted)) Cause.LinkClosed refl refl;
+  cut_undialed = λ l. refused_for empty_chronicle (verb.AtLink l link_verb.Cut) Cause.LinkClosed refl refl;
   cuts = (((((record { producer = 0; node = 1; vb = 0 }), refl), tt), tt, refl, refl, λ w no standing. let e : Answer.Ok ≡ Answer.No w = no in cc), tt);
-  other = λ wanted. refused_for one_dialed (verb.Up 2 wanted) Cause.LinkClosed refl refl;
+  other = λ wanted. refused_for one_dialed (verb.AtLink 2 (link_verb.Up wanted)) Cause.LinkClosed refl refl;
 }

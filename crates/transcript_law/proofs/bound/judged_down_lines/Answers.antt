@@ -1,34 +1,37 @@
 use Rattle.transcript_law.proofs.Words.{refl, Cause}
-use Rattle.transcript_law.proofs.BoundRows.{refused_for, refused_for_one}
+use Rattle.transcript_law.proofs.rows.BoundRows.{refused_for, refused_for_one}
 use Rattle.transcript_law.specs.BoundRows.{zero_down}
 use Rattle.script_text.specs.declared.verb.Verb.TheVariants as verb
+use Rattle.script_text.specs.declared.verb.VbVerb.TheVariants as vb_verb
+use Rattle.script_text.specs.declared.verb.NodeVerb.TheVariants as node_verb
+use Rattle.script_text.specs.declared.verb.ClientVerb.TheVariants as client_verb
 use Rattle.transcript_law.proofs.bound.judged_down_lines.Goals as goal
 
 pub returns : goal.returns
 returns c = record {
   made = refused_for zero_down (verb.Node 0) Cause.NodeExists refl refl;
-  vb_active = λ v uuid. refused_for zero_down (verb.VbActive 0 v uuid) Cause.NodeDown refl refl;
-  vb_replica = λ v. refused_for zero_down (verb.VbReplica 0 v) Cause.NodeDown refl refl;
-  chain = λ v others. refused_for zero_down (verb.Chain 0 v others) Cause.NodeDown refl refl;
-  client = λ k. refused_for zero_down (verb.Client 0 k) Cause.NodeDown refl refl;
-  bytes = λ k sent. refused_for zero_down (verb.Bytes 0 k sent) Cause.NodeDown refl refl;
-  hang = λ k. refused_for zero_down (verb.Hang 0 k) Cause.NodeDown refl refl;
-  clock = λ nanos. refused_for zero_down (verb.Clock 0 nanos) Cause.NodeDown refl refl;
-  promote = λ v uuid. refused_for zero_down (verb.Promote 0 v uuid) Cause.NodeDown refl refl;
-  follow = λ v. refused_for zero_down (verb.Follow 0 v) Cause.NodeDown refl refl;
-  dead = λ v. refused_for zero_down (verb.Dead 0 v) Cause.NodeDown refl refl;
-  seal = λ v. refused_for zero_down (verb.Seal 0 v) Cause.NodeDown refl refl;
-  take = λ v. refused_for zero_down (verb.Take 0 v) Cause.NodeDown refl refl;
-  save = λ v. refused_for zero_down (verb.Save 0 v) Cause.NodeDown refl refl;
-  done = λ v. refused_for zero_down (verb.Done 0 v) Cause.NodeDown refl refl;
-  tick = λ v. refused_for zero_down (verb.Tick 0 v) Cause.NodeDown refl refl;
-  stat = λ v. refused_for zero_down (verb.Stat 0 v) Cause.NodeDown refl refl;
-  log = λ v. refused_for zero_down (verb.Log 0 v) Cause.NodeDown refl refl;
-  show = λ v. refused_for zero_down (verb.Show 0 v) Cause.NodeDown refl refl;
-  crash = λ out. refused_for zero_down (verb.Crash 0 out) Cause.NodeDown refl refl;
+  vb_active = λ v uuid. refused_for zero_down (verb.AtVb 0 v (vb_verb.MakeActive uuid)) Cause.NodeDown refl refl;
+  vb_replica = λ v. refused_for zero_down (verb.AtVb 0 v vb_verb.MakeReplica) Cause.NodeDown refl refl;
+  chain = λ v others. refused_for zero_down (verb.AtVb 0 v (vb_verb.Chain others)) Cause.NodeDown refl refl;
+  client = λ k. refused_for zero_down (verb.AtClient 0 k client_verb.Open) Cause.NodeDown refl refl;
+  bytes = λ k sent. refused_for zero_down (verb.AtClient 0 k (client_verb.Bytes sent)) Cause.NodeDown refl refl;
+  hang = λ k. refused_for zero_down (verb.AtClient 0 k client_verb.Hang) Cause.NodeDown refl refl;
+  clock = λ nanos. refused_for zero_down (verb.AtNode 0 (node_verb.Clock nanos)) Cause.NodeDown refl refl;
+  promote = λ v uuid. refused_for zero_down (verb.AtVb 0 v (vb_verb.Promote uuid)) Cause.NodeDown refl refl;
+  follow = λ v. refused_for zero_down (verb.AtVb 0 v vb_verb.Follow) Cause.NodeDown refl refl;
+  dead = λ v. refused_for zero_down (verb.AtVb 0 v vb_verb.Dead) Cause.NodeDown refl refl;
+  seal = λ v. refused_for zero_down (verb.AtVb 0 v vb_verb.Seal) Cause.NodeDown refl refl;
+  take = λ v. refused_for zero_down (verb.AtVb 0 v vb_verb.Take) Cause.NodeDown refl refl;
+  save = λ v. refused_for zero_down (verb.AtVb 0 v vb_verb.Save) Cause.NodeDown refl refl;
+  done = λ v. refused_for zero_down (verb.AtVb 0 v vb_verb.Done) Cause.NodeDown refl refl;
+  tick = λ v. refused_for zero_down (verb.AtVb 0 v vb_verb.Tick) Cause.NodeDown refl refl;
+  stat = λ v. refused_for zero_down (verb.AtVb 0 v vb_verb.Stat) Cause.NodeDown refl refl;
+  log = λ v. refused_for zero_down (verb.AtVb 0 v vb_verb.Log) Cause.NodeDown refl refl;
+  show = λ v. refused_for zero_down (verb.AtVb 0 v vb_verb.Show) Cause.NodeDown refl refl;
+  crash = λ out. refused_for zero_down (verb.AtNode 0 (node_verb.Crash out)) Cause.NodeDown refl refl;
   producer = λ l v. refused_for_one zero_down (verb.Link l 0 1 v) Cause.NodeDown Cause.UnknownNode refl refl refl;
   consumer = λ l v. refused_for_one zero_down (verb.Link l 1 0 v) Cause.NodeDown Cause.UnknownNode refl refl refl;
-  start = λ uuids. refused_for_one zero_down (verb.Start 1 uuids) Cause.NodeUp Cause.UnknownNode refl refl refl;
+  start = λ uuids. refused_for_one zero_down (verb.AtNode 1 (node_verb.Start uuids)) Cause.NodeUp Cause.UnknownNode refl refl refl;
   stops = λ call out. ((tt, tt, refl, refl, λ w no standing. refl), tt);
   fails = λ call. ((tt, tt, refl, refl, λ w no standing. refl), tt);
   other = ((tt, tt, refl, refl, λ w no standing. refl), tt);

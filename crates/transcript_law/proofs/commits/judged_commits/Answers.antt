@@ -1,7 +1,7 @@
 use Rattle.std.specs.Prelude.{◌≡◌, ◌≤◌, ◌∷◌}
 use Rattle.transcript_law.proofs.Words.{ℕ, [], length, ap, sym, ◌∙◌, refl, inl, inr, ⊎_elim, arith}
 use Rattle.transcript_law.specs.Chronicles.{CountsTold}
-use Rattle.transcript_law.proofs.CommitRows.{again_held, again_lawful, anew_held, anew_lawful, started_held, may, must, one_at_least, two_at_least}
+use Rattle.transcript_law.proofs.rows.CommitRows.{again_held, again_lawful, anew_held, anew_lawful, started_held, may, must, one_at_least, two_at_least}
 use Rattle.vb_types.specs.declared.change.Level.TheVariants.{Majority, MajorityPersistActive, PersistMajority}
 use Rattle.transcript_law.proofs.commits.judged_commits.Goals as goal
 

@@ -1,4 +1,4 @@
-use Rattle.transcript_law.proofs.CrashRows.{passed, passed_failed, passed_stopped, fails, fails_ok, stops, stops_ok, fails_stopped, stops_failed, unarmed_failed, unarmed_stopped, other_failed, other_stopped, elsewhere, counted, counted_ok, once, twice, stopped_once, stopped_twice, gone, survives, stop_survives}
+use Rattle.transcript_law.proofs.rows.CrashRows.{passed, passed_failed, passed_stopped, fails, fails_ok, stops, stops_ok, fails_stopped, stops_failed, unarmed_failed, unarmed_stopped, other_failed, other_stopped, elsewhere, counted, counted_ok, once, twice, stopped_once, stopped_twice, gone, survives, stop_survives}
 use Rattle.transcript_law.proofs.crashes.judged_arms.Goals as goal
 
 pub returns : goal.returns

@@ -1,4 +1,4 @@
-use Rattle.transcript_law.proofs.CrashRows.{old, old_shown, new, new_lost, old_stat, old_counted, new_stat, new_uncounted, early, early_shown, filled, filled_otherwise, unwritten, unwritten_shown, taken_shown, written, written_lost, saved, saved_forgotten, undone, undone_forgotten, taken_lost, taken_survives, written_survives, own_log, log_lost, cut_log, cut_log_back}
+use Rattle.transcript_law.proofs.rows.CrashRows.{old, old_shown, new, new_lost, old_stat, old_counted, new_stat, new_uncounted, early, early_shown, filled, filled_otherwise, unwritten, unwritten_shown, taken_shown, written, written_lost, saved, saved_forgotten, undone, undone_forgotten, taken_lost, taken_survives, written_survives, own_log, log_lost, cut_log, cut_log_back}
 use Rattle.transcript_law.proofs.crashes.judged_crashes.Goals as goal
 
 pub returns : goal.returns

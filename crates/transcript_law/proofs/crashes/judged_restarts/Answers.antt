@@ -1,4 +1,4 @@
-use Rattle.transcript_law.proofs.CrashRows.{branched, no_branch, other_branch, short, short_active, old_branch_shown, dead, dead_replica, dead_active, unnoted, unnoted_dead, unnoted_silent, found, found_active, on_new, on_old, commits, commits_on_old, commits_early, commits_other, unmade, unmade_shown, late, late_shown}
+use Rattle.transcript_law.proofs.rows.CrashRows.{branched, no_branch, other_branch, short, short_active, old_branch_shown, dead, dead_replica, dead_active, unnoted, unnoted_dead, unnoted_silent, found, found_active, on_new, on_old, commits, commits_on_old, commits_early, commits_other, unmade, unmade_shown, late, late_shown}
 use Rattle.transcript_law.proofs.crashes.judged_restarts.Goals as goal
 
 pub returns : goal.returns

@@ -1,4 +1,4 @@
-use Rattle.transcript_law.proofs.DownRows.{shown_down, shows, unknown, tells, promotes, makes, opens, dials, crashes_twice, made_twice, started_up, starts_up, starts_twice, crashes_again, starts_down, stays_down, short_tells, enough, nonzero, short_again, next_item, of_producer, of_consumer, closed, pumps, takes}
+use Rattle.transcript_law.proofs.rows.DownRows.{shown_down, shows, unknown, tells, promotes, makes, opens, dials, crashes_twice, made_twice, started_up, starts_up, starts_twice, crashes_again, starts_down, stays_down, short_tells, enough, nonzero, short_again, next_item, of_producer, of_consumer, closed, pumps, takes}
 use Rattle.transcript_law.proofs.downs.judged_downs.Goals as goal
 
 pub returns : goal.returns

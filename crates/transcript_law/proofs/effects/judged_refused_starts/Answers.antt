@@ -1,4 +1,4 @@
-use Rattle.transcript_law.proofs.EffectRows.{adopts, adopts_node, adopts_vb, closed, failed, stopped, used, zero_id}
+use Rattle.transcript_law.proofs.rows.EffectRows.{adopts, adopts_node, adopts_vb, closed, failed, stopped, used, zero_id}
 use Rattle.transcript_law.proofs.effects.judged_refused_starts.Goals as goal
 
 pub returns : goal.returns

@@ -1,4 +1,4 @@
-use Rattle.transcript_law.proofs.FiredRows.{own, other_own, another, both, again, in_bytes, in_up, in_seal, in_save}
+use Rattle.transcript_law.proofs.rows.FiredRows.{own, other_own, another, both, again, in_bytes, in_up, in_seal, in_save}
 use Rattle.transcript_law.proofs.firings.judged_backs.Goals as goal
 
 pub returns : goal.returns

@@ -1,4 +1,4 @@
-use Rattle.transcript_law.proofs.FiredRows.{once, twice, untold, unfired, fired_ok, stopped, stopped_twice, stopped_untold, stopped_ok, seals, seal_failed, seal_disk, seal_stopped, here, there, opened, opened_untold, started, started_fired, opened_ok, last_failed, last_ok, started_far, last_stopped, last_stopped_ok, stopped_far, short, short_unopened, back_failed, back_elsewhere}
+use Rattle.transcript_law.proofs.rows.FiredRows.{once, twice, untold, unfired, fired_ok, stopped, stopped_twice, stopped_untold, stopped_ok, seals, seal_failed, seal_disk, seal_stopped, here, there, opened, opened_untold, started, started_fired, opened_ok, last_failed, last_ok, started_far, last_stopped, last_stopped_ok, stopped_far, short, short_unopened, back_failed, back_elsewhere}
 use Rattle.transcript_law.proofs.firings.judged_firings.Goals as goal
 
 pub returns : goal.returns

@@ -1,11 +1,11 @@
 use Rattle.std.specs.Prelude.{◌≡◌, ◌<◌, ◌≤◌, ◌∷◌}
 use Rattle.durability.specs.Laws.{HasOne}
 use Rattle.transcript_law.proofs.Words.{Bool, true, false, ℕ, List, [], inl, refl, ap, sym, ◌∙◌, subst, ⊎_elim, arith, Option, Some, None, Granted, Role, is_follower, stream_branch}
-use Rattle.transcript_law.proofs.{Acknowledging.{acked_is_lawful}, Contrary.{below_waits, no_third, none_waits, third, third_waits}, Waiting.{pends_above}}
+use Rattle.transcript_law.proofs.{links.Acknowledging.{acked_is_lawful}, rows.Contrary.{below_waits, no_third, none_waits, third, third_waits}, invariant.Waiting.{pends_above}}
 use Rattle.transcript_law.specs.{Chronicles.{Dial}, Contrary.{inside_got, second_held, third_held, third_saved}, Followers.{after_both}}
 use Rattle.branch_model.proofs.Lists.{last_in}
 use Rattle.branch_model.specs.Snapshots.{Follows}
-use Rattle.transcript_law.proofs.{Followers.{changes, key_as, one_of}, Words.{Change, hist, image_of, next_change, one_change}}
+use Rattle.transcript_law.proofs.{rows.Followers.{changes, key_as, one_of}, Words.{Change, hist, image_of, next_change, one_change}}
 use Rattle.transcript_law.specs.Contrary.{first_lost, prepared_at}
 use Rattle.transcript_law.proofs.judged.judged_acknowledgements.Goals as goal
 use Rattle.vb_types.specs.Histories.{Slot, touches}

@@ -1,6 +1,6 @@
 use Rattle.std.specs.Prelude.{◌≤◌}
 use Rattle.transcript_law.proofs.Words.{arith}
-use Rattle.transcript_law.proofs.PumpAnswers.{pumped_right, pumped_all, pumped_fewer, pumped_not_all, pumped_not_idle, pumped_excess}
+use Rattle.transcript_law.proofs.links.PumpAnswers.{pumped_right, pumped_all, pumped_fewer, pumped_not_all, pumped_not_idle, pumped_excess}
 use Rattle.transcript_law.proofs.judged.judged_answers.Goals as goal
 
 pub returns : goal.returns

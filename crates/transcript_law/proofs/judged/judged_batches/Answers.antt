@@ -1,4 +1,4 @@
-use Rattle.transcript_law.proofs.JournalRows.{both, first, beyond, no_changes, more, behind, again, rest, rest_more, batch_twice, in_front, undone}
+use Rattle.transcript_law.proofs.rows.JournalRows.{both, first, beyond, no_changes, more, behind, again, rest, rest_more, batch_twice, in_front, undone}
 use Rattle.transcript_law.proofs.judged.judged_batches.Goals as goal
 
 pub returns : goal.returns

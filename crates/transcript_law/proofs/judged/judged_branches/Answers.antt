@@ -1,5 +1,5 @@
-use Rattle.transcript_law.proofs.Transcripts.{own, writer, maker, follower, above_fork, at_fork, same, history, dead, dead_other, log_active, log_history, log_shown, active, leaves, leaves_inside, not_inside, other_fork, other_high, other_parent, parentless}
-use Rattle.transcript_law.proofs.Contrary.{later, on_new, left_behind}
+use Rattle.transcript_law.proofs.rows.Transcripts.{own, writer, maker, follower, above_fork, at_fork, same, history, dead, dead_other, log_active, log_history, log_shown, active, leaves, leaves_inside, not_inside, other_fork, other_high, other_parent, parentless}
+use Rattle.transcript_law.proofs.rows.Contrary.{later, on_new, left_behind}
 use Rattle.transcript_law.proofs.judged.judged_branches.Goals as goal
 
 pub returns : goal.returns

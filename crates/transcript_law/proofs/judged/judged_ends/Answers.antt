@@ -1,5 +1,5 @@
-use Rattle.transcript_law.proofs.TakenRows.{ends_otherwise}
-use Rattle.transcript_law.proofs.Rollbacks.{ends, cut_short, behind_end, ends_twice, link_ends, link_ends_twice, over_link, marked_anew}
+use Rattle.transcript_law.proofs.rows.TakenRows.{ends_otherwise}
+use Rattle.transcript_law.proofs.rows.Rollbacks.{ends, cut_short, behind_end, ends_twice, link_ends, link_ends_twice, over_link, marked_anew}
 use Rattle.transcript_law.proofs.judged.judged_ends.Goals as goal
 
 pub returns : goal.returns

@@ -1,5 +1,5 @@
-use Rattle.transcript_law.proofs.Rollbacks.{partly, lacking, untold, left, two, above, unlogged, stranger}
-use Rattle.transcript_law.proofs.FollowerRows.{own_client, strange_client, unbounded_follows, uncommitted, waits}
+use Rattle.transcript_law.proofs.rows.Rollbacks.{partly, lacking, untold, left, two, above, unlogged, stranger}
+use Rattle.transcript_law.proofs.rows.FollowerRows.{own_client, strange_client, unbounded_follows, uncommitted, waits}
 use Rattle.transcript_law.proofs.judged.judged_followers.Goals as goal
 
 pub returns : goal.returns

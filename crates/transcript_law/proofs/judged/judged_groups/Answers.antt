@@ -1,6 +1,6 @@
 use Rattle.std.specs.Prelude.{◌≡◌}
 use Rattle.transcript_law.proofs.Words.{ℕ, [], refl, arith, after_dead}
-use Rattle.transcript_law.proofs.Groups.{whole}
+use Rattle.transcript_law.proofs.rows.Groups.{whole}
 use Rattle.transcript_law.specs.Contrary.{promotes_dead, promoted_told, risen_told}
 use Rattle.transcript_law.proofs.judged.judged_groups.Goals as goal
 use Rattle.vb_events.specs.declared.event.Answer.TheVariants as answer

@@ -1,4 +1,4 @@
-use Rattle.transcript_law.proofs.Contrary.{asked_otherwise, kept_log, cut_log, unmade_log, dead_again, follower_changes, follower_active, promoted_dead}
+use Rattle.transcript_law.proofs.rows.Contrary.{asked_otherwise, kept_log, cut_log, unmade_log, dead_again, follower_changes, follower_active, promoted_dead}
 use Rattle.transcript_law.proofs.judged.judged_known.Goals as goal
 
 pub returns : goal.returns

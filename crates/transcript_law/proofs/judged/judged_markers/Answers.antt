@@ -1,5 +1,5 @@
-use Rattle.transcript_law.proofs.TakenRows.{from_disk}
-use Rattle.transcript_law.proofs.Followers.{whole, parts, inside, start, later_start, short, beyond, unput, elsewhere}
+use Rattle.transcript_law.proofs.rows.TakenRows.{from_disk}
+use Rattle.transcript_law.proofs.rows.Followers.{whole, parts, inside, start, later_start, short, beyond, unput, elsewhere}
 use Rattle.transcript_law.proofs.judged.judged_markers.Goals as goal
 
 pub returns : goal.returns

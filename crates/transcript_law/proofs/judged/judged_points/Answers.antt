@@ -1,5 +1,5 @@
 use Rattle.transcript_law.proofs.Words.{refl}
-use Rattle.transcript_law.proofs.JournalRows.{point, point_below, inside, not_inside, greatest, point_above, point_saved, of_branch, not_of_branch}
+use Rattle.transcript_law.proofs.rows.JournalRows.{point, point_below, inside, not_inside, greatest, point_above, point_saved, of_branch, not_of_branch}
 use Rattle.transcript_law.proofs.judged.judged_points.Goals as goal
 
 pub returns : goal.returns

@@ -1,4 +1,4 @@
-use Rattle.transcript_law.proofs.Followers.{continues, dead_continues, dead_refuses, dead_rolls, rolls, stranger, rolls_stranger}
+use Rattle.transcript_law.proofs.rows.Followers.{continues, dead_continues, dead_refuses, dead_rolls, rolls, stranger, rolls_stranger}
 use Rattle.transcript_law.proofs.judged.judged_prefixes.Goals as goal
 
 pub returns : goal.returns

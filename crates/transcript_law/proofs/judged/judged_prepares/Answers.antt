@@ -1,4 +1,4 @@
-use Rattle.transcript_law.proofs.Contrary.{prepare_right, prepare_missing, prepare_moved, prepare_other}
+use Rattle.transcript_law.proofs.rows.Contrary.{prepare_right, prepare_missing, prepare_moved, prepare_other}
 use Rattle.transcript_law.proofs.judged.judged_prepares.Goals as goal
 
 pub returns : goal.returns

@@ -1,4 +1,4 @@
-use Rattle.transcript_law.proofs.Followers.{adopts, adopted, stranger_takes, ended, again, right, more, missing, another, onward, onward_none}
+use Rattle.transcript_law.proofs.rows.Followers.{adopts, adopted, stranger_takes, ended, again, right, more, missing, another, onward, onward_none}
 use Rattle.transcript_law.proofs.judged.judged_replicas.Goals as goal
 
 pub returns : goal.returns

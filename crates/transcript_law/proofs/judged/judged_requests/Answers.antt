@@ -1,4 +1,4 @@
-use Rattle.transcript_law.proofs.Followers.{asks, log, high, unknown, ahead, back, nameless, other, late}
+use Rattle.transcript_law.proofs.rows.Followers.{asks, log, high, unknown, ahead, back, nameless, other, late}
 use Rattle.transcript_law.proofs.judged.judged_requests.Goals as goal
 
 pub returns : goal.returns

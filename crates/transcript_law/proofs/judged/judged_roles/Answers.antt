@@ -1,4 +1,4 @@
-use Rattle.transcript_law.proofs.Rollbacks.{own_log, other_log, same_role, resting, other_role, unmade, any_log, any_role, any_change, any_shown}
+use Rattle.transcript_law.proofs.rows.Rollbacks.{own_log, other_log, same_role, resting, other_role, unmade, any_log, any_role, any_change, any_shown}
 use Rattle.transcript_law.proofs.judged.judged_roles.Goals as goal
 
 pub returns : goal.returns

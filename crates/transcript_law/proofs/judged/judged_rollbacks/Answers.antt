@@ -1,4 +1,4 @@
-use Rattle.transcript_law.proofs.Rollbacks.{back, elsewhere, unnamed, unasked, twice_back, back_anew}
+use Rattle.transcript_law.proofs.rows.Rollbacks.{back, elsewhere, unnamed, unasked, twice_back, back_anew}
 use Rattle.transcript_law.proofs.judged.judged_rollbacks.Goals as goal
 
 pub returns : goal.returns

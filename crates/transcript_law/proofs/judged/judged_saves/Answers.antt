@@ -1,7 +1,7 @@
 use Rattle.std.specs.Prelude.{◌≡◌}
 use Rattle.transcript_law.proofs.Words.{ℕ, refl, sym, arith}
-use Rattle.transcript_law.proofs.JournalRows.{taken_other, taken_elsewhere, some_told, falls, less, untaken, twice, early, empty_span}
-use Rattle.transcript_law.proofs.PumpAnswers.{two_numbers}
+use Rattle.transcript_law.proofs.rows.JournalRows.{taken_other, taken_elsewhere, some_told, falls, less, untaken, twice, early, empty_span}
+use Rattle.transcript_law.proofs.links.PumpAnswers.{two_numbers}
 use Rattle.transcript_law.proofs.judged.judged_saves.Goals as goal
 
 pub returns : goal.returns

@@ -1,6 +1,6 @@
 use Rattle.transcript_law.proofs.Words.{refl, sym, arith}
-use Rattle.transcript_law.proofs.Contrary.{seals_twice}
-use Rattle.transcript_law.proofs.PumpAnswers.{two_numbers}
+use Rattle.transcript_law.proofs.rows.Contrary.{seals_twice}
+use Rattle.transcript_law.proofs.links.PumpAnswers.{two_numbers}
 use Rattle.transcript_law.proofs.judged.judged_seals.Goals as goal
 
 pub returns : goal.returns

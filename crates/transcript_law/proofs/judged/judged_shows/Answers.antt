@@ -1,4 +1,4 @@
-use Rattle.transcript_law.proofs.Rollbacks.{right, dead, none_newest, other_newest, own_newest, risen, risen_inside, shown_otherwise, other_seqno, other_snapshot, other_value, none_shown, other_count}
+use Rattle.transcript_law.proofs.rows.Rollbacks.{right, dead, none_newest, other_newest, own_newest, risen, risen_inside, shown_otherwise, other_seqno, other_snapshot, other_value, none_shown, other_count}
 use Rattle.transcript_law.proofs.judged.judged_shows.Goals as goal
 
 pub returns : goal.returns

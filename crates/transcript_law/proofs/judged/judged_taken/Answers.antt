@@ -1,4 +1,4 @@
-use Rattle.transcript_law.proofs.TakenRows.{range, high, low, beyond, stranger, got, other_link, other_change, skipped, unput, early, again, range_unadopted, got_unadopted}
+use Rattle.transcript_law.proofs.rows.TakenRows.{range, high, low, beyond, stranger, got, other_link, other_change, skipped, unput, early, again, range_unadopted, got_unadopted}
 use Rattle.transcript_law.proofs.judged.judged_taken.Goals as goal
 
 pub returns : goal.returns

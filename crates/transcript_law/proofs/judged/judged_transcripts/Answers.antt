@@ -1,4 +1,4 @@
-use Rattle.transcript_law.proofs.Transcripts.{right, value, missing, more, prepares, branch, seqno}
+use Rattle.transcript_law.proofs.rows.Transcripts.{right, value, missing, more, prepares, branch, seqno}
 use Rattle.transcript_law.proofs.judged.judged_transcripts.Goals as goal
 
 pub returns : goal.returns

@@ -1,6 +1,6 @@
 use Rattle.transcript_law.proofs.Words.{two_followed, one_set}
 use Rattle.transcript_law.proofs.Laws.{scripts_are_lawful}
-use Rattle.transcript_law.proofs.Fitted.{one_fits, followed_fits}
+use Rattle.transcript_law.proofs.rows.Fitted.{one_fits, followed_fits}
 use Rattle.transcript_law.proofs.lawful.groups_are_lawful.Goals as goal
 
 pub returns : goal.returns

@@ -1,5 +1,5 @@
-use Rattle.transcript_law.proofs.Contrary.{role_known, log_known, branch_known, back_known}
-use Rattle.transcript_law.proofs.Known.{script_known, line_known}
+use Rattle.transcript_law.proofs.rows.Contrary.{role_known, log_known, branch_known, back_known}
+use Rattle.transcript_law.proofs.invariant.Known.{script_known, line_known}
 use Rattle.transcript_law.proofs.lawful.lines_are_known.Goals as goal
 
 pub returns : goal.returns

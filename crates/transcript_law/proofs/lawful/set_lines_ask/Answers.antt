@@ -1,4 +1,4 @@
-use Rattle.transcript_law.proofs.Fitted.{sets_ask}
+use Rattle.transcript_law.proofs.rows.Fitted.{sets_ask}
 use Rattle.transcript_law.proofs.lawful.set_lines_ask.Goals as goal
 
 pub returns : goal.returns

@@ -1,4 +1,4 @@
-use Rattle.transcript_law.proofs.Linked.{streams_linked}
+use Rattle.transcript_law.proofs.invariant.Linked.{streams_linked}
 use Rattle.transcript_law.proofs.streams.streams_are_links.Goals as goal
 
 pub returns : goal.returns

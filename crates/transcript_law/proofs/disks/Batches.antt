@@ -1,0 +1,72 @@
+-- the changes of a batch, where the last batch ended that lines tell of, and a vBucket of which more counts as saved
+use Rattle.std.specs.Prelude.{◌≡◌, ◌<◌, ◌≤◌, ◌∷◌}
+use Rattle.transcript_law.proofs.Words.{ℕ, Bool, true, false, List, [], length, refl, ap, sym, ◌∙◌, subst, arith, inl, inr, ⊎_elim, Some, Plain, Span, Sound, Position, Change, last_seq, IsIn, Rises, cond, ltb-true, map, filter, rises_in, Own, Received}
+use Rattle.transcript_law.proofs.{disks.Disks.{bare}, invariant.Wholes.{IsSpanIn}}
+use Rattle.branch_model.specs.Journals.{batches, end_of, points}
+use Rattle.std.specs.List.{find}
+use Rattle.std.specs.Prelude.{nat_le, nat_lt}
+use Rattle.transcript_law.specs.Lawfulness.{stood_end}
+use Rattle.vb_calls.specs.Spans.{span_position}
+use Rattle.vb_calls.specs.declared.span.Origin.{Origin}
+use Rattle.vb_types.specs.declared.journal.{Batch.{Batch}, Record.{Record}}
+use Rattle.vb_types.specs.declared.journal.Record.TheVariants as noted
+
+-- of lists of changes that rise, one whose seqnos are all in the other is no longer
+pub fewer : (a b m d : ℕ) (xs ys : List Change) → Rises a b xs → Rises m d ys → ((x : Change) → IsIn x xs → (y : Change) × IsIn y ys × (x.seq ≡ y.seq)) → length xs ≤ length ys
+fewer a b m d [] ys rx ry sub = omega arith
+fewer a b m d (x ∷ xs) [] rx ry sub = absurd (sub x (inl refl)).1
+fewer a b m d (x ∷ xs) (y ∷ ys) rx ry sub = ⊎_elim
+    (λ e.
+    let same : x.seq ≡ y.seq = (sub x (inl refl)).2 ∙ ap (λ (z : Change). z.seq) e in
+    let rest : length xs ≤ length ys = fewer x.seq b y.seq d xs ys rx.1 ry.1 (λ t i. let p = sub t (inr i) in let up : x.seq < t.seq = (rises_in x.seq b xs t rx.1 i).0 in
+    ⊎_elim (λ q. let z : t.seq ≡ y.seq = p.2 ∙ ap (λ (z : Change). z.seq) q in absurd (omega arith)) (λ q. (p.0, q, p.2)) p.1) in omega arith)
+    (λ i.
+    let up : y.seq < (sub x (inl refl)).0.seq = (rises_in y.seq d ys (sub x (inl refl)).0 ry.1 i).0 in let level : x.seq ≡ (sub x (inl refl)).0.seq = (sub x (inl refl)).2 in
+    let rest : length (x ∷ xs) ≤ length ys = fewer a b y.seq d (x ∷ xs) ys rx ry.1 (λ t j. let p = sub t j in
+    let low : x.seq ≤ t.seq = ⊎_elim (λ (q : t ≡ x). let z : t.seq ≡ x.seq = ap (λ (z : Change). z.seq) q in omega arith) (λ q. let z : x.seq < t.seq = (rises_in x.seq b xs t rx.1 q).0 in omega arith) j in
+    ⊎_elim (λ q. let z : t.seq ≡ y.seq = p.2 ∙ ap (λ (z : Change). z.seq) q in absurd (omega arith)) (λ q. (p.0, q, p.2)) p.1) in omega arith)
+    (sub x (inl refl)).1
+
+-- a snapshot has changes
+pub some_items : (from end : ℕ) (xs : List Change) → from < end → last_seq from xs ≡ end → 0 < length xs
+some_items from end [] l e = let z : from ≡ end = e in absurd (omega arith)
+some_items from end (x ∷ xs) l e = omega arith
+
+-- where the last batch ends that the lines tell of
+
+pub stood_is : (bs : List Batch) → stood_end (map (λ (b : Batch). b.position) bs) ≡ end_of bs
+stood_is [] = refl
+stood_is (b ∷ bs) = refl
+
+cut_points : (to : ℕ) (bs : List Batch) → map (λ (b : Batch). b.position) (filter (λ b. nat_le b.position.at to) bs) ≡ filter (λ (p : Position). nat_le p.at to) (map (λ (b : Batch). b.position) bs)
+cut_points to [] = refl
+cut_points to (b ∷ bs) = by (nat_le b.position.at to) (cut_points to bs)
+  where
+    by : (t : Bool) → map (λ (b : Batch). b.position) (filter (λ b. nat_le b.position.at to) bs) ≡ filter (λ (p : Position). nat_le p.at to) (map (λ (b : Batch). b.position) bs)
+        → map (λ (b : Batch). b.position) (cond t (b ∷ filter (λ b. nat_le b.position.at to) bs) (filter (λ b. nat_le b.position.at to) bs))
+        ≡ cond t (b.position ∷ filter (λ (p : Position). nat_le p.at to) (map (λ (b : Batch). b.position) bs)) (filter (λ (p : Position). nat_le p.at to) (map (λ (b : Batch). b.position) bs))
+    by true e = ap (λ ps. b.position ∷ ps) e
+    by false e = e
+
+pub bare_points : (js : List Record) → points (map bare js) ≡ points js
+bare_points [] = refl
+bare_points (noted.State role log ∷ older) = bare_points older
+bare_points (noted.Rows b ∷ older) = ap (λ ps. b.position ∷ ps) (bare_points older)
+bare_points (noted.Roll to ∷ older) = cut_points to (batches (map bare older)) ∙ ap (filter (λ (p : Position). nat_le p.at to)) (bare_points older) ∙ sym (cut_points to (batches older))
+
+pub at_end : (o : Origin) (n : ℕ) → (span_position o n).at ≡ n
+at_end Own n = refl
+at_end (Received ss se) n = refl
+
+-- the span that is found, and that it goes on there
+pub span_found : (n : ℕ) (ws : List Span) (x : Span) → find (λ (y : Span). nat_lt n y.last) ws ≡ Some x → IsSpanIn x ws × (n < x.last)
+span_found n [] x e = cc
+span_found n (y ∷ ys) x e = by (nat_lt n y.last) refl e (span_found n ys x)
+  where
+    by : (b : Bool) → nat_lt n y.last ≡ b → cond b (Some y) (find (λ (z : Span). nat_lt n z.last) ys) ≡ Some x → (find (λ (z : Span). nat_lt n z.last) ys ≡ Some x → IsSpanIn x ys × (n < x.last)) → IsSpanIn x (y ∷ ys) × (n < x.last)
+    by true t q rest = let s : y ≡ x = cc in (inl (sym s), subst (λ (z : Span). n < z.last) s (ltb-true n y.last t))
+    by false t q rest = let p = rest q in (inr p.0, p.1)
+
+-- a vBucket of which more counts as saved is sound as it was
+pub saved_sound : (vb : Plain) (saved : ℕ) → Sound vb → vb.floor ≤ saved → Sound (record vb { saved = saved })
+saved_sound vb saved s l = record { spanned = s.spanned; placed = s.placed; stamped = s.stamped; based = s.based; saved = l; counted = s.counted }

@@ -1,0 +1,449 @@
+-- what is read of the lines agrees with the plain world, and both with a cluster in which what happened may happen
+use Rattle.std.specs.Prelude.{◌≡◌, ◌<◌, ◌≤◌, ◌∷◌, ◌++◌, ◌⊎◌, ◌^◌, ◌&&◌, ◌==◌, if◌then◌else◌}
+use Rattle.transcript_law.proofs.Words.{ℕ, zero, suc, Bool, true, false, List, [], length, map, drop, take, Option, Some, None, not, nat_le, is_some, All, concat, filter, flat_map}
+use Rattle.transcript_law.proofs.Words.{Frame, RESPONSE, spelling, Readable, DcpMsg, dcp_frame, Change, AskAnswer, Position, LogEntry, StreamAsk, last_seq, request_of, fork_of, Covers, Branch, hist, branch, IsNew, Feed}
+use Rattle.transcript_law.proofs.Words.{Member, Cluster, SoundCluster, flight_from, flight_end, Stream, Plain, is_active, is_follower, stream_at, Handshake, PlainStream, stream_told, act_message, STATE_CHANGED}
+use Rattle.transcript_law.proofs.Words.{open_request, sync_request, name_request, PlainLink, link_number, producer_node, consumer_node, PlainWorld, Outcome, is_one_of, with_branches, ItemTold, Begun, Granted}
+use Rattle.transcript_law.proofs.{Words.{Chronicle, after_lines, item_told, LawfulFrom, PlainProducer, PlainConsumer, uuid_of, front, Dial}, invariant.Seats.{seat}, invariant.Trees.{AreTold, IdsFit}}
+use Rattle.{dcp_consumer.specs.declared.handshake.Dialed.{Dialed}, dcp_consumer.specs.declared.handshake.Handshake.{Handshake as Waiting}, dcp_producer.specs.declared.desk.Desk.{Desk}}
+use Rattle.vb_events.specs.declared.event.StreamName.TheVariants.{Link}
+use Rattle.{branch_model.specs.Journals.{log_of, place_of}, cluster_model.specs.Clusters.{Disk}, disk_journals.specs.Books.{Book, listed}, durability.specs.Laws.{HasOne}, vb_calls.specs.Shelves.{Shelf}}
+use Rattle.{transcript_law.specs.Chronicles.{ArmTold, DiskTold, no_arm, resting}, vb_disk.specs.declared.fuse.Fuse.{Fuse}, vb_types.specs.declared.role.Role.{Role}}
+use Rattle.vb_disk.specs.declared.fuse.Fuse.TheVariants.{Off, Stop, Fail}
+use Rattle.mcbp_dcp.specs.declared.message.DcpMsg.TheVariants as msg
+use Rattle.vb_types.specs.declared.stream.AskAnswer.TheVariants as ask_answer
+use Rattle.dcp_producer.specs.declared.desk.Handshake.TheVariants as shaken
+use Rattle.dcp_producer.specs.declared.desk.Named.TheVariants as named_as
+use Rattle.dcp_consumer.specs.declared.handshake.Handshake.TheVariants as waiting
+pub use Rattle.transcript_law.proofs.disks.Disks.{DiskIsIf, Power, book_in, power_of, shelf_of}
+pub use Rattle.transcript_law.proofs.invariant.Holdings.{vb_of, DocFits, ActFits, ChangeFits, MemberIs, BranchIs, IsWriter, IsWriterIf, Writes, WritesIf, EntryFits, own_history, VbContents, vb_contents, VbRow, vb_row, Keeps, VbTold, VbHeld, VbHolds, VbIs, VbAgrees, CountsAre, CountsIf, no_counts, active_counts, counts_if, IsAway, VbIsIf, AgreesAt, all_rise, image_is}
+
+-- the frames that a consumer writes, in order: those of dialing, and its last request for a stream, with the opaque o
+abbrev pub request_frames : ℕ → ℕ → ℕ → StreamAsk → List Frame
+request_frames o node vb ask =
+    dcp_frame (open_request node) 1 0 ∷ dcp_frame sync_request 2 0 ∷ dcp_frame (name_request node) 3 0 ∷ dcp_frame (msg.StreamRequest ask) o vb ∷ []
+
+-- the answers to the first three of them, which are never refused
+abbrev pub first_answers : List Frame
+first_answers = dcp_frame (msg.OpenAnswer 0) 1 0 ∷ dcp_frame (msg.ControlAnswer 0) 2 0 ∷ dcp_frame (msg.ControlAnswer 0) 3 0 ∷ []
+
+-- the frame of the answer to a request for a stream
+abbrev pub answer_frame : ℕ → List LogEntry → AskAnswer → Frame
+answer_frame o log said = dcp_frame (msg.StreamAnswer (stream_told log said)) o 0
+
+-- the frame of a change of a stream; the opaque o and the vBucket are the stream's
+abbrev pub change_frames : ℕ → ℕ → Option DcpMsg → List Frame
+change_frames o vb None = []
+change_frames o vb (Some m) = dcp_frame m o vb ∷ []
+
+-- the frames of changes
+abbrev pub items_frames : ℕ → ℕ → List Change → List Frame
+items_frames o vb xs = flat_map (λ c. change_frames o vb (act_message c c.act)) xs
+
+-- the frame of a stream's end, where that was put
+abbrev pub end_frames : ℕ → ℕ → Bool → List Frame
+end_frames o vb false = []
+end_frames o vb true = dcp_frame (msg.StreamEnd STATE_CHANGED) o vb ∷ []
+
+-- the frames of whole snapshots, the first of which starts there, and each other one where the one before it ended, and of the stream's end
+abbrev pub flight_frames : ℕ → ℕ → Bool → ℕ → List (ℕ × List Change) → List Frame
+flight_frames o vb over start [] = end_frames o vb over
+flight_frames o vb over start (x ∷ more) = dcp_frame (msg.SnapshotMarker start x.0 1) o vb ∷ items_frames o vb x.1 ++ flight_frames o vb over x.0 more
+
+-- what is to come of the snapshot that the consumer is in
+abbrev pub coming_items : Option (List Change) → List Change
+coming_items None = []
+coming_items (Some xs) = xs
+
+-- the changes of snapshots that are on their way
+abbrev pub flight_items : List (ℕ × List Change) → List Change
+flight_items [] = []
+flight_items (x ∷ more) = x.1 ++ flight_items more
+
+-- the starts and ends of the markers of snapshots on their way, the first of which starts there, and each other one where the one before it ended
+abbrev pub flight_marks : ℕ → List (ℕ × List Change) → List (ℕ × ℕ)
+flight_marks start [] = []
+flight_marks start (x ∷ more) = (start, x.0) ∷ flight_marks x.0 more
+
+-- these are the items of the last snapshot on its way, if there is one
+abbrev pub LastIs : List Change → List (ℕ × List Change) → Type 0
+LastIs items [] = Unit {0}
+LastIs items (x ∷ []) = x.1 ≡ items
+LastIs items (x ∷ y ∷ more) = LastIs items (y ∷ more)
+
+-- of the changes that are to come for a consumer the lines tell those of which the items were put; what was not put is of the last snapshot
+pub record ComingIs (told : List ItemTold) (stream : PlainStream) (flight : List (ℕ × List Change)) (coming : Option (List Change)) : Type 0 where
+  pub all : map item_told (coming_items coming ++ flight_items flight) ≡ told ++ map item_told (drop stream.next stream.items)
+  pub last : LastIs stream.items flight
+
+-- the start of the next marker for a consumer: before it took one, the one that its position means, and then the end of its snapshot
+abbrev pub marker_start : Bool → Position → ℕ
+marker_start true p = p.se
+marker_start false p = fork_of p
+
+-- all frames of a stream that its consumer has not taken yet
+abbrev pub stream_frames : ℕ → ℕ → Bool → Bool → Position → Option (List Change) → List (ℕ × List Change) → List Frame
+stream_frames o vb over in_one p coming flight = items_frames o vb (coming_items coming) ++ flight_frames o vb over (marker_start in_one p) flight
+
+-- the last snapshot that a stream's lines tell of is the one that its producer took last, of which so many items were put
+abbrev pub BegunIs : Option Begun → PlainStream → Type 0
+BegunIs None stream = stream.items ≡ []
+BegunIs (Some b) stream = Covers stream.items b.history b.from b.end × (b.items ≡ map item_told (take stream.next stream.items))
+
+-- a stream that no change of role ended is open at its producer's vBucket, which is active on the stream's branch u
+pub record OpenAt (link_id : ℕ) (ask : StreamAsk) (place : ℕ) (begun : Bool) (pv : Option Plain) (leader : Member) (u : ℕ) : Type 0 where
+  pub producer : Plain
+  pub producer_is : pv ≡ Some producer
+  pub active : is_active producer.role ≡ true
+  pub leads : leader.br ≡ u
+  pub opened : (s : Stream) × (stream_at link_id producer.streams ≡ Some s) × (s.ask ≡ ask) × (s.sync ≡ true) × (s.place ≡ place) × (s.taken ≡ begun)
+
+abbrev pub Open : ℕ → Granted → Option Plain → Member → Feed → Type 0
+Open link_id g pv leader feed = OpenAt link_id g.ask g.place (is_some g.last) pv leader feed.u
+
+-- a stream of the vBucket vb as its producer keeps it: it is the one that the lines tell, and of the branch that its consumer's member is fed with
+pub record PutIs (o vb : ℕ) (log : List LogEntry) (begun : Option Begun) (stream : PlainStream) (u : ℕ) (fed : List LogEntry) : Type 0 where
+  pub vb_is : stream.vb ≡ vb
+  pub opaque_is : stream.opaque ≡ o
+  pub fits : All ChangeFits stream.items
+  pub next_in : stream.next ≤ length stream.items
+  pub last : BegunIs begun stream
+  pub log_told : log ≡ fed
+  pub front_is : uuid_of (front log) ≡ u
+
+-- the snapshots on their way, and the one that the consumer is in, if it is in one: where they end, and the markers that the lines tell of them
+pub record WayIs (place : ℕ) (told : List (ℕ × ℕ)) (begun : Bool) (flight : List (ℕ × List Change)) (kn : Member) (in_one : Bool) : Type 0 where
+  pub place_is : place ≡ flight_end (flight_from kn kn.coming) flight
+  pub marks : told ≡ flight_marks (marker_start in_one kn.position) flight
+  pub in_one_last : in_one ≡ true → last_seq kn.position.at (coming_items kn.coming) ≡ kn.position.se
+  pub taken_one : in_one ≡ true → begun ≡ true
+  pub none_left : begun ≡ false → flight ≡ []
+  pub not_in_one : in_one ≡ false → coming_items kn.coming ≡ []
+  pub in_flight : in_one ≡ false → flight ≡ [] → begun ≡ false
+
+-- a stream that was let continue: what the lines tell of it, what its producer keeps of it, and what its consumer has of it
+pub record StreamIs (o vb link_id : ℕ) (g : Granted) (stream : PlainStream) (pv : Option Plain) (leader : Member) (feed : Feed) (kn : Member) (in_one : Bool) : Type 0 where
+  pub put : PutIs o vb g.log g.last stream feed.u feed.log
+  pub open put use *
+  pub opens : stream.ended ≡ false → Open link_id g pv leader feed
+  pub over_ended : g.over ≡ true → stream.ended ≡ true
+  pub coming : ComingIs g.coming stream feed.flight kn.coming
+  pub way : WayIs g.place g.marks (is_some g.last) feed.flight kn in_one
+  pub open way use *
+
+-- the frames on their way to an end of a link: those that it is about to take, and behind them those whose bytes it has heard or are to come
+pub record QueueIs (heard moving : List ℕ) (busy all : List Frame) : Type 0 where
+  pub behind : List Frame
+  pub joined : all ≡ busy ++ behind
+  pub bytes : heard ++ moving ≡ concat (map spelling behind)
+  pub readable : All Readable all
+
+-- to its producer, and to its consumer
+abbrev pub UpIs : PlainLink → List Frame → List Frame → Type 0
+UpIs link busy all = QueueIs link.up_heard link.up busy all
+
+abbrev pub DownIs : PlainLink → List Frame → List Frame → Type 0
+DownIs link busy all = QueueIs link.down_heard link.down busy all
+
+-- what is set at a producer that has answered so many of the requests of its consumer at this node
+abbrev pub set_after : ℕ → ℕ → Handshake
+set_after node zero = shaken.Fresh
+set_after node (suc zero) = shaken.Open false named_as.Nobody
+set_after node (suc (suc zero)) = shaken.Open true named_as.Nobody
+set_after node (suc (suc (suc answered))) = shaken.Open true (named_as.Member node)
+
+-- what a consumer waits for that has taken so many of the answers: those to the first three requests, and to its last request for a stream
+abbrev pub waits_after : ℕ → Waiting
+waits_after zero = waiting.Opening
+waits_after (suc zero) = waiting.SyncWrites
+waits_after (suc (suc zero)) = waiting.Naming
+waits_after (suc (suc (suc zero))) = waiting.Asking
+waits_after (suc (suc (suc (suc seen)))) = waiting.Streaming
+
+-- the producer has answered so many of the requests of the consumer at this node
+abbrev pub ServerIs : PlainProducer → ℕ → ℕ → Type 0
+ServerIs end node answered = end.handshake ≡ set_after node answered
+
+-- the consumer has taken so many of the answers; a later request for a stream than the first comes behind all answers so far
+pub record ConsumerIs (end : PlainConsumer) (seen : ℕ) : Type 0 where
+  pub waits : end.handshake ≡ waits_after seen
+  pub first : seen ≤ 2 → end.asked ≡ 4
+  pub later : 4 ≤ end.asked
+  pub small : end.asked < 2 ^ 32
+
+-- what a consumer's vBucket asks by, and whether its next marker is the first one of a stream
+pub record Wants : Type 0 where
+  pub log : List LogEntry
+  pub position : Position
+  pub first : Bool
+
+abbrev pub wants_of : Plain → Wants
+wants_of vb = record { log = vb.log; position = vb.position; first = vb.first }
+
+-- Before the request for a stream is answered: `seen` answers were taken, `answered` were given. It is still what the consumer's vBucket asks for.
+pub record AskingAt (fv : Wants) (ask : StreamAsk) (set : Handshake) (asker : PlainConsumer) (up down : List Frame) : Type 0 where
+  pub answered : ℕ
+  pub seen : ℕ
+  pub some_left : answered ≤ 3
+  pub not_more : seen ≤ answered
+  pub server : set ≡ set_after asker.dialed.node answered
+  pub consumer : ConsumerIs asker seen
+  pub asks : ask ≡ request_of fv.log fv.position
+  pub asked_is : up ≡ drop answered (request_frames asker.asked asker.dialed.node asker.dialed.vb ask)
+  pub said_is : down ≡ drop seen (take answered first_answers)
+
+pub record Asking (fv : Wants) (ask : StreamAsk) (served : PlainProducer) (asker : PlainConsumer) (up down : List Frame) : Type 0 where
+  pub no_stream : served.stream ≡ None
+  pub asking : AskingAt fv ask served.handshake asker up down
+  pub open asking use *
+
+-- an answer that grants nothing
+abbrev pub IsRefused : AskAnswer → Type 0
+IsRefused ask_answer.Go = ⊥
+IsRefused (ask_answer.Roll to) = to < 2 ^ 64
+IsRefused (ask_answer.Refuse code) = (code ≡ 0 → ⊥) × (code ≡ 0x23 → ⊥) × (code < 2 ^ 16)
+
+-- the point that the lines tell of such an answer
+abbrev pub PointIs : AskAnswer → Option ℕ → Type 0
+PointIs ask_answer.Go point = ⊥
+PointIs (ask_answer.Roll to) point = point ≡ Some to
+PointIs (ask_answer.Refuse code) point = Unit {0}
+
+-- after it was refused or sent back, until the consumer takes that answer
+pub record RefusedAt (point : Option ℕ) (set : Handshake) (asker : PlainConsumer) (up down : List Frame) : Type 0 where
+  pub said : AskAnswer
+  pub refused : IsRefused said
+  pub told : PointIs said point
+  pub seen : ℕ
+  pub not_more : seen ≤ 3
+  pub server : set ≡ set_after asker.dialed.node 4
+  pub consumer : ConsumerIs asker seen
+  pub asked_is : up ≡ []
+  pub said_is : down ≡ drop seen first_answers ++ answer_frame asker.asked [] said ∷ []
+
+pub record RefusedYet (point : Option ℕ) (served : PlainProducer) (asker : PlainConsumer) (up down : List Frame) : Type 0 where
+  pub no_stream : served.stream ≡ None
+  pub refusal : RefusedAt point served.handshake asker up down
+  pub open refusal use *
+
+-- the stream that the producer keeps, until its end was put
+abbrev pub kept_stream : Bool → PlainStream → Option PlainStream
+kept_stream false stream = Some stream
+kept_stream true stream = None
+
+-- an acknowledgement of a stream with the opaque o, of the vBucket vb, on its way to the producer: of a number of which the lines told before
+abbrev pub IsAcknowledgement : List ℕ → ℕ → ℕ → Frame → Type 0
+IsAcknowledgement wrote o vb f = (seq : ℕ) × (f ≡ dcp_frame (msg.SeqnoAcknowledged seq) o vb) × (seq < 2 ^ 64) × HasOne seq wrote
+
+-- the answer to an acknowledgement that was refused, which its consumer drops
+abbrev pub is_refused_ack : Frame → Bool
+is_refused_ack f = f.magic == RESPONSE && f.opcode == 0x61
+
+-- the frames but for these
+abbrev pub spoken : List Frame → List Frame
+spoken frames = filter (λ f. not (is_refused_ack f)) frames
+
+-- the producer's end of a granted stream, which has answered all requests but acknowledgements; and the frames of items that it is to put
+pub record Serving (served : PlainProducer) (o vb node : ℕ) (over : Bool) (wrote : List ℕ) (up : List Frame) : Type 0 where
+  pub stream : PlainStream
+  pub stream_is : served.stream ≡ kept_stream over stream
+  pub apart : served.desk.node ≡ node → ⊥
+  pub server : ServerIs served node 4
+  pub acks : All (IsAcknowledgement wrote o vb) up
+  pub unput : List Frame
+  pub unput_is : unput ≡ items_frames o vb (drop stream.next stream.items)
+  pub all_put : over ≡ true → unput ≡ []
+
+-- its consumer's end: until it takes the answer that granted it, its vBucket asks for the same
+pub record Taking (fv : Wants) (coming : Option (List Change)) (asker : PlainConsumer) (ask : StreamAsk) (seen : ℕ) : Type 0 where
+  pub not_more : seen ≤ 4
+  pub consumer : ConsumerIs asker seen
+  pub adopted : is_some coming ≡ nat_le 4 seen
+  pub asks : (nat_le 4 seen && not fv.first) ≡ false → (ask.start ≡ fv.position.at) × (ask.ss ≡ fv.position.ss) × (ask.se ≡ fv.position.se)
+
+-- a failover log that goes with an answer
+pub record LogFits (log : List LogEntry) : Type 0 where
+  pub short : length log ≤ 25
+  pub entries : All EntryFits log
+
+-- after it was granted: first its answer comes, then its snapshots, and last its end; the frames that the consumer has not taken were put, or are to be put
+pub record Streaming (fv : Wants) (kn : Member) (pv : Option Plain) (leader : Member) (g : Option Granted) (served : PlainProducer) (asker : PlainConsumer) (up put : List Frame) : Type 0 where
+  pub granted_is : Granted
+  pub told : g ≡ Some granted_is
+  pub serving : Serving served asker.asked asker.dialed.vb asker.dialed.node granted_is.over granted_is.wrote up
+  pub open serving use *
+  pub feed : Feed
+  pub fed : kn.link ≡ Some feed
+  pub log_fits : LogFits feed.log
+  pub open log_fits use *
+  pub seen : ℕ
+  pub taking : Taking fv kn.coming asker granted_is.ask seen
+  pub open taking use *
+  pub streams : StreamIs asker.asked asker.dialed.vb served.desk.id granted_is serving.stream pv leader feed kn (nat_le 4 seen && not fv.first)
+  pub all : drop seen (first_answers ++ answer_frame asker.asked feed.log ask_answer.Go ∷ [])
+      ++ stream_frames asker.asked asker.dialed.vb granted_is.over (nat_le 4 seen && not fv.first) kn.position kn.coming feed.flight ≡ put ++ serving.unput
+
+-- where the two ends of a link stand, with these frames on their way to the producer and to the consumer
+pub data EndsStand (fv : Wants) (kn : Member) (pv : Option Plain) (leader : Member) (g : Option Granted) (point : Option ℕ) (served : PlainProducer) (asker : PlainConsumer) (up down : List Frame) : Type 0 where
+  IsAsking : (ask : StreamAsk) → Asking fv ask served asker up down → EndsStand fv kn pv leader g point served asker up down
+  IsRefusedYet : RefusedYet point served asker up down → EndsStand fv kn pv leader g point served asker up down
+  IsStreaming : Streaming fv kn pv leader g served asker up down → EndsStand fv kn pv leader g point served asker up down
+
+-- the same of a link, and what its queues hold
+pub record Talk (fv : Plain) (kn : Member) (pv : Option Plain) (leader : Member) (g : Option Granted) (point : Option ℕ) (link : PlainLink) (up down : List Frame) : Type 0 where
+  pub asked : List Frame
+  pub said : List Frame
+  pub stands : EndsStand (wants_of fv) kn pv leader g point link.server link.consumer asked (spoken said)
+  pub ups : UpIs link up asked
+  pub downs : DownIs link down said
+
+-- the members at the two ends of a link
+abbrev pub consumer_seat : PlainLink → ℕ
+consumer_seat link = seat (consumer_node link) link.consumer.dialed.vb
+
+abbrev pub producer_seat : PlainLink → ℕ
+producer_seat link = seat (producer_node link) link.consumer.dialed.vb
+
+-- a link's dial, as the lines tell it and as its two ends have it
+pub record DialAgrees (told : Option Dial) (desk : Desk) (d : Dialed) : Type 0 where
+  pub dialed : told ≡ Some (record { producer = desk.node; node = d.node; vb = d.vb })
+  pub named : desk.stream ≡ Link d.link
+  pub small : (d.node < 16) × (d.vb < 1024)
+
+-- a link whose frames `up` are about to be answered, and whose frames `down` are about to be taken
+pub record LinkAgrees (w : PlainWorld) (r : Chronicle) (c : Cluster) (link : PlainLink) (up down : List Frame) : Type 0 where
+  pub follower : Plain
+  pub follower_is : vb_of w (consumer_node link) link.consumer.dialed.vb ≡ Some follower
+  pub follows : is_follower follower.role ≡ true
+  pub dial : DialAgrees (r.dial_of (link_number link)) link.server.desk link.consumer.dialed
+  pub open dial use *
+  pub talk : Talk follower (c.nodes (consumer_seat link)) (vb_of w (producer_node link) link.consumer.dialed.vb) (c.nodes (producer_seat link)) (r.stream_of (Link (link_number link)) link.consumer.dialed.vb) (r.point_of (link_number link)) link up down
+
+-- one of the links
+abbrev pub IsLink : PlainLink → List PlainLink → Type 0
+IsLink x [] = ⊥
+IsLink x (y ∷ ys) = (x ≡ y) ⊎ IsLink x ys
+
+-- a stream that is open at its producer's vBucket
+abbrev pub is_open : Option PlainStream → Bool
+is_open None = false
+is_open (Some stream) = not stream.ended
+
+-- the links differ in their numbers and in the vBuckets that they feed, and those with an open stream in what their streams are opened under
+pub record Differ (x y : PlainLink) : Type 0 where
+  pub number : link_number x ≡ link_number y → ⊥
+  pub follower : consumer_node x ≡ consumer_node y → x.consumer.dialed.vb ≡ y.consumer.dialed.vb → ⊥
+  pub stream : is_open x.server.stream ≡ true → is_open y.server.stream ≡ true → producer_node x ≡ producer_node y → x.consumer.dialed.vb ≡ y.consumer.dialed.vb
+      → x.server.desk.id ≡ y.server.desk.id → ⊥
+
+abbrev pub DifferFrom : PlainLink → List PlainLink → Type 0
+DifferFrom x [] = Unit {0}
+DifferFrom x (y ∷ ys) = Differ x y × DifferFrom x ys
+
+abbrev pub LinksDiffer : List PlainLink → Type 0
+LinksDiffer [] = Unit {0}
+LinksDiffer (x ∷ xs) = DifferFrom x xs × LinksDiffer xs
+
+-- the greatest seqno
+abbrev pub top : ℕ
+top = 2 ^ 48
+
+-- the frames that are about to be answered or taken, by the number of the link
+abbrev pub Busy : Type 0
+Busy = ℕ → List Frame × List Frame
+
+abbrev pub idle : Busy
+idle = λ l. ([], [])
+
+-- the branches of the cluster, those that the lines tell, and the ids that are used agree
+pub record BranchesAgree (known told : List Branch) (uuids : List ℕ) : Type 0 where
+  pub hists : (u : ℕ) → hist known u ≡ hist told u
+  pub are_told : AreTold known told
+  pub fits : (u : ℕ) → All ChangeFits (hist told u)
+  pub rootless : hist known 0 ≡ []
+  pub ids : IdsFit known
+  pub used : (u : ℕ) → is_one_of u uuids ≡ false → (u ≡ 0 → ⊥) → branch known u ≡ None
+  pub fresh : (u : ℕ) → is_one_of u uuids ≡ false → IsNew u told
+
+-- an arm that may fire yet, or none
+abbrev pub IsArm : Fuse → Type 0
+IsArm Off = Unit {0}
+IsArm (Stop k) = 0 < k
+IsArm (Fail k) = 0 < k
+
+-- what the lines tell of a node's arm, and whether it is down; and the disks of one that is down are those that are listed by their numbers
+pub record PowerIs (told : ArmTold) (power : Power) : Type 0 where
+  pub fuse : told.fuse ≡ power.arm.fuse
+  pub out : told.out ≡ power.arm.out
+  pub down : told.down ≡ is_some power.off
+  pub may_fire : IsArm power.arm.fuse
+  pub listed_so : (books : List Book) → power.off ≡ Some books → books ≡ listed (book_in books)
+
+abbrev pub PowerIsIf : ArmTold → Option Power → Type 0
+PowerIsIf told None = told ≡ no_arm
+PowerIsIf told (Some power) = PowerIs told power
+
+-- the records of a vBucket that is not there, by whether its node is running: then it has none; one that is down has those on its disk, where it has one
+abbrev pub BookBy : Option (List Book) → ℕ → Option Shelf → DiskTold → Disk → Type 0
+BookBy None v shelf told d = (d.book ≡ []) × (told.there ≡ is_some shelf)
+BookBy (Some books) v shelf told d = (book_in books v ≡ (if told.there then Some d.book else None)) × (told.there ≡ false → d.book ≡ [])
+
+-- the same, by its node
+abbrev pub BookIs : Option Power → ℕ → Option Shelf → DiskTold → Disk → Type 0
+BookIs None v shelf told d = (d.book ≡ []) × (told.there ≡ false)
+BookIs (Some power) v shelf told d = BookBy power.off v shelf told d
+
+-- a vBucket that is not there: its member is as its records tell, and the lines tell its last role, at which it rests
+pub record AwayAt (power : Option Power) (v : ℕ) (shelf : Option Shelf) (said : Option (Option Role)) (told : DiskTold) (m : Member) (d : Disk) : Type 0 where
+  pub position : m.position ≡ place_of d.book
+  pub log : m.log ≡ log_of d.book
+  pub role : said ≡ Some (resting d.book)
+  pub book : BookIs power v shelf told d
+
+-- a node is down
+abbrev pub is_down : Option Power → Bool
+is_down None = false
+is_down (Some power) = is_some power.off
+
+-- one that is down has no vBucket and no journal
+pub record DownAt (power : Option Power) (vb : Option Plain) (shelf : Option Shelf) : Type 0 where
+  pub vb_none : is_down power ≡ true → vb ≡ None
+  pub shelf_none : is_down power ≡ true → shelf ≡ None
+
+-- nor has a link an end at it; links have numbers of three digits at most
+pub record EndsUp (w : PlainWorld) (link : PlainLink) : Type 0 where
+  pub producer : is_down (power_of w (producer_node link)) ≡ false
+  pub consumer : is_down (power_of w (consumer_node link)) ≡ false
+  pub number : link_number link < 1000
+
+-- what rests, and what is to befall the nodes
+pub record RestsIn (w : PlainWorld) (r : Chronicle) (c : Cluster) : Type 0 where
+  pub powers : (n : ℕ) → PowerIsIf (r.arm_at n) (power_of w n)
+  pub aways : (n v : ℕ) → vb_of w n v ≡ None → AwayAt (power_of w n) v (shelf_of w n v) (r.role_at n v) (r.disk_at n v) (c.nodes (seat n v)) (c.disks (seat n v))
+  pub downs : (n v : ℕ) → DownAt (power_of w n) (vb_of w n v) (shelf_of w n v)
+  pub ends : (link : PlainLink) → IsLink link w.links → EndsUp w link
+  pub small : (n v : ℕ) → (r.disk_at n v).there ≡ true → v < 1024
+
+-- the plain world, what was read of its lines, and a cluster agree
+pub record AgreesIn (busy : Busy) (w : PlainWorld) (r : Chronicle) (c : Cluster) : Type 0 where
+  pub sound : SoundCluster top c
+  pub vbs : (n v : ℕ) → AgreesAt r n v (c.nodes (seat n v)) (vb_of w n v)
+  pub disks : (n v : ℕ) → DiskIsIf (r.disk_at n v) (c.disks (seat n v)) (shelf_of w n v) (vb_of w n v)
+  pub branches : BranchesAgree c.tree r.tree w.uuids
+  pub open branches use *
+  pub links : (link : PlainLink) → IsLink link w.links → LinkAgrees w r c link (busy (link_number link)).0 (busy (link_number link)).1
+  pub differ : LinksDiffer w.links
+  pub rests : RestsIn w r c
+  pub open rests use *
+
+-- between two lines, where no frame is about to be answered or taken
+abbrev pub Agrees : PlainWorld → Chronicle → Type 0
+Agrees w r = (c : Cluster) × AgreesIn idle w r c
+
+-- a line whose lines are lawful, and after which all agree; `told` is what else the line tells
+abbrev pub GoesOn : Chronicle → (Chronicle → Chronicle) → Outcome → Type 0
+GoesOn r told outcome = LawfulFrom r outcome.1.events × Agrees outcome.0 (told (after_lines r outcome.1.events))
+
+-- the same, where the branches that its lines tell of are used
+abbrev pub LineGoes : Chronicle → (Chronicle → Chronicle) → Outcome → Type 0
+LineGoes r told outcome = GoesOn r told (with_branches outcome.1.events outcome.0, outcome.1)

@@ -1,0 +1,350 @@
+-- what is left alone by a step at one link agrees as before
+use Rattle.std.specs.Prelude.{◌≡◌, ◌⊎◌, ◌==◌}
+use Rattle.transcript_law.proofs.Words.{ℕ, Bool, true, false, List, refl, ap, sym, ◌∙◌, subst, inl, inr, ⊎_elim, Option, Some, None, not, All, Frame, Role, Member, Cluster, SoundCluster, Stream}
+use Rattle.transcript_law.proofs.Words.{Plain, is_active, is_follower, stream_at, Sound, row_at, row_put, PlainStream, PlainLink, link_number, producer_node, consumer_node, PlainWorld, is_one_of, Granted, Chronicle}
+use Rattle.transcript_law.proofs.{Words.{Branch, Covers, PlainProducer, PlainConsumer, Begun, item_told, map, drop, take, after_end, if◌then◌else◌, eq-eqb, ne_eqb, []}, invariant.Seats.{seat, seat_one}, invariant.Trees.{IsTold}}
+use Rattle.transcript_law.proofs.Words.{HoldsAt}
+use Rattle.transcript_law.proofs.invariant.Wholes.{WholeTo}
+use Rattle.transcript_law.proofs.invariant.Agreement.{Keeps, VbTold, own_history, vb_of, ChangeFits, BranchIs, CountsIf, WritesIf, VbAgrees, IsAway, AgreesAt, RestsIn, kept_stream, spoken, Streaming, Talk, is_open, consumer_seat, producer_seat, LinkAgrees, IsLink, Differ, LinksDiffer}
+use Rattle.transcript_law.proofs.{invariant.Agreement.{DiskIsIf, shelf_of, top, Busy, AgreesIn, BranchesAgree, Wants, wants_of, EndsStand, Open, BegunIs, items_frames, VbRow, vb_row, vb_contents, VbHeld, idle, DialAgrees}, invariant.Carrying.{SameEnds}}
+use Rattle.transcript_law.proofs.{invariant.Carrying.{ToldOf, TakenOf, FedMember, FeedChanged, BusyBut, StreamsChanged}, invariant.LinkRows.{found_is_link, links_apart, put_links, differ_put}, invariant.Tables.{id_there, ended_there}}
+use Rattle.{std.proofs.lemmas.Bool.{false_from_ne_true}, vb_events.specs.declared.event.StreamName.TheVariants.{Link}, vb_types.specs.declared.role.Role.TheVariants.{Active}}
+pub use Rattle.std.proofs.lemmas.Bool.{cases_eq as numbers}
+
+-- one place or another
+pub places : (n v m q : ℕ) → ((m ≡ n) × (q ≡ v)) ⊎ (m ≡ n → q ≡ v → ⊥)
+places n v m q = ⊎_elim (λ e. ⊎_elim (λ f. inl (e, f)) (λ ne. inr (λ s t. ne t)) (numbers q v)) (λ ne. inr (λ s t. ne s)) (numbers m n)
+
+-- ids that are the same ones are used alike
+pub ids_same : {ids ids' : List ℕ} → ids' ≡ ids → (u : ℕ) → is_one_of u ids' ≡ false → is_one_of u ids ≡ false
+ids_same same u e = ap (is_one_of u) (sym same) ∙ e
+
+-- the same branches agree, where no more ids are free
+pub branches_again : {known known' told told' : List Branch} {ids ids' : List ℕ} → known' ≡ known → told' ≡ told → ((u : ℕ) → is_one_of u ids' ≡ false → is_one_of u ids ≡ false)
+    → BranchesAgree known told ids → BranchesAgree known' told' ids'
+branches_again {known} {told' = told'} {ids' = ids'} same same_told free a = subst (λ t. BranchesAgree t told' ids') (sym same) (subst (λ t. BranchesAgree known t ids') (sym same_told) (record {
+  hists = a.hists;
+  are_told = a.are_told;
+  fits = a.fits;
+  rootless = a.rootless;
+  ids = a.ids;
+  used = λ u e ne. a.used u (free u e) ne;
+  fresh = λ u e. a.fresh u (free u e);
+}))
+
+-- lines that tell nothing of what all agrees on
+pub told_none : (l : ℕ) (r : Chronicle) → ToldOf l r r
+told_none l r = record { tree = refl; writer_of = λ u. refl; rows = λ n v. refl; arms = λ n. refl; dials = λ j ne. refl; streams = λ k q ne. refl; points = λ k ne. refl }
+
+-- the end of a link tells of that link
+pub end_told : (r : Chronicle) (l : ℕ) → ToldOf l r (after_end r l)
+end_told r l = record {
+  tree = refl;
+  writer_of = λ u. refl;
+  rows = λ n v. refl;
+  arms = λ n. refl;
+  dials = λ j ne. id_there r.dial_of l None j (λ e. ne (sym e));
+  streams = λ j q ne. ended_there r l j q ne;
+  points = λ j ne. id_there r.point_of l None j (λ e. ne (sym e));
+}
+
+-- the frames of one link that are about to be answered or taken
+abbrev pub busy_one : ℕ → List Frame × List Frame → Busy
+busy_one l x k = if k == l then x else ([], [])
+
+pub one_here : (l : ℕ) (x : List Frame × List Frame) → busy_one l x l ≡ x
+one_here l x = ap (λ b. if b then x else ([], [])) (eq-eqb l l refl)
+
+pub one_idle : (l : ℕ) (x : List Frame × List Frame) → BusyBut l idle (busy_one l x)
+one_idle l x k ne = ap (λ b. if b then x else ([], [])) (ne_eqb k l ne)
+
+pub one_but : (l : ℕ) (x y : List Frame × List Frame) → BusyBut l (busy_one l x) (busy_one l y)
+one_but l x y k ne = one_idle l y k ne ∙ sym (one_idle l x k ne)
+
+pub one_none : (l k : ℕ) → idle k ≡ busy_one l ([], []) k
+one_none l k = elim (k == l) as (λ b. idle k ≡ (if b then ([], []) else ([], []))) [ true ↦ refl | false ↦ refl ]
+
+-- a vBucket that follows others takes no writes
+pub no_writer : (r : Role) → is_follower r ≡ true → is_active r ≡ false
+no_writer Active e = cc
+no_writer other e = refl
+
+-- what holds of the vBucket that changed, and of the others, holds of all
+pub all_vbs : (w w' : PlainWorld) (n v : ℕ) (vb : Plain) (P : ℕ → ℕ → Option Plain → Type 0) → vb_of w' n v ≡ Some vb → ((m q : ℕ) → (m ≡ n → q ≡ v → ⊥) → vb_of w' m q ≡ vb_of w m q) → P n v (Some vb)
+    → ((m q : ℕ) → (m ≡ n → q ≡ v → ⊥) → P m q (vb_of w m q)) → (m q : ℕ) → P m q (vb_of w' m q)
+all_vbs w w' n v vb P at away here there m q = ⊎_elim
+    (λ s. subst (λ x. P x q (vb_of w' x q)) (sym s.0) (subst (λ y. P n y (vb_of w' n y)) (sym s.1) (subst (P n v) (sym at) here)))
+    (λ o. subst (P m q) (sym (away m q o)) (there m q o))
+    (places n v m q)
+
+-- no role takes writes and follows
+pub not_both : (r : Role) → is_active r ≡ true → is_follower r ≡ true → ⊥
+not_both Active a f = cc
+not_both other a f = cc
+
+-- members of the cluster
+
+pub fed_same : (m : Member) → FedMember m m
+fed_same m = record { active = refl; br = refl; held = refl; position = refl; log = refl }
+
+-- and their disks
+pub disks_all : (k : ℕ) (c c' : Cluster) → FeedChanged k c c' → (j : ℕ) → c'.disks j ≡ c.disks j
+disks_all k c c' f j = ⊎_elim (λ e. subst (λ x. c'.disks x ≡ c.disks x) (sym e) f.disk) (λ ne. f.changed.disks j ne) (numbers j k)
+
+pub fed_all : (k : ℕ) (c c' : Cluster) → FeedChanged k c c' → (j : ℕ) → FedMember (c.nodes j) (c'.nodes j)
+fed_all k c c' f j = ⊎_elim (λ e. subst (λ x. FedMember (c.nodes x) (c'.nodes x)) (sym e) f.fed) (λ ne. subst (λ x. FedMember (c.nodes j) x) (sym (f.changed.others j ne)) (fed_same (c.nodes j))) (numbers j k)
+
+-- a vBucket's parts that its links speak of
+pub record KeptVb (vb vb' : Plain) : Type 0 where
+  pub role : vb'.role ≡ vb.role
+  pub wants : wants_of vb' ≡ wants_of vb
+
+pub kept_same : (vb : Plain) → KeptVb vb vb
+kept_same vb = record { role = refl; wants = refl }
+
+pub kept_streams : (id : ℕ) (vb vb' : Plain) → StreamsChanged id vb vb' → KeptVb vb vb'
+kept_streams id vb vb' c = record { role = ap (λ (p : Plain). p.role) c.alone; wants = ap wants_of c.alone }
+
+-- what the lines tell of a vBucket is the same
+pub record ToldAt (r r' : Chronicle) (n v : ℕ) : Type 0 where
+  pub tree : r'.tree ≡ r.tree
+  pub writer_of : (u : ℕ) → r'.writer_of u ≡ r.writer_of u
+  pub row : vb_row r' n v ≡ vb_row r n v
+
+pub told_at : (l : ℕ) (r r' : Chronicle) (n v : ℕ) → ToldOf l r r' → ToldAt r r' n v
+told_at l r r' n v t = record { tree = t.tree; writer_of = t.writer_of; row = t.rows n v }
+
+pub taken_at : (l n v : ℕ) (r r' : Chronicle) (m q : ℕ) → TakenOf l n v r r' → (m ≡ n → q ≡ v → ⊥) → ToldAt r r' m q
+taken_at l n v r r' m q t o = record { tree = t.tree; writer_of = t.writer_of; row = t.rows m q o }
+
+-- a vBucket whose streams alone changed, and whose member is fed otherwise, agrees as before
+module _ (r r' : Chronicle) (n v : ℕ) (m m' : Member) (told : ToldAt r r' n v) (fed : FedMember m m') where
+  writes_carried : (b : Bool) → WritesIf b r n v m.br → WritesIf b r' n v m'.br
+  writes_carried false x = tt
+  writes_carried true x = record {
+    branch = ap (λ (t : VbRow). t.contents.branch) told.row ∙ x.branch ∙ ap Some (sym fed.br);
+    is_told = subst (λ t. IsTold t m'.br) (sym told.tree) (subst (IsTold r.tree) (sym fed.br) x.is_told);
+    writer = told.writer_of m'.br ∙ ap r.writer_of fed.br ∙ x.writer;
+    named = λ z. x.named (sym fed.br ∙ z);
+  }
+
+  streams_carried : (vb : Plain) (streams : List Stream) → Sound (record vb { streams = streams }) → VbAgrees r n v m vb → VbAgrees r' n v m' (record vb { streams = streams })
+  streams_carried vb streams sound a = record {
+    kept = subst (λ t. VbHeld t (vb_contents r' n v) m' (record vb { streams = streams })) (sym told.tree) (subst (λ (t : VbRow). VbHeld r.tree t.contents m' (record vb { streams = streams })) (sym told.row) (record {
+      sound = sound;
+      spanned = a.spanned;
+      keeps = subst (λ h. Keeps vb.base vb.floor vb.last_cas h vb.held vb.log vb.position.at) (sym fed.held) a.keeps;
+      told = subst (λ h. VbTold (vb_contents r n v) h vb.log vb.position) (sym fed.held) a.told;
+      member = record { active = fed.active ∙ a.member.active; position = fed.position ∙ a.member.position; log = fed.log ∙ a.member.log };
+      branch = subst (BranchIs (r.branch_at n v)) (sym fed.br) a.branch;
+      holds = subst (λ h. HoldsAt vb.floor (WholeTo vb.floor vb.spans vb.position) h (own_history r n v)) (sym fed.held) a.holds;
+    }));
+    role = ap (λ (t : VbRow). t.role) told.row ∙ a.role;
+    opened = ap (λ (t : VbRow). t.opened) told.row ∙ a.opened;
+    writes = writes_carried (is_active vb.role) a.writes;
+    counts = subst (λ (t : VbRow). CountsIf (is_active vb.role) t.counts vb.others vb.acks) (sym told.row) a.counts;
+  }
+
+  pub vb_carried : (id : ℕ) (vb vb' : Plain) → StreamsChanged id vb vb' → VbAgrees r n v m vb → VbAgrees r' n v m' vb'
+  vb_carried id vb vb' c a = subst (VbAgrees r' n v m') (sym c.alone) (streams_carried vb vb'.streams (subst Sound c.alone c.sound) a)
+
+  pub agrees_carried : (o : Option Plain) → (o ≡ None → m' ≡ m) → AgreesAt r n v m o → AgreesAt r' n v m' o
+  agrees_carried None same a = subst (λ x. IsAway (vb_row r' n v) x) (sym (same refl)) (subst (λ t. IsAway t m) (sym told.row) a)
+  agrees_carried (Some vb) same a = streams_carried vb vb.streams a.sound a
+
+-- a vBucket with other streams is sound as it was
+pub sound_streams : (vb : Plain) (streams : List Stream) → Sound vb → Sound (record vb { streams = streams })
+sound_streams vb streams s = record { spanned = s.spanned; placed = s.placed; stamped = s.stamped; based = s.based; saved = s.saved; counted = s.counted }
+
+-- what stays of a producer's vBucket and member for a link with an open stream
+abbrev pub StaysProducer : Option Plain → Option Plain → Member → Member → PlainLink → Type 0
+StaysProducer pv pv' leader leader' link = (p : Plain) (s : Stream) → pv ≡ Some p → is_active p.role ≡ true → stream_at link.server.desk.id p.streams ≡ Some s → is_open link.server.stream ≡ true
+    → (p' : Plain) × (pv' ≡ Some p') × (is_active p'.role ≡ true) × (stream_at link.server.desk.id p'.streams ≡ Some s) × (leader'.br ≡ leader.br)
+
+pub stays_same : (pv : Option Plain) (leader : Member) (link : PlainLink) → StaysProducer pv pv leader leader link
+stays_same pv leader link p s e a o i = (p, e, a, o, refl)
+
+-- a stream that the producer keeps and that has not ended is open
+pub kept_open : (over : Bool) (stream : PlainStream) (o : Option PlainStream) → o ≡ kept_stream over stream → (over ≡ true → stream.ended ≡ true) → stream.ended ≡ false → is_open o ≡ true
+kept_open true stream o e ends ended = let z : true ≡ false = sym (ends refl) ∙ ended in cc
+kept_open false stream o e ends ended = ap is_open e ∙ ap not ended
+
+-- streams that differ in whether they ended at most
+pub record SameStream (x y : PlainStream) : Type 0 where
+  pub vb : y.vb ≡ x.vb
+  pub opaque : y.opaque ≡ x.opaque
+  pub items : y.items ≡ x.items
+  pub next : y.next ≡ x.next
+  pub ended : x.ended ≡ true → y.ended ≡ true
+
+-- a stream goes on, or has ended now
+pub streaming_again : {fv : Wants} {kn : Member} {pv pv' : Option Plain} {leader leader' : Member} {g : Option Granted} {served : PlainProducer} {asker : PlainConsumer} {up down : List Frame} (a : Streaming fv kn pv leader g served asker up down)
+    (o : Option PlainStream) (stream : PlainStream) → SameStream a.stream stream → o ≡ kept_stream a.granted_is.over stream → (stream.ended ≡ false → Open served.desk.id a.granted_is pv' leader' a.feed)
+    → Streaming fv kn pv' leader' g (record served { stream = o }) asker up down
+streaming_again {asker = asker} a o stream same is opens =
+    let x = a.streams in
+    record {
+      granted_is = a.granted_is;
+      told = a.told;
+      serving = record {
+        stream = stream;
+        stream_is = is;
+        apart = a.apart;
+        server = a.server;
+        acks = a.acks;
+        unput = a.unput;
+        unput_is = a.unput_is ∙ (λ i. items_frames asker.asked asker.dialed.vb (drop (sym same.next i) (sym same.items i)));
+        all_put = a.all_put;
+      };
+      feed = a.feed;
+      fed = a.fed;
+      log_fits = a.log_fits;
+      seen = a.seen;
+      taking = a.taking;
+      streams = record {
+        put = record {
+          vb_is = same.vb ∙ x.vb_is;
+          opaque_is = same.opaque ∙ x.opaque_is;
+          fits = subst (All ChangeFits) (sym same.items) x.fits;
+          next_in = rw same.next (rw same.items x.next_in);
+          last = by a.granted_is.last x.last;
+          log_told = x.log_told;
+          front_is = x.front_is;
+        };
+        opens = opens;
+        over_ended = λ e. same.ended (x.over_ended e);
+        coming = record { all = rw same.next (rw same.items x.coming.all); last = rw same.items x.coming.last };
+        way = x.way;
+      };
+      all = a.all;
+    }
+  where
+    by : (q : Option Begun) → BegunIs q a.stream → BegunIs q stream
+    by None e = same.items ∙ e
+    by (Some b) e = (subst (λ xs. Covers xs b.history b.from b.end) (sym same.items) e.0, e.1 ∙ (λ i. map item_told (take (sym same.next i) (sym same.items i))))
+
+module _ (kn : Member) (pv pv' : Option Plain) (leader leader' : Member) (g : Option Granted) (point : Option ℕ) (link : PlainLink) (stays : StaysProducer pv pv' leader leader' link) where
+  stands_carried : {fv : Wants} {up down : List Frame} → EndsStand fv kn pv leader g point link.server link.consumer up down → EndsStand fv kn pv' leader' g point link.server link.consumer up down
+  stands_carried (EndsStand.IsAsking ask a) = EndsStand.IsAsking ask a
+  stands_carried (EndsStand.IsRefusedYet a) = EndsStand.IsRefusedYet a
+  stands_carried (EndsStand.IsStreaming a) = EndsStand.IsStreaming
+      (streaming_again a link.server.stream a.stream (record { vb = refl; opaque = refl; items = refl; next = refl; ended = λ e. e }) a.stream_is (λ e.
+      let o = a.streams.opens e in
+      let (p', is, active, opened, lead) = stays o.producer o.opened.0 o.producer_is o.active o.opened.1 (kept_open a.granted_is.over a.stream link.server.stream a.stream_is a.streams.over_ended e) in
+      record { producer = p'; producer_is = is; active = active; leads = lead ∙ o.leads; opened = (o.opened.0, opened, o.opened.2, o.opened.3, o.opened.4, o.opened.5) }))
+
+  pub talk_carried : (fv fv' : Plain) (up down : List Frame) → wants_of fv' ≡ wants_of fv → Talk fv kn pv leader g point link up down → Talk fv' kn pv' leader' g point link up down
+  talk_carried fv fv' up down wants t = record {
+    asked = t.asked;
+    said = t.said;
+    stands = subst (λ v. EndsStand v kn pv' leader' g point link.server link.consumer t.asked (spoken t.said)) (sym wants) (stands_carried t.stands);
+    ups = t.ups;
+    downs = t.downs;
+  }
+
+-- the ends of a link stand alike where what they speak of is the same
+pub talk_same : {fv : Plain} {kn kn' : Member} {pv pv' : Option Plain} {leader leader' : Member} {g g' : Option Granted} {point point' : Option ℕ} {link : PlainLink} {up down : List Frame}
+    → kn' ≡ kn → pv' ≡ pv → leader' ≡ leader → g' ≡ g → point' ≡ point → Talk fv kn pv leader g point link up down → Talk fv kn' pv' leader' g' point' link up down
+talk_same {fv} {kn' = kn'} {pv} {pv' = pv'} {leader} {leader' = leader'} {g} {g' = g'} {point} {link = link} {up} {down} members vbs leaders granted points t =
+    subst (λ x. Talk fv kn' pv' leader' g' x link up down) (sym points) (subst (λ x. Talk fv kn' pv' leader' x point link up down) (sym granted) (subst (λ x. Talk fv kn' pv' x g point link up down) (sym leaders)
+    (subst (λ x. Talk fv kn' x leader g point link up down) (sym vbs) (subst (λ x. Talk fv x pv leader g point link up down) (sym members) t))))
+
+-- a link agrees as before, where all that it speaks of stays
+pub link_carried : (w w' : PlainWorld) (r r' : Chronicle) (c c' : Cluster) (link : PlainLink) (up down : List Frame)
+    → ((fv : Plain) → vb_of w (consumer_node link) link.consumer.dialed.vb ≡ Some fv → (fv' : Plain) × (vb_of w' (consumer_node link) link.consumer.dialed.vb ≡ Some fv') × KeptVb fv fv')
+    → r'.dial_of (link_number link) ≡ r.dial_of (link_number link)
+    → r'.stream_of (Link (link_number link)) link.consumer.dialed.vb ≡ r.stream_of (Link (link_number link)) link.consumer.dialed.vb
+    → r'.point_of (link_number link) ≡ r.point_of (link_number link)
+    → c'.nodes (consumer_seat link) ≡ c.nodes (consumer_seat link)
+    → StaysProducer (vb_of w (producer_node link) link.consumer.dialed.vb) (vb_of w' (producer_node link) link.consumer.dialed.vb) (c.nodes (producer_seat link)) (c'.nodes (producer_seat link)) link
+    → LinkAgrees w r c link up down → LinkAgrees w' r' c' link up down
+link_carried w w' r r' c c' link up down follower dial stream point member stays a =
+    let (fv', is, kept) = follower a.follower a.follower_is in let pv' = vb_of w' (producer_node link) link.consumer.dialed.vb in
+    let leader' = c'.nodes (producer_seat link) in
+    record {
+      follower = fv';
+      follower_is = is;
+      follows = ap is_follower kept.role ∙ a.follows;
+      dial = subst (λ o. DialAgrees o link.server.desk link.consumer.dialed) (sym dial) a.dial;
+      talk = talk_same member refl refl stream point (talk_carried (c.nodes (consumer_seat link)) (vb_of w (producer_node link) link.consumer.dialed.vb) pv' (c.nodes (producer_seat link)) leader'
+          (r.stream_of (Link (link_number link)) link.consumer.dialed.vb) (r.point_of (link_number link)) link stays a.follower fv' up down kept.wants a.talk);
+    }
+
+-- a link with an open stream has it open at its producer's vBucket, which is the one that it feeds
+pub stream_opened : (w : PlainWorld) (r : Chronicle) (c : Cluster) (link : PlainLink) (up down : List Frame) → LinkAgrees w r c link up down → (stream : PlainStream) → link.server.stream ≡ Some stream → stream.ended ≡ false
+    → (p : Plain) × (vb_of w (producer_node link) link.consumer.dialed.vb ≡ Some p) × (is_active p.role ≡ true) × (s : Stream) × (stream_at link.server.desk.id p.streams ≡ Some s) × (stream.vb ≡ link.consumer.dialed.vb)
+stream_opened w r c link up down a stream has ended = by a.talk.stands
+  where
+    one : (over : Bool) (x : PlainStream) → link.server.stream ≡ kept_stream over x → x ≡ stream
+    one true x e = let z : None ≡ Some stream = sym e ∙ has in cc
+    one false x e = let z : Some x ≡ Some stream = sym e ∙ has in cc
+
+    by : {fv : Wants} {kn : Member} {pv : Option Plain} {leader : Member} {g : Option Granted} {point : Option ℕ} {asked said : List Frame} → EndsStand fv kn pv leader g point link.server link.consumer asked said
+        → (p : Plain) × (pv ≡ Some p) × (is_active p.role ≡ true) × (s : Stream) × (stream_at link.server.desk.id p.streams ≡ Some s) × (stream.vb ≡ link.consumer.dialed.vb)
+    by (EndsStand.IsAsking ask t) = let z : None ≡ Some stream = sym t.no_stream ∙ has in cc
+    by (EndsStand.IsRefusedYet t) = let z : None ≡ Some stream = sym t.no_stream ∙ has in cc
+    by (EndsStand.IsStreaming t) =
+        let same : t.stream ≡ stream = one t.granted_is.over t.stream t.stream_is in
+        let o = t.streams.opens (ap (λ (x : PlainStream). x.ended) same ∙ ended) in
+        (o.producer, o.producer_is, o.active, o.opened.0, o.opened.1, ap (λ (x : PlainStream). x.vb) (sym same) ∙ t.streams.vb_is)
+
+-- an open stream is one that has not ended
+pub open_stream : (o : Option PlainStream) → is_open o ≡ true → (stream : PlainStream) × (o ≡ Some stream) × (stream.ended ≡ false)
+open_stream None e = cc
+open_stream (Some stream) e = (stream, refl, false_from_ne_true stream.ended (λ q. let z : false ≡ true = sym (ap not q) ∙ e in cc))
+
+-- a link between the same ends differs from what it differed from
+pub differ_ends : (link link' y : PlainLink) → SameEnds link link' → Differ link y
+    → (is_open link'.server.stream ≡ true → is_open y.server.stream ≡ true → producer_node link ≡ producer_node y → link.consumer.dialed.vb ≡ y.consumer.dialed.vb → link.server.desk.id ≡ y.server.desk.id → ⊥)
+    → Differ link' y
+differ_ends link link' y same d streams = record {
+  number = λ e. d.number (ap (λ x. x.link) (sym same.dialed) ∙ e);
+  follower = λ e f. d.follower (ap (λ x. x.node) (sym same.dialed) ∙ e) (ap (λ x. x.vb) (sym same.dialed) ∙ f);
+  stream = λ a b e f g. streams a b (ap (λ x. x.node) (sym same.desk) ∙ e) (ap (λ x. x.vb) (sym same.dialed) ∙ f) (ap (λ x. x.id) (sym same.desk) ∙ g);
+}
+
+-- the parts of a step that changes one link
+pub carried : (busy busy' : Busy) (w w' : PlainWorld) (r r' : Chronicle) (c c' : Cluster) (l : ℕ) (link link' : PlainLink)
+    → AgreesIn busy w r c → row_at link_number l w.links ≡ Some link → SameEnds link link'
+    → ((n v : ℕ) → AgreesAt r' n v (c'.nodes (seat n v)) (vb_of w' n v)) → ((n v : ℕ) → DiskIsIf (r'.disk_at n v) (c'.disks (seat n v)) (shelf_of w' n v) (vb_of w' n v))
+    → c'.tree ≡ c.tree → r'.tree ≡ r.tree → w'.uuids ≡ w.uuids → w'.links ≡ row_put link_number l link' w.links
+    → SoundCluster top c' → BusyBut l busy busy'
+    → ((x : PlainLink) → IsLink x w.links → Differ link x → LinkAgrees w' r' c' x (busy (link_number x)).0 (busy (link_number x)).1)
+    → ((y : PlainLink) → IsLink y w.links → Differ link y → is_open link'.server.stream ≡ true → is_open y.server.stream ≡ true → producer_node link ≡ producer_node y → link.consumer.dialed.vb ≡ y.consumer.dialed.vb
+    → link.server.desk.id ≡ y.server.desk.id → ⊥)
+    → RestsIn w' r' c' → LinkAgrees w' r' c' link' (busy' l).0 (busy' l).1 → AgreesIn busy' w' r' c'
+carried busy busy' w w' r r' c c' l link link' a found same vbs disks ctree rtree uuids links sound but others streams rests agrees = record {
+  sound = sound;
+  vbs = vbs;
+  disks = disks;
+  rests = rests;
+  branches = branches_again ctree rtree (ids_same uuids) a.branches;
+  links = λ x i. each x (subst (IsLink x) links i);
+  differ = subst LinksDiffer (sym links)
+      (differ_put l w.links link link' number a.differ (λ y i ne. let d = apart y i ne in differ_ends link link' y same d (λ s. streams y i d s)) found);
+}
+  where
+    is_link : IsLink link w.links × (link_number link ≡ l)
+    is_link = found_is_link l w.links link found
+
+    number : link_number link' ≡ l
+    number = ap (λ x. x.link) same.dialed ∙ is_link.1
+
+    apart : (y : PlainLink) → IsLink y w.links → (link_number y ≡ l → ⊥) → Differ link y
+    apart y i ne = links_apart link y w.links a.differ is_link.0 i (λ e. ne (sym e ∙ is_link.1))
+
+    each : (x : PlainLink) → IsLink x (row_put link_number l link' w.links) → LinkAgrees w' r' c' x (busy' (link_number x)).0 (busy' (link_number x)).1
+    each x i = ⊎_elim
+        (λ e. subst (λ k. LinkAgrees w' r' c' k (busy' (link_number k)).0 (busy' (link_number k)).1) (sym e) (subst (λ k. LinkAgrees w' r' c' link' (busy' k).0 (busy' k).1) (sym number) agrees))
+        (λ p. subst (λ b. LinkAgrees w' r' c' x b.0 b.1) (sym (but (link_number x) p.1)) (others x p.0 (apart x p.0 p.1)))
+        (put_links l w.links link link' x a.differ found number i)
+
+-- a link's consumer is no vBucket that is not made
+pub consumer_made : (w : PlainWorld) (r : Chronicle) (c : Cluster) (link : PlainLink) (up down : List Frame) → LinkAgrees w r c link up down → (n v : ℕ) → vb_of w n v ≡ None → seat n v ≡ consumer_seat link → ⊥
+consumer_made w r c link up down a n v none e =
+    let p = seat_one n v (consumer_node link) link.consumer.dialed.vb e in
+    let is : vb_of w n v ≡ Some a.follower = ap (λ x. vb_of w x v) p.0 ∙ ap (vb_of w (consumer_node link)) p.1 ∙ a.follower_is in cc
+
+-- two links' consumers are two members
+pub consumers_apart : (x y : PlainLink) → Differ x y → consumer_seat y ≡ consumer_seat x → ⊥
+consumers_apart x y d e = let p = seat_one (consumer_node y) y.consumer.dialed.vb (consumer_node x) x.consumer.dialed.vb e in d.follower (sym p.0) (sym p.1)

@@ -1,0 +1,429 @@
+-- a step at one link carries the agreement
+use Rattle.std.specs.Prelude.{◌≡◌, ◌⊎◌, if◌then◌else◌}
+use Rattle.transcript_law.proofs.Words.{ℕ, true, false, List, refl, ap, sym, ◌∙◌, subst, inl, ⊎_elim, Some, None, Member, Cluster, Move, SoundCluster, happens, put, keeps, eq-eqb, ne_eqb}
+use Rattle.transcript_law.proofs.Words.{Stream, Plain, Frame, is_active, is_follower, stream_at, row_at, row_put, row_out, PlainLink, link_number, producer_node, consumer_node, PlainWorld, Chronicle}
+use Rattle.transcript_law.proofs.invariant.Carrying.{SameEnds, Became, NoNewStream, BecameOver, Relinked, BusyBut, Changed, Closed, IsApart, ToldOf, TakenOf, StreamsChanged, MemberChanged, FedMember, FeedChanged}
+use Rattle.transcript_law.proofs.{invariant.Seats.{seat, seats_apart}, invariant.Agreement.{vb_of, VbAgrees, AgreesAt, consumer_seat, producer_seat, LinkAgrees, IsLink, is_open, Differ, LinksDiffer, top, Busy, AgreesIn}}
+use Rattle.transcript_law.proofs.{invariant.LinkRows.{found_is_link, links_apart, out_links, differ_out}, invariant.Carried.{places, not_both, fed_same, fed_all, disks_all, KeptVb, kept_same, told_at, taken_at, vb_carried, agrees_carried}}
+use Rattle.transcript_law.proofs.invariant.Carried.{StaysProducer, link_carried, stream_opened, open_stream, carried, consumer_made, consumers_apart, branches_again, ids_same, kept_streams, no_writer, all_vbs}
+use Rattle.cluster_model.specs.Clusters.{Disk, cut}
+use Rattle.transcript_law.proofs.{invariant.Agreement.{DiskIsIf, EndsUp, RestsIn, VbRow, power_of, shelf_of}, disks.Disks.{SameParts, disk_same, parts_of, same_parts}}
+use Rattle.transcript_law.proofs.{invariant.Agreement.{IsArm, Power, PowerIs, PowerIsIf}, invariant.Carrying.{Rearmed, SameOffs, SamePowers, off_of}, invariant.LinkRows.{put_links}, invariant.Resting.{StillAt, ends_again, ends_off, ends_same, rests_by, rests_with}, invariant.Tables.{id_here, id_there}}
+use Rattle.{node_world.specs.declared.arm.Arm.{Arm}, transcript_law.proofs.invariant.Carried.{numbers}, transcript_law.proofs.Words.{with_id}, transcript_law.specs.Chronicles.{ArmTold}}
+
+-- the cluster with another member at k
+
+pub put_here : (nodes : ℕ → Member) (k : ℕ) (m : Member) → put nodes k m k ≡ m
+put_here nodes k m = ap (λ b. if b then m else nodes k) (eq-eqb k k refl)
+
+pub put_there : (nodes : ℕ → Member) (k : ℕ) (m : Member) (j : ℕ) → (j ≡ k → ⊥) → put nodes k m j ≡ nodes j
+put_there nodes k m j ne = ap (λ b. if b then m else nodes j) (ne_eqb j k ne)
+
+pub disk_here : (disks : ℕ → Disk) (k : ℕ) (d : Disk) → put disks k d k ≡ d
+disk_here disks k d = ap (λ b. if b then d else disks k) (eq-eqb k k refl)
+
+pub disk_there : (disks : ℕ → Disk) (k : ℕ) (d : Disk) (j : ℕ) → (j ≡ k → ⊥) → put disks k d j ≡ disks j
+disk_there disks k d j ne = ap (λ b. if b then d else disks j) (ne_eqb j k ne)
+
+-- a vBucket at a place that is told otherwise
+moved_vb : (w : PlainWorld) (n v m q : ℕ) (vb : Plain) → vb_of w n v ≡ Some vb → m ≡ n → q ≡ v → vb_of w m q ≡ Some vb
+moved_vb w n v m q vb e s t = ap (λ x. vb_of w x q) s ∙ ap (vb_of w n) t ∙ e
+
+one_vb : (w : PlainWorld) (n v : ℕ) (x y : Plain) → vb_of w n v ≡ Some x → vb_of w n v ≡ Some y → x ≡ y
+one_vb w n v x y e f = cc
+
+module _ (busy : Busy) (w : PlainWorld) (r r' : Chronicle) (c c' : Cluster) (l : ℕ) (link : PlainLink) (a : AgreesIn busy w r c) (found : row_at link_number l w.links ≡ Some link) where
+  pub mine : LinkAgrees w r c link (busy l).0 (busy l).1
+  mine = let p = found_is_link l w.links link found in subst (λ k. LinkAgrees w r c link (busy k).0 (busy k).1) p.1 (a.links link p.0)
+
+  other_number : (x : PlainLink) → Differ link x → link_number x ≡ l → ⊥
+  other_number x d e = d.number ((found_is_link l w.links link found).1 ∙ sym e)
+
+  module _ (told : ToldOf l r r') (fed : FeedChanged (consumer_seat link) c c') where
+    -- a vBucket that is left alone
+    quiet_vb : (n v : ℕ) → AgreesAt r' n v (c'.nodes (seat n v)) (vb_of w n v)
+    quiet_vb n v = agrees_carried r r' n v (c.nodes (seat n v)) (c'.nodes (seat n v)) (told_at l r r' n v told) (fed_all (consumer_seat link) c c' fed (seat n v)) (vb_of w n v)
+        (λ none. fed.changed.others (seat n v) (consumer_made w r c link (busy l).0 (busy l).1 mine n v none)) (a.vbs n v)
+
+    quiet_disk : (w' : PlainWorld) → ((n v : ℕ) → vb_of w' n v ≡ vb_of w n v) → ((n v : ℕ) → shelf_of w' n v ≡ shelf_of w n v) → (n v : ℕ) → DiskIsIf (r'.disk_at n v) (c'.disks (seat n v)) (shelf_of w' n v) (vb_of w' n v)
+    quiet_disk w' same shelves n v = disk_same (vb_of w n v) (vb_of w' n v) (ap (λ (t : VbRow). t.disk) (told.rows n v)) (disks_all (consumer_seat link) c c' fed (seat n v)) (shelves n v)
+        (subst (SameParts (vb_of w n v)) (sym (same n v)) (same_parts (vb_of w n v))) (a.disks n v)
+
+    -- what rests at a place without a vBucket
+    quiet_still : (w' : PlainWorld) (n v : ℕ) → vb_of w n v ≡ None → shelf_of w' n v ≡ shelf_of w n v → StillAt w w' r r' c c' n v
+    quiet_still w' n v none shelf = record {
+      vb = none;
+      shelf = shelf;
+      row = told.rows n v;
+      member = fed.changed.others (seat n v) (consumer_made w r c link (busy l).0 (busy l).1 mine n v none);
+      disk = disks_all (consumer_seat link) c c' fed (seat n v);
+    }
+
+    there_told : (n v : ℕ) → (r'.disk_at n v).there ≡ true → (r.disk_at n v).there ≡ true
+    there_told n v e = ap (λ (t : VbRow). t.disk.there) (sym (told.rows n v)) ∙ e
+
+    -- where no vBucket changes
+    quiet_rests : (w' : PlainWorld) → SamePowers w w' → ((n v : ℕ) → vb_of w' n v ≡ vb_of w n v) → ((n v : ℕ) → shelf_of w' n v ≡ shelf_of w n v) → ((x : PlainLink) → IsLink x w'.links → EndsUp w' x) → RestsIn w' r' c'
+    quiet_rests w' powers same shelves ends = rests_by w w' r r' c c' a.rests powers told.arms
+        (λ n v none. quiet_still w' n v (sym (same n v) ∙ none) (shelves n v))
+        (λ n v down. (same n v ∙ (a.downs n v).vb_none down, shelves n v ∙ (a.downs n v).shelf_none down))
+        there_told ends
+
+    quiet_link : (w' : PlainWorld) → ((n v : ℕ) → vb_of w' n v ≡ vb_of w n v) → (x : PlainLink) → IsLink x w.links → Differ link x
+        → LinkAgrees w' r' c' x (busy (link_number x)).0 (busy (link_number x)).1
+    quiet_link w' same x i d = link_carried w w' r r' c c' x (busy (link_number x)).0 (busy (link_number x)).1
+        (λ fv e. (fv, same (consumer_node x) x.consumer.dialed.vb ∙ e, kept_same fv))
+        (told.dials (link_number x) (other_number x d)) (told.streams (link_number x) x.consumer.dialed.vb (other_number x d)) (told.points (link_number x) (other_number x d)) (fed.changed.others (consumer_seat x) (consumers_apart link x d))
+        (λ p s e active opened has. (p, same (producer_node x) x.consumer.dialed.vb ∙ e, active, opened, (fed_all (consumer_seat link) c c' fed (producer_seat x)).br))
+        (a.links x i)
+
+    module _ (w' : PlainWorld) (links : List PlainLink) (pv pv' : Plain) (known : vb_of w (producer_node link) link.consumer.dialed.vb ≡ Some pv) (changed : StreamsChanged link.server.desk.id pv pv')
+        (became : Changed w w' (producer_node link) link.consumer.dialed.vb pv' links) (free : (is_open link.server.stream ≡ true) ⊎ (stream_at link.server.desk.id pv.streams ≡ None)) where
+      producer_vbs : (n v : ℕ) → AgreesAt r' n v (c'.nodes (seat n v)) (vb_of w' n v)
+      producer_vbs = all_vbs w w' (producer_node link) link.consumer.dialed.vb pv' (λ n v o. AgreesAt r' n v (c'.nodes (seat n v)) o) became.here became.there
+          (vb_carried r r' (producer_node link) link.consumer.dialed.vb (c.nodes (producer_seat link)) (c'.nodes (producer_seat link)) (told_at l r r' (producer_node link) link.consumer.dialed.vb told)
+          (fed_all (consumer_seat link) c c' fed (producer_seat link)) link.server.desk.id pv pv' changed
+          (subst (AgreesAt r (producer_node link) link.consumer.dialed.vb (c.nodes (producer_seat link))) known (a.vbs (producer_node link) link.consumer.dialed.vb))) (λ n v o. quiet_vb n v)
+
+      producer_disks : (shelf_of w' (producer_node link) link.consumer.dialed.vb ≡ shelf_of w (producer_node link) link.consumer.dialed.vb) → (n v : ℕ) → DiskIsIf (r'.disk_at n v) (c'.disks (seat n v)) (shelf_of w' n v) (vb_of w' n v)
+      producer_disks shelf n v = disk_same (vb_of w n v) (vb_of w' n v) (ap (λ (t : VbRow). t.disk) (told.rows n v)) (disks_all (consumer_seat link) c c' fed (seat n v)) shelves parts (a.disks n v)
+        where
+          shelves : shelf_of w' n v ≡ shelf_of w n v
+          shelves = ⊎_elim (λ s. ap (λ x. shelf_of w' x v) s.0 ∙ ap (shelf_of w' (producer_node link)) s.1 ∙ shelf ∙ sym (ap (λ x. shelf_of w x v) s.0 ∙ ap (shelf_of w (producer_node link)) s.1)) (λ o. became.shelves n v o)
+              (places (producer_node link) link.consumer.dialed.vb n v)
+
+          parts : SameParts (vb_of w n v) (vb_of w' n v)
+          parts = ⊎_elim
+              (λ s. subst (λ x. SameParts x (vb_of w' n v)) (sym (moved_vb w (producer_node link) link.consumer.dialed.vb n v pv known s.0 s.1))
+              (subst (SameParts (Some pv)) (sym (moved_vb w' (producer_node link) link.consumer.dialed.vb n v pv' became.here s.0 s.1)) (ap parts_of changed.alone)))
+              (λ o. subst (SameParts (vb_of w n v)) (sym (became.there n v o)) (same_parts (vb_of w n v)))
+              (places (producer_node link) link.consumer.dialed.vb n v)
+
+      -- what rests beside the vBucket that changed
+      producer_rests : ((x : PlainLink) → IsLink x w'.links → EndsUp w' x) → RestsIn w' r' c'
+      producer_rests ends = rests_by w w' r r' c c' a.rests became.powers told.arms
+          (λ n v none. ⊎_elim (λ s. let z : Some pv' ≡ None = sym (moved_vb w' (producer_node link) link.consumer.dialed.vb n v pv' became.here s.0 s.1) ∙ none in cc)
+          (λ o. quiet_still w' n v (sym (became.there n v o) ∙ none) (became.shelves n v o)) (places (producer_node link) link.consumer.dialed.vb n v))
+          (λ n v down. ⊎_elim (λ s. let z : Some pv ≡ None = sym (moved_vb w (producer_node link) link.consumer.dialed.vb n v pv known s.0 s.1) ∙ (a.downs n v).vb_none down in cc)
+          (λ o. (became.there n v o ∙ (a.downs n v).vb_none down, became.shelves n v o ∙ (a.downs n v).shelf_none down)) (places (producer_node link) link.consumer.dialed.vb n v))
+          there_told ends
+
+      -- no other link's stream is open there under its number
+      clash : (y : PlainLink) (s : Stream) → Differ link y → producer_node y ≡ producer_node link → y.consumer.dialed.vb ≡ link.consumer.dialed.vb → stream_at y.server.desk.id pv.streams ≡ Some s
+          → is_open y.server.stream ≡ true → y.server.desk.id ≡ link.server.desk.id → ⊥
+      clash y s d e f opened has id = ⊎_elim (λ had. d.stream had has (sym e) (sym f) (sym id))
+          (λ none. let z : stream_at y.server.desk.id pv.streams ≡ None = ap (λ k. stream_at k pv.streams) id ∙ none in cc) free
+
+      producer_streams : (y : PlainLink) → IsLink y w.links → Differ link y → is_open y.server.stream ≡ true → producer_node link ≡ producer_node y → link.consumer.dialed.vb ≡ y.consumer.dialed.vb
+          → link.server.desk.id ≡ y.server.desk.id → ⊥
+      producer_streams y i d has e f id =
+          let (stream, kept, ended) = open_stream y.server.stream has in
+          let (p, is, active, s, opened, at) = stream_opened w r c y (busy (link_number y)).0 (busy (link_number y)).1 (a.links y i) stream kept ended in
+          let same : p ≡ pv = one_vb w (producer_node y) y.consumer.dialed.vb p pv is (moved_vb w (producer_node link) link.consumer.dialed.vb (producer_node y) y.consumer.dialed.vb pv known (sym e) (sym f)) in
+          clash y s d (sym e) (sym f) (subst (λ (k : Plain). stream_at y.server.desk.id k.streams ≡ Some s) same opened) has (sym id)
+
+      producer_follower : (x : PlainLink) (fv : Plain) → vb_of w (consumer_node x) x.consumer.dialed.vb ≡ Some fv → (fv' : Plain) × (vb_of w' (consumer_node x) x.consumer.dialed.vb ≡ Some fv') × KeptVb fv fv'
+      producer_follower x fv e = ⊎_elim
+          (λ s. let same : fv ≡ pv = one_vb w (consumer_node x) x.consumer.dialed.vb fv pv e (moved_vb w (producer_node link) link.consumer.dialed.vb (consumer_node x) x.consumer.dialed.vb pv known s.0 s.1) in (
+            pv',
+            moved_vb w' (producer_node link) link.consumer.dialed.vb (consumer_node x) x.consumer.dialed.vb pv' became.here s.0 s.1,
+            subst (λ k. KeptVb k pv') (sym same) (kept_streams link.server.desk.id pv pv' changed),
+          ))
+          (λ o. (fv, became.there (consumer_node x) x.consumer.dialed.vb o ∙ e, kept_same fv))
+          (places (producer_node link) link.consumer.dialed.vb (consumer_node x) x.consumer.dialed.vb)
+
+      producer_stays : (x : PlainLink) → Differ link x
+          → StaysProducer (vb_of w (producer_node x) x.consumer.dialed.vb) (vb_of w' (producer_node x) x.consumer.dialed.vb) (c.nodes (producer_seat x)) (c'.nodes (producer_seat x)) x
+      producer_stays x d p s e active opened has = ⊎_elim
+          (λ t. let same : p ≡ pv = one_vb w (producer_node x) x.consumer.dialed.vb p pv e (moved_vb w (producer_node link) link.consumer.dialed.vb (producer_node x) x.consumer.dialed.vb pv known t.0 t.1) in
+          let there : stream_at x.server.desk.id pv.streams ≡ Some s = subst (λ (k : Plain). stream_at x.server.desk.id k.streams ≡ Some s) same opened in (
+            pv',
+            moved_vb w' (producer_node link) link.consumer.dialed.vb (producer_node x) x.consumer.dialed.vb pv' became.here t.0 t.1,
+            ap (λ (k : Plain). is_active k.role) changed.alone ∙ subst (λ (k : Plain). is_active k.role ≡ true) same active,
+            changed.others x.server.desk.id (clash x s d t.0 t.1 there has) ∙ there,
+            (fed_all (consumer_seat link) c c' fed (producer_seat x)).br,
+          ))
+          (λ o. (p, became.there (producer_node x) x.consumer.dialed.vb o ∙ e, active, opened, (fed_all (consumer_seat link) c c' fed (producer_seat x)).br))
+          (places (producer_node link) link.consumer.dialed.vb (producer_node x) x.consumer.dialed.vb)
+
+      producer_other : (x : PlainLink) → IsLink x w.links → Differ link x → LinkAgrees w' r' c' x (busy (link_number x)).0 (busy (link_number x)).1
+      producer_other x i d = link_carried w w' r r' c c' x (busy (link_number x)).0 (busy (link_number x)).1 (producer_follower x)
+          (told.dials (link_number x) (other_number x d)) (told.streams (link_number x) x.consumer.dialed.vb (other_number x d)) (told.points (link_number x) (other_number x d)) (fed.changed.others (consumer_seat x) (consumers_apart link x d))
+          (producer_stays x d) (a.links x i)
+
+-- the ends of links, where one of them is another between the same ends
+pub put_ends : (busy : Busy) (w w' : PlainWorld) (r : Chronicle) (c : Cluster) (l : ℕ) (link link' : PlainLink) → AgreesIn busy w r c → row_at link_number l w.links ≡ Some link → SameEnds link link' → SamePowers w w'
+    → w'.links ≡ row_put link_number l link' w.links → (x : PlainLink) → IsLink x w'.links → EndsUp w' x
+put_ends busy w w' r c l link link' a found same powers linked x i =
+    let is = found_is_link l w.links link found in
+    ⊎_elim (λ e. subst (EndsUp w') (sym e) (ends_same w w' link link' powers same (a.ends link is.0))) (λ p. ends_again w w' x powers (a.ends x p.0))
+    (put_links l w.links link link' x a.differ found (ap (λ d. d.link) same.dialed ∙ is.1) (subst (IsLink x) linked i))
+
+-- and where one is taken out
+pub out_ends : (busy : Busy) (w w' : PlainWorld) (r : Chronicle) (c : Cluster) (l : ℕ) (link : PlainLink) → AgreesIn busy w r c → row_at link_number l w.links ≡ Some link → SamePowers w w'
+    → w'.links ≡ row_out link_number (link_number link) w.links → (x : PlainLink) → IsLink x w'.links → EndsUp w' x
+out_ends busy w w' r c l link a found powers linked x i =
+    let is = found_is_link l w.links link found in
+    ends_again w w' x powers (a.ends x (out_links l w.links link x a.differ found (subst (IsLink x) (linked ∙ ap (λ k. row_out link_number k w.links) is.1) i)).0)
+
+-- a step at a link's producer, and at its consumer's member of the cluster how it is fed
+pub carries_producer : (busy busy' : Busy) (w w' : PlainWorld) (r r' : Chronicle) (c c' : Cluster) (l : ℕ) (link link' : PlainLink) (pv pv' : Plain)
+    → AgreesIn busy w r c → row_at link_number l w.links ≡ Some link → SameEnds link link'
+    → vb_of w (producer_node link) link.consumer.dialed.vb ≡ Some pv → StreamsChanged link.server.desk.id pv pv'
+    → Became w w' (producer_node link) link.consumer.dialed.vb pv' l link'
+    → (shelf_of w' (producer_node link) link.consumer.dialed.vb ≡ shelf_of w (producer_node link) link.consumer.dialed.vb)
+    → (is_open link.server.stream ≡ true) ⊎ (stream_at link.server.desk.id pv.streams ≡ None)
+    → ToldOf l r r' → FeedChanged (consumer_seat link) c c' → SoundCluster top c' → BusyBut l busy busy'
+    → LinkAgrees w' r' c' link' (busy' l).0 (busy' l).1 → AgreesIn busy' w' r' c'
+carries_producer busy busy' w w' r r' c c' l link link' pv pv' a found same known changed became shelf free told fed sound but agrees =
+    carried busy busy' w w' r r' c c' l link link' a found same
+    (producer_vbs busy w r r' c c' l link a found told fed w' (row_put link_number l link' w.links) pv pv' known changed became free)
+    (producer_disks busy w r r' c c' l link a found told fed w' (row_put link_number l link' w.links) pv pv' known changed became free shelf)
+    fed.changed.tree told.tree became.uuids became.linked sound but
+    (producer_other busy w r r' c c' l link a found told fed w' (row_put link_number l link' w.links) pv pv' known changed became free)
+    (λ y i d s. producer_streams busy w r r' c c' l link a found told fed w' (row_put link_number l link' w.links) pv pv' known changed became free y i d)
+    (producer_rests busy w r r' c c' l link a found told fed w' (row_put link_number l link' w.links) pv pv' known changed became free (put_ends busy w w' r c l link link' a found same became.powers became.linked))
+    agrees
+
+fed_none : (k : ℕ) (c : Cluster) → FeedChanged k c c
+fed_none k c = record { changed = record { tree = refl; others = λ j ne. refl; disks = λ j ne. refl }; fed = fed_same (c.nodes k); disk = refl }
+
+-- a step that changes no vBucket and no member of the cluster
+pub carries_link : (busy busy' : Busy) (w w' : PlainWorld) (r r' : Chronicle) (c : Cluster) (l : ℕ) (link link' : PlainLink)
+    → AgreesIn busy w r c → row_at link_number l w.links ≡ Some link → SameEnds link link'
+    → Relinked w w' (row_put link_number l link' w.links) → NoNewStream link link'
+    → ToldOf l r r' → BusyBut l busy busy'
+    → LinkAgrees w' r' c link' (busy' l).0 (busy' l).1 → AgreesIn busy' w' r' c
+carries_link busy busy' w w' r r' c l link link' a found same became less told but agrees = carried busy busy' w w' r r' c c l link link' a found same
+    (λ n v. subst (AgreesAt r' n v (c.nodes (seat n v))) (sym (became.vbs n v)) (quiet_vb busy w r r' c c l link a found told (fed_none (consumer_seat link) c) n v))
+    (quiet_disk busy w r r' c c l link a found told (fed_none (consumer_seat link) c) w' became.vbs became.shelves)
+    refl told.tree became.uuids became.linked a.sound but
+    (quiet_link busy w r r' c c l link a found told (fed_none (consumer_seat link) c) w' became.vbs)
+    (λ y i d s. d.stream (less s))
+    (quiet_rests busy w r r' c c l link a found told (fed_none (consumer_seat link) c) w' became.powers became.vbs became.shelves (put_ends busy w w' r c l link link' a found same became.powers became.linked))
+    agrees
+
+-- the cluster without what was on its way to a member
+pub cut_changed : (k : ℕ) (c : Cluster) → FeedChanged k c (happens c (Move.Cut k))
+cut_changed k c = record {
+  changed = record { tree = refl; others = put_there c.nodes k (cut (c.nodes k)); disks = disk_there c.disks k (c.disks k) };
+  fed = subst (FedMember (c.nodes k)) (sym (put_here c.nodes k (cut (c.nodes k)))) (record { active = refl; br = refl; held = refl; position = refl; log = refl });
+  disk = disk_here c.disks k (c.disks k);
+}
+
+-- a link's consumer is a member that takes no writes
+pub consumer_quiet : (busy : Busy) (w : PlainWorld) (r : Chronicle) (c : Cluster) (link : PlainLink) (up down : List Frame) → AgreesIn busy w r c → LinkAgrees w r c link up down
+    → (c.nodes (consumer_seat link)).active ≡ false
+consumer_quiet busy w r c link up down a m =
+    let vb = subst (AgreesAt r (consumer_node link) link.consumer.dialed.vb (c.nodes (consumer_seat link))) m.follower_is (a.vbs (consumer_node link) link.consumer.dialed.vb) in
+    vb.member.active ∙ no_writer m.follower.role m.follows
+
+-- the parts of a step that leaves a link out
+module _ (busy busy' : Busy) (w w' : PlainWorld) (r r' : Chronicle) (c c' : Cluster) (l : ℕ) (link : PlainLink) (a : AgreesIn busy w r c) (found : row_at link_number l w.links ≡ Some link)
+    (rtree : r'.tree ≡ r.tree) (ctree : c'.tree ≡ c.tree) (sound : SoundCluster top c') (but : BusyBut l busy busy') where
+  left_is : IsLink link w.links × (link_number link ≡ l)
+  left_is = found_is_link l w.links link found
+
+  pub left_out : ((n v : ℕ) → AgreesAt r' n v (c'.nodes (seat n v)) (vb_of w' n v)) → ((n v : ℕ) → DiskIsIf (r'.disk_at n v) (c'.disks (seat n v)) (shelf_of w' n v) (vb_of w' n v)) → w'.uuids ≡ w.uuids → w'.links ≡ row_out link_number (link_number link) w.links
+      → ((x : PlainLink) → IsLink x w.links → Differ link x → LinkAgrees w' r' c' x (busy (link_number x)).0 (busy (link_number x)).1) → RestsIn w' r' c' → AgreesIn busy' w' r' c'
+  left_out vbs disks uuids linked others rests =
+      let links : w'.links ≡ row_out link_number l w.links = linked ∙ ap (λ k. row_out link_number k w.links) left_is.1 in
+      record {
+        sound = sound;
+        vbs = vbs;
+        disks = disks;
+        rests = rests;
+        branches = branches_again ctree rtree (ids_same uuids) a.branches;
+        links = λ x i.
+            let p = out_links l w.links link x a.differ found (subst (IsLink x) links i) in
+            subst (λ b. LinkAgrees w' r' c' x b.0 b.1) (sym (but (link_number x) p.1)) (others x p.0 (links_apart link x w.links a.differ left_is.0 p.0 (λ e. p.1 (sym e ∙ left_is.1))));
+        differ = subst LinksDiffer (sym links) (differ_out l w.links link a.differ found);
+      }
+
+module _ (busy busy' : Busy) (w w' : PlainWorld) (r r' : Chronicle) (c : Cluster) (l : ℕ) (link : PlainLink) (a : AgreesIn busy w r c) (found : row_at link_number l w.links ≡ Some link)
+    (told : ToldOf l r r') (but : BusyBut l busy busy') where
+  abbrev gone : Cluster
+  gone = happens c (Move.Cut (consumer_seat link))
+
+  abbrev links : List PlainLink
+  links = row_out link_number (link_number link) w.links
+
+  fed : FeedChanged (consumer_seat link) c gone
+  fed = cut_changed (consumer_seat link) c
+
+  sound : SoundCluster top gone
+  sound = keeps top c (Move.Cut (consumer_seat link)) a.sound (consumer_quiet busy w r c link (busy l).0 (busy l).1 a (mine busy w r r' c gone l link a found))
+
+  -- no vBucket was changed
+  same_over : Relinked w w' links → AgreesIn busy' w' r' gone
+  same_over became = left_out busy busy' w w' r r' c gone l link a found told.tree refl sound but
+      (λ n v. subst (AgreesAt r' n v (gone.nodes (seat n v))) (sym (became.vbs n v)) (quiet_vb busy w r r' c gone l link a found told fed n v)) (quiet_disk busy w r r' c gone l link a found told fed w' became.vbs became.shelves) became.uuids became.linked
+      (quiet_link busy w r r' c gone l link a found told fed w' became.vbs)
+      (quiet_rests busy w r r' c gone l link a found told fed w' became.powers became.vbs became.shelves (out_ends busy w w' r c l link a found became.powers became.linked))
+
+  -- the link's stream was closed
+  closed_over : Closed w w' link → AgreesIn busy' w' r' gone
+  closed_over (pv, pv', opens, known, changed, became, shelf) = left_out busy busy' w w' r r' c gone l link a found told.tree refl sound but
+      (producer_vbs busy w r r' c gone l link a found told fed w' links pv pv' known changed became (inl opens))
+      (producer_disks busy w r r' c gone l link a found told fed w' links pv pv' known changed became (inl opens) shelf) became.uuids became.linked
+      (producer_other busy w r r' c gone l link a found told fed w' links pv pv' known changed became (inl opens))
+      (producer_rests busy w r r' c gone l link a found told fed w' links pv pv' known changed became (inl opens) (out_ends busy w w' r c l link a found became.powers became.linked))
+
+-- a link is over: its consumer is cut off
+pub carries_over : (busy busy' : Busy) (w w' : PlainWorld) (r r' : Chronicle) (c : Cluster) (l : ℕ) (link : PlainLink)
+    → AgreesIn busy w r c → row_at link_number l w.links ≡ Some link → BecameOver w w' link
+    → ToldOf l r r' → BusyBut l busy busy' → AgreesIn busy' w' r' (happens c (Move.Cut (consumer_seat link)))
+carries_over busy busy' w w' r r' c l link a found became told but =
+    ⊎_elim (λ same. same_over busy busy' w w' r r' c l link a found told but same) (λ closed. closed_over busy busy' w w' r r' c l link a found told but closed) became
+
+-- a world that is the same everywhere, but for its nodes' arms
+pub carries_rests : (busy busy' : Busy) (w w' : PlainWorld) (r : Chronicle) (arms : ℕ → ArmTold) (c : Cluster)
+    → AgreesIn busy w r c → ((n v : ℕ) → vb_of w' n v ≡ vb_of w n v) → ((n v : ℕ) → shelf_of w' n v ≡ shelf_of w n v) → w'.uuids ≡ w.uuids → w'.links ≡ w.links
+    → RestsIn w' (record r { arm_at = arms }) c → ((k : ℕ) → busy' k ≡ busy k) → AgreesIn busy' w' (record r { arm_at = arms }) c
+carries_rests busy busy' w w' r arms c a vbs shelves uuids linked rests but = record {
+  sound = a.sound;
+  vbs = λ n v. subst (AgreesAt r n v (c.nodes (seat n v))) (sym (vbs n v)) (a.vbs n v);
+  disks = λ n v. disk_same (vb_of w n v) (vb_of w' n v) refl refl (shelves n v) (subst (SameParts (vb_of w n v)) (sym (vbs n v)) (same_parts (vb_of w n v))) (a.disks n v);
+  branches = branches_again refl refl (ids_same uuids) a.branches;
+  links = λ x i. subst (λ b. LinkAgrees w' (record r { arm_at = arms }) c x b.0 b.1) (sym (but (link_number x)))
+      (link_carried w w' r (record r { arm_at = arms }) c c x (busy (link_number x)).0 (busy (link_number x)).1 (λ fv e. (fv, vbs (consumer_node x) x.consumer.dialed.vb ∙ e, kept_same fv)) refl refl refl refl
+      (λ p s e active opened has. (p, vbs (producer_node x) x.consumer.dialed.vb ∙ e, active, opened, refl)) (a.links x (subst (IsLink x) linked i)));
+  differ = subst LinksDiffer (sym linked) a.differ;
+  rests = rests;
+}
+
+-- and for nothing
+pub carries_same : (busy busy' : Busy) (w w' : PlainWorld) (r : Chronicle) (c : Cluster)
+    → AgreesIn busy w r c → Relinked w w' w.links → ((k : ℕ) → busy' k ≡ busy k) → AgreesIn busy' w' r c
+carries_same busy busy' w w' r c a same but = carries_rests busy busy' w w' r r.arm_at c a same.vbs same.shelves same.uuids same.linked
+    (rests_by w w' r r c c a.rests same.powers (λ n. refl)
+    (λ n v none. record { vb = sym (same.vbs n v) ∙ none; shelf = same.shelves n v; row = refl; member = refl; disk = refl })
+    (λ n v down. (same.vbs n v ∙ (a.downs n v).vb_none down, same.shelves n v ∙ (a.downs n v).shelf_none down))
+    (λ n v e. e) (λ x i. ends_again w w' x same.powers (a.ends x (subst (IsLink x) same.linked i)))) but
+
+-- the node n has another arm
+pub carries_armed : (busy : Busy) (w w' : PlainWorld) (r : Chronicle) (c : Cluster) (n : ℕ) (power : Power) (arm : Arm)
+    → AgreesIn busy w r c → Rearmed w w' n power arm → IsArm arm.fuse → AgreesIn busy w' (record r { arm_at = with_id r.arm_at n (record { fuse = arm.fuse; out = arm.out; down = (r.arm_at n).down }) }) c
+carries_armed busy w w' r c n power arm a same fires =
+    carries_rests busy busy w w' r arms c a same.vbs same.shelves same.uuids same.linked
+    (rests_with w w' r r' c c a.rests offs powers
+    (λ m v none. record { vb = sym (same.vbs m v) ∙ none; shelf = same.shelves m v; row = refl; member = refl; disk = refl })
+    (λ m v down. (same.vbs m v ∙ (a.downs m v).vb_none down, same.shelves m v ∙ (a.downs m v).shelf_none down))
+    (λ m v e. e) (λ x i. ends_off w w' x x offs (record { dialed = refl; desk = refl }) (a.ends x (subst (IsLink x) same.linked i)))) (λ k. refl)
+  where
+    told : ArmTold
+    told = record { fuse = arm.fuse; out = arm.out; down = (r.arm_at n).down }
+
+    arms : ℕ → ArmTold
+    arms = with_id r.arm_at n told
+
+    r' : Chronicle
+    r' = record r { arm_at = arms }
+
+    offs : SameOffs w w'
+    offs m = ⊎_elim
+        (λ e. ap (λ k. off_of (power_of w' k)) e ∙ ap off_of same.armed ∙ sym (ap off_of same.before) ∙ ap (λ k. off_of (power_of w k)) (sym e))
+        (λ ne. ap off_of (same.others m ne))
+        (numbers m n)
+
+    was : PowerIs (r.arm_at n) power
+    was = subst (PowerIsIf (r.arm_at n)) same.before (a.powers n)
+
+    powers : (m : ℕ) → PowerIsIf (arms m) (power_of w' m)
+    powers m = ⊎_elim
+        (λ e. subst (λ k. PowerIsIf (arms k) (power_of w' k)) (sym e) (subst (λ t. PowerIsIf t (power_of w' n)) (sym (id_here r.arm_at n told))
+        (subst (PowerIsIf told) (sym same.armed) (record { fuse = refl; out = refl; down = was.down; may_fire = fires; listed_so = was.listed_so }))))
+        (λ ne. subst (λ t. PowerIsIf t (power_of w' m)) (sym (id_there r.arm_at n told m (λ e. ne (sym e)))) (subst (PowerIsIf (r.arm_at m)) (sym (same.others m ne)) (a.powers m)))
+        (numbers m n)
+
+-- a step at a link's consumer
+
+module _ (busy : Busy) (w w' : PlainWorld) (r r' : Chronicle) (c c' : Cluster) (l : ℕ) (link : PlainLink) (fv fv' : Plain) (links : List PlainLink) (a : AgreesIn busy w r c) (found : row_at link_number l w.links ≡ Some link)
+    (known : vb_of w (consumer_node link) link.consumer.dialed.vb ≡ Some fv) (role_is : fv'.role ≡ fv.role) (streams_are : fv'.streams ≡ fv.streams)
+    (became : Changed w w' (consumer_node link) link.consumer.dialed.vb fv' links)
+    (taken : TakenOf l (consumer_node link) link.consumer.dialed.vb r r') (changed : MemberChanged (consumer_seat link) c c')
+    (agrees : VbAgrees r' (consumer_node link) link.consumer.dialed.vb (c'.nodes (consumer_seat link)) fv')
+    (disk : DiskIsIf (r'.disk_at (consumer_node link) link.consumer.dialed.vb) (c'.disks (consumer_seat link)) (shelf_of w' (consumer_node link) link.consumer.dialed.vb) (Some fv')) where
+  follows : is_follower fv.role ≡ true
+  follows =
+      let m = mine busy w r r' c c' l link a found in
+      let same : m.follower ≡ fv = one_vb w (consumer_node link) link.consumer.dialed.vb m.follower fv m.follower_is known in
+      subst (λ (k : Plain). is_follower k.role ≡ true) same m.follows
+
+  other_seat : (n v : ℕ) → (n ≡ consumer_node link → v ≡ link.consumer.dialed.vb → ⊥) → seat n v ≡ consumer_seat link → ⊥
+  other_seat n v o = seats_apart n v (consumer_node link) link.consumer.dialed.vb o
+
+  other_vb : (n v : ℕ) → (n ≡ consumer_node link → v ≡ link.consumer.dialed.vb → ⊥) → AgreesAt r' n v (c'.nodes (seat n v)) (vb_of w n v)
+  other_vb n v o = subst (λ m. AgreesAt r' n v m (vb_of w n v)) (sym (changed.others (seat n v) (other_seat n v o)))
+      (agrees_carried r r' n v (c.nodes (seat n v)) (c.nodes (seat n v)) (taken_at l (consumer_node link) link.consumer.dialed.vb r r' n v taken o) (fed_same (c.nodes (seat n v))) (vb_of w n v) (λ none. refl) (a.vbs n v))
+
+  consumer_vbs : (n v : ℕ) → AgreesAt r' n v (c'.nodes (seat n v)) (vb_of w' n v)
+  consumer_vbs = all_vbs w w' (consumer_node link) link.consumer.dialed.vb fv' (λ n v o. AgreesAt r' n v (c'.nodes (seat n v)) o) became.here became.there agrees other_vb
+
+  other_disk : (n v : ℕ) → (n ≡ consumer_node link → v ≡ link.consumer.dialed.vb → ⊥) → DiskIsIf (r'.disk_at n v) (c'.disks (seat n v)) (shelf_of w' n v) (vb_of w n v)
+  other_disk n v o = disk_same (vb_of w n v) (vb_of w n v) (ap (λ (t : VbRow). t.disk) (taken.rows n v o)) (changed.disks (seat n v) (other_seat n v o)) (became.shelves n v o) (same_parts (vb_of w n v)) (a.disks n v)
+
+  consumer_disks : (n v : ℕ) → DiskIsIf (r'.disk_at n v) (c'.disks (seat n v)) (shelf_of w' n v) (vb_of w' n v)
+  consumer_disks = all_vbs w w' (consumer_node link) link.consumer.dialed.vb fv' (λ n v o. DiskIsIf (r'.disk_at n v) (c'.disks (seat n v)) (shelf_of w' n v) o) became.here became.there disk other_disk
+
+  -- what rests beside it, where the arms are as they were
+  pub consumer_rests : ((m : ℕ) → r'.arm_at m ≡ r.arm_at m) → (r'.disk_at (consumer_node link) link.consumer.dialed.vb).there ≡ (r.disk_at (consumer_node link) link.consumer.dialed.vb).there
+      → ((x : PlainLink) → IsLink x w'.links → EndsUp w' x) → RestsIn w' r' c'
+  consumer_rests arms same ends = rests_by w w' r r' c c' a.rests became.powers arms
+      (λ n v none. ⊎_elim (λ s. let z : Some fv' ≡ None = sym (moved_vb w' (consumer_node link) link.consumer.dialed.vb n v fv' became.here s.0 s.1) ∙ none in cc)
+      (λ o. record { vb = sym (became.there n v o) ∙ none; shelf = became.shelves n v o; row = taken.rows n v o; member = changed.others (seat n v) (other_seat n v o); disk = changed.disks (seat n v) (other_seat n v o) }) (places (consumer_node link) link.consumer.dialed.vb n v))
+      (λ n v down. ⊎_elim (λ s. let z : Some fv ≡ None = sym (moved_vb w (consumer_node link) link.consumer.dialed.vb n v fv known s.0 s.1) ∙ (a.downs n v).vb_none down in cc)
+      (λ o. (became.there n v o ∙ (a.downs n v).vb_none down, became.shelves n v o ∙ (a.downs n v).shelf_none down)) (places (consumer_node link) link.consumer.dialed.vb n v))
+      (λ n v e. ⊎_elim (λ s. ap (λ x. (r.disk_at x v).there) s.0 ∙ ap (λ y. (r.disk_at (consumer_node link) y).there) s.1 ∙ sym same ∙ sym (ap (λ x. (r'.disk_at x v).there) s.0 ∙ ap (λ y. (r'.disk_at (consumer_node link) y).there) s.1) ∙ e)
+      (λ o. ap (λ (t : VbRow). t.disk.there) (sym (taken.rows n v o)) ∙ e) (places (consumer_node link) link.consumer.dialed.vb n v))
+      ends
+
+  consumer_stays : (x : PlainLink) → StaysProducer (vb_of w (producer_node x) x.consumer.dialed.vb) (vb_of w' (producer_node x) x.consumer.dialed.vb) (c.nodes (producer_seat x)) (c'.nodes (producer_seat x)) x
+  consumer_stays x p s e active opened has = ⊎_elim
+      (λ t. let same : p ≡ fv = one_vb w (producer_node x) x.consumer.dialed.vb p fv e (moved_vb w (consumer_node link) link.consumer.dialed.vb (producer_node x) x.consumer.dialed.vb fv known t.0 t.1) in
+      absurd (not_both fv.role (subst (λ (k : Plain). is_active k.role ≡ true) same active) follows))
+      (λ o. (p, became.there (producer_node x) x.consumer.dialed.vb o ∙ e, active, opened, ap (λ (m : Member). m.br) (changed.others (producer_seat x) (other_seat (producer_node x) x.consumer.dialed.vb o))))
+      (places (consumer_node link) link.consumer.dialed.vb (producer_node x) x.consumer.dialed.vb)
+
+  apart_dial : (x : PlainLink) → IsLink x w.links → Differ link x → IsApart (consumer_node link) link.consumer.dialed.vb (r.dial_of (link_number x))
+  apart_dial x i d = subst (IsApart (consumer_node link) link.consumer.dialed.vb) (sym (a.links x i).dialed) (λ s t. d.follower (sym s) (sym t))
+
+  consumer_other : (x : PlainLink) → IsLink x w.links → Differ link x → LinkAgrees w' r' c' x (busy (link_number x)).0 (busy (link_number x)).1
+  consumer_other x i d = link_carried w w' r r' c c' x (busy (link_number x)).0 (busy (link_number x)).1
+      (λ v e. (v, became.there (consumer_node x) x.consumer.dialed.vb (λ s t. d.follower (sym s) (sym t)) ∙ e, kept_same v))
+      (taken.dials (link_number x) (other_number busy w r r' c c' l link a found x d)) (taken.streams (link_number x) x.consumer.dialed.vb (other_number busy w r r' c c' l link a found x d) (apart_dial x i d))
+      (taken.points (link_number x) (other_number busy w r r' c c' l link a found x d) (apart_dial x i d))
+      (changed.others (consumer_seat x) (consumers_apart link x d)) (consumer_stays x) (a.links x i)
+
+-- a step at a link's consumer
+pub carries_consumer : (busy busy' : Busy) (w w' : PlainWorld) (r r' : Chronicle) (c c' : Cluster) (l : ℕ) (link link' : PlainLink) (fv fv' : Plain)
+    → AgreesIn busy w r c → row_at link_number l w.links ≡ Some link → SameEnds link link'
+    → vb_of w (consumer_node link) link.consumer.dialed.vb ≡ Some fv → fv'.role ≡ fv.role → fv'.streams ≡ fv.streams
+    → Became w w' (consumer_node link) link.consumer.dialed.vb fv' l link' → NoNewStream link link'
+    → TakenOf l (consumer_node link) link.consumer.dialed.vb r r' → MemberChanged (consumer_seat link) c c' → SoundCluster top c' → BusyBut l busy busy'
+    → VbAgrees r' (consumer_node link) link.consumer.dialed.vb (c'.nodes (consumer_seat link)) fv'
+    → DiskIsIf (r'.disk_at (consumer_node link) link.consumer.dialed.vb) (c'.disks (consumer_seat link)) (shelf_of w' (consumer_node link) link.consumer.dialed.vb) (Some fv')
+    → RestsIn w' r' c' → LinkAgrees w' r' c' link' (busy' l).0 (busy' l).1 → AgreesIn busy' w' r' c'
+carries_consumer busy busy' w w' r r' c c' l link link' fv fv' a found same known role_is streams_are became less taken changed sound but vb disk rests agrees =
+    carried busy busy' w w' r r' c c' l link link' a found same
+    (consumer_vbs busy w w' r r' c c' l link fv fv' (row_put link_number l link' w.links) a found known role_is streams_are became taken changed vb disk)
+    (consumer_disks busy w w' r r' c c' l link fv fv' (row_put link_number l link' w.links) a found known role_is streams_are became taken changed vb disk)
+    changed.tree taken.tree became.uuids became.linked sound but
+    (consumer_other busy w w' r r' c c' l link fv fv' (row_put link_number l link' w.links) a found known role_is streams_are became taken changed vb disk)
+    (λ y i d s. d.stream (less s))
+    rests
+    agrees
+
+-- a step at a link's consumer, with which the link is over; it has no stream that is open
+pub carries_left : (busy busy' : Busy) (w w' : PlainWorld) (r r' : Chronicle) (c c' : Cluster) (l : ℕ) (link : PlainLink) (fv fv' : Plain)
+    → AgreesIn busy w r c → row_at link_number l w.links ≡ Some link → vb_of w (consumer_node link) link.consumer.dialed.vb ≡ Some fv → fv'.role ≡ fv.role → fv'.streams ≡ fv.streams
+    → Changed w w' (consumer_node link) link.consumer.dialed.vb fv' (row_out link_number (link_number link) w.links)
+    → TakenOf l (consumer_node link) link.consumer.dialed.vb r r' → MemberChanged (consumer_seat link) c c' → SoundCluster top c' → BusyBut l busy busy'
+    → VbAgrees r' (consumer_node link) link.consumer.dialed.vb (c'.nodes (consumer_seat link)) fv'
+    → DiskIsIf (r'.disk_at (consumer_node link) link.consumer.dialed.vb) (c'.disks (consumer_seat link)) (shelf_of w' (consumer_node link) link.consumer.dialed.vb) (Some fv') → RestsIn w' r' c' → AgreesIn busy' w' r' c'
+carries_left busy busy' w w' r r' c c' l link fv fv' a found known role_is streams_are became taken changed sound but vb disk rests =
+    let links = row_out link_number (link_number link) w.links in
+    left_out busy busy' w w' r r' c c' l link a found taken.tree changed.tree sound but
+    (consumer_vbs busy w w' r r' c c' l link fv fv' links a found known role_is streams_are became taken changed vb disk)
+    (consumer_disks busy w w' r r' c c' l link fv fv' links a found known role_is streams_are became taken changed vb disk) became.uuids became.linked
+    (consumer_other busy w w' r r' c c' l link fv fv' links a found known role_is streams_are became taken changed vb disk) rests

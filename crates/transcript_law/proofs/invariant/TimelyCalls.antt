@@ -1,0 +1,234 @@
+-- the calls of clients, of a producer, of an operator and of writing down are such that a vBucket stays sound at them, whatever is replied
+use Rattle.std.specs.Prelude.{◌≡◌, ◌<◌, ◌^◌, ◌==◌, if◌then◌else◌, nat_le, slice_get}
+use Rattle.std.specs.List.{list_any}
+use Rattle.transcript_law.proofs.Words.{ℕ, zero, suc, Bool, true, false, Option, Some, None, is_some, Result, Ok, Err, Frame, KvRequest, RESPONSE, Status, Change, DcpMsg, Halt, PlainStream, PlainProducer, AdminCall, VbCall, VbReply, DialTold, Prog, Call, Done, Turn, More, Stop, repeated, go_on, bind, Job, Ended, bind_job}
+use Rattle.transcript_law.proofs.Words.{request_served, frame_served, frame_answered, stream_request, read_answered, take_unless, place_halt, next_put, stream_put, end_put, frame_put, frames_put, pulled, end_closed, stream_closed, admin_call, peer_pulled}
+use Rattle.client_session.proofs.Conduct.{either}
+use Rattle.client_session.specs.Serving.{MOST_DURABLE, Served as Session, deadline_of, durable_called, next_waiter, refused}
+use Rattle.dcp_producer.specs.Producers.{Served, begun, member_of}
+use Rattle.dcp_producer.specs.Pulling.{place_asked}
+use Rattle.dcp_producer.specs.Serving.{acknowledged, count_asked, message_answered, row_answered, status_sent, stream_of, weighed}
+use Rattle.durability.specs.Chains.{is_chain, Links}
+use Rattle.mcbp_dcp.specs.Messages.{read_of}
+use Rattle.mcbp_dcp.specs.Rows.{dcp_opcodes}
+use Rattle.mcbp_dcp.specs.declared.message.DcpFault.{DcpFault}
+use Rattle.mcbp_dcp.specs.declared.message.DcpMsg.TheVariants as msg
+use Rattle.mcbp_kv.specs.Requests.{request_of}
+use Rattle.mcbp_kv.specs.declared.request.KvRequest.TheVariants as request
+use Rattle.node_core.specs.Admin.{admin_job, role_noted}
+use Rattle.node_core.specs.Dials.{PlainDial, acknowledged_told, dial_due, due_asked, due_met, due_told, saved_told, untold}
+use Rattle.node_core.specs.Flushing.{chain_set, flush_at, flush_if, flush_told, ticked}
+use Rattle.node_core.specs.Loading.{start_job, start_told}
+use Rattle.node_core.specs.Peers.{PlainPeer, peer_answered, peer_told, pull_told}
+use Rattle.node_core.specs.declared.admin.AdminCall.TheVariants as admin
+use Rattle.dcp_consumer.specs.Machine.{is_streaming, may_acknowledge}
+use Rattle.vb_calls.proofs.{Conduct.{always_bind}, JobConduct.{always_bind_job}}
+use Rattle.vb_calls.specs.Flushes.{append_job, appended_job, batch_told, done_job, flush_job, is_refusal, note_role_job, part_job, role_after, role_job, role_told_job, save_all_job, taken_job, took}
+use Rattle.vb_calls.specs.Jobs.{AlwaysJob}
+use Rattle.vb_calls.specs.Jobs as job
+use Rattle.vb_calls.specs.Programs.{Always, AnyReply}
+use Rattle.vb_calls.specs.Shelves.{Ask, DiskFailed, Fate, Flush, Idle, Out, Stood, WasClosed, Written}
+use Rattle.vb_calls.specs.declared.calls.VbCall.TheVariants as call
+use Rattle.vb_calls.specs.declared.journals.Flushed.{Flushed}
+use Rattle.vb_calls.specs.declared.journals.Flushed.TheVariants as flushed
+use Rattle.vb_calls.specs.declared.journals.Wrote.{Wrote}
+use Rattle.vb_calls.specs.declared.journals.Wrote.TheVariants as wrote
+use Rattle.vb_types.specs.declared.journal.Batch.{Batch}
+use Rattle.vb_types.specs.declared.journal.FlushPart.{FlushPart}
+use Rattle.vb_types.specs.declared.journal.FlushPart.TheVariants as part
+use Rattle.vbucket.specs.Laws.{IsTimely}
+
+-- whatever a program or a job is answered, each of its calls is of a kind
+abbrev pub Makes : {A : Type 0} → (VbCall → Type 0) → Prog A → Type 0
+Makes kind prog = Always (λ v made. kind made) (λ a. Unit {0}) prog
+
+abbrev pub MakesJob : {A : Type 0} → (VbCall → Type 0) → Job A → Type 0
+MakesJob kind one = AlwaysJob AnyReply (λ v made. kind made) (λ v (ask : Ask). Unit {0}) (λ a. Unit {0}) one
+
+-- each is timely
+abbrev pub Tame : {A : Type 0} → Prog A → Type 0
+Tame prog = Makes IsTimely prog
+
+abbrev pub TameJob : {A : Type 0} → Job A → Type 0
+TameJob one = MakesJob IsTimely one
+
+tame_bind : {A B : Type 0} (prog : Prog A) (k : A → Prog B) → Tame prog → ((a : A) → Tame (k a)) → Tame (bind prog k)
+tame_bind prog k first second = always_bind AnyReply (λ v made. IsTimely made) (λ a. Unit {0}) (λ b. Unit {0}) prog k first (λ a any. second a)
+
+tame_bind_job : {A B : Type 0} (first : Job A) (k : A → Job B) → TameJob first → ((a : A) → TameJob (k a)) → TameJob (bind_job first k)
+tame_bind_job first k tame second = always_bind_job AnyReply (λ v made. IsTimely made) (λ v ask. Unit {0}) (λ a. Unit {0}) (λ b. Unit {0}) first k tame (λ a any. second a)
+
+-- ---- a stream that is closed
+
+pub closed_makes : (kind : VbCall → Type 0) → ((id : ℕ) → kind (call.CloseStream id)) → (end : PlainProducer) → Makes kind (end_closed end)
+unfolding end_closed
+closed_makes kind closes end = by end.stream
+  where
+    by : (o : Option PlainStream) → Makes kind (stream_closed end.desk.id o)
+    by None = tt
+    by (Some stream) = either (λ (p : Prog (Unit {0})). Makes kind p) stream.ended (Done tt) (Call stream.vb (call.CloseStream end.desk.id) (λ reply. Done tt)) tt (closes end.desk.id, λ reply any. tt)
+
+-- ---- a client, while the clock shows a number of 64 bits
+
+request_tame : (clock : ℕ) → clock < 2 ^ 64 → (f : Frame) (asked : Result KvRequest Status) (s : Session) → Tame (request_served clock f asked s)
+unfolding request_served
+request_tame clock small f (Err st) s = tt
+request_tame clock small f (Ok request.Noop) s = tt
+request_tame clock small f (Ok (request.Hello features)) s = tt
+request_tame clock small f (Ok (request.Get key)) s = (tt, λ reply any. tt)
+request_tame clock small f (Ok (request.Write write None)) s = (small, λ reply any. tt)
+request_tame clock small f (Ok (request.Write write (Some wish))) s =
+    either (λ (p : Prog Session). Tame p) (nat_le MOST_DURABLE s.session.used) (Done (refused f Status.Etmpfail s))
+    (durable_called f (call.Durable write clock wish.level (deadline_of clock wish.timeout) (next_waiter s.session)) s) tt (small, λ reply any. tt)
+
+pub served_tame : (clock : ℕ) → clock < 2 ^ 64 → (f : Frame) (s : Session) → Tame (frame_served clock f s)
+unfolding frame_served
+served_tame clock small f s = either (λ (p : Prog Session). Tame p) (f.magic == RESPONSE) (Done s) (request_served clock f (request_of s.session.settings.json f) s) tt (request_tame clock small f (request_of s.session.settings.json f) s)
+
+-- ---- a producer that answers
+
+weighed_tame : (f : Frame) (seq : ℕ) (s : Served) (weight : Result ℕ Status) → Tame (count_asked f seq s weight)
+weighed_tame f seq s (Err st) = tt
+weighed_tame f seq s (Ok member) = (tt, λ reply any. tt)
+
+message_tame : (f : Frame) (m : DcpMsg) (s : Served) → Tame (message_answered f m s)
+unfolding stream_request acknowledged
+message_tame f (msg.StreamRequest ask) s = (tt, λ reply any. tt)
+message_tame f (msg.SeqnoAcknowledged seq) s = weighed_tame f seq s (weighed seq (stream_of f.vb_or_status s.end.stream) (member_of s.end.handshake))
+message_tame f other s = tt
+
+row_tame : (f : Frame) (read : Result DcpMsg DcpFault) (s : Served) → Tame (row_answered f read s)
+row_tame f (Ok m) s = message_tame f m s
+row_tame f (Err fault) s = tt
+
+read_tame : (f : Frame) (read : Option (Result DcpMsg DcpFault)) (s : Served) → Tame (read_answered f read s)
+read_tame f None s = tt
+read_tame f (Some read) s = either (λ (p : Prog Served). Tame p) (f.datatype == 0) (row_answered f read s) (Done (status_sent f Status.Einval s)) (row_tame f read s) tt
+
+answered_tame : (f : Frame) (s : Served) → Tame (frame_answered f s)
+unfolding frame_answered
+answered_tame f s =
+    either (λ (p : Prog Served). Tame p) (f.magic == RESPONSE) (Done s) (if list_any (λ o. o == f.opcode) dcp_opcodes then read_answered f (read_of f) s else Done (status_sent f Status.UnknownCommand s)) tt
+    (either (λ (p : Prog Served). Tame p) (list_any (λ o. o == f.opcode) dcp_opcodes) (read_answered f (read_of f) s) (Done (status_sent f Status.UnknownCommand s)) (read_tame f (read_of f) s) tt)
+
+pub peer_tame : (f : Frame) (peer : PlainPeer) → Tame (peer_answered f peer)
+peer_tame f peer = tame_bind (frame_answered f (begun peer.producer)) (λ s. Done (peer_told peer.heard s)) (answered_tame f (begun peer.producer)) (λ s. tt)
+
+-- ---- a producer that puts frames
+
+module _ (s : Served) (stream : PlainStream) where
+  place_tame : (o : Option Halt) → Tame (take_unless s stream o)
+  place_tame None = (tt, λ reply any. tt)
+  place_tame (Some halted) = tt
+
+  next_tame : (item : Option Change) → Tame (next_put s stream item)
+  next_tame (Some c) = tt
+  next_tame None = either (λ (p : Prog (Turn Served (Served × Halt))). Tame p) stream.ended (Done (More (end_put s stream))) (place_asked s stream) tt (tt, λ reply any. place_tame (place_halt reply))
+
+stream_tame : (s : Served) (o : Option PlainStream) → Tame (stream_put s o)
+stream_tame s None = tt
+stream_tame s (Some stream) = next_tame s stream (slice_get stream.items stream.next)
+
+turn_tame : (s : Served) → Tame (frame_put s)
+unfolding frame_put
+turn_tame s = stream_tame s s.end.stream
+
+on_tame : (t : Turn Served (Served × Halt)) → Tame (go_on frame_put t)
+on_tame (More s) = turn_tame s
+on_tame (Stop stopped) = tt
+
+turns_tame : (k : ℕ) (s : Served) → Tame (repeated k frame_put s)
+turns_tame zero s = tt
+turns_tame (suc k) s = tame_bind (repeated k frame_put s) (go_on frame_put) (turns_tame k s) on_tame
+
+over_tame : (t : Turn Served (Served × Halt)) → Tame (pulled t)
+over_tame (More s) = tt
+over_tame (Stop stopped) = tt
+
+puts_tame : (k : ℕ) (s : Served) → Tame (frames_put k s)
+unfolding frames_put
+puts_tame k s = tame_bind (repeated k frame_put s) pulled (turns_tame k s) over_tame
+
+pub pulled_tame : (k : ℕ) (peer : PlainPeer) → Tame (peer_pulled k peer)
+pulled_tame k peer = tame_bind (frames_put k (begun peer.producer)) (λ put. Done (pull_told peer.heard put)) (puts_tame k (begun peer.producer)) (λ put. tt)
+
+-- ---- a dial whose vBucket has more written down
+
+met_tame : (s : DialTold) (seq : ℕ) → Tame (due_met s seq)
+met_tame s seq = either (λ (p : Prog DialTold). Tame p) (may_acknowledge seq s.dial.consumer) (Call s.dial.consumer.dialed.vb call.Stat (λ reply. Done (acknowledged_told seq s (saved_told reply)))) (Done s) (tt, λ reply any. tt) tt
+
+pub due_tame : (dial : PlainDial) → Tame (dial_due dial)
+unfolding due_asked
+due_tame dial =
+    let s : DialTold = untold dial in
+    either (λ (p : Prog DialTold). Tame p) (is_streaming s.dial.consumer.handshake) (Call s.dial.consumer.dialed.vb call.Due (λ reply. due_met s (due_told reply))) (Done s) (tt, λ reply any. met_tame s (due_told reply)) tt
+
+-- ---- chains and clocks
+
+pub chain_tame : (n v : ℕ) (chain : Links) → is_chain chain.active chain.others ≡ true → Tame (chain_set n v chain)
+chain_tame n v chain is = (is, λ reply any. tt)
+
+pub tick_tame : (n v clock : ℕ) → Tame (ticked n v clock)
+tick_tame n v clock = (tt, λ reply any. tt)
+
+-- ---- writing down
+
+done_tame : (v seq : ℕ) → TameJob (done_job v seq)
+done_tame v seq = (tt, λ kept. (tt, λ reply any. tt))
+
+module _ (v : ℕ) (batch : Batch) (next : Job Flushed) (tame : TameJob next) where
+  fate_tame : (fate : Fate) → TameJob (appended_job v batch next fate)
+  fate_tame Stood = (tt, λ kept. tame)
+  fate_tame WasClosed = (tt, λ kept. tt)
+  fate_tame DiskFailed = (tt, λ kept. tt)
+
+  append_tame : TameJob (append_job v batch next)
+  append_tame = (tt, λ fate. fate_tame fate)
+
+taken_tame : (v : ℕ) (next : Batch → Job Flushed) → ((batch : Batch) → TameJob (next batch)) → (o : Option Batch) → TameJob (taken_job v next o)
+taken_tame v next tame None = tt
+taken_tame v next tame (Some batch) = (tt, λ kept. tame batch)
+
+all_tame : (v : ℕ) (batch : Batch) → TameJob (save_all_job v batch)
+all_tame v batch = append_tame v batch (done_job v batch.position.at) (done_tame v batch.position.at)
+
+part_tame : (v : ℕ) (p : FlushPart) (flush : Flush) → TameJob (part_job v p flush)
+part_tame v part.Take Idle = (tt, λ reply any. taken_tame v (λ batch. Ended (took batch)) (λ batch. tt) (batch_told reply))
+part_tame v part.Take (Out batch) = tt
+part_tame v part.Take (Written seq) = tt
+part_tame v part.Save Idle = tt
+part_tame v part.Save (Out batch) = append_tame v batch (Ended flushed.Saved) tt
+part_tame v part.Save (Written seq) = tt
+part_tame v part.Done Idle = tt
+part_tame v part.Done (Out batch) = tt
+part_tame v part.Done (Written seq) = done_tame v seq
+part_tame v part.All Idle = (tt, λ reply any. taken_tame v (save_all_job v) (all_tame v) (batch_told reply))
+part_tame v part.All (Out batch) = all_tame v batch
+part_tame v part.All (Written seq) = done_tame v seq
+
+flush_if_tame : (n v : ℕ) (p : FlushPart) (there : Bool) → TameJob (flush_if n v p there)
+unfolding flush_job
+flush_if_tame n v p true = tame_bind_job (flush_job v p) (λ came. Ended (flush_told n v came)) (tt, λ flush. part_tame v p flush) (λ came. tt)
+flush_if_tame n v p false = tt
+
+pub flush_tame : (n v : ℕ) (p : FlushPart) → TameJob (flush_at n v p)
+flush_tame n v p = (tt, λ reply any. flush_if_tame n v p (is_some reply))
+
+-- ---- an operator's calls, and those of a start
+
+told_tame : (v : ℕ) (asked : VbCall) (reply : Option VbReply) → TameJob (role_told_job v asked reply)
+told_tame v asked None = tt
+told_tame v asked (Some reply) = either (λ (one : Job (Option VbReply × Wrote)). TameJob one) (is_refusal reply.answer) (Ended (Some reply, wrote.NotAsked)) (job.Call v call.Log (note_role_job v (role_after asked) reply)) tt (tt, λ logged any. (tt, λ fate. tt))
+
+role_tame : (v : ℕ) (asked : VbCall) → IsTimely asked → TameJob (role_job v asked)
+unfolding role_job
+role_tame v asked timely = (timely, λ reply any. told_tame v asked reply)
+
+pub admin_tame : (n v : ℕ) (asked : AdminCall) → TameJob (admin_job n v asked)
+admin_tame n v (admin.Promote uuid) = tame_bind_job (role_job v (call.Promote uuid)) (λ made. Ended (role_noted n v (admin.Promote uuid) made)) (role_tame v (call.Promote uuid) tt) (λ made. tt)
+admin_tame n v admin.Follow = tame_bind_job (role_job v call.Follow) (λ made. Ended (role_noted n v admin.Follow made)) (role_tame v call.Follow tt) (λ made. tt)
+admin_tame n v admin.Dead = tame_bind_job (role_job v call.Dead) (λ made. Ended (role_noted n v admin.Dead made)) (role_tame v call.Dead tt) (λ made. tt)
+admin_tame n v other = (tt, λ reply any. tt)
+
+pub start_tame : (n v uuid : ℕ) → TameJob (start_job n v uuid)
+start_tame n v uuid = tame_bind_job (role_job v (call.Promote uuid)) (λ made. Ended (start_told n v made)) (role_tame v (call.Promote uuid) tt) (λ made. tt)

@@ -1,0 +1,103 @@
+-- lines of changes that a vBucket made of its own, read beside what other lines tell
+use Rattle.std.specs.Prelude.{◌≡◌, ◌<◌, ◌∷◌, ◌++◌, ◌&&◌, if◌then◌else◌}
+use Rattle.transcript_law.proofs.Words.{ℕ, Bool, true, false, not, List, [], refl, image_of, ap, sym, ◌∙◌, subst, ⊎_elim, Option, Some, Change, Event, Chronicle, Role, ForksBelow, IsNew, LogEntry, option_map, after_change, after_lines, grow, hist, last_seq, map, with_at, IsIfKnown, LawfulChange, LawfulFrom}
+use Rattle.transcript_law.proofs.{invariant.Carried.{places}, invariant.Tables.{at_here, at_there}}
+use Rattle.transcript_law.specs.Chronicles.{CountsTold, DiskTold, after_calls, after_restart, broken_by, calls_of_append, is_off, spent, state_of, with_disk, with_record}
+use Rattle.{vb_disk.specs.declared.fuse.Fuse.{Fuse}, vb_types.specs.declared.journal.Record.{Record}}
+use Rattle.transcript_law.specs.Lawfulness.{Fulfils, IsHeldIfCommitted, LawfulBranch, fork_in, newest_of}
+use Rattle.vb_types.specs.declared.role.Role.TheVariants.{Active}
+
+-- what such a line and that of a branch read is the same in both
+pub record Reads (q r : Chronicle) : Type 0 where
+  pub tree : r.tree ≡ q.tree
+  pub branch : r.branch_at ≡ q.branch_at
+  pub held : r.held ≡ q.held
+  pub writer : r.writer_of ≡ q.writer_of
+  pub role : r.role_at ≡ q.role_at
+  pub counts : r.counts_at ≡ q.counts_at
+  pub log : r.log_at ≡ q.log_at
+  pub snap : r.snap_at ≡ q.snap_at
+  pub saved : (n v : ℕ) → (r.disk_at n v).saved ≡ (q.disk_at n v).saved
+
+pub reads_same : (r : Chronicle) → Reads r r
+reads_same r = record { tree = refl; branch = refl; held = refl; writer = refl; role = refl; counts = refl; log = refl; snap = refl; saved = λ n v. refl }
+
+-- it reads of a disk what counts as saved alone
+pub saved_at : (disks : ℕ → ℕ → DiskTold) (n v : ℕ) (d : DiskTold) → d.saved ≡ (disks n v).saved → (m q : ℕ) → (with_at disks n v d m q).saved ≡ (disks m q).saved
+saved_at disks n v d same m q = ⊎_elim
+    (λ s. (λ i. (with_at disks n v d (s.0 i) (s.1 i)).saved) ∙ ap (λ (x : DiskTold). x.saved) (at_here disks n v d) ∙ same ∙ sym (λ i. (disks (s.0 i) (s.1 i)).saved))
+    (λ o. ap (λ (x : DiskTold). x.saved) (at_there disks n v d m q o))
+    (places n v m q)
+
+pub disk_reads : (r : Chronicle) (n v : ℕ) (d : DiskTold) → d.saved ≡ (r.disk_at n v).saved → Reads r (with_disk r n v d)
+disk_reads r n v d same = record { tree = refl; branch = refl; held = refl; writer = refl; role = refl; counts = refl; log = refl; snap = refl; saved = saved_at r.disk_at n v d same }
+
+-- and nothing of device calls
+pub calls_read : {q r : Chronicle} (calls n : ℕ) → Reads q r → Reads q (after_calls calls n r)
+calls_read calls n s = record { tree = s.tree; branch = s.branch; held = s.held; writer = s.writer; role = s.role; counts = s.counts; log = s.log; snap = s.snap; saved = s.saved }
+
+pub reads_change : (q r : Chronicle) (n v uuid : ℕ) (change : Change) → Reads q r → Reads (after_change q n v uuid change) (after_change r n v uuid change)
+reads_change q r n v uuid change s = record {
+  tree = ap (λ t. grow t uuid change) s.tree;
+  branch = s.branch;
+  held = ap (λ (h : ℕ → ℕ → List Change). with_at h n v (h n v ++ change ∷ [])) s.held;
+  writer = s.writer;
+  role = s.role;
+  counts = s.counts;
+  log = s.log;
+  snap = ap (λ (t : ℕ → ℕ → Option (ℕ × ℕ)). with_at t n v (Some (change.seq, change.seq))) s.snap;
+  saved = s.saved;
+}
+
+pub change_read : (q r : Chronicle) (n v uuid : ℕ) (change : Change) → Reads q r → LawfulChange r n v uuid change → LawfulChange q n v uuid change
+change_read q r n v uuid change s l = record {
+  active = subst (λ (f : ℕ → ℕ → Option (Option Role)). IsIfKnown (f n v) (Some Active)) s.role l.active;
+  writer = record { made_or_took = ap (λ (f : ℕ → Option (ℕ × ℕ)). f uuid) (sym s.writer) ∙ l.writer.made_or_took; on_branch = ap (λ (f : ℕ → ℕ → Option ℕ). f n v) (sym s.branch) ∙ l.writer.on_branch };
+  above_branch = subst (λ t. last_seq 0 (hist t uuid) < change.seq) s.tree l.above_branch;
+  above_held = subst (λ (h : ℕ → ℕ → List Change). last_seq 0 (h n v) < change.seq) s.held l.above_held;
+  above_forks = subst (ForksBelow uuid change.seq) s.tree l.above_forks;
+  fulfils = subst (λ (h : ℕ → ℕ → List Change). Fulfils (image_of (h n v)) change) s.held l.fulfils;
+  backed = subst (λ (f : ℕ → ℕ → CountsTold). IsHeldIfCommitted (f n v) (q.disk_at n v).saved (image_of (q.held n v)) change) s.counts
+      (subst (λ k. IsHeldIfCommitted (r.counts_at n v) k (image_of (q.held n v)) change) (s.saved n v) (subst (λ (h : ℕ → ℕ → List Change). IsHeldIfCommitted (r.counts_at n v) (r.disk_at n v).saved (image_of (h n v)) change) s.held l.backed));
+}
+
+pub branch_read : (q r : Chronicle) (n v uuid : ℕ) (parent : Option ℕ) (fork high : ℕ) → Reads q r → LawfulBranch r n v uuid parent fork high → LawfulBranch q n v uuid parent fork high
+branch_read q r n v uuid parent fork high s l = record {
+  new = subst (IsNew uuid) s.tree l.new;
+  newest = subst (λ (f : ℕ → ℕ → Option (List LogEntry)). IsIfKnown (option_map newest_of (f n v)) parent) s.log l.newest;
+  last = subst (λ (h : ℕ → ℕ → List Change). high ≡ last_seq 0 (h n v)) s.held l.last;
+  leaves = subst (λ (f : ℕ → ℕ → Option (ℕ × ℕ)). IsIfKnown (option_map (fork_in high) (f n v)) fork) s.snap l.leaves;
+}
+
+-- so they are lawful in both
+pub changes_read : (q r : Chronicle) (n v uuid : ℕ) (cs : List Change) → Reads q r → LawfulFrom r (map (Event.Changed n v uuid) cs) → LawfulFrom q (map (Event.Changed n v uuid) cs)
+changes_read q r n v uuid [] s l = tt
+changes_read q r n v uuid (c ∷ cs) s l = (change_read q r n v uuid c s l.0, changes_read (after_change q n v uuid c) (after_change r n v uuid c) n v uuid cs (reads_change q r n v uuid c s) l.1)
+
+pub reads_changes : (q r : Chronicle) (n v uuid : ℕ) (cs : List Change) → Reads q r → Reads (after_lines q (map (Event.Changed n v uuid) cs)) (after_lines r (map (Event.Changed n v uuid) cs))
+reads_changes q r n v uuid [] s = s
+reads_changes q r n v uuid (c ∷ cs) s = reads_changes (after_change q n v uuid c) (after_change r n v uuid c) n v uuid cs (reads_change q r n v uuid c s)
+
+-- that a vBucket of a node that starts takes writes is told before them or behind them
+pub restart_past : (r : Chronicle) (n v m q uuid : ℕ) (cs : List Change) → after_restart (after_lines r (map (Event.Changed m q uuid) cs)) n v ≡ after_lines (after_restart r n v) (map (Event.Changed m q uuid) cs)
+restart_past r n v m q uuid [] = refl
+restart_past r n v m q uuid (c ∷ cs) = restart_past (after_change r m q uuid c) n v m q uuid cs
+
+-- nor does that tell of what counts as saved
+pub restart_saved : (r : Chronicle) (n v m q : ℕ) → ((after_restart r n v).disk_at m q).saved ≡ (r.disk_at m q).saved
+restart_saved r n v m q =
+    let f : Fuse = (r.arm_at n).fuse in let d : DiskTold = r.disk_at n v in let s : Record = state_of r n v Active in let hit : Bool = is_off (spent calls_of_append f) && not (is_off f) in
+    saved_at r.disk_at n v (if hit then broken_by f (Some s) d else with_record s d) (elim hit as (λ b. (if b then broken_by f (Some s) d else with_record s d).saved ≡ d.saved) [ true ↦ refl | false ↦ refl ]) m q
+
+-- roles are told before them or behind them, and they tell of no arm
+pub roles_past : (roles : ℕ → ℕ → Option (Option Role)) (r : Chronicle) (n v uuid : ℕ) (cs : List Change) → after_lines (record r { role_at = roles }) (map (Event.Changed n v uuid) cs) ≡ record (after_lines r (map (Event.Changed n v uuid) cs)) { role_at = roles }
+roles_past roles r n v uuid [] = refl
+roles_past roles r n v uuid (c ∷ cs) = roles_past roles (after_change r n v uuid c) n v uuid cs
+
+pub roles_same : (r : Chronicle) (n v uuid : ℕ) (cs : List Change) → (after_lines r (map (Event.Changed n v uuid) cs)).role_at ≡ r.role_at
+roles_same r n v uuid [] = refl
+roles_same r n v uuid (c ∷ cs) = roles_same (after_change r n v uuid c) n v uuid cs
+
+pub arms_same : (r : Chronicle) (n v uuid : ℕ) (cs : List Change) → (after_lines r (map (Event.Changed n v uuid) cs)).arm_at ≡ r.arm_at
+arms_same r n v uuid [] = refl
+arms_same r n v uuid (c ∷ cs) = arms_same (after_change r n v uuid c) n v uuid cs

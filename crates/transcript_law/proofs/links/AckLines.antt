@@ -1,0 +1,69 @@
+-- what a consumer acknowledges in the course of a line `down`
+use Rattle.std.specs.Prelude.{◌≡◌, ◌<◌, ◌≤◌, ◌∷◌, ◌++◌, ◌^◌}
+use Rattle.transcript_law.proofs.Words.{ℕ, true, false, List, [], refl, ap, sym, ◌∙◌, subst, append_assoc, None, Frame, spelling, Event, Sound, fork_of, States, after, after_job, after_job_lift, lift}
+use Rattle.transcript_law.proofs.Words.{DialTold, Chronicle, after_lines, image_in}
+use Rattle.transcript_law.proofs.invariant.Agreement.{AgreesAt, VbAgrees, LinkAgrees, consumer_seat, AgreesIn}
+use Rattle.transcript_law.proofs.{links.Acknowledging.{DueCame, ack_frame, acked_agrees, ack_lawful, due_came}, invariant.LinkRows.{put_twice}}
+use Rattle.transcript_law.proofs.{links.Downing.{Asker, Going, Line, Reached, busy_at, found_now, link_now, linked, now, so_far, vb_here}, lines.Lines.{after_more, lawful_more, quiet_more}, links.Onward.{Kept, onward_more}}
+use Rattle.transcript_law.specs.Lawfulness.{SavesThirds}
+use Rattle.{dcp_consumer.specs.Machine.{is_streaming}, node_core.specs.Dials.{acknowledged_line, acknowledged_told, due_asked}}
+
+-- a line `down` is in its course: what is due now
+module _ (line : Line) (rest : List Frame) (states : Kept) (at : Asker) (events : List Event) (g : Going line rest states at events) where
+  open line use {w, r, link}
+  open line.link.consumer.dialed use {node as n, vb as v, link as l}
+
+  abbrev s : DialTold
+  s = so_far line at None events
+
+  abbrev told : Chronicle
+  told = after_lines r events
+
+  abbrev mine : LinkAgrees (now line states at) told g.cluster (link_now line at) [] rest
+  mine = linked line rest states at events g
+
+  held : VbAgrees told n v (g.cluster.nodes (consumer_seat link)) mine.follower
+  held = subst (AgreesAt told n v (g.cluster.nodes (consumer_seat link))) mine.follower_is (g.agrees.vbs n v)
+
+  sound : Sound mine.follower
+  sound = held.sound
+
+  abbrev came : Kept × DialTold
+  came = after_job (lift (due_asked s)) states.0 states.1
+
+  came_is : (y : States × DialTold) → after (due_asked s) states.0 ≡ y → came ≡ ((y.0, states.1), y.1)
+  came_is y e = after_job_lift (due_asked s) states.0 states.1 ∙ ap (λ y. ((y.0, states.1), y.1)) e
+
+  acked_on : (seq : ℕ) → is_streaming at.waiting ≡ true → seq < 2 ^ 64 → seq ≤ fork_of mine.follower.position → SavesThirds (image_in mine.follower) seq mine.follower.saved → after (due_asked s) states.0 ≡ (states.0, acknowledged_told seq s mine.follower.saved)
+      → Reached line rest came
+  acked_on seq granted low shared thirds e =
+      let saved : ℕ = mine.follower.saved in
+      let bytes : List ℕ = spelling (ack_frame seq s.dial.consumer) in
+      let at' : Asker = record { out = at.out ++ bytes; waiting = at.waiting; asked = at.asked; acked = seq } in
+      let tell : Event = acknowledged_line link.consumer.dialed seq saved in
+      record {
+        states = states;
+        at = at';
+        over = None;
+        events = events ++ tell ∷ [];
+        same = came_is (states.0, acknowledged_told seq s saved) e;
+        rolled = false;
+        stage = record {
+          lawful = lawful_more r events (tell ∷ []) g.quiet g.lawful (ack_lawful (busy_at line rest) (now line states at) told g.cluster g.agrees (link_now line at) [] rest mine seq granted shared thirds, tt);
+          quiet = quiet_more events (tell ∷ []) g.quiet (tt, tt);
+          onward = record { arm = g.onward.arm; lines = onward_more events tell g.onward.lines tt };
+          cluster = g.cluster;
+          agrees = subst (λ x. AgreesIn (busy_at line rest) (now line states at') x g.cluster) (sym (after_more r events (tell ∷ [])))
+              (acked_agrees (link_now line at) seq (link_now line at').up (sym (append_assoc link.up at.out bytes)) granted low (busy_at line rest) (now line states at) (now line states at') told g.cluster
+              g.agrees (found_now line states at)
+              (record { powers = λ m. refl; vbs = λ m q. refl; shelves = λ m q. refl; uuids = refl; linked = sym (put_twice l w.links (link_now line at) (link_now line at') refl) }));
+        };
+      }
+
+  -- nothing is, or it is acknowledged
+  pub due_going : Reached line rest came
+  due_going = by (due_came states.0 mine.follower s (vb_here line states at mine.follower mine.follower_is) mine.follows sound)
+    where
+      by : DueCame states.0 mine.follower s (after (due_asked s) states.0) → Reached line rest came
+      by (DueCame.IsSilent e) = record { states = states; at = at; over = None; events = events; same = came_is (states.0, s) e; rolled = false; stage = g }
+      by (DueCame.IsAcked seq granted low shared thirds e) = acked_on seq granted low shared thirds e

@@ -1,0 +1,287 @@
+-- how a request for a stream is answered, over the plain vBuckets of a node, and where the two ends of its link stand then
+use Rattle.std.specs.Prelude.{◌≡◌, ◌<◌, ◌≤◌, ◌∷◌, ◌++◌, ◌==◌, ◌&&◌, ◌^◌, if◌then◌else◌, ◌||◌}
+use Rattle.transcript_law.proofs.Words.{answered, ℕ, true, false, List, [], length, take, drop, refl, ap, sym, ◌∙◌, subst, arith, Option, Some, None, not}
+use Rattle.transcript_law.proofs.Words.{nat_le, All, eq-eqb, ne_eqb, nat_tests, drop-append-le, All-nil, Frame, spelling, Readable, dcp_frame, EntryInRange, AskAnswer, Position}
+use Rattle.transcript_law.proofs.Words.{LogEntry, StreamAsk, front, uuid_of, IsFront, Member, Stream, Plain, is_active, stream_at, new_stream, Sound, stream_told, PlainProducer, granted, PlainLink}
+use Rattle.transcript_law.proofs.Words.{producer_node, consumer_node, Granted, Feed, option_or, All-weaker, find-append, DcpMsg, Handshake, is_some, nat_lt, AskInRange, Event, Status, Verdict}
+use Rattle.transcript_law.proofs.Words.{Continue, Roll, rule, open_refusal, after, States, with_vb_at, call_at, with_frame, refuse, stream_request, frame_answered, PlainStream, Served, VbCall}
+use Rattle.transcript_law.proofs.Words.{judged_open, open_outcome, verdict_with, ask_verdict, asked_id, high_told, request_refusal, stream_answered, is_sync, told}
+use Rattle.dcp_producer.specs.declared.desk.Named.{Named}
+use Rattle.transcript_law.proofs.invariant.Agreement.{EntryFits, IsAcknowledgement, spoken, request_frames, first_answers, answer_frame, set_after, StreamIs, UpIs, DownIs, Asking, IsRefused, PointIs, wants_of, EndsStand, Talk}
+use Rattle.transcript_law.proofs.invariant.Carrying.{StreamsChanged}
+use Rattle.transcript_law.proofs.{links.Frames.{readable}, links.Spoken.{answer_spoken, spoken_push}}
+use Rattle.transcript_law.proofs.links.Talks.{served_link, next_up, more_down}
+use Rattle.transcript_law.proofs.invariant.Carried.{sound_streams}
+use Rattle.dcp_producer.specs.Serving.{log_told}
+use Rattle.transcript_law.proofs.links.Requests.{request_answered}
+
+-- the states with this vBucket at v, and else the same
+pub record StatesAre (st : States) (v : ℕ) (vb : Plain) (st' : States) : Type 0 where
+  pub here : st' v ≡ Some vb
+  pub there : (q : ℕ) → (q ≡ v → ⊥) → st' q ≡ st q
+
+-- the line of the answer to a request
+abbrev pub told_line : Served → ℕ → StreamAsk → List LogEntry → ℕ → AskAnswer → Event
+told_line s vb ask log high said = Event.Asked s.end.desk.stream s.end.desk.node vb ask high log said
+
+-- a request with the opaque o was answered with a refusal
+abbrev pub refused_told : Served → ℕ → ℕ → StreamAsk → List LogEntry → ℕ → AskAnswer → Served
+refused_told s o vb ask log high said = with_frame (record s { events = s.events ++ told_line s vb ask log high said ∷ [] }) (answer_frame o [] said)
+
+-- the stream that begins; its consumer has all up to there
+abbrev pub begun_stream : ℕ → ℕ → ℕ → PlainStream
+begun_stream o vb start = record { vb = vb; opaque = o; items = []; next = 0; reached = start; ended = false }
+
+-- a request was let continue
+abbrev pub granted_told : Served → ℕ → ℕ → StreamAsk → List LogEntry → ℕ → Served
+granted_told s o vb ask log high = record {
+  end = record s.end { stream = Some (begun_stream o vb ask.start) };
+  events = s.events ++ told_line s vb ask log high AskAnswer.Go ∷ [];
+  out = s.out ++ spelling (answer_frame o log AskAnswer.Go);
+  count = s.count;
+  resolved = s.resolved;
+}
+
+abbrev asked_frame : ℕ → ℕ → StreamAsk → Frame
+asked_frame o vb ask = dcp_frame (DcpMsg.StreamRequest ask) o vb
+
+-- the states after the vBucket was called
+called_once : (st : States) (v : ℕ) (a : Plain) → StatesAre st v a (with_vb_at st v a)
+called_once st v a = record { here = ap (λ b. if b then Some a else st v) (eq-eqb v v refl); there = λ q ne. ap (λ b. if b then Some a else st q) (ne_eqb q v ne) }
+
+module _ (o vb node : ℕ) (ask : StreamAsk) (s : Served) (range : AskInRange ask) (opened : s.end.handshake ≡ Handshake.Open true (Named.Member node)) (plainly : ask.flags ≡ 0) (none_yet : s.end.stream ≡ None) where
+  abbrev id : ℕ
+  id = s.end.desk.id
+
+  -- an open connection with no stream refuses nothing by itself
+  refusal_is : request_refusal s.end.handshake ask ≡ None
+  refusal_is =
+      ap (λ h. request_refusal h ask) opened
+      ∙ ap (λ n. if nat_lt 1 n then Some Status.Einval else if n == 1 then Some Status.NotSupported else None) plainly
+
+  id_is : asked_id s.end ask ≡ id
+  id_is = ap (λ r. if is_some r || is_some s.end.stream then 0 else id) refusal_is ∙ ap (λ (y : Option PlainStream). if is_some y then 0 else id) none_yet
+
+  -- it is answered by what the vBucket says
+  asked_there : (st : States) (there : Option Plain) → st vb ≡ there → after (frame_answered (asked_frame o vb ask) s) st
+      ≡ let p = call_at st vb (VbCall.OpenStream id ask true) there in
+      (p.0, stream_answered (asked_frame o vb ask) ask s (log_told p.1) (high_told p.1) (verdict_with None (ask_verdict p.1)))
+  unfolding stream_request dcp_frame
+  asked_there st there known =
+      ap (λ p. after p st) (request_answered o vb ask s range)
+      ∙ ap (λ r. let p = call_at st vb (VbCall.OpenStream (asked_id s.end ask) ask (is_sync s.end.handshake)) (st vb) in
+      (p.0, stream_answered (asked_frame o vb ask) ask s (log_told p.1) (high_told p.1) (verdict_with r (ask_verdict p.1)))) refusal_is
+      ∙ ap (λ i. let p = call_at st vb (VbCall.OpenStream i ask (is_sync s.end.handshake)) (st vb) in
+      (p.0, stream_answered (asked_frame o vb ask) ask s (log_told p.1) (high_told p.1) (verdict_with None (ask_verdict p.1)))) id_is
+      ∙ ap (λ h. let p = call_at st vb (VbCall.OpenStream id ask (is_sync h)) (st vb) in
+      (p.0, stream_answered (asked_frame o vb ask) ask s (log_told p.1) (high_told p.1) (verdict_with None (ask_verdict p.1)))) opened
+      ∙ ap (λ y. let p = call_at st vb (VbCall.OpenStream id ask true) y in
+      (p.0, stream_answered (asked_frame o vb ask) ask s (log_told p.1) (high_told p.1) (verdict_with None (ask_verdict p.1)))) known
+
+  -- no such vBucket
+  pub absent_asked : (st : States) → st vb ≡ None → after (frame_answered (asked_frame o vb ask) s) st ≡ (st, refused_told s o vb ask [] 0 (AskAnswer.Refuse 7))
+  unfolding stream_answered dcp_frame
+  absent_asked st none = asked_there st None none
+
+  module _ (st : States) (pv : Plain) (known : st vb ≡ Some pv) where
+    asked_then : (why : Option Status) → open_refusal pv id ask ≡ why
+        → after (frame_answered (asked_frame o vb ask) s) st
+        ≡ let p = open_outcome why pv id ask true in
+        (with_vb_at st vb p.0, stream_answered (asked_frame o vb ask) ask s (log_told (Some p.1)) (high_told (Some p.1)) (verdict_with None (ask_verdict (Some p.1))))
+    asked_then why because =
+        asked_there st (Some pv) known
+        ∙ ap (λ y. let p = open_outcome y pv id ask true in
+        (with_vb_at st vb p.0, stream_answered (asked_frame o vb ask) ask s (log_told (Some p.1)) (high_told (Some p.1)) (verdict_with None (ask_verdict (Some p.1))))) because
+
+    -- one that refuses
+    pub refused_asked : (why : Status) → open_refusal pv id ask ≡ Some why
+        → (st' : States) × StatesAre st vb pv st' × (after (frame_answered (asked_frame o vb ask) s) st ≡ (st', refused_told s o vb ask pv.log pv.position.at (refuse why)))
+    unfolding stream_answered dcp_frame
+    refused_asked why because = (with_vb_at st vb pv, called_once st vb pv, asked_then (Some why) because)
+
+    judged_asked : (said : Verdict) → open_refusal pv id ask ≡ None → rule pv.log pv.position.at ask ≡ said
+        → after (frame_answered (asked_frame o vb ask) s) st
+        ≡ let p = judged_open said pv id ask true in
+        (with_vb_at st vb p.0, stream_answered (asked_frame o vb ask) ask s (log_told (Some p.1)) (high_told (Some p.1)) (verdict_with None (ask_verdict (Some p.1))))
+    judged_asked said because ruled =
+        asked_then None because
+        ∙ ap (λ v. let p = judged_open v pv id ask true in
+        (with_vb_at st vb p.0, stream_answered (asked_frame o vb ask) ask s (log_told (Some p.1)) (high_told (Some p.1)) (verdict_with None (ask_verdict (Some p.1))))) ruled
+
+    -- one that sends it back
+    pub rolled_asked : (to : ℕ) → open_refusal pv id ask ≡ None → rule pv.log pv.position.at ask ≡ Roll to
+        → (st' : States) × StatesAre st vb pv st' × (after (frame_answered (asked_frame o vb ask) s) st ≡ (st', refused_told s o vb ask pv.log pv.position.at (AskAnswer.Roll to)))
+    unfolding stream_answered dcp_frame
+    rolled_asked to because ruled = (with_vb_at st vb pv, called_once st vb pv, judged_asked (Roll to) because ruled)
+
+    -- one that opens the stream
+    pub granted_asked : open_refusal pv id ask ≡ None → rule pv.log pv.position.at ask ≡ Continue
+        → (st' : States) × StatesAre st vb (record pv { streams = pv.streams ++ new_stream id ask true ∷ [] }) st'
+        × (after (frame_answered (asked_frame o vb ask) s) st ≡ (st', granted_told s o vb ask pv.log pv.position.at))
+    unfolding stream_answered dcp_frame
+    granted_asked because ruled =
+        let pv' : Plain = record pv { streams = pv.streams ++ new_stream id ask true ∷ [] } in
+        (with_vb_at st vb pv', called_once st vb pv', judged_asked Continue because ruled)
+
+refused_readable : (o : ℕ) (said : AskAnswer) → o < 2 ^ 32 → IsRefused said → Readable (answer_frame o [] said)
+refused_readable o AskAnswer.Go few refused = absurd refused
+refused_readable o (AskAnswer.Roll to) few refused = readable (DcpMsg.StreamAnswer (stream_told [] (AskAnswer.Roll to))) o 0 tt refused few (omega arith) (omega arith)
+refused_readable o (AskAnswer.Refuse code) few refused =
+    readable (DcpMsg.StreamAnswer (stream_told [] (AskAnswer.Refuse code))) o 0 (refused.0, refused.1) refused.2 few (omega arith) (omega arith)
+
+granted_readable : (o : ℕ) (log : List LogEntry) → o < 2 ^ 32 → length log ≤ 25 → All EntryFits log → Readable (answer_frame o log AskAnswer.Go)
+granted_readable o log few short fits =
+    readable (DcpMsg.StreamAnswer (stream_told log AskAnswer.Go)) o 0 (omega (arith, short)) (All-weaker EntryFits EntryInRange (λ e f. record { uuid = f.0; seq = f.1 }) log fits)
+    few (omega arith) (omega (arith, short))
+
+-- where the last request is about to be answered
+module _ (fv : Plain) (ask : StreamAsk) (link : PlainLink) (down : List ℕ) (f : Frame) (fs asked said : List Frame) (t : Asking (wants_of fv) ask link.server link.consumer asked (spoken said)) (last : t.answered ≡ 3)
+    (ups : UpIs link (f ∷ fs) asked) (downs : DownIs link [] said) where
+  -- the request's opaque
+  abbrev o : ℕ
+  o = link.consumer.asked
+
+  seen_most : t.seen ≤ 3
+  seen_most = subst (λ j. t.seen ≤ j) last t.not_more
+
+  last_up : (end : PlainProducer) (a : Frame) → UpIs (served_link link end down) fs []
+  last_up end a = next_up link end down a f (dcp_frame (DcpMsg.StreamRequest ask) o link.consumer.dialed.vb) fs []
+      (subst (UpIs link (f ∷ fs)) (t.asked_is ∙ ap (λ j. drop j (request_frames o link.consumer.dialed.node link.consumer.dialed.vb ask)) last) ups)
+
+  answers_said : spoken said ≡ drop t.seen first_answers
+  answers_said = t.said_is ∙ ap (λ j. drop t.seen (take j first_answers)) last
+
+  last_down : (end : PlainProducer) (a : Frame) → down ≡ link.down ++ spelling a → Readable a → DownIs (served_link link end down) [] (said ++ a ∷ [])
+  last_down end a wrote good = more_down link end down a said wrote good downs
+
+  pub asked_opened : link.server.handshake ≡ Handshake.Open true (Named.Member link.consumer.dialed.node)
+  asked_opened = t.server ∙ ap (set_after link.consumer.dialed.node) last
+
+  pub refused_talk : (kn : Member) (pv : Option Plain) (leader : Member) (g : Option Granted) (answer : AskAnswer) → IsRefused answer → (point : Option ℕ) → PointIs answer point → down ≡ link.down ++ spelling (answer_frame o [] answer)
+      → Talk fv kn pv leader g point (served_link link link.server down) fs []
+  refused_talk kn pv leader g answer refused point told wrote = record {
+    asked = [];
+    said = said ++ answer_frame o [] answer ∷ [];
+    stands = EndsStand.IsRefusedYet (record {
+      no_stream = t.no_stream;
+      refusal = record {
+        said = answer;
+        refused = refused;
+        told = told;
+        seen = t.seen;
+        not_more = seen_most;
+        server = asked_opened;
+        consumer = t.consumer;
+        asked_is = refl;
+        said_is = spoken_push said (answer_frame o [] answer) (answer_spoken o [] answer) ∙ ap (λ x. x ++ answer_frame o [] answer ∷ []) answers_said;
+      };
+    });
+    ups = last_up link.server (answer_frame o [] answer);
+    downs = last_down link.server (answer_frame o [] answer) wrote (refused_readable o answer t.consumer.small refused);
+  }
+
+  -- the producer's vBucket lets it continue
+  module _ (pv : Plain) (kn pn : Member) (at : kn.position ≡ fv.position) (logs : pn.log ≡ pv.log) (in_front : IsFront pn.log pn.br) (short : length pn.log ≤ 25)
+      (fits : All EntryFits pv.log) (active : is_active pv.role ≡ true) (free : stream_at link.server.desk.id pv.streams ≡ None) (apart : producer_node link ≡ consumer_node link → ⊥)
+      (wrote : down ≡ link.down ++ spelling (answer_frame link.consumer.asked pv.log AskAnswer.Go)) where
+    abbrev new : Stream
+    new = new_stream link.server.desk.id ask true
+
+    abbrev pub opened_vb : Plain
+    opened_vb = record pv { streams = pv.streams ++ new ∷ [] }
+
+    abbrev pub granted_link : PlainLink
+    granted_link = served_link link (record link.server { stream = Some (begun_stream o link.consumer.dialed.vb ask.start) }) down
+
+    opened_here : stream_at link.server.desk.id (pv.streams ++ new ∷ []) ≡ Some new
+    opened_here =
+        let id = link.server.desk.id in
+        find-append (λ (s : Stream). s.id == id) pv.streams (new ∷ [])
+        ∙ ap (λ y. option_or y (if id == id then Some new else None)) free
+        ∙ ap (λ b. if b then Some new else None) (eq-eqb id id refl)
+
+    front_uuid : (log : List LogEntry) (br : ℕ) → IsFront log br → uuid_of (front log) ≡ br
+    front_uuid [] br e = absurd e
+    front_uuid (e ∷ older) br is = is
+
+    low : nat_le 4 t.seen ≡ false
+    low = let most = seen_most in grind (arith, nat_tests, most)
+
+    stream_begun : StreamIs o link.consumer.dialed.vb link.server.desk.id (granted ask pv.log) (begun_stream o link.consumer.dialed.vb ask.start) (Some opened_vb) pn
+        (record { u = pn.br; log = pn.log; flight = []; given = None }) (answered kn pn) false
+    stream_begun = record {
+      put = record {
+        vb_is = refl;
+        opaque_is = refl;
+        fits = All-nil _;
+        next_in = omega arith;
+        last = refl;
+        log_told = sym logs;
+        front_is = front_uuid pv.log pn.br (subst (λ l. IsFront l pn.br) logs in_front);
+      };
+      opens = λ e. record { producer = opened_vb; producer_is = refl; active = active; leads = refl; opened = (new, opened_here, refl, refl, refl, refl) };
+      over_ended = λ e. cc;
+      coming = record { all = refl; last = tt };
+      way = record {
+        place_is = ap (λ (a : StreamAsk). a.start) t.asks ∙ ap (λ (p : Position). p.at) (sym at);
+        marks = refl;
+        in_one_last = λ e. cc;
+        taken_one = λ e. cc;
+        none_left = λ e. refl;
+        not_in_one = λ e. refl;
+        in_flight = λ e q. refl;
+      };
+    }
+
+    abbrev new_feed : Feed
+    new_feed = record { u = pn.br; log = pn.log; flight = []; given = None }
+
+    all_said : spoken (said ++ answer_frame o pv.log AskAnswer.Go ∷ []) ≡ drop t.seen (first_answers ++ answer_frame o pv.log AskAnswer.Go ∷ [])
+    all_said = let most = seen_most in
+        spoken_push said (answer_frame o pv.log AskAnswer.Go) (answer_spoken o pv.log AskAnswer.Go) ∙ ap (λ x. x ++ answer_frame o pv.log AskAnswer.Go ∷ []) answers_said ∙ sym (drop-append-le t.seen first_answers (answer_frame o pv.log AskAnswer.Go ∷ []) (omega (arith, most)))
+
+    pub granted_talk : (point : Option ℕ) → Talk fv (answered kn pn) (Some opened_vb) pn (Some (granted ask pv.log)) point granted_link fs []
+    granted_talk point = record {
+      asked = [];
+      said = said ++ answer_frame o pv.log AskAnswer.Go ∷ [];
+      stands = EndsStand.IsStreaming (record {
+        granted_is = granted ask pv.log;
+        told = refl;
+        serving = record {
+          stream = begun_stream o link.consumer.dialed.vb ask.start;
+          stream_is = refl;
+          apart = apart;
+          server = asked_opened;
+          acks = All-nil (IsAcknowledgement [] o link.consumer.dialed.vb);
+          unput = [];
+          unput_is = refl;
+          all_put = λ e. refl;
+        };
+        feed = new_feed;
+        fed = refl;
+        log_fits = record { short = short; entries = subst (All EntryFits) (sym logs) fits };
+        seen = t.seen;
+        taking = record {
+          not_more = let most = seen_most in omega (arith, most);
+          consumer = t.consumer;
+          adopted = sym low;
+          asks = λ e. (ap (λ (a : StreamAsk). a.start) t.asks, ap (λ (a : StreamAsk). a.ss) t.asks, ap (λ (a : StreamAsk). a.se) t.asks);
+        };
+        streams = subst (λ b. StreamIs o link.consumer.dialed.vb link.server.desk.id (granted ask pv.log) (begun_stream o link.consumer.dialed.vb ask.start) (Some opened_vb) pn new_feed (answered kn pn) (b && not fv.first)) (sym low) stream_begun;
+        all = ap (λ l. drop t.seen (first_answers ++ answer_frame o l AskAnswer.Go ∷ []) ++ []) logs ∙ ap (λ x. x ++ []) (sym all_said);
+      });
+      ups = last_up (record link.server { stream = Some (begun_stream o link.consumer.dialed.vb ask.start) }) (answer_frame o pv.log AskAnswer.Go);
+      downs = last_down (record link.server { stream = Some (begun_stream o link.consumer.dialed.vb ask.start) }) (answer_frame o pv.log AskAnswer.Go) wrote
+          (granted_readable o pv.log t.consumer.small (subst (λ l. length l ≤ 25) logs short) fits);
+    }
+
+    -- only the link's own stream was opened
+    pub streams_opened : Sound pv → StreamsChanged link.server.desk.id pv opened_vb
+    streams_opened sound = record {
+      sound = sound_streams pv opened_vb.streams sound;
+      alone = refl;
+      others = λ x ne.
+          find-append (λ (s : Stream). s.id == x) pv.streams (new ∷ [])
+          ∙ ap (λ b. option_or (stream_at x pv.streams) (if b then Some new else None)) (ne_eqb link.server.desk.id x (λ e. ne (sym e)))
+          ∙ elim (stream_at x pv.streams) as (λ o. option_or o None ≡ o) [ None ↦ refl | Some s ↦ refl ];
+    }

@@ -1,0 +1,52 @@
+-- outcomes that are posted to the clients of a node: all lines are lawful, and after them all agrees
+use Rattle.std.specs.Prelude.{◌≡◌, ◌∷◌}
+use Rattle.transcript_law.proofs.Words.{ℕ, List, [], refl, sym, subst, Option, Some, None, Event, StaysSound, after, left_open, PlainSession, PlainNode, PlainWorld, with_node_at, with_client, with_states, Chronicle, after_lines, LawfulFrom}
+use Rattle.transcript_law.proofs.{invariant.Agreement.{Agrees}, verbs.NodeLines.{agrees_same, node_again, same_node}, invariant.Ranged.{NodeRanged, SessionRangedIf, posted_ranged}, verbs.Requesting.{resolved_goes}, verbs.Settling.{Steady}, lines.Telling.{LawfulBefore, before_all, before_more, none_before, told_more}}
+use Rattle.client_session.specs.Serving.{outcome_served, served}
+use Rattle.node_world.specs.Nodes.{all_posted, awaiting, posted_if, posted_to}
+use Rattle.node_world.specs.declared.script_node.TheConstants.{MAX_CLIENTS}
+use Rattle.vb_calls.specs.declared.calls.Resolved.{Resolved}
+pub use Rattle.transcript_law.proofs.lines.ClientLines.{AreOfClients, SameBeside, posts_keep, posts_of_clients}
+pub use Rattle.transcript_law.proofs.invariant.Ranged.{posts_ranged}
+
+-- where a node is there, it is as if it was put there
+pub put_agrees : (w : PlainWorld) (r : Chronicle) (n : ℕ) (node : PlainNode) → w.nodes n ≡ Some node → Agrees w r → Agrees (with_node_at w n node) r
+put_agrees w r n node known a = agrees_same w (with_node_at w n node) r a (same_node w n node node known (λ q. refl) (λ q. refl) refl)
+
+module _ (stays : StaysSound) (steady : Steady) (w : PlainWorld) (n : ℕ) where
+  -- the node is put, and lines are read, after which all agrees
+  abbrev Goes : Chronicle → PlainNode × List Event → Type 0
+  Goes r came = LawfulBefore r came.1 × Agrees (with_node_at w n came.0) (after_lines r came.1)
+
+  -- one outcome
+  posted_goes : (r : Chronicle) (node : PlainNode) (o : Resolved) (c : Option ℕ) → NodeRanged n node → Agrees (with_node_at w n node) r → Goes r (posted_to o node c)
+  posted_goes r node o None ranged a = (none_before r, a)
+  posted_goes r node o (Some c) ranged a = by (node.clients c) (ranged.clients c)
+    where
+      by : (k : Option PlainSession) → SessionRangedIf n k → Goes r (posted_if c o node k)
+      by None there = (none_before r, a)
+      by (Some session) there =
+          let y = after (outcome_served node.clock o (served session [])) node.vbs in
+          let begun = agrees_same (with_node_at w n node) (with_node_at w n (with_states node node.vbs)) r a (node_again w n node (with_states node node.vbs) (λ q. refl) (λ q. refl) refl) in
+          let now = resolved_goes stays steady w r n node.clock node ranged.clock o (served session []) node.vbs (none_before r, begun, there) in
+          let left : PlainNode = with_client (with_states node y.0) c (left_open y.1.session) in (
+            now.0,
+            agrees_same (with_node_at w n (with_states node y.0)) (with_node_at w n left) (after_lines r y.1.events) now.1 (node_again w n (with_states node y.0) left (λ q. refl) (λ q. refl) refl),
+          )
+
+  -- one after the other
+  all_go : (r : Chronicle) (node : PlainNode) (rs : List Resolved) → NodeRanged n node → Agrees (with_node_at w n node) r → Goes r (all_posted rs node)
+  all_go r node [] ranged a = (none_before r, a)
+  all_go r node (o ∷ rs) ranged a =
+      let c : Option ℕ = awaiting node.clients o.waiter MAX_CLIENTS in
+      let one = posted_to o node c in let more = all_posted rs one.0 in
+      let first = posted_goes r node o c ranged a in
+      let rest = all_go (after_lines r one.1) one.0 rs (posted_ranged n o node c ranged) first.1 in (
+        before_more r one.1 more.1 first.0 rest.0,
+        subst (Agrees (with_node_at w n more.0)) (sym (told_more r one.1 more.1)) rest.1,
+      )
+
+-- the node was put in the world before they were posted, and is put there again
+pub posts_go : StaysSound → Steady → (w : PlainWorld) (r : Chronicle) (n : ℕ) (node : PlainNode) (rs : List Resolved) → NodeRanged n node → Agrees (with_node_at w n node) r
+    → LawfulFrom r (all_posted rs node).1 × Agrees (with_node_at w n (all_posted rs node).0) (after_lines r (all_posted rs node).1)
+posts_go stays steady w r n node rs ranged a = let g = all_go stays steady w n r node rs ranged a in (before_all r (all_posted rs node).1 g.0, g.1)

@@ -1,0 +1,128 @@
+-- vBuckets and connections as they are told or are not, judged by hand
+use Rattle.std.specs.Prelude.{◌≡◌, ◌<◌, ◌∷◌, ◌==◌, if◌then◌else◌}
+use Rattle.transcript_law.proofs.Words.{ℕ, Bool, true, false, List, [], refl, ap, sym, ◌∙◌, subst, arith, eqb-true, Option, Some, None, Change, Plain, PlainNode, PlainSession, PlainWorld, Role, Chronicle, empty_chronicle, nothing, new_vb, new_session, one_change, empty_in, based, empty_node, with_node_at, empty_world, after_got}
+use Rattle.transcript_law.proofs.Words.{Sound, FollowsBranch, AreFollowed, starts, stays, vb_in, shelf_in}
+use Rattle.std.specs.FinMap.{get-empty}
+use Rattle.disk_journals.specs.Books.{Book}
+use Rattle.durability.specs.declared.waiting.Waiting.{Waiting}
+use Rattle.transcript_law.specs.{Contrary.{after_prepare}, Followers.{client_told, prepared_in, unbounded}, Plainness.{AreOwnIf, IsOwnIf}, Prefixes.{off_of_node}, Transcripts.{set_write}}
+use Rattle.vb_calls.specs.Durable.{durable_refusal, outstanding}
+use Rattle.vb_calls.specs.Settling.{may_commit}
+use Rattle.vb_calls.specs.Shelves.{Shelf}
+use Rattle.vb_calls.specs.State.{doc_at, image_in, pending_of}
+use Rattle.vb_calls.specs.Writes.{doc_refusal, new_rev, or_else, pending_refusal, written_doc}
+use Rattle.vb_calls.specs.declared.calls.VbCall.TheVariants.{Chain, RollTo}
+use Rattle.vb_types.specs.Images.{image_of}
+use Rattle.vb_types.specs.Keys.{key_cmp}
+use Rattle.vb_types.specs.declared.change.Act.TheVariants as act
+use Rattle.vb_types.specs.declared.doc.Doc.{Doc}
+use Rattle.vb_types.specs.declared.write.Op.TheVariants as op
+use Rattle.vb_types.specs.declared.change.Level.TheVariants.{Majority}
+use Rattle.vbucket.proofs.{Committing.{none_rests}, Pending.{pends_fold, pends_nothing}, Prepares.{image_differ, image_seqs}, Preparing.{prepared_sound}}
+use Rattle.vbucket.specs.Settles.{IsSettled}
+
+-- a replica without a change, inside the snapshot of the first one
+pub inside_sound : Sound (empty_in 0 1)
+inside_sound =
+    let s = starts 1 Role.Replica 0 in
+    record { spanned = s.spanned; placed = record { capped = omega arith; within = (omega arith, omega arith); own = tt }; stamped = s.stamped; based = s.based; saved = s.saved; counted = s.counted }
+
+-- one that went back to what the first change leaves
+pub based_sound : Sound based
+based_sound = stays (empty_in 0 1) (RollTo 1 (image_of (one_change ∷ [])) 1) inside_sound (
+  omega arith,
+  omega arith,
+  pends_fold 1 nothing (one_change ∷ []) (pends_nothing 1) (omega arith, tt),
+  image_seqs 0 1 (one_change ∷ []) (omega arith, omega arith),
+  image_differ 0 1 (one_change ∷ []) (omega arith, omega arith),
+)
+
+-- a last CAS that has no 64 bits
+pub unbounded_follows : FollowsBranch after_got 1 0 unbounded → ⊥
+unbounded_follows f = let e = f.sound.last_cas in omega (arith, e)
+
+-- a prepare that waits: of a chain of two, which its node alone is no majority of; and of that node alone
+
+abbrev paired : Plain
+paired = record (new_vb 0 Role.Active 5) { others = Some 1 ∷ [] }
+
+paired_sound : Sound paired
+paired_sound = stays (new_vb 0 Role.Active 5) (Chain (record { active = 0; others = Some 1 ∷ [] })) (starts 0 Role.Active 5) refl
+
+abbrev waiting : Waiting
+waiting = outstanding (set_write (7 ∷ []) (8 ∷ [])) (record { level = Majority; deadline = 0; waiter = 0 }) 1
+
+lacks : may_commit (prepared_in (Some 1 ∷ [])) waiting ≡ false
+lacks = refl
+
+suffices : may_commit (prepared_in []) waiting ≡ true
+suffices = refl
+
+-- nothing is stored and nothing waits before it
+unstored : doc_at paired (7 ∷ []) ≡ None
+unstored = get-empty key_cmp (7 ∷ [])
+
+unprepared : pending_of paired (7 ∷ []) ≡ None
+unprepared = get-empty key_cmp (7 ∷ [])
+
+free : durable_refusal paired (set_write (7 ∷ []) (8 ∷ [])) ≡ None
+free = ap (λ o. or_else (pending_refusal [] o) (doc_refusal op.Set 0 (doc_at paired (7 ∷ [])))) unprepared ∙ ap (λ o. doc_refusal op.Set 0 o) unstored
+
+-- the change that prepares it, where its key has this document
+abbrev prepares : Option Doc → Change
+prepares o = record { seq = 1; key = 7 ∷ []; act = act.Prepare Majority (written_doc (set_write (7 ∷ []) (8 ∷ [])) 1 (new_rev o)) false }
+
+held_so : image_in (prepared_in (Some 1 ∷ [])) ≡ image_of (after_prepare.held 0 0)
+held_so = ap (λ o. image_of (prepares o ∷ [])) unstored
+
+pub waits : FollowsBranch after_prepare 0 0 (prepared_in (Some 1 ∷ []))
+waits = record {
+  sound = prepared_sound paired (set_write (7 ∷ []) (8 ∷ [])) 0 (record { level = Majority; deadline = 0; waiter = 0 }) free paired_sound (omega arith);
+  at_rest = λ w more e. let same : waiting ≡ w = cc in subst (λ x. may_commit (prepared_in (Some 1 ∷ [])) x ≡ false) same lacks;
+  role = refl;
+  held = held_so;
+  log = refl;
+  writer = λ e. (5, refl, record { made_or_took = refl; on_branch = refl });
+  follows = record { image_is = refl; rises = omega arith; within = omega arith; of = λ x i. absurd i; has = λ slot c last low high. absurd (omega arith) };
+  ancestry = record { short = omega arith; distinct = (tt, tt); falls = tt; at_forks = (refl, tt); traces = (refl, tt) };
+  complete = λ e. held_so;
+}
+
+pub uncommitted : FollowsBranch after_prepare 0 0 (prepared_in []) → ⊥
+uncommitted f = let e : true ≡ false = sym suffices ∙ f.at_rest waiting [] refl in cc
+
+-- a connection is its own node's
+
+abbrev session_of : ℕ → PlainSession
+session_of m = new_session (record { node = m; client = 1; base = 0 })
+
+abbrev holder : ℕ → PlainNode
+holder m = record empty_node { clients = λ c. if c == 1 then Some (session_of m) else None }
+
+no_vb : (n m v : ℕ) (vb : Plain) → vb_in ((client_told m).nodes n) v ≡ Some vb → ⊥
+no_vb n m v vb = elim (n == 0) as (λ b. vb_in (if b then Some (holder m) else None) v ≡ Some vb → ⊥) [ true ↦ λ e. cc | false ↦ λ e. cc ]
+
+no_shelf : (n m v : ℕ) (shelf : Shelf) → shelf_in ((client_told m).nodes n) v ≡ Some shelf → ⊥
+no_shelf n m v shelf = elim (n == 0) as (λ b. shelf_in (if b then Some (holder m) else None) v ≡ Some shelf → ⊥) [ true ↦ λ e. cc | false ↦ λ e. cc ]
+
+no_books : (n m : ℕ) (books : List Book) → off_of_node ((client_told m).nodes n) ≡ Some books → ⊥
+no_books n m books = elim (n == 0) as (λ b. off_of_node (if b then Some (holder m) else None) ≡ Some books → ⊥) [ true ↦ λ e. cc | false ↦ λ e. cc ]
+
+own_at : (n : ℕ) → AreOwnIf n ((client_told 0).nodes n)
+own_at n = elim (n == 0) as (λ b. (n == 0) ≡ b → AreOwnIf n (if b then Some (holder 0) else None)) [
+  | true ↦ λ e c. elim (c == 1) as (λ b. IsOwnIf n (if b then Some (session_of 0) else None)) [ true ↦ sym (eqb-true n 0 e) | false ↦ tt ]
+  | false ↦ λ e. tt
+] refl
+
+pub own_client : AreFollowed empty_chronicle (client_told 0)
+own_client = record {
+  each = λ n v vb e. absurd (no_vb n 0 v vb e);
+  points = λ n v shelf e. absurd (no_shelf n 0 v shelf e);
+  disks = λ n v books book e there. absurd (no_books n 0 books e);
+  alone = λ n v m q uuid vb other one second. absurd (no_vb n 0 v vb one.there);
+  forks = λ n v uuid vb branch one is from. absurd (no_vb n 0 v vb one.there);
+  own = own_at;
+}
+
+pub strange_client : AreFollowed empty_chronicle (client_told 1) → ⊥
+strange_client f = let e : ◌≡◌ {A = ℕ} 1 0 = f.own 0 1 in omega (arith, e)

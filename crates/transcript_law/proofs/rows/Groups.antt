@@ -1,0 +1,88 @@
+-- the groups of a transcript that is judged by hand: their lines, then their answers, and then what they say of arms
+use Rattle.std.specs.Prelude.{◌≡◌, ◌∷◌, ◌==◌, ◌&&◌}
+use Rattle.transcript_law.proofs.Words.{Bool, true, false, List, [], refl, sym, subst, and_parts, eqb-true, Answer, Cause, Event, ScriptLine, Chronicle, IsAnswered, LawfulFrom, LawfulGroups, Group}
+use Rattle.transcript_law.specs.{Chronicles.{after_group, ahead}, Firings.{FiresInLine}, Standing.{IsStanding, TellsIfBegun}}
+use Rattle.vb_events.specs.declared.event.Answer.TheVariants as answer
+use Rattle.vb_events.specs.declared.event.Cause.TheVariants as cause
+
+-- the lines of the groups
+abbrev pub AreTold : Chronicle → List ScriptLine → List Group → Type 0
+AreTold chronicle [] [] = Unit {0}
+AreTold chronicle (line ∷ lines) [] = ⊥
+AreTold chronicle [] (group ∷ groups) = ⊥
+AreTold chronicle (line ∷ lines) (group ∷ groups) = LawfulFrom (ahead chronicle line.verb group.answer) group.events × AreTold (after_group chronicle line.verb group.events group.answer) lines groups
+
+-- their answers
+abbrev pub AreAnswered : Chronicle → List ScriptLine → List Group → Type 0
+AreAnswered chronicle [] [] = Unit {0}
+AreAnswered chronicle (line ∷ lines) [] = ⊥
+AreAnswered chronicle [] (group ∷ groups) = ⊥
+AreAnswered chronicle (line ∷ lines) (group ∷ groups) =
+    IsAnswered chronicle line.verb group.events group.answer × AreAnswered (after_group chronicle line.verb group.events group.answer) lines groups
+
+-- what both say of arms that fired
+abbrev pub AreFired : Chronicle → List ScriptLine → List Group → Type 0
+AreFired chronicle [] [] = Unit {0}
+AreFired chronicle (line ∷ lines) [] = ⊥
+AreFired chronicle [] (group ∷ groups) = ⊥
+AreFired chronicle (line ∷ lines) (group ∷ groups) =
+    FiresInLine chronicle line.verb group.events group.answer × AreFired (after_group chronicle line.verb group.events group.answer) lines groups
+
+-- whether each has its line's number, and tells of nothing where it was refused before its line was begun
+abbrev pub may_tell : List Event → Cause → Bool
+may_tell [] why = true
+may_tell (line ∷ lines) cause.IdsShort = true
+may_tell (line ∷ lines) cause.Stopped = true
+may_tell (line ∷ lines) cause.Closed = true
+may_tell (line ∷ lines) cause.Disk = true
+may_tell (line ∷ lines) other = false
+
+abbrev pub is_answered_so : List Event → Answer → Bool
+is_answered_so lines (answer.No why) = may_tell lines why
+is_answered_so lines other = true
+
+abbrev pub in_order : List ScriptLine → List Group → Bool
+in_order [] [] = true
+in_order (line ∷ lines) [] = false
+in_order [] (group ∷ groups) = false
+in_order (line ∷ lines) (group ∷ groups) = group.line == line.line && (is_answered_so group.events group.answer && in_order lines groups)
+
+tells_so : (lines : List Event) (said : Answer) → is_answered_so lines said ≡ true → TellsIfBegun lines said
+tells_so lines (answer.No c) e why said standing = let same : c ≡ why = cc in by lines c e (subst IsStanding (sym same) standing)
+  where
+    by : (lines : List Event) (c : Cause) → may_tell lines c ≡ true → IsStanding c → lines ≡ []
+    by [] c e s = refl
+    by (line ∷ lines) cause.IdsShort e s = absurd s
+    by (line ∷ lines) cause.Stopped e s = absurd s
+    by (line ∷ lines) cause.Closed e s = absurd s
+    by (line ∷ lines) cause.Disk e s = absurd s
+    by (line ∷ lines) other e s = cc
+tells_so lines other e why said standing = cc
+
+-- what of groups is not so
+abbrev pub AreParts : Chronicle → List ScriptLine → List Group → Type 0
+AreParts chronicle [] [] = Unit {0}
+AreParts chronicle (line ∷ lines) [] = ⊥
+AreParts chronicle [] (group ∷ groups) = ⊥
+AreParts chronicle (line ∷ lines) (group ∷ groups) =
+    (LawfulFrom (ahead chronicle line.verb group.answer) group.events × IsAnswered chronicle line.verb group.events group.answer × FiresInLine chronicle line.verb group.events group.answer)
+    × AreParts (after_group chronicle line.verb group.events group.answer) lines groups
+
+-- and all of it
+pub whole : (chronicle : Chronicle) (script : List ScriptLine) (told : List Group) → in_order script told ≡ true → AreParts chronicle script told → LawfulGroups chronicle script told
+whole chronicle [] [] o p = tt
+whole chronicle (line ∷ lines) [] o p = absurd p
+whole chronicle [] (group ∷ groups) o p = absurd p
+whole chronicle (line ∷ lines) (group ∷ groups) o p =
+    let one = and_parts (group.line == line.line) (is_answered_so group.events group.answer && in_order lines groups) o in
+    let two = and_parts (is_answered_so group.events group.answer) (in_order lines groups) one.1 in
+    ((p.0.0, p.0.1, p.0.2, eqb-true group.line line.line one.0, tells_so group.events group.answer two.0), whole (after_group chronicle line.verb group.events group.answer) lines groups two.1 p.1)
+
+pub both : (chronicle : Chronicle) (script : List ScriptLine) (told : List Group) → in_order script told ≡ true → AreTold chronicle script told → AreAnswered chronicle script told → AreFired chronicle script told → LawfulGroups chronicle script told
+both chronicle script told o t a f = whole chronicle script told o (parts chronicle script told t a f)
+  where
+    parts : (chronicle : Chronicle) (script : List ScriptLine) (told : List Group) → AreTold chronicle script told → AreAnswered chronicle script told → AreFired chronicle script told → AreParts chronicle script told
+    parts chronicle [] [] t a f = tt
+    parts chronicle (line ∷ lines) [] t a f = absurd t
+    parts chronicle [] (group ∷ groups) t a f = absurd t
+    parts chronicle (line ∷ lines) (group ∷ groups) t a f = ((t.0, a.0, f.0), parts (after_group chronicle line.verb group.events group.answer) lines groups t.1 a.1 f.1)

@@ -1,0 +1,157 @@
+-- lines that open a link
+use Rattle.std.specs.Prelude.{◌≡◌, ◌<◌, ◌∷◌, ◌++◌, ◌==◌, ◌&&◌, ◌||◌, if◌then◌else◌}
+use Rattle.transcript_law.proofs.Words.{ℕ, Bool, true, false, List, [], map, refl, ap, sym, ◌∙◌, subst, arith, append_assoc, append-nil, ⊎_elim, Option, Some, None}
+use Rattle.transcript_law.proofs.Words.{not, is_some, concat, eqb-false, eq-eqb, All-nil, spelling, Readable, dcp_frame, AskInRange, VerbFits, Cause, StreamAsk, request_of}
+use Rattle.transcript_law.proofs.Words.{Cluster, Plain, is_follower, quiet_reply, refusal_reply, open_request, sync_request, name_request, named_ask, PlainLink, link_number, producer_node}
+use Rattle.transcript_law.proofs.Words.{consumer_node, feeds, PlainWorld, Outcome, with_links, ask_in, first_cause, link_causes, refused_or, with_dialed, done, Chronicle, after_dial, option_and_then}
+use Rattle.transcript_law.proofs.Words.{DcpMsg, Verb, VbAnswer, Status, Answer, requests, is_taken, ask_of, new_link, link_step, StreamName}
+use Rattle.transcript_law.proofs.invariant.Tables.{ended_there, id_here, id_there, never, none_hold}
+use Rattle.transcript_law.proofs.invariant.Seats.{seat}
+use Rattle.transcript_law.proofs.invariant.Agreement.{vb_of, VbAgrees, AgreesAt, request_frames, Talk, producer_seat, LinkAgrees, IsLink, idle, AgreesIn, Agrees, GoesOn, EndsStand, consumer_seat}
+use Rattle.transcript_law.proofs.invariant.LinkRows.{is_link_more, differ_more}
+use Rattle.transcript_law.proofs.invariant.Carried.{fed_same, kept_same, agrees_carried, stays_same, link_carried}
+use Rattle.{node_world.specs.Worlds.{is_off}, transcript_law.proofs.{invariant.Agreement.{EndsUp}, invariant.Resting.{off_is}}}
+use Rattle.transcript_law.proofs.links.Requests.{requests_readable}
+use Rattle.transcript_law.proofs.links.Verdicts.{asks_in_range}
+
+-- what a consumer writes is the spelling of its requests
+requests_spelled : (node vb : ℕ) (ask : StreamAsk) → requests node vb ask ≡ concat (map spelling (request_frames 4 node vb ask))
+unfolding requests
+requests_spelled node vb ask =
+    let a = spelling (dcp_frame (open_request node) 1 0) in
+    let b = spelling (dcp_frame sync_request 2 0) in
+    let c = spelling (dcp_frame (name_request node) 3 0) in
+    let d = spelling (dcp_frame (DcpMsg.StreamRequest ask) 4 vb) in
+    append_assoc (a ++ b) c d ∙ append_assoc a b (c ++ d) ∙ ap (λ z. a ++ (b ++ (c ++ z))) (sym (append-nil d))
+
+-- what a vBucket asks for
+asks_as : (vb : Plain) (ask : StreamAsk) → ask_of vb ≡ Some ask → (is_follower vb.role ≡ true) × (ask ≡ request_of vb.log vb.position)
+asks_as vb ask = elim (is_follower vb.role)
+    as (λ b. named_ask (if b then quiet_reply (VbAnswer.Named (request_of vb.log vb.position)) else refusal_reply Status.NotMyVbucket).answer ≡ Some ask → (b ≡ true) × (ask ≡ request_of vb.log vb.position))
+    [ true ↦ λ e. let same : request_of vb.log vb.position ≡ ask = cc in (refl, sym same) | false ↦ λ e. cc ]
+
+-- a number that no link has, and a vBucket that none feeds
+neither : (a b : Bool) → (a || b) ≡ false → (a ≡ false) × (b ≡ false)
+neither true b e = cc
+neither false b e = (refl, e)
+
+free_links : (links : List PlainLink) (l n v : ℕ) → is_taken links l n v ≡ false → (x : PlainLink) → IsLink x links → (link_number x ≡ l → ⊥) × (consumer_node x ≡ n → x.consumer.dialed.vb ≡ v → ⊥)
+free_links [] l n v e x i = absurd i
+free_links (y ∷ ys) l n v e x i =
+    let both = neither ((link_number y == l) || feeds n v y) (is_taken ys l n v) e in
+    let here = neither (link_number y == l) (feeds n v y) both.0 in
+    ⊎_elim
+    (λ same. subst (λ z. (link_number z ≡ l → ⊥) × (consumer_node z ≡ n → z.consumer.dialed.vb ≡ v → ⊥)) (sym same)
+    (eqb-false (link_number y) l here.0, λ f g. never (sym (ap (λ b. b && y.consumer.dialed.vb == v) (eq-eqb (consumer_node y) n f) ∙ eq-eqb y.consumer.dialed.vb v g) ∙ here.1)))
+    (λ j. free_links ys l n v both.1 x j) i
+
+module _ (w : PlainWorld) (r : Chronicle) (line l m n v : ℕ) (small : (n < 16) × (v < 1024)) (number : l < 1000) (up : (is_off (w.nodes m) ≡ false) × (is_off (w.nodes n) ≡ false)) (c : Cluster) (a : AgreesIn idle w r c) (fv : Plain) (ask : StreamAsk)
+    (known : vb_of w n v ≡ Some fv) (asked : ask_of fv ≡ Some ask) (free : is_taken w.links l n v ≡ false) where
+  abbrev new : PlainLink
+  new = new_link line l m n v ask
+
+  abbrev dialed : PlainWorld
+  dialed = with_links w (w.links ++ new ∷ [])
+
+  abbrev r' : Chronicle
+  r' = after_dial r l m n v Answer.Ok
+
+  follower : VbAgrees r n v (c.nodes (seat n v)) fv
+  follower = subst (AgreesAt r n v (c.nodes (seat n v))) known (a.vbs n v)
+
+  asking : Talk fv (c.nodes (consumer_seat new)) (vb_of dialed (producer_node new) v) (c.nodes (producer_seat new)) (r'.stream_of (StreamName.Link l) v) (r'.point_of l) new [] []
+  asking =
+      let asks = asks_as fv ask asked in
+      record {
+        asked = request_frames 4 n v ask;
+        said = [];
+        stands = EndsStand.IsAsking ask (record {
+          no_stream = refl;
+          asking = record {
+            answered = 0;
+            seen = 0;
+            some_left = omega arith;
+            not_more = omega arith;
+            server = refl;
+            consumer = record { waits = refl; first = λ few. refl; later = omega arith; small = omega arith };
+            asks = asks.1;
+            asked_is = refl;
+            said_is = refl;
+          };
+        });
+        ups = record {
+          behind = request_frames 4 n v ask;
+          joined = refl;
+          bytes = requests_spelled n v ask;
+          readable = requests_readable n v ask small.0 small.1 (subst AskInRange (sym asks.1) (asks_in_range fv follower.sound follower.entries));
+        };
+        downs = record { behind = []; joined = refl; bytes = refl; readable = All-nil Readable };
+      }
+
+  new_agrees : LinkAgrees dialed r' c new [] []
+  new_agrees = record {
+    follower = fv;
+    follower_is = known;
+    follows = (asks_as fv ask asked).0;
+    dial = record { dialed = id_here r.dial_of l (Some (record { producer = m; node = n; vb = v })); named = refl; small = small };
+    talk = asking;
+  }
+
+  old_agrees : (x : PlainLink) → IsLink x w.links → LinkAgrees dialed r' c x [] []
+  old_agrees x i =
+      link_carried w dialed r r' c c x [] [] (λ f e. (f, e, kept_same f))
+      (id_there r.dial_of l (Some (record { producer = m; node = n; vb = v })) (link_number x) (λ e. (free_links w.links l n v free x i).0 (sym e))) (ended_there r l (link_number x) x.consumer.dialed.vb (free_links w.links l n v free x i).0)
+      (id_there r.point_of l None (link_number x) (λ e. (free_links w.links l n v free x i).0 (sym e))) refl
+      (stays_same (vb_of w (producer_node x) x.consumer.dialed.vb) (c.nodes (producer_seat x)) x) (a.links x i)
+
+  dialed_agrees : AgreesIn idle dialed r' c
+  dialed_agrees = record {
+    sound = a.sound;
+    disks = a.disks;
+    vbs = λ i q. agrees_carried r r' i q (c.nodes (seat i q)) (c.nodes (seat i q)) (record { tree = refl; writer_of = λ u. refl; row = refl }) (fed_same (c.nodes (seat i q)))
+        (vb_of w i q) (λ none. refl) (a.vbs i q);
+    branches = a.branches;
+    rests = record {
+      powers = a.powers;
+      aways = a.aways;
+      downs = a.downs;
+      ends = λ x i. ⊎_elim
+          (λ e. subst (EndsUp dialed) (sym e) (record { producer = off_is (w.nodes m) ∙ up.0; consumer = off_is (w.nodes n) ∙ up.1; number = number }))
+          (λ j. let e = a.ends x j in record { producer = e.producer; consumer = e.consumer; number = e.number })
+          (is_link_more x new w.links i);
+      small = a.small;
+    };
+    links = λ x i. ⊎_elim (λ e. subst (λ y. LinkAgrees dialed r' c y [] []) (sym e) new_agrees) (λ j. old_agrees x j) (is_link_more x new w.links i);
+    differ = differ_more new w.links a.differ (λ x i. record {
+      number = (free_links w.links l n v free x i).0;
+      follower = (free_links w.links l n v free x i).1;
+      stream = λ e f p q z. cc;
+    });
+  }
+
+no_ask : {A : Type 0} (ask : StreamAsk) → None ≡ Some ask → A
+no_ask ask e = cc
+
+module _ (w : PlainWorld) (r : Chronicle) (line l m n v : ℕ) where
+  -- what becomes of the line, by the cause to refuse it and by what the vBucket asks for
+  abbrev outcome : Option Cause → Option StreamAsk → Outcome
+  outcome why ask = refused_or why w (with_links w (with_dialed line l m n v w.links ask), done [])
+
+  abbrev Goes : Option Cause → Option StreamAsk → Type 0
+  Goes why ask = GoesOn r (λ told. after_dial told l m n v (outcome why ask).1.answer) (outcome why ask)
+
+  opened : Agrees w r → (n < 16) × (v < 1024) → l < 1000 → (is_off (w.nodes m) || is_off (w.nodes n)) ≡ false → (o : Option Plain) → vb_of w n v ≡ o → (q : Option StreamAsk) → option_and_then ask_of o ≡ q
+      → not (is_some q) ≡ false → is_taken w.links l n v ≡ false → Goes None q
+  opened a small number up o known None e some free = never some
+  opened a small number up None none (Some ask) e some free = no_ask ask e
+  opened a small number up (Some fv) known (Some ask) e some free = (tt, (a.0, dialed_agrees w r line l m n v small number (neither (is_off (w.nodes m)) (is_off (w.nodes n)) up) a.0 a.1 fv ask known e free))
+
+  by_cause : Agrees w r → (n < 16) × (v < 1024) → l < 1000 → (why : Option Cause) → first_cause (link_causes w l m n v) ≡ why → Goes why (ask_in w n v)
+  by_cause a small number (Some why) e = (tt, a)
+  by_cause a small number None e =
+      let clear = none_hold (link_causes w l m n v) e in opened a small number clear.1.0 (vb_of w n v) refl (ask_in w n v) refl clear.1.1.1.0 clear.1.1.1.1.0
+
+-- `link L M N V`
+pub link_goes : (w : PlainWorld) (r : Chronicle) (line l m n v : ℕ) → VerbFits (Verb.Link l m n v) → Agrees w r
+    → GoesOn r (λ told. after_dial told l m n v (link_step w line l m n v).1.answer) (link_step w line l m n v)
+link_goes w r line l m n v fits a = by_cause w r line l m n v a (fits.2, fits.3) fits.0 (first_cause (link_causes w l m n v)) refl

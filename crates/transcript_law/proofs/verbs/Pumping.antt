@@ -1,0 +1,68 @@
+-- a line that has a producer put frames
+use Rattle.std.specs.Prelude.{◌≡◌}
+use Rattle.transcript_law.proofs.Words.{ℕ, zero, suc, refl, ap, sym, ◌∙◌, subst, append-nil, Some, TakesSnapshots, Done, Turn, More, Stop, go_on, repeated, after, row_at, row_put, States}
+use Rattle.transcript_law.proofs.Words.{after_bind, frame_put, frames_put, pulled, Halt, Served, begun, pull_told, PlainLink, link_number, producer_node, peer_of, pump_told, pump_at, PlainNode}
+use Rattle.transcript_law.proofs.Words.{PlainWorld, with_states, with_node_at, with_link, on_link, Chronicle, PullTold, peer_pulled}
+use Rattle.transcript_law.proofs.invariant.Agreement.{idle, Agrees, GoesOn}
+use Rattle.transcript_law.proofs.{invariant.Carrying.{Relinked}, invariant.OneLink.{carries_same}}
+use Rattle.transcript_law.proofs.invariant.LinkRows.{put_same}
+use Rattle.transcript_law.proofs.links.PumpWorlds.{pumped, SoFar, TurnSoFar, TurnsSoFar}
+use Rattle.transcript_law.proofs.links.Turns.{turn}
+use Rattle.transcript_law.proofs.verbs.NodeLines.{as_told, on_link_goes, same_node}
+
+module _ (takes : TakesSnapshots) where
+  module _ (w : PlainWorld) (r : Chronicle) (link : PlainLink) (node : PlainNode) (found : row_at link_number (link_number link) w.links ≡ Some link) where
+    abbrev l : ℕ
+    l = link_number link
+
+    next_turn : (states : States) (x : Turn Served (Served × Halt)) → TurnSoFar w r l link node states x → TurnsSoFar w r l link node (after (go_on frame_put x) states)
+    next_turn states (More s) g = turn w r l link node found states s g takes
+    next_turn states (Stop stopped) g = g
+
+    turns : (k : ℕ) (states : States) (s : Served) → SoFar w r l link node states s → TurnsSoFar w r l link node (after (repeated k frame_put s) states)
+    turns zero states s g = g
+    turns (suc k) states s g =
+        subst (TurnsSoFar w r l link node) (sym (after_bind (repeated k frame_put s) (go_on frame_put) states))
+        (next_turn (after (repeated k frame_put s) states).0 (after (repeated k frame_put s) states).1 (turns k states s g))
+
+    abbrev Gone : States × PullTold → Type 0
+    Gone y = GoesOn r (λ x. x) (with_link link (with_node_at w (producer_node link) (pump_told link node y).0, (pump_told link node y).1))
+
+    -- what is told of the line
+    abbrev told_of : States × (Served × Halt) → States × PullTold
+    told_of x = (x.0, pull_told link.up_heard x.1)
+
+    ended : (states : States) (x : Turn Served (Served × Halt)) → TurnSoFar w r l link node states x → Gone (told_of (after (pulled x) states))
+    ended states (More s) g = (g.lawful, g.agrees)
+    ended states (Stop stopped) g = (g.lawful, g.agrees)
+
+    module _ (a : Agrees w r) (known : w.nodes (producer_node link) ≡ Some node) where
+      abbrev first : Served
+      first = begun link.server
+
+      same : Relinked w (with_node_at w (producer_node link) (with_states node node.vbs)) w.links
+      same = same_node w (producer_node link) node (with_states node node.vbs) known (λ q. refl) (λ q. refl) refl
+
+      first_so_far : SoFar w r l link node node.vbs first
+      first_so_far = record {
+        lawful = tt;
+        quiet = tt;
+        desk = refl;
+        agrees = (
+          a.0,
+          carries_same idle idle w (pumped w l link node node.vbs first) r a.0 a.1
+              (record { powers = same.powers; vbs = same.vbs; shelves = same.shelves; uuids = refl; linked = ap (λ x. row_put link_number l (record link { down = x }) w.links) (append-nil link.down) ∙ put_same l w.links link found }) (λ k. refl),
+        );
+      }
+
+      node_goes : (frames : ℕ) → Gone (after (peer_pulled frames (peer_of link)) node.vbs)
+      unfolding frames_put
+      node_goes frames =
+          let x = after (repeated frames frame_put first) node.vbs in
+          subst Gone
+          (sym (after_bind (frames_put frames first) (λ put. Done (pull_told link.up_heard put)) node.vbs ∙ ap told_of (after_bind (repeated frames frame_put first) pulled node.vbs)))
+          (ended x.0 x.1 (turns frames node.vbs first first_so_far))
+
+  -- a line `pump`
+  pub pump_goes : (w : PlainWorld) (r : Chronicle) (l frames : ℕ) → Agrees w r → GoesOn r as_told (on_link w l producer_node (pump_at frames))
+  pump_goes w r l frames a = on_link_goes w r l producer_node (pump_at frames) a (λ link node found known. node_goes w r link node found a known frames)

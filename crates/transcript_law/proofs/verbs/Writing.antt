@@ -1,0 +1,386 @@
+-- lines that send a request
+use Rattle.std.specs.Prelude.{◌≡◌, ◌+◌, ◌<◌, ◌≤◌, ◌∷◌, ◌++◌, ◌⊎◌, ◌^◌, if◌then◌else◌}
+use Rattle.{branch_model.specs.Journals.{place_of}, cluster_model.specs.Clusters.{Fulfils, spanned}, durability.specs.declared.waiting.Waiting.{Waiting}, vb_calls.specs.Shelves.{Shelf}, vbucket.specs.Laws.{CasUpTo, OpensOwn}, vb_calls.specs.{Durable.{is_delete, prepare_change}, Following.{cas_of}}, vb_types.specs.declared.change.Level.{Level}, transcript_law.proofs.invariant.Bounded.{weighs_push}, transcript_law.specs.Chronicles.{CountsTold}, transcript_law.specs.Lawfulness.{IsHeldIfCommitted}}
+use Rattle.transcript_law.proofs.{invariant.Agreement.{DiskIsIf, shelf_of}, disks.Disks.{ShelfIs, disk_same, grown_spots, parts_of, same_parts, shelf_spanned}, invariant.OneLink.{disk_here, disk_there}}
+use Rattle.transcript_law.proofs.Words.{ℕ, Bool, true, false, List, [], refl, ap, sym, ◌∙◌, subst, inl, inr, ⊎_elim, arith, Option, Some, None}
+use Rattle.transcript_law.proofs.Words.{nat_lt, All, cases_lt, nat_tests, All-push, WriteFits, Change, Doc, MAX_SEQ, LogEntry, Picture, image_of, Role, Status, Write, Position, upto, Rises, last_seq, fork_of, HasLast}
+use Rattle.transcript_law.proofs.Words.{append_assoc, HoldsAt, IsFront, Branch, hist, longer, ForksBelow, branch, branch_grow, ground, Member, Cluster, Move, SoundCluster, Leads, happens, start_cases, Own, Span}
+use Rattle.transcript_law.proofs.Words.{last_at, span_of, keeps, is_follower, stream_at, Sound, Plain, newest_branch, is_active, doc_at, growth, write_change, written_doc, new_cas, new_rev, PlainLink}
+use Rattle.transcript_law.proofs.Words.{producer_node, consumer_node, PlainNode, PlainWorld, vb_in, is_one_of, Chronicle, after_change, known_history, LawfulChange, option_map, Act, Op, holds_push}
+use Rattle.transcript_law.proofs.Words.{last_seq_le, grow_below, hist_grow_own, hist_grow_other, Forks, owned, own_joined, own_grown, act_of}
+use Rattle.transcript_law.proofs.invariant.Seats.{seat, seats_apart}
+use Rattle.transcript_law.proofs.invariant.Tables.{at_here, at_there, if_known}
+use Rattle.transcript_law.proofs.invariant.Trees.{ids_grow, told_grow, told_below, told_found, new_grow, is_told_grow}
+use Rattle.transcript_law.proofs.invariant.Wholes.{joined_opens, WholeTo, fork_held, whole_before, spanned_active}
+use Rattle.transcript_law.proofs.invariant.Agreement.{vb_of, DocFits, ActFits, ChangeFits, BranchIs, Writes, WritesIf, own_history, VbAgrees, AgreesAt, consumer_seat, producer_seat, LinkAgrees, IsLink, LinksDiffer, top, idle, AgreesIn, vb_row, vb_contents}
+use Rattle.transcript_law.proofs.invariant.Carrying.{Changed}
+use Rattle.transcript_law.proofs.invariant.Carried.{places, numbers, not_both, kept_same, link_carried, StaysProducer, all_vbs}
+use Rattle.transcript_law.proofs.invariant.OneLink.{put_here, put_there}
+use Rattle.transcript_law.proofs.{invariant.Agreement.{RestsIn}, verbs.NodeLines.{vb_told}, invariant.Resting.{ends_again, rests_by}}
+use Rattle.transcript_law.proofs.links.Followed.{last_seq_push}
+
+-- the change of a write
+act_fits : (o : Op) (doc : Doc) → DocFits doc → ActFits (act_of o doc)
+act_fits Op.Delete doc d = (d.cas, d.rev)
+act_fits o doc d = d
+
+no_commit : (o : Op) (doc : Doc) (number : ℕ) (committed : Doc) (deleted : Bool) → act_of o doc ≡ Act.Commit number committed deleted → ⊥
+no_commit Op.Set doc number committed deleted e = cc
+no_commit o doc number committed deleted e = cc
+
+-- a write is no commit
+pub write_fulfils : (image : Picture) (vb : Plain) (write : Write) (cas : ℕ) → Fulfils image (write_change vb write cas)
+write_fulfils image vb write cas number committed deleted e = absurd (no_commit write.op (written_doc write cas (new_rev (doc_at vb write.key))) number committed deleted e)
+
+-- so nobody has to hold it
+pub write_unheld : (counts : CountsTold) (saved : ℕ) (image : Picture) (vb : Plain) (write : Write) (cas : ℕ) → IsHeldIfCommitted counts saved image (write_change vb write cas)
+write_unheld counts saved image vb write cas number committed deleted e = absurd (no_commit write.op (written_doc write cas (new_rev (doc_at vb write.key))) number committed deleted e)
+
+-- the document of a write
+doc_fits : (vb : Plain) (write : Write) (clock : ℕ) → WriteFits write → clock < 2 ^ 64 → DocFits (written_doc write (new_cas clock vb.last_cas) (new_rev (doc_at vb write.key)))
+doc_fits vb write clock f small =
+    let rev : new_rev (doc_at vb write.key) < 2 ^ 64 = elim (doc_at vb write.key) as (λ o. new_rev o < 2 ^ 64) [ None ↦ omega arith | Some doc ↦ omega arith ] in
+    record { value = f.value; cas = omega arith; rev = rev; flags = f.flags; expiry = f.expiry }
+
+pub change_fits : (vb : Plain) (write : Write) (clock : ℕ) → WriteFits write → clock < 2 ^ 64 → vb.position.at < 2 ^ 48 → ChangeFits (write_change vb write (new_cas clock vb.last_cas))
+change_fits vb write clock f small l =
+    record { seq = omega arith; key = f.key; act = act_fits write.op (written_doc write (new_cas clock vb.last_cas) (new_rev (doc_at vb write.key))) (doc_fits vb write clock f small) }
+
+-- the change that prepares a write: a removal has no value
+removes : (o : Op) → is_delete o ≡ true → o ≡ Op.Delete
+removes Op.Delete e = refl
+removes o e = cc
+
+pub prepare_fits : (vb : Plain) (write : Write) (clock : ℕ) (level : Level) → WriteFits write → (write.op ≡ Op.Delete → write.value ≡ []) → clock < 2 ^ 64 → vb.position.at < 2 ^ 48 → ChangeFits (prepare_change vb write level (new_cas clock vb.last_cas))
+prepare_fits vb write clock level f alone small l = record { seq = omega arith; key = f.key; act = (doc_fits vb write clock f small, λ e. alone (removes write.op e)) }
+
+-- it is no commit
+pub prepare_fulfils : (image : Picture) (vb : Plain) (write : Write) (level : Level) (cas : ℕ) → Fulfils image (prepare_change vb write level cas)
+prepare_fulfils image vb write level cas number committed deleted e = cc
+
+pub prepare_unheld : (counts : CountsTold) (saved : ℕ) (image : Picture) (vb : Plain) (write : Write) (level : Level) (cas : ℕ) → IsHeldIfCommitted counts saved image (prepare_change vb write level cas)
+prepare_unheld counts saved image vb write level cas number committed deleted e = cc
+
+-- a write that is not refused
+pub store_taken : (r : Role) (full : Bool) (said : Option Status) → (if is_active r then (if full then Some Status.Etmpfail else said) else Some Status.NotMyVbucket) ≡ None → (is_active r ≡ true) × (full ≡ false)
+store_taken Role.Active true said e = cc
+store_taken Role.Active false said e = (refl, refl)
+store_taken r full said e = cc
+
+pub has_room : (at outstanding : ℕ) → nat_lt MAX_SEQ (at + outstanding + 1) ≡ false → at < 2 ^ 48
+has_room at outstanding e = grind (arith, nat_tests)
+
+pub room_for_two : (at outstanding : ℕ) → nat_lt MAX_SEQ (at + outstanding + 2) ≡ false → at < 2 ^ 48
+room_for_two at outstanding e = grind (arith, nat_tests)
+
+pub front_newest : (log : List LogEntry) (u : ℕ) → IsFront log u → newest_branch log ≡ u
+front_newest [] u f = absurd f
+front_newest (e ∷ older) u f = f
+
+-- the open span of a vBucket that takes writes is of own changes
+own_current : (role : Role) (o : Option Span) → is_active role ≡ true → OpensOwn role o → (x : Span) → o ≡ Some x → x.origin ≡ Own
+own_current Role.Active None a p x e = cc
+own_current Role.Active (Some y) a p x e = let s : y ≡ x = cc in subst (λ (z : Span). z.origin ≡ Own) s p
+own_current other o a p x e = cc
+
+pub forks_below : (c : Cluster) (k m : ℕ) (bs : List Branch) → (c.nodes k).position.at ≡ c.tips (c.nodes k).br → (c.nodes k).position.at < m → Forks (ground c) bs → ForksBelow (c.nodes k).br m bs
+forks_below c k m [] a l f = tt
+forks_below c k m (b ∷ older) a l f = ((λ e. let q : b.fork ≤ c.tips (c.nodes k).br = (f.0 (c.nodes k).br e).1 in omega arith), forks_below c k m older a l f.1)
+
+module _ (w : PlainWorld) (r : Chronicle) (cl : Cluster) (n v : ℕ) (node : PlainNode) (vb : Plain) (a : AgreesIn idle w r cl) (known : w.nodes n ≡ Some node) (has : node.vbs v ≡ Some vb) where
+  pub there_is : vb_of w n v ≡ Some vb
+  there_is = ap (λ o. vb_in o v) known ∙ has
+
+  pub mine : VbAgrees r n v (cl.nodes (seat n v)) vb
+  mine = subst (AgreesAt r n v (cl.nodes (seat n v))) there_is (a.vbs n v)
+
+  -- an active vBucket makes a change: one that commits names the pending prepare of its key, and has its document; these prepares are outstanding then
+
+  module _ (change : Change) (cas : ℕ) (active : is_active vb.role ≡ true) (next : change.seq ≡ vb.position.at + 1) (room : vb.position.at < 2 ^ 48) (fits : ChangeFits change)
+      (named : Fulfils (image_of (cl.nodes (seat n v)).held) change) (left : List Waiting) (sound : Sound (record (growth vb change cas).0 { waiting = left })) where
+    abbrev member : Member
+    member = cl.nodes (seat n v)
+
+    abbrev grown : Plain
+    grown = record (growth vb change cas).0 { waiting = left }
+
+    abbrev after : Chronicle
+    after = after_change r n v member.br change
+
+    abbrev later : Cluster
+    later = happens cl (Move.Own (seat n v) change)
+
+    leads_it : member.active ≡ true
+    leads_it = mine.member.active ∙ active
+
+    lead : Leads (ground cl) member
+    lead = a.sound.leads (seat n v) leads_it
+
+    lead_fork : (b : Branch) × (branch cl.tree member.br ≡ Some b) × (b.fork ≤ member.position.at)
+    lead_fork =
+        let there = (a.sound.stands (seat n v)).settled.0 in
+        let low = a.sound.floors member.br there.0 there.1 in
+        let tip : member.position.at ≡ cl.tips member.br = lead.tip in
+        (there.0, there.1, omega (arith, low, tip))
+
+    writer : Writes r n v member.br
+    writer = subst (λ b. WritesIf b r n v member.br) active mine.writes
+
+    member_at : member.position.at ≡ vb.position.at
+    member_at = ap (λ p. p.at) mine.member.position
+
+    -- the branch, in the cluster and by the lines, ends where the vBucket does
+    branch_rises : Rises 0 vb.position.at (hist r.tree member.br)
+    branch_rises = subst (λ h. Rises 0 vb.position.at h) (a.hists member.br) (subst (λ i. Rises 0 i (hist cl.tree member.br)) (sym lead.tip ∙ member_at) (a.sound.tops member.br))
+
+    own_branch : own_history r n v ≡ hist r.tree member.br
+    own_branch = ap (known_history r.tree) writer.branch
+
+    is_active_role : (x : Role) → is_active x ≡ true → x ≡ Role.Active
+    is_active_role Role.Active e = refl
+    is_active_role x e = cc
+
+    pub newest : newest_branch vb.log ≡ member.br
+    newest = front_newest vb.log member.br (subst (λ l. IsFront l member.br) mine.member.log lead.front)
+
+    still_sound : SoundCluster top later
+    still_sound = keeps top cl (Move.Own (seat n v) change) a.sound
+        (leads_it, omega (arith, member_at), omega arith, named)
+
+    -- every branch that was made from this one leaves it below the change
+    below : ForksBelow member.br change.seq cl.tree
+    below = forks_below cl (seat n v) change.seq cl.tree lead.tip (omega (arith, member_at)) a.sound.forks
+
+    told_below_it : ForksBelow member.br change.seq r.tree
+    told_below_it = told_below cl.tree r.tree member.br change.seq a.are_told below
+
+    pub is_lawful : IsHeldIfCommitted (r.counts_at n v) (r.disk_at n v).saved (image_of member.held) change → LawfulChange r n v member.br change
+    is_lawful backed = record {
+      active = if_known (r.role_at n v) (Some Role.Active) (mine.role ∙ ap (λ (x : Role). Some (Some x)) (is_active_role vb.role active));
+      writer = record { made_or_took = writer.writer; on_branch = writer.branch };
+      above_branch = (let most : last_seq 0 (hist r.tree member.br) ≤ vb.position.at = last_seq_le 0 vb.position.at 0 (hist r.tree member.br) (omega arith) branch_rises in omega arith);
+      above_held = subst (λ h. last_seq 0 h < change.seq) (sym mine.held) (let e = mine.high in omega arith);
+      above_forks = told_below_it;
+      fulfils = subst (λ h. Fulfils (image_of h) change) (sym mine.held) named;
+      backed = subst (λ h. IsHeldIfCommitted (r.counts_at n v) (r.disk_at n v).saved (image_of h) change) (sym mine.held) backed;
+    }
+
+    -- the branch that the lines tell is one of the cluster's, made at or below where the vBucket is
+    told_branch : (d : Branch) × (branch r.tree member.br ≡ Some d) × (d.fork < change.seq)
+    told_branch =
+        let (d, is) = writer.is_told in
+        let (b, there, fork) = told_found cl.tree r.tree member.br d a.are_told is in
+        let (e, known, low) = lead_fork in
+        let found : Some b ≡ Some e = sym there ∙ known in
+        let same : b ≡ e = cc in
+        let level : b.fork ≡ e.fork = ap (λ (x : Branch). x.fork) same in
+        let same_fork : b.fork ≡ d.fork = fork in
+        let low_fork : e.fork ≤ member.position.at = low in
+        let at_same : member.position.at ≡ vb.position.at = member_at in
+        (d, is, omega arith)
+
+    grown_branch : hist after.tree member.br ≡ hist r.tree member.br ++ change ∷ []
+    grown_branch = let (d, is, low) = told_branch in hist_grow_own r.tree member.br change d is low
+
+    -- the spans after the change
+    abbrev joined : Option Span
+    joined = own_joined vb.held vb.spans.current (last_at vb.held change.key) change
+
+    abbrev alone : Span
+    alone = span_of vb.position.at Own change
+
+    fork_at : fork_of vb.position ≡ vb.position.at
+    fork_at = subst (λ (q : Position). fork_of q ≡ q.at) mine.member.position (⊎_elim (λ y. y.1) (λ y. y.1 ∙ lead.ss_at) (start_cases member.position.ss member.position.se member.position.at))
+
+    at_end : HasLast member.held (hist r.tree member.br) vb.floor vb.position.at vb.position.at
+    at_end = subst (λ h. HasLast member.held h vb.floor vb.position.at vb.position.at) own_branch
+        (subst (λ i. HasLast member.held (own_history r n v) vb.floor i i) fork_at (fork_held vb.role vb.floor vb.spans vb.position member.held (own_history r n v) mine.spanned mine.sound.spans mine.holds))
+
+    split : (i : ℕ) → WholeTo vb.floor grown.spans grown.position i → (WholeTo vb.floor vb.spans vb.position i × (i ≤ vb.position.at)) ⊎ (i ≡ change.seq)
+    split i w =
+        let most : i ≤ fork_of grown.position = w.1 in
+        let old = fork_at in
+        let new : fork_of grown.position ≡ change.seq = ⊎_elim (λ y. y.1) (λ y. y.1) (start_cases change.seq change.seq change.seq) in
+        ⊎_elim
+        (λ above. inr (omega arith))
+        (λ low. inl ((whole_before vb.floor i vb.position.at change.seq vb.spans joined alone mine.sound.spans (omega arith) (own_grown vb.held vb.spans.current (last_at vb.held change.key) change) w.0, omega arith, w.2), low))
+        (cases_lt vb.position.at i)
+
+    -- its CAS is not above the last one
+    weighed : (xs : List Change) → CasUpTo cas (xs ++ change ∷ []) → cas_of change.act ≤ cas
+    weighed [] c = c.0
+    weighed (x ∷ xs) c = weighed xs c.1
+
+    here : vb.last_cas ≤ cas → VbAgrees after n v (owned member change) grown
+    here rises = record {
+      kept = record {
+        sound = sound;
+        spanned = spanned_active vb.role vb.floor grown.spans change.seq active sound.spans;
+        keeps = record {
+          below = mine.below;
+          parts = ap (λ h. h ++ change ∷ []) mine.parts ∙ append_assoc mine.below vb.held (change ∷ []);
+          base = mine.base;
+          low = mine.low;
+          fits = All-push ChangeFits member.held change mine.fits fits;
+          weighs = weighs_push vb.last_cas cas member.held change rises (weighed vb.held sound.casses) mine.weighs;
+          entries = mine.entries;
+          high = last_seq_push 0 member.held change;
+        };
+        told = record {
+          held = at_here r.held n v (r.held n v ++ change ∷ []) ∙ ap (λ h. h ++ change ∷ []) mine.held;
+          log = mine.log;
+          snap = at_here r.snap_at n v (Some (change.seq, change.seq));
+          unlogged = mine.unlogged;
+        };
+        member = record { active = mine.member.active; position = refl; log = mine.member.log };
+        branch = mine.branch;
+        holds = subst (HoldsAt vb.floor (WholeTo vb.floor grown.spans grown.position) (member.held ++ change ∷ [])) (sym (ap (known_history after.tree) writer.branch ∙ grown_branch))
+            (holds_push vb.floor (WholeTo vb.floor vb.spans vb.position) (WholeTo vb.floor grown.spans grown.position) vb.position.at member.held (hist r.tree member.br) change branch_rises (omega arith) at_end split
+            (subst (HoldsAt vb.floor (WholeTo vb.floor vb.spans vb.position) member.held) own_branch mine.holds));
+      };
+      role = mine.role;
+      opened = at_here r.open_at n v true ∙ sym (joined_opens vb.spans joined alone);
+      writes = subst (λ x. WritesIf x after n v member.br) (sym active) (record {
+        branch = writer.branch;
+        is_told = is_told_grow r.tree member.br change member.br writer.is_told;
+        writer = writer.writer;
+        named = writer.named;
+      });
+      counts = mine.counts;
+    }
+
+    writes_there : (m q br : ℕ) (b : Bool) → WritesIf b r m q br → WritesIf b after m q br
+    writes_there m q br false old = tt
+    writes_there m q br true old = record { branch = old.branch; is_told = is_told_grow r.tree member.br change br old.is_told; writer = old.writer; named = old.named }
+
+    -- another vBucket's branch is as it was, up to where that vBucket is
+    front_there : (m q : ℕ) (x : Plain) → VbAgrees r m q (cl.nodes (seat m q)) x → upto (own_history r m q) x.position.at ≡ upto (own_history after m q) x.position.at
+    front_there m q x agrees = by (r.branch_at m q) agrees.branch
+      where
+        low : (cl.nodes (seat m q)).br ≡ member.br → x.position.at < change.seq
+        low same =
+            let settled : (cl.nodes (seat m q)).position.at ≤ cl.tips (cl.nodes (seat m q)).br = (a.sound.stands (seat m q)).settled.1 in
+            let tips : cl.tips (cl.nodes (seat m q)).br ≡ cl.tips member.br = ap cl.tips same in
+            let tip : member.position.at ≡ cl.tips member.br = lead.tip in
+            let level : (cl.nodes (seat m q)).position.at ≡ x.position.at = ap (λ p. p.at) agrees.member.position in
+            let there = member_at in
+            omega (arith, there, settled, tips, tip, level, next)
+
+        by : (o : Option ℕ) → BranchIs o (cl.nodes (seat m q)).br → upto (known_history r.tree o) x.position.at ≡ upto (known_history after.tree o) x.position.at
+        by None is = refl
+        by (Some u) is = ⊎_elim
+            (λ same. sym (grow_below r.tree member.br change u x.position.at (low (is ∙ same))))
+            (λ ne. ap (λ h. upto h x.position.at) (sym (hist_grow_other r.tree member.br change u ne told_below_it)))
+            (numbers u member.br)
+
+    row_there : (m q : ℕ) → (m ≡ n → q ≡ v → ⊥) → vb_row after m q ≡ vb_row r m q
+    row_there m q other = λ i. record (vb_row r m q) {
+      opened = at_there r.open_at n v true m q other i;
+      contents = record (vb_contents r m q) { held = at_there r.held n v (r.held n v ++ change ∷ []) m q other i; snap = at_there r.snap_at n v (Some (change.seq, change.seq)) m q other i };
+    }
+
+    there : (m q : ℕ) → (m ≡ n → q ≡ v → ⊥) → AgreesAt after m q (later.nodes (seat m q)) (vb_of w m q)
+    there m q other = subst (λ k. AgreesAt after m q k (vb_of w m q)) (sym (put_there cl.nodes (seat n v) (owned member change) (seat m q) (seats_apart m q n v other)))
+        (vb_told r after m q (cl.nodes (seat m q)) (vb_of w m q) (row_there m q other)
+        (λ b old. writes_there m q (cl.nodes (seat m q)).br b old) (λ x agrees. front_there m q x agrees) (a.vbs m q))
+
+    same_hist : (u : ℕ) → hist later.tree u ≡ hist after.tree u
+    same_hist u = ⊎_elim
+        (λ e. subst (λ x. hist later.tree x ≡ hist after.tree x) (sym e) own)
+        (λ ne. hist_grow_other cl.tree member.br change u ne below ∙ a.hists u ∙ sym (hist_grow_other r.tree member.br change u ne told_below_it))
+        (numbers u member.br)
+      where
+        own : hist later.tree member.br ≡ hist after.tree member.br
+        own =
+            let (d, at, low) = lead_fork in
+            hist_grow_own cl.tree member.br change d at (omega (arith, member_at)) ∙ ap (λ h. h ++ change ∷ []) (a.hists member.br) ∙ sym grown_branch
+
+    -- all changes of all branches fit
+    all_fit : (u : ℕ) → All ChangeFits (hist after.tree u)
+    all_fit u = ⊎_elim
+        (λ e. subst (λ x. All ChangeFits (hist after.tree x)) (sym e) (subst (All ChangeFits) (sym grown_branch) (All-push ChangeFits (hist r.tree member.br) change (a.fits member.br) fits)))
+        (λ ne. subst (All ChangeFits) (sym (hist_grow_other r.tree member.br change u ne told_below_it)) (a.fits u))
+        (numbers u member.br)
+
+    same_br : (j : ℕ) → (later.nodes j).br ≡ (cl.nodes j).br
+    same_br j = ⊎_elim
+        (λ e. subst (λ x. (later.nodes x).br ≡ (cl.nodes x).br) (sym e) (ap (λ (m : Member). m.br) (put_here cl.nodes (seat n v) (owned member change))))
+        (λ ne. ap (λ (m : Member). m.br) (put_there cl.nodes (seat n v) (owned member change) j ne))
+        (numbers j (seat n v))
+
+    -- its journal is as it was, and its span ends where it is then
+    disk_here_is : (o : Option Shelf) → DiskIsIf (r.disk_at n v) (cl.disks (seat n v)) o (Some vb) → DiskIsIf (after.disk_at n v) (later.disks (seat n v)) o (Some grown)
+    disk_here_is None x = absurd x
+    disk_here_is (Some shelf) x = subst (λ d. ShelfIs (r.disk_at n v) d shelf (parts_of grown)) (sym (disk_here cl.disks (seat n v) (spanned (cl.disks (seat n v)) (owned member change).position)))
+        (shelf_spanned grown.spans x refl refl refl (grown_spots (place_of (cl.disks (seat n v)).book).at change.seq vb.spans joined alone Own (cl.disks (seat n v)).stood
+        (own_grown vb.held vb.spans.current (last_at vb.held change.key) change) refl refl (λ x e. own_current vb.role vb.spans.current active mine.sound.current x e) x.spots))
+
+    module _ (w' : PlainWorld) (changed : Changed w w' n v grown w.links) (shelf : shelf_of w' n v ≡ shelf_of w n v) (rises : vb.last_cas ≤ cas) where
+      one_of : (m q : ℕ) (x : Plain) → vb_of w m q ≡ Some x → m ≡ n → q ≡ v → x ≡ vb
+      one_of m q x e s t = let z : vb_of w m q ≡ Some vb = ap (λ k. vb_of w k q) s ∙ ap (vb_of w n) t ∙ there_is in cc
+
+      follower_apart : (x : PlainLink) → IsLink x w.links → consumer_node x ≡ n → x.consumer.dialed.vb ≡ v → ⊥
+      follower_apart x i s t =
+          let l = a.links x i in
+          let same : l.follower ≡ vb = one_of (consumer_node x) x.consumer.dialed.vb l.follower l.follower_is s t in
+          not_both vb.role active (subst (λ (k : Plain). is_follower k.role ≡ true) same l.follows)
+
+      stays : (x : PlainLink) → StaysProducer (vb_of w (producer_node x) x.consumer.dialed.vb) (vb_of w' (producer_node x) x.consumer.dialed.vb) (cl.nodes (producer_seat x)) (later.nodes (producer_seat x)) x
+      stays x p s e act opened stream = ⊎_elim
+          (λ t. let same : p ≡ vb = one_of (producer_node x) x.consumer.dialed.vb p e t.0 t.1 in (
+            grown,
+            ap (λ k. vb_of w' k x.consumer.dialed.vb) t.0 ∙ ap (vb_of w' n) t.1 ∙ changed.here,
+            active,
+            subst (λ (k : Plain). stream_at x.server.desk.id k.streams ≡ Some s) same opened,
+            same_br (producer_seat x),
+          ))
+          (λ o. (p, changed.there (producer_node x) x.consumer.dialed.vb o ∙ e, act, opened, same_br (producer_seat x)))
+          (places n v (producer_node x) x.consumer.dialed.vb)
+
+      linked : (x : PlainLink) → IsLink x w.links → LinkAgrees w' after later x [] []
+      linked x i = link_carried w w' r after cl later x [] []
+          (λ fv e. (fv, changed.there (consumer_node x) x.consumer.dialed.vb (follower_apart x i) ∙ e, kept_same fv))
+          refl refl refl (put_there cl.nodes (seat n v) (owned member change) (consumer_seat x) (seats_apart (consumer_node x) x.consumer.dialed.vb n v (follower_apart x i)))
+          (stays x) (a.links x i)
+
+      -- what rests beside it
+      rest : RestsIn w' after later
+      rest = rests_by w w' r after cl later a.rests changed.powers (λ m. refl)
+          (λ m q none. ⊎_elim
+          (λ s. let z : Some grown ≡ None = sym (ap (λ k. vb_of w' k q) s.0 ∙ ap (vb_of w' n) s.1 ∙ changed.here) ∙ none in cc)
+          (λ o. let far = seats_apart m q n v o in record {
+            vb = sym (changed.there m q o) ∙ none;
+            shelf = changed.shelves m q o;
+            row = row_there m q o;
+            member = put_there cl.nodes (seat n v) (owned member change) (seat m q) far;
+            disk = disk_there cl.disks (seat n v) (spanned (cl.disks (seat n v)) (owned member change).position) (seat m q) far;
+          })
+          (places n v m q))
+          (λ m q down. ⊎_elim
+          (λ s. let z : Some vb ≡ None = sym (ap (λ k. vb_of w k q) s.0 ∙ ap (vb_of w n) s.1 ∙ there_is) ∙ (a.downs m q).vb_none down in cc)
+          (λ o. (changed.there m q o ∙ (a.downs m q).vb_none down, changed.shelves m q o ∙ (a.downs m q).shelf_none down))
+          (places n v m q))
+          (λ m q e. e)
+          (λ x i. ends_again w w' x changed.powers (a.ends x (subst (IsLink x) changed.linked i)))
+
+      pub written : AgreesIn idle w' after later
+      written = record {
+        sound = still_sound;
+        rests = rest;
+        vbs = all_vbs w w' n v grown (λ m q o. AgreesAt after m q (later.nodes (seat m q)) o) changed.here changed.there
+            (subst (λ m. VbAgrees after n v m grown) (sym (put_here cl.nodes (seat n v) (owned member change))) (here rises)) there;
+        disks = all_vbs w w' n v grown (λ m q o. DiskIsIf (after.disk_at m q) (later.disks (seat m q)) (shelf_of w' m q) o) changed.here changed.there
+            (subst (λ o. DiskIsIf (after.disk_at n v) (later.disks (seat n v)) o (Some grown)) (sym shelf) (disk_here_is (shelf_of w n v) (subst (DiskIsIf (r.disk_at n v) (cl.disks (seat n v)) (shelf_of w n v)) there_is (a.disks n v))))
+            (λ m q o. disk_same (vb_of w m q) (vb_of w m q) refl (disk_there cl.disks (seat n v) (spanned (cl.disks (seat n v)) (owned member change).position) (seat m q) (seats_apart m q n v o)) (changed.shelves m q o) (same_parts (vb_of w m q)) (a.disks m q));
+        branches = record {
+          hists = same_hist;
+          are_told = told_grow cl.tree r.tree member.br change a.are_told;
+          fits = all_fit;
+          rootless = hist_grow_other cl.tree member.br change 0 (λ e. writer.named (sym e)) below ∙ a.rootless;
+          ids = ids_grow cl.tree member.br change a.ids;
+          used = λ u e ne. branch_grow cl.tree member.br change u ∙ ap (option_map (longer member.br change)) (a.used u (ap (is_one_of u) (sym changed.uuids) ∙ e) ne);
+          fresh = λ u e. new_grow u r.tree member.br change (a.fresh u (ap (is_one_of u) (sym changed.uuids) ∙ e));
+        };
+        links = λ x i. linked x (subst (IsLink x) changed.linked i);
+        differ = subst LinksDiffer (sym changed.linked) a.differ;
+      }
