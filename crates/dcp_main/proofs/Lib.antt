@@ -1,3 +1,4 @@
 pub mod Endings
 pub mod Groups
 pub mod Letters
+pub mod Wanting

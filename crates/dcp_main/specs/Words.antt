@@ -14,9 +14,13 @@ says_run [] = false
 says_run (word ∷ []) = bytes_eq word (codes "run")
 says_run (word ∷ next ∷ words) = false
 
+-- the words to go by, or how the process ends
+abbrev pub Answered : Type 0
+Answered = Result (Vec (String Global) Global) Status
+
 -- the words to go by, once they were fetched or not: want of memory ends the process as such, and any other error,
 -- as of a word that is no text, leaves no words
-abbrev pub AcceptedWords : Result (Vec (String Global) Global) Error → Result (Vec (String Global) Global) Status → Type 0
+abbrev pub AcceptedWords : Result (Vec (String Global) Global) Error → Answered → Type 0
 AcceptedWords (Ok words) answer = answer ≡ Ok words
 AcceptedWords (Err fault) (Ok words) = (error_kind fault ≢ kind.OutOfMemory) × (words.items ≡ [])
 AcceptedWords (Err fault) (Err stop) = (error_kind fault ≡ kind.OutOfMemory) × (stop ≡ status.NoMemory)

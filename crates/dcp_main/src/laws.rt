@@ -1,6 +1,9 @@
 //! What the process's number means.
-ghost use Rattle.std.specs.Prelude.{◌≡◌, ◌↔◌, ◌++◌, ℕ, List, [], ◌∷◌, decimal, true};
-ghost use Rattle.{dcp_io.specs.Moves.{Intake, Outlet}, dcp_main.specs.Exits.{exit_code, TellsRun, TellsUsage}, dcp_main.specs.Runs.{Ran, UsageTold, bad_text}, dcp_main.specs.Words.{says_run}};
+ghost use Rattle.std.specs.Prelude.{◌≡◌, ◌≢◌, ◌↔◌, ◌++◌, ℕ, List, [], ◌∷◌, decimal, true, Err};
+ghost use Rattle.std.specs.IoError.{error_kind};
+ghost use Rattle.std.specs.declared.io.Error.{Error as Fault};
+ghost use Rattle.std.specs.declared.io.ErrorKind.TheVariants as kind;
+ghost use Rattle.{dcp_io.specs.Moves.{Intake, Outlet}, dcp_main.specs.Exits.{exit_code, TellsRun, TellsUsage}, dcp_main.specs.Runs.{Ran, UsageTold, bad_text}, dcp_main.specs.Words.{AcceptedWords, Answered, says_run}};
 ghost use Rattle.dcp_main.specs.declared.status.Status.{Status};
 ghost use Rattle.dcp_main.specs.declared.status.Status.TheVariants as status;
 
@@ -24,4 +27,11 @@ pub fn words_in_letters()
 /// What is written of a bad line, letter by letter: its words, its number and a newline.
 pub fn bad_lines_in_letters()
     ensures { (line : ℕ) → bad_text line ≡ 98 ∷ 97 ∷ 100 ∷ 32 ∷ 108 ∷ 105 ∷ 110 ∷ 101 ∷ 32 ∷ (decimal line ++ 10 ∷ []) }
+{}
+
+/// Where the words cannot be fetched for want of memory, the process ends as for that, and where they are
+/// no text there are none to go by.
+pub fn words_want_memory()
+    ensures short { (fault : Fault) (answer : Answered) → error_kind fault ≡ kind.OutOfMemory → AcceptedWords (Err fault) answer → answer ≡ Err status.NoMemory }
+    ensures no_text { (fault : Fault) (stop : Status) → error_kind fault ≢ kind.OutOfMemory → AcceptedWords (Err fault) (Err stop) → ⊥ }
 {}
