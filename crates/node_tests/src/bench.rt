@@ -1,15 +1,17 @@
 //! A node at work, over vBuckets and journals that nobody else calls. A test is a table of what is done, of the
 //! bytes for the other side and of the answer.
 use crate::lines::{Told, outline};
+use bytes::{Bytes, BytesMut};
 use disk_journals::DiskJournals;
 use durability::Chain;
+use mcbp_frame::Frame;
 use node_core::{AdminCall, ConnKind, Node, NodeOut};
-use std::alloc::Global;
+use std::alloc::{AllocError, Global};
 use std::test::Fail;
 use vb_calls::{Resolution, Resolved};
 use vb_disk::MemDisk;
-use vb_events::{Answer, StreamName};
-use vb_types::{FlushPart, Role};
+use vb_events::{Answer, Cause, Event, StreamName};
+use vb_types::{FlushPart, Listed, Role};
 use vbucket::VbMap;
 
 /// What the clock shows.
@@ -62,95 +64,129 @@ const GIVEN_UP: Resolved = Resolved {
     how: Resolution::Ambiguous,
 };
 
-/// The chain of a node and another one.
-fn chain_of(alloc: Global, active: u8, other: u8) -> Result<Chain, Fail> {
+/// The chain of a node and another one, if there can be one.
+fn chain_of(alloc: Global, active: u8, other: u8) -> Result<Option<Chain>, AllocError> {
     let mut others = Vec::new(alloc);
     others.push(Some(other))?;
-    Ok(Chain::new(active, others).ok_or("chain")?)
+    Ok(Chain::new(active, others))
 }
 
 /// A node, and the lines so far.
 #[derive(Drop)]
-pub struct Bench {
+struct Bench {
     alloc: Global,
     node: Node<VbMap, DiskJournals<MemDisk>>,
     told: Vec<Told>,
 }
 
 impl Bench {
-    /// A node of this number over these vBuckets, with a blank journal for the vBucket 3.
-    pub fn over(alloc: Global, number: u8, vbs: VbMap) -> Result<Bench, Fail> {
+    /// A node of this number with no vBucket, and with a blank journal for the vBucket 3.
+    fn new(alloc: Global, number: u8) -> Result<Bench, AllocError> {
         let mut disks = DiskJournals::new(alloc);
-        let disk = MemDisk::new(alloc)?;
-        disks.add(3, disk)?;
+        disks.add(3, MemDisk::new(alloc)?)?;
         Ok(Bench {
             alloc,
-            node: Node::over(alloc, number, vbs, disks),
+            node: Node::over(alloc, number, VbMap::new(alloc), disks),
             told: Vec::new(alloc),
         })
     }
 
-    /// Keeps the lines, and says whether the bytes and the answer are these.
-    fn handed(&mut self, out: &NodeOut, bytes: &[u8], answer: Answer) -> Result<bool, Fail> {
-        for line in out.events.as_slice() {
-            self.told.push(outline(line))?;
-        }
-        Ok(out.out.as_slice() == bytes && out.answer == answer)
-    }
-
-    fn opened(&mut self, kind: ConnKind, bytes: &[u8], answer: Answer) -> Result<bool, Fail> {
+    fn open(&mut self, kind: ConnKind) -> Result<NodeOut, AllocError> {
         let key = self.node.open(kind)?;
-        Ok(bytes.is_empty() && answer == Answer::Number(key as u64))
+        Ok(NodeOut::answered(self.alloc, Answer::Number(key as u64)))
     }
 
-    /// Has each frame of these bytes answered, and says whether the answers are these bytes.
-    fn heard(&mut self, key: usize, piece: &[u8], bytes: &[u8]) -> Result<bool, Fail> {
-        let mut answers = Vec::new(self.alloc);
+    fn open_client(&mut self, client: u32) -> Result<NodeOut, AllocError> {
+        self.open(ConnKind::Client { client, base: BASE })
+    }
+
+    fn open_peer(&mut self) -> Result<NodeOut, AllocError> {
+        let stream = StreamName::Link(1);
+        self.open(ConnKind::Peer { stream, id: 1 })
+    }
+
+    /// Has a frame answered, keeps the lines, and appends the bytes.
+    fn answer(
+        &mut self,
+        key: usize,
+        frame: &Frame,
+        answers: &mut BytesMut,
+    ) -> Result<(), AllocError> {
+        let out = self.node.answer(key, frame)?;
+        let kept = self.keep(out.events.as_slice());
+        let added = answers.extend_from_slice(out.out.as_slice());
+        drop(out);
+        kept?;
+        added
+    }
+
+    /// Has each frame of these bytes answered, and hands all answers out.
+    fn hear(&mut self, key: usize, piece: &[u8]) -> Result<NodeOut, AllocError> {
+        let mut answers = BytesMut::new(self.alloc);
         let frames = self.node.hear(key, piece)?;
         for frame in &frames {
-            let out = self.node.answer(key, frame)?;
-            for line in out.events.as_slice() {
-                self.told.push(outline(line))?;
-            }
-            answers.extend_from_slice(out.out.as_slice())?;
+            self.answer(key, frame, &mut answers)?;
         }
-        Ok(answers.as_slice() == bytes)
+        drop(frames);
+        self.handed(answers)
     }
 
-    /// Whether it went as told.
-    fn went(&mut self, step: &Step) -> Result<bool, Fail> {
+    /// These bytes alone.
+    fn handed(&self, mut answers: BytesMut) -> Result<NodeOut, AllocError> {
+        let out = answers.freeze_to(answers.len())?;
+        Ok(NodeOut::done(self.alloc, Listed::new(self.alloc), out))
+    }
+
+    fn set_chain(&mut self, other: u8) -> Result<NodeOut, AllocError> {
+        match chain_of(self.alloc, self.node.number(), other)? {
+            Some(chain) => self.node.set_chain(3, chain),
+            None => Ok(NodeOut::refused(self.alloc, Cause::ChainBad)),
+        }
+    }
+
+    /// What the node hands out.
+    fn make(&mut self, what: Do) -> Result<NodeOut, AllocError> {
+        match what {
+            Do::Client(client) => self.open_client(client),
+            Do::Peer => self.open_peer(),
+            Do::Lead => self.node.make_vb(3, Role::Active, 7),
+            Do::Replicate => self.node.make_vb(3, Role::Replica, 0),
+            Do::Hear(key, piece) => self.hear(key, piece),
+            Do::Feed(key, piece) => self.node.feed(key, piece, CLOCK),
+            Do::Post(key) => self.node.post(key, GIVEN_UP, CLOCK),
+            Do::Chain(other) => self.set_chain(other),
+            Do::Tick(clock) => self.node.tick(3, clock),
+            Do::Acknowledge => self.node.acknowledge(3),
+            Do::Pull(key, frames) => self.node.pull(key, frames),
+            Do::Shut(key) => Ok(self.node.shut(key)),
+            Do::Dial => self.node.dial(3, 9, true),
+            Do::Down(piece) => self.node.feed_dial(3, piece),
+            Do::CutDial => self.node.shut_dial(3),
+            Do::Flush(part) => self.node.flush(3, part),
+            Do::Admin(call) => self.node.admin(3, call),
+        }
+    }
+
+    fn keep(&mut self, lines: &[Event]) -> Result<(), AllocError> {
+        for line in lines {
+            self.told.push(outline(line))?;
+        }
+        Ok(())
+    }
+
+    /// Whether it went as told. Keeps the lines.
+    fn went(&mut self, step: &Step) -> Result<bool, AllocError> {
         let (what, bytes, answer) = *step;
-        let (alloc, number) = (self.alloc, self.node.number());
-        let out = match what {
-            Do::Client(client) => {
-                let base = BASE;
-                return self.opened(ConnKind::Client { client, base }, bytes, answer);
-            }
-            Do::Peer => {
-                let stream = StreamName::Link(1);
-                return self.opened(ConnKind::Peer { stream, id: 1 }, bytes, answer);
-            }
-            Do::Lead => self.node.make_vb(3, Role::Active, 7)?,
-            Do::Replicate => self.node.make_vb(3, Role::Replica, 0)?,
-            Do::Hear(key, piece) => return self.heard(key, piece, bytes),
-            Do::Feed(key, piece) => self.node.feed(key, piece, CLOCK)?,
-            Do::Post(key) => self.node.post(key, GIVEN_UP, CLOCK)?,
-            Do::Chain(other) => self.node.set_chain(3, chain_of(alloc, number, other)?)?,
-            Do::Tick(clock) => self.node.tick(3, clock)?,
-            Do::Acknowledge => self.node.acknowledge(3)?,
-            Do::Pull(key, frames) => self.node.pull(key, frames)?,
-            Do::Shut(key) => self.node.shut(key),
-            Do::Dial => self.node.dial(3, 9, true)?,
-            Do::Down(piece) => self.node.feed_dial(3, piece)?,
-            Do::CutDial => self.node.shut_dial(3)?,
-            Do::Flush(part) => self.node.flush(3, part)?,
-            Do::Admin(call) => self.node.admin(3, call)?,
-        };
-        self.handed(&out, bytes, answer)
+        let out = self.make(what)?;
+        let kept = self.keep(out.events.as_slice());
+        let is_so = out.out.as_slice() == bytes && out.answer == answer;
+        drop(out);
+        kept?;
+        Ok(is_so)
     }
 
     /// The place of the first step that goes otherwise.
-    fn first_other(&mut self, steps: &[Step]) -> Result<Option<usize>, Fail> {
+    fn first_other(&mut self, steps: &[Step]) -> Result<Option<usize>, AllocError> {
         for (at, step) in steps.iter().enumerate() {
             if !self.went(step)? {
                 return Ok(Some(at));
@@ -161,7 +197,7 @@ impl Bench {
 
     /// The place of the first step that goes otherwise; the one behind the last where other lines
     /// are told.
-    pub fn run(mut self, steps: &[Step], lines: &[Told]) -> Result<Option<usize>, Fail> {
+    fn run(mut self, steps: &[Step], lines: &[Told]) -> Result<Option<usize>, AllocError> {
         let other = self.first_other(steps)?;
         if other.is_none() && self.told.as_slice() != lines {
             return Ok(Some(steps.len()));
@@ -176,8 +212,8 @@ pub type Talk = (u8, &'static [Step], &'static [Told]);
 /// The place of the first step of a talk that goes otherwise, at a node with no vBucket.
 pub fn first_other(alloc: Global, talk: &Talk) -> Result<Option<usize>, Fail> {
     let (number, steps, lines) = *talk;
-    let bench = Bench::over(alloc, number, VbMap::new(alloc))?;
-    bench.run(steps, lines)
+    let bench = Bench::new(alloc, number)?;
+    Ok(bench.run(steps, lines)?)
 }
 
 /// The place of the first talk that goes otherwise, and that of the step.

@@ -112,6 +112,15 @@ pub const UNKNOWN_COMMAND: &[u8] = b"\x81\0\0\0\0\0\0\x81\0\0\0\0\0\0\0\x09\0\0\
 pub const SET: &[u8] = b"\x80\x01\0\x01\x08\0\0\x03\0\0\0\x0a\0\0\0\x01\0\0\0\0\0\0\0\0\
     \0\0\0\x05\0\0\0\x06kv";
 
+// HELLO for mutation seqnos, and a SET of the key k of vBucket 3 that a majority is to have.
+pub const DURABLE: &[u8] =
+    b"\x80\x1f\0\0\0\0\0\0\0\0\0\x02\0\0\0\x01\0\0\0\0\0\0\0\0\0\x04\x08\x01\x02\x01\x08\0\0\
+\x03\0\0\0\x0d\0\0\0\x09\0\0\0\0\0\0\0\0\x11\x01\0\0\0\x05\0\0\0\x06k{}";
+
+// The same SET, which a majority is to have saved.
+pub const DURABLE_SAVED: &[u8] = b"\x08\x01\x02\x01\x08\0\0\x03\0\0\0\x0d\0\0\0\x09\0\0\0\0\0\0\0\0\
+    \x11\x03\0\0\0\x05\0\0\0\x06k{}";
+
 // A client's NOOP with opaque 9, in two pieces.
 pub const NOOP_FRONT: &[u8] = b"\x80\x0a\0\0\0\0\0\0\0\0\0\0\0\0\0";
 

@@ -16,5 +16,3 @@ mod lines;
 mod nodes;
 #[cfg(test)]
 mod producers;
-#[cfg(test)]
-mod sessions;

@@ -1,6 +1,6 @@
 //! Changes as they come, and what is found after each.
 use hash_table::HashTable;
-use std::alloc::Global;
+use std::alloc::{AllocError, Global};
 use std::test::Fail;
 use vb_types::{Act, Change, Doc, Key, Level, Value};
 
@@ -48,43 +48,91 @@ fn found(table: &HashTable, key: &Key) -> (u64, u64) {
     (doc, pend)
 }
 
+/// A change of a key.
+fn change(key: &Key, seq: u64, act: Act) -> Result<Change, AllocError> {
+    match key.clone() {
+        Ok(key) => Ok(Change { seq, key, act }),
+        Err(stop) => {
+            drop(act);
+            Err(stop)
+        }
+    }
+}
+
+/// Takes a change in.
+fn put(table: &mut HashTable, change: Change) -> Result<(), AllocError> {
+    match table.reserve(1) {
+        Ok(()) => {
+            table.apply(change);
+            Ok(())
+        }
+        Err(stop) => {
+            drop(change);
+            Err(stop)
+        }
+    }
+}
+
 /// What is found of a key after one more change of it.
-fn after(table: &mut HashTable, key: &Key, seq: u64, act: Act) -> Result<(u64, u64), Fail> {
-    let key = key.clone()?;
-    let change = Change {
-        seq,
-        key: key.clone()?,
-        act,
-    };
-    table.reserve(1)?;
-    table.apply(change);
-    Ok(found(table, &key))
+fn after(table: &mut HashTable, key: &Key, seq: u64, act: Act) -> Result<(u64, u64), AllocError> {
+    let change = change(key, seq, act)?;
+    put(table, change)?;
+    Ok(found(table, key))
 }
 
 /// What is found after a prepare, after its commit, and after a removal.
-fn durable_write(alloc: Global, key: &Key) -> Result<((u64, u64), (u64, u64), (u64, u64)), Fail> {
-    let mut table = HashTable::new(alloc);
-    let prepared = after(&mut table, key, 1, prepare(alloc, Level::Majority, 1)?)?;
-    let committed = after(&mut table, key, 2, commit(alloc, 1, 2)?)?;
-    let removed = after(&mut table, key, 3, Act::Remove { cas: 3, rev: 2 })?;
+type Found = ((u64, u64), (u64, u64), (u64, u64));
+
+/// The same in this table.
+fn write_in(alloc: Global, table: &mut HashTable, key: &Key) -> Result<Found, Fail> {
+    let prepared = after(table, key, 1, prepare(alloc, Level::Majority, 1)?)?;
+    let committed = after(table, key, 2, commit(alloc, 1, 2)?)?;
+    let removed = after(table, key, 3, Act::Remove { cas: 3, rev: 2 })?;
     Ok((prepared, committed, removed))
+}
+
+fn durable_write(alloc: Global) -> Result<Found, Fail> {
+    let key = key(alloc, b"k")?;
+    let mut table = HashTable::new(alloc);
+    let found = write_in(alloc, &mut table, &key);
+    drop(table);
+    found
 }
 
 #[test]
 fn a_durable_write_is_pending_and_then_a_document(rt: HostRuntime) -> Result<(), Fail> {
-    let key = key(rt.alloc(), b"k")?;
-    let found = durable_write(rt.alloc(), &key)?;
+    let found = durable_write(rt.alloc())?;
     assert_eq!(rt; found, ((0, 1), (2, 0), (0, 0)));
+    Ok(())
+}
+
+/// Sets the document of this byte; its CAS is one more.
+fn set(alloc: Global, table: &mut HashTable, n: u8) -> Result<(), Fail> {
+    let key = key(alloc, &[n])?;
+    let seq = n as u64 + 1;
+    let doc = doc(alloc, seq)?;
+    put(
+        table,
+        Change {
+            seq,
+            key,
+            act: Act::Set(doc),
+        },
+    )?;
+    Ok(())
+}
+
+fn fill(alloc: Global, table: &mut HashTable) -> Result<(), Fail> {
+    for n in 0..200u8 {
+        set(alloc, table, n)?;
+    }
     Ok(())
 }
 
 /// A table of 200 keys of one byte; the CAS of each document is one more than its key's byte.
 fn filled(alloc: Global) -> Result<HashTable, Fail> {
     let mut table = HashTable::new(alloc);
-    for n in 0..200u8 {
-        let act = Act::Set(doc(alloc, n as u64 + 1)?);
-        after(&mut table, &key(alloc, &[n])?, n as u64 + 1, act)?;
-    }
+    fill(alloc, &mut table)?;
     Ok(table)
 }
 
@@ -102,35 +150,57 @@ fn first_lost(alloc: Global, table: &HashTable) -> Result<Option<u8>, Fail> {
 #[test]
 fn many_keys_are_found(rt: HostRuntime) -> Result<(), Fail> {
     let table = filled(rt.alloc())?;
-    assert_eq!(rt; first_lost(rt.alloc(), &table)?, None);
+    let lost = first_lost(rt.alloc(), &table);
+    drop(table);
+    assert_eq!(rt; lost?, None);
     Ok(())
 }
 
+/// A prepare of the key that is this byte.
+fn prepare_at(
+    alloc: Global,
+    table: &mut HashTable,
+    name: &[u8],
+    seq: u64,
+    level: Level,
+) -> Result<(), Fail> {
+    let key = key(alloc, name)?;
+    let act = prepare(alloc, level, seq)?;
+    put(table, Change { seq, key, act })?;
+    Ok(())
+}
+
+/// Its commit.
+fn commit_at(
+    alloc: Global,
+    table: &mut HashTable,
+    name: &[u8],
+    seq: u64,
+    prepared: u64,
+) -> Result<(), Fail> {
+    let key = key(alloc, name)?;
+    let act = commit(alloc, prepared, seq)?;
+    put(table, Change { seq, key, act })?;
+    Ok(())
+}
+
+type Ends = ((u64, u64), (u64, u64));
+
 /// The last prepare up to 2 and the first level 3 one above 1, before and after that one is committed.
-fn found_by_seqnos(alloc: Global) -> Result<((u64, u64), (u64, u64)), Fail> {
+fn prepares_in(alloc: Global, table: &mut HashTable) -> Result<Ends, Fail> {
+    prepare_at(alloc, table, b"a", 1, Level::Majority)?;
+    prepare_at(alloc, table, b"b", 2, Level::PersistMajority)?;
+    prepare_at(alloc, table, b"c", 3, Level::Majority)?;
+    let before = ends(table);
+    commit_at(alloc, table, b"b", 4, 2)?;
+    Ok((before, ends(table)))
+}
+
+fn found_by_seqnos(alloc: Global) -> Result<Ends, Fail> {
     let mut table = HashTable::new(alloc);
-    let middle = key(alloc, b"b")?;
-    after(
-        &mut table,
-        &key(alloc, b"a")?,
-        1,
-        prepare(alloc, Level::Majority, 1)?,
-    )?;
-    after(
-        &mut table,
-        &middle,
-        2,
-        prepare(alloc, Level::PersistMajority, 2)?,
-    )?;
-    after(
-        &mut table,
-        &key(alloc, b"c")?,
-        3,
-        prepare(alloc, Level::Majority, 3)?,
-    )?;
-    let before = ends(&table);
-    after(&mut table, &middle, 4, commit(alloc, 2, 4)?)?;
-    Ok((before, ends(&table)))
+    let found = prepares_in(alloc, &mut table);
+    drop(table);
+    found
 }
 
 /// The last prepare up to 2 and the first level 3 one above 1, each 0 where there is none.

@@ -195,9 +195,44 @@ fn commit(alloc: Global, prepared: u64) -> Result<Act, Fail> {
 }
 
 fn receiving(alloc: Global, seq: u64, act: Act) -> Result<VbCall, Fail> {
+    match key(alloc) {
+        Ok(key) => {
+            let change = Change { seq, key, act };
+            Ok(VbCall::Receive { change })
+        }
+        Err(fail) => {
+            drop(act);
+            Err(fail)
+        }
+    }
+}
+
+fn setting(alloc: Global, seq: u64) -> Result<VbCall, Fail> {
+    let doc = doc(alloc, seq)?;
+    receiving(alloc, seq, Act::Set(doc))
+}
+
+fn preparing(alloc: Global, seq: u64, cas: u64) -> Result<VbCall, Fail> {
+    let act = prepare(alloc, cas)?;
+    receiving(alloc, seq, act)
+}
+
+fn committing(alloc: Global, seq: u64, prepared: u64) -> Result<VbCall, Fail> {
+    let act = commit(alloc, prepared)?;
+    receiving(alloc, seq, act)
+}
+
+fn getting(alloc: Global) -> Result<VbCall, Fail> {
     let key = key(alloc)?;
-    let change = Change { seq, key, act };
-    Ok(VbCall::Receive { change })
+    Ok(VbCall::Get { key })
+}
+
+fn rolling(alloc: Global, at: u64) -> VbCall {
+    VbCall::RollTo {
+        at,
+        image: Image::new(alloc),
+        cas: 0,
+    }
 }
 
 fn adopting(alloc: Global, uuid: u64) -> Result<VbCall, Fail> {
@@ -227,41 +262,46 @@ fn chain(alloc: Global, others: &[Option<u8>]) -> Result<VbCall, Fail> {
     Ok(VbCall::Chain { chain })
 }
 
+/// A call that takes memory to make. The others are made below.
 fn call(alloc: Global, what: Do) -> Result<VbCall, Fail> {
     match what {
-        Do::Get => Ok(VbCall::Get { key: key(alloc)? }),
+        Do::Get => getting(alloc),
         Do::Store(op, clock) => storing(alloc, op, clock),
         Do::Durable(level, deadline) => durable(alloc, level, deadline),
         Do::Chain(others) => chain(alloc, others),
-        Do::Ack(member, seq) => Ok(VbCall::Ack { member, seq }),
-        Do::Tick(clock) => Ok(VbCall::Tick { clock }),
-        Do::Due => Ok(VbCall::Due),
-        Do::Open(id, uuid, start) => Ok(opening(id, uuid, start, start, start)),
-        Do::OpenInside(start, ss, se) => Ok(opening(3, 5, start, ss, se)),
-        Do::Place(id) => Ok(VbCall::Place { id }),
-        Do::Take(id) => Ok(VbCall::Take { id }),
-        Do::Close(id) => Ok(VbCall::CloseStream { id }),
-        Do::Ask => Ok(VbCall::Ask),
         Do::Adopt(uuid) => adopting(alloc, uuid),
         Do::AdoptTwo(newer, older) => adopting_two(alloc, newer, older),
         Do::AdoptMany(count) => adopting_many(alloc, count),
-        Do::Marker(start, end) => Ok(VbCall::Marker { start, end }),
-        Do::Set(seq) => receiving(alloc, seq, Act::Set(doc(alloc, seq)?)),
-        Do::Prepare(seq, cas) => receiving(alloc, seq, prepare(alloc, cas)?),
-        Do::Commit(seq, prepared) => receiving(alloc, seq, commit(alloc, prepared)?),
-        Do::Roll(at) => Ok(VbCall::RollTo {
-            at,
-            image: Image::new(alloc),
-            cas: 0,
-        }),
-        Do::FlushTake => Ok(VbCall::FlushTake),
-        Do::Stat => Ok(VbCall::Stat),
-        Do::Promote(uuid) => Ok(VbCall::Promote { uuid }),
-        Do::Follow => Ok(VbCall::Follow),
-        Do::Dead => Ok(VbCall::Dead),
-        Do::Seal => Ok(VbCall::Seal),
-        Do::Log => Ok(VbCall::Log),
-        Do::Show => Ok(VbCall::Show),
+        Do::Set(seq) => setting(alloc, seq),
+        Do::Prepare(seq, cas) => preparing(alloc, seq, cas),
+        Do::Commit(seq, prepared) => committing(alloc, seq, prepared),
+        Do::Roll(at) => Ok(rolling(alloc, at)),
+        other => Ok(plain_call(other)),
+    }
+}
+
+/// A call of numbers alone.
+fn plain_call(what: Do) -> VbCall {
+    match what {
+        Do::Ack(member, seq) => VbCall::Ack { member, seq },
+        Do::Tick(clock) => VbCall::Tick { clock },
+        Do::Due => VbCall::Due,
+        Do::Open(id, uuid, start) => opening(id, uuid, start, start, start),
+        Do::OpenInside(start, ss, se) => opening(3, 5, start, ss, se),
+        Do::Place(id) => VbCall::Place { id },
+        Do::Take(id) => VbCall::Take { id },
+        Do::Close(id) => VbCall::CloseStream { id },
+        Do::Ask => VbCall::Ask,
+        Do::Marker(start, end) => VbCall::Marker { start, end },
+        Do::FlushTake => VbCall::FlushTake,
+        Do::Stat => VbCall::Stat,
+        Do::Promote(uuid) => VbCall::Promote { uuid },
+        Do::Follow => VbCall::Follow,
+        Do::Dead => VbCall::Dead,
+        Do::Seal => VbCall::Seal,
+        Do::Log => VbCall::Log,
+        // `Show`: what takes memory to make has its arm above.
+        _ => VbCall::Show,
     }
 }
 
@@ -339,7 +379,9 @@ fn outline(reply: &VbReply) -> Told {
 fn answered(alloc: Global, vb: &mut VBucket, what: Do) -> Result<Told, Fail> {
     let call = call(alloc, what)?;
     let reply = vb.step(call)?;
-    Ok(outline(&reply))
+    let told = outline(&reply);
+    drop(reply);
+    Ok(told)
 }
 
 /// The vBucket that is called.
