@@ -1,21 +1,32 @@
 #!/usr/bin/env python3
 """What a machine can check of the documents. It prints what is wrong, a line each, and then ends with 1.
 
-Each crate has a README and a row in docs/ARCHITECTURE.md with the crates that crates.txt says it stands on. What a
-crate's README cites by name is there, and so is each clause that docs/GUARANTEES.md cites of a judged law. Links lead
-somewhere. The code that docs/READING.md shows stands in the sources. The transcript that README.md shows is the
-example's. Scripts and planted bugs are about as many as is said. Lines have at most 100 characters and cells at most
-200 beside backquotes.
+Each crate has a row in docs/ARCHITECTURE.md, and a README with the crates that crates.txt says it stands on. What a
+crate's README cites by name is there, and so is each clause that docs/GUARANTEES.md cites of a judged law, and each law
+and lemma of which a page says where it is. Links lead somewhere. The code that docs/READING.md shows stands in the
+sources, and the transcript that README.md shows is the example's. Stored scripts, planted bugs, crates, laws and lines
+of the crates are as many as is said. Licence and kit are named. docs/DECISIONS.md has each crate in its index. No page
+is longer than it may be; lines have at most 100 characters and cells at most 200 beside backquotes.
 """
 
 import glob
 import os
 import re
+import subprocess
 import sys
 from typing import Iterator
 
 TOP = os.path.dirname(os.path.dirname(os.path.abspath(__file__)))
 LINE, CELL = 100, 200
+# What grows with what it says is read by nobody: a page that says more says something else shorter.
+LENGTHS = {
+    "README.md": 150,
+    "CHANGELOG.md": 120,
+    "docs/ARCHITECTURE.md": 340,
+    "docs/GUARANTEES.md": 365,
+    "docs/KV_ENGINE.md": 100,
+    "docs/PROOFS.md": 560,
+}
 PAGES = ["README.md", "CONTRIBUTING.md", "CHANGELOG.md", "corpus/README.md", "docs/*.md", "crates/*/README.md"]
 
 
@@ -50,22 +61,27 @@ def edges() -> dict[str, set[str]]:
     return {line[0].split()[0]: set(line[1].split()) for line in lines if len(line) == 2}
 
 
+def code_of(crate: str) -> str:
+    """All that stands in a crate's src."""
+    return "\n".join(map(text_of, found(f"crates/{crate}/src/*.rt", f"crates/{crate}/src/*/*.rt")))
+
+
 def wrong_crates() -> Iterator[str]:
-    rows = (cells(line) for line in text_of("docs/ARCHITECTURE.md").split("\n") if line.startswith("| `"))
-    told = {row[0].strip("`"): set(re.findall(r"`(\w+)`", row[2])) for row in rows if len(row) == 3}
-    for crate, below in edges().items():
-        if told.get(crate) != below:
-            differing = told.get(crate, set()) ^ below
-            yield f"docs/ARCHITECTURE.md: {crate} does not stand on what crates.txt says: {' '.join(sorted(differing))}"
-        if not os.path.exists(os.path.join(TOP, f"crates/{crate}/README.md")):
-            yield f"crates/{crate}: no README.md"
+    table = text_of("docs/ARCHITECTURE.md").partition("\n## The crates\n")[2].partition("\n## ")[0]
+    told = [row[0].strip("`") for row in map(cells, table.split("\n")) if len(row) == 3 and row[0].startswith("`")]
+    for crate in sorted(set(told) ^ set(edges())):
+        yield f"docs/ARCHITECTURE.md: {crate} stands in crates.txt or in the table, and not in both"
+    for crate in edges():
+        path = f"crates/{crate}/README.md"
+        below = os.path.exists(os.path.join(TOP, path)) and re.search(r"^Stands on ([^.]*)\.", text_of(path), re.M)
+        if not below or set(re.findall(r"`(\w+)`", below[1])) != edges()[crate]:
+            yield f"{path}: it does not say what crates.txt says it stands on"
 
 
 def wrong_names() -> Iterator[str]:
     for path in found("crates/*/README.md"):
         carried = text_of(path).partition("## Which clauses carry it")[2]
-        sources = os.path.join(os.path.dirname(path), "src")
-        code = "\n".join(map(text_of, found(f"{sources}/*.rt", f"{sources}/*/*.rt")))
+        code = code_of(path.split("/")[1])
         for name in re.findall(r"`(?:\w+::)?(\w+)`", carried):
             if not re.search(rf"\b{name}\b", code):
                 yield f"{path}: {name} is not in the crate"
@@ -78,13 +94,52 @@ def clauses_of(code: str, function: str) -> set[str]:
 
 
 def wrong_clauses() -> Iterator[str]:
-    code = "\n".join(map(text_of, found("crates/transcript_law/src/*.rt")))
+    code = code_of("transcript_law")
     rows = (cells(line) for line in text_of("docs/GUARANTEES.md").split("\n") if "`judged_" in line)
     for cited in (cited for row in rows for cited in row[-1].split(";")):
         function, *clauses = re.findall(r"`(\w+)`", cited)
         missing = set(clauses) - clauses_of(code, function)
         if missing or f"fn {function}" not in code:
             yield f"docs/GUARANTEES.md: {function} has no clause {' '.join(sorted(missing))}"
+
+
+def wrong_refusals() -> Iterator[str]:
+    """Of the wrong definitions in docs/PROOFS.md each law is in its crate, and each clause is one of its row's laws."""
+    codes = {crate: code_of(crate) for crate in edges()}
+    crate, named = "", []
+    for line in text_of("docs/PROOFS.md").partition("## What refuses")[2].split("\n"):
+        row = cells(line)
+        if len(row) != 2 or not (row[0] == "" or row[0].split(" ")[0] in codes):
+            continue
+        if row[0]:
+            crate, named = row[0].split(" ")[0], re.findall(r"`(\w+)`", row[0])
+        clauses = set().union(*(clauses_of(codes[crate], law) for law in named))
+        missing = [law for law in named if f"fn {law}" not in codes[crate]]
+        missing += set(re.findall(r"`\.(\w+)`", row[1])) - clauses
+        if missing:
+            yield f"docs/PROOFS.md: {crate} {' '.join(named)}: there is no {' '.join(missing)}"
+
+
+def wrong_laws() -> Iterator[str]:
+    """Where a page says `law` of crate, there is one: a function, or a clause that is named behind its function."""
+    codes = {crate: code_of(crate) for crate in edges()}
+    for path in ["docs/GUARANTEES.md", "docs/DECISIONS.md"]:
+        text = " ".join(text_of(path).split())
+        for names, crate in re.findall(r"((?:`[\w:]+`(?:,| and)? )+)of (\w+)", text):
+            for name in re.findall(r"`(?:\w+::)?(\w+)`", names) if crate in codes else []:
+                if not re.search(rf"\b(?:fn|ensures) {name}\b", codes[crate]):
+                    yield f"{path}: {name} is not in {crate}"
+
+
+def wrong_lemmas() -> Iterator[str]:
+    """Where docs/PROOFS.md has a file in brackets behind names, as `settles` (Settling), the last one stands there."""
+    paths = found("crates/*/proofs/*.antt", "crates/*/proofs/*/*.antt", "crates/*/specs/*.antt")
+    for names, file in re.findall(r"`([\w', `]+)` \(([A-Z]\w+)\)", " ".join(text_of("docs/PROOFS.md").split())):
+        name = names.split("`")[-1]
+        texts = [text_of(path) for path in paths if os.path.basename(path) == f"{file}.antt"]
+        heads = rf"^ *(?:(?:pub|abbrev|unfoldable|data|record) )*{name}(?: .*)? : "
+        if not any(re.search(heads, text, re.M) for text in texts):
+            yield f"docs/PROOFS.md: there is no {name} in {file}"
 
 
 def anchor(heading: str) -> str:
@@ -123,29 +178,65 @@ def wrong_sample() -> Iterator[str]:
         yield "README.md: its transcript is not that of examples/promoted.dcp"
 
 
+def laws() -> list[str]:
+    """Public functions without parameters and with an empty body: their contracts are the laws."""
+    return re.findall(r"^pub fn (\w+)\(\)\n(?: .*\n|\n)*\{\}$", code_of("*"), re.M)
+
+
+def counts() -> dict[str, int]:
+    """What documents count, by the words that stand behind the number."""
+    sizes = subprocess.run([os.path.join(TOP, "tools/sizes")], stdout=subprocess.PIPE, text=True, check=True).stdout
+    lines = list(map(int, cells(re.search(r"^\| all .*$", sizes, re.M)[0])[1:5]))
+    named = zip(["code", "definitions", "proofs", "laws"], lines)
+    return {
+        r"stored\s+scripts": len(found("corpus/*/*.dcp")),
+        r"planted\s+bugs": len(found("crates/*/must-fail/*.edit", "crates/*/wrong/*.edit")),
+        "crates": len(edges()),
+        "laws": len(laws()),
+    } | {f"lines of {what}": count for what, count in named}
+
+
 def wrong_counts() -> Iterator[str]:
-    """What a page counts with the word "some" may be wrong by ten. CHANGELOG.md has what was true once."""
-    counts = {
-        r"scripts|stored scripts": len(found("corpus/*/*.dcp")),
-        r"planted bugs": len(found("crates/*/must-fail/*.edit", "crates/*/wrong/*.edit")),
-    }
-    for path in found(*PAGES):
-        for what, count in counts.items():
-            for told in re.findall(rf"\b[Ss]ome\s+([\d,]+)\s+(?:{what})\b", text_of(path)):
-                if path != "CHANGELOG.md" and abs(int(told.replace(",", "")) - count) > 10:
-                    yield f"{path}: some {told} {what.split('|')[0]} are {count}"
+    """A number with the word "some" may be wrong by a twentieth, or by ten. CHANGELOG.md has what was true once."""
+    held = counts()
+    for path in (path for path in found(*PAGES) if path != "CHANGELOG.md"):
+        text = "\n".join(prose(text_of(path)))
+        for what, count in held.items():
+            for told, some, number in re.findall(rf"\b((some\s+)?(?<![\d,.])(\d[\d,]*)\s+{what})\b", text, re.I):
+                if abs(int(number.replace(",", "")) - count) > (max(10, count // 20) if some else 0):
+                    yield f"{path}: {' '.join(told.split())}: there are {count}"
 
 
-def is_names(cell: str) -> bool:
-    """Whether a cell has names alone, as that of what a crate stands on: it is as wide as crates.txt has it."""
-    return all(re.fullmatch(r"`\w+`", name) for name in cell.split(", "))
+def wrong_terms() -> Iterator[str]:
+    """The licence is named where it is looked for, and each page that names the toolchain's kit names the same one."""
+    for path in ["README.md", "crates.txt"]:
+        if "SPDX-License-Identifier: Apache-2.0" not in text_of(path):
+            yield f"{path}: it does not name the licence"
+    kits = {kit: path for path in found(*PAGES) for kit in re.findall(r"rattle-kit-\w+ logic \w+", text_of(path))}
+    if len(kits) != 1:
+        yield f"the kits are several, or none: {', '.join(f'{path} {kit}' for kit, path in kits.items())}"
+
+
+def wrong_index() -> Iterator[str]:
+    rows = [cells(line)[0] for line in text_of("docs/DECISIONS.md").split("\n") if line.startswith("| `")]
+    indexed = set(re.findall(r"`(\w+)`", " ".join(rows)))
+    differing = indexed ^ {crate for crate in edges() if not crate.endswith("_tests")}
+    if differing:
+        yield f"docs/DECISIONS.md: the index is not of the crates: {' '.join(sorted(differing))}"
+
+
+def wrong_lengths() -> Iterator[str]:
+    for path, most in LENGTHS.items():
+        length = text_of(path).count("\n")
+        if length > most:
+            yield f"{path}: {length} lines, and not {most} at most"
 
 
 def wrong_widths() -> Iterator[str]:
     for path in found(*PAGES):
         for line in prose(text_of(path)):
             if line.startswith("|"):
-                if max(len(cell.replace("`", "")) for cell in cells(line) if not is_names(cell)) > CELL:
+                if max(len(cell.replace("`", "")) for cell in cells(line)) > CELL:
                     yield f"{path}: a cell of more than {CELL} characters: {line[:60]}"
             elif len(line) > LINE:
                 yield f"{path}: a line of more than {LINE} characters: {line[:60]}"
@@ -153,7 +244,7 @@ def wrong_widths() -> Iterator[str]:
 
 def main() -> None:
     checks = [wrong_crates, wrong_names, wrong_clauses, wrong_links, wrong_code, wrong_sample, wrong_counts]
-    checks.append(wrong_widths)
+    checks += [wrong_refusals, wrong_laws, wrong_lemmas, wrong_terms, wrong_index, wrong_lengths, wrong_widths]
     wrong = [complaint for check in checks for complaint in check()]
     print("\n".join(wrong), end="\n" if wrong else "")
     sys.exit(1 if wrong else 0)

@@ -1,220 +1,189 @@
-"""The lower part of a picture: where each node's vBucket of a number stands, column by column."""
+"""The lower part of a picture: where each node's vBucket of a number stands, column by column, band below band."""
 
-from drawing.marks import GO, GREY, INK, LEFT, LOST, NONE, Scale, View, bold, change_label, fill, short
-from drawing.svg import Attributes, Picture
-from formats.histories import Holding, Link, Place, Position, Stage
-from formats.transcript import Event
-from formats.wire import STATUSES, name_of
+from math import ceil
+from typing import Iterator
 
-HEAD, FOOT, GAP = 26, 42, 12
+from drawing.bands import Band
+from drawing.marks import DISK, GO, GREY, INK, LEFT, LOST, NONE, OPEN, WIDTH, bold, change_label, fill, mark_told
+from drawing.plan import Plan, Rows
+from drawing.svg import Attributes, Picture, fitted
+from drawing.tracks import Box
+from drawing.waits import Wait
+from formats.histories import Place, Position
+
+EDGE = WIDTH - 8
 
 
 class Lanes:
     """A lane for each node, in which the height is the seqno, and a column for each group of the transcript."""
 
-    def __init__(self, view: View, stages: list[Stage], x: Scale, top: float):
-        self.view, self.stages, self.x, self.top = view, stages, x, top
-        reached = [it.at for stage in stages for place, it in stage.positions.items() if place in view.places]
-        asked = [event.end for stage in stages for place, event in stage.entered if place in view.places]
-        self.last = max([1, *reached, *asked])
-        self.unit = min(20.0, 110 / self.last)
-        height = HEAD + self.unit * self.last + FOOT + GAP
-        self.bases = {it: top + i * height + HEAD + self.unit * self.last for i, it in enumerate(view.places)}
-        self.bottom = top + len(self.bases) * height
-        self.end = x(len(stages))
+    def __init__(self, plan: Plan, band: Band, top: float):
+        self.plan, self.view, self.band = plan, plan.view, band
+        self.rows = Rows(plan, band, top)
+        self.end = EDGE if len(plan.bands) > 1 else min(EDGE, band.end + 2)
 
-    def y(self, place: Place, seqno: float) -> float:
-        return self.bases[place] - seqno * self.unit
-
-    def ceiling(self, place: Place) -> float:
-        return self.y(place, self.last)
-
-    def columns(self, place: Place) -> list[tuple[int, Stage]]:
-        return [(i, stage) for i, stage in enumerate(self.stages) if place in stage.positions]
-
-    def draw(self, picture: Picture, labels: list[str]) -> None:
-        self.draw_columns(picture, labels)
-        for place in self.bases:
+    def draw(self, picture: Picture) -> None:
+        self.draw_columns(picture)
+        for place in self.plan.places:
             self.draw_ground(picture, place)
-        for place in self.bases:
-            self.draw_snapshots(picture, place)
-        for i, stage in enumerate(self.stages):
-            self.draw_arrows(picture, self.x(i), stage)
-        for place in self.bases:
+            self.draw_disk(picture, place)
+            self.draw_boxes(picture, place)
+        self.draw_arrows(picture)
+        for place in self.plan.places:
             self.draw_path(picture, place)
-        for i, stage in enumerate(self.stages):
-            self.draw_events(picture, self.x(i), stage)
-            self.draw_links(picture, self.x(i), stage)
-        for place in self.bases:
-            self.draw_end(picture, place)
+            self.draw_changes(picture, place)
+            self.draw_notes(picture, place)
+            self.draw_waits(picture, place)
 
-    def draw_columns(self, picture: Picture, labels: list[str]) -> None:
-        for i, label in enumerate(labels):
-            x, y = self.x(i), self.top - 4
-            picture.line((x, self.top), (x, self.bottom - 10), class_="grid")
-            picture.text(x, y, label, "small", transform=f"rotate(-50 {x:.1f} {y:.1f})")
+    def spans(self) -> Iterator[tuple[int, float, float]]:
+        """Each column, where it is, and where the next one is."""
+        ends = [*self.band.xs[1:], self.end]
+        yield from zip(self.band.columns(), self.band.xs, ends)
+
+    def draw_columns(self, picture: Picture) -> None:
+        for i, x in zip(self.band.columns(), self.band.xs):
+            y = self.rows.top - 4
+            picture.line((x, self.rows.top), (x, self.rows.bottom - 10), class_="grid")
+            picture.text(x, y, self.plan.labels[i], "small", transform=f"rotate(-50 {x:.1f} {y:.1f})")
 
     def draw_ground(self, picture: Picture, place: Place) -> None:
-        top, base = self.ceiling(place), self.bases[place]
-        ground: Attributes = {
-            "x": LEFT,
-            "y": top - 8,
-            "width": self.end - LEFT,
-            "height": base - top + 14,
-            "fill": "#f7f7f9",
-        }
-        picture.add("rect", ground)
-        for seqno in range(0, self.last + 1, max(1, round(12 / self.unit))):
-            picture.text(LEFT - 5, self.y(place, seqno) + 3, str(seqno), "small", text_anchor="end", style=fill(NONE))
+        base, top = self.rows.bases[place], self.rows.ceiling(place)
+        picture.box(LEFT, top, self.end - LEFT, base + 6 - top, fill="#f7f7f9")
+        for seqno in range(self.rows.low, self.rows.high + 1, ceil(10 / self.plan.unit)):
+            y = self.rows.y(place, seqno) + 3
+            picture.text(LEFT - 5, y, str(seqno), "small", text_anchor="end", style=fill(NONE))
         picture.line((LEFT, base), (self.end, base), class_="axis")
-        picture.text(12, (base + top) / 2 + 2, f"node {place[1]}", "name")
-        picture.text(12, (base + top) / 2 + 16, f"vBucket {place[0]}", "note")
+        middle = (base + top) / 2
+        picture.text(12, middle + 2, f"node {place[1]}", "name")
+        before = self.plan.tracks[place].before(self.band.first)
+        if before and before.role:
+            words = ["down" if before.is_down else before.role]
+            words += [f"on {before.branch}"] * (before.branch is not None)
+            for line, it in enumerate(words):
+                picture.text(12, middle + 15 + 12 * line, fitted(it, LEFT - 38, 11), "note")
 
-    def draw_snapshots(self, picture: Picture, place: Place) -> None:
-        """A box for each snapshot, from the column that begins it to the one that ends it, whole or not."""
-        begun: tuple[int, Event] | None = None
-        for i, stage in self.columns(place):
-            for event in (event for at, event in stage.entered if at == place):
-                if begun:
-                    self.draw_snapshot(picture, place, begun, i)
-                begun = i, event
-                if any(at == place and change.seqno == event.end for at, _, change in stage.taken):
-                    self.draw_snapshot(picture, place, begun, i)
-                    begun = None
-            position = stage.positions[place]
-            if begun and (position.end != begun[1].end or position.at == position.end):
-                self.draw_snapshot(picture, place, begun, i, position.at == begun[1].end)
-                begun = None
-        if begun:
-            self.draw_snapshot(picture, place, begun, len(self.stages), False)
+    def draw_disk(self, picture: Picture, place: Place) -> None:
+        """What is written down, from the ground up; and where the node is down."""
+        track, base = self.plan.tracks[place], self.rows.bases[place]
+        level, begin = track.disk_before(self.band.first), float(LEFT)
+        for i, x, end in self.spans():
+            if level > self.rows.low:
+                top = self.rows.y(place, level)
+                picture.box(begin, top, x - begin, base - top, fill=DISK)
+            level, begin = track.disks[i], x
+            if level > self.rows.low and i == self.band.columns().stop - 1:
+                top = self.rows.y(place, level)
+                picture.box(x, top, end - x, base - top, fill=DISK)
+        for begin, end in self.downs(place):
+            top = self.rows.ceiling(place)
+            picture.box(begin, top, end - begin, base + 6 - top, fill="url(#down)")
 
-    def draw_snapshot(
-        self, picture: Picture, place: Place, begun: tuple[int, Event], i: int, is_whole: bool = True
-    ) -> None:
-        first, event = begun
-        x, end, top = self.x(first) - 7, min(self.x(i) + 7, self.end), self.y(place, event.end) - 5
-        box: Attributes = {"x": x, "y": top, "width": end - x, "height": self.y(place, event.start) - top, "rx": 3}
-        look: Attributes = {"fill": "#80868b", "fill-opacity": 0.16, "stroke": "#9aa0a6" if is_whole else LOST}
-        dash: Attributes = {} if is_whole else {"stroke-dasharray": "3 2"}
-        tip = f"snapshot {event.start} to {event.end}, {'whole' if is_whole else 'never whole'}"
-        picture.add("rect", {**box, **look, **dash}, tip=tip)
+    def downs(self, place: Place) -> Iterator[tuple[float, float]]:
+        track = self.plan.tracks[place]
+        before = track.before(self.band.first)
+        if before and before.is_down:
+            yield LEFT, self.band.xs[0]
+        for i, x, end in self.spans():
+            now = track.positions[i]
+            if now and now.is_down:
+                yield x, end
+
+    def draw_boxes(self, picture: Picture, place: Place) -> None:
+        columns = self.band.columns()
+        for box in self.plan.tracks[place].boxes:
+            if box.is_in(columns.start, columns.stop):
+                self.draw_box(picture, place, box)
+
+    def draw_box(self, picture: Picture, place: Place, box: Box) -> None:
+        columns, event = self.band.columns(), box.event
+        begin = self.band.x(box.first) - 8 if box.first >= columns.start else LEFT
+        is_inside = box.last is not None and box.last < columns.stop
+        end = min(self.band.x(box.last) + 8, self.end) if is_inside else self.end
+        top = self.rows.y(place, event.end) - 7
+        look: Attributes = {"fill": "#80868b", "fill-opacity": 0.16, "stroke": "#9aa0a6" if box.is_whole else LOST}
+        dash: Attributes = {} if box.is_whole else {"stroke-dasharray": "3 2"}
+        tip = f"snapshot {event.start} to {event.end}, {'whole' if box.is_whole else 'never whole'}"
+        height = self.rows.y(place, event.start) - top
+        frame: Attributes = {"x": begin, "y": top, "width": end - begin, "height": height, "rx": 3}
+        picture.add("rect", {**frame, **look, **dash}, tip=tip)
+
+    def draw_arrows(self, picture: Picture) -> None:
+        """Dashed for a request, green for an acknowledgement, and one for what a link carries to its consumer."""
+        looks: dict[str, dict[str, str]] = {
+            "ask": {"stroke": GREY, "stroke_dasharray": "4 3", "marker_end": "url(#tip)"},
+            "carry": {"stroke": GREY, "marker_end": "url(#tip)"},
+            "ack": {"stroke": GO, "marker_end": "url(#ack)"},
+        }
+        for i, x in zip(self.band.columns(), self.band.xs):
+            for begin, end, what in self.plan.arrows[i]:
+                y, to = self.rows.arrow(begin, end)
+                picture.line((x, y), (x, to), stroke_width=1.5, **looks[what])
 
     def draw_path(self, picture: Picture, place: Place) -> None:
         """The last seqno: level between columns, up where changes come, and red where it goes back."""
-        columns = self.columns(place)
-        ends = [self.x(i) for i, _ in columns[1:]] + [self.end]
-        before = Position()
-        for (i, stage), end in zip(columns, ends):
-            x, now = self.x(i), stage.positions[place]
-            low = self.y(place, before.at)
-            for old, event in ((old, event) for at, old, event in stage.rolled if at == place):
-                low = self.y(place, event.to)
-                if old > event.to:
-                    high = self.y(place, old)
-                    picture.line((x, high), (x, low), stroke=LOST, stroke_width=2.5, marker_end="url(#back)")
-            y, colour = self.y(place, now.at), self.view.colour(now.branch)
+        track = self.plan.tracks[place]
+        before = track.before(self.band.first)
+        if before and before.role:
+            self.draw_level(picture, place, before, (LEFT, self.band.xs[0]))
+        for i, x, end in self.spans():
+            now = track.positions[i]
+            if now is None:
+                continue
+            low = self.rows.y(place, before.at if before else self.rows.low)
+            for high, to in track.falls(i):
+                low = self.rows.y(place, to)
+                begin = (x, self.rows.y(place, high))
+                picture.line(begin, (x, low), stroke=LOST, stroke_width=2.5, marker_end="url(#back)")
+            y = self.rows.y(place, now.at)
             if y < low:
-                picture.line((x, low), (x, y), stroke=colour, stroke_width=2)
-            dash = "4 4" if now.role == "dead" else None
-            width = 4 if now.role == "active" else 2
-            picture.line((x, y), (end, y), stroke=colour, stroke_width=width, stroke_dasharray=dash)
+                picture.line((x, low), (x, y), stroke=self.view.colour(now.branch), stroke_width=2)
+            if now.role:
+                self.draw_level(picture, place, now, (x, end))
             before = now
 
-    def draw_events(self, picture: Picture, x: float, stage: Stage) -> None:
-        """Changes that are made or taken, rollbacks, and roles."""
-        for place, branch, change in [*stage.made, *stage.taken]:
-            if place in self.bases:
-                y = self.y(place, change.seqno)
-                self.view.mark(branch, change).draw(picture, x, y)
-                if self.unit >= 10 and self.x.step >= 26:
-                    picture.note(x + 7, y - 5, change_label(change, int(self.x.step / 6)), fill(INK))
-        for place, _, event in stage.rolled:
-            if place in self.bases:
-                picture.note(x + 8, self.bases[place] - 7, f"sent to {event.named}, goes to {event.to}", bold(LOST))
-        forks = {(branch.vb, branch.node): branch for branch in stage.forks}
-        for place, role in stage.roles:
-            if place in self.bases:
-                fork = forks.get(place)
-                words = role + (f" on {short(fork.id)}, from {fork.fork}" if fork else "")
-                colour = self.view.colour(stage.positions[place].branch)
-                picture.note(x - 4, self.ceiling(place) - 16, words, bold(INK if colour == NONE else colour))
+    def draw_level(self, picture: Picture, place: Place, now: Position, span: tuple[float, float]) -> None:
+        dash = "1 4" if now.is_down else "4 4" if now.role == "dead" else None
+        width = 2 if now.is_down or now.role != "active" else 4
+        y, colour = self.rows.y(place, now.at), GREY if now.is_down else self.view.colour(now.branch)
+        picture.line((span[0], y), (span[1], y), stroke=colour, stroke_width=width, stroke_dasharray=dash)
 
-    def draw_arrows(self, picture: Picture, x: float, stage: Stage) -> None:
-        """A dashed arrow for a request, and one for what a link carries to its consumer."""
-        for link, _ in stage.asked:
-            if self.has_ends(link):
-                self.draw_arrow(picture, x, link.consumer, link.producer, "4 3")
-        for link in stage.carried:
-            if self.has_ends(link):
-                self.draw_arrow(picture, x, link.producer, link.consumer)
+    def draw_changes(self, picture: Picture, place: Place) -> None:
+        for i, x in zip(self.band.columns(), self.band.xs):
+            for at, branch, change in self.plan.told(i):
+                if at == place:
+                    y = self.rows.y(place, change.seqno)
+                    self.view.mark(branch, change).draw(picture, x, y)
+                    if self.plan.is_labelled:
+                        picture.text(x + 9, y - 3.5, change_label(change, 14), "small halo")
 
-    def has_ends(self, link: Link) -> bool:
-        return link.producer in self.bases and link.consumer in self.bases
+    def draw_notes(self, picture: Picture, place: Place) -> None:
+        for i, x in zip(self.band.columns(), self.band.xs):
+            for side, held, y in (
+                ("above", self.plan.above, self.rows.above),
+                ("below", self.plan.below, self.rows.below),
+            ):
+                for row, note in self.plan.placed(place, side, held[place][i]):
+                    style = bold(note.colour) if note.is_bold else fill(note.colour)
+                    picture.text(x + self.plan.left(i, row), y(place, row[2]), note.words, "small halo", style=style)
 
-    def draw_arrow(self, picture: Picture, x: float, begin: Place, end: Place, dash: str | None = None) -> None:
-        """From one lane's edge to the other's."""
-        is_down = self.bases[begin] < self.bases[end]
-        y = self.bases[begin] + 7 if is_down else self.ceiling(begin) - 9
-        to = self.ceiling(end) - 9 if is_down else self.bases[end] + 7
-        picture.line((x, y), (x, to), stroke=GREY, stroke_width=1.5, stroke_dasharray=dash, marker_end="url(#tip)")
+    def draw_waits(self, picture: Picture, place: Place) -> None:
+        columns = self.band.columns()
+        for wait in self.plan.waits[place]:
+            if wait.is_in(columns.start, columns.stop):
+                self.draw_wait(picture, place, wait)
 
-    def draw_links(self, picture: Picture, x: float, stage: Stage) -> None:
-        """What stands beside the arrows, what producers put, and which links end."""
-        for link, event in stage.asked:
-            if link.producer in self.bases:
-                self.draw_ask(picture, x, link, event)
-        for link in stage.carried:
-            if self.has_ends(link):
-                is_down = self.bases[link.producer] < self.bases[link.consumer]
-                y = self.ceiling(link.consumer) - 19 if is_down else self.bases[link.consumer] + 28
-                picture.note(x + 4, y, f"L{link.number}", bold(GREY))
-        self.draw_puts(picture, x, stage)
-        for link, event, lost in stage.ended:
-            if link.consumer in self.bases:
-                words = f"L{link.number} {event.why}" + (f", {len(lost)} lost" if lost else "")
-                colour = LOST if event.why in ("cut", "protocol", "refused") else GREY
-                y = self.bases[link.consumer] + 14
-                picture.path(f"M{x - 4:.1f} {y - 7:.1f} l7 7 m0 -7 l-7 7", stroke=colour, stroke_width=2)
-                picture.note(x + 7, y, words, bold(colour), lower=12)
-
-    def draw_ask(self, picture: Picture, x: float, link: Link, event: Event) -> None:
-        match event.answer:
-            case "go":
-                answer, colour = "go on", GO
-            case "roll":
-                answer, colour = f"back to {event.to}", LOST
-            case _:
-                answer, colour = name_of(event.status, STATUSES), LOST
-        branch = f" of {short(event.branch)}" if event.branch else ""
-        y = self.bases[link.producer] + 14
-        picture.note(x + 4, y + 12, answer, bold(colour))
-        picture.note(x + 4, y, f"L{link.number} from {event.start}{branch}", fill(GREY), lower=24)
-
-    def draw_puts(self, picture: Picture, x: float, stage: Stage) -> None:
-        """What producers put: snapshots by their ends, or how many more changes, and the stream's end."""
-        for link in {id(link): link for link, _ in stage.put}.values():
-            events = [event for it, event in stage.put if it is link]
-            marks = [f"{event.start}–{event.end}" for event in events if event.kind == "mark"]
-            count = sum(event.kind == "item" for event in events)
-            words = [short(" ".join(marks), 18)] if marks else [f"{count} more"] * bool(count)
-            words += ["end"] * any(event.kind == "fin" for event in events)
-            if link.producer in self.bases:
-                y = self.bases[link.producer] + 38
-                picture.note(x - 6, y, f"L{link.number} puts {' '.join(words)}", fill(GREY), lower=11)
-
-    def draw_end(self, picture: Picture, place: Place) -> None:
-        """What the vBucket holds at the end."""
-        holding: Holding = self.view.histories.holdings[place]
-        position = holding.position
-        x, y = self.end + 12, self.ceiling(place) + 2
-        branch = f", branch {short(position.branch)}" if position.branch is not None else ""
-        style = fill(self.view.colour(position.branch))
-        picture.text(x, y, f"{position.role}{branch}, at {position.at}", "name", style=style)
-        if position.at != position.end:
-            y += 14
-            words = f"inside the snapshot {position.start} to {position.end}"
-            picture.text(x, y, words, "part", style=fill(LOST))
-        log = " ".join(f"{branch}:{seqno}" for branch, seqno in holding.log) or "empty"
-        picture.text(x, y + 14, short(f"log {log}", 36), "note")
-        documents = "  ".join(change_label(it, 12) for it in holding.documents().values())
-        picture.text(x, y + 28, short(documents, 36) or "no documents", "part")
+    def draw_wait(self, picture: Picture, place: Place, wait: Wait) -> None:
+        """A bar from the prepare to the answer, what was asked over it, and what was told behind it."""
+        columns, y = self.band.columns(), self.rows.wait(place, wait.row)
+        begins, told = wait.first >= columns.start, wait.last is not None and wait.last < columns.stop
+        begin = self.band.x(wait.first) if begins else float(LEFT)
+        end = self.band.x(wait.last) if told else self.end
+        words, colour = wait.told()
+        left = self.plan.left(wait.first, (place, "wait", wait.row, 0)) if begins else 0
+        picture.text(begin + left, y - 7, wait.asked(), "small halo", style=fill(INK))
+        picture.line((begin, y), (end, y), stroke=OPEN if not told else colour, stroke_width=3)
+        if begins:
+            picture.line((begin, y - 4), (begin, y + 4), stroke=OPEN if not told else colour, stroke_width=2)
+        if told:
+            mark_told(picture, end, y, colour)
+            picture.text(end + 9, y + 4, words, "small halo", style=bold(colour))

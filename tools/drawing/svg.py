@@ -3,11 +3,41 @@
 from typing import Mapping
 from xml.sax.saxutils import escape, quoteattr
 
-# The height of a small line and the width of a small letter, and how many pixels high a row of `noted` is.
-LINE, LETTER, ROW = 10, 5.7, 40
+# How wide letters are, in hundredths of their size, in a wide font; any other one is as wide as OTHER.
+WIDTHS = {"ijl'": 28, "IJf .,:;/|": 36, "tr()-!\"[]": 44, "csxyzkvLF?": 59}
+WIDTHS |= {"ABCDGHKNOPQRUVX&": 78, "mwMW%@#+=<>→": 98}
+LETTERS = {letter: width for letters, width in WIDTHS.items() for letter in letters}
+OTHER, BOLD = 64.5, 1.12
 
 Attribute = str | float | None
 Attributes = Mapping[str, Attribute]
+
+
+def wide(words: str, size: float = 10, is_bold: bool = False) -> float:
+    """How wide words are at most."""
+    found = sum(LETTERS.get(letter, OTHER) for letter in words)
+    return found * size / 100 * (BOLD if is_bold else 1)
+
+
+def fitted(words: str, width: float, size: float = 10, is_bold: bool = False) -> str:
+    """Words that are cut where they are wider."""
+    if wide(words, size, is_bold) <= width:
+        return words
+    while words and wide(f"{words}…", size, is_bold) > width:
+        words = words[:-1]
+    return f"{words}…"
+
+
+def wrapped(words: str, width: float, size: float, is_bold: bool) -> list[str]:
+    """Words in lines of a width."""
+    lines = [""]
+    for word in words.split(" "):
+        longer = f"{lines[-1]} {word}".lstrip()
+        if wide(longer, size, is_bold) > width and lines[-1]:
+            lines.append(word)
+        else:
+            lines[-1] = longer
+    return [fitted(line, width, size, is_bold) for line in lines]
 
 
 def number(value: float) -> str:
@@ -21,11 +51,10 @@ def attributes(given: Attributes) -> str:
 
 
 class Picture:
-    """Shapes in the order in which they are drawn, and where the notes among them are, by rows."""
+    """Shapes in the order in which they are drawn."""
 
     def __init__(self) -> None:
         self.shapes: list[str] = []
-        self.noted: dict[int, list[tuple[float, float, float]]] = {}
 
     def add(self, name: str, given: Attributes, content: str = "", tip: str = "") -> None:
         inside = (f"<title>{escape(tip)}</title>" if tip else "") + content
@@ -40,20 +69,8 @@ class Picture:
     def path(self, steps: str, **given: Attribute) -> None:
         self.add("path", {"d": steps, "fill": "none", **given})
 
-    def note(self, x: float, y: float, words: str, style: str, lower: float = 0) -> None:
-        """A small text where no other one is in its way, or lower by so much, or else none."""
-        width = LETTER * len(words)
-        if self.is_taken(x, y, width) and lower:
-            y += lower
-        if self.is_taken(x, y, width):
-            return
-        self.noted.setdefault(round(y) // ROW, []).append((x, x + width, y))
-        self.text(x, y, words, "small halo", style=style)
-
-    def is_taken(self, x: float, y: float, width: float) -> bool:
-        row = round(y) // ROW
-        near = (it for i in (row - 1, row, row + 1) for it in self.noted.get(i, []))
-        return any(x < end and begin < x + width and abs(y - at) < LINE for begin, end, at in near)
+    def box(self, x: float, y: float, width: float, height: float, **given: Attribute) -> None:
+        self.add("rect", {"x": x, "y": y, "width": width, "height": height, **given})
 
     def whole(self, width: float, height: float, title: str, head: str) -> str:
         size = attributes({"width": width, "height": height, "viewBox": f"0 0 {number(width)} {number(height)}"})

@@ -1,11 +1,10 @@
 """What a transcript tells of branches, of what each vBucket holds, and of what links carry, group by group."""
 
 from dataclasses import dataclass, field, replace
-from typing import Iterator
+from functools import cached_property
 
 from formats import Complaint
-from formats.script import Line, Script
-from formats.transcript import Event, Group, Transcript
+from formats.transcript import Event
 from formats.wire import Log
 
 LOG_LIMIT = 25
@@ -30,13 +29,15 @@ class Branch:
 
 @dataclass(frozen=True)
 class Position:
-    """Where a vBucket of a node stands: its role, its branch, its last seqno, and its snapshot's ends."""
+    """Where a vBucket of a node stands: its role, its branch, its last seqno, and its snapshot's ends. Of a node that
+    is down it is what its disk has; a vBucket without a role is not there."""
 
     role: str = ""
     branch: int | None = None
     at: int = 0
     start: int = 0
     end: int = 0
+    is_down: bool = False
 
 
 @dataclass
@@ -51,9 +52,24 @@ class Holding:
         branch = self.log[0][0] if self.log else None
         self.position = replace(self.position, branch=branch, **fields)
 
+    def go_back(self, to: int) -> None:
+        """Leaves the changes and the entries of the failover log that are not above a seqno."""
+        self.changes = {seqno: it for seqno, it in self.changes.items() if seqno <= to}
+        self.log = [it for it in self.log if it[1] <= to]
+
     def owner(self, seqno: int) -> int | None:
         """The branch that has the change of this seqno, by the failover log."""
         return next((branch for branch, made in self.log if made < seqno), None)
+
+    def prepares(self) -> dict[bytes, Event]:
+        """The prepares that are neither committed nor given up, by key."""
+        held: dict[bytes, Event] = {}
+        for _, change in sorted(self.changes.items()):
+            if change.act == "prepare":
+                held[change.key] = change
+            elif change.act in ("commit", "abort"):
+                held.pop(change.key, None)
+        return dict(sorted(held.items()))
 
     def documents(self) -> dict[bytes, Event]:
         """The last set of each key that was not removed behind it, by key; a prepare or an abort changes none."""
@@ -75,7 +91,30 @@ class Link:
     producer: Place = UNKNOWN
     consumer: Place = UNKNOWN
     underway: list[int] = field(default_factory=list)
+    acks: list[int] = field(default_factory=list)
     sent_back: int | None = None
+
+
+@dataclass(frozen=True)
+class Stop:
+    """A vBucket whose node stops: where it was, and where its disk stands. Without a call the node is stopped by a
+    crash. `stands` is whether the record of an append that was broken off is there, and None where none was."""
+
+    place: Place
+    before: Position
+    disk: Position
+    call: int | None
+    outcome: str
+    stands: bool | None
+
+
+@dataclass(frozen=True)
+class Start:
+    """A vBucket whose node starts, and what it finds; or why the node stays down."""
+
+    place: Place
+    found: Position
+    why: str = ""
 
 
 @dataclass
@@ -93,7 +132,20 @@ class Stage:
     asked: list[tuple[Link, Event]] = field(default_factory=list)
     put: list[tuple[Link, Event]] = field(default_factory=list)
     carried: list[Link] = field(default_factory=list)
-    ended: list[tuple[Link, Event, list[int]]] = field(default_factory=list)
+    ended: list[tuple[Link, Event]] = field(default_factory=list)
+    acks: list[tuple[Link, Event]] = field(default_factory=list)
+    counted: list[tuple[Link, Event]] = field(default_factory=list)
+    chains: list[tuple[Place, str]] = field(default_factory=list)
+    written: dict[Place, int] = field(default_factory=dict)
+    failed: list[tuple[Place, int]] = field(default_factory=list)
+    stops: list[Stop] = field(default_factory=list)
+    starts: list[Start] = field(default_factory=list)
+
+    def places(self) -> set[Place]:
+        """The vBuckets that it tells of."""
+        links = [link for link, _ in [*self.asked, *self.put, *self.ended, *self.counted]] + self.carried
+        found = {it.place for it in [*self.stops, *self.starts]} | {place for place, _ in [*self.chains, *self.failed]}
+        return {*self.positions, *self.written, *found, *(link.producer for link in links)}
 
 
 @dataclass
@@ -114,6 +166,22 @@ class Histories:
         heirs = (it for it in self.branches.values() if (it.vb, it.parent) == (vb, branch) and seqno in it.taken_over)
         return any(self.is_kept(vb, it.id, seqno) for it in heirs)
 
+    @cached_property
+    def lines(self) -> dict[int, set[int]]:
+        """The groups that tell of each vBucket number, once all is told."""
+        found: dict[int, set[int]] = {}
+        for stage in self.stages:
+            for vb, _ in stage.places():
+                found.setdefault(vb, set()).add(stage.number)
+        return found
+
+    def maker(self, vb: int, node: int, seqno: int) -> int | None:
+        """The branch on which a change was made that a vBucket has, also where later ones took it over."""
+        branch = self.holdings[vb, node].owner(seqno)
+        while branch is not None and (vb, branch) in self.branches and seqno in self.branches[vb, branch].taken_over:
+            branch = self.branches[vb, branch].parent
+        return branch
+
     def place(self, event: Event) -> Place:
         place = event.vb, event.node
         self.holdings.setdefault(place, Holding())
@@ -122,14 +190,11 @@ class Histories:
     def link(self, number: int) -> Link:
         return self.links.setdefault(number, Link(number))
 
-    def take(self, group: Group) -> None:
-        """Follows a group's events, and makes a stage of them."""
-        stage = Stage(group.number)
-        for event in group.events:
-            follow = getattr(self, f"on_{event.kind}", None)
-            if follow:
-                follow(stage, event)
-        self.stages.append(stage)
+    def take(self, stage: Stage, event: Event) -> None:
+        """Follows an event of a stage."""
+        follow = getattr(self, f"on_{event.kind}", None)
+        if follow:
+            follow(stage, event)
 
     def moved(self, stage: Stage, place: Place, **fields: object) -> None:
         self.holdings[place].move(**fields)
@@ -144,6 +209,9 @@ class Histories:
             )
         place = self.place(event)
         holding = self.holdings[place]
+        if event.high != holding.position.at:
+            told = f"branch {event.branch} is made at {event.high}, where its vBucket was at {holding.position.at}"
+            raise Complaint(f"group #{stage.number}: {told}; what a node that stopped finds the script alone tells")
         holding.log = [(event.branch, event.fork), *(it for it in holding.log if it[1] <= event.fork)][:LOG_LIMIT]
         taken_over = {seqno: it for seqno, it in holding.changes.items() if seqno > event.fork}
         branch = Branch(event.branch, event.vb, event.node, event.parent, event.fork, stage.number)
@@ -212,41 +280,35 @@ class Histories:
                 link.consumer, link.sent_back = place, None
                 stage.carried.append(link)
                 break
-        holding.changes = {seqno: it for seqno, it in holding.changes.items() if seqno <= event.to}
-        holding.log = [it for it in holding.log if it[1] <= event.to]
+        holding.go_back(event.to)
         self.moved(stage, place, at=event.to, start=event.to, end=event.to)
 
     def on_end(self, stage: Stage, event: Event) -> None:
-        link = self.links.pop(event.stream, Link(event.stream))
-        stage.ended.append((link, event, link.underway))
+        stage.ended.append((self.links.pop(event.stream, Link(event.stream)), event))
 
+    def on_ack(self, stage: Stage, event: Event) -> None:
+        link = self.link(event.stream)
+        link.consumer = self.place(event)
+        link.acks.append(event.seqno)
+        stage.acks.append((link, event))
 
-def is_stop(group: Group, line: Line | None) -> bool:
-    """Whether a node stops in a group, as far as it tells; of a crash the script alone does."""
-    is_crash = line is not None and line.verb == "crash" and group.answer == ["ok"]
-    return is_crash or any(event.kind == "stopped" for event in group.events)
+    def on_acked(self, stage: Stage, event: Event) -> None:
+        link = self.link(event.stream)
+        link.producer = self.place(event)
+        link.acks = link.acks[1:]
+        stage.counted.append((link, event))
 
+    def stop(self, stage: Stage, place: Place, disk: Holding, how: tuple[int | None, str, bool | None]) -> None:
+        """A node stops: its vBucket's memory is gone, and what its disk has is left."""
+        before = self.holdings[place].position
+        disk.position = replace(disk.position, is_down=True)
+        self.holdings[place] = disk
+        stage.positions[place] = disk.position
+        if not before.is_down:
+            stage.stops.append(Stop(place, before, disk.position, *how))
 
-def stops(told: Transcript, played: Script) -> bool:
-    return any(is_stop(group, played.lines[group.number]) for group in told.groups)
-
-
-def steps(told: Transcript, played: Script | None = None) -> Iterator[tuple[Group, Histories]]:
-    """Each group with what was told up to it. The script, where there is one, tells of links before their events do."""
-    histories = Histories()
-    for group in told.groups:
-        line = played.lines[group.number] if played else None
-        if is_stop(group, line):
-            raise Complaint(f"group #{group.number}: a node stops, and what it loads again is not followed yet")
-        if line and line.verb == "link" and group.answer[0] == "ok":
-            ends = (line["vb"], line["producer"]), (line["vb"], line["consumer"])
-            histories.links[line["link"]] = Link(line["link"], *ends)
-        histories.take(group)
-        yield group, histories
-
-
-def of(told: Transcript, played: Script | None = None) -> Histories:
-    histories = Histories()
-    for _, histories in steps(told, played):
-        pass
-    return histories
+    def start(self, stage: Stage, place: Place) -> None:
+        holding = self.holdings[place]
+        holding.position = replace(holding.position, is_down=False)
+        stage.positions[place] = holding.position
+        stage.starts.append(Start(place, holding.position))

@@ -1,71 +1,146 @@
-"""The journals of vBuckets, as far as a script and its transcript tell of them, and their records as bytes."""
+"""The journals of vBuckets, as a script and its transcript tell of them: what stands, and what was broken off."""
 
 from dataclasses import dataclass, field
-from typing import Iterator
+from functools import cached_property
 
 from formats import Complaint
-from formats.dissect import shown
-from formats.histories import Histories, Holding, Place, steps
-from formats.script import Line, Script
-from formats.sentences import counted
-from formats.transcript import Event, Group, Transcript
+from formats.disks import FAIL, STOP, Arm, Disk, Hit, bytes_left
+from formats.histories import Holding, Position
+from formats.records import Record, Roll, Rows, State, payload
+from formats.transcript import Event
 from formats.wire import Log
 
-ROLE_BYTES = {"active": 1, "replica": 2, "dead": 4}
-ACTS = {"set": "a set", "remove": "a removal", "prepare": "a prepare", "commit": "a commit", "abort": "an abort"}
-# A part of a record: the bytes of its fields, and what they are.
-Part = tuple[list[bytes], str]
+GATE = b"\x01"
 
 
-@dataclass(frozen=True)
-class State:
-    """The vBucket took a role, and has this failover log then."""
+@dataclass
+class Append:
+    """A record and the byte of its gate. One whose append was hit stands or not by what a crash leaves; until then it
+    is not known. `image` is what the crash left from the gate on."""
 
-    role: str
-    log: Log
-
-
-@dataclass(frozen=True)
-class Rows:
-    """A batch: the changes up to `at`, in the snapshot from `start` to `end`, and what the vBucket had at its take."""
-
-    start: int
-    end: int
+    group: int
+    record: Record
     at: int
-    cas: int
-    log: Log
-    changes: list[Event]
+    hit: Hit | None = None
+    left: str | None = None
+    stands: bool | None = True
+    image: bytes = b""
 
-    @property
-    def is_complete(self) -> bool:
-        return self.at == self.end
+    @cached_property
+    def end(self) -> int:
+        return self.at + 5 + len(payload(self.record))
+
+    def told(self) -> str:
+        """How it was appended, or how that was broken off, and what a crash left."""
+        if not self.hit:
+            return f"appended in line {self.group}"
+        how = "the node stopped inside" if self.hit.kind == STOP else "the disk failed at"
+        left = f", and a crash left {bytes_left(self.left)}" if self.left else ""
+        return f"broken off in line {self.group}: {how} call {self.hit.call}{left}"
+
+    def verdict(self) -> str:
+        return {True: "it is there", False: "it is not there", None: "a crash decides"}[self.stands]
 
 
 @dataclass(frozen=True)
-class Roll:
-    """The vBucket went back to a seqno; the one that was named is not written down."""
+class Reading:
+    """What a start read: behind how many appends, how many records, up to which byte, and what they say."""
 
-    to: int
-    named: int
-
-
-Record = State | Rows | Roll
+    group: int
+    behind: int
+    count: int
+    end: int
+    found: Position
+    log: Log
 
 
 @dataclass
 class Journal:
-    """The records, each with the group that appended it, and the batch that is on its way."""
+    """What was appended to a disk in its order, and the batch that is on its way."""
 
-    records: list[tuple[int, Record]] = field(default_factory=list)
+    appends: list[Append] = field(default_factory=list)
+    disk: Disk = field(default_factory=Disk)
+    readings: list[Reading] = field(default_factory=list)
+    is_closed: bool = False
     batch: Rows | None = None
     place: int = 0
     saved: int = 0
     cas: int = 0
 
+    def standing(self) -> list[Append]:
+        return [it for it in self.appends if it.stands]
+
+    def records(self) -> list[tuple[int, Record]]:
+        """The records that stand, each with the group that appended it."""
+        return [(it.group, it.record) for it in self.standing()]
+
+    def end(self) -> int:
+        """Where the closed gate is behind the last record that stands."""
+        return next((it.end for it in reversed(self.appends) if it.stands), 0)
+
+    def gate(self) -> str:
+        """The byte at its end, also where it is not synced."""
+        return f"{self.disk.now()[self.end()]:02x}"
+
+    def append(self, group: int, record: Record, arm: Arm) -> Hit | None:
+        """Makes the four calls of an append, up to one that is hit."""
+        held, it = payload(record), Append(group, record, self.end())
+        behind = len(held).to_bytes(4, "big") + held + b"\x00"
+        self.appends.append(it)
+        for call, made in enumerate(((it.at + 1, behind), None, (it.at, GATE), None), 1):
+            hit = arm.hits(call)
+            if made and not (hit and hit.kind == FAIL):
+                self.disk.write(*made)
+            if hit:
+                is_open = hit.kind == FAIL and call == 4
+                it.hit, it.stands, self.is_closed = hit, None if is_open or hit.kind == STOP else False, True
+                return hit
+            if not made:
+                self.disk.sync()
+        return None
+
+    def crash(self, outcome: str) -> bool | None:
+        """The node stops: the bytes decide what stands, and memory is lost. Tells whether the record of an append
+        that was broken off is there."""
+        self.disk.crash(outcome)
+        stands = None
+        for it in self.appends:
+            if it.hit and it.left is None:
+                it.left, it.image = outcome, self.disk.synced[it.at : it.end + 1]
+                stands = it.stands = it.image[:1] == GATE
+        self.is_closed, self.batch = False, None
+        batches = [it for _, it in self.records() if isinstance(it, Rows)]
+        self.cas = batches[-1].cas if batches else 0
+        self.place = self.saved = self.loaded().position.at
+        return stands
+
+    def read(self, group: int) -> None:
+        """A start reads it."""
+        it = self.loaded()
+        reading = Reading(group, len(self.appends), len(self.standing()), self.end(), it.position, it.log)
+        self.readings.append(reading)
+
+    def loaded(self) -> Holding:
+        """What a start reads; without a role where no record stands."""
+        it, role = Holding(), ""
+        at = start = end = 0
+        for _, record in self.records():
+            match record:
+                case State(role, log):
+                    it.log = list(log)
+                case Rows(start, end, at, _, log, changes):
+                    it.log = list(log)
+                    it.changes |= {change.seqno: change for change in changes}
+                case Roll(to):
+                    at = start = end = to
+                    it.go_back(to)
+        it.position = Position(role, it.log[0][0] if it.log else None, at, start, end)
+        return it
+
     def points(self) -> list[Rows]:
         """The batches that no later record takes away, in their order."""
         points: list[Rows] = []
-        for _, record in self.records:
+        for _, record in self.records():
             if isinstance(record, Rows):
                 points.append(record)
             elif isinstance(record, Roll):
@@ -77,7 +152,7 @@ class Journal:
         return max([0, *(it.at for it in self.points() if it.is_complete and it.at <= named)])
 
     def take(self, event: Event, holding: Holding) -> None:
-        """A batch has all changes of a received checkpoint, and of one's own the last of each key."""
+        """A batch has all changes of a received span, and of one's own the last of each key."""
         held = sorted((seqno, it) for seqno, it in holding.changes.items() if self.place < seqno <= event.at)
         changes = [it for _, it in held]
         if event.start == event.at:
@@ -87,125 +162,21 @@ class Journal:
         self.batch = Rows(event.start, event.end, event.at, self.cas, list(holding.log), changes)
         self.place = event.at
 
-    def roll(self, group: int, event: Event) -> None:
-        self.records.append((group, Roll(event.to, event.named)))
-        self.batch, self.place, self.saved = None, event.to, event.to
+    def save(self, group: int, arm: Arm) -> Hit | None:
+        if self.batch is None:
+            raise Complaint(f"line {group} saves a batch that nobody took")
+        hit = self.append(group, self.batch, arm)
+        if hit:
+            self.batch = None
+        return hit
 
+    def done(self, group: int) -> None:
+        if self.batch is None:
+            raise Complaint(f"line {group} counts a batch that nobody took")
+        self.saved, self.batch = max(self.saved, self.batch.at), None
 
-@dataclass
-class Journals:
-    """The journal of each vBucket of each node."""
-
-    held: dict[Place, Journal] = field(default_factory=dict)
-
-    def of(self, place: Place) -> Journal:
-        return self.held.setdefault(place, Journal())
-
-    def follow(self, line: Line, group: Group, histories: Histories) -> None:
-        """Follows a group, behind what it told of histories."""
-        stage = histories.stages[-1]
-        for place, _, change in [*stage.made, *stage.taken]:
-            self.of(place).cas = max(self.of(place).cas, vars(change).get("cas", 0))
-        for event in group.events:
-            place = (event.vb, event.node) if event.kind in ("role", "batch", "rolled") else None
-            if event.kind == "role" and event.role in ROLE_BYTES:
-                state = State(event.role, list(histories.holdings[place].log))
-                self.of(place).records.append((group.number, state))
-            elif event.kind == "batch":
-                self.of(place).take(event, histories.holdings[place])
-            elif event.kind == "rolled":
-                self.of(place).roll(group.number, event)
-        if line.verb in ("save", "done") and group.answer[0] == "ok":
-            self.finish(line, self.of((line["vb"], line["node"])))
-
-    def finish(self, line: Line, journal: Journal) -> None:
-        if journal.batch is None:
-            raise Complaint(f"line {line.number} saves a batch that nobody took")
-        if line.verb == "save":
-            journal.records.append((line.number, journal.batch))
-        else:
-            journal.saved, journal.batch = max(journal.saved, journal.batch.at), None
-
-
-def steps_of(told: Transcript, played: Script) -> Iterator[tuple[Group, Journals]]:
-    """Each group with the journals behind it."""
-    journals = Journals()
-    for group, histories in steps(told, played):
-        journals.follow(played.lines[group.number], group, histories)
-        yield group, journals
-
-
-def journal_of(told: Transcript, played: Script, place: Place) -> Journal:
-    journals = Journals()
-    for _, journals in steps_of(told, played):
-        pass
-    if place not in journals.held:
-        raise Complaint(f"node {place[1]} has no vBucket {place[0]}")
-    return journals.held[place]
-
-
-def big(number: int, length: int) -> bytes:
-    return number.to_bytes(length, "big")
-
-
-def log_parts(log: Log) -> Iterator[Part]:
-    yield [big(len(log), 1)], f"a failover log of {len(log)} {'entry' if len(log) == 1 else 'entries'}"
-    for branch, seqno in log:
-        yield [big(branch, 8), big(seqno, 8)], f"branch {branch}, made at {seqno}"
-
-
-def document_parts(event: Event) -> Iterator[Part]:
-    yield [big(event.cas, 8), big(event.revision, 8)], f"CAS {event.cas}, revision {event.revision}"
-    numbers = [big(event.flags, 4), big(event.expiration, 4), big(event.datatype, 1)]
-    yield numbers, f"flags {event.flags}, expiration {event.expiration}, datatype {event.datatype}"
-    yield [big(len(event.value), 4), event.value], f"a value of {counted(len(event.value), 'byte', 'bytes')}"
-
-
-def change_parts(event: Event) -> Iterator[Part]:
-    act = list(ACTS).index(event.act) + 1
-    head = [big(event.seqno, 8), big(act, 1), big(len(event.key), 1), event.key]
-    yield head, f"change {event.seqno}, {ACTS[event.act]} of the key {shown(event.key)}"
-    match event.act:
-        case "prepare":
-            yield [big(event.level, 1), big(event.deleted, 1)], f"level {event.level}, deleted {event.deleted}"
-        case "commit":
-            told = f"prepared at {event.prepared}, deleted {event.deleted}"
-            yield [big(event.prepared, 8), big(event.deleted, 1)], told
-        case "abort":
-            yield [big(event.prepared, 8)], f"prepared at {event.prepared}"
-    if event.act == "remove":
-        yield [big(event.cas, 8), big(event.revision, 8)], f"CAS {event.cas}, revision {event.revision}"
-    elif event.act != "abort":
-        yield from document_parts(event)
-
-
-def payload_parts(record: Record) -> Iterator[Part]:
-    """The payload of a record, part by part."""
-    match record:
-        case State(role, log):
-            yield [b"\x01", b"\x01"], "version 1, State"
-            yield [big(ROLE_BYTES[role], 1)], role
-            yield from log_parts(log)
-        case Rows(start, end, at, cas, log, changes):
-            yield [b"\x01", b"\x02"], "version 1, Rows"
-            yield [big(start, 8), big(end, 8)], f"the snapshot from {start} to {end}"
-            yield [big(at, 8), big(cas, 8)], f"the last seqno {at}, the last CAS {cas}"
-            yield from log_parts(log)
-            yield [big(len(changes), 4)], counted(len(changes), "change", "changes")
-            for change in changes:
-                yield from change_parts(change)
-        case Roll(to):
-            yield [b"\x01", b"\x03"], "version 1, Roll"
-            yield [big(to, 8)], f"to {to}"
-
-
-def payload(record: Record) -> bytes:
-    return b"".join(field for fields, _ in payload_parts(record) for field in fields)
-
-
-def places(journal: Journal) -> list[int]:
-    """Where the gate of each record stands, and last the closed gate behind them."""
-    found = [0]
-    for _, record in journal.records:
-        found.append(found[-1] + 5 + len(payload(record)))
-    return found
+    def roll(self, group: int, record: Roll, arm: Arm) -> Hit | None:
+        hit = self.append(group, record, arm)
+        if not hit:
+            self.batch, self.place, self.saved = None, record.to, record.to
+        return hit

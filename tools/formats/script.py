@@ -2,17 +2,17 @@
 
 from dataclasses import dataclass
 
-from formats import Complaint
+from formats import Complaint, grammar
 
-# Each verb and its operands. A word in capitals stands there as it is, in small letters.
-VERBS = {
+# Each verb and the names of its operands; a replica's vb has none of the last one.
+OPERANDS = {
     "node": ["node"],
     "vb": ["node", "vb", "role", "branch"],
     "clock": ["node", "time"],
     "client": ["node", "client"],
     "bytes": ["node", "client", "hex"],
     "hang": ["node", "client"],
-    "link": ["link", "producer", "consumer", "vb", "buffer", "FOLLOW"],
+    "link": ["link", "producer", "consumer", "vb", "buffer", "mode"],
     "up": ["link", "count"],
     "down": ["link", "count"],
     "pump": ["link", "count"],
@@ -67,24 +67,6 @@ def is_number(text: str) -> bool:
     return is_short and int(text) < 2**64 and str(int(text)) == text
 
 
-def fits(operand: str, text: str) -> bool:
-    match operand:
-        case "role":
-            return text in ("active", "replica")
-        case "FOLLOW":
-            return text == "follow"
-        case "outcome":
-            return text in ("old", "new") or text.startswith("fill ") and is_number(text[5:]) and int(text[5:]) < 256
-        case "branches":
-            return not text or all(map(is_number, text.split(" ")))
-        case "members":
-            words = text.split(" ") if text else []
-            return len(words) <= 3 and all(word == "-" or is_number(word) for word in words)
-        case "hex":
-            return len(text) % 2 == 0 and bool(text) and not set(text) - set("0123456789abcdefABCDEF")
-    return is_number(text)
-
-
 def operands_of(verb: str, words: list[str]) -> list[str]:
     """The words of a line as operands: an outcome has one word or two, and ids or members stand together."""
     if verb in ("stop", "crash") and words[-2:-1] == ["fill"]:
@@ -97,14 +79,10 @@ def operands_of(verb: str, words: list[str]) -> list[str]:
 
 
 def line_of(number: int, text: str) -> Line:
+    if grammar.fault_of(text.encode()):
+        raise Complaint(f"the script's line {number} is none of the grammar: {text[:60]!r}; tools/lint says more")
     verb, *words = text.split(" ")
-    given = operands_of(verb, words)
-    wanted = VERBS.get(verb, [])
-    if verb == "vb" and given[2:] == ["replica"]:
-        wanted = wanted[:3]
-    if verb not in VERBS or len(given) != len(wanted) or not all(map(fits, wanted, given)):
-        raise Complaint(f"the script's line {number} is none of the grammar: {text[:60]!r}")
-    return Line(number, text, verb, dict(zip(wanted, given)))
+    return Line(number, text, verb, dict(zip(OPERANDS[verb], operands_of(verb, words))))
 
 
 def read(path: str, is_good: bool = True) -> Script:

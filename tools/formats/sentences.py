@@ -1,5 +1,6 @@
 """One sentence for each line of a script and of a transcript."""
 
+from formats.causes import refused_sentence
 from formats.dissect import shown
 from formats.script import Line
 from formats.transcript import Event
@@ -21,7 +22,7 @@ LINES = {
     "dead": "vBucket {vb} of node {node} is to be dead.",
     "tick": "The prepares of vBucket {vb} of node {node} whose deadlines are over are to be given up.",
     "seal": "The open span of vBucket {vb} of node {node} is to end.",
-    "take": "What vBucket {vb} of node {node} has not written down is to be taken, up to a checkpoint's end.",
+    "take": "What vBucket {vb} of node {node} has not written down is to be taken, up to a span's end.",
     "save": "The batch of vBucket {vb} of node {node} is to be appended to its journal.",
     "done": "vBucket {vb} of node {node} is to be told that its batch is saved.",
     "stop": "Node {node} is to stop inside its device call {call} from now on, and to keep {outcome}.",
@@ -30,30 +31,6 @@ LINES = {
     "log": "vBucket {vb} of node {node} is to show its failover log.",
     "show": "vBucket {vb} of node {node} is to show itself.",
     "stat": "vBucket {vb} of node {node} is to tell its numbers.",
-}
-CAUSES = {
-    "unknown-node": "there is no such node",
-    "node-exists": "the node is there already",
-    "node-up": "the node is running",
-    "node-down": "the node is down",
-    "unknown-vb": "the node has no such vBucket",
-    "vb-exists": "the node has the vBucket already",
-    "limit": "the node has as many vBuckets as it may",
-    "wrong-role": "the vBucket's role does not allow it",
-    "chain-bad": "a member is the node itself, or stands twice",
-    "uuid-zero": "no branch has the id 0",
-    "uuid-used": "an earlier branch has the id",
-    "ids-short": "more vBuckets were active than there are ids",
-    "link-open": "the connection or link is open already",
-    "link-closed": "the connection or link is not open",
-    "batch-out": "a batch is on its way already",
-    "nothing-taken": "no batch is on its way, or it is not where this step begins",
-}
-# What comes behind something that was done.
-LATE = {
-    "closed": "The journal was closed before, and nothing is appended.",
-    "disk": "The disk failed.",
-    "stopped": "The node stopped, and whether the record is there only a start can tell.",
 }
 ENDS = {
     "cut": "it is cut, and the bytes on their way are lost",
@@ -105,10 +82,8 @@ def line_sentence(line: Line) -> str:
 
 def answer_sentence(line: Line, answer: list[str]) -> str:
     match answer:
-        case ["no", cause] if cause in LATE:
-            return LATE[cause]
         case ["no", cause]:
-            return f"Nothing is done: {CAUSES.get(cause, cause)}."
+            return refused_sentence(line, cause)
         case ["ok", moved] if line.verb in ("up", "down"):
             return f"{counted(int(moved), 'byte was', 'bytes were')} moved."
         case ["ok", "1"] if line.verb == "seal":
@@ -133,7 +108,7 @@ def answer_sentence(line: Line, answer: list[str]) -> str:
 
 def log_phrase(log: Log) -> str:
     entries = [f"branch {branch} from {seqno} on" for branch, seqno in log]
-    return f"failover log with {', '.join(entries)}" if entries else "empty failover log"
+    return f"a failover log with {', '.join(entries)}" if entries else "an empty failover log"
 
 
 def details(event: Event) -> str:
@@ -144,6 +119,11 @@ def details(event: Event) -> str:
     return ", ".join(parts)
 
 
+def put_phrase(event: Event) -> str:
+    """What a prepare or a commit puts in the place of its key's document."""
+    return "a removal" if event.deleted else shown(event.value)
+
+
 def change_phrase(event: Event) -> str:
     key = shown(event.key)
     match event.act:
@@ -152,9 +132,9 @@ def change_phrase(event: Event) -> str:
         case "remove":
             return f"{key} is removed ({details(event)})"
         case "prepare":
-            return f"{key} is prepared as {shown(event.value)}, {LEVELS.get(event.level)} ({details(event)})"
+            return f"{key} is prepared as {put_phrase(event)}, {LEVELS.get(event.level)} ({details(event)})"
         case "commit":
-            return f"{key}, prepared at {event.prepared}, is committed as {shown(event.value)} ({details(event)})"
+            return f"{key}, prepared at {event.prepared}, is committed as {put_phrase(event)} ({details(event)})"
     return f"{key}, prepared at {event.prepared}, is aborted"
 
 
@@ -183,7 +163,7 @@ def ask_sentence(event: Event, owner: str) -> str:
         case "go":
             return f"{asked}: granted."
         case "roll":
-            return f"{asked}: sent back to {event.to}, as it has a {log_phrase(event.log)}, and is at {event.high}."
+            return f"{asked}: sent back to {event.to}, as it has {log_phrase(event.log)}, and is at {event.high}."
     return f"{asked}: refused, {name_of(event.status, STATUSES)}."
 
 
@@ -212,7 +192,7 @@ def vbucket_sentence(event: Event) -> str:
         case "ask":
             return ask_sentence(event, owner)
         case "adopt":
-            return f"{owner} takes over a {log_phrase(event.log)}."
+            return f"{owner} takes over {log_phrase(event.log)}."
         case "range":
             return f"{owner} enters the snapshot from {event.start} to {event.end}."
         case "got":
@@ -226,7 +206,7 @@ def vbucket_sentence(event: Event) -> str:
         case "batch":
             return batch_sentence(event, owner)
         case "logged":
-            return f"{owner} has a {log_phrase(event.log)}."
+            return f"{owner} has {log_phrase(event.log)}."
         case "stat":
             return stat_sentence(event, owner)
     return shown_sentence(event, owner)
@@ -238,7 +218,7 @@ def batch_sentence(event: Event, owner: str) -> str:
 
 
 def stat_sentence(event: Event, owner: str) -> str:
-    holds = f"{counted(event.items, 'change', 'changes')} in {counted(event.checkpoints, 'checkpoint', 'checkpoints')}"
+    holds = f"{counted(event.items, 'change', 'changes')} in {counted(event.checkpoints, 'span', 'spans')}"
     cursors = counted(event.cursors, "cursor", "cursors")
     return f"{owner} has {holds}, {cursors}, is saved up to {event.saved}, and is at {event.high}."
 

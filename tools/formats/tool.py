@@ -7,14 +7,15 @@ from typing import Callable
 from formats import Complaint
 
 
-def run(name: str, usage: str, work: Callable[[list[str]], None]) -> None:
-    """Works on the words of the command line. Bad input ends with 2, a closed pipe quietly."""
+def run(name: str, usage: str, work: Callable[[list[str]], int | None]) -> None:
+    """Works on the words of the command line, and ends with the status that the work gives. Bad input ends with 2."""
     words = sys.argv[1:]
+    status = None
     try:
         if words == ["--help"]:
             print(usage, end="")
         else:
-            work(words)
+            status = work(words)
         sys.stdout.flush()
     except BrokenPipeError:
         # What is still to be written goes nowhere, so that nothing complains at the end.
@@ -23,6 +24,8 @@ def run(name: str, usage: str, work: Callable[[list[str]], None]) -> None:
         fail(name, str(complaint))
     except OSError as fault:
         fail(name, f"{fault.filename or 'standard input or output'}: {fault.strerror}")
+    if status:
+        sys.exit(status)
 
 
 def fail(name: str, why: str) -> None:

@@ -174,17 +174,28 @@ def part_lengths(header: bytes) -> tuple[int, int, int]:
     return 0, header[4], number(header[2:4])
 
 
-def why_no_frame(held: bytes) -> str | None:
-    """Why no whole frame begins here, or None where one does."""
+def fault_of(held: bytes) -> tuple[str, str] | None:
+    """The fault that stands here, by its name and in words, or None where a frame begins or less than one."""
     if held[0] not in MAGICS:
-        return f"no frame: the first byte is {held[0]:#04x}"
+        return "BadMagic", f"the first byte is {held[0]:#04x}"
     if len(held) < HEADER:
-        return f"less than a frame: {len(held)} of {HEADER} bytes of the header"
+        return None
     body, parts = number(held[8:12]), sum(part_lengths(held))
     if body > BODY_LIMIT:
-        return f"no frame: a body of {body:,} bytes is too long"
+        return "BodyTooLong", f"a body of {body:,} bytes is too long"
     if body < parts:
-        return f"no frame: a body of {body} bytes is shorter than its parts, {parts}"
+        return "BadLengths", f"a body of {body} bytes is shorter than its parts, {parts}"
+    return None
+
+
+def why_no_frame(held: bytes) -> str | None:
+    """Why no whole frame begins here, or None where one does."""
+    fault = fault_of(held)
+    if fault:
+        return f"no frame: {fault[1]}"
+    if len(held) < HEADER:
+        return f"less than a frame: {len(held)} of {HEADER} bytes of the header"
+    body = number(held[8:12])
     if len(held) < HEADER + body:
         return f"less than a frame: {len(held) - HEADER:,} of {body:,} bytes of the body"
     return None

@@ -1,0 +1,1 @@
+"""What tools/test has in files of its own."""
