@@ -7,11 +7,13 @@ ghost use Rattle.dcp_io.specs.Moves.{Intake, Outlet, Takes, Puts};
 
 mod adapters;
 mod counts;
+mod laws;
 mod mem_sink;
 mod mem_source;
 mod memory;
 
 pub use adapters::{Reading, Writing};
+pub use laws::counts_in_numbers;
 pub use mem_sink::MemSink;
 pub use mem_source::MemSource;
 pub use memory::{SliceSource, VecSink};
