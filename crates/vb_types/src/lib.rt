@@ -28,6 +28,7 @@ pub use role::{LogEntry, Role};
 pub use status::Status;
 pub use stream::{AskAnswer, Place, Snapshot, StreamAsk, Verdict};
 pub use vb_laws::{
-    commits_as_plain, levels_in_numbers, limits_in_numbers, statuses_in_numbers, told_by_last,
+    commits_as_plain, keys_in_order, lengths_in_numbers, levels_in_numbers, limits_in_numbers,
+    older_prepares_go, statuses_in_numbers, told_by_last,
 };
 pub use write::{Op, Write};
