@@ -5,7 +5,7 @@ ghost use Rattle.vb_types.specs.declared.change.Level.{Level};
 ghost use Rattle.vb_types.specs.declared.change.Level.TheVariants.{Majority, MajorityPersistActive, PersistMajority};
 ghost use Rattle.vb_types.specs.declared.change.Pend.{Pend};
 ghost use Rattle.durability.specs.declared.waiting.Waiting.{Waiting as Prepare};
-ghost use Rattle.durability.specs.Chains.{Members, named, differ, holders, majority, chain_length, is_possible, has_enough, next_of, committed_now};
+ghost use Rattle.durability.specs.Chains.{Members, chain_of, is_chain, named, differ, holders, majority, chain_length, is_possible, has_enough, next_of, committed_now};
 ghost use Rattle.durability.specs.Outstanding.{Rises, no_acks, acked, with_ack, at_seq, late, front_seq, placed, without};
 ghost use Rattle.durability.specs.Pending.{due};
 ghost use Rattle.durability.specs.Laws.{Waits, HasMajority, WantsSaved, IsPending, ThirdsSaved, IsLate, at_level};
@@ -22,6 +22,17 @@ pub fn majorities_in_numbers()
     ensures unset { is_possible (None ∷ []) ≡ false }
     ensures half { is_possible (Some 1 ∷ None ∷ []) ≡ true }
     ensures few { is_possible (Some 1 ∷ None ∷ None ∷ []) ≡ false }
+{}
+
+/// A chain has at most three members beside its active node, set or not, and no two of those that are
+/// set are one node, nor is one of them the active node.
+pub fn chains_in_numbers()
+    ensures set { (is_chain 0 [] ≡ true) × (is_chain 0 (Some 1 ∷ Some 2 ∷ Some 15 ∷ []) ≡ true) }
+    ensures unset { (is_chain 0 (None ∷ None ∷ None ∷ []) ≡ true) × (is_chain 0 (Some 1 ∷ None ∷ Some 2 ∷ []) ≡ true) }
+    ensures many { (is_chain 0 (Some 1 ∷ Some 2 ∷ Some 3 ∷ Some 4 ∷ []) ≡ false) × (is_chain 0 (None ∷ None ∷ None ∷ None ∷ []) ≡ false) }
+    ensures itself { (is_chain 5 (Some 5 ∷ []) ≡ false) × (is_chain 5 (Some 1 ∷ None ∷ Some 5 ∷ []) ≡ false) }
+    ensures twice { (is_chain 0 (Some 1 ∷ Some 1 ∷ []) ≡ false) × (is_chain 0 (Some 1 ∷ Some 2 ∷ Some 1 ∷ []) ≡ false) }
+    ensures kept { (chain_of 5 (Some 1 ∷ None ∷ []) ≡ Some (record { active = 5; others = Some 1 ∷ None ∷ [] })) × (chain_of 5 (Some 5 ∷ []) ≡ None) }
 {}
 
 /// The next prepare to commit is the lowest outstanding one. A majority of the chain holds it, the active
@@ -48,6 +59,7 @@ pub fn acknowledgements_count_once()
     ensures others { (acks : List ℕ) (m n q : ℕ) → n ≢ m → acked (with_ack acks m q) n ≡ acked acks n }
     ensures again { (acks : List ℕ) (m p q : ℕ) → p ≤ q → with_ack (with_ack acks m q) m p ≡ with_ack acks m q }
     ensures none { (m : ℕ) → acked no_acks m ≡ 0 }
+    ensures members { (length no_acks ≡ 256) × (acked (with_ack no_acks 255 7) 255 ≡ 7) × (acked (with_ack no_acks 0 7) 0 ≡ 7) }
 {}
 
 /// What each level waits for, in a chain of two whose other member acknowledged 5 and in one of the active
