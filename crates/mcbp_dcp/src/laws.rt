@@ -1,6 +1,6 @@
 //! What holds of DCP messages and their frames beyond any one call, each law as the contract of a
 //! function.
-ghost use Rattle.std.specs.Prelude.{◌≡◌, ◌↔◌, ◌++◌, ◌∷◌, [], ℕ, List, length, ◌≤◌, ◌<◌, ◌^◌, Some, None, Ok, Err, IsTrue, IsFalse};
+ghost use Rattle.std.specs.Prelude.{◌≡◌, ◌↔◌, ◌++◌, ◌∷◌, [], ℕ, List, length, ◌≤◌, ◌<◌, ◌^◌, ◌+◌, true, false, Some, None, Ok, Err, IsTrue, IsFalse};
 ghost use Rattle.mcbp_frame.specs.declared.frame.Frame.{Frame as FrameData};
 ghost use Rattle.mcbp_frame.specs.declared.frame.TheConstants.{MAX_BODY_LEN};
 ghost use Rattle.mcbp_frame.specs.Frames.{first_frame, body_size, frame_len};
@@ -19,7 +19,7 @@ ghost use Rattle.vb_types.specs.declared.stream.StreamAsk.{StreamAsk as AskData}
 ghost use Rattle.mcbp_dcp.specs.declared.message.DcpFault.TheVariants.{WrongExtras, WrongKey, WrongValue};
 ghost use Rattle.mcbp_dcp.specs.declared.shape.TheConstants.{MAX_NAME, ENTRY_LEN, SUCCESS, ROLLBACK};
 ghost use Rattle.mcbp_dcp.specs.Rows.{dcp_opcodes, frame_row};
-ghost use Rattle.mcbp_dcp.specs.Shapes.{extras_fit, key_fits, value_fits};
+ghost use Rattle.mcbp_dcp.specs.Shapes.{extras_fit, key_fits, told_fits, value_fits};
 ghost use Rattle.mcbp_dcp.specs.Messages.{read_of};
 ghost use Rattle.mcbp_dcp.specs.DcpFrames.{dcp_frame, IsSpelled};
 ghost use Rattle.mcbp_dcp.specs.DcpLaws.{InRange, Carries, RefusesExtras, RefusesLengths, RefusesValues, RefusesValuesOfRemovals, AcknowledgesBare, frame_read, dcp_len};
@@ -142,4 +142,25 @@ pub fn dcp_numbers()
 /// The name in an OPEN has 1 to 250 bytes.
 pub fn names_have_lengths()
     ensures { (number flags : ℕ) (name : List ℕ) → IsSpelled (msg.Open number flags name) ↔ ((1 ≤ length name) × (length name ≤ 250)) }
+{}
+
+/// Which messages have a spelling: a CONTROL of any key and value, and a deletion, a commit and an abort of
+/// any key, that fit their length fields; and each message without a key.
+pub fn messages_have_room()
+    ensures control { (key value : List ℕ) → IsSpelled (msg.Control key value) ↔ ((length key < 65536) × (length key + length value < 4294967296)) }
+    ensures mutation { (change : PutData) → IsSpelled (msg.Mutation change) ↔ ((length change.key < 65536) × (31 + length change.key + length change.value < 4294967296)) }
+    ensures deletion { (change : RemovalData) → IsSpelled (msg.Deletion change) ↔ (length change.key < 65536) }
+    ensures ended { (change : ResolvedData) → (IsSpelled (msg.Commit change) ↔ (length change.key < 65536)) × (IsSpelled (msg.Abort change) ↔ (length change.key < 65536)) }
+    ensures request { (ask : AskData) → IsSpelled (msg.StreamRequest ask) }
+    ensures marker { (start end flags : ℕ) → IsSpelled (msg.SnapshotMarker start end flags) }
+    ensures others { (n : ℕ) → IsSpelled (msg.StreamEnd n) × IsSpelled (msg.SeqnoAcknowledged n) × IsSpelled (msg.OpenAnswer n) × IsSpelled (msg.ControlAnswer n) }
+{}
+
+/// How many bytes stand in an answer to a request for a stream: whole entries of 16 where it is granted,
+/// the 8 of a point where the consumer is sent back, and none where it is refused.
+pub fn answers_fit()
+    ensures granted { (told_fits 0 0 ≡ true) × (told_fits 0 16 ≡ true) × (told_fits 0 400 ≡ true) }
+    ensures cut { (told_fits 0 8 ≡ false) × (told_fits 0 17 ≡ false) × (told_fits 0 31 ≡ false) }
+    ensures sent_back { (told_fits 35 8 ≡ true) × (told_fits 35 0 ≡ false) × (told_fits 35 16 ≡ false) }
+    ensures refused { (told_fits 7 0 ≡ true) × (told_fits 4 0 ≡ true) × (told_fits 7 8 ≡ false) × (told_fits 34 16 ≡ false) }
 {}

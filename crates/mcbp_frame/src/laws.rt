@@ -4,7 +4,7 @@ ghost use Rattle.{std.specs.Int.{w32, to_be_bytes}, std.specs.List.{All, concat}
 ghost use Rattle.{mcbp_frame.specs.Frames.{first_frame, frame_len, whole_frame, faulty_head}, mcbp_frame.specs.Spelling.{spelling, Readable}};
 ghost use Rattle.{mcbp_frame.specs.Streams.{AreBytes, Begins, Cut, Gives, GivesOf}, mcbp_frame.specs.declared.frame.Frame.{Frame as FrameData}};
 ghost use Rattle.{mcbp_frame.specs.declared.frame.FrameFault.{FrameFault as FaultData}, mcbp_frame.specs.declared.frame.FrameFault.TheVariants.{BadMagic}};
-ghost use Rattle.mcbp_frame.specs.FrameRows.{IsSpelledAs, some_bytes, some_frame};
+ghost use Rattle.mcbp_frame.specs.FrameRows.{AtLimits, IsSpelledAs, some_bytes, some_frame};
 ghost use Rattle.mcbp_frame.specs.declared.frame.TheConstants.{REQUEST, FRAMED_REQUEST, RESPONSE, HEADER_LEN, MAX_BODY_LEN};
 
 /// What is written is read back, whatever follows it.
@@ -23,6 +23,12 @@ pub fn frames_in_bytes()
     ensures request { IsSpelledAs (some_frame 0x80 []) (some_bytes 0x80 0x00 0x09 []) }
     ensures answer { IsSpelledAs (some_frame 0x81 []) (some_bytes 0x81 0x00 0x09 []) }
     ensures framed { IsSpelledAs (some_frame 0x08 (0x11 ∷ 0x21 ∷ [])) (some_bytes 0x08 0x02 0x0b (0x11 ∷ 0x21 ∷ [])) }
+{}
+
+/// What bytes begin with at each limit, in numbers.
+#[tactic(auto, unfolding(crate::specs::Frames::first_frame))]
+pub fn frames_at_their_limits()
+    ensures { AtLimits }
 {}
 
 /// A frame has one spelling, and bytes that are exactly one frame are that spelling.

@@ -4,7 +4,7 @@ ghost use Rattle.{mcbp_frame.specs.declared.frame.Frame.{Frame as Framed}, mcbp_
 ghost use Rattle.{mcbp_kv.specs.declared.durable.TheConstants.{DEFAULT_TIMEOUT}, vb_types.specs.declared.change.Level.TheVariants.{Majority, MajorityPersistActive, PersistMajority}};
 ghost use Rattle.mcbp_kv.specs.Answers.{AnswersInOrder, IsFound, IsStored, IsWelcome, IsBare, found_answer, stored_answer, seqno_extras, welcome_answer, bare_answer};
 ghost use Rattle.{mcbp_kv.specs.Choices.{AcceptsThose, AcceptsFew}, mcbp_kv.specs.Commands.{SpelledIsRead, ReadIsSpelled, ReadFits, TimeoutsFit}, mcbp_kv.specs.Extras.{IsReadAsSpelled}};
-ghost use Rattle.{mcbp_kv.specs.Features.{feature_code}, mcbp_kv.specs.Framing.{DURABILITY, requirement_of}, mcbp_kv.specs.Refusals.{IsRefusedInOrder}, mcbp_kv.specs.Replies.{reply_frame}};
+ghost use Rattle.{mcbp_kv.specs.Features.{accepted, feature_bytes, feature_code}, mcbp_kv.specs.Framing.{DURABILITY, requirement_of}, mcbp_kv.specs.Refusals.{IsRefusedInOrder}, mcbp_kv.specs.Replies.{reply_frame}};
 ghost use Rattle.{mcbp_kv.specs.Durable.{within}, mcbp_kv.specs.Requests.{client_opcodes, write_opcodes, required_of}, mcbp_kv.specs.declared.feature.Feature.{Feature as Chosen}};
 ghost use Rattle.mcbp_kv.specs.declared.feature.Feature.TheVariants.{MutationSeqnos, Json, AltRequests, SyncReplication};
 ghost use Rattle.{mcbp_kv.specs.declared.opcodes.TheConstants.{GET, SET, ADD, REPLACE, DELETE, NOOP, HELLO}, vb_types.specs.Statuses.{status_code}};
@@ -75,4 +75,13 @@ pub fn durability_in_numbers()
     ensures high_first { required_of REPLACE (requirement_of (0x13 ∷ 1 ∷ 1 ∷ 2 ∷ [])) ≡ Ok (Some (within Majority 258)) }
     ensures below { required_of SET (requirement_of (0x11 ∷ 0 ∷ [])) ≡ Err DurabilityInvalidLevel }
     ensures above { required_of SET (requirement_of (0x13 ∷ 4 ∷ 0 ∷ 1 ∷ [])) ≡ Err DurabilityInvalidLevel }
+{}
+
+/// The answer to a HELLO has two bytes for each feature, the high one first, in the order of the features;
+/// and what is asked for twice, or is none, is left out.
+#[tactic(auto, unfolding(crate::specs::Features::feature_bytes, crate::specs::Features::accepted))]
+pub fn features_in_bytes()
+    ensures written { feature_bytes (Json ∷ MutationSeqnos ∷ SyncReplication ∷ AltRequests ∷ []) ≡ 0x00 ∷ 0x0b ∷ 0x00 ∷ 0x04 ∷ 0x00 ∷ 0x11 ∷ 0x00 ∷ 0x10 ∷ [] }
+    ensures none { feature_bytes [] ≡ [] }
+    ensures asked { accepted (0x00 ∷ 0x11 ∷ 0x00 ∷ 0x0b ∷ 0x0b ∷ 0x00 ∷ 0x00 ∷ 0x11 ∷ 0x00 ∷ 0x02 ∷ []) ≡ SyncReplication ∷ Json ∷ [] }
 {}

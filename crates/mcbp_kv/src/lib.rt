@@ -13,7 +13,7 @@ pub use durable::{DEFAULT_TIMEOUT, Durability};
 pub use feature::{Feature, hello_value};
 pub use laws::{
     answers_are_spelled, commands_are_spelled, durability_in_numbers, features_are_accepted,
-    framing_is_read, opcodes_in_numbers, refusals_in_order, requests_fit,
+    features_in_bytes, framing_is_read, opcodes_in_numbers, refusals_in_order, requests_fit,
 };
 pub use opcodes::{ADD, DELETE, GET, HELLO, NOOP, REPLACE, SET};
 pub use reply::{KvReply, reply_bytes, write_reply};
