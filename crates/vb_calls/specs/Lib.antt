@@ -15,3 +15,4 @@ pub mod Shelves
 pub mod Jobs
 pub mod Flushes
 pub mod AllSteps
+pub mod Numbers

@@ -1,5 +1,6 @@
 //! What a flush of all its steps does, each law as the contract of a function that does nothing.
 ghost use Rattle.std.specs.Prelude.{ℕ};
+ghost use Rattle.vb_calls.specs.Numbers.{RolesInNumbers, RollsInNumbers, StandApart, StepsInNumbers};
 ghost use Rattle.vb_calls.specs.AllSteps.{AllInNumbers, StepsOfAll};
 ghost use Rattle.vb_calls.specs.{Flushes.{flush_job}, Jobs.{RanJob}, declared.journals.Flushed.{Flushed as TheFlushed}};
 ghost use Rattle.vb_types.specs.declared.journal.FlushPart.TheVariants as part;
@@ -21,4 +22,29 @@ pub fn all_steps_are_made<A: VbAccess, J: Journals>()
 #[tactic(auto, unfolding(crate::specs::Flushes::flush_job))]
 pub fn all_steps_in_numbers()
     ensures { AllInNumbers }
+{}
+
+/// What each step of a flush comes to and leaves, as numbers; and that a step out of turn is refused and
+/// changes nothing.
+#[tactic(auto, unfolding(crate::specs::Flushes::flush_job))]
+pub fn steps_in_numbers()
+    ensures { StepsInNumbers }
+{}
+
+/// What a rollback comes to and leaves, as numbers: of a journal of two batches, the second of which ends
+/// inside its snapshot.
+#[tactic(auto, unfolding(crate::specs::Flushes::roll_job))]
+pub fn rollbacks_in_numbers()
+    ensures { RollsInNumbers }
+{}
+
+/// How changes of role are written down, as numbers.
+#[tactic(auto, unfolding(crate::specs::Flushes::role_job))]
+pub fn roles_in_numbers()
+    ensures { RolesInNumbers }
+{}
+
+/// A call, or what is made, changes the vBucket of its number alone, and a request its journal alone.
+pub fn vbuckets_stand_apart()
+    ensures { StandApart }
 {}

@@ -12,7 +12,10 @@ mod stream;
 
 pub use access::VbAccess;
 pub use calls::{Resolution, Resolved, VbAnswer, VbCall, VbReply};
-pub use flush_laws::{all_steps_are_made, all_steps_in_numbers};
+pub use flush_laws::{
+    all_steps_are_made, all_steps_in_numbers, roles_in_numbers, rollbacks_in_numbers,
+    steps_in_numbers, vbuckets_stand_apart,
+};
 pub use journals::{Flushed, Journals, Rolled, Wrote};
 pub use laws::limits_in_numbers;
 pub use span::{BASE_WEIGHT, MAX_ITEMS, MAX_WEIGHT, Origin, Span};
