@@ -5,6 +5,7 @@
 mod durable_laws;
 mod following;
 mod laws;
+mod row_laws;
 mod streams;
 mod vb_map;
 mod vbucket;
@@ -20,6 +21,10 @@ pub use laws::{
     promotions_lead, receipts_are_counted, refusals, requests_are_told, roles_end_streams,
     rollbacks_leave_nothing, spans_are_filled, stays_sound, streams_are_closed,
     takes_are_snapshots, writes_are_read, written_ones_are_loaded,
+};
+pub use row_laws::{
+    new_ones_are_empty, no_first_markers_are_awaited, snapshots_start_in_numbers,
+    vbuckets_are_shown,
 };
 pub use vb_map::{VbMap, VbSlot};
 pub use vbucket::VBucket;
