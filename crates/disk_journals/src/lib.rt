@@ -22,4 +22,4 @@ pub use laws::{
     openings_in_numbers, rolls_append_first,
 };
 pub use opening::{Disks, OpenCause, OpenJournal, VbDisk, close_journals, open_journals};
-pub use order_laws::journals_are_listed_in_order;
+pub use order_laws::{batches_are_counted, journals_are_listed_in_order};
