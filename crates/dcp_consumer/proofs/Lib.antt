@@ -4,5 +4,6 @@ pub mod Steps
 pub mod Moves
 pub mod Reasons
 mod Receiving
+mod Storing
 mod Acknowledging
 mod DialBytes

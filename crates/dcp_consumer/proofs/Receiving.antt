@@ -34,14 +34,14 @@ key_by key true e = inl (ap (λ t. if t then Some key else None) e, (grind (arit
 key_by key false e = inr (ap (λ t. if t then Some key else None) e, λ k. grind (arith, nat_tests, k.0, k.1))
 
 -- a key, or no key
-key_is : (key : List ℕ) → ((key_of key ≡ Some key) × IsKey key) ⊎ ((key_of key ≡ None) × (IsKey key → ⊥))
+pub key_is : (key : List ℕ) → ((key_of key ≡ Some key) × IsKey key) ⊎ ((key_of key ≡ None) × (IsKey key → ⊥))
 key_is key = key_by key (nat_le 1 (length key) && nat_le (length key) 250) refl
 
 value_by : (value : List ℕ) (b : Bool) → nat_le (length value) 20971520 ≡ b → ((value_of value ≡ Some value) × IsValue value) ⊎ ((value_of value ≡ None) × (IsValue value → ⊥))
 value_by value true e = inl (ap (λ t. if t then Some value else None) e, grind (arith, nat_tests))
 value_by value false e = inr (ap (λ t. if t then Some value else None) e, λ v. grind (arith, nat_tests, v))
 
-value_is : (value : List ℕ) → ((value_of value ≡ Some value) × IsValue value) ⊎ ((value_of value ≡ None) × (IsValue value → ⊥))
+pub value_is : (value : List ℕ) → ((value_of value ≡ Some value) × IsValue value) ⊎ ((value_of value ≡ None) × (IsValue value → ⊥))
 value_is value = value_by value (nat_le (length value) 20971520) refl
 
 level_by : (n : ℕ) (o : Option Level) → level_of n ≡ o → ((l : Level) × (level_of n ≡ Some l) × (n ≡ level_number l)) ⊎ ((level_of n ≡ None) × ((n < 1) ⊎ (3 < n)))
@@ -96,10 +96,10 @@ prepare_case p = by (key_is p.key) (value_is p.value) (level_is p.level) (flag_i
     by (inl k) (inl v) (inl l) (inr d) = inr (none_comes p _ _ _ _ (inr (inr (inr d.0))), inr (inr (inr d.1)))
 
 -- the parts of a change are found
-key_found : (key : List ℕ) → IsKey key → key_of key ≡ Some key
+pub key_found : (key : List ℕ) → IsKey key → key_of key ≡ Some key
 key_found key is = ⊎_elim (λ k. k.0) (λ k. absurd (k.1 is)) (key_is key)
 
-value_found : (value : List ℕ) → IsValue value → value_of value ≡ Some value
+pub value_found : (value : List ℕ) → IsValue value → value_of value ≡ Some value
 value_found value is = ⊎_elim (λ v. v.0) (λ v. absurd (v.1 is)) (value_is value)
 
 prepare_so : (p : Prepare) (c : Change) → IsPrepared p c → passive_of (msg.Prepare p) ≡ passive.Call (call.Receive c)
@@ -109,11 +109,11 @@ prepare_so p c is =
     ∙ ap (λ x. passive.Call (call.Receive x)) (sym is.change)
 
 -- a call is no refusal
-not_both : (m : Passive) (c : Change) → m ≡ passive.Call (call.Receive c) → m ≡ passive.Protocol → ⊥
+pub not_both : (m : Passive) (c : Change) → m ≡ passive.Call (call.Receive c) → m ≡ passive.Protocol → ⊥
 not_both m c e g = let both : passive.Call (call.Receive c) ≡ passive.Protocol = sym e ∙ g in cc
 
 -- a call is of one change
-same_call : (m : Passive) (a b : Change) → m ≡ passive.Call (call.Receive a) → m ≡ passive.Call (call.Receive b) → a ≡ b
+pub same_call : (m : Passive) (a b : Change) → m ≡ passive.Call (call.Receive a) → m ≡ passive.Call (call.Receive b) → a ≡ b
 same_call m a b e g = let both : passive.Call (call.Receive a) ≡ passive.Call (call.Receive b) = sym e ∙ g in cc
 
 pub prepares : (p : Prepare) (c : Change) → (passive_of (msg.Prepare p) ≡ passive.Call (call.Receive c)) ↔ IsPrepared p c

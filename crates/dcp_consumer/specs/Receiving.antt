@@ -1,10 +1,13 @@
 -- which messages of durable writes are taken in, and as which changes
-use Rattle.std.specs.Prelude.{◌≡◌, ℕ, ◌<◌, ◌⊎◌, Bool, true, false, List, [], Some, Ok}
+use Rattle.std.specs.Prelude.{◌≡◌, ℕ, ◌<◌, ◌⊎◌, Bool, true, false, List, [], ◌∷◌, ◌++◌, Some, Ok}
 use Rattle.mcbp_frame.specs.declared.frame.Frame.{Frame}
 use Rattle.mcbp_frame.specs.Frames.{first_frame}
+use Rattle.mcbp_dcp.specs.declared.message.Deletion.{Deletion}
+use Rattle.mcbp_dcp.specs.declared.message.Mutation.{Mutation}
 use Rattle.mcbp_dcp.specs.declared.message.Prepare.{Prepare}
 use Rattle.mcbp_dcp.specs.declared.message.Resolution.{Resolution}
-use Rattle.mcbp_dcp.specs.DurableRows.{some_key}
+use Rattle.mcbp_dcp.specs.DurableRows.{middle, some_cas, some_key, some_value, two_numbers}
+use Rattle.mcbp_dcp.specs.MessageRows.{four_bytes, four_others, no_four}
 use Rattle.vb_types.specs.Levels.{level_number}
 use Rattle.mcbp_dcp.specs.Messages.{read_of}
 use Rattle.vb_types.specs.Limits.{IsKey, IsValue}
@@ -59,3 +62,27 @@ durable_call seq a = passive.Call (call.Receive (record { seq = seq; key = some_
 
 abbrev pub durable_doc : List ℕ → Doc
 durable_doc value = record { value = value; cas = 0x3132333435363738; rev = 0x2122232425262728; flags = 0x01020304; expiry = 0x05060708; datatype = 0x01 }
+
+-- the change that a mutation is: with the document of its fields, all bits of them
+pub record IsStored (m : Mutation) (c : Change) : Type 0 where
+  pub key : IsKey m.key
+  pub value : IsValue m.value
+  pub change : c ≡ record {
+    seq = m.seq;
+    key = m.key;
+    act = act.Set (record { value = m.value; cas = m.cas; rev = m.rev; flags = m.flags; expiry = m.expiry; datatype = m.datatype });
+  }
+
+-- the change that a deletion is, with the removal's own CAS and revision
+abbrev pub IsRemoved : Deletion → Change → Type 0
+IsRemoved d c = IsKey d.key × (c ≡ record { seq = d.seq; key = d.key; act = act.Remove d.cas d.rev })
+
+-- a MUTATION of those numbers with this datatype, byte by byte
+abbrev pub typed_bytes : ℕ → List ℕ
+typed_bytes datatype =
+    0x80 ∷ 0x57 ∷ 0x00 ∷ 0x03 ∷ 0x1f ∷ datatype ∷ middle 0x27 ++ some_cas ++ two_numbers ++ four_bytes ++ four_others ++ no_four ++ 0x00 ∷ 0x00 ∷ 0x00 ∷ some_key
+    ++ some_value
+
+-- the change that it is: all bits of the datatype are the document's
+abbrev pub typed_call : ℕ → Passive
+typed_call datatype = durable_call 0x1112131415161718 (act.Set (record (durable_doc some_value) { datatype = datatype }))

@@ -1,11 +1,12 @@
 //! Laws of a consumer. Each is a function with no work to do, and its clauses are the law.
-ghost use Rattle.std.specs.Prelude.{◌≡◌, ◌≢◌, ◌↔◌, ◌+◌, ◌++◌, ◌^◌, ◌<◌, ◌≤◌, ◌∷◌, ℕ, true, false, [], None, Some, IsTrue, IsFalse};
-ghost use Rattle.{dcp_consumer.specs.PassiveStreams.{passive_of}, dcp_consumer.specs.Receiving.{BytesCome, IsPrepared, IsResolved, IsUnfit, committed, durable_call, durable_doc}};
+ghost use Rattle.std.specs.Prelude.{◌≡◌, ◌≢◌, ◌↔◌, ◌⊎◌, ◌+◌, ◌++◌, ◌^◌, ◌<◌, ◌≤◌, ◌∷◌, ℕ, true, false, [], None, Some, IsTrue, IsFalse};
+ghost use Rattle.{dcp_consumer.specs.PassiveStreams.{passive_of}, dcp_consumer.specs.Receiving.{BytesCome, IsPrepared, IsRemoved, IsResolved, IsStored, IsUnfit, committed, durable_call, durable_doc, typed_bytes, typed_call}};
 ghost use Rattle.{dcp_consumer.specs.declared.passive_stream.Passive.TheVariants.{Call, End, Protocol as Strange}, mcbp_dcp.specs.DurableRows.{no_cas, no_times, prepare_bytes, resolution_bytes, some_value}};
+ghost use Rattle.{mcbp_dcp.specs.declared.message.Deletion.{Deletion as RemovalData}, mcbp_dcp.specs.declared.message.Mutation.{Mutation as PutData}};
 ghost use Rattle.{mcbp_dcp.specs.declared.message.Prepare.{Prepare as PreparedData}, mcbp_dcp.specs.declared.message.Resolution.{Resolution as ResolvedData}};
 ghost use Rattle.mcbp_dcp.specs.declared.message.DcpMsg.TheVariants as msg;
 ghost use Rattle.mcbp_dcp.specs.MessageRows.{deletion_bytes, end_bytes, four_bytes, marker_bytes, mutation_bytes, no_four};
-ghost use Rattle.{vb_calls.specs.declared.calls.VbCall.TheVariants.{Marker, Receive}, vb_types.specs.Limits.{IsKey}};
+ghost use Rattle.{vb_calls.specs.declared.calls.VbCall.TheVariants.{Marker, Receive}, vb_types.specs.Limits.{IsKey, IsValue}};
 ghost use Rattle.{vb_types.specs.declared.change.Act.TheVariants.{Abort, Prepare, Remove, Set}, vb_types.specs.declared.change.Change.{Change as ChangeData}};
 ghost use Rattle.vb_types.specs.declared.change.Level.TheVariants.{MajorityPersistActive, PersistMajority};
 ghost use Rattle.dcp_consumer.specs.Conduct.{Awaits, awaited, Comes, IsNext, Ends, EndsBy, IsRequest, Acknowledges, IsAcknowledgement, HasAcknowledged, LeavesAcknowledged, acknowledgement_bytes};
@@ -70,6 +71,16 @@ pub fn durable_writes_are_taken()
     ensures unfit { (p : PreparedData) → (passive_of (msg.Prepare p) ≡ Strange) ↔ IsUnfit p }
     ensures keyless { (r : ResolvedData) → ((passive_of (msg.Commit r) ≡ Strange) ↔ (IsKey r.key → ⊥)) × ((passive_of (msg.Abort r) ≡ Strange) ↔ (IsKey r.key → ⊥)) }
     ensures acknowledged { (seq : ℕ) → passive_of (msg.SeqnoAcknowledged seq) ≡ Strange }
+{}
+
+/// A MUTATION and a DELETION are taken in as the changes that they are, with all bits of each field, and
+/// as no other: `protocol` exactly where key or value is none that a change can have.
+pub fn changes_are_taken()
+    ensures stored { (m : PutData) (c : ChangeData) → (passive_of (msg.Mutation m) ≡ Call (Receive c)) ↔ IsStored m c }
+    ensures removed { (d : RemovalData) (c : ChangeData) → (passive_of (msg.Deletion d) ≡ Call (Receive c)) ↔ IsRemoved d c }
+    ensures unfit { (m : PutData) → (passive_of (msg.Mutation m) ≡ Strange) ↔ ((IsKey m.key → ⊥) ⊎ (IsValue m.value → ⊥)) }
+    ensures keyless { (d : RemovalData) → (passive_of (msg.Deletion d) ≡ Strange) ↔ (IsKey d.key → ⊥) }
+    ensures typed { BytesCome (typed_bytes 5) (typed_call 5) × BytesCome (typed_bytes 255) (typed_call 255) × BytesCome (typed_bytes 0) (typed_call 0) }
 {}
 
 /// What the messages of durable writes come to, byte by byte.
