@@ -7,3 +7,4 @@ pub mod Handshaking
 pub mod Conduct
 pub mod Counting
 pub mod Taking
+pub mod Rows

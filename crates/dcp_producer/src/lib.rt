@@ -13,6 +13,7 @@ mod messages;
 mod producer;
 mod pulls;
 mod replies;
+mod turn_laws;
 
 use active_stream::ActiveStream;
 use connection::Connection;
@@ -26,6 +27,9 @@ pub use laws::{
     streams_reach_what_was_put, streams_take_their_own, waiting_streams_put_nothing,
 };
 pub use producer::{Asked, Producer, Pulled};
+pub use turn_laws::{
+    connections_end_their_stream, items_are_put_in_turn, snapshots_follow, streams_end_by_number,
+};
 
 /// What a call gives that needs memory, or that memory was short.
 type Alloc<T> = Result<T, std::alloc::AllocError>;
