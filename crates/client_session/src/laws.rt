@@ -1,5 +1,5 @@
 //! What a client's connection does, each law as the contract of a function; nothing here runs.
-ghost use Rattle.std.specs.Prelude.{◌≡◌, ◌≢◌, ◌<◌, ◌≤◌, ◌+◌, ◌-◌, ◌*◌, ◌^◌, ◌++◌, ◌∷◌, [], ℕ, Bool, true, false, List, map, Option, None, Result, IsTrue, IsFalse};
+ghost use Rattle.std.specs.Prelude.{◌≡◌, ◌≢◌, ◌<◌, ◌≤◌, ◌+◌, ◌-◌, ◌*◌, ◌^◌, ◌++◌, ◌∷◌, [], ℕ, Bool, true, false, List, map, Option, None, Some, Result, IsTrue, IsFalse};
 ghost use Rattle.{std.specs.Int.{w64, to_be_bytes}, std.specs.List.{concat, flat_map}, client_session.specs.Conduct.{IsClients, IsAnyClients, Took, Waits, Came, came_served, bytes_of}};
 ghost use Rattle.client_session.specs.Rows.{Gets, GetsAtOnce, IsOutcome, Settles, WaitsAs, Greets, IsNoGreeting, IsForDocument, IsNotServing, NotServed, seqno_part};
 ghost use Rattle.client_session.specs.Serving.{PlainSession, Served, served, new_session, is_waiting, awaits, told, outcome_of, durable_told, with_used, next_waiter, deadline_of};
@@ -10,10 +10,13 @@ ghost use Rattle.{mcbp_kv.specs.Requests.{request_of}, mcbp_kv.specs.declared.du
 ghost use Rattle.{mcbp_kv.specs.declared.request.KvRequest.{KvRequest as Asked}, mcbp_kv.specs.declared.request.KvRequest.TheVariants.{Write}, vb_calls.specs.Programs.{Done, bind, each, after, AnyCall, Always, AlwaysFormed}, vb_calls.specs.States.{States}};
 ghost use Rattle.{vb_calls.specs.declared.calls.Resolution.{Resolution as What}, vb_calls.specs.declared.calls.Resolution.TheVariants.{Committed, Ambiguous}, vb_calls.specs.declared.calls.Resolved.{Resolved as Outcome}, vb_calls.specs.declared.calls.VbAnswer.TheVariants.{Found, Stored, Prepared, Status}};
 ghost use Rattle.client_session.specs.Asking.{AsksFirst};
+ghost use Rattle.client_session.specs.{Answers.{fault_lines}, Serving.{ended_at, settings_of}};
+ghost use Rattle.mcbp_frame.specs.declared.frame.FrameFault.{FrameFault as FaultData};
+ghost use Rattle.mcbp_kv.specs.declared.feature.Feature.TheVariants as chosen;
 ghost use Rattle.mcbp_kv.specs.declared.request.KvRequest.TheVariants as asks;
 ghost use Rattle.vb_calls.specs.declared.calls.VbCall.TheVariants as calls;
 ghost use Rattle.{vb_types.specs.Statuses.{status_code}, vb_types.specs.declared.change.Change.{Change as ChangeData}, vb_types.specs.declared.write.Write.{Write as WriteData}};
-ghost use Rattle.{vb_types.specs.declared.doc.Doc.{Doc as DocData}, vb_events.specs.declared.event.Event.TheVariants.{Changed}, vb_types.specs.declared.status.Status.{Status as Said}};
+ghost use Rattle.{vb_types.specs.declared.doc.Doc.{Doc as DocData}, vb_events.specs.declared.event.Event.TheVariants.{Changed, Closed}, vb_types.specs.declared.status.Status.{Status as Said}};
 
 /// Whatever replies of the right form come, each frame that asks gets one answer, in order, which
 /// repeats its opcode and opaque; behind these a fault closes the connection. The frames are served
@@ -194,4 +197,22 @@ pub fn requests_ask_for_just_that()
     ensures durable { (clock : ℕ) (f : Framed) (write : WriteData) (wish : Wish) (s : Served) → s.session.used < 2 ^ 32 - 1
         → AsksFirst f.vb_or_status (calls.Durable write clock wish.level (deadline_of clock wish.timeout) (next_waiter s.session))
         (request_served clock f (Ok (Write write (Some wish))) s) }
+{}
+
+/// A connection begins open, with nothing asked for by HELLO, without bytes and without a wait. Of HELLO
+/// the two features that change answers are set, each by its own, and all others change nothing.
+pub fn connections_begin_bare()
+    ensures open_one { (who : Named) → ((new_session who).closed ≡ false) × ((new_session who).reader ≡ []) × ((new_session who).who ≡ who) }
+    ensures bare { (who : Named) → ((new_session who).settings.json ≡ false) × ((new_session who).settings.seqnos ≡ false) }
+    ensures waits { (who : Named) → ((new_session who).used ≡ 0) × ((new_session who).awaited ≡ None) }
+    ensures set { (settings_of (chosen.Json ∷ []) ≡ record { json = true; seqnos = false }) × (settings_of (chosen.MutationSeqnos ∷ []) ≡ record { json = false; seqnos = true }) }
+    ensures both { settings_of (chosen.AltRequests ∷ chosen.MutationSeqnos ∷ chosen.SyncReplication ∷ chosen.Json ∷ []) ≡ record { json = true; seqnos = true } }
+    ensures others { (settings_of (chosen.AltRequests ∷ chosen.SyncReplication ∷ []) ≡ record { json = false; seqnos = false }) × (settings_of [] ≡ record { json = false; seqnos = false }) }
+{}
+
+/// A fault closes a connection, which keeps no bytes then; where there is none it stays as it is.
+pub fn faults_close()
+    ensures closed { (fault : FaultData) (s : Served) → (ended_at (Some fault) s).session ≡ record s.session { reader = []; closed = true } }
+    ensures stays { (s : Served) → ended_at None s ≡ s }
+    ensures unnamed { fault_lines 3 7 None ≡ Closed 3 7 ∷ [] }
 {}

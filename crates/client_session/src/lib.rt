@@ -10,10 +10,11 @@ mod session;
 
 use connection::Connection;
 pub use laws::{
-    closed_connections_are_silent, cut_frames_are_not_answered, deadlines_in_numbers,
-    durable_writes_are_told, frames_wait_behind, greetings_replace, hidden_datatype,
-    histories_are_answered, outcomes_are_told, pieces_do_not_matter, refusals_are_told,
-    requests_are_answered, requests_ask_for_just_that, waits_have_numbers, writes_are_told,
+    closed_connections_are_silent, connections_begin_bare, cut_frames_are_not_answered,
+    deadlines_in_numbers, durable_writes_are_told, faults_close, frames_wait_behind,
+    greetings_replace, hidden_datatype, histories_are_answered, outcomes_are_told,
+    pieces_do_not_matter, refusals_are_told, requests_are_answered, requests_ask_for_just_that,
+    waits_have_numbers, writes_are_told,
 };
 pub use session::{Awaited, Session, SessionStep, Settings, Who};
 
