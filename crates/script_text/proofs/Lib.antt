@@ -16,3 +16,4 @@ pub mod Tellings
 pub mod Fitting
 mod Wordings
 pub mod Printed
+mod Letters

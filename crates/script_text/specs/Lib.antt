@@ -8,3 +8,4 @@ pub mod Fitting
 pub mod Ranges
 pub mod Wordings
 pub mod Printed
+pub mod Letters

@@ -12,6 +12,7 @@ ghost use Rattle.script_text.specs.Transcript.{hex_text, print_of};
 ghost use Rattle.vb_events.specs.declared.event.Group.{Group};
 ghost use Rattle.script_text.specs.Scripts.{line_said, IsScript, FirstBad};
 ghost use Rattle.script_text.specs.Wordings.{LevelsInWords, ActsInWords, DurablesAreTold, ChainsInWords, ChainsAreRead, ChainsAreRefused, AcknowledgementsAreTold, SavingInWords, SavingIsTold, StopsInWords, StopsAreTold, StopsAreRead, StopsAreRefused};
+ghost use Rattle.script_text.specs.Letters.{ChangesInLetters, GroupsInLetters, StreamsInLetters, WordsInLetters};
 ghost use Rattle.script_text.specs.Printed.{CausesInLetters, LinesInLetters};
 ghost use Rattle.script_text.specs.declared.script.Said.TheVariants as said;
 ghost use Rattle.script_text.specs.declared.verb.Verb.{Verb};
@@ -117,4 +118,18 @@ pub fn print_tells()
 pub fn transcripts_in_letters()
     ensures causes { CausesInLetters }
     ensures lines { LinesInLetters }
+{}
+
+/// Lines of changes, of requests for streams, of logs and of answers to clients, and the words of roles,
+/// acts and ends, letter by letter.
+pub fn streams_in_letters()
+    ensures changes { ChangesInLetters }
+    ensures streams { StreamsInLetters }
+    ensures words { WordsInLetters }
+{}
+
+/// A line's number comes first, then what happened in its order, then the answer; and the groups stand in
+/// their order.
+pub fn groups_in_letters()
+    ensures { GroupsInLetters }
 {}
