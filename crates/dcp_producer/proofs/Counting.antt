@@ -25,6 +25,8 @@ use Rattle.vb_calls.specs.Programs.{Prog, Done, Call, Turn, More, Stop, go_on, r
 use Rattle.vb_calls.proofs.Conduct.{always_bind, always_so}
 use Rattle.dcp_producer.specs.declared.halt.Halt.{Halt}
 use Rattle.dcp_producer.specs.declared.halt.Halt.TheVariants as halt
+use Rattle.dcp_producer.specs.declared.halt.NoSnapshot.{NoSnapshot}
+use Rattle.dcp_producer.specs.declared.halt.NoSnapshot.TheVariants as no_snapshot
 use Rattle.dcp_producer.specs.Producers.{PlainStream, PlainProducer, Served, begun}
 use Rattle.dcp_producer.specs.Pulling.{act_message, act_sent, item_line, put, past_item, with_snapshot, item_put, marker_flags, marker_put, STATE_CHANGED, snapshot_told, taken_put, take_next, take_unless, place_halt, place_asked, end_put, next_put, stream_put, frame_put, pulled, frames_put, counted_unless}
 use Rattle.dcp_producer.specs.Wanting.{standing, Stays}
@@ -35,20 +37,17 @@ use Rattle.dcp_producer.specs.Conduct.{TellsOf, Goes, Grew, CountsFrames}
 IsShort : Halt → Type 0
 IsShort halt.All = ⊥
 IsShort halt.Idle = Unit {0}
-IsShort halt.Absent = Unit {0}
 IsShort halt.Unput = Unit {0}
 IsShort halt.WaitSaved = Unit {0}
 
 -- so it was where no snapshot was given, or none taken
-ungiven_short : (h : Halt) → (h ≡ halt.Idle) ⊎ (h ≡ halt.Absent) → IsShort h
+idle_short : (h : Halt) → h ≡ halt.Idle → IsShort h
 unfolding IsShort
-ungiven_short h (inl is) = subst IsShort (sym is) tt
-ungiven_short h (inr is) = subst IsShort (sym is) tt
+idle_short h is = subst IsShort (sym is) tt
 
-halted_short : (reply : Option VbReply) (h : Halt) → IsHalted reply (Some h) → IsShort h
+waiting_short : (h : Halt) → h ≡ halt.WaitSaved → IsShort h
 unfolding IsShort
-halted_short reply h (inl is) = subst IsShort (sym is) tt
-halted_short reply h (inr (is, waits)) = subst IsShort (sym is) tt
+waiting_short h is = subst IsShort (sym is) tt
 
 short_not_all : (h : Halt) → IsShort h → h ≡ halt.All → ⊥
 unfolding IsShort
@@ -156,9 +155,16 @@ unfolding Turned IsShort
 item_turned s stream c None told is = (refl, tt)
 item_turned s stream c (Some m) told is = put_grew s stream (past_item c.seq stream) m (item_line s.end.desk c) is refl (item_tells s.end.desk.stream c c.act stream.opaque stream.vb m told)
 
-taken_turned : (s : Served) (stream : PlainStream) (taken : Result Snapshot Halt) → IsGiven taken → s.end.stream ≡ Some stream → Turned s (taken_put s stream taken)
+-- the stream's end
+end_grew : (s : Served) (stream : PlainStream) → Grew 1 s (end_put s stream)
+unfolding end_put dcp_frame
+end_grew s stream =
+    grew_one s (end_put s stream) (dcp_frame (msg.StreamEnd STATE_CHANGED) stream.opaque stream.vb) (event.Finished s.end.desk.stream STATE_CHANGED) (refl, refl) refl refl refl refl (refl, refl, inr refl)
+
+taken_turned : (s : Served) (stream : PlainStream) (taken : Result Snapshot NoSnapshot) → IsGiven taken → s.end.stream ≡ Some stream → Turned s (taken_put s stream taken)
 unfolding Turned marker_put dcp_frame
-taken_turned s stream (Err h) given is = (refl, ungiven_short h given)
+taken_turned s stream (Err no_snapshot.Lost) given is = end_grew s stream
+taken_turned s stream (Err (no_snapshot.Halted h)) given is = (refl, idle_short h given)
 taken_turned s stream (Ok snapshot) given is =
     put_grew s stream (with_snapshot stream snapshot) (msg.SnapshotMarker snapshot.start snapshot.end (marker_flags snapshot.disk))
     (event.Marked s.end.desk.stream snapshot.start snapshot.end (marker_flags snapshot.disk)) is refl (refl, refl)
@@ -167,15 +173,15 @@ module _ (s : Served) (stream : PlainStream) (is : s.end.stream ≡ Some stream)
   take_turned : Always AnyCall (Turned s) (take_next s stream)
   take_turned = (tt, λ reply any. taken_turned s stream (snapshot_told reply) (reply_given reply) is)
 
-  place_turned : (reply : Option VbReply) (o : Option Halt) → IsHalted reply o → Always AnyCall (Turned s) (take_unless s stream o)
+  place_turned : (reply : Option VbReply) (o : Option NoSnapshot) → IsHalted reply o → Always AnyCall (Turned s) (take_unless s stream o)
   unfolding Turned
   place_turned reply None is = take_turned
-  place_turned reply (Some h) is = (refl, halted_short reply h is)
+  place_turned reply (Some no_snapshot.Lost) is = end_grew s stream
+  place_turned reply (Some (no_snapshot.Halted h)) (is, waits) = (refl, waiting_short h is)
 
   more_turned : (ended : Bool) → Always AnyCall (Turned s) (if ended then Done (More (end_put s stream)) else place_asked s stream)
-  unfolding Turned end_put dcp_frame
-  more_turned true =
-      grew_one s (end_put s stream) (dcp_frame (msg.StreamEnd STATE_CHANGED) stream.opaque stream.vb) (event.Finished s.end.desk.stream STATE_CHANGED) (refl, refl) refl refl refl refl (refl, refl, inr refl)
+  unfolding Turned
+  more_turned true = end_grew s stream
   more_turned false = (tt, λ reply any. place_turned reply (place_halt reply) (reply_halted reply))
 
   next_turned : (item : Option Change) → Always AnyCall (Turned s) (next_put s stream item)

@@ -1,8 +1,10 @@
 pub mod Acknowledging
+mod Calling
 pub mod Counting
 mod Durables
 pub mod EndedStreams
 pub mod Handshaking
+mod Losing
 pub mod Naming
 pub mod Placing
 pub mod Rising

@@ -14,8 +14,10 @@ use Rattle.vb_types.specs.declared.stream.Snapshot.{Snapshot}
 use Rattle.vb_calls.specs.Programs.{Done, Turn, More, Stop, go_on, repeated, AnyReply, AnyCall, Always}
 use Rattle.vb_calls.proofs.Conduct.{always_bind, always_so}
 use Rattle.dcp_producer.specs.declared.halt.Halt.{Halt}
+use Rattle.dcp_producer.specs.declared.halt.NoSnapshot.{NoSnapshot}
+use Rattle.dcp_producer.specs.declared.halt.NoSnapshot.TheVariants as no_snapshot
 use Rattle.dcp_producer.specs.Producers.{PlainStream, Served}
-use Rattle.dcp_producer.specs.Pulling.{act_message, item_line, put, past_item, with_snapshot, item_put, marker_flags, marker_put, STATE_CHANGED, snapshot_told, taken_put, take_unless, place_halt, place_asked, end_put, next_put, stream_put, frame_put, pulled, frames_put}
+use Rattle.dcp_producer.specs.Pulling.{act_message, item_line, put, past_item, with_snapshot, item_put, marker_flags, marker_put, STATE_CHANGED, snapshot_told, halted_put, taken_put, take_unless, place_halt, place_asked, end_put, next_put, stream_put, frame_put, pulled, frames_put}
 use Rattle.dcp_producer.specs.Counting.{item_seq, greatest_told, TellsUp, ReachesTold}
 
 -- one line more
@@ -47,22 +49,30 @@ item_up s stream c (Some m) is = put_up s stream (past_item c.seq stream) m (ite
 level : (n : ℕ) → n ≡ max n 0
 level n = sym (max-eq_left (omega arith))
 
-taken_up : (s : Served) (stream : PlainStream) (taken : Result Snapshot Halt) → s.end.stream ≡ Some stream → TurnedUp s (taken_put s stream taken)
+-- behind the stream's end there is none
+end_up : (s : Served) (stream : PlainStream) → s.end.stream ≡ Some stream → TurnedUp s (More (end_put s stream))
+unfolding TurnedUp end_put
+end_up s stream is = (stream, event.Finished s.end.desk.stream STATE_CHANGED, is, refl, λ t there. absurd (no_stream t there))
+
+halted_up : (s : Served) (stream : PlainStream) (none : NoSnapshot) → s.end.stream ≡ Some stream → TurnedUp s (halted_put s stream none)
+unfolding TurnedUp
+halted_up s stream no_snapshot.Lost is = end_up s stream is
+halted_up s stream (no_snapshot.Halted h) is = refl
+
+taken_up : (s : Served) (stream : PlainStream) (taken : Result Snapshot NoSnapshot) → s.end.stream ≡ Some stream → TurnedUp s (taken_put s stream taken)
 unfolding TurnedUp marker_put
-taken_up s stream (Err h) is = refl
+taken_up s stream (Err none) is = halted_up s stream none is
 taken_up s stream (Ok snapshot) is =
     put_up s stream (with_snapshot stream snapshot) (msg.SnapshotMarker snapshot.start snapshot.end (marker_flags snapshot.disk))
     (event.Marked s.end.desk.stream snapshot.start snapshot.end (marker_flags snapshot.disk)) is (level stream.reached)
 
 module _ (s : Served) (stream : PlainStream) (is : s.end.stream ≡ Some stream) where
-  place_up : (o : Option Halt) → Always AnyCall (TurnedUp s) (take_unless s stream o)
-  unfolding TurnedUp
+  place_up : (o : Option NoSnapshot) → Always AnyCall (TurnedUp s) (take_unless s stream o)
   place_up None = (tt, λ reply any. taken_up s stream (snapshot_told reply) is)
-  place_up (Some h) = refl
+  place_up (Some none) = halted_up s stream none is
 
   more_up : (ended : Bool) → Always AnyCall (TurnedUp s) (if ended then Done (More (end_put s stream)) else place_asked s stream)
-  unfolding TurnedUp end_put
-  more_up true = (stream, event.Finished s.end.desk.stream STATE_CHANGED, is, refl, λ t there. absurd (no_stream t there))
+  more_up true = end_up s stream is
   more_up false = (tt, λ reply any. place_up (place_halt reply))
 
   next_up : (item : Option Change) → Always AnyCall (TurnedUp s) (next_put s stream item)

@@ -11,25 +11,13 @@ use Rattle.vb_calls.specs.declared.calls.VbReply.{VbReply}
 use Rattle.vb_calls.specs.Programs.{Prog, Done, Call, bind, Made, Told, Turn, More, Stop, go_on, repeated}
 use Rattle.dcp_producer.specs.declared.halt.Halt.{Halt}
 use Rattle.dcp_producer.specs.declared.halt.Halt.TheVariants as halt
+use Rattle.dcp_producer.specs.declared.halt.NoSnapshot.{NoSnapshot}
+use Rattle.dcp_producer.specs.declared.halt.NoSnapshot.TheVariants as no_snapshot
 use Rattle.dcp_producer.specs.Producers.{PlainStream, Served}
 use Rattle.dcp_producer.specs.Pulling.{act_message, item_put, snapshot_told, taken_put, halt_at, place_halt, take_unless, place_asked, end_put, next_put, stream_put, frame_put, pulled, frames_put, why_of}
 use Rattle.dcp_producer.specs.Conduct.{SaysWait, IsToldToWait, WaitsAsTold, WaitsBehind}
+use Rattle.dcp_producer.proofs.Calling.{told_bind, told_both}
 use Rattle.dcp_producer.proofs.Tellings.{IsGiven, reply_given, IsHalted, reply_halted}
-
--- ---- what a program made that is one after another
-
-told_bind : {A B : Type 0} (prog : Prog A) (k : A → Prog B) (made : List Made) (b : B) → Told (bind prog k) made b
-    → (a : A) × (first : List Made) × (rest : List Made) × (made ≡ first ++ rest) × Told prog first a × Told (k a) rest b
-told_bind (Done a) k made b told = (a, [], made, refl, refl, told)
-told_bind (Call v call next) k [] b told = elim told [ ]
-told_bind (Call v call next) k (m ∷ made) b (at, is, told) =
-    let (a, first, rest, e, before, after) = told_bind (next m.2) k made b told in (a, m ∷ first, rest, ap (λ ms. m ∷ ms) e, (at, is, before), after)
-
-told_both : {A B : Type 0} (prog : Prog A) (k : A → Prog B) (first rest : List Made) (a : A) (b : B) → Told prog first a → Told (k a) rest b → Told (bind prog k) (first ++ rest) b
-told_both (Done x) k (m ∷ first) rest a b is after = elim is [ ]
-told_both (Call v call next) k [] rest a b is after = elim is [ ]
-told_both (Done x) k [] rest a b is after = subst (λ y. Told (k y) rest b) is after
-told_both (Call v call next) k (m ∷ first) rest a b (at, is, before) after = (at, is, told_both (next m.2) k first rest a b before after)
 
 -- ---- calls that end with the answer that the stream waits
 
@@ -72,9 +60,6 @@ never_waits turn left goes is = subst GoesOn is goes refl
 not_idle : halt.Idle ≡ halt.WaitSaved → ⊥
 not_idle is = absurd (cc is)
 
-not_absent : halt.Absent ≡ halt.WaitSaved → ⊥
-not_absent is = absurd (cc is)
-
 not_unput : halt.Unput ≡ halt.WaitSaved → ⊥
 not_unput is = absurd (cc is)
 
@@ -86,19 +71,23 @@ item_goes : (s : Served) (stream : PlainStream) (c : Change) (m : Option DcpMsg)
 item_goes s stream c None = not_unput
 item_goes s stream c (Some m) = tt
 
-taken_goes : (s : Served) (stream : PlainStream) (taken : Result Snapshot Halt) → IsGiven taken → GoesOn (taken_put s stream taken)
+taken_goes : (s : Served) (stream : PlainStream) (taken : Result Snapshot NoSnapshot) → IsGiven taken → GoesOn (taken_put s stream taken)
 taken_goes s stream (Ok snapshot) given = tt
-taken_goes s stream (Err h) (inl is) = λ waits. not_idle (sym is ∙ waits)
-taken_goes s stream (Err h) (inr is) = λ waits. not_absent (sym is ∙ waits)
+taken_goes s stream (Err no_snapshot.Lost) given = tt
+taken_goes s stream (Err (no_snapshot.Halted h)) is = λ waits. not_idle (sym is ∙ waits)
 
 no_place : (id n : ℕ) (c : VbCall) → c ≡ call.Take id → c ≡ call.Place n → ⊥
 no_place id n c is other = let e : call.Take id ≡ call.Place n = sym is ∙ other in absurd (cc e)
 
-said_so : (reply : Option VbReply) → SaysWait reply → place_halt reply ≡ Some halt.WaitSaved
+said_so : (reply : Option VbReply) → SaysWait reply → place_halt reply ≡ Some (no_snapshot.Halted halt.WaitSaved)
 said_so reply (r, is, waits) = ap place_halt is ∙ ap halt_at waits
 
-same_halt : (h g : Halt) → Some h ≡ Some g → h ≡ g
+same_halt : (h g : Halt) → Some (no_snapshot.Halted h) ≡ Some (no_snapshot.Halted g) → h ≡ g
 same_halt h g is = cc is
+
+-- a stream that its vBucket lost does not wait there
+not_lost : Some no_snapshot.Lost ≡ Some (no_snapshot.Halted halt.WaitSaved) → ⊥
+not_lost is = absurd (cc is)
 
 same_stop : (s left : Served) (h g : Halt) → (let p : Turn Served (Served × Halt) = Stop (s, h) in let q : Turn Served (Served × Halt) = Stop (left, g) in p ≡ q) → (s ≡ left) × (h ≡ g)
 same_stop s left h g is =
@@ -108,24 +97,28 @@ same_stop s left h g is =
     (ap (λ p. p.0) pair, ap (λ p. p.1) pair)
 
 module _ (s : Served) (stream : PlainStream) (there : s.end.stream ≡ Some stream) where
-  halted_waits : (m : Made) (h : Halt) → m.0 ≡ stream.vb → m.1 ≡ call.Place s.end.desk.id → (h ≡ halt.Absent) ⊎ ((h ≡ halt.WaitSaved) × SaysWait m.2) → h ≡ halt.WaitSaved → IsToldToWait s (m ∷ [])
-  halted_waits m h at called (inl absent) is = absurd (not_absent (sym absent ∙ is))
-  halted_waits m h at called (inr (waits, says)) is = (stream, m.2, there, (λ i. (at i, called i, m.2) ∷ []), says)
+  halted_waits : (m : Made) → m.0 ≡ stream.vb → m.1 ≡ call.Place s.end.desk.id → SaysWait m.2 → IsToldToWait s (m ∷ [])
+  halted_waits m at called says = (stream, m.2, there, (λ i. (at i, called i, m.2) ∷ []), says)
 
-  answered_waits : (m : Made) (rest : List Made) (turn : Turn Served (Served × Halt)) (o : Option Halt) → m.0 ≡ stream.vb → m.1 ≡ call.Place s.end.desk.id → place_halt m.2 ≡ o → IsHalted m.2 o
+  answered_waits : (m : Made) (rest : List Made) (turn : Turn Served (Served × Halt)) (o : Option NoSnapshot) → m.0 ≡ stream.vb → m.1 ≡ call.Place s.end.desk.id → place_halt m.2 ≡ o → IsHalted m.2 o
       → Told (take_unless s stream o) rest turn → WaitsSo s (m ∷ rest) turn
   answered_waits m [] turn None at called is halted come = elim come [ ]
   answered_waits m (n ∷ k ∷ more) turn None at called is halted (taken_at, taken, come) = elim come [ ]
-  answered_waits m (n ∷ more) turn (Some h) at called is halted come = elim come [ ]
+  answered_waits m (n ∷ more) turn (Some none) at called is halted come = elim come [ ]
   answered_waits m (n ∷ []) turn None at called is halted (taken_at, taken, come) = record {
     ends = λ ends. absurd (no_place s.end.desk.id ends.0.0 n.1 taken ends.0.1);
     waits = λ left so. absurd (never_waits (taken_put s stream (snapshot_told n.2)) left (taken_goes s stream (snapshot_told n.2) (reply_given n.2)) (sym come ∙ so));
     alone = λ first more e says.
-        let same : m ≡ first = cc in let none : None ≡ Some halt.WaitSaved = sym is ∙ said_so m.2 (subst (λ (x : Made). SaysWait x.2) (sym same) says) in cc;
+        let same : m ≡ first = cc in let none : None ≡ Some (no_snapshot.Halted halt.WaitSaved) = sym is ∙ said_so m.2 (subst (λ (x : Made). SaysWait x.2) (sym same) says) in cc;
   }
-  answered_waits m [] turn (Some h) at called is halted come = record {
+  answered_waits m [] turn (Some no_snapshot.Lost) at called is halted come = record {
+    ends = λ ends. absurd (not_lost (sym is ∙ said_so m.2 ends.1));
+    waits = λ left so. absurd (never_waits (More (end_put s stream)) left tt (sym come ∙ so));
+    alone = λ first more e says. sym (ap (drop 1) e);
+  }
+  answered_waits m [] turn (Some (no_snapshot.Halted h)) at called is halted come = record {
     ends = λ ends. come ∙ ap (λ (g : Halt). Stop (s, g)) (same_halt h halt.WaitSaved (sym is ∙ said_so m.2 ends.1));
-    waits = λ left so. let same = same_stop s left h halt.WaitSaved (sym come ∙ so) in (sym same.0, halted_waits m h at called halted same.1);
+    waits = λ left so. let same = same_stop s left h halt.WaitSaved (sym come ∙ so) in (sym same.0, halted_waits m at called halted.1);
     alone = λ first more e says. sym (ap (drop 1) e);
   }
 
@@ -266,6 +259,5 @@ pull_waits k s made left h told =
 pub line_waits : (h : Halt) → (why_of h ≡ why.WaitSaved) ↔ (h ≡ halt.WaitSaved)
 line_waits halt.All = (λ is. absurd (cc is), λ is. absurd (cc is))
 line_waits halt.Idle = (λ is. absurd (cc is), λ is. absurd (cc is))
-line_waits halt.Absent = (λ is. absurd (cc is), λ is. absurd (cc is))
 line_waits halt.Unput = (λ is. absurd (cc is), λ is. absurd (cc is))
 line_waits halt.WaitSaved = (λ is. refl, λ is. refl)

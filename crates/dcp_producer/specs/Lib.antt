@@ -8,3 +8,4 @@ pub mod Conduct
 pub mod Counting
 pub mod Taking
 pub mod Rows
+pub mod Losing

@@ -27,6 +27,8 @@ use Rattle.vb_calls.specs.Programs.{Prog, Done, Call, bind, Turn, More, Stop, re
 use Rattle.dcp_producer.specs.declared.desk.Desk.{Desk}
 use Rattle.dcp_producer.specs.declared.halt.Halt.{Halt}
 use Rattle.dcp_producer.specs.declared.halt.Halt.TheVariants as halt
+use Rattle.dcp_producer.specs.declared.halt.NoSnapshot.{NoSnapshot}
+use Rattle.dcp_producer.specs.declared.halt.NoSnapshot.TheVariants as no_snapshot
 use Rattle.dcp_producer.specs.declared.halt.Turned.{Turned}
 use Rattle.dcp_producer.specs.declared.halt.Turned.TheVariants as turned
 use Rattle.dcp_producer.specs.Producers.{PlainStream, Served}
@@ -35,7 +37,6 @@ use Rattle.dcp_producer.specs.Producers.{PlainStream, Served}
 abbrev pub why_of : Halt → Why
 why_of halt.All = why.All
 why_of halt.Idle = why.Idle
-why_of halt.Absent = why.Idle
 why_of halt.Unput = why.Idle
 why_of halt.WaitSaved = why.WaitSaved
 
@@ -147,47 +148,7 @@ unfoldable pub marker_put : Served → PlainStream → Snapshot → Served
 marker_put s stream snapshot =
     put s (with_snapshot stream snapshot) (msg.SnapshotMarker snapshot.start snapshot.end (marker_flags snapshot.disk)) (event.Marked s.end.desk.stream snapshot.start snapshot.end (marker_flags snapshot.disk))
 
--- the snapshot of an answer, or why there is none
-abbrev pub told_snapshot : VbAnswer → Result Snapshot Halt
-told_snapshot (answer.Taken snapshot) = Ok snapshot
-told_snapshot answer.Nothing = Err halt.Idle
-told_snapshot other = Err halt.Absent
-
--- the snapshot that the vBucket gave, or why it gave none
-abbrev pub snapshot_told : Option VbReply → Result Snapshot Halt
-snapshot_told None = Err halt.Absent
-snapshot_told (Some reply) = told_snapshot reply.answer
-
--- the marker of a snapshot, if there is one
-abbrev pub taken_put : Served → PlainStream → Result Snapshot Halt → Turn Served (Served × Halt)
-taken_put s stream (Err halted) = Stop (s, halted)
-taken_put s stream (Ok snapshot) = More (marker_put s stream snapshot)
-
--- the vBucket is asked for the next snapshot
-abbrev pub take_next : Served → PlainStream → Prog (Turn Served (Served × Halt))
-take_next s stream = Call stream.vb (call.Take s.end.desk.id) (λ reply. Done (taken_put s stream (snapshot_told reply)))
-
--- why no snapshot is taken now, if the vBucket told a place or that it has no such stream: its next changes are not all in memory
-abbrev pub halt_at : VbAnswer → Option Halt
-halt_at (answer.Placed place.Memory) = None
-halt_at (answer.Placed place.WaitSaved) = Some halt.WaitSaved
-halt_at other = Some halt.Absent
-
--- the same of a reply
-abbrev pub place_halt : Option VbReply → Option Halt
-place_halt None = Some halt.Absent
-place_halt (Some reply) = halt_at reply.answer
-
--- the next snapshot is taken, unless there is a reason not to
-abbrev pub take_unless : Served → PlainStream → Option Halt → Prog (Turn Served (Served × Halt))
-take_unless s stream None = take_next s stream
-take_unless s stream (Some halted) = Done (Stop (s, halted))
-
--- where the stream's next changes come from is known
-abbrev pub place_told : Served → PlainStream → Option VbReply → Prog (Turn Served (Served × Halt))
-place_told s stream reply = take_unless s stream (place_halt reply)
-
--- the reason of a stream's end: its vBucket changed its role
+-- the reason of a stream's end: its vBucket changed its role, or is gone
 abbrev pub STATE_CHANGED : ℕ
 STATE_CHANGED = 2
 
@@ -200,6 +161,51 @@ end_put s stream = record {
   count = s.count + 1;
   resolved = s.resolved;
 }
+
+-- the snapshot of an answer, or why there is none: that there is none yet, or that the vBucket knows nothing of the stream
+abbrev pub told_snapshot : VbAnswer → Result Snapshot NoSnapshot
+told_snapshot (answer.Taken snapshot) = Ok snapshot
+told_snapshot answer.Nothing = Err (no_snapshot.Halted halt.Idle)
+told_snapshot other = Err no_snapshot.Lost
+
+-- the snapshot that the vBucket gave, or why it gave none
+abbrev pub snapshot_told : Option VbReply → Result Snapshot NoSnapshot
+snapshot_told None = Err no_snapshot.Lost
+snapshot_told (Some reply) = told_snapshot reply.answer
+
+-- a stream that its vBucket lost ends as one that a change of role ended; one that is given no snapshot now puts nothing
+abbrev pub halted_put : Served → PlainStream → NoSnapshot → Turn Served (Served × Halt)
+halted_put s stream no_snapshot.Lost = More (end_put s stream)
+halted_put s stream (no_snapshot.Halted halted) = Stop (s, halted)
+
+-- the marker of a snapshot, if there is one
+abbrev pub taken_put : Served → PlainStream → Result Snapshot NoSnapshot → Turn Served (Served × Halt)
+taken_put s stream (Err none) = halted_put s stream none
+taken_put s stream (Ok snapshot) = More (marker_put s stream snapshot)
+
+-- the vBucket is asked for the next snapshot
+abbrev pub take_next : Served → PlainStream → Prog (Turn Served (Served × Halt))
+take_next s stream = Call stream.vb (call.Take s.end.desk.id) (λ reply. Done (taken_put s stream (snapshot_told reply)))
+
+-- why no snapshot is taken now, if the vBucket told that the next changes are not all in memory, or that it knows nothing of the stream
+abbrev pub halt_at : VbAnswer → Option NoSnapshot
+halt_at (answer.Placed place.Memory) = None
+halt_at (answer.Placed place.WaitSaved) = Some (no_snapshot.Halted halt.WaitSaved)
+halt_at other = Some no_snapshot.Lost
+
+-- the same of a reply
+abbrev pub place_halt : Option VbReply → Option NoSnapshot
+place_halt None = Some no_snapshot.Lost
+place_halt (Some reply) = halt_at reply.answer
+
+-- the next snapshot is taken, unless there is a reason not to
+abbrev pub take_unless : Served → PlainStream → Option NoSnapshot → Prog (Turn Served (Served × Halt))
+take_unless s stream None = take_next s stream
+take_unless s stream (Some none) = Done (halted_put s stream none)
+
+-- where the stream's next changes come from is known
+abbrev pub place_told : Served → PlainStream → Option VbReply → Prog (Turn Served (Served × Halt))
+place_told s stream reply = take_unless s stream (place_halt reply)
 
 -- the vBucket is asked where the stream's next changes come from
 abbrev pub place_asked : Served → PlainStream → Prog (Turn Served (Served × Halt))

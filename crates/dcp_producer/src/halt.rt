@@ -1,4 +1,4 @@
-//! Why a producer puts no more frames.
+//! Why a producer takes no snapshot, and why it puts no more frames.
 ghost use Rattle.std.specs.Prelude.{◌≡◌};
 ghost use Rattle.dcp_producer.specs.Pulling.{why_of};
 
@@ -11,12 +11,18 @@ pub enum Halt {
     All,
     /// The connection has no stream, or its vBucket has no snapshot for it yet.
     Idle,
-    /// The vBucket has no such stream.
-    Absent,
     /// The next change has no message.
     Unput,
     /// The stream's next changes are not all in memory; it waits until they are saved.
     WaitSaved,
+}
+
+/// Why no snapshot is taken.
+pub enum NoSnapshot {
+    /// The vBucket is absent, or knows nothing of the stream.
+    Lost,
+    /// There is none now.
+    Halted(Halt),
 }
 
 /// What a turn comes to.
@@ -36,7 +42,7 @@ impl Halt {
     {
         match self {
             Halt::All => Why::All,
-            Halt::Idle | Halt::Absent | Halt::Unput => Why::Idle,
+            Halt::Idle | Halt::Unput => Why::Idle,
             Halt::WaitSaved => Why::WaitSaved,
         }
     }

@@ -10,6 +10,7 @@ ghost use Rattle.{mcbp_dcp.specs.Messages.{read_of}, mcbp_dcp.specs.declared.mes
 ghost use Rattle.{mcbp_dcp.specs.declared.message.DcpMsg.TheVariants.{Control, Open, SeqnoAcknowledged}, mcbp_frame.specs.declared.frame.Frame.{Frame as FrameData}};
 ghost use Rattle.{mcbp_frame.specs.declared.frame.TheConstants.{RESPONSE}, vb_calls.specs.Plain.{Plain}, vb_calls.specs.Programs.{AnyCall, Always, Done, Made, Told, Turn}, vb_calls.specs.States.{States}};
 ghost use Rattle.{mcbp_dcp.specs.DurableRows.{no_cas, no_times, prepare_bytes, resolution_bytes, some_value}, vb_types.specs.declared.doc.Doc.{Doc as DocData}};
+ghost use Rattle.dcp_producer.specs.Losing.{EndsAsLost, OverAsLost};
 ghost use Rattle.mcbp_dcp.specs.MessageRows.{deletion_bytes, end_bytes, marker_bytes, mutation_bytes, no_four};
 ghost use Rattle.{vb_types.specs.declared.change.Act.TheVariants.{Abort, Commit, Prepare, Remove, Set}, vb_types.specs.declared.change.Change.{Change as ChangeData}};
 ghost use Rattle.vb_types.specs.declared.change.Level.TheVariants.{MajorityPersistActive, PersistMajority};
@@ -40,6 +41,17 @@ pub fn waiting_streams_put_nothing()
     ensures pull { (frames : ℕ) (s : Served) (made : List Made) (left : Served) (halted : Halt)
         → Told (frames_put frames s) made (left, halted) → (halted ≡ WaitSaved) ↔ WaitsBehind frames s made left }
     ensures line { (halted : Halt) → (why_of halted ≡ SavedLine) ↔ (halted ≡ WaitSaved) }
+{}
+
+/// A stream whose vBucket is absent, or of which its vBucket knows nothing, ends as one that a change
+/// of role ended: the turn that is told so puts its end with reason 2, with its line, counts that one
+/// frame, and leaves no stream. No other turn ends a stream that no change of role ended. So behind a
+/// pull the end is told last, and nothing is waited for.
+pub fn lost_streams_end()
+    ensures turn { (s : Served) (stream : PlainStream) (made : List Made) (turn : Turn Served (Served × Halt)) → s.end.stream ≡ Some stream
+        → Told (frame_put s) made turn → EndsAsLost s stream made turn }
+    ensures pull { (frames : ℕ) (s : Served) (stream : PlainStream) (made : List Made) (left : Served) (halted : Halt) → s.end.stream ≡ Some stream
+        → Told (frames_put frames s) made (left, halted) → OverAsLost s stream made left halted }
 {}
 
 /// The marker of a snapshot has its start and its end, and the flag 1 for one from memory and 2 for one

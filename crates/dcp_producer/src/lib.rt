@@ -21,7 +21,7 @@ pub use desk::{Desk, Handshake, Named};
 pub use halt::Halt;
 pub use laws::{
     acknowledgements_are_weighed, controls_are_known, durable_writes_are_put,
-    durable_writes_in_bytes, ended_streams_ask_nothing, frames_are_weighed,
+    durable_writes_in_bytes, ended_streams_ask_nothing, frames_are_weighed, lost_streams_end,
     markers_tell_their_source, members_are_named, opens_are_answered, others_are_einval,
     pulls_count_frames, requests_are_one_call, requests_are_refused_in_order,
     streams_reach_what_was_put, streams_take_their_own, waiting_streams_put_nothing,

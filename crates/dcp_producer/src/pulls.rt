@@ -1,9 +1,9 @@
 //! How a producer puts the frames of its stream.
 ghost use Rattle.std.specs.Prelude.{◌≡◌, slice_get, IfOk, IsSome, OnOk, OnErr, Some};
-ghost use Rattle.dcp_producer.specs.Pulling.{with_stream_back, came_to, counted_unless, act_message, act_sent, item_line, marker_flags, marker_put, with_line, take_next, end_put, place_asked, next_put, frame_put, frames_put};
+ghost use Rattle.dcp_producer.specs.Pulling.{with_stream_back, came_to, counted_unless, act_message, act_sent, item_line, marker_flags, marker_put, with_line, take_next, end_put, place_asked, halted_put, next_put, frame_put, frames_put};
 ghost use Rattle.{dcp_producer.specs.Wanting.{SameThere, Stays}, mcbp_dcp.specs.declared.message.DcpMsg.{DcpMsg as Message}, vb_calls.specs.Programs.{Ran, Began, More}};
 
-use crate::halt::Turned;
+use crate::halt::{NoSnapshot, Turned};
 use crate::messages::message_of;
 use crate::replies::{place_halt, snapshot_of};
 use crate::{ActiveStream, Alloc, Connection, Desk, Halt};
@@ -12,7 +12,7 @@ use vb_calls::{VbAccess, VbCall};
 use vb_events::{Event, ItemAct};
 use vb_types::{Act, Change, Snapshot};
 
-/// The reason of a stream's end, on the wire: its vBucket changed its role.
+/// The reason of a stream's end, on the wire: its vBucket changed its role, or is gone.
 const STATE_CHANGED: u32 = 2;
 
 /// The act as it is sent.
@@ -93,6 +93,17 @@ impl Connection {
         Ok(Turned::Ended)
     }
 
+    /// Puts the end of a stream that its vBucket lost; or says why it gives no snapshot now.
+    fn put_no_snapshot(&mut self, stream: &ActiveStream, none: NoSnapshot) -> Alloc<Turned>
+        ensures ok { IfOk result (λ turned. came_to turned self.new stream.now ≡ halted_put (with_stream_back self.old stream.now) stream.now none) }
+        ensures same { (self.new.end.desk ≡ self.old.end.desk) × (self.new.end.handshake ≡ self.old.end.handshake) }
+    {
+        match none {
+            NoSnapshot::Lost => self.put_end(stream),
+            NoSnapshot::Halted(halt) => Ok(Turned::Halted(halt)),
+        }
+    }
+
     /// Takes the next snapshot of the vBucket, if there is one, and puts its marker.
     fn put_snapshot<A: VbAccess>(&mut self, vbs: &mut A, stream: &mut ActiveStream) -> Alloc<Turned>
         ensures ok { IfOk result (λ turned. Ran A.step (take_next (with_stream_back self.old stream.old) stream.old) vbs.old (came_to turned self.new stream.new) vbs.new) }
@@ -100,7 +111,7 @@ impl Connection {
         ensures same { SameThere self.old stream.old self.new stream.new }
     {
         match snapshot_of(vbs.call(stream.vb, VbCall::Take { id: self.desk.id })?) {
-            Err(halt) => Ok(Turned::Halted(halt)),
+            Err(none) => self.put_no_snapshot(stream, none),
             Ok(snapshot) => self.put_marker(stream, snapshot),
         }
     }
@@ -111,14 +122,15 @@ impl Connection {
         ensures err { OnErr result (Began A.step (place_asked (with_stream_back self.old stream.old) stream.old) vbs.old vbs.new) }
         ensures same { SameThere self.old stream.old self.new stream.new }
     {
-        if let Some(halt) = place_halt(vbs.call(stream.vb, VbCall::Place { id: self.desk.id })?) {
-            return Ok(Turned::Halted(halt));
+        match place_halt(vbs.call(stream.vb, VbCall::Place { id: self.desk.id })?) {
+            Some(none) => self.put_no_snapshot(stream, none),
+            None => self.put_snapshot(vbs, stream),
         }
-        self.put_snapshot(vbs, stream)
     }
 
     /// Puts the stream's next frame: the next item of the snapshot, and behind the last one the end of
-    /// a stream that a change of role ended, or else the marker of the next snapshot.
+    /// a stream that a change of role ended or that its vBucket lost, or else the marker of the next
+    /// snapshot.
     #[tactic(auto, using(vb_calls::proofs::Runs::runs))]
     fn put_next<A: VbAccess>(&mut self, vbs: &mut A, stream: &mut ActiveStream) -> Alloc<Turned>
         ensures ok { IfOk result (λ turned. Ran A.step (next_put (with_stream_back self.old stream.old) stream.old (slice_get stream.old.items stream.old.next)) vbs.old (came_to turned self.new stream.new) vbs.new) }

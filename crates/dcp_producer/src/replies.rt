@@ -3,6 +3,7 @@ ghost use Rattle.std.specs.Prelude.{◌≡◌};
 ghost use Rattle.{std.specs.Option.{option_map}, dcp_producer.specs.Pulling.{halt_at, place_halt, snapshot_told}, dcp_producer.specs.Serving.{log_told, high_told, ask_verdict, refuse, verdict_with}};
 
 use crate::Halt;
+use crate::halt::NoSnapshot;
 use std::alloc::Global;
 use vb_calls::{VbAnswer, VbReply};
 use vb_types::{AskAnswer, Listed, LogEntry, Place, Snapshot, Status};
@@ -52,38 +53,38 @@ pub fn standing_of(alloc: Global, own: Option<Status>, reply: Option<VbReply>) -
 }
 
 /// Why no snapshot is taken now, by the answer that tells where the stream's next changes come from.
-fn halt_at(answer: &VbAnswer) -> Option<Halt>
+fn halt_at(answer: &VbAnswer) -> Option<NoSnapshot>
     ensures { result ≡ halt_at answer.now }
 {
     match answer {
         VbAnswer::Placed(Place::Memory) => None,
-        VbAnswer::Placed(Place::WaitSaved) => Some(Halt::WaitSaved),
-        _ => Some(Halt::Absent),
+        VbAnswer::Placed(Place::WaitSaved) => Some(NoSnapshot::Halted(Halt::WaitSaved)),
+        _ => Some(NoSnapshot::Lost),
     }
 }
 
 /// The same of a reply.
-pub fn place_halt(reply: Option<VbReply>) -> Option<Halt>
+pub fn place_halt(reply: Option<VbReply>) -> Option<NoSnapshot>
     ensures { result ≡ place_halt reply }
 {
     let halt = match &reply {
         Some(told) => halt_at(&told.answer),
-        None => Some(Halt::Absent),
+        None => Some(NoSnapshot::Lost),
     };
     drop(reply);
     halt
 }
 
 /// The snapshot that was given, or why none was.
-pub fn snapshot_of(reply: Option<VbReply>) -> Result<Snapshot, Halt>
+pub fn snapshot_of(reply: Option<VbReply>) -> Result<Snapshot, NoSnapshot>
     ensures { result ≡ snapshot_told reply }
 {
     match answer_of(reply) {
         Some(VbAnswer::Taken(snapshot)) => Ok(snapshot),
-        Some(VbAnswer::Nothing) => Err(Halt::Idle),
+        Some(VbAnswer::Nothing) => Err(NoSnapshot::Halted(Halt::Idle)),
         other => {
             drop(other);
-            Err(Halt::Absent)
+            Err(NoSnapshot::Lost)
         }
     }
 }

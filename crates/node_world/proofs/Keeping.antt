@@ -40,9 +40,11 @@ use Rattle.vb_calls.proofs.Conduct.{always_bind, after_always}
 use Rattle.dcp_producer.specs.declared.desk.Desk.{Desk}
 use Rattle.dcp_producer.specs.declared.desk.Handshake.{Handshake}
 use Rattle.dcp_producer.specs.declared.halt.Halt.{Halt}
+use Rattle.dcp_producer.specs.declared.halt.NoSnapshot.{NoSnapshot}
+use Rattle.dcp_producer.specs.declared.halt.NoSnapshot.TheVariants as no_snapshot
 use Rattle.dcp_producer.specs.Producers.{PlainStream, Served, begun}
 use Rattle.dcp_producer.specs.Serving.{status_sent, open_refusal, opened_unless, controlled, controlled_as, stream_answered, stream_request, message_answered, row_answered, read_answered, frame_answered, counted_by, count_answered, count_asked, acknowledged}
-use Rattle.dcp_producer.specs.Pulling.{item_put, marker_put, taken_put, place_asked, end_put, next_put, stream_put, frame_put, pulled, frames_put, place_halt, take_unless, snapshot_told, act_message}
+use Rattle.dcp_producer.specs.Pulling.{item_put, marker_put, halted_put, taken_put, place_asked, end_put, next_put, stream_put, frame_put, pulled, frames_put, place_halt, take_unless, snapshot_told, act_message}
 use Rattle.dcp_consumer.specs.declared.handshake.ConsumerStep.{ConsumerStep}
 use Rattle.dcp_consumer.specs.declared.handshake.ConsumerStep.TheVariants as step
 use Rattle.dcp_consumer.specs.declared.handshake.Dialed.{Dialed}
@@ -142,14 +144,19 @@ module _ (desk : Desk) where
   item_keeps s stream c None e = e
   item_keeps s stream c (Some m) e = e
 
-  taken_keeps : (s : Served) (stream : PlainStream) (o : Result Snapshot Halt) → At s → Turned (taken_put s stream o)
+  halted_keeps : (s : Served) (stream : PlainStream) (none : NoSnapshot) → At s → Turned (halted_put s stream none)
+  unfolding end_put
+  halted_keeps s stream no_snapshot.Lost e = e
+  halted_keeps s stream (no_snapshot.Halted halted) e = e
+
+  taken_keeps : (s : Served) (stream : PlainStream) (o : Result Snapshot NoSnapshot) → At s → Turned (taken_put s stream o)
   unfolding marker_put
-  taken_keeps s stream (Err halted) e = e
+  taken_keeps s stream (Err none) e = halted_keeps s stream none e
   taken_keeps s stream (Ok snapshot) e = e
 
-  place_keeps : (s : Served) (stream : PlainStream) (o : Option Halt) → At s → Always AnyCall Turned (take_unless s stream o)
+  place_keeps : (s : Served) (stream : PlainStream) (o : Option NoSnapshot) → At s → Always AnyCall Turned (take_unless s stream o)
   place_keeps s stream None e = (tt, λ reply formed. taken_keeps s stream (snapshot_told reply) e)
-  place_keeps s stream (Some halted) e = e
+  place_keeps s stream (Some none) e = halted_keeps s stream none e
 
   more_keeps : (s : Served) (stream : PlainStream) (b : Bool) → At s → Always AnyCall Turned (if b then Done (More (end_put s stream)) else place_asked s stream)
   unfolding end_put

@@ -1,22 +1,25 @@
 -- a producer's frames: each stream that a vBucket has more is the connection's own, which it keeps until that is over
-use Rattle.std.specs.Prelude.{◌≡◌, ◌∷◌, ◌++◌, ◌⊎◌, ◌==◌, ◌||◌, if◌then◌else◌}
-use Rattle.transcript_law.proofs.Words.{ℕ, zero, suc, Bool, true, false, List, [], refl, ap, sym, ◌∙◌, subst, inl, inr, ⊎_elim, Option, Some, None, Result, Ok, Err, is_some, slice_get, list_any, is_active, eqb-true, Frame, RESPONSE, Status, Change, Plain, VbReply, Stream, States, StreamAsk, Verdict, Continue, Roll}
-use Rattle.transcript_law.proofs.Words.{after, after_bind, Done, Prog, Turn, More, Stop, repeated, go_on, Halt, Handshake, DcpMsg, PlainProducer, PlainStream, Served, AskAnswer, rule, open_refusal, open_outcome, judged_open, id_refusal, first_reason, is_ranged, new_stream, stream_at, with_vb_at, call_at}
-use Rattle.transcript_law.proofs.Words.{frame_answered, read_answered, stream_request, stream_answered, status_sent, opened_unless, controlled, controlled_as, request_refusal, asked_id, verdict_with, ask_verdict, act_message, item_put, next_put, stream_put, taken_put, take_unless, snapshot_told, place_halt, pulled, frame_put, frames_put, end_put, marker_put}
+use Rattle.std.specs.Prelude.{◌≡◌, ◌∷◌, ◌++◌, ◌⊎◌, ◌==◌, ◌||◌, if◌then◌else◌, cond}
+use Rattle.transcript_law.proofs.Words.{ℕ, zero, suc, Bool, true, false, List, [], refl, ap, sym, ◌∙◌, subst, inl, inr, ⊎_elim, Option, Some, None, Result, Ok, Err, is_some, slice_get, list_any, is_active, eqb-true, eqb-false, Frame, RESPONSE, Status, Change, Plain, VbReply, Span, Stream, States, StreamAsk, Verdict, Continue, Roll}
+use Rattle.transcript_law.proofs.Words.{after, after_bind, Done, Prog, Turn, More, Stop, repeated, go_on, Halt, NoSnapshot, Handshake, DcpMsg, PlainProducer, PlainStream, Served, AskAnswer, rule, open_refusal, open_outcome, judged_open, id_refusal, first_reason, is_ranged, new_stream, stream_at, with_vb_at, call_at}
+use Rattle.transcript_law.proofs.Words.{frame_answered, read_answered, stream_request, stream_answered, status_sent, opened_unless, controlled, controlled_as, request_refusal, asked_id, verdict_with, ask_verdict, act_message, item_put, next_put, stream_put, halted_put, taken_put, take_unless, snapshot_told, place_halt, pulled, frame_put, frames_put, end_put, marker_put}
 use Rattle.transcript_law.proofs.invariant.Unopened.{NoNew, put_new, step_new}
 use Rattle.transcript_law.specs.Feeding.{Has, HasIn, IsOpenAt}
 use Rattle.dcp_producer.specs.Producers.{member_of, is_sync}
-use Rattle.dcp_producer.specs.Pulling.{place_asked}
+use Rattle.dcp_producer.specs.Pulling.{halt_at, place_asked, told_snapshot}
 use Rattle.dcp_producer.specs.Serving.{acknowledged, count_answered, count_asked, counted_by, message_answered, open_refusal as opening_refusal, row_answered, stream_of, weighed, with_stream}
 use Rattle.mcbp_dcp.specs.Messages.{read_of}
 use Rattle.mcbp_dcp.specs.Rows.{dcp_opcodes}
 use Rattle.mcbp_dcp.specs.declared.message.DcpFault.{DcpFault}
 use Rattle.mcbp_dcp.specs.declared.message.DcpMsg.TheVariants as msg
 use Rattle.vb_calls.specs.States.{states_step}
+use Rattle.vb_calls.specs.Spans.{all_spans}
+use Rattle.vb_calls.specs.Streams.{end_span, is_in_memory, place_reply, take_from, take_to}
 use Rattle.vb_calls.specs.declared.calls.VbAnswer.{VbAnswer}
 use Rattle.vb_calls.specs.declared.calls.VbAnswer.TheVariants as answer
 use Rattle.vb_calls.specs.declared.calls.VbCall.TheVariants as call
 use Rattle.vb_types.specs.Statuses.{status_code}
+use Rattle.vb_types.specs.declared.stream.Place.TheVariants.{Memory, WaitSaved}
 use Rattle.vb_types.specs.declared.stream.Snapshot.{Snapshot}
 
 -- all streams of vBuckets are others', or this connection's own
@@ -27,6 +30,47 @@ AreOwned others id states stream = (v k : ℕ) → HasIn (states v) k → others
 has_more : (new : Stream) (k : ℕ) (ss : List Stream) → Has (ss ++ new ∷ []) k → Has ss k ⊎ (new.id ≡ k)
 has_more new k [] h = ⊎_elim (λ e. inr e) (λ n. absurd n) h
 has_more new k (s ∷ ss) h = ⊎_elim (λ e. inl (inl e)) (λ j. ⊎_elim (λ i. inl (inr i)) (λ e. inr e) (has_more new k ss j)) h
+
+-- where none of a number is found, there is none
+has_none : (i : ℕ) (ss : List Stream) → stream_at i ss ≡ None → (k : ℕ) → Has ss k → k ≡ i → ⊥
+has_none i [] none k h e = absurd h
+has_none i (s ∷ ss) none k h e = by (has_none i ss) (s.id == i) refl
+  where
+    by : (stream_at i ss ≡ None → (j : ℕ) → Has ss j → j ≡ i → ⊥) → (b : Bool) → (s.id == i) ≡ b → ⊥
+    by rest true f = let z : Some s ≡ None = sym (ap (λ b. cond b (Some s) (stream_at i ss)) f) ∙ none in cc
+    by rest false f = ⊎_elim (λ q. eqb-false s.id i f (q ∙ e)) (λ r. rest (sym (ap (λ b. cond b (Some s) (stream_at i ss)) f) ∙ none) k r e) h
+
+-- a vBucket that knows nothing of a stream, or is absent, has none of its number
+module _ (states : States) (v i : ℕ) where
+  pub unplaced_none : place_halt (states_step states v (call.Place i)).1 ≡ Some NoSnapshot.Lost → (k : ℕ) → HasIn (states v) k → k ≡ i → ⊥
+  unplaced_none = by (states v)
+    where
+      told : (s : Stream) (b : Bool) → halt_at (answer.Placed (if b then Memory else WaitSaved)) ≡ Some NoSnapshot.Lost → Some s ≡ None
+      told s true is = cc
+      told s false is = cc
+
+      placed : (floor : ℕ) (o : Option Stream) → halt_at (place_reply floor o).answer ≡ Some NoSnapshot.Lost → o ≡ None
+      placed floor None is = refl
+      placed floor (Some s) is = told s (is_in_memory floor s) is
+
+      by : (o : Option Plain) → place_halt (call_at states v (call.Place i) o).1 ≡ Some NoSnapshot.Lost → (k : ℕ) → HasIn o k → k ≡ i → ⊥
+      by None lost k h e = absurd h
+      by (Some vb) lost k h e = has_none i vb.streams (placed vb.floor (stream_at i vb.streams) lost) k h e
+
+  pub untaken_none : snapshot_told (states_step states v (call.Take i)).1 ≡ Err NoSnapshot.Lost → (k : ℕ) → HasIn (states v) k → k ≡ i → ⊥
+  untaken_none = by (states v)
+    where
+      given : (vb : Plain) (s : Stream) (w : Option Span) → told_snapshot (take_to w s vb).1.answer ≡ Err NoSnapshot.Lost → Some s ≡ None
+      given vb s None is = cc
+      given vb s (Some w) is = cc
+
+      taken : (vb : Plain) (o : Option Stream) → told_snapshot (take_from o vb).1.answer ≡ Err NoSnapshot.Lost → o ≡ None
+      taken vb None is = refl
+      taken vb (Some s) is = given vb s (if is_in_memory vb.floor s then end_span s (all_spans vb.spans) vb.held else None) is
+
+      by : (o : Option Plain) → snapshot_told (call_at states v (call.Take i) o).1 ≡ Err NoSnapshot.Lost → (k : ℕ) → HasIn o k → k ≡ i → ⊥
+      by None lost k h e = absurd h
+      by (Some vb) lost k h e = has_none i vb.streams (taken vb (stream_at i vb.streams) lost) k h e
 
 module _ (others : ℕ → ℕ → Type 0) (id : ℕ) where
   abbrev Owned : States → Option PlainStream → Type 0
@@ -196,16 +240,28 @@ module _ (others : ℕ → ℕ → Type 0) (id : ℕ) where
     item_turns stream c None states e owned = (mine, subst (Owned states) (sym e) owned)
     item_turns stream c (Some m) states e owned = (mine, owned)
 
-    taken_turns : (stream : PlainStream) (o : Result Snapshot Halt) (states : States) → s.end.stream ≡ Some stream → Owned states (Some stream) → Turned (states, taken_put s stream o)
-    unfolding marker_put
-    taken_turns stream (Err halted) states e owned = (mine, subst (Owned states) (sym e) owned)
-    taken_turns stream (Ok snapshot) states e owned = (mine, owned)
+    -- the stream's vBucket has none of the connection's number
+    abbrev IsGone : PlainStream → States → Type 0
+    IsGone stream states = (k : ℕ) → HasIn (states stream.vb) k → k ≡ id → ⊥
 
-    take_turns : (stream : PlainStream) (o : Option Halt) (states : States) → s.end.stream ≡ Some stream → Owned states (Some stream) → Turned (after (take_unless s stream o) states)
-    take_turns stream (Some halted) states e owned = (mine, subst (Owned states) (sym e) owned)
-    take_turns stream None states e owned =
+    halted_turns : (stream : PlainStream) (none : NoSnapshot) (states : States) → s.end.stream ≡ Some stream → Owned states (Some stream) → (none ≡ NoSnapshot.Lost → IsGone stream states) → Turned (states, halted_put s stream none)
+    unfolding end_put
+    halted_turns stream NoSnapshot.Lost states e owned gone =
+        (mine, λ v k h. ⊎_elim (λ o. inl o) (λ own. absurd (gone refl k (subst (λ w. HasIn (states w) k) (sym own.1.0) h) own.0)) (owned v k h))
+    halted_turns stream (NoSnapshot.Halted halted) states e owned gone = (mine, subst (Owned states) (sym e) owned)
+
+    taken_turns : (stream : PlainStream) (o : Result Snapshot NoSnapshot) (states : States) → s.end.stream ≡ Some stream → Owned states (Some stream) → (o ≡ Err NoSnapshot.Lost → IsGone stream states) → Turned (states, taken_put s stream o)
+    unfolding marker_put
+    taken_turns stream (Err none) states e owned gone = halted_turns stream none states e owned (λ is. gone (λ i. Err (is i)))
+    taken_turns stream (Ok snapshot) states e owned gone = (mine, owned)
+
+    take_turns : (stream : PlainStream) (o : Option NoSnapshot) (states : States) → s.end.stream ≡ Some stream → Owned states (Some stream) → (o ≡ Some NoSnapshot.Lost → IsGone stream states) → Turned (after (take_unless s stream o) states)
+    take_turns stream (Some none) states e owned gone = halted_turns stream none states e owned (λ is. gone (ap Some is))
+    take_turns stream None states e owned gone =
         let step = states_step states stream.vb (call.Take s.end.desk.id) in
-        taken_turns stream (snapshot_told step.1) step.0 e (fewer states step.0 (Some stream) (step_new states stream.vb (call.Take s.end.desk.id) tt) owned)
+        let less = step_new states stream.vb (call.Take s.end.desk.id) tt in
+        taken_turns stream (snapshot_told step.1) step.0 e (fewer states step.0 (Some stream) less owned)
+        (λ lost k h own. untaken_none states stream.vb s.end.desk.id lost k (less stream.vb k h) (own ∙ sym mine))
 
     next_turns : (stream : PlainStream) (o : Option Change) (states : States) → s.end.stream ≡ Some stream → Owned states (Some stream) → Turned (after (next_put s stream o) states)
     unfolding end_put
@@ -216,7 +272,9 @@ module _ (others : ℕ → ℕ → Type 0) (id : ℕ) where
         by true over = (mine, λ v k h. ⊎_elim (λ o. inl o) (λ own. let z : true ≡ false = sym over ∙ own.1.1 in cc) (owned v k h))
         by false over =
             let step = states_step states stream.vb (call.Place s.end.desk.id) in
-            take_turns stream (place_halt step.1) step.0 e (fewer states step.0 (Some stream) (step_new states stream.vb (call.Place s.end.desk.id) tt) owned)
+            let less = step_new states stream.vb (call.Place s.end.desk.id) tt in
+            take_turns stream (place_halt step.1) step.0 e (fewer states step.0 (Some stream) less owned)
+            (λ lost k h own. unplaced_none states stream.vb s.end.desk.id lost k (less stream.vb k h) (own ∙ sym mine))
 
     stream_turns : (o : Option PlainStream) (states : States) → s.end.stream ≡ o → Owned states o → Turned (after (stream_put s o) states)
     stream_turns None states e owned = (mine, subst (Owned states) (sym e) owned)

@@ -1,7 +1,7 @@
 -- the calls of clients, of a producer, of an operator and of writing down are such that a vBucket stays sound at them, whatever is replied
 use Rattle.std.specs.Prelude.{◌≡◌, ◌<◌, ◌^◌, ◌==◌, if◌then◌else◌, nat_le, slice_get}
 use Rattle.std.specs.List.{list_any}
-use Rattle.transcript_law.proofs.Words.{ℕ, zero, suc, Bool, true, false, Option, Some, None, is_some, Result, Ok, Err, Frame, KvRequest, RESPONSE, Status, Change, DcpMsg, Halt, PlainStream, PlainProducer, AdminCall, VbCall, VbReply, DialTold, Prog, Call, Done, Turn, More, Stop, repeated, go_on, bind, Job, Ended, bind_job}
+use Rattle.transcript_law.proofs.Words.{ℕ, zero, suc, Bool, true, false, Option, Some, None, is_some, Result, Ok, Err, Frame, KvRequest, RESPONSE, Status, Change, DcpMsg, Halt, NoSnapshot, PlainStream, PlainProducer, AdminCall, VbCall, VbReply, DialTold, Prog, Call, Done, Turn, More, Stop, repeated, go_on, bind, Job, Ended, bind_job}
 use Rattle.transcript_law.proofs.Words.{request_served, frame_served, frame_answered, stream_request, read_answered, take_unless, place_halt, next_put, stream_put, end_put, frame_put, frames_put, pulled, end_closed, stream_closed, admin_call, peer_pulled}
 use Rattle.client_session.proofs.Conduct.{either}
 use Rattle.client_session.specs.Serving.{MOST_DURABLE, Served as Session, deadline_of, durable_called, next_waiter, refused}
@@ -117,9 +117,9 @@ peer_tame f peer = tame_bind (frame_answered f (begun peer.producer)) (λ s. Don
 -- ---- a producer that puts frames
 
 module _ (s : Served) (stream : PlainStream) where
-  place_tame : (o : Option Halt) → Tame (take_unless s stream o)
+  place_tame : (o : Option NoSnapshot) → Tame (take_unless s stream o)
   place_tame None = (tt, λ reply any. tt)
-  place_tame (Some halted) = tt
+  place_tame (Some none) = tt
 
   next_tame : (item : Option Change) → Tame (next_put s stream item)
   next_tame (Some c) = tt

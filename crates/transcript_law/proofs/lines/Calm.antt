@@ -1,8 +1,8 @@
 -- lines that tell of no arm, and of no rollback but where a link's bytes are taken: those of connections, links and streams, whatever the replies of vBuckets and journals
 use Rattle.std.specs.Prelude.{◌≡◌, ◌∷◌, ◌++◌, ◌==◌, if◌then◌else◌}
 use Rattle.transcript_law.proofs.Words.{ℕ, Bool, true, false, List, [], refl, ap, ◌∙◌, zero, suc, take, map, Told, Answer, Cause, flat_map, filter-append, list_any, Option, Some, None, slice_get, Result, Ok, Err, Event, EndReason, Status, Change, Frame, FrameFault, RESPONSE, States, after, front_fault, frames_in, with_states, LogEntry, StreamAsk, VbAnswer, VbReply, PlainLink, PlainNode}
-use Rattle.transcript_law.proofs.Words.{Done, Turn, More, Stop, repeated, go_on, Handshake, Halt, DcpMsg, PlainStream, Served, begun, peer_pulled, peer_of, dial_of, moved_len, up_at, pump_at, bytes_at, fed_if, PlainSession}
-use Rattle.transcript_law.proofs.Words.{stream_put, next_put, item_put, take_unless, taken_put, snapshot_told, pulled, act_message, place_halt, read_answered, opened_unless, controlled_as}
+use Rattle.transcript_law.proofs.Words.{Done, Turn, More, Stop, repeated, go_on, Handshake, Halt, NoSnapshot, DcpMsg, PlainStream, Served, begun, peer_pulled, peer_of, dial_of, moved_len, up_at, pump_at, bytes_at, fed_if, PlainSession}
+use Rattle.transcript_law.proofs.Words.{stream_put, next_put, item_put, halted_put, take_unless, taken_put, snapshot_told, pulled, act_message, place_halt, read_answered, opened_unless, controlled_as}
 use Rattle.dcp_producer.specs.Pulling.{end_put, frame_put, frames_put, marker_put, take_next}
 use Rattle.dcp_consumer.specs.declared.handshake.Dialed.{Dialed}
 use Rattle.dcp_producer.specs.Producers.{member_of}
@@ -203,12 +203,17 @@ Turned (More s) = Producer s
 Turned (Stop stopped) = Producer stopped.0
 
 module _ (s : Served) (c : Producer s) where
+  halted_calm : (stream : PlainStream) (none : NoSnapshot) → Turned (halted_put s stream none)
+  unfolding end_put
+  halted_calm stream NoSnapshot.Lost = calm_more s.events _ c refl
+  halted_calm stream (NoSnapshot.Halted halted) = c
+
   take_calm : (stream : PlainStream) → Always AnyCall Turned (take_next s stream)
   unfolding marker_put
   take_calm stream = (tt, λ reply any. by (snapshot_told reply))
     where
-      by : (o : Result _ Halt) → Turned (taken_put s stream o)
-      by (Err halted) = c
+      by : (o : Result _ NoSnapshot) → Turned (taken_put s stream o)
+      by (Err none) = halted_calm stream none
       by (Ok snapshot) = calm_more s.events _ c refl
 
   next_calm : (stream : PlainStream) (o : Option Change) → Always AnyCall Turned (next_put s stream o)
@@ -220,9 +225,9 @@ module _ (s : Served) (c : Producer s) where
       by (Some m) = calm_more s.events _ c refl
   next_calm stream None = either (Always AnyCall Turned) stream.ended (Done (More (end_put s stream))) _ (calm_more s.events _ c refl) (tt, λ reply any. by (place_halt reply))
     where
-      by : (o : Option Halt) → Always AnyCall Turned (take_unless s stream o)
+      by : (o : Option NoSnapshot) → Always AnyCall Turned (take_unless s stream o)
       by None = take_calm stream
-      by (Some h) = c
+      by (Some none) = halted_calm stream none
 
   turn_calm : Always AnyCall Turned (frame_put s)
   unfolding frame_put

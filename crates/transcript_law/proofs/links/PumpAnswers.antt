@@ -1,7 +1,7 @@
 -- what is answered to a pull: as many frames were put as are told of, and whether that is all
 use Rattle.std.specs.Prelude.{◌++◌, ◌+◌, ◌<◌, ◌∷◌, ◌≡◌, ◌≤◌, if◌then◌else◌}
 use Rattle.transcript_law.proofs.Words.{PlainStream, Served, begun, act_message, item_line, item_put, next_put, place_told, pulled, snapshot_told, stream_put, taken_put}
-use Rattle.transcript_law.proofs.Words.{why_of, place_halt, take_unless, end_put, frame_put, frames_put, marker_put, Halt, DcpMsg, pull_told, PlainLink, moved_len, pump_at, pump_told, PlainNode}
+use Rattle.transcript_law.proofs.Words.{why_of, place_halt, take_unless, end_put, frame_put, frames_put, marker_put, Halt, NoSnapshot, DcpMsg, pull_told, PlainLink, moved_len, pump_at, pump_told, PlainNode}
 use Rattle.transcript_law.proofs.Words.{Bool, List, [], ap, arith, false, length, refl, subst, suc, sym, true, zero, ℕ, ◌∙◌, filter-append, length-append, filter, None, Option, Some, slice_get, both_told, frames_told}
 use Rattle.transcript_law.proofs.Words.{IsPumped, PutsAsTold, is_frame, after_bind, Plain, Call, Done, More, Stop, Turn, after, go_on, repeated, all_spans, States, call_at, end_span, stream_at, take_from, take_to}
 use Rattle.transcript_law.proofs.Words.{VbAnswer, VbCall, VbReply, Span, Stream, Change, Event, Why, Snapshot}
@@ -54,7 +54,7 @@ module _ (k : ℕ) (s : Served) (counts : s.count ≡ k) (tells : frames_told s.
 
     -- the vBucket was asked for its next snapshot
     take_counts : (states : States) (o : Option Plain) → Counted (suc k) (taken_put s stream (snapshot_told (call_at states stream.vb (VbCall.Take s.end.desk.id) o).1))
-    take_counts states None = stops Halt.Absent tt
+    take_counts states None = end_counts
     take_counts states (Some vb) = by (stream_at s.end.desk.id vb.streams)
       where
         by_span : (x : Stream) (w : Option Span) → Counted (suc k) (taken_put s stream (snapshot_told (Some (take_to w x vb).1)))
@@ -62,16 +62,17 @@ module _ (k : ℕ) (s : Served) (counts : s.count ≡ k) (tells : frames_told s.
         by_span x (Some w) = marker_counts _
 
         by : (x : Option Stream) → Counted (suc k) (taken_put s stream (snapshot_told (Some (take_from x vb).1)))
-        by None = stops Halt.Absent tt
+        by None = end_counts
         by (Some x) = by_span x (if is_in_memory vb.floor x then end_span x (all_spans vb.spans) vb.held else None)
 
     place_counts : (states : States) (reply : Option VbReply) → Counted (suc k) (after (place_told s stream reply) states).1
     place_counts states reply = by (place_halt reply) (place_short reply)
       where
         -- where there is a reason, it is not that all were put
-        ShortIf : Option Halt → Type 0
+        ShortIf : Option NoSnapshot → Type 0
         ShortIf None = Unit {0}
-        ShortIf (Some h) = IsShort (why_of h)
+        ShortIf (Some NoSnapshot.Lost) = Unit {0}
+        ShortIf (Some (NoSnapshot.Halted h)) = IsShort (why_of h)
 
         answer_short : (a : VbAnswer) → ShortIf (halt_at a)
         answer_short (VbAnswer.Placed Place.Memory) = tt
@@ -82,9 +83,10 @@ module _ (k : ℕ) (s : Served) (counts : s.count ≡ k) (tells : frames_told s.
         place_short None = tt
         place_short (Some x) = answer_short x.answer
 
-        by : (o : Option Halt) → ShortIf o → Counted (suc k) (after (take_unless s stream o) states).1
+        by : (o : Option NoSnapshot) → ShortIf o → Counted (suc k) (after (take_unless s stream o) states).1
         by None short = take_counts states (states stream.vb)
-        by (Some h) short = stops h short
+        by (Some NoSnapshot.Lost) short = end_counts
+        by (Some (NoSnapshot.Halted h)) short = stops h short
 
     next_counts : (states : States) (o : Option Change) → Counted (suc k) (after (next_put s stream o) states).1
     next_counts states (Some c) = item_counts c (act_message c c.act)
