@@ -6,7 +6,7 @@ use Rattle.transcript_law.proofs.verbs.Settling.{steady}
 
 -- the transcript of a script whose lines are in the grammar's limits
 pub scripts_are_lawful : (script : List ScriptLine) → ScriptFits script → Lawful script (groups script)
-scripts_are_lawful script fits = lawful starts stays steady take_snapshots wholes script fits
+scripts_are_lawful script fits = lawful script fits
 
 -- and of one that was read
 pub read_is_lawful : (bytes : List ℕ) (script : List ScriptLine) → IsScript bytes script → Lawful script (groups script)

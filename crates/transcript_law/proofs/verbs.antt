@@ -29,3 +29,6 @@ pub mod Settling
 pub mod Expiring
 pub mod Chains
 pub mod DoneLine
+pub mod NodeRows
+pub mod Rows
+pub mod VbRows

@@ -1,14 +1,14 @@
 -- no line leaves a vBucket more to commit
 use Rattle.std.specs.Prelude.{◌≡◌, ◌<◌, ◌∷◌, ◌^◌, if◌then◌else◌}
-use Rattle.transcript_law.proofs.Words.{Outcome, ℕ, List, [], subst, sym, ap, ◌∙◌, refl, Frame, Bool, true, false, not, Option, Some, None, is_some, Verb, VerbFits, Cause, Role, Act, Change, Plain, VbCall, VbReply, plain_step, after, after_job, Prog, Done, Job, frame_served, min}
-use Rattle.transcript_law.proofs.Words.{States, row_at, PlainSession, Told, PlainLink, LinkTold, link_number, producer_node, consumer_node, up_at, pump_at, AdminCall, AdminTold, unlinked, own_link, cut_off, links_told, called_at, admin_line, with_ended, turned_if, no_node, turned_after}
-use Rattle.transcript_law.proofs.Words.{role_outcome, promote_causes, turn_causes, turn_step, PlainNode, PlainWorld, cut_outcome, with_node_at, with_links, empty_node, done, refusal, first_cause, refused_or, node_outcome, on_node, node_causes, vb_causes, vb_at, replica_causes, replica_at, with_client, client_at, with_states}
-use Rattle.transcript_law.proofs.Words.{fed_if, bytes_at, hang_at, clock_at, ask_in, link_causes, with_dialed, on_link, verb_step, vb_in, is_active, is_follower, is_answerable, marker_fits, marked_vb, is_next, quiet_reply, refusal_reply, new_vb, Sound, Chronicle, take}
+use Rattle.transcript_law.proofs.Words.{Outcome, ℕ, List, [], subst, sym, ap, ◌∙◌, refl, Frame, Bool, true, false, not, Option, Some, None, is_some, Cause, Role, Act, Change, Plain, VbCall, VbReply, plain_step, after, after_job, Prog, Done, Job, frame_served, min}
+use Rattle.transcript_law.proofs.Words.{States, row_at, PlainSession, Told, PlainLink, LinkTold, link_number, consumer_node, up_at, AdminCall, AdminTold, own_link, cut_off, links_told, called_at, admin_line, with_ended, turned_if, no_node, turned_after}
+use Rattle.transcript_law.proofs.Words.{role_outcome, PlainNode, PlainWorld, with_node_at, done, refusal, first_cause, refused_or, node_outcome, on_node, with_states}
+use Rattle.transcript_law.proofs.Words.{fed_if, bytes_at, on_link, vb_in, is_active, is_follower, is_answerable, marker_fits, marked_vb, is_next, quiet_reply, refusal_reply, new_vb, Sound, Chronicle, take}
 use Rattle.transcript_law.proofs.invariant.Agreement.{Agrees, AgreesAt, book_in}
-use Rattle.transcript_law.proofs.invariant.CallsKept.{AllAt, AllIn, InWorld, put_all, ran, ran_job, put_node, on_made_all, on_node_all, unlinked_all, on_link_all, none_at, dropped_all, armed_all, broken_all, unless_all, kept_or}
+use Rattle.transcript_law.proofs.invariant.CallsKept.{AllAt, AllIn, InWorld, put_all, ran, ran_job, put_node, on_made_all, on_node_all, unlinked_all, on_link_all, none_at, armed_all, broken_all, unless_all, kept_or}
 use Rattle.transcript_law.proofs.invariant.Ranged.{IsRanged, NodeRanged, NodeRangedIf, kept_ranged, posted_ranged, told_ranged, unlinked_ranged, with_node}
 use Rattle.transcript_law.proofs.{disks.Reloaded.{reloaded, so}, invariant.Seats.{seat}, disks.Shelving.{loaded_at, loaded_of}}
-use Rattle.transcript_law.proofs.invariant.TimelyCalls.{Makes, MakesJob, admin_tame, chain_tame, due_tame, flush_tame, peer_tame, pulled_tame, served_tame, start_tame, tick_tame}
+use Rattle.transcript_law.proofs.invariant.TimelyCalls.{Makes, MakesJob, admin_tame, chain_tame, due_tame, flush_tame, peer_tame, served_tame, start_tame, tick_tame}
 use Rattle.client_session.proofs.Keeping.{bytes_go, front_of, outcome_goes}
 use Rattle.client_session.specs.Serving.{Served, bytes_served, outcome_served, served}
 use Rattle.disk_journals.specs.{Arms.{opens_all}, Books.{Book}}
@@ -20,23 +20,17 @@ use Rattle.node_core.specs.Conduct.{FollowsAt, IsFollowing, KeepsLink, RollsAt}
 use Rattle.node_core.specs.Dials.{dial_due, dial_fed, untold}
 use Rattle.node_core.specs.Flushing.{chain_set, flush_at, ticked}
 use Rattle.node_core.specs.Loading.{are_short, loaded_by, start_job, starts_of}
-use Rattle.node_core.specs.Peers.{PeerTold, peer_answered, peer_frames, peer_heard, peer_pulled}
-use Rattle.node_core.specs.declared.admin.AdminCall.TheVariants as admin
-use Rattle.node_world.specs.{Arms.{fail_arm, fired_by, placed, stop_arm, under_arm}, Dues.{due_at, due_in, due_of, is_counted}, Links.{dial_of, frame_up, frames_up, moved_len, peer_of, untold_peer}, Turns.{posted_at, posted_in, promote_step, role_called, turned}}
-use Rattle.node_world.specs.Nodes.{all_posted, arm_at, awaiting, chain_line, chain_made, flush_line, is_active_one, posted_if, posted_to, save_line, tick_line, vb_made, with_kept}
-use Rattle.node_world.specs.Power.{burnt_arm, crash_causes, down_lines, dropped, loaded_node, not_opened, start_at, start_causes, start_if, start_one, started_by, starts_from, with_arm}
-use Rattle.node_world.specs.World.{base_of, down_in, down_outcome}
+use Rattle.node_core.specs.Peers.{PeerTold, peer_answered, peer_frames, peer_heard}
+use Rattle.node_world.specs.{Arms.{fired_by, placed, under_arm}, Dues.{due_at, due_in, due_of, is_counted}, Links.{dial_of, frame_up, frames_up, moved_len, peer_of, untold_peer}, Turns.{posted_at, posted_in, role_called, turned}}
+use Rattle.node_world.specs.Nodes.{all_posted, awaiting, chain_line, chain_made, flush_line, is_active_one, posted_if, posted_to, tick_line, vb_made, with_kept}
+use Rattle.node_world.specs.Power.{burnt_arm, loaded_node, not_opened, start_at, start_causes, start_if, start_one, start_step, started_by, starts_from, with_arm}
+use Rattle.node_world.specs.World.{down_in, down_outcome}
 use Rattle.node_world.specs.Worlds.{on_made}
 use Rattle.node_world.specs.declared.arm.Arm.{Arm}
 use Rattle.node_world.specs.declared.arm.Fired.{Fired}
 use Rattle.node_world.specs.declared.arm.Fired.TheVariants as fired
 use Rattle.node_world.specs.declared.script_node.TheConstants.{MAX_CLIENTS}
-use Rattle.script_text.specs.declared.verb.Verb.TheVariants as verb
-use Rattle.script_text.specs.declared.verb.VbVerb.TheVariants as vb_verb
-use Rattle.script_text.specs.declared.verb.NodeVerb.TheVariants as node_verb
-use Rattle.script_text.specs.declared.verb.LinkVerb.TheVariants as link_verb
-use Rattle.script_text.specs.declared.verb.ClientVerb.TheVariants as client_verb
-use Rattle.transcript_law.proofs.Words.{eq-eqb, length, new_session}
+use Rattle.transcript_law.proofs.Words.{eq-eqb, length}
 use Rattle.vb_calls.specs.Following.{completed_act, receive_as, rolled_vb}
 use Rattle.vb_calls.specs.Shelves.{Ask, Shelves}
 use Rattle.vb_calls.specs.State.{pending_of}
@@ -45,7 +39,6 @@ use Rattle.vb_calls.specs.declared.calls.VbAnswer.TheVariants as answer
 use Rattle.vb_calls.specs.declared.calls.VbCall.TheVariants as call
 use Rattle.vb_events.specs.declared.event.Cause.TheVariants as cause
 use Rattle.vb_types.specs.declared.journal.FlushPart.{FlushPart}
-use Rattle.vb_types.specs.declared.journal.FlushPart.TheVariants as part
 use Rattle.transcript_law.specs.Chronicles.{after_calls, after_up}
 use Rattle.vb_types.specs.declared.journal.Record.{Record}
 use Rattle.vb_types.specs.declared.role.Role.TheVariants as role
@@ -58,11 +51,11 @@ abbrev pub AreAtRest : PlainWorld → Type 0
 AreAtRest w = (n v : ℕ) (vb : Plain) → vb_in (w.nodes n) v ≡ Some vb → IsSettled vb
 
 -- sound, and nothing more may be committed there
-abbrev Still : Plain → Type 0
+abbrev pub Still : Plain → Type 0
 Still vb = Sound vb × IsSettled vb
 
 -- nothing may, where it is active
-abbrev RestsIf : Plain → Type 0
+abbrev pub RestsIf : Plain → Type 0
 RestsIf vb = is_active vb.role ≡ true → IsSettled vb
 
 -- ---- a vBucket that follows, and one that is made
@@ -110,7 +103,7 @@ aside_rests vb call.Due k rest = rest
 aside_rests vb call.Stat k rest = rest
 aside_rests vb other k rest = absurd k
 
-down_rests : (w : PlainWorld) (l wanted : ℕ) → InWorld RestsIf w → InWorld RestsIf (down_outcome w l (row_at link_number l w.links) (on_link w l consumer_node (down_in wanted))).0
+pub down_rests : (w : PlainWorld) (l wanted : ℕ) → InWorld RestsIf w → InWorld RestsIf (down_outcome w l (row_at link_number l w.links) (on_link w l consumer_node (down_in wanted))).0
 down_rests w l wanted all = by (row_at link_number l w.links)
   where
     came : InWorld RestsIf (on_link w l consumer_node (down_in wanted)).0
@@ -124,7 +117,7 @@ down_rests w l wanted all = by (row_at link_number l w.links)
     by (Some link) = broken_all RestsIf IsAside aside_rests (λ id. tt) (consumer_node link) l w (on_link w l consumer_node (down_in wanted)) came
 
 -- one that is made has nothing to commit
-made_rests : (w : PlainWorld) (n v : ℕ) (f : PlainNode → PlainNode × Told) (said : Role) (uuid : ℕ) (why : PlainNode → Option Cause) → ((node : PlainNode) → f node ≡ refused_or (why node) node (vb_made n v said uuid node)) → InWorld RestsIf w
+pub made_rests : (w : PlainWorld) (n v : ℕ) (f : PlainNode → PlainNode × Told) (said : Role) (uuid : ℕ) (why : PlainNode → Option Cause) → ((node : PlainNode) → f node ≡ refused_or (why node) node (vb_made n v said uuid node)) → InWorld RestsIf w
     → InWorld RestsIf (with_arm n w (on_node w n f)).0
 made_rests w n v f said uuid why is all = armed_all RestsIf IsAside aside_rests (λ id. tt) n w (on_node w n f) (on_node_all RestsIf IsAside aside_rests (λ id. tt) w n f all (λ node e there.
     subst (λ (x : PlainNode × Told). AllAt RestsIf x.0.vbs) (sym (is node)) (kept_or RestsIf IsAside aside_rests (λ id. tt) node (vb_made n v said uuid node) (why node) there
@@ -132,16 +125,23 @@ made_rests w n v f said uuid why is all = armed_all RestsIf IsAside aside_rests 
 
 -- ---- all other lines
 
-still_steps : (vb : Plain) (made : VbCall) → IsTimely made → Still vb → Still (plain_step vb made).0
+pub still_steps : (vb : Plain) (made : VbCall) → IsTimely made → Still vb → Still (plain_step vb made).0
 still_steps vb made timely x = (stays vb made x.0 timely, stays_at_rest vb made x.0 timely x.1)
 
-abbrev still_put : (w : PlainWorld) (n : ℕ) (node : PlainNode) → InWorld Still w → AllAt Still node.vbs → InWorld Still (with_node_at w n node)
+abbrev pub still_put : (w : PlainWorld) (n : ℕ) (node : PlainNode) → InWorld Still w → AllAt Still node.vbs → InWorld Still (with_node_at w n node)
 still_put = put_node Still IsTimely still_steps (λ id. tt)
 
-abbrev still_on : (w : PlainWorld) (n : ℕ) (f : PlainNode → PlainNode × Told) → InWorld Still w → ((node : PlainNode) → w.nodes n ≡ Some node → AllAt Still node.vbs → AllAt Still (f node).0.vbs) → InWorld Still (on_node w n f).0
+abbrev pub still_on : (w : PlainWorld) (n : ℕ) (f : PlainNode → PlainNode × Told) → InWorld Still w → ((node : PlainNode) → w.nodes n ≡ Some node → AllAt Still node.vbs → AllAt Still (f node).0.vbs) → InWorld Still (on_node w n f).0
 still_on = on_node_all Still IsTimely still_steps (λ id. tt)
 
-still_ran : {A : Type 0} (prog : Prog A) (states : States) → Makes IsTimely prog → AllAt Still states → AllAt Still (after prog states).0
+-- a line of a node, and one of an open link
+pub node_still : (w : PlainWorld) → IsRanged w → InWorld Still w → (n : ℕ) (f : PlainNode → PlainNode × Told) → ((node : PlainNode) → NodeRanged n node → AllAt Still node.vbs → AllAt Still (f node).0.vbs) → InWorld Still (on_node w n f).0
+node_still w ranged all n f kept = still_on w n f all (λ node e there. kept node (subst (NodeRangedIf n) e (ranged n)) there)
+
+pub link_still : (w : PlainWorld) → IsRanged w → InWorld Still w → (l : ℕ) (end : PlainLink → ℕ) (f : PlainLink → PlainNode → PlainNode × LinkTold) → ((link : PlainLink) (node : PlainNode) → NodeRanged (end link) node → AllAt Still node.vbs → AllAt Still (f link node).0.vbs) → InWorld Still (on_link w l end f).0
+link_still w ranged all l end f kept = on_link_all Still IsTimely still_steps (λ id. tt) w l end f all (λ link node e there. kept link node (subst (NodeRangedIf (end link)) e (ranged (end link))) there)
+
+pub still_ran : {A : Type 0} (prog : Prog A) (states : States) → Makes IsTimely prog → AllAt Still states → AllAt Still (after prog states).0
 still_ran prog states makes all = ran Still IsTimely still_steps (λ id. tt) prog states makes all
 
 still_job : {A : Type 0} (one : Job A) (states : States) (shelves : Shelves) → MakesJob IsTimely one → AllAt Still states → AllAt Still (after_job one states shelves).0.0
@@ -154,7 +154,7 @@ served_still clock small piece s states all = bytes_go (λ (x : States × Served
 outcome_still : (clock : ℕ) → clock < 2 ^ 64 → (r : Resolved) (s : Served) (states : States) → AllAt Still states → AllAt Still (after (outcome_served clock r s) states).0
 outcome_still clock small r s states all = outcome_goes (λ (x : States × Served). AllAt Still x.0) clock (λ f states t e p. still_ran (frame_served clock f (front_of f t)) states (served_tame clock small f (front_of f t)) p) (λ fault states t e p. p) r s states all (λ a e. all)
 
-bytes_still : (n c : ℕ) (bytes : List ℕ) (node : PlainNode) → NodeRanged n node → AllAt Still node.vbs → AllAt Still (bytes_at c bytes node).0.vbs
+pub bytes_still : (n c : ℕ) (bytes : List ℕ) (node : PlainNode) → NodeRanged n node → AllAt Still node.vbs → AllAt Still (bytes_at c bytes node).0.vbs
 bytes_still n c bytes node ranged all = by (node.clients c)
   where
     by : (o : Option PlainSession) → AllAt Still (fed_if c bytes node o).0.vbs
@@ -179,12 +179,12 @@ told_still : (n : ℕ) (rs : List Resolved) (node node' : PlainNode) → node'.c
 told_still n rs node node' clock clients ranged all = posts_still n rs node' (kept_ranged n node node' clock clients ranged) all
 
 -- a node's own lines
-flush_still : (n v : ℕ) (p : FlushPart) (node : PlainNode) → NodeRanged n node → AllAt Still node.vbs → AllAt Still (flush_line n v p node).0.vbs
+pub flush_still : (n v : ℕ) (p : FlushPart) (node : PlainNode) → NodeRanged n node → AllAt Still node.vbs → AllAt Still (flush_line n v p node).0.vbs
 flush_still n v p node ranged all =
     let x = after_job (flush_at n v p) node.vbs node.shelves in
     told_still n x.1.resolved node (with_kept node x.0) refl (λ c. refl) ranged (still_job (flush_at n v p) node.vbs node.shelves (flush_tame n v p) all)
 
-chain_still : (n v : ℕ) (others : Members) (node : PlainNode) → NodeRanged n node → AllAt Still node.vbs → AllAt Still (chain_line n v others node).0.vbs
+pub chain_still : (n v : ℕ) (others : Members) (node : PlainNode) → NodeRanged n node → AllAt Still node.vbs → AllAt Still (chain_line n v others node).0.vbs
 chain_still n v others node ranged all = by (not (is_some (node.vbs v))) (not (is_active_one (node.vbs v))) (is_chain n others) refl
   where
     made : is_chain n others ≡ true → AllAt Still (chain_made n v others node).0.vbs
@@ -199,11 +199,11 @@ chain_still n v others node ranged all = by (not (is_some (node.vbs v))) (not (i
     by false false false e = all
     by false false true e = made e
 
-tick_still : (n v : ℕ) (node : PlainNode) → NodeRanged n node → AllAt Still node.vbs → AllAt Still (tick_line n v node).0.vbs
+pub tick_still : (n v : ℕ) (node : PlainNode) → NodeRanged n node → AllAt Still node.vbs → AllAt Still (tick_line n v node).0.vbs
 tick_still n v node ranged all =
     let x = after (ticked n v node.clock) node.vbs in told_still n x.1.resolved node (with_states node x.0) refl (λ c. refl) ranged (still_ran (ticked n v node.clock) node.vbs (tick_tame n v node.clock) all)
 
-admin_still : (n v : ℕ) (asked : AdminCall) (node : PlainNode) → AllAt Still node.vbs → AllAt Still (admin_line n v asked node).0.vbs
+pub admin_still : (n v : ℕ) (asked : AdminCall) (node : PlainNode) → AllAt Still node.vbs → AllAt Still (admin_line n v asked node).0.vbs
 admin_still n v asked node all = still_job (admin_job n v asked) node.vbs node.shelves (admin_tame n v asked) all
 
 -- a producer's
@@ -213,7 +213,7 @@ frames_still n (f ∷ frames) came ranged all =
     let x = after (peer_answered f came.1.peer) came.0.vbs in let states : PlainNode = with_states came.0 x.0 in
     frames_still n frames (frame_up f came) (told_ranged n x.1.resolved came.0 states refl (λ c. refl) ranged) (told_still n x.1.resolved came.0 states refl (λ c. refl) ranged (still_ran (peer_answered f came.1.peer) came.0.vbs (peer_tame f came.1.peer) all))
 
-up_still : (n wanted : ℕ) (link : PlainLink) (node : PlainNode) → NodeRanged n node → AllAt Still node.vbs → AllAt Still (up_at wanted link node).0.vbs
+pub up_still : (n wanted : ℕ) (link : PlainLink) (node : PlainNode) → NodeRanged n node → AllAt Still node.vbs → AllAt Still (up_at wanted link node).0.vbs
 up_still n wanted link node ranged all =
     let piece : List ℕ = take (moved_len wanted link.up) link.up in
     frames_still n (peer_frames piece (peer_of link)) (node, untold_peer (peer_heard piece (peer_of link))) ranged all
@@ -239,7 +239,7 @@ turned_still n v before w told None all ranged now = all
 turned_still n v before w told (Some ids) all ranged now =
     let cut = cut_still (own_link n v (links_told n v ids w.links)) (with_ended n v ids w) ranged now in posts_in_still n told.resolved (turned n v told (with_ended n v ids w)) cut.0 cut.1
 
-role_still : (w : PlainWorld) (n v : ℕ) (asked : AdminCall) → IsRanged w → InWorld Still w → InWorld Still (role_outcome n v asked w).0
+pub role_still : (w : PlainWorld) (n v : ℕ) (asked : AdminCall) → IsRanged w → InWorld Still w → InWorld Still (role_outcome n v asked w).0
 role_still w n v asked ranged all = by (w.nodes n) (ranged n) (all n)
   where
     kept : (node : PlainNode) → NodeRanged n node → NodeRanged n (role_called n v asked node).0
@@ -254,9 +254,6 @@ role_still w n v asked ranged all = by (w.nodes n) (ranged n) (all n)
     by (Some node) r there =
         let x = role_called n v asked node in
         turned_still n v w (with_node_at w n x.0) x.1 x.1.ended all (with_node w n x.0 ranged (kept node r)) (still_put w n x.0 all (still node there))
-
-turn_still : (w : PlainWorld) (n v : ℕ) (new : Role) (asked : AdminCall) → IsRanged w → InWorld Still w → InWorld Still (turn_step w n v new asked).0
-turn_still w n v new asked ranged all = unless_all Still IsTimely still_steps (λ id. tt) w (role_outcome n v asked w) (first_cause (turn_causes w n v new)) all (role_still w n v asked ranged all)
 
 -- ---- a node that starts
 
@@ -304,12 +301,11 @@ module _ (w : PlainWorld) (r : Chronicle) (n : ℕ) (uuids : List ℕ) (agrees :
   at_start node known there None e = there
   at_start node known there (Some books) e = by node books known there e (opens_all node.arm.fuse (length books)) refl (are_short books uuids)
 
-  start_still : InWorld Still (verb_step w 0 (verb.AtNode n (node_verb.Start uuids))).0
-  start_still = unless_all Still IsTimely still_steps (λ id. tt) w (on_made w n (start_at n uuids)) (first_cause (start_causes w n uuids)) all
-      (on_made_all Still IsTimely still_steps (λ id. tt) w n (start_at n uuids) all (λ node known there. at_start node known there node.off refl))
+  pub start_still : InWorld Still (start_step w n uuids).0
+  start_still = unless_all Still IsTimely still_steps (λ id. tt) w (on_made w n (start_at n uuids)) (first_cause (start_causes w n uuids)) all (on_made_all Still IsTimely still_steps (λ id. tt) w n (start_at n uuids) all (λ node known there. at_start node known there node.off refl))
 
 -- what is due behind a batch
-due_still : (n v : ℕ) (o : Outcome) → InWorld Still o.0 → InWorld Still (due_in n v o).0
+pub due_still : (n v : ℕ) (o : Outcome) → InWorld Still o.0 → InWorld Still (due_in n v o).0
 due_still n v o all = by (is_counted o.1.answer)
   where
     at : (link : PlainLink) (k : Option PlainNode) → AllIn Still k → InWorld Still (due_at n link o.0 o.1 k).0
@@ -326,70 +322,16 @@ due_still n v o all = by (is_counted o.1.answer)
 
 -- ---- each line of a script
 
-weaker : (w : PlainWorld) → InWorld Still w → InWorld RestsIf w
+pub weaker : (w : PlainWorld) → InWorld Still w → InWorld RestsIf w
 weaker w all n = by (w.nodes n) (all n)
   where
     by : (o : Option PlainNode) → AllIn Still o → AllIn RestsIf o
     by None there = tt
     by (Some node) there = λ v vb e a. (there v vb e).1
 
-either_node : (b : Bool) (x y : PlainNode × Told) → AllAt Still x.0.vbs → AllAt Still y.0.vbs → AllAt Still (if b then x else y).0.vbs
+pub either_node : (b : Bool) (x y : PlainNode × Told) → AllAt Still x.0.vbs → AllAt Still y.0.vbs → AllAt Still (if b then x else y).0.vbs
 either_node true x y first second = first
 either_node false x y first second = second
-
-module _ (w : PlainWorld) (r : Chronicle) (number : ℕ) (ranged : IsRanged w) (agrees : Agrees w r) (all : InWorld Still w) where
-  abbrev Rests : Verb → Type 0
-  Rests line = InWorld RestsIf (verb_step w number line).0
-
-  node_ranged : (n : ℕ) (node : PlainNode) → w.nodes n ≡ Some node → NodeRanged n node
-  node_ranged n node e = subst (NodeRangedIf n) e (ranged n)
-
-  on : (n : ℕ) (f : PlainNode → PlainNode × Told) → ((node : PlainNode) → NodeRanged n node → AllAt Still node.vbs → AllAt Still (f node).0.vbs) → InWorld Still (on_node w n f).0
-  on n f kept = on_node_all Still IsTimely still_steps (λ id. tt) w n f all (λ node e there. kept node (node_ranged n node e) there)
-
-  on_rests : (n : ℕ) (f : PlainNode → PlainNode × Told) → ((node : PlainNode) → NodeRanged n node → AllAt Still node.vbs → AllAt Still (f node).0.vbs) → InWorld RestsIf (on_node w n f).0
-  on_rests n f kept = weaker (on_node w n f).0 (on n f kept)
-
-  armed_rests : (n : ℕ) (came : Outcome) → InWorld Still came.0 → InWorld RestsIf (with_arm n w came).0
-  armed_rests n came now = weaker (with_arm n w came).0 (armed_all Still IsTimely still_steps (λ id. tt) n w came now)
-
-  unless_rests : (o : Outcome) (why : Option Cause) → InWorld Still o.0 → InWorld RestsIf (refused_or why w o).0
-  unless_rests o why now = weaker (refused_or why w o).0 (unless_all Still IsTimely still_steps (λ id. tt) w o why all now)
-
-  on_link_rests : (l : ℕ) (end : PlainLink → ℕ) (f : PlainLink → PlainNode → PlainNode × LinkTold) → ((link : PlainLink) (node : PlainNode) → NodeRanged (end link) node → AllAt Still node.vbs → AllAt Still (f link node).0.vbs) → InWorld RestsIf (on_link w l end f).0
-  on_link_rests l end f kept = weaker (on_link w l end f).0 (on_link_all Still IsTimely still_steps (λ id. tt) w l end f all (λ link node e there. kept link node (node_ranged (end link) node e) there))
-
-  step_rests : (line : Verb) → VerbFits line → Rests line
-  step_rests (verb.Node n) fits = unless_rests (with_node_at w n empty_node, done []) (first_cause (node_causes w n)) (still_put w n empty_node all (none_at Still IsTimely still_steps (λ id. tt)))
-  step_rests (verb.AtVb n v (vb_verb.MakeActive uuid)) fits = made_rests w n v (vb_at w.uuids n v uuid) role.Active uuid (λ node. first_cause (vb_causes w.uuids node v uuid)) (λ node. refl) (weaker w all)
-  step_rests (verb.AtVb n v vb_verb.MakeReplica) fits = made_rests w n v (replica_at n v) role.Replica 0 (λ node. first_cause (replica_causes node v)) (λ node. refl) (weaker w all)
-  step_rests (verb.AtVb n v (vb_verb.Chain others)) fits = on_rests n (chain_line n v others) (λ node here there. chain_still n v others node here there)
-  step_rests (verb.AtClient n c client_verb.Open) fits = on_rests n (client_at n (base_of number) c) (λ node here there.
-      either_node (is_some (node.clients c)) (node, refusal cause.LinkOpen) (with_client node c (Some (new_session (record { node = n; client = c; base = base_of number }))), done []) there there)
-  step_rests (verb.AtClient n c (client_verb.Bytes bytes)) fits = on_rests n (bytes_at c bytes) (λ node here there. bytes_still n c bytes node here there)
-  step_rests (verb.AtClient n c client_verb.Hang) fits = on_rests n (hang_at c) (λ node here there. either_node (is_some (node.clients c)) (with_client node c None, done []) (node, refusal cause.LinkClosed) there there)
-  step_rests (verb.AtNode n (node_verb.Clock nanos)) fits = on_rests n (clock_at nanos) (λ node here there. there)
-  step_rests (verb.Link l m n v) fits = unless_rests (with_links w (with_dialed number l m n v w.links (ask_in w n v)), done []) (first_cause (link_causes w l m n v)) all
-  step_rests (verb.AtLink l (link_verb.Up wanted)) fits = on_link_rests l producer_node (up_at wanted) (λ link node here there. up_still (producer_node link) wanted link node here there)
-  step_rests (verb.AtLink l (link_verb.Down wanted)) fits = down_rests w l wanted (weaker w all)
-  step_rests (verb.AtLink l (link_verb.Pump frames)) fits = on_link_rests l producer_node (pump_at frames) (λ link node here there. still_ran (peer_pulled frames (peer_of link)) node.vbs (pulled_tame frames (peer_of link)) there)
-  step_rests (verb.AtLink l link_verb.Cut) fits = elim (row_at link_number l w.links) as (λ o. InWorld RestsIf (cut_outcome w o).0) [ None ↦ weaker w all | Some link ↦ weaker (unlinked link w) (unlinked_all Still IsTimely still_steps (λ id. tt) w link all) ]
-  step_rests (verb.AtVb n v (vb_verb.Promote uuid)) fits = armed_rests n (promote_step w n v uuid)
-      (unless_all Still IsTimely still_steps (λ id. tt) w (role_outcome n v (admin.Promote uuid) w) (first_cause (promote_causes w n v uuid)) all (role_still w n v (admin.Promote uuid) ranged all))
-  step_rests (verb.AtVb n v vb_verb.Follow) fits = armed_rests n (turn_step w n v role.Replica admin.Follow) (turn_still w n v role.Replica admin.Follow ranged all)
-  step_rests (verb.AtVb n v vb_verb.Dead) fits = armed_rests n (turn_step w n v role.Dead admin.Dead) (turn_still w n v role.Dead admin.Dead ranged all)
-  step_rests (verb.AtVb n v vb_verb.Seal) fits = on_rests n (admin_line n v admin.Seal) (λ node here there. admin_still n v admin.Seal node there)
-  step_rests (verb.AtVb n v vb_verb.Take) fits = on_rests n (flush_line n v part.Take) (λ node here there. flush_still n v part.Take node here there)
-  step_rests (verb.AtVb n v vb_verb.Save) fits = armed_rests n (on_node w n (save_line n v)) (on n (save_line n v) (λ node here there. flush_still n v part.Save (placed v node) (kept_ranged n node (placed v node) refl (λ c. refl) here) there))
-  step_rests (verb.AtVb n v vb_verb.Done) fits = weaker (due_in n v (on_node w n (flush_line n v part.Done))).0 (due_still n v (on_node w n (flush_line n v part.Done)) (on n (flush_line n v part.Done) (λ node here there. flush_still n v part.Done node here there)))
-  step_rests (verb.AtVb n v vb_verb.Tick) fits = on_rests n (tick_line n v) (λ node here there. tick_still n v node here there)
-  step_rests (verb.AtVb n v vb_verb.Stat) fits = on_rests n (admin_line n v admin.Stat) (λ node here there. admin_still n v admin.Stat node there)
-  step_rests (verb.AtVb n v vb_verb.Log) fits = on_rests n (admin_line n v admin.Log) (λ node here there. admin_still n v admin.Log node there)
-  step_rests (verb.AtVb n v vb_verb.Show) fits = on_rests n (admin_line n v admin.Show) (λ node here there. admin_still n v admin.Show node there)
-  step_rests (verb.AtNode n (node_verb.Stop k out)) fits = weaker (on_made w n (arm_at (stop_arm k out))).0 (on_made_all Still IsTimely still_steps (λ id. tt) w n (arm_at (stop_arm k out)) all (λ node e there. there))
-  step_rests (verb.AtNode n (node_verb.Fail k)) fits = weaker (on_made w n (arm_at (fail_arm k))).0 (on_made_all Still IsTimely still_steps (λ id. tt) w n (arm_at (fail_arm k)) all (λ node e there. there))
-  step_rests (verb.AtNode n (node_verb.Crash out)) fits = unless_rests (dropped n out w, done (down_lines n None w)) (first_cause (crash_causes w n)) (dropped_all Still IsTimely still_steps (λ id. tt) n out w all)
-  step_rests (verb.AtNode n (node_verb.Start uuids)) fits = weaker (verb_step w number (verb.AtNode n (node_verb.Start uuids))).0 (start_still w r n uuids agrees all)
 
 -- what agrees is sound
 found : (o : Option PlainNode) (v : ℕ) (vb : Plain) → AllIn RestsIf o → vb_in o v ≡ Some vb → RestsIf vb
@@ -406,12 +348,12 @@ still_world w r a rest n = by (w.nodes n) refl
     by None e = tt
     by (Some node) e = λ v vb there. let here : vb_in (w.nodes n) v ≡ Some vb = ap (λ o. vb_in o v) e ∙ there in (sound_of w r a n v vb here, rest n v vb here)
 
--- after a line all is as at rest as before it
-pub line_rests : (w : PlainWorld) (r : Chronicle) (number : ℕ) (line : Verb) → VerbFits line → IsRanged w → Agrees w r → AreAtRest w → (w' : PlainWorld) (r' : Chronicle) → w'.nodes ≡ (verb_step w number line).0.nodes → Agrees w' r' → AreAtRest w'
-line_rests w r number line fits ranged agrees rest w' r' same now n v vb there = by (is_active vb.role) refl
+-- after a line all is as at rest as before it, where it is so at each vBucket that is active
+pub line_rests : (w : PlainWorld) (r : Chronicle) (came : Outcome) → (InWorld Still w → InWorld RestsIf came.0) → Agrees w r → AreAtRest w → (w' : PlainWorld) (r' : Chronicle) → w'.nodes ≡ came.0.nodes → Agrees w' r' → AreAtRest w'
+line_rests w r came steps agrees rest w' r' same now n v vb there = by (is_active vb.role) refl
   where
     rests : RestsIf vb
-    rests = found ((verb_step w number line).0.nodes n) v vb (step_rests w r number ranged agrees (still_world w r agrees rest) line fits n) (sym (ap (λ (f : ℕ → Option PlainNode). vb_in (f n) v) same) ∙ there)
+    rests = found (came.0.nodes n) v vb (steps (still_world w r agrees rest) n) (sym (ap (λ (f : ℕ → Option PlainNode). vb_in (f n) v) same) ∙ there)
 
     by : (b : Bool) → is_active vb.role ≡ b → IsSettled vb
     by true e = rests e

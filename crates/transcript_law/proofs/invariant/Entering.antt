@@ -5,12 +5,10 @@ use Rattle.branch_model.proofs.Entries.{forks_kept, forks_take}
 use Rattle.branch_model.specs.Journals.{found, log_of, roll_point}
 use Rattle.script_text.specs.declared.verb.Verb.TheVariants as verb
 use Rattle.script_text.specs.declared.verb.VbVerb.TheVariants as vb_verb
-use Rattle.script_text.specs.declared.verb.NodeVerb.TheVariants as node_verb
-use Rattle.script_text.specs.declared.verb.LinkVerb.TheVariants as link_verb
-use Rattle.transcript_law.proofs.Words.{ℕ, Bool, true, false, List, [], refl, ap, sym, ◌∙◌, subst, Option, Some, None, LogEntry, Branch, eq-eqb, ne_eqb, Verb, Change, AskAnswer, Event, StreamName, StreamAsk, Role, Answer, AtForks, kept_to, with_entry, IsNew, branch, grow, longer, branch_grow, Granted, Chronicle, empty_chronicle, after_lines, after_verb}
+use Rattle.transcript_law.proofs.Words.{ℕ, Bool, true, false, List, [], refl, ap, sym, ◌∙◌, subst, Option, Some, None, LogEntry, Branch, eq-eqb, ne_eqb, Verb, Change, AskAnswer, Event, StreamName, StreamAsk, Role, Answer, AtForks, kept_to, with_entry, IsNew, branch, grow, longer, branch_grow, Granted, Chronicle, empty_chronicle, after_lines}
 use Rattle.transcript_law.proofs.Words.{with_at, with_changed, granted, parent_branch, changes_between, after_branch, with_begun, with_item, finished, after_line, held_more, past_next, past_mark, IsIfKnown, LawfulLine, LawfulFrom, LawfulAsk}
 use Rattle.transcript_law.proofs.{invariant.Tables.{pick}, invariant.Trees.{IsTold, new_untold}}
-use Rattle.transcript_law.specs.Chronicles.{Appending, ahead, Dial, DiskTold, Flushing, Idle, Taken, Written, after_append, after_calls, after_crash, after_made, after_noted, after_openings, after_restart, after_restarts, after_rollback, after_start, after_starts, after_up, appending, batch_record, batch_stands, broken_by, calls_of_append, crashed_disk, disk_back}
+use Rattle.transcript_law.specs.Chronicles.{Appending, ArmTold, after_armed, after_crashed, after_dial, after_seal, ahead, Dial, DiskTold, Flushing, Idle, Taken, Written, after_append, after_calls, after_crash, after_made, after_noted, after_openings, after_restart, after_restarts, after_rollback, after_start, after_starts, after_up, appending, batch_record, batch_stands, broken_by, calls_of_append, crashed_disk, disk_back}
 use Rattle.transcript_law.specs.Chronicles.{acknowledging, disks_of, finds, is_feed_of, is_made, is_name, is_off, is_rollback, is_stream_at, is_stream_of, known_log, late_told, rollback_of, saving, spent, state_of, told_batch, with_disk, with_disk_there, with_record, with_row}
 use Rattle.transcript_law.specs.Lawfulness.{LawfulAdopt}
 use Rattle.vb_disk.specs.declared.fuse.Fuse.{Fuse}
@@ -254,7 +252,7 @@ found_at tree js (Some x) false at late = at
 row_either : {A : Type 0} (P : A → Type 0) (table : ℕ → ℕ → A) (n : ℕ) (row : ℕ → A) → ((v : ℕ) → P (row v)) → ((m v : ℕ) → P (table m v)) → (m v : ℕ) → P (with_row table n row m v)
 row_either P table n row new old m v = elim (m == n) as (λ b. P (if b then row v else table m v)) [ true ↦ new v | false ↦ old m v ]
 
-crash_entered : (r : Chronicle) (n : ℕ) (out : Outcome) → Entered r → Entered (after_crash r n out)
+pub crash_entered : (r : Chronicle) (n : ℕ) (out : Outcome) → Entered r → Entered (after_crash r n out)
 crash_entered r n out old = record {
   disks = row_either (DiskAt r.tree) r.disk_at n (λ v. crashed_disk out (r.disk_at n v)) (λ v. record { book = found_book v; late = tt; flushing = tt }) old.disks;
   logs = row_either (LogEntered r.tree) r.log_at n (λ v. Some (log_of (crashed_disk out (r.disk_at n v)).book)) (λ v. log_of_at r.tree (crashed_disk out (r.disk_at n v)).book (found_book v)) old.logs;
@@ -297,10 +295,10 @@ append_entered r n v a other old at = old
 one_at : (r : Chronicle) (n v : ℕ) (x : Record) → Entered r → RecordAt r.tree x → AppendAt r.tree (appending x) (r.disk_at n v)
 one_at r n v x old at = record { stands = record { book = (at, (old.disks n v).book); late = (old.disks n v).late; flushing = (old.disks n v).flushing }; fails = old.disks n v; what = at }
 
-noted_entered : (r : Chronicle) (n v : ℕ) (role : Role) (said : Answer) → Entered r → Entered (after_noted r n v role said)
+pub noted_entered : (r : Chronicle) (n v : ℕ) (role : Role) (said : Answer) → Entered r → Entered (after_noted r n v role said)
 noted_entered r n v role said old = append_entered r n v (appending (state_of r n v role)) said old (one_at r n v (state_of r n v role) old (known_at r n v old))
 
-made_entered : (r : Chronicle) (n v : ℕ) (role : Role) (said : Answer) → Entered r → Entered (after_made r n v role said)
+pub made_entered : (r : Chronicle) (n v : ℕ) (role : Role) (said : Answer) → Entered r → Entered (after_made r n v role said)
 made_entered r n v role said old = noted_entered (with_disk_there r n v said) n v role said
     (elim (is_made said) as (λ b. Entered (if b then with_disk r n v (record (r.disk_at n v) { there = true }) else r))
     [ true ↦ disk_entered r n v (record (r.disk_at n v) { there = true }) old (record { book = (old.disks n v).book; late = (old.disks n v).late; flushing = (old.disks n v).flushing }) | false ↦ old ])
@@ -310,12 +308,12 @@ batch_at tree Idle d f at = (at, tt)
 batch_at tree (Taken b) d f at = (record { book = (f, at.book); late = at.late; flushing = tt }, f)
 batch_at tree (Written seq) d f at = (at, tt)
 
-save_entered : (r : Chronicle) (n v : ℕ) (said : Answer) → Entered r → Entered (after_append r n v (saving (r.disk_at n v)) said)
+pub save_entered : (r : Chronicle) (n v : ℕ) (said : Answer) → Entered r → Entered (after_append r n v (saving (r.disk_at n v)) said)
 save_entered r n v said old =
     let d = r.disk_at n v in let at = old.disks n v in let b = batch_at r.tree d.flushing d at.flushing at in
     append_entered r n v (saving d) said old (record { stands = b.0; fails = record { book = at.book; late = at.late; flushing = tt }; what = b.1 })
 
-down_entered : (before r : Chronicle) (dial : Option Dial) (named : Option ℕ) (lines : List Event) (said : Answer) → Entered r → Entered (after_rollback r (rollback_of before dial named) lines said)
+pub down_entered : (before r : Chronicle) (dial : Option Dial) (named : Option ℕ) (lines : List Event) (said : Answer) → Entered r → Entered (after_rollback r (rollback_of before dial named) lines said)
 down_entered before r None named lines said old = old
 down_entered before r (Some dial) None lines said old = old
 down_entered before r (Some dial) (Some named) lines said old = by said
@@ -360,7 +358,7 @@ openings_entered : (before : Fuse) (r : Chronicle) (n : ℕ) (lines : List Event
 openings_entered before r n lines said old = if_entered _ _ _ (record { disks = old.disks; logs = old.logs; streams = old.streams })
     (if_entered _ _ _ old (starts_entered (after_restarts (after_up n r) lines) n said (restarts_entered (after_up n r) lines (record { disks = old.disks; logs = old.logs; streams = old.streams }))))
 
-start_line_entered : (r : Chronicle) (n : ℕ) (lines : List Event) (said : Answer) → Entered r → Entered (after_start r n lines said)
+pub start_line_entered : (r : Chronicle) (n : ℕ) (lines : List Event) (said : Answer) → Entered r → Entered (after_start r n lines said)
 start_line_entered r n lines said old = by said
   where
     opened : (said : Answer) → Entered (after_openings (r.arm_at n).fuse (after_calls (disks_of r n) n r) n lines said)
@@ -381,19 +379,19 @@ ahead_entered r (verb.AtVb n v (vb_verb.Chain others)) answer.Ok old = record { 
 ahead_entered r (verb.AtVb n v vb_verb.Done) (answer.Number saved) old = disk_entered r n v (record (r.disk_at n v) { flushing = Idle; saved = saved }) old (record { book = (old.disks n v).book; late = (old.disks n v).late; flushing = tt })
 ahead_entered r other said old = old
 
-pub verb_entered : (before r : Chronicle) (line : Verb) (lines : List Event) (said : Answer) → Entered r → Entered (after_verb before r line lines said)
-verb_entered before r (verb.AtVb n v (vb_verb.MakeActive uuid)) lines said old = made_entered r n v role.Active said old
-verb_entered before r (verb.AtVb n v vb_verb.MakeReplica) lines said old = made_entered r n v role.Replica said old
-verb_entered before r (verb.Link l m n v) lines answer.Ok old =
+pub dial_entered : (r : Chronicle) (l m n v : ℕ) (said : Answer) → Entered r → Entered (after_dial r l m n v said)
+dial_entered r l m n v answer.Ok old =
     record { disks = old.disks; logs = old.logs; streams = λ s q. either r.tree (is_name s (name.Link l)) None (r.stream_of s q) (λ g e. cc) (old.streams s q) }
-verb_entered before r (verb.AtLink l (link_verb.Down wanted)) lines said old = down_entered before r (before.dial_of l) (before.point_of l) lines said old
-verb_entered before r (verb.AtVb n v (vb_verb.Promote uuid)) lines said old = noted_entered r n v role.Active said old
-verb_entered before r (verb.AtVb n v vb_verb.Follow) lines said old = noted_entered r n v role.Replica said old
-verb_entered before r (verb.AtVb n v vb_verb.Dead) lines said old = noted_entered r n v role.Dead said old
-verb_entered before r (verb.AtVb n v vb_verb.Seal) lines (answer.Number sealed) old = record { disks = old.disks; logs = old.logs; streams = old.streams }
-verb_entered before r (verb.AtVb n v vb_verb.Save) lines said old = save_entered r n v said old
-verb_entered before r (verb.AtNode n (node_verb.Stop call out)) lines answer.Ok old = record { disks = old.disks; logs = old.logs; streams = old.streams }
-verb_entered before r (verb.AtNode n (node_verb.Fail call)) lines answer.Ok old = record { disks = old.disks; logs = old.logs; streams = old.streams }
-verb_entered before r (verb.AtNode n (node_verb.Crash out)) lines answer.Ok old = crash_entered r n out old
-verb_entered before r (verb.AtNode n (node_verb.Start uuids)) lines said old = start_line_entered r n lines said old
-verb_entered before r other lines said old = old
+dial_entered r l m n v other old = old
+
+pub seal_entered : (r : Chronicle) (n v : ℕ) (said : Answer) → Entered r → Entered (after_seal r n v said)
+seal_entered r n v (answer.Number sealed) old = record { disks = old.disks; logs = old.logs; streams = old.streams }
+seal_entered r n v other old = old
+
+pub armed_entered : (r : Chronicle) (n : ℕ) (arm : ArmTold) (said : Answer) → Entered r → Entered (after_armed r n arm said)
+armed_entered r n arm answer.Ok old = record { disks = old.disks; logs = old.logs; streams = old.streams }
+armed_entered r n arm other old = old
+
+pub crashed_entered : (r : Chronicle) (n : ℕ) (out : Outcome) (said : Answer) → Entered r → Entered (after_crashed r n out said)
+crashed_entered r n out answer.Ok old = crash_entered r n out old
+crashed_entered r n out other old = old

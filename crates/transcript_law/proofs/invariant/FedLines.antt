@@ -1,10 +1,10 @@
 -- after each line each stream of a vBucket is that of an open link
 use Rattle.std.specs.Prelude.{◌≡◌, ◌∷◌, ◌++◌, ◌⊎◌}
 use Rattle.transcript_law.proofs.Words.{ℕ, List, [], refl, ap, inl, inr, ⊎_elim, fold, length, take, Option, Some, None, is_some, row_at, States, after, after_job, Cause, EndReason, Role, Plain}
-use Rattle.transcript_law.proofs.Words.{PlainLink, link_number, producer_node, consumer_node, PlainNode, PlainWorld, Told, Outcome, DialTold, with_node_at, with_links, with_states, node_outcome, on_node, own_link, moved_len, peer_of, dial_of, dial_fed, over_why, up_at, pump_at, refusal, refused_or, first_cause, done}
-use Rattle.transcript_law.proofs.Words.{PlainSession, new_session, admin_line, bytes_at, fed_if, client_at, hang_at, clock_at, cut_outcome, empty_node, with_client, with_dialed, ask_in, link_causes, node_causes, vb_causes, vb_at, replica_causes, replica_at, promote_causes, promote_step, role_outcome, turn_causes, turn_step, link_outcome, on_link, with_link, verb_step, StreamAsk, new_link, new_vb, peer_pulled, Verb, with_vb_at}
-use Rattle.transcript_law.proofs.{invariant.Agreement.{IsLink}, invariant.FedNodes.{pump_owned, up_owned}, invariant.Feeding.{AllFed, Fine, armed_fine, broken_fine, dropped_fine, made_fine, node_fine, quiet_fine, role_fine, served_fed, swapped, unlinked_fine, with_node}, invariant.LinkRows.{found_is_link}, verbs.Leaving.{own_found}}
-use Rattle.transcript_law.proofs.{invariant.Quiets.{bytes_quiet, dead_ends, due_quiet, fed_quiet, flush_quiet, follow_ends, posts_quiet, promote_ends, start_quiet}, invariant.Unopened.{NoNew, either, none_new, put_new, step_new}}
+use Rattle.transcript_law.proofs.Words.{PlainLink, link_number, producer_node, consumer_node, PlainNode, PlainWorld, Told, Outcome, DialTold, with_node_at, with_links, with_states, node_outcome, own_link, moved_len, peer_of, dial_of, dial_fed, over_why, up_at, pump_at, refusal, refused_or, first_cause, done}
+use Rattle.transcript_law.proofs.Words.{PlainSession, new_session, bytes_at, fed_if, client_at, hang_at, cut_outcome, with_client, with_dialed, link_outcome, on_link, with_link, StreamAsk, new_link, new_vb, peer_pulled, with_vb_at}
+use Rattle.transcript_law.proofs.{invariant.Agreement.{IsLink}, invariant.FedNodes.{pump_owned, up_owned}, invariant.Feeding.{AllFed, Fine, broken_fine, quiet_fine, served_fed, swapped, unlinked_fine}, invariant.LinkRows.{found_is_link}, verbs.Leaving.{own_found}}
+use Rattle.transcript_law.proofs.{invariant.Quiets.{bytes_quiet, due_quiet, fed_quiet, flush_quiet, posts_quiet, start_quiet}, invariant.Unopened.{NoNew, either, none_new, put_new, step_new}}
 use Rattle.transcript_law.specs.Feeding.{HasIn}
 use Rattle.journal_points.specs.Points.{saved}
 use Rattle.client_session.specs.Serving.{served}
@@ -12,67 +12,59 @@ use Rattle.disk_journals.specs.{Arms.{opens_all}, Books.{Book}}
 use Rattle.durability.specs.Chains.{Members}
 use Rattle.node_core.specs.{Dials.{dial_due}, Flushing.{chain_set, flush_at, ticked}, Loading.{are_short, loaded_by, no_states, starts_of, with_loaded}, Peers.{peer_frames, peer_heard}}
 use Rattle.node_world.proofs.Keeping.{due_dialed, fed_dialed, given_desk, pulled_desk}
-use Rattle.node_world.specs.Arms.{fail_arm, fired_by, placed, stop_arm}
+use Rattle.node_world.specs.Arms.{fired_by, placed}
 use Rattle.node_world.specs.Dues.{due_at, due_in, due_of, is_counted, with_due}
 use Rattle.node_world.specs.Links.{frames_up, left_unless, untold_peer, with_down, with_server, with_up}
-use Rattle.node_world.specs.Nodes.{all_posted, arm_at, chain_causes, chain_line, chain_made, flush_line, save_line, tick_line, vb_made, with_kept}
-use Rattle.node_world.specs.Power.{burnt_arm, crash_causes, down_lines, dropped, loaded_node, not_opened, opened_at, start_at, start_books, start_causes, start_if, start_one, started_by, starts_from}
-use Rattle.node_world.specs.World.{base_of, down_in, down_outcome, relinked}
-use Rattle.node_world.specs.Worlds.{on_made}
+use Rattle.node_world.specs.Nodes.{all_posted, chain_causes, chain_line, chain_made, flush_line, tick_line, vb_made, with_kept}
+use Rattle.node_world.specs.Power.{burnt_arm, loaded_node, not_opened, opened_at, start_at, start_books, start_if, start_one, started_by, starts_from}
+use Rattle.node_world.specs.World.{down_in, down_outcome, relinked}
 use Rattle.node_world.specs.declared.arm.Fired.{Fired}
 use Rattle.node_world.specs.declared.arm.Fired.TheVariants as fired
 use Rattle.vb_calls.specs.States.{make_at}
 use Rattle.vb_types.specs.declared.journal.FlushPart.{FlushPart}
-use Rattle.vb_types.specs.declared.journal.FlushPart.TheVariants as part
 use Rattle.vb_types.specs.declared.journal.Record.{Record}
-use Rattle.script_text.specs.declared.verb.Verb.TheVariants as verb
-use Rattle.script_text.specs.declared.verb.VbVerb.TheVariants as vb_verb
-use Rattle.script_text.specs.declared.verb.NodeVerb.TheVariants as node_verb
-use Rattle.script_text.specs.declared.verb.LinkVerb.TheVariants as link_verb
-use Rattle.script_text.specs.declared.verb.ClientVerb.TheVariants as client_verb
-use Rattle.node_core.specs.declared.admin.AdminCall.TheVariants as admin
 use Rattle.vb_calls.specs.declared.calls.VbCall.TheVariants as call
 
 -- ---- lines of one node
 
-none_less : (node : PlainNode) → NoNew node.vbs node.vbs
+pub none_less : (node : PlainNode) → NoNew node.vbs node.vbs
 none_less node = λ v id h. h
 
-bytes_less : (c : ℕ) (bytes : List ℕ) (node : PlainNode) → NoNew node.vbs (bytes_at c bytes node).0.vbs
+pub bytes_less : (c : ℕ) (bytes : List ℕ) (node : PlainNode) → NoNew node.vbs (bytes_at c bytes node).0.vbs
 bytes_less c bytes node = by (node.clients c)
   where
     by : (o : Option PlainSession) → NoNew node.vbs (fed_if c bytes node o).0.vbs
     by None = none_less node
     by (Some session) = bytes_quiet node.clock bytes (served session []) node.vbs
 
-flush_less : (n v : ℕ) (p : FlushPart) (node : PlainNode) → NoNew node.vbs (flush_line n v p node).0.vbs
+pub flush_less : (n v : ℕ) (p : FlushPart) (node : PlainNode) → NoNew node.vbs (flush_line n v p node).0.vbs
 flush_less n v p node =
     let x = after_job (flush_at n v p) node.vbs node.shelves in
     none_new node.vbs x.0.0 (all_posted x.1.resolved (with_kept node x.0)).0.vbs (flush_quiet n v p node.vbs node.shelves) (posts_quiet x.1.resolved (with_kept node x.0))
 
-refused_less : (node : PlainNode) (x : PlainNode × Told) (why : Option Cause) → NoNew node.vbs x.0.vbs → NoNew node.vbs (refused_or why node x).0.vbs
+pub refused_less : (node : PlainNode) (x : PlainNode × Told) (why : Option Cause) → NoNew node.vbs x.0.vbs → NoNew node.vbs (refused_or why node x).0.vbs
 refused_less node x None less = less
 refused_less node x (Some why) less = none_less node
 
-chain_less : (n v : ℕ) (others : Members) (node : PlainNode) → NoNew node.vbs (chain_line n v others node).0.vbs
+pub chain_less : (n v : ℕ) (others : Members) (node : PlainNode) → NoNew node.vbs (chain_line n v others node).0.vbs
 chain_less n v others node =
     let x = after (chain_set n v (record { active = n; others = others })) node.vbs in
     refused_less node (chain_made n v others node) (first_cause (chain_causes n v others node))
     (none_new node.vbs x.0 (all_posted x.1.resolved (with_states node x.0)).0.vbs (step_new node.vbs v (call.Chain (record { active = n; others = others })) tt) (posts_quiet x.1.resolved (with_states node x.0)))
 
-tick_less : (n v : ℕ) (node : PlainNode) → NoNew node.vbs (tick_line n v node).0.vbs
+pub tick_less : (n v : ℕ) (node : PlainNode) → NoNew node.vbs (tick_line n v node).0.vbs
 tick_less n v node =
     let x = after (ticked n v node.clock) node.vbs in
     none_new node.vbs x.0 (all_posted x.1.resolved (with_states node x.0)).0.vbs (step_new node.vbs v (call.Tick node.clock) tt) (posts_quiet x.1.resolved (with_states node x.0))
 
-made_less : (n v : ℕ) (role : Role) (uuid : ℕ) (node : PlainNode) → NoNew node.vbs (vb_made n v role uuid node).0.vbs
+pub made_less : (n v : ℕ) (role : Role) (uuid : ℕ) (node : PlainNode) → NoNew node.vbs (vb_made n v role uuid node).0.vbs
 made_less n v role uuid node = put_new node.vbs v (new_vb n role uuid) (λ id h. absurd h)
 
-client_less : (n base c : ℕ) (node : PlainNode) → NoNew node.vbs (client_at n base c node).0.vbs
+pub client_less : (n base c : ℕ) (node : PlainNode) → NoNew node.vbs (client_at n base c node).0.vbs
 client_less n base c node = either (λ (x : PlainNode × Told). NoNew node.vbs x.0.vbs) (is_some (node.clients c)) (node, refusal Cause.LinkOpen)
     (with_client node c (Some (new_session (record { node = n; client = c; base = base }))), done []) (none_less node) (none_less node)
 
-hang_less : (c : ℕ) (node : PlainNode) → NoNew node.vbs (hang_at c node).0.vbs
+pub hang_less : (c : ℕ) (node : PlainNode) → NoNew node.vbs (hang_at c node).0.vbs
 hang_less c node = either (λ (x : PlainNode × Told). NoNew node.vbs x.0.vbs) (is_some (node.clients c)) (with_client node c None, done []) (node, refusal Cause.LinkClosed) (none_less node) (none_less node)
 
 -- ---- a node that starts
@@ -105,7 +97,7 @@ starts_none n (start ∷ starts) node told none = by (λ t. starts_none n starts
     by rest fired.Failed = rest _
     by rest fired.Stopped = λ v id h. h
 
-start_less : (n : ℕ) (uuids : List ℕ) (node : PlainNode) → NoNew node.vbs (start_at n uuids node).0.vbs
+pub start_less : (n : ℕ) (uuids : List ℕ) (node : PlainNode) → NoNew node.vbs (start_at n uuids node).0.vbs
 start_less n uuids node = by node.off
   where
     opened : (books : List Book) → NoNew node.vbs (start_books n uuids books node).0.vbs
@@ -126,7 +118,7 @@ module _ (w : PlainWorld) (fine : Fine w) where
   same_fine : (link : PlainLink) → IsLink link w.links → Fine (relinked link (Some link) w)
   same_fine link is = swapped w link link fine is refl refl
 
-  up_fed : (l wanted : ℕ) → AllFed (on_link w l producer_node (up_at wanted)).0
+  pub up_fed : (l wanted : ℕ) → AllFed (on_link w l producer_node (up_at wanted)).0
   up_fed l wanted = by (row_at link_number l w.links) refl
     where
       at : (link : PlainLink) → IsLink link w.links → (o : Option PlainNode) → w.nodes (producer_node link) ≡ o
@@ -142,7 +134,7 @@ module _ (w : PlainWorld) (fine : Fine w) where
       by None e = fine.fed
       by (Some link) e = at link (found_is_link l w.links link e).0 (w.nodes (producer_node link)) refl
 
-  pump_fed : (l frames : ℕ) → AllFed (on_link w l producer_node (pump_at frames)).0
+  pub pump_fed : (l frames : ℕ) → AllFed (on_link w l producer_node (pump_at frames)).0
   pump_fed l frames = by (row_at link_number l w.links) refl
     where
       at : (link : PlainLink) → IsLink link w.links → (o : Option PlainNode) → w.nodes (producer_node link) ≡ o
@@ -178,7 +170,7 @@ module _ (w : PlainWorld) (fine : Fine w) where
     given_over None = swapped (with_node_at w (consumer_node link) left) link (with_down link (moved_len wanted link.down) given) given_stays is refl (ap (λ d. d.link) (fed_dialed piece (dial_of link) at.vbs at.shelves))
     given_over (Some why) = unlinked_fine (with_node_at w (consumer_node link) left) link given_stays is
 
-  down_fine : (l wanted : ℕ) → Fine (on_link w l consumer_node (down_in wanted)).0
+  pub down_fine : (l wanted : ℕ) → Fine (on_link w l consumer_node (down_in wanted)).0
   down_fine l wanted = by (row_at link_number l w.links) refl
     where
       here : (link : PlainLink) → IsLink link w.links → (o : Option PlainNode) → w.nodes (consumer_node link) ≡ o
@@ -190,7 +182,7 @@ module _ (w : PlainWorld) (fine : Fine w) where
       by None e = fine
       by (Some link) e = here link (found_is_link l w.links link e).0 (w.nodes (consumer_node link)) refl
 
-  cut_fine : (l : ℕ) → Fine (cut_outcome w (row_at link_number l w.links)).0
+  pub cut_fine : (l : ℕ) → Fine (cut_outcome w (row_at link_number l w.links)).0
   cut_fine l = by (row_at link_number l w.links) refl
     where
       by : (o : Option PlainLink) → row_at link_number l w.links ≡ o → Fine (cut_outcome w o).0
@@ -202,12 +194,12 @@ module _ (w : PlainWorld) (fine : Fine w) where
   more_in x y [] i = absurd i
   more_in x y (z ∷ zs) i = ⊎_elim (λ e. inl e) (λ j. inr (more_in x y zs j)) i
 
-  dialed_fed : (line l m n v : ℕ) (o : Option StreamAsk) → AllFed (with_links w (with_dialed line l m n v w.links o))
+  pub dialed_fed : (line l m n v : ℕ) (o : Option StreamAsk) → AllFed (with_links w (with_dialed line l m n v w.links o))
   dialed_fed line l m n v None = fine.fed
   dialed_fed line l m n v (Some ask) = λ k q id h. let (x, i, of) = fine.fed k q id h in (x, more_in x (new_link line l m n v ask) w.links i, of)
 
 -- what is due behind a batch
-due_fine : (n v : ℕ) (o : Outcome) → Fine o.0 → Fine (due_in n v o).0
+pub due_fine : (n v : ℕ) (o : Outcome) → Fine o.0 → Fine (due_in n v o).0
 due_fine n v o fine = either (λ (x : Outcome). Fine x.0) (is_counted o.1.answer) (due_of n o.0 o.1 (own_link n v o.0.links)) o (by (own_link n v o.0.links) refl) fine
   where
     at : (link : PlainLink) → IsLink link o.0.links → (k : Option PlainNode) → o.0.nodes n ≡ k → Fine (due_at n link o.0 o.1 k).0
@@ -224,49 +216,14 @@ due_fine n v o fine = either (λ (x : Outcome). Fine x.0) (is_counted o.1.answer
 -- ---- all lines
 
 -- a line that may be refused
-unless_fine : (w : PlainWorld) (o : Outcome) (why : Option Cause) → Fine w → Fine o.0 → Fine (refused_or why w o).0
+pub unless_fine : (w : PlainWorld) (o : Outcome) (why : Option Cause) → Fine w → Fine o.0 → Fine (refused_or why w o).0
 unless_fine w o (Some why) before after = before
 unless_fine w o None before after = after
 
-unless_fed : (w : PlainWorld) (o : Outcome) (why : Option Cause) → AllFed w → AllFed o.0 → AllFed (refused_or why w o).0
+pub unless_fed : (w : PlainWorld) (o : Outcome) (why : Option Cause) → AllFed w → AllFed o.0 → AllFed (refused_or why w o).0
 unless_fed w o (Some why) before after = before
 unless_fed w o None before after = after
 
-broken_line : (w : PlainWorld) (l : ℕ) (o : Option PlainLink) (came : Outcome) → Fine came.0 → Fine (down_outcome w l o came).0
+pub broken_line : (w : PlainWorld) (l : ℕ) (o : Option PlainLink) (came : Outcome) → Fine came.0 → Fine (down_outcome w l o came).0
 broken_line w l None came fine = fine
 broken_line w l (Some link) came fine = broken_fine (consumer_node link) l w came fine
-
-pub line_fed : (w : PlainWorld) (number : ℕ) (line : Verb) → Fine w → AllFed (verb_step w number line).0
-line_fed w number (verb.Node n) fine = unless_fed w (with_node_at w n empty_node, done []) (first_cause (node_causes w n)) fine.fed (with_node w n empty_node fine.fed (λ v id h. absurd h))
-line_fed w number (verb.AtVb n v (vb_verb.MakeActive uuid)) fine = (armed_fine n w (on_node w n (vb_at w.uuids n v uuid))
-    (node_fine w n (vb_at w.uuids n v uuid) fine (λ node. refused_less node (vb_made n v Role.Active uuid node) (first_cause (vb_causes w.uuids node v uuid)) (made_less n v Role.Active uuid node)))).fed
-line_fed w number (verb.AtVb n v vb_verb.MakeReplica) fine = (armed_fine n w (on_node w n (replica_at n v))
-    (node_fine w n (replica_at n v) fine (λ node. refused_less node (vb_made n v Role.Replica 0 node) (first_cause (replica_causes node v)) (made_less n v Role.Replica 0 node)))).fed
-line_fed w number (verb.AtVb n v (vb_verb.Chain others)) fine = (node_fine w n (chain_line n v others) fine (chain_less n v others)).fed
-line_fed w number (verb.AtClient n c client_verb.Open) fine = (node_fine w n (client_at n (base_of number) c) fine (client_less n (base_of number) c)).fed
-line_fed w number (verb.AtClient n c (client_verb.Bytes bytes)) fine = (node_fine w n (bytes_at c bytes) fine (bytes_less c bytes)).fed
-line_fed w number (verb.AtClient n c client_verb.Hang) fine = (node_fine w n (hang_at c) fine (hang_less c)).fed
-line_fed w number (verb.AtNode n (node_verb.Clock nanos)) fine = (node_fine w n (clock_at nanos) fine none_less).fed
-line_fed w number (verb.Link l m n v) fine = unless_fed w (with_links w (with_dialed number l m n v w.links (ask_in w n v)), done []) (first_cause (link_causes w l m n v)) fine.fed (dialed_fed w fine number l m n v (ask_in w n v))
-line_fed w number (verb.AtLink l (link_verb.Up wanted)) fine = up_fed w fine l wanted
-line_fed w number (verb.AtLink l (link_verb.Down wanted)) fine = (broken_line w l (row_at link_number l w.links) (on_link w l consumer_node (down_in wanted)) (down_fine w fine l wanted)).fed
-line_fed w number (verb.AtLink l (link_verb.Pump frames)) fine = pump_fed w fine l frames
-line_fed w number (verb.AtLink l link_verb.Cut) fine = (cut_fine w fine l).fed
-line_fed w number (verb.AtVb n v (vb_verb.Promote uuid)) fine = (armed_fine n w (promote_step w n v uuid)
-    (unless_fine w (role_outcome n v (admin.Promote uuid) w) (first_cause (promote_causes w n v uuid)) fine (role_fine w n v (admin.Promote uuid) (λ node. promote_ends n v uuid (placed v node).vbs (placed v node).shelves) fine))).fed
-line_fed w number (verb.AtVb n v vb_verb.Follow) fine = (armed_fine n w (turn_step w n v Role.Replica admin.Follow)
-    (unless_fine w (role_outcome n v admin.Follow w) (first_cause (turn_causes w n v Role.Replica)) fine (role_fine w n v admin.Follow (λ node. follow_ends n v (placed v node).vbs (placed v node).shelves) fine))).fed
-line_fed w number (verb.AtVb n v vb_verb.Dead) fine = (armed_fine n w (turn_step w n v Role.Dead admin.Dead)
-    (unless_fine w (role_outcome n v admin.Dead w) (first_cause (turn_causes w n v Role.Dead)) fine (role_fine w n v admin.Dead (λ node. dead_ends n v (placed v node).vbs (placed v node).shelves) fine))).fed
-line_fed w number (verb.AtVb n v vb_verb.Seal) fine = (node_fine w n (admin_line n v admin.Seal) fine (λ node. step_new node.vbs v call.Seal tt)).fed
-line_fed w number (verb.AtVb n v vb_verb.Take) fine = (node_fine w n (flush_line n v part.Take) fine (flush_less n v part.Take)).fed
-line_fed w number (verb.AtVb n v vb_verb.Save) fine = (armed_fine n w (on_node w n (save_line n v)) (node_fine w n (save_line n v) fine (λ node. flush_less n v part.Save (placed v node)))).fed
-line_fed w number (verb.AtVb n v vb_verb.Done) fine = (due_fine n v (on_node w n (flush_line n v part.Done)) (node_fine w n (flush_line n v part.Done) fine (flush_less n v part.Done))).fed
-line_fed w number (verb.AtVb n v vb_verb.Tick) fine = (node_fine w n (tick_line n v) fine (tick_less n v)).fed
-line_fed w number (verb.AtVb n v vb_verb.Stat) fine = (node_fine w n (admin_line n v admin.Stat) fine (λ node. step_new node.vbs v call.Stat tt)).fed
-line_fed w number (verb.AtVb n v vb_verb.Log) fine = (node_fine w n (admin_line n v admin.Log) fine (λ node. step_new node.vbs v call.Log tt)).fed
-line_fed w number (verb.AtVb n v vb_verb.Show) fine = (node_fine w n (admin_line n v admin.Show) fine (λ node. step_new node.vbs v call.Show tt)).fed
-line_fed w number (verb.AtNode n (node_verb.Stop k out)) fine = (made_fine w n (arm_at (stop_arm k out)) fine none_less).fed
-line_fed w number (verb.AtNode n (node_verb.Fail k)) fine = (made_fine w n (arm_at (fail_arm k)) fine none_less).fed
-line_fed w number (verb.AtNode n (node_verb.Crash out)) fine = unless_fed w (dropped n out w, done (down_lines n None w)) (first_cause (crash_causes w n)) fine.fed (dropped_fine n out w fine).fed
-line_fed w number (verb.AtNode n (node_verb.Start uuids)) fine = unless_fed w (on_made w n (start_at n uuids)) (first_cause (start_causes w n uuids)) fine.fed (made_fine w n (start_at n uuids) fine (start_less n uuids)).fed

@@ -1,14 +1,13 @@
 -- the streams of vBuckets are those of open links, and the other way round, after every script
 use Rattle.std.specs.Prelude.{◌≡◌, ◌∷◌, ◌⊎◌, ◌==◌, if◌then◌else◌}
-use Rattle.transcript_law.proofs.Words.{ℕ, true, false, List, [], refl, ap, sym, ◌∙◌, subst, inl, inr, ⊎_elim, Option, Some, None, not, eqb-true, All-head, All-tail, ScriptLine, VerbFits, ScriptFits, StartsSound, StaysSound, TakesSnapshots, Stream, Plain, stream_at}
-use Rattle.transcript_law.proofs.Words.{Cluster, PlainNode, PlainWorld, PlainLink, PlainStream, link_number, producer_node, consumer_node, vb_in, with_branches, verb_step, world_step, empty_world, Chronicle, empty_chronicle, starts, stays, take_snapshots, wholes, world_of}
-use Rattle.transcript_law.proofs.{invariant.Agreement.{Agrees, AgreesIn, IsLink, idle, is_down, is_open, vb_of}, invariant.Carried.{numbers, stream_opened}, disks.Disks.{power_in}, invariant.FedLines.{line_fed}, invariant.Feeding.{AllFed}, invariant.LinkRows.{found_is_link, links_apart}, invariant.Numbered.{numbered, numbers_of}}
-use Rattle.transcript_law.proofs.{invariant.Ranged.{IsRanged, line_ranged, start_ranged}, Runs.{line_goes, start}, verbs.Settling.{steady}}
+use Rattle.transcript_law.proofs.Words.{ℕ, true, false, List, [], refl, ap, sym, ◌∙◌, subst, inl, inr, ⊎_elim, Option, Some, None, not, eqb-true, All-head, All-tail, ScriptLine, VerbFits, ScriptFits, Stream, Plain, stream_at}
+use Rattle.transcript_law.proofs.Words.{Cluster, PlainNode, PlainWorld, PlainLink, PlainStream, link_number, producer_node, consumer_node, vb_in, with_branches, verb_step, world_step, empty_world, Chronicle, empty_chronicle, world_of}
+use Rattle.transcript_law.proofs.{invariant.Agreement.{Agrees, AgreesIn, IsLink, idle, is_down, is_open, vb_of}, invariant.Carried.{numbers, stream_opened}, disks.Disks.{power_in}, invariant.Feeding.{AllFed}, invariant.LinkRows.{found_is_link, links_apart}, invariant.Numbered.{numbered, numbers_of}}
+use Rattle.transcript_law.proofs.{invariant.Ranged.{IsRanged, start_ranged}, Runs.{row_of, start}, verbs.Rows.{Row}}
 use Rattle.transcript_law.specs.Feeding.{Has, HasIn, HasStream, IsOf, IsOpenAt, LinksAreFed, StreamsAreLinks}
 use Rattle.transcript_law.specs.Chronicles.{after_group}
 use Rattle.transcript_law.specs.Prefixes.{world_after}
 use Rattle.node_world.specs.Worlds.{is_off, is_up}
-use Rattle.vbucket.specs.Wholes.{BatchesAreWhole}
 
 found_has : (id : ℕ) (ss : List Stream) (s : Stream) → stream_at id ss ≡ Some s → Has ss id
 found_has id [] s e = cc
@@ -65,17 +64,16 @@ module _ (w : PlainWorld) (r : Chronicle) (c : Cluster) (a : AgreesIn idle w r c
         ⊎_elim (λ s. s) (λ ne. absurd ((links_apart link other w.links a.differ p.0 q.0 (λ s. ne (sym p.1 ∙ s ∙ q.1))).follower e f)) (numbers l k);
   }
 
-module _ (starts_sound : StartsSound) (stays_sound : StaysSound) (takes : TakesSnapshots) (wholes : BatchesAreWhole) where
-  -- after more lines
-  linked_from : (w : PlainWorld) (r : Chronicle) (script : List ScriptLine) → ScriptFits script → IsRanged w → Agrees w r → AllFed w → StreamsAreLinks (world_after w script) × LinksAreFed (world_after w script)
-  unfolding world_step
-  linked_from w r [] fits ranged a fed = (streams_are_links w r a.0 a.1 fed, links_are_fed w r a.0 a.1)
-  linked_from w r (line ∷ lines) fits ranged a fed =
-      let fit = All-head (λ (x : ScriptLine). VerbFits x.verb) line lines fits in let outcome = verb_step w line.line line.verb in
-      linked_from (with_branches outcome.1.events outcome.0) (after_group r line.verb outcome.1.events outcome.1.answer) lines (All-tail (λ (x : ScriptLine). VerbFits x.verb) line lines fits)
-      (line_ranged w line.line line.verb fit ranged) (line_goes starts_sound stays_sound steady takes wholes w r line.line line.verb fit ranged a).1
-      (line_fed w line.line line.verb (record { numbers = numbers_of w.links a.1.differ; fed = fed }))
+-- after more lines
+linked_from : (w : PlainWorld) (r : Chronicle) (script : List ScriptLine) → ScriptFits script → IsRanged w → Agrees w r → AllFed w → StreamsAreLinks (world_after w script) × LinksAreFed (world_after w script)
+unfolding world_step
+linked_from w r [] fits ranged a fed = (streams_are_links w r a.0 a.1 fed, links_are_fed w r a.0 a.1)
+linked_from w r (line ∷ lines) fits ranged a fed =
+    let fit = All-head (λ (x : ScriptLine). VerbFits x.verb) line lines fits in let outcome = verb_step w line.line line.verb in let row : Row w line.verb outcome = row_of w line.line line.verb in
+    linked_from (with_branches outcome.1.events outcome.0) (after_group r line.verb outcome.1.events outcome.1.answer) lines (All-tail (λ (x : ScriptLine). VerbFits x.verb) line lines fits)
+    (row.ranged fit ranged) (row.goes r fit ranged a).1
+    (row.fed (record { numbers = numbers_of w.links a.1.differ; fed = fed }))
 
 -- after a script
 pub streams_linked : (script : List ScriptLine) → ScriptFits script → StreamsAreLinks (world_of script) × LinksAreFed (world_of script)
-streams_linked script fits = linked_from starts stays take_snapshots wholes empty_world empty_chronicle script fits start_ranged start (λ n v id h. absurd h)
+streams_linked script fits = linked_from empty_world empty_chronicle script fits start_ranged start (λ n v id h. absurd h)

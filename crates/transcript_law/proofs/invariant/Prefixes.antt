@@ -2,20 +2,19 @@
 use Rattle.transcript_law.specs.Chronicles.{ahead}
 use Rattle.std.specs.Prelude.{◌≡◌, ◌+◌, ◌<◌, ◌≤◌, ◌∷◌, if◌then◌else◌}
 use Rattle.{branch_model.specs.Journals.{IsPoint, complete_points, image_at}, cluster_model.proofs.Runs.{point_shown}, vb_calls.specs.Shelves.{Shelf}, transcript_law.specs.Prefixes.{PointsAreBranch}}
-use Rattle.{vbucket.specs.{Settles.{IsSettled}, Wholes.{BatchesAreWhole}}}
+use Rattle.{vbucket.specs.{Settles.{IsSettled}}}
 use Rattle.disk_journals.specs.Books.{Book}
-use Rattle.transcript_law.proofs.{invariant.Agreement.{BookBy, BookIs, book_in, is_down}, disks.Disks.{power_in}, invariant.Entering.{Entered, ahead_entered, lines_entered, log_entered, start_entered, verb_entered}}
+use Rattle.transcript_law.proofs.{invariant.Agreement.{BookBy, BookIs, book_in, is_down}, disks.Disks.{power_in}, invariant.Entering.{Entered, ahead_entered, lines_entered, log_entered, start_entered}}
 use Rattle.transcript_law.specs.{Chronicles.{after_group}, Plainness.{AreOwnIf, IsOwnIf}, Prefixes.{off_of_node}}
 use Rattle.vb_types.specs.declared.journal.Record.{Record}
 use Rattle.transcript_law.proofs.{invariant.Agreement.{AgreesAt, DiskIsIf, shelf_of, top}, links.Followed.{own_is}}
 use Rattle.transcript_law.proofs.Words.{ℕ, true, List, [], refl, ap, sym, ◌∙◌, subst, ⊎_elim, arith, Option, Some, None, All-head, All-tail, ScriptLine, VerbFits, ScriptFits, LogEntry, upto}
-use Rattle.transcript_law.proofs.Words.{image_of, Ancestry, Traces, IsFront, reach_of, Branch, hist, Shared, ForksBelow, Member, Cluster, above, tells, Plain, is_active, StartsSound, StaysSound, TakesSnapshots}
-use Rattle.transcript_law.proofs.verbs.Settling.{steady}
-use Rattle.transcript_law.proofs.Words.{starts, stays, take_snapshots, wholes, PlainWorld, empty_world, with_branches, verb_step, world_step, groups_from, Chronicle, empty_chronicle, after_lines, known_history}
+use Rattle.transcript_law.proofs.Words.{image_of, Ancestry, Traces, IsFront, reach_of, Branch, hist, Shared, ForksBelow, Member, Cluster, above, tells, Plain, is_active}
+use Rattle.transcript_law.proofs.Words.{PlainWorld, empty_world, with_branches, verb_step, world_step, groups_from, Chronicle, empty_chronicle, after_lines, known_history}
 use Rattle.transcript_law.proofs.Words.{PlainNode, PlainSession, is_some, world_of, told_of, FollowsBranch, AreFollowed, Bool, false}
 use Rattle.transcript_law.proofs.Words.{branch}
 use Rattle.transcript_law.proofs.{invariant.Agreement.{vb_of, BranchIs, Writes, WritesIf, VbAgrees, AgreesAt, top}}
-use Rattle.transcript_law.proofs.{invariant.Agreement.{idle, AgreesIn, Agrees}, invariant.AtRest.{AreAtRest, line_rests, start_rests}, invariant.Ranged.{IsRanged, NodeRangedIf, SessionRangedIf, start_ranged, line_ranged}, Runs.{start, line_goes}, invariant.Seats.{seat}, invariant.Agreement.{image_is}, verbs.Showing.{history_by, same_image}}
+use Rattle.transcript_law.proofs.{invariant.Agreement.{idle, AgreesIn, Agrees}, invariant.AtRest.{AreAtRest, line_rests, start_rests}, invariant.Ranged.{IsRanged, NodeRangedIf, SessionRangedIf, start_ranged}, Runs.{row_of, start}, verbs.Rows.{Row}, invariant.Seats.{seat}, invariant.Agreement.{image_is}, verbs.Showing.{history_by, same_image}}
 use Rattle.transcript_law.proofs.{invariant.Tables.{if_known}, invariant.Trees.{told_below}, verbs.Writing.{forks_below}}
 use Rattle.{branch_model.specs.Snapshots.{Follows}, cluster_model.specs.Clusters.{IsBranch}}
 use Rattle.{transcript_law.specs.Lawfulness.{IsWriter}, transcript_law.specs.Prefixes.{world_after}}
@@ -156,20 +155,19 @@ module _ (w : PlainWorld) (r : Chronicle) (c : Cluster) (a : AgreesIn idle w r c
     own = λ n. own_at n (w.nodes n) (ranged n);
   }
 
-module _ (starts_sound : StartsSound) (stays_sound : StaysSound) (takes : TakesSnapshots) (wholes : BatchesAreWhole) where
-  -- after more lines
-  followed_from : (w : PlainWorld) (r : Chronicle) (script : List ScriptLine) → ScriptFits script → IsRanged w → AreAtRest w → Agrees w r → Entered r
-      → AreFollowed (told_after r script (groups_from w script)) (world_after w script)
-  unfolding world_step
-  followed_from w r [] fits ranged rest a entered = are_followed w r a.0 a.1 entered rest ranged
-  followed_from w r (line ∷ lines) fits ranged rest a entered =
-      let fit = All-head (λ (x : ScriptLine). VerbFits x.verb) line lines fits in let outcome = verb_step w line.line line.verb in
-      let went = line_goes starts_sound stays_sound steady takes wholes w r line.line line.verb fit ranged a in
-      let r' : Chronicle = after_group r line.verb outcome.1.events outcome.1.answer in
-      followed_from (with_branches outcome.1.events outcome.0) r' lines (All-tail (λ (x : ScriptLine). VerbFits x.verb) line lines fits) (line_ranged w line.line line.verb fit ranged)
-      (line_rests w r line.line line.verb fit ranged a rest (with_branches outcome.1.events outcome.0) r' refl went.1) went.1
-      (verb_entered r (after_lines (ahead r line.verb outcome.1.answer) outcome.1.events) line.verb outcome.1.events outcome.1.answer (lines_entered (ahead r line.verb outcome.1.answer) outcome.1.events (ahead_entered r line.verb outcome.1.answer entered) went.0))
+-- after more lines
+followed_from : (w : PlainWorld) (r : Chronicle) (script : List ScriptLine) → ScriptFits script → IsRanged w → AreAtRest w → Agrees w r → Entered r
+    → AreFollowed (told_after r script (groups_from w script)) (world_after w script)
+unfolding world_step
+followed_from w r [] fits ranged rest a entered = are_followed w r a.0 a.1 entered rest ranged
+followed_from w r (line ∷ lines) fits ranged rest a entered =
+    let fit = All-head (λ (x : ScriptLine). VerbFits x.verb) line lines fits in let outcome = verb_step w line.line line.verb in let row : Row w line.verb outcome = row_of w line.line line.verb in
+    let went = row.goes r fit ranged a in
+    let r' : Chronicle = after_group r line.verb outcome.1.events outcome.1.answer in
+    followed_from (with_branches outcome.1.events outcome.0) r' lines (All-tail (λ (x : ScriptLine). VerbFits x.verb) line lines fits) (row.ranged fit ranged)
+    (line_rests w r outcome (row.rests r ranged a) a rest (with_branches outcome.1.events outcome.0) r' refl went.1) went.1
+    (row.entered r (after_lines (ahead r line.verb outcome.1.answer) outcome.1.events) (lines_entered (ahead r line.verb outcome.1.answer) outcome.1.events (ahead_entered r line.verb outcome.1.answer entered) went.0))
 
 -- after a script
 pub branches_followed : (script : List ScriptLine) → ScriptFits script → AreFollowed (told_of script) (world_of script)
-branches_followed script fits = followed_from starts stays take_snapshots wholes empty_world empty_chronicle script fits start_ranged (start_rests empty_world (λ n. refl)) start start_entered
+branches_followed script fits = followed_from empty_world empty_chronicle script fits start_ranged (start_rests empty_world (λ n. refl)) start start_entered

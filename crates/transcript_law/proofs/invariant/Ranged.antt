@@ -1,29 +1,22 @@
 -- that the clock of each node shows a number of 64 bits, and that each client's session is at its own node and has kept bytes
 use Rattle.std.specs.Prelude.{◌<◌, ◌∷◌, ◌≡◌, ◌==◌, ◌^◌, if◌then◌else◌}
-use Rattle.transcript_law.proofs.Words.{Outcome, ℕ, List, [], subst, All-nil, Frame, AreBytes, Bool, true, false, refl, sym, arith, Option, Some, None, is_some, eqb-true, Verb, VerbFits, Cause, Role, after, after_job}
+use Rattle.transcript_law.proofs.Words.{Outcome, ℕ, List, [], subst, All-nil, Frame, AreBytes, Bool, true, false, refl, sym, arith, Option, Some, None, is_some, eqb-true, Cause, after, after_job}
 use Rattle.transcript_law.proofs.Words.{States, row_at, PlainSession, new_session, left_open, Told, PlainLink, LinkTold, link_number, producer_node, consumer_node, up_at, bytes_served}
-use Rattle.transcript_law.proofs.Words.{pump_at, node_if, AdminCall, AdminTold, unlinked, own_link, cut_off, links_told, called_at, admin_line, with_ended, turned_if, no_node, turned_after, role_outcome}
-use Rattle.transcript_law.proofs.Words.{promote_causes, turn_causes, turn_step, PlainNode, PlainWorld, cut_outcome, empty_world, with_node_at, with_links, empty_node, done, refusal, first_cause, refused_or}
-use Rattle.transcript_law.proofs.Words.{node_outcome, on_node, node_causes, vb_causes, vb_at, replica_causes, replica_at, with_client, client_at, with_states, fed_if, bytes_at, hang_at, clock_at}
-use Rattle.transcript_law.proofs.{Words.{ask_in, link_causes, with_dialed, with_link, link_outcome, on_link, verb_step}, invariant.Sessions.{SessionRanged, outcome_ranged, served_ranged}}
+use Rattle.transcript_law.proofs.Words.{node_if, AdminCall, AdminTold, unlinked, own_link, cut_off, links_told, called_at, admin_line, with_ended, turned_if, no_node, turned_after, role_outcome}
+use Rattle.transcript_law.proofs.Words.{PlainNode, PlainWorld, empty_world, with_node_at, done, refusal, first_cause, refused_or}
+use Rattle.transcript_law.proofs.Words.{node_outcome, on_node, with_client, client_at, with_states, fed_if, bytes_at, hang_at}
+use Rattle.transcript_law.proofs.{Words.{with_link, link_outcome, on_link}, invariant.Sessions.{SessionRanged, outcome_ranged, served_ranged}}
 use Rattle.{client_session.specs.Serving.{Served, outcome_served, served}, durability.specs.Chains.{Members}, node_world.specs.Cuts.{closed_at}, node_world.specs.declared.script_node.TheConstants.{MAX_CLIENTS}}
 use Rattle.node_core.specs.{Admin.{admin_refused}, Dials.{dial_due}, Flushing.{chain_set, flush_at, ticked}, Loading.{are_short, starts_of}, Peers.{PeerTold, peer_answered, peer_frames, peer_heard}}
-use Rattle.node_world.specs.{Arms.{fail_arm, fired_by, lifted, placed, stop_arm, under_arm}, Dues.{due_at, due_in, due_of, is_counted}, Links.{dial_of, frame_up, frames_up, moved_len, peer_of, untold_peer}, Turns.{posted_at, posted_in, promote_step, role_called, turned}}
-use Rattle.node_world.specs.Nodes.{all_posted, arm_at, awaiting, chain_causes, chain_line, chain_made, flush_line, if_up, posted_if, posted_to, save_line, tick_line, vb_made, with_kept}
-use Rattle.node_world.specs.World.{base_of, down_in, down_outcome, relinked}
+use Rattle.node_world.specs.{Arms.{fired_by, lifted, placed, under_arm}, Dues.{due_at, due_in, due_of, is_counted}, Links.{dial_of, frame_up, frames_up, moved_len, peer_of, untold_peer}, Turns.{posted_at, posted_in, role_called, turned}}
+use Rattle.node_world.specs.Nodes.{all_posted, awaiting, chain_causes, chain_line, chain_made, flush_line, if_up, posted_if, posted_to, save_line, tick_line, with_kept}
+use Rattle.node_world.specs.World.{down_outcome, relinked}
 use Rattle.{disk_journals.specs.Arms.{opens_all}, disk_journals.specs.Books.{Book}, node_world.specs.Worlds.{arm_in, on_made}, vb_calls.specs.declared.calls.Resolved.{Resolved}, vb_types.specs.declared.journal.FlushPart.{FlushPart}}
-use Rattle.node_world.specs.Power.{after_broken, after_fire, all_cut, all_unlinked, burnt_arm, crash_causes, down_lines, dropped, is_broken_answer, loaded_node, not_opened, start_at, start_books, start_causes, start_if, start_one, started_by, starts_from, stopped_node, touches, with_arm, with_broken}
+use Rattle.node_world.specs.Power.{after_broken, after_fire, all_cut, all_unlinked, burnt_arm, dropped, is_broken_answer, loaded_node, not_opened, start_at, start_books, start_if, start_one, started_by, starts_from, stopped_node, touches, with_arm, with_broken}
 use Rattle.{node_world.specs.declared.arm.Fired.{Fired}, transcript_law.proofs.Words.{filter, length, take}, vb_disk.specs.declared.made.Outcome.{Outcome as Left}}
 use Rattle.node_world.specs.declared.arm.Fired.TheVariants as fired
-use Rattle.script_text.specs.declared.verb.Verb.TheVariants as verb
-use Rattle.script_text.specs.declared.verb.VbVerb.TheVariants as vb_verb
-use Rattle.script_text.specs.declared.verb.NodeVerb.TheVariants as node_verb
-use Rattle.script_text.specs.declared.verb.LinkVerb.TheVariants as link_verb
-use Rattle.script_text.specs.declared.verb.ClientVerb.TheVariants as client_verb
 use Rattle.vb_events.specs.declared.event.Cause.TheVariants as cause
 use Rattle.vb_types.specs.declared.journal.FlushPart.TheVariants as part
-use Rattle.vb_types.specs.declared.role.Role.TheVariants as role
-use Rattle.node_core.specs.declared.admin.AdminCall.TheVariants as admin
 
 abbrev pub SessionRangedIf : ℕ → Option PlainSession → Type 0
 SessionRangedIf n None = Unit {0}
@@ -54,19 +47,19 @@ with_node w n node ranged here m = by (m == n) refl
     by true e = subst (λ k. NodeRanged k node) (sym (eqb-true m n e)) here
     by false e = ranged m
 
-on_made_ranged : (w : PlainWorld) (n : ℕ) (f : PlainNode → PlainNode × Told) → IsRanged w → ((node : PlainNode) → NodeRanged n node → NodeRanged n (f node).0) → IsRanged (on_made w n f).0
+pub on_made_ranged : (w : PlainWorld) (n : ℕ) (f : PlainNode → PlainNode × Told) → IsRanged w → ((node : PlainNode) → NodeRanged n node → NodeRanged n (f node).0) → IsRanged (on_made w n f).0
 on_made_ranged w n f ranged keeps = by (w.nodes n) (ranged n)
   where
     by : (o : Option PlainNode) → NodeRangedIf n o → IsRanged (node_outcome w n (refusal cause.UnknownNode) o f).0
     by None there = ranged
     by (Some node) there = with_node w n (f node).0 ranged (keeps node there)
 
-on_node_ranged : (w : PlainWorld) (n : ℕ) (f : PlainNode → PlainNode × Told) → IsRanged w → ((node : PlainNode) → NodeRanged n node → NodeRanged n (f node).0) → IsRanged (on_node w n f).0
+pub on_node_ranged : (w : PlainWorld) (n : ℕ) (f : PlainNode → PlainNode × Told) → IsRanged w → ((node : PlainNode) → NodeRanged n node → NodeRanged n (f node).0) → IsRanged (on_node w n f).0
 on_node_ranged w n f ranged keeps = on_made_ranged w n (if_up f) ranged (λ node r.
     elim (is_some node.off) as (λ b. let x : PlainNode × Told = if b then (node, refusal cause.NodeDown) else f node in NodeRanged n x.0) [ true ↦ r | false ↦ keeps node r ])
 
 -- what a table of causes keeps
-kept_or : (n : ℕ) (node : PlainNode) (x : PlainNode × Told) (why : Option Cause) → NodeRanged n node → NodeRanged n x.0 → NodeRanged n (refused_or why node x).0
+pub kept_or : (n : ℕ) (node : PlainNode) (x : PlainNode × Told) (why : Option Cause) → NodeRanged n node → NodeRanged n x.0 → NodeRanged n (refused_or why node x).0
 kept_or n node x (Some why) before after = before
 kept_or n node x None before after = after
 
@@ -82,13 +75,13 @@ with_client_ranged : (n c : ℕ) (node : PlainNode) (o : Option PlainSession) �
 with_client_ranged n c node o ranged here =
     record { clock = ranged.clock; clients = λ d. elim (d == c) as (λ b. SessionRangedIf n (if b then o else node.clients d)) [ true ↦ here | false ↦ ranged.clients d ] }
 
-client_ranged : (n base c : ℕ) (node : PlainNode) → NodeRanged n node → NodeRanged n (client_at n base c node).0
+pub client_ranged : (n base c : ℕ) (node : PlainNode) → NodeRanged n node → NodeRanged n (client_at n base c node).0
 client_ranged n base c node ranged =
     let opened : PlainSession = new_session (record { node = n; client = c; base = base }) in
     let fresh = with_client_ranged n c node (Some opened) ranged (record { node = refl; bytes = All-nil (λ b. b < 256) }) in
     elim (is_some (node.clients c)) as (λ b. let x : PlainNode × Told = if b then (node, refusal cause.LinkOpen) else (with_client node c (Some opened), done []) in NodeRanged n x.0) [ true ↦ ranged | false ↦ fresh ]
 
-hang_ranged : (n c : ℕ) (node : PlainNode) → NodeRanged n node → NodeRanged n (hang_at c node).0
+pub hang_ranged : (n c : ℕ) (node : PlainNode) → NodeRanged n node → NodeRanged n (hang_at c node).0
 hang_ranged n c node ranged = elim (is_some (node.clients c)) as (λ b. let x : PlainNode × Told = if b then (with_client node c None, done []) else (node, refusal cause.LinkClosed) in NodeRanged n x.0)
     [ true ↦ with_client_ranged n c node None ranged tt | false ↦ ranged ]
 
@@ -98,7 +91,7 @@ hang_ranged n c node ranged = elim (is_some (node.clients c)) as (λ b. let x : 
 left_ranged : (n : ℕ) (session : PlainSession) → SessionRanged n session → SessionRangedIf n (left_open session)
 left_ranged n session ranged = elim session.closed as (λ b. SessionRangedIf n (if b then None else Some session)) [ true ↦ tt | false ↦ ranged ]
 
-bytes_ranged : (n c : ℕ) (bytes : List ℕ) (node : PlainNode) → AreBytes bytes → NodeRanged n node → NodeRanged n (bytes_at c bytes node).0
+pub bytes_ranged : (n c : ℕ) (bytes : List ℕ) (node : PlainNode) → AreBytes bytes → NodeRanged n node → NodeRanged n (bytes_at c bytes node).0
 bytes_ranged n c bytes node are ranged = by (node.clients c) (ranged.clients c)
   where
     by : (o : Option PlainSession) → SessionRangedIf n o → NodeRanged n (fed_if c bytes node o).0
@@ -128,25 +121,25 @@ posts_ranged n (r ∷ rs) node ranged =
 pub told_ranged : (n : ℕ) (rs : List Resolved) (node node' : PlainNode) → node'.clock ≡ node.clock → ((c : ℕ) → node'.clients c ≡ node.clients c) → NodeRanged n node → NodeRanged n (all_posted rs node').0
 told_ranged n rs node node' clock clients ranged = posts_ranged n rs node' (kept_ranged n node node' clock clients ranged)
 
-flush_ranged : (n v : ℕ) (p : FlushPart) (node : PlainNode) → NodeRanged n node → NodeRanged n (flush_line n v p node).0
+pub flush_ranged : (n v : ℕ) (p : FlushPart) (node : PlainNode) → NodeRanged n node → NodeRanged n (flush_line n v p node).0
 flush_ranged n v p node ranged =
     let x = after_job (flush_at n v p) node.vbs node.shelves in told_ranged n x.1.resolved node (with_kept node x.0) refl (λ c. refl) ranged
 
 -- under the node's arm
-save_ranged : (n v : ℕ) (node : PlainNode) → NodeRanged n node → NodeRanged n (save_line n v node).0
+pub save_ranged : (n v : ℕ) (node : PlainNode) → NodeRanged n node → NodeRanged n (save_line n v node).0
 save_ranged n v node ranged =
     let y = flush_line n v part.Save (placed v node) in
     kept_ranged n y.0 (lifted v y.0) refl (λ c. refl) (flush_ranged n v part.Save (placed v node) (kept_ranged n node (placed v node) refl (λ c. refl) ranged))
 
-chain_ranged : (n v : ℕ) (others : Members) (node : PlainNode) → NodeRanged n node → NodeRanged n (chain_line n v others node).0
+pub chain_ranged : (n v : ℕ) (others : Members) (node : PlainNode) → NodeRanged n node → NodeRanged n (chain_line n v others node).0
 chain_ranged n v others node ranged =
     let x = after (chain_set n v (record { active = n; others = others })) node.vbs in
     kept_or n node (chain_made n v others node) (first_cause (chain_causes n v others node)) ranged (told_ranged n x.1.resolved node (with_states node x.0) refl (λ c. refl) ranged)
 
-tick_ranged : (n v : ℕ) (node : PlainNode) → NodeRanged n node → NodeRanged n (tick_line n v node).0
+pub tick_ranged : (n v : ℕ) (node : PlainNode) → NodeRanged n node → NodeRanged n (tick_line n v node).0
 tick_ranged n v node ranged = let x = after (ticked n v node.clock) node.vbs in told_ranged n x.1.resolved node (with_states node x.0) refl (λ c. refl) ranged
 
-admin_ranged : (n v : ℕ) (asked : AdminCall) (node : PlainNode) → NodeRanged n node → NodeRanged n (admin_line n v asked node).0
+pub admin_ranged : (n v : ℕ) (asked : AdminCall) (node : PlainNode) → NodeRanged n node → NodeRanged n (admin_line n v asked node).0
 admin_ranged n v asked node ranged = kept_ranged n node (admin_line n v asked node).0 refl (λ c. refl) ranged
 
 -- lines of links
@@ -162,7 +155,7 @@ relinked_ranged w before None ranged = unlinked_ranged w before ranged
 relinked_ranged w before (Some link) ranged = ranged
 
 -- a line of an open link leaves the clock and the connections of the node of its end
-on_link_ranged : (w : PlainWorld) (l : ℕ) (end : PlainLink → ℕ) (f : PlainLink → PlainNode → PlainNode × LinkTold) → IsRanged w → ((link : PlainLink) (n : ℕ) (node : PlainNode) → NodeRanged n node → NodeRanged n (f link node).0)
+pub on_link_ranged : (w : PlainWorld) (l : ℕ) (end : PlainLink → ℕ) (f : PlainLink → PlainNode → PlainNode × LinkTold) → IsRanged w → ((link : PlainLink) (n : ℕ) (node : PlainNode) → NodeRanged n node → NodeRanged n (f link node).0)
     → IsRanged (on_link w l end f).0
 on_link_ranged w l end f ranged keeps = by (row_at link_number l w.links)
   where
@@ -181,7 +174,7 @@ frames_ranged n (f ∷ frames) came ranged =
     let x = after (peer_answered f came.1.peer) came.0.vbs in
     frames_ranged n frames (frame_up f came) (told_ranged n x.1.resolved came.0 (with_states came.0 x.0) refl (λ c. refl) ranged)
 
-up_ranged : (n wanted : ℕ) (link : PlainLink) (node : PlainNode) → NodeRanged n node → NodeRanged n (up_at wanted link node).0
+pub up_ranged : (n wanted : ℕ) (link : PlainLink) (node : PlainNode) → NodeRanged n node → NodeRanged n (up_at wanted link node).0
 up_ranged n wanted link node ranged =
     let piece : List ℕ = take (moved_len wanted link.up) link.up in
     frames_ranged n (peer_frames piece (peer_of link)) (node, untold_peer (peer_heard piece (peer_of link))) ranged
@@ -202,7 +195,7 @@ turned_ranged n v before w told None ranged after = ranged
 turned_ranged n v before w told (Some ids) ranged after = posts_in_ranged n told.resolved (turned n v told (with_ended n v ids w))
     (elim (own_link n v (links_told n v ids w.links)) as (λ o. IsRanged (cut_off o (with_ended n v ids w)).0) [ None ↦ after | Some link ↦ unlinked_ranged (with_ended n v ids w) link after ])
 
-role_ranged : (w : PlainWorld) (n v : ℕ) (asked : AdminCall) → IsRanged w → IsRanged (role_outcome n v asked w).0
+pub role_ranged : (w : PlainWorld) (n v : ℕ) (asked : AdminCall) → IsRanged w → IsRanged (role_outcome n v asked w).0
 role_ranged w n v asked ranged = by (w.nodes n) (ranged n)
   where
     called : (node : PlainNode) → NodeRanged n node → NodeRanged n (role_called n v asked node).0
@@ -224,7 +217,7 @@ all_unlinked_ranged : (links : List PlainLink) (w : PlainWorld) → IsRanged w �
 all_unlinked_ranged [] w ranged = ranged
 all_unlinked_ranged (link ∷ links) w ranged = all_unlinked_ranged links (unlinked link w) (unlinked_ranged w link ranged)
 
-dropped_ranged : (n : ℕ) (out : Left) (w : PlainWorld) → IsRanged w → IsRanged (dropped n out w)
+pub dropped_ranged : (n : ℕ) (out : Left) (w : PlainWorld) → IsRanged w → IsRanged (dropped n out w)
 dropped_ranged n out w ranged =
     let cut : PlainWorld = all_cut n w in let r : IsRanged cut = all_unlinked_ranged (filter (touches n) w.links) w ranged in
     elim (cut.nodes n) as (λ o. IsRanged (node_if n (stopped_node out) cut o)) [ None ↦ r | Some node ↦ with_node cut n (stopped_node out node) r (stopped_ranged n out node) ]
@@ -234,7 +227,7 @@ fired_ranged n out fired.No came ranged = ranged
 fired_ranged n out fired.Failed came ranged = ranged
 fired_ranged n out fired.Stopped came ranged = dropped_ranged n out came.0 ranged
 
-armed_ranged : (n : ℕ) (before : PlainWorld) (came : Outcome) → IsRanged came.0 → IsRanged (with_arm n before came).0
+pub armed_ranged : (n : ℕ) (before : PlainWorld) (came : Outcome) → IsRanged came.0 → IsRanged (with_arm n before came).0
 armed_ranged n before came ranged = fired_ranged n (arm_in (before.nodes n)).out (fired_by (arm_in (before.nodes n)).fuse (arm_in (came.0.nodes n)).fuse) came ranged
 
 broken_ranged : (n l : ℕ) (before : PlainWorld) (came : Outcome) → IsRanged came.0 → IsRanged (with_broken n l before came).0
@@ -249,7 +242,7 @@ broken_ranged n l before came ranged = by (is_broken_answer came.1.answer)
     by true = at (fired_by (arm_in (before.nodes n)).fuse (arm_in (came.0.nodes n)).fuse)
     by false = ranged
 
-down_ranged : (w : PlainWorld) (l : ℕ) (o : Option PlainLink) (came : Outcome) → IsRanged came.0 → IsRanged (down_outcome w l o came).0
+pub down_ranged : (w : PlainWorld) (l : ℕ) (o : Option PlainLink) (came : Outcome) → IsRanged came.0 → IsRanged (down_outcome w l o came).0
 down_ranged w l None came ranged = ranged
 down_ranged w l (Some link) came ranged = broken_ranged (consumer_node link) l w came ranged
 
@@ -275,19 +268,16 @@ books_ranged n uuids books node ranged = by (opens_all node.arm.fuse (length boo
     by true false = loaded
     by false short = kept_ranged n node (not_opened n node).0 refl (λ c. refl) ranged
 
-start_at_ranged : (n : ℕ) (uuids : List ℕ) (node : PlainNode) → NodeRanged n node → NodeRanged n (start_at n uuids node).0
+pub start_at_ranged : (n : ℕ) (uuids : List ℕ) (node : PlainNode) → NodeRanged n node → NodeRanged n (start_at n uuids node).0
 start_at_ranged n uuids node ranged = elim node.off as (λ o. NodeRanged n (start_if n uuids node o).0) [ None ↦ ranged | Some books ↦ books_ranged n uuids books node ranged ]
 
 -- a line that may be refused
-unless_ranged : (w : PlainWorld) (o : Outcome) (why : Option Cause) → IsRanged w → IsRanged o.0 → IsRanged (refused_or why w o).0
+pub unless_ranged : (w : PlainWorld) (o : Outcome) (why : Option Cause) → IsRanged w → IsRanged o.0 → IsRanged (refused_or why w o).0
 unless_ranged w o (Some why) ranged after = ranged
 unless_ranged w o None ranged after = after
 
-turn_ranged : (w : PlainWorld) (n v : ℕ) (new : Role) (asked : AdminCall) → IsRanged w → IsRanged (turn_step w n v new asked).0
-turn_ranged w n v new asked ranged = unless_ranged w (role_outcome n v asked w) (first_cause (turn_causes w n v new)) ranged (role_ranged w n v asked ranged)
-
 -- what is due behind a batch
-due_ranged : (n v : ℕ) (o : Outcome) → IsRanged o.0 → IsRanged (due_in n v o).0
+pub due_ranged : (n v : ℕ) (o : Outcome) → IsRanged o.0 → IsRanged (due_in n v o).0
 due_ranged n v o ranged = by (is_counted o.1.answer)
   where
     at : (link : PlainLink) (k : Option PlainNode) → NodeRangedIf n k → IsRanged (due_at n link o.0 o.1 k).0
@@ -301,40 +291,3 @@ due_ranged n v o ranged = by (is_counted o.1.answer)
     by : (b : Bool) → IsRanged (let x : Outcome = if b then due_of n o.0 o.1 (own_link n v o.0.links) else o in x.0)
     by true = of (own_link n v o.0.links)
     by false = ranged
-
--- each line of a script
-pub line_ranged : (w : PlainWorld) (number : ℕ) (line : Verb) → VerbFits line → IsRanged w → IsRanged (verb_step w number line).0
-line_ranged w number (verb.Node n) fits ranged =
-    unless_ranged w (with_node_at w n empty_node, done []) (first_cause (node_causes w n)) ranged (with_node w n empty_node ranged (record { clock = omega arith; clients = λ c. tt }))
-line_ranged w number (verb.AtVb n v (vb_verb.MakeActive uuid)) fits ranged = armed_ranged n w (on_node w n (vb_at w.uuids n v uuid)) (on_node_ranged w n (vb_at w.uuids n v uuid) ranged (λ node r.
-    kept_or n node (vb_made n v role.Active uuid node) (first_cause (vb_causes w.uuids node v uuid)) r (kept_ranged n node (vb_made n v role.Active uuid node).0 refl (λ c. refl) r)))
-line_ranged w number (verb.AtVb n v vb_verb.MakeReplica) fits ranged = armed_ranged n w (on_node w n (replica_at n v)) (on_node_ranged w n (replica_at n v) ranged (λ node r.
-    kept_or n node (vb_made n v role.Replica 0 node) (first_cause (replica_causes node v)) r (kept_ranged n node (vb_made n v role.Replica 0 node).0 refl (λ c. refl) r)))
-line_ranged w number (verb.AtVb n v (vb_verb.Chain others)) fits ranged = on_node_ranged w n (chain_line n v others) ranged (λ node r. chain_ranged n v others node r)
-line_ranged w number (verb.AtClient n c client_verb.Open) fits ranged = on_node_ranged w n (client_at n (base_of number) c) ranged (λ node r. client_ranged n (base_of number) c node r)
-line_ranged w number (verb.AtClient n c (client_verb.Bytes bytes)) fits ranged = on_node_ranged w n (bytes_at c bytes) ranged (λ node r. bytes_ranged n c bytes node fits.2 r)
-line_ranged w number (verb.AtClient n c client_verb.Hang) fits ranged = on_node_ranged w n (hang_at c) ranged (λ node r. hang_ranged n c node r)
-line_ranged w number (verb.AtNode n (node_verb.Clock nanos)) fits ranged = on_node_ranged w n (clock_at nanos) ranged (λ node r. record { clock = fits.1; clients = r.clients })
-line_ranged w number (verb.Link l m n v) fits ranged =
-    unless_ranged w (with_links w (with_dialed number l m n v w.links (ask_in w n v)), done []) (first_cause (link_causes w l m n v)) ranged ranged
-line_ranged w number (verb.AtLink l (link_verb.Up wanted)) fits ranged = on_link_ranged w l producer_node (up_at wanted) ranged (λ link n node r. up_ranged n wanted link node r)
-line_ranged w number (verb.AtLink l (link_verb.Down wanted)) fits ranged = down_ranged w l (row_at link_number l w.links) (on_link w l consumer_node (down_in wanted))
-    (on_link_ranged w l consumer_node (down_in wanted) ranged (λ link n node r. kept_ranged n node (down_in wanted link node).0 refl (λ c. refl) r))
-line_ranged w number (verb.AtLink l (link_verb.Pump frames)) fits ranged = on_link_ranged w l producer_node (pump_at frames) ranged (λ link n node r. same_ranged n node (pump_at frames link node).0.vbs node.made r)
-line_ranged w number (verb.AtLink l link_verb.Cut) fits ranged = elim (row_at link_number l w.links) as (λ o. IsRanged (cut_outcome w o).0) [ None ↦ ranged | Some link ↦ unlinked_ranged w link ranged ]
-line_ranged w number (verb.AtVb n v (vb_verb.Promote uuid)) fits ranged = armed_ranged n w (promote_step w n v uuid)
-    (unless_ranged w (role_outcome n v (admin.Promote uuid) w) (first_cause (promote_causes w n v uuid)) ranged (role_ranged w n v (admin.Promote uuid) ranged))
-line_ranged w number (verb.AtVb n v vb_verb.Follow) fits ranged = armed_ranged n w (turn_step w n v role.Replica admin.Follow) (turn_ranged w n v role.Replica admin.Follow ranged)
-line_ranged w number (verb.AtVb n v vb_verb.Dead) fits ranged = armed_ranged n w (turn_step w n v role.Dead admin.Dead) (turn_ranged w n v role.Dead admin.Dead ranged)
-line_ranged w number (verb.AtVb n v vb_verb.Seal) fits ranged = on_node_ranged w n (admin_line n v admin.Seal) ranged (λ node r. admin_ranged n v admin.Seal node r)
-line_ranged w number (verb.AtVb n v vb_verb.Take) fits ranged = on_node_ranged w n (flush_line n v part.Take) ranged (λ node r. flush_ranged n v part.Take node r)
-line_ranged w number (verb.AtVb n v vb_verb.Save) fits ranged = armed_ranged n w (on_node w n (save_line n v)) (on_node_ranged w n (save_line n v) ranged (λ node r. save_ranged n v node r))
-line_ranged w number (verb.AtVb n v vb_verb.Done) fits ranged = due_ranged n v (on_node w n (flush_line n v part.Done)) (on_node_ranged w n (flush_line n v part.Done) ranged (λ node r. flush_ranged n v part.Done node r))
-line_ranged w number (verb.AtVb n v vb_verb.Tick) fits ranged = on_node_ranged w n (tick_line n v) ranged (λ node r. tick_ranged n v node r)
-line_ranged w number (verb.AtVb n v vb_verb.Stat) fits ranged = on_node_ranged w n (admin_line n v admin.Stat) ranged (λ node r. admin_ranged n v admin.Stat node r)
-line_ranged w number (verb.AtVb n v vb_verb.Log) fits ranged = on_node_ranged w n (admin_line n v admin.Log) ranged (λ node r. admin_ranged n v admin.Log node r)
-line_ranged w number (verb.AtVb n v vb_verb.Show) fits ranged = on_node_ranged w n (admin_line n v admin.Show) ranged (λ node r. admin_ranged n v admin.Show node r)
-line_ranged w number (verb.AtNode n (node_verb.Stop k out)) fits ranged = on_made_ranged w n (arm_at (stop_arm k out)) ranged (λ node r. kept_ranged n node (arm_at (stop_arm k out) node).0 refl (λ c. refl) r)
-line_ranged w number (verb.AtNode n (node_verb.Fail k)) fits ranged = on_made_ranged w n (arm_at (fail_arm k)) ranged (λ node r. kept_ranged n node (arm_at (fail_arm k) node).0 refl (λ c. refl) r)
-line_ranged w number (verb.AtNode n (node_verb.Crash out)) fits ranged = unless_ranged w (dropped n out w, done (down_lines n None w)) (first_cause (crash_causes w n)) ranged (dropped_ranged n out w ranged)
-line_ranged w number (verb.AtNode n (node_verb.Start uuids)) fits ranged = unless_ranged w (on_made w n (start_at n uuids)) (first_cause (start_causes w n uuids)) ranged (on_made_ranged w n (start_at n uuids) ranged (λ node r. start_at_ranged n uuids node r))

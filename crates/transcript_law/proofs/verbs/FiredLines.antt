@@ -1,15 +1,15 @@
 -- each line of a script tells of arms that fired as it is answered
 use Rattle.std.specs.Prelude.{◌≡◌, ◌∷◌, ◌++◌, ◌==◌, if◌then◌else◌}
-use Rattle.transcript_law.proofs.Words.{ℕ, Bool, true, false, List, [], refl, sym, subst, option_map, map, Option, Some, None, is_some, Answer, Cause, Event, Role, Chronicle, Verb, VbVerb, NodeVerb, LinkVerb, ClientVerb, AdminCall, AdminTold, PlainLink, PlainNode, PlainWorld, Outcome, Told, VbAnswer, VbCall, VbReply, Status, after, with_states}
-use Rattle.transcript_law.proofs.Words.{admin_call, admin_line, admin_replied, admin_told, branch_lines, bytes_at, call_at, call_told, called_at, client_at, clock_at, consumer_node, cut_off, cut_outcome, done, document_line, empty_node, first_cause, hang_at, image_lines, link_causes, link_number, new_session, node_causes, no_node, node_outcome, on_node, own_link, prepare_line}
-use Rattle.transcript_law.proofs.Words.{after_job, link_outcome, at_end, producer_node, promote_causes, promote_step, pump_at, refusal, refused_or, replica_at, replica_causes, role_outcome, row_at, turn_causes, turn_step, turned_after, turned_if, up_at, vb_at, vb_causes, verb_step, with_client, with_dialed, with_ended, with_links, with_link, with_node_at, ask_in, EndsWith, IsPromotion, IsTurn}
+use Rattle.transcript_law.proofs.Words.{ℕ, Bool, true, false, List, [], refl, sym, subst, option_map, map, Option, Some, None, is_some, Answer, Cause, Event, Role, Chronicle, AdminCall, AdminTold, PlainLink, PlainNode, PlainWorld, Outcome, Told, VbAnswer, VbCall, VbReply, Status, after, with_states}
+use Rattle.transcript_law.proofs.Words.{admin_call, admin_line, admin_replied, admin_told, branch_lines, call_at, call_told, called_at, consumer_node, cut_off, document_line, first_cause, image_lines, link_number, no_node, node_outcome, on_node, own_link, prepare_line}
+use Rattle.transcript_law.proofs.Words.{after_job, link_outcome, at_end, refusal, refused_or, role_outcome, row_at, turned_after, turned_if, with_ended, with_link, with_node_at}
 use Rattle.node_core.specs.{Calls.{own_lines, own_lines_if}, Admin.{admin_at, admin_job, admin_refused, promote_cause, role_at, role_noted}, Dials.{dial_due}, Flushing.{FlushTold, flush_answered, flush_at, flush_if, flush_told, settled_by, settled_told}}
-use Rattle.node_world.specs.{Arms.{fail_arm, placed, stop_arm, under_arm}, Dues.{due_at, due_in, due_of, is_counted}, Links.{dial_of}, Nodes.{all_posted, arm_at, chain_causes, chain_line, chain_made, flush_line, save_line, tick_line, vb_made, with_kept, with_posts}, Power.{crash_causes, down_lines, dropped, is_broken_answer, with_broken}, Rests.{Rests}, Turns.{posted_at, posted_in, role_called}, World.{base_of, down_in, down_outcome, down_step}}
+use Rattle.node_world.specs.{Arms.{placed, under_arm}, Dues.{due_at, due_in, due_of, is_counted}, Links.{dial_of}, Nodes.{all_posted, flush_line, save_line, vb_made, with_kept, with_posts}, Power.{is_broken_answer, with_broken}, Turns.{posted_at, posted_in, role_called}, World.{down_in, down_outcome, down_step}}
 use Rattle.std.specs.FinMap as finite
 use Rattle.script_text.specs.declared.verb.Verb.TheVariants as verb
 use Rattle.script_text.specs.declared.verb.LinkVerb.TheVariants as link_verb
-use Rattle.transcript_law.proofs.{invariant.Agreement.{IsArm}, disks.AppendAnswers.{AllStand, AndPosts, fuse_in, unless_refused_came}, disks.AppendLines.{AnyPosts, NoLines, dead_came, follow_came, promote_came, replica_came, save_line_came, vb_came}}
-use Rattle.transcript_law.proofs.{lines.Calm.{AnyAsk, Calm, Spared, Still, all_posts_calm, any_job, bytes_calm, calm_map, calm_more, dial_due_calm, down_calm, either, posts_calm, posts_spared, pump_calm, spared_calm, up_calm}, disks.Fired.{armed_fires, broken_fires, ends_calm, standing_fires}, verbs.LineAnswers.{new_shut_at, shut_at}, verbs.NodeLines.{on_link_by, on_made_by, on_node_by}}
+use Rattle.transcript_law.proofs.{disks.AppendAnswers.{AllStand, unless_refused_came}}
+use Rattle.transcript_law.proofs.{lines.Calm.{AnyAsk, Calm, Spared, Still, all_posts_calm, any_job, calm_map, calm_more, dial_due_calm, down_calm, either, posts_calm, posts_spared, spared_calm}, disks.Fired.{broken_fires, standing_fires}, verbs.NodeLines.{on_node_by}}
 use Rattle.transcript_law.specs.{Chronicles.{Dial}, Firings.{FiresAsSaid, FiresInLine, beside_rollbacks}}
 use Rattle.vb_calls.proofs.JobConduct.{after_job_always, always_bind_job}
 use Rattle.vb_calls.specs.Flushes.{batch_told, flush_job, part_job, role_job, taken_job, took}
@@ -65,9 +65,8 @@ call_spared n v asked (Some reply) = by asked reply.answer
     by AdminCall.Log other = refl
 
 -- a call that keeps its vBucket's role writes nothing down
-admin_fires : (w : PlainWorld) (n v : ℕ) (asked : AdminCall) → admin_job n v asked ≡ lift (admin_at n v asked) → Spared (on_node w n (admin_line n v asked)).1
-admin_fires w n v asked job = on_node_by (λ o. Spared o.1) w n (admin_line n v asked) refl (λ node known. refl) (λ node known up.
-    subst (λ j. Spared (call_told (after_job j node.vbs node.shelves).1)) (sym job) (call_spared n v asked (call_at node.vbs v (admin_call asked) (node.vbs v)).1))
+pub admin_spared : (n v : ℕ) (asked : AdminCall) → admin_job n v asked ≡ lift (admin_at n v asked) → (node : PlainNode) → Spared (admin_line n v asked node).1
+admin_spared n v asked job node = subst (λ j. Spared (call_told (after_job j node.vbs node.shelves).1)) (sym job) (call_spared n v asked (call_at node.vbs v (admin_call asked) (node.vbs v)).1)
 
 -- ---- changes of role
 
@@ -75,7 +74,7 @@ admin_fires w n v asked job = on_node_by (λ o. Spared o.1) w n (admin_line n v 
 call_calm : (n v : ℕ) (asked : AdminCall) (o : Option VbReply) → Calm (admin_told n v asked o).events
 call_calm n v asked o = spared_calm (call_told (admin_told n v asked o)) (call_spared n v asked o)
 
-role_calm : (w : PlainWorld) (n v : ℕ) (asked : AdminCall) → admin_job n v asked ≡ role_at n v asked → Calm (role_outcome n v asked w).1.events
+pub role_calm : (w : PlainWorld) (n v : ℕ) (asked : AdminCall) → admin_job n v asked ≡ role_at n v asked → Calm (role_outcome n v asked w).1.events
 role_calm w n v asked job = by_node (w.nodes n)
   where
     cuts : (o : Option PlainLink) (w1 : PlainWorld) → Calm (cut_off o w1).1
@@ -111,7 +110,7 @@ role_calm w n v asked job = by_node (w.nodes n)
     by_node None = refl
     by_node (Some node) = let x = role_called n v asked node in by_ended x.1.ended (with_node_at w n x.0) x.1 (node_calm node)
 
-refused_calm : {A : Type 0} (o : Option Cause) (before : A) (x : A × Told) → Calm x.1.events → Calm (refused_or o before x).1.events
+pub refused_calm : {A : Type 0} (o : Option Cause) (before : A) (x : A × Told) → Calm x.1.events → Calm (refused_or o before x).1.events
 refused_calm None before x c = c
 refused_calm (Some why) before x c = refl
 
@@ -123,7 +122,7 @@ flushed_calm n v (flushed.Done reply) = own_calm_if n v reply
 flushed_calm n v other = refl
 
 -- it was not broken off
-abbrev Taken : Flushed → Type 0
+abbrev pub Taken : Flushed → Type 0
 Taken flushed.DiskFailed = ⊥
 Taken other = Unit {0}
 
@@ -133,11 +132,11 @@ taken_spared n v (flushed.Done reply) t = own_calm_if n v reply
 taken_spared n v flushed.DiskFailed t = absurd t
 taken_spared n v other t = refl
 
-abbrev Steps : (Flushed → Type 0) → Job Flushed → Type 0
+abbrev pub Steps : (Flushed → Type 0) → Job Flushed → Type 0
 Steps P job = AlwaysJob AnyReply AnyCall AnyAsk P job
 
 -- `take` and `done` append nothing
-take_taken : (v : ℕ) (flush : Flush) → Steps Taken (part_job v part.Take flush)
+pub take_taken : (v : ℕ) (flush : Flush) → Steps Taken (part_job v part.Take flush)
 take_taken v Idle = (tt, λ reply any. by (batch_told reply))
   where
     by : (o : Option Batch) → Steps Taken (taken_job v (λ batch. Ended (took batch)) o)
@@ -146,7 +145,7 @@ take_taken v Idle = (tt, λ reply any. by (batch_told reply))
 take_taken v (Out batch) = tt
 take_taken v (Written seq) = tt
 
-done_taken : (v : ℕ) (flush : Flush) → Steps Taken (part_job v part.Done flush)
+pub done_taken : (v : ℕ) (flush : Flush) → Steps Taken (part_job v part.Done flush)
 done_taken v (Written seq) = (tt, λ kept. (tt, λ reply any. tt))
 done_taken v Idle = tt
 done_taken v (Out batch) = tt
@@ -160,13 +159,13 @@ flush_steps P Q n v p node none some steps = after_job_always AnyCall AnyAsk P (
     by true = always_bind_job AnyReply AnyCall AnyAsk Q P (flush_job v p) (λ came. Ended (flush_told n v came)) (tt, steps) some
     by false = none
 
-flush_fires : (w : PlainWorld) (n v : ℕ) (p : FlushPart) → ((flush : Flush) → Steps Taken (part_job v p flush)) → Spared (on_node w n (flush_line n v p)).1
-flush_fires w n v p steps = on_node_by (λ o. Spared o.1) w n (flush_line n v p) refl (λ node known. refl) (λ node known up.
+pub flush_spared : (n v : ℕ) (p : FlushPart) → ((flush : Flush) → Steps Taken (part_job v p flush)) → (node : PlainNode) → Spared (flush_line n v p node).1
+flush_spared n v p steps node =
     let y = after_job (flush_at n v p) node.vbs node.shelves in
-    posts_spared y.1 (with_kept node y.0) (flush_steps (λ told. FiresAsSaid None told.events told.answer) Taken n v p node refl (taken_spared n v) steps))
+    posts_spared y.1 (with_kept node y.0) (flush_steps (λ told. FiresAsSaid None told.events told.answer) Taken n v p node refl (taken_spared n v) steps)
 
 -- nor does what is acknowledged behind `done`
-due_fires : (n v : ℕ) (o : Outcome) → Spared o.1 → Spared (due_in n v o).1
+pub due_fires : (n v : ℕ) (o : Outcome) → Spared o.1 → Spared (due_in n v o).1
 due_fires n v o spared = by_counted (is_counted o.1.answer) refl
   where
     counted : (said : Answer) (more : List Event) → is_counted said ≡ true → FiresAsSaid None o.1.events said → Calm more → FiresAsSaid None (o.1.events ++ more) said
@@ -195,10 +194,10 @@ settled_spared n v (Some reply) = by reply.answer
     by answer.Done = own_calm n v reply
     by other = refl
 
-settled_fires : (n v : ℕ) (c : VbCall) (node : PlainNode) → (let x = call_at node.vbs v c (node.vbs v) in Spared (with_posts (settled_told n v x.1) (with_states node x.0)).1)
+pub settled_fires : (n v : ℕ) (c : VbCall) (node : PlainNode) → (let x = call_at node.vbs v c (node.vbs v) in Spared (with_posts (settled_told n v x.1) (with_states node x.0)).1)
 settled_fires n v c node = let x = call_at node.vbs v c (node.vbs v) in posts_spared (settled_told n v x.1) (with_states node x.0) (settled_spared n v x.1)
 
-save_calm : (w : PlainWorld) (n v : ℕ) → Calm (on_node w n (save_line n v)).1.events
+pub save_calm : (w : PlainWorld) (n v : ℕ) → Calm (on_node w n (save_line n v)).1.events
 save_calm w n v = on_node_by (λ o. Calm o.1.events) w n (save_line n v) refl (λ node known. refl)
     (λ node known up.
     let at : PlainNode = placed v node in let y = after_job (flush_at n v part.Save) at.vbs at.shelves in
@@ -210,13 +209,13 @@ branch_calm : (n v : ℕ) (role : Role) (uuid : ℕ) → Calm (branch_lines n v 
 branch_calm n v Role.Active uuid = refl
 branch_calm n v other uuid = refl
 
-made_calm : (w : PlainWorld) (n v : ℕ) (role : Role) (uuid : ℕ) (rows : PlainNode → List (Bool × Cause)) → Calm (on_node w n (λ node. refused_or (first_cause (rows node)) node (vb_made n v role uuid node))).1.events
+pub made_calm : (w : PlainWorld) (n v : ℕ) (role : Role) (uuid : ℕ) (rows : PlainNode → List (Bool × Cause)) → Calm (on_node w n (λ node. refused_or (first_cause (rows node)) node (vb_made n v role uuid node))).1.events
 made_calm w n v role uuid rows = on_node_by (λ o. Calm o.1.events) w n (λ node. refused_or (first_cause (rows node)) node (vb_made n v role uuid node)) refl (λ node known. refl)
     (λ node known up. refused_calm (first_cause (rows node)) node (vb_made n v role uuid node) (branch_calm n v role uuid))
 
 -- ---- lines that write nothing down
 
-rows_fire : {A : Type 0} (rows : List (Bool × Cause)) (before : A) (x : A × Told) → AllStand rows → Spared x.1 → Spared (refused_or (first_cause rows) before x).1
+pub rows_fire : {A : Type 0} (rows : List (Bool × Cause)) (before : A) (x : A × Told) → AllStand rows → Spared x.1 → Spared (refused_or (first_cause rows) before x).1
 rows_fire rows before x stand so = unless_refused_came (λ y. Spared y.1) rows before x stand (λ why s. standing_fires None [] why refl s) so
 
 -- ---- bytes of a link
@@ -225,7 +224,7 @@ rows_fire rows before x stand so = unless_refused_came (λ y. Spared y.1) rows b
 abbrev pub DialsTold : PlainWorld → Chronicle → Type 0
 DialsTold w r = (l : ℕ) (link : PlainLink) → row_at link_number l w.links ≡ Some link → option_map (λ (d : Dial). d.node) (r.dial_of l) ≡ Some (consumer_node link)
 
-down_fires : (w : PlainWorld) (r : Chronicle) (l wanted : ℕ) → DialsTold w r → (let x = (down_step w l wanted).1 in FiresInLine r (verb.AtLink l (link_verb.Down wanted)) x.events x.answer)
+pub down_fires : (w : PlainWorld) (r : Chronicle) (l wanted : ℕ) → DialsTold w r → (let x = (down_step w l wanted).1 in FiresInLine r (verb.AtLink l (link_verb.Down wanted)) x.events x.answer)
 down_fires w r l wanted dialed = by (row_at link_number l w.links) refl
   where
     at : Option ℕ
@@ -244,47 +243,3 @@ down_fires w r l wanted dialed = by (row_at link_number l w.links) refl
     by : (o : Option PlainLink) → row_at link_number l w.links ≡ o → (let x = (down_outcome w l o (link_outcome w l consumer_node (down_in wanted) o)).1 in FiresAsSaid at (beside_rollbacks x.events) x.answer)
     by None e = standing_fires at [] Cause.LinkClosed refl tt
     by (Some link) e = subst (λ a. let x = (with_broken (consumer_node link) l w (at_end w (consumer_node link) link (down_in wanted link))).1 in FiresAsSaid a (beside_rollbacks x.events) x.answer) (sym (dialed l link e)) (at_node link (w.nodes (consumer_node link)))
-
--- ---- each line
-
--- what a line `start` tells is said by others
-abbrev pub IsStart : Verb → Type 0
-IsStart (Verb.AtNode n (NodeVerb.Start uuids)) = Unit {0}
-IsStart other = ⊥
-
-pub line_fires : (w : PlainWorld) (r : Chronicle) (number : ℕ) (line : Verb) → Rests w → ((n : ℕ) → IsArm (fuse_in w n)) → DialsTold w r
-    → (IsStart line → FiresInLine r line (verb_step w number line).1.events (verb_step w number line).1.answer) → FiresInLine r line (verb_step w number line).1.events (verb_step w number line).1.answer
-line_fires w r number (Verb.Node n) rests arms dialed starts = rows_fire (node_causes w n) w (with_node_at w n empty_node, done []) (tt, tt) refl
-line_fires w r number (Verb.AtVb n v (VbVerb.MakeActive uuid)) rests arms dialed starts = let o = on_node w n (vb_at w.uuids n v uuid) in armed_fires NoLines (new_shut_at w n v) w n o.0 o.1 (arms n) (made_calm w n v Role.Active uuid (λ node. vb_causes w.uuids node v uuid)) (vb_came (new_shut_at w n v) w n v (λ none. refl) uuid)
-line_fires w r number (Verb.AtVb n v VbVerb.MakeReplica) rests arms dialed starts = let o = on_node w n (replica_at n v) in armed_fires NoLines (new_shut_at w n v) w n o.0 o.1 (arms n) (made_calm w n v Role.Replica 0 (λ node. replica_causes node v)) (replica_came (new_shut_at w n v) w n v (λ none. refl))
-line_fires w r number (Verb.AtVb n v (VbVerb.Chain others)) rests arms dialed starts = on_node_by (λ o. Spared o.1) w n (chain_line n v others) refl (λ node known. refl) (λ node known up.
-    rows_fire (chain_causes n v others node) node (chain_made n v others node) (tt, (tt, (tt, tt))) (settled_fires n v (VbCall.Chain (record { active = n; others = others })) node))
-line_fires w r number (Verb.AtClient n c ClientVerb.Open) rests arms dialed starts = on_node_by (λ o. Spared o.1) w n (client_at n (base_of number) c) refl (λ node known. refl) (λ node known up.
-    elim (is_some (node.clients c)) as (λ b. let x : PlainNode × Told = if b then (node, refusal Cause.LinkOpen) else (with_client node c (Some (new_session (record { node = n; client = c; base = base_of number }))), done []) in Spared x.1) [ true ↦ refl | false ↦ refl ])
-line_fires w r number (Verb.AtClient n c (ClientVerb.Bytes bytes)) rests arms dialed starts = on_node_by (λ o. Spared o.1) w n (bytes_at c bytes) refl (λ node known. refl) (λ node known up. bytes_calm c bytes node)
-line_fires w r number (Verb.AtClient n c ClientVerb.Hang) rests arms dialed starts = on_node_by (λ o. Spared o.1) w n (hang_at c) refl (λ node known. refl) (λ node known up.
-    elim (is_some (node.clients c)) as (λ b. let x : PlainNode × Told = if b then (with_client node c None, done []) else (node, refusal Cause.LinkClosed) in Spared x.1) [ true ↦ refl | false ↦ refl ])
-line_fires w r number (Verb.AtNode n (NodeVerb.Clock nanos)) rests arms dialed starts = on_node_by (λ o. Spared o.1) w n (clock_at nanos) refl (λ node known. refl) (λ node known up. refl)
-line_fires w r number (Verb.Link l m n v) rests arms dialed starts = rows_fire (link_causes w l m n v) w (with_links w (with_dialed number l m n v w.links (ask_in w n v)), done []) (tt, (tt, (tt, (tt, (tt, tt))))) refl
-line_fires w r number (Verb.AtLink l (LinkVerb.Up wanted)) rests arms dialed starts = on_link_by (λ o. Spared o.1) w l producer_node (up_at wanted) refl (λ link found. refl) (λ link node found known. up_calm wanted link node)
-line_fires w r number (Verb.AtLink l (LinkVerb.Down wanted)) rests arms dialed starts = down_fires w r l wanted dialed
-line_fires w r number (Verb.AtLink l (LinkVerb.Pump frames)) rests arms dialed starts = on_link_by (λ o. Spared o.1) w l producer_node (pump_at frames) refl (λ link found. refl) (λ link node found known. pump_calm frames link node)
-line_fires w r number (Verb.AtLink l LinkVerb.Cut) rests arms dialed starts = elim (row_at link_number l w.links) as (λ o. Spared (cut_outcome w o).1) [ None ↦ refl | Some link ↦ refl ]
-line_fires w r number (Verb.AtVb n v (VbVerb.Promote uuid)) rests arms dialed starts =
-    let o = promote_step w n v uuid in armed_fires (EndsWith (AndPosts AnyPosts (IsPromotion n v uuid))) (shut_at w n v) w n o.0 o.1 (arms n) (refused_calm (first_cause (promote_causes w n v uuid)) w (role_outcome n v (AdminCall.Promote uuid) w) (role_calm w n v (AdminCall.Promote uuid) refl)) (promote_came AnyPosts tt (shut_at w n v) w n v (λ node e rs x same. tt) (λ vb e. refl) uuid)
-line_fires w r number (Verb.AtVb n v VbVerb.Follow) rests arms dialed starts =
-    let o = turn_step w n v Role.Replica AdminCall.Follow in armed_fires (EndsWith (AndPosts AnyPosts (IsTurn n v Role.Replica))) (shut_at w n v) w n o.0 o.1 (arms n) (refused_calm (first_cause (turn_causes w n v Role.Replica)) w (role_outcome n v AdminCall.Follow w) (role_calm w n v AdminCall.Follow refl)) (follow_came AnyPosts tt (shut_at w n v) w n v (λ node e rs x same. tt) (λ vb e. refl))
-line_fires w r number (Verb.AtVb n v VbVerb.Dead) rests arms dialed starts =
-    let o = turn_step w n v Role.Dead AdminCall.Dead in armed_fires (EndsWith (AndPosts AnyPosts (IsTurn n v Role.Dead))) (shut_at w n v) w n o.0 o.1 (arms n) (refused_calm (first_cause (turn_causes w n v Role.Dead)) w (role_outcome n v AdminCall.Dead w) (role_calm w n v AdminCall.Dead refl)) (dead_came AnyPosts tt (shut_at w n v) w n v (λ node e rs x same. tt) (λ vb e. refl))
-line_fires w r number (Verb.AtVb n v VbVerb.Seal) rests arms dialed starts = admin_fires w n v AdminCall.Seal refl
-line_fires w r number (Verb.AtVb n v VbVerb.Take) rests arms dialed starts = flush_fires w n v part.Take (take_taken v)
-line_fires w r number (Verb.AtVb n v VbVerb.Save) rests arms dialed starts = let o = on_node w n (save_line n v) in armed_fires NoLines (shut_at w n v) w n o.0 o.1 (arms n) (save_calm w n v) (save_line_came (shut_at w n v) w n v rests (λ vb e. refl))
-line_fires w r number (Verb.AtVb n v VbVerb.Done) rests arms dialed starts = due_fires n v (on_node w n (flush_line n v part.Done)) (flush_fires w n v part.Done (done_taken v))
-line_fires w r number (Verb.AtVb n v VbVerb.Tick) rests arms dialed starts = on_node_by (λ o. Spared o.1) w n (tick_line n v) refl (λ node known. refl) (λ node known up. settled_fires n v (VbCall.Tick node.clock) node)
-line_fires w r number (Verb.AtVb n v VbVerb.Stat) rests arms dialed starts = admin_fires w n v AdminCall.Stat refl
-line_fires w r number (Verb.AtVb n v VbVerb.Log) rests arms dialed starts = admin_fires w n v AdminCall.Log refl
-line_fires w r number (Verb.AtVb n v VbVerb.Show) rests arms dialed starts = admin_fires w n v AdminCall.Show refl
-line_fires w r number (Verb.AtNode n (NodeVerb.Stop call out)) rests arms dialed starts = on_made_by (λ o. Spared o.1) w n (arm_at (stop_arm call out)) refl (λ node known. refl)
-line_fires w r number (Verb.AtNode n (NodeVerb.Fail call)) rests arms dialed starts = on_made_by (λ o. Spared o.1) w n (arm_at (fail_arm call)) refl (λ node known. refl)
-line_fires w r number (Verb.AtNode n (NodeVerb.Crash out)) rests arms dialed starts = rows_fire (crash_causes w n) w (dropped n out w, done (down_lines n None w)) (tt, (tt, tt)) (ends_calm n None w)
-line_fires w r number (Verb.AtNode n (NodeVerb.Start uuids)) rests arms dialed starts = starts tt

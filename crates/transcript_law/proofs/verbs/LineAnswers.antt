@@ -1,24 +1,23 @@
--- each line of a script is answered as it may be, one that is refused changes nothing, and a change of role and a log have their lines
+-- how lines are answered, that one which is refused changes nothing, and that a change of role and a log have their lines
 use Rattle.std.specs.Prelude.{◌≡◌, ◌⊎◌, ◌∷◌, ◌++◌, if◌then◌else◌}
-use Rattle.transcript_law.proofs.Words.{new_session, told, admin_call, admin_replied, admin_told, AdminCall, PlainLink, consumer_node, link_number, producer_node, up_at, pump_at}
-use Rattle.transcript_law.proofs.Words.{admin_line, called, told_of_call, call_told, promote_step, turn_step, PlainNode, PlainWorld, Outcome, ask_in, bytes_at, client_at, clock_at, cut_outcome, done, empty_node, fed_if, first_cause, hang_at, link_causes, node_causes, on_link}
-use Rattle.transcript_law.proofs.Words.{on_node, refusal, replica_at, vb_at, vb_in, verb_step, with_client, with_dialed, with_links, with_node_at, Told, Verb, VbVerb, NodeVerb, LinkVerb, ClientVerb, Bool, List, [], ap, false, refl, subst, sym, true, ℕ, ◌∙◌, inl, inr, ⊎_elim}
-use Rattle.transcript_law.proofs.Words.{None, Option, Some, is_some, Chronicle, empty_chronicle, LawfulAnswer, IsCarriedOut, IsMoved, IsPumped, IsSealed, IsLogged, IsPromotion, IsTurn, EndsWith, RefusedLinesKeep, ShowsAreShown, TurnsAreTold}
-use Rattle.transcript_law.proofs.Words.{All, All-nil, VbAnswer, VbReply, Status, is_active, own_link, quiet_reply, refusal_reply, with_states, Plain, plain_step, States, call_at, VbCall, Answer, Cause, Event, Role, row_at, after_job, lift, with_vb_at, shelf_in}
+use Rattle.transcript_law.proofs.Words.{told, admin_call, admin_replied, admin_told, AdminCall, PlainLink, consumer_node, link_number}
+use Rattle.transcript_law.proofs.Words.{admin_line, called, told_of_call, call_told, promote_step, turn_step, PlainNode, PlainWorld, Outcome, done, on_link}
+use Rattle.transcript_law.proofs.Words.{on_node, vb_in, Told, Bool, List, [], ap, false, refl, subst, sym, true, ℕ, ◌∙◌, inl, inr, ⊎_elim}
+use Rattle.transcript_law.proofs.Words.{None, Option, Some, is_some, Chronicle, empty_chronicle, IsCarriedOut, IsLogged, IsPromotion, IsTurn, EndsWith, ShowsAreShown, TurnsAreTold}
+use Rattle.transcript_law.proofs.Words.{All, All-nil, VbAnswer, VbReply, Status, is_active, own_link, refusal_reply, with_states, Plain, plain_step, States, call_at, VbCall, Answer, Cause, Event, Role, row_at, after_job, lift, with_vb_at, shelf_in}
 use Rattle.disk_journals.specs.Arms.{arm_over, armed_at, under}
 use Rattle.node_core.specs.{Admin.{admin_at, admin_job, noted_answer}, Flushing.{FlushTold, flush_at, flush_if, flush_told, settled_by, settled_told}}
-use Rattle.node_world.specs.{Arms.{fail_arm, fired_by, placed, stop_arm}, Dues.{due_at, due_in, due_of, is_counted}, Nodes.{all_posted, arm_at, chain_causes, chain_line, chain_made, flush_line, save_line, shelf_or_blank, tick_line, with_kept, with_posts, written as written_node}, Rests.{Rests}, World.{base_of, down_in, down_outcome}, Worlds.{arm_in}}
-use Rattle.node_world.specs.Power.{after_fire, crash_causes, down_lines, dropped, with_arm}
+use Rattle.node_world.specs.{Arms.{fired_by, placed}, Dues.{done_step, due_at, due_in, due_of, is_counted}, Nodes.{all_posted, arm_at, flush_line, save_line, shelf_or_blank, with_kept, with_posts, written as written_node}, World.{down_in, down_outcome, down_step}, Worlds.{arm_in}}
+use Rattle.node_world.specs.Power.{after_fire, with_arm}
 use Rattle.node_world.specs.declared.arm.Fired.{Fired}
 use Rattle.node_world.specs.declared.arm.Fired.TheVariants as fired
-use Rattle.transcript_law.proofs.disks.AppendAnswers.{AndPosts, AppendCame, ShutIs, Tells, came_keeps, came_noted, came_tells, fuse_in, fuse_same}
-use Rattle.transcript_law.proofs.disks.AppendLines.{AnyPosts, NewShutIs, NoLines, dead_came, follow_came, promote_came, replica_came, save_line_came, start_says, vb_came}
-use Rattle.transcript_law.proofs.{invariant.Agreement.{IsArm}, disks.ArmedSteps.{shut_in}, disks.Burning.{quiet_same}, disks.Flushed.{StepSays, done_says, flush_came, looked, refused_tells, save_says, take_says, told_flush}, invariant.JobSteps.{put_found, same_shelf, shelf_found}, verbs.NodeLines.{on_made_by, on_node_by, put_same as put_states}, links.PumpAnswers.{moved_few, pump_says}}
-use Rattle.transcript_law.proofs.lines.Refusals.{Anything, CarriesOut, IsMade, Refuses, Same, Says, on_link_says, on_node_says, refused_says, unchanged, with_broken_keeps}
+use Rattle.transcript_law.proofs.disks.AppendAnswers.{AppendCame, ShutIs, Tells, came_noted, came_tells, fuse_in, fuse_same}
+use Rattle.transcript_law.proofs.disks.AppendLines.{NewShutIs, NoLines, dead_came, follow_came, promote_came}
+use Rattle.transcript_law.proofs.{invariant.Agreement.{IsArm}, disks.ArmedSteps.{shut_in}, disks.Burning.{quiet_same}, disks.Flushed.{StepSays, done_says, flush_came, looked, refused_tells, save_says, take_says, told_flush}, invariant.JobSteps.{put_found, same_shelf, shelf_found}, verbs.NodeLines.{on_node_by, put_same as put_states}}
+use Rattle.transcript_law.proofs.lines.Refusals.{Anything, CarriesOut, IsMade, Refuses, Same, Says, on_link_says, on_node_says, with_broken_keeps}
 use Rattle.transcript_law.specs.{Chronicles.{DiskTold, blank_disk}, LineAnswers.{IsAppended, IsNoted, IsOut, IsSaved, IsTaken, TakesAsTold, batches_told}, Plainness.{AndClients, IsOfClient, IsStanding}}
 use Rattle.transcript_law.proofs.{lines.ClientLines.{AreOfClients, posts_of_clients}, invariant.OwnClients.{posts_own}}
 use Rattle.vb_calls.specs.declared.journals.Flushed.{Flushed}
-use Rattle.vb_calls.specs.{Durable.{expired, then_settled}, Settling.{also_resolved, settled}}
 use Rattle.vb_calls.specs.Flushes.{finish_job, part_job, save_job}
 use Rattle.vb_calls.specs.Shelves.{Idle, Shelf, Shelves, with_shelf_at}
 use Rattle.vb_calls.specs.declared.journals.Wrote.{Wrote}
@@ -113,7 +112,7 @@ flush_says : (P : List Event → Answer → Type 0) → Grows P → (w : PlainWo
 flush_says P grows w n v p refuses says = on_node_says (λ told. P told.events told.answer) w n (flush_line n v p) refuses (λ node known. flush_node P grows n v p node (refuses Cause.UnknownVb) (λ vb o e f. says node vb o known e f))
 
 -- a vBucket refuses none of the calls that keep its role
-admin_says : (P : Told → Type 0) (w : PlainWorld) (n v : ℕ) (asked : AdminCall) → admin_job n v asked ≡ lift (admin_at n v asked) → Refuses P
+pub admin_says : (P : Told → Type 0) (w : PlainWorld) (n v : ℕ) (asked : AdminCall) → admin_job n v asked ≡ lift (admin_at n v asked) → Refuses P
     → ((vb : Plain) → vb_in (w.nodes n) v ≡ Some vb → CarriesOut P (call_told (admin_replied n v asked (plain_step vb (admin_call asked)).1)))
     → Says P (Same w) (on_node w n (admin_line n v asked))
 admin_says P w n v asked job refuses says = on_node_says P w n (admin_line n v asked) refuses (λ node known.
@@ -135,26 +134,20 @@ down_made wanted link node = by _ _
     by count true = λ why e s. let same : Cause.Disk ≡ why = cc in subst IsStanding (sym same) s
     by count false = λ why e s. cc
 
+pub down_line_says : (w : PlainWorld) (l wanted : ℕ) → Says Anything (Same w) (down_step w l wanted)
+down_line_says w l wanted = by (row_at link_number l w.links) (on_link_says Anything w l consumer_node (down_in wanted) (λ why. tt) (λ link node. (tt, down_made wanted link node)))
+  where
+    by : (o : Option PlainLink) → Says Anything (Same w) (on_link w l consumer_node (down_in wanted)) → Says Anything (Same w) (down_outcome w l o (on_link w l consumer_node (down_in wanted)))
+    by None kept = kept
+    by (Some link) kept = (tt, with_broken_keeps w w (consumer_node link) l (on_link w l consumer_node (down_in wanted)).0 (on_link w l consumer_node (down_in wanted)).1 kept.1)
+
 -- ---- each line
 
-abbrev IsOk : Told → Type 0
+abbrev pub IsOk : Told → Type 0
 IsOk told = IsCarriedOut told.answer
 
-no_ok : Refuses IsOk
+pub no_ok : Refuses IsOk
 no_ok why = tt
-
--- its answer is lawful, and where that is `ok`, a change of role and a log have their lines. What lines that append are answered is said apart, as their node's arm is part of it
-abbrev LineSays : Chronicle → Verb → Told → Type 0
-LineSays r (Verb.AtVb n v (VbVerb.MakeActive uuid)) told = Unit {0}
-LineSays r (Verb.AtVb n v VbVerb.MakeReplica) told = Unit {0}
-LineSays r (Verb.AtLink l (LinkVerb.Down wanted)) told = Unit {0}
-LineSays r (Verb.AtVb n v VbVerb.Save) told = Unit {0}
-LineSays r (Verb.AtNode n (NodeVerb.Start uuids)) told = Unit {0}
-LineSays r (Verb.AtVb n v (VbVerb.Promote uuid)) told = Unit {0}
-LineSays r (Verb.AtVb n v VbVerb.Follow) told = Unit {0}
-LineSays r (Verb.AtVb n v VbVerb.Dead) told = Unit {0}
-LineSays r (Verb.AtVb n v VbVerb.Log) told = Tells (IsLogged n v) told
-LineSays r line told = LawfulAnswer r line told.events told.answer
 
 -- an append finds the journal of a vBucket as it is, and so does one of a vBucket that is made
 abbrev pub shut_at : PlainWorld → ℕ → ℕ → Bool
@@ -163,17 +156,11 @@ shut_at w n v = shut_in (shelf_in (w.nodes n) v)
 abbrev pub new_shut_at : PlainWorld → ℕ → ℕ → Bool
 new_shut_at w n v = (shelf_or_blank (shelf_in (w.nodes n) v)).is_closed
 
-armed_says : (closed : Bool) (w : PlainWorld) (n : ℕ) (o : Outcome) → AppendCame NoLines closed w n o → Says Anything (Same w) (with_arm n w o)
-armed_says closed w n o c = (tt, came_keeps NoLines closed w n o.0 o.1 c)
-
-turn_says : (Tail : List Event → Type 0) (w : PlainWorld) (n v : ℕ) (o : Outcome) → AppendCame (EndsWith Tail) (shut_at w n v) w n o → Says Anything (Same w) (with_arm n w o)
-turn_says Tail w n v o c = (tt, came_keeps (EndsWith Tail) (shut_at w n v) w n o.0 o.1 c)
-
 -- a call that lets an active vBucket resolve durable writes
 abbrev settled_at : ℕ → ℕ → VbCall → PlainNode → PlainNode × Told
 settled_at n v c node = let x = call_at node.vbs v c (node.vbs v) in with_posts (settled_told n v x.1) (with_states node x.0)
 
-settled_says : (n v : ℕ) (c : VbCall) (node : PlainNode) (row : Plain → Plain × VbReply) → ((vb : Plain) → plain_step vb c ≡ (if is_active vb.role then row vb else (vb, refusal_reply Status.NotMyVbucket)))
+pub settled_says : (n v : ℕ) (c : VbCall) (node : PlainNode) (row : Plain → Plain × VbReply) → ((vb : Plain) → plain_step vb c ≡ (if is_active vb.role then row vb else (vb, refusal_reply Status.NotMyVbucket)))
     → ((vb : Plain) → (row vb).1.answer ≡ VbAnswer.Done) → Says IsOk (λ k. k ≡ node) (settled_at n v c node)
 settled_says n v c node row is done = by (node.vbs v) refl
   where
@@ -212,60 +199,27 @@ due_says P w n v o says = by_counted (is_counted o.1.answer) refl
     by_counted true e = by_link e (own_link n v o.0.links)
     by_counted false e = says
 
-line_says : (w : PlainWorld) (r : Chronicle) (number : ℕ) (line : Verb) → Rests w → AllTold w r → Says (LineSays r line) (Same w) (verb_step w number line)
-line_says w r number (Verb.Node n) rests told = refused_says IsOk (Same w) w (with_node_at w n empty_node, done []) (first_cause (node_causes w n)) no_ok (unchanged w) (tt, λ why e s. cc)
-line_says w r number (Verb.AtVb n v (VbVerb.MakeActive uuid)) rests told = armed_says (new_shut_at w n v) w n (on_node w n (vb_at w.uuids n v uuid)) (vb_came (new_shut_at w n v) w n v (λ none. refl) uuid)
-line_says w r number (Verb.AtVb n v VbVerb.MakeReplica) rests told = armed_says (new_shut_at w n v) w n (on_node w n (replica_at n v)) (replica_came (new_shut_at w n v) w n v (λ none. refl))
-line_says w r number (Verb.AtVb n v (VbVerb.Chain others)) rests told = on_node_says IsOk w n (chain_line n v others) no_ok (λ node known.
-    refused_says IsOk (λ k. k ≡ node) node (chain_made n v others node) (first_cause (chain_causes n v others node)) no_ok refl
-    (settled_says n v (VbCall.Chain (record { active = n; others = others })) node (λ vb. also_resolved (quiet_reply VbAnswer.Done) (settled (record vb { others = others }))) (λ vb. refl) (λ vb. refl)))
-line_says w r number (Verb.AtClient n c ClientVerb.Open) rests told = on_node_says IsOk w n (client_at n (base_of number) c) no_ok (λ node known.
-    elim (is_some (node.clients c)) as (λ b. Says IsOk (λ k. k ≡ node) (if b then (node, refusal Cause.LinkOpen) else (with_client node c (Some (new_session (record { node = n; client = c; base = base_of number }))), done [])))
-    [ true ↦ (tt, λ why e s. (refl, refl)) | false ↦ (tt, λ why e s. cc) ])
-line_says w r number (Verb.AtClient n c (ClientVerb.Bytes bytes)) rests told = on_node_says IsOk w n (bytes_at c bytes) no_ok (λ node known.
-    elim (node.clients c) as (λ o. Says IsOk (λ k. k ≡ node) (fed_if c bytes node o)) [ None ↦ (tt, λ why e s. (refl, refl)) | Some session ↦ (tt, λ why e s. cc) ])
-line_says w r number (Verb.AtClient n c ClientVerb.Hang) rests told = on_node_says IsOk w n (hang_at c) no_ok (λ node known.
-    elim (is_some (node.clients c)) as (λ b. Says IsOk (λ k. k ≡ node) (if b then (with_client node c None, done []) else (node, refusal Cause.LinkClosed))) [ true ↦ (tt, λ why e s. cc) | false ↦ (tt, λ why e s. (refl, refl)) ])
-line_says w r number (Verb.AtNode n (NodeVerb.Clock nanos)) rests told = on_node_says IsOk w n (clock_at nanos) no_ok (λ node known. (tt, λ why e s. cc))
-line_says w r number (Verb.Link l m n v) rests told =
-    refused_says IsOk (Same w) w (with_links w (with_dialed number l m n v w.links (ask_in w n v)), done []) (first_cause (link_causes w l m n v)) no_ok (unchanged w) (tt, λ why e s. cc)
-line_says w r number (Verb.AtLink l (LinkVerb.Up wanted)) rests told = on_link_says (λ told. IsMoved wanted told.answer) w l producer_node (up_at wanted) (λ why. tt) (λ link node. (moved_few wanted link.up, λ why e s. cc))
-line_says w r number (Verb.AtLink l (LinkVerb.Down wanted)) rests told = by (row_at link_number l w.links) (on_link_says Anything w l consumer_node (down_in wanted) (λ why. tt) (λ link node. (tt, down_made wanted link node)))
-  where
-    by : (o : Option PlainLink) → Says Anything (Same w) (on_link w l consumer_node (down_in wanted)) → Says Anything (Same w) (down_outcome w l o (on_link w l consumer_node (down_in wanted)))
-    by None kept = kept
-    by (Some link) kept = (tt, with_broken_keeps w w (consumer_node link) l (on_link w l consumer_node (down_in wanted)).0 (on_link w l consumer_node (down_in wanted)).1 kept.1)
-line_says w r number (Verb.AtLink l (LinkVerb.Pump frames)) rests told = on_link_says (λ told. IsPumped frames told.events told.answer) w l producer_node (pump_at frames) (λ why. tt) (pump_says frames)
-line_says w r number (Verb.AtLink l LinkVerb.Cut) rests told = elim (row_at link_number l w.links) as (λ o. Says IsOk (Same w) (cut_outcome w o)) [ None ↦ (tt, λ why e s. (unchanged w, refl)) | Some link ↦ (tt, λ why e s. cc) ]
-line_says w r number (Verb.AtVb n v (VbVerb.Promote uuid)) rests told = turn_says (AndPosts AnyPosts (IsPromotion n v uuid)) w n v (promote_step w n v uuid) (promote_came AnyPosts tt (shut_at w n v) w n v (λ node e rs x same. tt) (λ vb e. refl) uuid)
-line_says w r number (Verb.AtVb n v VbVerb.Follow) rests told = turn_says (AndPosts AnyPosts (IsTurn n v Role.Replica)) w n v (turn_step w n v Role.Replica AdminCall.Follow) (follow_came AnyPosts tt (shut_at w n v) w n v (λ node e rs x same. tt) (λ vb e. refl))
-line_says w r number (Verb.AtVb n v VbVerb.Dead) rests told = turn_says (AndPosts AnyPosts (IsTurn n v Role.Dead)) w n v (turn_step w n v Role.Dead AdminCall.Dead) (dead_came AnyPosts tt (shut_at w n v) w n v (λ node e rs x same. tt) (λ vb e. refl))
-line_says w r number (Verb.AtVb n v VbVerb.Seal) rests told = admin_says (λ x. IsSealed (r.open_at n v) x.answer) w n v AdminCall.Seal refl (λ why. tt) (λ vb has. (ap (λ b. if b then 1 else 0) (sym (told.0 n v vb has)), λ why e s. cc))
-line_says w r number (Verb.AtVb n v VbVerb.Take) rests told = flush_says (IsTaken n v) (taken_grows n v) w n v part.Take (λ why. refl) (λ node vb o known has is. let x = looked node.shelves v o in take_says n v x.1 (with_vb_at node.vbs v vb) x.0 vb (put_found node.vbs v vb))
-line_says w r number (Verb.AtVb n v VbVerb.Save) rests told = armed_says (shut_at w n v) w n (on_node w n (save_line n v)) (save_line_came (shut_at w n v) w n v rests (λ vb e. refl))
-line_says w r number (Verb.AtVb n v VbVerb.Done) rests told = due_says (IsSaved (r.disk_at n v)) w n v (on_node w n (flush_line n v part.Done))
-    (flush_says (λ lines said. IsSaved (r.disk_at n v) said) (λ lines more said c x. x) w n v part.Done (λ why. tt) (λ node vb o known has is. finishes node vb o known has is))
-  where
-    finishes : (node : PlainNode) (vb : Plain) (o : Option Shelf) → w.nodes n ≡ Some node → node.vbs v ≡ Some vb → node.shelves v ≡ o
-        → (let x = looked node.shelves v o in StepSays n v (λ lines said. IsSaved (r.disk_at n v) said) (with_vb_at node.vbs v vb) x.0 (after_job (finish_job v x.1) (with_vb_at node.vbs v vb) x.0))
-    finishes node vb None known has is = (tt, λ why f s. refl)
-    finishes node vb (Some shelf) known has is =
-        let x = looked node.shelves v (Some shelf) in let t = told.1 n v vb shelf (ap (λ k. vb_in k v) known ∙ has) (ap (λ k. shelf_in k v) known ∙ is) in
-        done_says n v (r.disk_at n v) shelf.flush (with_vb_at node.vbs v vb) x.0 vb (put_found node.vbs v vb) t.0 t.1
-line_says w r number (Verb.AtVb n v VbVerb.Tick) rests told = on_node_says IsOk w n (tick_line n v) no_ok (λ node known. settled_says n v (VbCall.Tick node.clock) node (λ vb. then_settled (expired node.clock vb)) (λ vb. refl) (λ vb. refl))
-line_says w r number (Verb.AtVb n v VbVerb.Stat) rests told = admin_says IsOk w n v AdminCall.Stat refl no_ok (λ vb has. (tt, λ why e s. cc))
-line_says w r number (Verb.AtVb n v VbVerb.Log) rests told = log_says w n v
-line_says w r number (Verb.AtVb n v VbVerb.Show) rests told = admin_says IsOk w n v AdminCall.Show refl no_ok (λ vb has. (tt, λ why e s. cc))
-line_says w r number (Verb.AtNode n (NodeVerb.Stop call out)) rests told = on_made_by (Says IsOk (Same w)) w n (arm_at (stop_arm call out)) (tt, λ why e s. (unchanged w, refl)) (λ node known. (tt, λ why e s. cc))
-line_says w r number (Verb.AtNode n (NodeVerb.Fail call)) rests told = on_made_by (Says IsOk (Same w)) w n (arm_at (fail_arm call)) (tt, λ why e s. (unchanged w, refl)) (λ node known. (tt, λ why e s. cc))
-line_says w r number (Verb.AtNode n (NodeVerb.Crash out)) rests told = refused_says IsOk (Same w) w (dropped n out w, done (down_lines n None w)) (first_cause (crash_causes w n)) no_ok (unchanged w) (tt, λ why e s. cc)
-line_says w r number (Verb.AtNode n (NodeVerb.Start uuids)) rests told = start_says w n uuids
+-- a batch counts as saved
+finishes : (d : DiskTold) (node : PlainNode) (n v : ℕ) (vb : Plain) (o : Option Shelf) → node.vbs v ≡ Some vb → ((shelf : Shelf) → o ≡ Some shelf → (d.flushing ≡ told_flush shelf.flush) × (d.saved ≡ vb.saved))
+    → (let x = looked node.shelves v o in StepSays n v (λ lines said. IsSaved d said) (with_vb_at node.vbs v vb) x.0 (after_job (finish_job v x.1) (with_vb_at node.vbs v vb) x.0))
+finishes d node n v vb None has told = (tt, λ why f s. refl)
+finishes d node n v vb (Some shelf) has told =
+    let x = looked node.shelves v (Some shelf) in let t = told shelf refl in done_says n v d shelf.flush (with_vb_at node.vbs v vb) x.0 vb (put_found node.vbs v vb) t.0 t.1
+
+pub done_line_says : (w : PlainWorld) (r : Chronicle) (n v : ℕ) → AllTold w r → Says (λ told. IsSaved (r.disk_at n v) told.answer) (Same w) (done_step w n v)
+done_line_says w r n v told = due_says (IsSaved (r.disk_at n v)) w n v (on_node w n (flush_line n v part.Done))
+    (flush_says (λ lines said. IsSaved (r.disk_at n v) said) (λ lines more said c x. x) w n v part.Done (λ why. tt)
+    (λ node vb o known has is. finishes (r.disk_at n v) node n v vb o has (λ shelf e. told.1 n v vb shelf (ap (λ k. vb_in k v) known ∙ has) (ap (λ k. shelf_in k v) known ∙ is ∙ e))))
+
+pub take_line_says : (w : PlainWorld) (n v : ℕ) → Says (λ told. IsTaken n v told.events told.answer) (Same w) (on_node w n (flush_line n v part.Take))
+take_line_says w n v = flush_says (IsTaken n v) (taken_grows n v) w n v part.Take (λ why. refl) (λ node vb o known has is.
+    let x = looked node.shelves v o in take_says n v x.1 (with_vb_at node.vbs v vb) x.0 vb (put_found node.vbs v vb))
 
 -- the arm of a node is told as it is, and may fire yet
 abbrev pub ArmTold : PlainWorld → Chronicle → ℕ → Type 0
 ArmTold w r n = ((r.arm_at n).fuse ≡ fuse_in w n) × IsArm (fuse_in w n)
 
-armed_answered : (Lines : List Event → Type 0) (closed : Bool) (w : PlainWorld) (r : Chronicle) (n : ℕ) (o : Outcome) → ArmTold w r n → AppendCame Lines closed w n o → IsNoted closed (r.arm_at n).fuse (with_arm n w o).1.answer
+pub armed_answered : (Lines : List Event → Type 0) (closed : Bool) (w : PlainWorld) (r : Chronicle) (n : ℕ) (o : Outcome) → ArmTold w r n → AppendCame Lines closed w n o → IsNoted closed (r.arm_at n).fuse (with_arm n w o).1.answer
 armed_answered Lines closed w r n o a c = subst (λ f. IsNoted closed f (with_arm n w o).1.answer) (sym a.0) (came_noted Lines closed w n o.0 o.1 a.1 c)
 
 -- where a batch is appended, or fails to be, it was taken
@@ -291,7 +245,7 @@ save_is_taken w r n v told = on_node_by (λ x. IsAppended (r.disk_at n v) x.1.an
         ⊎_elim (λ t. save_says n v (r.disk_at n v) x.1 st x.0 (t ∙ ap (λ y. told_flush (looked armed v y).1) is))
         (λ i. subst (λ f. StepSays n v (λ lines said. IsAppended (r.disk_at n v) said) st x.0 (after_job (save_job v f) st x.0)) (sym (ap (λ y. (looked armed v y).1) (sym is) ∙ i)) (tt, λ why f t. refl)) taken)
 
-save_taken : (w : PlainWorld) (r : Chronicle) (n v : ℕ) → AllTold w r → (closed : Bool) → AppendCame NoLines closed w n (on_node w n (save_line n v)) → IsAppended (r.disk_at n v) (with_arm n w (on_node w n (save_line n v))).1.answer
+pub save_taken : (w : PlainWorld) (r : Chronicle) (n v : ℕ) → AllTold w r → (closed : Bool) → AppendCame NoLines closed w n (on_node w n (save_line n v)) → IsAppended (r.disk_at n v) (with_arm n w (on_node w n (save_line n v))).1.answer
 save_taken w r n v told closed came = by how refl
   where
     d : DiskTold
@@ -316,28 +270,6 @@ save_taken w r n v told closed came = by how refl
     by fired.Stopped e = ⊎_elim (λ c. let z : fired.No ≡ fired.Stopped = sym (ap (fired_by (fuse_in w n)) (fuse_same n c.3) ∙ quiet_same (fuse_in w n)) ∙ e in cc)
         (λ c. noted c.0 (subst (IsAppended d) c.3 (save_is_taken w r n v told))) came
 
--- what is answered to a line for which the arms of nodes count is said by others
-abbrev pub IsArmed : Verb → Type 0
-IsArmed (Verb.AtLink l (LinkVerb.Down wanted)) = Unit {0}
-IsArmed (Verb.AtNode n (NodeVerb.Start uuids)) = Unit {0}
-IsArmed other = ⊥
-
--- each line's answer is lawful, where what is told of arms is, and of these lines
-pub line_answered : (w : PlainWorld) (r : Chronicle) (number : ℕ) (line : Verb) → Rests w → AllTold w r → ShutTold w r → ((n : ℕ) → ArmTold w r n) → (IsArmed line → LawfulAnswer r line (verb_step w number line).1.events (verb_step w number line).1.answer)
-    → LawfulAnswer r line (verb_step w number line).1.events (verb_step w number line).1.answer
-line_answered w r number (Verb.AtVb n v (VbVerb.MakeActive uuid)) rests told shut arms others = armed_answered NoLines (r.disk_at n v).closed w r n (on_node w n (vb_at w.uuids n v uuid)) (arms n) (vb_came (r.disk_at n v).closed w n v (shut n v).1 uuid)
-line_answered w r number (Verb.AtVb n v VbVerb.MakeReplica) rests told shut arms others = armed_answered NoLines (r.disk_at n v).closed w r n (on_node w n (replica_at n v)) (arms n) (replica_came (r.disk_at n v).closed w n v (shut n v).1)
-line_answered w r number (Verb.AtVb n v (VbVerb.Promote uuid)) rests told shut arms others = armed_answered (EndsWith (AndPosts AnyPosts (IsPromotion n v uuid))) (r.disk_at n v).closed w r n (promote_step w n v uuid) (arms n) (promote_came AnyPosts tt (r.disk_at n v).closed w n v (λ node e rs x same. tt) (shut n v).0 uuid)
-line_answered w r number (Verb.AtVb n v VbVerb.Follow) rests told shut arms others = armed_answered (EndsWith (AndPosts AnyPosts (IsTurn n v Role.Replica))) (r.disk_at n v).closed w r n (turn_step w n v Role.Replica AdminCall.Follow) (arms n) (follow_came AnyPosts tt (r.disk_at n v).closed w n v (λ node e rs x same. tt) (shut n v).0)
-line_answered w r number (Verb.AtVb n v VbVerb.Dead) rests told shut arms others = armed_answered (EndsWith (AndPosts AnyPosts (IsTurn n v Role.Dead))) (r.disk_at n v).closed w r n (turn_step w n v Role.Dead AdminCall.Dead) (arms n) (dead_came AnyPosts tt (r.disk_at n v).closed w n v (λ node e rs x same. tt) (shut n v).0)
-line_answered w r number (Verb.AtVb n v VbVerb.Save) rests told shut arms others =
-    let came = save_line_came (r.disk_at n v).closed w n v rests (shut n v).0 in
-    (armed_answered NoLines (r.disk_at n v).closed w r n (on_node w n (save_line n v)) (arms n) came, save_taken w r n v told (r.disk_at n v).closed came)
-line_answered w r number (Verb.AtLink l (LinkVerb.Down wanted)) rests told shut arms others = others tt
-line_answered w r number (Verb.AtNode n (NodeVerb.Start uuids)) rests told shut arms others = others tt
-line_answered w r number (Verb.AtVb n v VbVerb.Log) rests told shut arms others = (line_says w r number (Verb.AtVb n v VbVerb.Log) rests told).0.0
-line_answered w r number line rests told shut arms others = (line_says w r number line rests told).0
-
 abbrev opens_in : Option Plain → Bool
 opens_in None = false
 opens_in (Some vb) = is_some vb.spans.current
@@ -347,17 +279,14 @@ disk_in (Some vb) (Some shelf) = record blank_disk { flushing = told_flush shelf
 disk_in o s = blank_disk
 
 -- a chronicle that tells which vBuckets of this world changed since they were sealed, and what was written down of each
-abbrev opens_of : PlainWorld → Chronicle
+abbrev pub opens_of : PlainWorld → Chronicle
 opens_of w = record empty_chronicle { open_at = λ n v. opens_in (vb_in (w.nodes n) v); disk_at = λ n v. disk_in (vb_in (w.nodes n) v) (shelf_in (w.nodes n) v) }
 
 disks_told_of : (w : PlainWorld) → DisksTold w (opens_of w)
 disks_told_of w n v vb shelf e f = let is : disk_in (vb_in (w.nodes n) v) (shelf_in (w.nodes n) v) ≡ disk_in (Some vb) (Some shelf) = (λ i. disk_in (e i) (f i)) in (ap (λ (d : DiskTold). d.flushing) is, ap (λ (d : DiskTold). d.saved) is)
 
-line_of : (w : PlainWorld) (number : ℕ) (line : Verb) → Rests w → Says (LineSays (opens_of w) line) (Same w) (verb_step w number line)
-line_of w number line rests = line_says w (opens_of w) number line rests (λ n v vb e. ap opens_in e, disks_told_of w)
-
-pub refused_keep : RefusedLinesKeep
-refused_keep w number line why rests said standing = let x = (line_of w number line rests).1 why said standing in (x.0.0, x.0.1, x.0.2, x.1)
+pub told_of_opens : (w : PlainWorld) → AllTold w (opens_of w)
+told_of_opens w = (λ n v vb e. ap opens_in e, disks_told_of w)
 
 -- where a change of role is answered `ok`, its own lines end so, with those of its node's clients behind them
 turn_tells : (Own : List Event → Type 0) (w : PlainWorld) (n v : ℕ) (o : Outcome) → AppendCame (EndsWith (AndClients n Own)) (shut_at w n v) w n o → (with_arm n w o).1.answer ≡ Answer.Ok → EndsWith (AndClients n Own) (with_arm n w o).1.events

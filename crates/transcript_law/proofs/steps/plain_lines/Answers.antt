@@ -1,4 +1,4 @@
-use Rattle.transcript_law.proofs.verbs.LineAnswers.{shows, refused_keep, turns_told}
+use Rattle.transcript_law.proofs.{Runs.{refused_keep}, verbs.LineAnswers.{shows, turns_told}}
 use Rattle.transcript_law.proofs.steps.plain_lines.Goals as goal
 
 pub returns : goal.returns

@@ -1,0 +1,164 @@
+-- what the law needs of each line for a node, for a client's connection and for a link
+use Rattle.std.specs.Prelude.{◌≡◌, ◌∷◌, ◌||◌, ◌&&◌, if◌then◌else◌}
+use Rattle.transcript_law.proofs.Words.{ℕ, true, false, [], refl, ap, sym, subst, ◌∙◌, arith, Option, Some, None, is_some, not, Answer, Cause, Chronicle, Verb, NodeVerb, ClientVerb, LinkVerb, PlainLink, PlainNode, PlainWorld, Outcome, Told, IsAnswered, IsMoved, IsPumped, LawfulAnswer, after_verb, stays, take_snapshots}
+use Rattle.transcript_law.proofs.Words.{ask_in, bytes_at, client_at, clock_at, consumer_node, cut_outcome, done, drop, empty_node, fed_if, first_cause, hang_at, link_causes, link_number, new_session, node_causes, node_step, on_link, on_node, peer_of, peer_pulled, producer_node, pump_at, refusal, row_at, unlinked, up_at, with_client, with_dialed, with_links, with_node_at}
+use Rattle.node_world.specs.{Arms.{fail_arm, stop_arm}, Nodes.{arm_at}, Power.{crash_causes, crash_step, down_lines, dropped, start_at, start_causes, start_step}, World.{base_of, client_verb_at, cut_step, down_in, down_outcome, down_step, link_step, link_verb_step, node_verb_step}, Worlds.{is_off, on_made}, declared.arm.Arm.{Arm}}
+use Rattle.transcript_law.proofs.invariant.{AtRest.{RestsIf, Still, bytes_still, down_rests, either_node, link_still, start_still, still_put, still_ran, still_steps, up_still, weaker}, CallsKept.{InWorld, dropped_all, none_at, on_made_all, unless_all, unlinked_all}, Agreement.{Agrees}, Entering.{Entered, armed_entered, crashed_entered, dial_entered, down_entered, start_line_entered}}
+use Rattle.transcript_law.proofs.invariant.{FedLines.{broken_line, bytes_less, client_less, cut_fine, dialed_fed, down_fine, hang_less, none_less, pump_fed, start_less, unless_fed, up_fed}, Feeding.{dropped_fine, made_fine, with_node as fed_node}, TimelyCalls.{pulled_tame}}
+use Rattle.transcript_law.proofs.invariant.Ranged.{IsRanged, NodeRangedIf, bytes_ranged, client_ranged, down_ranged, dropped_ranged, hang_ranged, kept_ranged, on_link_ranged, on_made_ranged, same_ranged, start_at_ranged, unless_ranged, unlinked_ranged, up_ranged, with_node}
+use Rattle.transcript_law.proofs.{disks.AppendLines.{start_says}, disks.Fired.{ends_calm}, lines.Calm.{Spared, bytes_calm, pump_calm, up_calm}, lines.Refusals.{Same, Says, on_link_says, on_node_says, refused_says, unchanged}, links.PumpAnswers.{moved_few, pump_says}}
+use Rattle.transcript_law.proofs.verbs.{BoundAnswers.{bound, bound_at, bound_down, closed_link, crash_refused, link_refused, node_exists, off_is, one, over, start_refused}, FiredLines.{down_fires, rows_fire}, LineAnswers.{IsOk, down_line_says, no_ok}}
+use Rattle.transcript_law.proofs.verbs.{ArmLines.{fail_goes, stop_goes}, Crashing.{crash_goes}, Dials.{link_goes}, DownLine.{down_answered, down_goes}, Leaving.{cut_goes}, NodeLines.{client_goes, clock_goes, hang_goes, node_goes, on_link_by, on_made_by, on_node_goes}}
+use Rattle.transcript_law.proofs.verbs.{Pumping.{pump_goes}, Requesting.{bytes_goes}, Rows.{Goes, Row, alone_row, told_goes}, Settling.{steady}, Starting.{start_answered, start_fires, start_goes}, Ups.{up_goes}}
+use Rattle.transcript_law.specs.{Bound.{is_told_down}, Chronicles.{fail_told, stop_told}, Firings.{FiresInLine}}
+use Rattle.vbucket.specs.Laws.{IsTimely}
+
+-- ---- nodes
+
+pub node_row : (w : PlainWorld) (n : ℕ) → Row w (Verb.Node n) (node_step w n)
+node_row w n =
+    let x : Outcome = (with_node_at w n empty_node, done []) in let why : Option Cause = first_cause (node_causes w n) in let told : Told = (node_step w n).1 in
+    let says : Says IsOk (Same w) (node_step w n) = refused_says IsOk (Same w) w x why no_ok (unchanged w) (tt, λ why e s. cc) in record {
+      ranged = λ fits r. unless_ranged w x why r (with_node w n empty_node r (record { clock = omega arith; clients = λ c. tt }));
+      rests = λ r here a all. weaker (node_step w n).0 (unless_all Still IsTimely still_steps (λ id. tt) w x why all (still_put w n empty_node all (none_at Still IsTimely still_steps (λ id. tt))));
+      fed = λ fine. unless_fed w x why fine.fed (fed_node w n empty_node fine.fed (λ v id h. absurd h));
+      keeps = λ rests. says.1;
+      told = λ r fits t. (says.0, rows_fire (node_causes w n) w x (tt, tt) refl);
+      entered = λ before r old. old;
+      bound = λ r a rule. bound (is_told_down r n) Cause.NodeExists [] _ told rule (λ e. one Cause.NodeExists told (node_exists w (w.nodes n) x (sym (off_is w r a n) ∙ e)));
+      goes = λ r fits ranged a. told_goes (Verb.Node n) r (node_step w n) (node_goes w r n a);
+    }
+
+-- an arm of a node, whether it runs or not
+arm_row : (w : PlainWorld) (n : ℕ) (what : NodeVerb) (arm : Arm) → (let line : Verb = Verb.AtNode n what in let x : Outcome = on_made w n (arm_at arm) in
+    ((r : Chronicle) → LawfulAnswer r line x.1.events x.1.answer → IsAnswered r line x.1.events x.1.answer)
+    → ((r : Chronicle) → IsOk x.1 × Spared x.1 → LawfulAnswer r line x.1.events x.1.answer × FiresInLine r line x.1.events x.1.answer)
+    → ((before r : Chronicle) (said : Answer) → Entered r → Entered (after_verb before r line x.1.events said)) → ((r : Chronicle) → Agrees w r → Goes line r x) → Row w line x)
+arm_row w n what arm bound told entered goes =
+    let f : PlainNode → PlainNode × Told = arm_at arm in let came : Outcome = on_made w n f in
+    let says : Says IsOk (Same w) came = on_made_by (Says IsOk (Same w)) w n f (tt, λ why e s. (unchanged w, refl)) (λ node known. (tt, λ why e s. cc)) in record {
+      ranged = λ fits r. on_made_ranged w n f r (λ node here. kept_ranged n node (f node).0 refl (λ c. refl) here);
+      rests = λ r here a all. weaker came.0 (on_made_all Still IsTimely still_steps (λ id. tt) w n f all (λ node e there. there));
+      fed = λ fine. (made_fine w n f fine none_less).fed;
+      keeps = λ rests. says.1;
+      bound = λ r a rule. bound r rule;
+      told = λ r fits t. told r (says.0, on_made_by (λ o. Spared o.1) w n f refl (λ node known. refl));
+      entered = λ before r old. entered before r came.1.answer old;
+      goes = λ r fits ranged a. told_goes (Verb.AtNode n what) r came (goes r a);
+    }
+
+pub node_row_of : (w : PlainWorld) (n : ℕ) (what : NodeVerb) → Row w (Verb.AtNode n what) (node_verb_step w n what)
+node_row_of w n (NodeVerb.Clock nanos) = alone_row w (Verb.AtNode n (NodeVerb.Clock nanos)) n (clock_at nanos) (λ r. (refl, λ told s. s)) (λ before r lines said old. old)
+    (λ fits node r. record { clock = fits.1; clients = r.clients }) (λ node here there. there) none_less (λ node. refl) (λ r told. on_node_says IsOk w n (clock_at nanos) no_ok (λ node known. (tt, λ why e s. cc)))
+    (λ r fits ranged a. on_node_goes w r n (clock_at nanos) a (λ node e up. clock_goes w r n nanos node a e))
+node_row_of w n (NodeVerb.Stop k out) = arm_row w n (NodeVerb.Stop k out) (stop_arm k out) (λ r rule. rule) (λ r said. said) (λ before r said old. armed_entered r n (stop_told k out) said old) (λ r a. stop_goes w r n k out a)
+node_row_of w n (NodeVerb.Fail k) = arm_row w n (NodeVerb.Fail k) (fail_arm k) (λ r rule. rule) (λ r said. said) (λ before r said old. armed_entered r n (fail_told k) said old) (λ r a. fail_goes w r n k a)
+node_row_of w n (NodeVerb.Crash out) =
+    let x : Outcome = (dropped n out w, done (down_lines n None w)) in let why : Option Cause = first_cause (crash_causes w n) in let came : Outcome = crash_step w n out in
+    let says : Says IsOk (Same w) came = refused_says IsOk (Same w) w x why no_ok (unchanged w) (tt, λ why e s. cc) in record {
+      ranged = λ fits r. unless_ranged w x why r (dropped_ranged n out w r);
+      rests = λ r here a all. weaker came.0 (unless_all Still IsTimely still_steps (λ id. tt) w x why all (dropped_all Still IsTimely still_steps (λ id. tt) n out w all));
+      fed = λ fine. unless_fed w x why fine.fed (dropped_fine n out w fine).fed;
+      keeps = λ rests. says.1;
+      told = λ r fits t. (says.0, rows_fire (crash_causes w n) w x (tt, (tt, tt)) (ends_calm n None w));
+      bound = λ r a rule. bound_at w r a n _ came.1 rule (crash_refused w n (w.nodes n) x);
+      entered = λ before r old. crashed_entered r n out came.1.answer old;
+      goes = λ r fits ranged a. told_goes (Verb.AtNode n (NodeVerb.Crash out)) r came (crash_goes stays w r n out a);
+    }
+node_row_of w n (NodeVerb.Start uuids) = let x : Outcome = on_made w n (start_at n uuids) in let why : Option Cause = first_cause (start_causes w n uuids) in let told : Told = (start_step w n uuids).1 in record {
+  ranged = λ fits r. unless_ranged w x why r (on_made_ranged w n (start_at n uuids) r (λ node here. start_at_ranged n uuids node here));
+  rests = λ r here a all. weaker (start_step w n uuids).0 (start_still w r n uuids a all);
+  fed = λ fine. unless_fed w x why fine.fed (made_fine w n (start_at n uuids) fine (start_less n uuids)).fed;
+  keeps = λ rests. (start_says w n uuids).1;
+  bound = λ r a rule. bound_down (is_told_down r n) Cause.NodeUp (Cause.UnknownNode ∷ []) _ told rule (λ e. start_refused w (w.nodes n) (drop 2 (start_causes w n uuids)) x (sym (off_is w r a n) ∙ e));
+  told = λ r fits t. (start_answered steady w r n uuids fits.2 t.agrees, start_fires steady w r n uuids fits.2 t.agrees);
+  entered = λ before r old. start_line_entered r n told.events told.answer old;
+  goes = λ r fits ranged a. start_goes steady w r n uuids fits.2 a;
+}
+
+-- ---- clients
+
+pub client_row_of : (w : PlainWorld) (number n c : ℕ) (what : ClientVerb) → Row w (Verb.AtClient n c what) (on_node w n (client_verb_at n number c what))
+client_row_of w number n c ClientVerb.Open =
+    let opened : PlainNode → PlainNode × Told = λ node. (with_client node c (Some (new_session (record { node = n; client = c; base = base_of number }))), done []) in
+    let closed : PlainNode → PlainNode × Told = λ node. (node, refusal Cause.LinkOpen) in
+    alone_row w (Verb.AtClient n c ClientVerb.Open) n (client_at n (base_of number) c) (λ r. (refl, λ told s. s)) (λ before r lines said old. old) (λ fits. client_ranged n (base_of number) c)
+    (λ node here there. either_node (is_some (node.clients c)) (closed node) (opened node) there there) (client_less n (base_of number) c)
+    (λ node. elim (is_some (node.clients c)) as (λ b. let x : PlainNode × Told = if b then closed node else opened node in Spared x.1) [ true ↦ refl | false ↦ refl ])
+    (λ r told. on_node_says IsOk w n (client_at n (base_of number) c) no_ok (λ node known.
+    elim (is_some (node.clients c)) as (λ b. Says IsOk (λ k. k ≡ node) (if b then closed node else opened node)) [ true ↦ (tt, λ why e s. (refl, refl)) | false ↦ (tt, λ why e s. cc) ]))
+    (λ r fits ranged a. on_node_goes w r n (client_at n (base_of number) c) a (λ node e up. client_goes w r n (base_of number) c node a e))
+client_row_of w number n c (ClientVerb.Bytes bytes) = alone_row w (Verb.AtClient n c (ClientVerb.Bytes bytes)) n (bytes_at c bytes) (λ r. (refl, λ told s. s)) (λ before r lines said old. old)
+    (λ fits node r. bytes_ranged n c bytes node fits.2 r) (bytes_still n c bytes) (bytes_less c bytes) (bytes_calm c bytes)
+    (λ r told. on_node_says IsOk w n (bytes_at c bytes) no_ok (λ node known. elim (node.clients c) as (λ o. Says IsOk (λ k. k ≡ node) (fed_if c bytes node o)) [ None ↦ (tt, λ why e s. (refl, refl)) | Some session ↦ (tt, λ why e s. cc) ]))
+    (λ r fits ranged a. on_node_goes w r n (bytes_at c bytes) a (λ node e up. bytes_goes stays steady w r n c bytes node fits.2 (subst (NodeRangedIf n) e (ranged n)) a e))
+client_row_of w number n c ClientVerb.Hang =
+    let hung : PlainNode → PlainNode × Told = λ node. (with_client node c None, done []) in let closed : PlainNode → PlainNode × Told = λ node. (node, refusal Cause.LinkClosed) in
+    alone_row w (Verb.AtClient n c ClientVerb.Hang) n (hang_at c) (λ r. (refl, λ told s. s)) (λ before r lines said old. old) (λ fits. hang_ranged n c)
+    (λ node here there. either_node (is_some (node.clients c)) (hung node) (closed node) there there) (hang_less c)
+    (λ node. elim (is_some (node.clients c)) as (λ b. let x : PlainNode × Told = if b then hung node else closed node in Spared x.1) [ true ↦ refl | false ↦ refl ])
+    (λ r told. on_node_says IsOk w n (hang_at c) no_ok (λ node known.
+    elim (is_some (node.clients c)) as (λ b. Says IsOk (λ k. k ≡ node) (if b then hung node else closed node)) [ true ↦ (tt, λ why e s. cc) | false ↦ (tt, λ why e s. (refl, refl)) ]))
+    (λ r fits ranged a. on_node_goes w r n (hang_at c) a (λ node e up. hang_goes w r n c node a e))
+
+-- ---- links
+
+pub link_row : (w : PlainWorld) (number l m n v : ℕ) → Row w (Verb.Link l m n v) (link_step w number l m n v)
+link_row w number l m n v =
+    let x : Outcome = (with_links w (with_dialed number l m n v w.links (ask_in w n v)), done []) in let why : Option Cause = first_cause (link_causes w l m n v) in let came : Outcome = link_step w number l m n v in
+    let says : Says IsOk (Same w) came = refused_says IsOk (Same w) w x why no_ok (unchanged w) (tt, λ why e s. cc) in record {
+      ranged = λ fits r. unless_ranged w x why r r;
+      rests = λ r here a all. weaker came.0 (unless_all Still IsTimely still_steps (λ id. tt) w x why all all);
+      fed = λ fine. unless_fed w x why fine.fed (dialed_fed w fine number l m n v (ask_in w n v));
+      keeps = λ rests. says.1;
+      told = λ r fits t. (says.0, rows_fire (link_causes w l m n v) w x (tt, (tt, (tt, (tt, (tt, tt))))) refl);
+      entered = λ before r old. dial_entered r l m n v came.1.answer old;
+      bound = λ r a rule. bound (is_told_down r m || is_told_down r n) Cause.NodeDown (Cause.UnknownNode ∷ []) _ came.1 rule (λ e.
+          link_refused w (not (is_some (w.nodes m) && is_some (w.nodes n))) (is_off (w.nodes m) || is_off (w.nodes n)) (drop 2 (link_causes w l m n v)) x ((λ i. sym (off_is w r a m) i || sym (off_is w r a n) i) ∙ e));
+      goes = λ r fits ranged a. told_goes (Verb.Link l m n v) r came (link_goes w r number l m n v fits a);
+    }
+
+pub link_row_of : (w : PlainWorld) (l : ℕ) (what : LinkVerb) → Row w (Verb.AtLink l what) (link_verb_step w l what)
+link_row_of w l (LinkVerb.Up wanted) = let f = up_at wanted in let came : Outcome = on_link w l producer_node f in
+    let says : Says (λ told. IsMoved wanted told.answer) (Same w) came = on_link_says (λ told. IsMoved wanted told.answer) w l producer_node f (λ why. tt) (λ link node. (moved_few wanted link.up, λ why e s. cc)) in record {
+      ranged = λ fits r. on_link_ranged w l producer_node f r (λ link n node here. up_ranged n wanted link node here);
+      fed = λ fine. up_fed w fine l wanted;
+      rests = λ r here a all. weaker came.0 (link_still w here all l producer_node f (λ link node at there. up_still (producer_node link) wanted link node at there));
+      keeps = λ rests. says.1;
+      bound = λ r a rule. over w r l _ came.1 a rule (closed_link w l producer_node f);
+      entered = λ before r old. old;
+      told = λ r fits t. (says.0, on_link_by (λ o. Spared o.1) w l producer_node f refl (λ link found. refl) (λ link node found known. up_calm wanted link node));
+      goes = λ r fits ranged a. told_goes (Verb.AtLink l (LinkVerb.Up wanted)) r came (up_goes stays steady w r l wanted ranged a);
+    }
+link_row_of w l (LinkVerb.Down wanted) = let o : Outcome = on_link w l consumer_node (down_in wanted) in let came : Outcome = down_step w l wanted in let found : Option PlainLink = row_at link_number l w.links in record {
+  ranged = λ fits r. down_ranged w l found o (on_link_ranged w l consumer_node (down_in wanted) r (λ link n node here. kept_ranged n node (down_in wanted link node).0 refl (λ c. refl) here));
+  rests = λ r here a all. down_rests w l wanted (weaker w all);
+  fed = λ fine. (broken_line w l found o (down_fine w fine l wanted)).fed;
+  keeps = λ rests. (down_line_says w l wanted).1;
+  told = λ r fits t. (down_answered stays w r l wanted t.agrees, down_fires w r l wanted t.dials);
+  bound = λ r a rule. over w r l _ came.1 a rule (λ none. ap (λ k. (down_outcome w l k o).1) none ∙ closed_link w l consumer_node (down_in wanted) none);
+  entered = λ before r old. down_entered before r (before.dial_of l) (before.point_of l) came.1.events came.1.answer old;
+  goes = λ r fits ranged a. told_goes (Verb.AtLink l (LinkVerb.Down wanted)) r came (down_goes stays w r l wanted a);
+}
+link_row_of w l (LinkVerb.Pump frames) = let f = pump_at frames in let came : Outcome = on_link w l producer_node f in
+    let says : Says (λ told. IsPumped frames told.events told.answer) (Same w) came = on_link_says (λ told. IsPumped frames told.events told.answer) w l producer_node f (λ why. tt) (pump_says frames) in record {
+      ranged = λ fits r. on_link_ranged w l producer_node f r (λ link n node here. same_ranged n node (f link node).0.vbs node.made here);
+      fed = λ fine. pump_fed w fine l frames;
+      rests = λ r here a all. weaker came.0 (link_still w here all l producer_node f (λ link node at there. still_ran (peer_pulled frames (peer_of link)) node.vbs (pulled_tame frames (peer_of link)) there));
+      keeps = λ rests. says.1;
+      bound = λ r a rule. over w r l _ came.1 a rule (closed_link w l producer_node f);
+      entered = λ before r old. old;
+      told = λ r fits t. (says.0, on_link_by (λ o. Spared o.1) w l producer_node f refl (λ link found. refl) (λ link node found known. pump_calm frames link node));
+      goes = λ r fits ranged a. told_goes (Verb.AtLink l (LinkVerb.Pump frames)) r came (pump_goes take_snapshots w r l frames a);
+    }
+link_row_of w l LinkVerb.Cut = let found : Option PlainLink = row_at link_number l w.links in
+    let says : Says IsOk (Same w) (cut_outcome w found) = elim found as (λ o. Says IsOk (Same w) (cut_outcome w o)) [ None ↦ (tt, λ why e s. (unchanged w, refl)) | Some link ↦ (tt, λ why e s. cc) ] in record {
+      ranged = λ fits r. elim found as (λ o. IsRanged (cut_outcome w o).0) [ None ↦ r | Some link ↦ unlinked_ranged w link r ];
+      fed = λ fine. (cut_fine w fine l).fed;
+      rests = λ r here a all. elim found as (λ o. InWorld RestsIf (cut_outcome w o).0) [ None ↦ weaker w all | Some link ↦ weaker (unlinked link w) (unlinked_all Still IsTimely still_steps (λ id. tt) w link all) ];
+      keeps = λ rests. says.1;
+      bound = λ r a rule. over w r l _ (cut_step w l).1 a rule (λ none. ap (λ o. (cut_outcome w o).1) none);
+      entered = λ before r old. old;
+      told = λ r fits t. (says.0, elim found as (λ o. Spared (cut_outcome w o).1) [ None ↦ refl | Some link ↦ refl ]);
+      goes = λ r fits ranged a. told_goes (Verb.AtLink l LinkVerb.Cut) r (cut_step w l) (cut_goes stays w r l a);
+    }

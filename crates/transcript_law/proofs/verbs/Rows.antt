@@ -1,0 +1,61 @@
+-- all that the law needs of a line, in one record
+use Rattle.std.specs.Prelude.{◌≡◌}
+use Rattle.transcript_law.proofs.Words.{ℕ, List, [], refl, sym, subst, Answer, Cause, Event, Chronicle, Verb, VerbFits, PlainNode, PlainWorld, Outcome, Told, LawfulAnswer, IsAnswered, after_verb, on_node}
+use Rattle.node_world.specs.Rests.{Rests}
+use Rattle.transcript_law.proofs.invariant.{Agreement.{Agrees, GoesOn, LineGoes}, AtRest.{RestsIf, Still, node_still, weaker}, CallsKept.{AllAt, InWorld}, Entering.{Entered}, Feeding.{AllFed, Fine, node_fine}, Ranged.{IsRanged, NodeRanged, on_node_ranged}, Unopened.{NoNew}}
+use Rattle.transcript_law.proofs.lines.{Calm.{Spared}, Refusals.{Same, Says}}
+use Rattle.transcript_law.proofs.verbs.{BoundAnswers.{bound_plain}, FiredLines.{DialsTold}, LineAnswers.{AllTold, ArmTold, ShutTold, opens_of, told_of_opens}, NodeLines.{line_goes_on, on_node_by}}
+use Rattle.transcript_law.specs.{Bound.{IsBound, bound_by, if_down, is_told_down}, Chronicles.{ahead}, Firings.{FiresInLine}, Plainness.{IsStanding}}
+
+-- what a chronicle tells of a world with which it agrees
+pub record AsTold (w : PlainWorld) (r : Chronicle) : Type 0 where
+  pub agrees : Agrees w r
+  pub rests : Rests w
+  pub disks : AllTold w r
+  pub shut : ShutTold w r
+  pub arms : (n : ℕ) → ArmTold w r n
+  pub dials : DialsTold w r
+
+-- all that the law needs of a line that leaves this world and tells this
+pub record Row (w : PlainWorld) (line : Verb) (came : Outcome) : Type 0 where
+  -- clocks and connections are in their limits, nothing more may be committed where a vBucket is active, and each stream is that of an open link
+  pub ranged : VerbFits line → IsRanged w → IsRanged came.0
+  pub rests : (r : Chronicle) → IsRanged w → Agrees w r → InWorld Still w → InWorld RestsIf came.0
+  pub fed : Fine w → AllFed came.0
+  -- one that is refused changes nothing, and it is refused where it is bound to be
+  pub keeps : Rests w → (why : Cause) → came.1.answer ≡ Answer.No why → IsStanding why → Same w came.0 × (came.1.events ≡ [])
+  pub bound : (r : Chronicle) → Agrees w r → LawfulAnswer r line came.1.events came.1.answer → IsAnswered r line came.1.events came.1.answer
+  -- it is answered as it may be, and tells of arms that fired as it is answered
+  pub told : (r : Chronicle) → VerbFits line → AsTold w r → LawfulAnswer r line came.1.events came.1.answer × FiresInLine r line came.1.events came.1.answer
+  -- the entries of logs stand where lines told that their branches were made; its lines are lawful, and all agrees behind it
+  pub entered : (before r : Chronicle) → Entered r → Entered (after_verb before r line came.1.events came.1.answer)
+  pub goes : (r : Chronicle) → VerbFits line → IsRanged w → Agrees w r → LineGoes (ahead r line came.1.answer) (λ told. after_verb r told line came.1.events came.1.answer) came
+
+-- its lines, where they tell of no branch
+abbrev pub Goes : Verb → Chronicle → Outcome → Type 0
+Goes line r came = GoesOn (ahead r line came.1.answer) (λ told. after_verb r told line came.1.events came.1.answer) came
+
+pub told_goes : (line : Verb) (r : Chronicle) (came : Outcome) → Goes line r came → LineGoes (ahead r line came.1.answer) (λ told. after_verb r told line came.1.events came.1.answer) came
+told_goes line r came goes = line_goes_on (ahead r line came.1.answer) (λ told. after_verb r told line came.1.events came.1.answer) came goes
+
+-- a line that its node carries out alone, and that calls no disk: by what it makes of its node and tells
+pub node_spared : (w : PlainWorld) (n : ℕ) (f : PlainNode → PlainNode × Told) → ((node : PlainNode) → Spared (f node).1) → Spared (on_node w n f).1
+node_spared w n f spared = on_node_by (λ o. Spared o.1) w n f refl (λ node known. refl) (λ node known up. spared node)
+
+pub alone_row : (w : PlainWorld) (line : Verb) (n : ℕ) (f : PlainNode → PlainNode × Told)
+    → ((r : Chronicle) → (bound_by r line ≡ if_down (is_told_down r n)) × ((told : Told) → Spared told → FiresInLine r line told.events told.answer))
+    → ((before r : Chronicle) (lines : List Event) (said : Answer) → Entered r → Entered (after_verb before r line lines said))
+    → (VerbFits line → (node : PlainNode) → NodeRanged n node → NodeRanged n (f node).0) → ((node : PlainNode) → NodeRanged n node → AllAt Still node.vbs → AllAt Still (f node).0.vbs)
+    → ((node : PlainNode) → NoNew node.vbs (f node).0.vbs) → ((node : PlainNode) → Spared (f node).1)
+    → ((r : Chronicle) → AllTold w r → Says (λ told. LawfulAnswer r line told.events told.answer) (Same w) (on_node w n f))
+    → ((r : Chronicle) → VerbFits line → IsRanged w → Agrees w r → Goes line r (on_node w n f)) → Row w line (on_node w n f)
+alone_row w line n f quiet entered ranged still less spared says goes = let x : Told = (on_node w n f).1 in record {
+  ranged = λ fits all. on_node_ranged w n f all (ranged fits);
+  rests = λ r here a all. weaker (on_node w n f).0 (node_still w here all n f still);
+  fed = λ fine. (node_fine w n f fine less).fed;
+  keeps = λ rests. (says (opens_of w) (told_of_opens w)).1;
+  bound = λ r a rule. let ruled : Type 0 = LawfulAnswer r line x.events x.answer in subst (λ whys. IsBound whys ruled x.events x.answer) (sym (quiet r).0) (bound_plain w r a n f ruled rule);
+  told = λ r fits t. ((says r t.disks).0, (quiet r).1 x (node_spared w n f spared));
+  entered = λ before r old. entered before r x.events x.answer old;
+  goes = λ r fits here a. told_goes line r (on_node w n f) (goes r fits here a);
+}
