@@ -3,6 +3,7 @@ pub mod Decimals
 pub mod Joined
 pub mod Outcomes
 pub mod Spelling
+pub mod Shapes
 pub mod Stops
 pub mod Chains
 pub mod Spelled

@@ -6,26 +6,21 @@ use Rattle.std.specs.Option.{option_map}
 use Rattle.std.specs.Str.{bytes_eq}
 use Rattle.std.proofs.lemmas.Bool.{le-leb, cases_eq, ne_eqb}
 use Rattle.std.proofs.lemmas.List.{append-nil}
-use Rattle.std.proofs.lemmas.List.Elements.{All-weaker}
+use Rattle.std.proofs.lemmas.List.Elements.{All-weaker, All-from_get_or}
 use Rattle.std.proofs.lemmas.List.Splits.{join_with_byte-slice_split}
 use Rattle.hex.specs.Hex.{decode_of, is_hex_digit}
 use Rattle.hex.proofs.HexLemmas.{decode_of-ok, decode_of-digits}
-use Rattle.script_text.specs.Numbers.{number_of, node_of, vbucket_of, connection_of, moved_of, if_frames, frames_of}
-use Rattle.script_text.specs.Lines.{words_of}
-use Rattle.script_text.specs.Grammar.{if_decoded, hex_bytes_of, node_line, cut_line, two_words, clock_line, client_line, hang_line, up_line, down_line, pump_line, asked_of_vb, replica_line, vbucket_words, three_words, bytes_line, promote_line, vbucket_of_four, plain_of_four, four_words, five_words, vb_line, is_link, linked, link_line, counted_verb, kept_of, filled_of, stop_line, fail_line, crash_line, start_line, branches_of, chain_words, verb_of}
-use Rattle.script_text.specs.Scripts.{is_blank}
-use Rattle.script_text.specs.Sayings.{IsHex, IsHexOf, Says, VbFits, vb_word, vb_tail}
-use Rattle.script_text.specs.declared.numbers.TheConstants.{NODES, VBUCKETS, CONNECTIONS, MOVED, FRAMES}
-use Rattle.script_text.specs.declared.verb.Verb.{Verb}
+use Rattle.script_text.specs.{Numbers.{number_of, node_of, vbucket_of, connection_of, moved_of, if_frames, frames_of}, Lines.{words_of}, Grammar.{if_decoded, hex_bytes_of, node_line, cut_line, two_words, clock_line, client_line, hang_line, up_line, down_line, pump_line, asked_of_vb, replica_line, vbucket_words, three_words, bytes_line, promote_line, vbucket_of_four, plain_of_four, four_words, five_words, vb_line, is_link, linked, link_line, counted_verb, kept_of, filled_of, stop_line, fail_line, crash_line, start_line, branches_of, chain_words, verb_of}, Fitting.{AreBytes, VbFits, ClientFits}, Sayings.{IsHex, IsHexOf, Says, vb_word, vb_tail, client_word, ClientTail, link_words}, declared.numbers.TheConstants.{NODES, VBUCKETS, CONNECTIONS, FRAMES}}
+use Rattle.script_text.specs.declared.verb.{Verb.{Verb}, VbVerb.{VbVerb}, NodeVerb.{NodeVerb}, LinkVerb.{LinkVerb}, ClientVerb.{ClientVerb}}
 use Rattle.script_text.specs.declared.verb.Verb.TheVariants as verb
-use Rattle.script_text.specs.declared.verb.VbVerb.{VbVerb}
 use Rattle.script_text.specs.declared.verb.VbVerb.TheVariants as vb_verb
 use Rattle.script_text.specs.declared.verb.NodeVerb.TheVariants as node_verb
 use Rattle.script_text.specs.declared.verb.LinkVerb.TheVariants as link_verb
 use Rattle.script_text.specs.declared.verb.ClientVerb.TheVariants as client_verb
 use Rattle.script_text.proofs.Decimals.{decimal-number_of, number_of-decimal}
-use Rattle.script_text.proofs.Spelling.{if_yes, mapped, chained, number_below, number_moved, number_framed, word_is, either, by_word, no_verb, IsWord, decimal_word, one, first, in_limit}
-use Rattle.script_text.proofs.Stops.{kept_spelled, filled_spelled, stop_spelled, fail_spelled, crash_spelled, start_spelled, stop_read, fail_read, crash_read, start_read}
+use Rattle.script_text.proofs.Spelling.{if_yes, mapped, chained, number_below, number_moved, number_framed, word_is, either, by_word, no_verb, IsWord, decimal_word, one, first, in_limit, IsTail, number_tail}
+use Rattle.script_text.proofs.Shapes.{behind, at_node_with, at_vb, at_client, at_link, then_made, IsRead, IsName, word_read, node_row, link_row, numbered, vb_row, client_row, operand, vb_operand}
+use Rattle.script_text.proofs.Stops.{kept_spelled, filled_spelled, stop_spelled, crash_spelled, start_spelled, moved_read, stop_read, fail_read, crash_read, start_read}
 use Rattle.script_text.proofs.Chains.{chain_spelled, chain_read}
 
 -- ---- words that say a verb are its spelling
@@ -36,59 +31,18 @@ node_spelled a v h =
     let n = number_below NODES node.0 a node.1 in
     subst (λ v. Says (codes "node" ++ 32 ∷ a) v) node.2 (n.1, λ i. codes "node" ++ 32 ∷ n.0 i)
 
+-- a line that ends with the number of what it names
 cut_spelled : (a : List ℕ) (v : Verb) → cut_line a ≡ Some v → Says (codes "cut" ++ 32 ∷ a) v
 cut_spelled a v h =
-    let link = mapped (λ l. verb.AtLink l link_verb.Cut) (connection_of a) v h in
-    let l = number_below CONNECTIONS link.0 a link.1 in
-    subst (λ v. Says (codes "cut" ++ 32 ∷ a) v) link.2 (l.1, λ i. codes "cut" ++ 32 ∷ l.0 i)
+    subst (λ t. Says (codes "cut" ++ 32 ∷ t) v) (append-nil a)
+    (at_link (codes "cut") a [] (λ (k : ℕ). link_verb.Cut) (Some 0) v (λ k e. (refl, refl, tt)) (sym (then_made (λ l. verb.AtLink l link_verb.Cut) (connection_of a)) ∙ h))
 
-clock_spelled : (a b : List ℕ) (v : Verb) → clock_line a b ≡ Some v → Says (codes "clock" ++ 32 ∷ (a ++ 32 ∷ b)) v
-clock_spelled a b v h =
-    let node = chained (λ n. option_map (λ x. verb.AtNode n (node_verb.Clock x)) (number_of b)) (node_of a) v h in
-    let nanos = mapped (λ x. verb.AtNode node.0 (node_verb.Clock x)) (number_of b) v node.2 in
-    let n = number_below NODES node.0 a node.1 in
-    let t = decimal-number_of b nanos.0 nanos.1 in
-    subst (λ v. Says (codes "clock" ++ 32 ∷ (a ++ 32 ∷ b)) v) nanos.2 (n.1, t.1, λ i. codes "clock" ++ 32 ∷ (n.0 i ++ 32 ∷ t.0 i))
-
-client_spelled : (a b : List ℕ) (v : Verb) → client_line a b ≡ Some v → Says (codes "client" ++ 32 ∷ (a ++ 32 ∷ b)) v
-client_spelled a b v h =
-    let node = chained (λ n. option_map (λ x. verb.AtClient n x client_verb.Open) (connection_of b)) (node_of a) v h in
-    let client = mapped (λ x. verb.AtClient node.0 x client_verb.Open) (connection_of b) v node.2 in
-    let n = number_below NODES node.0 a node.1 in
-    let c = number_below CONNECTIONS client.0 b client.1 in
-    subst (λ v. Says (codes "client" ++ 32 ∷ (a ++ 32 ∷ b)) v) client.2 (n.1, c.1, λ i. codes "client" ++ 32 ∷ (n.0 i ++ 32 ∷ c.0 i))
-
-hang_spelled : (a b : List ℕ) (v : Verb) → hang_line a b ≡ Some v → Says (codes "hang" ++ 32 ∷ (a ++ 32 ∷ b)) v
-hang_spelled a b v h =
-    let node = chained (λ n. option_map (λ x. verb.AtClient n x client_verb.Hang) (connection_of b)) (node_of a) v h in
-    let client = mapped (λ x. verb.AtClient node.0 x client_verb.Hang) (connection_of b) v node.2 in
-    let n = number_below NODES node.0 a node.1 in
-    let c = number_below CONNECTIONS client.0 b client.1 in
-    subst (λ v. Says (codes "hang" ++ 32 ∷ (a ++ 32 ∷ b)) v) client.2 (n.1, c.1, λ i. codes "hang" ++ 32 ∷ (n.0 i ++ 32 ∷ c.0 i))
-
-up_spelled : (a b : List ℕ) (v : Verb) → up_line a b ≡ Some v → Says (codes "up" ++ 32 ∷ (a ++ 32 ∷ b)) v
-up_spelled a b v h =
-    let link = chained (λ l. option_map (λ x. verb.AtLink l (link_verb.Up x)) (moved_of b)) (connection_of a) v h in
-    let bytes = mapped (λ x. verb.AtLink link.0 (link_verb.Up x)) (moved_of b) v link.2 in
-    let l = number_below CONNECTIONS link.0 a link.1 in
-    let n = number_moved bytes.0 b bytes.1 in
-    subst (λ v. Says (codes "up" ++ 32 ∷ (a ++ 32 ∷ b)) v) bytes.2 (l.1, n.1, λ i. codes "up" ++ 32 ∷ (l.0 i ++ 32 ∷ n.0 i))
-
-down_spelled : (a b : List ℕ) (v : Verb) → down_line a b ≡ Some v → Says (codes "down" ++ 32 ∷ (a ++ 32 ∷ b)) v
-down_spelled a b v h =
-    let link = chained (λ l. option_map (λ x. verb.AtLink l (link_verb.Down x)) (moved_of b)) (connection_of a) v h in
-    let bytes = mapped (λ x. verb.AtLink link.0 (link_verb.Down x)) (moved_of b) v link.2 in
-    let l = number_below CONNECTIONS link.0 a link.1 in
-    let n = number_moved bytes.0 b bytes.1 in
-    subst (λ v. Says (codes "down" ++ 32 ∷ (a ++ 32 ∷ b)) v) bytes.2 (l.1, n.1, λ i. codes "down" ++ 32 ∷ (l.0 i ++ 32 ∷ n.0 i))
-
-pump_spelled : (a b : List ℕ) (v : Verb) → pump_line a b ≡ Some v → Says (codes "pump" ++ 32 ∷ (a ++ 32 ∷ b)) v
-pump_spelled a b v h =
-    let link = chained (λ l. option_map (λ x. verb.AtLink l (link_verb.Pump x)) (frames_of b)) (connection_of a) v h in
-    let frames = mapped (λ x. verb.AtLink link.0 (link_verb.Pump x)) (frames_of b) v link.2 in
-    let l = number_below CONNECTIONS link.0 a link.1 in
-    let k = number_framed frames.0 b frames.1 in
-    subst (λ v. Says (codes "pump" ++ 32 ∷ (a ++ 32 ∷ b)) v) frames.2 (l.1, k.1, k.2, λ i. codes "pump" ++ 32 ∷ (l.0 i ++ 32 ∷ k.0 i))
+bare_client : (word a b : List ℕ) (what : ClientVerb) (v : Verb) → word ≡ client_word what → ClientTail [] what → ClientFits what
+    → option_and_then (λ n. option_map (λ x. verb.AtClient n x what) (connection_of b)) (node_of a) ≡ Some v → Says (word ++ 32 ∷ (a ++ 32 ∷ b)) v
+bare_client word a b what v is none fits h =
+    subst (λ t. Says (word ++ 32 ∷ (a ++ 32 ∷ t)) v) (append-nil b)
+    (at_client word a b [] (λ (k : ℕ). what) (Some 0) v (λ k e. (is, none, fits))
+    ((λ i. option_and_then (λ n. sym (then_made (λ x. verb.AtClient n x what) (connection_of b)) i) (node_of a)) ∙ h))
 
 two_spelled : (word a : List ℕ) (v : Verb) → two_words word a ≡ Some v → Says (word ++ 32 ∷ a) v
 two_spelled word a v h =
@@ -122,32 +76,21 @@ asked_is word what h =
     (asked word (codes "log") vb_verb.Log what None (refl, refl, tt) (λ none. absurd (cc none)))))))))))
     h
 
--- a text with nothing behind it
-ended : (a tail : List ℕ) → tail ≡ [] → a ≡ a ++ tail
-ended a tail e = sym (append-nil a) ∙ ap (λ t. a ++ t) (sym e)
-
 vbucket_spelled : (word a b : List ℕ) (v : Verb) → vbucket_words word a b ≡ Some v → Says (word ++ 32 ∷ (a ++ 32 ∷ b)) v
 vbucket_spelled word a b v h =
-    let node = chained (λ n. option_and_then (λ k. option_map (verb.AtVb n k) (asked_of_vb word)) (vbucket_of b)) (node_of a) v h in
-    let vb = chained (λ k. option_map (verb.AtVb node.0 k) (asked_of_vb word)) (vbucket_of b) v node.2 in
-    let what = mapped (verb.AtVb node.0 vb.0) (asked_of_vb word) v vb.2 in
-    let n = number_below NODES node.0 a node.1 in
-    let k = number_below VBUCKETS vb.0 b vb.1 in
-    let plain = asked_is word what.0 what.1 in
-    let made = verb.AtVb node.0 vb.0 what.0 in
-    subst (λ v. Says (word ++ 32 ∷ (a ++ 32 ∷ b)) v) {x = made} what.2
-    (n.1, k.1, plain.2, λ i. plain.0 i ++ 32 ∷ (n.0 i ++ 32 ∷ ((k.0 ∙ ended (decimal vb.0) (vb_tail what.0) plain.1) i)))
+    subst (λ t. Says (word ++ 32 ∷ (a ++ 32 ∷ t)) v) (append-nil b)
+    (at_vb word a b [] (λ (what : VbVerb). what) (asked_of_vb word) v (λ what e. let plain = asked_is word what e in (plain.0, sym plain.1, plain.2)) h)
 
 three_spelled : (word a b : List ℕ) (v : Verb) → three_words word a b ≡ Some v → Says (word ++ 32 ∷ (a ++ 32 ∷ b)) v
 three_spelled word a b v h =
     let rest = a ++ 32 ∷ b in
-    by_word word (codes "clock") rest (clock_line a b) _ v (clock_spelled a b v)
-    (by_word word (codes "client") rest (client_line a b) _ v (client_spelled a b v)
-    (by_word word (codes "hang") rest (hang_line a b) _ v (hang_spelled a b v)
-    (by_word word (codes "up") rest (up_line a b) _ v (up_spelled a b v)
-    (by_word word (codes "down") rest (down_line a b) _ v (down_spelled a b v)
-    (by_word word (codes "pump") rest (pump_line a b) _ v (pump_spelled a b v)
-    (by_word word (codes "fail") rest (fail_line a b) _ v (fail_spelled a b v)
+    by_word word (codes "clock") rest (clock_line a b) _ v (at_node_with (codes "clock") a (32 ∷ b) node_verb.Clock (number_of b) v (λ t e. behind (decimal-number_of b t e)))
+    (by_word word (codes "client") rest (client_line a b) _ v (bare_client (codes "client") a b client_verb.Open v refl refl tt)
+    (by_word word (codes "hang") rest (hang_line a b) _ v (bare_client (codes "hang") a b client_verb.Hang v refl refl tt)
+    (by_word word (codes "up") rest (up_line a b) _ v (at_link (codes "up") a (32 ∷ b) link_verb.Up (moved_of b) v (λ n e. behind (number_moved n b e)))
+    (by_word word (codes "down") rest (down_line a b) _ v (at_link (codes "down") a (32 ∷ b) link_verb.Down (moved_of b) v (λ n e. behind (number_moved n b e)))
+    (by_word word (codes "pump") rest (pump_line a b) _ v (at_link (codes "pump") a (32 ∷ b) link_verb.Pump (frames_of b) v (λ k e. let is = number_framed k b e in behind (is.0, (is.1, is.2))))
+    (by_word word (codes "fail") rest (fail_line a b) _ v (at_node_with (codes "fail") a (32 ∷ b) node_verb.Fail (moved_of b) v (λ k e. behind (number_moved k b e)))
     (by_word word (codes "crash") rest (crash_line a (kept_of b)) (vbucket_words word a b) v (crash_spelled a b (kept_of b) v (kept_spelled b)) (vbucket_spelled word a b v))))))))
     h
 
@@ -170,16 +113,14 @@ pub hex_said : (text : List ℕ) → ((bytes : List ℕ) × IsHexOf text bytes) 
 hex_said text =
     (λ h. let ok = decode_of-ok text h.0 h.1.digits in (h.1.some, ok.0, ok.1), λ h. let said = decode_of-digits text h.1 h.2 in (said.0, record { some = h.0; digits = said.1 }))
 
+-- digits decode to bytes, whatever the text
+decoded_bytes : (text bytes : List ℕ) → decode_of text ≡ Ok bytes → AreBytes bytes
+decoded_bytes text bytes h = let ok = decode_of-ok text bytes h in All-from_get_or (λ b. b < 256) bytes 0 (λ i lt. ok.3 i)
+
 bytes_spelled : (a b text : List ℕ) (v : Verb) → bytes_line a b (hex_bytes_of text) ≡ Some v → Says (codes "bytes" ++ 32 ∷ (a ++ 32 ∷ (b ++ 32 ∷ text))) v
 bytes_spelled a b text v h =
-    let node = chained (λ n. option_and_then (λ c. option_map (λ x. verb.AtClient n c (client_verb.Bytes x)) (hex_bytes_of text)) (connection_of b)) (node_of a) v h in
-    let client = chained (λ c. option_map (λ x. verb.AtClient node.0 c (client_verb.Bytes x)) (hex_bytes_of text)) (connection_of b) v node.2 in
-    let bytes = mapped (λ x. verb.AtClient node.0 client.0 (client_verb.Bytes x)) (hex_bytes_of text) v client.2 in
-    let n = number_below NODES node.0 a node.1 in
-    let c = number_below CONNECTIONS client.0 b client.1 in
-    let made = verb.AtClient node.0 client.0 (client_verb.Bytes bytes.0) in
-    subst (λ v. Says (codes "bytes" ++ 32 ∷ (a ++ 32 ∷ (b ++ 32 ∷ text))) v) {x = made} bytes.2
-    (text, (hex_spelled text bytes.0 bytes.1, n.1, c.1, λ i. codes "bytes" ++ 32 ∷ (n.0 i ++ 32 ∷ (c.0 i ++ 32 ∷ text))))
+    at_client (codes "bytes") a b (32 ∷ text) client_verb.Bytes (hex_bytes_of text) v
+    (λ bytes e. let is = hex_spelled text bytes e in (refl, (text, is, refl), decoded_bytes text bytes is.digits)) h
 
 -- both tests hold
 both : (s t : Bool) → (s && t) ≡ true → (s ≡ true) × (t ≡ true)
@@ -189,33 +130,17 @@ both false t h = absurd (cc h)
 replica_spelled : (word a b role : List ℕ) (v : Verb) → (bytes_eq word (codes "vb") && bytes_eq role (codes "replica")) ≡ true → replica_line a b ≡ Some v
     → Says (word ++ 32 ∷ (a ++ 32 ∷ (b ++ 32 ∷ role))) v
 replica_spelled word a b role v t h =
-    let node = chained (λ n. option_map (λ x. verb.AtVb n x vb_verb.MakeReplica) (vbucket_of b)) (node_of a) v h in
-    let vb = mapped (λ x. verb.AtVb node.0 x vb_verb.MakeReplica) (vbucket_of b) v node.2 in
-    let n = number_below NODES node.0 a node.1 in
-    let k = number_below VBUCKETS vb.0 b vb.1 in
     let tests = both (bytes_eq word (codes "vb")) (bytes_eq role (codes "replica")) t in
-    let w = word_is word (codes "vb") tests.0 in
-    let r = word_is role (codes "replica") tests.1 in
-    subst (λ v. Says (word ++ 32 ∷ (a ++ 32 ∷ (b ++ 32 ∷ role))) v) vb.2 (n.1, k.1, tt, λ i. w i ++ 32 ∷ (n.0 i ++ 32 ∷ (k.0 i ++ 32 ∷ r i)))
-
-promote_spelled : (a b uuid : List ℕ) (v : Verb) → promote_line a b uuid ≡ Some v → Says (codes "promote" ++ 32 ∷ (a ++ 32 ∷ (b ++ 32 ∷ uuid))) v
-promote_spelled a b uuid v h =
-    let node = chained (λ n. option_and_then (λ k. option_map (λ x. verb.AtVb n k (vb_verb.Promote x)) (number_of uuid)) (vbucket_of b)) (node_of a) v h in
-    let vb = chained (λ k. option_map (λ x. verb.AtVb node.0 k (vb_verb.Promote x)) (number_of uuid)) (vbucket_of b) v node.2 in
-    let id = mapped (λ x. verb.AtVb node.0 vb.0 (vb_verb.Promote x)) (number_of uuid) v vb.2 in
-    let n = number_below NODES node.0 a node.1 in
-    let k = number_below VBUCKETS vb.0 b vb.1 in
-    let u = decimal-number_of uuid id.0 id.1 in
-    let made = verb.AtVb node.0 vb.0 (vb_verb.Promote id.0) in
-    subst (λ v. Says (codes "promote" ++ 32 ∷ (a ++ 32 ∷ (b ++ 32 ∷ uuid))) v) {x = made} id.2
-    (n.1, k.1, u.1, λ i. codes "promote" ++ 32 ∷ (n.0 i ++ 32 ∷ (k.0 i ++ 32 ∷ u.0 i)))
+    at_vb word a b (32 ∷ role) (λ (k : ℕ). vb_verb.MakeReplica) (Some 0) v
+    (λ k e. (word_is word (codes "vb") tests.0, ap (λ t. 32 ∷ t) (word_is role (codes "replica") tests.1), tt))
+    ((λ i. option_and_then (λ n. sym (then_made (λ x. verb.AtVb n x vb_verb.MakeReplica) (vbucket_of b)) i) (node_of a)) ∙ h)
 
 vbucket_of_four_spelled : (word a b c : List ℕ) (v : Verb) → vbucket_of_four word a b c ≡ Some v → Says (word ++ 32 ∷ (a ++ 32 ∷ (b ++ 32 ∷ c))) v
 vbucket_of_four_spelled word a b c v h =
     let rest = a ++ 32 ∷ (b ++ 32 ∷ c) in
     elim (either (bytes_eq word (codes "vb") && bytes_eq c (codes "replica")) (replica_line a b) _ v h) [
       | inl p ↦ replica_spelled word a b c v p.0 p.1
-      | inr more ↦ by_word word (codes "promote") rest (promote_line a b c) None v (promote_spelled a b c v) (no_verb (word ++ 32 ∷ rest) v) more
+      | inr more ↦ by_word word (codes "promote") rest (promote_line a b c) None v (at_vb (codes "promote") a b (32 ∷ c) vb_verb.Promote (number_of c) v (λ u e. behind (decimal-number_of c u e))) (no_verb (word ++ 32 ∷ rest) v) more
     ]
 
 plain_of_four_spelled : (word a b c : List ℕ) (v : Verb) → plain_of_four word a b c ≡ Some v → Says (word ++ 32 ∷ (a ++ 32 ∷ (b ++ 32 ∷ c))) v
@@ -235,17 +160,10 @@ vb_spelled word a b role uuid v h =
     let all = option_and_then (λ n. option_and_then (λ k. option_map (λ x. verb.AtVb n k (vb_verb.MakeActive x)) (number_of uuid)) (vbucket_of b)) (node_of a) in
     let yes = if_yes (bytes_eq word (codes "vb")) (if bytes_eq role (codes "active") then all else None) v h in
     let active = if_yes (bytes_eq role (codes "active")) all v yes.1 in
-    let node = chained (λ n. option_and_then (λ k. option_map (λ x. verb.AtVb n k (vb_verb.MakeActive x)) (number_of uuid)) (vbucket_of b)) (node_of a) v active.1 in
-    let vb = chained (λ k. option_map (λ x. verb.AtVb node.0 k (vb_verb.MakeActive x)) (number_of uuid)) (vbucket_of b) v node.2 in
-    let id = mapped (λ x. verb.AtVb node.0 vb.0 (vb_verb.MakeActive x)) (number_of uuid) v vb.2 in
-    let n = number_below NODES node.0 a node.1 in
-    let k = number_below VBUCKETS vb.0 b vb.1 in
-    let u = decimal-number_of uuid id.0 id.1 in
     let w = word_is word (codes "vb") yes.0 in
     let r = word_is role (codes "active") active.0 in
-    let made = verb.AtVb node.0 vb.0 (vb_verb.MakeActive id.0) in
-    subst (λ v. Says (word ++ 32 ∷ (a ++ 32 ∷ (b ++ 32 ∷ (role ++ 32 ∷ uuid)))) v) {x = made} id.2
-    (n.1, k.1, u.1, λ i. w i ++ 32 ∷ (n.0 i ++ 32 ∷ (k.0 i ++ 32 ∷ (r i ++ 32 ∷ u.0 i))))
+    at_vb word a b (32 ∷ (role ++ 32 ∷ uuid)) vb_verb.MakeActive (number_of uuid) v
+    (λ u e. let is = decimal-number_of uuid u e in (w, λ i. 32 ∷ (r i ++ 32 ∷ is.0 i), is.1)) active.1
 
 five_spelled : (word a b c d : List ℕ) (v : Verb) → five_words word a b c d ≡ Some v → Says (word ++ 32 ∷ (a ++ 32 ∷ (b ++ 32 ∷ (c ++ 32 ∷ d)))) v
 five_spelled word a b c d v h =
@@ -270,7 +188,7 @@ link_spelled word a b c d e f v h =
     let g = word_is f (codes "follow") tests.1 in
     let made = verb.Link link.0 producer.0 node.0 vb.0 in
     subst (λ v. Says (word ++ 32 ∷ (a ++ 32 ∷ (b ++ 32 ∷ (c ++ 32 ∷ (d ++ 32 ∷ (e ++ 32 ∷ f)))))) v) {x = made} vb.2
-    (l.1, m.1, n.1, k.1, λ i. w i ++ 32 ∷ (l.0 i ++ 32 ∷ (m.0 i ++ 32 ∷ (n.0 i ++ 32 ∷ (k.0 i ++ 32 ∷ (z i ++ 32 ∷ g i))))))
+    ((l.1, m.1, n.1, k.1), λ i. w i ++ 32 ∷ (l.0 i ++ 32 ∷ (m.0 i ++ 32 ∷ (n.0 i ++ 32 ∷ (k.0 i ++ 32 ∷ (z i ++ 32 ∷ g i))))))
 
 counted_spelled : (words : List (List ℕ)) (v : Verb) → counted_verb words ≡ Some v → Says (join_with_byte 32 words) v
 counted_spelled [] v h = absurd (cc h)
@@ -317,180 +235,110 @@ hex_read text bytes h =
     let here : (length text == 0) ≡ false = grind (arith) in
     ap (λ t. if t then None else if_decoded (decode_of text)) here ∙ ap if_decoded h.digits
 
--- a line is read as a verb, and is not blank
-abbrev pub IsRead : List ℕ → Verb → Type 0
-IsRead line v = (verb_of (words_of line) ≡ Some v) × (is_blank line ≡ false)
+node_read : (line : List ℕ) (n : ℕ) (what : NodeVerb) → Says line (verb.AtNode n what) → IsRead line (verb.AtNode n what)
+node_read line n (node_verb.Clock t) h =
+    node_row line n (node_verb.Clock t) (decimal t ∷ []) (λ rest. refl, λ rest. refl) (number_tail t h.0.1)
+    (λ a. operand (λ n t. verb.AtNode n (node_verb.Clock t)) (node_of a) (number_of (decimal t)) t (number_of-decimal t h.0.1)) h
+node_read line n (node_verb.Stop k out) h = stop_read line n k out h
+node_read line n (node_verb.Fail k) h = fail_read line n k h
+node_read line n (node_verb.Crash out) h = crash_read line n out h
+node_read line n (node_verb.Start uuids) h = start_read line n uuids h
 
 -- a line of three words that names a vBucket, by what its first word comes to
-plain_read : (line : List ℕ) (n k : ℕ) (what : VbVerb) → vb_tail what ≡ [] → ((rest : List ℕ) → words_of (vb_word what ++ 32 ∷ rest) ≡ vb_word what ∷ words_of rest)
+plain_read : (line : List ℕ) (n k : ℕ) (what : VbVerb) → vb_tail what ≡ [] → IsName (vb_word what)
     → ((a b : List ℕ) → verb_of (vb_word what ∷ a ∷ b ∷ []) ≡ option_and_then (λ n. option_and_then (λ k. Some (verb.AtVb n k what)) (vbucket_of b)) (node_of a))
-    → ((rest : List ℕ) → is_blank (vb_word what ++ rest) ≡ false) → Says line (verb.AtVb n k what) → IsRead line (verb.AtVb n k what)
-plain_read line n k what none words read shown h =
-    let n_low : n < 2 ^ 64 = omega (arith, h.0) in
-    let k_low : k < 2 ^ 64 = omega (arith, h.1) in
-    let is : line ≡ vb_word what ++ 32 ∷ (decimal n ++ 32 ∷ decimal k) = h.3 ∙ ap (λ t. vb_word what ++ 32 ∷ (decimal n ++ 32 ∷ t)) (sym (ended (decimal k) (vb_tail what) none)) in (
-      ap (λ l. verb_of (words_of l)) is
-          ∙ ap verb_of (words (decimal n ++ 32 ∷ decimal k))
-          ∙ ap (λ ws. verb_of (vb_word what ∷ ws)) (first (decimal n) (decimal k) (decimal k ∷ []) (decimal_word n n_low) (one (decimal k) (decimal_word k k_low)))
-          ∙ read (decimal n) (decimal k)
-          ∙ ap (option_and_then (λ n. option_and_then (λ k. Some (verb.AtVb n k what)) (vbucket_of (decimal k)))) (in_limit NODES n h.0 n_low)
-          ∙ ap (option_and_then (λ k. Some (verb.AtVb n k what))) (in_limit VBUCKETS k h.1 k_low),
-      ap is_blank is ∙ shown (32 ∷ (decimal n ++ 32 ∷ decimal k)),
-    )
+    → Says line (verb.AtVb n k what) → IsRead line (verb.AtVb n k what)
+plain_read line n k what none name read h = vb_row line n k what [] name (subst (λ t. IsTail t []) (sym none) refl) read h
 
 vb_read : (line : List ℕ) (n k : ℕ) (what : VbVerb) → Says line (verb.AtVb n k what) → IsRead line (verb.AtVb n k what)
 vb_read line n k (vb_verb.MakeActive uuid) h =
-    let n_low : n < 2 ^ 64 = omega (arith, h.0) in
-    let k_low : k < 2 ^ 64 = omega (arith, h.1) in
-    let u = decimal uuid in (
-      ap (λ l. verb_of (words_of l)) h.3
-          ∙ ap (λ ws. verb_of (codes "vb" ∷ ws))
-          (first (decimal n) (decimal k ++ 32 ∷ (codes "active " ++ u)) (decimal k ∷ codes "active" ∷ u ∷ []) (decimal_word n n_low)
-          (first (decimal k) (codes "active " ++ u) (codes "active" ∷ u ∷ []) (decimal_word k k_low) (ap (λ ws. codes "active" ∷ ws) (one u (decimal_word uuid h.2)))))
-          ∙ ap (option_and_then (λ n. option_and_then (λ k. option_map (λ x. verb.AtVb n k (vb_verb.MakeActive x)) (number_of u)) (vbucket_of (decimal k)))) (in_limit NODES n h.0 n_low)
-          ∙ ap (option_and_then (λ k. option_map (λ x. verb.AtVb n k (vb_verb.MakeActive x)) (number_of u))) (in_limit VBUCKETS k h.1 k_low)
-          ∙ ap (option_map (λ x. verb.AtVb n k (vb_verb.MakeActive x))) (number_of-decimal uuid h.2),
-      ap is_blank h.3,
-    )
+    vb_row line n k (vb_verb.MakeActive uuid) (codes "active" ∷ decimal uuid ∷ []) (λ rest. refl, λ rest. refl)
+    (refl, ap (λ ws. codes "active" ∷ ws) (one (decimal uuid) (decimal_word uuid h.0.2)))
+    (λ a b. vb_operand vb_verb.MakeActive a b (number_of (decimal uuid)) uuid (number_of-decimal uuid h.0.2)) h
 vb_read line n k vb_verb.MakeReplica h =
-    let n_low : n < 2 ^ 64 = omega (arith, h.0) in
-    let k_low : k < 2 ^ 64 = omega (arith, h.1) in (
-      ap (λ l. verb_of (words_of l)) h.3
-          ∙ ap (λ ws. verb_of (codes "vb" ∷ ws))
-          (first (decimal n) (decimal k ++ 32 ∷ codes "replica") (decimal k ∷ codes "replica" ∷ []) (decimal_word n n_low) (first (decimal k) (codes "replica") (codes "replica" ∷ []) (decimal_word k k_low) refl))
-          ∙ ap (option_and_then (λ n. option_map (λ x. verb.AtVb n x vb_verb.MakeReplica) (vbucket_of (decimal k)))) (in_limit NODES n h.0 n_low)
-          ∙ ap (option_map (λ x. verb.AtVb n x vb_verb.MakeReplica)) (in_limit VBUCKETS k h.1 k_low),
-      ap is_blank h.3,
-    )
+    vb_row line n k vb_verb.MakeReplica (codes "replica" ∷ []) (λ rest. refl, λ rest. refl) (refl, refl)
+    (λ a b i. option_and_then (λ n. then_made (λ x. verb.AtVb n x vb_verb.MakeReplica) (vbucket_of b) i) (node_of a)) h
 vb_read line n k (vb_verb.Promote uuid) h =
-    let n_low : n < 2 ^ 64 = omega (arith, h.0) in
-    let k_low : k < 2 ^ 64 = omega (arith, h.1) in
-    let u = decimal uuid in (
-      ap (λ l. verb_of (words_of l)) h.3
-          ∙ ap (λ ws. verb_of (codes "promote" ∷ ws))
-          (first (decimal n) (decimal k ++ 32 ∷ u) (decimal k ∷ u ∷ []) (decimal_word n n_low) (first (decimal k) u (u ∷ []) (decimal_word k k_low) (one u (decimal_word uuid h.2))))
-          ∙ ap (option_and_then (λ n. option_and_then (λ k. option_map (λ x. verb.AtVb n k (vb_verb.Promote x)) (number_of u)) (vbucket_of (decimal k)))) (in_limit NODES n h.0 n_low)
-          ∙ ap (option_and_then (λ k. option_map (λ x. verb.AtVb n k (vb_verb.Promote x)) (number_of u))) (in_limit VBUCKETS k h.1 k_low)
-          ∙ ap (option_map (λ x. verb.AtVb n k (vb_verb.Promote x))) (number_of-decimal uuid h.2),
-      ap is_blank h.3,
-    )
-vb_read line n k (vb_verb.Chain others) h = (chain_read line n k others h, ap is_blank h.3)
-vb_read line n k vb_verb.Follow h = plain_read line n k vb_verb.Follow refl (λ rest. refl) (λ a b. refl) (λ rest. refl) h
-vb_read line n k vb_verb.Dead h = plain_read line n k vb_verb.Dead refl (λ rest. refl) (λ a b. refl) (λ rest. refl) h
-vb_read line n k vb_verb.Tick h = plain_read line n k vb_verb.Tick refl (λ rest. refl) (λ a b. refl) (λ rest. refl) h
-vb_read line n k vb_verb.Seal h = plain_read line n k vb_verb.Seal refl (λ rest. refl) (λ a b. refl) (λ rest. refl) h
-vb_read line n k vb_verb.Take h = plain_read line n k vb_verb.Take refl (λ rest. refl) (λ a b. refl) (λ rest. refl) h
-vb_read line n k vb_verb.Save h = plain_read line n k vb_verb.Save refl (λ rest. refl) (λ a b. refl) (λ rest. refl) h
-vb_read line n k vb_verb.Done h = plain_read line n k vb_verb.Done refl (λ rest. refl) (λ a b. refl) (λ rest. refl) h
-vb_read line n k vb_verb.Stat h = plain_read line n k vb_verb.Stat refl (λ rest. refl) (λ a b. refl) (λ rest. refl) h
-vb_read line n k vb_verb.Log h = plain_read line n k vb_verb.Log refl (λ rest. refl) (λ a b. refl) (λ rest. refl) h
-vb_read line n k vb_verb.Show h = plain_read line n k vb_verb.Show refl (λ rest. refl) (λ a b. refl) (λ rest. refl) h
+    vb_row line n k (vb_verb.Promote uuid) (decimal uuid ∷ []) (λ rest. refl, λ rest. refl) (number_tail uuid h.0.2)
+    (λ a b. vb_operand vb_verb.Promote a b (number_of (decimal uuid)) uuid (number_of-decimal uuid h.0.2)) h
+vb_read line n k (vb_verb.Chain others) h = chain_read line n k others h
+vb_read line n k vb_verb.Follow h = plain_read line n k vb_verb.Follow refl (λ rest. refl, λ rest. refl) (λ a b. refl) h
+vb_read line n k vb_verb.Dead h = plain_read line n k vb_verb.Dead refl (λ rest. refl, λ rest. refl) (λ a b. refl) h
+vb_read line n k vb_verb.Tick h = plain_read line n k vb_verb.Tick refl (λ rest. refl, λ rest. refl) (λ a b. refl) h
+vb_read line n k vb_verb.Seal h = plain_read line n k vb_verb.Seal refl (λ rest. refl, λ rest. refl) (λ a b. refl) h
+vb_read line n k vb_verb.Take h = plain_read line n k vb_verb.Take refl (λ rest. refl, λ rest. refl) (λ a b. refl) h
+vb_read line n k vb_verb.Save h = plain_read line n k vb_verb.Save refl (λ rest. refl, λ rest. refl) (λ a b. refl) h
+vb_read line n k vb_verb.Done h = plain_read line n k vb_verb.Done refl (λ rest. refl, λ rest. refl) (λ a b. refl) h
+vb_read line n k vb_verb.Stat h = plain_read line n k vb_verb.Stat refl (λ rest. refl, λ rest. refl) (λ a b. refl) h
+vb_read line n k vb_verb.Log h = plain_read line n k vb_verb.Log refl (λ rest. refl, λ rest. refl) (λ a b. refl) h
+vb_read line n k vb_verb.Show h = plain_read line n k vb_verb.Show refl (λ rest. refl, λ rest. refl) (λ a b. refl) h
+
+-- a line for a client's connection that brings no bytes
+bare_read : (line : List ℕ) (n c : ℕ) (what : ClientVerb) (h : Says line (verb.AtClient n c what)) → h.1.0 ≡ [] → IsName (client_word what)
+    → ((a b : List ℕ) → verb_of (client_word what ∷ a ∷ b ∷ []) ≡ option_and_then (λ n. option_map (λ x. verb.AtClient n x what) (connection_of b)) (node_of a))
+    → IsRead line (verb.AtClient n c what)
+bare_read line n c what h none name read =
+    client_row line n c what [] h name (subst (λ t. IsTail t []) (sym none) refl)
+    (λ a b. read a b ∙ (λ i. option_and_then (λ n. then_made (λ x. verb.AtClient n x what) (connection_of b) i) (node_of a)))
+
+client_read : (line : List ℕ) (n c : ℕ) (what : ClientVerb) → Says line (verb.AtClient n c what) → IsRead line (verb.AtClient n c what)
+client_read line n c client_verb.Open h = bare_read line n c client_verb.Open h h.1.1 (λ rest. refl, λ rest. refl) (λ a b. refl)
+client_read line n c client_verb.Hang h = bare_read line n c client_verb.Hang h h.1.1 (λ rest. refl, λ rest. refl) (λ a b. refl)
+client_read line n c (client_verb.Bytes bytes) h =
+    let text = h.1.1.0 in
+    let hex = h.1.1.1 in
+    client_row line n c (client_verb.Bytes bytes) (text ∷ []) h (λ rest. refl, λ rest. refl)
+    (subst (λ t. IsTail t (text ∷ [])) (sym h.1.1.2) (refl, one text (hex_word text bytes hex.digits)))
+    (λ a b. ap (λ o. option_and_then (λ n. option_and_then (λ c. option_map (λ x. verb.AtClient n c (client_verb.Bytes x)) o) (connection_of b)) (node_of a)) (hex_read text bytes hex))
+
+-- a line for a link, with a number behind the link's
+counted_read : (line : List ℕ) (l k : ℕ) (make : ℕ → LinkVerb) (o : Option ℕ) → k < 2 ^ 64 → (link_words (make k)).1 ≡ 32 ∷ decimal k → o ≡ Some k → IsName (link_words (make k)).0
+    → ((a : List ℕ) → verb_of ((link_words (make k)).0 ∷ a ∷ decimal k ∷ []) ≡ option_and_then (λ l. option_map (λ x. verb.AtLink l (make x)) o) (connection_of a))
+    → Says line (verb.AtLink l (make k)) → IsRead line (verb.AtLink l (make k))
+counted_read line l k make o low tail is name read h =
+    link_row line l (make k) (decimal k ∷ []) name (subst (λ t. IsTail t (decimal k ∷ [])) (sym tail) (number_tail k low))
+    (λ a. read a ∙ operand (λ l x. verb.AtLink l (make x)) (connection_of a) o k is) h
+
+link_read : (line : List ℕ) (l : ℕ) (what : LinkVerb) → Says line (verb.AtLink l what) → IsRead line (verb.AtLink l what)
+link_read line l (link_verb.Up b) h =
+    let low : b < 2 ^ 64 = omega (arith, h.0.1) in
+    counted_read line l b link_verb.Up (moved_of (decimal b)) low refl (moved_read b h.0.1) (λ rest. refl, λ rest. refl) (λ a. refl) h
+link_read line l (link_verb.Down b) h =
+    let low : b < 2 ^ 64 = omega (arith, h.0.1) in
+    counted_read line l b link_verb.Down (moved_of (decimal b)) low refl (moved_read b h.0.1) (λ rest. refl, λ rest. refl) (λ a. refl) h
+link_read line l (link_verb.Pump k) h =
+    let low : k < 2 ^ 64 = omega (arith, h.0.1.1) in
+    counted_read line l k link_verb.Pump (frames_of (decimal k)) low refl (in_frames k h.0.1.0 h.0.1.1 low) (λ rest. refl, λ rest. refl) (λ a. refl) h
+link_read line l link_verb.Cut h =
+    link_row line l link_verb.Cut [] (λ rest. refl, λ rest. refl) refl (λ a. then_made (λ l. verb.AtLink l link_verb.Cut) (connection_of a)) h
+
+link_made_read : (line : List ℕ) (l m n k : ℕ) → Says line (verb.Link l m n k) → IsRead line (verb.Link l m n k)
+link_made_read line l m n k h =
+    let l_low : l < 2 ^ 64 = omega (arith, h.0.0) in
+    let m_low : m < 2 ^ 64 = omega (arith, h.0.1) in
+    let n_low : n < 2 ^ 64 = omega (arith, h.0.2) in
+    let k_low : k < 2 ^ 64 = omega (arith, h.0.3) in
+    let last = codes "0" ∷ codes "follow" ∷ [] in
+    word_read line (codes "link") (decimal l ++ 32 ∷ (decimal m ++ 32 ∷ (decimal n ++ 32 ∷ (decimal k ++ 32 ∷ codes "0 follow"))))
+    (decimal l ∷ decimal m ∷ decimal n ∷ decimal k ∷ last) (verb.Link l m n k) (λ rest. refl, λ rest. refl) h.1
+    (first (decimal l) (decimal m ++ 32 ∷ (decimal n ++ 32 ∷ (decimal k ++ 32 ∷ codes "0 follow"))) (decimal m ∷ decimal n ∷ decimal k ∷ last) (decimal_word l l_low)
+    (first (decimal m) (decimal n ++ 32 ∷ (decimal k ++ 32 ∷ codes "0 follow")) (decimal n ∷ decimal k ∷ last) (decimal_word m m_low)
+    (numbered n k (32 ∷ codes "0 follow") last n_low k_low (refl, refl))))
+    (ap (option_and_then (λ l. option_and_then (λ m. option_and_then (λ n. option_map (verb.Link l m n) (vbucket_of (decimal k))) (node_of (decimal n))) (node_of (decimal m)))) (in_limit CONNECTIONS l h.0.0 l_low)
+    ∙ ap (option_and_then (λ m. option_and_then (λ n. option_map (verb.Link l m n) (vbucket_of (decimal k))) (node_of (decimal n)))) (in_limit NODES m h.0.1 m_low)
+    ∙ ap (option_and_then (λ n. option_map (verb.Link l m n) (vbucket_of (decimal k)))) (in_limit NODES n h.0.2 n_low)
+    ∙ ap (option_map (verb.Link l m n)) (in_limit VBUCKETS k h.0.3 k_low))
 
 pub spelled_read : (line : List ℕ) (v : Verb) → Says line v → IsRead line v
-spelled_read line (verb.AtVb n k what) h = vb_read line n k what h
 spelled_read line (verb.Node n) h =
-    let low : n < 2 ^ 64 = omega (arith, h.0) in (
-      ap (λ l. verb_of (words_of l)) h.1
-          ∙ ap (λ ws. verb_of (codes "node" ∷ ws)) (one (decimal n) (decimal_word n low))
-          ∙ ap (option_map verb.Node) (in_limit NODES n h.0 low),
-      ap is_blank h.1,
-    )
-spelled_read line (verb.AtNode n (node_verb.Clock t)) h =
-    let n_low : n < 2 ^ 64 = omega (arith, h.0) in (
-      ap (λ l. verb_of (words_of l)) h.2
-          ∙ ap (λ ws. verb_of (codes "clock" ∷ ws)) (first (decimal n) (decimal t) (decimal t ∷ []) (decimal_word n n_low) (one (decimal t) (decimal_word t h.1)))
-          ∙ ap (option_and_then (λ n. option_map (λ x. verb.AtNode n (node_verb.Clock x)) (number_of (decimal t)))) (in_limit NODES n h.0 n_low)
-          ∙ ap (option_map (λ x. verb.AtNode n (node_verb.Clock x))) (number_of-decimal t h.1),
-      ap is_blank h.2,
-    )
-spelled_read line (verb.AtClient n c client_verb.Open) h =
-    let n_low : n < 2 ^ 64 = omega (arith, h.0) in
-    let c_low : c < 2 ^ 64 = omega (arith, h.1) in (
-      ap (λ l. verb_of (words_of l)) h.2
-          ∙ ap (λ ws. verb_of (codes "client" ∷ ws)) (first (decimal n) (decimal c) (decimal c ∷ []) (decimal_word n n_low) (one (decimal c) (decimal_word c c_low)))
-          ∙ ap (option_and_then (λ n. option_map (λ x. verb.AtClient n x client_verb.Open) (connection_of (decimal c)))) (in_limit NODES n h.0 n_low)
-          ∙ ap (option_map (λ x. verb.AtClient n x client_verb.Open)) (in_limit CONNECTIONS c h.1 c_low),
-      ap is_blank h.2,
-    )
-spelled_read line (verb.AtClient n c client_verb.Hang) h =
-    let n_low : n < 2 ^ 64 = omega (arith, h.0) in
-    let c_low : c < 2 ^ 64 = omega (arith, h.1) in (
-      ap (λ l. verb_of (words_of l)) h.2
-          ∙ ap (λ ws. verb_of (codes "hang" ∷ ws)) (first (decimal n) (decimal c) (decimal c ∷ []) (decimal_word n n_low) (one (decimal c) (decimal_word c c_low)))
-          ∙ ap (option_and_then (λ n. option_map (λ x. verb.AtClient n x client_verb.Hang) (connection_of (decimal c)))) (in_limit NODES n h.0 n_low)
-          ∙ ap (option_map (λ x. verb.AtClient n x client_verb.Hang)) (in_limit CONNECTIONS c h.1 c_low),
-      ap is_blank h.2,
-    )
-spelled_read line (verb.AtClient n c (client_verb.Bytes bytes)) h =
-    let n_low : n < 2 ^ 64 = omega (arith, h.1.1) in
-    let c_low : c < 2 ^ 64 = omega (arith, h.1.2) in
-    let text = h.0 in
-    let word = hex_word text bytes h.1.0.digits in (
-      ap (λ l. verb_of (words_of l)) h.1.3
-          ∙ ap (λ ws. verb_of (codes "bytes" ∷ ws))
-          (first (decimal n) (decimal c ++ 32 ∷ text) (decimal c ∷ text ∷ []) (decimal_word n n_low) (first (decimal c) text (text ∷ []) (decimal_word c c_low) (one text word)))
-          ∙ ap (option_and_then (λ n. option_and_then (λ c. option_map (λ x. verb.AtClient n c (client_verb.Bytes x)) (hex_bytes_of text)) (connection_of (decimal c)))) (in_limit NODES n h.1.1 n_low)
-          ∙ ap (option_and_then (λ c. option_map (λ x. verb.AtClient n c (client_verb.Bytes x)) (hex_bytes_of text))) (in_limit CONNECTIONS c h.1.2 c_low)
-          ∙ ap (option_map (λ x. verb.AtClient n c (client_verb.Bytes x))) (hex_read text bytes h.1.0),
-      ap is_blank h.1.3,
-    )
-spelled_read line (verb.Link l m n k) h =
-    let l_low : l < 2 ^ 64 = omega (arith, h.0) in
-    let m_low : m < 2 ^ 64 = omega (arith, h.1) in
-    let n_low : n < 2 ^ 64 = omega (arith, h.2) in
-    let k_low : k < 2 ^ 64 = omega (arith, h.3) in
-    let last = codes "0" ∷ codes "follow" ∷ [] in (
-      ap (λ l. verb_of (words_of l)) h.4
-          ∙ ap (λ ws. verb_of (codes "link" ∷ ws))
-          (first (decimal l) (decimal m ++ 32 ∷ (decimal n ++ 32 ∷ (decimal k ++ 32 ∷ codes "0 follow"))) (decimal m ∷ decimal n ∷ decimal k ∷ last) (decimal_word l l_low)
-          (first (decimal m) (decimal n ++ 32 ∷ (decimal k ++ 32 ∷ codes "0 follow")) (decimal n ∷ decimal k ∷ last) (decimal_word m m_low)
-          (first (decimal n) (decimal k ++ 32 ∷ codes "0 follow") (decimal k ∷ last) (decimal_word n n_low) (first (decimal k) (codes "0 follow") last (decimal_word k k_low) refl))))
-          ∙ ap (option_and_then (λ l. option_and_then (λ m. option_and_then (λ n. option_map (verb.Link l m n) (vbucket_of (decimal k))) (node_of (decimal n))) (node_of (decimal m)))) (in_limit CONNECTIONS l h.0 l_low)
-          ∙ ap (option_and_then (λ m. option_and_then (λ n. option_map (verb.Link l m n) (vbucket_of (decimal k))) (node_of (decimal n)))) (in_limit NODES m h.1 m_low)
-          ∙ ap (option_and_then (λ n. option_map (verb.Link l m n) (vbucket_of (decimal k)))) (in_limit NODES n h.2 n_low)
-          ∙ ap (option_map (verb.Link l m n)) (in_limit VBUCKETS k h.3 k_low),
-      ap is_blank h.4,
-    )
-spelled_read line (verb.AtLink l (link_verb.Up b)) h =
-    let l_low : l < 2 ^ 64 = omega (arith, h.0) in
-    let b_low : b < 2 ^ 64 = omega (arith, h.1) in
-    let below : b < MOVED + 1 = omega (arith, h.1) in (
-      ap (λ l. verb_of (words_of l)) h.2
-          ∙ ap (λ ws. verb_of (codes "up" ∷ ws)) (first (decimal l) (decimal b) (decimal b ∷ []) (decimal_word l l_low) (one (decimal b) (decimal_word b b_low)))
-          ∙ ap (option_and_then (λ l. option_map (λ x. verb.AtLink l (link_verb.Up x)) (moved_of (decimal b)))) (in_limit CONNECTIONS l h.0 l_low)
-          ∙ ap (option_map (λ x. verb.AtLink l (link_verb.Up x))) (in_limit (MOVED + 1) b below b_low),
-      ap is_blank h.2,
-    )
-spelled_read line (verb.AtLink l (link_verb.Down b)) h =
-    let l_low : l < 2 ^ 64 = omega (arith, h.0) in
-    let b_low : b < 2 ^ 64 = omega (arith, h.1) in
-    let below : b < MOVED + 1 = omega (arith, h.1) in (
-      ap (λ l. verb_of (words_of l)) h.2
-          ∙ ap (λ ws. verb_of (codes "down" ∷ ws)) (first (decimal l) (decimal b) (decimal b ∷ []) (decimal_word l l_low) (one (decimal b) (decimal_word b b_low)))
-          ∙ ap (option_and_then (λ l. option_map (λ x. verb.AtLink l (link_verb.Down x)) (moved_of (decimal b)))) (in_limit CONNECTIONS l h.0 l_low)
-          ∙ ap (option_map (λ x. verb.AtLink l (link_verb.Down x))) (in_limit (MOVED + 1) b below b_low),
-      ap is_blank h.2,
-    )
-spelled_read line (verb.AtLink l (link_verb.Pump k)) h =
-    let l_low : l < 2 ^ 64 = omega (arith, h.0) in
-    let k_low : k < 2 ^ 64 = omega (arith, h.2) in (
-      ap (λ l. verb_of (words_of l)) h.3
-          ∙ ap (λ ws. verb_of (codes "pump" ∷ ws)) (first (decimal l) (decimal k) (decimal k ∷ []) (decimal_word l l_low) (one (decimal k) (decimal_word k k_low)))
-          ∙ ap (option_and_then (λ l. option_map (λ x. verb.AtLink l (link_verb.Pump x)) (frames_of (decimal k)))) (in_limit CONNECTIONS l h.0 l_low)
-          ∙ ap (option_map (λ x. verb.AtLink l (link_verb.Pump x))) (in_frames k h.1 h.2 k_low),
-      ap is_blank h.3,
-    )
-spelled_read line (verb.AtLink l link_verb.Cut) h =
-    let low : l < 2 ^ 64 = omega (arith, h.0) in (
-      ap (λ l. verb_of (words_of l)) h.1
-          ∙ ap (λ ws. verb_of (codes "cut" ∷ ws)) (one (decimal l) (decimal_word l low))
-          ∙ ap (option_map (λ l. verb.AtLink l link_verb.Cut)) (in_limit CONNECTIONS l h.0 low),
-      ap is_blank h.1,
-    )
-spelled_read line (verb.AtNode n (node_verb.Stop k out)) h = (stop_read line n k out h, ap is_blank h.1.3)
-spelled_read line (verb.AtNode n (node_verb.Fail k)) h = (fail_read line n k h, ap is_blank h.2)
-spelled_read line (verb.AtNode n (node_verb.Crash out)) h = (crash_read line n out h, ap is_blank h.1.2)
-spelled_read line (verb.AtNode n (node_verb.Start uuids)) h = (start_read line n uuids h, ap is_blank h.3)
+    let low : n < 2 ^ 64 = omega (arith, h.0) in
+    word_read line (codes "node") (decimal n) (decimal n ∷ []) (verb.Node n) (λ rest. refl, λ rest. refl) h.1 (one (decimal n) (decimal_word n low))
+    (ap (option_map verb.Node) (in_limit NODES n h.0 low))
+spelled_read line (verb.Link l m n k) h = link_made_read line l m n k h
+spelled_read line (verb.AtNode n what) h = node_read line n what h
+spelled_read line (verb.AtVb n k what) h = vb_read line n k what h
+spelled_read line (verb.AtClient n c what) h = client_read line n c what h
+spelled_read line (verb.AtLink l what) h = link_read line l what h
 
 pub lines_say : (line : List ℕ) (v : Verb) → (verb_of (words_of line) ≡ Some v) ↔ Says line v
 lines_say line v = (λ h. subst (λ l. Says l v) (join_with_byte-slice_split 32 line) (words_spelled (words_of line) v h), λ h. (spelled_read line v h).0)

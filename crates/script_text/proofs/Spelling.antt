@@ -1,12 +1,13 @@
 -- what the words of a line show, and what the words of a text are
 use Rattle.std.proofs.Common.{◌≡◌, ℕ, ◌+◌, ◌^◌, ◌<◌, ◌≤◌, Bool, true, false, List, [], ◌∷◌, ◌++◌, Option, Some, None, refl, ap, sym, ◌∙◌, subst, inl, inr, ◌⊎◌, arith}
-use Rattle.std.specs.Prelude.{◌==◌, if◌then◌else◌, nat_lt, nat_le, ◌&&◌, option_and_then, decimal}
-use Rattle.std.specs.List.{All}
+use Rattle.std.specs.Prelude.{◌==◌, if◌then◌else◌, nat_lt, nat_le, ◌&&◌, option_and_then, decimal, map}
+use Rattle.std.specs.List.{All, flat_map, join_with_byte}
 use Rattle.std.specs.Option.{option_map}
 use Rattle.std.specs.Str.{bytes_eq, all_ascii_digits}
 use Rattle.std.proofs.lemmas.Bool.{ltb-true, lt-ltb, leb-true, and_parts}
 use Rattle.std.proofs.lemmas.Fmt.{digits_decimal}
-use Rattle.std.proofs.lemmas.List.Elements.{All-cons, All-nil}
+use Rattle.std.proofs.lemmas.List.{append-nil}
+use Rattle.std.proofs.lemmas.List.Elements.{All-cons, All-nil, All-head, All-tail}
 use Rattle.std.proofs.lemmas.Slice.Eq.{bytes_eq-Decides}
 use Rattle.std.proofs.lemmas.List.Splits.{slice_split_none, slice_split_at}
 use Rattle.script_text.specs.Numbers.{number_of, if_below, moved_of, if_frames}
@@ -101,3 +102,32 @@ first a rest words h e = slice_split_at (λ b. b == 32) a 32 rest h refl ∙ ap 
 
 pub in_limit : (limit n : ℕ) → n < limit → n < 2 ^ 64 → if_below limit (number_of (decimal n)) ≡ Some n
 in_limit limit n h low = ap (if_below limit) (number_of-decimal n low) ∙ ap (λ t. if t then Some n else None) (lt-ltb n limit h)
+
+-- ---- words behind a text, each with a space in front
+
+abbrev pub IsTail : List ℕ → List (List ℕ) → Type 0
+IsTail [] words = words ≡ []
+IsTail (c ∷ text) words = (c ≡ 32) × (words_of text ≡ words)
+
+pub tailed : (a tail : List ℕ) (words : List (List ℕ)) → IsWord a → IsTail tail words → words_of (a ++ tail) ≡ a ∷ words
+tailed a [] words w h = ap words_of (append-nil a) ∙ one a w ∙ ap (λ ws. a ∷ ws) (sym h)
+tailed a (c ∷ text) words w h = ap (λ c. words_of (a ++ c ∷ text)) h.0 ∙ first a text words w h.1
+
+pub number_tail : (n : ℕ) → n < 2 ^ 64 → IsTail (32 ∷ decimal n) (decimal n ∷ [])
+number_tail n low = (refl, one (decimal n) (decimal_word n low))
+
+pub each_tail : {A : Type 0} (f : A → List ℕ) (xs : List A) → All (λ x. IsWord (f x)) xs → IsTail (flat_map (λ x. 32 ∷ f x) xs) (map f xs)
+each_tail f [] h = refl
+each_tail f (x ∷ xs) h =
+    let here = All-head (λ x. IsWord (f x)) x xs h in
+    let more = All-tail (λ x. IsWord (f x)) x xs h in
+    (refl, tailed (f x) (flat_map (λ x. 32 ∷ f x) xs) (map f xs) here (each_tail f xs more))
+
+-- words with single spaces between are the first, and the others with a space in front of each
+pub joined : (word : List ℕ) (words : List (List ℕ)) → join_with_byte 32 (word ∷ words) ≡ word ++ flat_map (λ t. 32 ∷ t) words
+joined word [] = sym (append-nil word)
+joined word (next ∷ words) = ap (λ t. word ++ 32 ∷ t) (joined next words)
+
+pub spaced : {A : Type 0} (f : A → List ℕ) (xs : List A) → flat_map (λ t. 32 ∷ t) (map f xs) ≡ flat_map (λ x. 32 ∷ f x) xs
+spaced f [] = refl
+spaced f (x ∷ xs) = ap (λ t. (32 ∷ f x) ++ t) (spaced f xs)

@@ -1,10 +1,10 @@
 pub mod Numbers
 pub mod Lines
 pub mod Grammar
+pub mod Fitting
 pub mod Sayings
 pub mod Scripts
 pub mod Transcript
-pub mod Fitting
 pub mod Ranges
 pub mod Wordings
 pub mod Printed

@@ -1,12 +1,12 @@
 -- how each verb is spelled
-use Rattle.std.specs.Prelude.{◌≡◌, ℕ, ◌+◌, ◌%◌, ◌^◌, ◌<◌, ◌≤◌, ◌⊎◌, List, [], ◌∷◌, ◌++◌, length, map, Option, Some, None, Ok, codes, decimal}
-use Rattle.std.specs.List.{All, AllPass, flat_map, join_with_byte}
+use Rattle.std.specs.Prelude.{◌≡◌, ℕ, ◌+◌, ◌%◌, ◌<◌, ◌⊎◌, List, [], ◌∷◌, ◌++◌, length, Option, Some, None, Ok, codes, decimal}
+use Rattle.std.specs.List.{All, AllPass, flat_map}
 use Rattle.hex.specs.Hex.{decode_of, is_hex_digit}
 use Rattle.vb_disk.specs.declared.made.Outcome.{Outcome}
 use Rattle.vb_disk.specs.declared.made.Outcome.TheVariants as outcome
-use Rattle.script_text.specs.declared.verb.Verb.{Verb}
+use Rattle.script_text.specs.Fitting.{VerbFits}
+use Rattle.script_text.specs.declared.verb.{Verb.{Verb}, VbVerb.{VbVerb}, NodeVerb.{NodeVerb}, LinkVerb.{LinkVerb}, ClientVerb.{ClientVerb}}
 use Rattle.script_text.specs.declared.verb.Verb.TheVariants as verb
-use Rattle.script_text.specs.declared.verb.VbVerb.{VbVerb}
 use Rattle.script_text.specs.declared.verb.VbVerb.TheVariants as vb_verb
 use Rattle.script_text.specs.declared.verb.NodeVerb.TheVariants as node_verb
 use Rattle.script_text.specs.declared.verb.LinkVerb.TheVariants as link_verb
@@ -26,21 +26,24 @@ pub record IsHexOf (text bytes : List ℕ) : Type 0 where
   pub some : 0 < length text
   pub digits : decode_of text ≡ Ok bytes
 
--- the text is the spelling of what a crash leaves: the old bytes, the new ones, or one byte everywhere
-abbrev pub SaysOutcome : List ℕ → Outcome → Type 0
-SaysOutcome text outcome.Old = text ≡ codes "old"
-SaysOutcome text outcome.New = text ≡ codes "new"
-SaysOutcome text (outcome.Fill byte) = (byte < 256) × (text ≡ codes "fill " ⧺ decimal byte)
-
--- a member of a chain: a node's number, or none where it is not set
-abbrev pub IsMember : Option ℕ → Type 0
-IsMember None = Unit {0}
-IsMember (Some m) = m < 16
+-- what a crash leaves, in words: the old bytes, the new ones, or one byte everywhere
+abbrev pub outcome_text : Outcome → List ℕ
+outcome_text outcome.Old = codes "old"
+outcome_text outcome.New = codes "new"
+outcome_text (outcome.Fill byte) = codes "fill " ⧺ decimal byte
 
 -- a member's word: the node's number, or a dash
 abbrev pub member_text : Option ℕ → List ℕ
 member_text None = codes "-"
 member_text (Some m) = decimal m
+
+-- the word that a line begins with which asks this of a node, and the words behind the node's number, each with a space in front
+abbrev pub node_words : NodeVerb → List ℕ × List ℕ
+node_words (node_verb.Clock nanos) = (codes "clock", codes " " ⧺ decimal nanos)
+node_words (node_verb.Stop call out) = (codes "stop", codes " " ⧺ decimal call ⧺ codes " " ⧺ outcome_text out)
+node_words (node_verb.Fail call) = (codes "fail", codes " " ⧺ decimal call)
+node_words (node_verb.Crash out) = (codes "crash", codes " " ⧺ outcome_text out)
+node_words (node_verb.Start uuids) = (codes "start", flat_map (λ uuid. codes " " ⧺ decimal uuid) uuids)
 
 -- the word that a line begins with which asks this of a vBucket of a node
 abbrev pub vb_word : VbVerb → List ℕ
@@ -67,46 +70,38 @@ vb_tail (vb_verb.Chain others) = flat_map (λ m. codes " " ⧺ member_text m) ot
 vb_tail (vb_verb.Promote uuid) = codes " " ⧺ decimal uuid
 vb_tail other = []
 
--- what else a line asks of a vBucket has such numbers
-abbrev pub VbFits : VbVerb → Type 0
-VbFits (vb_verb.MakeActive uuid) = uuid < 2 ^ 64
-VbFits (vb_verb.Chain others) = (length others ≤ 3) × All IsMember others
-VbFits (vb_verb.Promote uuid) = uuid < 2 ^ 64
-VbFits other = Unit {0}
+-- the word that a line begins with which asks this of a client's connection
+abbrev pub client_word : ClientVerb → List ℕ
+client_word client_verb.Open = codes "client"
+client_word (client_verb.Bytes bytes) = codes "bytes"
+client_word client_verb.Hang = codes "hang"
 
--- The line is the verb's spelling. Nodes have numbers 0 to 15, vBuckets 0 to 1023, and client
--- connections and links 0 to 999. A line moves at most 1,000,000,000 bytes, counts as many device
--- calls, and asks for 1 to 1,000,000 stream frames. A node starts with at most 64 branches. A
--- chain has at most 3 members beside its vBucket's own node. The limits are written out: a wrong
--- constant in the reader is refused here.
+-- the text stands behind the numbers of the node and the connection: bytes have many spellings
+abbrev pub ClientTail : List ℕ → ClientVerb → Type 0
+ClientTail tail (client_verb.Bytes bytes) = (text : List ℕ) × IsHexOf text bytes × (tail ≡ codes " " ⧺ text)
+ClientTail tail other = tail ≡ []
+
+-- the word that a line begins with which asks this of a link, and the words behind the link's number
+abbrev pub link_words : LinkVerb → List ℕ × List ℕ
+link_words (link_verb.Up bytes) = (codes "up", codes " " ⧺ decimal bytes)
+link_words (link_verb.Down bytes) = (codes "down", codes " " ⧺ decimal bytes)
+link_words (link_verb.Pump frames) = (codes "pump", codes " " ⧺ decimal frames)
+link_words link_verb.Cut = (codes "cut", [])
+
+-- the line is the verb's words, with single spaces between
+abbrev pub Spells : List ℕ → Verb → Type 0
+Spells line (verb.Node n) = line ≡ codes "node " ⧺ decimal n
+Spells line (verb.Link l m n v) =
+    line ≡ codes "link " ⧺ decimal l ⧺ codes " " ⧺ decimal m ⧺ codes " " ⧺ decimal n ⧺ codes " " ⧺ decimal v ⧺ codes " 0 follow"
+Spells line (verb.AtNode n what) = line ≡ (node_words what).0 ⧺ codes " " ⧺ decimal n ⧺ (node_words what).1
+Spells line (verb.AtVb n v what) = line ≡ vb_word what ⧺ codes " " ⧺ decimal n ⧺ codes " " ⧺ decimal v ⧺ vb_tail what
+Spells line (verb.AtClient n c what) =
+    (tail : List ℕ) × ClientTail tail what × (line ≡ client_word what ⧺ codes " " ⧺ decimal n ⧺ codes " " ⧺ decimal c ⧺ tail)
+Spells line (verb.AtLink l what) = line ≡ (link_words what).0 ⧺ codes " " ⧺ decimal l ⧺ (link_words what).1
+
+-- The line is the verb's spelling, with numbers within the grammar's limits.
 abbrev pub Says : List ℕ → Verb → Type 0
-Says line (verb.Node n) = (n < 16) × (line ≡ codes "node " ⧺ decimal n)
-Says line (verb.AtVb n v what) =
-    (n < 16) × (v < 1024) × VbFits what × (line ≡ vb_word what ⧺ codes " " ⧺ decimal n ⧺ codes " " ⧺ decimal v ⧺ vb_tail what)
-Says line (verb.AtNode n (node_verb.Clock nanos)) = (n < 16) × (nanos < 2 ^ 64) × (line ≡ codes "clock " ⧺ decimal n ⧺ codes " " ⧺ decimal nanos)
-Says line (verb.AtClient n c client_verb.Open) = (n < 16) × (c < 1000) × (line ≡ codes "client " ⧺ decimal n ⧺ codes " " ⧺ decimal c)
-Says line (verb.AtClient n c (client_verb.Bytes bytes)) =
-    (text : List ℕ)
-    × (IsHexOf text bytes × (n < 16) × (c < 1000)
-    × (line ≡ codes "bytes " ⧺ decimal n ⧺ codes " " ⧺ decimal c ⧺ codes " " ⧺ text))
-Says line (verb.AtClient n c client_verb.Hang) = (n < 16) × (c < 1000) × (line ≡ codes "hang " ⧺ decimal n ⧺ codes " " ⧺ decimal c)
-Says line (verb.Link l m n v) =
-    (l < 1000) × (m < 16) × (n < 16) × (v < 1024)
-    × (line ≡ codes "link " ⧺ decimal l ⧺ codes " " ⧺ decimal m ⧺ codes " " ⧺ decimal n ⧺ codes " " ⧺ decimal v ⧺ codes " 0 follow")
-Says line (verb.AtLink l (link_verb.Up b)) = (l < 1000) × (b ≤ 1000000000) × (line ≡ codes "up " ⧺ decimal l ⧺ codes " " ⧺ decimal b)
-Says line (verb.AtLink l (link_verb.Down b)) = (l < 1000) × (b ≤ 1000000000) × (line ≡ codes "down " ⧺ decimal l ⧺ codes " " ⧺ decimal b)
-Says line (verb.AtLink l (link_verb.Pump k)) = (l < 1000) × (1 ≤ k) × (k ≤ 1000000) × (line ≡ codes "pump " ⧺ decimal l ⧺ codes " " ⧺ decimal k)
-Says line (verb.AtLink l link_verb.Cut) = (l < 1000) × (line ≡ codes "cut " ⧺ decimal l)
-Says line (verb.AtNode n (node_verb.Stop k out)) =
-    (text : List ℕ)
-    × (SaysOutcome text out × (n < 16) × (k ≤ 1000000000)
-    × (line ≡ codes "stop " ⧺ decimal n ⧺ codes " " ⧺ decimal k ⧺ codes " " ⧺ text))
-Says line (verb.AtNode n (node_verb.Fail k)) = (n < 16) × (k ≤ 1000000000) × (line ≡ codes "fail " ⧺ decimal n ⧺ codes " " ⧺ decimal k)
-Says line (verb.AtNode n (node_verb.Crash out)) =
-    (text : List ℕ) × (SaysOutcome text out × (n < 16) × (line ≡ codes "crash " ⧺ decimal n ⧺ codes " " ⧺ text))
-Says line (verb.AtNode n (node_verb.Start uuids)) =
-    (n < 16) × (length uuids ≤ 64) × All (λ uuid. uuid < 2 ^ 64) uuids
-    × (line ≡ codes "start " ⧺ join_with_byte 32 (map decimal (n ∷ uuids)))
+Says line v = VerbFits v × Spells line v
 
 -- the line is empty, or begins with a semicolon
 abbrev pub IsBlank : List ℕ → Type 0

@@ -71,9 +71,9 @@ node_row_of w n (NodeVerb.Start uuids) = let x : Outcome = on_made w n (start_at
   fed = λ fine. unless_fed w x why fine.fed (made_fine w n (start_at n uuids) fine (start_less n uuids)).fed;
   keeps = λ rests. (start_says w n uuids).1;
   bound = λ r a rule. bound_down (is_told_down r n) Cause.NodeUp (Cause.UnknownNode ∷ []) _ told rule (λ e. start_refused w (w.nodes n) (drop 2 (start_causes w n uuids)) x (sym (off_is w r a n) ∙ e));
-  told = λ r fits t. (start_answered steady w r n uuids fits.2 t.agrees, start_fires steady w r n uuids fits.2 t.agrees);
+  told = λ r fits t. (start_answered steady w r n uuids fits.1.1 t.agrees, start_fires steady w r n uuids fits.1.1 t.agrees);
   entered = λ before r old. start_line_entered r n told.events told.answer old;
-  goes = λ r fits ranged a. start_goes steady w r n uuids fits.2 a;
+  goes = λ r fits ranged a. start_goes steady w r n uuids fits.1.1 a;
 }
 
 -- ---- clients
