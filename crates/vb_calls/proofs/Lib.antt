@@ -1,6 +1,7 @@
 pub mod AllSteps
 pub mod Runs
 pub mod Readings
+pub mod RolesNoted
 pub mod Conduct
 pub mod Binds
 pub mod JobRuns

@@ -118,9 +118,8 @@ pub record Notes (asked : VbCall) (shelf : Shelf) (how : Wrote) (left : Shelf) :
   pub how_is : (at_three (role_job 3 asked) followed shelf).1.1 ≡ how
   pub shelf_is : (at_three (role_job 3 asked) followed shelf).0.1 3 ≡ Some left
 
--- A role is written down behind the call, with the log of then: a promotion inside a snapshot leaves the old branch at the snapshot's start. One that is refused is not written down, and one that cannot be was taken all the same.
+-- A role is written down behind the call, with the log. One that is refused is not written down, and one that cannot be was taken all the same.
 pub record RolesInNumbers : Type 0 where
-  pub promoted : Notes (call.Promote 11) (open_shelf []) wrote.Stood (open_shelf (noted.State role.Active (entry 11 2 ∷ entry 7 0 ∷ []) ∷ []))
   pub dead : Notes call.Dead (open_shelf []) wrote.Stood (open_shelf (noted.State role.Dead (entry 9 3 ∷ entry 7 0 ∷ []) ∷ []))
   pub refused : Notes call.Follow (open_shelf []) wrote.NotAsked (open_shelf [])
   pub used : Notes (call.Promote 7) (open_shelf []) wrote.NotAsked (open_shelf [])
