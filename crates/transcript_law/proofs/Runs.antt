@@ -1,16 +1,17 @@
 -- each script's transcript is lawful
 use Rattle.std.specs.Prelude.{◌≡◌, ◌∷◌, ◌++◌, ◌==◌, if◌then◌else◌}
-use Rattle.{branch_model.specs.Journals.{place_of}, transcript_law.specs.Chronicles.{Dial, DiskTold, Flushing, after_group}, vb_calls.specs.Shelves.{Flush, Idle, Out, Written, Shelf}, vb_types.specs.declared.journal.Batch.{Batch}}
+use Rattle.{branch_model.specs.Journals.{place_of}, transcript_law.specs.Chronicles.{Conns, Dial, DiskTold, Flushing, after_group, after_lines, ahead, conns_lines, conns_verb}, vb_calls.specs.Shelves.{Flush, Idle, Out, Written, Shelf}, vb_types.specs.declared.journal.Batch.{Batch}}
 use Rattle.node_world.specs.{Nodes.{shelf_or_blank}, Rests.{Rests, RestsIf}, Worlds.{arm_in}}
 use Rattle.transcript_law.proofs.{invariant.Agreement.{DiskIsIf, IsArm, PowerIsIf, shelf_of, vb_of}, disks.ArmedSteps.{shut_in}, disks.Disks.{FlushIs, ShelfIs, parts_of, power_in}, disks.Flushed.{told_flush}, verbs.LineAnswers.{AllTold, ArmTold, DisksTold, ShutTold}}
 use Rattle.transcript_law.proofs.Words.{ℕ, Bool, true, false, List, [], refl, ap, sym, ◌∙◌, subst, arith, Option, Some, None, ne_eqb, All-nil, All-head, All-tail, ScriptLine, Verb}
 use Rattle.transcript_law.proofs.Words.{VerbFits, ScriptFits, Change, Plain, PlainNode, hist, PlainWorld, empty_world}
-use Rattle.transcript_law.proofs.Words.{with_branches, verb_step, world_step, groups_from, groups, Chronicle, empty_chronicle, LawfulGroups, Lawful, RefusedLinesKeep, start_sound}
+use Rattle.transcript_law.proofs.Words.{with_branches, verb_step, world_step, groups_from, groups, Chronicle, empty_chronicle, after_verb, LawfulGroups, Lawful, RefusedLinesKeep, start_sound}
 use Rattle.transcript_law.proofs.Words.{consumer_node, option_map}
 use Rattle.transcript_law.proofs.{invariant.Seats.{seat}}
 use Rattle.transcript_law.proofs.invariant.Agreement.{ChangeFits, EntryFits, AgreesAt, top, Agrees}
 use Rattle.transcript_law.proofs.{verbs.FiredLines.{DialsTold}, verbs.NodeRows.{client_row_of, link_row, link_row_of, node_row, node_row_of}, verbs.Rows.{AsTold, Row}, verbs.VbRows.{vb_row_of}, invariant.LinkRows.{found_is_link}}
 use Rattle.transcript_law.proofs.invariant.Ranged.{IsRanged, start_ranged}
+use Rattle.transcript_law.proofs.{invariant.ClientWorlds.{ConnsAre, start_conns}, invariant.Clients.{line_heard}, lines.Heard.{lines_heard}}
 use Rattle.cluster_model.specs.Clusters as cluster
 
 -- before the first line
@@ -50,6 +51,21 @@ start = (
       ends = λ link i. absurd i;
       small = λ n v e. cc;
     };
+  },
+)
+
+-- the connections of clients are no part of it
+conns_beside : (w : PlainWorld) (r : Chronicle) (conns : Conns) → Agrees w r → Agrees w (record r { conn_at = conns })
+conns_beside w r conns (c, a) = (
+  c,
+  record {
+    sound = a.sound;
+    vbs = a.vbs;
+    disks = a.disks;
+    branches = a.branches;
+    links = λ x i. let l = a.links x i in record { follower = l.follower; follower_is = l.follower_is; follows = l.follows; dial = l.dial; talk = l.talk };
+    differ = a.differ;
+    rests = record { powers = a.powers; aways = a.aways; downs = a.downs; ends = a.ends; small = a.small };
   },
 )
 
@@ -101,8 +117,8 @@ opens_told w r (c, a) = (λ n v vb known. (subst (AgreesAt r n v (c.nodes (seat 
         (flush_told_is shelf.is_closed shelf.flush (r.disk_at n v).flushing (c.disks (seat n v)).batch vb.flushed (place_of (c.disks (seat n v)).book).at x.flush, x.saved)
 
 -- all that is told
-as_told_of : (w : PlainWorld) (r : Chronicle) → Agrees w r → AsTold w r
-as_told_of w r a = record { agrees = a; rests = rests_told w r a; disks = opens_told w r a; shut = shut_told w r a; arms = arms_told w r a; dials = dials_told w r a }
+as_told_of : (w : PlainWorld) (r : Chronicle) → ConnsAre w r.conn_at → Agrees w r → AsTold w r
+as_told_of w r are a = record { agrees = a; conns = are; rests = rests_told w r a; disks = opens_told w r a; shut = shut_told w r a; arms = arms_told w r a; dials = dials_told w r a }
 
 -- what the law needs of each line, by what it names
 pub row_of : (w : PlainWorld) (number : ℕ) (line : Verb) → Row w line (verb_step w number line)
@@ -113,22 +129,37 @@ row_of w number (Verb.AtVb n v what) = vb_row_of w n v what
 row_of w number (Verb.AtClient n c what) = client_row_of w number n c what
 row_of w number (Verb.AtLink l what) = link_row_of w l what
 
+-- and behind the whole group of a line all agrees
+pub group_agrees : (w : PlainWorld) (r : Chronicle) (number : ℕ) (line : Verb) → VerbFits line → IsRanged w → Agrees w r
+    → (let o = verb_step w number line in Agrees (with_branches o.1.events o.0) (after_group r line o.1.events o.1.answer))
+group_agrees w r number line fits ranged a =
+    let o = verb_step w number line in let row : Row w line o = row_of w number line in
+    conns_beside (with_branches o.1.events o.0) (after_verb r (after_lines (ahead r line o.1.answer) o.1.events) line o.1.events o.1.answer)
+    (conns_verb (conns_lines r.conn_at o.1.events) line o.1.answer) (row.goes r fits ranged a).1
+
 pub refused_keep : RefusedLinesKeep
 refused_keep w number line why rests said standing = let x = (row_of w number line).keeps rests why said standing in (x.0.0, x.0.1, x.0.2, x.1)
 
-lawful_from : (w : PlainWorld) (r : Chronicle) (script : List ScriptLine) → ScriptFits script → IsRanged w → Agrees w r → LawfulGroups r script (groups_from w script)
+lawful_from : (w : PlainWorld) (r : Chronicle) (script : List ScriptLine) → ScriptFits script → IsRanged w → ConnsAre w r.conn_at → Agrees w r → LawfulGroups r script (groups_from w script)
 unfolding world_step
-lawful_from w r [] fits ranged a = tt
-lawful_from w r (line ∷ lines) fits ranged a =
+lawful_from w r [] fits ranged are a = tt
+lawful_from w r (line ∷ lines) fits ranged are a =
     let fit = All-head (λ (x : ScriptLine). VerbFits x.verb) line lines fits in
     let outcome = verb_step w line.line line.verb in
     let row : Row w line.verb outcome = row_of w line.line line.verb in
-    let told : AsTold w r = as_told_of w r a in
-    let went = row.goes r fit ranged a in (
-      (went.0, row.bound r a (row.told r fit told).0, (row.told r fit told).1, refl, λ why said standing. (row.keeps told.rests why said standing).1),
-      lawful_from (with_branches outcome.1.events outcome.0) (after_group r line.verb outcome.1.events outcome.1.answer) lines (All-tail (λ (x : ScriptLine). VerbFits x.verb) line lines fits) (row.ranged fit ranged) went.1,
+    let told : AsTold w r = as_told_of w r are a in
+    let went = row.goes r fit ranged a in let heard = line_heard r.conn_at w line.line are line.verb fit in (
+      (
+        lines_heard (ahead r line.verb outcome.1.answer) r.conn_at outcome.1.events went.0 heard.0,
+        row.bound r a (row.told r fit told).0,
+        (row.told r fit told).1,
+        refl,
+        λ why said standing. (row.keeps told.rests why said standing).1,
+      ),
+      lawful_from (with_branches outcome.1.events outcome.0) (after_group r line.verb outcome.1.events outcome.1.answer) lines (All-tail (λ (x : ScriptLine). VerbFits x.verb) line lines fits)
+          (row.ranged fit ranged) heard.1 (group_agrees w r line.line line.verb fit ranged a),
     )
 
 -- the transcript of a script is lawful
 pub lawful : (script : List ScriptLine) → ScriptFits script → Lawful script (groups script)
-lawful script fits = lawful_from empty_world empty_chronicle script fits start_ranged start
+lawful script fits = lawful_from empty_world empty_chronicle script fits start_ranged start_conns start

@@ -34,3 +34,7 @@ pub mod Unopened
 pub mod Waiting
 pub mod Settled
 pub mod OwnClients
+pub mod Clients
+pub mod ClientNodes
+pub mod ClientStarts
+pub mod ClientWorlds

@@ -4,3 +4,6 @@ pub mod Telling
 pub mod Calm
 pub mod Changes
 pub mod ClientLines
+pub mod Heard
+pub mod LinkLines
+pub mod SessionLines

@@ -1,5 +1,6 @@
 pub mod Contrary
 pub mod ClosedRows
+pub mod ClientRows
 pub mod CommitRows
 pub mod CrashRows
 pub mod DownRows

@@ -32,3 +32,4 @@ pub mod DoneLine
 pub mod NodeRows
 pub mod Rows
 pub mod VbRows
+pub mod AdminLines

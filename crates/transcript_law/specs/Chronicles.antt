@@ -24,7 +24,8 @@ use Rattle.vb_disk.specs.declared.made.Outcome.TheVariants.{Old}
 use Rattle.disk_journals.specs.Books.{below}
 use Rattle.durability.specs.Chains.{Members}
 use Rattle.branch_model.specs.Journals.{found, last_log, log_of, place_of, role_of, roll_point}
-pub use Rattle.transcript_law.specs.LinesTold.{ItemTold, Begun, Granted, Dial, CountsTold, alone, Flushing, Idle, Taken, Written, DiskTold, blank_disk, stood, told_batch, ArmTold, no_arm, down_told}
+pub use Rattle.transcript_law.specs.LinesTold.{ItemTold, Begun, Granted, Dial, CountsTold, alone, Flushing, Idle, Taken, Written, DiskTold, blank_disk, stood, told_batch, ArmTold, Conns, no_arm, down_told}
+pub use Rattle.transcript_law.specs.Clients.{conns_line, conns_lines, conns_verb}
 pub use Rattle.transcript_law.specs.LinesTold.{Chronicle, empty_chronicle, with_at, with_id, parent_branch, changes_between, uncounted, after_branch, snap_in_role, after_role, held_more, after_change, is_name, with_stream, is_dial_of, is_stream_of, with_changed}
 pub use Rattle.transcript_law.specs.LinesTold.{with_point, is_dial_at, is_stream_at, after_end, granted, after_ask, stream_branch, with_begun, more_items, with_item, finished, past_next, past_mark, acknowledging, after_take, after_adopt}
 pub use Rattle.transcript_law.specs.LinesTold.{is_dial_for, is_feed_of, after_range, spent, calls_of_append, after_calls, late_told, finds, disk_back, after_roll, with_disk, known_log, after_batch, after_count, after_line, after_lines}
@@ -286,6 +287,8 @@ after_verb before chronicle (verb.AtNode n (node_verb.Crash out)) lines said = a
 after_verb before chronicle (verb.AtNode n (node_verb.Start uuids)) lines said = after_start chronicle n lines said
 after_verb before chronicle other lines said = chronicle
 
--- what is read with a whole group of a line
+-- what is read with a whole group of a line; of the connections of clients its lines tell, and then the line
 abbrev pub after_group : Chronicle → Verb → List Event → Answer → Chronicle
-after_group chronicle line lines said = after_verb chronicle (after_lines (ahead chronicle line said) lines) line lines said
+after_group chronicle line lines said = record (after_verb chronicle (after_lines (ahead chronicle line said) lines) line lines said) {
+  conn_at = conns_verb (conns_lines chronicle.conn_at lines) line said;
+}

@@ -1,5 +1,5 @@
 -- scripts of arms that fire or do not, and lines behind rollbacks that links ask for, and transcripts of them to be judged by hand
-use Rattle.std.specs.Prelude.{false, List, [], ◌∷◌, ◌++◌, Some}
+use Rattle.std.specs.Prelude.{false, true, List, [], ◌∷◌, ◌++◌, Some}
 use Rattle.script_text.specs.declared.verb.Verb.{Verb}
 use Rattle.script_text.specs.declared.verb.Verb.TheVariants as verb
 use Rattle.script_text.specs.declared.verb.VbVerb.TheVariants as vb_verb
@@ -41,9 +41,9 @@ start_short arm = verb.AtNode 0 (node_verb.Crash Old) ∷ arm ∷ verb.AtNode 0 
 abbrev pub stopped_starting : List Event → Said
 stopped_starting lines = (lines ++ event.NodeStopped 0 ∷ [], answer.No cause.Stopped)
 
--- what was read when the request of the link 1 was sent back, and that of the link 2, which was dialed for the vBucket 1 of the same node
+-- what was read when the request of the link 1 was sent back, and that of the link 2, which was dialed for the vBucket 1 of the same node, while each connection of a client was open
 abbrev pub both_sent_back : Chronicle
-both_sent_back = with_point (after_dial (sent_back_for false) 2 0 1 1 answer.Ok) 2 (Some 1)
+both_sent_back = record (with_point (after_dial (sent_back_for false) 2 0 1 1 answer.Ok) 2 (Some 1)) { conn_at = λ n c. true }
 
 -- the vBucket 1 goes back to 0
 abbrev pub other_back : Event

@@ -38,9 +38,10 @@ use Rattle.script_text.specs.declared.verb.ScriptLine.{ScriptLine}
 use Rattle.transcript_law.specs.Firings.{FiresInLine}
 use Rattle.transcript_law.specs.Standing.{TellsIfBegun}
 use Rattle.transcript_law.specs.Bound.{IsAnswered}
+use Rattle.transcript_law.specs.Clients.{Heard}
 use Rattle.durability.specs.Laws.{HasOne}
 use Rattle.transcript_law.specs.Majorities.{IsHeldByMost}
-use Rattle.transcript_law.specs.Chronicles.{CountsTold, ahead, alone, ItemTold, Begun, Dial, Granted, Idle, Chronicle, empty_chronicle, is_stream_of, stood, stream_branch, after_line, after_group}
+use Rattle.transcript_law.specs.Chronicles.{Conns, CountsTold, ahead, conns_line, alone, ItemTold, Begun, Dial, Granted, Idle, Chronicle, empty_chronicle, is_stream_of, stood, stream_branch, after_line, after_group}
 
 -- the history of a branch, if it is known
 abbrev pub known_history : List Branch → Option ℕ → List Change
@@ -376,7 +377,7 @@ abbrev pub IsToStop : Fuse → Type 0
 IsToStop (Stop k) = 0 < k
 IsToStop other = ⊥
 
--- a line, after what was read, and in front of those behind it in its group
+-- a line, after what was read, and in front of those behind it in its group; one for a client is judged by its connection alone
 abbrev pub LawfulLine : Chronicle → Event → List Event → Type 0
 LawfulLine chronicle (event.Branch n v uuid parent fork high) behind = LawfulBranch chronicle n v uuid parent fork high
 LawfulLine chronicle (event.Role n v role) behind = LawfulRole chronicle n v role
@@ -409,13 +410,18 @@ abbrev pub LawfulFrom : Chronicle → List Event → Type 0
 LawfulFrom chronicle [] = Unit {0}
 LawfulFrom chronicle (line ∷ behind) = LawfulLine chronicle line behind × LawfulFrom (after_line chronicle line) behind
 
+-- the same, with the connections of clients that are open before them
+abbrev pub LinesFrom : Chronicle → Conns → List Event → Type 0
+LinesFrom chronicle conns [] = Unit {0}
+LinesFrom chronicle conns (line ∷ behind) = Heard conns line behind (LawfulLine chronicle line behind) × LinesFrom (after_line chronicle line) (conns_line conns line) behind
+
 -- the groups of the lines of a script that come next, one for each, with its number: its lines, its answer, and what both say of arms that fired and of vBuckets that went back; and one that was refused where it stood tells of nothing
 abbrev pub LawfulGroups : Chronicle → List ScriptLine → List Group → Type 0
 LawfulGroups chronicle [] [] = Unit {0}
 LawfulGroups chronicle (line ∷ lines) [] = ⊥
 LawfulGroups chronicle [] (group ∷ groups) = ⊥
 LawfulGroups chronicle (line ∷ lines) (group ∷ groups) =
-    (LawfulFrom (ahead chronicle line.verb group.answer) group.events × IsAnswered chronicle line.verb group.events group.answer × FiresInLine chronicle line.verb group.events group.answer × (group.line ≡ line.line) × TellsIfBegun group.events group.answer)
+    (LinesFrom (ahead chronicle line.verb group.answer) chronicle.conn_at group.events × IsAnswered chronicle line.verb group.events group.answer × FiresInLine chronicle line.verb group.events group.answer × (group.line ≡ line.line) × TellsIfBegun group.events group.answer)
     × LawfulGroups (after_group chronicle line.verb group.events group.answer) lines groups
 
 -- a whole transcript of a script

@@ -1,5 +1,7 @@
 pub mod Bound
 pub mod Chronicles
+pub mod Clients
+pub mod ClientRows
 pub mod ClosedJournals
 pub mod Contrary
 pub mod Crashes

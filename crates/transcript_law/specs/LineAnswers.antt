@@ -22,7 +22,8 @@ use Rattle.vb_types.specs.declared.role.Role.TheVariants as role
 use Rattle.disk_journals.specs.Books.{below}
 use Rattle.vb_disk.specs.declared.fuse.Fuse.{Fuse}
 use Rattle.vb_disk.specs.declared.fuse.Fuse.TheVariants.{Off, Stop, Fail}
-use Rattle.transcript_law.specs.Chronicles.{Chronicle, Dial, DiskTold, Taken, Written, calls_of_append, disks_of, is_rollback, rollback_of, vb_numbers}
+use Rattle.transcript_law.specs.Clients.{ClientAnswer, IsCrashed}
+use Rattle.transcript_law.specs.Chronicles.{Chronicle, Dial, DiskTold, Taken, Written, calls_of_append, conns_lines, disks_of, is_rollback, rollback_of, vb_numbers}
 
 -- a line tells of a frame of a stream that was put: a marker, an item, or the stream's end
 abbrev pub is_frame : Event → Bool
@@ -273,10 +274,10 @@ LawfulAnswer chronicle (verb.Link l m n v) lines said = IsCarriedOut said
 LawfulAnswer chronicle (verb.AtNode n (node_verb.Clock nanos)) lines said = IsCarriedOut said
 LawfulAnswer chronicle (verb.AtNode n (node_verb.Stop call out)) lines said = IsCarriedOut said
 LawfulAnswer chronicle (verb.AtNode n (node_verb.Fail call)) lines said = IsCarriedOut said
-LawfulAnswer chronicle (verb.AtNode n (node_verb.Crash out)) lines said = IsCarriedOut said
+LawfulAnswer chronicle (verb.AtNode n (node_verb.Crash out)) lines said = IsCrashed (conns_lines chronicle.conn_at lines) n said
 LawfulAnswer chronicle (verb.AtNode n (node_verb.Start uuids)) lines said = IsStarted chronicle n uuids lines said
 LawfulAnswer chronicle (verb.AtVb n v what) lines said = KindAnswer chronicle n v (vb_kind what) lines said
-LawfulAnswer chronicle (verb.AtClient n c what) lines said = IsCarriedOut said
+LawfulAnswer chronicle (verb.AtClient n c what) lines said = ClientAnswer (chronicle.conn_at n c) what said
 LawfulAnswer chronicle (verb.AtLink l (link_verb.Up wanted)) lines said = IsMoved wanted said
 LawfulAnswer chronicle (verb.AtLink l (link_verb.Down wanted)) lines said = IsTakenDown wanted (back_of chronicle l) (closed_of_dial chronicle (chronicle.dial_of l)) (arm_of_dial chronicle (chronicle.dial_of l)) lines said
 LawfulAnswer chronicle (verb.AtLink l (link_verb.Pump wanted)) lines said = IsPumped wanted lines said

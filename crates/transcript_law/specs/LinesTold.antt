@@ -102,6 +102,10 @@ pub record ArmTold : Type 0 where
   pub out : Outcome
   pub down : Bool
 
+-- the connections of clients that are open, by their nodes and their numbers
+abbrev pub Conns : Type 0
+Conns = ℕ → ℕ → Bool
+
 -- nothing is, and the node is not down
 abbrev pub no_arm : ArmTold
 no_arm = record { fuse = Off; out = Old; down = false }
@@ -114,7 +118,8 @@ down_told = record { fuse = Off; out = Old; down = true }
 -- branch that it is on, and its failover log, where that is known; for each branch id, the node and the vBucket that made the branch or took it over
 -- last; for each link that is not over, its dial; for each stream's name and vBucket, the stream; and for each link the point that its last request was
 -- sent back to, until its consumer went back; whether a vBucket changed since it was sealed last, took a marker, got a role or went back;
--- the start and end of the snapshot that it is in, where that is known; what it wrote down; and what counts where it commits
+-- the start and end of the snapshot that it is in, where that is known; what it wrote down; and what counts where it commits; and the connections of
+-- clients that are open
 pub record Chronicle : Type 0 where
   pub tree : List Branch
   pub role_at : ℕ → ℕ → Option (Option Role)
@@ -130,6 +135,7 @@ pub record Chronicle : Type 0 where
   pub disk_at : ℕ → ℕ → DiskTold
   pub counts_at : ℕ → ℕ → CountsTold
   pub arm_at : ℕ → ArmTold
+  pub conn_at : Conns
 
 -- before the first line it is known that there is no vBucket
 abbrev pub empty_chronicle : Chronicle
@@ -148,6 +154,7 @@ empty_chronicle = record {
   disk_at = λ n v. blank_disk;
   counts_at = λ n v. alone;
   arm_at = λ n. no_arm;
+  conn_at = λ n c. false;
 }
 
 -- a table by nodes and vBuckets, with x for the vBucket v of the node n

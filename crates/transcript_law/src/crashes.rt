@@ -33,9 +33,9 @@ pub fn judged_arms()
     ensures fails_stopped { (k : ℕ) (lines : List Event) → LawfulAfter (save_under (verb.AtNode 0 (node_verb.Fail k))) (save_under_told (lines, answer.No cause.Stopped)) → ⊥ }
     ensures stops_failed { (k : ℕ) (lines : List Event) → LawfulAfter (save_under (verb.AtNode 0 (node_verb.Stop k Old))) (save_under_told (lines, answer.No cause.Disk)) → ⊥ }
     ensures unarmed_failed { (said : Answer) → LawfulAfter (save_under (verb.AtNode 0 (node_verb.Fail 0))) (save_under_told (event.CallFailed 0 ∷ [], said)) → ⊥ }
-    ensures unarmed_stopped { (said : Answer) → LawfulAfter (save_under (verb.AtNode 0 (node_verb.Stop 0 Old))) (save_under_told (event.NodeStopped 0 ∷ [], said)) → ⊥ }
+    ensures unarmed_stopped { (said : Answer) → LawfulAfter (save_under (verb.AtNode 0 (node_verb.Stop 0 Old))) (save_under_told (event.NodeStopped 0 ∷ event.Closed 0 1 ∷ [], said)) → ⊥ }
     ensures other_failed { (said : Answer) → LawfulAfter (save_under (verb.AtNode 0 (node_verb.Stop 1 Old))) (save_under_told (event.CallFailed 0 ∷ [], said)) → ⊥ }
-    ensures other_stopped { (said : Answer) → LawfulAfter (save_under (verb.AtNode 0 (node_verb.Fail 1))) (save_under_told (event.NodeStopped 0 ∷ [], said)) → ⊥ }
+    ensures other_stopped { (said : Answer) → LawfulAfter (save_under (verb.AtNode 0 (node_verb.Fail 1))) (save_under_told (event.NodeStopped 0 ∷ event.Closed 0 1 ∷ [], said)) → ⊥ }
     ensures elsewhere { (said : Answer) → LawfulAfter (save_under (verb.AtNode 0 (node_verb.Fail 1))) (save_under_told (event.CallFailed 1 ∷ [], said)) → ⊥ }
     ensures counted { LawfulAfter save_and_dead (save_and_dead_told (failed_behind (dead_line ∷ []))) }
     ensures counted_ok { LawfulAfter save_and_dead (save_and_dead_told (ok (dead_line ∷ []))) → ⊥ }

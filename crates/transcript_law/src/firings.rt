@@ -35,7 +35,7 @@ pub fn judged_firings()
     ensures stopped { LawfulAfter (save_under (verb.AtNode 0 (node_verb.Stop 1 Old))) (save_under_told (stopped_behind [])) }
     ensures stopped_twice { LawfulAfter (save_under (verb.AtNode 0 (node_verb.Stop 1 Old))) (save_under_told (stopped_behind (event.NodeStopped 0 ∷ []))) → ⊥ }
     ensures stopped_untold { LawfulAfter (save_under (verb.AtNode 0 (node_verb.Stop 1 Old))) (save_under_told (event.Closed 0 1 ∷ [], answer.No cause.Stopped)) → ⊥ }
-    ensures stopped_ok { LawfulAfter (save_under (verb.AtNode 0 (node_verb.Stop 5 Old))) (save_under_told (ok (event.NodeStopped 0 ∷ []))) → ⊥ }
+    ensures stopped_ok { LawfulAfter (save_under (verb.AtNode 0 (node_verb.Stop 5 Old))) (save_under_told (ok (event.NodeStopped 0 ∷ event.Closed 0 1 ∷ []))) → ⊥ }
     ensures seals { LawfulAfter seal_under (seal_under_told ([], answer.Number 1)) }
     ensures seal_failed { LawfulAfter seal_under (seal_under_told (event.CallFailed 0 ∷ [], answer.Number 1)) → ⊥ }
     ensures seal_disk { (lines : List Event) → LawfulAfter seal_under (seal_under_told (lines, answer.No cause.Disk)) → ⊥ }

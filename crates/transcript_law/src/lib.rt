@@ -6,6 +6,7 @@
 mod alone;
 mod bound;
 mod branches;
+mod clients;
 mod closed;
 mod commits;
 mod crashes;
@@ -22,6 +23,7 @@ mod untold;
 pub use alone::{judged_single_changes, judged_single_links, judged_single_streams};
 pub use bound::{judged_closed_links, judged_down_lines};
 pub use branches::branches_are_followed;
+pub use clients::{judged_client_answers, judged_client_lines, judged_client_stops};
 pub use closed::judged_closed;
 pub use commits::judged_commits;
 pub use crashes::{judged_arms, judged_crashes, judged_restarts};

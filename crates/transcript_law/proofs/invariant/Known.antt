@@ -1,7 +1,7 @@
 -- role, log and snapshot of each vBucket are known behind each line
 use Rattle.std.specs.Prelude.{◌≡◌, ◌∷◌}
 use Rattle.transcript_law.proofs.Words.{ℕ, Bool, true, false, List, [], refl, Option, Some, None, option_map, All-head, All-tail, ScriptLine, ScriptFits, VerbFits, Plain, PlainWorld, empty_world, with_branches, verb_step, world_step, groups_from, Event, Role, Chronicle, empty_chronicle, after_line, with_at, with_entry, kept_to}
-use Rattle.transcript_law.proofs.{invariant.Agreement.{Agrees, AgreesAt, AgreesIn, idle, vb_of}, invariant.Ranged.{IsRanged, start_ranged}, Runs.{row_of, start}, verbs.Rows.{Row}, invariant.Seats.{seat}, invariant.Tables.{pick}}
+use Rattle.transcript_law.proofs.{invariant.Agreement.{Agrees, AgreesAt, AgreesIn, idle, vb_of}, invariant.Ranged.{IsRanged, start_ranged}, Runs.{group_agrees, row_of, start}, verbs.Rows.{Row}, invariant.Seats.{seat}, invariant.Tables.{pick}}
 use Rattle.cluster_model.specs.Clusters.{Cluster}
 use Rattle.transcript_law.specs.{Chronicles.{after_group, snap_in_role}, Lawfulness.{AllKnown}, LinesTold.{roles_from}, Prefixes.{told_after, told_of, world_after, world_of}}
 use Rattle.vb_types.specs.declared.stream.AskAnswer.{AskAnswer}
@@ -44,7 +44,7 @@ agrees_from w r [] fits ranged a = a
 agrees_from w r (line ∷ lines) fits ranged a =
     let fit = All-head (λ (x : ScriptLine). VerbFits x.verb) line lines fits in let outcome = verb_step w line.line line.verb in let row : Row w line.verb outcome = row_of w line.line line.verb in
     agrees_from (with_branches outcome.1.events outcome.0) (after_group r line.verb outcome.1.events outcome.1.answer) lines (All-tail (λ (x : ScriptLine). VerbFits x.verb) line lines fits) (row.ranged fit ranged)
-    (row.goes r fit ranged a).1
+    (group_agrees w r line.line line.verb fit ranged a)
 
 -- behind a script
 pub script_known : (script : List ScriptLine) → ScriptFits script → AllKnown (told_of script)

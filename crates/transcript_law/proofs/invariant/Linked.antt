@@ -3,7 +3,7 @@ use Rattle.std.specs.Prelude.{◌≡◌, ◌∷◌, ◌⊎◌, ◌==◌, if◌th
 use Rattle.transcript_law.proofs.Words.{ℕ, true, false, List, [], refl, ap, sym, ◌∙◌, subst, inl, inr, ⊎_elim, Option, Some, None, not, eqb-true, All-head, All-tail, ScriptLine, VerbFits, ScriptFits, Stream, Plain, stream_at}
 use Rattle.transcript_law.proofs.Words.{Cluster, PlainNode, PlainWorld, PlainLink, PlainStream, link_number, producer_node, consumer_node, vb_in, with_branches, verb_step, world_step, empty_world, Chronicle, empty_chronicle, world_of}
 use Rattle.transcript_law.proofs.{invariant.Agreement.{Agrees, AgreesIn, IsLink, idle, is_down, is_open, vb_of}, invariant.Carried.{numbers, stream_opened}, disks.Disks.{power_in}, invariant.Feeding.{AllFed}, invariant.LinkRows.{found_is_link, links_apart}, invariant.Numbered.{numbered, numbers_of}}
-use Rattle.transcript_law.proofs.{invariant.Ranged.{IsRanged, start_ranged}, Runs.{row_of, start}, verbs.Rows.{Row}}
+use Rattle.transcript_law.proofs.{invariant.Ranged.{IsRanged, start_ranged}, Runs.{group_agrees, row_of, start}, verbs.Rows.{Row}}
 use Rattle.transcript_law.specs.Feeding.{Has, HasIn, HasStream, IsOf, IsOpenAt, LinksAreFed, StreamsAreLinks}
 use Rattle.transcript_law.specs.Chronicles.{after_group}
 use Rattle.transcript_law.specs.Prefixes.{world_after}
@@ -71,7 +71,7 @@ linked_from w r [] fits ranged a fed = (streams_are_links w r a.0 a.1 fed, links
 linked_from w r (line ∷ lines) fits ranged a fed =
     let fit = All-head (λ (x : ScriptLine). VerbFits x.verb) line lines fits in let outcome = verb_step w line.line line.verb in let row : Row w line.verb outcome = row_of w line.line line.verb in
     linked_from (with_branches outcome.1.events outcome.0) (after_group r line.verb outcome.1.events outcome.1.answer) lines (All-tail (λ (x : ScriptLine). VerbFits x.verb) line lines fits)
-    (row.ranged fit ranged) (row.goes r fit ranged a).1
+    (row.ranged fit ranged) (group_agrees w r line.line line.verb fit ranged a)
     (row.fed (record { numbers = numbers_of w.links a.1.differ; fed = fed }))
 
 -- after a script

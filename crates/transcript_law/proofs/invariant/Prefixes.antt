@@ -14,7 +14,7 @@ use Rattle.transcript_law.proofs.Words.{PlainWorld, empty_world, with_branches, 
 use Rattle.transcript_law.proofs.Words.{PlainNode, PlainSession, is_some, world_of, told_of, FollowsBranch, AreFollowed, Bool, false}
 use Rattle.transcript_law.proofs.Words.{branch}
 use Rattle.transcript_law.proofs.{invariant.Agreement.{vb_of, BranchIs, Writes, WritesIf, VbAgrees, AgreesAt, top}}
-use Rattle.transcript_law.proofs.{invariant.Agreement.{idle, AgreesIn, Agrees}, invariant.AtRest.{AreAtRest, line_rests, start_rests}, invariant.Ranged.{IsRanged, NodeRangedIf, SessionRangedIf, start_ranged}, Runs.{row_of, start}, verbs.Rows.{Row}, invariant.Seats.{seat}, invariant.Agreement.{image_is}, verbs.Showing.{history_by, same_image}}
+use Rattle.transcript_law.proofs.{invariant.Agreement.{idle, AgreesIn, Agrees}, invariant.AtRest.{AreAtRest, line_rests, start_rests}, invariant.Ranged.{IsRanged, NodeRangedIf, SessionRangedIf, start_ranged}, Runs.{group_agrees, row_of, start}, verbs.Rows.{Row}, invariant.Seats.{seat}, invariant.Agreement.{image_is}, verbs.Showing.{history_by, same_image}}
 use Rattle.transcript_law.proofs.{invariant.Tables.{if_known}, invariant.Trees.{told_below}, verbs.Writing.{forks_below}}
 use Rattle.{branch_model.specs.Snapshots.{Follows}, cluster_model.specs.Clusters.{IsBranch}}
 use Rattle.{transcript_law.specs.Lawfulness.{IsWriter}, transcript_law.specs.Prefixes.{world_after}}
@@ -163,10 +163,11 @@ followed_from w r [] fits ranged rest a entered = are_followed w r a.0 a.1 enter
 followed_from w r (line ∷ lines) fits ranged rest a entered =
     let fit = All-head (λ (x : ScriptLine). VerbFits x.verb) line lines fits in let outcome = verb_step w line.line line.verb in let row : Row w line.verb outcome = row_of w line.line line.verb in
     let went = row.goes r fit ranged a in
-    let r' : Chronicle = after_group r line.verb outcome.1.events outcome.1.answer in
+    let r' : Chronicle = after_group r line.verb outcome.1.events outcome.1.answer in let now = group_agrees w r line.line line.verb fit ranged a in
+    let entries = row.entered r (after_lines (ahead r line.verb outcome.1.answer) outcome.1.events) (lines_entered (ahead r line.verb outcome.1.answer) outcome.1.events (ahead_entered r line.verb outcome.1.answer entered) went.0) in
     followed_from (with_branches outcome.1.events outcome.0) r' lines (All-tail (λ (x : ScriptLine). VerbFits x.verb) line lines fits) (row.ranged fit ranged)
-    (line_rests w r outcome (row.rests r ranged a) a rest (with_branches outcome.1.events outcome.0) r' refl went.1) went.1
-    (row.entered r (after_lines (ahead r line.verb outcome.1.answer) outcome.1.events) (lines_entered (ahead r line.verb outcome.1.answer) outcome.1.events (ahead_entered r line.verb outcome.1.answer entered) went.0))
+    (line_rests w r outcome (row.rests r ranged a) a rest (with_branches outcome.1.events outcome.0) r' refl now) now
+    (record { disks = entries.disks; logs = entries.logs; streams = entries.streams })
 
 -- after a script
 pub branches_followed : (script : List ScriptLine) → ScriptFits script → AreFollowed (told_of script) (world_of script)

@@ -1,7 +1,7 @@
 -- appends that close a journal, judged by hand
 use Rattle.std.specs.Prelude.{◌≡◌, ◌<◌, ◌≤◌, ◌∷◌}
 use Rattle.transcript_law.proofs.Words.{ℕ, Bool, true, false, List, [], refl, sym, arith, inl, Some, None, Cause, Event, Role, Lawful, LawfulAnswer, LawfulGroups}
-use Rattle.transcript_law.proofs.{rows.CrashRows.{first, from_made, no_role, taken}, rows.Groups.{whole}}
+use Rattle.transcript_law.proofs.{rows.CrashRows.{first, from_made, no_role, one_closed, taken}, rows.Groups.{whole}}
 use Rattle.transcript_law.specs.ClosedJournals.{back_line, dead_after_start, dead_after_start_told, dialed_for, down_under, down_under_told, fails_down, follow_after_crash, follow_after_crash_told, follow_line, found_closed, save_again, save_again_told, save_given_up, save_given_up_told, save_none, save_none_told, save_twice, save_twice_told, sent_back_for, sent_back_under}
 use Rattle.transcript_law.specs.Crashes.{LawfulAfter, branch_line, dead_line, dead_under, dead_under_told, failed_behind, numbered, ok, told_from}
 use Rattle.transcript_law.specs.{Chronicles.{Idle, Taken}, Downs.{refused}, LineAnswers.{Back, IsBack}}
@@ -40,7 +40,7 @@ again = from_made save_again (save_again_told (found_closed [])) refl (
     (
       ((omega arith, tt), ((refl, (omega arith, omega arith)), (_, refl)), refl),
       (
-        ((search arith, tt), tt, refl),
+        ((search arith, tt), refl, refl),
         (((record { idle = refl; goes_on = omega arith; held = omega arith; starts = omega arith; ends = omega arith; some = omega arith; most = omega arith }, tt), refl, refl), ((tt, (refl, (_, refl)), refl), tt)),
       ),
     ),
@@ -82,7 +82,7 @@ opened = from_made follow_after_crash (follow_after_crash_told (ok (follow_line 
   (
     ((record { another = λ e. cc; anew = λ e. cc }, (omega arith, tt)), (refl, (omega arith, omega arith)), refl),
     (
-      ((tt, tt), tt, refl),
+      ((refl, tt), one_closed, refl),
       (((record { new = (λ e. omega arith, tt); newest = refl; last = refl; leaves = refl }, tt), ((λ v e. first v (branch_line 0 0 ∷ []) (λ f. no_role Role.Active (rw f at e)) (inl (refl, refl))), tt), refl), (((record { another = λ e. cc; anew = λ e. cc }, tt), (refl, tt), refl), tt)),
     ),
   ),
@@ -98,7 +98,7 @@ two_of_five = omega arith
 
 pub started : LawfulAfter dead_after_start (dead_after_start_told (found_closed (dead_line ∷ [])))
 started = from_made dead_after_start (dead_after_start_told (found_closed (dead_line ∷ []))) refl
-    (((tt, tt), tt, refl), ((tt, tt, refl), (((record { new = (λ e. omega arith, tt); newest = refl; last = refl; leaves = refl }, (omega arith, tt)), (omega arith, two_of_five), refl), (((record { another = λ e. cc; anew = λ e. cc }, tt), refl, refl), tt))))
+    (((refl, tt), one_closed, refl), ((tt, tt, refl), (((record { new = (λ e. omega arith, tt); newest = refl; last = refl; leaves = refl }, (omega arith, tt)), (omega arith, two_of_five), refl), (((record { another = λ e. cc; anew = λ e. cc }, tt), refl, refl), tt))))
 
 pub started_ok : (lines : List Event) → LawfulAfter dead_after_start (dead_after_start_told (ok lines)) → ⊥
 started_ok lines l = is_shut l.1.1.1.1.1.1.1.0.1.0

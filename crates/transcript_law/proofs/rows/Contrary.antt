@@ -134,7 +134,7 @@ back_known told n v named to log e = at_here told.log_at n v (option_map (kept_t
 
 -- a vBucket that is sealed twice behind a change
 pub seals_twice : Lawful set_and_sealed (sealed_told 1 0)
-seals_twice = both empty_chronicle set_and_sealed (sealed_told 1 0) refl (tt, (tt, ((record { new = tt; newest = refl; last = refl; leaves = refl }, (record { another = λ e. cc; anew = λ e. refl }, tt)), ((search arith, tt), (tt, (tt, tt)))))) (tt, (tt, ((refl, tt), (tt, (refl, (refl, tt)))))) (refl, (refl, (refl, (refl, (refl, (refl, tt))))))
+seals_twice = both empty_chronicle set_and_sealed (sealed_told 1 0) refl (tt, (tt, ((record { new = tt; newest = refl; last = refl; leaves = refl }, (record { another = λ e. cc; anew = λ e. refl }, tt)), ((search arith, tt), (tt, (tt, tt)))))) (tt, (refl, ((refl, tt), (refl, (refl, (refl, tt)))))) (refl, (refl, (refl, (refl, (refl, (refl, tt))))))
 
 first_byte : List ℕ → ℕ
 first_byte [] = 0

@@ -5,7 +5,8 @@ use Rattle.transcript_law.proofs.Words.{ℕ, Bool, true, false, List, [], refl, 
 use Rattle.transcript_law.proofs.Words.{empty_chronicle, Lawful, LawfulFrom, LawfulGroups, LawfulAnswer, nothing, image_of, one_change, log_of, made_log}
 use Rattle.transcript_law.proofs.{links.PumpAnswers.{two_numbers}, rows.Transcripts.{first_change, shown, as_made, as_set}, rows.Groups.{AreParts, in_order, whole}}
 use Rattle.transcript_law.specs.Firings.{FiresAsSaid}
-use Rattle.transcript_law.specs.{Chronicles.{Idle, Taken, Written, no_arm, fail_told, stop_told}, Prefixes.{told_after}, LineAnswers.{MakesBranch, FailsIn, StopsIn}}
+use Rattle.transcript_law.specs.Clients.{AllClosed}
+use Rattle.transcript_law.specs.{Chronicles.{conns_lines, Idle, Taken, Written, no_arm, fail_told, stop_told}, Prefixes.{told_after}, LineAnswers.{MakesBranch, FailsIn, StopsIn}}
 use Rattle.transcript_law.specs.Crashes.{Said, LawfulAfter, ok, numbered, told_from, one_made, one_made_told, took, stopped_behind, failed_behind, branch_line, restarted, dead_line, none_shown, one_shown, stat_of}
 use Rattle.transcript_law.specs.Crashes.{save_under, save_under_told, dead_under, dead_under_told, save_and_dead, save_and_dead_told, crash_under, crash_under_told, crashed_after, crashed_after_told, to_save, saved_told, to_done, counted_told}
 use Rattle.transcript_law.specs.{Crashes.{commit_of, prepared, seal_after, seal_after_told}, Transcripts.{first_doc}}
@@ -34,7 +35,11 @@ read = told_after empty_chronicle (one_made []) (one_made_told [])
 -- a transcript is lawful that is so from there on
 pub from_made : (more : List Verb) (told : List Said) → in_order (numbered 5 more) (told_from 5 told) ≡ true → AreParts read (numbered 5 more) (told_from 5 told) → LawfulAfter more told
 from_made more told o l = whole empty_chronicle (one_made more) (one_made_told told) o
-    ((tt, tt, refl), ((tt, tt, refl), (((record { new = tt; newest = refl; last = refl; leaves = refl }, (record { another = λ e. cc; anew = λ e. refl }, tt)), (refl, tt), refl), (((first_change _ _, tt), tt, refl), l))))
+    ((tt, tt, refl), ((tt, refl, refl), (((record { new = tt; newest = refl; last = refl; leaves = refl }, (record { another = λ e. cc; anew = λ e. refl }, tt)), (refl, tt), refl), (((first_change _ _ _, tt), refl, refl), l))))
+
+-- the one connection of a client is told closed
+pub one_closed : AllClosed (conns_lines read.conn_at (event.Closed 0 1 ∷ [])) 0
+one_closed c = elim (c == 1) as (λ b. (if b then false else (if b then true else false)) ≡ false) [ true ↦ refl | false ↦ refl ]
 
 -- the change is taken
 pub taken : LawfulFrom read took.0 × LawfulAnswer read (verb.AtVb 0 0 vb_verb.Take) took.0 took.1 × FiresAsSaid None took.0 took.1
@@ -87,7 +92,7 @@ fails_ok k lines low high l = let z = above_zero k low in let e : 4 < k = rw z a
 
 pub stops : (k : ℕ) → 0 < k → k ≤ 4 → LawfulAfter (save_under (verb.AtNode 0 (node_verb.Stop k Old))) (save_under_told (stopped_behind []))
 stops k low high = let z = above_zero k low in
-    from_made (save_under (verb.AtNode 0 (node_verb.Stop k Old))) (save_under_told (stopped_behind [])) refl (taken, ((tt, tt, refl), (((rw z low, (tt, tt)), ((refl, rw z (low, high)), (_, refl)), refl), tt)))
+    from_made (save_under (verb.AtNode 0 (node_verb.Stop k Old))) (save_under_told (stopped_behind [])) refl (taken, ((tt, tt, refl), ((((rw z low, one_closed), (refl, tt)), ((refl, rw z (low, high)), (_, refl)), refl), tt)))
 
 pub stops_ok : (k : ℕ) (lines : List Event) → 0 < k → k ≤ 4 → LawfulAfter (save_under (verb.AtNode 0 (node_verb.Stop k Old))) (save_under_told (ok lines)) → ⊥
 stops_ok k lines low high l = let z = above_zero k low in let e : 4 < k = rw z at l.1.1.1.1.1.1.0.1.0.1 in omega (arith, high, e)
@@ -101,14 +106,14 @@ stops_failed k lines l = stop_fails 4 k l.1.1.1.1.1.1.0.1.0.1
 pub unarmed_failed : (said : Answer) → LawfulAfter (save_under (verb.AtNode 0 (node_verb.Fail 0))) (save_under_told (event.CallFailed 0 ∷ [], said)) → ⊥
 unarmed_failed said l = l.1.1.1.1.1.1.0.0.0
 
-pub unarmed_stopped : (said : Answer) → LawfulAfter (save_under (verb.AtNode 0 (node_verb.Stop 0 Old))) (save_under_told (event.NodeStopped 0 ∷ [], said)) → ⊥
-unarmed_stopped said l = l.1.1.1.1.1.1.0.0.0
+pub unarmed_stopped : (said : Answer) → LawfulAfter (save_under (verb.AtNode 0 (node_verb.Stop 0 Old))) (save_under_told (event.NodeStopped 0 ∷ event.Closed 0 1 ∷ [], said)) → ⊥
+unarmed_stopped said l = l.1.1.1.1.1.1.0.0.0.0
 
 pub other_failed : (said : Answer) → LawfulAfter (save_under (verb.AtNode 0 (node_verb.Stop 1 Old))) (save_under_told (event.CallFailed 0 ∷ [], said)) → ⊥
 other_failed said l = l.1.1.1.1.1.1.0.0.0
 
-pub other_stopped : (said : Answer) → LawfulAfter (save_under (verb.AtNode 0 (node_verb.Fail 1))) (save_under_told (event.NodeStopped 0 ∷ [], said)) → ⊥
-other_stopped said l = l.1.1.1.1.1.1.0.0.0
+pub other_stopped : (said : Answer) → LawfulAfter (save_under (verb.AtNode 0 (node_verb.Fail 1))) (save_under_told (event.NodeStopped 0 ∷ event.Closed 0 1 ∷ [], said)) → ⊥
+other_stopped said l = l.1.1.1.1.1.1.0.0.0.0
 
 pub elsewhere : (said : Answer) → LawfulAfter (save_under (verb.AtNode 0 (node_verb.Fail 1))) (save_under_told (event.CallFailed 1 ∷ [], said)) → ⊥
 elsewhere said l = l.1.1.1.1.1.1.0.0.0
@@ -133,61 +138,61 @@ twice l = l.1.1.1.1.1.1.0.0.1.0
 
 pub stopped_once : LawfulAfter (dead_under (verb.AtNode 0 (node_verb.Stop 1 Old)) (verb.AtNode 0 (node_verb.Start (7 ∷ [])))) (dead_under_told (stopped_behind (dead_line ∷ [])) (restarted 0))
 stopped_once = from_made (dead_under (verb.AtNode 0 (node_verb.Stop 1 Old)) (verb.AtNode 0 (node_verb.Start (7 ∷ [])))) (dead_under_told (stopped_behind (dead_line ∷ [])) (restarted 0)) refl
-    ((tt, tt, refl), (((record { another = λ e. cc; anew = λ e. cc }, (omega arith, (tt, tt))), (refl, (omega arith, omega arith)), refl), (((record { new = (λ e. omega arith, tt); newest = refl; last = refl; leaves = refl }, tt), ((λ v e. first v (branch_line 0 0 ∷ []) (λ f. no_role Role.Active (rw f at e)) (inl (refl, refl))), tt), refl), tt)))
+    ((tt, tt, refl), (((record { another = λ e. cc; anew = λ e. cc }, ((omega arith, one_closed), (refl, tt))), (refl, (omega arith, omega arith)), refl), (((record { new = (λ e. omega arith, tt); newest = refl; last = refl; leaves = refl }, tt), ((λ v e. first v (branch_line 0 0 ∷ []) (λ f. no_role Role.Active (rw f at e)) (inl (refl, refl))), tt), refl), tt)))
 
 pub stopped_twice : LawfulAfter (dead_under (verb.AtNode 0 (node_verb.Stop 1 Old)) (verb.AtNode 0 (node_verb.Start (7 ∷ [])))) (dead_under_told (stopped_behind (dead_line ∷ [])) (stopped_behind (branch_line 0 0 ∷ []))) → ⊥
-stopped_twice l = l.1.1.1.1.1.1.0.0.1.0
+stopped_twice l = l.1.1.1.1.1.1.0.0.1.0.0
 
 pub gone : LawfulAfter (crash_under (verb.AtNode 0 (node_verb.Fail 1))) (crash_under_told (restarted 0))
 gone = from_made (crash_under (verb.AtNode 0 (node_verb.Fail 1))) (crash_under_told (restarted 0)) refl
-    ((tt, tt, refl), (((tt, tt), tt, refl), (((record { new = (λ e. omega arith, tt); newest = refl; last = refl; leaves = refl }, tt), ((λ v e. first v (branch_line 0 0 ∷ []) (λ f. no_role Role.Active (rw f at e)) (inl (refl, refl))), tt), refl), tt)))
+    ((tt, tt, refl), (((refl, tt), one_closed, refl), (((record { new = (λ e. omega arith, tt); newest = refl; last = refl; leaves = refl }, tt), ((λ v e. first v (branch_line 0 0 ∷ []) (λ f. no_role Role.Active (rw f at e)) (inl (refl, refl))), tt), refl), tt)))
 
 pub survives : LawfulAfter (crash_under (verb.AtNode 0 (node_verb.Fail 1))) (crash_under_told (failed_behind [])) → ⊥
 survives l = l.1.1.1.1.1.1.0.0.0
 
 pub stop_survives : LawfulAfter (crash_under (verb.AtNode 0 (node_verb.Stop 1 Old))) (crash_under_told (event.NodeStopped 0 ∷ [], answer.No cause.Stopped)) → ⊥
-stop_survives l = l.1.1.1.1.1.1.0.0.0
+stop_survives l = l.1.1.1.1.1.1.0.0.0.0
 
 -- what a stop inside a save leaves
 
 pub old : LawfulAfter (stopped_in 3 Old (verb.AtVb 0 0 vb_verb.Show)) (stopped_in_told 0 (none_shown Role.Active 7))
 old = from_made (stopped_in 3 Old (verb.AtVb 0 0 vb_verb.Show)) (stopped_in_told 0 (none_shown Role.Active 7)) refl
-    (taken, ((tt, tt, refl), (((omega arith, (tt, tt)), ((refl, (omega arith, omega arith)), (_, refl)), refl), (((record { new = (λ e. omega arith, tt); newest = refl; last = refl; leaves = refl }, tt), ((λ v e. first v (branch_line 0 0 ∷ []) (λ f. no_role Role.Active (rw f at e)) (inl (refl, refl))), tt), refl), (((shown _ _ _ refl refl refl refl nothing refl refl as_made (λ _. refl) (λ _. refl), tt), tt, refl), tt)))))
+    (taken, ((tt, tt, refl), ((((omega arith, one_closed), (refl, tt)), ((refl, (omega arith, omega arith)), (_, refl)), refl), (((record { new = (λ e. omega arith, tt); newest = refl; last = refl; leaves = refl }, tt), ((λ v e. first v (branch_line 0 0 ∷ []) (λ f. no_role Role.Active (rw f at e)) (inl (refl, refl))), tt), refl), (((shown _ _ _ refl refl refl refl nothing refl refl as_made (λ _. refl) (λ _. refl), tt), tt, refl), tt)))))
 
 pub old_shown : (at : ℕ) → LawfulAfter (stopped_in 3 Old (verb.AtVb 0 0 vb_verb.Show)) (stopped_in_told at (one_shown Role.Active 7)) → ⊥
 old_shown at l = two_numbers 0 1 (omega arith) (sym l.1.1.1.1.1.1.1.1.0.0.0.at)
 
 pub new : LawfulAfter (stopped_in 3 New (verb.AtVb 0 0 vb_verb.Show)) (stopped_in_told 1 (one_shown Role.Active 7))
 new = from_made (stopped_in 3 New (verb.AtVb 0 0 vb_verb.Show)) (stopped_in_told 1 (one_shown Role.Active 7)) refl
-    (taken, ((tt, tt, refl), (((omega arith, (tt, tt)), ((refl, (omega arith, omega arith)), (_, refl)), refl), (((record { new = (λ e. omega arith, tt); newest = refl; last = refl; leaves = refl }, tt), ((λ v e. first v (branch_line 0 1 ∷ []) (λ f. no_role Role.Active (rw f at e)) (inl (refl, refl))), tt), refl), (((shown _ _ _ refl refl refl refl (image_of (one_change ∷ [])) refl refl as_set (λ _. refl) (λ _. refl), (tt, tt)), tt, refl), tt)))))
+    (taken, ((tt, tt, refl), ((((omega arith, one_closed), (refl, tt)), ((refl, (omega arith, omega arith)), (_, refl)), refl), (((record { new = (λ e. omega arith, tt); newest = refl; last = refl; leaves = refl }, tt), ((λ v e. first v (branch_line 0 1 ∷ []) (λ f. no_role Role.Active (rw f at e)) (inl (refl, refl))), tt), refl), (((shown _ _ _ refl refl refl refl (image_of (one_change ∷ [])) refl refl as_set (λ _. refl) (λ _. refl), (tt, tt)), tt, refl), tt)))))
 
 pub new_lost : (at : ℕ) → LawfulAfter (stopped_in 3 New (verb.AtVb 0 0 vb_verb.Show)) (stopped_in_told at (none_shown Role.Active 7)) → ⊥
 new_lost at l = two_numbers 0 1 (omega arith) l.1.1.1.1.1.1.1.1.0.0.0.at
 
 pub old_stat : LawfulAfter (stopped_in 3 Old (verb.AtVb 0 0 vb_verb.Stat)) (stopped_in_told 0 (stat_of 0 0))
 old_stat = from_made (stopped_in 3 Old (verb.AtVb 0 0 vb_verb.Stat)) (stopped_in_told 0 (stat_of 0 0)) refl
-    (taken, ((tt, tt, refl), (((omega arith, (tt, tt)), ((refl, (omega arith, omega arith)), (_, refl)), refl), (((record { new = (λ e. omega arith, tt); newest = refl; last = refl; leaves = refl }, tt), ((λ v e. first v (branch_line 0 0 ∷ []) (λ f. no_role Role.Active (rw f at e)) (inl (refl, refl))), tt), refl), (((record { saved_told = refl; high_held = refl; flusher = omega arith; filled = omega arith }, tt), tt, refl), tt)))))
+    (taken, ((tt, tt, refl), ((((omega arith, one_closed), (refl, tt)), ((refl, (omega arith, omega arith)), (_, refl)), refl), (((record { new = (λ e. omega arith, tt); newest = refl; last = refl; leaves = refl }, tt), ((λ v e. first v (branch_line 0 0 ∷ []) (λ f. no_role Role.Active (rw f at e)) (inl (refl, refl))), tt), refl), (((record { saved_told = refl; high_held = refl; flusher = omega arith; filled = omega arith }, tt), tt, refl), tt)))))
 
 pub old_counted : (at high : ℕ) → LawfulAfter (stopped_in 3 Old (verb.AtVb 0 0 vb_verb.Stat)) (stopped_in_told at (stat_of 1 high)) → ⊥
 old_counted at high l = two_numbers 0 1 (omega arith) (sym l.1.1.1.1.1.1.1.1.0.0.0.saved_told)
 
 pub new_stat : LawfulAfter (stopped_in 3 New (verb.AtVb 0 0 vb_verb.Stat)) (stopped_in_told 1 (stat_of 1 1))
 new_stat = from_made (stopped_in 3 New (verb.AtVb 0 0 vb_verb.Stat)) (stopped_in_told 1 (stat_of 1 1)) refl
-    (taken, ((tt, tt, refl), (((omega arith, (tt, tt)), ((refl, (omega arith, omega arith)), (_, refl)), refl), (((record { new = (λ e. omega arith, tt); newest = refl; last = refl; leaves = refl }, tt), ((λ v e. first v (branch_line 0 1 ∷ []) (λ f. no_role Role.Active (rw f at e)) (inl (refl, refl))), tt), refl), (((record { saved_told = refl; high_held = refl; flusher = omega arith; filled = omega arith }, tt), tt, refl), tt)))))
+    (taken, ((tt, tt, refl), ((((omega arith, one_closed), (refl, tt)), ((refl, (omega arith, omega arith)), (_, refl)), refl), (((record { new = (λ e. omega arith, tt); newest = refl; last = refl; leaves = refl }, tt), ((λ v e. first v (branch_line 0 1 ∷ []) (λ f. no_role Role.Active (rw f at e)) (inl (refl, refl))), tt), refl), (((record { saved_told = refl; high_held = refl; flusher = omega arith; filled = omega arith }, tt), tt, refl), tt)))))
 
 pub new_uncounted : (at high : ℕ) → LawfulAfter (stopped_in 3 New (verb.AtVb 0 0 vb_verb.Stat)) (stopped_in_told at (stat_of 0 high)) → ⊥
 new_uncounted at high l = two_numbers 0 1 (omega arith) l.1.1.1.1.1.1.1.1.0.0.0.saved_told
 
 pub early : LawfulAfter (stopped_in 2 New (verb.AtVb 0 0 vb_verb.Show)) (stopped_in_told 0 (none_shown Role.Active 7))
 early = from_made (stopped_in 2 New (verb.AtVb 0 0 vb_verb.Show)) (stopped_in_told 0 (none_shown Role.Active 7)) refl
-    (taken, ((tt, tt, refl), (((omega arith, (tt, tt)), ((refl, (omega arith, omega arith)), (_, refl)), refl), (((record { new = (λ e. omega arith, tt); newest = refl; last = refl; leaves = refl }, tt), ((λ v e. first v (branch_line 0 0 ∷ []) (λ f. no_role Role.Active (rw f at e)) (inl (refl, refl))), tt), refl), (((shown _ _ _ refl refl refl refl nothing refl refl as_made (λ _. refl) (λ _. refl), tt), tt, refl), tt)))))
+    (taken, ((tt, tt, refl), ((((omega arith, one_closed), (refl, tt)), ((refl, (omega arith, omega arith)), (_, refl)), refl), (((record { new = (λ e. omega arith, tt); newest = refl; last = refl; leaves = refl }, tt), ((λ v e. first v (branch_line 0 0 ∷ []) (λ f. no_role Role.Active (rw f at e)) (inl (refl, refl))), tt), refl), (((shown _ _ _ refl refl refl refl nothing refl refl as_made (λ _. refl) (λ _. refl), tt), tt, refl), tt)))))
 
 pub early_shown : (at : ℕ) → LawfulAfter (stopped_in 2 New (verb.AtVb 0 0 vb_verb.Show)) (stopped_in_told at (one_shown Role.Active 7)) → ⊥
 early_shown at l = two_numbers 0 1 (omega arith) (sym l.1.1.1.1.1.1.1.1.0.0.0.at)
 
 pub filled : LawfulAfter (stopped_in 4 (Fill 1) (verb.AtVb 0 0 vb_verb.Show)) (stopped_in_told 1 (one_shown Role.Active 7))
 filled = from_made (stopped_in 4 (Fill 1) (verb.AtVb 0 0 vb_verb.Show)) (stopped_in_told 1 (one_shown Role.Active 7)) refl
-    (taken, ((tt, tt, refl), (((omega arith, (tt, tt)), ((refl, (omega arith, omega arith)), (_, refl)), refl), (((record { new = (λ e. omega arith, tt); newest = refl; last = refl; leaves = refl }, tt), ((λ v e. first v (branch_line 0 1 ∷ []) (λ f. no_role Role.Active (rw f at e)) (inl (refl, refl))), tt), refl), (((shown _ _ _ refl refl refl refl (image_of (one_change ∷ [])) refl refl as_set (λ _. refl) (λ _. refl), (tt, tt)), tt, refl), tt)))))
+    (taken, ((tt, tt, refl), ((((omega arith, one_closed), (refl, tt)), ((refl, (omega arith, omega arith)), (_, refl)), refl), (((record { new = (λ e. omega arith, tt); newest = refl; last = refl; leaves = refl }, tt), ((λ v e. first v (branch_line 0 1 ∷ []) (λ f. no_role Role.Active (rw f at e)) (inl (refl, refl))), tt), refl), (((shown _ _ _ refl refl refl refl (image_of (one_change ∷ [])) refl refl as_set (λ _. refl) (λ _. refl), (tt, tt)), tt, refl), tt)))))
 
 pub filled_otherwise : (at : ℕ) → LawfulAfter (stopped_in 4 (Fill 2) (verb.AtVb 0 0 vb_verb.Show)) (stopped_in_told at (one_shown Role.Active 7)) → ⊥
 filled_otherwise at l = two_numbers 0 1 (omega arith) (sym l.1.1.1.1.1.1.1.1.0.0.0.at)
@@ -196,7 +201,7 @@ filled_otherwise at l = two_numbers 0 1 (omega arith) (sym l.1.1.1.1.1.1.1.1.0.0
 
 pub unwritten : LawfulAfter (crashed_after [] New (7 ∷ []) (verb.AtVb 0 0 vb_verb.Show)) (crashed_after_told [] (restarted 0) (none_shown Role.Active 7))
 unwritten = from_made (crashed_after [] New (7 ∷ []) (verb.AtVb 0 0 vb_verb.Show)) (crashed_after_told [] (restarted 0) (none_shown Role.Active 7)) refl
-    (((tt, tt), tt, refl), (((record { new = (λ e. omega arith, tt); newest = refl; last = refl; leaves = refl }, tt), ((λ v e. first v (branch_line 0 0 ∷ []) (λ f. no_role Role.Active (rw f at e)) (inl (refl, refl))), tt), refl), (((shown _ _ _ refl refl refl refl nothing refl refl as_made (λ _. refl) (λ _. refl), tt), tt, refl), tt)))
+    (((refl, tt), one_closed, refl), (((record { new = (λ e. omega arith, tt); newest = refl; last = refl; leaves = refl }, tt), ((λ v e. first v (branch_line 0 0 ∷ []) (λ f. no_role Role.Active (rw f at e)) (inl (refl, refl))), tt), refl), (((shown _ _ _ refl refl refl refl nothing refl refl as_made (λ _. refl) (λ _. refl), tt), tt, refl), tt)))
 
 pub unwritten_shown : (at : ℕ) → LawfulAfter (crashed_after [] New (7 ∷ []) (verb.AtVb 0 0 vb_verb.Show)) (crashed_after_told [] (restarted at) (one_shown Role.Active 7)) → ⊥
 unwritten_shown at l = two_numbers 0 1 (omega arith) (sym l.1.1.1.1.1.1.0.0.0.at)
@@ -206,21 +211,21 @@ taken_shown at l = two_numbers 0 1 (omega arith) (sym l.1.1.1.1.1.1.1.0.0.0.at)
 
 pub written : LawfulAfter (crashed_after to_save Old (7 ∷ []) (verb.AtVb 0 0 vb_verb.Show)) (crashed_after_told saved_told (restarted 1) (one_shown Role.Active 7))
 written = from_made (crashed_after to_save Old (7 ∷ []) (verb.AtVb 0 0 vb_verb.Show)) (crashed_after_told saved_told (restarted 1) (one_shown Role.Active 7)) refl
-    (taken, ((tt, ((refl, tt), (_, refl)), refl), (((tt, tt), tt, refl), (((record { new = (λ e. omega arith, tt); newest = refl; last = refl; leaves = refl }, tt), ((λ v e. first v (branch_line 0 1 ∷ []) (λ f. no_role Role.Active (rw f at e)) (inl (refl, refl))), tt), refl), (((shown _ _ _ refl refl refl refl (image_of (one_change ∷ [])) refl refl as_set (λ _. refl) (λ _. refl), (tt, tt)), tt, refl), tt)))))
+    (taken, ((tt, ((refl, tt), (_, refl)), refl), (((refl, tt), one_closed, refl), (((record { new = (λ e. omega arith, tt); newest = refl; last = refl; leaves = refl }, tt), ((λ v e. first v (branch_line 0 1 ∷ []) (λ f. no_role Role.Active (rw f at e)) (inl (refl, refl))), tt), refl), (((shown _ _ _ refl refl refl refl (image_of (one_change ∷ [])) refl refl as_set (λ _. refl) (λ _. refl), (tt, tt)), tt, refl), tt)))))
 
 pub written_lost : (at : ℕ) → LawfulAfter (crashed_after to_save Old (7 ∷ []) (verb.AtVb 0 0 vb_verb.Show)) (crashed_after_told saved_told (restarted at) (none_shown Role.Active 7)) → ⊥
 written_lost at l = two_numbers 0 1 (omega arith) l.1.1.1.1.1.1.1.1.0.0.0.at
 
 pub saved : LawfulAfter (crashed_after to_done Old (7 ∷ []) (verb.AtVb 0 0 vb_verb.Stat)) (crashed_after_told counted_told (restarted 1) (stat_of 1 1))
 saved = from_made (crashed_after to_done Old (7 ∷ []) (verb.AtVb 0 0 vb_verb.Stat)) (crashed_after_told counted_told (restarted 1) (stat_of 1 1)) refl
-    (taken, ((tt, ((refl, tt), (_, refl)), refl), ((tt, (1, refl, refl), refl), (((tt, tt), tt, refl), (((record { new = (λ e. omega arith, tt); newest = refl; last = refl; leaves = refl }, tt), ((λ v e. first v (branch_line 0 1 ∷ []) (λ f. no_role Role.Active (rw f at e)) (inl (refl, refl))), tt), refl), (((record { saved_told = refl; high_held = refl; flusher = omega arith; filled = omega arith }, tt), tt, refl), tt))))))
+    (taken, ((tt, ((refl, tt), (_, refl)), refl), ((tt, (1, refl, refl), refl), (((refl, tt), one_closed, refl), (((record { new = (λ e. omega arith, tt); newest = refl; last = refl; leaves = refl }, tt), ((λ v e. first v (branch_line 0 1 ∷ []) (λ f. no_role Role.Active (rw f at e)) (inl (refl, refl))), tt), refl), (((record { saved_told = refl; high_held = refl; flusher = omega arith; filled = omega arith }, tt), tt, refl), tt))))))
 
 pub saved_forgotten : (at : ℕ) → LawfulAfter (crashed_after to_done Old (7 ∷ []) (verb.AtVb 0 0 vb_verb.Stat)) (crashed_after_told counted_told (restarted at) (stat_of 0 1)) → ⊥
 saved_forgotten at l = two_numbers 0 1 (omega arith) l.1.1.1.1.1.1.1.1.1.0.0.0.saved_told
 
 pub undone : LawfulAfter (crashed_after to_save Old (7 ∷ []) (verb.AtVb 0 0 vb_verb.Stat)) (crashed_after_told saved_told (restarted 1) (stat_of 1 1))
 undone = from_made (crashed_after to_save Old (7 ∷ []) (verb.AtVb 0 0 vb_verb.Stat)) (crashed_after_told saved_told (restarted 1) (stat_of 1 1)) refl
-    (taken, ((tt, ((refl, tt), (_, refl)), refl), (((tt, tt), tt, refl), (((record { new = (λ e. omega arith, tt); newest = refl; last = refl; leaves = refl }, tt), ((λ v e. first v (branch_line 0 1 ∷ []) (λ f. no_role Role.Active (rw f at e)) (inl (refl, refl))), tt), refl), (((record { saved_told = refl; high_held = refl; flusher = omega arith; filled = omega arith }, tt), tt, refl), tt)))))
+    (taken, ((tt, ((refl, tt), (_, refl)), refl), (((refl, tt), one_closed, refl), (((record { new = (λ e. omega arith, tt); newest = refl; last = refl; leaves = refl }, tt), ((λ v e. first v (branch_line 0 1 ∷ []) (λ f. no_role Role.Active (rw f at e)) (inl (refl, refl))), tt), refl), (((record { saved_told = refl; high_held = refl; flusher = omega arith; filled = omega arith }, tt), tt, refl), tt)))))
 
 pub undone_forgotten : (at : ℕ) → LawfulAfter (crashed_after to_save Old (7 ∷ []) (verb.AtVb 0 0 vb_verb.Stat)) (crashed_after_told saved_told (restarted at) (stat_of 0 1)) → ⊥
 undone_forgotten at l = two_numbers 0 1 (omega arith) l.1.1.1.1.1.1.1.1.0.0.0.saved_told
@@ -233,7 +238,7 @@ idle_written n e = cc
 
 pub taken_lost : LawfulAfter (crashed_after (verb.AtVb 0 0 vb_verb.Take ∷ []) New (7 ∷ []) (verb.AtVb 0 0 vb_verb.Save)) (crashed_after_told (took ∷ []) (restarted 0) ([], answer.No cause.NothingTaken))
 taken_lost = from_made (crashed_after (verb.AtVb 0 0 vb_verb.Take ∷ []) New (7 ∷ []) (verb.AtVb 0 0 vb_verb.Save)) (crashed_after_told (took ∷ []) (restarted 0) ([], answer.No cause.NothingTaken)) refl
-    (taken, (((tt, tt), tt, refl), (((record { new = (λ e. omega arith, tt); newest = refl; last = refl; leaves = refl }, tt), ((λ v e. first v (branch_line 0 0 ∷ []) (λ f. no_role Role.Active (rw f at e)) (inl (refl, refl))), tt), refl), ((tt, (tt, tt), refl), tt))))
+    (taken, (((refl, tt), one_closed, refl), (((record { new = (λ e. omega arith, tt); newest = refl; last = refl; leaves = refl }, tt), ((λ v e. first v (branch_line 0 0 ∷ []) (λ f. no_role Role.Active (rw f at e)) (inl (refl, refl))), tt), refl), ((tt, (tt, tt), refl), tt))))
 
 pub taken_survives : (at : ℕ) → LawfulAfter (crashed_after (verb.AtVb 0 0 vb_verb.Take ∷ []) New (7 ∷ []) (verb.AtVb 0 0 vb_verb.Save)) (crashed_after_told (took ∷ []) (restarted at) (ok [])) → ⊥
 taken_survives at l = let (b, e) = l.1.1.1.1.1.1.1.0.1.1 in idle_taken b e
@@ -243,7 +248,7 @@ written_survives at n l = let (end, e, said) = l.1.1.1.1.1.1.1.1.0.1 in idle_wri
 
 pub own_log : LawfulAfter (crashed_after to_save Old (7 ∷ []) (verb.AtVb 0 0 vb_verb.Log)) (crashed_after_told saved_told (restarted 1) (ok (event.Logged 0 0 made_log ∷ [])))
 own_log = from_made (crashed_after to_save Old (7 ∷ []) (verb.AtVb 0 0 vb_verb.Log)) (crashed_after_told saved_told (restarted 1) (ok (event.Logged 0 0 made_log ∷ []))) refl
-    (taken, ((tt, ((refl, tt), (_, refl)), refl), (((tt, tt), tt, refl), (((record { new = (λ e. omega arith, tt); newest = refl; last = refl; leaves = refl }, tt), ((λ v e. first v (branch_line 0 1 ∷ []) (λ f. no_role Role.Active (rw f at e)) (inl (refl, refl))), tt), refl), (((refl, tt), tt, refl), tt)))))
+    (taken, ((tt, ((refl, tt), (_, refl)), refl), (((refl, tt), one_closed, refl), (((record { new = (λ e. omega arith, tt); newest = refl; last = refl; leaves = refl }, tt), ((λ v e. first v (branch_line 0 1 ∷ []) (λ f. no_role Role.Active (rw f at e)) (inl (refl, refl))), tt), refl), (((refl, tt), tt, refl), tt)))))
 
 pub log_lost : (at : ℕ) → LawfulAfter (crashed_after to_save Old (7 ∷ []) (verb.AtVb 0 0 vb_verb.Log)) (crashed_after_told saved_told (restarted at) (ok (event.Logged 0 0 (log_of 5) ∷ []))) → ⊥
 log_lost at l = let e : ◌≡◌ {A = ℕ} 7 5 = ap (λ es. uuid_of (front es)) l.1.1.1.1.1.1.1.1.0.0.0 in omega arith
@@ -252,7 +257,7 @@ replica_active : ◌≡◌ {A = Option Role} (Some Role.Replica) (Some Role.Acti
 replica_active e = cc
 
 pub cut_log : LawfulGroups after_noted_back log_after_crash (log_after_crash_told (log_of 5))
-cut_log = whole after_noted_back log_after_crash (log_after_crash_told (log_of 5)) refl ((tt, tt, refl), ((tt, ((λ v e. absurd (replica_active e)), tt), refl), (((refl, tt), tt, refl), tt)))
+cut_log = whole after_noted_back log_after_crash (log_after_crash_told (log_of 5)) refl ((tt, (λ c. refl), refl), ((tt, ((λ v e. absurd (replica_active e)), tt), refl), (((refl, tt), tt, refl), tt)))
 
 pub cut_log_back : LawfulGroups after_noted_back log_after_crash (log_after_crash_told made_log) → ⊥
 cut_log_back l = let e : ◌≡◌ {A = ℕ} 5 7 = ap (λ es. uuid_of (front es)) l.1.1.0.0.0 in omega arith
@@ -261,7 +266,7 @@ cut_log_back l = let e : ◌≡◌ {A = ℕ} 5 7 = ap (λ es. uuid_of (front es)
 
 pub branched : LawfulAfter (crashed_after [] Old (7 ∷ []) (verb.AtVb 0 0 vb_verb.Show)) (crashed_after_told [] (restarted 0) (none_shown Role.Active 7))
 branched = from_made (crashed_after [] Old (7 ∷ []) (verb.AtVb 0 0 vb_verb.Show)) (crashed_after_told [] (restarted 0) (none_shown Role.Active 7)) refl
-    (((tt, tt), tt, refl), (((record { new = (λ e. omega arith, tt); newest = refl; last = refl; leaves = refl }, tt), ((λ v e. first v (branch_line 0 0 ∷ []) (λ f. no_role Role.Active (rw f at e)) (inl (refl, refl))), tt), refl), (((shown _ _ _ refl refl refl refl nothing refl refl as_made (λ _. refl) (λ _. refl), tt), tt, refl), tt)))
+    (((refl, tt), one_closed, refl), (((record { new = (λ e. omega arith, tt); newest = refl; last = refl; leaves = refl }, tt), ((λ v e. first v (branch_line 0 0 ∷ []) (λ f. no_role Role.Active (rw f at e)) (inl (refl, refl))), tt), refl), (((shown _ _ _ refl refl refl refl nothing refl refl as_made (λ _. refl) (λ _. refl), tt), tt, refl), tt)))
 
 pub no_branch : (last : List Event) (said : Answer) → LawfulAfter (crashed_after [] Old (7 ∷ []) (verb.AtVb 0 0 vb_verb.Show)) (crashed_after_told [] (ok []) (last, said)) → ⊥
 no_branch last said l = l.1.1.1.1.1.0.1.0 0 refl
@@ -271,7 +276,7 @@ other_branch last said l = ⊎_elim (λ e. two_numbers 0 1 (omega arith) (sym e.
 
 pub short : LawfulAfter (crashed_after [] Old [] (verb.AtVb 0 0 vb_verb.Show)) (crashed_after_told [] ([], answer.No cause.IdsShort) ([], answer.No cause.NodeDown))
 short = from_made (crashed_after [] Old [] (verb.AtVb 0 0 vb_verb.Show)) (crashed_after_told [] ([], answer.No cause.IdsShort) ([], answer.No cause.NodeDown)) refl
-    (((tt, tt), tt, refl), ((tt, (refl, omega arith, tt), refl), ((tt, (refl, inl refl), refl), tt)))
+    (((refl, tt), one_closed, refl), ((tt, (refl, omega arith, tt), refl), ((tt, (refl, inl refl), refl), tt)))
 
 pub short_active : (uuid : ℕ) → LawfulAfter (crashed_after [] Old [] (verb.AtVb 0 0 vb_verb.Show)) (crashed_after_told [] ([], answer.No cause.IdsShort) (none_shown Role.Active uuid)) → ⊥
 short_active uuid l = not_active l.1.1.1.1.1.1.0.0.0.role
@@ -281,7 +286,7 @@ old_branch_shown at l = let e : ◌≡◌ {A = Option ℕ} (Some 7) (Some 5) = (
 
 pub dead : LawfulAfter (crashed_after (verb.AtVb 0 0 vb_verb.Dead ∷ []) Old [] (verb.AtVb 0 0 vb_verb.Show)) (crashed_after_told (ok (dead_line ∷ []) ∷ []) (ok []) (none_shown Role.Dead 5))
 dead = from_made (crashed_after (verb.AtVb 0 0 vb_verb.Dead ∷ []) Old [] (verb.AtVb 0 0 vb_verb.Show)) (crashed_after_told (ok (dead_line ∷ []) ∷ []) (ok []) (none_shown Role.Dead 5)) refl
-    (((record { another = λ e. cc; anew = λ e. cc }, tt), (refl, tt), refl), (((tt, tt), tt, refl), ((tt, ((λ v e. either_way v (λ t. absurd (not_active (rw t at e))) (λ f. absurd (no_role Role.Active (rw f at e)))), tt), refl), (((shown _ _ _ refl refl refl refl nothing refl refl as_made (λ _. refl) (λ e. cc), tt), tt, refl), tt))))
+    (((record { another = λ e. cc; anew = λ e. cc }, tt), (refl, tt), refl), (((refl, tt), one_closed, refl), ((tt, ((λ v e. either_way v (λ t. absurd (not_active (rw t at e))) (λ f. absurd (no_role Role.Active (rw f at e)))), tt), refl), (((shown _ _ _ refl refl refl refl nothing refl refl as_made (λ _. refl) (λ e. cc), tt), tt, refl), tt))))
 
 pub dead_replica : LawfulAfter (crashed_after (verb.AtVb 0 0 vb_verb.Dead ∷ []) Old [] (verb.AtVb 0 0 vb_verb.Show)) (crashed_after_told (ok (dead_line ∷ []) ∷ []) (ok []) (none_shown Role.Replica 5)) → ⊥
 dead_replica l = let e : ◌≡◌ {A = Option Role} (Some Role.Dead) (Some Role.Replica) = l.1.1.1.1.1.1.1.0.0.0.role in cc
@@ -291,7 +296,7 @@ dead_active l = not_active l.1.1.1.1.1.1.1.0.0.0.role
 
 pub unnoted : LawfulAfter (dead_unnoted Old) (dead_unnoted_told (restarted 0) (none_shown Role.Active 7))
 unnoted = from_made (dead_unnoted Old) (dead_unnoted_told (restarted 0) (none_shown Role.Active 7)) refl
-    ((tt, tt, refl), (((record { another = λ e. cc; anew = λ e. cc }, (omega arith, tt)), (refl, (omega arith, omega arith)), refl), (((tt, tt), tt, refl), (((record { new = (λ e. omega arith, tt); newest = refl; last = refl; leaves = refl }, tt), ((λ v e. first v (branch_line 0 0 ∷ []) (λ f. no_role Role.Active (rw f at e)) (inl (refl, refl))), tt), refl), (((shown _ _ _ refl refl refl refl nothing refl refl as_made (λ _. refl) (λ _. refl), tt), tt, refl), tt)))))
+    ((tt, tt, refl), (((record { another = λ e. cc; anew = λ e. cc }, (omega arith, tt)), (refl, (omega arith, omega arith)), refl), (((refl, tt), one_closed, refl), (((record { new = (λ e. omega arith, tt); newest = refl; last = refl; leaves = refl }, tt), ((λ v e. first v (branch_line 0 0 ∷ []) (λ f. no_role Role.Active (rw f at e)) (inl (refl, refl))), tt), refl), (((shown _ _ _ refl refl refl refl nothing refl refl as_made (λ _. refl) (λ _. refl), tt), tt, refl), tt)))))
 
 pub unnoted_dead : (at : ℕ) → LawfulAfter (dead_unnoted Old) (dead_unnoted_told (restarted at) (none_shown Role.Dead 7)) → ⊥
 unnoted_dead at l = let e : ◌≡◌ {A = Option Role} (Some Role.Active) (Some Role.Dead) = l.1.1.1.1.1.1.1.1.0.0.0.role in cc
@@ -301,14 +306,14 @@ unnoted_silent last said l = l.1.1.1.1.1.1.1.0.1.0 0 refl
 
 pub found : LawfulAfter (dead_unnoted New) (dead_unnoted_told (ok []) (none_shown Role.Dead 5))
 found = from_made (dead_unnoted New) (dead_unnoted_told (ok []) (none_shown Role.Dead 5)) refl
-    ((tt, tt, refl), (((record { another = λ e. cc; anew = λ e. cc }, (omega arith, tt)), (refl, (omega arith, omega arith)), refl), (((tt, tt), tt, refl), ((tt, ((λ v e. either_way v (λ t. absurd (not_active (rw t at e))) (λ f. absurd (no_role Role.Active (rw f at e)))), tt), refl), (((shown _ _ _ refl refl refl refl nothing refl refl as_made (λ _. refl) (λ e. cc), tt), tt, refl), tt)))))
+    ((tt, tt, refl), (((record { another = λ e. cc; anew = λ e. cc }, (omega arith, tt)), (refl, (omega arith, omega arith)), refl), (((refl, tt), one_closed, refl), ((tt, ((λ v e. either_way v (λ t. absurd (not_active (rw t at e))) (λ f. absurd (no_role Role.Active (rw f at e)))), tt), refl), (((shown _ _ _ refl refl refl refl nothing refl refl as_made (λ _. refl) (λ e. cc), tt), tt, refl), tt)))))
 
 pub found_active : LawfulAfter (dead_unnoted New) (dead_unnoted_told (ok []) (none_shown Role.Active 5)) → ⊥
 found_active l = not_active l.1.1.1.1.1.1.1.1.0.0.0.role
 
 pub on_new : LawfulAfter set_after (set_after_told 7)
 on_new = from_made set_after (set_after_told 7) refl
-    (taken, ((tt, ((refl, tt), (_, refl)), refl), (((tt, tt), tt, refl), (((record { new = (λ e. omega arith, tt); newest = refl; last = refl; leaves = refl }, tt), ((λ v e. first v (branch_line 0 1 ∷ []) (λ f. no_role Role.Active (rw f at e)) (inl (refl, refl))), tt), refl), ((tt, tt, refl), (((search arith, tt), tt, refl), tt))))))
+    (taken, ((tt, ((refl, tt), (_, refl)), refl), (((refl, tt), one_closed, refl), (((record { new = (λ e. omega arith, tt); newest = refl; last = refl; leaves = refl }, tt), ((λ v e. first v (branch_line 0 1 ∷ []) (λ f. no_role Role.Active (rw f at e)) (inl (refl, refl))), tt), refl), ((tt, refl, refl), (((search arith, tt), refl, refl), tt))))))
 
 pub on_old : LawfulAfter set_after (set_after_told 5) → ⊥
 on_old l = let e : ◌≡◌ {A = Option ℕ} (Some 7) (Some 5) = l.1.1.1.1.1.1.1.1.1.0.0.0.writer.on_branch in cc
@@ -352,7 +357,7 @@ commits = from_made seal_after (seal_after_told commits_told) refl (
       },
       tt,
     ),
-    tt,
+    refl,
     refl,
   ),
   (
@@ -360,7 +365,7 @@ commits = from_made seal_after (seal_after_told commits_told) refl (
     (
       (tt, ((refl, tt), (_, refl)), refl),
       (
-        ((tt, tt), tt, refl),
+        ((refl, tt), one_closed, refl),
         (
           (
             (
@@ -402,13 +407,13 @@ commits_other l =
     two_numbers 1 2 (omega arith) (sym (ap (λ (p : Pend). p.seq) same ∙ x.2))
 
 pub unmade : Lawful (made_under 1 New) (made_under_told (ok []) ([], answer.No cause.UnknownVb))
-unmade = whole empty_chronicle (made_under 1 New) (made_under_told (ok []) ([], answer.No cause.UnknownVb)) refl ((tt, tt, refl), ((tt, tt, refl), (((record { new = tt; newest = refl; last = refl; leaves = refl }, (record { another = λ e. cc; anew = λ e. refl }, (omega arith, tt))), (refl, (omega arith, omega arith)), refl), ((tt, tt, refl), ((tt, ((λ v e. either_way v (λ t. absurd (no_role Role.Active (rw t at e))) (λ f. absurd (no_role Role.Active (rw f at e)))), tt), refl), ((tt, tt, refl), tt))))))
+unmade = whole empty_chronicle (made_under 1 New) (made_under_told (ok []) ([], answer.No cause.UnknownVb)) refl ((tt, tt, refl), ((tt, tt, refl), (((record { new = tt; newest = refl; last = refl; leaves = refl }, (record { another = λ e. cc; anew = λ e. refl }, (omega arith, tt))), (refl, (omega arith, omega arith)), refl), ((tt, (λ c. refl), refl), ((tt, ((λ v e. either_way v (λ t. absurd (no_role Role.Active (rw t at e))) (λ f. absurd (no_role Role.Active (rw f at e)))), tt), refl), ((tt, tt, refl), tt))))))
 
 pub unmade_shown : (said : Role) (uuid : ℕ) → Lawful (made_under 1 New) (made_under_told (ok []) (none_shown said uuid)) → ⊥
 unmade_shown said uuid l = no_role said l.1.1.1.1.1.0.0.0.role
 
 pub late : Lawful (made_under 4 New) (made_under_told (restarted 0) (none_shown Role.Active 7))
-late = whole empty_chronicle (made_under 4 New) (made_under_told (restarted 0) (none_shown Role.Active 7)) refl ((tt, tt, refl), ((tt, tt, refl), (((record { new = tt; newest = refl; last = refl; leaves = refl }, (record { another = λ e. cc; anew = λ e. refl }, (omega arith, tt))), (refl, (omega arith, omega arith)), refl), ((tt, tt, refl), (((record { new = (λ e. omega arith, tt); newest = refl; last = refl; leaves = refl }, tt), ((λ v e. first v (branch_line 0 0 ∷ []) (λ f. no_role Role.Active (rw f at e)) (inl (refl, refl))), tt), refl), (((shown _ _ _ refl refl refl refl nothing refl refl as_made (λ _. refl) (λ _. refl), tt), tt, refl), tt))))))
+late = whole empty_chronicle (made_under 4 New) (made_under_told (restarted 0) (none_shown Role.Active 7)) refl ((tt, tt, refl), ((tt, tt, refl), (((record { new = tt; newest = refl; last = refl; leaves = refl }, (record { another = λ e. cc; anew = λ e. refl }, (omega arith, tt))), (refl, (omega arith, omega arith)), refl), ((tt, (λ c. refl), refl), (((record { new = (λ e. omega arith, tt); newest = refl; last = refl; leaves = refl }, tt), ((λ v e. first v (branch_line 0 0 ∷ []) (λ f. no_role Role.Active (rw f at e)) (inl (refl, refl))), tt), refl), (((shown _ _ _ refl refl refl refl nothing refl refl as_made (λ _. refl) (λ _. refl), tt), tt, refl), tt))))))
 
 pub late_shown : (said : Role) (uuid : ℕ) → Lawful (made_under 4 Old) (made_under_told (ok []) (none_shown said uuid)) → ⊥
 late_shown said uuid l = no_role said l.1.1.1.1.1.0.0.0.role

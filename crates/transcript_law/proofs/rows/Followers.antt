@@ -126,7 +126,7 @@ from_asked : (asked adopted sent got shown : List Event) → frames_told sent < 
     → AreFired before_asked (drop 8 two_followed) (drop 8 (followed_told asked adopted sent got shown)) → Lawful two_followed (followed_told asked adopted sent got shown)
 from_asked asked adopted sent got shown few straight sound so l f = let told = followed_told asked adopted sent got shown in both empty_chronicle two_followed (followed_told asked adopted sent got shown) refl
     (tt ▹ tt ▹ tt ▹ (record { new = tt; newest = refl; last = refl; leaves = refl } ▹ record { another = λ e. cc; anew = λ e. refl } ▹ tt) ▹ (record { another = λ e. cc; anew = λ e. cc } ▹ tt) ▹ (search arith ▹ tt) ▹ (search arith ▹ tt) ▹ tt ▹ l)
-    (tt ▹ tt ▹ tt ▹ (refl ▹ tt) ▹ (refl ▹ tt) ▹ tt ▹ tt ▹ tt ▹ omega arith ▹ unbound (behind 9 told) (verb.AtLink 1 (link_verb.Down 1000)) adopted (answer.Number 100) (ap if_over so.0) (omega arith, λ e. absurd (straight e)) ▹ unbound (behind 10 told) (verb.AtLink 1 (link_verb.Pump 9)) sent (answer.Pulled (frames_told sent) why.Idle) (ap if_over so.1) (record { told = refl; most = omega (arith, few); all = λ e. cc; only = λ e. absurd (omega (arith, few, e)) }) ▹ unbound (behind 11 told) (verb.AtLink 1 (link_verb.Down 1000)) got (answer.Number 100) (ap if_over so.2) (omega arith, λ e. absurd (sound e)) ▹ unbound (behind 12 told) (verb.AtVb 1 0 vb_verb.Show) shown answer.Ok (ap if_down so.3) tt ▹ tt)
+    (tt ▹ tt ▹ refl ▹ (refl ▹ tt) ▹ (refl ▹ tt) ▹ refl ▹ refl ▹ tt ▹ omega arith ▹ unbound (behind 9 told) (verb.AtLink 1 (link_verb.Down 1000)) adopted (answer.Number 100) (ap if_over so.0) (omega arith, λ e. absurd (straight e)) ▹ unbound (behind 10 told) (verb.AtLink 1 (link_verb.Pump 9)) sent (answer.Pulled (frames_told sent) why.Idle) (ap if_over so.1) (record { told = refl; most = omega (arith, few); all = λ e. cc; only = λ e. absurd (omega (arith, few, e)) }) ▹ unbound (behind 11 told) (verb.AtLink 1 (link_verb.Down 1000)) got (answer.Number 100) (ap if_over so.2) (omega arith, λ e. absurd (sound e)) ▹ unbound (behind 12 told) (verb.AtVb 1 0 vb_verb.Show) shown answer.Ok (ap if_down so.3) tt ▹ tt)
     (refl ▹ refl ▹ refl ▹ refl ▹ refl ▹ refl ▹ refl ▹ refl ▹ f)
 
 -- the request of the empty replica is granted, and the log is taken over

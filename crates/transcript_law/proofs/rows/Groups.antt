@@ -1,7 +1,7 @@
 -- the groups of a transcript that is judged by hand: their lines, then their answers, and then what they say of arms
 use Rattle.std.specs.Prelude.{◌≡◌, ◌∷◌, ◌==◌, ◌&&◌}
-use Rattle.transcript_law.proofs.Words.{Bool, true, false, List, [], refl, sym, subst, and_parts, eqb-true, Answer, Cause, Event, ScriptLine, Chronicle, IsAnswered, LawfulFrom, LawfulGroups, Group}
-use Rattle.transcript_law.specs.{Chronicles.{after_group, ahead}, Firings.{FiresInLine}, Standing.{IsStanding, TellsIfBegun}}
+use Rattle.transcript_law.proofs.Words.{Bool, true, false, List, [], refl, sym, subst, and_parts, eqb-true, Answer, Cause, Event, ScriptLine, Chronicle, IsAnswered, LawfulGroups, Group}
+use Rattle.transcript_law.specs.{Chronicles.{after_group, ahead}, Firings.{FiresInLine}, Lawfulness.{LinesFrom}, Standing.{IsStanding, TellsIfBegun}}
 use Rattle.vb_events.specs.declared.event.Answer.TheVariants as answer
 use Rattle.vb_events.specs.declared.event.Cause.TheVariants as cause
 
@@ -10,7 +10,7 @@ abbrev pub AreTold : Chronicle → List ScriptLine → List Group → Type 0
 AreTold chronicle [] [] = Unit {0}
 AreTold chronicle (line ∷ lines) [] = ⊥
 AreTold chronicle [] (group ∷ groups) = ⊥
-AreTold chronicle (line ∷ lines) (group ∷ groups) = LawfulFrom (ahead chronicle line.verb group.answer) group.events × AreTold (after_group chronicle line.verb group.events group.answer) lines groups
+AreTold chronicle (line ∷ lines) (group ∷ groups) = LinesFrom (ahead chronicle line.verb group.answer) chronicle.conn_at group.events × AreTold (after_group chronicle line.verb group.events group.answer) lines groups
 
 -- their answers
 abbrev pub AreAnswered : Chronicle → List ScriptLine → List Group → Type 0
@@ -65,7 +65,7 @@ AreParts chronicle [] [] = Unit {0}
 AreParts chronicle (line ∷ lines) [] = ⊥
 AreParts chronicle [] (group ∷ groups) = ⊥
 AreParts chronicle (line ∷ lines) (group ∷ groups) =
-    (LawfulFrom (ahead chronicle line.verb group.answer) group.events × IsAnswered chronicle line.verb group.events group.answer × FiresInLine chronicle line.verb group.events group.answer)
+    (LinesFrom (ahead chronicle line.verb group.answer) chronicle.conn_at group.events × IsAnswered chronicle line.verb group.events group.answer × FiresInLine chronicle line.verb group.events group.answer)
     × AreParts (after_group chronicle line.verb group.events group.answer) lines groups
 
 -- and all of it

@@ -7,7 +7,7 @@ use Rattle.transcript_law.proofs.Words.{shown_after_change, shown_unchanged, las
 use Rattle.transcript_law.proofs.Words.{after_active, after_dead, due_image, inside_dead, option_map}
 use Rattle.transcript_law.specs.Lawfulness.{newest_shown}
 use Rattle.transcript_law.specs.{Contrary.{after_dead_changed, branch_inside, branch_left, logged_six}, Rollbacks.{empty_uuid}, Transcripts.{shown_one}}
-use Rattle.transcript_law.{proofs.rows.Groups.{both}, specs.{Chronicles.{ArmTold, DiskTold}, LinesTold.{roles_from}}}
+use Rattle.transcript_law.{proofs.rows.Groups.{both}, specs.{Chronicles.{ArmTold, Conns, DiskTold}, LinesTold.{roles_from}}}
 use Rattle.std.specs.FinMap as finite
 
 none_of : {X : Type 0} (xs : List X) → length xs ≡ 0 → xs ≡ []
@@ -54,14 +54,14 @@ shown r said behind role newest at snapshot left held due leaves shared active =
     let show : LawfulShow r said behind = record { lines = of_branch.0; docs_told = of_branch.1; preps_told = of_branch.2; shared = shared; active = active } in
     record { role = role; newest = newest; at = at; snapshot = snapshot; left = of_held.0; docs_left = of_held.1; preps_left = of_held.2; complete = λ _. show }
 
--- transcripts of one set, whatever was written down and is to befall nodes
-pub first_change : (d : ℕ → ℕ → DiskTold) (a : ℕ → ArmTold) → LawfulChange (record (after_lines empty_chronicle (active_told 0 5)) { disk_at = d; arm_at = a }) 0 0 5 one_change
-first_change d a = record { active = refl; writer = record { made_or_took = refl; on_branch = refl }; above_branch = omega arith; above_held = omega arith; above_forks = (λ e. omega arith, tt); fulfils = λ prepared doc deleted e. cc; backed = λ prepared doc deleted e. cc }
+-- transcripts of one set, whatever was written down and is to befall nodes, and whichever connections are open
+pub first_change : (d : ℕ → ℕ → DiskTold) (a : ℕ → ArmTold) (k : Conns) → LawfulChange (record (after_lines empty_chronicle (active_told 0 5)) { disk_at = d; arm_at = a; conn_at = k }) 0 0 5 one_change
+first_change d a k = record { active = refl; writer = record { made_or_took = refl; on_branch = refl }; above_branch = omega arith; above_held = omega arith; above_forks = (λ e. omega arith, tt); fulfils = λ prepared doc deleted e. cc; backed = λ prepared doc deleted e. cc }
 
 pub right : Lawful one_set (one_set_told 1 0 (value_told (8 ∷ [])))
 right = both empty_chronicle one_set (one_set_told 1 0 (value_told (8 ∷ []))) refl
-    (tt, (tt, ((record { new = tt; newest = refl; last = refl; leaves = refl }, (record { another = λ e. cc; anew = λ e. refl }, tt)), ((first_change _ _, tt), ((shown _ _ _ refl refl refl refl image refl refl as_set (λ _. refl) (λ _. refl), (tt, tt)), tt)))))
-    (tt, (tt, ((refl, tt), (tt, (tt, tt))))) (refl, (refl, (refl, (refl, (refl, tt)))))
+    (tt, (tt, ((record { new = tt; newest = refl; last = refl; leaves = refl }, (record { another = λ e. cc; anew = λ e. refl }, tt)), ((first_change _ _ _, tt), ((shown _ _ _ refl refl refl refl image refl refl as_set (λ _. refl) (λ _. refl), (tt, tt)), tt)))))
+    (tt, (refl, ((refl, tt), (refl, (tt, tt))))) (refl, (refl, (refl, (refl, (refl, tt)))))
 
 -- what the last line of a lawful transcript of this kind has behind it, and how many documents and prepares it tells of
 shown_is : (count preps : ℕ) (behind : List Event) → Lawful one_set (one_set_told count preps behind) → (behind ≡ value_told (8 ∷ [])) × (count ≡ 1) × (preps ≡ 0)
@@ -90,14 +90,14 @@ branch l = l.1.1.1.0.0.0.new.0 refl
 pub seqno : Lawful (two_vbs 6 set_and_show) (two_vbs_told 6 (sets_told (change_told 0 ∷ change_told 0 ∷ []))) → ⊥
 seqno l = let e = l.1.1.1.1.0.0.1.0.above_branch in omega arith
 
-second_new : (d : ℕ → ℕ → DiskTold) (a : ℕ → ArmTold) → (a 0).down ≡ false → LawfulFrom (record (after_lines empty_chronicle (active_told 0 5)) { disk_at = d; arm_at = a }) (active_told 1 6)
-second_new d a up = (
+second_new : (d : ℕ → ℕ → DiskTold) (a : ℕ → ArmTold) (k : Conns) → (a 0).down ≡ false → LawfulFrom (record (after_lines empty_chronicle (active_told 0 5)) { disk_at = d; arm_at = a; conn_at = k }) (active_told 1 6)
+second_new d a k up = (
   record { new = (λ e. omega arith, tt); newest = refl; last = refl; leaves = refl },
   (record { another = λ e. let z : ◌≡◌ {A = Option (Option Role)} (Some None) (Some (Some Role.Active)) = sym (ap (λ b. roles_from b (after_lines empty_chronicle (active_told 0 5)).role_at 0 1 0 1) up) ∙ e in cc; anew = λ e. refl }, tt),
 )
 
-change_of_two : (d : ℕ → ℕ → DiskTold) (a : ℕ → ArmTold) → LawfulChange (record (after_lines empty_chronicle (active_told 0 5 ++ active_told 1 6)) { disk_at = d; arm_at = a }) 0 0 5 one_change
-change_of_two d a = record { active = refl; writer = record { made_or_took = refl; on_branch = refl }; above_branch = omega arith; above_held = omega arith; above_forks = (λ e. omega arith, (λ e. omega arith, tt)); fulfils = λ prepared doc deleted e. cc; backed = λ prepared doc deleted e. cc }
+change_of_two : (d : ℕ → ℕ → DiskTold) (a : ℕ → ArmTold) (k : Conns) → LawfulChange (record (after_lines empty_chronicle (active_told 0 5 ++ active_told 1 6)) { disk_at = d; arm_at = a; conn_at = k }) 0 0 5 one_change
+change_of_two d a k = record { active = refl; writer = record { made_or_took = refl; on_branch = refl }; above_branch = omega arith; above_held = omega arith; above_forks = (λ e. omega arith, (λ e. omega arith, tt)); fulfils = λ prepared doc deleted e. cc; backed = λ prepared doc deleted e. cc }
 
 two_writers : ◌≡◌ {A = Option (ℕ × ℕ)} (Some (0, 0)) (Some (0, 1)) → ⊥
 two_writers e =
@@ -106,7 +106,7 @@ two_writers e =
     omega arith
 
 pub own : Lawful (two_vbs 6 set_and_show) (two_vbs_told 6 (sets_told (change_told 0 ∷ [])))
-own = both empty_chronicle (two_vbs 6 set_and_show) (two_vbs_told 6 (sets_told (change_told 0 ∷ []))) refl (tt, (tt, ((record { new = tt; newest = refl; last = refl; leaves = refl }, (record { another = λ e. cc; anew = λ e. refl }, tt)), (second_new _ _ refl, ((change_of_two _ _, tt), (tt, tt)))))) (tt, (tt, ((refl, tt), ((refl, tt), (tt, (tt, tt)))))) (refl, (refl, (refl, (refl, (refl, (refl, tt))))))
+own = both empty_chronicle (two_vbs 6 set_and_show) (two_vbs_told 6 (sets_told (change_told 0 ∷ []))) refl (tt, (tt, ((record { new = tt; newest = refl; last = refl; leaves = refl }, (record { another = λ e. cc; anew = λ e. refl }, tt)), (second_new _ _ _ refl, ((change_of_two _ _ _, tt), (tt, tt)))))) (tt, (refl, ((refl, tt), ((refl, tt), (refl, (tt, tt)))))) (refl, (refl, (refl, (refl, (refl, (refl, tt))))))
 
 pub writer : Lawful (two_vbs 6 set_and_show) (two_vbs_told 6 (sets_told (change_told 1 ∷ []))) → ⊥
 writer l = two_writers l.1.1.1.1.0.0.0.writer.made_or_took
@@ -125,16 +125,16 @@ at_fork l = let low = l.above_forks.0 refl in omega arith
 
 pub same : Lawful (two_vbs 6 set_and_show) (two_vbs_told 6 (shown_after_change 5))
 same = both empty_chronicle (two_vbs 6 set_and_show) (two_vbs_told 6 (shown_after_change 5)) refl
-    (tt, (tt, ((record { new = tt; newest = refl; last = refl; leaves = refl }, (record { another = λ e. cc; anew = λ e. refl }, tt)), (second_new _ _ refl, ((change_of_two _ _, tt), ((record { another = λ e. cc; anew = λ e. cc }, (shown _ _ _ refl refl refl refl image refl refl as_set (λ _. refl) (λ e. cc), (tt, tt))), tt))))))
-    (tt, (tt, ((refl, tt), ((refl, tt), (tt, (tt, tt)))))) (refl, (refl, (refl, (refl, (refl, (refl, tt))))))
+    (tt, (tt, ((record { new = tt; newest = refl; last = refl; leaves = refl }, (record { another = λ e. cc; anew = λ e. refl }, tt)), (second_new _ _ _ refl, ((change_of_two _ _ _, tt), ((record { another = λ e. cc; anew = λ e. cc }, (shown _ _ _ refl refl refl refl image refl refl as_set (λ _. refl) (λ e. cc), (tt, tt))), tt))))))
+    (tt, (refl, ((refl, tt), ((refl, tt), (refl, (tt, tt)))))) (refl, (refl, (refl, (refl, (refl, (refl, tt))))))
 
 pub history : Lawful (two_vbs 6 set_and_show) (two_vbs_told 6 (shown_after_change 6)) → ⊥
 history l = let e : ◌≡◌ {A = List Change} [] (one_change ∷ []) = (l.1.1.1.1.1.0.0.1.0.complete refl).shared (λ z. omega arith) in cc
 
 pub dead : Lawful (two_vbs 6 set_and_show) (two_vbs_told 6 (shown_unchanged Role.Dead 5))
 dead = both empty_chronicle (two_vbs 6 set_and_show) (two_vbs_told 6 (shown_unchanged Role.Dead 5)) refl
-    (tt, (tt, ((record { new = tt; newest = refl; last = refl; leaves = refl }, (record { another = λ e. cc; anew = λ e. refl }, tt)), (second_new _ _ refl, (tt, ((record { another = λ e. cc; anew = λ e. cc }, (shown _ _ _ refl refl refl refl nothing refl refl as_made (λ _. refl) (λ e. cc), tt)), tt))))))
-    (tt, (tt, ((refl, tt), ((refl, tt), (tt, (tt, tt)))))) (refl, (refl, (refl, (refl, (refl, (refl, tt))))))
+    (tt, (tt, ((record { new = tt; newest = refl; last = refl; leaves = refl }, (record { another = λ e. cc; anew = λ e. refl }, tt)), (second_new _ _ _ refl, (tt, ((record { another = λ e. cc; anew = λ e. cc }, (shown _ _ _ refl refl refl refl nothing refl refl as_made (λ _. refl) (λ e. cc), tt)), tt))))))
+    (tt, (refl, ((refl, tt), ((refl, tt), (refl, (tt, tt)))))) (refl, (refl, (refl, (refl, (refl, (refl, tt))))))
 
 pub dead_other : Lawful (two_vbs 6 set_and_show) (two_vbs_told 6 (shown_unchanged Role.Dead 6)) → ⊥
 dead_other l = let e : ◌≡◌ {A = ℕ} 5 6 = l.1.1.1.1.1.0.0.1.0.newest in omega arith

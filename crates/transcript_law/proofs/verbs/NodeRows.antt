@@ -6,10 +6,10 @@ use Rattle.node_world.specs.{Arms.{fail_arm, stop_arm}, Nodes.{arm_at}, Power.{c
 use Rattle.transcript_law.proofs.invariant.{AtRest.{RestsIf, Still, bytes_still, down_rests, either_node, link_still, start_still, still_put, still_ran, still_steps, up_still, weaker}, CallsKept.{InWorld, dropped_all, none_at, on_made_all, unless_all, unlinked_all}, Agreement.{Agrees}, Entering.{Entered, armed_entered, crashed_entered, dial_entered, down_entered, start_line_entered}}
 use Rattle.transcript_law.proofs.invariant.{FedLines.{broken_line, bytes_less, client_less, cut_fine, dialed_fed, down_fine, hang_less, none_less, pump_fed, start_less, unless_fed, up_fed}, Feeding.{dropped_fine, made_fine, with_node as fed_node}, TimelyCalls.{pulled_tame}}
 use Rattle.transcript_law.proofs.invariant.Ranged.{IsRanged, NodeRangedIf, bytes_ranged, client_ranged, down_ranged, dropped_ranged, hang_ranged, kept_ranged, on_link_ranged, on_made_ranged, same_ranged, start_at_ranged, unless_ranged, unlinked_ranged, up_ranged, with_node}
-use Rattle.transcript_law.proofs.{disks.AppendLines.{start_says}, disks.Fired.{ends_calm}, lines.Calm.{Spared, bytes_calm, pump_calm, up_calm}, lines.Refusals.{Same, Says, on_link_says, on_node_says, refused_says, unchanged}, links.PumpAnswers.{moved_few, pump_says}}
+use Rattle.transcript_law.proofs.{invariant.Clients.{client_answered, crash_answered}, disks.AppendLines.{start_says}, disks.Fired.{ends_calm}, lines.Calm.{Spared, bytes_calm, pump_calm, up_calm}, lines.Refusals.{Same, Says, on_link_says, on_node_says, refused_says, unchanged}, links.PumpAnswers.{moved_few, pump_says}}
 use Rattle.transcript_law.proofs.verbs.{BoundAnswers.{bound, bound_at, bound_down, closed_link, crash_refused, link_refused, node_exists, off_is, one, over, start_refused}, FiredLines.{down_fires, rows_fire}, LineAnswers.{IsOk, down_line_says, no_ok}}
 use Rattle.transcript_law.proofs.verbs.{ArmLines.{fail_goes, stop_goes}, Crashing.{crash_goes}, Dials.{link_goes}, DownLine.{down_answered, down_goes}, Leaving.{cut_goes}, NodeLines.{client_goes, clock_goes, hang_goes, node_goes, on_link_by, on_made_by, on_node_goes}}
-use Rattle.transcript_law.proofs.verbs.{Pumping.{pump_goes}, Requesting.{bytes_goes}, Rows.{Goes, Row, alone_row, told_goes}, Settling.{steady}, Starting.{start_answered, start_fires, start_goes}, Ups.{up_goes}}
+use Rattle.transcript_law.proofs.verbs.{Pumping.{pump_goes}, Requesting.{bytes_goes}, Rows.{Goes, Row, alone_row, answered_row, told_goes}, Settling.{steady}, Starting.{start_answered, start_fires, start_goes}, Ups.{up_goes}}
 use Rattle.transcript_law.specs.{Bound.{is_told_down}, Chronicles.{fail_told, stop_told}, Firings.{FiresInLine}}
 use Rattle.vbucket.specs.Laws.{IsTimely}
 
@@ -60,7 +60,7 @@ node_row_of w n (NodeVerb.Crash out) =
       rests = λ r here a all. weaker came.0 (unless_all Still IsTimely still_steps (λ id. tt) w x why all (dropped_all Still IsTimely still_steps (λ id. tt) n out w all));
       fed = λ fine. unless_fed w x why fine.fed (dropped_fine n out w fine).fed;
       keeps = λ rests. says.1;
-      told = λ r fits t. (says.0, rows_fire (crash_causes w n) w x (tt, (tt, tt)) (ends_calm n None w));
+      told = λ r fits t. (crash_answered r.conn_at w 0 t.conns n out, rows_fire (crash_causes w n) w x (tt, (tt, tt)) (ends_calm n None w));
       bound = λ r a rule. bound_at w r a n _ came.1 rule (crash_refused w n (w.nodes n) x);
       entered = λ before r old. crashed_entered r n out came.1.answer old;
       goes = λ r fits ranged a. told_goes (Verb.AtNode n (NodeVerb.Crash out)) r came (crash_goes stays w r n out a);
@@ -82,23 +82,26 @@ pub client_row_of : (w : PlainWorld) (number n c : ℕ) (what : ClientVerb) → 
 client_row_of w number n c ClientVerb.Open =
     let opened : PlainNode → PlainNode × Told = λ node. (with_client node c (Some (new_session (record { node = n; client = c; base = base_of number }))), done []) in
     let closed : PlainNode → PlainNode × Told = λ node. (node, refusal Cause.LinkOpen) in
-    alone_row w (Verb.AtClient n c ClientVerb.Open) n (client_at n (base_of number) c) (λ r. (refl, λ told s. s)) (λ before r lines said old. old) (λ fits. client_ranged n (base_of number) c)
+    answered_row (λ r. IsOk) w (Verb.AtClient n c ClientVerb.Open) n (client_at n (base_of number) c) (λ r. (refl, λ told s. s)) (λ before r lines said old. old) (λ fits. client_ranged n (base_of number) c)
     (λ node here there. either_node (is_some (node.clients c)) (closed node) (opened node) there there) (client_less n (base_of number) c)
     (λ node. elim (is_some (node.clients c)) as (λ b. let x : PlainNode × Told = if b then closed node else opened node in Spared x.1) [ true ↦ refl | false ↦ refl ])
     (λ r told. on_node_says IsOk w n (client_at n (base_of number) c) no_ok (λ node known.
     elim (is_some (node.clients c)) as (λ b. Says IsOk (λ k. k ≡ node) (if b then closed node else opened node)) [ true ↦ (tt, λ why e s. (refl, refl)) | false ↦ (tt, λ why e s. cc) ]))
+    (λ r t ok. client_answered r.conn_at w number t.conns n c ClientVerb.Open)
     (λ r fits ranged a. on_node_goes w r n (client_at n (base_of number) c) a (λ node e up. client_goes w r n (base_of number) c node a e))
-client_row_of w number n c (ClientVerb.Bytes bytes) = alone_row w (Verb.AtClient n c (ClientVerb.Bytes bytes)) n (bytes_at c bytes) (λ r. (refl, λ told s. s)) (λ before r lines said old. old)
+client_row_of w number n c (ClientVerb.Bytes bytes) = answered_row (λ r. IsOk) w (Verb.AtClient n c (ClientVerb.Bytes bytes)) n (bytes_at c bytes) (λ r. (refl, λ told s. s)) (λ before r lines said old. old)
     (λ fits node r. bytes_ranged n c bytes node fits.2 r) (bytes_still n c bytes) (bytes_less c bytes) (bytes_calm c bytes)
     (λ r told. on_node_says IsOk w n (bytes_at c bytes) no_ok (λ node known. elim (node.clients c) as (λ o. Says IsOk (λ k. k ≡ node) (fed_if c bytes node o)) [ None ↦ (tt, λ why e s. (refl, refl)) | Some session ↦ (tt, λ why e s. cc) ]))
+    (λ r t ok. client_answered r.conn_at w number t.conns n c (ClientVerb.Bytes bytes))
     (λ r fits ranged a. on_node_goes w r n (bytes_at c bytes) a (λ node e up. bytes_goes stays steady w r n c bytes node fits.2 (subst (NodeRangedIf n) e (ranged n)) a e))
 client_row_of w number n c ClientVerb.Hang =
     let hung : PlainNode → PlainNode × Told = λ node. (with_client node c None, done []) in let closed : PlainNode → PlainNode × Told = λ node. (node, refusal Cause.LinkClosed) in
-    alone_row w (Verb.AtClient n c ClientVerb.Hang) n (hang_at c) (λ r. (refl, λ told s. s)) (λ before r lines said old. old) (λ fits. hang_ranged n c)
+    answered_row (λ r. IsOk) w (Verb.AtClient n c ClientVerb.Hang) n (hang_at c) (λ r. (refl, λ told s. s)) (λ before r lines said old. old) (λ fits. hang_ranged n c)
     (λ node here there. either_node (is_some (node.clients c)) (hung node) (closed node) there there) (hang_less c)
     (λ node. elim (is_some (node.clients c)) as (λ b. let x : PlainNode × Told = if b then hung node else closed node in Spared x.1) [ true ↦ refl | false ↦ refl ])
     (λ r told. on_node_says IsOk w n (hang_at c) no_ok (λ node known.
     elim (is_some (node.clients c)) as (λ b. Says IsOk (λ k. k ≡ node) (if b then hung node else closed node)) [ true ↦ (tt, λ why e s. cc) | false ↦ (tt, λ why e s. (refl, refl)) ]))
+    (λ r t ok. client_answered r.conn_at w number t.conns n c ClientVerb.Hang)
     (λ r fits ranged a. on_node_goes w r n (hang_at c) a (λ node e up. hang_goes w r n c node a e))
 
 -- ---- links

@@ -36,5 +36,5 @@ returns c = record {
   fails = λ call. ((tt, tt, refl, refl, λ w no standing. refl), tt);
   other = ((tt, tt, refl, refl, λ w no standing. refl), tt);
   other_link = ((tt, tt, refl, refl, λ w no standing. refl), tt);
-  other_crash = λ out. ((tt, tt, refl, refl, λ w no standing. refl), tt);
+  other_crash = λ out. ((tt, (λ c. refl), refl, refl, λ w no standing. refl), tt);
 }

@@ -1,0 +1,40 @@
+-- scripts of connections of clients, and transcripts of them to be judged by hand
+use Rattle.std.specs.Prelude.{ℕ, List, [], ◌∷◌}
+use Rattle.script_text.specs.declared.verb.Verb.{Verb}
+use Rattle.script_text.specs.declared.verb.Verb.TheVariants as verb
+use Rattle.script_text.specs.declared.verb.NodeVerb.TheVariants as node_verb
+use Rattle.script_text.specs.declared.verb.ClientVerb.TheVariants as client_verb
+use Rattle.vb_events.specs.declared.event.Answer.TheVariants as answer
+use Rattle.vb_events.specs.declared.event.Cause.{Cause}
+use Rattle.vb_events.specs.declared.event.Event.{Event}
+use Rattle.vb_events.specs.declared.event.Event.TheVariants as event
+use Rattle.transcript_law.specs.{Crashes.{Said, numbered, ok, told_from}, Lawfulness.{Lawful}}
+
+-- the connection 1 of the node 0 is opened, these lines come, and that is told of them
+abbrev pub LawfulOpened : List Verb → List Said → Type 0
+LawfulOpened lines told = Lawful (numbered 1 (verb.Node 0 ∷ verb.AtClient 0 1 client_verb.Open ∷ lines)) (told_from 1 (ok [] ∷ ok [] ∷ told))
+
+-- a client's lines over the connection c of that node
+abbrev pub opens : ℕ → Verb
+opens c = verb.AtClient 0 c client_verb.Open
+
+abbrev pub sends : ℕ → Verb
+sends c = verb.AtClient 0 c (client_verb.Bytes [])
+
+abbrev pub hangs : ℕ → Verb
+hangs c = verb.AtClient 0 c client_verb.Hang
+
+-- a line that has nothing to do with it
+abbrev pub waits : Verb
+waits = verb.AtNode 0 (node_verb.Clock 5)
+
+-- the connection c of the node n closed, and was answered with these bytes
+abbrev pub closes : ℕ → ℕ → Event
+closes n c = event.Closed n c
+
+abbrev pub replies : ℕ → ℕ → List ℕ → Event
+replies n c bytes = event.Reply n c bytes
+
+-- a line that is refused for this cause, and tells of nothing
+abbrev pub refused : Cause → Said
+refused why = ([], answer.No why)
