@@ -9,3 +9,5 @@ pub mod LoadSteps
 pub mod Noting
 pub mod Resolving
 pub mod Endings
+pub mod Pieces
+pub mod Refusing

@@ -5,6 +5,8 @@ pub mod Peers
 pub mod Dials
 pub mod Flushing
 pub mod EndingLaws
+pub mod PieceLaws
+pub mod CallLaws
 pub mod Handing
 pub mod Conduct
 pub mod Outs

@@ -3,6 +3,7 @@
 #![tactic(auto)]
 
 mod admin;
+mod call_laws;
 mod changes;
 mod conn;
 mod dials;
@@ -13,11 +14,13 @@ mod node;
 mod numbered;
 mod out;
 mod peer;
+mod piece_laws;
 mod readings;
 mod roles;
 mod show;
 
 pub use admin::AdminCall;
+pub use call_laws::{operators_call_by_name, others_are_refused};
 pub use conn::{Conn, ConnKind};
 pub use dials::Dial;
 pub use ending_laws::{closed_sessions_are_let_go, refusals_end_dials};
@@ -34,6 +37,7 @@ pub use node::{LoadFault, Loaded, MAX_VBS, Node, Started};
 pub use numbered::Numbered;
 pub use out::NodeOut;
 pub use peer::Peer;
+pub use piece_laws::{faults_are_not_answered, pieces_are_joined};
 
 /// What a call gives that needs memory, or that memory was short.
 type Alloc<T> = Result<T, std::alloc::AllocError>;
