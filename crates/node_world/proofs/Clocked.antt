@@ -30,7 +30,7 @@ use Rattle.node_world.specs.Worlds.{PlainWorld, on_node}
 use Rattle.node_world.proofs.CallsMade.{leaves_so}
 
 -- with no bytes behind, the turns leave the vBuckets
-still : (clock : ℕ) (t : Served) (states : States) → t.session.reader ≡ [] → (after (turns_served clock t) states).0 ≡ states
+pub still : (clock : ℕ) (t : Served) (states : States) → t.session.reader ≡ [] → (after (turns_served clock t) states).0 ≡ states
 still clock t states none = by (is_waiting t.session) refl
   where
     by : (b : Bool) → is_waiting t.session ≡ b → (after (turns_served clock t) states).0 ≡ states

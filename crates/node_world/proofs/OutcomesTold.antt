@@ -1,5 +1,5 @@
 -- lines that may settle durable writes tell the clients that wait
-use Rattle.std.proofs.Common.{◌≡◌, ℕ, Bool, true, false, List, [], ◌∷◌, ◌++◌, map, append-nil, append_assoc, refl, ap, sym, ◌∙◌, Option, Some, None, is_some}
+use Rattle.std.proofs.Common.{◌≡◌, inl, inr, ℕ, Bool, true, false, List, [], ◌∷◌, ◌++◌, map, append-nil, append_assoc, refl, ap, sym, ◌∙◌, Option, Some, None, is_some}
 use Rattle.std.specs.Prelude.{◌≢◌, ◌==◌, filter, min, length, take, if◌then◌else◌}
 use Rattle.std.proofs.lemmas.Bool.{eq-eqb, eqb-true, ne_eqb}
 use Rattle.client_session.specs.declared.session.Awaited.{Awaited}
@@ -47,7 +47,7 @@ use Rattle.node_world.specs.Dues.{due_at, due_in, due_of, is_counted}
 use Rattle.node_world.specs.Lines.{ChangesRole}
 use Rattle.node_world.specs.Links.{PlainLink, feeds, frame_up, frames_up, link_number, peer_asked, peer_of, producer_node, untold_peer, up_at}
 use Rattle.node_world.specs.Nodes.{PlainNode, all_posted, awaits_in, first_cause, flush_line, posted, refusal, refused_or, uuid_causes, with_kept, with_states, written}
-use Rattle.node_world.specs.OutcomesTold.{EndsTold, OutcomesTold, TellsBehind, TellsOutcomes, TellsReply, TellsTurn, TurnsAs, RolesTold, UpsTell, changes_of, with_ends}
+use Rattle.node_world.specs.OutcomesTold.{EndsTold, IsCut, OutcomesTold, TellsBehind, TellsOutcomes, TellsReply, TellsTurn, TurnsAs, RolesTold, UpsTell, changes_of, with_ends}
 use Rattle.node_world.specs.Posting.{AwaitsAlone}
 use Rattle.node_world.specs.Power.{after_fire, down_lines, with_arm}
 use Rattle.node_world.specs.Turns.{called_at, no_node, posted_at, posted_in, promote_step, role_called, role_outcome, told_after, turn_step, turned_after, turned_if, with_ended}
@@ -182,6 +182,11 @@ cut_keeps w n node now there same (Some link) = unlinked_keeps link w n node now
 no_ok : (why : Cause) → line.No why ≡ line.Ok → ⊥
 no_ok why e = cc
 
+-- what is cut off is one link or none
+one_cut : (w : PlainWorld) (o : Option PlainLink) → IsCut (cut_off o w).1
+one_cut w None = inl refl
+one_cut w (Some link) = inr (link_number link, refl)
+
 -- outcomes leave the links
 posts_links : (n : ℕ) (rs : List Resolved) (came : Outcome) → (posted_in n rs came).0.links ≡ came.0.links
 posts_links n rs came = by (came.0.nodes n)
@@ -243,11 +248,12 @@ module _ (w : PlainWorld) (n : ℕ) (node : PlainNode) (there : w.nodes n ≡ So
       turn_tells =
           let (more, grows) = armed_grows n w came in (
             cut.1,
+            one_cut w2 (own_link n v w2.links),
             tells_more node reply.resolved (cut.1 ++ lines) came.1.events more (with_arm n w came).1.events (tells_if node kept.0 reply.resolved (cut.1 ++ lines) came.1.events kept.2 came_events) grows,
           )
 
       turn_is_told : TurnsAs lines (with_arm n w came).1.events
-      turn_is_told = let (more, grows) = armed_grows n w came in (cut.1, posts ++ more, grows ∙ ap (λ xs. xs ++ more) came_events ∙ append_assoc (cut.1 ++ lines) posts more)
+      turn_is_told = let (more, grows) = armed_grows n w came in (cut.1, posts ++ more, one_cut w2 (own_link n v w2.links), grows ∙ ap (λ xs. xs ++ more) came_events ∙ append_assoc (cut.1 ++ lines) posts more)
 
       -- where no link feeds the vBucket
       module _ (unfed : filter (feeds n v) w.links ≡ []) where
@@ -372,7 +378,7 @@ module _ (w : PlainWorld) (n : ℕ) (node : PlainNode) (there : w.nodes n ≡ So
 -- ---- frames that go up
 
 -- more frames are told behind
-frames_grow : (fs : List Frame) (came : PlainNode × PeerTold) → (more : List Event) × ((frames_up fs came).1.events ≡ came.1.events ++ more)
+pub frames_grow : (fs : List Frame) (came : PlainNode × PeerTold) → (more : List Event) × ((frames_up fs came).1.events ≡ came.1.events ++ more)
 frames_grow [] came = ([], sym (append-nil came.1.events))
 frames_grow (f ∷ fs) came =
     let (more, grows) = frames_grow fs (frame_up f came) in

@@ -147,7 +147,7 @@ module _ (r : Resolved) (node : PlainNode) where
     waits : awaits_in r.waiter (node.clients c) ≡ true
     waits = ap (awaits_in r.waiter) alone.there ∙ ap (awaits r.waiter) alone.awaited ∙ eq-eqb a.waiter r.waiter alone.mine
 
-    told_is : posted r node ≡ posted_if c r node (Some session)
+    pub told_is : posted r node ≡ posted_if c r node (Some session)
     told_is = ap (posted_to r node) (one_awaits node.clients r.waiter c waits MAX_CLIENTS alone.within alone.others) ∙ ap (posted_if c r node) alone.there
 
     begins : Begins (sent session.who frame) (after (outcome_served node.clock r started) node.vbs).1

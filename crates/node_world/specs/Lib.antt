@@ -29,3 +29,8 @@ pub mod Clocked
 pub mod Counted
 pub mod Arguments
 pub mod StartIds
+pub mod GivenIds
+pub mod StartsRefused
+pub mod MadeOnes
+pub mod FramesUp
+pub mod Leavings

@@ -1,5 +1,5 @@
 -- each line that may settle durable writes tells the client that waits
-use Rattle.std.specs.Prelude.{◌≡◌, ◌≢◌, ◌==◌, if◌then◌else◌, ℕ, List, [], ◌∷◌, ◌++◌, filter, map, min, length, take, true, Option, Some}
+use Rattle.std.specs.Prelude.{◌≡◌, ◌≢◌, ◌⊎◌, ◌==◌, if◌then◌else◌, ℕ, List, [], ◌∷◌, ◌++◌, filter, map, min, length, take, true, Option, Some}
 use Rattle.client_session.specs.declared.session.Awaited.{Awaited}
 use Rattle.client_session.specs.Conduct.{sent}
 use Rattle.client_session.specs.Rows.{IsOutcome}
@@ -11,6 +11,7 @@ use Rattle.script_text.specs.declared.verb.Verb.TheVariants as verb
 use Rattle.script_text.specs.declared.verb.VbVerb.TheVariants as vb_verb
 use Rattle.script_text.specs.declared.verb.LinkVerb.TheVariants as link_verb
 use Rattle.vb_events.specs.declared.event.Answer.TheVariants as line
+use Rattle.vb_events.specs.declared.event.EndReason.TheVariants as reason
 use Rattle.vb_events.specs.declared.event.Event.{Event}
 use Rattle.vb_events.specs.declared.event.Event.TheVariants as event
 use Rattle.vb_types.specs.declared.role.Role.TheVariants as role
@@ -51,9 +52,13 @@ changes_of n v reply = map (event.Changed n v reply.branch) reply.changes
 abbrev pub TellsReply : ℕ → ℕ → PlainNode → VbReply → List Event → Type 0
 TellsReply n v node reply events = TellsOutcomes node reply.resolved (changes_of n v reply) events
 
--- behind the lines of a change of role, which begin with what was cut off, if anything was
+-- no line, or that of the one link that was cut
+abbrev pub IsCut : List Event → Type 0
+IsCut cuts = (cuts ≡ []) ⊎ ((l : ℕ) × (cuts ≡ event.Ended l reason.Cut ∷ []))
+
+-- behind the lines of a change of role, which begin with the end of the vBucket's own link, if it had one
 abbrev pub TellsTurn : PlainNode → VbReply → List Event → List Event → Type 0
-TellsTurn node reply lines events = (cuts : List Event) × TellsOutcomes node reply.resolved (cuts ++ lines) events
+TellsTurn node reply lines events = (cuts : List Event) × IsCut cuts × TellsOutcomes node reply.resolved (cuts ++ lines) events
 
 -- lines for the vBucket v of the running node n
 pub record OutcomesTold (w : PlainWorld) (n v : ℕ) (node : PlainNode) (vb : Plain) : Type 0 where
@@ -66,9 +71,9 @@ pub record OutcomesTold (w : PlainWorld) (n v : ℕ) (node : PlainNode) (vb : Pl
   pub follow : (number : ℕ) → vb.role ≢ role.Replica → TellsTurn node (reply_of vb call.Follow) (event.Role n v role.Replica ∷ []) (verb_step w number (verb.AtVb n v vb_verb.Follow)).1.events
   pub dead : (number : ℕ) → vb.role ≢ role.Dead → TellsTurn node (reply_of vb call.Dead) (event.Role n v role.Dead ∷ []) (verb_step w number (verb.AtVb n v vb_verb.Dead)).1.events
 
--- a change of role is told so, behind what was cut off, if anything was
+-- a change of role is told so behind the end of the vBucket's own link, if it had one, and in front of all else: so before anything that its clients are told
 abbrev pub TurnsAs : List Event → List Event → Type 0
-TurnsAs lines events = (cuts : List Event) × (rest : List Event) × (events ≡ (cuts ++ lines) ++ rest)
+TurnsAs lines events = (cuts : List Event) × (rest : List Event) × IsCut cuts × (events ≡ (cuts ++ lines) ++ rest)
 
 -- each change of role is the one that its line names
 pub record RolesTold (w : PlainWorld) (n v : ℕ) (vb : Plain) : Type 0 where

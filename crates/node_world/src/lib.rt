@@ -5,6 +5,7 @@ mod arm;
 mod crashes;
 mod ids;
 mod laws;
+mod leaving_laws;
 mod link;
 mod link_lines;
 mod owed_laws;
@@ -20,6 +21,10 @@ use ids::Ids;
 pub use laws::{
     causes_in_order, outcomes_go_to_who_awaits, roles_cut_links, stops_are_told_in_order,
     world_limits,
+};
+pub use leaving_laws::{
+    closed_connections_are_gone, faults_are_passed, ids_are_given_by_lines, links_go_once_over,
+    made_ones_are_there, outcomes_come_first, refused_starts_leave_disks,
 };
 pub use link::Link;
 pub use owed_laws::{

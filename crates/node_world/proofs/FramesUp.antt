@@ -1,0 +1,164 @@
+-- frames that go up one after the other, and bytes that begin none
+use Rattle.std.proofs.Common.{◌≡◌, ℕ, List, [], ◌∷◌, ◌++◌, append-nil, append_assoc, drop, refl, ap, ◌∙◌, Option, Some, None, Ok}
+use Rattle.std.specs.Prelude.{if◌then◌else◌}
+use Rattle.std.proofs.lemmas.Bool.{eq-eqb}
+use Rattle.client_session.specs.declared.session.Awaited.{Awaited}
+use Rattle.client_session.specs.Serving.{PlainSession, Served, frame_served, outcome_by, outcome_served, outcome_told, request_served, served, told, turns_served, with_bytes}
+use Rattle.client_session.proofs.Rows.{asks_so}
+use Rattle.client_session.proofs.Turns.{turns_frame}
+use Rattle.mcbp_frame.proofs.Pieces.{fault_stays}
+use Rattle.mcbp_frame.specs.Cutting.{front_fault}
+use Rattle.mcbp_frame.specs.Frames.{frame_len}
+use Rattle.mcbp_frame.specs.declared.frame.Frame.{Frame}
+use Rattle.mcbp_frame.specs.declared.frame.FrameFault.{FrameFault}
+use Rattle.mcbp_kv.specs.Requests.{request_of}
+use Rattle.mcbp_kv.specs.declared.request.KvRequest.TheVariants as asks
+use Rattle.vb_events.specs.declared.event.Cause.TheVariants as cause
+use Rattle.vb_events.specs.declared.event.Event.{Event}
+use Rattle.vb_types.specs.declared.write.Write.{Write}
+use Rattle.vb_calls.specs.declared.calls.Resolved.{Resolved}
+use Rattle.vb_calls.specs.declared.calls.VbCall.{VbCall}
+use Rattle.vb_calls.specs.declared.calls.VbCall.TheVariants as call
+use Rattle.vb_calls.specs.declared.calls.VbReply.{VbReply}
+use Rattle.vb_calls.specs.Plain.{plain_step}
+use Rattle.vb_calls.specs.Programs.{Call, Done, Prog, after, bind}
+use Rattle.vb_calls.specs.State.{Plain}
+use Rattle.vb_calls.specs.States.{States, call_at}
+use Rattle.vb_calls.proofs.Readings.{after_bind}
+use Rattle.vbucket.specs.Rows.{row_at}
+use Rattle.node_core.specs.Peers.{PeerTold, PlainPeer, peer_answered, peer_frames, peer_heard}
+use Rattle.node_world.specs.FramesUp.{HoldsOne, PassesFaults, PostsBetween, ServesBehind, piece_up}
+use Rattle.node_world.specs.Links.{PlainLink, frame_up, frames_up, link_number, peer_of, producer_node, untold_peer, up_at}
+use Rattle.node_world.specs.Nodes.{PlainNode, all_posted, posted, refusal, with_states}
+use Rattle.node_world.specs.Posting.{AwaitsAlone}
+use Rattle.node_world.specs.World.{link_outcome, on_link, with_link}
+use Rattle.node_world.specs.Worlds.{PlainWorld, Outcome, node_outcome, with_node_at}
+use Rattle.node_world.proofs.Clocked.{still}
+use Rattle.node_world.proofs.OutcomesTold.{frames_grow}
+use Rattle.node_world.proofs.WhoAwaits.{told_is}
+
+module _ (w : PlainWorld) (l : ℕ) (link : PlainLink) (producer : PlainNode) (open_link : row_at link_number l w.links ≡ Some link) (from : w.nodes (producer_node link) ≡ Some producer) (wanted : ℕ) where
+  abbrev piece : List ℕ
+  piece = piece_up wanted link
+
+  abbrev peer : PlainPeer
+  peer = peer_heard piece (peer_of link)
+
+  abbrev begun : PlainNode × PeerTold
+  begun = (producer, untold_peer peer)
+
+  -- what frames come to
+  abbrev carried : Outcome
+  carried = with_link link (with_node_at w (producer_node link) (up_at wanted link producer).0, (up_at wanted link producer).1)
+
+  up_is : on_link w l producer_node (up_at wanted) ≡ carried
+  up_is = ap (link_outcome w l producer_node (up_at wanted)) open_link ∙ ap (λ o. with_link link (node_outcome w (producer_node link) (Some link, refusal cause.UnknownNode) o (up_at wanted link))) from
+
+  -- ---- two frames
+
+  module _ (f g : Frame) (more : List Frame) (first next : States × PeerTold) (frames : peer_frames piece (peer_of link) ≡ f ∷ g ∷ more) where
+    abbrev posts : States × PeerTold → PlainNode × List Event
+    posts x = all_posted x.1.resolved (with_states producer x.0)
+
+    abbrev one : States × PeerTold → List Event
+    one x = x.1.events ++ (posts x).1
+
+    abbrev behind : States × PeerTold → States × PeerTold
+    behind x = after (peer_answered g x.1.peer) (posts x).0.vbs
+
+    abbrev later : States × PeerTold → States × PeerTold → List Event
+    later x y = (all_posted y.1.resolved (with_states (posts x).0 y.0)).1
+
+    abbrev two : States × PeerTold → States × PeerTold → List Event
+    two x y = one x ++ (y.1.events ++ later x y)
+
+    second : after (peer_answered f peer) producer.vbs ≡ first → behind first ≡ next → (rest : List Event) × ((on_link w l producer_node (up_at wanted)).1.events ≡ one first ++ (next.1.events ++ rest))
+    second is goes =
+        let (rest, grows) = frames_grow more (frame_up g (frame_up f begun)) in (
+          later first next ++ rest,
+          ap (λ (o : Outcome). o.1.events) up_is ∙ ap (λ fs. (frames_up fs begun).1.events) frames
+              ∙ grows ∙ ap (λ (x : States × PeerTold). two x (behind x) ++ rest) is ∙ ap (λ (y : States × PeerTold). two first y ++ rest) goes
+              ∙ append_assoc (one first) (next.1.events ++ later first next) rest ∙ ap (λ xs. one first ++ xs) (append_assoc next.1.events (later first next) rest),
+        )
+
+  -- ---- bytes that begin no frame
+
+  module _ (fault : FrameFault) (is : front_fault link.up_heard ≡ Some fault) where
+    none : peer_frames piece (peer_of link) ≡ []
+    none = (fault_stays link.up_heard piece fault is).1
+
+    silent : (on_link w l producer_node (up_at wanted)).1.events ≡ []
+    silent = ap (λ (o : Outcome). o.1.events) up_is ∙ ap (λ fs. (frames_up fs begun).1.events) none
+
+    same : (on_link w l producer_node (up_at wanted)).0.nodes (producer_node link) ≡ Some producer
+    same =
+        ap (λ (o : Outcome). o.0.nodes (producer_node link)) up_is
+        ∙ ap (λ b. if b then Some (up_at wanted link producer).0 else w.nodes (producer_node link)) (eq-eqb (producer_node link) (producer_node link) refl) ∙ ap (λ fs. Some (frames_up fs begun).0) none
+
+    nothing_down : link.down ++ (frames_up (peer_frames piece (peer_of link)) begun).1.out ≡ link.down
+    nothing_down = ap (λ fs. link.down ++ (frames_up fs begun).1.out) none ∙ append-nil link.down
+
+pub posts_between : (w : PlainWorld) (l : ℕ) (link : PlainLink) (producer : PlainNode) → row_at link_number l w.links ≡ Some link → w.nodes (producer_node link) ≡ Some producer → PostsBetween w l link producer
+posts_between w l link producer open_link from = record {
+  second = λ number wanted f g more first next frames is goes. second w l link producer open_link from wanted f g more first next frames is goes;
+}
+
+pub passes_faults : (w : PlainWorld) (l : ℕ) (link : PlainLink) (producer : PlainNode) → row_at link_number l w.links ≡ Some link → w.nodes (producer_node link) ≡ Some producer → PassesFaults w l link producer
+passes_faults w l link producer open_link from = record {
+  silent = λ number wanted fault is. silent w l link producer open_link from wanted fault is;
+  node = λ number wanted fault is. same w l link producer open_link from wanted fault is;
+  down = λ number wanted fault is. (_, ap (λ (o : Outcome). o.0.links) (up_is w l link producer open_link from wanted), nothing_down w l link producer open_link from wanted fault is);
+}
+
+-- ---- a request behind an outcome
+
+module _ (r : Resolved) (c : ℕ) (session : PlainSession) (a : Awaited) (node : PlainNode) (f : Frame) (vb : Plain) (write : Write) (alone : AwaitsAlone r.waiter c session a node) (holds : HoldsOne session f)
+    (is : request_of session.settings.json f ≡ Ok (asks.Write write None)) (here : node.vbs f.vb_or_status ≡ Some vb) where
+  abbrev clock : ℕ
+  clock = node.clock
+
+  abbrev v : ℕ
+  v = f.vb_or_status
+
+  abbrev made : VbCall
+  made = call.Store write clock
+
+  -- the connection once it was told the outcome, and behind its frame
+  abbrev front : Served
+  front = outcome_told a r.how (served session [])
+
+  abbrev past : Served
+  past = with_bytes (drop (frame_len f) front.session.reader) front
+
+  abbrev came : States × Option VbReply
+  came = call_at node.vbs v made (Some vb)
+
+  whole : outcome_served clock r (served session []) ≡ bind (frame_served clock f past) (turns_served clock)
+  unfolding outcome_served
+  whole =
+      ap (outcome_by clock r (served session [])) alone.awaited
+      ∙ ap (λ b. if b then turns_served clock front else Done (served session [])) (eq-eqb a.waiter r.waiter alone.mine) ∙ turns_frame clock front f refl holds.whole
+
+  stores : request_served clock f (Ok (asks.Write write None)) past ≡ Call v made (λ reply. Done (told f past reply))
+  unfolding request_served
+  stores = refl
+
+  told_reads : (reply : Option VbReply) → (told f past reply).session.reader ≡ past.session.reader
+  unfolding told
+  told_reads reply = refl
+
+  run : (after (outcome_served clock r (served session [])) node.vbs).0 ≡ came.0
+  run =
+      let prog : Prog Served = frame_served clock f past in
+      let one_call : after prog node.vbs ≡ (came.0, told f past came.1) =
+      ap (λ p. after p node.vbs) (asks_so clock f past (Ok (asks.Write write None)) holds.asks is ∙ stores) ∙ ap (λ o. let x = call_at node.vbs v made o in (x.0, told f past x.1)) here in
+      ap (λ p. (after p node.vbs).0) whole ∙ ap (λ (x : States × Served). x.0) (after_bind prog (turns_served clock) node.vbs)
+      ∙ ap (λ (x : States × Served). (after (turns_served clock x.1) x.0).0) one_call ∙ still clock (told f past came.1) came.0 (told_reads came.1 ∙ holds.alone)
+
+  served_so : (posted r node).0.vbs v ≡ Some (plain_step vb made).0
+  served_so =
+      ap (λ (x : PlainNode × List Event). x.0.vbs v) (told_is r node c session a alone)
+      ∙ ap (λ (s : States). s v) run ∙ ap (λ b. if b then Some (plain_step vb made).0 else node.vbs v) (eq-eqb v v refl)
+
+pub serves_behind : (r : Resolved) (c : ℕ) (session : PlainSession) (a : Awaited) (node : PlainNode) → ServesBehind r c session a node
+serves_behind r c session a node f vb write alone holds is here = served_so r c session a node f vb write alone holds is here
