@@ -6,7 +6,7 @@ use Rattle.dcp_io.proofs.Counted.{raised_monotone}
 use Rattle.dcp_main.specs.declared.input.TheConstants.{MAX_SCRIPT}
 use Rattle.dcp_main.specs.declared.status.Status.{Status}
 use Rattle.dcp_main.specs.declared.status.Status.TheVariants as status
-use Rattle.dcp_main.specs.Exits.{exit_code, TellsRun, TellsUsage}
+use Rattle.dcp_main.specs.Exits.{exit_code, TellsRun, TellsUsage, WritesFront}
 use Rattle.dcp_main.specs.Reads.{Read, ReadSome}
 use Rattle.dcp_main.specs.Runs.{Ran, Complete, Broken, UsageTold}
 
@@ -56,12 +56,20 @@ some_read : (old new : Intake) (before after : Outlet) → ((ReadSome old new ×
 some_read old new before after (inl some) = some.0.faults
 some_read old new before after (inr broken) = broken.read.faults
 
+-- what was written before a run broke off
+front : (old new : Intake) (before after : Outlet) → Broken old new before after → WritesFront old new before after
+front old new before after broken = (broken.bytes, broken.text, broken.read.drew.left, broken.read.end, broken.part, broken.output)
+
+some_written : (old new : Intake) (before after : Outlet) → ((ReadSome old new × (after ≡ before)) ⊎ Broken old new before after) → (after ≡ before) ⊎ WritesFront old new before after
+some_written old new before after (inl some) = inl some.1
+some_written old new before after (inr broken) = inr (front old new before after broken)
+
 pub tells_run : (old new : Intake) (before after : Outlet) (answer : Status) → Ran old new before after answer → TellsRun (exit_code answer) old new before after
 tells_run old new before after status.Ok ran = inl (refl, ran)
 tells_run old new before after status.BadScript ran = inr (inl (refl, ran))
 tells_run old new before after status.ReadFault ran = inr (inr (inl (refl, ran.0.rose, ran.1)))
-tells_run old new before after status.WriteFault ran = inr (inr (inr (inl (refl, ran.0.read.faults, ran.1))))
-tells_run old new before after status.NoMemory ran = inr (inr (inr (inr (inl (refl, some_read old new before after ran.1, ran.0)))))
+tells_run old new before after status.WriteFault ran = inr (inr (inr (inl (refl, ran.0.read.faults, ran.1, front old new before after ran.0))))
+tells_run old new before after status.NoMemory ran = inr (inr (inr (inr (inl (refl, some_read old new before after ran.1, ran.0, some_written old new before after ran.1)))))
 tells_run old new before after status.InputTooLong ran = inr (inr (inr (inr (inr (refl, ran.0.faults, ran.1, (ran.0.bytes, ran.0.drew.left, ran.0.above))))))
 tells_run old new before after status.Usage ran = absurd ran
 

@@ -1,8 +1,12 @@
 -- the numbers that the process ends with
-use Rattle.std.specs.Prelude.{◌≡◌, ℕ, ◌<◌, ◌⊎◌, List, length, codes}
-use Rattle.std.specs.Io.KnownBytes.{Consumes, Appends}
+use Rattle.std.specs.Prelude.{◌≡◌, ℕ, ◌<◌, ◌⊎◌, List, ◌++◌, length, codes, decimal}
+use Rattle.std.specs.Io.KnownBytes.{Appends, Consumes, IsAtEnd}
 use Rattle.dcp_io.specs.Counts.{Rose}
 use Rattle.dcp_io.specs.Moves.{Intake, Outlet, WrotePart}
+use Rattle.node_world.specs.World.{groups}
+use Rattle.script_text.specs.Scripts.{FirstBad, IsScript}
+use Rattle.script_text.specs.Transcript.{print_of}
+use Rattle.script_text.specs.declared.verb.ScriptLine.{ScriptLine}
 use Rattle.dcp_main.specs.Runs.{Completed, BadLineTold}
 use Rattle.dcp_main.specs.declared.status.Status.{Status}
 use Rattle.dcp_main.specs.declared.status.Status.TheVariants as status
@@ -17,16 +21,23 @@ exit_code status.WriteFault = 5
 exit_code status.NoMemory = 6
 exit_code status.InputTooLong = 11
 
+-- the whole input was read, and a front part was written of what it asks for: of the print of its script's groups, or, where a
+-- line is outside the grammar, of the message on the first such line
+abbrev pub WritesFront : Intake → Intake → Outlet → Outlet → Type 0
+WritesFront old new before after = (bytes text : List ℕ) × Consumes old.left new.left bytes × IsAtEnd new.left × WrotePart before.held after.held text
+    × (((script : List ScriptLine) × IsScript bytes script × (text ≡ print_of (groups script)))
+    ⊎ ((line : ℕ) × FirstBad bytes line × (text ≡ codes "bad line " ++ (decimal line ++ codes "\n"))))
+
 -- What the number tells of a run of a script: 0 that the whole script was read, and the whole transcript written; 3 that a line is bad,
 -- and the first such line was told; 4 that the input failed, and 5 the output; 6 that memory was short, and neither failed; 11 that
--- more than 268,435,456 bytes were taken. At 4 and 11 nothing was written.
+-- more than 268,435,456 bytes were taken. At 4 and 11 nothing was written, and at 5 and 6 no more than a front part of what was to be.
 abbrev pub TellsRun : ℕ → Intake → Intake → Outlet → Outlet → Type 0
 TellsRun number old new before after =
     ((number ≡ 0) × Completed old new before after)
     ⊎ (((number ≡ 3) × BadLineTold old new before after)
     ⊎ (((number ≡ 4) × Rose old.faults new.faults × (after ≡ before))
-    ⊎ (((number ≡ 5) × (new.faults ≡ old.faults) × Rose before.faults after.faults)
-    ⊎ (((number ≡ 6) × (new.faults ≡ old.faults) × (after.faults ≡ before.faults))
+    ⊎ (((number ≡ 5) × (new.faults ≡ old.faults) × Rose before.faults after.faults × WritesFront old new before after)
+    ⊎ (((number ≡ 6) × (new.faults ≡ old.faults) × (after.faults ≡ before.faults) × ((after ≡ before) ⊎ WritesFront old new before after))
     ⊎ ((number ≡ 11) × (new.faults ≡ old.faults) × (after ≡ before)
     × ((bytes : List ℕ) × Consumes old.left new.left bytes × (268435456 < length bytes)))))))
 
