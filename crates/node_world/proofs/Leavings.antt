@@ -6,7 +6,6 @@ use Rattle.client_session.specs.Serving.{PlainSession, bytes_served, new_session
 use Rattle.script_text.specs.declared.verb.ClientVerb.{ClientVerb}
 use Rattle.script_text.specs.declared.verb.ClientVerb.TheVariants as client_verb
 use Rattle.vb_disk.specs.declared.made.Outcome.{Outcome as Left}
-use Rattle.vb_events.specs.declared.event.Answer.TheVariants as line
 use Rattle.vb_events.specs.declared.event.Cause.{Cause}
 use Rattle.vb_events.specs.declared.event.Cause.TheVariants as cause
 use Rattle.vb_events.specs.declared.event.EndReason.{EndReason}

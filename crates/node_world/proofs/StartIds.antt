@@ -1,6 +1,6 @@
 -- which id each vBucket takes when its node starts
 use Rattle.std.proofs.Common.{◌≡◌, inl, inr, ℕ, Bool, true, false, List, [], ◌∷◌, ◌++◌, append-nil, append_assoc, length, refl, ap, sym, ◌∙◌, subst, Option, Some, None}
-use Rattle.std.specs.Prelude.{◌⊎◌, option_map, if◌then◌else◌}
+use Rattle.std.specs.Prelude.{option_map, if◌then◌else◌}
 use Rattle.disk_journals.specs.Arms.{opens_all}
 use Rattle.disk_journals.specs.Books.{Book}
 use Rattle.vb_calls.specs.declared.calls.VbCall.TheVariants as call
@@ -28,7 +28,7 @@ use Rattle.node_world.specs.CallsMade.{reply_of}
 use Rattle.node_world.specs.Nodes.{done, first_cause, refusal, refused_or}
 use Rattle.node_world.specs.Power.{Starting, burnt_arm, first_no, loaded_node, not_opened, opened_at, opening_told, start_at, start_books, start_causes, start_if, start_one, started_by, starts_from}
 use Rattle.node_world.specs.StartIds.{StartsSo, TakesIds}
-use Rattle.node_world.specs.Worlds.{PlainWorld, Outcome, on_made, with_node_at}
+use Rattle.node_world.specs.Worlds.{PlainWorld, Outcome, on_made}
 use Rattle.node_world.proofs.Unfired.{made_as}
 
 no_ok : (why : Cause) → line.No why ≡ line.Ok → ⊥
