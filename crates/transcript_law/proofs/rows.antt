@@ -18,3 +18,5 @@ pub mod BoundRows
 pub mod KindRows
 pub mod EffectRows
 pub mod RefusalRows
+pub mod FeedingRows
+pub mod TellingRows

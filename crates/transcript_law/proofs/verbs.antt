@@ -33,3 +33,4 @@ pub mod NodeRows
 pub mod Rows
 pub mod VbRows
 pub mod AdminLines
+pub mod Tellings

@@ -2,7 +2,7 @@
 use Rattle.std.specs.Prelude.{ℕ, List, [], ◌∷◌}
 use Rattle.script_text.specs.declared.verb.Verb.{Verb}
 use Rattle.script_text.specs.declared.verb.Verb.TheVariants as verb
-use Rattle.script_text.specs.declared.verb.NodeVerb.TheVariants as node_verb
+use Rattle.script_text.specs.declared.verb.VbVerb.TheVariants as vb_verb
 use Rattle.script_text.specs.declared.verb.ClientVerb.TheVariants as client_verb
 use Rattle.vb_events.specs.declared.event.Answer.TheVariants as answer
 use Rattle.vb_events.specs.declared.event.Cause.{Cause}
@@ -24,9 +24,9 @@ sends c = verb.AtClient 0 c (client_verb.Bytes [])
 abbrev pub hangs : ℕ → Verb
 hangs c = verb.AtClient 0 c client_verb.Hang
 
--- a line that has nothing to do with it
+-- a line that may tell of any connection of its node, and has nothing to do with one by itself
 abbrev pub waits : Verb
-waits = verb.AtNode 0 (node_verb.Clock 5)
+waits = verb.AtVb 0 0 vb_verb.Tick
 
 -- the connection c of the node n closed, and was answered with these bytes
 abbrev pub closes : ℕ → ℕ → Event

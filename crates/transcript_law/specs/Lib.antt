@@ -26,3 +26,6 @@ pub mod BoundRows
 pub mod KindRows
 pub mod Effects
 pub mod RefusalRows
+pub mod Tellings
+pub mod TellingRows
+pub mod FeedingRows

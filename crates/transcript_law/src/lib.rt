@@ -18,6 +18,7 @@ mod kinds;
 mod lawful;
 mod steps;
 mod streams;
+mod tellings;
 mod untold;
 
 pub use alone::{judged_single_changes, judged_single_links, judged_single_streams};
@@ -40,4 +41,5 @@ pub use kinds::{judged_firing_lines, judged_journal_lines, judged_kinds};
 pub use lawful::{groups_are_lawful, lines_are_known, set_lines_ask};
 pub use steps::plain_lines;
 pub use streams::streams_are_links;
+pub use tellings::{judged_fed_links, judged_linked_streams, judged_other_lines, judged_own_lines};
 pub use untold::{judged_mishaps, judged_next_markers, judged_refusals};

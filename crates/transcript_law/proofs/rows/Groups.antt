@@ -1,7 +1,7 @@
 -- the groups of a transcript that is judged by hand: their lines, then their answers, and then what they say of arms
 use Rattle.std.specs.Prelude.{◌≡◌, ◌∷◌, ◌==◌, ◌&&◌}
 use Rattle.transcript_law.proofs.Words.{Bool, true, false, List, [], refl, sym, subst, and_parts, eqb-true, Answer, Cause, Event, ScriptLine, Chronicle, IsAnswered, LawfulGroups, Group}
-use Rattle.transcript_law.specs.{Chronicles.{after_group, ahead}, Firings.{FiresInLine}, Lawfulness.{LinesFrom}, Standing.{IsStanding, TellsIfBegun}}
+use Rattle.transcript_law.specs.{Chronicles.{after_group, ahead}, Firings.{FiresInLine}, Lawfulness.{LinesFrom}, Standing.{IsStanding, TellsIfBegun}, Tellings.{are_all, may_tell as may_tell_of}}
 use Rattle.vb_events.specs.declared.event.Answer.TheVariants as answer
 use Rattle.vb_events.specs.declared.event.Cause.TheVariants as cause
 
@@ -28,7 +28,7 @@ AreFired chronicle [] (group ∷ groups) = ⊥
 AreFired chronicle (line ∷ lines) (group ∷ groups) =
     FiresInLine chronicle line.verb group.events group.answer × AreFired (after_group chronicle line.verb group.events group.answer) lines groups
 
--- whether each has its line's number, and tells of nothing where it was refused before its line was begun
+-- whether each has its line's number, tells of nothing where it was refused before its line was begun, and of nothing else than its line may
 abbrev pub may_tell : List Event → Cause → Bool
 may_tell [] why = true
 may_tell (line ∷ lines) cause.IdsShort = true
@@ -45,7 +45,7 @@ abbrev pub in_order : List ScriptLine → List Group → Bool
 in_order [] [] = true
 in_order (line ∷ lines) [] = false
 in_order [] (group ∷ groups) = false
-in_order (line ∷ lines) (group ∷ groups) = group.line == line.line && (is_answered_so group.events group.answer && in_order lines groups)
+in_order (line ∷ lines) (group ∷ groups) = group.line == line.line && (is_answered_so group.events group.answer && (are_all (may_tell_of line.verb) group.events && in_order lines groups))
 
 tells_so : (lines : List Event) (said : Answer) → is_answered_so lines said ≡ true → TellsIfBegun lines said
 tells_so lines (answer.No c) e why said standing = let same : c ≡ why = cc in by lines c e (subst IsStanding (sym same) standing)
@@ -74,9 +74,10 @@ whole chronicle [] [] o p = tt
 whole chronicle (line ∷ lines) [] o p = absurd p
 whole chronicle [] (group ∷ groups) o p = absurd p
 whole chronicle (line ∷ lines) (group ∷ groups) o p =
-    let one = and_parts (group.line == line.line) (is_answered_so group.events group.answer && in_order lines groups) o in
-    let two = and_parts (is_answered_so group.events group.answer) (in_order lines groups) one.1 in
-    ((p.0.0, p.0.1, p.0.2, eqb-true group.line line.line one.0, tells_so group.events group.answer two.0), whole (after_group chronicle line.verb group.events group.answer) lines groups two.1 p.1)
+    let one = and_parts (group.line == line.line) (is_answered_so group.events group.answer && (are_all (may_tell_of line.verb) group.events && in_order lines groups)) o in
+    let two = and_parts (is_answered_so group.events group.answer) (are_all (may_tell_of line.verb) group.events && in_order lines groups) one.1 in
+    let three = and_parts (are_all (may_tell_of line.verb) group.events) (in_order lines groups) two.1 in
+    ((p.0.0, p.0.1, p.0.2, eqb-true group.line line.line one.0, tells_so group.events group.answer two.0, three.0), whole (after_group chronicle line.verb group.events group.answer) lines groups three.1 p.1)
 
 pub both : (chronicle : Chronicle) (script : List ScriptLine) (told : List Group) → in_order script told ≡ true → AreTold chronicle script told → AreAnswered chronicle script told → AreFired chronicle script told → LawfulGroups chronicle script told
 both chronicle script told o t a f = whole chronicle script told o (parts chronicle script told t a f)

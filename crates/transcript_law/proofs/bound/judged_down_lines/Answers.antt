@@ -32,9 +32,9 @@ returns c = record {
   producer = λ l v. refused_for_one zero_down (verb.Link l 0 1 v) Cause.NodeDown Cause.UnknownNode refl refl refl;
   consumer = λ l v. refused_for_one zero_down (verb.Link l 1 0 v) Cause.NodeDown Cause.UnknownNode refl refl refl;
   start = λ uuids. refused_for_one zero_down (verb.AtNode 1 (node_verb.Start uuids)) Cause.NodeUp Cause.UnknownNode refl refl refl;
-  stops = λ call out. ((tt, tt, refl, refl, λ w no standing. refl), tt);
-  fails = λ call. ((tt, tt, refl, refl, λ w no standing. refl), tt);
-  other = ((tt, tt, refl, refl, λ w no standing. refl), tt);
-  other_link = ((tt, tt, refl, refl, λ w no standing. refl), tt);
-  other_crash = λ out. ((tt, (λ c. refl), refl, refl, λ w no standing. refl), tt);
+  stops = λ call out. ((tt, tt, refl, refl, (λ w no standing. refl), refl), tt);
+  fails = λ call. ((tt, tt, refl, refl, (λ w no standing. refl), refl), tt);
+  other = ((tt, tt, refl, refl, (λ w no standing. refl), refl), tt);
+  other_link = ((tt, tt, refl, refl, (λ w no standing. refl), refl), tt);
+  other_crash = λ out. ((tt, (λ c. refl), refl, refl, (λ w no standing. refl), refl), tt);
 }

@@ -1,0 +1,76 @@
+-- worlds of two nodes, judged by hand
+use Rattle.std.specs.Prelude.{◌≡◌, ◌∷◌, ◌==◌, if◌then◌else◌}
+use Rattle.transcript_law.proofs.Words.{ℕ, Bool, true, false, [], refl, sym, ap, ◌∙◌, subst, inl, eqb-true, arith, Some, None, Role, Plain, PlainLink, PlainNode, link_number, producer_node, consumer_node, vb_in}
+use Rattle.vb_types.specs.declared.stream.StreamAsk.{StreamAsk}
+use Rattle.dcp_producer.specs.Producers.{PlainStream}
+use Rattle.vb_calls.specs.declared.stream.Stream.{Stream}
+use Rattle.transcript_law.specs.Feeding.{IsLinked, IsOf, LinksAreFed, StreamsAreLinks}
+use Rattle.transcript_law.specs.FeedingRows.{GoesOn, down, feeding, has_one, has_streams, streaming, two_nodes, up}
+use Rattle.node_world.specs.Worlds.{is_off, is_up}
+use Rattle.vb_calls.specs.Following.{is_follower}
+use Rattle.vb_calls.specs.State.{new_vb}
+
+module _ (ask : StreamAsk) where
+  abbrev link : PlainLink
+  link = feeding 1 ask
+
+  -- a link that is open is that one
+  only : (producer consumer : PlainNode) (l : ℕ) (x : PlainLink) → IsLinked (two_nodes producer consumer (link ∷ [])) l x → (link ≡ x) × (1 ≡ l)
+  only producer consumer l x is = by (1 == l) refl is
+    where
+      by : (b : Bool) → (1 == l) ≡ b → (if b then Some link else None) ≡ Some x → (link ≡ x) × (1 ≡ l)
+      by true e f = (cc, eqb-true 1 l e)
+      by false e f = cc
+
+  pub fed : LinksAreFed (two_nodes up (has_one Role.Replica) (link ∷ []))
+  fed = record {
+    number = λ l x is. let o = only up (has_one Role.Replica) l x is in subst (λ (y : PlainLink). link_number y ≡ l) o.0 o.1;
+    follows = λ l x is.
+        let o = only up (has_one Role.Replica) l x is in
+        subst (λ (y : PlainLink). (vb : Plain) × (vb_in ((two_nodes up (has_one Role.Replica) (link ∷ [])).nodes (consumer_node y)) y.consumer.dialed.vb ≡ Some vb) × (is_follower vb.role ≡ true)) o.0 (new_vb 1 Role.Replica 5, refl, refl);
+    runs = λ l x is.
+        let o = only up (has_one Role.Replica) l x is in
+        subst (λ (y : PlainLink). (is_up ((two_nodes up (has_one Role.Replica) (link ∷ [])).nodes (consumer_node y)) ≡ true) × (is_off ((two_nodes up (has_one Role.Replica) (link ∷ [])).nodes (producer_node y)) ≡ false)) o.0 (refl, refl);
+    apart = λ l k x y is has e f. sym (only up (has_one Role.Replica) l x is).1 ∙ (only up (has_one Role.Replica) k y has).1;
+  }
+
+  pub producer_down : LinksAreFed (two_nodes down (has_one Role.Replica) (link ∷ [])) → ⊥
+  producer_down f = let e : true ≡ false = (f.runs 1 link refl).1 in cc
+
+  pub consumer_down : LinksAreFed (two_nodes up down (link ∷ [])) → ⊥
+  consumer_down f = let e : false ≡ true = (f.runs 1 link refl).0 in cc
+
+  pub no_vb : LinksAreFed (two_nodes up up (link ∷ [])) → ⊥
+  no_vb f = let x = f.follows 1 link refl in let e : None ≡ Some x.0 = x.1 in cc
+
+  -- the vBucket that is there has this role
+  role_is : (said : Role) → LinksAreFed (two_nodes up (has_one said) (link ∷ [])) → is_follower said ≡ true
+  role_is said f =
+      let x = f.follows 1 link refl in
+      let same : Some (new_vb 1 said 5) ≡ Some x.0 = x.1 in
+      let is : new_vb 1 said 5 ≡ x.0 = cc in ap (λ (vb : Plain). is_follower vb.role) is ∙ x.2
+
+  pub active : LinksAreFed (two_nodes up (has_one Role.Active) (link ∷ [])) → ⊥
+  active f = let e : false ≡ true = role_is Role.Active f in cc
+
+  pub dead : LinksAreFed (two_nodes up (has_one Role.Dead) (link ∷ [])) → ⊥
+  dead f = let e : false ≡ true = role_is Role.Dead f in cc
+
+  pub twice : LinksAreFed (two_nodes up (has_one Role.Replica) (link ∷ feeding 2 ask ∷ [])) → ⊥
+  twice f = let e : ◌≡◌ {A = ℕ} 1 2 = f.apart 1 2 link (feeding 2 ask) refl refl refl refl in omega arith
+
+-- ---- streams
+
+pub unlinked : (s : Stream) → StreamsAreLinks (two_nodes (has_streams (s ∷ [])) up []) → ⊥
+unlinked s f = let x = f.linked 0 0 s.id (inl refl) in let e : None ≡ Some x.1 = x.2 in cc
+
+module _ (ask : StreamAsk) (stream : PlainStream) (on : GoesOn stream) where
+  -- the link has it
+  of_link : (l : ℕ) → IsOf 0 0 9 (streaming l ask stream)
+  of_link l = record { producer = refl; stream = on; under = refl }
+
+  pub unopened : StreamsAreLinks (two_nodes (has_streams []) (has_one Role.Replica) (streaming 1 ask stream ∷ [])) → ⊥
+  unopened f = (f.opened 1 0 0 9 (streaming 1 ask stream) refl (of_link 1)).0
+
+  pub shared : (s : Stream) → StreamsAreLinks (two_nodes (has_streams (s ∷ [])) (has_one Role.Replica) (streaming 1 ask stream ∷ streaming 2 ask stream ∷ [])) → ⊥
+  shared s f = let e : ◌≡◌ {A = ℕ} 1 2 = f.apart 1 2 0 0 9 (streaming 1 ask stream) (streaming 2 ask stream) refl refl (of_link 1) (of_link 2) in omega arith

@@ -1,0 +1,5 @@
+use Rattle.transcript_law.proofs.rows.FeedingRows as rows
+use Rattle.transcript_law.proofs.tellings.judged_linked_streams.Goals as goal
+
+pub returns : goal.returns
+returns c = record { unlinked = rows.unlinked; unopened = rows.unopened; shared = rows.shared }

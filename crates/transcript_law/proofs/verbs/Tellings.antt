@@ -1,0 +1,508 @@
+-- each line of a script tells of nothing else than it may
+use Rattle.std.specs.Prelude.{◌≡◌, ◌∷◌, ◌++◌, ◌==◌, ◌&&◌, ◌||◌, if◌then◌else◌}
+use Rattle.transcript_law.proofs.Words.{ℕ, Bool, true, false, List, [], refl, ap, sym, ◌∙◌, subst, map, flat_map, length, Option, Some, None, is_some, eq-eqb, and_parts, Answer, Cause, Event, EndReason, Role, Verb, VbVerb, NodeVerb, LinkVerb, ClientVerb, AdminCall, AdminTold, PlainLink, PlainNode, PlainWorld, Outcome, Told, VbAnswer, VbCall, VbReply, after, after_job, with_states, row_at, link_number}
+use Rattle.transcript_law.proofs.Words.{admin_call, admin_line, admin_told, branch_lines, bytes_at, call_at, called_at, client_at, clock_at, cut_off, cut_outcome, done, empty_node, first_cause, hang_at, link_causes, new_session, node_causes, no_node, node_outcome, on_node, own_link, promote_causes, refusal, refused_or, replica_causes, role_outcome, turn_causes, turned_after, turned_if, vb_causes, verb_step, with_client, with_dialed, with_ended, with_links, with_node_at, ask_in}
+use Rattle.disk_journals.specs.{Arms.{opens_all}, Books.{Book}}
+use Rattle.node_core.specs.{Calls.{own_lines, own_lines_if}, Admin.{admin_refused, promote_told, role_at, role_noted, role_told}, Dials.{DialTold, acknowledged_line, dial_due, untold}, Flushing.{FlushTold, flush_answered, flush_at, flush_if, flush_told, settled_by, settled_told}, Loading.{are_short, branch_in, start_job, start_told, starts_of}}
+use Rattle.node_world.specs.{Arms.{fail_arm, fired_by, no_arm, placed, stop_arm, under_arm}, Dues.{due_at, due_in, due_of, is_counted}, Links.{dial_of}, Nodes.{all_posted, arm_at, chain_causes, chain_line, chain_made, flush_line, save_line, tick_line, vb_made, with_kept, with_posts}}
+use Rattle.node_world.specs.{Power.{Starting, after_fire, all_numbers, burnt_arm, closed_line, closed_lines, crash_causes, down_lines, dropped, end_line, end_lines, first_no, has_client, is_number, is_touched, loaded_node, not_opened, opened_at, opening_told, start_at, start_causes, start_if, start_one, started_by, starts_from, with_arm}, Turns.{posted_at, posted_in, role_called}, World.{base_of}, Worlds.{arm_in, on_made}}
+use Rattle.node_world.specs.declared.arm.Fired.{Fired}
+use Rattle.node_world.specs.declared.arm.Fired.TheVariants as fired
+use Rattle.transcript_law.proofs.{invariant.LinkRows.{found_is_link}, lines.Calm.{AnyAsk, any_job, due_keeps, either}, lines.ClientLines.{AreOfClients, IsOfClients, bytes_of_clients, posts_of_clients}, verbs.NodeLines.{on_made_by, on_node_by}}
+use Rattle.transcript_law.specs.Tellings.{TellsOf, are_all, at_client, at_link, at_node, at_vb, is_any, is_none, is_of_start}
+use Rattle.vb_calls.proofs.{Conduct.{after_always}, JobConduct.{after_job_always, always_bind_job}}
+use Rattle.vb_calls.specs.Flushes.{appended_job, batch_told, flush_job, part_job, role_job, taken_job, took}
+use Rattle.vb_calls.specs.Jobs.{AlwaysJob, Job, Ended}
+use Rattle.vb_calls.specs.Programs.{AnyCall, AnyReply}
+use Rattle.vb_calls.specs.Shelves.{DiskFailed, Flush, Idle, Out, Stood, WasClosed, Written, Fate}
+use Rattle.vb_calls.specs.declared.calls.Resolved.{Resolved}
+use Rattle.vb_calls.specs.declared.calls.VbAnswer.TheVariants as answer
+use Rattle.vb_calls.specs.declared.journals.Flushed.{Flushed}
+use Rattle.vb_calls.specs.declared.journals.Flushed.TheVariants as flushed
+use Rattle.vb_calls.specs.declared.journals.Wrote.{Wrote}
+use Rattle.vb_types.specs.declared.journal.Batch.{Batch}
+use Rattle.vb_types.specs.declared.journal.FlushPart.{FlushPart}
+use Rattle.vb_types.specs.declared.journal.FlushPart.TheVariants as part
+
+-- ---- lists of lines
+
+same_place : (n v : ℕ) → (n == n && v == v) ≡ true
+same_place n v = λ i. eq-eqb n n refl i && eq-eqb v v refl i
+
+or_left : (a b : Bool) → a ≡ true → (a || b) ≡ true
+or_left a b e = ap (λ x. x || b) e
+
+-- all lines pass a test
+module _ (q : Event → Bool) where
+  abbrev pub Are : List Event → Type 0
+  Are lines = are_all q lines ≡ true
+
+  are_cons : (line : Event) (lines : List Event) → q line ≡ true → Are lines → Are (line ∷ lines)
+  are_cons line lines a b = λ i. a i && b i
+
+  are_more : (xs ys : List Event) → Are xs → Are ys → Are (xs ++ ys)
+  are_more [] ys a b = b
+  are_more (x ∷ xs) ys a b = let p = and_parts (q x) (are_all q xs) a in are_cons x (xs ++ ys) p.0 (are_more xs ys p.1 b)
+
+  are_map : {A : Type 0} (f : A → Event) (xs : List A) → ((x : A) → q (f x) ≡ true) → Are (map f xs)
+  are_map f [] each = refl
+  are_map f (x ∷ xs) each = are_cons (f x) (map f xs) (each x) (are_map f xs each)
+
+  are_each : {A : Type 0} (f : A → List Event) (xs : List A) → ((x : A) → Are (f x)) → Are (flat_map f xs)
+  are_each f [] each = refl
+  are_each f (x ∷ xs) each = are_more (f x) (flat_map f xs) (each x) (are_each f xs each)
+
+  are_clients : ((line : Event) → IsOfClients line → q line ≡ true) → (lines : List Event) → AreOfClients lines → Are lines
+  are_clients each [] c = refl
+  are_clients each (line ∷ lines) c = are_cons line lines (each line c.0) (are_clients each lines c.1)
+
+  are_unless : {A : Type 0} (why : Option Cause) (before : A) (x : A × Told) → Are x.1.events → Are (refused_or why before x).1.events
+  are_unless (Some why) before x a = refl
+  are_unless None before x a = a
+
+  -- a line for a running node
+  are_node : (w : PlainWorld) (n : ℕ) (f : PlainNode → PlainNode × Told) → ((node : PlainNode) → Are (f node).1.events) → Are (on_node w n f).1.events
+  are_node w n f each = on_node_by (λ o. Are o.1.events) w n f refl (λ node known. refl) (λ node known up. each node)
+
+  -- lines of changes
+  are_own : (n v : ℕ) → ((uuid : ℕ) (reply : VbReply) → Are (map (Event.Changed n v uuid) reply.changes)) → (o : Option VbReply) → Are (own_lines_if n v o)
+  are_own n v each None = refl
+  are_own n v each (Some reply) = each reply.branch reply
+
+  -- of a disk
+  pub record OfDisk (n : ℕ) : Type 0 where
+    pub fails : q (Event.CallFailed n) ≡ true
+    pub stops : q (Event.NodeStopped n) ≡ true
+    pub ends : (l : ℕ) (why : EndReason) → q (Event.Ended l why) ≡ true
+    pub closes : (c : ℕ) → q (Event.Closed n c) ≡ true
+
+  are_down : (n : ℕ) (also : Option ℕ) (w : PlainWorld) → ((l : ℕ) → q (Event.Ended l EndReason.Cut) ≡ true) → ((c : ℕ) → q (Event.Closed n c) ≡ true) → Are (down_lines n also w)
+  are_down n also w ends closes = are_more (end_lines n also w.links) (closed_lines n (w.nodes n))
+      (are_each (end_line n also w.links) all_numbers (λ l. either Are (is_number l also || is_touched n (row_at link_number l w.links)) (Event.Ended l EndReason.Cut ∷ []) [] (are_cons (Event.Ended l EndReason.Cut) [] (ends l) refl) refl))
+      (are_each (closed_line n (w.nodes n)) all_numbers (λ c. either Are (has_client c (w.nodes n)) (Event.Closed n c ∷ []) [] (are_cons (Event.Closed n c) [] (closes c) refl) refl))
+
+  are_armed : (n : ℕ) → OfDisk n → (w : PlainWorld) (came : Outcome) → Are came.1.events → Are (with_arm n w came).1.events
+  are_armed n d w came a = by (fired_by (arm_in (w.nodes n)).fuse (arm_in (came.0.nodes n)).fuse)
+    where
+      by : (f : Fired) → Are (after_fire n (arm_in (w.nodes n)).out f came).1.events
+      by fired.No = a
+      by fired.Failed = are_more came.1.events (Event.CallFailed n ∷ []) a (are_cons (Event.CallFailed n) [] d.fails refl)
+      by fired.Stopped = are_more came.1.events (Event.NodeStopped n ∷ down_lines n None came.0) a
+          (are_cons (Event.NodeStopped n) (down_lines n None came.0) d.stops (are_down n None came.0 (λ l. d.ends l EndReason.Cut) d.closes))
+
+  -- what is posted to clients
+  module _ (clients : (line : Event) → IsOfClients line → q line ≡ true) where
+    are_posts : (rs : List Resolved) (node : PlainNode) → Are (all_posted rs node).1
+    are_posts rs node = are_clients clients (all_posted rs node).1 (posts_of_clients rs node)
+
+    are_posted : (told : FlushTold) (node : PlainNode) → Are told.events → Are (with_posts told node).1.events
+    are_posted told node a = are_more told.events (all_posted told.resolved node).1 a (are_posts told.resolved node)
+
+    changes : (n v uuid : ℕ) (reply : VbReply) → Are (map (Event.Changed n v uuid) reply.changes)
+    changes n v uuid reply = are_map (Event.Changed n v uuid) reply.changes (λ c. clients (Event.Changed n v uuid c) tt)
+
+    are_settled : (n v : ℕ) (o : Option VbReply) → Are (settled_told n v o).events
+    are_settled n v None = refl
+    are_settled n v (Some reply) = by reply.answer
+      where
+        by : (a : VbAnswer) → Are (settled_by n v reply a).events
+        by answer.Done = changes n v reply.branch reply
+        by other = refl
+
+    settles : (n v : ℕ) (c : VbCall) (node : PlainNode) → (let x = call_at node.vbs v c (node.vbs v) in Are (with_posts (settled_told n v x.1) (with_states node x.0)).1.events)
+    settles n v c node = let x = call_at node.vbs v c (node.vbs v) in are_posted (settled_told n v x.1) (with_states node x.0) (are_settled n v x.1)
+
+    -- a change of role
+    module _ (n v : ℕ) (branch : (uuid : ℕ) (parent : Option ℕ) (fork high : ℕ) → q (Event.Branch n v uuid parent fork high) ≡ true) (turn : (r : Role) → q (Event.Role n v r) ≡ true) (cuts : (l : ℕ) → q (Event.Ended l EndReason.Cut) ≡ true) where
+      rises : (uuid : ℕ) (o : Option VbReply) → Are (admin_told n v (AdminCall.Promote uuid) o).events
+      rises uuid None = refl
+      rises uuid (Some reply) = by reply.answer
+        where
+          by : (a : VbAnswer) → Are (promote_told n v reply a).events
+          by (answer.Branch u parent fork high) = are_cons (Event.Branch n v u parent fork high) (Event.Role n v Role.Active ∷ own_lines n v reply) (branch u parent fork high) (are_cons (Event.Role n v Role.Active) (own_lines n v reply) (turn Role.Active) (changes n v reply.branch reply))
+          by (answer.Status st) = refl
+          by other = refl
+
+      turned_to : (r : Role) (reply : VbReply) (a : VbAnswer) → Are (role_told n v r reply a).events
+      turned_to r reply answer.Done = are_cons (Event.Role n v r) [] (turn r) refl
+      turned_to r reply other = refl
+
+      follows : (o : Option VbReply) → Are (admin_told n v AdminCall.Follow o).events
+      follows None = refl
+      follows (Some reply) = turned_to Role.Replica reply reply.answer
+
+      dies : (o : Option VbReply) → Are (admin_told n v AdminCall.Dead o).events
+      dies None = refl
+      dies (Some reply) = turned_to Role.Dead reply reply.answer
+
+      module _ (w : PlainWorld) (asked : AdminCall) (call_are : (o : Option VbReply) → Are (admin_told n v asked o).events) where
+        at_once : (node : PlainNode) → Are (after_job (role_at n v asked) node.vbs node.shelves).1.events
+        at_once node = after_job_always AnyCall AnyAsk (λ (told : AdminTold). Are told.events) (role_at n v asked) node.vbs node.shelves
+            (always_bind_job AnyReply AnyCall AnyAsk (λ made. Unit {0}) (λ (told : AdminTold). Are told.events) (role_job v (admin_call asked)) (λ made. Ended (role_noted n v asked made)) (any_job (role_job v (admin_call asked))) (λ made any. call_are made.0))
+
+        are_cut : (o : Option PlainLink) (w1 : PlainWorld) → Are (cut_off o w1).1
+        are_cut None w1 = refl
+        are_cut (Some link) w1 = are_cons (Event.Ended (link_number link) EndReason.Cut) [] (cuts (link_number link)) refl
+
+        posted : (w3 : PlainWorld) (t : Told) (rs : List Resolved) → Are t.events → Are (posted_in n rs (w3, t)).1.events
+        posted w3 t rs a = by (w3.nodes n)
+          where
+            by : (o : Option PlainNode) → Are (posted_at n rs w3 t o).1.events
+            by None = a
+            by (Some node) = are_more t.events (all_posted rs node).1 a (are_posts rs node)
+
+        by_ended : (o : Option (List ℕ)) (w1 : PlainWorld) (told : AdminTold) → Are told.events → Are (turned_if n v w o (w1, told)).1.events
+        by_ended None w1 told a = a
+        by_ended (Some ids) w1 told a =
+            let w2 : PlainWorld = with_ended n v ids w1 in let own = own_link n v w2.links in
+            posted (cut_off own w2).0 (record { events = (cut_off own w2).1 ++ told.events; answer = told.answer }) told.resolved (are_more (cut_off own w2).1 told.events (are_cut own w2) a)
+
+        module _ (called : (node : PlainNode) → Are (called_at n v asked node).1.events) where
+          called_are : (node : PlainNode) → Are (role_called n v asked node).1.events
+          called_are node = by (is_some node.off)
+            where
+              by : (b : Bool) → Are (let x : PlainNode × AdminTold = if b then (node, admin_refused Cause.NodeDown) else under_arm v (called_at n v asked) node in x.1.events)
+              by true = refl
+              by false = called (placed v node)
+
+          roles : Are (role_outcome n v asked w).1.events
+          roles = by (w.nodes n)
+            where
+              by : (o : Option PlainNode) → Are (turned_after n v w (node_outcome w n no_node o (role_called n v asked))).1.events
+              by None = refl
+              by (Some node) = let x = role_called n v asked node in by_ended x.1.ended (with_node_at w n x.0) x.1 (called_are node)
+
+-- any line passes
+pub all_pass : (lines : List Event) → Are is_any lines
+all_pass [] = refl
+all_pass (line ∷ lines) = all_pass lines
+
+-- ---- what is written down
+
+abbrev Steps : (Flushed → Type 0) → Job Flushed → Type 0
+Steps P job = AlwaysJob AnyReply AnyCall AnyAsk P job
+
+flush_steps : (P : FlushTold → Type 0) (Q : Flushed → Type 0) (n v : ℕ) (p : FlushPart) (node : PlainNode) → P (flush_answered (Answer.No Cause.UnknownVb)) → ((came : Flushed) → Q came → P (flush_told n v came))
+    → ((flush : Flush) → Steps Q (part_job v p flush)) → P (after_job (flush_at n v p) node.vbs node.shelves).1
+unfolding flush_job
+flush_steps P Q n v p node none some steps = after_job_always AnyCall AnyAsk P (flush_at n v p) node.vbs node.shelves (tt, λ reply any. by (is_some reply))
+  where
+    by : (b : Bool) → AlwaysJob AnyReply AnyCall AnyAsk P (flush_if n v p b)
+    by true = always_bind_job AnyReply AnyCall AnyAsk Q P (flush_job v p) (λ came. Ended (flush_told n v came)) (tt, steps) some
+    by false = none
+
+-- a take comes to a batch, or to none that is free
+abbrev TakesSo : Flushed → Type 0
+TakesSo (flushed.Took ss se at count) = Unit {0}
+TakesSo flushed.BatchOut = Unit {0}
+TakesSo other = ⊥
+
+take_steps : (v : ℕ) (flush : Flush) → Steps TakesSo (part_job v part.Take flush)
+take_steps v Idle = (tt, λ reply any. by (batch_told reply))
+  where
+    by : (o : Option Batch) → Steps TakesSo (taken_job v (λ batch. Ended (took batch)) o)
+    by None = tt
+    by (Some batch) = (tt, λ kept. tt)
+take_steps v (Out batch) = tt
+take_steps v (Written seq) = tt
+
+-- a save tells of nothing itself
+abbrev SavesSo : Flushed → Type 0
+SavesSo flushed.Saved = Unit {0}
+SavesSo flushed.NothingTaken = Unit {0}
+SavesSo flushed.Closed = Unit {0}
+SavesSo flushed.DiskFailed = Unit {0}
+SavesSo other = ⊥
+
+save_steps : (v : ℕ) (flush : Flush) → Steps SavesSo (part_job v part.Save flush)
+save_steps v Idle = tt
+save_steps v (Out batch) = (tt, by)
+  where
+    by : (fate : Fate) → Steps SavesSo (appended_job v batch (Ended flushed.Saved) fate)
+    by Stood = (tt, λ kept. tt)
+    by WasClosed = (tt, λ kept. tt)
+    by DiskFailed = (tt, λ kept. tt)
+save_steps v (Written seq) = tt
+
+-- a `done` comes to a batch that stands, or to none
+abbrev EndsSo : Flushed → Type 0
+EndsSo (flushed.Done reply) = Unit {0}
+EndsSo flushed.NothingTaken = Unit {0}
+EndsSo other = ⊥
+
+done_steps : (v : ℕ) (flush : Flush) → Steps EndsSo (part_job v part.Done flush)
+done_steps v Idle = tt
+done_steps v (Out batch) = tt
+done_steps v (Written seq) = (tt, λ kept. (tt, λ reply any. tt))
+
+-- nothing is posted where nothing was settled
+unposted : (q : Event → Bool) (told : FlushTold) (node : PlainNode) → Are q told.events → told.resolved ≡ [] → Are q (with_posts told node).1.events
+unposted q told node a none = are_more q told.events (all_posted told.resolved node).1 a (subst (λ rs. Are q (all_posted rs node).1) (sym none) refl)
+
+abbrev Alone : (Event → Bool) → FlushTold → Type 0
+Alone q told = Are q told.events × (told.resolved ≡ [])
+
+-- ---- lines for a node
+
+starts_so : (n : ℕ) (branch : (v uuid : ℕ) (parent : Option ℕ) (fork high : ℕ) → is_of_start n (Event.Branch n v uuid parent fork high) ≡ true) → (v uuid : ℕ) (node : PlainNode) → Are (is_of_start n) (after_job (start_job n v uuid) node.vbs node.shelves).1.events
+starts_so n branch v uuid node = after_job_always AnyCall AnyAsk (λ (told : FlushTold). Are q told.events) (start_job n v uuid) node.vbs node.shelves
+    (always_bind_job AnyReply AnyCall AnyAsk (λ made. Unit {0}) (λ (told : FlushTold). Are q told.events) (role_job v (VbCall.Promote uuid)) (λ made. Ended (start_told n v made)) (any_job (role_job v (VbCall.Promote uuid))) (λ made any. by made.0 made.1))
+  where
+    q : Event → Bool
+    q = is_of_start n
+
+    in_answer : (a : VbAnswer) → Are q (branch_in n v a)
+    in_answer (answer.Branch u parent fork high) = are_cons q (Event.Branch n v u parent fork high) [] (branch v u parent fork high) refl
+    in_answer other = refl
+
+    by : (o : Option VbReply) (wrote : Wrote) → Are q (start_told n v (o, wrote)).events
+    by None wrote = refl
+    by (Some reply) wrote = are_more q (branch_in n v reply.answer) (own_lines n v reply) (in_answer reply.answer) (are_map q (Event.Changed n v reply.branch) reply.changes (λ c. eq-eqb n n refl))
+
+module _ (n : ℕ) where
+  abbrev q : Event → Bool
+  q = is_of_start n
+
+  starts_are : (starts : List (ℕ × ℕ)) (so_far : Starting) → Are q so_far.1.events → Are q (starts_from n starts so_far).1.events
+  starts_are [] so_far a = a
+  starts_are (start ∷ starts) so_far a = by (fired_by so_far.0.arm.fuse (start_one n start so_far.0).0.arm.fuse) (starts_are starts)
+    where
+      one : FlushTold
+      one = (start_one n start so_far.0).1
+
+      more : Are q (so_far.1.events ++ one.events)
+      more = are_more q so_far.1.events one.events a (starts_so n (λ v uuid parent fork high. eq-eqb n n refl) start.0 start.1 (placed start.0 so_far.0))
+
+      behind : (line : Event) → q line ≡ true → Are q (so_far.1.events ++ one.events ++ line ∷ [])
+      behind line e = are_more q (so_far.1.events ++ one.events) (line ∷ []) more (are_cons q line [] e refl)
+
+      by : (f : Fired) → ((x : Starting) → Are q x.1.events → Are q (starts_from n starts x).1.events)
+          → Are q (started_by n so_far.0.arm f (start_one n start so_far.0).1 so_far.1 (start_one n start so_far.0).0 (starts_from n starts)).1.events
+      by fired.No later = later ((start_one n start so_far.0).0, record { events = so_far.1.events ++ one.events; answer = first_no so_far.1.answer one.answer }) more
+      by fired.Failed later = later ((start_one n start so_far.0).0, record { events = so_far.1.events ++ one.events ++ Event.CallFailed n ∷ []; answer = first_no so_far.1.answer one.answer }) (behind (Event.CallFailed n) (eq-eqb n n refl))
+      by fired.Stopped later = behind (Event.NodeStopped n) (eq-eqb n n refl)
+
+  start_are : (uuids : List ℕ) (node : PlainNode) → Are q (start_at n uuids node).1.events
+  start_are uuids node = by node.off
+    where
+      opening : (f : Fired) → Are q (opening_told n f).events
+      opening fired.No = refl
+      opening fired.Failed = are_cons q (Event.CallFailed n) [] (eq-eqb n n refl) refl
+      opening fired.Stopped = are_cons q (Event.NodeStopped n) [] (eq-eqb n n refl) refl
+
+      shorts : (books : List Book) (b : Bool)
+          → (let x : PlainNode × Told = if b then (record node { arm = burnt_arm (length books) node.arm }, refusal Cause.IdsShort) else starts_from n (starts_of books uuids) (loaded_node n books (burnt_arm (length books) node.arm), done []) in Are q x.1.events)
+      shorts books true = refl
+      shorts books false = starts_are (starts_of books uuids) (loaded_node n books (burnt_arm (length books) node.arm), done []) refl
+
+      opens : (books : List Book) (b : Bool) → (let x : PlainNode × Told = if b then opened_at n uuids books node else not_opened n node in Are q x.1.events)
+      opens books true = shorts books (are_short books uuids)
+      opens books false = opening (fired_by node.arm.fuse no_arm.fuse)
+
+      by : (o : Option (List Book)) → Are q (start_if n uuids node o).1.events
+      by None = refl
+      by (Some books) = opens books (opens_all node.arm.fuse (length books))
+
+node_tells : (w : PlainWorld) (number n : ℕ) (what : NodeVerb) → Are (at_node n what) (verb_step w number (Verb.AtNode n what)).1.events
+node_tells w number n (NodeVerb.Clock nanos) = are_node is_none w n (clock_at nanos) (λ node. refl)
+node_tells w number n (NodeVerb.Stop call out) = on_made_by (λ o. Are is_none o.1.events) w n (arm_at (stop_arm call out)) refl (λ node known. refl)
+node_tells w number n (NodeVerb.Fail call) = on_made_by (λ o. Are is_none o.1.events) w n (arm_at (fail_arm call)) refl (λ node known. refl)
+node_tells w number n (NodeVerb.Crash out) = let q = at_node n (NodeVerb.Crash out) in are_unless q (first_cause (crash_causes w n)) w (dropped n out w, done (down_lines n None w)) (are_down q n None w (λ l. refl) (λ c. eq-eqb n n refl))
+node_tells w number n (NodeVerb.Start uuids) = let q = at_node n (NodeVerb.Start uuids) in are_unless q (first_cause (start_causes w n uuids)) w (on_made w n (start_at n uuids))
+    (on_made_by (λ o. Are q o.1.events) w n (start_at n uuids) refl (λ node known. start_are n uuids node))
+
+-- ---- lines for a vBucket
+
+module _ (w : PlainWorld) (number n v : ℕ) where
+  abbrev Tells : VbVerb → Type 0
+  Tells what = Are (at_vb n v what) (verb_step w number (Verb.AtVb n v what)).1.events
+
+  -- one that makes it
+  makes : (q : Event → Bool) → OfDisk q n → ((r : Role) (uuid : ℕ) → Are q (branch_lines n v r uuid)) → (r : Role) (uuid : ℕ) (rows : PlainNode → List (Bool × Cause)) → Are q (with_arm n w (on_node w n (λ node. refused_or (first_cause (rows node)) node (vb_made n v r uuid node)))).1.events
+  makes q d lines r uuid rows = are_armed q n d w (on_node w n (λ node. refused_or (first_cause (rows node)) node (vb_made n v r uuid node))) (are_node q w n (λ node. refused_or (first_cause (rows node)) node (vb_made n v r uuid node)) (λ node. are_unless q (first_cause (rows node)) node (vb_made n v r uuid node) (lines r uuid)))
+
+  -- a table of tests that has these
+  module _ (what : VbVerb) where
+    abbrev t : Event → Bool
+    t = at_vb n v what
+
+    branch_are : ((r : Role) → t (Event.Role n v r) ≡ true) → ((uuid : ℕ) → t (Event.Branch n v uuid None 0 0) ≡ true) → (r : Role) (uuid : ℕ) → Are t (branch_lines n v r uuid)
+    branch_are turn branch Role.Active uuid = are_cons t (Event.Branch n v uuid None 0 0) (Event.Role n v Role.Active ∷ []) (branch uuid) (are_cons t (Event.Role n v Role.Active) [] (turn Role.Active) refl)
+    branch_are turn branch other uuid = are_cons t (Event.Role n v other) [] (turn other) refl
+
+  clients_only : (line : Event) → IsOfClients line → at_vb n v VbVerb.Tick line ≡ true
+  clients_only (Event.Changed m u uuid change) c = refl
+  clients_only (Event.Reply m k bytes) c = refl
+  clients_only (Event.Closed m k) c = refl
+  clients_only other c = absurd c
+
+  clients_done : (line : Event) → IsOfClients line → at_vb n v VbVerb.Done line ≡ true
+  clients_done (Event.Changed m u uuid change) c = refl
+  clients_done (Event.Reply m k bytes) c = refl
+  clients_done (Event.Closed m k) c = refl
+  clients_done other c = absurd c
+
+  -- each change of role has one table
+  abbrev turns : Event → Bool
+  turns = at_vb n v VbVerb.Follow
+
+  clients_turn : (line : Event) → IsOfClients line → turns line ≡ true
+  clients_turn (Event.Changed m u uuid change) c = refl
+  clients_turn (Event.Reply m k bytes) c = refl
+  clients_turn (Event.Closed m k) c = refl
+  clients_turn other c = absurd c
+
+  turn_disk : OfDisk turns n
+  turn_disk = record { fails = eq-eqb n n refl; stops = eq-eqb n n refl; ends = λ l why. refl; closes = λ c. refl }
+
+  made_disk : OfDisk (at_vb n v VbVerb.MakeReplica) n
+  made_disk = record { fails = eq-eqb n n refl; stops = eq-eqb n n refl; ends = λ l why. refl; closes = λ c. eq-eqb n n refl }
+
+  save_disk : OfDisk (at_vb n v VbVerb.Save) n
+  save_disk = record { fails = eq-eqb n n refl; stops = eq-eqb n n refl; ends = λ l why. refl; closes = λ c. eq-eqb n n refl }
+
+  turn_branch : (uuid : ℕ) (parent : Option ℕ) (fork high : ℕ) → turns (Event.Branch n v uuid parent fork high) ≡ true
+  turn_branch uuid parent fork high = λ i. same_place n v i || false || false
+
+  turn_role : (r : Role) → turns (Event.Role n v r) ≡ true
+  turn_role r = λ i. same_place n v i || false || false
+
+  role_tells : (why : Option Cause) (asked : AdminCall) → ((o : Option VbReply) → Are turns (admin_told n v asked o).events) → ((node : PlainNode) → Are turns (called_at n v asked node).1.events)
+      → Are turns (with_arm n w (refused_or why w (role_outcome n v asked w))).1.events
+  role_tells why asked call_are called =
+      are_armed turns n turn_disk w (refused_or why w (role_outcome n v asked w))
+      (are_unless turns why w (role_outcome n v asked w) (roles turns clients_turn n v turn_branch turn_role (λ l. refl) w asked call_are called))
+
+  call_so : (asked : AdminCall) → ((o : Option VbReply) → Are turns (admin_told n v asked o).events) → (node : PlainNode) → Are turns (after_job (role_at n v asked) node.vbs node.shelves).1.events
+  call_so asked call_are node = at_once turns clients_turn n v turn_branch turn_role (λ l. refl) w asked call_are node
+
+  -- an operator's call that keeps the role
+  seal_so : (o : Option VbReply) → Are is_none (admin_told n v AdminCall.Seal o).events
+  seal_so None = refl
+  seal_so (Some reply) = by reply.answer
+    where
+      by : (a : VbAnswer) → Are is_none (admin_told n v AdminCall.Seal (Some (record reply { answer = a }))).events
+      by (answer.Flag sealed) = refl
+      by other = refl
+
+  stat_so : (o : Option VbReply) → Are (at_vb n v VbVerb.Stat) (admin_told n v AdminCall.Stat o).events
+  stat_so None = refl
+  stat_so (Some reply) = by reply.answer
+    where
+      by : (a : VbAnswer) → Are (at_vb n v VbVerb.Stat) (admin_told n v AdminCall.Stat (Some (record reply { answer = a }))).events
+      by (answer.Stat windows items cursors saved high) = are_cons (at_vb n v VbVerb.Stat) (Event.Stat n v windows items cursors saved high) [] (same_place n v) refl
+      by other = refl
+
+  log_so : (o : Option VbReply) → Are (at_vb n v VbVerb.Log) (admin_told n v AdminCall.Log o).events
+  log_so None = refl
+  log_so (Some reply) = by reply.answer
+    where
+      by : (a : VbAnswer) → Are (at_vb n v VbVerb.Log) (admin_told n v AdminCall.Log (Some (record reply { answer = a }))).events
+      by (answer.Logged log) = are_cons (at_vb n v VbVerb.Log) (Event.Logged n v log) [] (same_place n v) refl
+      by other = refl
+
+  -- a step of writing down
+  take_so : (node : PlainNode) → Are (at_vb n v VbVerb.Take) (flush_line n v part.Take node).1.events
+  take_so node =
+      let q = at_vb n v VbVerb.Take in let y = after_job (flush_at n v part.Take) node.vbs node.shelves in
+      let a : Alone q y.1 = flush_steps (Alone q) TakesSo n v part.Take node (refl, refl) by (take_steps v) in unposted q y.1 (with_kept node y.0) a.0 a.1
+    where
+      by : (came : Flushed) → TakesSo came → Alone (at_vb n v VbVerb.Take) (flush_told n v came)
+      by (flushed.Took ss se at count) s = (either (Are (at_vb n v VbVerb.Take)) (count == 0) [] (Event.Batch n v ss se at count ∷ []) refl (are_cons (at_vb n v VbVerb.Take) (Event.Batch n v ss se at count) [] (same_place n v) refl), refl)
+      by flushed.BatchOut s = (refl, refl)
+      by other s = absurd s
+
+  save_so : (node : PlainNode) → Are (at_vb n v VbVerb.Save) (save_line n v node).1.events
+  save_so node =
+      let q = at_vb n v VbVerb.Save in let at : PlainNode = placed v node in let y = after_job (flush_at n v part.Save) at.vbs at.shelves in
+      let a : Alone q y.1 = flush_steps (Alone q) SavesSo n v part.Save at (refl, refl) by (save_steps v) in unposted q y.1 (with_kept at y.0) a.0 a.1
+    where
+      by : (came : Flushed) → SavesSo came → Alone (at_vb n v VbVerb.Save) (flush_told n v came)
+      by flushed.Saved s = (refl, refl)
+      by flushed.NothingTaken s = (refl, refl)
+      by flushed.Closed s = (refl, refl)
+      by flushed.DiskFailed s = (refl, refl)
+      by other s = absurd s
+
+  done_so : (node : PlainNode) → Are (at_vb n v VbVerb.Done) (flush_line n v part.Done node).1.events
+  done_so node =
+      let q = at_vb n v VbVerb.Done in let y = after_job (flush_at n v part.Done) node.vbs node.shelves in
+      are_posted q clients_done y.1 (with_kept node y.0) (flush_steps (λ told. Are q told.events) EndsSo n v part.Done node refl by (done_steps v))
+    where
+      by : (came : Flushed) → EndsSo came → Are (at_vb n v VbVerb.Done) (flush_told n v came).events
+      by (flushed.Done reply) s = are_own (at_vb n v VbVerb.Done) n v (λ uuid reply. changes (at_vb n v VbVerb.Done) clients_done n v uuid reply) reply
+      by flushed.NothingTaken s = refl
+      by other s = absurd s
+
+  due_so : (came : Outcome) → Are (at_vb n v VbVerb.Done) came.1.events → Are (at_vb n v VbVerb.Done) (due_in n v came).1.events
+  due_so came a = by (is_counted came.1.answer)
+    where
+      q : Event → Bool
+      q = at_vb n v VbVerb.Done
+
+      acks : (link : PlainLink) (node : PlainNode) → Are q (after (dial_due (dial_of link)) node.vbs).1.events
+      acks link node = after_always AnyCall (λ (t : DialTold). Are q t.events) (dial_due (dial_of link)) node.vbs
+          (due_keeps (Are q) (λ lines d seq saved b. are_more q lines (acknowledged_line d seq saved ∷ []) b refl) (untold (dial_of link)) refl)
+
+      at : (link : PlainLink) (o : Option PlainNode) → Are q (due_at n link came.0 came.1 o).1.events
+      at link None = a
+      at link (Some node) = are_more q came.1.events (after (dial_due (dial_of link)) node.vbs).1.events a (acks link node)
+
+      of : (o : Option PlainLink) → Are q (due_of n came.0 came.1 o).1.events
+      of None = a
+      of (Some link) = at link (came.0.nodes n)
+
+      by : (b : Bool) → Are q (let x : Outcome = if b then due_of n came.0 came.1 (own_link n v came.0.links) else came in x.1.events)
+      by true = of (own_link n v came.0.links)
+      by false = a
+
+  vb_tells : (what : VbVerb) → Tells what
+  vb_tells (VbVerb.MakeActive uuid) = makes (at_vb n v VbVerb.MakeReplica) made_disk (branch_are VbVerb.MakeReplica (λ r. or_left (n == n && v == v) false (same_place n v)) (λ u. or_left (n == n && v == v) false (same_place n v))) Role.Active uuid (λ node. vb_causes w.uuids node v uuid)
+  vb_tells VbVerb.MakeReplica = makes (at_vb n v VbVerb.MakeReplica) made_disk (branch_are VbVerb.MakeReplica (λ r. or_left (n == n && v == v) false (same_place n v)) (λ u. or_left (n == n && v == v) false (same_place n v))) Role.Replica 0 (λ node. replica_causes node v)
+  vb_tells (VbVerb.Chain others) = are_node (at_vb n v VbVerb.Tick) w n (chain_line n v others) (λ node. are_unless (at_vb n v VbVerb.Tick) (first_cause (chain_causes n v others node)) node (chain_made n v others node) (settles (at_vb n v VbVerb.Tick) clients_only n v (VbCall.Chain (record { active = n; others = others })) node))
+  vb_tells (VbVerb.Promote uuid) = let call = rises turns clients_turn n v turn_branch turn_role (λ l. refl) uuid in role_tells (first_cause (promote_causes w n v uuid)) (AdminCall.Promote uuid) call (call_so (AdminCall.Promote uuid) call)
+  vb_tells VbVerb.Follow = let call = follows turns clients_turn n v turn_branch turn_role (λ l. refl) in role_tells (first_cause (turn_causes w n v Role.Replica)) AdminCall.Follow call (call_so AdminCall.Follow call)
+  vb_tells VbVerb.Dead = let call = dies turns clients_turn n v turn_branch turn_role (λ l. refl) in role_tells (first_cause (turn_causes w n v Role.Dead)) AdminCall.Dead call (call_so AdminCall.Dead call)
+  vb_tells VbVerb.Tick = are_node (at_vb n v VbVerb.Tick) w n (tick_line n v) (λ node. settles (at_vb n v VbVerb.Tick) clients_only n v (VbCall.Tick node.clock) node)
+  vb_tells VbVerb.Seal = are_node is_none w n (admin_line n v AdminCall.Seal) (λ node. seal_so (call_at node.vbs v VbCall.Seal (node.vbs v)).1)
+  vb_tells VbVerb.Take = are_node (at_vb n v VbVerb.Take) w n (flush_line n v part.Take) take_so
+  vb_tells VbVerb.Save = are_armed (at_vb n v VbVerb.Save) n save_disk w (on_node w n (save_line n v)) (are_node (at_vb n v VbVerb.Save) w n (save_line n v) save_so)
+  vb_tells VbVerb.Done = due_so (on_node w n (flush_line n v part.Done)) (are_node (at_vb n v VbVerb.Done) w n (flush_line n v part.Done) done_so)
+  vb_tells VbVerb.Stat = are_node (at_vb n v VbVerb.Stat) w n (admin_line n v AdminCall.Stat) (λ node. stat_so (call_at node.vbs v VbCall.Stat (node.vbs v)).1)
+  vb_tells VbVerb.Log = are_node (at_vb n v VbVerb.Log) w n (admin_line n v AdminCall.Log) (λ node. log_so (call_at node.vbs v VbCall.Log (node.vbs v)).1)
+  vb_tells VbVerb.Show = all_pass (verb_step w number (Verb.AtVb n v VbVerb.Show)).1.events
+
+-- ---- lines for a client or a link
+
+client_tells : (w : PlainWorld) (number n c : ℕ) (what : ClientVerb) → Are (at_client what) (verb_step w number (Verb.AtClient n c what)).1.events
+client_tells w number n c ClientVerb.Open = are_node is_none w n (client_at n (base_of number) c) (λ node.
+    elim (is_some (node.clients c)) as (λ b. let x : PlainNode × Told = if b then (node, refusal Cause.LinkOpen) else (with_client node c (Some (new_session (record { node = n; client = c; base = base_of number }))), done []) in Are is_none x.1.events) [ true ↦ refl | false ↦ refl ])
+client_tells w number n c (ClientVerb.Bytes bytes) = are_node (at_client (ClientVerb.Bytes bytes)) w n (bytes_at c bytes) (λ node. are_clients (at_client (ClientVerb.Bytes bytes)) by (bytes_at c bytes node).1.events (bytes_of_clients c bytes node))
+  where
+    by : (line : Event) → IsOfClients line → at_client (ClientVerb.Bytes bytes) line ≡ true
+    by (Event.Changed m u uuid change) o = refl
+    by (Event.Reply m k sent) o = refl
+    by (Event.Closed m k) o = refl
+    by other o = absurd o
+client_tells w number n c ClientVerb.Hang = are_node is_none w n (hang_at c) (λ node.
+    elim (is_some (node.clients c)) as (λ b. let x : PlainNode × Told = if b then (with_client node c None, done []) else (node, refusal Cause.LinkClosed) in Are is_none x.1.events) [ true ↦ refl | false ↦ refl ])
+
+link_tells : (w : PlainWorld) (number l : ℕ) (what : LinkVerb) → Are (at_link l what) (verb_step w number (Verb.AtLink l what)).1.events
+link_tells w number l LinkVerb.Cut = by (row_at link_number l w.links) refl
+  where
+    by : (o : Option PlainLink) → row_at link_number l w.links ≡ o → Are (at_link l LinkVerb.Cut) (cut_outcome w o).1.events
+    by None e = refl
+    by (Some link) e = are_cons (at_link l LinkVerb.Cut) (Event.Ended (link_number link) EndReason.Cut) [] (eq-eqb (link_number link) l (found_is_link l w.links link e).1) refl
+link_tells w number l (LinkVerb.Up wanted) = all_pass (verb_step w number (Verb.AtLink l (LinkVerb.Up wanted))).1.events
+link_tells w number l (LinkVerb.Down wanted) = all_pass (verb_step w number (Verb.AtLink l (LinkVerb.Down wanted))).1.events
+link_tells w number l (LinkVerb.Pump frames) = all_pass (verb_step w number (Verb.AtLink l (LinkVerb.Pump frames))).1.events
+
+-- ---- each line
+
+pub verb_tells : (w : PlainWorld) (number : ℕ) (line : Verb) → TellsOf line (verb_step w number line).1.events
+verb_tells w number (Verb.Node n) = are_unless is_none (first_cause (node_causes w n)) w (with_node_at w n empty_node, done []) refl
+verb_tells w number (Verb.Link l m n v) = are_unless is_none (first_cause (link_causes w l m n v)) w (with_links w (with_dialed number l m n v w.links (ask_in w n v)), done []) refl
+verb_tells w number (Verb.AtNode n what) = node_tells w number n what
+verb_tells w number (Verb.AtVb n v what) = vb_tells w number n v what
+verb_tells w number (Verb.AtClient n c what) = client_tells w number n c what
+verb_tells w number (Verb.AtLink l what) = link_tells w number l what
