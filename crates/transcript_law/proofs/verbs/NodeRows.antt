@@ -9,8 +9,8 @@ use Rattle.transcript_law.proofs.invariant.Ranged.{IsRanged, NodeRangedIf, bytes
 use Rattle.transcript_law.proofs.{invariant.Clients.{client_answered, crash_answered}, disks.AppendLines.{start_says}, disks.Fired.{ends_calm}, lines.Calm.{Spared, bytes_calm, pump_calm, up_calm}, lines.Refusals.{Same, Says, on_link_says, on_node_says, refused_says, unchanged}, links.PumpAnswers.{moved_few, pump_says}}
 use Rattle.transcript_law.proofs.verbs.{BoundAnswers.{bound, bound_at, bound_down, closed_link, crash_refused, link_refused, node_exists, off_is, one, over, start_refused}, FiredLines.{down_fires, rows_fire}, LineAnswers.{IsOk, down_line_says, no_ok}}
 use Rattle.transcript_law.proofs.verbs.{ArmLines.{fail_goes, stop_goes}, Crashing.{crash_goes}, Dials.{link_goes}, DownLine.{down_answered, down_goes}, Leaving.{cut_goes}, NodeLines.{client_goes, clock_goes, hang_goes, node_goes, on_link_by, on_made_by, on_node_goes}}
-use Rattle.transcript_law.proofs.verbs.{Pumping.{pump_goes}, Requesting.{bytes_goes}, Rows.{Goes, Row, alone_row, answered_row, told_goes}, Settling.{steady}, Starting.{start_answered, start_fires, start_goes}, Ups.{up_goes}}
-use Rattle.transcript_law.specs.{Bound.{is_told_down}, Chronicles.{fail_told, stop_told}, Firings.{FiresInLine}}
+use Rattle.transcript_law.proofs.verbs.{Pumping.{pump_goes}, Requesting.{bytes_goes}, Rows.{Goes, Row, alone_row, answered_row, told_goes}, Settling.{steady}, Starting.{start_answered, start_fires, start_goes}, Tellings.{all_pass, are_unless, bytes_tells, crash_tells, cut_tells, start_tells}, Ups.{up_goes}}
+use Rattle.transcript_law.specs.{Bound.{is_told_down}, Chronicles.{fail_told, stop_told}, Firings.{FiresInLine}, Tellings.{TellsOf, is_none}}
 use Rattle.vbucket.specs.Laws.{IsTimely}
 
 -- ---- nodes
@@ -23,6 +23,7 @@ node_row w n =
       rests = λ r here a all. weaker (node_step w n).0 (unless_all Still IsTimely still_steps (λ id. tt) w x why all (still_put w n empty_node all (none_at Still IsTimely still_steps (λ id. tt))));
       fed = λ fine. unless_fed w x why fine.fed (fed_node w n empty_node fine.fed (λ v id h. absurd h));
       keeps = λ rests. says.1;
+      tells = are_unless is_none why w x refl;
       told = λ r fits t. (says.0, rows_fire (node_causes w n) w x (tt, tt) refl);
       entered = λ before r old. old;
       bound = λ r a rule. bound (is_told_down r n) Cause.NodeExists [] _ told rule (λ e. one Cause.NodeExists told (node_exists w (w.nodes n) x (sym (off_is w r a n) ∙ e)));
@@ -42,6 +43,7 @@ arm_row w n what arm bound told entered goes =
       fed = λ fine. (made_fine w n f fine none_less).fed;
       keeps = λ rests. says.1;
       bound = λ r a rule. bound r rule;
+      tells = on_made_by (λ o. TellsOf (Verb.AtNode n what) o.1.events) w n f refl (λ node known. refl);
       told = λ r fits t. told r (says.0, on_made_by (λ o. Spared o.1) w n f refl (λ node known. refl));
       entered = λ before r old. entered before r came.1.answer old;
       goes = λ r fits ranged a. told_goes (Verb.AtNode n what) r came (goes r a);
@@ -49,7 +51,7 @@ arm_row w n what arm bound told entered goes =
 
 pub node_row_of : (w : PlainWorld) (n : ℕ) (what : NodeVerb) → Row w (Verb.AtNode n what) (node_verb_step w n what)
 node_row_of w n (NodeVerb.Clock nanos) = alone_row w (Verb.AtNode n (NodeVerb.Clock nanos)) n (clock_at nanos) (λ r. (refl, λ told s. s)) (λ before r lines said old. old)
-    (λ fits node r. record { clock = fits.1; clients = r.clients }) (λ node here there. there) none_less (λ node. refl) (λ r told. on_node_says IsOk w n (clock_at nanos) no_ok (λ node known. (tt, λ why e s. cc)))
+    (λ fits node r. record { clock = fits.1; clients = r.clients }) (λ node here there. there) none_less (λ node. refl) (λ node. refl) (λ r told. on_node_says IsOk w n (clock_at nanos) no_ok (λ node known. (tt, λ why e s. cc)))
     (λ r fits ranged a. on_node_goes w r n (clock_at nanos) a (λ node e up. clock_goes w r n nanos node a e))
 node_row_of w n (NodeVerb.Stop k out) = arm_row w n (NodeVerb.Stop k out) (stop_arm k out) (λ r rule. rule) (λ r said. said) (λ before r said old. armed_entered r n (stop_told k out) said old) (λ r a. stop_goes w r n k out a)
 node_row_of w n (NodeVerb.Fail k) = arm_row w n (NodeVerb.Fail k) (fail_arm k) (λ r rule. rule) (λ r said. said) (λ before r said old. armed_entered r n (fail_told k) said old) (λ r a. fail_goes w r n k a)
@@ -60,6 +62,7 @@ node_row_of w n (NodeVerb.Crash out) =
       rests = λ r here a all. weaker came.0 (unless_all Still IsTimely still_steps (λ id. tt) w x why all (dropped_all Still IsTimely still_steps (λ id. tt) n out w all));
       fed = λ fine. unless_fed w x why fine.fed (dropped_fine n out w fine).fed;
       keeps = λ rests. says.1;
+      tells = crash_tells w n out;
       told = λ r fits t. (crash_answered r.conn_at w 0 t.conns n out, rows_fire (crash_causes w n) w x (tt, (tt, tt)) (ends_calm n None w));
       bound = λ r a rule. bound_at w r a n _ came.1 rule (crash_refused w n (w.nodes n) x);
       entered = λ before r old. crashed_entered r n out came.1.answer old;
@@ -71,6 +74,7 @@ node_row_of w n (NodeVerb.Start uuids) = let x : Outcome = on_made w n (start_at
   fed = λ fine. unless_fed w x why fine.fed (made_fine w n (start_at n uuids) fine (start_less n uuids)).fed;
   keeps = λ rests. (start_says w n uuids).1;
   bound = λ r a rule. bound_down (is_told_down r n) Cause.NodeUp (Cause.UnknownNode ∷ []) _ told rule (λ e. start_refused w (w.nodes n) (drop 2 (start_causes w n uuids)) x (sym (off_is w r a n) ∙ e));
+  tells = start_tells w n uuids;
   told = λ r fits t. (start_answered steady w r n uuids fits.1.1 t.agrees, start_fires steady w r n uuids fits.1.1 t.agrees);
   entered = λ before r old. start_line_entered r n told.events told.answer old;
   goes = λ r fits ranged a. start_goes steady w r n uuids fits.1.1 a;
@@ -85,12 +89,13 @@ client_row_of w number n c ClientVerb.Open =
     answered_row (λ r. IsOk) w (Verb.AtClient n c ClientVerb.Open) n (client_at n (base_of number) c) (λ r. (refl, λ told s. s)) (λ before r lines said old. old) (λ fits. client_ranged n (base_of number) c)
     (λ node here there. either_node (is_some (node.clients c)) (closed node) (opened node) there there) (client_less n (base_of number) c)
     (λ node. elim (is_some (node.clients c)) as (λ b. let x : PlainNode × Told = if b then closed node else opened node in Spared x.1) [ true ↦ refl | false ↦ refl ])
+    (λ node. elim (is_some (node.clients c)) as (λ b. let x : PlainNode × Told = if b then closed node else opened node in TellsOf (Verb.AtClient n c ClientVerb.Open) x.1.events) [ true ↦ refl | false ↦ refl ])
     (λ r told. on_node_says IsOk w n (client_at n (base_of number) c) no_ok (λ node known.
     elim (is_some (node.clients c)) as (λ b. Says IsOk (λ k. k ≡ node) (if b then closed node else opened node)) [ true ↦ (tt, λ why e s. (refl, refl)) | false ↦ (tt, λ why e s. cc) ]))
     (λ r t ok. client_answered r.conn_at w number t.conns n c ClientVerb.Open)
     (λ r fits ranged a. on_node_goes w r n (client_at n (base_of number) c) a (λ node e up. client_goes w r n (base_of number) c node a e))
 client_row_of w number n c (ClientVerb.Bytes bytes) = answered_row (λ r. IsOk) w (Verb.AtClient n c (ClientVerb.Bytes bytes)) n (bytes_at c bytes) (λ r. (refl, λ told s. s)) (λ before r lines said old. old)
-    (λ fits node r. bytes_ranged n c bytes node fits.2 r) (bytes_still n c bytes) (bytes_less c bytes) (bytes_calm c bytes)
+    (λ fits node r. bytes_ranged n c bytes node fits.2 r) (bytes_still n c bytes) (bytes_less c bytes) (bytes_calm c bytes) (bytes_tells c bytes)
     (λ r told. on_node_says IsOk w n (bytes_at c bytes) no_ok (λ node known. elim (node.clients c) as (λ o. Says IsOk (λ k. k ≡ node) (fed_if c bytes node o)) [ None ↦ (tt, λ why e s. (refl, refl)) | Some session ↦ (tt, λ why e s. cc) ]))
     (λ r t ok. client_answered r.conn_at w number t.conns n c (ClientVerb.Bytes bytes))
     (λ r fits ranged a. on_node_goes w r n (bytes_at c bytes) a (λ node e up. bytes_goes stays steady w r n c bytes node fits.2 (subst (NodeRangedIf n) e (ranged n)) a e))
@@ -99,6 +104,7 @@ client_row_of w number n c ClientVerb.Hang =
     answered_row (λ r. IsOk) w (Verb.AtClient n c ClientVerb.Hang) n (hang_at c) (λ r. (refl, λ told s. s)) (λ before r lines said old. old) (λ fits. hang_ranged n c)
     (λ node here there. either_node (is_some (node.clients c)) (hung node) (closed node) there there) (hang_less c)
     (λ node. elim (is_some (node.clients c)) as (λ b. let x : PlainNode × Told = if b then hung node else closed node in Spared x.1) [ true ↦ refl | false ↦ refl ])
+    (λ node. elim (is_some (node.clients c)) as (λ b. let x : PlainNode × Told = if b then hung node else closed node in TellsOf (Verb.AtClient n c ClientVerb.Hang) x.1.events) [ true ↦ refl | false ↦ refl ])
     (λ r told. on_node_says IsOk w n (hang_at c) no_ok (λ node known.
     elim (is_some (node.clients c)) as (λ b. Says IsOk (λ k. k ≡ node) (if b then hung node else closed node)) [ true ↦ (tt, λ why e s. cc) | false ↦ (tt, λ why e s. (refl, refl)) ]))
     (λ r t ok. client_answered r.conn_at w number t.conns n c ClientVerb.Hang)
@@ -114,6 +120,7 @@ link_row w number l m n v =
       rests = λ r here a all. weaker came.0 (unless_all Still IsTimely still_steps (λ id. tt) w x why all all);
       fed = λ fine. unless_fed w x why fine.fed (dialed_fed w fine number l m n v (ask_in w n v));
       keeps = λ rests. says.1;
+      tells = are_unless is_none why w x refl;
       told = λ r fits t. (says.0, rows_fire (link_causes w l m n v) w x (tt, (tt, (tt, (tt, (tt, tt))))) refl);
       entered = λ before r old. dial_entered r l m n v came.1.answer old;
       bound = λ r a rule. bound (is_told_down r m || is_told_down r n) Cause.NodeDown (Cause.UnknownNode ∷ []) _ came.1 rule (λ e.
@@ -130,6 +137,7 @@ link_row_of w l (LinkVerb.Up wanted) = let f = up_at wanted in let came : Outcom
       keeps = λ rests. says.1;
       bound = λ r a rule. over w r l _ came.1 a rule (closed_link w l producer_node f);
       entered = λ before r old. old;
+      tells = all_pass came.1.events;
       told = λ r fits t. (says.0, on_link_by (λ o. Spared o.1) w l producer_node f refl (λ link found. refl) (λ link node found known. up_calm wanted link node));
       goes = λ r fits ranged a. told_goes (Verb.AtLink l (LinkVerb.Up wanted)) r came (up_goes stays steady w r l wanted ranged a);
     }
@@ -138,6 +146,7 @@ link_row_of w l (LinkVerb.Down wanted) = let o : Outcome = on_link w l consumer_
   rests = λ r here a all. down_rests w l wanted (weaker w all);
   fed = λ fine. (broken_line w l found o (down_fine w fine l wanted)).fed;
   keeps = λ rests. (down_line_says w l wanted).1;
+  tells = all_pass came.1.events;
   told = λ r fits t. (down_answered stays w r l wanted t.agrees, down_fires w r l wanted t.dials);
   bound = λ r a rule. over w r l _ came.1 a rule (λ none. ap (λ k. (down_outcome w l k o).1) none ∙ closed_link w l consumer_node (down_in wanted) none);
   entered = λ before r old. down_entered before r (before.dial_of l) (before.point_of l) came.1.events came.1.answer old;
@@ -151,6 +160,7 @@ link_row_of w l (LinkVerb.Pump frames) = let f = pump_at frames in let came : Ou
       keeps = λ rests. says.1;
       bound = λ r a rule. over w r l _ came.1 a rule (closed_link w l producer_node f);
       entered = λ before r old. old;
+      tells = all_pass came.1.events;
       told = λ r fits t. (says.0, on_link_by (λ o. Spared o.1) w l producer_node f refl (λ link found. refl) (λ link node found known. pump_calm frames link node));
       goes = λ r fits ranged a. told_goes (Verb.AtLink l (LinkVerb.Pump frames)) r came (pump_goes take_snapshots w r l frames a);
     }
@@ -162,6 +172,7 @@ link_row_of w l LinkVerb.Cut = let found : Option PlainLink = row_at link_number
       keeps = λ rests. says.1;
       bound = λ r a rule. over w r l _ (cut_step w l).1 a rule (λ none. ap (λ o. (cut_outcome w o).1) none);
       entered = λ before r old. old;
+      tells = cut_tells w l;
       told = λ r fits t. (says.0, elim found as (λ o. Spared (cut_outcome w o).1) [ None ↦ refl | Some link ↦ refl ]);
       goes = λ r fits ranged a. told_goes (Verb.AtLink l LinkVerb.Cut) r (cut_step w l) (cut_goes stays w r l a);
     }

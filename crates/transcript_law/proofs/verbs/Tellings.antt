@@ -1,15 +1,15 @@
 -- each line of a script tells of nothing else than it may
 use Rattle.std.specs.Prelude.{◌≡◌, ◌∷◌, ◌++◌, ◌==◌, ◌&&◌, ◌||◌, if◌then◌else◌}
-use Rattle.transcript_law.proofs.Words.{ℕ, Bool, true, false, List, [], refl, ap, sym, ◌∙◌, subst, map, flat_map, length, Option, Some, None, is_some, eq-eqb, and_parts, Answer, Cause, Event, EndReason, Role, Verb, VbVerb, NodeVerb, LinkVerb, ClientVerb, AdminCall, AdminTold, PlainLink, PlainNode, PlainWorld, Outcome, Told, VbAnswer, VbCall, VbReply, after, after_job, with_states, row_at, link_number}
-use Rattle.transcript_law.proofs.Words.{admin_call, admin_line, admin_told, branch_lines, bytes_at, call_at, called_at, client_at, clock_at, cut_off, cut_outcome, done, empty_node, first_cause, hang_at, link_causes, new_session, node_causes, no_node, node_outcome, on_node, own_link, promote_causes, refusal, refused_or, replica_causes, role_outcome, turn_causes, turned_after, turned_if, vb_causes, verb_step, with_client, with_dialed, with_ended, with_links, with_node_at, ask_in}
+use Rattle.transcript_law.proofs.Words.{ℕ, Bool, true, false, List, [], refl, sym, ◌∙◌, subst, map, flat_map, length, Option, Some, None, is_some, eq-eqb, and_parts, Answer, Cause, Event, EndReason, Role, VbVerb, NodeVerb, LinkVerb, ClientVerb, AdminCall, AdminTold, PlainLink, PlainNode, PlainWorld, Outcome, Told, VbAnswer, VbCall, VbReply, after, after_job, with_states, row_at, link_number}
+use Rattle.transcript_law.proofs.Words.{admin_call, admin_line, admin_told, branch_lines, bytes_at, call_at, called_at, cut_off, cut_outcome, done, first_cause, no_node, node_outcome, on_node, own_link, refusal, refused_or, role_outcome, turned_after, turned_if, with_ended, with_node_at}
 use Rattle.disk_journals.specs.{Arms.{opens_all}, Books.{Book}}
 use Rattle.node_core.specs.{Calls.{own_lines, own_lines_if}, Admin.{admin_refused, promote_told, role_at, role_noted, role_told}, Dials.{DialTold, acknowledged_line, dial_due, untold}, Flushing.{FlushTold, flush_answered, flush_at, flush_if, flush_told, settled_by, settled_told}, Loading.{are_short, branch_in, start_job, start_told, starts_of}}
-use Rattle.node_world.specs.{Arms.{fail_arm, fired_by, no_arm, placed, stop_arm, under_arm}, Dues.{due_at, due_in, due_of, is_counted}, Links.{dial_of}, Nodes.{all_posted, arm_at, chain_causes, chain_line, chain_made, flush_line, save_line, tick_line, vb_made, with_kept, with_posts}}
-use Rattle.node_world.specs.{Power.{Starting, after_fire, all_numbers, burnt_arm, closed_line, closed_lines, crash_causes, down_lines, dropped, end_line, end_lines, first_no, has_client, is_number, is_touched, loaded_node, not_opened, opened_at, opening_told, start_at, start_causes, start_if, start_one, started_by, starts_from, with_arm}, Turns.{posted_at, posted_in, role_called}, World.{base_of}, Worlds.{arm_in, on_made}}
+use Rattle.node_world.specs.{Arms.{fired_by, no_arm, placed, under_arm}, Dues.{done_step, due_at, due_in, due_of, is_counted}, Links.{dial_of}, Nodes.{all_posted, chain_causes, chain_line, chain_made, flush_line, save_line, tick_line, vb_made, with_kept, with_posts}}
+use Rattle.node_world.specs.{Power.{Starting, after_fire, all_numbers, burnt_arm, closed_line, closed_lines, crash_causes, crash_step, down_lines, dropped, end_line, end_lines, first_no, has_client, is_number, is_touched, loaded_node, not_opened, opened_at, opening_told, start_at, start_causes, start_if, start_one, start_step, started_by, starts_from, with_arm}, Turns.{posted_at, posted_in, role_called}, World.{cut_step}, Worlds.{arm_in, on_made}}
 use Rattle.node_world.specs.declared.arm.Fired.{Fired}
 use Rattle.node_world.specs.declared.arm.Fired.TheVariants as fired
 use Rattle.transcript_law.proofs.{invariant.LinkRows.{found_is_link}, lines.Calm.{AnyAsk, any_job, due_keeps, either}, lines.ClientLines.{AreOfClients, IsOfClients, bytes_of_clients, posts_of_clients}, verbs.NodeLines.{on_made_by, on_node_by}}
-use Rattle.transcript_law.specs.Tellings.{TellsOf, are_all, at_client, at_link, at_node, at_vb, is_any, is_none, is_of_start}
+use Rattle.transcript_law.specs.Tellings.{are_all, at_client, at_link, at_node, at_vb, is_any, is_none, is_of_start}
 use Rattle.vb_calls.proofs.{Conduct.{after_always}, JobConduct.{after_job_always, always_bind_job}}
 use Rattle.vb_calls.specs.Flushes.{appended_job, batch_told, flush_job, part_job, role_job, taken_job, took}
 use Rattle.vb_calls.specs.Jobs.{AlwaysJob, Job, Ended}
@@ -21,6 +21,7 @@ use Rattle.vb_calls.specs.declared.journals.Flushed.{Flushed}
 use Rattle.vb_calls.specs.declared.journals.Flushed.TheVariants as flushed
 use Rattle.vb_calls.specs.declared.journals.Wrote.{Wrote}
 use Rattle.vb_types.specs.declared.journal.Batch.{Batch}
+use Rattle.{durability.specs.Chains.{Members}, vb_disk.specs.declared.made.Outcome.{Outcome as Made}}
 use Rattle.vb_types.specs.declared.journal.FlushPart.{FlushPart}
 use Rattle.vb_types.specs.declared.journal.FlushPart.TheVariants as part
 
@@ -28,9 +29,6 @@ use Rattle.vb_types.specs.declared.journal.FlushPart.TheVariants as part
 
 same_place : (n v : ℕ) → (n == n && v == v) ≡ true
 same_place n v = λ i. eq-eqb n n refl i && eq-eqb v v refl i
-
-or_left : (a b : Bool) → a ≡ true → (a || b) ≡ true
-or_left a b e = ap (λ x. x || b) e
 
 -- all lines pass a test
 module _ (q : Event → Bool) where
@@ -56,12 +54,12 @@ module _ (q : Event → Bool) where
   are_clients each [] c = refl
   are_clients each (line ∷ lines) c = are_cons line lines (each line c.0) (are_clients each lines c.1)
 
-  are_unless : {A : Type 0} (why : Option Cause) (before : A) (x : A × Told) → Are x.1.events → Are (refused_or why before x).1.events
+  pub are_unless : {A : Type 0} (why : Option Cause) (before : A) (x : A × Told) → Are x.1.events → Are (refused_or why before x).1.events
   are_unless (Some why) before x a = refl
   are_unless None before x a = a
 
   -- a line for a running node
-  are_node : (w : PlainWorld) (n : ℕ) (f : PlainNode → PlainNode × Told) → ((node : PlainNode) → Are (f node).1.events) → Are (on_node w n f).1.events
+  pub are_node : (w : PlainWorld) (n : ℕ) (f : PlainNode → PlainNode × Told) → ((node : PlainNode) → Are (f node).1.events) → Are (on_node w n f).1.events
   are_node w n f each = on_node_by (λ o. Are o.1.events) w n f refl (λ node known. refl) (λ node known up. each node)
 
   -- lines of changes
@@ -303,32 +301,23 @@ module _ (n : ℕ) where
       by None = refl
       by (Some books) = opens books (opens_all node.arm.fuse (length books))
 
-node_tells : (w : PlainWorld) (number n : ℕ) (what : NodeVerb) → Are (at_node n what) (verb_step w number (Verb.AtNode n what)).1.events
-node_tells w number n (NodeVerb.Clock nanos) = are_node is_none w n (clock_at nanos) (λ node. refl)
-node_tells w number n (NodeVerb.Stop call out) = on_made_by (λ o. Are is_none o.1.events) w n (arm_at (stop_arm call out)) refl (λ node known. refl)
-node_tells w number n (NodeVerb.Fail call) = on_made_by (λ o. Are is_none o.1.events) w n (arm_at (fail_arm call)) refl (λ node known. refl)
-node_tells w number n (NodeVerb.Crash out) = let q = at_node n (NodeVerb.Crash out) in are_unless q (first_cause (crash_causes w n)) w (dropped n out w, done (down_lines n None w)) (are_down q n None w (λ l. refl) (λ c. eq-eqb n n refl))
-node_tells w number n (NodeVerb.Start uuids) = let q = at_node n (NodeVerb.Start uuids) in are_unless q (first_cause (start_causes w n uuids)) w (on_made w n (start_at n uuids))
-    (on_made_by (λ o. Are q o.1.events) w n (start_at n uuids) refl (λ node known. start_are n uuids node))
+pub crash_tells : (w : PlainWorld) (n : ℕ) (out : Made) → Are (at_node n (NodeVerb.Crash out)) (crash_step w n out).1.events
+crash_tells w n out = let q = at_node n (NodeVerb.Crash out) in are_unless q (first_cause (crash_causes w n)) w (dropped n out w, done (down_lines n None w)) (are_down q n None w (λ l. refl) (λ c. eq-eqb n n refl))
+
+pub start_tells : (w : PlainWorld) (n : ℕ) (uuids : List ℕ) → Are (is_of_start n) (start_step w n uuids).1.events
+start_tells w n uuids = are_unless (is_of_start n) (first_cause (start_causes w n uuids)) w (on_made w n (start_at n uuids))
+    (on_made_by (λ o. Are (is_of_start n) o.1.events) w n (start_at n uuids) refl (λ node known. start_are n uuids node))
 
 -- ---- lines for a vBucket
 
-module _ (w : PlainWorld) (number n v : ℕ) where
-  abbrev Tells : VbVerb → Type 0
-  Tells what = Are (at_vb n v what) (verb_step w number (Verb.AtVb n v what)).1.events
-
+module _ (w : PlainWorld) (n v : ℕ) where
   -- one that makes it
-  makes : (q : Event → Bool) → OfDisk q n → ((r : Role) (uuid : ℕ) → Are q (branch_lines n v r uuid)) → (r : Role) (uuid : ℕ) (rows : PlainNode → List (Bool × Cause)) → Are q (with_arm n w (on_node w n (λ node. refused_or (first_cause (rows node)) node (vb_made n v r uuid node)))).1.events
-  makes q d lines r uuid rows = are_armed q n d w (on_node w n (λ node. refused_or (first_cause (rows node)) node (vb_made n v r uuid node))) (are_node q w n (λ node. refused_or (first_cause (rows node)) node (vb_made n v r uuid node)) (λ node. are_unless q (first_cause (rows node)) node (vb_made n v r uuid node) (lines r uuid)))
+  abbrev makes : Event → Bool
+  makes = at_vb n v VbVerb.MakeReplica
 
-  -- a table of tests that has these
-  module _ (what : VbVerb) where
-    abbrev t : Event → Bool
-    t = at_vb n v what
-
-    branch_are : ((r : Role) → t (Event.Role n v r) ≡ true) → ((uuid : ℕ) → t (Event.Branch n v uuid None 0 0) ≡ true) → (r : Role) (uuid : ℕ) → Are t (branch_lines n v r uuid)
-    branch_are turn branch Role.Active uuid = are_cons t (Event.Branch n v uuid None 0 0) (Event.Role n v Role.Active ∷ []) (branch uuid) (are_cons t (Event.Role n v Role.Active) [] (turn Role.Active) refl)
-    branch_are turn branch other uuid = are_cons t (Event.Role n v other) [] (turn other) refl
+  branch_are : (r : Role) (uuid : ℕ) → Are makes (branch_lines n v r uuid)
+  branch_are Role.Active uuid = are_cons makes (Event.Branch n v uuid None 0 0) (Event.Role n v Role.Active ∷ []) (λ i. same_place n v i || false) (are_cons makes (Event.Role n v Role.Active) [] (λ i. same_place n v i || false) refl)
+  branch_are other uuid = are_cons makes (Event.Role n v other) [] (λ i. same_place n v i || false) refl
 
   clients_only : (line : Event) → IsOfClients line → at_vb n v VbVerb.Tick line ≡ true
   clients_only (Event.Changed m u uuid change) c = refl
@@ -355,7 +344,7 @@ module _ (w : PlainWorld) (number n v : ℕ) where
   turn_disk : OfDisk turns n
   turn_disk = record { fails = eq-eqb n n refl; stops = eq-eqb n n refl; ends = λ l why. refl; closes = λ c. refl }
 
-  made_disk : OfDisk (at_vb n v VbVerb.MakeReplica) n
+  made_disk : OfDisk makes n
   made_disk = record { fails = eq-eqb n n refl; stops = eq-eqb n n refl; ends = λ l why. refl; closes = λ c. eq-eqb n n refl }
 
   save_disk : OfDisk (at_vb n v VbVerb.Save) n
@@ -402,8 +391,8 @@ module _ (w : PlainWorld) (number n v : ℕ) where
       by other = refl
 
   -- a step of writing down
-  take_so : (node : PlainNode) → Are (at_vb n v VbVerb.Take) (flush_line n v part.Take node).1.events
-  take_so node =
+  pub take_tells : (node : PlainNode) → Are (at_vb n v VbVerb.Take) (flush_line n v part.Take node).1.events
+  take_tells node =
       let q = at_vb n v VbVerb.Take in let y = after_job (flush_at n v part.Take) node.vbs node.shelves in
       let a : Alone q y.1 = flush_steps (Alone q) TakesSo n v part.Take node (refl, refl) by (take_steps v) in unposted q y.1 (with_kept node y.0) a.0 a.1
     where
@@ -456,53 +445,55 @@ module _ (w : PlainWorld) (number n v : ℕ) where
       by true = of (own_link n v came.0.links)
       by false = a
 
-  vb_tells : (what : VbVerb) → Tells what
-  vb_tells (VbVerb.MakeActive uuid) = makes (at_vb n v VbVerb.MakeReplica) made_disk (branch_are VbVerb.MakeReplica (λ r. or_left (n == n && v == v) false (same_place n v)) (λ u. or_left (n == n && v == v) false (same_place n v))) Role.Active uuid (λ node. vb_causes w.uuids node v uuid)
-  vb_tells VbVerb.MakeReplica = makes (at_vb n v VbVerb.MakeReplica) made_disk (branch_are VbVerb.MakeReplica (λ r. or_left (n == n && v == v) false (same_place n v)) (λ u. or_left (n == n && v == v) false (same_place n v))) Role.Replica 0 (λ node. replica_causes node v)
-  vb_tells (VbVerb.Chain others) = are_node (at_vb n v VbVerb.Tick) w n (chain_line n v others) (λ node. are_unless (at_vb n v VbVerb.Tick) (first_cause (chain_causes n v others node)) node (chain_made n v others node) (settles (at_vb n v VbVerb.Tick) clients_only n v (VbCall.Chain (record { active = n; others = others })) node))
-  vb_tells (VbVerb.Promote uuid) = let call = rises turns clients_turn n v turn_branch turn_role (λ l. refl) uuid in role_tells (first_cause (promote_causes w n v uuid)) (AdminCall.Promote uuid) call (call_so (AdminCall.Promote uuid) call)
-  vb_tells VbVerb.Follow = let call = follows turns clients_turn n v turn_branch turn_role (λ l. refl) in role_tells (first_cause (turn_causes w n v Role.Replica)) AdminCall.Follow call (call_so AdminCall.Follow call)
-  vb_tells VbVerb.Dead = let call = dies turns clients_turn n v turn_branch turn_role (λ l. refl) in role_tells (first_cause (turn_causes w n v Role.Dead)) AdminCall.Dead call (call_so AdminCall.Dead call)
-  vb_tells VbVerb.Tick = are_node (at_vb n v VbVerb.Tick) w n (tick_line n v) (λ node. settles (at_vb n v VbVerb.Tick) clients_only n v (VbCall.Tick node.clock) node)
-  vb_tells VbVerb.Seal = are_node is_none w n (admin_line n v AdminCall.Seal) (λ node. seal_so (call_at node.vbs v VbCall.Seal (node.vbs v)).1)
-  vb_tells VbVerb.Take = are_node (at_vb n v VbVerb.Take) w n (flush_line n v part.Take) take_so
-  vb_tells VbVerb.Save = are_armed (at_vb n v VbVerb.Save) n save_disk w (on_node w n (save_line n v)) (are_node (at_vb n v VbVerb.Save) w n (save_line n v) save_so)
-  vb_tells VbVerb.Done = due_so (on_node w n (flush_line n v part.Done)) (are_node (at_vb n v VbVerb.Done) w n (flush_line n v part.Done) done_so)
-  vb_tells VbVerb.Stat = are_node (at_vb n v VbVerb.Stat) w n (admin_line n v AdminCall.Stat) (λ node. stat_so (call_at node.vbs v VbCall.Stat (node.vbs v)).1)
-  vb_tells VbVerb.Log = are_node (at_vb n v VbVerb.Log) w n (admin_line n v AdminCall.Log) (λ node. log_so (call_at node.vbs v VbCall.Log (node.vbs v)).1)
-  vb_tells VbVerb.Show = all_pass (verb_step w number (Verb.AtVb n v VbVerb.Show)).1.events
+  -- each line
+  pub made_tells : (r : Role) (uuid : ℕ) (rows : PlainNode → List (Bool × Cause)) → Are makes (with_arm n w (on_node w n (λ node. refused_or (first_cause (rows node)) node (vb_made n v r uuid node)))).1.events
+  made_tells r uuid rows = let make : PlainNode → PlainNode × Told = λ node. refused_or (first_cause (rows node)) node (vb_made n v r uuid node) in
+      are_armed makes n made_disk w (on_node w n make) (are_node makes w n make (λ node. are_unless makes (first_cause (rows node)) node (vb_made n v r uuid node) (branch_are r uuid)))
+
+  pub chain_tells : (others : Members) (node : PlainNode) → Are (at_vb n v VbVerb.Tick) (chain_line n v others node).1.events
+  chain_tells others node = are_unless (at_vb n v VbVerb.Tick) (first_cause (chain_causes n v others node)) node (chain_made n v others node) (settles (at_vb n v VbVerb.Tick) clients_only n v (VbCall.Chain (record { active = n; others = others })) node)
+
+  pub promote_tells : (uuid : ℕ) (why : Option Cause) → Are turns (with_arm n w (refused_or why w (role_outcome n v (AdminCall.Promote uuid) w))).1.events
+  promote_tells uuid why = let call = rises turns clients_turn n v turn_branch turn_role (λ l. refl) uuid in role_tells why (AdminCall.Promote uuid) call (call_so (AdminCall.Promote uuid) call)
+
+  pub follow_tells : (why : Option Cause) → Are turns (with_arm n w (refused_or why w (role_outcome n v AdminCall.Follow w))).1.events
+  follow_tells why = let call = follows turns clients_turn n v turn_branch turn_role (λ l. refl) in role_tells why AdminCall.Follow call (call_so AdminCall.Follow call)
+
+  pub dead_tells : (why : Option Cause) → Are turns (with_arm n w (refused_or why w (role_outcome n v AdminCall.Dead w))).1.events
+  dead_tells why = let call = dies turns clients_turn n v turn_branch turn_role (λ l. refl) in role_tells why AdminCall.Dead call (call_so AdminCall.Dead call)
+
+  pub tick_tells : (node : PlainNode) → Are (at_vb n v VbVerb.Tick) (tick_line n v node).1.events
+  tick_tells node = settles (at_vb n v VbVerb.Tick) clients_only n v (VbCall.Tick node.clock) node
+
+  pub seal_tells : (node : PlainNode) → Are is_none (admin_line n v AdminCall.Seal node).1.events
+  seal_tells node = seal_so (call_at node.vbs v VbCall.Seal (node.vbs v)).1
+
+  pub save_tells : Are (at_vb n v VbVerb.Save) (with_arm n w (on_node w n (save_line n v))).1.events
+  save_tells = are_armed (at_vb n v VbVerb.Save) n save_disk w (on_node w n (save_line n v)) (are_node (at_vb n v VbVerb.Save) w n (save_line n v) save_so)
+
+  pub done_tells : Are (at_vb n v VbVerb.Done) (done_step w n v).1.events
+  done_tells = due_so (on_node w n (flush_line n v part.Done)) (are_node (at_vb n v VbVerb.Done) w n (flush_line n v part.Done) done_so)
+
+  pub stat_tells : (node : PlainNode) → Are (at_vb n v VbVerb.Stat) (admin_line n v AdminCall.Stat node).1.events
+  stat_tells node = stat_so (call_at node.vbs v VbCall.Stat (node.vbs v)).1
+
+  pub log_tells : (node : PlainNode) → Are (at_vb n v VbVerb.Log) (admin_line n v AdminCall.Log node).1.events
+  log_tells node = log_so (call_at node.vbs v VbCall.Log (node.vbs v)).1
 
 -- ---- lines for a client or a link
 
-client_tells : (w : PlainWorld) (number n c : ℕ) (what : ClientVerb) → Are (at_client what) (verb_step w number (Verb.AtClient n c what)).1.events
-client_tells w number n c ClientVerb.Open = are_node is_none w n (client_at n (base_of number) c) (λ node.
-    elim (is_some (node.clients c)) as (λ b. let x : PlainNode × Told = if b then (node, refusal Cause.LinkOpen) else (with_client node c (Some (new_session (record { node = n; client = c; base = base_of number }))), done []) in Are is_none x.1.events) [ true ↦ refl | false ↦ refl ])
-client_tells w number n c (ClientVerb.Bytes bytes) = are_node (at_client (ClientVerb.Bytes bytes)) w n (bytes_at c bytes) (λ node. are_clients (at_client (ClientVerb.Bytes bytes)) by (bytes_at c bytes node).1.events (bytes_of_clients c bytes node))
+pub bytes_tells : (c : ℕ) (bytes : List ℕ) (node : PlainNode) → Are (at_client (ClientVerb.Bytes bytes)) (bytes_at c bytes node).1.events
+bytes_tells c bytes node = are_clients (at_client (ClientVerb.Bytes bytes)) by (bytes_at c bytes node).1.events (bytes_of_clients c bytes node)
   where
     by : (line : Event) → IsOfClients line → at_client (ClientVerb.Bytes bytes) line ≡ true
     by (Event.Changed m u uuid change) o = refl
     by (Event.Reply m k sent) o = refl
     by (Event.Closed m k) o = refl
     by other o = absurd o
-client_tells w number n c ClientVerb.Hang = are_node is_none w n (hang_at c) (λ node.
-    elim (is_some (node.clients c)) as (λ b. let x : PlainNode × Told = if b then (with_client node c None, done []) else (node, refusal Cause.LinkClosed) in Are is_none x.1.events) [ true ↦ refl | false ↦ refl ])
 
-link_tells : (w : PlainWorld) (number l : ℕ) (what : LinkVerb) → Are (at_link l what) (verb_step w number (Verb.AtLink l what)).1.events
-link_tells w number l LinkVerb.Cut = by (row_at link_number l w.links) refl
+pub cut_tells : (w : PlainWorld) (l : ℕ) → Are (at_link l LinkVerb.Cut) (cut_step w l).1.events
+cut_tells w l = by (row_at link_number l w.links) refl
   where
     by : (o : Option PlainLink) → row_at link_number l w.links ≡ o → Are (at_link l LinkVerb.Cut) (cut_outcome w o).1.events
     by None e = refl
     by (Some link) e = are_cons (at_link l LinkVerb.Cut) (Event.Ended (link_number link) EndReason.Cut) [] (eq-eqb (link_number link) l (found_is_link l w.links link e).1) refl
-link_tells w number l (LinkVerb.Up wanted) = all_pass (verb_step w number (Verb.AtLink l (LinkVerb.Up wanted))).1.events
-link_tells w number l (LinkVerb.Down wanted) = all_pass (verb_step w number (Verb.AtLink l (LinkVerb.Down wanted))).1.events
-link_tells w number l (LinkVerb.Pump frames) = all_pass (verb_step w number (Verb.AtLink l (LinkVerb.Pump frames))).1.events
-
--- ---- each line
-
-pub verb_tells : (w : PlainWorld) (number : ℕ) (line : Verb) → TellsOf line (verb_step w number line).1.events
-verb_tells w number (Verb.Node n) = are_unless is_none (first_cause (node_causes w n)) w (with_node_at w n empty_node, done []) refl
-verb_tells w number (Verb.Link l m n v) = are_unless is_none (first_cause (link_causes w l m n v)) w (with_links w (with_dialed number l m n v w.links (ask_in w n v)), done []) refl
-verb_tells w number (Verb.AtNode n what) = node_tells w number n what
-verb_tells w number (Verb.AtVb n v what) = vb_tells w number n v what
-verb_tells w number (Verb.AtClient n c what) = client_tells w number n c what
-verb_tells w number (Verb.AtLink l what) = link_tells w number l what

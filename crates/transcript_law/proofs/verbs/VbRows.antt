@@ -1,7 +1,7 @@
 -- what the law needs of each line for a vBucket
 use Rattle.std.specs.Prelude.{◌≡◌, ◌∷◌, ◌++◌, if◌then◌else◌}
 use Rattle.transcript_law.proofs.Words.{ℕ, Bool, false, List, refl, ap, sym, subst, Option, Some, None, is_some, not, Answer, Cause, Event, Role, Chronicle, Verb, VbVerb, VerbFits, AdminCall, VbAnswer, VbCall, PlainNode, PlainWorld, Outcome, Told, LawfulAnswer, EndsWith, IsPromotion, IsTurn, IsSealed}
-use Rattle.transcript_law.proofs.Words.{admin_call, admin_line, after_job, after_verb, called_at, first_cause, on_node, lift, quiet_reply, refused_or, replica_causes, role_causes, role_outcome, uuid_causes, vb_causes, vb_in, starts, stays, wholes}
+use Rattle.transcript_law.proofs.Words.{admin_call, admin_line, after_job, after_verb, called_at, first_cause, on_node, lift, quiet_reply, refused_or, promote_causes, turn_causes, replica_causes, role_causes, role_outcome, uuid_causes, vb_causes, vb_in, starts, stays, wholes}
 use Rattle.{node_core.specs.Admin.{admin_at, admin_job, role_at}, vb_calls.specs.Durable.{expired, then_settled}, vb_calls.specs.Settling.{also_resolved, settled}}
 use Rattle.node_world.specs.{Arms.{placed}, Dues.{done_step}, Nodes.{chain_causes, chain_line, chain_made, flush_line, save_line, tick_line, vb_made}, Power.{with_arm}, World.{vb_verb_step}, Worlds.{is_off}}
 use Rattle.transcript_law.proofs.invariant.{Agreement.{Agrees, LineGoes}, AtRest.{Still, admin_still, chain_still, due_still, flush_still, made_rests, node_still, role_still, still_steps, tick_still, weaker}, CallsKept.{armed_all, unless_all}, Entering.{Entered, made_entered, noted_entered, save_entered, seal_entered}}
@@ -13,7 +13,8 @@ use Rattle.transcript_law.proofs.verbs.FiredLines.{admin_spared, done_taken, due
 use Rattle.transcript_law.proofs.verbs.LineAnswers.{AllTold, IsOk, admin_says, armed_answered, done_line_says, new_shut_at, no_ok, opens_of, save_taken, settled_says, shut_at, take_line_says, told_of_opens}
 use Rattle.transcript_law.proofs.verbs.{Branching.{replica_goes, vb_goes}, Chains.{chain_line_goes, tick_line_goes}, DoneLine.{done_goes}, FlushLines.{stat_goes, take_goes}, NodeLines.{on_node_goes}, RoleLines.{dead_line, follow_line, log_goes, promote_line, seal_goes}}
 use Rattle.transcript_law.proofs.verbs.{Rows.{Goes, Row, alone_row, node_spared, told_goes}, Saving.{save_goes}, Settling.{steady}, Showing.{show_goes}}
-use Rattle.transcript_law.specs.{Chronicles.{ahead}, Firings.{FiresAsSaid, FiresInLine, may_write}, LineAnswers.{KindAnswer, vb_kind}}
+use Rattle.transcript_law.proofs.verbs.Tellings.{all_pass, chain_tells, dead_tells, done_tells, follow_tells, log_tells, made_tells, promote_tells, save_tells, seal_tells, stat_tells, take_tells, tick_tells}
+use Rattle.transcript_law.specs.{Chronicles.{ahead}, Firings.{FiresAsSaid, FiresInLine, may_write}, LineAnswers.{KindAnswer, vb_kind}, Tellings.{TellsOf}}
 use Rattle.transcript_law.specs.LineAnswers as kind
 use Rattle.vb_types.specs.declared.journal.FlushPart.TheVariants as part
 use Rattle.vbucket.specs.Laws.{IsTimely}
@@ -36,8 +37,8 @@ module _ (w : PlainWorld) (n v : ℕ) where
     abbrev make : PlainNode → PlainNode × Told
     make node = refused_or (first_cause (rows node)) node (vb_made n v role uuid node)
 
-    make_row : (what : VbVerb) → vb_kind what ≡ kind.Notes → ((closed : Bool) → NewShutIs closed w n v → AppendCame NoLines closed w n (on_node w n make)) → EntersBy what → GoesBy what (with_arm n w (on_node w n make)) → Row w (Verb.AtVb n v what) (with_arm n w (on_node w n make))
-    make_row what notes came entered goes = let o : Outcome = on_node w n make in let x : Told = (with_arm n w o).1 in record {
+    make_row : (what : VbVerb) → vb_kind what ≡ kind.Notes → ((closed : Bool) → NewShutIs closed w n v → AppendCame NoLines closed w n (on_node w n make)) → EntersBy what → GoesBy what (with_arm n w (on_node w n make)) → TellsOf (Verb.AtVb n v what) (with_arm n w (on_node w n make)).1.events → Row w (Verb.AtVb n v what) (with_arm n w (on_node w n make))
+    make_row what notes came entered goes tells = let o : Outcome = on_node w n make in let x : Told = (with_arm n w o).1 in record {
       ranged = λ fits here. armed_ranged n w o (on_node_ranged w n make here (λ node r. kept_or n node (vb_made n v role uuid node) (first_cause (rows node)) r (kept_ranged n node (vb_made n v role uuid node).0 refl (λ c. refl) r)));
       rests = λ r here a all. made_rests w n v make role uuid (λ node. first_cause (rows node)) (λ node. refl) (weaker w all);
       fed = λ fine. (armed_fine n w o (node_fine w n make fine (λ node. refused_less node (vb_made n v role uuid node) (first_cause (rows node)) (made_less n v role uuid node)))).fed;
@@ -46,6 +47,7 @@ module _ (w : PlainWorld) (n v : ℕ) where
       told = λ r fits t. noted_told what notes x r (armed_answered NoLines (r.disk_at n v).closed w r n o (t.arms n) (came (r.disk_at n v).closed (t.shut n v).1))
           (armed_fires NoLines (new_shut_at w n v) w n o.0 o.1 (t.arms n).1 (made_calm w n v role uuid rows) (came (new_shut_at w n v) (λ none. refl)));
       entered = λ before r old. entered before r x.events x.answer old;
+      tells = tells;
       goes = goes;
     }
 
@@ -59,8 +61,8 @@ module _ (w : PlainWorld) (n v : ℕ) where
 
     role_row : (what : VbVerb) → vb_kind what ≡ kind.Notes → admin_job n v asked ≡ role_at n v asked
         → ((node : PlainNode) (ids : List ℕ) → (called_at n v asked (placed v node)).1.ended ≡ Some ids → Ends node.vbs (called_at n v asked (placed v node)).0.vbs v)
-        → (Lines : List Event → Type 0) → ((closed : Bool) → ShutIs closed w n v → AppendCame Lines closed w n turn) → EntersBy what → GoesBy what (with_arm n w turn) → Row w (Verb.AtVb n v what) (with_arm n w turn)
-    role_row what notes job ends Lines came entered goes = let y : Outcome = role_outcome n v asked w in let why : Option Cause = first_cause rows in let x : Told = (with_arm n w turn).1 in record {
+        → (Lines : List Event → Type 0) → ((closed : Bool) → ShutIs closed w n v → AppendCame Lines closed w n turn) → EntersBy what → GoesBy what (with_arm n w turn) → TellsOf (Verb.AtVb n v what) (with_arm n w turn).1.events → Row w (Verb.AtVb n v what) (with_arm n w turn)
+    role_row what notes job ends Lines came entered goes tells = let y : Outcome = role_outcome n v asked w in let why : Option Cause = first_cause rows in let x : Told = (with_arm n w turn).1 in record {
       ranged = λ fits here. armed_ranged n w turn (unless_ranged w y why here (role_ranged w n v asked here));
       rests = λ r here a all. weaker (with_arm n w turn).0 (armed_all Still IsTimely still_steps (λ id. tt) n w turn (unless_all Still IsTimely still_steps (λ id. tt) w y why all (role_still w n v asked here all)));
       fed = λ fine. (armed_fine n w turn (unless_fine w y why fine (role_fine w n v asked ends fine))).fed;
@@ -69,45 +71,46 @@ module _ (w : PlainWorld) (n v : ℕ) where
       told = λ r fits t. noted_told what notes x r (armed_answered Lines (r.disk_at n v).closed w r n turn (t.arms n) (came (r.disk_at n v).closed (t.shut n v).0))
           (armed_fires Lines (shut_at w n v) w n turn.0 turn.1 (t.arms n).1 (refused_calm why w y (role_calm w n v asked job)) (came (shut_at w n v) (λ vb e. refl)));
       entered = λ before r old. entered before r x.events x.answer old;
+      tells = tells;
       goes = goes;
     }
 
   -- and an operator's call that keeps it
-  admin_row : (what : VbVerb) (asked : AdminCall) → may_write (vb_kind what) ≡ false → admin_job n v asked ≡ lift (admin_at n v asked) → OpensNone v (admin_call asked) → EntersBy what
+  admin_row : (what : VbVerb) (asked : AdminCall) → may_write (vb_kind what) ≡ false → admin_job n v asked ≡ lift (admin_at n v asked) → OpensNone v (admin_call asked) → EntersBy what → ((node : PlainNode) → TellsOf (Verb.AtVb n v what) (admin_line n v asked node).1.events)
       → ((r : Chronicle) → AllTold w r → Says (λ told. LawfulAnswer r (Verb.AtVb n v what) told.events told.answer) (Same w) (on_node w n (admin_line n v asked)))
       → ((r : Chronicle) → Agrees w r → Goes (Verb.AtVb n v what) r (on_node w n (admin_line n v asked))) → Row w (Verb.AtVb n v what) (on_node w n (admin_line n v asked))
-  admin_row what asked calm job none entered says goes = alone_row w (Verb.AtVb n v what) n (admin_line n v asked)
+  admin_row what asked calm job none entered tells says goes = alone_row w (Verb.AtVb n v what) n (admin_line n v asked)
       (λ r. (refl, λ told s. subst (λ b. FiresAsSaid (if b then Some n else None) told.events told.answer) (sym calm) s)) entered (λ fits. admin_ranged n v asked) (λ node here. admin_still n v asked node)
-      (λ node. subst (λ j. NoNew node.vbs (after_job j node.vbs node.shelves).0.0) (sym job) (step_new node.vbs v (admin_call asked) none)) (admin_spared n v asked job) says (λ r fits ranged a. goes r a)
+      (λ node. subst (λ j. NoNew node.vbs (after_job j node.vbs node.shelves).0.0) (sym job) (step_new node.vbs v (admin_call asked) none)) (admin_spared n v asked job) tells says (λ r fits ranged a. goes r a)
 
   -- each verb
   pub vb_row_of : (what : VbVerb) → Row w (Verb.AtVb n v what) (vb_verb_step w n v what)
   vb_row_of (VbVerb.MakeActive uuid) = make_row Role.Active uuid (λ node. vb_causes w.uuids node v uuid) (VbVerb.MakeActive uuid) refl (λ closed shut. vb_came closed w n v shut uuid)
-      (λ before r lines said old. made_entered r n v Role.Active said old) (λ r fits ranged a. vb_goes starts stays w r n v fits.1 a uuid fits.2)
+      (λ before r lines said old. made_entered r n v Role.Active said old) (λ r fits ranged a. vb_goes starts stays w r n v fits.1 a uuid fits.2) (made_tells w n v Role.Active uuid (λ node. vb_causes w.uuids node v uuid))
   vb_row_of VbVerb.MakeReplica = make_row Role.Replica 0 (λ node. replica_causes node v) VbVerb.MakeReplica refl (λ closed shut. replica_came closed w n v shut)
-      (λ before r lines said old. made_entered r n v Role.Replica said old) (λ r fits ranged a. replica_goes starts stays w r n v fits.1 a)
+      (λ before r lines said old. made_entered r n v Role.Replica said old) (λ r fits ranged a. replica_goes starts stays w r n v fits.1 a) (made_tells w n v Role.Replica 0 (λ node. replica_causes node v))
   vb_row_of (VbVerb.Chain others) = let c : VbCall = VbCall.Chain (record { active = n; others = others }) in alone_row w (Verb.AtVb n v (VbVerb.Chain others)) n (chain_line n v others)
       (λ r. (refl, λ told s. s)) (λ before r lines said old. old) (λ fits. chain_ranged n v others) (chain_still n v others) (chain_less n v others)
-      (λ node. rows_fire (chain_causes n v others node) node (chain_made n v others node) (tt, (tt, (tt, tt))) (settled_fires n v c node))
+      (λ node. rows_fire (chain_causes n v others node) node (chain_made n v others node) (tt, (tt, (tt, tt))) (settled_fires n v c node)) (chain_tells w n v others)
       (λ r told. on_node_says IsOk w n (chain_line n v others) no_ok (λ node known. refused_says IsOk (λ k. k ≡ node) node (chain_made n v others node) (first_cause (chain_causes n v others node)) no_ok refl
       (settled_says n v c node (λ vb. also_resolved (quiet_reply VbAnswer.Done) (settled (record vb { others = others }))) (λ vb. refl) (λ vb. refl)))) (λ r fits ranged a. chain_line_goes stays steady w r n v others ranged a)
   vb_row_of (VbVerb.Promote uuid) = role_row (AdminCall.Promote uuid) (role_causes Role.Active (vb_in (w.nodes n) v) ++ uuid_causes w.uuids uuid) (VbVerb.Promote uuid) refl refl (λ node. promote_ends n v uuid (placed v node).vbs (placed v node).shelves)
       (EndsWith (AndPosts AnyPosts (IsPromotion n v uuid))) (λ closed shut. promote_came AnyPosts tt closed w n v (λ node e rs x same. tt) shut uuid) (λ before r lines said old. noted_entered r n v Role.Active said old)
-      (λ r fits ranged a. promote_line stays steady w r n v uuid fits.2 ranged a)
+      (λ r fits ranged a. promote_line stays steady w r n v uuid fits.2 ranged a) (promote_tells w n v uuid (first_cause (promote_causes w n v uuid)))
   vb_row_of VbVerb.Follow = role_row AdminCall.Follow (role_causes Role.Replica (vb_in (w.nodes n) v)) VbVerb.Follow refl refl (λ node. follow_ends n v (placed v node).vbs (placed v node).shelves)
       (EndsWith (AndPosts AnyPosts (IsTurn n v Role.Replica))) (λ closed shut. follow_came AnyPosts tt closed w n v (λ node e rs x same. tt) shut) (λ before r lines said old. noted_entered r n v Role.Replica said old)
-      (λ r fits ranged a. follow_line stays steady w r n v ranged a)
+      (λ r fits ranged a. follow_line stays steady w r n v ranged a) (follow_tells w n v (first_cause (turn_causes w n v Role.Replica)))
   vb_row_of VbVerb.Dead = role_row AdminCall.Dead (role_causes Role.Dead (vb_in (w.nodes n) v)) VbVerb.Dead refl refl (λ node. dead_ends n v (placed v node).vbs (placed v node).shelves)
       (EndsWith (AndPosts AnyPosts (IsTurn n v Role.Dead))) (λ closed shut. dead_came AnyPosts tt closed w n v (λ node e rs x same. tt) shut) (λ before r lines said old. noted_entered r n v Role.Dead said old)
-      (λ r fits ranged a. dead_line stays steady w r n v ranged a)
+      (λ r fits ranged a. dead_line stays steady w r n v ranged a) (dead_tells w n v (first_cause (turn_causes w n v Role.Dead)))
   vb_row_of VbVerb.Tick = alone_row w (Verb.AtVb n v VbVerb.Tick) n (tick_line n v) (λ r. (refl, λ told s. s)) (λ before r lines said old. old) (λ fits. tick_ranged n v) (tick_still n v) (tick_less n v)
-      (λ node. settled_fires n v (VbCall.Tick node.clock) node)
+      (λ node. settled_fires n v (VbCall.Tick node.clock) node) (tick_tells w n v)
       (λ r told. on_node_says IsOk w n (tick_line n v) no_ok (λ node known. settled_says n v (VbCall.Tick node.clock) node (λ vb. then_settled (expired node.clock vb)) (λ vb. refl) (λ vb. refl)))
       (λ r fits ranged a. tick_line_goes stays steady w r n v ranged a)
-  vb_row_of VbVerb.Seal = admin_row VbVerb.Seal AdminCall.Seal refl refl tt (λ before r lines said old. seal_entered r n v said old)
+  vb_row_of VbVerb.Seal = admin_row VbVerb.Seal AdminCall.Seal refl refl tt (λ before r lines said old. seal_entered r n v said old) (seal_tells w n v)
       (λ r told. admin_says (λ x. IsSealed (r.open_at n v) x.answer) w n v AdminCall.Seal refl (λ why. tt) (λ vb has. (ap (λ b. if b then 1 else 0) (sym (told.0 n v vb has)), λ why e s. cc))) (λ r a. seal_goes stays w r n v a)
   vb_row_of VbVerb.Take = alone_row w (Verb.AtVb n v VbVerb.Take) n (flush_line n v part.Take) (λ r. (refl, λ told s. s)) (λ before r lines said old. old) (λ fits. flush_ranged n v part.Take)
-      (flush_still n v part.Take) (flush_less n v part.Take) (flush_spared n v part.Take (take_taken v)) (λ r told. take_line_says w n v) (λ r fits ranged a. take_goes stays steady wholes w r n v ranged a)
+      (flush_still n v part.Take) (flush_less n v part.Take) (flush_spared n v part.Take (take_taken v)) (take_tells w n v) (λ r told. take_line_says w n v) (λ r fits ranged a. take_goes stays steady wholes w r n v ranged a)
   vb_row_of VbVerb.Save = let o : Outcome = on_node w n (save_line n v) in let x : Told = (with_arm n w o).1 in record {
     ranged = λ fits here. armed_ranged n w o (on_node_ranged w n (save_line n v) here (save_ranged n v));
     rests = λ r here a all. weaker (with_arm n w o).0 (armed_all Still IsTimely still_steps (λ id. tt) n w o (node_still w here all n (save_line n v) (λ node at there. flush_still n v part.Save (placed v node) (kept_ranged n node (placed v node) refl (λ c. refl) at) there)));
@@ -118,6 +121,7 @@ module _ (w : PlainWorld) (n v : ℕ) where
       (armed_answered NoLines (r.disk_at n v).closed w r n o (t.arms n) came, save_taken w r n v t.disks (r.disk_at n v).closed came),
       armed_fires NoLines (shut_at w n v) w n o.0 o.1 (t.arms n).1 (save_calm w n v) (save_line_came (shut_at w n v) w n v t.rests (λ vb e. refl)),
     );
+    tells = save_tells w n v;
     entered = λ before r old. save_entered r n v x.answer old;
     goes = λ r fits ranged a. save_goes stays w r n v a;
   }
@@ -128,12 +132,13 @@ module _ (w : PlainWorld) (n v : ℕ) where
     keeps = λ rests. (done_line_says w (opens_of w) n v (told_of_opens w)).1;
     bound = λ r a rule. bound_at w r a n _ (done_step w n v).1 rule (done_refused w n v);
     told = λ r fits t. ((done_line_says w r n v t.disks).0, due_fires n v o (node_spared w n (flush_line n v part.Done) (flush_spared n v part.Done (done_taken v))));
+    tells = done_tells w n v;
     entered = λ before r old. old;
     goes = λ r fits ranged a. told_goes (Verb.AtVb n v VbVerb.Done) r (done_step w n v) (done_goes stays steady wholes w r n v ranged a);
   }
-  vb_row_of VbVerb.Stat = admin_row VbVerb.Stat AdminCall.Stat refl refl tt (λ before r lines said old. old) (λ r told. admin_says IsOk w n v AdminCall.Stat refl no_ok (λ vb has. (tt, λ why e s. cc)))
+  vb_row_of VbVerb.Stat = admin_row VbVerb.Stat AdminCall.Stat refl refl tt (λ before r lines said old. old) (stat_tells w n v) (λ r told. admin_says IsOk w n v AdminCall.Stat refl no_ok (λ vb has. (tt, λ why e s. cc)))
       (λ r a. on_node_goes w r n (admin_line n v AdminCall.Stat) a (λ node e up. stat_goes w r n v node a e up))
-  vb_row_of VbVerb.Log = admin_row VbVerb.Log AdminCall.Log refl refl tt (λ before r lines said old. old) (λ r told. admin_says IsOk w n v AdminCall.Log refl no_ok (λ vb has. (tt, λ why e s. cc)))
+  vb_row_of VbVerb.Log = admin_row VbVerb.Log AdminCall.Log refl refl tt (λ before r lines said old. old) (log_tells w n v) (λ r told. admin_says IsOk w n v AdminCall.Log refl no_ok (λ vb has. (tt, λ why e s. cc)))
       (λ r a. on_node_goes w r n (admin_line n v AdminCall.Log) a (λ node e up. log_goes w r n v node a e))
-  vb_row_of VbVerb.Show = admin_row VbVerb.Show AdminCall.Show refl refl tt (λ before r lines said old. old) (λ r told. admin_says IsOk w n v AdminCall.Show refl no_ok (λ vb has. (tt, λ why e s. cc)))
+  vb_row_of VbVerb.Show = admin_row VbVerb.Show AdminCall.Show refl refl tt (λ before r lines said old. old) (λ node. all_pass (admin_line n v AdminCall.Show node).1.events) (λ r told. admin_says IsOk w n v AdminCall.Show refl no_ok (λ vb has. (tt, λ why e s. cc)))
       (λ r a. on_node_goes w r n (admin_line n v AdminCall.Show) a (λ node e up. show_goes w r n v node a e))
