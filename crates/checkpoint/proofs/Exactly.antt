@@ -9,7 +9,7 @@ use Rattle.vb_types.specs.declared.change.Act.{Act}
 use Rattle.vb_types.specs.declared.change.Act.TheVariants as act
 use Rattle.vb_types.specs.declared.change.Change.{Change}
 use Rattle.vb_types.specs.Histories.{IsIn}
-use Rattle.branch_model.proofs.Lasts.{in_filter, filter_in}
+use Rattle.branch_model.proofs.Lasts.{in_filter, kept_in_filter}
 use Rattle.vb_calls.specs.Spans.{change_weight, is_durable}
 use Rattle.checkpoint.specs.Checkpoints.{fits_by, fits_newer, item_at, items_weight}
 use Rattle.checkpoint.specs.Laws.{AboveExactly, FitsAs, FitsExactly, HasOneOfEach, IsPlain, PutsExactly, WeighsInNumbers, total_weight}
@@ -61,15 +61,15 @@ parts true b e h = absurd (cc)
 parts false true e h = absurd (cc)
 parts false false e h = (refl, refl, h)
 
-other_fits : (own : Bool) (items : List Change) (c : Change) → (fits_by own items None c ≡ true) ↔ ((length items < 1000) × (total_weight items + change_weight c ≤ 33554432))
-other_fits own items c =
+fits_other_exactly : (own : Bool) (items : List Change) (c : Change) → (fits_by own items None c ≡ true) ↔ ((length items < 1000) × (total_weight items + change_weight c ≤ 33554432))
+fits_other_exactly own items c =
     let w = weighed items in (
       λ e. (grind (arith, nat_tests), grind (arith, nat_tests)),
       λ h. let n = h.0 in let m = h.1 in grind (arith, nat_tests),
     )
 
-newer_fits : (items : List Change) (c d : Change) → (fits_newer items d c ≡ true) ↔ (IsPlain d.act × IsPlain c.act × (total_weight items + change_weight c ≤ 33554432 + change_weight d))
-newer_fits items c d =
+fits_newer_exactly : (items : List Change) (c d : Change) → (fits_newer items d c ≡ true) ↔ (IsPlain d.act × IsPlain c.act × (total_weight items + change_weight c ≤ 33554432 + change_weight d))
+fits_newer_exactly items c d =
     let w = weighed items in
     let test = nat_le (items_weight items + change_weight c - change_weight d) 33554432 in (
       λ e. let k = parts (is_durable d.act) (is_durable c.act) test e in
@@ -82,8 +82,8 @@ newer_fits items c d =
 
 fits_as : (items : List Change) (c : Change) → HasOneOfEach items → FitsAs items c
 fits_as items c one = record {
-  other = λ own lacks. subst (λ o. (fits_by own items o c ≡ true) ↔ ((length items < 1000) × (total_weight items + change_weight c ≤ 33554432))) (sym (item_none c.key items lacks)) (other_fits own items c);
-  newer = λ d i e. subst (λ o. (fits_by true items o c ≡ true) ↔ (IsPlain d.act × IsPlain c.act × (total_weight items + change_weight c ≤ 33554432 + change_weight d))) (sym (item_some c.key items d one i e)) (newer_fits items c d);
+  other = λ own lacks. subst (λ o. (fits_by own items o c ≡ true) ↔ ((length items < 1000) × (total_weight items + change_weight c ≤ 33554432))) (sym (item_none c.key items lacks)) (fits_other_exactly own items c);
+  newer = λ d i e. subst (λ o. (fits_by true items o c ≡ true) ↔ (IsPlain d.act × IsPlain c.act × (total_weight items + change_weight c ≤ 33554432 + change_weight d))) (sym (item_some c.key items d one i e)) (fits_newer_exactly items c d);
   received = λ d i e. ap (λ o. fits_by false items o c) (item_some c.key items d one i e);
 }
 
@@ -95,9 +95,9 @@ pushed_in : (x c : Change) (cs : List Change) → IsIn x (cs ++ c ∷ []) → Is
 pushed_in x c [] i = elim i [ inl e ↦ inr e | inr j ↦ absurd j ]
 pushed_in x c (d ∷ ds) i = elim i [ inl e ↦ inl (inl e) | inr j ↦ elim (pushed_in x c ds j) [ inl k ↦ inl (inr k) | inr e ↦ inr e ] ]
 
-in_pushed : (x c : Change) (cs : List Change) → IsIn x cs → IsIn x (cs ++ c ∷ [])
-in_pushed x c [] i = absurd i
-in_pushed x c (d ∷ ds) i = elim i [ inl e ↦ inl e | inr j ↦ inr (in_pushed x c ds j) ]
+stays_in_pushed : (x c : Change) (cs : List Change) → IsIn x cs → IsIn x (cs ++ c ∷ [])
+stays_in_pushed x c [] i = absurd i
+stays_in_pushed x c (d ∷ ds) i = elim i [ inl e ↦ inl e | inr j ↦ inr (stays_in_pushed x c ds j) ]
 
 last_in : (c : Change) (cs : List Change) → IsIn c (cs ++ c ∷ [])
 last_in c [] = inl refl
@@ -118,7 +118,7 @@ puts_exactly items c =
       ];
       others = λ x other. (
         λ i. elim (pushed_in x c (filter stays items) i) [ inl j ↦ (in_filter stays x items j).0 | inr same ↦ absurd (other (ap (λ y. y.key) same)) ],
-        λ i. in_pushed x c (filter stays items) (filter_in stays x items i (ap not (apart x.key c.key other))),
+        λ i. stays_in_pushed x c (filter stays items) (kept_in_filter stays x items i (ap not (apart x.key c.key other))),
       );
       rises = λ low high r l. entered_rises low high c items r l;
     }
@@ -126,5 +126,5 @@ puts_exactly items c =
 pub above_exactly : AboveExactly
 above_exactly place items x = (
   λ i. let k = in_filter (λ c. nat_lt place c.seq) x items i in (k.0, ltb-true place x.seq k.1),
-  λ h. filter_in (λ c. nat_lt place c.seq) x items h.0 (lt-ltb place x.seq h.1),
+  λ h. kept_in_filter (λ c. nat_lt place c.seq) x items h.0 (lt-ltb place x.seq h.1),
 )

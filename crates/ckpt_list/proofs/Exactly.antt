@@ -17,10 +17,10 @@ use Rattle.vb_calls.specs.declared.span.Origin.{Origin}
 use Rattle.vb_calls.specs.Spans.{all_spans}
 use Rattle.branch_model.specs.Histories.{last_seq}
 use Rattle.branch_model.proofs.Lists.{in_append, in_left, in_right}
-use Rattle.branch_model.proofs.Lasts.{in_filter, filter_in}
+use Rattle.branch_model.proofs.Lasts.{in_filter, kept_in_filter}
 use Rattle.checkpoint.specs.Checkpoints.{ckpt_last, ckpt_span, ckpt_with, entered, fits_in, span_by}
 use Rattle.cursor_set.specs.Cursors.{Places, place_of}
-use Rattle.ckpt_list.specs.Lists.{Ckpts, ends_of, held_of, high_of, spans_of, queued_by, opened, is_own, sealed_list, taken_by, taken_to, reach_of, cursor_place, moved_cursor, between}
+use Rattle.ckpt_list.specs.Lists.{Ckpts, ends_of, held_of, high_of, spans_of, queued_by, opened, is_own, sealed_list, taken_by, taken_to, reach_of, place_of_cursor, moved_cursor, between}
 use Rattle.ckpt_list.specs.Sound.{Follow, IsSound}
 use Rattle.ckpt_list.specs.Laws.{IsAmong, Gives, TakesExactly, NothingExactly, Queues, QueuesOne, SealsAlone, ResetsAlone}
 use Rattle.ckpt_list.proofs.Climbs.{Climbs, climbs_map, climbs_follow}
@@ -112,7 +112,7 @@ gives_to l m id need place items (Some n) s r e =
           (and_from (ltb place x) (leb need x) (lt-ltb place x a) (le-leb need x b));
       given = λ c. subst (λ xs. IsIn c xs ↔ (IsIn c (held_of l) × (place < c.seq) × (c.seq ≤ n))) same (
         (λ i. let f = in_filter (λ (d : Change). ltb place d.seq && leb d.seq n) c (held_of l) i in let p = and_parts (ltb place c.seq) (leb c.seq n) f.1 in (f.0, ltb-true place c.seq p.0, leb-true c.seq n p.1)),
-        (λ h. filter_in (λ (d : Change). ltb place d.seq && leb d.seq n) c (held_of l) h.0 (and_from (ltb place c.seq) (leb c.seq n) (lt-ltb place c.seq h.1) (le-leb c.seq n h.2))),
+        (λ h. kept_in_filter (λ (d : Change). ltb place d.seq && leb d.seq n) c (held_of l) h.0 (and_from (ltb place c.seq) (leb c.seq n) (lt-ltb place c.seq h.1) (le-leb c.seq n h.2))),
       );
       moved = subst (λ (x : Ckpts). place_of x.places id ≡ Some n) at (placed l.places id n);
       others = λ other ne. subst (λ (x : Ckpts). place_of x.places other ≡ place_of l.places other) at (unplaced l.places id n other ne);
@@ -121,18 +121,18 @@ gives_to l m id need place items (Some n) s r e =
 
 pub takes_exactly : TakesExactly
 takes_exactly l m id need place items s at e =
-    gives_to l m id need place items (reach_of l place need) s refl (sym (ap (λ o. taken_to (reach_of l (cursor_place o) need) l id (cursor_place o)) at) ∙ e)
+    gives_to l m id need place items (reach_of l place need) s refl (sym (ap (λ o. taken_to (reach_of l (place_of_cursor o) need) l id (place_of_cursor o)) at) ∙ e)
 
-none_taken : (l : Ckpts) (id place : ℕ) (o : Option ℕ) → ((taken_to o l id place).1 ≡ None) → o ≡ None
-none_taken l id place None e = refl
-none_taken l id place (Some n) e = absurd (cc)
+takes_none_exactly : (l : Ckpts) (id place : ℕ) (o : Option ℕ) → ((taken_to o l id place).1 ≡ None) → o ≡ None
+takes_none_exactly l id place None e = refl
+takes_none_exactly l id place (Some n) e = absurd (cc)
 
 pub nothing_exactly : NothingExactly
 nothing_exactly l id need place s low at =
     let all = all_follow l (ckpt_span l.newest) s refl in
     let top : all.0 ≡ high_of l = all.2 in
-    let now : taken_by l id need ≡ taken_to (reach_of l place need) l id place = ap (λ o. taken_to (reach_of l (cursor_place o) need) l id (cursor_place o)) at in (
-      (λ e. let none : reach_of l place need ≡ None = none_taken l id place (reach_of l place need) (sym (ap (λ x. x.1) now) ∙ e) in
+    let now : taken_by l id need ≡ taken_to (reach_of l place need) l id place = ap (λ o. taken_to (reach_of l (place_of_cursor o) need) l id (place_of_cursor o)) at in (
+      (λ e. let none : reach_of l place need ≡ None = takes_none_exactly l id place (reach_of l place need) (sym (ap (λ x. x.1) now) ∙ e) in
           ⊎_elim (λ a. inl a)
           (λ a. ⊎_elim
           (λ b. absurd (found_none (λ x. ltb place x && leb need x) (ends_of l) none all.0 (last_among l.floor all.0 (all_spans (spans_of l)) all.1 (omega arith))
@@ -154,7 +154,7 @@ not_true b e = ap not e
 entered_stay : (items : List Change) (c d : Change) → IsIn d items → IsIn d (entered items c) ⊎ (IsIn d items × (d.key ≡ c.key))
 entered_stay items c d i = ⊎_elim
     (λ t. inr (i, same_key d.key c.key t))
-    (λ f. inl (in_left d _ (c ∷ []) (filter_in (λ (x : Change). not (bytes_eq x.key c.key)) d items i (not_true (bytes_eq d.key c.key) f))))
+    (λ f. inl (in_left d _ (c ∷ []) (kept_in_filter (λ (x : Change). not (bytes_eq x.key c.key)) d items i (not_true (bytes_eq d.key c.key) f))))
     (cases_Bool (bytes_eq d.key c.key))
 
 entered_came : (items : List Change) (c d : Change) → IsIn d (entered items c) → (d ≡ c) ⊎ IsIn d items

@@ -15,8 +15,8 @@ use Rattle.vb_calls.specs.Spans.{change_weight, is_durable, starts_below}
 use Rattle.checkpoint.specs.Checkpoints.{Ckpt, ckpt_last, ckpt_span, ckpt_with, cut_to, empty_ckpt, fits_in, items_weight}
 use Rattle.checkpoint.proofs.Cuts.{cut_put, cut_same}
 use Rattle.ckpt_list.specs.Lists.{Ckpts, high_of, queued, sealed_list}
-use Rattle.ckpt_list.specs.Sound.{HasWholes, IsSound, whole_ends}
-use Rattle.ckpt_list.specs.Windows.{ArePartsAbove, CanSeal, Sealed, count_in, ends_with, first_of, put_in, queued_all, sealed_behind}
+use Rattle.ckpt_list.specs.Sound.{HasWholes, IsSound, ends_of_whole}
+use Rattle.ckpt_list.specs.Windows.{ArePartsAbove, CanSeal, Sealed, count_in, ends_behind, first_of, put_in, queued_all, sealed_behind}
 use Rattle.ckpt_list.proofs.Seals.{last_pushed, put_rises, queued_new, queued_put, sealed_on, sealed_sound, sound_newest, wholes_below, wholes_sorted, with_newest}
 
 two_parts : (a b : Bool) → (a && b) ≡ true → (a ≡ true) × (b ≡ true)
@@ -105,7 +105,7 @@ pub span_count : (ws : List Span) (o : Option Span) → length (ws ++ option_to_
 span_count ws None = omega (arith, length-append ws [])
 span_count ws (Some w) = omega (arith, length-append ws (w ∷ []))
 
-pub ends_count : (ends : List ℕ) (o : Option Span) → length (ends_with o ends) ≤ length ends + 1
+pub ends_count : (ends : List ℕ) (o : Option Span) → length (ends_behind o ends) ≤ length ends + 1
 ends_count ends None = omega arith
 ends_count ends (Some w) =
     let test : ℕ → Bool = λ e. not (nat_lt e w.last && starts_below e w.origin) in
@@ -206,10 +206,10 @@ list_with l s k = record { sealed = s.spans; items = s.items; newest = k; places
 
 pub sealed_same : (l : Ckpts) (ends : List ℕ) (ws : List Ckpt) (k : Ckpt) → list_with l (fold sealed_behind (sealed_of l ends) ws) k ≡ finished l (ws, k)
 sealed_same l ends [] k = refl
-sealed_same l ends (w ∷ ws) k = sealed_same (sealed_with l w) (ends_with (ckpt_span w) ends) ws k
+sealed_same l ends (w ∷ ws) k = sealed_same (sealed_with l w) (ends_behind (ckpt_span w) ends) ws k
 
 -- whole ends may have full checkpoints behind them
-pub can_seal : (l : Ckpts) (ends : List ℕ) (ws : List Ckpt) (k : Ckpt) → IsSound (record l { newest = first_of ws k }) → ends ≡ whole_ends l.sealed → Chained (first_of ws k).above ws k → CanSeal ends ws
+pub can_seal : (l : Ckpts) (ends : List ℕ) (ws : List Ckpt) (k : Ckpt) → IsSound (record l { newest = first_of ws k }) → ends ≡ ends_of_whole l.sealed → Chained (first_of ws k).above ws k → CanSeal ends ws
 can_seal l ends [] k sound wholes h = tt
 can_seal l ends (w ∷ ws) k sound wholes h =
     let m : Ckpts = record l { newest = w } in
@@ -217,7 +217,7 @@ can_seal l ends (w ∷ ws) k sound wholes h =
     let above = first_above (ckpt_last w) ws k h.2 in (
       subst (IsNonDecreasingBy (λ (e : ℕ). e)) (sym wholes) (wholes_sorted m sound),
       λ v at. subst (All (λ e. e < v.last)) (sym wholes) (wholes_below m v sound at),
-      can_seal (sealed_list m) (ends_with (ckpt_span w) ends) ws k (sound_newest (sealed_list m) next.0 (first_of ws k) above (first_rises (ckpt_last w) ws k h.2)) next.1 (subst (λ n. Chained n ws k) (sym above) h.2),
+      can_seal (sealed_list m) (ends_behind (ckpt_span w) ends) ws k (sound_newest (sealed_list m) next.0 (first_of ws k) above (first_rises (ckpt_last w) ws k h.2)) next.1 (subst (λ n. Chained n ws k) (sym above) h.2),
     )
 
 -- the list stays sound
@@ -227,8 +227,8 @@ sealed_stands l ends [] k whole h light = whole
 sealed_stands l ends (w ∷ ws) k whole h light =
     let m : Ckpts = record l { newest = w } in
     let above = first_above (ckpt_last w) ws k h.2 in
-    let next = with_newest (sealed_list m) (ends_with (ckpt_span w) ends) (sealed_on m ends whole light.0) (first_of ws k) above (first_rises (ckpt_last w) ws k h.2) in
-    sealed_stands (sealed_list m) (ends_with (ckpt_span w) ends) ws k next (subst (λ n. Chained n ws k) (sym above) h.2) light.1
+    let next = with_newest (sealed_list m) (ends_behind (ckpt_span w) ends) (sealed_on m ends whole light.0) (first_of ws k) above (first_rises (ckpt_last w) ws k h.2) in
+    sealed_stands (sealed_list m) (ends_behind (ckpt_span w) ends) ws k next (subst (λ n. Chained n ws k) (sym above) h.2) light.1
 
 -- what full checkpoints and an open one are to the list whose changes they took in
 pub record Filling (l : Ckpts) (all : List Change) (full : List Ckpt) (k : Ckpt) : Type 0 where

@@ -23,8 +23,8 @@ use Rattle.vb_calls.specs.declared.span.TheConstants.{MAX_WEIGHT}
 use Rattle.checkpoint.specs.Checkpoints.{Ckpt, empty_ckpt, items_weight, ckpt_last, ckpt_span, ckpt_with, item_at, span_by, entered, fits_in, fits_by}
 use Rattle.cursor_set.specs.Cursors.{Places, place_of, registered, advanced, may_advance}
 use Rattle.ckpt_list.specs.Lists.{Ckpts, ckpts_at, sealed_list, queued, queued_by, is_own}
-use Rattle.ckpt_list.specs.Windows.{ends_with}
-use Rattle.ckpt_list.specs.Sound.{AreLight, Follow, IsSound, HasWholes, whole_ends}
+use Rattle.ckpt_list.specs.Windows.{ends_behind}
+use Rattle.ckpt_list.specs.Sound.{AreLight, Follow, IsSound, HasWholes, ends_of_whole}
 use Rattle.ckpt_list.proofs.Climbs.{climbs_sorted, climbs_filter, climbs_map, climbs_follow, climbs_rises}
 use Rattle.ckpt_list.proofs.Takes.{spanned, follow_push, follow_le}
 use Rattle.ckpt_list.proofs.Stops.{whole_pushed}
@@ -32,8 +32,8 @@ use Rattle.ckpt_list.proofs.Weights.{sealed_light}
 
 -- what rises
 
-pub wholes_sorted : (l : Ckpts) → IsSound l → IsNonDecreasingBy (λ (e : ℕ). e) (whole_ends l.sealed)
-wholes_sorted l s = climbs_sorted (λ (e : ℕ). e) l.floor (whole_ends l.sealed) (climbs_filter (λ (e : ℕ). e) _ l.floor (map (λ (w : Span). w.last) l.sealed) (climbs_map (λ (w : Span). w.last) l.floor l.sealed (climbs_follow l.floor l.newest.above l.sealed s.spans)))
+pub wholes_sorted : (l : Ckpts) → IsSound l → IsNonDecreasingBy (λ (e : ℕ). e) (ends_of_whole l.sealed)
+wholes_sorted l s = climbs_sorted (λ (e : ℕ). e) l.floor (ends_of_whole l.sealed) (climbs_filter (λ (e : ℕ). e) _ l.floor (map (λ (w : Span). w.last) l.sealed) (climbs_map (λ (w : Span). w.last) l.floor l.sealed (climbs_follow l.floor l.newest.above l.sealed s.spans)))
 
 pub items_sorted : (l : Ckpts) → IsSound l → IsNonDecreasingBy (λ (c : Change). c.seq) l.items
 items_sorted l s = climbs_sorted (λ (c : Change). c.seq) l.floor l.items (climbs_rises l.floor l.newest.above l.items s.items)
@@ -182,7 +182,7 @@ queued_new l o c h = ⊎_elim (λ n. queued_empty l o c l.newest.items refl n) (
 
 -- a seal
 
-pub wholes_below : (l : Ckpts) (w : Span) → IsSound l → ckpt_span l.newest ≡ Some w → All (λ e. e < w.last) (whole_ends l.sealed)
+pub wholes_below : (l : Ckpts) (w : Span) → IsSound l → ckpt_span l.newest ≡ Some w → All (λ e. e < w.last) (ends_of_whole l.sealed)
 wholes_below l w s e =
     let k = spanned l.newest w s.newest e in
     let a : w.above ≡ l.newest.above = k.above in
@@ -193,9 +193,9 @@ wholes_below l w s e =
     ends_below low high [] f m = All-nil (λ e. e < w.last)
     ends_below low high (v ∷ vs) f m = All-cons (λ e. e < w.last) v.last (map (λ (u : Span). u.last) vs) (let n : v.last ≤ high = follow_le v.last high vs f.2 in omega arith) (ends_below v.last high vs f.2 m)
 
-sealed_some : (l : Ckpts) (ends : List ℕ) (w : Span) → IsSound l → ends ≡ whole_ends l.sealed → ckpt_span l.newest ≡ Some w
+sealed_some : (l : Ckpts) (ends : List ℕ) (w : Span) → IsSound l → ends ≡ ends_of_whole l.sealed → ckpt_span l.newest ≡ Some w
     → IsSound (record { sealed = l.sealed ++ w ∷ []; items = l.items ++ l.newest.items; newest = empty_ckpt (ckpt_last l.newest) l.newest.origin; places = l.places; floor = l.floor })
-    × (ends_with (Some w) ends ≡ whole_ends (l.sealed ++ w ∷ []))
+    × (ends_behind (Some w) ends ≡ ends_of_whole (l.sealed ++ w ∷ []))
 sealed_some l ends w sound wholes e =
     let s = spanned l.newest w sound.newest e in
     let above : w.above ≡ l.newest.above = s.above in
@@ -225,14 +225,14 @@ sealed_none l e = by_items l.newest.items refl
     by_items (x ∷ xs) f = let some : span_by l.newest.above l.newest.origin l.newest.items ≡ span_by l.newest.above l.newest.origin (x ∷ xs) = ap (span_by l.newest.above l.newest.origin) f in absurd (cc)
 
 -- the list with its open checkpoint sealed, and its whole ends
-pub sealed_sound : (l : Ckpts) (ends : List ℕ) → IsSound l → ends ≡ whole_ends l.sealed → IsSound (sealed_list l) × (ends_with (ckpt_span l.newest) ends ≡ whole_ends (sealed_list l).sealed)
+pub sealed_sound : (l : Ckpts) (ends : List ℕ) → IsSound l → ends ≡ ends_of_whole l.sealed → IsSound (sealed_list l) × (ends_behind (ckpt_span l.newest) ends ≡ ends_of_whole (sealed_list l).sealed)
 sealed_sound l ends sound wholes = by_span (ckpt_span l.newest) refl
   where
-    by_span : (o : Option Span) → ckpt_span l.newest ≡ o → IsSound (sealed_list l) × (ends_with (ckpt_span l.newest) ends ≡ whole_ends (sealed_list l).sealed)
-    by_span None e = subst (λ (m : Ckpts). IsSound m × (ends_with (ckpt_span l.newest) ends ≡ whole_ends m.sealed)) (sealed_none l e) (sound, ap (λ o. ends_with o ends) e ∙ wholes)
-    by_span (Some w) e = subst (λ o. IsSound (record (sealed_list l) { sealed = l.sealed ++ option_to_list o }) × (ends_with o ends ≡ whole_ends (l.sealed ++ option_to_list o))) (sym e) (sealed_some l ends w sound wholes e)
+    by_span : (o : Option Span) → ckpt_span l.newest ≡ o → IsSound (sealed_list l) × (ends_behind (ckpt_span l.newest) ends ≡ ends_of_whole (sealed_list l).sealed)
+    by_span None e = subst (λ (m : Ckpts). IsSound m × (ends_behind (ckpt_span l.newest) ends ≡ ends_of_whole m.sealed)) (sealed_none l e) (sound, ap (λ o. ends_behind o ends) e ∙ wholes)
+    by_span (Some w) e = subst (λ o. IsSound (record (sealed_list l) { sealed = l.sealed ++ option_to_list o }) × (ends_behind o ends ≡ ends_of_whole (l.sealed ++ option_to_list o))) (sym e) (sealed_some l ends w sound wholes e)
 
-pub sealed_on : (l : Ckpts) (ends : List ℕ) → HasWholes l ends → items_weight l.newest.items ≤ MAX_WEIGHT → HasWholes (sealed_list l) (ends_with (ckpt_span l.newest) ends)
+pub sealed_on : (l : Ckpts) (ends : List ℕ) → HasWholes l ends → items_weight l.newest.items ≤ MAX_WEIGHT → HasWholes (sealed_list l) (ends_behind (ckpt_span l.newest) ends)
 sealed_on l ends h heavy =
     let s = sealed_sound l ends h.sound h.wholes in
     record { sound = s.0; wholes = s.1; light = lighter (ckpt_span l.newest) refl }

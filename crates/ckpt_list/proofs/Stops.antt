@@ -17,8 +17,8 @@ use Rattle.vb_calls.specs.Streams.{is_seen}
 use Rattle.branch_model.proofs.Lists.{rises_le}
 use Rattle.checkpoint.specs.Checkpoints.{ckpt_last, ckpt_span, items_above, has_seen}
 use Rattle.ckpt_list.specs.Lists.{Ckpts, spans_of, held_of, high_of, may_stop, stop_of}
-use Rattle.ckpt_list.specs.Windows.{ends_with}
-use Rattle.ckpt_list.specs.Sound.{Follow, IsSound, whole_ends, whole_by, end_reaching}
+use Rattle.ckpt_list.specs.Windows.{ends_behind}
+use Rattle.ckpt_list.specs.Sound.{Follow, IsSound, ends_of_whole, whole_by, end_reaching}
 use Rattle.ckpt_list.proofs.Climbs.{filter_both, find_filter}
 use Rattle.ckpt_list.proofs.Takes.{found_some, spanned, follow_le, follow_push}
 
@@ -92,7 +92,7 @@ whole_by_none None = refl
 whole_by_none (Some e) = refl
 
 stop_by : (o : Option Span) (n low high : ℕ) (ws : List Span) → Follow low ws high → ((w : Span) → o ≡ Some w → high < w.last)
-    → whole_by o (find (λ e. ltb n e) (whole_ends ws)) ≡ find (λ e. ltb n e && is_whole e (ws ++ option_to_list o)) (map (λ w. w.last) ws)
+    → whole_by o (find (λ e. ltb n e) (ends_of_whole ws)) ≡ find (λ e. ltb n e && is_whole e (ws ++ option_to_list o)) (map (λ w. w.last) ws)
 stop_by None n low high ws f m =
     whole_by_none _ ∙ find_filter (λ e. is_whole e ws) (λ e. ltb n e) (map (λ (w : Span). w.last) ws)
     ∙ find_alike _ _ (λ e. and_swap (is_whole e ws) (ltb n e) ∙ ap (λ b. ltb n e && b) (sym (list_all-append (λ (w : Span). not (splits w e)) ws []))) (map (λ (w : Span). w.last) ws)
@@ -101,14 +101,14 @@ stop_by (Some w) n low high ws f m =
     ∙ stop_split (λ e. is_whole e ws && ltb n e) w low high ws f (m w refl)
     ∙ find_alike _ _ (λ e. and_turn (is_whole e ws) (ltb n e) (not (splits w e)) ∙ ap (λ b. ltb n e && b) (sym (list_all-append (λ (v : Span). not (splits v e)) ws (w ∷ [])))) (map (λ (v : Span). v.last) ws)
 
-pub stop_sealed : (l : Ckpts) (n : ℕ) → IsSound l
-    → whole_by (spans_of l).current (find (λ e. ltb n e) (whole_ends l.sealed)) ≡ find (λ e. ltb n e && is_whole e (all_spans (spans_of l))) (map (λ w. w.last) l.sealed)
-stop_sealed l n s =
+pub stop_of_sealed : (l : Ckpts) (n : ℕ) → IsSound l
+    → whole_by (spans_of l).current (find (λ e. ltb n e) (ends_of_whole l.sealed)) ≡ find (λ e. ltb n e && is_whole e (all_spans (spans_of l))) (map (λ w. w.last) l.sealed)
+stop_of_sealed l n s =
     stop_by (ckpt_span l.newest) n l.floor l.newest.above l.sealed s.spans
     (λ w e. let k = spanned l.newest w s.newest e in let a : w.above ≡ l.newest.above = k.above in let b : w.above < w.last = k.low in omega arith)
 
 -- the whole ends that stay when a span is sealed
-pub whole_pushed : (low high : ℕ) (ws : List Span) (w : Span) (ends : List ℕ) → Follow low ws high → w.above ≡ high → high < w.last → ends ≡ whole_ends ws → ends_with (Some w) ends ≡ whole_ends (ws ++ w ∷ [])
+pub whole_pushed : (low high : ℕ) (ws : List Span) (w : Span) (ends : List ℕ) → Follow low ws high → w.above ≡ high → high < w.last → ends ≡ ends_of_whole ws → ends_behind (Some w) ends ≡ ends_of_whole (ws ++ w ∷ [])
 whole_pushed low high ws w ends f at up is =
     let kept : List ℕ = filter (λ e. not (splits w e)) ends in
     let all : List Span = ws ++ w ∷ [] in
@@ -290,8 +290,8 @@ stop_some l place need v sync s e =
     (λ n m. held_open l place n sync s m ∙ ap (λ o. is_reached o n || has_seen sync place l.newest.items) e ∙ ap (λ b. b || has_seen sync place l.newest.items) (le-leb v n (omega arith)))))
     ∙ sym (stop_parts l place need sync)
 
-pub stop_open : (l : Ckpts) (place need : ℕ) (sync : Bool) → IsSound l → first_of place sync l.items ≡ None → has_seen sync place l.newest.items ≡ true → end_reaching need (spans_of l).current ≡ stop_of l place need sync
-stop_open l place need sync s e h =
+pub stop_of_open : (l : Ckpts) (place need : ℕ) (sync : Bool) → IsSound l → first_of place sync l.items ≡ None → has_seen sync place l.newest.items ≡ true → end_reaching need (spans_of l).current ≡ stop_of l place need sync
+stop_of_open l place need sync s e h =
     sym (open_by l place need sync (ckpt_span l.newest) s refl (λ n m. held_open l place n sync s m ∙ ap (λ o. is_reached o n || has_seen sync place l.newest.items) e ∙ h))
     ∙ ap (λ o. option_or o (find (may_stop l place need sync) (map (λ (w : Span). w.last) (option_to_list (ckpt_span l.newest))))) (sym (sealed_none l place need sync s e))
     ∙ sym (stop_parts l place need sync)

@@ -15,7 +15,7 @@ use Rattle.branch_model.specs.Histories.{last_seq}
 use Rattle.branch_model.proofs.Lists.{rises_le}
 use Rattle.checkpoint.specs.Checkpoints.{Ckpt, ckpt_last, ckpt_span, span_by, items_above}
 use Rattle.cursor_set.specs.Cursors.{Places, place_of, advanced, may_advance}
-use Rattle.ckpt_list.specs.Lists.{Ckpts, taken_by, taken_to, moved_cursor, cursor_place, spans_of, held_of, high_of, between, ends_of, reach_of}
+use Rattle.ckpt_list.specs.Lists.{Ckpts, taken_by, taken_to, moved_cursor, place_of_cursor, spans_of, held_of, high_of, between, ends_of, reach_of}
 use Rattle.ckpt_list.specs.Sound.{Follow, IsSound}
 
 -- what a checkpoint's span is
@@ -146,7 +146,7 @@ taken l id need place n items at to is =
     ap (λ (p : Places). (record l { places = p }, Some items)) (cond-true _ _ _ on)
     ∙ ap (λ xs. (moved_cursor l id n, Some xs)) is
     ∙ sym (ap (λ o. taken_to o l id place) to)
-    ∙ sym (ap (λ o. taken_to (reach_of l (cursor_place o) need) l id (cursor_place o)) at)
+    ∙ sym (ap (λ o. taken_to (reach_of l (place_of_cursor o) need) l id (place_of_cursor o)) at)
   where
     reached : (ns : List ℕ) → find (λ m. ltb place m && leb need m) ns ≡ Some n → leb place n ≡ true
     reached [] e = absurd (cc)
@@ -157,4 +157,4 @@ taken l id need place n items at to is =
 
 pub taken_none : (l : Ckpts) (id need place : ℕ) → place_of l.places id ≡ Some place → reach_of l place need ≡ None → (l, None) ≡ taken_by l id need
 taken_none l id need place at to =
-    sym (ap (λ o. taken_to o l id place) to) ∙ sym (ap (λ o. taken_to (reach_of l (cursor_place o) need) l id (cursor_place o)) at)
+    sym (ap (λ o. taken_to o l id place) to) ∙ sym (ap (λ o. taken_to (reach_of l (place_of_cursor o) need) l id (place_of_cursor o)) at)

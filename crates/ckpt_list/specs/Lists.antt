@@ -89,9 +89,9 @@ abbrev pub moved_cursor : Ckpts → ℕ → ℕ → Ckpts
 moved_cursor l id n = record l { places = finite.insert l.places id n }
 
 -- a cursor's place; 0 where it is not there
-abbrev pub cursor_place : Option ℕ → ℕ
-cursor_place None = 0
-cursor_place (Some place) = place
+abbrev pub place_of_cursor : Option ℕ → ℕ
+place_of_cursor None = 0
+place_of_cursor (Some place) = place
 
 -- what a take gives, and the list after it: the cursor of a number goes on to n, and no other moves
 abbrev pub taken_to : Option ℕ → Ckpts → ℕ → ℕ → Ckpts × Option (List Change)
@@ -100,7 +100,7 @@ taken_to (Some n) l id place = (moved_cursor l id n, Some (between place n (held
 
 -- a take by the cursor of a number, through the fewest checkpoints that reach `need`
 abbrev pub taken_by : Ckpts → ℕ → ℕ → Ckpts × Option (List Change)
-taken_by l id need = taken_to (reach_of l (cursor_place (place_of l.places id)) need) l id (cursor_place (place_of l.places id))
+taken_by l id need = taken_to (reach_of l (place_of_cursor (place_of l.places id)) need) l id (place_of_cursor (place_of l.places id))
 
 -- the position of the first checkpoint that goes on above a place
 abbrev pub window_at : Option Span → Option Position

@@ -21,8 +21,8 @@ Follow low [] high = low ≡ high
 Follow low (w ∷ ws) high = (w.above ≡ low) × (low < w.last) × Follow w.last ws high
 
 -- where spans end at which no later one of them goes on with a received snapshot
-abbrev pub whole_ends : List Span → List ℕ
-whole_ends ws = filter (λ n. is_whole n ws) (map (λ w. w.last) ws)
+abbrev pub ends_of_whole : List Span → List ℕ
+ends_of_whole ws = filter (λ n. is_whole n ws) (map (λ w. w.last) ws)
 
 -- where a span ends, if there is one and it reaches `need`
 abbrev pub end_reaching : ℕ → Option Span → Option ℕ
@@ -50,7 +50,7 @@ AreLight items (w ∷ ws) = (items_weight (between w.above w.last items) ≤ MAX
 -- the same, `ends` are the whole ends of the sealed spans, and these are light
 pub record HasWholes (l : Ckpts) (ends : List ℕ) : Type 0 where
   pub sound : IsSound l
-  pub wholes : ends ≡ whole_ends l.sealed
+  pub wholes : ends ≡ ends_of_whole l.sealed
   pub light : AreLight l.items l.sealed
 
 -- changes that can be written down at once: they rise, and weigh no more than a checkpoint may

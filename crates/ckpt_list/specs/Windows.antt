@@ -29,9 +29,9 @@ first_of [] k = k
 first_of (w ∷ ws) k = w
 
 -- the whole ends behind one more sealed span
-abbrev pub ends_with : Option Span → List ℕ → List ℕ
-ends_with None ends = ends
-ends_with (Some w) ends = filter (λ e. not (nat_lt e w.last && starts_below e w.origin)) ends ++ w.last ∷ []
+abbrev pub ends_behind : Option Span → List ℕ → List ℕ
+ends_behind None ends = ends
+ends_behind (Some w) ends = filter (λ e. not (nat_lt e w.last && starts_below e w.origin)) ends ++ w.last ∷ []
 
 -- the sealed checkpoints' spans, their changes, and the whole ends
 pub record Sealed : Type 0 where
@@ -41,13 +41,13 @@ pub record Sealed : Type 0 where
 
 -- one more checkpoint behind them, if it has changes
 abbrev pub sealed_behind : Sealed → Ckpt → Sealed
-sealed_behind s w = record { spans = s.spans ++ option_to_list (ckpt_span w); items = s.items ++ w.items; ends = ends_with (ckpt_span w) s.ends }
+sealed_behind s w = record { spans = s.spans ++ option_to_list (ckpt_span w); items = s.items ++ w.items; ends = ends_behind (ckpt_span w) s.ends }
 
 -- the whole ends rise and lie below each checkpoint that is sealed behind them
 abbrev pub CanSeal : List ℕ → List Ckpt → Type 0
 CanSeal ends [] = Unit {0}
 CanSeal ends (w ∷ ws) =
-    IsNonDecreasingBy (λ (e : ℕ). e) ends × ((s : Span) → ckpt_span w ≡ Some s → All (λ e. e < s.last) ends) × CanSeal (ends_with (ckpt_span w) ends) ws
+    IsNonDecreasingBy (λ (e : ℕ). e) ends × ((s : Span) → ckpt_span w ≡ Some s → All (λ e. e < s.last) ends) × CanSeal (ends_behind (ckpt_span w) ends) ws
 
 -- how many changes there are in checkpoints
 abbrev pub count_in : List Ckpt → ℕ

@@ -5,7 +5,7 @@ ghost use Rattle.std.specs.VecDeque.{deque_len};
 ghost use Rattle.std.specs.List.Sorted.{IsNonDecreasingBy};
 ghost use Rattle.vb_calls.specs.declared.span.Span.{Span as TheSpan};
 ghost use Rattle.checkpoint.specs.Checkpoints.{ckpt_last, ckpt_span, cut_to, empty_ckpt, items_weight};
-ghost use Rattle.ckpt_list.specs.Windows.{ArePartsAbove, CanSeal, count_in, ends_with, first_of, put_in, sealed_behind};
+ghost use Rattle.ckpt_list.specs.Windows.{ArePartsAbove, CanSeal, count_in, ends_behind, first_of, put_in, sealed_behind};
 
 use crate::parts::kept_by;
 use checkpoint::{Checkpoint, weight_of};
@@ -63,7 +63,7 @@ pub fn seal_behind(
     requires below { (w : TheSpan) → ckpt_span window.now ≡ Some w → All (λ e. e < w.last) wholes.now.items }
     ensures sealed { sealed.new.items ≡ sealed.old.items ++ option_to_list (ckpt_span window.old) }
     ensures items { items.new.items ≡ items.old.items ++ window.old.items }
-    ensures wholes { wholes.new.items ≡ ends_with (ckpt_span window.old) wholes.old.items }
+    ensures wholes { wholes.new.items ≡ ends_behind (ckpt_span window.old) wholes.old.items }
     ensures room { (vec_capacity sealed.old ≤ vec_capacity sealed.new) × (vec_capacity items.old ≤ vec_capacity items.new) × (vec_capacity wholes.old ≤ vec_capacity wholes.new) }
     ensures empty { window.new ≡ empty_ckpt (ckpt_last window.old) window.old.origin }
     ensures light { items_weight window.old.items ≤ MAX_WEIGHT }
@@ -99,7 +99,7 @@ pub fn seal_all(
 
 /// Puts a change into the open checkpoint where that has changes and takes it; else that is full, and
 /// a new one opens. An `Err` changes nothing.
-fn put_next(
+fn put_in_newest(
     alloc: Global,
     full: &mut VecDeque<Checkpoint>,
     newest: &mut Checkpoint,
@@ -135,7 +135,7 @@ pub fn put_all(
     let mut full = VecDeque::new(alloc);
     let mut rest = VecDeque::from(changes);
     while let Some(change) = rest.pop_front() {
-        if let Err(error) = put_next(alloc, &mut full, newest, change) {
+        if let Err(error) = put_in_newest(alloc, &mut full, newest, change) {
             reopen(full, newest, last);
             return Err(error);
         }

@@ -10,20 +10,20 @@ use Rattle.vb_calls.specs.declared.calls.VbCall.{VbCall}
 use Rattle.vb_calls.specs.declared.calls.VbCall.TheVariants as call
 use Rattle.vb_calls.specs.Programs.{Done}
 use Rattle.client_session.specs.Asking.{AsksFirst}
-use Rattle.client_session.specs.Serving.{Served, MOST_DURABLE, refused, next_waiter, deadline_of, durable_called, request_served}
+use Rattle.client_session.specs.Serving.{Served, MOST_DURABLE, refused, next_waiter, deadline_of, durable_called, request_handled}
 use Rattle.client_session.proofs.Outcomes.{room_at}
 
-pub get_asks : (clock : ℕ) (f : Frame) (key : List ℕ) (s : Served) → AsksFirst f.vb_or_status (call.Get key) (request_served clock f (Ok (request.Get key)) s)
-unfolding request_served
+pub get_asks : (clock : ℕ) (f : Frame) (key : List ℕ) (s : Served) → AsksFirst f.vb_or_status (call.Get key) (request_handled clock f (Ok (request.Get key)) s)
+unfolding request_handled
 get_asks clock f key s = (refl, refl)
 
-pub write_asks : (clock : ℕ) (f : Frame) (write : Write) (s : Served) → AsksFirst f.vb_or_status (call.Store write clock) (request_served clock f (Ok (request.Write write None)) s)
-unfolding request_served
+pub write_asks : (clock : ℕ) (f : Frame) (write : Write) (s : Served) → AsksFirst f.vb_or_status (call.Store write clock) (request_handled clock f (Ok (request.Write write None)) s)
+unfolding request_handled
 write_asks clock f write s = (refl, refl)
 
 pub durable_asks : (clock : ℕ) (f : Frame) (write : Write) (wish : Durability) (s : Served) → s.session.used < MOST_DURABLE
-    → AsksFirst f.vb_or_status (call.Durable write clock wish.level (deadline_of clock wish.timeout) (next_waiter s.session)) (request_served clock f (Ok (request.Write write (Some wish))) s)
-unfolding request_served
+    → AsksFirst f.vb_or_status (call.Durable write clock wish.level (deadline_of clock wish.timeout) (next_waiter s.session)) (request_handled clock f (Ok (request.Write write (Some wish))) s)
+unfolding request_handled
 durable_asks clock f write wish s h =
     let c : VbCall = call.Durable write clock wish.level (deadline_of clock wish.timeout) (next_waiter s.session) in
     subst (AsksFirst f.vb_or_status c)

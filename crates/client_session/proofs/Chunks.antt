@@ -17,7 +17,7 @@ use Rattle.vb_calls.proofs.Binds.{bind_assoc, bind_same}
 use Rattle.vb_calls.proofs.Conduct.{always_bind, always_so}
 use Rattle.client_session.specs.declared.session.Awaited.{Awaited}
 use Rattle.client_session.specs.Answers.{fault_lines}
-use Rattle.client_session.specs.Serving.{Served, closed_with, frame_served, ended_at, bytes_served, turns_served, with_bytes, is_waiting, outcome_told, outcome_by, outcome_served}
+use Rattle.client_session.specs.Serving.{Served, closed_with, frame_handled, ended_at, bytes_handled, turns_handled, with_bytes, is_waiting, outcome_answered, outcome_by, outcome_handled}
 use Rattle.client_session.specs.Conduct.{Waits}
 use Rattle.client_session.proofs.Conduct.{Stays, frame_stays, frame_apart}
 use Rattle.client_session.proofs.Turns.{turns_waiting, turns_none, turns_fault, turns_frame, by_turns, is_opened, is_closed}
@@ -30,37 +30,37 @@ end_same b fault s e = ap (λ h. closed_with s (fault_lines s.session.who.node s
 
 -- turns over more bytes are the turns, and then those over what they leave with the others
 Later : ℕ → Served → Type 0
-Later clock s = (b : List ℕ) → s.session.closed ≡ false → turns_served clock (with_bytes (s.session.reader ++ b) s) ≡ bind (turns_served clock s) (bytes_served clock b)
+Later clock s = (b : List ℕ) → s.session.closed ≡ false → turns_handled clock (with_bytes (s.session.reader ++ b) s) ≡ bind (turns_handled clock s) (bytes_handled clock b)
 
 -- where the turns do nothing
-still : (clock : ℕ) (b : List ℕ) (s : Served) → s.session.closed ≡ false → turns_served clock s ≡ Done s
-    → turns_served clock (with_bytes (s.session.reader ++ b) s) ≡ bind (turns_served clock s) (bytes_served clock b)
-still clock b s live e = sym (ap (λ p. bind p (bytes_served clock b)) e ∙ is_opened clock b s live)
+still : (clock : ℕ) (b : List ℕ) (s : Served) → s.session.closed ≡ false → turns_handled clock s ≡ Done s
+    → turns_handled clock (with_bytes (s.session.reader ++ b) s) ≡ bind (turns_handled clock s) (bytes_handled clock b)
+still clock b s live e = sym (ap (λ p. bind p (bytes_handled clock b)) e ∙ is_opened clock b s live)
 
 behind_fault : (clock : ℕ) (b : List ℕ) (s : Served) (fault : FrameFault) → is_waiting s.session ≡ false → first_frame s.session.reader ≡ Some (Err fault)
-    → turns_served clock (with_bytes (s.session.reader ++ b) s) ≡ bind (turns_served clock s) (bytes_served clock b)
+    → turns_handled clock (with_bytes (s.session.reader ++ b) s) ≡ bind (turns_handled clock s) (bytes_handled clock b)
 behind_fault clock b s fault w e =
     turns_fault clock (with_bytes (s.session.reader ++ b) s) fault w (stable s.session.reader b (Err fault) e)
     ∙ ap Done (end_same b fault s e)
-    ∙ sym (ap (λ p. bind p (bytes_served clock b)) (turns_fault clock s fault w e) ∙ is_closed clock b (ended_at (Some fault) s) refl)
+    ∙ sym (ap (λ p. bind p (bytes_handled clock b)) (turns_fault clock s fault w e) ∙ is_closed clock b (ended_at (Some fault) s) refl)
 
 behind_frame : (clock : ℕ) (b : List ℕ) (s : Served) (f : Frame) → is_waiting s.session ≡ false → first_frame s.session.reader ≡ Some (Ok f)
     → ((t : Served) → t.session.reader ≡ drop (frame_len f) s.session.reader → Later clock t) → s.session.closed ≡ false
-    → turns_served clock (with_bytes (s.session.reader ++ b) s) ≡ bind (turns_served clock s) (bytes_served clock b)
+    → turns_handled clock (with_bytes (s.session.reader ++ b) s) ≡ bind (turns_handled clock s) (bytes_handled clock b)
 unfolding Later
 behind_frame clock b s f w e later live =
     let rest : List ℕ = drop (frame_len f) s.session.reader in
     let start : Served = with_bytes rest s in
-    let run : Prog Served = frame_served clock f start in
+    let run : Prog Served = frame_handled clock f start in
     turns_frame clock (with_bytes (s.session.reader ++ b) s) f w (stable s.session.reader b (Ok f) e)
-    ∙ ap (λ x. bind (frame_served clock f (with_bytes x s)) (turns_served clock)) (drop-append-le (frame_len f) s.session.reader b (front_within s.session.reader f (ap frame_in e)))
-    ∙ ap (λ p. bind p (turns_served clock)) (frame_apart (rest ++ b) clock f start)
-    ∙ bind_assoc run (λ t. Done (with_bytes (rest ++ b) t)) (turns_served clock)
-    ∙ bind_same run (λ t. turns_served clock (with_bytes (rest ++ b) t)) (λ t. bind (turns_served clock t) (bytes_served clock b))
-    (always_so AnyReply AnyCall (Stays start) (λ t. turns_served clock (with_bytes (rest ++ b) t) ≡ bind (turns_served clock t) (bytes_served clock b)) run
-    (λ t stays. ap (λ r. turns_served clock (with_bytes (r ++ b) t)) (sym stays.reader) ∙ later t stays.reader b (stays.closed ∙ live))
+    ∙ ap (λ x. bind (frame_handled clock f (with_bytes x s)) (turns_handled clock)) (drop-append-le (frame_len f) s.session.reader b (front_within s.session.reader f (ap frame_in e)))
+    ∙ ap (λ p. bind p (turns_handled clock)) (frame_apart (rest ++ b) clock f start)
+    ∙ bind_assoc run (λ t. Done (with_bytes (rest ++ b) t)) (turns_handled clock)
+    ∙ bind_same run (λ t. turns_handled clock (with_bytes (rest ++ b) t)) (λ t. bind (turns_handled clock t) (bytes_handled clock b))
+    (always_so AnyReply AnyCall (Stays start) (λ t. turns_handled clock (with_bytes (rest ++ b) t) ≡ bind (turns_handled clock t) (bytes_handled clock b)) run
+    (λ t stays. ap (λ r. turns_handled clock (with_bytes (r ++ b) t)) (sym stays.reader) ∙ later t stays.reader b (stays.closed ∙ live))
     (frame_stays start clock f start (record { who = refl; reader = refl; closed = refl })))
-    ∙ sym (ap (λ p. bind p (bytes_served clock b)) (turns_frame clock s f w e) ∙ bind_assoc run (turns_served clock) (bytes_served clock b))
+    ∙ sym (ap (λ p. bind p (bytes_handled clock b)) (turns_frame clock s f w e) ∙ bind_assoc run (turns_handled clock) (bytes_handled clock b))
 
 later_so : (clock : ℕ) (s : Served) → Later clock s
 unfolding Later
@@ -71,57 +71,57 @@ later_so clock = by_turns
     (λ s fault w e b live. behind_fault clock b s fault w e)
     (λ s f w e later b live. behind_frame clock b s f w e later live)
 
-pub later : (clock : ℕ) (b : List ℕ) (s : Served) → s.session.closed ≡ false → turns_served clock (with_bytes (s.session.reader ++ b) s) ≡ bind (turns_served clock s) (bytes_served clock b)
+pub later : (clock : ℕ) (b : List ℕ) (s : Served) → s.session.closed ≡ false → turns_handled clock (with_bytes (s.session.reader ++ b) s) ≡ bind (turns_handled clock s) (bytes_handled clock b)
 unfolding Later
 later clock b s live = later_so clock s b live
 
-two_by : (clock : ℕ) (a b : List ℕ) (s : Served) (closed : Bool) → s.session.closed ≡ closed → bytes_served clock (a ++ b) s ≡ bind (bytes_served clock a s) (bytes_served clock b)
-two_by clock a b s true e = is_closed clock (a ++ b) s e ∙ sym (ap (λ p. bind p (bytes_served clock b)) (is_closed clock a s e) ∙ is_closed clock b s e)
+two_by : (clock : ℕ) (a b : List ℕ) (s : Served) (closed : Bool) → s.session.closed ≡ closed → bytes_handled clock (a ++ b) s ≡ bind (bytes_handled clock a s) (bytes_handled clock b)
+two_by clock a b s true e = is_closed clock (a ++ b) s e ∙ sym (ap (λ p. bind p (bytes_handled clock b)) (is_closed clock a s e) ∙ is_closed clock b s e)
 two_by clock a b s false e =
-    is_opened clock (a ++ b) s e ∙ ap (λ x. turns_served clock (with_bytes x s)) (sym (append_assoc s.session.reader a b))
+    is_opened clock (a ++ b) s e ∙ ap (λ x. turns_handled clock (with_bytes x s)) (sym (append_assoc s.session.reader a b))
     ∙ later clock b (with_bytes (s.session.reader ++ a) s) e
-    ∙ ap (λ p. bind p (bytes_served clock b)) (sym (is_opened clock a s e))
+    ∙ ap (λ p. bind p (bytes_handled clock b)) (sym (is_opened clock a s e))
 
 -- two pieces are served as one
-pub two : (clock : ℕ) (a b : List ℕ) (s : Served) → bytes_served clock (a ++ b) s ≡ bind (bytes_served clock a s) (bytes_served clock b)
+pub two : (clock : ℕ) (a b : List ℕ) (s : Served) → bytes_handled clock (a ++ b) s ≡ bind (bytes_handled clock a s) (bytes_handled clock b)
 two clock a b s = two_by clock a b s s.session.closed refl
 
 -- ---- while an outcome is awaited
 
 -- bytes are kept
 pub kept_behind : (clock : ℕ) (piece : List ℕ) (s : Served) → s.session.closed ≡ false → is_waiting s.session ≡ true
-    → bytes_served clock piece s ≡ Done (with_bytes (s.session.reader ++ piece) s)
+    → bytes_handled clock piece s ≡ Done (with_bytes (s.session.reader ++ piece) s)
 kept_behind clock piece s live w = is_opened clock piece s live ∙ turns_waiting clock (with_bytes (s.session.reader ++ piece) s) w
 
 between_if : (clock : ℕ) (r : Resolved) (a : Awaited) (piece : List ℕ) (s : Served) (mine : Bool) → s.session.closed ≡ false → is_waiting s.session ≡ true
-    → (if mine then turns_served clock (outcome_told a r.how (with_bytes (s.session.reader ++ piece) s)) else Done (with_bytes (s.session.reader ++ piece) s))
-    ≡ bind (if mine then turns_served clock (outcome_told a r.how s) else Done s) (bytes_served clock piece)
-between_if clock r a piece s true live w = later clock piece (outcome_told a r.how s) live
+    → (if mine then turns_handled clock (outcome_answered a r.how (with_bytes (s.session.reader ++ piece) s)) else Done (with_bytes (s.session.reader ++ piece) s))
+    ≡ bind (if mine then turns_handled clock (outcome_answered a r.how s) else Done s) (bytes_handled clock piece)
+between_if clock r a piece s true live w = later clock piece (outcome_answered a r.how s) live
 between_if clock r a piece s false live w = sym (kept_behind clock piece s live w)
 
 between_by : (clock : ℕ) (r : Resolved) (piece : List ℕ) (s : Served) (o : Option Awaited) → s.session.closed ≡ false → is_waiting s.session ≡ true
-    → outcome_by clock r (with_bytes (s.session.reader ++ piece) s) o ≡ bind (outcome_by clock r s o) (bytes_served clock piece)
+    → outcome_by clock r (with_bytes (s.session.reader ++ piece) s) o ≡ bind (outcome_by clock r s o) (bytes_handled clock piece)
 between_by clock r piece s None live w = sym (kept_behind clock piece s live w)
 between_by clock r piece s (Some a) live w = between_if clock r a piece s (a.waiter == r.waiter) live w
 
 -- bytes that come before the outcome are served as those that come after it
 pub between : (clock after : ℕ) (r : Resolved) (piece : List ℕ) (s : Served) → s.session.closed ≡ false → is_waiting s.session ≡ true
-    → bind (bytes_served clock piece s) (outcome_served after r) ≡ bind (outcome_served after r s) (bytes_served after piece)
-unfolding outcome_served
+    → bind (bytes_handled clock piece s) (outcome_handled after r) ≡ bind (outcome_handled after r s) (bytes_handled after piece)
+unfolding outcome_handled
 between clock after r piece s live w =
-    ap (λ p. bind p (outcome_served after r)) (kept_behind clock piece s live w) ∙ between_by after r piece s s.session.awaited live w
+    ap (λ p. bind p (outcome_handled after r)) (kept_behind clock piece s live w) ∙ between_by after r piece s s.session.awaited live w
 
 -- ---- less than a frame
 
 pub cut : (clock : ℕ) (piece : List ℕ) (s : Served) → s.session.closed ≡ false → first_frame (s.session.reader ++ piece) ≡ None
-    → bytes_served clock piece s ≡ Done (with_bytes (s.session.reader ++ piece) s)
+    → bytes_handled clock piece s ≡ Done (with_bytes (s.session.reader ++ piece) s)
 cut clock piece s live none = is_opened clock piece s live ∙ cut_by clock (with_bytes (s.session.reader ++ piece) s) (is_waiting s.session) refl none
   where
-    cut_by : (clock : ℕ) (t : Served) (waiting : Bool) → is_waiting t.session ≡ waiting → first_frame t.session.reader ≡ None → turns_served clock t ≡ Done t
+    cut_by : (clock : ℕ) (t : Served) (waiting : Bool) → is_waiting t.session ≡ waiting → first_frame t.session.reader ≡ None → turns_handled clock t ≡ Done t
     cut_by clock t true w e = turns_waiting clock t w
     cut_by clock t false w e = turns_none clock t w e
 
-nothing_by : (clock : ℕ) (s : Served) (closed : Bool) → s.session.closed ≡ closed → Waits s.session → bytes_served clock [] s ≡ Done s
+nothing_by : (clock : ℕ) (s : Served) (closed : Bool) → s.session.closed ≡ closed → Waits s.session → bytes_handled clock [] s ≡ Done s
 nothing_by clock s true e waits = is_closed clock [] s e
 nothing_by clock s false e (inl closed) = cc
 nothing_by clock s false e (inr (inl waiting)) = kept_behind clock [] s e waiting ∙ ap (λ x. Done (with_bytes x s)) (append-nil s.session.reader)
@@ -130,9 +130,9 @@ nothing_by clock s false e (inr (inr none)) =
 
 -- what turns leave
 Leaves : ℕ → Served → Type 0
-Leaves clock s = Always AnyCall (λ t. Waits t.session) (turns_served clock s)
+Leaves clock s = Always AnyCall (λ t. Waits t.session) (turns_handled clock s)
 
-leaves : (clock : ℕ) (s t : Served) → turns_served clock s ≡ Done t → Waits t.session → Leaves clock s
+leaves : (clock : ℕ) (s t : Served) → turns_handled clock s ≡ Done t → Waits t.session → Leaves clock s
 unfolding Leaves
 leaves clock s t e waits = subst (Always AnyCall (λ u. Waits u.session)) (sym e) waits
 
@@ -142,7 +142,7 @@ unfolding Leaves
 leaves_behind clock s f w e later =
     let start : Served = with_bytes (drop (frame_len f) s.session.reader) s in
     subst (Always AnyCall (λ u. Waits u.session)) (sym (turns_frame clock s f w e))
-    (always_bind AnyReply AnyCall (Stays start) (λ u. Waits u.session) (frame_served clock f start) (turns_served clock)
+    (always_bind AnyReply AnyCall (Stays start) (λ u. Waits u.session) (frame_handled clock f start) (turns_handled clock)
     (frame_stays start clock f start (record { who = refl; reader = refl; closed = refl })) (λ t stays. later t stays.reader))
 
 leaves_so : (clock : ℕ) (s : Served) → Leaves clock s
@@ -153,29 +153,29 @@ leaves_so clock = by_turns
     (λ s fault w e. leaves clock s (ended_at (Some fault) s) (turns_fault clock s fault w e) (inl refl))
     (λ s f w e later. leaves_behind clock s f w e later)
 
-pub turns_leave : (clock : ℕ) (s : Served) → Always AnyCall (λ t. Waits t.session) (turns_served clock s)
+pub turns_leave : (clock : ℕ) (s : Served) → Always AnyCall (λ t. Waits t.session) (turns_handled clock s)
 unfolding Leaves
 turns_leave clock s = leaves_so clock s
 
-kept_by : (clock : ℕ) (piece : List ℕ) (s : Served) (closed : Bool) → s.session.closed ≡ closed → Always AnyCall (λ t. Waits t.session) (bytes_served clock piece s)
+kept_by : (clock : ℕ) (piece : List ℕ) (s : Served) (closed : Bool) → s.session.closed ≡ closed → Always AnyCall (λ t. Waits t.session) (bytes_handled clock piece s)
 kept_by clock piece s true e = subst (Always AnyCall (λ t. Waits t.session)) (sym (is_closed clock piece s e)) (inl e)
 kept_by clock piece s false e = subst (Always AnyCall (λ t. Waits t.session)) (sym (is_opened clock piece s e)) (turns_leave clock (with_bytes (s.session.reader ++ piece) s))
 
 -- what bytes leave
-pub kept : (clock : ℕ) (piece : List ℕ) (s : Served) → Always AnyCall (λ t. Waits t.session) (bytes_served clock piece s)
+pub kept : (clock : ℕ) (piece : List ℕ) (s : Served) → Always AnyCall (λ t. Waits t.session) (bytes_handled clock piece s)
 kept clock piece s = kept_by clock piece s s.session.closed refl
 
-settled_if : (clock : ℕ) (t s : Served) (mine : Bool) → Waits s.session → Always AnyCall (λ u. Waits u.session) (if mine then turns_served clock t else Done s)
+settled_if : (clock : ℕ) (t s : Served) (mine : Bool) → Waits s.session → Always AnyCall (λ u. Waits u.session) (if mine then turns_handled clock t else Done s)
 settled_if clock t s true waits = turns_leave clock t
 settled_if clock t s false waits = waits
 
 settled_by : (clock : ℕ) (r : Resolved) (s : Served) (o : Option Awaited) → Waits s.session → Always AnyCall (λ t. Waits t.session) (outcome_by clock r s o)
 settled_by clock r s None waits = waits
-settled_by clock r s (Some a) waits = settled_if clock (outcome_told a r.how s) s (a.waiter == r.waiter) waits
+settled_by clock r s (Some a) waits = settled_if clock (outcome_answered a r.how s) s (a.waiter == r.waiter) waits
 
 -- what an outcome leaves
-pub settled : (clock : ℕ) (r : Resolved) (s : Served) → Waits s.session → Always AnyCall (λ t. Waits t.session) (outcome_served clock r s)
-unfolding outcome_served
+pub settled : (clock : ℕ) (r : Resolved) (s : Served) → Waits s.session → Always AnyCall (λ t. Waits t.session) (outcome_handled clock r s)
+unfolding outcome_handled
 settled clock r s waits = settled_by clock r s s.session.awaited waits
 
 -- a new connection
@@ -184,12 +184,12 @@ nothing = given_one [] None (inl refl)
 
 -- ---- any pieces
 
-all_by : (clock : ℕ) (pieces : List (List ℕ)) (a : List ℕ) (s : Served) → fold (next_of (bytes_served clock)) (bytes_served clock a s) pieces ≡ bytes_served clock (a ++ concat pieces) s
-all_by clock [] a s = ap (λ x. bytes_served clock x s) (sym (append-nil a))
+all_by : (clock : ℕ) (pieces : List (List ℕ)) (a : List ℕ) (s : Served) → fold (next_of (bytes_handled clock)) (bytes_handled clock a s) pieces ≡ bytes_handled clock (a ++ concat pieces) s
+all_by clock [] a s = ap (λ x. bytes_handled clock x s) (sym (append-nil a))
 all_by clock (piece ∷ pieces) a s =
-    ap (λ p. fold (next_of (bytes_served clock)) p pieces) (sym (two clock a piece s)) ∙ all_by clock pieces (a ++ piece) s
-    ∙ ap (λ x. bytes_served clock x s) (append_assoc a piece (concat pieces))
+    ap (λ p. fold (next_of (bytes_handled clock)) p pieces) (sym (two clock a piece s)) ∙ all_by clock pieces (a ++ piece) s
+    ∙ ap (λ x. bytes_handled clock x s) (append_assoc a piece (concat pieces))
 
-pub all : (clock : ℕ) (pieces : List (List ℕ)) (s : Served) → Waits s.session → each (bytes_served clock) pieces s ≡ bytes_served clock (concat pieces) s
+pub all : (clock : ℕ) (pieces : List (List ℕ)) (s : Served) → Waits s.session → each (bytes_handled clock) pieces s ≡ bytes_handled clock (concat pieces) s
 all clock pieces s waits =
-    ap (λ p. fold (next_of (bytes_served clock)) p pieces) (sym (nothing_by clock s s.session.closed refl waits)) ∙ all_by clock pieces [] s
+    ap (λ p. fold (next_of (bytes_handled clock)) p pieces) (sym (nothing_by clock s s.session.closed refl waits)) ∙ all_by clock pieces [] s

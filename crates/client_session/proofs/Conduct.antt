@@ -27,8 +27,8 @@ use Rattle.vb_calls.specs.Programs.{Done, Call, bind, IsReply, AnyCall, Always, 
 use Rattle.client_session.specs.declared.session.Awaited.{Awaited}
 use Rattle.client_session.specs.declared.session.Settings.{Settings}
 use Rattle.client_session.specs.declared.session.Who.{Who}
-use Rattle.client_session.specs.Answers.{status_reply, value_reply, found_reply, stored_reply, reply_to, reply_line, reply_lines, change_lines, asked_lines}
-use Rattle.client_session.specs.Serving.{Served, served, with_lines, with_bytes, with_used, refused, told, asked, MOST_DURABLE, next_waiter, deadline_of, outcome_of, outcome_reply, prepared_told, awaited_by, durable_answered, durable_told, durable_called, durable_asked, request_served, frame_served}
+use Rattle.client_session.specs.Answers.{status_reply, value_reply, found_reply, stored_reply, reply_to, reply_line, reply_lines, change_lines, request_lines}
+use Rattle.client_session.specs.Serving.{Served, served, with_lines, with_bytes, with_used, refused, told, asked, MOST_DURABLE, next_waiter, deadline_of, outcome_of, outcome_reply, answered_or_awaited, awaited_by, durable_answered, durable_replied, durable_called, durable_requested, request_handled, frame_handled}
 use Rattle.client_session.specs.Conduct.{IsClients, Answered, Begun}
 
 -- lines, and more lines
@@ -48,7 +48,7 @@ pub record Stays (old new : Served) : Type 0 where
   pub reader : new.session.reader ≡ old.session.reader
   pub closed : new.session.closed ≡ old.session.closed
 
-prepared_stays : (old : Served) (a : Awaited) (how : Option Resolution) (s : Served) → Stays old s → Stays old (prepared_told a how s)
+prepared_stays : (old : Served) (a : Awaited) (how : Option Resolution) (s : Served) → Stays old s → Stays old (answered_or_awaited a how s)
 prepared_stays old a None s stays = record { who = stays.who; reader = stays.reader; closed = stays.closed }
 prepared_stays old a (Some how) s stays = record { who = stays.who; reader = stays.reader; closed = stays.closed }
 
@@ -57,8 +57,8 @@ answered_stays old waiter f how (answer.Status st) s stays = record { who = stay
 answered_stays old waiter f how (answer.Prepared seq cas) s stays = prepared_stays old (awaited_by waiter f) how s stays
 answered_stays old waiter f how other s stays = stays
 
-durable_stays : (old : Served) (waiter : ℕ) (f : Frame) (s : Served) (reply : Option VbReply) → Stays old s → Stays old (durable_told waiter f s reply)
-unfolding durable_told
+durable_stays : (old : Served) (waiter : ℕ) (f : Frame) (s : Served) (reply : Option VbReply) → Stays old s → Stays old (durable_replied waiter f s reply)
+unfolding durable_replied
 durable_stays old waiter f s None stays = record { who = stays.who; reader = stays.reader; closed = stays.closed }
 durable_stays old waiter f s (Some reply) stays =
     answered_stays old waiter f (outcome_of waiter reply.resolved) reply.answer (with_lines s (map (event.Changed s.session.who.node f.vb_or_status reply.branch) reply.changes))
@@ -72,8 +72,8 @@ called_stays : (old : Served) (f : Frame) (c : VbCall) (s : Served) → Stays ol
 called_stays old f c s stays =
     (tt, λ reply any. durable_stays old (next_waiter s.session) f (with_used s) reply (record { who = stays.who; reader = stays.reader; closed = stays.closed }))
 
-pub request_stays : (old : Served) (clock : ℕ) (f : Frame) (r : Result KvRequest Status) (s : Served) → Stays old s → Always AnyCall (Stays old) (request_served clock f r s)
-unfolding request_served
+pub request_stays : (old : Served) (clock : ℕ) (f : Frame) (r : Result KvRequest Status) (s : Served) → Stays old s → Always AnyCall (Stays old) (request_handled clock f r s)
+unfolding request_handled
 request_stays old clock f (Err st) s stays = record { who = stays.who; reader = stays.reader; closed = stays.closed }
 request_stays old clock f (Ok request.Noop) s stays = record { who = stays.who; reader = stays.reader; closed = stays.closed }
 request_stays old clock f (Ok (request.Hello features)) s stays = record { who = stays.who; reader = stays.reader; closed = stays.closed }
@@ -84,15 +84,15 @@ request_stays old clock f (Ok (request.Write write (Some wish))) s stays =
     either (Always AnyCall (Stays old)) (nat_le MOST_DURABLE s.session.used) (Done (refused f status.Etmpfail s)) (durable_called f c s)
     (record { who = stays.who; reader = stays.reader; closed = stays.closed }) (called_stays old f c s stays)
 
-pub frame_stays : (old : Served) (clock : ℕ) (f : Frame) (s : Served) → Stays old s → Always AnyCall (Stays old) (frame_served clock f s)
-unfolding frame_served
+pub frame_stays : (old : Served) (clock : ℕ) (f : Frame) (s : Served) → Stays old s → Always AnyCall (Stays old) (frame_handled clock f s)
+unfolding frame_handled
 frame_stays old clock f s stays =
-    either (Always AnyCall (Stays old)) (f.magic == RESPONSE) (Done s) (request_served clock f (request_of s.session.settings.json f) s) stays
+    either (Always AnyCall (Stays old)) (f.magic == RESPONSE) (Done s) (request_handled clock f (request_of s.session.settings.json f) s) stays
     (request_stays old clock f (request_of s.session.settings.json f) s stays)
 
 -- ---- frames are served whatever the reader holds
 
-prepared_apart : (bytes : List ℕ) (a : Awaited) (how : Option Resolution) (s : Served) → prepared_told a how (with_bytes bytes s) ≡ with_bytes bytes (prepared_told a how s)
+prepared_apart : (bytes : List ℕ) (a : Awaited) (how : Option Resolution) (s : Served) → answered_or_awaited a how (with_bytes bytes s) ≡ with_bytes bytes (answered_or_awaited a how s)
 prepared_apart bytes a None s = refl
 prepared_apart bytes a (Some how) s = refl
 
@@ -102,8 +102,8 @@ answered_apart bytes waiter f how (answer.Status st) s = refl
 answered_apart bytes waiter f how (answer.Prepared seq cas) s = prepared_apart bytes (awaited_by waiter f) how s
 answered_apart bytes waiter f how other s = refl
 
-durable_apart : (bytes : List ℕ) (waiter : ℕ) (f : Frame) (s : Served) (reply : Option VbReply) → durable_told waiter f (with_bytes bytes s) reply ≡ with_bytes bytes (durable_told waiter f s reply)
-unfolding durable_told
+durable_apart : (bytes : List ℕ) (waiter : ℕ) (f : Frame) (s : Served) (reply : Option VbReply) → durable_replied waiter f (with_bytes bytes s) reply ≡ with_bytes bytes (durable_replied waiter f s reply)
+unfolding durable_replied
 durable_apart bytes waiter f s None = refl
 durable_apart bytes waiter f s (Some reply) =
     answered_apart bytes waiter f (outcome_of waiter reply.resolved) reply.answer (with_lines s (map (event.Changed s.session.who.node f.vb_or_status reply.branch) reply.changes))
@@ -118,8 +118,8 @@ durable_by bytes f c s true = refl
 durable_by bytes f c s false = called_apart bytes f c s
 
 request_apart : (bytes : List ℕ) (clock : ℕ) (f : Frame) (r : Result KvRequest Status) (s : Served)
-    → request_served clock f r (with_bytes bytes s) ≡ bind (request_served clock f r s) (λ t. Done (with_bytes bytes t))
-unfolding request_served told
+    → request_handled clock f r (with_bytes bytes s) ≡ bind (request_handled clock f r s) (λ t. Done (with_bytes bytes t))
+unfolding request_handled told
 request_apart bytes clock f (Err st) s = refl
 request_apart bytes clock f (Ok request.Noop) s = refl
 request_apart bytes clock f (Ok (request.Hello features)) s = refl
@@ -129,13 +129,13 @@ request_apart bytes clock f (Ok (request.Write write (Some wish))) s =
     durable_by bytes f (call.Durable write clock wish.level (deadline_of clock wish.timeout) (next_waiter s.session)) s (nat_le MOST_DURABLE s.session.used)
 
 frame_by : (bytes : List ℕ) (clock : ℕ) (f : Frame) (s : Served) (dropped : Bool)
-    → (if dropped then Done (with_bytes bytes s) else request_served clock f (request_of s.session.settings.json f) (with_bytes bytes s))
-    ≡ bind (if dropped then Done s else request_served clock f (request_of s.session.settings.json f) s) (λ t. Done (with_bytes bytes t))
+    → (if dropped then Done (with_bytes bytes s) else request_handled clock f (request_of s.session.settings.json f) (with_bytes bytes s))
+    ≡ bind (if dropped then Done s else request_handled clock f (request_of s.session.settings.json f) s) (λ t. Done (with_bytes bytes t))
 frame_by bytes clock f s true = refl
 frame_by bytes clock f s false = request_apart bytes clock f (request_of s.session.settings.json f) s
 
-pub frame_apart : (bytes : List ℕ) (clock : ℕ) (f : Frame) (s : Served) → frame_served clock f (with_bytes bytes s) ≡ bind (frame_served clock f s) (λ t. Done (with_bytes bytes t))
-unfolding frame_served
+pub frame_apart : (bytes : List ℕ) (clock : ℕ) (f : Frame) (s : Served) → frame_handled clock f (with_bytes bytes s) ≡ bind (frame_handled clock f s) (λ t. Done (with_bytes bytes t))
+unfolding frame_handled
 frame_apart bytes clock f s = frame_by bytes clock f s (f.magic == RESPONSE)
 
 -- ---- one request
@@ -191,7 +191,7 @@ answered_by who settings f (call.Store write clock) other changes mine form = ab
 answered_by who settings f other a changes mine form = absurd mine
 
 told_answered : (who : Who) (settings : Settings) (f : Frame) (c : VbCall) (reply : Option VbReply) → IsAsked c → IsReply c reply
-    → Answered who f (asked_lines who.node who.client settings f reply)
+    → Answered who f (request_lines who.node who.client settings f reply)
 told_answered who settings f c None mine formed = alone who f (status_reply f status.NotMyVbucket) refl refl
 told_answered who settings f c (Some reply) mine formed = answered_by who settings f c reply.answer reply.changes mine formed
 
@@ -202,7 +202,7 @@ asked_gives clock f c s plain mine e = (
   mine,
   λ reply formed. record {
     who = refl;
-    lines = asked_lines s.session.who.node s.session.who.client s.session.settings f reply;
+    lines = request_lines s.session.who.node s.session.who.client s.session.settings f reply;
     told = refl;
     handled = answers s.session.who f s.session.used s.session.awaited _ e (told_answered s.session.who s.session.settings f c reply plain formed);
   },
@@ -237,7 +237,7 @@ outcome_opaque settings a (resolution.Committed uuid seq cas) = refl
 outcome_opaque settings a resolution.Ambiguous = refl
 
 prepared_gives : (f : Frame) (waiter uuid : ℕ) (changes : List Change) (how : Option Resolution) (s : Served) → waiter ≡ s.session.who.base * 2 ^ 32 + s.session.used
-    → Gives f s.session.who s.events (prepared_told (awaited_by waiter f) how (with_lines s (map (event.Changed s.session.who.node f.vb_or_status uuid) changes)))
+    → Gives f s.session.who s.events (answered_or_awaited (awaited_by waiter f) how (with_lines s (map (event.Changed s.session.who.node f.vb_or_status uuid) changes)))
 unfolding Handled
 prepared_gives f waiter uuid changes None s numbered = record {
   who = refl;
@@ -270,8 +270,8 @@ answered_gives f waiter uuid changes how (call.Durable write time level deadline
 answered_gives f waiter uuid changes how other a s e numbered durable form = absurd durable
 
 durable_gives : (f : Frame) (waiter : ℕ) (c : VbCall) (s : Served) (reply : Option VbReply) → s.session.awaited ≡ None → waiter ≡ s.session.who.base * 2 ^ 32 + s.session.used
-    → IsDurable c → IsReply c reply → Gives f s.session.who s.events (durable_told waiter f s reply)
-unfolding durable_told
+    → IsDurable c → IsReply c reply → Gives f s.session.who s.events (durable_replied waiter f s reply)
+unfolding durable_replied
 durable_gives f waiter c s None e numbered durable formed = status_gives f status.NotMyVbucket s e
 durable_gives f waiter c s (Some reply) e numbered durable formed =
     answered_gives f waiter reply.branch reply.changes (outcome_of waiter reply.resolved) c reply.answer s e numbered durable formed
@@ -280,10 +280,10 @@ called_gives : (clock : ℕ) (f : Frame) (c : VbCall) (s : Served) → IsDurable
     → AlwaysFormed (IsClients clock) (Gives f s.session.who s.events) (durable_called f c s)
 called_gives clock f c s durable mine e = (mine, λ reply formed. durable_gives f (next_waiter s.session) c (with_used s) reply e refl durable formed)
 
-durable_asked_gives : (clock : ℕ) (f : Frame) (write : Write) (wish : Durability) (s : Served) → s.session.awaited ≡ None
-    → AlwaysFormed (IsClients clock) (Gives f s.session.who s.events) (durable_asked clock f write wish s)
+durable_requested_gives : (clock : ℕ) (f : Frame) (write : Write) (wish : Durability) (s : Served) → s.session.awaited ≡ None
+    → AlwaysFormed (IsClients clock) (Gives f s.session.who s.events) (durable_requested clock f write wish s)
 unfolding IsDurable
-durable_asked_gives clock f write wish s e =
+durable_requested_gives clock f write wish s e =
     let c : VbCall = call.Durable write clock wish.level (deadline_of clock wish.timeout) (next_waiter s.session) in
     either (AlwaysFormed (IsClients clock) (Gives f s.session.who s.events)) (nat_le MOST_DURABLE s.session.used) (Done (refused f status.Etmpfail s)) (durable_called f c s)
     (status_gives f status.Etmpfail s e) (called_gives clock f c s tt refl e)
@@ -291,8 +291,8 @@ durable_asked_gives clock f write wish s e =
 -- ---- any request
 
 pub request_gives : (clock : ℕ) (f : Frame) (r : Result KvRequest Status) (s : Served) → s.session.awaited ≡ None
-    → AlwaysFormed (IsClients clock) (Gives f s.session.who s.events) (request_served clock f r s)
-unfolding request_served IsAsked
+    → AlwaysFormed (IsClients clock) (Gives f s.session.who s.events) (request_handled clock f r s)
+unfolding request_handled IsAsked
 request_gives clock f (Err st) s e = status_gives f st s e
 request_gives clock f (Ok request.Noop) s e = status_gives f status.Success s e
 request_gives clock f (Ok (request.Hello features)) s e = record {
@@ -303,12 +303,12 @@ request_gives clock f (Ok (request.Hello features)) s e = record {
 }
 request_gives clock f (Ok (request.Get key)) s e = asked_gives clock f (call.Get key) s tt tt e
 request_gives clock f (Ok (request.Write write None)) s e = asked_gives clock f (call.Store write clock) s tt refl e
-request_gives clock f (Ok (request.Write write (Some wish))) s e = durable_asked_gives clock f write wish s e
+request_gives clock f (Ok (request.Write write (Some wish))) s e = durable_requested_gives clock f write wish s e
 
 -- ---- what a reply to a durable write changes
 
 -- all that a reply to a durable write changes of the connection is what it awaits
-prepared_session : (a : Awaited) (how : Option Resolution) (s : Served) → (o : Option Awaited) × ((prepared_told a how s).session ≡ record s.session { awaited = o })
+prepared_session : (a : Awaited) (how : Option Resolution) (s : Served) → (o : Option Awaited) × ((answered_or_awaited a how s).session ≡ record s.session { awaited = o })
 prepared_session a None s = (Some a, refl)
 prepared_session a (Some how) s = (None, refl)
 
@@ -317,8 +317,8 @@ answered_session waiter f how (answer.Status st) s = (s.session.awaited, refl)
 answered_session waiter f how (answer.Prepared seq cas) s = prepared_session (awaited_by waiter f) how s
 answered_session waiter f how other s = (s.session.awaited, refl)
 
-pub durable_session : (waiter : ℕ) (f : Frame) (s : Served) (reply : Option VbReply) → (o : Option Awaited) × ((durable_told waiter f s reply).session ≡ record s.session { awaited = o })
-unfolding durable_told
+pub durable_session : (waiter : ℕ) (f : Frame) (s : Served) (reply : Option VbReply) → (o : Option Awaited) × ((durable_replied waiter f s reply).session ≡ record s.session { awaited = o })
+unfolding durable_replied
 durable_session waiter f s None = (s.session.awaited, refl)
 durable_session waiter f s (Some reply) =
     answered_session waiter f (outcome_of waiter reply.resolved) reply.answer (with_lines s (map (event.Changed s.session.who.node f.vb_or_status reply.branch) reply.changes))

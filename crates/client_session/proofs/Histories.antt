@@ -24,8 +24,8 @@ use Rattle.vb_calls.proofs.Conduct.{always_so, always_front}
 use Rattle.client_session.specs.declared.session.Awaited.{Awaited}
 use Rattle.client_session.specs.declared.session.Who.{Who}
 use Rattle.client_session.specs.Answers.{fault_lines, reply_line}
-use Rattle.client_session.specs.Serving.{Served, served, new_session, with_bytes, outcome_reply, outcome_told, outcome_by, outcome_served, turns_served, bytes_served}
-use Rattle.client_session.specs.Conduct.{IsClients, IsAnyClients, Answered, AllAnswered, asks, closing, kept, HasTaken, HasHalted, Took, Came, Piece, Outcome, came_served, bytes_of}
+use Rattle.client_session.specs.Serving.{Served, served, new_session, with_bytes, outcome_reply, outcome_answered, outcome_by, outcome_handled, turns_handled, bytes_handled}
+use Rattle.client_session.specs.Conduct.{IsClients, IsAnyClients, Answered, AllAnswered, asks, closing, kept, HasTaken, HasHalted, Took, Came, Piece, Outcome, came_handled, bytes_of}
 use Rattle.client_session.proofs.Conduct.{outcome_opcode, outcome_opaque}
 use Rattle.client_session.proofs.Turns.{is_closed}
 use Rattle.client_session.proofs.Chunks.{kept_behind, nothing}
@@ -140,7 +140,7 @@ After : List ℕ → Served → Served → Type 0
 After bytes s t = Took bytes t.session.awaited s t
 
 piece_open : (clock : ℕ) (b bytes : List ℕ) (s t : Served) (fault : Option FrameFault) → front_fault (left_of bytes) ≡ fault → t.session.awaited ≡ None → HasTaken bytes s t
-    → AlwaysFormed (IsClients clock) (After (bytes ++ b) s) (bytes_served clock b t)
+    → AlwaysFormed (IsClients clock) (After (bytes ++ b) s) (bytes_handled clock b t)
 unfolding After
 piece_open clock b bytes s t (Some fault) e none h =
     subst (AlwaysFormed (IsClients clock) (After (bytes ++ b) s)) (sym (is_closed clock b t (h.closed ∙ ap is_some e)))
@@ -148,14 +148,14 @@ piece_open clock b bytes s t (Some fault) e none h =
 piece_open clock b bytes s t None e none h =
     let reader : t.session.reader ≡ left_of bytes = h.reader ∙ ap (kept (left_of bytes)) e in
     let told : t.events ≡ s.events ++ h.lines = h.told ∙ ap (λ o. s.events ++ h.lines ++ closing s.session.who (left_of bytes) o) e ∙ append-nil (s.events ++ h.lines) in
-    always_so IsReply (IsClients clock) (λ u. Took (t.session.reader ++ b) u.session.awaited t u) (After (bytes ++ b) s) (bytes_served clock b t)
+    always_so IsReply (IsClients clock) (λ u. Took (t.session.reader ++ b) u.session.awaited t u) (After (bytes ++ b) s) (bytes_handled clock b t)
     (λ u took.
     took_behind (bytes ++ b) (t.session.reader ++ b) (frames_in bytes) u.session.awaited s t u (ahead (frames_in bytes) s.session.who s.events h.lines t h.who told h.answered)
     (more_open bytes b t reader) took)
     (bytes_answered clock b t (h.closed ∙ ap is_some e) none)
 
 piece_by : (clock : ℕ) (b bytes : List ℕ) (s t : Served) (o : Option Awaited) → t.session.awaited ≡ o → Took bytes o s t
-    → AlwaysFormed (IsClients clock) (After (bytes ++ b) s) (bytes_served clock b t)
+    → AlwaysFormed (IsClients clock) (After (bytes ++ b) s) (bytes_handled clock b t)
 unfolding After
 piece_by clock b bytes s t None e h = piece_open clock b bytes s t (front_fault (left_of bytes)) refl e h
 piece_by clock b bytes s t (Some a) e h =
@@ -179,11 +179,11 @@ outcome_answers bytes a how s t h = record {
   opaque = outcome_opaque t.session.settings a how ∙ h.begun.opaque;
 }
 
-outcome_ahead : (bytes : List ℕ) (a : Awaited) (how : Resolution) (s t : Served) (h : HasHalted bytes a s t) → Ahead (h.front ++ h.f ∷ []) s.session.who s.events (outcome_told a how t)
+outcome_ahead : (bytes : List ℕ) (a : Awaited) (how : Resolution) (s t : Served) (h : HasHalted bytes a s t) → Ahead (h.front ++ h.f ∷ []) s.session.who s.events (outcome_answered a how t)
 outcome_ahead bytes a how s t h =
     let who : Who = s.session.who in
     let line : List Event = reply_line t.session.who.node t.session.who.client (outcome_reply t.session.settings a how) ∷ [] in
-    ahead (h.front ++ h.f ∷ []) who s.events (h.lines ++ (h.made ++ line)) (outcome_told a how t) h.who
+    ahead (h.front ++ h.f ∷ []) who s.events (h.lines ++ (h.made ++ line)) (outcome_answered a how t) h.who
     (ap (λ es. es ++ line) h.told ∙ append_assoc (s.events ++ h.lines) h.made line ∙ append_assoc s.events h.lines (h.made ++ line))
     (subst (λ fs. AllAnswered who fs (h.lines ++ (h.made ++ line))) (sym (filter-append asks h.front (h.f ∷ []) ∙ ap (λ fs. filter asks h.front ++ fs) (asks_one h.f h.asked)))
     (all_append who (filter asks h.front) (h.f ∷ []) h.lines (h.made ++ line) h.answered (h.made ++ line, [], sym (append-nil (h.made ++ line)), outcome_answers bytes a how s t h, refl)))
@@ -199,12 +199,12 @@ outcome_split bytes a s t h =
     }
 
 outcome_if : (clock : ℕ) (r : Resolved) (bytes : List ℕ) (a : Awaited) (s t : Served) (mine : Bool) → t.session.awaited ≡ Some a → HasHalted bytes a s t
-    → AlwaysFormed (IsClients clock) (After bytes s) (if mine then turns_served clock (outcome_told a r.how t) else Done t)
+    → AlwaysFormed (IsClients clock) (After bytes s) (if mine then turns_handled clock (outcome_answered a r.how t) else Done t)
 unfolding After
 outcome_if clock r bytes a s t false e h = subst (λ o. Took bytes o s t) (sym e) h
 outcome_if clock r bytes a s t true e h =
-    let start : Served = outcome_told a r.how t in
-    always_so IsReply (IsClients clock) (λ u. Took t.session.reader u.session.awaited start u) (After bytes s) (turns_served clock start)
+    let start : Served = outcome_answered a r.how t in
+    always_so IsReply (IsClients clock) (λ u. Took t.session.reader u.session.awaited start u) (After bytes s) (turns_handled clock start)
     (λ u took. took_behind bytes t.session.reader (h.front ++ h.f ∷ []) u.session.awaited s start u (outcome_ahead bytes a r.how s t h) (outcome_split bytes a s t h) took)
     (turns_take clock start h.closed refl)
 
@@ -223,23 +223,23 @@ always_calls replies calls more answers (Done a) wider always = always
 always_calls replies calls more answers (Call v call next) wider always =
     (wider v call always.0, λ reply formed. always_calls replies calls more answers (next reply) wider (always.1 reply formed))
 
-came_after : (bytes : List ℕ) (s t : Served) (x : Came) → After bytes s t → AlwaysFormed IsAnyClients (After (bytes ++ bytes_of x) s) (came_served x t)
-unfolding After outcome_served
+came_after : (bytes : List ℕ) (s t : Served) (x : Came) → After bytes s t → AlwaysFormed IsAnyClients (After (bytes ++ bytes_of x) s) (came_handled x t)
+unfolding After outcome_handled
 came_after bytes s t (Piece clock b) h =
-    always_calls IsReply (IsClients clock) IsAnyClients (After (bytes ++ b) s) (bytes_served clock b t) (λ v c mine. (clock, mine)) (piece_by clock b bytes s t t.session.awaited refl h)
+    always_calls IsReply (IsClients clock) IsAnyClients (After (bytes ++ b) s) (bytes_handled clock b t) (λ v c mine. (clock, mine)) (piece_by clock b bytes s t t.session.awaited refl h)
 came_after bytes s t (Outcome clock r) h =
-    subst (λ all. AlwaysFormed IsAnyClients (After all s) (outcome_served clock r t)) (sym (append-nil bytes))
-    (always_calls IsReply (IsClients clock) IsAnyClients (After bytes s) (outcome_served clock r t) (λ v c mine. (clock, mine)) (outcome_of_by clock r bytes s t t.session.awaited refl h))
+    subst (λ all. AlwaysFormed IsAnyClients (After all s) (outcome_handled clock r t)) (sym (append-nil bytes))
+    (always_calls IsReply (IsClients clock) IsAnyClients (After bytes s) (outcome_handled clock r t) (λ v c mine. (clock, mine)) (outcome_of_by clock r bytes s t t.session.awaited refl h))
 
-came_next : (s : Served) (front : List Came) (x : Came) (t : Served) → After (flat_map bytes_of front) s t → AlwaysFormed IsAnyClients (After (flat_map bytes_of (front ++ x ∷ [])) s) (came_served x t)
+came_next : (s : Served) (front : List Came) (x : Came) (t : Served) → After (flat_map bytes_of front) s t → AlwaysFormed IsAnyClients (After (flat_map bytes_of (front ++ x ∷ [])) s) (came_handled x t)
 came_next s front x t h =
-    subst (λ all. AlwaysFormed IsAnyClients (After all s) (came_served x t))
+    subst (λ all. AlwaysFormed IsAnyClients (After all s) (came_handled x t))
     (sym (flat_map-append bytes_of front (x ∷ []) ∙ ap (λ l. flat_map bytes_of front ++ l) (append-nil (bytes_of x)))) (came_after (flat_map bytes_of front) s t x h)
 
 pub all_answered : (who : Who) (came : List Came)
-    → AlwaysFormed IsAnyClients (λ t. Took (flat_map bytes_of came) t.session.awaited (served (new_session who) []) t) (each came_served came (served (new_session who) []))
+    → AlwaysFormed IsAnyClients (λ t. Took (flat_map bytes_of came) t.session.awaited (served (new_session who) []) t) (each came_handled came (served (new_session who) []))
 unfolding After
 all_answered who came =
     let s : Served = served (new_session who) [] in
-    always_front IsReply IsAnyClients (λ front t. After (flat_map bytes_of front) s t) came_served (came_next s) [] came (Done s)
+    always_front IsReply IsAnyClients (λ front t. After (flat_map bytes_of front) s t) came_handled (came_next s) [] came (Done s)
     (ends s None (ap frame_in nothing) (ap fault_in nothing) refl)

@@ -16,7 +16,7 @@ use Rattle.mcbp_kv.specs.declared.feature.Feature.TheVariants as feature
 use Rattle.mcbp_kv.specs.declared.opcodes.TheConstants.{GET, NOOP, HELLO}
 use Rattle.mcbp_kv.specs.declared.request.KvRequest.{KvRequest}
 use Rattle.mcbp_kv.specs.declared.request.KvRequest.TheVariants as request
-use Rattle.mcbp_kv.proofs.Chosen.{has_there, there_has, accepts_those}
+use Rattle.mcbp_kv.proofs.Chosen.{has_there, has_back, accepts_those}
 use Rattle.mcbp_kv.proofs.Commands.{spelled_is_read}
 use Rattle.vb_types.specs.Statuses.{status_code}
 use Rattle.vb_types.specs.declared.change.Change.{Change}
@@ -37,10 +37,10 @@ use Rattle.vb_calls.specs.States.{States, call_at, stepped_at}
 use Rattle.vb_calls.specs.Durable.{Wish, durable_outcome}
 use Rattle.vb_calls.specs.Writes.{key_refusal, lacks_seqnos, store_outcome, new_cas}
 use Rattle.client_session.specs.Answers.{status_reply, value_reply, found_reply, stored_reply, reply_line}
-use Rattle.client_session.specs.Serving.{PlainSession, Served, with_used, refused, greeted, told, MOST_DURABLE, next_waiter, deadline_of, durable_called, request_served, frame_served}
+use Rattle.client_session.specs.Serving.{PlainSession, Served, with_used, refused, greeted, told, MOST_DURABLE, next_waiter, deadline_of, durable_called, request_handled, frame_handled}
 use Rattle.client_session.specs.Conduct.{IsClients}
 use Rattle.client_session.proofs.Conduct.{either, durable_session}
-use Rattle.client_session.specs.Rows.{Gets, GetsAtOnce, NotServed, Greets, IsNoGreeting, IsForDocument, IsNotServing, seqno_part}
+use Rattle.client_session.specs.Rows.{Gets, GetsAtOnce, NotMyVb, Greets, IsNoGreeting, IsForDocument, IsNotServing, seqno_part}
 
 -- ---- a vBucket's replies
 
@@ -98,23 +98,23 @@ unfolding told
 absent_told f s = status_told f status.NotMyVbucket s
 
 -- a frame that asks is served by what is read of it
-pub asks_so : (clock : ℕ) (f : Frame) (s : Served) (r : Result KvRequest Status) → f.magic ≢ RESPONSE → request_of s.session.settings.json f ≡ r → frame_served clock f s ≡ request_served clock f r s
-unfolding frame_served
+pub asks_so : (clock : ℕ) (f : Frame) (s : Served) (r : Result KvRequest Status) → f.magic ≢ RESPONSE → request_of s.session.settings.json f ≡ r → frame_handled clock f s ≡ request_handled clock f r s
+unfolding frame_handled
 asks_so clock f s r asks e =
-    ap (λ b. if b then Done s else request_served clock f (request_of s.session.settings.json f) s) (false_from_ne_true (f.magic == RESPONSE) (λ t. asks (eqb-true f.magic RESPONSE t)))
-    ∙ ap (λ q. request_served clock f q s) e
+    ap (λ b. if b then Done s else request_handled clock f (request_of s.session.settings.json f) s) (false_from_ne_true (f.magic == RESPONSE) (λ t. asks (eqb-true f.magic RESPONSE t)))
+    ∙ ap (λ q. request_handled clock f q s) e
 
 pub refused_at_once : (clock : ℕ) (f : Frame) (st : Status) (s : Served) → f.magic ≢ RESPONSE → request_of s.session.settings.json f ≡ Err st
-    → GetsAtOnce (λ g. IsBare g f.opcode (status_code st) f.opaque) s (frame_served clock f s)
-unfolding request_served
+    → GetsAtOnce (λ g. IsBare g f.opcode (status_code st) f.opaque) s (frame_handled clock f s)
+unfolding request_handled
 refused_at_once clock f st s asks e = (refused f st s, asks_so clock f s (Err st) asks e, status_told f st s)
 
 known : (f : Frame) → (f.magic ≡ REQUEST) ⊎ (f.magic ≡ FRAMED_REQUEST) → f.magic ≢ RESPONSE
 known f (inl e) response = omega arith
 known f (inr e) response = omega arith
 
-pub noop_at_once : (clock : ℕ) (f : Frame) (s : Served) → IsNoop s.session.settings.json f → GetsAtOnce (λ g. IsBare g NOOP 0 f.opaque) s (frame_served clock f s)
-unfolding request_served
+pub noop_at_once : (clock : ℕ) (f : Frame) (s : Served) → IsNoop s.session.settings.json f → GetsAtOnce (λ g. IsBare g NOOP 0 f.opaque) s (frame_handled clock f s)
+unfolding request_handled
 noop_at_once clock f s noop = (
   refused f status.Success s,
   asks_so clock f s (Ok request.Noop) (known f noop.header.magic) (spelled_is_read s.session.settings.json f request.Noop noop),
@@ -155,8 +155,8 @@ refuses f s states c clock (Some plain) mine there idle =
     (record { answered = refusal_told f status.NotMyVbucket s [] [] 0 []; unchanged = λ w. set_same states f.vb_or_status w plain (w == f.vb_or_status) there refl })
 
 request_refused : (clock : ℕ) (f : Frame) (r : KvRequest) (s : Served) (states : States) → IsForDocument r → IsNotServing (states f.vb_or_status)
-    → NotServed f s states (after (request_served clock f (Ok r) s) states)
-unfolding request_served
+    → NotMyVb f s states (after (request_handled clock f (Ok r) s) states)
+unfolding request_handled
 request_refused clock f (request.Get key) s states doc idle =
     let both = refuses f s states (call.Get key) clock (states f.vb_or_status) tt refl idle in
     record { answered = both.answered; unchanged = both.unchanged }
@@ -166,15 +166,15 @@ request_refused clock f (request.Write write None) s states doc idle =
 request_refused clock f other s states doc idle = absurd doc
 
 pub not_served : (clock : ℕ) (f : Frame) (r : KvRequest) (s : Served) (states : States) → f.magic ≢ RESPONSE → request_of s.session.settings.json f ≡ Ok r → IsForDocument r
-    → IsNotServing (states f.vb_or_status) → NotServed f s states (after (frame_served clock f s) states)
+    → IsNotServing (states f.vb_or_status) → NotMyVb f s states (after (frame_handled clock f s) states)
 not_served clock f r s states asks e doc idle =
-    subst (λ p. NotServed f s states (after p states)) (sym (asks_so clock f s (Ok r) asks e)) (request_refused clock f r s states doc idle)
+    subst (λ p. NotMyVb f s states (after p states)) (sym (asks_so clock f s (Ok r) asks e)) (request_refused clock f r s states doc idle)
 
 -- ---- HELLO
 
 has_so : (codes : List ℕ) (wanted : Feature) (features : List Feature) → AreThose codes features → IsTrue (has_feature wanted features) ↔ Contains codes (feature_code wanted)
 has_so codes wanted features those = (
-  λ has. (those.asked wanted).0 (there_has wanted features has),
+  λ has. (those.asked wanted).0 (has_back wanted features has),
   λ asked. has_there wanted features ((those.asked wanted).1 asked),
 )
 
@@ -194,8 +194,8 @@ greets codes f features s hello those = record {
 }
 
 pub hello_greets : (clock : ℕ) (f : Frame) (features : List Feature) (s : Served) (hello : IsHello s.session.settings.json f features)
-    → (t : Served) × (frame_served clock f s ≡ Done t) × Greets hello.codes f features s t
-unfolding request_served
+    → (t : Served) × (frame_handled clock f s ≡ Done t) × Greets hello.codes f features s t
+unfolding request_handled
 hello_greets clock f features s hello =
     let those : AreThose hello.codes features = subst (AreThose hello.codes) (sym (hello.accepts ∙ ap accepted hello.value)) (accepts_those hello.codes hello.numbers) in (
       greeted f features s,
@@ -205,8 +205,8 @@ hello_greets clock f features s hello =
 
 -- no other request changes the settings
 pub settings_stay : (clock : ℕ) (f : Frame) (r : Result KvRequest Status) (s : Served) → IsNoGreeting r
-    → Always AnyCall (λ t. t.session.settings ≡ s.session.settings) (request_served clock f r s)
-unfolding request_served told
+    → Always AnyCall (λ t. t.session.settings ≡ s.session.settings) (request_handled clock f r s)
+unfolding request_handled told
 settings_stay clock f (Err st) s other = refl
 settings_stay clock f (Ok request.Noop) s other = refl
 settings_stay clock f (Ok (request.Hello features)) s other = absurd other

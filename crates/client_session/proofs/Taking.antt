@@ -21,7 +21,7 @@ use Rattle.vb_calls.proofs.Conduct.{always_bind, always_so, always_both}
 use Rattle.client_session.specs.declared.session.Awaited.{Awaited}
 use Rattle.client_session.specs.declared.session.Who.{Who}
 use Rattle.client_session.specs.Answers.{reply_line}
-use Rattle.client_session.specs.Serving.{Served, with_bytes, is_waiting, request_served, frame_served, ended_at, turns_served, bytes_served}
+use Rattle.client_session.specs.Serving.{Served, with_bytes, is_waiting, request_handled, frame_handled, ended_at, turns_handled, bytes_handled}
 use Rattle.client_session.specs.Conduct.{IsClients, AllAnswered, asks, closing, kept, HasTaken, Begun, HasHalted, Took}
 use Rattle.client_session.proofs.Conduct.{Stays, Gives, gives_answer, gives_begun, request_gives, request_stays}
 use Rattle.client_session.proofs.Turns.{turns_waiting, turns_none, turns_fault, turns_frame, by_turns, is_opened}
@@ -167,21 +167,21 @@ halts bytes rest f a s t e gives some split reader live = record {
 
 Takes : ℕ → Served → Type 0
 Takes clock s =
-    s.session.closed ≡ false → s.session.awaited ≡ None → AlwaysFormed (IsClients clock) (λ t. Took s.session.reader t.session.awaited s t) (turns_served clock s)
+    s.session.closed ≡ false → s.session.awaited ≡ None → AlwaysFormed (IsClients clock) (λ t. Took s.session.reader t.session.awaited s t) (turns_handled clock s)
 
-takes_done : (clock : ℕ) (s t : Served) → turns_served clock s ≡ Done t → t.session.awaited ≡ None → HasTaken s.session.reader s t
-    → AlwaysFormed (IsClients clock) (λ u. Took s.session.reader u.session.awaited s u) (turns_served clock s)
+takes_done : (clock : ℕ) (s t : Served) → turns_handled clock s ≡ Done t → t.session.awaited ≡ None → HasTaken s.session.reader s t
+    → AlwaysFormed (IsClients clock) (λ u. Took s.session.reader u.session.awaited s u) (turns_handled clock s)
 takes_done clock s t e none taken =
     subst (AlwaysFormed (IsClients clock) (λ u. Took s.session.reader u.session.awaited s u)) (sym e) (subst (λ o. Took s.session.reader o s t) (sym none) taken)
 
 -- behind a frame that was answered, or dropped
 goes_on : (clock : ℕ) (f : Frame) (s t : Served) → first_frame s.session.reader ≡ Some (Ok f) → ((u : Served) → u.session.reader ≡ drop (frame_len f) s.session.reader → Takes clock u)
     → Ahead (f ∷ []) s.session.who s.events t → t.session.reader ≡ drop (frame_len f) s.session.reader → t.session.closed ≡ false → t.session.awaited ≡ None
-    → AlwaysFormed (IsClients clock) (λ u. Took s.session.reader u.session.awaited s u) (turns_served clock t)
+    → AlwaysFormed (IsClients clock) (λ u. Took s.session.reader u.session.awaited s u) (turns_handled clock t)
 unfolding Takes
 goes_on clock f s t first later one reader live none =
     let bytes : List ℕ = s.session.reader in
-    always_so IsReply (IsClients clock) (λ u. Took t.session.reader u.session.awaited t u) (λ u. Took bytes u.session.awaited s u) (turns_served clock t)
+    always_so IsReply (IsClients clock) (λ u. Took t.session.reader u.session.awaited t u) (λ u. Took bytes u.session.awaited s u) (turns_handled clock t)
     (λ u took. took_behind bytes t.session.reader (f ∷ []) u.session.awaited s t u one (split_first bytes t.session.reader f (ap frame_in first) reader) took)
     (later t reader live none)
 
@@ -189,7 +189,7 @@ goes_on clock f s t first later one reader live none =
 served_by : (clock : ℕ) (f : Frame) (s t : Served) (o : Option Awaited) → first_frame s.session.reader ≡ Some (Ok f)
     → ((u : Served) → u.session.reader ≡ drop (frame_len f) s.session.reader → Takes clock u)
     → (f.magic == RESPONSE) ≡ false → Gives f s.session.who s.events t → t.session.reader ≡ drop (frame_len f) s.session.reader → t.session.closed ≡ false → t.session.awaited ≡ o
-    → AlwaysFormed (IsClients clock) (λ u. Took s.session.reader u.session.awaited s u) (turns_served clock t)
+    → AlwaysFormed (IsClients clock) (λ u. Took s.session.reader u.session.awaited s u) (turns_handled clock t)
 served_by clock f s t None first later e gives reader live none =
     goes_on clock f s t first later (answered_first f s.session.who s.events t e gives none) reader live none
 served_by clock f s t (Some a) first later e gives reader live some =
@@ -202,21 +202,21 @@ frame_by : (clock : ℕ) (f : Frame) (s : Served) (response : Bool) → first_fr
     → ((u : Served) → u.session.reader ≡ drop (frame_len f) s.session.reader → Takes clock u) → s.session.closed ≡ false → s.session.awaited ≡ None → (f.magic == RESPONSE) ≡ response
     → AlwaysFormed (IsClients clock) (λ u. Took s.session.reader u.session.awaited s u)
     (bind (if response then Done (with_bytes (drop (frame_len f) s.session.reader) s)
-    else request_served clock f (request_of s.session.settings.json f) (with_bytes (drop (frame_len f) s.session.reader) s)) (turns_served clock))
+    else request_handled clock f (request_of s.session.settings.json f) (with_bytes (drop (frame_len f) s.session.reader) s)) (turns_handled clock))
 frame_by clock f s true first later live none e =
     goes_on clock f s (with_bytes (drop (frame_len f) s.session.reader) s) first later (dropped f s.session.who s.events (with_bytes (drop (frame_len f) s.session.reader) s) e refl refl) refl live none
 frame_by clock f s false first later live none e =
     let start : Served = with_bytes (drop (frame_len f) s.session.reader) s in
     let r : Result KvRequest Status = request_of s.session.settings.json f in
-    let run : Prog Served = request_served clock f r start in
-    always_bind IsReply (IsClients clock) (λ t. Gives f s.session.who s.events t × Stays start t) (λ u. Took s.session.reader u.session.awaited s u) run (turns_served clock)
+    let run : Prog Served = request_handled clock f r start in
+    always_bind IsReply (IsClients clock) (λ t. Gives f s.session.who s.events t × Stays start t) (λ u. Took s.session.reader u.session.awaited s u) run (turns_handled clock)
     (always_both IsReply (IsClients clock) (Gives f s.session.who s.events) (Stays start) run (request_gives clock f r start none)
     (request_stays start clock f r start (record { who = refl; reader = refl; closed = refl })))
     (λ t h. served_by clock f s t t.session.awaited first later e h.0 h.1.reader (h.1.closed ∙ live) refl)
 
 takes_frame : (clock : ℕ) (s : Served) (f : Frame) → is_waiting s.session ≡ false → first_frame s.session.reader ≡ Some (Ok f)
     → ((u : Served) → u.session.reader ≡ drop (frame_len f) s.session.reader → Takes clock u) → Takes clock s
-unfolding frame_served Takes
+unfolding frame_handled Takes
 takes_frame clock s f w first later live none =
     subst (AlwaysFormed (IsClients clock) (λ u. Took s.session.reader u.session.awaited s u)) (sym (turns_frame clock s f w first))
     (frame_by clock f s (f.magic == RESPONSE) first later live none refl)
@@ -235,7 +235,7 @@ takes clock = by_turns
 
 -- what turns take of the bytes that are kept
 pub turns_take : (clock : ℕ) (s : Served) → s.session.closed ≡ false → s.session.awaited ≡ None
-    → AlwaysFormed (IsClients clock) (λ t. Took s.session.reader t.session.awaited s t) (turns_served clock s)
+    → AlwaysFormed (IsClients clock) (λ t. Took s.session.reader t.session.awaited s t) (turns_handled clock s)
 unfolding Takes
 turns_take clock s live none = takes clock s live none
 
@@ -259,11 +259,11 @@ same_took bytes kept (Some a) s t h = record {
 }
 
 pub bytes_answered : (clock : ℕ) (piece : List ℕ) (s : Served) → s.session.closed ≡ false → s.session.awaited ≡ None
-    → AlwaysFormed (IsClients clock) (λ t. Took (s.session.reader ++ piece) t.session.awaited s t) (bytes_served clock piece s)
+    → AlwaysFormed (IsClients clock) (λ t. Took (s.session.reader ++ piece) t.session.awaited s t) (bytes_handled clock piece s)
 unfolding Takes
 bytes_answered clock piece s live none =
     let bytes : List ℕ = s.session.reader ++ piece in
     let start : Served = with_bytes bytes s in
     subst (AlwaysFormed (IsClients clock) (λ t. Took bytes t.session.awaited s t)) (sym (is_opened clock piece s live))
-    (always_so IsReply (IsClients clock) (λ t. Took bytes t.session.awaited start t) (λ t. Took bytes t.session.awaited s t) (turns_served clock start)
+    (always_so IsReply (IsClients clock) (λ t. Took bytes t.session.awaited start t) (λ t. Took bytes t.session.awaited s t) (turns_handled clock start)
     (λ t took. same_took bytes bytes t.session.awaited s t took) (takes clock start live none))

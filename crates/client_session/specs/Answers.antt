@@ -59,9 +59,9 @@ change_lines n v (answer.Stored uuid seq cas) changes = map (event.Changed n v u
 change_lines n v other changes = []
 
 -- the lines of a request that its vBucket was asked: the changes, and then the answer; where there is no such vBucket, the request is refused as at one that is not active
-abbrev pub asked_lines : ℕ → ℕ → Settings → Frame → Option VbReply → List Event
-asked_lines n c settings f None = reply_lines n c (Some (status_reply f status.NotMyVbucket))
-asked_lines n c settings f (Some reply) =
+abbrev pub request_lines : ℕ → ℕ → Settings → Frame → Option VbReply → List Event
+request_lines n c settings f None = reply_lines n c (Some (status_reply f status.NotMyVbucket))
+request_lines n c settings f (Some reply) =
     change_lines n f.vb_or_status reply.answer reply.changes ++ reply_lines n c (reply_to settings f reply.answer)
 
 -- the lines of a frame that breaks the rules of its header: an Einval that repeats its opcode and opaque, where they are known, and then that the connection is closed

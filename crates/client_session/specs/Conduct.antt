@@ -21,7 +21,7 @@ use Rattle.vb_calls.specs.declared.calls.VbCall.TheVariants as call
 use Rattle.vb_calls.specs.Programs.{Prog}
 use Rattle.client_session.specs.declared.session.Awaited.{Awaited}
 use Rattle.client_session.specs.declared.session.Who.{Who}
-use Rattle.client_session.specs.Serving.{PlainSession, Served, is_waiting, bytes_served, outcome_served}
+use Rattle.client_session.specs.Serving.{PlainSession, Served, is_waiting, bytes_handled, outcome_handled}
 
 -- a client's calls: a document is read, or written while the clock shows this
 abbrev pub IsClients : ℕ → ℕ → VbCall → Type 0
@@ -116,9 +116,9 @@ pub data Came : Type 0 where
   Outcome : ℕ → Resolved → Came
 
 -- the connection takes it
-abbrev pub came_served : Came → Served → Prog Served
-came_served (Piece clock bytes) s = bytes_served clock bytes s
-came_served (Outcome clock r) s = outcome_served clock r s
+abbrev pub came_handled : Came → Served → Prog Served
+came_handled (Piece clock bytes) s = bytes_handled clock bytes s
+came_handled (Outcome clock r) s = outcome_handled clock r s
 
 -- the bytes of what came
 abbrev pub bytes_of : Came → List ℕ

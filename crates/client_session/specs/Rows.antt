@@ -18,7 +18,7 @@ use Rattle.vb_calls.specs.State.{is_active}
 use Rattle.vb_calls.specs.States.{States}
 use Rattle.client_session.specs.declared.session.Settings.{Settings}
 use Rattle.client_session.specs.Conduct.{sent}
-use Rattle.client_session.specs.Serving.{Served, served, with_lines, bytes_served}
+use Rattle.client_session.specs.Serving.{Served, served, with_lines, bytes_handled}
 
 -- nothing changes but that these lines of changes come, and then the line of an answer of this kind
 pub record Gets (Is : Frame → Type 0) (changes : List Event) (old new : Served) : Type 0 where
@@ -55,7 +55,7 @@ IsNotServing None = Unit {0}
 IsNotServing (Some plain) = IsFalse (is_active plain.role)
 
 -- a request is answered NotMyVbucket, and all vBuckets are as they were
-pub record NotServed (f : Frame) (old : Served) (before : States) (end : States × Served) : Type 0 where
+pub record NotMyVb (f : Frame) (old : Served) (before : States) (end : States × Served) : Type 0 where
   pub answered : Gets (λ g. IsBare g f.opcode 0x07 f.opaque) [] old end.1
   pub unchanged : (v : ℕ) → end.0 v ≡ before v
 
@@ -73,7 +73,7 @@ pub record Settles (Is : Frame → Type 0) (clock : ℕ) (old : Served) (prog : 
   pub frame : Frame
   pub is : Is frame
   pub told : prog
-      ≡ bytes_served clock old.session.reader
+      ≡ bytes_handled clock old.session.reader
       (served (record old.session { awaited = None; reader = [] }) (old.events ++ sent old.session.who frame ∷ []))
 
 -- a durable write whose outcome this waiter waits for, and which is given up at this number of the clock

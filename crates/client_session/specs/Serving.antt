@@ -31,7 +31,7 @@ use Rattle.vb_calls.specs.declared.calls.Resolved.{Resolved}
 use Rattle.client_session.specs.declared.session.Awaited.{Awaited}
 use Rattle.client_session.specs.declared.session.Settings.{Settings}
 use Rattle.client_session.specs.declared.session.Who.{Who}
-use Rattle.client_session.specs.Answers.{status_reply, value_reply, token, reply_line, asked_lines, fault_lines}
+use Rattle.client_session.specs.Answers.{status_reply, value_reply, token, reply_line, request_lines, fault_lines}
 
 -- a connection: which it is, the bytes that came and were not served yet, what HELLO set, whether it is closed, how many durable writes it asked for, and which one it awaits the outcome of, if it does: no frame is served before
 pub record PlainSession : Type 0 where
@@ -85,7 +85,7 @@ greeted f features s = record {
 
 -- a vBucket's reply is told and answered
 unfoldable pub told : Frame → Served → Option VbReply → Served
-told f s reply = with_lines s (asked_lines s.session.who.node s.session.who.client s.session.settings f reply)
+told f s reply = with_lines s (request_lines s.session.who.node s.session.who.client s.session.settings f reply)
 
 -- the vBucket that a frame names is asked, and its reply is told and answered
 abbrev pub asked : Frame → VbCall → Served → Prog Served
@@ -109,8 +109,8 @@ outcome_reply settings a (resolution.Committed uuid seq cas) = stored_answer a.o
 outcome_reply settings a resolution.Ambiguous = bare_answer a.opcode status.SyncWriteAmbiguous a.opaque
 
 -- a durable write is answered, and awaited no more
-abbrev pub outcome_told : Awaited → Resolution → Served → Served
-outcome_told a how s = record {
+abbrev pub outcome_answered : Awaited → Resolution → Served → Served
+outcome_answered a how s = record {
   session = record s.session { awaited = None };
   events = s.events ++ reply_line s.session.who.node s.session.who.client (outcome_reply s.session.settings a how) ∷ [];
 }
@@ -120,9 +120,9 @@ abbrev pub outcome_of : ℕ → List Resolved → Option Resolution
 outcome_of waiter resolved = option_map (λ r. r.how) (find (λ r. r.waiter == waiter) resolved)
 
 -- a durable write was prepared: its outcome is told at once where it is known, and awaited elsewhere
-abbrev pub prepared_told : Awaited → Option Resolution → Served → Served
-prepared_told a (Some how) s = outcome_told a how s
-prepared_told a None s = record { session = record s.session { awaited = Some a }; events = s.events }
+abbrev pub answered_or_awaited : Awaited → Option Resolution → Served → Served
+answered_or_awaited a (Some how) s = outcome_answered a how s
+answered_or_awaited a None s = record { session = record s.session { awaited = Some a }; events = s.events }
 
 -- who waits for a frame's durable write
 abbrev pub awaited_by : ℕ → Frame → Awaited
@@ -131,13 +131,13 @@ awaited_by waiter f = record { waiter = waiter; opcode = f.opcode; opaque = f.op
 -- a vBucket's answer to a durable write of this waiter, and its outcome where that is known
 abbrev pub durable_answered : ℕ → Frame → Option Resolution → VbAnswer → Served → Served
 durable_answered waiter f how (answer.Status st) s = refused f st s
-durable_answered waiter f how (answer.Prepared seq cas) s = prepared_told (awaited_by waiter f) how s
+durable_answered waiter f how (answer.Prepared seq cas) s = answered_or_awaited (awaited_by waiter f) how s
 durable_answered waiter f how other s = s
 
 -- a vBucket's reply to a durable write: the changes that it made are told, and then the answer or nothing yet
-unfoldable pub durable_told : ℕ → Frame → Served → Option VbReply → Served
-durable_told waiter f s None = refused f status.NotMyVbucket s
-durable_told waiter f s (Some reply) =
+unfoldable pub durable_replied : ℕ → Frame → Served → Option VbReply → Served
+durable_replied waiter f s None = refused f status.NotMyVbucket s
+durable_replied waiter f s (Some reply) =
     durable_answered waiter f (outcome_of waiter reply.resolved) reply.answer
     (with_lines s (map (event.Changed s.session.who.node f.vb_or_status reply.branch) reply.changes))
 
@@ -147,26 +147,26 @@ MOST_DURABLE = 2 ^ 32 - 1
 
 -- the vBucket that a frame names is asked for a durable write, whose wait has the connection's next number
 abbrev pub durable_called : Frame → VbCall → Served → Prog Served
-durable_called f c s = Call f.vb_or_status c (λ reply. Done (durable_told (next_waiter s.session) f (with_used s) reply))
+durable_called f c s = Call f.vb_or_status c (λ reply. Done (durable_replied (next_waiter s.session) f (with_used s) reply))
 
 -- a durable write: its vBucket is asked, unless so many were asked for before
-abbrev pub durable_asked : ℕ → Frame → Write → Durability → Served → Prog Served
-durable_asked clock f write wish s =
+abbrev pub durable_requested : ℕ → Frame → Write → Durability → Served → Prog Served
+durable_requested clock f write wish s =
     if nat_le MOST_DURABLE s.session.used then Done (refused f status.Etmpfail s)
     else durable_called f (call.Durable write clock wish.level (deadline_of clock wish.timeout) (next_waiter s.session)) s
 
 -- a request: its vBucket is asked where a document is meant; the clock shows so many nanoseconds
-unfoldable pub request_served : ℕ → Frame → Result KvRequest Status → Served → Prog Served
-request_served clock f (Err st) s = Done (refused f st s)
-request_served clock f (Ok request.Noop) s = Done (refused f status.Success s)
-request_served clock f (Ok (request.Hello features)) s = Done (greeted f features s)
-request_served clock f (Ok (request.Get key)) s = asked f (call.Get key) s
-request_served clock f (Ok (request.Write write None)) s = asked f (call.Store write clock) s
-request_served clock f (Ok (request.Write write (Some wish))) s = durable_asked clock f write wish s
+unfoldable pub request_handled : ℕ → Frame → Result KvRequest Status → Served → Prog Served
+request_handled clock f (Err st) s = Done (refused f st s)
+request_handled clock f (Ok request.Noop) s = Done (refused f status.Success s)
+request_handled clock f (Ok (request.Hello features)) s = Done (greeted f features s)
+request_handled clock f (Ok (request.Get key)) s = asked f (call.Get key) s
+request_handled clock f (Ok (request.Write write None)) s = asked f (call.Store write clock) s
+request_handled clock f (Ok (request.Write write (Some wish))) s = durable_requested clock f write wish s
 
 -- a request is answered; a response, which answers nothing that was waited for, is dropped
-unfoldable pub frame_served : ℕ → Frame → Served → Prog Served
-frame_served clock f s = if f.magic == RESPONSE then Done s else request_served clock f (request_of s.session.settings.json f) s
+unfoldable pub frame_handled : ℕ → Frame → Served → Prog Served
+frame_handled clock f s = if f.magic == RESPONSE then Done s else request_handled clock f (request_of s.session.settings.json f) s
 
 -- a closed session keeps no bytes
 abbrev pub closed_with : Served → List Event → Served
@@ -193,11 +193,11 @@ is_waiting session = is_some session.awaited
 abbrev pub turn_by : ℕ → Served → Option (Result Frame FrameFault) → Prog (Turn Served Served)
 turn_by clock s None = Done (Stop s)
 turn_by clock s (Some (Err fault)) = Done (Stop (ended_at (Some fault) s))
-turn_by clock s (Some (Ok f)) = bind (frame_served clock f (with_bytes (drop (frame_len f) s.session.reader) s)) (λ t. Done (More t))
+turn_by clock s (Some (Ok f)) = bind (frame_handled clock f (with_bytes (drop (frame_len f) s.session.reader) s)) (λ t. Done (More t))
 
 -- one frame of the kept bytes; none while an outcome is awaited
-unfoldable pub turn_served : ℕ → Served → Prog (Turn Served Served)
-turn_served clock s = if is_waiting s.session then Done (Stop s) else turn_by clock s (first_frame s.session.reader)
+unfoldable pub turn_handled : ℕ → Served → Prog (Turn Served Served)
+turn_handled clock s = if is_waiting s.session then Done (Stop s) else turn_by clock s (first_frame s.session.reader)
 
 -- where the turns came to
 abbrev pub come_to : Turn Served Served → Prog Served
@@ -205,13 +205,13 @@ come_to (More s) = Done s
 come_to (Stop s) = Done s
 
 -- turn after turn, one frame each, until an outcome is awaited, less than a frame is left, or a fault; a turn takes a byte at least
-unfoldable pub turns_served : ℕ → Served → Prog Served
-turns_served clock s = bind (repeated (suc (length s.session.reader)) (turn_served clock) s) come_to
+unfoldable pub turns_handled : ℕ → Served → Prog Served
+turns_handled clock s = bind (repeated (suc (length s.session.reader)) (turn_handled clock) s) come_to
 
 -- the next bytes from the client: the frames that are whole now are served, in order, up to one whose outcome is awaited, and a fault behind them ends the session; a closed one serves nothing any more
-unfoldable pub bytes_served : ℕ → List ℕ → Served → Prog Served
-bytes_served clock piece s =
-    if s.session.closed then Done s else turns_served clock (with_bytes (s.session.reader ++ piece) s)
+unfoldable pub bytes_handled : ℕ → List ℕ → Served → Prog Served
+bytes_handled clock piece s =
+    if s.session.closed then Done s else turns_handled clock (with_bytes (s.session.reader ++ piece) s)
 
 -- the outcome of the durable write of this waiter is awaited
 abbrev pub awaits : ℕ → Option Awaited → Bool
@@ -221,8 +221,8 @@ awaits waiter (Some a) = a.waiter == waiter
 -- what became of a durable write, by what is awaited: where it is this outcome, it is told, and the frames behind are served
 abbrev pub outcome_by : ℕ → Resolved → Served → Option Awaited → Prog Served
 outcome_by clock r s None = Done s
-outcome_by clock r s (Some a) = if a.waiter == r.waiter then turns_served clock (outcome_told a r.how s) else Done s
+outcome_by clock r s (Some a) = if a.waiter == r.waiter then turns_handled clock (outcome_answered a r.how s) else Done s
 
 -- what became of a durable write
-unfoldable pub outcome_served : ℕ → Resolved → Served → Prog Served
-outcome_served clock r s = outcome_by clock r s s.session.awaited
+unfoldable pub outcome_handled : ℕ → Resolved → Served → Prog Served
+outcome_handled clock r s = outcome_by clock r s s.session.awaited

@@ -1,6 +1,6 @@
 //! A connection that serves the bytes that come, and keeps the lines of the call that it is in.
 ghost use Rattle.std.specs.Prelude.{◌≡◌, [], OnOk, OnErr};
-ghost use Rattle.{client_session.specs.Serving.{served, bytes_served, outcome_served}, vb_calls.specs.Programs.{Ran, Began}};
+ghost use Rattle.{client_session.specs.Serving.{served, bytes_handled, outcome_handled}, vb_calls.specs.Programs.{Ran, Began}};
 
 use crate::{Alloc, Awaited, Settings, Who};
 use mcbp_frame::FrameReader;
@@ -50,8 +50,8 @@ impl Connection {
     /// one whose outcome is awaited.
     #[tactic(auto, using(crate::proofs::Turns::taken))]
     pub fn take<A: VbAccess>(&mut self, vbs: &mut A, clock: u64, piece: &[u8]) -> Alloc<()>
-        ensures ok { OnOk result (Ran A.step (bytes_served clock piece.now self.old) vbs.old self.new vbs.new) }
-        ensures err { OnErr result (Began A.step (bytes_served clock piece.now self.old) vbs.old vbs.new) }
+        ensures ok { OnOk result (Ran A.step (bytes_handled clock piece.now self.old) vbs.old self.new vbs.new) }
+        ensures err { OnErr result (Began A.step (bytes_handled clock piece.now self.old) vbs.old vbs.new) }
     {
         if self.closed {
             return Ok(());
@@ -62,10 +62,10 @@ impl Connection {
 
     /// Takes what became of a durable write: answers it where it is awaited, and serves the frames
     /// that waited behind it.
-    #[tactic(auto, using(vb_calls::proofs::Runs::runs), unfolding(crate::specs::Serving::outcome_served))]
+    #[tactic(auto, using(vb_calls::proofs::Runs::runs), unfolding(crate::specs::Serving::outcome_handled))]
     pub fn resolve<A: VbAccess>(&mut self, vbs: &mut A, clock: u64, outcome: Resolved) -> Alloc<()>
-        ensures ok { OnOk result (Ran A.step (outcome_served clock outcome self.old) vbs.old self.new vbs.new) }
-        ensures err { OnErr result (Began A.step (outcome_served clock outcome self.old) vbs.old vbs.new) }
+        ensures ok { OnOk result (Ran A.step (outcome_handled clock outcome self.old) vbs.old self.new vbs.new) }
+        ensures err { OnErr result (Began A.step (outcome_handled clock outcome self.old) vbs.old vbs.new) }
     {
         let Some(awaited) = self.awaited else {
             return Ok(());

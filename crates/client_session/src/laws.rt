@@ -1,11 +1,11 @@
 //! What a client's connection does, each law as the contract of a function; nothing here runs.
 ghost use Rattle.std.specs.Prelude.{◌≡◌, ◌≢◌, ◌<◌, ◌≤◌, ◌+◌, ◌-◌, ◌*◌, ◌^◌, ◌++◌, ◌∷◌, [], ℕ, Bool, true, false, List, map, Option, None, Some, Result, IsTrue, IsFalse};
-ghost use Rattle.{std.specs.Int.{w64, to_be_bytes}, std.specs.List.{concat, flat_map}, client_session.specs.Conduct.{IsClients, IsAnyClients, Took, Waits, Came, came_served, bytes_of}};
-ghost use Rattle.client_session.specs.Rows.{Gets, GetsAtOnce, IsOutcome, Settles, WaitsAs, Greets, IsNoGreeting, IsForDocument, IsNotServing, NotServed, seqno_part};
-ghost use Rattle.client_session.specs.Serving.{PlainSession, Served, served, new_session, is_waiting, awaits, told, outcome_of, durable_told, with_used, next_waiter, deadline_of};
-ghost use Rattle.client_session.specs.Serving.{request_served, frame_served, bytes_served, outcome_served, with_bytes};
+ghost use Rattle.{std.specs.Int.{w64, to_be_bytes}, std.specs.List.{concat, flat_map}, client_session.specs.Conduct.{IsClients, IsAnyClients, Took, Waits, Came, came_handled, bytes_of}};
+ghost use Rattle.client_session.specs.Rows.{Gets, GetsAtOnce, IsOutcome, Settles, WaitsAs, Greets, IsNoGreeting, IsForDocument, IsNotServing, NotMyVb, seqno_part};
+ghost use Rattle.client_session.specs.Serving.{PlainSession, Served, served, new_session, is_waiting, awaits, told, outcome_of, durable_replied, with_used, next_waiter, deadline_of};
+ghost use Rattle.client_session.specs.Serving.{request_handled, frame_handled, bytes_handled, outcome_handled, with_bytes};
 ghost use Rattle.{client_session.specs.declared.session.Awaited.{Awaited as Wait}, client_session.specs.declared.session.Settings.{Settings as Features}, client_session.specs.declared.session.Who.{Who as Named}, mcbp_frame.specs.Frames.{first_frame}, mcbp_frame.specs.declared.frame.Frame.{Frame as Framed}};
-ghost use Rattle.{mcbp_frame.specs.declared.frame.TheConstants.{RESPONSE}, mcbp_kv.specs.Answers.{IsFound, IsStored, IsBare, told_datatype}, mcbp_kv.specs.Commands.{IsNoop, IsHello}};
+ghost use Rattle.{mcbp_frame.specs.declared.frame.TheConstants.{RESPONSE}, mcbp_kv.specs.Answers.{IsFound, IsStored, IsBare, datatype_for}, mcbp_kv.specs.Commands.{IsNoop, IsHello}};
 ghost use Rattle.{mcbp_kv.specs.Requests.{request_of}, mcbp_kv.specs.declared.durable.Durability.{Durability as Wish}, mcbp_kv.specs.declared.feature.Feature.{Feature as Chosen}, mcbp_kv.specs.declared.opcodes.TheConstants.{GET, NOOP}};
 ghost use Rattle.{mcbp_kv.specs.declared.request.KvRequest.{KvRequest as Asked}, mcbp_kv.specs.declared.request.KvRequest.TheVariants.{Write}, vb_calls.specs.Programs.{Done, bind, each, after, AnyCall, Always, AlwaysFormed}, vb_calls.specs.States.{States}};
 ghost use Rattle.{vb_calls.specs.declared.calls.Resolution.{Resolution as What}, vb_calls.specs.declared.calls.Resolution.TheVariants.{Committed, Ambiguous}, vb_calls.specs.declared.calls.Resolved.{Resolved as Outcome}, vb_calls.specs.declared.calls.VbAnswer.TheVariants.{Found, Stored, Prepared, Status}};
@@ -24,7 +24,7 @@ ghost use Rattle.{vb_types.specs.declared.doc.Doc.{Doc as DocData}, vb_events.sp
 /// calls read and write documents alone.
 pub fn requests_are_answered()
     ensures { (clock : ℕ) (piece : List ℕ) (s : Served) → IsFalse s.session.closed → s.session.awaited ≡ None
-        → AlwaysFormed (IsClients clock) (λ t. Took (s.session.reader ++ piece) t.session.awaited s t) (bytes_served clock piece s) }
+        → AlwaysFormed (IsClients clock) (λ t. Took (s.session.reader ++ piece) t.session.awaited s t) (bytes_handled clock piece s) }
 {}
 
 /// Whatever comes to a new connection, pieces of bytes and outcomes, in whatever order: of all the
@@ -33,21 +33,21 @@ pub fn requests_are_answered()
 pub fn histories_are_answered()
     ensures { (who : Named) (came : List Came)
         → AlwaysFormed IsAnyClients (λ t. Took (flat_map bytes_of came) t.session.awaited (served (new_session who) []) t)
-        (each came_served came (served (new_session who) [])) }
+        (each came_handled came (served (new_session who) [])) }
 {}
 
 /// The pieces in which bytes come change nothing. Between them less than a frame is kept, unless an
 /// outcome is awaited.
 pub fn pieces_do_not_matter()
     ensures two { (clock : ℕ) (a b : List ℕ) (s : Served)
-        → bytes_served clock (a ++ b) s ≡ bind (bytes_served clock a s) (bytes_served clock b) }
+        → bytes_handled clock (a ++ b) s ≡ bind (bytes_handled clock a s) (bytes_handled clock b) }
     ensures all { (clock : ℕ) (pieces : List (List ℕ)) (s : Served) → Waits s.session
-        → each (bytes_served clock) pieces s ≡ bytes_served clock (concat pieces) s }
+        → each (bytes_handled clock) pieces s ≡ bytes_handled clock (concat pieces) s }
     ensures new { (who : Named) → Waits (new_session who) }
     ensures kept { (clock : ℕ) (piece : List ℕ) (s : Served)
-        → Always AnyCall (λ t. Waits t.session) (bytes_served clock piece s) }
+        → Always AnyCall (λ t. Waits t.session) (bytes_handled clock piece s) }
     ensures settled { (clock : ℕ) (r : Outcome) (s : Served) → Waits s.session
-        → Always AnyCall (λ t. Waits t.session) (outcome_served clock r s) }
+        → Always AnyCall (λ t. Waits t.session) (outcome_handled clock r s) }
 {}
 
 /// While an outcome is awaited all bytes that come are kept, whatever they are: neither a fault nor
@@ -55,9 +55,9 @@ pub fn pieces_do_not_matter()
 /// as if they had come then.
 pub fn frames_wait_behind()
     ensures kept { (clock : ℕ) (piece : List ℕ) (s : Served) → IsFalse s.session.closed → IsTrue (is_waiting s.session)
-        → bytes_served clock piece s ≡ Done (with_bytes (s.session.reader ++ piece) s) }
+        → bytes_handled clock piece s ≡ Done (with_bytes (s.session.reader ++ piece) s) }
     ensures later { (clock after : ℕ) (r : Outcome) (piece : List ℕ) (s : Served) → IsFalse s.session.closed → IsTrue (is_waiting s.session)
-        → bind (bytes_served clock piece s) (outcome_served after r) ≡ bind (outcome_served after r s) (bytes_served after piece) }
+        → bind (bytes_handled clock piece s) (outcome_handled after r) ≡ bind (outcome_handled after r s) (bytes_handled after piece) }
 {}
 
 /// The outcome that is awaited is the answer, and then the bytes behind are served. Any other outcome
@@ -65,9 +65,9 @@ pub fn frames_wait_behind()
 pub fn outcomes_are_told()
     ensures mine { (clock : ℕ) (a : Wait) (how : What) (s : Served) → IsFalse s.session.closed → s.session.awaited ≡ Some a
         → Settles (IsOutcome s.session.settings a.opcode a.opaque how) clock s
-        (outcome_served clock (record { waiter = a.waiter; how = how }) s) }
+        (outcome_handled clock (record { waiter = a.waiter; how = how }) s) }
     ensures others { (clock : ℕ) (r : Outcome) (s : Served) → IsFalse (awaits r.waiter s.session.awaited)
-        → outcome_served clock r s ≡ Done s }
+        → outcome_handled clock r s ≡ Done s }
     ensures committed { (settings : Features) (opcode opaque uuid seq cas : ℕ) (g : Framed)
         → IsOutcome settings opcode opaque (Committed uuid seq cas) g → IsStored g opcode opaque cas (seqno_part settings uuid seq) }
     ensures ambiguous { (settings : Features) (opcode opaque : ℕ) (g : Framed)
@@ -79,21 +79,21 @@ pub fn outcomes_are_told()
 pub fn durable_writes_are_told()
     ensures awaited { (waiter : ℕ) (f : Framed) (s : Served) (seq cas : ℕ) (resolved : List Outcome) (ended : List ℕ) (branch : ℕ) (changes : List ChangeData)
         → outcome_of waiter resolved ≡ None
-        → durable_told waiter f s (Some (record { answer = Prepared seq cas; resolved = resolved; ended = ended; branch = branch; changes = changes }))
+        → durable_replied waiter f s (Some (record { answer = Prepared seq cas; resolved = resolved; ended = ended; branch = branch; changes = changes }))
         ≡ served (record s.session { awaited = Some (record { waiter = waiter; opcode = f.opcode; opaque = f.opaque }) })
         (s.events ++ map (Changed s.session.who.node f.vb_or_status branch) changes) }
     ensures at_once { (waiter : ℕ) (f : Framed) (s : Served) (seq cas : ℕ) (how : What) (resolved : List Outcome) (ended : List ℕ) (branch : ℕ) (changes : List ChangeData)
         → s.session.awaited ≡ None → outcome_of waiter resolved ≡ Some how
         → Gets (IsOutcome s.session.settings f.opcode f.opaque how) (map (Changed s.session.who.node f.vb_or_status branch) changes) s
-        (durable_told waiter f s (Some (record { answer = Prepared seq cas; resolved = resolved; ended = ended; branch = branch; changes = changes }))) }
+        (durable_replied waiter f s (Some (record { answer = Prepared seq cas; resolved = resolved; ended = ended; branch = branch; changes = changes }))) }
     ensures refused { (waiter : ℕ) (f : Framed) (st : Said) (s : Served) (resolved : List Outcome) (ended : List ℕ) (branch : ℕ) (changes : List ChangeData)
         → Gets (λ g. IsBare g f.opcode (status_code st) f.opaque) (map (Changed s.session.who.node f.vb_or_status branch) changes) s
-        (durable_told waiter f s (Some (record { answer = Status st; resolved = resolved; ended = ended; branch = branch; changes = changes }))) }
+        (durable_replied waiter f s (Some (record { answer = Status st; resolved = resolved; ended = ended; branch = branch; changes = changes }))) }
     ensures absent { (waiter : ℕ) (f : Framed) (s : Served)
-        → Gets (λ g. IsBare g f.opcode 0x07 f.opaque) [] s (durable_told waiter f s None) }
+        → Gets (λ g. IsBare g f.opcode 0x07 f.opaque) [] s (durable_replied waiter f s None) }
     ensures idle { (clock : ℕ) (f : Framed) (write : WriteData) (wish : Wish) (s : Served) (states : States) → f.magic ≢ RESPONSE
         → request_of s.session.settings.json f ≡ Ok (Write write (Some wish)) → s.session.used < 2 ^ 32 - 1 → IsNotServing (states f.vb_or_status)
-        → NotServed f (with_used s) states (after (frame_served clock f s) states) }
+        → NotMyVb f (with_used s) states (after (frame_handled clock f s) states) }
 {}
 
 /// A durable write is one call to the vBucket that its frame names, which gives it up after so many
@@ -103,15 +103,15 @@ pub fn durable_writes_are_told()
 pub fn waits_have_numbers()
     ensures called { (clock : ℕ) (f : Framed) (write : WriteData) (wish : Wish) (s : Served) → s.session.used < 2 ^ 32 - 1
         → Always (λ v c. (v ≡ f.vb_or_status) × WaitsAs (next_waiter s.session) (deadline_of clock wish.timeout) c)
-        (λ t. t.session.used ≡ s.session.used + 1) (request_served clock f (Ok (Write write (Some wish))) s) }
+        (λ t. t.session.used ≡ s.session.used + 1) (request_handled clock f (Ok (Write write (Some wish))) s) }
     ensures full { (clock : ℕ) (f : Framed) (write : WriteData) (wish : Wish) (s : Served) → 2 ^ 32 - 1 ≤ s.session.used
-        → GetsAtOnce (λ g. IsBare g f.opcode 0x86 f.opaque) s (request_served clock f (Ok (Write write (Some wish))) s) }
+        → GetsAtOnce (λ g. IsBare g f.opcode 0x86 f.opaque) s (request_handled clock f (Ok (Write write (Some wish))) s) }
     ensures differ { (a b : PlainSession) → a.used < 2 ^ 32 - 1 → b.used < 2 ^ 32 - 1 → next_waiter a ≡ next_waiter b
         → (a.who.base ≡ b.who.base) × (a.used ≡ b.used) }
     ensures bytes { (clock : ℕ) (piece : List ℕ) (s : Served)
-        → Always AnyCall (λ t. s.session.used ≤ t.session.used) (bytes_served clock piece s) }
+        → Always AnyCall (λ t. s.session.used ≤ t.session.used) (bytes_handled clock piece s) }
     ensures outcome { (clock : ℕ) (r : Outcome) (s : Served)
-        → Always AnyCall (λ t. s.session.used ≤ t.session.used) (outcome_served clock r s) }
+        → Always AnyCall (λ t. s.session.used ≤ t.session.used) (outcome_handled clock r s) }
     ensures numbers { (who : Named) → who.base ≡ 3
         → (next_waiter (new_session who) ≡ 12884901889) × (next_waiter (record (new_session who) { used = 4294967294 }) ≡ 17179869183) }
 {}
@@ -128,22 +128,22 @@ pub fn deadlines_in_numbers()
 pub fn cut_frames_are_not_answered()
     ensures { (clock : ℕ) (piece : List ℕ) (s : Served) → IsFalse s.session.closed
         → first_frame (s.session.reader ++ piece) ≡ None
-        → bytes_served clock piece s ≡ Done (with_bytes (s.session.reader ++ piece) s) }
+        → bytes_handled clock piece s ≡ Done (with_bytes (s.session.reader ++ piece) s) }
 {}
 
 /// A closed connection answers nothing, and keeps nothing.
 pub fn closed_connections_are_silent()
     ensures { (clock : ℕ) (piece : List ℕ) (s : Served) → IsTrue s.session.closed
-        → bytes_served clock piece s ≡ Done s }
+        → bytes_handled clock piece s ≡ Done s }
 {}
 
 /// After HELLO the settings are its accepted features alone. No other request changes them.
 pub fn greetings_replace()
     ensures hello { (clock : ℕ) (f : Framed) (features : List Chosen) (s : Served)
         (hello : IsHello s.session.settings.json f features)
-        → (t : Served) × (frame_served clock f s ≡ Done t) × Greets hello.codes f features s t }
+        → (t : Served) × (frame_handled clock f s ≡ Done t) × Greets hello.codes f features s t }
     ensures others { (clock : ℕ) (f : Framed) (r : Result Asked Said) (s : Served) → IsNoGreeting r
-        → Always AnyCall (λ t. t.session.settings ≡ s.session.settings) (request_served clock f r s) }
+        → Always AnyCall (λ t. t.session.settings ≡ s.session.settings) (request_handled clock f r s) }
 {}
 
 /// A document is shown with its datatype where the client asked for JSON, and with 0 elsewhere.
@@ -151,8 +151,8 @@ pub fn hidden_datatype()
     ensures found { (f : Framed) (s : Served) (doc : DocData) (resolved : List Outcome) (ended : List ℕ) (branch : ℕ) (changes : List ChangeData) → f.opcode ≡ GET
         → Gets (λ g. IsFound s.session.settings.json g f.opaque doc) [] s
         (told f s (Some (record { answer = Found doc; resolved = resolved; ended = ended; branch = branch; changes = changes }))) }
-    ensures hidden { (doc : DocData) → told_datatype false doc ≡ 0 }
-    ensures shown { (doc : DocData) → told_datatype true doc ≡ doc.datatype }
+    ensures hidden { (doc : DocData) → datatype_for false doc ≡ 0 }
+    ensures shown { (doc : DocData) → datatype_for true doc ≡ doc.datatype }
 {}
 
 /// A write that is made is told by its changes, and answered with its CAS, and with its branch and
@@ -175,7 +175,7 @@ pub fn writes_are_told()
 pub fn refusals_are_told()
     ensures at_once { (clock : ℕ) (f : Framed) (st : Said) (s : Served) → f.magic ≢ RESPONSE
         → request_of s.session.settings.json f ≡ Err st
-        → GetsAtOnce (λ g. IsBare g f.opcode (status_code st) f.opaque) s (frame_served clock f s) }
+        → GetsAtOnce (λ g. IsBare g f.opcode (status_code st) f.opaque) s (frame_handled clock f s) }
     ensures by_reply { (f : Framed) (st : Said) (s : Served) (resolved : List Outcome) (ended : List ℕ) (branch : ℕ) (changes : List ChangeData)
         → Gets (λ g. IsBare g f.opcode (status_code st) f.opaque) [] s
         (told f s (Some (record { answer = Status st; resolved = resolved; ended = ended; branch = branch; changes = changes }))) }
@@ -183,20 +183,20 @@ pub fn refusals_are_told()
         → Gets (λ g. IsBare g f.opcode 0x07 f.opaque) [] s (told f s None) }
     ensures idle { (clock : ℕ) (f : Framed) (r : Asked) (s : Served) (states : States) → f.magic ≢ RESPONSE
         → request_of s.session.settings.json f ≡ Ok r → IsForDocument r → IsNotServing (states f.vb_or_status)
-        → NotServed f s states (after (frame_served clock f s) states) }
+        → NotMyVb f s states (after (frame_handled clock f s) states) }
     ensures noop { (clock : ℕ) (f : Framed) (s : Served) → IsNoop s.session.settings.json f
-        → GetsAtOnce (λ g. IsBare g NOOP 0 f.opaque) s (frame_served clock f s) }
+        → GetsAtOnce (λ g. IsBare g NOOP 0 f.opaque) s (frame_handled clock f s) }
 {}
 
 /// A request asks its vBucket for just what it says: a GET for its key, a write for that write as it
 /// came, with its CAS, and a durable one for it at the level that it requires.
 pub fn requests_ask_for_just_that()
-    ensures get { (clock : ℕ) (f : Framed) (key : List ℕ) (s : Served) → AsksFirst f.vb_or_status (calls.Get key) (request_served clock f (Ok (asks.Get key)) s) }
+    ensures get { (clock : ℕ) (f : Framed) (key : List ℕ) (s : Served) → AsksFirst f.vb_or_status (calls.Get key) (request_handled clock f (Ok (asks.Get key)) s) }
     ensures write { (clock : ℕ) (f : Framed) (write : WriteData) (s : Served)
-        → AsksFirst f.vb_or_status (calls.Store write clock) (request_served clock f (Ok (Write write None)) s) }
+        → AsksFirst f.vb_or_status (calls.Store write clock) (request_handled clock f (Ok (Write write None)) s) }
     ensures durable { (clock : ℕ) (f : Framed) (write : WriteData) (wish : Wish) (s : Served) → s.session.used < 2 ^ 32 - 1
         → AsksFirst f.vb_or_status (calls.Durable write clock wish.level (deadline_of clock wish.timeout) (next_waiter s.session))
-        (request_served clock f (Ok (Write write (Some wish))) s) }
+        (request_handled clock f (Ok (Write write (Some wish))) s) }
 {}
 
 /// A connection begins open, with nothing asked for by HELLO, without bytes and without a wait. Of HELLO

@@ -1,6 +1,6 @@
 //! The lines that tell what a connection did.
 ghost use Rattle.std.specs.Prelude.{◌≡◌, ◌∷◌, [], map, OnOk};
-ghost use Rattle.{client_session.specs.Answers.{reply_line, change_lines, fault_lines}, client_session.specs.Serving.{with_lines, refused, told, outcome_told, prepared_told, durable_answered, durable_told}, mcbp_kv.specs.Replies.{ReplyFits}, vb_events.specs.declared.event.Event.TheVariants.{Changed}};
+ghost use Rattle.{client_session.specs.Answers.{reply_line, change_lines, fault_lines}, client_session.specs.Serving.{with_lines, refused, told, outcome_answered, answered_or_awaited, durable_answered, durable_replied}, mcbp_kv.specs.Replies.{ReplyFits}, vb_events.specs.declared.event.Event.TheVariants.{Changed}};
 
 use crate::answers::{bare_reply, outcome_of, outcome_reply, reply_for, status_reply};
 use crate::{Alloc, Awaited, Connection};
@@ -85,7 +85,7 @@ impl Connection {
 
     /// Answers the durable write that is awaited, which is awaited no more.
     pub fn tell_outcome(&mut self, awaited: Awaited, how: Resolution) -> Alloc<()>
-        ensures { OnOk result (self.new ≡ outcome_told awaited how self.old) }
+        ensures { OnOk result (self.new ≡ outcome_answered awaited how self.old) }
     {
         let reply = outcome_reply(self.alloc, self.settings, awaited, how)?;
         self.awaited = None;
@@ -94,7 +94,7 @@ impl Connection {
 
     /// Answers a durable write that was prepared, or awaits its outcome where that is not known yet.
     fn tell_prepared(&mut self, awaited: Awaited, outcome: Option<Resolution>) -> Alloc<()>
-        ensures { OnOk result (self.new ≡ prepared_told awaited outcome self.old) }
+        ensures { OnOk result (self.new ≡ answered_or_awaited awaited outcome self.old) }
     {
         match outcome {
             Some(how) => self.tell_outcome(awaited, how),
@@ -130,9 +130,9 @@ impl Connection {
     }
 
     /// Tells of the changes of a durable write of this waiter, and answers or awaits.
-    #[tactic(auto, unfolding(crate::specs::Serving::durable_told))]
+    #[tactic(auto, unfolding(crate::specs::Serving::durable_replied))]
     fn tell_made(&mut self, waiter: u64, f: &Frame, made: &VbReply) -> Alloc<()>
-        ensures { OnOk result (self.new ≡ durable_told waiter f.now self.old (Some made.now)) }
+        ensures { OnOk result (self.new ≡ durable_replied waiter f.now self.old (Some made.now)) }
     {
         self.tell_changes(f.vb_or_status, made.branch, made.changes.as_slice())?;
         let outcome = outcome_of(waiter, made.resolved.as_slice());
@@ -140,9 +140,9 @@ impl Connection {
     }
 
     /// Tells of what a vBucket replied to a durable write of this waiter, and answers or awaits.
-    #[tactic(auto, unfolding(crate::specs::Serving::durable_told))]
+    #[tactic(auto, unfolding(crate::specs::Serving::durable_replied))]
     pub fn tell_durable(&mut self, waiter: u64, f: &Frame, reply: Option<VbReply>) -> Alloc<()>
-        ensures { OnOk result (self.new ≡ durable_told waiter f.now self.old reply) }
+        ensures { OnOk result (self.new ≡ durable_replied waiter f.now self.old reply) }
     {
         let told = match &reply {
             None => self.refuse(f, Status::NotMyVbucket),

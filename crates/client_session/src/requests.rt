@@ -1,6 +1,6 @@
 //! How a connection serves the frames that come, one a turn.
 ghost use Rattle.std.specs.Prelude.{◌≡◌, ◌≤◌, ◌<◌, length, IfOk, OnOk, OnErr, Some};
-ghost use Rattle.{client_session.specs.Serving.{MOST_DURABLE, deadline_of, next_waiter, greeted, asked, durable_called, durable_asked, request_served, frame_served, ended_at, turn, turn_served, turns_served}, mcbp_kv.specs.Features.{has_feature}};
+ghost use Rattle.{client_session.specs.Serving.{MOST_DURABLE, deadline_of, next_waiter, greeted, asked, durable_called, durable_requested, request_handled, frame_handled, ended_at, turn, turn_handled, turns_handled}, mcbp_kv.specs.Features.{has_feature}};
 ghost use Rattle.{mcbp_frame.specs.Cutting.{front_fault}, mcbp_kv.specs.Fitting.{AsksFew}, vb_calls.specs.Programs.{Ran, Began}};
 
 use crate::answers::status_reply;
@@ -82,8 +82,8 @@ impl Connection {
         f: &Frame,
         asked: (Write, Durability),
     ) -> Alloc<()>
-        ensures ok { OnOk result (Ran A.step (durable_asked clock f.now asked.0 asked.1 self.old) vbs.old self.new vbs.new) }
-        ensures err { OnErr result (Began A.step (durable_asked clock f.now asked.0 asked.1 self.old) vbs.old vbs.new) }
+        ensures ok { OnOk result (Ran A.step (durable_requested clock f.now asked.0 asked.1 self.old) vbs.old self.new vbs.new) }
+        ensures err { OnErr result (Began A.step (durable_requested clock f.now asked.0 asked.1 self.old) vbs.old vbs.new) }
     {
         if self.used >= MOST_DURABLE {
             return self.refuse(f, Status::Etmpfail);
@@ -100,7 +100,7 @@ impl Connection {
     }
 
     /// Serves a request.
-    #[tactic(auto, unfolding(crate::specs::Serving::request_served))]
+    #[tactic(auto, unfolding(crate::specs::Serving::request_handled))]
     fn serve_request<A: VbAccess>(
         &mut self,
         vbs: &mut A,
@@ -109,8 +109,8 @@ impl Connection {
         request: Result<KvRequest, Status>,
     ) -> Alloc<()>
         requires { IfOk request AsksFew }
-        ensures ok { OnOk result (Ran A.step (request_served clock f.now request self.old) vbs.old self.new vbs.new) }
-        ensures err { OnErr result (Began A.step (request_served clock f.now request self.old) vbs.old vbs.new) }
+        ensures ok { OnOk result (Ran A.step (request_handled clock f.now request self.old) vbs.old self.new vbs.new) }
+        ensures err { OnErr result (Began A.step (request_handled clock f.now request self.old) vbs.old vbs.new) }
     {
         match request {
             Err(status) => self.refuse(f, status),
@@ -125,10 +125,10 @@ impl Connection {
     }
 
     /// Serves a frame; a response is dropped.
-    #[tactic(auto, using(vb_calls::proofs::Runs::runs), unfolding(crate::specs::Serving::frame_served))]
+    #[tactic(auto, using(vb_calls::proofs::Runs::runs), unfolding(crate::specs::Serving::frame_handled))]
     fn serve_frame<A: VbAccess>(&mut self, vbs: &mut A, clock: u64, f: &Frame) -> Alloc<()>
-        ensures ok { OnOk result (Ran A.step (frame_served clock f.now self.old) vbs.old self.new vbs.new) }
-        ensures err { OnErr result (Began A.step (frame_served clock f.now self.old) vbs.old vbs.new) }
+        ensures ok { OnOk result (Ran A.step (frame_handled clock f.now self.old) vbs.old self.new vbs.new) }
+        ensures err { OnErr result (Began A.step (frame_handled clock f.now self.old) vbs.old vbs.new) }
     {
         if f.magic == RESPONSE {
             return Ok(());
@@ -139,8 +139,8 @@ impl Connection {
 
     /// The same, and lets the frame go.
     fn serve_next<A: VbAccess>(&mut self, vbs: &mut A, clock: u64, f: Frame) -> Alloc<()>
-        ensures ok { OnOk result (Ran A.step (frame_served clock f self.old) vbs.old self.new vbs.new) }
-        ensures err { OnErr result (Began A.step (frame_served clock f self.old) vbs.old vbs.new) }
+        ensures ok { OnOk result (Ran A.step (frame_handled clock f self.old) vbs.old self.new vbs.new) }
+        ensures err { OnErr result (Began A.step (frame_handled clock f self.old) vbs.old vbs.new) }
     {
         let served = self.serve_frame(vbs, clock, &f);
         drop(f);
@@ -160,10 +160,10 @@ impl Connection {
 
     /// Serves the first frame of the kept bytes, and says whether the turns go on behind it. While an
     /// outcome is awaited no frame is served.
-    #[tactic(auto, using(vb_calls::proofs::Runs::runs), unfolding(crate::specs::Serving::turn_served))]
+    #[tactic(auto, using(vb_calls::proofs::Runs::runs), unfolding(crate::specs::Serving::turn_handled))]
     fn serve_turn<A: VbAccess>(&mut self, vbs: &mut A, clock: u64) -> Alloc<bool>
-        ensures ok { IfOk result (λ more. Ran A.step (turn_served clock self.old) vbs.old (turn more self.new) vbs.new) }
-        ensures err { OnErr result (Began A.step (turn_served clock self.old) vbs.old vbs.new) }
+        ensures ok { IfOk result (λ more. Ran A.step (turn_handled clock self.old) vbs.old (turn more self.new) vbs.new) }
+        ensures err { OnErr result (Began A.step (turn_handled clock self.old) vbs.old vbs.new) }
     {
         if self.awaited.is_some() {
             return Ok(false);
@@ -184,8 +184,8 @@ impl Connection {
     /// Serves the frames that are whole now, one a turn, up to one whose outcome is awaited, and
     /// closes at a fault behind them.
     pub fn serve_turns<A: VbAccess>(&mut self, vbs: &mut A, clock: u64) -> Alloc<()>
-        ensures ok { OnOk result (Ran A.step (turns_served clock self.old) vbs.old self.new vbs.new) }
-        ensures err { OnErr result (Began A.step (turns_served clock self.old) vbs.old vbs.new) }
+        ensures ok { OnOk result (Ran A.step (turns_handled clock self.old) vbs.old self.new vbs.new) }
+        ensures err { OnErr result (Began A.step (turns_handled clock self.old) vbs.old vbs.new) }
     {
         while self.serve_turn(vbs, clock)? {}
         Ok(())

@@ -1,6 +1,6 @@
 //! What a node keeps of a client's connection.
 ghost use Rattle.std.specs.Prelude.{◌≡◌, false, true, [], IfOk, OnOk, OnErr};
-ghost use Rattle.{client_session.specs.Serving.{new_session, served, bytes_served, awaits, outcome_served}, vb_calls.specs.Programs.{Ran, Began}};
+ghost use Rattle.{client_session.specs.Serving.{new_session, served, bytes_handled, awaits, outcome_handled}, vb_calls.specs.Programs.{Ran, Began}};
 
 use crate::{Alloc, Connection};
 use mcbp_frame::FrameReader;
@@ -96,12 +96,12 @@ impl Session {
     pub fn feed<A: VbAccess>(&mut self, vbs: &mut A, clock: u64, piece: &[u8]) -> Alloc<SessionStep>
         ensures fresh { OnOk result (self.old.spent ≡ false) }
         ensures stays { OnOk result (self.new.spent ≡ false) }
-        ensures ok { IfOk result (λ step. Ran A.step (bytes_served clock piece.now (served self.old.plain [])) vbs.old (served self.new.plain step.events) vbs.new) }
+        ensures ok { IfOk result (λ step. Ran A.step (bytes_handled clock piece.now (served self.old.plain [])) vbs.old (served self.new.plain step.events) vbs.new) }
         ensures closed { IfOk result (λ step. step.closed ≡ self.new.plain.closed) }
         ensures spent { OnErr result (self.new.spent ≡ true) }
         ensures silent { OnErr result (self.old.spent ≡ true → vbs.new ≡ vbs.old) }
         ensures still { OnErr result (self.old.spent ≡ true → self.new ≡ self.old) }
-        ensures err { OnErr result (Began A.step (bytes_served clock piece.now (served self.old.plain [])) vbs.old vbs.new) }
+        ensures err { OnErr result (Began A.step (bytes_handled clock piece.now (served self.old.plain [])) vbs.old vbs.new) }
     {
         if self.spent {
             return Err(AllocError);
@@ -138,12 +138,12 @@ impl Session {
     ) -> Alloc<SessionStep>
         ensures fresh { OnOk result (self.old.spent ≡ false) }
         ensures stays { OnOk result (self.new.spent ≡ false) }
-        ensures ok { IfOk result (λ step. Ran A.step (outcome_served clock outcome (served self.old.plain [])) vbs.old (served self.new.plain step.events) vbs.new) }
+        ensures ok { IfOk result (λ step. Ran A.step (outcome_handled clock outcome (served self.old.plain [])) vbs.old (served self.new.plain step.events) vbs.new) }
         ensures closed { IfOk result (λ step. step.closed ≡ self.new.plain.closed) }
         ensures spent { OnErr result (self.new.spent ≡ true) }
         ensures silent { OnErr result (self.old.spent ≡ true → vbs.new ≡ vbs.old) }
         ensures still { OnErr result (self.old.spent ≡ true → self.new ≡ self.old) }
-        ensures err { OnErr result (Began A.step (outcome_served clock outcome (served self.old.plain [])) vbs.old vbs.new) }
+        ensures err { OnErr result (Began A.step (outcome_handled clock outcome (served self.old.plain [])) vbs.old vbs.new) }
     {
         if self.spent {
             return Err(AllocError);

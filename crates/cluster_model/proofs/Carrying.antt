@@ -16,7 +16,7 @@ use Rattle.branch_model.specs.Logs.{AncestryBy, Traces, AtForks, IsFront}
 use Rattle.branch_model.specs.Requests.{effective_ss, fork_of, reach_of}
 use Rattle.cluster_model.specs.Clusters.{Ground, Feed, flight_from, Joined, Linked, Member, above, member_reach, member_fork, Settled, Fixed, Kin, Comes, Stands, Flight}
 use Rattle.branch_model.proofs.Lists.{upto-append, upto_none, rises_le}
-use Rattle.branch_model.proofs.Lasts.{in_filter, filter_in}
+use Rattle.branch_model.proofs.Lasts.{in_filter, kept_in_filter}
 use Rattle.branch_model.proofs.Following.{follows_grow, remains_same, covers_same}
 use Rattle.branch_model.proofs.Branches.{shared_down}
 
@@ -38,8 +38,8 @@ image_push h c = fold-append applied nothing h (c ∷ [])
 pub in_above : (c : Change) (h : List Change) (n : ℕ) → IsIn c (above h n) → IsIn c h × (n < c.seq)
 in_above c h n i = let k = in_filter (λ x. ltb n x.seq) c h i in (k.0, ltb-true n c.seq k.1)
 
-pub above_in : (c : Change) (h : List Change) (n : ℕ) → IsIn c h → n < c.seq → IsIn c (above h n)
-above_in c h n i l = filter_in (λ x. ltb n x.seq) c h i (lt-ltb n c.seq l)
+pub still_above : (c : Change) (h : List Change) (n : ℕ) → IsIn c h → n < c.seq → IsIn c (above h n)
+still_above c h n i l = kept_in_filter (λ x. ltb n x.seq) c h i (lt-ltb n c.seq l)
 
 -- what is settled, and who is kin
 

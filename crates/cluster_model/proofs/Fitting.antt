@@ -14,10 +14,10 @@ use Rattle.branch_model.specs.Logs.{AncestryBy, IsFront}
 use Rattle.branch_model.specs.Requests.{fork_of, reach_of}
 use Rattle.branch_model.specs.Journals.{batches, last_log, log_of, place_of, end_of, complete_points, IsPoint}
 use Rattle.cluster_model.specs.Clusters.{Ground, Feed, Member, Disk, above, seated, loaded, front_or, spanned, Settled, Kin, Stands, Exact, Near, Fits, Told, Kept}
-use Rattle.branch_model.proofs.Lists.{upto-upto, upto_down, upto_all, rises_le, rises_upto, in_upto, upto_in, last_in}
+use Rattle.branch_model.proofs.Lists.{upto-upto, upto_down, upto_all, rises_le, rises_upto, from_upto, upto_in, last_in}
 use Rattle.branch_model.proofs.Following.{follows_grow, follows_reach, of_same}
 use Rattle.branch_model.proofs.Journaling.{covered_same, ends_below, no_log}
-use Rattle.cluster_model.proofs.Carrying.{in_above, above_in, settled_down, Extends, stands_carried, start_cases, ss_fork, whole_reach}
+use Rattle.cluster_model.proofs.Carrying.{in_above, still_above, settled_down, Extends, stands_carried, start_cases, ss_fork, whole_reach}
 use Rattle.branch_model.proofs.Ruling.{reach_cases}
 use Rattle.vb_types.specs.declared.journal.Record.{Record}
 use Rattle.vb_types.specs.declared.journal.Record.TheVariants as noted
@@ -31,14 +31,14 @@ follows_whole h k held q image f e x of =
       within = f.within;
       of = of;
       has = λ s c last a b.
-          let i = in_upto c k q.se (last_in (touches s) (upto k q.se) c last).0 in
-          (c, above_in c (upto held q.at) q.ss (upto_in c held q.at (x c i.0 a b) b) a, inl refl);
+          let i = from_upto c k q.se (last_in (touches s) (upto k q.se) c last).0 in
+          (c, still_above c (upto held q.at) q.ss (upto_in c held q.at (x c i.0 a b) b) a, inl refl);
     }
 
 -- the ground extends
 pub exact_carried : (top : ℕ) (g v : Ground) → Extends top g v → (br : ℕ) (held : List Change) (q : Position) → Settled g br q.at → Exact (hist g.tree br) held q → Exact (hist v.tree br) held q
 exact_carried top g v e br held q st x c i a b =
-    x c (in_upto c (hist g.tree br) q.at (subst (λ l. IsIn c l) (e.fronts br q.at st) (upto_in c (hist v.tree br) q.at i b))).0 a b
+    x c (from_upto c (hist g.tree br) q.at (subst (λ l. IsIn c l) (e.fronts br q.at st) (upto_in c (hist v.tree br) q.at i b))).0 a b
 
 near_carried : (top : ℕ) (g v : Ground) → Extends top g v → (br : ℕ) (held : List Change) (p q : Position) → Settled g br q.at → Near (hist g.tree br) held p q → Near (hist v.tree br) held p q
 near_carried top g v e br held p q st (Near.Before l) = Near.Before l
@@ -62,7 +62,7 @@ fits_carried top g v e br held p points q st f =
 
 -- the node goes on
 exact_held : (h held more : List Change) (q : Position) → upto held q.at ≡ upto more q.at → Exact h held q → Exact h more q
-exact_held h held more q e x c i a b = (in_upto c more q.at (subst (λ l. IsIn c l) e (upto_in c held q.at (x c i a b) b))).0
+exact_held h held more q e x c i a b = (from_upto c more q.at (subst (λ l. IsIn c l) e (upto_in c held q.at (x c i a b) b))).0
 
 near_moved : (h held more : List Change) (p r q : Position) → upto held q.at ≡ upto more q.at → fork_of p ≤ fork_of r → reach_of p ≤ reach_of r → (fork_of r ≡ fork_of p) ⊎ (reach_of p ≤ fork_of r) → Near h held p q → Near h more r q
 near_moved h held more p r q e lf lr cases (Near.Before l) = Near.Before (omega arith)
@@ -104,9 +104,9 @@ turned_follows g br u held p q e lf la lq ls (Near.Inside s l) f = (
 turned_follows g br u held p q e lf la lq ls (Near.Whole x) f =
     let ea = upto_down (hist g.tree br) (hist g.tree u) q.at (reach_of p) (omega arith) e in
     let b : q.ss ≤ q.at = rises_le q.ss q.at (above (upto held q.at) q.ss) f.rises in
-    let y : Exact (hist g.tree u) held q = λ c i a m. x c (in_upto c (hist g.tree br) q.at (subst (λ l. IsIn c l) (sym ea) (upto_in c (hist g.tree u) q.at i m))).0 a m in (
+    let y : Exact (hist g.tree u) held q = λ c i a m. x c (from_upto c (hist g.tree br) q.at (subst (λ l. IsIn c l) (sym ea) (upto_in c (hist g.tree u) q.at i m))).0 a m in (
       follows_whole (hist g.tree br) (hist g.tree u) held q (image_of (upto held q.at)) f (upto_down (hist g.tree br) (hist g.tree u) q.ss q.at b ea) y
-          (λ z i. of_same (hist g.tree br) (hist g.tree u) q.at z ea (f.of z i) (in_upto z held q.at (in_above z (upto held q.at) q.ss i).0).1),
+          (λ z i. of_same (hist g.tree br) (hist g.tree u) q.at z ea (f.of z i) (from_upto z held q.at (in_above z (upto held q.at) q.ss i).0).1),
       Near.Whole y,
     )
 

@@ -15,14 +15,14 @@ use Rattle.vb_types.specs.declared.role.LogEntry.{LogEntry}
 use Rattle.branch_model.specs.Logs.{AncestryBy, Traces, kept_to, with_entry, Lacks}
 use Rattle.branch_model.specs.Requests.{fork_of, reach_of}
 use Rattle.cluster_model.specs.Clusters.{Ground, Feed, Member, Cluster, ground, put, above, member_reach, member_fork, promoted, made, front_or, Move, happens, May, IsGiven, HasRight, Writes, Settled, Kin, Linked, Stands, Exact, Near, Fits, Kept, Leads, SoundCluster}
-use Rattle.branch_model.proofs.Lists.{in_append, in_left, in_right, in_upto, upto_in, upto-upto, upto-append, upto_none, upto_all, rises_le, rises_higher, rises_upto, rises_append}
+use Rattle.branch_model.proofs.Lists.{in_append, in_left, in_right, from_upto, upto_in, upto-upto, upto-append, upto_none, upto_all, rises_le, rises_higher, rises_upto, rises_append}
 use Rattle.branch_model.proofs.Following.{follows_complete, follows_reach, same_start}
 use Rattle.branch_model.proofs.Images.{plain_stands}
 use Rattle.branch_model.proofs.Branches.{hist_rises, new_from_none, fork_shared, hist_here, hist_there}
 use Rattle.cluster_model.proofs.Prepares.{prepared_upto}
 use Rattle.branch_model.proofs.Ruling.{traces_base, traces_keep, reach_cases}
 use Rattle.branch_model.proofs.Lasts.{rises_above}
-use Rattle.cluster_model.proofs.Carrying.{above_none, in_above, above_in, settled_down, kin_down, kin_trans, kin_refl, kin_shared, kin_settled, kin_known, kin_carried, traces_map, Extends, at_forks_carried, at_le, fork_le, whole_fork, whole_reach, start_cases, stands_carried}
+use Rattle.cluster_model.proofs.Carrying.{above_none, in_above, still_above, settled_down, kin_down, kin_trans, kin_refl, kin_shared, kin_settled, kin_known, kin_carried, traces_map, Extends, at_forks_carried, at_le, fork_le, whole_fork, whole_reach, start_cases, stands_carried}
 use Rattle.cluster_model.proofs.Fitting.{follows_whole, kept_on}
 use Rattle.cluster_model.proofs.Keeping.{put_all, put_both, all_rise}
 use Rattle.cluster_model.proofs.Receiving.{marked_named}
@@ -52,7 +52,7 @@ module _ (h k held : List Change) (p : Position) (l : fork_of p ≤ p.at) (e : k
 
   new_either : (c : Change) → IsIn c k → (IsIn c h × (c.seq ≤ fork_of p)) ⊎ (IsIn c held × (fork_of p < c.seq))
   new_either c i = ⊎_elim
-      (λ j. inl (in_upto c h (fork_of p) j))
+      (λ j. inl (from_upto c h (fork_of p) j))
       (λ j. inr (in_above c held (fork_of p) j))
       (in_append c (upto h (fork_of p)) (above held (fork_of p)) (subst (λ x. IsIn c x) e i))
 
@@ -65,9 +65,9 @@ module _ (h k held : List Change) (p : Position) (l : fork_of p ≤ p.at) (e : k
   new_of : (q : Position) → AllOf (above (upto held q.at) q.ss) h → AllOf (above (upto held q.at) q.ss) k
   new_of q of x i =
       let j = in_above x (upto held q.at) q.ss i in
-      let y = in_upto x held q.at j.0 in
+      let y = from_upto x held q.at j.0 in
       ⊎_elim
-      (λ (a : fork_of p < x.seq). (x, subst (λ z. IsIn x z) (sym e) (in_right x (upto h (fork_of p)) (above held (fork_of p)) (above_in x held (fork_of p) y.0 a)), inl refl))
+      (λ (a : fork_of p < x.seq). (x, subst (λ z. IsIn x z) (sym e) (in_right x (upto h (fork_of p)) (above held (fork_of p)) (still_above x held (fork_of p) y.0 a)), inl refl))
       (λ (a : x.seq ≤ fork_of p).
       let o = of x i in
       let sq : x.seq ≡ o.0.seq = ap (λ (z : Change). z.seq) (plain_stands x o.0 o.2) in

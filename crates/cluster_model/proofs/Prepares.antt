@@ -9,7 +9,7 @@ use Rattle.vb_types.specs.Histories.{upto, Rises, IsIn, plain_act}
 use Rattle.branch_model.specs.Histories.{StandsAs, IsOf, HasPrepares}
 use Rattle.branch_model.specs.Snapshots.{Follows}
 use Rattle.cluster_model.specs.Clusters.{Names, Fulfils}
-use Rattle.branch_model.proofs.Lists.{in_append, in_left, in_upto, upto_in, rises_in}
+use Rattle.branch_model.proofs.Lists.{in_append, in_left, from_upto, upto_in, rises_in}
 use Rattle.branch_model.proofs.Following.{place}
 use Rattle.branch_model.proofs.Plain.{pending_from, commit_document}
 
@@ -28,7 +28,7 @@ commit_itself x c number doc deleted s e = ⊎_elim (λ q. q) (λ q. acts c.act 
 -- a front of a prepared history
 pub prepared_upto : (h : List Change) (n : ℕ) → HasPrepares h → HasPrepares (upto h n)
 prepared_upto h n pr c number doc deleted i e =
-    let j = in_upto c h n i in
+    let j = from_upto c h n i in
     let p = pr c number doc deleted j.0 e in
     let l : p.0.seq < c.seq = p.6 in
     let m : c.seq ≤ n = j.1 in

@@ -63,8 +63,8 @@ old_also p points x i = also_case (eqb p.at p.se)
     also_case true = inr i
     also_case false = i
 
-also_old : (p : Position) (points : List ℕ) (x m : ℕ) → m < p.at → IsPoint x (also_at p points) → IsPoint x points ⊎ (m < x)
-also_old p points x m l = also_case (eqb p.at p.se)
+old_of_also : (p : Position) (points : List ℕ) (x m : ℕ) → m < p.at → IsPoint x (also_at p points) → IsPoint x points ⊎ (m < x)
+old_of_also p points x m l = also_case (eqb p.at p.se)
   where
     also_case : (b : Bool) → IsPoint x (cond b (p.at ∷ points) points) → IsPoint x points ⊎ (m < x)
     also_case true i = ⊎_elim (λ e. let y : x ≡ p.at = e in inr (omega arith)) (λ j. inl j) i
@@ -142,7 +142,7 @@ received_kept top w n d c rest s t kp f l m tv =
     let mv = receive_moves n.position c.seq b l m in
     kept_spanned g v d v.position (fits_self g v tv (also_here v.position n.points)) f
     (kept_on top g g (stays top g (all_rise top w s)) n v t tv same (old_also v.position n.points)
-    (λ q. fits_moved g n.br n.held v.held n.position v.position n.points v.points q same (omega arith) mv.0 mv.1 mv.2 (old_also v.position n.points) (λ x i. also_old v.position n.points x n.position.at l i))
+    (λ q. fits_moved g n.br n.held v.held n.position v.position n.points v.points q same (omega arith) mv.0 mv.1 mv.2 (old_also v.position n.points) (λ x i. old_of_also v.position n.points x n.position.at l i))
     (λ z. z) d kp)
 
 received_case : (top : ℕ) (w : Cluster) (n : Member) (d : Disk) (o : Option (List Change)) → SoundCluster top w → Stands (ground w) n → Kept (ground w) n d → Comes (ground w) n o → Linked (ground w) n o n.link → NextNames (image_of n.held) o

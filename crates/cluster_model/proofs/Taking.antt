@@ -12,8 +12,8 @@ use Rattle.vb_types.specs.declared.change.Change.{Change}
 use Rattle.vb_types.specs.Histories.{upto, Rises, IsIn, Slot, touches, last_of, is_visible}
 use Rattle.branch_model.specs.Snapshots.{Remains, Covers, has_seq}
 use Rattle.cluster_model.specs.Spans.{is_write, kept, Tidy, AllTidy, InSpans, InTurn, taken, Holds}
-use Rattle.branch_model.proofs.Lists.{in_append, in_left, in_right, in_upto, upto_in, rises_upto, rises_append, rises_in, last_in, last_above, same_seq}
-use Rattle.branch_model.proofs.Lasts.{in_filter, filter_in, rises_above, rises_filter, remains_cover}
+use Rattle.branch_model.proofs.Lists.{in_append, in_left, in_right, from_upto, upto_in, rises_upto, rises_append, rises_in, last_in, last_above, same_seq}
+use Rattle.branch_model.proofs.Lasts.{in_filter, kept_in_filter, rises_above, rises_filter, remains_cover}
 
 -- a write touches each slot of its key
 write_visible : (a : Act) → is_write a ≡ true → is_visible a ≡ true
@@ -52,7 +52,7 @@ span_keeps top a b end h w s c rh rw t each e i =
     absurd (omega arith))
     (λ (m : d.0.seq ≤ c.seq). same_seq a b w c d.0 rw i x.0 (omega arith))
     (cases_lt c.seq d.0.seq) in
-    filter_in (λ v. has_seq v.seq (last_of (Slot.Pending v.key) w)) c w i (ap (has_seq c.seq) d.1 ∙ eq-eqb d.0.seq c.seq (ap (λ (v : Change). v.seq) (sym same)))
+    kept_in_filter (λ v. has_seq v.seq (last_of (Slot.Pending v.key) w)) c w i (ap (has_seq c.seq) d.1 ∙ eq-eqb d.0.seq c.seq (ap (λ (v : Change). v.seq) (sym same)))
 
 in_turn_rises : (a end : ℕ) (ws : List (List Change)) → InTurn a end ws → Rises a end (flat_map kept ws)
 in_turn_rises a end [] r = r
@@ -77,8 +77,8 @@ taken_remains top a from end h ws rh r l hd =
       rises = rises_above test a end from (flat_map kept ws) (λ c t. ltb-true from c.seq t) l (in_turn_rises a end ws r);
       of = λ x i. let j = hd.each x (kept_in x ws (in_filter test x (flat_map kept ws) i).0) in (x, j.0, inl refl);
       has = λ s c e f t.
-          let j = in_upto c h end (last_in (touches s) (upto h end) c e).0 in
-          (c, filter_in test c (flat_map kept ws) (spans_keep top a end h ws s c rh r hd.tidy hd.each e (hd.all c j.0 f t)) (lt-ltb from c.seq f), inl refl);
+          let j = from_upto c h end (last_in (touches s) (upto h end) c e).0 in
+          (c, kept_in_filter test c (flat_map kept ws) (spans_keep top a end h ws s c rh r hd.tidy hd.each e (hd.all c j.0 f t)) (lt-ltb from c.seq f), inl refl);
     }
 
 -- what one span of a node's own changes keeps above a place is a whole snapshot of what is held
@@ -101,6 +101,6 @@ received_span top place end held c rh l i e =
     remains_cover top held (filter test (upto held end)) place end c rh l i e
     (record {
       rises = rises_above test 0 end place (upto held end) (λ x t. ltb-true place x.seq t) (omega arith) (rises_upto 0 top end held (omega arith) rh);
-      of = λ x j. (x, (in_upto x held end (in_filter test x (upto held end) j).0).0, inl refl);
-      has = λ s x q f t. (x, filter_in test x (upto held end) (last_in (touches s) (upto held end) x q).0 (lt-ltb place x.seq f), inl refl);
+      of = λ x j. (x, (from_upto x held end (in_filter test x (upto held end) j).0).0, inl refl);
+      has = λ s x q f t. (x, kept_in_filter test x (upto held end) (last_in (touches s) (upto held end) x q).0 (lt-ltb place x.seq f), inl refl);
     })

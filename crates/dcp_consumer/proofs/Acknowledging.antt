@@ -10,7 +10,7 @@ use Rattle.mcbp_dcp.proofs.DcpBack.{message_back}
 use Rattle.vb_events.specs.declared.event.EndReason.TheVariants as reason
 use Rattle.vb_types.specs.declared.stream.StreamAsk.{StreamAsk}
 use Rattle.dcp_consumer.specs.Conduct.{Acknowledges, IsAcknowledgement, LeavesAcknowledged, acknowledgement_bytes}
-use Rattle.dcp_consumer.specs.Machine.{PlainConsumer, asked_again, again_by, ended_for, is_streaming, may_acknowledge, acknowledged}
+use Rattle.dcp_consumer.specs.Machine.{PlainConsumer, request_again, again_by, ended_for, is_streaming, may_acknowledge, acknowledged}
 use Rattle.dcp_consumer.specs.declared.handshake.Handshake.{Handshake}
 use Rattle.dcp_consumer.specs.declared.handshake.Handshake.TheVariants as handshake
 
@@ -51,8 +51,8 @@ written c seq fits = record {
 -- ---- what leaves it
 
 back_by : (h : Handshake) (b : Bool) (c : PlainConsumer) (ask : StreamAsk) → nat_lt c.asked (2 ^ 32 - 1) ≡ b → (again_by h ask c).0.acked ≡ c.acked
-back_by handshake.Asking true c ask e = ap (λ t. (if t then asked_again ask c else (ended_for reason.Protocol c, [])).0.acked) e
-back_by handshake.Asking false c ask e = ap (λ t. (if t then asked_again ask c else (ended_for reason.Protocol c, [])).0.acked) e
+back_by handshake.Asking true c ask e = ap (λ t. (if t then request_again ask c else (ended_for reason.Protocol c, [])).0.acked) e
+back_by handshake.Asking false c ask e = ap (λ t. (if t then request_again ask c else (ended_for reason.Protocol c, [])).0.acked) e
 back_by other b c ask e = refl
 
 pub others : (c : PlainConsumer) → LeavesAcknowledged c

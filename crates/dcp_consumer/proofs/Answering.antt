@@ -10,12 +10,12 @@ use Rattle.mcbp_dcp.specs.declared.row.DcpRow.TheVariants as row
 use Rattle.mcbp_dcp.specs.declared.message.DcpMsg.{DcpMsg}
 use Rattle.mcbp_dcp.specs.declared.message.DcpMsg.TheVariants as msg
 use Rattle.mcbp_dcp.specs.declared.message.DcpFault.{DcpFault}
-use Rattle.mcbp_dcp.specs.declared.message.StreamTold.{StreamTold}
-use Rattle.mcbp_dcp.specs.declared.message.StreamTold.TheVariants as told
+use Rattle.mcbp_dcp.specs.declared.message.StreamVerdict.{StreamVerdict}
+use Rattle.mcbp_dcp.specs.declared.message.StreamVerdict.TheVariants as told
 use Rattle.mcbp_dcp.specs.declared.shape.TheConstants.{SUCCESS, ROLLBACK}
 use Rattle.mcbp_dcp.specs.Rows.{frame_row}
 use Rattle.mcbp_dcp.specs.Shapes.{shape_fault}
-use Rattle.mcbp_dcp.specs.Messages.{told_in, message_in, unless_fault, read_as, read_of}
+use Rattle.mcbp_dcp.specs.Messages.{verdict_in, message_in, unless_fault, read_as, read_of}
 use Rattle.vb_events.specs.declared.event.EndReason.TheVariants as reason
 use Rattle.dcp_consumer.specs.Conduct.{AnswersTo, Awaits, Reads}
 use Rattle.dcp_consumer.specs.Machine.{answers, is_awaited, misread_reason, answered_with}
@@ -27,8 +27,8 @@ use Rattle.dcp_consumer.specs.declared.handshake.Handshake.TheVariants as handsh
 fits_so : (opaque opcode : ℕ) (f : Frame) → AnswersTo opaque opcode f → answers opaque opcode f ≡ true
 fits_so opaque opcode f a = and_from (f.opaque == opaque) (f.opcode == opcode) (eq-eqb f.opaque opaque a.1) (eq-eqb f.opcode opcode a.2)
 
-so_fits : (opaque opcode : ℕ) (f : Frame) → f.magic ≡ 0x81 → answers opaque opcode f ≡ true → AnswersTo opaque opcode f
-so_fits opaque opcode f magic e =
+fits_back : (opaque opcode : ℕ) (f : Frame) → f.magic ≡ 0x81 → answers opaque opcode f ≡ true → AnswersTo opaque opcode f
+fits_back opaque opcode f magic e =
     let parts = and_parts (f.opaque == opaque) (f.opcode == opcode) e in (magic, eqb-true f.opaque opaque parts.0, eqb-true f.opcode opcode parts.1)
 
 pub awaited_so : (h : Handshake) (n : ℕ) (f : Frame) → Awaits h n f → is_awaited h n f ≡ true
@@ -38,12 +38,12 @@ awaited_so handshake.Naming n f a = fits_so 3 0x5e f a
 awaited_so handshake.Asking n f a = fits_so n 0x53 f a
 awaited_so other n f a = absurd a
 
-pub so_awaited : (h : Handshake) (n : ℕ) (f : Frame) → f.magic ≡ 0x81 → is_awaited h n f ≡ true → Awaits h n f
-so_awaited handshake.Opening n f magic e = so_fits 1 0x50 f magic e
-so_awaited handshake.SyncWrites n f magic e = so_fits 2 0x5e f magic e
-so_awaited handshake.Naming n f magic e = so_fits 3 0x5e f magic e
-so_awaited handshake.Asking n f magic e = so_fits n 0x53 f magic e
-so_awaited other n f magic e = cc
+pub awaited_back : (h : Handshake) (n : ℕ) (f : Frame) → f.magic ≡ 0x81 → is_awaited h n f ≡ true → Awaits h n f
+awaited_back handshake.Opening n f magic e = fits_back 1 0x50 f magic e
+awaited_back handshake.SyncWrites n f magic e = fits_back 2 0x5e f magic e
+awaited_back handshake.Naming n f magic e = fits_back 3 0x5e f magic e
+awaited_back handshake.Asking n f magic e = fits_back n 0x53 f magic e
+awaited_back other n f magic e = cc
 
 pub awaited_magic : (h : Handshake) (n : ℕ) (f : Frame) → Awaits h n f → f.magic ≡ 0x81
 awaited_magic handshake.Opening n f a = a.0
@@ -78,30 +78,30 @@ misread_other code first second =
 
 -- ---- what is read of the answer to a request for a stream
 
-told_by : (f : Frame) (t : StreamTold) (fault : Option DcpFault) (r : DcpRow) → Some (unless_fault fault (message_in r f)) ≡ Some (Ok (msg.StreamAnswer t)) → t ≡ told_in f.vb_or_status f.value
+told_by : (f : Frame) (t : StreamVerdict) (fault : Option DcpFault) (r : DcpRow) → Some (unless_fault fault (message_in r f)) ≡ Some (Ok (msg.StreamAnswer t)) → t ≡ verdict_in f.vb_or_status f.value
 told_by f t (Some fault) r e = cc
 told_by f t None row.StreamAnswer e = cc
 told_by f t None other e = cc
 
-row_by : (f : Frame) (t : StreamTold) (r : Option DcpRow) → option_map (read_as f) r ≡ Some (Ok (msg.StreamAnswer t)) → t ≡ told_in f.vb_or_status f.value
+row_by : (f : Frame) (t : StreamVerdict) (r : Option DcpRow) → option_map (read_as f) r ≡ Some (Ok (msg.StreamAnswer t)) → t ≡ verdict_in f.vb_or_status f.value
 row_by f t None e = cc
 row_by f t (Some r) e = told_by f t (shape_fault r f) r e
 
 -- the answer is that of its status
-pub read_told : (f : Frame) (t : StreamTold) → Reads f (msg.StreamAnswer t) → t ≡ told_in f.vb_or_status f.value
+pub read_told : (f : Frame) (t : StreamVerdict) → Reads f (msg.StreamAnswer t) → t ≡ verdict_in f.vb_or_status f.value
 unfolding read_of
 read_told f t e = row_by f t (frame_row f) e
 
-pub told_other : (code : ℕ) (value : List ℕ) → code ≢ 0 → code ≢ 0x23 → told_in code value ≡ told.Refused code
+pub told_other : (code : ℕ) (value : List ℕ) → code ≢ 0 → code ≢ 0x23 → verdict_in code value ≡ told.Refused code
 told_other code value first second =
-    ap (λ b. if b then told_in 0 value else if code == ROLLBACK then told_in 0x23 value else told.Refused code) (ne_eqb code SUCCESS first)
-    ∙ ap (λ b. if b then told_in 0x23 value else told.Refused code) (ne_eqb code ROLLBACK second)
+    ap (λ b. if b then verdict_in 0 value else if code == ROLLBACK then verdict_in 0x23 value else told.Refused code) (ne_eqb code SUCCESS first)
+    ∙ ap (λ b. if b then verdict_in 0x23 value else told.Refused code) (ne_eqb code ROLLBACK second)
 
 -- what was read is such an answer, or none
 abbrev pub ReadCase : ℕ → Option (Result DcpMsg DcpFault) → Type 0
 ReadCase code read =
-    ((t : StreamTold) × (read ≡ Some (Ok (msg.StreamAnswer t))) × (answered_with code read ≡ Ok t))
-    ⊎ (((t : StreamTold) → read ≢ Some (Ok (msg.StreamAnswer t))) × (answered_with code read ≡ Err (misread_reason code)))
+    ((t : StreamVerdict) × (read ≡ Some (Ok (msg.StreamAnswer t))) × (answered_with code read ≡ Ok t))
+    ⊎ (((t : StreamVerdict) → read ≢ Some (Ok (msg.StreamAnswer t))) × (answered_with code read ≡ Err (misread_reason code)))
 
 pub read_case : (code : ℕ) (read : Option (Result DcpMsg DcpFault)) → ReadCase code read
 read_case code (Some (Ok (msg.StreamAnswer t))) = inl (t, refl, refl)

@@ -11,13 +11,13 @@ use Rattle.vb_events.specs.declared.event.EndReason.{EndReason}
 use Rattle.vb_events.specs.declared.event.EndReason.TheVariants as reason
 use Rattle.vb_types.specs.declared.stream.StreamAsk.{StreamAsk}
 use Rattle.dcp_consumer.specs.Conduct.{Awaits, Comes, IsNext, Ends, IsRequest}
-use Rattle.dcp_consumer.specs.Machine.{PlainConsumer, with_handshake, over_why, answered, moved_by, frame_step, consumer_step, IsDue, streaming, granted, asked_again, again_by, again, ended_for}
+use Rattle.dcp_consumer.specs.Machine.{PlainConsumer, with_handshake, over_why, answered, moved_by, frame_step, consumer_step, IsDue, streaming, granted, request_again, again_by, again, ended_for}
 use Rattle.dcp_consumer.specs.declared.handshake.Handshake.{Handshake}
 use Rattle.dcp_consumer.specs.declared.handshake.Handshake.TheVariants as handshake
 use Rattle.dcp_consumer.specs.declared.handshake.ConsumerStep.{ConsumerStep}
 use Rattle.dcp_consumer.specs.declared.handshake.ConsumerStep.TheVariants as step
 use Rattle.dcp_consumer.specs.declared.passive_stream.Passive.TheVariants as passive
-use Rattle.dcp_consumer.proofs.Steps.{over_step, comes_so, so_comes}
+use Rattle.dcp_consumer.proofs.Steps.{over_step, comes_so, comes_itself}
 
 -- ---- one on
 
@@ -31,11 +31,11 @@ next_on handshake.Naming next n f a ne e = subst (IsNext handshake.Naming) e tt
 next_on handshake.Asking next n f a ne e = absurd (ne refl)
 next_on other next n f a ne e = absurd a
 
-on_next : (h next : Handshake) → IsNext h next → (h ≢ handshake.Asking) × (answered h ≡ next)
-on_next handshake.Opening handshake.SyncWrites is = ((λ e. cc), refl)
-on_next handshake.SyncWrites handshake.Naming is = ((λ e. cc), refl)
-on_next handshake.Naming handshake.Asking is = ((λ e. cc), refl)
-on_next h next is = absurd is
+next_is_on : (h next : Handshake) → IsNext h next → (h ≢ handshake.Asking) × (answered h ≡ next)
+next_is_on handshake.Opening handshake.SyncWrites is = ((λ e. cc), refl)
+next_is_on handshake.SyncWrites handshake.Naming is = ((λ e. cc), refl)
+next_is_on handshake.Naming handshake.Asking is = ((λ e. cc), refl)
+next_is_on h next is = absurd is
 
 moved_next : (h next : Handshake) (n : ℕ) (f : Frame) (s : ConsumerStep) → Comes h n f s → next ≢ h → over_why next ≡ None → moved_by s h ≡ next
     → IsNext h next × Awaits h n f × (f.vb_or_status ≡ 0)
@@ -48,8 +48,8 @@ moved_next h next n f other p ne live e = absurd (ne (sym e))
 pub next_moves : (c : PlainConsumer) (f : Frame) (next : Handshake) → next ≢ c.handshake → over_why next ≡ None
     → ((consumer_step c f).0.handshake ≡ next) ↔ (IsNext c.handshake next × Awaits c.handshake c.asked f × (f.vb_or_status ≡ 0))
 next_moves c f next ne live = (
-  λ e. moved_next c.handshake next c.asked f (frame_step c f) (so_comes c f) ne live e,
-  λ p. let on = on_next c.handshake next p.0 in ap (λ s. moved_by s c.handshake) (comes_so c f step.Answered (p.1, on.0, p.2)) ∙ on.1,
+  λ e. moved_next c.handshake next c.asked f (frame_step c f) (comes_itself c f) ne live e,
+  λ p. let on = next_is_on c.handshake next p.0 in ap (λ s. moved_by s c.handshake) (comes_so c f step.Answered (p.1, on.0, p.2)) ∙ on.1,
 )
 
 due_by : (c : PlainConsumer) (f : Frame) (s : ConsumerStep) → Comes c.handshake c.asked f s → IsDue s (with_handshake c (moved_by s c.handshake))
@@ -58,7 +58,7 @@ due_by c f (step.Roll point) p = p.0
 due_by c f other p = tt
 
 pub is_due : (c : PlainConsumer) (f : Frame) → IsDue (consumer_step c f).1 (consumer_step c f).0
-is_due c f = due_by c f (frame_step c f) (so_comes c f)
+is_due c f = due_by c f (frame_step c f) (comes_itself c f)
 
 streaming_other : (h : Handshake) → h ≢ handshake.Asking → streaming h ≡ h
 streaming_other handshake.Asking ne = absurd (ne refl)
@@ -100,7 +100,7 @@ end_moves h reason.Done s e = ap (λ x. moved_by x h) e
 end_moves h reason.State s e = ap (λ x. moved_by x h) e
 
 pub ends_so : (c : PlainConsumer) (f : Frame) (why : EndReason) → over_why c.handshake ≡ None → ((consumer_step c f).0.handshake ≡ handshake.Over why) ↔ Ends why (consumer_step c f).1
-ends_so c f why live = (λ e. moved_end c.handshake c.asked f why (frame_step c f) (so_comes c f) live e, λ e. end_moves c.handshake why (frame_step c f) e)
+ends_so c f why live = (λ e. moved_end c.handshake c.asked f why (frame_step c f) (comes_itself c f) live e, λ e. end_moves c.handshake why (frame_step c f) e)
 
 pub over_so : (c : PlainConsumer) (f : Frame) → over_why c.handshake ≢ None → consumer_step c f ≡ (c, step.Dropped)
 over_so c f over = ap (λ s. (with_handshake c (moved_by s c.handshake), s)) (over_step c f over)
@@ -122,13 +122,13 @@ request_is ask n v = record {
 pub back : (c : PlainConsumer) (ask : StreamAsk) → c.handshake ≡ handshake.Asking → c.asked < 4294967295
     → ((again ask c).0 ≡ record c { asked = c.asked + 1 }) × IsRequest ask (c.asked + 1) c.dialed.vb (again ask c).1
 back c ask e less =
-    let is : again ask c ≡ asked_again ask c =
-    ap (λ h. again_by h ask c) e ∙ ap (λ b. if b then asked_again ask c else (ended_for reason.Protocol c, [])) (lt-ltb c.asked (2 ^ 32 - 1) less) in
+    let is : again ask c ≡ request_again ask c =
+    ap (λ h. again_by h ask c) e ∙ ap (λ b. if b then request_again ask c else (ended_for reason.Protocol c, [])) (lt-ltb c.asked (2 ^ 32 - 1) less) in
     (ap (λ p. p.0) is, subst (λ p. IsRequest ask (c.asked + 1) c.dialed.vb p.1) (sym is) (request_is ask (c.asked + 1) c.dialed.vb))
 
 pub none_left : (c : PlainConsumer) (ask : StreamAsk) → c.handshake ≡ handshake.Asking → c.asked ≡ 4294967295 → again ask c ≡ (ended_for reason.Protocol c, [])
 none_left c ask e most =
-    ap (λ h. again_by h ask c) e ∙ ap (λ n. if nat_lt n (2 ^ 32 - 1) then asked_again ask c else (ended_for reason.Protocol c, [])) most
+    ap (λ h. again_by h ask c) e ∙ ap (λ n. if nat_lt n (2 ^ 32 - 1) then request_again ask c else (ended_for reason.Protocol c, [])) most
 
 again_other : (h : Handshake) (c : PlainConsumer) (ask : StreamAsk) → h ≢ handshake.Asking → again_by h ask c ≡ (c, [])
 again_other handshake.Asking c ask ne = absurd (ne refl)

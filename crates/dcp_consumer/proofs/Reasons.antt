@@ -11,7 +11,7 @@ use Rattle.dcp_consumer.specs.declared.handshake.Handshake.TheVariants as handsh
 use Rattle.dcp_consumer.specs.declared.handshake.ConsumerStep.{ConsumerStep}
 use Rattle.dcp_consumer.specs.declared.handshake.ConsumerStep.TheVariants as step
 use Rattle.dcp_consumer.specs.declared.passive_stream.Passive.TheVariants as passive
-use Rattle.dcp_consumer.proofs.Steps.{awaits_live, comes_so, so_comes}
+use Rattle.dcp_consumer.proofs.Steps.{awaits_live, comes_so, comes_itself}
 use Rattle.dcp_consumer.proofs.Moves.{ends_so}
 
 -- ---- the answer that is waited for, by its numbers
@@ -41,7 +41,7 @@ is_answer handshake.Asking n f a = (a.0, named n 0x53 f a)
 is_answer other n f a = absurd a
 
 comes_at : (c : PlainConsumer) (f : Frame) (s : ConsumerStep) → frame_step c f ≡ s → Comes c.handshake c.asked f s
-comes_at c f s e = subst (Comes c.handshake c.asked f) e (so_comes c f)
+comes_at c f s e = subst (Comes c.handshake c.asked f) e (comes_itself c f)
 
 -- what is passed over is no such answer
 passed_by : (h : Handshake) (n : ℕ) (f : Frame) → Comes h n f step.Dropped → IsAnswer h n f → ⊥
@@ -74,19 +74,19 @@ by_frame h n f reason.State s e p =
 moved_so : (c : PlainConsumer) (f : Frame) (s : ConsumerStep) → Comes c.handshake c.asked f s → (consumer_step c f).0.handshake ≡ moved_by s c.handshake
 moved_so c f s p = ap (λ s. moved_by s c.handshake) (comes_so c f s p)
 
-so_ends : (c : PlainConsumer) (f : Frame) (why : EndReason) → over_why c.handshake ≡ None → EndsBy why c.handshake c.asked f → (consumer_step c f).0.handshake ≡ handshake.Over why
-so_ends c f reason.Cut live p = absurd p
-so_ends c f reason.Disk live p = absurd p
-so_ends c f reason.Refused live p = moved_so c f (step.Over reason.Refused) (awaits c.handshake c.asked f p.0, p.1, p.2)
-so_ends c f reason.Protocol live (inl p) =
+ends_by_frame : (c : PlainConsumer) (f : Frame) (why : EndReason) → over_why c.handshake ≡ None → EndsBy why c.handshake c.asked f → (consumer_step c f).0.handshake ≡ handshake.Over why
+ends_by_frame c f reason.Cut live p = absurd p
+ends_by_frame c f reason.Disk live p = absurd p
+ends_by_frame c f reason.Refused live p = moved_so c f (step.Over reason.Refused) (awaits c.handshake c.asked f p.0, p.1, p.2)
+ends_by_frame c f reason.Protocol live (inl p) =
     let a : Awaits handshake.Asking c.asked f = subst (λ k. Awaits k c.asked f) p.0 (awaits c.handshake c.asked f p.1) in
     moved_so c f (step.Over reason.Protocol) (p.0, a, p.2, p.3)
-so_ends c f reason.Protocol live (inr p) = moved_so c f (step.Passive passive.Protocol) ((p.0, live), p.1)
-so_ends c f reason.Done live p = moved_so c f (step.Passive (passive.End reason.Done)) ((p.0, live), p.1, p.2)
-so_ends c f reason.State live p = moved_so c f (step.Passive (passive.End reason.State)) ((p.0, live), p.1, p.2)
+ends_by_frame c f reason.Protocol live (inr p) = moved_so c f (step.Passive passive.Protocol) ((p.0, live), p.1)
+ends_by_frame c f reason.Done live p = moved_so c f (step.Passive (passive.End reason.Done)) ((p.0, live), p.1, p.2)
+ends_by_frame c f reason.State live p = moved_so c f (step.Passive (passive.End reason.State)) ((p.0, live), p.1, p.2)
 
 pub reasons_so : (c : PlainConsumer) (f : Frame) (why : EndReason) → over_why c.handshake ≡ None → ((consumer_step c f).0.handshake ≡ handshake.Over why) ↔ EndsBy why c.handshake c.asked f
 reasons_so c f why live = (
-  λ e. by_frame c.handshake c.asked f why (frame_step c f) ((ends_so c f why live).0 e) (so_comes c f),
-  so_ends c f why live,
+  λ e. by_frame c.handshake c.asked f why (frame_step c f) ((ends_so c f why live).0 e) (comes_itself c f),
+  ends_by_frame c f why live,
 )

@@ -8,10 +8,10 @@ use Rattle.mcbp_frame.specs.declared.frame.TheConstants.{RESPONSE}
 use Rattle.mcbp_dcp.specs.declared.message.DcpMsg.{DcpMsg}
 use Rattle.mcbp_dcp.specs.declared.message.DcpMsg.TheVariants as msg
 use Rattle.mcbp_dcp.specs.declared.message.DcpFault.{DcpFault}
-use Rattle.mcbp_dcp.specs.declared.message.StreamTold.{StreamTold}
-use Rattle.mcbp_dcp.specs.declared.message.StreamTold.TheVariants as told
+use Rattle.mcbp_dcp.specs.declared.message.StreamVerdict.{StreamVerdict}
+use Rattle.mcbp_dcp.specs.declared.message.StreamVerdict.TheVariants as told
 use Rattle.mcbp_dcp.specs.declared.shape.TheConstants.{SUCCESS}
-use Rattle.mcbp_dcp.specs.Messages.{told_in, read_of}
+use Rattle.mcbp_dcp.specs.Messages.{verdict_in, read_of}
 use Rattle.vb_events.specs.declared.event.EndReason.{EndReason}
 use Rattle.vb_events.specs.declared.event.EndReason.TheVariants as reason
 use Rattle.vb_calls.specs.declared.calls.VbCall.{VbCall}
@@ -23,7 +23,7 @@ use Rattle.dcp_consumer.specs.declared.handshake.Handshake.TheVariants as handsh
 use Rattle.dcp_consumer.specs.declared.handshake.ConsumerStep.{ConsumerStep}
 use Rattle.dcp_consumer.specs.declared.handshake.ConsumerStep.TheVariants as step
 use Rattle.dcp_consumer.specs.declared.passive_stream.Passive.TheVariants as passive
-use Rattle.dcp_consumer.proofs.Answering.{awaited_so, so_awaited, awaited_magic, status_case, StatusCase, misread_back, misread_other, read_told, told_other, ReadCase, read_case}
+use Rattle.dcp_consumer.proofs.Answering.{awaited_so, awaited_back, awaited_magic, status_case, StatusCase, misread_back, misread_other, read_told, told_other, ReadCase, read_case}
 
 -- ---- the step, by what came
 
@@ -54,7 +54,7 @@ awaited_step c f a =
 
 unawaited_by : (c : PlainConsumer) (f : Frame) (b : Bool) → over_why c.handshake ≡ None → f.magic ≡ 0x81 → (Awaits c.handshake c.asked f → ⊥) → is_awaited c.handshake c.asked f ≡ b
     → frame_step c f ≡ step.Dropped
-unawaited_by c f true live magic never e = absurd (never (so_awaited c.handshake c.asked f magic e))
+unawaited_by c f true live magic never e = absurd (never (awaited_back c.handshake c.asked f magic e))
 unawaited_by c f false live magic never e = live_step c f true live (eq-eqb f.magic RESPONSE magic) ∙ ap (λ b. if b then answer_step c.handshake f else step.Dropped) e
 
 unawaited_at : (c : PlainConsumer) (f : Frame) (over : Option EndReason) → over_why c.handshake ≡ over → f.magic ≡ 0x81 → (Awaits c.handshake c.asked f → ⊥) → frame_step c f ≡ step.Dropped
@@ -82,7 +82,7 @@ refused_at : (h : Handshake) (n : ℕ) (f : Frame) → Awaits h n f → f.vb_or_
 refused_at handshake.Asking n f a ne other = refused_by f ne (other refl) (read_case f.vb_or_status (read_of f))
 refused_at h n f a ne other = failure f.vb_or_status ne
 
-misread_by : (f : Frame) → (f.vb_or_status ≡ 0) ⊎ (f.vb_or_status ≡ 0x23) → ((t : StreamTold) → Reads f (msg.StreamAnswer t) → ⊥) → ReadCase f.vb_or_status (read_of f)
+misread_by : (f : Frame) → (f.vb_or_status ≡ 0) ⊎ (f.vb_or_status ≡ 0x23) → ((t : StreamVerdict) → Reads f (msg.StreamAnswer t) → ⊥) → ReadCase f.vb_or_status (read_of f)
     → stream_step (answered_with f.vb_or_status (read_of f)) ≡ step.Over reason.Protocol
 misread_by f code none (inl r) = absurd (none r.0 r.1)
 misread_by f code none (inr r) = ap stream_step r.1 ∙ ap step.Over (misread_back f.vb_or_status code)
@@ -153,17 +153,17 @@ status_comes h n f a ne (inr code) = (step.Over reason.Refused, (a, code.1, λ e
 
 refuse_comes : (n : ℕ) (f : Frame) (code : ℕ) → Awaits handshake.Asking n f → Reads f (msg.StreamAnswer (told.Refused code)) → StatusCase f.vb_or_status → Coming handshake.Asking n f
 refuse_comes n f code a r (inl e) =
-    let is : told.Refused code ≡ told_in 0 f.value = read_told f (told.Refused code) r ∙ ap (λ status. told_in status f.value) e in cc
+    let is : told.Refused code ≡ verdict_in 0 f.value = read_told f (told.Refused code) r ∙ ap (λ status. verdict_in status f.value) e in cc
 refuse_comes n f code a r (inr (inl e)) =
-    let is : told.Refused code ≡ told_in 0x23 f.value = read_told f (told.Refused code) r ∙ ap (λ status. told_in status f.value) e in cc
+    let is : told.Refused code ≡ verdict_in 0x23 f.value = read_told f (told.Refused code) r ∙ ap (λ status. verdict_in status f.value) e in cc
 refuse_comes n f code a r (inr (inr p)) = (step.Over reason.Refused, (a, p.0, λ e. p.1))
 
-told_comes : (n : ℕ) (f : Frame) (t : StreamTold) → Awaits handshake.Asking n f → Reads f (msg.StreamAnswer t) → Coming handshake.Asking n f
+told_comes : (n : ℕ) (f : Frame) (t : StreamVerdict) → Awaits handshake.Asking n f → Reads f (msg.StreamAnswer t) → Coming handshake.Asking n f
 told_comes n f (told.Go log) a r = (step.Adopt log, (refl, a, r))
 told_comes n f (told.Roll point) a r = (step.Roll point, (refl, a, r))
 told_comes n f (told.Refused code) a r = refuse_comes n f code a r (status_case f.vb_or_status)
 
-untold_comes : (n : ℕ) (f : Frame) → Awaits handshake.Asking n f → ((t : StreamTold) → Reads f (msg.StreamAnswer t) → ⊥) → StatusCase f.vb_or_status → Coming handshake.Asking n f
+untold_comes : (n : ℕ) (f : Frame) → Awaits handshake.Asking n f → ((t : StreamVerdict) → Reads f (msg.StreamAnswer t) → ⊥) → StatusCase f.vb_or_status → Coming handshake.Asking n f
 untold_comes n f a none (inl e) = (step.Over reason.Protocol, (refl, a, inl e, none))
 untold_comes n f a none (inr (inl e)) = (step.Over reason.Protocol, (refl, a, inr e, none))
 untold_comes n f a none (inr (inr p)) = (step.Over reason.Refused, (a, p.0, λ e. p.1))
@@ -204,7 +204,7 @@ sent_comes (handshake.Over why) n f magic = (step.Dropped, inl (λ e. cc))
 sent_comes h n f magic = (step.Passive passive.Protocol, ((magic, refl), λ streams. cc))
 
 awaited_comes : (h : Handshake) (n : ℕ) (f : Frame) → f.magic ≡ 0x81 → (b : Bool) → is_awaited h n f ≡ b → Coming h n f
-awaited_comes h n f magic true e = answer_comes h n f (so_awaited h n f magic e)
+awaited_comes h n f magic true e = answer_comes h n f (awaited_back h n f magic e)
 awaited_comes h n f magic false e = (step.Dropped, inr (magic, λ a. let so : is_awaited h n f ≡ true = awaited_so h n f a in cc))
 
 any_comes : (h : Handshake) (n : ℕ) (f : Frame) → (((f.magic == 0x81) ≡ true) × (f.magic ≡ 0x81)) ⊎ (((f.magic == 0x81) ≡ false) × (f.magic ≢ 0x81)) → Coming h n f
@@ -212,7 +212,7 @@ any_comes h n f (inl magic) = awaited_comes h n f magic.1 (is_awaited h n f) ref
 any_comes h n f (inr magic) = sent_comes h n f magic.1
 
 -- what the step of a frame needs
-pub so_comes : (c : PlainConsumer) (f : Frame) → Comes c.handshake c.asked f (frame_step c f)
-so_comes c f =
+pub comes_itself : (c : PlainConsumer) (f : Frame) → Comes c.handshake c.asked f (frame_step c f)
+comes_itself c f =
     let coming = any_comes c.handshake c.asked f (eqb_tells f.magic 0x81) in
     subst (Comes c.handshake c.asked f) (sym (comes_so c f coming.0 coming.1)) coming.1

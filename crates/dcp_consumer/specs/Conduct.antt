@@ -5,8 +5,8 @@ use Rattle.mcbp_frame.specs.declared.frame.Frame.{Frame}
 use Rattle.mcbp_frame.specs.Spelling.{spelling}
 use Rattle.mcbp_dcp.specs.declared.message.DcpMsg.{DcpMsg}
 use Rattle.mcbp_dcp.specs.declared.message.DcpMsg.TheVariants as msg
-use Rattle.mcbp_dcp.specs.declared.message.StreamTold.{StreamTold}
-use Rattle.mcbp_dcp.specs.declared.message.StreamTold.TheVariants as told
+use Rattle.mcbp_dcp.specs.declared.message.StreamVerdict.{StreamVerdict}
+use Rattle.mcbp_dcp.specs.declared.message.StreamVerdict.TheVariants as told
 use Rattle.mcbp_dcp.specs.DcpLaws.{InRange}
 use Rattle.mcbp_dcp.specs.Messages.{read_of}
 use Rattle.vb_events.specs.declared.event.EndReason.{EndReason}
@@ -65,7 +65,7 @@ Comes h asked f (step.Roll point) = (h ≡ handshake.Asking) × AnswersTo asked 
 Comes h asked f (step.Over reason.Refused) = Awaits h asked f × (f.vb_or_status ≢ 0) × (h ≡ handshake.Asking → f.vb_or_status ≢ 0x23)
 Comes h asked f (step.Over reason.Protocol) =
     (h ≡ handshake.Asking) × AnswersTo asked 0x53 f × ((f.vb_or_status ≡ 0) ⊎ (f.vb_or_status ≡ 0x23))
-    × ((t : StreamTold) → Reads f (msg.StreamAnswer t) → ⊥)
+    × ((t : StreamVerdict) → Reads f (msg.StreamAnswer t) → ⊥)
 Comes h asked f (step.Over other) = ⊥
 Comes h asked f (step.Passive (passive.Call call)) =
     IsMessage h f × (h ≡ handshake.Streaming) × ((m : DcpMsg) × Reads f m × (call_of_message m ≡ Some call))
@@ -98,7 +98,7 @@ abbrev pub EndsBy : EndReason → Handshake → ℕ → Frame → Type 0
 EndsBy reason.Cut h asked f = ⊥
 EndsBy reason.Refused h asked f = IsAnswer h asked f × (f.vb_or_status ≢ 0) × (h ≡ handshake.Asking → f.vb_or_status ≢ 0x23)
 EndsBy reason.Protocol h asked f =
-    ((h ≡ handshake.Asking) × IsAnswer h asked f × ((f.vb_or_status ≡ 0) ⊎ (f.vb_or_status ≡ 0x23)) × ((t : StreamTold) → Reads f (msg.StreamAnswer t) → ⊥))
+    ((h ≡ handshake.Asking) × IsAnswer h asked f × ((f.vb_or_status ≡ 0) ⊎ (f.vb_or_status ≡ 0x23)) × ((t : StreamVerdict) → Reads f (msg.StreamAnswer t) → ⊥))
     ⊎ ((f.magic ≢ 0x81) × (h ≡ handshake.Streaming → (m : DcpMsg) → Reads f m → IsOfStream m → ⊥))
 EndsBy reason.Done h asked f = (f.magic ≢ 0x81) × (h ≡ handshake.Streaming) × Reads f (msg.StreamEnd 0)
 EndsBy reason.State h asked f = (f.magic ≢ 0x81) × (h ≡ handshake.Streaming) × ((why : ℕ) × (why ≢ 0) × Reads f (msg.StreamEnd why))

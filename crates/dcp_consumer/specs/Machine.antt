@@ -6,8 +6,8 @@ use Rattle.mcbp_frame.specs.Spelling.{spelling}
 use Rattle.mcbp_dcp.specs.declared.message.DcpMsg.{DcpMsg}
 use Rattle.mcbp_dcp.specs.declared.message.DcpMsg.TheVariants as msg
 use Rattle.mcbp_dcp.specs.declared.message.DcpFault.{DcpFault}
-use Rattle.mcbp_dcp.specs.declared.message.StreamTold.{StreamTold}
-use Rattle.mcbp_dcp.specs.declared.message.StreamTold.TheVariants as told
+use Rattle.mcbp_dcp.specs.declared.message.StreamVerdict.{StreamVerdict}
+use Rattle.mcbp_dcp.specs.declared.message.StreamVerdict.TheVariants as told
 use Rattle.mcbp_dcp.specs.declared.shape.TheConstants.{SUCCESS, ROLLBACK}
 use Rattle.mcbp_dcp.specs.DcpFrames.{dcp_frame}
 use Rattle.mcbp_dcp.specs.Messages.{read_of}
@@ -73,23 +73,23 @@ abbrev pub status_step : ℕ → ConsumerStep
 status_step code = if code == SUCCESS then step.Answered else step.Over reason.Refused
 
 -- what a request for a stream was answered with: a log to go on with, a point to go back to, or a refusal
-abbrev pub told_step : StreamTold → ConsumerStep
-told_step (told.Go log) = step.Adopt log
-told_step (told.Roll point) = step.Roll point
-told_step (told.Refused code) = step.Over reason.Refused
+abbrev pub verdict_step : StreamVerdict → ConsumerStep
+verdict_step (told.Go log) = step.Adopt log
+verdict_step (told.Roll point) = step.Roll point
+verdict_step (told.Refused code) = step.Over reason.Refused
 
 -- an answer that is not what its row is: a log or a point cannot be read, and any other status is a refusal
 abbrev pub misread_reason : ℕ → EndReason
 misread_reason code = if code == SUCCESS || code == ROLLBACK then reason.Protocol else reason.Refused
 
 -- what a request for a stream was answered with, in what was read of the answer, or why the link is over
-abbrev pub answered_with : ℕ → Option (Result DcpMsg DcpFault) → Result StreamTold EndReason
+abbrev pub answered_with : ℕ → Option (Result DcpMsg DcpFault) → Result StreamVerdict EndReason
 answered_with code (Some (Ok (msg.StreamAnswer told))) = Ok told
 answered_with code other = Err (misread_reason code)
 
 -- the link goes on with what was told, or is over
-abbrev pub stream_step : Result StreamTold EndReason → ConsumerStep
-stream_step (Ok told) = told_step told
+abbrev pub stream_step : Result StreamVerdict EndReason → ConsumerStep
+stream_step (Ok told) = verdict_step told
 stream_step (Err why) = step.Over why
 
 -- an answer that was waited for: that of the stream, or a status
@@ -153,12 +153,12 @@ abbrev pub granted : PlainConsumer → PlainConsumer
 granted c = with_handshake c (streaming c.handshake)
 
 -- one more request for a stream, with the next opaque
-abbrev pub asked_again : StreamAsk → PlainConsumer → PlainConsumer × List ℕ
-asked_again ask c = (record c { asked = c.asked + 1 }, spelling (dcp_frame (msg.StreamRequest ask) (c.asked + 1) c.dialed.vb))
+abbrev pub request_again : StreamAsk → PlainConsumer → PlainConsumer × List ℕ
+request_again ask c = (record c { asked = c.asked + 1 }, spelling (dcp_frame (msg.StreamRequest ask) (c.asked + 1) c.dialed.vb))
 
 -- while it asks for a stream, a consumer asks again; where no opaque is left, the link is over
 abbrev pub again_by : Handshake → StreamAsk → PlainConsumer → PlainConsumer × List ℕ
-again_by handshake.Asking ask c = if nat_lt c.asked (2 ^ 32 - 1) then asked_again ask c else (ended_for reason.Protocol c, [])
+again_by handshake.Asking ask c = if nat_lt c.asked (2 ^ 32 - 1) then request_again ask c else (ended_for reason.Protocol c, [])
 again_by other ask c = (c, [])
 
 -- the vBucket went back, and asks for this now: what becomes of the consumer, and what it writes

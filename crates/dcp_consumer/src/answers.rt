@@ -3,7 +3,7 @@ ghost use Rattle.std.specs.Prelude.{◌≡◌, IfOk};
 ghost use Rattle.{dcp_consumer.specs.Machine.{is_awaited, status_step, misread_reason, answered_with, stream_step, response_step}, mcbp_dcp.specs.Messages.{read_of}};
 
 use crate::{Alloc, ConsumerStep, Handshake};
-use mcbp_dcp::{DcpFault, DcpMsg, Opcode, StreamTold, read_dcp};
+use mcbp_dcp::{DcpFault, DcpMsg, Opcode, StreamVerdict, read_dcp};
 use mcbp_frame::Frame;
 use std::alloc::Global;
 use vb_events::EndReason;
@@ -46,7 +46,10 @@ fn misread_reason(code: u16) -> EndReason
 }
 
 /// What was told, in what was read of an answer with this status, or why the link ends.
-fn told_in(code: u16, read: Option<Result<DcpMsg, DcpFault>>) -> Result<StreamTold, EndReason>
+fn verdict_read(
+    code: u16,
+    read: Option<Result<DcpMsg, DcpFault>>,
+) -> Result<StreamVerdict, EndReason>
     ensures { result ≡ answered_with code read }
 {
     match read {
@@ -59,21 +62,21 @@ fn told_in(code: u16, read: Option<Result<DcpMsg, DcpFault>>) -> Result<StreamTo
 }
 
 /// What a request for a stream was answered with, or why the link ends.
-fn answered_with(alloc: Global, frame: &Frame) -> Alloc<Result<StreamTold, EndReason>>
+fn answered_with(alloc: Global, frame: &Frame) -> Alloc<Result<StreamVerdict, EndReason>>
     ensures { IfOk result (λ told. told ≡ answered_with frame.now.vb_or_status (read_of frame.now)) }
 {
     let read = read_dcp(alloc, frame)?;
-    Ok(told_in(frame.vb_or_status, read))
+    Ok(verdict_read(frame.vb_or_status, read))
 }
 
 /// What the answer to a request for a stream comes to.
-fn stream_step(told: Result<StreamTold, EndReason>) -> ConsumerStep
+fn stream_step(told: Result<StreamVerdict, EndReason>) -> ConsumerStep
     ensures { result ≡ stream_step told }
 {
     match told {
-        Ok(StreamTold::Go { log }) => ConsumerStep::Adopt(log),
-        Ok(StreamTold::Roll { point }) => ConsumerStep::Roll(point),
-        Ok(StreamTold::Refused { .. }) => ConsumerStep::Over(EndReason::Refused),
+        Ok(StreamVerdict::Go { log }) => ConsumerStep::Adopt(log),
+        Ok(StreamVerdict::Roll { point }) => ConsumerStep::Roll(point),
+        Ok(StreamVerdict::Refused { .. }) => ConsumerStep::Over(EndReason::Refused),
         Err(why) => ConsumerStep::Over(why),
     }
 }

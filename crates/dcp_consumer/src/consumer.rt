@@ -1,6 +1,6 @@
 //! A consumer, a machine that makes no call.
 ghost use Rattle.std.specs.Prelude.{◌≡◌, ◌++◌, ◌+◌, ◌<◌, ◌^◌, false, true, IfOk, OnOk, OnErr};
-ghost use Rattle.{dcp_consumer.specs.Dialing.{requests}, dcp_consumer.specs.Machine.{dialed_consumer, ended_for, over_why, frame_step, consumer_step, granted, asked_again, again, is_streaming, may_acknowledge, acknowledged}};
+ghost use Rattle.{dcp_consumer.specs.Dialing.{requests}, dcp_consumer.specs.Machine.{dialed_consumer, ended_for, over_why, frame_step, consumer_step, granted, request_again, again, is_streaming, may_acknowledge, acknowledged}};
 
 use crate::answers::response_step;
 use crate::passive_stream::message;
@@ -117,8 +117,8 @@ impl Consumer {
     /// Appends one more request for a stream, with the next opaque.
     fn ask_again(&mut self, ask: StreamAsk, out: &mut BytesMut) -> Alloc<()>
         requires { self.old.plain.asked + 1 < 2 ^ 32 }
-        ensures ok { OnOk result (self.new ≡ record self.old { plain = (asked_again ask self.old.plain).0 }) }
-        ensures request { OnOk result (out.new.items ≡ out.old.items ++ (asked_again ask self.old.plain).1) }
+        ensures ok { OnOk result (self.new ≡ record self.old { plain = (request_again ask self.old.plain).0 }) }
+        ensures request { OnOk result (out.new.items ≡ out.old.items ++ (request_again ask self.old.plain).1) }
         ensures err { OnErr result (self.new ≡ self.old) }
     {
         let opaque = self.asked + 1;

@@ -5,7 +5,7 @@ use Rattle.dcp_io.specs.Counts.{raised, Rose}
 use Rattle.dcp_io.specs.Moves.{Intake, Outlet, WrotePart}
 use Rattle.node_world.specs.World.{groups}
 use Rattle.transcript_law.specs.Lawfulness.{Lawful}
-use Rattle.transcript_law.specs.Prefixes.{AreFollowed, told_of, world_of}
+use Rattle.transcript_law.specs.Prefixes.{AreFollowed, known_of, world_of}
 use Rattle.script_text.specs.Scripts.{IsScript, FirstBad}
 use Rattle.script_text.specs.Transcript.{print_of}
 use Rattle.script_text.specs.declared.verb.ScriptLine.{ScriptLine}
@@ -26,7 +26,7 @@ pub record Completed (old new : Intake) (before after : Outlet) : Type 0 where
   pub read : ReadAll old new bytes
   pub said : IsScript bytes script
   pub lawful : Lawful script (groups script)
-  pub followed : AreFollowed (told_of script) (world_of script)
+  pub followed : AreFollowed (known_of script) (world_of script)
   pub wrote : WroteAll before after (print_of (groups script))
 
 -- the whole script was read, a line is outside the grammar, and the message on the first such line was written

@@ -17,7 +17,7 @@ use Rattle.dcp_producer.specs.declared.desk.Handshake.TheVariants as handshake
 use Rattle.dcp_producer.specs.declared.desk.Named.{Named}
 use Rattle.dcp_producer.specs.declared.desk.Named.TheVariants as named
 use Rattle.dcp_producer.specs.Producers.{PlainStream, Served, member_named, member_of}
-use Rattle.dcp_producer.specs.Serving.{stream_of, weighed, counted_told, counted_by, count_answered, count_asked, acknowledged, message_answered}
+use Rattle.dcp_producer.specs.Serving.{stream_of, weighed, counted_with, counted_by, count_answered, count_requested, acknowledged, message_answered}
 use Rattle.dcp_producer.specs.Handshaking.{Gets}
 use Rattle.dcp_producer.specs.Counting.{IsUnfed, IsFed, IsNoMember, IsMember, IsCounted, CountsAs, OneCount, IsCountable}
 use Rattle.dcp_producer.proofs.Weighing.{same_gets}
@@ -53,7 +53,7 @@ its_member : (member : ℕ) (h : Handshake) → IsMember member h → member_of 
 its_member member h (sync, is) = ap member_of is
 
 -- what is no status is counted
-no_status : (f : Frame) (member seq : ℕ) (reply : VbReply) (a : VbAnswer) (s : Served) → ((st : Status) → a ≡ answer.Status st → ⊥) → counted_by f member seq reply a s ≡ counted_told f member seq reply s
+no_status : (f : Frame) (member seq : ℕ) (reply : VbReply) (a : VbAnswer) (s : Served) → ((st : Status) → a ≡ answer.Status st → ⊥) → counted_by f member seq reply a s ≡ counted_with f member seq reply s
 no_status f member seq reply (answer.Status st) s other = absurd (other st refl)
 no_status f member seq reply a s other = refl
 
@@ -62,7 +62,7 @@ counts_as f member seq s reply = record {
   absent = λ none. same_gets f status.NotMyVbucket s (Done (count_answered f member seq s reply)) (ap (λ o. Done (count_answered f member seq s o)) none);
   refused = λ r st there said. same_gets f st s (Done (count_answered f member seq s reply)) (ap (λ o. Done (count_answered f member seq s o)) there ∙ ap (λ a. Done (counted_by f member seq r a s)) said);
   counted = λ r there other.
-      let is : count_answered f member seq s reply ≡ counted_told f member seq r s = ap (count_answered f member seq s) there ∙ no_status f member seq r r.answer s other in
+      let is : count_answered f member seq s reply ≡ counted_with f member seq r s = ap (count_answered f member seq s) there ∙ no_status f member seq r r.answer s other in
       subst (λ t. IsCounted f member seq s t r) (sym is) (record { end = refl; out = refl; count = refl; lines = refl; resolved = refl });
 }
 
@@ -75,9 +75,9 @@ one_call f member seq s (m ∷ n ∷ made) s' (at, asked, more) = absurd more
 
 module _ (f : Frame) (seq : ℕ) (s : Served) where
   -- an acknowledgement is what it is weighed as
-  weighed_as : (o : Option PlainStream) (m : Option ℕ) → stream_of f.vb_or_status s.end.stream ≡ o → member_of s.end.handshake ≡ m → acknowledged f seq s ≡ count_asked f seq s (weighed seq o m)
+  weighed_as : (o : Option PlainStream) (m : Option ℕ) → stream_of f.vb_or_status s.end.stream ≡ o → member_of s.end.handshake ≡ m → acknowledged f seq s ≡ count_requested f seq s (weighed seq o m)
   unfolding acknowledged
-  weighed_as o m stream member = λ i. count_asked f seq s (weighed seq (stream i) (member i))
+  weighed_as o m stream member = λ i. count_requested f seq s (weighed seq (stream i) (member i))
 
   pub unfed_first : IsUnfed f.vb_or_status s → Gets 0x83 s.end.handshake f s (message_answered f (msg.SeqnoAcknowledged seq) s)
   unfed_first unfed =
@@ -89,10 +89,10 @@ module _ (f : Frame) (seq : ℕ) (s : Served) where
         same_gets f status.Einval s (acknowledged f seq s) (weighed_as (Some stream) None (its_stream f.vb_or_status stream s fed) (no_member s.end.handshake other))
 
     module _ (member : ℕ) (named : IsMember member s.end.handshake) where
-      its_weight : (b : Bool) → nat_lt stream.reached seq ≡ b → acknowledged f seq s ≡ count_asked f seq s (if b then Err status.Erange else Ok member)
+      its_weight : (b : Bool) → nat_lt stream.reached seq ≡ b → acknowledged f seq s ≡ count_requested f seq s (if b then Err status.Erange else Ok member)
       its_weight b is =
           weighed_as (Some stream) (Some member) (its_stream f.vb_or_status stream s fed) (its_member member s.end.handshake named)
-          ∙ ap (λ t. count_asked f seq s (if t then Err status.Erange else Ok member)) is
+          ∙ ap (λ t. count_requested f seq s (if t then Err status.Erange else Ok member)) is
 
       pub above_then : stream.reached < seq → Gets 0x22 s.end.handshake f s (message_answered f (msg.SeqnoAcknowledged seq) s)
       above_then above = let e : nat_lt stream.reached seq ≡ true = grind (arith, nat_tests) in same_gets f status.Erange s (acknowledged f seq s) (its_weight true e)
@@ -130,13 +130,13 @@ member_back handshake.Fresh member is = absurd (cc is)
 member_back (handshake.Open sync name) member is = name_back sync name member is
 
 module _ (f : Frame) (seq : ℕ) (s s' : Served) (first : Made) (more : List Made) where
-  asked_only : (stream : PlainStream) (member : ℕ) (b : Bool) → nat_lt stream.reached seq ≡ b → Told (count_asked f seq s (if b then Err status.Erange else Ok member)) (first ∷ more) s'
+  asked_only : (stream : PlainStream) (member : ℕ) (b : Bool) → nat_lt stream.reached seq ≡ b → Told (count_requested f seq s (if b then Err status.Erange else Ok member)) (first ∷ more) s'
       → seq ≤ stream.reached
   asked_only stream member true is told = absurd told
   asked_only stream member false is told = grind (arith, nat_tests)
 
   weighed_only : (o : Option PlainStream) (m : Option ℕ) → stream_of f.vb_or_status s.end.stream ≡ o → member_of s.end.handshake ≡ m
-      → Told (count_asked f seq s (weighed seq o m)) (first ∷ more) s' → IsCountable f seq s
+      → Told (count_requested f seq s (weighed seq o m)) (first ∷ more) s' → IsCountable f seq s
   weighed_only None m fed is told = absurd told
   weighed_only (Some stream) None fed is told = absurd told
   weighed_only (Some stream) (Some member) fed is told = record {

@@ -28,7 +28,7 @@ use Rattle.dcp_producer.specs.declared.halt.Halt.TheVariants as halt
 use Rattle.dcp_producer.specs.declared.halt.NoSnapshot.{NoSnapshot}
 use Rattle.dcp_producer.specs.declared.halt.NoSnapshot.TheVariants as no_snapshot
 use Rattle.dcp_producer.specs.Producers.{PlainStream, PlainProducer, Served, begun}
-use Rattle.dcp_producer.specs.Pulling.{act_message, act_sent, item_line, put, past_item, with_snapshot, item_put, marker_flags, marker_put, STATE_CHANGED, snapshot_told, taken_put, take_next, take_unless, place_halt, place_asked, end_put, next_put, stream_put, frame_put, pulled, frames_put, counted_unless}
+use Rattle.dcp_producer.specs.Pulling.{act_message, act_sent, item_line, put, past_item, with_snapshot, item_put, marker_flags, marker_put, STATE_CHANGED, snapshot_of_reply, taken_put, take_next, take_unless, place_halt, place_requested, end_put, next_put, stream_put, frame_put, pulled, frames_put, counted_unless}
 use Rattle.dcp_producer.specs.Wanting.{standing, Stays}
 use Rattle.dcp_producer.proofs.Tellings.{IsGiven, reply_given, IsHalted, reply_halted}
 use Rattle.dcp_producer.specs.Conduct.{TellsOf, Goes, Grew, CountsFrames}
@@ -171,7 +171,7 @@ taken_turned s stream (Ok snapshot) given is =
 
 module _ (s : Served) (stream : PlainStream) (is : s.end.stream ≡ Some stream) where
   take_turned : Always AnyCall (Turned s) (take_next s stream)
-  take_turned = (tt, λ reply any. taken_turned s stream (snapshot_told reply) (reply_given reply) is)
+  take_turned = (tt, λ reply any. taken_turned s stream (snapshot_of_reply reply) (reply_given reply) is)
 
   place_turned : (reply : Option VbReply) (o : Option NoSnapshot) → IsHalted reply o → Always AnyCall (Turned s) (take_unless s stream o)
   unfolding Turned
@@ -179,7 +179,7 @@ module _ (s : Served) (stream : PlainStream) (is : s.end.stream ≡ Some stream)
   place_turned reply (Some no_snapshot.Lost) is = end_grew s stream
   place_turned reply (Some (no_snapshot.Halted h)) (is, waits) = (refl, waiting_short h is)
 
-  more_turned : (ended : Bool) → Always AnyCall (Turned s) (if ended then Done (More (end_put s stream)) else place_asked s stream)
+  more_turned : (ended : Bool) → Always AnyCall (Turned s) (if ended then Done (More (end_put s stream)) else place_requested s stream)
   unfolding Turned
   more_turned true = end_grew s stream
   more_turned false = (tt, λ reply any. place_turned reply (place_halt reply) (reply_halted reply))

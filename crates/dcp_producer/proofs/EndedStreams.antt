@@ -7,7 +7,7 @@ use Rattle.vb_calls.specs.Programs.{Done, Turn, More, Stop, go_on, repeated, Any
 use Rattle.vb_calls.proofs.Conduct.{always_bind}
 use Rattle.dcp_producer.specs.declared.halt.Halt.{Halt}
 use Rattle.dcp_producer.specs.Producers.{PlainStream, Served}
-use Rattle.dcp_producer.specs.Pulling.{act_message, item_put, end_put, place_asked, next_put, stream_put, frame_put, pulled, frames_put}
+use Rattle.dcp_producer.specs.Pulling.{act_message, item_put, end_put, place_requested, next_put, stream_put, frame_put, pulled, frames_put}
 use Rattle.dcp_producer.specs.Ending.{IsEnding, LeavesEnding, NoCall}
 
 -- a turn leaves no stream, or one that was ended
@@ -23,7 +23,7 @@ item_leaves s stream c (Some m) ended before = ended
 next_leaves : (s : Served) (stream : PlainStream) (item : Option Change) → IsTrue stream.ended → IsEnding s.end.stream → Always NoCall Leaves (next_put s stream item)
 unfolding Leaves end_put
 next_leaves s stream None ended before =
-    subst (λ b. Always NoCall Leaves (if b then Done (More (end_put s stream)) else place_asked s stream)) (sym ended) tt
+    subst (λ b. Always NoCall Leaves (if b then Done (More (end_put s stream)) else place_requested s stream)) (sym ended) tt
 next_leaves s stream (Some c) ended before = item_leaves s stream c (act_message c c.act) ended before
 
 stream_leaves : (s : Served) (o : Option PlainStream) → s.end.stream ≡ o → IsEnding o → Always NoCall Leaves (stream_put s o)

@@ -20,7 +20,7 @@ use Rattle.dcp_producer.specs.declared.halt.NoSnapshot.{NoSnapshot}
 use Rattle.dcp_producer.specs.declared.halt.NoSnapshot.TheVariants as no_snapshot
 use Rattle.dcp_producer.specs.declared.desk.Desk.{Desk}
 use Rattle.dcp_producer.specs.Producers.{PlainStream, PlainProducer, Served}
-use Rattle.dcp_producer.specs.Pulling.{act_message, item_line, put, past_item, with_snapshot, item_put, marker_put, told_snapshot, snapshot_told, halted_put, taken_put, halt_at, place_halt, take_unless, place_asked, end_put, next_put, stream_put, frame_put, pulled, frames_put}
+use Rattle.dcp_producer.specs.Pulling.{act_message, item_line, put, past_item, with_snapshot, item_put, marker_put, snapshot_of_answer, snapshot_of_reply, halted_put, taken_put, halt_at, place_halt, take_unless, place_requested, end_put, next_put, stream_put, frame_put, pulled, frames_put}
 use Rattle.dcp_producer.specs.Losing.{KnowsNothing, EndsInLoss, AreAt, AreReplies, EndPut, EndsAsLost, OverAsLost}
 use Rattle.dcp_producer.proofs.Calling.{told_bind}
 
@@ -50,7 +50,7 @@ place_form id (answer.Logged log) form is = absurd form
 place_form id (answer.Shown role uuid ss se at image) form is = absurd form
 
 -- a snapshot is given or there is none, or the vBucket knows nothing of the stream
-take_form : (id : ℕ) (a : VbAnswer) → HasForm (call.Take id) a → told_snapshot a ≡ Err no_snapshot.Lost → a ≡ answer.Absent
+take_form : (id : ℕ) (a : VbAnswer) → HasForm (call.Take id) a → snapshot_of_answer a ≡ Err no_snapshot.Lost → a ≡ answer.Absent
 take_form id (answer.Status st) form is = absurd form
 take_form id answer.Absent form is = refl
 take_form id answer.Nothing form is = absurd (cc is)
@@ -75,7 +75,7 @@ place_lost : (id : ℕ) (reply : Option VbReply) → IsReply (call.Place id) rep
 place_lost id None form is = tt
 place_lost id (Some reply) form is = place_form id reply.answer form is
 
-take_lost : (id : ℕ) (reply : Option VbReply) → IsReply (call.Take id) reply → snapshot_told reply ≡ Err no_snapshot.Lost → KnowsNothing reply
+take_lost : (id : ℕ) (reply : Option VbReply) → IsReply (call.Take id) reply → snapshot_of_reply reply ≡ Err no_snapshot.Lost → KnowsNothing reply
 take_lost id None form is = tt
 take_lost id (Some reply) form is = take_form id reply.answer form is
 
@@ -83,9 +83,9 @@ lost_place : (reply : Option VbReply) → KnowsNothing reply → place_halt repl
 lost_place None nothing = refl
 lost_place (Some reply) nothing = ap halt_at nothing
 
-lost_take : (reply : Option VbReply) → KnowsNothing reply → snapshot_told reply ≡ Err no_snapshot.Lost
+lost_take : (reply : Option VbReply) → KnowsNothing reply → snapshot_of_reply reply ≡ Err no_snapshot.Lost
 lost_take None nothing = refl
-lost_take (Some reply) nothing = ap told_snapshot nothing
+lost_take (Some reply) nothing = ap snapshot_of_answer nothing
 
 first_reply : (m : Made) → AreReplies (m ∷ []) → IsReply m.1 m.2
 first_reply m (one, rest) = one
@@ -110,7 +110,7 @@ module _ (s : Served) (stream : PlainStream) where
   item_came c None turn is = Came.Halts halt.Unput is (λ ends. ends)
   item_came c (Some m) turn is = Came.Puts (put s (past_item c.seq stream) m (item_line s.end.desk c)) (past_item c.seq stream) is refl refl refl (λ ends. ends)
 
-  taken_came : (m n : Made) (turn : Turn Served (Served × Halt)) (t : Result Snapshot NoSnapshot) → n.1 ≡ call.Take s.end.desk.id → snapshot_told n.2 ≡ t → turn ≡ taken_put s stream t → Came s stream (m ∷ n ∷ []) turn
+  taken_came : (m n : Made) (turn : Turn Served (Served × Halt)) (t : Result Snapshot NoSnapshot) → n.1 ≡ call.Take s.end.desk.id → snapshot_of_reply n.2 ≡ t → turn ≡ taken_put s stream t → Came s stream (m ∷ n ∷ []) turn
   unfolding marker_put
   taken_came m n turn (Err no_snapshot.Lost) called says is =
       Came.Ends (end_put s stream) is (end_is s stream) (λ formed. inl (take_lost s.end.desk.id n.2 (subst (λ c. IsReply c n.2) called (second_reply m n formed)) says))
@@ -123,16 +123,16 @@ module _ (s : Served) (stream : PlainStream) where
   answered_came m [] turn None called says told = elim told [ ]
   answered_came m (n ∷ k ∷ more) turn None called says (at, taken, told) = elim told [ ]
   answered_came m (n ∷ more) turn (Some none) called says told = elim told [ ]
-  answered_came m (n ∷ []) turn None called says (at, taken, told) = taken_came m n turn (snapshot_told n.2) taken refl told
+  answered_came m (n ∷ []) turn None called says (at, taken, told) = taken_came m n turn (snapshot_of_reply n.2) taken refl told
   answered_came m [] turn (Some no_snapshot.Lost) called says told =
       Came.Ends (end_put s stream) told (end_is s stream) (λ formed. inl (place_lost s.end.desk.id m.2 (subst (λ c. IsReply c m.2) called (first_reply m formed)) says))
   answered_came m [] turn (Some (no_snapshot.Halted h)) called says told = Came.Halts h told (λ nothing. absurd (cc (sym says ∙ lost_place m.2 nothing)))
 
-  place_came : (made : List Made) (turn : Turn Served (Served × Halt)) → Told (place_asked s stream) made turn → Came s stream made turn
+  place_came : (made : List Made) (turn : Turn Served (Served × Halt)) → Told (place_requested s stream) made turn → Came s stream made turn
   place_came [] turn told = elim told [ ]
   place_came (m ∷ rest) turn (at, called, told) = answered_came m rest turn (place_halt m.2) called refl told
 
-  more_came : (ended : Bool) (made : List Made) (turn : Turn Served (Served × Halt)) → stream.ended ≡ ended → Told (if ended then Done (More (end_put s stream)) else place_asked s stream) made turn → Came s stream made turn
+  more_came : (ended : Bool) (made : List Made) (turn : Turn Served (Served × Halt)) → stream.ended ≡ ended → Told (if ended then Done (More (end_put s stream)) else place_requested s stream) made turn → Came s stream made turn
   more_came true (m ∷ made) turn over told = elim told [ ]
   more_came true [] turn over told = Came.Ends (end_put s stream) told (end_is s stream) (λ formed. inr (refl, over))
   more_came false made turn over told = place_came made turn told
@@ -149,7 +149,7 @@ module _ (s : Served) (stream : PlainStream) where
   answered_at (n ∷ k ∷ more) turn None (at, taken, told) = elim told [ ]
   answered_at (n ∷ []) turn None (at, taken, told) = (at, tt)
 
-  more_at : (ended : Bool) (made : List Made) (turn : Turn Served (Served × Halt)) → Told (if ended then Done (More (end_put s stream)) else place_asked s stream) made turn → AreAt stream.vb made
+  more_at : (ended : Bool) (made : List Made) (turn : Turn Served (Served × Halt)) → Told (if ended then Done (More (end_put s stream)) else place_requested s stream) made turn → AreAt stream.vb made
   more_at ended [] turn told = tt
   more_at true (m ∷ made) turn told = elim told [ ]
   more_at false (m ∷ rest) turn (at, called, told) = (at, answered_at rest turn (place_halt m.2) told)

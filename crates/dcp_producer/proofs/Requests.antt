@@ -27,7 +27,7 @@ use Rattle.dcp_producer.specs.declared.desk.Handshake.TheVariants as handshake
 use Rattle.dcp_producer.specs.declared.desk.Named.{Named}
 use Rattle.dcp_producer.specs.declared.desk.Named.TheVariants as named
 use Rattle.dcp_producer.specs.Producers.{PlainStream, Served, is_named, is_sync}
-use Rattle.dcp_producer.specs.Serving.{refuse, told_log, log_told, told_high, high_told, ask_verdict, request_refusal, asked_id, verdict_of, verdict_with, stream_told, new_stream, with_stream, stream_answered, request_answered, stream_request}
+use Rattle.dcp_producer.specs.Serving.{refuse, log_of_answer, log_of_reply, high_of_answer, high_of_reply, ask_verdict, request_refusal, opening_id, verdict_of, verdict_with, stream_verdict, new_stream, with_stream, stream_answered, request_answered, stream_request}
 use Rattle.dcp_producer.specs.Handshaking.{IsGiven}
 use Rattle.dcp_producer.specs.Conduct.{AnsweredWith, AsksFor, Replies, OneReply, RefusedWith, IsOpened, IsInactive}
 
@@ -54,9 +54,9 @@ answered_as f ask s log high verdict =
     record {
       line = refl;
       rest = (refl, refl);
-      go = λ e. (ap (λ said. s.out ++ spelling (dcp_frame (msg.StreamAnswer (stream_told log said)) f.opaque 0)) e, (new_stream f ask, (refl, refl, refl, refl, refl, refl), ap (with_stream s.end f ask) e));
-      roll = λ point e. (ap (λ said. s.out ++ spelling (dcp_frame (msg.StreamAnswer (stream_told log said)) f.opaque 0)) e, ap (with_stream s.end f ask) e);
-      refused = λ code e. (ap (λ said. s.out ++ spelling (dcp_frame (msg.StreamAnswer (stream_told log said)) f.opaque 0)) e, ap (with_stream s.end f ask) e);
+      go = λ e. (ap (λ said. s.out ++ spelling (dcp_frame (msg.StreamAnswer (stream_verdict log said)) f.opaque 0)) e, (new_stream f ask, (refl, refl, refl, refl, refl, refl), ap (with_stream s.end f ask) e));
+      roll = λ point e. (ap (λ said. s.out ++ spelling (dcp_frame (msg.StreamAnswer (stream_verdict log said)) f.opaque 0)) e, ap (with_stream s.end f ask) e);
+      refused = λ code e. (ap (λ said. s.out ++ spelling (dcp_frame (msg.StreamAnswer (stream_verdict log said)) f.opaque 0)) e, ap (with_stream s.end f ask) e);
     }
 
 -- what the producer answers to this reply
@@ -87,29 +87,29 @@ given_name named.Nobody is = absurd (false≢true is)
 given_name named.Stranger is = λ e. cc
 given_name (named.Member node) is = λ e. cc
 
-name_given : (name : Named) → IsGiven name → is_named name ≡ true
-name_given named.Nobody given = absurd (given refl)
-name_given named.Stranger given = refl
-name_given (named.Member node) given = refl
+given_name_tested : (name : Named) → IsGiven name → is_named name ≡ true
+given_name_tested named.Nobody given = absurd (given refl)
+given_name_tested named.Stranger given = refl
+given_name_tested (named.Member node) given = refl
 
 both_set : (h : Handshake) → is_sync h ≡ true → (name : Named) × IsGiven name × (h ≡ handshake.Open true name)
 both_set handshake.Fresh is = absurd (false≢true is)
 both_set (handshake.Open true name) is = (name, given_name name is, refl)
 both_set (handshake.Open false name) is = absurd (false≢true is)
 
-set_both : (h : Handshake) → (name : Named) × IsGiven name × (h ≡ handshake.Open true name) → is_sync h ≡ true
-set_both h (name, given, is) = ap is_sync is ∙ name_given name given
+both_are_set : (h : Handshake) → (name : Named) × IsGiven name × (h ≡ handshake.Open true name) → is_sync h ≡ true
+both_are_set h (name, given, is) = ap is_sync is ∙ given_name_tested name given
 
-asks_for : (ask : StreamAsk) (s : Served) → AsksFor ask s (asked_id s.end ask) (is_sync s.end.handshake)
+asks_for : (ask : StreamAsk) (s : Served) → AsksFor ask s (opening_id s.end ask) (is_sync s.end.handshake)
 asks_for ask s = record {
   own = λ opened flags free.
       ap (λ (o : Option Status). if is_some o || is_some s.end.stream then 0 else s.end.desk.id) (open_refusal_is s.end.handshake ask 0 opened flags)
       ∙ ap (λ (o : Option PlainStream). if is_some o then 0 else s.end.desk.id) free;
   none = λ against. none_asked against;
-  synced = (both_set s.end.handshake, set_both s.end.handshake);
+  synced = (both_set s.end.handshake, both_are_set s.end.handshake);
 }
   where
-    none_asked : (s.end.handshake ≡ handshake.Fresh) ⊎ (0 < ask.flags) ⊎ IsSome s.end.stream → asked_id s.end ask ≡ 0
+    none_asked : (s.end.handshake ≡ handshake.Fresh) ⊎ (0 < ask.flags) ⊎ IsSome s.end.stream → opening_id s.end ask ≡ 0
     none_asked (inl fresh) = zero_id (is_some (request_refusal s.end.handshake ask)) (is_some s.end.stream) s.end.desk.id (inl (ap is_some (fresh_refusal s.end.handshake ask fresh)))
     none_asked (inr (inl above)) = zero_id (is_some (request_refusal s.end.handshake ask)) (is_some s.end.stream) s.end.desk.id (inl (refused_here s.end.handshake ask (flagged ask.flags above)))
     none_asked (inr (inr there)) = zero_id (is_some (request_refusal s.end.handshake ask)) (is_some s.end.stream) s.end.desk.id (inr there)
@@ -119,18 +119,18 @@ replies_as : (f : Frame) (ask : StreamAsk) (s : Served) (reply : Option VbReply)
 unfolding verdict
 replies_as f ask s reply = record {
   told = λ r said log high there tells.
-      let log_is : log_told reply ≡ log = ap log_told there ∙ ap told_log tells in
-      let high_is : high_told reply ≡ high = ap high_told there ∙ ap told_high tells in (
+      let log_is : log_of_reply reply ≡ log = ap log_of_reply there ∙ ap log_of_answer tells in
+      let high_is : high_of_reply reply ≡ high = ap high_of_reply there ∙ ap high_of_answer tells in (
         verdict ask s reply,
         subst (λ l. AnsweredWith f ask s (request_answered f ask s reply) l high (verdict ask s reply)) log_is
-            (subst (λ h. AnsweredWith f ask s (request_answered f ask s reply) (log_told reply) h (verdict ask s reply)) high_is
-            (answered_as f ask s (log_told reply) (high_told reply) (verdict ask s reply))),
+            (subst (λ h. AnsweredWith f ask s (request_answered f ask s reply) (log_of_reply reply) h (verdict ask s reply)) high_is
+            (answered_as f ask s (log_of_reply reply) (high_of_reply reply) (verdict ask s reply))),
         λ opened flags. ap (λ o. verdict_with o (ask_verdict reply)) (open_refusal_is s.end.handshake ask 0 opened flags) ∙ ap ask_verdict there ∙ ap verdict_of tells,
       );
   absent = λ none. (
     verdict ask s reply,
-    subst (λ o. AnsweredWith f ask s (request_answered f ask s reply) (log_told o) (high_told o) (verdict ask s reply)) none
-        (answered_as f ask s (log_told reply) (high_told reply) (verdict ask s reply)),
+    subst (λ o. AnsweredWith f ask s (request_answered f ask s reply) (log_of_reply o) (high_of_reply o) (verdict ask s reply)) none
+        (answered_as f ask s (log_of_reply reply) (high_of_reply reply) (verdict ask s reply)),
     λ opened flags. ap (λ o. verdict_with o (ask_verdict reply)) (open_refusal_is s.end.handshake ask 0 opened flags) ∙ ap ask_verdict none,
   );
 }
@@ -139,7 +139,7 @@ pub one_reply : (f : Frame) (ask : StreamAsk) (s : Served) → OneReply f ask s
 unfolding stream_request
 one_reply f ask s [] s' told = absurd told
 one_reply f ask s (m ∷ []) s' (at, asked, is) = (
-  asked_id s.end ask,
+  opening_id s.end ask,
   is_sync s.end.handshake,
   m.2,
   λ i. (at i, asked i, m.2) ∷ [],
@@ -151,15 +151,15 @@ one_reply f ask s (m ∷ n ∷ made) s' (at, asked, more) = absurd more
 module _ (f : Frame) (ask : StreamAsk) (s : Served) (states : States) where
   -- the one reply
   reply : Option VbReply
-  reply = (states_step states f.vb_or_status (call.OpenStream (asked_id s.end ask) ask (is_sync s.end.handshake))).1
+  reply = (states_step states f.vb_or_status (call.OpenStream (opening_id s.end ask) ask (is_sync s.end.handshake))).1
 
   refused_so : (code : ℕ) → verdict ask s reply ≡ ask_answer.Refuse code → RefusedWith code f ask s states
   unfolding stream_request verdict reply
   refused_so code is = (
-    log_told reply,
-    high_told reply,
-    subst (λ said. AnsweredWith f ask s (request_answered f ask s reply) (log_told reply) (high_told reply) said) is
-        (answered_as f ask s (log_told reply) (high_told reply) (verdict ask s reply)),
+    log_of_reply reply,
+    high_of_reply reply,
+    subst (λ said. AnsweredWith f ask s (request_answered f ask s reply) (log_of_reply reply) (high_of_reply reply) said) is
+        (answered_as f ask s (log_of_reply reply) (high_of_reply reply) (verdict ask s reply)),
   )
 
   -- by the producer itself
@@ -196,7 +196,7 @@ zero_verdict states v ask sync vb active =
     ∙ ap (λ o. ask_verdict (Some (open_outcome (first_reason o (if is_ranged ask then None else Some status.Erange)) vb 0 ask sync).1)) (zero_refusal (stream_at 0 vb.streams))
 
 -- where there is a stream, it is asked for under 0
-held_id : (s : Served) (ask : StreamAsk) (stream : PlainStream) → request_refusal s.end.handshake ask ≡ None → s.end.stream ≡ Some stream → asked_id s.end ask ≡ 0
+held_id : (s : Served) (ask : StreamAsk) (stream : PlainStream) → request_refusal s.end.handshake ask ≡ None → s.end.stream ≡ Some stream → opening_id s.end ask ≡ 0
 held_id s ask stream none held =
     ap (λ (o : Option Status). if is_some o || is_some s.end.stream then 0 else s.end.desk.id) none
     ∙ ap (λ (o : Option PlainStream). if is_some o then 0 else s.end.desk.id) held
@@ -213,13 +213,13 @@ module _ (f : Frame) (ask : StreamAsk) (s : Served) (states : States) where
   unfolding reply
   inactive_then opened flags other =
       vb_refused f ask s states 7 (open_refusal_is s.end.handshake ask 0 opened flags)
-      (inactive_verdict states f.vb_or_status (asked_id s.end ask) ask (is_sync s.end.handshake) (states f.vb_or_status) other)
+      (inactive_verdict states f.vb_or_status (opening_id s.end ask) ask (is_sync s.end.handshake) (states f.vb_or_status) other)
 
   pub held_last : (vb : Plain) (stream : PlainStream) → IsOpened s → ask.flags ≡ 0 → states f.vb_or_status ≡ Some vb → vb.role ≡ role.Active → s.end.stream ≡ Some stream → RefusedWith 2 f ask s states
   unfolding reply
   held_last vb stream opened flags there active held =
       let none : request_refusal s.end.handshake ask ≡ None = open_refusal_is s.end.handshake ask 0 opened flags in
       vb_refused f ask s states 2 none
-      (ap (λ o. ask_verdict (call_at states f.vb_or_status (call.OpenStream (asked_id s.end ask) ask (is_sync s.end.handshake)) o).1) there
+      (ap (λ o. ask_verdict (call_at states f.vb_or_status (call.OpenStream (opening_id s.end ask) ask (is_sync s.end.handshake)) o).1) there
       ∙ ap (λ id. ask_verdict (call_at states f.vb_or_status (call.OpenStream id ask (is_sync s.end.handshake)) (Some vb)).1) (held_id s ask stream none held)
       ∙ zero_verdict states f.vb_or_status ask (is_sync s.end.handshake) vb active)

@@ -17,11 +17,11 @@ use Rattle.dcp_producer.specs.declared.halt.Halt.{Halt}
 use Rattle.dcp_producer.specs.declared.halt.NoSnapshot.{NoSnapshot}
 use Rattle.dcp_producer.specs.declared.halt.NoSnapshot.TheVariants as no_snapshot
 use Rattle.dcp_producer.specs.Producers.{PlainStream, Served}
-use Rattle.dcp_producer.specs.Pulling.{act_message, item_line, put, past_item, with_snapshot, item_put, marker_flags, marker_put, STATE_CHANGED, snapshot_told, halted_put, taken_put, take_unless, place_halt, place_asked, end_put, next_put, stream_put, frame_put, pulled, frames_put}
-use Rattle.dcp_producer.specs.Counting.{item_seq, greatest_told, TellsUp, ReachesTold}
+use Rattle.dcp_producer.specs.Pulling.{act_message, item_line, put, past_item, with_snapshot, item_put, marker_flags, marker_put, STATE_CHANGED, snapshot_of_reply, halted_put, taken_put, take_unless, place_halt, place_requested, end_put, next_put, stream_put, frame_put, pulled, frames_put}
+use Rattle.dcp_producer.specs.Counting.{item_seq, greatest_item, TellsUp, ReachesItems}
 
 -- one line more
-greatest_more : (n : ℕ) (lines : List Event) (line : Event) → greatest_told n (lines ++ line ∷ []) ≡ max (greatest_told n lines) (item_seq line)
+greatest_more : (n : ℕ) (lines : List Event) (line : Event) → greatest_item n (lines ++ line ∷ []) ≡ max (greatest_item n lines) (item_seq line)
 greatest_more n lines line = ap (fold max n) (map-append item_seq lines (line ∷ [])) ∙ fold-append max n (map item_seq lines) (item_seq line ∷ [])
 
 same_stream : (a b : PlainStream) → Some a ≡ Some b → a ≡ b
@@ -68,10 +68,10 @@ taken_up s stream (Ok snapshot) is =
 
 module _ (s : Served) (stream : PlainStream) (is : s.end.stream ≡ Some stream) where
   place_up : (o : Option NoSnapshot) → Always AnyCall (TurnedUp s) (take_unless s stream o)
-  place_up None = (tt, λ reply any. taken_up s stream (snapshot_told reply) is)
+  place_up None = (tt, λ reply any. taken_up s stream (snapshot_of_reply reply) is)
   place_up (Some none) = halted_up s stream none is
 
-  more_up : (ended : Bool) → Always AnyCall (TurnedUp s) (if ended then Done (More (end_put s stream)) else place_asked s stream)
+  more_up : (ended : Bool) → Always AnyCall (TurnedUp s) (if ended then Done (More (end_put s stream)) else place_requested s stream)
   more_up true = end_up s stream is
   more_up false = (tt, λ reply any. place_up (place_halt reply))
 
@@ -113,11 +113,11 @@ module _ (s : Served) (stream : PlainStream) (is : s.end.stream ≡ Some stream)
   all_up zero = ([], sym (append-nil s.events), λ t there. ap (λ (x : PlainStream). x.reached) (same_stream t stream (sym there ∙ is)))
   all_up (suc k) = always_bind AnyReply AnyCall (AllUp stream.reached s) (AllUp stream.reached s) (repeated k frame_put s) (go_on frame_put) (all_up k) (turn_on stream.reached s)
 
-  pull_up : (t : Turn Served (Served × Halt)) → AllUp stream.reached s t → Always AnyCall (ReachesTold s stream) (pulled t)
+  pull_up : (t : Turn Served (Served × Halt)) → AllUp stream.reached s t → Always AnyCall (ReachesItems s stream) (pulled t)
   unfolding AllUp
   pull_up (More s') up = up
   pull_up (Stop (s', h)) up = up
 
-  pub pulls_reach : (k : ℕ) → Always AnyCall (ReachesTold s stream) (frames_put k s)
+  pub pulls_reach : (k : ℕ) → Always AnyCall (ReachesItems s stream) (frames_put k s)
   unfolding frames_put
-  pulls_reach k = always_bind AnyReply AnyCall (AllUp stream.reached s) (ReachesTold s stream) (repeated k frame_put s) pulled (all_up k) pull_up
+  pulls_reach k = always_bind AnyReply AnyCall (AllUp stream.reached s) (ReachesItems s stream) (repeated k frame_put s) pulled (all_up k) pull_up

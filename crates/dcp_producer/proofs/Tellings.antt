@@ -8,7 +8,7 @@ use Rattle.vb_calls.specs.declared.calls.VbReply.{VbReply}
 use Rattle.dcp_producer.specs.declared.halt.Halt.TheVariants as halt
 use Rattle.dcp_producer.specs.declared.halt.NoSnapshot.{NoSnapshot}
 use Rattle.dcp_producer.specs.declared.halt.NoSnapshot.TheVariants as no_snapshot
-use Rattle.dcp_producer.specs.Pulling.{told_snapshot, snapshot_told, halt_at, place_halt}
+use Rattle.dcp_producer.specs.Pulling.{snapshot_of_answer, snapshot_of_reply, halt_at, place_halt}
 use Rattle.dcp_producer.specs.Conduct.{SaysWait}
 
 -- where no snapshot was given there is none yet, or no such stream
@@ -17,7 +17,7 @@ IsGiven (Ok snapshot) = Unit {0}
 IsGiven (Err no_snapshot.Lost) = Unit {0}
 IsGiven (Err (no_snapshot.Halted h)) = h ≡ halt.Idle
 
-answer_given : (a : VbAnswer) → IsGiven (told_snapshot a)
+answer_given : (a : VbAnswer) → IsGiven (snapshot_of_answer a)
 answer_given (answer.Status st) = tt
 answer_given answer.Absent = tt
 answer_given answer.Nothing = refl
@@ -38,7 +38,7 @@ answer_given (answer.Range ss se) = tt
 answer_given (answer.Logged log) = tt
 answer_given (answer.Shown role uuid ss se at image) = tt
 
-pub reply_given : (reply : Option VbReply) → IsGiven (snapshot_told reply)
+pub reply_given : (reply : Option VbReply) → IsGiven (snapshot_of_reply reply)
 reply_given None = tt
 reply_given (Some reply) = answer_given reply.answer
 

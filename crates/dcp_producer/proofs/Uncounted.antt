@@ -21,7 +21,7 @@ use Rattle.vb_calls.specs.declared.calls.VbReply.{VbReply}
 use Rattle.vb_calls.specs.Programs.{Prog, Done, AnyCall, Always, Ran}
 use Rattle.dcp_producer.specs.declared.desk.Handshake.{Handshake}
 use Rattle.dcp_producer.specs.Producers.{PlainProducer, Served, begun, member_of}
-use Rattle.dcp_producer.specs.Serving.{status_sent, open_refusal, opened_unless, controlled, controlled_as, ask_verdict, request_refusal, verdict_with, with_stream, stream_answered, stream_request, stream_of, weighed, counted_by, count_answered, count_asked, acknowledged, message_answered, row_answered, read_answered, frame_answered}
+use Rattle.dcp_producer.specs.Serving.{status_sent, open_refusal, opened_unless, controlled, controlled_as, ask_verdict, request_refusal, verdict_with, with_stream, stream_answered, stream_request, stream_of, weighed, counted_by, count_answered, count_requested, acknowledged, message_answered, row_answered, read_answered, frame_answered}
 use Rattle.dcp_producer.specs.Wanting.{Cut}
 use Rattle.dcp_producer.proofs.Counting.{ran_always}
 use Rattle.dcp_producer.proofs.Wanting.{left_ran}
@@ -64,7 +64,7 @@ count_same : (f : Frame) (member seq : ℕ) (s : Served) (reply : Option VbReply
 count_same f member seq s None = sent f status.NotMyVbucket s
 count_same f member seq s (Some reply) = counted f member seq reply reply.answer s
 
-weighed_same : (f : Frame) (seq : ℕ) (s : Served) (weighed : Result ℕ Status) → Always AnyCall (Same s) (count_asked f seq s weighed)
+weighed_same : (f : Frame) (seq : ℕ) (s : Served) (weighed : Result ℕ Status) → Always AnyCall (Same s) (count_requested f seq s weighed)
 weighed_same f seq s (Err st) = sent f st s
 weighed_same f seq s (Ok member) = (tt, λ reply any. count_same f member seq s reply)
 

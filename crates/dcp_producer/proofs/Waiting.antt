@@ -14,8 +14,8 @@ use Rattle.dcp_producer.specs.declared.halt.Halt.TheVariants as halt
 use Rattle.dcp_producer.specs.declared.halt.NoSnapshot.{NoSnapshot}
 use Rattle.dcp_producer.specs.declared.halt.NoSnapshot.TheVariants as no_snapshot
 use Rattle.dcp_producer.specs.Producers.{PlainStream, Served}
-use Rattle.dcp_producer.specs.Pulling.{act_message, item_put, snapshot_told, taken_put, halt_at, place_halt, take_unless, place_asked, end_put, next_put, stream_put, frame_put, pulled, frames_put, why_of}
-use Rattle.dcp_producer.specs.Conduct.{SaysWait, IsToldToWait, WaitsAsTold, WaitsBehind}
+use Rattle.dcp_producer.specs.Pulling.{act_message, item_put, snapshot_of_reply, taken_put, halt_at, place_halt, take_unless, place_requested, end_put, next_put, stream_put, frame_put, pulled, frames_put, why_of}
+use Rattle.dcp_producer.specs.Conduct.{SaysWait, IsToldToWait, WaitsAsAnswered, WaitsBehind}
 use Rattle.dcp_producer.proofs.Calling.{told_bind, told_both}
 use Rattle.dcp_producer.proofs.Tellings.{IsGiven, reply_given, IsHalted, reply_halted}
 
@@ -107,7 +107,7 @@ module _ (s : Served) (stream : PlainStream) (there : s.end.stream ≡ Some stre
   answered_waits m (n ∷ more) turn (Some none) at called is halted come = elim come [ ]
   answered_waits m (n ∷ []) turn None at called is halted (taken_at, taken, come) = record {
     ends = λ ends. absurd (no_place s.end.desk.id ends.0.0 n.1 taken ends.0.1);
-    waits = λ left so. absurd (never_waits (taken_put s stream (snapshot_told n.2)) left (taken_goes s stream (snapshot_told n.2) (reply_given n.2)) (sym come ∙ so));
+    waits = λ left so. absurd (never_waits (taken_put s stream (snapshot_of_reply n.2)) left (taken_goes s stream (snapshot_of_reply n.2) (reply_given n.2)) (sym come ∙ so));
     alone = λ first more e says.
         let same : m ≡ first = cc in let none : None ≡ Some (no_snapshot.Halted halt.WaitSaved) = sym is ∙ said_so m.2 (subst (λ (x : Made). SaysWait x.2) (sym same) says) in cc;
   }
@@ -122,11 +122,11 @@ module _ (s : Served) (stream : PlainStream) (there : s.end.stream ≡ Some stre
     alone = λ first more e says. sym (ap (drop 1) e);
   }
 
-  place_waits : (made : List Made) (turn : Turn Served (Served × Halt)) → Told (place_asked s stream) made turn → WaitsSo s made turn
+  place_waits : (made : List Made) (turn : Turn Served (Served × Halt)) → Told (place_requested s stream) made turn → WaitsSo s made turn
   place_waits [] turn told = elim told [ ]
   place_waits (m ∷ rest) turn (at, called, told) = answered_waits m rest turn (place_halt m.2) at called refl (reply_halted m.2) told
 
-  more_waits : (ended : Bool) (made : List Made) (turn : Turn Served (Served × Halt)) → Told (if ended then Done (More (end_put s stream)) else place_asked s stream) made turn → WaitsSo s made turn
+  more_waits : (ended : Bool) (made : List Made) (turn : Turn Served (Served × Halt)) → Told (if ended then Done (More (end_put s stream)) else place_requested s stream) made turn → WaitsSo s made turn
   more_waits true made turn told = done_waits s made (More (end_put s stream)) turn tt told
   more_waits false made turn told = place_waits made turn told
 
@@ -143,7 +143,7 @@ frame_waits : (s : Served) (made : List Made) (turn : Turn Served (Served × Hal
 unfolding frame_put
 frame_waits s made turn told = stream_waits s s.end.stream refl made turn told
 
-pub turn_waits : (s : Served) (made : List Made) (turn : Turn Served (Served × Halt)) → Told (frame_put s) made turn → WaitsAsTold s made turn
+pub turn_waits : (s : Served) (made : List Made) (turn : Turn Served (Served × Halt)) → Told (frame_put s) made turn → WaitsAsAnswered s made turn
 turn_waits s made turn told = let so = frame_waits s made turn told in record { told = λ asked. so.ends (told_ends s made asked); waits = so.waits; alone = so.alone }
 
 -- ---- turns

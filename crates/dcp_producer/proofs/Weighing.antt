@@ -14,7 +14,7 @@ use Rattle.mcbp_dcp.specs.declared.opcode.Opcode.TheVariants as op
 use Rattle.mcbp_dcp.specs.declared.row.DcpRow.TheVariants as row
 use Rattle.mcbp_dcp.specs.Messages.{message_in, read_as, read_of, unless_fault}
 use Rattle.mcbp_dcp.specs.Opcodes.{opcode_of}
-use Rattle.mcbp_dcp.specs.Rows.{frame_row, row_with}
+use Rattle.mcbp_dcp.specs.Rows.{frame_row, row_by_opcode}
 use Rattle.mcbp_dcp.specs.Shapes.{shape_fault}
 use Rattle.mcbp_dcp.proofs.Opcodes.{number_of}
 use Rattle.vb_types.specs.declared.status.Status.{Status}
@@ -65,7 +65,7 @@ module _ (f : Frame) (s : Served) where
   by_fault (Some fault) m e true = refl
   by_fault fault m e false = refl
 
-  by_opcode : (o : Option Opcode) → opcode_of f.opcode ≡ o → IsOther f.opcode → read_answered f (option_map (read_as f) (row_with o false)) s ≡ Einval
+  by_opcode : (o : Option Opcode) → opcode_of f.opcode ≡ o → IsOther f.opcode → read_answered f (option_map (read_as f) (row_by_opcode o false)) s ≡ Einval
   by_opcode None e n = refl
   by_opcode (Some op.Open) e n = absurd (n.0 (number_of f.opcode op.Open e))
   by_opcode (Some op.CloseStream) e n = refl
@@ -87,7 +87,7 @@ module _ (f : Frame) (s : Served) where
   by_row : f.magic ≢ RESPONSE → IsOther f.opcode → read_answered f (read_of f) s ≡ Einval
   unfolding read_of frame_row
   by_row asks n =
-      ap (λ b. read_answered f (option_map (read_as f) (row_with (opcode_of f.opcode) b)) s) (false_from_ne_true (f.magic == RESPONSE) (λ t. asks (eqb-true f.magic RESPONSE t)))
+      ap (λ b. read_answered f (option_map (read_as f) (row_by_opcode (opcode_of f.opcode) b)) s) (false_from_ne_true (f.magic == RESPONSE) (λ t. asks (eqb-true f.magic RESPONSE t)))
       ∙ by_opcode (opcode_of f.opcode) refl n
 
   pub other_opcode : Asks f true → IsOther f.opcode → Gets 4 s.end.handshake f s (frame_answered f s)

@@ -6,7 +6,7 @@ use Rattle.mcbp_frame.specs.declared.frame.Frame.{Frame}
 use Rattle.mcbp_frame.specs.Spelling.{spelling}
 use Rattle.mcbp_dcp.specs.declared.message.DcpMsg.{DcpMsg}
 use Rattle.mcbp_dcp.specs.declared.message.DcpMsg.TheVariants as msg
-use Rattle.mcbp_dcp.specs.declared.message.StreamTold.TheVariants as told
+use Rattle.mcbp_dcp.specs.declared.message.StreamVerdict.TheVariants as told
 use Rattle.mcbp_dcp.specs.DcpFrames.{dcp_frame}
 use Rattle.mcbp_dcp.specs.DurableRows.{some_key}
 use Rattle.vb_types.specs.Levels.{level_number}
@@ -40,7 +40,7 @@ use Rattle.dcp_producer.specs.declared.halt.Halt.TheVariants as halt
 use Rattle.dcp_producer.specs.Producers.{PlainStream, PlainProducer, Served}
 use Rattle.dcp_producer.specs.Handshaking.{IsGiven}
 use Rattle.dcp_producer.specs.Wanting.{standing}
-use Rattle.dcp_producer.specs.Pulling.{snapshot_told, taken_put, marker_put, next_put, end_put, frames_put}
+use Rattle.dcp_producer.specs.Pulling.{snapshot_of_reply, taken_put, marker_put, next_put, end_put, frames_put}
 use Rattle.dcp_producer.specs.Serving.{stream_request}
 
 -- a frame of this connection's stream and the line that tells of it, by the opcode: a marker, a stored document, a removal, a prepare, a commit, an abort, or the stream's end
@@ -88,7 +88,7 @@ pub record MarkerOf (s : Served) (stream : PlainStream) (snapshot : Snapshot) (t
 
 -- each snapshot that a take is answered with comes to its marker
 abbrev pub MarksSnapshots : Type 0
-MarksSnapshots = (s : Served) (stream : PlainStream) (snapshot : Snapshot) (reply : VbReply) → reply.answer ≡ answer.Taken snapshot → MarkerOf s stream snapshot (taken_put s stream (snapshot_told (Some reply)))
+MarksSnapshots = (s : Served) (stream : PlainStream) (snapshot : Snapshot) (reply : VbReply) → reply.answer ≡ answer.Taken snapshot → MarkerOf s stream snapshot (taken_put s stream (snapshot_of_reply (Some reply)))
 
 -- the next item of a stream is put, with this message and a line of this act
 pub record Puts (s : Served) (stream : PlainStream) (c : Change) (sent : ItemAct) (m : DcpMsg) : Type 0 where
@@ -149,7 +149,7 @@ IsToldToWait s made =
     (stream : PlainStream) × (reply : Option VbReply) × (s.end.stream ≡ Some stream) × (made ≡ (stream.vb, call.Place s.end.desk.id, reply) ∷ []) × SaysWait reply
 
 -- a turn with these calls comes to a wait exactly where the vBucket says that the stream waits, and then nothing was put; after such an answer it asks nothing
-pub record WaitsAsTold (s : Served) (made : List Made) (turn : Turn Served (Served × Halt)) : Type 0 where
+pub record WaitsAsAnswered (s : Served) (made : List Made) (turn : Turn Served (Served × Halt)) : Type 0 where
   pub told : IsToldToWait s made → turn ≡ Stop (s, halt.WaitSaved)
   pub waits : (left : Served) → turn ≡ Stop (left, halt.WaitSaved) → (left ≡ s) × IsToldToWait s made
   pub alone : (first : Made) (more : List Made) → made ≡ first ∷ more → SaysWait first.2 → more ≡ []

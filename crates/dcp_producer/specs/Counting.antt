@@ -103,13 +103,13 @@ item_seq (event.Item stream seq kind key) = seq
 item_seq other = 0
 
 -- the greatest of n and the seqnos of the items that these lines tell of
-abbrev pub greatest_told : ℕ → List Event → ℕ
-greatest_told n lines = fold max n (map item_seq lines)
+abbrev pub greatest_item : ℕ → List Event → ℕ
+greatest_item n lines = fold max n (map item_seq lines)
 
 -- lines were told, and a stream that there is then reaches the greatest seqno of their items, or n
 abbrev pub TellsUp : ℕ → Served → Served → Type 0
-TellsUp n s s' = (lines : List Event) × (s'.events ≡ s.events ++ lines) × ((stream : PlainStream) → s'.end.stream ≡ Some stream → stream.reached ≡ greatest_told n lines)
+TellsUp n s s' = (lines : List Event) × (s'.events ≡ s.events ++ lines) × ((stream : PlainStream) → s'.end.stream ≡ Some stream → stream.reached ≡ greatest_item n lines)
 
 -- behind a pull of a connection with this stream
-abbrev pub ReachesTold : Served → PlainStream → Served × Halt → Type 0
-ReachesTold s stream (s', halted) = TellsUp stream.reached s s'
+abbrev pub ReachesItems : Served → PlainStream → Served × Halt → Type 0
+ReachesItems s stream (s', halted) = TellsUp stream.reached s s'

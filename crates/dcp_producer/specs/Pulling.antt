@@ -163,15 +163,15 @@ end_put s stream = record {
 }
 
 -- the snapshot of an answer, or why there is none: that there is none yet, or that the vBucket knows nothing of the stream
-abbrev pub told_snapshot : VbAnswer → Result Snapshot NoSnapshot
-told_snapshot (answer.Taken snapshot) = Ok snapshot
-told_snapshot answer.Nothing = Err (no_snapshot.Halted halt.Idle)
-told_snapshot other = Err no_snapshot.Lost
+abbrev pub snapshot_of_answer : VbAnswer → Result Snapshot NoSnapshot
+snapshot_of_answer (answer.Taken snapshot) = Ok snapshot
+snapshot_of_answer answer.Nothing = Err (no_snapshot.Halted halt.Idle)
+snapshot_of_answer other = Err no_snapshot.Lost
 
 -- the snapshot that the vBucket gave, or why it gave none
-abbrev pub snapshot_told : Option VbReply → Result Snapshot NoSnapshot
-snapshot_told None = Err no_snapshot.Lost
-snapshot_told (Some reply) = told_snapshot reply.answer
+abbrev pub snapshot_of_reply : Option VbReply → Result Snapshot NoSnapshot
+snapshot_of_reply None = Err no_snapshot.Lost
+snapshot_of_reply (Some reply) = snapshot_of_answer reply.answer
 
 -- a stream that its vBucket lost ends as one that a change of role ended; one that is given no snapshot now puts nothing
 abbrev pub halted_put : Served → PlainStream → NoSnapshot → Turn Served (Served × Halt)
@@ -185,7 +185,7 @@ taken_put s stream (Ok snapshot) = More (marker_put s stream snapshot)
 
 -- the vBucket is asked for the next snapshot
 abbrev pub take_next : Served → PlainStream → Prog (Turn Served (Served × Halt))
-take_next s stream = Call stream.vb (call.Take s.end.desk.id) (λ reply. Done (taken_put s stream (snapshot_told reply)))
+take_next s stream = Call stream.vb (call.Take s.end.desk.id) (λ reply. Done (taken_put s stream (snapshot_of_reply reply)))
 
 -- why no snapshot is taken now, if the vBucket told that the next changes are not all in memory, or that it knows nothing of the stream
 abbrev pub halt_at : VbAnswer → Option NoSnapshot
@@ -204,16 +204,16 @@ take_unless s stream None = take_next s stream
 take_unless s stream (Some none) = Done (halted_put s stream none)
 
 -- where the stream's next changes come from is known
-abbrev pub place_told : Served → PlainStream → Option VbReply → Prog (Turn Served (Served × Halt))
-place_told s stream reply = take_unless s stream (place_halt reply)
+abbrev pub place_answered : Served → PlainStream → Option VbReply → Prog (Turn Served (Served × Halt))
+place_answered s stream reply = take_unless s stream (place_halt reply)
 
 -- the vBucket is asked where the stream's next changes come from
-abbrev pub place_asked : Served → PlainStream → Prog (Turn Served (Served × Halt))
-place_asked s stream = Call stream.vb (call.Place s.end.desk.id) (λ reply. place_told s stream reply)
+abbrev pub place_requested : Served → PlainStream → Prog (Turn Served (Served × Halt))
+place_requested s stream = Call stream.vb (call.Place s.end.desk.id) (λ reply. place_answered s stream reply)
 
 -- the end of a stream that a change of role ended, or the marker of the next snapshot
 abbrev pub more_put : Served → PlainStream → Prog (Turn Served (Served × Halt))
-more_put s stream = if stream.ended then Done (More (end_put s stream)) else place_asked s stream
+more_put s stream = if stream.ended then Done (More (end_put s stream)) else place_requested s stream
 
 -- the next frame: the next item of the snapshot that was taken; behind the last one the stream's end, if a change of role ended it, or else the marker of the next snapshot
 abbrev pub next_put : Served → PlainStream → Option Change → Prog (Turn Served (Served × Halt))

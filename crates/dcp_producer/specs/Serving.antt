@@ -10,8 +10,8 @@ use Rattle.mcbp_kv.specs.Replies.{reply_frame}
 use Rattle.mcbp_dcp.specs.declared.message.DcpMsg.{DcpMsg}
 use Rattle.mcbp_dcp.specs.declared.message.DcpMsg.TheVariants as msg
 use Rattle.mcbp_dcp.specs.declared.message.DcpFault.{DcpFault}
-use Rattle.mcbp_dcp.specs.declared.message.StreamTold.{StreamTold}
-use Rattle.mcbp_dcp.specs.declared.message.StreamTold.TheVariants as told
+use Rattle.mcbp_dcp.specs.declared.message.StreamVerdict.{StreamVerdict}
+use Rattle.mcbp_dcp.specs.declared.message.StreamVerdict.TheVariants as told
 use Rattle.mcbp_dcp.specs.declared.shape.TheConstants.{MAX_NAME}
 use Rattle.mcbp_dcp.specs.Rows.{dcp_opcodes}
 use Rattle.mcbp_dcp.specs.DcpFrames.{dcp_frame}
@@ -124,24 +124,24 @@ abbrev pub refuse : Status → AskAnswer
 refuse st = ask_answer.Refuse (status_code st)
 
 -- the failover log of a vBucket, as its answer tells it
-abbrev pub told_log : VbAnswer → List LogEntry
-told_log (answer.Asked said log high) = log
-told_log other = []
+abbrev pub log_of_answer : VbAnswer → List LogEntry
+log_of_answer (answer.Asked said log high) = log
+log_of_answer other = []
 
 -- the failover log, empty where there is no such vBucket
-abbrev pub log_told : Option VbReply → List LogEntry
-log_told None = []
-log_told (Some reply) = told_log reply.answer
+abbrev pub log_of_reply : Option VbReply → List LogEntry
+log_of_reply None = []
+log_of_reply (Some reply) = log_of_answer reply.answer
 
 -- the last seqno that a vBucket has, as its answer tells it
-abbrev pub told_high : VbAnswer → ℕ
-told_high (answer.Asked said log high) = high
-told_high other = 0
+abbrev pub high_of_answer : VbAnswer → ℕ
+high_of_answer (answer.Asked said log high) = high
+high_of_answer other = 0
 
 -- the last seqno, 0 where there is no such vBucket
-abbrev pub high_told : Option VbReply → ℕ
-high_told None = 0
-high_told (Some reply) = told_high reply.answer
+abbrev pub high_of_reply : Option VbReply → ℕ
+high_of_reply None = 0
+high_of_reply (Some reply) = high_of_answer reply.answer
 
 -- how a request for a stream was answered by its vBucket, which gives no other answer than this
 abbrev pub verdict_of : VbAnswer → AskAnswer
@@ -162,8 +162,8 @@ request_refusal shaken ask =
     else None
 
 -- the number under which the vBucket is asked to open the stream: 0, under which it opens none, where the producer refuses by itself or has a stream
-abbrev pub asked_id : PlainProducer → StreamAsk → ℕ
-asked_id end ask = if is_some (request_refusal end.handshake ask) || is_some end.stream then 0 else end.desk.id
+abbrev pub opening_id : PlainProducer → StreamAsk → ℕ
+opening_id end ask = if is_some (request_refusal end.handshake ask) || is_some end.stream then 0 else end.desk.id
 
 -- the producer's own refusal stands before what the vBucket said
 abbrev pub verdict_with : Option Status → AskAnswer → AskAnswer
@@ -171,10 +171,10 @@ verdict_with (Some st) said = refuse st
 verdict_with None said = said
 
 -- the message of an answer to a request for a stream
-abbrev pub stream_told : List LogEntry → AskAnswer → StreamTold
-stream_told log ask_answer.Go = told.Go log
-stream_told log (ask_answer.Roll to) = told.Roll to
-stream_told log (ask_answer.Refuse code) = told.Refused code
+abbrev pub stream_verdict : List LogEntry → AskAnswer → StreamVerdict
+stream_verdict log ask_answer.Go = told.Go log
+stream_verdict log (ask_answer.Roll to) = told.Roll to
+stream_verdict log (ask_answer.Refuse code) = told.Refused code
 
 -- a stream begins with no snapshot taken, and its consumer has all up to the start that it asked for
 abbrev pub new_stream : Frame → StreamAsk → PlainStream
@@ -187,26 +187,26 @@ with_stream end f ask (ask_answer.Roll to) = end
 with_stream end f ask (ask_answer.Refuse code) = end
 
 -- the line of an answer to a request for a stream: the last seqno and the failover log are the producer's own
-abbrev pub asked_line : Desk → Frame → StreamAsk → List LogEntry → ℕ → AskAnswer → Event
-asked_line desk f ask log high verdict = event.Asked desk.stream desk.node f.vb_or_status ask high log verdict
+abbrev pub ask_line : Desk → Frame → StreamAsk → List LogEntry → ℕ → AskAnswer → Event
+ask_line desk f ask log high verdict = event.Asked desk.stream desk.node f.vb_or_status ask high log verdict
 
 -- the answer to a request for a stream goes out, and a line tells of it
 unfoldable pub stream_answered : Frame → StreamAsk → Served → List LogEntry → ℕ → AskAnswer → Served
 stream_answered f ask s log high verdict = record {
   end = with_stream s.end f ask verdict;
-  events = s.events ++ asked_line s.end.desk f ask log high verdict ∷ [];
-  out = s.out ++ spelling (dcp_frame (msg.StreamAnswer (stream_told log verdict)) f.opaque 0);
+  events = s.events ++ ask_line s.end.desk f ask log high verdict ∷ [];
+  out = s.out ++ spelling (dcp_frame (msg.StreamAnswer (stream_verdict log verdict)) f.opaque 0);
   count = s.count;
   resolved = s.resolved;
 }
 
 -- the answer to a request for a stream, by the vBucket's one reply
 abbrev pub request_answered : Frame → StreamAsk → Served → Option VbReply → Served
-request_answered f ask s reply = stream_answered f ask s (log_told reply) (high_told reply) (verdict_with (request_refusal s.end.handshake ask) (ask_verdict reply))
+request_answered f ask s reply = stream_answered f ask s (log_of_reply reply) (high_of_reply reply) (verdict_with (request_refusal s.end.handshake ask) (ask_verdict reply))
 
 -- STREAM_REQUEST: the vBucket is asked once, and tells its failover log and its last seqno whatever it says
 unfoldable pub stream_request : Frame → StreamAsk → Served → Prog Served
-stream_request f ask s = Call f.vb_or_status (call.OpenStream (asked_id s.end ask) ask (is_sync s.end.handshake)) (λ reply. Done (request_answered f ask s reply))
+stream_request f ask s = Call f.vb_or_status (call.OpenStream (opening_id s.end ask) ask (is_sync s.end.handshake)) (λ reply. Done (request_answered f ask s reply))
 
 -- the connection's stream, where it is one of the vBucket v; one that a change of role ended counts as none, also before its end is put
 abbrev pub stream_of : ℕ → Option PlainStream → Option PlainStream
@@ -224,8 +224,8 @@ abbrev pub counted_line : Desk → Frame → ℕ → ℕ → Event
 counted_line desk f member seq = event.Counted desk.stream desk.node f.vb_or_status member seq
 
 -- an acknowledgement was counted: a line tells of it, and then one of each change that the vBucket made with it. There is no answer
-abbrev pub counted_told : Frame → ℕ → ℕ → VbReply → Served → Served
-counted_told f member seq reply s = record s {
+abbrev pub counted_with : Frame → ℕ → ℕ → VbReply → Served → Served
+counted_with f member seq reply s = record s {
   events = s.events ++ counted_line s.end.desk f member seq ∷ map (event.Changed s.end.desk.node f.vb_or_status reply.branch) reply.changes;
   resolved = reply.resolved;
 }
@@ -233,7 +233,7 @@ counted_told f member seq reply s = record s {
 -- the vBucket counted it, or refused it with a status
 abbrev pub counted_by : Frame → ℕ → ℕ → VbReply → VbAnswer → Served → Served
 counted_by f member seq reply (answer.Status st) s = status_sent f st s
-counted_by f member seq reply other s = counted_told f member seq reply s
+counted_by f member seq reply other s = counted_with f member seq reply s
 
 -- where there is no such vBucket, it is refused as at one that is not active
 abbrev pub count_answered : Frame → ℕ → ℕ → Served → Option VbReply → Served
@@ -241,13 +241,13 @@ count_answered f member seq s None = status_sent f status.NotMyVbucket s
 count_answered f member seq s (Some reply) = counted_by f member seq reply reply.answer s
 
 -- the vBucket is to count a member's acknowledgement, unless that was refused
-abbrev pub count_asked : Frame → ℕ → Served → Result ℕ Status → Prog Served
-count_asked f seq s (Err st) = Done (status_sent f st s)
-count_asked f seq s (Ok member) = Call f.vb_or_status (call.Ack member seq) (λ reply. Done (count_answered f member seq s reply))
+abbrev pub count_requested : Frame → ℕ → Served → Result ℕ Status → Prog Served
+count_requested f seq s (Err st) = Done (status_sent f st s)
+count_requested f seq s (Ok member) = Call f.vb_or_status (call.Ack member seq) (λ reply. Done (count_answered f member seq s reply))
 
 -- SEQNO_ACKNOWLEDGED: the consumer has all up to this seqno
 unfoldable pub acknowledged : Frame → ℕ → Served → Prog Served
-acknowledged f seq s = count_asked f seq s (weighed seq (stream_of f.vb_or_status s.end.stream) (member_of s.end.handshake))
+acknowledged f seq s = count_requested f seq s (weighed seq (stream_of f.vb_or_status s.end.stream) (member_of s.end.handshake))
 
 -- a message, by its row; a producer takes no other
 abbrev pub message_answered : Frame → DcpMsg → Served → Prog Served

@@ -1,6 +1,6 @@
 //! How a producer counts what its consumer acknowledges.
 ghost use Rattle.std.specs.Prelude.{◌≡◌, ◌++◌, ◌∷◌, map, OnOk, OnErr};
-ghost use Rattle.dcp_producer.specs.Serving.{stream_of, weighed, with_event, counted_line, counted_told, counted_by, count_answered, acknowledged};
+ghost use Rattle.dcp_producer.specs.Serving.{stream_of, weighed, with_event, counted_line, counted_with, counted_by, count_answered, acknowledged};
 ghost use Rattle.{dcp_producer.specs.Producers.{member_of}, dcp_producer.specs.Wanting.{Cut, Sent}, vb_calls.specs.Programs.{Ran}};
 ghost use Rattle.vb_events.specs.declared.event.Event.TheVariants.{Changed};
 
@@ -72,7 +72,7 @@ impl Connection {
 
     /// Tells of an acknowledgement that was counted, and hands out what became of durable writes.
     fn tell_counted(&mut self, f: &Frame, member: u8, seq: u64, reply: VbReply) -> Alloc<()>
-        ensures { Sent result self.new (counted_told f.now member seq reply self.old) }
+        ensures { Sent result self.new (counted_with f.now member seq reply self.old) }
     {
         let told = self.tell_lines(f, member, seq, &reply);
         self.resolved = resolved_of(self.alloc, reply);

@@ -1,12 +1,12 @@
 //! How a producer answers the requests of a connection.
 ghost use Rattle.std.specs.Prelude.{◌≡◌, OnOk, OnErr};
-ghost use Rattle.dcp_producer.specs.Serving.{with_frame, set_answered, asked_id, stream_told, stream_answered, stream_request, message_answered, read_answered, frame_answered};
-ghost use Rattle.{dcp_producer.specs.Wanting.{Cut, Sent}, mcbp_dcp.specs.DcpFrames.{dcp_frame, IsTold}, mcbp_dcp.specs.declared.message.DcpMsg.TheVariants.{StreamAnswer}};
-ghost use Rattle.{mcbp_dcp.specs.declared.message.StreamTold.TheVariants.{Go, Roll}, vb_calls.specs.Programs.{Ran}};
+ghost use Rattle.dcp_producer.specs.Serving.{with_frame, set_answered, opening_id, stream_verdict, stream_answered, stream_request, message_answered, read_answered, frame_answered};
+ghost use Rattle.{dcp_producer.specs.Wanting.{Cut, Sent}, mcbp_dcp.specs.DcpFrames.{dcp_frame, IsVerdict}, mcbp_dcp.specs.declared.message.DcpMsg.TheVariants.{StreamAnswer}};
+ghost use Rattle.{mcbp_dcp.specs.declared.message.StreamVerdict.TheVariants.{Go, Roll}, vb_calls.specs.Programs.{Ran}};
 
 use crate::replies::{Standing, standing_of};
 use crate::{ActiveStream, Alloc, Connection, Handshake};
-use mcbp_dcp::{DcpFault, DcpMsg, StreamTold, is_built, is_dcp, read_dcp};
+use mcbp_dcp::{DcpFault, DcpMsg, StreamVerdict, is_built, is_dcp, read_dcp};
 use mcbp_frame::{Frame, RESPONSE};
 use vb_calls::{VbAccess, VbCall};
 use vb_events::Event;
@@ -28,11 +28,11 @@ impl Connection {
 
     /// Answers that a stream begins, with this failover log.
     fn send_log(&mut self, opaque: u32, log: &[LogEntry]) -> Alloc<()>
-        requires { IsTold (Go log.now) }
+        requires { IsVerdict (Go log.now) }
         ensures { Sent result self.new (with_frame self.old (dcp_frame (StreamAnswer (Go log.now)) opaque 0)) }
     {
         let log = Listed::from_vec(Vec::from_slice(self.alloc, log)?);
-        let told = StreamTold::Go { log };
+        let told = StreamVerdict::Go { log };
         self.send(DcpMsg::StreamAnswer { told }, opaque, 0)
     }
 
@@ -40,14 +40,14 @@ impl Connection {
     fn send_point(&mut self, opaque: u32, point: u64) -> Alloc<()>
         ensures { Sent result self.new (with_frame self.old (dcp_frame (StreamAnswer (Roll point)) opaque 0)) }
     {
-        let told = StreamTold::Roll { point };
+        let told = StreamVerdict::Roll { point };
         self.send(DcpMsg::StreamAnswer { told }, opaque, 0)
     }
 
     /// Puts the answer to a request for a stream on its way.
     fn send_verdict(&mut self, f: &Frame, standing: &Standing) -> Alloc<()>
-        requires { IsTold (Go standing.now.log) }
-        ensures { Sent result self.new (with_frame self.old (dcp_frame (StreamAnswer (stream_told standing.now.log standing.now.said)) f.now.opaque 0)) }
+        requires { IsVerdict (Go standing.now.log) }
+        ensures { Sent result self.new (with_frame self.old (dcp_frame (StreamAnswer (stream_verdict standing.now.log standing.now.said)) f.now.opaque 0)) }
     {
         match standing.said {
             AskAnswer::Go => self.send_log(f.opaque, standing.log.as_slice()),
@@ -59,7 +59,7 @@ impl Connection {
     /// Answers a request for a stream, and tells of it.
     #[tactic(auto, unfolding(crate::specs::Serving::stream_answered))]
     fn answer_stream(&mut self, f: &Frame, ask: &StreamAsk, standing: Standing) -> Alloc<()>
-        requires { IsTold (Go standing.log) }
+        requires { IsVerdict (Go standing.log) }
         ensures { Sent result self.new (stream_answered f.now ask.now self.old standing.log standing.high standing.said) }
     {
         if standing.said == AskAnswer::Go {
@@ -79,8 +79,8 @@ impl Connection {
 
     /// The number under which the vBucket is asked to open a stream; 0, under which it opens none,
     /// where the request is refused here or the connection has a stream.
-    fn asked_id(&self, ask: &StreamAsk) -> u64
-        ensures { result ≡ asked_id self.now.end ask.now }
+    fn opening_id(&self, ask: &StreamAsk) -> u64
+        ensures { result ≡ opening_id self.now.end ask.now }
     {
         if self.handshake.request_refusal(ask).is_some() || self.stream.is_some() {
             0
@@ -91,12 +91,12 @@ impl Connection {
 
     /// Answers STREAM_REQUEST.
     #[tactic(auto, unfolding(crate::specs::Serving::stream_request))]
-    fn request_stream<A: VbAccess>(&mut self, vbs: &mut A, f: &Frame, ask: &StreamAsk) -> Alloc<()>
+    fn answer_request<A: VbAccess>(&mut self, vbs: &mut A, f: &Frame, ask: &StreamAsk) -> Alloc<()>
         ensures ok { OnOk result (Ran A.step (stream_request f.now ask.now self.old) vbs.old self.new vbs.new) }
         ensures err { OnErr result (Cut A.step (stream_request f.now ask.now self.old) self.old.end vbs.old self.new.end vbs.new) }
     {
         let call = VbCall::OpenStream {
-            id: self.asked_id(ask),
+            id: self.opening_id(ask),
             ask: *ask,
             sync: self.handshake.is_sync(),
         };
@@ -117,7 +117,7 @@ impl Connection {
                 let set = self.handshake.controlled(key.as_slice(), value.as_slice());
                 self.answer_set(f, set.ok_or(Status::Einval))
             }
-            DcpMsg::StreamRequest { ask } => self.request_stream(vbs, f, ask),
+            DcpMsg::StreamRequest { ask } => self.answer_request(vbs, f, ask),
             DcpMsg::SeqnoAcknowledged { seq } => self.acknowledge(vbs, f, *seq),
             _ => self.send_status(f, Status::Einval),
         }

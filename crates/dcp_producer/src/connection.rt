@@ -1,7 +1,7 @@
 //! A connection in a call: what it is, and what it told and put so far.
 ghost use Rattle.std.specs.Prelude.{◌≡◌};
 ghost use Rattle.{dcp_producer.specs.Producers.{begun}, dcp_producer.specs.Serving.{with_event, with_frame, status_sent}, dcp_producer.specs.Wanting.{Sent}, mcbp_dcp.specs.DcpFrames.{dcp_frame, IsSpelled}};
-ghost use Rattle.{mcbp_dcp.specs.declared.message.DcpMsg.TheVariants.{StreamAnswer}, mcbp_dcp.specs.declared.message.StreamTold.TheVariants.{Refused}};
+ghost use Rattle.{mcbp_dcp.specs.declared.message.DcpMsg.TheVariants.{StreamAnswer}, mcbp_dcp.specs.declared.message.StreamVerdict.TheVariants.{Refused}};
 
 use crate::{ActiveStream, Alloc, Asked, Desk, Handshake};
 use bytes::{Bytes, BytesMut};

@@ -1,7 +1,7 @@
 //! Laws of a producer. Each is a function with no work to do, and its clauses are the law.
 ghost use Rattle.std.specs.Prelude.{◌≡◌, ◌<◌, ◌≤◌, ◌⊎◌, ◌↔◌, ◌++◌, ℕ, Bool, true, false, List, [], ◌∷◌, Some, Ok, codes, decimal, Err};
-ghost use Rattle.dcp_producer.specs.Counting.{IsCountable, IsFed, IsMember, IsNoMember, IsUnfed, OneCount, ReachesItem, ReachesSame, ReachesStart, ReachesStill, ReachesTold};
-ghost use Rattle.{dcp_producer.specs.Conduct.{CountsFrames, IsInactive, IsOpened, OneReply, PutsBytes, PutsDurables, PutsPlain, RefusedWith, MarksBytes, MarksSnapshots, EndsBytes, WaitsAsTold, WaitsBehind, durable_doc, durable_row}, dcp_producer.specs.Ending.{IsEnding, LeavesEnding, NoCall}};
+ghost use Rattle.dcp_producer.specs.Counting.{IsCountable, IsFed, IsMember, IsNoMember, IsUnfed, OneCount, ReachesItem, ReachesSame, ReachesStart, ReachesStill, ReachesItems};
+ghost use Rattle.{dcp_producer.specs.Conduct.{CountsFrames, IsInactive, IsOpened, OneReply, PutsBytes, PutsDurables, PutsPlain, RefusedWith, MarksBytes, MarksSnapshots, EndsBytes, WaitsAsAnswered, WaitsBehind, durable_doc, durable_row}, dcp_producer.specs.Ending.{IsEnding, LeavesEnding, NoCall}};
 ghost use Rattle.{dcp_producer.specs.Handshaking.{Asks, Gets, IsKnown, IsName, IsOther}, dcp_producer.specs.Producers.{PlainProducer, PlainStream, Served}, dcp_producer.specs.Pulling.{frame_put, frames_put, why_of}};
 ghost use Rattle.{dcp_producer.specs.declared.halt.Halt.{Halt}, dcp_producer.specs.declared.halt.Halt.TheVariants.{WaitSaved}, vb_events.specs.declared.event.Why.TheVariants.{WaitSaved as SavedLine}};
 ghost use Rattle.{dcp_producer.specs.Serving.{frame_answered, message_answered, named_by}, dcp_producer.specs.declared.desk.Handshake.TheVariants.{Fresh, Open as Shaken}};
@@ -16,7 +16,7 @@ ghost use Rattle.{vb_types.specs.declared.change.Act.TheVariants.{Abort, Commit,
 ghost use Rattle.vb_types.specs.declared.change.Level.TheVariants.{MajorityPersistActive, PersistMajority};
 ghost use Rattle.{vb_types.specs.declared.role.Role.TheVariants.{Active}, vb_types.specs.declared.stream.StreamAsk.{StreamAsk as AskData}};
 ghost use Rattle.vb_types.specs.declared.stream.Snapshot.{Snapshot as SnapshotData};
-ghost use Rattle.{dcp_producer.specs.Taking.{AsksFirst}, dcp_producer.specs.Pulling.{place_told}, vb_calls.specs.declared.calls.VbCall.TheVariants.{Take}};
+ghost use Rattle.{dcp_producer.specs.Taking.{AsksFirst}, dcp_producer.specs.Pulling.{place_answered}, vb_calls.specs.declared.calls.VbCall.TheVariants.{Take}};
 ghost use Rattle.{vb_calls.specs.declared.calls.VbAnswer.TheVariants.{Placed}, vb_types.specs.declared.stream.Place.TheVariants.{Memory}, vb_calls.specs.declared.calls.Resolved.{Resolved}};
 
 /// A stream that a change of role ended asks its vBucket for nothing: what it still puts was taken
@@ -37,7 +37,7 @@ pub fn pulls_count_frames()
 /// before such a turn, and so does its line.
 pub fn waiting_streams_put_nothing()
     ensures turn { (s : Served) (made : List Made) (turn : Turn Served (Served × Halt)) → Told (frame_put s) made turn
-        → WaitsAsTold s made turn }
+        → WaitsAsAnswered s made turn }
     ensures pull { (frames : ℕ) (s : Served) (made : List Made) (left : Served) (halted : Halt)
         → Told (frames_put frames s) made (left, halted) → (halted ≡ WaitSaved) ↔ WaitsBehind frames s made left }
     ensures line { (halted : Halt) → (why_of halted ≡ SavedLine) ↔ (halted ≡ WaitSaved) }
@@ -179,7 +179,7 @@ pub fn streams_reach_what_was_put()
     ensures marker { (s : Served) (stream : PlainStream) (snapshot : SnapshotData) → ReachesSame s stream snapshot }
     ensures role { (v : ℕ) (ids : List ℕ) (end : PlainProducer) (stream : PlainStream) → ReachesStill v ids end stream }
     ensures pull { (frames : ℕ) (s : Served) (stream : PlainStream) → s.end.stream ≡ Some stream
-        → Always AnyCall (ReachesTold s stream) (frames_put frames s) }
+        → Always AnyCall (ReachesItems s stream) (frames_put frames s) }
 {}
 
 /// A request for a stream is one call, under the connection's number where nothing here refuses it.
@@ -208,5 +208,5 @@ pub fn requests_are_refused_in_order()
 /// that vBucket, under its connection's own number.
 pub fn streams_take_their_own()
     ensures { (s : Served) (stream : PlainStream) (resolved : List Resolved) (ended : List ℕ) (branch : ℕ) (changes : List ChangeData)
-        → AsksFirst stream.vb (Take s.end.desk.id) (place_told s stream (Some (record { answer = Placed Memory; resolved = resolved; ended = ended; branch = branch; changes = changes }))) }
+        → AsksFirst stream.vb (Take s.end.desk.id) (place_answered s stream (Some (record { answer = Placed Memory; resolved = resolved; ended = ended; branch = branch; changes = changes }))) }
 {}

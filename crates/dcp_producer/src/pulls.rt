@@ -1,6 +1,6 @@
 //! How a producer puts the frames of its stream.
 ghost use Rattle.std.specs.Prelude.{◌≡◌, slice_get, IfOk, IsSome, OnOk, OnErr, Some};
-ghost use Rattle.dcp_producer.specs.Pulling.{with_stream_back, came_to, counted_unless, act_message, act_sent, item_line, marker_flags, marker_put, with_line, take_next, end_put, place_asked, halted_put, next_put, frame_put, frames_put};
+ghost use Rattle.dcp_producer.specs.Pulling.{with_stream_back, came_to, counted_unless, act_message, act_sent, item_line, marker_flags, marker_put, with_line, take_next, end_put, place_requested, halted_put, next_put, frame_put, frames_put};
 ghost use Rattle.{dcp_producer.specs.Wanting.{SameThere, Stays}, mcbp_dcp.specs.declared.message.DcpMsg.{DcpMsg as Message}, vb_calls.specs.Programs.{Ran, Began, More}};
 
 use crate::halt::{NoSnapshot, Turned};
@@ -16,7 +16,7 @@ use vb_types::{Act, Change, Snapshot};
 const STATE_CHANGED: u32 = 2;
 
 /// The act as it is sent.
-fn sent_act(act: &Act) -> ItemAct
+fn item_act_of(act: &Act) -> ItemAct
     ensures { result ≡ act_sent act.now }
 {
     match act {
@@ -35,7 +35,7 @@ fn line_of(desk: Desk, change: &Change) -> Alloc<Event>
     Ok(Event::Item {
         stream: desk.stream,
         seq: change.seq,
-        act: sent_act(&change.act),
+        act: item_act_of(&change.act),
         key: change.key.clone()?,
     })
 }
@@ -49,7 +49,7 @@ fn flags_of(disk: bool) -> u32
 
 impl Connection {
     /// Puts an item of the stream's snapshot, and tells of it.
-    fn put_item(&mut self, stream: &ActiveStream, change: &Change) -> Alloc<()>
+    fn write_item(&mut self, stream: &ActiveStream, change: &Change) -> Alloc<()>
         ensures ok { OnOk result ((m : Message) × (act_message change.now change.now.act ≡ Some m) × (self.new ≡ with_line self.old stream.now m (item_line self.old.end.desk change.now))) }
         ensures rest { self.new.end ≡ self.old.end }
     {
@@ -59,7 +59,7 @@ impl Connection {
 
     /// Puts the marker of a snapshot, which the stream goes on with.
     #[tactic(auto, unfolding(crate::specs::Pulling::marker_put))]
-    fn put_marker(&mut self, stream: &mut ActiveStream, snapshot: Snapshot) -> Alloc<Turned>
+    fn write_marker(&mut self, stream: &mut ActiveStream, snapshot: Snapshot) -> Alloc<Turned>
         ensures ok { IfOk result (λ turned. came_to turned self.new stream.new ≡ More (marker_put (with_stream_back self.old stream.old) stream.old snapshot)) }
         ensures same { SameThere self.old stream.old self.new stream.new }
     {
@@ -79,7 +79,7 @@ impl Connection {
 
     /// Puts the end of the stream, which the connection has no more then.
     #[tactic(auto, unfolding(crate::specs::Pulling::end_put))]
-    fn put_end(&mut self, stream: &ActiveStream) -> Alloc<Turned>
+    fn write_end(&mut self, stream: &ActiveStream) -> Alloc<Turned>
         ensures ok { IfOk result (λ turned. came_to turned self.new stream.now ≡ More (end_put (with_stream_back self.old stream.now) stream.now)) }
         ensures same { (self.new.end.desk ≡ self.old.end.desk) × (self.new.end.handshake ≡ self.old.end.handshake) }
     {
@@ -99,7 +99,7 @@ impl Connection {
         ensures same { (self.new.end.desk ≡ self.old.end.desk) × (self.new.end.handshake ≡ self.old.end.handshake) }
     {
         match none {
-            NoSnapshot::Lost => self.put_end(stream),
+            NoSnapshot::Lost => self.write_end(stream),
             NoSnapshot::Halted(halt) => Ok(Turned::Halted(halt)),
         }
     }
@@ -112,14 +112,14 @@ impl Connection {
     {
         match snapshot_of(vbs.call(stream.vb, VbCall::Take { id: self.desk.id })?) {
             Err(none) => self.put_no_snapshot(stream, none),
-            Ok(snapshot) => self.put_marker(stream, snapshot),
+            Ok(snapshot) => self.write_marker(stream, snapshot),
         }
     }
 
     /// Asks where the stream's next changes come from, and puts the marker of the next snapshot.
     fn put_placed<A: VbAccess>(&mut self, vbs: &mut A, stream: &mut ActiveStream) -> Alloc<Turned>
-        ensures ok { IfOk result (λ turned. Ran A.step (place_asked (with_stream_back self.old stream.old) stream.old) vbs.old (came_to turned self.new stream.new) vbs.new) }
-        ensures err { OnErr result (Began A.step (place_asked (with_stream_back self.old stream.old) stream.old) vbs.old vbs.new) }
+        ensures ok { IfOk result (λ turned. Ran A.step (place_requested (with_stream_back self.old stream.old) stream.old) vbs.old (came_to turned self.new stream.new) vbs.new) }
+        ensures err { OnErr result (Began A.step (place_requested (with_stream_back self.old stream.old) stream.old) vbs.old vbs.new) }
         ensures same { SameThere self.old stream.old self.new stream.new }
     {
         match place_halt(vbs.call(stream.vb, VbCall::Place { id: self.desk.id })?) {
@@ -132,7 +132,7 @@ impl Connection {
     /// a stream that a change of role ended or that its vBucket lost, or else the marker of the next
     /// snapshot.
     #[tactic(auto, using(vb_calls::proofs::Runs::runs))]
-    fn put_next<A: VbAccess>(&mut self, vbs: &mut A, stream: &mut ActiveStream) -> Alloc<Turned>
+    fn write_next<A: VbAccess>(&mut self, vbs: &mut A, stream: &mut ActiveStream) -> Alloc<Turned>
         ensures ok { IfOk result (λ turned. Ran A.step (next_put (with_stream_back self.old stream.old) stream.old (slice_get stream.old.items stream.old.next)) vbs.old (came_to turned self.new stream.new) vbs.new) }
         ensures err { OnErr result (Began A.step (next_put (with_stream_back self.old stream.old) stream.old (slice_get stream.old.items stream.old.next)) vbs.old vbs.new) }
         ensures same { SameThere self.old stream.old self.new stream.new }
@@ -140,11 +140,11 @@ impl Connection {
         match stream.item() {
             Some(change) => {
                 let seq = change.seq;
-                self.put_item(stream, change)?;
+                self.write_item(stream, change)?;
                 stream.pass(seq);
                 Ok(Turned::Put)
             }
-            None if stream.is_ended() => self.put_end(stream),
+            None if stream.is_ended() => self.write_end(stream),
             None => self.put_placed(vbs, stream),
         }
     }
@@ -152,7 +152,7 @@ impl Connection {
     /// Puts one frame of the stream, and does not count it yet; or says why there is none to put.
     /// The stream is back behind it, also where memory was wanting.
     #[tactic(auto, using(vb_calls::proofs::Runs::runs), unfolding(crate::specs::Pulling::frame_put))]
-    fn put_frame<A: VbAccess>(&mut self, vbs: &mut A) -> Alloc<Option<Halt>>
+    fn put_one_frame<A: VbAccess>(&mut self, vbs: &mut A) -> Alloc<Option<Halt>>
         ensures ok { IfOk result (λ halt. Ran A.step (frame_put self.old) vbs.old (counted_unless halt self.new) vbs.new) }
         ensures err { OnErr result (Began A.step (frame_put self.old) vbs.old vbs.new) }
         ensures same { OnErr result (Stays self.old.end self.new.end) }
@@ -161,7 +161,7 @@ impl Connection {
         let Some(mut stream) = self.stream.take() else {
             return Ok(Some(Halt::Idle))
         };
-        let turned = self.put_next(vbs, &mut stream);
+        let turned = self.write_next(vbs, &mut stream);
         if !matches!(&turned, Ok(Turned::Ended)) {
             self.stream = Some(stream);
         }
@@ -180,7 +180,7 @@ impl Connection {
         ensures same { OnErr result (Stays self.old.end self.new.end) }
     {
         for turn in 0..frames {
-            if let Some(halt) = self.put_frame(vbs)? {
+            if let Some(halt) = self.put_one_frame(vbs)? {
                 return Ok(halt);
             }
             self.count += 1;

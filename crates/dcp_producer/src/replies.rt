@@ -1,6 +1,6 @@
 //! What the replies of a vBucket say to a producer.
 ghost use Rattle.std.specs.Prelude.{◌≡◌};
-ghost use Rattle.{std.specs.Option.{option_map}, dcp_producer.specs.Pulling.{halt_at, place_halt, snapshot_told}, dcp_producer.specs.Serving.{log_told, high_told, ask_verdict, refuse, verdict_with}};
+ghost use Rattle.{std.specs.Option.{option_map}, dcp_producer.specs.Pulling.{halt_at, place_halt, snapshot_of_reply}, dcp_producer.specs.Serving.{log_of_reply, high_of_reply, ask_verdict, refuse, verdict_with}};
 
 use crate::Halt;
 use crate::halt::NoSnapshot;
@@ -34,8 +34,8 @@ fn refusal(status: Status) -> AskAnswer
 /// producer's own stands before what the vBucket said.
 pub fn standing_of(alloc: Global, own: Option<Status>, reply: Option<VbReply>) -> Standing
     ensures said { result.said ≡ verdict_with own (ask_verdict reply) }
-    ensures log { result.log ≡ log_told reply }
-    ensures high { result.high ≡ high_told reply }
+    ensures log { result.log ≡ log_of_reply reply }
+    ensures high { result.high ≡ high_of_reply reply }
 {
     let (said, log, high) = match answer_of(reply) {
         Some(VbAnswer::Asked { said, log, high }) => (said, log, high),
@@ -77,7 +77,7 @@ pub fn place_halt(reply: Option<VbReply>) -> Option<NoSnapshot>
 
 /// The snapshot that was given, or why none was.
 pub fn snapshot_of(reply: Option<VbReply>) -> Result<Snapshot, NoSnapshot>
-    ensures { result ≡ snapshot_told reply }
+    ensures { result ≡ snapshot_of_reply reply }
 {
     match answer_of(reply) {
         Some(VbAnswer::Taken(snapshot)) => Ok(snapshot),

@@ -25,7 +25,7 @@ use Rattle.vb_journal.specs.declared.fault.AppendFault.TheVariants as fault
 use Rattle.vb_types.specs.declared.journal.Batch.{Batch}
 use Rattle.vb_types.specs.declared.journal.Record.{Record}
 use Rattle.vb_types.specs.declared.journal.Record.TheVariants.{Rows}
-use Rattle.disk_journals.specs.Asking.{Fails, SlotAsked, SlotUnasked, fate_by, fate_told, reading_by, reading_in, reading_told}
+use Rattle.disk_journals.specs.Asking.{Fails, SlotAnswers, SlotUnasked, fate_by, fate_of_wrote, reading_by, reading_in, reading_of_book}
 use Rattle.disk_journals.specs.Devices.{Device, fuse_over}
 use Rattle.disk_journals.specs.Saving.{SavesSlot, SlotSaved, left_by}
 use Rattle.disk_journals.specs.Seen.{Seen, flush_of}
@@ -70,7 +70,7 @@ failed_fate shelf is_open hit = ap (λ b. if b then WasClosed else if all_pass s
 pub closed_fate : (shelf : Shelf) → shelf.is_closed ≡ true → fate_of shelf ≡ WasClosed
 closed_fate shelf closed = ap (λ b. if b then WasClosed else if all_pass shelf.fuse then Stood else DiskFailed) closed
 
-told_back : (f : Fate) → fate_told (wrote_of f) ≡ f
+told_back : (f : Fate) → fate_of_wrote (wrote_of f) ≡ f
 told_back Stood = refl
 told_back WasClosed = refl
 told_back DiskFailed = refl
@@ -178,15 +178,15 @@ module _ {D : Type 0} (dev : Device D) (s : Seen D) (j : JournalState D) (what :
 
 module _ {D : Type 0} (dev : Device D) (s : Seen D) (j : JournalState D) where
   -- an append, as a request
-  pub append_asked : (what : Record) (came : Result ℕ AppendFault) → Appended dev.storage s.journal j what came → AppendedUnder dev.storage dev.armed dev.left what s.journal j came → SlotAsked dev s (Append what) (fate_by came) (record s { journal = j })
+  pub append_asked : (what : Record) (came : Result ℕ AppendFault) → Appended dev.storage s.journal j what came → AppendedUnder dev.storage dev.armed dev.left what s.journal j came → SlotAnswers dev s (Append what) (fate_by came) (record s { journal = j })
   append_asked what came h under shelf stand = appended dev s j what shelf stand under.stands came h under.arm under.kept_by_each
 
   -- the same, as it is told
   pub append_told : (old : Seen D) (what : Record) (came : Result ℕ AppendFault) (wrote : Wrote) → s ≡ old → wrote ≡ wrote_of (fate_by came) → Appended dev.storage s.journal j what came
-      → AppendedUnder dev.storage dev.armed dev.left what s.journal j came → SlotAsked dev old (Append what) (fate_told wrote) (record s { journal = j })
+      → AppendedUnder dev.storage dev.armed dev.left what s.journal j came → SlotAnswers dev old (Append what) (fate_of_wrote wrote) (record s { journal = j })
   append_told old what came wrote same said h under =
-      subst (λ o. SlotAsked dev o (Append what) (fate_told wrote) (record s { journal = j })) same
-      (subst (λ f. SlotAsked dev s (Append what) f (record s { journal = j })) (sym (told_back (fate_by came)) ∙ sym (ap fate_told said)) (append_asked what came h under))
+      subst (λ o. SlotAnswers dev o (Append what) (fate_of_wrote wrote) (record s { journal = j })) same
+      (subst (λ f. SlotAnswers dev s (Append what) f (record s { journal = j })) (sym (told_back (fate_by came)) ∙ sym (ap fate_of_wrote said)) (append_asked what came h under))
 
   -- where nothing changed but what memory is ready for, and how often the disk failed
   pub stands_on : (shelf : Shelf) → ShelfStands dev s shelf → j.closed ≡ s.journal.closed → j.book ≡ s.journal.book → (dev.storage j.disk).held ≡ (dev.storage s.journal.disk).held → dev.armed j.disk ≡ dev.armed s.journal.disk
@@ -235,10 +235,10 @@ module _ {D : Type 0} (dev : Device D) (s : Seen D) (j : JournalState D) where
 
   -- a read, as a request
   pub read_asked : (old : Seen D) (came : Result (List Record) AppendFault) → s ≡ old → ReadBack dev.storage s.journal j came → dev.armed j.disk ≡ dev.armed s.journal.disk → LeftAlike (dev.left s.journal.disk) (dev.left j.disk) → ReadsUnder (dev.armed s.journal.disk) came
-      → SlotAsked dev old Read (reading_by came) (record s { journal = j })
-  read_asked old came same read arm left given_under = subst (λ o. SlotAsked dev o Read (reading_by came) (record s { journal = j })) same (by came read given_under)
+      → SlotAnswers dev old Read (reading_by came) (record s { journal = j })
+  read_asked old came same read arm left given_under = subst (λ o. SlotAnswers dev o Read (reading_by came) (record s { journal = j })) same (by came read given_under)
     where
-      by : (came : Result (List Record) AppendFault) → ReadBack dev.storage s.journal j came → ReadsUnder (dev.armed s.journal.disk) came → SlotAsked dev s Read (reading_by came) (record s { journal = j })
+      by : (came : Result (List Record) AppendFault) → ReadBack dev.storage s.journal j came → ReadsUnder (dev.armed s.journal.disk) came → SlotAnswers dev s Read (reading_by came) (record s { journal = j })
       by (Ok records) h under shelf stand =
           let open_now : shelf.is_closed ≡ false = sym stand.closed ∙ h.0 in
           inl (given records s.journal.book shelf.book (stand.book open_now) h.2 ∙ sym (read_is shelf open_now), rests_on shelf stand h.1 arm left)
@@ -253,20 +253,20 @@ module _ {D : Type 0} (dev : Device D) (s : Seen D) (j : JournalState D) where
           absurd (told_some s.journal.book (reverse shelf.book) (stand.book (sym stand.closed ∙ h.0)) h.2)
 
   pub read_told : {E : Type 0} (old : Seen D) (result : Result (Result (List Record) AppendFault) E) → s ≡ old → IfOk result (ReadBack dev.storage s.journal j) → dev.armed j.disk ≡ dev.armed s.journal.disk
-      → LeftAlike (dev.left s.journal.disk) (dev.left j.disk) → IfOk result (ReadsUnder (dev.armed s.journal.disk)) → IfOk result (λ came. SlotAsked dev old Read (reading_by came) (record s { journal = j }))
+      → LeftAlike (dev.left s.journal.disk) (dev.left j.disk) → IfOk result (ReadsUnder (dev.armed s.journal.disk)) → IfOk result (λ came. SlotAnswers dev old Read (reading_by came) (record s { journal = j }))
   read_told old (Ok came) same read arm left under = read_asked old came same read arm left under
   read_told old (Err e) same read arm left under = tt
 
   -- memory was short for one
-  pub unread_asked : (old : Seen D) → s ≡ old → Rests dev.storage s.journal j → dev.armed j.disk ≡ dev.armed s.journal.disk → LeftAlike (dev.left s.journal.disk) (dev.left j.disk) → SlotAsked dev old Read (reading_in old) (record s { journal = j })
+  pub unread_asked : (old : Seen D) → s ≡ old → Rests dev.storage s.journal j → dev.armed j.disk ≡ dev.armed s.journal.disk → LeftAlike (dev.left s.journal.disk) (dev.left j.disk) → SlotAnswers dev old Read (reading_in old) (record s { journal = j })
   unread_asked old same rests arm left =
-      subst (λ o. SlotAsked dev o Read (reading_in o) (record s { journal = j })) same (λ shelf stand. inl (by shelf shelf.is_closed refl stand, rests_on shelf stand rests arm left))
+      subst (λ o. SlotAnswers dev o Read (reading_in o) (record s { journal = j })) same (λ shelf stand. inl (by shelf shelf.is_closed refl stand, rests_on shelf stand rests arm left))
     where
       by : (shelf : Shelf) (b : Bool) → shelf.is_closed ≡ b → ShelfStands dev s shelf → reading_in s ≡ reading_of shelf
       by shelf true e stand =
-          ap (λ b. if b then Shut else reading_told s.journal.book) (stand.closed ∙ e) ∙ sym (ap (λ b. if b then Shut else Book shelf.book) e)
+          ap (λ b. if b then Shut else reading_of_book s.journal.book) (stand.closed ∙ e) ∙ sym (ap (λ b. if b then Shut else Book shelf.book) e)
       by shelf false e stand =
-          ap (λ b. if b then Shut else reading_told s.journal.book) (stand.closed ∙ e) ∙ ap reading_told (stand.book e) ∙ ap Book (reverse-reverse shelf.book) ∙ sym (read_is shelf e)
+          ap (λ b. if b then Shut else reading_of_book s.journal.book) (stand.closed ∙ e) ∙ ap reading_of_book (stand.book e) ∙ ap Book (reverse-reverse shelf.book) ∙ sym (read_is shelf e)
 
   -- a save
   saved_by : (after : Flusher) (batch : Batch) (came : Result (Unit {0}) AppendFault) → SavedBy dev.storage (Rows batch) after s.journal j came → AppendedUnder dev.storage dev.armed dev.left (Rows batch) s.journal j (append_of (Rows batch) came)
@@ -283,10 +283,10 @@ module _ {D : Type 0} (dev : Device D) (s : Seen D) (j : JournalState D) where
       gone (fault.Damaged place) h = absurd h
 
   pub saves_slot : (old : Seen D) (after : Flusher) (came : Result (Unit {0}) AppendFault) (wrote : Wrote) → s ≡ old → wrote ≡ wrote_of (fate_by came) → Saved dev.storage s.flusher after s.journal j came
-      → SavedUnder dev.storage dev.armed dev.left s.flusher s.journal j came → SavesSlot dev old.flusher old (record s { journal = j; flusher = after }) (fate_told wrote)
+      → SavedUnder dev.storage dev.armed dev.left s.flusher s.journal j came → SavesSlot dev old.flusher old (record s { journal = j; flusher = after }) (fate_of_wrote wrote)
   saves_slot old after came wrote same said saved under =
-      subst (λ o. SavesSlot dev o.flusher o (record s { journal = j; flusher = after }) (fate_told wrote)) same
-      (subst (λ f. SavesSlot dev s.flusher s (record s { journal = j; flusher = after }) f) (sym (told_back (fate_by came)) ∙ sym (ap fate_told said)) (by s.flusher saved under))
+      subst (λ o. SavesSlot dev o.flusher o (record s { journal = j; flusher = after }) (fate_of_wrote wrote)) same
+      (subst (λ f. SavesSlot dev s.flusher s (record s { journal = j; flusher = after }) f) (sym (told_back (fate_by came)) ∙ sym (ap fate_of_wrote said)) (by s.flusher saved under))
     where
       by : (f : Flusher) → Saved dev.storage f after s.journal j came → SavedUnder dev.storage dev.armed dev.left f s.journal j came → SavesSlot dev f s (record s { journal = j; flusher = after }) (fate_by came)
       by flusher.Idle h under = absurd h

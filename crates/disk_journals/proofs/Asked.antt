@@ -5,9 +5,9 @@ use Rattle.std.specs.List.{position}
 use Rattle.vb_calls.specs.Jobs.{Job, Request, BeganJob, IsUnasked}
 use Rattle.vb_calls.specs.declared.calls.VbCall.{VbCall}
 use Rattle.vb_calls.specs.declared.calls.VbReply.{VbReply}
-use Rattle.vb_calls.specs.Shelves.{Ask, Look, Keep, Got, Flush, Shelf, Shelves, asked_shelf, with_shelf_at, no_answer, ask_at}
+use Rattle.vb_calls.specs.Shelves.{Ask, Look, Keep, Got, Flush, Shelf, Shelves, shelf_step, with_shelf_at, no_answer, ask_at}
 use Rattle.vb_disk.specs.declared.fuse.Fuse.{Fuse}
-use Rattle.disk_journals.specs.Asking.{FailsThere, IsFailure, failed_shelf, failed_at, SlotAsked, SlotUnasked, disk_asks}
+use Rattle.disk_journals.specs.Asking.{FailsThere, IsFailure, failed_shelf, failed_at, SlotAnswers, SlotUnasked, disk_asks}
 use Rattle.disk_journals.specs.Devices.{Device}
 use Rattle.disk_journals.specs.Seen.{Seen, place_in, seen_at, flush_of, flush_in, flush_at}
 use Rattle.disk_journals.specs.Stands.{LeavesAs, ShelfStands, StandsThere, ShelvesStand}
@@ -48,11 +48,11 @@ module _ {D : Type 0} (dev : Device D) where
       let e : shelves v ≡ None = none_there (shelves v) (subst (λ o. StandsThere dev o (shelves v)) none (stand v)) in
       subst (λ o. AnsweredBy slots v ask (no_answer ask) slots shelves o) (sym e) (inl (refl, stand))
 
-  module _ (slots others : List (Seen D)) (v : ℕ) (ask : Ask) (got : Got ask) (old new : Seen D) (there : seen_at slots v ≡ Some old) (changed : Changed slots others v new) (asked : SlotAsked dev old ask got new) where
+  module _ (slots others : List (Seen D)) (v : ℕ) (ask : Ask) (got : Got ask) (old new : Seen D) (there : seen_at slots v ≡ Some old) (changed : Changed slots others v new) (asked : SlotAnswers dev old ask got new) where
     some_by : (shelves : Shelves) → ShelvesStand dev slots shelves → (o : Option Shelf) → StandsThere dev (Some old) o → AnsweredBy slots v ask got others shelves o
     some_by shelves stand None h = absurd h
     some_by shelves stand (Some shelf) h = elim (asked shelf h) [
-      | inl plain ↦ inl (plain.0, with_one slots others shelves v new (asked_shelf shelf ask).0 changed stand plain.1)
+      | inl plain ↦ inl (plain.0, with_one slots others shelves v new (shelf_step shelf ask).0 changed stand plain.1)
       | inr failed ↦ inr (
         subst (λ o. FailsThere dev o (seen_at others v)) (sym there)
             (subst (λ o. FailsThere dev (Some old) o) (sym (changed_here slots others v new changed)) failed.0),
@@ -72,7 +72,7 @@ module _ {D : Type 0} (dev : Device D) where
   unplaced_asked slots v ask none = none_asked slots v ask (no_place slots v (sym none))
 
   -- by its place
-  pub placed_asked : (slots inside : List (Seen D)) (v i : ℕ) (ask : Ask) (got : Got ask) (old new : Seen D) → Some i ≡ place_in slots v → inside ≡ slots → old ≡ get_or inside i old → new.number ≡ old.number → SlotAsked dev old ask got new → disk_asks dev slots v ask got (set inside i new)
+  pub placed_asked : (slots inside : List (Seen D)) (v i : ℕ) (ask : Ask) (got : Got ask) (old new : Seen D) → Some i ≡ place_in slots v → inside ≡ slots → old ≡ get_or inside i old → new.number ≡ old.number → SlotAnswers dev old ask got new → disk_asks dev slots v ask got (set inside i new)
   unfolding place_in
   placed_asked slots inside v i ask got old new here same is number asked =
       let place : position (λ (s : Seen D). s.number == v) slots ≡ Some i = sym here in
@@ -98,7 +98,7 @@ module _ {D : Type 0} (dev : Device D) where
           (some_asked slots slots v Look (flush_of s.flusher) s s e (unchanged slots v s e) (λ shelf stand. inl (stand.flush, stand)))
 
   -- the batch on its way is kept
-  pub keeps : (s : Seen D) (flush : Flush) (flusher : Flusher) → flush_of flusher ≡ flush → SlotAsked dev s (Keep flush) tt (record s { flusher = flusher })
+  pub keeps : (s : Seen D) (flush : Flush) (flusher : Flusher) → flush_of flusher ≡ flush → SlotAnswers dev s (Keep flush) tt (record s { flusher = flusher })
   keeps s flush flusher e shelf stand =
       inl (refl, record { closed = stand.closed; book = stand.book; flush = e; arm = stand.arm; leaves = leaves_alike s shelf flush stand.leaves })
 

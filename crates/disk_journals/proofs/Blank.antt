@@ -22,9 +22,9 @@ told_book : (held : Option (List ℕ)) → IsSome held → option_map (λ (bytes
 told_book None told = cc
 told_book (Some bytes) told = refl
 
-opens_zero : (held left : Option (List ℕ)) → IfSome held (λ bytes. bytes ≡ 0 ∷ []) → left ≡ held → IfSome left (OpensTo [])
-opens_zero None left zero same = subst (λ o. IfSome o (OpensTo [])) (sym same) tt
-opens_zero (Some bytes) left zero same = subst (λ o. IfSome o (OpensTo [])) (sym same) (subst (λ b. OpensTo [] b) (sym zero) zero_opens)
+opens_if_zero : (held left : Option (List ℕ)) → IfSome held (λ bytes. bytes ≡ 0 ∷ []) → left ≡ held → IfSome left (OpensTo [])
+opens_if_zero None left zero same = subst (λ o. IfSome o (OpensTo [])) (sym same) tt
+opens_if_zero (Some bytes) left zero same = subst (λ o. IfSome o (OpensTo [])) (sym same) (subst (λ b. OpensTo [] b) (sym zero) zero_opens)
 
 module _ {D : Type 0} (dev : Device D) where
   -- a blank one, on a disk as it was made that tells its bytes
@@ -40,4 +40,4 @@ module _ {D : Type 0} (dev : Device D) where
     where
       by : (o : Option Fuse) → IfSome o (λ f. IsSettledEach (dev.storage disk).held (dev.left disk)) → IfSome o (λ f. LeavesAs dev (record { disk = disk; book = option_map (λ bytes. []) (dev.storage disk).held; closed = false }) (blank_under (fuse_over (dev.armed disk))))
       by None h = tt
-      by (Some f) h = record { late = λ e. refl; settled = λ e. h; left = λ out. opens_zero (dev.storage disk).held (dev.left disk out) made.zero_byte (h out) }
+      by (Some f) h = record { late = λ e. refl; settled = λ e. h; left = λ out. opens_if_zero (dev.storage disk).held (dev.left disk out) made.zero_byte (h out) }

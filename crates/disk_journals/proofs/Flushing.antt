@@ -1,6 +1,6 @@
 -- how the steps of writing down run
 use Rattle.std.proofs.Common.{◌≡◌, inl, inr, ℕ, List, refl, sym, subst, Option, Some, None}
-use Rattle.vb_calls.specs.Flushes.{all_job, batch_told, finish_job, save_all_job, save_job, take_job, taken_job, took_nothing, part_job, flush_job}
+use Rattle.vb_calls.specs.Flushes.{all_job, batch_of_reply, finish_job, save_all_job, save_job, take_job, taken_job, took_nothing, part_job, flush_job}
 use Rattle.vb_calls.specs.Jobs.{Job, Call, RanJob, BeganJob}
 use Rattle.vb_calls.specs.Shelves.{Ask, Append, Keep, Got, Flush, Idle, Out, Written, Stood, WasClosed}
 use Rattle.vb_calls.specs.declared.calls.VbCall.{VbCall}
@@ -28,21 +28,21 @@ stage_idle (Written seq) e = cc
 
 module _ {W J : Type 0} (step : W → ℕ → VbCall → Option VbReply → W → Type 0) (asks : J → ℕ → (ask : Ask) → Got ask → J → Type 0) where
   -- there was nothing to take
-  pub took_none : (v : ℕ) (k : Batch → Job Flushed) (w : W) (j : J) (reply : Option VbReply) (w' : W) → None ≡ batch_told reply → step w v call.FlushTake reply w'
-      → RanJob step asks (Call v call.FlushTake (λ reply. taken_job v k (batch_told reply))) w j took_nothing w' j
+  pub took_none : (v : ℕ) (k : Batch → Job Flushed) (w : W) (j : J) (reply : Option VbReply) (w' : W) → None ≡ batch_of_reply reply → step w v call.FlushTake reply w'
+      → RanJob step asks (Call v call.FlushTake (λ reply. taken_job v k (batch_of_reply reply))) w j took_nothing w' j
   took_none v k w j reply w' none stepped =
       (reply, w', stepped, subst (λ o. RanJob step asks (taken_job v k o) w' j took_nothing w' j) none (refl, refl, refl))
 
   -- a batch was taken
   pub took_one : (v : ℕ) (k : Batch → Job Flushed) (w : W) (j : J) (reply : Option VbReply) (batch : Batch) (w' : W) (came : Flushed) (w'' : W) (j' : J)
-      → Some batch ≡ batch_told reply → step w v call.FlushTake reply w' → RanJob step asks (taken_job v k (Some batch)) w' j came w'' j'
-      → RanJob step asks (Call v call.FlushTake (λ reply. taken_job v k (batch_told reply))) w j came w'' j'
+      → Some batch ≡ batch_of_reply reply → step w v call.FlushTake reply w' → RanJob step asks (taken_job v k (Some batch)) w' j came w'' j'
+      → RanJob step asks (Call v call.FlushTake (λ reply. taken_job v k (batch_of_reply reply))) w j came w'' j'
   took_one v k w j reply batch w' came w'' j' some stepped rest =
       (reply, w', stepped, subst (λ o. RanJob step asks (taken_job v k o) w' j came w'' j') some rest)
 
   pub took_began : (v : ℕ) (k : Batch → Job Flushed) (w : W) (j : J) (reply : Option VbReply) (batch : Batch) (w' : W) (w'' : W) (j' : J)
-      → Some batch ≡ batch_told reply → step w v call.FlushTake reply w' → BeganJob step asks (taken_job v k (Some batch)) w' j w'' j'
-      → BeganJob step asks (Call v call.FlushTake (λ reply. taken_job v k (batch_told reply))) w j w'' j'
+      → Some batch ≡ batch_of_reply reply → step w v call.FlushTake reply w' → BeganJob step asks (taken_job v k (Some batch)) w' j w'' j'
+      → BeganJob step asks (Call v call.FlushTake (λ reply. taken_job v k (batch_of_reply reply))) w j w'' j'
   took_began v k w j reply batch w' w'' j' some stepped rest =
       inr (reply, w', stepped, subst (λ o. BeganJob step asks (taken_job v k o) w' j w'' j') some rest)
 

@@ -2,11 +2,11 @@
 use Rattle.std.proofs.Common.{◌≡◌, ◌⊎◌, inl, inr, ℕ, true, false, List, ◌∷◌, refl, ap, sym, ◌∙◌, subst, Option, Some, None}
 use Rattle.std.specs.Prelude.{◌≢◌, if◌then◌else◌}
 use Rattle.std.proofs.lemmas.Bool.{eq-eqb}
-use Rattle.vb_calls.specs.Flushes.{flush_job, roll_job, part_job, taken_job, took, save_job, appended_job, read_job, batch_told}
+use Rattle.vb_calls.specs.Flushes.{flush_job, roll_job, part_job, taken_job, took, save_job, appended_job, read_job, batch_of_reply}
 use Rattle.vb_calls.specs.Flushing.{batch_of, unflushed_span, flush_from}
 use Rattle.vb_calls.specs.Jobs.{Job, Ended, Call, Request, RanJob, after_job}
 use Rattle.vb_calls.specs.Plain.{plain_step}
-use Rattle.vb_calls.specs.Shelves.{Ask, Append, Look, Keep, Got, Flush, Idle, Out, Written, Fate, Stood, WasClosed, DiskFailed, Reading, Book, Shut, Unread, Broken, Shelf, Shelves, after_fate, fate_of, ask_at, asked_shelf, with_shelf_at}
+use Rattle.vb_calls.specs.Shelves.{Ask, Append, Look, Keep, Got, Flush, Idle, Out, Written, Fate, Stood, WasClosed, DiskFailed, Reading, Book, Shut, Unread, Broken, Shelf, Shelves, after_fate, fate_of, ask_at, shelf_step, with_shelf_at}
 use Rattle.vb_calls.specs.State.{Plain}
 use Rattle.vb_calls.specs.States.{States, call_at, with_vb_at}
 use Rattle.vb_calls.specs.declared.calls.VbCall.{VbCall}
@@ -37,7 +37,7 @@ put_here shelves v shelf = ap (λ b. if b then Some shelf else shelves v) (eq-eq
 
 -- a request of a job over plain journals, by what stands there
 requested : {A : Type 0} (v : ℕ) (ask : Ask) (next : Got ask → Job A) (states : States) (shelves : Shelves) (shelf : Shelf) → shelves v ≡ Some shelf
-    → after_job (Request v ask next) states shelves ≡ after_job (next (asked_shelf shelf ask).1) states (with_shelf_at shelves v (asked_shelf shelf ask).0)
+    → after_job (Request v ask next) states shelves ≡ after_job (next (shelf_step shelf ask).1) states (with_shelf_at shelves v (shelf_step shelf ask).0)
 requested v ask next states shelves shelf e = ap (λ (o : Option Shelf). after_job (next (ask_at shelves v ask o).1) states (ask_at shelves v ask o).0) e
 
 called : {A : Type 0} (v : ℕ) (c : VbCall) (next : Option VbReply → Job A) (states : States) (shelves : Shelves) (vb : Plain) → states v ≡ Some vb
@@ -51,7 +51,7 @@ unfolding flush_job
 taken_law states shelves v vb span shelf here there idle unflushed =
     let batch : Batch = batch_of vb span in
     let one : Shelves = with_shelf_at shelves v shelf in
-    let k : Option VbReply → Job Flushed = λ reply. taken_job v (λ (b : Batch). Ended (took b)) (batch_told reply) in
+    let k : Option VbReply → Job Flushed = λ reply. taken_job v (λ (b : Batch). Ended (took b)) (batch_of_reply reply) in
     let P : (States × Shelves) × Flushed → Type 0 = λ r. LeavesShelf v r.0 (record shelf { flush = Out batch }) in
     subst P (sym (requested v Look (part_job v part.Take) states shelves shelf there))
     (subst (λ (f : Flush). P (after_job (part_job v part.Take f) states one)) (sym idle)
@@ -143,12 +143,12 @@ module _ {D : Type 0} (dev : Device D) where
 
   -- what is known of a request, at the journal that was asked
   asks_here : (old : List (Seen D)) (v : ℕ) (ask : Ask) (got : Got ask) (new : List (Seen D)) (shelf : Shelf) → disk_asks dev old v ask got new → StandsAt dev old v shelf
-      → ((got ≡ (asked_shelf shelf ask).1) × StandsAt dev new v (asked_shelf shelf ask).0) ⊎ (IsFailure ask got × StandsAt dev new v (failed_shelf shelf ask))
+      → ((got ≡ (shelf_step shelf ask).1) × StandsAt dev new v (shelf_step shelf ask).0) ⊎ (IsFailure ask got × StandsAt dev new v (failed_shelf shelf ask))
   unfolding disk_asks
   asks_here old v ask got new shelf asks at = elim (asks at.shelves at.stands) [
     | inl plain ↦ inl (
       plain.0 ∙ ap (λ (o : Option Shelf). (ask_at at.shelves v ask o).1) at.here,
-      stands_at new v at.shelves (asked_shelf shelf ask).0 (subst (λ (o : Option Shelf). ShelvesStand dev new (ask_at at.shelves v ask o).0) at.here plain.1),
+      stands_at new v at.shelves (shelf_step shelf ask).0 (subst (λ (o : Option Shelf). ShelvesStand dev new (ask_at at.shelves v ask o).0) at.here plain.1),
     )
     | inr failed ↦ inr (
       failed.1,

@@ -8,7 +8,7 @@ use Rattle.vb_calls.specs.Shelves.{Flush, Idle, Out, Written, Keep}
 use Rattle.vb_calls.specs.declared.journals.Wrote.{Wrote}
 use Rattle.disk_journals.specs.declared.slot.Stage.{Stage}
 use Rattle.disk_journals.specs.declared.slot.Stage.TheVariants as stage
-use Rattle.disk_journals.specs.Asking.{disk_asks, fate_told}
+use Rattle.disk_journals.specs.Asking.{disk_asks, fate_of_wrote}
 use Rattle.disk_journals.specs.Saving.{SavesSlot, SavedAt, UnsavedAt, written_in}
 use Rattle.disk_journals.specs.Devices.{Device}
 use Rattle.disk_journals.specs.Seen.{Seen, place_in, flush_of, flush_at, stage_of}
@@ -58,7 +58,7 @@ module _ {D : Type 0} (dev : Device D) where
       (placed_asked dev slots inside v i (Keep Idle) tt s (record s { flusher = flusher.Idle }) here same is refl (keeps dev s Idle flusher.Idle refl))
 
   module _ (slots inside : List (Seen D)) (v i : ℕ) (wrote : Wrote) (s new : Seen D) (here : Some i ≡ place_in slots v) (same : inside ≡ slots) (is : s ≡ get_or inside i s) (number : new.number ≡ s.number) where
-    saved_by : (f : Flusher) → s.flusher ≡ f → SavesSlot dev f s new (fate_told wrote) → SavedAt dev (flush_of f) slots v (Some wrote) (set inside i new)
+    saved_by : (f : Flusher) → s.flusher ≡ f → SavesSlot dev f s new (fate_of_wrote wrote) → SavedAt dev (flush_of f) slots v (Some wrote) (set inside i new)
     saved_by flusher.Idle e saved = absurd saved
     saved_by (flusher.Out batch) e saved =
         let mid : Seen D = record new { flusher = s.flusher } in
@@ -76,7 +76,7 @@ module _ {D : Type 0} (dev : Device D) where
     saved_by (flusher.Written receipt) e saved = absurd saved
 
     -- the batch that was taken was saved
-    pub saved_at : SavesSlot dev s.flusher s new (fate_told wrote) → SavedAt dev (flush_at slots v) slots v (Some wrote) (set inside i new)
+    pub saved_at : SavesSlot dev s.flusher s new (fate_of_wrote wrote) → SavedAt dev (flush_at slots v) slots v (Some wrote) (set inside i new)
     saved_at saved =
         subst (λ f. SavedAt dev f slots v (Some wrote) (set inside i new)) (sym (flush_here slots inside v i s here same is))
         (saved_by s.flusher refl saved)

@@ -1,6 +1,6 @@
 -- arms and crashes in numbers, and in other words
 use Rattle.std.specs.Prelude.{◌≡◌, ℕ, ◌==◌, ◌<◌, ◌≤◌, true, false, List, ◌∷◌, Option, None, Some, find, option_map}
-use Rattle.vb_calls.specs.Shelves.{Append, Shelf, asked_shelf, left_book, open_shelf}
+use Rattle.vb_calls.specs.Shelves.{Append, Shelf, shelf_step, left_book, open_shelf}
 use Rattle.vb_disk.specs.declared.fuse.Fuse.{Fuse}
 use Rattle.vb_disk.specs.declared.fuse.Fuse.TheVariants.{Off, Stop, Fail}
 use Rattle.vb_disk.specs.declared.made.Outcome.TheVariants.{Old, New, Fill}
@@ -11,7 +11,7 @@ use Rattle.disk_journals.specs.declared.crash.TheConstants.{NUMBERS}
 
 -- an open journal with these records after an append under this arm
 abbrev pub appended_under : Fuse → List Record → Record → Shelf
-appended_under f book r = (asked_shelf (under f (open_shelf book)) (Append r)).0
+appended_under f book r = (shelf_step (under f (open_shelf book)) (Append r)).0
 
 -- the same, where it is closed from then on, its records are those from before, and this is the record that a crash may find
 pub record IsBroken (f : Fuse) (records : List Record) (r : Record) (to_find : Option Record) : Type 0 where

@@ -1,7 +1,7 @@
 -- what is known of a request to journals on disks
 use Rattle.std.specs.Prelude.{◌≡◌, ◌⊎◌, ℕ, if◌then◌else◌, List, reverse, Option, Some, None, Result, Ok, Err}
 use Rattle.vb_disk.specs.Counts.{Rose}
-use Rattle.vb_calls.specs.Shelves.{Ask, Append, Read, Look, Keep, Got, Fate, Stood, WasClosed, DiskFailed, Reading, Book, Shut, Unread, Broken, Shelf, Shelves, after_fate, asked_shelf, with_shelf_at, shelves_step}
+use Rattle.vb_calls.specs.Shelves.{Ask, Append, Read, Look, Keep, Got, Fate, Stood, WasClosed, DiskFailed, Reading, Book, Shut, Unread, Broken, Shelf, Shelves, after_fate, shelf_step, with_shelf_at, shelves_step}
 use Rattle.vb_calls.specs.declared.journals.Wrote.{Wrote}
 use Rattle.vb_calls.specs.declared.journals.Wrote.TheVariants as wrote
 use Rattle.vb_journal.specs.declared.fault.AppendFault.{AppendFault}
@@ -20,11 +20,11 @@ fate_by (Err fault.DiskFailed) = DiskFailed
 fate_by (Err (fault.Damaged place)) = DiskFailed
 
 -- the same of what was said of it
-abbrev pub fate_told : Wrote → Fate
-fate_told wrote.Stood = Stood
-fate_told wrote.NotAsked = WasClosed
-fate_told wrote.Closed = WasClosed
-fate_told wrote.DiskFailed = DiskFailed
+abbrev pub fate_of_wrote : Wrote → Fate
+fate_of_wrote wrote.Stood = Stood
+fate_of_wrote wrote.NotAsked = WasClosed
+fate_of_wrote wrote.Closed = WasClosed
+fate_of_wrote wrote.DiskFailed = DiskFailed
 
 -- what was read
 abbrev pub reading_by : Result (List Record) AppendFault → Reading
@@ -34,12 +34,12 @@ reading_by (Err fault.DiskFailed) = Unread
 reading_by (Err (fault.Damaged place)) = Broken place
 
 -- what would be read of a journal, where its disk tells its records
-abbrev pub reading_told : Option (List Record) → Reading
-reading_told None = Unread
-reading_told (Some records) = Book (reverse records)
+abbrev pub reading_of_book : Option (List Record) → Reading
+reading_of_book None = Unread
+reading_of_book (Some records) = Book (reverse records)
 
 abbrev pub reading_in : {D : Type 0} → Seen D → Reading
-reading_in s = if s.journal.closed then Shut else reading_told s.journal.book
+reading_in s = if s.journal.closed then Shut else reading_of_book s.journal.book
 
 -- a journal's disk failed that tells no arm: its count rose
 pub record Fails {D : Type 0} (dev : Device D) (before now : Seen D) : Type 0 where
@@ -67,15 +67,15 @@ failed_shelf shelf Look = shelf
 failed_shelf shelf (Keep flush) = shelf
 
 -- What was asked of one journal: for each plain one that it stands for, the answer is the plain one, and it stands for the one after it; or its disk failed, which no disk does that tells its arm.
-abbrev pub SlotAsked : {D : Type 0} → Device D → Seen D → (ask : Ask) → Got ask → Seen D → Type 0
-SlotAsked dev old ask got new =
+abbrev pub SlotAnswers : {D : Type 0} → Device D → Seen D → (ask : Ask) → Got ask → Seen D → Type 0
+SlotAnswers dev old ask got new =
     (shelf : Shelf) → ShelfStands dev old shelf
-    → ((got ≡ (asked_shelf shelf ask).1) × ShelfStands dev new (asked_shelf shelf ask).0)
+    → ((got ≡ (shelf_step shelf ask).1) × ShelfStands dev new (shelf_step shelf ask).0)
     ⊎ (Fails dev old new × IsFailure ask got × ShelfStands dev new (failed_shelf shelf ask))
 
 -- Nothing was asked of it, as memory was short: what is known of it is what is known where the batch on its way was looked at.
 abbrev pub SlotUnasked : {D : Type 0} → Device D → Seen D → Seen D → Type 0
-SlotUnasked dev old new = SlotAsked dev old Look (flush_of old.flusher) new
+SlotUnasked dev old new = SlotAnswers dev old Look (flush_of old.flusher) new
 
 -- the plain journals after the disk of the one at v failed
 abbrev pub failed_at : Shelves → ℕ → Ask → Option Shelf → Shelves

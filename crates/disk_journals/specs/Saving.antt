@@ -7,7 +7,7 @@ use Rattle.vb_calls.specs.Shelves.{Append, Keep, Flush, Idle, Out, Written, Fate
 use Rattle.vb_calls.specs.declared.journals.Wrote.{Wrote}
 use Rattle.vb_types.specs.declared.journal.Batch.{Batch}
 use Rattle.vb_types.specs.declared.journal.Record.TheVariants.{Rows}
-use Rattle.disk_journals.specs.Asking.{SlotAsked, disk_asks, fate_told}
+use Rattle.disk_journals.specs.Asking.{SlotAnswers, disk_asks, fate_of_wrote}
 use Rattle.disk_journals.specs.Devices.{Device}
 use Rattle.disk_journals.specs.Seen.{Seen, flush_of, flush_at}
 
@@ -19,7 +19,7 @@ left_by batch DiskFailed = Idle
 
 -- a batch was appended, or it could not be, and then it was no more to be
 pub record SlotSaved {D : Type 0} (dev : Device D) (batch : Batch) (old new : Seen D) (fate : Fate) : Type 0 where
-  pub appended : SlotAsked dev old (Append (Rows batch)) fate (record new { flusher = old.flusher })
+  pub appended : SlotAnswers dev old (Append (Rows batch)) fate (record new { flusher = old.flusher })
   pub left : flush_of new.flusher ≡ left_by batch fate
 
 -- the batch that was taken was saved so
@@ -38,7 +38,7 @@ pub record BatchSaved {D : Type 0} (dev : Device D) (batch : Batch) (old : List 
 -- the batch that was taken was saved so, if there is one
 abbrev pub SavedAt : {D : Type 0} → Device D → Flush → List (Seen D) → ℕ → Option Wrote → List (Seen D) → Type 0
 SavedAt dev (Out batch) old v None new = ⊥
-SavedAt dev (Out batch) old v (Some wrote) new = BatchSaved dev batch old v new (fate_told wrote)
+SavedAt dev (Out batch) old v (Some wrote) new = BatchSaved dev batch old v new (fate_of_wrote wrote)
 SavedAt dev Idle old v None new = new ≡ old
 SavedAt dev Idle old v (Some wrote) new = ⊥
 SavedAt dev (Written seq) old v None new = new ≡ old

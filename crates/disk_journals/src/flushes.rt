@@ -1,7 +1,7 @@
 //! The steps of writing a vBucket down.
 ghost use Rattle.std.specs.Prelude.{◌≡◌, true, IfOk, IfSome, OnErr};
 ghost use Rattle.{disk_journals.specs.Asking.{disk_asks}, disk_journals.specs.Devices.{device}, disk_journals.specs.Seen.{flush_at}, disk_journals.specs.Steps.{flushed_by, rest_job}};
-ghost use Rattle.{vb_calls.specs.Flushes.{all_job, batch_told, finish_job, save_all_job, take_job, taken_job, took, took_nothing}, vb_calls.specs.Jobs.{RanJob, BeganJob}};
+ghost use Rattle.{vb_calls.specs.Flushes.{all_job, batch_of_reply, finish_job, save_all_job, take_job, taken_job, took, took_nothing}, vb_calls.specs.Jobs.{RanJob, BeganJob}};
 ghost use Rattle.{vb_calls.specs.Programs.{IsReply}, vb_calls.specs.Shelves.{Idle}, vb_calls.specs.declared.calls.VbCall.TheVariants.{FlushTake}};
 ghost use Rattle.{vb_journal.specs.Payloads.{is_writable}, vb_types.specs.declared.journal.Record.TheVariants.{Rows}};
 
@@ -13,9 +13,9 @@ use vb_disk::Disk;
 use vb_types::{Batch, Position};
 
 /// The batch of a reply to a take, if there is one.
-fn batch_told(reply: Option<VbReply>) -> Option<Batch>
+fn batch_of_reply(reply: Option<VbReply>) -> Option<Batch>
     requires { IsReply FlushTake reply }
-    ensures batch { result ≡ batch_told reply }
+    ensures batch { result ≡ batch_of_reply reply }
     ensures writable { IfSome result (λ batch. is_writable (Rows batch) ≡ true) }
 {
     let VbReply { answer, .. } = reply?;
@@ -83,7 +83,7 @@ impl<D: Disk> DiskJournals<D> {
         ensures err { OnErr result (BeganJob A.step (disk_asks (device D.storage D.crashes D.armed D.left_by)) (take_job v Idle) vbs.old self.old vbs.new self.new) }
     {
         let reply = vbs.call(v, VbCall::FlushTake)?;
-        match batch_told(reply) {
+        match batch_of_reply(reply) {
             None => Ok(took_nothing()),
             Some(batch) => {
                 let came = took(&batch);
@@ -133,7 +133,7 @@ impl<D: Disk> DiskJournals<D> {
         ensures err { OnErr result (BeganJob A.step (disk_asks (device D.storage D.crashes D.armed D.left_by)) (all_job v Idle) vbs.old self.old vbs.new self.new) }
     {
         let reply = vbs.call(v, VbCall::FlushTake)?;
-        match batch_told(reply) {
+        match batch_of_reply(reply) {
             None => Ok(took_nothing()),
             Some(batch) => self.put_all(v, batch, vbs),
         }

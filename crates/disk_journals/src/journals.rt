@@ -4,7 +4,7 @@ ghost use Rattle.std.specs.VecDeque.{deque_len, deque_capacity};
 ghost use Rattle.disk_journals.specs.Opening.{AreEnded, seen_opened};
 ghost use Rattle.std.specs.Bool.{OnTrue, OnFalse};
 ghost use Rattle.{disk_journals.specs.Seen.{seen_at, has_seen, place_in, flush_at, stage_of}, disk_journals.specs.{Devices.{device, fuse_over}, Stands.{IsBlank, ShelvesStand, blank_under}}};
-ghost use Rattle.disk_journals.specs.Asking.{disk_asks, fate_told, reading_by};
+ghost use Rattle.disk_journals.specs.Asking.{disk_asks, fate_of_wrote, reading_by};
 ghost use Rattle.disk_journals.specs.Saving.{SavedAt, UnsavedAt, written_in};
 ghost use Rattle.{vb_calls.specs.Flushes.{wrote_of}, vb_calls.specs.Jobs.{IsUnasked}, vb_calls.specs.Shelves.{Append, Read, Keep, Idle, Out, Got, Reading, Shelves, with_shelf_at}};
 ghost use Rattle.{vb_disk.specs.{Crashes.{IsSettled}, Disks.{IsAsMade}}, vb_journal.specs.Payloads.{is_writable}, vb_types.specs.declared.journal.Record.TheVariants.{Rows}};
@@ -83,8 +83,8 @@ impl<D: Disk> DiskJournals<D> {
     #[tactic(auto, using(crate::proofs::Asked::asked))]
     pub(crate) fn note(&mut self, v: u16, what: &Record) -> Result<Wrote, AllocError>
         requires { is_writable what.now ≡ true }
-        ensures ok { IfOk result (λ wrote. disk_asks (device D.storage D.crashes D.armed D.left_by) self.old v (Append what.now) (fate_told wrote) self.new) }
-        ensures said { IfOk result (λ wrote. wrote ≡ wrote_of (fate_told wrote)) }
+        ensures ok { IfOk result (λ wrote. disk_asks (device D.storage D.crashes D.armed D.left_by) self.old v (Append what.now) (fate_of_wrote wrote) self.new) }
+        ensures said { IfOk result (λ wrote. wrote ≡ wrote_of (fate_of_wrote wrote)) }
         ensures err { OnErr result (IsUnasked (disk_asks (device D.storage D.crashes D.armed D.left_by)) v self.old self.new) }
     {
         match self.place(v) {

@@ -3,7 +3,7 @@ ghost use Rattle.std.specs.Prelude.{◌≡◌};
 
 use crate::DiskJournals;
 use crate::flushes::flushed_by;
-use crate::roles::role_after;
+use crate::roles::role_of_call;
 use crate::rolls::refusal_by;
 use std::alloc::AllocError;
 use vb_calls::{Flushed, Journals, Rolled, VbAccess, VbCall, VbReply, Wrote};
@@ -49,7 +49,7 @@ impl<D: Disk> Journals for DiskJournals<D> {
         call: VbCall,
         vbs: &mut A,
     ) -> Result<(Option<VbReply>, Wrote), AllocError> {
-        let role = role_after(&call);
+        let role = role_of_call(&call);
         match vbs.call(v, call)? {
             None => Ok((None, Wrote::NotAsked)),
             Some(reply) => self.note_made(v, role, reply, vbs),

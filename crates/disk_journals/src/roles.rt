@@ -1,7 +1,7 @@
 //! Changes of role.
 ghost use Rattle.std.specs.Prelude.{◌≡◌, ◌≤◌, length, Some, IfOk, OnErr};
 ghost use Rattle.{disk_journals.specs.Asking.{disk_asks}, disk_journals.specs.Devices.{device}, disk_journals.specs.Steps.{IsLasting, made_job}};
-ghost use Rattle.{vb_calls.specs.Flushes.{IsRoleCall, is_refusal, log_told, note_role_job, role_after}, vb_calls.specs.Jobs.{RanJob, BeganJob, Call}};
+ghost use Rattle.{vb_calls.specs.Flushes.{IsRoleCall, is_refusal, log_of_reply, note_role_job, role_of_call}, vb_calls.specs.Jobs.{RanJob, BeganJob, Call}};
 ghost use Rattle.{vb_calls.specs.Programs.{IsReply}, vb_calls.specs.declared.calls.VbCall.TheVariants.{Log}, vb_calls.specs.declared.calls.VbReply.{VbReply as Told}};
 
 use crate::DiskJournals;
@@ -12,9 +12,9 @@ use vb_journal::Record;
 use vb_types::{Listed, LogEntry, Role};
 
 /// The role that a call gives.
-pub(crate) fn role_after(call: &VbCall) -> Role
+pub(crate) fn role_of_call(call: &VbCall) -> Role
     requires { IsRoleCall call.now }
-    ensures role { result ≡ role_after call.now }
+    ensures role { result ≡ role_of_call call.now }
     ensures lasting { IsLasting result }
 {
     match call {
@@ -33,9 +33,9 @@ fn is_refusal(reply: &VbReply) -> bool
 }
 
 /// The failover log of a reply.
-fn log_told(alloc: Global, reply: Option<VbReply>) -> Listed<LogEntry>
+fn log_of_reply(alloc: Global, reply: Option<VbReply>) -> Listed<LogEntry>
     requires { IsReply Log reply }
-    ensures log { result ≡ log_told reply }
+    ensures log { result ≡ log_of_reply reply }
     ensures short { length result ≤ 25 }
 {
     let Some(VbReply { answer, .. }) = reply else {
@@ -101,7 +101,7 @@ impl<D: Disk> DiskJournals<D> {
         ensures err { OnErr result ((reply : Told) → BeganJob A.step (disk_asks (device D.storage D.crashes D.armed D.left_by)) (Call v Log (note_role_job v role reply)) vbs.old self.old vbs.new self.new) }
     {
         let logged = vbs.call(v, VbCall::Log)?;
-        let log = log_told(self.alloc, logged);
+        let log = log_of_reply(self.alloc, logged);
         let wrote = self.note(v, &Record::State { role, log })?;
         Ok(wrote)
     }

@@ -3,7 +3,7 @@ ghost use Rattle.std.specs.Prelude.{◌≡◌, reverse, Option, IfOk, OnErr, OnO
 ghost use Rattle.{vb_calls.specs.Flushes.{wrote_of}, vb_calls.specs.Jobs.{IsUnasked}, vb_calls.specs.Shelves.{Append, Idle, Keep}};
 ghost use Rattle.vb_calls.specs.declared.calls.{VbCall.TheVariants.{RollTo}, VbReply.{VbReply as Told}};
 ghost use Rattle.vb_types.specs.declared.journal.Record.TheVariants.{Roll};
-ghost use Rattle.{disk_journals.specs.Asking.{disk_asks, fate_told}, disk_journals.specs.Devices.{device}, disk_journals.specs.Steps.{roll_refusal, unread}};
+ghost use Rattle.{disk_journals.specs.Asking.{disk_asks, fate_of_wrote}, disk_journals.specs.Devices.{device}, disk_journals.specs.Steps.{roll_refusal, unread}};
 ghost use Rattle.{vb_calls.specs.Flushes.{note_roll_job, read_job}, vb_calls.specs.Jobs.{RanJob, BeganJob, Request}, vb_calls.specs.Shelves.{Read, Book}};
 
 use crate::DiskJournals;
@@ -151,8 +151,8 @@ impl<D: Disk> DiskJournals<D> {
     /// Writes a rollback down.
     #[tactic(auto, using(crate::proofs::Writable::writable))]
     fn note_roll(&mut self, v: u16, to: u64) -> Result<Wrote, AllocError>
-        ensures ok { IfOk result (λ wrote. disk_asks (device D.storage D.crashes D.armed D.left_by) self.old v (Append (Roll to)) (fate_told wrote) self.new) }
-        ensures said { IfOk result (λ wrote. wrote ≡ wrote_of (fate_told wrote)) }
+        ensures ok { IfOk result (λ wrote. disk_asks (device D.storage D.crashes D.armed D.left_by) self.old v (Append (Roll to)) (fate_of_wrote wrote) self.new) }
+        ensures said { IfOk result (λ wrote. wrote ≡ wrote_of (fate_of_wrote wrote)) }
         ensures err { OnErr result (IsUnasked (disk_asks (device D.storage D.crashes D.armed D.left_by)) v self.old self.new) }
     {
         self.note(v, &Record::Roll { to })

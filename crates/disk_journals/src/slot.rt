@@ -1,7 +1,7 @@
 //! One journal, and the batch on its way to it.
 ghost use Rattle.std.specs.Prelude.{◌≡◌, true, false, [], IfOk, OnErr};
 ghost use Rattle.std.specs.Option.{option_map};
-ghost use Rattle.{disk_journals.specs.Opening.{IsEnded}, disk_journals.specs.Seen.{flush_of, stage_of}, disk_journals.specs.Asking.{SlotAsked, SlotUnasked, fate_by, fate_told, reading_by, reading_in}};
+ghost use Rattle.{disk_journals.specs.Opening.{IsEnded}, disk_journals.specs.Seen.{flush_of, stage_of}, disk_journals.specs.Asking.{SlotAnswers, SlotUnasked, fate_by, fate_of_wrote, reading_by, reading_in}};
 ghost use Rattle.disk_journals.specs.{Arms.{seen_under}, Devices.{device}, Saving.{SavesSlot}};
 ghost use Rattle.vb_disk.specs.declared.fuse.Fuse.TheVariants.{Off};
 ghost use Rattle.{flusher.specs.Turns.{receipt_in, without_receipt}, flusher.specs.declared.flusher.Flusher.TheVariants.{Idle, Out}};
@@ -120,8 +120,8 @@ impl<D: Disk> JournalSlot<D> {
     /// Appends a record. An `Err` changes nothing but what memory is ready for.
     pub fn append(&mut self, what: &Record) -> Result<Wrote, AllocError>
         requires { is_writable what.now ≡ true }
-        ensures ok { IfOk result (λ wrote. SlotAsked (device D.storage D.crashes D.armed D.left_by) self.old (Append what.now) (fate_told wrote) self.new) }
-        ensures said { IfOk result (λ wrote. wrote ≡ wrote_of (fate_told wrote)) }
+        ensures ok { IfOk result (λ wrote. SlotAnswers (device D.storage D.crashes D.armed D.left_by) self.old (Append what.now) (fate_of_wrote wrote) self.new) }
+        ensures said { IfOk result (λ wrote. wrote ≡ wrote_of (fate_of_wrote wrote)) }
         ensures number { self.new.number ≡ self.old.number }
         ensures flusher { self.new.flusher ≡ self.old.flusher }
         ensures err { OnErr result (SlotUnasked (device D.storage D.crashes D.armed D.left_by) self.old self.new) }
@@ -134,7 +134,7 @@ impl<D: Disk> JournalSlot<D> {
     /// changes nothing but what memory is ready for.
     pub fn save(&mut self) -> Result<Wrote, AllocError>
         requires { stage_of (flush_of self.old.flusher) ≡ Stage.Out }
-        ensures ok { IfOk result (λ wrote. SavesSlot (device D.storage D.crashes D.armed D.left_by) self.old.flusher self.old self.new (fate_told wrote)) }
+        ensures ok { IfOk result (λ wrote. SavesSlot (device D.storage D.crashes D.armed D.left_by) self.old.flusher self.old self.new (fate_of_wrote wrote)) }
         ensures number { self.new.number ≡ self.old.number }
         ensures err { OnErr result (SlotUnasked (device D.storage D.crashes D.armed D.left_by) self.old self.new) }
     {
@@ -144,8 +144,8 @@ impl<D: Disk> JournalSlot<D> {
 
     /// The records, in their order, read from the disk. An `Err` leaves them as they are.
     pub fn records(&mut self) -> Result<Result<Records, AppendFault>, AllocError>
-        ensures ok { IfOk result (λ came. SlotAsked (device D.storage D.crashes D.armed D.left_by) self.old Read (reading_by came) self.new) }
-        ensures err { OnErr result (SlotAsked (device D.storage D.crashes D.armed D.left_by) self.old Read (reading_in self.old) self.new) }
+        ensures ok { IfOk result (λ came. SlotAnswers (device D.storage D.crashes D.armed D.left_by) self.old Read (reading_by came) self.new) }
+        ensures err { OnErr result (SlotAnswers (device D.storage D.crashes D.armed D.left_by) self.old Read (reading_in self.old) self.new) }
         ensures number { self.new.number ≡ self.old.number }
     {
         self.journal.records()

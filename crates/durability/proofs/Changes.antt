@@ -97,9 +97,9 @@ rest q other ws h = ⊎_elim
     over l = ⊎_elim (λ k. k) (λ k. absurd (h (omega arith))) (cases_lt q other)
 
 -- times that are up
-late_is : (clock : ℕ) (d : Option ℕ) → is_late clock d ≡ true → (deadline : ℕ) × (d ≡ Some deadline) × (deadline ≤ clock)
-late_is clock None t = let z : false ≡ true = t in absurd (cc)
-late_is clock (Some deadline) t = (deadline, refl, leb-true deadline clock t)
+late_deadline : (clock : ℕ) (d : Option ℕ) → is_late clock d ≡ true → (deadline : ℕ) × (d ≡ Some deadline) × (deadline ≤ clock)
+late_deadline clock None t = let z : false ≡ true = t in absurd (cc)
+late_deadline clock (Some deadline) t = (deadline, refl, leb-true deadline clock t)
 
 late_from : (clock : ℕ) (w : Waiting) → IsLate clock w → is_late clock w.deadline ≡ true
 late_from clock w h = ap (is_late clock) h.1 ∙ le-leb h.0 clock h.2
@@ -115,7 +115,7 @@ some_late clock n p (w ∷ ws) r e = side (is_late clock w.deadline) refl e (som
     side : (b : Bool) → is_late clock w.deadline ≡ b → front_seq (cond b (w ∷ late clock ws) (late clock ws)) ≡ Some p → (front_seq (late clock ws) ≡ Some p → Found ws) → Found (w ∷ ws)
     side true t f more =
         let q : w.seq ≡ p = cc in
-        (w, inl refl, q, late_is clock w.deadline t, λ v i l. ⊎_elim (λ s. let z : v.seq ≡ w.seq = ap (λ (x : Waiting). x.seq) s in omega arith) (λ j. let k = waits_above w.seq ws v r.1 j in omega arith) i)
+        (w, inl refl, q, late_deadline clock w.deadline t, λ v i l. ⊎_elim (λ s. let z : v.seq ≡ w.seq = ap (λ (x : Waiting). x.seq) s in omega arith) (λ j. let k = waits_above w.seq ws v r.1 j in omega arith) i)
     side false t f more =
         let m = more f in
         (m.0, inr m.1, m.2, m.3, λ v i l. ⊎_elim (λ s. let z : true ≡ false = sym (late_from clock v l) ∙ ap (λ (x : Waiting). is_late clock x.deadline) s ∙ t in absurd (cc)) (λ j. m.4 v j l) i)

@@ -54,14 +54,14 @@ saved_for PersistMajority saved p e v = leb-true _ _ e
 pub enough_saved : (acks : ℕ → ℕ) (others : Members) (saved : ℕ) (w : Waiting) → has_enough acks others saved w ≡ true → WantsSaved w.level → w.seq ≤ saved
 enough_saved acks others saved w e = saved_for w.level saved w.seq (and_parts (leb (majority (chain_length others)) (places acks others saved w)) (is_saved_for w.level saved w.seq) e).1
 
-for_saved : (level : Level) (saved p : ℕ) → (WantsSaved level → p ≤ saved) → (is_saved_for level saved p ≡ true) × (holds_here level saved p ≡ true)
-for_saved Majority saved p h = (refl, refl)
-for_saved MajorityPersistActive saved p h = (le-leb _ _ (h tt), refl)
-for_saved PersistMajority saved p h = (le-leb _ _ (h tt), le-leb _ _ (h tt))
+saved_for_tested : (level : Level) (saved p : ℕ) → (WantsSaved level → p ≤ saved) → (is_saved_for level saved p ≡ true) × (holds_here level saved p ≡ true)
+saved_for_tested Majority saved p h = (refl, refl)
+saved_for_tested MajorityPersistActive saved p h = (le-leb _ _ (h tt), refl)
+saved_for_tested PersistMajority saved p h = (le-leb _ _ (h tt), le-leb _ _ (h tt))
 
 pub enough_from : (acks : ℕ → ℕ) (others : Members) (saved : ℕ) (w : Waiting) → (WantsSaved w.level → w.seq ≤ saved) → majority (chain_length others) ≤ length (holders acks others w.seq) + 1 → has_enough acks others saved w ≡ true
 enough_from acks others saved w h l =
-    let r = for_saved w.level saved w.seq h in
+    let r = saved_for_tested w.level saved w.seq h in
     and_from _ _ (subst (λ b. leb (majority (chain_length others)) (length (holders acks others w.seq) + cond b 1 0) ≡ true) (sym r.1) (le-leb _ _ l)) r.0
 
 pub waits_above : (n : ℕ) (ws : List Waiting) (v : Waiting) → Rises n ws → Waits v ws → n ≤ v.seq

@@ -18,9 +18,9 @@ pending_filter test e (x ∷ xs) h = kept (test x) refl h (pending_filter test e
     kept true t g more = ⊎_elim (λ i. (inl i, ap test i ∙ t)) (λ i. let r = more i in (inr r.0, r.1)) g
     kept false t g more = let r = more g in (inr r.0, r.1)
 
-pub filter_pending : (test : Pend → Bool) (e : Pend) (xs : List Pend) → IsPending e xs → test e ≡ true → IsPending e (filter test xs)
-filter_pending test e [] h t = absurd h
-filter_pending test e (x ∷ xs) h t = kept (test x) refl (filter_pending test e xs)
+pub pending_in_filter : (test : Pend → Bool) (e : Pend) (xs : List Pend) → IsPending e xs → test e ≡ true → IsPending e (filter test xs)
+pending_in_filter test e [] h t = absurd h
+pending_in_filter test e (x ∷ xs) h t = kept (test x) refl (pending_in_filter test e xs)
   where
     kept : (b : Bool) → test x ≡ b → (IsPending e xs → test e ≡ true → IsPending e (filter test xs)) → IsPending e (cond b (x ∷ filter test xs) (filter test xs))
     kept true s more = ⊎_elim (λ i. inl i) (λ i. inr (more i t)) h
@@ -95,5 +95,5 @@ due_thirds pending complete saved e i third l = ⊎_elim some none (cases_lt 0 (
 pub due_greatest : (pending : List Pend) (complete saved : ℕ) (e : Pend) → IsPending e pending → e.seq ≤ complete → ThirdsSaved pending e.seq saved → e.seq ≤ due pending complete saved
 due_greatest pending complete saved e i l t =
     greatest_above (filter (may_ack pending complete saved) pending) e
-    (filter_pending (may_ack pending complete saved) e pending i
+    (pending_in_filter (may_ack pending complete saved) e pending i
     (and_from _ _ (le-leb _ _ l) (none_from (is_bar saved e.seq) pending (λ d j. bar_none saved e.seq d d.level refl (t d j)))))

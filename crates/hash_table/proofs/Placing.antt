@@ -23,20 +23,20 @@ leveled a b e = grind (arith, nat_tests)
 le_yes : (a b : ℕ) → a ≤ b → nat_le a b ≡ true
 le_yes a b l = grind (arith, nat_tests)
 
-le_no : (a b : ℕ) → b < a → nat_le a b ≡ false
-le_no a b l = grind (arith, nat_tests)
+le_fails : (a b : ℕ) → b < a → nat_le a b ≡ false
+le_fails a b l = grind (arith, nat_tests)
 
 lt_yes : (a b : ℕ) → a < b → nat_lt a b ≡ true
 lt_yes a b l = grind (arith, nat_tests)
 
-lt_no : (a b : ℕ) → b ≤ a → nat_lt a b ≡ false
-lt_no a b l = grind (arith, nat_tests)
+lt_fails : (a b : ℕ) → b ≤ a → nat_lt a b ≡ false
+lt_fails a b l = grind (arith, nat_tests)
 
-yes_le : (a b : ℕ) → nat_le a b ≡ true → a ≤ b
-yes_le a b e = grind (arith, nat_tests)
+le_holds : (a b : ℕ) → nat_le a b ≡ true → a ≤ b
+le_holds a b e = grind (arith, nat_tests)
 
-yes_lt : (a b : ℕ) → nat_lt a b ≡ true → a < b
-yes_lt a b e = grind (arith, nat_tests)
+lt_holds : (a b : ℕ) → nat_lt a b ≡ true → a < b
+lt_holds a b e = grind (arith, nat_tests)
 
 no_lt : (a b : ℕ) → nat_lt a b ≡ false → b ≤ a
 no_lt a b e = grind (arith, nat_tests)
@@ -119,17 +119,17 @@ module _ {X : Type 0} (n : X → ℕ) where
         | true ↦ λ t.
             let at = from_ties x e t in
             ap (λ ys. ys ++ e ∷ filter p (filter high es)) (all_pass p low es (λ d u. let s = from_ties x d u in le_yes (n d) (n e) (omega arith)))
-            ∙ ap (λ zs. filter p es ++ e ∷ zs) (none_pass p high es (λ d u. let s = from_ties x d u in lt_no (n e) (n d) (omega arith)))
+            ∙ ap (λ zs. filter p es ++ e ∷ zs) (none_pass p high es (λ d u. let s = from_ties x d u in lt_fails (n e) (n d) (omega arith)))
         | false ↦ λ t. elim (nat_lt (n x) (n e)) as (λ v. nat_lt (n x) (n e) ≡ v → filter p (filter low es) ++ filter p (filter high es) ≡ filter p es ++ []) [
           | true ↦ λ l.
-              let m = yes_lt (n x) (n e) l in
+              let m = lt_holds (n x) (n e) l in
               ap (λ ys. ys ++ filter p (filter high es)) (all_pass p low es (λ d u. let s = from_ties x d u in le_yes (n d) (n e) (omega arith)))
-              ∙ ap (λ zs. filter p es ++ zs) (none_pass p high es (λ d u. let s = from_ties x d u in lt_no (n e) (n d) (omega arith)))
+              ∙ ap (λ zs. filter p es ++ zs) (none_pass p high es (λ d u. let s = from_ties x d u in lt_fails (n e) (n d) (omega arith)))
           | false ↦ λ l.
               let m = no_lt (n x) (n e) l in
               let apart : n x ≢ n e = λ s. let k = ties_from x e s in cc in
               let above : n e < n x = omega arith in
-              ap (λ ys. ys ++ filter p (filter high es)) (none_pass p low es (λ d u. let s = from_ties x d u in le_no (n d) (n e) (omega arith)))
+              ap (λ ys. ys ++ filter p (filter high es)) (none_pass p low es (λ d u. let s = from_ties x d u in le_fails (n d) (n e) (omega arith)))
               ∙ all_pass p high es (λ d u. let s = from_ties x d u in lt_yes (n e) (n d) (omega arith))
               ∙ sym (append-nil (filter p es))
         ] refl
@@ -208,9 +208,9 @@ module _ {X : Type 0} (n : X → ℕ) where
   climbs_placed es e a =
       let low : X → Bool = λ d. nat_le (n d) (n e) in
       let high : X → Bool = λ d. nat_lt (n e) (n d) in
-      let above : AllByRecursion (λ y. n e ≤ n y) (filter high es) = each_weaker (λ y. high y ≡ true) (λ y. n e ≤ n y) (filter high es) (λ y t. let k = yes_lt (n e) (n y) t in omega arith) (each_passes high es) in
+      let above : AllByRecursion (λ y. n e ≤ n y) (filter high es) = each_weaker (λ y. high y ≡ true) (λ y. n e ≤ n y) (filter high es) (λ y t. let k = lt_holds (n e) (n y) t in omega arith) (each_passes high es) in
       climbs_join (n e) (filter low es) (e ∷ filter high es) (climbs_filter low es a) (above, climbs_filter high es a)
-      (each_weaker (λ y. low y ≡ true) (λ y. n y ≤ n e) (filter low es) (λ y t. yes_le (n y) (n e) t) (each_passes low es)) (omega arith, above)
+      (each_weaker (λ y. low y ≡ true) (λ y. n y ≤ n e) (filter low es) (λ y t. le_holds (n y) (n e) t) (each_passes low es)) (omega arith, above)
 
   pub climbs_fold : (es xs : List X) → Climbs es → Climbs (fold placed_by es xs)
   climbs_fold es [] a = a

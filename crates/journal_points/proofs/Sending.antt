@@ -12,8 +12,8 @@ use Rattle.vb_types.specs.declared.doc.Doc.{Doc}
 use Rattle.vb_types.specs.declared.journal.Record.{Record}
 use Rattle.branch_model.specs.Journals.{batches, items_of, greatest, complete_ends}
 use Rattle.branch_model.specs.Snapshots.{Remains, slot_lasts, is_slot_last, has_seq}
-use Rattle.branch_model.proofs.Lists.{rises_map, rises_upto, last_in, same_seq, in_upto}
-use Rattle.branch_model.proofs.Lasts.{in_filter, filter_in, slot_lasts_remain, remains_cover}
+use Rattle.branch_model.proofs.Lists.{rises_map, rises_upto, last_in, same_seq, from_upto}
+use Rattle.branch_model.proofs.Lasts.{in_filter, kept_in_filter, slot_lasts_remain, remains_cover}
 use Rattle.branch_model.proofs.Following.{complete}
 use Rattle.branch_model.proofs.Images.{plain_stands}
 use Rattle.journal_points.specs.Points.{standing, above}
@@ -27,9 +27,9 @@ in_map : (f : Change → Change) (x : Change) (cs : List Change) → IsIn x cs �
 in_map f x [] i = absurd i
 in_map f x (c ∷ cs) i = ⊎_elim (λ e. inl (ap f e)) (λ j. inr (in_map f x cs j)) i
 
-map_in : (f : Change → Change) (y : Change) (cs : List Change) → IsIn y (map f cs) → (x : Change) × IsIn x cs × (y ≡ f x)
-map_in f y [] i = absurd i
-map_in f y (c ∷ cs) i = ⊎_elim (λ e. (c, inl refl, e)) (λ j. let k = map_in f y cs j in (k.0, inr k.1, k.2)) i
+mapped_from : (f : Change → Change) (y : Change) (cs : List Change) → IsIn y (map f cs) → (x : Change) × IsIn x cs × (y ≡ f x)
+mapped_from f y [] i = absurd i
+mapped_from f y (c ∷ cs) i = ⊎_elim (λ e. (c, inl refl, e)) (λ j. let k = mapped_from f y cs j in (k.0, inr k.1, k.2)) i
 
 -- what is sent has all that has to come
 
@@ -37,14 +37,14 @@ in_lasts : (h : List Change) (start end : ℕ) (c : Change) → IsIn c (slot_las
 in_lasts h start end c i =
     let k = in_filter (λ x. nat_lt start x.seq && is_slot_last (upto h end) x) c (upto h end) i in
     let t = and_parts _ _ k.1 in
-    ((in_upto c h end k.0).0, ltb-true start c.seq t.0, t.1)
+    ((from_upto c h end k.0).0, ltb-true start c.seq t.0, t.1)
 
 sent_remains : (top : ℕ) (h : List Change) (start end : ℕ) → Rises 0 top h → start ≤ end → Remains (map plain (slot_lasts h start end)) h start end
 sent_remains top h start end r l =
     let whole = slot_lasts_remain top h start end r l in
     record {
       rises = rises_map plain (λ c. refl) start end (slot_lasts h start end) whole.rises;
-      of = λ x i. let k = map_in plain x (slot_lasts h start end) i in (k.0, (in_lasts h start end k.0 k.1).0, inr k.2);
+      of = λ x i. let k = mapped_from plain x (slot_lasts h start end) i in (k.0, (in_lasts h start end k.0 k.1).0, inr k.2);
       has = λ slot c e a b. let k = whole.has slot c e a b in (plain k.0, in_map plain k.0 (slot_lasts h start end) k.1, inr (plain_stands k.0 c k.2));
     }
 
@@ -82,7 +82,7 @@ slot_of_last top h c r i e = ⊎_elim
 sent_needed : (js : List Record) (top start end : ℕ) (x : Change) → Rises 0 top (standing js) → IsIn x (above js start end) → (slot : Slot) × (c : Change) × IsLast slot js end c × (start < c.seq) × (x ≡ plain c)
 sent_needed js top start end x r i =
     let h = standing js in
-    let k = map_in plain x (slot_lasts h start end) i in
+    let k = mapped_from plain x (slot_lasts h start end) i in
     let f = in_filter (λ y. nat_lt start y.seq && is_slot_last (upto h end) y) k.0 (upto h end) k.1 in
     let t = and_parts (nat_lt start k.0.seq) (is_slot_last (upto h end) k.0) f.1 in
     let slot = slot_of_last end (upto h end) k.0 (rises_upto 0 top end h (omega arith) r) f.0 t.1 in
@@ -107,7 +107,7 @@ sent_last : (js : List Record) (start end : ℕ) (slot : Slot) (c : Change) → 
 sent_last js start end slot c e l =
     let h = upto (standing js) end in
     in_map plain c (slot_lasts (standing js) start end)
-    (filter_in (λ y. nat_lt start y.seq && is_slot_last h y) c h (last_in (touches slot) h c e).0 (and_from _ _ (lt-ltb start c.seq l) (last_is_slot_last h slot c e)))
+    (kept_in_filter (λ y. nat_lt start y.seq && is_slot_last h y) c h (last_in (touches slot) h c e).0 (and_from _ _ (lt-ltb start c.seq l) (last_is_slot_last h slot c e)))
 
 -- a change that is no commit is sent as it is
 as_is : (xs : List Change) (c : Change) → plain_act c.act ≡ c.act → IsIn (plain c) xs → IsIn c xs
@@ -127,7 +127,7 @@ sends_last_ones = record {
   lasts = sent_last;
   removal = λ js start end cas rev c e l k. as_is (above js start end) c (ap plain_act k ∙ sym k) (sent_last js start end (Slot.Committed c.key) c e l);
   abort = λ js start end number c e l k. as_is (above js start end) c (ap plain_act k ∙ sym k) (sent_last js start end (Slot.Pending c.key) c e l);
-  commit = λ js start end number c doc deleted i k. let x = map_in plain c (slot_lasts (standing js) start end) i in no_commit x.0.act number doc deleted (sym (ap (λ (y : Change). y.act) x.2) ∙ k);
+  commit = λ js start end number c doc deleted i k. let x = mapped_from plain c (slot_lasts (standing js) start end) i in no_commit x.0.act number doc deleted (sym (ap (λ (y : Change). y.act) x.2) ∙ k);
 }
 
 -- rollbacks

@@ -11,21 +11,21 @@ use Rattle.mcbp_dcp.specs.declared.message.DcpMsg.{DcpMsg}
 use Rattle.mcbp_dcp.specs.declared.message.DcpMsg.TheVariants as msg
 use Rattle.mcbp_dcp.specs.declared.message.DcpFault.TheVariants.{WrongKey, WrongValue}
 use Rattle.mcbp_dcp.specs.declared.message.Prepare.{Prepare}
-use Rattle.mcbp_dcp.specs.declared.message.StreamTold.{StreamTold}
-use Rattle.mcbp_dcp.specs.declared.message.StreamTold.TheVariants as told
+use Rattle.mcbp_dcp.specs.declared.message.StreamVerdict.{StreamVerdict}
+use Rattle.mcbp_dcp.specs.declared.message.StreamVerdict.TheVariants as told
 use Rattle.mcbp_dcp.specs.Rows.{frame_row}
 use Rattle.mcbp_dcp.specs.Shapes.{shape_fault}
 use Rattle.mcbp_dcp.specs.WireLogs.{log_spelling, log_in}
 use Rattle.mcbp_dcp.specs.Messages.{message_in, unless_fault, read_of}
-use Rattle.mcbp_dcp.specs.DcpFrames.{dcp_frame, prepare_frame, told_frame, IsTold, IsSpelled, IsSpelledPrepare}
-use Rattle.mcbp_dcp.specs.DcpLaws.{PrepareInRange, ToldInRange, InRange}
+use Rattle.mcbp_dcp.specs.DcpFrames.{dcp_frame, prepare_frame, verdict_frame, IsVerdict, IsSpelled, IsSpelledPrepare}
+use Rattle.mcbp_dcp.specs.DcpLaws.{PrepareInRange, VerdictInRange, InRange}
 use Rattle.mcbp_dcp.proofs.WireLogs.{length_log, log_back}
 
-told_back : (t : StreamTold) (opaque : ℕ) → IsTold t → ToldInRange t → read_of (told_frame t opaque) ≡ Some (Ok (msg.StreamAnswer t))
+told_back : (t : StreamVerdict) (opaque : ℕ) → IsVerdict t → VerdictInRange t → read_of (verdict_frame t opaque) ≡ Some (Ok (msg.StreamAnswer t))
 unfolding read_of frame_row shape_fault
 told_back (told.Go log) opaque s r =
     let whole : (length (log_spelling log) % 16 == 0) ≡ true = grind (arith, nat_tests, length_log log) in
-    ap (λ b. Some (unless_fault (cond (not b) (Some WrongValue) None) (message_in row.StreamAnswer (told_frame (told.Go log) opaque)))) whole
+    ap (λ b. Some (unless_fault (cond (not b) (Some WrongValue) None) (message_in row.StreamAnswer (verdict_frame (told.Go log) opaque)))) whole
     ∙ (λ i. Some (Ok (msg.StreamAnswer (told.Go (log_back log r i)))))
 told_back (told.Roll point) opaque s r = λ i. Some (Ok (msg.StreamAnswer (told.Roll (from_be_bytes-to_be_bytes_8 point r i))))
 told_back (told.Refused status) opaque s r =
@@ -105,7 +105,7 @@ message_back (msg.OpenAnswer status) opaque v s r = refl
 message_back (msg.ControlAnswer status) opaque v s r = refl
 message_back (msg.StreamAnswer t) opaque v s r = told_back t opaque s r
 
-told_readable : (t : StreamTold) (opaque : ℕ) → IsTold t → ToldInRange t → opaque < 4294967296 → body_size (told_frame t opaque) ≤ 22020096 → Readable (told_frame t opaque)
+told_readable : (t : StreamVerdict) (opaque : ℕ) → IsVerdict t → VerdictInRange t → opaque < 4294967296 → body_size (verdict_frame t opaque) ≤ 22020096 → Readable (verdict_frame t opaque)
 told_readable (told.Go log) opaque s r o limit =
     record { fits = record { framing = omega arith; extras = omega arith; key = omega arith; body = omega arith }; magic = refl; limit = limit; vb_or_status = omega arith; opaque = o; cas = omega arith }
 told_readable (told.Roll point) opaque s r o limit =

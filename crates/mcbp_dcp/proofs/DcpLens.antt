@@ -3,7 +3,7 @@ use Rattle.std.proofs.Common.{◌≡◌, ℕ, arith}
 use Rattle.mcbp_frame.specs.Frames.{frame_len}
 use Rattle.mcbp_dcp.specs.declared.message.DcpMsg.{DcpMsg}
 use Rattle.mcbp_dcp.specs.declared.message.DcpMsg.TheVariants as msg
-use Rattle.mcbp_dcp.specs.declared.message.StreamTold.TheVariants as told
+use Rattle.mcbp_dcp.specs.declared.message.StreamVerdict.TheVariants as told
 use Rattle.mcbp_dcp.specs.DcpFrames.{dcp_frame}
 use Rattle.mcbp_dcp.specs.DcpLaws.{dcp_len}
 use Rattle.mcbp_dcp.proofs.WireLogs.{length_log}

@@ -16,13 +16,13 @@ use Rattle.mcbp_dcp.specs.declared.row.DcpRow.TheVariants as row
 use Rattle.mcbp_dcp.specs.declared.message.DcpMsg.{DcpMsg}
 use Rattle.mcbp_dcp.specs.declared.message.DcpFault.{DcpFault}
 use Rattle.mcbp_dcp.specs.declared.message.DcpFault.TheVariants.{WrongExtras, WrongKey, WrongValue}
-use Rattle.mcbp_dcp.specs.declared.message.StreamTold.TheVariants as told
+use Rattle.mcbp_dcp.specs.declared.message.StreamVerdict.TheVariants as told
 use Rattle.mcbp_dcp.specs.Opcodes.{opcode_number, opcode_of}
-use Rattle.mcbp_dcp.specs.Rows.{row_opcode, row_magic, opcode_row, row_with, frame_row}
+use Rattle.mcbp_dcp.specs.Rows.{row_opcode, row_magic, row_of_opcode, row_by_opcode, frame_row}
 use Rattle.mcbp_dcp.specs.Shapes.{extras_size, lacks_metadata, extras_fit, key_fits, value_fits, shape_fault}
 use Rattle.mcbp_dcp.specs.WireLogs.{log_in}
 use Rattle.mcbp_dcp.specs.Messages.{message_in, unless_fault, read_as, read_of}
-use Rattle.mcbp_dcp.specs.DcpFrames.{dcp_frame, told_frame, IsTold, IsSpelled, ask_extras}
+use Rattle.mcbp_dcp.specs.DcpFrames.{dcp_frame, verdict_frame, IsVerdict, IsSpelled, ask_extras}
 use Rattle.mcbp_dcp.specs.DcpLaws.{extras_read, frame_read}
 use Rattle.mcbp_dcp.proofs.Opcodes.{number_of}
 use Rattle.mcbp_dcp.proofs.Words.{byte, word_16, word_32, word_64, behind}
@@ -36,7 +36,7 @@ IsOf number magic r = (number ≡ opcode_number (row_opcode r)) × (magic ≡ ro
 abbrev magic_of : Bool → ℕ
 magic_of answers = cond answers 129 128
 
-row_as : (o : Opcode) (answers : Bool) (r : DcpRow) → opcode_row o answers ≡ Some r → IsOf (opcode_number o) (magic_of answers) r
+row_as : (o : Opcode) (answers : Bool) (r : DcpRow) → row_of_opcode o answers ≡ Some r → IsOf (opcode_number o) (magic_of answers) r
 row_as op.Open false r h = subst (IsOf 80 128) (let same : row.Open ≡ r = cc in same) (refl, refl)
 row_as op.Open true r h = subst (IsOf 80 129) (let same : row.OpenAnswer ≡ r = cc in same) (refl, refl)
 row_as op.StreamRequest false r h = subst (IsOf 83 128) (let same : row.StreamRequest ≡ r = cc in same) (refl, refl)
@@ -53,7 +53,7 @@ row_as op.Control false r h = subst (IsOf 94 128) (let same : row.Control ≡ r 
 row_as op.Control true r h = subst (IsOf 94 129) (let same : row.ControlAnswer ≡ r = cc in same) (refl, refl)
 row_as other answers r h = cc
 
-row_by : (n : ℕ) (r : DcpRow) (answers : Bool) (o : Option Opcode) → opcode_of n ≡ o → row_with o answers ≡ Some r → IsOf n (magic_of answers) r
+row_by : (n : ℕ) (r : DcpRow) (answers : Bool) (o : Option Opcode) → opcode_of n ≡ o → row_by_opcode o answers ≡ Some r → IsOf n (magic_of answers) r
 row_by n r answers None is h = cc
 row_by n r answers (Some o) is h = subst (λ m. IsOf m (magic_of answers) r) (sym (number_of n o is)) (row_as o answers r h)
 
@@ -135,7 +135,7 @@ seqno_once x h len = word_64 x 0 h (omega arith) ∙ take_all 8 x (omega arith)
 
 told_once : (f : Frame) (a b : Bool) → (f.vb_or_status == 0) ≡ a → (f.vb_or_status == 35) ≡ b → cond a (length f.value % 16 == 0) (cond b (length f.value == 8) (length f.value == 0)) ≡ true
     → IsOf f.opcode (cond (f.magic == 129) 129 128) row.StreamAnswer → AreBytes f.value → [] ≡ f.framing → [] ≡ f.extras → [] ≡ f.key
-    → told_frame (cond a (told.Go (log_in f.value)) (cond b (told.Roll (big_64_at f.value 0)) (told.Refused f.vb_or_status))) f.opaque ≡ frame_read row.StreamAnswer f
+    → verdict_frame (cond a (told.Go (log_in f.value)) (cond b (told.Roll (big_64_at f.value 0)) (told.Refused f.vb_or_status))) f.opaque ≡ frame_read row.StreamAnswer f
 told_once f true b ta tb t is h framing extras key =
     let status : 0 ≡ f.vb_or_status = grind (arith, nat_tests) in
     let whole : length f.value % 16 ≡ 0 = grind (arith, nat_tests) in
@@ -214,7 +214,7 @@ key_short true n h = omega (arith, h)
 key_short false n h = h
 
 told_spelled : (f : Frame) (a b : Bool) → (f.vb_or_status == 0) ≡ a → (f.vb_or_status == 35) ≡ b → cond a (length f.value % 16 == 0) (cond b (length f.value == 8) (length f.value == 0)) ≡ true
-    → AreBytes f.value → length f.value < 4294967296 → IsTold (cond a (told.Go (log_in f.value)) (cond b (told.Roll (big_64_at f.value 0)) (told.Refused f.vb_or_status)))
+    → AreBytes f.value → length f.value < 4294967296 → IsVerdict (cond a (told.Go (log_in f.value)) (cond b (told.Roll (big_64_at f.value 0)) (told.Refused f.vb_or_status)))
 told_spelled f true b ta tb t h len =
     let whole : length f.value % 16 ≡ 0 = grind (arith, nat_tests) in
     let all : 16 * length (log_in f.value) ≡ length f.value = sym (length_log (log_in f.value)) ∙ ap length (log_once f.value h whole) in

@@ -5,15 +5,15 @@ use Rattle.mcbp_frame.specs.declared.frame.Frame.{Frame}
 use Rattle.mcbp_frame.specs.declared.frame.TheConstants.{RESPONSE}
 use Rattle.mcbp_dcp.specs.declared.row.DcpRow.TheVariants as row
 use Rattle.mcbp_dcp.specs.Opcodes.{opcode_of}
-use Rattle.mcbp_dcp.specs.Rows.{frame_row, row_with}
+use Rattle.mcbp_dcp.specs.Rows.{frame_row, row_by_opcode}
 use Rattle.mcbp_dcp.specs.DcpLaws.{HasExtras, RefusesLengths, RefusesValues, RefusesValuesOfRemovals, AcknowledgesBare}
 use Rattle.mcbp_dcp.proofs.DcpFaults.{wrong_extras, wrong_key, wrong_value}
 use Rattle.mcbp_dcp.proofs.Metadata.{no_answer, same, other, is_empty, not_empty}
 
 -- the row of a message's opcode
-row_of : (f : Frame) (opcode : ℕ) → f.opcode ≡ opcode → f.magic ≢ RESPONSE → frame_row f ≡ row_with (opcode_of opcode) false
+row_of : (f : Frame) (opcode : ℕ) → f.opcode ≡ opcode → f.magic ≢ RESPONSE → frame_row f ≡ row_by_opcode (opcode_of opcode) false
 unfolding frame_row
-row_of f opcode o m = ap (λ b. row_with (opcode_of f.opcode) b) (no_answer f m) ∙ ap (λ n. row_with (opcode_of n) false) o
+row_of f opcode o m = ap (λ b. row_by_opcode (opcode_of f.opcode) b) (no_answer f m) ∙ ap (λ n. row_by_opcode (opcode_of n) false) o
 
 -- whether there are bytes
 present : (bytes : List ℕ) (t : Bool) → (length bytes == 0) ≡ t → IsFalse t ↔ (bytes ≢ [])

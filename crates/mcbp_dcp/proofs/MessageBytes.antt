@@ -3,7 +3,7 @@ use Rattle.std.proofs.Common.{refl}
 use Rattle.mcbp_frame.specs.Frames.{first_frame, frame_of}
 use Rattle.mcbp_frame.specs.Spelling.{spelling}
 use Rattle.mcbp_dcp.specs.declared.message.DcpMsg.TheVariants as msg
-use Rattle.mcbp_dcp.specs.declared.message.StreamTold.TheVariants as told
+use Rattle.mcbp_dcp.specs.declared.message.StreamVerdict.TheVariants as told
 use Rattle.mcbp_dcp.specs.Rows.{frame_row}
 use Rattle.mcbp_dcp.specs.Shapes.{shape_fault}
 use Rattle.mcbp_dcp.specs.WireLogs.{log_in}

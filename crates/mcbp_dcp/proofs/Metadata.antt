@@ -8,7 +8,7 @@ use Rattle.mcbp_frame.specs.declared.frame.TheConstants.{RESPONSE}
 use Rattle.mcbp_frame.specs.Frames.{big_16_at}
 use Rattle.mcbp_dcp.specs.declared.row.DcpRow.TheVariants as row
 use Rattle.mcbp_dcp.specs.Opcodes.{opcode_of}
-use Rattle.mcbp_dcp.specs.Rows.{frame_row, row_with}
+use Rattle.mcbp_dcp.specs.Rows.{frame_row, row_by_opcode}
 use Rattle.mcbp_dcp.specs.DcpLaws.{HasOtherExtras, RefusesExtras}
 use Rattle.mcbp_dcp.proofs.DcpFaults.{wrong_extras}
 
@@ -41,7 +41,7 @@ module _ (f : Frame) (len at : ℕ) where
 pub mutation : RefusesExtras 0x57 31 28
 unfolding frame_row
 mutation f o m =
-    let is : frame_row f ≡ Some row.Mutation = ap (λ b. row_with (opcode_of f.opcode) b) (no_answer f m) ∙ ap (λ n. row_with (opcode_of n) false) o in
+    let is : frame_row f ≡ Some row.Mutation = ap (λ b. row_by_opcode (opcode_of f.opcode) b) (no_answer f m) ∙ ap (λ n. row_by_opcode (opcode_of n) false) o in
     let (here, back) = wrong_extras f row.Mutation is in
     let (out, of) = tests f 31 28 in
     (λ e. out (here e), λ h. back (of h))
@@ -49,7 +49,7 @@ mutation f o m =
 pub deletion : RefusesExtras 0x58 18 16
 unfolding frame_row
 deletion f o m =
-    let is : frame_row f ≡ Some row.Deletion = ap (λ b. row_with (opcode_of f.opcode) b) (no_answer f m) ∙ ap (λ n. row_with (opcode_of n) false) o in
+    let is : frame_row f ≡ Some row.Deletion = ap (λ b. row_by_opcode (opcode_of f.opcode) b) (no_answer f m) ∙ ap (λ n. row_by_opcode (opcode_of n) false) o in
     let (here, back) = wrong_extras f row.Deletion is in
     let (out, of) = tests f 18 16 in
     (λ e. out (here e), λ h. back (of h))

@@ -13,8 +13,8 @@ use Rattle.mcbp_dcp.specs.declared.message.Mutation.{Mutation}
 use Rattle.mcbp_dcp.specs.declared.message.Deletion.{Deletion}
 use Rattle.mcbp_dcp.specs.declared.message.Prepare.{Prepare}
 use Rattle.mcbp_dcp.specs.declared.message.Resolution.{Resolution}
-use Rattle.mcbp_dcp.specs.declared.message.StreamTold.{StreamTold}
-use Rattle.mcbp_dcp.specs.declared.message.StreamTold.TheVariants as told
+use Rattle.mcbp_dcp.specs.declared.message.StreamVerdict.{StreamVerdict}
+use Rattle.mcbp_dcp.specs.declared.message.StreamVerdict.TheVariants as told
 use Rattle.mcbp_dcp.specs.declared.shape.TheConstants.{MAX_NAME, ENTRY_LEN, SUCCESS, ROLLBACK}
 use Rattle.mcbp_frame.specs.declared.frame.TheConstants.{REQUEST}
 use Rattle.mcbp_dcp.specs.Opcodes.{opcode_number}
@@ -38,8 +38,8 @@ bare_frame magic opcode vb_or_status opaque = record {
 }
 
 -- a frame of a row, with this vBucket or status, without datatype and CAS
-abbrev pub row_frame : DcpRow → ℕ → ℕ → List ℕ → List ℕ → List ℕ → Frame
-row_frame row vb_or_status opaque extras key value =
+abbrev pub frame_of_row : DcpRow → ℕ → ℕ → List ℕ → List ℕ → List ℕ → Frame
+frame_of_row row vb_or_status opaque extras key value =
     record (bare_frame (row_magic row) (row_opcode row) vb_or_status opaque) { extras = extras; key = key; value = value }
 
 abbrev pub open_extras : ℕ → ℕ → List ℕ
@@ -79,49 +79,49 @@ resolution_extras r = to_be_bytes w64 r.prepared ++ to_be_bytes w64 r.seq
 
 -- a request for a stream
 abbrev pub request_frame : StreamAsk → ℕ → ℕ → Frame
-request_frame ask opaque v = row_frame row.StreamRequest v opaque (ask_extras ask) [] []
+request_frame ask opaque v = frame_of_row row.StreamRequest v opaque (ask_extras ask) [] []
 
 -- a mutation and a prepare have their datatype and CAS in the header, a deletion its CAS
 abbrev pub mutation_frame : Mutation → ℕ → ℕ → Frame
-mutation_frame m opaque v = record (row_frame row.Mutation v opaque (mutation_extras m) m.key m.value) { datatype = m.datatype; cas = m.cas }
+mutation_frame m opaque v = record (frame_of_row row.Mutation v opaque (mutation_extras m) m.key m.value) { datatype = m.datatype; cas = m.cas }
 
 abbrev pub deletion_frame : Deletion → ℕ → ℕ → Frame
-deletion_frame d opaque v = record (row_frame row.Deletion v opaque (deletion_extras d) d.key []) { cas = d.cas }
+deletion_frame d opaque v = record (frame_of_row row.Deletion v opaque (deletion_extras d) d.key []) { cas = d.cas }
 
 abbrev pub prepare_frame : Prepare → ℕ → ℕ → Frame
-prepare_frame p opaque v = record (row_frame row.Prepare v opaque (prepare_extras p) p.key p.value) { datatype = p.datatype; cas = p.cas }
+prepare_frame p opaque v = record (frame_of_row row.Prepare v opaque (prepare_extras p) p.key p.value) { datatype = p.datatype; cas = p.cas }
 
 -- a commit or an abort, by its opcode; its header has no CAS
 abbrev pub resolution_frame : Opcode → Resolution → ℕ → ℕ → Frame
 resolution_frame opcode r opaque v = record (bare_frame REQUEST opcode v opaque) { extras = resolution_extras r; key = r.key }
 
-abbrev pub told_frame : StreamTold → ℕ → Frame
-told_frame (told.Go log) opaque = row_frame row.StreamAnswer SUCCESS opaque [] [] (log_spelling log)
-told_frame (told.Roll point) opaque = row_frame row.StreamAnswer ROLLBACK opaque [] [] (to_be_bytes w64 point)
-told_frame (told.Refused status) opaque = row_frame row.StreamAnswer status opaque [] [] []
+abbrev pub verdict_frame : StreamVerdict → ℕ → Frame
+verdict_frame (told.Go log) opaque = frame_of_row row.StreamAnswer SUCCESS opaque [] [] (log_spelling log)
+verdict_frame (told.Roll point) opaque = frame_of_row row.StreamAnswer ROLLBACK opaque [] [] (to_be_bytes w64 point)
+verdict_frame (told.Refused status) opaque = frame_of_row row.StreamAnswer status opaque [] [] []
 
 -- the frame of a message with an opaque and a vBucket, which an answer does not name
 unfoldable pub dcp_frame : DcpMsg → ℕ → ℕ → Frame
-dcp_frame (msg.Open number flags name) opaque v = row_frame row.Open v opaque (open_extras number flags) name []
-dcp_frame (msg.Control key value) opaque v = row_frame row.Control v opaque [] key value
+dcp_frame (msg.Open number flags name) opaque v = frame_of_row row.Open v opaque (open_extras number flags) name []
+dcp_frame (msg.Control key value) opaque v = frame_of_row row.Control v opaque [] key value
 dcp_frame (msg.StreamRequest ask) opaque v = request_frame ask opaque v
-dcp_frame (msg.StreamEnd reason) opaque v = row_frame row.StreamEnd v opaque (stream_end_extras reason) [] []
-dcp_frame (msg.SnapshotMarker start end flags) opaque v = row_frame row.SnapshotMarker v opaque (marker_extras start end flags) [] []
+dcp_frame (msg.StreamEnd reason) opaque v = frame_of_row row.StreamEnd v opaque (stream_end_extras reason) [] []
+dcp_frame (msg.SnapshotMarker start end flags) opaque v = frame_of_row row.SnapshotMarker v opaque (marker_extras start end flags) [] []
 dcp_frame (msg.Mutation change) opaque v = mutation_frame change opaque v
 dcp_frame (msg.Deletion change) opaque v = deletion_frame change opaque v
 dcp_frame (msg.Prepare change) opaque v = prepare_frame change opaque v
 dcp_frame (msg.Commit change) opaque v = resolution_frame op.Commit change opaque v
 dcp_frame (msg.Abort change) opaque v = resolution_frame op.Abort change opaque v
-dcp_frame (msg.SeqnoAcknowledged seq) opaque v = row_frame row.SeqnoAcknowledged v opaque (to_be_bytes w64 seq) [] []
-dcp_frame (msg.OpenAnswer status) opaque v = row_frame row.OpenAnswer status opaque [] [] []
-dcp_frame (msg.ControlAnswer status) opaque v = row_frame row.ControlAnswer status opaque [] [] []
-dcp_frame (msg.StreamAnswer told) opaque v = told_frame told opaque
+dcp_frame (msg.SeqnoAcknowledged seq) opaque v = frame_of_row row.SeqnoAcknowledged v opaque (to_be_bytes w64 seq) [] []
+dcp_frame (msg.OpenAnswer status) opaque v = frame_of_row row.OpenAnswer status opaque [] [] []
+dcp_frame (msg.ControlAnswer status) opaque v = frame_of_row row.ControlAnswer status opaque [] [] []
+dcp_frame (msg.StreamAnswer told) opaque v = verdict_frame told opaque
 
 -- an answer's parts fit: a log its length field, and a refusal has neither status of the other two
-abbrev pub IsTold : StreamTold → Type 0
-IsTold (told.Go log) = ENTRY_LEN * length log < 2 ^ 32
-IsTold (told.Roll point) = Unit {0}
-IsTold (told.Refused status) = (status ≡ SUCCESS → ⊥) × (status ≡ ROLLBACK → ⊥)
+abbrev pub IsVerdict : StreamVerdict → Type 0
+IsVerdict (told.Go log) = ENTRY_LEN * length log < 2 ^ 32
+IsVerdict (told.Roll point) = Unit {0}
+IsVerdict (told.Refused status) = (status ≡ SUCCESS → ⊥) × (status ≡ ROLLBACK → ⊥)
 
 -- key and value fit their length fields, and a prepare of a removal has no value
 abbrev pub IsSpelledPrepare : Prepare → Type 0
@@ -142,4 +142,4 @@ IsSpelled (msg.Abort change) = length change.key < 2 ^ 16
 IsSpelled (msg.SeqnoAcknowledged seq) = Unit {0}
 IsSpelled (msg.OpenAnswer status) = Unit {0}
 IsSpelled (msg.ControlAnswer status) = Unit {0}
-IsSpelled (msg.StreamAnswer told) = IsTold told
+IsSpelled (msg.StreamAnswer told) = IsVerdict told

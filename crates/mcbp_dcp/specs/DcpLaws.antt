@@ -15,8 +15,8 @@ use Rattle.mcbp_dcp.specs.declared.message.Mutation.{Mutation}
 use Rattle.mcbp_dcp.specs.declared.message.Deletion.{Deletion}
 use Rattle.mcbp_dcp.specs.declared.message.Prepare.{Prepare}
 use Rattle.mcbp_dcp.specs.declared.message.Resolution.{Resolution}
-use Rattle.mcbp_dcp.specs.declared.message.StreamTold.{StreamTold}
-use Rattle.mcbp_dcp.specs.declared.message.StreamTold.TheVariants as told
+use Rattle.mcbp_dcp.specs.declared.message.StreamVerdict.{StreamVerdict}
+use Rattle.mcbp_dcp.specs.declared.message.StreamVerdict.TheVariants as told
 use Rattle.mcbp_dcp.specs.declared.shape.TheConstants.{ENTRY_LEN}
 use Rattle.mcbp_dcp.specs.Messages.{read_of}
 use Rattle.mcbp_dcp.specs.Shapes.{extras_size}
@@ -63,10 +63,10 @@ pub record EntryInRange (e : LogEntry) : Type 0 where
   pub seq : e.seq < 2 ^ 64
 
 -- of an answer to a request for a stream
-abbrev pub ToldInRange : StreamTold → Type 0
-ToldInRange (told.Go log) = All EntryInRange log
-ToldInRange (told.Roll point) = point < 2 ^ 64
-ToldInRange (told.Refused status) = status < 2 ^ 16
+abbrev pub VerdictInRange : StreamVerdict → Type 0
+VerdictInRange (told.Go log) = All EntryInRange log
+VerdictInRange (told.Roll point) = point < 2 ^ 64
+VerdictInRange (told.Refused status) = status < 2 ^ 16
 
 -- each number of a message fits its field
 abbrev pub InRange : DcpMsg → Type 0
@@ -83,7 +83,7 @@ InRange (msg.Abort change) = ResolutionInRange change
 InRange (msg.SeqnoAcknowledged seq) = seq < 2 ^ 64
 InRange (msg.OpenAnswer status) = status < 2 ^ 16
 InRange (msg.ControlAnswer status) = status < 2 ^ 16
-InRange (msg.StreamAnswer told) = ToldInRange told
+InRange (msg.StreamAnswer told) = VerdictInRange told
 
 -- extras with 0 in the fields that are not read: a request's reserved field, the lock time and nru of a mutation, between which no metadata stand, and those of a prepare
 abbrev pub extras_read : DcpRow → List ℕ → List ℕ
@@ -181,10 +181,10 @@ AcknowledgesBare = (f : Frame) → f.opcode ≡ 0x61 → f.magic ≢ RESPONSE
     → ((read_of f ≡ Some (Err WrongKey)) ↔ (HasExtras f 8 × (f.key ≢ []))) × ((read_of f ≡ Some (Err WrongValue)) ↔ (HasExtras f 8 × (f.key ≡ []) × (f.value ≢ [])))
 
 -- how long the answer to a request for a stream is as bytes
-abbrev pub told_len : StreamTold → ℕ
-told_len (told.Go log) = HEADER_LEN + ENTRY_LEN * length log
-told_len (told.Roll point) = HEADER_LEN + 8
-told_len (told.Refused status) = HEADER_LEN
+abbrev pub verdict_len : StreamVerdict → ℕ
+verdict_len (told.Go log) = HEADER_LEN + ENTRY_LEN * length log
+verdict_len (told.Roll point) = HEADER_LEN + 8
+verdict_len (told.Refused status) = HEADER_LEN
 
 -- how long a message is as bytes
 abbrev pub dcp_len : DcpMsg → ℕ
@@ -201,4 +201,4 @@ dcp_len (msg.Abort change) = HEADER_LEN + extras_size row.Abort + length change.
 dcp_len (msg.SeqnoAcknowledged seq) = HEADER_LEN + extras_size row.SeqnoAcknowledged
 dcp_len (msg.OpenAnswer status) = HEADER_LEN
 dcp_len (msg.ControlAnswer status) = HEADER_LEN
-dcp_len (msg.StreamAnswer told) = told_len told
+dcp_len (msg.StreamAnswer told) = verdict_len told

@@ -13,8 +13,8 @@ use Rattle.mcbp_dcp.specs.declared.message.Mutation.{Mutation}
 use Rattle.mcbp_dcp.specs.declared.message.Deletion.{Deletion}
 use Rattle.mcbp_dcp.specs.declared.message.Prepare.{Prepare}
 use Rattle.mcbp_dcp.specs.declared.message.Resolution.{Resolution}
-use Rattle.mcbp_dcp.specs.declared.message.StreamTold.{StreamTold}
-use Rattle.mcbp_dcp.specs.declared.message.StreamTold.TheVariants as told
+use Rattle.mcbp_dcp.specs.declared.message.StreamVerdict.{StreamVerdict}
+use Rattle.mcbp_dcp.specs.declared.message.StreamVerdict.TheVariants as told
 use Rattle.mcbp_dcp.specs.declared.shape.TheConstants.{SUCCESS, ROLLBACK}
 use Rattle.mcbp_dcp.specs.Rows.{frame_row}
 use Rattle.mcbp_dcp.specs.Shapes.{shape_fault}
@@ -68,8 +68,8 @@ abbrev pub resolution_in : Frame → Resolution
 resolution_in f = record { prepared = big_64_at f.extras 0; seq = big_64_at f.extras 8; key = f.key }
 
 -- what the answer to a request for a stream says, by its status
-abbrev pub told_in : ℕ → List ℕ → StreamTold
-told_in status value =
+abbrev pub verdict_in : ℕ → List ℕ → StreamVerdict
+verdict_in status value =
     if status == SUCCESS then told.Go (log_in value) else if status == ROLLBACK then told.Roll (big_64_at value 0) else told.Refused status
 
 -- the message of a frame that has the row's parts
@@ -87,7 +87,7 @@ message_in row.Abort f = msg.Abort (resolution_in f)
 message_in row.SeqnoAcknowledged f = msg.SeqnoAcknowledged (big_64_at f.extras 0)
 message_in row.OpenAnswer f = msg.OpenAnswer f.vb_or_status
 message_in row.ControlAnswer f = msg.ControlAnswer f.vb_or_status
-message_in row.StreamAnswer f = msg.StreamAnswer (told_in f.vb_or_status f.value)
+message_in row.StreamAnswer f = msg.StreamAnswer (verdict_in f.vb_or_status f.value)
 
 -- the fault, or else the message
 abbrev pub unless_fault : Option DcpFault → DcpMsg → Result DcpMsg DcpFault

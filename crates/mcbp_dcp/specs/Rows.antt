@@ -47,28 +47,28 @@ row_magic row.ControlAnswer = RESPONSE
 row_magic row.StreamAnswer = RESPONSE
 
 -- the row with an opcode: an answer, or a message
-abbrev pub opcode_row : Opcode → Bool → Option DcpRow
-opcode_row op.Open false = Some row.Open
-opcode_row op.Open true = Some row.OpenAnswer
-opcode_row op.StreamRequest false = Some row.StreamRequest
-opcode_row op.StreamRequest true = Some row.StreamAnswer
-opcode_row op.StreamEnd false = Some row.StreamEnd
-opcode_row op.SnapshotMarker false = Some row.SnapshotMarker
-opcode_row op.Mutation false = Some row.Mutation
-opcode_row op.Deletion false = Some row.Deletion
-opcode_row op.Prepare false = Some row.Prepare
-opcode_row op.Commit false = Some row.Commit
-opcode_row op.Abort false = Some row.Abort
-opcode_row op.SeqnoAcknowledged false = Some row.SeqnoAcknowledged
-opcode_row op.Control false = Some row.Control
-opcode_row op.Control true = Some row.ControlAnswer
-opcode_row other answers = None
+abbrev pub row_of_opcode : Opcode → Bool → Option DcpRow
+row_of_opcode op.Open false = Some row.Open
+row_of_opcode op.Open true = Some row.OpenAnswer
+row_of_opcode op.StreamRequest false = Some row.StreamRequest
+row_of_opcode op.StreamRequest true = Some row.StreamAnswer
+row_of_opcode op.StreamEnd false = Some row.StreamEnd
+row_of_opcode op.SnapshotMarker false = Some row.SnapshotMarker
+row_of_opcode op.Mutation false = Some row.Mutation
+row_of_opcode op.Deletion false = Some row.Deletion
+row_of_opcode op.Prepare false = Some row.Prepare
+row_of_opcode op.Commit false = Some row.Commit
+row_of_opcode op.Abort false = Some row.Abort
+row_of_opcode op.SeqnoAcknowledged false = Some row.SeqnoAcknowledged
+row_of_opcode op.Control false = Some row.Control
+row_of_opcode op.Control true = Some row.ControlAnswer
+row_of_opcode other answers = None
 
 -- the row with an opcode, where there is one
-abbrev pub row_with : Option Opcode → Bool → Option DcpRow
-row_with None answers = None
-row_with (Some opcode) answers = opcode_row opcode answers
+abbrev pub row_by_opcode : Option Opcode → Bool → Option DcpRow
+row_by_opcode None answers = None
+row_by_opcode (Some opcode) answers = row_of_opcode opcode answers
 
 -- the row of a frame
 unfoldable pub frame_row : Frame → Option DcpRow
-frame_row f = row_with (opcode_of f.opcode) (f.magic == RESPONSE)
+frame_row f = row_by_opcode (opcode_of f.opcode) (f.magic == RESPONSE)

@@ -64,8 +64,8 @@ key_fits row.ControlAnswer f = length f.key == 0
 key_fits row.StreamAnswer f = length f.key == 0
 
 -- the value of an answer to a request for a stream: a log, a point to roll back to, or none
-abbrev pub told_fits : ℕ → ℕ → Bool
-told_fits status len = if status == SUCCESS then len % ENTRY_LEN == 0 else if status == ROLLBACK then len == 8 else len == 0
+abbrev pub verdict_fits : ℕ → ℕ → Bool
+verdict_fits status len = if status == SUCCESS then len % ENTRY_LEN == 0 else if status == ROLLBACK then len == 8 else len == 0
 
 -- the prepare is of a removal, as the byte at 29 of its extras says
 abbrev pub prepares_removal : List ℕ → Bool
@@ -86,7 +86,7 @@ value_fits row.Abort f = length f.value == 0
 value_fits row.SeqnoAcknowledged f = length f.value == 0
 value_fits row.OpenAnswer f = length f.value == 0
 value_fits row.ControlAnswer f = length f.value == 0
-value_fits row.StreamAnswer f = told_fits f.vb_or_status (length f.value)
+value_fits row.StreamAnswer f = verdict_fits f.vb_or_status (length f.value)
 
 -- the first part that is not the row's
 unfoldable pub shape_fault : DcpRow → Frame → Option DcpFault

@@ -13,13 +13,13 @@ ghost use Rattle.mcbp_dcp.specs.declared.message.Deletion.{Deletion as RemovalDa
 ghost use Rattle.mcbp_dcp.specs.declared.message.Mutation.{Mutation as PutData};
 ghost use Rattle.mcbp_dcp.specs.declared.message.Prepare.{Prepare as PreparedData};
 ghost use Rattle.mcbp_dcp.specs.declared.message.Resolution.{Resolution as ResolvedData};
-ghost use Rattle.mcbp_dcp.specs.declared.message.StreamTold.{StreamTold as ToldData};
-ghost use Rattle.mcbp_dcp.specs.declared.message.StreamTold.TheVariants as told_as;
+ghost use Rattle.mcbp_dcp.specs.declared.message.StreamVerdict.{StreamVerdict as ToldData};
+ghost use Rattle.mcbp_dcp.specs.declared.message.StreamVerdict.TheVariants as told_as;
 ghost use Rattle.vb_types.specs.declared.stream.StreamAsk.{StreamAsk as AskData};
 ghost use Rattle.mcbp_dcp.specs.declared.message.DcpFault.TheVariants.{WrongExtras, WrongKey, WrongValue};
 ghost use Rattle.mcbp_dcp.specs.declared.shape.TheConstants.{MAX_NAME, ENTRY_LEN, SUCCESS, ROLLBACK};
 ghost use Rattle.mcbp_dcp.specs.Rows.{dcp_opcodes, frame_row};
-ghost use Rattle.mcbp_dcp.specs.Shapes.{extras_fit, key_fits, told_fits, value_fits};
+ghost use Rattle.mcbp_dcp.specs.Shapes.{extras_fit, key_fits, verdict_fits, value_fits};
 ghost use Rattle.mcbp_dcp.specs.Messages.{read_of};
 ghost use Rattle.mcbp_dcp.specs.DcpFrames.{dcp_frame, IsSpelled};
 ghost use Rattle.mcbp_dcp.specs.DcpLaws.{InRange, Carries, RefusesExtras, RefusesLengths, RefusesValues, RefusesValuesOfRemovals, AcknowledgesBare, frame_read, dcp_len};
@@ -159,8 +159,8 @@ pub fn messages_have_room()
 /// How many bytes stand in an answer to a request for a stream: whole entries of 16 where it is granted,
 /// the 8 of a point where the consumer is sent back, and none where it is refused.
 pub fn answers_fit()
-    ensures granted { (told_fits 0 0 ≡ true) × (told_fits 0 16 ≡ true) × (told_fits 0 400 ≡ true) }
-    ensures cut { (told_fits 0 8 ≡ false) × (told_fits 0 17 ≡ false) × (told_fits 0 31 ≡ false) }
-    ensures sent_back { (told_fits 35 8 ≡ true) × (told_fits 35 0 ≡ false) × (told_fits 35 16 ≡ false) }
-    ensures refused { (told_fits 7 0 ≡ true) × (told_fits 4 0 ≡ true) × (told_fits 7 8 ≡ false) × (told_fits 34 16 ≡ false) }
+    ensures granted { (verdict_fits 0 0 ≡ true) × (verdict_fits 0 16 ≡ true) × (verdict_fits 0 400 ≡ true) }
+    ensures cut { (verdict_fits 0 8 ≡ false) × (verdict_fits 0 17 ≡ false) × (verdict_fits 0 31 ≡ false) }
+    ensures sent_back { (verdict_fits 35 8 ≡ true) × (verdict_fits 35 0 ≡ false) × (verdict_fits 35 16 ≡ false) }
+    ensures refused { (verdict_fits 7 0 ≡ true) × (verdict_fits 4 0 ≡ true) × (verdict_fits 7 8 ≡ false) × (verdict_fits 34 16 ≡ false) }
 {}

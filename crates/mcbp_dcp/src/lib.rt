@@ -15,7 +15,7 @@ pub use laws::{
     dcp_reads_back, durable_faults, durable_messages_in_bytes, messages_have_room,
     names_have_lengths,
 };
-pub use message::{DcpFault, DcpMsg, Deletion, Mutation, Prepare, Resolution, StreamTold};
+pub use message::{DcpFault, DcpMsg, Deletion, Mutation, Prepare, Resolution, StreamVerdict};
 pub use opcode::Opcode;
 pub use reader::read_dcp;
 pub use row::{is_built, is_dcp};

@@ -52,7 +52,7 @@ pub struct Resolution {
 
 /// What a producer answers to a request for a stream.
 #[derive(Drop)]
-pub enum StreamTold {
+pub enum StreamVerdict {
     /// The stream begins. The producer's failover log, the newest entry first.
     Go { log: Listed<LogEntry> },
     /// The consumer has to roll back to this seqno, or below it, first.
@@ -91,7 +91,7 @@ pub enum DcpMsg {
     /// The answer to `Control`.
     ControlAnswer { status: u16 },
     /// The answer to `StreamRequest`.
-    StreamAnswer { told: StreamTold },
+    StreamAnswer { told: StreamVerdict },
 }
 
 /// Which part of a frame is not its row's.

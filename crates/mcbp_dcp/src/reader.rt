@@ -2,12 +2,12 @@
 ghost use Rattle.std.specs.Prelude.{◌≡◌, length, IfOk, IsTrue};
 ghost use Rattle.mcbp_dcp.specs.declared.message.DcpMsg.TheVariants as msg;
 ghost use Rattle.mcbp_frame.specs.Frames.{big_32_at, big_64_at};
-ghost use Rattle.{mcbp_dcp.specs.Messages.{ask_in, mutation_in, deletion_in, prepare_in, resolution_in, told_in, message_in, read_of}, mcbp_dcp.specs.Shapes.{extras_size, value_fits, told_fits}};
+ghost use Rattle.{mcbp_dcp.specs.Messages.{ask_in, mutation_in, deletion_in, prepare_in, resolution_in, verdict_in, message_in, read_of}, mcbp_dcp.specs.Shapes.{extras_size, value_fits, verdict_fits}};
 
 use crate::log::log_of;
 use crate::row::{DcpRow, row_of};
 use crate::shape::{ROLLBACK, SUCCESS, fault_of};
-use crate::{DcpFault, DcpMsg, Deletion, Mutation, Prepare, Resolution, StreamTold};
+use crate::{DcpFault, DcpMsg, Deletion, Mutation, Prepare, Resolution, StreamVerdict};
 use byteorder::{BigEndian, ByteOrder};
 use mcbp_frame::Frame;
 use std::alloc::{AllocError, Global};
@@ -141,26 +141,26 @@ fn abort_of(f: &Frame) -> Result<DcpMsg, AllocError>
     Ok(DcpMsg::Abort { change })
 }
 
-fn told_of(alloc: Global, status: u16, value: &[u8]) -> Result<StreamTold, AllocError>
-    requires { IsTrue (told_fits status (length value.now)) }
-    ensures { IfOk result (λ told. told ≡ told_in status value.now) }
+fn verdict_of(alloc: Global, status: u16, value: &[u8]) -> Result<StreamVerdict, AllocError>
+    requires { IsTrue (verdict_fits status (length value.now)) }
+    ensures { IfOk result (λ told. told ≡ verdict_in status value.now) }
 {
     match status {
-        SUCCESS => Ok(StreamTold::Go {
+        SUCCESS => Ok(StreamVerdict::Go {
             log: log_of(alloc, value)?,
         }),
-        ROLLBACK => Ok(StreamTold::Roll {
+        ROLLBACK => Ok(StreamVerdict::Roll {
             point: BigEndian::read_u64(&value[0..8]),
         }),
-        _ => Ok(StreamTold::Refused { status }),
+        _ => Ok(StreamVerdict::Refused { status }),
     }
 }
 
 fn answer_of(alloc: Global, status: u16, value: &[u8]) -> Result<DcpMsg, AllocError>
-    requires { IsTrue (told_fits status (length value.now)) }
-    ensures { IfOk result (λ m. m ≡ msg.StreamAnswer (told_in status value.now)) }
+    requires { IsTrue (verdict_fits status (length value.now)) }
+    ensures { IfOk result (λ m. m ≡ msg.StreamAnswer (verdict_in status value.now)) }
 {
-    let told = told_of(alloc, status, value)?;
+    let told = verdict_of(alloc, status, value)?;
     Ok(DcpMsg::StreamAnswer { told })
 }
 

@@ -1,14 +1,14 @@
 //! The one frame of a message, as bytes.
 ghost use Rattle.std.specs.Prelude.{◌≡◌, ◌++◌, [], IfOk, OnOk, OnErr};
 ghost use Rattle.std.specs.{Int.{w64, to_be_bytes}, List.{flat_map}};
-ghost use Rattle.mcbp_dcp.specs.DcpFrames.{bare_frame, row_frame, request_frame, mutation_frame, deletion_frame, prepare_frame, resolution_frame, told_frame, dcp_frame, IsTold, IsSpelled};
+ghost use Rattle.mcbp_dcp.specs.DcpFrames.{bare_frame, frame_of_row, request_frame, mutation_frame, deletion_frame, prepare_frame, resolution_frame, verdict_frame, dcp_frame, IsVerdict, IsSpelled};
 ghost use Rattle.mcbp_dcp.specs.DcpFrames.{open_extras, stream_end_extras, marker_extras, mutation_extras, prepare_extras};
 ghost use Rattle.mcbp_dcp.specs.declared.row.DcpRow.TheVariants as row;
 ghost use Rattle.mcbp_frame.specs.Spelling.{Fits, spelling};
 
 use crate::log::log_bytes;
 use crate::shape::{ROLLBACK, SUCCESS};
-use crate::{DcpMsg, Deletion, Mutation, Opcode, Prepare, Resolution, StreamTold};
+use crate::{DcpMsg, Deletion, Mutation, Opcode, Prepare, Resolution, StreamVerdict};
 use bytes::{Bytes, BytesMut};
 use mcbp_frame::{Frame, REQUEST, RESPONSE, write_frame};
 use std::alloc::{AllocError, Global};
@@ -108,7 +108,7 @@ fn request(opcode: Opcode, v: u16, opaque: u32, body: Body) -> Frame
     }
 }
 
-fn of_open(
+fn open_as_frame(
     alloc: Global,
     seqno: u32,
     flags: u32,
@@ -116,35 +116,40 @@ fn of_open(
     opaque: u32,
     v: u16,
 ) -> Result<Frame, AllocError>
-    ensures { IfOk result (λ frame. frame ≡ row_frame row.Open v opaque (open_extras seqno flags) name.now []) }
+    ensures { IfOk result (λ frame. frame ≡ frame_of_row row.Open v opaque (open_extras seqno flags) name.now []) }
 {
     let body = with_key(numbers!(alloc; seqno, flags)?, name)?;
     Ok(request(Opcode::Open, v, opaque, body))
 }
 
-fn of_control(key: &Bytes, value: &Bytes, opaque: u32, v: u16) -> Result<Frame, AllocError>
-    ensures { IfOk result (λ frame. frame ≡ row_frame row.Control v opaque [] key.now value.now) }
+fn control_as_frame(key: &Bytes, value: &Bytes, opaque: u32, v: u16) -> Result<Frame, AllocError>
+    ensures { IfOk result (λ frame. frame ≡ frame_of_row row.Control v opaque [] key.now value.now) }
 {
     let body = with_value(Bytes::new(), key, value)?;
     Ok(request(Opcode::Control, v, opaque, body))
 }
 
 /// A request for a stream. The reserved field is written as 0.
-fn of_request(alloc: Global, ask: &StreamAsk, opaque: u32, v: u16) -> Result<Frame, AllocError>
+fn request_as_frame(
+    alloc: Global,
+    ask: &StreamAsk,
+    opaque: u32,
+    v: u16,
+) -> Result<Frame, AllocError>
     ensures { IfOk result (λ frame. frame ≡ request_frame ask.now opaque v) }
 {
     let extras = numbers!(alloc; ask.flags, 0u32, ask.start, ask.end, ask.uuid, ask.ss, ask.se)?;
     Ok(request(Opcode::StreamRequest, v, opaque, bare_extras(extras)))
 }
 
-fn of_end(alloc: Global, reason: u32, opaque: u32, v: u16) -> Result<Frame, AllocError>
-    ensures { IfOk result (λ frame. frame ≡ row_frame row.StreamEnd v opaque (stream_end_extras reason) [] []) }
+fn end_as_frame(alloc: Global, reason: u32, opaque: u32, v: u16) -> Result<Frame, AllocError>
+    ensures { IfOk result (λ frame. frame ≡ frame_of_row row.StreamEnd v opaque (stream_end_extras reason) [] []) }
 {
     let extras = numbers!(alloc; reason)?;
     Ok(request(Opcode::StreamEnd, v, opaque, bare_extras(extras)))
 }
 
-fn of_marker(
+fn marker_as_frame(
     alloc: Global,
     start: u64,
     end: u64,
@@ -152,7 +157,7 @@ fn of_marker(
     opaque: u32,
     v: u16,
 ) -> Result<Frame, AllocError>
-    ensures { IfOk result (λ frame. frame ≡ row_frame row.SnapshotMarker v opaque (marker_extras start end flags) [] []) }
+    ensures { IfOk result (λ frame. frame ≡ frame_of_row row.SnapshotMarker v opaque (marker_extras start end flags) [] []) }
 {
     let extras = numbers!(alloc; start, end, flags)?;
     Ok(request(Opcode::SnapshotMarker, v, opaque, bare_extras(extras)))
@@ -165,7 +170,12 @@ fn mutation_extras(alloc: Global, change: &Mutation) -> Result<Bytes, AllocError
     numbers!(alloc; change.seq, change.rev, change.flags, change.expiry, 0u32, 0u16, 0u8)
 }
 
-fn of_mutation(alloc: Global, change: &Mutation, opaque: u32, v: u16) -> Result<Frame, AllocError>
+fn mutation_as_frame(
+    alloc: Global,
+    change: &Mutation,
+    opaque: u32,
+    v: u16,
+) -> Result<Frame, AllocError>
     ensures { IfOk result (λ frame. frame ≡ mutation_frame change.now opaque v) }
 {
     let extras = mutation_extras(alloc, change)?;
@@ -178,7 +188,12 @@ fn of_mutation(alloc: Global, change: &Mutation, opaque: u32, v: u16) -> Result<
 }
 
 /// A deletion. The length of metadata is written as 0.
-fn of_deletion(alloc: Global, removal: &Deletion, opaque: u32, v: u16) -> Result<Frame, AllocError>
+fn deletion_as_frame(
+    alloc: Global,
+    removal: &Deletion,
+    opaque: u32,
+    v: u16,
+) -> Result<Frame, AllocError>
     ensures { IfOk result (λ frame. frame ≡ deletion_frame removal.now opaque v) }
 {
     let extras = numbers!(alloc; removal.seq, removal.rev, 0u16)?;
@@ -198,7 +213,12 @@ fn prepare_extras(alloc: Global, change: &Prepare) -> Result<Bytes, AllocError>
     joined(alloc, &[numbers.as_slice(), &behind])
 }
 
-fn of_prepare(alloc: Global, change: &Prepare, opaque: u32, v: u16) -> Result<Frame, AllocError>
+fn prepare_as_frame(
+    alloc: Global,
+    change: &Prepare,
+    opaque: u32,
+    v: u16,
+) -> Result<Frame, AllocError>
     ensures { IfOk result (λ frame. frame ≡ prepare_frame change.now opaque v) }
 {
     let extras = prepare_extras(alloc, change)?;
@@ -211,7 +231,7 @@ fn of_prepare(alloc: Global, change: &Prepare, opaque: u32, v: u16) -> Result<Fr
 }
 
 /// A commit or an abort, by its opcode.
-fn of_resolution(
+fn resolution_as_frame(
     alloc: Global,
     opcode: Opcode,
     change: &Resolution,
@@ -226,21 +246,21 @@ fn of_resolution(
 }
 
 fn of_acknowledged(alloc: Global, seq: u64, opaque: u32, v: u16) -> Result<Frame, AllocError>
-    ensures { IfOk result (λ frame. frame ≡ row_frame row.SeqnoAcknowledged v opaque (to_be_bytes w64 seq) [] []) }
+    ensures { IfOk result (λ frame. frame ≡ frame_of_row row.SeqnoAcknowledged v opaque (to_be_bytes w64 seq) [] []) }
 {
     let extras = numbers!(alloc; seq)?;
     Ok(request(Opcode::SeqnoAcknowledged, v, opaque, bare_extras(extras)))
 }
 
-fn of_told(alloc: Global, told: &StreamTold, opaque: u32) -> Result<Frame, AllocError>
-    requires { IsTold told.now }
-    ensures frame { IfOk result (λ frame. frame ≡ told_frame told.now opaque) }
+fn verdict_as_frame(alloc: Global, told: &StreamVerdict, opaque: u32) -> Result<Frame, AllocError>
+    requires { IsVerdict told.now }
+    ensures frame { IfOk result (λ frame. frame ≡ verdict_frame told.now opaque) }
     ensures fits { IfOk result Fits }
 {
     let (status, value) = match told {
-        StreamTold::Go { log } => (SUCCESS, log_bytes(alloc, log.as_slice())?),
-        StreamTold::Roll { point } => (ROLLBACK, numbers!(alloc; point)?),
-        StreamTold::Refused { status } => (*status, Bytes::new()),
+        StreamVerdict::Go { log } => (SUCCESS, log_bytes(alloc, log.as_slice())?),
+        StreamVerdict::Roll { point } => (ROLLBACK, numbers!(alloc; point)?),
+        StreamVerdict::Refused { status } => (*status, Bytes::new()),
     };
     Ok(Frame {
         value,
@@ -256,22 +276,24 @@ fn frame_for(alloc: Global, m: &DcpMsg, opaque: u32, v: u16) -> Result<Frame, Al
     ensures fits { IfOk result Fits }
 {
     match m {
-        DcpMsg::Open { seqno, flags, name } => of_open(alloc, *seqno, *flags, name, opaque, v),
-        DcpMsg::Control { key, value } => of_control(key, value, opaque, v),
-        DcpMsg::StreamRequest { ask } => of_request(alloc, ask, opaque, v),
-        DcpMsg::StreamEnd { reason } => of_end(alloc, *reason, opaque, v),
+        DcpMsg::Open { seqno, flags, name } => open_as_frame(
+            alloc, *seqno, *flags, name, opaque, v,
+        ),
+        DcpMsg::Control { key, value } => control_as_frame(key, value, opaque, v),
+        DcpMsg::StreamRequest { ask } => request_as_frame(alloc, ask, opaque, v),
+        DcpMsg::StreamEnd { reason } => end_as_frame(alloc, *reason, opaque, v),
         DcpMsg::SnapshotMarker { start, end, flags } => {
-            of_marker(alloc, *start, *end, *flags, opaque, v)
+            marker_as_frame(alloc, *start, *end, *flags, opaque, v)
         }
-        DcpMsg::Mutation { change } => of_mutation(alloc, change, opaque, v),
-        DcpMsg::Deletion { change } => of_deletion(alloc, change, opaque, v),
-        DcpMsg::Prepare { change } => of_prepare(alloc, change, opaque, v),
-        DcpMsg::Commit { change } => of_resolution(alloc, Opcode::Commit, change, opaque, v),
-        DcpMsg::Abort { change } => of_resolution(alloc, Opcode::Abort, change, opaque, v),
+        DcpMsg::Mutation { change } => mutation_as_frame(alloc, change, opaque, v),
+        DcpMsg::Deletion { change } => deletion_as_frame(alloc, change, opaque, v),
+        DcpMsg::Prepare { change } => prepare_as_frame(alloc, change, opaque, v),
+        DcpMsg::Commit { change } => resolution_as_frame(alloc, Opcode::Commit, change, opaque, v),
+        DcpMsg::Abort { change } => resolution_as_frame(alloc, Opcode::Abort, change, opaque, v),
         DcpMsg::SeqnoAcknowledged { seq } => of_acknowledged(alloc, *seq, opaque, v),
         DcpMsg::OpenAnswer { status } => Ok(bare(RESPONSE, Opcode::Open, *status, opaque)),
         DcpMsg::ControlAnswer { status } => Ok(bare(RESPONSE, Opcode::Control, *status, opaque)),
-        DcpMsg::StreamAnswer { told } => of_told(alloc, told, opaque),
+        DcpMsg::StreamAnswer { told } => verdict_as_frame(alloc, told, opaque),
     }
 }
 

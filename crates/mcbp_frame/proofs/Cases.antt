@@ -107,8 +107,8 @@ front bytes f h e =
     let rest : drop (frame_len f) bytes ≡ holds.1.0 = (λ i. drop (sym (length-spelling f) i) (holds.1.1 i)) ∙ drop-append_seam (spelling f) holds.1.0 in
     (holds.0, holds.1.1 ∙ ap (λ l. spelling f ++ l) (sym rest))
 
-pub whole_is : (bytes : List ℕ) (f : Frame) → AreBytes bytes → whole_frame bytes ≡ Some f → Readable f × (bytes ≡ spelling f)
-whole_is bytes f h e =
+pub whole_back : (bytes : List ℕ) (f : Frame) → AreBytes bytes → whole_frame bytes ≡ Some f → Readable f × (bytes ≡ spelling f)
+whole_back bytes f h e =
     let is = alone_is (first_frame bytes) f (length bytes) e in
     let is_front = front bytes f h is.0 in
     (is_front.0, is_front.1 ∙ ap (λ l. spelling f ++ l) (drop_all (frame_len f) bytes (omega (arith, is.1))) ∙ append-nil (spelling f))

@@ -28,13 +28,13 @@ gives_cut held (f ∷ frames) rest h g =
       stops = later.stops;
     }
 
-pub cut_gives : (held : List ℕ) (frames : List Frame) (rest : List ℕ) → Cut held frames rest → Gives held frames rest
-cut_gives held [] rest c = (sym c.joined, subst (λ l. IsNoFrame (first_frame l)) (sym c.joined) c.stops)
-cut_gives held (f ∷ frames) rest c =
+pub cut_is_given : (held : List ℕ) (frames : List Frame) (rest : List ℕ) → Cut held frames rest → Gives held frames rest
+cut_is_given held [] rest c = (sym c.joined, subst (λ l. IsNoFrame (first_frame l)) (sym c.joined) c.stops)
+cut_is_given held (f ∷ frames) rest c =
     let far : held ≡ spelling f ++ (spellings frames ++ rest) = c.joined ∙ append_assoc (spelling f) (spellings frames) rest in
     let later : drop (frame_len f) held ≡ spellings frames ++ rest = (λ i. drop (sym (length-spelling f) i) (far i)) ∙ drop-append_seam (spelling f) (spellings frames ++ rest) in (
       ap first_frame far ∙ reads_back f (spellings frames ++ rest) (All-head Readable f frames c.readable),
-      cut_gives (drop (frame_len f) held) frames rest (record { joined = later; readable = All-tail Readable f frames c.readable; stops = c.stops }),
+      cut_is_given (drop (frame_len f) held) frames rest (record { joined = later; readable = All-tail Readable f frames c.readable; stops = c.stops }),
     )
 
 no_frame : (held : List ℕ) (f : Frame) → IsNoFrame (first_frame held) → first_frame held ≡ Some (Ok f) → ⊥
@@ -51,7 +51,7 @@ gives_one held (f ∷ frames) (k ∷ others) rest left g h =
     ((λ i. same i ∷ later.0 i), later.1)
 
 pub one : (stream : List ℕ) (frames others : List Frame) (rest left : List ℕ) → Cut stream frames rest → Cut stream others left → (frames ≡ others) × (rest ≡ left)
-one stream frames others rest left c d = gives_one stream frames others rest left (cut_gives stream frames rest c) (cut_gives stream others left d)
+one stream frames others rest left c d = gives_one stream frames others rest left (cut_is_given stream frames rest c) (cut_is_given stream others left d)
 
 -- a cut of what has come goes on in what comes then
 pub more : (a b : List ℕ) (frames later : List Frame) (left rest : List ℕ) → Cut a frames left → Cut (left ++ b) later rest → Cut (a ++ b) (frames ++ later) rest

@@ -70,13 +70,13 @@ by_turns P none step zero (Some f) bytes h e = absurd (no_byte bytes f (omega ar
 by_turns P none step (suc turns) (Some f) bytes h e = step bytes f e (by_turns P none step turns _ (drop (frame_len f) bytes) (omega (arith, length-drop (frame_len f) bytes)) refl)
 
 -- what holds without a frame at the front, and of bytes if it holds behind the frame at their front, holds of all bytes
-pub by_frames : (P : List ℕ → Type 0) → ((bytes : List ℕ) → front_frame bytes ≡ None → P bytes)
+pub frame_by_frame : (P : List ℕ → Type 0) → ((bytes : List ℕ) → front_frame bytes ≡ None → P bytes)
     → ((bytes : List ℕ) (f : Frame) → front_frame bytes ≡ Some f → P (drop (frame_len f) bytes) → P bytes) → (bytes : List ℕ) → P bytes
-by_frames P none step bytes = by_turns P none step (length bytes) _ bytes (omega arith) refl
+frame_by_frame P none step bytes = by_turns P none step (length bytes) _ bytes (omega arith) refl
 
 -- the frames and what is left are what a reader gives
 pub gives : (bytes : List ℕ) → Gives bytes (frames_in bytes) (left_of bytes)
-gives = by_frames
+gives = frame_by_frame
     (λ bytes. Gives bytes (frames_in bytes) (left_of bytes))
     (λ bytes e. subst (λ fs. Gives bytes fs (left_of bytes)) (sym (frames-none bytes e)) (left-none bytes e, is_none (first_frame bytes) e))
     (λ bytes f e later. subst (λ fs. Gives bytes fs (left_of bytes)) (sym (frames-one bytes f e))
@@ -91,7 +91,7 @@ cuts bytes h = gives_cut bytes (frames_in bytes) (left_of bytes) h (gives bytes)
 
 -- no frame is left
 pub front_left : (bytes : List ℕ) → front_frame (left_of bytes) ≡ None
-front_left = by_frames (λ bytes. front_frame (left_of bytes) ≡ None) (λ bytes e. ap front_frame (left-none bytes e) ∙ e) (λ bytes f e later. ap front_frame (left-one bytes f e) ∙ later)
+front_left = frame_by_frame (λ bytes. front_frame (left_of bytes) ≡ None) (λ bytes e. ap front_frame (left-none bytes e) ∙ e) (λ bytes f e later. ap front_frame (left-one bytes f e) ∙ later)
 
 pub frames-left : (bytes : List ℕ) → frames_in (left_of bytes) ≡ []
 frames-left bytes = frames-none (left_of bytes) (front_left bytes)
@@ -115,7 +115,7 @@ behind_first a b f e = drop-append-le (frame_len f) a b (front_within a f e)
 
 -- the frames of two pieces: those of the first, and those of what it left with the second
 pub frames-append : (a b : List ℕ) → frames_in (a ++ b) ≡ frames_in a ++ frames_in (left_of a ++ b)
-frames-append a b = by_frames
+frames-append a b = frame_by_frame
     (λ x. frames_in (x ++ b) ≡ frames_in x ++ frames_in (left_of x ++ b))
     (λ x e. sym (λ i. frames-none x e i ++ frames_in (left-none x e i ++ b)))
     (λ x f e later. frames-one (x ++ b) f (front_stays x b f e) ∙ ap (λ l. f ∷ frames_in l) (behind_first x b f e) ∙ ap (λ fs. f ∷ fs) later
@@ -123,7 +123,7 @@ frames-append a b = by_frames
     a
 
 pub left-append : (a b : List ℕ) → left_of (a ++ b) ≡ left_of (left_of a ++ b)
-left-append a b = by_frames
+left-append a b = frame_by_frame
     (λ x. left_of (x ++ b) ≡ left_of (left_of x ++ b))
     (λ x e. sym (λ i. left_of (left-none x e i ++ b)))
     (λ x f e later. left-one (x ++ b) f (front_stays x b f e) ∙ ap left_of (behind_first x b f e) ∙ later ∙ sym (λ i. left_of (left-one x f e i ++ b)))
@@ -182,7 +182,7 @@ first_whole (g ∷ later) come coming f r h e =
 
 -- a front part of written frames is some of them, and less than a frame of the others
 pub parted : (come coming : List ℕ) (frames : List Frame) → All Readable frames → come ++ coming ≡ concat (map spelling frames) → Parted frames come coming
-parted come coming = by_frames
+parted come coming = frame_by_frame
     (λ x. (frames : List Frame) → All Readable frames → x ++ coming ≡ spellings frames → Parted frames x coming)
     (λ x e frames r h. record {
       later = frames;

@@ -13,7 +13,7 @@ use Rattle.vb_types.specs.Levels.{level_of}
 use Rattle.mcbp_kv.specs.Durable.{timeout_named, within}
 use Rattle.mcbp_kv.specs.Framing.{requirement_of}
 use Rattle.mcbp_kv.specs.Refusals.{IsHeaded, IsFramed, IsRefusedInOrder}
-use Rattle.mcbp_kv.specs.Requests.{is_one_of, client_opcodes, write_opcodes, is_datatype, known_or_invalid, required_of, durable_of, has_shape, when, first_of, asked_by, refused_or_asks, request_of}
+use Rattle.mcbp_kv.specs.Requests.{is_one_of, client_opcodes, write_opcodes, is_datatype, known_or_invalid, required_of, durable_of, has_shape, when, first_of, request_by, refused_or_asks, request_of}
 use Rattle.mcbp_kv.specs.Shapes.{IsCommandCode, HasForm}
 use Rattle.mcbp_kv.specs.declared.durable.Durability.{Durability}
 use Rattle.mcbp_kv.specs.declared.framing.Requirement.{Requirement}
@@ -86,7 +86,7 @@ refused_in_order json f = record {
   size = λ head fr form long. let (durable, d) = framed f fr in headed json f head (Ok durable) true true d (formed f head.opcode form) ((long_decides f.value).1 long);
   none = λ head fr form short.
       let (durable, d) = framed f fr in
-      (asked_by f.opcode durable f, headed json f head (Ok durable) true false d (formed f head.opcode form) (refuted _ (long_decides f.value) short));
+      (request_by f.opcode durable f, headed json f head (Ok durable) true false d (formed f head.opcode form) (refuted _ (long_decides f.value) short));
 }
 
 -- ---- and the other way round
@@ -99,13 +99,13 @@ pub record Passed (json : Bool) (f : Frame) (r : KvRequest) : Type 0 where
   pub framing : durable_of f ≡ Ok durable
   pub shape : has_shape f.opcode f ≡ true
   pub size : nat_lt MAX_VALUE (length f.value) ≡ false
-  pub asks : asked_by f.opcode durable f ≡ r
+  pub asks : request_by f.opcode durable f ≡ r
 
 pub read_passed : (json : Bool) (f : Frame) (r : KvRequest) → Passed json f r → request_of json f ≡ Ok r
 read_passed json f r p = is_read json f true true (Ok p.durable) true false p.code p.datatype p.framing p.shape p.size ∙ ap Ok p.asks
 
 read_tests : (f : Frame) (code datatype : Bool) (durable : Result (Option Durability) Status) (shape long : Bool) (r : KvRequest) → read_by f code datatype durable shape long ≡ Ok r
-    → (d : Option Durability) × (code ≡ true) × (datatype ≡ true) × (durable ≡ Ok d) × (shape ≡ true) × (long ≡ false) × (asked_by f.opcode d f ≡ r)
+    → (d : Option Durability) × (code ≡ true) × (datatype ≡ true) × (durable ≡ Ok d) × (shape ≡ true) × (long ≡ false) × (request_by f.opcode d f ≡ r)
 read_tests f false datatype durable shape long r h = absurd (cc h)
 read_tests f true false durable shape long r h = absurd (cc h)
 read_tests f true true (Err st) shape long r h = absurd (cc h)

@@ -12,17 +12,17 @@ use Rattle.std.proofs.lemmas.List.Sums.{fails_before_first, passes_at_first, pre
 use Rattle.std.proofs.lemmas.List.Quantifiers.{all_pairs_push}
 use Rattle.std.proofs.lemmas.Nat.{from_be_bytes-to_be_bytes_2, be_bytes_2}
 use Rattle.mcbp_kv.specs.Choices.{code_bytes, first_place, AreThose, AcceptsThose, AcceptsFew}
-use Rattle.mcbp_kv.specs.Features.{feature_code, feature_of, has_feature, with_feature, with_asked, pairs, accepted}
+use Rattle.mcbp_kv.specs.Features.{feature_code, feature_of, has_feature, with_feature, with_feature_code, pairs, accepted}
 use Rattle.mcbp_kv.specs.declared.feature.Feature.{Feature}
 use Rattle.mcbp_kv.specs.declared.feature.Feature.TheVariants as feature
 
 -- ---- features and their numbers
 
-of_code : (f : Feature) → feature_of (feature_code f) ≡ Some f
-of_code feature.MutationSeqnos = refl
-of_code feature.Json = refl
-of_code feature.AltRequests = refl
-of_code feature.SyncReplication = refl
+feature_back : (f : Feature) → feature_of (feature_code f) ≡ Some f
+feature_back feature.MutationSeqnos = refl
+feature_back feature.Json = refl
+feature_back feature.AltRequests = refl
+feature_back feature.SyncReplication = refl
 
 -- one row of a table of numbers
 row : (t : Bool) (f g : Feature) (rest : Option Feature) → cond t (Some f) rest ≡ Some g → ((t ≡ true) × (f ≡ g)) ⊎ (rest ≡ Some g)
@@ -48,7 +48,7 @@ code_of code g h = elim (row (code == 0x04) feature.MutationSeqnos g _ h) [
 ]
 
 same_code : (f g : Feature) → feature_code f ≡ feature_code g → f ≡ g
-same_code f g e = cc (of_code f, of_code g, ap feature_of e)
+same_code f g e = cc (feature_back f, feature_back g, ap feature_of e)
 
 -- ---- the bytes of numbers
 
@@ -90,8 +90,8 @@ place_new codes n h =
 pub has_there : (f : Feature) (fs : List Feature) → Contains fs f → has_feature f fs ≡ true
 has_there f fs h = list_any_at (λ g. feature_code g == feature_code f) fs h.0 f h.1 (eq-eqb _ _ (ap feature_code h.2))
 
-pub there_has : (f : Feature) (fs : List Feature) → has_feature f fs ≡ true → Contains fs f
-there_has f fs h =
+pub has_back : (f : Feature) (fs : List Feature) → has_feature f fs ≡ true → Contains fs f
+has_back f fs h =
     let (k, g, lt, at, same) = Any-from_list_any (λ g. feature_code g == feature_code f) fs h in
     let e : g ≡ f = same_code g f (eqb-true _ _ same) in
     subst (Contains fs) e (k, lt, at)
@@ -147,21 +147,21 @@ chosen_new codes f features h new = record {
 chosen_found : (codes : List ℕ) (f : Feature) (features : List Feature) → IsChosen codes features → (has : Bool) → has_feature f features ≡ has
     → IsChosen (codes ++ feature_code f ∷ []) (cond has features (features ++ f ∷ []))
 chosen_found codes f features h true e =
-    chosen_same codes (feature_code f) features h (λ g same. subst (Contains features) (same_code f g same) (there_has f features e))
+    chosen_same codes (feature_code f) features h (λ g same. subst (Contains features) (same_code f g same) (has_back f features e))
 chosen_found codes f features h false e = chosen_new codes f features h e
 
 chosen_by : (codes : List ℕ) (c : ℕ) (features : List Feature) → IsChosen codes features → (o : Option Feature) → feature_of c ≡ o
     → IsChosen (codes ++ c ∷ []) (with_feature features o)
-chosen_by codes c features h None e = chosen_same codes c features h (λ f same. absurd (cc (e, of_code f, ap feature_of same)))
+chosen_by codes c features h None e = chosen_same codes c features h (λ f same. absurd (cc (e, feature_back f, ap feature_of same)))
 chosen_by codes c features h (Some f) e =
     subst (λ n. IsChosen (codes ++ n ∷ []) (with_feature features (Some f))) (sym (code_of c f e))
     (chosen_found codes f features h (has_feature f features) refl)
 
-chosen_all : (codes more : List ℕ) (features : List Feature) → IsChosen codes features → IsChosen (codes ++ more) (fold with_asked features more)
+chosen_all : (codes more : List ℕ) (features : List Feature) → IsChosen codes features → IsChosen (codes ++ more) (fold with_feature_code features more)
 chosen_all codes [] features h = subst (λ all. IsChosen all features) (sym (append-nil codes)) h
 chosen_all codes (c ∷ more) features h =
-    subst (λ all. IsChosen all (fold with_asked features (c ∷ more))) (append_assoc codes (c ∷ []) more)
-    (chosen_all (codes ++ c ∷ []) more (with_asked features c) (chosen_by codes c features h (feature_of c) refl))
+    subst (λ all. IsChosen all (fold with_feature_code features (c ∷ more))) (append_assoc codes (c ∷ []) more)
+    (chosen_all (codes ++ c ∷ []) more (with_feature_code features c) (chosen_by codes c features h (feature_of c) refl))
 
 none_chosen : IsChosen [] []
 none_chosen = record {
@@ -173,12 +173,12 @@ pub accepts_those : AcceptsThose
 unfolding accepted
 accepts_those codes small =
     let chosen = chosen_all [] codes [] none_chosen in
-    let those : AreThose codes (fold with_asked [] codes) = record {
+    let those : AreThose codes (fold with_feature_code [] codes) = record {
       once = λ i j d lt in' same. let below = chosen.in_order i j d lt in' in omega (arith, below, ap (first_place codes) same);
       asked = chosen.asked;
       in_order = chosen.in_order;
     } in
-    subst (λ all. AreThose codes (fold with_asked [] all)) (sym (pairs_back codes small)) those
+    subst (λ all. AreThose codes (fold with_feature_code [] all)) (sym (pairs_back codes small)) those
 
 -- ---- at most as many as there are features
 
@@ -247,11 +247,11 @@ few_with : (o : Option Feature) (fs : List Feature) → length fs ≤ all_presen
 few_with None fs h = h
 few_with (Some f) fs h = few_found f fs h (has_feature f fs) refl
 
-few_all : (codes : List ℕ) (fs : List Feature) → length fs ≤ all_present fs → length (fold with_asked fs codes) ≤ 4
+few_all : (codes : List ℕ) (fs : List Feature) → length fs ≤ all_present fs → length (fold with_feature_code fs codes) ≤ 4
 unfolding all_present
 few_all [] fs h =
     omega (arith, h, present_once feature.MutationSeqnos fs, present_once feature.Json fs, present_once feature.AltRequests fs, present_once feature.SyncReplication fs)
-few_all (c ∷ codes) fs h = few_all codes (with_asked fs c) (few_with (feature_of c) fs h)
+few_all (c ∷ codes) fs h = few_all codes (with_feature_code fs c) (few_with (feature_of c) fs h)
 
 none_present : length {A = Feature} [] ≤ all_present []
 none_present = omega arith

@@ -15,11 +15,11 @@ use Rattle.vb_types.specs.declared.key.TheConstants.{MAX_VALUE}
 use Rattle.vb_types.specs.declared.write.Op.{Op}
 use Rattle.vb_types.specs.declared.write.Op.TheVariants as op
 use Rattle.vb_types.specs.declared.write.Write.{Write}
-use Rattle.mcbp_kv.specs.Commands.{IsRequired, IsRequest, IsKeyAlone, IsStore, IsRemoval, IsWrite, IsCommand, SpelledIsRead, ReadIsSpelled, HasPartsOf, ReadFits, TimeoutsFit}
+use Rattle.mcbp_kv.specs.Commands.{IsRequired, IsRequest, IsKeyAlone, IsStore, IsRemoval, IsWrite, IsCommand, SpelledIsRead, CommandIsSpelled, HasPartsOf, ReadFits, TimeoutsFit}
 use Rattle.mcbp_kv.specs.Features.{pairs}
 use Rattle.mcbp_kv.specs.Fitting.{WriteFits, RequestFits}
 use Rattle.mcbp_kv.specs.Framing.{requirement_of}
-use Rattle.mcbp_kv.specs.Requests.{is_one_of, client_opcodes, write_opcodes, required_of, has_shape, asked_by, op_of, removal, stored, request_of}
+use Rattle.mcbp_kv.specs.Requests.{is_one_of, client_opcodes, write_opcodes, required_of, has_shape, request_by, op_of, removal, stored, request_of}
 use Rattle.mcbp_kv.specs.Shapes.{HasDatatype, HasKeyAlone, HasDocument}
 use Rattle.mcbp_kv.specs.declared.durable.Durability.{Durability}
 use Rattle.mcbp_kv.specs.declared.opcodes.TheConstants.{GET, SET, ADD, REPLACE, DELETE, NOOP, HELLO}
@@ -33,7 +33,7 @@ use Rattle.mcbp_kv.proofs.Shapes.{datatype_decides, key_alone, nothing, greeting
 -- a request of a known opcode, with the parts of its row, asks what that row says
 pass : (json : Bool) (f : Frame) (code : ℕ) (durable : Option Durability) (r : KvRequest) → IsRequest json f code durable
     → required_of code (requirement_of f.framing) ≡ Ok durable → is_one_of code client_opcodes ≡ true → has_shape code f ≡ true
-    → IsValue f.value → asked_by code durable f ≡ r → request_of json f ≡ Ok r
+    → IsValue f.value → request_by code durable f ≡ r → request_of json f ≡ Ok r
 pass json f code durable r header required known shape size asks = read_passed json f r (record {
   durable = durable;
   code = ap (λ n. is_one_of n client_opcodes) header.opcode ∙ known;
@@ -41,7 +41,7 @@ pass json f code durable r header required known shape size asks = read_passed j
   framing = ap (λ n. required_of n (requirement_of f.framing)) header.opcode ∙ required;
   shape = ap (λ n. has_shape n f) header.opcode ∙ shape;
   size = le-ltb MAX_VALUE (length f.value) size;
-  asks = ap (λ n. asked_by n durable f) header.opcode ∙ asks;
+  asks = ap (λ n. request_by n durable f) header.opcode ∙ asks;
 })
 
 no_value : (value : List ℕ) → value ≡ [] → IsValue value
@@ -52,7 +52,7 @@ key_form f key h = record { extras = h.extras; key = subst IsKey (sym h.key) h.k
 
 -- and nothing is required of it
 plain_pass : (json : Bool) (f : Frame) (code : ℕ) (r : KvRequest) → IsRequest json f code None → is_one_of code client_opcodes ≡ true → has_shape code f ≡ true
-    → IsValue f.value → asked_by code None f ≡ r → request_of json f ≡ Ok r
+    → IsValue f.value → request_by code None f ≡ r → request_of json f ≡ Ok r
 unfolding requirement_of
 plain_pass json f code r header known shape size asks =
     pass json f code None r header (ap (λ bytes. required_of code (requirement_of bytes)) header.framing) known shape size asks
@@ -81,7 +81,7 @@ stored_is json f code write durable h o = (λ i. record {
 
 store_read : (json : Bool) (f : Frame) (code : ℕ) (write : Write) (durable : Option Durability) → IsStore json f code write durable
     → is_one_of code client_opcodes ≡ true → is_one_of code write_opcodes ≡ true → has_shape code f ≡ true
-    → asked_by code durable f ≡ request.Write (stored f) durable → op_of code ≡ write.op → request_of json f ≡ Ok (request.Write write durable)
+    → request_by code durable f ≡ request.Write (stored f) durable → op_of code ≡ write.op → request_of json f ≡ Ok (request.Write write durable)
 store_read json f code write durable h known writes shape asks o =
     pass json f code durable (request.Write write durable) h.header (durable_read code f.framing durable writes h.header.framing) known shape
     (subst IsValue (sym h.value) h.value_size) (asks ∙ ap (λ w. request.Write w durable) (stored_is json f code write durable h o))
@@ -193,24 +193,24 @@ store_of json f code o durable magic h required e form = record {
 }
 
 -- a request of a store is that of its frame, with the operation of its opcode
-as_stored : (json : Bool) (f : Frame) (code : ℕ) (o : Op) (durable : Option Durability) (r : KvRequest) → f.opcode ≡ code → op_of code ≡ o → request.Write (stored f) durable ≡ r
+command_is_stored : (json : Bool) (f : Frame) (code : ℕ) (o : Op) (durable : Option Durability) (r : KvRequest) → f.opcode ≡ code → op_of code ≡ o → request.Write (stored f) durable ≡ r
     → IsCommand json f (request.Write (stored_as o f) durable) → IsCommand json f r
-as_stored json f code o durable r e is asks h = subst (IsCommand json f) ((λ i. request.Write (stored_as ((sym is ∙ ap op_of (sym e)) i) f) durable) ∙ asks) h
+command_is_stored json f code o durable r e is asks h = subst (IsCommand json f) ((λ i. request.Write (stored_as ((sym is ∙ ap op_of (sym e)) i) f) durable) ∙ asks) h
 
 -- a frame of bytes that is read as a command is spelled as it
-pub read_is_spelled : ReadIsSpelled
-read_is_spelled json f r readable request framing bytes value h =
+pub command_is_spelled : CommandIsSpelled
+command_is_spelled json f r readable request framing bytes value h =
     let p = passed json f r h in
     let m = magic_of f readable request in
     let g = fine json f r bytes p in
     let d = p.durable in
     let q = durable_spelled f.opcode f.framing d framing p.framing in
     let plain = λ (n : ℕ) (e : f.opcode ≡ n) (t : is_one_of n write_opcodes ≡ false). plain_spelled f.opcode f.framing d (ap (λ n. is_one_of n write_opcodes) e ∙ t) p.framing in
-    each_code (λ n. f.opcode ≡ n → has_shape n f ≡ true → asked_by n d f ≡ r → IsCommand json f r)
+    each_code (λ n. f.opcode ≡ n → has_shape n f ≡ true → request_by n d f ≡ r → IsCommand json f r)
     (λ e s a. subst (IsCommand json f) a (record { header = header_of json f GET None m g (plain GET e refl) e; parts = alone_of f ((key_alone f).0 s) }))
-    (λ e s a. as_stored json f SET op.Set d r e refl a (store_of json f SET op.Set d m g q e ((old_document f).0 s)))
-    (λ e s a. let form = (new_document f).0 s in as_stored json f ADD op.Add d r e refl a (store_of json f ADD op.Add d m g q e form.0, form.1))
-    (λ e s a. as_stored json f REPLACE op.Replace d r e refl a (store_of json f REPLACE op.Replace d m g q e ((old_document f).0 s)))
+    (λ e s a. command_is_stored json f SET op.Set d r e refl a (store_of json f SET op.Set d m g q e ((old_document f).0 s)))
+    (λ e s a. let form = (new_document f).0 s in command_is_stored json f ADD op.Add d r e refl a (store_of json f ADD op.Add d m g q e form.0, form.1))
+    (λ e s a. command_is_stored json f REPLACE op.Replace d r e refl a (store_of json f REPLACE op.Replace d m g q e ((old_document f).0 s)))
     (λ e s a. subst (IsCommand json f) a (record {
       header = header_of json f DELETE d m g q e;
       parts = alone_of f ((key_alone f).0 s);
@@ -264,7 +264,7 @@ pub read_fits : ReadFits
 read_fits json f r readable bytes h =
     let p = passed json f r h in
     let g = fine json f r bytes p in
-    each_code (λ n. has_shape n f ≡ true → asked_by n p.durable f ≡ r → RequestFits r × HasPartsOf f r)
+    each_code (λ n. has_shape n f ≡ true → request_by n p.durable f ≡ r → RequestFits r × HasPartsOf f r)
     (λ s a. fits f r _ a ((key_alone f).0 s).key refl)
     (λ s a. fits f r _ a (store_fits json f readable g ((old_document f).0 s)) (refl, refl))
     (λ s a. fits f r _ a (store_fits json f readable g ((new_document f).0 s).0) (refl, refl))
@@ -278,8 +278,8 @@ read_fits json f r readable bytes h =
 
 -- a write requires what its frame does
 required_is : (opcode : ℕ) (durable : Option Durability) (f : Frame) (write : Write) (d : Durability) → is_one_of opcode client_opcodes ≡ true
-    → asked_by opcode durable f ≡ request.Write write (Some d) → durable ≡ Some d
-required_is opcode durable f write d code = each_code (λ n. asked_by n durable f ≡ request.Write write (Some d) → durable ≡ Some d)
+    → request_by opcode durable f ≡ request.Write write (Some d) → durable ≡ Some d
+required_is opcode durable f write d code = each_code (λ n. request_by n durable f ≡ request.Write write (Some d) → durable ≡ Some d)
     (λ a. absurd (cc a)) (λ a. cc a) (λ a. cc a) (λ a. cc a) (λ a. cc a) (λ a. absurd (cc a)) (λ a. absurd (cc a)) opcode code
 
 pub timeouts_fit : TimeoutsFit

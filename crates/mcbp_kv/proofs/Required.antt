@@ -14,7 +14,7 @@ use Rattle.vb_types.specs.Levels.{level_number, level_of}
 use Rattle.vb_types.proofs.Levels.{level_back, numbered}
 use Rattle.mcbp_kv.specs.Commands.{IsRequired}
 use Rattle.mcbp_kv.specs.Durable.{timeout_named, within, durability_named}
-use Rattle.mcbp_kv.specs.Framing.{DURABILITY, extra_id, extra_len, is_requirement_len, said_by, requirement_alone, requirement_of}
+use Rattle.mcbp_kv.specs.Framing.{DURABILITY, extra_id, extra_len, is_requirement_len, requirement_by_len, requirement_alone, requirement_of}
 use Rattle.mcbp_kv.specs.Requests.{is_one_of, write_opcodes, known_or_invalid, required_of}
 use Rattle.mcbp_kv.specs.declared.durable.Durability.{Durability}
 use Rattle.mcbp_kv.specs.declared.framing.Requirement.{Requirement}
@@ -68,7 +68,7 @@ tests_passed true true true whole r h = absurd (cc h)
 tests_passed true true false whole r h = (refl, refl, refl, h)
 
 -- a level alone, or a level and two bytes
-one_byte : (b : ℕ) (rest : List ℕ) (r : Requirement) → b ≡ 0x11 → length rest ≡ 1 → said_by 1 rest ≡ r → IsNamed (b ∷ rest) r
+one_byte : (b : ℕ) (rest : List ℕ) (r : Requirement) → b ≡ 0x11 → length rest ≡ 1 → requirement_by_len 1 rest ≡ r → IsNamed (b ∷ rest) r
 one_byte b [] r e n h = absurd (omega (arith, n))
 one_byte b (lv ∷ []) r e n h = record { spelled = inl ((λ i. e i ∷ (h i).level ∷ []), sym (ap (λ q. q.timeout) h)) }
 one_byte b (lv ∷ o ∷ rest) r e n h = absurd (omega (arith, n))
@@ -76,7 +76,7 @@ one_byte b (lv ∷ o ∷ rest) r e n h = absurd (omega (arith, n))
 two_bytes : (bytes : List ℕ) → AreBytes bytes → length bytes ≡ 2 → (from_be_bytes w16 bytes < 2 ^ 16) × (bytes ≡ to_be_bytes w16 (from_be_bytes w16 bytes))
 two_bytes bytes are two = let s = small bytes are in (omega (arith, s 0, s 1), sym (be_bytes_2 bytes (from_be_bytes w16 bytes) two s refl))
 
-three_bytes : (b : ℕ) (rest : List ℕ) (r : Requirement) → b ≡ 0x13 → AreBytes rest → length rest ≡ 3 → said_by 3 rest ≡ r → IsNamed (b ∷ rest) r
+three_bytes : (b : ℕ) (rest : List ℕ) (r : Requirement) → b ≡ 0x13 → AreBytes rest → length rest ≡ 3 → requirement_by_len 3 rest ≡ r → IsNamed (b ∷ rest) r
 three_bytes b [] r e are n h = absurd (omega (arith, n))
 three_bytes b (lv ∷ []) r e are n h = absurd (omega (arith, n))
 three_bytes b (lv ∷ x ∷ []) r e are n h = absurd (omega (arith, n))
@@ -93,13 +93,13 @@ unfolding requirement_of by_tests
 named [] r are h = absurd (cc h)
 named (b ∷ rest) r are h =
     let t = tests_passed (extra_id b == DURABILITY) (is_requirement_len (extra_len b)) (nat_lt (length rest) (extra_len b))
-    (requirement_alone (said_by (extra_len b) rest) (drop (extra_len b) rest)) r h in
-    let alone = alone_passed r (said_by (extra_len b) rest) (drop (extra_len b) rest) t.3 in
+    (requirement_alone (requirement_by_len (extra_len b) rest) (drop (extra_len b) rest)) r h in
+    let alone = alone_passed r (requirement_by_len (extra_len b) rest) (drop (extra_len b) rest) t.3 in
     let id : extra_id b ≡ 1 = eqb-true (extra_id b) DURABILITY t.0 in
     let size : length rest ≡ extra_len b = grind (arith, nat_tests, t.2, ap length alone.0, length-drop (extra_len b) rest) in
     elim (lengths (extra_len b) t.1) [
-      | inl one ↦ one_byte b rest r (omega (arith, id, one)) (size ∙ one) (ap (λ n. said_by n rest) (sym one) ∙ alone.1)
-      | inr three ↦ three_bytes b rest r (omega (arith, id, three)) (All-tail (λ b. b < 256) b rest are) (size ∙ three) (ap (λ n. said_by n rest) (sym three) ∙ alone.1)
+      | inl one ↦ one_byte b rest r (omega (arith, id, one)) (size ∙ one) (ap (λ n. requirement_by_len n rest) (sym one) ∙ alone.1)
+      | inr three ↦ three_bytes b rest r (omega (arith, id, three)) (All-tail (λ b. b < 256) b rest are) (size ∙ three) (ap (λ n. requirement_by_len n rest) (sym three) ∙ alone.1)
     ]
 
 timeout_is : (named : ℕ) → ((named ≡ 0) × (timeout_named named ≡ 30000)) ⊎ ((1 ≤ named) × (timeout_named named ≡ named))

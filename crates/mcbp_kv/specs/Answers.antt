@@ -25,12 +25,12 @@ pub record IsAnswer (f : Frame) (code said number kind : ℕ) : Type 0 where
   pub framing : f.framing ≡ []
 
 -- the datatype of a document, for a client that has asked for it, and 0 for any other
-abbrev pub told_datatype : Bool → Doc → ℕ
-told_datatype json doc = if json then doc.datatype else 0
+abbrev pub datatype_for : Bool → Doc → ℕ
+datatype_for json doc = if json then doc.datatype else 0
 
 -- the answer to a GET that found a document: its datatype, its CAS, its flags in four big-endian bytes, and its value
 pub record IsFound (json : Bool) (f : Frame) (opaque : ℕ) (doc : Doc) : Type 0 where
-  pub header : IsAnswer f GET 0 opaque (told_datatype json doc)
+  pub header : IsAnswer f GET 0 opaque (datatype_for json doc)
   pub cas : f.cas ≡ doc.cas
   pub extras : f.extras ≡ to_be_bytes w32 doc.flags
   pub value : f.value ≡ doc.value
@@ -63,7 +63,7 @@ found_answer json opaque doc = record {
   status = status.Success;
   opaque = opaque;
   cas = doc.cas;
-  datatype = told_datatype json doc;
+  datatype = datatype_for json doc;
   extras = to_be_bytes w32 doc.flags;
   value = doc.value;
 }

@@ -117,8 +117,8 @@ abbrev pub SpelledIsRead : Type 0
 SpelledIsRead = (json : Bool) (f : Frame) (r : KvRequest) → IsCommand json f r → request_of json f ≡ Ok r
 
 -- and a frame of bytes that is read as a command is spelled as it, unless it is a response
-abbrev pub ReadIsSpelled : Type 0
-ReadIsSpelled =
+abbrev pub CommandIsSpelled : Type 0
+CommandIsSpelled =
     (json : Bool) (f : Frame) (r : KvRequest) → Readable f → f.magic ≢ RESPONSE → AreBytes f.framing → AreBytes f.extras → AreBytes f.value
     → request_of json f ≡ Ok r → IsCommand json f r
 

@@ -31,8 +31,8 @@ with_feature fs None = fs
 with_feature fs (Some f) = if has_feature f fs then fs else fs ++ f ∷ []
 
 -- the features with the one of a number that is asked for
-abbrev pub with_asked : List Feature → ℕ → List Feature
-with_asked fs code = with_feature fs (feature_of code)
+abbrev pub with_feature_code : List Feature → ℕ → List Feature
+with_feature_code fs code = with_feature fs (feature_of code)
 
 -- numbers of two bytes each
 abbrev pub pairs : List ℕ → List ℕ
@@ -42,7 +42,7 @@ pairs (high ∷ low ∷ rest) = from_be_bytes w16 (high ∷ low ∷ []) ∷ pair
 
 -- the features that are accepted of those asked for by their numbers: the ones that there are, in the order asked, each once
 unfoldable pub accepted : List ℕ → List Feature
-accepted value = fold with_asked [] (pairs value)
+accepted value = fold with_feature_code [] (pairs value)
 
 -- the numbers of features, two bytes each
 unfoldable pub feature_bytes : List Feature → List ℕ

@@ -22,8 +22,8 @@ abbrev pub is_requirement_len : ℕ → Bool
 is_requirement_len n = n == 1 || n == 3
 
 -- what a durability requirement of this length says: its level, and its timeout in big-endian bytes, or 0 where it has none
-abbrev pub said_by : ℕ → List ℕ → Requirement
-said_by len bytes = record {
+abbrev pub requirement_by_len : ℕ → List ℕ → Requirement
+requirement_by_len len bytes = record {
   level = slice_index bytes 0;
   timeout = if len == 3 then from_be_bytes w16 (slice_index bytes 1 ∷ slice_index bytes 2 ∷ []) else 0;
 }
@@ -40,4 +40,4 @@ requirement_of (b ∷ rest) =
     if not (extra_id b == DURABILITY) then Err status.UnknownFrameInfo
     else if not (is_requirement_len (extra_len b)) then Err status.Einval
     else if nat_lt (length rest) (extra_len b) then Err status.Einval
-    else requirement_alone (said_by (extra_len b) rest) (drop (extra_len b) rest)
+    else requirement_alone (requirement_by_len (extra_len b) rest) (drop (extra_len b) rest)

@@ -132,8 +132,8 @@ written op.Delete f = removal f
 written other f = stored f
 
 -- what a frame of this opcode asks that nothing is wrong with, with what is required of its write
-abbrev pub asked_by : ℕ → Option Durability → Frame → KvRequest
-asked_by opcode durable f =
+abbrev pub request_by : ℕ → Option Durability → Frame → KvRequest
+request_by opcode durable f =
     if opcode == GET then request.Get f.key
     else if opcode == NOOP then request.Noop
     else if opcode == HELLO then request.Hello (accepted f.value)
@@ -142,7 +142,7 @@ asked_by opcode durable f =
 
 -- a frame is refused, or asks
 abbrev pub refused_or_asks : Option Status → Option Durability → Frame → Result KvRequest Status
-refused_or_asks None durable f = Ok (asked_by f.opcode durable f)
+refused_or_asks None durable f = Ok (request_by f.opcode durable f)
 refused_or_asks (Some st) durable f = Err st
 
 -- what a client's frame asks, on a connection with or without the feature JSON

@@ -1,6 +1,6 @@
 //! Features that a client asks for.
 ghost use Rattle.std.specs.Prelude.{◌≡◌, ◌*◌, IfOk, OnOk, length};
-ghost use Rattle.mcbp_kv.specs.Features.{feature_code, feature_of, has_feature, with_asked, accepted, feature_bytes};
+ghost use Rattle.mcbp_kv.specs.Features.{feature_code, feature_of, has_feature, with_feature_code, accepted, feature_bytes};
 
 use bytes::{Bytes, BytesMut};
 use std::alloc::{AllocError, Global};
@@ -50,7 +50,7 @@ fn has(features: &[Feature], wanted: Feature) -> bool
 
 /// Adds the feature of a number, if there is one and it is not there.
 fn add_asked(features: &mut Listed<Feature>, code: u16) -> Result<(), AllocError>
-    ensures { OnOk result (features.new ≡ with_asked features.old code) }
+    ensures { OnOk result (features.new ≡ with_feature_code features.old code) }
 {
     match Feature::from_code(code) {
         Some(feature) if !has(features.as_slice(), feature) => features.push(feature),

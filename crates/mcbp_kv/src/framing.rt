@@ -1,6 +1,6 @@
 //! Durability requirements, as framing extras.
 ghost use Rattle.std.specs.Prelude.{◌≡◌, ◌≤◌, length};
-ghost use Rattle.mcbp_kv.specs.Framing.{said_by, requirement_alone, requirement_of};
+ghost use Rattle.mcbp_kv.specs.Framing.{requirement_by_len, requirement_alone, requirement_of};
 
 use vb_types::Status;
 
@@ -18,7 +18,7 @@ pub struct Requirement {
 fn said(len: usize, bytes: &[u8]) -> Requirement
     requires some { 1 ≤ len }
     requires there { len ≤ length bytes.now }
-    ensures { result ≡ said_by len bytes.now }
+    ensures { result ≡ requirement_by_len len bytes.now }
 {
     Requirement {
         level: bytes[0],

@@ -3,7 +3,7 @@ ghost use Rattle.std.specs.Prelude.{◌≡◌, ◌≤◌, ◌∷◌, [], ℕ, Li
 ghost use Rattle.{mcbp_frame.specs.declared.frame.Frame.{Frame as Framed}, mcbp_frame.specs.declared.frame.TheConstants.{REQUEST, FRAMED_REQUEST, RESPONSE}};
 ghost use Rattle.{mcbp_kv.specs.declared.durable.TheConstants.{DEFAULT_TIMEOUT}, vb_types.specs.declared.change.Level.TheVariants.{Majority, MajorityPersistActive, PersistMajority}};
 ghost use Rattle.mcbp_kv.specs.Answers.{AnswersInOrder, IsFound, IsStored, IsWelcome, IsBare, found_answer, stored_answer, seqno_extras, welcome_answer, bare_answer};
-ghost use Rattle.{mcbp_kv.specs.Choices.{AcceptsThose, AcceptsFew}, mcbp_kv.specs.Commands.{SpelledIsRead, ReadIsSpelled, ReadFits, TimeoutsFit}, mcbp_kv.specs.Extras.{IsReadAsSpelled}};
+ghost use Rattle.{mcbp_kv.specs.Choices.{AcceptsThose, AcceptsFew}, mcbp_kv.specs.Commands.{SpelledIsRead, CommandIsSpelled, ReadFits, TimeoutsFit}, mcbp_kv.specs.Extras.{IsReadAsSpelled}};
 ghost use Rattle.{mcbp_kv.specs.Features.{accepted, feature_bytes, feature_code}, mcbp_kv.specs.Framing.{DURABILITY, requirement_of}, mcbp_kv.specs.Refusals.{IsRefusedInOrder}, mcbp_kv.specs.Replies.{reply_frame}};
 ghost use Rattle.{mcbp_kv.specs.Durable.{within}, mcbp_kv.specs.Requests.{client_opcodes, write_opcodes, required_of}, mcbp_kv.specs.declared.feature.Feature.{Feature as Chosen}};
 ghost use Rattle.mcbp_kv.specs.declared.feature.Feature.TheVariants.{MutationSeqnos, Json, AltRequests, SyncReplication};
@@ -13,7 +13,7 @@ ghost use Rattle.{vb_types.specs.declared.doc.Doc.{Doc as DocData}, vb_types.spe
 /// A frame is read as a command exactly where it is spelled as that command, field by field.
 pub fn commands_are_spelled()
     ensures read { SpelledIsRead }
-    ensures spelled { ReadIsSpelled }
+    ensures spelled { CommandIsSpelled }
 {}
 
 /// What is read of a frame of bytes has its key and value, and numbers that fit their fields.

@@ -1,6 +1,6 @@
 //! What a client's frame asks.
 ghost use Rattle.std.specs.Prelude.{◌≡◌, IfOk, IfErr, OnOk, None, Some, Ok, true};
-ghost use Rattle.{mcbp_kv.specs.Fitting.{AsksFew}, mcbp_kv.specs.Requests.{code_of, required_of, durable_of, has_shape, first_of, refusals, written, asked_by, request_of}, vb_types.specs.Limits.{IsValue}};
+ghost use Rattle.{mcbp_kv.specs.Fitting.{AsksFew}, mcbp_kv.specs.Requests.{code_of, required_of, durable_of, has_shape, first_of, refusals, written, request_by, request_of}, vb_types.specs.Limits.{IsValue}};
 ghost use Rattle.mcbp_kv.specs.declared.opcodes.Command.TheVariants as command;
 
 use crate::durable::Durability;
@@ -133,7 +133,7 @@ fn asked(alloc: Global, f: &Frame, called: Called) -> Result<KvRequest, AllocErr
     requires opcode { code_of called.command ≡ f.now.opcode }
     requires shape { has_shape f.now.opcode f.now ≡ true }
     requires value { IsValue f.now.value }
-    ensures request { IfOk result (λ request. request ≡ asked_by f.now.opcode called.durable f.now) }
+    ensures request { IfOk result (λ request. request ≡ request_by f.now.opcode called.durable f.now) }
     ensures few { IfOk result AsksFew }
 {
     match called.command {

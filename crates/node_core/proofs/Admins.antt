@@ -16,17 +16,17 @@ use Rattle.node_core.specs.declared.admin.AdminCall.TheVariants as admin
 use Rattle.node_core.specs.declared.conn.Conn.{Conn}
 use Rattle.node_core.specs.declared.node.Node.{Node}
 use Rattle.node_core.specs.declared.out.NodeOut.{NodeOut}
-use Rattle.node_core.specs.declared.roles.AdminTold.{AdminTold as Lines}
-use Rattle.node_core.specs.declared.roles.AdminTold.TheVariants as lines
-use Rattle.node_core.specs.Admin.{AdminTold, admin_told, admin_job, noted_answer, noted_job, role_lines, role_noted}
+use Rattle.node_core.specs.declared.roles.AdminResult.{AdminResult as Lines}
+use Rattle.node_core.specs.declared.roles.AdminResult.TheVariants as lines
+use Rattle.node_core.specs.Admin.{AdminResult, admin_result, admin_job, noted_answer, noted_job, role_lines, role_noted}
 use Rattle.node_core.specs.Dials.{KeptDial}
 use Rattle.node_core.specs.Handing.{HandsOut}
 use Rattle.node_core.specs.Outs.{cut_lines, done_out, dial_ended, admin_out, Tells}
-use Rattle.node_core.specs.Outcomes.{value_at, Renumbered, conn_told, Administered}
+use Rattle.node_core.specs.Outcomes.{value_at, Renumbered, conn_ended, Administered}
 use Rattle.node_core.proofs.Keys.{let_go}
 
 -- where the role did not change, no connection is told of ended streams
-told_nothing : (v : ℕ) (o : Option Conn) → option_map (conn_told v None) o ≡ o
+told_nothing : (v : ℕ) (o : Option Conn) → option_map (conn_ended v None) o ≡ o
 told_nothing v None = refl
 told_nothing v (Some c) = refl
 
@@ -41,13 +41,13 @@ noted_is n v admin.Show = refl
 noted_is n v admin.Log = refl
 
 -- that a record could not be appended takes the answer's place, and no other
-noted_out : (d : Option KeptDial) (wrote : Wrote) (t : AdminTold)
+noted_out : (d : Option KeptDial) (wrote : Wrote) (t : AdminResult)
     → record (admin_out d t) { answer = noted_answer wrote (admin_out d t).answer } ≡ admin_out d (record t { answer = noted_answer wrote t.answer })
 noted_out None wrote t = refl
 noted_out (Some kept) wrote t = refl
 
 -- a change of role that was told
-abbrev Gave : List ℕ → List Resolved → List Event → AdminTold
+abbrev Gave : List ℕ → List Resolved → List Event → AdminResult
 Gave ids outcomes lines = record { events = lines; answer = line.Ok; ended = Some ids; resolved = outcomes }
 
 -- the lines of a change of role behind that of the own dial, and what became of durable writes
@@ -83,11 +83,11 @@ module _ {W J : Type 0} (step : W → ℕ → VbCall → Option VbReply → W �
   -- a call that gave no role
   only_told : (v : ℕ) (asked : AdminCall) (old : Node W J) (reply : Option VbReply) (wrote : Wrote) (out : NodeOut) (new : Node W J)
       → RanJob step asks (noted_job v asked) old.vbs old.disks (reply, wrote) new.vbs new.disks → new ≡ record old { vbs = new.vbs; disks = new.disks }
-      → (admin_told new.number v asked reply).ended ≡ None → out ≡ admin_out None (admin_told new.number v asked reply)
+      → (admin_result new.number v asked reply).ended ≡ None → out ≡ admin_out None (admin_result new.number v asked reply)
       → Administered step asks v asked old (record out { answer = noted_answer wrote out.answer }) new
   only_told v asked old reply wrote out new ran still none said =
-      let told : AdminTold = admin_told old.number v asked reply in
-      let same : admin_told new.number v asked reply ≡ told = ap (λ n. admin_told n.number v asked reply) still in
+      let told : AdminResult = admin_result old.number v asked reply in
+      let same : admin_result new.number v asked reply ≡ told = ap (λ n. admin_result n.number v asked reply) still in
       let silent : told.ended ≡ None = sym (ap (λ t. t.ended) same) ∙ none in
       record {
         told = role_noted old.number v asked (reply, wrote);
@@ -102,12 +102,12 @@ module _ {W J : Type 0} (step : W → ℕ → VbCall → Option VbReply → W �
   -- a call that gave a role
   role_given : (v : ℕ) (asked : AdminCall) (old : Node W J) (reply : Option VbReply) (wrote : Wrote) (ids : List ℕ) (outcomes : List Resolved) (lines : List Event) (turned : NodeOut) (mid new : Node W J)
       → RanJob step asks (noted_job v asked) old.vbs old.disks (reply, wrote) mid.vbs mid.disks → mid ≡ record old { vbs = mid.vbs; disks = mid.disks }
-      → admin_told mid.number v asked reply ≡ Gave ids outcomes lines → turned ≡ record (done_out (cut_lines (value_at mid.dials v) ++ lines) []) { closed = is_some (value_at mid.dials v) }
-      → ((key : ℕ) → get new.conns key ≡ option_map (conn_told v (Some ids)) (get mid.conns key)) → Renumbered mid.dials new.dials v None
+      → admin_result mid.number v asked reply ≡ Gave ids outcomes lines → turned ≡ record (done_out (cut_lines (value_at mid.dials v) ++ lines) []) { closed = is_some (value_at mid.dials v) }
+      → ((key : ℕ) → get new.conns key ≡ option_map (conn_ended v (Some ids)) (get mid.conns key)) → Renumbered mid.dials new.dials v None
       → new ≡ record mid { conns = new.conns; dials = new.dials }
       → Administered step asks v asked old (record turned { answer = noted_answer wrote turned.answer; resolved = outcomes }) new
   role_given v asked old reply wrote ids outcomes lines turned mid new ran still told_is said conns dials rest =
-      let is : admin_told old.number v asked reply ≡ Gave ids outcomes lines = sym (ap (λ n. admin_told n.number v asked reply) still) ∙ told_is in
+      let is : admin_result old.number v asked reply ≡ Gave ids outcomes lines = sym (ap (λ n. admin_result n.number v asked reply) still) ∙ told_is in
       let vbs : new.vbs ≡ mid.vbs = ap (λ n. n.vbs) rest in
       let disks : new.disks ≡ mid.disks = ap (λ n. n.disks) rest in
       let own : mid.dials ≡ old.dials = ap (λ n. n.dials) still in
@@ -119,8 +119,8 @@ module _ {W J : Type 0} (step : W → ℕ → VbCall → Option VbReply → W �
         said = ap {A = NodeOut} (λ o. record o { answer = noted_answer wrote o.answer })
             (ap {A = NodeOut} (λ o. record o { resolved = outcomes }) said ∙ given_out (value_at mid.dials v) ids outcomes lines ∙ ap (λ ds. admin_out (value_at ds v) (Gave ids outcomes lines)) own)
             ∙ noted_out (value_at old.dials v) wrote (Gave ids outcomes lines)
-            ∙ ap {A = AdminTold} (λ t. admin_out (dial_ended t.ended (value_at old.dials v)) (record t { answer = noted_answer wrote t.answer })) (sym is);
-        conns = λ key. conns key ∙ (λ i. option_map (conn_told v (sym (ap (λ t. t.ended) is) i)) (get (still i).conns key));
+            ∙ ap {A = AdminResult} (λ t. admin_out (dial_ended t.ended (value_at old.dials v)) (record t { answer = noted_answer wrote t.answer })) (sym is);
+        conns = λ key. conns key ∙ (λ i. option_map (conn_ended v (sym (ap (λ t. t.ended) is) i)) (get (still i).conns key));
         dials = rw is (let_go old.dials new.dials v (subst (λ ds. Renumbered ds new.dials v None) own dials));
         rest = rest ∙ ap {A = Node W J} (λ m. record m { conns = new.conns; dials = new.dials }) still
             ∙ (λ i. record old { vbs = sym vbs i; disks = sym disks i; conns = new.conns; dials = new.dials });
@@ -129,7 +129,7 @@ module _ {W J : Type 0} (step : W → ℕ → VbCall → Option VbReply → W �
   -- what the call told is handed out
   pub admin_handed : (v : ℕ) (asked : AdminCall) (old : Node W J) (reply : Option VbReply) (wrote : Wrote) (told : Lines) (out : NodeOut) (mid new : Node W J)
       → RanJob step asks (noted_job v asked) old.vbs old.disks (reply, wrote) mid.vbs mid.disks → mid ≡ record old { vbs = mid.vbs; disks = mid.disks }
-      → Tells told (admin_told mid.number v asked reply) → HandsOut v told wrote mid out new → Administered step asks v asked old out new
+      → Tells told (admin_result mid.number v asked reply) → HandsOut v told wrote mid out new → Administered step asks v asked old out new
   admin_handed v asked old reply wrote (lines.Out left) out mid new ran still (none, said) (is, same) =
       subst (λ n. Administered step asks v asked old out n) (sym same) (subst (λ o. Administered step asks v asked old o mid) (sym is) (only_told v asked old reply wrote left mid ran still none said))
   admin_handed v asked old reply wrote (lines.Role role ids outcomes) out mid new ran still tells hands =

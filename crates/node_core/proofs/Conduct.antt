@@ -12,8 +12,8 @@ use Rattle.mcbp_frame.specs.Spelling.{spelling}
 use Rattle.mcbp_dcp.specs.declared.message.DcpMsg.{DcpMsg}
 use Rattle.mcbp_dcp.specs.declared.message.DcpMsg.TheVariants as msg
 use Rattle.mcbp_dcp.specs.declared.message.DcpFault.{DcpFault}
-use Rattle.mcbp_dcp.specs.declared.message.StreamTold.{StreamTold}
-use Rattle.mcbp_dcp.specs.declared.message.StreamTold.TheVariants as told
+use Rattle.mcbp_dcp.specs.declared.message.StreamVerdict.{StreamVerdict}
+use Rattle.mcbp_dcp.specs.declared.message.StreamVerdict.TheVariants as told
 use Rattle.mcbp_dcp.specs.declared.shape.TheConstants.{SUCCESS}
 use Rattle.mcbp_dcp.specs.DcpFrames.{dcp_frame}
 use Rattle.vb_types.specs.Levels.{level_of}
@@ -48,10 +48,10 @@ use Rattle.dcp_consumer.specs.declared.handshake.Handshake.TheVariants as handsh
 use Rattle.dcp_consumer.specs.declared.passive_stream.Passive.{Passive}
 use Rattle.dcp_consumer.specs.declared.passive_stream.Passive.TheVariants as passive
 use Rattle.dcp_consumer.specs.PassiveStreams.{set_change, remove_change, prepare_change, resolved_change, commit_act, flag_of, call_of_message, called, passive_of, passive_read}
-use Rattle.dcp_consumer.specs.Machine.{PlainConsumer, over_why, is_awaited, status_step, told_step, answered_with, stream_step, answer_step, response_step, message_step, frame_step, with_handshake, moved_by, consumer_step, granted, ended_for, asked_again, again_by, is_streaming, may_acknowledge, acknowledged}
+use Rattle.dcp_consumer.specs.Machine.{PlainConsumer, over_why, is_awaited, status_step, verdict_step, answered_with, stream_step, answer_step, response_step, message_step, frame_step, with_handshake, moved_by, consumer_step, granted, ended_for, request_again, again_by, is_streaming, may_acknowledge, acknowledged}
 use Rattle.dcp_consumer.specs.declared.handshake.Dialed.{Dialed}
 use Rattle.node_core.specs.Conduct.{IsFollowing, FollowsAt, RollsAt, Writes, Asks, Acknowledges, asks_in, writes_past, IsOfDial, KeepsLink}
-use Rattle.node_core.specs.Dials.{PlainDial, DialTold, untold, is_broken, is_over, with_consumer, with_line, with_left, over_for, adopted_line, granted_with, is_done, adopt_told, acknowledged_line, acknowledged_told, saved_told, due_told, due_met, due_asked, go_on_with, follower_ask, again_with, again_told, asked_once_more, rolled_line, rolled_back, roll_back, got_line, taken_as, message_told, call_made, passive_made, step_made, frame_taken, frames_taken, fault_met, end_told, all_told, rest_met, bytes_taken, dial_fed}
+use Rattle.node_core.specs.Dials.{PlainDial, DialResult, untold, is_broken, is_over, with_consumer, with_line, with_left, over_for, adopted_line, granted_with, is_done, adopt_result, acknowledged_line, acknowledged_result, saved_of_reply, due_of_reply, due_met, due_requested, go_on_with, follower_ask, again_with, again_result, requested_once_more, rolled_line, rolled_back, roll_back, got_line, taken_as, message_result, call_made, passive_made, step_made, frame_taken, frames_taken, fault_met, with_end_line, with_last_line, rest_met, bytes_taken, dial_bytes}
 
 -- one of two
 pub either : {A : Type 0} (P : A → Type 0) (b : Bool) (x y : A) → P x → P y → P (if b then x else y)
@@ -111,13 +111,13 @@ unfolding Follows
 message_step_follows handshake.Streaming f = streaming_follows (passive_read (read_of f)) (read_follows (read_of f))
 message_step_follows other f = tt
 
-told_follows : (t : StreamTold) → Follows handshake.Asking (told_step t)
+told_follows : (t : StreamVerdict) → Follows handshake.Asking (verdict_step t)
 unfolding Follows
 told_follows (told.Go log) = refl
 told_follows (told.Roll point) = tt
 told_follows (told.Refused code) = tt
 
-stream_follows : (t : Result StreamTold EndReason) → Follows handshake.Asking (stream_step t)
+stream_follows : (t : Result StreamVerdict EndReason) → Follows handshake.Asking (stream_step t)
 unfolding Follows
 stream_follows (Ok t) = told_follows t
 stream_follows (Err why) = tt
@@ -163,7 +163,7 @@ asks_append (Asks ask ∷ more) rest = omega (arith, asks_append more rest)
 asks_append (Acknowledges seq ∷ more) rest = asks_append more rest
 
 -- one more request or acknowledgement
-abbrev pub wrote_keeps : (old s : DialTold) (c : PlainConsumer) (w : Writes) (bytes : List ℕ) → c.dialed ≡ s.dial.consumer.dialed → c.asked ≡ s.dial.consumer.asked + asks_in (w ∷ [])
+abbrev pub wrote_keeps : (old s : DialResult) (c : PlainConsumer) (w : Writes) (bytes : List ℕ) → c.dialed ≡ s.dial.consumer.dialed → c.asked ≡ s.dial.consumer.asked + asks_in (w ∷ [])
     → bytes ≡ writes_past s.dial.consumer.dialed.vb s.dial.consumer.asked (w ∷ []) → KeepsLink old s → KeepsLink old (again_with s (c, bytes))
 wrote_keeps old s c w bytes dialed asked are kept =
     let more : List Writes = kept.writes.0 in
@@ -185,23 +185,23 @@ wrote_keeps old s c w bytes dialed asked are kept =
     }
 
 -- one more request
-pub asked_keeps : (old s : DialTold) (ask : StreamAsk) → KeepsLink old s → KeepsLink old (again_with s (asked_again ask s.dial.consumer))
+pub asked_keeps : (old s : DialResult) (ask : StreamAsk) → KeepsLink old s → KeepsLink old (again_with s (request_again ask s.dial.consumer))
 asked_keeps old s ask kept =
     let c = s.dial.consumer in
-    wrote_keeps old s (asked_again ask c).0 (Asks ask) (asked_again ask c).1 refl (omega arith) (sym (append-nil (asked_again ask c).1)) kept
+    wrote_keeps old s (request_again ask c).0 (Asks ask) (request_again ask c).1 refl (omega arith) (sym (append-nil (request_again ask c).1)) kept
 
 -- nothing more is written
-abbrev pub silent_keeps : (old s : DialTold) (c : PlainConsumer) → c.dialed ≡ s.dial.consumer.dialed → c.asked ≡ s.dial.consumer.asked → KeepsLink old s → KeepsLink old (again_with s (c, []))
+abbrev pub silent_keeps : (old s : DialResult) (c : PlainConsumer) → c.dialed ≡ s.dial.consumer.dialed → c.asked ≡ s.dial.consumer.asked → KeepsLink old s → KeepsLink old (again_with s (c, []))
 silent_keeps old s c dialed asked kept = record {
   dialed = dialed ∙ kept.dialed;
   writes = (kept.writes.0, append-nil s.out ∙ kept.writes.1, asked ∙ kept.writes.2);
   lines = kept.lines;
 }
 
-abbrev pub over_keeps : (old s : DialTold) (why : EndReason) → KeepsLink old s → KeepsLink old (over_for why s)
+abbrev pub over_keeps : (old s : DialResult) (why : EndReason) → KeepsLink old s → KeepsLink old (over_for why s)
 over_keeps old s why kept = record { dialed = kept.dialed; writes = kept.writes; lines = kept.lines }
 
-abbrev pub lines_keep : (old s : DialTold) (events : List Event) → All (IsOfDial s.dial.consumer.dialed) events → KeepsLink old s → KeepsLink old (record s { events = s.events ++ events })
+abbrev pub lines_keep : (old s : DialResult) (events : List Event) → All (IsOfDial s.dial.consumer.dialed) events → KeepsLink old s → KeepsLink old (record s { events = s.events ++ events })
 lines_keep old s events own kept = record {
   dialed = kept.dialed;
   writes = kept.writes;
@@ -221,13 +221,13 @@ pub got_own : (d : Dialed) (changes : List Change) → All (IsOfDial d) (map (go
 got_own d [] = All-nil (IsOfDial d)
 got_own d (c ∷ changes) = All-cons (IsOfDial d) (got_line d c) (map (got_line d) changes) (refl, refl, refl) (got_own d changes)
 
-pub granted_keeps : (old s : DialTold) (log : List LogEntry) → KeepsLink old s → KeepsLink old (granted_with log s)
+pub granted_keeps : (old s : DialResult) (log : List LogEntry) → KeepsLink old s → KeepsLink old (granted_with log s)
 granted_keeps old s log kept =
-    let given : DialTold = with_consumer s (granted s.dial.consumer) in
+    let given : DialResult = with_consumer s (granted s.dial.consumer) in
     lines_keep old given (adopted_line s.dial.consumer.dialed log ∷ []) (one_own s.dial.consumer.dialed (adopted_line s.dial.consumer.dialed log) (refl, refl)) (record { dialed = kept.dialed; writes = kept.writes; lines = kept.lines })
 
 -- an acknowledgement, with its line
-pub acknowledged_keeps : (old s : DialTold) (seq saved : ℕ) → KeepsLink old s → KeepsLink old (acknowledged_told seq s saved)
+pub acknowledged_keeps : (old s : DialResult) (seq saved : ℕ) → KeepsLink old s → KeepsLink old (acknowledged_result seq s saved)
 acknowledged_keeps old s seq saved kept =
     let c = s.dial.consumer in
     let wrote : List ℕ = (acknowledged seq c).1 in
@@ -235,47 +235,47 @@ acknowledged_keeps old s seq saved kept =
     lines_keep old (again_with s (acknowledged seq c)) (line ∷ []) (one_own c.dialed line (refl, refl, refl))
     (wrote_keeps old s (acknowledged seq c).0 (Acknowledges seq) wrote refl (omega arith) (sym (append-nil wrote)) kept)
 
-met_keeps : (old s : DialTold) (seq : ℕ) → KeepsLink old s → Always (FollowsAt old.dial.consumer.dialed.vb) (KeepsLink old) (due_met s seq)
+met_keeps : (old s : DialResult) (seq : ℕ) → KeepsLink old s → Always (FollowsAt old.dial.consumer.dialed.vb) (KeepsLink old) (due_met s seq)
 met_keeps old s seq kept =
     let vb : ℕ = s.dial.consumer.dialed.vb in
-    either (λ (p : Prog DialTold). Always (FollowsAt old.dial.consumer.dialed.vb) (KeepsLink old) p) (may_acknowledge seq s.dial.consumer)
-    (Call vb call.Stat (λ reply. Done (acknowledged_told seq s (saved_told reply)))) (Done s)
-    ((ap (λ d. d.vb) kept.dialed, tt), λ reply any. acknowledged_keeps old s seq (saved_told reply) kept) kept
+    either (λ (p : Prog DialResult). Always (FollowsAt old.dial.consumer.dialed.vb) (KeepsLink old) p) (may_acknowledge seq s.dial.consumer)
+    (Call vb call.Stat (λ reply. Done (acknowledged_result seq s (saved_of_reply reply)))) (Done s)
+    ((ap (λ d. d.vb) kept.dialed, tt), λ reply any. acknowledged_keeps old s seq (saved_of_reply reply) kept) kept
 
 -- what is due
-due_keeps : (old s : DialTold) → KeepsLink old s → Always (FollowsAt old.dial.consumer.dialed.vb) (KeepsLink old) (due_asked s)
-unfolding due_asked
+due_keeps : (old s : DialResult) → KeepsLink old s → Always (FollowsAt old.dial.consumer.dialed.vb) (KeepsLink old) (due_requested s)
+unfolding due_requested
 due_keeps old s kept =
     let vb : ℕ = s.dial.consumer.dialed.vb in
-    either (λ (p : Prog DialTold). Always (FollowsAt old.dial.consumer.dialed.vb) (KeepsLink old) p) (is_streaming s.dial.consumer.handshake)
-    (Call vb call.Due (λ reply. due_met s (due_told reply))) (Done s)
-    ((ap (λ d. d.vb) kept.dialed, tt), λ reply any. met_keeps old s (due_told reply) kept) kept
+    either (λ (p : Prog DialResult). Always (FollowsAt old.dial.consumer.dialed.vb) (KeepsLink old) p) (is_streaming s.dial.consumer.handshake)
+    (Call vb call.Due (λ reply. due_met s (due_of_reply reply))) (Done s)
+    ((ap (λ d. d.vb) kept.dialed, tt), λ reply any. met_keeps old s (due_of_reply reply) kept) kept
 
 -- the producer's log
-log_follows : (old s : DialTold) (log : List LogEntry) → KeepsLink old s → Always (FollowsAt old.dial.consumer.dialed.vb) (KeepsLink old) (go_on_with log s)
+log_follows : (old s : DialResult) (log : List LogEntry) → KeepsLink old s → Always (FollowsAt old.dial.consumer.dialed.vb) (KeepsLink old) (go_on_with log s)
 unfolding go_on_with
 log_follows old s log kept = (
   (ap (λ d. d.vb) kept.dialed, tt),
-  λ reply any. due_keeps old (adopt_told log s reply)
+  λ reply any. due_keeps old (adopt_result log s reply)
       (either (KeepsLink old) (is_done reply) (granted_with log s) (over_for reason.Protocol s) (granted_keeps old s log kept) (over_keeps old s reason.Protocol kept)),
 )
 
-pub again_keeps : (old s : DialTold) (ask : StreamAsk) (h : Handshake) → KeepsLink old s → KeepsLink old (again_with s (again_by h ask s.dial.consumer))
+pub again_keeps : (old s : DialResult) (ask : StreamAsk) (h : Handshake) → KeepsLink old s → KeepsLink old (again_with s (again_by h ask s.dial.consumer))
 again_keeps old s ask handshake.Asking kept =
     let c = s.dial.consumer in
-    either (λ a. KeepsLink old (again_with s a)) (nat_lt c.asked (2 ^ 32 - 1)) (asked_again ask c) (ended_for reason.Protocol c, [])
+    either (λ a. KeepsLink old (again_with s a)) (nat_lt c.asked (2 ^ 32 - 1)) (request_again ask c) (ended_for reason.Protocol c, [])
     (asked_keeps old s ask kept) (silent_keeps old s (ended_for reason.Protocol c) refl refl kept)
 again_keeps old s ask other kept = silent_keeps old s s.dial.consumer refl refl kept
 
-pub again_if_keeps : (old s : DialTold) (ask : Option StreamAsk) → KeepsLink old s → KeepsLink old (again_told s ask)
+pub again_if_keeps : (old s : DialResult) (ask : Option StreamAsk) → KeepsLink old s → KeepsLink old (again_result s ask)
 again_if_keeps old s None kept = over_keeps old s reason.Protocol kept
 again_if_keeps old s (Some ask) kept = again_keeps old s ask s.dial.consumer.handshake kept
 
-once_more_keeps : (old s : DialTold) → KeepsLink old s → Always (FollowsAt old.dial.consumer.dialed.vb) (KeepsLink old) (asked_once_more s)
+once_more_keeps : (old s : DialResult) → KeepsLink old s → Always (FollowsAt old.dial.consumer.dialed.vb) (KeepsLink old) (requested_once_more s)
 once_more_keeps old s kept = ((ap (λ d. d.vb) kept.dialed, tt), λ reply any. again_if_keeps old s (follower_ask reply) kept)
 
 -- a point to go back to
-rolled_keeps : (old s : DialTold) (point : ℕ) (came : Rolled) → KeepsLink old s → Always (FollowsAt old.dial.consumer.dialed.vb) (KeepsLink old) (rolled_back point s came)
+rolled_keeps : (old s : DialResult) (point : ℕ) (came : Rolled) → KeepsLink old s → Always (FollowsAt old.dial.consumer.dialed.vb) (KeepsLink old) (rolled_back point s came)
 rolled_keeps old s point (rolled.To to) kept =
     let line : Event = rolled_line s.dial.consumer.dialed point to in
     once_more_keeps old (with_line s line) (lines_keep old s (line ∷ []) (one_own s.dial.consumer.dialed line (refl, refl)) kept)
@@ -320,7 +320,7 @@ module _ (vb v : ℕ) (own : v ≡ vb) where
   unfolding Rolls roll_job
   rolls named = ((own, tt), λ reply any. goes_back named reply)
 
-roll_follows : (old s : DialTold) (point : ℕ) → KeepsLink old s
+roll_follows : (old s : DialResult) (point : ℕ) → KeepsLink old s
     → AlwaysJob AnyReply (FollowsAt old.dial.consumer.dialed.vb) (RollsAt old.dial.consumer.dialed.vb) (KeepsLink old) (roll_back point s)
 unfolding roll_back Rolls
 roll_follows old s point kept =
@@ -330,29 +330,29 @@ roll_follows old s point kept =
     (λ came any. always_lift AnyReply (FollowsAt vb) (RollsAt vb) (KeepsLink old) (rolled_back point s came) (rolled_keeps old s point came kept))
 
 -- a message
-pub taken_keeps : (old s : DialTold) (r : VbReply) (a : VbAnswer) → KeepsLink old s → KeepsLink old (taken_as r s a)
+pub taken_keeps : (old s : DialResult) (r : VbReply) (a : VbAnswer) → KeepsLink old s → KeepsLink old (taken_as r s a)
 taken_keeps old s r (answer.Range ss se) kept =
     let line : Event = event.Ranged s.dial.consumer.dialed.node s.dial.consumer.dialed.vb ss se in
     lines_keep old s (line ∷ []) (one_own s.dial.consumer.dialed line (refl, refl)) kept
 taken_keeps old s r answer.Done kept = lines_keep old s (map (got_line s.dial.consumer.dialed) r.changes) (got_own s.dial.consumer.dialed r.changes) kept
 taken_keeps old s r other kept = over_keeps old s reason.Protocol kept
 
-pub told_keeps : (old s : DialTold) (reply : Option VbReply) → KeepsLink old s → KeepsLink old (message_told s reply)
+pub told_keeps : (old s : DialResult) (reply : Option VbReply) → KeepsLink old s → KeepsLink old (message_result s reply)
 told_keeps old s None kept = over_keeps old s reason.Protocol kept
 told_keeps old s (Some r) kept = taken_keeps old s r r.answer kept
 
-passive_keeps : (old s : DialTold) (p : Passive) → FollowsIf p → KeepsLink old s → Always (FollowsAt old.dial.consumer.dialed.vb) (KeepsLink old) (passive_made p s)
+passive_keeps : (old s : DialResult) (p : Passive) → FollowsIf p → KeepsLink old s → Always (FollowsAt old.dial.consumer.dialed.vb) (KeepsLink old) (passive_made p s)
 unfolding FollowsIf call_made
-passive_keeps old s (passive.Call c) follows kept = ((ap (λ d. d.vb) kept.dialed, message_is_following c follows), λ reply any. due_keeps old (message_told s reply) (told_keeps old s reply kept))
+passive_keeps old s (passive.Call c) follows kept = ((ap (λ d. d.vb) kept.dialed, message_is_following c follows), λ reply any. due_keeps old (message_result s reply) (told_keeps old s reply kept))
 passive_keeps old s other follows kept = kept
 
-passive_step_keeps : (old s : DialTold) (p : Passive) → FollowsIf p → KeepsLink old s
+passive_step_keeps : (old s : DialResult) (p : Passive) → FollowsIf p → KeepsLink old s
     → AlwaysJob AnyReply (FollowsAt old.dial.consumer.dialed.vb) (RollsAt old.dial.consumer.dialed.vb) (KeepsLink old) (lift (passive_made p s))
 passive_step_keeps old s p follows kept =
     let vb : ℕ = old.dial.consumer.dialed.vb in
     always_lift AnyReply (FollowsAt vb) (RollsAt vb) (KeepsLink old) (passive_made p s) (passive_keeps old s p follows kept)
 
-step_keeps : (old s : DialTold) (h : Handshake) (t : ConsumerStep) → Follows h t → KeepsLink old s
+step_keeps : (old s : DialResult) (h : Handshake) (t : ConsumerStep) → Follows h t → KeepsLink old s
     → AlwaysJob AnyReply (FollowsAt old.dial.consumer.dialed.vb) (RollsAt old.dial.consumer.dialed.vb) (KeepsLink old) (step_made t s)
 unfolding Follows FollowsIf
 step_keeps old s h (step.Adopt log) follows kept =
@@ -363,32 +363,32 @@ step_keeps old s h (step.Passive (passive.Call c)) follows kept = passive_step_k
 step_keeps old s h other follows kept = kept
 
 -- a frame
-frame_keeps : (old : DialTold) (f : Frame) (s : DialTold) → KeepsLink old s
+frame_keeps : (old : DialResult) (f : Frame) (s : DialResult) → KeepsLink old s
     → AlwaysJob AnyReply (FollowsAt old.dial.consumer.dialed.vb) (RollsAt old.dial.consumer.dialed.vb) (KeepsLink old) (frame_taken f s)
 unfolding frame_taken
 frame_keeps old f s kept =
     let c = s.dial.consumer in
     step_keeps old (with_consumer s (consumer_step c f).0) c.handshake (consumer_step c f).1 (step_follows c f) (record { dialed = kept.dialed; writes = kept.writes; lines = kept.lines })
 
-fault_keeps : (old s : DialTold) (fault : Option FrameFault) → KeepsLink old s → KeepsLink old (fault_met fault s)
+fault_keeps : (old s : DialResult) (fault : Option FrameFault) → KeepsLink old s → KeepsLink old (fault_met fault s)
 fault_keeps old s None kept = kept
 fault_keeps old s (Some fault) kept = either (KeepsLink old) (is_over s.dial) s (over_for reason.Protocol s) kept (over_keeps old s reason.Protocol kept)
 
-end_keeps : (old s : DialTold) (why : Option EndReason) → KeepsLink old s → KeepsLink old (end_told why s)
+end_keeps : (old s : DialResult) (why : Option EndReason) → KeepsLink old s → KeepsLink old (with_end_line why s)
 end_keeps old s None kept = kept
 end_keeps old s (Some why) kept = either (KeepsLink old) (is_broken (Some why)) s (with_line s (event.Ended s.dial.consumer.dialed.link why)) kept
     (lines_keep old s (event.Ended s.dial.consumer.dialed.link why ∷ []) (one_own s.dial.consumer.dialed (event.Ended s.dial.consumer.dialed.link why) refl) kept)
 
-all_keep : (old s : DialTold) → KeepsLink old s → KeepsLink old (all_told s)
+all_keep : (old s : DialResult) → KeepsLink old s → KeepsLink old (with_last_line s)
 all_keep old s kept = end_keeps old s (over_why s.dial.consumer.handshake) kept
 
 -- bytes
 pub bytes_follow : (piece : List ℕ) (dial : PlainDial)
-    → AlwaysJob AnyReply (FollowsAt dial.consumer.dialed.vb) (RollsAt dial.consumer.dialed.vb) (KeepsLink (untold dial)) (dial_fed piece dial)
+    → AlwaysJob AnyReply (FollowsAt dial.consumer.dialed.vb) (RollsAt dial.consumer.dialed.vb) (KeepsLink (untold dial)) (dial_bytes piece dial)
 unfolding bytes_taken frames_taken
 bytes_follow piece dial =
     let bytes : List ℕ = dial.heard ++ piece in
-    let s : DialTold = untold dial in
+    let s : DialResult = untold dial in
     let start : KeepsLink s (with_left s bytes) = record { dialed = refl; writes = ([], refl, omega arith); lines = ([], refl, All-nil (IsOfDial dial.consumer.dialed)) } in
     let calls : ℕ → VbCall → Type 0 = FollowsAt dial.consumer.dialed.vb in
     let requests : ℕ → Ask → Type 0 = RollsAt dial.consumer.dialed.vb in
@@ -401,35 +401,35 @@ dropped : (c : PlainConsumer) (f : Frame) → is_some (over_why c.handshake) ≡
 unfolding frame_step
 dropped c f over = ap (λ b. if b then step.Dropped else if f.magic == RESPONSE then response_step c.handshake c.asked f else message_step c.handshake f) over
 
-skipped : (f : Frame) (s : DialTold) → is_over s.dial ≡ true → frame_taken f s ≡ Ended s
+skipped : (f : Frame) (s : DialResult) → is_over s.dial ≡ true → frame_taken f s ≡ Ended s
 unfolding frame_taken
 skipped f s over =
     let c = s.dial.consumer in
     ap (λ t. step_made t (with_consumer s (with_handshake c (moved_by t c.handshake)))) (dropped c f over)
 
-all_skipped : (fs : List Frame) (s : DialTold) → is_over s.dial ≡ true → each_job frame_taken fs s ≡ Ended s
+all_skipped : (fs : List Frame) (s : DialResult) → is_over s.dial ≡ true → each_job frame_taken fs s ≡ Ended s
 all_skipped [] s over = refl
 all_skipped (f ∷ fs) s over = ap (λ p. fold (next_job frame_taken) p fs) (skipped f s over) ∙ all_skipped fs s over
 
-fault_skipped : (fault : Option FrameFault) (s : DialTold) → is_over s.dial ≡ true → fault_met fault s ≡ s
+fault_skipped : (fault : Option FrameFault) (s : DialResult) → is_over s.dial ≡ true → fault_met fault s ≡ s
 fault_skipped None s over = refl
 fault_skipped (Some fault) s over = ap (λ b. if b then s else over_for reason.Protocol s) over
 
-pub bytes_skipped : (piece : List ℕ) (dial : PlainDial) → is_over dial ≡ true → dial_fed piece dial ≡ Ended (all_told (with_left (untold dial) (dial.heard ++ piece)))
+pub bytes_skipped : (piece : List ℕ) (dial : PlainDial) → is_over dial ≡ true → dial_bytes piece dial ≡ Ended (with_last_line (with_left (untold dial) (dial.heard ++ piece)))
 unfolding bytes_taken frames_taken
 bytes_skipped piece dial over =
     let bytes : List ℕ = dial.heard ++ piece in
-    let s : DialTold = with_left (untold dial) bytes in
+    let s : DialResult = with_left (untold dial) bytes in
     ap (λ p. bind_job p rest_met) (all_skipped (frames_in bytes) s over)
-    ∙ ap (λ t. Ended (all_told t)) (fault_skipped (front_fault (left_of bytes)) s over)
+    ∙ ap (λ t. Ended (with_last_line t)) (fault_skipped (front_fault (left_of bytes)) s over)
 
 pub others_stay : (piece : List ℕ) (dial : PlainDial) (states : States) (shelves : Shelves) (w : ℕ) → (w ≡ dial.consumer.dialed.vb → ⊥)
-    → ((after_job (dial_fed piece dial) states shelves).0.0 w ≡ states w) × ((after_job (dial_fed piece dial) states shelves).0.1 w ≡ shelves w)
+    → ((after_job (dial_bytes piece dial) states shelves).0.0 w ≡ states w) × ((after_job (dial_bytes piece dial) states shelves).0.1 w ≡ shelves w)
 others_stay piece dial states shelves w other =
     let vb : ℕ = dial.consumer.dialed.vb in
-    after_job_elsewhere (FollowsAt vb) (RollsAt vb) (KeepsLink (untold dial)) (dial_fed piece dial) states shelves w (λ call follows. other follows.0) (λ ask rolls. other rolls.0) (bytes_follow piece dial)
+    after_job_elsewhere (FollowsAt vb) (RollsAt vb) (KeepsLink (untold dial)) (dial_bytes piece dial) states shelves w (λ call follows. other follows.0) (λ ask rolls. other rolls.0) (bytes_follow piece dial)
 
-pub link_stays : (piece : List ℕ) (dial : PlainDial) (states : States) (shelves : Shelves) → KeepsLink (untold dial) (after_job (dial_fed piece dial) states shelves).1
+pub link_stays : (piece : List ℕ) (dial : PlainDial) (states : States) (shelves : Shelves) → KeepsLink (untold dial) (after_job (dial_bytes piece dial) states shelves).1
 link_stays piece dial states shelves =
     let vb : ℕ = dial.consumer.dialed.vb in
-    after_job_always (FollowsAt vb) (RollsAt vb) (KeepsLink (untold dial)) (dial_fed piece dial) states shelves (bytes_follow piece dial)
+    after_job_always (FollowsAt vb) (RollsAt vb) (KeepsLink (untold dial)) (dial_bytes piece dial) states shelves (bytes_follow piece dial)

@@ -18,13 +18,13 @@ use Rattle.vb_calls.specs.declared.journals.Rolled.{Rolled}
 use Rattle.vb_calls.specs.declared.journals.Rolled.TheVariants as rolled
 use Rattle.vb_calls.specs.Programs.{AnyCall, Always}
 use Rattle.dcp_consumer.specs.declared.handshake.Handshake.TheVariants as handshake
-use Rattle.dcp_consumer.specs.Machine.{again_by, asked_again, ended_for, over_why, streaming}
+use Rattle.dcp_consumer.specs.Machine.{again_by, request_again, ended_for, over_why, streaming}
 use Rattle.vb_types.specs.declared.stream.StreamAsk.{StreamAsk}
 use Rattle.node_core.specs.declared.conn.Conn.{Conn}
 use Rattle.node_core.specs.declared.conn.Conn.TheVariants as conn
 use Rattle.node_core.specs.declared.node.Node.{Node}
 use Rattle.node_core.specs.declared.out.NodeOut.{NodeOut}
-use Rattle.node_core.specs.Dials.{DialTold, adopt_told, again_told, all_told, end_told, fault_met, is_done, is_done_answer, message_told, over_for, rolled_back, taken_as, granted_with}
+use Rattle.node_core.specs.Dials.{DialResult, adopt_result, again_result, with_last_line, with_end_line, fault_met, is_done, is_done_answer, message_result, over_for, rolled_back, taken_as, granted_with}
 use Rattle.node_core.specs.EndingLaws.{IsClosed, KeepsOpen, LetsClosedGo, LeavesOpenAlone, IsOverFor, IsMade, IsTaken, IsOfDisk, OverByRefusals, LastLines}
 use Rattle.node_core.specs.Outcomes.{ConnFed, ConnPosted, kept_unless}
 
@@ -78,62 +78,62 @@ leaves_open_alone = record {
 
 -- ---- dials
 
-done_is : (r : VbReply) (a : VbAnswer) → r.answer ≡ a → is_done_answer a ≡ true → IsMade (Some r)
-done_is r answer.Done is done = (r, refl, is)
-done_is r other is done = cc
+done_answer_is : (r : VbReply) (a : VbAnswer) → r.answer ≡ a → is_done_answer a ≡ true → IsMade (Some r)
+done_answer_is r answer.Done is done = (r, refl, is)
+done_answer_is r other is done = cc
 
 made_is : (reply : Option VbReply) → is_done reply ≡ true → IsMade reply
 made_is None done = cc
-made_is (Some r) done = done_is r r.answer refl done
+made_is (Some r) done = done_answer_is r r.answer refl done
 
-is_made : (reply : Option VbReply) → IsMade reply → is_done reply ≡ true
-is_made reply made = ap is_done made.1 ∙ ap is_done_answer made.2
+made_tested : (reply : Option VbReply) → IsMade reply → is_done reply ≡ true
+made_tested reply made = ap is_done made.1 ∙ ap is_done_answer made.2
 
-log_refused : (log : List LogEntry) (s : DialTold) (reply : Option VbReply) → (IsMade reply → ⊥) → IsOverFor reason.Protocol (adopt_told log s reply)
+log_refused : (log : List LogEntry) (s : DialResult) (reply : Option VbReply) → (IsMade reply → ⊥) → IsOverFor reason.Protocol (adopt_result log s reply)
 log_refused log s reply never = by (is_done reply) refl
   where
     by : (b : Bool) → is_done reply ≡ b → IsOverFor reason.Protocol (if b then granted_with log s else over_for reason.Protocol s)
     by true done = absurd (never (made_is reply done))
     by false done = refl
 
-log_taken : (log : List LogEntry) (s : DialTold) (reply : Option VbReply) → IsMade reply → s.dial.consumer.handshake ≡ handshake.Asking → (adopt_told log s reply).dial.consumer.handshake ≡ handshake.Streaming
-log_taken log s reply made asking = ap (λ b. (if b then granted_with log s else over_for reason.Protocol s).dial.consumer.handshake) (is_made reply made) ∙ ap streaming asking
+log_taken : (log : List LogEntry) (s : DialResult) (reply : Option VbReply) → IsMade reply → s.dial.consumer.handshake ≡ handshake.Asking → (adopt_result log s reply).dial.consumer.handshake ≡ handshake.Streaming
+log_taken log s reply made asking = ap (λ b. (if b then granted_with log s else over_for reason.Protocol s).dial.consumer.handshake) (made_tested reply made) ∙ ap streaming asking
 
 -- asked once more, by whether an opaque is left
-asked_so : (s : DialTold) (ask : StreamAsk) → s.dial.consumer.handshake ≡ handshake.Asking → (b : Bool) → nat_lt s.dial.consumer.asked 4294967295 ≡ b
-    → (again_told s (Some ask)).dial.consumer.handshake ≡ (if b then asked_again ask s.dial.consumer else (ended_for reason.Protocol s.dial.consumer, [])).0.handshake
+asked_so : (s : DialResult) (ask : StreamAsk) → s.dial.consumer.handshake ≡ handshake.Asking → (b : Bool) → nat_lt s.dial.consumer.asked 4294967295 ≡ b
+    → (again_result s (Some ask)).dial.consumer.handshake ≡ (if b then request_again ask s.dial.consumer else (ended_for reason.Protocol s.dial.consumer, [])).0.handshake
 asked_so s ask asking b left =
     ap (λ h. (again_by h ask s.dial.consumer).0.handshake) asking
-    ∙ ap (λ b. (if b then asked_again ask s.dial.consumer else (ended_for reason.Protocol s.dial.consumer, [])).0.handshake) left
+    ∙ ap (λ b. (if b then request_again ask s.dial.consumer else (ended_for reason.Protocol s.dial.consumer, [])).0.handshake) left
 
-not_taken : (s : DialTold) (r : VbReply) (a : VbAnswer) → r.answer ≡ a → (IsTaken (Some r) → ⊥) → IsOverFor reason.Protocol (taken_as r s a)
+not_taken : (s : DialResult) (r : VbReply) (a : VbAnswer) → r.answer ≡ a → (IsTaken (Some r) → ⊥) → IsOverFor reason.Protocol (taken_as r s a)
 not_taken s r answer.Done is never = absurd (never (r, refl, inl is))
 not_taken s r (answer.Range ss se) is never = absurd (never (r, refl, inr (ss, se, is)))
 not_taken s r other is never = refl
 
-message_refused : (s : DialTold) (reply : Option VbReply) → (IsTaken reply → ⊥) → IsOverFor reason.Protocol (message_told s reply)
+message_refused : (s : DialResult) (reply : Option VbReply) → (IsTaken reply → ⊥) → IsOverFor reason.Protocol (message_result s reply)
 message_refused s None never = refl
 message_refused s (Some r) never = not_taken s r r.answer refl never
 
-message_taken : (s : DialTold) (reply : Option VbReply) → IsTaken reply → (message_told s reply).dial ≡ s.dial
-message_taken s reply (r, is, inl done) = ap (λ o. (message_told s o).dial) is ∙ ap (λ a. (taken_as r s a).dial) done
-message_taken s reply (r, is, inr (ss, se, range)) = ap (λ o. (message_told s o).dial) is ∙ ap (λ a. (taken_as r s a).dial) range
+message_taken : (s : DialResult) (reply : Option VbReply) → IsTaken reply → (message_result s reply).dial ≡ s.dial
+message_taken s reply (r, is, inl done) = ap (λ o. (message_result s o).dial) is ∙ ap (λ a. (taken_as r s a).dial) done
+message_taken s reply (r, is, inr (ss, se, range)) = ap (λ o. (message_result s o).dial) is ∙ ap (λ a. (taken_as r s a).dial) range
 
-of_disk : (point : ℕ) (s : DialTold) (came : Rolled) → IsOfDisk came → Always AnyCall (IsOverFor reason.Disk) (rolled_back point s came)
+of_disk : (point : ℕ) (s : DialResult) (came : Rolled) → IsOfDisk came → Always AnyCall (IsOverFor reason.Disk) (rolled_back point s came)
 of_disk point s rolled.Closed disk = refl
 of_disk point s rolled.DiskFailed disk = refl
 of_disk point s (rolled.Damaged place) disk = refl
 of_disk point s (rolled.To to) disk = absurd disk
 of_disk point s (rolled.Refused st) disk = absurd disk
 
-met : (s : DialTold) (fault : FrameFault) (o : Option EndReason) → over_why s.dial.consumer.handshake ≡ o → fault_met (Some fault) s ≡ (if is_some o then s else over_for reason.Protocol s)
+met : (s : DialResult) (fault : FrameFault) (o : Option EndReason) → over_why s.dial.consumer.handshake ≡ o → fault_met (Some fault) s ≡ (if is_some o then s else over_for reason.Protocol s)
 met s fault o is = ap (λ (w : Option EndReason). if is_some w then s else over_for reason.Protocol s) is
 
-over_already : (s : DialTold) (fault : Option FrameFault) (why : EndReason) → IsOverFor why s → fault_met fault s ≡ s
+over_already : (s : DialResult) (fault : Option FrameFault) (why : EndReason) → IsOverFor why s → fault_met fault s ≡ s
 over_already s None why over = refl
 over_already s (Some fault) why over = met s fault (Some why) over
 
-none_left : (s : DialTold) → 4294967295 ≤ s.dial.consumer.asked → nat_lt s.dial.consumer.asked 4294967295 ≡ false
+none_left : (s : DialResult) → 4294967295 ≤ s.dial.consumer.asked → nat_lt s.dial.consumer.asked 4294967295 ≡ false
 none_left s many = grind (arith, nat_tests, many)
 
 pub over_by_refusals : OverByRefusals
@@ -146,22 +146,22 @@ over_by_refusals = record {
   disk = of_disk;
   follows_not = λ s. refl;
   follows = λ s ask asking few. asked_so s ask asking true (lt-ltb s.dial.consumer.asked 4294967295 few) ∙ asking;
-  all_asked = λ s ask asking many. ap over_why (asked_so s ask asking false (none_left s many));
-  fault = λ s fault none. ap (λ (t : DialTold). over_why t.dial.consumer.handshake) (met s fault None none);
+  no_more_asks = λ s ask asking many. ap over_why (asked_so s ask asking false (none_left s many));
+  fault = λ s fault none. ap (λ (t : DialResult). over_why t.dial.consumer.handshake) (met s fault None none);
   earlier = over_already;
   none = λ s. refl;
 }
 
-told_for : (s : DialTold) (why : EndReason) → IsOverFor why s → all_told s ≡ end_told (Some why) s
-told_for s why over = ap (λ o. end_told o s) over
+told_for : (s : DialResult) (why : EndReason) → IsOverFor why s → with_last_line s ≡ with_end_line (Some why) s
+told_for s why over = ap (λ o. with_end_line o s) over
 
 pub last_lines : LastLines
 last_lines = record {
-  refused = λ s over. ap (λ (t : DialTold). t.events) (told_for s reason.Refused over);
-  protocol = λ s over. ap (λ (t : DialTold). t.events) (told_for s reason.Protocol over);
-  done = λ s over. ap (λ (t : DialTold). t.events) (told_for s reason.Done over);
-  state = λ s over. ap (λ (t : DialTold). t.events) (told_for s reason.State over);
+  refused = λ s over. ap (λ (t : DialResult). t.events) (told_for s reason.Refused over);
+  protocol = λ s over. ap (λ (t : DialResult). t.events) (told_for s reason.Protocol over);
+  done = λ s over. ap (λ (t : DialResult). t.events) (told_for s reason.Done over);
+  state = λ s over. ap (λ (t : DialResult). t.events) (told_for s reason.State over);
   disk = λ s over. told_for s reason.Disk over;
-  none = λ s none. ap (λ o. end_told o s) none;
+  none = λ s none. ap (λ o. with_end_line o s) none;
   cut = λ dial. refl;
 }

@@ -21,15 +21,15 @@ use Rattle.vb_calls.specs.declared.journals.Flushed.{Flushed}
 use Rattle.vb_calls.specs.declared.journals.Flushed.TheVariants as flushed
 use Rattle.vb_calls.specs.declared.journals.Wrote.{Wrote}
 use Rattle.vb_calls.specs.declared.journals.Wrote.TheVariants as wrote
-use Rattle.vb_calls.specs.Flushes.{wrote_of, took, batch_told, done_job, appended_job, append_job, taken_job, save_all_job, part_job, flush_job, is_refusal, log_told, note_role_job, role_after, role_told_job, role_job}
+use Rattle.vb_calls.specs.Flushes.{wrote_of, took, batch_of_reply, done_job, appended_job, append_job, taken_job, save_all_job, part_job, flush_job, is_refusal, log_of_reply, note_role_job, role_of_call, role_told_job, role_job}
 use Rattle.vb_calls.specs.Jobs.{Job, Ended, Call, Request, bind_job, RanJob, AlwaysJob}
 use Rattle.vb_calls.specs.Programs.{AnyReply}
 use Rattle.vb_calls.proofs.JobConduct.{always_bind_job}
 use Rattle.vb_calls.specs.Shelves.{Ask, Append, Look, Got, Flush, Idle, Out, Written, Fate, Stood, WasClosed, DiskFailed}
 use Rattle.node_core.specs.declared.admin.AdminCall.{AdminCall}
 use Rattle.node_core.specs.declared.admin.AdminCall.TheVariants as admin
-use Rattle.node_core.specs.Admin.{AdminTold, admin_call, admin_told, promote_cause, promote_told, role_told, noted_answer, role_noted, role_at, admin_job}
-use Rattle.node_core.specs.Flushing.{FlushTold, flush_told, flush_if, flush_at}
+use Rattle.node_core.specs.Admin.{AdminResult, admin_call, admin_result, promote_cause, promote_result, role_result, noted_answer, role_noted, role_at, admin_job}
+use Rattle.node_core.specs.Flushing.{FlushResult, flush_result, flush_if, flush_at}
 use Rattle.node_core.specs.Noting.{Gives, IsRefused, Lacks, IsNoted, ChangesRole, FlushesBy, FlushesAt}
 
 -- ---- roles
@@ -53,18 +53,18 @@ unfolding Quiet
 quiet_cause status.Einval = tt
 quiet_cause other = tt
 
-quiet_promotion : (n v : ℕ) (r : VbReply) (a : VbAnswer) → Quiet (promote_told n v r a).answer
+quiet_promotion : (n v : ℕ) (r : VbReply) (a : VbAnswer) → Quiet (promote_result n v r a).answer
 unfolding Quiet
 quiet_promotion n v r (answer.Branch uuid parent fork high) = tt
 quiet_promotion n v r (answer.Status st) = quiet_cause st
 quiet_promotion n v r other = tt
 
-quiet_role : (n v : ℕ) (new : Role) (r : VbReply) (a : VbAnswer) → Quiet (role_told n v new r a).answer
+quiet_role : (n v : ℕ) (new : Role) (r : VbReply) (a : VbAnswer) → Quiet (role_result n v new r a).answer
 unfolding Quiet
 quiet_role n v new r answer.Done = tt
 quiet_role n v new r other = tt
 
-quiet_told : (n v : ℕ) (asked : AdminCall) (new : Role) → Gives asked new → (reply : Option VbReply) → Quiet (admin_told n v asked reply).answer
+quiet_told : (n v : ℕ) (asked : AdminCall) (new : Role) → Gives asked new → (reply : Option VbReply) → Quiet (admin_result n v asked reply).answer
 unfolding Quiet
 quiet_told n v asked new gives None = tt
 quiet_told n v (admin.Promote uuid) new gives (Some r) = quiet_promotion n v r r.answer
@@ -89,7 +89,7 @@ is_status other is = cc
 no_status : (a : VbAnswer) → is_refusal a ≡ false → ((st : Status) × (a ≡ answer.Status st)) → ⊥
 no_status a is said = let z : false ≡ true = sym is ∙ ap is_refusal said.1 in cc
 
-given_after : (asked : AdminCall) (new : Role) → Gives asked new → role_after (admin_call asked) ≡ new
+given_after : (asked : AdminCall) (new : Role) → Gives asked new → role_of_call (admin_call asked) ≡ new
 given_after (admin.Promote uuid) new gives = sym gives
 given_after admin.Follow new gives = sym gives
 given_after admin.Dead new gives = sym gives
@@ -103,57 +103,57 @@ given_job n v other new gives = absurd gives
 
 module _ {W J : Type 0} (step : W → ℕ → VbCall → Option VbReply → W → Type 0) (asks : J → ℕ → (ask : Ask) → Got ask → J → Type 0) where
   -- what comes of a reply
-  After : (v : ℕ) (new : Role) (reply : Option VbReply) (mid : W) (kept : J) (told : AdminTold) (now : W) (left : J) → Type 0
+  After : (v : ℕ) (new : Role) (reply : Option VbReply) (mid : W) (kept : J) (told : AdminResult) (now : W) (left : J) → Type 0
   After v new reply mid kept told now left =
       (IsRefused reply → (now ≡ mid) × (left ≡ kept) × (told.answer ≢ line.No cause.Closed) × (told.answer ≢ line.No cause.Disk))
       × ((IsRefused reply → ⊥) → IsNoted step asks v new mid kept told now left)
 
   module _ (n v : ℕ) (asked : AdminCall) (new : Role) (gives : Gives asked new) where
-    comes : Option VbReply × Wrote → Job AdminTold
+    comes : Option VbReply × Wrote → Job AdminResult
     comes made = Ended (role_noted n v asked made)
 
-    refused_so : (reply : Option VbReply) (mid : W) (kept : J) (told : AdminTold) (now : W) (left : J) → IsRefused reply
+    refused_so : (reply : Option VbReply) (mid : W) (kept : J) (told : AdminResult) (now : W) (left : J) → IsRefused reply
         → told ≡ role_noted n v asked (reply, wrote.NotAsked) → now ≡ mid → left ≡ kept → After v new reply mid kept told now left
     unfolding After
     refused_so reply mid kept told now left refused is same alike =
         let quiet : Quiet told.answer = subst Quiet (sym (ap (λ t. t.answer) is)) (quiet_told n v asked new gives reply) in
         (λ r. (same, alike, not_closed told.answer quiet, not_failed told.answer quiet), λ never. absurd (never refused))
 
-    made_so : (r : VbReply) (mid : W) (kept : J) (told : AdminTold) (now : W) (left : J) (b : Bool) → is_refusal r.answer ≡ b
-        → RanJob step asks (bind_job (if b then Ended (Some r, wrote.NotAsked) else Call v call.Log (note_role_job v (role_after (admin_call asked)) r)) comes) mid kept told now left
+    made_so : (r : VbReply) (mid : W) (kept : J) (told : AdminResult) (now : W) (left : J) (b : Bool) → is_refusal r.answer ≡ b
+        → RanJob step asks (bind_job (if b then Ended (Some r, wrote.NotAsked) else Call v call.Log (note_role_job v (role_of_call (admin_call asked)) r)) comes) mid kept told now left
         → After v new (Some r) mid kept told now left
     unfolding After comes
     made_so r mid kept told now left true is ran = refused_so (Some r) mid kept told now left (is_status r.answer is) ran.0 ran.1 ran.2
     made_so r mid kept told now left false is ran =
         let noted = ran.3 in
         let end = noted.3 in
-        let said : told.answer ≡ noted_answer (wrote_of noted.0) (admin_told n v asked (Some r)).answer = ap (λ t. t.answer) end.0 in
+        let said : told.answer ≡ noted_answer (wrote_of noted.0) (admin_result n v asked (Some r)).answer = ap (λ t. t.answer) end.0 in
         let quiet = quiet_told n v asked new gives (Some r) in (
           λ refused. absurd (no_status r.answer is refused),
           λ never. record {
             logged = ran.0;
             tells = subst (λ w. step mid v call.Log ran.0 w) (sym end.1) ran.2;
             fate = noted.0;
-            appended = subst (λ j. asks kept v (Append (State new (log_told ran.0))) noted.0 j) (sym end.2)
-                (subst (λ role. asks kept v (Append (State role (log_told ran.0))) noted.0 noted.1) (given_after asked new gives) noted.2);
-            closed = subst (λ a. (a ≡ line.No cause.Closed) ↔ (noted.0 ≡ WasClosed)) (sym said) (closed_so noted.0 (admin_told n v asked (Some r)).answer quiet);
-            failed = subst (λ a. (a ≡ line.No cause.Disk) ↔ (noted.0 ≡ DiskFailed)) (sym said) (failed_so noted.0 (admin_told n v asked (Some r)).answer quiet);
+            appended = subst (λ j. asks kept v (Append (State new (log_of_reply ran.0))) noted.0 j) (sym end.2)
+                (subst (λ role. asks kept v (Append (State role (log_of_reply ran.0))) noted.0 noted.1) (given_after asked new gives) noted.2);
+            closed = subst (λ a. (a ≡ line.No cause.Closed) ↔ (noted.0 ≡ WasClosed)) (sym said) (closed_so noted.0 (admin_result n v asked (Some r)).answer quiet);
+            failed = subst (λ a. (a ≡ line.No cause.Disk) ↔ (noted.0 ≡ DiskFailed)) (sym said) (failed_so noted.0 (admin_result n v asked (Some r)).answer quiet);
           },
         )
 
-    reply_so : (reply : Option VbReply) (mid : W) (kept : J) (told : AdminTold) (now : W) (left : J)
+    reply_so : (reply : Option VbReply) (mid : W) (kept : J) (told : AdminResult) (now : W) (left : J)
         → RanJob step asks (bind_job (role_told_job v (admin_call asked) reply) comes) mid kept told now left → After v new reply mid kept told now left
     unfolding comes
     reply_so None mid kept told now left ran = refused_so None mid kept told now left tt ran.0 ran.1 ran.2
     reply_so (Some r) mid kept told now left ran = made_so r mid kept told now left (is_refusal r.answer) refl ran
 
-    given_so : (old : W) (kept : J) (told : AdminTold) (now : W) (left : J) → RanJob step asks (role_at n v asked) old kept told now left → ChangesRole step asks v asked new old kept told now left
+    given_so : (old : W) (kept : J) (told : AdminResult) (now : W) (left : J) → RanJob step asks (role_at n v asked) old kept told now left → ChangesRole step asks v asked new old kept told now left
     unfolding role_job comes After
     given_so old kept told now left ran =
         let after = reply_so ran.0 ran.1 kept told now left ran.3 in
         record { reply = ran.0; mid = ran.1; called = ran.2; refused = after.0; made = after.1 }
 
-  pub roles_are_noted : (n v : ℕ) (asked : AdminCall) (new : Role) (old : W) (kept : J) (told : AdminTold) (now : W) (left : J) → Gives asked new
+  pub roles_are_noted : (n v : ℕ) (asked : AdminCall) (new : Role) (old : W) (kept : J) (told : AdminResult) (now : W) (left : J) → Gives asked new
       → RanJob step asks (admin_job n v asked) old kept told now left → ChangesRole step asks v asked new old kept told now left
   roles_are_noted n v asked new old kept told now left gives ran =
       given_so n v asked new gives old kept told now left (subst (λ job. RanJob step asks job old kept told now left) (given_job n v asked new gives) ran)
@@ -183,7 +183,7 @@ kind_said (line.No cause.NothingTaken) = 2
 kind_said (line.No cause.UnknownVb) = 3
 kind_said other = 0
 
-kinds_told : (n v : ℕ) (came : Flushed) → kind_said (flush_told n v came).answer ≡ kind came
+kinds_told : (n v : ℕ) (came : Flushed) → kind_said (flush_result n v came).answer ≡ kind came
 unfolding kind kind_said
 kinds_told n v (flushed.Took ss se at count) = refl
 kinds_told n v flushed.Saved = refl
@@ -222,7 +222,7 @@ module _ (v : ℕ) where
 
   part_comes : (p : FlushPart) (flush : Flush) → Comes (kind_by p flush) (part_job v p flush)
   unfolding Comes kind kind_by
-  part_comes part.Take Idle = (tt, λ reply any. taken_comes (λ batch. Ended (took batch)) (λ batch. refl) (batch_told reply))
+  part_comes part.Take Idle = (tt, λ reply any. taken_comes (λ batch. Ended (took batch)) (λ batch. refl) (batch_of_reply reply))
   part_comes part.Take (Out batch) = refl
   part_comes part.Take (Written seq) = refl
   part_comes part.Save Idle = refl
@@ -231,7 +231,7 @@ module _ (v : ℕ) where
   part_comes part.Done Idle = refl
   part_comes part.Done (Out batch) = refl
   part_comes part.Done (Written seq) = done_comes seq
-  part_comes part.All Idle = (tt, λ reply any. taken_comes (save_all_job v) (λ batch. append_comes batch (done_job v batch.position.at) (done_comes batch.position.at)) (batch_told reply))
+  part_comes part.All Idle = (tt, λ reply any. taken_comes (save_all_job v) (λ batch. append_comes batch (done_job v batch.position.at) (done_comes batch.position.at)) (batch_of_reply reply))
   part_comes part.All (Out batch) = append_comes batch (done_job v batch.position.at) (done_comes batch.position.at)
   part_comes part.All (Written seq) = done_comes seq
 
@@ -275,10 +275,10 @@ lacks_by part.Done (Written seq) = (λ is. cc, λ so. absurd (so seq refl))
 lacks_by part.All flush = (λ is. cc, λ so. absurd so)
 
 -- by the kind of what was told
-by_kind : {J : Type 0} (asks : J → ℕ → (ask : Ask) → Got ask → J → Type 0) (v : ℕ) (p : FlushPart) (flush : Flush) (kept shown : J) (told : FlushTold)
+noted_by_kind : {J : Type 0} (asks : J → ℕ → (ask : Ask) → Got ask → J → Type 0) (v : ℕ) (p : FlushPart) (flush : Flush) (kept shown : J) (told : FlushResult)
     → asks kept v Look flush shown → kind_said told.answer ≡ kind_by p flush → FlushesBy asks v p kept told
 unfolding kind_said
-by_kind asks v p flush kept shown told looked is = record {
+noted_by_kind asks v p flush kept shown told looked is = record {
   flush = flush;
   shown = shown;
   looked = looked;
@@ -302,10 +302,10 @@ there_by part.All flush is = cc
 
 -- whatever is replied, a step tells of such a refusal
 tells_by : (n v : ℕ) (p : FlushPart) (flush : Flush)
-    → AlwaysJob AnyReply AnyAt AnyAt (λ (told : FlushTold). kind_said told.answer ≡ kind_by p flush) (bind_job (part_job v p flush) (λ came. Ended (flush_told n v came)))
+    → AlwaysJob AnyReply AnyAt AnyAt (λ (told : FlushResult). kind_said told.answer ≡ kind_by p flush) (bind_job (part_job v p flush) (λ came. Ended (flush_result n v came)))
 unfolding Comes
 tells_by n v p flush =
-    always_bind_job AnyReply AnyAt AnyAt (λ came. kind came ≡ kind_by p flush) (λ (told : FlushTold). kind_said told.answer ≡ kind_by p flush) (part_job v p flush) (λ came. Ended (flush_told n v came))
+    always_bind_job AnyReply AnyAt AnyAt (λ came. kind came ≡ kind_by p flush) (λ (told : FlushResult). kind_said told.answer ≡ kind_by p flush) (part_job v p flush) (λ came. Ended (flush_result n v came))
     (part_comes v p flush) (λ came is. kinds_told n v came ∙ is)
 
 module _ {W J : Type 0} (step : W → ℕ → VbCall → Option VbReply → W → Type 0) (asks : J → ℕ → (ask : Ask) → Got ask → J → Type 0) where
@@ -316,7 +316,7 @@ module _ {W J : Type 0} (step : W → ℕ → VbCall → Option VbReply → W �
   ran_always answers (Request v ask next) old kept a now left always ran = ran_always answers (next ran.0) old ran.1 a now left (always.1 ran.0) ran.3
 
   module _ (n v : ℕ) (p : FlushPart) where
-    by_reply : (reply : Option VbReply) (old mid : W) (kept : J) (told : FlushTold) (now : W) (left : J) → step old v call.Log reply mid
+    by_reply : (reply : Option VbReply) (old mid : W) (kept : J) (told : FlushResult) (now : W) (left : J) → step old v call.Log reply mid
         → RanJob step asks (flush_if n v p (is_some reply)) mid kept told now left → FlushesAt step asks v p old kept told now left
     unfolding flush_job kind_said
     by_reply None old mid kept told now left asked ran = record {
@@ -329,15 +329,15 @@ module _ {W J : Type 0} (step : W → ℕ → VbCall → Option VbReply → W �
     }
     by_reply (Some r) old mid kept told now left asked ran =
         let is : kind_said told.answer ≡ kind_by p ran.0 =
-        ran_always (λ (t : FlushTold). kind_said t.answer ≡ kind_by p ran.0) (bind_job (part_job v p ran.0) (λ came. Ended (flush_told n v came))) mid ran.1 told now left (tells_by n v p ran.0) ran.3 in
+        ran_always (λ (t : FlushResult). kind_said t.answer ≡ kind_by p ran.0) (bind_job (part_job v p ran.0) (λ came. Ended (flush_result n v came))) mid ran.1 told now left (tells_by n v p ran.0) ran.3 in
         record {
           reply = Some r;
           mid = mid;
           asked = asked;
           absent = (λ said. absurd (there_by p ran.0 (sym is ∙ is_kind 3 (line.No cause.UnknownVb) told.answer said refl)), λ none. cc);
           silent = λ none. cc;
-          there = λ some. by_kind asks v p ran.0 kept ran.1 told ran.2 is;
+          there = λ some. noted_by_kind asks v p ran.0 kept ran.1 told ran.2 is;
         }
 
-    pub flushes_are_refused : (old : W) (kept : J) (told : FlushTold) (now : W) (left : J) → RanJob step asks (flush_at n v p) old kept told now left → FlushesAt step asks v p old kept told now left
+    pub flushes_are_refused : (old : W) (kept : J) (told : FlushResult) (now : W) (left : J) → RanJob step asks (flush_at n v p) old kept told now left → FlushesAt step asks v p old kept told now left
     flushes_are_refused old kept told now left ran = by_reply ran.0 old ran.1 kept told now left ran.2 ran.3

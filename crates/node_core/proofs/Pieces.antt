@@ -10,7 +10,7 @@ use Rattle.mcbp_frame.specs.declared.frame.FrameFault.{FrameFault}
 use Rattle.vb_calls.specs.Jobs.{Ended, bind_job, each_job}
 use Rattle.vb_events.specs.declared.event.EndReason.{EndReason}
 use Rattle.vb_events.specs.declared.event.EndReason.TheVariants as reason
-use Rattle.node_core.specs.Dials.{PlainDial, DialTold, all_told, bytes_taken, dial_fed, end_told, fault_met, frame_taken, frames_taken, over_for, rest_met, untold}
+use Rattle.node_core.specs.Dials.{PlainDial, DialResult, with_last_line, bytes_taken, dial_bytes, with_end_line, fault_met, frame_taken, frames_taken, over_for, rest_met, untold}
 use Rattle.node_core.specs.PieceLaws.{JoinsPieces, StopsAtFaults, WaitsForFrames}
 
 -- with no whole frame nothing is taken away
@@ -50,28 +50,28 @@ module _ (piece : List ℕ) (dial : PlainDial) where
   bytes = dial.heard ++ piece
 
   -- with these bytes kept
-  abbrev holding : List ℕ → DialTold
+  abbrev holding : List ℕ → DialResult
   holding left = record (untold dial) { dial = record dial { heard = left } }
 
-  waits : frames_in bytes ≡ [] → dial_fed piece dial ≡ Ended (all_told (fault_met (front_fault bytes) (holding bytes)))
+  waits : frames_in bytes ≡ [] → dial_bytes piece dial ≡ Ended (with_last_line (fault_met (front_fault bytes) (holding bytes)))
   unfolding bytes_taken frames_taken
   waits none =
       ap (λ fs. bind_job (each_job frame_taken fs (holding (left_of bytes))) rest_met) none
-      ∙ ap (λ left. Ended (all_told (fault_met (front_fault left) (holding left)))) (left_whole bytes none)
+      ∙ ap (λ left. Ended (with_last_line (fault_met (front_fault left) (holding left)))) (left_whole bytes none)
 
-  abbrev met : Option EndReason → DialTold
+  abbrev met : Option EndReason → DialResult
   met o = if is_some o then holding bytes else over_for reason.Protocol (holding bytes)
 
-  kept : over_why dial.consumer.handshake ≡ None → frames_in bytes ≡ [] → front_fault bytes ≡ None → dial_fed piece dial ≡ Ended (holding bytes)
+  kept : over_why dial.consumer.handshake ≡ None → frames_in bytes ≡ [] → front_fault bytes ≡ None → dial_bytes piece dial ≡ Ended (holding bytes)
   kept going none clean =
-      waits none ∙ ap (λ f. Ended (all_told (fault_met f (holding bytes)))) clean ∙ ap (λ o. Ended (end_told o (holding bytes))) going
+      waits none ∙ ap (λ f. Ended (with_last_line (fault_met f (holding bytes)))) clean ∙ ap (λ o. Ended (with_end_line o (holding bytes))) going
 
-  faulty : (fault : FrameFault) → over_why dial.consumer.handshake ≡ None → frames_in bytes ≡ [] → front_fault bytes ≡ Some fault → dial_fed piece dial ≡ Ended (all_told (over_for reason.Protocol (holding bytes)))
+  faulty : (fault : FrameFault) → over_why dial.consumer.handshake ≡ None → frames_in bytes ≡ [] → front_fault bytes ≡ Some fault → dial_bytes piece dial ≡ Ended (with_last_line (over_for reason.Protocol (holding bytes)))
   faulty fault going none is =
-      waits none ∙ ap (λ f. Ended (all_told (fault_met f (holding bytes)))) is ∙ ap (λ o. Ended (all_told (met o))) going
+      waits none ∙ ap (λ f. Ended (with_last_line (fault_met f (holding bytes)))) is ∙ ap (λ o. Ended (with_last_line (met o))) going
 
 pub waits_for_frames : WaitsForFrames
 waits_for_frames = record {
   kept = λ piece dial going none clean. kept piece dial going none clean;
-  faulty = λ piece dial fault going none is. (all_told (over_for reason.Protocol (holding piece dial (dial.heard ++ piece))), faulty piece dial fault going none is, refl, refl);
+  faulty = λ piece dial fault going none is. (with_last_line (over_for reason.Protocol (holding piece dial (dial.heard ++ piece))), faulty piece dial fault going none is, refl, refl);
 }

@@ -28,7 +28,7 @@ use Rattle.node_core.specs.Calls.{own_lines}
 use Rattle.node_core.specs.Shown.{image_lines, shown_line}
 
 -- what an operator's call comes to: its lines, its answer, and, where it gave the vBucket another role, the streams that it ended; and what became of durable writes that are waited for
-pub record AdminTold : Type 0 where
+pub record AdminResult : Type 0 where
   pub events : List Event
   pub answer : Answer
   pub ended : Option (List ℕ)
@@ -62,15 +62,15 @@ changes_role admin.Dead = true
 changes_role other = false
 
 -- it was refused
-abbrev pub admin_refused : Cause → AdminTold
+abbrev pub admin_refused : Cause → AdminResult
 admin_refused why = record { events = []; answer = line.No why; ended = None; resolved = [] }
 
 -- it was carried out, and told these lines
-abbrev pub admin_lines : List Event → AdminTold
+abbrev pub admin_lines : List Event → AdminResult
 admin_lines events = record { events = events; answer = line.Ok; ended = None; resolved = [] }
 
 -- the vBucket has another role: the lines that tell of it, by its reply the streams that it ended, and what became of durable writes
-abbrev pub role_changed : VbReply → List Event → AdminTold
+abbrev pub role_changed : VbReply → List Event → AdminResult
 role_changed reply events = record { events = events; answer = line.Ok; ended = Some reply.ended; resolved = reply.resolved }
 
 -- why a promotion is refused: its branch's id is 0 or was used before, or the vBucket is active already
@@ -79,55 +79,55 @@ promote_cause status.Einval = cause.UuidUsed
 promote_cause other = cause.WrongRole
 
 -- a promotion: the new branch, then the role, and then the changes that the vBucket makes at once
-abbrev pub promote_told : ℕ → ℕ → VbReply → VbAnswer → AdminTold
-promote_told n v reply (answer.Branch uuid parent fork high) =
+abbrev pub promote_result : ℕ → ℕ → VbReply → VbAnswer → AdminResult
+promote_result n v reply (answer.Branch uuid parent fork high) =
     role_changed reply (event.Branch n v uuid parent fork high ∷ event.Role n v role.Active ∷ own_lines n v reply)
-promote_told n v reply (answer.Status st) = admin_refused (promote_cause st)
-promote_told n v reply other = admin_refused cause.WrongRole
+promote_result n v reply (answer.Status st) = admin_refused (promote_cause st)
+promote_result n v reply other = admin_refused cause.WrongRole
 
 -- a change to another role than that of an active vBucket
-abbrev pub role_told : ℕ → ℕ → Role → VbReply → VbAnswer → AdminTold
-role_told n v new reply answer.Done = role_changed reply (event.Role n v new ∷ [])
-role_told n v new reply other = admin_refused cause.WrongRole
+abbrev pub role_result : ℕ → ℕ → Role → VbReply → VbAnswer → AdminResult
+role_result n v new reply answer.Done = role_changed reply (event.Role n v new ∷ [])
+role_result n v new reply other = admin_refused cause.WrongRole
 
 -- a Seal: whether there was an open span
-abbrev pub seal_told : VbAnswer → AdminTold
-seal_told (answer.Flag sealed) = record { events = []; answer = line.Number (if sealed then 1 else 0); ended = None; resolved = [] }
-seal_told other = admin_refused cause.WrongRole
+abbrev pub seal_result : VbAnswer → AdminResult
+seal_result (answer.Flag sealed) = record { events = []; answer = line.Number (if sealed then 1 else 0); ended = None; resolved = [] }
+seal_result other = admin_refused cause.WrongRole
 
 -- a Show: the vBucket, its documents and its pending prepares
-abbrev pub show_told : ℕ → ℕ → VbAnswer → AdminTold
-show_told n v (answer.Shown role uuid ss se at image) = admin_lines (shown_line n v role uuid ss se at image ∷ image_lines image)
-show_told n v other = admin_refused cause.WrongRole
+abbrev pub show_result : ℕ → ℕ → VbAnswer → AdminResult
+show_result n v (answer.Shown role uuid ss se at image) = admin_lines (shown_line n v role uuid ss se at image ∷ image_lines image)
+show_result n v other = admin_refused cause.WrongRole
 
 -- a Log: the failover log
-abbrev pub log_told : ℕ → ℕ → VbAnswer → AdminTold
-log_told n v (answer.Logged log) = admin_lines (event.Logged n v log ∷ [])
-log_told n v other = admin_refused cause.WrongRole
+abbrev pub log_result : ℕ → ℕ → VbAnswer → AdminResult
+log_result n v (answer.Logged log) = admin_lines (event.Logged n v log ∷ [])
+log_result n v other = admin_refused cause.WrongRole
 
 -- a Stat: the vBucket's numbers
-abbrev pub stat_told : ℕ → ℕ → VbAnswer → AdminTold
-stat_told n v (answer.Stat windows items cursors saved high) = admin_lines (event.Stat n v windows items cursors saved high ∷ [])
-stat_told n v other = admin_refused cause.WrongRole
+abbrev pub stat_result : ℕ → ℕ → VbAnswer → AdminResult
+stat_result n v (answer.Stat windows items cursors saved high) = admin_lines (event.Stat n v windows items cursors saved high ∷ [])
+stat_result n v other = admin_refused cause.WrongRole
 
 -- what a call comes to by the vBucket's reply
-abbrev pub admin_replied : ℕ → ℕ → AdminCall → VbReply → AdminTold
-admin_replied n v (admin.Promote uuid) reply = promote_told n v reply reply.answer
-admin_replied n v admin.Follow reply = role_told n v role.Replica reply reply.answer
-admin_replied n v admin.Dead reply = role_told n v role.Dead reply reply.answer
-admin_replied n v admin.Seal reply = seal_told reply.answer
-admin_replied n v admin.Stat reply = stat_told n v reply.answer
-admin_replied n v admin.Show reply = show_told n v reply.answer
-admin_replied n v admin.Log reply = log_told n v reply.answer
+abbrev pub admin_replied : ℕ → ℕ → AdminCall → VbReply → AdminResult
+admin_replied n v (admin.Promote uuid) reply = promote_result n v reply reply.answer
+admin_replied n v admin.Follow reply = role_result n v role.Replica reply reply.answer
+admin_replied n v admin.Dead reply = role_result n v role.Dead reply reply.answer
+admin_replied n v admin.Seal reply = seal_result reply.answer
+admin_replied n v admin.Stat reply = stat_result n v reply.answer
+admin_replied n v admin.Show reply = show_result n v reply.answer
+admin_replied n v admin.Log reply = log_result n v reply.answer
 
 -- where there is no reply, there is no such vBucket
-abbrev pub admin_told : ℕ → ℕ → AdminCall → Option VbReply → AdminTold
-admin_told n v asked None = admin_refused cause.UnknownVb
-admin_told n v asked (Some reply) = admin_replied n v asked reply
+abbrev pub admin_result : ℕ → ℕ → AdminCall → Option VbReply → AdminResult
+admin_result n v asked None = admin_refused cause.UnknownVb
+admin_result n v asked (Some reply) = admin_replied n v asked reply
 
 -- an operator's call to the vBucket v of the node n
-abbrev pub admin_at : ℕ → ℕ → AdminCall → Prog AdminTold
-admin_at n v asked = Call v (admin_call asked) (λ reply. Done (admin_told n v asked reply))
+abbrev pub admin_at : ℕ → ℕ → AdminCall → Prog AdminResult
+admin_at n v asked = Call v (admin_call asked) (λ reply. Done (admin_result n v asked reply))
 
 -- a line's answer, where a record was to be appended: that it could not be stands before what the call came to
 abbrev pub noted_answer : Wrote → Answer → Answer
@@ -137,11 +137,11 @@ noted_answer wrote.Closed said = line.No cause.Closed
 noted_answer wrote.DiskFailed said = line.No cause.Disk
 
 -- what a change of role told, and what became of its record: the role stays changed where that does not stand
-abbrev pub role_noted : ℕ → ℕ → AdminCall → Option VbReply × Wrote → AdminTold
-role_noted n v asked (reply, wrote) = record (admin_told n v asked reply) { answer = noted_answer wrote (admin_told n v asked reply).answer }
+abbrev pub role_noted : ℕ → ℕ → AdminCall → Option VbReply × Wrote → AdminResult
+role_noted n v asked (reply, wrote) = record (admin_result n v asked reply) { answer = noted_answer wrote (admin_result n v asked reply).answer }
 
 -- an operator's call that gives the vBucket v of the node n another role, which is written down
-abbrev pub role_at : ℕ → ℕ → AdminCall → Job AdminTold
+abbrev pub role_at : ℕ → ℕ → AdminCall → Job AdminResult
 role_at n v asked = bind_job (role_job v (admin_call asked)) (λ made. Ended (role_noted n v asked made))
 
 -- an operator's call and its reply, with what became of its record: a call that gives a role has one
@@ -149,7 +149,7 @@ abbrev pub noted_job : ℕ → AdminCall → Job (Option VbReply × Wrote)
 noted_job v asked = if changes_role asked then role_job v (admin_call asked) else lift (Call v (admin_call asked) (λ reply. Done (reply, wrote.NotAsked)))
 
 -- an operator's call, and what it writes down
-abbrev pub admin_job : ℕ → ℕ → AdminCall → Job AdminTold
+abbrev pub admin_job : ℕ → ℕ → AdminCall → Job AdminResult
 admin_job n v (admin.Promote uuid) = role_at n v (admin.Promote uuid)
 admin_job n v admin.Follow = role_at n v admin.Follow
 admin_job n v admin.Dead = role_at n v admin.Dead

@@ -30,9 +30,9 @@ ask_or_role None = Err cause.WrongRole
 ask_or_role (Some ask) = Ok ask
 
 -- what a vBucket asks for as a consumer, or why no link is dialed for it
-abbrev pub ask_told : Option VbReply → Result StreamAsk Cause
-ask_told None = Err cause.UnknownVb
-ask_told (Some reply) = ask_or_role (named_ask reply.answer)
+abbrev pub ask_of_reply : Option VbReply → Result StreamAsk Cause
+ask_of_reply None = Err cause.UnknownVb
+ask_of_reply (Some reply) = ask_or_role (named_ask reply.answer)
 
 -- the same, where there is a link already, or the link's number is not free
 abbrev pub ask_if : Bool → Result StreamAsk Cause → Result StreamAsk Cause
@@ -40,8 +40,8 @@ ask_if is_free (Err why) = Err why
 ask_if is_free (Ok ask) = if is_free then Ok ask else Err cause.LinkOpen
 
 -- the vBucket v is asked what it asks for, to dial
-abbrev pub dial_asked : ℕ → Bool → Prog (Result StreamAsk Cause)
-dial_asked v is_free = Call v call.Ask (λ reply. Done (ask_if is_free (ask_told reply)))
+abbrev pub dial_requested : ℕ → Bool → Prog (Result StreamAsk Cause)
+dial_requested v is_free = Call v call.Ask (λ reply. Done (ask_if is_free (ask_of_reply reply)))
 
 -- the lines of the changes that a vBucket made of its own
 abbrev pub own_lines : ℕ → ℕ → VbReply → List Event

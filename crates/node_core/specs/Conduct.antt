@@ -17,7 +17,7 @@ use Rattle.vb_calls.specs.Jobs.{Job, Ended, Call, Request}
 use Rattle.vb_calls.specs.Shelves.{Ask, Got, Append, Read, Keep, Idle}
 use Rattle.vb_types.specs.declared.journal.Record.TheVariants as noted
 use Rattle.dcp_consumer.specs.declared.handshake.Dialed.{Dialed}
-use Rattle.node_core.specs.Dials.{PlainDial, DialTold}
+use Rattle.node_core.specs.Dials.{PlainDial, DialResult}
 
 -- the calls of a follower: it takes a failover log over, a marker or a change, goes back, names what it asks for, or tells what it may acknowledge and up to where it has written all down
 abbrev pub IsFollowing : VbCall → Type 0
@@ -73,7 +73,7 @@ IsOfDial dialed (event.Ended link why) = link ≡ dialed.link
 IsOfDial dialed other = ⊥
 
 -- the same link, for the producer nothing new but requests for a stream, each with the next opaque, and acknowledgements, and behind the earlier lines only such as are the dial's own
-pub record KeepsLink (old new : DialTold) : Type 0 where
+pub record KeepsLink (old new : DialResult) : Type 0 where
   pub dialed : new.dial.consumer.dialed ≡ old.dial.consumer.dialed
   pub writes : (more : List Writes) × (new.out ≡ old.out ++ writes_past old.dial.consumer.dialed.vb old.dial.consumer.asked more) × (new.dial.consumer.asked ≡ old.dial.consumer.asked + asks_in more)
   pub lines : (more : List Event) × (new.events ≡ old.events ++ more) × All (IsOfDial old.dial.consumer.dialed) more
@@ -151,17 +151,17 @@ seqno_written (Asks ask) = None
 seqno_written (Acknowledges seq) = Some seq
 
 -- the two seqnos of a line that tells of one
-abbrev pub seqnos_told : Event → Option (ℕ × ℕ)
-seqnos_told (event.Acknowledged stream n v seq saved) = Some (seq, saved)
-seqnos_told other = None
+abbrev pub seqnos_of_line : Event → Option (ℕ × ℕ)
+seqnos_of_line (event.Acknowledged stream n v seq saved) = Some (seq, saved)
+seqnos_of_line other = None
 
 -- Neither Due nor Stat is left to come, and what was written and told as acknowledged is what was to be acknowledged.
-pub record Acknowledged (old : DialTold) (d : Dues) (new : DialTold) : Type 0 where
+pub record Acknowledged (old : DialResult) (d : Dues) (new : DialResult) : Type 0 where
   pub next : d.next ≡ AnyOther
   pub last : d.last ≡ new.dial.consumer.acked
   pub link : KeepsLink old new
   pub written : filter_map seqno_written link.writes.0 ≡ map (λ (m : ℕ × ℕ). m.0) d.met
-  pub told : filter_map seqnos_told link.lines.0 ≡ d.met
+  pub told : filter_map seqnos_of_line link.lines.0 ≡ d.met
 
 -- a dial of which nothing is acknowledged yet, where this call comes next
 abbrev pub begins : NextCall → PlainDial → Dues

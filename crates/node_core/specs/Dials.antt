@@ -48,25 +48,25 @@ abbrev pub is_over : PlainDial → Bool
 is_over dial = is_some (over_why dial.consumer.handshake)
 
 -- what a producer's bytes come to: the dial after them, the lines that tell of them, and the bytes for the producer
-pub record DialTold : Type 0 where
+pub record DialResult : Type 0 where
   pub dial : PlainDial
   pub events : List Event
   pub out : List ℕ
 
 -- a dial of which nothing is told yet
-abbrev pub untold : PlainDial → DialTold
+abbrev pub untold : PlainDial → DialResult
 untold dial = record { dial = dial; events = []; out = [] }
 
 -- with this consumer, and nothing new told
-abbrev pub with_consumer : DialTold → PlainConsumer → DialTold
+abbrev pub with_consumer : DialResult → PlainConsumer → DialResult
 with_consumer s c = record s { dial = record s.dial { consumer = c } }
 
 -- with one more line
-abbrev pub with_line : DialTold → Event → DialTold
+abbrev pub with_line : DialResult → Event → DialResult
 with_line s line = record s { events = s.events ++ line ∷ [] }
 
 -- the link is over
-abbrev pub over_for : EndReason → DialTold → DialTold
+abbrev pub over_for : EndReason → DialResult → DialResult
 over_for why s = with_consumer s (ended_for why s.dial.consumer)
 
 -- the line of a log that was taken over
@@ -74,7 +74,7 @@ abbrev pub adopted_line : Dialed → List LogEntry → Event
 adopted_line dialed log = event.Adopted dialed.node dialed.vb log
 
 -- the producer's failover log was taken over: the stream is granted, and a line tells of it
-abbrev pub granted_with : List LogEntry → DialTold → DialTold
+abbrev pub granted_with : List LogEntry → DialResult → DialResult
 granted_with log s = with_line (with_consumer s (granted s.dial.consumer)) (adopted_line s.dial.consumer.dialed log)
 
 -- the answer that a call was made
@@ -88,16 +88,16 @@ is_done None = false
 is_done (Some reply) = is_done_answer reply.answer
 
 -- the vBucket took the log over, or the link is over
-abbrev pub adopt_told : List LogEntry → DialTold → Option VbReply → DialTold
-adopt_told log s reply = if is_done reply then granted_with log s else over_for reason.Protocol s
+abbrev pub adopt_result : List LogEntry → DialResult → Option VbReply → DialResult
+adopt_result log s reply = if is_done reply then granted_with log s else over_for reason.Protocol s
 
 -- the line of an acknowledgement: all up to a seqno, where all up to `saved` is written down
 abbrev pub acknowledged_line : Dialed → ℕ → ℕ → Event
 acknowledged_line dialed seq saved = event.Acknowledged (name.Link dialed.link) dialed.node dialed.vb seq saved
 
 -- the consumer acknowledged all up to a seqno, and a line tells of it
-abbrev pub acknowledged_told : ℕ → DialTold → ℕ → DialTold
-acknowledged_told seq s saved = record {
+abbrev pub acknowledged_result : ℕ → DialResult → ℕ → DialResult
+acknowledged_result seq s saved = record {
   dial = record s.dial { consumer = (acknowledged seq s.dial.consumer).0 };
   events = s.events ++ acknowledged_line s.dial.consumer.dialed seq saved ∷ [];
   out = s.out ++ (acknowledged seq s.dial.consumer).1;
@@ -109,9 +109,9 @@ saved_in (answer.Stat spans items cursors saved high) = saved
 saved_in other = 0
 
 -- the same of a reply
-abbrev pub saved_told : Option VbReply → ℕ
-saved_told None = 0
-saved_told (Some reply) = saved_in reply.answer
+abbrev pub saved_of_reply : Option VbReply → ℕ
+saved_of_reply None = 0
+saved_of_reply (Some reply) = saved_in reply.answer
 
 -- the seqno that a vBucket may acknowledge, 0 for none
 abbrev pub due_in : VbAnswer → ℕ
@@ -119,23 +119,23 @@ due_in (answer.Num seq) = seq
 due_in other = 0
 
 -- the same of a reply
-abbrev pub due_told : Option VbReply → ℕ
-due_told None = 0
-due_told (Some reply) = due_in reply.answer
+abbrev pub due_of_reply : Option VbReply → ℕ
+due_of_reply None = 0
+due_of_reply (Some reply) = due_in reply.answer
 
 -- it is acknowledged where it is above the last one; the line tells up to where the vBucket has written all down
-abbrev pub due_met : DialTold → ℕ → Prog DialTold
+abbrev pub due_met : DialResult → ℕ → Prog DialResult
 due_met s seq =
-    if may_acknowledge seq s.dial.consumer then Call s.dial.consumer.dialed.vb call.Stat (λ reply. Done (acknowledged_told seq s (saved_told reply)))
+    if may_acknowledge seq s.dial.consumer then Call s.dial.consumer.dialed.vb call.Stat (λ reply. Done (acknowledged_result seq s (saved_of_reply reply)))
     else Done s
 
 -- while its stream is granted, the vBucket is asked what it may acknowledge
-unfoldable pub due_asked : DialTold → Prog DialTold
-due_asked s = if is_streaming s.dial.consumer.handshake then Call s.dial.consumer.dialed.vb call.Due (λ reply. due_met s (due_told reply)) else Done s
+unfoldable pub due_requested : DialResult → Prog DialResult
+due_requested s = if is_streaming s.dial.consumer.handshake then Call s.dial.consumer.dialed.vb call.Due (λ reply. due_met s (due_of_reply reply)) else Done s
 
 -- the vBucket is to take the producer's failover log over
-unfoldable pub go_on_with : List LogEntry → DialTold → Prog DialTold
-go_on_with log s = Call s.dial.consumer.dialed.vb (call.Adopt log) (λ reply. due_asked (adopt_told log s reply))
+unfoldable pub go_on_with : List LogEntry → DialResult → Prog DialResult
+go_on_with log s = Call s.dial.consumer.dialed.vb (call.Adopt log) (λ reply. due_requested (adopt_result log s reply))
 
 -- what a vBucket asks for, where there is one that follows
 abbrev pub follower_ask : Option VbReply → Option StreamAsk
@@ -143,32 +143,32 @@ follower_ask None = None
 follower_ask (Some reply) = named_ask reply.answer
 
 -- the consumer asked again, with these bytes, or is over
-abbrev pub again_with : DialTold → PlainConsumer × List ℕ → DialTold
+abbrev pub again_with : DialResult → PlainConsumer × List ℕ → DialResult
 again_with s (c, bytes) = record (with_consumer s c) { out = s.out ++ bytes }
 
 -- the consumer asks for a stream again; where there is no vBucket that follows, the link is over
-abbrev pub again_told : DialTold → Option StreamAsk → DialTold
-again_told s None = over_for reason.Protocol s
-again_told s (Some ask) = again_with s (again ask s.dial.consumer)
+abbrev pub again_result : DialResult → Option StreamAsk → DialResult
+again_result s None = over_for reason.Protocol s
+again_result s (Some ask) = again_with s (again ask s.dial.consumer)
 
 -- the vBucket names what it asks for now
-abbrev pub asked_once_more : DialTold → Prog DialTold
-asked_once_more s = Call s.dial.consumer.dialed.vb call.Ask (λ reply. Done (again_told s (follower_ask reply)))
+abbrev pub requested_once_more : DialResult → Prog DialResult
+requested_once_more s = Call s.dial.consumer.dialed.vb call.Ask (λ reply. Done (again_result s (follower_ask reply)))
 
 -- the line of a rollback
 abbrev pub rolled_line : Dialed → ℕ → ℕ → Event
 rolled_line dialed point to = event.Rolled dialed.node dialed.vb point to
 
 -- a line tells of the rollback, and the vBucket asks again; where it was refused, or could not be read or written down, the link is over
-abbrev pub rolled_back : ℕ → DialTold → Rolled → Prog DialTold
-rolled_back point s (rolled.To to) = asked_once_more (with_line s (rolled_line s.dial.consumer.dialed point to))
+abbrev pub rolled_back : ℕ → DialResult → Rolled → Prog DialResult
+rolled_back point s (rolled.To to) = requested_once_more (with_line s (rolled_line s.dial.consumer.dialed point to))
 rolled_back point s (rolled.Refused st) = Done (over_for reason.Protocol s)
 rolled_back point s rolled.Closed = Done (over_for reason.Disk s)
 rolled_back point s rolled.DiskFailed = Done (over_for reason.Disk s)
 rolled_back point s (rolled.Damaged place) = Done (over_for reason.Disk s)
 
 -- the vBucket is sent back to a point: it goes to the greatest complete point of its journal up to there
-unfoldable pub roll_back : ℕ → DialTold → Job DialTold
+unfoldable pub roll_back : ℕ → DialResult → Job DialResult
 roll_back point s = bind_job (roll_job s.dial.consumer.dialed.vb point) (λ came. lift (rolled_back point s came))
 
 -- the line of a change that was taken
@@ -176,46 +176,46 @@ abbrev pub got_line : Dialed → Change → Event
 got_line dialed c = event.Got dialed.node dialed.vb (name.Link dialed.link) c
 
 -- what the vBucket took: the snapshot that begins, or changes; any other answer ends the link
-abbrev pub taken_as : VbReply → DialTold → VbAnswer → DialTold
+abbrev pub taken_as : VbReply → DialResult → VbAnswer → DialResult
 taken_as reply s (answer.Range ss se) = with_line s (event.Ranged s.dial.consumer.dialed.node s.dial.consumer.dialed.vb ss se)
 taken_as reply s answer.Done = record s { events = s.events ++ map (got_line s.dial.consumer.dialed) reply.changes }
 taken_as reply s other = over_for reason.Protocol s
 
 -- where there is no such vBucket, the link is over
-abbrev pub message_told : DialTold → Option VbReply → DialTold
-message_told s None = over_for reason.Protocol s
-message_told s (Some reply) = taken_as reply s reply.answer
+abbrev pub message_result : DialResult → Option VbReply → DialResult
+message_result s None = over_for reason.Protocol s
+message_result s (Some reply) = taken_as reply s reply.answer
 
 -- the call of a message, and what is to be acknowledged then
-unfoldable pub call_made : VbCall → DialTold → Prog DialTold
-call_made c s = Call s.dial.consumer.dialed.vb c (λ reply. due_asked (message_told s reply))
+unfoldable pub call_made : VbCall → DialResult → Prog DialResult
+call_made c s = Call s.dial.consumer.dialed.vb c (λ reply. due_requested (message_result s reply))
 
 -- what a message asks for
-abbrev pub passive_made : Passive → DialTold → Prog DialTold
+abbrev pub passive_made : Passive → DialResult → Prog DialResult
 passive_made (passive.Call c) s = call_made c s
 passive_made other s = Done s
 
 -- what a step asks for
-abbrev pub step_made : ConsumerStep → DialTold → Job DialTold
+abbrev pub step_made : ConsumerStep → DialResult → Job DialResult
 step_made (step.Adopt log) s = lift (go_on_with log s)
 step_made (step.Roll point) s = roll_back point s
 step_made (step.Passive p) s = lift (passive_made p s)
 step_made other s = Ended s
 
 -- a frame: the consumer's step, and then what the step asks for
-unfoldable pub frame_taken : Frame → DialTold → Job DialTold
+unfoldable pub frame_taken : Frame → DialResult → Job DialResult
 frame_taken f s = step_made (consumer_step s.dial.consumer f).1 (with_consumer s (consumer_step s.dial.consumer f).0)
 
 -- frames, one after the other
-unfoldable pub frames_taken : List Frame → DialTold → Job DialTold
+unfoldable pub frames_taken : List Frame → DialResult → Job DialResult
 frames_taken frames s = each_job frame_taken frames s
 
 -- the dial with the bytes that came, of which the whole frames are given out
-abbrev pub with_left : DialTold → List ℕ → DialTold
+abbrev pub with_left : DialResult → List ℕ → DialResult
 with_left s bytes = record s { dial = record s.dial { heard = left_of bytes } }
 
 -- bytes that begin no frame, whatever follows, end the link
-abbrev pub fault_met : Option FrameFault → DialTold → DialTold
+abbrev pub fault_met : Option FrameFault → DialResult → DialResult
 fault_met None s = s
 fault_met (Some fault) s = if is_over s.dial then s else over_for reason.Protocol s
 
@@ -225,26 +225,26 @@ is_broken (Some reason.Disk) = true
 is_broken other = false
 
 -- where the link is over, a last line says why. What befell the disk comes before it, so where the disk is why, that line is left to who called
-abbrev pub end_told : Option EndReason → DialTold → DialTold
-end_told None s = s
-end_told (Some why) s = if is_broken (Some why) then s else with_line s (event.Ended s.dial.consumer.dialed.link why)
+abbrev pub with_end_line : Option EndReason → DialResult → DialResult
+with_end_line None s = s
+with_end_line (Some why) s = if is_broken (Some why) then s else with_line s (event.Ended s.dial.consumer.dialed.link why)
 
 -- the dial with its last line
-abbrev pub all_told : DialTold → DialTold
-all_told s = end_told (over_why s.dial.consumer.handshake) s
+abbrev pub with_last_line : DialResult → DialResult
+with_last_line s = with_end_line (over_why s.dial.consumer.handshake) s
 
 -- the bytes that are left in the reader, and the end of the link
-abbrev pub rest_met : DialTold → Job DialTold
-rest_met s = Ended (all_told (fault_met (front_fault s.dial.heard) s))
+abbrev pub rest_met : DialResult → Job DialResult
+rest_met s = Ended (with_last_line (fault_met (front_fault s.dial.heard) s))
 
 -- the next bytes from the producer: the frames that are whole now are taken
-unfoldable pub bytes_taken : List ℕ → DialTold → Job DialTold
+unfoldable pub bytes_taken : List ℕ → DialResult → Job DialResult
 bytes_taken piece s = bind_job (frames_taken (frames_in (s.dial.heard ++ piece)) (with_left s (s.dial.heard ++ piece))) rest_met
 
 -- the next bytes from the producer of a dial
-abbrev pub dial_fed : List ℕ → PlainDial → Job DialTold
-dial_fed piece dial = bytes_taken piece (untold dial)
+abbrev pub dial_bytes : List ℕ → PlainDial → Job DialResult
+dial_bytes piece dial = bytes_taken piece (untold dial)
 
 -- more is written down, which may let the vBucket of a dial acknowledge more
-abbrev pub dial_due : PlainDial → Prog DialTold
-dial_due dial = due_asked (untold dial)
+abbrev pub dial_due : PlainDial → Prog DialResult
+dial_due dial = due_requested (untold dial)

@@ -23,7 +23,7 @@ use Rattle.node_core.specs.declared.conn.Conn.TheVariants as conn
 use Rattle.node_core.specs.declared.node.Node.{Node}
 use Rattle.node_core.specs.declared.out.NodeOut.{NodeOut}
 use Rattle.node_core.specs.Calls.{left_open}
-use Rattle.node_core.specs.Dials.{PlainDial, DialTold, adopt_told, again_told, all_told, fault_met, message_told, rolled_back}
+use Rattle.node_core.specs.Dials.{PlainDial, DialResult, adopt_result, again_result, with_last_line, fault_met, message_result, rolled_back}
 use Rattle.node_core.specs.Outcomes.{Fed, Posted, kept_unless}
 use Rattle.node_core.specs.Outs.{cut_line}
 
@@ -51,7 +51,7 @@ pub record LeavesOpenAlone : Type 0 where
   pub kept : (c : Conn) → kept_unless false c ≡ Some c
 
 -- the link of a dial is over for this reason
-abbrev pub IsOverFor : EndReason → DialTold → Type 0
+abbrev pub IsOverFor : EndReason → DialResult → Type 0
 IsOverFor why s = over_why s.dial.consumer.handshake ≡ Some why
 
 -- the vBucket made the call
@@ -72,27 +72,27 @@ IsOfDisk (rolled.Refused st) = ⊥
 
 -- what ends a dial, and what does not
 pub record OverByRefusals : Type 0 where
-  pub log : (log : List LogEntry) (s : DialTold) (reply : Option VbReply) → (IsMade reply → ⊥) → IsOverFor reason.Protocol (adopt_told log s reply)
-  pub granted : (log : List LogEntry) (s : DialTold) (reply : Option VbReply) → IsMade reply → s.dial.consumer.handshake ≡ handshake.Asking → (adopt_told log s reply).dial.consumer.handshake ≡ handshake.Streaming
-  pub message : (s : DialTold) (reply : Option VbReply) → (IsTaken reply → ⊥) → IsOverFor reason.Protocol (message_told s reply)
-  pub taken : (s : DialTold) (reply : Option VbReply) → IsTaken reply → (message_told s reply).dial ≡ s.dial
-  pub refused : (point : ℕ) (s : DialTold) (st : Status) → Always AnyCall (IsOverFor reason.Protocol) (rolled_back point s (rolled.Refused st))
-  pub disk : (point : ℕ) (s : DialTold) (came : Rolled) → IsOfDisk came → Always AnyCall (IsOverFor reason.Disk) (rolled_back point s came)
+  pub log : (log : List LogEntry) (s : DialResult) (reply : Option VbReply) → (IsMade reply → ⊥) → IsOverFor reason.Protocol (adopt_result log s reply)
+  pub granted : (log : List LogEntry) (s : DialResult) (reply : Option VbReply) → IsMade reply → s.dial.consumer.handshake ≡ handshake.Asking → (adopt_result log s reply).dial.consumer.handshake ≡ handshake.Streaming
+  pub message : (s : DialResult) (reply : Option VbReply) → (IsTaken reply → ⊥) → IsOverFor reason.Protocol (message_result s reply)
+  pub taken : (s : DialResult) (reply : Option VbReply) → IsTaken reply → (message_result s reply).dial ≡ s.dial
+  pub refused : (point : ℕ) (s : DialResult) (st : Status) → Always AnyCall (IsOverFor reason.Protocol) (rolled_back point s (rolled.Refused st))
+  pub disk : (point : ℕ) (s : DialResult) (came : Rolled) → IsOfDisk came → Always AnyCall (IsOverFor reason.Disk) (rolled_back point s came)
   -- a vBucket that is asked once more: one that does not follow, one that does, and one for which no opaque is left
-  pub follows_not : (s : DialTold) → IsOverFor reason.Protocol (again_told s None)
-  pub follows : (s : DialTold) (ask : StreamAsk) → s.dial.consumer.handshake ≡ handshake.Asking → s.dial.consumer.asked < 4294967295 → (again_told s (Some ask)).dial.consumer.handshake ≡ handshake.Asking
-  pub all_asked : (s : DialTold) (ask : StreamAsk) → s.dial.consumer.handshake ≡ handshake.Asking → 4294967295 ≤ s.dial.consumer.asked → IsOverFor reason.Protocol (again_told s (Some ask))
+  pub follows_not : (s : DialResult) → IsOverFor reason.Protocol (again_result s None)
+  pub follows : (s : DialResult) (ask : StreamAsk) → s.dial.consumer.handshake ≡ handshake.Asking → s.dial.consumer.asked < 4294967295 → (again_result s (Some ask)).dial.consumer.handshake ≡ handshake.Asking
+  pub no_more_asks : (s : DialResult) (ask : StreamAsk) → s.dial.consumer.handshake ≡ handshake.Asking → 4294967295 ≤ s.dial.consumer.asked → IsOverFor reason.Protocol (again_result s (Some ask))
   -- bytes that begin no frame; a link that is over already ended for its own reason
-  pub fault : (s : DialTold) (fault : FrameFault) → over_why s.dial.consumer.handshake ≡ None → IsOverFor reason.Protocol (fault_met (Some fault) s)
-  pub earlier : (s : DialTold) (fault : Option FrameFault) (why : EndReason) → IsOverFor why s → fault_met fault s ≡ s
-  pub none : (s : DialTold) → fault_met None s ≡ s
+  pub fault : (s : DialResult) (fault : FrameFault) → over_why s.dial.consumer.handshake ≡ None → IsOverFor reason.Protocol (fault_met (Some fault) s)
+  pub earlier : (s : DialResult) (fault : Option FrameFault) (why : EndReason) → IsOverFor why s → fault_met fault s ≡ s
+  pub none : (s : DialResult) → fault_met None s ≡ s
 
 -- The last line of a dial says its link and why it is over. Where the disk is why, who called tells that line; a dial that is not over has none; one that is cut says so.
 pub record LastLines : Type 0 where
-  pub refused : (s : DialTold) → IsOverFor reason.Refused s → (all_told s).events ≡ s.events ++ event.Ended s.dial.consumer.dialed.link reason.Refused ∷ []
-  pub protocol : (s : DialTold) → IsOverFor reason.Protocol s → (all_told s).events ≡ s.events ++ event.Ended s.dial.consumer.dialed.link reason.Protocol ∷ []
-  pub done : (s : DialTold) → IsOverFor reason.Done s → (all_told s).events ≡ s.events ++ event.Ended s.dial.consumer.dialed.link reason.Done ∷ []
-  pub state : (s : DialTold) → IsOverFor reason.State s → (all_told s).events ≡ s.events ++ event.Ended s.dial.consumer.dialed.link reason.State ∷ []
-  pub disk : (s : DialTold) → IsOverFor reason.Disk s → all_told s ≡ s
-  pub none : (s : DialTold) → over_why s.dial.consumer.handshake ≡ None → all_told s ≡ s
+  pub refused : (s : DialResult) → IsOverFor reason.Refused s → (with_last_line s).events ≡ s.events ++ event.Ended s.dial.consumer.dialed.link reason.Refused ∷ []
+  pub protocol : (s : DialResult) → IsOverFor reason.Protocol s → (with_last_line s).events ≡ s.events ++ event.Ended s.dial.consumer.dialed.link reason.Protocol ∷ []
+  pub done : (s : DialResult) → IsOverFor reason.Done s → (with_last_line s).events ≡ s.events ++ event.Ended s.dial.consumer.dialed.link reason.Done ∷ []
+  pub state : (s : DialResult) → IsOverFor reason.State s → (with_last_line s).events ≡ s.events ++ event.Ended s.dial.consumer.dialed.link reason.State ∷ []
+  pub disk : (s : DialResult) → IsOverFor reason.Disk s → with_last_line s ≡ s
+  pub none : (s : DialResult) → over_why s.dial.consumer.handshake ≡ None → with_last_line s ≡ s
   pub cut : (dial : PlainDial) → cut_line dial ≡ event.Ended dial.consumer.dialed.link reason.Cut

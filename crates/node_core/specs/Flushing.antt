@@ -22,18 +22,18 @@ use Rattle.durability.specs.Chains.{Links}
 use Rattle.vb_types.specs.declared.status.Status.TheVariants as status
 
 -- its lines, its answer, and what became of durable writes that are waited for
-pub record FlushTold : Type 0 where
+pub record FlushResult : Type 0 where
   pub events : List Event
   pub answer : Answer
   pub resolved : List Resolved
 
 -- it was answered so, and nothing is told of it
-abbrev pub flush_answered : Answer → FlushTold
+abbrev pub flush_answered : Answer → FlushResult
 flush_answered said = record { events = []; answer = said; resolved = [] }
 
 -- a batch of so many changes was taken: a line tells of it, if it has any
-abbrev pub took_told : Event → ℕ → FlushTold
-took_told batch count = record { events = if count == 0 then [] else batch ∷ []; answer = line.Number count; resolved = [] }
+abbrev pub took_result : Event → ℕ → FlushResult
+took_result batch count = record { events = if count == 0 then [] else batch ∷ []; answer = line.Number count; resolved = [] }
 
 -- up to where the vBucket counts as saved
 abbrev pub saved_in : VbAnswer → ℕ
@@ -41,9 +41,9 @@ saved_in (answer.Num saved) = saved
 saved_in other = 0
 
 -- the same of a reply
-abbrev pub saved_told : Option VbReply → ℕ
-saved_told None = 0
-saved_told (Some reply) = saved_in reply.answer
+abbrev pub saved_of_reply : Option VbReply → ℕ
+saved_of_reply None = 0
+saved_of_reply (Some reply) = saved_in reply.answer
 
 -- what became of durable writes, where there is a reply
 abbrev pub resolved_in : Option VbReply → List Resolved
@@ -51,41 +51,41 @@ resolved_in None = []
 resolved_in (Some reply) = reply.resolved
 
 -- what a step came to; a batch that is done may let the vBucket make changes
-abbrev pub flush_told : ℕ → ℕ → Flushed → FlushTold
-flush_told n v (flushed.Took ss se at count) = took_told (event.Batch n v ss se at count) count
-flush_told n v flushed.Saved = flush_answered line.Ok
-flush_told n v (flushed.Done reply) = record { events = own_lines_if n v reply; answer = line.Number (saved_told reply); resolved = resolved_in reply }
-flush_told n v flushed.BatchOut = flush_answered (line.No cause.BatchOut)
-flush_told n v flushed.NothingTaken = flush_answered (line.No cause.NothingTaken)
-flush_told n v flushed.Closed = flush_answered (line.No cause.Closed)
-flush_told n v flushed.DiskFailed = flush_answered (line.No cause.Disk)
+abbrev pub flush_result : ℕ → ℕ → Flushed → FlushResult
+flush_result n v (flushed.Took ss se at count) = took_result (event.Batch n v ss se at count) count
+flush_result n v flushed.Saved = flush_answered line.Ok
+flush_result n v (flushed.Done reply) = record { events = own_lines_if n v reply; answer = line.Number (saved_of_reply reply); resolved = resolved_in reply }
+flush_result n v flushed.BatchOut = flush_answered (line.No cause.BatchOut)
+flush_result n v flushed.NothingTaken = flush_answered (line.No cause.NothingTaken)
+flush_result n v flushed.Closed = flush_answered (line.No cause.Closed)
+flush_result n v flushed.DiskFailed = flush_answered (line.No cause.Disk)
 
 -- a step for a vBucket that is there
-abbrev pub flush_if : ℕ → ℕ → FlushPart → Bool → Job FlushTold
-flush_if n v part true = bind_job (flush_job v part) (λ came. Ended (flush_told n v came))
+abbrev pub flush_if : ℕ → ℕ → FlushPart → Bool → Job FlushResult
+flush_if n v part true = bind_job (flush_job v part) (λ came. Ended (flush_result n v came))
 flush_if n v part false = Ended (flush_answered (line.No cause.UnknownVb))
 
 -- a step of writing the vBucket v of the node n down, if there is one: one that is there has a failover log
-abbrev pub flush_at : ℕ → ℕ → FlushPart → Job FlushTold
+abbrev pub flush_at : ℕ → ℕ → FlushPart → Job FlushResult
 flush_at n v part = Call v call.Log (λ reply. flush_if n v part (is_some reply))
 
 -- a call of an active vBucket's chain was made: the lines of the changes that it made at once. Any other vBucket has the wrong role
-abbrev pub settled_by : ℕ → ℕ → VbReply → VbAnswer → FlushTold
+abbrev pub settled_by : ℕ → ℕ → VbReply → VbAnswer → FlushResult
 settled_by n v reply answer.Done = record { events = own_lines n v reply; answer = line.Ok; resolved = reply.resolved }
 settled_by n v reply other = flush_answered (line.No cause.WrongRole)
 
 -- where there is no reply, there is no such vBucket
-abbrev pub settled_told : ℕ → ℕ → Option VbReply → FlushTold
-settled_told n v None = flush_answered (line.No cause.UnknownVb)
-settled_told n v (Some reply) = settled_by n v reply reply.answer
+abbrev pub settled_result : ℕ → ℕ → Option VbReply → FlushResult
+settled_result n v None = flush_answered (line.No cause.UnknownVb)
+settled_result n v (Some reply) = settled_by n v reply reply.answer
 
 -- the chain of the vBucket v of the node n is set
-abbrev pub chain_set : ℕ → ℕ → Links → Prog FlushTold
-chain_set n v chain = prog.Call v (call.Chain chain) (λ reply. prog.Done (settled_told n v reply))
+abbrev pub chain_changed : ℕ → ℕ → Links → Prog FlushResult
+chain_changed n v chain = prog.Call v (call.Chain chain) (λ reply. prog.Done (settled_result n v reply))
 
 -- its prepares whose time is up by the clock are given up
-abbrev pub ticked : ℕ → ℕ → ℕ → Prog FlushTold
-ticked n v clock = prog.Call v (call.Tick clock) (λ reply. prog.Done (settled_told n v reply))
+abbrev pub ticked : ℕ → ℕ → ℕ → Prog FlushResult
+ticked n v clock = prog.Call v (call.Tick clock) (λ reply. prog.Done (settled_result n v reply))
 
 -- a vBucket refuses the branch 0 in any case, an active one as it is active
 abbrev pub is_active_answer : VbAnswer → Bool
@@ -93,10 +93,10 @@ is_active_answer (answer.Status status.NotMyVbucket) = true
 is_active_answer other = false
 
 -- whether there is such a vBucket, and whether it is active
-abbrev pub activity_told : Option VbReply → Option Bool
-activity_told None = None
-activity_told (Some reply) = Some (is_active_answer reply.answer)
+abbrev pub activity_of_reply : Option VbReply → Option Bool
+activity_of_reply None = None
+activity_of_reply (Some reply) = Some (is_active_answer reply.answer)
 
 -- the vBucket v is asked whether it is active, by a call that changes nothing
-abbrev pub activity_asked : ℕ → Prog (Option Bool)
-activity_asked v = prog.Call v (call.Promote 0) (λ reply. prog.Done (activity_told reply))
+abbrev pub activity_requested : ℕ → Prog (Option Bool)
+activity_requested v = prog.Call v (call.Promote 0) (λ reply. prog.Done (activity_of_reply reply))

@@ -12,14 +12,14 @@ use Rattle.disk_journals.specs.Books.{Book, opened_shelves}
 use Rattle.vb_calls.specs.Jobs.{after_job}
 use Rattle.vb_calls.specs.Shelves.{Shelf, Shelves}
 use Rattle.vb_calls.specs.States.{States}
-use Rattle.node_core.specs.Flushing.{FlushTold}
+use Rattle.node_core.specs.Flushing.{FlushResult}
 use Rattle.node_core.specs.Loading.{loaded_states, start_job, starts_of}
 
 -- the vBuckets of a node and their journals, and what was told of each that took its new branch
 pub record Loaded : Type 0 where
   pub vbs : States
   pub shelves : Shelves
-  pub told : List FlushTold
+  pub told : List FlushResult
 
 -- one more takes its new branch
 abbrev pub with_start : ℕ → Loaded → ℕ × ℕ → Loaded
@@ -86,5 +86,5 @@ abbrev pub dead_one : Book
 dead_one = (3, noted.State Dead (entry 11 0 ∷ []) ∷ first_of ∷ [])
 
 -- the start of the vBucket 0, saved up to 6, whose new branch is 33, over a journal like this
-abbrev pub start_over : Shelf → (States × Shelves) × FlushTold
+abbrev pub start_over : Shelf → (States × Shelves) × FlushResult
 start_over shelf = after_job (start_job 0 0 33) (loaded_states 0 (saved_to_6 ∷ [])) (λ v. Some shelf)

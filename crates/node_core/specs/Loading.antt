@@ -20,7 +20,7 @@ use Rattle.vb_events.specs.declared.event.Event.TheVariants as event
 use Rattle.vb_types.specs.declared.journal.Record.{Record}
 use Rattle.node_core.specs.Admin.{noted_answer}
 use Rattle.node_core.specs.Calls.{own_lines}
-use Rattle.node_core.specs.Flushing.{FlushTold}
+use Rattle.node_core.specs.Flushing.{FlushResult}
 
 -- a vBucket of the node n that starts with this: it has the role, the log and the position that its records tell, and what its batches leave; all up to its position counts as saved. One that was active is dead until it has its new branch. No log has more entries than the limit
 abbrev pub loaded_by : ℕ → Saved → Plain
@@ -70,14 +70,14 @@ branch_in n v (answer.Branch uuid parent fork high) = event.Branch n v uuid pare
 branch_in n v other = []
 
 -- and behind it the changes that the vBucket makes at once
-abbrev pub branch_told : ℕ → ℕ → Option VbReply → List Event
-branch_told n v None = []
-branch_told n v (Some reply) = branch_in n v reply.answer ++ own_lines n v reply
+abbrev pub branch_lines_of_reply : ℕ → ℕ → Option VbReply → List Event
+branch_lines_of_reply n v None = []
+branch_lines_of_reply n v (Some reply) = branch_in n v reply.answer ++ own_lines n v reply
 
 -- what is told of a vBucket that took its new branch, and of its record: where that could not be appended, this is the answer
-abbrev pub start_told : ℕ → ℕ → Option VbReply × Wrote → FlushTold
-start_told n v (reply, wrote) = record { events = branch_told n v reply; answer = noted_answer wrote line.Ok; resolved = [] }
+abbrev pub start_result : ℕ → ℕ → Option VbReply × Wrote → FlushResult
+start_result n v (reply, wrote) = record { events = branch_lines_of_reply n v reply; answer = noted_answer wrote line.Ok; resolved = [] }
 
 -- a vBucket of the node n that was active takes its new branch, which is written down; it stays active where its record could not be appended
-abbrev pub start_job : ℕ → ℕ → ℕ → Job FlushTold
-start_job n v uuid = bind_job (role_job v (call.Promote uuid)) (λ made. Ended (start_told n v made))
+abbrev pub start_job : ℕ → ℕ → ℕ → Job FlushResult
+start_job n v uuid = bind_job (role_job v (call.Promote uuid)) (λ made. Ended (start_result n v made))

@@ -14,12 +14,12 @@ use Rattle.vb_calls.specs.declared.calls.VbAnswer.TheVariants as answer
 use Rattle.vb_calls.specs.declared.calls.VbCall.{VbCall}
 use Rattle.vb_calls.specs.declared.calls.VbCall.TheVariants as call
 use Rattle.vb_calls.specs.declared.calls.VbReply.{VbReply}
-use Rattle.vb_calls.specs.Flushes.{log_told}
+use Rattle.vb_calls.specs.Flushes.{log_of_reply}
 use Rattle.vb_calls.specs.Shelves.{Ask, Append, Look, Got, Flush, Idle, Out, Written, Fate, Stood, WasClosed, DiskFailed}
 use Rattle.node_core.specs.declared.admin.AdminCall.{AdminCall}
 use Rattle.node_core.specs.declared.admin.AdminCall.TheVariants as admin
-use Rattle.node_core.specs.Admin.{AdminTold, admin_call}
-use Rattle.node_core.specs.Flushing.{FlushTold}
+use Rattle.node_core.specs.Admin.{AdminResult, admin_call}
+use Rattle.node_core.specs.Flushing.{FlushResult}
 use Rattle.node_core.specs.Outcomes.{MadeIf}
 use Rattle.node_core.specs.declared.out.NodeOut.{NodeOut}
 
@@ -42,7 +42,7 @@ Lacks part.Done flush = (seq : ℕ) → flush ≢ Written seq
 Lacks other flush = ⊥
 
 -- By the batch that is on its way: a take is refused exactly where one is, and a save or a done exactly where there is none that it could be made of.
-pub record FlushesBy {J : Type 0} (asks : J → ℕ → (ask : Ask) → Got ask → J → Type 0) (v : ℕ) (step_of : FlushPart) (kept : J) (told : FlushTold) : Type 0 where
+pub record FlushesBy {J : Type 0} (asks : J → ℕ → (ask : Ask) → Got ask → J → Type 0) (v : ℕ) (step_of : FlushPart) (kept : J) (told : FlushResult) : Type 0 where
   pub flush : Flush
   pub shown : J
   pub looked : asks kept v Look flush shown
@@ -51,16 +51,16 @@ pub record FlushesBy {J : Type 0} (asks : J → ℕ → (ask : Ask) → Got ask 
 
 module _ {W J : Type 0} (step : W → ℕ → VbCall → Option VbReply → W → Type 0) (asks : J → ℕ → (ask : Ask) → Got ask → J → Type 0) where
   -- The new role is written down, with the failover log that the vBucket tells then. The answer is that an earlier append failed exactly where one did, and that the disk failed exactly where it does.
-  pub record IsNoted (v : ℕ) (new : Role) (old : W) (kept : J) (told : AdminTold) (now : W) (left : J) : Type 0 where
+  pub record IsNoted (v : ℕ) (new : Role) (old : W) (kept : J) (told : AdminResult) (now : W) (left : J) : Type 0 where
     pub logged : Option VbReply
     pub tells : step old v call.Log logged now
     pub fate : Fate
-    pub appended : asks kept v (Append (State new (log_told logged))) fate left
+    pub appended : asks kept v (Append (State new (log_of_reply logged))) fate left
     pub closed : (told.answer ≡ line.No cause.Closed) ↔ (fate ≡ WasClosed)
     pub failed : (told.answer ≡ line.No cause.Disk) ↔ (fate ≡ DiskFailed)
 
   -- A change of role is the vBucket's call first. One that is refused asks the journal for nothing, and any other is written down.
-  pub record ChangesRole (v : ℕ) (asked : AdminCall) (new : Role) (old : W) (kept : J) (told : AdminTold) (now : W) (left : J) : Type 0 where
+  pub record ChangesRole (v : ℕ) (asked : AdminCall) (new : Role) (old : W) (kept : J) (told : AdminResult) (now : W) (left : J) : Type 0 where
     pub reply : Option VbReply
     pub mid : W
     pub called : step old v (admin_call asked) reply mid
@@ -68,7 +68,7 @@ module _ {W J : Type 0} (step : W → ℕ → VbCall → Option VbReply → W �
     pub made : (IsRefused reply → ⊥) → IsNoted v new mid kept told now left
 
   -- A step of writing down is refused for want of a vBucket exactly where there is none, and then asks the journal for nothing.
-  pub record FlushesAt (v : ℕ) (step_of : FlushPart) (old : W) (kept : J) (told : FlushTold) (now : W) (left : J) : Type 0 where
+  pub record FlushesAt (v : ℕ) (step_of : FlushPart) (old : W) (kept : J) (told : FlushResult) (now : W) (left : J) : Type 0 where
     pub reply : Option VbReply
     pub mid : W
     pub asked : step old v call.Log reply mid

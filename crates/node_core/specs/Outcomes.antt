@@ -5,7 +5,7 @@ use Rattle.std.specs.BTreeMap.{is_at}
 use Rattle.std.specs.Map.{lookup}
 use Rattle.std.specs.Ordering.{nat_cmp}
 use Rattle.slab.specs.Slab.{get, Updates}
-use Rattle.client_session.specs.Serving.{PlainSession, KeptSession, Served, served, new_session, bytes_served, outcome_served, awaits}
+use Rattle.client_session.specs.Serving.{PlainSession, KeptSession, Served, served, new_session, bytes_handled, outcome_handled, awaits}
 use Rattle.dcp_producer.specs.Ending.{end_closed}
 use Rattle.dcp_consumer.specs.Dialing.{requests}
 use Rattle.vb_events.specs.declared.event.Cause.{Cause}
@@ -28,12 +28,12 @@ use Rattle.node_core.specs.declared.conn.ConnKind.{ConnKind}
 use Rattle.node_core.specs.declared.conn.ConnKind.TheVariants as kind
 use Rattle.node_core.specs.declared.node.Node.{Node}
 use Rattle.node_core.specs.declared.out.NodeOut.{NodeOut}
-use Rattle.node_core.specs.Admin.{AdminTold, admin_job}
-use Rattle.node_core.specs.Calls.{dial_asked}
-use Rattle.node_core.specs.Dials.{PlainDial, KeptDial, DialTold, new_dial, is_over, dial_fed, dial_due}
-use Rattle.node_core.specs.Flushing.{FlushTold, flush_at}
+use Rattle.node_core.specs.Admin.{AdminResult, admin_job}
+use Rattle.node_core.specs.Calls.{dial_requested}
+use Rattle.node_core.specs.Dials.{PlainDial, KeptDial, DialResult, new_dial, is_over, dial_bytes, dial_due}
+use Rattle.node_core.specs.Flushing.{FlushResult, flush_at}
 use Rattle.node_core.specs.Outs.{flush_out, refused_out, done_out, made_out, client_out, peer_out, pull_out, idle_out, dial_out, cut_out, dial_ended, admin_out}
-use Rattle.node_core.specs.Peers.{PlainPeer, KeptPeer, PeerTold, PullTold, new_peer, peer_heard, peer_frames, peer_answered, peer_pulled, peer_ended}
+use Rattle.node_core.specs.Peers.{PlainPeer, KeptPeer, PeerResult, PullResult, new_peer, peer_heard, peer_frames, peer_answered, peer_pulled, peer_ended}
 use Rattle.mcbp_frame.specs.declared.frame.Frame.{Frame}
 use Rattle.vb_calls.specs.declared.calls.Resolved.{Resolved}
 
@@ -79,10 +79,10 @@ new_conn n (kind.Client client base) = client_conn (new_session (record { node =
 new_conn n (kind.Peer stream id) = peer_conn (new_peer (record { stream = stream; node = n; id = id }))
 
 -- a connection, where a change of role at the vBucket v ended the streams of these numbers, if there was one
-abbrev pub conn_told : ℕ → Option (List ℕ) → Conn → Conn
-conn_told v None c = c
-conn_told v (Some ids) (conn.Client kept) = conn.Client kept
-conn_told v (Some ids) (conn.Peer kept) = conn.Peer (record kept { plain = peer_ended v ids kept.plain })
+abbrev pub conn_ended : ℕ → Option (List ℕ) → Conn → Conn
+conn_ended v None c = c
+conn_ended v (Some ids) (conn.Client kept) = conn.Client kept
+conn_ended v (Some ids) (conn.Peer kept) = conn.Peer (record kept { plain = peer_ended v ids kept.plain })
 
 -- the outcome of the durable write of this waiter is awaited at a connection
 abbrev pub conn_awaits : ℕ → Option Conn → Bool
@@ -130,19 +130,19 @@ module _ {W : Type 0} (step : W → ℕ → VbCall → Option VbReply → W → 
   abbrev pub ClientFed : ℕ → List ℕ → KeptSession → W → NodeOut → KeptSession → W → Type 0
   ClientFed clock piece kept old out left new =
       (kept.spent ≡ false) × (left.spent ≡ false)
-      × ((s : Served) × Ran step (bytes_served clock piece (served kept.plain [])) old s new × (out ≡ client_out s) × (left.plain ≡ s.session))
+      × ((s : Served) × Ran step (bytes_handled clock piece (served kept.plain [])) old s new × (out ≡ client_out s) × (left.plain ≡ s.session))
 
   -- a client's connection was told what became of a durable write: it was not spent, and its session went on
   abbrev pub ClientPosted : ℕ → Resolved → KeptSession → W → NodeOut → KeptSession → W → Type 0
   ClientPosted clock outcome kept old out left new =
       (kept.spent ≡ false) × (left.spent ≡ false)
-      × ((s : Served) × Ran step (outcome_served clock outcome (served kept.plain [])) old s new × (out ≡ client_out s) × (left.plain ≡ s.session))
+      × ((s : Served) × Ran step (outcome_handled clock outcome (served kept.plain [])) old s new × (out ≡ client_out s) × (left.plain ≡ s.session))
 
   -- a peer's frame was answered
   abbrev pub PeerAnswered : Frame → KeptPeer → W → NodeOut → KeptPeer → W → Type 0
   PeerAnswered f kept old out left new =
       (kept.spent ≡ false) × (left.spent ≡ false)
-      × ((told : PeerTold) × Ran step (peer_answered f kept.plain) old told new × (out ≡ peer_out told) × (left.plain ≡ told.peer))
+      × ((told : PeerResult) × Ran step (peer_answered f kept.plain) old told new × (out ≡ peer_out told) × (left.plain ≡ told.peer))
 
   -- a client's connection was given bytes: this is what it handed out, and what became of it. A peer's takes none so
   abbrev pub ConnFed : ℕ → List ℕ → Conn → W → NodeOut → Conn → W → Type 0
@@ -164,7 +164,7 @@ module _ {W : Type 0} (step : W → ℕ → VbCall → Option VbReply → W → 
 
   -- memory was short while a client's connection was given bytes: its session began them, unless it was spent already
   abbrev pub ClientStopped : ℕ → List ℕ → KeptSession → W → W → Type 0
-  ClientStopped clock piece kept old new = (kept.spent ≡ true → new ≡ old) × Began step (bytes_served clock piece (served kept.plain [])) old new
+  ClientStopped clock piece kept old new = (kept.spent ≡ true → new ≡ old) × Began step (bytes_handled clock piece (served kept.plain [])) old new
 
   -- memory was short while a client's connection was given bytes
   abbrev pub ConnStopped : ℕ → List ℕ → Conn → W → W → Type 0
@@ -173,7 +173,7 @@ module _ {W : Type 0} (step : W → ℕ → VbCall → Option VbReply → W → 
 
   -- memory was short while a client's connection was told what became of a durable write
   abbrev pub ConnUnposted : ℕ → Resolved → Conn → W → W → Type 0
-  ConnUnposted clock outcome (conn.Client kept) old new = (kept.spent ≡ true → new ≡ old) × Began step (outcome_served clock outcome (served kept.plain [])) old new
+  ConnUnposted clock outcome (conn.Client kept) old new = (kept.spent ≡ true → new ≡ old) × Began step (outcome_handled clock outcome (served kept.plain [])) old new
   ConnUnposted clock outcome (conn.Peer kept) old new = ⊥
 
   -- memory was short while a peer's connection answered a frame
@@ -185,7 +185,7 @@ module _ {W : Type 0} (step : W → ℕ → VbCall → Option VbReply → W → 
   abbrev pub PeerPulled : ℕ → KeptPeer → W → NodeOut → KeptPeer → W → Type 0
   PeerPulled frames kept old out left new =
       (kept.spent ≡ false) × (left.spent ≡ false)
-      × ((told : PullTold) × Ran step (peer_pulled frames kept.plain) old told new × (out ≡ pull_out told) × (left.plain ≡ told.peer))
+      × ((told : PullResult) × Ran step (peer_pulled frames kept.plain) old told new × (out ≡ pull_out told) × (left.plain ≡ told.peer))
 
   -- a connection was asked for frames of its stream
   abbrev pub ConnPulled : ℕ → Conn → W → NodeOut → Conn → W → Type 0
@@ -309,8 +309,8 @@ module _ {W J : Type 0} (step : W → ℕ → VbCall → Option VbReply → W �
   ShutAt key (Some found) old out new = Shut key found old out new
 
   -- a call to a vBucket that let it resolve durable writes
-  pub record Settles (called : Prog FlushTold) (old : Node W J) (out : NodeOut) (new : Node W J) : Type 0 where
-    pub told : FlushTold
+  pub record Settles (called : Prog FlushResult) (old : Node W J) (out : NodeOut) (new : Node W J) : Type 0 where
+    pub told : FlushResult
     pub ran : Ran step called old.vbs told new.vbs
     pub said : out ≡ flush_out told
     pub rest : new ≡ record old { vbs = new.vbs }
@@ -318,7 +318,7 @@ module _ {W J : Type 0} (step : W → ℕ → VbCall → Option VbReply → W �
   -- more of the vBucket v is written down, and its dial, if there is one, acknowledged what is due then
   pub record DialDue (v : ℕ) (found : KeptDial) (old : Node W J) (out : NodeOut) (new : Node W J) : Type 0 where
     pub live : found.spent ≡ false
-    pub told : DialTold
+    pub told : DialResult
     pub ran : Ran step (dial_due found.plain) old.vbs told new.vbs
     pub said : out ≡ done_out told.events told.out
     pub dials : Renumbered old.dials new.dials v (Some (live_dial told.dial))
@@ -345,7 +345,7 @@ module _ {W J : Type 0} (step : W → ℕ → VbCall → Option VbReply → W �
   -- the vBucket v dials as the consumer of a link, unless it dialed already, or the link is not free
   pub record Dialed (v link : ℕ) (is_free : Bool) (old : Node W J) (out : NodeOut) (new : Node W J) : Type 0 where
     pub said : Result StreamAsk Cause
-    pub ran : Ran step (dial_asked v (is_free && not (is_some (value_at old.dials v)))) old.vbs said new.vbs
+    pub ran : Ran step (dial_requested v (is_free && not (is_some (value_at old.dials v)))) old.vbs said new.vbs
     pub dials : DialedAs old.number v link said old.dials out new.dials
     pub rest : new ≡ record old { vbs = new.vbs; dials = new.dials }
 
@@ -353,8 +353,8 @@ module _ {W J : Type 0} (step : W → ℕ → VbCall → Option VbReply → W �
   -- the dial of the vBucket v, which was not spent, was given bytes; one that is over is let go
   pub record DialFed (v : ℕ) (piece : List ℕ) (found : KeptDial) (old : Node W J) (out : NodeOut) (new : Node W J) : Type 0 where
     pub fresh : found.spent ≡ false
-    pub told : DialTold
-    pub ran : RanJob step asks (dial_fed piece found.plain) old.vbs old.disks told new.vbs new.disks
+    pub told : DialResult
+    pub ran : RanJob step asks (dial_bytes piece found.plain) old.vbs old.disks told new.vbs new.disks
     pub said : out ≡ dial_out told
     pub dials : Renumbered old.dials new.dials v (dial_left told.dial)
     pub rest : new ≡ record old { vbs = new.vbs; disks = new.disks; dials = new.dials }
@@ -370,7 +370,7 @@ module _ {W J : Type 0} (step : W → ℕ → VbCall → Option VbReply → W �
     pub left : KeptDial
     pub had : value_at old.dials v ≡ Some found
     pub silent : found.spent ≡ true → (new.vbs ≡ old.vbs) × (new.disks ≡ old.disks)
-    pub began : BeganJob step asks (dial_fed piece found.plain) old.vbs old.disks new.vbs new.disks
+    pub began : BeganJob step asks (dial_bytes piece found.plain) old.vbs old.disks new.vbs new.disks
     pub spent : left.spent ≡ true
     pub link : left.plain.consumer.dialed ≡ found.plain.consumer.dialed
     pub same : found.spent ≡ true → left ≡ found
@@ -379,16 +379,16 @@ module _ {W J : Type 0} (step : W → ℕ → VbCall → Option VbReply → W �
 
   -- an operator's call to the vBucket v: each connection is told which streams it ended, and the own dial ends where it changed the role
   pub record Administered (v : ℕ) (asked : AdminCall) (old : Node W J) (out : NodeOut) (new : Node W J) : Type 0 where
-    pub told : AdminTold
+    pub told : AdminResult
     pub ran : RanJob step asks (admin_job old.number v asked) old.vbs old.disks told new.vbs new.disks
     pub said : out ≡ admin_out (dial_ended told.ended (value_at old.dials v)) told
-    pub conns : (key : ℕ) → get new.conns key ≡ option_map (conn_told v told.ended) (get old.conns key)
+    pub conns : (key : ℕ) → get new.conns key ≡ option_map (conn_ended v told.ended) (get old.conns key)
     pub dials : (other : ℕ) → value_at new.dials other ≡ (if is_some told.ended && other == v then None else value_at old.dials other)
     pub rest : new ≡ record old { vbs = new.vbs; disks = new.disks; conns = new.conns; dials = new.dials }
 
   -- a step of writing the vBucket v down
   pub record Wrote (v : ℕ) (part : FlushPart) (old : Node W J) (out : NodeOut) (new : Node W J) : Type 0 where
-    pub told : FlushTold
+    pub told : FlushResult
     pub ran : RanJob step asks (flush_at old.number v part) old.vbs old.disks told new.vbs new.disks
     pub said : out ≡ flush_out told
     pub rest : new ≡ record old { vbs = new.vbs; disks = new.disks }

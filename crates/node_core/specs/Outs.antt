@@ -13,15 +13,15 @@ use Rattle.vb_events.specs.declared.event.Event.TheVariants as event
 use Rattle.vb_events.specs.declared.event.Why.TheVariants as why
 use Rattle.vb_types.specs.declared.role.Role.{Role}
 use Rattle.node_core.specs.declared.out.NodeOut.{NodeOut}
-use Rattle.node_core.specs.declared.roles.AdminTold.{AdminTold as Lines}
-use Rattle.node_core.specs.declared.roles.AdminTold.TheVariants as lines
+use Rattle.node_core.specs.declared.roles.AdminResult.{AdminResult as Lines}
+use Rattle.node_core.specs.declared.roles.AdminResult.TheVariants as lines
 use Rattle.node_core.specs.declared.node.starts.Started.{Started}
-use Rattle.node_core.specs.Admin.{AdminTold, noted_answer, role_lines}
+use Rattle.node_core.specs.Admin.{AdminResult, noted_answer, role_lines}
 use Rattle.vb_calls.specs.declared.journals.Wrote.{Wrote}
 use Rattle.node_core.specs.Calls.{branch_lines}
-use Rattle.node_core.specs.Flushing.{FlushTold}
-use Rattle.node_core.specs.Dials.{PlainDial, KeptDial, DialTold, is_broken, is_over}
-use Rattle.node_core.specs.Peers.{PlainPeer, PeerTold, PullTold}
+use Rattle.node_core.specs.Flushing.{FlushResult}
+use Rattle.node_core.specs.Dials.{PlainDial, KeptDial, DialResult, is_broken, is_over}
+use Rattle.node_core.specs.Peers.{PlainPeer, PeerResult, PullResult}
 
 -- the call was refused, and nothing happened
 abbrev pub refused_out : Cause → NodeOut
@@ -41,15 +41,15 @@ made_unless n v role uuid (Some wrote) = made_out n v role uuid wrote
 made_unless n v role uuid None = refused_out cause.VbExists
 
 -- what a step of writing down hands out
-abbrev pub flush_out : FlushTold → NodeOut
+abbrev pub flush_out : FlushResult → NodeOut
 flush_out told = record { events = told.events; out = []; answer = told.answer; closed = false; resolved = told.resolved }
 
 -- what was told of such a step, by what it handed out
-abbrev pub flush_by : NodeOut → FlushTold
+abbrev pub flush_by : NodeOut → FlushResult
 flush_by out = record { events = out.events; answer = out.answer; resolved = out.resolved }
 
 -- what a start told
-abbrev pub start_by : Started → FlushTold
+abbrev pub start_by : Started → FlushResult
 start_by told = record { events = told.lines.items; answer = told.answer; resolved = [] }
 
 -- what a client's bytes hand out
@@ -57,19 +57,19 @@ abbrev pub client_out : Served → NodeOut
 client_out s = record { events = s.events; out = []; answer = answer.Ok; closed = s.session.closed; resolved = [] }
 
 -- what a peer's frame hands out
-abbrev pub peer_out : PeerTold → NodeOut
+abbrev pub peer_out : PeerResult → NodeOut
 peer_out told = record (done_out told.events told.out) { resolved = told.resolved }
 
 -- what was told of a peer's frame, by what it handed out and the connection after it
-abbrev pub told_by : PlainPeer → NodeOut → PeerTold
-told_by peer out = record { peer = peer; events = out.events; out = out.out; resolved = out.resolved }
+abbrev pub peer_result_by : PlainPeer → NodeOut → PeerResult
+peer_result_by peer out = record { peer = peer; events = out.events; out = out.out; resolved = out.resolved }
 
 -- what frames of a peer's stream hand out
-abbrev pub pull_out : PullTold → NodeOut
+abbrev pub pull_out : PullResult → NodeOut
 pull_out told = record { events = told.events; out = told.out; answer = told.answer; closed = false; resolved = [] }
 
 -- what was told of frames, by what they handed out and the connection after them
-abbrev pub pulled_by : PlainPeer → NodeOut → PullTold
+abbrev pub pulled_by : PlainPeer → NodeOut → PullResult
 pulled_by peer out = record { peer = peer; events = out.events; out = out.out; answer = out.answer }
 
 -- a client's connection has no stream
@@ -81,7 +81,7 @@ abbrev pub dial_answer : Option EndReason → Answer
 dial_answer why = if is_broken why then answer.No cause.Disk else answer.Ok
 
 -- what a dialed producer's bytes hand out
-abbrev pub dial_out : DialTold → NodeOut
+abbrev pub dial_out : DialResult → NodeOut
 dial_out told = record { events = told.events; out = told.out; answer = dial_answer (over_why told.dial.consumer.handshake); closed = is_over told.dial; resolved = [] }
 
 -- the line of a dial that is cut
@@ -103,12 +103,12 @@ dial_ended None kept = None
 dial_ended (Some ids) kept = kept
 
 -- what an operator's call hands out: the end of the own dial, if it ended it, and then what the call told
-abbrev pub admin_out : Option KeptDial → AdminTold → NodeOut
+abbrev pub admin_out : Option KeptDial → AdminResult → NodeOut
 admin_out None told = record { events = told.events; out = []; answer = told.answer; closed = false; resolved = told.resolved }
 admin_out (Some kept) told = record { events = cut_line kept.plain ∷ told.events; out = []; answer = told.answer; closed = true; resolved = told.resolved }
 
 -- an operator's call told this: another role, with its lines, the streams that it ended and what became of durable writes, or what is handed out where the role stays
-abbrev pub Tells : Lines → AdminTold → Type 0
+abbrev pub Tells : Lines → AdminResult → Type 0
 Tells (lines.Role role ended resolved) told = told ≡ record { events = role_lines role; answer = answer.Ok; ended = Some ended; resolved = resolved }
 Tells (lines.Out out) told = (told.ended ≡ None) × (out ≡ admin_out None told)
 

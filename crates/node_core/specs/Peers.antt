@@ -29,15 +29,15 @@ abbrev pub new_peer : Desk → PlainPeer
 new_peer desk = record { heard = []; producer = new_end desk }
 
 -- what a peer's frame comes to: the connection after it, the lines that tell of it, the bytes for the peer, and what became of durable writes that are waited for
-pub record PeerTold : Type 0 where
+pub record PeerResult : Type 0 where
   pub peer : PlainPeer
   pub events : List Event
   pub out : List ℕ
   pub resolved : List Resolved
 
 -- what was told of a frame, with these bytes left
-abbrev pub peer_told : List ℕ → Served → PeerTold
-peer_told heard s = record { peer = record { heard = heard; producer = s.end }; events = s.events; out = s.out; resolved = s.resolved }
+abbrev pub peer_result : List ℕ → Served → PeerResult
+peer_result heard s = record { peer = record { heard = heard; producer = s.end }; events = s.events; out = s.out; resolved = s.resolved }
 
 -- the next bytes from a peer: what is left of them behind the frames that are whole now
 abbrev pub peer_heard : List ℕ → PlainPeer → PlainPeer
@@ -48,23 +48,23 @@ abbrev pub peer_frames : List ℕ → PlainPeer → List Frame
 peer_frames piece peer = frames_in (peer.heard ++ piece)
 
 -- one of them is answered
-abbrev pub peer_answered : Frame → PlainPeer → Prog PeerTold
-peer_answered f peer = bind (frame_answered f (begun peer.producer)) (λ s. Done (peer_told peer.heard s))
+abbrev pub peer_answered : Frame → PlainPeer → Prog PeerResult
+peer_answered f peer = bind (frame_answered f (begun peer.producer)) (λ s. Done (peer_result peer.heard s))
 
 -- what frames of a stream come to: how many were put and why no more, beside what bytes come to
-pub record PullTold : Type 0 where
+pub record PullResult : Type 0 where
   pub peer : PlainPeer
   pub events : List Event
   pub out : List ℕ
   pub answer : Answer
 
 -- what was told of frames that were put
-abbrev pub pull_told : List ℕ → Served × Halt → PullTold
-pull_told heard (s, halt) = record { peer = record { heard = heard; producer = s.end }; events = s.events; out = s.out; answer = Pulled s.count (why_of halt) }
+abbrev pub pull_result : List ℕ → Served × Halt → PullResult
+pull_result heard (s, halt) = record { peer = record { heard = heard; producer = s.end }; events = s.events; out = s.out; answer = Pulled s.count (why_of halt) }
 
 -- at most so many frames of a peer's stream
-abbrev pub peer_pulled : ℕ → PlainPeer → Prog PullTold
-peer_pulled frames peer = bind (frames_put frames (begun peer.producer)) (λ put. Done (pull_told peer.heard put))
+abbrev pub peer_pulled : ℕ → PlainPeer → Prog PullResult
+peer_pulled frames peer = bind (frames_put frames (begun peer.producer)) (λ put. Done (pull_result peer.heard put))
 
 -- the connection, where a change of role at the vBucket v ended the streams of these numbers
 abbrev pub peer_ended : ℕ → List ℕ → PlainPeer → PlainPeer

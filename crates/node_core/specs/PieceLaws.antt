@@ -9,7 +9,7 @@ use Rattle.mcbp_frame.specs.declared.frame.Frame.{Frame}
 use Rattle.mcbp_frame.specs.declared.frame.FrameFault.{FrameFault}
 use Rattle.vb_calls.specs.Jobs.{Ended}
 use Rattle.vb_events.specs.declared.event.EndReason.TheVariants as reason
-use Rattle.node_core.specs.Dials.{PlainDial, DialTold, dial_fed}
+use Rattle.node_core.specs.Dials.{PlainDial, DialResult, dial_bytes}
 use Rattle.node_core.specs.EndingLaws.{IsOverFor}
 use Rattle.node_core.specs.Peers.{PlainPeer, new_peer, peer_frames, peer_heard}
 
@@ -33,6 +33,6 @@ pub record JoinsPieces : Type 0 where
 -- a dial that is not over, to which no whole frame came: the bytes are kept, and nothing is told or written; where they begin no frame, the link is over, and writes nothing
 pub record WaitsForFrames : Type 0 where
   pub kept : (piece : List ℕ) (dial : PlainDial) → over_why dial.consumer.handshake ≡ None → frames_in (dial.heard ++ piece) ≡ [] → front_fault (dial.heard ++ piece) ≡ None
-      → dial_fed piece dial ≡ Ended (record { dial = record { heard = dial.heard ++ piece; consumer = dial.consumer }; events = []; out = [] })
+      → dial_bytes piece dial ≡ Ended (record { dial = record { heard = dial.heard ++ piece; consumer = dial.consumer }; events = []; out = [] })
   pub faulty : (piece : List ℕ) (dial : PlainDial) (fault : FrameFault) → over_why dial.consumer.handshake ≡ None → frames_in (dial.heard ++ piece) ≡ [] → front_fault (dial.heard ++ piece) ≡ Some fault
-      → (told : DialTold) × (dial_fed piece dial ≡ Ended told) × IsOverFor reason.Protocol told × (told.out ≡ [])
+      → (told : DialResult) × (dial_bytes piece dial ≡ Ended told) × IsOverFor reason.Protocol told × (told.out ≡ [])

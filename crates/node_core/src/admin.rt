@@ -35,7 +35,7 @@ impl AdminCall {
     }
 
     /// The call of the vBucket.
-    pub fn of_vb(self) -> VbCall
+    pub fn vb_call_of(self) -> VbCall
         ensures call { result ≡ admin_call self }
         ensures role { changes_role self ≡ true → IsRoleCall result }
     {

@@ -1,6 +1,6 @@
 //! The connections that a node keeps.
 ghost use Rattle.std.specs.Prelude.{◌≡◌, ◌<◌, ℕ, true, IfOk, OnErr, None, Some};
-ghost use Rattle.{std.specs.Option.{option_map}, node_core.specs.Outcomes.{new_conn, is_spent, LeftOf, conn_told, conn_awaits, kept_unless, ConnFed, ConnHeard, ConnStopped, ConnPosted, ConnUnposted, ConnAnswered, ConnUnanswered, ConnPulled, ConnHalted, ConnShut}};
+ghost use Rattle.{std.specs.Option.{option_map}, node_core.specs.Outcomes.{new_conn, is_spent, LeftOf, conn_ended, conn_awaits, kept_unless, ConnFed, ConnHeard, ConnStopped, ConnPosted, ConnUnposted, ConnAnswered, ConnUnanswered, ConnPulled, ConnHalted, ConnShut}};
 ghost use Rattle.slab.specs.Slab.{get, HasRoomFor, Updates};
 
 use crate::{Alloc, NodeOut, Peer};
@@ -154,7 +154,7 @@ impl Conn {
 
     /// Ends its stream, where it is among those that a change of role at the vBucket `vb` ended.
     pub fn ended(&mut self, vb: u16, ids: &[u64])
-        ensures { self.new ≡ conn_told vb (Some ids.now) self.old }
+        ensures { self.new ≡ conn_ended vb (Some ids.now) self.old }
     {
         if let Conn::Peer(peer) = self {
             peer.ended(vb, ids);
@@ -185,7 +185,7 @@ pub fn put_back(conns: &mut Slab<Conn>, key: usize, conn: Conn, closed: bool)
 
 /// Tells the connection of a key, if there is one, which streams a change of role ended.
 fn tell_ended(conns: &mut Slab<Conn>, key: usize, vb: u16, ids: &[u64])
-    ensures { Updates conns.old conns.new key (option_map (conn_told vb (Some ids.now)) (get conns.old key)) }
+    ensures { Updates conns.old conns.new key (option_map (conn_ended vb (Some ids.now)) (get conns.old key)) }
 {
     if let Some(conn) = conns.get_mut(key) {
         conn.ended(vb, ids);
@@ -194,7 +194,7 @@ fn tell_ended(conns: &mut Slab<Conn>, key: usize, vb: u16, ids: &[u64])
 
 /// Tells all connections which streams a change of role ended.
 pub fn tell_all(conns: &mut Slab<Conn>, vb: u16, ids: &[u64])
-    ensures { (key : ℕ) → get conns.new key ≡ option_map (conn_told vb (Some ids.now)) (get conns.old key) }
+    ensures { (key : ℕ) → get conns.new key ≡ option_map (conn_ended vb (Some ids.now)) (get conns.old key) }
 {
     for key in 0..conns.capacity() {
         tell_ended(conns, key, vb, ids);

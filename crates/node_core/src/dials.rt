@@ -1,7 +1,7 @@
 //! The dial of a vBucket: its consumer, and the calls that the consumer's steps ask for.
 ghost use Rattle.std.specs.Prelude.{◌≡◌, ◌++◌, map, [], false, true, IfOk, OnOk, OnErr, IsOk};
 ghost use Rattle.dcp_consumer.specs.{Dialing.{requests}, Machine.{over_why}};
-ghost use Rattle.node_core.specs.Dials.{DialTold, new_dial, is_over, untold, over_for, adopt_told, go_on_with, asked_once_more, rolled_back, roll_back, got_line, acknowledged_line, acknowledged_told, due_met, due_asked, dial_due, taken_as, message_told, call_made, step_made, frame_taken, frames_taken, fault_met, all_told, bytes_taken, dial_fed};
+ghost use Rattle.node_core.specs.Dials.{DialResult, new_dial, is_over, untold, over_for, adopt_result, go_on_with, requested_once_more, rolled_back, roll_back, got_line, acknowledged_line, acknowledged_result, due_met, due_requested, dial_due, taken_as, message_result, call_made, step_made, frame_taken, frames_taken, fault_met, with_last_line, bytes_taken, dial_bytes};
 ghost use Rattle.{node_core.specs.Outs.{cut_line, dial_answer, dial_out, done_out}, vb_calls.specs.Jobs.{RanJob, BeganJob}, vb_calls.specs.Programs.{Ran, Began}};
 ghost use Rattle.vb_events.specs.declared.event.Event.TheVariants.{Ended};
 
@@ -12,7 +12,7 @@ use crate::{Alloc, NodeOut};
 use bytes::{Bytes, BytesMut};
 use dcp_consumer::{Consumer, ConsumerStep, Dialed, Passive};
 use mcbp_frame::{Frame, FrameFault, FrameReader};
-use replies::{due_told, follower_ask, is_done, saved_told};
+use replies::{due_of_reply, follower_ask, is_done, saved_of_reply};
 use std::alloc::{AllocError, Global};
 use std::marker::Model;
 use vb_calls::{Journals, Rolled, VbAccess, VbAnswer, VbCall, VbReply, Wrote};
@@ -31,9 +31,9 @@ struct DialTurn {
 }
 
 impl Model for DialTurn {
-    ghost use Rattle.node_core.specs.Dials.{DialTold};
+    ghost use Rattle.node_core.specs.Dials.{DialResult};
 
-    ghost Value = { DialTold };
+    ghost Value = { DialResult };
 
     ghost view = { λ t. record {
       dial = record { heard = t.reader; consumer = t.consumer.plain };
@@ -94,7 +94,7 @@ impl DialTurn {
 
     /// Acknowledges all up to a seqno, and tells of it; all up to `saved` is written down.
     fn write_acknowledgement(&mut self, seq: u64, saved: u64) -> Alloc<()>
-        ensures ok { OnOk result (self.new ≡ acknowledged_told seq self.old saved) }
+        ensures ok { OnOk result (self.new ≡ acknowledged_result seq self.old saved) }
         ensures link { self.new.dial.consumer.dialed ≡ self.old.dial.consumer.dialed }
     {
         self.consumer.acknowledge(seq, &mut self.out)?;
@@ -119,31 +119,31 @@ impl DialTurn {
             return Ok(());
         }
         let reply = vbs.call(self.consumer.dialed().vb, VbCall::Stat)?;
-        let saved = saved_told(&reply);
+        let saved = saved_of_reply(&reply);
         drop(reply);
         self.write_acknowledgement(seq, saved)
     }
 
     /// Asks the vBucket what it may acknowledge, while the stream is granted.
-    #[tactic(auto, using(vb_calls::proofs::Runs::runs), unfolding(crate::specs::Dials::due_asked))]
+    #[tactic(auto, using(vb_calls::proofs::Runs::runs), unfolding(crate::specs::Dials::due_requested))]
     fn ask_due<A: VbAccess>(&mut self, vbs: &mut A) -> Alloc<()>
-        ensures ok { OnOk result (Ran A.step (due_asked self.old) vbs.old self.new vbs.new) }
-        ensures err { OnErr result (Began A.step (due_asked self.old) vbs.old vbs.new) }
+        ensures ok { OnOk result (Ran A.step (due_requested self.old) vbs.old self.new vbs.new) }
+        ensures err { OnErr result (Began A.step (due_requested self.old) vbs.old vbs.new) }
         ensures link { self.new.dial.consumer.dialed ≡ self.old.dial.consumer.dialed }
     {
         if !self.consumer.is_streaming() {
             return Ok(());
         }
         let reply = vbs.call(self.consumer.dialed().vb, VbCall::Due)?;
-        let due = due_told(&reply);
+        let due = due_of_reply(&reply);
         drop(reply);
         self.meet_due(vbs, due)
     }
 
     /// Tells of the producer's failover log, where the vBucket took it over: the stream is granted. Any
     /// other reply ends the link.
-    fn adopt_told(&mut self, log: Listed<LogEntry>, reply: &Option<VbReply>) -> Alloc<()>
-        ensures ok { OnOk result (self.new ≡ adopt_told log self.old reply.now) }
+    fn adopt_result(&mut self, log: Listed<LogEntry>, reply: &Option<VbReply>) -> Alloc<()>
+        ensures ok { OnOk result (self.new ≡ adopt_result log self.old reply.now) }
         ensures link { self.new.dial.consumer.dialed ≡ self.old.dial.consumer.dialed }
     {
         if !is_done(reply) {
@@ -163,7 +163,7 @@ impl DialTurn {
     {
         let copy = Listed::from_vec(Vec::from_slice(self.alloc, log.as_slice())?);
         let reply = vbs.call(self.consumer.dialed().vb, VbCall::Adopt { log })?;
-        let told = self.adopt_told(copy, &reply);
+        let told = self.adopt_result(copy, &reply);
         drop(reply);
         told?;
         self.ask_due(vbs)
@@ -172,8 +172,8 @@ impl DialTurn {
     /// Asks for what the vBucket asks for now. One that does not follow ends the link.
     #[tactic(auto, using(vb_calls::proofs::Runs::runs))]
     fn ask_once_more<A: VbAccess>(&mut self, vbs: &mut A) -> Alloc<()>
-        ensures ok { OnOk result (Ran A.step (asked_once_more self.old) vbs.old self.new vbs.new) }
-        ensures err { OnErr result (Began A.step (asked_once_more self.old) vbs.old vbs.new) }
+        ensures ok { OnOk result (Ran A.step (requested_once_more self.old) vbs.old self.new vbs.new) }
+        ensures err { OnErr result (Began A.step (requested_once_more self.old) vbs.old vbs.new) }
         ensures link { self.new.dial.consumer.dialed ≡ self.old.dial.consumer.dialed }
     {
         let reply = vbs.call(self.consumer.dialed().vb, VbCall::Ask)?;
@@ -265,8 +265,8 @@ impl DialTurn {
     }
 
     /// Tells what a message's call came to. Where there is no such vBucket, the link is over.
-    fn message_told(&mut self, reply: &Option<VbReply>) -> Alloc<()>
-        ensures ok { OnOk result (self.new ≡ message_told self.old reply.now) }
+    fn message_result(&mut self, reply: &Option<VbReply>) -> Alloc<()>
+        ensures ok { OnOk result (self.new ≡ message_result self.old reply.now) }
         ensures link { self.new.dial.consumer.dialed ≡ self.old.dial.consumer.dialed }
     {
         match reply {
@@ -283,7 +283,7 @@ impl DialTurn {
         ensures link { self.new.dial.consumer.dialed ≡ self.old.dial.consumer.dialed }
     {
         let reply = vbs.call(self.consumer.dialed().vb, call)?;
-        let told = self.message_told(&reply);
+        let told = self.message_result(&reply);
         drop(reply);
         told?;
         self.ask_due(vbs)
@@ -340,7 +340,7 @@ impl DialTurn {
     /// Tells why the link is over, where it is. That the disk is why is left to who called: what befell
     /// the disk comes before it.
     fn tell_end(&mut self) -> Alloc<()>
-        ensures ok { OnOk result (self.new ≡ all_told self.old) }
+        ensures ok { OnOk result (self.new ≡ with_last_line self.old) }
         ensures link { self.new.dial.consumer.dialed ≡ self.old.dial.consumer.dialed }
     {
         match self.consumer.over() {
@@ -422,7 +422,7 @@ impl Dial {
     /// one of `feed`.
     #[tactic(auto, using(vb_calls::proofs::Runs::runs, crate::proofs::Began::began_all))]
     pub fn acknowledge<A: VbAccess>(&mut self, vbs: &mut A) -> Alloc<NodeOut>
-        ensures ok { IfOk result (λ out. (told : DialTold) × Ran A.step (dial_due self.old.plain) vbs.old told vbs.new × (out ≡ done_out told.events told.out) × (self.new.plain ≡ told.dial)) }
+        ensures ok { IfOk result (λ out. (told : DialResult) × Ran A.step (dial_due self.old.plain) vbs.old told vbs.new × (out ≡ done_out told.events told.out) × (self.new.plain ≡ told.dial)) }
         ensures kept { IfOk result (λ out. (self.old.spent ≡ false) × (self.new.spent ≡ false)) }
         ensures err { OnErr result (Began A.step (dial_due self.old.plain) vbs.old vbs.new) }
         ensures spent { OnErr result (self.new.spent ≡ true) }
@@ -450,9 +450,9 @@ impl Dial {
         disks: &mut J,
         piece: &[u8],
     ) -> Alloc<NodeOut>
-        ensures ok { IfOk result (λ out. (told : DialTold) × RanJob A.step J.asks (dial_fed piece.now self.old.plain) vbs.old disks.old told vbs.new disks.new × (out ≡ dial_out told) × (self.new.plain ≡ told.dial)) }
+        ensures ok { IfOk result (λ out. (told : DialResult) × RanJob A.step J.asks (dial_bytes piece.now self.old.plain) vbs.old disks.old told vbs.new disks.new × (out ≡ dial_out told) × (self.new.plain ≡ told.dial)) }
         ensures kept { IfOk result (λ out. (self.old.spent ≡ false) × (self.new.spent ≡ false)) }
-        ensures err { OnErr result (BeganJob A.step J.asks (dial_fed piece.now self.old.plain) vbs.old disks.old vbs.new disks.new) }
+        ensures err { OnErr result (BeganJob A.step J.asks (dial_bytes piece.now self.old.plain) vbs.old disks.old vbs.new disks.new) }
         ensures spent { OnErr result (self.new.spent ≡ true) }
         ensures over { OnErr result (self.old.spent ≡ true → (vbs.new ≡ vbs.old) × (disks.new ≡ disks.old)) }
         ensures same { OnErr result (self.old.spent ≡ true → self.new ≡ self.old) }

@@ -1,11 +1,11 @@
 //! What holds of every node. Each law is a function with no work to do, and its clauses are the law.
 ghost use Rattle.std.specs.Prelude.{◌≡◌, ◌≢◌, ◌++◌, ◌∷◌, [], ℕ, List, map, None, Some, false, true};
-ghost use Rattle.{node_core.specs.Conduct.{FollowsAt, RollsAt, KeepsLink}, node_core.specs.Dials.{PlainDial, untold, is_over, with_left, all_told, dial_fed}};
+ghost use Rattle.{node_core.specs.Conduct.{FollowsAt, RollsAt, KeepsLink}, node_core.specs.Dials.{PlainDial, untold, is_over, with_left, with_last_line, dial_bytes}};
 ghost use Rattle.{node_core.specs.declared.node.TheConstants.{MAX_VBS}, vb_calls.specs.Jobs.{Ended, AlwaysJob, RanJob, after_job}, vb_calls.specs.Programs.{AnyReply, Ran}};
 ghost use Rattle.{durability.specs.Chains.{Links}, node_core.specs.Resolving.{DoneHandsOver, RoleHandsOver, Settled, StepHandsOver}, vb_calls.specs.Shelves.{Shelves}, vb_calls.specs.States.{States}};
-ghost use Rattle.{node_core.specs.Admin.{AdminTold, admin_job, admin_lines, admin_told, stat_told}, node_core.specs.Flushing.{FlushTold, activity_told, chain_set, flush_answered, flush_at, flush_told, ticked}, node_core.specs.Noting.{Gives, ChangesRole, FlushesAt, NotesFirst}};
+ghost use Rattle.{node_core.specs.Admin.{AdminResult, admin_job, admin_lines, admin_result, stat_result}, node_core.specs.Flushing.{FlushResult, activity_of_reply, chain_changed, flush_answered, flush_at, flush_result, ticked}, node_core.specs.Noting.{Gives, ChangesRole, FlushesAt, NotesFirst}};
 ghost use Rattle.{node_core.specs.declared.admin.AdminCall.{AdminCall as TheCall}, vb_types.specs.declared.role.Role.{Role as TheRole}, vb_types.specs.declared.journal.FlushPart.{FlushPart as ThePart}};
-ghost use Rattle.{node_core.specs.Calls.{branch_lines}, node_core.specs.Loading.{start_told}, vb_calls.specs.declared.calls.Resolved.{Resolved as Outcome}, vb_types.specs.declared.change.Change.{Change}};
+ghost use Rattle.{node_core.specs.Calls.{branch_lines}, node_core.specs.Loading.{start_result}, vb_calls.specs.declared.calls.Resolved.{Resolved as Outcome}, vb_types.specs.declared.change.Change.{Change}};
 ghost use Rattle.{node_core.specs.Conduct.{AnyOther, DueNext, CallsAs, Acknowledged, begins}, node_core.specs.Dials.{dial_due}, vb_calls.specs.Jobs.{lift}, vb_calls.specs.Programs.{Done}};
 ghost use Rattle.dcp_consumer.specs.declared.handshake.Handshake.TheVariants as handshake;
 ghost use Rattle.node_core.specs.declared.admin.AdminCall.TheVariants as admin;
@@ -32,7 +32,7 @@ pub fn node_limits()
 /// acknowledgements, tells lines of its own vBucket and link alone, and stays that of its link.
 pub fn dials_follow()
     ensures { (piece : List ℕ) (dial : PlainDial)
-        → AlwaysJob AnyReply (FollowsAt dial.consumer.dialed.vb) (RollsAt dial.consumer.dialed.vb) (KeepsLink (untold dial)) (dial_fed piece dial) }
+        → AlwaysJob AnyReply (FollowsAt dial.consumer.dialed.vb) (RollsAt dial.consumer.dialed.vb) (KeepsLink (untold dial)) (dial_bytes piece dial) }
 {}
 
 /// Whatever is replied, a dial asks what is due right behind each log and each message that is taken, as
@@ -41,7 +41,7 @@ pub fn dials_follow()
 /// so in one line, with what Stat says is written down. It acknowledges nothing else. After more was
 /// written down it asks once, if its stream is granted, and else does nothing.
 pub fn dials_acknowledge()
-    ensures bytes { (piece : List ℕ) (dial : PlainDial) → CallsAs (Acknowledged (untold dial)) (begins AnyOther dial) (dial_fed piece dial) }
+    ensures bytes { (piece : List ℕ) (dial : PlainDial) → CallsAs (Acknowledged (untold dial)) (begins AnyOther dial) (dial_bytes piece dial) }
     ensures saved { (dial : PlainDial) → dial.consumer.handshake ≡ handshake.Streaming → CallsAs (Acknowledged (untold dial)) (begins DueNext dial) (lift (dial_due dial)) }
     ensures idle { (dial : PlainDial) → dial.consumer.handshake ≢ handshake.Streaming → dial_due dial ≡ Done (untold dial) }
 {}
@@ -50,21 +50,21 @@ pub fn dials_acknowledge()
 /// kept.
 pub fn dials_leave_other_vbuckets()
     ensures others { (piece : List ℕ) (dial : PlainDial) (states : States) (shelves : Shelves) (v : ℕ) → v ≢ dial.consumer.dialed.vb
-        → ((after_job (dial_fed piece dial) states shelves).0.0 v ≡ states v) × ((after_job (dial_fed piece dial) states shelves).0.1 v ≡ shelves v) }
-    ensures link { (piece : List ℕ) (dial : PlainDial) (states : States) (shelves : Shelves) → KeepsLink (untold dial) (after_job (dial_fed piece dial) states shelves).1 }
+        → ((after_job (dial_bytes piece dial) states shelves).0.0 v ≡ states v) × ((after_job (dial_bytes piece dial) states shelves).0.1 v ≡ shelves v) }
+    ensures link { (piece : List ℕ) (dial : PlainDial) (states : States) (shelves : Shelves) → KeepsLink (untold dial) (after_job (dial_bytes piece dial) states shelves).1 }
 {}
 
 /// Once its link is over, a dial makes no call and no request, and hands out nothing but its last line.
 pub fn dials_end()
     ensures { (piece : List ℕ) (dial : PlainDial) → is_over dial ≡ true
-        → dial_fed piece dial ≡ Ended (all_told (with_left (untold dial) (dial.heard ++ piece))) }
+        → dial_bytes piece dial ≡ Ended (with_last_line (with_left (untold dial) (dial.heard ++ piece))) }
 {}
 
 /// A change of role is the vBucket's call first. One that is refused asks the journal for nothing. Any
 /// other is written down, with the failover log then; it is answered `closed` exactly where an earlier
 /// append failed, and `disk` exactly where its own does.
 pub fn roles_are_noted<A: VbAccess, J: Journals>()
-    ensures { (n v : ℕ) (asked : TheCall) (new : TheRole) (old : A) (kept : J) (told : AdminTold) (now : A) (left : J) → Gives asked new
+    ensures { (n v : ℕ) (asked : TheCall) (new : TheRole) (old : A) (kept : J) (told : AdminResult) (now : A) (left : J) → Gives asked new
         → RanJob A.step J.asks (admin_job n v asked) old kept told now left → ChangesRole A.step J.asks v asked new old kept told now left }
 {}
 
@@ -79,7 +79,7 @@ pub fn first_records<J: Journals>()
 /// a batch is on its way exactly where one is; and a save or a done because none is exactly where there
 /// is none that it could be made of.
 pub fn flushes_are_refused<A: VbAccess, J: Journals>()
-    ensures { (n v : ℕ) (part : ThePart) (old : A) (kept : J) (told : FlushTold) (now : A) (left : J)
+    ensures { (n v : ℕ) (part : ThePart) (old : A) (kept : J) (told : FlushResult) (now : A) (left : J)
         → RanJob A.step J.asks (flush_at n v part) old kept told now left → FlushesAt A.step J.asks v part old kept told now left }
 {}
 
@@ -89,15 +89,15 @@ pub fn flushes_are_refused<A: VbAccess, J: Journals>()
 /// refused for want of a vBucket exactly where there is no reply, and for its role exactly where the
 /// reply is a status; otherwise their lines are those of the reply's changes, each on its branch.
 pub fn outcomes_are_told<A: VbAccess, J: Journals>()
-    ensures roles { (n v : ℕ) (asked : TheCall) (new : TheRole) (old : A) (kept : J) (told : AdminTold) (now : A) (left : J) → Gives asked new
+    ensures roles { (n v : ℕ) (asked : TheCall) (new : TheRole) (old : A) (kept : J) (told : AdminResult) (now : A) (left : J) → Gives asked new
         → RanJob A.step J.asks (admin_job n v asked) old kept told now left → RoleHandsOver A.step v asked old told }
-    ensures dones { (n v : ℕ) (old : A) (kept : J) (told : FlushTold) (now : A) (left : J)
+    ensures dones { (n v : ℕ) (old : A) (kept : J) (told : FlushResult) (now : A) (left : J)
         → RanJob A.step J.asks (flush_at n v part.Done) old kept told now left → DoneHandsOver A.step v told now }
-    ensures steps { (n v : ℕ) (any : ThePart) (old : A) (kept : J) (told : FlushTold) (now : A) (left : J)
+    ensures steps { (n v : ℕ) (any : ThePart) (old : A) (kept : J) (told : FlushResult) (now : A) (left : J)
         → RanJob A.step J.asks (flush_at n v any) old kept told now left → StepHandsOver A.step v told now }
-    ensures chains { (n v : ℕ) (links : Links) (old : A) (told : FlushTold) (now : A)
-        → Ran A.step (chain_set n v links) old told now → Settled A.step n v (call.Chain links) old told now }
-    ensures ticks { (n v clock : ℕ) (old : A) (told : FlushTold) (now : A)
+    ensures chains { (n v : ℕ) (links : Links) (old : A) (told : FlushResult) (now : A)
+        → Ran A.step (chain_changed n v links) old told now → Settled A.step n v (call.Chain links) old told now }
+    ensures ticks { (n v clock : ℕ) (old : A) (told : FlushResult) (now : A)
         → Ran A.step (ticked n v clock) old told now → Settled A.step n v (call.Tick clock) old told now }
 {}
 
@@ -105,10 +105,10 @@ pub fn outcomes_are_told<A: VbAccess, J: Journals>()
 /// branch of its reply, with numbers of which no two are alike.
 pub fn promotions_in_numbers()
     ensures operator { (resolved : List Outcome) (ids : List ℕ) (changes : List Change)
-        → admin_told 1 2 (admin.Promote 3) (Some (record { answer = answer.Branch 4 (Some 5) 6 7; resolved = resolved; ended = ids; branch = 8; changes = changes }))
+        → admin_result 1 2 (admin.Promote 3) (Some (record { answer = answer.Branch 4 (Some 5) 6 7; resolved = resolved; ended = ids; branch = 8; changes = changes }))
         ≡ record { events = event.Branch 1 2 4 (Some 5) 6 7 ∷ event.Role 1 2 role.Active ∷ map (event.Changed 1 2 8) changes; answer = line.Ok; ended = Some ids; resolved = resolved } }
     ensures start { (resolved : List Outcome) (ids : List ℕ) (changes : List Change)
-        → start_told 1 2 (Some (record { answer = answer.Branch 4 (Some 5) 6 7; resolved = resolved; ended = ids; branch = 8; changes = changes }), wrote.Stood)
+        → start_result 1 2 (Some (record { answer = answer.Branch 4 (Some 5) 6 7; resolved = resolved; ended = ids; branch = 8; changes = changes }), wrote.Stood)
         ≡ record { events = event.Branch 1 2 4 (Some 5) 6 7 ∷ map (event.Changed 1 2 8) changes; answer = line.Ok; resolved = [] } }
 {}
 
@@ -121,16 +121,16 @@ pub fn makings_in_numbers()
 /// What is told of a Stat and of a step of writing down, with numbers of which no two are alike; and
 /// whether a vBucket is active, by its refusal of the branch 0: one that is not takes the id for bad.
 pub fn told_in_numbers()
-    ensures stat { stat_told 1 2 (answer.Stat 3 4 5 6 7) ≡ admin_lines (event.Stat 1 2 3 4 5 6 7 ∷ []) }
-    ensures took { flush_told 1 2 (flushed.Took 3 4 5 6) ≡ record { events = event.Batch 1 2 3 4 5 6 ∷ []; answer = line.Number 6; resolved = [] } }
-    ensures none { flush_told 1 2 (flushed.Took 0 0 0 0) ≡ flush_answered (line.Number 0) }
-    ensures saved { flush_told 1 2 flushed.Saved ≡ flush_answered line.Ok }
+    ensures stat { stat_result 1 2 (answer.Stat 3 4 5 6 7) ≡ admin_lines (event.Stat 1 2 3 4 5 6 7 ∷ []) }
+    ensures took { flush_result 1 2 (flushed.Took 3 4 5 6) ≡ record { events = event.Batch 1 2 3 4 5 6 ∷ []; answer = line.Number 6; resolved = [] } }
+    ensures none { flush_result 1 2 (flushed.Took 0 0 0 0) ≡ flush_answered (line.Number 0) }
+    ensures saved { flush_result 1 2 flushed.Saved ≡ flush_answered line.Ok }
     ensures finished { (resolved : List Outcome) (ids : List ℕ) (changes : List Change)
-        → flush_told 1 2 (flushed.Done (Some (record { answer = answer.Num 7; resolved = resolved; ended = ids; branch = 8; changes = changes })))
+        → flush_result 1 2 (flushed.Done (Some (record { answer = answer.Num 7; resolved = resolved; ended = ids; branch = 8; changes = changes })))
         ≡ record { events = map (event.Changed 1 2 8) changes; answer = line.Number 7; resolved = resolved } }
     ensures active { (resolved : List Outcome) (ids : List ℕ) (changes : List Change)
-        → activity_told (Some (record { answer = answer.Status status.NotMyVbucket; resolved = resolved; ended = ids; branch = 8; changes = changes })) ≡ Some true }
+        → activity_of_reply (Some (record { answer = answer.Status status.NotMyVbucket; resolved = resolved; ended = ids; branch = 8; changes = changes })) ≡ Some true }
     ensures inactive { (resolved : List Outcome) (ids : List ℕ) (changes : List Change)
-        → activity_told (Some (record { answer = answer.Status status.Einval; resolved = resolved; ended = ids; branch = 8; changes = changes })) ≡ Some false }
-    ensures failed { (flush_told 1 2 flushed.Closed ≡ flush_answered (line.No cause.Closed)) × (flush_told 1 2 flushed.DiskFailed ≡ flush_answered (line.No cause.Disk)) }
+        → activity_of_reply (Some (record { answer = answer.Status status.Einval; resolved = resolved; ended = ids; branch = 8; changes = changes })) ≡ Some false }
+    ensures failed { (flush_result 1 2 flushed.Closed ≡ flush_answered (line.No cause.Closed)) × (flush_result 1 2 flushed.DiskFailed ≡ flush_answered (line.No cause.Disk)) }
 {}

@@ -1,6 +1,6 @@
 //! A node: the vBuckets that it reaches, its connections, and the dials of its vBuckets.
 ghost use Rattle.std.specs.Prelude.{◌≡◌, ◌≢◌, ◌<◌, ◌&&◌, ◌⊎◌, [], Ok, not, IfOk, OnErr, is_some};
-ghost use Rattle.node_core.specs.Calls.{branch_lines, ask_told, ask_if, dial_asked};
+ghost use Rattle.node_core.specs.Calls.{branch_lines, ask_of_reply, ask_if, dial_requested};
 ghost use Rattle.node_core.specs.Outcomes.{value_at, Made, HalfMade, Opened, FedAt, Stopped, Heard, Unheard, AnsweredAt, Unanswered, PostedAt, Unposted, conn_awaits, DialDueAt, DialUndue, PulledAt, Halted, ShutAt, Dialed, DialedAs, DialFedAt, DialStopped, DialShutAt};
 ghost use Rattle.{node_core.specs.Outs.{is_gone, made_unless}, slab.specs.Slab.{get}, vb_calls.specs.Programs.{Began}, vb_calls.specs.State.{first_log}};
 ghost use Rattle.{vb_types.specs.declared.journal.Record.TheVariants.{State}, vb_types.specs.declared.role.Role.TheVariants.{Active, Pending}};
@@ -282,7 +282,7 @@ impl<A: VbAccess, J: Journals> Node<A, J> {
 
     /// What a vBucket asks for, or why it does not dial: it did already, or the link is not free.
     fn asked(&self, v: u16, is_free: bool, reply: &Option<VbReply>) -> Result<StreamAsk, Cause>
-        ensures { result ≡ ask_if (is_free && not (is_some (value_at self.now.dials v))) (ask_told reply.now) }
+        ensures { result ≡ ask_if (is_free && not (is_some (value_at self.now.dials v))) (ask_of_reply reply.now) }
     {
         let Some(reply) = reply else {
             return Err(Cause::UnknownVb);
@@ -315,7 +315,7 @@ impl<A: VbAccess, J: Journals> Node<A, J> {
     pub fn dial(&mut self, v: u16, link: u32, is_free: bool) -> Alloc<NodeOut>
         ensures ok { IfOk result (λ out. Dialed A.step v link is_free self.old out self.new) }
         ensures err { OnErr result (self.new ≡ record self.old { vbs = self.new.vbs }) }
-        ensures began { OnErr result (Began A.step (dial_asked v is_free) self.old.vbs self.new.vbs) }
+        ensures began { OnErr result (Began A.step (dial_requested v is_free) self.old.vbs self.new.vbs) }
     {
         let reply = self.vbs.call(v, VbCall::Ask)?;
         let asked = self.asked(v, is_free, &reply);

@@ -1,6 +1,6 @@
 //! A peer's connection.
 ghost use Rattle.std.specs.Prelude.{◌≡◌, false, true, [], IfOk, OnOk, OnErr};
-ghost use Rattle.{dcp_producer.specs.Ending.{end_closed}, node_core.specs.Outs.{peer_out, told_by, pulled_by}, node_core.specs.Peers.{new_peer, peer_heard, peer_frames, peer_answered, peer_pulled, peer_ended}};
+ghost use Rattle.{dcp_producer.specs.Ending.{end_closed}, node_core.specs.Outs.{peer_out, peer_result_by, pulled_by}, node_core.specs.Peers.{new_peer, peer_heard, peer_frames, peer_answered, peer_pulled, peer_ended}};
 ghost use Rattle.vb_calls.specs.Programs.{Ran, Began};
 
 use crate::out::bytes_of;
@@ -67,8 +67,8 @@ impl Peer {
         vbs: &mut A,
         frame: &Frame,
     ) -> Alloc<NodeOut>
-        ensures ok { IfOk result (λ out. Ran A.step (peer_answered frame.now self.old.plain) vbs.old (told_by self.new.plain out) vbs.new) }
-        ensures said { IfOk result (λ out. out ≡ peer_out (told_by self.new.plain out)) }
+        ensures ok { IfOk result (λ out. Ran A.step (peer_answered frame.now self.old.plain) vbs.old (peer_result_by self.new.plain out) vbs.new) }
+        ensures said { IfOk result (λ out. out ≡ peer_out (peer_result_by self.new.plain out)) }
         ensures kept { IfOk result (λ out. (self.old.spent ≡ false) × (self.new.spent ≡ false)) }
         ensures err { OnErr result (Began A.step (peer_answered frame.now self.old.plain) vbs.old vbs.new) }
         ensures spent { OnErr result (self.new.spent ≡ true) }

@@ -1,9 +1,9 @@
 //! What an operator's calls told.
 ghost use Rattle.std.specs.Prelude.{◌≡◌, ◌≢◌, ◌∷◌, [], true, None, IfOk, OnErr};
-ghost use Rattle.{node_core.specs.Admin.{changes_role, MadeChanges, seal_told, stat_told, log_told, admin_replied, admin_told}, node_core.specs.Outs.{admin_out, done_out, Tells}};
+ghost use Rattle.{node_core.specs.Admin.{changes_role, MadeChanges, seal_result, stat_result, log_result, admin_replied, admin_result}, node_core.specs.Outs.{admin_out, done_out, Tells}};
 ghost use Rattle.vb_events.specs.declared.event.Event.TheVariants.{Logged};
 
-use crate::roles::{AdminTold, promoted, role_set};
+use crate::roles::{AdminResult, promoted, role_result_of};
 use crate::show::show_out;
 use crate::{AdminCall, Alloc, NodeOut};
 use bytes::Bytes;
@@ -14,7 +14,7 @@ use vb_types::{Listed, LogEntry, Role};
 
 /// What a Seal comes to.
 fn seal_out(alloc: Global, answer: &VbAnswer) -> NodeOut
-    ensures { result ≡ admin_out None (seal_told answer.now) }
+    ensures { result ≡ admin_out None (seal_result answer.now) }
 {
     match answer {
         VbAnswer::Flag(sealed) => NodeOut::answered(alloc, Answer::Number(u64::from(*sealed))),
@@ -24,7 +24,7 @@ fn seal_out(alloc: Global, answer: &VbAnswer) -> NodeOut
 
 /// What a Stat comes to.
 fn stat_out(alloc: Global, node: u8, vb: u16, answer: &VbAnswer) -> Alloc<NodeOut>
-    ensures { IfOk result (λ out. out ≡ admin_out None (stat_told node vb answer.now)) }
+    ensures { IfOk result (λ out. out ≡ admin_out None (stat_result node vb answer.now)) }
 {
     let VbAnswer::Stat {
         windows,
@@ -58,7 +58,7 @@ fn logged_out(alloc: Global, node: u8, vb: u16, log: Listed<LogEntry>) -> Alloc<
 
 /// What a Log comes to.
 fn log_out(alloc: Global, node: u8, vb: u16, reply: VbReply) -> Alloc<NodeOut>
-    ensures { IfOk result (λ out. out ≡ admin_out None (log_told node vb reply.answer)) }
+    ensures { IfOk result (λ out. out ≡ admin_out None (log_result node vb reply.answer)) }
 {
     let answer = reply.answer;
     match answer {
@@ -72,30 +72,30 @@ fn log_out(alloc: Global, node: u8, vb: u16, reply: VbReply) -> Alloc<NodeOut>
 
 /// What a call told, by the vBucket's reply. Of the calls that give a role memory may be short for those
 /// alone that made changes.
-fn replied(alloc: Global, node: u8, vb: u16, call: AdminCall, reply: VbReply) -> Alloc<AdminTold>
+fn replied(alloc: Global, node: u8, vb: u16, call: AdminCall, reply: VbReply) -> Alloc<AdminResult>
     ensures ok { IfOk result (λ told. Tells told (admin_replied node vb call reply)) }
     ensures sure { OnErr result (changes_role call ≡ true → reply.changes ≢ []) }
 {
     match call {
         AdminCall::Promote(_) => promoted(alloc, node, vb, reply),
-        AdminCall::Follow => Ok(role_set(alloc, node, vb, Role::Replica, reply)),
-        AdminCall::Dead => Ok(role_set(alloc, node, vb, Role::Dead, reply)),
+        AdminCall::Follow => Ok(role_result_of(alloc, node, vb, Role::Replica, reply)),
+        AdminCall::Dead => Ok(role_result_of(alloc, node, vb, Role::Dead, reply)),
         AdminCall::Seal => {
             let out = seal_out(alloc, &reply.answer);
             drop(reply);
-            Ok(AdminTold::Out(out))
+            Ok(AdminResult::Out(out))
         }
         AdminCall::Stat => {
             let out = stat_out(alloc, node, vb, &reply.answer);
             drop(reply);
-            Ok(AdminTold::Out(out?))
+            Ok(AdminResult::Out(out?))
         }
         AdminCall::Show => {
             let out = show_out(alloc, node, vb, &reply.answer);
             drop(reply);
-            Ok(AdminTold::Out(out?))
+            Ok(AdminResult::Out(out?))
         }
-        AdminCall::Log => Ok(AdminTold::Out(log_out(alloc, node, vb, reply)?)),
+        AdminCall::Log => Ok(AdminResult::Out(log_out(alloc, node, vb, reply)?)),
     }
 }
 
@@ -107,12 +107,12 @@ pub fn told(
     vb: u16,
     call: AdminCall,
     reply: Option<VbReply>,
-) -> Alloc<AdminTold>
-    ensures ok { IfOk result (λ told. Tells told (admin_told node vb call reply)) }
+) -> Alloc<AdminResult>
+    ensures ok { IfOk result (λ told. Tells told (admin_result node vb call reply)) }
     ensures sure { OnErr result (changes_role call ≡ true → MadeChanges reply) }
 {
     match reply {
         Some(reply) => replied(alloc, node, vb, call, reply),
-        None => Ok(AdminTold::Out(NodeOut::refused(alloc, Cause::UnknownVb))),
+        None => Ok(AdminResult::Out(NodeOut::refused(alloc, Cause::UnknownVb))),
     }
 }

@@ -1,6 +1,6 @@
 //! Changes of role.
 ghost use Rattle.std.specs.Prelude.{◌≡◌, ◌≢◌, ◌++◌, ◌∷◌, ◌+◌, ◌≤◌, [], IfOk, OnErr, vec_len, vec_capacity};
-ghost use Rattle.{node_core.specs.Admin.{promote_told, role_changed, role_told, role_lines, option_list}, node_core.specs.Calls.{own_lines}, node_core.specs.Loading.{branch_in}, node_core.specs.Outs.{Tells}};
+ghost use Rattle.{node_core.specs.Admin.{promote_result, role_changed, role_result, role_lines, option_list}, node_core.specs.Calls.{own_lines}, node_core.specs.Loading.{branch_in}, node_core.specs.Outs.{Tells}};
 ghost use Rattle.{vb_events.specs.declared.event.Event.TheVariants.{Role as RoleLine}, vb_types.specs.declared.role.Role.TheVariants.{Active}};
 
 use crate::changes::tell_changes;
@@ -21,7 +21,7 @@ pub struct RoleLines {
 
 /// What an operator's call told.
 #[derive(Drop)]
-pub enum AdminTold {
+pub enum AdminResult {
     /// The vBucket has another role: the lines that tell of it, the streams that it ended, and what
     /// became of durable writes.
     Role(RoleLines, Listed<u64>, Listed<Resolved>),
@@ -79,36 +79,36 @@ fn active_lines(alloc: Global, node: u8, vb: u16, reply: &VbReply) -> Alloc<Role
 
 /// What was told where a vBucket is active on a new branch. Memory may be short for the lines of
 /// changes alone.
-fn promotion(alloc: Global, node: u8, vb: u16, reply: VbReply) -> Alloc<AdminTold>
+fn promotion(alloc: Global, node: u8, vb: u16, reply: VbReply) -> Alloc<AdminResult>
     ensures ok { IfOk result (λ told. Tells told (role_changed reply (branch_in node vb reply.answer ++ RoleLine node vb Active ∷ own_lines node vb reply))) }
     ensures sure { OnErr result (reply.changes ≢ []) }
 {
     let lines = active_lines(alloc, node, vb, &reply);
     let (ended, resolved) = ended_of(alloc, reply);
-    Ok(AdminTold::Role(lines?, ended, resolved))
+    Ok(AdminResult::Role(lines?, ended, resolved))
 }
 
 /// What a promotion told. Memory may be short for the lines of changes alone.
-pub fn promoted(alloc: Global, node: u8, vb: u16, reply: VbReply) -> Alloc<AdminTold>
-    ensures ok { IfOk result (λ told. Tells told (promote_told node vb reply reply.answer)) }
+pub fn promoted(alloc: Global, node: u8, vb: u16, reply: VbReply) -> Alloc<AdminResult>
+    ensures ok { IfOk result (λ told. Tells told (promote_result node vb reply reply.answer)) }
     ensures sure { OnErr result (reply.changes ≢ []) }
 {
     match &reply.answer {
         VbAnswer::Branch { .. } => promotion(alloc, node, vb, reply),
         VbAnswer::Status(Status::Einval) => {
             drop(reply);
-            Ok(AdminTold::Out(NodeOut::refused(alloc, Cause::UuidUsed)))
+            Ok(AdminResult::Out(NodeOut::refused(alloc, Cause::UuidUsed)))
         }
         _ => {
             drop(reply);
-            Ok(AdminTold::Out(NodeOut::refused(alloc, Cause::WrongRole)))
+            Ok(AdminResult::Out(NodeOut::refused(alloc, Cause::WrongRole)))
         }
     }
 }
 
 /// What a change to this role told.
-pub fn role_set(alloc: Global, node: u8, vb: u16, role: Role, reply: VbReply) -> AdminTold
-    ensures { Tells result (role_told node vb role reply reply.answer) }
+pub fn role_result_of(alloc: Global, node: u8, vb: u16, role: Role, reply: VbReply) -> AdminResult
+    ensures { Tells result (role_result node vb role reply reply.answer) }
 {
     match &reply.answer {
         VbAnswer::Done => {
@@ -118,11 +118,11 @@ pub fn role_set(alloc: Global, node: u8, vb: u16, role: Role, reply: VbReply) ->
                 changes: Vec::new(alloc),
             };
             let (ended, resolved) = ended_of(alloc, reply);
-            AdminTold::Role(lines, ended, resolved)
+            AdminResult::Role(lines, ended, resolved)
         }
         _ => {
             drop(reply);
-            AdminTold::Out(NodeOut::refused(alloc, Cause::WrongRole))
+            AdminResult::Out(NodeOut::refused(alloc, Cause::WrongRole))
         }
     }
 }

@@ -1,7 +1,7 @@
 //! The lines that show a vBucket.
 ghost use Rattle.std.specs.Prelude.{◌≡◌, ◌++◌, map, None, IfOk, OnOk};
 ghost use Rattle.std.specs.FinMap.{entries};
-ghost use Rattle.{node_core.specs.Admin.{show_told}, node_core.specs.Outs.{admin_out}, node_core.specs.Shown.{document_line, image_lines, prepare_line}};
+ghost use Rattle.{node_core.specs.Admin.{show_result}, node_core.specs.Outs.{admin_out}, node_core.specs.Shown.{document_line, image_lines, prepare_line}};
 
 use crate::{Alloc, NodeOut};
 use bytes::Bytes;
@@ -63,7 +63,7 @@ fn tell_image(alloc: Global, events: &mut Listed<Event>, image: &Image) -> Alloc
 
 /// What a Show comes to.
 pub fn show_out(alloc: Global, node: u8, vb: u16, answer: &VbAnswer) -> Alloc<NodeOut>
-    ensures { IfOk result (λ out. out ≡ admin_out None (show_told node vb answer.now)) }
+    ensures { IfOk result (λ out. out ≡ admin_out None (show_result node vb answer.now)) }
 {
     let VbAnswer::Shown {
         role,

@@ -145,7 +145,7 @@ module _ (w : PlainWorld) (n v : ℕ) (node : PlainNode) (vb : Plain) (there : w
       by (Some why) ok = absurd (no_ok why ok)
       by None ok = (new_link number l m n v ask, ap (with_dialed number l m n v w.links) asked, record { consumer = refl; producer = refl; up = refl; down = refl })
 
-module _ (w : PlainWorld) (l : ℕ) (link : PlainLink) (producer : PlainNode) (open_link : row_at link_number l w.links ≡ Some link) (from : w.nodes (producer_node link) ≡ Some producer) where
+module _ (w : PlainWorld) (l : ℕ) (link : PlainLink) (producer : PlainNode) (add_link : row_at link_number l w.links ≡ Some link) (from : w.nodes (producer_node link) ≡ Some producer) where
   pub frames : PassesFrames w l link producer
   frames number count =
-      ap (λ o. (link_outcome w l producer_node (pump_at count) o).1) open_link ∙ ap (λ o. (with_link link (node_outcome w (producer_node link) (Some link, refusal cause.UnknownNode) o (pump_at count link))).1) from
+      ap (λ o. (link_outcome w l producer_node (pump_at count) o).1) add_link ∙ ap (λ o. (with_link link (node_outcome w (producer_node link) (Some link, refusal cause.UnknownNode) o (pump_at count link))).1) from

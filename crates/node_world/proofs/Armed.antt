@@ -10,15 +10,15 @@ use Rattle.vb_disk.specs.declared.fuse.Fuse.{Fuse}
 use Rattle.vb_disk.specs.declared.fuse.Fuse.TheVariants.{Off}
 use Rattle.node_core.specs.declared.admin.AdminCall.{AdminCall}
 use Rattle.node_core.specs.declared.out.NodeOut.{NodeOut}
-use Rattle.node_core.specs.Admin.{AdminTold}
-use Rattle.node_core.specs.Dials.{KeptDial, DialTold}
+use Rattle.node_core.specs.Admin.{AdminResult}
+use Rattle.node_core.specs.Dials.{KeptDial, DialResult}
 use Rattle.node_core.specs.Outcomes.{dial_left}
 use Rattle.node_core.specs.Outs.{admin_out, dial_ended, dial_out}
 use Rattle.node_world.specs.declared.arm.Arm.{Arm}
 use Rattle.node_world.specs.declared.script_node.ScriptNode.{ScriptNode}
 use Rattle.node_world.specs.declared.told.Told.{Told}
 use Rattle.node_world.specs.Arms.{PlainNode, fuse_or, placed, under_arm}
-use Rattle.node_world.specs.Ends.{Carries, FeedsDial, KeepsEnds, LiftsArm, PlacesArm, PutsDial, SetsRole, TellsEnds, dial_given, dial_under, peer_told}
+use Rattle.node_world.specs.Ends.{Carries, FeedsDial, KeepsEnds, LiftsArm, PlacesArm, PutsDial, SetsRole, TellsEnds, dial_given, dial_under, kept_peer_ended}
 use Rattle.node_world.specs.Nodes.{save_line, flush_line}
 use Rattle.node_world.specs.Stands.{NodeMatch, node_number}
 use Rattle.node_world.specs.Turns.{called_at}
@@ -99,28 +99,28 @@ saves v old ready mid new told placing went lifting =
 module _ (v : ℕ) (asked : AdminCall) (old ready mid new : ScriptNode) (out : NodeOut) (placing : PlacesArm v old ready) (went : Turned v asked ready out mid) (lifting : LiftsArm v mid new) where
   pub turns_under : SetsRole v asked old out new
   turns_under plain stands =
-      let x : PlainNode × AdminTold = called_at (node_number old) v asked (placed v plain) in
+      let x : PlainNode × AdminResult = called_at (node_number old) v asked (placed v plain) in
       let came : NodeMatch mid x.0 × (out ≡ admin_out (dial_ended x.1.ended (dial_under ready v)) x.1) × TellsEnds ready mid v x.1.ended =
       subst (Came plain) placing.1.number (went (placed v plain) (placing.0 plain stands)) in (
         lifting.0 x.0 came.0,
         came.1 ∙ ap (λ d. admin_out (dial_ended x.1.ended d) x.1) (placing.1.dials v),
         record {
           number = lifting.1.number ∙ came.2.number ∙ placing.1.number;
-          peers = λ key. lifting.1.peers key ∙ came.2.peers key ∙ ap (option_map (peer_told v x.1.ended)) (placing.1.peers key);
+          peers = λ key. lifting.1.peers key ∙ came.2.peers key ∙ ap (option_map (kept_peer_ended v x.1.ended)) (placing.1.peers key);
           dials = λ u. lifting.1.dials u ∙ came.2.dials u ∙ ap (λ (d : Option KeptDial). if is_some x.1.ended && u == v then None else d) (placing.1.dials u);
         },
       )
     where
       Came : PlainNode → ℕ → Type 0
       Came plain n =
-          let x : PlainNode × AdminTold = called_at n v asked (placed v plain) in
+          let x : PlainNode × AdminResult = called_at n v asked (placed v plain) in
           NodeMatch mid x.0 × (out ≡ admin_out (dial_ended x.1.ended (dial_under ready v)) x.1) × TellsEnds ready mid v x.1.ended
 
 -- bytes for the dial of a vBucket under the arm
 module _ (v : ℕ) (piece : List ℕ) (old ready mid new : ScriptNode) (out : NodeOut) (placing : PlacesArm v old ready) (went : FedDial v piece ready out mid) (lifting : LiftsArm v mid new) where
   pub feeds_under : FeedsDial v piece old out new
   feeds_under plain dial stands has =
-      let x : PlainNode × DialTold = dial_given piece dial (placed v plain) in
+      let x : PlainNode × DialResult = dial_given piece dial (placed v plain) in
       let came : NodeMatch mid x.0 × (out ≡ dial_out x.1) × PutsDial ready mid v (dial_left x.1.dial) = went (placed v plain) dial (placing.0 plain stands) (placing.1.dials v ∙ has) in (
         lifting.0 x.0 came.0,
         came.1,

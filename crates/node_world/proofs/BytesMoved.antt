@@ -12,7 +12,7 @@ use Rattle.node_world.specs.declared.arm.Fired.{Fired}
 use Rattle.node_world.specs.declared.arm.Fired.TheVariants as fired
 use Rattle.node_world.specs.Arms.{fired_by}
 use Rattle.node_world.specs.BytesMoved.{BytesMoved, IsMost, Takes, given_down}
-use Rattle.node_world.specs.Links.{PlainLink, LinkTold, consumer_node, down_answer, left_unless, link_number, moved_len, producer_node, up_at, with_down}
+use Rattle.node_world.specs.Links.{PlainLink, LinkResult, consumer_node, down_answer, left_unless, link_number, moved_len, producer_node, up_at, with_down}
 use Rattle.node_world.specs.Nodes.{PlainNode, refusal}
 use Rattle.node_world.specs.Power.{after_broken, is_broken_answer}
 use Rattle.node_world.specs.World.{down_in, down_outcome, down_step, link_outcome, on_link, relinked, with_link}
@@ -25,15 +25,15 @@ most : (wanted there : ℕ) → IsMost wanted there (min wanted there)
 most wanted there = record { few = λ few. omega (arith, few); all = λ all. omega (arith, all) }
 
 -- a line for an open link, which the node at this end carries out
-module _ (w : PlainWorld) (l : ℕ) (link : PlainLink) (open_link : row_at link_number l w.links ≡ Some link) where
-  abbrev carried : (PlainLink → ℕ) → (PlainLink → PlainNode → PlainNode × LinkTold) → PlainNode → Outcome
+module _ (w : PlainWorld) (l : ℕ) (link : PlainLink) (add_link : row_at link_number l w.links ≡ Some link) where
+  abbrev carried : (PlainLink → ℕ) → (PlainLink → PlainNode → PlainNode × LinkResult) → PlainNode → Outcome
   carried end f x = with_link link (with_node_at w (end link) (f link x).0, (f link x).1)
 
-  carried_is : (end : PlainLink → ℕ) (f : PlainLink → PlainNode → PlainNode × LinkTold) (x : PlainNode) → w.nodes (end link) ≡ Some x → on_link w l end f ≡ carried end f x
-  carried_is end f x e = ap (link_outcome w l end f) open_link ∙ ap (λ o. with_link link (node_outcome w (end link) (Some link, refusal cause.UnknownNode) o (f link))) e
+  carried_is : (end : PlainLink → ℕ) (f : PlainLink → PlainNode → PlainNode × LinkResult) (x : PlainNode) → w.nodes (end link) ≡ Some x → on_link w l end f ≡ carried end f x
+  carried_is end f x e = ap (link_outcome w l end f) add_link ∙ ap (λ o. with_link link (node_outcome w (end link) (Some link, refusal cause.UnknownNode) o (f link))) e
 
 -- `down`, where it counts: what holds of the line that its node carries out holds of it
-module _ (w : PlainWorld) (l : ℕ) (link : PlainLink) (node : PlainNode) (open_link : row_at link_number l w.links ≡ Some link) (there : w.nodes (consumer_node link) ≡ Some node) (wanted : ℕ) (P : ℕ → Outcome → Type 0) where
+module _ (w : PlainWorld) (l : ℕ) (link : PlainLink) (node : PlainNode) (add_link : row_at link_number l w.links ≡ Some link) (there : w.nodes (consumer_node link) ≡ Some node) (wanted : ℕ) (P : ℕ → Outcome → Type 0) where
   abbrev pub count : ℕ
   count = moved_len wanted link.down
 
@@ -62,7 +62,7 @@ module _ (w : PlainWorld) (l : ℕ) (link : PlainLink) (node : PlainNode) (open_
   module _ (so : P count (relinked link (left_unless why (with_down link count (given_down count link node).1)) (with_node_at w n (down_in wanted link node).0), (down_in wanted link node).1.1)) where
     whole : (k : ℕ) → came.1.answer ≡ line.Number k → P k came
     whole k e =
-        let is : came ≡ carried w l link open_link consumer_node (down_in wanted) node = carried_is w l link open_link consumer_node (down_in wanted) node there in
+        let is : came ≡ carried w l link add_link consumer_node (down_in wanted) node = carried_is w l link add_link consumer_node (down_in wanted) node there in
         let same : count ≡ k = number_of why k (sym (ap (λ (o : Outcome). o.1.answer) is) ∙ e) in subst (λ j. P j came) same (subst (P count) (sym is) so)
 
     by_broken : (b : Bool) (k : ℕ) → let x : Outcome = if b then after_broken n l (arm_in (w.nodes n)).out (fired_by (arm_in (w.nodes n)).fuse (arm_in (came.0.nodes n)).fuse) came else came in x.1.answer ≡ line.Number k → P k x
@@ -71,10 +71,10 @@ module _ (w : PlainWorld) (l : ℕ) (link : PlainLink) (node : PlainNode) (open_
 
     pub downs : (k : ℕ) → (down_step w l wanted).1.answer ≡ line.Number k → P k (down_step w l wanted)
     downs k e =
-        let is : down_step w l wanted ≡ down_outcome w l (Some link) came = ap (λ o. down_outcome w l o came) open_link in
+        let is : down_step w l wanted ≡ down_outcome w l (Some link) came = ap (λ o. down_outcome w l o came) add_link in
         subst (P k) (sym is) (by_broken (is_broken_answer came.1.answer) k (sym (ap (λ (o : Outcome). o.1.answer) is) ∙ e))
 
-module _ (w : PlainWorld) (l : ℕ) (link : PlainLink) (producer node : PlainNode) (open_link : row_at link_number l w.links ≡ Some link) (from : w.nodes (producer_node link) ≡ Some producer) (there : w.nodes (consumer_node link) ≡ Some node) where
+module _ (w : PlainWorld) (l : ℕ) (link : PlainLink) (producer node : PlainNode) (add_link : row_at link_number l w.links ≡ Some link) (from : w.nodes (producer_node link) ≡ Some producer) (there : w.nodes (consumer_node link) ≡ Some node) where
   abbrev Counts : ℕ → ℕ → Outcome → Type 0
   Counts wanted k x = IsMost wanted (length link.down) k × (x.1.events ≡ (given_down k link node).1.events)
       × (((now : PlainLink) × Takes (λ y. y.down) (λ y. y.up) k (given_down k link node).1.out link now w.links x.0.links) ⊎ (x.0.links ≡ row_out link_number (link_number link) w.links))
@@ -87,7 +87,7 @@ module _ (w : PlainWorld) (l : ℕ) (link : PlainLink) (producer node : PlainNod
   pub moves : BytesMoved w l link producer node
   moves = record {
     up = λ number wanted.
-        let is : on_link w l producer_node (up_at wanted) ≡ carried w l link open_link producer_node (up_at wanted) producer = carried_is w l link open_link producer_node (up_at wanted) producer from in (
+        let is : on_link w l producer_node (up_at wanted) ≡ carried w l link add_link producer_node (up_at wanted) producer = carried_is w l link add_link producer_node (up_at wanted) producer from in (
           moved_len wanted link.up,
           ap (λ (o : Outcome). o.1.answer) is,
           most wanted (length link.up),
@@ -95,5 +95,5 @@ module _ (w : PlainWorld) (l : ℕ) (link : PlainLink) (producer node : PlainNod
           _,
           record { links_are = ap (λ (o : Outcome). o.0.links) is; left = refl; answered = refl },
         );
-    down = λ number wanted k e. downs w l link node open_link there wanted (Counts wanted) (left_by wanted (over_why (given_down (moved_len wanted link.down) link node).1.dial.consumer.handshake)) k e;
+    down = λ number wanted k e. downs w l link node add_link there wanted (Counts wanted) (left_by wanted (over_why (given_down (moved_len wanted link.down) link node).1.dial.consumer.handshake)) k e;
   }

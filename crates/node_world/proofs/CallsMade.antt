@@ -16,10 +16,10 @@ use Rattle.vb_calls.specs.Plain.{plain_step}
 use Rattle.vb_calls.specs.Settling.{and_settled}
 use Rattle.vb_calls.specs.State.{Plain, is_active, quiet_reply, refusal_reply}
 use Rattle.vb_calls.specs.States.{call_at, with_vb_at}
-use Rattle.node_core.specs.Admin.{AdminTold, admin_call, admin_told, log_told, seal_told, show_told, stat_told}
+use Rattle.node_core.specs.Admin.{AdminResult, admin_call, admin_result, log_result, seal_result, show_result, stat_result}
 use Rattle.node_core.specs.declared.admin.AdminCall.{AdminCall}
 use Rattle.node_core.specs.declared.admin.AdminCall.TheVariants as admin
-use Rattle.node_core.specs.Flushing.{settled_told}
+use Rattle.node_core.specs.Flushing.{settled_result}
 use Rattle.node_world.specs.declared.told.Told.{Told}
 use Rattle.node_world.specs.CallsMade.{CallsMade, LeavesNode, node_after}
 use Rattle.node_world.specs.Causes.{MayJoin}
@@ -58,10 +58,10 @@ module _ (w : PlainWorld) (n : ℕ) (node : PlainNode) (there : w.nodes n ≡ So
 
     -- what comes of the call
     abbrev came_so : Plain × VbReply → PlainNode × Told
-    came_so x = settled node (with_vb_at node.vbs v x.0, settled_told n v (Some x.1))
+    came_so x = settled node (with_vb_at node.vbs v x.0, settled_result n v (Some x.1))
 
     abbrev of_call : VbCall → Option Plain → PlainNode × Told
-    of_call asked o = settled node ((call_at node.vbs v asked o).0, settled_told n v (call_at node.vbs v asked o).1)
+    of_call asked o = settled node ((call_at node.vbs v asked o).0, settled_result n v (call_at node.vbs v asked o).1)
 
     module _ (active : vb.role ≡ role.Active) where
       is_so : is_active vb.role ≡ true
@@ -82,21 +82,21 @@ module _ (w : PlainWorld) (n : ℕ) (node : PlainNode) (there : w.nodes n ≡ So
           ∙ ap (of_call (call.Chain (record { active = n; others = others }))) here ∙ ap (λ b. came_so (by_role (chains others) b)) is_so ∙ sym (ap (λ b. told_so (by_role (chains others) b)) is_so)
 
     -- the calls that settle nothing
-    asked : (what : AdminCall) → KeepsRole what → (told : Told) → call_told (admin_told n v what (Some (plain_step vb (admin_call what)).1)) ≡ told
+    asked : (what : AdminCall) → KeepsRole what → (told : Told) → call_told (admin_result n v what (Some (plain_step vb (admin_call what)).1)) ≡ told
         → LeavesNode w n (node_after v vb (admin_call what) node) told (on_node w n (admin_line n v what))
     asked what keeps told says =
         leaves_so (admin_line n v what) (node_after v vb (admin_call what) node, told)
-        (ap (λ (x : PlainNode × AdminTold). (x.0, call_told x.1)) (called_quiet n v what node keeps)
-        ∙ ap (λ o. (with_states node (call_at node.vbs v (admin_call what) o).0, call_told (admin_told n v what (call_at node.vbs v (admin_call what) o).1))) here
+        (ap (λ (x : PlainNode × AdminResult). (x.0, call_told x.1)) (called_quiet n v what node keeps)
+        ∙ ap (λ o. (with_states node (call_at node.vbs v (admin_call what) o).0, call_told (admin_result n v what (call_at node.vbs v (admin_call what) o).1))) here
         ∙ ap (λ t. (node_after v vb (admin_call what) node, t)) says)
 
     pub calls : CallsMade w n v node vb
     calls = record {
       chain = λ number others active may. leaves_so (chain_line n v others) (told_so (plain_step vb (call.Chain (record { active = n; others = others })))) (chained active others may);
       tick = λ number active. leaves_so (tick_line n v) (told_so (plain_step vb (call.Tick node.clock))) (ticked active);
-      seal = λ number is. asked admin.Seal tt _ (ap (λ a. call_told (seal_told a)) is);
-      sealed = λ number is. asked admin.Seal tt _ (ap (λ a. call_told (seal_told a)) is);
-      stat = λ number a b c d e is. asked admin.Stat tt _ (ap (λ x. call_told (stat_told n v x)) is);
-      log = λ number log is. asked admin.Log tt _ (ap (λ x. call_told (log_told n v x)) is);
-      show = λ number uuid ss se at said image is. asked admin.Show tt _ (ap (λ x. call_told (show_told n v x)) is);
+      seal = λ number is. asked admin.Seal tt _ (ap (λ a. call_told (seal_result a)) is);
+      sealed = λ number is. asked admin.Seal tt _ (ap (λ a. call_told (seal_result a)) is);
+      stat = λ number a b c d e is. asked admin.Stat tt _ (ap (λ x. call_told (stat_result n v x)) is);
+      log = λ number log is. asked admin.Log tt _ (ap (λ x. call_told (log_result n v x)) is);
+      show = λ number uuid ss se at said image is. asked admin.Show tt _ (ap (λ x. call_told (show_result n v x)) is);
     }

@@ -16,7 +16,7 @@ use Rattle.vb_calls.specs.States.{call_at}
 use Rattle.vb_calls.specs.declared.calls.VbAnswer.TheVariants as vb_answer
 use Rattle.vb_calls.specs.declared.calls.VbCall.TheVariants as call
 use Rattle.vb_calls.specs.declared.calls.VbReply.{VbReply}
-use Rattle.node_core.specs.Flushing.{settled_told}
+use Rattle.node_core.specs.Flushing.{settled_result}
 use Rattle.node_world.specs.declared.told.Told.{Told}
 use Rattle.node_world.specs.Causes.{MayJoin}
 use Rattle.node_world.specs.Cuts.{own_link}
@@ -116,7 +116,7 @@ module _ (n v : ℕ) (node : PlainNode) where
   no_chain others none = ap (λ (x : PlainNode × Told). x.1.answer) (chain_row others None false (is_chain n others) none refl refl)
 
   pub no_tick : node.vbs v ≡ None → (tick_line n v node).1.answer ≡ answer.No cause.UnknownVb
-  no_tick none = ap (λ o. (settled_told n v (call_at node.vbs v (call.Tick node.clock) o).1).answer) none
+  no_tick none = ap (λ o. (settled_result n v (call_at node.vbs v (call.Tick node.clock) o).1).answer) none
 
   module _ (vb : Plain) (here : node.vbs v ≡ Some vb) where
     pub chain_idle : (others : Members) → vb.role ≢ role.Active → (chain_line n v others node).1.answer ≡ answer.No cause.WrongRole
@@ -127,18 +127,18 @@ module _ (n v : ℕ) (node : PlainNode) where
 
     -- what is said of a call of an active vBucket that came to this, and of any other vBucket
     abbrev said : Plain × VbReply → Bool → Answer
-    said made b = (settled_told n v (Some (if b then made else (vb, refusal_reply status.NotMyVbucket)).1)).answer
+    said made b = (settled_result n v (Some (if b then made else (vb, refusal_reply status.NotMyVbucket)).1)).answer
 
     abbrev with_chain : Members → Plain × VbReply
     with_chain others = and_settled (record vb { others = others }, quiet_reply vb_answer.Done)
 
-    pub chain_set : (others : Members) → vb.role ≡ role.Active → is_chain n others ≡ true → (chain_line n v others node).1.answer ≡ answer.Ok
-    chain_set others e good =
+    pub chain_is_set : (others : Members) → vb.role ≡ role.Active → is_chain n others ≡ true → (chain_line n v others node).1.answer ≡ answer.Ok
+    chain_is_set others e good =
         ap (λ (x : PlainNode × Told). x.1.answer) (chain_row others (Some vb) true true here (ap is_active e) good)
-        ∙ ap (λ o. (settled_told n v (call_at node.vbs v (call.Chain (record { active = n; others = others })) o).1).answer) here ∙ ap (said (with_chain others)) (ap is_active e)
+        ∙ ap (λ o. (settled_result n v (call_at node.vbs v (call.Chain (record { active = n; others = others })) o).1).answer) here ∙ ap (said (with_chain others)) (ap is_active e)
 
     ticked_as : (active : Bool) → is_active vb.role ≡ active → (tick_line n v node).1.answer ≡ said (then_settled (expired node.clock vb)) active
-    ticked_as active e = ap (λ o. (settled_told n v (call_at node.vbs v (call.Tick node.clock) o).1).answer) here ∙ ap (said (then_settled (expired node.clock vb))) e
+    ticked_as active e = ap (λ o. (settled_result n v (call_at node.vbs v (call.Tick node.clock) o).1).answer) here ∙ ap (said (then_settled (expired node.clock vb))) e
 
     pub tick_idle : vb.role ≢ role.Active → (tick_line n v node).1.answer ≡ answer.No cause.WrongRole
     tick_idle ne = ticked_as false (idle vb.role ne)

@@ -15,7 +15,7 @@ use Rattle.vb_calls.specs.State.{Plain, is_active, quiet_reply, refusal_reply}
 use Rattle.vb_calls.specs.States.{States, call_at, stepped_at}
 use Rattle.vb_calls.proofs.Readings.{alone_after}
 use Rattle.vbucket.specs.Stands.{SlotsStand}
-use Rattle.node_core.specs.Flushing.{activity_asked, activity_told, chain_set, settled_told}
+use Rattle.node_core.specs.Flushing.{activity_requested, activity_of_reply, chain_changed, settled_result}
 use Rattle.node_world.specs.declared.script_node.ScriptNode.{ScriptNode}
 use Rattle.node_world.specs.declared.told.Told.{Told}
 use Rattle.node_world.specs.Ends.{Carries, KeepsEnds, RefusesChain}
@@ -30,11 +30,11 @@ activity_in None = None
 activity_in (Some vb) = Some (is_active vb.role)
 
 -- the call that asks for it changes nothing
-pub activity_is : (states : States) (v : ℕ) → after (activity_asked v) states ≡ (states, activity_in (states v))
+pub activity_is : (states : States) (v : ℕ) → after (activity_requested v) states ≡ (states, activity_in (states v))
 activity_is states v = by (states v) refl
   where
     Came : States × Option VbReply → States × Option Bool
-    Came x = (x.0, activity_told x.1)
+    Came x = (x.0, activity_of_reply x.1)
 
     refused : (vb : Plain) → states v ≡ Some vb → (b : Bool) → is_active vb.role ≡ b
         → Came (stepped_at states v (promoted (if b then Some status.NotMyVbucket else Some status.Einval) vb 0)) ≡ (states, Some b)
@@ -57,10 +57,10 @@ why_bad v plain = by (plain.vbs v)
     by None = refl
     by (Some vb) = either (is_active vb.role)
 
-pub refuses_chain : (old : ScriptNode) (v : ℕ) (active : Option Bool) (why : Cause) (node : MemNode) → Ran (alone_step SlotsStand) (activity_asked v) old.node.vbs active node.vbs → node ≡ record old.node { vbs = node.vbs }
+pub refuses_chain : (old : ScriptNode) (v : ℕ) (active : Option Bool) (why : Cause) (node : MemNode) → Ran (alone_step SlotsStand) (activity_requested v) old.node.vbs active node.vbs → node ≡ record old.node { vbs = node.vbs }
     → why ≡ bad_chain_cause active → RefusesChain v old why (inside old node)
 refuses_chain old v active why node ran rest is plain stands =
-    let known = alone_after SlotsStand (activity_asked v) old.node.vbs active node.vbs ran plain.vbs stands.slots in
+    let known = alone_after SlotsStand (activity_requested v) old.node.vbs active node.vbs ran plain.vbs stands.slots in
     let same = activity_is plain.vbs v in (
       vbs_match old node rest plain plain.vbs (subst (λ (x : States × Option Bool). SlotsStand node.vbs x.0) same known.1) stands,
       ap Some (is ∙ ap bad_chain_cause (known.0 ∙ ap (λ (x : States × Option Bool). x.1) same)) ∙ sym (why_bad v plain),
@@ -94,7 +94,7 @@ module _ (n v : ℕ) (others : Members) (plain : PlainNode) (good : is_chain n o
 
   -- by what stands at v
   abbrev made_of : States × Option VbReply → PlainNode × Told
-  made_of x = settled plain (x.0, settled_told n v x.1)
+  made_of x = settled plain (x.0, settled_result n v x.1)
 
   abbrev line_of : Bool → Bool → Bool → PlainNode × Told
   line_of a b c = refused_or (first_cause ((not a, cause.UnknownVb) ∷ (not b, cause.WrongRole) ∷ (not c, cause.ChainBad) ∷ [])) plain (chain_made n v others plain)
@@ -122,9 +122,9 @@ is_one n others chain true e some =
 is_one n others chain false e some = let no : None ≡ Some chain = sym (ap (λ c. if c then Some (record { active = n; others = others }) else None) e) ∙ some in cc
 
 pub chain_carried : (v : ℕ) (others : Members) (chain : Links) (old new : ScriptNode) (told : Told) → chain_of (node_number old) others ≡ Some chain
-    → Carries (λ plain. settled plain (after (chain_set (node_number old) v chain) plain.vbs)) old told new → Carries (chain_line (node_number old) v others) old told new
+    → Carries (λ plain. settled plain (after (chain_changed (node_number old) v chain) plain.vbs)) old told new → Carries (chain_line (node_number old) v others) old told new
 chain_carried v others chain old new told some went plain stands =
     let n = node_number old in
     let (good, is) = is_one n others chain (is_chain n others) refl some in
     subst (λ (x : PlainNode × Told). NodeMatch new x.0 × (told ≡ x.1) × KeepsEnds old new) (sym (chain_is n v others plain good))
-    (subst (λ (links : Links). NodeMatch new (settled plain (after (chain_set n v links) plain.vbs)).0 × (told ≡ (settled plain (after (chain_set n v links) plain.vbs)).1) × KeepsEnds old new) is (went plain stands))
+    (subst (λ (links : Links). NodeMatch new (settled plain (after (chain_changed n v links) plain.vbs)).0 × (told ≡ (settled plain (after (chain_changed n v links) plain.vbs)).1) × KeepsEnds old new) is (went plain stands))

@@ -6,7 +6,7 @@ use Rattle.std.specs.Option.{option_map, option_copied}
 use Rattle.std.proofs.lemmas.Bool.{eqb-true, eqb-false}
 use Rattle.slab.specs.Slab.{Slab, get}
 use Rattle.slab.specs.Slab as slab
-use Rattle.client_session.specs.Serving.{PlainSession, Served, served, new_session, bytes_served, outcome_served}
+use Rattle.client_session.specs.Serving.{PlainSession, Served, served, new_session, bytes_handled, outcome_handled}
 use Rattle.vb_events.specs.declared.event.Cause.TheVariants as cause
 use Rattle.vb_calls.specs.Programs.{Prog, after, alone_step}
 use Rattle.vb_calls.specs.declared.calls.Resolved.{Resolved}
@@ -24,7 +24,7 @@ use Rattle.node_world.specs.declared.script_node.ScriptNode.{ScriptNode}
 use Rattle.node_world.specs.declared.told.Told.{Told}
 use Rattle.node_world.specs.Ends.{KeepsEnds, Carries, PostsTo}
 use Rattle.node_world.specs.Lines.{out_told}
-use Rattle.node_world.specs.Nodes.{PlainNode, done, refusal, with_client, with_states, client_at, fed_if, bytes_at, hang_at, posted_if}
+use Rattle.node_world.specs.Nodes.{PlainNode, done, refusal, with_client, with_states, client_at, bytes_if, bytes_at, hang_at, posted_if}
 use Rattle.node_world.specs.Stands.{MemNode, client_part, peer_part, live_session, SessionStands, ClientsStand, NodeMatch, node_number}
 use Rattle.node_world.proofs.Nodes.{off_kept}
 use Rattle.node_world.proofs.Shelved.{same_shelves}
@@ -68,7 +68,7 @@ open_already old base c has = refused_by old (refusal cause.LinkOpen) (client_at
 
 -- or it is not open
 pub not_fed : (old : ScriptNode) (c : ℕ) (piece : List ℕ) → value_at old.clients c ≡ None → Carries (bytes_at c piece) old (refusal cause.LinkClosed) old
-not_fed old c piece none = refused_by old (refusal cause.LinkClosed) (bytes_at c piece) (λ plain stands. ap (fed_if c piece plain) (gone (plain.clients c) (keyed old plain c stands ∙ ap is_some none)))
+not_fed old c piece none = refused_by old (refusal cause.LinkClosed) (bytes_at c piece) (λ plain stands. ap (bytes_if c piece plain) (gone (plain.clients c) (keyed old plain c stands ∙ ap is_some none)))
   where
     gone : (s : Option PlainSession) → is_some s ≡ false → s ≡ None
     gone None e = refl
@@ -244,8 +244,8 @@ module _ (old : ScriptNode) (c key : ℕ) (node : MemNode) (keys : List (ℕ × 
     feeds plain stands =
         let (session, there, live) = found old plain c key has stands in
         let fed : Fed (alone_step SlotsStand) old.clock key piece (client_conn session) old.node out node = subst (λ o. FedAt (alone_step SlotsStand) old.clock key piece o old.node out node) (is_client plain stands) went in
-        let on = went_on (λ clock s. bytes_served clock piece (served s [])) out fed.left fed.conns fed.rest rekeyed plain stands (client_left (alone_step SlotsStand) old.node.vbs node.vbs out old.clock piece session fed.left fed.fed) in
-        subst (λ (x : PlainNode × Told). NodeMatch (reseated old node keys) x.0 × (out_told out ≡ x.1) × KeepsEnds old (reseated old node keys)) (sym (ap (fed_if c piece plain) there))
+        let on = went_on (λ clock s. bytes_handled clock piece (served s [])) out fed.left fed.conns fed.rest rekeyed plain stands (client_left (alone_step SlotsStand) old.node.vbs node.vbs out old.clock piece session fed.left fed.fed) in
+        subst (λ (x : PlainNode × Told). NodeMatch (reseated old node keys) x.0 × (out_told out ≡ x.1) × KeepsEnds old (reseated old node keys)) (sym (ap (bytes_if c piece plain) there))
         (on.0, ap out_told on.1, on.2)
 
   -- it is told what became of a durable write that it awaits
@@ -255,7 +255,7 @@ module _ (old : ScriptNode) (c key : ℕ) (node : MemNode) (keys : List (ℕ × 
     posts plain stands =
         let (session, there, live) = found old plain c key has stands in
         let post : Posted (alone_step SlotsStand) old.clock key outcome (client_conn session) old.node out node = subst (λ o. PostedAt (alone_step SlotsStand) old.clock key outcome o old.node out node) (is_client plain stands) went in
-        let on = went_on (λ clock s. outcome_served clock outcome (served s [])) out post.left post.conns post.rest rekeyed plain stands (post_left (alone_step SlotsStand) old.node.vbs node.vbs out old.clock outcome session post.left post.posted) in
+        let on = went_on (λ clock s. outcome_handled clock outcome (served s [])) out post.left post.conns post.rest rekeyed plain stands (post_left (alone_step SlotsStand) old.node.vbs node.vbs out old.clock outcome session post.left post.posted) in
         subst (λ (x : PlainNode × List Event). NodeMatch (reseated old node keys) x.0 × (out.events ≡ x.1) × KeepsEnds old (reseated old node keys)) (sym (ap (posted_if c outcome plain) there))
         (on.0, ap (λ (o : NodeOut). o.events) on.1, on.2)
 

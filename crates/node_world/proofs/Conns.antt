@@ -4,7 +4,7 @@ use Rattle.std.specs.Prelude.{◌==◌, if◌then◌else◌}
 use Rattle.std.specs.Option.{option_map}
 use Rattle.std.proofs.lemmas.Bool.{eqb-true, eqb-false}
 use Rattle.slab.specs.Slab.{Slab, get}
-use Rattle.client_session.specs.Serving.{PlainSession, KeptSession, Served, served, bytes_served, outcome_served}
+use Rattle.client_session.specs.Serving.{PlainSession, KeptSession, Served, served, bytes_handled, outcome_handled}
 use Rattle.mcbp_frame.specs.declared.frame.Frame.{Frame}
 use Rattle.vb_calls.specs.declared.calls.Resolved.{Resolved}
 use Rattle.vb_calls.specs.declared.calls.VbCall.{VbCall}
@@ -14,9 +14,9 @@ use Rattle.node_core.specs.declared.out.NodeOut.{NodeOut}
 use Rattle.node_core.specs.Outs.{client_out, peer_out, pull_out}
 use Rattle.node_core.specs.declared.conn.Conn.{Conn}
 use Rattle.node_core.specs.declared.conn.Conn.TheVariants as conn
-use Rattle.node_core.specs.Outcomes.{value_at, Renumbered, client_conn, peer_conn, conn_told, kept_unless, ConnFed, ConnPosted, ConnAnswered, ConnPulled}
-use Rattle.node_core.specs.Peers.{PlainPeer, KeptPeer, PeerTold, PullTold, peer_answered, peer_pulled}
-use Rattle.node_world.specs.Ends.{peer_told}
+use Rattle.node_core.specs.Outcomes.{value_at, Renumbered, client_conn, peer_conn, conn_ended, kept_unless, ConnFed, ConnPosted, ConnAnswered, ConnPulled}
+use Rattle.node_core.specs.Peers.{PlainPeer, KeptPeer, PeerResult, PullResult, peer_answered, peer_pulled}
+use Rattle.node_world.specs.Ends.{kept_peer_ended}
 use Rattle.node_world.specs.Nodes.{with_session}
 use Rattle.node_world.specs.Stands.{client_part, peer_part, live_session, SessionStands, ClientsStand}
 
@@ -33,7 +33,7 @@ client_got (Some (conn.Client session)) kept e = let is : session ≡ kept = cc 
 client_got (Some (conn.Peer peer)) kept e = cc
 
 -- connections that were told of streams that ended have the same sessions
-pub told_clients : (v : ℕ) (ended : Option (List ℕ)) (o : Option Conn) → client_part (option_map (conn_told v ended) o) ≡ client_part o
+pub told_clients : (v : ℕ) (ended : Option (List ℕ)) (o : Option Conn) → client_part (option_map (conn_ended v ended) o) ≡ client_part o
 told_clients v ended None = refl
 told_clients v None (Some (conn.Client session)) = refl
 told_clients v None (Some (conn.Peer peer)) = refl
@@ -41,7 +41,7 @@ told_clients v (Some ids) (Some (conn.Client session)) = refl
 told_clients v (Some ids) (Some (conn.Peer peer)) = refl
 
 -- and their peers are told
-pub told_peers : (v : ℕ) (ended : Option (List ℕ)) (o : Option Conn) → peer_part (option_map (conn_told v ended) o) ≡ option_map (peer_told v ended) (peer_part o)
+pub told_peers : (v : ℕ) (ended : Option (List ℕ)) (o : Option Conn) → peer_part (option_map (conn_ended v ended) o) ≡ option_map (kept_peer_ended v ended) (peer_part o)
 told_peers v ended None = refl
 told_peers v None (Some (conn.Client session)) = refl
 told_peers v None (Some (conn.Peer peer)) = refl
@@ -49,7 +49,7 @@ told_peers v (Some ids) (Some (conn.Client session)) = refl
 told_peers v (Some ids) (Some (conn.Peer peer)) = refl
 
 -- where nothing ended, they are as before
-pub untold_peers : (v : ℕ) (o : Option KeptPeer) → option_map (peer_told v None) o ≡ o
+pub untold_peers : (v : ℕ) (o : Option KeptPeer) → option_map (kept_peer_ended v None) o ≡ o
 untold_peers v None = refl
 untold_peers v (Some kept) = refl
 
@@ -144,14 +144,14 @@ module _ {W : Type 0} (step : W → ℕ → VbCall → Option VbReply → W → 
       (s : Served) × Ran step prog old s new × (out ≡ client_out s) × (kept_unless out.closed left ≡ (if s.session.closed then None else Some (client_conn s.session)))
 
   -- one that was given bytes
-  pub client_left : (clock : ℕ) (piece : List ℕ) (session : PlainSession) (left : Conn) → ConnFed step clock piece (client_conn session) old out left new → ClientLeft (bytes_served clock piece (served session [])) left
+  pub client_left : (clock : ℕ) (piece : List ℕ) (session : PlainSession) (left : Conn) → ConnFed step clock piece (client_conn session) old out left new → ClientLeft (bytes_handled clock piece (served session [])) left
   client_left clock piece session (conn.Peer left) h = absurd h
   client_left clock piece session (conn.Client left) h =
       let (s, ran, said, plain) = h.2 in
       (s, ran, said, λ i. kept_unless (said i).closed (session_live left s.session h.1 plain i))
 
   -- one that was told what became of a durable write
-  pub post_left : (clock : ℕ) (outcome : Resolved) (session : PlainSession) (left : Conn) → ConnPosted step clock outcome (client_conn session) old out left new → ClientLeft (outcome_served clock outcome (served session [])) left
+  pub post_left : (clock : ℕ) (outcome : Resolved) (session : PlainSession) (left : Conn) → ConnPosted step clock outcome (client_conn session) old out left new → ClientLeft (outcome_handled clock outcome (served session [])) left
   post_left clock outcome session (conn.Peer left) h = absurd h
   post_left clock outcome session (conn.Client left) h =
       let (s, ran, said, plain) = h.2 in
@@ -159,7 +159,7 @@ module _ {W : Type 0} (step : W → ℕ → VbCall → Option VbReply → W → 
 
   -- a peer's that answered a frame
   pub answer_left : (f : Frame) (peer : PlainPeer) (left : Conn) → ConnAnswered step f (peer_conn peer) old out left new
-      → (told : PeerTold) × Ran step (peer_answered f peer) old told new × (out ≡ peer_out told) × (left ≡ peer_conn told.peer)
+      → (told : PeerResult) × Ran step (peer_answered f peer) old told new × (out ≡ peer_out told) × (left ≡ peer_conn told.peer)
   answer_left f peer (conn.Client left) h = absurd h
   answer_left f peer (conn.Peer left) h =
       let (told, ran, said, plain) = h.2 in
@@ -167,7 +167,7 @@ module _ {W : Type 0} (step : W → ℕ → VbCall → Option VbReply → W → 
 
   -- one that was asked for frames
   pub pull_left : (frames : ℕ) (peer : PlainPeer) (left : Conn) → ConnPulled step frames (peer_conn peer) old out left new
-      → (told : PullTold) × Ran step (peer_pulled frames peer) old told new × (out ≡ pull_out told) × (left ≡ peer_conn told.peer)
+      → (told : PullResult) × Ran step (peer_pulled frames peer) old told new × (out ≡ pull_out told) × (left ≡ peer_conn told.peer)
   pull_left frames peer (conn.Client left) h = absurd h
   pull_left frames peer (conn.Peer left) h =
       let (told, ran, said, plain) = h.2 in

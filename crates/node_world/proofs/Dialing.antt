@@ -18,7 +18,7 @@ use Rattle.vbucket.specs.declared.vb_map.VbSlot.{VbSlot}
 use Rattle.vbucket.specs.Stands.{SlotsStand}
 use Rattle.dcp_consumer.specs.Dialing.{requests}
 use Rattle.node_core.specs.declared.out.NodeOut.{NodeOut}
-use Rattle.node_core.specs.Calls.{ask_or_role, ask_told, ask_if, dial_asked}
+use Rattle.node_core.specs.Calls.{ask_or_role, ask_of_reply, ask_if, dial_requested}
 use Rattle.node_core.specs.Dials.{KeptDial, new_dial}
 use Rattle.node_core.specs.Outcomes.{live_dial}
 use Rattle.node_core.specs.Outs.{done_out}
@@ -36,11 +36,11 @@ use Rattle.node_world.specs.Worlds.{PlainWorld, Outcome, is_off, with_links, vb_
 use Rattle.node_world.proofs.Finding.{position_any, position_set}
 use Rattle.node_world.proofs.Held.{both_same, same_ends, more_stand}
 use Rattle.node_world.proofs.Nodes.{unchanged}
-use Rattle.node_world.proofs.OnNodes.{off_at, off_is}
+use Rattle.node_world.proofs.OnNodes.{off_at, off_as_plain}
 use Rattle.node_world.proofs.Places.{no_node, plain_at, numbered, peer_here, dial_here, same_stands, peers_stay, dials_stay, peer_put, peers_but, dial_put, dials_but}
 
 -- what a vBucket asks for leaves it as it was
-asked_kept : (v : ℕ) (b : Bool) (slots : List VbSlot) (states : States) → SlotsStand slots (after (dial_asked v b) states).0 → SlotsStand slots states
+asked_kept : (v : ℕ) (b : Bool) (slots : List VbSlot) (states : States) → SlotsStand slots (after (dial_requested v b) states).0 → SlotsStand slots states
 asked_kept v b slots states = by (states v) refl
   where
     by : (o : Option Plain) → states v ≡ o → SlotsStand slots (call_at states v call.Ask o).0 → SlotsStand slots states
@@ -138,7 +138,7 @@ module _ (w : PlainWorld) (line l m n v : ℕ) where
       (with_links w (with_dialed line l m n v w.links (option_and_then ask_of (vb_in (f i) v))), done [])
 
   -- by what the vBucket says
-  said_row : (states : States) (b : Bool) → is_taken w.links l n v ≡ not b → DialRow w line l m n v (after (dial_asked v b) states).1 (rest (states v))
+  said_row : (states : States) (b : Bool) → is_taken w.links l n v ≡ not b → DialRow w line l m n v (after (dial_requested v b) states).1 (rest (states v))
   said_row states b taken = by (states v)
     where
       free_row : (asks : StreamAsk) (c : Bool) → is_taken w.links l n v ≡ not c
@@ -151,12 +151,12 @@ module _ (w : PlainWorld) (line l m n v : ℕ) where
       ask_row None = refl
       ask_row (Some asks) = free_row asks b taken
 
-      by : (o : Option Plain) → DialRow w line l m n v (ask_if b (ask_told (call_at states v call.Ask o).1)) (rest o)
+      by : (o : Option Plain) → DialRow w line l m n v (ask_if b (ask_of_reply (call_at states v call.Ask o).1)) (rest o)
       by None = refl
       by (Some vb) = ask_row (ask_of vb)
 
   -- a link that is dialed is free
-  free_of : (states : States) (b : Bool) (asks : StreamAsk) → (after (dial_asked v b) states).1 ≡ Ok asks → b ≡ true
+  free_of : (states : States) (b : Bool) (asks : StreamAsk) → (after (dial_requested v b) states).1 ≡ Ok asks → b ≡ true
   free_of states true asks e = refl
   free_of states false asks e = by (states v) e
     where
@@ -164,8 +164,8 @@ module _ (w : PlainWorld) (line l m n v : ℕ) where
       none (Err why) f = cc
       none (Ok other) f = cc
 
-      by : (o : Option Plain) → ask_if false (ask_told (call_at states v call.Ask o).1) ≡ Ok asks → false ≡ true
-      by o f = none (ask_told (call_at states v call.Ask o).1) f
+      by : (o : Option Plain) → ask_if false (ask_of_reply (call_at states v call.Ask o).1) ≡ Ok asks → false ≡ true
+      by o f = none (ask_of_reply (call_at states v call.Ask o).1) f
 
 -- a node that the line names is not made
 pub unmade_producer : (kept : Kept) (w : PlainWorld) (line l m n v : ℕ) → position (λ node. node_number node == m) kept.nodes ≡ None → WorldStands kept w
@@ -238,7 +238,7 @@ module _ (kept : Kept) (w : PlainWorld) (line l m n v at m_at : ℕ) (old new : 
   none_off (Some x) e = cc
 
   own_up : (x : PlainNode) → NodeMatch old x → x.off ≡ None
-  own_up x same = none_off x.off (sym (off_is old x same) ∙ sym (off_at kept w n at old old placed is stands) ∙ (not_off (is_off (w.nodes m)) (is_off (w.nodes n)) up_ends).1)
+  own_up x same = none_off x.off (sym (off_as_plain old x same) ∙ sym (off_at kept w n at old old placed is stands) ∙ (not_off (is_off (w.nodes m)) (is_off (w.nodes n)) up_ends).1)
 
   m_made : is_some (w.nodes m) ≡ true
   m_made =
@@ -248,7 +248,7 @@ module _ (kept : Kept) (w : PlainWorld) (line l m n v at m_at : ℕ) (old new : 
 
   module _ (plain : PlainNode) (there : w.nodes n ≡ Some plain) (alike : NodeMatch old plain) where
     abbrev said : Result StreamAsk Cause
-    said = (after (dial_asked v free) plain.vbs).1
+    said = (after (dial_requested v free) plain.vbs).1
 
     row : DialRow w line l m n v said (link_step w line l m n v)
     row = subst (DialRow w line l m n v said) (sym (made_both w line l m n v plain m_made there up_ends)) (said_row w line l m n v plain.vbs free taken)
@@ -304,7 +304,7 @@ module _ (kept : Kept) (w : PlainWorld) (line l m n v at m_at : ℕ) (old new : 
       m_up : (x : PlainNode) → NodeMatch m_old x → x.off ≡ None
       m_up x same =
           let (m_plain, m_there, m_alike) = plain_at nodes' m m_at m_old m_old m_placed' m_old_is w between in
-          none_off x.off (sym (off_is m_old x same) ∙ off_is m_old m_plain m_alike ∙ sym (ap is_off m_there) ∙ (not_off (is_off (w.nodes m)) (is_off (w.nodes n)) up_ends).0)
+          none_off x.off (sym (off_as_plain m_old x same) ∙ off_as_plain m_old m_plain m_alike ∙ sym (ap is_off m_there) ∙ (not_off (is_off (w.nodes m)) (is_off (w.nodes n)) up_ends).0)
 
       m_number : node_number m_old ≡ m
       m_number = numbered nodes' m m_at m_old m_new m_placed' m_old_is
@@ -385,7 +385,7 @@ module _ (kept : Kept) (w : PlainWorld) (line l m n v at m_at : ℕ) (old new : 
   pub refused_link : (out.answer ≡ answer.Ok → ⊥) → WorldStands (record kept { nodes = nodes' }) (link_step w line l m n v).0 × (out_told out ≡ (link_step w line l m n v).1)
   refused_link not_ok =
       let (plain, there, alike) = plain_at kept.nodes n at old new placed is w stands.nodes in
-      by_refusal plain there alike (after (dial_asked v free) plain.vbs).1 refl not_ok
+      by_refusal plain there alike (after (dial_requested v free) plain.vbs).1 refl not_ok
 
   -- the link is there
   pub dialed_link : out.answer ≡ answer.Ok → (m_old m_new : ScriptNode) (key : ℕ) → m_old ≡ get_or nodes' m_at m_old → OpensPeer l line m_old key m_new → (up : List ℕ) → up ≡ out.out
@@ -393,4 +393,4 @@ module _ (kept : Kept) (w : PlainWorld) (line l m n v at m_at : ℕ) (old new : 
       × (out_told out ≡ (link_step w line l m n v).1)
   dialed_link is_ok m_old m_new key m_old_is opens up up_is =
       let (plain, there, alike) = plain_at kept.nodes n at old new placed is w stands.nodes in
-      by_answer plain there alike (after (dial_asked v free) plain.vbs).1 refl is_ok m_old m_new key m_old_is opens up up_is
+      by_answer plain there alike (after (dial_requested v free) plain.vbs).1 refl is_ok m_old m_new key m_old_is opens up up_is

@@ -183,9 +183,9 @@ open_at kept w l at link placed is stands =
     (p, ap (λ k. row_at link_number k w.links) (sym number) ∙ found ends kept.links w.links at link lt stands.links, sym one.node ∙ sym (ap (λ (x : Link). x.node) is))
 
 -- a client connection of a node is open
-pub client_open : (kept : Kept) (w : PlainWorld) (n at c : ℕ) (old : ScriptNode) → position (λ node. node_number node == n) kept.nodes ≡ Some at → old ≡ get_or kept.nodes at old → WorldStands kept w
+pub client_is_open : (kept : Kept) (w : PlainWorld) (n at c : ℕ) (old : ScriptNode) → position (λ node. node_number node == n) kept.nodes ≡ Some at → old ≡ get_or kept.nodes at old → WorldStands kept w
     → is_some (value_at old.clients c) ≡ has_client c (w.nodes n)
-client_open kept w n at c old placed is stands =
+client_is_open kept w n at c old placed is stands =
     let (plain, there, alike) = plain_at kept.nodes n at old old placed is w stands.nodes in
     by old.node.conns (value_at old.clients c) (plain.clients c) (alike.clients.each c) ∙ sym (ap (has_client c) there)
   where

@@ -9,7 +9,7 @@ use Rattle.vbucket.specs.Rows.{row_put}
 use Rattle.dcp_consumer.specs.declared.handshake.Dialed.{Dialed}
 use Rattle.dcp_consumer.specs.Machine.{is_streaming, may_acknowledge}
 use Rattle.node_core.specs.declared.out.NodeOut.{NodeOut}
-use Rattle.node_core.specs.Dials.{PlainDial, DialTold, acknowledged_told, due_asked, due_met, dial_due, saved_told, untold, due_told as told_due}
+use Rattle.node_core.specs.Dials.{PlainDial, DialResult, acknowledged_result, due_requested, due_met, dial_due, saved_of_reply, untold, due_of_reply as told_due}
 use Rattle.node_core.specs.Outcomes.{live_dial}
 use Rattle.node_core.specs.Outs.{done_out}
 use Rattle.node_world.specs.declared.link.Link.{Link}
@@ -31,15 +31,15 @@ use Rattle.node_world.proofs.Turning.{own_feeds, own_is, own_within}
 
 -- ---- a dial that acknowledges is still that of its link
 
-met_dialed : (s : DialTold) (seq : ℕ) (states : States) → (after (due_met s seq) states).1.dial.consumer.dialed ≡ s.dial.consumer.dialed
+met_dialed : (s : DialResult) (seq : ℕ) (states : States) → (after (due_met s seq) states).1.dial.consumer.dialed ≡ s.dial.consumer.dialed
 met_dialed s seq states = by (may_acknowledge seq s.dial.consumer)
   where
-    by : (b : Bool) → (after (if b then Call s.dial.consumer.dialed.vb call.Stat (λ reply. Done (acknowledged_told seq s (saved_told reply))) else Done s) states).1.dial.consumer.dialed ≡ s.dial.consumer.dialed
+    by : (b : Bool) → (after (if b then Call s.dial.consumer.dialed.vb call.Stat (λ reply. Done (acknowledged_result seq s (saved_of_reply reply))) else Done s) states).1.dial.consumer.dialed ≡ s.dial.consumer.dialed
     by true = refl
     by false = refl
 
 due_dialed : (dial : PlainDial) (states : States) → (after (dial_due dial) states).1.dial.consumer.dialed ≡ dial.consumer.dialed
-unfolding due_asked
+unfolding due_requested
 due_dialed dial states = by (is_streaming dial.consumer.handshake)
   where
     by : (b : Bool)
@@ -109,7 +109,7 @@ module _ (kept : Kept) (w : PlainWorld) (n v at owner : ℕ) (link : Link) (old 
   has_dial : dial_under old v ≡ Some (live_dial (dial_of p))
   has_dial = sym (dial_here kept.nodes n owner old new placed old_is v) ∙ (λ j. ends.dials (sym same.0 j) (sym same.1 j)) ∙ p_stands.consumer
 
-  abbrev said : PlainNode → States × DialTold
+  abbrev said : PlainNode → States × DialResult
   said node = after (dial_due (dial_of p)) node.vbs
 
   -- the link with what it acknowledged on its way
@@ -120,7 +120,7 @@ module _ (kept : Kept) (w : PlainWorld) (n v at owner : ℕ) (link : Link) (old 
   after_due = record { nodes = nodes'; ids = kept.ids; links = set kept.links at link' }
 
   module _ (plain : PlainNode) (there : w.nodes n ≡ Some plain) (alike : NodeMatch old plain) where
-    abbrev came : DialTold
+    abbrev came : DialResult
     came = (said plain).1
 
     went : NodeMatch new (with_states plain (said plain).0) × (out ≡ done_out came.events came.out) × PutsDial old new v (Some (live_dial came.dial))

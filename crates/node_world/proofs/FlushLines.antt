@@ -14,27 +14,27 @@ use Rattle.vb_journal.specs.UnderArms.{burnt_noting}
 use Rattle.vb_calls.specs.declared.calls.VbCall.TheVariants as call
 use Rattle.vb_calls.specs.declared.journals.Flushed.{Flushed}
 use Rattle.vb_calls.specs.declared.journals.Flushed.TheVariants as flushed
-use Rattle.vb_calls.specs.Flushes.{appended_job, batch_told, finish_job, flush_job, part_job, save_job, take_job, taken_job, took}
+use Rattle.vb_calls.specs.Flushes.{appended_job, batch_of_reply, finish_job, flush_job, part_job, save_job, take_job, taken_job, took}
 use Rattle.vb_calls.specs.Jobs.{Job, Ended, bind_job, after_job}
 use Rattle.vb_calls.specs.Plain.{plain_step}
 use Rattle.vb_calls.specs.Shelves.{Append, Flush, Idle, Keep, Look, Out, Shelf, Shelves, Stood, Written, after_fate, ask_at, fate_of, with_shelf_at}
 use Rattle.vb_calls.specs.State.{Plain}
 use Rattle.vb_calls.specs.States.{States, states_step, call_at, with_vb_at}
-use Rattle.node_core.specs.Flushing.{FlushTold, flush_at, flush_if, flush_told, saved_told}
+use Rattle.node_core.specs.Flushing.{FlushResult, flush_at, flush_if, flush_result, saved_of_reply}
 use Rattle.node_world.specs.Nodes.{PlainNode, flush_line, with_kept, written}
 use Rattle.node_world.proofs.AfterPosts.{posts_arm, posts_shelves}
 use Rattle.node_world.proofs.Shelved.{shelf_here}
 
 -- what steps come to
-abbrev pub steps_of : ℕ → ℕ → States → Shelves → Job Flushed → (States × Shelves) × FlushTold
-steps_of n v states shelves job = after_job (bind_job job (λ came. Ended (flush_told n v came))) states shelves
+abbrev pub steps_of : ℕ → ℕ → States → Shelves → Job Flushed → (States × Shelves) × FlushResult
+steps_of n v states shelves job = after_job (bind_job job (λ came. Ended (flush_result n v came))) states shelves
 
 -- the answer
 abbrev pub answer_of : ℕ → ℕ → States → Shelves → Job Flushed → Answer
 answer_of n v states shelves job = (steps_of n v states shelves job).1.answer
 
 -- the journals that a step left stay where outcomes are told behind it
-pub shelves_left : (node : PlainNode) (came : (States × Shelves) × FlushTold) → (written node came).0.shelves ≡ came.0.1
+pub shelves_left : (node : PlainNode) (came : (States × Shelves) × FlushResult) → (written node came).0.shelves ≡ came.0.1
 shelves_left node came = posts_shelves came.1.resolved (with_kept node came.0)
 
 -- where there is no such vBucket, its journal stays
@@ -64,7 +64,7 @@ module _ (n v : ℕ) where
       ∙ ap (λ (o : Option Shelf). steps_of n v (with_vb_at node.vbs v (plain_step vb call.Log).0) (ask_at node.shelves v Look o).0 (part_job v p (ask_at node.shelves v Look o).1)) kept
 
   pub flush_is : (p : FlushPart) (node : PlainNode) (vb : Plain) (shelf : Shelf) → node.vbs v ≡ Some vb → node.shelves v ≡ Some shelf → (flush_line n v p node).1.answer ≡ part_answer p node vb shelf
-  flush_is p node vb shelf here kept = ap (λ (came : (States × Shelves) × FlushTold). came.1.answer) (flushed_as p node vb shelf here kept)
+  flush_is p node vb shelf here kept = ap (λ (came : (States × Shelves) × FlushResult). came.1.answer) (flushed_as p node vb shelf here kept)
 
   module _ (node : PlainNode) (vb : Plain) (shelf : Shelf) where
     abbrev states : States
@@ -88,7 +88,7 @@ module _ (n v : ℕ) where
     pub taken_count : shelf.flush ≡ Idle → (count : ℕ) × (part_answer part.Take node vb shelf ≡ line.Number count)
     taken_count idle =
         subst (λ f. (count : ℕ) × (answer_of n v states shelves (take_job v f) ≡ line.Number count)) (sym idle)
-        (taken_by (states_step states v call.FlushTake).0 (batch_told (states_step states v call.FlushTake).1))
+        (taken_by (states_step states v call.FlushTake).0 (batch_of_reply (states_step states v call.FlushTake).1))
 
     pub untaken_refused : ((batch : Batch) → shelf.flush ≢ Out batch) → part_answer part.Save node vb shelf ≡ line.No cause.NothingTaken
     untaken_refused = by shelf.flush
@@ -100,7 +100,7 @@ module _ (n v : ℕ) where
 
     -- nothing is appended then
     pub untaken_kept : ((batch : Batch) → shelf.flush ≢ Out batch) → node.vbs v ≡ Some vb → node.shelves v ≡ Some shelf → (flush_line n v part.Save node).0.shelves v ≡ Some shelf
-    untaken_kept ne here kept = ap (λ (s : Shelves). s v) (shelves_left node (after_job (flush_at n v part.Save) node.vbs node.shelves)) ∙ ap (λ (came : (States × Shelves) × FlushTold). came.0.1 v) (flushed_as part.Save node vb shelf here kept) ∙ by shelf.flush ne
+    untaken_kept ne here kept = ap (λ (s : Shelves). s v) (shelves_left node (after_job (flush_at n v part.Save) node.vbs node.shelves)) ∙ ap (λ (came : (States × Shelves) × FlushResult). came.0.1 v) (flushed_as part.Save node vb shelf here kept) ∙ by shelf.flush ne
       where
         by : (f : Flush) → ((batch : Batch) → f ≢ Out batch) → (steps_of n v states shelves (save_job v f)).0.1 v ≡ Some shelf
         by Idle ne = shelf_here node.shelves v shelf
@@ -113,7 +113,7 @@ module _ (n v : ℕ) where
         let what : Record = noted.Rows batch in
         let y : Shelf = after_fate shelf what Stood in
         let T : Shelves = with_shelf_at shelves v y in
-        ap (λ (s : Shelves). fuse_at s v) (shelves_left node (after_job (flush_at n v part.Save) node.vbs node.shelves)) ∙ ap (λ (came : (States × Shelves) × FlushTold). fuse_at came.0.1 v) (flushed_as part.Save node vb shelf here kept)
+        ap (λ (s : Shelves). fuse_at s v) (shelves_left node (after_job (flush_at n v part.Save) node.vbs node.shelves)) ∙ ap (λ (came : (States × Shelves) × FlushResult). fuse_at came.0.1 v) (flushed_as part.Save node vb shelf here kept)
         ∙ ap (λ f. fuse_at (steps_of n v states shelves (save_job v f)).0.1 v) is
         ∙ ap (λ (o : Option Shelf). fuse_at (steps_of n v states (ask_at shelves v (Append what) o).0 (appended_job v batch (Ended flushed.Saved) (ask_at shelves v (Append what) o).1)).0.1 v) (shelf_here node.shelves v shelf)
         ∙ ap (λ fate. fuse_at (steps_of n v states (with_shelf_at shelves v (after_fate shelf what fate)) (appended_job v batch (Ended flushed.Saved) fate)).0.1 v) sound
@@ -136,4 +136,4 @@ module _ (n v : ℕ) where
         by (Written seq) ne = absurd (ne seq refl)
 
     pub done_count : (seq : ℕ) → shelf.flush ≡ Written seq → (count : ℕ) × (part_answer part.Done node vb shelf ≡ line.Number count)
-    done_count seq is = (saved_told (states_step states v (call.FlushDone seq)).1, ap (λ f. answer_of n v states shelves (finish_job v f)) is)
+    done_count seq is = (saved_of_reply (states_step states v (call.FlushDone seq)).1, ap (λ f. answer_of n v states shelves (finish_job v f)) is)

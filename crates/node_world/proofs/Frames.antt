@@ -7,10 +7,10 @@ use Rattle.vb_calls.specs.Programs.{after}
 use Rattle.vb_calls.specs.States.{States}
 use Rattle.node_core.specs.declared.out.NodeOut.{NodeOut}
 use Rattle.node_core.specs.Outs.{done_out}
-use Rattle.node_core.specs.Peers.{KeptPeer, PlainPeer, PeerTold, peer_answered, peer_heard}
+use Rattle.node_core.specs.Peers.{KeptPeer, PlainPeer, PeerResult, peer_answered, peer_heard}
 use Rattle.node_world.specs.declared.script_node.ScriptNode.{ScriptNode}
 use Rattle.node_world.specs.Ends.{AnswersPeer, FeedsPeer, KeepsEnds, PostsAll, PutsPeer, peer_under}
-use Rattle.node_world.specs.Links.{frames_up, peer_asked, peer_given, untold_peer}
+use Rattle.node_world.specs.Links.{frames_up, frame_posted, peer_given, untold_peer}
 use Rattle.node_world.specs.Nodes.{PlainNode, all_posted, with_states}
 use Rattle.node_world.specs.Stands.{NodeMatch, live_peer}
 use Rattle.node_world.proofs.Peers.{AnswersFrame, HearsPeer}
@@ -38,8 +38,8 @@ pub answers_peer : (key : ℕ) (f : Frame) (old mid new : ScriptNode) (out came 
     → came ≡ record out { events = lines; resolved = [] } → AnswersPeer key f old came new
 answers_peer key f old mid new out came lines first (more, is, posts) says plain peer stands has =
     let (alike, said, puts) = first plain peer stands has in
-    let x : States × PeerTold = after (peer_answered f peer) plain.vbs in
-    let told : PeerTold = x.1 in
+    let x : States × PeerResult = after (peer_answered f peer) plain.vbs in
+    let told : PeerResult = x.1 in
     let node : PlainNode = with_states plain x.0 in
     let (after_all, lines_are, keeps) = subst (λ rs. NodeMatch new (all_posted rs node).0 × (more ≡ (all_posted rs node).1) × KeepsEnds mid new) (ap (λ (o : NodeOut). o.resolved) said) (posts node alike) in
     let all : List Event = (all_posted told.resolved node).1 in (
@@ -78,7 +78,7 @@ module _ (frames : List Frame) (key : ℕ) (piece : List ℕ) (old : ScriptNode)
   one_up i d lt events bytes self self' out so_far went plain peer stands has =
       let s = so_far plain peer stands has in
       let f : Frame = get_or frames i d in
-      let x : PlainNode × PeerTold = peer_asked f s.at s.now in
+      let x : PlainNode × PeerResult = frame_posted f s.at s.now in
       let (alike, said, puts) = went s.now s.at s.stands s.puts.changed in
       record {
         now = x.0;
@@ -93,6 +93,6 @@ module _ (frames : List Frame) (key : ℕ) (piece : List ℕ) (old : ScriptNode)
   pub all_up : (i : ℕ) (events : List Event) (bytes : List ℕ) (self : ScriptNode) (out : NodeOut) → drop i frames ≡ [] → FramesSoFar frames key piece old i events bytes self → out ≡ done_out events bytes → FeedsPeer key piece old out self
   all_up i events bytes self out none so_far says plain peer stands has =
       let s = so_far plain peer stands has in
-      let last : PlainNode × PeerTold = (s.now, record { peer = s.at; events = events; out = bytes; resolved = [] }) in
+      let last : PlainNode × PeerResult = (s.now, record { peer = s.at; events = events; out = bytes; resolved = [] }) in
       let all : peer_given piece peer plain ≡ last = s.rest ∙ ap (λ fs. frames_up fs last) none in
-      subst (λ (x : PlainNode × PeerTold). NodeMatch self x.0 × (out ≡ done_out x.1.events x.1.out) × PutsPeer old self key (Some (live_peer x.1.peer))) (sym all) (s.stands, says, s.puts)
+      subst (λ (x : PlainNode × PeerResult). NodeMatch self x.0 × (out ≡ done_out x.1.events x.1.out) × PutsPeer old self key (Some (live_peer x.1.peer))) (sym all) (s.stands, says, s.puts)

@@ -3,7 +3,7 @@ use Rattle.std.proofs.Common.{◌≡◌, ℕ, List, [], ◌∷◌, ◌++◌, app
 use Rattle.std.specs.Prelude.{if◌then◌else◌}
 use Rattle.std.proofs.lemmas.Bool.{eq-eqb}
 use Rattle.client_session.specs.declared.session.Awaited.{Awaited}
-use Rattle.client_session.specs.Serving.{PlainSession, Served, frame_served, outcome_by, outcome_served, outcome_told, request_served, served, told, turns_served, with_bytes}
+use Rattle.client_session.specs.Serving.{PlainSession, Served, frame_handled, outcome_by, outcome_handled, outcome_answered, request_handled, served, told, turns_handled, with_bytes}
 use Rattle.client_session.proofs.Rows.{asks_so}
 use Rattle.client_session.proofs.Turns.{turns_frame}
 use Rattle.mcbp_frame.proofs.Pieces.{fault_stays}
@@ -26,7 +26,7 @@ use Rattle.vb_calls.specs.State.{Plain}
 use Rattle.vb_calls.specs.States.{States, call_at}
 use Rattle.vb_calls.proofs.Readings.{after_bind}
 use Rattle.vbucket.specs.Rows.{row_at}
-use Rattle.node_core.specs.Peers.{PeerTold, PlainPeer, peer_answered, peer_frames, peer_heard}
+use Rattle.node_core.specs.Peers.{PeerResult, PlainPeer, peer_answered, peer_frames, peer_heard}
 use Rattle.node_world.specs.FramesUp.{HoldsOne, PassesFaults, PostsBetween, ServesBehind, piece_up}
 use Rattle.node_world.specs.Links.{PlainLink, frame_up, frames_up, link_number, peer_of, producer_node, untold_peer, up_at}
 use Rattle.node_world.specs.Nodes.{PlainNode, all_posted, posted, refusal, with_states}
@@ -37,14 +37,14 @@ use Rattle.node_world.proofs.Clocked.{still}
 use Rattle.node_world.proofs.OutcomesTold.{frames_grow}
 use Rattle.node_world.proofs.WhoAwaits.{told_is}
 
-module _ (w : PlainWorld) (l : ℕ) (link : PlainLink) (producer : PlainNode) (open_link : row_at link_number l w.links ≡ Some link) (from : w.nodes (producer_node link) ≡ Some producer) (wanted : ℕ) where
+module _ (w : PlainWorld) (l : ℕ) (link : PlainLink) (producer : PlainNode) (add_link : row_at link_number l w.links ≡ Some link) (from : w.nodes (producer_node link) ≡ Some producer) (wanted : ℕ) where
   abbrev piece : List ℕ
   piece = piece_up wanted link
 
   abbrev peer : PlainPeer
   peer = peer_heard piece (peer_of link)
 
-  abbrev begun : PlainNode × PeerTold
+  abbrev begun : PlainNode × PeerResult
   begun = (producer, untold_peer peer)
 
   -- what frames come to
@@ -52,24 +52,24 @@ module _ (w : PlainWorld) (l : ℕ) (link : PlainLink) (producer : PlainNode) (o
   carried = with_link link (with_node_at w (producer_node link) (up_at wanted link producer).0, (up_at wanted link producer).1)
 
   up_is : on_link w l producer_node (up_at wanted) ≡ carried
-  up_is = ap (link_outcome w l producer_node (up_at wanted)) open_link ∙ ap (λ o. with_link link (node_outcome w (producer_node link) (Some link, refusal cause.UnknownNode) o (up_at wanted link))) from
+  up_is = ap (link_outcome w l producer_node (up_at wanted)) add_link ∙ ap (λ o. with_link link (node_outcome w (producer_node link) (Some link, refusal cause.UnknownNode) o (up_at wanted link))) from
 
   -- ---- two frames
 
-  module _ (f g : Frame) (more : List Frame) (first next : States × PeerTold) (frames : peer_frames piece (peer_of link) ≡ f ∷ g ∷ more) where
-    abbrev posts : States × PeerTold → PlainNode × List Event
+  module _ (f g : Frame) (more : List Frame) (first next : States × PeerResult) (frames : peer_frames piece (peer_of link) ≡ f ∷ g ∷ more) where
+    abbrev posts : States × PeerResult → PlainNode × List Event
     posts x = all_posted x.1.resolved (with_states producer x.0)
 
-    abbrev one : States × PeerTold → List Event
+    abbrev one : States × PeerResult → List Event
     one x = x.1.events ++ (posts x).1
 
-    abbrev behind : States × PeerTold → States × PeerTold
+    abbrev behind : States × PeerResult → States × PeerResult
     behind x = after (peer_answered g x.1.peer) (posts x).0.vbs
 
-    abbrev later : States × PeerTold → States × PeerTold → List Event
+    abbrev later : States × PeerResult → States × PeerResult → List Event
     later x y = (all_posted y.1.resolved (with_states (posts x).0 y.0)).1
 
-    abbrev two : States × PeerTold → States × PeerTold → List Event
+    abbrev two : States × PeerResult → States × PeerResult → List Event
     two x y = one x ++ (y.1.events ++ later x y)
 
     second : after (peer_answered f peer) producer.vbs ≡ first → behind first ≡ next → (rest : List Event) × ((on_link w l producer_node (up_at wanted)).1.events ≡ one first ++ (next.1.events ++ rest))
@@ -77,7 +77,7 @@ module _ (w : PlainWorld) (l : ℕ) (link : PlainLink) (producer : PlainNode) (o
         let (rest, grows) = frames_grow more (frame_up g (frame_up f begun)) in (
           later first next ++ rest,
           ap (λ (o : Outcome). o.1.events) up_is ∙ ap (λ fs. (frames_up fs begun).1.events) frames
-              ∙ grows ∙ ap (λ (x : States × PeerTold). two x (behind x) ++ rest) is ∙ ap (λ (y : States × PeerTold). two first y ++ rest) goes
+              ∙ grows ∙ ap (λ (x : States × PeerResult). two x (behind x) ++ rest) is ∙ ap (λ (y : States × PeerResult). two first y ++ rest) goes
               ∙ append_assoc (one first) (next.1.events ++ later first next) rest ∙ ap (λ xs. one first ++ xs) (append_assoc next.1.events (later first next) rest),
         )
 
@@ -99,15 +99,15 @@ module _ (w : PlainWorld) (l : ℕ) (link : PlainLink) (producer : PlainNode) (o
     nothing_down = ap (λ fs. link.down ++ (frames_up fs begun).1.out) none ∙ append-nil link.down
 
 pub posts_between : (w : PlainWorld) (l : ℕ) (link : PlainLink) (producer : PlainNode) → row_at link_number l w.links ≡ Some link → w.nodes (producer_node link) ≡ Some producer → PostsBetween w l link producer
-posts_between w l link producer open_link from = record {
-  second = λ number wanted f g more first next frames is goes. second w l link producer open_link from wanted f g more first next frames is goes;
+posts_between w l link producer add_link from = record {
+  second = λ number wanted f g more first next frames is goes. second w l link producer add_link from wanted f g more first next frames is goes;
 }
 
 pub passes_faults : (w : PlainWorld) (l : ℕ) (link : PlainLink) (producer : PlainNode) → row_at link_number l w.links ≡ Some link → w.nodes (producer_node link) ≡ Some producer → PassesFaults w l link producer
-passes_faults w l link producer open_link from = record {
-  silent = λ number wanted fault is. silent w l link producer open_link from wanted fault is;
-  node = λ number wanted fault is. same w l link producer open_link from wanted fault is;
-  down = λ number wanted fault is. (_, ap (λ (o : Outcome). o.0.links) (up_is w l link producer open_link from wanted), nothing_down w l link producer open_link from wanted fault is);
+passes_faults w l link producer add_link from = record {
+  silent = λ number wanted fault is. silent w l link producer add_link from wanted fault is;
+  node = λ number wanted fault is. same w l link producer add_link from wanted fault is;
+  down = λ number wanted fault is. (_, ap (λ (o : Outcome). o.0.links) (up_is w l link producer add_link from wanted), nothing_down w l link producer add_link from wanted fault is);
 }
 
 -- ---- a request behind an outcome
@@ -125,7 +125,7 @@ module _ (r : Resolved) (c : ℕ) (session : PlainSession) (a : Awaited) (node :
 
   -- the connection once it was told the outcome, and behind its frame
   abbrev front : Served
-  front = outcome_told a r.how (served session [])
+  front = outcome_answered a r.how (served session [])
 
   abbrev past : Served
   past = with_bytes (drop (frame_len f) front.session.reader) front
@@ -133,27 +133,27 @@ module _ (r : Resolved) (c : ℕ) (session : PlainSession) (a : Awaited) (node :
   abbrev came : States × Option VbReply
   came = call_at node.vbs v made (Some vb)
 
-  whole : outcome_served clock r (served session []) ≡ bind (frame_served clock f past) (turns_served clock)
-  unfolding outcome_served
+  whole : outcome_handled clock r (served session []) ≡ bind (frame_handled clock f past) (turns_handled clock)
+  unfolding outcome_handled
   whole =
       ap (outcome_by clock r (served session [])) alone.awaited
-      ∙ ap (λ b. if b then turns_served clock front else Done (served session [])) (eq-eqb a.waiter r.waiter alone.mine) ∙ turns_frame clock front f refl holds.whole
+      ∙ ap (λ b. if b then turns_handled clock front else Done (served session [])) (eq-eqb a.waiter r.waiter alone.mine) ∙ turns_frame clock front f refl holds.whole
 
-  stores : request_served clock f (Ok (asks.Write write None)) past ≡ Call v made (λ reply. Done (told f past reply))
-  unfolding request_served
+  stores : request_handled clock f (Ok (asks.Write write None)) past ≡ Call v made (λ reply. Done (told f past reply))
+  unfolding request_handled
   stores = refl
 
   told_reads : (reply : Option VbReply) → (told f past reply).session.reader ≡ past.session.reader
   unfolding told
   told_reads reply = refl
 
-  run : (after (outcome_served clock r (served session [])) node.vbs).0 ≡ came.0
+  run : (after (outcome_handled clock r (served session [])) node.vbs).0 ≡ came.0
   run =
-      let prog : Prog Served = frame_served clock f past in
+      let prog : Prog Served = frame_handled clock f past in
       let one_call : after prog node.vbs ≡ (came.0, told f past came.1) =
       ap (λ p. after p node.vbs) (asks_so clock f past (Ok (asks.Write write None)) holds.asks is ∙ stores) ∙ ap (λ o. let x = call_at node.vbs v made o in (x.0, told f past x.1)) here in
-      ap (λ p. (after p node.vbs).0) whole ∙ ap (λ (x : States × Served). x.0) (after_bind prog (turns_served clock) node.vbs)
-      ∙ ap (λ (x : States × Served). (after (turns_served clock x.1) x.0).0) one_call ∙ still clock (told f past came.1) came.0 (told_reads came.1 ∙ holds.alone)
+      ap (λ p. (after p node.vbs).0) whole ∙ ap (λ (x : States × Served). x.0) (after_bind prog (turns_handled clock) node.vbs)
+      ∙ ap (λ (x : States × Served). (after (turns_handled clock x.1) x.0).0) one_call ∙ still clock (told f past came.1) came.0 (told_reads came.1 ∙ holds.alone)
 
   served_so : (posted r node).0.vbs v ≡ Some (plain_step vb made).0
   served_so =

@@ -21,7 +21,7 @@ use Rattle.vb_events.specs.declared.event.Event.TheVariants as event
 use Rattle.vb_types.specs.declared.journal.FlushPart.TheVariants as part
 use Rattle.vb_types.specs.declared.role.Role.TheVariants as role
 use Rattle.vbucket.specs.Rows.{row_at}
-use Rattle.node_core.specs.Admin.{AdminTold}
+use Rattle.node_core.specs.Admin.{AdminResult}
 use Rattle.node_core.specs.declared.admin.AdminCall.{AdminCall}
 use Rattle.node_core.specs.declared.admin.AdminCall.TheVariants as admin
 use Rattle.node_world.specs.declared.arm.Fired.{Fired}
@@ -32,11 +32,11 @@ use Rattle.node_world.specs.Causes.{IsGiven}
 use Rattle.node_world.specs.Cuts.{cut_off, own_link, unlinked}
 use Rattle.node_world.specs.Dues.{due_at, due_in, due_of, is_counted}
 use Rattle.node_world.specs.GivenIds.{GivesByLines, GivesNone, TellsBranch}
-use Rattle.node_world.specs.Links.{PlainLink, LinkTold, consumer_node, link_number, producer_node, pump_at, up_at}
+use Rattle.node_world.specs.Links.{PlainLink, LinkResult, consumer_node, link_number, producer_node, pump_at, up_at}
 use Rattle.node_world.specs.Nodes.{PlainNode, arm_at, chain_line, clock_at, done, empty_node, first_cause, flush_line, if_up, refusal, refused_or, replica_at, save_line, tick_line, vb_at}
 use Rattle.node_world.specs.Power.{after_broken, after_fire, all_cut, all_unlinked, crash_causes, down_lines, dropped, is_broken_answer, start_at, start_causes, stopped_node, touches, with_arm}
 use Rattle.node_world.specs.Turns.{admin_line, no_node, posted_at, posted_in, promote_causes, role_called, role_outcome, turn_causes, turned, turned_if, with_ended}
-use Rattle.node_world.specs.World.{ask_in, branch_told, client_verb_at, cut_outcome, down_in, down_outcome, link_causes, link_outcome, link_verb_step, node_causes, node_verb_step, on_link, relinked, vb_verb_step, verb_step, with_branches, with_dialed, world_step}
+use Rattle.node_world.specs.World.{ask_in, branch_of_line, client_verb_at, cut_outcome, down_in, down_outcome, link_causes, link_outcome, link_verb_step, node_causes, node_verb_step, on_link, relinked, vb_verb_step, verb_step, with_branches, with_dialed, world_step}
 use Rattle.node_world.specs.Worlds.{PlainWorld, Outcome, arm_in, node_if, node_outcome, on_made, on_node, with_links, with_node_at}
 use Rattle.node_world.proofs.OnLinks.{closed_uuids}
 use Rattle.node_world.proofs.OnNodes.{outcome_uuids}
@@ -96,7 +96,7 @@ post_ids n rs came = by (came.0.nodes n)
 role_ids : (w : PlainWorld) (n v : ℕ) (asked : AdminCall) → (role_outcome n v asked w).0.uuids ≡ w.uuids
 role_ids w n v asked = by x.1.ended
   where
-    x : PlainWorld × AdminTold
+    x : PlainWorld × AdminResult
     x = node_outcome w n no_node (w.nodes n) (role_called n v asked)
 
     by : (o : Option (List ℕ)) → (turned_if n v w o x).0.uuids ≡ w.uuids
@@ -143,13 +143,13 @@ relinked_ids : (link : PlainLink) (o : Option PlainLink) (w : PlainWorld) → (r
 relinked_ids link None w = closed_uuids link w
 relinked_ids link (Some now) w = refl
 
-link_ids : (w : PlainWorld) (l : ℕ) (end : PlainLink → ℕ) (f : PlainLink → PlainNode → PlainNode × LinkTold) → (on_link w l end f).0.uuids ≡ w.uuids
+link_ids : (w : PlainWorld) (l : ℕ) (end : PlainLink → ℕ) (f : PlainLink → PlainNode → PlainNode × LinkResult) → (on_link w l end f).0.uuids ≡ w.uuids
 link_ids w l end f = by (row_at link_number l w.links)
   where
     by : (o : Option PlainLink) → (link_outcome w l end f o).0.uuids ≡ w.uuids
     by None = refl
     by (Some link) =
-        let x : PlainWorld × LinkTold = node_outcome w (end link) (Some link, refusal cause.UnknownNode) (w.nodes (end link)) (f link) in
+        let x : PlainWorld × LinkResult = node_outcome w (end link) (Some link, refusal cause.UnknownNode) (w.nodes (end link)) (f link) in
         relinked_ids link x.1.0 x.0 ∙ outcome_uuids w (end link) (Some link, refusal cause.UnknownNode) (w.nodes (end link)) (f link)
 
 down_ids : (w : PlainWorld) (l wanted : ℕ) → (link_verb_step w l (link_verb.Down wanted)).0.uuids ≡ w.uuids
@@ -222,36 +222,36 @@ module _ (uuid : ℕ) where
       by true h = refl
       by false h = h
 
-  tells : (lines : List Event) → among (flat_map branch_told lines) ≡ true → TellsBranch uuid lines
+  tells : (lines : List Event) → among (flat_map branch_of_line lines) ≡ true → TellsBranch uuid lines
   tells [] h = cc
   tells (event.Branch n v id parent fork high ∷ lines) h = by (id == uuid) refl h (tells lines)
     where
-      by : (b : Bool) → (id == uuid) ≡ b → (b || among (flat_map branch_told lines)) ≡ true → (among (flat_map branch_told lines) ≡ true → TellsBranch uuid lines) → TellsBranch uuid (event.Branch n v id parent fork high ∷ lines)
+      by : (b : Bool) → (id == uuid) ≡ b → (b || among (flat_map branch_of_line lines)) ≡ true → (among (flat_map branch_of_line lines) ≡ true → TellsBranch uuid lines) → TellsBranch uuid (event.Branch n v id parent fork high ∷ lines)
       by true e h later = inl (eqb-true id uuid e)
       by false e h later = inr (later h)
   tells (other ∷ lines) h = tells lines h
 
-  is_told : (lines : List Event) → TellsBranch uuid lines → among (flat_map branch_told lines) ≡ true
+  is_told : (lines : List Event) → TellsBranch uuid lines → among (flat_map branch_of_line lines) ≡ true
   is_told [] h = absurd h
-  is_told (event.Branch n v id parent fork high ∷ lines) (inl e) = ap (λ b. b || among (flat_map branch_told lines)) (eq-eqb id uuid e)
+  is_told (event.Branch n v id parent fork high ∷ lines) (inl e) = ap (λ b. b || among (flat_map branch_of_line lines)) (eq-eqb id uuid e)
   is_told (event.Branch n v id parent fork high ∷ lines) (inr h) = by (id == uuid) (is_told lines h)
     where
-      by : (b : Bool) → among (flat_map branch_told lines) ≡ true → (b || among (flat_map branch_told lines)) ≡ true
+      by : (b : Bool) → among (flat_map branch_of_line lines) ≡ true → (b || among (flat_map branch_of_line lines)) ≡ true
       by true h = refl
       by false h = h
   is_told (other ∷ lines) h = is_told lines h
 
   module _ (w w' : PlainWorld) (same : w'.uuids ≡ w.uuids) (lines : List Event) where
-    there : (among w'.uuids ≡ true) ⊎ (among (flat_map branch_told lines) ≡ true) → IsGiven w uuid ⊎ TellsBranch uuid lines
+    there : (among w'.uuids ≡ true) ⊎ (among (flat_map branch_of_line lines) ≡ true) → IsGiven w uuid ⊎ TellsBranch uuid lines
     there (inl h) = inl (subst (λ ids. among ids ≡ true) same h)
     there (inr h) = inr (tells lines h)
 
     back : IsGiven w uuid ⊎ TellsBranch uuid lines → IsGiven (with_branches lines w') uuid
-    back (inl h) = front w'.uuids (flat_map branch_told lines) (subst (λ ids. among ids ≡ true) (sym same) h)
-    back (inr h) = behind w'.uuids (flat_map branch_told lines) (is_told lines h)
+    back (inl h) = front w'.uuids (flat_map branch_of_line lines) (subst (λ ids. among ids ≡ true) (sym same) h)
+    back (inr h) = behind w'.uuids (flat_map branch_of_line lines) (is_told lines h)
 
     given : IsGiven (with_branches lines w') uuid ↔ (IsGiven w uuid ⊎ TellsBranch uuid lines)
-    given = (λ h. there (parts w'.uuids (flat_map branch_told lines) h), back)
+    given = (λ h. there (parts w'.uuids (flat_map branch_of_line lines) h), back)
 
 pub gives : (w : PlainWorld) (line : ScriptLine) → GivesByLines w line
 unfolding world_step

@@ -9,8 +9,8 @@ use Rattle.dcp_producer.specs.Ending.{ended_by}
 use Rattle.node_core.specs.Outcomes.{live_dial}
 use Rattle.node_core.specs.Peers.{KeptPeer}
 use Rattle.node_world.specs.declared.link.Link.{Link}
-use Rattle.node_world.specs.Cuts.{told_ended}
-use Rattle.node_world.specs.Ends.{KeepsOthers, SameKeys, peer_told}
+use Rattle.node_world.specs.Cuts.{link_ended}
+use Rattle.node_world.specs.Ends.{KeepsOthers, SameKeys, kept_peer_ended}
 use Rattle.node_world.specs.Links.{PlainLink, producer_node, peer_of, dial_of}
 use Rattle.node_world.specs.Pairing.{Pairs, Each}
 use Rattle.node_world.specs.Stands.{Ends, LinkStands, Apart, has_peer, has_dial, LinksStand, live_peer}
@@ -208,15 +208,15 @@ module _ (e e' : Ends) (links : List Link) (plain : List PlainLink) (x : Link) (
 
 -- the producers at a node were told which streams ended
 module _ (e e' : Ends) (links : List Link) (plain : List PlainLink) (n v : ℕ) (ids : List ℕ)
-    (peers : (m key : ℕ) → e'.peers m key ≡ (if m == n then option_map (peer_told v (Some ids)) (e.peers m key) else e.peers m key)) (dials : (m u : ℕ) → e'.dials m u ≡ e.dials m u) (h : LinksStand e links plain) where
-  told_one : (x : Link) (p : PlainLink) → LinkStands e x p → LinkStands e' x (told_ended n v ids p)
+    (peers : (m key : ℕ) → e'.peers m key ≡ (if m == n then option_map (kept_peer_ended v (Some ids)) (e.peers m key) else e.peers m key)) (dials : (m u : ℕ) → e'.dials m u ≡ e.dials m u) (h : LinksStand e links plain) where
+  told_one : (x : Link) (p : PlainLink) → LinkStands e x p → LinkStands e' x (link_ended n v ids p)
   told_one x p s = by (producer_node p == n) refl
     where
       same_test : (x.producer == n) ≡ (producer_node p == n)
       same_test = ap (λ m. m == n) s.producer
 
       told : Option KeptPeer → Option KeptPeer
-      told o = option_map (peer_told v (Some ids)) o
+      told o = option_map (kept_peer_ended v (Some ids)) o
 
       at : (b : Bool) → (producer_node p == n) ≡ b → e'.peers x.producer x.conn ≡ (if b then told (e.peers x.producer x.conn) else e.peers x.producer x.conn)
       at b t = peers x.producer x.conn ∙ ap (λ c. if c then told (e.peers x.producer x.conn) else e.peers x.producer x.conn) (same_test ∙ t)
@@ -234,15 +234,15 @@ module _ (e e' : Ends) (links : List Link) (plain : List PlainLink) (n v : ℕ) 
       }
       by false t = link_again e e' x p (at false t) (dials x.node x.vb) s
 
-  pub told_stand : LinksStand e' links (map (told_ended n v ids) plain)
+  pub told_stand : LinksStand e' links (map (link_ended n v ids) plain)
   told_stand = record {
-    each = pairs_map (LinkStands e) (LinkStands e') (told_ended n v ids) links plain told_one h.each;
+    each = pairs_map (LinkStands e) (LinkStands e') (link_ended n v ids) links plain told_one h.each;
     apart = h.apart;
     peers = λ m key has. h.peers m key (by m key (m == n) (e.peers m key) (ap is_some (sym (peers m key)) ∙ has));
     dials = λ m u has. h.dials m u (ap is_some (sym (dials m u)) ∙ has);
   }
     where
-      by : (m key : ℕ) (b : Bool) (o : Option KeptPeer) → is_some (if b then option_map (peer_told v (Some ids)) o else o) ≡ true → is_some o ≡ true
+      by : (m key : ℕ) (b : Bool) (o : Option KeptPeer) → is_some (if b then option_map (kept_peer_ended v (Some ids)) o else o) ≡ true → is_some o ≡ true
       by m key true None e = e
       by m key true (Some kept) e = refl
       by m key false o e = e

@@ -43,8 +43,8 @@ use Rattle.dcp_producer.specs.declared.halt.Halt.{Halt}
 use Rattle.dcp_producer.specs.declared.halt.NoSnapshot.{NoSnapshot}
 use Rattle.dcp_producer.specs.declared.halt.NoSnapshot.TheVariants as no_snapshot
 use Rattle.dcp_producer.specs.Producers.{PlainStream, Served, begun}
-use Rattle.dcp_producer.specs.Serving.{status_sent, open_refusal, opened_unless, controlled, controlled_as, stream_answered, stream_request, message_answered, row_answered, read_answered, frame_answered, counted_by, count_answered, count_asked, acknowledged}
-use Rattle.dcp_producer.specs.Pulling.{item_put, marker_put, halted_put, taken_put, place_asked, end_put, next_put, stream_put, frame_put, pulled, frames_put, place_halt, take_unless, snapshot_told, act_message}
+use Rattle.dcp_producer.specs.Serving.{status_sent, open_refusal, opened_unless, controlled, controlled_as, stream_answered, stream_request, message_answered, row_answered, read_answered, frame_answered, counted_by, count_answered, count_requested, acknowledged}
+use Rattle.dcp_producer.specs.Pulling.{item_put, marker_put, halted_put, taken_put, place_requested, end_put, next_put, stream_put, frame_put, pulled, frames_put, place_halt, take_unless, snapshot_of_reply, act_message}
 use Rattle.dcp_consumer.specs.declared.handshake.ConsumerStep.{ConsumerStep}
 use Rattle.dcp_consumer.specs.declared.handshake.ConsumerStep.TheVariants as step
 use Rattle.dcp_consumer.specs.declared.handshake.Dialed.{Dialed}
@@ -52,9 +52,9 @@ use Rattle.dcp_consumer.specs.declared.handshake.Handshake.{Handshake as Consume
 use Rattle.dcp_consumer.specs.declared.handshake.Handshake.TheVariants as shaken
 use Rattle.dcp_consumer.specs.declared.passive_stream.Passive.{Passive}
 use Rattle.dcp_consumer.specs.declared.passive_stream.Passive.TheVariants as passive
-use Rattle.dcp_consumer.specs.Machine.{over_why, ended_for, asked_again, again_by, consumer_step, is_streaming, may_acknowledge}
-use Rattle.node_core.specs.Dials.{PlainDial, DialTold, acknowledged_told, adopt_told, due_asked, due_met, due_told, dial_due, saved_told, untold, is_broken, is_over, with_line, over_for, granted_with, is_done, go_on_with, follower_ask, again_with, again_told, rolled_back, roll_back, taken_as, message_told, call_made, passive_made, step_made, frame_taken, frames_taken, with_left, fault_met, end_told, rest_met, bytes_taken, dial_fed}
-use Rattle.node_core.specs.Peers.{PlainPeer, PeerTold, PullTold, peer_told, peer_heard, peer_frames, peer_answered, pull_told, peer_pulled}
+use Rattle.dcp_consumer.specs.Machine.{over_why, ended_for, request_again, again_by, consumer_step, is_streaming, may_acknowledge}
+use Rattle.node_core.specs.Dials.{PlainDial, DialResult, acknowledged_result, adopt_result, due_requested, due_met, due_of_reply, dial_due, saved_of_reply, untold, is_broken, is_over, with_line, over_for, granted_with, is_done, go_on_with, follower_ask, again_with, again_result, rolled_back, roll_back, taken_as, message_result, call_made, passive_made, step_made, frame_taken, frames_taken, with_left, fault_met, with_end_line, rest_met, bytes_taken, dial_bytes}
+use Rattle.node_core.specs.Peers.{PlainPeer, PeerResult, PullResult, peer_result, peer_heard, peer_frames, peer_answered, pull_result, peer_pulled}
 use Rattle.node_world.specs.Links.{frame_up, frames_up, peer_given, untold_peer}
 use Rattle.node_world.specs.Nodes.{PlainNode}
 
@@ -99,7 +99,7 @@ module _ (desk : Desk) where
   count_at f member seq s None e = status_at f status.NotMyVbucket s e
   count_at f member seq s (Some reply) e = counted_at f member seq reply reply.answer s e
 
-  count_keeps : (f : Frame) (seq : ℕ) (s : Served) (o : Result ℕ Status) → At s → Keeps (count_asked f seq s o)
+  count_keeps : (f : Frame) (seq : ℕ) (s : Served) (o : Result ℕ Status) → At s → Keeps (count_requested f seq s o)
   count_keeps f seq s (Err st) e = status_at f st s e
   count_keeps f seq s (Ok member) e = (tt, λ reply formed. count_at f member seq s reply e)
 
@@ -155,10 +155,10 @@ module _ (desk : Desk) where
   taken_keeps s stream (Ok snapshot) e = e
 
   place_keeps : (s : Served) (stream : PlainStream) (o : Option NoSnapshot) → At s → Always AnyCall Turned (take_unless s stream o)
-  place_keeps s stream None e = (tt, λ reply formed. taken_keeps s stream (snapshot_told reply) e)
+  place_keeps s stream None e = (tt, λ reply formed. taken_keeps s stream (snapshot_of_reply reply) e)
   place_keeps s stream (Some none) e = halted_keeps s stream none e
 
-  more_keeps : (s : Served) (stream : PlainStream) (b : Bool) → At s → Always AnyCall Turned (if b then Done (More (end_put s stream)) else place_asked s stream)
+  more_keeps : (s : Served) (stream : PlainStream) (b : Bool) → At s → Always AnyCall Turned (if b then Done (More (end_put s stream)) else place_requested s stream)
   unfolding end_put
   more_keeps s stream true e = e
   more_keeps s stream false e = (tt, λ reply formed. place_keeps s stream (place_halt reply) e)
@@ -195,19 +195,19 @@ module _ (desk : Desk) where
 pub answered_desk : (f : Frame) (peer : PlainPeer) (states : States) → (after (peer_answered f peer) states).1.peer.producer.desk ≡ peer.producer.desk
 answered_desk f peer states =
     let desk = peer.producer.desk in
-    after_always AnyCall (λ (t : PeerTold). t.peer.producer.desk ≡ desk) (peer_answered f peer) states
-    (always_bind AnyReply AnyCall (At desk) (λ (t : PeerTold). t.peer.producer.desk ≡ desk) (frame_answered f (begun peer.producer)) (λ s. Done (peer_told peer.heard s))
+    after_always AnyCall (λ (t : PeerResult). t.peer.producer.desk ≡ desk) (peer_answered f peer) states
+    (always_bind AnyReply AnyCall (At desk) (λ (t : PeerResult). t.peer.producer.desk ≡ desk) (frame_answered f (begun peer.producer)) (λ s. Done (peer_result peer.heard s))
     (frame_keeps desk f (begun peer.producer) refl) (λ s e. e))
 
 pub pulled_desk : (frames : ℕ) (peer : PlainPeer) (states : States) → (after (peer_pulled frames peer) states).1.peer.producer.desk ≡ peer.producer.desk
 pulled_desk frames peer states =
     let desk = peer.producer.desk in
-    after_always AnyCall (λ (t : PullTold). t.peer.producer.desk ≡ desk) (peer_pulled frames peer) states
-    (always_bind AnyReply AnyCall (Halted desk) (λ (t : PullTold). t.peer.producer.desk ≡ desk) (frames_put frames (begun peer.producer)) (λ put. Done (pull_told peer.heard put))
+    after_always AnyCall (λ (t : PullResult). t.peer.producer.desk ≡ desk) (peer_pulled frames peer) states
+    (always_bind AnyReply AnyCall (Halted desk) (λ (t : PullResult). t.peer.producer.desk ≡ desk) (frames_put frames (begun peer.producer)) (λ put. Done (pull_result peer.heard put))
     (all_keep desk frames (begun peer.producer) refl) (λ put e. e))
 
 -- so it is after bytes of its peer, too
-frames_desk : (frames : List Frame) (came : PlainNode × PeerTold) → (frames_up frames came).1.peer.producer.desk ≡ came.1.peer.producer.desk
+frames_desk : (frames : List Frame) (came : PlainNode × PeerResult) → (frames_up frames came).1.peer.producer.desk ≡ came.1.peer.producer.desk
 frames_desk [] came = refl
 frames_desk (f ∷ frames) came = frames_desk frames (frame_up f came) ∙ answered_desk f came.1.peer came.0.vbs
 
@@ -225,99 +225,99 @@ any_job (Request v ask next) = (tt, λ got. any_job (next got))
 
 -- what a consumer dialed
 module _ (dialed : Dialed) where
-  abbrev Still : DialTold → Type 0
+  abbrev Still : DialResult → Type 0
   Still s = s.dial.consumer.dialed ≡ dialed
 
-  abbrev Stays : Prog DialTold → Type 0
+  abbrev Stays : Prog DialResult → Type 0
   Stays prog = Always AnyCall Still prog
 
-  abbrev Holds : Job DialTold → Type 0
+  abbrev Holds : Job DialResult → Type 0
   Holds job = AlwaysJob AnyReply AnyCall EachAsk Still job
 
-  lifted : (prog : Prog DialTold) → Stays prog → Holds (lift prog)
+  lifted : (prog : Prog DialResult) → Stays prog → Holds (lift prog)
   lifted prog stays = always_lift AnyReply AnyCall EachAsk Still prog stays
 
-  met_stays : (s : DialTold) (seq : ℕ) → Still s → Stays (due_met s seq)
+  met_stays : (s : DialResult) (seq : ℕ) → Still s → Stays (due_met s seq)
   met_stays s seq e = by (may_acknowledge seq s.dial.consumer)
     where
-      by : (b : Bool) → Stays (if b then Call s.dial.consumer.dialed.vb call.Stat (λ reply. Done (acknowledged_told seq s (saved_told reply))) else Done s)
+      by : (b : Bool) → Stays (if b then Call s.dial.consumer.dialed.vb call.Stat (λ reply. Done (acknowledged_result seq s (saved_of_reply reply))) else Done s)
       by true = (tt, λ reply formed. e)
       by false = e
 
   -- what is due is acknowledged
-  due_stays : (s : DialTold) → Still s → Stays (due_asked s)
-  unfolding due_asked
+  due_stays : (s : DialResult) → Still s → Stays (due_requested s)
+  unfolding due_requested
   due_stays s e = by (is_streaming s.dial.consumer.handshake)
     where
-      by : (b : Bool) → Stays (if b then Call s.dial.consumer.dialed.vb call.Due (λ reply. due_met s (due_told reply)) else Done s)
-      by true = (tt, λ reply formed. met_stays s (due_told reply) e)
+      by : (b : Bool) → Stays (if b then Call s.dial.consumer.dialed.vb call.Due (λ reply. due_met s (due_of_reply reply)) else Done s)
+      by true = (tt, λ reply formed. met_stays s (due_of_reply reply) e)
       by false = e
 
-  adopt_stays : (log : List LogEntry) (s : DialTold) → Still s → Stays (go_on_with log s)
+  adopt_stays : (log : List LogEntry) (s : DialResult) → Still s → Stays (go_on_with log s)
   unfolding go_on_with
-  adopt_stays log s e = (tt, λ reply formed. due_stays (adopt_told log s reply) (by (is_done reply)))
+  adopt_stays log s e = (tt, λ reply formed. due_stays (adopt_result log s reply) (by (is_done reply)))
     where
       by : (b : Bool) → Still (if b then granted_with log s else over_for reason.Protocol s)
       by true = e
       by false = e
 
-  again_stays : (h : ConsumerHandshake) (ask : StreamAsk) (s : DialTold) → Still s → Still (again_with s (again_by h ask s.dial.consumer))
+  again_stays : (h : ConsumerHandshake) (ask : StreamAsk) (s : DialResult) → Still s → Still (again_with s (again_by h ask s.dial.consumer))
   again_stays shaken.Asking ask s e = by (nat_lt s.dial.consumer.asked (2 ^ 32 - 1))
     where
-      by : (b : Bool) → Still (again_with s (if b then asked_again ask s.dial.consumer else (ended_for reason.Protocol s.dial.consumer, [])))
+      by : (b : Bool) → Still (again_with s (if b then request_again ask s.dial.consumer else (ended_for reason.Protocol s.dial.consumer, [])))
       by true = e
       by false = e
   again_stays other ask s e = e
 
-  asked_stays : (s : DialTold) (o : Option StreamAsk) → Still s → Still (again_told s o)
+  asked_stays : (s : DialResult) (o : Option StreamAsk) → Still s → Still (again_result s o)
   asked_stays s None e = e
   asked_stays s (Some ask) e = again_stays s.dial.consumer.handshake ask s e
 
-  back_stays : (point : ℕ) (s : DialTold) (r : Rolled) → Still s → Stays (rolled_back point s r)
+  back_stays : (point : ℕ) (s : DialResult) (r : Rolled) → Still s → Stays (rolled_back point s r)
   back_stays point s (rolled.To to) e = (tt, λ reply formed. asked_stays _ (follower_ask reply) e)
   back_stays point s (rolled.Refused st) e = e
   back_stays point s rolled.Closed e = e
   back_stays point s rolled.DiskFailed e = e
   back_stays point s (rolled.Damaged place) e = e
 
-  roll_stays : (point : ℕ) (s : DialTold) → Still s → Holds (roll_back point s)
+  roll_stays : (point : ℕ) (s : DialResult) → Still s → Holds (roll_back point s)
   unfolding roll_back
   roll_stays point s e =
       always_bind_job AnyReply AnyCall EachAsk (λ (r : Rolled). Unit {0}) Still (roll_job s.dial.consumer.dialed.vb point) (λ came. lift (rolled_back point s came)) (any_job (roll_job s.dial.consumer.dialed.vb point))
       (λ came any. lifted (rolled_back point s came) (back_stays point s came e))
 
-  taken_stays : (reply : VbReply) (s : DialTold) (a : VbAnswer) → Still s → Still (taken_as reply s a)
+  taken_stays : (reply : VbReply) (s : DialResult) (a : VbAnswer) → Still s → Still (taken_as reply s a)
   taken_stays reply s (answer.Range ss se) e = e
   taken_stays reply s answer.Done e = e
   taken_stays reply s other e = e
 
-  message_stays : (s : DialTold) (o : Option VbReply) → Still s → Still (message_told s o)
+  message_stays : (s : DialResult) (o : Option VbReply) → Still s → Still (message_result s o)
   message_stays s None e = e
   message_stays s (Some reply) e = taken_stays reply s reply.answer e
 
-  call_stays : (c : VbCall) (s : DialTold) → Still s → Stays (call_made c s)
+  call_stays : (c : VbCall) (s : DialResult) → Still s → Stays (call_made c s)
   unfolding call_made
-  call_stays c s e = (tt, λ reply formed. due_stays (message_told s reply) (message_stays s reply e))
+  call_stays c s e = (tt, λ reply formed. due_stays (message_result s reply) (message_stays s reply e))
 
-  passive_stays : (p : Passive) (s : DialTold) → Still s → Stays (passive_made p s)
+  passive_stays : (p : Passive) (s : DialResult) → Still s → Stays (passive_made p s)
   passive_stays (passive.Call c) s e = call_stays c s e
   passive_stays other s e = e
 
-  step_stays : (a : ConsumerStep) (s : DialTold) → Still s → Holds (step_made a s)
+  step_stays : (a : ConsumerStep) (s : DialResult) → Still s → Holds (step_made a s)
   step_stays (step.Adopt log) s e = lifted (go_on_with log s) (adopt_stays log s e)
   step_stays (step.Roll point) s e = roll_stays point s e
   step_stays (step.Passive p) s e = lifted (passive_made p s) (passive_stays p s e)
   step_stays other s e = e
 
-  frame_stays : (f : Frame) (s : DialTold) → Still s → Holds (frame_taken f s)
+  frame_stays : (f : Frame) (s : DialResult) → Still s → Holds (frame_taken f s)
   unfolding frame_taken
   frame_stays f s e = step_stays (consumer_step s.dial.consumer f).1 _ e
 
-  frames_stay : (frames : List Frame) (s : DialTold) → Still s → Holds (frames_taken frames s)
+  frames_stay : (frames : List Frame) (s : DialResult) → Still s → Holds (frames_taken frames s)
   unfolding frames_taken
   frames_stay frames s e = always_each_job AnyReply AnyCall EachAsk Still frame_taken frame_stays frames (Ended s) e
 
-  fault_stays : (o : Option FrameFault) (s : DialTold) → Still s → Still (fault_met o s)
+  fault_stays : (o : Option FrameFault) (s : DialResult) → Still s → Still (fault_met o s)
   fault_stays None s e = e
   fault_stays (Some fault) s e = by (is_over s.dial)
     where
@@ -325,7 +325,7 @@ module _ (dialed : Dialed) where
       by true = e
       by false = e
 
-  end_stays : (o : Option EndReason) (s : DialTold) → Still s → Still (end_told o s)
+  end_stays : (o : Option EndReason) (s : DialResult) → Still s → Still (with_end_line o s)
   end_stays None s e = e
   end_stays (Some why) s e = by (is_broken (Some why))
     where
@@ -333,17 +333,17 @@ module _ (dialed : Dialed) where
       by true = e
       by false = e
 
-  rest_stays : (s : DialTold) → Still s → Holds (rest_met s)
+  rest_stays : (s : DialResult) → Still s → Holds (rest_met s)
   rest_stays s e =
       let met = fault_met (front_fault s.dial.heard) s in
       end_stays (over_why met.dial.consumer.handshake) met (fault_stays (front_fault s.dial.heard) s e)
 
-  bytes_stay : (piece : List ℕ) (s : DialTold) → Still s → Holds (bytes_taken piece s)
+  bytes_stay : (piece : List ℕ) (s : DialResult) → Still s → Holds (bytes_taken piece s)
   unfolding bytes_taken
   bytes_stay piece s e = always_bind_job AnyReply AnyCall EachAsk Still Still (frames_taken (frames_in (s.dial.heard ++ piece)) (with_left s (s.dial.heard ++ piece))) rest_met (frames_stay _ _ e) rest_stays
 
-pub fed_dialed : (piece : List ℕ) (dial : PlainDial) (states : States) (shelves : Shelves) → (after_job (dial_fed piece dial) states shelves).1.dial.consumer.dialed ≡ dial.consumer.dialed
-fed_dialed piece dial states shelves = after_job_always AnyCall EachAsk (Still dial.consumer.dialed) (dial_fed piece dial) states shelves (bytes_stay dial.consumer.dialed piece (untold dial) refl)
+pub fed_dialed : (piece : List ℕ) (dial : PlainDial) (states : States) (shelves : Shelves) → (after_job (dial_bytes piece dial) states shelves).1.dial.consumer.dialed ≡ dial.consumer.dialed
+fed_dialed piece dial states shelves = after_job_always AnyCall EachAsk (Still dial.consumer.dialed) (dial_bytes piece dial) states shelves (bytes_stay dial.consumer.dialed piece (untold dial) refl)
 
 pub due_dialed : (dial : PlainDial) (states : States) → (after (dial_due dial) states).1.dial.consumer.dialed ≡ dial.consumer.dialed
 due_dialed dial states = after_always AnyCall (Still dial.consumer.dialed) (dial_due dial) states (due_stays dial.consumer.dialed (untold dial) refl)

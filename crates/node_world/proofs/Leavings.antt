@@ -2,7 +2,7 @@
 use Rattle.std.proofs.Common.{◌≡◌, ℕ, Bool, true, false, List, [], ◌∷◌, filter, refl, ap, sym, ◌∙◌, subst, Option, Some, None, is_some}
 use Rattle.std.specs.Prelude.{◌≢◌, ◌==◌, if◌then◌else◌}
 use Rattle.std.proofs.lemmas.Bool.{eq-eqb, eqb-true, ne_eqb}
-use Rattle.client_session.specs.Serving.{PlainSession, bytes_served, new_session, outcome_served, served}
+use Rattle.client_session.specs.Serving.{PlainSession, bytes_handled, new_session, outcome_handled, served}
 use Rattle.script_text.specs.declared.verb.ClientVerb.{ClientVerb}
 use Rattle.script_text.specs.declared.verb.ClientVerb.TheVariants as client_verb
 use Rattle.vb_disk.specs.declared.made.Outcome.{Outcome as Left}
@@ -20,7 +20,7 @@ use Rattle.node_world.specs.BytesMoved.{given_down}
 use Rattle.node_world.specs.Cuts.{closed_at, unlinked}
 use Rattle.node_world.specs.Leavings.{CrashesOne, CutsOne, DialsQuietly, EndsOnceOver, KeepsBut, LetsClosedGo, NoneIsClosed, PutsDown}
 use Rattle.node_world.specs.Links.{PlainLink, consumer_node, left_unless, link_number, moved_len, producer_node, pump_at, with_down}
-use Rattle.node_world.specs.Nodes.{PlainNode, all_posted, awaiting, done, fed_if, first_cause, posted, posted_if, posted_to, refusal, refused_or, with_client}
+use Rattle.node_world.specs.Nodes.{PlainNode, all_posted, awaiting, done, bytes_if, first_cause, posted, posted_if, posted_to, refusal, refused_or, with_client}
 use Rattle.node_world.specs.Power.{all_cut, all_unlinked, crash_causes, down_lines, dropped, stopped_node, touches}
 use Rattle.node_world.specs.World.{ask_in, base_of, client_verb_at, cut_outcome, down_in, link_causes, link_outcome, relinked, with_dialed, with_link}
 use Rattle.node_world.specs.Worlds.{PlainWorld, Outcome, node_if, node_outcome, with_links, with_node_at}
@@ -29,7 +29,7 @@ use Rattle.node_world.proofs.CallsMade.{line_is}
 
 -- ---- links
 
-module _ (w : PlainWorld) (l : ℕ) (link : PlainLink) (node : PlainNode) (open_link : row_at link_number l w.links ≡ Some link) (there : w.nodes (consumer_node link) ≡ Some node) where
+module _ (w : PlainWorld) (l : ℕ) (link : PlainLink) (node : PlainNode) (add_link : row_at link_number l w.links ≡ Some link) (there : w.nodes (consumer_node link) ≡ Some node) where
   abbrev why_of : ℕ → Option EndReason
   why_of k = over_why (given_down k link node).1.dial.consumer.handshake
 
@@ -44,8 +44,8 @@ module _ (w : PlainWorld) (l : ℕ) (link : PlainLink) (node : PlainNode) (open_
 
   pub ends_once_over : EndsOnceOver w l link node
   ends_once_over = record {
-    goes_on = λ number wanted k counted going. (downs w l link node open_link there wanted Ends (ends_by wanted (moved_len wanted link.down) (why_of (moved_len wanted link.down)) refl) k counted).0 going;
-    over = λ number wanted k why counted is. (downs w l link node open_link there wanted Ends (ends_by wanted (moved_len wanted link.down) (why_of (moved_len wanted link.down)) refl) k counted).1 why is;
+    goes_on = λ number wanted k counted going. (downs w l link node add_link there wanted Ends (ends_by wanted (moved_len wanted link.down) (why_of (moved_len wanted link.down)) refl) k counted).0 going;
+    over = λ number wanted k why counted is. (downs w l link node add_link there wanted Ends (ends_by wanted (moved_len wanted link.down) (why_of (moved_len wanted link.down)) refl) k counted).1 why is;
   }
 
 -- all nodes but its producer's stay where a link ends
@@ -57,16 +57,16 @@ unlinked_others link w m ne = by (w.nodes (producer_node link))
     by (Some x) = ap (λ b. if b then Some (closed_at link x) else w.nodes m) (ne_eqb m (producer_node link) ne)
 
 pub cuts_one : (w : PlainWorld) (l : ℕ) (link : PlainLink) → row_at link_number l w.links ≡ Some link → CutsOne w l link
-cuts_one w l link open_link = record {
-  tells = λ number. ap (λ o. (cut_outcome w o).1) open_link;
-  links = λ number. ap (λ o. (cut_outcome w o).0.links) open_link;
-  others = λ number m ne. ap (λ o. (cut_outcome w o).0.nodes m) open_link ∙ unlinked_others link w m ne;
+cuts_one w l link add_link = record {
+  tells = λ number. ap (λ o. (cut_outcome w o).1) add_link;
+  links = λ number. ap (λ o. (cut_outcome w o).0.links) add_link;
+  others = λ number m ne. ap (λ o. (cut_outcome w o).0.nodes m) add_link ∙ unlinked_others link w m ne;
 }
 
 pub puts_down : (w : PlainWorld) (l : ℕ) (link : PlainLink) (producer : PlainNode) → row_at link_number l w.links ≡ Some link → w.nodes (producer_node link) ≡ Some producer → PutsDown w l link producer
-puts_down w l link producer open_link from number frames = (
+puts_down w l link producer add_link from number frames = (
   _,
-  ap (λ o. (link_outcome w l producer_node (pump_at frames) o).0.links) open_link
+  ap (λ o. (link_outcome w l producer_node (pump_at frames) o).0.links) add_link
       ∙ ap (λ o. (with_link link (node_outcome w (producer_node link) (Some link, refusal cause.UnknownNode) o (pump_at frames link))).0.links) from,
   refl,
   refl,
@@ -114,16 +114,16 @@ none_there s e = cc
 new_is : (t s : PlainSession) → t.closed ≡ false → Some t ≡ Some s → s.closed ≡ false
 new_is t s live e = let same : t ≡ s = cc in ap (λ (x : PlainSession). x.closed) (sym same) ∙ live
 
-client_open : (n number c : ℕ) (what : ClientVerb) (node : PlainNode) → NoneIsClosed node → NoneIsClosed (client_verb_at n number c what node).0
-client_open n number c client_verb.Open node none =
+client_is_open : (n number c : ℕ) (what : ClientVerb) (node : PlainNode) → NoneIsClosed node → NoneIsClosed (client_verb_at n number c what node).0
+client_is_open n number c client_verb.Open node none =
     let t : PlainSession = new_session (record { node = n; client = c; base = base_of number }) in
     either_open (is_some (node.clients c)) (node, refusal cause.LinkOpen) (with_client node c (Some t), done []) none (put_open node c (Some t) none (λ s e. new_is t s refl e))
-client_open n number c (client_verb.Bytes bytes) node none = by (node.clients c)
+client_is_open n number c (client_verb.Bytes bytes) node none = by (node.clients c)
   where
-    by : (o : Option PlainSession) → NoneIsClosed (fed_if c bytes node o).0
+    by : (o : Option PlainSession) → NoneIsClosed (bytes_if c bytes node o).0
     by None = none
-    by (Some session) = let s = (after (bytes_served node.clock bytes (served session [])) node.vbs).1 in put_open node c (left_open s.session) none (λ t e. left_is s.session t e)
-client_open n number c client_verb.Hang node none =
+    by (Some session) = let s = (after (bytes_handled node.clock bytes (served session [])) node.vbs).1 in put_open node c (left_open s.session) none (λ t e. left_is s.session t e)
+client_is_open n number c client_verb.Hang node none =
     either_open (is_some (node.clients c)) (with_client node c None, done []) (node, refusal cause.LinkClosed) (put_open node c None none none_there) none
 
 posts_open : (rs : List Resolved) (node : PlainNode) → NoneIsClosed node → NoneIsClosed (all_posted rs node).0
@@ -132,7 +132,7 @@ posts_open (r ∷ rs) node none = posts_open rs (posted r node).0 (to (awaiting 
   where
     at : (c : ℕ) (o : Option PlainSession) → NoneIsClosed (posted_if c r node o).0
     at c None = none
-    at c (Some session) = let s = (after (outcome_served node.clock r (served session [])) node.vbs).1 in put_open node c (left_open s.session) none (λ t e. left_is s.session t e)
+    at c (Some session) = let s = (after (outcome_handled node.clock r (served session [])) node.vbs).1 in put_open node c (left_open s.session) none (λ t e. left_is s.session t e)
 
     to : (o : Option ℕ) → NoneIsClosed (posted_to r node o).0
     to None = none
@@ -143,7 +143,7 @@ lets_closed_go w n node there up = record {
   lines = λ number c what none. (
     (client_verb_at n number c what node).0,
     ap (λ (o : Outcome). o.0.nodes n) (line_is w n node there up (client_verb_at n number c what)) ∙ ap (λ b. if b then Some (client_verb_at n number c what node).0 else w.nodes n) (eq-eqb n n refl),
-    client_open n number c what node none,
+    client_is_open n number c what node none,
   );
   outcomes = λ rs none. posts_open rs node none;
 }

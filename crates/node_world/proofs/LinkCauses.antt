@@ -22,12 +22,12 @@ use Rattle.vbucket.specs.Rows.{row_at}
 use Rattle.dcp_producer.specs.Producers.{begun}
 use Rattle.dcp_producer.specs.Pulling.{why_of, frames_put}
 use Rattle.node_core.specs.Calls.{named_ask}
-use Rattle.node_core.specs.Peers.{pull_told}
+use Rattle.node_core.specs.Peers.{pull_result}
 use Rattle.node_world.specs.declared.arm.Fired.{Fired}
 use Rattle.node_world.specs.declared.arm.Fired.TheVariants as fired
 use Rattle.node_world.specs.Arms.{fired_by}
 use Rattle.node_world.specs.Causes.{AtLink, CantGoBack, Dials, DialsMade, NoLink}
-use Rattle.node_world.specs.Links.{PlainLink, LinkTold, link_number, producer_node, consumer_node, feeds, is_taken, ask_of, moved_len, pump_told, up_at, pump_at}
+use Rattle.node_world.specs.Links.{PlainLink, LinkResult, link_number, producer_node, consumer_node, feeds, is_taken, ask_of, moved_len, pump_result, up_at, pump_at}
 use Rattle.node_world.specs.Nodes.{PlainNode, done, refusal, first_cause, refused_or}
 use Rattle.node_world.specs.Power.{after_broken, is_broken_answer}
 use Rattle.node_world.specs.World.{ask_in, cut_outcome, down_in, down_outcome, down_step, link_step, link_outcome, on_link, with_dialed, with_link}
@@ -108,8 +108,8 @@ module _ (w : PlainWorld) (l m n v : ℕ) where
     nodes_are : not (is_some (w.nodes m) && is_some (w.nodes n)) ≡ false
     nodes_are = λ i. not (is_some (here i) && is_some (there i))
 
-    off_is : off ≡ (is_some producer.off || is_some node.off)
-    off_is = λ i. is_off (here i) || is_off (there i)
+    off_as_plain : off ≡ (is_some producer.off || is_some node.off)
+    off_as_plain = λ i. is_off (here i) || is_off (there i)
 
     vb_is : no_vb ≡ not (is_some (node.vbs v))
     vb_is = ap (λ x. not (is_some (vb_in x v))) there
@@ -121,7 +121,7 @@ module _ (w : PlainWorld) (l m n v : ℕ) where
     linked_by : (vb : Plain) → producer.off ≡ None → node.off ≡ None → node.vbs v ≡ Some vb → (b d : Bool) → is_follower vb.role ≡ b → taken ≡ d → (number : ℕ)
         → (link_step w number l m n v).1.answer ≡ (if not b then answer.No cause.WrongRole else if d then answer.No cause.LinkOpen else answer.Ok)
     linked_by vb up own_up is b d e f number =
-        dialed_by number false false false (not b) d nodes_are (off_is ∙ (λ i. is_some (up i) || is_some (own_up i))) (vb_is ∙ ap (λ x. not (is_some x)) is) (asks vb is b e) f
+        dialed_by number false false false (not b) d nodes_are (off_as_plain ∙ (λ i. is_some (up i) || is_some (own_up i))) (vb_is ∙ ap (λ x. not (is_some x)) is) (asks vb is b e) f
 
     second_off : (a b : Bool) → b ≡ true → (a || b) ≡ true
     second_off true b e = refl
@@ -129,9 +129,9 @@ module _ (w : PlainWorld) (l m n v : ℕ) where
 
     pub dials_made : DialsMade w l m n v producer node
     dials_made = record {
-      down = λ e number. dialed_by number false true no_vb no_ask taken nodes_are (off_is ∙ ap (λ b. b || is_some node.off) e) refl refl refl;
-      own_down = λ e number. dialed_by number false true no_vb no_ask taken nodes_are (off_is ∙ second_off (is_some producer.off) (is_some node.off) e) refl refl refl;
-      no_vb = λ up own_up e number. dialed_by number false false true no_ask taken nodes_are (off_is ∙ (λ i. is_some (up i) || is_some (own_up i))) (vb_is ∙ ap (λ x. not (is_some x)) e) refl refl;
+      down = λ e number. dialed_by number false true no_vb no_ask taken nodes_are (off_as_plain ∙ ap (λ b. b || is_some node.off) e) refl refl refl;
+      own_down = λ e number. dialed_by number false true no_vb no_ask taken nodes_are (off_as_plain ∙ second_off (is_some producer.off) (is_some node.off) e) refl refl refl;
+      no_vb = λ up own_up e number. dialed_by number false false true no_ask taken nodes_are (off_as_plain ∙ (λ i. is_some (up i) || is_some (own_up i))) (vb_is ∙ ap (λ x. not (is_some x)) e) refl refl;
       active = λ vb up own_up is e number. linked_by vb up own_up is false taken (ap is_follower e) refl number;
       dead = λ vb up own_up is e number. linked_by vb up own_up is false taken (ap is_follower e) refl number;
       taken = λ vb up own_up is follows e number.
@@ -152,7 +152,7 @@ module _ (w : PlainWorld) (l : ℕ) (none : list_any (λ link. link_number link 
       by true e later = cc
       by false e later = later e
 
-  closed : (end : PlainLink → ℕ) (f : PlainLink → PlainNode → PlainNode × LinkTold) → (on_link w l end f).1.answer ≡ answer.No cause.LinkClosed
+  closed : (end : PlainLink → ℕ) (f : PlainLink → PlainNode → PlainNode × LinkResult) → (on_link w l end f).1.answer ≡ answer.No cause.LinkClosed
   closed end f = ap (λ o. (link_outcome w l end f o).1.answer) (none_at w.links none)
 
   closed_down : (wanted : ℕ) → (down_step w l wanted).1.answer ≡ answer.No cause.LinkClosed
@@ -190,9 +190,9 @@ same_why : (a b : Cause) → answer.No a ≡ answer.No b → a ≡ b
 same_why a b e = cc
 
 -- a line for an open link
-module _ (w : PlainWorld) (l : ℕ) (link : PlainLink) (producer node : PlainNode) (open_link : row_at link_number l w.links ≡ Some link) (from : w.nodes (producer_node link) ≡ Some producer) (there : w.nodes (consumer_node link) ≡ Some node) where
-  at_end_of : (end : PlainLink → ℕ) (f : PlainLink → PlainNode → PlainNode × LinkTold) (x : PlainNode) → w.nodes (end link) ≡ Some x → (on_link w l end f).1.answer ≡ (f link x).1.1.answer
-  at_end_of end f x e = ap (λ o. (link_outcome w l end f o).1.answer) open_link ∙ ap (λ o. (with_link link (node_outcome w (end link) (Some link, refusal cause.UnknownNode) o (f link))).1.answer) e
+module _ (w : PlainWorld) (l : ℕ) (link : PlainLink) (producer node : PlainNode) (add_link : row_at link_number l w.links ≡ Some link) (from : w.nodes (producer_node link) ≡ Some producer) (there : w.nodes (consumer_node link) ≡ Some node) where
+  at_end_of : (end : PlainLink → ℕ) (f : PlainLink → PlainNode → PlainNode × LinkResult) (x : PlainNode) → w.nodes (end link) ≡ Some x → (on_link w l end f).1.answer ≡ (f link x).1.1.answer
+  at_end_of end f x e = ap (λ o. (link_outcome w l end f o).1.answer) add_link ∙ ap (λ o. (with_link link (node_outcome w (end link) (Some link, refusal cause.UnknownNode) o (f link))).1.answer) e
 
   abbrev F : Fuse
   F = node.arm.fuse
@@ -228,19 +228,19 @@ module _ (w : PlainWorld) (l : ℕ) (link : PlainLink) (producer node : PlainNod
     by_broken false why is e = absurd (told_as why is e)
 
     refused_as : (why : Cause) → (down_step w l wanted).1.answer ≡ answer.No why → CantGoBack F why
-    refused_as why e = by_broken (is_broken_answer came.1.answer) why refl (sym (ap (λ o. (down_outcome w l o came).1.answer) open_link) ∙ e)
+    refused_as why e = by_broken (is_broken_answer came.1.answer) why refl (sym (ap (λ o. (down_outcome w l o came).1.answer) add_link) ∙ e)
 
   pub at_link : AtLink w l node
   at_link = record {
     up = λ wanted number why e. let told : answer.Number (moved_len wanted link.up) ≡ answer.No why = sym (at_end_of producer_node (up_at wanted) producer from) ∙ e in cc;
     down = λ wanted number why e. refused_as wanted why e;
     pump = λ frames number why e. pumped frames why (sym (at_end_of producer_node (pump_at frames) producer from) ∙ e);
-    cut = λ number. ap (λ o. (cut_outcome w o).1.answer) open_link;
+    cut = λ number. ap (λ o. (cut_outcome w o).1.answer) add_link;
   }
     where
       pumped : (frames : ℕ) (why : Cause) → (pump_at frames link producer).1.1.answer ≡ answer.No why → ⊥
       pumped frames why e =
           let put = after (frames_put frames (begun link.server)) producer.vbs in
           let told : answer.Pulled put.1.0.count (why_of put.1.1) ≡ answer.No why =
-          sym (ap (λ x. (pump_told link producer x).1.1.answer) (after_bind (frames_put frames (begun link.server)) (λ p. Done (pull_told link.up_heard p)) producer.vbs)) ∙ e in
+          sym (ap (λ x. (pump_result link producer x).1.1.answer) (after_bind (frames_put frames (begun link.server)) (λ p. Done (pull_result link.up_heard p)) producer.vbs)) ∙ e in
           cc

@@ -12,7 +12,7 @@ use Rattle.dcp_consumer.specs.declared.handshake.Dialed.{Dialed}
 use Rattle.dcp_consumer.specs.Machine.{over_why}
 use Rattle.dcp_producer.specs.declared.desk.Desk.{Desk}
 use Rattle.node_core.specs.declared.out.NodeOut.{NodeOut}
-use Rattle.node_core.specs.Dials.{DialTold, dial_fed}
+use Rattle.node_core.specs.Dials.{DialResult, dial_bytes}
 use Rattle.node_core.specs.Outcomes.{live_dial}
 use Rattle.node_core.specs.Outs.{dial_answer}
 use Rattle.node_core.specs.Peers.{PlainPeer, peer_pulled}
@@ -26,7 +26,7 @@ use Rattle.node_world.specs.Ends.{peer_under, dial_under, PutsPeer, PutsDial, Fe
 use Rattle.node_world.specs.Arms.{placed, under_arm}
 use Rattle.node_world.specs.Lines.{answer_if, moved_if, out_told, end_line}
 use Rattle.node_world.specs.World.{down_in}
-use Rattle.node_world.specs.Links.{PlainLink, LinkTold, producer_node, peer_of, dial_of, moved, moved_len, up_at, with_down, left_unless, down_answer, down_at, peer_given, pump_at}
+use Rattle.node_world.specs.Links.{PlainLink, LinkResult, producer_node, peer_of, dial_of, moved, moved_len, up_at, with_down, left_unless, down_answer, down_at, peer_given, pump_at}
 use Rattle.node_world.specs.Nodes.{PlainNode, refusal}
 use Rattle.node_world.specs.Stands.{node_number, NodeMatch, NodesStand, live_peer, Ends, ends_of, LinkStands}
 use Rattle.node_world.specs.Worlds.{PlainWorld, with_node_if}
@@ -80,10 +80,10 @@ module _ (nodes : List ScriptNode) (at : ℕ) (old new : ScriptNode) (link : Lin
   }
 
   -- a line there, by what it makes of each node that the kept one stands for
-  abbrev Went : PlainLink → Told → Link → PlainNode × LinkTold → Type 0
+  abbrev Went : PlainLink → Told → Link → PlainNode × LinkResult → Type 0
   Went plain told link' x = NodeMatch new x.0 × (told ≡ x.1.1) × LinkLeft (ends_of nodes') link' plain false x.1.0
 
-  stepped : (w : PlainWorld) (plain : PlainLink) (f : PlainNode → PlainNode × LinkTold) (told : Told) (link' : Link) → node_number new ≡ node_number old → LinkStands (ends_of nodes) link plain → NodesStand nodes w
+  stepped : (w : PlainWorld) (plain : PlainLink) (f : PlainNode → PlainNode × LinkResult) (told : Told) (link' : Link) → node_number new ≡ node_number old → LinkStands (ends_of nodes) link plain → NodesStand nodes w
       → ((node : PlainNode) → NodeMatch old node → Went plain told link' (f node))
       → NodesStand nodes' (end_line w (producer_node plain) plain f).0 × (told ≡ (end_line w (producer_node plain) plain f).1.1) × LinkLeft (ends_of nodes') link' plain false (end_line w (producer_node plain) plain f).1.0
   stepped w plain f told link' number ends stands step =
@@ -207,7 +207,7 @@ module _ (nodes : List ScriptNode) (at : ℕ) (old new : ScriptNode) (link : Lin
     taken_as plain ends = subst (λ queue. FeedsDial link.vb (take (moved_len wanted queue) queue) old out new) ends.down fed
 
     -- the link goes on, or it is over
-    either : (plain : PlainLink) → LinkStands (ends_of nodes) link plain → (told : DialTold) → told.dial.consumer.dialed ≡ plain.consumer.dialed → (over : Option EndReason) → out.closed ≡ is_some over
+    either : (plain : PlainLink) → LinkStands (ends_of nodes) link plain → (told : DialResult) → told.dial.consumer.dialed ≡ plain.consumer.dialed → (over : Option EndReason) → out.closed ≡ is_some over
         → (ends_of nodes'').dials link.node link.vb ≡ (if is_some over then None else Some (live_dial told.dial)) → (ends_of nodes'').peers link.producer link.conn ≡ (ends_of nodes).peers link.producer link.conn
         → up ≡ plain.up ++ told.out → down ≡ drop (moved_len wanted plain.down) plain.down
         → LinkLeft (ends_of nodes'') downward plain out.closed (left_unless over (with_down plain (moved_len wanted plain.down) told))
@@ -227,14 +227,14 @@ module _ (nodes : List ScriptNode) (at : ℕ) (old new : ScriptNode) (link : Lin
     either plain ends told dialed (Some why) closed dial peer ups downs = (closed, dial, peer ∙ ends.server)
 
     -- what it makes of the plain node and link
-    abbrev Downs : PlainLink → PlainNode × LinkTold → Type 0
+    abbrev Downs : PlainLink → PlainNode × LinkResult → Type 0
     Downs plain x = NodeMatch new x.0 × (down_said ≡ x.1.1) × LinkLeft (ends_of nodes'') downward plain out.closed x.1.0
 
     down_one : (plain : PlainLink) → LinkStands (ends_of nodes) link plain → (node : PlainNode) → NodeMatch old node → Downs plain (down_in wanted plain node)
     down_one plain ends node alike =
         let piece = take (moved_len wanted plain.down) plain.down in
         let (stands, said, puts) = taken_as plain ends node (dial_of plain) alike (has_dial plain ends) in
-        let told = (after_job (dial_fed piece (dial_of plain)) node.vbs (placed link.vb node).shelves).1 in
+        let told = (after_job (dial_bytes piece (dial_of plain)) node.vbs (placed link.vb node).shelves).1 in
         subst (λ v. Downs plain (under_arm v (down_at wanted plain) node)) ends.vb (
           stands,
           (λ i. moved_if (moved_len wanted (ends.down i)) (said i))

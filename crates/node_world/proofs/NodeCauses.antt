@@ -18,7 +18,7 @@ use Rattle.vb_types.specs.declared.status.Status.TheVariants as status
 use Rattle.vb_calls.specs.declared.calls.VbCall.TheVariants as call
 use Rattle.vb_calls.specs.declared.calls.VbReply.{VbReply}
 use Rattle.vb_calls.specs.Jobs.{after_job}
-use Rattle.vb_calls.specs.Flushes.{is_refusal, log_told, role_after, wrote_of}
+use Rattle.vb_calls.specs.Flushes.{is_refusal, log_of_reply, role_of_call, wrote_of}
 use Rattle.vb_calls.specs.Shelves.{Append, Shelf, Shelves, shelves_step}
 use Rattle.vb_calls.specs.Following.{log_lacks}
 use Rattle.vb_calls.specs.Plain.{plain_step}
@@ -28,7 +28,7 @@ use Rattle.vb_calls.specs.States.{States, call_at, states_step, with_vb_at}
 use Rattle.vb_disk.specs.declared.fuse.Fuse.{Fuse}
 use Rattle.node_core.specs.declared.admin.AdminCall.{AdminCall}
 use Rattle.node_core.specs.declared.admin.AdminCall.TheVariants as admin
-use Rattle.node_core.specs.Admin.{AdminTold, admin_call, admin_job, admin_refused, admin_told, noted_answer}
+use Rattle.node_core.specs.Admin.{AdminResult, admin_call, admin_job, admin_refused, admin_result, noted_answer}
 use Rattle.node_world.specs.declared.arm.Fired.TheVariants as fired
 use Rattle.node_world.specs.declared.told.Told.{Told}
 use Rattle.node_world.specs.Arms.{fail_arm, fired_by, fuse_or, placed, stop_arm, under_arm}
@@ -36,13 +36,13 @@ use Rattle.node_world.specs.Causes.{AtMade, NoNode, NoVb, Notes, AtNode, AtVb, A
 use Rattle.node_world.specs.Cuts.{closed_at, cut_off, own_link, unlinked}
 use Rattle.node_world.specs.Links.{PlainLink, producer_node}
 use Rattle.node_world.specs.Lines.{ChangesRole}
-use Rattle.node_world.specs.Nodes.{PlainNode, arm_at, empty_node, done, if_up, refusal, first_cause, refused_or, is_one_of, shelf_or_blank, uuid_causes, vb_made, vb_at, replica_at, save_line, with_client, with_disk, client_at, fed_if, bytes_at, hang_at, clock_at, flush_line, chain_line, tick_line}
+use Rattle.node_world.specs.Nodes.{PlainNode, arm_at, empty_node, done, if_up, refusal, first_cause, refused_or, is_one_of, shelf_or_blank, uuid_causes, vb_made, vb_at, replica_at, save_line, with_client, with_disk, client_at, bytes_if, bytes_at, hang_at, clock_at, flush_line, chain_line, tick_line}
 use Rattle.node_world.specs.Power.{any_used, down_lines, dropped, start_at, with_arm}
 use Rattle.node_world.specs.Turns.{KeepsRole, admin_line, called_at, no_node, role_called, role_causes, role_outcome, turned, turned_after, turned_if, with_ended}
 use Rattle.node_world.specs.World.{base_of}
 use Rattle.node_world.specs.Worlds.{PlainWorld, Outcome, arm_in, is_off, is_up, node_if, node_outcome, on_made, on_node, vb_in, with_node_at}
 use Rattle.node_world.proofs.AfterPosts.{posted_answer, posted_arm}
-use Rattle.node_world.proofs.ChainCauses.{chain_bad, chain_idle, chain_set, due_answer, may_join, no_chain, no_tick, own_member, tick_idle, ticks, too_long, twice_member}
+use Rattle.node_world.proofs.ChainCauses.{chain_bad, chain_idle, chain_is_set, due_answer, may_join, no_chain, no_tick, own_member, tick_idle, ticks, too_long, twice_member}
 use Rattle.node_world.proofs.FlushLines.{part_answer, flush_arm, no_flush, no_shelf, flush_is, out_refused, saved_kept, saved_ok, taken_count, unsaved_refused, untaken_kept, untaken_refused, done_count}
 use Rattle.node_world.proofs.Promoting.{active_is}
 use Rattle.node_world.proofs.RoleJobs.{turn_by, noted_by, came_to, came_if, turn_is, called_quiet, noted_well}
@@ -145,9 +145,9 @@ module _ (w : PlainWorld) (n : ℕ) (node : PlainNode) (there : w.nodes n ≡ So
       ap (λ x. refused_or (first_cause ((not (is_some x), cause.UnknownNode) ∷ (is_off x, cause.NodeDown) ∷ role_causes r (vb_in x v) ++ rest)) w came) there
       ∙ (λ i. refused_or (first_cause ((is_some (up i), cause.NodeDown) ∷ role_causes r (e i) ++ rest)) w came)
 
-  asked_by : (v : ℕ) (asked : AdminCall) → KeepsRole asked → (o : Option Plain) → node.vbs v ≡ o → (on_node w n (admin_line n v asked)).1.answer ≡ (admin_told n v asked (call_at node.vbs v (admin_call asked) o).1).answer
+  asked_by : (v : ℕ) (asked : AdminCall) → KeepsRole asked → (o : Option Plain) → node.vbs v ≡ o → (on_node w n (admin_line n v asked)).1.answer ≡ (admin_result n v asked (call_at node.vbs v (admin_call asked) o).1).answer
   asked_by v asked keeps o e =
-      running w n node there up (admin_line n v asked) ∙ ap (λ (x : PlainNode × AdminTold). x.1.answer) (called_quiet n v asked node keeps) ∙ ap (λ x. (admin_told n v asked (call_at node.vbs v (admin_call asked) x).1).answer) e
+      running w n node there up (admin_line n v asked) ∙ ap (λ (x : PlainNode × AdminResult). x.1.answer) (called_quiet n v asked node keeps) ∙ ap (λ x. (admin_result n v asked (call_at node.vbs v (admin_call asked) x).1).answer) e
 
   none_flushed : (v : ℕ) (p : FlushPart) → node.vbs v ≡ None → (on_node w n (flush_line n v p)).1.answer ≡ answer.No cause.UnknownVb
   none_flushed v p e = running w n node there up (flush_line n v p) ∙ no_flush n v p node e
@@ -193,8 +193,8 @@ module _ (w : PlainWorld) (n : ℕ) (node : PlainNode) (there : w.nodes n ≡ So
       same None = refl
       same (Some x) = refl
 
-  fed_bytes : (c : ℕ) (bytes : List ℕ) (o : Option PlainSession) → node.clients c ≡ o → (on_node w n (bytes_at c bytes)).1.answer ≡ (fed_if c bytes node o).1.answer
-  fed_bytes c bytes o e = running w n node there up (bytes_at c bytes) ∙ ap (λ x. (fed_if c bytes node x).1.answer) e
+  fed_bytes : (c : ℕ) (bytes : List ℕ) (o : Option PlainSession) → node.clients c ≡ o → (on_node w n (bytes_at c bytes)).1.answer ≡ (bytes_if c bytes node o).1.answer
+  fed_bytes c bytes o e = running w n node there up (bytes_at c bytes) ∙ ap (λ x. (bytes_if c bytes node x).1.answer) e
 
   pub at_node : AtNode w n node
   at_node = record {
@@ -222,7 +222,7 @@ module _ (w : PlainWorld) (n : ℕ) (node : PlainNode) (there : w.nodes n ≡ So
     no_vb = absent;
     no_client = λ c bytes e. (λ number. fed_bytes c bytes None e, λ number. hung c None e);
     client = λ c e number. called (base_of number) c None e;
-    client_open = λ c session e number. called (base_of number) c (Some session) e;
+    client_is_open = λ c session e number. called (base_of number) c (Some session) e;
     bytes = λ c bytes session e number. fed_bytes c bytes (Some session) e;
     hang = λ c session e number. hung c (Some session) e;
   }
@@ -278,8 +278,8 @@ module _ (w : PlainWorld) (n v : ℕ) (node : PlainNode) (vb : Plain) (there : w
   ticked : (on_node w n (tick_line n v)).1.answer ≡ (tick_line n v node).1.answer
   ticked = running w n node there up (tick_line n v)
 
-  pub at_vb : AtVb w n v vb
-  at_vb = record {
+  pub at_made_vb : AtVb w n v vb
+  at_made_vb = record {
     active = λ uuid e number.
         refused_turn role.Active (uuid_causes w.uuids uuid) (role_outcome n v (admin.Promote uuid) w) cause.WrongRole (ap (λ b. role_row b (uuid_causes w.uuids uuid) (role_outcome n v (admin.Promote uuid) w)) (is_same_role role.Active e));
     zero = λ ne number.
@@ -294,7 +294,7 @@ module _ (w : PlainWorld) (n v : ℕ) (node : PlainNode) (vb : Plain) (there : w
     chain_own = λ before later e number. chained (before ++ Some n ∷ later) ∙ chain_bad n v node vb here (before ++ Some n ∷ later) e (own_member n before later);
     chain_twice = λ before between later m e number.
         chained (before ++ Some m ∷ between ++ Some m ∷ later) ∙ chain_bad n v node vb here (before ++ Some m ∷ between ++ Some m ∷ later) e (twice_member n m before between later);
-    chain = λ others e may number. chained others ∙ chain_set n v node vb here others e (may_join n others may);
+    chain = λ others e may number. chained others ∙ chain_is_set n v node vb here others e (may_join n others may);
     tick_idle = λ ne number. ticked ∙ tick_idle n v node vb here ne;
     tick = λ e number. ticked ∙ ticks n v node vb here e;
     stat = λ number. asked_by w n node there up v admin.Stat tt (Some vb) here;
@@ -316,26 +316,26 @@ module _ (w : PlainWorld) (n v : ℕ) (node : PlainNode) (vb : Plain) (there : w
 
     -- a change of role that the vBucket makes is answered as it answers, and its record burns the arm
     module _ (asked : AdminCall) (changes : ChangesRole asked) (x : Plain × VbReply) (is : plain_step vb (admin_call asked) ≡ x) (going : is_refusal x.1.answer ≡ false) where
-      abbrev y : PlainNode × AdminTold
+      abbrev y : PlainNode × AdminResult
       y = under_arm v (called_at n v asked) node
 
       came_as : after_job (admin_job n v asked) node.vbs T ≡ noted_by n v asked node.vbs T (with_vb_at node.vbs v x.0) x.1 false
       came_as =
           turn_is n v asked changes node.vbs T ∙ ap (λ o. came_if n v asked node.vbs T o) here ∙ ap (λ (z : Plain × VbReply). came_to n v asked node.vbs T z) is ∙ ap (λ b. noted_by n v asked node.vbs T (with_vb_at node.vbs v x.0) x.1 b) going
 
-      answered : y.1.answer ≡ (admin_told n v asked (Some x.1)).answer
-      answered = ap (λ (c : (States × Shelves) × AdminTold). c.1.answer) came_as ∙ noted_well n v asked node.vbs (with_vb_at node.vbs v x.0) T x.1 (under G shelf) armed_shelf notes
+      answered : y.1.answer ≡ (admin_result n v asked (Some x.1)).answer
+      answered = ap (λ (c : (States × Shelves) × AdminResult). c.1.answer) came_as ∙ noted_well n v asked node.vbs (with_vb_at node.vbs v x.0) T x.1 (under G shelf) armed_shelf notes
 
       quiet : fired_by G y.0.arm.fuse ≡ fired.No
       quiet =
           left_burnt G (fuse_at (called_at n v asked (placed v node)).0.shelves v)
-          (ap (λ (c : (States × Shelves) × AdminTold). fuse_at c.0.1 v) came_as
-          ∙ append_burns T v (State (role_after (admin_call asked)) (log_told (states_step (with_vb_at node.vbs v x.0) v call.Log).1)) (under G shelf) armed_shelf notes) (stood_passed (under G shelf) notes)
+          (ap (λ (c : (States × Shelves) × AdminResult). fuse_at c.0.1 v) came_as
+          ∙ append_burns T v (State (role_of_call (admin_call asked)) (log_of_reply (states_step (with_vb_at node.vbs v x.0) v call.Log).1)) (under G shelf) armed_shelf notes) (stood_passed (under G shelf) notes)
 
       came_of : role_outcome n v asked w ≡ turned_after n v w (with_node_at w n y.0, y.1)
       came_of =
           ap (λ o. turned_after n v w (node_outcome w n no_node o (role_called n v asked))) there
-          ∙ ap (λ (o : Option (List Book)). let z : PlainNode × AdminTold = if is_some o then (node, admin_refused cause.NodeDown) else y in turned_after n v w (with_node_at w n z.0, z.1)) up
+          ∙ ap (λ (o : Option (List Book)). let z : PlainNode × AdminResult = if is_some o then (node, admin_refused cause.NodeDown) else y in turned_after n v w (with_node_at w n z.0, z.1)) up
 
       abbrev w1 : List ℕ → PlainWorld
       w1 ids = with_ended n v ids (with_node_at w n y.0)
@@ -355,7 +355,7 @@ module _ (w : PlainWorld) (n v : ℕ) (node : PlainNode) (vb : Plain) (there : w
           ∙ (λ i. fired_by (arm_in (there i)).fuse (cut_arm ids (own_link n v (w1 ids).links) i).fuse)
           ∙ (λ i. fired_by G (arm_in (if eq-eqb n n refl i then Some y.0 else w.nodes n)).fuse) ∙ quiet
 
-      turned_well : (with_arm n w (role_outcome n v asked w)).1.answer ≡ (admin_told n v asked (Some x.1)).answer
+      turned_well : (with_arm n w (role_outcome n v asked w)).1.answer ≡ (admin_result n v asked (Some x.1)).answer
       turned_well =
           ap (λ (z : Outcome). (with_arm n w z).1.answer) came_of
           ∙ ap (λ (t : Told). t.answer) (unfired w n (turned_if n v w y.1.ended (with_node_at w n y.0, y.1)) (quiet_if y.1.ended)) ∙ told_as y.1.ended ∙ answered

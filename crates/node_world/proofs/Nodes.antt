@@ -12,7 +12,7 @@ use Rattle.vb_calls.specs.Jobs.{after_job}
 use Rattle.vb_calls.specs.Shelves.{Shelves}
 use Rattle.vb_calls.proofs.JobReadings.{ComesTo}
 use Rattle.node_core.specs.declared.conn.Conn.{Conn}
-use Rattle.node_core.specs.Flushing.{FlushTold, flush_at}
+use Rattle.node_core.specs.Flushing.{FlushResult, flush_at}
 use Rattle.node_world.proofs.RoleJobs.{called_quiet}
 use Rattle.node_world.proofs.Shelved.{MemAsks, known_job, same_shelves}
 use Rattle.vb_calls.specs.declared.calls.VbAnswer.{VbAnswer}
@@ -31,12 +31,12 @@ use Rattle.node_core.specs.declared.admin.AdminCall.TheVariants as admin
 use Rattle.node_core.specs.declared.out.NodeOut.{NodeOut}
 use Rattle.node_core.specs.Dials.{KeptDial}
 use Rattle.node_core.specs.Peers.{KeptPeer}
-use Rattle.node_core.specs.Admin.{AdminTold, admin_call, admin_told, seal_told, show_told, log_told, stat_told, admin_job}
+use Rattle.node_core.specs.Admin.{AdminResult, admin_call, admin_result, seal_result, show_result, log_result, stat_result, admin_job}
 use Rattle.node_core.specs.Outcomes.{Administered, Settles, Wrote, value_at}
 use Rattle.node_core.specs.Outs.{admin_out, dial_ended, flush_by}
 use Rattle.node_world.specs.declared.script_node.ScriptNode.{ScriptNode}
 use Rattle.node_world.specs.declared.told.Told.{Told}
-use Rattle.node_world.specs.Ends.{peer_under, dial_under, KeepsEnds, peer_told, TellsEnds, Carries, IsThere}
+use Rattle.node_world.specs.Ends.{peer_under, dial_under, KeepsEnds, kept_peer_ended, TellsEnds, Carries, IsThere}
 use Rattle.node_world.specs.Lines.{out_told, was_there}
 use Rattle.node_world.specs.Nodes.{PlainNode, with_kept, with_states}
 use Rattle.node_world.specs.Stands.{MemNode, client_part, peer_part, NodeMatch, OffStands, node_number}
@@ -134,7 +134,7 @@ module _ (old : ScriptNode) (v : ℕ) (asked : AdminCall) (out : NodeOut) (node 
   clients_stay key = ap client_part (went.conns key) ∙ told_clients v went.told.ended (get old.node.conns key)
 
   module _ (plain : PlainNode) (stands : NodeMatch old plain) where
-    abbrev came : (States × Shelves) × AdminTold
+    abbrev came : (States × Shelves) × AdminResult
     came = after_job (admin_job n v asked) plain.vbs plain.shelves
 
     ran : ComesTo SlotsStand (ShelvesStand fuse_device) went.told node.vbs node.disks came
@@ -148,34 +148,34 @@ module _ (old : ScriptNode) (v : ℕ) (asked : AdminCall) (out : NodeOut) (node 
         gone false d e = e
 
         off : OffStands (inside old node) plain.off
-        off = off_stays old (inside old node) plain.off refl (λ key none. tells.peers key ∙ ap (option_map (peer_told v went.told.ended)) none)
+        off = off_stays old (inside old node) plain.off refl (λ key none. tells.peers key ∙ ap (option_map (kept_peer_ended v went.told.ended)) none)
             (λ u none. tells.dials u ∙ gone (is_some went.told.ended && u == v) (dial_under old u) none) stands.off
 
   pub turns : Turned v asked old out (inside old node)
   turns plain stands = (
     after_call plain stands,
-    went.said ∙ ap (λ (t : AdminTold). admin_out (dial_ended t.ended (dial_under old v)) t) (ran plain stands).0,
-    subst (λ (t : AdminTold). TellsEnds old (inside old node) v t.ended) (ran plain stands).0 tells,
+    went.said ∙ ap (λ (t : AdminResult). admin_out (dial_ended t.ended (dial_under old v)) t) (ran plain stands).0,
+    subst (λ (t : AdminResult). TellsEnds old (inside old node) v t.ended) (ran plain stands).0 tells,
   )
 
 -- a call that changes no role ends no stream
-quiet_seal : (a : VbAnswer) → (seal_told a).ended ≡ None
+quiet_seal : (a : VbAnswer) → (seal_result a).ended ≡ None
 quiet_seal (vb_answer.Flag sealed) = refl
 quiet_seal other = refl
 
-quiet_show : (n v : ℕ) (a : VbAnswer) → (show_told n v a).ended ≡ None
+quiet_show : (n v : ℕ) (a : VbAnswer) → (show_result n v a).ended ≡ None
 quiet_show n v (vb_answer.Shown role uuid ss se at image) = refl
 quiet_show n v other = refl
 
-quiet_stat : (n v : ℕ) (a : VbAnswer) → (stat_told n v a).ended ≡ None
+quiet_stat : (n v : ℕ) (a : VbAnswer) → (stat_result n v a).ended ≡ None
 quiet_stat n v (vb_answer.Stat windows items cursors saved high) = refl
 quiet_stat n v other = refl
 
-quiet_log : (n v : ℕ) (a : VbAnswer) → (log_told n v a).ended ≡ None
+quiet_log : (n v : ℕ) (a : VbAnswer) → (log_result n v a).ended ≡ None
 quiet_log n v (vb_answer.Logged log) = refl
 quiet_log n v other = refl
 
-quiet : (n v : ℕ) (asked : AdminCall) → KeepsRole asked → (reply : Option VbReply) → (admin_told n v asked reply).ended ≡ None
+quiet : (n v : ℕ) (asked : AdminCall) → KeepsRole asked → (reply : Option VbReply) → (admin_result n v asked reply).ended ≡ None
 quiet n v asked k None = refl
 quiet n v (admin.Promote uuid) k (Some reply) = absurd k
 quiet n v admin.Follow k (Some reply) = absurd k
@@ -189,7 +189,7 @@ quiet n v admin.Log k (Some reply) = quiet_log n v reply.answer
 untold : (old new : ScriptNode) (v : ℕ) (ended : Option (List ℕ)) → ended ≡ None → TellsEnds old new v ended → KeepsEnds old new
 untold old new v ended none tells = record {
   number = tells.number;
-  peers = λ key. tells.peers key ∙ ap (λ e. option_map (peer_told v e) (peer_under old key)) none ∙ untold_peers v (peer_under old key);
+  peers = λ key. tells.peers key ∙ ap (λ e. option_map (kept_peer_ended v e) (peer_under old key)) none ∙ untold_peers v (peer_under old key);
   dials = λ u. tells.dials u ∙ ap (λ (e : Option (List ℕ)). if is_some e && u == v then None else dial_under old u) none;
 }
 
@@ -198,7 +198,7 @@ module _ (old : ScriptNode) (v : ℕ) (asked : AdminCall) (out : NodeOut) (node 
   pub carries_call : Carries (admin_line (node_number old) v asked) old (out_told out) (inside old node)
   carries_call plain stands =
       let (alike, said, tells) = turns old v asked out node went plain stands in
-      let none = ap (λ (x : PlainNode × AdminTold). x.1.ended) (called_quiet (node_number old) v asked plain keeps) ∙ quiet (node_number old) v asked keeps (states_step plain.vbs v (admin_call asked)).1 in (
+      let none = ap (λ (x : PlainNode × AdminResult). x.1.ended) (called_quiet (node_number old) v asked plain keeps) ∙ quiet (node_number old) v asked keeps (states_step plain.vbs v (admin_call asked)).1 in (
         alike,
         ap out_told said ∙ ap (λ e. out_told (admin_out (dial_ended e (dial_under old v)) (called_at (node_number old) v asked plain).1)) none,
         untold old (inside old node) v (called_at (node_number old) v asked plain).1.ended none tells,
@@ -216,10 +216,10 @@ module _ (old : ScriptNode) (v : ℕ) (out : NodeOut) (node : MemNode) (went : A
   )
     where
       ended : went.told.ended ≡ None
-      ended = let (reply, mid, stepped, ends) = went.ran in ap (λ (t : AdminTold). t.ended) ends.0 ∙ quiet (node_number old) v admin.Log tt reply
+      ended = let (reply, mid, stepped, ends) = went.ran in ap (λ (t : AdminResult). t.ended) ends.0 ∙ quiet (node_number old) v admin.Log tt reply
 
       by : (plain : PlainNode) (o : Option Plain) → plain.vbs v ≡ o → NodeMatch (inside old node) (with_states plain (call_at plain.vbs v call.Log o).0)
-          → was_there out.answer ≡ was_there (admin_told (node_number old) v admin.Log (call_at plain.vbs v call.Log o).1).answer
+          → was_there out.answer ≡ was_there (admin_result (node_number old) v admin.Log (call_at plain.vbs v call.Log o).1).answer
           → NodeMatch (inside old node) plain × (was_there out.answer ≡ is_some o)
       by plain None there alike said = (record { slots = alike.slots; shelves = alike.shelves; made = alike.made; clock = alike.clock; clients = alike.clients; arm = alike.arm; off = alike.off }, said)
       by plain (Some vb) there alike said = (
@@ -245,7 +245,7 @@ module _ (old : ScriptNode) (v : ℕ) (part : FlushPart) (out : NodeOut) (node :
   pub flushes : Flushes v part old out (inside old node)
   flushes plain stands =
       let job = flush_at (node_number old) v part in
-      let came : (States × Shelves) × FlushTold = after_job job plain.vbs plain.shelves in
+      let came : (States × Shelves) × FlushResult = after_job job plain.vbs plain.shelves in
       let ran = known_job job old.node went.told node went.ran plain.vbs stands.slots plain.shelves stands.shelves in (
         with_both old node plain came.0.0 came.0.1 ran.1 ran.2 (λ key. ap (λ (s : Slab Conn). client_part (get s key)) conns) (off_kept old (inside old node) plain.off refl keeps stands.off) stands,
         ap flush_by went.said ∙ ran.0,
@@ -263,7 +263,7 @@ module _ (old : ScriptNode) (v : ℕ) (part : FlushPart) (out : NodeOut) (node :
       }
 
 -- a node after a call that let a vBucket resolve durable writes, which are still to be posted
-abbrev pub SettlesBy : (PlainNode → Prog FlushTold) → ScriptNode → NodeOut → ScriptNode → Type 0
+abbrev pub SettlesBy : (PlainNode → Prog FlushResult) → ScriptNode → NodeOut → ScriptNode → Type 0
 SettlesBy called old out new = (plain : PlainNode) → NodeMatch old plain →
     let (states, told) = after (called plain) plain.vbs in
     NodeMatch new (with_states plain states) × (flush_by out ≡ told) × KeepsEnds old new
@@ -282,10 +282,10 @@ module _ (old : ScriptNode) (node : MemNode) (rest : node ≡ record old.node { 
       with_slots old node plain states slots (ap (λ (x : MemNode). x.disks) rest) (λ key. ap (λ (x : MemNode). client_part (get x.conns key)) rest) (off_kept old (inside old node) plain.off refl vbs_keep stands.off) stands
 
 -- so it is after such a call
-pub settles : (called : PlainNode → Prog FlushTold) (old : ScriptNode) (asked : Prog FlushTold) (out : NodeOut) (node : MemNode) → ((plain : PlainNode) → NodeMatch old plain → called plain ≡ asked)
+pub settles : (called : PlainNode → Prog FlushResult) (old : ScriptNode) (asked : Prog FlushResult) (out : NodeOut) (node : MemNode) → ((plain : PlainNode) → NodeMatch old plain → called plain ≡ asked)
     → Settles (alone_step SlotsStand) asked old.node out node → SettlesBy called old out (inside old node)
 settles called old asked out node same went plain stands =
-    subst (λ (prog : Prog FlushTold). NodeMatch (inside old node) (with_states plain (after prog plain.vbs).0) × (flush_by out ≡ (after prog plain.vbs).1) × KeepsEnds old (inside old node)) (sym (same plain stands))
+    subst (λ (prog : Prog FlushResult). NodeMatch (inside old node) (with_states plain (after prog plain.vbs).0) × (flush_by out ≡ (after prog plain.vbs).1) × KeepsEnds old (inside old node)) (sym (same plain stands))
     (let known = alone_after SlotsStand asked old.node.vbs went.told node.vbs went.ran plain.vbs stands.slots in (
       vbs_match old node went.rest plain (after asked plain.vbs).0 known.1 stands,
       ap flush_by went.said ∙ known.0,

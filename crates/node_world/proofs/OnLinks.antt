@@ -16,7 +16,7 @@ use Rattle.node_world.specs.declared.told.Told.{Told}
 use Rattle.node_world.specs.Cuts.{closed_at, closed_in, unlinked}
 use Rattle.node_world.specs.Ends.{KeepsOthers, SameKeys, LinkLeft, LinkCame, LinkStep, Unlinked, Unlinks, LeavesLink, LeavesOwn}
 use Rattle.node_world.specs.Lines.{at_link, link_line_if, link_line_at}
-use Rattle.node_world.specs.Links.{PlainLink, LinkTold, link_number, producer_node, consumer_node, up_at, pump_at}
+use Rattle.node_world.specs.Links.{PlainLink, LinkResult, link_number, producer_node, consumer_node, up_at, pump_at}
 use Rattle.node_world.specs.Nodes.{PlainNode, refusal}
 use Rattle.node_world.specs.Pairing.{Pairs}
 use Rattle.node_world.specs.Stands.{Ends, ends_of, LinkStands, Apart, IdsStand, LinksStand, Kept, WorldStands}
@@ -133,7 +133,7 @@ module _ (kept : Kept) (w : PlainWorld) (asked : LinkVerb) (l at : ℕ) (link li
   p_found : row_at link_number l w.links ≡ Some p
   p_found = ap (λ n. row_at link_number n w.links) (sym p_number) ∙ found ends kept.links w.links at link first.0 stands.links
 
-  abbrev came : PlainWorld × LinkTold
+  abbrev came : PlainWorld × LinkResult
   came = at_link asked w p
 
   -- the kept world after the step, before a link that is over is taken out

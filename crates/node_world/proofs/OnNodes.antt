@@ -76,8 +76,8 @@ pub absent_line : (kept : Kept) (w : PlainWorld) (n : ℕ) (f : PlainNode → Pl
 absent_line kept w n f none stands = absent_made kept w n (if_up f) none stands
 
 -- a node is down exactly where the plain one is
-pub off_is : (old : ScriptNode) (plain : PlainNode) → NodeMatch old plain → is_some old.off ≡ is_some plain.off
-off_is old plain alike = by plain.off alike.off
+pub off_as_plain : (old : ScriptNode) (plain : PlainNode) → NodeMatch old plain → is_some old.off ≡ is_some plain.off
+off_as_plain old plain alike = by plain.off alike.off
   where
     by : (o : Option (List Book)) → OffStands old o → is_some old.off ≡ is_some o
     by None h = ap is_some h
@@ -95,7 +95,7 @@ seen_up (Some t) up is e = let no : false ≡ true = sym is ∙ e in cc
 -- a line of a running node
 pub up_carries : (g : PlainNode → PlainNode × Told) (old : ScriptNode) (told : Told) (new : ScriptNode) → is_some old.off ≡ false → Carries g old told new → Carries (if_up g) old told new
 up_carries g old told new up carried plain alike =
-    subst (λ b. let x : PlainNode × Told = if b then (plain, refusal cause.NodeDown) else g plain in NodeMatch new x.0 × (told ≡ x.1) × KeepsEnds old new) (sym (sym (off_is old plain alike) ∙ up)) (carried plain alike)
+    subst (λ b. let x : PlainNode × Told = if b then (plain, refusal cause.NodeDown) else g plain in NodeMatch new x.0 × (told ≡ x.1) × KeepsEnds old new) (sym (sym (off_as_plain old plain alike) ∙ up)) (carried plain alike)
 
 -- what is there at n already
 pub same_world : (w : PlainWorld) (n : ℕ) (plain : PlainNode) → w.nodes n ≡ Some plain → with_node_at w n plain ≡ w
@@ -125,10 +125,10 @@ module _ (kept : Kept) (w : PlainWorld) (n at : ℕ) (old new : ScriptNode) (is_
 
   -- whether the plain one is down
   pub off_at : is_off (w.nodes n) ≡ is_some old.off
-  off_at = let (plain, there, alike) = plain_at kept.nodes n at old new is_placed is w stands.nodes in ap is_off there ∙ sym (off_is old plain alike)
+  off_at = let (plain, there, alike) = plain_at kept.nodes n at old new is_placed is w stands.nodes in ap is_off there ∙ sym (off_as_plain old plain alike)
 
   pub up_at : is_up (w.nodes n) ≡ not (is_some old.off)
-  up_at = let (plain, there, alike) = plain_at kept.nodes n at old new is_placed is w stands.nodes in ap is_up there ∙ ap not (sym (off_is old plain alike))
+  up_at = let (plain, there, alike) = plain_at kept.nodes n at old new is_placed is w stands.nodes in ap is_up there ∙ ap not (sym (off_as_plain old plain alike))
 
   pub made_at : is_some (w.nodes n) ≡ true
   made_at = let (plain, there, alike) = plain_at kept.nodes n at old new is_placed is w stands.nodes in ap is_some there
@@ -142,7 +142,7 @@ module _ (kept : Kept) (w : PlainWorld) (n at : ℕ) (old new : ScriptNode) (is_
   pub down_line : is_some old.off ≡ true → (f : PlainNode → PlainNode × Told) → WorldStands kept (on_node w n f).0 × (refusal cause.NodeDown ≡ (on_node w n f).1)
   down_line down f =
       let (plain, there, alike) = plain_at kept.nodes n at old new is_placed is w stands.nodes in
-      let off : is_some plain.off ≡ true = sym (off_is old plain alike) ∙ down in
+      let off : is_some plain.off ≡ true = sym (off_as_plain old plain alike) ∙ down in
       subst (λ o. Comes kept (refusal cause.NodeDown) (node_outcome w n (refusal cause.UnknownNode) o (if_up f))) (sym there)
       (subst (λ b. let x : PlainNode × Told = if b then (plain, refusal cause.NodeDown) else f plain in Comes kept (refusal cause.NodeDown) (with_node_at w n x.0, x.1)) (sym off)
       (subst (WorldStands kept) (sym (same_world w n plain there)) stands, refl))
@@ -152,7 +152,7 @@ module _ (kept : Kept) (w : PlainWorld) (n at : ℕ) (old new : ScriptNode) (is_
   node_seen running =
       let (plain, there, alike) = plain_at kept.nodes n at old new is_placed is w stands.nodes in
       subst (IsNodeIf n (Some old.node)) (sym there) (
-        none_off plain.off (sym (off_is old plain alike) ∙ running),
+        none_off plain.off (sym (off_as_plain old plain alike) ∙ running),
         record { number = numbered kept.nodes n at old new is_placed is; slots = alike.slots; shelves = alike.shelves; keys = old.clients; clients = alike.clients },
       )
     where
@@ -164,7 +164,7 @@ module _ (kept : Kept) (w : PlainWorld) (n at : ℕ) (old new : ScriptNode) (is_
   pub node_hidden : is_some old.off ≡ true → IsNodeIf n None (w.nodes n)
   node_hidden down =
       let (plain, there, alike) = plain_at kept.nodes n at old new is_placed is w stands.nodes in
-      subst (IsNodeIf n None) (sym there) (sym (off_is old plain alike) ∙ down)
+      subst (IsNodeIf n None) (sym there) (sym (off_as_plain old plain alike) ∙ down)
 
 -- a node that has a place is made
 pub made_place : (kept : Kept) (w : PlainWorld) (n at : ℕ) (d : ScriptNode) → position (λ node. node_number node == n) kept.nodes ≡ Some at → WorldStands kept w → is_some (w.nodes n) ≡ true

@@ -31,26 +31,26 @@ use Rattle.vb_calls.specs.Shelves.{Keep, Idle, Shelf, Shelves, Written, ask_at, 
 use Rattle.vb_calls.specs.State.{Plain, is_active}
 use Rattle.vb_calls.specs.States.{States, call_at, with_vb_at}
 use Rattle.vbucket.specs.Rows.{row_at}
-use Rattle.node_core.specs.Admin.{AdminTold, admin_call, admin_refused, admin_told, promote_told}
+use Rattle.node_core.specs.Admin.{AdminResult, admin_call, admin_refused, admin_result, promote_result}
 use Rattle.node_core.specs.declared.admin.AdminCall.{AdminCall}
 use Rattle.node_core.specs.declared.admin.AdminCall.TheVariants as admin
-use Rattle.node_core.specs.Flushing.{FlushTold, flush_told}
-use Rattle.node_core.specs.Peers.{PeerTold, peer_answered, peer_frames, peer_heard}
+use Rattle.node_core.specs.Flushing.{FlushResult, flush_result}
+use Rattle.node_core.specs.Peers.{PeerResult, peer_answered, peer_frames, peer_heard}
 use Rattle.node_world.specs.declared.arm.Fired.{Fired}
 use Rattle.node_world.specs.declared.arm.Fired.TheVariants as fired
 use Rattle.node_world.specs.declared.told.Told.{Told}
 use Rattle.node_world.specs.Arms.{fired_by, placed, under_arm}
 use Rattle.node_world.specs.CallsMade.{node_after, reply_of}
 use Rattle.node_world.specs.Causes.{IsFree}
-use Rattle.node_world.specs.Cuts.{closed_at, cut_off, own_link, told_ended, unlinked}
+use Rattle.node_world.specs.Cuts.{closed_at, cut_off, own_link, link_ended, unlinked}
 use Rattle.node_world.specs.Dues.{due_at, due_in, due_of, is_counted}
 use Rattle.node_world.specs.Lines.{ChangesRole}
-use Rattle.node_world.specs.Links.{PlainLink, feeds, frame_up, frames_up, link_number, peer_asked, peer_of, producer_node, untold_peer, up_at}
+use Rattle.node_world.specs.Links.{PlainLink, feeds, frame_up, frames_up, link_number, frame_posted, peer_of, producer_node, untold_peer, up_at}
 use Rattle.node_world.specs.Nodes.{PlainNode, all_posted, awaits_in, first_cause, flush_line, posted, refusal, refused_or, uuid_causes, with_kept, with_states, written}
-use Rattle.node_world.specs.OutcomesTold.{EndsTold, IsCut, OutcomesTold, TellsBehind, TellsOutcomes, TellsReply, TellsTurn, TurnsAs, RolesTold, UpsTell, changes_of, with_ends}
+use Rattle.node_world.specs.OutcomesTold.{EndsTold, IsCut, OutcomesTold, TellsBehind, TellsOutcomes, TellsReply, TellsTurn, TurnsAs, RolesTold, UpsTell, changes_of, with_streams_ended}
 use Rattle.node_world.specs.Posting.{AwaitsAlone}
 use Rattle.node_world.specs.Power.{after_fire, down_lines, with_arm}
-use Rattle.node_world.specs.Turns.{called_at, no_node, posted_at, posted_in, promote_step, role_called, role_outcome, told_after, turn_step, turned_after, turned_if, with_ended}
+use Rattle.node_world.specs.Turns.{called_at, no_node, posted_at, posted_in, promote_step, role_called, role_outcome, after_cuts, turn_step, turned_after, turned_if, with_ended}
 use Rattle.node_world.specs.World.{link_outcome, on_link, with_link}
 use Rattle.node_world.specs.Worlds.{PlainWorld, Outcome, arm_in, node_if, node_outcome, on_node, with_node_at}
 use Rattle.node_world.proofs.CallsMade.{calls, line_is}
@@ -137,8 +137,8 @@ module _ (n v : ℕ) (node : PlainNode) (vb : Plain) (here : node.vbs v ≡ Some
   T' = (ask_at T v (Keep Idle) (T v)).0
 
   -- by what stands at v
-  abbrev finished : Option Plain → (States × Shelves) × FlushTold
-  finished o = let x = call_at S v (call.FlushDone seq) o in ((x.0, T'), flush_told n v (flushed.Done x.1))
+  abbrev finished : Option Plain → (States × Shelves) × FlushResult
+  finished o = let x = call_at S v (call.FlushDone seq) o in ((x.0, T'), flush_result n v (flushed.Done x.1))
 
   done_is : flush_line n v part.Done node ≡ written node (finished (Some vb))
   done_is =
@@ -197,17 +197,17 @@ posts_links n rs came = by (came.0.nodes n)
 
 module _ (w : PlainWorld) (n : ℕ) (node : PlainNode) (there : w.nodes n ≡ Some node) (up : node.off ≡ None) (v : ℕ) (vb : Plain) (here : node.vbs v ≡ Some vb) where
   -- a change of role that the vBucket makes
-  module _ (asked : AdminCall) (changes : ChangesRole asked) (x : Plain × VbReply) (is : plain_step vb (admin_call asked) ≡ x) (going : is_refusal x.1.answer ≡ false) (ids : List ℕ) (ends : (admin_told n v asked (Some x.1)).ended ≡ Some ids) where
-    abbrev y : PlainNode × AdminTold
+  module _ (asked : AdminCall) (changes : ChangesRole asked) (x : Plain × VbReply) (is : plain_step vb (admin_call asked) ≡ x) (going : is_refusal x.1.answer ≡ false) (ids : List ℕ) (ends : (admin_result n v asked (Some x.1)).ended ≡ Some ids) where
+    abbrev y : PlainNode × AdminResult
     y = under_arm v (called_at n v asked) node
 
-    abbrev noted : (States × Shelves) × AdminTold
+    abbrev noted : (States × Shelves) × AdminResult
     noted = noted_by n v asked node.vbs (placed v node).shelves (with_vb_at node.vbs v x.0) x.1 false
 
     y_is : y.1 ≡ noted.1
     y_is =
         let T = (placed v node).shelves in
-        ap (λ (c : (States × Shelves) × AdminTold). c.1)
+        ap (λ (c : (States × Shelves) × AdminResult). c.1)
         (turn_is n v asked changes node.vbs T
         ∙ ap (λ o. came_if n v asked node.vbs T o) here ∙ ap (λ (z : Plain × VbReply). came_to n v asked node.vbs T z) is ∙ ap (λ b. noted_by n v asked node.vbs T (with_vb_at node.vbs v x.0) x.1 b) going)
 
@@ -217,11 +217,11 @@ module _ (w : PlainWorld) (n : ℕ) (node : PlainNode) (there : w.nodes n ≡ So
     abbrev cut : PlainWorld × List Event
     cut = cut_off (own_link n v w2.links) w2
 
-    turned_as : role_outcome n v asked w ≡ posted_in n y.1.resolved (told_after y.1 cut)
+    turned_as : role_outcome n v asked w ≡ posted_in n y.1.resolved (after_cuts y.1 cut)
     turned_as =
         ap (λ o. turned_after n v w (node_outcome w n no_node o (role_called n v asked))) there
-        ∙ ap (λ (o : Option (List Book)). let z : PlainNode × AdminTold = if is_some o then (node, admin_refused cause.NodeDown) else y in turned_after n v w (with_node_at w n z.0, z.1)) up
-        ∙ ap (λ o. turned_if n v w o (with_node_at w n y.0, y.1)) (ap (λ (t : AdminTold). t.ended) y_is ∙ ends)
+        ∙ ap (λ (o : Option (List Book)). let z : PlainNode × AdminResult = if is_some o then (node, admin_refused cause.NodeDown) else y in turned_after n v w (with_node_at w n z.0, z.1)) up
+        ∙ ap (λ o. turned_if n v w o (with_node_at w n y.0, y.1)) (ap (λ (t : AdminResult). t.ended) y_is ∙ ends)
 
     kept : Keeps node (cut.0.nodes n)
     kept = cut_keeps w2 n node y.0 (ap (λ b. if b then Some y.0 else w.nodes n) (eq-eqb n n refl)) refl (own_link n v w2.links)
@@ -229,10 +229,10 @@ module _ (w : PlainWorld) (n : ℕ) (node : PlainNode) (there : w.nodes n ≡ So
     events_are : (role_outcome n v asked w).1.events ≡ (cut.1 ++ noted.1.events) ++ (all_posted noted.1.resolved kept.0).1
     events_are =
         ap (λ (o : Outcome). o.1.events) turned_as
-        ∙ ap (λ o. (posted_at n y.1.resolved cut.0 (told_after y.1 cut).1 o).1.events) kept.1 ∙ ap (λ (t : AdminTold). (cut.1 ++ t.events) ++ (all_posted t.resolved kept.0).1) y_is
+        ∙ ap (λ o. (posted_at n y.1.resolved cut.0 (after_cuts y.1 cut).1 o).1.events) kept.1 ∙ ap (λ (t : AdminResult). (cut.1 ++ t.events) ++ (all_posted t.resolved kept.0).1) y_is
 
     -- a line that comes to this change of role, and whose call tells these lines
-    module _ (lines : List Event) (told : (admin_told n v asked (Some x.1)).events ≡ lines) (hands : (admin_told n v asked (Some x.1)).resolved ≡ x.1.resolved) (came : Outcome) (at : came ≡ role_outcome n v asked w) where
+    module _ (lines : List Event) (told : (admin_result n v asked (Some x.1)).events ≡ lines) (hands : (admin_result n v asked (Some x.1)).resolved ≡ x.1.resolved) (came : Outcome) (at : came ≡ role_outcome n v asked w) where
       abbrev reply : VbReply
       reply = (plain_step vb (admin_call asked)).1
 
@@ -258,16 +258,16 @@ module _ (w : PlainWorld) (n : ℕ) (node : PlainNode) (there : w.nodes n ≡ So
       -- where no link feeds the vBucket
       module _ (unfed : filter (feeds n v) w.links ≡ []) where
         uncut : own_link n v w2.links ≡ None
-        uncut = found_none (feeds n v) w2.links (mapped (feeds n v) (told_ended n v ids) (same_fed n v ids n v) w.links ∙ ap (map (told_ended n v ids)) unfed)
+        uncut = found_none (feeds n v) w2.links (mapped (feeds n v) (link_ended n v ids) (same_fed n v ids n v) w.links ∙ ap (map (link_ended n v ids)) unfed)
 
-        came_links : came.0.links ≡ map (with_ends n v ids) w.links
+        came_links : came.0.links ≡ map (with_streams_ended n v ids) w.links
         came_links =
-            ap (λ (o : Outcome). o.0.links) (at ∙ turned_as) ∙ posts_links n y.1.resolved (told_after y.1 cut) ∙ ap (λ o. (cut_off o w2).0.links) uncut
+            ap (λ (o : Outcome). o.0.links) (at ∙ turned_as) ∙ posts_links n y.1.resolved (after_cuts y.1 cut) ∙ ap (λ o. (cut_off o w2).0.links) uncut
 
-        ends_are_told : (with_arm n w came).1.answer ≡ line.Ok → (with_arm n w came).0.links ≡ map (with_ends n v ids) w.links
+        ends_are_told : (with_arm n w came).1.answer ≡ line.Ok → (with_arm n w came).0.links ≡ map (with_streams_ended n v ids) w.links
         ends_are_told ok = by (fired_by (arm_in (w.nodes n)).fuse (arm_in (came.0.nodes n)).fuse) ok
           where
-            by : (f : Fired) → (after_fire n (arm_in (w.nodes n)).out f came).1.answer ≡ line.Ok → (after_fire n (arm_in (w.nodes n)).out f came).0.links ≡ map (with_ends n v ids) w.links
+            by : (f : Fired) → (after_fire n (arm_in (w.nodes n)).out f came).1.answer ≡ line.Ok → (after_fire n (arm_in (w.nodes n)).out f came).0.links ≡ map (with_streams_ended n v ids) w.links
             by fired.No ok = came_links
             by fired.Failed ok = came_links
             by fired.Stopped ok = absurd (no_ok cause.Stopped ok)
@@ -329,8 +329,8 @@ module _ (w : PlainWorld) (n : ℕ) (node : PlainNode) (there : w.nodes n ≡ So
     promotes : (fork high : ℕ) (parent : Option ℕ) → (plain_step vb (call.Promote uuid)).1.answer ≡ answer.Branch uuid parent fork high
         → TellsTurn node (plain_step vb (call.Promote uuid)).1 (branch_lines parent fork high) (with_arm n w rises).1.events × TurnsAs (branch_lines parent fork high) (with_arm n w rises).1.events
     promotes fork high parent says =
-        let told : (admin_told n v (admin.Promote uuid) (Some promoted_x.1)).events ≡ branch_lines parent fork high =
-        ap (λ (z : Plain × VbReply). (promote_told n v z.1 z.1.answer).events) (sym leads) ∙ ap (λ a. (promote_told n v (plain_step vb (call.Promote uuid)).1 a).events) says in
+        let told : (admin_result n v (admin.Promote uuid) (Some promoted_x.1)).events ≡ branch_lines parent fork high =
+        ap (λ (z : Plain × VbReply). (promote_result n v z.1 z.1.answer).events) (sym leads) ∙ ap (λ a. (promote_result n v (plain_step vb (call.Promote uuid)).1 a).events) says in
         (turn_tells (admin.Promote uuid) tt promoted_x leads refl _ refl _ told refl rises at_once, turn_is_told (admin.Promote uuid) tt promoted_x leads refl _ refl _ told refl rises at_once)
 
   pub roles_told : RolesTold w n v vb
@@ -378,29 +378,29 @@ module _ (w : PlainWorld) (n : ℕ) (node : PlainNode) (there : w.nodes n ≡ So
 -- ---- frames that go up
 
 -- more frames are told behind
-pub frames_grow : (fs : List Frame) (came : PlainNode × PeerTold) → (more : List Event) × ((frames_up fs came).1.events ≡ came.1.events ++ more)
+pub frames_grow : (fs : List Frame) (came : PlainNode × PeerResult) → (more : List Event) × ((frames_up fs came).1.events ≡ came.1.events ++ more)
 frames_grow [] came = ([], sym (append-nil came.1.events))
 frames_grow (f ∷ fs) came =
     let (more, grows) = frames_grow fs (frame_up f came) in
-    let said = (peer_asked f came.1.peer came.0).1.events in (said ++ more, grows ∙ append_assoc came.1.events said more)
+    let said = (frame_posted f came.1.peer came.0).1.events in (said ++ more, grows ∙ append_assoc came.1.events said more)
 
-module _ (w : PlainWorld) (l : ℕ) (link : PlainLink) (producer : PlainNode) (open_link : row_at link_number l w.links ≡ Some link) (from : w.nodes (producer_node link) ≡ Some producer) where
+module _ (w : PlainWorld) (l : ℕ) (link : PlainLink) (producer : PlainNode) (add_link : row_at link_number l w.links ≡ Some link) (from : w.nodes (producer_node link) ≡ Some producer) where
   up_is : (wanted : ℕ) → (on_link w l producer_node (up_at wanted)).1 ≡ (up_at wanted link producer).1.1
   up_is wanted =
-      ap (λ o. (link_outcome w l producer_node (up_at wanted) o).1) open_link ∙ ap (λ o. (with_link link (node_outcome w (producer_node link) (Some link, refusal cause.UnknownNode) o (up_at wanted link))).1) from
+      ap (λ o. (link_outcome w l producer_node (up_at wanted) o).1) add_link ∙ ap (λ o. (with_link link (node_outcome w (producer_node link) (Some link, refusal cause.UnknownNode) o (up_at wanted link))).1) from
 
   pub ups_tell : UpsTell w l link producer
   ups_tell = record { first = first }
     where
-      first : (number wanted : ℕ) (f : Frame) (more : List Frame) (answered : States × PeerTold) →
+      first : (number wanted : ℕ) (f : Frame) (more : List Frame) (answered : States × PeerResult) →
           let piece = take (min wanted (length link.up)) link.up in peer_frames piece (peer_of link) ≡ f ∷ more → after (peer_answered f (peer_heard piece (peer_of link))) producer.vbs ≡ answered
           → TellsOutcomes producer answered.1.resolved answered.1.events (on_link w l producer_node (up_at wanted)).1.events
       first number wanted f more answered frames is =
           let piece = take (min wanted (length link.up)) link.up in
           let peer = peer_heard piece (peer_of link) in
-          let begun : PlainNode × PeerTold = (producer, untold_peer peer) in
+          let begun : PlainNode × PeerResult = (producer, untold_peer peer) in
           let (later, grows) = frames_grow more (frame_up f begun) in
           tells_more producer answered.1.resolved answered.1.events (answered.1.events ++ (all_posted answered.1.resolved (with_states producer answered.0)).1) later (on_link w l producer_node (up_at wanted)).1.events
           (tells_if producer (with_states producer answered.0) answered.1.resolved answered.1.events (answered.1.events ++ (all_posted answered.1.resolved (with_states producer answered.0)).1) refl refl)
           (ap (λ (t : Told). t.events) (up_is wanted)
-          ∙ ap (λ fs. (frames_up fs begun).1.events) frames ∙ grows ∙ ap (λ (x : States × PeerTold). (x.1.events ++ (all_posted x.1.resolved (with_states producer x.0)).1) ++ later) is)
+          ∙ ap (λ fs. (frames_up fs begun).1.events) frames ∙ grows ∙ ap (λ (x : States × PeerResult). (x.1.events ++ (all_posted x.1.resolved (with_states producer x.0)).1) ++ later) is)

@@ -12,11 +12,11 @@ use Rattle.vb_calls.specs.States.{States, call_at, with_vb_at}
 use Rattle.vbucket.specs.Rows.{row_put}
 use Rattle.dcp_consumer.specs.declared.handshake.Handshake.TheVariants as handshake
 use Rattle.dcp_consumer.specs.Machine.{is_streaming, may_acknowledge}
-use Rattle.node_core.specs.Dials.{DialTold, acknowledged_told, dial_due, due_asked, due_in as told_in, due_met, due_told as told_due, saved_told, untold}
+use Rattle.node_core.specs.Dials.{DialResult, acknowledged_result, dial_due, due_requested, due_in as told_in, due_met, due_of_reply as told_due, saved_of_reply, untold}
 use Rattle.node_core.proofs.Acknowledging.{idle_is_silent}
 use Rattle.node_world.specs.declared.told.Told.{Told}
 use Rattle.node_world.specs.Cuts.{own_link}
-use Rattle.node_world.specs.Dues.{due_at, due_in, due_of, due_told, is_counted}
+use Rattle.node_world.specs.Dues.{due_at, due_in, due_of, with_acknowledged, is_counted}
 use Rattle.node_world.specs.Links.{PlainLink, dial_of, feeds, link_number}
 use Rattle.node_world.specs.Nodes.{PlainNode}
 use Rattle.node_world.specs.Owed.{AcknowledgesDue, Acknowledges, MayAcknowledge, acknowledging}
@@ -56,7 +56,7 @@ module _ (n v : ℕ) (came : Outcome) where
       where
         at : (o : Option PlainNode) → (due_at n link w told o).1 ≡ told
         at None = refl
-        at (Some node) = ap (λ (p : Prog DialTold). (due_told n link node w told (after p node.vbs)).1) (idle_is_silent (dial_of link) ne) ∙ same_told told
+        at (Some node) = ap (λ (p : Prog DialResult). (with_acknowledged n link node w told (after p node.vbs)).1) (idle_is_silent (dial_of link) ne) ∙ same_told told
 
         by : (b : Bool) → (by_count b).1 ≡ told
         by true = ap (λ o. (by_link o).1) owned ∙ at (w.nodes n)
@@ -66,7 +66,7 @@ module _ (n v : ℕ) (came : Outcome) where
       abbrev dv : ℕ
       dv = link.consumer.dialed.vb
 
-      abbrev s : DialTold
+      abbrev s : DialResult
       s = untold (dial_of link)
 
       here : node.vbs dv ≡ Some vb
@@ -80,26 +80,26 @@ module _ (n v : ℕ) (came : Outcome) where
       still = ap (λ b. if b then Some vb else node.vbs dv) (eq-eqb dv dv refl)
 
       -- by whether there is something to acknowledge
-      abbrev met : Bool → States × DialTold
-      met b = after (if b then Call dv call.Stat (λ reply. Done (acknowledged_told seq s (saved_told reply))) else Done s) S
+      abbrev met : Bool → States × DialResult
+      met b = after (if b then Call dv call.Stat (λ reply. Done (acknowledged_result seq s (saved_of_reply reply))) else Done s) S
 
       -- by what stands there
-      abbrev stated : Option Plain → States × DialTold
-      stated o = let x = call_at S dv call.Stat o in (x.0, acknowledged_told seq s (saved_told x.1))
+      abbrev stated : Option Plain → States × DialResult
+      stated o = let x = call_at S dv call.Stat o in (x.0, acknowledged_result seq s (saved_of_reply x.1))
 
       asked : after (dial_due (dial_of link)) node.vbs ≡ met (may_acknowledge seq link.consumer)
-      unfolding due_asked
+      unfolding due_requested
       asked =
           ap (λ h. after (if is_streaming h then Call dv call.Due (λ reply. due_met s (told_due reply)) else Done s) node.vbs) streams
           ∙ ap (λ o. let x = call_at node.vbs dv call.Due o in after (due_met s (told_due x.1)) x.0) here ∙ ap (λ a. after (due_met s (told_in a)) S) may.due
 
-      comes : due_in n v came ≡ due_told n link node w told (after (dial_due (dial_of link)) node.vbs)
+      comes : due_in n v came ≡ with_acknowledged n link node w told (after (dial_due (dial_of link)) node.vbs)
       comes = ap (λ a. by_count (is_counted a)) is ∙ ap by_link owned ∙ ap (due_at n link w told) may.made
 
       owes : link.consumer.acked < seq → Acknowledges n v seq vb link came (due_in n v came)
       owes above =
-          let whole : due_in n v came ≡ due_told n link node w told (stated (Some vb)) =
-          comes ∙ ap (due_told n link node w told) (asked ∙ (λ i. met (is_streaming (streams i) && lt-ltb link.consumer.acked seq above i)) ∙ ap stated still) in
+          let whole : due_in n v came ≡ with_acknowledged n link node w told (stated (Some vb)) =
+          comes ∙ ap (with_acknowledged n link node w told) (asked ∙ (λ i. met (is_streaming (streams i) && lt-ltb link.consumer.acked seq above i)) ∙ ap stated still) in
           record {
             told = ap (λ (o : Outcome). o.1) whole ∙ (λ i. record told { events = told.events ++ event.Acknowledged (name.Link (link_number link)) (same.0 i) (same.1 i) seq vb.saved ∷ [] });
             links = ap (λ (o : Outcome). o.0.links) whole ∙ ap (λ u. row_put link_number (link_number link) (acknowledging u seq link) w.links) same.1;
@@ -107,7 +107,7 @@ module _ (n v : ℕ) (came : Outcome) where
 
       owes_nothing : seq ≤ link.consumer.acked → (due_in n v came).1 ≡ told
       owes_nothing below =
-          ap (λ (o : Outcome). o.1) (comes ∙ ap (due_told n link node w told) (asked ∙ (λ i. met (is_streaming (streams i) && le-ltb link.consumer.acked seq below i)))) ∙ same_told told
+          ap (λ (o : Outcome). o.1) (comes ∙ ap (with_acknowledged n link node w told) (asked ∙ (λ i. met (is_streaming (streams i) && le-ltb link.consumer.acked seq below i)))) ∙ same_told told
 
   unfed : filter (feeds n v) w.links ≡ [] → due_in n v came ≡ came
   unfed none = by (is_counted told.answer)

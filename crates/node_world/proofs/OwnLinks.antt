@@ -14,18 +14,18 @@ use Rattle.vb_calls.specs.declared.calls.Resolved.{Resolved}
 use Rattle.vbucket.specs.Rows.{row_at, row_out}
 use Rattle.node_core.specs.declared.admin.AdminCall.{AdminCall}
 use Rattle.node_core.specs.declared.admin.AdminCall.TheVariants as admin
-use Rattle.node_core.specs.Admin.{AdminTold, admin_refused}
+use Rattle.node_core.specs.Admin.{AdminResult, admin_refused}
 use Rattle.dcp_producer.specs.Ending.{ended_by}
 use Rattle.node_world.specs.declared.arm.Fired.{Fired}
 use Rattle.node_world.specs.declared.arm.Fired.TheVariants as fired
 use Rattle.node_world.specs.Arms.{fired_by, placed, under_arm}
 use Rattle.node_world.specs.Power.{after_fire, with_arm}
-use Rattle.node_world.specs.Cuts.{own_link, cut_off, told_ended}
+use Rattle.node_world.specs.Cuts.{own_link, cut_off, link_ended}
 use Rattle.node_world.specs.Lines.{ChangesRole}
 use Rattle.node_world.specs.Links.{PlainLink, link_number, producer_node, feeds}
 use Rattle.node_world.specs.Nodes.{PlainNode, all_posted, first_cause, refused_or}
 use Rattle.node_world.specs.OwnLinks.{CutsOwn, RolesCutLinks}
-use Rattle.node_world.specs.Turns.{call_told, called_at, posted_at, posted_in, role_called, told_after, turned, with_ended, turned_if, turned_after, no_node, role_outcome, promote_causes, turn_causes}
+use Rattle.node_world.specs.Turns.{call_told, called_at, posted_at, posted_in, role_called, after_cuts, turned, with_ended, turned_if, turned_after, no_node, role_outcome, promote_causes, turn_causes}
 use Rattle.node_world.specs.Worlds.{PlainWorld, Outcome, arm_in, with_node_at, node_outcome}
 use Rattle.node_world.proofs.RoleJobs.{turn_stays}
 
@@ -89,14 +89,14 @@ module _ {X : Type 0} (f : X → Bool) where
 
 -- a link whose producer was told of ended streams feeds what it fed
 module _ (m u : ℕ) (ids : List ℕ) where
-  same_number : (link : PlainLink) → link_number (told_ended m u ids link) ≡ link_number link
+  same_number : (link : PlainLink) → link_number (link_ended m u ids link) ≡ link_number link
   same_number link = by (producer_node link == m)
     where
       by : (b : Bool) → link_number (if b then record link { server = ended_by u ids link.server } else link) ≡ link_number link
       by true = refl
       by false = refl
 
-  pub same_fed : (n v : ℕ) (link : PlainLink) → feeds n v (told_ended m u ids link) ≡ feeds n v link
+  pub same_fed : (n v : ℕ) (link : PlainLink) → feeds n v (link_ended m u ids link) ≡ feeds n v link
   same_fed n v link = by (producer_node link == m)
     where
       by : (b : Bool) → feeds n v (if b then record link { server = ended_by u ids link.server } else link) ≡ feeds n v link
@@ -104,15 +104,15 @@ module _ (m u : ℕ) (ids : List ℕ) where
       by false = refl
 
 -- the vBucket's own link is cut
-module _ (w : PlainWorld) (n v : ℕ) (told : AdminTold) (ids : List ℕ) (w1 : PlainWorld) (links : w1.links ≡ w.links) where
+module _ (w : PlainWorld) (n v : ℕ) (told : AdminResult) (ids : List ℕ) (w1 : PlainWorld) (links : w1.links ≡ w.links) where
   abbrev w2 : PlainWorld
   w2 = with_ended n v ids w1
 
   abbrev g : PlainLink → PlainLink
-  g = told_ended n v ids
+  g = link_ended n v ids
 
   abbrev after_cut : Option PlainLink → Outcome
-  after_cut o = told_after told (cut_off o w2)
+  after_cut o = after_cuts told (cut_off o w2)
 
   fed_then : filter (feeds n v) w2.links ≡ map g (filter (feeds n v) w.links)
   fed_then = mapped (feeds n v) g (same_fed n v ids n v) w1.links ∙ ap (λ ls. map g (filter (feeds n v) ls)) links
@@ -156,14 +156,14 @@ module _ (w : PlainWorld) (n v : ℕ) (asked : AdminCall) (changes : ChangesRole
   role_cuts : CutsOwn n v w (role_outcome n v asked w)
   role_cuts = by (w.nodes n)
     where
-      by_told : (w1 : PlainWorld) → w1.links ≡ w.links → (told : AdminTold) → (told.ended ≡ None → told.answer ≡ answer.Ok → ⊥) → (ended : Option (List ℕ)) → told.ended ≡ ended → CutsOwn n v w (turned_if n v w ended (w1, told))
+      by_told : (w1 : PlainWorld) → w1.links ≡ w.links → (told : AdminResult) → (told.ended ≡ None → told.answer ≡ answer.Ok → ⊥) → (ended : Option (List ℕ)) → told.ended ≡ ended → CutsOwn n v w (turned_if n v w ended (w1, told))
       by_told w1 links told never None e = uncut n v w (turned_if n v w None (w1, told)) (never e)
       by_told w1 links told never (Some ids) e = posted told.resolved (turned n v told (with_ended n v ids w1)) (was_cut w n v told ids w1 links)
 
-      by_off : (node : PlainNode) (b : Bool) → let x : PlainNode × AdminTold = if b then (node, admin_refused cause.NodeDown) else under_arm v (called_at n v asked) node in CutsOwn n v w (turned_after n v w (with_node_at w n x.0, x.1))
+      by_off : (node : PlainNode) (b : Bool) → let x : PlainNode × AdminResult = if b then (node, admin_refused cause.NodeDown) else under_arm v (called_at n v asked) node in CutsOwn n v w (turned_after n v w (with_node_at w n x.0, x.1))
       by_off node true = uncut n v w (w, call_told (admin_refused cause.NodeDown)) (λ ok. cc)
       by_off node false =
-          let x : PlainNode × AdminTold = under_arm v (called_at n v asked) node in
+          let x : PlainNode × AdminResult = under_arm v (called_at n v asked) node in
           by_told (with_node_at w n x.0) refl x.1 (λ none ok. (turn_stays n v asked changes (placed v node) none).2 ok) x.1.ended refl
 
       by : (o : Option PlainNode) → CutsOwn n v w (turned_after n v w (node_outcome w n no_node o (role_called n v asked)))

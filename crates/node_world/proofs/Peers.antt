@@ -14,11 +14,11 @@ use Rattle.dcp_producer.specs.Ending.{end_closed}
 use Rattle.node_core.specs.declared.conn.Conn.{Conn}
 use Rattle.node_core.specs.declared.conn.ConnKind.TheVariants as kind
 use Rattle.node_core.specs.declared.out.NodeOut.{NodeOut}
-use Rattle.node_core.specs.Calls.{dial_asked}
-use Rattle.node_core.specs.Dials.{PlainDial, KeptDial, DialTold, dial_due, dial_fed}
+use Rattle.node_core.specs.Calls.{dial_requested}
+use Rattle.node_core.specs.Dials.{PlainDial, KeptDial, DialResult, dial_due, dial_bytes}
 use Rattle.node_core.specs.Outcomes.{value_at, Renumbered, peer_conn, live_dial, Opened, ConnHeard, Heard, Answered, AnsweredAt, Pulled, PulledAt, Shut, ShutAt, DialedAs, Dialed, DialDue, DialDueAt, DialFed, DialFedAt, DialShutAt, dial_left}
 use Rattle.node_core.specs.Outs.{done_out, peer_out, pull_out, dial_out}
-use Rattle.node_core.specs.Peers.{PlainPeer, PeerTold, PullTold, peer_heard, peer_frames, peer_answered, peer_pulled}
+use Rattle.node_core.specs.Peers.{PlainPeer, PeerResult, PullResult, peer_heard, peer_frames, peer_answered, peer_pulled}
 use Rattle.mcbp_frame.specs.declared.frame.Frame.{Frame}
 use Rattle.node_world.specs.declared.script_node.ScriptNode.{ScriptNode}
 use Rattle.node_world.specs.Ends.{peer_under, dial_under, PutsPeer, PutsDial, OpensPeer, PullsPeer, ShutsPeer, DialCame, DialsFor, DuesDial, CutsDial, dial_given}
@@ -93,7 +93,7 @@ module _ (old : ScriptNode) (key : ℕ) (out : NodeOut) (node : MemNode) where
         with_slots old node plain (after (peer_answered f peer) plain.vbs).0 known.1 (ap (λ (x : MemNode). x.disks) answered.rest) (clients_stay old key (Some answered.left) node answered.conns (ap (λ c. client_part (Some c)) left) (ap client_part is))
             (off_up old (inside old node) plain.off refl (peer_is_up old plain.off key (live_peer peer) has stands.off) stands.off) stands,
         said ∙ ap peer_out known.0,
-        subst (PutsPeer old (inside old node) key) (ap (λ c. peer_part (Some c)) left ∙ ap (λ (t : PeerTold). Some (live_peer t.peer)) known.0) put,
+        subst (PutsPeer old (inside old node) key) (ap (λ c. peer_part (Some c)) left ∙ ap (λ (t : PeerResult). Some (live_peer t.peer)) known.0) put,
       )
 
   -- puts frames of its stream
@@ -106,7 +106,7 @@ module _ (old : ScriptNode) (key : ℕ) (out : NodeOut) (node : MemNode) where
       let put = puts old key (Some pulled.left) node pulled.conns (ap (λ (x : MemNode). x.number) pulled.rest) (ap (λ (x : MemNode). x.dials) pulled.rest) in (
         with_slots old node plain (after (peer_pulled frames peer) plain.vbs).0 known.1 (ap (λ (x : MemNode). x.disks) pulled.rest) (clients_stay old key (Some pulled.left) node pulled.conns (ap (λ c. client_part (Some c)) left) (ap client_part is)) (off_up old (inside old node) plain.off refl (peer_is_up old plain.off key (live_peer peer) has stands.off) stands.off) stands,
         said ∙ ap pull_out known.0,
-        subst (PutsPeer old (inside old node) key) (ap (λ c. peer_part (Some c)) left ∙ ap (λ (t : PullTold). Some (live_peer t.peer)) known.0) put,
+        subst (PutsPeer old (inside old node) key) (ap (λ c. peer_part (Some c)) left ∙ ap (λ (t : PullResult). Some (live_peer t.peer)) known.0) put,
       )
 
   -- and its connection is closed
@@ -141,7 +141,7 @@ module _ (old : ScriptNode) (v : ℕ) (out : NodeOut) (node : MemNode) where
   -- is made
   pub dials_for : (link : ℕ) (is_free : Bool) → Dialed (alone_step SlotsStand) v link is_free old.node out node → DialsFor v link is_free old out (inside old node)
   dials_for link is_free went plain stands up =
-      let asked = dial_asked v (is_free && not (is_some (dial_under old v))) in
+      let asked = dial_requested v (is_free && not (is_some (dial_under old v))) in
       let known = alone_after SlotsStand asked old.node.vbs went.said node.vbs went.ran plain.vbs stands.slots in (
         with_slots old node plain (after asked plain.vbs).0 known.1 (ap (λ (x : MemNode). x.disks) went.rest) (same_clients conns) (off_up old (inside old node) plain.off refl up stands.off) stands,
         subst (λ said. DialCame v link said old out (inside old node)) known.0 (by went.said went.dials),
@@ -161,13 +161,13 @@ module _ (old : ScriptNode) (v : ℕ) (out : NodeOut) (node : MemNode) where
   pub feeds_dial : (piece : List ℕ) → DialFedAt (alone_step SlotsStand) MemAsks v piece (value_at old.node.dials v) old.node out node → FedDial v piece old out (inside old node)
   feeds_dial piece went plain dial stands has =
       let fed : DialFed (alone_step SlotsStand) MemAsks v piece (live_dial dial) old.node out node = subst (λ o. DialFedAt (alone_step SlotsStand) MemAsks v piece o old.node out node) has went in
-      let job = dial_fed piece dial in
+      let job = dial_bytes piece dial in
       let kept = (after_job job plain.vbs plain.shelves).0 in
       let known = known_job job old.node fed.told node fed.ran plain.vbs stands.slots plain.shelves stands.shelves in
       let conns = ap (λ (x : MemNode). x.conns) fed.rest in (
         with_both old node plain kept.0 kept.1 known.1 known.2 (same_clients conns) (off_up old (inside old node) plain.off refl (dial_is_up old plain.off v (live_dial dial) has stands.off) stands.off) stands,
         fed.said ∙ ap dial_out known.0,
-        subst (λ (t : DialTold). PutsDial old (inside old node) v (dial_left t.dial)) known.0 (puts_dial _ (ap (λ (x : MemNode). x.number) fed.rest) conns fed.dials),
+        subst (λ (t : DialResult). PutsDial old (inside old node) v (dial_left t.dial)) known.0 (puts_dial _ (ap (λ (x : MemNode). x.number) fed.rest) conns fed.dials),
       )
 
   -- acknowledges what is due
@@ -177,8 +177,8 @@ module _ (old : ScriptNode) (v : ℕ) (out : NodeOut) (node : MemNode) where
       let known = alone_after SlotsStand (dial_due dial) old.node.vbs due.told node.vbs due.ran plain.vbs stands.slots in
       let conns = ap (λ (x : MemNode). x.conns) due.rest in (
         with_slots old node plain (after (dial_due dial) plain.vbs).0 known.1 (ap (λ (x : MemNode). x.disks) due.rest) (same_clients conns) (off_up old (inside old node) plain.off refl (dial_is_up old plain.off v (live_dial dial) has stands.off) stands.off) stands,
-        due.said ∙ ap (λ (t : DialTold). done_out t.events t.out) known.0,
-        subst (λ (t : DialTold). PutsDial old (inside old node) v (Some (live_dial t.dial))) known.0 (puts_dial _ (ap (λ (x : MemNode). x.number) due.rest) conns due.dials),
+        due.said ∙ ap (λ (t : DialResult). done_out t.events t.out) known.0,
+        subst (λ (t : DialResult). PutsDial old (inside old node) v (Some (live_dial t.dial))) known.0 (puts_dial _ (ap (λ (x : MemNode). x.number) due.rest) conns due.dials),
       )
 
   -- is let go

@@ -10,7 +10,7 @@ use Rattle.vbucket.proofs.RowsAt.{at_place, at_set, not_placed}
 use Rattle.node_core.specs.Dials.{KeptDial}
 use Rattle.node_core.specs.Peers.{KeptPeer}
 use Rattle.node_world.specs.declared.script_node.ScriptNode.{ScriptNode}
-use Rattle.node_world.specs.Ends.{peer_under, dial_under, PutsPeer, PutsDial, peer_told, TellsEnds}
+use Rattle.node_world.specs.Ends.{peer_under, dial_under, PutsPeer, PutsDial, kept_peer_ended, TellsEnds}
 use Rattle.node_world.specs.Nodes.{PlainNode}
 use Rattle.node_world.specs.Stands.{NodeMatch, NodeStands, node_number, NodesStand, peer_in, dial_in, Ends, ends_of}
 use Rattle.node_world.specs.Worlds.{PlainWorld, node_outcome, node_if, with_node_if}
@@ -170,11 +170,11 @@ module _ (nodes : List ScriptNode) (n at : ℕ) (old new : ScriptNode) (placed :
 
     -- its peers were told of a change of role at a vBucket, whose dial is let go
     module _ (v : ℕ) (ended : Option (List ℕ)) (tells : TellsEnds old new v ended) where
-      pub peers_told : (m key : ℕ) → after.peers m key ≡ (if m == n then option_map (peer_told v ended) (before.peers m key) else before.peers m key)
+      pub peers_told : (m key : ℕ) → after.peers m key ≡ (if m == n then option_map (kept_peer_ended v ended) (before.peers m key) else before.peers m key)
       peers_told m key = peers_after m key ∙ by (m == n) refl
         where
-          by : (b : Bool) → (m == n) ≡ b → (if b then peer_under new key else before.peers m key) ≡ (if b then option_map (peer_told v ended) (before.peers m key) else before.peers m key)
-          by true e = tells.peers key ∙ ap (option_map (peer_told v ended)) (sym (peer_there m key e))
+          by : (b : Bool) → (m == n) ≡ b → (if b then peer_under new key else before.peers m key) ≡ (if b then option_map (kept_peer_ended v ended) (before.peers m key) else before.peers m key)
+          by true e = tells.peers key ∙ ap (option_map (kept_peer_ended v ended)) (sym (peer_there m key e))
           by false e = refl
 
       pub dials_told : (m u : ℕ) → after.dials m u ≡ (if m == n then (if is_some ended && u == v then None else before.dials m u) else before.dials m u)

@@ -10,7 +10,7 @@ use Rattle.node_core.specs.declared.out.NodeOut.{NodeOut}
 use Rattle.vb_calls.specs.Jobs.{after_job}
 use Rattle.vb_calls.specs.Programs.{Prog, after}
 use Rattle.vb_types.specs.declared.journal.FlushPart.{FlushPart}
-use Rattle.node_core.specs.Flushing.{FlushTold, flush_at}
+use Rattle.node_core.specs.Flushing.{FlushResult, flush_at}
 use Rattle.node_core.specs.Outcomes.{conn_awaits, value_at}
 use Rattle.node_core.specs.Outs.{flush_by}
 use Rattle.node_world.specs.declared.script_node.ScriptNode.{ScriptNode}
@@ -151,13 +151,13 @@ tells old new out lines told (more, is, went) says plain stands =
     (alike, says ∙ (λ i. record { events = (is ∙ ap (λ ls. out.events ++ ls) said) i; answer = out.answer }), keeps)
 
 -- a call made this of the plain node, and told this, and then what came of the outcomes was told
-pub then_told : (f : PlainNode → PlainNode × FlushTold) (old mid new : ScriptNode) (out : NodeOut) (told : Told) → ((plain : PlainNode) → NodeMatch old plain → NodeMatch mid (f plain).0 × (flush_by out ≡ (f plain).1) × KeepsEnds old mid)
+pub then_told : (f : PlainNode → PlainNode × FlushResult) (old mid new : ScriptNode) (out : NodeOut) (told : Told) → ((plain : PlainNode) → NodeMatch old plain → NodeMatch mid (f plain).0 × (flush_by out ≡ (f plain).1) × KeepsEnds old mid)
     → Carries (with_posts (flush_by out)) mid told new → Carries (λ plain. with_posts (f plain).1 (f plain).0) old told new
 then_told f old mid new out told first second plain stands =
     let (alike, said, keeps) = first plain stands in
     let went = second (f plain).0 alike in
     let all : NodeMatch new (with_posts (f plain).1 (f plain).0).0 × (told ≡ (with_posts (f plain).1 (f plain).0).1) × KeepsEnds mid new =
-    subst (λ (t : FlushTold). NodeMatch new (with_posts t (f plain).0).0 × (told ≡ (with_posts t (f plain).0).1) × KeepsEnds mid new) said went in
+    subst (λ (t : FlushResult). NodeMatch new (with_posts t (f plain).0).0 × (told ≡ (with_posts t (f plain).0).1) × KeepsEnds mid new) said went in
     (all.0, all.1, both_keep old mid new keeps all.2)
 
 -- a step of writing a vBucket down
@@ -166,7 +166,7 @@ writes v part old mid new out told first second =
     then_told (λ plain. let came = after_job (flush_at (node_number old) v part) plain.vbs plain.shelves in (with_kept plain came.0, came.1)) old mid new out told first second
 
 -- a call that let a vBucket resolve durable writes
-pub settles_told : (called : PlainNode → Prog FlushTold) (old mid new : ScriptNode) (out : NodeOut) (told : Told) → SettlesBy called old out mid → Carries (with_posts (flush_by out)) mid told new
+pub settles_told : (called : PlainNode → Prog FlushResult) (old mid new : ScriptNode) (out : NodeOut) (told : Told) → SettlesBy called old out mid → Carries (with_posts (flush_by out)) mid told new
     → Carries (λ plain. settled plain (after (called plain) plain.vbs)) old told new
 settles_told called old mid new out told first second =
     then_told (λ plain. let came = after (called plain) plain.vbs in (with_states plain came.0, came.1)) old mid new out told first second

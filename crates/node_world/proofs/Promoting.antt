@@ -16,10 +16,10 @@ use Rattle.vb_calls.specs.States.{States}
 use Rattle.vb_calls.specs.declared.calls.VbReply.{VbReply}
 use Rattle.node_core.specs.declared.admin.AdminCall.{AdminCall}
 use Rattle.node_core.specs.declared.admin.AdminCall.TheVariants as admin
-use Rattle.node_core.specs.Admin.{AdminTold, admin_refused, promote_cause}
+use Rattle.node_core.specs.Admin.{AdminResult, admin_refused, promote_cause}
 use Rattle.node_world.specs.declared.told.Told.{Told}
 use Rattle.node_world.specs.Arms.{lifted, placed, under_arm}
-use Rattle.node_world.specs.Lines.{ChangesRole, asked_id, named_cause, cause_named}
+use Rattle.node_world.specs.Lines.{ChangesRole, free_uuid, named_cause, with_named_cause}
 use Rattle.node_world.specs.Stands.{Kept, WorldStands}
 use Rattle.node_world.specs.Nodes.{PlainNode, first_cause, refusal, refused_or, is_one_of, uuid_causes}
 use Rattle.node_world.specs.Turns.{called, called_at, role_called, turned_after, no_node, role_outcome, role_causes, promote_step, turn_step}
@@ -41,12 +41,12 @@ same_cause uuid answer.Ok e = refl
 same_cause uuid (answer.Number k) e = refl
 same_cause uuid (answer.Pulled k why) e = refl
 
-same_outcome : (uuid : ℕ) (x : Outcome) → (uuid == 0) ≡ false → x ≡ cause_named uuid x
+same_outcome : (uuid : ℕ) (x : Outcome) → (uuid == 0) ≡ false → x ≡ with_named_cause uuid x
 same_outcome uuid x e = λ i. (x.0, record { events = x.1.events; answer = sym (same_cause uuid x.1.answer e) i })
 
 module _ (w : PlainWorld) (n v : ℕ) (node : PlainNode) (asked : AdminCall) where
   -- what a call that changes a role makes of the world
-  abbrev outcome_of : (States × Shelves) × AdminTold → Outcome
+  abbrev outcome_of : (States × Shelves) × AdminResult → Outcome
   outcome_of came = turned_after n v w (with_node_at w n (lifted v (called (placed v node) came).0), came.1)
 
   -- what it comes to, by what stands at v
@@ -58,7 +58,7 @@ module _ (w : PlainWorld) (n v : ℕ) (node : PlainNode) (asked : AdminCall) whe
   outcome_by x = outcome_of (came_to n v asked node.vbs (placed v node).shelves x)
 
   -- by whether the node is down
-  abbrev by_off : Bool → PlainNode × AdminTold
+  abbrev by_off : Bool → PlainNode × AdminResult
   by_off b = if b then (node, admin_refused cause.NodeDown) else under_arm v (called_at n v asked) node
 
   abbrev outcome_off : Bool → Outcome
@@ -70,7 +70,7 @@ module _ (w : PlainWorld) (n v : ℕ) (node : PlainNode) (asked : AdminCall) whe
 -- a promotion
 module _ (w : PlainWorld) (n v uuid : ℕ) where
   abbrev id : ℕ
-  id = asked_id w.uuids uuid
+  id = free_uuid w.uuids uuid
 
   module _ (node : PlainNode) (vb : Plain) where
     -- one that its vBucket refuses
@@ -92,42 +92,42 @@ module _ (w : PlainWorld) (n v uuid : ℕ) where
 
     -- the id is refused, or the vBucket decides
     by_id : (zero used : Bool) → (uuid == 0) ≡ zero → is_one_of uuid w.uuids ≡ used → is_active vb.role ≡ false
-        → refused_or (if zero then Some cause.UuidZero else if used then Some cause.UuidUsed else None) w (outcome w n v node (admin.Promote uuid) (Some vb)) ≡ cause_named uuid (outcome w n v node (admin.Promote id) (Some vb))
+        → refused_or (if zero then Some cause.UuidZero else if used then Some cause.UuidUsed else None) w (outcome w n v node (admin.Promote uuid) (Some vb)) ≡ with_named_cause uuid (outcome w n v node (admin.Promote id) (Some vb))
     by_id true used e f idle =
-        sym (ap (λ b. (w, refusal (if b then cause.UuidZero else cause.UuidUsed))) e) ∙ sym (ap (cause_named uuid) (refused_as id status.Einval (no_id id idle (zero_stays (is_one_of uuid w.uuids) e))))
+        sym (ap (λ b. (w, refusal (if b then cause.UuidZero else cause.UuidUsed))) e) ∙ sym (ap (with_named_cause uuid) (refused_as id status.Einval (no_id id idle (zero_stays (is_one_of uuid w.uuids) e))))
     by_id false true e f idle =
         sym (ap (λ b. (w, refusal (if b then cause.UuidZero else cause.UuidUsed))) e)
-        ∙ sym (ap (cause_named uuid) (refused_as id status.Einval (no_id id idle (ap (λ b. (if b then 0 else uuid) == 0) f))))
+        ∙ sym (ap (with_named_cause uuid) (refused_as id status.Einval (no_id id idle (ap (λ b. (if b then 0 else uuid) == 0) f))))
     by_id false false e f idle =
-        same_outcome uuid (outcome w n v node (admin.Promote uuid) (Some vb)) e ∙ sym (ap (λ b. cause_named uuid (outcome w n v node (admin.Promote (if b then 0 else uuid)) (Some vb))) f)
+        same_outcome uuid (outcome w n v node (admin.Promote uuid) (Some vb)) e ∙ sym (ap (λ b. with_named_cause uuid (outcome w n v node (admin.Promote (if b then 0 else uuid)) (Some vb))) f)
 
     -- it is active already, or not
     by_role : (active : Bool) → is_role vb.role role.Active ≡ active
         → refused_or (if active then Some cause.WrongRole else if uuid == 0 then Some cause.UuidZero else if is_one_of uuid w.uuids then Some cause.UuidUsed else None) w (outcome w n v node (admin.Promote uuid) (Some vb))
-        ≡ cause_named uuid (outcome w n v node (admin.Promote id) (Some vb))
-    by_role true e = sym (ap (cause_named uuid) (refused_as id status.NotMyVbucket (wrong_role id (active_is vb.role ∙ e))))
+        ≡ with_named_cause uuid (outcome w n v node (admin.Promote id) (Some vb))
+    by_role true e = sym (ap (with_named_cause uuid) (refused_as id status.NotMyVbucket (wrong_role id (active_is vb.role ∙ e))))
     by_role false e = by_id (uuid == 0) (is_one_of uuid w.uuids) refl refl (active_is vb.role ∙ e)
 
   by_vb : (node : PlainNode) (o : Option Plain)
-      → refused_or (first_cause ((false, cause.UnknownNode) ∷ role_causes role.Active o ++ uuid_causes w.uuids uuid)) w (outcome w n v node (admin.Promote uuid) o) ≡ cause_named uuid (outcome w n v node (admin.Promote id) o)
+      → refused_or (first_cause ((false, cause.UnknownNode) ∷ role_causes role.Active o ++ uuid_causes w.uuids uuid)) w (outcome w n v node (admin.Promote uuid) o) ≡ with_named_cause uuid (outcome w n v node (admin.Promote id) o)
   by_vb node None = refl
   by_vb node (Some vb) = by_role node vb (is_role vb.role role.Active) refl
 
   -- its refusals come from the vBucket, in their order
-  pub promote_is : promote_step w n v uuid ≡ cause_named uuid (role_outcome n v (admin.Promote id) w)
+  pub promote_is : promote_step w n v uuid ≡ with_named_cause uuid (role_outcome n v (admin.Promote id) w)
   promote_is = by (w.nodes n)
     where
       by_up : (node : PlainNode) (b : Bool)
           → refused_or (first_cause ((false, cause.UnknownNode) ∷ (b, cause.NodeDown) ∷ role_causes role.Active (node.vbs v) ++ uuid_causes w.uuids uuid)) w (outcome_off w n v node (admin.Promote uuid) b)
-          ≡ cause_named uuid (outcome_off w n v node (admin.Promote id) b)
+          ≡ with_named_cause uuid (outcome_off w n v node (admin.Promote id) b)
       by_up node true = refl
       by_up node false =
           ap (refused_or (first_cause ((false, cause.UnknownNode) ∷ role_causes role.Active (node.vbs v) ++ uuid_causes w.uuids uuid)) w) (outcome_is w n v node (admin.Promote uuid) tt)
-          ∙ by_vb node (node.vbs v) ∙ sym (ap (cause_named uuid) (outcome_is w n v node (admin.Promote id) tt))
+          ∙ by_vb node (node.vbs v) ∙ sym (ap (with_named_cause uuid) (outcome_is w n v node (admin.Promote id) tt))
 
       by : (o : Option PlainNode)
           → refused_or (first_cause ((not (is_some o), cause.UnknownNode) ∷ (is_off o, cause.NodeDown) ∷ role_causes role.Active (vb_in o v) ++ uuid_causes w.uuids uuid)) w (turned_after n v w (node_outcome w n no_node o (role_called n v (admin.Promote uuid))))
-          ≡ cause_named uuid (turned_after n v w (node_outcome w n no_node o (role_called n v (admin.Promote id))))
+          ≡ with_named_cause uuid (turned_after n v w (node_outcome w n no_node o (role_called n v (admin.Promote id))))
       by None = refl
       by (Some node) = by_up node (is_some node.off)
 
@@ -184,7 +184,7 @@ module _ (w : PlainWorld) (n v : ℕ) where
       by (Some node) = by_up node (is_some node.off)
 
 -- the line of a promotion, by the line of the vBucket's refusal
-pub promoted_line : (after : Kept) (w : PlainWorld) (n v uuid k : ℕ) (told named : Told) → k ≡ asked_id w.uuids uuid → WorldStands after (role_outcome n v (admin.Promote k) w).0 × (told ≡ (role_outcome n v (admin.Promote k) w).1)
+pub promoted_line : (after : Kept) (w : PlainWorld) (n v uuid k : ℕ) (told named : Told) → k ≡ free_uuid w.uuids uuid → WorldStands after (role_outcome n v (admin.Promote k) w).0 × (told ≡ (role_outcome n v (admin.Promote k) w).1)
     → named ≡ record { events = told.events; answer = named_cause uuid told.answer } → WorldStands after (promote_step w n v uuid).0 × (named ≡ (promote_step w n v uuid).1)
 promoted_line after w n v uuid k told named is known said =
     let (stands, came) = subst (λ j. WorldStands after (role_outcome n v (admin.Promote j) w).0 × (told ≡ (role_outcome n v (admin.Promote j) w).1)) is known in

@@ -15,7 +15,7 @@ use Rattle.node_world.specs.Starts.{IsBare, StartsUp}
 use Rattle.node_world.specs.Worlds.{PlainWorld, Outcome, is_up, on_made}
 use Rattle.node_world.proofs.Befalling.{Comes}
 use Rattle.node_world.proofs.Held.{same_ends}
-use Rattle.node_world.proofs.OnNodes.{off_is, outcome_uuids, outcome_links, with_nodes}
+use Rattle.node_world.proofs.OnNodes.{off_as_plain, outcome_uuids, outcome_links, with_nodes}
 use Rattle.node_world.proofs.Places.{plain_at, numbered, step_stands, peers_stay, dials_stay}
 
 -- `crash N OUT`, by what its causes come to
@@ -70,7 +70,7 @@ module _ (kept : Kept) (w : PlainWorld) (n at : ℕ) (uuids : List ℕ) (old new
     (down : is_some old.off ≡ true) (starts : StartsUp uuids old told new) where
   starts_here : (plain : PlainNode) → NodeMatch old plain → NodeMatch new (start_at n uuids plain).0 × (told ≡ (start_at n uuids plain).1) × (node_number new ≡ node_number old) × IsBare new
   starts_here plain alike =
-      subst (λ m. NodeMatch new (start_at m uuids plain).0 × (told ≡ (start_at m uuids plain).1) × (node_number new ≡ node_number old) × IsBare new) (numbered kept.nodes n at old new is_placed is) (starts plain alike (sym (off_is old plain alike) ∙ down))
+      subst (λ m. NodeMatch new (start_at m uuids plain).0 × (told ≡ (start_at m uuids plain).1) × (node_number new ≡ node_number old) × IsBare new) (numbered kept.nodes n at old new is_placed is) (starts plain alike (sym (off_as_plain old plain alike) ∙ down))
 
   pub started : Comes (with_nodes kept (set kept.nodes at new)) told (on_made w n (start_at n uuids))
   started =

@@ -3,7 +3,7 @@ use Rattle.std.specs.Prelude.{◌==◌, if◌then◌else◌}
 use Rattle.std.proofs.Common.{◌≡◌, ℕ, Bool, true, false, refl, ap, sym, ◌∙◌, subst, Option, Some, None}
 use Rattle.std.proofs.lemmas.Bool.{eqb-true, eq-eqb}
 use Rattle.vb_calls.specs.Jobs.{Job, Ended, Call, Request, after_job}
-use Rattle.vb_calls.specs.Shelves.{Append, Ask, Keep, Look, Read, Shelf, Shelves, Stood, WasClosed, DiskFailed, Fate, after_fate, ask_at, asked_shelf, fate_of, shelves_step, with_shelf_at}
+use Rattle.vb_calls.specs.Shelves.{Append, Ask, Keep, Look, Read, Shelf, Shelves, Stood, WasClosed, DiskFailed, Fate, after_fate, ask_at, shelf_step, fate_of, shelves_step, with_shelf_at}
 use Rattle.vb_calls.specs.States.{States, states_step}
 use Rattle.vb_disk.specs.declared.fuse.Fuse.{Fuse}
 use Rattle.vb_disk.specs.declared.fuse.Fuse.TheVariants.{Off}
@@ -58,7 +58,7 @@ fate_rests x r Stood h = ap burnt_noting h
 fate_rests x r WasClosed h = h
 fate_rests x r DiskFailed h = ap burnt_noting h
 
-asked_rests : (x : Shelf) (ask : Ask) → x.fuse ≡ Off → (asked_shelf x ask).0.fuse ≡ Off
+asked_rests : (x : Shelf) (ask : Ask) → x.fuse ≡ Off → (shelf_step x ask).0.fuse ≡ Off
 asked_rests x (Append r) h = fate_rests x r (fate_of x) h
 asked_rests x Read h = h
 asked_rests x Look h = h
@@ -68,7 +68,7 @@ pub ask_rests : (shelves : Shelves) (v u : ℕ) (ask : Ask) (o : Option Shelf) �
 ask_rests shelves v u ask None e h = h
 ask_rests shelves v u ask (Some x) e h = by (u == v) refl
   where
-    by : (b : Bool) → (u == v) ≡ b → RestsIf (if b then Some (asked_shelf x ask).0 else shelves u)
+    by : (b : Bool) → (u == v) ≡ b → RestsIf (if b then Some (shelf_step x ask).0 else shelves u)
     by true same = asked_rests x ask (subst RestsIf (ap shelves (eqb-true u v same) ∙ e) h)
     by false other = h
 

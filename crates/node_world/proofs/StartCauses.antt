@@ -108,8 +108,8 @@ module _ (w : PlainWorld) (n : ℕ) (node : PlainNode) (books : List Book) (ther
   opened : (uuids : List ℕ) → AreFree w uuids → opens_all node.arm.fuse (length books) ≡ true → (start_step w n uuids).1.answer ≡ (by_short uuids (are_short books uuids)).1.answer
   opened uuids are opens = started uuids are ∙ ap (λ b. (if b then opened_at n uuids books node else not_opened n node).1.answer) opens
 
-  pub at_down : AtDown w n node books
-  at_down = record {
+  pub at_stopped_node : AtDown w n node books
+  at_stopped_node = record {
     vb_active = λ v uuid number. resting_armed w n node there down (vb_at w.uuids n v uuid);
     vb_replica = λ v number. resting_armed w n node there down (replica_at n v);
     chain = λ v others number. resting w n node there down (chain_line n v others);

@@ -7,7 +7,7 @@ use Rattle.vb_calls.specs.declared.calls.VbCall.TheVariants as call
 use Rattle.vb_calls.specs.declared.calls.VbReply.{VbReply}
 use Rattle.vb_calls.specs.declared.journals.Wrote.{Wrote}
 use Rattle.vb_calls.specs.declared.journals.Wrote.TheVariants as wrote
-use Rattle.vb_calls.specs.Flushes.{is_refusal, note_role_job, role_after, role_job, role_told_job}
+use Rattle.vb_calls.specs.Flushes.{is_refusal, note_role_job, role_of_call, role_job, role_told_job}
 use Rattle.vb_calls.specs.Jobs.{Call, Ended, Job, after_job, bind_job}
 use Rattle.vb_calls.specs.Plain.{plain_step}
 use Rattle.vb_calls.specs.Shelves.{Shelves}
@@ -18,8 +18,8 @@ use Rattle.vb_events.specs.declared.event.Cause.{Cause}
 use Rattle.vb_events.specs.declared.event.Cause.TheVariants as cause
 use Rattle.vb_events.specs.declared.event.Event.{Event}
 use Rattle.vb_events.specs.declared.event.Event.TheVariants as event
-use Rattle.node_core.specs.Flushing.{FlushTold}
-use Rattle.node_core.specs.Loading.{are_short, branch_told, start_job, start_told, starts_of}
+use Rattle.node_core.specs.Flushing.{FlushResult}
+use Rattle.node_core.specs.Loading.{are_short, branch_lines_of_reply, start_job, start_result, starts_of}
 use Rattle.node_world.specs.declared.arm.Fired.{Fired}
 use Rattle.node_world.specs.declared.arm.Fired.TheVariants as fired
 use Rattle.node_world.specs.declared.told.Told.{Told}
@@ -39,22 +39,22 @@ module _ (n : ℕ) where
   abbrev replied : ℕ → Option Plain → Option VbReply
   replied uuid o = option_map (λ (x : Plain). reply_of x (call.Promote uuid)) o
 
-  abbrev behind : ℕ → Option VbReply × Wrote → Job FlushTold
-  behind v made = Ended (start_told n v made)
+  abbrev behind : ℕ → Option VbReply × Wrote → Job FlushResult
+  behind v made = Ended (start_result n v made)
 
-  start_tells : (v uuid : ℕ) (states : States) (shelves : Shelves) → (after_job (start_job n v uuid) states shelves).1.events ≡ branch_told n v (replied uuid (states v))
+  start_tells : (v uuid : ℕ) (states : States) (shelves : Shelves) → (after_job (start_job n v uuid) states shelves).1.events ≡ branch_lines_of_reply n v (replied uuid (states v))
   unfolding role_job
   start_tells v uuid states shelves = by (states v)
     where
-      at : (states' : States) (reply : VbReply) (b : Bool) → (after_job (bind_job (if b then Ended (Some reply, wrote.NotAsked) else Call v call.Log (note_role_job v (role_after (call.Promote uuid)) reply)) (behind v)) states' shelves).1.events ≡ branch_told n v (Some reply)
+      at : (states' : States) (reply : VbReply) (b : Bool) → (after_job (bind_job (if b then Ended (Some reply, wrote.NotAsked) else Call v call.Log (note_role_job v (role_of_call (call.Promote uuid)) reply)) (behind v)) states' shelves).1.events ≡ branch_lines_of_reply n v (Some reply)
       at states' reply true = refl
       at states' reply false = refl
 
-      by : (o : Option Plain) → (after_job (bind_job (role_told_job v (call.Promote uuid) (call_at states v (call.Promote uuid) o).1) (behind v)) (call_at states v (call.Promote uuid) o).0 shelves).1.events ≡ branch_told n v (replied uuid o)
+      by : (o : Option Plain) → (after_job (bind_job (role_told_job v (call.Promote uuid) (call_at states v (call.Promote uuid) o).1) (behind v)) (call_at states v (call.Promote uuid) o).0 shelves).1.events ≡ branch_lines_of_reply n v (replied uuid o)
       by None = refl
       by (Some vb) = at (call_at states v (call.Promote uuid) (Some vb)).0 (plain_step vb (call.Promote uuid)).1 (is_refusal (plain_step vb (call.Promote uuid)).1.answer)
 
-  one_tells : (start : ℕ × ℕ) (node : PlainNode) → (start_one n start node).1.events ≡ branch_told n start.0 (replied start.1 (node.vbs start.0))
+  one_tells : (start : ℕ × ℕ) (node : PlainNode) → (start_one n start node).1.events ≡ branch_lines_of_reply n start.0 (replied start.1 (node.vbs start.0))
   one_tells start node = start_tells start.0 start.1 node.vbs (placed start.0 node).shelves
 
   -- what stands behind the lines so far

@@ -17,7 +17,7 @@ use Rattle.vb_disk.specs.Fused.{FuseStorage}
 use Rattle.vb_disk.specs.declared.fuse.Fuse.{Fuse}
 use Rattle.vb_events.specs.declared.event.Cause.TheVariants as cause
 use Rattle.vbucket.specs.Stands.{SlotsStand}
-use Rattle.node_core.specs.Flushing.{FlushTold}
+use Rattle.node_core.specs.Flushing.{FlushResult}
 use Rattle.node_core.specs.Loading.{are_short, is_there, loaded_states, starts_of}
 use Rattle.node_core.specs.Loads.{AllBack, Loads}
 use Rattle.node_core.specs.Outs.{start_by}
@@ -40,7 +40,7 @@ use Rattle.node_world.specs.Stands.{NodeMatch, OffStands, client_part, node_numb
 -- ---- one after the other
 
 -- what was told, with what one more start told
-abbrev pub told_more : Told → FlushTold → Told
+abbrev pub told_more : Told → FlushResult → Told
 told_more told one = record { events = told.events ++ one.events; answer = first_no told.answer one.answer }
 
 -- one more start, and the arm
@@ -48,7 +48,7 @@ pub starts_next : (start : ℕ × ℕ) (old mid new : ScriptNode) (one : Started
     → StartsNext start old so_far new told over
 starts_next start old mid new one so_far more told over went says meets plain stands bare =
     let n = node_number old in
-    let x : PlainNode × FlushTold = start_one n start plain in
+    let x : PlainNode × FlushResult = start_one n start plain in
     let came : NodeMatch mid x.0 × (start_by one ≡ x.1) × KeepsEnds old mid = went plain stands in
     let ends = came.2 in
     let met = meets x.0 came.0 (record { peers = λ key. ends.peers key ∙ bare.peers key; dials = λ v. ends.dials v ∙ bare.dials v }) in
@@ -64,14 +64,14 @@ starts_next start old mid new one so_far more told over went says meets plain st
 abbrev pub going_on : (Starting → Starting) → PlainNode × Told × Bool → Starting
 going_on rest (node, told, ends) = if ends then (node, told) else rest (node, told)
 
-pub by_next : (n : ℕ) (arm : Arm) (f : Fired) (one : FlushTold) (told : Told) (node : PlainNode) (rest : Starting → Starting) → started_by n arm f one told node rest ≡ going_on rest (met_by n arm f node (told_more told one))
+pub by_next : (n : ℕ) (arm : Arm) (f : Fired) (one : FlushResult) (told : Told) (node : PlainNode) (rest : Starting → Starting) → started_by n arm f one told node rest ≡ going_on rest (met_by n arm f node (told_more told one))
 by_next n arm fired.No one told node rest = refl
 by_next n arm fired.Failed one told node rest = refl
 by_next n arm fired.Stopped one told node rest = refl
 
 pub starts_cons : (n : ℕ) (start : ℕ × ℕ) (starts : List (ℕ × ℕ)) (node : PlainNode) (told : Told) → starts_from n (start ∷ starts) (node, told) ≡ going_on (starts_from n starts) (next_start n start node told)
 starts_cons n start starts node told =
-    let x : PlainNode × FlushTold = start_one n start node in by_next n node.arm (fired_by node.arm.fuse x.0.arm.fuse) x.1 told x.0 (starts_from n starts)
+    let x : PlainNode × FlushResult = start_one n start node in by_next n node.arm (fired_by node.arm.fuse x.0.arm.fuse) x.1 told x.0 (starts_from n starts)
 
 -- so many of them started: the node stands for one from which the others come to the same
 pub record SoFar (starts : List (ℕ × ℕ)) (plain : PlainNode) (n i : ℕ) (told : Told) (self : ScriptNode) : Type 0 where

@@ -13,7 +13,7 @@ use Rattle.vb_disk.specs.declared.made.Outcome.{Outcome}
 use Rattle.vb_calls.specs.States.{States}
 use Rattle.vb_calls.proofs.JobReadings.{ComesTo}
 use Rattle.vbucket.specs.Stands.{SlotsStand}
-use Rattle.node_core.specs.Flushing.{FlushTold}
+use Rattle.node_core.specs.Flushing.{FlushResult}
 use Rattle.node_core.specs.Loading.{start_job}
 use Rattle.node_core.specs.Outcomes.{value_at}
 use Rattle.node_core.specs.Outs.{start_by}
@@ -86,7 +86,7 @@ module _ (old ready left : ScriptNode) (v uuid : ℕ) (told : Started) (node : M
       ready_stands : NodeMatch ready (placed v plain)
       ready_stands = placing.0 plain stands
 
-      came : (States × Shelves) × FlushTold
+      came : (States × Shelves) × FlushResult
       came = after_job (start_job (node_number old) v uuid) plain.vbs (placed v plain).shelves
 
       known : ComesTo SlotsStand (ShelvesStand fuse_device) (start_by told) node.vbs node.disks came

@@ -5,9 +5,9 @@ use Rattle.std.proofs.lemmas.Bool.{eq-eqb, eqb-true}
 use Rattle.std.proofs.lemmas.Bool.Decides.{nat_tests}
 use Rattle.disk_journals.specs.Arms.{arm_over, armed_at, fuse_at, opens_all, under}
 use Rattle.disk_journals.specs.Books.{Book, opened_shelf, opened_shelves}
-use Rattle.vb_calls.specs.Flushes.{is_refusal, log_told, note_role_job, role_job, role_told_job, wrote_of}
+use Rattle.vb_calls.specs.Flushes.{is_refusal, log_of_reply, note_role_job, role_job, role_told_job, wrote_of}
 use Rattle.vb_calls.specs.Jobs.{Call, Ended, Job, Request, after_job, bind_job}
-use Rattle.vb_calls.specs.Shelves.{Append, Ask, DiskFailed, Shelf, Shelves, Stood, WasClosed, after_fate, ask_at, asked_shelf, fate_of, shelves_step, with_shelf_at}
+use Rattle.vb_calls.specs.Shelves.{Append, Ask, DiskFailed, Shelf, Shelves, Stood, WasClosed, after_fate, ask_at, shelf_step, fate_of, shelves_step, with_shelf_at}
 use Rattle.vb_calls.specs.States.{States, states_step}
 use Rattle.vb_calls.specs.declared.calls.VbCall.TheVariants as call
 use Rattle.vb_calls.specs.declared.calls.VbReply.{VbReply}
@@ -22,8 +22,8 @@ use Rattle.vb_types.specs.declared.journal.Record.{Record}
 use Rattle.vb_types.specs.declared.journal.Record.TheVariants.{State}
 use Rattle.vb_types.specs.declared.role.Role.TheVariants as role
 use Rattle.node_core.specs.Admin.{noted_answer}
-use Rattle.node_core.specs.Flushing.{FlushTold}
-use Rattle.node_core.specs.Loading.{active_in, active_ones, start_job, start_told, starts_of, was_active}
+use Rattle.node_core.specs.Flushing.{FlushResult}
+use Rattle.node_core.specs.Loading.{active_in, active_ones, start_job, start_result, starts_of, was_active}
 use Rattle.node_world.specs.declared.arm.Arm.{Arm}
 use Rattle.node_world.specs.declared.arm.Fired.TheVariants as fired
 use Rattle.node_world.specs.declared.told.Told.{Told}
@@ -134,7 +134,7 @@ put_some shelves v u x y e = by (u == v) refl
 
 ask_some : (shelves : Shelves) (v u : ℕ) (ask : Ask) (o : Option Shelf) → shelves v ≡ o → is_some ((ask_at shelves v ask o).0 u) ≡ is_some (shelves u)
 ask_some shelves v u ask None e = refl
-ask_some shelves v u ask (Some x) e = put_some shelves v u x (asked_shelf x ask).0 e
+ask_some shelves v u ask (Some x) e = put_some shelves v u x (shelf_step x ask).0 e
 
 job_some : {A : Type 0} (job : Job A) (states : States) (shelves : Shelves) (u : ℕ) → is_some ((after_job job states shelves).0.1 u) ≡ is_some (shelves u)
 job_some (Ended a) states shelves u = refl
@@ -183,13 +183,13 @@ module _ (n v uuid : ℕ) (x : PlainNode) (calls left : ℕ) (more : left + 4 �
   sound = ap (λ b. if b then WasClosed else if all_pass f then Stood else DiskFailed) own.unfailed ∙ ap (λ b. if b then Stood else DiskFailed) four.0
 
   -- what a start comes to: the arm did not fire, and lies beyond the calls that are left
-  record Came (z : (States × Shelves) × FlushTold) : Type 0 where
+  record Came (z : (States × Shelves) × FlushResult) : Type 0 where
     open_but_one : (u : ℕ) → OpenBut v u (z.0.1 u)
     quiet : fired_by f (fuse_or f (fuse_at z.0.1 v)) ≡ fired.No
     beyond : LiesBeyond left (fuse_or f (fuse_at z.0.1 v))
     ok : z.1.answer ≡ answer.Ok
 
-  none_appended : (states : States) (told : FlushTold) → told.answer ≡ answer.Ok → Came ((states, S), told)
+  none_appended : (states : States) (told : FlushResult) → told.answer ≡ answer.Ok → Came ((states, S), told)
   none_appended states told ok = record {
     open_but_one = armed_but;
     quiet = left_alone f x.shelves v;
@@ -201,7 +201,7 @@ module _ (n v uuid : ℕ) (x : PlainNode) (calls left : ℕ) (more : left + 4 �
   appended_but r u = subst (λ o. OpenBut v u ((ask_at S v (Append r) o).0 u)) (sym here)
       (put_but S v (after_fate (under f y) r (fate_of (under f y))) (subst (λ fate. (after_fate (under f y) r fate).is_closed ≡ false) (sym sound) own.unfailed) armed_but u)
 
-  one_appended : (states : States) (r : Record) (told : FlushTold) → told.answer ≡ answer.Ok → Came ((states, (shelves_step S v (Append r)).0), told)
+  one_appended : (states : States) (r : Record) (told : FlushResult) → told.answer ≡ answer.Ok → Came ((states, (shelves_step S v (Append r)).0), told)
   one_appended states r told ok =
       let burns = append_burns S v r (under f y) here sound in record {
         open_but_one = appended_but r;
@@ -213,22 +213,22 @@ module _ (n v uuid : ℕ) (x : PlainNode) (calls left : ℕ) (more : left + 4 �
   abbrev states : States
   states = (states_step x.vbs v (call.Promote uuid)).0
 
-  abbrev behind : Job (Option VbReply × Wrote) → (States × Shelves) × FlushTold
-  behind job = after_job (bind_job job (λ made. Ended (start_told n v made))) states S
+  abbrev behind : Job (Option VbReply × Wrote) → (States × Shelves) × FlushResult
+  behind job = after_job (bind_job job (λ made. Ended (start_result n v made))) states S
 
   came : Came (after_job (start_job n v uuid) x.vbs S)
   unfolding role_job
   came = by (states_step x.vbs v (call.Promote uuid)).1
     where
       made : (reply : VbReply) (b : Bool) → Came (behind (if b then Ended (Some reply, wrote.NotAsked) else Call v call.Log (note_role_job v role.Active reply)))
-      made reply true = none_appended states (start_told n v (Some reply, wrote.NotAsked)) refl
+      made reply true = none_appended states (start_result n v (Some reply, wrote.NotAsked)) refl
       made reply false =
           let logged = states_step states v call.Log in
-          let r : Record = State role.Active (log_told logged.1) in
-          one_appended logged.0 r (start_told n v (Some reply, wrote_of (shelves_step S v (Append r)).1)) (ap (λ fate. noted_answer (wrote_of fate) answer.Ok) (append_stands S v r (under f y) here sound))
+          let r : Record = State role.Active (log_of_reply logged.1) in
+          one_appended logged.0 r (start_result n v (Some reply, wrote_of (shelves_step S v (Append r)).1)) (ap (λ fate. noted_answer (wrote_of fate) answer.Ok) (append_stands S v r (under f y) here sound))
 
       by : (o : Option VbReply) → Came (behind (role_told_job v (call.Promote uuid) o))
-      by None = none_appended states (start_told n v (None, wrote.NotAsked)) refl
+      by None = none_appended states (start_result n v (None, wrote.NotAsked)) refl
       by (Some reply) = made reply (is_refusal reply.answer)
 
   -- the node is ready for the next one

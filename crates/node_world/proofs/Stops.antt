@@ -7,7 +7,7 @@ use Rattle.std.proofs.lemmas.Bool.{eqb-true, eq-eqb}
 use Rattle.std.proofs.lemmas.Bool.Decides.{nat_tests}
 use Rattle.disk_journals.specs.Arms.{opens_all}
 use Rattle.disk_journals.specs.Books.{Book, below}
-use Rattle.node_core.specs.Flushing.{FlushTold}
+use Rattle.node_core.specs.Flushing.{FlushResult}
 use Rattle.node_core.specs.Loading.{are_short, starts_of}
 use Rattle.vb_disk.specs.declared.made.Outcome.{Outcome}
 use Rattle.vb_events.specs.declared.event.Answer.TheVariants as answer
@@ -24,7 +24,7 @@ use Rattle.node_world.specs.declared.told.Told.{Told}
 use Rattle.node_world.specs.Arms.{PlainNode, fired_by}
 use Rattle.node_world.specs.Links.{PlainLink, link_number, producer_node, consumer_node}
 use Rattle.node_world.specs.Nodes.{done, first_cause, refusal, refused_or}
-use Rattle.node_world.specs.Power.{all_cut, all_numbers, burnt_arm, crash_causes, down_lines, dropped, has_client, is_number, is_touched, loaded_node, not_opened, numbers, opened_at, start_if, start_one, started_by, starts_from, stopped_node, touches}
+use Rattle.node_world.specs.Power.{all_cut, all_numbers, burnt_arm, crash_causes, down_lines, dropped, has_client, is_this_number, is_touched, loaded_node, not_opened, numbers, opened_at, start_if, start_one, started_by, starts_from, stopped_node, touches}
 use Rattle.node_world.specs.Stops.{Climb, EndsInOrder, Has, HasEnd, HasNothing, IsOpen, LeavesNothing, StartsAtZero, StopsInOrder}
 use Rattle.node_world.specs.Worlds.{PlainWorld, node_if}
 
@@ -128,7 +128,7 @@ all_has k = (under_has numbers k (below numbers) (below_under numbers), below_ha
 
 -- ---- the links and the connections of a node
 
-is_one : (l : ℕ) (also : Option ℕ) → (is_number l also ≡ true) ↔ (also ≡ Some l)
+is_one : (l : ℕ) (also : Option ℕ) → (is_this_number l also ≡ true) ↔ (also ≡ Some l)
 is_one l None = (λ e. let no : false ≡ true = e in absurd (cc no), λ e. absurd (cc e))
 is_one l (Some k) = (λ e. ap Some (sym (eqb-true l k e)), λ e. eq-eqb l k (let same : k ≡ l = cc e in sym same))
 
@@ -150,22 +150,22 @@ touches_is n link = (
   λ o. elim o [ inl a ↦ or_left _ _ (eq-eqb _ n a) | inr a ↦ or_right (producer_node link == n) _ (eq-eqb _ n a) ],
 )
 
-touched_is : (n l : ℕ) (w : PlainWorld) (o : Option PlainLink) → row_at link_number l w.links ≡ o → (is_touched n o ≡ true) ↔ HasEnd n w l
-touched_is n l w None at = (λ e. let no : false ≡ true = e in absurd (cc no), λ h. let no : None ≡ Some h.0 = sym at ∙ h.1 in absurd (cc no))
-touched_is n l w (Some link) at = (
+touched_by_row : (n l : ℕ) (w : PlainWorld) (o : Option PlainLink) → row_at link_number l w.links ≡ o → (is_touched n o ≡ true) ↔ HasEnd n w l
+touched_by_row n l w None at = (λ e. let no : false ≡ true = e in absurd (cc no), λ h. let no : None ≡ Some h.0 = sym at ∙ h.1 in absurd (cc no))
+touched_by_row n l w (Some link) at = (
   λ t. (link, at, (touches_is n link).0 t),
   λ h. let same : link ≡ h.0 = cc (sym at ∙ h.1) in (touches_is n link).1 (subst (λ x. (producer_node x ≡ n) ⊎ (consumer_node x ≡ n)) (sym same) h.2),
 )
 
 -- whether the end of the link l is told
 abbrev ends : ℕ → Option ℕ → PlainWorld → ℕ → Bool
-ends n also w l = is_number l also || is_touched n (row_at link_number l w.links)
+ends n also w l = is_this_number l also || is_touched n (row_at link_number l w.links)
 
 ends_is : (n : ℕ) (also : Option ℕ) (w : PlainWorld) (l : ℕ) → (ends n also w l ≡ true) ↔ ((also ≡ Some l) ⊎ HasEnd n w l)
 ends_is n also w l =
-    let touched = touched_is n l w (row_at link_number l w.links) refl in (
+    let touched = touched_by_row n l w (row_at link_number l w.links) refl in (
       λ t. elim (or_is _ _ t) [ inl a ↦ inl ((is_one l also).0 a) | inr a ↦ inr (touched.0 a) ],
-      λ o. elim o [ inl a ↦ or_left _ _ ((is_one l also).1 a) | inr a ↦ or_right (is_number l also) _ (touched.1 a) ],
+      λ o. elim o [ inl a ↦ or_left _ _ ((is_one l also).1 a) | inr a ↦ or_right (is_this_number l also) _ (touched.1 a) ],
     )
 
 open_is : (n c : ℕ) (w : PlainWorld) (o : Option PlainNode) → w.nodes n ≡ o → (has_client c o ≡ true) ↔ IsOpen n w c
@@ -223,7 +223,7 @@ stops w n out = record {
 
 -- ---- the clock of a node that starts
 
-fired_clock : (n : ℕ) (arm : Arm) (f : Fired) (one : FlushTold) (told : Told) (node : PlainNode) (starts : List (ℕ × ℕ))
+fired_clock : (n : ℕ) (arm : Arm) (f : Fired) (one : FlushResult) (told : Told) (node : PlainNode) (starts : List (ℕ × ℕ))
     → ((told' : Told) → (starts_from n starts (node, told')).0.clock ≡ 0) → (started_by n arm f one told node (starts_from n starts)).0.clock ≡ 0
 fired_clock n arm fired.No one told node starts rest = rest _
 fired_clock n arm fired.Failed one told node starts rest = rest _
@@ -232,7 +232,7 @@ fired_clock n arm fired.Stopped one told node starts rest = refl
 starts_clock : (n : ℕ) (starts : List (ℕ × ℕ)) (node : PlainNode) (told : Told) → node.clock ≡ 0 → (starts_from n starts (node, told)).0.clock ≡ 0
 starts_clock n [] node told is = is
 starts_clock n (start ∷ starts) node told is =
-    let came : PlainNode × FlushTold = start_one n start node in
+    let came : PlainNode × FlushResult = start_one n start node in
     fired_clock n node.arm (fired_by node.arm.fuse came.0.arm.fuse) came.1 told came.0 starts (λ told'. starts_clock n starts came.0 told' is)
 
 opened_clock : (n : ℕ) (uuids : List ℕ) (books : List Book) (node : PlainNode) → node.clock ≡ 0 → (opened_at n uuids books node).0.clock ≡ 0

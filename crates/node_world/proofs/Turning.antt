@@ -11,7 +11,7 @@ use Rattle.vb_calls.specs.Programs.{after}
 use Rattle.vbucket.specs.Rows.{row_at}
 use Rattle.node_core.specs.declared.admin.AdminCall.{AdminCall}
 use Rattle.node_core.specs.declared.out.NodeOut.{NodeOut}
-use Rattle.node_core.specs.Admin.{AdminTold, admin_refused}
+use Rattle.node_core.specs.Admin.{AdminResult, admin_refused}
 use Rattle.node_core.specs.Dials.{KeptDial}
 use Rattle.node_core.specs.Outcomes.{live_dial}
 use Rattle.node_core.specs.Outs.{dial_ended, admin_out, flush_by}
@@ -19,21 +19,21 @@ use Rattle.node_world.specs.declared.link.Link.{Link}
 use Rattle.node_world.specs.declared.script_node.ScriptNode.{ScriptNode}
 use Rattle.node_world.specs.Arms.{lifted, placed as under_it, under_arm}
 use Rattle.node_world.specs.Cuts.{unlinked, own_link, cut_off}
-use Rattle.node_world.specs.Ends.{Carries, dial_under, peer_told, TellsEnds, SetsRole, KeepsOthers, Unlinked, LeavesLink, LeavesOwn}
+use Rattle.node_world.specs.Ends.{Carries, dial_under, kept_peer_ended, TellsEnds, SetsRole, KeepsOthers, Unlinked, LeavesLink, LeavesOwn}
 use Rattle.node_world.specs.Lines.{ChangesRole, out_told}
 use Rattle.node_world.specs.Links.{PlainLink, feeds, dial_of}
 use Rattle.node_world.specs.Nodes.{PlainNode, refusal, with_posts}
 use Rattle.node_world.specs.Pairing.{Pairs}
 use Rattle.node_world.specs.Stands.{NodeMatch, NodeStands, node_number, NodesStand, Ends, ends_of, LinkStands, IdsStand, LinksStand, Kept, WorldStands}
 use Rattle.node_world.specs.declared.told.Told.{Told}
-use Rattle.node_world.specs.Turns.{called_at, call_told, posted_at, posted_in, role_called, told_after, with_ended, turned, turned_if, turned_after, no_node, role_outcome}
+use Rattle.node_world.specs.Turns.{called_at, call_told, posted_at, posted_in, role_called, after_cuts, with_ended, turned, turned_if, turned_after, no_node, role_outcome}
 use Rattle.node_world.specs.Worlds.{PlainWorld, Outcome, with_node_at, node_outcome, on_made}
 use Rattle.node_world.proofs.AfterPosts.{none_posted}
 use Rattle.node_world.proofs.Finding.{position_any, find_at}
 use Rattle.node_world.proofs.Held.{both_same, is_same, same_ends, out_stand, told_stand}
 use Rattle.node_world.proofs.RoleJobs.{turn_stays}
 use Rattle.node_world.proofs.OnLinks.{closed_uuids, the, the_stands, the_is, within, out_is}
-use Rattle.node_world.proofs.OnNodes.{made_line, off_is, with_nodes}
+use Rattle.node_world.proofs.OnNodes.{made_line, off_as_plain, with_nodes}
 use Rattle.node_world.proofs.Pairing.{pairs_at}
 use Rattle.node_world.proofs.Places.{no_node as unmade}
 use Rattle.node_world.proofs.Places.{plain_at, numbered, dial_here, step_stands, peers_told, dials_told}
@@ -79,7 +79,7 @@ module _ (ends : Ends) (links : List Link) (plain : List PlainLink) (n v i : ℕ
           sym (λ j. (one.node j == n) && (one.vb j == v)) ∙ first_own.2 k lower
 
 -- a call that changes a role, under the node's arm
-abbrev armed : ℕ → ℕ → AdminCall → PlainNode → PlainNode × AdminTold
+abbrev armed : ℕ → ℕ → AdminCall → PlainNode → PlainNode × AdminResult
 armed n v asked node = under_arm v (called_at n v asked) node
 
 -- a change of role at a node that is made
@@ -98,7 +98,7 @@ module _ (kept : Kept) (w : PlainWorld) (n v at : ℕ) (asked : AdminCall) (old 
       (numbered kept.nodes n at old new placed is) (turns plain alike)
 
   module _ (plain : PlainNode) (there : w.nodes n ≡ Some plain) (alike : NodeMatch old plain) where
-    abbrev said : AdminTold
+    abbrev said : AdminResult
     said = (armed n v asked plain).1
 
     abbrev w1 : PlainWorld
@@ -138,9 +138,9 @@ module _ (kept : Kept) (w : PlainWorld) (n v at : ℕ) (asked : AdminCall) (old 
         back k false e r h = h
 
         peers : (m key : ℕ) → (ends_of nodes').peers m key ≡ ends.peers m key
-        peers m key = peers_told kept.nodes n at old new placed is tells.number v said.ended tells m key ∙ ap (λ e. if m == n then option_map (peer_told v e) (ends.peers m key) else ends.peers m key) none ∙ by (m == n) (ends.peers m key)
+        peers m key = peers_told kept.nodes n at old new placed is tells.number v said.ended tells m key ∙ ap (λ e. if m == n then option_map (kept_peer_ended v e) (ends.peers m key) else ends.peers m key) none ∙ by (m == n) (ends.peers m key)
           where
-            by : (b : Bool) (o : _) → (if b then option_map (peer_told v None) o else o) ≡ o
+            by : (b : Bool) (o : _) → (if b then option_map (kept_peer_ended v None) o else o) ≡ o
             by true None = refl
             by true (Some x) = refl
             by false o = refl
@@ -164,7 +164,7 @@ module _ (kept : Kept) (w : PlainWorld) (n v at : ℕ) (asked : AdminCall) (old 
 
       told_links : LinksStand told kept.links w2.links
       told_links = told_stand ends told kept.links w.links n v ids
-          (λ m key. peers_told kept.nodes n at old new placed is tells.number v said.ended tells m key ∙ ap (λ e. if m == n then option_map (peer_told v e) (ends.peers m key) else ends.peers m key) ended)
+          (λ m key. peers_told kept.nodes n at old new placed is tells.number v said.ended tells m key ∙ ap (λ e. if m == n then option_map (kept_peer_ended v e) (ends.peers m key) else ends.peers m key) ended)
           (λ m u. refl) stands.links
 
       dials_left : (m u : ℕ) → (ends_of nodes').dials m u ≡ (if m == n then (if u == v then None else ends.dials m u) else ends.dials m u)
@@ -184,7 +184,7 @@ module _ (kept : Kept) (w : PlainWorld) (n v at : ℕ) (asked : AdminCall) (old 
       no_own : dial_under old v ≡ None → (after : Kept) → LeavesOwn n v out.closed (with_nodes kept nodes') after → Comes after (turned n v said w2)
       no_own none after leaves =
           let here : own_link n v w2.links ≡ None = none_feeds told n v kept.links w2.links (dial_is ∙ none) told_links.each in
-          subst (λ o. Comes after (told_after said (cut_off o w2))) (sym here) (
+          subst (λ o. Comes after (after_cuts said (cut_off o w2))) (sym here) (
             subst (λ k. WorldStands k w2) (sym (subst (λ b. LeavesOwn n v b (with_nodes kept nodes') after) (ap (λ (x : NodeOut). x.closed) (closed_is None none)) leaves)) (record {
               nodes = known;
               ids = stands.ids;
@@ -260,7 +260,7 @@ module _ (kept : Kept) (w : PlainWorld) (n v at : ℕ) (asked : AdminCall) (old 
                 gone.dials link.node link.vb ∙ dials_left link.node link.vb ∙ ap (λ b. if b then (if link.vb == v then None else o) else o) (eq-eqb link.node n same.0) ∙ ap (λ b. if b then None else o) (eq-eqb link.vb v same.1)
 
             cut : Comes after (turned n v said w2)
-            cut = subst (λ o. Comes after (told_after said (cut_off o w2))) (sym own) (
+            cut = subst (λ o. Comes after (after_cuts said (cut_off o w2))) (sym own) (
               record {
                 nodes = gone.stands;
                 ids = subst (λ xs. IdsStand xs (unlinked p w2).uuids) (sym leaves.2) (subst (IdsStand kept.ids) (sym (closed_uuids p w2)) stands.ids);
@@ -315,7 +315,7 @@ module _ (kept : Kept) (w : PlainWorld) (n v at : ℕ) (asked : AdminCall) (old 
         let (stand, said) = either plain there alike ended refl after leaves in
         let x : Outcome = unposted plain there alike ended in
         subst (λ o. Ends_as (turned_after n v w (node_outcome w n no_node o (role_called n v asked)))) (sym there)
-        (subst (λ b. let y : PlainNode × AdminTold = if b then (plain, admin_refused cause.NodeDown) else armed n v asked plain in Ends_as (turned_after n v w (with_node_at w n y.0, y.1))) (sym (sym (off_is old plain alike) ∙ is_up))
+        (subst (λ b. let y : PlainNode × AdminResult = if b then (plain, admin_refused cause.NodeDown) else armed n v asked plain in Ends_as (turned_after n v w (with_node_at w n y.0, y.1))) (sym (sym (off_as_plain old plain alike) ∙ is_up))
         (subst Ends_as (posted_is plain there alike ended refl) (subst (λ (t : Told). Ends_as (posted_in n out.resolved (x.0, t))) said (posts x.0 stand))))
 
 -- what became of durable writes is told to who awaits it, at a node that is made
@@ -347,5 +347,5 @@ pub down_turn : (kept : Kept) (w : PlainWorld) (n v at : ℕ) (asked : AdminCall
 down_turn kept w n v at asked old placed is down stands =
     let (plain, there, alike) = plain_at kept.nodes n at old old placed is w stands.nodes in
     subst (λ o. WorldStands kept (turned_after n v w (node_outcome w n no_node o (role_called n v asked))).0 × (refusal cause.NodeDown ≡ (turned_after n v w (node_outcome w n no_node o (role_called n v asked))).1)) (sym there)
-    (subst (λ b. let x : PlainNode × AdminTold = if b then (plain, admin_refused cause.NodeDown) else armed n v asked plain in
-    WorldStands kept (turned_after n v w (with_node_at w n x.0, x.1)).0 × (refusal cause.NodeDown ≡ (turned_after n v w (with_node_at w n x.0, x.1)).1)) (sym (sym (off_is old plain alike) ∙ down)) (stands, refl))
+    (subst (λ b. let x : PlainNode × AdminResult = if b then (plain, admin_refused cause.NodeDown) else armed n v asked plain in
+    WorldStands kept (turned_after n v w (with_node_at w n x.0, x.1)).0 × (refusal cause.NodeDown ≡ (turned_after n v w (with_node_at w n x.0, x.1)).1)) (sym (sym (off_as_plain old plain alike) ∙ down)) (stands, refl))

@@ -27,7 +27,7 @@ use Rattle.client_session.specs.declared.session.Settings.{Settings}
 use Rattle.client_session.specs.Answers.{reply_line}
 use Rattle.client_session.specs.Conduct.{sent}
 use Rattle.client_session.specs.Rows.{IsOutcome}
-use Rattle.client_session.specs.Serving.{PlainSession, Served, MOST_DURABLE, asked, awaited_by, awaits, deadline_of, durable_answered, durable_called, durable_told, ended_at, frame_served, greeted, next_waiter, outcome_by, outcome_of, outcome_reply, outcome_served, outcome_told, prepared_told, refused, request_served, served, told, turns_served, with_lines, with_used}
+use Rattle.client_session.specs.Serving.{PlainSession, Served, MOST_DURABLE, asked, awaited_by, awaits, deadline_of, durable_answered, durable_called, durable_replied, ended_at, frame_handled, greeted, next_waiter, outcome_by, outcome_of, outcome_reply, outcome_handled, outcome_answered, answered_or_awaited, refused, request_handled, served, told, turns_handled, with_lines, with_used}
 use Rattle.client_session.proofs.Conduct.{either}
 use Rattle.client_session.proofs.Keeping.{front_of, turns_go}
 use Rattle.node_core.specs.Calls.{left_open}
@@ -74,17 +74,17 @@ module _ (line : Event) where
   more : (s : Served) (lines : List Event) → Begins s → Begins (with_lines s lines)
   more s lines begins = grows s (with_lines s lines) lines refl begins
 
-  prepared_begins : (a : Awaited) (how : Option Resolution) (s : Served) → Begins s → Begins (prepared_told a how s)
+  prepared_begins : (a : Awaited) (how : Option Resolution) (s : Served) → Begins s → Begins (answered_or_awaited a how s)
   prepared_begins a None s begins = begins
-  prepared_begins a (Some how) s begins = grows s (outcome_told a how s) _ refl begins
+  prepared_begins a (Some how) s begins = grows s (outcome_answered a how s) _ refl begins
 
   answered_begins : (waiter : ℕ) (f : Frame) (how : Option Resolution) (a : VbAnswer) (s : Served) → Begins s → Begins (durable_answered waiter f how a s)
   answered_begins waiter f how (answer.Status st) s begins = more s _ begins
   answered_begins waiter f how (answer.Prepared seq cas) s begins = prepared_begins (awaited_by waiter f) how s begins
   answered_begins waiter f how other s begins = begins
 
-  durable_begins : (waiter : ℕ) (f : Frame) (s : Served) (reply : Option VbReply) → Begins s → Begins (durable_told waiter f s reply)
-  unfolding durable_told
+  durable_begins : (waiter : ℕ) (f : Frame) (s : Served) (reply : Option VbReply) → Begins s → Begins (durable_replied waiter f s reply)
+  unfolding durable_replied
   durable_begins waiter f s None begins = more s _ begins
   durable_begins waiter f s (Some reply) begins =
       let lines = map (event.Changed s.session.who.node f.vb_or_status reply.branch) reply.changes in answered_begins waiter f (outcome_of waiter reply.resolved) reply.answer (with_lines s lines) (more s lines begins)
@@ -96,8 +96,8 @@ module _ (line : Event) where
   unfolding told
   asked_begins states f c s begins = more s _ begins
 
-  request_begins : (states : States) (clock : ℕ) (f : Frame) (r : Result KvRequest Status) (s : Served) → Begins s → Goes states (request_served clock f r s)
-  unfolding request_served
+  request_begins : (states : States) (clock : ℕ) (f : Frame) (r : Result KvRequest Status) (s : Served) → Begins s → Goes states (request_handled clock f r s)
+  unfolding request_handled
   request_begins states clock f (Err st) s begins = more s _ begins
   request_begins states clock f (Ok request.Noop) s begins = more s _ begins
   request_begins states clock f (Ok (request.Hello features)) s begins = grows s (greeted f features s) _ refl begins
@@ -108,12 +108,12 @@ module _ (line : Event) where
       either (Goes states) (nat_le MOST_DURABLE s.session.used) (Done (refused f status.Etmpfail s)) (durable_called f c s)
       (more s _ begins) (durable_begins (next_waiter s.session) f (with_used s) _ begins)
 
-  frame_begins : (states : States) (clock : ℕ) (f : Frame) (s : Served) → Begins s → Goes states (frame_served clock f s)
-  unfolding frame_served
+  frame_begins : (states : States) (clock : ℕ) (f : Frame) (s : Served) → Begins s → Goes states (frame_handled clock f s)
+  unfolding frame_handled
   frame_begins states clock f s begins =
-      either (Goes states) (f.magic == RESPONSE) (Done s) (request_served clock f (request_of s.session.settings.json f) s) begins (request_begins states clock f (request_of s.session.settings.json f) s begins)
+      either (Goes states) (f.magic == RESPONSE) (Done s) (request_handled clock f (request_of s.session.settings.json f) s) begins (request_begins states clock f (request_of s.session.settings.json f) s begins)
 
-  turns_begin : (clock : ℕ) (states : States) (s : Served) → Begins s → Goes states (turns_served clock s)
+  turns_begin : (clock : ℕ) (states : States) (s : Served) → Begins s → Goes states (turns_handled clock s)
   turns_begin clock states s begins =
       turns_go (λ x. Begins x.1) clock (λ f states s first begins. frame_begins states clock f (front_of f s) begins) (λ fault states s first begins. grows s (ended_at (Some fault) s) _ refl begins) s states begins
 
@@ -150,12 +150,12 @@ module _ (r : Resolved) (node : PlainNode) where
     pub told_is : posted r node ≡ posted_if c r node (Some session)
     told_is = ap (posted_to r node) (one_awaits node.clients r.waiter c waits MAX_CLIENTS alone.within alone.others) ∙ ap (posted_if c r node) alone.there
 
-    begins : Begins (sent session.who frame) (after (outcome_served node.clock r started) node.vbs).1
-    unfolding outcome_served reply_line
+    begins : Begins (sent session.who frame) (after (outcome_handled node.clock r started) node.vbs).1
+    unfolding outcome_handled reply_line
     begins =
         subst (λ (prog : Prog Served). Begins (sent session.who frame) (after prog node.vbs).1)
-        (sym (ap (outcome_by node.clock r started) alone.awaited ∙ ap (λ b. if b then turns_served node.clock (outcome_told a r.how started) else Done started) (eq-eqb a.waiter r.waiter alone.mine)))
-        (turns_begin (sent session.who frame) node.clock node.vbs (outcome_told a r.how started) ([], refl))
+        (sym (ap (outcome_by node.clock r started) alone.awaited ∙ ap (λ b. if b then turns_handled node.clock (outcome_answered a r.how started) else Done started) (eq-eqb a.waiter r.waiter alone.mine)))
+        (turns_begin (sent session.who frame) node.clock node.vbs (outcome_answered a r.how started) ([], refl))
 
     one_told : TellsFirst r c session a node
     one_told = record {
@@ -163,7 +163,7 @@ module _ (r : Resolved) (node : PlainNode) where
       is = is_outcome session.settings a r.how;
       rest = begins.0;
       told = ap (λ (x : PlainNode × List Event). x.1) told_is ∙ begins.1;
-      others = λ d ne. ap (λ (x : PlainNode × List Event). x.0.clients d) told_is ∙ ap (λ b. if b then left_open (after (outcome_served node.clock r started) node.vbs).1.session else node.clients d) (ne_eqb d c ne);
+      others = λ d ne. ap (λ (x : PlainNode × List Event). x.0.clients d) told_is ∙ ap (λ b. if b then left_open (after (outcome_handled node.clock r started) node.vbs).1.session else node.clients d) (ne_eqb d c ne);
     }
 
   pub goes : GoesToWhoAwaits r node

@@ -28,23 +28,23 @@ use Rattle.vb_types.specs.declared.journal.Record.TheVariants.{State}
 use Rattle.vb_types.specs.declared.role.Role.{Role}
 use Rattle.vb_types.specs.declared.role.Role.TheVariants as role
 use Rattle.vbucket.specs.Rows.{row_at}
-use Rattle.node_core.specs.Admin.{AdminTold, admin_job}
-use Rattle.node_core.specs.Dials.{dial_due, dial_fed}
-use Rattle.node_core.specs.Flushing.{FlushTold, chain_set, flush_at, ticked}
-use Rattle.node_core.specs.Peers.{PeerTold, peer_answered, peer_frames, peer_heard}
+use Rattle.node_core.specs.Admin.{AdminResult, admin_job}
+use Rattle.node_core.specs.Dials.{dial_due, dial_bytes}
+use Rattle.node_core.specs.Flushing.{FlushResult, chain_changed, flush_at, ticked}
+use Rattle.node_core.specs.Peers.{PeerResult, peer_answered, peer_frames, peer_heard}
 use Rattle.node_core.specs.Loading.{are_short, start_job, starts_of}
 use Rattle.node_core.specs.declared.admin.AdminCall.{AdminCall}
 use Rattle.node_core.specs.declared.admin.AdminCall.TheVariants as admin
 use Rattle.node_world.specs.Arms.{fail_arm, fired_by, stop_arm, under_arm}
 use Rattle.node_world.specs.Cuts.{closed_at, cut_off, own_link, unlinked}
 use Rattle.node_world.specs.Dues.{due_at, due_in, due_of, is_counted}
-use Rattle.node_world.specs.Links.{PlainLink, LinkTold, dial_of, frame_up, frames_up, link_number, moved_len, peer_of, producer_node, consumer_node, down_at, pump_at, untold_peer, up_at}
-use Rattle.node_world.specs.Nodes.{PlainNode, all_posted, arm_at, bytes_at, chain_causes, chain_line, chain_made, client_at, clock_at, done, empty_node, fed_if, first_cause, flush_line, hang_at, if_up, refusal, refused_or, replica_at, replica_causes, save_line, shelf_or_blank, tick_line, vb_at, vb_causes, vb_made, vb_new, with_disk, with_kept, with_states}
+use Rattle.node_world.specs.Links.{PlainLink, LinkResult, dial_of, frame_up, frames_up, link_number, moved_len, peer_of, producer_node, consumer_node, down_at, pump_at, untold_peer, up_at}
+use Rattle.node_world.specs.Nodes.{PlainNode, all_posted, arm_at, bytes_at, chain_causes, chain_line, chain_made, client_at, clock_at, done, empty_node, bytes_if, first_cause, flush_line, hang_at, if_up, refusal, refused_or, replica_at, replica_causes, save_line, shelf_or_blank, tick_line, vb_at, vb_causes, vb_made, vb_noted, with_disk, with_kept, with_states}
 use Rattle.node_world.specs.Power.{after_broken, after_fire, all_cut, all_unlinked, burnt_arm, crash_causes, down_lines, dropped, is_broken_answer, loaded_node, not_opened, opened_at, start_at, start_call, start_causes, start_if, start_one, started_by, starts_from, stopped_node, touches, with_arm, with_broken}
 use Rattle.node_world.specs.Rests.{Rests, RestsIf}
 use Rattle.node_world.specs.Stands.{IdsStand, Kept, LinksStand, NodesStand, WorldStands, ends_of}
 use Rattle.node_world.specs.Turns.{admin_line, called_at, no_node, posted_at, posted_in, promote_causes, promote_step, role_called, role_outcome, turn_causes, turn_step, turned, turned_if, with_ended}
-use Rattle.node_world.specs.World.{ask_in, base_of, branch_told, cut_outcome, down_in, down_outcome, down_step, group_with, link_causes, link_outcome, node_causes, on_link, relinked, verb_step, with_dialed, world_step}
+use Rattle.node_world.specs.World.{ask_in, base_of, branch_of_line, cut_outcome, down_in, down_outcome, down_step, group_with, link_causes, link_outcome, node_causes, on_link, relinked, verb_step, with_dialed, world_step}
 use Rattle.node_world.specs.Worlds.{PlainWorld, Outcome, arm_in, empty_world, node_if, node_outcome, on_made, on_node, shelf_in, with_links, with_node_at, with_node_if}
 use Rattle.node_world.specs.declared.arm.Fired.{Fired}
 use Rattle.node_world.specs.declared.arm.Fired.TheVariants as fired
@@ -90,11 +90,11 @@ disk_keeps v u node h = by (v == u) refl
     by true e = blank (node.shelves u) (subst (λ k. RestsIf (node.shelves k)) (eqb-true v u e) h)
     by false e = h
 
-new_keeps : (n u : ℕ) (r : Role) (uuid : ℕ) → Keeps (vb_new n u r uuid)
+new_keeps : (n u : ℕ) (r : Role) (uuid : ℕ) → Keeps (vb_noted n u r uuid)
 new_keeps n u r uuid v node h = ask_rests node.shelves u v (Append (State r (first_log r uuid))) (node.shelves u) refl h
 
 made_keeps : (n u : ℕ) (r : Role) (uuid : ℕ) → Keeps (vb_made n u r uuid)
-made_keeps n u r uuid v node h = under_rests u (vb_new n u r uuid) (with_disk node u) v (new_keeps n u r uuid v) (disk_keeps v u node h)
+made_keeps n u r uuid v node h = under_rests u (vb_noted n u r uuid) (with_disk node u) v (new_keeps n u r uuid v) (disk_keeps v u node h)
 
 vb_keeps : (uuids : List ℕ) (n u uuid : ℕ) → Keeps (vb_at uuids n u uuid)
 vb_keeps uuids n u uuid v node h = unless v (first_cause (vb_causes uuids node u uuid)) node (vb_made n u role.Active uuid node) h (made_keeps n u role.Active uuid v node h)
@@ -112,7 +112,7 @@ client_keeps n base c v node h = by (is_some (node.clients c)) _ h
 bytes_keeps : (c : ℕ) (bytes : List ℕ) → Keeps (bytes_at c bytes)
 bytes_keeps c bytes v node h = by (node.clients c)
   where
-    by : (o : Option PlainSession) → At v (fed_if c bytes node o).0
+    by : (o : Option PlainSession) → At v (bytes_if c bytes node o).0
     by None = h
     by (Some session) = h
 
@@ -129,7 +129,7 @@ admin_keeps n u asked v node h = job_rests (admin_job n u asked) node.vbs node.s
 role_keeps : (n u : ℕ) (asked : AdminCall) → Keeps (role_called n u asked)
 role_keeps n u asked v node h = by (is_some node.off) _ h
   where
-    by : (b : Bool) (x : PlainNode × AdminTold) → At v x.0 → At v (if b then x else under_arm u (called_at n u asked) node).0
+    by : (b : Bool) (x : PlainNode × AdminResult) → At v x.0 → At v (if b then x else under_arm u (called_at n u asked) node).0
     by true x g = g
     by false x g = under_rests u (called_at n u asked) node v (λ y. job_rests (admin_job n u asked) y.vbs y.shelves v) h
 
@@ -139,14 +139,14 @@ flush_keeps n u p v node h =
 
 chain_keeps : (n u : ℕ) (others : Members) → Keeps (chain_line n u others)
 chain_keeps n u others v node h =
-    let came = after (chain_set n u (record { active = n; others = others })) node.vbs in
+    let came = after (chain_changed n u (record { active = n; others = others })) node.vbs in
     unless v (first_cause (chain_causes n u others node)) node (chain_made n u others node) h (posts_keep v came.1.resolved (with_states node came.0) h)
 
 tick_keeps : (n u : ℕ) → Keeps (tick_line n u)
 tick_keeps n u v node h = let came = after (ticked n u node.clock) node.vbs in posts_keep v came.1.resolved (with_states node came.0) h
 
 -- frames for a producer
-frames_keep : (v : ℕ) (fs : List Frame) (came : PlainNode × PeerTold) → At v came.0 → At v (frames_up fs came).0
+frames_keep : (v : ℕ) (fs : List Frame) (came : PlainNode × PeerResult) → At v came.0 → At v (frames_up fs came).0
 frames_keep v [] came h = h
 frames_keep v (f ∷ fs) came h = let said = after (peer_answered f came.1.peer) came.0.vbs in frames_keep v fs (frame_up f came) (posts_keep v said.1.resolved (with_states came.0 said.0) h)
 
@@ -160,7 +160,7 @@ save_keeps n u v node h = under_rests u (flush_line n u part.Save) node v (flush
 
 down_keeps : (wanted : ℕ) (link : PlainLink) → Keeps (down_in wanted link)
 down_keeps wanted link v node h =
-    under_rests link.consumer.dialed.vb (down_at wanted link) node v (λ y. job_rests (dial_fed (take (moved_len wanted link.down) link.down) (dial_of link)) y.vbs y.shelves v) h
+    under_rests link.consumer.dialed.vb (down_at wanted link) node v (λ y. job_rests (dial_bytes (take (moved_len wanted link.down) link.down) (dial_of link)) y.vbs y.shelves v) h
 
 -- a start
 opened_rests : (o : Option Book) → RestsIf (option_map opened_shelf o)
@@ -173,7 +173,7 @@ starts_rest n v (start ∷ starts) node told h =
     let x = start_one n start node in
     by (λ y said. starts_rest n v starts y said) (fired_by node.arm.fuse x.0.arm.fuse) x.1 x.0 (under_rests start.0 (start_call n start.0 start.1) node v (λ y. job_rests (start_job n start.0 start.1) y.vbs y.shelves v) h)
   where
-    by : ((y : PlainNode) (said : Told) → At v y → At v (starts_from n starts (y, said)).0) → (f : Fired) (one : FlushTold) (x : PlainNode) → At v x → At v (started_by n node.arm f one told x (starts_from n starts)).0
+    by : ((y : PlainNode) (said : Told) → At v y → At v (starts_from n starts (y, said)).0) → (f : Fired) (one : FlushResult) (x : PlainNode) → At v x → At v (started_by n node.arm f one told x (starts_from n starts)).0
     by later fired.No one x g = later x _ g
     by later fired.Failed one x g = later x _ g
     by later fired.Stopped one x g = tt
@@ -257,7 +257,7 @@ left_rests : (before : PlainLink) (w : PlainWorld) (left : Option PlainLink) →
 left_rests before w None rests = unlinked_rests before w rests
 left_rests before w (Some link) rests = rests
 
-link_rests : (w : PlainWorld) (l : ℕ) (end : PlainLink → ℕ) (f : PlainLink → PlainNode → PlainNode × LinkTold) → Rests w → ((link : PlainLink) → Keeps (f link)) → Rests (on_link w l end f).0
+link_rests : (w : PlainWorld) (l : ℕ) (end : PlainLink → ℕ) (f : PlainLink → PlainNode → PlainNode × LinkResult) → Rests w → ((link : PlainLink) → Keeps (f link)) → Rests (on_link w l end f).0
 link_rests w l end f rests keeps = by (row_at link_number l w.links)
   where
     by : (o : Option PlainLink) → Rests (link_outcome w l end f o).0
@@ -295,7 +295,7 @@ posted_rests n rs came rests = by (came.0.nodes n) refl
 role_rests : (w : PlainWorld) (n v : ℕ) (asked : AdminCall) → Rests w → Rests (role_outcome n v asked w).0
 role_rests w n v asked rests = by came.1.ended
   where
-    came : PlainWorld × AdminTold
+    came : PlainWorld × AdminResult
     came = node_outcome w n no_node (w.nodes n) (role_called n v asked)
 
     known : Rests came.0
@@ -367,14 +367,14 @@ world_rests w line rests = verb_rests w line.line line.verb rests
 
 -- the ids of the branches that a line tells of are given behind it
 pub stepped : (kept after : Kept) (w : PlainWorld) (line : ScriptLine) (told : Told) → WorldStands kept (verb_step w line.line line.verb).0 → told ≡ (verb_step w line.line line.verb).1 → after.nodes ≡ kept.nodes → after.links ≡ kept.links
-    → ((uuids : List ℕ) → IdsStand kept.ids uuids → IdsStand after.ids (uuids ++ flat_map branch_told told.events)) → Rests w
+    → ((uuids : List ℕ) → IdsStand kept.ids uuids → IdsStand after.ids (uuids ++ flat_map branch_of_line told.events)) → Rests w
     → WorldStands after (world_step w line).0 × Rests (world_step w line).0 × (group_with line.line told ≡ (world_step w line).1)
 unfolding world_step
 stepped kept after w line told stands said nodes links given rests =
     let came = verb_step w line.line line.verb in (
       record {
         nodes = subst (λ (xs : List ScriptNode). NodesStand xs came.0) (sym nodes) stands.nodes;
-        ids = subst (λ (t : Told). IdsStand after.ids (came.0.uuids ++ flat_map branch_told t.events)) said (given came.0.uuids stands.ids);
+        ids = subst (λ (t : Told). IdsStand after.ids (came.0.uuids ++ flat_map branch_of_line t.events)) said (given came.0.uuids stands.ids);
         links = subst (λ (xs : List ScriptNode). LinksStand (ends_of xs) after.links came.0.links) (sym nodes) (subst (λ (xs : List Link). LinksStand (ends_of kept.nodes) xs came.0.links) (sym links) stands.links);
       },
       verb_rests w line.line line.verb rests,

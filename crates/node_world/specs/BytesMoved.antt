@@ -7,8 +7,8 @@ use Rattle.vb_calls.specs.Jobs.{after_job}
 use Rattle.vb_calls.specs.Shelves.{Shelves}
 use Rattle.vb_calls.specs.States.{States}
 use Rattle.vbucket.specs.Rows.{row_out, row_put}
-use Rattle.node_core.specs.Dials.{DialTold, dial_fed}
-use Rattle.node_core.specs.Peers.{PeerTold}
+use Rattle.node_core.specs.Dials.{DialResult, dial_bytes}
+use Rattle.node_core.specs.Peers.{PeerResult}
 use Rattle.node_world.specs.Arms.{placed}
 use Rattle.node_world.specs.Links.{PlainLink, dial_of, link_number, peer_given, peer_of}
 use Rattle.node_world.specs.Nodes.{PlainNode}
@@ -27,11 +27,11 @@ pub record Takes (way other : PlainLink → List ℕ) (count : ℕ) (out : List 
   pub answered : other now ≡ other link ++ out
 
 -- what comes of the first bytes on a link's way up, at its producer's node, and down, at its consumer's
-abbrev pub given_up : ℕ → PlainLink → PlainNode → PlainNode × PeerTold
+abbrev pub given_up : ℕ → PlainLink → PlainNode → PlainNode × PeerResult
 given_up count link producer = peer_given (take count link.up) (peer_of link) producer
 
-abbrev pub given_down : ℕ → PlainLink → PlainNode → (States × Shelves) × DialTold
-given_down count link node = after_job (dial_fed (take count link.down) (dial_of link)) node.vbs (placed link.consumer.dialed.vb node).shelves
+abbrev pub given_down : ℕ → PlainLink → PlainNode → (States × Shelves) × DialResult
+given_down count link node = after_job (dial_bytes (take count link.down) (dial_of link)) node.vbs (placed link.consumer.dialed.vb node).shelves
 
 -- `up` gives the first bytes that the consumer wrote to the producer, and `down`, where its answer is a number, those that the producer wrote to the consumer; they are as many as the answer says, and the line tells what came of them. The link stays, or after `down` it may be over and gone
 pub record BytesMoved (w : PlainWorld) (l : ℕ) (link : PlainLink) (producer node : PlainNode) : Type 0 where

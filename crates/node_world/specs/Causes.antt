@@ -167,7 +167,7 @@ pub record AtNode (w : PlainWorld) (n : ℕ) (node : PlainNode) : Type 0 where
   pub no_vb : (v : ℕ) → node.vbs v ≡ None → NoVb w n v
   pub no_client : (c : ℕ) (bytes : List ℕ) → node.clients c ≡ None → RefusedFor w cause.LinkClosed (verb.AtClient n c (client_verb.Bytes bytes)) × RefusedFor w cause.LinkClosed (verb.AtClient n c client_verb.Hang)
   pub client : (c : ℕ) → node.clients c ≡ None → AnsweredAs w answer.Ok (verb.AtClient n c client_verb.Open)
-  pub client_open : (c : ℕ) (session : PlainSession) → node.clients c ≡ Some session → RefusedFor w cause.LinkOpen (verb.AtClient n c client_verb.Open)
+  pub client_is_open : (c : ℕ) (session : PlainSession) → node.clients c ≡ Some session → RefusedFor w cause.LinkOpen (verb.AtClient n c client_verb.Open)
   pub bytes : (c : ℕ) (bytes : List ℕ) (session : PlainSession) → node.clients c ≡ Some session → AnsweredAs w answer.Ok (verb.AtClient n c (client_verb.Bytes bytes))
   pub hang : (c : ℕ) (session : PlainSession) → node.clients c ≡ Some session → AnsweredAs w answer.Ok (verb.AtClient n c client_verb.Hang)
 
@@ -251,9 +251,9 @@ pub record CausesInOrder (w : PlainWorld) : Type 0 where
   pub node : (n : ℕ) → w.nodes n ≡ None → AnsweredAs w answer.Ok (verb.Node n)
   pub no_node : (n : ℕ) → w.nodes n ≡ None → NoNode w n
   pub at_made : (n : ℕ) (node : PlainNode) → w.nodes n ≡ Some node → AtMade w n
-  pub at_down : (n : ℕ) (node : PlainNode) (books : List Book) → w.nodes n ≡ Some node → node.off ≡ Some books → AtDown w n node books
+  pub at_stopped_node : (n : ℕ) (node : PlainNode) (books : List Book) → w.nodes n ≡ Some node → node.off ≡ Some books → AtDown w n node books
   pub at_node : (n : ℕ) (node : PlainNode) → w.nodes n ≡ Some node → node.off ≡ None → AtNode w n node
-  pub at_vb : (n v : ℕ) (node : PlainNode) (vb : Plain) → w.nodes n ≡ Some node → node.off ≡ None → node.vbs v ≡ Some vb → AtVb w n v vb
+  pub at_made_vb : (n v : ℕ) (node : PlainNode) (vb : Plain) → w.nodes n ≡ Some node → node.off ≡ None → node.vbs v ≡ Some vb → AtVb w n v vb
   pub at_shelf : (n v : ℕ) (node : PlainNode) (vb : Plain) (shelf : Shelf) → w.nodes n ≡ Some node → node.off ≡ None → node.vbs v ≡ Some vb → node.shelves v ≡ Some shelf → Notes node shelf → AtShelf w n v vb shelf
   pub dials : (l m n v : ℕ) → Dials w l m n v
   pub dials_made : (l m n v : ℕ) (producer node : PlainNode) → w.nodes m ≡ Some producer → w.nodes n ≡ Some node → DialsMade w l m n v producer node

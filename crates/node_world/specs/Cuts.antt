@@ -34,9 +34,9 @@ cut_off None w = (w, [])
 cut_off (Some link) w = (unlinked link w, event.Ended (link_number link) reason.Cut ∷ [])
 
 -- a link whose producer is at the node n, where a change of role at its vBucket v ended the streams of these numbers
-abbrev pub told_ended : ℕ → ℕ → List ℕ → PlainLink → PlainLink
-told_ended n v ids link = if producer_node link == n then record link { server = ended_by v ids link.server } else link
+abbrev pub link_ended : ℕ → ℕ → List ℕ → PlainLink → PlainLink
+link_ended n v ids link = if producer_node link == n then record link { server = ended_by v ids link.server } else link
 
 -- the links after a change of role at the vBucket v of the node n, which ended the streams of these numbers
-abbrev pub links_told : ℕ → ℕ → List ℕ → List PlainLink → List PlainLink
-links_told n v ids links = map (told_ended n v ids) links
+abbrev pub links_ended : ℕ → ℕ → List ℕ → List PlainLink → List PlainLink
+links_ended n v ids links = map (link_ended n v ids) links

@@ -6,7 +6,7 @@ use Rattle.vb_types.specs.declared.journal.FlushPart.TheVariants as part
 use Rattle.vb_calls.specs.Programs.{after}
 use Rattle.vb_calls.specs.States.{States}
 use Rattle.vbucket.specs.Rows.{row_put}
-use Rattle.node_core.specs.Dials.{DialTold, dial_due}
+use Rattle.node_core.specs.Dials.{DialResult, dial_due}
 use Rattle.node_world.specs.declared.told.Told.{Told}
 use Rattle.node_world.specs.Cuts.{own_link}
 use Rattle.node_world.specs.Links.{PlainLink, link_number, dial_of}
@@ -14,12 +14,12 @@ use Rattle.node_world.specs.Nodes.{PlainNode, flush_line, with_states}
 use Rattle.node_world.specs.Worlds.{PlainWorld, Outcome, on_node, with_links, with_node_at}
 
 -- the link after its consumer acknowledged, or had nothing to
-abbrev pub with_due : PlainLink → DialTold → PlainLink
+abbrev pub with_due : PlainLink → DialResult → PlainLink
 with_due link told = record link { consumer = told.dial.consumer; down_heard = told.dial.heard; up = link.up ++ told.out }
 
 -- the world after the consumer of a link, at the node n, was asked what is due, which made this of the vBuckets; and behind what is told of the line, what it acknowledged
-abbrev pub due_told : ℕ → PlainLink → PlainNode → PlainWorld → Told → States × DialTold → Outcome
-due_told n link node w told (states, came) = (
+abbrev pub with_acknowledged : ℕ → PlainLink → PlainNode → PlainWorld → Told → States × DialResult → Outcome
+with_acknowledged n link node w told (states, came) = (
   with_links (with_node_at w n (with_states node states)) (row_put link_number (link_number link) (with_due link came) w.links),
   record told { events = told.events ++ came.events },
 )
@@ -27,7 +27,7 @@ due_told n link node w told (states, came) = (
 -- what is due at the node n of a link's consumer, if it is made
 abbrev pub due_at : ℕ → PlainLink → PlainWorld → Told → Option PlainNode → Outcome
 due_at n link w told None = (w, told)
-due_at n link w told (Some node) = due_told n link node w told (after (dial_due (dial_of link)) node.vbs)
+due_at n link w told (Some node) = with_acknowledged n link node w told (after (dial_due (dial_of link)) node.vbs)
 
 -- what is due of the link that feeds a vBucket of the node n, if there is one
 abbrev pub due_of : ℕ → PlainWorld → Told → Option PlainLink → Outcome

@@ -12,8 +12,8 @@ use Rattle.dcp_consumer.specs.Dialing.{requests}
 use Rattle.dcp_producer.specs.Ending.{end_closed}
 use Rattle.node_core.specs.declared.admin.AdminCall.{AdminCall}
 use Rattle.node_core.specs.declared.out.NodeOut.{NodeOut}
-use Rattle.node_core.specs.Calls.{dial_asked}
-use Rattle.node_core.specs.Dials.{PlainDial, KeptDial, DialTold, new_dial, dial_fed, dial_due}
+use Rattle.node_core.specs.Calls.{dial_requested}
+use Rattle.node_core.specs.Dials.{PlainDial, KeptDial, DialResult, new_dial, dial_bytes, dial_due}
 use Rattle.node_core.specs.Outcomes.{value_at, live_dial, dial_left}
 use Rattle.node_core.specs.Outs.{refused_out, done_out, pull_out, dial_out, cut_out, dial_ended, admin_out}
 use Rattle.node_core.specs.Peers.{PlainPeer, KeptPeer, new_peer, peer_pulled, peer_ended}
@@ -24,7 +24,7 @@ use Rattle.node_world.specs.declared.told.Told.{Told}
 use Rattle.node_world.specs.Cuts.{closed_in}
 use Rattle.node_world.specs.Lines.{at_link}
 use Rattle.mcbp_frame.specs.declared.frame.Frame.{Frame}
-use Rattle.node_world.specs.Links.{PlainLink, peer_asked, peer_given, producer_node, peer_of}
+use Rattle.node_world.specs.Links.{PlainLink, frame_posted, peer_given, producer_node, peer_of}
 use Rattle.node_world.specs.Arms.{lifted, placed, under_arm}
 use Rattle.node_world.specs.Nodes.{PlainNode, all_posted, bad_chain_causes, first_cause, posted, posted_if, with_disk, with_kept, with_states}
 use Rattle.vb_calls.specs.declared.calls.Resolved.{Resolved}
@@ -62,14 +62,14 @@ pub record PutsDial (old new : ScriptNode) (v : ℕ) (dial : Option KeptDial) : 
   pub peers : (key : ℕ) → peer_under new key ≡ peer_under old key
 
 -- a peer, where a change of role at the vBucket v ended the streams of these numbers, if there was one
-abbrev pub peer_told : ℕ → Option (List ℕ) → KeptPeer → KeptPeer
-peer_told v None kept = kept
-peer_told v (Some ids) kept = record kept { plain = peer_ended v ids kept.plain }
+abbrev pub kept_peer_ended : ℕ → Option (List ℕ) → KeptPeer → KeptPeer
+kept_peer_ended v None kept = kept
+kept_peer_ended v (Some ids) kept = record kept { plain = peer_ended v ids kept.plain }
 
 -- each peer is told which streams a change of role at the vBucket v ended, and the vBucket's dial is let go, if there was one
 pub record TellsEnds (old new : ScriptNode) (v : ℕ) (ended : Option (List ℕ)) : Type 0 where
   pub number : node_number new ≡ node_number old
-  pub peers : (key : ℕ) → peer_under new key ≡ option_map (peer_told v ended) (peer_under old key)
+  pub peers : (key : ℕ) → peer_under new key ≡ option_map (kept_peer_ended v ended) (peer_under old key)
   pub dials : (other : ℕ) → dial_under new other ≡ (if is_some ended && other == v then None else dial_under old other)
 
 -- a line that the node carries out as f says of the plain one
@@ -124,7 +124,7 @@ PullsPeer key frames old out new = (plain : PlainNode) (peer : PlainPeer) → No
 -- the producer under a key answers a frame, and what became of durable writes with it is told to who awaits it
 abbrev pub AnswersPeer : ℕ → Frame → ScriptNode → NodeOut → ScriptNode → Type 0
 AnswersPeer key f old out new = (plain : PlainNode) (peer : PlainPeer) → NodeMatch old plain → peer_under old key ≡ Some (live_peer peer) →
-    let (node, told) = peer_asked f peer plain in
+    let (node, told) = frame_posted f peer plain in
     NodeMatch new node × (out ≡ done_out told.events told.out) × PutsPeer old new key (Some (live_peer told.peer))
 
 -- outcomes were told to who awaits them, and these lines tell of it
@@ -161,12 +161,12 @@ DialCame v link (Ok ask) old out new =
 -- the vBucket v of a node that is running dials, as the consumer of a link
 abbrev pub DialsFor : ℕ → ℕ → Bool → ScriptNode → NodeOut → ScriptNode → Type 0
 DialsFor v link is_free old out new = (plain : PlainNode) → NodeMatch old plain → plain.off ≡ None →
-    let (states, said) = after (dial_asked v (is_free && not (is_some (dial_under old v)))) plain.vbs in
+    let (states, said) = after (dial_requested v (is_free && not (is_some (dial_under old v)))) plain.vbs in
     NodeMatch new (with_states plain states) × DialCame v link said old out new
 
 -- a node after bytes for a dial of it
-abbrev pub dial_given : List ℕ → PlainDial → PlainNode → PlainNode × DialTold
-dial_given piece dial node = let (kept, told) = after_job (dial_fed piece dial) node.vbs node.shelves in (with_kept node kept, told)
+abbrev pub dial_given : List ℕ → PlainDial → PlainNode → PlainNode × DialResult
+dial_given piece dial node = let (kept, told) = after_job (dial_bytes piece dial) node.vbs node.shelves in (with_kept node kept, told)
 
 -- the consumer of a vBucket is given bytes
 abbrev pub FeedsDial : ℕ → List ℕ → ScriptNode → NodeOut → ScriptNode → Type 0

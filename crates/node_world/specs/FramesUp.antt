@@ -20,7 +20,7 @@ use Rattle.vb_calls.specs.States.{States}
 use Rattle.vb_calls.specs.declared.calls.Resolved.{Resolved}
 use Rattle.vb_calls.specs.declared.calls.VbCall.TheVariants as call
 use Rattle.vbucket.specs.Rows.{row_put}
-use Rattle.node_core.specs.Peers.{PeerTold, peer_answered, peer_frames, peer_heard}
+use Rattle.node_core.specs.Peers.{PeerResult, peer_answered, peer_frames, peer_heard}
 use Rattle.node_world.specs.Links.{PlainLink, link_number, peer_of, producer_node}
 use Rattle.node_world.specs.Nodes.{PlainNode, all_posted, posted, with_states}
 use Rattle.node_world.specs.Posting.{AwaitsAlone}
@@ -33,7 +33,7 @@ piece_up wanted link = take (min wanted (length link.up)) link.up
 
 -- The outcomes of a frame are posted before the next frame of the same bytes is answered: the next one is answered by vBuckets as the posts left them, and its lines stand behind those of the posts.
 pub record PostsBetween (w : PlainWorld) (l : ℕ) (link : PlainLink) (producer : PlainNode) : Type 0 where
-  pub second : (number wanted : ℕ) (f g : Frame) (more : List Frame) (first next : States × PeerTold) → peer_frames (piece_up wanted link) (peer_of link) ≡ f ∷ g ∷ more
+  pub second : (number wanted : ℕ) (f g : Frame) (more : List Frame) (first next : States × PeerResult) → peer_frames (piece_up wanted link) (peer_of link) ≡ f ∷ g ∷ more
       → after (peer_answered f (peer_heard (piece_up wanted link) (peer_of link))) producer.vbs ≡ first
       → after (peer_answered g first.1.peer) (all_posted first.1.resolved (with_states producer first.0)).0.vbs ≡ next
       → (rest : List Event) × ((verb_step w number (verb.AtLink l (link_verb.Up wanted))).1.events

@@ -17,7 +17,7 @@ use Rattle.script_text.specs.declared.verb.LinkVerb.TheVariants as link_verb
 use Rattle.node_world.specs.declared.script_node.NodeLine.{NodeLine}
 use Rattle.node_world.specs.declared.script_node.NodeLine.TheVariants as node_line
 use Rattle.node_world.specs.declared.told.Told.{Told}
-use Rattle.node_world.specs.Links.{PlainLink, LinkTold, link_number, producer_node, consumer_node, up_at, pump_at}
+use Rattle.node_world.specs.Links.{PlainLink, LinkResult, link_number, producer_node, consumer_node, up_at, pump_at}
 use Rattle.node_world.specs.Nodes.{PlainNode, done, refusal, refused_or, is_one_of, vb_made, vb_at, save_line, replica_at, client_at, bytes_at, hang_at, clock_at, flush_line, chain_line, tick_line}
 use Rattle.node_world.specs.Turns.{admin_line}
 use Rattle.node_world.specs.World.{down_in, with_link}
@@ -70,11 +70,11 @@ at_node uuids n (node_line.Log v) = admin_line n v admin.Log
 at_node uuids n (node_line.Show v) = admin_line n v admin.Show
 
 -- a line for a link, which the node at one of its ends carries out
-abbrev pub end_line : PlainWorld → ℕ → PlainLink → (PlainNode → PlainNode × LinkTold) → PlainWorld × LinkTold
+abbrev pub end_line : PlainWorld → ℕ → PlainLink → (PlainNode → PlainNode × LinkResult) → PlainWorld × LinkResult
 end_line w n link f = node_outcome w n (Some link, refusal cause.UnknownNode) (w.nodes n) f
 
 -- a line for an open link
-abbrev pub at_link : LinkVerb → PlainWorld → PlainLink → PlainWorld × LinkTold
+abbrev pub at_link : LinkVerb → PlainWorld → PlainLink → PlainWorld × LinkResult
 at_link (link_verb.Up wanted) w link = end_line w (producer_node link) link (up_at wanted link)
 at_link (link_verb.Down wanted) w link = end_line w (consumer_node link) link (down_in wanted link)
 at_link (link_verb.Pump frames) w link = end_line w (producer_node link) link (pump_at frames link)
@@ -97,8 +97,8 @@ ChangesRole admin.Dead = Unit {0}
 ChangesRole other = ⊥
 
 -- the branch that a promotion asks the vBucket for: none where the id is 0 or was given before
-abbrev pub asked_id : List ℕ → ℕ → ℕ
-asked_id uuids uuid = if is_one_of uuid uuids then 0 else uuid
+abbrev pub free_uuid : List ℕ → ℕ → ℕ
+free_uuid uuids uuid = if is_one_of uuid uuids then 0 else uuid
 
 -- a vBucket refuses every id that is not free as one that was used; where the line's is 0, that is the cause
 abbrev pub named_cause : ℕ → Answer → Answer
@@ -106,5 +106,5 @@ named_cause uuid (answer.No cause.UuidUsed) = answer.No (if uuid == 0 then cause
 named_cause uuid other = other
 
 -- the same of an outcome
-abbrev pub cause_named : ℕ → Outcome → Outcome
-cause_named uuid (w, told) = (w, record { events = told.events; answer = named_cause uuid told.answer })
+abbrev pub with_named_cause : ℕ → Outcome → Outcome
+with_named_cause uuid (w, told) = (w, record { events = told.events; answer = named_cause uuid told.answer })

@@ -19,8 +19,8 @@ use Rattle.dcp_consumer.specs.Dialing.{requests}
 use Rattle.dcp_consumer.specs.Machine.{PlainConsumer, dialed_consumer, over_why}
 use Rattle.node_core.specs.Calls.{named_ask}
 use Rattle.mcbp_frame.specs.declared.frame.Frame.{Frame}
-use Rattle.node_core.specs.Peers.{PlainPeer, PeerTold, PullTold, peer_heard, peer_frames, peer_answered, peer_pulled}
-use Rattle.node_core.specs.Dials.{PlainDial, DialTold, dial_fed, is_broken}
+use Rattle.node_core.specs.Peers.{PlainPeer, PeerResult, PullResult, peer_heard, peer_frames, peer_answered, peer_pulled}
+use Rattle.node_core.specs.Dials.{PlainDial, DialResult, dial_bytes, is_broken}
 use Rattle.node_world.specs.declared.told.Told.{Told}
 use Rattle.node_world.specs.Nodes.{PlainNode, all_posted, with_kept, with_states}
 
@@ -77,8 +77,8 @@ new_link line l m n v ask = record {
 }
 
 -- a link in a line: as it is then, unless it is over, and what is told of the line
-abbrev pub LinkTold : Type 0
-LinkTold = Option PlainLink × Told
+abbrev pub LinkResult : Type 0
+LinkResult = Option PlainLink × Told
 
 -- so many bytes were moved
 abbrev pub moved : ℕ → List Event → Told
@@ -93,54 +93,54 @@ abbrev pub with_server : PlainLink → PlainPeer → List ℕ → PlainLink
 with_server link peer out = record link { server = peer.producer; up_heard = peer.heard; down = link.down ++ out }
 
 -- the link with what its consumer wrote less n bytes, and with what its producer made of them
-abbrev pub with_up : PlainLink → ℕ → PeerTold → PlainLink
+abbrev pub with_up : PlainLink → ℕ → PeerResult → PlainLink
 with_up link n told = with_server (record link { up = drop n link.up }) told.peer told.out
 
 -- a producer's end of which nothing is told yet
-abbrev pub untold_peer : PlainPeer → PeerTold
+abbrev pub untold_peer : PlainPeer → PeerResult
 untold_peer peer = record { peer = peer; events = []; out = []; resolved = [] }
 
 -- a frame of a producer's end was answered, which made this of the vBuckets: what became of durable writes is posted at once
-abbrev pub peer_told : PlainNode → States × PeerTold → PlainNode × PeerTold
-peer_told node (states, told) =
+abbrev pub peer_posted : PlainNode → States × PeerResult → PlainNode × PeerResult
+peer_posted node (states, told) =
     let (node', lines) = all_posted told.resolved (with_states node states) in
     (node', record { peer = told.peer; events = told.events ++ lines; out = told.out; resolved = [] })
 
 -- a frame is answered
-abbrev pub peer_asked : Frame → PlainPeer → PlainNode → PlainNode × PeerTold
-peer_asked f peer node = peer_told node (after (peer_answered f peer) node.vbs)
+abbrev pub frame_posted : Frame → PlainPeer → PlainNode → PlainNode × PeerResult
+frame_posted f peer node = peer_posted node (after (peer_answered f peer) node.vbs)
 
 -- what is told now, behind what was told before
-abbrev pub told_behind : PeerTold → PlainNode × PeerTold → PlainNode × PeerTold
-told_behind before (node, told) = (node, record told { events = before.events ++ told.events; out = before.out ++ told.out })
+abbrev pub result_behind : PeerResult → PlainNode × PeerResult → PlainNode × PeerResult
+result_behind before (node, told) = (node, record told { events = before.events ++ told.events; out = before.out ++ told.out })
 
 -- one more frame is answered
-abbrev pub frame_up : Frame → PlainNode × PeerTold → PlainNode × PeerTold
-frame_up f (node, told) = told_behind told (peer_asked f told.peer node)
+abbrev pub frame_up : Frame → PlainNode × PeerResult → PlainNode × PeerResult
+frame_up f (node, told) = result_behind told (frame_posted f told.peer node)
 
 -- frames, one after the other
-abbrev pub frames_up : List Frame → PlainNode × PeerTold → PlainNode × PeerTold
+abbrev pub frames_up : List Frame → PlainNode × PeerResult → PlainNode × PeerResult
 frames_up [] came = came
 frames_up (f ∷ fs) came = frames_up fs (frame_up f came)
 
 -- a producer's end is given bytes: the frames that are whole now are answered, in order
-abbrev pub peer_given : List ℕ → PlainPeer → PlainNode → PlainNode × PeerTold
+abbrev pub peer_given : List ℕ → PlainPeer → PlainNode → PlainNode × PeerResult
 peer_given piece peer node = frames_up (peer_frames piece peer) (node, untold_peer (peer_heard piece peer))
 
 -- the producer's node and the link after n bytes of its consumer's
-abbrev pub up_told : PlainLink → ℕ → PlainNode × PeerTold → PlainNode × LinkTold
-up_told link n (node, told) = (node, (Some (with_up link n told), moved n told.events))
+abbrev pub up_result : PlainLink → ℕ → PlainNode × PeerResult → PlainNode × LinkResult
+up_result link n (node, told) = (node, (Some (with_up link n told), moved n told.events))
 
 -- the producer's end is given the first n bytes that its consumer wrote
-abbrev pub up_moved : PlainLink → ℕ → PlainNode → PlainNode × LinkTold
-up_moved link n node = up_told link n (peer_given (take n link.up) (peer_of link) node)
+abbrev pub up_moved : PlainLink → ℕ → PlainNode → PlainNode × LinkResult
+up_moved link n node = up_result link n (peer_given (take n link.up) (peer_of link) node)
 
 -- `up L B` at the producer's node
-abbrev pub up_at : ℕ → PlainLink → PlainNode → PlainNode × LinkTold
+abbrev pub up_at : ℕ → PlainLink → PlainNode → PlainNode × LinkResult
 up_at wanted link node = up_moved link (moved_len wanted link.up) node
 
 -- the link with what its producer wrote less n bytes, and with what its consumer made of them
-abbrev pub with_down : PlainLink → ℕ → DialTold → PlainLink
+abbrev pub with_down : PlainLink → ℕ → DialResult → PlainLink
 with_down link n told =
     record link { consumer = told.dial.consumer; down_heard = told.dial.heard; down = drop n link.down; up = link.up ++ told.out }
 
@@ -154,22 +154,22 @@ left_unless None link = Some link
 left_unless (Some why) link = None
 
 -- the consumer's node and the link after n bytes of its producer's, which made this of the vBuckets and their journals
-abbrev pub down_told : PlainLink → ℕ → PlainNode → (States × Shelves) × DialTold → PlainNode × LinkTold
-down_told link n node (kept, told) =
+abbrev pub down_result : PlainLink → ℕ → PlainNode → (States × Shelves) × DialResult → PlainNode × LinkResult
+down_result link n node (kept, told) =
     let why = over_why told.dial.consumer.handshake in (with_kept node kept, (left_unless why (with_down link n told), record { events = told.events; answer = down_answer n why }))
 
 -- the consumer's end is given the first n bytes that its producer wrote
-abbrev pub down_moved : PlainLink → ℕ → PlainNode → PlainNode × LinkTold
-down_moved link n node = down_told link n node (after_job (dial_fed (take n link.down) (dial_of link)) node.vbs node.shelves)
+abbrev pub down_moved : PlainLink → ℕ → PlainNode → PlainNode × LinkResult
+down_moved link n node = down_result link n node (after_job (dial_bytes (take n link.down) (dial_of link)) node.vbs node.shelves)
 
 -- `down L B` at the consumer's node
-abbrev pub down_at : ℕ → PlainLink → PlainNode → PlainNode × LinkTold
+abbrev pub down_at : ℕ → PlainLink → PlainNode → PlainNode × LinkResult
 down_at wanted link node = down_moved link (moved_len wanted link.down) node
 
 -- the producer's node and the link after its frames were put, which made this of the vBuckets
-abbrev pub pump_told : PlainLink → PlainNode → States × PullTold → PlainNode × LinkTold
-pump_told link node (states, told) = (with_states node states, (Some (with_server link told.peer told.out), record { events = told.events; answer = told.answer }))
+abbrev pub pump_result : PlainLink → PlainNode → States × PullResult → PlainNode × LinkResult
+pump_result link node (states, told) = (with_states node states, (Some (with_server link told.peer told.out), record { events = told.events; answer = told.answer }))
 
 -- `pump L K` at the producer's node
-abbrev pub pump_at : ℕ → PlainLink → PlainNode → PlainNode × LinkTold
-pump_at frames link node = pump_told link node (after (peer_pulled frames (peer_of link)) node.vbs)
+abbrev pub pump_at : ℕ → PlainLink → PlainNode → PlainNode × LinkResult
+pump_at frames link node = pump_result link node (after (peer_pulled frames (peer_of link)) node.vbs)

@@ -1,7 +1,7 @@
 -- one node: its vBuckets and connections, and what a line of a script makes of them
 use Rattle.std.specs.Prelude.{ℕ, zero, suc, ◌+◌, ◌==◌, nat_le, not, Bool, false, true, if◌then◌else◌, List, [], ◌∷◌, ◌++◌, Option, Some, None, is_some}
 use Rattle.std.specs.List.{list_any}
-use Rattle.client_session.specs.Serving.{PlainSession, Served, served, new_session, bytes_served, outcome_served, awaits}
+use Rattle.client_session.specs.Serving.{PlainSession, Served, served, new_session, bytes_handled, outcome_handled, awaits}
 use Rattle.durability.specs.Chains.{Members, is_chain}
 use Rattle.vb_events.specs.declared.event.Event.{Event}
 use Rattle.vb_events.specs.declared.event.Cause.{Cause}
@@ -22,7 +22,7 @@ use Rattle.vb_calls.specs.States.{States, with_vb_at}
 use Rattle.node_core.specs.declared.node.TheConstants.{MAX_VBS}
 use Rattle.node_core.specs.Admin.{noted_answer}
 use Rattle.node_core.specs.Calls.{branch_lines, left_open}
-use Rattle.node_core.specs.Flushing.{FlushTold, flush_at, chain_set, ticked}
+use Rattle.node_core.specs.Flushing.{FlushResult, flush_at, chain_changed, ticked}
 pub use Rattle.node_world.specs.Arms.{PlainNode, empty_node}
 use Rattle.node_world.specs.Arms.{under_arm}
 use Rattle.node_world.specs.declared.arm.Arm.{Arm}
@@ -81,14 +81,14 @@ abbrev pub vb_told : ℕ → ℕ → Role → ℕ → Fate → Told
 vb_told n v role uuid fate = record { events = branch_lines n v role uuid; answer = noted_answer (wrote_of fate) answer.Ok }
 
 -- the vBucket v is made, and its role is written down first
-abbrev pub vb_new : ℕ → ℕ → Role → ℕ → PlainNode → PlainNode × Told
-vb_new n v role uuid node =
+abbrev pub vb_noted : ℕ → ℕ → Role → ℕ → PlainNode → PlainNode × Told
+vb_noted n v role uuid node =
     let (shelves, fate) = shelves_step node.shelves v (Append (State role (first_log role uuid))) in
     (with_vb node n v role uuid shelves, vb_told n v role uuid fate)
 
 -- so it is on its disk, under the node's arm
 abbrev pub vb_made : ℕ → ℕ → Role → ℕ → PlainNode → PlainNode × Told
-vb_made n v role uuid node = under_arm v (vb_new n v role uuid) (with_disk node v)
+vb_made n v role uuid node = under_arm v (vb_noted n v role uuid) (with_disk node v)
 
 -- `vb N V active U` at the node N; `uuids` are the branches that were made before
 abbrev pub vb_at : List ℕ → ℕ → ℕ → ℕ → PlainNode → PlainNode × Told
@@ -129,13 +129,13 @@ abbrev pub fed : ℕ → PlainNode → States × Served → PlainNode × Told
 fed c node (states, s) = (with_client (with_states node states) c (left_open s.session), done s.events)
 
 -- bytes for a session, where there is one
-abbrev pub fed_if : ℕ → List ℕ → PlainNode → Option PlainSession → PlainNode × Told
-fed_if c bytes node None = (node, refusal cause.LinkClosed)
-fed_if c bytes node (Some session) = fed c node (after (bytes_served node.clock bytes (served session [])) node.vbs)
+abbrev pub bytes_if : ℕ → List ℕ → PlainNode → Option PlainSession → PlainNode × Told
+bytes_if c bytes node None = (node, refusal cause.LinkClosed)
+bytes_if c bytes node (Some session) = fed c node (after (bytes_handled node.clock bytes (served session [])) node.vbs)
 
 -- `bytes N C HEX` at the node N: the connection, which must be open, is given the bytes
 abbrev pub bytes_at : ℕ → List ℕ → PlainNode → PlainNode × Told
-bytes_at c bytes node = fed_if c bytes node (node.clients c)
+bytes_at c bytes node = bytes_if c bytes node (node.clients c)
 
 -- `hang N C` at the node N: the client closes the connection, which must be open
 abbrev pub hang_at : ℕ → PlainNode → PlainNode × Told
@@ -165,13 +165,13 @@ awaiting clients waiter zero = None
 awaiting clients waiter (suc c) = first_of (awaiting clients waiter c) (awaiting_at clients waiter c)
 
 -- the node after its connection c was told an outcome, which made this of the vBuckets and of the session
-abbrev pub told_outcome : ℕ → PlainNode → States × Served → PlainNode × List Event
-told_outcome c node (states, s) = (with_client (with_states node states) c (left_open s.session), s.events)
+abbrev pub outcome_posted : ℕ → PlainNode → States × Served → PlainNode × List Event
+outcome_posted c node (states, s) = (with_client (with_states node states) c (left_open s.session), s.events)
 
 -- an outcome for a session, where there is one
 abbrev pub posted_if : ℕ → Resolved → PlainNode → Option PlainSession → PlainNode × List Event
 posted_if c r node None = (node, [])
-posted_if c r node (Some session) = told_outcome c node (after (outcome_served node.clock r (served session [])) node.vbs)
+posted_if c r node (Some session) = outcome_posted c node (after (outcome_handled node.clock r (served session [])) node.vbs)
 
 -- an outcome for the connection of a number, if there is one that awaits it
 abbrev pub posted_to : Resolved → PlainNode → Option ℕ → PlainNode × List Event
@@ -191,11 +191,11 @@ all_posted (r ∷ rs) node =
     (node'', lines ++ more)
 
 -- what a call told, and behind it what came of the outcomes
-abbrev pub with_posts : FlushTold → PlainNode → PlainNode × Told
+abbrev pub with_posts : FlushResult → PlainNode → PlainNode × Told
 with_posts told node = let (node', lines) = all_posted told.resolved node in (node', record { events = told.events ++ lines; answer = told.answer })
 
 -- the node after a step of writing down, and what is told of it
-abbrev pub written : PlainNode → (States × Shelves) × FlushTold → PlainNode × Told
+abbrev pub written : PlainNode → (States × Shelves) × FlushResult → PlainNode × Told
 written node (kept, told) = with_posts told (with_kept node kept)
 
 -- `take N V`, `save N V` and `done N V` at the node N: a step of writing a vBucket down
@@ -226,12 +226,12 @@ bad_chain_cause (Some false) = cause.WrongRole
 bad_chain_cause (Some true) = cause.ChainBad
 
 -- the node after a call that let a vBucket resolve durable writes, and what is told of it
-abbrev pub settled : PlainNode → States × FlushTold → PlainNode × Told
+abbrev pub settled : PlainNode → States × FlushResult → PlainNode × Told
 settled node (states, told) = with_posts told (with_states node states)
 
 -- the chain of the vBucket v is the node n and these
 abbrev pub chain_made : ℕ → ℕ → Members → PlainNode → PlainNode × Told
-chain_made n v others node = settled node (after (chain_set n v (record { active = n; others = others })) node.vbs)
+chain_made n v others node = settled node (after (chain_changed n v (record { active = n; others = others })) node.vbs)
 
 -- `chain N V M ..` at the node N
 abbrev pub chain_line : ℕ → ℕ → Members → PlainNode → PlainNode × Told

@@ -24,7 +24,7 @@ use Rattle.vb_calls.specs.Programs.{after}
 use Rattle.vb_calls.specs.Shelves.{Shelf, Written}
 use Rattle.vb_calls.specs.State.{Plain}
 use Rattle.vb_calls.specs.States.{States}
-use Rattle.node_core.specs.Peers.{PeerTold, peer_answered, peer_frames, peer_heard}
+use Rattle.node_core.specs.Peers.{PeerResult, peer_answered, peer_frames, peer_heard}
 use Rattle.node_world.specs.CallsMade.{reply_of}
 use Rattle.node_world.specs.Causes.{IsFree, MayJoin}
 use Rattle.node_world.specs.Links.{PlainLink, feeds, peer_of, producer_node}
@@ -84,18 +84,18 @@ pub record RolesTold (w : PlainWorld) (n v : ℕ) (vb : Plain) : Type 0 where
 
 -- the first frame that goes up: what became of durable writes when it was answered is told behind what the answer told
 pub record UpsTell (w : PlainWorld) (l : ℕ) (link : PlainLink) (producer : PlainNode) : Type 0 where
-  pub first : (number wanted : ℕ) (f : Frame) (more : List Frame) (answered : States × PeerTold) →
+  pub first : (number wanted : ℕ) (f : Frame) (more : List Frame) (answered : States × PeerResult) →
       let piece = take (min wanted (length link.up)) link.up in peer_frames piece (peer_of link) ≡ f ∷ more → after (peer_answered f (peer_heard piece (peer_of link))) producer.vbs ≡ answered
       → TellsOutcomes producer answered.1.resolved answered.1.events (verb_step w number (verb.AtLink l (link_verb.Up wanted))).1.events
 
 -- a link whose producer is at the node n, once that was told that these streams of the vBucket v ended
-abbrev pub with_ends : ℕ → ℕ → List ℕ → PlainLink → PlainLink
-with_ends n v ids link = if producer_node link == n then record link { server = ended_by v ids link.server } else link
+abbrev pub with_streams_ended : ℕ → ℕ → List ℕ → PlainLink → PlainLink
+with_streams_ended n v ids link = if producer_node link == n then record link { server = ended_by v ids link.server } else link
 
 -- where no link feeds the vBucket v of the node n, each change of its role that is answered `ok` leaves all links, and tells each producer at the node which streams of the vBucket ended: all
 pub record EndsTold (w : PlainWorld) (n v : ℕ) (vb : Plain) : Type 0 where
   pub promote : (number uuid : ℕ) → vb.role ≢ role.Active → uuid ≢ 0 → IsFree w uuid → log_lacks vb.log uuid ≡ true → filter (feeds n v) w.links ≡ [] → (verb_step w number (verb.AtVb n v (vb_verb.Promote uuid))).1.answer ≡ line.Ok
-      → (verb_step w number (verb.AtVb n v (vb_verb.Promote uuid))).0.links ≡ map (with_ends n v (map (λ s. s.id) vb.streams)) w.links
+      → (verb_step w number (verb.AtVb n v (vb_verb.Promote uuid))).0.links ≡ map (with_streams_ended n v (map (λ s. s.id) vb.streams)) w.links
   pub follow : (number : ℕ) → vb.role ≢ role.Replica → filter (feeds n v) w.links ≡ [] → (verb_step w number (verb.AtVb n v vb_verb.Follow)).1.answer ≡ line.Ok
-      → (verb_step w number (verb.AtVb n v vb_verb.Follow)).0.links ≡ map (with_ends n v (map (λ s. s.id) vb.streams)) w.links
-  pub dead : (number : ℕ) → vb.role ≢ role.Dead → filter (feeds n v) w.links ≡ [] → (verb_step w number (verb.AtVb n v vb_verb.Dead)).1.answer ≡ line.Ok → (verb_step w number (verb.AtVb n v vb_verb.Dead)).0.links ≡ map (with_ends n v (map (λ s. s.id) vb.streams)) w.links
+      → (verb_step w number (verb.AtVb n v vb_verb.Follow)).0.links ≡ map (with_streams_ended n v (map (λ s. s.id) vb.streams)) w.links
+  pub dead : (number : ℕ) → vb.role ≢ role.Dead → filter (feeds n v) w.links ≡ [] → (verb_step w number (verb.AtVb n v vb_verb.Dead)).1.answer ≡ line.Ok → (verb_step w number (verb.AtVb n v vb_verb.Dead)).0.links ≡ map (with_streams_ended n v (map (λ s. s.id) vb.streams)) w.links

@@ -14,7 +14,7 @@ use Rattle.vb_disk.specs.Arms.{burnt_by}
 use Rattle.vb_disk.specs.declared.made.Outcome.{Outcome}
 use Rattle.disk_journals.specs.Arms.{opens_all}
 use Rattle.disk_journals.specs.Books.{Book, below, listed, opened_shelves}
-use Rattle.node_core.specs.Flushing.{FlushTold}
+use Rattle.node_core.specs.Flushing.{FlushResult}
 use Rattle.node_core.specs.Loading.{are_short, is_there, loaded_states, start_job, starts_of}
 use Rattle.node_world.specs.declared.arm.Arm.{Arm}
 use Rattle.node_world.specs.declared.arm.Fired.{Fired}
@@ -46,13 +46,13 @@ is_touched n None = false
 is_touched n (Some link) = touches n link
 
 -- this is the number
-abbrev pub is_number : ℕ → Option ℕ → Bool
-is_number l None = false
-is_number l (Some k) = l == k
+abbrev pub is_this_number : ℕ → Option ℕ → Bool
+is_this_number l None = false
+is_this_number l (Some k) = l == k
 
 -- the end of the link l, where it has an end at the node n, or is this one more
 abbrev pub end_line : ℕ → Option ℕ → List PlainLink → ℕ → List Event
-end_line n also links l = if is_number l also || is_touched n (row_at link_number l links) then event.Ended l reason.Cut ∷ [] else []
+end_line n also links l = if is_this_number l also || is_touched n (row_at link_number l links) then event.Ended l reason.Cut ∷ [] else []
 
 -- the ends of the links that have an end at the node n, by their numbers, and that of one more
 abbrev pub end_lines : ℕ → Option ℕ → List PlainLink → List Event
@@ -168,10 +168,10 @@ abbrev pub loaded_node : ℕ → List Book → Arm → PlainNode
 loaded_node n books arm = record empty_node { vbs = loaded_states n books; shelves = opened_shelves books; made = length (filter is_there books); arm = arm }
 
 -- a vBucket that was active takes its new branch, which is written down under the node's arm
-abbrev pub start_call : ℕ → ℕ → ℕ → PlainNode → PlainNode × FlushTold
+abbrev pub start_call : ℕ → ℕ → ℕ → PlainNode → PlainNode × FlushResult
 start_call n v uuid node = let (kept, told) = after_job (start_job n v uuid) node.vbs node.shelves in (with_kept node kept, told)
 
-abbrev pub start_one : ℕ → ℕ × ℕ → PlainNode → PlainNode × FlushTold
+abbrev pub start_one : ℕ → ℕ × ℕ → PlainNode → PlainNode × FlushResult
 start_one n start node = under_arm start.0 (start_call n start.0 start.1) node
 
 -- the answer of one more start, behind those before it: the first failure
@@ -184,7 +184,7 @@ abbrev pub Starting : Type 0
 Starting = PlainNode × Told
 
 -- a vBucket took its new branch, and the arm did this: where the node stopped, it is down again, and no other vBucket starts
-abbrev pub started_by : ℕ → Arm → Fired → FlushTold → Told → PlainNode → (Starting → Starting) → Starting
+abbrev pub started_by : ℕ → Arm → Fired → FlushResult → Told → PlainNode → (Starting → Starting) → Starting
 started_by n arm fired.No one told node rest = rest (node, record { events = told.events ++ one.events; answer = first_no told.answer one.answer })
 started_by n arm fired.Failed one told node rest = rest (node, record { events = told.events ++ one.events ++ event.CallFailed n ∷ []; answer = first_no told.answer one.answer })
 started_by n arm fired.Stopped one told node rest = (stopped_node arm.out node, record { events = told.events ++ one.events ++ event.NodeStopped n ∷ []; answer = answer.No cause.Stopped })

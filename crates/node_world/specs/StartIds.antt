@@ -8,7 +8,7 @@ use Rattle.vb_calls.specs.State.{Plain}
 use Rattle.vb_events.specs.declared.event.Answer.TheVariants as line
 use Rattle.vb_events.specs.declared.event.Event.{Event}
 use Rattle.vb_events.specs.declared.event.Event.TheVariants as event
-use Rattle.node_core.specs.Loading.{active_ones, branch_told}
+use Rattle.node_core.specs.Loading.{active_ones, branch_lines_of_reply}
 use Rattle.node_world.specs.CallsMade.{reply_of}
 use Rattle.node_world.specs.World.{verb_step}
 use Rattle.node_world.specs.Worlds.{PlainWorld}
@@ -17,7 +17,7 @@ use Rattle.node_world.specs.Worlds.{PlainWorld}
 abbrev pub StartsSo : ℕ → List (ℕ × ℕ) → List Event → Type 0
 StartsSo n [] events = events ≡ []
 StartsSo n ((v, uuid) ∷ starts) events =
-    (vb : Option Plain) × (failed : List Event) × (later : List Event) × (events ≡ branch_told n v (option_map (λ (x : Plain). reply_of x (call.Promote uuid)) vb) ++ (failed ++ later)) × ((failed ≡ []) ⊎ (failed ≡ event.CallFailed n ∷ []))
+    (vb : Option Plain) × (failed : List Event) × (later : List Event) × (events ≡ branch_lines_of_reply n v (option_map (λ (x : Plain). reply_of x (call.Promote uuid)) vb) ++ (failed ++ later)) × ((failed ≡ []) ⊎ (failed ≡ event.CallFailed n ∷ []))
     × StartsSo n starts later
 
 -- so those of the node n that were active, by these journals, take the ids of the line in their order

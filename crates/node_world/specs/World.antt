@@ -24,7 +24,7 @@ use Rattle.vb_types.specs.declared.stream.StreamAsk.{StreamAsk}
 use Rattle.node_core.specs.declared.admin.AdminCall.TheVariants as admin
 use Rattle.vbucket.specs.Rows.{row_at, row_put}
 use Rattle.node_world.specs.declared.told.Told.{Told}
-pub use Rattle.node_world.specs.Nodes.{PlainNode, empty_node, done, refusal, first_cause, refused_or, is_one_of, vb_causes, with_vb, vb_at, replica_causes, replica_at, with_session, with_client, client_at, with_states, fed, fed_if, bytes_at, hang_at, clock_at, flush_line, save_line, chain_line, tick_line}
+pub use Rattle.node_world.specs.Nodes.{PlainNode, empty_node, done, refusal, first_cause, refused_or, is_one_of, vb_causes, with_vb, vb_at, replica_causes, replica_at, with_session, with_client, client_at, with_states, fed, bytes_if, bytes_at, hang_at, clock_at, flush_line, save_line, chain_line, tick_line}
 use Rattle.node_world.specs.Nodes.{arm_at}
 use Rattle.node_world.specs.Arms.{fail_arm, stop_arm, under_arm}
 use Rattle.node_world.specs.Power.{crash_step, start_step, with_arm, with_broken}
@@ -32,7 +32,7 @@ pub use Rattle.node_world.specs.Worlds.{PlainWorld, empty_world, with_node_at, w
 use Rattle.node_world.specs.Cuts.{unlinked}
 use Rattle.node_world.specs.Dues.{done_step}
 use Rattle.node_world.specs.Turns.{promote_step, turn_step, admin_line}
-use Rattle.node_world.specs.Links.{PlainLink, LinkTold, link_number, producer_node, consumer_node, is_taken, ask_of, new_link, up_at, down_at, pump_at}
+use Rattle.node_world.specs.Links.{PlainLink, LinkResult, link_number, producer_node, consumer_node, is_taken, ask_of, new_link, up_at, down_at, pump_at}
 
 -- `node N`: the causes to refuse it, in their order
 abbrev pub node_causes : PlainWorld → ℕ → List (Bool × Cause)
@@ -72,24 +72,24 @@ relinked before None w = unlinked before w
 relinked before (Some link) w = with_links w (row_put link_number (link_number before) link w.links)
 
 -- the world after a line for a link, and what is told of the line
-abbrev pub with_link : PlainLink → PlainWorld × LinkTold → Outcome
+abbrev pub with_link : PlainLink → PlainWorld × LinkResult → Outcome
 with_link before (w, (link, told)) = (relinked before link w, told)
 
 -- a line that the node n carries out for a link: f says, and the nodes of a link are made
-abbrev pub at_end : PlainWorld → ℕ → PlainLink → (PlainNode → PlainNode × LinkTold) → Outcome
+abbrev pub at_end : PlainWorld → ℕ → PlainLink → (PlainNode → PlainNode × LinkResult) → Outcome
 at_end w n link f = with_link link (node_outcome w n (Some link, refusal cause.UnknownNode) (w.nodes n) f)
 
 -- a line for the link l, which must be open
-abbrev pub link_outcome : PlainWorld → ℕ → (PlainLink → ℕ) → (PlainLink → PlainNode → PlainNode × LinkTold) → Option PlainLink → Outcome
+abbrev pub link_outcome : PlainWorld → ℕ → (PlainLink → ℕ) → (PlainLink → PlainNode → PlainNode × LinkResult) → Option PlainLink → Outcome
 link_outcome w l end f None = (w, refusal cause.LinkClosed)
 link_outcome w l end f (Some link) = at_end w (end link) link (f link)
 
 -- a line for the link l, which the node at one of its ends carries out
-abbrev pub on_link : PlainWorld → ℕ → (PlainLink → ℕ) → (PlainLink → PlainNode → PlainNode × LinkTold) → Outcome
+abbrev pub on_link : PlainWorld → ℕ → (PlainLink → ℕ) → (PlainLink → PlainNode → PlainNode × LinkResult) → Outcome
 on_link w l end f = link_outcome w l end f (row_at link_number l w.links)
 
 -- bytes for the consumer of a link, whose vBucket may have to write down that it goes back
-abbrev pub down_in : ℕ → PlainLink → PlainNode → PlainNode × LinkTold
+abbrev pub down_in : ℕ → PlainLink → PlainNode → PlainNode × LinkResult
 down_in wanted link node = under_arm link.consumer.dialed.vb (down_at wanted link) node
 
 -- `down L B`: what the node at the consumer's end is armed with may befall it
@@ -165,13 +165,13 @@ abbrev pub group_with : ℕ → Told → Group
 group_with line told = record { line = line; events = told.events; answer = told.answer }
 
 -- the branch that a line of a transcript tells of, if it tells of one
-abbrev pub branch_told : Event → List ℕ
-branch_told (event.Branch node vb uuid parent fork high) = uuid ∷ []
-branch_told other = []
+abbrev pub branch_of_line : Event → List ℕ
+branch_of_line (event.Branch node vb uuid parent fork high) = uuid ∷ []
+branch_of_line other = []
 
 -- the world with the branches that these lines tell of among those that were made
 abbrev pub with_branches : List Event → PlainWorld → PlainWorld
-with_branches events w = record w { uuids = w.uuids ++ flat_map branch_told events }
+with_branches events w = record w { uuids = w.uuids ++ flat_map branch_of_line events }
 
 -- the world and the group after a line of which this is told
 abbrev pub line_outcome : ℕ → Outcome → PlainWorld × Group

@@ -2,7 +2,7 @@
 ghost use Rattle.std.specs.Prelude.{◌≡◌, ◌<◌, ◌+◌, ◌==◌, ◌||◌, ◌++◌, ◌∷◌, if◌then◌else◌, ℕ, [], IfOk, OnOk};
 ghost use Rattle.{vb_events.specs.declared.event.Answer.TheVariants.{No}, vb_events.specs.declared.event.Cause.TheVariants.{Stopped}, vb_events.specs.declared.event.Event.TheVariants.{NodeStopped}};
 ghost use Rattle.{std.specs.List.{filter, position}, vbucket.specs.Rows.{row_at}, node_world.specs.Arms.{fired_by}, node_world.specs.Starts.{Cutting}, node_world.specs.Links.{link_number}};
-ghost use Rattle.node_world.specs.Power.{after_broken, after_fire, all_cut, closed_line, closed_lines, crash_step, disk_end, down_lines, dropped, end_line, end_lines, has_client, is_number, is_touched, start_step, stopped_node, touches};
+ghost use Rattle.node_world.specs.Power.{after_broken, after_fire, all_cut, closed_line, closed_lines, crash_step, disk_end, down_lines, dropped, end_line, end_lines, has_client, is_this_number, is_touched, start_step, stopped_node, touches};
 ghost use Rattle.{node_world.specs.Stands.{WorldStands}, node_world.specs.Worlds.{PlainWorld, arm_in, with_node_if}};
 
 use crate::link::link_place;
@@ -17,8 +17,8 @@ use vb_types::Listed;
 const NUMBERS: u32 = 1000;
 
 /// Whether this is the number, where there is one.
-fn is_number(l: u32, also: Option<u32>) -> bool
-    ensures { result ≡ is_number l also }
+fn is_this_number(l: u32, also: Option<u32>) -> bool
+    ensures { result ≡ is_this_number l also }
 {
     match also {
         None => false,
@@ -109,9 +109,9 @@ impl World {
 
     /// Whether the end of the link of a number is told, as a node stops.
     fn is_ended(&self, n: u8, also: Option<u32>, link: u32) -> bool
-        ensures { (w : PlainWorld) → WorldStands self.now w → result ≡ (is_number link also || is_touched n (row_at link_number link w.links)) }
+        ensures { (w : PlainWorld) → WorldStands self.now w → result ≡ (is_this_number link also || is_touched n (row_at link_number link w.links)) }
     {
-        if is_number(link, also) {
+        if is_this_number(link, also) {
             return true;
         }
         self.is_touched(link, n)
@@ -167,7 +167,7 @@ impl World {
     }
 
     /// Cuts all links that have an end at a node.
-    fn cut_all(&mut self, n: u8) -> Alloc<()>
+    fn cut_links_of(&mut self, n: u8) -> Alloc<()>
         ensures { OnOk result ((w : PlainWorld) → WorldStands self.old w → WorldStands self.new (all_cut n w) × (filter (touches n) (all_cut n w).links ≡ [])) }
     {
         let count = self.links.as_slice().len();
@@ -200,7 +200,7 @@ impl World {
     {
         self.tell_ends(n, also, events)?;
         self.tell_closed(n, events)?;
-        self.cut_all(n)?;
+        self.cut_links_of(n)?;
         self.drop_node(n, out);
         Ok(())
     }

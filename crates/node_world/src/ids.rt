@@ -1,6 +1,6 @@
 //! The ids that branches were given.
 ghost use Rattle.std.specs.Prelude.{◌≡◌, ◌==◌, ◌||◌, ◌++◌, [], List, ℕ, OnOk};
-ghost use Rattle.{std.specs.List.{flat_map}, node_world.specs.Lines.{asked_id}, node_world.specs.Power.{any_used}, node_world.specs.Stands.{has_id, IdsStand}, node_world.specs.World.{branch_told}};
+ghost use Rattle.{std.specs.List.{flat_map}, node_world.specs.Lines.{free_uuid}, node_world.specs.Power.{any_used}, node_world.specs.Stands.{has_id, IdsStand}, node_world.specs.World.{branch_of_line}};
 
 use crate::Alloc;
 use std::alloc::Global;
@@ -41,7 +41,7 @@ impl Ids {
 
     /// The id where it was not given yet, and else 0.
     pub fn free(&self, id: u64) -> u64
-        ensures { (uuids : List ℕ) → IdsStand self.now uuids → result ≡ asked_id uuids id }
+        ensures { (uuids : List ℕ) → IdsStand self.now uuids → result ≡ free_uuid uuids id }
     {
         if self.has(id) { 0 } else { id }
     }
@@ -70,7 +70,7 @@ impl Ids {
 
     /// Gives the id of a branch, where a line tells of one.
     fn give_told(&mut self, event: &Event) -> Alloc<()>
-        ensures { OnOk result ((uuids : List ℕ) → IdsStand self.old uuids → IdsStand self.new (uuids ++ branch_told event.now)) }
+        ensures { OnOk result ((uuids : List ℕ) → IdsStand self.old uuids → IdsStand self.new (uuids ++ branch_of_line event.now)) }
     {
         if let Event::Branch { uuid, .. } = event {
             self.give(*uuid)?;
@@ -80,7 +80,7 @@ impl Ids {
 
     /// Gives the ids of the branches that lines tell of.
     pub fn give_all(&mut self, events: &[Event]) -> Alloc<()>
-        ensures { OnOk result ((uuids : List ℕ) → IdsStand self.old uuids → IdsStand self.new (uuids ++ flat_map branch_told events.now)) }
+        ensures { OnOk result ((uuids : List ℕ) → IdsStand self.old uuids → IdsStand self.new (uuids ++ flat_map branch_of_line events.now)) }
     {
         for event in events {
             self.give_told(event)?;

@@ -102,7 +102,7 @@ impl ScriptNode {
 
     /// One more vBucket takes its new branch, behind what was told so far; and whether the node
     /// stopped meanwhile.
-    fn start_next(&mut self, alloc: Global, v: u16, uuid: u64, told: &mut Told) -> Alloc<bool>
+    fn start_one_more(&mut self, alloc: Global, v: u16, uuid: u64, told: &mut Told) -> Alloc<bool>
         ensures { IfOk result (λ over. StartsNext (v, uuid) self.old told.old self.new told.new over) }
     {
         let arm = self.arm;
@@ -118,7 +118,7 @@ impl ScriptNode {
     {
         let mut told = Told::done(Listed::new(alloc));
         for &(v, uuid) in starts {
-            if self.start_next(alloc, v, uuid, &mut told)? {
+            if self.start_one_more(alloc, v, uuid, &mut told)? {
                 return Ok(told);
             }
         }
@@ -163,7 +163,12 @@ impl ScriptNode {
 
     /// Opens the disks of a node that is down, and starts it. Where a disk is not opened, or there
     /// are too few ids, it stays down.
-    fn start_from(&mut self, alloc: Global, mut disks: Disks<FuseDisk>, ids: &[u64]) -> Alloc<Told>
+    fn start_with_ids(
+        &mut self,
+        alloc: Global,
+        mut disks: Disks<FuseDisk>,
+        ids: &[u64],
+    ) -> Alloc<Told>
         ensures { IfOk result (λ told. StartsDisks disks.items ids.now self.old told self.new) }
     {
         let n = self.node.number();
@@ -190,7 +195,7 @@ impl ScriptNode {
     {
         match self.off.take() {
             None => Ok(Told::refusal(alloc, Cause::NodeUp)),
-            Some(disks) => self.start_from(alloc, disks, ids),
+            Some(disks) => self.start_with_ids(alloc, disks, ids),
         }
     }
 }

@@ -225,7 +225,7 @@ impl World {
 
     /// Opens a link whose dial was let through: a connection at its producer's node, and the link, with
     /// the requests on their way up.
-    fn open_link(&mut self, asked: LinkAsk, serving: usize, out: NodeOut) -> Alloc<Told>
+    fn add_link(&mut self, asked: LinkAsk, serving: usize, out: NodeOut) -> Alloc<Told>
         requires { serving < length self.old.nodes }
         ensures { IfOk result (λ told. OpensLink asked serving self.old out told self.new) }
     {
@@ -270,7 +270,7 @@ impl World {
         let Answer::Ok = out.answer else {
             return Ok(Told::of(out));
         };
-        self.open_link(asked, serving, out)
+        self.add_link(asked, serving, out)
     }
 
     /// Carries out a line for a link, which must be open. One that is over is taken out.

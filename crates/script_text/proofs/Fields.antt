@@ -20,7 +20,7 @@ use Rattle.vb_types.specs.declared.stream.AskAnswer.{AskAnswer}
 use Rattle.vb_types.specs.declared.stream.AskAnswer.TheVariants as asked
 use Rattle.script_text.specs.Numbers.{number_of}
 use Rattle.script_text.specs.Ranges.{IsWide, IsDocRanged, IsActRanged, IsEntryRanged, IsStreamRanged, IsAskRanged, IsVerdictRanged, IsParentRanged}
-use Rattle.script_text.specs.Transcript.{hex_text, place_text, link_text, stream_text, extent_text, parent_text, flag_text, level_text, doc_text, act_text, entry_text, log_text, ask_text, verdict_text, asked_text}
+use Rattle.script_text.specs.Transcript.{hex_text, place_text, link_text, stream_text, extent_text, parent_text, flag_text, level_text, doc_text, act_text, entry_text, log_text, ask_text, verdict_text, request_text}
 use Rattle.script_text.proofs.Decimals.{number_of-decimal}
 use Rattle.script_text.proofs.KindWords.{level_of, level_back, flag_of, flag_back}
 use Rattle.script_text.proofs.Words.{upto, past, upto_at, past_at, ends, clean, clean_both, clean_all, no_end, digit_no_end, decimal_clean, reading, read_word, spaced_in_row}
@@ -99,12 +99,12 @@ link_clean : (l : ℕ) → IsWide l → clean ends (link_text l) ≡ true
 unfolding link_text
 link_clean l h = decimal_clean ends digit_no_end l h
 
-link_is : (l : ℕ) → IsWide l → link_of (link_text l) ≡ Some l
+link_text_back : (l : ℕ) → IsWide l → link_of (link_text l) ≡ Some l
 unfolding link_text
-link_is l h = number_of-decimal l h
+link_text_back l h = number_of-decimal l h
 
 pub link_back : {X : Type 0} (l : ℕ) (s : ℕ) (rest : List ℕ) (k : ℕ → List ℕ → Option X) → IsWide l → ends s ≡ true → reading link_of (link_text l ++ s ∷ rest) k ≡ k l rest
-link_back l s rest k h e = read_word link_of (link_text l) l s rest k (link_clean l h) e (link_is l h)
+link_back l s rest k h e = read_word link_of (link_text l) l s rest k (link_clean l h) e (link_text_back l h)
 
 abbrev pub stream_of : List ℕ → Option StreamName
 stream_of word = option_map stream.Link (link_of word)
@@ -113,7 +113,7 @@ stream_clean : (n : StreamName) → IsStreamRanged n → clean ends (stream_text
 stream_clean (stream.Link l) h = link_clean l h
 
 stream_is : (n : StreamName) → IsStreamRanged n → stream_of (stream_text n) ≡ Some n
-stream_is (stream.Link l) h = ap (option_map stream.Link) (link_is l h)
+stream_is (stream.Link l) h = ap (option_map stream.Link) (link_text_back l h)
 
 pub stream_back : {X : Type 0} (n : StreamName) (s : ℕ) (rest : List ℕ) (k : StreamName → List ℕ → Option X) → IsStreamRanged n → ends s ≡ true → reading stream_of (stream_text n ++ s ∷ rest) k ≡ k n rest
 stream_back n s rest k h e = read_word stream_of (stream_text n) n s rest k (stream_clean n h) e (stream_is n h)
@@ -328,8 +328,8 @@ unfoldable pub asked_in : {X : Type 0} → List ℕ → (ℕ → List LogEntry �
 asked_in text k = reading number_of text (λ high text. reading log_of text (λ log text. verdict_in text (λ answer text. k high log answer text)))
 
 pub asked_back : {X : Type 0} (high : ℕ) (log : List LogEntry) (answer : AskAnswer) (s : ℕ) (rest : List ℕ) (k : ℕ → List LogEntry → AskAnswer → List ℕ → Option X)
-    → IsWide high → All IsEntryRanged log → IsVerdictRanged answer → ends s ≡ true → asked_in (asked_text high log answer ++ s ∷ rest) k ≡ k high log answer rest
-unfolding asked_in asked_text
+    → IsWide high → All IsEntryRanged log → IsVerdictRanged answer → ends s ≡ true → asked_in (request_text high log answer ++ s ∷ rest) k ≡ k high log answer rest
+unfolding asked_in request_text
 asked_back high log answer s rest k h0 h1 h2 e =
     ap (λ text. asked_in text k) (spaced_in_row (decimal high ∷ log_text log ∷ verdict_text answer ∷ []) s rest)
     ∙ number_back high 32 _ _ h0 refl

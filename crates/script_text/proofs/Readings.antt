@@ -24,9 +24,9 @@ pub lines_read : (number : ℕ) (line : List ℕ) (read : ScriptLine) → (line_
 lines_read number line read = (λ h. let shown = line_shows number line read h in (shown.2, (lines_say line read.verb).0 shown.1), λ h. read_back number line read h.0 h.1)
 
 -- a blank line
-blank_is : (line : List ℕ) → is_blank line ≡ true → IsBlank line
-blank_is [] h = inl refl
-blank_is (b ∷ line) h = inr (line, ap (λ c. c ∷ line) (eqb-true b 59 h))
+blank_line_is : (line : List ℕ) → is_blank line ≡ true → IsBlank line
+blank_line_is [] h = inl refl
+blank_line_is (b ∷ line) h = inr (line, ap (λ c. c ∷ line) (eqb-true b 59 h))
 
 is_passed : (line : List ℕ) → IsBlank line → is_blank line ≡ true
 is_passed line (inl e) = ap is_blank e
@@ -39,14 +39,14 @@ passed false number (Some v) h = absurd (cc h)
 
 blank_read : (number : ℕ) (line : List ℕ) → line_said number line ≡ said.Nothing → IsBlank line
 unfolding line_said
-blank_read number line h = blank_is line (passed (is_blank line) number (verb_of (words_of line)) h)
+blank_read number line h = blank_line_is line (passed (is_blank line) number (verb_of (words_of line)) h)
 
-read_blank : (number : ℕ) (line : List ℕ) → IsBlank line → line_said number line ≡ said.Nothing
+blank_line_read : (number : ℕ) (line : List ℕ) → IsBlank line → line_said number line ≡ said.Nothing
 unfolding line_said
-read_blank number line h = ap (λ t. if t then said.Nothing else verb_said number (verb_of (words_of line))) (is_passed line h)
+blank_line_read number line h = ap (λ t. if t then said.Nothing else verb_said number (verb_of (words_of line))) (is_passed line h)
 
 pub blanks_read : (number : ℕ) (line : List ℕ) → (line_said number line ≡ said.Nothing) ↔ IsBlank line
-blanks_read number line = (blank_read number line, read_blank number line)
+blanks_read number line = (blank_read number line, blank_line_read number line)
 
 -- a line outside the grammar
 refused : (t : Bool) (number : ℕ) (o : Option Verb) (bad : ℕ) → (if t then said.Nothing else verb_said number o) ≡ said.Bad bad → bad ≡ number
@@ -66,13 +66,13 @@ line_or_bad line bad h = absurd (cc h)
 
 bad_outside : (number : ℕ) (line : List ℕ) (bad : ℕ) → line_said number line ≡ said.Bad bad → IsOutside line
 bad_outside number line bad h =
-    (λ blank. nothing_or_bad bad (sym (read_blank number line blank) ∙ h), λ v says. line_or_bad (record { line = number; verb = v }) bad (sym (read_back number line (record { line = number; verb = v }) refl says) ∙ h))
+    (λ blank. nothing_or_bad bad (sym (blank_line_read number line blank) ∙ h), λ v says. line_or_bad (record { line = number; verb = v }) bad (sym (read_back number line (record { line = number; verb = v }) refl says) ∙ h))
 
-outside_bad : (number : ℕ) (line : List ℕ) (s : Said) → line_said number line ≡ s → IsOutside line → line_said number line ≡ said.Bad number
-outside_bad number line (said.Line read) e h = absurd (h.1 read.verb ((lines_read number line read).0 e).1)
-outside_bad number line said.Nothing e h = absurd (h.0 (blank_read number line e))
-outside_bad number line (said.Bad bad) e h = e ∙ ap said.Bad (bad_number number line bad e)
+outside_is_bad : (number : ℕ) (line : List ℕ) (s : Said) → line_said number line ≡ s → IsOutside line → line_said number line ≡ said.Bad number
+outside_is_bad number line (said.Line read) e h = absurd (h.1 read.verb ((lines_read number line read).0 e).1)
+outside_is_bad number line said.Nothing e h = absurd (h.0 (blank_read number line e))
+outside_is_bad number line (said.Bad bad) e h = e ∙ ap said.Bad (bad_number number line bad e)
 
 pub bad_read : (number : ℕ) (line : List ℕ) (bad : ℕ) → (line_said number line ≡ said.Bad bad) ↔ ((bad ≡ number) × IsOutside line)
 bad_read number line bad =
-    (λ h. (bad_number number line bad h, bad_outside number line bad h), λ h. outside_bad number line (line_said number line) refl h.1 ∙ ap said.Bad (sym h.0))
+    (λ h. (bad_number number line bad h, bad_outside number line bad h), λ h. outside_is_bad number line (line_said number line) refl h.1 ∙ ap said.Bad (sym h.0))

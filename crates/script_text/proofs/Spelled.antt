@@ -10,7 +10,7 @@ use Rattle.std.proofs.lemmas.List.Elements.{All-weaker, All-from_get_or}
 use Rattle.std.proofs.lemmas.List.Splits.{join_with_byte-slice_split}
 use Rattle.hex.specs.Hex.{decode_of, is_hex_digit}
 use Rattle.hex.proofs.HexLemmas.{decode_of-ok, decode_of-digits}
-use Rattle.script_text.specs.{Numbers.{number_of, node_of, vbucket_of, connection_of, moved_of, if_frames, frames_of}, Lines.{words_of}, Grammar.{if_decoded, hex_bytes_of, node_line, cut_line, two_words, clock_line, client_line, hang_line, up_line, down_line, pump_line, asked_of_vb, replica_line, vbucket_words, three_words, bytes_line, promote_line, vbucket_of_four, plain_of_four, four_words, five_words, vb_line, is_link, linked, link_line, counted_verb, kept_of, filled_of, stop_line, fail_line, crash_line, start_line, branches_of, chain_words, verb_of}, Fitting.{AreBytes, VbFits, ClientFits}, Sayings.{IsHex, IsHexOf, Says, vb_word, vb_tail, client_word, ClientTail, link_words}, declared.numbers.TheConstants.{NODES, VBUCKETS, CONNECTIONS, FRAMES}}
+use Rattle.script_text.specs.{Numbers.{number_of, node_of, vbucket_of, connection_of, moved_of, if_frames, frames_of}, Lines.{words_of}, Grammar.{if_decoded, hex_bytes_of, node_line, cut_line, two_words, clock_line, client_line, hang_line, up_line, down_line, pump_line, verb_of_vb, replica_line, vbucket_words, three_words, bytes_line, promote_line, vbucket_of_four, plain_of_four, four_words, five_words, vb_line, is_link, linked, link_line, counted_verb, kept_of, filled_of, stop_line, fail_line, crash_line, start_line, branches_of, chain_words, verb_of}, Fitting.{AreBytes, VbFits, ClientFits}, Sayings.{IsHex, IsHexOf, Says, vb_word, vb_tail, client_word, ClientTail, link_words}, declared.numbers.TheConstants.{NODES, VBUCKETS, CONNECTIONS, FRAMES}}
 use Rattle.script_text.specs.declared.verb.{Verb.{Verb}, VbVerb.{VbVerb}, NodeVerb.{NodeVerb}, LinkVerb.{LinkVerb}, ClientVerb.{ClientVerb}}
 use Rattle.script_text.specs.declared.verb.Verb.TheVariants as verb
 use Rattle.script_text.specs.declared.verb.VbVerb.TheVariants as vb_verb
@@ -62,7 +62,7 @@ asked word text it what y plain there h =
       | inr more ↦ there more
     ]
 
-asked_is : (word : List ℕ) (what : VbVerb) → asked_of_vb word ≡ Some what → IsPlain word what
+asked_is : (word : List ℕ) (what : VbVerb) → verb_of_vb word ≡ Some what → IsPlain word what
 asked_is word what h =
     asked word (codes "show") vb_verb.Show what _ (refl, refl, tt)
     (asked word (codes "follow") vb_verb.Follow what _ (refl, refl, tt)
@@ -79,7 +79,7 @@ asked_is word what h =
 vbucket_spelled : (word a b : List ℕ) (v : Verb) → vbucket_words word a b ≡ Some v → Says (word ++ 32 ∷ (a ++ 32 ∷ b)) v
 vbucket_spelled word a b v h =
     subst (λ t. Says (word ++ 32 ∷ (a ++ 32 ∷ t)) v) (append-nil b)
-    (at_vb word a b [] (λ (what : VbVerb). what) (asked_of_vb word) v (λ what e. let plain = asked_is word what e in (plain.0, sym plain.1, plain.2)) h)
+    (at_vb word a b [] (λ (what : VbVerb). what) (verb_of_vb word) v (λ what e. let plain = asked_is word what e in (plain.0, sym plain.1, plain.2)) h)
 
 three_spelled : (word a b : List ℕ) (v : Verb) → three_words word a b ≡ Some v → Says (word ++ 32 ∷ (a ++ 32 ∷ b)) v
 three_spelled word a b v h =

@@ -9,7 +9,7 @@ use Rattle.vb_events.specs.declared.event.Why.TheVariants as why
 use Rattle.vb_types.specs.declared.role.Role.TheVariants as role
 use Rattle.script_text.specs.Numbers.{number_of}
 use Rattle.script_text.specs.Transcript.{act_text, cause_text, event_text, flag_text, level_text, link_text, place_text, reason_text, role_text, sent_text, spaced, why_text}
-use Rattle.script_text.specs.Wordings.{IsWordOf, LevelsInWords, ActsInWords, DurablesAreTold, ChainsInWords, ChainsAreRead, ChainsAreRefused, AcknowledgementsAreTold, SavingInWords, SavingIsTold, StopsInWords, StopsAreTold, StopsAreRead, StopsAreRefused}
+use Rattle.script_text.specs.Wordings.{IsWordOf, LevelsInWords, ActsInWords, DurableWords, ChainsInWords, ChainsAreRead, ChainsAreRefused, AcknowledgementWords, SavingInWords, SavingWords, StopsInWords, StopWords, StopsAreRead, StopsAreRefused}
 use Rattle.script_text.proofs.KindWords.{level_of, level_is, sent_of, sent_is, flag_of, flag_is, role_of, role_is, cause_of, cause_is, reason_of, reason_is, why_of, why_is}
 
 -- what is read back is the one thing of its word
@@ -33,7 +33,7 @@ acts = record {
   pending = word_of role_of role_text role_is role.Pending (codes "pending") refl;
 }
 
-pub lines : DurablesAreTold
+pub lines : DurableWords
 unfolding act_text event_text
 lines = record { prepare = λ key level doc deleted. refl; commit = λ key prepared doc deleted. refl; abort = λ key prepared. refl; waits = λ key seq level. refl }
 
@@ -48,7 +48,7 @@ unfolding link_text place_text
 link_in_line word link node vb next more =
     ap (λ rest. word ++ 32 ∷ (codes "L" ++ decimal link ++ 32 ∷ rest)) (append_assoc (decimal node) (32 ∷ decimal vb) (32 ∷ spaced (decimal next ∷ more)))
 
-pub acknowledgements : AcknowledgementsAreTold
+pub acknowledgements : AcknowledgementWords
 unfolding event_text
 acknowledgements = record {
   written = λ link node vb seq saved. link_in_line (codes "ack") link node vb seq (decimal saved ∷ []);
@@ -93,7 +93,7 @@ place_in_line : (word : List ℕ) (node vb next : ℕ) (more : List (List ℕ))
 unfolding place_text
 place_in_line word node vb next more = ap (λ rest. word ++ 32 ∷ rest) (append_assoc (decimal node) (32 ∷ decimal vb) (32 ∷ spaced (decimal next ∷ more)))
 
-pub saving_lines : SavingIsTold
+pub saving_lines : SavingWords
 unfolding event_text link_text
 saving_lines = record {
   batch = λ node vb ss se at count. place_in_line (codes "batch") node vb ss (decimal se ∷ decimal at ∷ decimal count ∷ []);
@@ -110,7 +110,7 @@ stops = record {
   stopped = word_of cause_of cause_text cause_is cause.Stopped (codes "stopped") refl;
 }
 
-pub stop_lines : StopsAreTold
+pub stop_lines : StopWords
 unfolding event_text
 stop_lines = record { failed = λ node. refl; stopped = λ node. refl }
 

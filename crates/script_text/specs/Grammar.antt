@@ -64,8 +64,8 @@ abbrev pub pump_line : List ℕ → List ℕ → Option Verb
 pump_line link frames = option_and_then (λ l. option_map (λ x. verb.AtLink l (link_verb.Pump x)) (frames_of frames)) (connection_of link)
 
 -- what a line of three words asks of a vBucket, by the first
-abbrev pub asked_of_vb : List ℕ → Option VbVerb
-asked_of_vb word =
+abbrev pub verb_of_vb : List ℕ → Option VbVerb
+verb_of_vb word =
     if bytes_eq word (codes "show") then Some vb_verb.Show
     else if bytes_eq word (codes "follow") then Some vb_verb.Follow
     else if bytes_eq word (codes "dead") then Some vb_verb.Dead
@@ -80,7 +80,7 @@ asked_of_vb word =
 
 -- a line of three words that names a vBucket of a node, by what is asked of it
 abbrev pub vbucket_words : List ℕ → List ℕ → List ℕ → Option Verb
-vbucket_words word node vb = option_and_then (λ n. option_and_then (λ v. option_map (verb.AtVb n v) (asked_of_vb word)) (vbucket_of vb)) (node_of node)
+vbucket_words word node vb = option_and_then (λ n. option_and_then (λ v. option_map (verb.AtVb n v) (verb_of_vb word)) (vbucket_of vb)) (node_of node)
 
 -- what a crash leaves, in one word
 abbrev pub kept_of : List ℕ → Option Outcome

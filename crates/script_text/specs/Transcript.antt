@@ -113,8 +113,8 @@ verdict_text (asked.Roll seq) = spaced (codes "roll" ∷ decimal seq ∷ [])
 verdict_text (asked.Refuse status) = spaced (codes "refuse" ∷ decimal status ∷ [])
 
 -- the producer's history, and how it answered a stream request: `HIGH LOG ANSWER`
-unfoldable pub asked_text : ℕ → List LogEntry → AskAnswer → List ℕ
-asked_text high log answer = spaced (decimal high ∷ log_text log ∷ verdict_text answer ∷ [])
+unfoldable pub request_text : ℕ → List LogEntry → AskAnswer → List ℕ
+request_text high log answer = spaced (decimal high ∷ log_text log ∷ verdict_text answer ∷ [])
 
 -- the word of a change that is sent
 abbrev pub sent_text : ItemAct → List ℕ
@@ -177,7 +177,7 @@ follower_words other = acknowledged_words other
 -- the words of the line of a producer's stream, or of a kind above
 abbrev pub stream_words : Event → List (List ℕ)
 stream_words (event.Asked stream node vb ask high log answer) =
-    codes "ask" ∷ stream_text stream ∷ place_text node vb ∷ ask_text ask ∷ asked_text high log answer ∷ []
+    codes "ask" ∷ stream_text stream ∷ place_text node vb ∷ ask_text ask ∷ request_text high log answer ∷ []
 stream_words (event.Marked stream start end flags) =
     codes "mark" ∷ stream_text stream ∷ decimal start ∷ decimal end ∷ decimal flags ∷ []
 stream_words (event.Item stream seq act key) =

@@ -27,8 +27,8 @@ use Rattle.script_text.specs.Lines.{words_of}
 use Rattle.script_text.specs.Transcript.{act_text, answer_text, cause_text, doc_text, event_text, flag_text, hex_text, level_text, reason_text, role_text, sent_text, spaced, why_text}
 
 -- what a line says, letter by letter
-abbrev pub said_by : List ℕ → Option Verb
-said_by line = verb_of (words_of line)
+abbrev pub verb_by_letters : List ℕ → Option Verb
+verb_by_letters line = verb_of (words_of line)
 
 -- this one is told by this word, and no other is
 abbrev pub IsWordOf : (A : Type 0) → (A → List ℕ) → A → List ℕ → Type 0
@@ -50,7 +50,7 @@ pub record ActsInWords : Type 0 where
   pub pending : IsWordOf Role role_text role.Pending (codes "pending")
 
 -- the same acts where all of a change is told, and a prepare that waits
-pub record DurablesAreTold : Type 0 where
+pub record DurableWords : Type 0 where
   pub prepare : (key : List ℕ) (level : Level) (doc : Doc) (deleted : Bool)
       → act_text key (act.Prepare level doc deleted) ≡ spaced (codes "prepare" ∷ hex_text key ∷ doc_text doc ∷ level_text level ∷ flag_text deleted ∷ [])
   pub commit : (key : List ℕ) (prepared : ℕ) (doc : Doc) (deleted : Bool)
@@ -63,7 +63,7 @@ abbrev pub ChainsInWords : Type 0
 ChainsInWords = IsWordOf Cause cause_text cause.ChainBad (codes "chain-bad")
 
 -- an acknowledgement that a replica wrote, and one that the active vBucket counted, word by word
-pub record AcknowledgementsAreTold : Type 0 where
+pub record AcknowledgementWords : Type 0 where
   pub written : (link node vb seq saved : ℕ)
       → event_text (event.Acknowledged (stream.Link link) node vb seq saved)
       ≡ codes "ack L" ++ decimal link ++ 32 ∷ spaced (decimal node ∷ decimal vb ∷ decimal seq ∷ decimal saved ∷ [])
@@ -73,27 +73,27 @@ pub record AcknowledgementsAreTold : Type 0 where
 
 -- lines of chains and deadlines, at their limits: which members a chain may have is no matter of the grammar
 pub record ChainsAreRead : Type 0 where
-  pub alone : said_by (codes "chain 15 1023") ≡ Some (verb.AtVb 15 1023 (vb_verb.Chain []))
-  pub one_other : said_by (codes "chain 0 0 15") ≡ Some (verb.AtVb 0 0 (vb_verb.Chain (Some 15 ∷ [])))
-  pub not_set : said_by (codes "chain 1 2 -") ≡ Some (verb.AtVb 1 2 (vb_verb.Chain (None ∷ [])))
-  pub most : said_by (codes "chain 1 2 1 - 1") ≡ Some (verb.AtVb 1 2 (vb_verb.Chain (Some 1 ∷ None ∷ Some 1 ∷ [])))
-  pub tick : said_by (codes "tick 15 1023") ≡ Some (verb.AtVb 15 1023 vb_verb.Tick)
+  pub alone : verb_by_letters (codes "chain 15 1023") ≡ Some (verb.AtVb 15 1023 (vb_verb.Chain []))
+  pub one_other : verb_by_letters (codes "chain 0 0 15") ≡ Some (verb.AtVb 0 0 (vb_verb.Chain (Some 15 ∷ [])))
+  pub not_set : verb_by_letters (codes "chain 1 2 -") ≡ Some (verb.AtVb 1 2 (vb_verb.Chain (None ∷ [])))
+  pub most : verb_by_letters (codes "chain 1 2 1 - 1") ≡ Some (verb.AtVb 1 2 (vb_verb.Chain (Some 1 ∷ None ∷ Some 1 ∷ [])))
+  pub tick : verb_by_letters (codes "tick 15 1023") ≡ Some (verb.AtVb 15 1023 vb_verb.Tick)
 
 -- lines beside them that say nothing
 pub record ChainsAreRefused : Type 0 where
-  pub too_many : said_by (codes "chain 0 0 1 2 3 4") ≡ None
-  pub unset_too_many : said_by (codes "chain 0 0 - - - -") ≡ None
-  pub no_vb : said_by (codes "chain 0") ≡ None
-  pub vb : said_by (codes "chain 0 1024 1") ≡ None
-  pub node : said_by (codes "chain 16 0 1") ≡ None
-  pub member : said_by (codes "chain 0 0 16") ≡ None
-  pub dashes : said_by (codes "chain 0 0 --") ≡ None
-  pub last_member : said_by (codes "chain 0 0 1 - x") ≡ None
-  pub zeros : said_by (codes "chain 0 0 01") ≡ None
-  pub own_dash : said_by (codes "chain - 0 1") ≡ None
-  pub tick_alone : said_by (codes "tick 0") ≡ None
-  pub tick_more : said_by (codes "tick 0 0 0") ≡ None
-  pub tick_vb : said_by (codes "tick 0 1024") ≡ None
+  pub too_many : verb_by_letters (codes "chain 0 0 1 2 3 4") ≡ None
+  pub unset_too_many : verb_by_letters (codes "chain 0 0 - - - -") ≡ None
+  pub no_vb : verb_by_letters (codes "chain 0") ≡ None
+  pub vb : verb_by_letters (codes "chain 0 1024 1") ≡ None
+  pub node : verb_by_letters (codes "chain 16 0 1") ≡ None
+  pub member : verb_by_letters (codes "chain 0 0 16") ≡ None
+  pub dashes : verb_by_letters (codes "chain 0 0 --") ≡ None
+  pub last_member : verb_by_letters (codes "chain 0 0 1 - x") ≡ None
+  pub zeros : verb_by_letters (codes "chain 0 0 01") ≡ None
+  pub own_dash : verb_by_letters (codes "chain - 0 1") ≡ None
+  pub tick_alone : verb_by_letters (codes "tick 0") ≡ None
+  pub tick_more : verb_by_letters (codes "tick 0 0 0") ≡ None
+  pub tick_vb : verb_by_letters (codes "tick 0 1024") ≡ None
 
 -- why a line was refused that has to do with what is saved; why a link ended; and why no more frames were put
 pub record SavingInWords : Type 0 where
@@ -105,7 +105,7 @@ pub record SavingInWords : Type 0 where
   pub waits : IsWordOf Why why_text why.WaitSaved (codes "wait-saved")
 
 -- a batch that is taken, the numbers of a vBucket, a link that ended as the disk failed, and a pull that waits, word by word
-pub record SavingIsTold : Type 0 where
+pub record SavingWords : Type 0 where
   pub batch : (node vb ss se at count : ℕ)
       → event_text (event.Batch node vb ss se at count) ≡ spaced (codes "batch" ∷ decimal node ∷ decimal vb ∷ decimal ss ∷ decimal se ∷ decimal at ∷ decimal count ∷ [])
   pub stat : (node vb windows items cursors saved high : ℕ)
@@ -122,32 +122,32 @@ pub record StopsInWords : Type 0 where
   pub stopped : IsWordOf Cause cause_text cause.Stopped (codes "stopped")
 
 -- a device call that failed, and a node that stopped, word by word
-pub record StopsAreTold : Type 0 where
+pub record StopWords : Type 0 where
   pub failed : (node : ℕ) → event_text (event.CallFailed node) ≡ codes "failed " ++ decimal node
   pub stopped : (node : ℕ) → event_text (event.NodeStopped node) ≡ codes "stopped " ++ decimal node
 
 -- lines of nodes that stop and start, at their limits
 pub record StopsAreRead : Type 0 where
-  pub stop_old : said_by (codes "stop 15 1000000000 old") ≡ Some (verb.AtNode 15 (node_verb.Stop 1000000000 outcome.Old))
-  pub stop_new : said_by (codes "stop 0 0 new") ≡ Some (verb.AtNode 0 (node_verb.Stop 0 outcome.New))
-  pub stop_fill : said_by (codes "stop 3 7 fill 255") ≡ Some (verb.AtNode 3 (node_verb.Stop 7 (outcome.Fill 255)))
-  pub fail : said_by (codes "fail 3 1000000000") ≡ Some (verb.AtNode 3 (node_verb.Fail 1000000000))
-  pub crash_old : said_by (codes "crash 15 old") ≡ Some (verb.AtNode 15 (node_verb.Crash outcome.Old))
-  pub crash_new : said_by (codes "crash 0 new") ≡ Some (verb.AtNode 0 (node_verb.Crash outcome.New))
-  pub crash_fill : said_by (codes "crash 1 fill 0") ≡ Some (verb.AtNode 1 (node_verb.Crash (outcome.Fill 0)))
-  pub start : said_by (codes "start 15") ≡ Some (verb.AtNode 15 (node_verb.Start []))
-  pub start_again : said_by (codes "start 2 18446744073709551615 0") ≡ Some (verb.AtNode 2 (node_verb.Start (18446744073709551615 ∷ 0 ∷ [])))
+  pub stop_old : verb_by_letters (codes "stop 15 1000000000 old") ≡ Some (verb.AtNode 15 (node_verb.Stop 1000000000 outcome.Old))
+  pub stop_new : verb_by_letters (codes "stop 0 0 new") ≡ Some (verb.AtNode 0 (node_verb.Stop 0 outcome.New))
+  pub stop_fill : verb_by_letters (codes "stop 3 7 fill 255") ≡ Some (verb.AtNode 3 (node_verb.Stop 7 (outcome.Fill 255)))
+  pub fail : verb_by_letters (codes "fail 3 1000000000") ≡ Some (verb.AtNode 3 (node_verb.Fail 1000000000))
+  pub crash_old : verb_by_letters (codes "crash 15 old") ≡ Some (verb.AtNode 15 (node_verb.Crash outcome.Old))
+  pub crash_new : verb_by_letters (codes "crash 0 new") ≡ Some (verb.AtNode 0 (node_verb.Crash outcome.New))
+  pub crash_fill : verb_by_letters (codes "crash 1 fill 0") ≡ Some (verb.AtNode 1 (node_verb.Crash (outcome.Fill 0)))
+  pub start : verb_by_letters (codes "start 15") ≡ Some (verb.AtNode 15 (node_verb.Start []))
+  pub start_again : verb_by_letters (codes "start 2 18446744073709551615 0") ≡ Some (verb.AtNode 2 (node_verb.Start (18446744073709551615 ∷ 0 ∷ [])))
 
 -- lines beside them that say nothing
 pub record StopsAreRefused : Type 0 where
-  pub call : said_by (codes "stop 0 1000000001 old") ≡ None
-  pub failing_call : said_by (codes "fail 0 1000000001") ≡ None
-  pub no_outcome : said_by (codes "stop 0 1") ≡ None
-  pub byte : said_by (codes "crash 0 fill 256") ≡ None
-  pub no_byte : said_by (codes "crash 0 fill") ≡ None
-  pub zeros : said_by (codes "stop 0 1 fill 00") ≡ None
-  pub two_words : said_by (codes "crash 0 old 1") ≡ None
-  pub other_word : said_by (codes "crash 0 olds") ≡ None
-  pub node : said_by (codes "start 16") ≡ None
-  pub no_node : said_by (codes "start") ≡ None
-  pub wide : said_by (codes "start 0 18446744073709551616") ≡ None
+  pub call : verb_by_letters (codes "stop 0 1000000001 old") ≡ None
+  pub failing_call : verb_by_letters (codes "fail 0 1000000001") ≡ None
+  pub no_outcome : verb_by_letters (codes "stop 0 1") ≡ None
+  pub byte : verb_by_letters (codes "crash 0 fill 256") ≡ None
+  pub no_byte : verb_by_letters (codes "crash 0 fill") ≡ None
+  pub zeros : verb_by_letters (codes "stop 0 1 fill 00") ≡ None
+  pub two_words : verb_by_letters (codes "crash 0 old 1") ≡ None
+  pub other_word : verb_by_letters (codes "crash 0 olds") ≡ None
+  pub node : verb_by_letters (codes "start 16") ≡ None
+  pub no_node : verb_by_letters (codes "start") ≡ None
+  pub wide : verb_by_letters (codes "start 0 18446744073709551616") ≡ None

@@ -1,7 +1,7 @@
 //! The lines of events.
 ghost use Rattle.std.specs.Prelude.{◌≡◌, ◌++◌, ◌∷◌, [], OnOk, decimal, string_bytes};
 ghost use Rattle.vb_events.specs.declared.event.Event.TheVariants as event;
-ghost use Rattle.script_text.specs.Transcript.{spaced, parent_text, asked_text, event_text, event_words, stream_words, follower_words, acknowledged_words, shown_words, counted_words, armed_words};
+ghost use Rattle.script_text.specs.Transcript.{spaced, parent_text, request_text, event_text, event_words, stream_words, follower_words, acknowledged_words, shown_words, counted_words, armed_words};
 
 use crate::parts::{
     Named, level_word, push_act, push_ask, push_at, push_counts, push_doc, push_hex, push_key,
@@ -123,14 +123,14 @@ fn push_stream_event(text: &mut String, event: &Event) -> Result<(), AllocError>
 }
 
 /// The producer's history, and how it answered a stream request.
-#[tactic(auto, unfolding(crate::specs::Transcript::asked_text))]
+#[tactic(auto, unfolding(crate::specs::Transcript::request_text))]
 fn push_asked(
     text: &mut String,
     high: u64,
     log: &[LogEntry],
     answer: AskAnswer,
 ) -> Result<(), AllocError>
-    ensures { OnOk result (string_bytes text.new ≡ string_bytes text.old ++ 32 ∷ asked_text high log.now answer) }
+    ensures { OnOk result (string_bytes text.new ≡ string_bytes text.old ++ 32 ∷ request_text high log.now answer) }
 {
     write!(text, " {high}")?;
     push_log(text, log)?;

@@ -11,7 +11,7 @@ ghost use Rattle.script_text.specs.Ranges.{IsGroupRanged};
 ghost use Rattle.script_text.specs.Transcript.{hex_text, print_of};
 ghost use Rattle.vb_events.specs.declared.event.Group.{Group};
 ghost use Rattle.script_text.specs.Scripts.{line_said, IsScript, FirstBad};
-ghost use Rattle.script_text.specs.Wordings.{LevelsInWords, ActsInWords, DurablesAreTold, ChainsInWords, ChainsAreRead, ChainsAreRefused, AcknowledgementsAreTold, SavingInWords, SavingIsTold, StopsInWords, StopsAreTold, StopsAreRead, StopsAreRefused};
+ghost use Rattle.script_text.specs.Wordings.{LevelsInWords, ActsInWords, DurableWords, ChainsInWords, ChainsAreRead, ChainsAreRefused, AcknowledgementWords, SavingInWords, SavingWords, StopsInWords, StopWords, StopsAreRead, StopsAreRefused};
 ghost use Rattle.script_text.specs.Letters.{ChangesInLetters, GroupsInLetters, StreamsInLetters, WordsInLetters};
 ghost use Rattle.script_text.specs.Printed.{CausesInLetters, LinesInLetters};
 ghost use Rattle.script_text.specs.declared.script.Said.TheVariants as said;
@@ -76,7 +76,7 @@ pub fn lines_fit()
 pub fn durable_writes_in_words()
     ensures levels { LevelsInWords }
     ensures acts { ActsInWords }
-    ensures lines { DurablesAreTold }
+    ensures lines { DurableWords }
 {}
 
 /// Chains have words of their own. The lines `chain` and `tick` say what they say by literal text, up to
@@ -85,7 +85,7 @@ pub fn durable_writes_in_words()
 /// is a cause.
 pub fn chains_in_words()
     ensures words { ChainsInWords }
-    ensures lines { AcknowledgementsAreTold }
+    ensures lines { AcknowledgementWords }
     ensures read { ChainsAreRead }
     ensures refused { ChainsAreRefused }
 {}
@@ -95,7 +95,7 @@ pub fn chains_in_words()
 /// and the causes `batch-out`, `nothing-taken` and `closed`.
 pub fn savings_in_words()
     ensures words { SavingInWords }
-    ensures lines { SavingIsTold }
+    ensures lines { SavingWords }
 {}
 
 /// Nodes that stop and start again have words of their own. The lines `stop`, `fail`, `crash` and
@@ -103,7 +103,7 @@ pub fn savings_in_words()
 /// `stopped` tell what an armed call met, and `node-up`, `node-down`, `ids-short` and `stopped` are causes.
 pub fn stops_in_words()
     ensures words { StopsInWords }
-    ensures lines { StopsAreTold }
+    ensures lines { StopWords }
     ensures read { StopsAreRead }
     ensures refused { StopsAreRefused }
 {}

@@ -1,6 +1,6 @@
 //! Reads a script line.
 ghost use Rattle.std.specs.Prelude.{◌≡◌, ◌==◌, map, take, IfOk};
-ghost use Rattle.script_text.specs.Grammar.{hex_bytes_of, two_words, three_words, clock_line, client_line, hang_line, up_line, down_line, pump_line, fail_line, crash_line, stop_line, asked_of_vb, vbucket_words, kept_of, filled_of, start_line, branches_of, member_of, members_of, others_of, chain_line, chain_words, bytes_line, four_words, plain_of_four, vbucket_of_four, five_words, vb_line, is_link, linked, counted_verb, verb_of};
+ghost use Rattle.script_text.specs.Grammar.{hex_bytes_of, two_words, three_words, clock_line, client_line, hang_line, up_line, down_line, pump_line, fail_line, crash_line, stop_line, verb_of_vb, vbucket_words, kept_of, filled_of, start_line, branches_of, member_of, members_of, others_of, chain_line, chain_words, bytes_line, four_words, plain_of_four, vbucket_of_four, five_words, vb_line, is_link, linked, counted_verb, verb_of};
 ghost use Rattle.{std.specs.Str.{bytes_eq}, script_text.specs.Lines.{words_of}};
 ghost use Rattle.script_text.specs.Numbers.{numbers_of};
 
@@ -164,8 +164,8 @@ fn verb_of_three(word: &[u8], a: &[u8], b: &[u8]) -> Option<Verb>
 }
 
 /// What a line of three words asks of a vBucket, by the first.
-fn asked_of_vb(word: &[u8]) -> Option<VbVerb>
-    ensures { result ≡ asked_of_vb word.now }
+fn verb_of_vb(word: &[u8]) -> Option<VbVerb>
+    ensures { result ≡ verb_of_vb word.now }
 {
     if says(word, b"show") {
         Some(VbVerb::Show)
@@ -197,7 +197,7 @@ fn vbucket_verb(word: &[u8], n: &[u8], v: &[u8]) -> Option<Verb>
     ensures { result ≡ vbucket_words word.now n.now v.now }
 {
     let (node, vb) = (node(n)?, vbucket(v)?);
-    let what = asked_of_vb(word)?;
+    let what = verb_of_vb(word)?;
     Some(Verb::AtVb { node, vb, what })
 }
 

@@ -1,5 +1,5 @@
 -- what holds of the transcript of a script that was read
-use Rattle.transcript_law.proofs.Words.{ℕ, List, ScriptLine, ScriptFits, starts, stays, take_snapshots, wholes, groups, Lawful, AreFollowed, told_of, world_of, IsScript, lines_fit}
+use Rattle.transcript_law.proofs.Words.{ℕ, List, ScriptLine, ScriptFits, starts, stays, take_snapshots, wholes, groups, Lawful, AreFollowed, known_of, world_of, IsScript, lines_fit}
 use Rattle.transcript_law.proofs.invariant.Prefixes.{branches_followed}
 use Rattle.transcript_law.proofs.Runs.{lawful}
 use Rattle.transcript_law.proofs.verbs.Settling.{steady}
@@ -13,5 +13,5 @@ pub read_is_lawful : (bytes : List ℕ) (script : List ScriptLine) → IsScript 
 read_is_lawful bytes script said = scripts_are_lawful script (lines_fit bytes script said)
 
 -- what that script leaves: each vBucket follows its branch
-pub read_is_followed : (bytes : List ℕ) (script : List ScriptLine) → IsScript bytes script → AreFollowed (told_of script) (world_of script)
+pub read_is_followed : (bytes : List ℕ) (script : List ScriptLine) → IsScript bytes script → AreFollowed (known_of script) (world_of script)
 read_is_followed bytes script said = branches_followed script (lines_fit bytes script said)

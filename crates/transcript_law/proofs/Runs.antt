@@ -1,8 +1,8 @@
 -- each script's transcript is lawful
 use Rattle.std.specs.Prelude.{◌≡◌, ◌∷◌, ◌++◌, ◌==◌, if◌then◌else◌}
-use Rattle.{branch_model.specs.Journals.{place_of}, transcript_law.specs.Chronicles.{Conns, Dial, DiskTold, Flushing, after_group, after_lines, ahead, conns_lines, conns_verb}, vb_calls.specs.Shelves.{Flush, Idle, Out, Written, Shelf}, vb_types.specs.declared.journal.Batch.{Batch}}
+use Rattle.{branch_model.specs.Journals.{place_of}, transcript_law.specs.Chronicles.{Conns, Dial, DiskKnown, Flushing, after_group, after_lines, ahead, conns_lines, conns_verb}, vb_calls.specs.Shelves.{Flush, Idle, Out, Written, Shelf}, vb_types.specs.declared.journal.Batch.{Batch}}
 use Rattle.node_world.specs.{Nodes.{shelf_or_blank}, Rests.{Rests, RestsIf}, Worlds.{arm_in}}
-use Rattle.transcript_law.proofs.{invariant.Agreement.{DiskIsIf, IsArm, PowerIsIf, shelf_of, vb_of}, disks.ArmedSteps.{shut_in}, disks.Disks.{FlushIs, ShelfIs, parts_of, power_in}, disks.Flushed.{told_flush}, verbs.LineAnswers.{AllTold, ArmTold, DisksTold, ShutTold}}
+use Rattle.transcript_law.proofs.{invariant.Agreement.{DiskIsIf, IsArm, PowerIsIf, shelf_of, vb_of}, disks.ArmedSteps.{shut_in}, disks.Disks.{FlushIs, ShelfIs, parts_of, power_in}, disks.Flushed.{told_flush}, verbs.LineAnswers.{AllTold, ArmKnown, DisksTold, ShutTold}}
 use Rattle.transcript_law.proofs.Words.{ℕ, Bool, true, false, List, [], refl, ap, sym, ◌∙◌, subst, arith, Option, Some, None, ne_eqb, All-nil, All-head, All-tail, ScriptLine, Verb}
 use Rattle.transcript_law.proofs.Words.{VerbFits, ScriptFits, Change, Plain, PlainNode, hist, PlainWorld, empty_world}
 use Rattle.transcript_law.proofs.Words.{with_branches, verb_step, world_step, groups_from, groups, Chronicle, empty_chronicle, after_verb, LawfulGroups, Lawful, RefusedLinesKeep, start_sound}
@@ -79,7 +79,7 @@ rests_told w r (c, a) n v = by (shelf_of w n v) (vb_of w n v) (a.disks n v)
     by (Some shelf) (Some vb) d = d.unarmed
 
 -- the arms of nodes are told
-arms_told : (w : PlainWorld) (r : Chronicle) → Agrees w r → (n : ℕ) → ArmTold w r n
+arms_told : (w : PlainWorld) (r : Chronicle) → Agrees w r → (n : ℕ) → ArmKnown w r n
 arms_told w r (c, a) n = by (w.nodes n) refl (a.powers n)
   where
     by : (o : Option PlainNode) → w.nodes n ≡ o → PowerIsIf (r.arm_at n) (power_in o) → ((r.arm_at n).fuse ≡ (arm_in o).fuse) × IsArm (arm_in o).fuse
@@ -91,8 +91,8 @@ shut_told : (w : PlainWorld) (r : Chronicle) → Agrees w r → ShutTold w r
 shut_told w r (c, a) n v = by (shelf_of w n v) (vb_of w n v) (a.disks n v)
   where
     by : (s : Option Shelf) (o : Option Plain) → DiskIsIf (r.disk_at n v) (c.disks (seat n v)) s o → ((vb : Plain) → o ≡ Some vb → shut_in s ≡ (r.disk_at n v).closed) × (o ≡ None → (shelf_or_blank s).is_closed ≡ (r.disk_at n v).closed)
-    by None None d = ((λ vb e. cc), λ e. sym (ap (λ (t : DiskTold). t.closed) d.told_is))
-    by (Some shelf) None d = ((λ vb e. cc), λ e. ap (λ (x : Shelf). x.is_closed) d.2 ∙ sym (ap (λ (t : DiskTold). t.closed) d.0.told_is))
+    by None None d = ((λ vb e. cc), λ e. sym (ap (λ (t : DiskKnown). t.closed) d.told_is))
+    by (Some shelf) None d = ((λ vb e. cc), λ e. ap (λ (x : Shelf). x.is_closed) d.2 ∙ sym (ap (λ (t : DiskKnown). t.closed) d.0.told_is))
     by None (Some vb) d = absurd d
     by (Some shelf) (Some vb) d = ((λ q e. sym d.closed), λ e. cc)
 

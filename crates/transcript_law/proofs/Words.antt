@@ -9,7 +9,7 @@ pub use Rattle.branch_model.specs.Requests.{effective_se, effective_ss, fork_of,
 pub use Rattle.branch_model.specs.Snapshots.{Covers, HasLast}
 pub use Rattle.branch_model.specs.Trees.{Branch, ForksBelow, IsNew, Shared, branch, grow, hist, longer}
 pub use Rattle.client_session.specs.Serving.{PlainSession, ended_at, new_session}
-unfoldable pub use Rattle.client_session.specs.Serving.{frame_served, request_served, bytes_served, told}
+unfoldable pub use Rattle.client_session.specs.Serving.{frame_handled, request_handled, bytes_handled, told}
 pub use Rattle.cluster_model.proofs.Carrying.{at_le, kin_shared, start_cases}
 pub use Rattle.transcript_law.proofs.invariant.Bounded.{SoundCluster}
 pub use Rattle.transcript_law.proofs.invariant.Bounding.{keeps, tells, continues, rolls, shows, start_sound}
@@ -20,20 +20,20 @@ pub use Rattle.dcp_consumer.specs.Machine.{PlainConsumer, over_why, with_handsha
 unfoldable pub use Rattle.dcp_producer.specs.Ending.{end_closed}
 pub use Rattle.dcp_producer.specs.Ending.{ended_in, ended_by, stream_closed}
 pub use Rattle.dcp_producer.specs.Producers.{PlainProducer, PlainStream, Served, begun, is_sync}
-pub use Rattle.dcp_producer.specs.Pulling.{STATE_CHANGED, act_message, halted_put, item_line, item_put, next_put, past_item, place_told, pulled, snapshot_told, stream_put, taken_put, take_unless, why_of, place_halt}
+pub use Rattle.dcp_producer.specs.Pulling.{STATE_CHANGED, act_message, halted_put, item_line, item_put, next_put, past_item, place_answered, pulled, snapshot_of_reply, stream_put, taken_put, take_unless, why_of, place_halt}
 unfoldable pub use Rattle.dcp_producer.specs.Pulling.{end_put, frame_put, frames_put, marker_put}
 unfoldable pub use Rattle.dcp_producer.specs.Serving.{frame_answered, stream_request, status_sent, stream_answered}
-pub use Rattle.dcp_producer.specs.Serving.{refuse, stream_told, with_frame, ask_verdict, asked_id, controlled, controlled_as, high_told, is_name, opened_unless, read_answered, request_refusal, verdict_with}
+pub use Rattle.dcp_producer.specs.Serving.{refuse, stream_verdict, with_frame, ask_verdict, opening_id, controlled, controlled_as, high_of_reply, is_name, opened_unless, read_answered, request_refusal, verdict_with}
 pub use Rattle.dcp_producer.specs.declared.desk.Handshake.{Handshake}
 pub use Rattle.dcp_producer.specs.declared.halt.Halt.{Halt}
 pub use Rattle.dcp_producer.specs.declared.halt.NoSnapshot.{NoSnapshot}
 pub use Rattle.mcbp_dcp.proofs.DcpBack.{message_back}
 pub use Rattle.mcbp_dcp.proofs.DcpLens.{length_dcp}
-pub use Rattle.mcbp_dcp.specs.DcpFrames.{IsSpelled, IsTold, told_frame}
+pub use Rattle.mcbp_dcp.specs.DcpFrames.{IsSpelled, IsVerdict, verdict_frame}
 unfoldable pub use Rattle.mcbp_dcp.specs.DcpFrames.{dcp_frame}
-pub use Rattle.mcbp_dcp.specs.DcpLaws.{AskInRange, EntryInRange, InRange, ToldInRange, dcp_len}
+pub use Rattle.mcbp_dcp.specs.DcpLaws.{AskInRange, EntryInRange, InRange, VerdictInRange, dcp_len}
 pub use Rattle.mcbp_dcp.specs.declared.message.DcpMsg.{DcpMsg}
-pub use Rattle.mcbp_dcp.specs.declared.message.StreamTold.{StreamTold}
+pub use Rattle.mcbp_dcp.specs.declared.message.StreamVerdict.{StreamVerdict}
 pub use Rattle.mcbp_frame.proofs.Pieces.{pieces_of_frames}
 unfoldable pub use Rattle.mcbp_frame.specs.Cutting.{frames_in, left_of}
 pub use Rattle.mcbp_frame.specs.Cutting.{front_fault}
@@ -46,19 +46,19 @@ pub use Rattle.mcbp_frame.specs.declared.frame.FrameFault.{FrameFault}
 pub use Rattle.mcbp_frame.specs.declared.frame.TheConstants.{RESPONSE}
 pub use Rattle.mcbp_kv.specs.Fitting.{WriteFits}
 pub use Rattle.mcbp_kv.specs.declared.request.KvRequest.{KvRequest}
-pub use Rattle.node_core.specs.Admin.{AdminTold, admin_call, admin_replied, admin_told, role_changed, role_told}
+pub use Rattle.node_core.specs.Admin.{AdminResult, admin_call, admin_replied, admin_result, role_changed, role_result}
 pub use Rattle.node_core.specs.Calls.{branch_lines, left_open, named_ask}
-pub use Rattle.node_core.specs.Dials.{DialTold, dial_fed, over_for, with_consumer, with_line}
+pub use Rattle.node_core.specs.Dials.{DialResult, dial_bytes, over_for, with_consumer, with_line}
 unfoldable pub use Rattle.node_core.specs.Dials.{call_made, frame_taken, frames_taken, go_on_with, roll_back}
-pub use Rattle.node_core.specs.Peers.{PeerTold, peer_told, pull_told, PullTold, peer_pulled}
+pub use Rattle.node_core.specs.Peers.{PeerResult, peer_result, pull_result, PullResult, peer_pulled}
 pub use Rattle.node_core.specs.Shown.{document_line, image_lines, prepare_line}
 pub use Rattle.node_core.specs.declared.admin.AdminCall.{AdminCall}
 pub use Rattle.node_core.specs.declared.node.TheConstants.{MAX_VBS}
-pub use Rattle.node_world.specs.Cuts.{cut_off, links_told, own_link, told_ended, unlinked}
-pub use Rattle.node_world.specs.Links.{LinkTold, PlainLink, consumer_node, dial_of, down_at, down_told, feeds, link_number, moved_len, peer_of, producer_node, pump_at, pump_told, up_at, up_told, ask_of, is_taken, moved, new_link, up_moved, with_up}
+pub use Rattle.node_world.specs.Cuts.{cut_off, links_ended, own_link, link_ended, unlinked}
+pub use Rattle.node_world.specs.Links.{LinkResult, PlainLink, consumer_node, dial_of, down_at, down_result, feeds, link_number, moved_len, peer_of, producer_node, pump_at, pump_result, up_at, up_result, ask_of, is_taken, moved, new_link, up_moved, with_up}
 pub use Rattle.node_world.specs.Nodes.{uuid_causes}
-pub use Rattle.node_world.specs.Turns.{role_causes, admin_line, called, called_at, no_node, promote_causes, role_outcome, told_of_call, turn_causes, turn_step, turned_after, turned_if, with_ended, call_told, is_in_role, promote_step, told_after}
-pub use Rattle.node_world.specs.World.{Outcome, PlainNode, PlainWorld, ask_in, at_end, branch_told, bytes_at, client_at, clock_at, cut_outcome, done, empty_node, empty_world, fed, fed_if, first_cause, groups, groups_from, hang_at, is_one_of, link_causes, link_outcome, node_causes, node_outcome, on_link, on_node, refusal, refused_or, replica_at, replica_causes, vb_at, vb_causes, vb_in, verb_step, with_branches, with_client, with_dialed, with_link, with_links, with_node_at, with_states, with_vb, link_step, node_step, vb_step}
+pub use Rattle.node_world.specs.Turns.{role_causes, admin_line, called, called_at, no_node, promote_causes, role_outcome, line_of_call, turn_causes, turn_step, turned_after, turned_if, with_ended, call_told, is_in_role, promote_step, after_cuts}
+pub use Rattle.node_world.specs.World.{Outcome, PlainNode, PlainWorld, ask_in, at_end, branch_of_line, bytes_at, client_at, clock_at, cut_outcome, done, empty_node, empty_world, fed, bytes_if, first_cause, groups, groups_from, hang_at, is_one_of, link_causes, link_outcome, node_causes, node_outcome, on_link, on_node, refusal, refused_or, replica_at, replica_causes, vb_at, vb_causes, vb_in, verb_step, with_branches, with_client, with_dialed, with_link, with_links, with_node_at, with_states, with_vb, link_step, node_step, vb_step}
 unfoldable pub use Rattle.node_world.specs.World.{world_step}
 pub use Rattle.node_world.specs.Worlds.{node_if, shelf_in}
 pub use Rattle.node_world.specs.declared.told.Told.{Told}
@@ -84,16 +84,16 @@ pub use Rattle.std.specs.Cmp.Lexicographic.{nat_list_cmp_total}
 pub use Rattle.std.specs.List.{All, concat, filter, flat_map, list_any}
 pub use Rattle.std.specs.Option.{option_map, option_or}
 pub use Rattle.std.specs.Prelude.{Err, None, Ok, Option, Result, Some, if◌then◌else◌, is_some, nat_le, nat_lt, not, slice_get, ◌&&◌, ◌==◌, ◌^◌, ◌||◌, ◌⊎◌, codes, decimal, option_and_then}
-pub use Rattle.transcript_law.specs.Chronicles.{Begun, Chronicle, Dial, Granted, ItemTold, after_branch, after_change, after_dial, after_end, after_line, after_lines, after_range, after_role, after_verb, changes_between, empty_chronicle, finished, granted, held_more, is_dial_for, is_dial_of, parent_branch, past_mark, past_next, stream_branch, with_at, with_begun, with_changed, with_item, with_stream, after_ask, after_seal, more_items, with_id}
+pub use Rattle.transcript_law.specs.Chronicles.{Begun, Chronicle, Dial, Granted, ItemLine, after_branch, after_change, after_dial, after_end, after_line, after_lines, after_range, after_role, after_verb, changes_between, empty_chronicle, finished, granted, held_more, is_dial_for, is_dial_of, parent_branch, past_mark, past_next, stream_branch, with_at, with_begun, with_changed, with_item, with_stream, after_ask, after_seal, more_items, with_id}
 pub use Rattle.transcript_law.specs.Contrary.{dialed_anew, inside_dead, inside_got, inside_shown, link_over, log_forgotten, strange}
-pub use Rattle.transcript_law.specs.Followers.{after_both, ask_within, both_told, first_told, granted_inside, log_of, made_from, marker_told, next_change, two_followed, after_adopted, after_got, all_active, based, changed_in, empty_in}
-pub use Rattle.transcript_law.specs.Lawfulness.{due_image, IsDialed, IsIfKnown, LawfulAcknowledged, LawfulCounted, IsMarker, IsNextItem, IsWholeIf, Lawful, LawfulAsk, LawfulChange, LawfulFrom, LawfulGot, LawfulGroups, LawfulItem, LawfulLine, LawfulMark, LawfulRange, LawfulRole, LawfulVerdict, item_told, known_history, shown_lines, stream_history, LawfulShow, LawfulShown, SharesFront, SharesWith, ShownLine, asked_end, branch_image}
+pub use Rattle.transcript_law.specs.Followers.{after_both, ask_within, both_sent_lines, first_item_line, granted_inside, log_of, made_from, marker_line, next_change, two_followed, after_adopted, after_got, all_active, based, changed_in, empty_in}
+pub use Rattle.transcript_law.specs.Lawfulness.{due_image, IsDialed, IsIfKnown, LawfulAcknowledged, LawfulCounted, IsMarker, IsNextItem, IsWholeIf, Lawful, LawfulAsk, LawfulChange, LawfulFrom, LawfulGot, LawfulGroups, LawfulItem, LawfulLine, LawfulMark, LawfulRange, LawfulRole, LawfulVerdict, item_of_change, known_history, shown_lines, stream_history, LawfulShow, LawfulShown, SharesFront, SharesWith, ShownLine, meant_end, branch_image}
 pub use Rattle.transcript_law.specs.Bound.{IsAnswered}
-pub use Rattle.transcript_law.specs.LineAnswers.{LawfulAnswer, frames_told, IsCarriedOut, IsMoved, IsPumped, IsSealed, PutsAsTold, is_frame}
+pub use Rattle.transcript_law.specs.LineAnswers.{LawfulAnswer, frames_in_lines, IsCarriedOut, IsMoved, IsPumped, IsSealed, PutsAsTold, is_frame}
 pub use Rattle.transcript_law.specs.Plainness.{EndsWith, IsLogged, IsPromotion, IsTurn, RefusedLinesKeep, ShowsAreShown, TurnsAreTold}
-pub use Rattle.transcript_law.specs.Prefixes.{AreFollowed, FollowsBranch, told_of, world_of}
-pub use Rattle.transcript_law.specs.Rollbacks.{after_dead, empty_shown, log_told, made_log, after_active, end_told, forgotten, rest_told, rolled_told, sent_back}
-pub use Rattle.transcript_law.specs.Transcripts.{active_told, both_on_one, change_told, first_doc, forked_at, one_change, one_set, value_told, one_set_told, set_and_show, sets_told, shown_after_change, shown_unchanged, two_vbs, two_vbs_told}
+pub use Rattle.transcript_law.specs.Prefixes.{AreFollowed, FollowsBranch, known_of, world_of}
+pub use Rattle.transcript_law.specs.Rollbacks.{after_dead, empty_shown, log_lines, made_log, after_active, stream_end_lines, forgotten, rest_lines, rolled_lines, sent_back}
+pub use Rattle.transcript_law.specs.Transcripts.{active_vb_lines, both_on_one, change_line, first_doc, forked_at, one_change, one_set, value_lines, one_set_groups, set_and_show, sets_groups, shown_after_change, shown_unchanged, two_vbs, two_vbs_groups}
 pub use Rattle.vb_calls.proofs.JobReadings.{after_job_bind, after_job_fold, after_job_lift, job_stepped}
 pub use Rattle.vb_calls.proofs.Readings.{after_bind, after_fold, stepped}
 pub use Rattle.vb_calls.specs.Following.{is_answerable, is_follower, is_next, marked_vb, marker_fits, with_received_change}
@@ -104,7 +104,7 @@ pub use Rattle.vb_calls.specs.Roles.{ending_reply, in_role, is_role, led, parent
 pub use Rattle.vb_calls.specs.Spans.{Spans, all_spans, is_whole, last_at, no_spans, span_of, with_change, with_seal, own_joined}
 pub use Rattle.vb_calls.specs.State.{complete_position, doc_at, is_active, newest_branch, quiet_reply, refusal_reply, image_in}
 pub use Rattle.vb_calls.specs.States.{States, call_at, with_vb_at}
-pub use Rattle.vb_calls.specs.Streams.{end_span, need_of, new_stream, open_refusal, start_of, stream_at, take_from, take_to, close_row, closed_stream, first_reason, id_refusal, is_ranged, judged_open, open_outcome}
+pub use Rattle.vb_calls.specs.Streams.{end_span, need_of, new_stream, open_refusal, start_of, stream_at, take_from, take_to, close_row, without_stream, first_reason, id_refusal, is_ranged, judged_open, open_outcome}
 pub use Rattle.vb_calls.specs.Writes.{growth, new_cas, new_rev, write_change, written_doc, act_of}
 pub use Rattle.vb_calls.specs.declared.calls.VbAnswer.{VbAnswer}
 pub use Rattle.vb_calls.specs.declared.calls.VbCall.{VbCall}

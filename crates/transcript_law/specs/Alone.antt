@@ -14,32 +14,32 @@ use Rattle.vb_events.specs.declared.event.StreamName.TheVariants as name
 use Rattle.vb_types.specs.declared.role.Role.{Role}
 use Rattle.vb_types.specs.declared.role.Role.TheVariants as role
 use Rattle.transcript_law.specs.Chronicles.{Chronicle, after_dial, after_lines, empty_chronicle}
-use Rattle.transcript_law.specs.Commits.{prepared_told}
-use Rattle.transcript_law.specs.Contrary.{after_ack, sent_told, strange_change}
-use Rattle.transcript_law.specs.Followers.{after_both, ask_above, both_told, first_told, granted_inside, marker_told, next_change}
-use Rattle.transcript_law.specs.Rollbacks.{after_active, end_told}
-use Rattle.transcript_law.specs.Transcripts.{change_told, first_doc, one_change, one_set, one_set_told, shown_one, value_told}
+use Rattle.transcript_law.specs.Commits.{prepared_known}
+use Rattle.transcript_law.specs.Contrary.{after_ack, sent_known, strange_change}
+use Rattle.transcript_law.specs.Followers.{after_both, ask_above, both_sent_lines, first_item_line, granted_inside, marker_line, next_change}
+use Rattle.transcript_law.specs.Rollbacks.{after_active, stream_end_lines}
+use Rattle.transcript_law.specs.Transcripts.{change_line, first_doc, one_change, one_set, one_set_groups, shown_with_change, value_lines}
 
 -- ---- changes, and what is shown
 
 -- what was read when the branch 5 has its one change, as if its vBucket held nothing, and as if it held another one
 abbrev pub held_less : Chronicle
-held_less = record (after_lines after_active (change_told 0 ∷ [])) { held = λ n v. [] }
+held_less = record (after_lines after_active (change_line 0 ∷ [])) { held = λ n v. [] }
 
 abbrev pub held_otherwise : Chronicle
-held_otherwise = record (after_lines after_active (change_told 0 ∷ [])) { held = λ n v. strange_change ∷ [] }
+held_otherwise = record (after_lines after_active (change_line 0 ∷ [])) { held = λ n v. strange_change ∷ [] }
 
 -- it is shown with that other one
 abbrev pub strange_shown : List Event
-strange_shown = shown_one role.Active 5 1 0 (event.Document (9 ∷ []) (first_doc 1 (8 ∷ [])) ∷ [])
+strange_shown = shown_with_change role.Active 5 1 0 (event.Document (9 ∷ []) (first_doc 1 (8 ∷ [])) ∷ [])
 
 -- a replica inside a snapshot is shown as if a prepare waited
 abbrev pub shown_waiting : List Event
-shown_waiting = event.Shown 1 0 role.Replica 5 1 0 2 1 1 ∷ value_told (8 ∷ [])
+shown_waiting = event.Shown 1 0 role.Replica 5 1 0 2 1 1 ∷ value_lines (8 ∷ [])
 
 -- what was read when a vBucket prepared the key 9, and as if it did not hold that
 abbrev pub prepared : Chronicle
-prepared = prepared_told Majority
+prepared = prepared_known Majority
 
 abbrev pub prepared_less : Chronicle
 prepared_less = record prepared { held = λ n v. [] }
@@ -67,10 +67,10 @@ back_at n v = event.Rolled n v 1 0 ∷ []
 
 -- what was read when the replica was sent both changes, as if it held them already
 abbrev pub held_before : Chronicle
-held_before = record (sent_told both_told) { held = λ n v. one_change ∷ next_change ∷ [] }
+held_before = record (sent_known both_sent_lines) { held = λ n v. one_change ∷ next_change ∷ [] }
 
 abbrev pub first_before : Chronicle
-first_before = record (sent_told (marker_told 0 1 ∷ first_told ∷ [])) { held = λ n v. one_change ∷ next_change ∷ [] }
+first_before = record (sent_known (marker_line 0 1 ∷ first_item_line ∷ [])) { held = λ n v. one_change ∷ next_change ∷ [] }
 
 -- a vBucket takes a marker, or the first change from the link 1
 abbrev pub range_at : ℕ → ℕ → ℕ → List Event
@@ -81,7 +81,7 @@ got_at n v c = event.Got n v (name.Link 1) c ∷ []
 
 -- as if each vBucket was on their branch then, and its link's stream was of it, so that the dial alone says whose it is
 abbrev pub sent_anywhere : Chronicle
-sent_anywhere = record (sent_told both_told) { branch_at = λ n v. Some 5; stream_of = λ s v. (sent_told both_told).stream_of s 0 }
+sent_anywhere = record (sent_known both_sent_lines) { branch_at = λ n v. Some 5; stream_of = λ s v. (sent_known both_sent_lines).stream_of s 0 }
 
 -- the first change with another value
 abbrev pub other_value : Change
@@ -103,10 +103,10 @@ counts_at_vb n v = event.Counted (name.Link 1) n v 1 2 ∷ []
 
 -- what was read when a stream began a snapshot, and when its end was told inside it
 abbrev pub begun_one : Chronicle
-begun_one = after_lines (granted_inside 2) (marker_told 0 2 ∷ [])
+begun_one = after_lines (granted_inside 2) (marker_line 0 2 ∷ [])
 
 abbrev pub ended_inside : Chronicle
-ended_inside = after_lines begun_one end_told
+ended_inside = after_lines begun_one stream_end_lines
 
 -- the item of the second change, as if that was a removal
 abbrev pub removed_item : List Event
@@ -119,4 +119,4 @@ abbrev pub first_lines : ℕ → List ScriptLine
 first_lines n = take n one_set
 
 abbrev pub first_groups : ℕ → List Group
-first_groups n = take n (one_set_told 1 0 (value_told (8 ∷ [])))
+first_groups n = take n (one_set_groups 1 0 (value_lines (8 ∷ [])))

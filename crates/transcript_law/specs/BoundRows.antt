@@ -9,7 +9,7 @@ use Rattle.vb_events.specs.declared.event.EndReason.TheVariants as reason
 use Rattle.vb_events.specs.declared.event.Event.{Event}
 use Rattle.vb_events.specs.declared.event.Event.TheVariants as event
 use Rattle.transcript_law.specs.Chronicles.{Chronicle, after_crash, after_dial, after_lines, empty_chronicle}
-use Rattle.transcript_law.specs.Crashes.{Said, numbered, told_from}
+use Rattle.transcript_law.specs.Crashes.{Said, numbered, groups_from_number}
 use Rattle.transcript_law.specs.Lawfulness.{LawfulGroups}
 
 -- what was read when the node 0 alone crashed
@@ -25,7 +25,7 @@ one_over = after_lines one_dialed (event.Ended 1 reason.Cut ∷ [])
 
 -- this line comes, of which this is told
 abbrev pub LawfulHere : Chronicle → Verb → Said → Type 0
-LawfulHere chronicle line said = LawfulGroups chronicle (numbered 1 (line ∷ [])) (told_from 1 (said ∷ []))
+LawfulHere chronicle line said = LawfulGroups chronicle (numbered 1 (line ∷ [])) (groups_from_number 1 (said ∷ []))
 
 -- a line is lawful where it is refused for this cause and tells of nothing, and in no other way
 pub record IsRefusedFor (chronicle : Chronicle) (why : Cause) (line : Verb) : Type 0 where

@@ -24,20 +24,20 @@ use Rattle.vb_disk.specs.declared.made.Outcome.TheVariants.{Old}
 use Rattle.disk_journals.specs.Books.{below}
 use Rattle.durability.specs.Chains.{Members}
 use Rattle.branch_model.specs.Journals.{found, last_log, log_of, place_of, role_of, roll_point}
-pub use Rattle.transcript_law.specs.LinesTold.{ItemTold, Begun, Granted, Dial, CountsTold, alone, Flushing, Idle, Taken, Written, DiskTold, blank_disk, stood, told_batch, ArmTold, Conns, no_arm, down_told}
+pub use Rattle.transcript_law.specs.LinesTold.{ItemLine, Begun, Granted, Dial, CountsKnown, alone, Flushing, Idle, Taken, Written, DiskKnown, blank_disk, stood, known_batch, ArmKnown, Conns, no_arm, known_down}
 pub use Rattle.transcript_law.specs.Clients.{conns_line, conns_lines, conns_verb}
 pub use Rattle.transcript_law.specs.LinesTold.{Chronicle, empty_chronicle, with_at, with_id, parent_branch, changes_between, uncounted, after_branch, snap_in_role, after_role, held_more, after_change, is_name, with_stream, is_dial_of, is_stream_of, with_changed}
 pub use Rattle.transcript_law.specs.LinesTold.{with_point, is_dial_at, is_stream_at, after_end, granted, after_ask, stream_branch, with_begun, more_items, with_item, finished, past_next, past_mark, acknowledging, after_take, after_adopt}
-pub use Rattle.transcript_law.specs.LinesTold.{is_dial_for, is_feed_of, after_range, spent, calls_of_append, after_calls, late_told, finds, disk_back, after_roll, with_disk, known_log, after_batch, after_count, after_line, after_lines}
+pub use Rattle.transcript_law.specs.LinesTold.{is_dial_for, is_feed_of, after_range, spent, calls_of_append, after_calls, late_record, finds, disk_back, after_roll, with_disk, known_log, after_batch, after_count, after_line, after_lines}
 
 -- ---- what is written down
 
 -- a record stands
-abbrev pub with_record : Record → DiskTold → DiskTold
+abbrev pub with_record : Record → DiskKnown → DiskKnown
 with_record r d = record d { book = r ∷ d.book }
 
 -- a batch that was taken stands
-abbrev pub batch_stands : Flushing → DiskTold → DiskTold
+abbrev pub batch_stands : Flushing → DiskKnown → DiskKnown
 batch_stands (Taken b) d = record d { flushing = Written b.position.at; book = noted.Rows b ∷ d.book }
 batch_stands other d = d
 
@@ -47,16 +47,16 @@ batch_record (Taken b) = Some (noted.Rows b)
 batch_record other = None
 
 -- a batch that could not be appended is gone
-abbrev pub batch_gone : DiskTold → DiskTold
+abbrev pub batch_gone : DiskKnown → DiskKnown
 batch_gone d = record d { flushing = Idle }
 
 -- the append of a record was broken off under this arm, which closes the journal
-abbrev pub broken_by : Fuse → Option Record → DiskTold → DiskTold
+abbrev pub broken_by : Fuse → Option Record → DiskKnown → DiskKnown
 broken_by f None d = d
-broken_by f (Some r) d = record d { late = late_told f r; closed = true }
+broken_by f (Some r) d = record d { late = late_record f r; closed = true }
 
 -- what becomes of a disk in a crash that leaves this
-abbrev pub crashed_disk : Outcome → DiskTold → DiskTold
+abbrev pub crashed_disk : Outcome → DiskKnown → DiskKnown
 crashed_disk out d =
     let book = found d.book d.late (finds out) in record { flushing = Idle; book = book; late = None; saved = (place_of book).at; there = d.there; closed = false }
 
@@ -85,7 +85,7 @@ with_row table n row = λ m v. if m == n then row v else table m v
 -- a node stopped, and its disks keep what this crash leaves: each vBucket is what its records tell, counted nothing yet, and the links that had an end at the node are over
 abbrev pub after_crash : Chronicle → ℕ → Outcome → Chronicle
 after_crash chronicle n out =
-    let left : ℕ → DiskTold = λ v. crashed_disk out (chronicle.disk_at n v) in
+    let left : ℕ → DiskKnown = λ v. crashed_disk out (chronicle.disk_at n v) in
     record chronicle {
       role_at = with_row chronicle.role_at n (λ v. Some (resting (left v).book));
       held = with_row chronicle.held n (λ v. upto (chronicle.held n v) (place_of (left v).book).at);
@@ -95,7 +95,7 @@ after_crash chronicle n out =
       snap_at = with_row chronicle.snap_at n (λ v. Some ((place_of (left v).book).ss, (place_of (left v).book).se));
       disk_at = with_row chronicle.disk_at n left;
       counts_at = with_row chronicle.counts_at n (λ v. alone);
-      arm_at = with_id chronicle.arm_at n down_told;
+      arm_at = with_id chronicle.arm_at n known_down;
       dial_of = λ l. if is_dial_at n (chronicle.dial_of l) then None else chronicle.dial_of l;
       stream_of = λ s w. if is_stream_at chronicle n s then None else chronicle.stream_of s w;
       point_of = λ l. if is_dial_at n (chronicle.dial_of l) then None else chronicle.point_of l;
@@ -107,8 +107,8 @@ after_stop chronicle n = after_crash chronicle n (chronicle.arm_at n).out
 
 -- what an append makes of a disk: where it stands, and where it could not be made; and the record
 pub record Appending : Type 0 where
-  pub stands : DiskTold → DiskTold
-  pub fails : DiskTold → DiskTold
+  pub stands : DiskKnown → DiskKnown
+  pub fails : DiskKnown → DiskKnown
   pub what : Option Record
 
 -- of a role, and of a rollback: nothing but the record
@@ -116,7 +116,7 @@ abbrev pub appending : Record → Appending
 appending r = record { stands = with_record r; fails = λ d. d; what = Some r }
 
 -- of the batch that was taken: it waits to be done, or it is gone
-abbrev pub saving : DiskTold → Appending
+abbrev pub saving : DiskKnown → Appending
 saving d = record { stands = batch_stands d.flushing; fails = batch_gone; what = batch_record d.flushing }
 
 -- the append by the vBucket v of the node n, by the answer of its line: it stands; its journal was closed; or it was broken off, and then the node may have stopped. A line that is refused for another cause appends nothing
@@ -209,7 +209,7 @@ after_up n chronicle = record chronicle { arm_at = with_id chronicle.arm_at n (r
 -- the node's disks were opened, each by one device call: where one of these was hit the node stays down, with its disks as they were
 abbrev pub after_openings : Fuse → Chronicle → ℕ → List Event → Answer → Chronicle
 after_openings before opened n lines said =
-    if is_off (opened.arm_at n).fuse && not (is_off before) then record opened { arm_at = with_id opened.arm_at n down_told }
+    if is_off (opened.arm_at n).fuse && not (is_off before) then record opened { arm_at = with_id opened.arm_at n known_down }
     else if is_short said then opened
     else after_starts (after_restarts (after_up n opened) lines) n said
   where
@@ -243,14 +243,14 @@ after_done chronicle n v (answer.Number saved) = with_disk chronicle n v (record
 after_done chronicle n v other = chronicle
 
 -- the K-th device call of a node from now on is to be hit, none for 0
-abbrev pub stop_told : ℕ → Outcome → ArmTold
-stop_told k out = if k == 0 then no_arm else record { fuse = Stop k; out = out; down = false }
+abbrev pub known_stop : ℕ → Outcome → ArmKnown
+known_stop k out = if k == 0 then no_arm else record { fuse = Stop k; out = out; down = false }
 
-abbrev pub fail_told : ℕ → ArmTold
-fail_told k = if k == 0 then no_arm else record { fuse = Fail k; out = Old; down = false }
+abbrev pub known_fail : ℕ → ArmKnown
+known_fail k = if k == 0 then no_arm else record { fuse = Fail k; out = Old; down = false }
 
 -- the node has this arm, and runs or is down as before
-abbrev pub after_armed : Chronicle → ℕ → ArmTold → Answer → Chronicle
+abbrev pub after_armed : Chronicle → ℕ → ArmKnown → Answer → Chronicle
 after_armed chronicle n arm answer.Ok = record chronicle { arm_at = with_id chronicle.arm_at n (record arm { down = (chronicle.arm_at n).down }) }
 after_armed chronicle n arm other = chronicle
 
@@ -281,8 +281,8 @@ after_verb before chronicle (verb.AtVb n v vb_verb.Follow) lines said = after_no
 after_verb before chronicle (verb.AtVb n v vb_verb.Dead) lines said = after_noted chronicle n v role.Dead said
 after_verb before chronicle (verb.AtVb n v vb_verb.Seal) lines said = after_seal chronicle n v said
 after_verb before chronicle (verb.AtVb n v vb_verb.Save) lines said = after_append chronicle n v (saving (chronicle.disk_at n v)) said
-after_verb before chronicle (verb.AtNode n (node_verb.Stop call out)) lines said = after_armed chronicle n (stop_told call out) said
-after_verb before chronicle (verb.AtNode n (node_verb.Fail call)) lines said = after_armed chronicle n (fail_told call) said
+after_verb before chronicle (verb.AtNode n (node_verb.Stop call out)) lines said = after_armed chronicle n (known_stop call out) said
+after_verb before chronicle (verb.AtNode n (node_verb.Fail call)) lines said = after_armed chronicle n (known_fail call) said
 after_verb before chronicle (verb.AtNode n (node_verb.Crash out)) lines said = after_crashed chronicle n out said
 after_verb before chronicle (verb.AtNode n (node_verb.Start uuids)) lines said = after_start chronicle n lines said
 after_verb before chronicle other lines said = chronicle

@@ -8,11 +8,11 @@ use Rattle.vb_events.specs.declared.event.Answer.TheVariants as answer
 use Rattle.vb_events.specs.declared.event.Cause.{Cause}
 use Rattle.vb_events.specs.declared.event.Event.{Event}
 use Rattle.vb_events.specs.declared.event.Event.TheVariants as event
-use Rattle.transcript_law.specs.{Crashes.{Said, numbered, ok, told_from}, Lawfulness.{Lawful}}
+use Rattle.transcript_law.specs.{Crashes.{Said, numbered, ok, groups_from_number}, Lawfulness.{Lawful}}
 
 -- the connection 1 of the node 0 is opened, these lines come, and that is told of them
 abbrev pub LawfulOpened : List Verb → List Said → Type 0
-LawfulOpened lines told = Lawful (numbered 1 (verb.Node 0 ∷ verb.AtClient 0 1 client_verb.Open ∷ lines)) (told_from 1 (ok [] ∷ ok [] ∷ told))
+LawfulOpened lines told = Lawful (numbered 1 (verb.Node 0 ∷ verb.AtClient 0 1 client_verb.Open ∷ lines)) (groups_from_number 1 (ok [] ∷ ok [] ∷ told))
 
 -- a client's lines over the connection c of that node
 abbrev pub opens : ℕ → Verb

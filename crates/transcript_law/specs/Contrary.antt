@@ -21,9 +21,9 @@ use Rattle.vb_types.specs.declared.role.Role.{Role}
 use Rattle.vb_types.specs.declared.role.Role.TheVariants as role
 use Rattle.vb_calls.specs.Plain.{Plain}
 use Rattle.transcript_law.specs.Chronicles.{Chronicle, blank_disk, empty_chronicle, after_lines, after_dial}
-use Rattle.transcript_law.specs.Followers.{after_both, next_change, log_of, ask_above, made_from, asked_of_made, after_got, based, both_changed, granted_told, adopted_told, both_told}
-use Rattle.transcript_law.specs.Rollbacks.{rolled_told, made_log, after_active, after_dead}
-use Rattle.transcript_law.specs.Transcripts.{active_told, first_doc, script_line, set_line, group_told, group_answered, change_told, one_change, value_told}
+use Rattle.transcript_law.specs.Followers.{after_both, next_change, log_of, ask_above, made_from, made_ask_lines, after_got, based, both_changed, granted_lines, adopted_lines, both_sent_lines}
+use Rattle.transcript_law.specs.Rollbacks.{rolled_lines, made_log, after_active, after_dead}
+use Rattle.transcript_law.specs.Transcripts.{active_vb_lines, first_doc, script_line, set_line, group_done, group_answered, change_line, one_change, value_lines}
 
 -- what was read when the active vBucket of the branch 5, which has no change yet, holds a later change than its first one
 abbrev pub later_held : Chronicle
@@ -43,7 +43,7 @@ dialed_anew before = after_dial (after_lines before link_over) 1 0 1 0 answer.Ok
 
 -- what was read when a follower got the one change of its branch and another branch was made, and no log is known any more
 abbrev pub log_forgotten : Chronicle
-log_forgotten = record (after_lines after_got (active_told 1 6)) { log_at = λ n v. None }
+log_forgotten = record (after_lines after_got (active_vb_lines 1 6)) { log_at = λ n v. None }
 
 -- that follower with the log of the other branch
 abbrev pub strange : Plain
@@ -62,24 +62,24 @@ abbrev pub prepare_shown : List Event → List Event
 prepare_shown lines = event.Shown 0 0 role.Active 5 1 1 1 0 1 ∷ lines
 
 -- the line of the key's prepare
-abbrev pub prepare_told : ℕ → Level → List Event
-prepare_told seq said = event.Prepared (7 ∷ []) seq said ∷ []
+abbrev pub prepare_lines : ℕ → Level → List Event
+prepare_lines seq said = event.Prepared (7 ∷ []) seq said ∷ []
 
 -- what was read when a follower took over the log of the branch 7, which was made from the branch 5 at 1
 abbrev pub after_taken : Chronicle
-after_taken = after_lines (made_from 5) (asked_of_made 0 ask_answer.Go ++ event.Adopted 1 0 made_log ∷ [])
+after_taken = after_lines (made_from 5) (made_ask_lines 0 ask_answer.Go ++ event.Adopted 1 0 made_log ∷ [])
 
 -- and when it went back to 0 then
 abbrev pub after_back : Chronicle
-after_back = after_lines after_taken (rolled_told 1 0)
+after_back = after_lines after_taken (rolled_lines 1 0)
 
 -- that follower's failover log
 abbrev pub taken_log : List LogEntry → List Event
 taken_log log = event.Logged 1 0 log ∷ []
 
 -- another link asks a replica of both changes, which refuses by this log
-abbrev pub asked_by : List LogEntry → List Event
-asked_by log = event.Asked (name.Link 2) 1 0 (ask_above 0 0) 2 log (ask_answer.Refuse 7) ∷ []
+abbrev pub refused_ask_lines : List LogEntry → List Event
+refused_ask_lines log = event.Asked (name.Link 2) 1 0 (ask_above 0 0) 2 log (ask_answer.Refuse 7) ∷ []
 
 -- what was read when the vBucket 0 follows, after it was active
 abbrev pub after_follow : Chronicle
@@ -87,31 +87,31 @@ after_follow = after_lines after_active (event.Role 0 0 role.Replica ∷ [])
 
 -- and when it was dead, and was made active again on the branch 7
 abbrev pub after_promote : Chronicle
-after_promote = after_lines after_dead (active_told 0 7)
+after_promote = after_lines after_dead (active_vb_lines 0 7)
 
 -- the marker of the same snapshot, as if it was taken from disk
 abbrev pub disk_marker : List Event
 disk_marker = event.Marked (name.Link 1) 0 2 2 ∷ []
 
 -- the end of the link's stream, as if the end that was asked for was reached
-abbrev pub done_told : List Event
-done_told = event.Finished (name.Link 1) 0 ∷ []
+abbrev pub done_lines : List Event
+done_lines = event.Finished (name.Link 1) 0 ∷ []
 
 -- what was read when a replica's request was granted, it took the log over, and these lines told what its producer put
-abbrev pub sent_told : List Event → Chronicle
-sent_told sent = after_lines (after_dial empty_chronicle 1 0 1 0 answer.Ok) (active_told 0 5 ++ event.Role 1 0 role.Replica ∷ both_changed ++ granted_told ++ adopted_told 5 ++ sent)
+abbrev pub sent_known : List Event → Chronicle
+sent_known sent = after_lines (after_dial empty_chronicle 1 0 1 0 answer.Ok) (active_vb_lines 0 5 ++ event.Role 1 0 role.Replica ∷ both_changed ++ granted_lines ++ adopted_lines 5 ++ sent)
 
 -- and what was read when it had not taken the log over yet
 abbrev pub unadopted : Chronicle
-unadopted = after_lines (after_dial empty_chronicle 1 0 1 0 answer.Ok) (active_told 0 5 ++ event.Role 1 0 role.Replica ∷ both_changed ++ granted_told ++ both_told)
+unadopted = after_lines (after_dial empty_chronicle 1 0 1 0 answer.Ok) (active_vb_lines 0 5 ++ event.Role 1 0 role.Replica ∷ both_changed ++ granted_lines ++ both_sent_lines)
 
 -- a vBucket of the node 1 takes a marker
-abbrev pub range_told : ℕ → ℕ → ℕ → List Event
-range_told v ss se = event.Ranged 1 v ss se ∷ []
+abbrev pub range_lines : ℕ → ℕ → ℕ → List Event
+range_lines v ss se = event.Ranged 1 v ss se ∷ []
 
 -- the replica takes a change from this link
-abbrev pub got_told : ℕ → Change → List Event
-got_told l change = event.Got 1 0 (name.Link l) change ∷ []
+abbrev pub got_lines : ℕ → Change → List Event
+got_lines l change = event.Got 1 0 (name.Link l) change ∷ []
 
 -- a first change of another key than the branch's first
 abbrev pub strange_change : Change
@@ -124,32 +124,32 @@ set_and_sealed =
     ∷ set_line 4 (7 ∷ []) (8 ∷ []) ∷ script_line 5 (verb.AtVb 0 0 vb_verb.Seal) ∷ script_line 6 (verb.AtVb 0 0 vb_verb.Seal) ∷ []
 
 -- what is told of that script, with these answers of the seals
-abbrev pub sealed_told : ℕ → ℕ → List Group
-sealed_told first next =
-    group_told 1 [] ∷ group_told 2 [] ∷ group_told 3 (active_told 0 5) ∷ group_told 4 (change_told 0 ∷ [])
+abbrev pub sealed_groups : ℕ → ℕ → List Group
+sealed_groups first next =
+    group_done 1 [] ∷ group_done 2 [] ∷ group_done 3 (active_vb_lines 0 5) ∷ group_done 4 (change_line 0 ∷ [])
     ∷ group_answered 5 [] (answer.Number first) ∷ group_answered 6 [] (answer.Number next) ∷ []
 
 -- what was read when the vBucket 0 made a change and was dead then
 abbrev pub after_dead_changed : Chronicle
-after_dead_changed = after_lines after_active (change_told 0 ∷ event.Role 0 0 role.Dead ∷ [])
+after_dead_changed = after_lines after_active (change_line 0 ∷ event.Role 0 0 role.Dead ∷ [])
 
 -- a dead vBucket becomes active on the branch 7, and this is told of it, behind this number
 abbrev pub promotes_dead : List ScriptLine
 promotes_dead = script_line 1 (verb.AtVb 0 0 (vb_verb.Promote 7)) ∷ []
 
-abbrev pub promoted_told : ℕ → List Event → Answer → List Group
-promoted_told number lines said = group_answered number lines said ∷ []
+abbrev pub promoted_groups : ℕ → List Event → Answer → List Group
+promoted_groups number lines said = group_answered number lines said ∷ []
 
-abbrev pub risen_told : List Event
-risen_told = event.Branch 0 0 7 (Some 5) 0 0 ∷ event.Role 0 0 role.Active ∷ []
+abbrev pub risen_lines : List Event
+risen_lines = event.Branch 0 0 7 (Some 5) 0 0 ∷ event.Role 0 0 role.Active ∷ []
 
 -- a vBucket whose log names the branch 6 alone, though it is on another one
 abbrev pub logged_six : Chronicle → Chronicle
-logged_six before = record (after_lines before (active_told 1 6)) { log_at = λ n v. Some (log_of 6) }
+logged_six before = record (after_lines before (active_vb_lines 1 6)) { log_at = λ n v. Some (log_of 6) }
 
 -- the replica inside the snapshot, shown with this newest branch
 abbrev pub inside_newest : ℕ → List Event
-inside_newest uuid = event.Shown 1 0 role.Replica uuid 1 0 2 1 0 ∷ value_told (8 ∷ [])
+inside_newest uuid = event.Shown 1 0 role.Replica uuid 1 0 2 1 0 ∷ value_lines (8 ∷ [])
 
 -- a branch of it that leaves so
 abbrev pub branch_left : Option ℕ → ℕ → ℕ → List Event
@@ -161,7 +161,7 @@ branch_inside fork = event.Branch 1 0 7 (Some 5) fork 1 ∷ []
 
 -- what was read when the replica took the first change of two, inside their snapshot, and when it was dead then
 abbrev pub inside_got : Chronicle
-inside_got = after_lines (sent_told both_told) (range_told 0 0 2 ++ got_told 1 one_change)
+inside_got = after_lines (sent_known both_sent_lines) (range_lines 0 0 2 ++ got_lines 1 one_change)
 
 abbrev pub inside_dead : Chronicle
 inside_dead = after_lines inside_got (event.Role 1 0 role.Dead ∷ [])
@@ -172,7 +172,7 @@ inside_active = after_lines inside_got (event.Role 1 0 role.Active ∷ [])
 
 -- that one shown with its change, in this snapshot
 abbrev pub active_shown : ℕ → ℕ → List Event
-active_shown ss se = event.Shown 1 0 role.Active 5 1 ss se 1 0 ∷ value_told (8 ∷ [])
+active_shown ss se = event.Shown 1 0 role.Active 5 1 ss se 1 0 ∷ value_lines (8 ∷ [])
 
 -- it is shown in this role, at this seqno in the snapshot from 0 to `se`, with so many documents and with these lines
 abbrev pub inside_shown : Role → ℕ → ℕ → ℕ → List Event → List Event
@@ -183,12 +183,12 @@ abbrev pub acknowledged_saved : ℕ → ℕ → ℕ → List Event
 acknowledged_saved l seq saved = event.Acknowledged (name.Link l) 1 0 seq saved ∷ []
 
 -- the same with nothing written down
-abbrev pub acknowledged_told : ℕ → ℕ → List Event
-acknowledged_told l seq = acknowledged_saved l seq 0
+abbrev pub acknowledged_lines : ℕ → ℕ → List Event
+acknowledged_lines l seq = acknowledged_saved l seq 0
 
 -- the vBucket that dialed the link 2, of which no stream was granted, acknowledges nothing over it
-abbrev pub ungranted_told : List Event
-ungranted_told = event.Acknowledged (name.Link 2) 2 0 0 0 ∷ []
+abbrev pub ungranted_lines : List Event
+ungranted_lines = event.Acknowledged (name.Link 2) 2 0 0 0 ∷ []
 
 -- what was read when the branch 5 has these changes alone, and each vBucket holds them
 abbrev pub all_have : List Change → Chronicle
@@ -220,7 +220,7 @@ first_lost = record after_both { held = λ n v. next_change ∷ [] }
 
 -- what was read when the replica acknowledged all up to a seqno over the link 1
 abbrev pub after_ack : ℕ → Chronicle
-after_ack seq = after_lines after_both (acknowledged_told 1 seq)
+after_ack seq = after_lines after_both (acknowledged_lines 1 seq)
 
 -- as if the node 0 had dialed each link itself
 abbrev pub dialed_itself : Chronicle
@@ -231,19 +231,19 @@ abbrev pub dialed_by_another : Chronicle
 dialed_by_another = after_dial (after_ack 2) 1 0 2 0 answer.Ok
 
 abbrev pub granted_anew : Chronicle
-granted_anew = after_lines (dialed_anew (after_ack 2)) granted_told
+granted_anew = after_lines (dialed_anew (after_ack 2)) granted_lines
 
 -- what was read when the replica had both changes, as if it was on the branch 9
 abbrev pub on_another : Chronicle
 on_another = record after_both { branch_at = λ n v. Some 9 }
 
 -- the active vBucket of the node 0 counts it as this member's
-abbrev pub counted_told : ℕ → ℕ → List Event
-counted_told member seq = event.Counted (name.Link 1) 0 0 member seq ∷ []
+abbrev pub counted_lines : ℕ → ℕ → List Event
+counted_lines member seq = event.Counted (name.Link 1) 0 0 member seq ∷ []
 
 -- it is put on the branch 7, which it makes at its second change
-abbrev pub made_told : List Event
-made_told = event.Branch 0 0 7 (Some 5) 2 2 ∷ []
+abbrev pub new_branch_lines : List Event
+new_branch_lines = event.Branch 0 0 7 (Some 5) 2 2 ∷ []
 
 -- what was read when the replica had both changes and that vBucket was made dead
 abbrev pub after_both_dead : Chronicle → Chronicle

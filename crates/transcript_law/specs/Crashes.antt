@@ -23,13 +23,13 @@ use Rattle.vb_types.specs.declared.journal.Record.TheVariants as noted
 use Rattle.vb_types.specs.declared.role.LogEntry.{LogEntry}
 use Rattle.vb_types.specs.declared.role.Role.{Role}
 use Rattle.vb_types.specs.declared.role.Role.TheVariants as role
-use Rattle.transcript_law.specs.Chronicles.{Chronicle, Idle, told_batch}
+use Rattle.transcript_law.specs.Chronicles.{Chronicle, Idle, known_batch}
 use Rattle.transcript_law.specs.Contrary.{after_back}
 use Rattle.transcript_law.specs.Followers.{next_change}
 use Rattle.transcript_law.specs.Journals.{within}
 use Rattle.transcript_law.specs.Lawfulness.{Lawful}
 use Rattle.transcript_law.specs.Rollbacks.{made_log}
-use Rattle.transcript_law.specs.Transcripts.{first_doc, script_line, set_frame, set_line, group_answered, group_told, active_told, change_told, shown_one, value_told}
+use Rattle.transcript_law.specs.Transcripts.{first_doc, script_line, set_frame, set_line, group_answered, group_done, active_vb_lines, change_line, shown_with_change, value_lines}
 
 -- what is told of a line: its event lines and its answer
 abbrev pub Said : Type 0
@@ -45,9 +45,9 @@ numbered n [] = []
 numbered n (said ∷ more) = script_line n said ∷ numbered (n + 1) more
 
 -- what is told of them
-abbrev pub told_from : ℕ → List Said → List Group
-told_from n [] = []
-told_from n (said ∷ more) = group_answered n said.0 said.1 ∷ told_from (n + 1) more
+abbrev pub groups_from_number : ℕ → List Said → List Group
+groups_from_number n [] = []
+groups_from_number n (said ∷ more) = group_answered n said.0 said.1 ∷ groups_from_number (n + 1) more
 
 -- the key 7 is set on the branch 5, which makes the one change of its vBucket, and then come these lines
 abbrev pub one_made : List Verb → List ScriptLine
@@ -56,13 +56,13 @@ one_made more =
     ∷ set_line 4 (7 ∷ []) (8 ∷ []) ∷ numbered 5 more
 
 -- what is told of that script
-abbrev pub one_made_told : List Said → List Group
-one_made_told more =
-    group_told 1 [] ∷ group_told 2 [] ∷ group_told 3 (active_told 0 5) ∷ group_told 4 (change_told 0 ∷ []) ∷ told_from 5 more
+abbrev pub one_made_groups : List Said → List Group
+one_made_groups more =
+    group_done 1 [] ∷ group_done 2 [] ∷ group_done 3 (active_vb_lines 0 5) ∷ group_done 4 (change_line 0 ∷ []) ∷ groups_from_number 5 more
 
 -- that transcript is lawful
 abbrev pub LawfulAfter : List Verb → List Said → Type 0
-LawfulAfter lines told = Lawful (one_made lines) (one_made_told told)
+LawfulAfter lines told = Lawful (one_made lines) (one_made_groups told)
 
 -- ---- what is told of single lines
 
@@ -98,7 +98,7 @@ abbrev pub none_shown : Role → ℕ → Said
 none_shown said uuid = ok (event.Shown 0 0 said uuid 0 0 0 0 0 ∷ [])
 
 abbrev pub one_shown : Role → ℕ → Said
-one_shown said uuid = ok (shown_one said uuid 1 0 (value_told (8 ∷ [])))
+one_shown said uuid = ok (shown_with_change said uuid 1 0 (value_lines (8 ∷ [])))
 
 -- its numbers after a restart: so much counts as saved, of as much that it holds
 abbrev pub stat_of : ℕ → ℕ → Said
@@ -110,62 +110,62 @@ stat_of saved high = ok (event.Stat 0 0 0 0 1 saved high ∷ [])
 abbrev pub save_under : Verb → List Verb
 save_under arm = verb.AtVb 0 0 vb_verb.Take ∷ arm ∷ verb.AtVb 0 0 vb_verb.Save ∷ []
 
-abbrev pub save_under_told : Said → List Said
-save_under_told said = took ∷ ok [] ∷ said ∷ []
+abbrev pub save_under_groups : Said → List Said
+save_under_groups said = took ∷ ok [] ∷ said ∷ []
 
 -- the vBucket turns dead under an arm, and then this comes
 abbrev pub dead_under : Verb → Verb → List Verb
 dead_under arm next = arm ∷ verb.AtVb 0 0 vb_verb.Dead ∷ next ∷ []
 
-abbrev pub dead_under_told : Said → Said → List Said
-dead_under_told dead next = ok [] ∷ dead ∷ next ∷ []
+abbrev pub dead_under_groups : Said → Said → List Said
+dead_under_groups dead next = ok [] ∷ dead ∷ next ∷ []
 
 -- an arm that hits the call behind those of one append: the change is written down, and then the vBucket turns dead
 abbrev pub save_and_dead : List Verb
 save_and_dead = verb.AtVb 0 0 vb_verb.Take ∷ verb.AtNode 0 (node_verb.Fail 5) ∷ verb.AtVb 0 0 vb_verb.Save ∷ verb.AtVb 0 0 vb_verb.Dead ∷ []
 
-abbrev pub save_and_dead_told : Said → List Said
-save_and_dead_told dead = took ∷ ok [] ∷ ok [] ∷ dead ∷ []
+abbrev pub save_and_dead_groups : Said → List Said
+save_and_dead_groups dead = took ∷ ok [] ∷ ok [] ∷ dead ∷ []
 
 -- there is an arm that nothing met, and the node crashes and starts
 abbrev pub crash_under : Verb → List Verb
 crash_under arm = arm ∷ verb.AtNode 0 (node_verb.Crash Old) ∷ verb.AtNode 0 (node_verb.Start (7 ∷ [])) ∷ []
 
-abbrev pub crash_under_told : Said → List Said
-crash_under_told started = ok [] ∷ crashed ∷ started ∷ []
+abbrev pub crash_under_groups : Said → List Said
+crash_under_groups started = ok [] ∷ crashed ∷ started ∷ []
 
 -- ---- what a crash leaves
 
 -- these lines come, the node crashes and starts, and then comes one more
-abbrev pub crashed_after : List Verb → Outcome → List ℕ → Verb → List Verb
-crashed_after lines out uuids last = lines ++ verb.AtNode 0 (node_verb.Crash out) ∷ verb.AtNode 0 (node_verb.Start uuids) ∷ last ∷ []
+abbrev pub crash_behind : List Verb → Outcome → List ℕ → Verb → List Verb
+crash_behind lines out uuids last = lines ++ verb.AtNode 0 (node_verb.Crash out) ∷ verb.AtNode 0 (node_verb.Start uuids) ∷ last ∷ []
 
-abbrev pub crashed_after_told : List Said → Said → Said → List Said
-crashed_after_told lines started last = lines ++ crashed ∷ started ∷ last ∷ []
+abbrev pub crash_behind_groups : List Said → Said → Said → List Said
+crash_behind_groups lines started last = lines ++ crashed ∷ started ∷ last ∷ []
 
 -- its lines in front of the crash, where the change is taken, written down, and counts as saved
 abbrev pub to_save : List Verb
 to_save = verb.AtVb 0 0 vb_verb.Take ∷ verb.AtVb 0 0 vb_verb.Save ∷ []
 
-abbrev pub saved_told : List Said
-saved_told = took ∷ ok [] ∷ []
+abbrev pub saved_groups : List Said
+saved_groups = took ∷ ok [] ∷ []
 
 abbrev pub to_done : List Verb
 to_done = verb.AtVb 0 0 vb_verb.Take ∷ verb.AtVb 0 0 vb_verb.Save ∷ verb.AtVb 0 0 vb_verb.Done ∷ []
 
-abbrev pub counted_told : List Said
-counted_told = took ∷ ok [] ∷ ([], answer.Number 1) ∷ []
+abbrev pub counted_groups : List Said
+counted_groups = took ∷ ok [] ∷ ([], answer.Number 1) ∷ []
 
 -- the node stops inside a call of the save, starts, and then comes one more line
 abbrev pub stopped_in : ℕ → Outcome → Verb → List Verb
 stopped_in k out last = verb.AtVb 0 0 vb_verb.Take ∷ verb.AtNode 0 (node_verb.Stop k out) ∷ verb.AtVb 0 0 vb_verb.Save ∷ verb.AtNode 0 (node_verb.Start (7 ∷ [])) ∷ last ∷ []
 
-abbrev pub stopped_in_told : ℕ → Said → List Said
-stopped_in_told at last = took ∷ ok [] ∷ stopped_behind [] ∷ restarted at ∷ last ∷ []
+abbrev pub stopped_in_groups : ℕ → Said → List Said
+stopped_in_groups at last = took ∷ ok [] ∷ stopped_behind [] ∷ restarted at ∷ last ∷ []
 
 -- what was read when a replica wrote the log of the branch 7 down, with the two changes of a snapshot, and went back to 0 then
 abbrev pub back_noted : List Record
-back_noted = noted.Roll 0 ∷ noted.Rows (told_batch (within 2 2) made_log) ∷ noted.State role.Replica [] ∷ []
+back_noted = noted.Roll 0 ∷ noted.Rows (known_batch (within 2 2) made_log) ∷ noted.State role.Replica [] ∷ []
 
 abbrev pub after_noted_back : Chronicle
 after_noted_back = record after_back { disk_at = λ n v. record { flushing = Idle; book = back_noted; late = None; saved = 0; there = true; closed = false } }
@@ -174,24 +174,24 @@ after_noted_back = record after_back { disk_at = λ n v. record { flushing = Idl
 abbrev pub log_after_crash : List ScriptLine
 log_after_crash = numbered 1 (verb.AtNode 1 (node_verb.Crash Old) ∷ verb.AtNode 1 (node_verb.Start []) ∷ verb.AtVb 1 0 vb_verb.Log ∷ [])
 
-abbrev pub log_after_crash_told : List LogEntry → List Group
-log_after_crash_told log = told_from 1 (ok [] ∷ ok [] ∷ ok (event.Logged 1 0 log ∷ []) ∷ [])
+abbrev pub log_after_crash_groups : List LogEntry → List Group
+log_after_crash_groups log = groups_from_number 1 (ok [] ∷ ok [] ∷ ok (event.Logged 1 0 log ∷ []) ∷ [])
 
 -- ---- vBuckets that come back
 
 -- the vBucket turns dead under an arm that fails a call, and the node crashes and starts
-abbrev pub dead_unnoted : Outcome → List Verb
-dead_unnoted out = verb.AtNode 0 (node_verb.Fail 4) ∷ verb.AtVb 0 0 vb_verb.Dead ∷ verb.AtNode 0 (node_verb.Crash out) ∷ verb.AtNode 0 (node_verb.Start (7 ∷ [])) ∷ verb.AtVb 0 0 vb_verb.Show ∷ []
+abbrev pub dead_unwritten : Outcome → List Verb
+dead_unwritten out = verb.AtNode 0 (node_verb.Fail 4) ∷ verb.AtVb 0 0 vb_verb.Dead ∷ verb.AtNode 0 (node_verb.Crash out) ∷ verb.AtNode 0 (node_verb.Start (7 ∷ [])) ∷ verb.AtVb 0 0 vb_verb.Show ∷ []
 
-abbrev pub dead_unnoted_told : Said → Said → List Said
-dead_unnoted_told started shown = ok [] ∷ failed_behind (dead_line ∷ []) ∷ crashed ∷ started ∷ shown ∷ []
+abbrev pub dead_unwritten_groups : Said → Said → List Said
+dead_unwritten_groups started shown = ok [] ∷ failed_behind (dead_line ∷ []) ∷ crashed ∷ started ∷ shown ∷ []
 
 -- the vBucket wrote its change down, and comes back; a client sets the key 9 then
-abbrev pub set_after : List Verb
-set_after = to_save ++ verb.AtNode 0 (node_verb.Crash Old) ∷ verb.AtNode 0 (node_verb.Start (7 ∷ [])) ∷ verb.AtClient 0 1 client_verb.Open ∷ verb.AtClient 0 1 (client_verb.Bytes (spelling (set_frame (9 ∷ []) (6 ∷ [])))) ∷ []
+abbrev pub set_restarted : List Verb
+set_restarted = to_save ++ verb.AtNode 0 (node_verb.Crash Old) ∷ verb.AtNode 0 (node_verb.Start (7 ∷ [])) ∷ verb.AtClient 0 1 client_verb.Open ∷ verb.AtClient 0 1 (client_verb.Bytes (spelling (set_frame (9 ∷ []) (6 ∷ [])))) ∷ []
 
-abbrev pub set_after_told : ℕ → List Said
-set_after_told uuid = saved_told ++ crashed ∷ restarted 1 ∷ ok [] ∷ ok (event.Changed 0 0 uuid next_change ∷ []) ∷ []
+abbrev pub set_restarted_groups : ℕ → List Said
+set_restarted_groups uuid = saved_groups ++ crashed ∷ restarted 1 ∷ ok [] ∷ ok (event.Changed 0 0 uuid next_change ∷ []) ∷ []
 
 -- the key 9 is prepared, and committed, as a prepare of this seqno
 abbrev pub prepared : Change
@@ -201,16 +201,16 @@ abbrev pub commit_of : ℕ → Change
 commit_of n = record { seq = 3; key = 9 ∷ []; act = act.Commit n (first_doc 2 (6 ∷ [])) false }
 
 -- the vBucket wrote a prepare down, and comes back; then it is sealed
-abbrev pub seal_after : List Verb
-seal_after = verb.AtClient 0 1 (client_verb.Bytes []) ∷ to_save ++ verb.AtNode 0 (node_verb.Crash Old) ∷ verb.AtNode 0 (node_verb.Start (7 ∷ [])) ∷ verb.AtVb 0 0 vb_verb.Seal ∷ []
+abbrev pub seal_restarted : List Verb
+seal_restarted = verb.AtClient 0 1 (client_verb.Bytes []) ∷ to_save ++ verb.AtNode 0 (node_verb.Crash Old) ∷ verb.AtNode 0 (node_verb.Start (7 ∷ [])) ∷ verb.AtVb 0 0 vb_verb.Seal ∷ []
 
 -- these lines are told as its node starts
-abbrev pub seal_after_told : List Event → List Said
-seal_after_told lines = ok (event.Changed 0 0 5 prepared ∷ []) ∷ (event.Batch 0 0 2 2 2 2 ∷ [], answer.Number 2) ∷ ok [] ∷ crashed ∷ ok lines ∷ ([], answer.Number 1) ∷ []
+abbrev pub seal_restarted_groups : List Event → List Said
+seal_restarted_groups lines = ok (event.Changed 0 0 5 prepared ∷ []) ∷ (event.Batch 0 0 2 2 2 2 ∷ [], answer.Number 2) ∷ ok [] ∷ crashed ∷ ok lines ∷ ([], answer.Number 1) ∷ []
 
 -- a vBucket is made under an arm that fails this call, and the node crashes and starts
 abbrev pub made_under : ℕ → Outcome → List ScriptLine
 made_under k out = numbered 1 (verb.Node 0 ∷ verb.AtNode 0 (node_verb.Fail k) ∷ verb.AtVb 0 0 (vb_verb.MakeActive 5) ∷ verb.AtNode 0 (node_verb.Crash out) ∷ verb.AtNode 0 (node_verb.Start (7 ∷ [])) ∷ verb.AtVb 0 0 vb_verb.Show ∷ [])
 
-abbrev pub made_under_told : Said → Said → List Group
-made_under_told started shown = told_from 1 (ok [] ∷ ok [] ∷ failed_behind (active_told 0 5) ∷ ok [] ∷ started ∷ shown ∷ [])
+abbrev pub made_under_groups : Said → Said → List Group
+made_under_groups started shown = groups_from_number 1 (ok [] ∷ ok [] ∷ failed_behind (active_vb_lines 0 5) ∷ ok [] ∷ started ∷ shown ∷ [])

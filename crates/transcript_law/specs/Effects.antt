@@ -11,7 +11,7 @@ use Rattle.vb_types.specs.declared.role.Role.{Role}
 use Rattle.transcript_law.specs.Chronicles.{Chronicle, after_group, after_lines, no_arm}
 use Rattle.transcript_law.specs.Followers.{log_of}
 use Rattle.transcript_law.specs.Rollbacks.{after_active}
-use Rattle.transcript_law.specs.Transcripts.{change_told}
+use Rattle.transcript_law.specs.Transcripts.{change_line}
 
 -- behind this line, of which this is told, these records of the vBucket 0 of the node 0 stand
 abbrev pub Notes : Chronicle → Verb → List Event → Answer → List Record → Type 0
@@ -34,8 +34,8 @@ abbrev pub role_line : Role → List Event
 role_line said = event.Role 0 0 said ∷ []
 
 -- what was read when the branch 5 has its one change
-abbrev pub after_change_told : Chronicle
-after_change_told = after_lines after_active (change_told 0 ∷ [])
+abbrev pub after_change_known : Chronicle
+after_change_known = after_lines after_active (change_line 0 ∷ [])
 
 -- a vBucket takes the log of the branch 5 over
 abbrev pub adopts_at : ℕ → ℕ → List Event

@@ -10,28 +10,28 @@ use Rattle.vb_events.specs.declared.event.Cause.TheVariants as cause
 use Rattle.vb_events.specs.declared.event.Event.{Event}
 use Rattle.vb_events.specs.declared.event.Event.TheVariants as event
 use Rattle.transcript_law.specs.{Chronicles.{Chronicle, after_dial, with_point}, ClosedJournals.{sent_back_for}, Lawfulness.{LawfulGroups}}
-use Rattle.transcript_law.specs.Crashes.{Said, crashed, numbered, ok, save_under, save_under_told, told_from}
+use Rattle.transcript_law.specs.Crashes.{Said, crashed, numbered, ok, save_under, save_under_groups, groups_from_number}
 
 -- the vBucket is sealed while a call of its node is to fail
 abbrev pub seal_under : List Verb
 seal_under = verb.AtNode 0 (node_verb.Fail 7) ∷ verb.AtVb 0 0 vb_verb.Seal ∷ []
 
-abbrev pub seal_under_told : Said → List Said
-seal_under_told sealed = ok [] ∷ sealed ∷ []
+abbrev pub seal_under_groups : Said → List Said
+seal_under_groups sealed = ok [] ∷ sealed ∷ []
 
 -- the change is written down while a call of that node and one of another are to fail
 abbrev pub two_armed : List Verb
 two_armed = verb.Node 1 ∷ verb.AtNode 1 (node_verb.Fail 1) ∷ save_under (verb.AtNode 0 (node_verb.Fail 1))
 
-abbrev pub two_armed_told : Said → List Said
-two_armed_told said = ok [] ∷ ok [] ∷ save_under_told said
+abbrev pub two_armed_groups : Said → List Said
+two_armed_groups said = ok [] ∷ ok [] ∷ save_under_groups said
 
 -- the node crashes, and starts under an arm
 abbrev pub start_under : Verb → List Verb
 start_under arm = verb.AtNode 0 (node_verb.Crash Old) ∷ arm ∷ verb.AtNode 0 (node_verb.Start (7 ∷ [])) ∷ []
 
-abbrev pub start_under_told : Said → List Said
-start_under_told started = crashed ∷ ok [] ∷ started ∷ []
+abbrev pub start_under_groups : Said → List Said
+start_under_groups started = crashed ∷ ok [] ∷ started ∷ []
 
 -- the same with no id, where one is needed
 abbrev pub start_short : Verb → List Verb
@@ -51,4 +51,4 @@ other_back = event.Rolled 1 1 1 0
 
 -- this line comes next, and that is told of it
 abbrev pub LawfulNext : Verb → Said → Type 0
-LawfulNext line told = LawfulGroups both_sent_back (numbered 1 (line ∷ [])) (told_from 1 (told ∷ []))
+LawfulNext line told = LawfulGroups both_sent_back (numbered 1 (line ∷ [])) (groups_from_number 1 (told ∷ []))

@@ -28,8 +28,8 @@ use Rattle.vb_calls.specs.Durable.{prepared_vb}
 use Rattle.vb_calls.specs.Plain.{Plain, new_vb}
 use Rattle.node_world.specs.World.{PlainWorld, empty_world, with_node_at, empty_node}
 use Rattle.transcript_law.specs.Chronicles.{Chronicle, empty_chronicle, after_lines, after_dial}
-use Rattle.transcript_law.specs.LineAnswers.{frames_told}
-use Rattle.transcript_law.specs.Transcripts.{script_line, set_line, set_write, group_answered, group_told, active_told, first_doc, one_change, change_told}
+use Rattle.transcript_law.specs.LineAnswers.{frames_in_lines}
+use Rattle.transcript_law.specs.Transcripts.{script_line, set_line, set_write, group_answered, group_done, active_vb_lines, first_doc, one_change, change_line}
 
 -- two keys are set on the branch 5, and a replica at the node 1 follows over the link 1, and is shown
 abbrev pub two_followed : List ScriptLine
@@ -57,52 +57,52 @@ abbrev pub ask_above : ℕ → ℕ → StreamAsk
 ask_above at uuid = ask_within at at at uuid
 
 -- the link's request is answered, by a vBucket with this last seqno and log
-abbrev pub asked_told : StreamAsk → ℕ → List LogEntry → AskAnswer → List Event
-asked_told ask high log said = event.Asked (name.Link 1) 0 0 ask high log said ∷ []
+abbrev pub ask_lines : StreamAsk → ℕ → List LogEntry → AskAnswer → List Event
+ask_lines ask high log said = event.Asked (name.Link 1) 0 0 ask high log said ∷ []
 
 -- the link asks for the vBucket 1, which is not made and refuses
-abbrev pub other_asked : List Event
-other_asked = event.Asked (name.Link 1) 0 1 (ask_above 0 0) 0 [] (ask_answer.Refuse 7) ∷ []
+abbrev pub other_ask_lines : List Event
+other_ask_lines = event.Asked (name.Link 1) 0 1 (ask_above 0 0) 0 [] (ask_answer.Refuse 7) ∷ []
 
 -- the link ends, and its request is granted after that
-abbrev pub late_asked : List Event
-late_asked = event.Ended 1 reason.Protocol ∷ asked_told (ask_above 0 0) 2 (log_of 5) ask_answer.Go
+abbrev pub late_ask_lines : List Event
+late_ask_lines = event.Ended 1 reason.Protocol ∷ ask_lines (ask_above 0 0) 2 (log_of 5) ask_answer.Go
 
 -- the request of an empty replica is granted
-abbrev pub granted_told : List Event
-granted_told = asked_told (ask_above 0 0) 2 (log_of 5) ask_answer.Go
+abbrev pub granted_lines : List Event
+granted_lines = ask_lines (ask_above 0 0) 2 (log_of 5) ask_answer.Go
 
 -- the replica takes this log over
-abbrev pub adopted_told : ℕ → List Event
-adopted_told uuid = event.Adopted 1 0 (log_of uuid) ∷ []
+abbrev pub adopted_lines : ℕ → List Event
+adopted_lines uuid = event.Adopted 1 0 (log_of uuid) ∷ []
 
 -- a vBucket that did not dial takes the log over
-abbrev pub stranger_told : List Event
-stranger_told = event.Adopted 1 1 (log_of 5) ∷ []
+abbrev pub stranger_lines : List Event
+stranger_lines = event.Adopted 1 1 (log_of 5) ∷ []
 
 -- the link ends, and the replica takes the log over after that
-abbrev pub ended_told : List Event
-ended_told = event.Ended 1 reason.Protocol ∷ adopted_told 5
+abbrev pub ended_lines : List Event
+ended_lines = event.Ended 1 reason.Protocol ∷ adopted_lines 5
 
 -- a marker of the link
-abbrev pub marker_told : ℕ → ℕ → Event
-marker_told start end = event.Marked (name.Link 1) start end 1
+abbrev pub marker_line : ℕ → ℕ → Event
+marker_line start end = event.Marked (name.Link 1) start end 1
 
 -- an item of the link that sets a key
-abbrev pub set_told : ℕ → List ℕ → Event
-set_told seq key = event.Item (name.Link 1) seq item_act.Set key
+abbrev pub set_item_line : ℕ → List ℕ → Event
+set_item_line seq key = event.Item (name.Link 1) seq item_act.Set key
 
 -- the item of the first change
-abbrev pub first_told : Event
-first_told = set_told 1 (7 ∷ [])
+abbrev pub first_item_line : Event
+first_item_line = set_item_line 1 (7 ∷ [])
 
 -- the item of the second change
-abbrev pub next_told : Event
-next_told = set_told 2 (9 ∷ [])
+abbrev pub next_item_line : Event
+next_item_line = set_item_line 2 (9 ∷ [])
 
 -- both changes in one snapshot
-abbrev pub both_told : List Event
-both_told = marker_told 0 2 ∷ first_told ∷ next_told ∷ []
+abbrev pub both_sent_lines : List Event
+both_sent_lines = marker_line 0 2 ∷ first_item_line ∷ next_item_line ∷ []
 
 -- the replica takes them
 abbrev pub both_got : List Event
@@ -129,41 +129,41 @@ abbrev pub both_changed : List Event
 both_changed = event.Changed 0 0 5 one_change ∷ event.Changed 0 0 5 next_change ∷ []
 
 -- what is told of that script, but for replies and counts of bytes: lines of the request, of the log taken over, of snapshots as sent and as got, and of the replica
-abbrev pub followed_told : List Event → List Event → List Event → List Event → List Event → List Group
-followed_told asked adopted sent got shown =
-    group_told 1 [] ∷ group_told 2 [] ∷ group_told 3 []
-    ∷ group_told 4 (active_told 0 5) ∷ group_told 5 (event.Role 1 0 role.Replica ∷ [])
-    ∷ group_told 6 (take 1 both_changed) ∷ group_told 7 (drop 1 both_changed)
-    ∷ group_told 8 [] ∷ group_answered 9 asked (answer.Number 100) ∷ group_answered 10 adopted (answer.Number 100)
-    ∷ group_answered 11 sent (answer.Pulled (frames_told sent) why.Idle) ∷ group_answered 12 got (answer.Number 100) ∷ group_told 13 shown ∷ []
+abbrev pub followed_groups : List Event → List Event → List Event → List Event → List Event → List Group
+followed_groups asked adopted sent got shown =
+    group_done 1 [] ∷ group_done 2 [] ∷ group_done 3 []
+    ∷ group_done 4 (active_vb_lines 0 5) ∷ group_done 5 (event.Role 1 0 role.Replica ∷ [])
+    ∷ group_done 6 (take 1 both_changed) ∷ group_done 7 (drop 1 both_changed)
+    ∷ group_done 8 [] ∷ group_answered 9 asked (answer.Number 100) ∷ group_answered 10 adopted (answer.Number 100)
+    ∷ group_answered 11 sent (answer.Pulled (frames_in_lines sent) why.Idle) ∷ group_answered 12 got (answer.Number 100) ∷ group_done 13 shown ∷ []
 
 -- the request is answered so, and nothing is told of what follows
-abbrev pub asked_so : List Event → List Group
-asked_so asked = followed_told asked [] [] [] []
+abbrev pub ask_groups : List Event → List Group
+ask_groups asked = followed_groups asked [] [] [] []
 
 -- the request is granted, these lines come with its answer, and nothing is told of what follows
 abbrev pub answered_so : List Event → List Group
-answered_so adopted = followed_told granted_told adopted [] [] []
+answered_so adopted = followed_groups granted_lines adopted [] [] []
 
 -- a log of this branch is taken over, and nothing is told of what follows
 abbrev pub adopted_so : ℕ → List Group
-adopted_so uuid = answered_so (adopted_told uuid)
+adopted_so uuid = answered_so (adopted_lines uuid)
 
 -- snapshots are sent so, and nothing is told of what follows
 abbrev pub sent_so : List Event → List Group
-sent_so sent = followed_told granted_told (adopted_told 5) sent [] []
+sent_so sent = followed_groups granted_lines (adopted_lines 5) sent [] []
 
 -- the replica takes this, and is not shown
 abbrev pub got_so : List Event → List Group
-got_so got = followed_told granted_told (adopted_told 5) both_told got []
+got_so got = followed_groups granted_lines (adopted_lines 5) both_sent_lines got []
 
 -- the replica is shown so
 abbrev pub shown_so : List Event → List Group
-shown_so shown = followed_told granted_told (adopted_told 5) both_told both_got shown
+shown_so shown = followed_groups granted_lines (adopted_lines 5) both_sent_lines both_got shown
 
 -- what was read when a request from inside a snapshot up to `se` was granted
 abbrev pub granted_inside : ℕ → Chronicle
-granted_inside se = after_lines (after_dial empty_chronicle 1 0 1 0 answer.Ok) (active_told 0 5 ++ both_changed ++ asked_told (ask_within 0 1 se 5) 2 (log_of 5) ask_answer.Go)
+granted_inside se = after_lines (after_dial empty_chronicle 1 0 1 0 answer.Ok) (active_vb_lines 0 5 ++ both_changed ++ ask_lines (ask_within 0 1 se 5) 2 (log_of 5) ask_answer.Go)
 
 -- the same, and the link dials for the vBucket 1 now
 abbrev pub dialed_elsewhere : Chronicle
@@ -171,27 +171,27 @@ dialed_elsewhere = after_dial (granted_inside 2) 1 0 1 1 answer.Ok
 
 -- what was read when the replica has both changes, and the link 2 was dialed to it
 abbrev pub after_both : Chronicle
-after_both = after_dial (after_lines (after_dial empty_chronicle 1 0 1 0 answer.Ok) (active_told 0 5 ++ both_changed ++ granted_told ++ adopted_told 5 ++ both_told ++ both_got)) 2 1 2 0 answer.Ok
+after_both = after_dial (after_lines (after_dial empty_chronicle 1 0 1 0 answer.Ok) (active_vb_lines 0 5 ++ both_changed ++ granted_lines ++ adopted_lines 5 ++ both_sent_lines ++ both_got)) 2 1 2 0 answer.Ok
 
 -- another link asks the replica, which refuses by its own log and the seqno that it has
-abbrev pub replica_asked : ℕ → List Event
-replica_asked high = event.Asked (name.Link 2) 1 0 (ask_above 0 0) high (log_of 5) (ask_answer.Refuse 7) ∷ []
+abbrev pub replica_ask_lines : ℕ → List Event
+replica_ask_lines high = event.Asked (name.Link 2) 1 0 (ask_above 0 0) high (log_of 5) (ask_answer.Refuse 7) ∷ []
 
 -- what was read when the vBucket 0, with one change, is put on the branch 7, which was made at 1 from the parent, and the link 1 was dialed to it
 abbrev pub made_from : ℕ → Chronicle
-made_from parent = after_dial (after_lines empty_chronicle (active_told 0 5 ++ active_told 1 6 ++ change_told 0 ∷ event.Branch 0 0 7 (Some parent) 1 1 ∷ [])) 1 0 1 0 answer.Ok
+made_from parent = after_dial (after_lines empty_chronicle (active_vb_lines 0 5 ++ active_vb_lines 1 6 ++ change_line 0 ∷ event.Branch 0 0 7 (Some parent) 1 1 ∷ [])) 1 0 1 0 answer.Ok
 
 -- and when that vBucket was dead then
 abbrev pub made_dead : Chronicle
 made_dead = after_lines (made_from 5) (event.Role 0 0 role.Dead ∷ [])
 
 -- a follower of the branch 5 asks it for what comes above `at`
-abbrev pub asked_of_made : ℕ → AskAnswer → List Event
-asked_of_made at said = asked_told (ask_above at 5) 1 (record { uuid = 7; seq = 1 } ∷ log_of 5) said
+abbrev pub made_ask_lines : ℕ → AskAnswer → List Event
+made_ask_lines at said = ask_lines (ask_above at 5) 1 (record { uuid = 7; seq = 1 } ∷ log_of 5) said
 
 -- what was read when a replica took over the log of the branch 5, which has one change
 abbrev pub after_adopted : Chronicle
-after_adopted = after_lines empty_chronicle (active_told 0 5 ++ event.Role 1 0 role.Replica ∷ change_told 0 ∷ adopted_told 5)
+after_adopted = after_lines empty_chronicle (active_vb_lines 0 5 ++ event.Role 1 0 role.Replica ∷ change_line 0 ∷ adopted_lines 5)
 
 -- that replica without a change, at a position that has this end
 abbrev pub empty_in : ℕ → ℕ → Plain
@@ -222,5 +222,5 @@ abbrev pub prepared_in : Members → Plain
 prepared_in others = prepared_vb (record (new_vb 0 role.Active 5) { others = others }) (set_write (7 ∷ []) (8 ∷ [])) (record { level = level.Majority; deadline = 0; waiter = 0 }) 1
 
 -- the node 0 without a vBucket, whose connection 1 is told as one of this node
-abbrev pub client_told : ℕ → PlainWorld
-client_told n = with_node_at empty_world 0 (record empty_node { clients = λ c. if c == 1 then Some (new_session (record { node = n; client = 1; base = 0 })) else None })
+abbrev pub client_world : ℕ → PlainWorld
+client_world n = with_node_at empty_world 0 (record empty_node { clients = λ c. if c == 1 then Some (new_session (record { node = n; client = 1; base = 0 })) else None })

@@ -6,7 +6,7 @@ use Rattle.vb_types.specs.declared.change.Change.{Change}
 use Rattle.vb_types.specs.declared.journal.Record.{Record}
 use Rattle.vb_types.specs.declared.journal.Record.TheVariants as noted
 use Rattle.vb_types.specs.declared.position.Position.{Position}
-use Rattle.transcript_law.specs.Chronicles.{Flushing, Idle, Taken, Chronicle, told_batch}
+use Rattle.transcript_law.specs.Chronicles.{Flushing, Idle, Taken, Chronicle, known_batch}
 use Rattle.transcript_law.specs.Followers.{log_of}
 
 -- at a seqno, in the snapshot from 0 up to `end`
@@ -15,23 +15,23 @@ within end at = record { ss = 0; se = end; at = at }
 
 -- a batch of that is on its way
 abbrev pub taken : ℕ → ℕ → Flushing
-taken end at = Taken (told_batch (within end at) [])
+taken end at = Taken (known_batch (within end at) [])
 
 -- what was read, where this batch is on its way, these were written down, the last first, and all up to here counts as saved
 abbrev pub with_written : Chronicle → Flushing → List Position → ℕ → Chronicle
-with_written chronicle flushing stood saved = record chronicle { disk_at = λ n v. record { flushing = flushing; book = map (λ p. noted.Rows (told_batch p [])) stood; late = None; saved = saved; there = true; closed = false } }
+with_written chronicle flushing stood saved = record chronicle { disk_at = λ n v. record { flushing = flushing; book = map (λ p. noted.Rows (known_batch p [])) stood; late = None; saved = saved; there = true; closed = false } }
 
 -- and where none is on its way
 abbrev pub with_stood : Chronicle → List Position → ℕ → Chronicle
 with_stood chronicle stood saved = with_written chronicle Idle stood saved
 
 -- the replica takes a batch of so many changes up to a seqno, in the snapshot from 0 up to `end`
-abbrev pub batch_told : ℕ → ℕ → ℕ → List Event
-batch_told end at count = event.Batch 1 0 0 end at count ∷ []
+abbrev pub batch_lines : ℕ → ℕ → ℕ → List Event
+batch_lines end at count = event.Batch 1 0 0 end at count ∷ []
 
 -- its numbers: one span of two items, so many cursors, what counts as saved, and its last seqno
-abbrev pub stat_told : ℕ → ℕ → ℕ → List Event
-stat_told cursors saved high = event.Stat 1 0 1 2 cursors saved high ∷ []
+abbrev pub stat_lines : ℕ → ℕ → ℕ → List Event
+stat_lines cursors saved high = event.Stat 1 0 1 2 cursors saved high ∷ []
 
 -- a journal of one batch, a whole snapshot up to 1, with these changes
 abbrev pub point_noted : List Change → List Record

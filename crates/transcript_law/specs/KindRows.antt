@@ -10,7 +10,7 @@ use Rattle.vb_events.specs.declared.event.Event.{Event}
 use Rattle.vb_events.specs.declared.event.Event.TheVariants as event
 use Rattle.vb_events.specs.declared.event.Why.{Why}
 use Rattle.transcript_law.specs.BoundRows.{LawfulHere}
-use Rattle.transcript_law.specs.Chronicles.{Chronicle, Taken, blank_disk, empty_chronicle, no_arm, told_batch}
+use Rattle.transcript_law.specs.Chronicles.{Chronicle, Taken, blank_disk, empty_chronicle, no_arm, known_batch}
 use Rattle.transcript_law.specs.Journals.{within}
 
 -- a line that counts nothing is answered by no number
@@ -31,7 +31,7 @@ pub record CountsFrames (chronicle : Chronicle) (line : Verb) : Type 0 where
 -- what was read when each vBucket has a batch on its way, a journal that is closed or not, and its node this arm
 abbrev pub journal_under : Bool → Fuse → Chronicle
 journal_under closed f = record empty_chronicle {
-  disk_at = λ n v. record blank_disk { there = true; closed = closed; flushing = Taken (told_batch (within 1 1) []) };
+  disk_at = λ n v. record blank_disk { there = true; closed = closed; flushing = Taken (known_batch (within 1 1) []) };
   arm_at = λ n. record no_arm { fuse = f };
 }
 

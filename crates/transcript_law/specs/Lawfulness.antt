@@ -42,7 +42,7 @@ use Rattle.transcript_law.specs.Bound.{IsAnswered}
 use Rattle.transcript_law.specs.Clients.{Heard}
 use Rattle.durability.specs.Laws.{HasOne}
 use Rattle.transcript_law.specs.Majorities.{IsHeldByMost}
-use Rattle.transcript_law.specs.Chronicles.{Conns, CountsTold, ahead, conns_line, alone, ItemTold, Begun, Dial, Granted, Idle, Chronicle, empty_chronicle, is_stream_of, stood, stream_branch, after_line, after_group}
+use Rattle.transcript_law.specs.Chronicles.{Conns, CountsKnown, ahead, conns_line, alone, ItemLine, Begun, Dial, Granted, Idle, Chronicle, empty_chronicle, is_stream_of, stood, stream_branch, after_line, after_group}
 
 -- the history of a branch, if it is known
 abbrev pub known_history : List Branch → Option ℕ → List Change
@@ -98,8 +98,8 @@ newest_shown log = uuid_of (front log)
 -- far, and is an active vBucket's own branch
 pub record LawfulShow (chronicle : Chronicle) (said : ShownLine) (behind : List Event) : Type 0 where
   pub lines : behind ≡ shown_lines (due_image chronicle said)
-  pub docs_told : said.docs ≡ length (finite.entries (due_image chronicle said).docs)
-  pub preps_told : said.preps ≡ length (finite.entries (due_image chronicle said).pending)
+  pub docs_shown : said.docs ≡ length (finite.entries (due_image chronicle said).docs)
+  pub preps_shown : said.preps ≡ length (finite.entries (due_image chronicle said).pending)
   pub shared : said.uuid ≢ 0 → SharesWith chronicle.tree said.uuid (chronicle.branch_at said.node said.vb) said.at
   pub active : said.role ≡ Active → chronicle.branch_at said.node said.vb ≡ Some said.uuid
 
@@ -125,7 +125,7 @@ abbrev pub Fulfils : Picture → Change → Type 0
 Fulfils image c = (prepared : ℕ) (doc : Doc) (deleted : Bool) → c.act ≡ act.Commit prepared doc deleted → (e : Pend) × (finite.get image.pending c.key ≡ Some e) × (e.seq ≡ prepared) × (e.doc ≡ doc) × (e.deleted ≡ deleted)
 
 -- a commit is of a prepare that a majority of the vBucket's chain holds
-abbrev pub IsHeldIfCommitted : CountsTold → ℕ → Picture → Change → Type 0
+abbrev pub IsHeldIfCommitted : CountsKnown → ℕ → Picture → Change → Type 0
 IsHeldIfCommitted counts saved image c = (prepared : ℕ) (doc : Doc) (deleted : Bool) → c.act ≡ act.Commit prepared doc deleted → (e : Pend) → finite.get image.pending c.key ≡ Some e → IsHeldByMost counts saved e.seq e.level
 
 -- a change is made by its branch's writer, which is not known to be other than active, above all that the branch has, all that the vBucket holds, and
@@ -165,16 +165,16 @@ SharesFront tree uuid [] n = ⊥
 SharesFront tree uuid (e ∷ older) n = Shared tree uuid e.uuid n
 
 -- the end that a request means
-abbrev pub asked_end : StreamAsk → ℕ
-asked_end ask = effective_se ask.start ask.ss ask.se
+abbrev pub meant_end : StreamAsk → ℕ
+meant_end ask = effective_se ask.start ask.ss ask.se
 
 -- the start that a request means
-abbrev pub asked_start : StreamAsk → ℕ
-asked_start ask = effective_ss ask.start ask.ss ask.se
+abbrev pub meant_start : StreamAsk → ℕ
+meant_start ask = effective_ss ask.start ask.ss ask.se
 
 -- an answer to a request is what the failover rule says of it: it continues on a shared prefix, or is sent to a shared point; a refusal has a name
 abbrev pub LawfulVerdict : List Branch → List LogEntry → ℕ → StreamAsk → AskAnswer → Type 0
-LawfulVerdict tree log high ask ask_answer.Go = (rule log high ask ≡ Continue) × (0 < asked_end ask → SharesFront tree ask.uuid log (asked_end ask))
+LawfulVerdict tree log high ask ask_answer.Go = (rule log high ask ≡ Continue) × (0 < meant_end ask → SharesFront tree ask.uuid log (meant_end ask))
 LawfulVerdict tree log high ask (ask_answer.Roll to) = (rule log high ask ≡ Roll to) × (0 < to → SharesFront tree ask.uuid log to)
 LawfulVerdict tree log high ask (ask_answer.Refuse code) = code ≢ 0
 
@@ -239,7 +239,7 @@ pub record LawfulBatch (chronicle : Chronicle) (n v : ℕ) (p : Position) (count
 
 -- a vBucket's numbers: what counts as saved is what the lines tell, and the last seqno is that of the last change that it holds; there is the flusher's cursor, and no span is empty
 pub record LawfulStat (chronicle : Chronicle) (n v windows items cursors saved high : ℕ) : Type 0 where
-  pub saved_told : saved ≡ (chronicle.disk_at n v).saved
+  pub saved_as_known : saved ≡ (chronicle.disk_at n v).saved
   pub high_held : high ≡ last_seq 0 (chronicle.held n v)
   pub flusher : 0 < cursors
   pub filled : windows ≤ items
@@ -264,21 +264,21 @@ pub record LawfulRange (chronicle : Chronicle) (n v ss se : ℕ) : Type 0 where
       × ((c : Change) × IsIn c (stream_history chronicle g) × (c.seq ≡ se))
 
 -- what an item line calls an act: a set, a removal, a prepare, a commit or an abort
-abbrev pub told_act : Act → ItemAct
-told_act (act.Set doc) = item_act.Set
-told_act (act.Remove cas rev) = item_act.Remove
-told_act (act.Prepare level doc deleted) = item_act.Prepare
-told_act (act.Commit prepared doc deleted) = item_act.Commit
-told_act (act.Abort prepared) = item_act.Abort
+abbrev pub line_act : Act → ItemAct
+line_act (act.Set doc) = item_act.Set
+line_act (act.Remove cas rev) = item_act.Remove
+line_act (act.Prepare level doc deleted) = item_act.Prepare
+line_act (act.Commit prepared doc deleted) = item_act.Commit
+line_act (act.Abort prepared) = item_act.Abort
 
 -- what an item line says of a change
-abbrev pub item_told : Change → ItemTold
-item_told c = record { seq = c.seq; act = told_act c.act; key = c.key }
+abbrev pub item_of_change : Change → ItemLine
+item_of_change c = record { seq = c.seq; act = line_act c.act; key = c.key }
 
 -- a change that is got comes above all that the vBucket holds; it is the next item of its link's stream that was put and not got, and a change of the stream's branch
 pub record LawfulGot (chronicle : Chronicle) (n v l : ℕ) (change : Change) : Type 0 where
   pub above : last_seq 0 (chronicle.held n v) < change.seq
-  pub put : (g : Granted) × IsFed chronicle l n v g × IsOf (stream_history chronicle g) change × ((later : List ItemTold) × (g.coming ≡ item_told change ∷ later))
+  pub put : (g : Granted) × IsFed chronicle l n v g × IsOf (stream_history chronicle g) change × ((later : List ItemLine) × (g.coming ≡ item_of_change change ∷ later))
 
 -- each prepare of level 3 that waits, up to a seqno, counts as saved
 abbrev pub SavesThirds : Picture → ℕ → ℕ → Type 0
@@ -295,7 +295,7 @@ pub record LawfulAcknowledged (chronicle : Chronicle) (l n v seq saved : ℕ) : 
   pub role : (said : Role) → chronicle.role_at n v ≡ Some (Some said) → is_follower said ≡ true
   pub held : seq ≤ last_seq 0 (chronicle.held n v)
   pub complete : (ss se : ℕ) → chronicle.snap_at n v ≡ Some (ss, se) → last_seq 0 (chronicle.held n v) < se → seq ≤ ss
-  pub saved_told : saved ≡ (chronicle.disk_at n v).saved
+  pub saved_as_known : saved ≡ (chronicle.disk_at n v).saved
   pub thirds : SavesThirds (image_of (chronicle.held n v)) seq saved
   pub follows : (ss se : ℕ) → chronicle.snap_at n v ≡ Some (ss, se) → FollowsStream chronicle n v fed.0 ss se
 
@@ -308,10 +308,10 @@ pub record LawfulCounted (chronicle : Chronicle) (l n v member seq : ℕ) : Type
   pub another : member ≢ n
 
 -- these items are a front of a whole snapshot, after which `more` are to come
-pub record IsFrontOf (b : Begun) (items : List ItemTold) (more : List Change) : Type 0 where
+pub record IsFrontOf (b : Begun) (items : List ItemLine) (more : List Change) : Type 0 where
   pub whole : List Change
   pub covers : Covers whole b.history b.from b.end
-  pub front : map item_told whole ≡ items ++ map item_told more
+  pub front : map item_of_change whole ≡ items ++ map item_of_change more
 
 -- a snapshot that was begun was put whole
 abbrev pub IsWholeIf : Option Begun → Type 0
@@ -319,19 +319,19 @@ IsWholeIf None = Unit {0}
 IsWholeIf (Some b) = IsFrontOf b b.items []
 
 -- the start that a marker names behind this one: of the first one the request's, of a later one the place before it
-abbrev pub start_after : Option Begun → Granted → ℕ
-start_after None g = asked_start g.ask
-start_after (Some b) g = g.place
+abbrev pub next_marker_start : Option Begun → Granted → ℕ
+next_marker_start None g = meant_start g.ask
+next_marker_start (Some b) g = g.place
 
 -- the end that it reaches at least: of the first one the request's
 abbrev pub reach_after : Option Begun → Granted → ℕ
-reach_after None g = asked_end g.ask
+reach_after None g = meant_end g.ask
 reach_after (Some b) g = 0
 
 -- a marker comes before the stream's end, names its start, comes behind a whole snapshot, reaches what the request means, and goes from the place to its end with a whole snapshot of the branch
 pub record IsMarker (tree : List Branch) (g : Granted) (start end : ℕ) : Type 0 where
   pub opens : g.over ≡ false
-  pub starts : start ≡ start_after g.last g
+  pub starts : start ≡ next_marker_start g.last g
   pub behind : IsWholeIf g.last
   pub reaches : reach_after g.last g ≤ end
   pub whole : (xs : List Change) × Covers xs (hist tree (stream_branch g)) g.place end
@@ -349,11 +349,11 @@ abbrev pub LawfulMark : Chronicle → StreamName → ℕ → ℕ → ℕ → Typ
 LawfulMark chronicle stream start end flags = (g : Granted) × IsStream chronicle stream g × IsMarker chronicle.tree g start end × (flags ≡ FROM_MEMORY)
 
 -- an item goes on with the snapshot that was begun last, and is its last one where it has the snapshot's end
-abbrev pub IsNextItem : Begun → ItemTold → Type 0
+abbrev pub IsNextItem : Begun → ItemLine → Type 0
 IsNextItem b item = (more : List Change) × IsFrontOf b (b.items ++ item ∷ []) more × (item.seq ≡ b.end → more ≡ [])
 
 -- an item of a stream, before the stream's end
-abbrev pub LawfulItem : Chronicle → StreamName → ItemTold → Type 0
+abbrev pub LawfulItem : Chronicle → StreamName → ItemLine → Type 0
 LawfulItem chronicle stream item = (g : Granted) × (b : Begun) × IsStream chronicle stream g × (g.over ≡ false) × (g.last ≡ Some b) × IsNextItem b item
 
 -- a stream that was asked for with no end, and for no takeover, ends only where its vBucket changed its role: the reason is 2

@@ -23,7 +23,7 @@ use Rattle.disk_journals.specs.Books.{below}
 use Rattle.vb_disk.specs.declared.fuse.Fuse.{Fuse}
 use Rattle.vb_disk.specs.declared.fuse.Fuse.TheVariants.{Off, Stop, Fail}
 use Rattle.transcript_law.specs.Clients.{ClientAnswer, IsCrashed}
-use Rattle.transcript_law.specs.Chronicles.{Chronicle, Dial, DiskTold, Taken, Written, calls_of_append, conns_lines, disks_of, is_rollback, rollback_of, vb_numbers}
+use Rattle.transcript_law.specs.Chronicles.{Chronicle, Dial, DiskKnown, Taken, Written, calls_of_append, conns_lines, disks_of, is_rollback, rollback_of, vb_numbers}
 
 -- a line tells of a frame of a stream that was put: a marker, an item, or the stream's end
 abbrev pub is_frame : Event → Bool
@@ -33,8 +33,8 @@ is_frame (event.Finished stream reason) = true
 is_frame other = false
 
 -- of so many frames of streams these lines tell
-abbrev pub frames_told : List Event → ℕ
-frames_told lines = length (filter is_frame lines)
+abbrev pub frames_in_lines : List Event → ℕ
+frames_in_lines lines = length (filter is_frame lines)
 
 -- it was carried out, with nothing to count
 abbrev pub IsCarriedOut : Answer → Type 0
@@ -52,7 +52,7 @@ IsMoved wanted (answer.No cause) = Unit {0}
 
 -- so many frames of streams were put as the group's lines tell, at most as many as were asked for; `all` is said where it is as many, and only there
 pub record PutsAsTold (wanted : ℕ) (lines : List Event) (n : ℕ) (said : Why) : Type 0 where
-  pub told : n ≡ frames_told lines
+  pub told : n ≡ frames_in_lines lines
   pub most : n ≤ wanted
   pub all : said ≡ why.All → n ≡ wanted
   pub only : n ≡ wanted → said ≡ why.All
@@ -72,10 +72,10 @@ IsSealed changed (answer.Pulled n said) = ⊥
 IsSealed changed (answer.No cause) = Unit {0}
 
 -- of these batches the lines tell: the node, the vBucket and the count of changes of each
-abbrev pub batches_told : List Event → List (ℕ × (ℕ × ℕ))
-batches_told [] = []
-batches_told (event.Batch n v ss se at count ∷ lines) = (n, (v, count)) ∷ batches_told lines
-batches_told (line ∷ lines) = batches_told lines
+abbrev pub batches_in_lines : List Event → List (ℕ × (ℕ × ℕ))
+batches_in_lines [] = []
+batches_in_lines (event.Batch n v ss se at count ∷ lines) = (n, (v, count)) ∷ batches_in_lines lines
+batches_in_lines (line ∷ lines) = batches_in_lines lines
 
 -- the group's line tells of a batch of as many changes, and of this vBucket; with no line there was none to take
 abbrev pub TakesAsTold : ℕ → ℕ → ℕ → List (ℕ × (ℕ × ℕ)) → Type 0
@@ -86,16 +86,16 @@ TakesAsTold n v count (told ∷ other ∷ more) = ⊥
 -- a batch was taken
 abbrev pub IsTaken : ℕ → ℕ → List Event → Answer → Type 0
 IsTaken n v lines answer.Ok = ⊥
-IsTaken n v lines (answer.Number count) = TakesAsTold n v count (batches_told lines)
+IsTaken n v lines (answer.Number count) = TakesAsTold n v count (batches_in_lines lines)
 IsTaken n v lines (answer.Pulled count said) = ⊥
-IsTaken n v lines (answer.No cause) = batches_told lines ≡ []
+IsTaken n v lines (answer.No cause) = batches_in_lines lines ≡ []
 
 -- a batch that was written down counts as saved: what is saved is its end, unless more was
-abbrev pub SavesTo : DiskTold → ℕ → Type 0
+abbrev pub SavesTo : DiskKnown → ℕ → Type 0
 SavesTo d n = (end : ℕ) × (d.flushing ≡ Written end) × (n ≡ max d.saved end)
 
 -- it does, unless the line is refused
-abbrev pub IsSaved : DiskTold → Answer → Type 0
+abbrev pub IsSaved : DiskKnown → Answer → Type 0
 IsSaved d answer.Ok = ⊥
 IsSaved d (answer.Number n) = SavesTo d n
 IsSaved d (answer.Pulled n said) = ⊥
@@ -136,11 +136,11 @@ abbrev pub IsNotedAt : Chronicle → ℕ → ℕ → Answer → Type 0
 IsNotedAt chronicle n v said = IsNoted (chronicle.disk_at n v).closed (chronicle.arm_at n).fuse said
 
 -- a batch was taken, and is not written down yet
-abbrev pub IsOut : DiskTold → Type 0
+abbrev pub IsOut : DiskKnown → Type 0
 IsOut d = (b : Batch) × (d.flushing ≡ Taken b)
 
 -- there is one to append, where its append stands, fails, stops the node, or finds the journal closed
-abbrev pub IsAppended : DiskTold → Answer → Type 0
+abbrev pub IsAppended : DiskKnown → Answer → Type 0
 IsAppended d answer.Ok = IsOut d
 IsAppended d (answer.No cause.Closed) = IsOut d
 IsAppended d (answer.No cause.Disk) = IsOut d
@@ -163,14 +163,14 @@ IsBroken back (answer.No cause.Stopped) = IsBack back
 IsBroken back other = Unit {0}
 
 -- of these rollbacks the lines tell: the node and the vBucket that went back, and where to
-abbrev pub rollbacks_told : List Event → List (ℕ × (ℕ × Record))
-rollbacks_told [] = []
-rollbacks_told (event.Rolled n v named to ∷ lines) = (n, (v, noted.Roll to)) ∷ rollbacks_told lines
-rollbacks_told (line ∷ lines) = rollbacks_told lines
+abbrev pub rollbacks_in_lines : List Event → List (ℕ × (ℕ × Record))
+rollbacks_in_lines [] = []
+rollbacks_in_lines (event.Rolled n v named to ∷ lines) = (n, (v, noted.Roll to)) ∷ rollbacks_in_lines lines
+rollbacks_in_lines (line ∷ lines) = rollbacks_in_lines lines
 
 -- there is one, and the lines tell of it, and of no other
 abbrev pub GoesBack : Back → List Event → Type 0
-GoesBack back lines = (what : ℕ × (ℕ × Record)) × (back ≡ Some what) × (rollbacks_told lines ≡ what ∷ [])
+GoesBack back lines = (what : ℕ × (ℕ × Record)) × (back ≡ Some what) × (rollbacks_in_lines lines ≡ what ∷ [])
 
 -- so many bytes were moved, and where the lines tell of a rollback it is the one for which the link's request had been sent back, once, and that could be written down; or it could not, the answer says why, and no line tells that it went back
 abbrev pub IsTakenDown : ℕ → Back → Bool → Fuse → List Event → Answer → Type 0
@@ -207,7 +207,7 @@ abbrev pub is_role_active : Option Role → Bool
 is_role_active (Some role.Active) = true
 is_role_active other = false
 
-abbrev pub was_active : DiskTold → Bool
+abbrev pub was_active : DiskKnown → Bool
 was_active d = is_role_active (role_of d.book)
 
 -- so many vBuckets of a node were

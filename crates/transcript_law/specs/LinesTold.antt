@@ -30,7 +30,7 @@ use Rattle.branch_model.specs.Logs.{front, uuid_of, with_entry, kept_to}
 use Rattle.branch_model.specs.Trees.{Branch, grow, hist}
 
 -- what an `item` line says of a change
-pub record ItemTold : Type 0 where
+pub record ItemLine : Type 0 where
   pub seq : ℕ
   pub act : ItemAct
   pub key : List ℕ
@@ -40,7 +40,7 @@ pub record Begun : Type 0 where
   pub history : List Change
   pub from : ℕ
   pub end : ℕ
-  pub items : List ItemTold
+  pub items : List ItemLine
 
 -- a stream that was let continue: the request, the producer's failover log, the place up to which snapshots were begun, the last one of them, whether its
 -- end was put, what was put and its consumer did not take yet: the starts and ends of markers, and the items; and up to where its consumer acknowledged, each time
@@ -51,7 +51,7 @@ pub record Granted : Type 0 where
   pub last : Option Begun
   pub over : Bool
   pub marks : List (ℕ × ℕ)
-  pub coming : List ItemTold
+  pub coming : List ItemLine
   pub wrote : List ℕ
 
 -- the node that a link dials, and the vBucket that it does so for, with its node
@@ -61,12 +61,12 @@ pub record Dial : Type 0 where
   pub vb : ℕ
 
 -- what counts where an active vBucket commits: the other members of its chain, and what it counted since it is active there, each of a node, up to a seqno
-pub record CountsTold : Type 0 where
+pub record CountsKnown : Type 0 where
   pub chain : Members
   pub acks : List (ℕ × ℕ)
 
 -- nobody else does, and nothing was counted
-abbrev pub alone : CountsTold
+abbrev pub alone : CountsKnown
 alone = record { chain = []; acks = [] }
 
 -- a batch of a vBucket: none is on its way; this one was taken, of which lines tell the position and the failover log; one that ends at a seqno was written down, and the vBucket does not count it as saved yet
@@ -76,7 +76,7 @@ pub data Flushing : Type 0 where
   Written : ℕ → Flushing
 
 -- what a vBucket wrote down: the batch on its way; the records that stand, the last first, without the changes and the CAS of batches, of which lines do not tell; the record whose append was broken off, where a crash may find it; up to where all counts as saved; whether it has a disk; and whether its journal is closed, which takes no record then until a crash
-pub record DiskTold : Type 0 where
+pub record DiskKnown : Type 0 where
   pub flushing : Flushing
   pub book : List Record
   pub late : Option Record
@@ -85,19 +85,19 @@ pub record DiskTold : Type 0 where
   pub closed : Bool
 
 -- nothing was written down
-abbrev pub blank_disk : DiskTold
+abbrev pub blank_disk : DiskKnown
 blank_disk = record { flushing = Idle; book = []; late = None; saved = 0; there = false; closed = false }
 
 -- the positions of the batches that stand, the last first
-abbrev pub stood : DiskTold → List Position
+abbrev pub stood : DiskKnown → List Position
 stood d = points d.book
 
 -- a batch as lines tell it
-abbrev pub told_batch : Position → List LogEntry → Batch
-told_batch p log = record { position = p; cas = 0; log = log; items = [] }
+abbrev pub known_batch : Position → List LogEntry → Batch
+known_batch p log = record { position = p; cas = 0; log = log; items = [] }
 
 -- what is to befall a device call of a node, what a stop in it leaves of the node's disks, and whether the node is down
-pub record ArmTold : Type 0 where
+pub record ArmKnown : Type 0 where
   pub fuse : Fuse
   pub out : Outcome
   pub down : Bool
@@ -107,12 +107,12 @@ abbrev pub Conns : Type 0
 Conns = ℕ → ℕ → Bool
 
 -- nothing is, and the node is not down
-abbrev pub no_arm : ArmTold
+abbrev pub no_arm : ArmKnown
 no_arm = record { fuse = Off; out = Old; down = false }
 
 -- nothing is, and the node is down
-abbrev pub down_told : ArmTold
-down_told = record { fuse = Off; out = Old; down = true }
+abbrev pub known_down : ArmKnown
+known_down = record { fuse = Off; out = Old; down = true }
 
 -- the branches, the newest first; the role of a vBucket of a node, where it is known, which is none before it is made; the changes that it holds, the
 -- branch that it is on, and its failover log, where that is known; for each branch id, the node and the vBucket that made the branch or took it over
@@ -132,9 +132,9 @@ pub record Chronicle : Type 0 where
   pub point_of : ℕ → Option ℕ
   pub open_at : ℕ → ℕ → Bool
   pub snap_at : ℕ → ℕ → Option (ℕ × ℕ)
-  pub disk_at : ℕ → ℕ → DiskTold
-  pub counts_at : ℕ → ℕ → CountsTold
-  pub arm_at : ℕ → ArmTold
+  pub disk_at : ℕ → ℕ → DiskKnown
+  pub counts_at : ℕ → ℕ → CountsKnown
+  pub arm_at : ℕ → ArmKnown
   pub conn_at : Conns
 
 -- before the first line it is known that there is no vBucket
@@ -289,11 +289,11 @@ with_begun tree start end g = record {
 }
 
 -- the snapshot with one more item
-abbrev pub more_items : ItemTold → Begun → Begun
+abbrev pub more_items : ItemLine → Begun → Begun
 more_items item b = record { history = b.history; from = b.from; end = b.end; items = b.items ++ item ∷ [] }
 
 -- the stream with one more item of its last snapshot
-abbrev pub with_item : ItemTold → Granted → Granted
+abbrev pub with_item : ItemLine → Granted → Granted
 with_item item g = record { ask = g.ask; log = g.log; place = g.place; last = option_map (more_items item) g.last; over = g.over; marks = g.marks; coming = g.coming ++ item ∷ []; wrote = g.wrote }
 
 -- the stream, of which the end was put
@@ -357,10 +357,10 @@ abbrev pub after_calls : ℕ → ℕ → Chronicle → Chronicle
 after_calls calls n chronicle = record chronicle { arm_at = with_id chronicle.arm_at n (record (chronicle.arm_at n) { fuse = spent calls (chronicle.arm_at n).fuse }) }
 
 -- a record whose append was broken off, where a crash may find it: after a stop inside its third or fourth call, and after a failure of the fourth
-abbrev pub late_told : Fuse → Record → Option Record
-late_told Off r = None
-late_told (Stop k) r = if nat_le 3 k then Some r else None
-late_told (Fail k) r = if k == 4 then Some r else None
+abbrev pub late_record : Fuse → Record → Option Record
+late_record Off r = None
+late_record (Stop k) r = if nat_le 3 k then Some r else None
+late_record (Fail k) r = if k == 4 then Some r else None
 
 -- a crash finds it exactly where it leaves everything, or the byte 1
 abbrev pub finds : Outcome → Bool
@@ -369,7 +369,7 @@ finds New = true
 finds (Fill byte) = byte == 1
 
 -- a vBucket that went back to a seqno wrote that down; no batch is on its way any more
-abbrev pub disk_back : ℕ → DiskTold → DiskTold
+abbrev pub disk_back : ℕ → DiskKnown → DiskKnown
 disk_back to d = record d { flushing = Idle; book = noted.Roll to ∷ d.book; saved = to }
 
 -- a vBucket that went back to a seqno holds the changes up to there, and keeps the entries of its log up to there; no link sends it back any more
@@ -384,7 +384,7 @@ after_roll chronicle n v to = record chronicle {
 }
 
 -- the vBucket v of the node n with this written down
-abbrev pub with_disk : Chronicle → ℕ → ℕ → DiskTold → Chronicle
+abbrev pub with_disk : Chronicle → ℕ → ℕ → DiskKnown → Chronicle
 with_disk chronicle n v d = record chronicle { disk_at = with_at chronicle.disk_at n v d }
 
 -- a failover log, where it is known
@@ -394,7 +394,7 @@ known_log (Some log) = log
 
 -- a batch up to a position is on its way, with the failover log that the vBucket has then
 abbrev pub after_batch : Chronicle → ℕ → ℕ → Position → Chronicle
-after_batch chronicle n v p = with_disk chronicle n v (record (chronicle.disk_at n v) { flushing = Taken (told_batch p (known_log (chronicle.log_at n v))) })
+after_batch chronicle n v p = with_disk chronicle n v (record (chronicle.disk_at n v) { flushing = Taken (known_batch p (known_log (chronicle.log_at n v))) })
 
 -- one more is counted at a vBucket: the node acknowledged all up to a seqno
 abbrev pub after_count : Chronicle → ℕ → ℕ → ℕ → ℕ → Chronicle

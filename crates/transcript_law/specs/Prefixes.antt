@@ -27,17 +27,17 @@ world_after w [] = w
 world_after w (line ∷ lines) = world_after (world_step w line).0 lines
 
 -- what is told with these lines of a script, one group for each
-abbrev pub told_after : Chronicle → List ScriptLine → List Group → Chronicle
-told_after chronicle [] told = chronicle
-told_after chronicle (line ∷ lines) [] = chronicle
-told_after chronicle (line ∷ lines) (group ∷ told) = told_after (after_group chronicle line.verb group.events group.answer) lines told
+abbrev pub known_after : Chronicle → List ScriptLine → List Group → Chronicle
+known_after chronicle [] told = chronicle
+known_after chronicle (line ∷ lines) [] = chronicle
+known_after chronicle (line ∷ lines) (group ∷ told) = known_after (after_group chronicle line.verb group.events group.answer) lines told
 
 -- the world after a script, and what its transcript tells
 abbrev pub world_of : List ScriptLine → PlainWorld
 world_of script = world_after empty_world script
 
-abbrev pub told_of : List ScriptLine → Chronicle
-told_of script = told_after empty_chronicle script (groups script)
+abbrev pub known_of : List ScriptLine → Chronicle
+known_of script = known_after empty_chronicle script (groups script)
 
 -- a failover log tells where a branch comes from, up to n; on no branch it is empty
 abbrev pub ComesFrom : List Branch → List LogEntry → Option ℕ → ℕ → Type 0

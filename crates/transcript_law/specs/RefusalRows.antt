@@ -8,8 +8,8 @@ use Rattle.vb_events.specs.declared.event.Event.{Event}
 use Rattle.vb_events.specs.declared.event.Event.TheVariants as event
 use Rattle.transcript_law.specs.BoundRows.{LawfulHere}
 use Rattle.transcript_law.specs.Chronicles.{Chronicle}
-use Rattle.transcript_law.specs.Contrary.{sent_told}
-use Rattle.transcript_law.specs.Followers.{first_told, marker_told, next_told}
+use Rattle.transcript_law.specs.Contrary.{sent_known}
+use Rattle.transcript_law.specs.Followers.{first_item_line, marker_line, next_item_line}
 
 -- whatever was read before, a line that is refused for this cause tells of nothing
 abbrev pub TellsNothing : Cause → Type 0
@@ -21,7 +21,7 @@ pub record TellsItsCause (line : Verb) : Type 0 where
   pub closed_stopped : (chronicle : Chronicle) (n : ℕ) (lines : List Event) → LawfulHere chronicle line (event.NodeStopped n ∷ lines, answer.No cause.Closed) → ⊥
   pub failed_stopped : (chronicle : Chronicle) (n : ℕ) (lines : List Event) → LawfulHere chronicle line (event.NodeStopped n ∷ lines, answer.No cause.Disk) → ⊥
   pub failed_twice : (chronicle : Chronicle) (n m : ℕ) (lines : List Event) → LawfulHere chronicle line (event.CallFailed n ∷ event.CallFailed m ∷ lines, answer.No cause.Disk) → ⊥
-  pub stopped_failed : (chronicle : Chronicle) (n : ℕ) (lines : List Event) → LawfulHere chronicle line (event.CallFailed n ∷ lines, answer.No cause.Stopped) → ⊥
+  pub stopped_by_failure : (chronicle : Chronicle) (n : ℕ) (lines : List Event) → LawfulHere chronicle line (event.CallFailed n ∷ lines, answer.No cause.Stopped) → ⊥
   pub stopped_twice : (chronicle : Chronicle) (n m : ℕ) (lines : List Event) → LawfulHere chronicle line (event.NodeStopped n ∷ event.NodeStopped m ∷ lines, answer.No cause.Stopped) → ⊥
 
 -- a rollback beside them is told by none of these
@@ -32,4 +32,4 @@ pub record TellsNoRollback (line : Verb) : Type 0 where
 
 -- what was read when a replica was sent both changes, each in a snapshot of its own, and took neither marker
 abbrev pub two_marks : Chronicle
-two_marks = sent_told (marker_told 0 1 ∷ first_told ∷ marker_told 1 2 ∷ next_told ∷ [])
+two_marks = sent_known (marker_line 0 1 ∷ first_item_line ∷ marker_line 1 2 ∷ next_item_line ∷ [])

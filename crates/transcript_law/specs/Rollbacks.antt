@@ -8,28 +8,28 @@ use Rattle.vb_types.specs.declared.role.LogEntry.{LogEntry}
 use Rattle.vb_types.specs.declared.role.Role.{Role}
 use Rattle.vb_types.specs.declared.role.Role.TheVariants as role
 use Rattle.transcript_law.specs.Chronicles.{Chronicle, empty_chronicle, after_lines}
-use Rattle.transcript_law.specs.Followers.{log_of, made_from, asked_of_made, marker_told, next_told}
-use Rattle.transcript_law.specs.Transcripts.{active_told}
+use Rattle.transcript_law.specs.Followers.{log_of, made_from, made_ask_lines, marker_line, next_item_line}
+use Rattle.transcript_law.specs.Transcripts.{active_vb_lines}
 
 -- what was read when a follower of the branch 5, at 2, was sent back to 1, where the branch 7 was made
 abbrev pub sent_back : Chronicle
-sent_back = after_lines (made_from 5) (asked_of_made 2 (ask_answer.Roll 1))
+sent_back = after_lines (made_from 5) (made_ask_lines 2 (ask_answer.Roll 1))
 
 -- it goes back to this seqno, from where it was sent
-abbrev pub rolled_told : ℕ → ℕ → List Event
-rolled_told named to = event.Rolled 1 0 named to ∷ []
+abbrev pub rolled_lines : ℕ → ℕ → List Event
+rolled_lines named to = event.Rolled 1 0 named to ∷ []
 
 -- the end of the link's stream
-abbrev pub end_told : List Event
-end_told = event.Finished (name.Link 1) 2 ∷ []
+abbrev pub stream_end_lines : List Event
+stream_end_lines = event.Finished (name.Link 1) 2 ∷ []
 
 -- the second change, in its snapshot
-abbrev pub rest_told : List Event
-rest_told = marker_told 0 2 ∷ next_told ∷ []
+abbrev pub rest_lines : List Event
+rest_lines = marker_line 0 2 ∷ next_item_line ∷ []
 
 -- the failover log of the vBucket 0
-abbrev pub log_told : List LogEntry → List Event
-log_told log = event.Logged 0 0 log ∷ []
+abbrev pub log_lines : List LogEntry → List Event
+log_lines log = event.Logged 0 0 log ∷ []
 
 -- its log after the branch 7 was made at 1
 abbrev pub made_log : List LogEntry
@@ -44,7 +44,7 @@ empty_shown said = empty_uuid said 5
 
 -- what was read when the vBucket 0 was made active, and when it was dead then
 abbrev pub after_active : Chronicle
-after_active = after_lines empty_chronicle (active_told 0 5)
+after_active = after_lines empty_chronicle (active_vb_lines 0 5)
 
 abbrev pub after_dead : Chronicle
 after_dead = after_lines after_active (event.Role 0 0 role.Dead ∷ [])

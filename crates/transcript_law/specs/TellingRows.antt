@@ -8,7 +8,7 @@ use Rattle.vb_events.specs.declared.event.Event.TheVariants as event
 use Rattle.vb_types.specs.declared.role.Role.TheVariants as role
 use Rattle.transcript_law.specs.BoundRows.{LawfulHere}
 use Rattle.transcript_law.specs.Chronicles.{Chronicle}
-use Rattle.transcript_law.specs.Transcripts.{change_told}
+use Rattle.transcript_law.specs.Transcripts.{change_line}
 
 -- whatever was read before and however it is answered, this line does not tell of this first, nor behind any line
 pub record MayNotTell (asked : Verb) (wrong : Event) : Type 0 where
@@ -37,7 +37,7 @@ stops_at n = event.NodeStopped n
 
 -- the vBucket 0 of the node 0 makes its change
 abbrev pub changes_here : Event
-changes_here = change_told 0
+changes_here = change_line 0
 
 -- a batch of this vBucket
 abbrev pub batch_at : ℕ → ℕ → Event

@@ -65,12 +65,12 @@ abbrev pub group_answered : ℕ → List Event → Answer → Group
 group_answered number events said = record { line = number; events = events; answer = said }
 
 -- the same where it was carried out, with nothing to count
-abbrev pub group_told : ℕ → List Event → Group
-group_told number events = group_answered number events answer.Ok
+abbrev pub group_done : ℕ → List Event → Group
+group_done number events = group_answered number events answer.Ok
 
 -- the lines of an active vBucket of the node 0, made on a branch
-abbrev pub active_told : ℕ → ℕ → List Event
-active_told v uuid = event.Branch 0 v uuid None 0 0 ∷ event.Role 0 v role.Active ∷ []
+abbrev pub active_vb_lines : ℕ → ℕ → List Event
+active_vb_lines v uuid = event.Branch 0 v uuid None 0 0 ∷ event.Role 0 v role.Active ∷ []
 
 -- the first document of a key, with this CAS value
 abbrev pub first_doc : ℕ → List ℕ → Doc
@@ -81,16 +81,16 @@ abbrev pub one_change : Change
 one_change = record { seq = 1; key = 7 ∷ []; act = act.Set (first_doc 1 (8 ∷ [])) }
 
 -- the vBucket v of the node 0 makes that change on the branch 5
-abbrev pub change_told : ℕ → Event
-change_told v = event.Changed 0 v 5 one_change
+abbrev pub change_line : ℕ → Event
+change_line v = event.Changed 0 v 5 one_change
 
 -- the vBucket 0 of the node 0 is shown with one change, which is all that it has
-abbrev pub shown_one : Role → ℕ → ℕ → ℕ → List Event → List Event
-shown_one said uuid docs preps lines = event.Shown 0 0 said uuid 1 1 1 docs preps ∷ lines
+abbrev pub shown_with_change : Role → ℕ → ℕ → ℕ → List Event → List Event
+shown_with_change said uuid docs preps lines = event.Shown 0 0 said uuid 1 1 1 docs preps ∷ lines
 
 -- the line of the key's document, with this value
-abbrev pub value_told : List ℕ → List Event
-value_told value = event.Document (7 ∷ []) (first_doc 1 value) ∷ []
+abbrev pub value_lines : List ℕ → List Event
+value_lines value = event.Document (7 ∷ []) (first_doc 1 value) ∷ []
 
 -- the key 7 is set on the branch 5 and shown
 abbrev pub one_set : List ScriptLine
@@ -99,10 +99,10 @@ one_set =
     ∷ set_line 4 (7 ∷ []) (8 ∷ []) ∷ script_line 5 (verb.AtVb 0 0 vb_verb.Show) ∷ []
 
 -- what is told of that script, but for the reply: its `shown` line counts so many documents and prepares, and has these lines behind it
-abbrev pub one_set_told : ℕ → ℕ → List Event → List Group
-one_set_told docs preps lines =
-    group_told 1 [] ∷ group_told 2 [] ∷ group_told 3 (active_told 0 5)
-    ∷ group_told 4 (change_told 0 ∷ []) ∷ group_told 5 (shown_one role.Active 5 docs preps lines) ∷ []
+abbrev pub one_set_groups : ℕ → ℕ → List Event → List Group
+one_set_groups docs preps lines =
+    group_done 1 [] ∷ group_done 2 [] ∷ group_done 3 (active_vb_lines 0 5)
+    ∷ group_done 4 (change_line 0 ∷ []) ∷ group_done 5 (shown_with_change role.Active 5 docs preps lines) ∷ []
 
 -- two active vBuckets of the node 0, the second on this branch
 abbrev pub two_vbs : ℕ → List ScriptLine → List ScriptLine
@@ -111,35 +111,35 @@ two_vbs uuid more =
     ∷ script_line 4 (verb.AtVb 0 1 (vb_verb.MakeActive uuid)) ∷ more
 
 -- what is told of them
-abbrev pub two_vbs_told : ℕ → List Group → List Group
-two_vbs_told uuid more =
-    group_told 1 [] ∷ group_told 2 [] ∷ group_told 3 (active_told 0 5) ∷ group_told 4 (active_told 1 uuid) ∷ more
+abbrev pub two_vbs_groups : ℕ → List Group → List Group
+two_vbs_groups uuid more =
+    group_done 1 [] ∷ group_done 2 [] ∷ group_done 3 (active_vb_lines 0 5) ∷ group_done 4 (active_vb_lines 1 uuid) ∷ more
 
 -- the key 7 is set at the vBucket 0, which is then shown
 abbrev pub set_and_show : List ScriptLine
 set_and_show = set_line 5 (7 ∷ []) (8 ∷ []) ∷ script_line 6 (verb.AtVb 0 0 vb_verb.Show) ∷ []
 
 -- the line of the set tells these changes, and nothing is told of the show
-abbrev pub sets_told : List Event → List Group
-sets_told changes = group_told 5 changes ∷ group_told 6 [] ∷ []
+abbrev pub sets_groups : List Event → List Group
+sets_groups changes = group_done 5 changes ∷ group_done 6 [] ∷ []
 
 -- what was read when both vBuckets are on the branch 5, as a replica and its active are
 abbrev pub both_on_one : Chronicle
-both_on_one = record (after_lines empty_chronicle (active_told 0 5 ++ active_told 1 6)) { branch_at = λ n v. Some 5 }
+both_on_one = record (after_lines empty_chronicle (active_vb_lines 0 5 ++ active_vb_lines 1 6)) { branch_at = λ n v. Some 5 }
 
 -- the active vBucket 0 gets this role, if it is another one
-abbrev pub turned_told : Role → List Event
-turned_told role.Active = []
-turned_told other = event.Role 0 0 other ∷ []
+abbrev pub turned_lines : Role → List Event
+turned_lines role.Active = []
+turned_lines other = event.Role 0 0 other ∷ []
 
 -- after its change the vBucket 0 is dead, and is shown with this newest branch
 abbrev pub shown_after_change : ℕ → List Group
-shown_after_change uuid = group_told 5 (change_told 0 ∷ []) ∷ group_told 6 (turned_told role.Dead ++ shown_one role.Dead uuid 1 0 (value_told (8 ∷ []))) ∷ []
+shown_after_change uuid = group_done 5 (change_line 0 ∷ []) ∷ group_done 6 (turned_lines role.Dead ++ shown_with_change role.Dead uuid 1 0 (value_lines (8 ∷ []))) ∷ []
 
 -- with no change the vBucket 0 gets this role, and is shown in it with this newest branch
 abbrev pub shown_unchanged : Role → ℕ → List Group
-shown_unchanged said uuid = group_told 5 [] ∷ group_told 6 (turned_told said ++ event.Shown 0 0 said uuid 0 0 0 0 0 ∷ []) ∷ []
+shown_unchanged said uuid = group_done 5 [] ∷ group_done 6 (turned_lines said ++ event.Shown 0 0 said uuid 0 0 0 0 0 ∷ []) ∷ []
 
 -- what was read when the vBucket 1 is put on the branch 7, which was made from the branch 5 at this seqno
 abbrev pub forked_at : ℕ → Chronicle
-forked_at fork = after_lines empty_chronicle (active_told 0 5 ++ event.Branch 0 1 7 (Some 5) fork fork ∷ [])
+forked_at fork = after_lines empty_chronicle (active_vb_lines 0 5 ++ event.Branch 0 1 7 (Some 5) fork fork ∷ [])

@@ -1,7 +1,7 @@
 //! What a script leaves of its branches.
 
 ghost use Rattle.std.specs.Prelude.{List};
-ghost use Rattle.transcript_law.specs.Prefixes.{AreFollowed, told_of, world_of};
+ghost use Rattle.transcript_law.specs.Prefixes.{AreFollowed, known_of, world_of};
 ghost use Rattle.script_text.specs.declared.verb.ScriptLine.{ScriptLine};
 ghost use Rattle.script_text.specs.Fitting.{ScriptFits};
 
@@ -12,5 +12,5 @@ ghost use Rattle.script_text.specs.Fitting.{ScriptFits};
 /// vBucket, and that is at or above every fork made from the branch. Each connection of a node is
 /// told as its own.
 pub fn branches_are_followed()
-    ensures { (script : List ScriptLine) → ScriptFits script → AreFollowed (told_of script) (world_of script) }
+    ensures { (script : List ScriptLine) → ScriptFits script → AreFollowed (known_of script) (world_of script) }
 {}

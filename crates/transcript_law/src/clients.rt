@@ -4,7 +4,7 @@ ghost use Rattle.std.specs.Prelude.{◌≡◌, ℕ, List, [], ◌∷◌};
 ghost use Rattle.script_text.specs.declared.verb.Verb.TheVariants as verb;
 ghost use Rattle.script_text.specs.declared.verb.NodeVerb.TheVariants as node_verb;
 ghost use Rattle.transcript_law.specs.ClientRows.{LawfulOpened, closes, hangs, opens, refused, replies, sends, waits};
-ghost use Rattle.transcript_law.specs.Crashes.{LawfulAfter, Said, ok, save_under, save_under_told, stopped_behind};
+ghost use Rattle.transcript_law.specs.Crashes.{LawfulAfter, Said, ok, save_under, save_under_groups, stopped_behind};
 ghost use Rattle.vb_disk.specs.declared.made.Outcome.TheVariants.{Old};
 ghost use Rattle.vb_events.specs.declared.event.Answer.TheVariants as answer;
 ghost use Rattle.vb_events.specs.declared.event.Cause.TheVariants as cause;
@@ -65,7 +65,7 @@ pub fn judged_client_stops()
     ensures armed { LawfulOpened (verb.AtNode 0 (node_verb.Crash Old) ∷ verb.AtNode 0 (node_verb.Fail 1) ∷ []) (ok (closes 0 1 ∷ []) ∷ ok [] ∷ []) }
     ensures again { LawfulOpened (verb.AtNode 0 (node_verb.Crash Old) ∷ verb.AtNode 0 (node_verb.Fail 1) ∷ []) (ok (closes 0 1 ∷ []) ∷ ok (closes 0 1 ∷ []) ∷ []) → ⊥ }
     ensures reply { (bytes : List ℕ) → LawfulOpened (verb.AtNode 0 (node_verb.Crash Old) ∷ verb.AtNode 0 (node_verb.Fail 1) ∷ []) (ok (closes 0 1 ∷ []) ∷ ok (replies 0 1 bytes ∷ []) ∷ []) → ⊥ }
-    ensures stopped { LawfulAfter (save_under (verb.AtNode 0 (node_verb.Stop 1 Old))) (save_under_told (stopped_behind [])) }
-    ensures stopped_untold { LawfulAfter (save_under (verb.AtNode 0 (node_verb.Stop 1 Old))) (save_under_told (event.NodeStopped 0 ∷ [], answer.No cause.Stopped)) → ⊥ }
-    ensures stopped_before { LawfulAfter (save_under (verb.AtNode 0 (node_verb.Stop 1 Old))) (save_under_told (closes 0 1 ∷ event.NodeStopped 0 ∷ closes 0 1 ∷ [], answer.No cause.Stopped)) → ⊥ }
+    ensures stopped { LawfulAfter (save_under (verb.AtNode 0 (node_verb.Stop 1 Old))) (save_under_groups (stopped_behind [])) }
+    ensures stopped_untold { LawfulAfter (save_under (verb.AtNode 0 (node_verb.Stop 1 Old))) (save_under_groups (event.NodeStopped 0 ∷ [], answer.No cause.Stopped)) → ⊥ }
+    ensures stopped_before { LawfulAfter (save_under (verb.AtNode 0 (node_verb.Stop 1 Old))) (save_under_groups (closes 0 1 ∷ event.NodeStopped 0 ∷ closes 0 1 ∷ [], answer.No cause.Stopped)) → ⊥ }
 {}

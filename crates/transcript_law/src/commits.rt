@@ -1,7 +1,7 @@
 //! Which commits of durable writes are lawful, by what the lines before them tell.
 
 ghost use Rattle.std.specs.Prelude.{[], ◌∷◌, Some, None};
-ghost use Rattle.transcript_law.specs.Commits.{Commits, active_again, chained_later, chained_told, commit_anew, commit_told, counted_dead, counted_elsewhere, counts_told, crashed_chained, risen_again, risen_anew, started_anew, unchained};
+ghost use Rattle.transcript_law.specs.Commits.{Commits, active_again, chained_later, chained_known, commit_anew, commit_lines, counted_dead, counted_elsewhere, count_lines, crashed_chained, risen_again, risen_anew, started_anew, unchained};
 ghost use Rattle.transcript_law.specs.Chronicles.{after_lines};
 ghost use Rattle.transcript_law.specs.Lawfulness.{LawfulFrom};
 ghost use Rattle.vb_types.specs.declared.change.Level.TheVariants.{Majority, MajorityPersistActive, PersistMajority};
@@ -28,16 +28,16 @@ pub fn judged_commits()
     ensures second_unsaved { Commits MajorityPersistActive [] 0 [] → ⊥ }
     ensures third { Commits PersistMajority [] 1 [] }
     ensures third_unsaved { Commits PersistMajority [] 0 [] → ⊥ }
-    ensures elsewhere { LawfulFrom counted_elsewhere commit_told → ⊥ }
-    ensures chained_later { LawfulFrom chained_later commit_told }
-    ensures unchained { LawfulFrom unchained commit_told }
+    ensures elsewhere { LawfulFrom counted_elsewhere commit_lines → ⊥ }
+    ensures chained_later { LawfulFrom chained_later commit_lines }
+    ensures unchained { LawfulFrom unchained commit_lines }
     ensures anew { LawfulFrom risen_anew commit_anew }
-    ensures anew_chained { LawfulFrom (chained_told risen_anew (Some 1 ∷ [])) commit_anew → ⊥ }
-    ensures started { LawfulFrom (chained_told started_anew (Some 1 ∷ [])) commit_anew → ⊥ }
-    ensures again { LawfulFrom (risen_again []) commit_told }
-    ensures again_chained { LawfulFrom (risen_again (Some 1 ∷ [])) commit_told → ⊥ }
-    ensures again_counted { LawfulFrom (after_lines (risen_again (Some 1 ∷ [])) (counts_told ((1, 1) ∷ []))) commit_told }
+    ensures anew_chained { LawfulFrom (chained_known risen_anew (Some 1 ∷ [])) commit_anew → ⊥ }
+    ensures started { LawfulFrom (chained_known started_anew (Some 1 ∷ [])) commit_anew → ⊥ }
+    ensures again { LawfulFrom (risen_again []) commit_lines }
+    ensures again_chained { LawfulFrom (risen_again (Some 1 ∷ [])) commit_lines → ⊥ }
+    ensures again_counted { LawfulFrom (after_lines (risen_again (Some 1 ∷ [])) (count_lines ((1, 1) ∷ []))) commit_lines }
     ensures alone_again { LawfulFrom counted_dead active_again }
-    ensures chained_active { LawfulFrom (chained_told counted_dead (Some 1 ∷ [])) active_again → ⊥ }
+    ensures chained_active { LawfulFrom (chained_known counted_dead (Some 1 ∷ [])) active_again → ⊥ }
     ensures crashed { LawfulFrom crashed_chained active_again }
 {}

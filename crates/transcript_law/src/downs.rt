@@ -7,8 +7,8 @@ ghost use Rattle.script_text.specs.declared.verb.NodeVerb.TheVariants as node_ve
 ghost use Rattle.script_text.specs.declared.verb.LinkVerb.TheVariants as link_verb;
 ghost use Rattle.script_text.specs.declared.verb.ClientVerb.TheVariants as client_verb;
 ghost use Rattle.transcript_law.specs.Crashes.{LawfulAfter, Said, ok, restarted};
-ghost use Rattle.transcript_law.specs.Downs.{refused, crash_and, crash_and_told, start_and, start_and_told, begun_and_crashed, crash_under_link, crash_under_link_told};
-ghost use Rattle.transcript_law.specs.Followers.{granted_inside, next_told};
+ghost use Rattle.transcript_law.specs.Downs.{refused, crash_and, crash_and_groups, start_and, start_and_groups, begun_and_crashed, crash_under_link, crash_under_link_groups};
+ghost use Rattle.transcript_law.specs.Followers.{granted_inside, next_item_line};
 ghost use Rattle.transcript_law.specs.Lawfulness.{LawfulFrom, LawfulGroups};
 ghost use Rattle.vb_disk.specs.declared.made.Outcome.TheVariants.{Old};
 ghost use Rattle.vb_events.specs.declared.event.Answer.TheVariants as answer;
@@ -23,30 +23,30 @@ ghost use Rattle.vb_events.specs.declared.event.Event.{Event};
 /// a crash behind one; and over a link with an end at a node that crashed an item, frames,
 /// and bytes, whichever end that was, though no line tells of the link's end. A link between other nodes goes on.
 pub fn judged_downs()
-    ensures shown_down { LawfulAfter (crash_and (verb.AtVb 0 0 vb_verb.Show)) (crash_and_told (refused cause.NodeDown)) }
-    ensures shows { (lines : List Event) → LawfulAfter (crash_and (verb.AtVb 0 0 vb_verb.Show)) (crash_and_told (ok lines)) → ⊥ }
-    ensures unknown { LawfulAfter (crash_and (verb.AtVb 0 0 vb_verb.Show)) (crash_and_told (refused cause.UnknownVb)) → ⊥ }
-    ensures tells { (line : Event) (lines : List Event) → LawfulAfter (crash_and (verb.AtVb 0 0 vb_verb.Show)) (crash_and_told (line ∷ lines, answer.No cause.NodeDown)) → ⊥ }
-    ensures promotes { (lines : List Event) → LawfulAfter (crash_and (verb.AtVb 0 0 (vb_verb.Promote 7))) (crash_and_told (ok lines)) → ⊥ }
-    ensures makes { (lines : List Event) → LawfulAfter (crash_and (verb.AtVb 0 1 vb_verb.MakeReplica)) (crash_and_told (ok lines)) → ⊥ }
-    ensures opens { (lines : List Event) → LawfulAfter (crash_and (verb.AtClient 0 1 client_verb.Open)) (crash_and_told (ok lines)) → ⊥ }
-    ensures dials { (lines : List Event) → LawfulAfter (crash_and (verb.Link 1 0 0 0)) (crash_and_told (ok lines)) → ⊥ }
-    ensures crashes_twice { (lines : List Event) → LawfulAfter (crash_and (verb.AtNode 0 (node_verb.Crash Old))) (crash_and_told (ok lines)) → ⊥ }
-    ensures made_twice { (lines : List Event) → LawfulAfter (crash_and (verb.Node 0)) (crash_and_told (ok lines)) → ⊥ }
+    ensures shown_down { LawfulAfter (crash_and (verb.AtVb 0 0 vb_verb.Show)) (crash_and_groups (refused cause.NodeDown)) }
+    ensures shows { (lines : List Event) → LawfulAfter (crash_and (verb.AtVb 0 0 vb_verb.Show)) (crash_and_groups (ok lines)) → ⊥ }
+    ensures unknown { LawfulAfter (crash_and (verb.AtVb 0 0 vb_verb.Show)) (crash_and_groups (refused cause.UnknownVb)) → ⊥ }
+    ensures tells { (line : Event) (lines : List Event) → LawfulAfter (crash_and (verb.AtVb 0 0 vb_verb.Show)) (crash_and_groups (line ∷ lines, answer.No cause.NodeDown)) → ⊥ }
+    ensures promotes { (lines : List Event) → LawfulAfter (crash_and (verb.AtVb 0 0 (vb_verb.Promote 7))) (crash_and_groups (ok lines)) → ⊥ }
+    ensures makes { (lines : List Event) → LawfulAfter (crash_and (verb.AtVb 0 1 vb_verb.MakeReplica)) (crash_and_groups (ok lines)) → ⊥ }
+    ensures opens { (lines : List Event) → LawfulAfter (crash_and (verb.AtClient 0 1 client_verb.Open)) (crash_and_groups (ok lines)) → ⊥ }
+    ensures dials { (lines : List Event) → LawfulAfter (crash_and (verb.Link 1 0 0 0)) (crash_and_groups (ok lines)) → ⊥ }
+    ensures crashes_twice { (lines : List Event) → LawfulAfter (crash_and (verb.AtNode 0 (node_verb.Crash Old))) (crash_and_groups (ok lines)) → ⊥ }
+    ensures made_twice { (lines : List Event) → LawfulAfter (crash_and (verb.Node 0)) (crash_and_groups (ok lines)) → ⊥ }
     ensures started_up { LawfulAfter (verb.AtNode 0 (node_verb.Start (7 ∷ [])) ∷ []) (refused cause.NodeUp ∷ []) }
     ensures starts_up { (lines : List Event) → LawfulAfter (verb.AtNode 0 (node_verb.Start (7 ∷ [])) ∷ []) (ok lines ∷ []) → ⊥ }
-    ensures starts_twice { (at : ℕ) (lines : List Event) → LawfulAfter (start_and (verb.AtNode 0 (node_verb.Start (9 ∷ [])))) (start_and_told (restarted at) (ok lines)) → ⊥ }
-    ensures crashes_again { LawfulAfter (start_and (verb.AtNode 0 (node_verb.Crash Old))) (start_and_told (restarted 0) (ok [])) }
-    ensures starts_down { LawfulAfter (crash_and (verb.AtNode 0 (node_verb.Start (7 ∷ [])))) (crash_and_told (refused cause.NodeUp)) → ⊥ }
-    ensures stays_down { LawfulAfter (crash_and (verb.AtNode 0 (node_verb.Start (7 ∷ [])))) (crash_and_told (refused cause.NodeDown)) → ⊥ }
-    ensures short_tells { (line : Event) (lines : List Event) → LawfulAfter (crash_and (verb.AtNode 0 (node_verb.Start []))) (crash_and_told (line ∷ lines, answer.No cause.IdsShort)) → ⊥ }
-    ensures enough { LawfulAfter (crash_and (verb.AtNode 0 (node_verb.Start (7 ∷ [])))) (crash_and_told (refused cause.IdsShort)) → ⊥ }
-    ensures nonzero { LawfulAfter (crash_and (verb.AtNode 0 (node_verb.Start (7 ∷ [])))) (crash_and_told (refused cause.UuidZero)) → ⊥ }
-    ensures short_again { LawfulAfter (verb.AtNode 0 (node_verb.Crash Old) ∷ verb.AtNode 0 (node_verb.Start []) ∷ verb.AtNode 0 (node_verb.Crash Old) ∷ []) (crash_and_told (refused cause.IdsShort) ++ ok [] ∷ []) → ⊥ }
-    ensures next_item { LawfulFrom (begun_and_crashed 2) (next_told ∷ []) }
-    ensures of_producer { LawfulFrom (begun_and_crashed 0) (next_told ∷ []) → ⊥ }
-    ensures of_consumer { LawfulFrom (begun_and_crashed 1) (next_told ∷ []) → ⊥ }
-    ensures closed { LawfulGroups (granted_inside 2) (crash_under_link 0 (verb.AtLink 1 (link_verb.Pump 9))) (crash_under_link_told (refused cause.LinkClosed)) }
-    ensures pumps { (next : Said) → (next.1 ≡ answer.No cause.LinkClosed → ⊥) → LawfulGroups (granted_inside 2) (crash_under_link 0 (verb.AtLink 1 (link_verb.Pump 9))) (crash_under_link_told next) → ⊥ }
-    ensures takes { (next : Said) → (next.1 ≡ answer.No cause.LinkClosed → ⊥) → LawfulGroups (granted_inside 2) (crash_under_link 1 (verb.AtLink 1 (link_verb.Down 9))) (crash_under_link_told next) → ⊥ }
+    ensures starts_twice { (at : ℕ) (lines : List Event) → LawfulAfter (start_and (verb.AtNode 0 (node_verb.Start (9 ∷ [])))) (start_and_groups (restarted at) (ok lines)) → ⊥ }
+    ensures crashes_again { LawfulAfter (start_and (verb.AtNode 0 (node_verb.Crash Old))) (start_and_groups (restarted 0) (ok [])) }
+    ensures starts_down { LawfulAfter (crash_and (verb.AtNode 0 (node_verb.Start (7 ∷ [])))) (crash_and_groups (refused cause.NodeUp)) → ⊥ }
+    ensures stays_down { LawfulAfter (crash_and (verb.AtNode 0 (node_verb.Start (7 ∷ [])))) (crash_and_groups (refused cause.NodeDown)) → ⊥ }
+    ensures short_tells { (line : Event) (lines : List Event) → LawfulAfter (crash_and (verb.AtNode 0 (node_verb.Start []))) (crash_and_groups (line ∷ lines, answer.No cause.IdsShort)) → ⊥ }
+    ensures enough { LawfulAfter (crash_and (verb.AtNode 0 (node_verb.Start (7 ∷ [])))) (crash_and_groups (refused cause.IdsShort)) → ⊥ }
+    ensures nonzero { LawfulAfter (crash_and (verb.AtNode 0 (node_verb.Start (7 ∷ [])))) (crash_and_groups (refused cause.UuidZero)) → ⊥ }
+    ensures short_again { LawfulAfter (verb.AtNode 0 (node_verb.Crash Old) ∷ verb.AtNode 0 (node_verb.Start []) ∷ verb.AtNode 0 (node_verb.Crash Old) ∷ []) (crash_and_groups (refused cause.IdsShort) ++ ok [] ∷ []) → ⊥ }
+    ensures next_item { LawfulFrom (begun_and_crashed 2) (next_item_line ∷ []) }
+    ensures of_producer { LawfulFrom (begun_and_crashed 0) (next_item_line ∷ []) → ⊥ }
+    ensures of_consumer { LawfulFrom (begun_and_crashed 1) (next_item_line ∷ []) → ⊥ }
+    ensures closed { LawfulGroups (granted_inside 2) (crash_under_link 0 (verb.AtLink 1 (link_verb.Pump 9))) (crash_under_link_groups (refused cause.LinkClosed)) }
+    ensures pumps { (next : Said) → (next.1 ≡ answer.No cause.LinkClosed → ⊥) → LawfulGroups (granted_inside 2) (crash_under_link 0 (verb.AtLink 1 (link_verb.Pump 9))) (crash_under_link_groups next) → ⊥ }
+    ensures takes { (next : Said) → (next.1 ≡ answer.No cause.LinkClosed → ⊥) → LawfulGroups (granted_inside 2) (crash_under_link 1 (verb.AtLink 1 (link_verb.Down 9))) (crash_under_link_groups next) → ⊥ }
 {}

@@ -7,8 +7,8 @@ ghost use Rattle.script_text.specs.declared.verb.NodeVerb.TheVariants as node_ve
 ghost use Rattle.script_text.specs.declared.verb.LinkVerb.TheVariants as link_verb;
 ghost use Rattle.script_text.specs.declared.verb.ClientVerb.TheVariants as client_verb;
 ghost use Rattle.transcript_law.specs.ClosedJournals.{back_line, dialed_for};
-ghost use Rattle.transcript_law.specs.Crashes.{LawfulAfter, branch_line, failed_behind, ok, save_under, save_under_told, stopped_behind};
-ghost use Rattle.transcript_law.specs.FiredArms.{LawfulNext, other_back, seal_under, seal_under_told, start_short, start_under, start_under_told, stopped_starting, two_armed, two_armed_told};
+ghost use Rattle.transcript_law.specs.Crashes.{LawfulAfter, branch_line, failed_behind, ok, save_under, save_under_groups, stopped_behind};
+ghost use Rattle.transcript_law.specs.FiredArms.{LawfulNext, other_back, seal_under, seal_under_groups, start_short, start_under, start_under_groups, stopped_starting, two_armed, two_armed_groups};
 ghost use Rattle.transcript_law.specs.Firings.{FiresAsSaid, writes_at};
 ghost use Rattle.vb_disk.specs.declared.made.Outcome.TheVariants.{Old};
 ghost use Rattle.vb_events.specs.declared.event.Answer.{Answer};
@@ -27,34 +27,34 @@ ghost use Rattle.vb_events.specs.declared.event.Event.TheVariants as event;
 /// vBucket that was active: with one of each the fifth is the last. It is short of ids only where all
 /// disks were opened.
 pub fn judged_firings()
-    ensures once { LawfulAfter (save_under (verb.AtNode 0 (node_verb.Fail 1))) (save_under_told (failed_behind [])) }
-    ensures twice { LawfulAfter (save_under (verb.AtNode 0 (node_verb.Fail 1))) (save_under_told (failed_behind (event.CallFailed 0 ∷ []))) → ⊥ }
-    ensures untold { LawfulAfter (save_under (verb.AtNode 0 (node_verb.Fail 1))) (save_under_told ([], answer.No cause.Disk)) → ⊥ }
-    ensures unfired { LawfulAfter (save_under (verb.AtNode 0 (node_verb.Fail 5))) (save_under_told (ok [])) }
-    ensures fired_ok { LawfulAfter (save_under (verb.AtNode 0 (node_verb.Fail 5))) (save_under_told (ok (event.CallFailed 0 ∷ []))) → ⊥ }
-    ensures stopped { LawfulAfter (save_under (verb.AtNode 0 (node_verb.Stop 1 Old))) (save_under_told (stopped_behind [])) }
-    ensures stopped_twice { LawfulAfter (save_under (verb.AtNode 0 (node_verb.Stop 1 Old))) (save_under_told (stopped_behind (event.NodeStopped 0 ∷ []))) → ⊥ }
-    ensures stopped_untold { LawfulAfter (save_under (verb.AtNode 0 (node_verb.Stop 1 Old))) (save_under_told (event.Closed 0 1 ∷ [], answer.No cause.Stopped)) → ⊥ }
-    ensures stopped_ok { LawfulAfter (save_under (verb.AtNode 0 (node_verb.Stop 5 Old))) (save_under_told (ok (event.NodeStopped 0 ∷ event.Closed 0 1 ∷ []))) → ⊥ }
-    ensures seals { LawfulAfter seal_under (seal_under_told ([], answer.Number 1)) }
-    ensures seal_failed { LawfulAfter seal_under (seal_under_told (event.CallFailed 0 ∷ [], answer.Number 1)) → ⊥ }
-    ensures seal_disk { (lines : List Event) → LawfulAfter seal_under (seal_under_told (lines, answer.No cause.Disk)) → ⊥ }
-    ensures seal_stopped { (lines : List Event) → LawfulAfter seal_under (seal_under_told (lines, answer.No cause.Stopped)) → ⊥ }
-    ensures here { LawfulAfter two_armed (two_armed_told (failed_behind [])) }
-    ensures there { LawfulAfter two_armed (two_armed_told (event.CallFailed 1 ∷ [], answer.No cause.Disk)) → ⊥ }
-    ensures opened { LawfulAfter (start_under (verb.AtNode 0 (node_verb.Fail 1))) (start_under_told (failed_behind [])) }
-    ensures opened_untold { LawfulAfter (start_under (verb.AtNode 0 (node_verb.Fail 1))) (start_under_told ([], answer.No cause.Disk)) → ⊥ }
-    ensures started { LawfulAfter (start_under (verb.AtNode 0 (node_verb.Fail 6))) (start_under_told (ok (branch_line 0 0 ∷ []))) }
-    ensures started_fired { LawfulAfter (start_under (verb.AtNode 0 (node_verb.Fail 6))) (start_under_told (ok (branch_line 0 0 ∷ event.CallFailed 0 ∷ []))) → ⊥ }
-    ensures opened_ok { (lines : List Event) → LawfulAfter (start_under (verb.AtNode 0 (node_verb.Fail 1))) (start_under_told (ok lines)) → ⊥ }
-    ensures last_failed { LawfulAfter (start_under (verb.AtNode 0 (node_verb.Fail 5))) (start_under_told (failed_behind (branch_line 0 0 ∷ []))) }
-    ensures last_ok { (lines : List Event) → LawfulAfter (start_under (verb.AtNode 0 (node_verb.Fail 5))) (start_under_told (ok lines)) → ⊥ }
-    ensures started_far { (lines : List Event) → LawfulAfter (start_under (verb.AtNode 0 (node_verb.Fail 6))) (start_under_told (lines, answer.No cause.Disk)) → ⊥ }
-    ensures last_stopped { LawfulAfter (start_under (verb.AtNode 0 (node_verb.Stop 5 Old))) (start_under_told (stopped_starting (branch_line 0 0 ∷ []))) }
-    ensures last_stopped_ok { (lines : List Event) → LawfulAfter (start_under (verb.AtNode 0 (node_verb.Stop 5 Old))) (start_under_told (ok lines)) → ⊥ }
-    ensures stopped_far { (lines : List Event) → LawfulAfter (start_under (verb.AtNode 0 (node_verb.Stop 6 Old))) (start_under_told (lines, answer.No cause.Stopped)) → ⊥ }
-    ensures short { LawfulAfter (start_short (verb.AtNode 0 (node_verb.Fail 2))) (start_under_told ([], answer.No cause.IdsShort)) }
-    ensures short_unopened { LawfulAfter (start_short (verb.AtNode 0 (node_verb.Fail 1))) (start_under_told ([], answer.No cause.IdsShort)) → ⊥ }
+    ensures once { LawfulAfter (save_under (verb.AtNode 0 (node_verb.Fail 1))) (save_under_groups (failed_behind [])) }
+    ensures twice { LawfulAfter (save_under (verb.AtNode 0 (node_verb.Fail 1))) (save_under_groups (failed_behind (event.CallFailed 0 ∷ []))) → ⊥ }
+    ensures untold { LawfulAfter (save_under (verb.AtNode 0 (node_verb.Fail 1))) (save_under_groups ([], answer.No cause.Disk)) → ⊥ }
+    ensures unfired { LawfulAfter (save_under (verb.AtNode 0 (node_verb.Fail 5))) (save_under_groups (ok [])) }
+    ensures fired_ok { LawfulAfter (save_under (verb.AtNode 0 (node_verb.Fail 5))) (save_under_groups (ok (event.CallFailed 0 ∷ []))) → ⊥ }
+    ensures stopped { LawfulAfter (save_under (verb.AtNode 0 (node_verb.Stop 1 Old))) (save_under_groups (stopped_behind [])) }
+    ensures stopped_twice { LawfulAfter (save_under (verb.AtNode 0 (node_verb.Stop 1 Old))) (save_under_groups (stopped_behind (event.NodeStopped 0 ∷ []))) → ⊥ }
+    ensures stopped_untold { LawfulAfter (save_under (verb.AtNode 0 (node_verb.Stop 1 Old))) (save_under_groups (event.Closed 0 1 ∷ [], answer.No cause.Stopped)) → ⊥ }
+    ensures stopped_ok { LawfulAfter (save_under (verb.AtNode 0 (node_verb.Stop 5 Old))) (save_under_groups (ok (event.NodeStopped 0 ∷ event.Closed 0 1 ∷ []))) → ⊥ }
+    ensures seals { LawfulAfter seal_under (seal_under_groups ([], answer.Number 1)) }
+    ensures seal_failed { LawfulAfter seal_under (seal_under_groups (event.CallFailed 0 ∷ [], answer.Number 1)) → ⊥ }
+    ensures seal_disk { (lines : List Event) → LawfulAfter seal_under (seal_under_groups (lines, answer.No cause.Disk)) → ⊥ }
+    ensures seal_stopped { (lines : List Event) → LawfulAfter seal_under (seal_under_groups (lines, answer.No cause.Stopped)) → ⊥ }
+    ensures here { LawfulAfter two_armed (two_armed_groups (failed_behind [])) }
+    ensures there { LawfulAfter two_armed (two_armed_groups (event.CallFailed 1 ∷ [], answer.No cause.Disk)) → ⊥ }
+    ensures opened { LawfulAfter (start_under (verb.AtNode 0 (node_verb.Fail 1))) (start_under_groups (failed_behind [])) }
+    ensures opened_untold { LawfulAfter (start_under (verb.AtNode 0 (node_verb.Fail 1))) (start_under_groups ([], answer.No cause.Disk)) → ⊥ }
+    ensures started { LawfulAfter (start_under (verb.AtNode 0 (node_verb.Fail 6))) (start_under_groups (ok (branch_line 0 0 ∷ []))) }
+    ensures started_fired { LawfulAfter (start_under (verb.AtNode 0 (node_verb.Fail 6))) (start_under_groups (ok (branch_line 0 0 ∷ event.CallFailed 0 ∷ []))) → ⊥ }
+    ensures opened_ok { (lines : List Event) → LawfulAfter (start_under (verb.AtNode 0 (node_verb.Fail 1))) (start_under_groups (ok lines)) → ⊥ }
+    ensures last_failed { LawfulAfter (start_under (verb.AtNode 0 (node_verb.Fail 5))) (start_under_groups (failed_behind (branch_line 0 0 ∷ []))) }
+    ensures last_ok { (lines : List Event) → LawfulAfter (start_under (verb.AtNode 0 (node_verb.Fail 5))) (start_under_groups (ok lines)) → ⊥ }
+    ensures started_far { (lines : List Event) → LawfulAfter (start_under (verb.AtNode 0 (node_verb.Fail 6))) (start_under_groups (lines, answer.No cause.Disk)) → ⊥ }
+    ensures last_stopped { LawfulAfter (start_under (verb.AtNode 0 (node_verb.Stop 5 Old))) (start_under_groups (stopped_starting (branch_line 0 0 ∷ []))) }
+    ensures last_stopped_ok { (lines : List Event) → LawfulAfter (start_under (verb.AtNode 0 (node_verb.Stop 5 Old))) (start_under_groups (ok lines)) → ⊥ }
+    ensures stopped_far { (lines : List Event) → LawfulAfter (start_under (verb.AtNode 0 (node_verb.Stop 6 Old))) (start_under_groups (lines, answer.No cause.Stopped)) → ⊥ }
+    ensures short { LawfulAfter (start_short (verb.AtNode 0 (node_verb.Fail 2))) (start_under_groups ([], answer.No cause.IdsShort)) }
+    ensures short_unopened { LawfulAfter (start_short (verb.AtNode 0 (node_verb.Fail 1))) (start_under_groups ([], answer.No cause.IdsShort)) → ⊥ }
     ensures back_failed { FiresAsSaid (writes_at (dialed_for false) (verb.AtLink 1 (link_verb.Down 10))) (event.CallFailed 1 ∷ event.Ended 1 reason.Disk ∷ []) (answer.No cause.Disk) }
     ensures back_elsewhere { FiresAsSaid (writes_at (dialed_for false) (verb.AtLink 1 (link_verb.Down 10))) (event.CallFailed 0 ∷ event.Ended 1 reason.Disk ∷ []) (answer.No cause.Disk) → ⊥ }
 {}

@@ -1,15 +1,15 @@
 //! What makes a transcript lawful or not, and what is no state that a script leaves.
 
 ghost use Rattle.std.specs.Prelude.{◌≡◌, [], ◌∷◌, ◌++◌, take, Some};
-ghost use Rattle.transcript_law.specs.Followers.{two_followed, log_of, ask_above, asked_told, other_asked, late_asked, granted_told, stranger_told, ended_told, again_got, marker_told, set_told, first_told, next_told, both_told, next_change, replica_shown, two_docs, third_doc, asked_so, answered_so, adopted_so, sent_so, got_so, shown_so, granted_inside, dialed_elsewhere, after_both, replica_asked, made_from, made_dead, asked_of_made, after_adopted, empty_in, changed_in, after_got, based, all_active, client_told, prepared_in, unbounded};
+ghost use Rattle.transcript_law.specs.Followers.{two_followed, log_of, ask_above, ask_lines, other_ask_lines, late_ask_lines, granted_lines, stranger_lines, ended_lines, again_got, marker_line, set_item_line, first_item_line, next_item_line, both_sent_lines, next_change, replica_shown, two_docs, third_doc, ask_groups, answered_so, adopted_so, sent_so, got_so, shown_so, granted_inside, dialed_elsewhere, after_both, replica_ask_lines, made_from, made_dead, made_ask_lines, after_adopted, empty_in, changed_in, after_got, based, all_active, client_world, prepared_in, unbounded};
 ghost use Rattle.transcript_law.specs.Chronicles.{Idle, Written, empty_chronicle, after_lines, after_group, stood};
-ghost use Rattle.transcript_law.specs.Journals.{within, taken, with_written, with_stood, batch_told, stat_told, point_noted};
-ghost use Rattle.transcript_law.specs.Contrary.{later_held, next_made, link_over, dialed_anew, log_forgotten, strange, inside_got, inside_dead, inside_active, inside_shown, active_shown, set_and_sealed, sealed_told, after_dead_changed, promotes_dead, promoted_told, risen_told, logged_six, inside_newest, unadopted, branch_left, branch_inside, disk_marker, done_told, sent_told, range_told, got_told, strange_change, after_prepare, prepare_shown, prepare_told, after_back, taken_log, asked_by, after_follow, after_promote, acknowledged_saved, acknowledged_told, ungranted_told, third_held, third_saved, third_below, second_held, first_lost, on_another, after_ack, dialed_itself, dialed_by_another, granted_anew, counted_told, made_told, after_both_dead};
+ghost use Rattle.transcript_law.specs.Journals.{within, taken, with_written, with_stood, batch_lines, stat_lines, point_noted};
+ghost use Rattle.transcript_law.specs.Contrary.{later_held, next_made, link_over, dialed_anew, log_forgotten, strange, inside_got, inside_dead, inside_active, inside_shown, active_shown, set_and_sealed, sealed_groups, after_dead_changed, promotes_dead, promoted_groups, risen_lines, logged_six, inside_newest, unadopted, branch_left, branch_inside, disk_marker, done_lines, sent_known, range_lines, got_lines, strange_change, after_prepare, prepare_shown, prepare_lines, after_back, taken_log, refused_ask_lines, after_follow, after_promote, acknowledged_saved, acknowledged_lines, ungranted_lines, third_held, third_saved, third_below, second_held, first_lost, on_another, after_ack, dialed_itself, dialed_by_another, granted_anew, counted_lines, new_branch_lines, after_both_dead};
 ghost use Rattle.transcript_law.specs.Lawfulness.{Lawful, LawfulFrom, LawfulGroups, LawfulLine};
 ghost use Rattle.transcript_law.specs.Prefixes.{AreFollowed, FollowsBranch, PointsAreBranch};
-ghost use Rattle.transcript_law.specs.Rollbacks.{sent_back, rolled_told, end_told, rest_told, log_told, made_log, empty_shown, empty_uuid, after_active, after_dead, forgotten};
+ghost use Rattle.transcript_law.specs.Rollbacks.{sent_back, rolled_lines, stream_end_lines, rest_lines, log_lines, made_log, empty_shown, empty_uuid, after_active, after_dead, forgotten};
 ghost use Rattle.transcript_law.specs.LineAnswers.{LawfulAnswer};
-ghost use Rattle.transcript_law.specs.Transcripts.{one_change, one_set, one_set_told, change_told, shown_one, value_told, two_vbs, two_vbs_told, set_and_show, sets_told, both_on_one, forked_at, shown_after_change, shown_unchanged};
+ghost use Rattle.transcript_law.specs.Transcripts.{one_change, one_set, one_set_groups, change_line, shown_with_change, value_lines, two_vbs, two_vbs_groups, set_and_show, sets_groups, both_on_one, forked_at, shown_after_change, shown_unchanged};
 ghost use Rattle.vb_types.specs.declared.change.Level.TheVariants as level;
 ghost use Rattle.script_text.specs.declared.verb.Verb.TheVariants as verb;
 ghost use Rattle.script_text.specs.declared.verb.VbVerb.TheVariants as vb_verb;
@@ -25,13 +25,13 @@ ghost use Rattle.vb_types.specs.declared.role.Role.TheVariants as role;
 /// was set, a document that is not shown, one that the line counts and the history lacks, a prepare
 /// that it counts so, a branch id that is given twice, and a seqno that is used twice.
 pub fn judged_transcripts()
-    ensures right { Lawful one_set (one_set_told 1 0 (value_told (8 ∷ []))) }
-    ensures value { Lawful one_set (one_set_told 1 0 (value_told (9 ∷ []))) → ⊥ }
-    ensures missing { Lawful one_set (one_set_told 1 0 []) → ⊥ }
-    ensures more { Lawful one_set (one_set_told 2 0 (value_told (8 ∷ []))) → ⊥ }
-    ensures prepares { Lawful one_set (one_set_told 1 1 (value_told (8 ∷ []))) → ⊥ }
-    ensures branch { Lawful (two_vbs 5 []) (two_vbs_told 5 []) → ⊥ }
-    ensures seqno { Lawful (two_vbs 6 set_and_show) (two_vbs_told 6 (sets_told (change_told 0 ∷ change_told 0 ∷ []))) → ⊥ }
+    ensures right { Lawful one_set (one_set_groups 1 0 (value_lines (8 ∷ []))) }
+    ensures value { Lawful one_set (one_set_groups 1 0 (value_lines (9 ∷ []))) → ⊥ }
+    ensures missing { Lawful one_set (one_set_groups 1 0 []) → ⊥ }
+    ensures more { Lawful one_set (one_set_groups 2 0 (value_lines (8 ∷ []))) → ⊥ }
+    ensures prepares { Lawful one_set (one_set_groups 1 1 (value_lines (8 ∷ []))) → ⊥ }
+    ensures branch { Lawful (two_vbs 5 []) (two_vbs_groups 5 []) → ⊥ }
+    ensures seqno { Lawful (two_vbs 6 set_and_show) (two_vbs_groups 6 (sets_groups (change_line 0 ∷ change_line 0 ∷ []))) → ⊥ }
 {}
 
 /// Of two vBuckets that are each made on a branch of its own, the one that made a branch changes it,
@@ -44,22 +44,22 @@ pub fn judged_transcripts()
 /// parent there, or where the snapshot starts that the vBucket is inside; not from another branch, or
 /// from none, nor elsewhere, nor further up.
 pub fn judged_branches()
-    ensures own { Lawful (two_vbs 6 set_and_show) (two_vbs_told 6 (sets_told (change_told 0 ∷ []))) }
-    ensures writer { Lawful (two_vbs 6 set_and_show) (two_vbs_told 6 (sets_told (change_told 1 ∷ []))) → ⊥ }
-    ensures maker { LawfulLine both_on_one (change_told 0) [] }
-    ensures follower { LawfulLine both_on_one (change_told 1) [] → ⊥ }
-    ensures above { LawfulLine (forked_at 0) (change_told 0) [] }
-    ensures at_fork { LawfulLine (forked_at 1) (change_told 0) [] → ⊥ }
-    ensures later { LawfulLine later_held (change_told 0) [] → ⊥ }
+    ensures own { Lawful (two_vbs 6 set_and_show) (two_vbs_groups 6 (sets_groups (change_line 0 ∷ []))) }
+    ensures writer { Lawful (two_vbs 6 set_and_show) (two_vbs_groups 6 (sets_groups (change_line 1 ∷ []))) → ⊥ }
+    ensures maker { LawfulLine both_on_one (change_line 0) [] }
+    ensures follower { LawfulLine both_on_one (change_line 1) [] → ⊥ }
+    ensures above { LawfulLine (forked_at 0) (change_line 0) [] }
+    ensures at_fork { LawfulLine (forked_at 1) (change_line 0) [] → ⊥ }
+    ensures later { LawfulLine later_held (change_line 0) [] → ⊥ }
     ensures on_new { LawfulFrom (made_from 5) (next_made 7) }
     ensures left { LawfulFrom (made_from 5) (next_made 5) → ⊥ }
-    ensures same { Lawful (two_vbs 6 set_and_show) (two_vbs_told 6 (shown_after_change 5)) }
-    ensures history { Lawful (two_vbs 6 set_and_show) (two_vbs_told 6 (shown_after_change 6)) → ⊥ }
-    ensures dead { Lawful (two_vbs 6 set_and_show) (two_vbs_told 6 (shown_unchanged role.Dead 5)) }
-    ensures dead_other { Lawful (two_vbs 6 set_and_show) (two_vbs_told 6 (shown_unchanged role.Dead 6)) → ⊥ }
-    ensures active { Lawful (two_vbs 6 set_and_show) (two_vbs_told 6 (shown_unchanged role.Active 6)) → ⊥ }
+    ensures same { Lawful (two_vbs 6 set_and_show) (two_vbs_groups 6 (shown_after_change 5)) }
+    ensures history { Lawful (two_vbs 6 set_and_show) (two_vbs_groups 6 (shown_after_change 6)) → ⊥ }
+    ensures dead { Lawful (two_vbs 6 set_and_show) (two_vbs_groups 6 (shown_unchanged role.Dead 5)) }
+    ensures dead_other { Lawful (two_vbs 6 set_and_show) (two_vbs_groups 6 (shown_unchanged role.Dead 6)) → ⊥ }
+    ensures active { Lawful (two_vbs 6 set_and_show) (two_vbs_groups 6 (shown_unchanged role.Active 6)) → ⊥ }
     ensures log_shown { LawfulFrom (logged_six after_dead) (empty_uuid role.Dead 6) }
-    ensures log_history { LawfulFrom (logged_six after_dead_changed) (shown_one role.Dead 6 1 0 (value_told (8 ∷ []))) → ⊥ }
+    ensures log_history { LawfulFrom (logged_six after_dead_changed) (shown_with_change role.Dead 6 1 0 (value_lines (8 ∷ []))) → ⊥ }
     ensures log_active { LawfulFrom (logged_six after_active) (empty_uuid role.Active 6) → ⊥ }
     ensures leaves { LawfulFrom after_dead_changed (branch_left (Some 5) 1 1) }
     ensures parent { LawfulFrom after_dead_changed (branch_left (Some 6) 1 1) → ⊥ }
@@ -75,28 +75,28 @@ pub fn judged_branches()
 /// that the log lacks, or beyond its changes; an empty replica that is sent back; a refusal without a
 /// status; a request for another vBucket than the link was dialed for; and one over a link that ended.
 pub fn judged_requests()
-    ensures asks { Lawful two_followed (asked_so granted_told) }
-    ensures log { Lawful two_followed (asked_so (asked_told (ask_above 0 0) 2 (log_of 6) ask_answer.Go)) → ⊥ }
-    ensures high { Lawful two_followed (asked_so (asked_told (ask_above 0 0) 3 (log_of 5) ask_answer.Go)) → ⊥ }
-    ensures unknown { Lawful two_followed (asked_so (asked_told (ask_above 1 9) 2 (log_of 5) ask_answer.Go)) → ⊥ }
-    ensures ahead { Lawful two_followed (asked_so (asked_told (ask_above 3 5) 2 (log_of 5) ask_answer.Go)) → ⊥ }
-    ensures back { Lawful two_followed (asked_so (asked_told (ask_above 0 0) 2 (log_of 5) (ask_answer.Roll 0))) → ⊥ }
-    ensures nameless { Lawful two_followed (asked_so (asked_told (ask_above 0 0) 2 (log_of 5) (ask_answer.Refuse 0))) → ⊥ }
-    ensures other { Lawful two_followed (asked_so other_asked) → ⊥ }
-    ensures late { Lawful two_followed (asked_so late_asked) → ⊥ }
+    ensures asks { Lawful two_followed (ask_groups granted_lines) }
+    ensures log { Lawful two_followed (ask_groups (ask_lines (ask_above 0 0) 2 (log_of 6) ask_answer.Go)) → ⊥ }
+    ensures high { Lawful two_followed (ask_groups (ask_lines (ask_above 0 0) 3 (log_of 5) ask_answer.Go)) → ⊥ }
+    ensures unknown { Lawful two_followed (ask_groups (ask_lines (ask_above 1 9) 2 (log_of 5) ask_answer.Go)) → ⊥ }
+    ensures ahead { Lawful two_followed (ask_groups (ask_lines (ask_above 3 5) 2 (log_of 5) ask_answer.Go)) → ⊥ }
+    ensures back { Lawful two_followed (ask_groups (ask_lines (ask_above 0 0) 2 (log_of 5) (ask_answer.Roll 0))) → ⊥ }
+    ensures nameless { Lawful two_followed (ask_groups (ask_lines (ask_above 0 0) 2 (log_of 5) (ask_answer.Refuse 0))) → ⊥ }
+    ensures other { Lawful two_followed (ask_groups other_ask_lines) → ⊥ }
+    ensures late { Lawful two_followed (ask_groups late_ask_lines) → ⊥ }
 {}
 
 /// A request that names an older branch of the log is granted up to where the newer one was made, and
 /// sent back to there from above it. Neither is lawful where the newer branch has another history, or
 /// where the vBucket is not active: then it refuses.
 pub fn judged_prefixes()
-    ensures continues { LawfulFrom (made_from 5) (asked_of_made 1 ask_answer.Go) }
-    ensures rolls { LawfulFrom (made_from 5) (asked_of_made 2 (ask_answer.Roll 1)) }
-    ensures stranger { LawfulFrom (made_from 6) (asked_of_made 1 ask_answer.Go) → ⊥ }
-    ensures rolls_stranger { LawfulFrom (made_from 6) (asked_of_made 2 (ask_answer.Roll 1)) → ⊥ }
-    ensures dead_continues { LawfulFrom made_dead (asked_of_made 1 ask_answer.Go) → ⊥ }
-    ensures dead_rolls { LawfulFrom made_dead (asked_of_made 2 (ask_answer.Roll 1)) → ⊥ }
-    ensures dead_refuses { LawfulFrom made_dead (asked_of_made 1 (ask_answer.Refuse 7)) }
+    ensures continues { LawfulFrom (made_from 5) (made_ask_lines 1 ask_answer.Go) }
+    ensures rolls { LawfulFrom (made_from 5) (made_ask_lines 2 (ask_answer.Roll 1)) }
+    ensures stranger { LawfulFrom (made_from 6) (made_ask_lines 1 ask_answer.Go) → ⊥ }
+    ensures rolls_stranger { LawfulFrom (made_from 6) (made_ask_lines 2 (ask_answer.Roll 1)) → ⊥ }
+    ensures dead_continues { LawfulFrom made_dead (made_ask_lines 1 ask_answer.Go) → ⊥ }
+    ensures dead_rolls { LawfulFrom made_dead (made_ask_lines 2 (ask_answer.Roll 1)) → ⊥ }
+    ensures dead_refuses { LawfulFrom made_dead (made_ask_lines 1 (ask_answer.Refuse 7)) }
 {}
 
 /// Two changes are sent in one snapshot, or each in its own, and a request from inside a snapshot is
@@ -104,24 +104,24 @@ pub fn judged_prefixes()
 /// means, or ends below; one that ends where no change is; one behind a snapshot of which an item was
 /// not put; one of a link that dials for another vBucket than the stream's; and one that names the disk.
 pub fn judged_markers()
-    ensures whole { Lawful two_followed (sent_so both_told) }
-    ensures parts { Lawful two_followed (sent_so (marker_told 0 1 ∷ first_told ∷ marker_told 1 2 ∷ next_told ∷ [])) }
-    ensures inside { LawfulFrom (granted_inside 2) (marker_told 0 2 ∷ []) }
-    ensures start { Lawful two_followed (sent_so (marker_told 1 2 ∷ first_told ∷ next_told ∷ [])) → ⊥ }
-    ensures later_start { LawfulFrom (granted_inside 2) (marker_told 1 2 ∷ []) → ⊥ }
-    ensures short { LawfulFrom (granted_inside 3) (marker_told 0 2 ∷ []) → ⊥ }
-    ensures beyond { Lawful two_followed (sent_so (marker_told 0 3 ∷ [])) → ⊥ }
-    ensures unput { Lawful two_followed (sent_so (marker_told 0 1 ∷ marker_told 1 2 ∷ next_told ∷ [])) → ⊥ }
-    ensures other { LawfulFrom dialed_elsewhere (marker_told 0 2 ∷ []) → ⊥ }
+    ensures whole { Lawful two_followed (sent_so both_sent_lines) }
+    ensures parts { Lawful two_followed (sent_so (marker_line 0 1 ∷ first_item_line ∷ marker_line 1 2 ∷ next_item_line ∷ [])) }
+    ensures inside { LawfulFrom (granted_inside 2) (marker_line 0 2 ∷ []) }
+    ensures start { Lawful two_followed (sent_so (marker_line 1 2 ∷ first_item_line ∷ next_item_line ∷ [])) → ⊥ }
+    ensures later_start { LawfulFrom (granted_inside 2) (marker_line 1 2 ∷ []) → ⊥ }
+    ensures short { LawfulFrom (granted_inside 3) (marker_line 0 2 ∷ []) → ⊥ }
+    ensures beyond { Lawful two_followed (sent_so (marker_line 0 3 ∷ [])) → ⊥ }
+    ensures unput { Lawful two_followed (sent_so (marker_line 0 1 ∷ marker_line 1 2 ∷ next_item_line ∷ [])) → ⊥ }
+    ensures other { LawfulFrom dialed_elsewhere (marker_line 0 2 ∷ []) → ⊥ }
     ensures disk { LawfulFrom (granted_inside 2) disk_marker → ⊥ }
 {}
 
 /// Not lawful are an item of another key than the change at its seqno, one with the snapshot's end
 /// while another change is still to come, and one that is put twice.
 pub fn judged_items()
-    ensures key { Lawful two_followed (sent_so (marker_told 0 2 ∷ set_told 1 (9 ∷ []) ∷ [])) → ⊥ }
-    ensures skipped { Lawful two_followed (sent_so (marker_told 0 2 ∷ next_told ∷ [])) → ⊥ }
-    ensures twice { Lawful two_followed (sent_so (marker_told 0 2 ∷ first_told ∷ first_told ∷ [])) → ⊥ }
+    ensures key { Lawful two_followed (sent_so (marker_line 0 2 ∷ set_item_line 1 (9 ∷ []) ∷ [])) → ⊥ }
+    ensures skipped { Lawful two_followed (sent_so (marker_line 0 2 ∷ next_item_line ∷ [])) → ⊥ }
+    ensures twice { Lawful two_followed (sent_so (marker_line 0 2 ∷ first_item_line ∷ first_item_line ∷ [])) → ⊥ }
 {}
 
 /// A replica takes over the log that its request was answered with, and no other, and none after the
@@ -131,15 +131,15 @@ pub fn judged_items()
 pub fn judged_replicas()
     ensures adopts { Lawful two_followed (adopted_so 5) }
     ensures adopted { Lawful two_followed (adopted_so 6) → ⊥ }
-    ensures taker { Lawful two_followed (answered_so stranger_told) → ⊥ }
-    ensures ended { Lawful two_followed (answered_so ended_told) → ⊥ }
+    ensures taker { Lawful two_followed (answered_so stranger_lines) → ⊥ }
+    ensures ended { Lawful two_followed (answered_so ended_lines) → ⊥ }
     ensures again { Lawful two_followed (got_so again_got) → ⊥ }
     ensures right { Lawful two_followed (shown_so (replica_shown 2 two_docs)) }
     ensures more { Lawful two_followed (shown_so (replica_shown 3 (two_docs ++ third_doc))) → ⊥ }
     ensures missing { Lawful two_followed (shown_so (replica_shown 1 (take 1 two_docs))) → ⊥ }
     ensures another { Lawful two_followed (shown_so (replica_shown 2 (take 1 two_docs ++ third_doc))) → ⊥ }
-    ensures onward { LawfulFrom after_both (replica_asked 2) }
-    ensures onward_none { LawfulFrom after_both (replica_asked 0) → ⊥ }
+    ensures onward { LawfulFrom after_both (replica_ask_lines 2) }
+    ensures onward_none { LawfulFrom after_both (replica_ask_lines 0) → ⊥ }
 {}
 
 /// A replica takes the marker of the snapshot that its link's stream began, and then the snapshot's
@@ -150,47 +150,47 @@ pub fn judged_replicas()
 /// in front of it, one that was not put, and one that is inside its snapshot and was not put yet; and
 /// either before it took the stream's log over.
 pub fn judged_taken()
-    ensures range { LawfulFrom (sent_told both_told) (range_told 0 0 2) }
-    ensures high { LawfulFrom (sent_told both_told) (range_told 0 1 2) → ⊥ }
-    ensures low { LawfulFrom after_both (range_told 0 0 1) → ⊥ }
-    ensures beyond { LawfulFrom (sent_told both_told) (range_told 0 0 3) → ⊥ }
-    ensures again { LawfulFrom (sent_told both_told) (range_told 0 0 2 ++ range_told 0 0 2) → ⊥ }
-    ensures stranger { LawfulFrom (sent_told both_told) (range_told 1 0 2) → ⊥ }
-    ensures got { LawfulFrom (sent_told both_told) (range_told 0 0 2 ++ got_told 1 one_change) }
-    ensures other_link { LawfulFrom (sent_told both_told) (got_told 2 one_change) → ⊥ }
-    ensures other_change { LawfulFrom (sent_told both_told) (got_told 1 strange_change) → ⊥ }
-    ensures skipped { LawfulFrom (sent_told both_told) (got_told 1 next_change) → ⊥ }
-    ensures unput { LawfulFrom (sent_told (marker_told 0 1 ∷ first_told ∷ [])) (got_told 1 next_change) → ⊥ }
-    ensures early { LawfulFrom (sent_told (marker_told 0 2 ∷ first_told ∷ [])) (got_told 1 one_change ++ got_told 1 next_change) → ⊥ }
-    ensures range_unadopted { LawfulFrom unadopted (range_told 0 0 2) → ⊥ }
-    ensures got_unadopted { LawfulFrom unadopted (got_told 1 one_change) → ⊥ }
+    ensures range { LawfulFrom (sent_known both_sent_lines) (range_lines 0 0 2) }
+    ensures high { LawfulFrom (sent_known both_sent_lines) (range_lines 0 1 2) → ⊥ }
+    ensures low { LawfulFrom after_both (range_lines 0 0 1) → ⊥ }
+    ensures beyond { LawfulFrom (sent_known both_sent_lines) (range_lines 0 0 3) → ⊥ }
+    ensures again { LawfulFrom (sent_known both_sent_lines) (range_lines 0 0 2 ++ range_lines 0 0 2) → ⊥ }
+    ensures stranger { LawfulFrom (sent_known both_sent_lines) (range_lines 1 0 2) → ⊥ }
+    ensures got { LawfulFrom (sent_known both_sent_lines) (range_lines 0 0 2 ++ got_lines 1 one_change) }
+    ensures other_link { LawfulFrom (sent_known both_sent_lines) (got_lines 2 one_change) → ⊥ }
+    ensures other_change { LawfulFrom (sent_known both_sent_lines) (got_lines 1 strange_change) → ⊥ }
+    ensures skipped { LawfulFrom (sent_known both_sent_lines) (got_lines 1 next_change) → ⊥ }
+    ensures unput { LawfulFrom (sent_known (marker_line 0 1 ∷ first_item_line ∷ [])) (got_lines 1 next_change) → ⊥ }
+    ensures early { LawfulFrom (sent_known (marker_line 0 2 ∷ first_item_line ∷ [])) (got_lines 1 one_change ++ got_lines 1 next_change) → ⊥ }
+    ensures range_unadopted { LawfulFrom unadopted (range_lines 0 0 2) → ⊥ }
+    ensures got_unadopted { LawfulFrom unadopted (got_lines 1 one_change) → ⊥ }
 {}
 
 /// A consumer that was sent back and wrote nothing down goes back to 0. Not lawful are one that goes
 /// elsewhere, one that names another point than the one that it was sent to, one that was not sent
 /// back, one that goes back twice, and one whose link is another of the same number by then.
 pub fn judged_rollbacks()
-    ensures back { LawfulFrom sent_back (rolled_told 1 0) }
-    ensures elsewhere { LawfulFrom sent_back (rolled_told 1 1) → ⊥ }
-    ensures unnamed { LawfulFrom sent_back (rolled_told 2 0) → ⊥ }
-    ensures unasked { LawfulFrom (made_from 5) (rolled_told 1 0) → ⊥ }
-    ensures twice { LawfulFrom sent_back (rolled_told 1 0 ++ rolled_told 1 0) → ⊥ }
-    ensures anew { LawfulFrom (dialed_anew sent_back) (rolled_told 1 0) → ⊥ }
+    ensures back { LawfulFrom sent_back (rolled_lines 1 0) }
+    ensures elsewhere { LawfulFrom sent_back (rolled_lines 1 1) → ⊥ }
+    ensures unnamed { LawfulFrom sent_back (rolled_lines 2 0) → ⊥ }
+    ensures unasked { LawfulFrom (made_from 5) (rolled_lines 1 0) → ⊥ }
+    ensures twice { LawfulFrom sent_back (rolled_lines 1 0 ++ rolled_lines 1 0) → ⊥ }
+    ensures anew { LawfulFrom (dialed_anew sent_back) (rolled_lines 1 0) → ⊥ }
 {}
 
 /// One that wrote a whole snapshot down goes back to its end, and not below. It does not go to where it
 /// was inside a snapshot, nor above the point that is named. What it wrote down above is gone then, and
 /// the batch on its way too. A journal's complete point has the documents of the vBucket's branch.
 pub fn judged_points()
-    ensures point { LawfulFrom (with_stood sent_back (within 1 1 ∷ []) 1) (rolled_told 1 1) }
-    ensures below { LawfulFrom (with_stood sent_back (within 1 1 ∷ []) 1) (rolled_told 1 0) → ⊥ }
-    ensures inside { LawfulFrom (with_stood sent_back (within 2 1 ∷ []) 1) (rolled_told 1 0) }
-    ensures not_inside { LawfulFrom (with_stood sent_back (within 2 1 ∷ []) 1) (rolled_told 1 1) → ⊥ }
-    ensures greatest { LawfulFrom (with_stood sent_back (within 2 2 ∷ within 1 1 ∷ []) 2) (rolled_told 1 1 ++ stat_told 1 1 0) }
-    ensures above { LawfulFrom (with_stood sent_back (within 2 2 ∷ within 1 1 ∷ []) 2) (rolled_told 1 2) → ⊥ }
-    ensures saved { LawfulFrom (with_stood sent_back (within 2 2 ∷ within 1 1 ∷ []) 2) (rolled_told 1 1 ++ stat_told 1 2 0) → ⊥ }
-    ensures kept { stood ((after_lines (with_written sent_back (taken 3 3) (within 2 2 ∷ within 1 1 ∷ []) 2) (rolled_told 1 1)).disk_at 1 0) ≡ within 1 1 ∷ [] }
-    ensures gone { ((after_lines (with_written sent_back (taken 3 3) (within 2 2 ∷ within 1 1 ∷ []) 2) (rolled_told 1 1)).disk_at 1 0).flushing ≡ Idle }
+    ensures point { LawfulFrom (with_stood sent_back (within 1 1 ∷ []) 1) (rolled_lines 1 1) }
+    ensures below { LawfulFrom (with_stood sent_back (within 1 1 ∷ []) 1) (rolled_lines 1 0) → ⊥ }
+    ensures inside { LawfulFrom (with_stood sent_back (within 2 1 ∷ []) 1) (rolled_lines 1 0) }
+    ensures not_inside { LawfulFrom (with_stood sent_back (within 2 1 ∷ []) 1) (rolled_lines 1 1) → ⊥ }
+    ensures greatest { LawfulFrom (with_stood sent_back (within 2 2 ∷ within 1 1 ∷ []) 2) (rolled_lines 1 1 ++ stat_lines 1 1 0) }
+    ensures above { LawfulFrom (with_stood sent_back (within 2 2 ∷ within 1 1 ∷ []) 2) (rolled_lines 1 2) → ⊥ }
+    ensures saved { LawfulFrom (with_stood sent_back (within 2 2 ∷ within 1 1 ∷ []) 2) (rolled_lines 1 1 ++ stat_lines 1 2 0) → ⊥ }
+    ensures kept { stood ((after_lines (with_written sent_back (taken 3 3) (within 2 2 ∷ within 1 1 ∷ []) 2) (rolled_lines 1 1)).disk_at 1 0) ≡ within 1 1 ∷ [] }
+    ensures gone { ((after_lines (with_written sent_back (taken 3 3) (within 2 2 ∷ within 1 1 ∷ []) 2) (rolled_lines 1 1)).disk_at 1 0).flushing ≡ Idle }
     ensures branch { PointsAreBranch after_got 1 0 (point_noted (one_change ∷ [])) }
     ensures other { PointsAreBranch after_got 1 0 (point_noted []) → ⊥ }
 {}
@@ -200,18 +200,18 @@ pub fn judged_points()
 /// snapshot or in front of it, one of changes that were written down already, one while another is on its
 /// way, and one while another stands that does not count as saved yet.
 pub fn judged_batches()
-    ensures both { LawfulFrom after_both (batch_told 2 2 2) }
-    ensures first { LawfulFrom after_both (batch_told 2 1 1) }
-    ensures beyond { LawfulFrom after_both (batch_told 3 3 2) → ⊥ }
-    ensures nothing { LawfulFrom after_both (batch_told 2 2 0) → ⊥ }
-    ensures more { LawfulFrom after_both (batch_told 2 2 3) → ⊥ }
-    ensures behind { LawfulFrom after_both (batch_told 1 2 2) → ⊥ }
-    ensures again { LawfulFrom (with_stood after_both (within 2 2 ∷ []) 0) (batch_told 2 2 2) → ⊥ }
-    ensures rest { LawfulFrom (with_stood after_both (within 2 1 ∷ []) 1) (batch_told 2 2 1) }
-    ensures rest_more { LawfulFrom (with_stood after_both (within 2 1 ∷ []) 1) (batch_told 2 2 2) → ⊥ }
-    ensures twice { LawfulFrom after_both (batch_told 2 1 1 ++ batch_told 2 2 1) → ⊥ }
+    ensures both { LawfulFrom after_both (batch_lines 2 2 2) }
+    ensures first { LawfulFrom after_both (batch_lines 2 1 1) }
+    ensures beyond { LawfulFrom after_both (batch_lines 3 3 2) → ⊥ }
+    ensures nothing { LawfulFrom after_both (batch_lines 2 2 0) → ⊥ }
+    ensures more { LawfulFrom after_both (batch_lines 2 2 3) → ⊥ }
+    ensures behind { LawfulFrom after_both (batch_lines 1 2 2) → ⊥ }
+    ensures again { LawfulFrom (with_stood after_both (within 2 2 ∷ []) 0) (batch_lines 2 2 2) → ⊥ }
+    ensures rest { LawfulFrom (with_stood after_both (within 2 1 ∷ []) 1) (batch_lines 2 2 1) }
+    ensures rest_more { LawfulFrom (with_stood after_both (within 2 1 ∷ []) 1) (batch_lines 2 2 2) → ⊥ }
+    ensures twice { LawfulFrom after_both (batch_lines 2 1 1 ++ batch_lines 2 2 1) → ⊥ }
     ensures in_front { LawfulFrom after_both (event.Batch 1 0 2 2 1 1 ∷ []) → ⊥ }
-    ensures undone { LawfulFrom (with_written after_both (Written 1) (within 2 1 ∷ []) 0) (batch_told 2 2 1) → ⊥ }
+    ensures undone { LawfulFrom (with_written after_both (Written 1) (within 2 1 ∷ []) 0) (batch_lines 2 2 1) → ⊥ }
 {}
 
 /// A batch is taken with as many changes as its line tells, of the vBucket that the line names, or
@@ -219,13 +219,13 @@ pub fn judged_batches()
 /// more does already, and is not on its way any more; the numbers that are shown are these, the last
 /// seqno, at least one cursor, the flusher's, and no more spans than changes.
 pub fn judged_saves()
-    ensures taken { LawfulAnswer after_both (verb.AtVb 1 0 vb_verb.Take) (batch_told 2 2 2) (answer.Number 2) }
-    ensures taken_other { LawfulAnswer after_both (verb.AtVb 1 0 vb_verb.Take) (batch_told 2 2 2) (answer.Number 1) → ⊥ }
-    ensures taken_elsewhere { LawfulAnswer after_both (verb.AtVb 2 0 vb_verb.Take) (batch_told 2 2 2) (answer.Number 2) → ⊥ }
+    ensures taken { LawfulAnswer after_both (verb.AtVb 1 0 vb_verb.Take) (batch_lines 2 2 2) (answer.Number 2) }
+    ensures taken_other { LawfulAnswer after_both (verb.AtVb 1 0 vb_verb.Take) (batch_lines 2 2 2) (answer.Number 1) → ⊥ }
+    ensures taken_elsewhere { LawfulAnswer after_both (verb.AtVb 2 0 vb_verb.Take) (batch_lines 2 2 2) (answer.Number 2) → ⊥ }
     ensures none { LawfulAnswer after_both (verb.AtVb 1 0 vb_verb.Take) [] (answer.Number 0) }
     ensures untold { LawfulAnswer after_both (verb.AtVb 1 0 vb_verb.Take) [] (answer.Number 2) → ⊥ }
     ensures refused { LawfulAnswer after_both (verb.AtVb 1 0 vb_verb.Take) [] (answer.No cause.BatchOut) }
-    ensures refused_told { LawfulAnswer after_both (verb.AtVb 1 0 vb_verb.Take) (batch_told 2 2 2) (answer.No cause.BatchOut) → ⊥ }
+    ensures refused_told { LawfulAnswer after_both (verb.AtVb 1 0 vb_verb.Take) (batch_lines 2 2 2) (answer.No cause.BatchOut) → ⊥ }
     ensures saved { LawfulAnswer (with_written after_both (taken 2 2) [] 0) (verb.AtVb 1 0 vb_verb.Save) [] answer.Ok }
     ensures untaken { LawfulAnswer after_both (verb.AtVb 1 0 vb_verb.Save) [] answer.Ok → ⊥ }
     ensures twice { LawfulAnswer (with_written after_both (Written 2) (within 2 2 ∷ []) 0) (verb.AtVb 1 0 vb_verb.Save) [] answer.Ok → ⊥ }
@@ -235,10 +235,10 @@ pub fn judged_saves()
     ensures early { LawfulAnswer (with_written after_both (taken 2 2) [] 0) (verb.AtVb 1 0 vb_verb.Done) [] (answer.Number 2) → ⊥ }
     ensures stands { (after_group (with_written after_both (taken 2 2) [] 0) (verb.AtVb 1 0 vb_verb.Save) [] answer.Ok).disk_at 1 0 ≡ (with_written after_both (Written 2) (within 2 2 ∷ []) 0).disk_at 1 0 }
     ensures counts { (after_group (with_written after_both (Written 2) (within 2 2 ∷ []) 0) (verb.AtVb 1 0 vb_verb.Done) [] (answer.Number 2)).disk_at 1 0 ≡ (with_stood after_both (within 2 2 ∷ []) 2).disk_at 1 0 }
-    ensures numbers { LawfulFrom (with_stood after_both (within 2 2 ∷ []) 2) (stat_told 1 2 2) }
-    ensures more_saved { LawfulFrom (with_stood after_both (within 2 2 ∷ []) 1) (stat_told 1 2 2) → ⊥ }
-    ensures other_last { LawfulFrom (with_stood after_both (within 2 2 ∷ []) 2) (stat_told 1 2 3) → ⊥ }
-    ensures no_cursor { LawfulFrom (with_stood after_both (within 2 2 ∷ []) 2) (stat_told 0 2 2) → ⊥ }
+    ensures numbers { LawfulFrom (with_stood after_both (within 2 2 ∷ []) 2) (stat_lines 1 2 2) }
+    ensures more_saved { LawfulFrom (with_stood after_both (within 2 2 ∷ []) 1) (stat_lines 1 2 2) → ⊥ }
+    ensures other_last { LawfulFrom (with_stood after_both (within 2 2 ∷ []) 2) (stat_lines 1 2 3) → ⊥ }
+    ensures no_cursor { LawfulFrom (with_stood after_both (within 2 2 ∷ []) 2) (stat_lines 0 2 2) → ⊥ }
     ensures empty_span { LawfulFrom (with_stood after_both (within 2 2 ∷ []) 2) (event.Stat 1 0 3 2 1 2 2 ∷ []) → ⊥ }
 {}
 
@@ -246,30 +246,30 @@ pub fn judged_saves()
 /// second end either, nor behind the end of its link, even where a link of that number is dialed anew.
 /// A stream that was asked for with no end does not end as if it had reached one. A link ends once.
 pub fn judged_ends()
-    ensures ends { LawfulFrom (granted_inside 2) (rest_told ++ end_told) }
-    ensures inside { LawfulFrom (granted_inside 2) (marker_told 0 2 ∷ end_told) → ⊥ }
-    ensures behind { LawfulFrom (granted_inside 2) (end_told ++ marker_told 0 2 ∷ []) → ⊥ }
-    ensures twice { LawfulFrom (granted_inside 2) (end_told ++ end_told) → ⊥ }
-    ensures reason { LawfulFrom (granted_inside 2) done_told → ⊥ }
-    ensures over { LawfulFrom (granted_inside 2) (link_over ++ marker_told 0 2 ∷ []) → ⊥ }
+    ensures ends { LawfulFrom (granted_inside 2) (rest_lines ++ stream_end_lines) }
+    ensures inside { LawfulFrom (granted_inside 2) (marker_line 0 2 ∷ stream_end_lines) → ⊥ }
+    ensures behind { LawfulFrom (granted_inside 2) (stream_end_lines ++ marker_line 0 2 ∷ []) → ⊥ }
+    ensures twice { LawfulFrom (granted_inside 2) (stream_end_lines ++ stream_end_lines) → ⊥ }
+    ensures reason { LawfulFrom (granted_inside 2) done_lines → ⊥ }
+    ensures over { LawfulFrom (granted_inside 2) (link_over ++ marker_line 0 2 ∷ []) → ⊥ }
     ensures ended { LawfulFrom (granted_inside 2) link_over }
     ensures ended_twice { LawfulFrom (granted_inside 2) (link_over ++ link_over) → ⊥ }
-    ensures anew { LawfulFrom (dialed_anew (granted_inside 2)) (marker_told 0 2 ∷ []) → ⊥ }
+    ensures anew { LawfulFrom (dialed_anew (granted_inside 2)) (marker_line 0 2 ∷ []) → ⊥ }
 {}
 
 /// A vBucket's failover log is the one that the lines tell. A role that a vBucket has is not told
 /// again, a vBucket that is not active makes no change, it is shown in no other role, and one that was
 /// not made is not shown. Where role and log are not known any more, each of these is lawful.
 pub fn judged_roles()
-    ensures log { LawfulFrom (made_from 5) (log_told made_log) }
-    ensures other { LawfulFrom (made_from 5) (log_told (log_of 5)) → ⊥ }
+    ensures log { LawfulFrom (made_from 5) (log_lines made_log) }
+    ensures other { LawfulFrom (made_from 5) (log_lines (log_of 5)) → ⊥ }
     ensures same { LawfulFrom after_active (event.Role 0 0 role.Active ∷ []) → ⊥ }
-    ensures resting { LawfulFrom after_dead (change_told 0 ∷ []) → ⊥ }
+    ensures resting { LawfulFrom after_dead (change_line 0 ∷ []) → ⊥ }
     ensures shown { LawfulFrom after_dead (empty_shown role.Replica) → ⊥ }
     ensures unmade { LawfulFrom empty_chronicle (empty_shown role.Replica) → ⊥ }
-    ensures any_log { LawfulFrom forgotten (log_told (log_of 6)) }
+    ensures any_log { LawfulFrom forgotten (log_lines (log_of 6)) }
     ensures any_role { LawfulFrom forgotten (event.Role 0 0 role.Dead ∷ []) }
-    ensures any_change { LawfulFrom forgotten (change_told 0 ∷ []) }
+    ensures any_change { LawfulFrom forgotten (change_line 0 ∷ []) }
     ensures any_shown { LawfulFrom forgotten (empty_shown role.Replica) }
 {}
 
@@ -278,12 +278,12 @@ pub fn judged_roles()
 /// back, one that was not made and has a log, and a vBucket that turns dead twice, changes its branch
 /// or is shown as active while it follows, or is shown as dead after it was made active again.
 pub fn judged_known()
-    ensures adopted { LawfulFrom after_both (asked_by (log_of 6)) → ⊥ }
+    ensures adopted { LawfulFrom after_both (refused_ask_lines (log_of 6)) → ⊥ }
     ensures kept { LawfulFrom after_back (taken_log (log_of 5)) }
     ensures cut { LawfulFrom after_back (taken_log made_log) → ⊥ }
-    ensures unmade { LawfulFrom empty_chronicle (log_told (log_of 5)) → ⊥ }
+    ensures unmade { LawfulFrom empty_chronicle (log_lines (log_of 5)) → ⊥ }
     ensures dead_again { LawfulFrom after_dead (event.Role 0 0 role.Dead ∷ []) → ⊥ }
-    ensures changes { LawfulFrom after_follow (change_told 0 ∷ []) → ⊥ }
+    ensures changes { LawfulFrom after_follow (change_line 0 ∷ []) → ⊥ }
     ensures active { LawfulFrom after_follow (empty_shown role.Active) → ⊥ }
     ensures dead { LawfulFrom after_promote (empty_shown role.Dead) → ⊥ }
 {}
@@ -293,14 +293,14 @@ pub fn judged_known()
 /// document, another count of documents, and another branch than its log's newest, or none. One that
 /// becomes active there is at the end of what it holds, and is not shown inside the snapshot any more.
 pub fn judged_shows()
-    ensures right { LawfulFrom inside_got (inside_shown role.Replica 1 2 1 (value_told (8 ∷ []))) }
-    ensures dead { LawfulFrom inside_dead (inside_shown role.Dead 1 2 1 (value_told (8 ∷ []))) }
-    ensures role { LawfulFrom inside_dead (inside_shown role.Replica 1 2 1 (value_told (8 ∷ []))) → ⊥ }
-    ensures seqno { LawfulFrom inside_got (inside_shown role.Replica 0 2 1 (value_told (8 ∷ []))) → ⊥ }
-    ensures snapshot { LawfulFrom inside_got (inside_shown role.Replica 1 3 1 (value_told (8 ∷ []))) → ⊥ }
-    ensures value { LawfulFrom inside_got (inside_shown role.Replica 1 2 1 (value_told (9 ∷ []))) → ⊥ }
+    ensures right { LawfulFrom inside_got (inside_shown role.Replica 1 2 1 (value_lines (8 ∷ []))) }
+    ensures dead { LawfulFrom inside_dead (inside_shown role.Dead 1 2 1 (value_lines (8 ∷ []))) }
+    ensures role { LawfulFrom inside_dead (inside_shown role.Replica 1 2 1 (value_lines (8 ∷ []))) → ⊥ }
+    ensures seqno { LawfulFrom inside_got (inside_shown role.Replica 0 2 1 (value_lines (8 ∷ []))) → ⊥ }
+    ensures snapshot { LawfulFrom inside_got (inside_shown role.Replica 1 3 1 (value_lines (8 ∷ []))) → ⊥ }
+    ensures value { LawfulFrom inside_got (inside_shown role.Replica 1 2 1 (value_lines (9 ∷ []))) → ⊥ }
     ensures missing { LawfulFrom inside_got (inside_shown role.Replica 1 2 1 []) → ⊥ }
-    ensures count { LawfulFrom inside_got (inside_shown role.Replica 1 2 2 (value_told (8 ∷ []))) → ⊥ }
+    ensures count { LawfulFrom inside_got (inside_shown role.Replica 1 2 2 (value_lines (8 ∷ []))) → ⊥ }
     ensures newest { LawfulFrom inside_got (inside_newest 5) }
     ensures other { LawfulFrom inside_got (inside_newest 6) → ⊥ }
     ensures none { LawfulFrom inside_got (inside_newest 0) → ⊥ }
@@ -311,10 +311,10 @@ pub fn judged_shows()
 /// A vBucket that waits for a durable write is shown with that prepare, its seqno and its level. Not
 /// lawful are the same without the prepare's line, with another seqno, and with another level.
 pub fn judged_prepares()
-    ensures right { LawfulFrom after_prepare (prepare_shown (prepare_told 1 level.Majority)) }
+    ensures right { LawfulFrom after_prepare (prepare_shown (prepare_lines 1 level.Majority)) }
     ensures missing { LawfulFrom after_prepare (prepare_shown []) → ⊥ }
-    ensures seqno { LawfulFrom after_prepare (prepare_shown (prepare_told 2 level.Majority)) → ⊥ }
-    ensures other { LawfulFrom after_prepare (prepare_shown (prepare_told 1 level.PersistMajority)) → ⊥ }
+    ensures seqno { LawfulFrom after_prepare (prepare_shown (prepare_lines 2 level.Majority)) → ⊥ }
+    ensures other { LawfulFrom after_prepare (prepare_shown (prepare_lines 1 level.PersistMajority)) → ⊥ }
 {}
 
 /// A replica that has both changes of a snapshot acknowledges the second one, and inside the snapshot
@@ -328,32 +328,32 @@ pub fn judged_prepares()
 /// dialed anew, also by another node, more than the vBucket holds, and either behind the stream's
 /// end, or where the vBucket is dead or on another branch.
 pub fn judged_acknowledgements()
-    ensures whole { LawfulFrom after_both (acknowledged_told 1 2) }
-    ensures above { LawfulFrom after_both (acknowledged_told 1 3) → ⊥ }
-    ensures before { LawfulFrom inside_got (acknowledged_told 1 0) }
-    ensures inside { LawfulFrom inside_got (acknowledged_told 1 1) → ⊥ }
-    ensures strange { LawfulFrom after_both (acknowledged_told 3 2) → ⊥ }
-    ensures elsewhere { LawfulFrom after_both (acknowledged_told 2 2) → ⊥ }
-    ensures ungranted { LawfulFrom after_both ungranted_told → ⊥ }
+    ensures whole { LawfulFrom after_both (acknowledged_lines 1 2) }
+    ensures above { LawfulFrom after_both (acknowledged_lines 1 3) → ⊥ }
+    ensures before { LawfulFrom inside_got (acknowledged_lines 1 0) }
+    ensures inside { LawfulFrom inside_got (acknowledged_lines 1 1) → ⊥ }
+    ensures strange { LawfulFrom after_both (acknowledged_lines 3 2) → ⊥ }
+    ensures elsewhere { LawfulFrom after_both (acknowledged_lines 2 2) → ⊥ }
+    ensures ungranted { LawfulFrom after_both ungranted_lines → ⊥ }
     ensures saved { LawfulFrom third_saved (acknowledged_saved 1 2 2) }
-    ensures unsaved { LawfulFrom third_held (acknowledged_told 1 2) → ⊥ }
-    ensures unsaved_below { LawfulFrom third_below (acknowledged_told 1 3) → ⊥ }
-    ensures below_unsaved { LawfulFrom third_held (acknowledged_told 1 1) }
-    ensures second { LawfulFrom second_held (acknowledged_told 1 2) }
+    ensures unsaved { LawfulFrom third_held (acknowledged_lines 1 2) → ⊥ }
+    ensures unsaved_below { LawfulFrom third_below (acknowledged_lines 1 3) → ⊥ }
+    ensures below_the_unsaved { LawfulFrom third_held (acknowledged_lines 1 1) }
+    ensures second { LawfulFrom second_held (acknowledged_lines 1 2) }
     ensures missaid { LawfulFrom third_saved (acknowledged_saved 1 2 3) → ⊥ }
-    ensures astray { LawfulFrom on_another (acknowledged_told 1 2) → ⊥ }
-    ensures lost { LawfulFrom first_lost (acknowledged_told 1 2) → ⊥ }
-    ensures counted { LawfulFrom after_both (acknowledged_told 1 2 ++ counted_told 1 2) }
-    ensures unwritten { LawfulFrom after_both (counted_told 1 2) → ⊥ }
-    ensures number { LawfulFrom after_both (acknowledged_told 1 2 ++ counted_told 1 1) → ⊥ }
-    ensures member { LawfulFrom after_both (acknowledged_told 1 2 ++ counted_told 2 2) → ⊥ }
-    ensures itself { LawfulFrom dialed_itself (counted_told 0 2) → ⊥ }
-    ensures redialed { LawfulFrom dialed_by_another (counted_told 2 2) → ⊥ }
-    ensures granted_anew { LawfulFrom granted_anew (counted_told 1 2) → ⊥ }
-    ensures more { LawfulFrom (after_ack 3) (counted_told 1 3) → ⊥ }
-    ensures over { LawfulFrom after_both (acknowledged_told 1 2 ++ end_told ++ counted_told 1 2) → ⊥ }
-    ensures dead { LawfulFrom (after_both_dead after_both) (acknowledged_told 1 2 ++ counted_told 1 2) → ⊥ }
-    ensures branched { LawfulFrom after_both (acknowledged_told 1 2 ++ made_told ++ counted_told 1 2) → ⊥ }
+    ensures astray { LawfulFrom on_another (acknowledged_lines 1 2) → ⊥ }
+    ensures lost { LawfulFrom first_lost (acknowledged_lines 1 2) → ⊥ }
+    ensures counted { LawfulFrom after_both (acknowledged_lines 1 2 ++ counted_lines 1 2) }
+    ensures unwritten { LawfulFrom after_both (counted_lines 1 2) → ⊥ }
+    ensures number { LawfulFrom after_both (acknowledged_lines 1 2 ++ counted_lines 1 1) → ⊥ }
+    ensures member { LawfulFrom after_both (acknowledged_lines 1 2 ++ counted_lines 2 2) → ⊥ }
+    ensures itself { LawfulFrom dialed_itself (counted_lines 0 2) → ⊥ }
+    ensures redialed { LawfulFrom dialed_by_another (counted_lines 2 2) → ⊥ }
+    ensures granted_anew { LawfulFrom granted_anew (counted_lines 1 2) → ⊥ }
+    ensures more { LawfulFrom (after_ack 3) (counted_lines 1 3) → ⊥ }
+    ensures over { LawfulFrom after_both (acknowledged_lines 1 2 ++ stream_end_lines ++ counted_lines 1 2) → ⊥ }
+    ensures dead { LawfulFrom (after_both_dead after_both) (acknowledged_lines 1 2 ++ counted_lines 1 2) → ⊥ }
+    ensures branched { LawfulFrom after_both (acknowledged_lines 1 2 ++ new_branch_lines ++ counted_lines 1 2) → ⊥ }
 {}
 
 /// A line that moves bytes is answered by how many it moved, and no more than were asked for. A line
@@ -364,12 +364,12 @@ pub fn judged_answers()
     ensures beyond { LawfulAnswer empty_chronicle (verb.AtLink 1 (link_verb.Up 10)) [] (answer.Number 11) → ⊥ }
     ensures beyond_down { LawfulAnswer empty_chronicle (verb.AtLink 1 (link_verb.Down 10)) [] (answer.Number 11) → ⊥ }
     ensures uncounted { LawfulAnswer empty_chronicle (verb.AtLink 1 (link_verb.Up 10)) [] answer.Ok → ⊥ }
-    ensures pumped { LawfulAnswer empty_chronicle (verb.AtLink 1 (link_verb.Pump 9)) both_told (answer.Pulled 3 why.Idle) }
-    ensures all { LawfulAnswer empty_chronicle (verb.AtLink 1 (link_verb.Pump 3)) both_told (answer.Pulled 3 why.All) }
-    ensures fewer { LawfulAnswer empty_chronicle (verb.AtLink 1 (link_verb.Pump 9)) both_told (answer.Pulled 2 why.Idle) → ⊥ }
-    ensures not_all { LawfulAnswer empty_chronicle (verb.AtLink 1 (link_verb.Pump 9)) both_told (answer.Pulled 3 why.All) → ⊥ }
-    ensures not_idle { LawfulAnswer empty_chronicle (verb.AtLink 1 (link_verb.Pump 3)) both_told (answer.Pulled 3 why.Idle) → ⊥ }
-    ensures excess { LawfulAnswer empty_chronicle (verb.AtLink 1 (link_verb.Pump 2)) both_told (answer.Pulled 3 why.All) → ⊥ }
+    ensures pumped { LawfulAnswer empty_chronicle (verb.AtLink 1 (link_verb.Pump 9)) both_sent_lines (answer.Pulled 3 why.Idle) }
+    ensures all { LawfulAnswer empty_chronicle (verb.AtLink 1 (link_verb.Pump 3)) both_sent_lines (answer.Pulled 3 why.All) }
+    ensures fewer { LawfulAnswer empty_chronicle (verb.AtLink 1 (link_verb.Pump 9)) both_sent_lines (answer.Pulled 2 why.Idle) → ⊥ }
+    ensures not_all { LawfulAnswer empty_chronicle (verb.AtLink 1 (link_verb.Pump 9)) both_sent_lines (answer.Pulled 3 why.All) → ⊥ }
+    ensures not_idle { LawfulAnswer empty_chronicle (verb.AtLink 1 (link_verb.Pump 3)) both_sent_lines (answer.Pulled 3 why.Idle) → ⊥ }
+    ensures excess { LawfulAnswer empty_chronicle (verb.AtLink 1 (link_verb.Pump 2)) both_sent_lines (answer.Pulled 3 why.All) → ⊥ }
     ensures counted { LawfulAnswer empty_chronicle (verb.AtVb 0 0 (vb_verb.Promote 7)) [] (answer.Number 0) → ⊥ }
 {}
 
@@ -377,25 +377,25 @@ pub fn judged_answers()
 /// cause which says where it stands, and its group tells of nothing. Not lawful are the same lines in
 /// the group of a line that is refused so, and a group with the number of another line.
 pub fn judged_groups()
-    ensures promoted { LawfulGroups after_dead promotes_dead (promoted_told 1 risen_told answer.Ok) }
-    ensures refused { LawfulGroups after_dead promotes_dead (promoted_told 1 [] (answer.No cause.WrongRole)) }
-    ensures refused_told { LawfulGroups after_dead promotes_dead (promoted_told 1 risen_told (answer.No cause.WrongRole)) → ⊥ }
-    ensures another { LawfulGroups after_dead promotes_dead (promoted_told 2 risen_told answer.Ok) → ⊥ }
+    ensures promoted { LawfulGroups after_dead promotes_dead (promoted_groups 1 risen_lines answer.Ok) }
+    ensures refused { LawfulGroups after_dead promotes_dead (promoted_groups 1 [] (answer.No cause.WrongRole)) }
+    ensures refused_told { LawfulGroups after_dead promotes_dead (promoted_groups 1 risen_lines (answer.No cause.WrongRole)) → ⊥ }
+    ensures another { LawfulGroups after_dead promotes_dead (promoted_groups 2 risen_lines answer.Ok) → ⊥ }
 {}
 
 /// A vBucket that changed is sealed, and then again without a change. It is not sealed anew behind
 /// a role, and a replica not before it took a change in its snapshot, and then it is.
 pub fn judged_seals()
-    ensures twice { Lawful set_and_sealed (sealed_told 1 0) }
-    ensures not_once { Lawful set_and_sealed (sealed_told 0 0) → ⊥ }
-    ensures not_twice { Lawful set_and_sealed (sealed_told 1 1) → ⊥ }
-    ensures more { Lawful set_and_sealed (sealed_told 2 0) → ⊥ }
+    ensures twice { Lawful set_and_sealed (sealed_groups 1 0) }
+    ensures not_once { Lawful set_and_sealed (sealed_groups 0 0) → ⊥ }
+    ensures not_twice { Lawful set_and_sealed (sealed_groups 1 1) → ⊥ }
+    ensures more { Lawful set_and_sealed (sealed_groups 2 0) → ⊥ }
     ensures role { LawfulAnswer after_dead_changed (verb.AtVb 0 0 vb_verb.Seal) [] (answer.Number 0) }
     ensures not_role { LawfulAnswer after_dead_changed (verb.AtVb 0 0 vb_verb.Seal) [] (answer.Number 1) → ⊥ }
-    ensures marker { LawfulAnswer (after_lines (sent_told both_told) (range_told 0 0 2)) (verb.AtVb 1 0 vb_verb.Seal) [] (answer.Number 0) }
+    ensures marker { LawfulAnswer (after_lines (sent_known both_sent_lines) (range_lines 0 0 2)) (verb.AtVb 1 0 vb_verb.Seal) [] (answer.Number 0) }
     ensures taken { LawfulAnswer after_both (verb.AtVb 1 0 vb_verb.Seal) [] (answer.Number 1) }
     ensures not_taken { LawfulAnswer after_both (verb.AtVb 1 0 vb_verb.Seal) [] (answer.Number 0) → ⊥ }
-    ensures back { LawfulAnswer (after_lines after_both (rolled_told 1 0)) (verb.AtVb 1 0 vb_verb.Seal) [] (answer.Number 0) }
+    ensures back { LawfulAnswer (after_lines after_both (rolled_lines 1 0)) (verb.AtVb 1 0 vb_verb.Seal) [] (answer.Number 0) }
 {}
 
 /// A replica without its branch's one change follows the branch inside a snapshot of that change, and
@@ -418,6 +418,6 @@ pub fn judged_followers()
     ensures unbounded { FollowsBranch after_got 1 0 unbounded → ⊥ }
     ensures waits { FollowsBranch after_prepare 0 0 (prepared_in (Some 1 ∷ [])) }
     ensures uncommitted { FollowsBranch after_prepare 0 0 (prepared_in []) → ⊥ }
-    ensures own { AreFollowed empty_chronicle (client_told 0) }
-    ensures not_own { AreFollowed empty_chronicle (client_told 1) → ⊥ }
+    ensures own { AreFollowed empty_chronicle (client_world 0) }
+    ensures not_own { AreFollowed empty_chronicle (client_world 1) → ⊥ }
 {}

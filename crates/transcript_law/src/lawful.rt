@@ -6,7 +6,7 @@ ghost use Rattle.node_world.specs.World.{groups};
 ghost use Rattle.transcript_law.specs.Chronicles.{Chronicle, after_line};
 ghost use Rattle.transcript_law.specs.Followers.{two_followed};
 ghost use Rattle.transcript_law.specs.Lawfulness.{AllKnown, Lawful};
-ghost use Rattle.transcript_law.specs.Prefixes.{told_of};
+ghost use Rattle.transcript_law.specs.Prefixes.{known_of};
 ghost use Rattle.transcript_law.specs.Transcripts.{one_set, SetLinesAsk};
 ghost use Rattle.script_text.specs.declared.verb.ScriptLine.{ScriptLine};
 ghost use Rattle.script_text.specs.Fitting.{ScriptFits};
@@ -50,6 +50,6 @@ pub fn lines_are_known()
         → (after_line told (event.Branch n v uuid parent fork high)).log_at n v ≡ Some (with_entry uuid fork log) }
     ensures rolled { (told : Chronicle) (n v named to : ℕ) (log : List LogEntry) → told.log_at n v ≡ Some log
         → (after_line told (event.Rolled n v named to)).log_at n v ≡ Some (kept_to to log) }
-    ensures script { (script : List ScriptLine) → ScriptFits script → AllKnown (told_of script) }
+    ensures script { (script : List ScriptLine) → ScriptFits script → AllKnown (known_of script) }
     ensures line { (told : Chronicle) (line : Event) → AllKnown told → AllKnown (after_line told line) }
 {}

@@ -4,7 +4,7 @@ ghost use Rattle.std.specs.Prelude.{ℕ, List};
 ghost use Rattle.script_text.specs.declared.verb.Verb.TheVariants as verb;
 ghost use Rattle.script_text.specs.declared.verb.VbVerb.TheVariants as vb_verb;
 ghost use Rattle.script_text.specs.declared.verb.NodeVerb.TheVariants as node_verb;
-ghost use Rattle.transcript_law.specs.Contrary.{range_told};
+ghost use Rattle.transcript_law.specs.Contrary.{range_lines};
 ghost use Rattle.transcript_law.specs.Lawfulness.{LawfulFrom};
 ghost use Rattle.transcript_law.specs.RefusalRows.{TellsItsCause, TellsNoRollback, TellsNothing, two_marks};
 ghost use Rattle.vb_events.specs.declared.event.Cause.TheVariants as cause;
@@ -50,6 +50,6 @@ pub fn judged_mishaps()
 
 /// Of two markers that were put a replica takes the first one. Not lawful is the second one before it.
 pub fn judged_next_markers()
-    ensures first { LawfulFrom two_marks (range_told 0 0 1) }
-    ensures second { LawfulFrom two_marks (range_told 0 0 2) → ⊥ }
+    ensures first { LawfulFrom two_marks (range_lines 0 0 1) }
+    ensures second { LawfulFrom two_marks (range_lines 0 0 2) → ⊥ }
 {}

@@ -9,8 +9,8 @@ use Rattle.vb_calls.specs.declared.calls.VbCall.TheVariants as call
 use Rattle.vb_calls.specs.declared.calls.VbReply.{VbReply}
 use Rattle.vb_calls.specs.declared.journals.Flushed.{Flushed}
 use Rattle.vb_calls.specs.declared.journals.Flushed.TheVariants as flushed
-use Rattle.vb_calls.specs.AllSteps.{HasBatch, IsTold, IsGone, EndsBy, IsSaved, IsTaken, TookNone, Takes, StepsOfAll}
-use Rattle.vb_calls.specs.Flushes.{batch_in, batch_told, done_job, appended_job, taken_job, save_all_job, all_job, part_job, flush_job}
+use Rattle.vb_calls.specs.AllSteps.{HasBatch, HearsWritten, IsGone, EndsBy, IsSaved, IsTaken, TookNone, Takes, StepsOfAll}
+use Rattle.vb_calls.specs.Flushes.{batch_in, batch_of_reply, done_job, appended_job, taken_job, save_all_job, all_job, part_job, flush_job}
 use Rattle.vb_calls.specs.Jobs.{Ended, Request, RanJob}
 use Rattle.vb_calls.specs.Shelves.{Ask, Keep, Got, Flush, Idle, Out, Written, Fate, Stood, WasClosed, DiskFailed}
 
@@ -19,15 +19,15 @@ has_in : (r : VbReply) (a : VbAnswer) → r.answer ≡ a → (batch : Batch) →
 has_in r (answer.Rows rows) is batch given = (r, refl, is ∙ ap answer.Rows (cc given))
 has_in r other is batch given = cc
 
-has_batch : (reply : Option VbReply) (batch : Batch) → batch_told reply ≡ Some batch → HasBatch reply batch
+has_batch : (reply : Option VbReply) (batch : Batch) → batch_of_reply reply ≡ Some batch → HasBatch reply batch
 has_batch None batch given = cc
 has_batch (Some r) batch given = has_in r r.answer refl batch given
 
-told_batch : (reply : Option VbReply) (batch : Batch) → HasBatch reply batch → batch_told reply ≡ Some batch
-told_batch reply batch has = ap batch_told has.1 ∙ ap batch_in has.2
+told_batch : (reply : Option VbReply) (batch : Batch) → HasBatch reply batch → batch_of_reply reply ≡ Some batch
+told_batch reply batch has = ap batch_of_reply has.1 ∙ ap batch_in has.2
 
 module _ {W J : Type 0} (step : W → ℕ → VbCall → Option VbReply → W → Type 0) (asks : J → ℕ → (ask : Ask) → Got ask → J → Type 0) (v : ℕ) where
-  told : (seq : ℕ) (old : W) (kept : J) (came : Flushed) (new : W) (left : J) → RanJob step asks (done_job v seq) old kept came new left → IsTold step asks v seq old kept came new left
+  told : (seq : ℕ) (old : W) (kept : J) (came : Flushed) (new : W) (left : J) → RanJob step asks (done_job v seq) old kept came new left → HearsWritten step asks v seq old kept came new left
   told seq old kept came new left ran =
       let call_ran = ran.3 in
       let end = call_ran.3 in record {
@@ -61,7 +61,7 @@ module _ {W J : Type 0} (step : W → ℕ → VbCall → Option VbReply → W �
   took_none old kept came new left ran = record { said = ran.0; untold = ran.1; unasked = ran.2 }
 
   -- where nothing is given, there was nothing
-  given_none : (reply : Option VbReply) (o : Option Batch) → batch_told reply ≡ o → ((batch : Batch) → HasBatch reply batch → ⊥) → o ≡ None
+  given_none : (reply : Option VbReply) (o : Option Batch) → batch_of_reply reply ≡ o → ((batch : Batch) → HasBatch reply batch → ⊥) → o ≡ None
   given_none reply None is never = refl
   given_none reply (Some batch) is never = absurd (never batch (has_batch reply batch is))
 
@@ -72,7 +72,7 @@ module _ {W J : Type 0} (step : W → ℕ → VbCall → Option VbReply → W �
     asked = ran.2;
     some = λ batch has. taken batch ran.1 kept came new left (subst (λ (o : Option Batch). RanJob step asks (taken_job v (save_all_job v) o) ran.1 kept came new left) (told_batch ran.0 batch has) ran.3);
     none = λ never. took_none ran.1 kept came new left
-        (subst (λ (o : Option Batch). RanJob step asks (taken_job v (save_all_job v) o) ran.1 kept came new left) (given_none ran.0 (batch_told ran.0) refl never) ran.3);
+        (subst (λ (o : Option Batch). RanJob step asks (taken_job v (save_all_job v) o) ran.1 kept came new left) (given_none ran.0 (batch_of_reply ran.0) refl never) ran.3);
   }
 
   pub all_steps : (old : W) (kept : J) (came : Flushed) (new : W) (left : J) → RanJob step asks (flush_job v part.All) old kept came new left → StepsOfAll step asks v old kept came new left

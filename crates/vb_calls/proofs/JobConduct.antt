@@ -8,7 +8,7 @@ use Rattle.vb_calls.specs.declared.calls.VbReply.{VbReply}
 use Rattle.vb_calls.specs.Jobs.{Job, Ended, Call, Request, bind_job, next_job, lift, after_job, AlwaysJob}
 use Rattle.vb_calls.specs.Programs.{Prog, AnyReply, AnyCall, AlwaysWith}
 use Rattle.vb_calls.specs.Programs as prog
-use Rattle.vb_calls.specs.Shelves.{Ask, Got, Shelf, Shelves, asked_shelf, ask_at, shelves_step}
+use Rattle.vb_calls.specs.Shelves.{Ask, Got, Shelf, Shelves, shelf_step, ask_at, shelves_step}
 use Rattle.vb_calls.specs.States.{States, states_step}
 use Rattle.vb_calls.proofs.Conduct.{step_elsewhere}
 
@@ -64,7 +64,7 @@ always_both_job replies calls others requests rest answers more (Request v ask n
 -- a request to one journal leaves the others as they are
 shelf_elsewhere : (shelves : Shelves) (v w : ℕ) (ask : Ask) (o : Option Shelf) → (w ≡ v → ⊥) → (ask_at shelves v ask o).0 w ≡ shelves w
 shelf_elsewhere shelves v w ask None other = refl
-shelf_elsewhere shelves v w ask (Some shelf) other = ap (λ b. if b then Some (asked_shelf shelf ask).0 else shelves w) (false_from_ne_true (w == v) (λ e. other (eqb-true w v e)))
+shelf_elsewhere shelves v w ask (Some shelf) other = ap (λ b. if b then Some (shelf_step shelf ask).0 else shelves w) (false_from_ne_true (w == v) (λ e. other (eqb-true w v e)))
 
 -- so does a job that never calls its vBucket and never asks it
 pub after_job_elsewhere : {A : Type 0} (calls : ℕ → VbCall → Type 0) (requests : ℕ → Ask → Type 0) (answers : A → Type 0) (job : Job A) (states : States) (shelves : Shelves) (w : ℕ)

@@ -4,7 +4,7 @@ use Rattle.std.specs.List.{fold}
 use Rattle.vb_calls.specs.declared.calls.VbCall.{VbCall}
 use Rattle.vb_calls.specs.declared.calls.VbReply.{VbReply}
 use Rattle.vb_calls.specs.States.{States, states_step}
-use Rattle.vb_calls.specs.Programs.{Prog, Done, Call, after, after_front, bind, next_of, alone_step, told_step, Made, Told, ToldFront, of_one, gained, Ran, Began}
+use Rattle.vb_calls.specs.Programs.{Prog, Done, Call, after, after_front, bind, next_of, alone_step, listed_step, Made, Told, FirstCalls, of_one, gained, Ran, Began}
 
 module _ {W : Type 0} (Stands : W → States → Type 0) where
   -- over an access that is alone the answer is the definition's, and the access stands for its states
@@ -28,7 +28,7 @@ module _ {W : Type 0} (Stands : W → States → Type 0) where
 
 module _ {W : Type 0} (mine : W → ℕ → List (VbCall × VbReply)) where
   -- over an access that is not alone the calls are those of the definition with the replies that its lists gained
-  pub told_made : {A : Type 0} (prog : Prog A) (old : W) (answer : A) (new : W) → Ran (told_step mine) prog old answer new → (made : List Made) × Told prog made answer × ((w : ℕ) → mine new w ≡ mine old w ++ gained w made)
+  pub told_made : {A : Type 0} (prog : Prog A) (old : W) (answer : A) (new : W) → Ran (listed_step mine) prog old answer new → (made : List Made) × Told prog made answer × ((w : ℕ) → mine new w ≡ mine old w ++ gained w made)
   told_made (Done a) old answer new ran = ([], ran.0, λ w. ap (λ x. mine x w) ran.1 ∙ sym (append-nil (mine old w)))
   told_made (Call v call next) old answer new ran =
       let (made, told, grew) = told_made (next ran.0) ran.1 answer new ran.3 in (
@@ -38,7 +38,7 @@ module _ {W : Type 0} (mine : W → ℕ → List (VbCall × VbReply)) where
       )
 
   -- where memory failed, they are a front part of these calls
-  pub told_began : {A : Type 0} (prog : Prog A) (old new : W) → Began (told_step mine) prog old new → (made : List Made) × ToldFront prog made × ((w : ℕ) → mine new w ≡ mine old w ++ gained w made)
+  pub told_began : {A : Type 0} (prog : Prog A) (old new : W) → Began (listed_step mine) prog old new → (made : List Made) × FirstCalls prog made × ((w : ℕ) → mine new w ≡ mine old w ++ gained w made)
   told_began (Done a) old new begun = ([], tt, λ w. ap (λ x. mine x w) begun ∙ sym (append-nil (mine old w)))
   told_began (Call v call next) old new (inl same) = ([], tt, λ w. ap (λ x. mine x w) same ∙ sym (append-nil (mine old w)))
   told_began (Call v call next) old new (inr begun) =

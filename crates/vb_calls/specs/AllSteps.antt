@@ -26,7 +26,7 @@ HasBatch reply batch = (r : VbReply) × (reply ≡ Some r) × (r.answer ≡ answ
 
 module _ {W J : Type 0} (step : W → ℕ → VbCall → Option VbReply → W → Type 0) (asks : J → ℕ → (ask : Ask) → Got ask → J → Type 0) where
   -- No batch is on its way any more, and the vBucket was told that all up to this seqno is written down. Its reply is what the flush came to.
-  pub record IsTold (v seq : ℕ) (old : W) (kept : J) (came : Flushed) (new : W) (left : J) : Type 0 where
+  pub record HearsWritten (v seq : ℕ) (old : W) (kept : J) (came : Flushed) (new : W) (left : J) : Type 0 where
     pub freed : asks kept v (Keep Idle) tt left
     pub reply : Option VbReply
     pub told : step old v (call.FlushDone seq) reply new
@@ -40,7 +40,7 @@ module _ {W J : Type 0} (step : W → ℕ → VbCall → Option VbReply → W �
 
   -- by what became of the append of a batch: once it stands, all up to its last seqno is written down
   abbrev pub EndsBy : ℕ → Batch → Fate → W → J → Flushed → W → J → Type 0
-  EndsBy v batch Stood old kept came new left = (mid : J) × asks kept v (Keep (Written batch.position.at)) tt mid × IsTold v batch.position.at old mid came new left
+  EndsBy v batch Stood old kept came new left = (mid : J) × asks kept v (Keep (Written batch.position.at)) tt mid × HearsWritten v batch.position.at old mid came new left
   EndsBy v batch WasClosed old kept came new left = IsGone v flushed.Closed old kept came new left
   EndsBy v batch DiskFailed old kept came new left = IsGone v flushed.DiskFailed old kept came new left
 
@@ -78,7 +78,7 @@ module _ {W J : Type 0} (step : W → ℕ → VbCall → Option VbReply → W �
     pub looked : asks kept v Look flush seen
     pub idle : flush ≡ Idle → Takes v old seen came new left
     pub out : (batch : Batch) → flush ≡ Out batch → IsSaved v batch old seen came new left
-    pub written : (seq : ℕ) → flush ≡ Written seq → IsTold v seq old seen came new left
+    pub written : (seq : ℕ) → flush ≡ Written seq → HearsWritten v seq old seen came new left
 
 -- a change that a vBucket received
 abbrev pub one_change : Change

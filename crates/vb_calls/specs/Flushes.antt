@@ -44,9 +44,9 @@ batch_in (answer.Rows batch) = Some batch
 batch_in other = None
 
 -- the batch of a reply, if it has one
-abbrev pub batch_told : Option VbReply → Option Batch
-batch_told None = None
-batch_told (Some reply) = batch_in reply.answer
+abbrev pub batch_of_reply : Option VbReply → Option Batch
+batch_of_reply None = None
+batch_of_reply (Some reply) = batch_in reply.answer
 
 -- no batch is on its way any more, and the vBucket is told that it stands
 abbrev pub done_job : ℕ → ℕ → Job Flushed
@@ -69,7 +69,7 @@ taken_job v next (Some batch) = Request v (Keep (Out batch)) (λ kept. next batc
 
 -- a batch is taken where none is on its way
 abbrev pub take_job : ℕ → Flush → Job Flushed
-take_job v Idle = Call v call.FlushTake (λ reply. taken_job v (λ batch. Ended (took batch)) (batch_told reply))
+take_job v Idle = Call v call.FlushTake (λ reply. taken_job v (λ batch. Ended (took batch)) (batch_of_reply reply))
 take_job v other = Ended flushed.BatchOut
 
 -- one that was taken is appended
@@ -88,7 +88,7 @@ save_all_job v batch = append_job v batch (done_job v batch.position.at)
 
 -- what is still to be made of the three steps
 abbrev pub all_job : ℕ → Flush → Job Flushed
-all_job v Idle = Call v call.FlushTake (λ reply. taken_job v (save_all_job v) (batch_told reply))
+all_job v Idle = Call v call.FlushTake (λ reply. taken_job v (save_all_job v) (batch_of_reply reply))
 all_job v (Out batch) = save_all_job v batch
 all_job v (Written seq) = done_job v seq
 
@@ -140,32 +140,32 @@ unfoldable pub roll_job : ℕ → ℕ → Job Rolled
 roll_job v named = Call v call.Ask (rollable_job v named)
 
 -- The role that a call gives. One that gives none is written down by no job (`IsRoleCall`); each has its row, so that a new call is decided.
-abbrev pub role_after : VbCall → Role
-role_after (call.Promote uuid) = role.Active
-role_after call.Follow = role.Replica
-role_after call.Dead = role.Dead
-role_after (call.Get key) = role.Dead
-role_after (call.Store write clock) = role.Dead
-role_after (call.Durable write clock level deadline waiter) = role.Dead
-role_after (call.OpenStream id ask sync) = role.Dead
-role_after (call.Place id) = role.Dead
-role_after (call.Take id) = role.Dead
-role_after (call.CloseStream id) = role.Dead
-role_after (call.Chain chain) = role.Dead
-role_after (call.Ack member seq) = role.Dead
-role_after (call.Tick clock) = role.Dead
-role_after call.Due = role.Dead
-role_after call.Ask = role.Dead
-role_after (call.Adopt log) = role.Dead
-role_after (call.Marker start end) = role.Dead
-role_after (call.Receive change) = role.Dead
-role_after (call.RollTo at image cas) = role.Dead
-role_after call.Seal = role.Dead
-role_after call.FlushTake = role.Dead
-role_after (call.FlushDone seq) = role.Dead
-role_after call.Stat = role.Dead
-role_after call.Log = role.Dead
-role_after call.Show = role.Dead
+abbrev pub role_of_call : VbCall → Role
+role_of_call (call.Promote uuid) = role.Active
+role_of_call call.Follow = role.Replica
+role_of_call call.Dead = role.Dead
+role_of_call (call.Get key) = role.Dead
+role_of_call (call.Store write clock) = role.Dead
+role_of_call (call.Durable write clock level deadline waiter) = role.Dead
+role_of_call (call.OpenStream id ask sync) = role.Dead
+role_of_call (call.Place id) = role.Dead
+role_of_call (call.Take id) = role.Dead
+role_of_call (call.CloseStream id) = role.Dead
+role_of_call (call.Chain chain) = role.Dead
+role_of_call (call.Ack member seq) = role.Dead
+role_of_call (call.Tick clock) = role.Dead
+role_of_call call.Due = role.Dead
+role_of_call call.Ask = role.Dead
+role_of_call (call.Adopt log) = role.Dead
+role_of_call (call.Marker start end) = role.Dead
+role_of_call (call.Receive change) = role.Dead
+role_of_call (call.RollTo at image cas) = role.Dead
+role_of_call call.Seal = role.Dead
+role_of_call call.FlushTake = role.Dead
+role_of_call (call.FlushDone seq) = role.Dead
+role_of_call call.Stat = role.Dead
+role_of_call call.Log = role.Dead
+role_of_call call.Show = role.Dead
 
 -- a call that changes the role
 abbrev pub IsRoleCall : VbCall → Type 0
@@ -185,18 +185,18 @@ log_in (answer.Logged log) = log
 log_in other = []
 
 -- the failover log of a reply
-abbrev pub log_told : Option VbReply → List LogEntry
-log_told None = []
-log_told (Some reply) = log_in reply.answer
+abbrev pub log_of_reply : Option VbReply → List LogEntry
+log_of_reply None = []
+log_of_reply (Some reply) = log_in reply.answer
 
 -- a role is written down, with the log
 abbrev pub note_role_job : ℕ → Role → VbReply → Option VbReply → Job (Option VbReply × Wrote)
-note_role_job v new reply logged = Request v (Append (noted.State new (log_told logged))) (λ fate. Ended (Some reply, wrote_of fate))
+note_role_job v new reply logged = Request v (Append (noted.State new (log_of_reply logged))) (λ fate. Ended (Some reply, wrote_of fate))
 
 -- a call that was made is written down
 abbrev pub role_made_job : ℕ → VbCall → VbReply → Job (Option VbReply × Wrote)
 role_made_job v asked reply =
-    if is_refusal reply.answer then Ended (Some reply, wrote.NotAsked) else Call v call.Log (note_role_job v (role_after asked) reply)
+    if is_refusal reply.answer then Ended (Some reply, wrote.NotAsked) else Call v call.Log (note_role_job v (role_of_call asked) reply)
 
 -- where there is such a vBucket
 abbrev pub role_told_job : ℕ → VbCall → Option VbReply → Job (Option VbReply × Wrote)

@@ -11,10 +11,10 @@ use Rattle.vb_calls.specs.declared.calls.VbAnswer.{VbAnswer}
 use Rattle.vb_calls.specs.declared.calls.VbAnswer.TheVariants as answer
 
 -- this may be said to a request for a stream of this number: under 0 none is opened
-abbrev pub MayBeSaid : ℕ → AskAnswer → Type 0
-MayBeSaid id ask_answer.Go = 0 < id
-MayBeSaid id (ask_answer.Roll to) = Unit {0}
-MayBeSaid id (ask_answer.Refuse code) = Unit {0}
+abbrev pub MayAnswer : ℕ → AskAnswer → Type 0
+MayAnswer id ask_answer.Go = 0 < id
+MayAnswer id (ask_answer.Roll to) = Unit {0}
+MayAnswer id (ask_answer.Refuse code) = Unit {0}
 
 -- this call may have this answer
 abbrev pub HasForm : VbCall → VbAnswer → Type 0
@@ -32,7 +32,7 @@ HasForm (Tick clock) answer.Done = Unit {0}
 HasForm (Tick clock) (answer.Status st) = Unit {0}
 HasForm Due (answer.Num seq) = Unit {0}
 HasForm Due (answer.Status st) = Unit {0}
-HasForm (OpenStream id ask sync) (answer.Asked said log high) = MayBeSaid id said × (length log ≤ log_limit)
+HasForm (OpenStream id ask sync) (answer.Asked said log high) = MayAnswer id said × (length log ≤ log_limit)
 HasForm (Place id) (answer.Placed place) = Unit {0}
 HasForm (Place id) answer.Absent = Unit {0}
 HasForm (Take id) (answer.Taken snapshot) = Unit {0}

@@ -95,8 +95,8 @@ abbrev pub gained : ℕ → List Made → List (VbCall × VbReply)
 gained w made = flat_map (of_one w) made
 
 -- what is known of a call to an access that is not alone: it stands at the end of its vBucket's list
-abbrev pub told_step : {W : Type 0} → (W → ℕ → List (VbCall × VbReply)) → W → ℕ → VbCall → Option VbReply → W → Type 0
-told_step mine old v call reply new = (w : ℕ) → mine new w ≡ mine old w ++ of_one w (v, call, reply)
+abbrev pub listed_step : {W : Type 0} → (W → ℕ → List (VbCall × VbReply)) → W → ℕ → VbCall → Option VbReply → W → Type 0
+listed_step mine old v call reply new = (w : ℕ) → mine new w ≡ mine old w ++ of_one w (v, call, reply)
 
 -- the states after at most so many calls of a program
 abbrev pub after_front : {A : Type 0} → ℕ → Prog A → States → States
@@ -106,11 +106,11 @@ after_front (suc n) (Call v call next) states =
     let (states', reply) = states_step states v call in after_front n (next reply) states'
 
 -- the first calls of a program
-abbrev pub ToldFront : {A : Type 0} → Prog A → List Made → Type 0
-ToldFront (Done a) [] = Unit {0}
-ToldFront (Done a) (m ∷ made) = ⊥
-ToldFront (Call v call next) [] = Unit {0}
-ToldFront (Call v call next) (m ∷ made) = (m.0 ≡ v) × (m.1 ≡ call) × ToldFront (next m.2) made
+abbrev pub FirstCalls : {A : Type 0} → Prog A → List Made → Type 0
+FirstCalls (Done a) [] = Unit {0}
+FirstCalls (Done a) (m ∷ made) = ⊥
+FirstCalls (Call v call next) [] = Unit {0}
+FirstCalls (Call v call next) (m ∷ made) = (m.0 ≡ v) × (m.1 ≡ call) × FirstCalls (next m.2) made
 
 -- Whatever replies of one kind a program gets, each call that it makes is of another kind, and the answer that it comes to is of a third.
 abbrev pub AlwaysWith : {A : Type 0} → (VbCall → Option VbReply → Type 0) → (ℕ → VbCall → Type 0) → (A → Type 0) → Prog A → Type 0

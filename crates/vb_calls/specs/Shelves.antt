@@ -89,11 +89,11 @@ abbrev pub reading_of : Shelf → Reading
 reading_of shelf = if shelf.is_closed then Shut else Book shelf.book
 
 -- a journal whose disk fails as its arm says, and its answer
-abbrev pub asked_shelf : Shelf → (ask : Ask) → Shelf × Got ask
-asked_shelf shelf (Append r) = (after_fate shelf r (fate_of shelf), fate_of shelf)
-asked_shelf shelf Read = (shelf, reading_of shelf)
-asked_shelf shelf Look = (shelf, shelf.flush)
-asked_shelf shelf (Keep flush) = (record shelf { flush = flush }, tt)
+abbrev pub shelf_step : Shelf → (ask : Ask) → Shelf × Got ask
+shelf_step shelf (Append r) = (after_fate shelf r (fate_of shelf), fate_of shelf)
+shelf_step shelf Read = (shelf, reading_of shelf)
+shelf_step shelf Look = (shelf, shelf.flush)
+shelf_step shelf (Keep flush) = (record shelf { flush = flush }, tt)
 
 -- where there is no journal, nothing is there to be read or to be on its way, and no record stands
 abbrev pub no_answer : (ask : Ask) → Got ask
@@ -109,7 +109,7 @@ stepped_shelf shelves v answered = (with_shelf_at shelves v answered.0, answered
 -- what is asked of the journal at v, by what stands there
 abbrev pub ask_at : Shelves → ℕ → (ask : Ask) → Option Shelf → Shelves × Got ask
 ask_at shelves v ask None = (shelves, no_answer ask)
-ask_at shelves v ask (Some shelf) = stepped_shelf shelves v (asked_shelf shelf ask)
+ask_at shelves v ask (Some shelf) = stepped_shelf shelves v (shelf_step shelf ask)
 
 -- what is asked of the journal at v
 abbrev pub shelves_step : Shelves → ℕ → (ask : Ask) → Shelves × Got ask

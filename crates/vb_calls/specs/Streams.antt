@@ -50,17 +50,17 @@ abbrev pub new_stream : ℕ → StreamAsk → Bool → Stream
 new_stream id ask sync = record { id = id; ask = ask; sync = sync; place = ask.start; taken = false }
 
 -- what is said to a request, with the failover log and the last seqno
-abbrev pub asked_reply : Plain → AskAnswer → VbReply
-asked_reply vb said = quiet_reply (answer.Asked said vb.log vb.position.at)
+abbrev pub ask_reply : Plain → AskAnswer → VbReply
+ask_reply vb said = quiet_reply (answer.Asked said vb.log vb.position.at)
 
 -- a request that the log lets continue opens a stream; one that has to roll back changes nothing
 abbrev pub judged_open : Verdict → Plain → ℕ → StreamAsk → Bool → Plain × VbReply
-judged_open Continue vb id ask sync = (record vb { streams = vb.streams ++ new_stream id ask sync ∷ [] }, asked_reply vb ask_answer.Go)
-judged_open (Roll to) vb id ask sync = (vb, asked_reply vb (ask_answer.Roll to))
+judged_open Continue vb id ask sync = (record vb { streams = vb.streams ++ new_stream id ask sync ∷ [] }, ask_reply vb ask_answer.Go)
+judged_open (Roll to) vb id ask sync = (vb, ask_reply vb (ask_answer.Roll to))
 
 -- a request that is refused changes nothing
 abbrev pub open_outcome : Option Status → Plain → ℕ → StreamAsk → Bool → Plain × VbReply
-open_outcome (Some st) vb id ask sync = (vb, asked_reply vb (ask_answer.Refuse (status_code st)))
+open_outcome (Some st) vb id ask sync = (vb, ask_reply vb (ask_answer.Refuse (status_code st)))
 open_outcome None vb id ask sync = judged_open (rule vb.log vb.position.at ask) vb id ask sync
 
 -- a request for a stream
@@ -68,12 +68,12 @@ abbrev pub open_row : Plain → ℕ → StreamAsk → Bool → Plain × VbReply
 open_row vb id ask sync = open_outcome (open_refusal vb id ask) vb id ask sync
 
 -- the streams without the one of this number
-abbrev pub closed_stream : ℕ → List Stream → List Stream
-closed_stream id streams = filter (λ s. not (s.id == id)) streams
+abbrev pub without_stream : ℕ → List Stream → List Stream
+without_stream id streams = filter (λ s. not (s.id == id)) streams
 
 -- a stream that is closed is fed no more
 abbrev pub close_row : Plain → ℕ → Plain × VbReply
-close_row vb id = (record vb { streams = closed_stream id vb.streams }, quiet_reply (answer.Flag (is_some (stream_at id vb.streams))))
+close_row vb id = (record vb { streams = without_stream id vb.streams }, quiet_reply (answer.Flag (is_some (stream_at id vb.streams))))
 
 -- all changes that a stream was not given yet are in memory: it has a cursor
 abbrev pub is_in_memory : ℕ → Stream → Bool

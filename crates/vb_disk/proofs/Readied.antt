@@ -120,5 +120,5 @@ ready_at at len i (write ∷ ready) is found = elim (tested at len write) [
   | inr other ↦ elim is [ inl here ↦ other.0 here | inr later ↦ ready_at at len (i + 1) ready later (rw other.1 at found) ]
 ]
 
-pub is_found : (at len : ℕ) (ready : List (ℕ × ℕ)) → IsReady at len ready → position (is_write at len) ready ≡ None → ⊥
-is_found at len ready is found = ready_at at len 0 ready is (sym (position_from-zero (is_write at len) ready) ∙ found)
+pub ready_is_found : (at len : ℕ) (ready : List (ℕ × ℕ)) → IsReady at len ready → position (is_write at len) ready ≡ None → ⊥
+ready_is_found at len ready is found = ready_at at len 0 ready is (sym (position_from-zero (is_write at len) ready) ∙ found)

@@ -179,24 +179,24 @@ one_more n bytes c left p spelled fits read =
     (spelled ∙ ap (λ l. item_bytes c ++ l) more ∙ sym (append_assoc (item_bytes c) (flat_map item_bytes p.0) p.1), All-cons ItemFits c p.0 fits fit, ap suc count)
 
 -- what is said of the changes behind the first
-abbrev AllRead : ℕ → Type 0
-AllRead n = (bytes : List ℕ) (p : List Change × List ℕ) → AreBytes bytes → items_in n bytes ≡ Some p → AreRead n bytes p
+abbrev EachRead : ℕ → Type 0
+EachRead n = (bytes : List ℕ) (p : List Change × List ℕ) → AreBytes bytes → items_in n bytes ≡ Some p → AreRead n bytes p
 
-more_once : (n : ℕ) (bytes : List ℕ) (c : Change) (left : List ℕ) (p : List Change × List ℕ) (o : Option (List Change × List ℕ)) → AllRead n → bytes ≡ item_bytes c ++ left → ItemFits c
+more_once : (n : ℕ) (bytes : List ℕ) (c : Change) (left : List ℕ) (p : List Change × List ℕ) (o : Option (List Change × List ℕ)) → EachRead n → bytes ≡ item_bytes c ++ left → ItemFits c
     → AreBytes left → items_in n left ≡ o → front_map (λ more. c ∷ more) o ≡ Some p → AreRead (suc n) bytes p
 more_once n bytes c left p None later spelled fits h is e = cc
 more_once n bytes c left p (Some q) later spelled fits h is e =
     let all : List Change × List ℕ = (c ∷ q.0, q.1) in let same : all ≡ p = cc in
     subst (AreRead (suc n) bytes) same (one_more n bytes c left q spelled fits (later left q h is))
 
-first_once : (n : ℕ) (bytes : List ℕ) (p : List Change × List ℕ) (o : Option (Change × List ℕ)) → AllRead n → AreBytes bytes → item_in bytes ≡ o
+first_once : (n : ℕ) (bytes : List ℕ) (p : List Change × List ℕ) (o : Option (Change × List ℕ)) → EachRead n → AreBytes bytes → item_in bytes ≡ o
     → option_and_then (λ item. front_map (λ more. item.0 ∷ more) (items_in n item.1)) o ≡ Some p → AreRead (suc n) bytes p
 first_once n bytes p None later h is e = cc
 first_once n bytes p (Some (c, left)) later h is e =
     let (spelled, fits) = item_once bytes (c, left) h is in
     more_once n bytes c left p (items_in n left) later spelled fits (rest_bytes bytes (item_bytes c) left h spelled) refl e
 
-pub items_once : (n : ℕ) → AllRead n
+pub items_once : (n : ℕ) → EachRead n
 unfolding items_in
 items_once zero bytes p h e = let none : List Change × List ℕ = ([], bytes) in let same : none ≡ p = cc in subst (AreRead 0 bytes) same (refl, All-nil ItemFits, refl)
 items_once (suc n) bytes p h e = first_once n bytes p (item_in bytes) (items_once n) h refl e

@@ -14,7 +14,7 @@ use Rattle.vb_journal.specs.Books.{EndsAt, NotedPart, noted_at}
 use Rattle.vb_journal.specs.Payloads.{payload_of}
 use Rattle.vb_journal.specs.Reading.{reading, records_of, records_in, behind_gate, IsWritten, IsReadBack}
 use Rattle.vb_journal.specs.ReadingLaws.{IsBook, AppendsTell}
-use Rattle.vb_journal.proofs.Readings.{book_read, read_book, written_push}
+use Rattle.vb_journal.proofs.Readings.{book_read, book_of_reading, written_push}
 
 -- as it is written, it stands on a disk
 spelled : Record → List ℕ
@@ -60,7 +60,7 @@ ends_with bytes records end e = let is = read_as bytes records end e in (e ∙ a
 
 module _ (old : List ℕ) (records : List Record) (end : ℕ) (reads : reading old ≡ scan.Whole records end) where
   book : IsBook old records end
-  book = read_book old records end reads
+  book = book_of_reading old records end reads
 
   pub gate_within : end < length old
   gate_within = omega (arith, ap length book.joined, book.stands, length-append book.parts (book.gate ∷ book.behind))

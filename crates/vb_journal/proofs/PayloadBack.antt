@@ -13,7 +13,7 @@ use Rattle.vb_types.specs.declared.role.LogEntry.{LogEntry}
 use Rattle.vb_types.specs.declared.role.Role.{Role}
 use Rattle.vb_types.specs.declared.role.Role.TheVariants as role
 use Rattle.vb_journal.specs.Fitting.{EntryFits, ItemFits, BatchFits, Fits}
-use Rattle.vb_journal.specs.Payloads.{role_byte, log_bytes, item_bytes, batch_bytes, payload_of, is_kept, rise, is_writable, role_in, number_64, whole, log_in, items_in, rising, changes_in, batch_from, batch_in, state_from, state_in, said_in, record_in}
+use Rattle.vb_journal.specs.Payloads.{role_byte, log_bytes, item_bytes, batch_bytes, payload_of, is_kept, rise, is_writable, role_by_byte, number_64, whole, log_in, items_in, rising, changes_in, batch_from, batch_in, state_from, state_in, record_of_kind, record_in}
 use Rattle.vb_journal.proofs.PartsBack.{log_back, items_back}
 use Rattle.vb_journal.proofs.Writable.{both, parts, state_log, rows_log, rows_count}
 
@@ -57,7 +57,7 @@ batch_back b short few up r =
       items = b.items;
     })))
 
-role_back : (role : Role) → is_kept role ≡ true → role_in (role_byte role) ≡ Some role
+role_back : (role : Role) → is_kept role ≡ true → role_by_byte (role_byte role) ≡ Some role
 role_back role.Active k = refl
 role_back role.Replica k = refl
 role_back role.Pending k = cc
@@ -70,7 +70,7 @@ state_back role log k short r =
     λ i. cond (some i) None (state_from (role_back role k i) (whole_log_back log short r i))
 
 -- what stands behind version and kind is what the record says
-said_back : (r : Record) → Fits r → IsTrue (is_writable r) → said_in (slice_index (payload_of r) 1) (drop 2 (payload_of r)) ≡ Some r
+said_back : (r : Record) → Fits r → IsTrue (is_writable r) → record_of_kind (slice_index (payload_of r) 1) (drop 2 (payload_of r)) ≡ Some r
 unfolding payload_of
 said_back (noted.State role log) f w =
     state_back role log (both (is_kept role) (nat_le (length log) 25) (parts (noted.State role log) w).0).0 (state_log (noted.State role log) role log refl w) f
@@ -88,5 +88,5 @@ pub record_back : (r : Record) → Fits r → IsTrue (is_writable r) → record_
 unfolding record_in
 record_back r f w =
     let small : nat_lt 33599999 (length (payload_of r)) ≡ false = grind (arith, nat_tests, (parts r w).1) in
-    (λ i. cond (small i) None (cond ((begins r).0 i) None (cond (not ((begins r).1 i)) None (said_in (slice_index (payload_of r) 1) (drop 2 (payload_of r))))))
+    (λ i. cond (small i) None (cond ((begins r).0 i) None (cond (not ((begins r).1 i)) None (record_of_kind (slice_index (payload_of r) 1) (drop 2 (payload_of r))))))
     ∙ said_back r f w

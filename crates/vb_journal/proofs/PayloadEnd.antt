@@ -12,7 +12,7 @@ use Rattle.vb_types.specs.declared.journal.Record.TheVariants as noted
 use Rattle.vb_types.specs.declared.role.LogEntry.{LogEntry}
 use Rattle.vb_types.specs.declared.role.Role.{Role}
 use Rattle.vb_journal.specs.Fitting.{EntryFits, ItemFits, BatchFits, Fits}
-use Rattle.vb_journal.specs.Payloads.{role_byte, log_bytes, item_bytes, batch_bytes, payload_of, is_writable, role_in, number_64, whole, log_in, items_in, rising, changes_in, batch_from, batch_in, state_from, state_in, said_in, record_in}
+use Rattle.vb_journal.specs.Payloads.{role_byte, log_bytes, item_bytes, batch_bytes, payload_of, is_writable, role_by_byte, number_64, whole, log_in, items_in, rising, changes_in, batch_from, batch_in, state_from, state_in, record_of_kind, record_in}
 use Rattle.vb_journal.proofs.PartsBack.{log_back, items_back}
 use Rattle.vb_journal.proofs.Writable.{state_log, rows_log, rows_count}
 
@@ -37,7 +37,7 @@ module _ (byte : ℕ) (more : List ℕ) where
   state_end : (role : Role) (log : List LogEntry) → length log ≤ 25 → All EntryFits log → state_in (role_byte role ∷ log_bytes log ++ behind) ≡ None
   unfolding state_in
   state_end role log short fits =
-      refused _ _ (no_log (role_in (role_byte role)) (whole (log_in (log_bytes log ++ behind))) (ap whole (log_back log behind short fits) ∙ followed log byte more))
+      refused _ _ (no_log (role_by_byte (role_byte role)) (whole (log_in (log_bytes log ++ behind))) (ap whole (log_back log behind short fits) ∙ followed log byte more))
 
   changes_end : (items : List Change) → length items < 4294967296 → All ItemFits items → changes_in (to_be_bytes w32 (length items) ++ (flat_map item_bytes items ++ behind)) ≡ None
   unfolding changes_in
@@ -55,7 +55,7 @@ module _ (byte : ℕ) (more : List ℕ) where
       ap log_in (append_assoc (log_bytes b.log ++ count) flat behind ∙ append_assoc (log_bytes b.log) count (flat ++ behind)) ∙ log_back b.log (count ++ (flat ++ behind)) short fits.log in
       refused _ _ (ap (batch_from bytes) log ∙ ap (option_map _) (changes_end b.items few fits.items))
 
-  said_end : (r : Record) → Fits r → IsTrue (is_writable r) → said_in (slice_index (payload_of r ++ behind) 1) (drop 2 (payload_of r ++ behind)) ≡ None
+  said_end : (r : Record) → Fits r → IsTrue (is_writable r) → record_of_kind (slice_index (payload_of r ++ behind) 1) (drop 2 (payload_of r ++ behind)) ≡ None
   unfolding payload_of
   said_end (noted.State role log) f w = state_end role log (state_log (noted.State role log) role log refl w) f
   said_end (noted.Rows b) f w = batch_end b (rows_log (noted.Rows b) b refl w) (rows_count (noted.Rows b) b refl w) f
@@ -71,4 +71,4 @@ module _ (byte : ℕ) (more : List ℕ) where
 
 pub too_long : (bytes : List ℕ) → 33599999 < length bytes → record_in bytes ≡ None
 unfolding record_in
-too_long bytes h = let long : nat_lt 33599999 (length bytes) ≡ true = grind (arith, nat_tests, h) in λ i. cond (long i) None (cond (nat_lt (length bytes) 2) None (cond (not (slice_index bytes 0 == 1)) None (said_in (slice_index bytes 1) (drop 2 bytes))))
+too_long bytes h = let long : nat_lt 33599999 (length bytes) ≡ true = grind (arith, nat_tests, h) in λ i. cond (long i) None (cond (nat_lt (length bytes) 2) None (cond (not (slice_index bytes 0 == 1)) None (record_of_kind (slice_index bytes 1) (drop 2 bytes))))

@@ -14,7 +14,7 @@ use Rattle.vb_types.specs.declared.role.LogEntry.{LogEntry}
 use Rattle.vb_types.specs.declared.role.Role.{Role}
 use Rattle.vb_types.specs.declared.role.Role.TheVariants as role
 use Rattle.vb_journal.specs.Fitting.{AreBytes, EntryFits, ItemFits, Fits}
-use Rattle.vb_journal.specs.Payloads.{role_byte, log_bytes, item_bytes, batch_bytes, payload_of, is_kept, has_form, rise, is_writable, role_in, number_32, number_64, whole, log_in, items_in, rising, changes_in, batch_from, batch_in, state_from, state_in, roll_in, record_in}
+use Rattle.vb_journal.specs.Payloads.{role_byte, log_bytes, item_bytes, batch_bytes, payload_of, is_kept, has_form, rise, is_writable, role_by_byte, number_32, number_64, whole, log_in, items_in, rising, changes_in, batch_from, batch_in, state_from, state_in, roll_in, record_in}
 use Rattle.vb_journal.proofs.Words.{below_64, word_8, word_32, word_64, behind}
 use Rattle.vb_journal.proofs.PartsOnce.{past, drop_bytes, rest_bytes, log_once}
 use Rattle.vb_journal.proofs.ItemsOnce.{items_once}
@@ -116,7 +116,7 @@ role_by n r false true c p q s e = let same : role.Replica ≡ r = cc in (ap rol
 role_by n r false false true p q s e = let same : role.Dead ≡ r = cc in (ap role_byte (sym same) ∙ sym (eqb-true n 4 s), ap is_kept (sym same))
 role_by n r false false false p q s e = cc
 
-state_by : (n : ℕ) (bytes : List ℕ) (r : Record) (k : Option Role) (o : Option (List LogEntry)) → AreBytes bytes → role_in n ≡ k → whole (log_in bytes) ≡ o
+state_by : (n : ℕ) (bytes : List ℕ) (r : Record) (k : Option Role) (o : Option (List LogEntry)) → AreBytes bytes → role_by_byte n ≡ k → whole (log_in bytes) ≡ o
     → state_from k o ≡ Some r → Said 1 (n ∷ bytes) r
 unfolding payload_of
 state_by n bytes r None o h a is e = cc
@@ -131,7 +131,7 @@ unfolding state_in
 state_once [] r h e = cc
 state_once (n ∷ bytes) r h e =
     let (some, e1) = past (length (n ∷ bytes) == 0) _ _ e in
-    state_by n bytes r (role_in n) (whole (log_in bytes)) (drop_bytes 1 (n ∷ bytes) h) refl refl e1
+    state_by n bytes r (role_by_byte n) (whole (log_in bytes)) (drop_bytes 1 (n ∷ bytes) h) refl refl e1
 
 roll_by : (bytes : List ℕ) (r : Record) (t : Bool) → AreBytes bytes → (length bytes == 8) ≡ t → cond t (Some (noted.Roll (number_64 bytes 0))) None ≡ Some r → Said 3 bytes r
 unfolding payload_of

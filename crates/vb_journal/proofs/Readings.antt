@@ -164,5 +164,5 @@ says_only bytes (scan.Whole records end) book = book_read bytes records end book
 says_only bytes (scan.Damaged place) is = damage_read bytes place is
 
 -- what was read as a book is one
-pub read_book : (bytes : List ℕ) (records : List Record) (end : ℕ) → reading bytes ≡ scan.Whole records end → IsBook bytes records end
-read_book bytes records end e = let P : Scan → Type 0 = SaysOf bytes in subst P e (says_all bytes)
+pub book_of_reading : (bytes : List ℕ) (records : List Record) (end : ℕ) → reading bytes ≡ scan.Whole records end → IsBook bytes records end
+book_of_reading bytes records end e = let P : Scan → Type 0 = SaysOf bytes in subst P e (says_all bytes)

@@ -35,12 +35,12 @@ wrote_both true second made_left left all pass = absurd (cc pass)
 left_passed : (f : Fuse) (out : Outcome) (at : ℕ) (bytes old : List ℕ) → both_pass f ≡ true → left_writing f out at bytes old ≡ written at bytes old
 left_passed f out at bytes old pass = wrote_both (hits f) (hits (burnt f)) (if is_made f then leaving out at bytes old else old) (leaving out at bytes old) (written at bytes old) pass
 
-pub noting_left : (armed mid : Option Fuse) (held held' : Option (List ℕ)) (old between new : Outcome → Option (List ℕ)) (gate : ℕ) (behind : List ℕ) → BurnsBoth armed mid put.Done
+pub left_by_noting : (armed mid : Option Fuse) (held held' : Option (List ℕ)) (old between new : Outcome → Option (List ℕ)) (gate : ℕ) (behind : List ℕ) → BurnsBoth armed mid put.Done
     → held' ≡ option_map (written (gate + 1) behind) held → LeavesUnder armed held old between (λ f out bytes. left_writing f out (gate + 1) behind bytes)
     → LeavesUnder mid held' between new (λ f out bytes. left_writing f out gate (1 ∷ []) bytes) → LeavesUnder armed held old new (λ f out bytes. left_noting f out gate behind bytes)
-noting_left None mid held held' old between new gate behind burns wrote first second = tt
-noting_left (Some f) mid None held' old between new gate behind burns wrote first second = tt
-noting_left (Some f) mid (Some bytes) held' old between new gate behind burns wrote first second = λ settled out.
+left_by_noting None mid held held' old between new gate behind burns wrote first second = tt
+left_by_noting (Some f) mid None held' old between new gate behind burns wrote first second = tt
+left_by_noting (Some f) mid (Some bytes) held' old between new gate behind burns wrote first second = λ settled out.
     let pass = done_passes (both_pass f) burns.1 in
     let Leaves : Fuse → Outcome → List ℕ → List ℕ = λ f out bytes. left_writing f out gate (1 ∷ []) bytes in
     let then_gate : IsSettledEach (Some (written (gate + 1) behind bytes)) between → ((out : Outcome) → new out ≡ Some (left_writing (burnt_both f) out gate (1 ∷ []) (written (gate + 1) behind bytes))) =

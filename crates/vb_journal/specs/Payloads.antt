@@ -107,8 +107,8 @@ unfoldable pub is_writable : Record → Bool
 is_writable r = has_form r && nat_le (length (payload_of r)) MAX_PAYLOAD
 
 -- the role of a byte
-abbrev pub role_in : ℕ → Option Role
-role_in n =
+abbrev pub role_by_byte : ℕ → Option Role
+role_by_byte n =
     if n == 1 then Some role.Active else if n == 2 then Some role.Replica else if n == 4 then Some role.Dead else None
 
 -- yes or no
@@ -276,15 +276,15 @@ state_from (Some role) log = option_map (λ l. noted.State role l) log
 -- the State that bytes are
 unfoldable pub state_in : List ℕ → Option Record
 state_in bytes =
-    if length bytes == 0 then None else state_from (role_in (slice_index bytes 0)) (whole (log_in (drop 1 bytes)))
+    if length bytes == 0 then None else state_from (role_by_byte (slice_index bytes 0)) (whole (log_in (drop 1 bytes)))
 
 -- the Roll that bytes are
 abbrev pub roll_in : List ℕ → Option Record
 roll_in bytes = if length bytes == 8 then Some (noted.Roll (number_64 bytes 0)) else None
 
 -- what a record of this kind says
-abbrev pub said_in : ℕ → List ℕ → Option Record
-said_in kind bytes =
+abbrev pub record_of_kind : ℕ → List ℕ → Option Record
+record_of_kind kind bytes =
     if kind == STATE then state_in bytes
     else if kind == ROWS then batch_in bytes
     else if kind == ROLL then roll_in bytes
@@ -296,4 +296,4 @@ record_in bytes =
     if nat_lt MAX_PAYLOAD (length bytes) then None
     else if nat_lt (length bytes) 2 then None
     else if not (slice_index bytes 0 == VERSION) then None
-    else said_in (slice_index bytes 1) (drop 2 bytes)
+    else record_of_kind (slice_index bytes 1) (drop 2 bytes)

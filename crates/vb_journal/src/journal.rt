@@ -61,7 +61,7 @@ fn write_kept<D: Disk>(disk: &mut D, at: u64, bytes: &[u8]) -> Put
 }
 
 /// Writes a record behind a closed gate, and opens the gate once that is kept.
-#[tactic(auto, using(crate::proofs::Bearing::gate_stays_ready, crate::proofs::UnderArms::noting_left))]
+#[tactic(auto, using(crate::proofs::Bearing::gate_stays_ready, crate::proofs::UnderArms::left_by_noting))]
 fn note<D: Disk>(disk: &mut D, gate: u64, behind: &[u8]) -> Put
     requires within { gate < (D.storage disk.old).size }
     requires end { gate + 1 + length behind.now < 2 ^ 62 }

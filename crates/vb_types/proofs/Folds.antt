@@ -15,7 +15,7 @@ use Rattle.vb_types.specs.declared.change.Act.{Act}
 use Rattle.vb_types.specs.declared.change.Act.TheVariants.{Set, Remove, Prepare, Commit, Abort}
 use Rattle.vb_types.specs.declared.change.Change.{Change}
 use Rattle.vb_types.specs.Histories.{Rises, Slot, touches, last_of, plain_act, is_visible}
-use Rattle.vb_types.specs.Lasts.{doc_left, pend_left, doc_told, pend_told, CommitsAsPlain, DocsByLast, PendsByLast}
+use Rattle.vb_types.specs.Lasts.{doc_left, pend_left, doc_by_last, pend_by_last, CommitsAsPlain, DocsByLast, PendsByLast}
 use Rattle.vb_types.proofs.Laws.{get-insert_same, get-insert_other, get-remove_same, get-remove_other, other_acted}
 
 -- one change
@@ -36,27 +36,27 @@ doc_here image seq key (Commit prepared doc false) = get-insert_same image.docs 
 doc_here image seq key (Abort prepared) = refl
 
 doc_visible : (image : Picture) (c : Change) (q : List ℕ) (v : Bool) → is_visible c.act ≡ v → c.key ≡ q
-    → (if is_visible c.act then doc_left c.act else get image.docs c.key) ≡ doc_told (if v then Some c else None) (get image.docs q)
-unfolding doc_told
+    → (if is_visible c.act then doc_left c.act else get image.docs c.key) ≡ doc_by_last (if v then Some c else None) (get image.docs q)
+unfolding doc_by_last
 doc_visible image c q true ev ek = ap (λ b. if b then doc_left c.act else get image.docs c.key) ev
 doc_visible image c q false ev ek = ap (λ b. if b then doc_left c.act else get image.docs c.key) ev ∙ ap (get image.docs) ek
 
 doc_case : (image : Picture) (c : Change) (q : List ℕ) (b : Bool) → bytes_eq c.key q ≡ b
-    → get (applied image c).docs q ≡ doc_told (if b && is_visible c.act then Some c else None) (get image.docs q)
-unfolding doc_told
-doc_case image c q true e = subst (λ k. get (applied image c).docs k ≡ doc_told (if is_visible c.act then Some c else None) (get image.docs q)) (same_key c.key q e)
+    → get (applied image c).docs q ≡ doc_by_last (if b && is_visible c.act then Some c else None) (get image.docs q)
+unfolding doc_by_last
+doc_case image c q true e = subst (λ k. get (applied image c).docs k ≡ doc_by_last (if is_visible c.act then Some c else None) (get image.docs q)) (same_key c.key q e)
     (doc_here image c.seq c.key c.act ∙ doc_visible image c q (is_visible c.act) refl (same_key c.key q e))
 doc_case image c q false e = other_acted image c.seq c.key c.act q (other_key c.key q e)
 
-doc_fold_step : (o : Option Change) (b : Bool) (c : Change) (now old : Option Doc) → now ≡ doc_told (if b then Some c else None) old
-    → doc_told o now ≡ doc_told (option_or o (if b then Some c else None)) old
-unfolding doc_told
+doc_fold_step : (o : Option Change) (b : Bool) (c : Change) (now old : Option Doc) → now ≡ doc_by_last (if b then Some c else None) old
+    → doc_by_last o now ≡ doc_by_last (option_or o (if b then Some c else None)) old
+unfolding doc_by_last
 doc_fold_step None b c now old e = e
 doc_fold_step (Some d) b c now old e = refl
 
 -- the documents after a list
-pub doc_fold : (image : Picture) (cs : List Change) (q : List ℕ) → get (fold applied image cs).docs q ≡ doc_told (last_of (Slot.Committed q) cs) (get image.docs q)
-unfolding doc_told
+pub doc_fold : (image : Picture) (cs : List Change) (q : List ℕ) → get (fold applied image cs).docs q ≡ doc_by_last (last_of (Slot.Committed q) cs) (get image.docs q)
+unfolding doc_by_last
 doc_fold image [] q = refl
 doc_fold image (c ∷ cs) q = doc_fold (applied image c) cs q
     ∙ doc_fold_step (last_of (Slot.Committed q) cs) (touches (Slot.Committed q) c) c (get (applied image c).docs q) (get image.docs q) (doc_case image c q (bytes_eq c.key q) refl)
@@ -100,8 +100,8 @@ pend_there image seq key (Commit prepared doc deleted) q ne = settled_there imag
 pend_there image seq key (Abort prepared) q ne = settled_there image seq key q ne
 
 pend_case : (image : Picture) (n : ℕ) (c : Change) (q : List ℕ) (b : Bool) → Under n image → n < c.seq → bytes_eq c.key q ≡ b
-    → get (applied image c).pending q ≡ pend_told (if b then Some c else None) (get image.pending q)
-unfolding pend_told
+    → get (applied image c).pending q ≡ pend_by_last (if b then Some c else None) (get image.pending q)
+unfolding pend_by_last
 pend_case image n c q true u l e = subst (λ k. get (applied image c).pending k ≡ pend_left c.seq c.act) (same_key c.key q e) (pend_here image n c.seq c.key c.act u l)
 pend_case image n c q false u l e = pend_there image c.seq c.key c.act q (other_key c.key q e)
 
@@ -118,7 +118,7 @@ left_seq seq (Commit prepared doc deleted) p e = cc
 left_seq seq (Abort prepared) p e = cc
 
 under_case : (image : Picture) (n : ℕ) (c : Change) → Under n image → n < c.seq → (k : List ℕ) (p : Pend) (b : Bool) → bytes_eq c.key k ≡ b → get (applied image c).pending k ≡ Some p → p.seq ≤ c.seq
-unfolding Under pend_told
+unfolding Under pend_by_last
 under_case image n c u l k p true e g =
     let s = left_seq c.seq c.act p (sym (pend_case image n c k true u l e) ∙ g) in omega arith
 under_case image n c u l k p false e g =
@@ -128,15 +128,15 @@ under_applied : (image : Picture) (n : ℕ) (c : Change) → Under n image → n
 unfolding Under
 under_applied image n c u l k p g = under_case image n c u l k p (bytes_eq c.key k) refl g
 
-pend_fold_step : (o : Option Change) (b : Bool) (c : Change) (now old : Option Pend) → now ≡ pend_told (if b then Some c else None) old
-    → pend_told o now ≡ pend_told (option_or o (if b then Some c else None)) old
-unfolding pend_told
+pend_fold_step : (o : Option Change) (b : Bool) (c : Change) (now old : Option Pend) → now ≡ pend_by_last (if b then Some c else None) old
+    → pend_by_last o now ≡ pend_by_last (option_or o (if b then Some c else None)) old
+unfolding pend_by_last
 pend_fold_step None b c now old e = e
 pend_fold_step (Some d) b c now old e = refl
 
 -- the pending entries after a list
-pub pend_fold : (image : Picture) (a b : ℕ) (cs : List Change) (q : List ℕ) → Under a image → Rises a b cs → get (fold applied image cs).pending q ≡ pend_told (last_of (Slot.Pending q) cs) (get image.pending q)
-unfolding pend_told
+pub pend_fold : (image : Picture) (a b : ℕ) (cs : List Change) (q : List ℕ) → Under a image → Rises a b cs → get (fold applied image cs).pending q ≡ pend_by_last (last_of (Slot.Pending q) cs) (get image.pending q)
+unfolding pend_by_last
 pend_fold image a b [] q u r = refl
 pend_fold image a b (c ∷ cs) q u r = pend_fold (applied image c) c.seq b cs q (under_applied image a c u r.0) r.1
     ∙ pend_fold_step (last_of (Slot.Pending q) cs) (touches (Slot.Pending q) c) c (get (applied image c).pending q) (get image.pending q) (pend_case image a c q (bytes_eq c.key q) u r.0 refl)
@@ -157,7 +157,7 @@ pub commits_as_plain : CommitsAsPlain
 commits_as_plain image c = acted_plain image c.seq c.key c.act
 
 pub docs_by_last : DocsByLast
-docs_by_last h key = doc_fold nothing h key ∙ ap (doc_told (last_of (Slot.Committed key) h)) (get-empty key_cmp key)
+docs_by_last h key = doc_fold nothing h key ∙ ap (doc_by_last (last_of (Slot.Committed key) h)) (get-empty key_cmp key)
 
 pub pends_by_last : PendsByLast
-pends_by_last high h key r = pend_fold nothing 0 high h key (under_nothing 0) r ∙ ap (pend_told (last_of (Slot.Pending key) h)) (get-empty key_cmp key)
+pends_by_last high h key r = pend_fold nothing 0 high h key (under_nothing 0) r ∙ ap (pend_by_last (last_of (Slot.Pending key) h)) (get-empty key_cmp key)

@@ -26,14 +26,14 @@ pend_left seq (Commit prepared doc deleted) = None
 pend_left seq (Abort prepared) = None
 
 -- a key's document after changes with this last visible one of the key, where `old` was there before
-unfoldable pub doc_told : Option Change → Option Doc → Option Doc
-doc_told None old = old
-doc_told (Some c) old = doc_left c.act
+unfoldable pub doc_by_last : Option Change → Option Doc → Option Doc
+doc_by_last None old = old
+doc_by_last (Some c) old = doc_left c.act
 
 -- its pending entry, by its last change
-unfoldable pub pend_told : Option Change → Option Pend → Option Pend
-pend_told None old = old
-pend_told (Some c) old = pend_left c.seq c.act
+unfoldable pub pend_by_last : Option Change → Option Pend → Option Pend
+pend_by_last None old = old
+pend_by_last (Some c) old = pend_left c.seq c.act
 
 -- a commit and the set or removal of its document have one effect
 abbrev pub CommitsAsPlain : Type 0
@@ -41,10 +41,10 @@ CommitsAsPlain = (image : Picture) (c : Change) → applied image (plain c) ≡ 
 
 -- each key's document is what the key's last visible change says
 abbrev pub DocsByLast : Type 0
-DocsByLast = (h : List Change) (key : List ℕ) → map.get (image_of h).docs key ≡ doc_told (last_of (Slot.Committed key) h) None
+DocsByLast = (h : List Change) (key : List ℕ) → map.get (image_of h).docs key ≡ doc_by_last (last_of (Slot.Committed key) h) None
 
 -- where seqnos rise, each key's pending entry is what the key's last change leaves
 abbrev pub PendsByLast : Type 0
 PendsByLast =
     (high : ℕ) (h : List Change) (key : List ℕ) → Rises 0 high h
-    → map.get (image_of h).pending key ≡ pend_told (last_of (Slot.Pending key) h) None
+    → map.get (image_of h).pending key ≡ pend_by_last (last_of (Slot.Pending key) h) None

@@ -12,35 +12,35 @@ use Rattle.vbucket.proofs.Parts.{both, conj, most_of}
 differ_of : (a b : ℕ) → not (a == b) ≡ true → a ≡ b → ⊥
 differ_of a b e = grind (arith, nat_tests)
 
-of_differ : (a b : ℕ) → (a ≡ b → ⊥) → not (a == b) ≡ true
-of_differ a b n = grind (arith, nat_tests)
+differ_tested : (a b : ℕ) → (a ≡ b → ⊥) → not (a == b) ≡ true
+differ_tested a b n = grind (arith, nat_tests)
 
-of_most : (a b : ℕ) → a ≤ b → nat_le a b ≡ true
-of_most a b l = grind (arith, nat_tests)
+most_tested : (a b : ℕ) → a ≤ b → nat_le a b ≡ true
+most_tested a b l = grind (arith, nat_tests)
 
 pub lacks_of : (log : List LogEntry) (u : ℕ) → log_lacks log u ≡ true → Lacks log u
 lacks_of [] u e = tt
 lacks_of (x ∷ xs) u e = let k = both (not (x.uuid == u)) (log_lacks xs u) e in (differ_of x.uuid u k.0, lacks_of xs u k.1)
 
-pub of_lacks : (log : List LogEntry) (u : ℕ) → Lacks log u → log_lacks log u ≡ true
-of_lacks [] u l = refl
-of_lacks (x ∷ xs) u l = conj (not (x.uuid == u)) (log_lacks xs u) (of_differ x.uuid u l.0) (of_lacks xs u l.1)
+pub lacks_tested : (log : List LogEntry) (u : ℕ) → Lacks log u → log_lacks log u ≡ true
+lacks_tested [] u l = refl
+lacks_tested (x ∷ xs) u l = conj (not (x.uuid == u)) (log_lacks xs u) (differ_tested x.uuid u l.0) (lacks_tested xs u l.1)
 
 differs_of : (log : List LogEntry) → log_differs log ≡ true → Distinct log
 differs_of [] e = tt
 differs_of (x ∷ xs) e = let k = both (log_lacks xs x.uuid) (log_differs xs) e in (lacks_of xs x.uuid k.0, differs_of xs k.1)
 
-of_differs : (log : List LogEntry) → Distinct log → log_differs log ≡ true
-of_differs [] d = refl
-of_differs (x ∷ xs) d = conj (log_lacks xs x.uuid) (log_differs xs) (of_lacks xs x.uuid d.0) (of_differs xs d.1)
+differs_tested : (log : List LogEntry) → Distinct log → log_differs log ≡ true
+differs_tested [] d = refl
+differs_tested (x ∷ xs) d = conj (log_lacks xs x.uuid) (log_differs xs) (lacks_tested xs x.uuid d.0) (differs_tested xs d.1)
 
 falls_of : (log : List LogEntry) (n : ℕ) → log_falls log n ≡ true → Falls log n
 falls_of [] n e = tt
 falls_of (x ∷ xs) n e = let k = both (nat_le x.seq n) (log_falls xs x.seq) e in (most_of x.seq n k.0, falls_of xs x.seq k.1)
 
-of_falls : (log : List LogEntry) (n : ℕ) → Falls log n → log_falls log n ≡ true
-of_falls [] n f = refl
-of_falls (x ∷ xs) n f = conj (nat_le x.seq n) (log_falls xs x.seq) (of_most x.seq n f.0) (of_falls xs x.seq f.1)
+falls_tested : (log : List LogEntry) (n : ℕ) → Falls log n → log_falls log n ≡ true
+falls_tested [] n f = refl
+falls_tested (x ∷ xs) n f = conj (nat_le x.seq n) (log_falls xs x.seq) (most_tested x.seq n f.0) (falls_tested xs x.seq f.1)
 
 pub exactly : AnswerableExactly
 exactly log = (
@@ -54,8 +54,8 @@ exactly log = (
       conj (nat_le 1 (length log) && nat_le (length log) log_limit && log_lacks log 0 && log_differs log) (log_falls log MAX_SEQ)
       (conj (nat_le 1 (length log) && nat_le (length log) log_limit && log_lacks log 0) (log_differs log)
       (conj (nat_le 1 (length log) && nat_le (length log) log_limit) (log_lacks log 0)
-      (conj (nat_le 1 (length log)) (nat_le (length log) log_limit) (of_most 1 (length log) r.some) (of_most (length log) log_limit r.short))
-      (of_lacks log 0 r.branches))
-      (of_differs log r.distinct))
-      (of_falls log MAX_SEQ r.falls),
+      (conj (nat_le 1 (length log)) (nat_le (length log) log_limit) (most_tested 1 (length log) r.some) (most_tested (length log) log_limit r.short))
+      (lacks_tested log 0 r.branches))
+      (differs_tested log r.distinct))
+      (falls_tested log MAX_SEQ r.falls),
 )

@@ -18,7 +18,7 @@ use Rattle.vb_types.specs.declared.role.Role.TheVariants as role
 use Rattle.vb_calls.specs.State.{Plain, is_active}
 use Rattle.vb_calls.specs.Streams.{first_reason, id_refusal, is_ranged, judged_open, open_outcome, open_refusal, stream_at}
 use Rattle.vbucket.specs.Laws.{is_denial}
-use Rattle.vbucket.specs.Asks.{AsksAreTold, IsOpen, IsTaken, IsRanged, IsHeard, OpensAs, OpensExactly}
+use Rattle.vbucket.specs.Asks.{AnswersHaveLog, IsOpen, IsTaken, IsRanged, IsHeard, OpensAs, OpensExactly}
 
 judged : (v : Verdict) (vb : Plain) (id : ℕ) (ask : StreamAsk) (sync : Bool) → (said : AskAnswer) × ((judged_open v vb id ask sync).1.answer ≡ answer.Asked said vb.log vb.position.at)
 judged Continue vb id ask sync = (ask_answer.Go, refl)
@@ -36,7 +36,7 @@ refused : (a : Bool) (o rest : Option Status) → o ≡ Some status.KeyEexists �
 refused true o rest e n = let k : Some status.KeyEexists ≡ None = sym (ap (λ x. first_reason x rest) e) ∙ n in cc
 refused false o rest e n = cc
 
-pub asks_told : AsksAreTold
+pub asks_told : AnswersHaveLog
 asks_told vb id ask sync = by (open_refusal vb id ask) refl
   where
     by : (why : Option Status) → open_refusal vb id ask ≡ why

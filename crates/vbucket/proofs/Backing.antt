@@ -27,7 +27,7 @@ use Rattle.vb_types.proofs.Laws.{get-insert_same}
 use Rattle.vb_calls.specs.State.{is_active}
 use Rattle.vb_calls.specs.Settling.{left_prepare, left_prepares}
 use Rattle.vbucket.specs.Laws.{AreBacked, AreLinked, Ascend, IsBacked, OnlyActive, OnlyLinked, PendSeqsUpTo, PendsDiffer}
-use Rattle.vbucket.proofs.Prepares.{IsGone, IsPut, NoPrepare, after_pend, gone, pend_gone, pend_stays, put}
+use Rattle.vbucket.proofs.Prepares.{IsGone, IsPut, NoPrepare, pend_after_one, gone, pend_gone, pend_stays, put}
 
 pub only_active : (r : Role) (ws : List Waiting) → is_active r ≡ true → OnlyActive r ws
 only_active role.Active ws e = tt
@@ -41,11 +41,11 @@ none_idle role.Replica ws e o = o
 none_idle role.Pending ws e o = o
 none_idle role.Dead ws e o = o
 
-pub idle_none : (r : Role) → OnlyActive r []
-idle_none role.Active = tt
-idle_none role.Replica = refl
-idle_none role.Pending = refl
-idle_none role.Dead = refl
+pub nothing_idle : (r : Role) → OnlyActive r []
+nothing_idle role.Active = tt
+nothing_idle role.Replica = refl
+nothing_idle role.Pending = refl
+nothing_idle role.Dead = refl
 
 not_active : (r : Role) → is_active r ≡ false → r ≢ role.Active
 not_active role.Active e k = cc
@@ -72,7 +72,7 @@ backed_idle r image image' at at' ws e b =
 -- and where it takes another such role
 pub backed_turned : (r : Role) (image : Picture) (at : ℕ) → is_active r ≡ false → AreBacked r image at []
 backed_turned r image at e = record {
-  only = idle_none r;
+  only = nothing_idle r;
   ascend = tt;
   backed = λ w i. absurd i;
   all = λ k. absurd (not_active r e k);
@@ -91,7 +91,7 @@ module _ (r : Role) (image : Picture) (at : ℕ) (ws : List Waiting) where
     only = b.only;
     ascend = b.ascend;
     backed = λ w i. let k = b.backed w i in (k.0, pend_stays image (at + 1) key a w.key (other w.key k.0 k.1) ∙ k.1, k.2, k.3);
-    all = λ k q p e. ⊎_elim (λ o. b.all k q p o.1) (λ o. absurd (never q p e o.0)) (after_pend at image (at + 1) key a q p u (omega arith) e);
+    all = λ k q p e. ⊎_elim (λ o. b.all k q p o.1) (λ o. absurd (never q p e o.0)) (pend_after_one at image (at + 1) key a q p u (omega arith) e);
     left = λ w d i e. omega arith;
   }
     where
@@ -110,7 +110,7 @@ module _ (r : Role) (image : Picture) (at : ℕ) (ws : List Waiting) where
     backed = λ v i. let k = g.was v i in let m = b.backed v k.0 in (m.0, pend_stays image (at + 1) w.key a v.key (other v k.0 k.1) ∙ m.1, m.2, m.3);
     all = λ k q p e. ⊎_elim
         (λ o. let v = b.all k q p o.1 in (v.0, g.stays v.0 v.1 (λ same. o.0 (one_key v.0 v.1 same ∙ v.2.0)), v.2))
-        (λ o. absurd (never q p e o.0)) (after_pend at image (at + 1) w.key a q p u (omega arith) e);
+        (λ o. absurd (never q p e o.0)) (pend_after_one at image (at + 1) w.key a q p u (omega arith) e);
     left = λ v l i e. let k = g.was v i in let m = b.left v l k.0 e in let n = g.shorter w here refl in omega arith;
   }
     where
@@ -140,7 +140,7 @@ module _ (r : Role) (image : Picture) (at : ℕ) (ws : List Waiting) where
         (λ j. let k = b.backed v j in (k.0, pend_stays image (at + 1) w.key a v.key (other v.key k.0 k.1) ∙ k.1, k.2, k.3)) (g.was v i);
     all = λ k q p e. ⊎_elim (λ o. let v = b.all k q p o.1 in (v.0, g.stays v.0 v.1, v.2))
         (λ o. let m = its q p o.0 e in (w, g.there, (o.0, next ∙ ap (λ (x : Pend). x.seq) m, at_level ∙ ap (λ (x : Pend). x.level) m)))
-        (after_pend at image (at + 1) w.key a q p u (omega arith) e);
+        (pend_after_one at image (at + 1) w.key a q p u (omega arith) e);
     left = λ v d i e. let k = g.longer in omega arith;
   }
     where
@@ -254,11 +254,11 @@ below_less k [] e t i = absurd i
 below_less k (x ∷ es) e t i = ⊎_elim (λ s. ap (λ (y : Entry). key_cmp k y.0) s ∙ lt_is (key_cmp k x.0) (first_part _ _ t)) (λ j. below_less k es e (second_part _ _ t) j) i
 
 -- an entry is found
-pub entry_found : (es : List Entry) (e : Entry) → T (is_sorted key_cmp es) → IsEntry e es → finite.find key_cmp e.0 es ≡ Some e.1
-entry_found [] e t i = absurd i
-entry_found (x ∷ es) e t i = ⊎_elim
+pub entry_is_found : (es : List Entry) (e : Entry) → T (is_sorted key_cmp es) → IsEntry e es → finite.find key_cmp e.0 es ≡ Some e.1
+entry_is_found [] e t i = absurd i
+entry_is_found (x ∷ es) e t i = ⊎_elim
     (λ s. subst (λ (y : Entry). finite.find key_cmp y.0 (x ∷ es) ≡ Some y.1) (sym s) (ap (λ b. cond b (Some x.1) (finite.find key_cmp x.0 es)) (itself x.0)))
-    (λ j. ap (λ b. cond b (Some x.1) (finite.find key_cmp e.0 es)) (not_tied e.0 x.0 (less_other x.0 e.0 (below_less x.0 es e (first_part _ _ t) j))) ∙ entry_found es e (second_part _ _ t) j) i
+    (λ j. ap (λ b. cond b (Some x.1) (finite.find key_cmp e.0 es)) (not_tied e.0 x.0 (less_other x.0 e.0 (below_less x.0 es e (first_part _ _ t) j))) ∙ entry_is_found es e (second_part _ _ t) j) i
 
 entries_apart : (image : Picture) (es : List Entry) → PendsDiffer image → T (is_sorted key_cmp es) → ((e : Entry) → IsEntry e es → finite.get image.pending e.0 ≡ Some e.1) → Apart es
 entries_apart image [] d t h = tt
@@ -284,7 +284,7 @@ are_left image d = record {
     es = finite.entries image.pending
 
     has : (e : Entry) → IsEntry e es → finite.get image.pending e.0 ≡ Some e.1
-    has e i = finite.get-entries image.pending e.0 ∙ entry_found es e (finite.entries_sorted image.pending) i
+    has e i = finite.get-entries image.pending e.0 ∙ entry_is_found es e (finite.entries_sorted image.pending) i
 
     m : IsLeft es [] (left_prepares image)
     m = all_placed es [] tt (entries_apart image es d (finite.entries_sorted image.pending) has) (λ v e i j. absurd i)
@@ -304,7 +304,7 @@ backed_left image at d = record {
 -- nothing waits in a new vBucket
 pub backed_new : (r : Role) → AreBacked r nothing 0 []
 backed_new r = record {
-  only = idle_none r;
+  only = nothing_idle r;
   ascend = tt;
   backed = λ w i. absurd i;
   all = λ k key p e. let g : finite.get nothing.pending key ≡ None = finite.get-empty key_cmp key in cc;

@@ -23,7 +23,7 @@ use Rattle.vb_calls.specs.State.{quiet_reply}
 use Rattle.vb_calls.specs.Settling.{and_settled}
 use Rattle.vbucket.specs.Settles.{Settles}
 use Rattle.vbucket.proofs.Settling.{settles}
-use Rattle.vbucket.proofs.Parts.{Among, among_most, below_of, bounded, filter_in, filtered, found, in_filter, in_live, in_stretch, live_rises, of_below}
+use Rattle.vbucket.proofs.Parts.{Among, among_most, below_of, bounded, kept_in_filter, filtered, found, in_filter, in_live, in_stretch, live_rises, below_tested}
 use Rattle.vbucket.proofs.Queued.{lives_rise}
 use Rattle.vbucket.proofs.Soundness.{flushed_most}
 use Rattle.vbucket.proofs.Parts.{from_zero}
@@ -38,7 +38,7 @@ next_span vb w s e =
     record {
       one = k.0;
       above = below_of vb.flushed w.last k.1;
-      first = λ v a l. found_first (goes_on vb) vb.floor vb.position.at (all_spans vb.spans) w v s.spans e a (of_below vb.flushed v.last l);
+      first = λ v a l. found_first (goes_on vb) vb.floor vb.position.at (all_spans vb.spans) w v s.spans e a (below_tested vb.flushed v.last l);
     }
 
 -- a span begins where the one before it ends, or at the floor
@@ -70,7 +70,7 @@ rest_of vb w s e =
     let rise : Rises w.above w.last live = live_rises w.origin w.above w.last (stretch w.above w.last vb.held) (lives_rise vb.position.at vb.held w (from_zero vb.floor vb.position.at vb.held s.rises) some) in
     let up : vb.flushed < w.last = next.above in
     record {
-      items = λ c. (λ i. let k = in_filter later live c i in (k.0, below_of vb.flushed c.seq k.1), λ k. filter_in later live c k.0 (of_below vb.flushed c.seq k.1));
+      items = λ c. (λ i. let k = in_filter later live c i in (k.0, below_of vb.flushed c.seq k.1), λ k. kept_in_filter later live c k.0 (below_tested vb.flushed c.seq k.1));
       within = λ c i. in_span vb.held w c (in_filter later live c i).0;
       rises = bounded w.above w.last vb.flushed w.last (filter later live) (filtered later w.above w.last live rise) (omega arith)
           (λ c i. let k = in_filter later live c i in (below_of vb.flushed c.seq k.1, (in_span vb.held w c k.0).1));

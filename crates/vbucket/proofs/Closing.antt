@@ -6,7 +6,7 @@ use Rattle.std.proofs.lemmas.Bool.Decides.{nat_tests}
 use Rattle.vb_calls.specs.declared.stream.Stream.{Stream}
 use Rattle.vb_calls.specs.declared.calls.VbAnswer.TheVariants as answer
 use Rattle.vb_calls.specs.State.{Plain, quiet_reply}
-use Rattle.vb_calls.specs.Streams.{closed_stream, is_in_memory, place_reply, stream_at}
+use Rattle.vb_calls.specs.Streams.{without_stream, is_in_memory, place_reply, stream_at}
 use Rattle.vbucket.specs.Closing.{AreOthers, ClosesAs, ClosesExactly, PlacesAs, PlacesExactly}
 use Rattle.vbucket.proofs.Asks.{is_open, not_open}
 
@@ -22,15 +22,15 @@ at_floor floor place e = grind (arith, nat_tests)
 pub below_floor : (floor place : ℕ) → nat_le floor place ≡ false → place < floor
 below_floor floor place e = grind (arith, nat_tests)
 
-are_others : (id : ℕ) (ss : List Stream) → AreOthers id ss (closed_stream id ss)
+are_others : (id : ℕ) (ss : List Stream) → AreOthers id ss (without_stream id ss)
 are_others id [] = refl
 are_others id (s ∷ ss) = by (s.id == id) refl (are_others id ss)
   where
-    by : (b : Bool) → (s.id == id) ≡ b → AreOthers id ss (closed_stream id ss) → AreOthers id (s ∷ ss) (if not b then s ∷ closed_stream id ss else closed_stream id ss)
+    by : (b : Bool) → (s.id == id) ≡ b → AreOthers id ss (without_stream id ss) → AreOthers id (s ∷ ss) (if not b then s ∷ without_stream id ss else without_stream id ss)
     by true e rest = inl (same s.id id e, rest)
-    by false e rest = inr (other s.id id e, (closed_stream id ss, refl, rest))
+    by false e rest = inr (other s.id id e, (without_stream id ss, refl, rest))
 
-closes_as : (vb : Plain) (id : ℕ) (o : Option Stream) → stream_at id vb.streams ≡ o → ClosesAs vb id (record vb { streams = closed_stream id vb.streams }, quiet_reply (answer.Flag (is_some o)))
+closes_as : (vb : Plain) (id : ℕ) (o : Option Stream) → stream_at id vb.streams ≡ o → ClosesAs vb id (record vb { streams = without_stream id vb.streams }, quiet_reply (answer.Flag (is_some o)))
 closes_as vb id None e = record {
   others = are_others id vb.streams;
   stays = refl;

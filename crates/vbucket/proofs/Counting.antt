@@ -19,8 +19,8 @@ use Rattle.vb_calls.specs.declared.span.Origin.TheVariants.{Own, Received}
 use Rattle.vb_calls.specs.declared.span.TheConstants.{MAX_ITEMS, MAX_WEIGHT}
 use Rattle.vb_calls.specs.Spans.{with_other, with_newer, is_durable, change_weight, stretch, key_lasts, live_of, live_in, live_count, live_weight, last_at, span_to}
 use Rattle.vbucket.specs.Laws.{IsWithin}
-use Rattle.vbucket.proofs.Covering.{none_any}
-use Rattle.vbucket.proofs.Parts.{of_between}
+use Rattle.vbucket.proofs.Covering.{none_touches}
+use Rattle.vbucket.proofs.Parts.{between_tested}
 
 -- spans of a history with one more change
 
@@ -51,7 +51,7 @@ stretch_sealed low high h c l = filter_more (λ x. nat_lt low x.seq && nat_le x.
 -- the one that it joins has it as its last
 pub stretch_joined : (low at : ℕ) (h : List Change) (c : Change) → Rises 0 at h → low < c.seq → at < c.seq → stretch low c.seq (h ++ c ∷ []) ≡ stretch low at h ++ c ∷ []
 stretch_joined low at h c r l m =
-    filter_more (λ x. nat_lt low x.seq && nat_le x.seq c.seq) h c true (of_between low c.seq c.seq l (omega arith))
+    filter_more (λ x. nat_lt low x.seq && nat_le x.seq c.seq) h c true (between_tested low c.seq c.seq l (omega arith))
     ∙ ap (λ xs. xs ++ c ∷ [])
     (filter_same (λ x. nat_lt low x.seq && nat_le x.seq c.seq) (λ x. nat_lt low x.seq && nat_le x.seq at) h (λ x i. let k = (rises_in 0 at h x r i).1 in same_test low at c.seq x.seq k (omega arith)))
 
@@ -144,7 +144,7 @@ lasts_newer (x ∷ xs) d c e = by (last_at xs c.key) (bytes_eq x.key c.key) refl
     here q eo eb =
         let k : x.key ≡ c.key = (bytes_eq-Decides x.key c.key).0 eb in
         let new : key_lasts (x ∷ (xs ++ c ∷ [])) ≡ key_lasts xs ++ c ∷ [] = ap (λ t. if t then key_lasts (xs ++ c ∷ []) else x ∷ key_lasts (xs ++ c ∷ [])) (any_more xs c x true (other_way x.key c.key true eb) ∙ or_true (any xs)) ∙ lasts_new xs c eo in
-        let old : key_lasts (x ∷ xs) ≡ x ∷ key_lasts xs = ap (λ t. if t then key_lasts xs else x ∷ key_lasts xs) (none_any x.key xs (ap (last_at xs) k ∙ eo)) in
+        let old : key_lasts (x ∷ xs) ≡ x ∷ key_lasts xs = ap (λ t. if t then key_lasts xs else x ∷ key_lasts xs) (none_touches x.key xs (ap (last_at xs) k ∙ eo)) in
         let a : sum_by change_weight (key_lasts xs ++ c ∷ []) ≡ sum_by change_weight (key_lasts xs) + sum_by change_weight (c ∷ []) = sum_by-append change_weight (key_lasts xs) (c ∷ []) in
         let b : sum_by change_weight (x ∷ key_lasts xs) ≡ change_weight x + sum_by change_weight (key_lasts xs) = sum_by-cons change_weight x (key_lasts xs) in
         let o : sum_by change_weight (c ∷ []) ≡ change_weight c = weigh_one c in

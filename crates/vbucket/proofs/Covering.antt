@@ -13,12 +13,12 @@ use Rattle.vb_types.specs.Histories.{upto, Rises, IsIn, Slot, touches, last_by, 
 use Rattle.branch_model.specs.Histories.{last_seq, HasOf, StandsAs}
 use Rattle.branch_model.specs.Snapshots.{Remains, Covers, plain_view}
 use Rattle.branch_model.proofs.Images.{plain_stands}
-use Rattle.branch_model.proofs.Lists.{in_upto, upto_in, rises_upto, rises_map, last_in, last_above, last_seq_le, same_seq, rises_in}
+use Rattle.branch_model.proofs.Lists.{from_upto, upto_in, rises_upto, rises_map, last_in, last_above, last_seq_le, same_seq, rises_in}
 use Rattle.vb_calls.specs.declared.span.Origin.{Origin}
 use Rattle.vb_calls.specs.declared.span.Origin.TheVariants.{Own, Received}
 use Rattle.vb_calls.specs.Spans.{key_lasts, live_of, is_durable, last_at}
 use Rattle.vbucket.specs.Laws.{Tidy}
-use Rattle.vbucket.proofs.Parts.{filtered, bounded, in_filter, filter_in, in_map, map_in}
+use Rattle.vbucket.proofs.Parts.{filtered, bounded, in_filter, kept_in_filter, in_map, mapped_in}
 
 -- the end of a list
 
@@ -60,7 +60,7 @@ remains_ends top h xs from end r rem l m = (record { goes_on = l; remains = reco
         let s : Slot = Slot.Pending x.key in
         let z = last_above (touches s) 0 end (upto h end) x (rises_upto 0 top end h (omega arith) r) (upto_in x h end i k) ((bytes_eq-Decides x.key x.key).1 refl) in
         let zl : x.seq ≤ z.0.seq = z.2 in
-        let ze : z.0.seq ≤ end = (in_upto z.0 h end (last_in (touches s) (upto h end) z.0 z.1).0).1 in
+        let ze : z.0.seq ≤ end = (from_upto z.0 h end (last_in (touches s) (upto h end) z.0 z.1).0).1 in
         let y = rem.has s z.0 z.1 (omega arith) ze in
         let e : y.0.seq ≡ z.0.seq = stands_seq y.0 z.0 y.2 in
         let q : y.0.seq ≤ last_seq from xs = in_ends from end from xs y.0 rem.rises y.1 in
@@ -79,9 +79,9 @@ remains_ends top h xs from end r rem l m = (record { goes_on = l; remains = reco
 
 -- the last change of a key is live
 
-pub none_any : (key : List ℕ) (xs : List Change) → last_by (touches (Slot.Pending key)) xs ≡ None → list_any (λ d. bytes_eq d.key key) xs ≡ false
-none_any key [] e = refl
-none_any key (x ∷ xs) e = by (last_by (touches (Slot.Pending key)) xs) (bytes_eq x.key key) refl e (none_any key xs)
+pub none_touches : (key : List ℕ) (xs : List Change) → last_by (touches (Slot.Pending key)) xs ≡ None → list_any (λ d. bytes_eq d.key key) xs ≡ false
+none_touches key [] e = refl
+none_touches key (x ∷ xs) e = by (last_by (touches (Slot.Pending key)) xs) (bytes_eq x.key key) refl e (none_touches key xs)
   where
     by : (o : Option Change) (b : Bool) → last_by (touches (Slot.Pending key)) xs ≡ o → option_or o (if b then Some x else None) ≡ None → (last_by (touches (Slot.Pending key)) xs ≡ None → list_any (λ d. bytes_eq d.key key) xs ≡ false)
         → (b || list_any (λ d. bytes_eq d.key key) xs) ≡ false
@@ -101,7 +101,7 @@ last_live c (x ∷ xs) e = by (last_at xs c.key) (bytes_eq x.key c.key) refl e (
     by (Some d) b eo q ih = more (list_any (λ d. bytes_eq d.key x.key) xs) (ih (eo ∙ q))
     by None true eo q ih =
         let s : x ≡ c = cc in
-        subst (λ t. IsIn c (if t then key_lasts xs else x ∷ key_lasts xs)) (sym (ap (λ (y : Change). list_any (λ d. bytes_eq d.key y.key) xs) s ∙ none_any c.key xs eo)) (inl (sym s))
+        subst (λ t. IsIn c (if t then key_lasts xs else x ∷ key_lasts xs)) (sym (ap (λ (y : Change). list_any (λ d. bytes_eq d.key y.key) xs) s ∙ none_touches c.key xs eo)) (inl (sym s))
     by None false eo q ih = cc
 
 live_same : (c d : Change) (xs : List Change) → last_at xs c.key ≡ Some d → c ≡ d → IsIn c (key_lasts xs)
@@ -157,10 +157,10 @@ pub plain_rises : (a b : ℕ) (h : List Change) → Rises a b h → Rises a b (p
 plain_rises a b h r = rises_map plain (λ x. refl) a b (filter (λ x. is_visible x.act) h) (filtered (λ x. is_visible x.act) a b h r)
 
 pub plain_in : (h : List Change) (c : Change) → IsIn c h → is_visible c.act ≡ true → IsIn (plain c) (plain_view h)
-plain_in h c i v = map_in plain (filter (λ x. is_visible x.act) h) c (filter_in (λ x. is_visible x.act) h c i v)
+plain_in h c i v = mapped_in plain (filter (λ x. is_visible x.act) h) c (kept_in_filter (λ x. is_visible x.act) h c i v)
 
-pub in_plain : (h : List Change) (x : Change) → IsIn x (plain_view h) → (c : Change) × IsIn c h × (is_visible c.act ≡ true) × (x ≡ plain c)
-in_plain h x i =
+pub plain_of_view : (h : List Change) (x : Change) → IsIn x (plain_view h) → (c : Change) × IsIn c h × (is_visible c.act ≡ true) × (x ≡ plain c)
+plain_of_view h x i =
     let k = in_map plain (filter (λ y. is_visible y.act) h) x i in
     let m = in_filter (λ y. is_visible y.act) h k.0 k.1 in
     (k.0, m.0, m.1, k.2)
@@ -170,13 +170,13 @@ pub plain_last : (top n : ℕ) (h : List Change) (s : Slot) (x c : Change) → R
 plain_last top n h s x c r e i v q =
     let ix = last_in (touches s) (upto (plain_view h) n) x e in
     let es : x.seq ≡ c.seq = ap (λ (y : Change). y.seq) q in
-    let lx : x.seq ≤ n = (in_upto x (plain_view h) n ix.0).1 in
+    let lx : x.seq ≤ n = (from_upto x (plain_view h) n ix.0).1 in
     let t : Slot = Slot.Committed c.key in
     let z = last_above (touches t) 0 n (upto h n) c (rises_upto 0 top n h (omega arith) r) (upto_in c h n i (omega arith)) (and_from _ _ ((bytes_eq-Decides c.key c.key).1 refl) v) in
     let iz = last_in (touches t) (upto h n) z.0 z.1 in
     let tz = and_parts (bytes_eq z.0.key c.key) (is_visible z.0.act) iz.1 in
     let kz : z.0.key ≡ c.key = (bytes_eq-Decides z.0.key c.key).0 tz.0 in
-    let uz = in_upto z.0 h n iz.0 in
+    let uz = from_upto z.0 h n iz.0 in
     let lz : c.seq ≤ z.0.seq = z.2 in
     let nz : z.0.seq ≤ n = uz.1 in
     let kx : x.key ≡ (plain z.0).key = ap (λ (y : Change). y.key) q ∙ sym kz in

@@ -11,15 +11,15 @@ use Rattle.hash_table.specs.Seqnos.{IsFirstAbove, IsLastUpTo, ThirdWaitsAt, Wait
 use Rattle.vb_types.specs.declared.change.Level.TheVariants.{PersistMajority}
 use Rattle.vb_types.specs.declared.change.Pend.{Pend}
 use Rattle.vb_types.specs.Keys.{key_cmp}
-use Rattle.vbucket.proofs.Backing.{Entry, IsEntry, entry_found, found_entry}
+use Rattle.vbucket.proofs.Backing.{Entry, IsEntry, entry_is_found, found_entry}
 
 pend_in : (es : List Entry) (p : Pend) → IsPending p (map (λ e. e.1) es) → (e : Entry) × IsEntry e es × (p ≡ e.1)
 pend_in [] p i = absurd i
 pend_in (x ∷ es) p i = ⊎_elim (λ s. (x, inl refl, s)) (λ j. let k = pend_in es p j in (k.0, inr k.1, k.2)) i
 
-in_pend : (es : List Entry) (e : Entry) → IsEntry e es → IsPending e.1 (map (λ x. x.1) es)
-in_pend [] e i = absurd i
-in_pend (x ∷ es) e i = ⊎_elim (λ s. inl (ap (λ (y : Entry). y.1) s)) (λ j. inr (in_pend es e j)) i
+pending_of_entry : (es : List Entry) (e : Entry) → IsEntry e es → IsPending e.1 (map (λ x. x.1) es)
+pending_of_entry [] e i = absurd i
+pending_of_entry (x ∷ es) e i = ⊎_elim (λ s. inl (ap (λ (y : Entry). y.1) s)) (λ j. inr (pending_of_entry es e j)) i
 
 -- the greatest seqno that may be acknowledged, where this is the first level 3 prepare that is not saved
 abbrev pub limit_under : Option ℕ → ℕ → ℕ
@@ -31,12 +31,12 @@ module _ (pending : finite.FinMap key_cmp Pend) where
   pends = map (λ e. e.1) (finite.entries pending)
 
   pub pend_at : (key : List ℕ) (p : Pend) → finite.get pending key ≡ Some p → IsPending p pends
-  pend_at key p e = in_pend (finite.entries pending) (key, p) (found_entry (finite.entries pending) key p (sym (finite.get-entries pending key) ∙ e))
+  pend_at key p e = pending_of_entry (finite.entries pending) (key, p) (found_entry (finite.entries pending) key p (sym (finite.get-entries pending key) ∙ e))
 
   pub at_key : (p : Pend) → IsPending p pends → (key : List ℕ) × (finite.get pending key ≡ Some p)
   at_key p i =
       let k = pend_in (finite.entries pending) p i in
-      (k.0.0, finite.get-entries pending k.0.0 ∙ entry_found (finite.entries pending) k.0 (finite.entries_sorted pending) k.1 ∙ ap Some (sym k.2))
+      (k.0.0, finite.get-entries pending k.0.0 ∙ entry_is_found (finite.entries pending) k.0 (finite.entries_sorted pending) k.1 ∙ ap Some (sym k.2))
 
   module _ (complete saved : ℕ) where
     abbrev number : ℕ

@@ -31,7 +31,7 @@ use Rattle.vbucket.proofs.Committing.{commits}
 use Rattle.vbucket.proofs.Prepares.{IsPut, pend_stays, put}
 use Rattle.vbucket.proofs.Preparing.{durable_free, prepared_sound}
 use Rattle.vbucket.proofs.ReadBack.{cas_above, docs_pushed, follows, pends_pushed}
-use Rattle.vbucket.proofs.Reasons.{above, absent_key, again_key, is_above, is_below, left_of, not_foreign, not_full, not_impossible, of_left, pending_key, present_key}
+use Rattle.vbucket.proofs.Reasons.{above, absent_key, again_key, is_above, is_below, left_of, not_foreign, not_full, not_impossible, or_by_left, pending_key, present_key}
 use Rattle.vbucket.proofs.Storing.{nothing_waits, seqs_at}
 
 -- the order of the reasons
@@ -72,8 +72,8 @@ full_of role.Dead p full said n e = cc
 by_parts : (r : Role) (p full a b : Bool) (said : Option Status) → r ≡ role.Active → p ≡ a → full ≡ b → first r p full said ≡ first role.Active a b said
 by_parts r p full a b said e f g = ap (λ q. first q p full said) e ∙ ap (λ q. first role.Active q full said) f ∙ ap (λ q. first role.Active a q said) g
 
-of_short : (others : Members) → is_possible others ≡ false → IsShort others
-of_short others e = less (majority (chain_length others)) (1 + length (named others)) e
+short_of_others : (others : Members) → is_possible others ≡ false → IsShort others
+short_of_others others e = less (majority (chain_length others)) (1 + length (named others)) e
   where
     less : (a b : ℕ) → nat_le a b ≡ false → b < a
     less a b e = grind (arith, nat_tests)
@@ -89,7 +89,7 @@ enough others n = by (is_possible others) refl
   where
     by : (b : Bool) → is_possible others ≡ b → b ≡ true
     by true e = refl
-    by false e = absurd (n (of_short others e))
+    by false e = absurd (n (short_of_others others e))
 
 not_short : (others : Members) → is_possible others ≡ true → IsShort others → ⊥
 not_short others e l = let z : true ≡ false = sym e ∙ is_short others l in cc
@@ -98,16 +98,16 @@ told_of : (why : Option Status) (vb : Plain) (write : Write) (wish : Wish) (cas 
 told_of (Some s) vb write wish cas st e = cc
 told_of None vb write wish cas st e = cc
 
-of_told : (why : Option Status) (vb : Plain) (write : Write) (wish : Wish) (cas : ℕ) (st : Status) → why ≡ Some st → (durable_outcome why vb write wish cas).1.answer ≡ answer.Status st
-of_told (Some s) vb write wish cas st e = cc
-of_told None vb write wish cas st e = cc
+told_tested : (why : Option Status) (vb : Plain) (write : Write) (wish : Wish) (cas : ℕ) (st : Status) → why ≡ Some st → (durable_outcome why vb write wish cas).1.answer ≡ answer.Status st
+told_tested (Some s) vb write wish cas st e = cc
+told_tested None vb write wish cas st e = cc
 
 module _ (vb : Plain) (write : Write) (clock : ℕ) (wish : Wish) where
   said_by : (st : Status) → Unprepared vb write clock wish st → durable_refusal vb write ≡ Some st
   said_by st e = told_of (durable_refusal vb write) vb write wish (new_cas clock vb.last_cas) st e
 
   says : (st : Status) → durable_refusal vb write ≡ Some st → Unprepared vb write clock wish st
-  says st e = of_told (durable_refusal vb write) vb write wish (new_cas clock vb.last_cas) st e
+  says st e = told_tested (durable_refusal vb write) vb write wish (new_cas clock vb.last_cas) st e
 
   decided : TakesDurable vb → durable_refusal vb write ≡ key_refusal vb write
   decided t = by_parts vb.role (is_possible vb.others) (lacks_seqnos vb 2) true false (key_refusal vb write) t.0 (enough vb.others t.1) (is_below (vb.position.at + length vb.waiting + 2) t.2)
@@ -123,7 +123,7 @@ refused vb write clock wish =
     record {
       foreign = (λ e. foreign_of vb.role p f k (not_foreign vb write) (said_by vb write clock wish status.NotMyVbucket e), λ n. says vb write clock wish status.NotMyVbucket (is_foreign vb.role p f k n));
       short = (
-        λ e. let s = short_of vb.role p f k (not_impossible vb write) (said_by vb write clock wish status.DurabilityImpossible e) in (s.0, of_short vb.others s.1),
+        λ e. let s = short_of vb.role p f k (not_impossible vb write) (said_by vb write clock wish status.DurabilityImpossible e) in (s.0, short_of_others vb.others s.1),
         λ s. says vb write clock wish status.DurabilityImpossible (by_parts vb.role p f false f k s.0 (is_short vb.others s.1) refl),
       );
       full = (
@@ -191,8 +191,8 @@ module _ (vb : Plain) (write : Write) (wish : Wish) (cas : ℕ) where
 
   left_some : Sound vb → (p : Pend) → is_left (placed new vb.waiting) (Some p) ≡ is_left vb.waiting (Some p)
   left_some s p = alike (is_left (placed new vb.waiting) (Some p)) (is_left vb.waiting (Some p))
-      (λ e. let k = left_of (placed new vb.waiting) p e in ⊎_elim (λ x. timed k.0 x k.3) (λ j. of_left vb.waiting p k.0 j k.2 k.3) ((placed_one s).was k.0 k.1))
-      (λ e. let k = left_of vb.waiting p e in of_left (placed new vb.waiting) p k.0 ((placed_one s).stays k.0 k.1) k.2 k.3)
+      (λ e. let k = left_of (placed new vb.waiting) p e in ⊎_elim (λ x. timed k.0 x k.3) (λ j. or_by_left vb.waiting p k.0 j k.2 k.3) ((placed_one s).was k.0 k.1))
+      (λ e. let k = left_of vb.waiting p e in or_by_left (placed new vb.waiting) p k.0 ((placed_one s).stays k.0 k.1) k.2 k.3)
 
   left_same : Sound vb → (o : Option Pend) → is_left (placed new vb.waiting) o ≡ is_left vb.waiting o
   left_same s None = refl

@@ -19,8 +19,8 @@ use Rattle.vb_calls.specs.Streams.{is_in_memory, stream_at, is_seen, is_plain_ne
 use Rattle.vbucket.specs.Laws.{Sound, Follow}
 use Rattle.vbucket.specs.Takes.{EndsOne, CutsNone, MayEnd, EndsFirst, TakesAs, TakesExactly, IsSnapshot}
 use Rattle.vbucket.proofs.Asks.{is_open, not_open}
-use Rattle.vbucket.proofs.Parts.{from_zero, Among, both, conj, below_of, of_below, most_of, found, ends_above}
-use Rattle.vbucket.proofs.Receiving.{either, never, of_most, of_right}
+use Rattle.vbucket.proofs.Parts.{from_zero, Among, both, conj, below_of, below_tested, most_of, found, ends_above}
+use Rattle.vbucket.proofs.Receiving.{either, never, most_tested, of_right}
 use Rattle.vbucket.proofs.Taking.{item_of, item_there, snapshot_at}
 
 -- spans
@@ -31,16 +31,16 @@ cuts_of n last (Received a b) e ss se q l = let k : a ≡ ss = cc in by (nat_lt 
   where
     by : (s t : Bool) → nat_lt n last ≡ s → nat_lt a n ≡ t → not (s && t) ≡ true → a ≡ ss → last ≤ n
     by true true p q e k = cc
-    by true false p q e k = absurd (never (nat_lt a n) q (of_below a n (omega arith)))
+    by true false p q e k = absurd (never (nat_lt a n) q (below_tested a n (omega arith)))
     by false t p q e k = grind (arith, nat_tests)
 
-of_cuts : (n last : ℕ) (o : Origin) → ((ss se : ℕ) → o ≡ Received ss se → ss < n → last ≤ n) → not (nat_lt n last && starts_below n o) ≡ true
-of_cuts n last Own f = by (nat_lt n last)
+cuts_tested : (n last : ℕ) (o : Origin) → ((ss se : ℕ) → o ≡ Received ss se → ss < n → last ≤ n) → not (nat_lt n last && starts_below n o) ≡ true
+cuts_tested n last Own f = by (nat_lt n last)
   where
     by : (b : Bool) → not (b && false) ≡ true
     by true = refl
     by false = refl
-of_cuts n last (Received ss se) f = by (nat_lt n last) (nat_lt ss n) refl refl
+cuts_tested n last (Received ss se) f = by (nat_lt n last) (nat_lt ss n) refl refl
   where
     by : (s t : Bool) → nat_lt n last ≡ s → nat_lt ss n ≡ t → not (s && t) ≡ true
     by true true p q = let k : last ≤ n = f ss se refl (below_of ss n q) in let l : n < last = below_of n last p in absurd (omega arith)
@@ -53,15 +53,15 @@ cuts_none n (w ∷ ws) e = let k = both (not (nat_lt n w.last && starts_below n 
 
 whole_of : (n : ℕ) (ws : List Span) → CutsNone n ws → is_whole n ws ≡ true
 whole_of n [] c = refl
-whole_of n (w ∷ ws) c = conj (not (nat_lt n w.last && starts_below n w.origin)) (is_whole n ws) (of_cuts n w.last w.origin c.0) (whole_of n ws c.1)
+whole_of n (w ∷ ws) c = conj (not (nat_lt n w.last && starts_below n w.origin)) (is_whole n ws) (cuts_tested n w.last w.origin c.0) (whole_of n ws c.1)
 
 among_ends : (w : Span) (ws : List Span) → Among w ws → EndsOne w.last ws
 among_ends w [] a = absurd a
 among_ends w (v ∷ vs) a = ⊎_elim (λ e. inl (ap (λ (x : Span). x.last) (sym e))) (λ k. inr (among_ends w vs k)) a
 
-ends_among : (n : ℕ) (ws : List Span) → EndsOne n ws → (w : Span) × Among w ws × (w.last ≡ n)
-ends_among n [] e = absurd e
-ends_among n (v ∷ vs) e = ⊎_elim (λ q. (v, inl refl, q)) (λ k. let r = ends_among n vs k in (r.0, inr r.1, r.2)) e
+among_with_end : (n : ℕ) (ws : List Span) → EndsOne n ws → (w : Span) × Among w ws × (w.last ≡ n)
+among_with_end n [] e = absurd e
+among_with_end n (v ∷ vs) e = ⊎_elim (λ q. (v, inl refl, q)) (λ k. let r = among_with_end n vs k in (r.0, inr r.1, r.2)) e
 
 -- the span that is found ends first
 pub found_first : (p : Span → Bool) (low high : ℕ) (ws : List Span) (w v : Span) → Follow low ws high → find p ws ≡ Some w → Among v ws → p v ≡ true → w.last ≤ v.last
@@ -75,9 +75,9 @@ found_first p low high (x ∷ xs) w v f e a t = by (p x) refl e (λ q i. found_f
         ⊎_elim (λ i. let m : v.last ≡ x.last = ap (λ (y : Span). y.last) i in omega arith) (λ i. let m = ends_above x.last high xs v f.2 i in omega arith) a
     by false h q ih = ⊎_elim (λ i. absurd (never (p x) h (ap p (sym i) ∙ t))) (λ i. ih q i) a
 
-none_found : (p : Span → Bool) (ws : List Span) (v : Span) → find p ws ≡ None → Among v ws → p v ≡ true → ⊥
-none_found p [] v e a t = a
-none_found p (x ∷ xs) v e a t = by (p x) refl e (λ q i. none_found p xs v q i t)
+none_found_among : (p : Span → Bool) (ws : List Span) (v : Span) → find p ws ≡ None → Among v ws → p v ≡ true → ⊥
+none_found_among p [] v e a t = a
+none_found_among p (x ∷ xs) v e a t = by (p x) refl e (λ q i. none_found_among p xs v q i t)
   where
     by : (b : Bool) → p x ≡ b → cond b (Some x) (find p xs) ≡ None → (find p xs ≡ None → Among v xs → ⊥) → ⊥
     by true h q ih = cc
@@ -88,8 +88,8 @@ none_found p (x ∷ xs) v e a t = by (p x) refl e (λ q i. none_found p xs v q i
 needs_of : (s : Stream) (n : ℕ) → need_of s ≤ n → s.taken ≡ false → effective_se s.ask.start s.ask.ss s.ask.se ≤ n
 needs_of s n l e = subst (λ m. m ≤ n) (ap (λ b. if b then 0 else effective_se s.ask.start s.ask.ss s.ask.se) e) l
 
-of_needs : (s : Stream) (n : ℕ) → (s.taken ≡ false → effective_se s.ask.start s.ask.ss s.ask.se ≤ n) → need_of s ≤ n
-of_needs s n f = by s.taken f
+needs_tested : (s : Stream) (n : ℕ) → (s.taken ≡ false → effective_se s.ask.start s.ask.ss s.ask.se ≤ n) → need_of s ≤ n
+needs_tested s n f = by s.taken f
   where
     by : (b : Bool) → (b ≡ false → effective_se s.ask.start s.ask.ss s.ask.se ≤ n) → (if b then 0 else effective_se s.ask.start s.ask.ss s.ask.se) ≤ n
     by true f = omega arith
@@ -101,9 +101,9 @@ any_in : (xs : List Change) → has_any xs ≡ true → (x : Change) × IsIn x x
 any_in [] e = cc
 any_in (x ∷ xs) e = (x, inl refl)
 
-in_any : (xs : List Change) (x : Change) → IsIn x xs → has_any xs ≡ true
-in_any [] x i = absurd i
-in_any (y ∷ ys) x i = refl
+any_tested : (xs : List Change) (x : Change) → IsIn x xs → has_any xs ≡ true
+any_tested [] x i = absurd i
+any_tested (y ∷ ys) x i = refl
 
 module _ (vb : Plain) (s : Stream) (sound : Sound vb) (w : Span) (a : Among w (all_spans vb.spans)) (l : s.place < w.last) where
   abbrev ws : List Span
@@ -127,7 +127,7 @@ module _ (vb : Plain) (s : Stream) (sound : Sound vb) (w : Span) (a : Among w (a
       let at = vb.position.at in
       let z = last_above (touches slot) 0 w.last (upto vb.held w.last) c (rises_upto 0 at w.last vb.held (omega arith) (from_zero vb.floor at vb.held sound.rises)) (upto_in c vb.held w.last i m) t in
       let k : c.seq ≤ z.0.seq = z.2 in
-      in_any items (sent_as (is_plain_next s) z.0)
+      any_tested items (sent_as (is_plain_next s) z.0)
       (item_there s ws vb.held vb.floor at sound.rises sound.spans sound.tidy w a l slot z.0 z.1 (omega arith) (f z.0 (last_in (touches slot) (upto vb.held w.last) z.0 z.1).1))
 
   of_some : ForIt → has_any items ≡ true
@@ -153,11 +153,11 @@ module _ (vb : Plain) (s : Stream) (sound : Sound vb) (memory : vb.floor ≤ s.p
       let ws = all_spans vb.spans in
       conj (nat_lt s.place w.last && is_whole w.last ws && nat_le (need_of s) w.last) (has_any (items_to s ws vb.held w.last))
       (conj (nat_lt s.place w.last && is_whole w.last ws) (nat_le (need_of s) w.last)
-      (conj (nat_lt s.place w.last) (is_whole w.last ws) (of_below s.place w.last e.above) (whole_of w.last ws e.whole)) (of_most (need_of s) w.last (of_needs s w.last e.needed)))
+      (conj (nat_lt s.place w.last) (is_whole w.last ws) (below_tested s.place w.last e.above) (whole_of w.last ws e.whole)) (most_tested (need_of s) w.last (needs_tested s w.last e.needed)))
       (of_some vb s sound w a e.above e.some)
 
   of_ends : (n : ℕ) → MayEnd vb s n → (w : Span) × Among w (all_spans vb.spans) × (w.last ≡ n) × (passes w ≡ true)
-  of_ends n e = let k = ends_among n (all_spans vb.spans) e.span in (k.0, k.1, k.2, of_ends_at k.0 k.1 (subst (MayEnd vb s) (sym k.2) e))
+  of_ends n e = let k = among_with_end n (all_spans vb.spans) e.span in (k.0, k.1, k.2, of_ends_at k.0 k.1 (subst (MayEnd vb s) (sym k.2) e))
 
   ends_first : (w : Span) → end_span s (all_spans vb.spans) vb.held ≡ Some w → EndsFirst vb s w.last
   ends_first w e =
@@ -167,7 +167,7 @@ module _ (vb : Plain) (s : Stream) (sound : Sound vb) (memory : vb.floor ≤ s.p
       )
 
   ends_nowhere : end_span s (all_spans vb.spans) vb.held ≡ None → (n : ℕ) → MayEnd vb s n → ⊥
-  ends_nowhere e n may = let v = of_ends n may in none_found passes (all_spans vb.spans) v.0 e v.1 v.3
+  ends_nowhere e n may = let v = of_ends n may in none_found_among passes (all_spans vb.spans) v.0 e v.1 v.3
 
 same_stream : (o : Option Stream) (s t : Stream) → o ≡ Some s → o ≡ Some t → s ≡ t
 same_stream o s t e f = let k : Some s ≡ Some t = sym e ∙ f in cc
@@ -199,7 +199,7 @@ further_back vb id s e m = record {
 }
   where
     nowhere : vb.floor ≤ s.place → ⊥
-    nowhere l = never (is_in_memory vb.floor s) m (of_most vb.floor s.place l)
+    nowhere l = never (is_in_memory vb.floor s) m (most_tested vb.floor s.place l)
 
 from_as : (vb : Plain) (id : ℕ) (o : Option Stream) → Sound vb → stream_at id vb.streams ≡ o → TakesAs vb id (take_from o vb)
 from_as vb id None sound e = record {

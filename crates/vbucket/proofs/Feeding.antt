@@ -6,11 +6,11 @@ use Rattle.std.specs.Ordering.{nat_cmp, eq_by_cmp}
 use Rattle.std.specs.Cmp.{nat_cmp_total, unsigned_tied}
 use Rattle.std.proofs.lemmas.Bool.Decides.{nat_tests}
 use Rattle.vb_calls.specs.declared.stream.Stream.{Stream}
-use Rattle.vb_calls.specs.Streams.{stream_at, closed_stream, moved_on}
+use Rattle.vb_calls.specs.Streams.{stream_at, without_stream, moved_on}
 use Rattle.cursor_set.specs.Cursors.{Places, place_of, registered}
 use Rattle.ckpt_list.specs.Lists.{Ckpts, moved_cursor}
 use Rattle.vbucket.specs.Kept.{SameChanges}
-use Rattle.vbucket.specs.Steady.{cursor_for, cursor_in, fed_place, with_cursor, AreApart, AreFed}
+use Rattle.vbucket.specs.Steady.{cursor_for, cursor_in, stream_place, with_cursor, AreApart, CursorsAreStreams}
 
 pub flip : (x y : ℕ) → (x == y) ≡ (y == x)
 flip x y = by (x == y) (y == x) refl refl
@@ -67,16 +67,16 @@ push_at floor id q s (x ∷ xs) none same = by (x.id == id) (x.id == q) (q == id
     by false false true e f g none ih = ih none same
     by false false false e f g none ih = ih none same
 
-closed_at : (floor id q : ℕ) (streams : List Stream) → cursor_in floor q (closed_stream id streams) ≡ (if q == id then None else cursor_in floor q streams)
+closed_at : (floor id q : ℕ) (streams : List Stream) → cursor_in floor q (without_stream id streams) ≡ (if q == id then None else cursor_in floor q streams)
 closed_at floor id q [] = never (q == id)
 closed_at floor id q (x ∷ xs) = pull (x.id == id) ∙ by (x.id == id) (x.id == q) (q == id) refl refl refl (closed_at floor id q xs)
   where
-    pull : (a : Bool) → cursor_in floor q (cond (not a) (x ∷ closed_stream id xs) (closed_stream id xs)) ≡ cond (not a) (if x.id == q then cursor_for floor x else cursor_in floor q (closed_stream id xs)) (cursor_in floor q (closed_stream id xs))
+    pull : (a : Bool) → cursor_in floor q (cond (not a) (x ∷ without_stream id xs) (without_stream id xs)) ≡ cond (not a) (if x.id == q then cursor_for floor x else cursor_in floor q (without_stream id xs)) (cursor_in floor q (without_stream id xs))
     pull true = refl
     pull false = refl
 
-    by : (a b c : Bool) → (x.id == id) ≡ a → (x.id == q) ≡ b → (q == id) ≡ c → cursor_in floor q (closed_stream id xs) ≡ (if c then None else cursor_in floor q xs)
-        → cond (not a) (if b then cursor_for floor x else cursor_in floor q (closed_stream id xs)) (cursor_in floor q (closed_stream id xs)) ≡ (if c then None else (if b then cursor_for floor x else cursor_in floor q xs))
+    by : (a b c : Bool) → (x.id == id) ≡ a → (x.id == q) ≡ b → (q == id) ≡ c → cursor_in floor q (without_stream id xs) ≡ (if c then None else cursor_in floor q xs)
+        → cond (not a) (if b then cursor_for floor x else cursor_in floor q (without_stream id xs)) (cursor_in floor q (without_stream id xs)) ≡ (if c then None else (if b then cursor_for floor x else cursor_in floor q xs))
     by true true true e f g ih = ih
     by true true false e f g ih = tied x.id id q e f g
     by true false true e f g ih = ih
@@ -152,19 +152,19 @@ apart_pushed s (x ∷ xs) a n e =
     let k = differ x.id s.id (stream_at s.id xs) None x e in
     (a.0, none_pushed x.id s xs a.1 (flip s.id x.id ∙ k.0), apart_pushed s xs a.2 n k.1)
 
-none_closed : (id q : ℕ) (streams : List Stream) → stream_at q streams ≡ None → stream_at q (closed_stream id streams) ≡ None
+none_closed : (id q : ℕ) (streams : List Stream) → stream_at q streams ≡ None → stream_at q (without_stream id streams) ≡ None
 none_closed id q [] e = refl
 none_closed id q (x ∷ xs) e = let k = differ x.id q (stream_at q xs) None x e in by (x.id == id) k.0 (none_closed id q xs k.1)
   where
-    by : (a : Bool) → (x.id == q) ≡ false → stream_at q (closed_stream id xs) ≡ None → stream_at q (cond (not a) (x ∷ closed_stream id xs) (closed_stream id xs)) ≡ None
+    by : (a : Bool) → (x.id == q) ≡ false → stream_at q (without_stream id xs) ≡ None → stream_at q (cond (not a) (x ∷ without_stream id xs) (without_stream id xs)) ≡ None
     by true f n = n
-    by false f n = ap (λ b. cond b (Some x) (stream_at q (closed_stream id xs))) f ∙ n
+    by false f n = ap (λ b. cond b (Some x) (stream_at q (without_stream id xs))) f ∙ n
 
-apart_closed : (id : ℕ) (streams : List Stream) → AreApart streams → AreApart (closed_stream id streams)
+apart_closed : (id : ℕ) (streams : List Stream) → AreApart streams → AreApart (without_stream id streams)
 apart_closed id [] a = tt
 apart_closed id (x ∷ xs) a = by (x.id == id) (apart_closed id xs a.2)
   where
-    by : (b : Bool) → AreApart (closed_stream id xs) → AreApart (cond (not b) (x ∷ closed_stream id xs) (closed_stream id xs))
+    by : (b : Bool) → AreApart (without_stream id xs) → AreApart (cond (not b) (x ∷ without_stream id xs) (without_stream id xs))
     by true k = k
     by false k = (a.0, none_closed id x.id xs a.1, k)
 
@@ -190,7 +190,7 @@ apart_moved id end (x ∷ xs) a = by (x.id == id) (apart_moved id end xs a.2)
 pub tie : (q id : ℕ) → eq_by_cmp nat_cmp q id ≡ (q == id)
 tie q id = unsigned_tied q id
 
-fed_insert : (places : Places) (id q n : ℕ) → id ≢ 0 → fed_place (finite.insert places id n) q ≡ (if q == id then Some n else fed_place places q)
+fed_insert : (places : Places) (id q n : ℕ) → id ≢ 0 → stream_place (finite.insert places id n) q ≡ (if q == id then Some n else stream_place places q)
 fed_insert places id q n ne =
     ap (λ o. if q == 0 then None else o) (finite.get-insert nat_cmp_total places id n q ∙ ap (λ b. cond b (Some n) (place_of places q)) (tie q id))
     ∙ by (q == 0) (q == id) refl refl
@@ -201,7 +201,7 @@ fed_insert places id q n ne =
     by false true e f = refl
     by false false e f = refl
 
-pub fed_remove : (places : Places) (id q : ℕ) → fed_place (finite.remove places id) q ≡ (if q == id then None else fed_place places q)
+pub fed_remove : (places : Places) (id q : ℕ) → stream_place (finite.remove places id) q ≡ (if q == id then None else stream_place places q)
 fed_remove places id q =
     ap (λ o. if q == 0 then None else o) (finite.get-remove nat_cmp_total places id q ∙ ap (λ b. cond b None (place_of places q)) (tie q id))
     ∙ by (q == 0) (q == id)
@@ -246,11 +246,11 @@ zero_opened places floor id n ne = by (nat_le floor n)
     by false = refl
 
 -- the number 0 is no stream's
-pub numbered : (places : Places) (floor : ℕ) (streams : List Stream) (id : ℕ) (s : Stream) → AreFed places floor streams → stream_at id streams ≡ Some s → id ≢ 0
+pub numbered : (places : Places) (floor : ℕ) (streams : List Stream) (id : ℕ) (s : Stream) → CursorsAreStreams places floor streams → stream_at id streams ≡ Some s → id ≢ 0
 numbered places floor streams id s are is = apart_found id streams s are.apart is
 
 -- the cursor of a stream that has one stands at its place
-pub fed_at : (places : Places) (floor : ℕ) (streams : List Stream) (id : ℕ) (s : Stream) → AreFed places floor streams → stream_at id streams ≡ Some s → floor ≤ s.place → place_of places id ≡ Some s.place
+pub fed_at : (places : Places) (floor : ℕ) (streams : List Stream) (id : ℕ) (s : Stream) → CursorsAreStreams places floor streams → stream_at id streams ≡ Some s → floor ≤ s.place → place_of places id ≡ Some s.place
 fed_at places floor streams id s are is l = by (id == 0) refl (sym (are.cursors id) ∙ found_some floor id streams s is ∙ in_memory floor s l)
   where
     by : (b : Bool) → (id == 0) ≡ b → (if b then None else place_of places id) ≡ Some s.place → place_of places id ≡ Some s.place
@@ -258,53 +258,53 @@ fed_at places floor streams id s are is l = by (id == 0) refl (sym (are.cursors 
     by false e f = f
 
 -- no stream, no cursor
-unfed_at : (places : Places) (floor : ℕ) (streams : List Stream) (id : ℕ) → AreFed places floor streams → id ≢ 0 → stream_at id streams ≡ None → place_of places id ≡ None
+unfed_at : (places : Places) (floor : ℕ) (streams : List Stream) (id : ℕ) → CursorsAreStreams places floor streams → id ≢ 0 → stream_at id streams ≡ None → place_of places id ≡ None
 unfed_at places floor streams id are ne is = by (id == 0) refl (sym (are.cursors id) ∙ found_none floor id streams is)
   where
     by : (b : Bool) → (id == 0) ≡ b → (if b then None else place_of places id) ≡ None → place_of places id ≡ None
     by true e f = absurd (ne (grind (arith, nat_tests, e)))
     by false e f = f
 
-pub fed_opened : (places : Places) (floor : ℕ) (streams : List Stream) (id : ℕ) (s : Stream) → AreFed places floor streams → id ≢ 0 → stream_at id streams ≡ None → s.id ≡ id → AreFed (with_cursor places floor id s.place) floor (streams ++ s ∷ [])
+pub fed_opened : (places : Places) (floor : ℕ) (streams : List Stream) (id : ℕ) (s : Stream) → CursorsAreStreams places floor streams → id ≢ 0 → stream_at id streams ≡ None → s.id ≡ id → CursorsAreStreams (with_cursor places floor id s.place) floor (streams ++ s ∷ [])
 fed_opened places floor streams id s are ne none same = record {
   cursors = λ q. push_at floor id q s streams none same ∙ ap (λ o. if q == id then cursor_for floor s else o) (are.cursors q) ∙ by (nat_le floor s.place) q;
   apart = apart_pushed s streams are.apart (subst (λ n. n ≢ 0) (sym same) ne) (ap (λ n. stream_at n streams) same ∙ none);
 }
   where
-    by : (b : Bool) (q : ℕ) → (if q == id then (if b then Some s.place else None) else fed_place places q) ≡ fed_place (if b then registered places id s.place else places) q
+    by : (b : Bool) (q : ℕ) → (if q == id then (if b then Some s.place else None) else stream_place places q) ≡ stream_place (if b then registered places id s.place else places) q
     by true q =
         sym (fed_insert places id q s.place ne)
-        ∙ ap (λ (m : Places). fed_place m q) (sym (ap (λ o. if is_some o then places else finite.insert places id s.place) (unfed_at places floor streams id are ne none)))
+        ∙ ap (λ (m : Places). stream_place m q) (sym (ap (λ o. if is_some o then places else finite.insert places id s.place) (unfed_at places floor streams id are ne none)))
     by false q = free (q == id) refl
       where
-        free : (c : Bool) → (q == id) ≡ c → (if c then None else fed_place places q) ≡ fed_place places q
-        free true e = let k : q ≡ id = grind (arith, nat_tests, e) in sym (ap (fed_place places) k ∙ sym (are.cursors id) ∙ found_none floor id streams none)
+        free : (c : Bool) → (q == id) ≡ c → (if c then None else stream_place places q) ≡ stream_place places q
+        free true e = let k : q ≡ id = grind (arith, nat_tests, e) in sym (ap (stream_place places) k ∙ sym (are.cursors id) ∙ found_none floor id streams none)
         free false e = refl
 
-pub fed_closed : (places : Places) (floor : ℕ) (streams : List Stream) (id : ℕ) → AreFed places floor streams → AreFed (finite.remove places id) floor (closed_stream id streams)
+pub fed_closed : (places : Places) (floor : ℕ) (streams : List Stream) (id : ℕ) → CursorsAreStreams places floor streams → CursorsAreStreams (finite.remove places id) floor (without_stream id streams)
 fed_closed places floor streams id are = record {
   cursors = λ q. closed_at floor id q streams ∙ ap (λ o. if q == id then None else o) (are.cursors q) ∙ sym (fed_remove places id q);
   apart = apart_closed id streams are.apart;
 }
 
 -- no stream has the number 0
-pub fed_same : (places : Places) (floor : ℕ) (streams : List Stream) (id : ℕ) → AreFed places floor streams → id ≡ 0 → AreFed places floor (closed_stream id streams)
+pub fed_same : (places : Places) (floor : ℕ) (streams : List Stream) (id : ℕ) → CursorsAreStreams places floor streams → id ≡ 0 → CursorsAreStreams places floor (without_stream id streams)
 fed_same places floor streams id are e = record {
   cursors = λ q. closed_at floor id q streams ∙ ap (λ n. if q == n then None else cursor_in floor q streams) e ∙ by q (q == 0) refl;
   apart = apart_closed id streams are.apart;
 }
   where
-    by : (q : ℕ) (c : Bool) → (q == 0) ≡ c → (if c then None else cursor_in floor q streams) ≡ fed_place places q
+    by : (q : ℕ) (c : Bool) → (q == 0) ≡ c → (if c then None else cursor_in floor q streams) ≡ stream_place places q
     by q true e = sym (ap (λ b. if b then None else place_of places q) e)
     by q false e = are.cursors q
 
-pub fed_moved : (places : Places) (floor : ℕ) (streams : List Stream) (id end : ℕ) (s : Stream) → AreFed places floor streams → stream_at id streams ≡ Some s → floor ≤ end → AreFed (finite.insert places id end) floor (map (moved_on id end) streams)
+pub fed_moved : (places : Places) (floor : ℕ) (streams : List Stream) (id end : ℕ) (s : Stream) → CursorsAreStreams places floor streams → stream_at id streams ≡ Some s → floor ≤ end → CursorsAreStreams (finite.insert places id end) floor (map (moved_on id end) streams)
 fed_moved places floor streams id end s are is l = record {
   cursors = λ q. moved_at floor id q end s streams is l ∙ ap (λ o. if q == id then Some end else o) (are.cursors q) ∙ sym (fed_insert places id q end (apart_found id streams s are.apart is));
   apart = apart_moved id end streams are.apart;
 }
 
-pub fed_none : (at floor : ℕ) → AreFed (finite.insert finite.empty 0 at) floor []
+pub fed_none : (at floor : ℕ) → CursorsAreStreams (finite.insert finite.empty 0 at) floor []
 fed_none at floor = record { cursors = λ q. by q (q == 0) refl; apart = tt }
   where
     by : (q : ℕ) (b : Bool) → (q == 0) ≡ b → None ≡ (if b then None else place_of (finite.insert finite.empty 0 at) q)
@@ -317,21 +317,21 @@ zero_alone at = zero_moved finite.empty at
 
 -- cursors that are dropped one by one: of a stream that is not among the rest the cursor is gone
 abbrev pub AreGone : Places → List Stream → Type 0
-AreGone places rest = (id : ℕ) → stream_at id rest ≡ None → fed_place places id ≡ None
+AreGone places rest = (id : ℕ) → stream_at id rest ≡ None → stream_place places id ≡ None
 
-pub gone_first : (places : Places) (floor : ℕ) (streams : List Stream) → AreFed places floor streams → AreGone places streams
-gone_first places floor streams are = λ id none. sym (are.cursors id) ∙ found_none floor id streams none
+pub first_stream_gone : (places : Places) (floor : ℕ) (streams : List Stream) → CursorsAreStreams places floor streams → AreGone places streams
+first_stream_gone places floor streams are = λ id none. sym (are.cursors id) ∙ found_none floor id streams none
 
 pub gone_next : (places : Places) (streams : List Stream) (i : ℕ) (d s : Stream) → i < length streams → get_or streams i d ≡ s → AreGone places (drop i streams) → AreGone (finite.remove places s.id) (drop (suc i) streams)
 gone_next places [] i d s l is are = absurd (omega arith)
 gone_next places (x ∷ xs) zero d s l is are = λ q none. fed_remove places s.id q ∙ by q (q == s.id) refl none
   where
-    by : (q : ℕ) (c : Bool) → (q == s.id) ≡ c → stream_at q xs ≡ None → (if c then None else fed_place places q) ≡ None
+    by : (q : ℕ) (c : Bool) → (q == s.id) ≡ c → stream_at q xs ≡ None → (if c then None else stream_place places q) ≡ None
     by q true e none = refl
     by q false e none = are q (ap (λ b. cond b (Some x) (stream_at q xs)) (ap (λ (y : Stream). y.id == q) is ∙ flip s.id q ∙ e) ∙ none)
 gone_next places (x ∷ xs) (suc i) d s l is are = gone_next places xs i d s (omega arith) is are
 
-pub gone_last : (places : Places) (floor : ℕ) → AreGone places [] → AreFed places floor []
+pub gone_last : (places : Places) (floor : ℕ) → AreGone places [] → CursorsAreStreams places floor []
 gone_last places floor gone = record { cursors = λ id. sym (gone id refl); apart = tt }
 
 numbered_among : (streams : List Stream) (i : ℕ) (d s : Stream) → AreApart streams → i < length streams → get_or streams i d ≡ s → s.id ≢ 0
@@ -339,7 +339,7 @@ numbered_among [] i d s a l is = absurd (omega arith)
 numbered_among (x ∷ xs) zero d s a l is = subst (λ (y : Stream). y.id ≢ 0) is a.0
 numbered_among (x ∷ xs) (suc i) d s a l is = numbered_among xs i d s a.2 (omega arith) is
 
-pub numbered_at : (places : Places) (floor : ℕ) (streams : List Stream) (i : ℕ) (d s : Stream) → AreFed places floor streams → i < length streams → get_or streams i d ≡ s → s.id ≢ 0
+pub numbered_at : (places : Places) (floor : ℕ) (streams : List Stream) (i : ℕ) (d s : Stream) → CursorsAreStreams places floor streams → i < length streams → get_or streams i d ≡ s → s.id ≢ 0
 numbered_at places floor streams i d s are l is = numbered_among streams i d s are.apart l is
 
 -- the list after these is the same but for cursors
@@ -356,5 +356,5 @@ dropped_same l m id ne e = record { rest = places_alone l m (finite.remove l.pla
 pub opened_same : (l m : Ckpts) (id n : ℕ) → id ≢ 0 → m ≡ record l { places = with_cursor l.places l.floor id n } → SameChanges l m
 opened_same l m id n ne e = record { rest = places_alone l m (with_cursor l.places l.floor id n) e; zero = ap (λ (x : Ckpts). place_of x.places 0) e ∙ zero_opened l.places l.floor id n ne }
 
-pub moved_zero : (l m : Ckpts) (id n : ℕ) → id ≢ 0 → m ≡ moved_cursor l id n → place_of m.places 0 ≡ place_of l.places 0
-moved_zero l m id n ne e = ap (λ (x : Ckpts). place_of x.places 0) e ∙ zero_inserted l.places id n ne
+pub zero_stays : (l m : Ckpts) (id n : ℕ) → id ≢ 0 → m ≡ moved_cursor l id n → place_of m.places 0 ≡ place_of l.places 0
+zero_stays l m id n ne e = ap (λ (x : Ckpts). place_of x.places 0) e ∙ zero_inserted l.places id n ne

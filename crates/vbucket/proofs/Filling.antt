@@ -27,7 +27,7 @@ use Rattle.vb_calls.specs.Spans.{Spans, all_spans, change_weight, is_durable, ke
 use Rattle.vbucket.specs.Laws.{Sound, Follow}
 use Rattle.vbucket.specs.Filling.{LivesExactly, WeighsInNumbers, IsPart, HasKey, IsFull, KeepsOut, ShutsOwn, ShutsReceived, StandsAlone, Joins, Fills, OwnFills, ReceivedFills}
 use Rattle.vbucket.proofs.Covering.{last_live}
-use Rattle.vbucket.proofs.Parts.{from_zero, filtered, in_live, in_stretch, stretch_in, last_filtered, of_between, below_of}
+use Rattle.vbucket.proofs.Parts.{from_zero, filtered, in_live, in_stretch, within_stretch, last_filtered, between_tested, below_of}
 use Rattle.vbucket.proofs.Soundness.{active_of, guarded}
 use Rattle.vbucket.proofs.Tidying.{last_of_key, not_in, not_there, own_span}
 
@@ -80,7 +80,7 @@ module _ (at : ℕ) (h : List Change) (w : Span) (c : Change) (r : Rises 0 at h)
     stands : last_at (stretch w.above w.last h) c.key ≡ Some d
     stands =
         let m = (rises_in 0 at h d r (last_in (touches (Slot.Pending c.key)) h d e).0).1 in
-        last_filtered (touches (Slot.Pending c.key)) (λ x. nat_lt w.above x.seq && nat_le x.seq w.last) h d e (of_between w.above w.last d.seq a (omega arith))
+        last_filtered (touches (Slot.Pending c.key)) (λ x. nat_lt w.above x.seq && nat_le x.seq w.last) h d e (between_tested w.above w.last d.seq a (omega arith))
 
     lives : IsIn d (live_in w h)
     lives = is_live w.origin (stretch w.above w.last h) d (ap (last_at (stretch w.above w.last h)) its_key ∙ stands)
@@ -104,7 +104,7 @@ module _ (at : ℕ) (h : List Change) (w : Span) (c : Change) (r : Rises 0 at h)
       (λ (m : w.last < d.seq). m)
       (λ (m : d.seq ≤ w.last).
       let above : w.above < c.seq = (in_stretch w.above w.last h c (last_in (touches (Slot.Pending c.key)) cs c e).0).1 in
-      let z = its_last d (stretch_in w.above w.last h d i (omega arith) m) k in
+      let z = its_last d (within_stretch w.above w.last h d i (omega arith) m) k in
       let q : z.0 ≡ c = (let y : Some z.0 ≡ Some c = sym z.1 ∙ e in cc) in
       let s : z.0.seq ≡ c.seq = ap (λ (y : Change). y.seq) q in
       let n : d.seq ≤ z.0.seq = z.2 in
@@ -128,7 +128,7 @@ module _ (at : ℕ) (h : List Change) (w : Span) (c : Change) (r : Rises 0 at h)
 pub lives_exactly : LivesExactly
 lives_exactly low at h w c r =
     let k = lives_as at h w c (from_zero low at h r) w.origin refl in
-    (λ i. let p = k.0 i in (in_stretch w.above w.last h c p.0, p.1), λ p. k.1 (stretch_in w.above w.last h c p.0.0 p.0.1 p.0.2, p.1))
+    (λ i. let p = k.0 i in (in_stretch w.above w.last h c p.0, p.1), λ p. k.1 (within_stretch w.above w.last h c p.0.0 p.0.1 p.0.2, p.1))
 
 pub in_numbers : WeighsInNumbers
 in_numbers key doc level deleted prepared cas rev = (λ seq. refl, λ seq. omega arith, λ seq. refl, λ seq. refl, λ seq. omega arith)

@@ -150,11 +150,11 @@ late_of clock w l = ap (is_late clock) l.1 ∙ upto l.0 clock l.2
     upto : (a b : ℕ) → a ≤ b → is_late b (Some a) ≡ true
     upto a b l = grind (arith, nat_tests)
 
-late_in : (clock : ℕ) (ws : List Waiting) (w : Waiting) → Waits w ws → IsLate clock w → Waits w (late clock ws)
-late_in clock [] w i l = absurd i
-late_in clock (v ∷ ws) w i l = ⊎_elim
+waits_late : (clock : ℕ) (ws : List Waiting) (w : Waiting) → Waits w ws → IsLate clock w → Waits w (late clock ws)
+waits_late clock [] w i l = absurd i
+waits_late clock (v ∷ ws) w i l = ⊎_elim
     (λ e. subst (λ b. Waits w (cond b (v ∷ late clock ws) (late clock ws))) (sym (subst (λ (x : Waiting). is_late clock x.deadline ≡ true) e (late_of clock w l))) (inl e))
-    (λ j. later (is_late clock v.deadline) (late_in clock ws w j l)) i
+    (λ j. later (is_late clock v.deadline) (waits_late clock ws w j l)) i
   where
     later : (b : Bool) → Waits w (late clock ws) → Waits w (cond b (v ∷ late clock ws) (late clock ws))
     later true k = inr k
@@ -179,7 +179,7 @@ module _ (vb : Plain) (clock : ℕ) (on : is_active vb.role ≡ true) (s : Sound
 
   stays_out : (w : Waiting) → Waits w after.vb.waiting ↔ (Waits w vb.waiting × (IsLate clock w → ⊥))
   stays_out w = (
-    λ i. let k = (up.left w).0 i in (k.0, λ l. k.1 (late_in clock vb.waiting w k.0 l)),
+    λ i. let k = (up.left w).0 i in (k.0, λ l. k.1 (waits_late clock vb.waiting w k.0 l)),
     λ p. (up.left w).1 (p.0, λ j. p.1 (in_late clock vb.waiting w j).1),
   )
 
@@ -202,7 +202,7 @@ module _ (vb : Plain) (clock : ℕ) (on : is_active vb.role ≡ true) (s : Sound
   given = record {
     some = (
       late clock vb.waiting,
-      λ w. (λ i. let k = in_late clock vb.waiting w i in (k.0, k.1), λ p. late_in clock vb.waiting w p.0 p.1),
+      λ w. (λ i. let k = in_late clock vb.waiting w i in (k.0, k.1), λ p. waits_late clock vb.waiting w p.0 p.1),
       ascend_late clock vb.waiting s.waits.ascend,
       subst (Aborts (late clock vb.waiting)) (sym up.all.2) up.all.4,
       subst (AllAmbiguous (late clock vb.waiting)) (sym up.all.3) up.all.5,

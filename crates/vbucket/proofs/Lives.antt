@@ -18,8 +18,8 @@ use Rattle.checkpoint.specs.Checkpoints.{entered, fits_by, fits_in, fits_newer, 
 use Rattle.ckpt_list.specs.Lists.{is_own}
 use Rattle.vbucket.specs.Laws.{Tidy}
 use Rattle.vbucket.proofs.Counting.{any_more, any_in, other_way}
-use Rattle.vbucket.proofs.Covering.{none_any}
-use Rattle.vbucket.proofs.Parts.{last_filtered, of_between, below_of}
+use Rattle.vbucket.proofs.Covering.{none_touches}
+use Rattle.vbucket.proofs.Parts.{last_filtered, between_tested, below_of}
 use Rattle.vbucket.proofs.Tidying.{none_there, not_in, not_there}
 
 -- a change enters
@@ -77,7 +77,7 @@ lasts_item key (x ∷ xs) = by (last_at xs key) (bytes_eq x.key key) (list_any (
         any_in (λ y. bytes_eq y.key x.key) xs d i.0 ((bytes_eq-Decides d.key x.key).1 k)
 
     none : last_at xs key ≡ None → bytes_eq x.key key ≡ true → any ≡ false
-    none eo eb = let k : x.key ≡ key = (bytes_eq-Decides x.key key).0 eb in none_any x.key xs (ap (last_at xs) k ∙ eo)
+    none eo eb = let k : x.key ≡ key = (bytes_eq-Decides x.key key).0 eb in none_touches x.key xs (ap (last_at xs) k ∙ eo)
 
     skip : (t : Bool) → bytes_eq x.key key ≡ false → item_at key (if t then key_lasts xs else x ∷ key_lasts xs) ≡ item_at key (key_lasts xs)
     skip true e = refl
@@ -128,7 +128,7 @@ last_within at h w key r l = by (last_at h key) refl
             let i = last_in (touches (Slot.Pending key)) h d e in
             let m = (rises_in 0 at h d r i.0).1 in
             let a = below_of w.above d.seq q in
-            last_filtered (touches (Slot.Pending key)) (λ x. nat_lt w.above x.seq && nat_le x.seq w.last) h d e (of_between w.above w.last d.seq a (omega arith)) ∙ sym (ap (λ b. if b then Some d else None) q)
+            last_filtered (touches (Slot.Pending key)) (λ x. nat_lt w.above x.seq && nat_le x.seq w.last) h d e (between_tested w.above w.last d.seq a (omega arith)) ∙ sym (ap (λ b. if b then Some d else None) q)
         test false q = none_there at h w key r (not_in h w key d e q) ∙ sym (ap (λ b. if b then Some d else None) q)
 
 pub span_item : (at : ℕ) (h : List Change) (w : Span) (key : List ℕ) → Rises 0 at h → Rises w.above w.last (stretch w.above w.last h) → w.last ≡ at → Tidy w.origin (stretch w.above w.last h)

@@ -21,14 +21,14 @@ use Rattle.vbucket.specs.Saving.{IsOneOf}
 pub between_of : (a b n : ℕ) → (nat_lt a n && nat_le n b) ≡ true → (a < n) × (n ≤ b)
 between_of a b n e = (grind (arith, nat_tests), grind (arith, nat_tests))
 
-pub of_between : (a b n : ℕ) → a < n → n ≤ b → (nat_lt a n && nat_le n b) ≡ true
-of_between a b n l m = grind (arith, nat_tests)
+pub between_tested : (a b n : ℕ) → a < n → n ≤ b → (nat_lt a n && nat_le n b) ≡ true
+between_tested a b n l m = grind (arith, nat_tests)
 
 pub below_of : (a b : ℕ) → nat_lt a b ≡ true → a < b
 below_of a b e = grind (arith, nat_tests)
 
-pub of_below : (a b : ℕ) → a < b → nat_lt a b ≡ true
-of_below a b l = grind (arith, nat_tests)
+pub below_tested : (a b : ℕ) → a < b → nat_lt a b ≡ true
+below_tested a b l = grind (arith, nat_tests)
 
 pub most_of : (a b : ℕ) → nat_le a b ≡ true → a ≤ b
 most_of a b e = grind (arith, nat_tests)
@@ -84,11 +84,11 @@ in_filter p (x ∷ xs) c i = by (p x) refl i (in_filter p xs c)
     by true e j ih = ⊎_elim (λ q. (inl q, subst (λ y. p y ≡ true) (sym q) e)) (λ t. let k = ih t in (inr k.0, k.1)) j
     by false e j ih = let k = ih j in (inr k.0, k.1)
 
-pub filter_in : (p : Change → Bool) (xs : List Change) (c : Change) → IsIn c xs → p c ≡ true → IsIn c (filter p xs)
-filter_in p [] c i e = absurd i
-filter_in p (x ∷ xs) c i e = ⊎_elim
+pub kept_in_filter : (p : Change → Bool) (xs : List Change) (c : Change) → IsIn c xs → p c ≡ true → IsIn c (filter p xs)
+kept_in_filter p [] c i e = absurd i
+kept_in_filter p (x ∷ xs) c i e = ⊎_elim
     (λ q. subst (λ t. IsIn c (cond t (x ∷ filter p xs) (filter p xs))) (sym (subst (λ y. p y ≡ true) q e)) (inl q))
-    (λ j. by (p x) (filter_in p xs c j e)) i
+    (λ j. by (p x) (kept_in_filter p xs c j e)) i
   where
     by : (t : Bool) → IsIn c (filter p xs) → IsIn c (cond t (x ∷ filter p xs) (filter p xs))
     by true k = inr k
@@ -110,9 +110,9 @@ pub in_map : (f : Change → Change) (xs : List Change) (x : Change) → IsIn x 
 in_map f [] x i = absurd i
 in_map f (y ∷ ys) x i = ⊎_elim (λ q. (y, inl refl, q)) (λ j. let k = in_map f ys x j in (k.0, inr k.1, k.2)) i
 
-pub map_in : (f : Change → Change) (xs : List Change) (c : Change) → IsIn c xs → IsIn (f c) (map f xs)
-map_in f [] c i = absurd i
-map_in f (y ∷ ys) c i = ⊎_elim (λ q. inl (ap f q)) (λ j. inr (map_in f ys c j)) i
+pub mapped_in : (f : Change → Change) (xs : List Change) (c : Change) → IsIn c xs → IsIn (f c) (map f xs)
+mapped_in f [] c i = absurd i
+mapped_in f (y ∷ ys) c i = ⊎_elim (λ q. inl (ap f q)) (λ j. inr (mapped_in f ys c j)) i
 
 -- the last change of a key stays the last of a part that has it
 
@@ -200,11 +200,11 @@ in_flat f q (v ∷ vs) x i = by (q v) refl i (in_flat f q vs x)
     by true e j ih = ⊎_elim (λ l. (v, inl refl, e, l)) (λ r. let k = ih r in (k.0, inr k.1, k.2, k.3)) (in_append x (f v) (flat_map f (filter q vs)) j)
     by false e j ih = let k = ih j in (k.0, inr k.1, k.2, k.3)
 
-pub flat_in : (f : Span → List Change) (q : Span → Bool) (ws : List Span) (w : Span) (x : Change) → Among w ws → q w ≡ true → IsIn x (f w) → IsIn x (flat_map f (filter q ws))
-flat_in f q [] w x a t i = absurd a
-flat_in f q (v ∷ vs) w x a t i = ⊎_elim
+pub in_flat_of : (f : Span → List Change) (q : Span → Bool) (ws : List Span) (w : Span) (x : Change) → Among w ws → q w ≡ true → IsIn x (f w) → IsIn x (flat_map f (filter q ws))
+in_flat_of f q [] w x a t i = absurd a
+in_flat_of f q (v ∷ vs) w x a t i = ⊎_elim
     (λ e. subst (λ b. IsIn x (flat_map f (cond b (v ∷ filter q vs) (filter q vs)))) (sym (ap q (sym e) ∙ t)) (in_left x (f v) (flat_map f (filter q vs)) (subst (λ y. IsIn x (f y)) e i)))
-    (λ r. by (q v) (flat_in f q vs w x r t i)) a
+    (λ r. by (q v) (in_flat_of f q vs w x r t i)) a
   where
     by : (b : Bool) → IsIn x (flat_map f (filter q vs)) → IsIn x (flat_map f (cond b (v ∷ filter q vs) (filter q vs)))
     by true k = in_right x (f v) (flat_map f (filter q vs)) k
@@ -226,5 +226,5 @@ in_stretch low high h x i =
     let b = between_of low high x.seq k.1 in
     (k.0, b.0, b.1)
 
-pub stretch_in : (low high : ℕ) (h : List Change) (x : Change) → IsIn x h → low < x.seq → x.seq ≤ high → IsIn x (stretch low high h)
-stretch_in low high h x i l m = filter_in (λ c. nat_lt low c.seq && nat_le c.seq high) h x i (of_between low high x.seq l m)
+pub within_stretch : (low high : ℕ) (h : List Change) (x : Change) → IsIn x h → low < x.seq → x.seq ≤ high → IsIn x (stretch low high h)
+within_stretch low high h x i l m = kept_in_filter (λ c. nat_lt low c.seq && nat_le c.seq high) h x i (between_tested low high x.seq l m)

@@ -199,9 +199,9 @@ at_key n image seq key (act.Prepare level doc deleted) p u l e =
 at_key n image seq key (act.Commit prepared doc deleted) p u l e = none_some _ p (pend_gone n image seq key (act.Commit prepared doc deleted) u l tt) e
 at_key n image seq key (act.Abort prepared) p u l e = none_some _ p (pend_gone n image seq key (act.Abort prepared) u l tt) e
 
-pub after_pend : (n : ℕ) (image : Picture) (seq : ℕ) (key : List ℕ) (a : Act) (q : List ℕ) (p : Pend) → PendSeqsUpTo n image → n < seq → finite.get (acted image seq key a).pending q ≡ Some p
+pub pend_after_one : (n : ℕ) (image : Picture) (seq : ℕ) (key : List ℕ) (a : Act) (q : List ℕ) (p : Pend) → PendSeqsUpTo n image → n < seq → finite.get (acted image seq key a).pending q ≡ Some p
     → ((key ≢ q) × (finite.get image.pending q ≡ Some p)) ⊎ ((key ≡ q) × (p.seq ≡ seq))
-after_pend n image seq key a q p u l e = by (bytes_eq key q) refl
+pend_after_one n image seq key a q p u l e = by (bytes_eq key q) refl
   where
     by : (b : Bool) → bytes_eq key q ≡ b → ((key ≢ q) × (finite.get image.pending q ≡ Some p)) ⊎ ((key ≡ q) × (p.seq ≡ seq))
     by true t = let s = (bytes_eq-Decides key q).0 t in inr (s, at_key n image seq key a p u l (subst (λ x. finite.get (acted image seq key a).pending x ≡ Some p) (sym s) e))
@@ -210,13 +210,13 @@ after_pend n image seq key a q p u l e = by (bytes_eq key q) refl
         inl (m, sym (pend_stays image seq key a q m) ∙ e)
 
 pub seqs_acted : (n : ℕ) (image : Picture) (seq : ℕ) (key : List ℕ) (a : Act) → PendSeqsUpTo n image → n < seq → PendSeqsUpTo seq (acted image seq key a)
-seqs_acted n image seq key a u l = λ q p e. ⊎_elim (λ o. let k = u q p o.1 in omega arith) (λ o. let k = o.1 in omega arith) (after_pend n image seq key a q p u l e)
+seqs_acted n image seq key a u l = λ q p e. ⊎_elim (λ o. let k = u q p o.1 in omega arith) (λ o. let k = o.1 in omega arith) (pend_after_one n image seq key a q p u l e)
 
 pub differ_acted : (n : ℕ) (image : Picture) (seq : ℕ) (key : List ℕ) (a : Act) → PendSeqsUpTo n image → n < seq → PendsDiffer image → PendsDiffer (acted image seq key a)
 differ_acted n image seq key a u l d = λ q r p s e f same. ⊎_elim
-    (λ o. ⊎_elim (λ x. d q r p s o.1 x.1 same) (λ x. let k = u q p o.1 in let m = x.1 in absurd (omega arith)) (after_pend n image seq key a r s u l f))
-    (λ o. ⊎_elim (λ x. let k = u r s x.1 in let m = o.1 in absurd (omega arith)) (λ x. sym o.0 ∙ x.0) (after_pend n image seq key a r s u l f))
-    (after_pend n image seq key a q p u l e)
+    (λ o. ⊎_elim (λ x. d q r p s o.1 x.1 same) (λ x. let k = u q p o.1 in let m = x.1 in absurd (omega arith)) (pend_after_one n image seq key a r s u l f))
+    (λ o. ⊎_elim (λ x. let k = u r s x.1 in let m = o.1 in absurd (omega arith)) (λ x. sym o.0 ∙ x.0) (pend_after_one n image seq key a r s u l f))
+    (pend_after_one n image seq key a q p u l e)
 
 pub seqs_more : (m n : ℕ) (image : Picture) → m ≤ n → PendSeqsUpTo m image → PendSeqsUpTo n image
 seqs_more m n image l u = λ q p e. let k = u q p e in omega arith

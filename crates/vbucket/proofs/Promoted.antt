@@ -13,8 +13,8 @@ use Rattle.vbucket.proofs.Keeping.{by_folded, settled_stands}
 use Rattle.vbucket.proofs.Standing.{Stands, kept_sealed}
 
 -- before anything is committed
-led_kept : (k : Kept) (s : Plain) (uuid : ℕ) → IsKept k s → IsKept (kept_led k uuid) (led s uuid)
-led_kept k s uuid is =
+led_is_kept : (k : Kept) (s : Plain) (uuid : ℕ) → IsKept k s → IsKept (kept_led k uuid) (led s uuid)
+led_is_kept k s uuid is =
     let same : SameChanges (sealed_list k.list) (sealed_list k.list) = record { rest = refl; zero = refl } in
     kept_sealed k (kept_led k uuid) s (led s uuid) is refl (ap (λ (r : Plain). (kept_led (record k { rest = r }) uuid).rest) is.rest) same
 
@@ -31,5 +31,5 @@ promote_stands k s is k' reply uuid e = by_folded (λ x. kept_promote x uuid) k 
     by : IsKept there s → (why : Option Status) → Stands (kept_promoted why there uuid).0 (kept_promoted why there uuid).1 (promoted why s uuid)
     by at (Some st) = (at, refl)
     by at None =
-        let made = settled_stands (kept_led there uuid) (led s uuid) said (lead_plan (folded s)) (led_kept there s uuid at) refl refl refl refl refl refl in
+        let made = settled_stands (kept_led there uuid) (led s uuid) said (lead_plan (folded s)) (led_is_kept there s uuid at) refl refl refl refl refl refl in
         (made.0, ap (λ (r : VbReply). record r { ended = stream_ids s.streams }) made.1)

@@ -6,7 +6,7 @@ use Rattle.vb_types.specs.declared.status.Status.TheVariants as status
 use Rattle.vb_calls.specs.State.{Plain, is_active, is_left, doc_at, get_reply, pending_of, refusal_reply}
 use Rattle.vbucket.specs.Laws.{IsToCommit, ReadsAs, ReadsExactly}
 use Rattle.vbucket.proofs.Asks.{role_of, not_role}
-use Rattle.vbucket.proofs.Reasons.{again_of, of_again}
+use Rattle.vbucket.proofs.Reasons.{again_of, again_tested}
 
 reads_as : (vb : Plain) (key : List ℕ) (b left : Bool) (o : Option Doc) → is_active vb.role ≡ b → is_left vb.waiting (pending_of vb key) ≡ left → doc_at vb key ≡ o
     → ReadsAs vb key (vb, if b then get_reply left o else refusal_reply status.NotMyVbucket)
@@ -27,7 +27,7 @@ reads_as vb key true true o e l d =
       stays = refl;
     }
 reads_as vb key true false None e l d =
-    let clear : IsToCommit vb key → ⊥ = λ k. let z : true ≡ false = sym (of_again vb key k) ∙ l in cc in
+    let clear : IsToCommit vb key → ⊥ = λ k. let z : true ≡ false = sym (again_tested vb key k) ∙ l in cc in
     record {
       foreign = (λ q. cc, λ n. absurd (n (role_of vb.role e)));
       again = (λ q. cc, λ k. absurd (clear k.1));
@@ -36,7 +36,7 @@ reads_as vb key true false None e l d =
       stays = refl;
     }
 reads_as vb key true false (Some there) e l d =
-    let clear : IsToCommit vb key → ⊥ = λ k. let z : true ≡ false = sym (of_again vb key k) ∙ l in cc in
+    let clear : IsToCommit vb key → ⊥ = λ k. let z : true ≡ false = sym (again_tested vb key k) ∙ l in cc in
     record {
       foreign = (λ q. cc, λ n. absurd (n (role_of vb.role e)));
       again = (λ q. cc, λ k. absurd (clear k.1));

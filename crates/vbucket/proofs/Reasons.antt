@@ -29,9 +29,9 @@ told_of : (said : Option Status) (vb : Plain) (write : Write) (cas : ℕ) (st : 
 told_of (Some s) vb write cas st e = cc
 told_of None vb write cas st e = cc
 
-of_told : (said : Option Status) (vb : Plain) (write : Write) (cas : ℕ) (st : Status) → said ≡ Some st → (store_outcome said vb write cas).1.answer ≡ answer.Status st
-of_told (Some s) vb write cas st e = cc
-of_told None vb write cas st e = cc
+told_tested : (said : Option Status) (vb : Plain) (write : Write) (cas : ℕ) (st : Status) → said ≡ Some st → (store_outcome said vb write cas).1.answer ≡ answer.Status st
+told_tested (Some s) vb write cas st e = cc
+told_tested None vb write cas st e = cc
 
 -- what the document at the key says
 
@@ -113,11 +113,11 @@ left_of (v ∷ ws) p e = by (v.seq == p.seq && not (is_some v.deadline)) refl e 
     by true t k rest = let m = both_of (v.seq == p.seq) (not (is_some v.deadline)) t in (v, inl refl, eqb-true v.seq p.seq m.0, some_left v.deadline m.1)
     by false t k rest = let m = rest k in (m.0, inr m.1, m.2, m.3)
 
-pub of_left : (ws : List Waiting) (p : Pend) (w : Waiting) → Waits w ws → w.seq ≡ p.seq → w.deadline ≡ None → is_left ws (Some p) ≡ true
-of_left [] p w i e n = absurd i
-of_left (v ∷ ws) p w i e n = ⊎_elim
+pub or_by_left : (ws : List Waiting) (p : Pend) (w : Waiting) → Waits w ws → w.seq ≡ p.seq → w.deadline ≡ None → is_left ws (Some p) ≡ true
+or_by_left [] p w i e n = absurd i
+or_by_left (v ∷ ws) p w i e n = ⊎_elim
     (λ s. ap (λ b. b || is_left ws (Some p)) (subst (λ (x : Waiting). (x.seq == p.seq && not (is_some x.deadline)) ≡ true) s (ap (λ d. w.seq == p.seq && not (is_some d)) n ∙ ap (λ b. b && true) (eq-eqb w.seq p.seq e))))
-    (λ j. later (v.seq == p.seq && not (is_some v.deadline)) (of_left ws p w j e n)) i
+    (λ j. later (v.seq == p.seq && not (is_some v.deadline)) (or_by_left ws p w j e n)) i
   where
     later : (b : Bool) → is_left ws (Some p) ≡ true → (b || is_left ws (Some p)) ≡ true
     later true k = refl
@@ -128,8 +128,8 @@ pub again_of : (vb : Plain) (key : List ℕ) (o : Option Pend) → pending_of vb
 again_of vb key None q e = cc
 again_of vb key (Some p) q e = let k = left_of vb.waiting p e in (p, k.0, q, k.1, k.2, k.3)
 
-pub of_again : (vb : Plain) (key : List ℕ) → IsToCommit vb key → is_left vb.waiting (pending_of vb key) ≡ true
-of_again vb key k = ap (is_left vb.waiting) k.2 ∙ of_left vb.waiting k.0 k.1 k.3 k.4 k.5
+pub again_tested : (vb : Plain) (key : List ℕ) → IsToCommit vb key → is_left vb.waiting (pending_of vb key) ≡ true
+again_tested vb key k = ap (is_left vb.waiting) k.2 ∙ or_by_left vb.waiting k.0 k.1 k.3 k.4 k.5
 
 abbrev pub InTheWay : List Waiting → Option Pend → Status → Type 0
 InTheWay ws o st = (((p : Pend) × (o ≡ Some p)) × (is_left ws o ≡ true) × (st ≡ status.SyncWriteReCommitInProgress)) ⊎ (((p : Pend) × (o ≡ Some p)) × (is_left ws o ≡ false) × (st ≡ status.SyncWriteInProgress))
@@ -210,7 +210,7 @@ said_by : (vb : Plain) (write : Write) (clock : ℕ) (st : Status) → (plain_st
 said_by vb write clock st e = told_of (store_refusal vb write) vb write (new_cas clock vb.last_cas) st e
 
 says : (vb : Plain) (write : Write) (clock : ℕ) (st : Status) → store_refusal vb write ≡ Some st → (plain_step vb (call.Store write clock)).1.answer ≡ answer.Status st
-says vb write clock st e = of_told (store_refusal vb write) vb write (new_cas clock vb.last_cas) st e
+says vb write clock st e = told_tested (store_refusal vb write) vb write (new_cas clock vb.last_cas) st e
 
 -- why a key is refused
 pub key_reasons : (vb : Plain) (write : Write) (st : Status) → key_refusal vb write ≡ Some st → KeyReason vb.waiting (pending_of vb write.key) write.op write.cas (doc_at vb write.key) st
@@ -246,11 +246,11 @@ decided vb write t = is_free vb.role (lacks_seqnos vb 1) (key_refusal vb write) 
 pub again_key : (vb : Plain) (write : Write) → (key_refusal vb write ≡ Some status.SyncWriteReCommitInProgress) ↔ IsToCommit vb write.key
 again_key vb write = (
   λ e. ⊎_elim (λ x. ⊎_elim (λ y. again_of vb write.key (pending_of vb write.key) refl y.1) (λ y. let k = y.2 in cc) x) (λ x. ⊎_elim (λ y. let k = y.0 in cc) (λ y. let k = y.0 in cc) x.1) (key_reasons vb write status.SyncWriteReCommitInProgress e),
-  λ k. is_again vb.waiting (pending_of vb write.key) (doc_refusal write.op write.cas (doc_at vb write.key)) (of_again vb write.key k),
+  λ k. is_again vb.waiting (pending_of vb write.key) (doc_refusal write.op write.cas (doc_at vb write.key)) (again_tested vb write.key k),
 )
 
 not_again : (vb : Plain) (key : List ℕ) → is_left vb.waiting (pending_of vb key) ≡ false → IsToCommit vb key → ⊥
-not_again vb key e k = let z : true ≡ false = sym (of_again vb key k) ∙ e in cc
+not_again vb key e k = let z : true ≡ false = sym (again_tested vb key k) ∙ e in cc
 
 is_not_again : (vb : Plain) (key : List ℕ) (b : Bool) → is_left vb.waiting (pending_of vb key) ≡ b → (IsToCommit vb key → ⊥) → b ≡ false
 is_not_again vb key true e n = absurd (n (again_of vb key (pending_of vb key) refl e))

@@ -82,11 +82,11 @@ logs vb log = adopts vb log (is_follower vb.role) (is_answerable log) refl refl
 
 -- markers
 
-pub of_most : (a b : ℕ) → a ≤ b → nat_le a b ≡ true
-of_most a b l = grind (arith, nat_tests)
+pub most_tested : (a b : ℕ) → a ≤ b → nat_le a b ≡ true
+most_tested a b l = grind (arith, nat_tests)
 
-same_of : (a b : ℕ) → (a == b) ≡ true → a ≡ b
-same_of a b e = grind (arith, nat_tests)
+loaded_role_same : (a b : ℕ) → (a == b) ≡ true → a ≡ b
+loaded_role_same a b e = grind (arith, nat_tests)
 
 of_same : (a b : ℕ) → a ≡ b → (a == b) ≡ true
 of_same a b e = grind (arith, nat_tests)
@@ -95,9 +95,9 @@ pub either : (a b : Bool) → (a || b) ≡ true → (a ≡ true) ⊎ (b ≡ true
 either true b e = inl refl
 either false b e = inr e
 
-of_left : (a b : Bool) → a ≡ true → (a || b) ≡ true
-of_left true b e = refl
-of_left false b e = cc
+or_by_left : (a b : Bool) → a ≡ true → (a || b) ≡ true
+or_by_left true b e = refl
+or_by_left false b e = cc
 
 pub of_right : (a b : Bool) → b ≡ true → (a || b) ≡ true
 of_right true b e = refl
@@ -119,14 +119,14 @@ module _ (vb : Plain) (start end : ℕ) where
         order = most_of start end c.0;
         reach = most_of vb.position.at end c.1;
         cap = capped end b.1;
-        turn = ⊎_elim (λ k. inl k) (λ k. inr (same_of vb.position.at vb.position.se k)) (either vb.first (vb.position.at == vb.position.se) a.1);
+        turn = ⊎_elim (λ k. inl k) (λ k. inr (loaded_role_same vb.position.at vb.position.se k)) (either vb.first (vb.position.at == vb.position.se) a.1);
       }
 
   of_fits : Fits vb start end → marker_fits vb.position vb.first start end ≡ true
   of_fits f =
       conj (nat_le start end && nat_le vb.position.at end && nat_le end MAX_SEQ) (vb.first || vb.position.at == vb.position.se)
-      (conj (nat_le start end && nat_le vb.position.at end) (nat_le end MAX_SEQ) (conj (nat_le start end) (nat_le vb.position.at end) (of_most start end f.order) (of_most vb.position.at end f.reach)) (of_capped end f.cap))
-      (⊎_elim (λ k. of_left vb.first (vb.position.at == vb.position.se) k) (λ k. of_right vb.first (vb.position.at == vb.position.se) (of_same vb.position.at vb.position.se k)) f.turn)
+      (conj (nat_le start end && nat_le vb.position.at end) (nat_le end MAX_SEQ) (conj (nat_le start end) (nat_le vb.position.at end) (most_tested start end f.order) (most_tested vb.position.at end f.reach)) (of_capped end f.cap))
+      (⊎_elim (λ k. or_by_left vb.first (vb.position.at == vb.position.se) k) (λ k. of_right vb.first (vb.position.at == vb.position.se) (of_same vb.position.at vb.position.se k)) f.turn)
 
   marks : (b d : Bool) → is_follower vb.role ≡ b → marker_fits vb.position vb.first start end ≡ d
       → MarksAs vb start end (guarded b d (marked_vb vb start end, quiet_reply (answer.Range (min start vb.position.at) end)) vb status.Erange)
@@ -168,7 +168,7 @@ taken_of None (act.Commit prepared doc deleted) x e = cc
 taken_of (Some p) (act.Commit prepared doc deleted) x e = by (p.seq == prepared) refl e
   where
     by : (b : Bool) → (p.seq == prepared) ≡ b → (if b then Some (act.Commit prepared p.doc p.deleted) else None) ≡ Some x → IsTakenAs (Some p) (act.Commit prepared doc deleted) x
-    by true q e = (p, refl, same_of p.seq prepared q, cc)
+    by true q e = (p, refl, loaded_role_same p.seq prepared q, cc)
     by false q e = cc
 taken_of o (act.Abort prepared) x e = cc
 

@@ -72,8 +72,8 @@ is_same a b e = grind (arith, nat_tests)
 is_other : (a b : ℕ) → (a == b) ≡ false → a ≢ b
 is_other a b e = grind (arith, nat_tests)
 
-of_complete : (vb : Plain) (n : ℕ) → IsComplete vb n → n ≤ fork_of vb.position
-of_complete vb n k = by (vb.position.at == vb.position.se) refl
+complete_at_fork : (vb : Plain) (n : ℕ) → IsComplete vb n → n ≤ fork_of vb.position
+complete_at_fork vb n k = by (vb.position.at == vb.position.se) refl
   where
     by : (b : Bool) → (vb.position.at == vb.position.se) ≡ b → n ≤ fork_of vb.position
     by true e = let same = is_same vb.position.at vb.position.se e in subst (λ x. n ≤ x) (sym (fork_whole vb.position.at vb.position.ss vb.position.se same)) (k.0 same)
@@ -94,7 +94,7 @@ module _ (vb : Plain) where
     one = λ l. let k = due_of (pending_prepares vb) (fork_of vb.position) vb.saved l in let m = at_key (image_in vb).pending k.0 k.1 in (m.0, k.0, m.1, k.2);
     complete = λ l. complete_of vb number (due_complete (pending_prepares vb) (fork_of vb.position) vb.saved);
     thirds = thirds_of number (due_thirds (pending_prepares vb) (fork_of vb.position) vb.saved);
-    greatest = λ key p e c h. due_greatest (pending_prepares vb) (fork_of vb.position) vb.saved p (pend_at (image_in vb).pending key p e) (of_complete vb p.seq c) (of_thirds p.seq h);
+    greatest = λ key p e c h. due_greatest (pending_prepares vb) (fork_of vb.position) vb.saved p (pend_at (image_in vb).pending key p e) (complete_at_fork vb p.seq c) (of_thirds p.seq h);
   }
 
   dues : (b : Bool) → is_follower vb.role ≡ b → DuesAs vb (vb, if b then quiet_reply (answer.Num number) else refusal_reply status.NotMyVbucket)

@@ -33,9 +33,9 @@ kept_entry n (x ∷ xs) e i = by (nat_le x.seq n) refl i (kept_entry n xs e)
     by true t j ih = ⊎_elim (λ q. let k : e.seq ≡ x.seq = ap (λ (y : LogEntry). y.seq) q in let l = at_floor x.seq n t in (inl q, omega arith)) (λ j. let k = ih j in (inr k.0, k.1)) j
     by false t j ih = let k = ih j in (inr k.0, k.1)
 
-entry_kept : (n : ℕ) (log : List LogEntry) (e : LogEntry) → IsEntry e log → e.seq ≤ n → IsEntry e (kept_to n log)
-entry_kept n [] e i l = absurd i
-entry_kept n (x ∷ xs) e i l = by (nat_le x.seq n) refl i (λ j. entry_kept n xs e j l)
+entry_is_kept : (n : ℕ) (log : List LogEntry) (e : LogEntry) → IsEntry e log → e.seq ≤ n → IsEntry e (kept_to n log)
+entry_is_kept n [] e i l = absurd i
+entry_is_kept n (x ∷ xs) e i l = by (nat_le x.seq n) refl i (λ j. entry_is_kept n xs e j l)
   where
     by : (b : Bool) → nat_le x.seq n ≡ b → IsEntry e (x ∷ xs) → (IsEntry e xs → IsEntry e (kept_to n xs)) → IsEntry e (cond b (x ∷ kept_to n xs) (kept_to n xs))
     by true t j ih = ⊎_elim (λ q. inl q) (λ j. inr (ih j)) j
@@ -49,7 +49,7 @@ rolls_as vb at image cas true f = record {
   holds = λ k. refl;
   none = λ k. (refl, refl);
   position = λ k. refl;
-  entries = λ k e. (λ i. kept_entry at vb.log e i, λ i. entry_kept at vb.log e i.0 i.1);
+  entries = λ k e. (λ i. kept_entry at vb.log e i, λ i. entry_is_kept at vb.log e i.0 i.1);
   marks = λ k. (refl, refl, refl);
   counts = λ k. (omega arith, omega arith, larger (cases_lt vb.last_cas cas));
   stays = (refl, refl, refl, refl);
@@ -95,7 +95,7 @@ counts vb = (
   length (all_spans vb.spans),
   length (flat_map (λ w. live_in w vb.held) (all_spans vb.spans)),
   1 + length (filter (is_in_memory vb.floor) vb.streams),
-  record { told = refl; of_spans = refl; of_lives = lives_all vb.held (all_spans vb.spans); of_cursors = cursors vb.floor vb.streams; stays = refl },
+  record { told = refl; windows_counted = refl; of_lives = lives_all vb.held (all_spans vb.spans); of_cursors = cursors vb.floor vb.streams; stays = refl },
 )
 
 pub in_numbers : CountsInNumbers
@@ -106,11 +106,11 @@ in_numbers doc = (refl, refl, refl, refl)
 dead_of : (r : Role) → r ≡ role.Active → loaded_role r ≡ role.Dead
 dead_of r e = ap loaded_role e
 
-same_of : (r : Role) → r ≢ role.Active → loaded_role r ≡ r
-same_of role.Active n = absurd (n refl)
-same_of role.Replica n = refl
-same_of role.Pending n = refl
-same_of role.Dead n = refl
+loaded_role_same : (r : Role) → r ≢ role.Active → loaded_role r ≡ r
+loaded_role_same role.Active n = absurd (n refl)
+loaded_role_same role.Replica n = refl
+loaded_role_same role.Pending n = refl
+loaded_role_same role.Dead n = refl
 
 pub loads : LoadsExactly
 loads node r log position cas image = record {
@@ -121,5 +121,5 @@ loads node r log position cas image = record {
   alone = (refl, refl, refl);
   marks = (refl, refl, refl);
   dead = dead_of r;
-  same = same_of r;
+  same = loaded_role_same r;
 }

@@ -33,7 +33,7 @@ use Rattle.vb_calls.specs.Roles.{ending_reply, in_role, is_role, led, parent_of,
 use Rattle.vb_calls.specs.Settling.{also_resolved, and_settled}
 use Rattle.vb_calls.specs.Spans.{all_spans, with_seal}
 use Rattle.vb_calls.specs.State.{doc_at, get_reply, is_active, is_left, newest_branch, pending_of, quiet_reply, refusal_reply}
-use Rattle.vb_calls.specs.Streams.{closed_stream, end_span, is_in_memory, items_to, judged_open, moved_on, new_stream, open_outcome, open_refusal, place_reply, snapshot_of, stream_at, take_from, take_to}
+use Rattle.vb_calls.specs.Streams.{without_stream, end_span, is_in_memory, items_to, judged_open, moved_on, new_stream, open_outcome, open_refusal, place_reply, snapshot_of, stream_at, take_from, take_to}
 use Rattle.vb_calls.specs.Writes.{growth, new_cas, store_outcome, store_refusal, write_change}
 use Rattle.vbucket.specs.DurableLaws.{IsQuiet}
 use Rattle.vbucket.specs.Laws.{is_refusal}
@@ -51,7 +51,7 @@ leading vb uuid = (led vb uuid, ending_reply vb (answer.Branch uuid (parent_of v
 pub data StreamsAre (vb : Plain) : VbCall → List Stream → VbAnswer → Type 0 where
   Opens : (id : ℕ) (ask : StreamAsk) (sync : Bool) → StreamsAre vb (call.OpenStream id ask sync) (vb.streams ++ new_stream id ask sync ∷ []) (answer.Asked ask_answer.Go vb.log vb.position.at)
   Feeds : (id : ℕ) (s : Stream) (w : Span) → StreamsAre vb (call.Take id) (map (moved_on s.id w.last) vb.streams) (answer.Taken (snapshot_of s (items_to s (all_spans vb.spans) vb.held w.last)))
-  Closes : (id : ℕ) → StreamsAre vb (call.CloseStream id) (closed_stream id vb.streams) (answer.Flag (is_some (stream_at id vb.streams)))
+  Closes : (id : ℕ) → StreamsAre vb (call.CloseStream id) (without_stream id vb.streams) (answer.Flag (is_some (stream_at id vb.streams)))
 
 -- how a call begins after which all is committed that may be: it prepares a write, sets the chain, counts an acknowledgement or what is saved, gives up what is late, or leads a branch
 pub data StartIs (vb : Plain) : VbCall → Plain × VbReply → Type 0 where

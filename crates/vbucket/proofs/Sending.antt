@@ -28,14 +28,14 @@ out_of false taken from place start e = inl refl
 out_of true true from place start e = cc
 out_of true false from place start e = inr (refl, grind (arith, nat_tests))
 
-of_out : (sync taken : Bool) (from place start : ℕ) → (not sync || (not taken && nat_lt from start)) ≡ false → Out sync taken from place start → ⊥
-of_out false taken from place start e o = cc
-of_out true true from place start e o = ⊎_elim (λ k. cc) (λ k. let t = k.0 in cc) o
-of_out true false from place start e o = ⊎_elim (λ k. cc) (λ k. let l : from < start = k.1 in grind (arith, nat_tests)) o
+out_tested : (sync taken : Bool) (from place start : ℕ) → (not sync || (not taken && nat_lt from start)) ≡ false → Out sync taken from place start → ⊥
+out_tested false taken from place start e o = cc
+out_tested true true from place start e o = ⊎_elim (λ k. cc) (λ k. let t = k.0 in cc) o
+out_tested true false from place start e o = ⊎_elim (λ k. cc) (λ k. let l : from < start = k.1 in grind (arith, nat_tests)) o
 
 pub sent_for : (s : Stream) (c : Change) → IsSentFor s (start_of s) c (sent_as (is_plain_next s) c)
 sent_for s c = by (is_plain_next s) refl
   where
     by : (b : Bool) → is_plain_next s ≡ b → IsSentFor s (start_of s) c (sent_as b c)
     by true e = record { seq = refl; key = refl; out = λ o. written_out c.act; as_is = λ n. absurd (n (out_of s.sync s.taken (effective_ss s.ask.start s.ask.ss s.ask.se) s.place s.ask.start e)) }
-    by false e = record { seq = refl; key = refl; out = λ o. absurd (of_out s.sync s.taken (effective_ss s.ask.start s.ask.ss s.ask.se) s.place s.ask.start e o); as_is = λ n. refl }
+    by false e = record { seq = refl; key = refl; out = λ o. absurd (out_tested s.sync s.taken (effective_ss s.ask.start s.ask.ss s.ask.se) s.place s.ask.start e o); as_is = λ n. refl }

@@ -57,8 +57,8 @@ Stands k reply after = IsKept k after.0 × (reply ≡ after.1)
 same_list : (l m : Ckpts) (ws : Spans) (h : List Change) (at : ℕ) → SameChanges l m → ListStands l ws h at → ListStands m ws h at
 same_list l m ws h at e is = subst (λ (x : Ckpts). ListStands x ws h at) (sym e.rest) (record { spans = is.spans; items = is.items; newest = is.newest; high = is.high })
 
-same_of : (l m : Ckpts) → m ≡ l → SameChanges l m
-same_of l m q = subst (λ (x : Ckpts). SameChanges l x) (sym q) (record { rest = refl; zero = refl })
+loaded_role_same : (l m : Ckpts) → m ≡ l → SameChanges l m
+loaded_role_same l m q = subst (λ (x : Ckpts). SameChanges l x) (sym q) (record { rest = refl; zero = refl })
 
 -- what is told of the changes of a vBucket: its role, where they begin, end and were taken to, and their spans
 record Lie : Type 0 where
@@ -112,7 +112,7 @@ sealed_stands row k k' s reply is f a e l = let r = rest_of row k k' s reply is 
 
 -- nothing of the changes is another
 pub kept_alike : (k k' : Kept) (s t : Plain) → IsKept k s → Alike s t → k'.rest ≡ folded t → k'.list ≡ k.list → IsKept k' t
-kept_alike k k' s t is a r e = kept_same k k' s t is a r (same_of k.list k'.list e)
+kept_alike k k' s t is a r e = kept_same k k' s t is a r (loaded_role_same k.list k'.list e)
 
 -- nothing changes
 idle_stands : (k k' : Kept) (s : Plain) (reply said : VbReply) → IsKept k s → k' ≡ k → reply ≡ said → IsKept k' s × (reply ≡ said)
@@ -187,7 +187,7 @@ abbrev pub guarded : Bool → Bool → Plain × VbReply → Plain → Status →
 guarded b d made vb st = if b then (if d then made else (vb, refusal_reply st)) else (vb, refusal_reply status.NotMyVbucket)
 
 pub adopt_stands : (k : Kept) (s : Plain) → IsKept k s → (k' : Kept) (reply : VbReply) (log : List LogEntry) → (k'.rest, reply) ≡ adopt_row k.rest log → k'.list ≡ k.list → Stands k' reply (adopt_row s log)
-adopt_stands k s is k' reply log e l = same_stands (λ vb. adopt_row vb log) k k' s reply is (by (is_follower s.role) (is_answerable log)) (so (is_follower s.role) (is_answerable log)) e (same_of k.list k'.list l)
+adopt_stands k s is k' reply log e l = same_stands (λ vb. adopt_row vb log) k k' s reply is (by (is_follower s.role) (is_answerable log)) (so (is_follower s.role) (is_answerable log)) e (loaded_role_same k.list k'.list l)
   where
     made : Plain → Plain × VbReply
     made vb = (record vb { log = log; first = true }, quiet_reply answer.Done)
@@ -214,8 +214,8 @@ mark_stands k s is k' reply start end e l =
 
     by : (b d : Bool) → (k'.rest, reply) ≡ guarded b d (made (folded s)) (folded s) status.Erange → SealedIf (b && d) k.list k'.list → Stands k' reply (guarded b d (made s) s status.Erange)
     by true true q m = (kept_sealed k k' s (made s).0 is refl (ap (λ p. p.0) q) m, ap (λ p. p.1) q)
-    by true false q m = (kept_same k k' s s is refl (ap (λ p. p.0) q) (same_of k.list k'.list m), ap (λ p. p.1) q)
-    by false d q m = (kept_same k k' s s is refl (ap (λ p. p.0) q) (same_of k.list k'.list m), ap (λ p. p.1) q)
+    by true false q m = (kept_same k k' s s is refl (ap (λ p. p.0) q) (loaded_role_same k.list k'.list m), ap (λ p. p.1) q)
+    by false d q m = (kept_same k k' s s is refl (ap (λ p. p.0) q) (loaded_role_same k.list k'.list m), ap (λ p. p.1) q)
 
 pub role_stands : (k : Kept) (s : Plain) → IsKept k s → (k' : Kept) (reply : VbReply) (new : Role) → (k'.rest, reply) ≡ turn_row k.rest new → SealedIf (not (is_role k.rest.role new)) k.list k'.list → Stands k' reply (turn_row s new)
 role_stands k s is k' reply new e l = by (is_role s.role new) (e ∙ ap (λ vb. turn_row vb new) is.rest) (subst (λ vb. SealedIf (not (is_role vb.role new)) k.list k'.list) is.rest l)
@@ -224,12 +224,12 @@ role_stands k s is k' reply new e l = by (is_role s.role new) (e ∙ ap (λ vb. 
     made b vb = if b then (vb, refusal_reply status.NotMyVbucket) else (in_role vb new, ending_reply vb answer.Done)
 
     by : (b : Bool) → (k'.rest, reply) ≡ made b (folded s) → SealedIf (not b) k.list k'.list → Stands k' reply (made b s)
-    by true q m = (kept_same k k' s s is refl (ap (λ p. p.0) q) (same_of k.list k'.list m), ap (λ p. p.1) q)
+    by true q m = (kept_same k k' s s is refl (ap (λ p. p.0) q) (loaded_role_same k.list k'.list m), ap (λ p. p.1) q)
     by false q m = (kept_sealed k k' s (in_role s new) is refl (ap (λ p. p.0) q) m, ap (λ p. p.1) q)
 
 pub seal_stands : (k : Kept) (s : Plain) → IsKept k s → (k' : Kept) (reply : VbReply) → k' ≡ record k { list = sealed_list k.list } → reply ≡ quiet_reply (answer.Flag (is_some (ckpt_span k.list.newest))) → Stands k' reply (seal_row s)
 seal_stands k s is k' reply e q = (
-  kept_sealed k k' s (seal_row s).0 is refl (ap (λ (x : Kept). x.rest) e ∙ is.rest) (same_of (sealed_list k.list) k'.list (ap (λ (x : Kept). x.list) e)),
+  kept_sealed k k' s (seal_row s).0 is refl (ap (λ (x : Kept). x.rest) e ∙ is.rest) (loaded_role_same (sealed_list k.list) k'.list (ap (λ (x : Kept). x.list) e)),
   q ∙ ap (λ w. quiet_reply (answer.Flag (is_some w.current))) is.list.spans,
 )
 

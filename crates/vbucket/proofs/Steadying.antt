@@ -12,7 +12,7 @@ use Rattle.vb_calls.specs.declared.span.Origin.{Origin}
 use Rattle.vb_calls.specs.declared.span.Span.{Span}
 use Rattle.vb_calls.specs.declared.stream.Stream.{Stream}
 use Rattle.vb_calls.specs.Spans.{all_spans, is_whole}
-use Rattle.vb_calls.specs.Streams.{is_in_memory, stream_at, closed_stream, first_reason, id_refusal, is_ranged, is_seen, moved_on, need_of, open_refusal, snapshot_of}
+use Rattle.vb_calls.specs.Streams.{is_in_memory, stream_at, without_stream, first_reason, id_refusal, is_ranged, is_seen, moved_on, need_of, open_refusal, snapshot_of}
 use Rattle.checkpoint.specs.Checkpoints.{ckpt_span, ckpt_with, fits_in}
 use Rattle.cursor_set.specs.Cursors.{Places, place_of, may_advance}
 use Rattle.ckpt_list.specs.Lists.{Ckpts, between, ckpts_at, ends_of, held_of, high_of, is_own, may_stop, moved_cursor, opened, queued, queued_by, sealed_list, spans_of, stop_of}
@@ -24,7 +24,7 @@ use Rattle.vb_calls.specs.declared.calls.VbReply.{VbReply}
 use Rattle.vb_calls.specs.State.{Plain, is_active, quiet_reply}
 use Rattle.vb_calls.specs.Following.{is_follower}
 use Rattle.vbucket.specs.Kept.{Kept, SameChanges, kept_take, kept_take_from, kept_take_to, sent_items}
-use Rattle.vbucket.specs.Steady.{fed_place, with_cursor, AreFed, IsSteady}
+use Rattle.vbucket.specs.Steady.{stream_place, with_cursor, CursorsAreStreams, IsSteady}
 use Rattle.vb_types.specs.declared.role.Role.{Role}
 use Rattle.vbucket.proofs.Feeding.{fed_moved, fed_none, fed_opened, tie}
 
@@ -105,7 +105,7 @@ queued_steady role at l streams origin c m n is e seq = record {
   high = ap high_of e ∙ queued_high l origin c ∙ sym seq;
   fed =
       let k = queued_marked l origin c in
-      subst (λ p. AreFed p m.floor streams) (sym (ap (λ (x : Ckpts). x.places) e ∙ k.0)) (subst (λ f. AreFed l.places f streams) (sym (ap (λ (x : Ckpts). x.floor) e ∙ k.1)) is.fed);
+      subst (λ p. CursorsAreStreams p m.floor streams) (sym (ap (λ (x : Ckpts). x.places) e ∙ k.0)) (subst (λ f. CursorsAreStreams l.places f streams) (sym (ap (λ (x : Ckpts). x.floor) e ∙ k.1)) is.fed);
   idle = is.idle;
 }
 
@@ -144,11 +144,11 @@ opened_steady role at l streams id s m ss is active some none same e f =
       idle = λ passive. let bad : true ≡ false = sym active ∙ passive in cc;
     }))
 
-pub closed_steady : (role : Role) (at : ℕ) (l : Ckpts) (streams : List Stream) (m : Ckpts) (ss : List Stream) (id : ℕ) → IsSteady role at l streams → SameChanges l m → AreFed m.places m.floor ss → ss ≡ closed_stream id streams → IsSteady role at m ss
+pub closed_steady : (role : Role) (at : ℕ) (l : Ckpts) (streams : List Stream) (m : Ckpts) (ss : List Stream) (id : ℕ) → IsSteady role at l streams → SameChanges l m → CursorsAreStreams m.places m.floor ss → ss ≡ without_stream id streams → IsSteady role at m ss
 closed_steady role at l streams m ss id is e fed f = record {
   high = ap high_of e.rest ∙ is.high;
   fed = fed;
-  idle = λ passive. f ∙ ap (closed_stream id) (is.idle passive);
+  idle = λ passive. f ∙ ap (without_stream id) (is.idle passive);
 }
 
 pub moved_steady : (role : Role) (at : ℕ) (l : Ckpts) (streams : List Stream) (id end : ℕ) (s : Stream) (m : Ckpts) (ss : List Stream) → IsSteady role at l streams → stream_at id streams ≡ Some s → l.floor ≤ end → m ≡ moved_cursor l id end → ss ≡ map (moved_on id end) streams → IsSteady role at m ss
@@ -167,7 +167,7 @@ flushed_steady role at l streams m n is e = subst (λ (x : Ckpts). IsSteady role
   idle = is.idle;
 })
   where
-    same : (q : ℕ) → fed_place (finite.insert l.places 0 n) q ≡ fed_place l.places q
+    same : (q : ℕ) → stream_place (finite.insert l.places 0 n) q ≡ stream_place l.places q
     same q = ap (λ o. if q == 0 then None else o) (finite.get-insert nat_cmp_total l.places 0 n q ∙ ap (λ b. cond b (Some n) (place_of l.places q)) (tie q 0)) ∙ by (q == 0)
       where
         by : (b : Bool) → (if b then None else cond b (Some n) (place_of l.places q)) ≡ (if b then None else place_of l.places q)

@@ -9,7 +9,7 @@ use Rattle.vb_types.specs.Histories.{upto, Rises, IsIn, Slot, touches, last_by, 
 use Rattle.branch_model.specs.Histories.{last_seq, HasOf, IsOf, StandsAs}
 use Rattle.branch_model.specs.Snapshots.{Remains, Covers, plain_view}
 use Rattle.branch_model.specs.Requests.{effective_ss}
-use Rattle.branch_model.proofs.Lists.{rises_in, rises_map, in_upto, last_in, last_smaller, last_seq_le}
+use Rattle.branch_model.proofs.Lists.{rises_in, rises_map, from_upto, last_in, last_smaller, last_seq_le}
 use Rattle.branch_model.proofs.Lasts.{remains_cover}
 use Rattle.vb_calls.specs.declared.calls.VbAnswer.TheVariants as answer
 use Rattle.vb_calls.specs.declared.stream.Stream.{Stream}
@@ -19,9 +19,9 @@ use Rattle.vb_calls.specs.Spans.{all_spans, stretch, live_in, is_whole}
 use Rattle.vb_calls.specs.Streams.{is_in_memory, stream_at, is_seen, is_plain_next, sent_as, span_items, items_to, has_any, may_end, end_span, start_of, need_of, snapshot_of, moved_on, take_to, take_from}
 use Rattle.vbucket.specs.Laws.{Sound, Follow, IsSpan, AllSpans}
 use Rattle.vbucket.specs.Takes.{shown_by, IsSentFor, IsSnapshot, TakesSnapshots}
-use Rattle.vbucket.proofs.Parts.{from_zero, among_most, between_of, of_between, below_of, of_below, most_of, both, conj, filtered, live_rises, bounded, in_filter, filter_in, in_live, in_map, map_in, last_filtered, split, Among, found, stands_in, in_flat, flat_in, flat_rises}
+use Rattle.vbucket.proofs.Parts.{from_zero, among_most, between_of, between_tested, below_of, below_tested, most_of, both, conj, filtered, live_rises, bounded, in_filter, kept_in_filter, in_live, in_map, mapped_in, last_filtered, split, Among, found, stands_in, in_flat, in_flat_of, flat_rises}
 use Rattle.vbucket.proofs.Sending.{sent_for}
-use Rattle.vbucket.proofs.Covering.{in_ends, remains_ends, slot_live, plain_rises, plain_in, in_plain, plain_last}
+use Rattle.vbucket.proofs.Covering.{in_ends, remains_ends, slot_live, plain_rises, plain_in, plain_of_view, plain_last}
 
 sent_seq : (b : Bool) (c : Change) → (sent_as b c).seq ≡ c.seq
 sent_seq true c = refl
@@ -77,7 +77,7 @@ module _ (s : Stream) (ws : List Span) (h : List Change) (low at : ℕ) (r : Ris
   pub item_there : (slot : Slot) (c : Change) → last_of slot (upto h w0.last) ≡ Some c → s.place < c.seq → is_seen s.sync c.act ≡ true → IsIn (sent_as (is_plain_next s) c) (items_to s ws h w0.last)
   item_there slot c e p v =
       let test = touches slot in
-      let i = in_upto c h w0.last (last_in test (upto h w0.last) c e).0 in
+      let i = from_upto c h w0.last (last_in test (upto h w0.last) c e).0 in
       let m : c.seq ≤ w0.last = i.1 in
       let k = stands_in low at c.seq ws w0 f a (rises_in low at h c r i.0).0 m in
       let w = k.0 in
@@ -85,10 +85,10 @@ module _ (s : Stream) (ws : List Span) (h : List Change) (low at : ℕ) (r : Ris
       let reach : c.seq ≤ w.last = k.3 in
       let most : w.last ≤ w0.last = k.4 in
       let lower = last_smaller at h test w.last w0.last c r0 most reach e in
-      let here = ap (last_by test) (split (λ d. nat_lt w.above d.seq) (λ d. nat_le d.seq w.last) h) ∙ last_filtered test (λ d. nat_lt w.above d.seq) (upto h w.last) c lower (of_below w.above c.seq above) in
+      let here = ap (last_by test) (split (λ d. nat_lt w.above d.seq) (λ d. nat_le d.seq w.last) h) ∙ last_filtered test (λ d. nat_lt w.above d.seq) (upto h w.last) c lower (below_tested w.above c.seq above) in
       let live = slot_live w.above w.last w.origin slot c (stretch w.above w.last h) (stretch_rises w (omega arith)) (among_all h ws w t k.1).tidy here in
-      let item = map_in (sent_as (is_plain_next s)) (filter wanted (live_in w h)) c (filter_in wanted (live_in w h) c live (conj (nat_lt s.place c.seq) (is_seen s.sync c.act) (of_below s.place c.seq p) v)) in
-      flat_in (span_items s h) taken ws w (sent_as (is_plain_next s) c) k.1 (of_between s.place w0.last w.last (omega arith) most) item
+      let item = mapped_in (sent_as (is_plain_next s)) (filter wanted (live_in w h)) c (kept_in_filter wanted (live_in w h) c live (conj (nat_lt s.place c.seq) (is_seen s.sync c.act) (below_tested s.place c.seq p) v)) in
+      in_flat_of (span_items s h) taken ws w (sent_as (is_plain_next s) c) k.1 (between_tested s.place w0.last w.last (omega arith) most) item
 
   -- a sync stream
   sync_remains : s.sync ≡ true → Remains (items_to s ws h w0.last) h s.place w0.last
@@ -116,7 +116,7 @@ module _ (s : Stream) (ws : List Span) (h : List Change) (low at : ℕ) (r : Ris
 
       has : (slot : Slot) (x : Change) → last_of slot (upto (plain_view h) w0.last) ≡ Some x → s.place < x.seq → x.seq ≤ w0.last → HasOf (items_to s ws h w0.last) x
       has slot x q p m =
-          let k = in_plain h x (in_upto x (plain_view h) w0.last (last_in (touches slot) (upto (plain_view h) w0.last) x q).0).0 in
+          let k = plain_of_view h x (from_upto x (plain_view h) w0.last (last_in (touches slot) (upto (plain_view h) w0.last) x q).0).0 in
           let last = plain_last at w0.last h slot x k.0 r0 q k.1 k.2 k.3 in
           let es : x.seq ≡ k.0.seq = ap (λ (y : Change). y.seq) k.3 in
           (sent_as (is_plain_next s) k.0, item_there (Slot.Committed k.0.key) k.0 last (omega arith) (seen k.0 ∙ k.2), inl (as_plain k.0 ∙ sym k.3))

@@ -16,7 +16,7 @@ use Rattle.vb_calls.specs.declared.span.TheConstants.{MAX_WEIGHT}
 use Rattle.vb_calls.specs.Spans.{Spans, all_spans, with_change, with_own, with_newer, with_other, with_received, own_joined, received_joined, is_durable, change_weight, span_to, stretch, last_at}
 use Rattle.vbucket.specs.Laws.{Follow, IsSpan, AllSpans, MayShare, OpensOwn, Tidy}
 use Rattle.vbucket.proofs.Grown.{Grown}
-use Rattle.vbucket.proofs.Parts.{follow_most, in_stretch, stretch_in, last_filtered, of_between, below_of}
+use Rattle.vbucket.proofs.Parts.{follow_most, in_stretch, within_stretch, last_filtered, between_tested, below_of}
 use Rattle.vbucket.proofs.Counting.{OneMore, InPlace, one_more, lasts_newer, Fit, fit_alone, fit_other, fit_newer, live_new, live_one, stretch_sealed, stretch_joined, stretch_alone}
 use Rattle.vb_calls.specs.Spans.{live_of, live_in, live_weight}
 use Rattle.std.specs.Prelude.{nat_le, ◌&&◌}
@@ -66,7 +66,7 @@ newer_shares at h w d c r l o t s a nd nc x i e =
     let id = last_in (touches (Slot.Pending c.key)) h d s in
     let kd : d.key ≡ c.key = (bytes_eq-Decides d.key c.key).0 id.1 in
     let dl = (rises_in 0 at h d r id.0).1 in
-    let dw : IsIn d (stretch w.above w.last h) = stretch_in w.above w.last h d id.0 a (omega arith) in
+    let dw : IsIn d (stretch w.above w.last h) = within_stretch w.above w.last h d id.0 a (omega arith) in
     let nx : is_durable x.act ≡ false = ⊎_elim
     (λ (q : x.seq < d.seq). (subst (λ p. MayShare p x d) o (t x d i dw (e ∙ sym kd) q)).0)
     (λ (q : d.seq ≤ x.seq). let same : x ≡ d = same_seq 0 at h x d r k.0 id.0 (omega arith) in subst (λ (y : Change). is_durable y.act ≡ false) (sym same) nd)
@@ -118,7 +118,7 @@ enters_newer at h w d c r l o s a =
     let cs = stretch w.above w.last h in
     let i = last_in (touches (Slot.Pending c.key)) h d s in
     let m = (rises_in 0 at h d r i.0).1 in
-    let last = last_filtered (touches (Slot.Pending c.key)) (λ x. nat_lt w.above x.seq && nat_le x.seq w.last) h d s (of_between w.above w.last d.seq a (omega arith)) in
+    let last = last_filtered (touches (Slot.Pending c.key)) (λ x. nat_lt w.above x.seq && nat_le x.seq w.last) h d s (between_tested w.above w.last d.seq a (omega arith)) in
     subst (λ p. InPlace (live_of p (Enters h w c)) (live_of p cs) d c) (sym o) (lasts_newer cs d c last)
 
 -- a key's last change that does not lie in the span lies below it
@@ -166,7 +166,7 @@ stays_span h c w l is = record {
     kept x i =
         let k = in_stretch w.above w.last (h ++ c ∷ []) x i in
         let m : x.seq ≤ w.last = k.2 in
-        ⊎_elim (λ j. stretch_in w.above w.last h x j k.1 m) (λ e. let q = seq_of x c e in absurd (omega arith)) (in_pushed h c x k.0)
+        ⊎_elim (λ j. within_stretch w.above w.last h x j k.1 m) (λ e. let q = seq_of x c e in absurd (omega arith)) (in_pushed h c x k.0)
 
 -- the live changes of a new span
 pub alone_live : (at : ℕ) (h : List Change) (c : Change) (w : Span) → Rises 0 at h → at < c.seq → w.above ≡ at → w.last ≡ c.seq → live_in w (h ++ c ∷ []) ≡ c ∷ []
@@ -213,7 +213,7 @@ joined_span at h c w j r l u m a e o is both = record {
     old x i =
         let k = in_stretch j.above j.last (h ++ c ∷ []) x i in
         let b : j.above < x.seq = k.1 in
-        ⊎_elim (λ t. let n = (rises_in 0 at h x r t).1 in inl (stretch_in w.above w.last h x t (omega arith) (omega arith))) (λ q. inr q) (in_pushed h c x k.0)
+        ⊎_elim (λ t. let n = (rises_in 0 at h x r t).1 in inl (within_stretch w.above w.last h x t (omega arith) (omega arith))) (λ q. inr q) (in_pushed h c x k.0)
 
     most : (x : Change) → IsIn x (stretch w.above w.last h) → x.seq < c.seq
     most x i = let k : x.seq ≤ w.last = (in_stretch w.above w.last h x i).2 in omega arith

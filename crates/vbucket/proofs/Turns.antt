@@ -18,7 +18,7 @@ use Rattle.vb_calls.specs.Spans.{all_spans}
 use Rattle.vb_calls.specs.State.{Plain, is_active, quiet_reply, refusal_reply}
 use Rattle.vbucket.specs.Settles.{Settles}
 use Rattle.vbucket.specs.Turns.{Turned, Steady, Leads, RolesEndStreams, MayLead, Led, PromotionsLead, PromotesAs, PromotesExactly, TurnsAs, TurnsExactly}
-use Rattle.vbucket.proofs.Adopting.{lacks_of, of_lacks}
+use Rattle.vbucket.proofs.Adopting.{lacks_of, lacks_tested}
 use Rattle.vbucket.proofs.Asks.{role_of, not_role, zero_of, not_zero}
 use Rattle.vbucket.proofs.Receiving.{never}
 use Rattle.vbucket.proofs.RowIs.{RowIs, StartIs, Expires, Turns, leading, row_is}
@@ -70,7 +70,7 @@ may false false true e f g = refl
 may false false false e f g = cc
 
 pub free : (vb : Plain) (uuid : ℕ) → MayLead vb uuid → promote_refusal vb uuid ≡ None
-free vb uuid m = may (is_active vb.role) (uuid == 0) (log_lacks vb.log uuid) (is_passive vb.role m.passive) (is_branch uuid m.branch) (of_lacks vb.log uuid m.lacks)
+free vb uuid m = may (is_active vb.role) (uuid == 0) (log_lacks vb.log uuid) (is_passive vb.role m.passive) (is_branch uuid m.branch) (lacks_tested vb.log uuid m.lacks)
 
 same : (a b : ℕ) → a ≡ b → (a == b) ≡ true
 same a b e = grind (arith, nat_tests)
@@ -111,7 +111,7 @@ promotes vb uuid false false true e f g = record {
 }
 promotes vb uuid false false false e f g = record {
   foreign = (λ q. cc, λ k. absurd (not_role vb.role e k));
-  none = (λ q. (not_role vb.role e, inr (λ k. never (log_lacks vb.log uuid) g (of_lacks vb.log uuid k))), λ k. refl);
+  none = (λ q. (not_role vb.role e, inr (λ k. never (log_lacks vb.log uuid) g (lacks_tested vb.log uuid k))), λ k. refl);
 }
 
 pub promotes_exactly : PromotesExactly

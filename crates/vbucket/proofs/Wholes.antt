@@ -22,7 +22,7 @@ use Rattle.vbucket.proofs.Backing.{backed_turned, linked_new}
 use Rattle.vbucket.specs.Laws.{Sound, Follow, IsSpan}
 use Rattle.vbucket.specs.Wholes.{BatchesAreWhole, LoadsSound}
 use Rattle.vbucket.proofs.Covering.{slot_live}
-use Rattle.vbucket.proofs.Parts.{Among, below_of, between_of, bounded, filter_in, filtered, found, from_zero, in_filter, in_live, last_filtered, live_rises, of_below, split}
+use Rattle.vbucket.proofs.Parts.{Among, below_of, between_of, bounded, kept_in_filter, filtered, found, from_zero, in_filter, in_live, last_filtered, live_rises, below_tested, split}
 use Rattle.vbucket.proofs.Soundness.{idle_own}
 use Rattle.vbucket.proofs.Spanned.{spanned_none}
 use Rattle.vbucket.proofs.Taking.{among_all}
@@ -81,8 +81,8 @@ module _ (vb : Plain) (w : Span) (sound : Sound vb) (e : unflushed_span vb ≡ S
   item_there slot c q l =
       let b = begins in
       let here = ap (last_by (touches slot)) (split (λ d. nat_lt w.above d.seq) (λ d. nat_le d.seq w.last) h)
-      ∙ last_filtered (touches slot) (λ d. nat_lt w.above d.seq) (upto h w.last) c q (of_below w.above c.seq (omega arith)) in
-      filter_in (λ c. nat_lt from c.seq) (live_in w h) c (slot_live w.above w.last w.origin slot c (stretch w.above w.last h) stretch_rises is_span.tidy here) (of_below from c.seq l)
+      ∙ last_filtered (touches slot) (λ d. nat_lt w.above d.seq) (upto h w.last) c q (below_tested w.above c.seq (omega arith)) in
+      kept_in_filter (λ c. nat_lt from c.seq) (live_in w h) c (slot_live w.above w.last w.origin slot c (stretch w.above w.last h) stretch_rises is_span.tidy here) (below_tested from c.seq l)
 
   pub covered : Covers items h from w.last
   covered = remains_cover at h items from w.last is_span.ends.0 r0 up is_span.ends.1 is_span.ends.2 (record {

@@ -14,8 +14,8 @@ use Rattle.vb_calls.specs.Plain.{Plain, plain_step}
 use Rattle.vbucket.specs.Laws.{is_denial}
 
 -- whatever is said, the answer has the failover log and the last seqno; and none is granted under the number 0
-abbrev pub AsksAreTold : Type 0
-AsksAreTold = (vb : Plain) (id : ℕ) (ask : StreamAsk) (sync : Bool)
+abbrev pub AnswersHaveLog : Type 0
+AnswersHaveLog = (vb : Plain) (id : ℕ) (ask : StreamAsk) (sync : Bool)
     → (said : AskAnswer) × ((plain_step vb (OpenStream id ask sync)).1.answer ≡ Asked said vb.log vb.position.at) × (id ≡ 0 → is_denial said ≡ true)
 
 -- a stream of this number is among these
@@ -32,8 +32,8 @@ abbrev pub IsRanged : StreamAsk → Type 0
 IsRanged ask = (ask.ss ≤ ask.start) × (ask.start ≤ ask.se) × (ask.start ≤ ask.end)
 
 -- this is said
-abbrev pub IsSaid : Plain → Plain × VbReply → AskAnswer → Type 0
-IsSaid vb after said = after.1.answer ≡ Asked said vb.log vb.position.at
+abbrev pub AnswersWith : Plain → Plain × VbReply → AskAnswer → Type 0
+AnswersWith vb after said = after.1.answer ≡ Asked said vb.log vb.position.at
 
 -- nothing refuses the request
 abbrev pub IsHeard : Plain → ℕ → StreamAsk → Type 0
@@ -41,12 +41,12 @@ IsHeard vb id ask = (vb.role ≡ Active) × (IsTaken vb id → ⊥) × IsRanged 
 
 -- 0x07 unless the vBucket is active, then 0x02 for a number that is taken, then 0x22 for a range that is none; else the failover log decides, and where it lets the request continue one stream more is open, at the request's start
 pub record OpensAs (vb : Plain) (id : ℕ) (ask : StreamAsk) (sync : Bool) (after : Plain × VbReply) : Type 0 where
-  pub foreign : IsSaid vb after (Refuse 7) ↔ (vb.role ≢ Active)
-  pub taken : IsSaid vb after (Refuse 2) ↔ ((vb.role ≡ Active) × IsTaken vb id)
-  pub outside : IsSaid vb after (Refuse 34) ↔ ((vb.role ≡ Active) × (IsTaken vb id → ⊥) × (IsRanged ask → ⊥))
-  pub back : (to : ℕ) → IsSaid vb after (RollTo to) ↔ (IsHeard vb id ask × (rule vb.log vb.position.at ask ≡ Roll to))
-  pub go : IsSaid vb after Go ↔ (IsHeard vb id ask × (rule vb.log vb.position.at ask ≡ Continue))
-  pub opens : IsSaid vb after Go → after.0 ≡ record vb { streams = vb.streams ++ record { id = id; ask = ask; sync = sync; place = ask.start; taken = false } ∷ [] }
+  pub foreign : AnswersWith vb after (Refuse 7) ↔ (vb.role ≢ Active)
+  pub taken : AnswersWith vb after (Refuse 2) ↔ ((vb.role ≡ Active) × IsTaken vb id)
+  pub outside : AnswersWith vb after (Refuse 34) ↔ ((vb.role ≡ Active) × (IsTaken vb id → ⊥) × (IsRanged ask → ⊥))
+  pub back : (to : ℕ) → AnswersWith vb after (RollTo to) ↔ (IsHeard vb id ask × (rule vb.log vb.position.at ask ≡ Roll to))
+  pub go : AnswersWith vb after Go ↔ (IsHeard vb id ask × (rule vb.log vb.position.at ask ≡ Continue))
+  pub opens : AnswersWith vb after Go → after.0 ≡ record vb { streams = vb.streams ++ record { id = id; ask = ask; sync = sync; place = ask.start; taken = false } ∷ [] }
 
 -- each request is answered in this order
 abbrev pub OpensExactly : Type 0

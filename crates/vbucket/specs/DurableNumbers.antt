@@ -57,12 +57,12 @@ abbrev pub one_abort : Change
 one_abort = record { seq = 2; key = 7 ∷ []; act = act.Abort 1 }
 
 -- it was committed by the seqno 2, on the branch 9, with the CAS 1
-abbrev pub told_three : Resolved
-told_three = record { waiter = 3; how = resolution.Committed 9 2 1 }
+abbrev pub resolved_three : Resolved
+resolved_three = record { waiter = 3; how = resolution.Committed 9 2 1 }
 
 -- whether it stands is not known
-abbrev pub told_none : Resolved
-told_none = record { waiter = 3; how = resolution.Ambiguous }
+abbrev pub resolved_unknown : Resolved
+resolved_unknown = record { waiter = 3; how = resolution.Ambiguous }
 
 -- the write is prepared; while it is, its key reads nothing and is not written
 pub record PreparesOne : Type 0 where
@@ -74,20 +74,20 @@ pub record PreparesOne : Type 0 where
 
 -- at level 1 it is committed once the node 2 acknowledged it; at levels 2 and 3 once it is saved too
 pub record CommitsOne : Type 0 where
-  pub first : (plain_step (with_prepare Majority) (Ack 2 1)).1 ≡ resolves answer.Done (told_three ∷ []) 9 one_commit
+  pub first : (plain_step (with_prepare Majority) (Ack 2 1)).1 ≡ resolves answer.Done (resolved_three ∷ []) 9 one_commit
   pub other : (plain_step (with_prepare Majority) (Ack 4 1)).1 ≡ still answer.Done
   pub above : (plain_step (with_prepare Majority) (Ack 2 2)).1 ≡ still (answer.Status status.Erange)
   pub saved : (plain_step (with_prepare Majority) (FlushDone 1)).1 ≡ still (answer.Num 1)
   pub second : (plain_step (with_prepare MajorityPersistActive) (Ack 2 1)).1 ≡ still answer.Done
-  pub second_saved : (plain_step (plain_step (with_prepare MajorityPersistActive) (Ack 2 1)).0 (FlushDone 1)).1 ≡ resolves (answer.Num 1) (told_three ∷ []) 9 one_commit
-  pub third_saved : (plain_step (plain_step (with_prepare PersistMajority) (FlushDone 1)).0 (Ack 2 1)).1 ≡ resolves answer.Done (told_three ∷ []) 9 one_commit
-  pub alone : (plain_step (with_prepare Majority) (Chain (record { active = 1; others = [] }))).1 ≡ resolves answer.Done (told_three ∷ []) 9 one_commit
+  pub second_saved : (plain_step (plain_step (with_prepare MajorityPersistActive) (Ack 2 1)).0 (FlushDone 1)).1 ≡ resolves (answer.Num 1) (resolved_three ∷ []) 9 one_commit
+  pub third_saved : (plain_step (plain_step (with_prepare PersistMajority) (FlushDone 1)).0 (Ack 2 1)).1 ≡ resolves answer.Done (resolved_three ∷ []) 9 one_commit
+  pub alone : (plain_step (with_prepare Majority) (Chain (record { active = 1; others = [] }))).1 ≡ resolves answer.Done (resolved_three ∷ []) 9 one_commit
 
 -- at its deadline it is given up, and not before; another role leaves it, and the next active node commits it again, without anybody who waits
 pub record GivesOneUp : Type 0 where
   pub before : (plain_step (with_prepare Majority) (Tick 49)).1 ≡ still answer.Done
-  pub after : (plain_step (with_prepare Majority) (Tick 50)).1 ≡ resolves answer.Done (told_none ∷ []) 9 one_abort
-  pub follows : (plain_step (with_prepare Majority) Follow).1 ≡ record { answer = answer.Done; resolved = told_none ∷ []; ended = []; branch = 0; changes = [] }
+  pub after : (plain_step (with_prepare Majority) (Tick 50)).1 ≡ resolves answer.Done (resolved_unknown ∷ []) 9 one_abort
+  pub follows : (plain_step (with_prepare Majority) Follow).1 ≡ record { answer = answer.Done; resolved = resolved_unknown ∷ []; ended = []; branch = 0; changes = [] }
   pub again : (plain_step (plain_step (with_prepare Majority) Follow).0 (Promote 11)).1 ≡ resolves (answer.Branch 11 (Some 9) 1 1) [] 11 one_commit
   pub waits : (plain_step (plain_step (with_prepare PersistMajority) Follow).0 (Promote 11)).1 ≡ still (answer.Branch 11 (Some 9) 1 1)
   pub refused : (plain_step (plain_step (plain_step (with_prepare PersistMajority) Follow).0 (Promote 11)).0 (Get (7 ∷ []))).1 ≡ still (answer.Status status.SyncWriteReCommitInProgress)

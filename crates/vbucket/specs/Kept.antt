@@ -39,8 +39,8 @@ SealedIf true l m = SameChanges (sealed_list l) m
 SealedIf false l m = m ≡ l
 
 -- a change is queued, and the table takes it in
-abbrev pub kept_with : Kept → Origin → Change → Kept
-kept_with k origin c = record {
+abbrev pub kept_behind : Kept → Origin → Change → Kept
+kept_behind k origin c = record {
   rest = record k.rest { base = applied k.rest.base c };
   list = queued k.list origin c;
 }
@@ -48,7 +48,7 @@ kept_with k origin c = record {
 -- with a change of its own, which has this CAS
 abbrev pub kept_growth : Kept → Change → ℕ → Kept × VbReply
 kept_growth k c cas = (
-  record (kept_with k Own c) { rest = record (kept_with k Own c).rest { position = complete_position c.seq; last_cas = cas } },
+  record (kept_behind k Own c) { rest = record (kept_behind k Own c).rest { position = complete_position c.seq; last_cas = cas } },
   record { answer = answer.Stored (newest_branch k.rest.log) c.seq cas; resolved = []; ended = []; branch = newest_branch k.rest.log; changes = c ∷ [] },
 )
 
@@ -64,8 +64,8 @@ kept_store k write clock = kept_outcome (store_refusal k.rest write) k write (ne
 -- with a received change
 abbrev pub kept_received : Kept → Change → Kept × VbReply
 kept_received k c = (
-  record (kept_with k (Received k.rest.position.ss k.rest.position.se) c) {
-    rest = record (kept_with k (Received k.rest.position.ss k.rest.position.se) c).rest {
+  record (kept_behind k (Received k.rest.position.ss k.rest.position.se) c) {
+    rest = record (kept_behind k (Received k.rest.position.ss k.rest.position.se) c).rest {
       position = record { ss = k.rest.position.ss; se = k.rest.position.se; at = c.seq };
       last_cas = max k.rest.last_cas (cas_of c.act);
     };

@@ -120,7 +120,7 @@ AreCursors floor (s ∷ ss) n = ((floor ≤ s.place) × ((m : ℕ) × (n ≡ m +
 -- the numbers that a vBucket tells
 pub record CountsAs (vb : Plain) (after : Plain × VbReply) (windows items cursors : ℕ) : Type 0 where
   pub told : after.1.answer ≡ answer.Stat windows items cursors vb.saved vb.position.at
-  pub of_spans : windows ≡ length (all_spans vb.spans)
+  pub windows_counted : windows ≡ length (all_spans vb.spans)
   pub of_lives : items ≡ lives vb.held (all_spans vb.spans)
   pub of_cursors : AreCursors vb.floor vb.streams cursors
   pub stays : after.0 ≡ vb

@@ -45,12 +45,12 @@ abbrev pub with_next : List ℕ → Act → Plan → Plan
 with_next key a p = record { at = p.at + 1; changes = p.changes ++ next_change p.at key a ∷ []; resolved = p.resolved }
 
 -- one more outcome, for who waits
-abbrev pub also_told : ℕ → Resolution → List Resolved → List Resolved
-also_told waiter how resolved = resolved ++ outcome_for waiter how
+abbrev pub with_outcome : ℕ → Resolution → List Resolved → List Resolved
+with_outcome waiter how resolved = resolved ++ outcome_for waiter how
 
 -- a prepare is resolved by the next change, with this outcome
 abbrev pub with_resolved : Act → Resolution → Waiting → Plan → Plan
-with_resolved a how w p = record { at = p.at + 1; changes = p.changes ++ next_change p.at w.key a ∷ []; resolved = also_told w.waiter how p.resolved }
+with_resolved a how w p = record { at = p.at + 1; changes = p.changes ++ next_change p.at w.key a ∷ []; resolved = with_outcome w.waiter how p.resolved }
 
 -- a prepare is committed by the next change, on a branch
 abbrev pub with_committed : Act → ℕ → Waiting → Plan → Plan

@@ -26,16 +26,16 @@ abbrev pub with_cursor : Places → ℕ → ℕ → ℕ → Places
 with_cursor places floor id place = if nat_le floor place then registered places id place else places
 
 -- where the cursor of a number stands, if it is a stream's: 0 is not
-abbrev pub fed_place : Places → ℕ → Option ℕ
-fed_place places id = if id == 0 then None else place_of places id
+abbrev pub stream_place : Places → ℕ → Option ℕ
+stream_place places id = if id == 0 then None else place_of places id
 
 -- each cursor but 0 is that of a stream at or above the floor, and stands at its place
-pub record AreFed (places : Places) (floor : ℕ) (streams : List Stream) : Type 0 where
-  pub cursors : (id : ℕ) → cursor_in floor id streams ≡ fed_place places id
+pub record CursorsAreStreams (places : Places) (floor : ℕ) (streams : List Stream) : Type 0 where
+  pub cursors : (id : ℕ) → cursor_in floor id streams ≡ stream_place places id
   pub apart : AreApart streams
 
 -- the list ends at the last seqno, its cursors are those of the streams that are fed from it, and only an active vBucket has streams
 pub record IsSteady (role : Role) (at : ℕ) (l : Ckpts) (streams : List Stream) : Type 0 where
   pub high : high_of l ≡ at
-  pub fed : AreFed l.places l.floor streams
+  pub fed : CursorsAreStreams l.places l.floor streams
   pub idle : is_active role ≡ false → streams ≡ []

@@ -40,7 +40,7 @@ pub fn may_be_answered(entries: &[LogEntry]) -> bool
 }
 
 /// Whether a marker fits at a position, where `first` says that none came since the log was adopted.
-pub fn fits_marker(position: Position, first: bool, start: u64, end: u64) -> bool
+pub fn takes_marker(position: Position, first: bool, start: u64, end: u64) -> bool
     ensures { result ≡ spec.marker_fits position first start end }
 {
     start <= end && position.at <= end && end <= MAX_SEQ && (first || position.at == position.se)

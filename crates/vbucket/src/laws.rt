@@ -1,7 +1,7 @@
 //! What holds of every vBucket by its rules, each the contract of a function that does nothing.
 ghost use Rattle.vbucket.specs.Laws.{StartsSound, StaysSound, RefusalsKeep, ForeignExactly, FullExactly, AgainExactly, PendingExactly, PresentExactly, AbsentExactly, ReadsExactly, WritesAreRead, HeldGrows, CasNeverFalls};
 ghost use Rattle.vbucket.specs.Adopting.{AnswerableExactly};
-ghost use Rattle.vbucket.specs.Asks.{AsksAreTold, OpensExactly};
+ghost use Rattle.vbucket.specs.Asks.{AnswersHaveLog, OpensExactly};
 ghost use Rattle.vbucket.specs.Closing.{ClosesExactly, PlacesExactly};
 ghost use Rattle.vbucket.specs.Filling.{LivesExactly, WeighsInNumbers, OwnFills, ReceivedFills, SealsExactly};
 ghost use Rattle.vbucket.specs.Receiving.{AdoptsExactly, AsksExactly, MarkersExactly, ReceivesExactly};
@@ -70,7 +70,7 @@ pub fn takes_are_snapshots()
 /// it, and none is granted under the number 0. Each refusal comes exactly where its reason holds and no
 /// earlier one does; else the failover log decides.
 pub fn requests_are_told()
-    ensures told { AsksAreTold }
+    ensures told { AnswersHaveLog }
     ensures exactly { OpensExactly }
 {}
 

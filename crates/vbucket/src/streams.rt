@@ -33,7 +33,7 @@ pub fn ids_of(alloc: Global, streams: &[Stream]) -> Result<Listed<u64>, AllocErr
 
 /// Takes away the open stream of a number, if there is one.
 pub fn close(streams: &mut Vec<Stream>, id: u64)
-    ensures { streams.new.items ≡ spec.closed_stream id streams.old.items }
+    ensures { streams.new.items ≡ spec.without_stream id streams.old.items }
 {
     streams.retain(|stream| stream.id != id);
 }
@@ -91,7 +91,7 @@ fn next_start(stream: &Stream) -> u64
 }
 
 /// Whether a stream's next snapshot has commits as sets and removals.
-fn is_next_plain(stream: &Stream) -> bool
+fn gives_plain(stream: &Stream) -> bool
     ensures { result ≡ spec.is_plain_next stream.now }
 {
     !stream.sync || (!stream.taken && next_start(stream) < stream.ask.start)
@@ -143,7 +143,7 @@ fn items_for(
 ) -> Result<Listed<Change>, AllocError>
     ensures { IfOk result (λ items. items ≡ sent_items stream.now changes.now) }
 {
-    let as_plain = is_next_plain(stream);
+    let as_plain = gives_plain(stream);
     let mut items = Listed::new(alloc);
     for change in changes {
         if sees(stream, &change.act) {

@@ -5,12 +5,12 @@ ghost use Rattle.vb_types.specs.declared.position.TheConstants.{MAX_SEQ as last_
 ghost use Rattle.vb_types.specs.declared.role.Role.TheVariants.{Active as ActiveRole};
 ghost use Rattle.vb_calls.specs.Plain.{Plain, plain_step, new_vb};
 ghost use Rattle.cursor_set.specs.Cursors.{place_of};
-ghost use Rattle.vbucket.specs.Kept.{SameChanges, kept_with, kept_store, kept_place, kept_take};
+ghost use Rattle.vbucket.specs.Kept.{SameChanges, kept_behind, kept_store, kept_place, kept_take};
 ghost use Rattle.vbucket.specs.Stands.{MayFail, StandsFor};
 ghost use Rattle.vbucket.specs.Stepping.{IsOther};
 ghost use Rattle.vb_calls.specs.State.{complete_position, first_log, is_active, is_left, newest_branch, get_row, log_row, pending_of, quiet_reply, show_row};
 ghost use Rattle.vb_calls.specs.Writes.{key_refusal, lacks_seqnos, store_refusal, write_change};
-ghost use Rattle.vb_calls.specs.Streams.{asked_reply, open_refusal, open_row, stream_at};
+ghost use Rattle.vb_calls.specs.Streams.{ask_reply, open_refusal, open_row, stream_at};
 ghost use Rattle.vb_calls.specs.Roles.{parent_of};
 ghost use Rattle.vb_calls.specs.Forms.{HasForm, TakesMemory};
 ghost use Rattle.vb_calls.specs.declared.calls.VbAnswer.TheVariants.{Asked};
@@ -263,7 +263,7 @@ impl VBucket {
     ) -> Result<Listed<Change>, AllocError>
         requires above { self.old.rest.position.at < change.seq }
         requires at { position.at ≡ change.seq }
-        ensures new { OnOk result (self.new ≡ record (kept_with self.old origin change) { rest = record (kept_with self.old origin change).rest { position = position; last_cas = last_cas } }) }
+        ensures new { OnOk result (self.new ≡ record (kept_behind self.old origin change) { rest = record (kept_behind self.old origin change).rest { position = position; last_cas = last_cas } }) }
         ensures changes { IfOk result (λ changes. changes ≡ change ∷ []) }
         ensures err { OnErr result (self.new ≡ self.old) }
     {
@@ -309,7 +309,7 @@ impl VBucket {
 
     /// What is said to a request, with the failover log and the last seqno.
     fn tell_asked(&self, said: AskAnswer) -> Result<VbReply, AllocError>
-        ensures reply { IfOk result (λ reply. reply ≡ asked_reply self.now.rest said) }
+        ensures reply { IfOk result (λ reply. reply ≡ ask_reply self.now.rest said) }
         ensures bounded { length self.now.rest.log ≤ log_limit }
     {
         let log = self.entries()?;

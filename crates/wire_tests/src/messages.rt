@@ -4,7 +4,9 @@ ghost use Rattle.mcbp_dcp.specs.DcpFrames.{IsSpelled};
 
 use crate::reading::frame_of;
 use bytes::BytesMut;
-use mcbp_dcp::{DcpFault, DcpMsg, Mutation, Prepare, Resolution, StreamTold, read_dcp, write_dcp};
+use mcbp_dcp::{
+    DcpFault, DcpMsg, Mutation, Prepare, Resolution, StreamVerdict, read_dcp, write_dcp,
+};
 use mcbp_frame::Frame;
 use std::alloc::{AllocError, Global};
 use std::test::Fail;
@@ -214,9 +216,9 @@ fn outline_resolution<'a>(name: &'static str, change: &'a Resolution) -> Outline
 }
 
 /// The same of an answer to a request for a stream: of a log its first two entries and its length.
-fn outline_told(told: &StreamTold) -> Outline<'_> {
+fn outline_told(told: &StreamVerdict) -> Outline<'_> {
     match told {
-        StreamTold::Go { log } => match log.as_slice() {
+        StreamVerdict::Go { log } => match log.as_slice() {
             [one, two] => (
                 "streams",
                 [one.uuid, one.seq, two.uuid, two.seq, 0, 0, 0, 0],
@@ -225,8 +227,8 @@ fn outline_told(told: &StreamTold) -> Outline<'_> {
             ),
             _ => ("another log", [0; 8], b"", b""),
         },
-        StreamTold::Roll { point } => outline_number("rolls back", *point),
-        StreamTold::Refused { status } => outline_number("refuses", *status as u64),
+        StreamVerdict::Roll { point } => outline_number("rolls back", *point),
+        StreamVerdict::Refused { status } => outline_number("refuses", *status as u64),
     }
 }
 
@@ -253,9 +255,9 @@ fn is_spelled(message: &DcpMsg) -> bool
         DcpMsg::Commit { change } => change.key.len() == 3,
         DcpMsg::Abort { change } => change.key.len() == 3,
         DcpMsg::StreamAnswer { told } => match told {
-            StreamTold::Go { log } => log.as_slice().len() == 2,
-            StreamTold::Roll { .. } => true,
-            StreamTold::Refused { status } => *status == 0x0102,
+            StreamVerdict::Go { log } => log.as_slice().len() == 2,
+            StreamVerdict::Roll { .. } => true,
+            StreamVerdict::Refused { status } => *status == 0x0102,
         },
         _ => true,
     }

@@ -1,6 +1,6 @@
 //! What a vBucket's replies say to a dial.
 ghost use Rattle.std.specs.Prelude.{◌≡◌};
-ghost use Rattle.node_core.specs.Dials.{is_done, follower_ask, due_told, saved_told};
+ghost use Rattle.node_core.specs.Dials.{is_done, follower_ask, due_of_reply, saved_of_reply};
 
 use vb_calls::{VbAnswer, VbReply};
 use vb_types::StreamAsk;
@@ -29,8 +29,8 @@ pub fn follower_ask(reply: &Option<VbReply>) -> Option<StreamAsk>
 }
 
 /// The seqno that the vBucket may acknowledge, 0 for none.
-pub fn due_told(reply: &Option<VbReply>) -> u64
-    ensures { result ≡ due_told reply.now }
+pub fn due_of_reply(reply: &Option<VbReply>) -> u64
+    ensures { result ≡ due_of_reply reply.now }
 {
     match reply {
         Some(made) => match made.answer {
@@ -42,8 +42,8 @@ pub fn due_told(reply: &Option<VbReply>) -> u64
 }
 
 /// Up to where the vBucket has written all down.
-pub fn saved_told(reply: &Option<VbReply>) -> u64
-    ensures { result ≡ saved_told reply.now }
+pub fn saved_of_reply(reply: &Option<VbReply>) -> u64
+    ensures { result ≡ saved_of_reply reply.now }
 {
     match reply {
         Some(made) => match made.answer {

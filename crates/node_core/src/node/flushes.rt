@@ -1,6 +1,6 @@
 //! What a node writes down of a vBucket.
 ghost use Rattle.std.specs.Prelude.{◌≡◌, IfOk, OnErr};
-ghost use Rattle.{node_core.specs.Flushing.{flush_if, flush_at, flush_told, took_told, saved_told}, node_core.specs.Outcomes.{Wrote}, node_core.specs.Outs.{flush_out, flush_by}};
+ghost use Rattle.{node_core.specs.Flushing.{flush_if, flush_at, flush_result, took_result, saved_of_reply}, node_core.specs.Outcomes.{Wrote}, node_core.specs.Outs.{flush_out, flush_by}};
 ghost use Rattle.vb_calls.specs.Jobs.{RanJob, BeganJob};
 ghost use Rattle.vb_calls.specs.declared.journals.Flushed.TheVariants.{Done};
 
@@ -13,8 +13,8 @@ use vb_events::{Answer, Cause, Event};
 use vb_types::{FlushPart, Listed};
 
 /// Up to where a vBucket counts as saved, as it replied.
-fn saved_told(reply: &Option<VbReply>) -> u64
-    ensures { result ≡ saved_told reply.now }
+fn saved_of_reply(reply: &Option<VbReply>) -> u64
+    ensures { result ≡ saved_of_reply reply.now }
 {
     match reply {
         Some(told) => match told.answer {
@@ -27,7 +27,7 @@ fn saved_told(reply: &Option<VbReply>) -> u64
 
 /// What taking a batch came to: the line tells of it, unless it has no change.
 fn took_out(alloc: Global, batch: Event, count: u64) -> Alloc<NodeOut>
-    ensures { IfOk result (λ out. out ≡ flush_out (took_told batch count)) }
+    ensures { IfOk result (λ out. out ≡ flush_out (took_result batch count)) }
 {
     let answer = Answer::Number(count);
     if count == 0 {
@@ -41,9 +41,9 @@ fn took_out(alloc: Global, batch: Event, count: u64) -> Alloc<NodeOut>
 /// What a batch that is done came to: the changes that the vBucket made then, up to where it counts as
 /// saved, and what became of durable writes.
 fn done_out(alloc: Global, node: u8, vb: u16, reply: Option<VbReply>) -> Alloc<NodeOut>
-    ensures { IfOk result (λ out. out ≡ flush_out (flush_told node vb (Done reply))) }
+    ensures { IfOk result (λ out. out ≡ flush_out (flush_result node vb (Done reply))) }
 {
-    let saved = Answer::Number(saved_told(&reply));
+    let saved = Answer::Number(saved_of_reply(&reply));
     match reply {
         Some(made) => resolving_out(alloc, node, vb, made, saved),
         None => Ok(NodeOut::answered(alloc, saved)),
@@ -51,8 +51,8 @@ fn done_out(alloc: Global, node: u8, vb: u16, reply: Option<VbReply>) -> Alloc<N
 }
 
 /// What a step of writing down came to.
-fn flush_told(alloc: Global, node: u8, vb: u16, came: Flushed) -> Alloc<NodeOut>
-    ensures { IfOk result (λ out. out ≡ flush_out (flush_told node vb came)) }
+fn flush_result(alloc: Global, node: u8, vb: u16, came: Flushed) -> Alloc<NodeOut>
+    ensures { IfOk result (λ out. out ≡ flush_out (flush_result node vb came)) }
 {
     let answer = match came {
         Flushed::Took { ss, se, at, count } => {
@@ -91,7 +91,7 @@ impl<A: VbAccess, J: Journals> Node<A, J> {
             return Ok(NodeOut::refused(self.alloc, Cause::UnknownVb));
         }
         let came = self.disks.flush(v, part, &mut self.vbs)?;
-        flush_told(self.alloc, self.number, v, came)
+        flush_result(self.alloc, self.number, v, came)
     }
 
     /// Makes a step of writing a vBucket down. An `Err` leaves connections and dials; what it began

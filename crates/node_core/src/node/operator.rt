@@ -1,11 +1,11 @@
 //! What a node does for an operator.
 ghost use Rattle.std.specs.Prelude.{◌≡◌, ◌≢◌, ◌+◌, ◌++◌, ◌≤◌, ℕ, [], None, Some, is_some, IfOk, OnErr, vec_len, vec_capacity};
 ghost use Rattle.{std.specs.Option.{option_map}, node_core.specs.Admin.{admin_job, noted_job, role_lines}, node_core.specs.Handing.{HandsOut}, vb_calls.specs.Jobs.{RanJob, BeganJob}};
-ghost use Rattle.{node_core.specs.Outcomes.{value_at, Renumbered, conn_told, Administered}, node_core.specs.Outs.{cut_lines, done_out}, slab.specs.Slab.{get}};
+ghost use Rattle.{node_core.specs.Outcomes.{value_at, Renumbered, conn_ended, Administered}, node_core.specs.Outs.{cut_lines, done_out}, slab.specs.Slab.{get}};
 
 use crate::conn::tell_all;
 use crate::readings::told;
-use crate::roles::{AdminTold, RoleLines, all_lines};
+use crate::roles::{AdminResult, RoleLines, all_lines};
 use crate::{AdminCall, Alloc, Node, NodeOut};
 use bytes::Bytes;
 use vb_calls::{Journals, VbAccess, VbReply, Wrote};
@@ -31,7 +31,7 @@ impl<A: VbAccess, J: Journals> Node<A, J> {
     /// ended. These are the lines that tell of it. Takes no memory.
     fn set_role(&mut self, v: u16, lines: Listed<Event>, ids: &[u64]) -> NodeOut
         ensures said { result ≡ record (done_out lines []) { closed = is_some (value_at self.old.dials v) } }
-        ensures conns { (key : ℕ) → get self.new.conns key ≡ option_map (conn_told v (Some ids.now)) (get self.old.conns key) }
+        ensures conns { (key : ℕ) → get self.new.conns key ≡ option_map (conn_ended v (Some ids.now)) (get self.old.conns key) }
         ensures dials { Renumbered self.old.dials self.new.dials v None }
         ensures rest { self.new ≡ record self.old { conns = self.new.conns; dials = self.new.dials } }
     {
@@ -46,7 +46,7 @@ impl<A: VbAccess, J: Journals> Node<A, J> {
         &mut self,
         v: u16,
         room: Vec<Event>,
-        told: AdminTold,
+        told: AdminResult,
         wrote: Wrote,
     ) -> Alloc<NodeOut>
         requires empty { room.items ≡ [] }
@@ -55,8 +55,8 @@ impl<A: VbAccess, J: Journals> Node<A, J> {
         ensures err { OnErr result (self.new ≡ self.old) }
     {
         match told {
-            AdminTold::Out(out) => Ok(out.noted(wrote)),
-            AdminTold::Role(lines, ids, resolved) => {
+            AdminResult::Out(out) => Ok(out.noted(wrote)),
+            AdminResult::Role(lines, ids, resolved) => {
                 let lines = self.role_lines(v, room, lines)?;
                 let turned = self.set_role(v, lines, ids.as_slice());
                 Ok(turned.resolving(resolved).noted(wrote))
@@ -70,7 +70,7 @@ impl<A: VbAccess, J: Journals> Node<A, J> {
         ensures err { OnErr result (BeganJob A.step J.asks (noted_job v call) self.old.vbs self.old.disks self.new.vbs self.new.disks) }
         ensures rest { self.new ≡ record self.old { vbs = self.new.vbs; disks = self.new.disks } }
     {
-        let asked = call.of_vb();
+        let asked = call.vb_call_of();
         if call.changes_role() {
             return self.disks.turn_role(v, asked, &mut self.vbs);
         }

@@ -1,6 +1,6 @@
 //! Calls to an active vBucket that let it resolve durable writes.
 ghost use Rattle.std.specs.Prelude.{◌≡◌, IfOk, OnErr};
-ghost use Rattle.{node_core.specs.Flushing.{activity_asked, activity_told, chain_set, settled_told, ticked}, node_core.specs.Outcomes.{Settles}};
+ghost use Rattle.{node_core.specs.Flushing.{activity_requested, activity_of_reply, chain_changed, settled_result, ticked}, node_core.specs.Outcomes.{Settles}};
 ghost use Rattle.{node_core.specs.Outs.{flush_out}, vb_calls.specs.Programs.{Began, Ran}};
 
 use crate::changes::resolving_out;
@@ -13,7 +13,7 @@ use vb_types::Status;
 
 /// What such a call came to; a vBucket that is not active has the wrong role.
 fn settled_out(alloc: Global, node: u8, vb: u16, reply: Option<VbReply>) -> Alloc<NodeOut>
-    ensures { IfOk result (λ out. out ≡ flush_out (settled_told node vb reply)) }
+    ensures { IfOk result (λ out. out ≡ flush_out (settled_result node vb reply)) }
 {
     let Some(reply) = reply else {
         return Ok(NodeOut::refused(alloc, Cause::UnknownVb));
@@ -29,7 +29,7 @@ fn settled_out(alloc: Global, node: u8, vb: u16, reply: Option<VbReply>) -> Allo
 
 /// Whether there is a vBucket, and whether it is active, by its reply to a promotion to the branch 0.
 fn activity_of(reply: &Option<VbReply>) -> Option<bool>
-    ensures { result ≡ activity_told reply.now }
+    ensures { result ≡ activity_of_reply reply.now }
 {
     match reply {
         Some(told) => Some(matches!(told.answer, VbAnswer::Status(Status::NotMyVbucket))),
@@ -41,8 +41,8 @@ impl<A: VbAccess, J: Journals> Node<A, J> {
     /// Whether there is a vBucket of this number, and whether it is active. It changes nothing: no
     /// vBucket takes the branch 0, and an active one says that it is.
     pub fn is_active(&mut self, v: u16) -> Alloc<Option<bool>>
-        ensures ok { IfOk result (λ active. Ran A.step (activity_asked v) self.old.vbs active self.new.vbs) }
-        ensures err { OnErr result (Began A.step (activity_asked v) self.old.vbs self.new.vbs) }
+        ensures ok { IfOk result (λ active. Ran A.step (activity_requested v) self.old.vbs active self.new.vbs) }
+        ensures err { OnErr result (Began A.step (activity_requested v) self.old.vbs self.new.vbs) }
         ensures rest { self.new ≡ record self.old { vbs = self.new.vbs } }
     {
         let reply = self.vbs.call(v, VbCall::Promote { uuid: 0 })?;
@@ -56,9 +56,9 @@ impl<A: VbAccess, J: Journals> Node<A, J> {
     /// active. An `Err` leaves connections and dials; the chain may be set, and of the changes that the
     /// vBucket made then no line tells.
     pub fn set_chain(&mut self, v: u16, chain: Chain) -> Alloc<NodeOut>
-        ensures ok { IfOk result (λ out. Settles A.step (chain_set self.old.number v chain) self.old out self.new) }
+        ensures ok { IfOk result (λ out. Settles A.step (chain_changed self.old.number v chain) self.old out self.new) }
         ensures err { OnErr result (self.new ≡ record self.old { vbs = self.new.vbs }) }
-        ensures began { OnErr result (Began A.step (chain_set self.old.number v chain) self.old.vbs self.new.vbs) }
+        ensures began { OnErr result (Began A.step (chain_changed self.old.number v chain) self.old.vbs self.new.vbs) }
     {
         let reply = self.vbs.call(v, VbCall::Chain { chain })?;
         settled_out(self.alloc, self.number, v, reply)

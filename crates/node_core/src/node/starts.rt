@@ -1,6 +1,6 @@
 //! A vBucket that was active takes its new branch, once its node is loaded.
 ghost use Rattle.std.specs.Prelude.{◌≡◌, ◌++◌, ◌+◌, ◌≤◌, [], IfOk, OnErr, vec_len, vec_capacity};
-ghost use Rattle.{node_core.specs.Admin.{MadeChanges}, node_core.specs.Loading.{branch_in, branch_told, start_job}, node_core.specs.Outs.{start_by}};
+ghost use Rattle.{node_core.specs.Admin.{MadeChanges}, node_core.specs.Loading.{branch_in, branch_lines_of_reply, start_job}, node_core.specs.Outs.{start_by}};
 ghost use Rattle.vb_calls.specs.Jobs.{RanJob, BeganJob};
 
 use crate::changes::tell_changes;
@@ -49,7 +49,7 @@ fn start_lines(
 ) -> Alloc<Vec<Event>>
     requires empty { room.items ≡ [] }
     requires room { vec_len room + 1 ≤ vec_capacity room }
-    ensures ok { IfOk result (λ lines. lines.items ≡ branch_told node vb reply.now) }
+    ensures ok { IfOk result (λ lines. lines.items ≡ branch_lines_of_reply node vb reply.now) }
     ensures sure { OnErr result (MadeChanges reply.now) }
 {
     if let Some(made) = reply {

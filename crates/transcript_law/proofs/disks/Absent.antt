@@ -1,15 +1,15 @@
 -- a vBucket that is not made at a node that is running: nothing was written down of it, and it holds nothing
 use Rattle.std.specs.Prelude.{◌≡◌, ◌∷◌}
 use Rattle.transcript_law.proofs.Words.{ℕ, false, List, [], refl, ap, ◌∙◌, subst, arith, inl, Option, Some, None, is_some, Change, Cluster, Chronicle, Member, PlainWorld, Position, Rises, rises_in}
-use Rattle.{branch_model.specs.Journals.{log_of, place_of}, cluster_model.specs.Clusters.{Disk}, disk_journals.specs.Books.{Book}, transcript_law.specs.Chronicles.{DiskTold, resting}, vb_calls.specs.Shelves.{Shelf}}
-use Rattle.transcript_law.proofs.{invariant.Agreement.{AgreesAt, AgreesIn, BookBy, BookIs, Busy, IsAway, Power, is_down, power_of, shelf_of, vb_of, vb_row}, invariant.Seats.{seat}}
+use Rattle.{branch_model.specs.Journals.{log_of, place_of}, cluster_model.specs.Clusters.{Disk}, disk_journals.specs.Books.{Book}, transcript_law.specs.Chronicles.{DiskKnown, resting}, vb_calls.specs.Shelves.{Shelf}}
+use Rattle.transcript_law.proofs.{invariant.Agreement.{AgreesAt, AgreesIn, BookBy, BookAgrees, Busy, IsAway, Power, is_down, power_of, shelf_of, vb_of, vb_row}, invariant.Seats.{seat}}
 
 -- its records are none
-no_book : (o : Option (List Book)) (v : ℕ) (shelf : Option Shelf) (told : DiskTold) (d : Disk) → is_some o ≡ false → BookBy o v shelf told d → d.book ≡ []
+no_book : (o : Option (List Book)) (v : ℕ) (shelf : Option Shelf) (told : DiskKnown) (d : Disk) → is_some o ≡ false → BookBy o v shelf told d → d.book ≡ []
 no_book None v shelf told d up x = x.0
 no_book (Some books) v shelf told d up x = cc
 
-empty_book : (p : Option Power) (v : ℕ) (shelf : Option Shelf) (told : DiskTold) (d : Disk) → is_down p ≡ false → BookIs p v shelf told d → d.book ≡ []
+empty_book : (p : Option Power) (v : ℕ) (shelf : Option Shelf) (told : DiskKnown) (d : Disk) → is_down p ≡ false → BookAgrees p v shelf told d → d.book ≡ []
 empty_book None v shelf told d up x = x.0
 empty_book (Some power) v shelf told d up x = no_book power.off v shelf told d up x
 

@@ -1,7 +1,7 @@
 -- lines that append a record: refused before that for a standing cause, or answered by what became of it, and by their node's arm
 use Rattle.std.specs.Prelude.{◌≡◌, ◌⊎◌, ◌==◌, ◌∷◌, ◌++◌, if◌then◌else◌, List, []}
-use Rattle.transcript_law.proofs.Words.{ℕ, Bool, true, false, refl, ap, sym, ◌∙◌, subst, inl, inr, ⊎_elim, eq-eqb, eqb-true, append-nil, append_assoc, Option, Some, None, is_some, Answer, Cause, Event, Status, Role, Plain, States, VbCall, VbReply, VbAnswer, plain_step, call_at, with_vb_at, after_job, after_job_bind, Ended, PlainLink, PlainNode, PlainWorld, Told, AdminCall, AdminTold, admin_call, admin_replied, called, called_at, no_node, shelf_in, vb_in}
-use Rattle.transcript_law.proofs.Words.{cut_off, own_link, unlinked, producer_node, node_if, with_ended, with_node_at, turned_after, turned_if, role_outcome, node_outcome, promote_refusal, promoted, turn_row, is_role, refusal_reply, in_role, ending_reply, role_told, refused_or, first_cause, refusal, EndsWith, IsPromotion, IsTurn, IsCarriedOut, fork_of, led, newest_branch, parent_of, stream_ids}
+use Rattle.transcript_law.proofs.Words.{ℕ, Bool, true, false, refl, ap, sym, ◌∙◌, subst, inl, inr, ⊎_elim, eq-eqb, eqb-true, append-nil, append_assoc, Option, Some, None, is_some, Answer, Cause, Event, Status, Role, Plain, States, VbCall, VbReply, VbAnswer, plain_step, call_at, with_vb_at, after_job, after_job_bind, Ended, PlainLink, PlainNode, PlainWorld, Told, AdminCall, AdminResult, admin_call, admin_replied, called, called_at, no_node, shelf_in, vb_in}
+use Rattle.transcript_law.proofs.Words.{cut_off, own_link, unlinked, producer_node, node_if, with_ended, with_node_at, turned_after, turned_if, role_outcome, node_outcome, promote_refusal, promoted, turn_row, is_role, refusal_reply, in_role, ending_reply, role_result, refused_or, first_cause, refusal, EndsWith, IsPromotion, IsTurn, IsCarriedOut, fork_of, led, newest_branch, parent_of, stream_ids}
 use Rattle.disk_journals.specs.Arms.{arm_over, armed_at, fuse_at, under}
 use Rattle.node_core.specs.Admin.{admin_job, admin_refused, noted_answer, promote_cause, role_at, role_noted}
 use Rattle.node_world.specs.Arms.{fired_by, fuse_or, lifted, placed, under_arm}
@@ -17,7 +17,7 @@ use Rattle.transcript_law.proofs.{invariant.Agreement.{IsArm}, disks.ArmedSteps.
 use Rattle.transcript_law.proofs.{invariant.Settled.{settled_commits, settled_on}, verbs.Settling.{settled_told}}
 use Rattle.transcript_law.specs.{LineAnswers.{IsNoted}, Plainness.{IsStanding}}
 use Rattle.vb_calls.specs.Settling.{settled}
-use Rattle.vb_calls.specs.Flushes.{is_refusal, log_told, note_role_job, role_after, role_job, role_told_job, wrote_of}
+use Rattle.vb_calls.specs.Flushes.{is_refusal, log_of_reply, note_role_job, role_of_call, role_job, role_told_job, wrote_of}
 use Rattle.vb_calls.specs.Jobs.{Call as Asks}
 use Rattle.vb_calls.specs.Shelves.{Append, DiskFailed, Fate, Shelf, Shelves, Stood, WasClosed, shelves_step}
 use Rattle.vb_calls.specs.declared.calls.Resolved.{Resolved}
@@ -33,8 +33,8 @@ abbrev pub fuse_in : PlainWorld → ℕ → Fuse
 fuse_in w n = (arm_in (w.nodes n)).fuse
 
 -- an append of a vBucket finds its journal closed
-abbrev pub ShutIs : Bool → PlainWorld → ℕ → ℕ → Type 0
-ShutIs closed w n v = (vb : Plain) → vb_in (w.nodes n) v ≡ Some vb → shut_in (shelf_in (w.nodes n) v) ≡ closed
+abbrev pub ShutAgrees : Bool → PlainWorld → ℕ → ℕ → Type 0
+ShutAgrees closed w n v = (vb : Plain) → vb_in (w.nodes n) v ≡ Some vb → shut_in (shelf_in (w.nodes n) v) ≡ closed
 
 -- what a line at the node n has come to that may append to a journal, which is closed or not, before it is asked whether its arm fired: it was refused for a standing cause, told of nothing, and all is as it was; or a record was to be appended, and its lines are these
 abbrev pub AppendCame : (List Event → Type 0) → Bool → PlainWorld → ℕ → Came → Type 0
@@ -46,15 +46,15 @@ AppendCame Lines closed w n o = ((why : Cause) × (o.1.answer ≡ Answer.No why)
 pub fuse_same : {w w' : PlainWorld} (n : ℕ) → Same w w' → fuse_in w' n ≡ fuse_in w n
 fuse_same n same = ap (λ o. (arm_in o).fuse) (same.0 n)
 
-fired_answer : (x : Fired) (n : ℕ) (out : Outcome) (w : PlainWorld) (told : Told) → (after_fire n out x (w, told)).1.answer ≡ answer_fired x told.answer
-fired_answer fired.No n out w told = refl
-fired_answer fired.Failed n out w told = refl
-fired_answer fired.Stopped n out w told = refl
+answer_after_fire : (x : Fired) (n : ℕ) (out : Outcome) (w : PlainWorld) (told : Told) → (after_fire n out x (w, told)).1.answer ≡ answer_fired x told.answer
+answer_after_fire fired.No n out w told = refl
+answer_after_fire fired.Failed n out w told = refl
+answer_after_fire fired.Stopped n out w told = refl
 
 -- it is answered as the arm says
 pub came_noted : (Lines : List Event → Type 0) (closed : Bool) (w : PlainWorld) (n : ℕ) (w' : PlainWorld) (told : Told) → IsArm (fuse_in w n) → AppendCame Lines closed w n (w', told) → IsNoted closed (fuse_in w n) (with_arm n w (w', told)).1.answer
 came_noted Lines closed w n w' told arm came =
-    subst (IsNoted closed (fuse_in w n)) (sym (fired_answer (fired_by (fuse_in w n) (fuse_in w' n)) n (arm_in (w.nodes n)).out w' told))
+    subst (IsNoted closed (fuse_in w n)) (sym (answer_after_fire (fired_by (fuse_in w n) (fuse_in w' n)) n (arm_in (w.nodes n)).out w' told))
     (⊎_elim (λ r. subst (λ a. IsNoted closed (fuse_in w n) (answer_fired (fired_by (fuse_in w n) (fuse_in w' n)) a)) (sym r.1) (noted_refused closed (fuse_in w n) (fuse_in w' n) r.0 (fuse_same n r.3) r.2))
     (λ m. subst (λ a. IsNoted closed (fuse_in w n) (answer_fired (fired_by (fuse_in w n) (fuse_in w' n)) a)) (sym m.3) (noted_ok closed (fuse_in w n) (fuse_in w' n) m.0 arm m.1 m.2)) came)
 
@@ -150,7 +150,7 @@ abbrev pub AndPosts : (List Event → Type 0) → (List Event → Type 0) → Li
 AndPosts Posts Own lines = (own posts : List Event) × (lines ≡ own ++ posts) × Own own × Posts posts
 
 -- a call for another role was refused for a standing cause, ended no stream and told of nothing, or it has these lines
-abbrev pub Turns : (List Event → Type 0) → VbReply → AdminTold → Type 0
+abbrev pub Turns : (List Event → Type 0) → VbReply → AdminResult → Type 0
 Turns Tail reply told = ((is_refusal reply.answer ≡ true) × ((why : Cause) × (told.answer ≡ Answer.No why) × IsStanding why) × (told.ended ≡ None) × (told.events ≡ []))
     ⊎ ((is_refusal reply.answer ≡ false) × (told.answer ≡ Answer.Ok) × Tail told.events × ((ids : List ℕ) × (told.ended ≡ Some ids)))
 
@@ -169,13 +169,13 @@ promotion_turns n v uuid vb = by (promote_refusal vb uuid)
         let told = settled_told n v reply now uuid (settled now).changes refl refl (ap newest_branch (settled_on now).log) in
         inr (refl, refl, (parent, fork, high, (settled now).changes, settled_commits now, ap (λ ls. Event.Branch n v uuid parent fork high ∷ Event.Role n v Role.Active ∷ ls) told), (stream_ids vb.streams, refl))
 
-pub rest_turns : (n v : ℕ) (new : Role) (vb : Plain) → (let reply = (turn_row vb new).1 in Turns (IsTurn n v new) reply (role_told n v new reply reply.answer))
+pub rest_turns : (n v : ℕ) (new : Role) (vb : Plain) → (let reply = (turn_row vb new).1 in Turns (IsTurn n v new) reply (role_result n v new reply reply.answer))
 rest_turns n v new vb = elim (is_role vb.role new)
-    as (λ b. let x : Plain × VbReply = if b then (vb, refusal_reply Status.NotMyVbucket) else (in_role vb new, ending_reply vb VbAnswer.Done) in Turns (IsTurn n v new) x.1 (role_told n v new x.1 x.1.answer))
+    as (λ b. let x : Plain × VbReply = if b then (vb, refusal_reply Status.NotMyVbucket) else (in_role vb new, ending_reply vb VbAnswer.Done) in Turns (IsTurn n v new) x.1 (role_result n v new x.1 x.1.answer))
     [ true ↦ inl (refl, (Cause.WrongRole, refl, tt), refl, refl) | false ↦ inr (refl, refl, refl, (_, refl)) ]
 
 -- what it leaves of the arm f, and what it tells
-abbrev RoleCame : (List Event → Type 0) → Bool → Fuse → (States × Shelves) × AdminTold → ℕ → Type 0
+abbrev RoleCame : (List Event → Type 0) → Bool → Fuse → (States × Shelves) × AdminResult → ℕ → Type 0
 RoleCame Tail closed f x v = (((why : Cause) × (x.1.answer ≡ Answer.No why) × IsStanding why) × (x.1.ended ≡ None) × (x.1.events ≡ []))
     ⊎ ((said : Wrote) × NotedBy closed f (fuse_or f (fuse_at x.0.1 v)) said × (said ≡ wrote.NotAsked → ⊥) × (x.1.answer ≡ noted_answer said Answer.Ok) × Tail x.1.events × ((ids : List ℕ) × (x.1.ended ≡ Some ids)))
 
@@ -200,10 +200,10 @@ module _ (Tail : List Event → Type 0) (closed : Bool) (n v : ℕ) (asked : Adm
       Noted y = RoleCame Tail closed f (y.0, role_noted n v asked y.1) v
 
       made : (reply : VbReply) (st : States) → shut_in (shelves v) ≡ closed → (b : Bool) → is_refusal reply.answer ≡ b → Turns Tail reply (admin_replied n v asked reply)
-          → Noted (after_job (if b then Ended (Some reply, wrote.NotAsked) else Asks v VbCall.Log (note_role_job v (role_after (admin_call asked)) reply)) st armed)
+          → Noted (after_job (if b then Ended (Some reply, wrote.NotAsked) else Asks v VbCall.Log (note_role_job v (role_of_call (admin_call asked)) reply)) st armed)
       made reply st is true e t = ⊎_elim (λ x. inl (x.1, x.2, x.3)) (λ x. let z : true ≡ false = sym e ∙ x.0 in cc) t
       made reply st is false e t = ⊎_elim (λ x. let z : true ≡ false = sym x.0 ∙ e in cc)
-          (λ x. let y = call_at st v VbCall.Log (st v) in appended f shelves reply y.0 (noted.State (role_after (admin_call asked)) (log_told y.1)) is x.1 x.2 x.3) t
+          (λ x. let y = call_at st v VbCall.Log (st v) in appended f shelves reply y.0 (noted.State (role_of_call (admin_call asked)) (log_of_reply y.1)) is x.1 x.2 x.3) t
 
       by : (o : Option Plain) → states v ≡ o → Noted (let y = call_at states v (admin_call asked) (states v) in after_job (role_told_job v (admin_call asked) y.1) y.0 armed)
       by None e = subst (λ o. Noted (let y = call_at states v (admin_call asked) o in after_job (role_told_job v (admin_call asked) y.1) y.0 armed)) (sym e) (inl ((Cause.UnknownVb, refl, tt), refl, refl))
@@ -258,13 +258,13 @@ module _ (Tail : List Event → Type 0) (closed : Bool) (n v : ℕ) (asked : Adm
           inr (said, subst (λ f. NotedBy closed (fuse_in w n) f said) (sym same) noted, asked, is, (cuts, lines ++ told, append_assoc cuts lines told, (lines, told, refl, tail, posts rs x (subst (HasClients node) e has))))
 
   pub turn_came : (Posts : List Event → Type 0) → Posts [] → (w : PlainWorld) → ((node : PlainNode) → w.nodes n ≡ Some node → (rs : List Resolved) (x : PlainNode) → ((c : ℕ) → x.clients c ≡ node.clients c) → Posts (all_posted rs x).1)
-      → ShutIs closed w n v → AppendCame (Ends Posts) closed w n (role_outcome n v asked w)
+      → ShutAgrees closed w n v → AppendCame (Ends Posts) closed w n (role_outcome n v asked w)
   turn_came Posts none w posts shut = by_node (w.nodes n) refl
     where
-      Out : PlainWorld × AdminTold → Type 0
+      Out : PlainWorld × AdminResult → Type 0
       Out x = AppendCame (Ends Posts) closed w n (turned_after n v w x)
 
-      by_ended : (node : PlainNode) → w.nodes n ≡ Some node → (w1 : PlainWorld) → HasClients node (w1.nodes n) → (told : AdminTold) (ended : Option (List ℕ)) → (((why : Cause) × (told.answer ≡ Answer.No why) × IsStanding why) × (ended ≡ None) × (told.events ≡ []))
+      by_ended : (node : PlainNode) → w.nodes n ≡ Some node → (w1 : PlainWorld) → HasClients node (w1.nodes n) → (told : AdminResult) (ended : Option (List ℕ)) → (((why : Cause) × (told.answer ≡ Answer.No why) × IsStanding why) × (ended ≡ None) × (told.events ≡ []))
           ⊎ ((said : Wrote) × NotedBy closed (fuse_in w n) (fuse_in w1 n) said × (said ≡ wrote.NotAsked → ⊥) × (told.answer ≡ noted_answer said Answer.Ok) × Tail told.events × ((ids : List ℕ) × (ended ≡ Some ids)))
           → AppendCame (Ends Posts) closed w n (turned_if n v w ended (w1, told))
       by_ended node known w1 has told None c = ⊎_elim (λ r. inl (r.0.0, r.0.1, r.0.2, unchanged w, r.2)) (λ m. let z = m.5.1 in cc) c
@@ -274,7 +274,7 @@ module _ (Tail : List Event → Type 0) (closed : Bool) (n v : ℕ) (asked : Adm
           (subst (λ f. NotedBy closed (fuse_in w n) f m.0) (sym (cut_fuse own w2)) m.1) m.2 m.3 m.4) c
 
       by_off : (node : PlainNode) → w.nodes n ≡ Some node → (b : Bool)
-          → (let x : PlainNode × AdminTold = if b then (node, admin_refused Cause.NodeDown) else under_arm v (called_at n v asked) node in Out (with_node_at w n x.0, x.1))
+          → (let x : PlainNode × AdminResult = if b then (node, admin_refused Cause.NodeDown) else under_arm v (called_at n v asked) node in Out (with_node_at w n x.0, x.1))
       by_off node known true = inl (Cause.NodeDown, refl, tt, unchanged w, refl)
       by_off node known false =
           let f : Fuse = node.arm.fuse in let x = after_job (admin_job n v asked) node.vbs (arm_over node.shelves v f) in

@@ -3,12 +3,12 @@ use Rattle.std.specs.Prelude.{◌++◌, ◌∷◌, ◌≡◌, ◌⊎◌, if◌th
 use Rattle.transcript_law.proofs.Words.{ℕ, Bool, true, false, List, [], length, refl, ap, sym, ◌∙◌, subst, inl, inr, ⊎_elim, Option, Some, None, is_some, Answer, Cause, Event, Role, Told, Plain, plain_step, States, VbCall, VbReply, call_at, with_vb_at, Ended, after_job, after_job_bind, shelf_in, vb_in}
 use Rattle.transcript_law.proofs.Words.{PlainNode, PlainWorld, AdminCall, admin_call, admin_replied, role_outcome, promote_causes, turn_causes, promote_step, turn_step, done, first_cause, on_node, refusal, refused_or, replica_at, vb_at, with_node_at, EndsWith, IsPromotion, IsTurn}
 use Rattle.disk_journals.specs.{Arms.{arm_over, fuse_at, opens_all}, Books.{Book}}
-use Rattle.node_core.specs.{Admin.{admin_job, noted_answer, role_at}, Flushing.{FlushTold, flush_if, flush_told}, Loading.{are_short, start_told, starts_of}}
+use Rattle.node_core.specs.{Admin.{admin_job, noted_answer, role_at}, Flushing.{FlushResult, flush_if, flush_result}, Loading.{are_short, start_result, starts_of}}
 use Rattle.node_world.specs.{Arms.{fired_by, fuse_or, lifted, placed}, Nodes.{all_posted, limit_causes, save_line, shelf_or_blank, uuid_causes, vb_made, with_disk, with_kept, with_posts, written as written_node}, Rests.{Rests, RestsIf}, Worlds.{arm_in, on_made}}
 use Rattle.node_world.specs.Power.{burnt_arm, first_no, loaded_node, not_opened, opened_at, opening_told, start_at, start_call, start_causes, start_if, start_one, start_step, started_by, starts_from}
 use Rattle.node_world.specs.declared.arm.Fired.{Fired}
 use Rattle.node_world.specs.declared.arm.Fired.TheVariants as fired
-use Rattle.transcript_law.proofs.disks.AppendAnswers.{AllStand, AndPosts, AppendCame, ShutIs, Turns, append_stands_not, fuse_here, fuse_in, not_asked, promotion_turns, refused_came, rest_turns, turn_came, unless_refused_came}
+use Rattle.transcript_law.proofs.disks.AppendAnswers.{AllStand, AndPosts, AppendCame, ShutAgrees, Turns, append_stands_not, fuse_here, fuse_in, not_asked, promotion_turns, refused_came, rest_turns, turn_came, unless_refused_came}
 use Rattle.transcript_law.proofs.{disks.ArmedSteps.{NotedBy, shut_in, step_noted}, disks.Flushed.{flush_came, looked, refused_tells}, invariant.JobSteps.{same_shelf, shelf_found}, verbs.NodeLines.{on_made_by, on_node_by, put_same as put_states}}
 use Rattle.transcript_law.proofs.lines.Refusals.{Anything, IsMade, Same, Says, lifted_same, node_same, refused_says, unchanged}
 use Rattle.transcript_law.specs.Plainness.{IsStanding}
@@ -47,8 +47,8 @@ look_shelves shelves v = by (shelves v) refl
 
 -- what a save leaves of the arm f that is over the disk
 abbrev SaveCame : Bool → Fuse → ℕ → States → Shelves → (States × Shelves) × Flushed → ℕ → Type 0
-SaveCame closed f n states shelves y v = ((flush_told n v y.1).resolved ≡ []) × ((((why : Cause) × ((flush_told n v y.1).answer ≡ Answer.No why) × IsStanding why) × (y.0 ≡ (states, shelves)))
-    ⊎ ((said : Wrote) × NotedBy closed f (fuse_or f (fuse_at y.0.1 v)) said × (said ≡ NotAsked → ⊥) × ((flush_told n v y.1).answer ≡ noted_answer said Answer.Ok)))
+SaveCame closed f n states shelves y v = ((flush_result n v y.1).resolved ≡ []) × ((((why : Cause) × ((flush_result n v y.1).answer ≡ Answer.No why) × IsStanding why) × (y.0 ≡ (states, shelves)))
+    ⊎ ((said : Wrote) × NotedBy closed f (fuse_or f (fuse_at y.0.1 v)) said × (said ≡ NotAsked → ⊥) × ((flush_result n v y.1).answer ≡ noted_answer said Answer.Ok)))
 
 save_came : (f : Fuse) (n v : ℕ) (flush : Flush) (states : States) (shelves : Shelves) → (let armed = arm_over shelves v f in SaveCame (shut_in (shelves v)) f n states armed (after_job (save_job v flush) states armed) v)
 save_came f n v Idle states shelves = (refl, inl ((Cause.NothingTaken, refl, tt), refl))
@@ -64,24 +64,24 @@ save_came f n v (Out batch) states shelves = let x = shelves_step (arm_over shel
     by AppendFailed left m = (refl, inr (DiskFailed, kept left Idle DiskFailed m, λ e. cc, refl))
 
 -- where nothing was resolved, nothing is posted
-posts_none : (told : FlushTold) (node : PlainNode) → told.resolved ≡ [] → with_posts told node ≡ (node, record { events = told.events ++ []; answer = told.answer })
+posts_none : (told : FlushResult) (node : PlainNode) → told.resolved ≡ [] → with_posts told node ≡ (node, record { events = told.events ++ []; answer = told.answer })
 posts_none told node none = ap (λ rs. let x = all_posted rs node in (x.0, record { events = told.events ++ x.1; answer = told.answer })) none
 
-pub save_line_came : (closed : Bool) (w : PlainWorld) (n v : ℕ) → Rests w → ShutIs closed w n v → AppendCame NoLines closed w n (on_node w n (save_line n v))
+pub save_line_came : (closed : Bool) (w : PlainWorld) (n v : ℕ) → Rests w → ShutAgrees closed w n v → AppendCame NoLines closed w n (on_node w n (save_line n v))
 save_line_came closed w n v rests shut = on_node_by (AppendCame NoLines closed w n) w n (save_line n v) (refused_came NoLines closed w n w Cause.UnknownNode tt (unchanged w))
     (λ node known. refused_came NoLines closed w n (with_node_at w n node) Cause.NodeDown tt (node_same w n node known)) (λ node known up. by node known (node.vbs v) refl)
   where
-    node_came : PlainNode → (States × Shelves) × FlushTold → PlainWorld × Told
+    node_came : PlainNode → (States × Shelves) × FlushResult → PlainWorld × Told
     node_came node y = let x = written_node (placed v node) y in (with_node_at w n (lifted v x.0), x.1)
 
     here : (node : PlainNode) → w.nodes n ≡ Some node → Same w (with_node_at w n (lifted v (placed v node)))
     here node known = subst (λ (k : PlainNode). Same w (with_node_at w n k)) (sym (lifted_same v node (subst (λ o. RestsIf (shelf_in o v)) known (rests n v)))) (node_same w n node known)
 
     came : (node : PlainNode) → w.nodes n ≡ Some node → (states : States) (y : (States × Shelves) × Flushed) → with_kept (placed v node) (states, arm_over node.shelves v node.arm.fuse) ≡ placed v node
-        → SaveCame closed node.arm.fuse n states (arm_over node.shelves v node.arm.fuse) y v → AppendCame NoLines closed w n (node_came node (y.0, flush_told n v y.1))
+        → SaveCame closed node.arm.fuse n states (arm_over node.shelves v node.arm.fuse) y v → AppendCame NoLines closed w n (node_came node (y.0, flush_result n v y.1))
     came node known states y same c =
         let node' : PlainNode = lifted v (with_kept (placed v node) y.0) in
-        subst (λ (x : PlainNode × Told). AppendCame NoLines closed w n (with_node_at w n (lifted v x.0), x.1)) (sym (posts_none (flush_told n v y.1) (with_kept (placed v node) y.0) c.0))
+        subst (λ (x : PlainNode × Told). AppendCame NoLines closed w n (with_node_at w n (lifted v x.0), x.1)) (sym (posts_none (flush_result n v y.1) (with_kept (placed v node) y.0) c.0))
         (⊎_elim (λ r. inl (r.0.0, r.0.1, r.0.2, subst (λ (k : PlainNode). Same w (with_node_at w n (lifted v k))) (sym (ap (with_kept (placed v node)) r.1 ∙ same)) (here node known), ap (λ ls. ls ++ []) (refused_tells n v y.1 r.0.0 r.0.1)))
         (λ m. inr (m.0, subst (λ g. NotedBy closed g (fuse_in (with_node_at w n node') n) m.0) (sym (ap (λ o. (arm_in o).fuse) known)) (subst (λ g. NotedBy closed node.arm.fuse g m.0) (sym (fuse_here w n node')) m.1), m.2, m.3, tt)) c.1)
 
@@ -95,7 +95,7 @@ save_line_came closed w n v rests shut = on_node_by (AppendCame NoLines closed w
         let shelves : (looked armed v (armed v)).0 ≡ armed = look_shelves armed v in
         let same : st ≡ node.vbs = (λ i q. put_states node.vbs v vb e q i) in
         subst (λ y. AppendCame NoLines closed w n (node_came node y)) (sym (flush_came n v part.Save node.vbs armed vb (armed v) e refl))
-        (subst (λ s. AppendCame NoLines closed w n (node_came node (let y = after_job (save_job v (looked armed v (armed v)).1) st s in (y.0, flush_told n v y.1)))) (sym shelves)
+        (subst (λ s. AppendCame NoLines closed w n (node_came node (let y = after_job (save_job v (looked armed v (armed v)).1) st s in (y.0, flush_result n v y.1)))) (sym shelves)
         (came node known st (after_job (save_job v (looked armed v (armed v)).1) st armed) (ap (λ s. with_kept (placed v node) (s, armed)) same)
         (subst (λ b. SaveCame b node.arm.fuse n st armed (after_job (save_job v (looked armed v (armed v)).1) st armed) v) (sym (ap (λ o. shut_in (shelf_in o v)) known) ∙ shut vb (ap (λ o. vb_in o v) known ∙ e))
         (save_came node.arm.fuse n v (looked armed v (armed v)).1 st node.shelves))))
@@ -147,7 +147,7 @@ abbrev pub AnyPosts : List Event → Type 0
 AnyPosts lines = Unit {0}
 
 module _ (Posts : List Event → Type 0) (none : Posts []) (closed : Bool) (w : PlainWorld) (n v : ℕ)
-    (posts : (node : PlainNode) → w.nodes n ≡ Some node → (rs : List Resolved) (x : PlainNode) → ((c : ℕ) → x.clients c ≡ node.clients c) → Posts (all_posted rs x).1) (shut : ShutIs closed w n v) where
+    (posts : (node : PlainNode) → w.nodes n ≡ Some node → (rs : List Resolved) (x : PlainNode) → ((c : ℕ) → x.clients c ≡ node.clients c) → Posts (all_posted rs x).1) (shut : ShutAgrees closed w n v) where
   abbrev Ends : (List Event → Type 0) → List Event → Type 0
   Ends Tail lines = EndsWith (AndPosts Posts Tail) lines
 
@@ -167,11 +167,11 @@ module _ (Posts : List Event → Type 0) (none : Posts []) (closed : Bool) (w : 
 
 -- ---- a node that starts
 
-told_made : (n v : ℕ) (made : Option VbReply × Wrote) → IsMade (start_told n v made).answer
+told_made : (n v : ℕ) (made : Option VbReply × Wrote) → IsMade (start_result n v made).answer
 told_made n v (reply, said) = append_stands_not said
 
 start_made : (n v uuid : ℕ) (node : PlainNode) → IsMade (start_call n v uuid node).1.answer
-start_made n v uuid node = subst (λ (y : (States × Shelves) × FlushTold). IsMade y.1.answer) (sym (after_job_bind (role_job v (VbCall.Promote uuid)) (λ made. Ended (start_told n v made)) node.vbs node.shelves))
+start_made n v uuid node = subst (λ (y : (States × Shelves) × FlushResult). IsMade y.1.answer) (sym (after_job_bind (role_job v (VbCall.Promote uuid)) (λ made. Ended (start_result n v made)) node.vbs node.shelves))
     (told_made n v (after_job (role_job v (VbCall.Promote uuid)) node.vbs node.shelves).1)
 
 -- one more that starts, and those behind it

@@ -5,11 +5,11 @@ use Rattle.transcript_law.proofs.Words.{Member, consumer_node, eq-eqb, eqb-true,
 use Rattle.std.specs.Prelude.{◌==◌}
 use Rattle.transcript_law.proofs.{invariant.Agreement.{AgreesAt, AgreesIn, Agrees, Busy, DiskIsIf, IsArm, IsLink, LinksDiffer, Power, PowerIs, PowerIsIf, RestsIn, VbAgrees, VbIsIf, consumer_seat, idle, power_of, producer_seat, shelf_of, top, vb_of, vb_row}, disks.ArmedLines.{ArmedCame}}
 use Rattle.transcript_law.proofs.{disks.Burning.{BreaksUnder, breaks_under, late_bare, quiet_same, stands_under}, invariant.Carried.{branches_again, ids_same, kept_same, link_carried, numbers, places}, invariant.Carrying.{SameOffs, off_of}}
-use Rattle.transcript_law.proofs.{disks.Disks.{FlushIs, Parts, SameParts, ShelfIs, bare, disk_same, parts_of, power_in, same_parts}, invariant.OneLink.{disk_here, disk_there}, invariant.Resting.{ends_off, rests_with}, invariant.Seats.{seat, seats_apart}, invariant.Tables.{at_here, at_there, id_here, id_there}, links.Turning.{same_put}}
+use Rattle.transcript_law.proofs.{disks.Disks.{FlushIs, Parts, SameParts, ShelfIs, bare, disk_same, parts_of, power_in, same_parts}, invariant.OneLink.{disk_here, disk_there}, invariant.Resting.{ends_off, rests_with}, invariant.Seats.{seat, seats_apart}, invariant.Tables.{at_here, at_there, id_here, id_there}, links.Turning.{put_itself}}
 use Rattle.{branch_model.specs.Journals.{cas_of_last, place_of}, cluster_model.specs.Clusters.{Disk, MayAppend, MayStand, appended}, disk_journals.specs.Arms.{under}, node_core.specs.Admin.{noted_answer}}
 use Rattle.{node_world.specs.Arms.{fired_by}, node_world.specs.Worlds.{is_up}, vb_calls.specs.Flushes.{wrote_of}}
-use Rattle.transcript_law.specs.Chronicles.{Appending, ArmTold, DiskTold, Flushing, after_append, after_noted, appending, batch_gone, batch_record, batch_stands, broken_by, calls_of_append, known_log, late_told, saving, spent, with_disk, with_record}
-use Rattle.vb_calls.specs.Shelves.{Append, DiskFailed, Fate, Flush, Idle, Out, Shelf, Stood, WasClosed, Written, after_fate, asked_shelf, late_of, with_shelf_at}
+use Rattle.transcript_law.specs.Chronicles.{Appending, ArmKnown, DiskKnown, Flushing, after_append, after_noted, appending, batch_gone, batch_record, batch_stands, broken_by, calls_of_append, known_log, late_record, saving, spent, with_disk, with_record}
+use Rattle.vb_calls.specs.Shelves.{Append, DiskFailed, Fate, Flush, Idle, Out, Shelf, Stood, WasClosed, Written, after_fate, shelf_step, late_of, with_shelf_at}
 use Rattle.vb_disk.specs.declared.fuse.Fuse.{Fuse}
 use Rattle.vb_disk.specs.declared.fuse.Fuse.TheVariants.{Off}
 use Rattle.vb_disk.specs.declared.made.Outcome.TheVariants.{New}
@@ -30,7 +30,7 @@ closes was (Written seq) told batch taken place x = (x.0, (λ e. cc), x.2)
 late_is : (f : Fuse) (r q : Record) → late_of f r ≡ Some q → r ≡ q
 late_is f r q = elim (stands f New) as (λ b. (if b then Some r else None) ≡ Some q → r ≡ q) [ true ↦ λ e. cc | false ↦ λ e. cc ]
 
-module _ {told : DiskTold} {d : Disk} {shelf : Shelf} {x : Parts} (a : ShelfIs told d shelf x) where
+module _ {told : DiskKnown} {d : Disk} {shelf : Shelf} {x : Parts} (a : ShelfIs told d shelf x) where
   -- a role stands
   pub state_stood : (role : Role) (log : List LogEntry) → shelf.is_closed ≡ false
       → ShelfIs (with_record (noted.State role log) told) (appended d (noted.State role log)) (record shelf { book = noted.State role log ∷ shelf.book }) x
@@ -145,7 +145,7 @@ module _ (c : Cluster) (k : ℕ) (sound : SoundCluster top c) where
   appends r may = record {
     now = happens c (Move.Append k r);
     sound = keeps top c (Move.Append k r) sound may;
-    nodes = λ j. same_put c.nodes k j;
+    nodes = λ j. put_itself c.nodes k j;
     tree = refl;
     here = disk_here c.disks k (appended (c.disks k) r);
     there = λ j ne. disk_there c.disks k (appended (c.disks k) r) j ne;
@@ -160,7 +160,7 @@ module _ (c : Cluster) (k : ℕ) (sound : SoundCluster top c) where
       by true = record {
         now = happens c (Move.Break k r);
         sound = keeps top c (Move.Break k r) sound may;
-        nodes = λ j. same_put c.nodes k j;
+        nodes = λ j. put_itself c.nodes k j;
         tree = refl;
         here = disk_here c.disks k (record (c.disks k) { late = Some r });
         there = λ j ne. disk_there c.disks k (record (c.disks k) { late = Some r }) j ne;
@@ -169,11 +169,11 @@ module _ (c : Cluster) (k : ℕ) (sound : SoundCluster top c) where
 -- ---- the world
 
 -- what the lines tell of another vBucket
-pub row_there : (r : Chronicle) (n v : ℕ) (told : DiskTold) (m q : ℕ) → (m ≡ n → q ≡ v → ⊥) → vb_row (with_disk r n v told) m q ≡ vb_row r m q
+pub row_there : (r : Chronicle) (n v : ℕ) (told : DiskKnown) (m q : ℕ) → (m ≡ n → q ≡ v → ⊥) → vb_row (with_disk r n v told) m q ≡ vb_row r m q
 row_there r n v told m q o i = record (vb_row r m q) { disk = at_there r.disk_at n v told m q o i }
 
 -- what was written down of a vBucket that is there is no part of what it holds
-pub told_disk : (r : Chronicle) (n v : ℕ) (told : DiskTold) (m q : ℕ) (k : Member) (o : Option Plain) → (o ≡ None → m ≡ n → q ≡ v → ⊥) → AgreesAt r m q k o → AgreesAt (with_disk r n v told) m q k o
+pub told_disk : (r : Chronicle) (n v : ℕ) (told : DiskKnown) (m q : ℕ) (k : Member) (o : Option Plain) → (o ≡ None → m ≡ n → q ≡ v → ⊥) → AgreesAt r m q k o → AgreesAt (with_disk r n v told) m q k o
 told_disk r n v told m q k None apart x = subst (λ t. VbIsIf r.tree r.writer_of t m q k None) (sym (row_there r n v told m q (apart refl))) x
 told_disk r n v told m q k (Some y) apart x = record { kept = x.kept; role = x.role; opened = x.opened; writes = x.writes; counts = x.counts }
 
@@ -186,7 +186,7 @@ pub record Renoted (w w' : PlainWorld) (n v : ℕ) (shelf : Shelf) : Type 0 wher
   pub uuids : w'.uuids ≡ w.uuids
   pub linked : w'.links ≡ w.links
 
-module _ (busy : Busy) (w w' : PlainWorld) (r : Chronicle) (arms : ℕ → ArmTold) (c : Cluster) (n v : ℕ) (vb : Plain) (shelf : Shelf) (told : DiskTold) (d : Disk) (a : AgreesIn busy w r c)
+module _ (busy : Busy) (w w' : PlainWorld) (r : Chronicle) (arms : ℕ → ArmKnown) (c : Cluster) (n v : ℕ) (vb : Plain) (shelf : Shelf) (told : DiskKnown) (d : Disk) (a : AgreesIn busy w r c)
     (known : vb_of w n v ≡ Some vb) (there : (r.disk_at n v).there ≡ true) (same : Renoted w w' n v shelf) (powers : (m : ℕ) → PowerIsIf (arms m) (power_of w' m)) (kept : Rewritten c (seat n v) d) (is : ShelfIs told d shelf (parts_of vb)) where
   abbrev r' : Chronicle
   r' = record (with_disk r n v told) { arm_at = arms }
@@ -225,7 +225,7 @@ module _ (busy : Busy) (w w' : PlainWorld) (r : Chronicle) (arms : ℕ → ArmTo
         disk = kept.there (seat m q) (seats_apart m q n v o);
       })
       (λ m q down. let none = (a.downs m q).vb_none down in (same.vbs m q ∙ none, same.shelves m q (one_there m q none) ∙ (a.downs m q).shelf_none down))
-      (λ m q e. ⊎_elim (λ s. ap (λ k. (r.disk_at k q).there) s.0 ∙ ap (λ k. (r.disk_at n k).there) s.1 ∙ there) (λ o. ap (λ (t : DiskTold). t.there) (sym (at_there r.disk_at n v told m q o)) ∙ e) (places n v m q))
+      (λ m q e. ⊎_elim (λ s. ap (λ k. (r.disk_at k q).there) s.0 ∙ ap (λ k. (r.disk_at n k).there) s.1 ∙ there) (λ o. ap (λ (t : DiskKnown). t.there) (sym (at_there r.disk_at n v told m q o)) ∙ e) (places n v m q))
       (λ x i. ends_off w w' x x same.offs (record { dialed = refl; desk = refl }) (a.ends x (subst (IsLink x) same.linked i)))
 
   -- all agrees, once it is written down
@@ -259,7 +259,7 @@ pub record Noted (w w' : PlainWorld) (n v : ℕ) (power : Power) (shelf : Shelf)
 pub by_fate : (f : Fuse) (shelf : Shelf) (r : Record) (P : Shelf × Fate → Type 0) → (shelf.is_closed ≡ true → P (under f shelf, WasClosed))
     → (shelf.is_closed ≡ false → all_pass f ≡ true → P (record (under f shelf) { book = r ∷ shelf.book; fuse = burnt_noting f }, Stood))
     → (shelf.is_closed ≡ false → all_pass f ≡ false → P (record (under f shelf) { is_closed = true; late = late_of f r; fuse = burnt_noting f }, DiskFailed))
-    → P (asked_shelf (under f shelf) (Append r))
+    → P (shelf_step (under f shelf) (Append r))
 by_fate f shelf r P closed stood failed = elim shelf.is_closed as (λ b. shelf.is_closed ≡ b → P (came (if b then WasClosed else if all_pass f then Stood else DiskFailed))) [
   | true ↦ λ e. closed e
   | false ↦ λ e. elim (all_pass f) as (λ b. all_pass f ≡ b → P (came (if b then Stood else DiskFailed))) [ true ↦ stood e | false ↦ failed e ] refl
@@ -269,7 +269,7 @@ by_fate f shelf r P closed stood failed = elim shelf.is_closed as (λ b. shelf.i
     came fate = (after_fate (under f shelf) r fate, fate)
 
 -- it leaves the batch on its way alone
-pub flush_kept : (f : Fuse) (shelf : Shelf) (r : Record) → (asked_shelf (under f shelf) (Append r)).0.flush ≡ shelf.flush
+pub flush_kept : (f : Fuse) (shelf : Shelf) (r : Record) → (shelf_step (under f shelf) (Append r)).0.flush ≡ shelf.flush
 flush_kept f shelf r = by_fate f shelf r (λ y. y.0.flush ≡ shelf.flush) (λ e. refl) (λ e h. refl) (λ e h. refl)
 
 -- a node that is running
@@ -316,13 +316,13 @@ module _ (w w' : PlainWorld) (r : Chronicle) (n v : ℕ) (power : Power) (vb : P
       was = subst (PowerIsIf (r.arm_at n)) noted.before (a.powers n)
 
       -- an arm that is told so
-      powers : (arm : ArmTold) → PowerIs arm (record power { arm = record power.arm { fuse = left } }) → (m : ℕ) → PowerIsIf (with_id r.arm_at n arm m) (power_of w' m)
+      powers : (arm : ArmKnown) → PowerIs arm (record power { arm = record power.arm { fuse = left } }) → (m : ℕ) → PowerIsIf (with_id r.arm_at n arm m) (power_of w' m)
       powers arm is m = ⊎_elim
           (λ e. subst (λ j. PowerIsIf (with_id r.arm_at n arm j) (power_of w' j)) (sym e) (subst (λ t. PowerIsIf t (power_of w' n)) (sym (id_here r.arm_at n arm)) (subst (PowerIsIf arm) (sym noted.after) is)))
           (λ ne. subst (λ t. PowerIsIf t (power_of w' m)) (sym (id_there r.arm_at n arm m (λ e. ne (sym e)))) (subst (PowerIsIf (r.arm_at m)) (sym (noted.others m ne)) (a.powers m)))
           (numbers m n)
 
-      abbrev spent_arm : ArmTold
+      abbrev spent_arm : ArmKnown
       spent_arm = record (r.arm_at n) { fuse = spent calls_of_append (r.arm_at n).fuse }
 
       -- the arm behind the calls of an append
@@ -338,7 +338,7 @@ module _ (w w' : PlainWorld) (r : Chronicle) (n v : ℕ) (power : Power) (vb : P
           (numbers m n)
 
       -- what was written down then
-      agrees : (d : DiskTold) (y : Disk) (arms : ℕ → ArmTold) → ((m : ℕ) → PowerIsIf (arms m) (power_of w' m)) → Rewritten c k y → ShelfIs d y shelf' (parts_of vb) → Agrees w' (record (with_disk r n v d) { arm_at = arms })
+      agrees : (d : DiskKnown) (y : Disk) (arms : ℕ → ArmKnown) → ((m : ℕ) → PowerIsIf (arms m) (power_of w' m)) → Rewritten c k y → ShelfIs d y shelf' (parts_of vb) → Agrees w' (record (with_disk r n v d) { arm_at = arms })
       agrees d y arms powers written is = (written.now, noted_agrees idle w w' r arms c n v vb shelf' d y a known disk.there same powers written is)
 
     was_closed : shelf.is_closed ≡ true → Came (under f shelf, WasClosed)
@@ -362,11 +362,11 @@ module _ (w w' : PlainWorld) (r : Chronicle) (n v : ℕ) (power : Power) (vb : P
         s : BreaksUnder f
         s = breaks_under f (was noted).may_fire hit
 
-        fails : DiskTold
+        fails : DiskKnown
         fails = x.fails (r.disk_at n v)
 
         told_is : broken_by (r.arm_at n).fuse x.what fails ≡ record fails { late = late_of f (bare rec); closed = true }
-        told_is = ap (λ o. broken_by (r.arm_at n).fuse o fails) may.what ∙ ap (λ g. record fails { late = late_told g (bare rec); closed = true }) (was noted).fuse ∙ ap (λ o. record fails { late = o; closed = true }) (sym (s.late (bare rec)))
+        told_is = ap (λ o. broken_by (r.arm_at n).fuse o fails) may.what ∙ ap (λ g. record fails { late = late_record g (bare rec); closed = true }) (was noted).fuse ∙ ap (λ o. record fails { late = o; closed = true }) (sym (s.late (bare rec)))
 
         broken_agrees : Agrees w' (told (Answer.No Cause.Disk) r)
         broken_agrees = subst (Agrees w') (sym (tells (Answer.No Cause.Disk) ∙ ap (λ d. record (with_disk r n v d) { arm_at = with_id r.arm_at n (spent_arm noted) }) told_is))
@@ -375,7 +375,7 @@ module _ (w w' : PlainWorld) (r : Chronicle) (n v : ℕ) (power : Power) (vb : P
             (subst (λ g. ShelfIs (record fails { late = late_of f (bare rec); closed = true }) (record (c.disks k) { late = late_of f rec }) (record shelf { is_closed = true; late = late_of f rec; flush = flush DiskFailed; fuse = g }) (parts_of vb)) disk.unarmed (may.failed opens)))
 
     -- what it comes to
-    pub append_came : Came (asked_shelf (under f shelf) (Append rec))
+    pub append_came : Came (shelf_step (under f shelf) (Append rec))
     append_came = by_fate f shelf rec Came was_closed stood failed
 
   -- a role
@@ -389,10 +389,10 @@ module _ (w w' : PlainWorld) (r : Chronicle) (n v : ℕ) (power : Power) (vb : P
     failed = λ e. broken disk f (noted.State role vb.log) e disk.cas;
   }
 
-  pub state_came : (role : Role) → let y = asked_shelf (under f shelf) (Append (noted.State role vb.log)) in
+  pub state_came : (role : Role) → let y = shelf_step (under f shelf) (Append (noted.State role vb.log)) in
       Noted w w' n v power (under Off y.0) y.0.fuse → ArmedCame n (λ said told. after_noted told n v role said) (fired_by f y.0.fuse) r w' (noted_answer (wrote_of y.1) Answer.Ok)
   state_came role now =
-      let y = asked_shelf (under f shelf) (Append (noted.State role vb.log)) in
+      let y = shelf_step (under f shelf) (Append (noted.State role vb.log)) in
       append_came (appending (noted.State role vb.log)) (noted.State role vb.log) (λ fate. shelf.flush) (may_state role) (λ said told. after_noted told n v role said)
       (λ said. ap (λ l. after_append r n v (appending (noted.State role (known_log l))) said) mine.log)
       (subst (λ g. Noted w w' n v power (record (under Off y.0) { flush = g }) y.0.fuse) (flush_kept f shelf (noted.State role vb.log)) now)
@@ -410,7 +410,7 @@ module _ (w w' : PlainWorld) (r : Chronicle) (n v : ℕ) (power : Power) (vb : P
         failed = λ e. gone (broken disk f (noted.Rows b) e o.4) b refl out;
       }
 
-  pub batch_came : (b : Batch) → shelf.flush ≡ Out b → let y = asked_shelf (under f shelf) (Append (noted.Rows b)) in
+  pub batch_came : (b : Batch) → shelf.flush ≡ Out b → let y = shelf_step (under f shelf) (Append (noted.Rows b)) in
       Noted w w' n v power (record (under Off y.0) { flush = flush_after b y.1 }) y.0.fuse → ArmedCame n (λ said told. after_append told n v (saving (told.disk_at n v)) said) (fired_by f y.0.fuse) r w' (noted_answer (wrote_of y.1) Answer.Ok)
   batch_came b out = append_came (saving (r.disk_at n v)) (noted.Rows b) (flush_after b) (may_rows b out) (λ said told. after_append told n v (saving (told.disk_at n v)) said) (λ said. refl)
 

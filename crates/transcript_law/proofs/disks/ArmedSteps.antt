@@ -8,7 +8,7 @@ use Rattle.node_world.specs.declared.arm.Fired.TheVariants as fired
 use Rattle.transcript_law.proofs.{invariant.Agreement.{IsArm}, disks.Burning.{quiet_same, stands_under, breaks_under}, invariant.JobSteps.{shelf_found}}
 use Rattle.transcript_law.specs.{LineAnswers.{IsNoted}, Plainness.{IsStanding}}
 use Rattle.vb_calls.specs.Flushes.{wrote_of}
-use Rattle.vb_calls.specs.Shelves.{Append, DiskFailed, Fate, Shelf, Shelves, Stood, WasClosed, after_fate, ask_at, asked_shelf, shelves_step, with_shelf_at}
+use Rattle.vb_calls.specs.Shelves.{Append, DiskFailed, Fate, Shelf, Shelves, Stood, WasClosed, after_fate, ask_at, shelf_step, shelves_step, with_shelf_at}
 use Rattle.disk_journals.specs.Arms.{arm_over, armed_at, fuse_at, under}
 use Rattle.vb_calls.specs.declared.journals.Wrote.{Wrote}
 use Rattle.vb_calls.specs.declared.journals.Wrote.TheVariants as wrote
@@ -25,7 +25,7 @@ NotedBy closed f left wrote.Closed = (closed ≡ true) × (left ≡ f)
 NotedBy closed f left wrote.NotAsked = left ≡ f
 
 -- an append to a journal
-append_noted : (f : Fuse) (shelf : Shelf) (r : Record) → (let x = asked_shelf (under f shelf) (Append r) in NotedBy shelf.is_closed f x.0.fuse (wrote_of x.1))
+append_noted : (f : Fuse) (shelf : Shelf) (r : Record) → (let x = shelf_step (under f shelf) (Append r) in NotedBy shelf.is_closed f x.0.fuse (wrote_of x.1))
 append_noted f shelf r = by shelf.is_closed
   where
     Came : Bool → Fate → Type 0
@@ -57,7 +57,7 @@ step_noted f shelves v r = by (shelves v) refl
         fuse_in : Option Shelf → Option Fuse
         fuse_in o = fuse_at (λ q. o) v
     by (Some shelf) e =
-        let armed : Shelves = with_shelf_at shelves v (under f shelf) in let x = asked_shelf (under f shelf) (Append r) in
+        let armed : Shelves = with_shelf_at shelves v (under f shelf) in let x = shelf_step (under f shelf) (Append r) in
         subst (λ o. Came (Some shelf) (ask_at armed v (Append r) o)) (sym (shelf_found shelves v (under f shelf)))
         (subst (λ (o : Option Shelf). NotedBy shelf.is_closed f (fuse_or f (fuse_at (λ q. o) v)) (wrote_of x.1)) (sym (shelf_found armed v x.0)) (append_noted f shelf r))
 

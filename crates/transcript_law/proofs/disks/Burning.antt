@@ -8,7 +8,7 @@ use Rattle.disk_journals.specs.Arms.{opens_all}
 use Rattle.node_world.specs.Arms.{fired_by}
 use Rattle.node_world.specs.declared.arm.Fired.TheVariants as fired
 use Rattle.transcript_law.proofs.{invariant.Agreement.{IsArm}, disks.Disks.{bare}}
-use Rattle.transcript_law.specs.Chronicles.{spent, calls_of_append, late_told, is_off}
+use Rattle.transcript_law.specs.Chronicles.{spent, calls_of_append, late_record, is_off}
 use Rattle.transcript_law.specs.LineAnswers.{PassesAppend, PassesIn, FailsIn, StopsIn}
 use Rattle.vb_calls.specs.Shelves.{late_of}
 use Rattle.vb_disk.specs.Arms.{hits, burnt, burnt_by}
@@ -295,7 +295,7 @@ pub record BreaksUnder (f : Fuse) : Type 0 where
   pub left : burnt_noting f ≡ Off
   pub fired : Fires calls_of_append f
   pub open fired use *
-  pub late : (r : Record) → late_of f r ≡ late_told f r
+  pub late : (r : Record) → late_of f r ≡ late_record f r
 
 pub breaks_under : (f : Fuse) → IsArm f → all_pass f ≡ false → BreaksUnder f
 breaks_under f a e =
@@ -305,21 +305,21 @@ breaks_under f a e =
     some : hit_in calls_of_append f ≡ true
     some = one_hit (hit_in calls_of_append f) (sym e ∙ (noting_burns f a).all)
 
-    stop_late : (k : ℕ) → Place k → nat_le k 4 ≡ true → (r : Record) → late_of (Stop k) r ≡ late_told (Stop k) r
-    stop_late k (First e) h r = subst (λ m. late_of (Stop m) r ≡ late_told (Stop m) r) (sym e) refl
-    stop_late k (Second e) h r = subst (λ m. late_of (Stop m) r ≡ late_told (Stop m) r) (sym e) refl
-    stop_late k (Third e) h r = subst (λ m. late_of (Stop m) r ≡ late_told (Stop m) r) (sym e) refl
-    stop_late k (Fourth e) h r = subst (λ m. late_of (Stop m) r ≡ late_told (Stop m) r) (sym e) refl
+    stop_late : (k : ℕ) → Place k → nat_le k 4 ≡ true → (r : Record) → late_of (Stop k) r ≡ late_record (Stop k) r
+    stop_late k (First e) h r = subst (λ m. late_of (Stop m) r ≡ late_record (Stop m) r) (sym e) refl
+    stop_late k (Second e) h r = subst (λ m. late_of (Stop m) r ≡ late_record (Stop m) r) (sym e) refl
+    stop_late k (Third e) h r = subst (λ m. late_of (Stop m) r ≡ late_record (Stop m) r) (sym e) refl
+    stop_late k (Fourth e) h r = subst (λ m. late_of (Stop m) r ≡ late_record (Stop m) r) (sym e) refl
     stop_late k (Later l) h r = let z : k ≤ 4 = grind (arith, nat_tests) in absurd (omega arith)
 
-    fail_late : (k : ℕ) → Place k → nat_le k 4 ≡ true → (r : Record) → late_of (Fail k) r ≡ late_told (Fail k) r
-    fail_late k (First e) h r = subst (λ m. late_of (Fail m) r ≡ late_told (Fail m) r) (sym e) refl
-    fail_late k (Second e) h r = subst (λ m. late_of (Fail m) r ≡ late_told (Fail m) r) (sym e) refl
-    fail_late k (Third e) h r = subst (λ m. late_of (Fail m) r ≡ late_told (Fail m) r) (sym e) refl
-    fail_late k (Fourth e) h r = subst (λ m. late_of (Fail m) r ≡ late_told (Fail m) r) (sym e) refl
+    fail_late : (k : ℕ) → Place k → nat_le k 4 ≡ true → (r : Record) → late_of (Fail k) r ≡ late_record (Fail k) r
+    fail_late k (First e) h r = subst (λ m. late_of (Fail m) r ≡ late_record (Fail m) r) (sym e) refl
+    fail_late k (Second e) h r = subst (λ m. late_of (Fail m) r ≡ late_record (Fail m) r) (sym e) refl
+    fail_late k (Third e) h r = subst (λ m. late_of (Fail m) r ≡ late_record (Fail m) r) (sym e) refl
+    fail_late k (Fourth e) h r = subst (λ m. late_of (Fail m) r ≡ late_record (Fail m) r) (sym e) refl
     fail_late k (Later l) h r = let z : k ≤ 4 = grind (arith, nat_tests) in absurd (omega arith)
 
-    late_is : (f : Fuse) → IsArm f → hit_in calls_of_append f ≡ true → (r : Record) → late_of f r ≡ late_told f r
+    late_is : (f : Fuse) → IsArm f → hit_in calls_of_append f ≡ true → (r : Record) → late_of f r ≡ late_record f r
     late_is Off a h r = cc
     late_is (Stop k) a h r = stop_late k (place k a) h r
     late_is (Fail k) a h r = fail_late k (place k a) h r

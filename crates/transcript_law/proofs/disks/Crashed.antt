@@ -9,9 +9,9 @@ use Rattle.cluster_model.specs.Clusters.{Disk, front_or, loaded, opened}
 use Rattle.{disk_journals.specs.Books.{Book}, vb_calls.specs.Shelves.{Shelf, left_book}, vb_disk.specs.declared.made.Outcome.{Outcome}, vb_journal.specs.UnderArms.{leaves_open}, vb_types.specs.declared.journal.Batch.{Batch}, vb_types.specs.declared.journal.Record.{Record}}
 use Rattle.vb_disk.specs.declared.made.Outcome.TheVariants.{Old, New, Fill}
 use Rattle.vb_types.specs.declared.journal.Record.TheVariants as noted
-use Rattle.transcript_law.specs.Chronicles.{DiskTold, Flushing, alone, crashed_disk, finds, newest_or, rested, resting}
-use Rattle.transcript_law.proofs.{invariant.Agreement.{AwayAt, BookBy, Power, top}, disks.Disks.{AwayIs, DiskIsIf, bare, book_in}, invariant.Holdings.{BranchIs, ChangeFits, EntryFits, IsAway, VbContents, VbIsIf, VbRow}}
-use Rattle.transcript_law.proofs.{Words.{Plain}, invariant.Carried.{numbers}, invariant.OneLink.{disk_here, disk_there, put_here, put_there}, invariant.Seats.{seat, seat_one}, links.Sent.{all_in, in_all}, invariant.Trees.{IdsFit, id_fits}}
+use Rattle.transcript_law.specs.Chronicles.{DiskKnown, Flushing, alone, crashed_disk, finds, newest_or, rested, resting}
+use Rattle.transcript_law.proofs.{invariant.Agreement.{AwayAt, BookBy, Power, top}, disks.Disks.{AwayAgrees, DiskIsIf, bare, book_in}, invariant.Holdings.{BranchAgrees, ChangeFits, EntryFits, IsAway, VbContents, VbIsIf, VbRow}}
+use Rattle.transcript_law.proofs.{Words.{Plain}, invariant.Carried.{numbers}, invariant.OneLink.{disk_here, disk_there, put_here, put_there}, invariant.Seats.{seat, seat_one}, links.Sent.{all_in, all_by_each}, invariant.Trees.{IdsFit, id_fits}}
 
 -- records as lines tell them tell the same
 
@@ -57,30 +57,30 @@ bare_resting (noted.Rows b ∷ older) = ap (λ o. Some (rested o)) (bare_role ol
 bare_resting (noted.Roll to ∷ older) = ap (λ o. Some (rested o)) (bare_role older)
 
 -- what stands of a vBucket at a running node, whether it is there or not: the lines tell its records as its member has them, and whether it has a disk
-pub record Written (told : DiskTold) (contents : VbContents) (m : Member) (d : Disk) (shelf : Option Shelf) : Type 0 where
+pub record Written (told : DiskKnown) (contents : VbContents) (m : Member) (d : Disk) (shelf : Option Shelf) : Type 0 where
   pub book : told.book ≡ map bare d.book
   pub late : told.late ≡ option_map bare d.late
   pub cas : cas_of_last d.book < 2 ^ 64
   pub late_cas : (r : Record) → d.late ≡ Some r → cas_of_last (r ∷ d.book) < 2 ^ 64
   pub held : contents.held ≡ m.held
-  pub branch : BranchIs contents.branch m.br
+  pub branch : BranchAgrees contents.branch m.br
   pub fits : All ChangeFits m.held
   pub left : (out : Outcome) → option_map (left_book out) shelf ≡ (if told.there then Some (found d.book d.late (finds out)) else None)
   pub none : told.there ≡ false → (d.book ≡ []) × (d.late ≡ None)
 
 -- where it is not there, its node tells whether it has a disk
-abbrev pub UnmadeIf : Option Plain → DiskTold → Disk → Option Shelf → Type 0
+abbrev pub UnmadeIf : Option Plain → DiskKnown → Disk → Option Shelf → Type 0
 UnmadeIf None told d shelf = (d.book ≡ []) × (told.there ≡ is_some shelf)
 UnmadeIf (Some vb) told d shelf = Unit {0}
 
-pub away_late : (told : DiskTold) (d : Disk) → AwayIs told d → (told.late ≡ None) × (d.late ≡ None)
-away_late told d a = (ap (λ (t : DiskTold). t.late) a.told_is, ap (λ (x : Disk). x.late) a.disk)
+pub away_late : (told : DiskKnown) (d : Disk) → AwayAgrees told d → (told.late ≡ None) × (d.late ≡ None)
+away_late told d a = (ap (λ (t : DiskKnown). t.late) a.told_is, ap (λ (x : Disk). x.late) a.disk)
 
-away_written : (row : VbRow) (m : Member) (d : Disk) (shelf : Option Shelf) → IsAway row m → AwayIs row.disk d → d.book ≡ [] → ((out : Outcome) → option_map (left_book out) shelf ≡ (if row.disk.there then Some (found d.book d.late (finds out)) else None)) → Written row.disk row.contents m d shelf
+away_written : (row : VbRow) (m : Member) (d : Disk) (shelf : Option Shelf) → IsAway row m → AwayAgrees row.disk d → d.book ≡ [] → ((out : Outcome) → option_map (left_book out) shelf ≡ (if row.disk.there then Some (found d.book d.late (finds out)) else None)) → Written row.disk row.contents m d shelf
 away_written row m d shelf a x empty left =
     let late = away_late row.disk d x in
     record {
-      book = ap (λ (t : DiskTold). t.book) x.told_is;
+      book = ap (λ (t : DiskKnown). t.book) x.told_is;
       late = late.0 ∙ ap (option_map bare) (sym late.1);
       cas = x.cas;
       late_cas = λ r e. let z : None ≡ Some r = sym late.1 ∙ e in cc;
@@ -170,7 +170,7 @@ module _ (out : Outcome) (row : VbRow) (m m' : Member) (d d' : Disk) (shelf : Op
   abbrev js : List Record
   js = found d.book d.late (finds out)
 
-  abbrev told : DiskTold
+  abbrev told : DiskKnown
   told = crashed_disk out row.disk
 
   book_is : told.book ≡ map bare js
@@ -187,14 +187,14 @@ module _ (out : Outcome) (row : VbRow) (m m' : Member) (d d' : Disk) (shelf : Op
   cas_is (Some r) e true = x.late_cas r e
   cas_is (Some r) e false = x.cas
 
-  pub crashed_disk_is : AwayIs told d'
-  crashed_disk_is = subst (AwayIs told) (sym l.disk) (record {
+  pub crashed_disk_is : AwayAgrees told d'
+  crashed_disk_is = subst (AwayAgrees told) (sym l.disk) (record {
     told_is = λ i. record { flushing = Flushing.Idle; book = book_is i; late = None; saved = (place_is i).at; there = row.disk.there; closed = false };
     disk = refl;
     cas = cas_is d.late refl (finds out);
   })
 
-  branch_by : (log : List LogEntry) → BranchIs (newest_or row.contents.branch log) (front_or m.br log)
+  branch_by : (log : List LogEntry) → BranchAgrees (newest_or row.contents.branch log) (front_or m.br log)
   branch_by [] = x.branch
   branch_by (e ∷ older) = refl
 
@@ -211,9 +211,9 @@ module _ (out : Outcome) (row : VbRow) (m m' : Member) (d d' : Disk) (shelf : Op
       snap = ap (λ (p : Position). Some (p.ss, p.se)) (place_is ∙ sym l.position);
       unlogged = λ e. unlogged_by (last_log js) refl (ap (newest_or row.contents.branch) (sym last_is) ∙ e);
     };
-    branch = subst (λ b. BranchIs (newest_or row.contents.branch (last_log told.book)) b) (sym l.br) (subst (λ log. BranchIs (newest_or row.contents.branch log) (front_or m.br (last_log js))) (sym last_is) (branch_by (last_log js)));
+    branch = subst (λ b. BranchAgrees (newest_or row.contents.branch (last_log told.book)) b) (sym l.br) (subst (λ log. BranchAgrees (newest_or row.contents.branch log) (front_or m.br (last_log js))) (sym last_is) (branch_by (last_log js)));
     active = l.active;
-    fits = subst (All ChangeFits) (sym l.held) (in_all ChangeFits (upto m.held (place_of js).at) (λ c i. all_in ChangeFits m.held c x.fits (in_filter (λ y. nat_le y.seq (place_of js).at) c m.held i).0));
+    fits = subst (All ChangeFits) (sym l.held) (all_by_each ChangeFits (upto m.held (place_of js).at) (λ c i. all_in ChangeFits m.held c x.fits (in_filter (λ y. nat_le y.seq (place_of js).at) c m.held i).0));
     entries = entries;
     high = high;
   }

@@ -4,7 +4,7 @@ use Rattle.transcript_law.proofs.Words.{ℕ, Bool, true, false, map, PlainNode, 
 use Rattle.{branch_model.specs.Journals.{cas_of_last, place_of}, cluster_model.specs.Clusters.{Disk, IsSpot, opened}, std.specs.Prelude.{option_map, option_to_list}, vb_calls.specs.Shelves.{Flush, Idle, Out, Written, Shelf, blank_shelf}}
 use Rattle.{disk_journals.specs.Books.{Book}, node_world.specs.declared.arm.Arm.{Arm}, vb_disk.specs.declared.fuse.Fuse.TheVariants.{Off}, vb_types.specs.declared.journal.Record.{Record}}
 use Rattle.vb_types.specs.declared.journal.Record.TheVariants as noted
-use Rattle.{transcript_law.specs.Chronicles.{DiskTold, Flushing, told_batch}, vb_calls.specs.Spans.{span_position}, vb_calls.specs.declared.span.Origin.{Origin}, vb_types.specs.declared.journal.Batch.{Batch}}
+use Rattle.{transcript_law.specs.Chronicles.{DiskKnown, Flushing, known_batch}, vb_calls.specs.Spans.{span_position}, vb_calls.specs.declared.span.Origin.{Origin}, vb_types.specs.declared.journal.Batch.{Batch}}
 pub use Rattle.transcript_law.specs.Prefixes.{book_in}
 use Rattle.transcript_law.proofs.invariant.Wholes.{IsSpanIn, all_sealed, in_first, in_part}
 
@@ -41,17 +41,17 @@ EndAtSpots at ws stood = (w : Span) → IsSpanIn w (all_spans ws) → at < w.las
 -- a record as the lines tell it: of a batch its position and its failover log
 abbrev pub bare : Record → Record
 bare (noted.State role log) = noted.State role log
-bare (noted.Rows b) = noted.Rows (told_batch b.position b.log)
+bare (noted.Rows b) = noted.Rows (known_batch b.position b.log)
 bare (noted.Roll to) = noted.Roll to
 
 -- the batch on its way, of a vBucket that was taken up to there, and whose journal goes up to `place`. What was taken while the journal was closed is never appended
 abbrev pub FlushIs : Bool → Flush → Flushing → Option Batch → ℕ → ℕ → Type 0
 FlushIs closed Idle told batch taken place = (told ≡ Flushing.Idle) × (closed ≡ false → taken ≡ place) × (place ≤ taken)
-FlushIs closed (Out b) told batch taken place = (told ≡ Flushing.Taken (told_batch b.position b.log)) × (closed ≡ false → batch ≡ Some b) × (taken ≡ b.position.at) × (place ≤ b.position.at) × (b.cas < 2 ^ 64)
+FlushIs closed (Out b) told batch taken place = (told ≡ Flushing.Taken (known_batch b.position b.log)) × (closed ≡ false → batch ≡ Some b) × (taken ≡ b.position.at) × (place ≤ b.position.at) × (b.cas < 2 ^ 64)
 FlushIs closed (Written seq) told batch taken place = (told ≡ Flushing.Written seq) × (closed ≡ false → taken ≡ place) × (place ≤ taken)
 
 -- a journal has the records of the member's disk, and the lines tell of them and of its batches. A record whose append was broken off is there only where it is closed
-pub record ShelfIs (told : DiskTold) (d : Disk) (shelf : Shelf) (x : Parts) : Type 0 where
+pub record ShelfIs (told : DiskKnown) (d : Disk) (shelf : Shelf) (x : Parts) : Type 0 where
   pub book : d.book ≡ shelf.book
   pub told_book : told.book ≡ map bare shelf.book
   pub late : d.late ≡ shelf.late
@@ -68,20 +68,20 @@ pub record ShelfIs (told : DiskTold) (d : Disk) (shelf : Shelf) (x : Parts) : Ty
   pub late_cas : (r : Record) → d.late ≡ Some r → cas_of_last (r ∷ d.book) < 2 ^ 64
 
 -- the disk of a vBucket that is not there: its member loads what stands on it, and nothing else is on its way
-pub record AwayIs (told : DiskTold) (d : Disk) : Type 0 where
+pub record AwayAgrees (told : DiskKnown) (d : Disk) : Type 0 where
   pub told_is : told ≡ record { flushing = Flushing.Idle; book = map bare d.book; late = None; saved = (place_of d.book).at; there = told.there; closed = false }
   pub disk : d ≡ opened d.book
   pub cas : cas_of_last d.book < 2 ^ 64
 
 -- where there is a vBucket there is its journal; a blank one may be there before it
-abbrev pub DiskIsIf : DiskTold → Disk → Option Shelf → Option Plain → Type 0
-DiskIsIf told d None None = AwayIs told d
-DiskIsIf told d (Some shelf) None = AwayIs told d × (d.book ≡ []) × (shelf ≡ blank_shelf)
+abbrev pub DiskIsIf : DiskKnown → Disk → Option Shelf → Option Plain → Type 0
+DiskIsIf told d None None = AwayAgrees told d
+DiskIsIf told d (Some shelf) None = AwayAgrees told d × (d.book ≡ []) × (shelf ≡ blank_shelf)
 DiskIsIf told d None (Some vb) = ⊥
 DiskIsIf told d (Some shelf) (Some vb) = ShelfIs told d shelf (parts_of vb)
 
 -- what a vBucket saved is what the lines tell
-pub saved_so : (told : DiskTold) (d : Disk) (s : Option Shelf) (vb : Plain) → DiskIsIf told d s (Some vb) → vb.saved ≡ told.saved
+pub saved_so : (told : DiskKnown) (d : Disk) (s : Option Shelf) (vb : Plain) → DiskIsIf told d s (Some vb) → vb.saved ≡ told.saved
 saved_so told d None vb x = absurd x
 saved_so told d (Some shelf) vb x = sym x.saved
 
@@ -96,7 +96,7 @@ pub same_parts : (o : Option Plain) → SameParts o o
 same_parts None = tt
 same_parts (Some x) = refl
 
-disk_vb : (told : DiskTold) (d : Disk) (s : Option Shelf) (o o' : Option Plain) → SameParts o o' → DiskIsIf told d s o → DiskIsIf told d s o'
+disk_vb : (told : DiskKnown) (d : Disk) (s : Option Shelf) (o o' : Option Plain) → SameParts o o' → DiskIsIf told d s o → DiskIsIf told d s o'
 disk_vb told d None None None same x = x
 disk_vb told d None (Some a) o' same x = absurd x
 disk_vb told d (Some s) None None same x = x
@@ -106,7 +106,7 @@ disk_vb told d (Some s) (Some a) None same x = absurd same
 disk_vb told d (Some s) (Some a) (Some b) same x = subst (ShelfIs told d s) (sym same) x
 
 -- what is the same agrees as before
-pub disk_same : {told told' : DiskTold} {d d' : Disk} {s s' : Option Shelf} (o o' : Option Plain) → told' ≡ told → d' ≡ d → s' ≡ s → SameParts o o' → DiskIsIf told d s o → DiskIsIf told' d' s' o'
+pub disk_same : {told told' : DiskKnown} {d d' : Disk} {s s' : Option Shelf} (o o' : Option Plain) → told' ≡ told → d' ≡ d → s' ≡ s → SameParts o o' → DiskIsIf told d s o → DiskIsIf told' d' s' o'
 disk_same {told} {told' = told'} {d} {d' = d'} {s} {s' = s'} o o' e f g same x =
     subst (λ t. DiskIsIf t d' s' o') (sym e) (subst (λ y. DiskIsIf told y s' o') (sym f) (subst (λ y. DiskIsIf told d y o') (sym g) (disk_vb told d s o o' same x)))
 
@@ -129,7 +129,7 @@ grown_spots at seq ws (Some j) alone o stood g e from current x = λ w i l. ⊎_
     (in_part w ws.sealed (option_to_list (Some j)) i)
 
 -- a vBucket with other spans, which end at positions of its disk
-pub shelf_spanned : {told : DiskTold} {d d' : Disk} {shelf : Shelf} {x : Parts} (ws : Spans) → ShelfIs told d shelf x → d'.book ≡ d.book → d'.batch ≡ d.batch → d'.late ≡ d.late → EndAtSpots (place_of d.book).at ws d'.stood
+pub shelf_spanned : {told : DiskKnown} {d d' : Disk} {shelf : Shelf} {x : Parts} (ws : Spans) → ShelfIs told d shelf x → d'.book ≡ d.book → d'.batch ≡ d.batch → d'.late ≡ d.late → EndAtSpots (place_of d.book).at ws d'.stood
     → ShelfIs told d' shelf (record x { spans = ws })
 shelf_spanned {told} {d} {d' = d'} {shelf} {x} ws a book batch late spots =
     let at : (place_of d'.book).at ≡ (place_of d.book).at = ap (λ b. (place_of b).at) book in
@@ -151,9 +151,9 @@ shelf_spanned {told} {d} {d' = d'} {shelf} {x} ws a book batch late spots =
     }
 
 -- a vBucket whose open span was sealed
-pub sealed_shelf : {told : DiskTold} {d : Disk} {shelf : Shelf} (x y : Parts) → y ≡ record x { spans = with_seal x.spans } → ShelfIs told d shelf x → ShelfIs told d shelf y
+pub sealed_shelf : {told : DiskKnown} {d : Disk} {shelf : Shelf} (x y : Parts) → y ≡ record x { spans = with_seal x.spans } → ShelfIs told d shelf x → ShelfIs told d shelf y
 sealed_shelf {told} {d} {shelf} x y e a = subst (ShelfIs told d shelf) (sym e) (shelf_spanned (with_seal x.spans) a refl refl refl (sealed_spots (place_of d.book).at x.spans d.stood a.spots))
 
-pub sealed_disk : (told : DiskTold) (d : Disk) (s : Option Shelf) (vb vb' : Plain) → parts_of vb' ≡ record (parts_of vb) { spans = with_seal vb.spans } → DiskIsIf told d s (Some vb) → DiskIsIf told d s (Some vb')
+pub sealed_disk : (told : DiskKnown) (d : Disk) (s : Option Shelf) (vb vb' : Plain) → parts_of vb' ≡ record (parts_of vb) { spans = with_seal vb.spans } → DiskIsIf told d s (Some vb) → DiskIsIf told d s (Some vb')
 sealed_disk told d None vb vb' e x = absurd x
 sealed_disk told d (Some shelf) vb vb' e x = sealed_shelf (parts_of vb) (parts_of vb') e x

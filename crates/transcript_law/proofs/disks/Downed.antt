@@ -2,9 +2,9 @@
 use Rattle.std.specs.Prelude.{◌≡◌, ◌<◌, ◌≤◌, ◌∷◌, ◌++◌, ◌==◌, ◌||◌, if◌then◌else◌, cond}
 use Rattle.transcript_law.proofs.Words.{ℕ, zero, suc, arith, with_id, Bool, true, false, List, [], refl, ap, sym, ◌∙◌, subst, inl, inr, ⊎_elim, Option, Some, None, filter, flat_map, eqb-true, eq-eqb, ne_eqb, Event, StreamName, EndReason}
 use Rattle.transcript_law.proofs.Words.{Cluster, Move, happens, StaysSound, row_at, row_out, PlainLink, link_number, producer_node, PlainNode, PlainWorld, unlinked, Dial, Granted, Chronicle, after_end, after_lines, LawfulFrom}
-use Rattle.node_world.specs.Power.{all_cut, all_unlinked, closed_line, closed_lines, down_lines, end_line, end_lines, has_client, is_number, is_touched, touches, all_numbers}
+use Rattle.node_world.specs.Power.{all_cut, all_unlinked, closed_line, closed_lines, down_lines, end_line, end_lines, has_client, is_this_number, is_touched, touches, all_numbers}
 use Rattle.transcript_law.proofs.{invariant.Agreement.{Agrees, AgreesIn, Busy, DifferFrom, IsLink, LinksDiffer, consumer_seat, idle, producer_seat, vb_of}, disks.ArmedLines.{AreEnds}, lines.Lines.{AreQuiet}}
-use Rattle.transcript_law.proofs.{invariant.Carrying.{BecameOver, SamePowers}, invariant.Carried.{kept_same, link_carried, stays_same, told_none}, links.Cutting.{closable, unlinking}, invariant.LinkRows.{differ_in, found_is_link, out_links}, invariant.OneLink.{carries_over}}
+use Rattle.transcript_law.proofs.{invariant.Carrying.{BecameOver, SamePowers}, invariant.Carried.{kept_same, link_carried, stays_same, told_of_same}, links.Cutting.{closable, unlinking}, invariant.LinkRows.{differ_in, found_is_link, out_links}, invariant.OneLink.{carries_over}}
 use Rattle.transcript_law.proofs.invariant.Tables.{id_there, ended_there}
 use Rattle.{disk_journals.specs.Books.{below}, node_world.specs.Power.{numbers}, std.proofs.lemmas.Grind.{flat_map-append}}
 
@@ -113,7 +113,7 @@ flat_spare k f h s [] = tt
 flat_spare k f h s (l ∷ ls) = spare_more k (f l) (flat_map f ls) (h l) (s l) (flat_spare k f h s ls)
 
 one_end : (n : ℕ) (also : Option ℕ) (links : List PlainLink) (l : ℕ) → AreEnds (end_line n also links l)
-one_end n also links l = elim (is_number l also || is_touched n (row_at link_number l links)) as (λ b. AreEnds (if b then Event.Ended l EndReason.Cut ∷ [] else [])) [ true ↦ tt | false ↦ tt ]
+one_end n also links l = elim (is_this_number l also || is_touched n (row_at link_number l links)) as (λ b. AreEnds (if b then Event.Ended l EndReason.Cut ∷ [] else [])) [ true ↦ tt | false ↦ tt ]
 
 one_closed : (n : ℕ) (node : Option PlainNode) (c : ℕ) → AreEnds (closed_line n node c)
 one_closed n node c = elim (has_client c node) as (λ b. AreEnds (if b then Event.Closed n c ∷ [] else [])) [ true ↦ tt | false ↦ tt ]
@@ -123,9 +123,9 @@ down_ends n also w = ends_more (end_lines n also w.links) (closed_lines n (w.nod
 
 -- the links of these numbers are dialed, of which an end is told
 module _ (dials : ℕ → Option Dial) (n : ℕ) (also : Option ℕ) (links : List PlainLink) (node : Option PlainNode)
-    (known : (l : ℕ) → (is_number l also || is_touched n (row_at link_number l links)) ≡ true → (dial : Dial) × (dials l ≡ Some dial)) where
+    (known : (l : ℕ) → (is_this_number l also || is_touched n (row_at link_number l links)) ≡ true → (dial : Dial) × (dials l ≡ Some dial)) where
   one_dialed : (k : ℕ) → AreDialed dials (end_line n also links k ++ []) × EndsBelow (suc k) (end_line n also links k ++ []) × ((l : ℕ) → l < k → Spare l (end_line n also links k ++ []))
-  one_dialed k = by (is_number k also || is_touched n (row_at link_number k links)) (known k)
+  one_dialed k = by (is_this_number k also || is_touched n (row_at link_number k links)) (known k)
     where
       by : (b : Bool) → (b ≡ true → (dial : Dial) × (dials k ≡ Some dial))
           → (let lines = (if b then Event.Ended k EndReason.Cut ∷ [] else []) ++ [] in AreDialed dials lines × EndsBelow (suc k) lines × ((l : ℕ) → l < k → Spare l lines))
@@ -159,17 +159,17 @@ unfolding all_numbers
 numbers_are = refl
 
 -- each link that ends with the node is dialed
-pub down_dialed : {busy : Busy} (w : PlainWorld) (r : Chronicle) (c : Cluster) (n : ℕ) (also : Option ℕ) → AgreesIn busy w r c → ((l : ℕ) → is_number l also ≡ true → (dial : Dial) × (r.dial_of l ≡ Some dial)) → AreDialed r.dial_of (down_lines n also w)
-down_dialed w r c n also a besides = both_dialed r.dial_of n also w.links (w.nodes n) (λ l. by l (is_number l also) refl (row_at link_number l w.links) refl) numbers all_numbers numbers_are
+pub down_dialed : {busy : Busy} (w : PlainWorld) (r : Chronicle) (c : Cluster) (n : ℕ) (also : Option ℕ) → AgreesIn busy w r c → ((l : ℕ) → is_this_number l also ≡ true → (dial : Dial) × (r.dial_of l ≡ Some dial)) → AreDialed r.dial_of (down_lines n also w)
+down_dialed w r c n also a besides = both_dialed r.dial_of n also w.links (w.nodes n) (λ l. by l (is_this_number l also) refl (row_at link_number l w.links) refl) numbers all_numbers numbers_are
   where
-    by : (l : ℕ) (b : Bool) → is_number l also ≡ b → (o : Option PlainLink) → row_at link_number l w.links ≡ o → (b || is_touched n o) ≡ true → (dial : Dial) × (r.dial_of l ≡ Some dial)
+    by : (l : ℕ) (b : Bool) → is_this_number l also ≡ b → (o : Option PlainLink) → row_at link_number l w.links ≡ o → (b || is_touched n o) ≡ true → (dial : Dial) × (r.dial_of l ≡ Some dial)
     by l true is o e t = besides l is
     by l false is None e t = cc
     by l false is (Some link) e t = let found = found_is_link l w.links link e in (_, ap r.dial_of (sym found.1) ∙ (a.links link found.0).dialed)
 
 -- the number that is told of besides is that of no link
 abbrev pub IsFree : Option ℕ → List PlainLink → Type 0
-IsFree also links = (x : PlainLink) → IsLink x links → is_number (link_number x) also ≡ false
+IsFree also links = (x : PlainLink) → IsLink x links → is_this_number (link_number x) also ≡ false
 
 pub none_free : (links : List PlainLink) → IsFree None links
 none_free links x i = refl
@@ -232,7 +232,7 @@ pub record LinksCut (xs : List PlainLink) (w : PlainWorld) (r : Chronicle) : Typ
 module _ (stays : StaysSound) (r : Chronicle) where
   cut_one : (w : PlainWorld) (c : Cluster) (link : PlainLink) (a : AgreesIn idle w r c) → IsLink link w.links → AgreesIn idle (unlinked link w) r (happens c (Move.Cut (consumer_seat link)))
   cut_one w c link a i = carries_over idle idle w (unlinked link w) r r c (link_number link) link a (row_found w.links link a.differ i)
-      (unlinking stays w link (closable idle w r c link [] [] a (a.links link i))) (told_none (link_number link) r) (λ k ne. refl)
+      (unlinking stays w link (closable idle w r c link [] [] a (a.links link i))) (told_of_same (link_number link) r) (λ k ne. refl)
 
   cut_links : (xs : List PlainLink) (w : PlainWorld) (c : Cluster) → AgreesIn idle w r c → LinksDiffer xs → ((x : PlainLink) → IsLink x xs → IsLink x w.links) → LinksCut xs w r
   cut_links [] w c a d among = record { cluster = c; agrees = a; left = λ x i. (i, λ y j. absurd j); powers = λ m. refl }
@@ -299,13 +299,13 @@ module _ (stays : StaysSound) (w : PlainWorld) (r : Chronicle) (c : Cluster) (n 
       there : IsLink x w.links
       there = (were_cut.left x i).0
 
-      not_told : (is_number (link_number x) also || is_touched n (row_at link_number (link_number x) w.links)) ≡ false
+      not_told : (is_this_number (link_number x) also || is_touched n (row_at link_number (link_number x) w.links)) ≡ false
       not_told = ap (λ b. b || is_touched n (row_at link_number (link_number x) w.links)) (free x there) ∙ ap (is_touched n) (row_found w.links x a.differ there) ∙ untouched x i
 
       one : (l : ℕ) → Spare (link_number x) (end_line n also w.links l)
-      one l = elim (is_number l also || is_touched n (row_at link_number l w.links))
-          as (λ b. (is_number l also || is_touched n (row_at link_number l w.links)) ≡ b → Spare (link_number x) (if b then Event.Ended l EndReason.Cut ∷ [] else [])) [
-            | true ↦ λ t. (λ e. let z : true ≡ false = sym t ∙ ap (λ k. is_number k also || is_touched n (row_at link_number k w.links)) (sym e) ∙ not_told in cc, tt)
+      one l = elim (is_this_number l also || is_touched n (row_at link_number l w.links))
+          as (λ b. (is_this_number l also || is_touched n (row_at link_number l w.links)) ≡ b → Spare (link_number x) (if b then Event.Ended l EndReason.Cut ∷ [] else [])) [
+            | true ↦ λ t. (λ e. let z : true ≡ false = sym t ∙ ap (λ k. is_this_number k also || is_touched n (row_at link_number k w.links)) (sym e) ∙ not_told in cc, tt)
             | false ↦ λ t. tt
           ] refl
 

@@ -2,7 +2,7 @@
 use Rattle.std.specs.Prelude.{◌≡◌, ◌∷◌, ◌++◌, ◌||◌, if◌then◌else◌}
 use Rattle.transcript_law.proofs.Words.{ℕ, Bool, true, false, List, [], refl, ap, sym, ◌∙◌, subst, ⊎_elim, row_at, link_number, Option, Some, None, Answer, Cause, Event, PlainWorld, Told}
 use Rattle.node_core.specs.Admin.{noted_answer}
-use Rattle.node_world.specs.{Arms.{fired_by}, Power.{after_broken, after_fire, all_numbers, closed_line, closed_lines, down_lines, end_line, end_lines, has_client, is_broken_answer, is_number, is_touched, with_arm, with_broken}, Worlds.{arm_in}}
+use Rattle.node_world.specs.{Arms.{fired_by}, Power.{after_broken, after_fire, all_numbers, closed_line, closed_lines, down_lines, end_line, end_lines, has_client, is_broken_answer, is_this_number, is_touched, with_arm, with_broken}, Worlds.{arm_in}}
 use Rattle.node_world.specs.declared.arm.Fired.{Fired}
 use Rattle.node_world.specs.declared.arm.Fired.TheVariants as fired
 use Rattle.transcript_law.proofs.{invariant.Agreement.{IsArm}, disks.AppendAnswers.{AppendCame, fuse_in}, disks.ArmedSteps.{NotedBy}, disks.Burning.{breaks_under, quiet_same, stands_under}, lines.Calm.{Calm, Still, calm_each, calm_more, calm_still, either, fires_once, still_more, still_once}}
@@ -22,7 +22,7 @@ standing_fires (Some n) lines other calm s = calm
 -- what ends with a node tells of none
 pub ends_calm : (n : ℕ) (also : Option ℕ) (w : PlainWorld) → Calm (down_lines n also w)
 ends_calm n also w = calm_more (end_lines n also w.links) (closed_lines n (w.nodes n))
-    (calm_each (end_line n also w.links) all_numbers (λ l. either Calm (is_number l also || is_touched n (row_at link_number l w.links)) _ [] refl refl))
+    (calm_each (end_line n also w.links) all_numbers (λ l. either Calm (is_this_number l also || is_touched n (row_at link_number l w.links)) _ [] refl refl))
     (calm_each (closed_line n (w.nodes n)) all_numbers (λ c. either Calm (has_client c (w.nodes n)) _ [] refl refl))
 
 -- a line that appends a record

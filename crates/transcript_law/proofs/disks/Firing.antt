@@ -2,8 +2,8 @@
 use Rattle.std.specs.Prelude.{◌≡◌, ◌∷◌, ◌++◌, ◌==◌, if◌then◌else◌}
 use Rattle.std.proofs.lemmas.Grind.{flat_map-append}
 use Rattle.transcript_law.proofs.Words.{ℕ, Bool, true, false, List, [], refl, ap, sym, ◌∙◌, subst, append-nil, eqb-true, Option, Some, None, Dial, filter, flat_map, Event, EndReason, StreamName, StaysSound}
-use Rattle.transcript_law.proofs.Words.{Cluster, PlainLink, link_number, PlainNode, PlainWorld, row_out, unlinked, with_links, branch_told, with_branches, Role, Chronicle, after_end, after_line, after_lines, LawfulFrom, with_id}
-use Rattle.node_world.specs.{Arms.{fired_by}, Cuts.{closed_at}, Power.{after_broken, after_fire, all_cut, all_unlinked, down_lines, dropped, is_number, stopped_node, touches, with_arm, with_broken}, Worlds.{arm_in, is_up, node_if, with_node_if}}
+use Rattle.transcript_law.proofs.Words.{Cluster, PlainLink, link_number, PlainNode, PlainWorld, row_out, unlinked, with_links, branch_of_line, with_branches, Role, Chronicle, after_end, after_line, after_lines, LawfulFrom, with_id}
+use Rattle.node_world.specs.{Arms.{fired_by}, Cuts.{closed_at}, Power.{after_broken, after_fire, all_cut, all_unlinked, down_lines, dropped, is_this_number, stopped_node, touches, with_arm, with_broken}, Worlds.{arm_in, is_up, node_if, with_node_if}}
 use Rattle.node_world.specs.declared.arm.Fired.{Fired}
 use Rattle.{vb_disk.specs.declared.fuse.Fuse.{Fuse}, vb_disk.specs.declared.made.Outcome.{Outcome}, vb_events.specs.declared.event.Answer.{Answer}, vb_types.specs.declared.journal.Record.{Record}}
 use Rattle.vb_disk.specs.declared.fuse.Fuse.TheVariants.{Off, Stop, Fail}
@@ -11,7 +11,7 @@ use Rattle.node_world.specs.declared.arm.Fired.TheVariants as fired
 use Rattle.vb_events.specs.declared.event.Answer.TheVariants as answer
 use Rattle.vb_types.specs.declared.stream.AskAnswer.TheVariants as ask_answer
 use Rattle.vb_events.specs.declared.event.Cause.TheVariants as cause
-use Rattle.transcript_law.specs.{Chronicles.{Appending, ArmTold, DiskTold, after_append, after_crash, after_made, after_noted, after_rollback, appending, broken_by, calls_of_append, down_told, saving, spent, state_of, with_disk, with_disk_there}, Lawfulness.{IsOpen, IsToFail, IsToStop}}
+use Rattle.transcript_law.specs.{Chronicles.{Appending, ArmKnown, DiskKnown, after_append, after_crash, after_made, after_noted, after_rollback, appending, broken_by, calls_of_append, known_down, saving, spent, state_of, with_disk, with_disk_there}, Lawfulness.{IsOpen, IsToFail, IsToStop}}
 use Rattle.transcript_law.proofs.{invariant.Agreement.{Agrees, AgreesIn, GoesOn, IsArm, IsLink, LineGoes, PowerIsIf, idle}, disks.ArmedLines.{AreEnds, ArmedCame, IsNoting}, verbs.Crashing.{Drops, drops}}
 use Rattle.transcript_law.proofs.{disks.Disks.{power_in}, disks.Downed.{AreDialed, IsFree, down_ends, ends_lawful, end_agrees, none_free, some_free}, lines.Lines.{AreQuiet, after_more, lawful_more}}
 
@@ -40,13 +40,13 @@ lines_arms r [] = refl
 lines_arms r (line ∷ lines) = lines_arms (after_line r line) lines ∙ line_arms r line
 
 -- the arm of a node, as the lines tell it
-pub record ArmIs (told : ArmTold) (o : Option PlainNode) : Type 0 where
+pub record ArmAgrees (told : ArmKnown) (o : Option PlainNode) : Type 0 where
   pub fuse : told.fuse ≡ (arm_in o).fuse
   pub out : told.out ≡ (arm_in o).out
   pub may_fire : IsArm (arm_in o).fuse
 
-pub arm_is : (told : ArmTold) (o : Option PlainNode) → PowerIsIf told (power_in o) → ArmIs told o
-arm_is told None e = record { fuse = ap (λ (t : ArmTold). t.fuse) e; out = ap (λ (t : ArmTold). t.out) e; may_fire = tt }
+pub arm_is : (told : ArmKnown) (o : Option PlainNode) → PowerIsIf told (power_in o) → ArmAgrees told o
+arm_is told None e = record { fuse = ap (λ (t : ArmKnown). t.fuse) e; out = ap (λ (t : ArmKnown). t.out) e; may_fire = tt }
 arm_is told (Some node) p = record { fuse = p.fuse; out = p.out; may_fire = p.may_fire }
 
 -- it fails a call, or stops its node, only where it was to
@@ -69,14 +69,14 @@ module _ (n : ℕ) (w0 : PlainWorld) (r : Chronicle) (c : Cluster) (a : AgreesIn
   abbrev r1 : Chronicle
   r1 = after_lines r events
 
-  arm : ArmIs (r.arm_at n) (w0.nodes n)
+  arm : ArmAgrees (r.arm_at n) (w0.nodes n)
   arm = arm_is (r.arm_at n) (w0.nodes n) (a.powers n)
 
   same : r1.arm_at n ≡ r.arm_at n
-  same = ap (λ (t : ℕ → ArmTold). t n) (lines_arms r events)
+  same = ap (λ (t : ℕ → ArmKnown). t n) (lines_arms r events)
 
   fuse_is : (r1.arm_at n).fuse ≡ (arm_in (w0.nodes n)).fuse
-  fuse_is = ap (λ (t : ArmTold). t.fuse) same ∙ arm.fuse
+  fuse_is = ap (λ (t : ArmKnown). t.fuse) same ∙ arm.fuse
 
   pub fails_so : fired_by (arm_in (w0.nodes n)).fuse after ≡ fired.Failed → IsToFail (r1.arm_at n).fuse
   fails_so e = subst IsToFail (sym fuse_is) (to_fail (arm_in (w0.nodes n)).fuse after e arm.may_fire)
@@ -86,10 +86,10 @@ module _ (n : ℕ) (w0 : PlainWorld) (r : Chronicle) (c : Cluster) (a : AgreesIn
 
   -- what a crash leaves, after what ends with the node is told
   pub leaves_so : (lines : List Event) → ((after_lines r1 lines).arm_at n).out ≡ (arm_in (w0.nodes n)).out
-  leaves_so lines = ap (λ (t : ℕ → ArmTold). (t n).out) (lines_arms r1 lines) ∙ ap (λ (t : ArmTold). t.out) same ∙ arm.out
+  leaves_so lines = ap (λ (t : ℕ → ArmKnown). (t n).out) (lines_arms r1 lines) ∙ ap (λ (t : ArmKnown). t.out) same ∙ arm.out
 
   -- the node stopped: its links end, and that of the number `also`, which is none of them
-  pub stopped : StaysSound → (told : Answer → Chronicle → Chronicle) → IsNoting n told → (w1 : PlainWorld) (also : Option ℕ) → IsFree also w1.links → ((l : ℕ) → is_number l also ≡ true → (dial : Dial) × (r1.dial_of l ≡ Some dial)) → LawfulFrom r events → AreQuiet events → fired_by (arm_in (w0.nodes n)).fuse after ≡ fired.Stopped
+  pub stopped : StaysSound → (told : Answer → Chronicle → Chronicle) → IsNoting n told → (w1 : PlainWorld) (also : Option ℕ) → IsFree also w1.links → ((l : ℕ) → is_this_number l also ≡ true → (dial : Dial) × (r1.dial_of l ≡ Some dial)) → LawfulFrom r events → AreQuiet events → fired_by (arm_in (w0.nodes n)).fuse after ≡ fired.Stopped
       → is_up (w1.nodes n) ≡ true → Agrees w1 (told (answer.No cause.Disk) r1)
       → GoesOn r (told (answer.No cause.Stopped)) (dropped n (arm_in (w0.nodes n)).out w1, record { events = events ++ Event.NodeStopped n ∷ down_lines n also w1; answer = answer.No cause.Stopped })
   stopped stays told noting w1 also free besides lawful quiet e up agrees =
@@ -167,14 +167,14 @@ more_dropped : (more : List ℕ) (n : ℕ) (out : Outcome) (w : PlainWorld) → 
 more_dropped more n out w = ap (with_node_if n (stopped_node out)) (more_unlinked more (filter (touches n) w.links) w) ∙ more_if more n (stopped_node out) (all_cut n w)
 
 -- lines of what ends tell of none
-none_told : (lines : List Event) → AreEnds lines → flat_map branch_told lines ≡ []
+none_told : (lines : List Event) → AreEnds lines → flat_map branch_of_line lines ≡ []
 none_told [] a = refl
 none_told (Event.Ended l reason ∷ lines) a = none_told lines a
 none_told (Event.Closed n c ∷ lines) a = none_told lines a
 none_told (other ∷ lines) a = absurd a
 
-pub same_told : (events more : List Event) → flat_map branch_told more ≡ [] → flat_map branch_told (events ++ more) ≡ flat_map branch_told events
-same_told events more none = flat_map-append branch_told events more ∙ ap (λ xs. flat_map branch_told events ++ xs) none ∙ append-nil (flat_map branch_told events)
+pub same_told : (events more : List Event) → flat_map branch_of_line more ≡ [] → flat_map branch_of_line (events ++ more) ≡ flat_map branch_of_line events
+same_told events more none = flat_map-append branch_of_line events more ∙ ap (λ xs. flat_map branch_of_line events ++ xs) none ∙ append-nil (flat_map branch_of_line events)
 
 -- the same, where the line may tell of branches
 pub line_fires : StaysSound → (n : ℕ) (told : Answer → Chronicle → Chronicle) → IsNoting n told → (w0 w1 : PlainWorld) (r : Chronicle) (events : List Event) (said : Answer) → Agrees w0 r → LawfulFrom r events → AreQuiet events
@@ -192,16 +192,16 @@ line_fires stays n told noting w0 w1 r events said a lawful quiet came =
         let lines : List Event = events ++ Event.NodeStopped n ∷ down_lines n None w1 in (
           g.0,
           subst (λ w. Agrees w (told (answer.No cause.Stopped) (after_lines r lines)))
-              (more_dropped (flat_map branch_told events) n out w1 ∙ ap (λ us. with_more us (dropped n out w1)) (sym (same_told events (Event.NodeStopped n ∷ down_lines n None w1) (none_told (down_lines n None w1) (down_ends n None w1))))) g.1,
+              (more_dropped (flat_map branch_of_line events) n out w1 ∙ ap (λ us. with_more us (dropped n out w1)) (sym (same_told events (Event.NodeStopped n ∷ down_lines n None w1) (none_told (down_lines n None w1) (down_ends n None w1))))) g.1,
         )
 
 -- what a line tells beside its lines
 
 -- an arm that is set anew does not matter
-rearmed : (r : Chronicle) (n : ℕ) (arm : ArmTold) (out : Outcome) → after_crash (record r { arm_at = with_id r.arm_at n arm }) n out ≡ after_crash r n out
+rearmed : (r : Chronicle) (n : ℕ) (arm : ArmKnown) (out : Outcome) → after_crash (record r { arm_at = with_id r.arm_at n arm }) n out ≡ after_crash r n out
 rearmed r n arm out = λ i. record (after_crash r n out) { arm_at = λ m. by m (m == n) i }
   where
-    by : (m : ℕ) (b : Bool) → (if b then down_told else (if b then arm else r.arm_at m)) ≡ (if b then down_told else r.arm_at m)
+    by : (m : ℕ) (b : Bool) → (if b then known_down else (if b then arm else r.arm_at m)) ≡ (if b then known_down else r.arm_at m)
     by m true = refl
     by m false = refl
 
@@ -216,7 +216,7 @@ apart_by f h r (other ∷ lines) a = absurd a
 pub append_noting : (n v : ℕ) (a : Chronicle → Appending) → ((r : Chronicle) (l : ℕ) → a (after_end r l) ≡ a r) → IsNoting n (λ said r. after_append r n v (a r) said)
 append_noting n v a same = record {
   stops = λ r.
-      let d : DiskTold = broken_by (r.arm_at n).fuse (a r).what ((a r).fails (r.disk_at n v)) in
+      let d : DiskKnown = broken_by (r.arm_at n).fuse (a r).what ((a r).fails (r.disk_at n v)) in
       sym (rearmed (with_disk r n v d) n (record (r.arm_at n) { fuse = spent calls_of_append (r.arm_at n).fuse }) (r.arm_at n).out);
   apart = apart_by (λ r. after_append r n v (a r) (answer.No cause.Disk)) (λ r l. ap (λ x. after_append (after_end r l) n v x (answer.No cause.Disk)) (same r l));
   dials = λ r. refl;

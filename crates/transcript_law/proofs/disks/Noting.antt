@@ -1,6 +1,6 @@
 -- what a line that appends a record has come to, and how it goes on under its node's arm
 use Rattle.std.specs.Prelude.{◌≡◌, ◌∷◌, if◌then◌else◌}
-use Rattle.transcript_law.proofs.Words.{ℕ, Bool, true, false, List, [], refl, sym, ◌∙◌, subst, Some, eq-eqb, Answer, Cause, Chronicle, Event, LawfulFrom, PlainNode, PlainWorld, StaysSound, after_lines, branch_told, first_cause, flat_map, refusal, with_branches, with_node_at}
+use Rattle.transcript_law.proofs.Words.{ℕ, Bool, true, false, List, [], refl, sym, ◌∙◌, subst, Some, eq-eqb, Answer, Cause, Chronicle, Event, LawfulFrom, PlainNode, PlainWorld, StaysSound, after_lines, branch_of_line, first_cause, flat_map, refusal, with_branches, with_node_at}
 use Rattle.transcript_law.proofs.{invariant.Agreement.{Agrees, LineGoes}, disks.ArmedLines.{ArmedCame, IsNoting}, disks.Burning.{quiet_same}, disks.Firing.{line_fires}, lines.Lines.{AreQuiet}, verbs.NodeLines.{more_used, refused_on}}
 use Rattle.node_world.specs.{Arms.{fired_by}, Power.{with_arm}, Worlds.{Outcome as Came, arm_in}, declared.arm.Fired.{Fired}}
 use Rattle.node_world.specs.declared.arm.Fired.TheVariants as fired
@@ -13,9 +13,9 @@ came_as n told told' fired.Stopped r r' w said e x = (x.0, x.1, subst (Agrees w)
 
 -- the ids of branches that lines tell of may be used as well
 pub came_used : (n : ℕ) (told : Answer → Chronicle → Chronicle) (how : Fired) (r : Chronicle) (w : PlainWorld) (said : Answer) (lines : List Event) → ArmedCame n told how r w said → ArmedCame n told how r (with_branches lines w) said
-came_used n told fired.No r w said lines x = more_used w (told said r) (flat_map branch_told lines) x
-came_used n told fired.Failed r w said lines x = (x.0, more_used w (told said r) (flat_map branch_told lines) x.1)
-came_used n told fired.Stopped r w said lines x = (x.0, x.1, more_used w (told said r) (flat_map branch_told lines) x.2)
+came_used n told fired.No r w said lines x = more_used w (told said r) (flat_map branch_of_line lines) x
+came_used n told fired.Failed r w said lines x = (x.0, more_used w (told said r) (flat_map branch_of_line lines) x.1)
+came_used n told fired.Stopped r w said lines x = (x.0, x.1, more_used w (told said r) (flat_map branch_of_line lines) x.2)
 
 -- what a line has come to before it is asked whether the arm of the node n fired: its lines are lawful, and say nothing of those behind them
 abbrev pub LineCame : ℕ → (Answer → Chronicle → Chronicle) → PlainWorld → Chronicle → Came → Type 0

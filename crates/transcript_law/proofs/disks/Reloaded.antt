@@ -1,15 +1,15 @@
 -- a node that is loaded: what agreed while it was down agrees
 use Rattle.std.specs.Prelude.{◌≡◌, ◌∷◌, if◌then◌else◌, option_map}
 use Rattle.transcript_law.proofs.Words.{ℕ, Bool, true, false, List, [], refl, ap, sym, ◌∙◌, subst, ⊎_elim, Option, Some, None, eq-eqb, ne_eqb, is_some, length, Cluster, Plain, PlainLink, PlainNode, PlainWorld, consumer_node, producer_node, shelf_in, vb_in, with_node_at, Chronicle}
-use Rattle.transcript_law.proofs.{invariant.Agreement.{AgreesAt, AgreesIn, AwayAt, BookBy, BookIs, DiskIsIf, DownAt, IsArm, IsLink, LinkAgrees, PowerIs, PowerIsIf, RestsIn, book_in, idle, is_down, power_of, shelf_of, vb_of}, disks.Burning.{burns, opened_all}, invariant.Carried.{kept_same, link_carried, numbers}}
-use Rattle.transcript_law.proofs.{disks.Disks.{AwayIs, power_in}, disks.Reloading.{loaded_is, loaded_shelf}, invariant.Seats.{seat}, disks.Shelving.{count_listed, loaded_at, loaded_of, opened_at_number}, invariant.Tables.{id_here, id_there}}
+use Rattle.transcript_law.proofs.{invariant.Agreement.{AgreesAt, AgreesIn, AwayAt, BookBy, BookAgrees, DiskIsIf, DownHolds, IsArm, IsLink, LinkAgrees, PowerIs, PowerIsIf, RestsIn, book_in, idle, is_down, power_of, shelf_of, vb_of}, disks.Burning.{burns, opened_all}, invariant.Carried.{kept_same, link_carried, numbers}}
+use Rattle.transcript_law.proofs.{disks.Disks.{AwayAgrees, power_in}, disks.Reloading.{loaded_is, loaded_shelf}, invariant.Seats.{seat}, disks.Shelving.{count_listed, loaded_at, loaded_of, opened_at_number}, invariant.Tables.{id_here, id_there}}
 use Rattle.cluster_model.specs.Clusters.{Disk}
 use Rattle.disk_journals.specs.Arms.{opens_all}
 use Rattle.disk_journals.specs.Books.{Book, listed, opened_shelves}
 use Rattle.node_core.specs.Loading.{loaded_states}
 use Rattle.node_world.specs.Power.{burnt_arm, loaded_node}
 use Rattle.node_world.specs.declared.arm.Arm.{Arm}
-use Rattle.transcript_law.specs.Chronicles.{ArmTold, after_calls, after_up, disks_of, spent}
+use Rattle.transcript_law.specs.Chronicles.{ArmKnown, after_calls, after_up, disks_of, spent}
 use Rattle.vb_calls.specs.Shelves.{Shelf, blank_shelf, open_shelf}
 use Rattle.vb_types.specs.declared.journal.Record.{Record}
 
@@ -58,7 +58,7 @@ module _ (w : PlainWorld) (r : Chronicle) (c : Cluster) (n : ℕ) (node : PlainN
   no_shelf v = (a.downs n v).shelf_none was_down
 
   pub book : (v : ℕ) → BookBy (Some books) v (shelf_of w n v) (r.disk_at n v) (c.disks (seat n v))
-  book v = subst (λ p. BookIs p v (shelf_of w n v) (r.disk_at n v) (c.disks (seat n v))) power (a.aways n v (none v)).book
+  book v = subst (λ p. BookAgrees p v (shelf_of w n v) (r.disk_at n v) (c.disks (seat n v))) power (a.aways n v (none v)).book
 
   -- each disk is opened by one call
   pub all_there : disks_of r n ≡ count
@@ -81,7 +81,7 @@ module _ (w : PlainWorld) (r : Chronicle) (c : Cluster) (n : ℕ) (node : PlainN
       abbrev d : Disk
       d = c.disks (seat n v)
 
-      pub away_disk : AwayIs (r.disk_at n v) d
+      pub away_disk : AwayAgrees (r.disk_at n v) d
       away_disk = subst (λ s. DiskIsIf (r.disk_at n v) d s None) (no_shelf v) (subst (DiskIsIf (r.disk_at n v) d (shelf_of w n v)) (none v) (a.disks n v))
 
       -- where no record stands
@@ -122,14 +122,14 @@ module _ (w : PlainWorld) (r : Chronicle) (c : Cluster) (n : ℕ) (node : PlainN
     linked x i = let p = apart x i in link_carried w w' r r' c c x [] [] (λ fv e. (fv, vb_there (consumer_node x) x.consumer.dialed.vb p.1 ∙ e, kept_same fv)) refl refl refl refl
         (λ q s e active opened has. (q, vb_there (producer_node x) x.consumer.dialed.vb p.0 ∙ e, active, opened, refl)) (a.links x i)
 
-    abbrev burnt : ArmTold
+    abbrev burnt : ArmKnown
     burnt = record (r.arm_at n) { fuse = spent count (r.arm_at n).fuse }
 
-    abbrev counted : ℕ → ArmTold
+    abbrev counted : ℕ → ArmKnown
     counted = (after_calls count n r).arm_at
 
     pub arm_here : r'.arm_at n ≡ record burnt { down = false }
-    arm_here = id_here counted n (record (counted n) { down = false }) ∙ ap (λ (t : ArmTold). record t { down = false }) (id_here r.arm_at n burnt)
+    arm_here = id_here counted n (record (counted n) { down = false }) ∙ ap (λ (t : ArmKnown). record t { down = false }) (id_here r.arm_at n burnt)
 
     arm_there : (m : ℕ) → (m ≡ n → ⊥) → r'.arm_at m ≡ r.arm_at m
     arm_there m ne = id_there counted n (record (counted n) { down = false }) m (λ e. ne (sym e)) ∙ id_there r.arm_at n burnt m (λ e. ne (sym e))
@@ -148,7 +148,7 @@ module _ (w : PlainWorld) (r : Chronicle) (c : Cluster) (n : ℕ) (node : PlainN
       powers = by_node (λ m o. PowerIsIf (r'.arm_at m) (power_in o)) power_now
           (λ m ne. subst (λ t. PowerIsIf t (power_of w m)) (sym (arm_there m ne)) (a.powers m));
       aways = λ m v. by_node (λ m o. vb_in o v ≡ None → AwayAt (power_in o) v (shelf_in o v) (r.role_at m v) (r.disk_at m v) (c.nodes (seat m v)) (c.disks (seat m v))) (loads v).away (λ m ne. a.aways m v) m;
-      downs = λ m v. by_node (λ m o. DownAt (power_in o) (vb_in o v) (shelf_in o v)) (record { vb_none = λ e. cc; shelf_none = λ e. cc }) (λ m ne. a.downs m v) m;
+      downs = λ m v. by_node (λ m o. DownHolds (power_in o) (vb_in o v) (shelf_in o v)) (record { vb_none = λ e. cc; shelf_none = λ e. cc }) (λ m ne. a.downs m v) m;
       ends = λ x i. let e = a.ends x i in let p = apart x i in
           record { producer = ap (λ o. is_down (power_in o)) (there (producer_node x) p.0) ∙ e.producer; consumer = ap (λ o. is_down (power_in o)) (there (consumer_node x) p.1) ∙ e.consumer; number = e.number };
       small = a.small;

@@ -2,9 +2,9 @@
 use Rattle.transcript_law.proofs.invariant.Waiting.{pends_apart, pends_low, pends_weigh}
 use Rattle.std.specs.Prelude.{◌≡◌, ◌<◌, ◌≤◌, ◌∷◌, ◌^◌}
 use Rattle.transcript_law.proofs.Words.{ℕ, true, false, List, refl, ap, sym, ◌∙◌, subst, arith, Option, Some, None, All, append-nil, take, ground, Cluster, Member, Plain, PlainWorld, is_active, no_spans, Chronicle, Role, Position, LogEntry, Picture, image_of, fork_of, Rises, length, map, Pend}
-use Rattle.transcript_law.proofs.{invariant.Agreement.{AgreesIn, AgreesAt, AwayAt, DiskIsIf, IsAway, EntryFits, VbAgrees, no_counts, VbTold, idle, own_history, power_of, shelf_of, top, vb_contents, vb_of, vb_row}, disks.Disks.{AwayIs, ShelfIs, bare, no_spots, parts_of}}
+use Rattle.transcript_law.proofs.{invariant.Agreement.{AgreesIn, AgreesAt, AwayAt, DiskIsIf, IsAway, EntryFits, VbAgrees, no_counts, VbTold, idle, own_history, power_of, shelf_of, top, vb_contents, vb_of, vb_row}, disks.Disks.{AwayAgrees, ShelfIs, bare, no_spots, parts_of}}
 use Rattle.transcript_law.proofs.{invariant.Bounded.{Bounded, Reads, Weighs}, links.Followed.{fork_low, no_writes, own_is}, invariant.Seats.{seat}, invariant.Wholes.{WholeTo, spanned_none}}
-use Rattle.transcript_law.specs.Chronicles.{DiskTold, rested, resting}
+use Rattle.transcript_law.specs.Chronicles.{DiskKnown, rested, resting}
 use Rattle.branch_model.proofs.{Holding.{holds_low}, Journaling.{items_image}, Lists.{rises_in, rises_le, upto_all, upto_in}}
 use Rattle.branch_model.specs.Journals.{batches, cas_of_last, end_of, items_of, log_of, place_of, role_of}
 use Rattle.branch_model.specs.Snapshots.{AllOf}
@@ -15,7 +15,7 @@ use Rattle.std.proofs.lemmas.List.{take_all}
 use Rattle.std.specs.FinMap.{get}
 use Rattle.vb_calls.specs.Shelves.{open_shelf}
 use Rattle.vb_calls.specs.State.{loaded_role}
-unfoldable use Rattle.vb_types.specs.Lasts.{pend_left, pend_told}
+unfoldable use Rattle.vb_types.specs.Lasts.{pend_left, pend_by_last}
 use Rattle.vb_types.specs.declared.journal.Record.{Record}
 use Rattle.vb_types.specs.declared.role.Role.TheVariants as role
 use Rattle.vbucket.proofs.Wholes.{loads_sound}
@@ -58,7 +58,7 @@ module _ (w : PlainWorld) (r : Chronicle) (c : Cluster) (n v : ℕ) (a : AgreesI
   rest : AwayAt (power_of w n) v (shelf_of w n v) (r.role_at n v) (r.disk_at n v) m d
   rest = a.aways n v none
 
-  told : AwayIs (r.disk_at n v) d
+  told : AwayAgrees (r.disk_at n v) d
   told = subst (λ s. DiskIsIf (r.disk_at n v) d s None) no_shelf (subst (DiskIsIf (r.disk_at n v) d (shelf_of w n v)) none (a.disks n v))
 
   position : m.position ≡ place_of js
@@ -138,15 +138,15 @@ module _ (w : PlainWorld) (r : Chronicle) (c : Cluster) (n v : ℕ) (a : AgreesI
   pub loaded_shelf : (r.disk_at n v).there ≡ true → ShelfIs (r.disk_at n v) d (open_shelf js) (parts_of vb)
   loaded_shelf there = record {
     book = is;
-    told_book = ap (λ (t : DiskTold). t.book) told.told_is ∙ ap (map bare) is;
+    told_book = ap (λ (t : DiskKnown). t.book) told.told_is ∙ ap (map bare) is;
     late = late;
-    told_late = ap (λ (t : DiskTold). t.late) told.told_is;
+    told_late = ap (λ (t : DiskKnown). t.late) told.told_is;
     none_late = λ e. refl;
     unarmed = refl;
     there = there;
-    closed = ap (λ (t : DiskTold). t.closed) told.told_is;
-    flush = (ap (λ (t : DiskTold). t.flushing) told.told_is, (λ e. ap (λ b. (place_of b).at) (sym is)), (let e : (place_of d.book).at ≡ (place_of js).at = ap (λ b. (place_of b).at) is in omega arith));
-    saved = ap (λ (t : DiskTold). t.saved) told.told_is ∙ ap (λ b. (place_of b).at) is;
+    closed = ap (λ (t : DiskKnown). t.closed) told.told_is;
+    flush = (ap (λ (t : DiskKnown). t.flushing) told.told_is, (λ e. ap (λ b. (place_of b).at) (sym is)), (let e : (place_of d.book).at ≡ (place_of js).at = ap (λ b. (place_of b).at) is in omega arith));
+    saved = ap (λ (t : DiskKnown). t.saved) told.told_is ∙ ap (λ b. (place_of b).at) is;
     spots = no_spots (place_of d.book).at d.stood;
     floor = let e : (place_of d.book).at ≡ (place_of js).at = ap (λ b. (place_of b).at) is in omega arith;
     cas = told.cas;

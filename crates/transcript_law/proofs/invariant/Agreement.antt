@@ -2,13 +2,13 @@
 use Rattle.std.specs.Prelude.{◌≡◌, ◌<◌, ◌≤◌, ◌∷◌, ◌++◌, ◌⊎◌, ◌^◌, ◌&&◌, ◌==◌, if◌then◌else◌}
 use Rattle.transcript_law.proofs.Words.{ℕ, zero, suc, Bool, true, false, List, [], length, map, drop, take, Option, Some, None, not, nat_le, is_some, All, concat, filter, flat_map}
 use Rattle.transcript_law.proofs.Words.{Frame, RESPONSE, spelling, Readable, DcpMsg, dcp_frame, Change, AskAnswer, Position, LogEntry, StreamAsk, last_seq, request_of, fork_of, Covers, Branch, hist, branch, IsNew, Feed}
-use Rattle.transcript_law.proofs.Words.{Member, Cluster, SoundCluster, flight_from, flight_end, Stream, Plain, is_active, is_follower, stream_at, Handshake, PlainStream, stream_told, act_message, STATE_CHANGED}
-use Rattle.transcript_law.proofs.Words.{open_request, sync_request, name_request, PlainLink, link_number, producer_node, consumer_node, PlainWorld, Outcome, is_one_of, with_branches, ItemTold, Begun, Granted}
-use Rattle.transcript_law.proofs.{Words.{Chronicle, after_lines, item_told, LawfulFrom, PlainProducer, PlainConsumer, uuid_of, front, Dial}, invariant.Seats.{seat}, invariant.Trees.{AreTold, IdsFit}}
+use Rattle.transcript_law.proofs.Words.{Member, Cluster, SoundCluster, flight_from, flight_end, Stream, Plain, is_active, is_follower, stream_at, Handshake, PlainStream, stream_verdict, act_message, STATE_CHANGED}
+use Rattle.transcript_law.proofs.Words.{open_request, sync_request, name_request, PlainLink, link_number, producer_node, consumer_node, PlainWorld, Outcome, is_one_of, with_branches, ItemLine, Begun, Granted}
+use Rattle.transcript_law.proofs.{Words.{Chronicle, after_lines, item_of_change, LawfulFrom, PlainProducer, PlainConsumer, uuid_of, front, Dial}, invariant.Seats.{seat}, invariant.Trees.{AreTold, IdsFit}}
 use Rattle.{dcp_consumer.specs.declared.handshake.Dialed.{Dialed}, dcp_consumer.specs.declared.handshake.Handshake.{Handshake as Waiting}, dcp_producer.specs.declared.desk.Desk.{Desk}}
 use Rattle.vb_events.specs.declared.event.StreamName.TheVariants.{Link}
 use Rattle.{branch_model.specs.Journals.{log_of, place_of}, cluster_model.specs.Clusters.{Disk}, disk_journals.specs.Books.{Book, listed}, durability.specs.Laws.{HasOne}, vb_calls.specs.Shelves.{Shelf}}
-use Rattle.{transcript_law.specs.Chronicles.{ArmTold, DiskTold, no_arm, resting}, vb_disk.specs.declared.fuse.Fuse.{Fuse}, vb_types.specs.declared.role.Role.{Role}}
+use Rattle.{transcript_law.specs.Chronicles.{ArmKnown, DiskKnown, no_arm, resting}, vb_disk.specs.declared.fuse.Fuse.{Fuse}, vb_types.specs.declared.role.Role.{Role}}
 use Rattle.vb_disk.specs.declared.fuse.Fuse.TheVariants.{Off, Stop, Fail}
 use Rattle.mcbp_dcp.specs.declared.message.DcpMsg.TheVariants as msg
 use Rattle.vb_types.specs.declared.stream.AskAnswer.TheVariants as ask_answer
@@ -16,7 +16,7 @@ use Rattle.dcp_producer.specs.declared.desk.Handshake.TheVariants as shaken
 use Rattle.dcp_producer.specs.declared.desk.Named.TheVariants as named_as
 use Rattle.dcp_consumer.specs.declared.handshake.Handshake.TheVariants as waiting
 pub use Rattle.transcript_law.proofs.disks.Disks.{DiskIsIf, Power, book_in, power_of, shelf_of}
-pub use Rattle.transcript_law.proofs.invariant.Holdings.{vb_of, DocFits, ActFits, ChangeFits, MemberIs, BranchIs, IsWriter, IsWriterIf, Writes, WritesIf, EntryFits, own_history, VbContents, vb_contents, VbRow, vb_row, Keeps, VbTold, VbHeld, VbHolds, VbIs, VbAgrees, CountsAre, CountsIf, no_counts, active_counts, counts_if, IsAway, VbIsIf, AgreesAt, all_rise, image_is}
+pub use Rattle.transcript_law.proofs.invariant.Holdings.{vb_of, DocFits, ActFits, ChangeFits, MemberAgrees, BranchAgrees, IsWriter, IsWriterIf, Writes, WritesIf, EntryFits, own_history, VbContents, vb_contents, VbRow, vb_row, Keeps, VbTold, VbHeld, VbHolds, VbRowIs, VbAgrees, CountsAre, CountsIf, no_counts, active_counts, counts_if, IsAway, VbIsIf, AgreesAt, all_rise, image_is}
 
 -- the frames that a consumer writes, in order: those of dialing, and its last request for a stream, with the opaque o
 abbrev pub request_frames : ℕ → ℕ → ℕ → StreamAsk → List Frame
@@ -29,7 +29,7 @@ first_answers = dcp_frame (msg.OpenAnswer 0) 1 0 ∷ dcp_frame (msg.ControlAnswe
 
 -- the frame of the answer to a request for a stream
 abbrev pub answer_frame : ℕ → List LogEntry → AskAnswer → Frame
-answer_frame o log said = dcp_frame (msg.StreamAnswer (stream_told log said)) o 0
+answer_frame o log said = dcp_frame (msg.StreamAnswer (stream_verdict log said)) o 0
 
 -- the frame of a change of a stream; the opaque o and the vBucket are the stream's
 abbrev pub change_frames : ℕ → ℕ → Option DcpMsg → List Frame
@@ -66,15 +66,15 @@ flight_marks start [] = []
 flight_marks start (x ∷ more) = (start, x.0) ∷ flight_marks x.0 more
 
 -- these are the items of the last snapshot on its way, if there is one
-abbrev pub LastIs : List Change → List (ℕ × List Change) → Type 0
-LastIs items [] = Unit {0}
-LastIs items (x ∷ []) = x.1 ≡ items
-LastIs items (x ∷ y ∷ more) = LastIs items (y ∷ more)
+abbrev pub LastAgrees : List Change → List (ℕ × List Change) → Type 0
+LastAgrees items [] = Unit {0}
+LastAgrees items (x ∷ []) = x.1 ≡ items
+LastAgrees items (x ∷ y ∷ more) = LastAgrees items (y ∷ more)
 
 -- of the changes that are to come for a consumer the lines tell those of which the items were put; what was not put is of the last snapshot
-pub record ComingIs (told : List ItemTold) (stream : PlainStream) (flight : List (ℕ × List Change)) (coming : Option (List Change)) : Type 0 where
-  pub all : map item_told (coming_items coming ++ flight_items flight) ≡ told ++ map item_told (drop stream.next stream.items)
-  pub last : LastIs stream.items flight
+pub record ComingIs (told : List ItemLine) (stream : PlainStream) (flight : List (ℕ × List Change)) (coming : Option (List Change)) : Type 0 where
+  pub all : map item_of_change (coming_items coming ++ flight_items flight) ≡ told ++ map item_of_change (drop stream.next stream.items)
+  pub last : LastAgrees stream.items flight
 
 -- the start of the next marker for a consumer: before it took one, the one that its position means, and then the end of its snapshot
 abbrev pub marker_start : Bool → Position → ℕ
@@ -86,9 +86,9 @@ abbrev pub stream_frames : ℕ → ℕ → Bool → Bool → Position → Option
 stream_frames o vb over in_one p coming flight = items_frames o vb (coming_items coming) ++ flight_frames o vb over (marker_start in_one p) flight
 
 -- the last snapshot that a stream's lines tell of is the one that its producer took last, of which so many items were put
-abbrev pub BegunIs : Option Begun → PlainStream → Type 0
-BegunIs None stream = stream.items ≡ []
-BegunIs (Some b) stream = Covers stream.items b.history b.from b.end × (b.items ≡ map item_told (take stream.next stream.items))
+abbrev pub BegunAgrees : Option Begun → PlainStream → Type 0
+BegunAgrees None stream = stream.items ≡ []
+BegunAgrees (Some b) stream = Covers stream.items b.history b.from b.end × (b.items ≡ map item_of_change (take stream.next stream.items))
 
 -- a stream that no change of role ended is open at its producer's vBucket, which is active on the stream's branch u
 pub record OpenAt (link_id : ℕ) (ask : StreamAsk) (place : ℕ) (begun : Bool) (pv : Option Plain) (leader : Member) (u : ℕ) : Type 0 where
@@ -102,13 +102,13 @@ abbrev pub Open : ℕ → Granted → Option Plain → Member → Feed → Type 
 Open link_id g pv leader feed = OpenAt link_id g.ask g.place (is_some g.last) pv leader feed.u
 
 -- a stream of the vBucket vb as its producer keeps it: it is the one that the lines tell, and of the branch that its consumer's member is fed with
-pub record PutIs (o vb : ℕ) (log : List LogEntry) (begun : Option Begun) (stream : PlainStream) (u : ℕ) (fed : List LogEntry) : Type 0 where
+pub record PutAgrees (o vb : ℕ) (log : List LogEntry) (begun : Option Begun) (stream : PlainStream) (u : ℕ) (fed : List LogEntry) : Type 0 where
   pub vb_is : stream.vb ≡ vb
   pub opaque_is : stream.opaque ≡ o
   pub fits : All ChangeFits stream.items
   pub next_in : stream.next ≤ length stream.items
-  pub last : BegunIs begun stream
-  pub log_told : log ≡ fed
+  pub last : BegunAgrees begun stream
+  pub log_lines : log ≡ fed
   pub front_is : uuid_of (front log) ≡ u
 
 -- the snapshots on their way, and the one that the consumer is in, if it is in one: where they end, and the markers that the lines tell of them
@@ -122,8 +122,8 @@ pub record WayIs (place : ℕ) (told : List (ℕ × ℕ)) (begun : Bool) (flight
   pub in_flight : in_one ≡ false → flight ≡ [] → begun ≡ false
 
 -- a stream that was let continue: what the lines tell of it, what its producer keeps of it, and what its consumer has of it
-pub record StreamIs (o vb link_id : ℕ) (g : Granted) (stream : PlainStream) (pv : Option Plain) (leader : Member) (feed : Feed) (kn : Member) (in_one : Bool) : Type 0 where
-  pub put : PutIs o vb g.log g.last stream feed.u feed.log
+pub record StreamAgrees (o vb link_id : ℕ) (g : Granted) (stream : PlainStream) (pv : Option Plain) (leader : Member) (feed : Feed) (kn : Member) (in_one : Bool) : Type 0 where
+  pub put : PutAgrees o vb g.log g.last stream feed.u feed.log
   pub open put use *
   pub opens : stream.ended ≡ false → Open link_id g pv leader feed
   pub over_ended : g.over ≡ true → stream.ended ≡ true
@@ -142,8 +142,8 @@ pub record QueueIs (heard moving : List ℕ) (busy all : List Frame) : Type 0 wh
 abbrev pub UpIs : PlainLink → List Frame → List Frame → Type 0
 UpIs link busy all = QueueIs link.up_heard link.up busy all
 
-abbrev pub DownIs : PlainLink → List Frame → List Frame → Type 0
-DownIs link busy all = QueueIs link.down_heard link.down busy all
+abbrev pub DownAgrees : PlainLink → List Frame → List Frame → Type 0
+DownAgrees link busy all = QueueIs link.down_heard link.down busy all
 
 -- what is set at a producer that has answered so many of the requests of its consumer at this node
 abbrev pub set_after : ℕ → ℕ → Handshake
@@ -204,16 +204,16 @@ IsRefused (ask_answer.Roll to) = to < 2 ^ 64
 IsRefused (ask_answer.Refuse code) = (code ≡ 0 → ⊥) × (code ≡ 0x23 → ⊥) × (code < 2 ^ 16)
 
 -- the point that the lines tell of such an answer
-abbrev pub PointIs : AskAnswer → Option ℕ → Type 0
-PointIs ask_answer.Go point = ⊥
-PointIs (ask_answer.Roll to) point = point ≡ Some to
-PointIs (ask_answer.Refuse code) point = Unit {0}
+abbrev pub PointAgrees : AskAnswer → Option ℕ → Type 0
+PointAgrees ask_answer.Go point = ⊥
+PointAgrees (ask_answer.Roll to) point = point ≡ Some to
+PointAgrees (ask_answer.Refuse code) point = Unit {0}
 
 -- after it was refused or sent back, until the consumer takes that answer
 pub record RefusedAt (point : Option ℕ) (set : Handshake) (asker : PlainConsumer) (up down : List Frame) : Type 0 where
   pub said : AskAnswer
   pub refused : IsRefused said
-  pub told : PointIs said point
+  pub told : PointAgrees said point
   pub seen : ℕ
   pub not_more : seen ≤ 3
   pub server : set ≡ set_after asker.dialed.node 4
@@ -279,7 +279,7 @@ pub record Streaming (fv : Wants) (kn : Member) (pv : Option Plain) (leader : Me
   pub seen : ℕ
   pub taking : Taking fv kn.coming asker granted_is.ask seen
   pub open taking use *
-  pub streams : StreamIs asker.asked asker.dialed.vb served.desk.id granted_is serving.stream pv leader feed kn (nat_le 4 seen && not fv.first)
+  pub streams : StreamAgrees asker.asked asker.dialed.vb served.desk.id granted_is serving.stream pv leader feed kn (nat_le 4 seen && not fv.first)
   pub all : drop seen (first_answers ++ answer_frame asker.asked feed.log ask_answer.Go ∷ [])
       ++ stream_frames asker.asked asker.dialed.vb granted_is.over (nat_le 4 seen && not fv.first) kn.position kn.coming feed.flight ≡ put ++ serving.unput
 
@@ -295,7 +295,7 @@ pub record Talk (fv : Plain) (kn : Member) (pv : Option Plain) (leader : Member)
   pub said : List Frame
   pub stands : EndsStand (wants_of fv) kn pv leader g point link.server link.consumer asked (spoken said)
   pub ups : UpIs link up asked
-  pub downs : DownIs link down said
+  pub downs : DownAgrees link down said
 
 -- the members at the two ends of a link
 abbrev pub consumer_seat : PlainLink → ℕ
@@ -372,33 +372,33 @@ IsArm (Stop k) = 0 < k
 IsArm (Fail k) = 0 < k
 
 -- what the lines tell of a node's arm, and whether it is down; and the disks of one that is down are those that are listed by their numbers
-pub record PowerIs (told : ArmTold) (power : Power) : Type 0 where
+pub record PowerIs (told : ArmKnown) (power : Power) : Type 0 where
   pub fuse : told.fuse ≡ power.arm.fuse
   pub out : told.out ≡ power.arm.out
   pub down : told.down ≡ is_some power.off
   pub may_fire : IsArm power.arm.fuse
   pub listed_so : (books : List Book) → power.off ≡ Some books → books ≡ listed (book_in books)
 
-abbrev pub PowerIsIf : ArmTold → Option Power → Type 0
+abbrev pub PowerIsIf : ArmKnown → Option Power → Type 0
 PowerIsIf told None = told ≡ no_arm
 PowerIsIf told (Some power) = PowerIs told power
 
 -- the records of a vBucket that is not there, by whether its node is running: then it has none; one that is down has those on its disk, where it has one
-abbrev pub BookBy : Option (List Book) → ℕ → Option Shelf → DiskTold → Disk → Type 0
+abbrev pub BookBy : Option (List Book) → ℕ → Option Shelf → DiskKnown → Disk → Type 0
 BookBy None v shelf told d = (d.book ≡ []) × (told.there ≡ is_some shelf)
 BookBy (Some books) v shelf told d = (book_in books v ≡ (if told.there then Some d.book else None)) × (told.there ≡ false → d.book ≡ [])
 
 -- the same, by its node
-abbrev pub BookIs : Option Power → ℕ → Option Shelf → DiskTold → Disk → Type 0
-BookIs None v shelf told d = (d.book ≡ []) × (told.there ≡ false)
-BookIs (Some power) v shelf told d = BookBy power.off v shelf told d
+abbrev pub BookAgrees : Option Power → ℕ → Option Shelf → DiskKnown → Disk → Type 0
+BookAgrees None v shelf told d = (d.book ≡ []) × (told.there ≡ false)
+BookAgrees (Some power) v shelf told d = BookBy power.off v shelf told d
 
 -- a vBucket that is not there: its member is as its records tell, and the lines tell its last role, at which it rests
-pub record AwayAt (power : Option Power) (v : ℕ) (shelf : Option Shelf) (said : Option (Option Role)) (told : DiskTold) (m : Member) (d : Disk) : Type 0 where
+pub record AwayAt (power : Option Power) (v : ℕ) (shelf : Option Shelf) (said : Option (Option Role)) (told : DiskKnown) (m : Member) (d : Disk) : Type 0 where
   pub position : m.position ≡ place_of d.book
   pub log : m.log ≡ log_of d.book
   pub role : said ≡ Some (resting d.book)
-  pub book : BookIs power v shelf told d
+  pub book : BookAgrees power v shelf told d
 
 -- a node is down
 abbrev pub is_down : Option Power → Bool
@@ -406,7 +406,7 @@ is_down None = false
 is_down (Some power) = is_some power.off
 
 -- one that is down has no vBucket and no journal
-pub record DownAt (power : Option Power) (vb : Option Plain) (shelf : Option Shelf) : Type 0 where
+pub record DownHolds (power : Option Power) (vb : Option Plain) (shelf : Option Shelf) : Type 0 where
   pub vb_none : is_down power ≡ true → vb ≡ None
   pub shelf_none : is_down power ≡ true → shelf ≡ None
 
@@ -420,7 +420,7 @@ pub record EndsUp (w : PlainWorld) (link : PlainLink) : Type 0 where
 pub record RestsIn (w : PlainWorld) (r : Chronicle) (c : Cluster) : Type 0 where
   pub powers : (n : ℕ) → PowerIsIf (r.arm_at n) (power_of w n)
   pub aways : (n v : ℕ) → vb_of w n v ≡ None → AwayAt (power_of w n) v (shelf_of w n v) (r.role_at n v) (r.disk_at n v) (c.nodes (seat n v)) (c.disks (seat n v))
-  pub downs : (n v : ℕ) → DownAt (power_of w n) (vb_of w n v) (shelf_of w n v)
+  pub downs : (n v : ℕ) → DownHolds (power_of w n) (vb_of w n v) (shelf_of w n v)
   pub ends : (link : PlainLink) → IsLink link w.links → EndsUp w link
   pub small : (n v : ℕ) → (r.disk_at n v).there ≡ true → v < 1024
 

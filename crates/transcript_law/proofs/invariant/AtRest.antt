@@ -1,26 +1,26 @@
 -- no line leaves a vBucket more to commit
 use Rattle.std.specs.Prelude.{◌≡◌, ◌<◌, ◌∷◌, ◌^◌, if◌then◌else◌}
-use Rattle.transcript_law.proofs.Words.{Outcome, ℕ, List, [], subst, sym, ap, ◌∙◌, refl, Frame, Bool, true, false, not, Option, Some, None, is_some, Cause, Role, Act, Change, Plain, VbCall, VbReply, plain_step, after, after_job, Prog, Done, Job, frame_served, min}
-use Rattle.transcript_law.proofs.Words.{States, row_at, PlainSession, Told, PlainLink, LinkTold, link_number, consumer_node, up_at, AdminCall, AdminTold, own_link, cut_off, links_told, called_at, admin_line, with_ended, turned_if, no_node, turned_after}
+use Rattle.transcript_law.proofs.Words.{Outcome, ℕ, List, [], subst, sym, ap, ◌∙◌, refl, Frame, Bool, true, false, not, Option, Some, None, is_some, Cause, Role, Act, Change, Plain, VbCall, VbReply, plain_step, after, after_job, Prog, Done, Job, frame_handled, min}
+use Rattle.transcript_law.proofs.Words.{States, row_at, PlainSession, Told, PlainLink, LinkResult, link_number, consumer_node, up_at, AdminCall, AdminResult, own_link, cut_off, links_ended, called_at, admin_line, with_ended, turned_if, no_node, turned_after}
 use Rattle.transcript_law.proofs.Words.{role_outcome, PlainNode, PlainWorld, with_node_at, done, refusal, first_cause, refused_or, node_outcome, on_node, with_states}
-use Rattle.transcript_law.proofs.Words.{fed_if, bytes_at, on_link, vb_in, is_active, is_follower, is_answerable, marker_fits, marked_vb, is_next, quiet_reply, refusal_reply, new_vb, Sound, Chronicle, take}
+use Rattle.transcript_law.proofs.Words.{bytes_if, bytes_at, on_link, vb_in, is_active, is_follower, is_answerable, marker_fits, marked_vb, is_next, quiet_reply, refusal_reply, new_vb, Sound, Chronicle, take}
 use Rattle.transcript_law.proofs.invariant.Agreement.{Agrees, AgreesAt, book_in}
 use Rattle.transcript_law.proofs.invariant.CallsKept.{AllAt, AllIn, InWorld, put_all, ran, ran_job, put_node, on_made_all, on_node_all, unlinked_all, on_link_all, none_at, armed_all, broken_all, unless_all, kept_or}
-use Rattle.transcript_law.proofs.invariant.Ranged.{IsRanged, NodeRanged, NodeRangedIf, kept_ranged, posted_ranged, told_ranged, unlinked_ranged, with_node}
+use Rattle.transcript_law.proofs.invariant.Ranged.{IsRanged, NodeRanged, NodeRangedIf, kept_ranged, posted_ranged, told_stays_ranged, unlinked_ranged, with_node}
 use Rattle.transcript_law.proofs.{disks.Reloaded.{reloaded, so}, invariant.Seats.{seat}, disks.Shelving.{loaded_at, loaded_of}}
 use Rattle.transcript_law.proofs.invariant.TimelyCalls.{Makes, MakesJob, admin_tame, chain_tame, due_tame, flush_tame, peer_tame, served_tame, start_tame, tick_tame}
 use Rattle.client_session.proofs.Keeping.{bytes_go, front_of, outcome_goes}
-use Rattle.client_session.specs.Serving.{Served, bytes_served, outcome_served, served}
+use Rattle.client_session.specs.Serving.{Served, bytes_handled, outcome_handled, served}
 use Rattle.disk_journals.specs.{Arms.{opens_all}, Books.{Book}}
 use Rattle.durability.specs.Chains.{Links, Members, is_chain}
 use Rattle.journal_points.specs.Points.{saved}
 use Rattle.node_core.proofs.Conduct.{bytes_follow}
 use Rattle.node_core.specs.Admin.{admin_job, admin_refused}
 use Rattle.node_core.specs.Conduct.{FollowsAt, IsFollowing, KeepsLink, RollsAt}
-use Rattle.node_core.specs.Dials.{dial_due, dial_fed, untold}
-use Rattle.node_core.specs.Flushing.{chain_set, flush_at, ticked}
+use Rattle.node_core.specs.Dials.{dial_due, dial_bytes, untold}
+use Rattle.node_core.specs.Flushing.{chain_changed, flush_at, ticked}
 use Rattle.node_core.specs.Loading.{are_short, loaded_by, start_job, starts_of}
-use Rattle.node_core.specs.Peers.{PeerTold, peer_answered, peer_frames, peer_heard}
+use Rattle.node_core.specs.Peers.{PeerResult, peer_answered, peer_frames, peer_heard}
 use Rattle.node_world.specs.{Arms.{fired_by, placed, under_arm}, Dues.{due_at, due_in, due_of, is_counted}, Links.{dial_of, frame_up, frames_up, moved_len, peer_of, untold_peer}, Turns.{posted_at, posted_in, role_called, turned}}
 use Rattle.node_world.specs.Nodes.{all_posted, awaiting, chain_line, chain_made, flush_line, is_active_one, posted_if, posted_to, tick_line, vb_made, with_kept}
 use Rattle.node_world.specs.Power.{burnt_arm, loaded_node, not_opened, start_at, start_causes, start_if, start_one, start_step, started_by, starts_from, with_arm}
@@ -109,7 +109,7 @@ down_rests w l wanted all = by (row_at link_number l w.links)
     came : InWorld RestsIf (on_link w l consumer_node (down_in wanted)).0
     came = on_link_all RestsIf IsAside aside_rests (λ id. tt) w l consumer_node (down_in wanted) all (λ link node e there.
         let v = link.consumer.dialed.vb in let x = placed v node in
-        ran_job RestsIf IsAside aside_rests (λ id. tt) (FollowsAt v) (RollsAt v) (KeepsLink (untold (dial_of link))) (λ m made f. aside v m made f) (dial_fed (take (moved_len wanted link.down) link.down) (dial_of link)) x.vbs x.shelves
+        ran_job RestsIf IsAside aside_rests (λ id. tt) (FollowsAt v) (RollsAt v) (KeepsLink (untold (dial_of link))) (λ m made f. aside v m made f) (dial_bytes (take (moved_len wanted link.down) link.down) (dial_of link)) x.vbs x.shelves
         (bytes_follow (take (moved_len wanted link.down) link.down) (dial_of link)) there)
 
     by : (o : Option PlainLink) → InWorld RestsIf (down_outcome w l o (on_link w l consumer_node (down_in wanted))).0
@@ -138,7 +138,7 @@ still_on = on_node_all Still IsTimely still_steps (λ id. tt)
 pub node_still : (w : PlainWorld) → IsRanged w → InWorld Still w → (n : ℕ) (f : PlainNode → PlainNode × Told) → ((node : PlainNode) → NodeRanged n node → AllAt Still node.vbs → AllAt Still (f node).0.vbs) → InWorld Still (on_node w n f).0
 node_still w ranged all n f kept = still_on w n f all (λ node e there. kept node (subst (NodeRangedIf n) e (ranged n)) there)
 
-pub link_still : (w : PlainWorld) → IsRanged w → InWorld Still w → (l : ℕ) (end : PlainLink → ℕ) (f : PlainLink → PlainNode → PlainNode × LinkTold) → ((link : PlainLink) (node : PlainNode) → NodeRanged (end link) node → AllAt Still node.vbs → AllAt Still (f link node).0.vbs) → InWorld Still (on_link w l end f).0
+pub link_still : (w : PlainWorld) → IsRanged w → InWorld Still w → (l : ℕ) (end : PlainLink → ℕ) (f : PlainLink → PlainNode → PlainNode × LinkResult) → ((link : PlainLink) (node : PlainNode) → NodeRanged (end link) node → AllAt Still node.vbs → AllAt Still (f link node).0.vbs) → InWorld Still (on_link w l end f).0
 link_still w ranged all l end f kept = on_link_all Still IsTimely still_steps (λ id. tt) w l end f all (λ link node e there. kept link node (subst (NodeRangedIf (end link)) e (ranged (end link))) there)
 
 pub still_ran : {A : Type 0} (prog : Prog A) (states : States) → Makes IsTimely prog → AllAt Still states → AllAt Still (after prog states).0
@@ -148,16 +148,16 @@ still_job : {A : Type 0} (one : Job A) (states : States) (shelves : Shelves) →
 still_job one states shelves makes all = ran_job Still IsTimely still_steps (λ id. tt) (λ v made. IsTimely made) (λ v ask. Unit {0}) (λ a. Unit {0}) (λ v made k. k) one states shelves makes all
 
 -- clients
-served_still : (clock : ℕ) → clock < 2 ^ 64 → (piece : List ℕ) (s : Served) (states : States) → AllAt Still states → AllAt Still (after (bytes_served clock piece s) states).0
-served_still clock small piece s states all = bytes_go (λ (x : States × Served). AllAt Still x.0) clock (λ f states t e p. still_ran (frame_served clock f (front_of f t)) states (served_tame clock small f (front_of f t)) p) (λ fault states t e p. p) piece s states all all
+served_still : (clock : ℕ) → clock < 2 ^ 64 → (piece : List ℕ) (s : Served) (states : States) → AllAt Still states → AllAt Still (after (bytes_handled clock piece s) states).0
+served_still clock small piece s states all = bytes_go (λ (x : States × Served). AllAt Still x.0) clock (λ f states t e p. still_ran (frame_handled clock f (front_of f t)) states (served_tame clock small f (front_of f t)) p) (λ fault states t e p. p) piece s states all all
 
-outcome_still : (clock : ℕ) → clock < 2 ^ 64 → (r : Resolved) (s : Served) (states : States) → AllAt Still states → AllAt Still (after (outcome_served clock r s) states).0
-outcome_still clock small r s states all = outcome_goes (λ (x : States × Served). AllAt Still x.0) clock (λ f states t e p. still_ran (frame_served clock f (front_of f t)) states (served_tame clock small f (front_of f t)) p) (λ fault states t e p. p) r s states all (λ a e. all)
+outcome_still : (clock : ℕ) → clock < 2 ^ 64 → (r : Resolved) (s : Served) (states : States) → AllAt Still states → AllAt Still (after (outcome_handled clock r s) states).0
+outcome_still clock small r s states all = outcome_goes (λ (x : States × Served). AllAt Still x.0) clock (λ f states t e p. still_ran (frame_handled clock f (front_of f t)) states (served_tame clock small f (front_of f t)) p) (λ fault states t e p. p) r s states all (λ a e. all)
 
 pub bytes_still : (n c : ℕ) (bytes : List ℕ) (node : PlainNode) → NodeRanged n node → AllAt Still node.vbs → AllAt Still (bytes_at c bytes node).0.vbs
 bytes_still n c bytes node ranged all = by (node.clients c)
   where
-    by : (o : Option PlainSession) → AllAt Still (fed_if c bytes node o).0.vbs
+    by : (o : Option PlainSession) → AllAt Still (bytes_if c bytes node o).0.vbs
     by None = all
     by (Some session) = served_still node.clock ranged.clock bytes (served session []) node.vbs all
 
@@ -190,8 +190,8 @@ chain_still n v others node ranged all = by (not (is_some (node.vbs v))) (not (i
     made : is_chain n others ≡ true → AllAt Still (chain_made n v others node).0.vbs
     made e =
         let links : Links = record { active = n; others = others } in
-        let x = after (chain_set n v links) node.vbs in
-        told_still n x.1.resolved node (with_states node x.0) refl (λ c. refl) ranged (still_ran (chain_set n v links) node.vbs (chain_tame n v links e) all)
+        let x = after (chain_changed n v links) node.vbs in
+        told_still n x.1.resolved node (with_states node x.0) refl (λ c. refl) ranged (still_ran (chain_changed n v links) node.vbs (chain_tame n v links e) all)
 
     by : (a b c : Bool) → is_chain n others ≡ c → AllAt Still (refused_or (first_cause ((a, cause.UnknownVb) ∷ (b, cause.WrongRole) ∷ (not c, cause.ChainBad) ∷ [])) node (chain_made n v others node)).0.vbs
     by true b c e = all
@@ -207,11 +207,11 @@ pub admin_still : (n v : ℕ) (asked : AdminCall) (node : PlainNode) → AllAt S
 admin_still n v asked node all = still_job (admin_job n v asked) node.vbs node.shelves (admin_tame n v asked) all
 
 -- a producer's
-frames_still : (n : ℕ) (frames : List Frame) (came : PlainNode × PeerTold) → NodeRanged n came.0 → AllAt Still came.0.vbs → AllAt Still (frames_up frames came).0.vbs
+frames_still : (n : ℕ) (frames : List Frame) (came : PlainNode × PeerResult) → NodeRanged n came.0 → AllAt Still came.0.vbs → AllAt Still (frames_up frames came).0.vbs
 frames_still n [] came ranged all = all
 frames_still n (f ∷ frames) came ranged all =
     let x = after (peer_answered f came.1.peer) came.0.vbs in let states : PlainNode = with_states came.0 x.0 in
-    frames_still n frames (frame_up f came) (told_ranged n x.1.resolved came.0 states refl (λ c. refl) ranged) (told_still n x.1.resolved came.0 states refl (λ c. refl) ranged (still_ran (peer_answered f came.1.peer) came.0.vbs (peer_tame f came.1.peer) all))
+    frames_still n frames (frame_up f came) (told_stays_ranged n x.1.resolved came.0 states refl (λ c. refl) ranged) (told_still n x.1.resolved came.0 states refl (λ c. refl) ranged (still_ran (peer_answered f came.1.peer) came.0.vbs (peer_tame f came.1.peer) all))
 
 pub up_still : (n wanted : ℕ) (link : PlainLink) (node : PlainNode) → NodeRanged n node → AllAt Still node.vbs → AllAt Still (up_at wanted link node).0.vbs
 up_still n wanted link node ranged all =
@@ -234,19 +234,19 @@ cut_still None w ranged all = (ranged, all)
 cut_still (Some link) w ranged all = (unlinked_ranged w link ranged, unlinked_all Still IsTimely still_steps (λ id. tt) w link all)
 
 -- the world after a call that changed a role or did not
-turned_still : (n v : ℕ) (before w : PlainWorld) (told : AdminTold) (ended : Option (List ℕ)) → InWorld Still before → IsRanged w → InWorld Still w → InWorld Still (turned_if n v before ended (w, told)).0
+turned_still : (n v : ℕ) (before w : PlainWorld) (told : AdminResult) (ended : Option (List ℕ)) → InWorld Still before → IsRanged w → InWorld Still w → InWorld Still (turned_if n v before ended (w, told)).0
 turned_still n v before w told None all ranged now = all
 turned_still n v before w told (Some ids) all ranged now =
-    let cut = cut_still (own_link n v (links_told n v ids w.links)) (with_ended n v ids w) ranged now in posts_in_still n told.resolved (turned n v told (with_ended n v ids w)) cut.0 cut.1
+    let cut = cut_still (own_link n v (links_ended n v ids w.links)) (with_ended n v ids w) ranged now in posts_in_still n told.resolved (turned n v told (with_ended n v ids w)) cut.0 cut.1
 
 pub role_still : (w : PlainWorld) (n v : ℕ) (asked : AdminCall) → IsRanged w → InWorld Still w → InWorld Still (role_outcome n v asked w).0
 role_still w n v asked ranged all = by (w.nodes n) (ranged n) (all n)
   where
     kept : (node : PlainNode) → NodeRanged n node → NodeRanged n (role_called n v asked node).0
-    kept node r = elim (is_some node.off) as (λ b. let x : PlainNode × AdminTold = if b then (node, admin_refused cause.NodeDown) else under_arm v (called_at n v asked) node in NodeRanged n x.0) [ true ↦ r | false ↦ kept_ranged n node (under_arm v (called_at n v asked) node).0 refl (λ c. refl) r ]
+    kept node r = elim (is_some node.off) as (λ b. let x : PlainNode × AdminResult = if b then (node, admin_refused cause.NodeDown) else under_arm v (called_at n v asked) node in NodeRanged n x.0) [ true ↦ r | false ↦ kept_ranged n node (under_arm v (called_at n v asked) node).0 refl (λ c. refl) r ]
 
     still : (node : PlainNode) → AllAt Still node.vbs → AllAt Still (role_called n v asked node).0.vbs
-    still node there = elim (is_some node.off) as (λ b. let x : PlainNode × AdminTold = if b then (node, admin_refused cause.NodeDown) else under_arm v (called_at n v asked) node in AllAt Still x.0.vbs)
+    still node there = elim (is_some node.off) as (λ b. let x : PlainNode × AdminResult = if b then (node, admin_refused cause.NodeDown) else under_arm v (called_at n v asked) node in AllAt Still x.0.vbs)
         [ true ↦ there | false ↦ (let x = placed v node in still_job (admin_job n v asked) x.vbs x.shelves (admin_tame n v asked) there) ]
 
     by : (o : Option PlainNode) → NodeRangedIf n o → AllIn Still o → InWorld Still (turned_after n v w (node_outcome w n no_node o (role_called n v asked))).0

@@ -14,7 +14,7 @@ use Rattle.branch_model.specs.Snapshots.{AllOf}
 use Rattle.branch_model.specs.Trees.{hist}
 use Rattle.branch_model.proofs.Following.{of_same}
 use Rattle.branch_model.proofs.Journaling.{ends_below}
-use Rattle.branch_model.proofs.Lists.{in_append, in_upto, rises_in, rises_le, upto_in}
+use Rattle.branch_model.proofs.Lists.{in_append, from_upto, rises_in, rises_le, upto_in}
 use Rattle.cluster_model.specs.Clusters.{Cluster, Comes, Disk, Feed, Ground, IsSpot, Joined, Kin, Linked, May, MayAppend, MayStand, Member, Move, Settled, Stands, Told, above, adopted, appended, front_or, ground, happens, loaded, made, marked_by, marked_member, member_fork, member_reach, owned, promoted, put, received, rolled, spanned_by, start}
 use Rattle.cluster_model.specs.Clusters as cluster
 use Rattle.cluster_model.proofs.Carrying.{Extends, at_le, fork_le, kin_shared}
@@ -26,7 +26,7 @@ abbrev pub Weighs : ℕ → List Change → Type 0
 Weighs n xs = (x : Change) → IsIn x xs → cas_of x.act ≤ n
 
 pub weighs_upto : (n at : ℕ) (xs : List Change) → Weighs n xs → Weighs n (upto xs at)
-weighs_upto n at xs w = λ x i. w x (in_upto x xs at i).0
+weighs_upto n at xs w = λ x i. w x (from_upto x xs at i).0
 
 pub weighs_push : (n m : ℕ) (xs : List Change) (c : Change) → n ≤ m → cas_of c.act ≤ m → Weighs n xs → Weighs m (xs ++ c ∷ [])
 weighs_push n m xs c l k w x i = ⊎_elim
@@ -69,7 +69,7 @@ fewer : (xs ys h : List Change) → ((x : Change) → IsIn x ys → IsIn x xs) �
 fewer xs ys h sub a x i = a x (sub x i)
 
 pub up_to : (xs h : List Change) (n : ℕ) → AllOf xs h → AllOf (upto xs n) h
-up_to xs h n a x i = a x (in_upto x xs n i).0
+up_to xs h n a x i = a x (from_upto x xs n i).0
 
 -- on another ground
 of_carried : (top : ℕ) (g v : Ground) (u n : ℕ) (xs : List Change) → Extends top g v → Settled g u n → AllOf xs (hist g.tree u) → AllOf xs (hist v.tree u)
@@ -145,7 +145,7 @@ module _ (top : ℕ) (w : Cluster) (k : ℕ) (s : SoundCluster top w) where
   rolled_reads to i =
       let l = point_low to i in
       let among : (x : Change) → IsIn x (upto n.held to) → IsIn x (upto n.held (place_of d.book).at) =
-      λ x j. let p = in_upto x n.held to j in let a : to ≤ (place_of d.book).at = l.0 in let b : x.seq ≤ to = p.1 in upto_in x n.held (place_of d.book).at p.0 (omega arith) in
+      λ x j. let p = from_upto x n.held to j in let a : to ≤ (place_of d.book).at = l.0 in let b : x.seq ≤ to = p.1 in upto_in x n.held (place_of d.book).at p.0 (omega arith) in
       record {
         of = fewer (upto n.held (place_of d.book).at) (upto n.held to) (hist w.tree (front_or n.br (last_log d.book))) among (s.bounded k).book.of;
         capped = l.1;

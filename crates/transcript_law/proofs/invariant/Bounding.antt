@@ -20,7 +20,7 @@ use Rattle.branch_model.specs.Trees.{Shared, hist}
 use Rattle.branch_model.proofs.Branches.{hist_grow_own, hist_here}
 use Rattle.branch_model.proofs.Following.{of_same}
 use Rattle.branch_model.proofs.Images.{plain_stands}
-use Rattle.branch_model.proofs.Lasts.{filter_in}
+use Rattle.branch_model.proofs.Lasts.{kept_in_filter}
 use Rattle.branch_model.proofs.Lists.{in_append, in_left, in_right, rises_in, upto_in}
 use Rattle.cluster_model.specs.Clusters.{Cluster, Comes, Disk, Feed, Ground, IsSpot, Linked, May, Member, Move, Stands, Told, above, adopted, appended, blank, ceded, front_or, ground, happens, loaded, made, marked_by, marked_member, member_fork, member_reach, opened, owned, promoted, put, received, rolled, spanned, spanned_by, start, yielded}
 use Rattle.cluster_model.specs.Clusters as cluster
@@ -142,7 +142,7 @@ module _ (top : ℕ) (w : Cluster) (k : ℕ) (s : SoundCluster top w) where
 
   promoted_of : (id : ℕ) → AllOf n.held (hist (made n id ∷ w.tree) id)
   promoted_of id x i = subst (λ h. IsOf h x) (sym (hist_here (made n id) w.tree id refl)) (⊎_elim
-      (λ up. (x, in_right x (upto (hist w.tree (front_or n.br n.log)) (member_fork n)) (above n.held (member_fork n)) (filter_in (λ c. nat_lt (member_fork n) c.seq) x n.held i (lt-ltb (member_fork n) x.seq up)), inl refl))
+      (λ up. (x, in_right x (upto (hist w.tree (front_or n.br n.log)) (member_fork n)) (above n.held (member_fork n)) (kept_in_filter (λ c. nat_lt (member_fork n) c.seq) x n.held i (lt-ltb (member_fork n) x.seq up)), inl refl))
       (λ down. let o = front_of top w k s n.log refl x i in
       let level : x.seq ≡ o.0.seq = ap (λ (y : Change). y.seq) (plain_stands x o.0 o.2) in
       (o.0, in_left o.0 (upto (hist w.tree (front_or n.br n.log)) (member_fork n)) (above n.held (member_fork n)) (upto_in o.0 (hist w.tree (front_or n.br n.log)) (member_fork n) o.1 (omega arith)), o.2))

@@ -1,7 +1,7 @@
 -- what each call of a kind keeps of a vBucket holds of all of a world, through what makes no other call
 use Rattle.std.specs.Prelude.{◌≡◌, ◌∷◌, ◌==◌, if◌then◌else◌}
 use Rattle.transcript_law.proofs.Words.{Outcome, ℕ, List, [], subst, refl, Bool, true, false, Option, Some, None, is_some, Cause, Plain, VbCall, VbReply, plain_step, after, after_job, Prog, Call, Done, Job, Ended, end_closed}
-use Rattle.transcript_law.proofs.Words.{States, with_vb_at, call_at, row_at, Told, PlainLink, LinkTold, link_number, producer_node, node_if, unlinked}
+use Rattle.transcript_law.proofs.Words.{States, with_vb_at, call_at, row_at, Told, PlainLink, LinkResult, link_number, producer_node, node_if, unlinked}
 use Rattle.transcript_law.proofs.Words.{PlainNode, PlainWorld, with_node_at, refusal, refused_or, node_outcome, on_node}
 use Rattle.transcript_law.proofs.Words.{with_link, link_outcome, on_link}
 use Rattle.transcript_law.proofs.invariant.TimelyCalls.{Makes, closed_makes}
@@ -91,7 +91,7 @@ module _ (P : Plain → Type 0) (kind : VbCall → Type 0) (keeps : (vb : Plain)
   relinked_all w before None all = unlinked_all w before all
   relinked_all w before (Some link) all = all
 
-  pub on_link_all : (w : PlainWorld) (l : ℕ) (end : PlainLink → ℕ) (f : PlainLink → PlainNode → PlainNode × LinkTold) → InWorld P w → ((link : PlainLink) (node : PlainNode) → w.nodes (end link) ≡ Some node → AllAt P node.vbs → AllAt P (f link node).0.vbs)
+  pub on_link_all : (w : PlainWorld) (l : ℕ) (end : PlainLink → ℕ) (f : PlainLink → PlainNode → PlainNode × LinkResult) → InWorld P w → ((link : PlainLink) (node : PlainNode) → w.nodes (end link) ≡ Some node → AllAt P node.vbs → AllAt P (f link node).0.vbs)
       → InWorld P (on_link w l end f).0
   on_link_all w l end f all kept = by (row_at link_number l w.links)
     where

@@ -2,11 +2,11 @@
 use Rattle.std.specs.Prelude.{◌≡◌, ◌⊎◌, ◌==◌}
 use Rattle.transcript_law.proofs.Words.{ℕ, Bool, true, false, List, refl, ap, sym, ◌∙◌, subst, inl, inr, ⊎_elim, Option, Some, None, not, All, Frame, Role, Member, Cluster, SoundCluster, Stream}
 use Rattle.transcript_law.proofs.Words.{Plain, is_active, is_follower, stream_at, Sound, row_at, row_put, PlainStream, PlainLink, link_number, producer_node, consumer_node, PlainWorld, is_one_of, Granted, Chronicle}
-use Rattle.transcript_law.proofs.{Words.{Branch, Covers, PlainProducer, PlainConsumer, Begun, item_told, map, drop, take, after_end, if◌then◌else◌, eq-eqb, ne_eqb, []}, invariant.Seats.{seat, seat_one}, invariant.Trees.{IsTold}}
+use Rattle.transcript_law.proofs.{Words.{Branch, Covers, PlainProducer, PlainConsumer, Begun, item_of_change, map, drop, take, after_end, if◌then◌else◌, eq-eqb, ne_eqb, []}, invariant.Seats.{seat, seat_one}, invariant.Trees.{IsTold}}
 use Rattle.transcript_law.proofs.Words.{HoldsAt}
 use Rattle.transcript_law.proofs.invariant.Wholes.{WholeTo}
-use Rattle.transcript_law.proofs.invariant.Agreement.{Keeps, VbTold, own_history, vb_of, ChangeFits, BranchIs, CountsIf, WritesIf, VbAgrees, IsAway, AgreesAt, RestsIn, kept_stream, spoken, Streaming, Talk, is_open, consumer_seat, producer_seat, LinkAgrees, IsLink, Differ, LinksDiffer}
-use Rattle.transcript_law.proofs.{invariant.Agreement.{DiskIsIf, shelf_of, top, Busy, AgreesIn, BranchesAgree, Wants, wants_of, EndsStand, Open, BegunIs, items_frames, VbRow, vb_row, vb_contents, VbHeld, idle, DialAgrees}, invariant.Carrying.{SameEnds}}
+use Rattle.transcript_law.proofs.invariant.Agreement.{Keeps, VbTold, own_history, vb_of, ChangeFits, BranchAgrees, CountsIf, WritesIf, VbAgrees, IsAway, AgreesAt, RestsIn, kept_stream, spoken, Streaming, Talk, is_open, consumer_seat, producer_seat, LinkAgrees, IsLink, Differ, LinksDiffer}
+use Rattle.transcript_law.proofs.{invariant.Agreement.{DiskIsIf, shelf_of, top, Busy, AgreesIn, BranchesAgree, Wants, wants_of, EndsStand, Open, BegunAgrees, items_frames, VbRow, vb_row, vb_contents, VbHeld, idle, DialAgrees}, invariant.Carrying.{SameEnds}}
 use Rattle.transcript_law.proofs.{invariant.Carrying.{ToldOf, TakenOf, FedMember, FeedChanged, BusyBut, StreamsChanged}, invariant.LinkRows.{found_is_link, links_apart, put_links, differ_put}, invariant.Tables.{id_there, ended_there}}
 use Rattle.{std.proofs.lemmas.Bool.{false_from_ne_true}, vb_events.specs.declared.event.StreamName.TheVariants.{Link}, vb_types.specs.declared.role.Role.TheVariants.{Active}}
 pub use Rattle.std.proofs.lemmas.Bool.{cases_eq as numbers}
@@ -33,12 +33,12 @@ branches_again {known} {told' = told'} {ids' = ids'} same same_told free a = sub
 }))
 
 -- lines that tell nothing of what all agrees on
-pub told_none : (l : ℕ) (r : Chronicle) → ToldOf l r r
-told_none l r = record { tree = refl; writer_of = λ u. refl; rows = λ n v. refl; arms = λ n. refl; dials = λ j ne. refl; streams = λ k q ne. refl; points = λ k ne. refl }
+pub told_of_same : (l : ℕ) (r : Chronicle) → ToldOf l r r
+told_of_same l r = record { tree = refl; writer_of = λ u. refl; rows = λ n v. refl; arms = λ n. refl; dials = λ j ne. refl; streams = λ k q ne. refl; points = λ k ne. refl }
 
 -- the end of a link tells of that link
-pub end_told : (r : Chronicle) (l : ℕ) → ToldOf l r (after_end r l)
-end_told r l = record {
+pub stream_end_lines : (r : Chronicle) (l : ℕ) → ToldOf l r (after_end r l)
+stream_end_lines r l = record {
   tree = refl;
   writer_of = λ u. refl;
   rows = λ n v. refl;
@@ -136,7 +136,7 @@ module _ (r r' : Chronicle) (n v : ℕ) (m m' : Member) (told : ToldAt r r' n v)
       keeps = subst (λ h. Keeps vb.base vb.floor vb.last_cas h vb.held vb.log vb.position.at) (sym fed.held) a.keeps;
       told = subst (λ h. VbTold (vb_contents r n v) h vb.log vb.position) (sym fed.held) a.told;
       member = record { active = fed.active ∙ a.member.active; position = fed.position ∙ a.member.position; log = fed.log ∙ a.member.log };
-      branch = subst (BranchIs (r.branch_at n v)) (sym fed.br) a.branch;
+      branch = subst (BranchAgrees (r.branch_at n v)) (sym fed.br) a.branch;
       holds = subst (λ h. HoldsAt vb.floor (WholeTo vb.floor vb.spans vb.position) h (own_history r n v)) (sym fed.held) a.holds;
     }));
     role = ap (λ (t : VbRow). t.role) told.row ∙ a.role;
@@ -208,7 +208,7 @@ streaming_again {asker = asker} a o stream same is opens =
           fits = subst (All ChangeFits) (sym same.items) x.fits;
           next_in = rw same.next (rw same.items x.next_in);
           last = by a.granted_is.last x.last;
-          log_told = x.log_told;
+          log_lines = x.log_lines;
           front_is = x.front_is;
         };
         opens = opens;
@@ -219,9 +219,9 @@ streaming_again {asker = asker} a o stream same is opens =
       all = a.all;
     }
   where
-    by : (q : Option Begun) → BegunIs q a.stream → BegunIs q stream
+    by : (q : Option Begun) → BegunAgrees q a.stream → BegunAgrees q stream
     by None e = same.items ∙ e
-    by (Some b) e = (subst (λ xs. Covers xs b.history b.from b.end) (sym same.items) e.0, e.1 ∙ (λ i. map item_told (take (sym same.next i) (sym same.items i))))
+    by (Some b) e = (subst (λ xs. Covers xs b.history b.from b.end) (sym same.items) e.0, e.1 ∙ (λ i. map item_of_change (take (sym same.next i) (sym same.items i))))
 
 module _ (kn : Member) (pv pv' : Option Plain) (leader leader' : Member) (g : Option Granted) (point : Option ℕ) (link : PlainLink) (stays : StaysProducer pv pv' leader leader' link) where
   stands_carried : {fv : Wants} {up down : List Frame} → EndsStand fv kn pv leader g point link.server link.consumer up down → EndsStand fv kn pv' leader' g point link.server link.consumer up down

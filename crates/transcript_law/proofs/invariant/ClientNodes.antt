@@ -1,7 +1,7 @@
 -- the connections of clients at one node are those that the lines tell open
 use Rattle.std.specs.Prelude.{◌≡◌, ◌<◌, ◌∷◌, ◌++◌, ◌==◌, if◌then◌else◌}
 use Rattle.transcript_law.proofs.Words.{ℕ, Bool, true, false, List, [], refl, ap, sym, ◌∙◌, subst, not, eqb-true, Option, Some, None, is_some, States, after, left_open, Event, PlainSession, PlainNode, with_client, with_states}
-use Rattle.client_session.specs.Serving.{Served, outcome_served, served}
+use Rattle.client_session.specs.Serving.{Served, outcome_handled, served}
 use Rattle.node_world.specs.Nodes.{all_posted, awaiting, posted_if, posted_to}
 use Rattle.node_world.specs.declared.script_node.TheConstants.{MAX_CLIENTS}
 use Rattle.transcript_law.proofs.lines.{Heard.{AllSay, AreMute, conns_more, mute_same, mute_say, row_here, row_there, say_more}, SessionLines.{At, left_say, outcome_at}}
@@ -135,7 +135,7 @@ posted_goes conns n r node (Some c) t = by (node.clients c) refl
     by None e = mute_goes conns n node [] tt t
     by (Some session) e =
         let kept : IsKept n c (Some session) = subst (IsKept n c) e (t.kept c) in
-        session_goes conns n c node session (after (outcome_served node.clock r (served session [])) node.vbs) e (runs_with (conns n) n c node session e t) t
+        session_goes conns n c node session (after (outcome_handled node.clock r (served session [])) node.vbs) e (runs_with (conns n) n c node session e t) t
         (outcome_at n c node.clock session node.vbs kept.0 kept.1 kept.2 r)
 
 pub posts_goes : (conns : Conns) (n : ℕ) (rs : List Resolved) (node : PlainNode) → NodeTold (conns n) n node → NodeGoes conns n (all_posted rs node).0 (all_posted rs node).1

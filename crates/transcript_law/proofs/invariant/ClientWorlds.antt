@@ -1,14 +1,14 @@
 -- the connections of clients that the lines tell open are those of the nodes: what parts of lines do to them, and a node that stops
 use Rattle.std.specs.Prelude.{◌≡◌, ◌<◌, ◌≤◌, ◌∷◌, ◌++◌, ◌==◌, ◌||◌, if◌then◌else◌}
 use Rattle.transcript_law.proofs.Words.{ℕ, zero, suc, Bool, true, false, List, [], refl, ap, sym, ◌∙◌, subst, ⊎_elim, arith, filter, flat_map, take, eqb-true, eqb-false, cases_lt, Option, Some, None, is_some, Cause, Event, after, after_job}
-use Rattle.transcript_law.proofs.Words.{AdminCall, AdminTold, Frame, LinkTold, PlainLink, PlainNode, PlainWorld, Outcome, Told, VbCall, call_at, called_at, consumer_node, cut_off, done, empty_world, link_number, moved_len}
+use Rattle.transcript_law.proofs.Words.{AdminCall, AdminResult, Frame, LinkResult, PlainLink, PlainNode, PlainWorld, Outcome, Told, VbCall, call_at, called_at, consumer_node, cut_off, done, empty_world, link_number, moved_len}
 use Rattle.transcript_law.proofs.Words.{no_node, node_if, node_outcome, on_link, on_node, own_link, peer_of, producer_node, refused_or, role_outcome, row_at, turned_after, turned_if, unlinked, up_at, with_ended, with_node_at, with_states}
 use Rattle.disk_journals.specs.{Books.{below}}
-use Rattle.node_core.specs.{Admin.{admin_job, admin_refused, role_at}, Flushing.{flush_at, settled_told}, Peers.{PeerTold, peer_answered, peer_frames, peer_heard}}
+use Rattle.node_core.specs.{Admin.{admin_job, admin_refused, role_at}, Flushing.{flush_at, settled_result}, Peers.{PeerResult, peer_answered, peer_frames, peer_heard}}
 use Rattle.node_world.specs.Arms.{fired_by, placed, under_arm}
-use Rattle.node_world.specs.{Cuts.{closed_at}, Links.{frame_up, frames_up, peer_asked, untold_peer}, Turns.{posted_at, posted_in, role_called, turned}, World.{down_outcome, relinked}, Worlds.{arm_in, on_made}}
+use Rattle.node_world.specs.{Cuts.{closed_at}, Links.{frame_up, frames_up, frame_posted, untold_peer}, Turns.{posted_at, posted_in, role_called, turned}, World.{down_outcome, relinked}, Worlds.{arm_in, on_made}}
 use Rattle.node_world.specs.Nodes.{all_posted, flush_line, save_line, with_kept, with_posts}
-use Rattle.node_world.specs.Power.{after_broken, after_fire, all_cut, all_numbers, all_unlinked, closed_line, closed_lines, disk_end, down_lines, dropped, end_line, end_lines, has_client, is_broken_answer, is_number, is_touched, numbers, stopped_node, touches, with_arm, with_broken}
+use Rattle.node_world.specs.Power.{after_broken, after_fire, all_cut, all_numbers, all_unlinked, closed_line, closed_lines, disk_end, down_lines, dropped, end_line, end_lines, has_client, is_broken_answer, is_this_number, is_touched, numbers, stopped_node, touches, with_arm, with_broken}
 use Rattle.node_world.specs.declared.arm.Fired.{Fired}
 use Rattle.node_world.specs.declared.arm.Fired.TheVariants as fired
 use Rattle.std.proofs.lemmas.Grind.{flat_map-append}
@@ -106,8 +106,8 @@ save_goes conns n v node t =
     let g = flush_goes conns n v part.Save (placed v node) (same_told (conns n) n node (placed v node) (λ c. refl) refl t) in
     record { says = g.says; here = same_told (conns_lines conns (save_line n v node).1.events n) n (flush_line n v part.Save (placed v node)).0 (save_line n v node).0 (λ c. refl) refl g.here; others = g.others }
 
-pub settled_goes : (conns : Conns) (n v : ℕ) (call : VbCall) (node : PlainNode) → NodeTold (conns n) n node → (let x = call_at node.vbs v call (node.vbs v) in let y = with_posts (settled_told n v x.1) (with_states node x.0) in NodeGoes conns n y.0 y.1.events)
-settled_goes conns n v call node t = let x = call_at node.vbs v call (node.vbs v) in posts conns n (settled_told n v x.1).resolved node (with_states node x.0) (settled_told n v x.1).events (settled_mute n v x.1) (λ c. refl) refl t
+pub settled_goes : (conns : Conns) (n v : ℕ) (call : VbCall) (node : PlainNode) → NodeTold (conns n) n node → (let x = call_at node.vbs v call (node.vbs v) in let y = with_posts (settled_result n v x.1) (with_states node x.0) in NodeGoes conns n y.0 y.1.events)
+settled_goes conns n v call node t = let x = call_at node.vbs v call (node.vbs v) in posts conns n (settled_result n v x.1).resolved node (with_states node x.0) (settled_result n v x.1).events (settled_mute n v x.1) (λ c. refl) refl t
 
 -- ---- lines of links
 
@@ -125,21 +125,21 @@ relinked_are : (w : PlainWorld) (conns : Conns) (before : PlainLink) (o : Option
 relinked_are w conns before None are = unlinked_are w conns before are
 relinked_are w conns before (Some link) are = are
 
-pub over : (conns : Conns) (w : PlainWorld) (l : ℕ) (end : PlainLink → ℕ) (f : PlainLink → PlainNode → PlainNode × LinkTold) → ConnsAre w conns → ((link : PlainLink) (node : PlainNode) → NodeTold (conns (end link)) (end link) node → NodeGoes conns (end link) (f link node).0 (f link node).1.1.events)
+pub over : (conns : Conns) (w : PlainWorld) (l : ℕ) (end : PlainLink → ℕ) (f : PlainLink → PlainNode → PlainNode × LinkResult) → ConnsAre w conns → ((link : PlainLink) (node : PlainNode) → NodeTold (conns (end link)) (end link) node → NodeGoes conns (end link) (f link node).0 (f link node).1.1.events)
     → Goes conns (on_link w l end f)
 over conns w l end f are goes = on_link_by (Goes conns) w l end f (tt, are) (λ link found. (tt, are)) (λ link node found e.
     let x = f link node in let g = goes link node (told_at w conns (end link) node e are) in
     (g.says, relinked_are (with_node_at w (end link) x.0) (conns_lines conns x.1.1.events) link x.1.0 (put_goes w conns (end link) x.0 x.1.1.events are g)))
 
 -- frames for a producer, each with what came of it for the clients
-asked_goes : (conns : Conns) (n : ℕ) (f : Frame) (came : PlainNode × PeerTold) → NodeTold (conns n) n came.0 → NodeGoes conns n (peer_asked f came.1.peer came.0).0 (peer_asked f came.1.peer came.0).1.events
+asked_goes : (conns : Conns) (n : ℕ) (f : Frame) (came : PlainNode × PeerResult) → NodeTold (conns n) n came.0 → NodeGoes conns n (frame_posted f came.1.peer came.0).0 (frame_posted f came.1.peer came.0).1.events
 asked_goes conns n f came t =
     let x = after (peer_answered f came.1.peer) came.0.vbs in posts conns n x.1.resolved came.0 (with_states came.0 x.0) x.1.events (peer_mute f came.1.peer came.0.vbs) (λ c. refl) refl t
 
-frames_go : (conns : Conns) (n : ℕ) (fs : List Frame) (came : PlainNode × PeerTold) → NodeGoes conns n came.0 came.1.events → NodeGoes conns n (frames_up fs came).0 (frames_up fs came).1.events
+frames_go : (conns : Conns) (n : ℕ) (fs : List Frame) (came : PlainNode × PeerResult) → NodeGoes conns n came.0 came.1.events → NodeGoes conns n (frames_up fs came).0 (frames_up fs came).1.events
 frames_go conns n [] came g = g
 frames_go conns n (f ∷ fs) came g =
-    let x = peer_asked f came.1.peer came.0 in
+    let x = frame_posted f came.1.peer came.0 in
     frames_go conns n fs (frame_up f came) (goes_more conns n came.0 x.0 came.1.events x.1.events g (asked_goes (conns_lines conns came.1.events) n f came g.here))
 
 pub up_goes : (conns : Conns) (n wanted : ℕ) (link : PlainLink) (node : PlainNode) → NodeTold (conns n) n node → NodeGoes conns n (up_at wanted link node).0 (up_at wanted link node).1.1.events
@@ -160,7 +160,7 @@ posts_in_go conns n rs o mute are = by (o.0.nodes n) refl
 pub role_goes : (conns : Conns) (w : PlainWorld) (n v : ℕ) (asked : AdminCall) → admin_job n v asked ≡ role_at n v asked → ConnsAre w conns → Goes conns (role_outcome n v asked w)
 role_goes conns w n v asked job are = by (w.nodes n) refl
   where
-    ended : (o : Option (List ℕ)) (w1 : PlainWorld) (told : AdminTold) → AreMute told.events → ConnsAre w1 conns → Goes conns (turned_if n v w o (w1, told))
+    ended : (o : Option (List ℕ)) (w1 : PlainWorld) (told : AdminResult) → AreMute told.events → ConnsAre w1 conns → Goes conns (turned_if n v w o (w1, told))
     ended None w1 told mute now = quiet conns (w, record { events = told.events; answer = told.answer }) mute are
     ended (Some ids) w1 told mute now = posts_in_go conns n told.resolved (turned n v told w2) (cut (own_link n v w2.links)).0 (cut (own_link n v w2.links)).1
       where
@@ -172,7 +172,7 @@ role_goes conns w n v asked job are = by (w.nodes n) refl
         cut (Some link) = ((tt, mute), unlinked_are w2 conns link now)
 
     called : (node : PlainNode) → NodeTold (conns n) n node → AreMute (role_called n v asked node).1.events × NodeTold (conns n) n (role_called n v asked node).0
-    called node t = elim (is_some node.off) as (λ b. let x : PlainNode × AdminTold = if b then (node, admin_refused Cause.NodeDown) else under_arm v (called_at n v asked) node in AreMute x.1.events × NodeTold (conns n) n x.0) [
+    called node t = elim (is_some node.off) as (λ b. let x : PlainNode × AdminResult = if b then (node, admin_refused Cause.NodeDown) else under_arm v (called_at n v asked) node in AreMute x.1.events × NodeTold (conns n) n x.0) [
       | true ↦ (tt, t)
       | false ↦ (role_mute n v asked (placed v node) job, same_told (conns n) n node (under_arm v (called_at n v asked) node).0 (λ c. refl) refl t)
     ]
@@ -243,11 +243,11 @@ numbers_are = refl
 
 -- the ends of links tell of none
 ends_mute : (n : ℕ) (also : Option ℕ) (links : List PlainLink) → AreMute (end_lines n also links)
-ends_mute n also links = mute_each (end_line n also links) all_numbers (λ l. either AreMute (is_number l also || is_touched n (row_at link_number l links)) _ [] (tt, tt) tt)
+ends_mute n also links = mute_each (end_line n also links) all_numbers (λ l. either AreMute (is_this_number l also || is_touched n (row_at link_number l links)) _ [] (tt, tt) tt)
 
-client_told : (opened : ℕ → Bool) (n : ℕ) (o : Option PlainNode) → NodeToldIf opened n o → (c : ℕ) → opened c ≡ has_client c o
-client_told opened n None t c = t c
-client_told opened n (Some node) t c = t.told c
+client_world : (opened : ℕ → Bool) (n : ℕ) (o : Option PlainNode) → NodeToldIf opened n o → (c : ℕ) → opened c ≡ has_client c o
+client_world opened n None t c = t c
+client_world opened n (Some node) t c = t.told c
 
 client_small : (opened : ℕ → Bool) (n : ℕ) (o : Option PlainNode) → NodeToldIf opened n o → (c : ℕ) → opened c ≡ true → c < numbers
 client_small opened n None t c e = let z : true ≡ false = sym e ∙ t c in cc
@@ -273,7 +273,7 @@ down_say conns w n also are = (
     same = mute_same conns ends mute
 
     all : AllSay conns closes × ShutBelow n numbers conns (conns_lines conns closes)
-    all = closed_all conns n (w.nodes n) (client_told (conns n) n (w.nodes n) (are n)) numbers all_numbers numbers_are
+    all = closed_all conns n (w.nodes n) (client_world (conns n) n (w.nodes n) (are n)) numbers all_numbers numbers_are
 
     closed : (c : ℕ) (b : Bool) → conns n c ≡ b → conns_lines conns closes n c ≡ false
     closed c true e = all.1.none c (client_small (conns n) n (w.nodes n) (are n) c e)

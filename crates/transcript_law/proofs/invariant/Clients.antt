@@ -1,7 +1,7 @@
 -- after each line the connections of clients that the lines tell open are those of the nodes, and each line of a client is of one of them
 use Rattle.std.specs.Prelude.{◌≡◌, ◌<◌, ◌∷◌, if◌then◌else◌}
 use Rattle.transcript_law.proofs.Words.{ℕ, Bool, true, false, List, [], refl, ap, sym, ◌∙◌, subst, Option, Some, None, is_some, Answer, Cause, Event, Role, Verb, VbVerb, NodeVerb, LinkVerb, ClientVerb, VerbFits, after}
-use Rattle.transcript_law.proofs.Words.{AdminCall, PlainLink, PlainNode, PlainSession, PlainWorld, Outcome, Told, VbCall, admin_line, ask_in, bytes_at, called_at, client_at, clock_at, consumer_node, cut_outcome, done, empty_node, fed_if, first_cause, hang_at, link_causes, link_number, new_session}
+use Rattle.transcript_law.proofs.Words.{AdminCall, PlainLink, PlainNode, PlainSession, PlainWorld, Outcome, Told, VbCall, admin_line, ask_in, bytes_at, called_at, client_at, clock_at, consumer_node, cut_outcome, done, empty_node, bytes_if, first_cause, hang_at, link_causes, link_number, new_session}
 use Rattle.transcript_law.proofs.Words.{node_causes, node_outcome, on_link, on_node, own_link, producer_node, promote_causes, promote_step, pump_at, refusal, refused_or, replica_at, replica_causes, role_outcome, row_at, turn_causes, turn_step, up_at, vb_at, vb_causes, verb_step, with_client, with_dialed, with_links, with_node_at, with_states}
 use Rattle.client_session.specs.Serving.{served}
 use Rattle.node_core.specs.{Admin.{admin_job, role_at}, Dials.{dial_due}}
@@ -18,7 +18,7 @@ use Rattle.transcript_law.specs.Chronicles.{Conns, conns_lines, conns_verb, with
 use Rattle.transcript_law.specs.Clients.{ClientAnswer, IsCrashed}
 use Rattle.vb_disk.specs.declared.made.Outcome.{Outcome as Left}
 use Rattle.vb_types.specs.declared.journal.FlushPart.TheVariants as part
-use Rattle.transcript_law.proofs.Words.{bytes_served}
+use Rattle.transcript_law.proofs.Words.{bytes_handled}
 use Rattle.transcript_law.proofs.invariant.ClientWorlds.{Came, ConnsAre, Goes, NodeToldIf, armed, came, crash_came, down_came, down_say, flush_goes, made, on, over, put_node, put_same, role_goes, save_goes, settled_goes, stays, told_at, unless, unless_node, unlinked_are, up_goes}
 use Rattle.transcript_law.proofs.invariant.ClientStarts.{start_came}
 
@@ -57,11 +57,11 @@ due_goes conns n v o g = by (is_counted o.1.answer)
 bytes_go : (conns : Conns) (n c : ℕ) (bytes : List ℕ) (node : PlainNode) → NodeTold (conns n) n node → NodeGoes conns n (bytes_at c bytes node).0 (bytes_at c bytes node).1.events
 bytes_go conns n c bytes node t = by (node.clients c) refl
   where
-    by : (o : Option PlainSession) → node.clients c ≡ o → NodeGoes conns n (fed_if c bytes node o).0 (fed_if c bytes node o).1.events
+    by : (o : Option PlainSession) → node.clients c ≡ o → NodeGoes conns n (bytes_if c bytes node o).0 (bytes_if c bytes node o).1.events
     by None e = mute_goes conns n node [] tt t
     by (Some session) e =
         let kept : IsKept n c (Some session) = subst (IsKept n c) e (t.kept c) in
-        session_goes conns n c node session (after (bytes_served node.clock bytes (served session [])) node.vbs) e (runs_with (conns n) n c node session e t) t (served_at n c node.clock session node.vbs kept.0 kept.1 kept.2 bytes)
+        session_goes conns n c node session (after (bytes_handled node.clock bytes (served session [])) node.vbs) e (runs_with (conns n) n c node session e t) t (served_at n c node.clock session node.vbs kept.0 kept.1 kept.2 bytes)
 
 -- what a line tells behind its lines counts here
 abbrev CameTo : Conns → Verb → Outcome → Type 0
@@ -161,7 +161,7 @@ module _ (conns : Conns) (w : PlainWorld) (number : ℕ) (are : ConnsAre w conns
       opens true e = t.told c ∙ e
       opens false e = t.told c ∙ e
 
-      bytes_say : (bytes : List ℕ) (k : Option PlainSession) → node.clients c ≡ k → ClientAnswer (conns n c) (ClientVerb.Bytes bytes) (fed_if c bytes node k).1.answer
+      bytes_say : (bytes : List ℕ) (k : Option PlainSession) → node.clients c ≡ k → ClientAnswer (conns n c) (ClientVerb.Bytes bytes) (bytes_if c bytes node k).1.answer
       bytes_say bytes None e = t.told c ∙ ap is_some e
       bytes_say bytes (Some session) e = t.told c ∙ ap is_some e
 

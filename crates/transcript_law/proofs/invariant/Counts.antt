@@ -3,9 +3,9 @@ use Rattle.std.specs.Prelude.{◌≡◌}
 use Rattle.transcript_law.proofs.Words.{ℕ, List, refl, sym, subst, Some, Plain, Sound, Cluster, PlainWorld, Chronicle, with_at}
 use Rattle.transcript_law.proofs.{invariant.Agreement.{AgreesAt, AgreesIn, CountsAre, VbAgrees, VbIsIf, counts_if, idle, shelf_of, vb_of, vb_row}, invariant.Carrying.{Changed}, disks.Disks.{disk_same}, verbs.NodeLines.{changed_agrees}, invariant.Seats.{seat}, invariant.Tables.{at_here, at_there}}
 use Rattle.durability.specs.Chains.{Members}
-use Rattle.transcript_law.specs.Chronicles.{CountsTold}
+use Rattle.transcript_law.specs.Chronicles.{CountsKnown}
 
-module _ (w w' : PlainWorld) (r : Chronicle) (c : Cluster) (n v : ℕ) (vb : Plain) (others : Members) (acks : List ℕ) (told : CountsTold) (a : AgreesIn idle w r c) (known : vb_of w n v ≡ Some vb) (sound : Sound (record vb { others = others; acks = acks }))
+module _ (w w' : PlainWorld) (r : Chronicle) (c : Cluster) (n v : ℕ) (vb : Plain) (others : Members) (acks : List ℕ) (told : CountsKnown) (a : AgreesIn idle w r c) (known : vb_of w n v ≡ Some vb) (sound : Sound (record vb { others = others; acks = acks }))
     (counts : CountsAre told others acks) (became : Changed w w' n v (record vb { others = others; acks = acks }) w.links) (shelf : shelf_of w' n v ≡ shelf_of w n v) where
   abbrev counting : Plain
   counting = record vb { others = others; acks = acks }

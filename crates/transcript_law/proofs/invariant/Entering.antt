@@ -8,8 +8,8 @@ use Rattle.script_text.specs.declared.verb.VbVerb.TheVariants as vb_verb
 use Rattle.transcript_law.proofs.Words.{ℕ, Bool, true, false, List, [], refl, ap, sym, ◌∙◌, subst, Option, Some, None, LogEntry, Branch, eq-eqb, ne_eqb, Verb, Change, AskAnswer, Event, StreamName, StreamAsk, Role, Answer, AtForks, kept_to, with_entry, IsNew, branch, grow, longer, branch_grow, Granted, Chronicle, empty_chronicle, after_lines}
 use Rattle.transcript_law.proofs.Words.{with_at, with_changed, granted, parent_branch, changes_between, after_branch, with_begun, with_item, finished, after_line, held_more, past_next, past_mark, IsIfKnown, LawfulLine, LawfulFrom, LawfulAsk}
 use Rattle.transcript_law.proofs.{invariant.Tables.{pick}, invariant.Trees.{IsTold, new_untold}}
-use Rattle.transcript_law.specs.Chronicles.{Appending, ArmTold, after_armed, after_crashed, after_dial, after_seal, ahead, Dial, DiskTold, Flushing, Idle, Taken, Written, after_append, after_calls, after_crash, after_made, after_noted, after_openings, after_restart, after_restarts, after_rollback, after_start, after_starts, after_up, appending, batch_record, batch_stands, broken_by, calls_of_append, crashed_disk, disk_back}
-use Rattle.transcript_law.specs.Chronicles.{acknowledging, disks_of, finds, is_feed_of, is_made, is_name, is_off, is_rollback, is_stream_at, is_stream_of, known_log, late_told, rollback_of, saving, spent, state_of, told_batch, with_disk, with_disk_there, with_record, with_row}
+use Rattle.transcript_law.specs.Chronicles.{Appending, ArmKnown, after_armed, after_crashed, after_dial, after_seal, ahead, Dial, DiskKnown, Flushing, Idle, Taken, Written, after_append, after_calls, after_crash, after_made, after_noted, after_openings, after_restart, after_restarts, after_rollback, after_start, after_starts, after_up, appending, batch_record, batch_stands, broken_by, calls_of_append, crashed_disk, disk_back}
+use Rattle.transcript_law.specs.Chronicles.{acknowledging, disks_of, finds, is_feed_of, is_made, is_name, is_off, is_rollback, is_stream_at, is_stream_of, known_log, late_record, rollback_of, saving, spent, state_of, known_batch, with_disk, with_disk_there, with_record, with_row}
 use Rattle.transcript_law.specs.Lawfulness.{LawfulAdopt}
 use Rattle.vb_disk.specs.declared.fuse.Fuse.{Fuse}
 use Rattle.vb_disk.specs.declared.fuse.Fuse.TheVariants.{Off, Stop, Fail}
@@ -73,7 +73,7 @@ FlushingAt tree (Taken b) = AtForks tree b.log
 FlushingAt tree other = Unit {0}
 
 -- the logs of what was written down, or is to be
-pub record DiskAt (tree : List Branch) (d : DiskTold) : Type 0 where
+pub record DiskAt (tree : List Branch) (d : DiskKnown) : Type 0 where
   pub book : BookAt tree d.book
   pub late : LateAt tree d.late
   pub flushing : FlushingAt tree d.flushing
@@ -98,7 +98,7 @@ module _ (tree tree' : List Branch) (keeps : (log : List LogEntry) → AtForks t
   flushing_kept Idle at = tt
   flushing_kept (Written seq) at = tt
 
-  disk_kept : (d : DiskTold) → DiskAt tree d → DiskAt tree' d
+  disk_kept : (d : DiskKnown) → DiskAt tree d → DiskAt tree' d
   disk_kept d at = record { book = book_kept d.book at.book; late = late_kept d.late at.late; flushing = flushing_kept d.flushing at.flushing }
 
 -- what the lines tell of logs: those of vBuckets, which are known so far, those that streams were granted with, and those that were written down
@@ -122,9 +122,9 @@ log_changed : (tree tree' : List Branch) (f : List LogEntry → List LogEntry) (
 log_changed tree tree' f None keeps entered = entered
 log_changed tree tree' f (Some log) keeps entered = keeps log entered
 
-log_kept : (tree tree' : List Branch) (o : Option (List LogEntry)) → ((log : List LogEntry) → AtForks tree log → AtForks tree' log) → LogEntered tree o → LogEntered tree' o
-log_kept tree tree' None keeps entered = entered
-log_kept tree tree' (Some log) keeps entered = keeps log entered
+log_kept_on : (tree tree' : List Branch) (o : Option (List LogEntry)) → ((log : List LogEntry) → AtForks tree log → AtForks tree' log) → LogEntered tree o → LogEntered tree' o
+log_kept_on tree tree' None keeps entered = entered
+log_kept_on tree tree' (Some log) keeps entered = keeps log entered
 
 with_log : (tree : List Branch) (table : ℕ → ℕ → Option (List LogEntry)) (n v : ℕ) (log : Option (List LogEntry)) → LogEntered tree log → ((m q : ℕ) → LogEntered tree (table m q))
     → (m q : ℕ) → LogEntered tree (with_at table n v log m q)
@@ -142,10 +142,10 @@ kept_log tree f (Some x) same old g e = let is : f x ≡ g = cc in subst (AtFork
 one_stream : (tree : List Branch) (x : Granted) → AtForks tree x.log → EnteredIf tree (Some x)
 one_stream tree x at g e = let is : x ≡ g = cc in subst (λ (y : Granted). AtForks tree y.log) is at
 
-at_disk : (r : Chronicle) (n v : ℕ) (d : DiskTold) → DiskAt r.tree d → ((m q : ℕ) → DiskAt r.tree (r.disk_at m q)) → (m q : ℕ) → DiskAt r.tree (with_at r.disk_at n v d m q)
+at_disk : (r : Chronicle) (n v : ℕ) (d : DiskKnown) → DiskAt r.tree d → ((m q : ℕ) → DiskAt r.tree (r.disk_at m q)) → (m q : ℕ) → DiskAt r.tree (with_at r.disk_at n v d m q)
 at_disk r n v d new old m q = pick r.disk_at n v d (DiskAt r.tree) m q (λ s t. new) (λ other. old m q)
 
-disk_entered : (r : Chronicle) (n v : ℕ) (d : DiskTold) → Entered r → DiskAt r.tree d → Entered (with_disk r n v d)
+disk_entered : (r : Chronicle) (n v : ℕ) (d : DiskKnown) → Entered r → DiskAt r.tree d → Entered (with_disk r n v d)
 disk_entered r n v d old new = record { disks = at_disk r n v d new old.disks; logs = old.logs; streams = old.streams }
 
 -- the log that a vBucket has, as it is written down
@@ -167,7 +167,7 @@ branch_entered r n v uuid parent fork high old new =
             ap (λ t. option_map (λ (x : Branch). x.fork) (if t then Some b else branch r.tree uuid)) (eq-eqb uuid uuid refl),
             forks_take 24 tree (kept_to fork log) (forks_kept (λ (e : LogEntry). nat_le e.seq fork) tree log (forks_new b r.tree log new at)),
           )) (old.logs n v))
-          (λ m q. log_kept r.tree tree (r.log_at m q) (λ log at. forks_new b r.tree log new at) (old.logs m q));
+          (λ m q. log_kept_on r.tree tree (r.log_at m q) (λ log at. forks_new b r.tree log new at) (old.logs m q));
       streams = λ s q g e. forks_new b r.tree g.log new (old.streams s q g e);
     }
 
@@ -197,7 +197,7 @@ line_entered r (event.Branch n v uuid parent fork high) behind old lawful = let 
 line_entered r (event.Role n v role) behind old lawful = record { disks = old.disks; logs = old.logs; streams = old.streams }
 line_entered r (event.Changed n v uuid change) behind old lawful = record {
   disks = λ m q. disk_kept r.tree (grow r.tree uuid change) (λ log at. forks_grow r.tree log uuid change at) (r.disk_at m q) (old.disks m q);
-  logs = λ m q. log_kept r.tree (grow r.tree uuid change) (r.log_at m q) (λ log at. forks_grow r.tree log uuid change at) (old.logs m q);
+  logs = λ m q. log_kept_on r.tree (grow r.tree uuid change) (r.log_at m q) (λ log at. forks_grow r.tree log uuid change at) (old.logs m q);
   streams = λ s q g e. forks_grow r.tree g.log uuid change (old.streams s q g e);
 }
 line_entered r (event.Asked (name.Link l) n v ask high log said) behind old lawful = asked_entered r l n v ask high log said old lawful
@@ -222,7 +222,7 @@ line_entered r (event.Ended l reason) behind old lawful =
     record { disks = old.disks; logs = old.logs; streams = λ s q. either r.tree (is_name s (name.Link l)) None (r.stream_of s q) (λ g e. cc) (old.streams s q) }
 line_entered r (event.Batch n v ss se at count) behind old lawful =
     let d = r.disk_at n v in let p : Position = record { ss = ss; se = se; at = at } in
-    disk_entered r n v (record d { flushing = Taken (told_batch p (known_log (r.log_at n v))) }) old (record { book = (old.disks n v).book; late = (old.disks n v).late; flushing = known_at r n v old })
+    disk_entered r n v (record d { flushing = Taken (known_batch p (known_log (r.log_at n v))) }) old (record { book = (old.disks n v).book; late = (old.disks n v).late; flushing = known_at r n v old })
 line_entered r (event.Counted stream n v member seq) behind old lawful = record { disks = old.disks; logs = old.logs; streams = old.streams }
 line_entered r other behind old lawful = old
 
@@ -266,17 +266,17 @@ calls_entered : (r : Chronicle) (calls n : ℕ) → Entered r → Entered (after
 calls_entered r calls n old = record { disks = old.disks; logs = old.logs; streams = old.streams }
 
 -- an append
-late_at : (tree : List Branch) (f : Fuse) (x : Record) → RecordAt tree x → LateAt tree (late_told f x)
+late_at : (tree : List Branch) (f : Fuse) (x : Record) → RecordAt tree x → LateAt tree (late_record f x)
 late_at tree Off x at = tt
 late_at tree (Stop k) x at = elim (nat_le 3 k) as (λ b. LateAt tree (if b then Some x else None)) [ true ↦ at | false ↦ tt ]
 late_at tree (Fail k) x at = elim (k == 4) as (λ b. LateAt tree (if b then Some x else None)) [ true ↦ at | false ↦ tt ]
 
-broken_at : (tree : List Branch) (f : Fuse) (o : Option Record) (d : DiskTold) → DiskAt tree d → LateAt tree o → DiskAt tree (broken_by f o d)
+broken_at : (tree : List Branch) (f : Fuse) (o : Option Record) (d : DiskKnown) → DiskAt tree d → LateAt tree o → DiskAt tree (broken_by f o d)
 broken_at tree f None d at late = at
 broken_at tree f (Some x) d at late = record { book = at.book; late = late_at tree f x late; flushing = at.flushing }
 
 -- the logs of what is appended
-record AppendAt (tree : List Branch) (a : Appending) (d : DiskTold) : Type 0 where
+record AppendAt (tree : List Branch) (a : Appending) (d : DiskKnown) : Type 0 where
   stands : DiskAt tree (a.stands d)
   fails : DiskAt tree (a.fails d)
   what : LateAt tree a.what
@@ -303,7 +303,7 @@ made_entered r n v role said old = noted_entered (with_disk_there r n v said) n 
     (elim (is_made said) as (λ b. Entered (if b then with_disk r n v (record (r.disk_at n v) { there = true }) else r))
     [ true ↦ disk_entered r n v (record (r.disk_at n v) { there = true }) old (record { book = (old.disks n v).book; late = (old.disks n v).late; flushing = (old.disks n v).flushing }) | false ↦ old ])
 
-batch_at : (tree : List Branch) (f : Flushing) (d : DiskTold) → FlushingAt tree f → DiskAt tree d → DiskAt tree (batch_stands f d) × LateAt tree (batch_record f)
+batch_at : (tree : List Branch) (f : Flushing) (d : DiskKnown) → FlushingAt tree f → DiskAt tree d → DiskAt tree (batch_stands f d) × LateAt tree (batch_record f)
 batch_at tree Idle d f at = (at, tt)
 batch_at tree (Taken b) d f at = (record { book = (f, at.book); late = at.late; flushing = tt }, f)
 batch_at tree (Written seq) d f at = (at, tt)
@@ -388,7 +388,7 @@ pub seal_entered : (r : Chronicle) (n v : ℕ) (said : Answer) → Entered r →
 seal_entered r n v (answer.Number sealed) old = record { disks = old.disks; logs = old.logs; streams = old.streams }
 seal_entered r n v other old = old
 
-pub armed_entered : (r : Chronicle) (n : ℕ) (arm : ArmTold) (said : Answer) → Entered r → Entered (after_armed r n arm said)
+pub armed_entered : (r : Chronicle) (n : ℕ) (arm : ArmKnown) (said : Answer) → Entered r → Entered (after_armed r n arm said)
 armed_entered r n arm answer.Ok old = record { disks = old.disks; logs = old.logs; streams = old.streams }
 armed_entered r n arm other old = old
 

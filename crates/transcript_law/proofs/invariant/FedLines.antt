@@ -1,8 +1,8 @@
 -- after each line each stream of a vBucket is that of an open link
 use Rattle.std.specs.Prelude.{◌≡◌, ◌∷◌, ◌++◌, ◌⊎◌}
 use Rattle.transcript_law.proofs.Words.{ℕ, List, [], refl, ap, inl, inr, ⊎_elim, fold, length, take, Option, Some, None, is_some, row_at, States, after, after_job, Cause, EndReason, Role, Plain}
-use Rattle.transcript_law.proofs.Words.{PlainLink, link_number, producer_node, consumer_node, PlainNode, PlainWorld, Told, Outcome, DialTold, with_node_at, with_links, with_states, node_outcome, own_link, moved_len, peer_of, dial_of, dial_fed, over_why, up_at, pump_at, refusal, refused_or, first_cause, done}
-use Rattle.transcript_law.proofs.Words.{PlainSession, new_session, bytes_at, fed_if, client_at, hang_at, cut_outcome, with_client, with_dialed, link_outcome, on_link, with_link, StreamAsk, new_link, new_vb, peer_pulled, with_vb_at}
+use Rattle.transcript_law.proofs.Words.{PlainLink, link_number, producer_node, consumer_node, PlainNode, PlainWorld, Told, Outcome, DialResult, with_node_at, with_links, with_states, node_outcome, own_link, moved_len, peer_of, dial_of, dial_bytes, over_why, up_at, pump_at, refusal, refused_or, first_cause, done}
+use Rattle.transcript_law.proofs.Words.{PlainSession, new_session, bytes_at, bytes_if, client_at, hang_at, cut_outcome, with_client, with_dialed, link_outcome, on_link, with_link, StreamAsk, new_link, new_vb, peer_pulled, with_vb_at}
 use Rattle.transcript_law.proofs.{invariant.Agreement.{IsLink}, invariant.FedNodes.{pump_owned, up_owned}, invariant.Feeding.{AllFed, Fine, broken_fine, quiet_fine, served_fed, swapped, unlinked_fine}, invariant.LinkRows.{found_is_link}, verbs.Leaving.{own_found}}
 use Rattle.transcript_law.proofs.{invariant.Quiets.{bytes_quiet, due_quiet, fed_quiet, flush_quiet, posts_quiet, start_quiet}, invariant.Unopened.{NoNew, either, none_new, put_new, step_new}}
 use Rattle.transcript_law.specs.Feeding.{HasIn}
@@ -10,7 +10,7 @@ use Rattle.journal_points.specs.Points.{saved}
 use Rattle.client_session.specs.Serving.{served}
 use Rattle.disk_journals.specs.{Arms.{opens_all}, Books.{Book}}
 use Rattle.durability.specs.Chains.{Members}
-use Rattle.node_core.specs.{Dials.{dial_due}, Flushing.{chain_set, flush_at, ticked}, Loading.{are_short, loaded_by, no_states, starts_of, with_loaded}, Peers.{peer_frames, peer_heard}}
+use Rattle.node_core.specs.{Dials.{dial_due}, Flushing.{chain_changed, flush_at, ticked}, Loading.{are_short, loaded_by, no_states, starts_of, with_loaded}, Peers.{peer_frames, peer_heard}}
 use Rattle.node_world.proofs.Keeping.{due_dialed, fed_dialed, given_desk, pulled_desk}
 use Rattle.node_world.specs.Arms.{fired_by, placed}
 use Rattle.node_world.specs.Dues.{due_at, due_in, due_of, is_counted, with_due}
@@ -33,7 +33,7 @@ none_less node = λ v id h. h
 pub bytes_less : (c : ℕ) (bytes : List ℕ) (node : PlainNode) → NoNew node.vbs (bytes_at c bytes node).0.vbs
 bytes_less c bytes node = by (node.clients c)
   where
-    by : (o : Option PlainSession) → NoNew node.vbs (fed_if c bytes node o).0.vbs
+    by : (o : Option PlainSession) → NoNew node.vbs (bytes_if c bytes node o).0.vbs
     by None = none_less node
     by (Some session) = bytes_quiet node.clock bytes (served session []) node.vbs
 
@@ -48,7 +48,7 @@ refused_less node x (Some why) less = none_less node
 
 pub chain_less : (n v : ℕ) (others : Members) (node : PlainNode) → NoNew node.vbs (chain_line n v others node).0.vbs
 chain_less n v others node =
-    let x = after (chain_set n v (record { active = n; others = others })) node.vbs in
+    let x = after (chain_changed n v (record { active = n; others = others })) node.vbs in
     refused_less node (chain_made n v others node) (first_cause (chain_causes n v others node))
     (none_new node.vbs x.0 (all_posted x.1.resolved (with_states node x.0)).0.vbs (step_new node.vbs v (call.Chain (record { active = n; others = others })) tt) (posts_quiet x.1.resolved (with_states node x.0)))
 
@@ -72,15 +72,15 @@ hang_less c node = either (λ (x : PlainNode × Told). NoNew node.vbs x.0.vbs) (
 abbrev NoStream : States → Type 0
 NoStream states = (v id : ℕ) → HasIn (states v) id → ⊥
 
-less_none : (states states' : States) → NoNew states states' → NoStream states → NoStream states'
-less_none states states' less none = λ v id h. none v id (less v id h)
+none_where_less : (states states' : States) → NoNew states states' → NoStream states → NoStream states'
+none_where_less states states' less none = λ v id h. none v id (less v id h)
 
 loaded_none : (n : ℕ) (books : List Book) (states : States) → NoStream states → NoStream (fold (λ states book. with_loaded n states book.0 book.1) states books)
 loaded_none n [] states none = none
 loaded_none n (book ∷ books) states none = loaded_none n books (with_loaded n states book.0 book.1) (one book.1)
   where
     made : (fresh : Plain) (o : Option Plain) → ((id : ℕ) → HasIn (Some fresh) id → ⊥) → NoStream (make_at states book.0 fresh o).0
-    made fresh None empty = less_none states (with_vb_at states book.0 fresh) (put_new states book.0 fresh (λ id h. absurd (empty id h))) none
+    made fresh None empty = none_where_less states (with_vb_at states book.0 fresh) (put_new states book.0 fresh (λ id h. absurd (empty id h))) none
     made fresh (Some there) empty = none
 
     one : (records : List Record) → NoStream (with_loaded n states book.0 records)
@@ -90,7 +90,7 @@ loaded_none n (book ∷ books) states none = loaded_none n books (with_loaded n 
 starts_none : (n : ℕ) (starts : List (ℕ × ℕ)) (node : PlainNode) (told : Told) → NoStream node.vbs → NoStream (starts_from n starts (node, told)).0.vbs
 starts_none n [] node told none = none
 starts_none n (start ∷ starts) node told none = by (λ t. starts_none n starts (start_one n start node).0 t
-    (less_none node.vbs (start_one n start node).0.vbs (start_quiet n start.0 start.1 (placed start.0 node).vbs (placed start.0 node).shelves) none)) (fired_by node.arm.fuse (start_one n start node).0.arm.fuse)
+    (none_where_less node.vbs (start_one n start node).0.vbs (start_quiet n start.0 start.1 (placed start.0 node).vbs (placed start.0 node).shelves) none)) (fired_by node.arm.fuse (start_one n start node).0.arm.fuse)
   where
     by : ((t : Told) → NoStream (starts_from n starts ((start_one n start node).0, t)).0.vbs) → (f : Fired) → NoStream (started_by n node.arm f (start_one n start node).1 told (start_one n start node).0 (starts_from n starts)).0.vbs
     by rest fired.No = rest _
@@ -160,8 +160,8 @@ module _ (w : PlainWorld) (fine : Fine w) where
     abbrev left : PlainNode
     left = (down_in wanted link node).0
 
-    abbrev given : DialTold
-    given = (after_job (dial_fed piece (dial_of link)) at.vbs at.shelves).1
+    abbrev given : DialResult
+    given = (after_job (dial_bytes piece (dial_of link)) at.vbs at.shelves).1
 
     given_stays : Fine (with_node_at w (consumer_node link) left)
     given_stays = quiet_fine w (consumer_node link) node left fine known (fed_quiet piece (dial_of link) at.vbs at.shelves)

@@ -1,10 +1,10 @@
 -- each stream of a vBucket is that of an open link, also after each line
 use Rattle.std.specs.Prelude.{◌≡◌, ◌∷◌, ◌⊎◌, ◌==◌, if◌then◌else◌}
 use Rattle.transcript_law.proofs.Words.{ℕ, Bool, true, false, List, [], refl, ap, sym, ◌∙◌, subst, inl, inr, ⊎_elim, filter, list_any, ◌&&◌, Option, Some, None, is_some, option_map, eqb-true, eqb-false, row_put, States, after, Cause}
-use Rattle.transcript_law.proofs.Words.{PlainLink, link_number, producer_node, PlainNode, PlainWorld, PlainStream, Told, Outcome, AdminCall, AdminTold, vb_in, with_node_at, with_links, node_outcome, node_if, on_node, unlinked, own_link, cut_off, told_ended, ended_by, ended_in, end_closed, Plain, close_row}
+use Rattle.transcript_law.proofs.Words.{PlainLink, link_number, producer_node, PlainNode, PlainWorld, PlainStream, Told, Outcome, AdminCall, AdminResult, vb_in, with_node_at, with_links, node_outcome, node_if, on_node, unlinked, own_link, cut_off, link_ended, ended_by, ended_in, end_closed, Plain, close_row}
 use Rattle.transcript_law.proofs.Words.{stream_closed, refusal, called_at, no_node, turned_after, turned_if, with_ended, role_outcome}
 use Rattle.transcript_law.proofs.{invariant.Agreement.{IsLink}, invariant.Carried.{numbers}, verbs.Leaving.{own_found}, invariant.Numbered.{Numbers, numbers_out, numbers_passed, numbers_put, numbers_told, one_of_number, out_other, passed, put_in, put_other, told_there}}
-use Rattle.transcript_law.proofs.{invariant.Openings.{AreOwned}, invariant.Quiets.{Ends, at_own, posts_quiet}, invariant.Unopened.{NoNew, closed_has, either, step_new}}
+use Rattle.transcript_law.proofs.{invariant.Openings.{AreOwned}, invariant.Quiets.{Ends, found_at_own, posts_quiet}, invariant.Unopened.{NoNew, closed_has, either, step_new}}
 use Rattle.transcript_law.specs.Feeding.{HasIn, HasStream, IsOf, IsOpenAt}
 use Rattle.node_core.specs.Admin.{admin_refused}
 use Rattle.node_world.specs.{Arms.{fired_by, placed, under_arm}, Cuts.{closed_at}, Nodes.{all_posted, if_up}, Worlds.{arm_in, on_made}}
@@ -110,7 +110,7 @@ closed_here states q i = by (states q) refl
   where
     by : (o : Option Plain) → states q ≡ o → HasIn ((call_at states q (call.CloseStream i) o).0 q) i → ⊥
     by None e h = subst (λ o. HasIn o i) e h
-    by (Some vb) e h = (closed_has i i vb.streams (subst (λ o. HasIn o i) (at_own states q (close_row vb i).0) h)).1 refl
+    by (Some vb) e h = (closed_has i i vb.streams (subst (λ o. HasIn o i) (found_at_own states q (close_row vb i).0) h)).1 refl
 
 abbrev closing : ℕ → PlainStream → Bool → Prog (Unit {0})
 closing id stream ended = if ended then Done tt else Call stream.vb (call.CloseStream id) (λ reply. Done tt)
@@ -195,8 +195,8 @@ posts_in_fine n rs o fine = by (o.0.nodes n) refl
     by (Some node) e = quiet_fine o.0 n node (all_posted rs node).0 fine e (posts_quiet rs node)
 
 -- a link that is told which streams ended has its own, if it is of another vBucket
-told_of : (n v : ℕ) (ids : List ℕ) (m q id : ℕ) (x : PlainLink) → (m ≡ n → q ≡ v → ⊥) → IsOf m q id x → IsOf m q id (told_ended n v ids x)
-told_of n v ids m q id x apart of = by (producer_node x == n) refl
+known_of : (n v : ℕ) (ids : List ℕ) (m q id : ℕ) (x : PlainLink) → (m ≡ n → q ≡ v → ⊥) → IsOf m q id x → IsOf m q id (link_ended n v ids x)
+known_of n v ids m q id x apart of = by (producer_node x == n) refl
   where
     goes_on : m ≡ n → (o : Option PlainStream) → IsOpenAt q o → IsOpenAt q (option_map (ended_in v ids x.server.desk.id) o)
     goes_on same None h = absurd h
@@ -215,7 +215,7 @@ module _ (w : PlainWorld) (n v : ℕ) (node node' : PlainNode) (ids : List ℕ) 
   ended = with_ended n v ids (with_node_at w n node')
 
   told_fed : (m q id : ℕ) → (m ≡ n → q ≡ v → ⊥) → HasStream w m q id → Fed ended.links m q id
-  told_fed m q id apart h = let (x, i, of) = fine.fed m q id h in (told_ended n v ids x, told_there n v ids x w.links i, told_of n v ids m q id x apart of)
+  told_fed m q id apart h = let (x, i, of) = fine.fed m q id h in (link_ended n v ids x, told_there n v ids x w.links i, known_of n v ids m q id x apart of)
 
   pub ended_fine : Fine ended
   ended_fine = record { numbers = numbers_told n v ids w.links fine.numbers; fed = λ m q id. by m q id (m == n) refl }
@@ -225,7 +225,7 @@ module _ (w : PlainWorld) (n v : ℕ) (node node' : PlainNode) (ids : List ℕ) 
           (told_fed n q id (λ a s. ends.none id (subst (λ u. HasIn (node'.vbs u) id) s h)) (subst (λ o. HasIn (vb_in o q) id) (sym known) (ends.less q id h)))
       by m q id false e h = told_fed m q id (λ a s. eqb-false m n e a) h
 
-  pub turned_fine : (told : AdminTold) → Fine (posted_in n told.resolved (turned n v told ended)).0
+  pub turned_fine : (told : AdminResult) → Fine (posted_in n told.resolved (turned n v told ended)).0
   turned_fine told = posts_in_fine n told.resolved (turned n v told ended) (by (own_link n v ended.links) refl)
     where
       by : (o : Option PlainLink) → own_link n v ended.links ≡ o → Fine (cut_off o ended).0
@@ -238,7 +238,7 @@ pub role_fine : (w : PlainWorld) (n v : ℕ) (asked : AdminCall)
 role_fine w n v asked ends fine = by (w.nodes n) refl
   where
     called : (node : PlainNode) (ids : List ℕ) → (role_called n v asked node).1.ended ≡ Some ids → Ends node.vbs (role_called n v asked node).0.vbs v
-    called node ids = either (λ (x : PlainNode × AdminTold). x.1.ended ≡ Some ids → Ends node.vbs x.0.vbs v) (is_some node.off) (node, admin_refused Cause.NodeDown) (under_arm v (called_at n v asked) node) (λ e. cc) (ends node ids)
+    called node ids = either (λ (x : PlainNode × AdminResult). x.1.ended ≡ Some ids → Ends node.vbs x.0.vbs v) (is_some node.off) (node, admin_refused Cause.NodeDown) (under_arm v (called_at n v asked) node) (λ e. cc) (ends node ids)
 
     told : (node : PlainNode) → w.nodes n ≡ Some node → (o : Option (List ℕ)) → (role_called n v asked node).1.ended ≡ o
         → Fine (turned_if n v w o (with_node_at w n (role_called n v asked node).0, (role_called n v asked node).1)).0

@@ -3,7 +3,7 @@ use Rattle.std.specs.Prelude.{◌≡◌, ◌<◌, ◌≤◌, ◌^◌, ◌++◌}
 use Rattle.transcript_law.proofs.Words.{ℕ, Bool, true, false, List, [], Option, Some, None, is_some, All, Act, Change, Doc, Position, LogEntry, IsKey, IsValue, last_seq, image_of, Rises, Branch, HoldsAt}
 use Rattle.transcript_law.proofs.{Words.{Member, Plain, is_active, Sound, PlainWorld, vb_in, Chronicle, known_history, Role, Picture}, invariant.Trees.{IsTold}, invariant.Wholes.{WholeTo, Spanned}}
 use Rattle.transcript_law.proofs.Words.{refl, sym, ap, ◌∙◌, subst, fold, applied, nothing, image_in}
-use Rattle.transcript_law.specs.{Chronicles.{CountsTold, DiskTold}, Majorities.{HasAcknowledged}}
+use Rattle.transcript_law.specs.{Chronicles.{CountsKnown, DiskKnown}, Majorities.{HasAcknowledged}}
 use Rattle.durability.specs.{Chains.{Members}, Outstanding.{acked}}
 use Rattle.branch_model.proofs.Lists.{rises_append}
 use Rattle.std.proofs.lemmas.List.Sums.{fold-append}
@@ -37,15 +37,15 @@ pub record ChangeFits (c : Change) : Type 0 where
   pub act : ActFits c.act
 
 -- a member of the cluster is the vBucket
-pub record MemberIs (m : Member) (vb : Plain) : Type 0 where
+pub record MemberAgrees (m : Member) (vb : Plain) : Type 0 where
   pub active : m.active ≡ is_active vb.role
   pub position : m.position ≡ vb.position
   pub log : m.log ≡ vb.log
 
 -- a member's branch: the one that the lines tell, or 0, the root that has no changes
-abbrev pub BranchIs : Option ℕ → ℕ → Type 0
-BranchIs None br = br ≡ 0
-BranchIs (Some u) br = br ≡ u
+abbrev pub BranchAgrees : Option ℕ → ℕ → Type 0
+BranchAgrees None br = br ≡ 0
+BranchAgrees (Some u) br = br ≡ u
 
 -- a vBucket that takes writes is on a branch that the lines tell, and is its writer
 pub record IsWriter (tree : List Branch) (last : Option (ℕ × ℕ)) (on : Option ℕ) (n v br : ℕ) : Type 0 where
@@ -87,31 +87,31 @@ pub record VbRow : Type 0 where
   pub role : Option (Option Role)
   pub opened : Bool
   pub contents : VbContents
-  pub disk : DiskTold
-  pub counts : CountsTold
+  pub disk : DiskKnown
+  pub counts : CountsKnown
 
 abbrev pub vb_row : Chronicle → ℕ → ℕ → VbRow
 vb_row r n v = record { role = r.role_at n v; opened = r.open_at n v; contents = vb_contents r n v; disk = r.disk_at n v; counts = r.counts_at n v }
 
 -- what counts where a vBucket commits is what the lines tell: its chain, and what each node acknowledged
-pub record CountsAre (told : CountsTold) (others : Members) (acks : List ℕ) : Type 0 where
+pub record CountsAre (told : CountsKnown) (others : Members) (acks : List ℕ) : Type 0 where
   pub chain : told.chain ≡ others
   pub counted : (m p : ℕ) → 0 < p → p ≤ acked acks m → HasAcknowledged told.acks m p
 
 -- the same where it may commit
-abbrev pub CountsIf : Bool → CountsTold → Members → List ℕ → Type 0
+abbrev pub CountsIf : Bool → CountsKnown → Members → List ℕ → Type 0
 CountsIf false told others acks = Unit {0}
 CountsIf true told others acks = CountsAre told others acks
 
 -- one that is not active commits nothing
-pub no_counts : (b : Role) (told : CountsTold) (others : Members) (acks : List ℕ) → is_active b ≡ false → CountsIf (is_active b) told others acks
+pub no_counts : (b : Role) (told : CountsKnown) (others : Members) (acks : List ℕ) → is_active b ≡ false → CountsIf (is_active b) told others acks
 no_counts b told others acks e = subst (λ x. CountsIf x told others acks) (sym e) tt
 
 -- one that is active
-pub active_counts : {b : Bool} {told : CountsTold} {others : Members} {acks : List ℕ} → b ≡ true → CountsIf b told others acks → CountsAre told others acks
+pub active_counts : {b : Bool} {told : CountsKnown} {others : Members} {acks : List ℕ} → b ≡ true → CountsIf b told others acks → CountsAre told others acks
 active_counts {told = told} {others = others} {acks = acks} e x = subst (λ b. CountsIf b told others acks) e x
 
-pub counts_if : {b : Bool} {told : CountsTold} {others : Members} {acks : List ℕ} → (b ≡ true → CountsAre told others acks) → CountsIf b told others acks
+pub counts_if : {b : Bool} {told : CountsKnown} {others : Members} {acks : List ℕ} → (b ≡ true → CountsAre told others acks) → CountsIf b told others acks
 counts_if {b = true} x = x refl
 counts_if {b = false} x = tt
 
@@ -141,15 +141,15 @@ pub record VbHeld (tree : List Branch) (contents : VbContents) (m : Member) (vb 
   pub open keeps use *
   pub told : VbTold contents m.held vb.log vb.position
   pub open told use *
-  pub member : MemberIs m vb
-  pub branch : BranchIs contents.branch m.br
+  pub member : MemberAgrees m vb
+  pub branch : BranchAgrees contents.branch m.br
   pub holds : HoldsAt vb.floor (WholeTo vb.floor vb.spans vb.position) m.held (known_history tree contents.branch)
 
 abbrev pub VbHolds : Chronicle → ℕ → ℕ → Member → Plain → Type 0
 VbHolds r n v m vb = VbHeld r.tree (vb_contents r n v) m vb
 
 -- the same, with its role and what it may write
-pub record VbIs (tree : List Branch) (writer_of : ℕ → Option (ℕ × ℕ)) (row : VbRow) (n v : ℕ) (m : Member) (vb : Plain) : Type 0 where
+pub record VbRowIs (tree : List Branch) (writer_of : ℕ → Option (ℕ × ℕ)) (row : VbRow) (n v : ℕ) (m : Member) (vb : Plain) : Type 0 where
   pub kept : VbHeld tree row.contents m vb
   pub open kept use *
   pub role : row.role ≡ Some (Some vb.role)
@@ -158,13 +158,13 @@ pub record VbIs (tree : List Branch) (writer_of : ℕ → Option (ℕ × ℕ)) (
   pub counts : CountsIf (is_active vb.role) row.counts vb.others vb.acks
 
 abbrev pub VbAgrees : Chronicle → ℕ → ℕ → Member → Plain → Type 0
-VbAgrees r n v m vb = VbIs r.tree r.writer_of (vb_row r n v) n v m vb
+VbAgrees r n v m vb = VbRowIs r.tree r.writer_of (vb_row r n v) n v m vb
 
 -- one that is not there: its member, which is not active, has what the lines tell
 pub record IsAway (row : VbRow) (m : Member) : Type 0 where
   pub opened : row.opened ≡ false
   pub told : VbTold row.contents m.held m.log m.position
-  pub branch : BranchIs row.contents.branch m.br
+  pub branch : BranchAgrees row.contents.branch m.br
   pub active : m.active ≡ false
   pub fits : All ChangeFits m.held
   pub entries : All EntryFits m.log
@@ -172,7 +172,7 @@ pub record IsAway (row : VbRow) (m : Member) : Type 0 where
 
 abbrev pub VbIsIf : List Branch → (ℕ → Option (ℕ × ℕ)) → VbRow → ℕ → ℕ → Member → Option Plain → Type 0
 VbIsIf tree writer_of row n v m None = IsAway row m
-VbIsIf tree writer_of row n v m (Some vb) = VbIs tree writer_of row n v m vb
+VbIsIf tree writer_of row n v m (Some vb) = VbRowIs tree writer_of row n v m vb
 
 abbrev pub AgreesAt : Chronicle → ℕ → ℕ → Member → Option Plain → Type 0
 AgreesAt r n v m o = VbIsIf r.tree r.writer_of (vb_row r n v) n v m o

@@ -2,7 +2,7 @@
 use Rattle.std.specs.Prelude.{◌≡◌, ◌==◌, ◌∷◌, if◌then◌else◌}
 use Rattle.transcript_law.proofs.Words.{ℕ, true, false, refl, ap, ◌∙◌, Option, Some, eq-eqb, eqb-true, sym, Plain, States, with_vb_at, call_at, VbCall, VbReply, plain_step, Job, after_job}
 use Rattle.vb_calls.specs.Jobs.{Call, Request}
-use Rattle.vb_calls.specs.Shelves.{Append, Ask as Asked, DiskFailed, Fate, Got, Shelf, Shelves, Stood, WasClosed, after_fate, ask_at, asked_shelf, with_shelf_at}
+use Rattle.vb_calls.specs.Shelves.{Append, Ask as Asked, DiskFailed, Fate, Got, Shelf, Shelves, Stood, WasClosed, after_fate, ask_at, shelf_step, with_shelf_at}
 use Rattle.vb_disk.specs.declared.fuse.Fuse.TheVariants.{Off}
 use Rattle.vb_journal.specs.UnderArms.{all_pass, burnt_noting}
 use Rattle.vb_types.specs.declared.journal.Record.{Record}
@@ -27,12 +27,12 @@ pub call_on : {A : Type 0} (states : States) (shelves : Shelves) (v : ℕ) (c : 
     → after_job (Call v c next) states shelves ≡ after_job (next (Some reply)) (with_vb_at states v vb') shelves
 call_on states shelves v c next vb vb' reply known is = ap (λ o. let y = call_at states v c o in after_job (next y.1) y.0 shelves) known ∙ ap (λ y. after_job (next (Some y.1)) (with_vb_at states v y.0) shelves) is
 
-pub ask_on : {A : Type 0} (states : States) (shelves : Shelves) (v : ℕ) (ask : Asked) (next : Got ask → Job A) (shelf shelf' : Shelf) (got : Got ask) → shelves v ≡ Some shelf → asked_shelf shelf ask ≡ (shelf', got)
+pub ask_on : {A : Type 0} (states : States) (shelves : Shelves) (v : ℕ) (ask : Asked) (next : Got ask → Job A) (shelf shelf' : Shelf) (got : Got ask) → shelves v ≡ Some shelf → shelf_step shelf ask ≡ (shelf', got)
     → after_job (Request v ask next) states shelves ≡ after_job (next got) states (with_shelf_at shelves v shelf')
 ask_on states shelves v ask next shelf shelf' got known is = ap (λ o. let y = ask_at shelves v ask o in after_job (next y.1) states y.0) known ∙ ap (λ y. after_job (next y.1) states (with_shelf_at shelves v y.0)) is
 
 -- an append stands where none failed before and no arm is over the disk
-pub append_stands : (shelf : Shelf) (what : Record) → shelf.is_closed ≡ false → shelf.fuse ≡ Off → asked_shelf shelf (Append what) ≡ (record shelf { book = what ∷ shelf.book }, Stood)
+pub append_stands : (shelf : Shelf) (what : Record) → shelf.is_closed ≡ false → shelf.fuse ≡ Off → shelf_step shelf (Append what) ≡ (record shelf { book = what ∷ shelf.book }, Stood)
 append_stands shelf what opens unarmed =
     ap (λ b. came (if b then WasClosed else if all_pass shelf.fuse then Stood else DiskFailed)) opens
     ∙ ap (λ f. came (if all_pass f then Stood else DiskFailed)) unarmed

@@ -3,7 +3,7 @@ use Rattle.std.specs.Prelude.{◌≡◌, ◌∷◌}
 use Rattle.transcript_law.proofs.Words.{ℕ, Bool, true, false, List, [], refl, Option, Some, None, option_map, All-head, All-tail, ScriptLine, ScriptFits, VerbFits, Plain, PlainWorld, empty_world, with_branches, verb_step, world_step, groups_from, Event, Role, Chronicle, empty_chronicle, after_line, with_at, with_entry, kept_to}
 use Rattle.transcript_law.proofs.{invariant.Agreement.{Agrees, AgreesAt, AgreesIn, idle, vb_of}, invariant.Ranged.{IsRanged, start_ranged}, Runs.{group_agrees, row_of, start}, verbs.Rows.{Row}, invariant.Seats.{seat}, invariant.Tables.{pick}}
 use Rattle.cluster_model.specs.Clusters.{Cluster}
-use Rattle.transcript_law.specs.{Chronicles.{after_group, snap_in_role}, Lawfulness.{AllKnown}, LinesTold.{roles_from}, Prefixes.{told_after, told_of, world_after, world_of}}
+use Rattle.transcript_law.specs.{Chronicles.{after_group, snap_in_role}, Lawfulness.{AllKnown}, LinesTold.{roles_from}, Prefixes.{known_after, known_of, world_after, world_of}}
 use Rattle.vb_types.specs.declared.stream.AskAnswer.{AskAnswer}
 use Rattle.vb_types.specs.declared.stream.AskAnswer.TheVariants as ask_answer
 use Rattle.vb_events.specs.declared.event.StreamName.{StreamName}
@@ -38,7 +38,7 @@ agreed w r c a = record { role = λ n v. roles n v (vb_of w n v) refl (a.vbs n v
     snaps n v (Some vb) x = (_, x.snap)
 
 -- after more lines all agree
-agrees_from : (w : PlainWorld) (r : Chronicle) (script : List ScriptLine) → ScriptFits script → IsRanged w → Agrees w r → Agrees (world_after w script) (told_after r script (groups_from w script))
+agrees_from : (w : PlainWorld) (r : Chronicle) (script : List ScriptLine) → ScriptFits script → IsRanged w → Agrees w r → Agrees (world_after w script) (known_after r script (groups_from w script))
 unfolding world_step
 agrees_from w r [] fits ranged a = a
 agrees_from w r (line ∷ lines) fits ranged a =
@@ -47,8 +47,8 @@ agrees_from w r (line ∷ lines) fits ranged a =
     (group_agrees w r line.line line.verb fit ranged a)
 
 -- behind a script
-pub script_known : (script : List ScriptLine) → ScriptFits script → AllKnown (told_of script)
-script_known script fits = let x = agrees_from empty_world empty_chronicle script fits start_ranged start in agreed (world_of script) (told_of script) x.0 x.1
+pub script_known : (script : List ScriptLine) → ScriptFits script → AllKnown (known_of script)
+script_known script fits = let x = agrees_from empty_world empty_chronicle script fits start_ranged start in agreed (world_of script) (known_of script) x.0 x.1
 
 -- and behind a line, where it was before it
 snap_known : (new : Role) (told : Chronicle) (n v : ℕ) → AllKnown told → IsSome (snap_in_role new (told.held n v) (told.snap_at n v))

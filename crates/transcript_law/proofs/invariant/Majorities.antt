@@ -4,14 +4,14 @@ use Rattle.transcript_law.proofs.Words.{ℕ, zero, suc, true, List, [], length, 
 use Rattle.durability.specs.{Chains.{Members, has_enough, majority, chain_length, named}, Laws.{Differ, Each, HasMajority, HasOne}, Outstanding.{acked, no_acks, with_ack}, declared.waiting.Waiting.{Waiting}}
 use Rattle.durability.proofs.Counts.{each_map, enough_saved, held_by, none_acked}
 use Rattle.transcript_law.proofs.{invariant.Holdings.{CountsAre}, invariant.Tables.{at_here}}
-use Rattle.transcript_law.specs.{Chronicles.{CountsTold, alone}, Majorities.{HasAcknowledged, IsHeldByMost}}
+use Rattle.transcript_law.specs.{Chronicles.{CountsKnown, alone}, Majorities.{HasAcknowledged, IsHeldByMost}}
 
 -- more than half
 more_than_half : (n k : ℕ) → majority n ≤ k + 1 → n < 2 * (1 + k)
 more_than_half n k e = omega arith
 
 -- what has enough is held by a majority
-pub held_by_most : (told : CountsTold) (others : Members) (acks : List ℕ) (saved : ℕ) (w : Waiting) → CountsAre told others acks → Differ (named others) → 0 < w.seq → has_enough (acked acks) others saved w ≡ true → IsHeldByMost told saved w.seq w.level
+pub held_by_most : (told : CountsKnown) (others : Members) (acks : List ℕ) (saved : ℕ) (w : Waiting) → CountsAre told others acks → Differ (named others) → 0 < w.seq → has_enough (acked acks) others saved w ≡ true → IsHeldByMost told saved w.seq w.level
 held_by_most told others acks saved w counts d low e =
     let held : HasMajority others (λ m. w.seq ≤ acked acks m) = held_by (acked acks) others saved w d e in
     record {
@@ -42,7 +42,7 @@ acked_put (x ∷ xs) (suc m) q zero = inl refl
 acked_put (x ∷ xs) (suc m) q (suc k) = ⊎_elim (λ e. inl e) (λ e. inr (ap suc e.0, e.1)) (acked_put xs m q k)
 
 -- one more is counted
-pub counts_more : (told : CountsTold) (others : Members) (acks : List ℕ) (member seq : ℕ) → CountsAre told others acks → CountsAre (record told { acks = (member, seq) ∷ told.acks }) others (with_ack acks member seq)
+pub counts_more : (told : CountsKnown) (others : Members) (acks : List ℕ) (member seq : ℕ) → CountsAre told others acks → CountsAre (record told { acks = (member, seq) ∷ told.acks }) others (with_ack acks member seq)
 counts_more told others acks member seq x = record { chain = x.chain; counted = λ m p some most. counted m p some most (acked_put acks member (max (acked acks member) seq) m) }
   where
     counted : (m p : ℕ) → 0 < p → p ≤ acked (with_ack acks member seq) m → (acked (with_ack acks member seq) m ≡ acked acks m) ⊎ ((m ≡ member) × (acked (with_ack acks member seq) m ≡ max (acked acks member) seq))

@@ -1,6 +1,6 @@
 -- links of which no two have one number, and what becomes of one of them
 use Rattle.std.specs.Prelude.{◌≡◌, ◌∷◌, ◌⊎◌, ◌==◌, if◌then◌else◌, cond}
-use Rattle.transcript_law.proofs.Words.{ℕ, Bool, true, false, List, [], refl, ap, sym, ◌∙◌, inl, inr, ⊎_elim, Some, filter, eqb-true, eqb-false, eq-eqb, ne_eqb, row_at, row_out, row_put, PlainLink, link_number, links_told, told_ended}
+use Rattle.transcript_law.proofs.Words.{ℕ, Bool, true, false, List, [], refl, ap, sym, ◌∙◌, inl, inr, ⊎_elim, Some, filter, eqb-true, eqb-false, eq-eqb, ne_eqb, row_at, row_out, row_put, PlainLink, link_number, links_ended, link_ended}
 use Rattle.transcript_law.proofs.{invariant.Agreement.{IsLink, LinksDiffer}, invariant.LinkRows.{differ_in}, links.Turning.{told_alike, told_is_link}}
 
 -- no two have one number
@@ -87,7 +87,7 @@ module _ (p : PlainLink → Bool) where
 
 -- once they are told which streams ended
 
-pub numbers_told : (n v : ℕ) (ids : List ℕ) (links : List PlainLink) → Numbers links → Numbers (links_told n v ids links)
+pub numbers_told : (n v : ℕ) (ids : List ℕ) (links : List PlainLink) → Numbers links → Numbers (links_ended n v ids links)
 numbers_told n v ids [] d = tt
 numbers_told n v ids (x ∷ xs) d = (
   λ y i e. let (k, j, is) = told_is_link n v ids xs y i in
@@ -95,9 +95,9 @@ numbers_told n v ids (x ∷ xs) d = (
   numbers_told n v ids xs d.1,
 )
   where
-    same : (z : PlainLink) → link_number (told_ended n v ids z) ≡ link_number z
+    same : (z : PlainLink) → link_number (link_ended n v ids z) ≡ link_number z
     same z = ap (λ d. d.link) (told_alike n v ids z).dialed
 
-pub told_there : (n v : ℕ) (ids : List ℕ) (x : PlainLink) (links : List PlainLink) → IsLink x links → IsLink (told_ended n v ids x) (links_told n v ids links)
+pub told_there : (n v : ℕ) (ids : List ℕ) (x : PlainLink) (links : List PlainLink) → IsLink x links → IsLink (link_ended n v ids x) (links_ended n v ids links)
 told_there n v ids x [] i = absurd i
-told_there n v ids x (y ∷ ys) i = ⊎_elim (λ e. inl (ap (told_ended n v ids) e)) (λ j. inr (told_there n v ids x ys j)) i
+told_there n v ids x (y ∷ ys) i = ⊎_elim (λ e. inl (ap (link_ended n v ids) e)) (λ j. inr (told_there n v ids x ys j)) i

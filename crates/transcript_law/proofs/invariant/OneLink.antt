@@ -9,7 +9,7 @@ use Rattle.transcript_law.proofs.invariant.Carried.{StaysProducer, link_carried,
 use Rattle.cluster_model.specs.Clusters.{Disk, cut}
 use Rattle.transcript_law.proofs.{invariant.Agreement.{DiskIsIf, EndsUp, RestsIn, VbRow, power_of, shelf_of}, disks.Disks.{SameParts, disk_same, parts_of, same_parts}}
 use Rattle.transcript_law.proofs.{invariant.Agreement.{IsArm, Power, PowerIs, PowerIsIf}, invariant.Carrying.{Rearmed, SameOffs, SamePowers, off_of}, invariant.LinkRows.{put_links}, invariant.Resting.{StillAt, ends_again, ends_off, ends_same, rests_by, rests_with}, invariant.Tables.{id_here, id_there}}
-use Rattle.{node_world.specs.declared.arm.Arm.{Arm}, transcript_law.proofs.invariant.Carried.{numbers}, transcript_law.proofs.Words.{with_id}, transcript_law.specs.Chronicles.{ArmTold}}
+use Rattle.{node_world.specs.declared.arm.Arm.{Arm}, transcript_law.proofs.invariant.Carried.{numbers}, transcript_law.proofs.Words.{with_id}, transcript_law.specs.Chronicles.{ArmKnown}}
 
 -- the cluster with another member at k
 
@@ -277,7 +277,7 @@ carries_over busy busy' w w' r r' c l link a found became told but =
     ⊎_elim (λ same. same_over busy busy' w w' r r' c l link a found told but same) (λ closed. closed_over busy busy' w w' r r' c l link a found told but closed) became
 
 -- a world that is the same everywhere, but for its nodes' arms
-pub carries_rests : (busy busy' : Busy) (w w' : PlainWorld) (r : Chronicle) (arms : ℕ → ArmTold) (c : Cluster)
+pub carries_rests : (busy busy' : Busy) (w w' : PlainWorld) (r : Chronicle) (arms : ℕ → ArmKnown) (c : Cluster)
     → AgreesIn busy w r c → ((n v : ℕ) → vb_of w' n v ≡ vb_of w n v) → ((n v : ℕ) → shelf_of w' n v ≡ shelf_of w n v) → w'.uuids ≡ w.uuids → w'.links ≡ w.links
     → RestsIn w' (record r { arm_at = arms }) c → ((k : ℕ) → busy' k ≡ busy k) → AgreesIn busy' w' (record r { arm_at = arms }) c
 carries_rests busy busy' w w' r arms c a vbs shelves uuids linked rests but = record {
@@ -311,10 +311,10 @@ carries_armed busy w w' r c n power arm a same fires =
     (λ m v down. (same.vbs m v ∙ (a.downs m v).vb_none down, same.shelves m v ∙ (a.downs m v).shelf_none down))
     (λ m v e. e) (λ x i. ends_off w w' x x offs (record { dialed = refl; desk = refl }) (a.ends x (subst (IsLink x) same.linked i)))) (λ k. refl)
   where
-    told : ArmTold
+    told : ArmKnown
     told = record { fuse = arm.fuse; out = arm.out; down = (r.arm_at n).down }
 
-    arms : ℕ → ArmTold
+    arms : ℕ → ArmKnown
     arms = with_id r.arm_at n told
 
     r' : Chronicle

@@ -2,12 +2,12 @@
 use Rattle.std.specs.Prelude.{◌≡◌, ◌∷◌, ◌++◌, ◌⊎◌, ◌==◌, ◌||◌, if◌then◌else◌, cond}
 use Rattle.transcript_law.proofs.Words.{ℕ, zero, suc, Bool, true, false, List, [], refl, ap, sym, ◌∙◌, subst, inl, inr, ⊎_elim, Option, Some, None, Result, Ok, Err, is_some, slice_get, list_any, is_active, eqb-true, eqb-false, Frame, RESPONSE, Status, Change, Plain, VbReply, Span, Stream, States, StreamAsk, Verdict, Continue, Roll}
 use Rattle.transcript_law.proofs.Words.{after, after_bind, Done, Prog, Turn, More, Stop, repeated, go_on, Halt, NoSnapshot, Handshake, DcpMsg, PlainProducer, PlainStream, Served, AskAnswer, rule, open_refusal, open_outcome, judged_open, id_refusal, first_reason, is_ranged, new_stream, stream_at, with_vb_at, call_at}
-use Rattle.transcript_law.proofs.Words.{frame_answered, read_answered, stream_request, stream_answered, status_sent, opened_unless, controlled, controlled_as, request_refusal, asked_id, verdict_with, ask_verdict, act_message, item_put, next_put, stream_put, halted_put, taken_put, take_unless, snapshot_told, place_halt, pulled, frame_put, frames_put, end_put, marker_put}
+use Rattle.transcript_law.proofs.Words.{frame_answered, read_answered, stream_request, stream_answered, status_sent, opened_unless, controlled, controlled_as, request_refusal, opening_id, verdict_with, ask_verdict, act_message, item_put, next_put, stream_put, halted_put, taken_put, take_unless, snapshot_of_reply, place_halt, pulled, frame_put, frames_put, end_put, marker_put}
 use Rattle.transcript_law.proofs.invariant.Unopened.{NoNew, put_new, step_new}
 use Rattle.transcript_law.specs.Feeding.{Has, HasIn, IsOpenAt}
 use Rattle.dcp_producer.specs.Producers.{member_of, is_sync}
-use Rattle.dcp_producer.specs.Pulling.{halt_at, place_asked, told_snapshot}
-use Rattle.dcp_producer.specs.Serving.{acknowledged, count_answered, count_asked, counted_by, message_answered, open_refusal as opening_refusal, row_answered, stream_of, weighed, with_stream}
+use Rattle.dcp_producer.specs.Pulling.{halt_at, place_requested, snapshot_of_answer}
+use Rattle.dcp_producer.specs.Serving.{acknowledged, count_answered, count_requested, counted_by, message_answered, open_refusal as opening_refusal, row_answered, stream_of, weighed, with_stream}
 use Rattle.mcbp_dcp.specs.Messages.{read_of}
 use Rattle.mcbp_dcp.specs.Rows.{dcp_opcodes}
 use Rattle.mcbp_dcp.specs.declared.message.DcpFault.{DcpFault}
@@ -57,18 +57,18 @@ module _ (states : States) (v i : ℕ) where
       by None lost k h e = absurd h
       by (Some vb) lost k h e = has_none i vb.streams (placed vb.floor (stream_at i vb.streams) lost) k h e
 
-  pub untaken_none : snapshot_told (states_step states v (call.Take i)).1 ≡ Err NoSnapshot.Lost → (k : ℕ) → HasIn (states v) k → k ≡ i → ⊥
+  pub untaken_none : snapshot_of_reply (states_step states v (call.Take i)).1 ≡ Err NoSnapshot.Lost → (k : ℕ) → HasIn (states v) k → k ≡ i → ⊥
   untaken_none = by (states v)
     where
-      given : (vb : Plain) (s : Stream) (w : Option Span) → told_snapshot (take_to w s vb).1.answer ≡ Err NoSnapshot.Lost → Some s ≡ None
+      given : (vb : Plain) (s : Stream) (w : Option Span) → snapshot_of_answer (take_to w s vb).1.answer ≡ Err NoSnapshot.Lost → Some s ≡ None
       given vb s None is = cc
       given vb s (Some w) is = cc
 
-      taken : (vb : Plain) (o : Option Stream) → told_snapshot (take_from o vb).1.answer ≡ Err NoSnapshot.Lost → o ≡ None
+      taken : (vb : Plain) (o : Option Stream) → snapshot_of_answer (take_from o vb).1.answer ≡ Err NoSnapshot.Lost → o ≡ None
       taken vb None is = refl
       taken vb (Some s) is = given vb s (if is_in_memory vb.floor s then end_span s (all_spans vb.spans) vb.held else None) is
 
-      by : (o : Option Plain) → snapshot_told (call_at states v (call.Take i) o).1 ≡ Err NoSnapshot.Lost → (k : ℕ) → HasIn o k → k ≡ i → ⊥
+      by : (o : Option Plain) → snapshot_of_reply (call_at states v (call.Take i) o).1 ≡ Err NoSnapshot.Lost → (k : ℕ) → HasIn o k → k ≡ i → ⊥
       by None lost k h e = absurd h
       by (Some vb) lost k h e = has_none i vb.streams (taken vb (stream_at i vb.streams) lost) k h e
 
@@ -112,7 +112,7 @@ module _ (others : ℕ → ℕ → Type 0) (id : ℕ) where
         by (answer.Status st) = (refl, refl)
         by other = (refl, refl)
 
-    count_keeps : (seq : ℕ) (o : Result ℕ Status) → Keeps (count_asked f seq s o) states
+    count_keeps : (seq : ℕ) (o : Result ℕ Status) → Keeps (count_requested f seq s o) states
     count_keeps seq (Err st) = status_keeps st
     count_keeps seq (Ok member) =
         let step = states_step states f.vb_or_status (call.Ack member seq) in
@@ -129,7 +129,7 @@ module _ (others : ℕ → ℕ → Type 0) (id : ℕ) where
       v = f.vb_or_status
 
       abbrev i : ℕ
-      i = asked_id s.end ask
+      i = opening_id s.end ask
 
       abbrev Came : Option Status → States × Option VbReply → Type 0
       Came o x = let end = with_stream s.end f ask (verdict_with o (ask_verdict x.1)) in (end.desk.id ≡ id) × Owned x.0 end.stream
@@ -260,7 +260,7 @@ module _ (others : ℕ → ℕ → Type 0) (id : ℕ) where
     take_turns stream None states e owned gone =
         let step = states_step states stream.vb (call.Take s.end.desk.id) in
         let less = step_new states stream.vb (call.Take s.end.desk.id) tt in
-        taken_turns stream (snapshot_told step.1) step.0 e (fewer states step.0 (Some stream) less owned)
+        taken_turns stream (snapshot_of_reply step.1) step.0 e (fewer states step.0 (Some stream) less owned)
         (λ lost k h own. untaken_none states stream.vb s.end.desk.id lost k (less stream.vb k h) (own ∙ sym mine))
 
     next_turns : (stream : PlainStream) (o : Option Change) (states : States) → s.end.stream ≡ Some stream → Owned states (Some stream) → Turned (after (next_put s stream o) states)
@@ -268,7 +268,7 @@ module _ (others : ℕ → ℕ → Type 0) (id : ℕ) where
     next_turns stream (Some c) states e owned = item_turns stream c (act_message c c.act) states e owned
     next_turns stream None states e owned = by stream.ended refl
       where
-        by : (b : Bool) → stream.ended ≡ b → Turned (after (if b then Done (More (end_put s stream)) else place_asked s stream) states)
+        by : (b : Bool) → stream.ended ≡ b → Turned (after (if b then Done (More (end_put s stream)) else place_requested s stream) states)
         by true over = (mine, λ v k h. ⊎_elim (λ o. inl o) (λ own. let z : true ≡ false = sym over ∙ own.1.1 in cc) (owned v k h))
         by false over =
             let step = states_step states stream.vb (call.Place s.end.desk.id) in

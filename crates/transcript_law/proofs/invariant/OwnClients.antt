@@ -1,10 +1,10 @@
 -- what the clients of a node are told, where its connections are told as its own
 use Rattle.std.specs.Prelude.{◌≡◌, ◌∷◌, ◌++◌, ◌==◌, nat_le}
-use Rattle.transcript_law.proofs.Words.{ℕ, List, [], sym, subst, map, All, All-nil, All-cons, All-append, Option, Some, None, Result, Ok, Err, Change, Event, Frame, FrameFault, KvRequest, RESPONSE, Status, VbAnswer, VbReply, Done, after, left_open, request_served, frame_served, told, PlainSession, PlainNode, PlainWorld}
+use Rattle.transcript_law.proofs.Words.{ℕ, List, [], sym, subst, map, All, All-nil, All-cons, All-append, Option, Some, None, Result, Ok, Err, Change, Event, Frame, FrameFault, KvRequest, RESPONSE, Status, VbAnswer, VbReply, Done, after, left_open, request_handled, frame_handled, told, PlainSession, PlainNode, PlainWorld}
 use Rattle.client_session.proofs.Conduct.{either}
 use Rattle.client_session.proofs.Keeping.{front_of, outcome_keeps}
-use Rattle.client_session.specs.Answers.{asked_lines, change_lines, fault_lines, reply_line, reply_lines, reply_to, status_reply}
-use Rattle.client_session.specs.Serving.{Served, MOST_DURABLE, awaited_by, deadline_of, durable_answered, durable_called, durable_told, ended_at, next_waiter, outcome_of, outcome_served, prepared_told, refused, served, with_lines, with_used}
+use Rattle.client_session.specs.Answers.{request_lines, change_lines, fault_lines, reply_line, reply_lines, reply_to, status_reply}
+use Rattle.client_session.specs.Serving.{Served, MOST_DURABLE, awaited_by, deadline_of, durable_answered, durable_called, durable_replied, ended_at, next_waiter, outcome_of, outcome_handled, answered_or_awaited, refused, served, with_lines, with_used}
 use Rattle.client_session.specs.declared.session.{Awaited.{Awaited}, Settings.{Settings}}
 use Rattle.mcbp_frame.specs.Frames.{faulty_head}
 use Rattle.mcbp_frame.specs.declared.frame.FaultyHead.{FaultyHead}
@@ -51,7 +51,7 @@ module _ (n : ℕ) where
   stored_own m v (answer.Stored uuid seq cas) cs e = changes_own m v uuid cs e
   stored_own m v other cs e = All-nil (IsOfClient n)
 
-  asked_own : (m c : ℕ) (settings : Settings) (f : Frame) (reply : Option VbReply) → m ≡ n → Own (asked_lines m c settings f reply)
+  asked_own : (m c : ℕ) (settings : Settings) (f : Frame) (reply : Option VbReply) → m ≡ n → Own (request_lines m c settings f reply)
   asked_own m c settings f None e = replies_own m c (Some (status_reply f Status.NotMyVbucket)) e
   asked_own m c settings f (Some reply) e = more (change_lines m f.vb_or_status reply.answer reply.changes) (reply_lines m c (reply_to settings f reply.answer))
       (stored_own m f.vb_or_status reply.answer reply.changes e) (replies_own m c (reply_to settings f reply.answer) e)
@@ -64,7 +64,7 @@ module _ (n : ℕ) where
   said_own : (s : Served) (reply : KvReply) → IsOwn s → Own (s.events ++ reply_line s.session.who.node s.session.who.client reply ∷ [])
   said_own s reply o = more s.events (reply_line s.session.who.node s.session.who.client reply ∷ []) o.1 (replied s.session.who.node s.session.who.client reply o.0)
 
-  prepared_own : (a : Awaited) (how : Option Resolution) (s : Served) → IsOwn s → IsOwn (prepared_told a how s)
+  prepared_own : (a : Awaited) (how : Option Resolution) (s : Served) → IsOwn s → IsOwn (answered_or_awaited a how s)
   prepared_own a None s o = o
   prepared_own a (Some how) s o = (o.0, said_own s _ o)
 
@@ -73,16 +73,16 @@ module _ (n : ℕ) where
   answered_own waiter f how (answer.Prepared seq cas) s o = prepared_own (awaited_by waiter f) how s o
   answered_own waiter f how other s o = o
 
-  durable_own : (waiter : ℕ) (f : Frame) (s : Served) (reply : Option VbReply) → IsOwn s → IsOwn (durable_told waiter f s reply)
-  unfolding durable_told
+  durable_own : (waiter : ℕ) (f : Frame) (s : Served) (reply : Option VbReply) → IsOwn s → IsOwn (durable_replied waiter f s reply)
+  unfolding durable_replied
   durable_own waiter f s None o = (o.0, said_own s _ o)
   durable_own waiter f s (Some reply) o =
       let changed : List Event = map (Event.Changed s.session.who.node f.vb_or_status reply.branch) reply.changes in
       answered_own waiter f (outcome_of waiter reply.resolved) reply.answer (with_lines s changed)
       (o.0, more s.events changed o.1 (changes_own s.session.who.node f.vb_or_status reply.branch reply.changes o.0))
 
-  request_own : (clock : ℕ) (f : Frame) (q : Result KvRequest Status) (s : Served) → IsOwn s → Always AnyCall IsOwn (request_served clock f q s)
-  unfolding request_served told
+  request_own : (clock : ℕ) (f : Frame) (q : Result KvRequest Status) (s : Served) → IsOwn s → Always AnyCall IsOwn (request_handled clock f q s)
+  unfolding request_handled told
   request_own clock f (Err st) s o = (o.0, said_own s _ o)
   request_own clock f (Ok request.Noop) s o = (o.0, said_own s _ o)
   request_own clock f (Ok (request.Hello features)) s o = (o.0, said_own s _ o)
@@ -93,15 +93,15 @@ module _ (n : ℕ) where
       (durable_called f (call.Durable write clock wish.level (deadline_of clock wish.timeout) (next_waiter s.session)) s) (o.0, said_own s _ o)
       (tt, λ reply any. durable_own (next_waiter s.session) f (with_used s) reply o)
 
-  frame_own : (clock : ℕ) (f : Frame) (s : Served) → IsOwn s → Always AnyCall IsOwn (frame_served clock f s)
-  unfolding frame_served
-  frame_own clock f s o = either (Always AnyCall IsOwn) (f.magic == RESPONSE) (Done s) (request_served clock f (request_of s.session.settings.json f) s) o
+  frame_own : (clock : ℕ) (f : Frame) (s : Served) → IsOwn s → Always AnyCall IsOwn (frame_handled clock f s)
+  unfolding frame_handled
+  frame_own clock f s o = either (Always AnyCall IsOwn) (f.magic == RESPONSE) (Done s) (request_handled clock f (request_of s.session.settings.json f) s) o
       (request_own clock f (request_of s.session.settings.json f) s o)
 
   ended_own : (fault : FrameFault) (s : Served) → IsOwn s → IsOwn (ended_at (Some fault) s)
   ended_own fault s o = (o.0, more s.events _ o.1 (faults_own s.session.who.node s.session.who.client (faulty_head fault s.session.reader) o.0))
 
-  outcome_own : (clock : ℕ) (r : Resolved) (s : Served) → IsOwn s → Always AnyCall IsOwn (outcome_served clock r s)
+  outcome_own : (clock : ℕ) (r : Resolved) (s : Served) → IsOwn s → Always AnyCall IsOwn (outcome_handled clock r s)
   outcome_own clock r s o = outcome_keeps AnyReply AnyCall IsOwn clock (λ f t e p. frame_own clock f (front_of f t) p) (λ fault t e p. ended_own fault t p) r s o (λ a e. (o.0, said_own s _ o))
 
   -- a node whose connections are its own
@@ -119,8 +119,8 @@ module _ (n : ℕ) where
       by : (o : Option PlainSession) → IsOwnIf n o → Own (posted_if c r node o).1 × NodeOwn (posted_if c r node o).0
       by None i = (All-nil (IsOfClient n), own)
       by (Some session) i =
-          let x = after (outcome_served node.clock r (served session [])) node.vbs in
-          let o : IsOwn x.1 = after_always AnyCall IsOwn (outcome_served node.clock r (served session [])) node.vbs (outcome_own node.clock r (served session []) (i, All-nil (IsOfClient n))) in
+          let x = after (outcome_handled node.clock r (served session [])) node.vbs in
+          let o : IsOwn x.1 = after_always AnyCall IsOwn (outcome_handled node.clock r (served session [])) node.vbs (outcome_own node.clock r (served session []) (i, All-nil (IsOfClient n))) in
           (o.1, λ d. either (IsOwnIf n) (d == c) (left_open x.1.session) (node.clients d) (left_own x.1.session o.0) (own d))
 
   all_own : (rs : List Resolved) (node : PlainNode) → NodeOwn node → Own (all_posted rs node).1

@@ -4,21 +4,21 @@ use Rattle.std.specs.Prelude.{◌≡◌, ◌+◌, ◌<◌, ◌≤◌, ◌∷◌,
 use Rattle.{branch_model.specs.Journals.{IsPoint, complete_points, image_at}, cluster_model.proofs.Runs.{point_shown}, vb_calls.specs.Shelves.{Shelf}, transcript_law.specs.Prefixes.{PointsAreBranch}}
 use Rattle.{vbucket.specs.{Settles.{IsSettled}}}
 use Rattle.disk_journals.specs.Books.{Book}
-use Rattle.transcript_law.proofs.{invariant.Agreement.{BookBy, BookIs, book_in, is_down}, disks.Disks.{power_in}, invariant.Entering.{Entered, ahead_entered, lines_entered, log_entered, start_entered}}
+use Rattle.transcript_law.proofs.{invariant.Agreement.{BookBy, BookAgrees, book_in, is_down}, disks.Disks.{power_in}, invariant.Entering.{Entered, ahead_entered, lines_entered, log_entered, start_entered}}
 use Rattle.transcript_law.specs.{Chronicles.{after_group}, Plainness.{AreOwnIf, IsOwnIf}, Prefixes.{off_of_node}}
 use Rattle.vb_types.specs.declared.journal.Record.{Record}
 use Rattle.transcript_law.proofs.{invariant.Agreement.{AgreesAt, DiskIsIf, shelf_of, top}, links.Followed.{own_is}}
 use Rattle.transcript_law.proofs.Words.{ℕ, true, List, [], refl, ap, sym, ◌∙◌, subst, ⊎_elim, arith, Option, Some, None, All-head, All-tail, ScriptLine, VerbFits, ScriptFits, LogEntry, upto}
 use Rattle.transcript_law.proofs.Words.{image_of, Ancestry, Traces, IsFront, reach_of, Branch, hist, Shared, ForksBelow, Member, Cluster, above, tells, Plain, is_active}
 use Rattle.transcript_law.proofs.Words.{PlainWorld, empty_world, with_branches, verb_step, world_step, groups_from, Chronicle, empty_chronicle, after_lines, known_history}
-use Rattle.transcript_law.proofs.Words.{PlainNode, PlainSession, is_some, world_of, told_of, FollowsBranch, AreFollowed, Bool, false}
+use Rattle.transcript_law.proofs.Words.{PlainNode, PlainSession, is_some, world_of, known_of, FollowsBranch, AreFollowed, Bool, false}
 use Rattle.transcript_law.proofs.Words.{branch}
-use Rattle.transcript_law.proofs.{invariant.Agreement.{vb_of, BranchIs, Writes, WritesIf, VbAgrees, AgreesAt, top}}
+use Rattle.transcript_law.proofs.{invariant.Agreement.{vb_of, BranchAgrees, Writes, WritesIf, VbAgrees, AgreesAt, top}}
 use Rattle.transcript_law.proofs.{invariant.Agreement.{idle, AgreesIn, Agrees}, invariant.AtRest.{AreAtRest, line_rests, start_rests}, invariant.Ranged.{IsRanged, NodeRangedIf, SessionRangedIf, start_ranged}, Runs.{group_agrees, row_of, start}, verbs.Rows.{Row}, invariant.Seats.{seat}, invariant.Agreement.{image_is}, verbs.Showing.{history_by, same_image}}
 use Rattle.transcript_law.proofs.{invariant.Tables.{if_known}, invariant.Trees.{told_below}, verbs.Writing.{forks_below}}
 use Rattle.{branch_model.specs.Snapshots.{Follows}, cluster_model.specs.Clusters.{IsBranch}}
 use Rattle.{transcript_law.specs.Lawfulness.{IsWriter}, transcript_law.specs.Prefixes.{world_after}}
-use Rattle.{transcript_law.specs.Prefixes.{told_after, ComesFrom, IsActiveOn}}
+use Rattle.{transcript_law.specs.Prefixes.{known_after, ComesFrom, IsActiveOn}}
 
 -- a session of a node is told as one of its own
 own_at : (n : ℕ) (o : Option PlainNode) → NodeRangedIf n o → AreOwnIf n o
@@ -59,8 +59,8 @@ module _ (w : PlainWorld) (r : Chronicle) (c : Cluster) (a : AgreesIn idle w r c
         (subst (λ h. Follows h vb.position (above member.held vb.position.ss) (image_of member.held)) (sym (history_by w r c a member.br (r.branch_at n v) mine.branch))
         (subst (λ p. Follows (hist c.tree member.br) p (above member.held p.ss) (image_of member.held)) mine.member.position (a.sound.stands (seat n v)).follows))
 
-    log_told : Ancestry r.tree vb.log member.br (reach_of vb.position)
-    log_told = ancestry_told n v member.br (reach_of vb.position) vb.log mine.log (subst (λ l. Ancestry c.tree l member.br (reach_of vb.position)) mine.member.log
+    log_lines : Ancestry r.tree vb.log member.br (reach_of vb.position)
+    log_lines = ancestry_told n v member.br (reach_of vb.position) vb.log mine.log (subst (λ l. Ancestry c.tree l member.br (reach_of vb.position)) mine.member.log
         (subst (λ p. Ancestry c.tree member.log member.br (reach_of p)) mine.member.position (tells top c a.sound (seat n v))))
 
     pub follows_branch : IsSettled vb → FollowsBranch r n v vb
@@ -72,8 +72,8 @@ module _ (w : PlainWorld) (r : Chronicle) (c : Cluster) (a : AgreesIn idle w r c
       log = if_known (r.log_at n v) vb.log mine.log;
       writer = is_writer;
       follows = follows_told;
-      ancestry = elim (r.branch_at n v) as (λ o. BranchIs o member.br → (o ≡ None → vb.log ≡ []) → ComesFrom r.tree vb.log o (reach_of vb.position))
-          [ None ↦ (λ is none. none refl) | Some u ↦ (λ is none. subst (λ k. Ancestry r.tree vb.log k (reach_of vb.position)) is log_told) ] mine.branch mine.unlogged;
+      ancestry = elim (r.branch_at n v) as (λ o. BranchAgrees o member.br → (o ≡ None → vb.log ≡ []) → ComesFrom r.tree vb.log o (reach_of vb.position))
+          [ None ↦ (λ is none. none refl) | Some u ↦ (λ is none. subst (λ k. Ancestry r.tree vb.log k (reach_of vb.position)) is log_lines) ] mine.branch mine.unlogged;
       complete = λ whole. sym (same_image w r c n v vb a mine whole);
     }
 
@@ -111,7 +111,7 @@ module _ (w : PlainWorld) (r : Chronicle) (c : Cluster) (a : AgreesIn idle w r c
       ap (λ b. image_at b p) (sym same) ∙ point_shown top c a.sound.still (seat n v) p (subst (λ b. IsPoint p (complete_points b)) (sym same) i)
       ∙ ap (λ h. image_of (upto h p)) (own_is r c n v (c.nodes (seat n v)) a.hists a.rootless (branch_by (vb_of w n v) (a.vbs n v)))
     where
-      branch_by : (o : Option Plain) → AgreesAt r n v (c.nodes (seat n v)) o → BranchIs (r.branch_at n v) (c.nodes (seat n v)).br
+      branch_by : (o : Option Plain) → AgreesAt r n v (c.nodes (seat n v)) o → BranchAgrees (r.branch_at n v) (c.nodes (seat n v)).br
       branch_by None x = x.branch
       branch_by (Some vb) x = x.branch
 
@@ -129,7 +129,7 @@ module _ (w : PlainWorld) (r : Chronicle) (c : Cluster) (a : AgreesIn idle w r c
       by : (o : Option PlainNode) → w.nodes n ≡ o → off_of_node o ≡ Some books → (c.disks (seat n v)).book ≡ book
       by None e d = cc
       by (Some node) e d =
-          let x = subst (λ p. BookIs p v (shelf_of w n v) (r.disk_at n v) (c.disks (seat n v))) (ap power_in e) (a.aways n v (none e d)).book in
+          let x = subst (λ p. BookAgrees p v (shelf_of w n v) (r.disk_at n v) (c.disks (seat n v))) (ap power_in e) (a.aways n v (none e d)).book in
           let y = subst (λ o. BookBy o v (shelf_of w n v) (r.disk_at n v) (c.disks (seat n v))) d x in
           book_is (r.disk_at n v).there (sym there ∙ y.0)
         where
@@ -157,7 +157,7 @@ module _ (w : PlainWorld) (r : Chronicle) (c : Cluster) (a : AgreesIn idle w r c
 
 -- after more lines
 followed_from : (w : PlainWorld) (r : Chronicle) (script : List ScriptLine) → ScriptFits script → IsRanged w → AreAtRest w → Agrees w r → Entered r
-    → AreFollowed (told_after r script (groups_from w script)) (world_after w script)
+    → AreFollowed (known_after r script (groups_from w script)) (world_after w script)
 unfolding world_step
 followed_from w r [] fits ranged rest a entered = are_followed w r a.0 a.1 entered rest ranged
 followed_from w r (line ∷ lines) fits ranged rest a entered =
@@ -170,5 +170,5 @@ followed_from w r (line ∷ lines) fits ranged rest a entered =
     (record { disks = entries.disks; logs = entries.logs; streams = entries.streams })
 
 -- after a script
-pub branches_followed : (script : List ScriptLine) → ScriptFits script → AreFollowed (told_of script) (world_of script)
+pub branches_followed : (script : List ScriptLine) → ScriptFits script → AreFollowed (known_of script) (world_of script)
 branches_followed script fits = followed_from empty_world empty_chronicle script fits start_ranged (start_rests empty_world (λ n. refl)) start start_entered

@@ -1,23 +1,23 @@
 -- what a node does for its clients, for an operator and for its dials opens no stream
 use Rattle.std.specs.Prelude.{◌≡◌, ◌∷◌, ◌==◌, if◌then◌else◌}
 use Rattle.transcript_law.proofs.Words.{ℕ, Bool, true, false, List, [], refl, ap, sym, ◌∙◌, subst, Option, Some, None, Result, Ok, Err, is_some, nat_le, eq-eqb, Frame, RESPONSE, Status, KvRequest, Plain, PlainSession, VbCall, VbReply, States}
-use Rattle.transcript_law.proofs.Words.{after, after_job, bind_job, Done, Job, Ended, frame_served, request_served, bytes_served, PlainNode, plain_step, with_vb_at, admin_call, admin_replied, admin_told, AdminCall, AdminTold, dial_fed, promoted, promote_refusal, is_role, role_told, turn_row, in_role, ending_reply, refusal_reply, VbAnswer, Role}
+use Rattle.transcript_law.proofs.Words.{after, after_job, bind_job, Done, Job, Ended, frame_handled, request_handled, bytes_handled, PlainNode, plain_step, with_vb_at, admin_call, admin_replied, admin_result, AdminCall, AdminResult, dial_bytes, promoted, promote_refusal, is_role, role_result, turn_row, in_role, ending_reply, refusal_reply, VbAnswer, Role}
 use Rattle.transcript_law.proofs.{lines.Calm.{AnyAsk}, invariant.Unopened.{NoNew, OpensNone, after_job_new, after_new, either, led_none, none_new, step_new}}
 use Rattle.transcript_law.specs.Feeding.{Has, HasIn}
 use Rattle.client_session.proofs.Keeping.{bytes_keep, front_of, outcome_keeps}
-use Rattle.client_session.specs.Serving.{MOST_DURABLE, Served, deadline_of, durable_called, next_waiter, outcome_served, refused, served}
+use Rattle.client_session.specs.Serving.{MOST_DURABLE, Served, deadline_of, durable_called, next_waiter, outcome_handled, refused, served}
 use Rattle.mcbp_kv.specs.Requests.{request_of}
 use Rattle.mcbp_kv.specs.declared.request.KvRequest.TheVariants as request
 use Rattle.node_core.proofs.Conduct.{bytes_follow}
 use Rattle.node_core.specs.Admin.{role_at, role_noted}
 use Rattle.node_core.specs.Conduct.{FollowsAt, KeepsLink, RollsAt}
-use Rattle.node_core.specs.Dials.{PlainDial, acknowledged_told, dial_due, due_asked, due_met, due_told, saved_told, untold}
-use Rattle.node_core.specs.Flushing.{flush_at, flush_if, flush_told}
-use Rattle.node_core.specs.Loading.{start_job, start_told}
+use Rattle.node_core.specs.Dials.{PlainDial, acknowledged_result, dial_due, due_requested, due_met, due_of_reply, saved_of_reply, untold}
+use Rattle.node_core.specs.Flushing.{flush_at, flush_if, flush_result}
+use Rattle.node_core.specs.Loading.{start_job, start_result}
 use Rattle.node_world.specs.Nodes.{all_posted, awaiting, posted_if, posted_to}
 use Rattle.node_world.specs.declared.script_node.TheConstants.{MAX_CLIENTS}
 use Rattle.vb_calls.proofs.JobConduct.{after_job_always, always_bind_job}
-use Rattle.vb_calls.specs.Flushes.{append_job, appended_job, batch_told, done_job, flush_job, is_refusal, note_role_job, part_job, role_after, role_job, role_told_job, save_all_job, taken_job, took}
+use Rattle.vb_calls.specs.Flushes.{append_job, appended_job, batch_of_reply, done_job, flush_job, is_refusal, note_role_job, part_job, role_of_call, role_job, role_told_job, save_all_job, taken_job, took}
 use Rattle.vb_calls.specs.Jobs.{AlwaysJob, Call as AsksCall}
 use Rattle.vb_calls.specs.Programs.{Always, AnyReply, Call as ProgCall}
 use Rattle.vb_calls.specs.Shelves.{DiskFailed, Fate, Flush, Idle, Out, Shelves, Stood, WasClosed, Written}
@@ -37,8 +37,8 @@ same_call v c q = q
 
 -- ---- clients
 
-request_quiet : (clock : ℕ) (f : Frame) (q : Result KvRequest Status) (s : Served) → Always OpensNone (λ a. Unit {0}) (request_served clock f q s)
-unfolding request_served
+request_quiet : (clock : ℕ) (f : Frame) (q : Result KvRequest Status) (s : Served) → Always OpensNone (λ a. Unit {0}) (request_handled clock f q s)
+unfolding request_handled
 request_quiet clock f (Err st) s = tt
 request_quiet clock f (Ok request.Noop) s = tt
 request_quiet clock f (Ok (request.Hello features)) s = tt
@@ -48,16 +48,16 @@ request_quiet clock f (Ok (request.Write write (Some wish))) s =
     either (Always OpensNone (λ a. Unit {0})) (nat_le MOST_DURABLE s.session.used) (Done (refused f Status.Etmpfail s))
     (durable_called f (call.Durable write clock wish.level (deadline_of clock wish.timeout) (next_waiter s.session)) s) tt (tt, λ reply any. tt)
 
-frame_quiet : (clock : ℕ) (f : Frame) (s : Served) → Always OpensNone (λ a. Unit {0}) (frame_served clock f s)
-unfolding frame_served
-frame_quiet clock f s = either (Always OpensNone (λ a. Unit {0})) (f.magic == RESPONSE) (Done s) (request_served clock f (request_of s.session.settings.json f) s) tt (request_quiet clock f (request_of s.session.settings.json f) s)
+frame_quiet : (clock : ℕ) (f : Frame) (s : Served) → Always OpensNone (λ a. Unit {0}) (frame_handled clock f s)
+unfolding frame_handled
+frame_quiet clock f s = either (Always OpensNone (λ a. Unit {0})) (f.magic == RESPONSE) (Done s) (request_handled clock f (request_of s.session.settings.json f) s) tt (request_quiet clock f (request_of s.session.settings.json f) s)
 
-pub bytes_quiet : (clock : ℕ) (piece : List ℕ) (s : Served) (states : States) → NoNew states (after (bytes_served clock piece s) states).0
-bytes_quiet clock piece s states = after_new OpensNone same_call (λ a. Unit {0}) (bytes_served clock piece s) states
+pub bytes_quiet : (clock : ℕ) (piece : List ℕ) (s : Served) (states : States) → NoNew states (after (bytes_handled clock piece s) states).0
+bytes_quiet clock piece s states = after_new OpensNone same_call (λ a. Unit {0}) (bytes_handled clock piece s) states
     (bytes_keep AnyReply OpensNone (λ a. Unit {0}) clock (λ f t e p. frame_quiet clock f (front_of f t)) (λ fault t e p. tt) piece s tt tt)
 
-outcome_quiet : (clock : ℕ) (r : Resolved) (s : Served) (states : States) → NoNew states (after (outcome_served clock r s) states).0
-outcome_quiet clock r s states = after_new OpensNone same_call (λ a. Unit {0}) (outcome_served clock r s) states
+outcome_quiet : (clock : ℕ) (r : Resolved) (s : Served) (states : States) → NoNew states (after (outcome_handled clock r s) states).0
+outcome_quiet clock r s states = after_new OpensNone same_call (λ a. Unit {0}) (outcome_handled clock r s) states
     (outcome_keeps AnyReply OpensNone (λ a. Unit {0}) clock (λ f t e p. frame_quiet clock f (front_of f t)) (λ fault t e p. tt) r s tt (λ a e. tt))
 
 -- outcomes that are posted
@@ -96,7 +96,7 @@ taken_quiet v next None q = tt
 taken_quiet v next (Some b) q = (tt, λ kept. q b)
 
 part_quiet : (v : ℕ) (p : FlushPart) (flush : Flush) → Quiet (part_job v p flush)
-part_quiet v part.Take Idle = (tt, λ reply any. taken_quiet v (λ batch. Ended (took batch)) (batch_told reply) (λ b. tt))
+part_quiet v part.Take Idle = (tt, λ reply any. taken_quiet v (λ batch. Ended (took batch)) (batch_of_reply reply) (λ b. tt))
 part_quiet v part.Take (Out batch) = tt
 part_quiet v part.Take (Written seq) = tt
 part_quiet v part.Save Idle = tt
@@ -105,7 +105,7 @@ part_quiet v part.Save (Written seq) = tt
 part_quiet v part.Done Idle = tt
 part_quiet v part.Done (Out batch) = tt
 part_quiet v part.Done (Written seq) = done_quiet v seq
-part_quiet v part.All Idle = (tt, λ reply any. taken_quiet v (save_all_job v) (batch_told reply) (λ b. append_quiet v b (done_job v b.position.at) (done_quiet v b.position.at)))
+part_quiet v part.All Idle = (tt, λ reply any. taken_quiet v (save_all_job v) (batch_of_reply reply) (λ b. append_quiet v b (done_job v b.position.at) (done_quiet v b.position.at)))
 part_quiet v part.All (Out batch) = append_quiet v batch (done_job v batch.position.at) (done_quiet v batch.position.at)
 part_quiet v part.All (Written seq) = done_quiet v seq
 
@@ -114,7 +114,7 @@ unfolding flush_job
 flush_quiet n v p states shelves = after_job_new OpensNone same_call AnyAsk (λ a. Unit {0}) (flush_at n v p) states shelves (tt, λ reply any. by (is_some reply))
   where
     by : (b : Bool) → Quiet (flush_if n v p b)
-    by true = always_bind_job AnyReply OpensNone AnyAsk (λ a. Unit {0}) (λ a. Unit {0}) (flush_job v p) (λ came. Ended (flush_told n v came)) (tt, part_quiet v p) (λ came any. tt)
+    by true = always_bind_job AnyReply OpensNone AnyAsk (λ a. Unit {0}) (λ a. Unit {0}) (flush_job v p) (λ came. Ended (flush_result n v came)) (tt, part_quiet v p) (λ came any. tt)
     by false = tt
 
 -- ---- dials
@@ -123,22 +123,22 @@ follows_quiet : (vb v : ℕ) (c : VbCall) → FollowsAt vb v c → OpensNone v c
 follows_quiet vb v (call.OpenStream id ask sync) f = f.1
 follows_quiet vb v other f = tt
 
-pub fed_quiet : (piece : List ℕ) (dial : PlainDial) (states : States) (shelves : Shelves) → NoNew states (after_job (dial_fed piece dial) states shelves).0.0
+pub fed_quiet : (piece : List ℕ) (dial : PlainDial) (states : States) (shelves : Shelves) → NoNew states (after_job (dial_bytes piece dial) states shelves).0.0
 fed_quiet piece dial states shelves =
-    after_job_new (FollowsAt dial.consumer.dialed.vb) (follows_quiet dial.consumer.dialed.vb) (RollsAt dial.consumer.dialed.vb) (KeepsLink (untold dial)) (dial_fed piece dial) states shelves (bytes_follow piece dial)
+    after_job_new (FollowsAt dial.consumer.dialed.vb) (follows_quiet dial.consumer.dialed.vb) (RollsAt dial.consumer.dialed.vb) (KeepsLink (untold dial)) (dial_bytes piece dial) states shelves (bytes_follow piece dial)
 
 pub due_quiet : (dial : PlainDial) (states : States) → NoNew states (after (dial_due dial) states).0
-unfolding due_asked
-due_quiet dial states = after_new OpensNone same_call (λ a. Unit {0}) (dial_due dial) states (either (Always OpensNone (λ a. Unit {0})) (is_streaming dial.consumer.handshake) (ProgCall dial.consumer.dialed.vb call.Due (λ reply. due_met (untold dial) (due_told reply))) (Done (untold dial)) (tt, λ reply any. met (due_told reply)) tt)
+unfolding due_requested
+due_quiet dial states = after_new OpensNone same_call (λ a. Unit {0}) (dial_due dial) states (either (Always OpensNone (λ a. Unit {0})) (is_streaming dial.consumer.handshake) (ProgCall dial.consumer.dialed.vb call.Due (λ reply. due_met (untold dial) (due_of_reply reply))) (Done (untold dial)) (tt, λ reply any. met (due_of_reply reply)) tt)
   where
     met : (seq : ℕ) → Always OpensNone (λ a. Unit {0}) (due_met (untold dial) seq)
-    met seq = either (Always OpensNone (λ a. Unit {0})) (may_acknowledge seq dial.consumer) (ProgCall dial.consumer.dialed.vb call.Stat (λ reply. Done (acknowledged_told seq (untold dial) (saved_told reply)))) (Done (untold dial)) (tt, λ reply any. tt) tt
+    met seq = either (Always OpensNone (λ a. Unit {0})) (may_acknowledge seq dial.consumer) (ProgCall dial.consumer.dialed.vb call.Stat (λ reply. Done (acknowledged_result seq (untold dial) (saved_of_reply reply)))) (Done (untold dial)) (tt, λ reply any. tt) tt
 
 -- ---- roles
 
 -- a vBucket at its number
-pub at_own : (states : States) (v : ℕ) (vb : Plain) → with_vb_at states v vb v ≡ Some vb
-at_own states v vb = ap (λ b. if b then Some vb else states v) (eq-eqb v v refl)
+pub found_at_own : (states : States) (v : ℕ) (vb : Plain) → with_vb_at states v vb v ≡ Some vb
+found_at_own states v vb = ap (λ b. if b then Some vb else states v) (eq-eqb v v refl)
 
 -- no vBucket has a new stream, and the vBucket v none
 pub record Ends (states states' : States) (v : ℕ) : Type 0 where
@@ -147,31 +147,31 @@ pub record Ends (states states' : States) (v : ℕ) : Type 0 where
 
 module _ (n v : ℕ) (asked : AdminCall) (opens : OpensNone v (admin_call asked))
     (ends : (vb : Plain) (ids : List ℕ) → (admin_replied n v asked (plain_step vb (admin_call asked)).1).ended ≡ Some ids → (id : ℕ) → Has (plain_step vb (admin_call asked)).0.streams id → ⊥) where
-  abbrev Told : Option VbReply → AdminTold → Type 0
-  Told reply told = told.ended ≡ (admin_told n v asked reply).ended
+  abbrev Told : Option VbReply → AdminResult → Type 0
+  Told reply told = told.ended ≡ (admin_result n v asked reply).ended
 
   noted : (reply : Option VbReply) → AlwaysJob AnyReply OpensNone AnyAsk (Told reply) (bind_job (role_told_job v (admin_call asked) reply) (λ made. Ended (role_noted n v asked made)))
   noted None = refl
-  noted (Some reply) = either (λ job. AlwaysJob AnyReply OpensNone AnyAsk (Told (Some reply)) (bind_job job (λ made. Ended (role_noted n v asked made)))) (is_refusal reply.answer) (Ended (Some reply, wrote.NotAsked)) (AsksCall v call.Log (note_role_job v (role_after (admin_call asked)) reply)) refl (tt, λ logged any. (tt, λ fate. refl))
+  noted (Some reply) = either (λ job. AlwaysJob AnyReply OpensNone AnyAsk (Told (Some reply)) (bind_job job (λ made. Ended (role_noted n v asked made)))) (is_refusal reply.answer) (Ended (Some reply, wrote.NotAsked)) (AsksCall v call.Log (note_role_job v (role_of_call (admin_call asked)) reply)) refl (tt, λ logged any. (tt, λ fate. refl))
 
   module _ (states : States) (shelves : Shelves) (ids : List ℕ) where
     abbrev step : States × Option VbReply
     step = states_step states v (admin_call asked)
 
-    abbrev job : Job AdminTold
+    abbrev job : Job AdminResult
     job = bind_job (role_told_job v (admin_call asked) step.1) (λ made. Ended (role_noted n v asked made))
 
     later : NoNew step.0 (after_job job step.0 shelves).0.0
     later = after_job_new OpensNone same_call AnyAsk (Told step.1) job step.0 shelves (noted step.1)
 
-    told : (after_job job step.0 shelves).1.ended ≡ Some ids → (admin_told n v asked step.1).ended ≡ Some ids
+    told : (after_job job step.0 shelves).1.ended ≡ Some ids → (admin_result n v asked step.1).ended ≡ Some ids
     told e = sym (after_job_always OpensNone AnyAsk (Told step.1) job step.0 shelves (noted step.1)) ∙ e
 
-    by_vb : (o : Option Plain) → states v ≡ o → (admin_told n v asked step.1).ended ≡ Some ids → (id : ℕ) → HasIn (step.0 v) id → ⊥
-    by_vb None is e id h = let z : None ≡ Some ids = sym (ap (λ o. (admin_told n v asked (call_at states v (admin_call asked) o).1).ended) is) ∙ e in cc
+    by_vb : (o : Option Plain) → states v ≡ o → (admin_result n v asked step.1).ended ≡ Some ids → (id : ℕ) → HasIn (step.0 v) id → ⊥
+    by_vb None is e id h = let z : None ≡ Some ids = sym (ap (λ o. (admin_result n v asked (call_at states v (admin_call asked) o).1).ended) is) ∙ e in cc
     by_vb (Some vb) is e id h =
-        ends vb ids (sym (ap (λ o. (admin_told n v asked (call_at states v (admin_call asked) o).1).ended) is) ∙ e) id
-        (subst (λ o. HasIn o id) (ap (λ o. (call_at states v (admin_call asked) o).0 v) is ∙ at_own states v (plain_step vb (admin_call asked)).0) h)
+        ends vb ids (sym (ap (λ o. (admin_result n v asked (call_at states v (admin_call asked) o).1).ended) is) ∙ e) id
+        (subst (λ o. HasIn o id) (ap (λ o. (call_at states v (admin_call asked) o).0 v) is ∙ found_at_own states v (plain_step vb (admin_call asked)).0) h)
 
     pub ends_streams : (after_job (role_at n v asked) states shelves).1.ended ≡ Some ids → Ends states (after_job (role_at n v asked) states shelves).0.0 v
     unfolding role_job
@@ -189,8 +189,8 @@ promote_ends n v uuid = ends_streams n v (admin.Promote uuid) tt (λ vb ids e. b
     by vb ids None e id h = led_none vb uuid id h
 
 -- a vBucket that takes another role than that of an active one
-turned_none : (n v : ℕ) (vb : Plain) (new : Role) (ids : List ℕ) → (role_told n v new (turn_row vb new).1 (turn_row vb new).1.answer).ended ≡ Some ids → (id : ℕ) → Has (turn_row vb new).0.streams id → ⊥
-turned_none n v vb new ids = either (λ (made : Plain × VbReply). (role_told n v new made.1 made.1.answer).ended ≡ Some ids → (id : ℕ) → Has made.0.streams id → ⊥) (is_role vb.role new) (vb, refusal_reply Status.NotMyVbucket) (in_role vb new, ending_reply vb VbAnswer.Done) (λ e id h. let z : None ≡ Some ids = e in cc) (λ e id h. h)
+turned_none : (n v : ℕ) (vb : Plain) (new : Role) (ids : List ℕ) → (role_result n v new (turn_row vb new).1 (turn_row vb new).1.answer).ended ≡ Some ids → (id : ℕ) → Has (turn_row vb new).0.streams id → ⊥
+turned_none n v vb new ids = either (λ (made : Plain × VbReply). (role_result n v new made.1 made.1.answer).ended ≡ Some ids → (id : ℕ) → Has made.0.streams id → ⊥) (is_role vb.role new) (vb, refusal_reply Status.NotMyVbucket) (in_role vb new, ending_reply vb VbAnswer.Done) (λ e id h. let z : None ≡ Some ids = e in cc) (λ e id h. h)
 
 pub follow_ends : (n v : ℕ) (states : States) (shelves : Shelves) (ids : List ℕ) → (after_job (role_at n v admin.Follow) states shelves).1.ended ≡ Some ids → Ends states (after_job (role_at n v admin.Follow) states shelves).0.0 v
 follow_ends n v = ends_streams n v admin.Follow tt (λ vb ids e. turned_none n v vb Role.Replica ids e)
@@ -199,9 +199,9 @@ pub dead_ends : (n v : ℕ) (states : States) (shelves : Shelves) (ids : List �
 dead_ends n v = ends_streams n v admin.Dead tt (λ vb ids e. turned_none n v vb Role.Dead ids e)
 
 -- a vBucket that starts on a new branch
-start_made : (n v uuid : ℕ) (reply : Option VbReply) → Quiet (bind_job (role_told_job v (call.Promote uuid) reply) (λ made. Ended (start_told n v made)))
+start_made : (n v uuid : ℕ) (reply : Option VbReply) → Quiet (bind_job (role_told_job v (call.Promote uuid) reply) (λ made. Ended (start_result n v made)))
 start_made n v uuid None = tt
-start_made n v uuid (Some reply) = either (λ job. Quiet (bind_job job (λ made. Ended (start_told n v made)))) (is_refusal reply.answer) (Ended (Some reply, wrote.NotAsked)) (AsksCall v call.Log (note_role_job v Role.Active reply)) tt (tt, λ logged any. (tt, λ fate. tt))
+start_made n v uuid (Some reply) = either (λ job. Quiet (bind_job job (λ made. Ended (start_result n v made)))) (is_refusal reply.answer) (Ended (Some reply, wrote.NotAsked)) (AsksCall v call.Log (note_role_job v Role.Active reply)) tt (tt, λ logged any. (tt, λ fate. tt))
 
 pub start_quiet : (n v uuid : ℕ) (states : States) (shelves : Shelves) → NoNew states (after_job (start_job n v uuid) states shelves).0.0
 unfolding role_job

@@ -1,13 +1,13 @@
 -- that the clock of each node shows a number of 64 bits, and that each client's session is at its own node and has kept bytes
 use Rattle.std.specs.Prelude.{◌<◌, ◌∷◌, ◌≡◌, ◌==◌, ◌^◌, if◌then◌else◌}
 use Rattle.transcript_law.proofs.Words.{Outcome, ℕ, List, [], subst, All-nil, Frame, AreBytes, Bool, true, false, refl, sym, arith, Option, Some, None, is_some, eqb-true, Cause, after, after_job}
-use Rattle.transcript_law.proofs.Words.{States, row_at, PlainSession, new_session, left_open, Told, PlainLink, LinkTold, link_number, producer_node, consumer_node, up_at, bytes_served}
-use Rattle.transcript_law.proofs.Words.{node_if, AdminCall, AdminTold, unlinked, own_link, cut_off, links_told, called_at, admin_line, with_ended, turned_if, no_node, turned_after, role_outcome}
+use Rattle.transcript_law.proofs.Words.{States, row_at, PlainSession, new_session, left_open, Told, PlainLink, LinkResult, link_number, producer_node, consumer_node, up_at, bytes_handled}
+use Rattle.transcript_law.proofs.Words.{node_if, AdminCall, AdminResult, unlinked, own_link, cut_off, links_ended, called_at, admin_line, with_ended, turned_if, no_node, turned_after, role_outcome}
 use Rattle.transcript_law.proofs.Words.{PlainNode, PlainWorld, empty_world, with_node_at, done, refusal, first_cause, refused_or}
-use Rattle.transcript_law.proofs.Words.{node_outcome, on_node, with_client, client_at, with_states, fed_if, bytes_at, hang_at}
+use Rattle.transcript_law.proofs.Words.{node_outcome, on_node, with_client, client_at, with_states, bytes_if, bytes_at, hang_at}
 use Rattle.transcript_law.proofs.{Words.{with_link, link_outcome, on_link}, invariant.Sessions.{SessionRanged, outcome_ranged, served_ranged}}
-use Rattle.{client_session.specs.Serving.{Served, outcome_served, served}, durability.specs.Chains.{Members}, node_world.specs.Cuts.{closed_at}, node_world.specs.declared.script_node.TheConstants.{MAX_CLIENTS}}
-use Rattle.node_core.specs.{Admin.{admin_refused}, Dials.{dial_due}, Flushing.{chain_set, flush_at, ticked}, Loading.{are_short, starts_of}, Peers.{PeerTold, peer_answered, peer_frames, peer_heard}}
+use Rattle.{client_session.specs.Serving.{Served, outcome_handled, served}, durability.specs.Chains.{Members}, node_world.specs.Cuts.{closed_at}, node_world.specs.declared.script_node.TheConstants.{MAX_CLIENTS}}
+use Rattle.node_core.specs.{Admin.{admin_refused}, Dials.{dial_due}, Flushing.{chain_changed, flush_at, ticked}, Loading.{are_short, starts_of}, Peers.{PeerResult, peer_answered, peer_frames, peer_heard}}
 use Rattle.node_world.specs.{Arms.{fired_by, lifted, placed, under_arm}, Dues.{due_at, due_in, due_of, is_counted}, Links.{dial_of, frame_up, frames_up, moved_len, peer_of, untold_peer}, Turns.{posted_at, posted_in, role_called, turned}}
 use Rattle.node_world.specs.Nodes.{all_posted, awaiting, chain_causes, chain_line, chain_made, flush_line, if_up, posted_if, posted_to, save_line, tick_line, with_kept}
 use Rattle.node_world.specs.World.{down_outcome, relinked}
@@ -94,10 +94,10 @@ left_ranged n session ranged = elim session.closed as (λ b. SessionRangedIf n (
 pub bytes_ranged : (n c : ℕ) (bytes : List ℕ) (node : PlainNode) → AreBytes bytes → NodeRanged n node → NodeRanged n (bytes_at c bytes node).0
 bytes_ranged n c bytes node are ranged = by (node.clients c) (ranged.clients c)
   where
-    by : (o : Option PlainSession) → SessionRangedIf n o → NodeRanged n (fed_if c bytes node o).0
+    by : (o : Option PlainSession) → SessionRangedIf n o → NodeRanged n (bytes_if c bytes node o).0
     by None there = ranged
     by (Some session) there =
-        let y : States × Served = after (bytes_served node.clock bytes (served session [])) node.vbs in
+        let y : States × Served = after (bytes_handled node.clock bytes (served session [])) node.vbs in
         with_client_ranged n c (with_states node y.0) (left_open y.1.session) (same_ranged n node y.0 node.made ranged) (left_ranged n y.1.session (served_ranged n node.clock bytes (served session []) node.vbs are there))
 
 -- outcomes that are posted
@@ -109,7 +109,7 @@ posted_ranged n r node (Some c) ranged = by (node.clients c) (ranged.clients c)
     by : (o : Option PlainSession) → SessionRangedIf n o → NodeRanged n (posted_if c r node o).0
     by None there = ranged
     by (Some session) there =
-        let y : States × Served = after (outcome_served node.clock r (served session [])) node.vbs in
+        let y : States × Served = after (outcome_handled node.clock r (served session [])) node.vbs in
         with_client_ranged n c (with_states node y.0) (left_open y.1.session) (same_ranged n node y.0 node.made ranged) (left_ranged n y.1.session (outcome_ranged n node.clock r (served session []) node.vbs there))
 
 pub posts_ranged : (n : ℕ) (rs : List Resolved) (node : PlainNode) → NodeRanged n node → NodeRanged n (all_posted rs node).0
@@ -118,12 +118,12 @@ posts_ranged n (r ∷ rs) node ranged =
     let o : Option ℕ = awaiting node.clients r.waiter MAX_CLIENTS in posts_ranged n rs (posted_to r node o).0 (posted_ranged n r node o ranged)
 
 -- and those of a call that left the clock and the connections
-pub told_ranged : (n : ℕ) (rs : List Resolved) (node node' : PlainNode) → node'.clock ≡ node.clock → ((c : ℕ) → node'.clients c ≡ node.clients c) → NodeRanged n node → NodeRanged n (all_posted rs node').0
-told_ranged n rs node node' clock clients ranged = posts_ranged n rs node' (kept_ranged n node node' clock clients ranged)
+pub told_stays_ranged : (n : ℕ) (rs : List Resolved) (node node' : PlainNode) → node'.clock ≡ node.clock → ((c : ℕ) → node'.clients c ≡ node.clients c) → NodeRanged n node → NodeRanged n (all_posted rs node').0
+told_stays_ranged n rs node node' clock clients ranged = posts_ranged n rs node' (kept_ranged n node node' clock clients ranged)
 
 pub flush_ranged : (n v : ℕ) (p : FlushPart) (node : PlainNode) → NodeRanged n node → NodeRanged n (flush_line n v p node).0
 flush_ranged n v p node ranged =
-    let x = after_job (flush_at n v p) node.vbs node.shelves in told_ranged n x.1.resolved node (with_kept node x.0) refl (λ c. refl) ranged
+    let x = after_job (flush_at n v p) node.vbs node.shelves in told_stays_ranged n x.1.resolved node (with_kept node x.0) refl (λ c. refl) ranged
 
 -- under the node's arm
 pub save_ranged : (n v : ℕ) (node : PlainNode) → NodeRanged n node → NodeRanged n (save_line n v node).0
@@ -133,11 +133,11 @@ save_ranged n v node ranged =
 
 pub chain_ranged : (n v : ℕ) (others : Members) (node : PlainNode) → NodeRanged n node → NodeRanged n (chain_line n v others node).0
 chain_ranged n v others node ranged =
-    let x = after (chain_set n v (record { active = n; others = others })) node.vbs in
-    kept_or n node (chain_made n v others node) (first_cause (chain_causes n v others node)) ranged (told_ranged n x.1.resolved node (with_states node x.0) refl (λ c. refl) ranged)
+    let x = after (chain_changed n v (record { active = n; others = others })) node.vbs in
+    kept_or n node (chain_made n v others node) (first_cause (chain_causes n v others node)) ranged (told_stays_ranged n x.1.resolved node (with_states node x.0) refl (λ c. refl) ranged)
 
 pub tick_ranged : (n v : ℕ) (node : PlainNode) → NodeRanged n node → NodeRanged n (tick_line n v node).0
-tick_ranged n v node ranged = let x = after (ticked n v node.clock) node.vbs in told_ranged n x.1.resolved node (with_states node x.0) refl (λ c. refl) ranged
+tick_ranged n v node ranged = let x = after (ticked n v node.clock) node.vbs in told_stays_ranged n x.1.resolved node (with_states node x.0) refl (λ c. refl) ranged
 
 pub admin_ranged : (n v : ℕ) (asked : AdminCall) (node : PlainNode) → NodeRanged n node → NodeRanged n (admin_line n v asked node).0
 admin_ranged n v asked node ranged = kept_ranged n node (admin_line n v asked node).0 refl (λ c. refl) ranged
@@ -155,7 +155,7 @@ relinked_ranged w before None ranged = unlinked_ranged w before ranged
 relinked_ranged w before (Some link) ranged = ranged
 
 -- a line of an open link leaves the clock and the connections of the node of its end
-pub on_link_ranged : (w : PlainWorld) (l : ℕ) (end : PlainLink → ℕ) (f : PlainLink → PlainNode → PlainNode × LinkTold) → IsRanged w → ((link : PlainLink) (n : ℕ) (node : PlainNode) → NodeRanged n node → NodeRanged n (f link node).0)
+pub on_link_ranged : (w : PlainWorld) (l : ℕ) (end : PlainLink → ℕ) (f : PlainLink → PlainNode → PlainNode × LinkResult) → IsRanged w → ((link : PlainLink) (n : ℕ) (node : PlainNode) → NodeRanged n node → NodeRanged n (f link node).0)
     → IsRanged (on_link w l end f).0
 on_link_ranged w l end f ranged keeps = by (row_at link_number l w.links)
   where
@@ -168,11 +168,11 @@ on_link_ranged w l end f ranged keeps = by (row_at link_number l w.links)
     by (Some link) = at link (w.nodes (end link)) (ranged (end link))
 
 -- frames for a producer, each with what came of it for the clients
-frames_ranged : (n : ℕ) (frames : List Frame) (came : PlainNode × PeerTold) → NodeRanged n came.0 → NodeRanged n (frames_up frames came).0
+frames_ranged : (n : ℕ) (frames : List Frame) (came : PlainNode × PeerResult) → NodeRanged n came.0 → NodeRanged n (frames_up frames came).0
 frames_ranged n [] came ranged = ranged
 frames_ranged n (f ∷ frames) came ranged =
     let x = after (peer_answered f came.1.peer) came.0.vbs in
-    frames_ranged n frames (frame_up f came) (told_ranged n x.1.resolved came.0 (with_states came.0 x.0) refl (λ c. refl) ranged)
+    frames_ranged n frames (frame_up f came) (told_stays_ranged n x.1.resolved came.0 (with_states came.0 x.0) refl (λ c. refl) ranged)
 
 pub up_ranged : (n wanted : ℕ) (link : PlainLink) (node : PlainNode) → NodeRanged n node → NodeRanged n (up_at wanted link node).0
 up_ranged n wanted link node ranged =
@@ -190,16 +190,16 @@ posts_in_ranged n rs o ranged = by (o.0.nodes n) (ranged n)
     by (Some node) there = with_node o.0 n (all_posted rs node).0 ranged (posts_ranged n rs node there)
 
 -- the world after a call that changed a role or did not
-turned_ranged : (n v : ℕ) (before w : PlainWorld) (told : AdminTold) (ended : Option (List ℕ)) → IsRanged before → IsRanged w → IsRanged (turned_if n v before ended (w, told)).0
+turned_ranged : (n v : ℕ) (before w : PlainWorld) (told : AdminResult) (ended : Option (List ℕ)) → IsRanged before → IsRanged w → IsRanged (turned_if n v before ended (w, told)).0
 turned_ranged n v before w told None ranged after = ranged
 turned_ranged n v before w told (Some ids) ranged after = posts_in_ranged n told.resolved (turned n v told (with_ended n v ids w))
-    (elim (own_link n v (links_told n v ids w.links)) as (λ o. IsRanged (cut_off o (with_ended n v ids w)).0) [ None ↦ after | Some link ↦ unlinked_ranged (with_ended n v ids w) link after ])
+    (elim (own_link n v (links_ended n v ids w.links)) as (λ o. IsRanged (cut_off o (with_ended n v ids w)).0) [ None ↦ after | Some link ↦ unlinked_ranged (with_ended n v ids w) link after ])
 
 pub role_ranged : (w : PlainWorld) (n v : ℕ) (asked : AdminCall) → IsRanged w → IsRanged (role_outcome n v asked w).0
 role_ranged w n v asked ranged = by (w.nodes n) (ranged n)
   where
     called : (node : PlainNode) → NodeRanged n node → NodeRanged n (role_called n v asked node).0
-    called node r = elim (is_some node.off) as (λ b. let x : PlainNode × AdminTold = if b then (node, admin_refused cause.NodeDown) else under_arm v (called_at n v asked) node in NodeRanged n x.0)
+    called node r = elim (is_some node.off) as (λ b. let x : PlainNode × AdminResult = if b then (node, admin_refused cause.NodeDown) else under_arm v (called_at n v asked) node in NodeRanged n x.0)
         [ true ↦ r | false ↦ kept_ranged n node (under_arm v (called_at n v asked) node).0 refl (λ c. refl) r ]
 
     by : (o : Option PlainNode) → NodeRangedIf n o → IsRanged (turned_after n v w (node_outcome w n no_node o (role_called n v asked))).0

@@ -1,8 +1,8 @@
 -- what rests stays, whatever else happens
 use Rattle.std.specs.Prelude.{◌≡◌, ◌<◌}
 use Rattle.transcript_law.proofs.Words.{ℕ, true, List, refl, sym, ap, ◌∙◌, subst, Option, Some, None, Member, Cluster, Chronicle, PlainLink, PlainWorld, producer_node, consumer_node}
-use Rattle.{branch_model.specs.Journals.{log_of, place_of}, cluster_model.specs.Clusters.{Disk}, vb_calls.specs.Shelves.{Shelf}, transcript_law.specs.Chronicles.{DiskTold, resting}}
-use Rattle.transcript_law.proofs.{invariant.Agreement.{AwayAt, BookBy, BookIs, EndsUp, IsLink, Power, PowerIsIf, RestsIn, is_down, power_of, shelf_of, vb_of, vb_row, VbRow}, invariant.Carrying.{SameEnds, SameOffs, SamePowers, off_of}, invariant.Seats.{seat}}
+use Rattle.{branch_model.specs.Journals.{log_of, place_of}, cluster_model.specs.Clusters.{Disk}, vb_calls.specs.Shelves.{Shelf}, transcript_law.specs.Chronicles.{DiskKnown, resting}}
+use Rattle.transcript_law.proofs.{invariant.Agreement.{AwayAt, BookBy, BookAgrees, EndsUp, IsLink, Power, PowerIsIf, RestsIn, is_down, power_of, shelf_of, vb_of, vb_row, VbRow}, invariant.Carrying.{SameEnds, SameOffs, SamePowers, off_of}, invariant.Seats.{seat}}
 use Rattle.{disk_journals.specs.Books.{Book}, node_world.specs.Worlds.{is_off}, transcript_law.proofs.{disks.Disks.{power_in}, Words.{PlainNode, is_some}}}
 
 -- a place at which no vBucket is, and at which nothing changed
@@ -14,7 +14,7 @@ pub record StillAt (w w' : PlainWorld) (r r' : Chronicle) (c c' : Cluster) (n v 
   pub disk : c'.disks (seat n v) ≡ c.disks (seat n v)
 
 -- the disks of a node that is running or down as it was
-pub book_by : (p q : Option Power) → off_of q ≡ off_of p → (v : ℕ) (shelf : Option Shelf) (told : DiskTold) (d : Disk) → BookIs p v shelf told d → BookIs q v shelf told d
+pub book_by : (p q : Option Power) → off_of q ≡ off_of p → (v : ℕ) (shelf : Option Shelf) (told : DiskKnown) (d : Disk) → BookAgrees p v shelf told d → BookAgrees q v shelf told d
 book_by None None e v shelf told d x = x
 book_by None (Some q) e v shelf told d x = let z : Some q.off ≡ None = e in cc
 book_by (Some p) None e v shelf told d x = let z : None ≡ Some p.off = e in cc
@@ -41,9 +41,9 @@ module _ (w w' : PlainWorld) (r r' : Chronicle) (c c' : Cluster) (a : RestsIn w 
         log = ap (λ (m : Member). m.log) s.member ∙ x.log ∙ ap (λ (d : Disk). log_of d.book) (sym s.disk);
         role = ap (λ (t : VbRow). t.role) s.row ∙ x.role ∙ ap (λ (d : Disk). Some (resting d.book)) (sym s.disk);
         book = book_by (power_of w n) (power_of w' n) (offs n) v (shelf_of w' n v) (r'.disk_at n v) (c'.disks (seat n v))
-            (subst (λ (q : Option Shelf). BookIs (power_of w n) v q (r'.disk_at n v) (c'.disks (seat n v))) (sym s.shelf)
-            (subst (λ (t : DiskTold). BookIs (power_of w n) v (shelf_of w n v) t (c'.disks (seat n v))) (sym (ap (λ (t : VbRow). t.disk) s.row))
-            (subst (λ (d : Disk). BookIs (power_of w n) v (shelf_of w n v) (r.disk_at n v) d) (sym s.disk) x.book)));
+            (subst (λ (q : Option Shelf). BookAgrees (power_of w n) v q (r'.disk_at n v) (c'.disks (seat n v))) (sym s.shelf)
+            (subst (λ (t : DiskKnown). BookAgrees (power_of w n) v (shelf_of w n v) t (c'.disks (seat n v))) (sym (ap (λ (t : VbRow). t.disk) s.row))
+            (subst (λ (d : Disk). BookAgrees (power_of w n) v (shelf_of w n v) (r.disk_at n v) d) (sym s.disk) x.book)));
       }
 
   -- what rests, where nodes are running or down as they were, and the lines tell of their arms
@@ -66,9 +66,9 @@ module _ (w w' : PlainWorld) (r r' : Chronicle) (c c' : Cluster) (a : RestsIn w 
   rests_by powers arms = rests_with (offs_same w w' powers) (λ n. subst (PowerIsIf (r'.arm_at n)) (sym (powers n)) (subst (λ t. PowerIsIf t (power_of w n)) (sym (arms n)) (a.powers n)))
 
 -- a node is down exactly where it is off
-pub off_is : (o : Option PlainNode) → is_down (power_in o) ≡ is_off o
-off_is None = refl
-off_is (Some node) = refl
+pub off_as_power : (o : Option PlainNode) → is_down (power_in o) ≡ is_off o
+off_as_power None = refl
+off_as_power (Some node) = refl
 
 -- a link between the same ends
 pub ends_off : (w w' : PlainWorld) (x y : PlainLink) → SameOffs w w' → SameEnds x y → EndsUp w x → EndsUp w' y

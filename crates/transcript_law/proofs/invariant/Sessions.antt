@@ -2,9 +2,9 @@
 use Rattle.std.specs.Prelude.{◌≡◌, ◌<◌, ◌++◌, ◌∷◌}
 use Rattle.std.proofs.lemmas.List.Elements.{All-drop}
 use Rattle.transcript_law.proofs.Words.{ℕ, List, [], refl, sym, ap, ◌∙◌, subst, drop, All-nil, All-cons, All-head, All-tail, All-append, Some, Ok}
-use Rattle.transcript_law.proofs.Words.{Frame, FrameFault, AreBytes, Readable, spelling, after, States, PlainSession, ended_at, frame_served, bytes_served}
+use Rattle.transcript_law.proofs.Words.{Frame, FrameFault, AreBytes, Readable, spelling, after, States, PlainSession, ended_at, frame_handled, bytes_handled}
 use Rattle.client_session.proofs.{Conduct.{Stays, frame_stays}, Keeping.{bytes_go, front_of, outcome_goes}}
-use Rattle.client_session.specs.Serving.{Served, outcome_served}
+use Rattle.client_session.specs.Serving.{Served, outcome_handled}
 use Rattle.mcbp_frame.{proofs.Cases.{front}, specs.Frames.{first_frame, frame_len}, specs.Spelling.{header_spelling}}
 use Rattle.vb_calls.{proofs.Conduct.{after_always}, specs.Programs.{AnyCall}, specs.declared.calls.Resolved.{Resolved}}
 
@@ -50,10 +50,10 @@ pub more_ranged : (n : ℕ) (piece : List ℕ) (session : PlainSession) → AreB
 more_ranged n piece session h r = record { node = r.node; bytes = All-append (λ b. b < 256) session.reader piece r.bytes h }
 
 -- whatever a frame asks
-pub frame_ranged : (n clock : ℕ) (f : Frame) (states : States) (s : Served) → SessionRanged n s.session → SessionRanged n (after (frame_served clock f (front_of f s)) states).1.session
+pub frame_ranged : (n clock : ℕ) (f : Frame) (states : States) (s : Served) → SessionRanged n s.session → SessionRanged n (after (frame_handled clock f (front_of f s)) states).1.session
 frame_ranged n clock f states s r =
     let x = front_ranged n f s r in
-    let stays : Stays (front_of f s) (after (frame_served clock f (front_of f s)) states).1 = after_always AnyCall (Stays (front_of f s)) (frame_served clock f (front_of f s)) states
+    let stays : Stays (front_of f s) (after (frame_handled clock f (front_of f s)) states).1 = after_always AnyCall (Stays (front_of f s)) (frame_handled clock f (front_of f s)) states
     (frame_stays (front_of f s) clock f (front_of f s) (record { who = refl; reader = refl; closed = refl })) in
     record { node = ap (λ who. who.node) stays.who ∙ x.node; bytes = subst AreBytes (sym stays.reader) x.bytes }
 
@@ -61,8 +61,8 @@ module _ (n clock : ℕ) where
   abbrev At : States × Served → Type 0
   At x = SessionRanged n x.1.session
 
-  pub served_ranged : (piece : List ℕ) (s : Served) (states : States) → AreBytes piece → SessionRanged n s.session → SessionRanged n (after (bytes_served clock piece s) states).1.session
+  pub served_ranged : (piece : List ℕ) (s : Served) (states : States) → AreBytes piece → SessionRanged n s.session → SessionRanged n (after (bytes_handled clock piece s) states).1.session
   served_ranged piece s states h r = bytes_go At clock (λ f states t e p. frame_ranged n clock f states t p) (λ fault states t e p. fault_ranged n fault t p) piece s states r (more_ranged n piece s.session h r)
 
-  pub outcome_ranged : (r : Resolved) (s : Served) (states : States) → SessionRanged n s.session → SessionRanged n (after (outcome_served clock r s) states).1.session
+  pub outcome_ranged : (r : Resolved) (s : Served) (states : States) → SessionRanged n s.session → SessionRanged n (after (outcome_handled clock r s) states).1.session
   outcome_ranged r s states p = outcome_goes At clock (λ f states t e p. frame_ranged n clock f states t p) (λ fault states t e p. fault_ranged n fault t p) r s states p (λ a e. record { node = p.node; bytes = p.bytes })

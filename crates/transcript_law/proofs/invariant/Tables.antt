@@ -67,8 +67,8 @@ if_known o x e = subst (λ p. IsIfKnown p x) (sym e) refl
 pub used_before : (u : ℕ) (us more : List ℕ) → is_one_of u (us ++ more) ≡ false → is_one_of u us ≡ false
 used_before u us more e = elim (is_one_of u us) as (λ a. (a || is_one_of u more) ≡ false → a ≡ false) [ true ↦ λ q. cc | false ↦ λ q. refl ] (sym (list_any-append (λ m. m == u) us more) ∙ e)
 
-pub used_more : (u x : ℕ) (us : List ℕ) → is_one_of u us ≡ true → is_one_of u (us ++ x ∷ []) ≡ true
-used_more u x us e = list_any-append (λ m. m == u) us (x ∷ []) ∙ ap (λ b. b || ((x == u) || false)) e
+pub still_used : (u x : ℕ) (us : List ℕ) → is_one_of u us ≡ true → is_one_of u (us ++ x ∷ []) ≡ true
+still_used u x us e = list_any-append (λ m. m == u) us (x ∷ []) ∙ ap (λ b. b || ((x == u) || false)) e
 
 pub used_last : (u : ℕ) (us : List ℕ) → is_one_of u (us ++ u ∷ []) ≡ true
 used_last u us = list_any-append (λ m. m == u) us (u ∷ []) ∙ ap (λ b. is_one_of u us || (b || false)) (eq-eqb u u refl) ∙ or-true (is_one_of u us)

@@ -1,13 +1,13 @@
 -- the calls of clients, of a producer, of an operator and of writing down are such that a vBucket stays sound at them, whatever is replied
 use Rattle.std.specs.Prelude.{◌≡◌, ◌<◌, ◌^◌, ◌==◌, if◌then◌else◌, nat_le, slice_get}
 use Rattle.std.specs.List.{list_any}
-use Rattle.transcript_law.proofs.Words.{ℕ, zero, suc, Bool, true, false, Option, Some, None, is_some, Result, Ok, Err, Frame, KvRequest, RESPONSE, Status, Change, DcpMsg, Halt, NoSnapshot, PlainStream, PlainProducer, AdminCall, VbCall, VbReply, DialTold, Prog, Call, Done, Turn, More, Stop, repeated, go_on, bind, Job, Ended, bind_job}
-use Rattle.transcript_law.proofs.Words.{request_served, frame_served, frame_answered, stream_request, read_answered, take_unless, place_halt, next_put, stream_put, end_put, frame_put, frames_put, pulled, end_closed, stream_closed, admin_call, peer_pulled}
+use Rattle.transcript_law.proofs.Words.{ℕ, zero, suc, Bool, true, false, Option, Some, None, is_some, Result, Ok, Err, Frame, KvRequest, RESPONSE, Status, Change, DcpMsg, Halt, NoSnapshot, PlainStream, PlainProducer, AdminCall, VbCall, VbReply, DialResult, Prog, Call, Done, Turn, More, Stop, repeated, go_on, bind, Job, Ended, bind_job}
+use Rattle.transcript_law.proofs.Words.{request_handled, frame_handled, frame_answered, stream_request, read_answered, take_unless, place_halt, next_put, stream_put, end_put, frame_put, frames_put, pulled, end_closed, stream_closed, admin_call, peer_pulled}
 use Rattle.client_session.proofs.Conduct.{either}
 use Rattle.client_session.specs.Serving.{MOST_DURABLE, Served as Session, deadline_of, durable_called, next_waiter, refused}
 use Rattle.dcp_producer.specs.Producers.{Served, begun, member_of}
-use Rattle.dcp_producer.specs.Pulling.{place_asked}
-use Rattle.dcp_producer.specs.Serving.{acknowledged, count_asked, message_answered, row_answered, status_sent, stream_of, weighed}
+use Rattle.dcp_producer.specs.Pulling.{place_requested}
+use Rattle.dcp_producer.specs.Serving.{acknowledged, count_requested, message_answered, row_answered, status_sent, stream_of, weighed}
 use Rattle.durability.specs.Chains.{is_chain, Links}
 use Rattle.mcbp_dcp.specs.Messages.{read_of}
 use Rattle.mcbp_dcp.specs.Rows.{dcp_opcodes}
@@ -16,14 +16,14 @@ use Rattle.mcbp_dcp.specs.declared.message.DcpMsg.TheVariants as msg
 use Rattle.mcbp_kv.specs.Requests.{request_of}
 use Rattle.mcbp_kv.specs.declared.request.KvRequest.TheVariants as request
 use Rattle.node_core.specs.Admin.{admin_job, role_noted}
-use Rattle.node_core.specs.Dials.{PlainDial, acknowledged_told, dial_due, due_asked, due_met, due_told, saved_told, untold}
-use Rattle.node_core.specs.Flushing.{chain_set, flush_at, flush_if, flush_told, ticked}
-use Rattle.node_core.specs.Loading.{start_job, start_told}
-use Rattle.node_core.specs.Peers.{PlainPeer, peer_answered, peer_told, pull_told}
+use Rattle.node_core.specs.Dials.{PlainDial, acknowledged_result, dial_due, due_requested, due_met, due_of_reply, saved_of_reply, untold}
+use Rattle.node_core.specs.Flushing.{chain_changed, flush_at, flush_if, flush_result, ticked}
+use Rattle.node_core.specs.Loading.{start_job, start_result}
+use Rattle.node_core.specs.Peers.{PlainPeer, peer_answered, peer_result, pull_result}
 use Rattle.node_core.specs.declared.admin.AdminCall.TheVariants as admin
 use Rattle.dcp_consumer.specs.Machine.{is_streaming, may_acknowledge}
 use Rattle.vb_calls.proofs.{Conduct.{always_bind}, JobConduct.{always_bind_job}}
-use Rattle.vb_calls.specs.Flushes.{append_job, appended_job, batch_told, done_job, flush_job, is_refusal, note_role_job, part_job, role_after, role_job, role_told_job, save_all_job, taken_job, took}
+use Rattle.vb_calls.specs.Flushes.{append_job, appended_job, batch_of_reply, done_job, flush_job, is_refusal, note_role_job, part_job, role_of_call, role_job, role_told_job, save_all_job, taken_job, took}
 use Rattle.vb_calls.specs.Jobs.{AlwaysJob}
 use Rattle.vb_calls.specs.Jobs as job
 use Rattle.vb_calls.specs.Programs.{Always, AnyReply}
@@ -70,8 +70,8 @@ closed_makes kind closes end = by end.stream
 
 -- ---- a client, while the clock shows a number of 64 bits
 
-request_tame : (clock : ℕ) → clock < 2 ^ 64 → (f : Frame) (asked : Result KvRequest Status) (s : Session) → Tame (request_served clock f asked s)
-unfolding request_served
+request_tame : (clock : ℕ) → clock < 2 ^ 64 → (f : Frame) (asked : Result KvRequest Status) (s : Session) → Tame (request_handled clock f asked s)
+unfolding request_handled
 request_tame clock small f (Err st) s = tt
 request_tame clock small f (Ok request.Noop) s = tt
 request_tame clock small f (Ok (request.Hello features)) s = tt
@@ -81,13 +81,13 @@ request_tame clock small f (Ok (request.Write write (Some wish))) s =
     either (λ (p : Prog Session). Tame p) (nat_le MOST_DURABLE s.session.used) (Done (refused f Status.Etmpfail s))
     (durable_called f (call.Durable write clock wish.level (deadline_of clock wish.timeout) (next_waiter s.session)) s) tt (small, λ reply any. tt)
 
-pub served_tame : (clock : ℕ) → clock < 2 ^ 64 → (f : Frame) (s : Session) → Tame (frame_served clock f s)
-unfolding frame_served
-served_tame clock small f s = either (λ (p : Prog Session). Tame p) (f.magic == RESPONSE) (Done s) (request_served clock f (request_of s.session.settings.json f) s) tt (request_tame clock small f (request_of s.session.settings.json f) s)
+pub served_tame : (clock : ℕ) → clock < 2 ^ 64 → (f : Frame) (s : Session) → Tame (frame_handled clock f s)
+unfolding frame_handled
+served_tame clock small f s = either (λ (p : Prog Session). Tame p) (f.magic == RESPONSE) (Done s) (request_handled clock f (request_of s.session.settings.json f) s) tt (request_tame clock small f (request_of s.session.settings.json f) s)
 
 -- ---- a producer that answers
 
-weighed_tame : (f : Frame) (seq : ℕ) (s : Served) (weight : Result ℕ Status) → Tame (count_asked f seq s weight)
+weighed_tame : (f : Frame) (seq : ℕ) (s : Served) (weight : Result ℕ Status) → Tame (count_requested f seq s weight)
 weighed_tame f seq s (Err st) = tt
 weighed_tame f seq s (Ok member) = (tt, λ reply any. tt)
 
@@ -112,7 +112,7 @@ answered_tame f s =
     (either (λ (p : Prog Served). Tame p) (list_any (λ o. o == f.opcode) dcp_opcodes) (read_answered f (read_of f) s) (Done (status_sent f Status.UnknownCommand s)) (read_tame f (read_of f) s) tt)
 
 pub peer_tame : (f : Frame) (peer : PlainPeer) → Tame (peer_answered f peer)
-peer_tame f peer = tame_bind (frame_answered f (begun peer.producer)) (λ s. Done (peer_told peer.heard s)) (answered_tame f (begun peer.producer)) (λ s. tt)
+peer_tame f peer = tame_bind (frame_answered f (begun peer.producer)) (λ s. Done (peer_result peer.heard s)) (answered_tame f (begun peer.producer)) (λ s. tt)
 
 -- ---- a producer that puts frames
 
@@ -123,7 +123,7 @@ module _ (s : Served) (stream : PlainStream) where
 
   next_tame : (item : Option Change) → Tame (next_put s stream item)
   next_tame (Some c) = tt
-  next_tame None = either (λ (p : Prog (Turn Served (Served × Halt))). Tame p) stream.ended (Done (More (end_put s stream))) (place_asked s stream) tt (tt, λ reply any. place_tame (place_halt reply))
+  next_tame None = either (λ (p : Prog (Turn Served (Served × Halt))). Tame p) stream.ended (Done (More (end_put s stream))) (place_requested s stream) tt (tt, λ reply any. place_tame (place_halt reply))
 
 stream_tame : (s : Served) (o : Option PlainStream) → Tame (stream_put s o)
 stream_tame s None = tt
@@ -150,22 +150,22 @@ unfolding frames_put
 puts_tame k s = tame_bind (repeated k frame_put s) pulled (turns_tame k s) over_tame
 
 pub pulled_tame : (k : ℕ) (peer : PlainPeer) → Tame (peer_pulled k peer)
-pulled_tame k peer = tame_bind (frames_put k (begun peer.producer)) (λ put. Done (pull_told peer.heard put)) (puts_tame k (begun peer.producer)) (λ put. tt)
+pulled_tame k peer = tame_bind (frames_put k (begun peer.producer)) (λ put. Done (pull_result peer.heard put)) (puts_tame k (begun peer.producer)) (λ put. tt)
 
 -- ---- a dial whose vBucket has more written down
 
-met_tame : (s : DialTold) (seq : ℕ) → Tame (due_met s seq)
-met_tame s seq = either (λ (p : Prog DialTold). Tame p) (may_acknowledge seq s.dial.consumer) (Call s.dial.consumer.dialed.vb call.Stat (λ reply. Done (acknowledged_told seq s (saved_told reply)))) (Done s) (tt, λ reply any. tt) tt
+met_tame : (s : DialResult) (seq : ℕ) → Tame (due_met s seq)
+met_tame s seq = either (λ (p : Prog DialResult). Tame p) (may_acknowledge seq s.dial.consumer) (Call s.dial.consumer.dialed.vb call.Stat (λ reply. Done (acknowledged_result seq s (saved_of_reply reply)))) (Done s) (tt, λ reply any. tt) tt
 
 pub due_tame : (dial : PlainDial) → Tame (dial_due dial)
-unfolding due_asked
+unfolding due_requested
 due_tame dial =
-    let s : DialTold = untold dial in
-    either (λ (p : Prog DialTold). Tame p) (is_streaming s.dial.consumer.handshake) (Call s.dial.consumer.dialed.vb call.Due (λ reply. due_met s (due_told reply))) (Done s) (tt, λ reply any. met_tame s (due_told reply)) tt
+    let s : DialResult = untold dial in
+    either (λ (p : Prog DialResult). Tame p) (is_streaming s.dial.consumer.handshake) (Call s.dial.consumer.dialed.vb call.Due (λ reply. due_met s (due_of_reply reply))) (Done s) (tt, λ reply any. met_tame s (due_of_reply reply)) tt
 
 -- ---- chains and clocks
 
-pub chain_tame : (n v : ℕ) (chain : Links) → is_chain chain.active chain.others ≡ true → Tame (chain_set n v chain)
+pub chain_tame : (n v : ℕ) (chain : Links) → is_chain chain.active chain.others ≡ true → Tame (chain_changed n v chain)
 chain_tame n v chain is = (is, λ reply any. tt)
 
 pub tick_tame : (n v clock : ℕ) → Tame (ticked n v clock)
@@ -193,7 +193,7 @@ all_tame : (v : ℕ) (batch : Batch) → TameJob (save_all_job v batch)
 all_tame v batch = append_tame v batch (done_job v batch.position.at) (done_tame v batch.position.at)
 
 part_tame : (v : ℕ) (p : FlushPart) (flush : Flush) → TameJob (part_job v p flush)
-part_tame v part.Take Idle = (tt, λ reply any. taken_tame v (λ batch. Ended (took batch)) (λ batch. tt) (batch_told reply))
+part_tame v part.Take Idle = (tt, λ reply any. taken_tame v (λ batch. Ended (took batch)) (λ batch. tt) (batch_of_reply reply))
 part_tame v part.Take (Out batch) = tt
 part_tame v part.Take (Written seq) = tt
 part_tame v part.Save Idle = tt
@@ -202,13 +202,13 @@ part_tame v part.Save (Written seq) = tt
 part_tame v part.Done Idle = tt
 part_tame v part.Done (Out batch) = tt
 part_tame v part.Done (Written seq) = done_tame v seq
-part_tame v part.All Idle = (tt, λ reply any. taken_tame v (save_all_job v) (all_tame v) (batch_told reply))
+part_tame v part.All Idle = (tt, λ reply any. taken_tame v (save_all_job v) (all_tame v) (batch_of_reply reply))
 part_tame v part.All (Out batch) = all_tame v batch
 part_tame v part.All (Written seq) = done_tame v seq
 
 flush_if_tame : (n v : ℕ) (p : FlushPart) (there : Bool) → TameJob (flush_if n v p there)
 unfolding flush_job
-flush_if_tame n v p true = tame_bind_job (flush_job v p) (λ came. Ended (flush_told n v came)) (tt, λ flush. part_tame v p flush) (λ came. tt)
+flush_if_tame n v p true = tame_bind_job (flush_job v p) (λ came. Ended (flush_result n v came)) (tt, λ flush. part_tame v p flush) (λ came. tt)
 flush_if_tame n v p false = tt
 
 pub flush_tame : (n v : ℕ) (p : FlushPart) → TameJob (flush_at n v p)
@@ -218,7 +218,7 @@ flush_tame n v p = (tt, λ reply any. flush_if_tame n v p (is_some reply))
 
 told_tame : (v : ℕ) (asked : VbCall) (reply : Option VbReply) → TameJob (role_told_job v asked reply)
 told_tame v asked None = tt
-told_tame v asked (Some reply) = either (λ (one : Job (Option VbReply × Wrote)). TameJob one) (is_refusal reply.answer) (Ended (Some reply, wrote.NotAsked)) (job.Call v call.Log (note_role_job v (role_after asked) reply)) tt (tt, λ logged any. (tt, λ fate. tt))
+told_tame v asked (Some reply) = either (λ (one : Job (Option VbReply × Wrote)). TameJob one) (is_refusal reply.answer) (Ended (Some reply, wrote.NotAsked)) (job.Call v call.Log (note_role_job v (role_of_call asked) reply)) tt (tt, λ logged any. (tt, λ fate. tt))
 
 role_tame : (v : ℕ) (asked : VbCall) → IsTimely asked → TameJob (role_job v asked)
 unfolding role_job
@@ -231,4 +231,4 @@ admin_tame n v admin.Dead = tame_bind_job (role_job v call.Dead) (λ made. Ended
 admin_tame n v other = (tt, λ reply any. tt)
 
 pub start_tame : (n v uuid : ℕ) → TameJob (start_job n v uuid)
-start_tame n v uuid = tame_bind_job (role_job v (call.Promote uuid)) (λ made. Ended (start_told n v made)) (role_tame v (call.Promote uuid) tt) (λ made. tt)
+start_tame n v uuid = tame_bind_job (role_job v (call.Promote uuid)) (λ made. Ended (start_result n v made)) (role_tame v (call.Promote uuid) tt) (λ made. tt)

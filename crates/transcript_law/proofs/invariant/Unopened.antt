@@ -1,7 +1,7 @@
 -- calls that open no stream leave no vBucket with a new one, and so do programs of such calls
 use Rattle.std.specs.Prelude.{◌≡◌, ◌∷◌, ◌+◌, ◌⊎◌, ◌==◌, if◌then◌else◌, cond}
 use Rattle.transcript_law.proofs.Words.{ℕ, Bool, true, false, List, [], refl, sym, ◌∙◌, subst, inl, inr, ⊎_elim, map, fold, not, Option, Some, None, eqb-true, eqb-false}
-use Rattle.transcript_law.proofs.Words.{Act, Plain, plain_step, VbAnswer, VbCall, VbReply, Stream, States, with_vb_at, closed_stream, is_active, led, Prog, Done, Call, after, Job, Ended, after_job, newest_branch}
+use Rattle.transcript_law.proofs.Words.{Act, Plain, plain_step, VbAnswer, VbCall, VbReply, Stream, States, with_vb_at, without_stream, is_active, led, Prog, Done, Call, after, Job, Ended, after_job, newest_branch}
 use Rattle.transcript_law.specs.Feeding.{Has, HasIn}
 use Rattle.durability.specs.declared.waiting.Waiting.{Waiting}
 use Rattle.durability.specs.Outstanding.{late}
@@ -55,11 +55,11 @@ aborts_streams (w ∷ ws) s = aborts_streams ws (aborted s w) ∙ either (λ (t 
 
 -- of some streams those that are left, and those that moved on
 
-pub closed_has : (i id : ℕ) (ss : List Stream) → Has (closed_stream i ss) id → Has ss id × (id ≡ i → ⊥)
+pub closed_has : (i id : ℕ) (ss : List Stream) → Has (without_stream i ss) id → Has ss id × (id ≡ i → ⊥)
 closed_has i id [] h = absurd h
 closed_has i id (s ∷ ss) h = by (closed_has i id ss) (s.id == i) refl h
   where
-    by : (Has (closed_stream i ss) id → Has ss id × (id ≡ i → ⊥)) → (b : Bool) → (s.id == i) ≡ b → Has (cond (not b) (s ∷ closed_stream i ss) (closed_stream i ss)) id → Has (s ∷ ss) id × (id ≡ i → ⊥)
+    by : (Has (without_stream i ss) id → Has ss id × (id ≡ i → ⊥)) → (b : Bool) → (s.id == i) ≡ b → Has (cond (not b) (s ∷ without_stream i ss) (without_stream i ss)) id → Has (s ∷ ss) id × (id ≡ i → ⊥)
     by more true e j = let p = more j in (inr p.0, p.1)
     by more false e j = ⊎_elim (λ q. (inl q, λ f. eqb-false s.id i e (q ∙ f))) (λ k. let p = more k in (inr p.0, p.1)) j
 

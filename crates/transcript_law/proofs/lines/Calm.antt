@@ -1,25 +1,25 @@
 -- lines that tell of no arm, and of no rollback but where a link's bytes are taken: those of connections, links and streams, whatever the replies of vBuckets and journals
 use Rattle.std.specs.Prelude.{◌≡◌, ◌∷◌, ◌++◌, ◌==◌, if◌then◌else◌}
 use Rattle.transcript_law.proofs.Words.{ℕ, Bool, true, false, List, [], refl, ap, ◌∙◌, zero, suc, take, map, Told, Answer, Cause, flat_map, filter-append, list_any, Option, Some, None, slice_get, Result, Ok, Err, Event, EndReason, Status, Change, Frame, FrameFault, RESPONSE, States, after, front_fault, frames_in, with_states, LogEntry, StreamAsk, VbAnswer, VbReply, PlainLink, PlainNode}
-use Rattle.transcript_law.proofs.Words.{Done, Turn, More, Stop, repeated, go_on, Handshake, Halt, NoSnapshot, DcpMsg, PlainStream, Served, begun, peer_pulled, peer_of, dial_of, moved_len, up_at, pump_at, bytes_at, fed_if, PlainSession}
-use Rattle.transcript_law.proofs.Words.{stream_put, next_put, item_put, halted_put, take_unless, taken_put, snapshot_told, pulled, act_message, place_halt, read_answered, opened_unless, controlled_as}
+use Rattle.transcript_law.proofs.Words.{Done, Turn, More, Stop, repeated, go_on, Handshake, Halt, NoSnapshot, DcpMsg, PlainStream, Served, begun, peer_pulled, peer_of, dial_of, moved_len, up_at, pump_at, bytes_at, bytes_if, PlainSession}
+use Rattle.transcript_law.proofs.Words.{stream_put, next_put, item_put, halted_put, take_unless, taken_put, snapshot_of_reply, pulled, act_message, place_halt, read_answered, opened_unless, controlled_as}
 use Rattle.dcp_producer.specs.Pulling.{end_put, frame_put, frames_put, marker_put, take_next}
 use Rattle.dcp_consumer.specs.declared.handshake.Dialed.{Dialed}
 use Rattle.dcp_producer.specs.Producers.{member_of}
-use Rattle.dcp_producer.specs.Serving.{acknowledged, count_answered, count_asked, counted_by, frame_answered, message_answered, row_answered, status_sent, stream_answered, stream_of, stream_request, weighed}
+use Rattle.dcp_producer.specs.Serving.{acknowledged, count_answered, count_requested, counted_by, frame_answered, message_answered, row_answered, status_sent, stream_answered, stream_of, stream_request, weighed}
 use Rattle.mcbp_dcp.specs.declared.message.DcpFault.{DcpFault}
 use Rattle.mcbp_dcp.specs.declared.message.DcpMsg.TheVariants as msg
 use Rattle.mcbp_dcp.specs.Rows.{dcp_opcodes}
-use Rattle.node_core.specs.Flushing.{FlushTold}
-use Rattle.node_core.specs.Peers.{PeerTold, PlainPeer, peer_answered, peer_frames, peer_heard}
-use Rattle.node_core.specs.Dials.{DialTold, PlainDial, acknowledged_line, adopt_told, again_told, all_told, asked_once_more, bytes_taken, call_made, dial_due, dial_fed, due_asked, due_met, due_told, end_told, fault_met, follower_ask, frame_taken, frames_taken, go_on_with, got_line, granted_with, is_broken, is_done, is_over, message_told, over_for, passive_made, rest_met as dial_met, roll_back, rolled_back, saved_told, step_made, taken_as, untold, with_consumer}
+use Rattle.node_core.specs.Flushing.{FlushResult}
+use Rattle.node_core.specs.Peers.{PeerResult, PlainPeer, peer_answered, peer_frames, peer_heard}
+use Rattle.node_core.specs.Dials.{DialResult, PlainDial, acknowledged_line, adopt_result, again_result, with_last_line, requested_once_more, bytes_taken, call_made, dial_due, dial_bytes, due_requested, due_met, due_of_reply, with_end_line, fault_met, follower_ask, frame_taken, frames_taken, go_on_with, got_line, granted_with, is_broken, is_done, is_over, message_result, over_for, passive_made, rest_met as dial_met, roll_back, rolled_back, saved_of_reply, step_made, taken_as, untold, with_consumer}
 use Rattle.node_core.specs.Dials.{with_left as with_heard}
 use Rattle.dcp_consumer.specs.Machine.{consumer_step, is_streaming, may_acknowledge, over_why}
 use Rattle.dcp_consumer.specs.declared.handshake.ConsumerStep.{ConsumerStep}
 use Rattle.dcp_consumer.specs.declared.handshake.ConsumerStep.TheVariants as step
 use Rattle.dcp_consumer.specs.declared.passive_stream.Passive.{Passive}
 use Rattle.dcp_consumer.specs.declared.passive_stream.Passive.TheVariants as passive
-use Rattle.node_world.specs.{Arms.{placed}, Links.{frame_up, frames_up, peer_asked, untold_peer}, Nodes.{all_posted, with_posts}, World.{down_in}}
+use Rattle.node_world.specs.{Arms.{placed}, Links.{frame_up, frames_up, frame_posted, untold_peer}, Nodes.{all_posted, with_posts}, World.{down_in}}
 use Rattle.transcript_law.proofs.lines.ClientLines.{AreOfClients, bytes_of_clients, posts_of_clients}
 use Rattle.vb_calls.specs.declared.calls.Resolved.{Resolved}
 use Rattle.vb_calls.specs.declared.calls.VbAnswer.TheVariants as answer
@@ -56,8 +56,8 @@ calm_more lines more c m = filter-append is_mishap lines more ∙ (λ i. c i ++ 
 pub fires_once : (lines : List Event) (line : Event) (more : List Event) → Calm lines → is_mishap line ≡ true → Calm more → mishaps (lines ++ line ∷ more) ≡ line ∷ []
 fires_once lines line more calm is rest = filter-append is_mishap lines (line ∷ more) ∙ (λ i. calm i ++ (if is i then line ∷ rest i else rest i))
 
-some_none : (line : Event) (lines : List Event) → line ∷ lines ≡ [] → ⊥
-some_none line lines e = cc
+some_is_not_none : (line : Event) (lines : List Event) → line ∷ lines ≡ [] → ⊥
+some_is_not_none line lines e = cc
 
 pub calm_map : {A : Type 0} (f : A → Event) (xs : List A) → ((x : A) → is_mishap (f x) ≡ false) → Calm (map f xs)
 calm_map f [] none = refl
@@ -76,9 +76,9 @@ still_more lines more c m = ap mishaps (filter-append is_other lines more) ∙ c
 
 pub calm_still : (lines : List Event) → Calm lines → Still lines
 calm_still [] c = refl
-calm_still (Event.CallFailed n ∷ lines) c = absurd (some_none (Event.CallFailed n) (mishaps lines) c)
-calm_still (Event.NodeStopped n ∷ lines) c = absurd (some_none (Event.NodeStopped n) (mishaps lines) c)
-calm_still (Event.Rolled n v named to ∷ lines) c = absurd (some_none (Event.Rolled n v named to) (mishaps lines) c)
+calm_still (Event.CallFailed n ∷ lines) c = absurd (some_is_not_none (Event.CallFailed n) (mishaps lines) c)
+calm_still (Event.NodeStopped n ∷ lines) c = absurd (some_is_not_none (Event.NodeStopped n) (mishaps lines) c)
+calm_still (Event.Rolled n v named to ∷ lines) c = absurd (some_is_not_none (Event.Rolled n v named to) (mishaps lines) c)
 calm_still (other ∷ lines) c = calm_still lines c
 
 -- one that tells of an arm, among others
@@ -105,18 +105,18 @@ clients_calm (other ∷ lines) c = absurd c.0
 pub bytes_calm : (c : ℕ) (bytes : List ℕ) (node : PlainNode) → Spared (bytes_at c bytes node).1
 bytes_calm c bytes node = by (node.clients c) (bytes_of_clients c bytes node)
   where
-    by : (o : Option PlainSession) → AreOfClients (fed_if c bytes node o).1.events → Spared (fed_if c bytes node o).1
+    by : (o : Option PlainSession) → AreOfClients (bytes_if c bytes node o).1.events → Spared (bytes_if c bytes node o).1
     by None a = refl
-    by (Some session) a = clients_calm (fed_if c bytes node (Some session)).1.events a
+    by (Some session) a = clients_calm (bytes_if c bytes node (Some session)).1.events a
 
 -- nor do those of outcomes that are posted
 pub all_posts_calm : (rs : List Resolved) (node : PlainNode) → Calm (all_posted rs node).1
 all_posts_calm rs node = clients_calm (all_posted rs node).1 (posts_of_clients rs node)
 
-pub posts_calm : (told : FlushTold) (node : PlainNode) → Calm told.events → Calm (with_posts told node).1.events
+pub posts_calm : (told : FlushResult) (node : PlainNode) → Calm told.events → Calm (with_posts told node).1.events
 posts_calm told node c = calm_more told.events (all_posted told.resolved node).1 c (all_posts_calm told.resolved node)
 
-pub posts_spared : (told : FlushTold) (node : PlainNode) → FiresAsSaid None told.events told.answer → Spared (with_posts told node).1
+pub posts_spared : (told : FlushResult) (node : PlainNode) → FiresAsSaid None told.events told.answer → Spared (with_posts told node).1
 posts_spared told node s = by told.answer s
   where
     by : (said : Answer) → FiresAsSaid None told.events said → FiresAsSaid None (told.events ++ (all_posted told.resolved node).1) said
@@ -146,7 +146,7 @@ ack_calm : (f : Frame) (seq : ℕ) (s : Served) → Producer s → Always AnyCal
 unfolding acknowledged status_sent
 ack_calm f seq s c = by (weighed seq (stream_of f.vb_or_status s.end.stream) (member_of s.end.handshake))
   where
-    by : (o : Result ℕ Status) → Always AnyCall Producer (count_asked f seq s o)
+    by : (o : Result ℕ Status) → Always AnyCall Producer (count_requested f seq s o)
     by (Err st) = c
     by (Ok member) = (tt, λ reply any. counted_calm f member seq s reply c)
 
@@ -179,7 +179,7 @@ answered_calm f s c = either (Always AnyCall Producer) (f.magic == RESPONSE) (Do
     read_calm (Some read) = either (Always AnyCall Producer) (f.datatype == 0) (row_answered f read s) _ (row_calm read) c
 
 -- one frame, and the outcomes that are posted with it
-asked_calm : (f : Frame) (peer : PlainPeer) (node : PlainNode) → Calm (peer_asked f peer node).1.events
+asked_calm : (f : Frame) (peer : PlainPeer) (node : PlainNode) → Calm (frame_posted f peer node).1.events
 asked_calm f peer node =
     let x = after (peer_answered f peer) node.vbs in
     calm_more x.1.events (all_posted x.1.resolved (with_states node x.0)).1
@@ -187,9 +187,9 @@ asked_calm f peer node =
     (always_bind AnyReply AnyCall Producer (λ t. Calm t.events) (frame_answered f (begun peer.producer)) _ (answered_calm f (begun peer.producer) refl) (λ s c. c)))
     (all_posts_calm x.1.resolved (with_states node x.0))
 
-frames_calm : (fs : List Frame) (came : PlainNode × PeerTold) → Calm came.1.events → Calm (frames_up fs came).1.events
+frames_calm : (fs : List Frame) (came : PlainNode × PeerResult) → Calm came.1.events → Calm (frames_up fs came).1.events
 frames_calm [] came c = c
-frames_calm (f ∷ fs) came c = frames_calm fs (frame_up f came) (calm_more came.1.events (peer_asked f came.1.peer came.0).1.events c (asked_calm f came.1.peer came.0))
+frames_calm (f ∷ fs) came c = frames_calm fs (frame_up f came) (calm_more came.1.events (frame_posted f came.1.peer came.0).1.events c (asked_calm f came.1.peer came.0))
 
 pub up_calm : (wanted : ℕ) (link : PlainLink) (node : PlainNode) → Spared (up_at wanted link node).1.1
 up_calm wanted link node =
@@ -210,7 +210,7 @@ module _ (s : Served) (c : Producer s) where
 
   take_calm : (stream : PlainStream) → Always AnyCall Turned (take_next s stream)
   unfolding marker_put
-  take_calm stream = (tt, λ reply any. by (snapshot_told reply))
+  take_calm stream = (tt, λ reply any. by (snapshot_of_reply reply))
     where
       by : (o : Result _ NoSnapshot) → Turned (taken_put s stream o)
       by (Err none) = halted_calm stream none
@@ -258,13 +258,13 @@ pump_calm frames link node =
 
 -- ---- a consumer
 
-abbrev Dial : DialTold → Type 0
+abbrev Dial : DialResult → Type 0
 Dial s = Still s.events
 
 abbrev pub AnyAsk : ℕ → Ask → Type 0
 AnyAsk v ask = Unit {0}
 
-abbrev Takes : Job DialTold → Type 0
+abbrev Takes : Job DialResult → Type 0
 Takes job = AlwaysJob AnyReply AnyCall AnyAsk Dial job
 
 -- of a job nothing need be known
@@ -275,33 +275,33 @@ any_job (Request v ask next) = (tt, λ got. any_job (next got))
 
 -- what it acknowledges, where no line of that matters
 module _ (P : List Event → Type 0) (acks : (lines : List Event) (d : Dialed) (seq saved : ℕ) → P lines → P (lines ++ acknowledged_line d seq saved ∷ [])) where
-  pub due_keeps : (s : DialTold) → P s.events → Always AnyCall (λ (t : DialTold). P t.events) (due_asked s)
-  unfolding due_asked
-  due_keeps s p = either (Always AnyCall (λ (t : DialTold). P t.events)) (is_streaming s.dial.consumer.handshake) _ (Done s) (tt, λ reply any. met (due_told reply)) p
+  pub due_keeps : (s : DialResult) → P s.events → Always AnyCall (λ (t : DialResult). P t.events) (due_requested s)
+  unfolding due_requested
+  due_keeps s p = either (Always AnyCall (λ (t : DialResult). P t.events)) (is_streaming s.dial.consumer.handshake) _ (Done s) (tt, λ reply any. met (due_of_reply reply)) p
     where
-      met : (seq : ℕ) → Always AnyCall (λ (t : DialTold). P t.events) (due_met s seq)
-      met seq = either (Always AnyCall (λ (t : DialTold). P t.events)) (may_acknowledge seq s.dial.consumer) _ (Done s) (tt, λ reply any. acks s.events s.dial.consumer.dialed seq (saved_told reply) p) p
+      met : (seq : ℕ) → Always AnyCall (λ (t : DialResult). P t.events) (due_met s seq)
+      met seq = either (Always AnyCall (λ (t : DialResult). P t.events)) (may_acknowledge seq s.dial.consumer) _ (Done s) (tt, λ reply any. acks s.events s.dial.consumer.dialed seq (saved_of_reply reply) p) p
 
-due_calm : (s : DialTold) → Dial s → Always AnyCall Dial (due_asked s)
+due_calm : (s : DialResult) → Dial s → Always AnyCall Dial (due_requested s)
 due_calm s c = due_keeps Still (λ lines d seq saved still. still_more lines (acknowledged_line d seq saved ∷ []) still refl) s c
 
 -- once more is written down
 pub dial_due_calm : (dial : PlainDial) (states : States) → Calm (after (dial_due dial) states).1.events
-dial_due_calm dial states = after_always AnyCall (λ (t : DialTold). Calm t.events) (dial_due dial) states
+dial_due_calm dial states = after_always AnyCall (λ (t : DialResult). Calm t.events) (dial_due dial) states
     (due_keeps Calm (λ lines d seq saved calm. calm_more lines (acknowledged_line d seq saved ∷ []) calm refl) (untold dial) refl)
 
-adopted_calm : (log : List LogEntry) (s : DialTold) → Dial s → Always AnyCall Dial (go_on_with log s)
+adopted_calm : (log : List LogEntry) (s : DialResult) → Dial s → Always AnyCall Dial (go_on_with log s)
 unfolding go_on_with
-adopted_calm log s c = (tt, λ reply any. due_calm (adopt_told log s reply) (either Dial (is_done reply) (granted_with log s) (over_for EndReason.Protocol s) (still_more s.events _ c refl) c))
+adopted_calm log s c = (tt, λ reply any. due_calm (adopt_result log s reply) (either Dial (is_done reply) (granted_with log s) (over_for EndReason.Protocol s) (still_more s.events _ c refl) c))
 
-again_calm : (s : DialTold) → Dial s → Always AnyCall Dial (asked_once_more s)
+again_calm : (s : DialResult) → Dial s → Always AnyCall Dial (requested_once_more s)
 again_calm s c = (tt, λ reply any. by (follower_ask reply))
   where
-    by : (o : Option StreamAsk) → Dial (again_told s o)
+    by : (o : Option StreamAsk) → Dial (again_result s o)
     by None = c
     by (Some ask) = c
 
-back_calm : (point : ℕ) (s : DialTold) → Dial s → Takes (roll_back point s)
+back_calm : (point : ℕ) (s : DialResult) → Dial s → Takes (roll_back point s)
 unfolding roll_back
 back_calm point s c = always_bind_job AnyReply AnyCall AnyAsk (λ came. Unit {0}) Dial (roll_job s.dial.consumer.dialed.vb point) (λ came. lift (rolled_back point s came)) (any_job (roll_job s.dial.consumer.dialed.vb point))
     (λ came any. always_lift AnyReply AnyCall AnyAsk Dial (rolled_back point s came) (by came))
@@ -313,51 +313,51 @@ back_calm point s c = always_bind_job AnyReply AnyCall AnyAsk (λ came. Unit {0}
     by rolled.DiskFailed = c
     by (rolled.Damaged place) = c
 
-passive_calm : (p : Passive) (s : DialTold) → Dial s → Always AnyCall Dial (passive_made p s)
+passive_calm : (p : Passive) (s : DialResult) → Dial s → Always AnyCall Dial (passive_made p s)
 unfolding call_made
-passive_calm (passive.Call x) s c = (tt, λ reply any. due_calm (message_told s reply) (by reply))
+passive_calm (passive.Call x) s c = (tt, λ reply any. due_calm (message_result s reply) (by reply))
   where
     taken : (reply : VbReply) (a : VbAnswer) → Dial (taken_as reply s a)
     taken reply (answer.Range ss se) = still_more s.events _ c refl
     taken reply answer.Done = still_more s.events _ c (calm_still (map (got_line s.dial.consumer.dialed) reply.changes) (calm_map (got_line s.dial.consumer.dialed) reply.changes (λ y. refl)))
     taken reply other = c
 
-    by : (reply : Option VbReply) → Dial (message_told s reply)
+    by : (reply : Option VbReply) → Dial (message_result s reply)
     by None = c
     by (Some reply) = taken reply reply.answer
 passive_calm other s c = c
 
-step_calm : (t : ConsumerStep) (s : DialTold) → Dial s → Takes (step_made t s)
+step_calm : (t : ConsumerStep) (s : DialResult) → Dial s → Takes (step_made t s)
 step_calm (step.Adopt log) s c = always_lift AnyReply AnyCall AnyAsk Dial (go_on_with log s) (adopted_calm log s c)
 step_calm (step.Roll point) s c = back_calm point s c
 step_calm (step.Passive p) s c = always_lift AnyReply AnyCall AnyAsk Dial (passive_made p s) (passive_calm p s c)
 step_calm other s c = c
 
-taken_calm : (f : Frame) (s : DialTold) → Dial s → Takes (frame_taken f s)
+taken_calm : (f : Frame) (s : DialResult) → Dial s → Takes (frame_taken f s)
 unfolding frame_taken
 taken_calm f s c = step_calm (consumer_step s.dial.consumer f).1 (with_consumer s (consumer_step s.dial.consumer f).0) c
 
-met_calm : (s : DialTold) → Dial s → Takes (dial_met s)
+met_calm : (s : DialResult) → Dial s → Takes (dial_met s)
 met_calm s c = last (fault_met (front_fault s.dial.heard) s) (fault (front_fault s.dial.heard))
   where
     fault : (o : Option FrameFault) → Dial (fault_met o s)
     fault None = c
     fault (Some x) = either Dial (is_over s.dial) s (over_for EndReason.Protocol s) c c
 
-    last : (t : DialTold) → Dial t → Dial (all_told t)
+    last : (t : DialResult) → Dial t → Dial (with_last_line t)
     last t d = by (over_why t.dial.consumer.handshake)
       where
-        by : (o : Option EndReason) → Dial (end_told o t)
+        by : (o : Option EndReason) → Dial (with_end_line o t)
         by None = d
         by (Some why) = either Dial (is_broken (Some why)) t _ d (still_more t.events _ d refl)
 
-dial_calm : (piece : List ℕ) (dial : PlainDial) → Takes (dial_fed piece dial)
+dial_calm : (piece : List ℕ) (dial : PlainDial) → Takes (dial_bytes piece dial)
 unfolding bytes_taken frames_taken
 dial_calm piece dial =
-    let bytes : List ℕ = dial.heard ++ piece in let s : DialTold = with_heard (untold dial) bytes in
+    let bytes : List ℕ = dial.heard ++ piece in let s : DialResult = with_heard (untold dial) bytes in
     always_bind_job AnyReply AnyCall AnyAsk Dial Dial (each_job frame_taken (frames_in bytes) s) dial_met (always_each_job AnyReply AnyCall AnyAsk Dial frame_taken taken_calm (frames_in bytes) (Ended s) refl) met_calm
 
 pub down_calm : (wanted : ℕ) (link : PlainLink) (node : PlainNode) → Still (down_in wanted link node).1.1.events
 down_calm wanted link node =
     let at : PlainNode = placed link.consumer.dialed.vb node in
-    after_job_always AnyCall AnyAsk Dial (dial_fed (take (moved_len wanted link.down) link.down) (dial_of link)) at.vbs at.shelves (dial_calm (take (moved_len wanted link.down) link.down) (dial_of link))
+    after_job_always AnyCall AnyAsk Dial (dial_bytes (take (moved_len wanted link.down) link.down) (dial_of link)) at.vbs at.shelves (dial_calm (take (moved_len wanted link.down) link.down) (dial_of link))

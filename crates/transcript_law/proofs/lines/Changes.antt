@@ -2,7 +2,7 @@
 use Rattle.std.specs.Prelude.{◌≡◌, ◌<◌, ◌∷◌, ◌++◌, ◌&&◌, if◌then◌else◌}
 use Rattle.transcript_law.proofs.Words.{ℕ, Bool, true, false, not, List, [], refl, image_of, ap, sym, ◌∙◌, subst, ⊎_elim, Option, Some, Change, Event, Chronicle, Role, ForksBelow, IsNew, LogEntry, option_map, after_change, after_lines, grow, hist, last_seq, map, with_at, IsIfKnown, LawfulChange, LawfulFrom}
 use Rattle.transcript_law.proofs.{invariant.Carried.{places}, invariant.Tables.{at_here, at_there}}
-use Rattle.transcript_law.specs.Chronicles.{CountsTold, DiskTold, after_calls, after_restart, broken_by, calls_of_append, is_off, spent, state_of, with_disk, with_record}
+use Rattle.transcript_law.specs.Chronicles.{CountsKnown, DiskKnown, after_calls, after_restart, broken_by, calls_of_append, is_off, spent, state_of, with_disk, with_record}
 use Rattle.{vb_disk.specs.declared.fuse.Fuse.{Fuse}, vb_types.specs.declared.journal.Record.{Record}}
 use Rattle.transcript_law.specs.Lawfulness.{Fulfils, IsHeldIfCommitted, LawfulBranch, fork_in, newest_of}
 use Rattle.vb_types.specs.declared.role.Role.TheVariants.{Active}
@@ -23,13 +23,13 @@ pub reads_same : (r : Chronicle) → Reads r r
 reads_same r = record { tree = refl; branch = refl; held = refl; writer = refl; role = refl; counts = refl; log = refl; snap = refl; saved = λ n v. refl }
 
 -- it reads of a disk what counts as saved alone
-pub saved_at : (disks : ℕ → ℕ → DiskTold) (n v : ℕ) (d : DiskTold) → d.saved ≡ (disks n v).saved → (m q : ℕ) → (with_at disks n v d m q).saved ≡ (disks m q).saved
+pub saved_at : (disks : ℕ → ℕ → DiskKnown) (n v : ℕ) (d : DiskKnown) → d.saved ≡ (disks n v).saved → (m q : ℕ) → (with_at disks n v d m q).saved ≡ (disks m q).saved
 saved_at disks n v d same m q = ⊎_elim
-    (λ s. (λ i. (with_at disks n v d (s.0 i) (s.1 i)).saved) ∙ ap (λ (x : DiskTold). x.saved) (at_here disks n v d) ∙ same ∙ sym (λ i. (disks (s.0 i) (s.1 i)).saved))
-    (λ o. ap (λ (x : DiskTold). x.saved) (at_there disks n v d m q o))
+    (λ s. (λ i. (with_at disks n v d (s.0 i) (s.1 i)).saved) ∙ ap (λ (x : DiskKnown). x.saved) (at_here disks n v d) ∙ same ∙ sym (λ i. (disks (s.0 i) (s.1 i)).saved))
+    (λ o. ap (λ (x : DiskKnown). x.saved) (at_there disks n v d m q o))
     (places n v m q)
 
-pub disk_reads : (r : Chronicle) (n v : ℕ) (d : DiskTold) → d.saved ≡ (r.disk_at n v).saved → Reads r (with_disk r n v d)
+pub disk_reads : (r : Chronicle) (n v : ℕ) (d : DiskKnown) → d.saved ≡ (r.disk_at n v).saved → Reads r (with_disk r n v d)
 disk_reads r n v d same = record { tree = refl; branch = refl; held = refl; writer = refl; role = refl; counts = refl; log = refl; snap = refl; saved = saved_at r.disk_at n v d same }
 
 -- and nothing of device calls
@@ -57,7 +57,7 @@ change_read q r n v uuid change s l = record {
   above_held = subst (λ (h : ℕ → ℕ → List Change). last_seq 0 (h n v) < change.seq) s.held l.above_held;
   above_forks = subst (ForksBelow uuid change.seq) s.tree l.above_forks;
   fulfils = subst (λ (h : ℕ → ℕ → List Change). Fulfils (image_of (h n v)) change) s.held l.fulfils;
-  backed = subst (λ (f : ℕ → ℕ → CountsTold). IsHeldIfCommitted (f n v) (q.disk_at n v).saved (image_of (q.held n v)) change) s.counts
+  backed = subst (λ (f : ℕ → ℕ → CountsKnown). IsHeldIfCommitted (f n v) (q.disk_at n v).saved (image_of (q.held n v)) change) s.counts
       (subst (λ k. IsHeldIfCommitted (r.counts_at n v) k (image_of (q.held n v)) change) (s.saved n v) (subst (λ (h : ℕ → ℕ → List Change). IsHeldIfCommitted (r.counts_at n v) (r.disk_at n v).saved (image_of (h n v)) change) s.held l.backed));
 }
 
@@ -86,7 +86,7 @@ restart_past r n v m q uuid (c ∷ cs) = restart_past (after_change r m q uuid c
 -- nor does that tell of what counts as saved
 pub restart_saved : (r : Chronicle) (n v m q : ℕ) → ((after_restart r n v).disk_at m q).saved ≡ (r.disk_at m q).saved
 restart_saved r n v m q =
-    let f : Fuse = (r.arm_at n).fuse in let d : DiskTold = r.disk_at n v in let s : Record = state_of r n v Active in let hit : Bool = is_off (spent calls_of_append f) && not (is_off f) in
+    let f : Fuse = (r.arm_at n).fuse in let d : DiskKnown = r.disk_at n v in let s : Record = state_of r n v Active in let hit : Bool = is_off (spent calls_of_append f) && not (is_off f) in
     saved_at r.disk_at n v (if hit then broken_by f (Some s) d else with_record s d) (elim hit as (λ b. (if b then broken_by f (Some s) d else with_record s d).saved ≡ d.saved) [ true ↦ refl | false ↦ refl ]) m q
 
 -- roles are told before them or behind them, and they tell of no arm

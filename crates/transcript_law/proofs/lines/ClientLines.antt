@@ -1,11 +1,11 @@
 -- lines of clients: of changes that they made, of answers to them, and of their connections that closed
 use Rattle.std.specs.Prelude.{◌≡◌, ◌∷◌, ◌++◌, ◌==◌, nat_le}
 use Rattle.transcript_law.proofs.Words.{ℕ, List, [], refl, ◌∙◌, map, flat_map, Option, Some, None, Result, Ok, Err, Frame, FrameFault, RESPONSE, KvRequest, Change, Event, Status, VbAnswer, VbReply, Done, PlainSession, ended_at}
-use Rattle.transcript_law.proofs.Words.{request_served, frame_served, bytes_served, told, PlainNode, bytes_at, fed_if, Chronicle, after_change, after_lines, branch_told, LawfulFrom}
+use Rattle.transcript_law.proofs.Words.{request_handled, frame_handled, bytes_handled, told, PlainNode, bytes_at, bytes_if, Chronicle, after_change, after_lines, branch_of_line, LawfulFrom}
 use Rattle.transcript_law.proofs.{lines.Changes.{Reads, change_read, reads_change}, lines.Lines.{AreQuiet}}
 use Rattle.client_session.proofs.{Conduct.{either}, Keeping.{bytes_keep, front_of, outcome_keeps}}
-use Rattle.client_session.specs.Answers.{asked_lines, change_lines, fault_lines, reply_line, reply_lines, reply_to, status_reply}
-use Rattle.client_session.specs.Serving.{MOST_DURABLE, Served, awaited_by, deadline_of, durable_answered, durable_called, durable_told, next_waiter, outcome_of, outcome_served, prepared_told, refused, served, with_lines, with_used}
+use Rattle.client_session.specs.Answers.{request_lines, change_lines, fault_lines, reply_line, reply_lines, reply_to, status_reply}
+use Rattle.client_session.specs.Serving.{MOST_DURABLE, Served, awaited_by, deadline_of, durable_answered, durable_called, durable_replied, next_waiter, outcome_of, outcome_handled, answered_or_awaited, refused, served, with_lines, with_used}
 use Rattle.client_session.specs.declared.session.{Awaited.{Awaited}, Settings.{Settings}}
 use Rattle.mcbp_frame.specs.{Frames.{faulty_head}, declared.frame.FaultyHead.{FaultyHead}}
 use Rattle.mcbp_kv.specs.{Requests.{request_of}, declared.reply.KvReply.{KvReply}}
@@ -46,7 +46,7 @@ clients_quiet (Event.Closed n k ∷ lines) c = (tt, clients_quiet lines c.1)
 clients_quiet (other ∷ lines) c = absurd c.0
 
 -- they tell of no branch
-pub clients_branched : (lines : List Event) → AreOfClients lines → flat_map branch_told lines ≡ []
+pub clients_branched : (lines : List Event) → AreOfClients lines → flat_map branch_of_line lines ≡ []
 clients_branched [] c = refl
 clients_branched (Event.Changed n v uuid change ∷ lines) c = clients_branched lines c.1
 clients_branched (Event.Reply n k bytes ∷ lines) c = clients_branched lines c.1
@@ -99,7 +99,7 @@ stored_of : (n v : ℕ) (a : VbAnswer) (cs : List Change) → AreOfClients (chan
 stored_of n v (answer.Stored uuid seq cas) cs = changes_of n v uuid cs
 stored_of n v other cs = tt
 
-asked_of : (n c : ℕ) (settings : Settings) (f : Frame) (reply : Option VbReply) → AreOfClients (asked_lines n c settings f reply)
+asked_of : (n c : ℕ) (settings : Settings) (f : Frame) (reply : Option VbReply) → AreOfClients (request_lines n c settings f reply)
 asked_of n c settings f None = replies_of n c (Some (status_reply f Status.NotMyVbucket))
 asked_of n c settings f (Some reply) = clients_more (change_lines n f.vb_or_status reply.answer reply.changes) (reply_lines n c (reply_to settings f reply.answer))
     (stored_of n f.vb_or_status reply.answer reply.changes) (replies_of n c (reply_to settings f reply.answer))
@@ -108,7 +108,7 @@ asked_of n c settings f (Some reply) = clients_more (change_lines n f.vb_or_stat
 abbrev OfClients : Served → Type 0
 OfClients s = AreOfClients s.events
 
-prepared_of : (a : Awaited) (how : Option Resolution) (s : Served) → OfClients s → OfClients (prepared_told a how s)
+prepared_of : (a : Awaited) (how : Option Resolution) (s : Served) → OfClients s → OfClients (answered_or_awaited a how s)
 unfolding reply_line
 prepared_of a None s o = o
 prepared_of a (Some how) s o = clients_more s.events _ o (tt, tt)
@@ -119,15 +119,15 @@ answered_of waiter f how (answer.Status st) s o = clients_more s.events _ o (tt,
 answered_of waiter f how (answer.Prepared seq cas) s o = prepared_of (awaited_by waiter f) how s o
 answered_of waiter f how other s o = o
 
-durable_of : (waiter : ℕ) (f : Frame) (s : Served) (reply : Option VbReply) → OfClients s → OfClients (durable_told waiter f s reply)
-unfolding durable_told reply_line
+durable_of : (waiter : ℕ) (f : Frame) (s : Served) (reply : Option VbReply) → OfClients s → OfClients (durable_replied waiter f s reply)
+unfolding durable_replied reply_line
 durable_of waiter f s None o = clients_more s.events _ o (tt, tt)
 durable_of waiter f s (Some reply) o =
     let changed : List Event = map (Event.Changed s.session.who.node f.vb_or_status reply.branch) reply.changes in
     answered_of waiter f (outcome_of waiter reply.resolved) reply.answer (with_lines s changed) (clients_more s.events changed o (changes_of s.session.who.node f.vb_or_status reply.branch reply.changes))
 
-request_of_clients : (clock : ℕ) (f : Frame) (q : Result KvRequest Status) (s : Served) → OfClients s → Always AnyCall OfClients (request_served clock f q s)
-unfolding request_served told reply_line
+request_of_clients : (clock : ℕ) (f : Frame) (q : Result KvRequest Status) (s : Served) → OfClients s → Always AnyCall OfClients (request_handled clock f q s)
+unfolding request_handled told reply_line
 request_of_clients clock f (Err st) s o = clients_more s.events _ o (tt, tt)
 request_of_clients clock f (Ok request.Noop) s o = clients_more s.events _ o (tt, tt)
 request_of_clients clock f (Ok (request.Hello features)) s o = clients_more s.events _ o (tt, tt)
@@ -138,18 +138,18 @@ request_of_clients clock f (Ok (request.Write write (Some wish))) s o =
     (durable_called f (call.Durable write clock wish.level (deadline_of clock wish.timeout) (next_waiter s.session)) s) (clients_more s.events _ o (tt, tt))
     (tt, λ reply any. durable_of (next_waiter s.session) f (with_used s) reply o)
 
-frame_of_clients : (clock : ℕ) (f : Frame) (s : Served) → OfClients s → Always AnyCall OfClients (frame_served clock f s)
-unfolding frame_served
-frame_of_clients clock f s o = either (Always AnyCall OfClients) (f.magic == RESPONSE) (Done s) (request_served clock f (request_of s.session.settings.json f) s) o
+frame_of_clients : (clock : ℕ) (f : Frame) (s : Served) → OfClients s → Always AnyCall OfClients (frame_handled clock f s)
+unfolding frame_handled
+frame_of_clients clock f s o = either (Always AnyCall OfClients) (f.magic == RESPONSE) (Done s) (request_handled clock f (request_of s.session.settings.json f) s) o
     (request_of_clients clock f (request_of s.session.settings.json f) s o)
 
 ended_of : (fault : FrameFault) (s : Served) → OfClients s → OfClients (ended_at (Some fault) s)
 ended_of fault s o = clients_more s.events _ o (faults_of s.session.who.node s.session.who.client (faulty_head fault s.session.reader))
 
-served_of : (clock : ℕ) (piece : List ℕ) (s : Served) → OfClients s → Always AnyCall OfClients (bytes_served clock piece s)
+served_of : (clock : ℕ) (piece : List ℕ) (s : Served) → OfClients s → Always AnyCall OfClients (bytes_handled clock piece s)
 served_of clock piece s o = bytes_keep AnyReply AnyCall OfClients clock (λ f t e p. frame_of_clients clock f (front_of f t) p) (λ fault t e p. ended_of fault t p) piece s o o
 
-outcome_of_clients : (clock : ℕ) (r : Resolved) (s : Served) → OfClients s → Always AnyCall OfClients (outcome_served clock r s)
+outcome_of_clients : (clock : ℕ) (r : Resolved) (s : Served) → OfClients s → Always AnyCall OfClients (outcome_handled clock r s)
 unfolding reply_line
 outcome_of_clients clock r s o = outcome_keeps AnyReply AnyCall OfClients clock (λ f t e p. frame_of_clients clock f (front_of f t) p) (λ fault t e p. ended_of fault t p) r s o
     (λ a e. clients_more s.events _ o (tt, tt))
@@ -158,9 +158,9 @@ outcome_of_clients clock r s o = outcome_keeps AnyReply AnyCall OfClients clock 
 pub bytes_of_clients : (c : ℕ) (bytes : List ℕ) (node : PlainNode) → AreOfClients (bytes_at c bytes node).1.events
 bytes_of_clients c bytes node = by (node.clients c)
   where
-    by : (o : Option PlainSession) → AreOfClients (fed_if c bytes node o).1.events
+    by : (o : Option PlainSession) → AreOfClients (bytes_if c bytes node o).1.events
     by None = tt
-    by (Some session) = after_always AnyCall OfClients (bytes_served node.clock bytes (served session [])) node.vbs (served_of node.clock bytes (served session []) tt)
+    by (Some session) = after_always AnyCall OfClients (bytes_handled node.clock bytes (served session [])) node.vbs (served_of node.clock bytes (served session []) tt)
 
 -- nor of outcomes that are posted
 posted_of : (r : Resolved) (node : PlainNode) (o : Option ℕ) → AreOfClients (posted_to r node o).1
@@ -169,7 +169,7 @@ posted_of r node (Some c) = by (node.clients c)
   where
     by : (o : Option PlainSession) → AreOfClients (posted_if c r node o).1
     by None = tt
-    by (Some session) = after_always AnyCall OfClients (outcome_served node.clock r (served session [])) node.vbs (outcome_of_clients node.clock r (served session []) tt)
+    by (Some session) = after_always AnyCall OfClients (outcome_handled node.clock r (served session [])) node.vbs (outcome_of_clients node.clock r (served session []) tt)
 
 pub posts_of_clients : (rs : List Resolved) (node : PlainNode) → AreOfClients (all_posted rs node).1
 posts_of_clients [] node = tt

@@ -1,16 +1,16 @@
 -- lines of links and streams tell nothing of the connections of clients, of a call that failed, and of a node that stopped, whatever the replies of vBuckets and journals
 use Rattle.std.specs.Prelude.{◌∷◌, ◌++◌, ◌==◌}
 use Rattle.transcript_law.proofs.Words.{ℕ, List, [], zero, suc, take, list_any, Option, Some, None, slice_get, Result, Ok, Err, Event, EndReason, Status, Change, Frame, FrameFault, RESPONSE, States, after, front_fault, frames_in, LogEntry, StreamAsk, VbAnswer, VbReply, PlainLink, PlainNode}
-use Rattle.transcript_law.proofs.Words.{Done, Turn, More, Stop, repeated, go_on, Handshake, Halt, DcpMsg, PlainStream, Served, begun, peer_pulled, peer_of, dial_of, moved_len, pump_at}
-use Rattle.transcript_law.proofs.Words.{stream_put, next_put, item_put, take_unless, taken_put, snapshot_told, pulled, act_message, place_halt, read_answered, opened_unless, controlled_as}
+use Rattle.transcript_law.proofs.Words.{Done, Turn, More, Stop, repeated, go_on, Handshake, Halt, NoSnapshot, DcpMsg, PlainStream, Served, begun, peer_pulled, peer_of, dial_of, moved_len, pump_at}
+use Rattle.transcript_law.proofs.Words.{stream_put, next_put, item_put, take_unless, taken_put, halted_put, snapshot_of_reply, pulled, act_message, place_halt, read_answered, opened_unless, controlled_as}
 use Rattle.dcp_producer.specs.Pulling.{end_put, frame_put, frames_put, marker_put, take_next}
 use Rattle.dcp_producer.specs.Producers.{member_of}
-use Rattle.dcp_producer.specs.Serving.{acknowledged, count_answered, count_asked, counted_by, frame_answered, message_answered, row_answered, status_sent, stream_answered, stream_of, stream_request, weighed}
+use Rattle.dcp_producer.specs.Serving.{acknowledged, count_answered, count_requested, counted_by, frame_answered, message_answered, row_answered, status_sent, stream_answered, stream_of, stream_request, weighed}
 use Rattle.mcbp_dcp.specs.declared.message.DcpFault.{DcpFault}
 use Rattle.mcbp_dcp.specs.declared.message.DcpMsg.TheVariants as msg
 use Rattle.mcbp_dcp.specs.Rows.{dcp_opcodes}
 use Rattle.node_core.specs.Peers.{PlainPeer, peer_answered}
-use Rattle.node_core.specs.Dials.{DialTold, PlainDial, acknowledged_line, adopt_told, again_told, all_told, asked_once_more, bytes_taken, call_made, dial_due, dial_fed, due_asked, end_told, fault_met, follower_ask, frame_taken, frames_taken, go_on_with, got_line, granted_with, is_broken, is_done, is_over, message_told, over_for, passive_made, rest_met as dial_met, roll_back, rolled_back, step_made, taken_as, untold, with_consumer}
+use Rattle.node_core.specs.Dials.{DialResult, PlainDial, acknowledged_line, adopt_result, again_result, with_last_line, requested_once_more, bytes_taken, call_made, dial_due, dial_bytes, due_requested, with_end_line, fault_met, follower_ask, frame_taken, frames_taken, go_on_with, got_line, granted_with, is_broken, is_done, is_over, message_result, over_for, passive_made, rest_met as dial_met, roll_back, rolled_back, step_made, taken_as, untold, with_consumer}
 use Rattle.node_core.specs.Dials.{with_left as with_heard}
 use Rattle.dcp_consumer.specs.Machine.{consumer_step, over_why}
 use Rattle.dcp_consumer.specs.declared.handshake.ConsumerStep.{ConsumerStep}
@@ -50,7 +50,7 @@ ack_mute : (f : Frame) (seq : ℕ) (s : Served) → Producer s → Always AnyCal
 unfolding acknowledged status_sent
 ack_mute f seq s c = by (weighed seq (stream_of f.vb_or_status s.end.stream) (member_of s.end.handshake))
   where
-    by : (o : Result ℕ Status) → Always AnyCall Producer (count_asked f seq s o)
+    by : (o : Result ℕ Status) → Always AnyCall Producer (count_requested f seq s o)
     by (Err st) = c
     by (Ok member) = (tt, λ reply any. counted_mute f member seq s reply c)
 
@@ -94,12 +94,17 @@ Turned (More s) = Producer s
 Turned (Stop stopped) = Producer stopped.0
 
 module _ (s : Served) (c : Producer s) where
+  halted_mute : (stream : PlainStream) (none : NoSnapshot) → Turned (halted_put s stream none)
+  unfolding end_put
+  halted_mute stream NoSnapshot.Lost = mute_more s.events _ c (tt, tt)
+  halted_mute stream (NoSnapshot.Halted halted) = c
+
   take_mute : (stream : PlainStream) → Always AnyCall Turned (take_next s stream)
   unfolding marker_put
-  take_mute stream = (tt, λ reply any. by (snapshot_told reply))
+  take_mute stream = (tt, λ reply any. by (snapshot_of_reply reply))
     where
-      by : (o : Result _ Halt) → Turned (taken_put s stream o)
-      by (Err halted) = c
+      by : (o : Result _ NoSnapshot) → Turned (taken_put s stream o)
+      by (Err none) = halted_mute stream none
       by (Ok snapshot) = mute_more s.events _ c (tt, tt)
 
   next_mute : (stream : PlainStream) (o : Option Change) → Always AnyCall Turned (next_put s stream o)
@@ -111,9 +116,9 @@ module _ (s : Served) (c : Producer s) where
       by (Some m) = mute_more s.events _ c (tt, tt)
   next_mute stream None = either (Always AnyCall Turned) stream.ended (Done (More (end_put s stream))) _ (mute_more s.events _ c (tt, tt)) (tt, λ reply any. by (place_halt reply))
     where
-      by : (o : Option Halt) → Always AnyCall Turned (take_unless s stream o)
+      by : (o : Option NoSnapshot) → Always AnyCall Turned (take_unless s stream o)
       by None = take_mute stream
-      by (Some h) = c
+      by (Some none) = halted_mute stream none
 
   turn_mute : Always AnyCall Turned (frame_put s)
   unfolding frame_put
@@ -144,32 +149,32 @@ pump_mute frames link node =
 
 -- ---- a consumer
 
-abbrev Dial : DialTold → Type 0
+abbrev Dial : DialResult → Type 0
 Dial s = AreMute s.events
 
-abbrev Takes : Job DialTold → Type 0
+abbrev Takes : Job DialResult → Type 0
 Takes job = AlwaysJob AnyReply AnyCall AnyAsk Dial job
 
 -- what it acknowledges
-asks_mute : (s : DialTold) → Dial s → Always AnyCall Dial (due_asked s)
+asks_mute : (s : DialResult) → Dial s → Always AnyCall Dial (due_requested s)
 asks_mute s c = due_keeps AreMute (λ lines d seq saved m. mute_more lines (acknowledged_line d seq saved ∷ []) m (tt, tt)) s c
 
 -- once more is written down
 pub due_mute : (dial : PlainDial) (states : States) → AreMute (after (dial_due dial) states).1.events
-due_mute dial states = after_always AnyCall (λ (t : DialTold). AreMute t.events) (dial_due dial) states (asks_mute (untold dial) tt)
+due_mute dial states = after_always AnyCall (λ (t : DialResult). AreMute t.events) (dial_due dial) states (asks_mute (untold dial) tt)
 
-adopted_mute : (log : List LogEntry) (s : DialTold) → Dial s → Always AnyCall Dial (go_on_with log s)
+adopted_mute : (log : List LogEntry) (s : DialResult) → Dial s → Always AnyCall Dial (go_on_with log s)
 unfolding go_on_with
-adopted_mute log s c = (tt, λ reply any. asks_mute (adopt_told log s reply) (either Dial (is_done reply) (granted_with log s) (over_for EndReason.Protocol s) (mute_more s.events _ c (tt, tt)) c))
+adopted_mute log s c = (tt, λ reply any. asks_mute (adopt_result log s reply) (either Dial (is_done reply) (granted_with log s) (over_for EndReason.Protocol s) (mute_more s.events _ c (tt, tt)) c))
 
-again_mute : (s : DialTold) → Dial s → Always AnyCall Dial (asked_once_more s)
+again_mute : (s : DialResult) → Dial s → Always AnyCall Dial (requested_once_more s)
 again_mute s c = (tt, λ reply any. by (follower_ask reply))
   where
-    by : (o : Option StreamAsk) → Dial (again_told s o)
+    by : (o : Option StreamAsk) → Dial (again_result s o)
     by None = c
     by (Some ask) = c
 
-back_mute : (point : ℕ) (s : DialTold) → Dial s → Takes (roll_back point s)
+back_mute : (point : ℕ) (s : DialResult) → Dial s → Takes (roll_back point s)
 unfolding roll_back
 back_mute point s c = always_bind_job AnyReply AnyCall AnyAsk (λ came. Unit {0}) Dial (roll_job s.dial.consumer.dialed.vb point) (λ came. lift (rolled_back point s came)) (any_job (roll_job s.dial.consumer.dialed.vb point))
     (λ came any. always_lift AnyReply AnyCall AnyAsk Dial (rolled_back point s came) (by came))
@@ -181,51 +186,51 @@ back_mute point s c = always_bind_job AnyReply AnyCall AnyAsk (λ came. Unit {0}
     by rolled.DiskFailed = c
     by (rolled.Damaged place) = c
 
-passive_mute : (p : Passive) (s : DialTold) → Dial s → Always AnyCall Dial (passive_made p s)
+passive_mute : (p : Passive) (s : DialResult) → Dial s → Always AnyCall Dial (passive_made p s)
 unfolding call_made
-passive_mute (passive.Call x) s c = (tt, λ reply any. asks_mute (message_told s reply) (by reply))
+passive_mute (passive.Call x) s c = (tt, λ reply any. asks_mute (message_result s reply) (by reply))
   where
     taken : (reply : VbReply) (a : VbAnswer) → Dial (taken_as reply s a)
     taken reply (answer.Range ss se) = mute_more s.events _ c (tt, tt)
     taken reply answer.Done = mute_more s.events _ c (mute_map (got_line s.dial.consumer.dialed) reply.changes (λ y. tt))
     taken reply other = c
 
-    by : (reply : Option VbReply) → Dial (message_told s reply)
+    by : (reply : Option VbReply) → Dial (message_result s reply)
     by None = c
     by (Some reply) = taken reply reply.answer
 passive_mute other s c = c
 
-step_mute : (t : ConsumerStep) (s : DialTold) → Dial s → Takes (step_made t s)
+step_mute : (t : ConsumerStep) (s : DialResult) → Dial s → Takes (step_made t s)
 step_mute (step.Adopt log) s c = always_lift AnyReply AnyCall AnyAsk Dial (go_on_with log s) (adopted_mute log s c)
 step_mute (step.Roll point) s c = back_mute point s c
 step_mute (step.Passive p) s c = always_lift AnyReply AnyCall AnyAsk Dial (passive_made p s) (passive_mute p s c)
 step_mute other s c = c
 
-taken_mute : (f : Frame) (s : DialTold) → Dial s → Takes (frame_taken f s)
+taken_mute : (f : Frame) (s : DialResult) → Dial s → Takes (frame_taken f s)
 unfolding frame_taken
 taken_mute f s c = step_mute (consumer_step s.dial.consumer f).1 (with_consumer s (consumer_step s.dial.consumer f).0) c
 
-met_mute : (s : DialTold) → Dial s → Takes (dial_met s)
+met_mute : (s : DialResult) → Dial s → Takes (dial_met s)
 met_mute s c = last (fault_met (front_fault s.dial.heard) s) (fault (front_fault s.dial.heard))
   where
     fault : (o : Option FrameFault) → Dial (fault_met o s)
     fault None = c
     fault (Some x) = either Dial (is_over s.dial) s (over_for EndReason.Protocol s) c c
 
-    last : (t : DialTold) → Dial t → Dial (all_told t)
+    last : (t : DialResult) → Dial t → Dial (with_last_line t)
     last t d = by (over_why t.dial.consumer.handshake)
       where
-        by : (o : Option EndReason) → Dial (end_told o t)
+        by : (o : Option EndReason) → Dial (with_end_line o t)
         by None = d
         by (Some why) = either Dial (is_broken (Some why)) t _ d (mute_more t.events _ d (tt, tt))
 
-dial_mute : (piece : List ℕ) (dial : PlainDial) → Takes (dial_fed piece dial)
+dial_mute : (piece : List ℕ) (dial : PlainDial) → Takes (dial_bytes piece dial)
 unfolding bytes_taken frames_taken
 dial_mute piece dial =
-    let bytes : List ℕ = dial.heard ++ piece in let s : DialTold = with_heard (untold dial) bytes in
+    let bytes : List ℕ = dial.heard ++ piece in let s : DialResult = with_heard (untold dial) bytes in
     always_bind_job AnyReply AnyCall AnyAsk Dial Dial (each_job frame_taken (frames_in bytes) s) dial_met (always_each_job AnyReply AnyCall AnyAsk Dial frame_taken taken_mute (frames_in bytes) (Ended s) tt) met_mute
 
 pub down_mute : (wanted : ℕ) (link : PlainLink) (node : PlainNode) → AreMute (down_in wanted link node).1.1.events
 down_mute wanted link node =
     let at : PlainNode = placed link.consumer.dialed.vb node in
-    after_job_always AnyCall AnyAsk Dial (dial_fed (take (moved_len wanted link.down) link.down) (dial_of link)) at.vbs at.shelves (dial_mute (take (moved_len wanted link.down) link.down) (dial_of link))
+    after_job_always AnyCall AnyAsk Dial (dial_bytes (take (moved_len wanted link.down) link.down) (dial_of link)) at.vbs at.shelves (dial_mute (take (moved_len wanted link.down) link.down) (dial_of link))

@@ -1,6 +1,6 @@
 -- what is told of lines, and what is left by one that is refused
 use Rattle.std.specs.Prelude.{◌≡◌, ◌==◌, if◌then◌else◌, option_map}
-use Rattle.transcript_law.proofs.Words.{ℕ, Bool, true, false, [], refl, ap, sym, ◌∙◌, subst, eqb-true, Option, Some, None, Answer, Cause, Told, PlainNode, PlainWorld, PlainLink, LinkTold, link_number, with_node_at, on_node, on_link, refusal, refused_or}
+use Rattle.transcript_law.proofs.Words.{ℕ, Bool, true, false, [], refl, ap, sym, ◌∙◌, subst, eqb-true, Option, Some, None, Answer, Cause, Told, PlainNode, PlainWorld, PlainLink, LinkResult, link_number, with_node_at, on_node, on_link, refusal, refused_or}
 use Rattle.disk_journals.specs.Arms.{arm_over, armed_at, fuse_at, under}
 use Rattle.node_world.specs.Arms.{fired_by, fuse_or, lifted, placed}
 use Rattle.node_world.specs.Power.{after_broken, after_fire, is_broken_answer, with_arm, with_broken}
@@ -62,7 +62,7 @@ on_node_says P w n f refuses says = on_node_by (Says P (Same w)) w n f (refuses 
     (λ node known up. ((says node known).0, λ why e s. let x = (says node known).1 why e s in (subst (λ (k : PlainNode). Same w (with_node_at w n k)) (sym x.0) (node_same w n node known), x.1)))
 
 -- the node at the end of an open link refuses nothing
-pub on_link_says : (P : Told → Type 0) (w : PlainWorld) (l : ℕ) (end : PlainLink → ℕ) (f : PlainLink → PlainNode → PlainNode × LinkTold) → Refuses P
+pub on_link_says : (P : Told → Type 0) (w : PlainWorld) (l : ℕ) (end : PlainLink → ℕ) (f : PlainLink → PlainNode → PlainNode × LinkResult) → Refuses P
     → ((link : PlainLink) (node : PlainNode) → CarriesOut P (f link node).1.1) → Says P (Same w) (on_link w l end f)
 on_link_says P w l end f refuses says = on_link_by (Says P (Same w)) w l end f (refuses Cause.LinkClosed, λ why e s. (unchanged w, refl))
     (λ link found. (refuses Cause.UnknownNode, λ why e s. ((λ n. refl, refl, put_same (link_number link) w.links link found), refl)))

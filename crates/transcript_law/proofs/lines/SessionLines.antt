@@ -1,9 +1,9 @@
 -- what is told of a client's connection while it is served: it is told as the one that it is, and last that it closed, where it did
 use Rattle.std.specs.Prelude.{◌≡◌, ◌∷◌, ◌++◌, ◌==◌, nat_le}
-use Rattle.transcript_law.proofs.Words.{ℕ, Bool, true, false, List, [], refl, ap, sym, ◌∙◌, subst, map, not, append_assoc, Option, Some, None, Result, Ok, Err, Change, Event, Frame, FrameFault, KvRequest, RESPONSE, Status, VbAnswer, VbReply, Done, States, after, bytes_served, request_served, frame_served, told, ended_at, PlainSession}
+use Rattle.transcript_law.proofs.Words.{ℕ, Bool, true, false, List, [], refl, ap, sym, ◌∙◌, subst, map, not, append_assoc, Option, Some, None, Result, Ok, Err, Change, Event, Frame, FrameFault, KvRequest, RESPONSE, Status, VbAnswer, VbReply, Done, States, after, bytes_handled, request_handled, frame_handled, told, ended_at, PlainSession}
 use Rattle.client_session.proofs.{Conduct.{Stays, either, frame_stays}, Keeping.{bytes_go, front_of, outcome_goes}}
-use Rattle.client_session.specs.Answers.{asked_lines, change_lines, fault_lines, reply_line, reply_lines, reply_to, status_reply}
-use Rattle.client_session.specs.Serving.{Served, MOST_DURABLE, awaited_by, deadline_of, durable_answered, durable_called, durable_told, next_waiter, outcome_of, outcome_served, outcome_told, prepared_told, refused, served, with_bytes, with_lines, with_used}
+use Rattle.client_session.specs.Answers.{request_lines, change_lines, fault_lines, reply_line, reply_lines, reply_to, status_reply}
+use Rattle.client_session.specs.Serving.{Served, MOST_DURABLE, awaited_by, deadline_of, durable_answered, durable_called, durable_replied, next_waiter, outcome_of, outcome_handled, outcome_answered, answered_or_awaited, refused, served, with_bytes, with_lines, with_used}
 use Rattle.client_session.specs.declared.session.{Awaited.{Awaited}, Settings.{Settings}}
 use Rattle.mcbp_frame.specs.Frames.{faulty_head, first_frame}
 use Rattle.mcbp_frame.specs.declared.frame.FaultyHead.{FaultyHead}
@@ -70,7 +70,7 @@ module _ (n c : ℕ) where
   stored_to m v (answer.Stored uuid seq cas) cs = changes_to m v uuid cs
   stored_to m v other cs = tt
 
-  asked_to : (m d : ℕ) (settings : Settings) (f : Frame) (reply : Option VbReply) → m ≡ n → d ≡ c → AreTo n c (asked_lines m d settings f reply)
+  asked_to : (m d : ℕ) (settings : Settings) (f : Frame) (reply : Option VbReply) → m ≡ n → d ≡ c → AreTo n c (request_lines m d settings f reply)
   asked_to m d settings f None e g = replies_to m d (Some (status_reply f Status.NotMyVbucket)) e g
   asked_to m d settings f (Some reply) e g = to_more (change_lines m f.vb_or_status reply.answer reply.changes) (reply_lines m d (reply_to settings f reply.answer))
       (stored_to m f.vb_or_status reply.answer reply.changes) (replies_to m d (reply_to settings f reply.answer) e g)
@@ -79,7 +79,7 @@ module _ (n c : ℕ) where
   said_to : (s : Served) (reply : KvReply) → IsOpen n c s → AreTo n c (s.events ++ reply_line s.session.who.node s.session.who.client reply ∷ [])
   said_to s reply o = to_more s.events (reply_line s.session.who.node s.session.who.client reply ∷ []) o.2 (replied s.session.who.node s.session.who.client reply o.0 o.1)
 
-  prepared_to : (a : Awaited) (how : Option Resolution) (s : Served) → IsOpen n c s → IsOpen n c (prepared_told a how s)
+  prepared_to : (a : Awaited) (how : Option Resolution) (s : Served) → IsOpen n c s → IsOpen n c (answered_or_awaited a how s)
   prepared_to a None s o = o
   prepared_to a (Some how) s o = (o.0, o.1, said_to s _ o)
 
@@ -88,16 +88,16 @@ module _ (n c : ℕ) where
   answered_to waiter f how (answer.Prepared seq cas) s o = prepared_to (awaited_by waiter f) how s o
   answered_to waiter f how other s o = o
 
-  durable_to : (waiter : ℕ) (f : Frame) (s : Served) (reply : Option VbReply) → IsOpen n c s → IsOpen n c (durable_told waiter f s reply)
-  unfolding durable_told
+  durable_to : (waiter : ℕ) (f : Frame) (s : Served) (reply : Option VbReply) → IsOpen n c s → IsOpen n c (durable_replied waiter f s reply)
+  unfolding durable_replied
   durable_to waiter f s None o = (o.0, o.1, said_to s _ o)
   durable_to waiter f s (Some reply) o =
       let changed : List Event = map (Event.Changed s.session.who.node f.vb_or_status reply.branch) reply.changes in
       answered_to waiter f (outcome_of waiter reply.resolved) reply.answer (with_lines s changed)
       (o.0, o.1, to_more s.events changed o.2 (changes_to s.session.who.node f.vb_or_status reply.branch reply.changes))
 
-  request_to : (clock : ℕ) (f : Frame) (q : Result KvRequest Status) (s : Served) → IsOpen n c s → Always AnyCall (IsOpen n c) (request_served clock f q s)
-  unfolding request_served told
+  request_to : (clock : ℕ) (f : Frame) (q : Result KvRequest Status) (s : Served) → IsOpen n c s → Always AnyCall (IsOpen n c) (request_handled clock f q s)
+  unfolding request_handled told
   request_to clock f (Err st) s o = (o.0, o.1, said_to s _ o)
   request_to clock f (Ok request.Noop) s o = (o.0, o.1, said_to s _ o)
   request_to clock f (Ok (request.Hello features)) s o = (o.0, o.1, said_to s _ o)
@@ -108,9 +108,9 @@ module _ (n c : ℕ) where
       (durable_called f (call.Durable write clock wish.level (deadline_of clock wish.timeout) (next_waiter s.session)) s) (o.0, o.1, said_to s _ o)
       (tt, λ reply any. durable_to (next_waiter s.session) f (with_used s) reply o)
 
-  frame_to : (clock : ℕ) (f : Frame) (s : Served) → IsOpen n c s → Always AnyCall (IsOpen n c) (frame_served clock f s)
-  unfolding frame_served
-  frame_to clock f s o = either (Always AnyCall (IsOpen n c)) (f.magic == RESPONSE) (Done s) (request_served clock f (request_of s.session.settings.json f) s) o
+  frame_to : (clock : ℕ) (f : Frame) (s : Served) → IsOpen n c s → Always AnyCall (IsOpen n c) (frame_handled clock f s)
+  unfolding frame_handled
+  frame_to clock f s o = either (Always AnyCall (IsOpen n c)) (f.magic == RESPONSE) (Done s) (request_handled clock f (request_of s.session.settings.json f) s) o
       (request_to clock f (request_of s.session.settings.json f) s o)
 
   -- the connection closes behind a fault
@@ -127,18 +127,18 @@ module _ (n c : ℕ) where
   open_at states s e o = (o.0, o.1, subst (λ b. Left n c b s.session.reader s.events) (sym e) o.2)
 
   module _ (clock : ℕ) where
-    framed : (f : Frame) (states : States) (s : Served) → first_frame s.session.reader ≡ Some (Ok f) → At n c (states, s) → At n c (after (frame_served clock f (front_of f s)) states)
+    framed : (f : Frame) (states : States) (s : Served) → first_frame s.session.reader ≡ Some (Ok f) → At n c (states, s) → At n c (after (frame_handled clock f (front_of f s)) states)
     framed f states s first p = by s.session.closed refl
       where
         x : States × Served
-        x = after (frame_served clock f (front_of f s)) states
+        x = after (frame_handled clock f (front_of f s)) states
 
         by : (b : Bool) → s.session.closed ≡ b → At n c x
         by true e = absurd (none_first s.session.reader (Ok f) (subst (λ b. Left n c b s.session.reader s.events) e p.2).0 first)
         by false e =
-            let stays : Stays (front_of f s) x.1 = after_always AnyCall (Stays (front_of f s)) (frame_served clock f (front_of f s)) states
+            let stays : Stays (front_of f s) x.1 = after_always AnyCall (Stays (front_of f s)) (frame_handled clock f (front_of f s)) states
             (frame_stays (front_of f s) clock f (front_of f s) (record { who = refl; reader = refl; closed = refl })) in
-            open_at x.0 x.1 (stays.closed ∙ e) (after_always AnyCall (IsOpen n c) (frame_served clock f (front_of f s)) states
+            open_at x.0 x.1 (stays.closed ∙ e) (after_always AnyCall (IsOpen n c) (frame_handled clock f (front_of f s)) states
             (frame_to clock f (front_of f s) (p.0, p.1, subst (λ b. Left n c b s.session.reader s.events) e p.2)))
 
     faulty : (fault : FrameFault) (states : States) (s : Served) → first_frame s.session.reader ≡ Some (Err fault) → At n c (states, s) → At n c (states, ended_at (Some fault) s)
@@ -150,13 +150,13 @@ module _ (n c : ℕ) where
 
     -- an open connection that is given bytes, or told an outcome
     module _ (session : PlainSession) (states : States) (node : session.who.node ≡ n) (client : session.who.client ≡ c) (opened : session.closed ≡ false) where
-      pub served_at : (piece : List ℕ) → At n c (after (bytes_served clock piece (served session [])) states)
+      pub served_at : (piece : List ℕ) → At n c (after (bytes_handled clock piece (served session [])) states)
       served_at piece = bytes_go (At n c) clock framed faulty piece (served session []) states (open_at states (served session []) opened (node, client, tt))
           (open_at states (with_bytes (session.reader ++ piece) (served session [])) opened (node, client, tt))
 
-      pub outcome_at : (r : Resolved) → At n c (after (outcome_served clock r (served session [])) states)
+      pub outcome_at : (r : Resolved) → At n c (after (outcome_handled clock r (served session [])) states)
       outcome_at r = outcome_goes (At n c) clock framed faulty r (served session []) states (open_at states (served session []) opened (node, client, tt))
-          (λ a e. open_at states (outcome_told a r.how (served session [])) opened (node, client, said_to (served session []) _ (node, client, tt)))
+          (λ a e. open_at states (outcome_answered a r.how (served session [])) opened (node, client, said_to (served session []) _ (node, client, tt)))
 
 -- ---- what these lines say, where the connection was told open
 

@@ -1,19 +1,19 @@
 -- what a consumer acknowledges in the course of a line `down`
 use Rattle.std.specs.Prelude.{◌≡◌, ◌<◌, ◌≤◌, ◌∷◌, ◌++◌, ◌^◌}
 use Rattle.transcript_law.proofs.Words.{ℕ, true, false, List, [], refl, ap, sym, ◌∙◌, subst, append_assoc, None, Frame, spelling, Event, Sound, fork_of, States, after, after_job, after_job_lift, lift}
-use Rattle.transcript_law.proofs.Words.{DialTold, Chronicle, after_lines, image_in}
+use Rattle.transcript_law.proofs.Words.{DialResult, Chronicle, after_lines, image_in}
 use Rattle.transcript_law.proofs.invariant.Agreement.{AgreesAt, VbAgrees, LinkAgrees, consumer_seat, AgreesIn}
 use Rattle.transcript_law.proofs.{links.Acknowledging.{DueCame, ack_frame, acked_agrees, ack_lawful, due_came}, invariant.LinkRows.{put_twice}}
 use Rattle.transcript_law.proofs.{links.Downing.{Asker, Going, Line, Reached, busy_at, found_now, link_now, linked, now, so_far, vb_here}, lines.Lines.{after_more, lawful_more, quiet_more}, links.Onward.{Kept, onward_more}}
 use Rattle.transcript_law.specs.Lawfulness.{SavesThirds}
-use Rattle.{dcp_consumer.specs.Machine.{is_streaming}, node_core.specs.Dials.{acknowledged_line, acknowledged_told, due_asked}}
+use Rattle.{dcp_consumer.specs.Machine.{is_streaming}, node_core.specs.Dials.{acknowledged_line, acknowledged_result, due_requested}}
 
 -- a line `down` is in its course: what is due now
 module _ (line : Line) (rest : List Frame) (states : Kept) (at : Asker) (events : List Event) (g : Going line rest states at events) where
   open line use {w, r, link}
   open line.link.consumer.dialed use {node as n, vb as v, link as l}
 
-  abbrev s : DialTold
+  abbrev s : DialResult
   s = so_far line at None events
 
   abbrev told : Chronicle
@@ -28,13 +28,13 @@ module _ (line : Line) (rest : List Frame) (states : Kept) (at : Asker) (events 
   sound : Sound mine.follower
   sound = held.sound
 
-  abbrev came : Kept × DialTold
-  came = after_job (lift (due_asked s)) states.0 states.1
+  abbrev came : Kept × DialResult
+  came = after_job (lift (due_requested s)) states.0 states.1
 
-  came_is : (y : States × DialTold) → after (due_asked s) states.0 ≡ y → came ≡ ((y.0, states.1), y.1)
-  came_is y e = after_job_lift (due_asked s) states.0 states.1 ∙ ap (λ y. ((y.0, states.1), y.1)) e
+  came_is : (y : States × DialResult) → after (due_requested s) states.0 ≡ y → came ≡ ((y.0, states.1), y.1)
+  came_is y e = after_job_lift (due_requested s) states.0 states.1 ∙ ap (λ y. ((y.0, states.1), y.1)) e
 
-  acked_on : (seq : ℕ) → is_streaming at.waiting ≡ true → seq < 2 ^ 64 → seq ≤ fork_of mine.follower.position → SavesThirds (image_in mine.follower) seq mine.follower.saved → after (due_asked s) states.0 ≡ (states.0, acknowledged_told seq s mine.follower.saved)
+  acked_on : (seq : ℕ) → is_streaming at.waiting ≡ true → seq < 2 ^ 64 → seq ≤ fork_of mine.follower.position → SavesThirds (image_in mine.follower) seq mine.follower.saved → after (due_requested s) states.0 ≡ (states.0, acknowledged_result seq s mine.follower.saved)
       → Reached line rest came
   acked_on seq granted low shared thirds e =
       let saved : ℕ = mine.follower.saved in
@@ -46,7 +46,7 @@ module _ (line : Line) (rest : List Frame) (states : Kept) (at : Asker) (events 
         at = at';
         over = None;
         events = events ++ tell ∷ [];
-        same = came_is (states.0, acknowledged_told seq s saved) e;
+        same = came_is (states.0, acknowledged_result seq s saved) e;
         rolled = false;
         stage = record {
           lawful = lawful_more r events (tell ∷ []) g.quiet g.lawful (ack_lawful (busy_at line rest) (now line states at) told g.cluster g.agrees (link_now line at) [] rest mine seq granted shared thirds, tt);
@@ -64,6 +64,6 @@ module _ (line : Line) (rest : List Frame) (states : Kept) (at : Asker) (events 
   pub due_going : Reached line rest came
   due_going = by (due_came states.0 mine.follower s (vb_here line states at mine.follower mine.follower_is) mine.follows sound)
     where
-      by : DueCame states.0 mine.follower s (after (due_asked s) states.0) → Reached line rest came
+      by : DueCame states.0 mine.follower s (after (due_requested s) states.0) → Reached line rest came
       by (DueCame.IsSilent e) = record { states = states; at = at; over = None; events = events; same = came_is (states.0, s) e; rolled = false; stage = g }
       by (DueCame.IsAcked seq granted low shared thirds e) = acked_on seq granted low shared thirds e

@@ -2,16 +2,16 @@
 use Rattle.std.specs.Prelude.{◌≡◌, ◌<◌, ◌≤◌, ◌∷◌, ◌++◌, ◌==◌, ◌^◌, if◌then◌else◌}
 use Rattle.std.specs.FinMap as finite
 use Rattle.transcript_law.proofs.Words.{ℕ, Bool, true, false, zero, suc, List, [], refl, ap, sym, ◌∙◌, subst, inl, inr, ⊎_elim, map, arith, append_assoc, option_map, is_some, Option, Some, None, All, All-push, All-weaker, Frame, spelling, Readable, DcpMsg}
-use Rattle.transcript_law.proofs.Words.{dcp_frame, Change, Position, last_seq, eqb-true, LawfulAcknowledged, Member, Cluster, Plain, is_follower, fork_of, quiet_reply, refusal_reply, States, with_vb_at, call_at, Call, Done, after, Sound, PlainConsumer, DialTold}
+use Rattle.transcript_law.proofs.Words.{dcp_frame, Change, Position, last_seq, eqb-true, LawfulAcknowledged, Member, Cluster, Plain, is_follower, fork_of, quiet_reply, refusal_reply, States, with_vb_at, call_at, Call, Done, after, Sound, PlainConsumer, DialResult}
 use Rattle.transcript_law.proofs.Words.{row_at, row_put, PlainLink, link_number, producer_node, consumer_node, PlainWorld, Granted, Chronicle, PlainProducer, StreamName, Role, Feed, above, hist, image_in, image_of, ground, stream_branch, with_changed}
-use Rattle.transcript_law.proofs.invariant.Agreement.{vb_of, image_is, shelf_of, consumer_seat, AgreesAt, BranchIs, DiskIsIf, VbAgrees, IsAcknowledgement, UpIs, ConsumerIs, waits_after, EndsStand, Wants, LinkAgrees, Busy, AgreesIn}
+use Rattle.transcript_law.proofs.invariant.Agreement.{vb_of, image_is, shelf_of, consumer_seat, AgreesAt, BranchAgrees, DiskIsIf, VbAgrees, IsAcknowledgement, UpIs, ConsumerIs, waits_after, EndsStand, Wants, LinkAgrees, Busy, AgreesIn}
 use Rattle.transcript_law.proofs.{invariant.Carried.{talk_same}, invariant.Carrying.{Relinked}, disks.Disks.{saved_so}, links.Followed.{fork_low, own_is}, links.Frames.{readable, spelled_more}, verbs.NodeLines.{put_same}, invariant.OneLink.{carries_link, mine}, links.PumpWorlds.{told_stream}, invariant.Tables.{changed_here, is_dialed}}
 use Rattle.{branch_model.specs.Logs.{IsFront}, cluster_model.specs.Clusters.{Comes, Ground, Joined, Linked, Stands}, std.proofs.lemmas.Bool.{le-leb}}
 use Rattle.transcript_law.specs.{Chronicles.{acknowledging}, Lawfulness.{SavesThirds, known_history, stream_history}}
 use Rattle.branch_model.specs.Snapshots.{Follows}
 use Rattle.{dcp_consumer.specs.Machine.{acknowledged, is_streaming, may_acknowledge}}
 use Rattle.{durability.proofs.Dues.{due_complete, due_thirds}, durability.specs.Laws.{IsPending}, durability.specs.Pending.{due}, vb_calls.specs.Durable.{pending_prepares}, vbucket.proofs.Backing.{Entry, IsEntry, found_entry}}
-use Rattle.node_core.specs.Dials.{acknowledged_told, due_asked, due_met, due_told, saved_told}
+use Rattle.node_core.specs.Dials.{acknowledged_result, due_requested, due_met, due_of_reply, saved_of_reply}
 use Rattle.vb_calls.specs.declared.calls.VbAnswer.TheVariants.{Num}
 use Rattle.vb_calls.specs.declared.calls.VbCall.TheVariants as call
 use Rattle.vb_types.specs.declared.status.Status.TheVariants.{NotMyVbucket}
@@ -39,7 +39,7 @@ pub record GrantedTo (kn : Member) (told : Option Granted) : Type 0 where
   pub feed : Feed
   pub fed : kn.link ≡ Some feed
   pub adopted : is_some kn.coming ≡ true
-  pub of_branch : stream_branch stream ≡ feed.u
+  pub points_of_branch : stream_branch stream ≡ feed.u
 
 -- a consumer whose stream was granted has one that the lines tell
 pub stream_granted : {fv : Wants} {kn leader : Member} {pv : Option Plain} {g : Option Granted} {point : Option ℕ} {served : PlainProducer} {consumer : PlainConsumer} {asked said : List Frame} → EndsStand fv kn pv leader g point served consumer asked said
@@ -52,11 +52,11 @@ stream_granted (EndsStand.IsStreaming x) granted = record {
   feed = x.feed;
   fed = x.fed;
   adopted = x.adopted ∙ le-leb 4 x.seen (granted_past x.seen (sym (ap is_streaming x.consumer.waits) ∙ granted));
-  of_branch = x.streams.put.front_is;
+  points_of_branch = x.streams.put.front_is;
 }
 
 -- so that consumer's vBucket is on the branch of its stream
-pub on_stream : (g : Ground) (kn : Member) (feed : Feed) (b : Option ℕ) → Stands g kn → kn.link ≡ Some feed → is_some kn.coming ≡ true → BranchIs b kn.br → (b ≡ None → kn.log ≡ []) → b ≡ Some feed.u
+pub on_stream : (g : Ground) (kn : Member) (feed : Feed) (b : Option ℕ) → Stands g kn → kn.link ≡ Some feed → is_some kn.coming ≡ true → BranchAgrees b kn.br → (b ≡ None → kn.log ≡ []) → b ≡ Some feed.u
 on_stream g kn feed b s fed adopted is unlogged = by b is unlogged
   where
     joined : Joined g kn feed kn.coming
@@ -66,7 +66,7 @@ on_stream g kn feed b s fed adopted is unlogged = by b is unlogged
     at_it None e some = cc
     at_it (Some xs) e some = (subst (Joined g kn feed) e joined, (subst (Comes g kn) e s.comes).0)
 
-    by : (b : Option ℕ) → BranchIs b kn.br → (b ≡ None → kn.log ≡ []) → b ≡ Some feed.u
+    by : (b : Option ℕ) → BranchAgrees b kn.br → (b ≡ None → kn.log ≡ []) → b ≡ Some feed.u
     by None is none = absurd (subst (λ l. IsFront l kn.br) (none refl) (at_it kn.coming refl adopted).1)
     by (Some u) is none = ap Some (sym is ∙ (at_it kn.coming refl adopted).0)
 
@@ -180,7 +180,7 @@ acked_is_lawful q n v l seq saved m g p held dialed told on role holds high snap
       role = role;
       held = (let a : fork_of p ≤ p.at = fork_low p within in omega arith);
       complete = λ ss se is below. inside ss se (sym snap ∙ is) (omega (arith, at_is));
-      saved_told = saved_is;
+      saved_as_known = saved_is;
       thirds = subst (λ h. SavesThirds (image_of h) seq saved) (sym holds) thirds;
       follows = λ ss se is. subst (λ h. FollowsAt (record { ss = ss; se = se; at = last_seq 0 (q.held n v) }) h) (sym holds)
           (subst (λ x. FollowsAt x held) (λ i. record { ss = (starts_are ss se (sym snap ∙ is)) i; se = (ends_are ss se (sym snap ∙ is)) i; at = (sym at_is) i }) follows);
@@ -211,21 +211,21 @@ ack_lawful busy w q c a link asking taking x seq granted low thirds =
     let s : GrantedTo kn (q.stream_of (StreamName.Link (link_number link)) v) = stream_granted x.talk.stands granted in
     let on : q.branch_at k v ≡ Some s.feed.u = on_stream (ground c) kn s.feed (q.branch_at k v) (a.sound.stands (consumer_seat link)) s.fed s.adopted held.branch (λ e. held.member.log ∙ held.unlogged e) in
     acked_is_lawful q k v (link_number link) seq x.follower.saved link.server.desk.node s.stream x.follower.position kn.held x.dialed s.is_told
-    (on ∙ ap Some (sym s.of_branch))
+    (on ∙ ap Some (sym s.points_of_branch))
     (λ said e. let both : Some (Some x.follower.role) ≡ Some (Some said) = sym held.role ∙ e in let same : x.follower.role ≡ said = ap known_role both in subst (λ (o : Role). is_follower o ≡ true) same x.follows)
     held.held held.high held.snap held.sound.within.0 low
     (saved_so (q.disk_at k v) (c.disks (consumer_seat link)) (shelf_of w k v) x.follower (subst (DiskIsIf (q.disk_at k v) (c.disks (consumer_seat link)) (shelf_of w k v)) x.follower_is (a.disks k v)))
     (subst (λ image. SavesThirds image seq x.follower.saved) (image_is held.kept) thirds)
     (subst (λ h. Follows h x.follower.position (above kn.held x.follower.position.ss) (image_of kn.held))
-    (own_is q c k v kn a.hists a.rootless held.branch ∙ ap (known_history q.tree) (on ∙ ap Some (sym s.of_branch)))
+    (own_is q c k v kn a.hists a.rootless held.branch ∙ ap (known_history q.tree) (on ∙ ap Some (sym s.points_of_branch)))
     (subst (λ p. Follows (hist c.tree kn.br) p (above kn.held p.ss) (image_of kn.held)) held.member.position (a.sound.stands (consumer_seat link)).follows))
 
 -- what is asked of the vBucket
 
 -- it is left as it was, and nothing is acknowledged, or all up to a seqno that its last complete snapshot has, and up to which each prepare of level 3 that waits in its image counts as saved
-pub data DueCame (states : States) (fv : Plain) (s : DialTold) (came : States × DialTold) : Type 0 where
+pub data DueCame (states : States) (fv : Plain) (s : DialResult) (came : States × DialResult) : Type 0 where
   IsSilent : came ≡ (states, s) → DueCame states fv s came
-  IsAcked : (seq : ℕ) → is_streaming s.dial.consumer.handshake ≡ true → seq < 2 ^ 64 → seq ≤ fork_of fv.position → SavesThirds (image_in fv) seq fv.saved → came ≡ (states, acknowledged_told seq s fv.saved) → DueCame states fv s came
+  IsAcked : (seq : ℕ) → is_streaming s.dial.consumer.handshake ≡ true → seq < 2 ^ 64 → seq ≤ fork_of fv.position → SavesThirds (image_in fv) seq fv.saved → came ≡ (states, acknowledged_result seq s fv.saved) → DueCame states fv s came
 
 -- a prepare of the list of those that wait
 entry_waits : (es : List Entry) (e : Entry) → IsEntry e es → IsPending e.1 (map (λ x. x.1) es)
@@ -233,11 +233,11 @@ entry_waits [] e i = absurd i
 entry_waits (x ∷ es) e i = ⊎_elim (λ s. inl (ap (λ (y : Entry). y.1) s)) (λ j. inr (entry_waits es e j)) i
 
 -- a link that is over acknowledges nothing, nor one whose stream was not granted
-pub due_none : (s : DialTold) → is_streaming s.dial.consumer.handshake ≡ false → due_asked s ≡ Done s
-unfolding due_asked
-due_none s e = ap (λ b. if b then Call s.dial.consumer.dialed.vb call.Due (λ reply. due_met s (due_told reply)) else Done s) e
+pub due_none : (s : DialResult) → is_streaming s.dial.consumer.handshake ≡ false → due_requested s ≡ Done s
+unfolding due_requested
+due_none s e = ap (λ b. if b then Call s.dial.consumer.dialed.vb call.Due (λ reply. due_met s (due_of_reply reply)) else Done s) e
 
-module _ (states : States) (fv : Plain) (s : DialTold) (known : states s.dial.consumer.dialed.vb ≡ Some fv) (follows : is_follower fv.role ≡ true) (sound : Sound fv) where
+module _ (states : States) (fv : Plain) (s : DialResult) (known : states s.dial.consumer.dialed.vb ≡ Some fv) (follows : is_follower fv.role ≡ true) (sound : Sound fv) where
   abbrev v : ℕ
   v = s.dial.consumer.dialed.vb
 
@@ -262,21 +262,21 @@ module _ (states : States) (fv : Plain) (s : DialTold) (known : states s.dial.co
       let b : fork_of fv.position ≤ fv.position.at = fork_low fv.position sound.within.0 in let c : fv.position.at ≤ fv.position.se = sound.within.1 in let d : fv.position.se ≤ 2 ^ 48 = sound.capped in
       omega arith
 
-  asked_on : after (Call v call.Due (λ reply. due_met s (due_told reply))) states ≡ after (due_met s number) states
-  asked_on = ap (λ o. let y = call_at states v call.Due o in after (due_met s (due_told y.1)) y.0) known
-      ∙ ap (λ b. after (due_met s (due_told (Some (if b then quiet_reply (Num number) else refusal_reply NotMyVbucket)))) (with_vb_at states v fv)) follows
+  asked_on : after (Call v call.Due (λ reply. due_met s (due_of_reply reply))) states ≡ after (due_met s number) states
+  asked_on = ap (λ o. let y = call_at states v call.Due o in after (due_met s (due_of_reply y.1)) y.0) known
+      ∙ ap (λ b. after (due_met s (due_of_reply (Some (if b then quiet_reply (Num number) else refusal_reply NotMyVbucket)))) (with_vb_at states v fv)) follows
       ∙ ap (after (due_met s number)) same
 
   met : (b : Bool) → may_acknowledge number s.dial.consumer ≡ b → is_streaming s.dial.consumer.handshake ≡ true
-      → DueCame states fv s (after (if b then Call v call.Stat (λ reply. Done (acknowledged_told number s (saved_told reply))) else Done s) states)
+      → DueCame states fv s (after (if b then Call v call.Stat (λ reply. Done (acknowledged_result number s (saved_of_reply reply))) else Done s) states)
   met false e granted = DueCame.IsSilent refl
   met true e granted = DueCame.IsAcked number granted number_low number_complete number_thirds
-      (ap (λ o. let y = call_at states v call.Stat o in (y.0, acknowledged_told number s (saved_told y.1))) known ∙ ap (λ st. (st, acknowledged_told number s fv.saved)) same)
+      (ap (λ o. let y = call_at states v call.Stat o in (y.0, acknowledged_result number s (saved_of_reply y.1))) known ∙ ap (λ st. (st, acknowledged_result number s fv.saved)) same)
 
-  asks_due : (b : Bool) → is_streaming s.dial.consumer.handshake ≡ b → DueCame states fv s (after (if b then Call v call.Due (λ reply. due_met s (due_told reply)) else Done s) states)
+  asks_due : (b : Bool) → is_streaming s.dial.consumer.handshake ≡ b → DueCame states fv s (after (if b then Call v call.Due (λ reply. due_met s (due_of_reply reply)) else Done s) states)
   asks_due false e = DueCame.IsSilent refl
   asks_due true e = subst (DueCame states fv s) (sym asked_on) (met (may_acknowledge number s.dial.consumer) refl e)
 
-  pub due_came : DueCame states fv s (after (due_asked s) states)
-  unfolding due_asked
+  pub due_came : DueCame states fv s (after (due_requested s) states)
+  unfolding due_requested
   due_came = asks_due (is_streaming s.dial.consumer.handshake) refl

@@ -2,17 +2,17 @@
 use Rattle.std.specs.Prelude.{◌≡◌, ◌<◌, ◌≤◌, ◌∷◌, ◌++◌, ◌==◌, ◌&&◌, ◌^◌, if◌then◌else◌, ◌||◌}
 use Rattle.transcript_law.proofs.Words.{answered, ℕ, true, false, List, [], length, take, drop, refl, ap, sym, ◌∙◌, subst, arith, Option, Some, None, not}
 use Rattle.transcript_law.proofs.Words.{nat_le, All, eq-eqb, ne_eqb, nat_tests, drop-append-le, All-nil, Frame, spelling, Readable, dcp_frame, EntryInRange, AskAnswer, Position}
-use Rattle.transcript_law.proofs.Words.{LogEntry, StreamAsk, front, uuid_of, IsFront, Member, Stream, Plain, is_active, stream_at, new_stream, Sound, stream_told, PlainProducer, granted, PlainLink}
+use Rattle.transcript_law.proofs.Words.{LogEntry, StreamAsk, front, uuid_of, IsFront, Member, Stream, Plain, is_active, stream_at, new_stream, Sound, stream_verdict, PlainProducer, granted, PlainLink}
 use Rattle.transcript_law.proofs.Words.{producer_node, consumer_node, Granted, Feed, option_or, All-weaker, find-append, DcpMsg, Handshake, is_some, nat_lt, AskInRange, Event, Status, Verdict}
 use Rattle.transcript_law.proofs.Words.{Continue, Roll, rule, open_refusal, after, States, with_vb_at, call_at, with_frame, refuse, stream_request, frame_answered, PlainStream, Served, VbCall}
-use Rattle.transcript_law.proofs.Words.{judged_open, open_outcome, verdict_with, ask_verdict, asked_id, high_told, request_refusal, stream_answered, is_sync, told}
+use Rattle.transcript_law.proofs.Words.{judged_open, open_outcome, verdict_with, ask_verdict, opening_id, high_of_reply, request_refusal, stream_answered, is_sync, told}
 use Rattle.dcp_producer.specs.declared.desk.Named.{Named}
-use Rattle.transcript_law.proofs.invariant.Agreement.{EntryFits, IsAcknowledgement, spoken, request_frames, first_answers, answer_frame, set_after, StreamIs, UpIs, DownIs, Asking, IsRefused, PointIs, wants_of, EndsStand, Talk}
+use Rattle.transcript_law.proofs.invariant.Agreement.{EntryFits, IsAcknowledgement, spoken, request_frames, first_answers, answer_frame, set_after, StreamAgrees, UpIs, DownAgrees, Asking, IsRefused, PointAgrees, wants_of, EndsStand, Talk}
 use Rattle.transcript_law.proofs.invariant.Carrying.{StreamsChanged}
 use Rattle.transcript_law.proofs.{links.Frames.{readable}, links.Spoken.{answer_spoken, spoken_push}}
 use Rattle.transcript_law.proofs.links.Talks.{served_link, next_up, more_down}
 use Rattle.transcript_law.proofs.invariant.Carried.{sound_streams}
-use Rattle.dcp_producer.specs.Serving.{log_told}
+use Rattle.dcp_producer.specs.Serving.{log_of_reply}
 use Rattle.transcript_law.proofs.links.Requests.{request_answered}
 
 -- the states with this vBucket at v, and else the same
@@ -33,8 +33,8 @@ abbrev pub begun_stream : ℕ → ℕ → ℕ → PlainStream
 begun_stream o vb start = record { vb = vb; opaque = o; items = []; next = 0; reached = start; ended = false }
 
 -- a request was let continue
-abbrev pub granted_told : Served → ℕ → ℕ → StreamAsk → List LogEntry → ℕ → Served
-granted_told s o vb ask log high = record {
+abbrev pub granted_lines : Served → ℕ → ℕ → StreamAsk → List LogEntry → ℕ → Served
+granted_lines s o vb ask log high = record {
   end = record s.end { stream = Some (begun_stream o vb ask.start) };
   events = s.events ++ told_line s vb ask log high AskAnswer.Go ∷ [];
   out = s.out ++ spelling (answer_frame o log AskAnswer.Go);
@@ -59,24 +59,24 @@ module _ (o vb node : ℕ) (ask : StreamAsk) (s : Served) (range : AskInRange as
       ap (λ h. request_refusal h ask) opened
       ∙ ap (λ n. if nat_lt 1 n then Some Status.Einval else if n == 1 then Some Status.NotSupported else None) plainly
 
-  id_is : asked_id s.end ask ≡ id
+  id_is : opening_id s.end ask ≡ id
   id_is = ap (λ r. if is_some r || is_some s.end.stream then 0 else id) refusal_is ∙ ap (λ (y : Option PlainStream). if is_some y then 0 else id) none_yet
 
   -- it is answered by what the vBucket says
   asked_there : (st : States) (there : Option Plain) → st vb ≡ there → after (frame_answered (asked_frame o vb ask) s) st
       ≡ let p = call_at st vb (VbCall.OpenStream id ask true) there in
-      (p.0, stream_answered (asked_frame o vb ask) ask s (log_told p.1) (high_told p.1) (verdict_with None (ask_verdict p.1)))
+      (p.0, stream_answered (asked_frame o vb ask) ask s (log_of_reply p.1) (high_of_reply p.1) (verdict_with None (ask_verdict p.1)))
   unfolding stream_request dcp_frame
   asked_there st there known =
       ap (λ p. after p st) (request_answered o vb ask s range)
-      ∙ ap (λ r. let p = call_at st vb (VbCall.OpenStream (asked_id s.end ask) ask (is_sync s.end.handshake)) (st vb) in
-      (p.0, stream_answered (asked_frame o vb ask) ask s (log_told p.1) (high_told p.1) (verdict_with r (ask_verdict p.1)))) refusal_is
+      ∙ ap (λ r. let p = call_at st vb (VbCall.OpenStream (opening_id s.end ask) ask (is_sync s.end.handshake)) (st vb) in
+      (p.0, stream_answered (asked_frame o vb ask) ask s (log_of_reply p.1) (high_of_reply p.1) (verdict_with r (ask_verdict p.1)))) refusal_is
       ∙ ap (λ i. let p = call_at st vb (VbCall.OpenStream i ask (is_sync s.end.handshake)) (st vb) in
-      (p.0, stream_answered (asked_frame o vb ask) ask s (log_told p.1) (high_told p.1) (verdict_with None (ask_verdict p.1)))) id_is
+      (p.0, stream_answered (asked_frame o vb ask) ask s (log_of_reply p.1) (high_of_reply p.1) (verdict_with None (ask_verdict p.1)))) id_is
       ∙ ap (λ h. let p = call_at st vb (VbCall.OpenStream id ask (is_sync h)) (st vb) in
-      (p.0, stream_answered (asked_frame o vb ask) ask s (log_told p.1) (high_told p.1) (verdict_with None (ask_verdict p.1)))) opened
+      (p.0, stream_answered (asked_frame o vb ask) ask s (log_of_reply p.1) (high_of_reply p.1) (verdict_with None (ask_verdict p.1)))) opened
       ∙ ap (λ y. let p = call_at st vb (VbCall.OpenStream id ask true) y in
-      (p.0, stream_answered (asked_frame o vb ask) ask s (log_told p.1) (high_told p.1) (verdict_with None (ask_verdict p.1)))) known
+      (p.0, stream_answered (asked_frame o vb ask) ask s (log_of_reply p.1) (high_of_reply p.1) (verdict_with None (ask_verdict p.1)))) known
 
   -- no such vBucket
   pub absent_asked : (st : States) → st vb ≡ None → after (frame_answered (asked_frame o vb ask) s) st ≡ (st, refused_told s o vb ask [] 0 (AskAnswer.Refuse 7))
@@ -87,11 +87,11 @@ module _ (o vb node : ℕ) (ask : StreamAsk) (s : Served) (range : AskInRange as
     asked_then : (why : Option Status) → open_refusal pv id ask ≡ why
         → after (frame_answered (asked_frame o vb ask) s) st
         ≡ let p = open_outcome why pv id ask true in
-        (with_vb_at st vb p.0, stream_answered (asked_frame o vb ask) ask s (log_told (Some p.1)) (high_told (Some p.1)) (verdict_with None (ask_verdict (Some p.1))))
+        (with_vb_at st vb p.0, stream_answered (asked_frame o vb ask) ask s (log_of_reply (Some p.1)) (high_of_reply (Some p.1)) (verdict_with None (ask_verdict (Some p.1))))
     asked_then why because =
         asked_there st (Some pv) known
         ∙ ap (λ y. let p = open_outcome y pv id ask true in
-        (with_vb_at st vb p.0, stream_answered (asked_frame o vb ask) ask s (log_told (Some p.1)) (high_told (Some p.1)) (verdict_with None (ask_verdict (Some p.1))))) because
+        (with_vb_at st vb p.0, stream_answered (asked_frame o vb ask) ask s (log_of_reply (Some p.1)) (high_of_reply (Some p.1)) (verdict_with None (ask_verdict (Some p.1))))) because
 
     -- one that refuses
     pub refused_asked : (why : Status) → open_refusal pv id ask ≡ Some why
@@ -102,11 +102,11 @@ module _ (o vb node : ℕ) (ask : StreamAsk) (s : Served) (range : AskInRange as
     judged_asked : (said : Verdict) → open_refusal pv id ask ≡ None → rule pv.log pv.position.at ask ≡ said
         → after (frame_answered (asked_frame o vb ask) s) st
         ≡ let p = judged_open said pv id ask true in
-        (with_vb_at st vb p.0, stream_answered (asked_frame o vb ask) ask s (log_told (Some p.1)) (high_told (Some p.1)) (verdict_with None (ask_verdict (Some p.1))))
+        (with_vb_at st vb p.0, stream_answered (asked_frame o vb ask) ask s (log_of_reply (Some p.1)) (high_of_reply (Some p.1)) (verdict_with None (ask_verdict (Some p.1))))
     judged_asked said because ruled =
         asked_then None because
         ∙ ap (λ v. let p = judged_open v pv id ask true in
-        (with_vb_at st vb p.0, stream_answered (asked_frame o vb ask) ask s (log_told (Some p.1)) (high_told (Some p.1)) (verdict_with None (ask_verdict (Some p.1))))) ruled
+        (with_vb_at st vb p.0, stream_answered (asked_frame o vb ask) ask s (log_of_reply (Some p.1)) (high_of_reply (Some p.1)) (verdict_with None (ask_verdict (Some p.1))))) ruled
 
     -- one that sends it back
     pub rolled_asked : (to : ℕ) → open_refusal pv id ask ≡ None → rule pv.log pv.position.at ask ≡ Roll to
@@ -117,7 +117,7 @@ module _ (o vb node : ℕ) (ask : StreamAsk) (s : Served) (range : AskInRange as
     -- one that opens the stream
     pub granted_asked : open_refusal pv id ask ≡ None → rule pv.log pv.position.at ask ≡ Continue
         → (st' : States) × StatesAre st vb (record pv { streams = pv.streams ++ new_stream id ask true ∷ [] }) st'
-        × (after (frame_answered (asked_frame o vb ask) s) st ≡ (st', granted_told s o vb ask pv.log pv.position.at))
+        × (after (frame_answered (asked_frame o vb ask) s) st ≡ (st', granted_lines s o vb ask pv.log pv.position.at))
     unfolding stream_answered dcp_frame
     granted_asked because ruled =
         let pv' : Plain = record pv { streams = pv.streams ++ new_stream id ask true ∷ [] } in
@@ -125,18 +125,18 @@ module _ (o vb node : ℕ) (ask : StreamAsk) (s : Served) (range : AskInRange as
 
 refused_readable : (o : ℕ) (said : AskAnswer) → o < 2 ^ 32 → IsRefused said → Readable (answer_frame o [] said)
 refused_readable o AskAnswer.Go few refused = absurd refused
-refused_readable o (AskAnswer.Roll to) few refused = readable (DcpMsg.StreamAnswer (stream_told [] (AskAnswer.Roll to))) o 0 tt refused few (omega arith) (omega arith)
+refused_readable o (AskAnswer.Roll to) few refused = readable (DcpMsg.StreamAnswer (stream_verdict [] (AskAnswer.Roll to))) o 0 tt refused few (omega arith) (omega arith)
 refused_readable o (AskAnswer.Refuse code) few refused =
-    readable (DcpMsg.StreamAnswer (stream_told [] (AskAnswer.Refuse code))) o 0 (refused.0, refused.1) refused.2 few (omega arith) (omega arith)
+    readable (DcpMsg.StreamAnswer (stream_verdict [] (AskAnswer.Refuse code))) o 0 (refused.0, refused.1) refused.2 few (omega arith) (omega arith)
 
 granted_readable : (o : ℕ) (log : List LogEntry) → o < 2 ^ 32 → length log ≤ 25 → All EntryFits log → Readable (answer_frame o log AskAnswer.Go)
 granted_readable o log few short fits =
-    readable (DcpMsg.StreamAnswer (stream_told log AskAnswer.Go)) o 0 (omega (arith, short)) (All-weaker EntryFits EntryInRange (λ e f. record { uuid = f.0; seq = f.1 }) log fits)
+    readable (DcpMsg.StreamAnswer (stream_verdict log AskAnswer.Go)) o 0 (omega (arith, short)) (All-weaker EntryFits EntryInRange (λ e f. record { uuid = f.0; seq = f.1 }) log fits)
     few (omega arith) (omega (arith, short))
 
 -- where the last request is about to be answered
 module _ (fv : Plain) (ask : StreamAsk) (link : PlainLink) (down : List ℕ) (f : Frame) (fs asked said : List Frame) (t : Asking (wants_of fv) ask link.server link.consumer asked (spoken said)) (last : t.answered ≡ 3)
-    (ups : UpIs link (f ∷ fs) asked) (downs : DownIs link [] said) where
+    (ups : UpIs link (f ∷ fs) asked) (downs : DownAgrees link [] said) where
   -- the request's opaque
   abbrev o : ℕ
   o = link.consumer.asked
@@ -151,13 +151,13 @@ module _ (fv : Plain) (ask : StreamAsk) (link : PlainLink) (down : List ℕ) (f 
   answers_said : spoken said ≡ drop t.seen first_answers
   answers_said = t.said_is ∙ ap (λ j. drop t.seen (take j first_answers)) last
 
-  last_down : (end : PlainProducer) (a : Frame) → down ≡ link.down ++ spelling a → Readable a → DownIs (served_link link end down) [] (said ++ a ∷ [])
+  last_down : (end : PlainProducer) (a : Frame) → down ≡ link.down ++ spelling a → Readable a → DownAgrees (served_link link end down) [] (said ++ a ∷ [])
   last_down end a wrote good = more_down link end down a said wrote good downs
 
   pub asked_opened : link.server.handshake ≡ Handshake.Open true (Named.Member link.consumer.dialed.node)
   asked_opened = t.server ∙ ap (set_after link.consumer.dialed.node) last
 
-  pub refused_talk : (kn : Member) (pv : Option Plain) (leader : Member) (g : Option Granted) (answer : AskAnswer) → IsRefused answer → (point : Option ℕ) → PointIs answer point → down ≡ link.down ++ spelling (answer_frame o [] answer)
+  pub refused_talk : (kn : Member) (pv : Option Plain) (leader : Member) (g : Option Granted) (answer : AskAnswer) → IsRefused answer → (point : Option ℕ) → PointAgrees answer point → down ≡ link.down ++ spelling (answer_frame o [] answer)
       → Talk fv kn pv leader g point (served_link link link.server down) fs []
   refused_talk kn pv leader g answer refused point told wrote = record {
     asked = [];
@@ -207,16 +207,16 @@ module _ (fv : Plain) (ask : StreamAsk) (link : PlainLink) (down : List ℕ) (f 
     low : nat_le 4 t.seen ≡ false
     low = let most = seen_most in grind (arith, nat_tests, most)
 
-    stream_begun : StreamIs o link.consumer.dialed.vb link.server.desk.id (granted ask pv.log) (begun_stream o link.consumer.dialed.vb ask.start) (Some opened_vb) pn
+    marked_stream_begun : StreamAgrees o link.consumer.dialed.vb link.server.desk.id (granted ask pv.log) (begun_stream o link.consumer.dialed.vb ask.start) (Some opened_vb) pn
         (record { u = pn.br; log = pn.log; flight = []; given = None }) (answered kn pn) false
-    stream_begun = record {
+    marked_stream_begun = record {
       put = record {
         vb_is = refl;
         opaque_is = refl;
         fits = All-nil _;
         next_in = omega arith;
         last = refl;
-        log_told = sym logs;
+        log_lines = sym logs;
         front_is = front_uuid pv.log pn.br (subst (λ l. IsFront l pn.br) logs in_front);
       };
       opens = λ e. record { producer = opened_vb; producer_is = refl; active = active; leads = refl; opened = (new, opened_here, refl, refl, refl, refl) };
@@ -267,7 +267,7 @@ module _ (fv : Plain) (ask : StreamAsk) (link : PlainLink) (down : List ℕ) (f 
           adopted = sym low;
           asks = λ e. (ap (λ (a : StreamAsk). a.start) t.asks, ap (λ (a : StreamAsk). a.ss) t.asks, ap (λ (a : StreamAsk). a.se) t.asks);
         };
-        streams = subst (λ b. StreamIs o link.consumer.dialed.vb link.server.desk.id (granted ask pv.log) (begun_stream o link.consumer.dialed.vb ask.start) (Some opened_vb) pn new_feed (answered kn pn) (b && not fv.first)) (sym low) stream_begun;
+        streams = subst (λ b. StreamAgrees o link.consumer.dialed.vb link.server.desk.id (granted ask pv.log) (begun_stream o link.consumer.dialed.vb ask.start) (Some opened_vb) pn new_feed (answered kn pn) (b && not fv.first)) (sym low) marked_stream_begun;
         all = ap (λ l. drop t.seen (first_answers ++ answer_frame o l AskAnswer.Go ∷ []) ++ []) logs ∙ ap (λ x. x ++ []) (sym all_said);
       });
       ups = last_up (record link.server { stream = Some (begun_stream o link.consumer.dialed.vb ask.start) }) (answer_frame o pv.log AskAnswer.Go);

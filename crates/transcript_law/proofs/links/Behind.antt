@@ -1,9 +1,9 @@
 -- outcomes that are posted to clients behind what else is told of a line
 use Rattle.std.specs.Prelude.{◌≡◌, ◌++◌, if◌then◌else◌}
-use Rattle.transcript_law.proofs.Words.{ℕ, List, refl, ap, sym, ◌∙◌, subst, Option, Some, None, is_some, not, eq-eqb, Answer, Cause, Change, Chronicle, Event, StaysSound, after_change, after_lines, flat_map, branch_told, with_branches, LawfulFrom, Outcome, PlainNode, PlainWorld, with_node_at}
+use Rattle.transcript_law.proofs.Words.{ℕ, List, refl, ap, sym, ◌∙◌, subst, Option, Some, None, is_some, not, eq-eqb, Answer, Cause, Change, Chronicle, Event, StaysSound, after_change, after_lines, flat_map, branch_of_line, with_branches, LawfulFrom, Outcome, PlainNode, PlainWorld, with_node_at}
 use Rattle.transcript_law.proofs.{invariant.Agreement.{Agrees, GoesOn}, disks.ArmedLines.{ArmedCame}, lines.Changes.{Reads, calls_read, disk_reads, reads_same}, lines.ClientLines.{AreOfClients, clients_branched, clients_quiet, clients_read, read_beside}, disks.Firing.{same_told}, lines.Lines.{AreQuiet, after_more, lawful_more, quiet_more}}
 use Rattle.transcript_law.proofs.{links.Posting.{SameBeside, posts_go, posts_keep, posts_of_clients, put_agrees}, invariant.Ranged.{IsRanged, NodeRanged, NodeRangedIf}, verbs.Settling.{Steady}}
-use Rattle.node_core.specs.Flushing.{FlushTold}
+use Rattle.node_core.specs.Flushing.{FlushResult}
 use Rattle.node_world.specs.{Arms.{fired_by}, Nodes.{all_posted, with_posts}, Turns.{posted_at, posted_in}, Worlds.{arm_in, is_up}}
 use Rattle.node_world.specs.declared.{arm.Fired.{Fired}}
 use Rattle.node_world.specs.declared.arm.Fired.TheVariants as fired
@@ -36,7 +36,7 @@ pub record NotingGoes (n : ℕ) (told : Answer → Chronicle → Chronicle) (w :
 
 module _ (stays : StaysSound) (steady : Steady) where
   -- outcomes behind what a line of the node n told: all goes on
-  pub posts_behind : (w : PlainWorld) (r : Chronicle) (n : ℕ) (node : PlainNode) (told : FlushTold) (beside : Chronicle → Chronicle) → IsBeside beside → NodeRanged n node → AreQuiet told.events
+  pub posts_behind : (w : PlainWorld) (r : Chronicle) (n : ℕ) (node : PlainNode) (told : FlushResult) (beside : Chronicle → Chronicle) → IsBeside beside → NodeRanged n node → AreQuiet told.events
       → GoesOn r beside (with_node_at w n node, record { events = told.events; answer = told.answer })
       → GoesOn r beside (with_node_at w n (with_posts told node).0, (with_posts told node).1)
   posts_behind w r n node told beside b ranged quiet g =
@@ -75,7 +75,7 @@ module _ (stays : StaysSound) (steady : Steady) where
           (λ i. fired_by (arm_in (before.nodes n)).fuse (arm_in (if eq-eqb n n refl i then Some node' else o.0.nodes n)).fuse) ∙ (λ i. fired_by (arm_in (before.nodes n)).fuse (kept.arm i).fuse)
           ∙ (λ i. fired_by (arm_in (before.nodes n)).fuse (arm_in (sym at i)).fuse) in
           let up : is_up (w2.nodes n) ≡ is_up (w1.nodes n) = (λ i. is_up (if eq-eqb n n refl i then Some node' else o.0.nodes n)) ∙ ap (λ k. not (is_some k)) kept.off ∙ ap is_up (sym at) in
-          let same : flat_map branch_told (o.1.events ++ lines) ≡ flat_map branch_told o.1.events = same_told o.1.events lines (clients_branched lines clients) in
+          let same : flat_map branch_of_line (o.1.events ++ lines) ≡ flat_map branch_of_line o.1.events = same_told o.1.events lines (clients_branched lines clients) in
           let read : told o.1.answer (after_lines r (o.1.events ++ lines)) ≡ after_lines (told o.1.answer r1) lines = ap (told o.1.answer) (after_more r o.1.events lines) ∙ read_beside (told o.1.answer) b.past r1 lines clients in
           record {
             lawful = lawful_more r o.1.events lines so.quiet so.lawful (clients_read r1 (told o.1.answer r1) lines clients (b.reads r1) (go (put_agrees w1 (told o.1.answer r1) n node at (came_lawful (fired_by (arm_in (before.nodes n)).fuse (arm_in (o.0.nodes n)).fuse) r1 w1 o.1.answer so.came))).0);

@@ -3,7 +3,7 @@ use Rattle.std.specs.Prelude.{◌≡◌, ◌∷◌, ◌==◌, if◌then◌else�
 use Rattle.transcript_law.proofs.Words.{ℕ, true, false, List, [], refl, ap, sym, ◌∙◌, subst, ⊎_elim, is_some, not, PlainNode, Option, Some, None, vb_in}
 use Rattle.transcript_law.proofs.Words.{ne_eqb}
 use Rattle.transcript_law.proofs.Words.{Cluster, Move, happens, after_job, after_job_bind, lift}
-use Rattle.transcript_law.proofs.Words.{DialTold, roll_back, unlinked}
+use Rattle.transcript_law.proofs.Words.{DialResult, roll_back, unlinked}
 use Rattle.transcript_law.proofs.{Words.{Chronicle, after_lines}, invariant.Agreement.{vb_of, IsArm, PowerIsIf, Power, power_of}}
 use Rattle.transcript_law.proofs.invariant.Agreement.{Agrees, LinkAgrees, consumer_seat, AgreesIn, idle}
 use Rattle.transcript_law.proofs.{invariant.OneLink.{disk_here, carries_same}}
@@ -13,7 +13,7 @@ use Rattle.transcript_law.proofs.{links.Onward.{Kept, onward_all, onward_none, u
 use Rattle.branch_model.specs.Journals.{IsPoint, complete_points, roll_point}
 use Rattle.{disk_journals.specs.Arms.{under}, node_world.specs.Arms.{lifted}, node_world.specs.Nodes.{with_kept}}
 use Rattle.{node_core.specs.Dials.{rolled_back}}
-use Rattle.{transcript_law.specs.Chronicles.{DiskTold, after_calls, calls_of_append}}
+use Rattle.{transcript_law.specs.Chronicles.{DiskKnown, after_calls, calls_of_append}}
 use Rattle.vb_calls.specs.Flushes.{roll_job}
 use Rattle.vb_calls.specs.Shelves.{Shelf, with_shelf_at}
 use Rattle.vb_journal.specs.UnderArms.{all_pass, burnt_noting}
@@ -21,8 +21,8 @@ use Rattle.vb_disk.specs.declared.fuse.Fuse.{Fuse}
 use Rattle.vb_disk.specs.declared.fuse.Fuse.TheVariants.{Off}
 use Rattle.transcript_law.proofs.invariant.JobSteps.{shelf_found}
 use Rattle.vb_types.specs.declared.journal.Record.TheVariants as noted
-use Rattle.transcript_law.proofs.{disks.ArmedLines.{ArmedCame}, disks.Appending.{Renoted, Rewritten, breaks, broken, noted_agrees, unwritten}, disks.Burning.{BreaksUnder, breaks_under, quiet_same}, invariant.Carried.{numbers, told_none}, invariant.Carrying.{off_of}, links.Downing.{FiredIn, broken_answer, ended_agrees, vb_moved}, invariant.LinkRows.{found_is_link}, invariant.Agreement.{is_down}, links.Rolling.{closed_came, failed_came}}
-use Rattle.{transcript_law.specs.Chronicles.{after_append, appending, late_told, with_disk}, vb_calls.specs.Shelves.{late_of}, vb_types.specs.declared.journal.Record.{Record}, vb_events.specs.declared.event.EndReason.TheVariants.{Disk}, vb_calls.specs.declared.journals.Rolled.{Rolled as RolledJob}}
+use Rattle.transcript_law.proofs.{disks.ArmedLines.{ArmedCame}, disks.Appending.{Renoted, Rewritten, breaks, broken, noted_agrees, unwritten}, disks.Burning.{BreaksUnder, breaks_under, quiet_same}, invariant.Carried.{numbers, told_of_same}, invariant.Carrying.{off_of}, links.Downing.{FiredIn, broken_answer, ended_agrees, vb_moved}, invariant.LinkRows.{found_is_link}, invariant.Agreement.{is_down}, links.Rolling.{closed_came, failed_came}}
+use Rattle.{transcript_law.specs.Chronicles.{after_append, appending, late_record, with_disk}, vb_calls.specs.Shelves.{late_of}, vb_types.specs.declared.journal.Record.{Record}, vb_events.specs.declared.event.EndReason.TheVariants.{Disk}, vb_calls.specs.declared.journals.Rolled.{Rolled as RolledJob}}
 use Rattle.{cluster_model.specs.Clusters.{Disk as DiskOf}, node_world.specs.Arms.{fired_by}, node_world.specs.Worlds.{arm_in, is_up}, node_world.specs.declared.arm.Arm.{Arm}, node_world.specs.declared.arm.Fired.{Fired}, disk_journals.specs.Books.{Book}}
 use Rattle.vb_calls.specs.declared.journals.Rolled.TheVariants as rolled_as
 use Rattle.vb_events.specs.declared.event.Answer.TheVariants as answer
@@ -58,7 +58,7 @@ module _ (line : Line) (back : Back line) where
   abbrev to : ℕ
   to = roll_point shelf.book named
 
-  abbrev s : DialTold
+  abbrev s : DialResult
   s = so_far line at None events
 
   abbrev left : Kept → Fuse
@@ -80,7 +80,7 @@ module _ (line : Line) (back : Back line) where
   cut_off = happens c (Move.Cut k)
 
   cut_agrees : AgreesIn idle (gone line asked_kept) told cut_off
-  cut_agrees = ended_agrees line stays (f ∷ rest) states asked_kept at events told going (λ m q. vb_moved line states states.1 at at fv m q (λ e t. sym (known line back) ∙ ap states.0 (sym t))) refl (told_none l told)
+  cut_agrees = ended_agrees line stays (f ∷ rest) states asked_kept at events told going (λ m q. vb_moved line states states.1 at at fv m q (λ e t. sym (known line back) ∙ ap states.0 (sym t))) refl (told_of_same l told)
 
   gone_vb : (kept : Kept) (m q : ℕ) → vb_of (gone line kept) m q ≡ vb_of (there line kept) m q
   gone_vb kept m q = (unlinks line back (there line kept)).vbs m q
@@ -112,7 +112,7 @@ module _ (line : Line) (back : Back line) where
   cut_written = subst (λ d. ShelfIs (told.disk_at n v) d (under Off shelf) (parts_of fv)) (sym cut_disk) (written line back)
 
   -- all agrees then, where the journal became this
-  shut_agrees : (x : Shelf) (t : DiskTold) (d : DiskOf) (b : Rewritten cut_off k d) → ShelfIs t d (under Off x) (parts_of fv) → AgreesIn idle (gone line (shut_kept x)) (with_disk told n v t) b.now
+  shut_agrees : (x : Shelf) (t : DiskKnown) (d : DiskOf) (b : Rewritten cut_off k d) → ShelfIs t d (under Off x) (parts_of fv) → AgreesIn idle (gone line (shut_kept x)) (with_disk told n v t) b.now
   shut_agrees x t d b is = noted_agrees idle (gone line asked_kept) (gone line (shut_kept x)) told told.arm_at cut_off n v fv (under Off x) t d cut_agrees asked_known (written line back).there (same_kept x) (powers_kept x) b is
 
   -- what the line comes to then
@@ -178,8 +178,8 @@ module _ (line : Line) (back : Back line) where
     left_none : left (shut_kept broken_off) ≡ Off
     left_none = left_of line back (shut_kept broken_off) broken_off (shelf_found states.1 v broken_off) ∙ ap burnt_noting (journal line back).2 ∙ breaks_so.left
 
-    late_is : late_of shelf.fuse what ≡ late_told (told.arm_at n).fuse what
-    late_is = ap (λ g. late_of g what) (journal line back).2 ∙ breaks_so.late what ∙ ap (λ g. late_told g what) (sym (was line back).fuse)
+    late_is : late_of shelf.fuse what ≡ late_record (told.arm_at n).fuse what
+    late_is = ap (λ g. late_of g what) (journal line back).2 ∙ breaks_so.late what ∙ ap (λ g. late_record g what) (sym (was line back).fuse)
 
     rewritten : Rewritten cut_off k (record (cut_off.disks k) { late = late_of shelf.fuse what })
     rewritten = breaks cut_off k cut_agrees.sound shelf.fuse what (cut_written.late ∙ cut_written.none_late opens) (subst (λ (d : DiskOf). IsPoint to (complete_points d.book)) (sym cut_disk) (point_there line back))

@@ -1,18 +1,18 @@
 -- what is to come for a consumer, and which of it was put
 use Rattle.std.specs.Prelude.{◌≡◌, ◌+◌, ◌≤◌, ◌∷◌, ◌++◌}
 use Rattle.transcript_law.proofs.Words.{ℕ, Bool, true, false, List, [], length, map, drop, refl, ap, sym, ◌∙◌, arith, append-nil, append_assoc, Option, Some, None, slice_get, All}
-use Rattle.transcript_law.proofs.{Words.{length-append, map-append, All-tail, Frame, Change, flight_end, act_message, past_item, PlainStream, ItemTold, item_told}, invariant.Agreement.{ChangeFits, change_frames}}
-use Rattle.transcript_law.proofs.{invariant.Agreement.{items_frames, flight_frames, coming_items, flight_items, flight_marks, LastIs, ComingIs}, links.Sent.{drop_found, drop_whole, message_of}}
+use Rattle.transcript_law.proofs.{Words.{length-append, map-append, All-tail, Frame, Change, flight_end, act_message, past_item, PlainStream, ItemLine, item_of_change}, invariant.Agreement.{ChangeFits, change_frames}}
+use Rattle.transcript_law.proofs.{invariant.Agreement.{items_frames, flight_frames, coming_items, flight_items, flight_marks, LastAgrees, ComingIs}, links.Sent.{drop_found, drop_whole, message_of}}
 use Rattle.{std.proofs.lemmas.List.{length-drop, length-map}, std.proofs.lemmas.List.Elements.{All-drop}}
 
 -- the last snapshot on its way
 
-pub last_push : (end : ℕ) (items : List Change) (flight : List (ℕ × List Change)) → LastIs items (flight ++ (end, items) ∷ [])
+pub last_push : (end : ℕ) (items : List Change) (flight : List (ℕ × List Change)) → LastAgrees items (flight ++ (end, items) ∷ [])
 last_push end items [] = refl
 last_push end items (x ∷ []) = refl
 last_push end items (x ∷ y ∷ more) = last_push end items (y ∷ more)
 
-last_most : (items : List Change) (x : ℕ × List Change) (more : List (ℕ × List Change)) → LastIs items (x ∷ more) → length items ≤ length (flight_items (x ∷ more))
+last_most : (items : List Change) (x : ℕ × List Change) (more : List (ℕ × List Change)) → LastAgrees items (x ∷ more) → length items ≤ length (flight_items (x ∷ more))
 last_most items x [] l =
     let same : length (x.1 ++ []) ≡ length items = ap (λ (xs : List Change). length xs) (append-nil x.1 ∙ l) in omega (arith, same)
 last_most items x (y ∷ more) l =
@@ -30,28 +30,28 @@ marks_push start end items (x ∷ more) = ap (λ ms. (start, x.0) ∷ ms) (marks
 -- what comes, after a step of the producer
 
 -- one more item was put
-pub item_comes : (told : List ItemTold) (stream : PlainStream) (flight : List (ℕ × List Change)) (coming : Option (List Change)) (c : Change) → slice_get stream.items stream.next ≡ Some c
-    → ComingIs told stream flight coming → ComingIs (told ++ item_told c ∷ []) (past_item c.seq stream) flight coming
+pub item_comes : (told : List ItemLine) (stream : PlainStream) (flight : List (ℕ × List Change)) (coming : Option (List Change)) (c : Change) → slice_get stream.items stream.next ≡ Some c
+    → ComingIs told stream flight coming → ComingIs (told ++ item_of_change c ∷ []) (past_item c.seq stream) flight coming
 item_comes told stream flight coming c e s = record {
-  all = s.all ∙ ap (λ xs. told ++ map item_told xs) (drop_found stream.items stream.next c e) ∙ sym (append_assoc told (item_told c ∷ []) (map item_told (drop (stream.next + 1) stream.items)));
+  all = s.all ∙ ap (λ xs. told ++ map item_of_change xs) (drop_found stream.items stream.next c e) ∙ sym (append_assoc told (item_of_change c ∷ []) (map item_of_change (drop (stream.next + 1) stream.items)));
   last = s.last;
 }
 
 -- one more snapshot was begun, behind a whole one
-pub snapshot_comes : (told : List ItemTold) (stream after : PlainStream) (flight : List (ℕ × List Change)) (coming : Option (List Change)) (end : ℕ) → length stream.items ≤ stream.next → after.next ≡ 0
+pub snapshot_comes : (told : List ItemLine) (stream after : PlainStream) (flight : List (ℕ × List Change)) (coming : Option (List Change)) (end : ℕ) → length stream.items ≤ stream.next → after.next ≡ 0
     → ComingIs told stream flight coming → ComingIs told after (flight ++ (end, after.items) ∷ []) coming
 snapshot_comes told stream after flight coming end whole first s = record {
-  all = ap (λ ys. map item_told (coming_items coming ++ ys)) (items_push end after.items flight)
-      ∙ ap (map item_told) (sym (append_assoc (coming_items coming) (flight_items flight) after.items))
-      ∙ map-append item_told (coming_items coming ++ flight_items flight) after.items
-      ∙ ap (λ ys. ys ++ map item_told after.items) (s.all ∙ ap (λ ys. told ++ map item_told ys) (drop_whole stream.items stream.next whole) ∙ append-nil told)
-      ∙ ap (λ k. told ++ map item_told (drop k after.items)) (sym first);
+  all = ap (λ ys. map item_of_change (coming_items coming ++ ys)) (items_push end after.items flight)
+      ∙ ap (map item_of_change) (sym (append_assoc (coming_items coming) (flight_items flight) after.items))
+      ∙ map-append item_of_change (coming_items coming ++ flight_items flight) after.items
+      ∙ ap (λ ys. ys ++ map item_of_change after.items) (s.all ∙ ap (λ ys. told ++ map item_of_change ys) (drop_whole stream.items stream.next whole) ∙ append-nil told)
+      ∙ ap (λ k. told ++ map item_of_change (drop k after.items)) (sym first);
   last = last_push end after.items flight;
 }
 
 -- the consumer took the marker of the first one on its way
-pub marker_comes : (told : List ItemTold) (stream : PlainStream) (x : ℕ × List Change) (more : List (ℕ × List Change)) → ComingIs told stream (x ∷ more) (Some []) → ComingIs told stream more (Some x.1)
-marker_comes told stream x more s = record { all = s.all; last = elim more as (λ xs. LastIs stream.items (x ∷ xs) → LastIs stream.items xs) [ [] ↦ (λ l. tt) | y ∷ ys ↦ (λ l. l) ] s.last }
+pub marker_comes : (told : List ItemLine) (stream : PlainStream) (x : ℕ × List Change) (more : List (ℕ × List Change)) → ComingIs told stream (x ∷ more) (Some []) → ComingIs told stream more (Some x.1)
+marker_comes told stream x more s = record { all = s.all; last = elim more as (λ xs. LastAgrees stream.items (x ∷ xs) → LastAgrees stream.items xs) [ [] ↦ (λ l. tt) | y ∷ ys ↦ (λ l. l) ] s.last }
 
 -- frames of changes
 
@@ -81,7 +81,7 @@ module _ (o v start : ℕ) (over : Bool) (stream : PlainStream) (c : Change) (la
   unput_len = ap (λ (fs : List Frame). length fs) unput_is ∙ items_all o v left (All-drop ChangeFits stream.next stream.items fits)
 
   -- where no item that was put is to come, more are left than there are
-  none_put : (flight : List (ℕ × List Change)) → LastIs stream.items flight → length left ≡ 1 + (length later + length (flight_items flight)) → (b : Bool) → over ≡ b
+  none_put : (flight : List (ℕ × List Change)) → LastAgrees stream.items flight → length left ≡ 1 + (length later + length (flight_items flight)) → (b : Bool) → over ≡ b
       → items_frames o v later ++ flight_frames o v b start flight ≡ more ++ unput → ⊥
   none_put [] l e true q frames =
       let none : length unput ≡ 0 = ap (λ (fs : List Frame). length fs) (all_put q) in let same = unput_len in omega (arith, none, same, e)
@@ -95,19 +95,19 @@ module _ (o v start : ℕ) (over : Bool) (stream : PlainStream) (c : Change) (la
       let few : length stream.items ≤ length (flight_items (x ∷ xs)) = last_most stream.items x xs l in omega (arith, most, few, e)
 
   -- the first item that was put is this one's
-  pub next_told : (flight : List (ℕ × List Change)) (told : List ItemTold) → ComingIs told stream flight (Some (c ∷ later)) → items_frames o v later ++ flight_frames o v over start flight ≡ more ++ unput
-      → (rest : List ItemTold) × (told ≡ item_told c ∷ rest) × (map item_told (later ++ flight_items flight) ≡ rest ++ map item_told left)
-  next_told flight [] s frames =
-      let lens : length (map item_told (c ∷ (later ++ flight_items flight))) ≡ length (map item_told left) = ap (λ (xs : List ItemTold). length xs) s.all in
-      let before = length-map (c ∷ (later ++ flight_items flight)) item_told in let after = length-map left item_told in
+  pub next_item_line : (flight : List (ℕ × List Change)) (told : List ItemLine) → ComingIs told stream flight (Some (c ∷ later)) → items_frames o v later ++ flight_frames o v over start flight ≡ more ++ unput
+      → (rest : List ItemLine) × (told ≡ item_of_change c ∷ rest) × (map item_of_change (later ++ flight_items flight) ≡ rest ++ map item_of_change left)
+  next_item_line flight [] s frames =
+      let lens : length (map item_of_change (c ∷ (later ++ flight_items flight))) ≡ length (map item_of_change left) = ap (λ (xs : List ItemLine). length xs) s.all in
+      let before = length-map (c ∷ (later ++ flight_items flight)) item_of_change in let after = length-map left item_of_change in
       let both = length-append later (flight_items flight) in
       absurd (none_put flight s.last (omega (arith, lens, before, after, both)) over refl frames)
-  next_told flight (t ∷ rest) s frames =
-      let first : item_told c ∷ map item_told (later ++ flight_items flight) ≡ t ∷ (rest ++ map item_told left) = s.all in
-      let same : item_told c ≡ t = cc in (rest, ap (λ x. x ∷ rest) (sym same), ap (drop 1) first)
+  next_item_line flight (t ∷ rest) s frames =
+      let first : item_of_change c ∷ map item_of_change (later ++ flight_items flight) ≡ t ∷ (rest ++ map item_of_change left) = s.all in
+      let same : item_of_change c ≡ t = cc in (rest, ap (λ x. x ∷ rest) (sym same), ap (drop 1) first)
 
 -- and the consumer took it
-pub taken_comes : (told : List ItemTold) (stream : PlainStream) (flight : List (ℕ × List Change)) (c : Change) (later : List Change) → ComingIs told stream flight (Some (c ∷ later))
-    → ((rest : List ItemTold) × (told ≡ item_told c ∷ rest) × (map item_told (later ++ flight_items flight) ≡ rest ++ map item_told (drop stream.next stream.items)))
+pub taken_comes : (told : List ItemLine) (stream : PlainStream) (flight : List (ℕ × List Change)) (c : Change) (later : List Change) → ComingIs told stream flight (Some (c ∷ later))
+    → ((rest : List ItemLine) × (told ≡ item_of_change c ∷ rest) × (map item_of_change (later ++ flight_items flight) ≡ rest ++ map item_of_change (drop stream.next stream.items)))
     → ComingIs (drop 1 told) stream flight (Some later)
-taken_comes told stream flight c later s (rest, is, all) = record { all = all ∙ ap (λ ts. drop 1 ts ++ map item_told (drop stream.next stream.items)) (sym is); last = s.last }
+taken_comes told stream flight c later s (rest, is, all) = record { all = all ∙ ap (λ ts. drop 1 ts ++ map item_of_change (drop stream.next stream.items)) (sym is); last = s.last }

@@ -1,17 +1,17 @@
 -- an acknowledgement is counted at a producer, or refused: all lines are lawful, and after them all agrees
 use Rattle.std.specs.Prelude.{◌≡◌, ◌<◌, ◌≤◌, ◌∷◌, ◌++◌, ◌==◌, ◌&&◌, ◌^◌, if◌then◌else◌, nat_lt, not, Result, Ok, Err}
-use Rattle.dcp_producer.specs.{Producers.{member_of}, Serving.{acknowledged, count_answered, count_asked, counted_by, counted_line, status_frame, stream_of, weighed}}
+use Rattle.dcp_producer.specs.{Producers.{member_of}, Serving.{acknowledged, count_answered, count_requested, counted_by, counted_line, status_frame, stream_of, weighed}}
 use Rattle.durability.specs.Outstanding.{with_ack}
 use Rattle.mcbp_frame.proofs.Pieces.{frames-left, left-left}
 use Rattle.node_core.specs.Calls.{own_lines}
 use Rattle.node_world.specs.{Links.{frame_up}, Nodes.{all_posted}}
 use Rattle.transcript_law.proofs.Words.{ℕ, Bool, true, false, List, [], map, refl, ap, sym, ◌∙◌, subst, arith, append-nil, append_assoc, eq-eqb, Option, Some, None, is_some, last_seq, ltb-false, LawfulCounted, LawfulLine, PlainStream, Role, All, All-head, All-tail, Frame, spelling, Readable, frames_in, left_of, dcp_frame, Event, Status, StreamName}
 use Rattle.transcript_law.proofs.Words.{Plain, is_active, newest_branch, quiet_reply, refusal_reply, after, row_at, row_put, States, with_vb_at, call_at, VbAnswer, VbCall, VbReply, Member, Granted, StaysSound, Served, begun, frame_answered, status_sent}
-use Rattle.transcript_law.proofs.Words.{PlainProducer, PlainConsumer, PeerTold, PlainLink, link_number, producer_node, PlainNode, PlainWorld, with_states, with_node_at, with_links, vb_in, shelf_in, Chronicle, after_line, after_lines, stream_branch, LawfulFrom}
-use Rattle.transcript_law.proofs.invariant.Agreement.{active_counts, Agrees, AgreesAt, AgreesIn, EndsStand, IsAcknowledgement, IsWriter, IsWriterIf, LinkAgrees, kept_stream, Streaming, Talk, VbAgrees, Wants, consumer_seat, idle, is_refused_ack, producer_seat, spoken, vb_of, wants_of, DownIs, UpIs}
+use Rattle.transcript_law.proofs.Words.{PlainProducer, PlainConsumer, PeerResult, PlainLink, link_number, producer_node, PlainNode, PlainWorld, with_states, with_node_at, with_links, vb_in, shelf_in, Chronicle, after_line, after_lines, stream_branch, LawfulFrom}
+use Rattle.transcript_law.proofs.invariant.Agreement.{active_counts, Agrees, AgreesAt, AgreesIn, EndsStand, IsAcknowledgement, IsWriter, IsWriterIf, LinkAgrees, kept_stream, Streaming, Talk, VbAgrees, Wants, consumer_seat, idle, is_refused_ack, producer_seat, spoken, vb_of, wants_of, DownAgrees, UpIs}
 use Rattle.transcript_law.proofs.{invariant.Counts.{counts_agree}, invariant.Majorities.{counts_more}}
 use Rattle.transcript_law.specs.Chronicles.{after_count}
-use Rattle.transcript_law.proofs.{invariant.Carried.{talk_same, told_none}, lines.ClientLines.{clients_quiet}, disks.Disks.{power_in}, invariant.JobSteps.{put_over}, invariant.LinkRows.{put_is_found, put_twice}, lines.Lines.{AreQuiet, after_more, lawful_more, quiet_more}}
+use Rattle.transcript_law.proofs.{invariant.Carried.{talk_same, told_of_same}, lines.ClientLines.{clients_quiet}, disks.Disks.{power_in}, invariant.JobSteps.{put_over}, invariant.LinkRows.{put_is_found, put_twice}, lines.Lines.{AreQuiet, after_more, lawful_more, quiet_more}}
 use Rattle.transcript_law.proofs.{verbs.NodeLines.{node_changed, node_grown, put_same, shelves_again, shelves_put}, links.Posting.{posts_go, posts_of_clients, posts_ranged}, invariant.Ranged.{NodeRanged}, links.Requests.{ack_answered}, invariant.Seats.{seat}}
 use Rattle.transcript_law.proofs.verbs.Settling.{SettlesOn, Steady, changes_quiet, changes_told, settled_told, settles}
 use Rattle.transcript_law.proofs.{links.Spoken.{spoken_pushed}, invariant.Tables.{if_known}, links.Talks.{come, more_down, next_up}, lines.Telling.{LawfulBefore, before_more, none_before, told_more}, links.Unread.{answering, heard_link, readable_up, reread, unread}}
@@ -66,17 +66,17 @@ module _ (stays : StaysSound) (steady : Steady) (w0 : PlainWorld) (r0 : Chronicl
   abbrev o : ℕ
   o = link0.consumer.asked
 
-  abbrev So : List Frame → PlainNode × PeerTold → Type 0
+  abbrev So : List Frame → PlainNode × PeerResult → Type 0
   So fs x = Now w0 r0 n link0 found fs x
 
   -- the link's stream, with a frame about to be answered
-  abbrev pub StreamingNow : (f : Frame) (fs : List Frame) (x : PlainNode × PeerTold) → So (f ∷ fs) x → Type 0
+  abbrev pub StreamingNow : (f : Frame) (fs : List Frame) (x : PlainNode × PeerResult) → So (f ∷ fs) x → Type 0
   StreamingNow f fs x now =
       let la = link_now w0 r0 n link0 found (f ∷ fs) x now in
       Streaming (wants_of la.follower) (now.cluster.nodes (consumer_seat link0)) (vb_of (world_at w0 r0 n link0 found x) (producer_node (served_at w0 r0 n link0 found x.1)) v) (now.cluster.nodes (producer_seat (served_at w0 r0 n link0 found x.1)))
       ((after_lines r0 x.1.events).stream_of (StreamName.Link l) v) x.1.peer.producer link0.consumer la.talk.asked (spoken la.talk.said)
 
-  module _ (f : Frame) (fs : List Frame) (x : PlainNode × PeerTold) (now : So (f ∷ fs) x) (t : StreamingNow f fs x now) where
+  module _ (f : Frame) (fs : List Frame) (x : PlainNode × PeerResult) (now : So (f ∷ fs) x) (t : StreamingNow f fs x now) where
     abbrev end : PlainProducer
     end = x.1.peer.producer
 
@@ -147,7 +147,7 @@ module _ (stays : StaysSound) (steady : Steady) (w0 : PlainWorld) (r0 : Chronicl
 
     -- where the link stands behind it
     talk_left : (out : List ℕ) (said : List Frame) → spoken said ≡ spoken la.talk.said → (let y = answered_at w0 r0 n link0 found x x.0.vbs end [] out in let there = served_at w0 r0 n link0 found y.1 in
-        DownIs there [] said → Talk la.follower (now.cluster.nodes (consumer_seat link0)) (vb_of (world_at w0 r0 n link0 found x) (producer_node here) v) (now.cluster.nodes (producer_seat here)) (r.stream_of (StreamName.Link l) v) (r.point_of l) there fs [])
+        DownAgrees there [] said → Talk la.follower (now.cluster.nodes (consumer_seat link0)) (vb_of (world_at w0 r0 n link0 found x) (producer_node here) v) (now.cluster.nodes (producer_seat here)) (r.stream_of (StreamName.Link l) v) (r.point_of l) there fs [])
     talk_left out said same downs = record {
       asked = rest;
       said = said;
@@ -159,10 +159,10 @@ module _ (stays : StaysSound) (steady : Steady) (w0 : PlainWorld) (r0 : Chronicl
 
     -- the vBuckets are as they were, the lines tell nothing, and the link stands so
     left_on : (st : States) → ((q : ℕ) → st q ≡ x.0.vbs q) → (lines : List Event) → LawfulBefore r lines → after_lines r lines ≡ r → (out : List ℕ) (said : List Frame) → spoken said ≡ spoken la.talk.said
-        → DownIs (served_at w0 r0 n link0 found (answered_at w0 r0 n link0 found x st end lines out).1) [] said → So fs (answered_at w0 r0 n link0 found x st end lines out)
+        → DownAgrees (served_at w0 r0 n link0 found (answered_at w0 r0 n link0 found x st end lines out).1) [] said → So fs (answered_at w0 r0 n link0 found x st end lines out)
     left_on st same lines lawful told out said spoke downs =
         let y = answered_at w0 r0 n link0 found x st end lines out in
-        quiet_at w0 r0 n link0 found (f ∷ fs) fs x now st same end lines out refl (λ has. has) lawful r told (told_none l r) refl
+        quiet_at w0 r0 n link0 found (f ∷ fs) fs x now st same end lines out refl (λ has. has) lawful r told (told_of_same l r) refl
         (talk_same refl (same_vbs w0 r0 n link0 found x y same end.desk.node v) refl refl refl (talk_left out said spoke downs))
 
     -- it is refused
@@ -227,12 +227,12 @@ module _ (stays : StaysSound) (steady : Steady) (w0 : PlainWorld) (r0 : Chronicl
         counted_lawful behind = subst (λ line. LawfulLine r line behind) (sym line_is) is_counted
 
         -- the link without the frame
-        abbrev told_x : PlainNode × PeerTold
+        abbrev told_x : PlainNode × PeerResult
         told_x = answered_at w0 r0 n link0 found x x.0.vbs end [] []
 
         told_now : So fs told_x
         told_now = left_on x.0.vbs (λ q. refl) [] (none_before r) refl [] la.talk.said refl
-            (subst (λ out. DownIs (record here { down = link0.down ++ out }) [] la.talk.said) (sym (append-nil x.1.out)) la.talk.downs)
+            (subst (λ out. DownAgrees (record here { down = link0.down ++ out }) [] la.talk.said) (sym (append-nil x.1.out)) la.talk.downs)
 
         told_same : after_lines r0 told_x.1.events ≡ r
         told_same = told_more r0 x.1.events []
@@ -326,7 +326,7 @@ module _ (stays : StaysSound) (steady : Steady) (w0 : PlainWorld) (r0 : Chronicl
             (counted_lawful (changes ++ posts.1), subst (λ z. LawfulFrom z (changes ++ posts.1)) (sym counted_tells) (lawful_more r3 changes posts.1 (changes_quiet m v (newest_branch acked_vb.log) settles_on.cs) settles_on.lawful went.0)) behind
 
         -- the node and the connection after the frame
-        abbrev y : PlainNode × PeerTold
+        abbrev y : PlainNode × PeerResult
         y = (posts.0, record { peer = record { heard = x.1.peer.heard; producer = end }; events = x.1.events ++ lines; out = x.1.out ++ []; resolved = [] })
 
         abbrev w5 : PlainWorld
@@ -368,7 +368,7 @@ module _ (stays : StaysSound) (steady : Steady) (w0 : PlainWorld) (r0 : Chronicl
             ∙ ap (λ k. own_lines m k reply) vb_is
             ∙ settled_told m v (quiet_reply VbAnswer.Done) acked_vb (newest_branch acked_vb.log) settles_on.cs refl settles_on.changes (ap newest_branch settles_on.log)
 
-        abbrev with_changes : List Event → PlainNode × PeerTold
+        abbrev with_changes : List Event → PlainNode × PeerResult
         with_changes cs = came_of w0 r0 n link0 found x (last_states, record s { events = counted ∷ cs; resolved = reply.resolved })
 
         taken_now : So fs (came_of w0 r0 n link0 found x (step_came (and_settled (acked_vb, quiet_reply VbAnswer.Done))))
@@ -383,7 +383,7 @@ module _ (stays : StaysSound) (steady : Steady) (w0 : PlainWorld) (r0 : Chronicl
 
     -- what was made of the frame, by what it was weighed as
     abbrev weighed_came : Result ℕ Status → States × Served
-    weighed_came x' = after (count_asked f seq s x') x.0.vbs
+    weighed_came x' = after (count_requested f seq s x') x.0.vbs
 
     counts : (member : ℕ) → weighed seq (stream_of f.vb_or_status s.end.stream) (member_of s.end.handshake) ≡ Ok member → So fs (came_of w0 r0 n link0 found x (weighed_came (Ok member)))
     counts member weight = subst (λ k. So fs (came_of w0 r0 n link0 found x (let z = call_at x.0.vbs k (VbCall.Ack member seq) (x.0.vbs k) in (z.0, count_answered f member seq s z.1)))) (sym vb_is) (by (x.0.vbs v) refl)

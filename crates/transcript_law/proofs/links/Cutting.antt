@@ -2,21 +2,21 @@
 use Rattle.std.specs.Prelude.{◌≡◌, ◌∷◌, ◌==◌, if◌then◌else◌}
 use Rattle.transcript_law.proofs.Words.{ℕ, Bool, true, false, cond, List, [], refl, ap, sym, ◌∙◌, subst, inl, inr, Option, Some, None, not, eqb-true, ne_eqb, Frame}
 use Rattle.transcript_law.proofs.Words.{Stream, Plain, Done, Call, after, States, with_vb_at, call_at, stream_at, Sound, StaysSound, row_out, Cluster, PlainStream, PlainLink, link_number}
-use Rattle.transcript_law.proofs.Words.{producer_node, PlainNode, PlainWorld, with_node_at, with_links, with_states, vb_in, node_if, unlinked, Chronicle, VbCall, Prog, closed_stream, close_row}
+use Rattle.transcript_law.proofs.Words.{producer_node, PlainNode, PlainWorld, with_node_at, with_links, with_states, vb_in, node_if, unlinked, Chronicle, VbCall, Prog, without_stream, close_row}
 use Rattle.transcript_law.proofs.Words.{stream_closed, end_closed}
 use Rattle.transcript_law.proofs.invariant.Seats.{seat}
 use Rattle.transcript_law.proofs.invariant.Agreement.{vb_of, AgreesAt, VbAgrees, LinkAgrees, is_open, Busy, AgreesIn}
 use Rattle.transcript_law.proofs.invariant.Carrying.{Relinked, BecameOver}
 use Rattle.transcript_law.proofs.invariant.Carried.{stream_opened}
-use Rattle.transcript_law.proofs.verbs.NodeLines.{shelves_again, shelves_put, same_node, node_changed}
+use Rattle.transcript_law.proofs.verbs.NodeLines.{shelves_again, shelves_put, node_of_same_vbs, node_changed}
 
 -- streams of other numbers stay
-closed_others : (id x : ℕ) (streams : List Stream) → (x ≡ id → ⊥) → stream_at x (closed_stream id streams) ≡ stream_at x streams
+closed_others : (id x : ℕ) (streams : List Stream) → (x ≡ id → ⊥) → stream_at x (without_stream id streams) ≡ stream_at x streams
 closed_others id x [] ne = refl
 closed_others id x (s ∷ ss) ne = by (closed_others id x ss ne) (s.id == id) refl
   where
-    by : stream_at x (closed_stream id ss) ≡ stream_at x ss → (b : Bool) → (s.id == id) ≡ b
-        → stream_at x (cond (not b) (s ∷ closed_stream id ss) (closed_stream id ss)) ≡ (if s.id == x then Some s else stream_at x ss)
+    by : stream_at x (without_stream id ss) ≡ stream_at x ss → (b : Bool) → (s.id == id) ≡ b
+        → stream_at x (cond (not b) (s ∷ without_stream id ss) (without_stream id ss)) ≡ (if s.id == x then Some s else stream_at x ss)
     by more true e = more ∙ sym (ap (λ b. if b then Some s else stream_at x ss) (ne_eqb s.id x (λ q. ne (sym q ∙ eqb-true s.id id e))))
     by more false e = ap (λ o. if s.id == x then Some s else o) more
 
@@ -56,7 +56,7 @@ module _ (stays : StaysSound) (w : PlainWorld) (link : PlainLink) where
   -- a node whose vBuckets are as they were
   kept : (node : PlainNode) (states : States) → w.nodes p ≡ Some node → ((q : ℕ) → states q ≡ node.vbs q) → Relinked w (with_links (with_node_at w p (with_states node states)) rest) rest
   kept node states known same =
-      let one = same_node w p node (with_states node states) known same (λ q. refl) refl in
+      let one = node_of_same_vbs w p node (with_states node states) known same (λ q. refl) refl in
       record { powers = one.powers; vbs = one.vbs; shelves = one.shelves; uuids = one.uuids; linked = refl }
 
   abbrev closed_vb : Plain → Plain

@@ -2,19 +2,19 @@
 use Rattle.std.specs.Prelude.{◌≡◌, ◌+◌, ◌<◌, ◌≤◌, ◌∷◌, ◌++◌, ◌==◌, if◌then◌else◌}
 use Rattle.transcript_law.proofs.Words.{ℕ, Bool, true, false, zero, suc, List, [], drop, take, refl, ap, sym, ◌∙◌, subst, arith, inl, inr, ⊎_elim, Option, Some, None}
 use Rattle.transcript_law.proofs.Words.{All, drop-nil, All-tail, eq-eqb, eqb-true, Frame, Readable, dcp_frame, AskAnswer, StreamAsk, Event, EndReason, Cluster, Move, happens, SoundCluster, Plain, shelf_in}
-use Rattle.transcript_law.proofs.Words.{Ended, row_at, row_put, row_out, with_vb_at, after_job, PlainConsumer, DialTold, frame_taken, roll_back, PlainLink, link_number, PlainWorld, with_node_at, with_links}
+use Rattle.transcript_law.proofs.Words.{Ended, row_at, row_put, row_out, with_vb_at, after_job, PlainConsumer, DialResult, frame_taken, roll_back, PlainLink, link_number, PlainWorld, with_node_at, with_links}
 use Rattle.transcript_law.proofs.{Words.{vb_in, Chronicle, after_end, after_line, after_lines, LawfulLine, LawfulFrom, StaysSound, unlinked}, invariant.Agreement.{DiskIsIf, shelf_of, EndsStand, wants_of, vb_of, first_answers, answer_frame, spoken}}
-use Rattle.transcript_law.proofs.{invariant.Agreement.{waits_after, IsRefused, PointIs, DownIs, ServerIs, ConsumerIs, Asking, RefusedYet, VbAgrees, LinkAgrees, Busy, idle, top, AgreesIn, consumer_seat, Wants}, invariant.Seats.{seat}}
+use Rattle.transcript_law.proofs.{invariant.Agreement.{waits_after, IsRefused, PointAgrees, DownAgrees, ServerIs, ConsumerIs, Asking, RefusedYet, VbAgrees, LinkAgrees, Busy, idle, top, AgreesIn, consumer_seat, Wants}, invariant.Seats.{seat}}
 use Rattle.transcript_law.proofs.{invariant.Carrying.{ToldOf, TakenOf, MemberChanged, BecameOver}, links.Cutting.{IsClosable, closable, unlinking}, invariant.LinkRows.{found_is_link, put_is_found, put_twice, put_out}, invariant.OneLink.{carries_link}}
-use Rattle.transcript_law.proofs.{invariant.OneLink.{carries_over, carries_consumer}, lines.Lines.{IsQuiet, AreQuiet, after_more, lawful_more, quiet_more}, links.Taken.{first_taken, refused_taken, rolled_taken}, invariant.Carried.{told_none}}
-use Rattle.transcript_law.proofs.invariant.Carried.{end_told, busy_one, one_here, one_but, one_idle}
+use Rattle.transcript_law.proofs.{invariant.OneLink.{carries_over, carries_consumer}, lines.Lines.{IsQuiet, AreQuiet, after_more, lawful_more, quiet_more}, links.Taken.{first_taken, refused_taken, rolled_taken}, invariant.Carried.{told_of_same}}
+use Rattle.transcript_law.proofs.invariant.Carried.{stream_end_lines, busy_one, one_here, one_but, one_idle}
 use Rattle.{dcp_consumer.specs.Machine.{answered, over_why}, dcp_consumer.specs.declared.handshake.Handshake.{Handshake}, mcbp_dcp.specs.declared.message.DcpMsg.TheVariants.{ControlAnswer, OpenAnswer}}
 use Rattle.{disk_journals.specs.Arms.{arm_over, fuse_at, under}, node_core.specs.Dials.{is_broken}, node_world.specs.Arms.{fired_by, lifted}, node_world.specs.Worlds.{arm_in}, node_world.specs.declared.arm.Fired.{Fired}, std.specs.List.{list_any}, vb_calls.specs.Shelves.{Shelf, Shelves}}
 use Rattle.node_world.specs.declared.arm.Fired.TheVariants as fired
-use Rattle.transcript_law.specs.LineAnswers.{FailsIn, IsNoted, StopsIn, rollbacks_told}
+use Rattle.transcript_law.specs.LineAnswers.{FailsIn, IsNoted, StopsIn, rollbacks_in_lines}
 use Rattle.vb_disk.specs.declared.fuse.Fuse.{Fuse}
 use Rattle.vb_disk.specs.declared.fuse.Fuse.TheVariants.{Off}
-use Rattle.{transcript_law.specs.Chronicles.{ArmTold, DiskTold, after_append, after_calls, appending, calls_of_append, is_rollback, rollback_of}, vb_events.specs.declared.event.Answer.{Answer}, vb_types.specs.declared.journal.Record.{Record}}
+use Rattle.{transcript_law.specs.Chronicles.{ArmKnown, DiskKnown, after_append, after_calls, appending, calls_of_append, is_rollback, rollback_of}, vb_events.specs.declared.event.Answer.{Answer}, vb_types.specs.declared.journal.Record.{Record}}
 use Rattle.vb_events.specs.declared.event.Answer.TheVariants as answer
 use Rattle.vb_events.specs.declared.event.Cause.TheVariants as cause
 use Rattle.transcript_law.proofs.{disks.ArmedLines.{ArmedCame}, invariant.Agreement.{Agrees, RestsIn, power_of}, invariant.Carrying.{Changed}, disks.Disks.{power_in}, verbs.NodeLines.{shelves_again, shelves_there}, invariant.OneLink.{consumer_rests, put_ends}}
@@ -131,7 +131,7 @@ module _ (line : Line) where
   end_of at over = record { dialed = link.consumer.dialed; handshake = waiting_unless over at.waiting; asked = at.asked; acked = at.acked }
 
   -- the dial then, and what was told
-  abbrev pub so_far : Asker → Option EndReason → List Event → DialTold
+  abbrev pub so_far : Asker → Option EndReason → List Event → DialResult
   so_far at over events = record { dial = record { heard = left; consumer = end_of at over }; events = events; out = at.out }
 
   abbrev pub link_now : Asker → PlainLink
@@ -179,11 +179,11 @@ module _ (line : Line) where
 
   -- what a line comes to that wrote down a rollback, or could not: its link is open, or over, or over because of the disk
   abbrev pub RolledCame : Record → Option EndReason → Kept → Asker → List Event → Type 0
-  RolledCame what None states at events = (over_why at.waiting ≡ None) × (list_any is_rollback events ≡ true) × Agrees (with_links (lifted_at states) (row_put link_number l (link_now at) w.links)) (after_calls calls_of_append n (after_lines r events)) × IsNoted (r.disk_at n v).closed node.arm.fuse answer.Ok × (rollbacks_told events ≡ (n, (v, what)) ∷ [])
+  RolledCame what None states at events = (over_why at.waiting ≡ None) × (list_any is_rollback events ≡ true) × Agrees (with_links (lifted_at states) (row_put link_number l (link_now at) w.links)) (after_calls calls_of_append n (after_lines r events)) × IsNoted (r.disk_at n v).closed node.arm.fuse answer.Ok × (rollbacks_in_lines events ≡ (n, (v, what)) ∷ [])
   RolledCame what (Some Disk) states at events =
       let left : PlainWorld = unlinked link (lifted_at states) in let how : Fired = fired_by node.arm.fuse (arm_in (left.nodes n)).fuse in
       ArmedCame n (λ said told. after_append told n v (appending what) said) how (after_lines r events) left (broken_answer how) × FiredIn how (r.disk_at n v).closed node.arm.fuse × (list_any is_rollback events ≡ false)
-  RolledCame what (Some why) states at events = (list_any is_rollback events ≡ true) × Agrees (unlinked link (lifted_at states)) (after_calls calls_of_append n (after_end (after_lines r events) l)) × IsNoted (r.disk_at n v).closed node.arm.fuse answer.Ok × (rollbacks_told events ≡ (n, (v, what)) ∷ [])
+  RolledCame what (Some why) states at events = (list_any is_rollback events ≡ true) × Agrees (unlinked link (lifted_at states)) (after_calls calls_of_append n (after_end (after_lines r events) l)) × IsNoted (r.disk_at n v).closed node.arm.fuse answer.Ok × (rollbacks_in_lines events ≡ (n, (v, what)) ∷ [])
 
   -- it is the last that a line tells of its frames
   pub record RolledAt (over : Option EndReason) (states : Kept) (at : Asker) (events : List Event) : Type 0 where
@@ -199,7 +199,7 @@ module _ (line : Line) where
   Stage false busy states at (Some why) events = Gone why states events
   Stage true busy states at over events = (spoken busy ≡ []) × RolledAt over states at events
 
-  pub record Reached (busy : List Frame) (came : Kept × DialTold) : Type 0 where
+  pub record Reached (busy : List Frame) (came : Kept × DialResult) : Type 0 where
     pub states : Kept
     pub at : Asker
     pub over : Option EndReason
@@ -218,7 +218,7 @@ module _ (line : Line) where
       (g.agrees.links (link_now at) (found_is_link l (now states at).links (link_now at) (found_now states at)).0)
 
   -- the frames behind the first, which was taken
-  pub next_downs : (at at' : Asker) (f : Frame) (rest all : List Frame) (x : DownIs (link_now at) (f ∷ rest) all) → DownIs (link_now at') rest (rest ++ x.behind)
+  pub next_downs : (at at' : Asker) (f : Frame) (rest all : List Frame) (x : DownAgrees (link_now at) (f ∷ rest) all) → DownAgrees (link_now at') rest (rest ++ x.behind)
   next_downs at at' f rest all x =
       record { behind = x.behind; joined = refl; bytes = x.bytes; readable = All-tail Readable f (rest ++ x.behind) (subst (All Readable) x.joined x.readable) }
 
@@ -253,7 +253,7 @@ module _ (line : Line) where
       agrees = carries_link (busy_at (f ∷ rest)) (busy_at rest) (now states at) (now states at') (after_lines r events) (after_lines r events) g.cluster l (link_now at) (link_now at')
           g.agrees (found_now states at) (record { dialed = refl; desk = refl })
           (record { powers = λ m. refl; vbs = λ m q. refl; shelves = λ m q. refl; uuids = refl; linked = sym (put_twice l w.links (link_now at) (link_now at') refl) })
-          (λ s. s) (told_none l (after_lines r events)) (one_but l ([], f ∷ rest) ([], rest))
+          (λ s. s) (told_of_same l (after_lines r events)) (one_but l ([], f ∷ rest) ([], rest))
           (subst (λ b. LinkAgrees (now states at') (after_lines r events) g.cluster (link_now at') b.0 b.1) (sym (one_here l ([], rest))) (record {
             follower = m.follower;
             follower_is = m.follower_is;
@@ -295,7 +295,7 @@ module _ (line : Line) where
       (left_out states states' at vbs (same_shelves states' states shelves) (unlinking stays (there states') link can)) ends
       (λ x ne. sym (one_idle l ([], busy) x ne))
 
-  pub ended : (stays : StaysSound) (f : Frame) (rest : List Frame) (states states' : Kept) (at at' : Asker) (events : List Event) (why : EndReason) (came : Kept × DialTold) (g : Going (f ∷ rest) states at events) → is_broken (Some why) ≡ false
+  pub ended : (stays : StaysSound) (f : Frame) (rest : List Frame) (states states' : Kept) (at at' : Asker) (events : List Event) (why : EndReason) (came : Kept × DialResult) (g : Going (f ∷ rest) states at events) → is_broken (Some why) ≡ false
       → came ≡ (states', so_far at' (Some why) events) → ((m q : ℕ) → vb_of (there states') m q ≡ vb_of (now states at) m q) → states'.1 ≡ states.1 → Reached rest came
   ended stays f rest states states' at at' events why came g other e vbs shelves = record {
     states = states';
@@ -310,7 +310,7 @@ module _ (line : Line) where
       onward = record { arm = ap (λ s. fuse_at s v) shelves ∙ g.onward.arm; lines = g.onward.lines };
       not_disk = other;
       cluster = happens g.cluster (Move.Cut k);
-      agrees = ended_agrees stays (f ∷ rest) states states' at events (after_end (after_lines r events) l) g vbs shelves (end_told (after_lines r events) l);
+      agrees = ended_agrees stays (f ∷ rest) states states' at events (after_end (after_lines r events) l) g vbs shelves (stream_end_lines (after_lines r events) l);
     };
   }
 
@@ -368,7 +368,7 @@ module _ (line : Line) where
 
     rests : RestsIn (now states' at') (after_line before told) c'
     rests = consumer_rests (busy_at (f ∷ rest)) (now states at) (now states' at') before (after_line before told) g.cluster c' l (link_now at) fv fv' (row_put link_number l (link_now at') (now states at).links)
-        g.agrees (found_now states at) known role streams changed taken member vb disk (λ m. ap (λ (t : ℕ → ArmTold). t m) arms) stays
+        g.agrees (found_now states at) known role streams changed taken member vb disk (λ m. ap (λ (t : ℕ → ArmKnown). t m) arms) stays
         (put_ends (busy_at (f ∷ rest)) (now states at) (now states' at') before g.cluster l (link_now at) (link_now at') g.agrees (found_now states at) (record { dialed = refl; desk = refl }) changed.powers changed.linked)
 
     -- with these frames to come
@@ -394,7 +394,7 @@ module _ (line : Line) where
         quiet = quiet_more events (told ∷ []) g.quiet (quiet, tt);
         onward = record { arm = g.onward.arm; lines = onward_more events told g.onward.lines onward };
         cluster = c';
-        agrees = moved_agrees f rest states states.1 at at' events fv fv' told c' g (λ q o. refl) known role streams same.arms (ap (λ (t : ℕ → ℕ → DiskTold). (t n v).there) same.disks) taken member sound vb disk rest a;
+        agrees = moved_agrees f rest states states.1 at at' events fv fv' told c' g (λ q o. refl) known role streams same.arms (ap (λ (t : ℕ → ℕ → DiskKnown). (t n v).there) same.disks) taken member sound vb disk rest a;
       }
 
   -- one more answer was seen
@@ -445,11 +445,11 @@ module _ (line : Line) where
       last : Frame
       last = answer_frame at.asked [] x.said
 
-      s : DialTold
+      s : DialResult
       s = so_far at None events
 
       -- the answer itself
-      by_said : (said : AskAnswer) → IsRefused said → PointIs said point → x.seen ≡ 3 → answer_frame at.asked [] said ≡ f → [] ≡ more → RefusedNext f at events point up more
+      by_said : (said : AskAnswer) → IsRefused said → PointAgrees said point → x.seen ≡ 3 → answer_frame at.asked [] said ≡ f → [] ≡ more → RefusedNext f at events point up more
       by_said ask_answer.Go refused told three h e = absurd refused
       by_said (ask_answer.Roll to) refused told three h e = RefusedNext.IsBack to told
           (subst (λ y. frame_taken y s ≡ roll_back to s) h (rolled_taken to s refused (waits_last at x.seen three x.consumer)))

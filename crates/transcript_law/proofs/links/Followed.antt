@@ -1,13 +1,13 @@
 -- what a follower's vBucket makes of a log, a marker and a change, and its member of the cluster with it
 use Rattle.std.specs.Prelude.{◌≡◌, ◌<◌, ◌≤◌, ◌∷◌, ◌++◌, ◌⊎◌, ◌^◌, if◌then◌else◌}
-use Rattle.{branch_model.specs.Journals.{place_of}, cluster_model.specs.Clusters.{Disk, spanned}, vb_calls.specs.Shelves.{Shelf}, vb_calls.specs.Spans.{span_position}, vb_calls.specs.declared.span.Origin.{Origin}, transcript_law.specs.Chronicles.{DiskTold}}
+use Rattle.{branch_model.specs.Journals.{place_of}, cluster_model.specs.Clusters.{Disk, spanned}, vb_calls.specs.Shelves.{Shelf}, vb_calls.specs.Spans.{span_position}, vb_calls.specs.declared.span.Origin.{Origin}, transcript_law.specs.Chronicles.{DiskKnown}}
 use Rattle.transcript_law.proofs.{disks.Disks.{ShelfIs, grown_spots, parts_of, shelf_spanned}, invariant.Wholes.{Spanned}}
 use Rattle.transcript_law.proofs.Words.{ℕ, Bool, true, false, List, [], refl, ap, sym, ◌∙◌, subst, arith, inl, inr, ⊎_elim, Option, Some, None, nat_lt, cases_lt}
 use Rattle.transcript_law.proofs.Words.{nat_tests, All, All-append, All-nil, All-cons, Act, Change, Pend, Position, LogEntry, Role, upto, Rises, last_seq, IsOf, HasLast, hist, Shared, upto_down, in_filter}
 use Rattle.transcript_law.proofs.Words.{append_assoc, holds_fewer, holds_same, front, uuid_of, fork_of, Feed, Member, Cluster, above, member_reach, adopted, marked_by, received, start_cases, at_le, Received, Span, with_seal}
-use Rattle.transcript_law.proofs.Words.{with_change, span_of, last_at, Grown, DialTold, States, with_vb_at, call_at, Call, Prog, after, VbReply, VbCall, Plain, plain_step, is_active, quiet_reply, refusal_reply}
+use Rattle.transcript_law.proofs.Words.{with_change, span_of, last_at, Grown, DialResult, States, with_vb_at, call_at, Call, Prog, after, VbReply, VbCall, Plain, plain_step, is_active, quiet_reply, refusal_reply}
 use Rattle.transcript_law.proofs.{Words.{is_follower, is_answerable, marker_fits, marked_vb, is_next, with_received_change, Sound, StaysSound, Chronicle, held_more, with_at, known_history}, invariant.Tables.{at_here}}
-use Rattle.transcript_law.proofs.{invariant.Wholes.{joined_opens, WholeTo, fork_held, whole_before, whole_sealed, not_inside, spanned_marked, spanned_received, from_is}, invariant.Agreement.{ActFits, ChangeFits, EntryFits, BranchIs, WritesIf}}
+use Rattle.transcript_law.proofs.{invariant.Wholes.{joined_opens, WholeTo, fork_held, whole_before, whole_sealed, not_inside, spanned_marked, spanned_received, from_is}, invariant.Agreement.{ActFits, ChangeFits, EntryFits, BranchAgrees, WritesIf}}
 use Rattle.transcript_law.proofs.{invariant.Agreement.{all_rise, no_counts, own_history, VbAgrees, marker_start, top}, invariant.Carried.{no_writer}}
 use Rattle.{branch_model.proofs.Holding.{holds_received, holds_whole}, branch_model.proofs.Lists.{in_left}, branch_model.specs.Requests.{marked}, std.proofs.Math.Nat.{min-eq_left, min-eq_right}}
 use Rattle.{std.specs.Prelude.{max, min, option_map}, transcript_law.specs.Chronicles.{after_adopt}, vb_calls.specs.Following.{cas_of, completed_act, receive_as}, vb_calls.specs.Spans.{received_joined}}
@@ -15,10 +15,10 @@ use Rattle.{vb_calls.specs.State.{pending_of}, vb_types.specs.declared.change.Ac
 use Rattle.vb_types.specs.declared.status.Status.TheVariants as status
 use Rattle.vb_calls.specs.declared.calls.VbAnswer.TheVariants as answer
 use Rattle.vb_calls.specs.declared.calls.VbCall.TheVariants as call
-use Rattle.transcript_law.proofs.{invariant.Bounded.{weighs_push}, links.Sent.{act_told, change_told}, invariant.Waiting.{commit_of}, Words.{Doc}}
+use Rattle.transcript_law.proofs.{invariant.Bounded.{weighs_push}, links.Sent.{act_told, change_line}, invariant.Waiting.{commit_of}, Words.{Doc}}
 
 -- what a call to a vBucket comes to
-pub came_of : (states : States) (v : ℕ) (c : VbCall) (next : Option VbReply → Prog DialTold) (fv fv' : Plain) (reply : VbReply) → states v ≡ Some fv → plain_step fv c ≡ (fv', reply)
+pub came_of : (states : States) (v : ℕ) (c : VbCall) (next : Option VbReply → Prog DialResult) (fv fv' : Plain) (reply : VbReply) → states v ≡ Some fv → plain_step fv c ≡ (fv', reply)
     → after (Call v c next) states ≡ after (next (Some reply)) (with_vb_at states v fv')
 came_of states v c next fv fv' reply e q = ap (λ o. let y = call_at states v c o in after (next y.1) y.0) e ∙ ap (λ y. after (next (Some y.1)) (with_vb_at states v y.0)) q
 
@@ -27,10 +27,10 @@ pub no_writes : (r : Chronicle) (n v br : ℕ) (b : Role) → is_active b ≡ fa
 no_writes r n v br b e = subst (λ x. WritesIf x r n v br) (sym e) tt
 
 -- the history of a member's branch is what the lines tell of it
-pub own_is : (r : Chronicle) (c : Cluster) (n v : ℕ) (m : Member) → ((u : ℕ) → hist c.tree u ≡ hist r.tree u) → hist c.tree 0 ≡ [] → BranchIs (r.branch_at n v) m.br → hist c.tree m.br ≡ own_history r n v
+pub own_is : (r : Chronicle) (c : Cluster) (n v : ℕ) (m : Member) → ((u : ℕ) → hist c.tree u ≡ hist r.tree u) → hist c.tree 0 ≡ [] → BranchAgrees (r.branch_at n v) m.br → hist c.tree m.br ≡ own_history r n v
 own_is r c n v m hists rootless is = by (r.branch_at n v) is
   where
-    by : (o : Option ℕ) → BranchIs o m.br → hist c.tree m.br ≡ known_history r.tree o
+    by : (o : Option ℕ) → BranchAgrees o m.br → hist c.tree m.br ≡ known_history r.tree o
     by None e = ap (hist c.tree) e ∙ rootless
     by (Some u) e = hists m.br ∙ ap (hist r.tree) e
 
@@ -50,9 +50,9 @@ module _ (stays : StaysSound) (r : Chronicle) (c : Cluster) (hists : (u : ℕ) �
   abbrev adopting : Chronicle
   adopting = after_adopt r n v feed.log
 
-  new_branch : BranchIs (adopting.branch_at n v) feed.u
-  new_branch = subst (λ o. BranchIs o feed.u) (sym (at_here r.branch_at n v (option_map (λ y. y.uuid) (front feed.log))))
-      (elim (front feed.log) as (λ o. uuid_of o ≡ feed.u → BranchIs (option_map (λ e. e.uuid) o) feed.u) [ None ↦ (λ q. sym q) | Some x ↦ (λ q. sym q) ] e)
+  new_branch : BranchAgrees (adopting.branch_at n v) feed.u
+  new_branch = subst (λ o. BranchAgrees o feed.u) (sym (at_here r.branch_at n v (option_map (λ y. y.uuid) (front feed.log))))
+      (elim (front feed.log) as (λ o. uuid_of o ≡ feed.u → BranchAgrees (option_map (λ e. e.uuid) o) feed.u) [ None ↦ (λ q. sym q) | Some x ↦ (λ q. sym q) ] e)
 
   same_front : upto (own_history r n v) fv.position.at ≡ upto (own_history adopting n v) fv.position.at
   same_front =
@@ -143,8 +143,8 @@ marked_agrees stays r n v m fv feed x more start a f fits e above =
 
 -- what a follower makes of a change as its message tells it: a commit has the document of the prepare that waits at its key
 pub receive_is : (fv : Plain) (c : Change) (b : Bool) (o : Option Act) → is_follower fv.role ≡ true → is_next fv.position c.seq ≡ b → completed_act (pending_of fv c.key) (act_told c.act) ≡ o
-    → plain_step fv (call.Receive (change_told c)) ≡ (if b then receive_as o fv (change_told c) else (fv, refusal_reply status.Erange))
-receive_is fv c b o f a d = λ i. if f i then (if a i then receive_as (d i) fv (change_told c) else (fv, refusal_reply status.Erange)) else (fv, refusal_reply status.NotMyVbucket)
+    → plain_step fv (call.Receive (change_line c)) ≡ (if b then receive_as o fv (change_line c) else (fv, refusal_reply status.Erange))
+receive_is fv c b o f a d = λ i. if f i then (if a i then receive_as (d i) fv (change_line c) else (fv, refusal_reply status.Erange)) else (fv, refusal_reply status.NotMyVbucket)
 
 -- it is completed to what it was
 pub completes : (a done : Act) (pend : Option Pend) → ((number : ℕ) (doc : Doc) (deleted : Bool) → a ≡ Commit number doc deleted → (e : Pend) × (pend ≡ Some e) × (e.seq ≡ number) × (e.doc ≡ doc) × (e.deleted ≡ deleted))
@@ -170,7 +170,7 @@ last_seq_push n [] c = refl
 last_seq_push n (x ∷ xs) c = last_seq_push x.seq xs c
 
 -- its span ends where the vBucket is then
-pub received_shelf : {told : DiskTold} {d : Disk} {shelf : Shelf} (fv : Plain) (c : Change) → is_active fv.role ≡ false → Spanned fv.role fv.spans fv.position → ShelfIs told d shelf (parts_of fv)
+pub received_shelf : {told : DiskKnown} {d : Disk} {shelf : Shelf} (fv : Plain) (c : Change) → is_active fv.role ≡ false → Spanned fv.role fv.spans fv.position → ShelfIs told d shelf (parts_of fv)
     → ShelfIs told (spanned d (span_position (Received fv.position.ss fv.position.se) c.seq)) shelf (parts_of (with_received_change fv c).0)
 received_shelf {d = d} fv c rests i x =
     let joined : Option Span = received_joined fv.held fv.spans.current (last_at fv.held c.key) c in let from : Origin = Received fv.position.ss fv.position.se in
@@ -179,7 +179,7 @@ received_shelf {d = d} fv c rests i x =
     (grown_spots (place_of d.book).at c.seq fv.spans joined alone from d.stood (received_grown fv.held fv.spans.current (last_at fv.held c.key) c) refl refl (λ w e. i.current w rests e) x.spots)
 
 module _ (stays : StaysSound) (r : Chronicle) (n v : ℕ) (m : Member) (fv : Plain) (c : Change) (later : List Change) (a : VbAgrees r n v m fv) (f : is_follower fv.role ≡ true) (next : is_next fv.position c.seq ≡ true)
-    (fits : ChangeFits c) (done : completed_act (pending_of fv c.key) (act_told c.act) ≡ Some c.act) (of_branch : IsOf (own_history r n v) c) (rises_h : Rises 0 top (own_history r n v))
+    (fits : ChangeFits c) (done : completed_act (pending_of fv c.key) (act_told c.act) ≡ Some c.act) (points_of_branch : IsOf (own_history r n v) c) (rises_h : Rises 0 top (own_history r n v))
     (followed : HasLast (above (m.held ++ c ∷ []) m.position.ss) (own_history r n v) m.position.ss c.seq m.position.se) where
   abbrev p : Position
   p = fv.position
@@ -237,7 +237,7 @@ module _ (stays : StaysSound) (r : Chronicle) (n v : ℕ) (m : Member) (fv : Pla
   pub received_agrees : VbAgrees (record r { held = held_more r n v c; open_at = with_at r.open_at n v true }) n v (received m (Some (c ∷ later))) (with_received_change fv c).0
   received_agrees = record {
     kept = record {
-      sound = subst Sound (ap (λ y. y.0) (receive_is fv c true (Some c.act) f next done)) (stays fv (call.Receive (change_told c)) a.sound (cas_fits c.act fits.act));
+      sound = subst Sound (ap (λ y. y.0) (receive_is fv c true (Some c.act) f next done)) (stays fv (call.Receive (change_line c)) a.sound (cas_fits c.act fits.act));
       spanned = spanned_received fv.role fv.spans p p' joined alone rests a.spanned refl refl grown refl;
       keeps = record {
         below = a.below;
@@ -252,7 +252,7 @@ module _ (stays : StaysSound) (r : Chronicle) (n v : ℕ) (m : Member) (fv : Pla
       told = record { held = at_here r.held n v (r.held n v ++ c ∷ []) ∙ ap (λ h. h ++ c ∷ []) a.held; log = a.log; snap = a.snap; unlogged = a.unlogged };
       member = record { active = a.member.active; position = ap (λ y. record { ss = y.ss; se = y.se; at = c.seq }) a.member.position; log = a.member.log };
       branch = a.branch;
-      holds = holds_received fv.floor (WholeTo fv.floor fv.spans p) (WholeTo fv.floor (with_change fv.spans joined alone) p') m.held (own_history r n v) c of_branch split a.holds;
+      holds = holds_received fv.floor (WholeTo fv.floor fv.spans p) (WholeTo fv.floor (with_change fv.spans joined alone) p') m.held (own_history r n v) c points_of_branch split a.holds;
     };
     role = a.role;
     opened = at_here r.open_at n v true ∙ sym (joined_opens fv.spans joined alone);

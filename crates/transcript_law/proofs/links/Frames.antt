@@ -1,10 +1,10 @@
 -- the frames that go over a link
 use Rattle.std.specs.Prelude.{◌≡◌, ◌+◌, ◌<◌, ◌≤◌, ◌∷◌, ◌++◌, ◌^◌}
 use Rattle.transcript_law.proofs.Words.{ℕ, List, [], map, refl, ap, sym, ◌∙◌, arith, append_assoc, append-nil, concat, map-append, Frame, spelling, Readable, DcpMsg}
-use Rattle.transcript_law.proofs.Words.{StreamTold, dcp_frame, IsTold, IsSpelled, ToldInRange, InRange, concat-append, body_size, told_frame, dcp_len, length_dcp}
+use Rattle.transcript_law.proofs.Words.{StreamVerdict, dcp_frame, IsVerdict, IsSpelled, VerdictInRange, InRange, concat-append, body_size, verdict_frame, dcp_len, length_dcp}
 
-told_readable : (t : StreamTold) (opaque : ℕ) → IsTold t → ToldInRange t → opaque < 2 ^ 32 → body_size (told_frame t opaque) ≤ 22020096 → Readable (told_frame t opaque)
-told_readable (StreamTold.Refused status) opaque s r o limit =
+told_readable : (t : StreamVerdict) (opaque : ℕ) → IsVerdict t → VerdictInRange t → opaque < 2 ^ 32 → body_size (verdict_frame t opaque) ≤ 22020096 → Readable (verdict_frame t opaque)
+told_readable (StreamVerdict.Refused status) opaque s r o limit =
     record { fits = record { framing = omega arith; extras = omega arith; key = omega arith; body = omega arith }; magic = refl; limit = limit; vb_or_status = r; opaque = o; cas = omega arith }
 told_readable t opaque s r o limit =
     record { fits = record { framing = omega arith; extras = omega arith; key = omega arith; body = omega arith }; magic = refl; limit = limit; vb_or_status = omega arith; opaque = o; cas = omega arith }

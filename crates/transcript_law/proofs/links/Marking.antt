@@ -3,18 +3,18 @@ use Rattle.std.specs.Prelude.{◌≡◌, ◌≤◌, if◌then◌else◌, ◌<◌
 use Rattle.transcript_law.proofs.Words.{length-append, ℕ, true, false, refl, ap, sym, ◌∙◌, subst, arith, Some, Snapshot, Covers, Stream, Span, Plain, plain_step, all_spans, is_whole}
 use Rattle.transcript_law.proofs.Words.{stream_at, need_of, start_of, end_span, take_to, take_from, Sound, TakesSnapshots, Bool, cond, List, [], length, map, drop, ⊎_elim, append_assoc, append-nil}
 use Rattle.transcript_law.proofs.Words.{Option, None, is_some, nat_le, not, All, eqb-true, ne_eqb, Frame, dcp_frame, Change, Position, StreamAsk, last_seq, effective_ss, effective_se, fork_of, Branch}
-use Rattle.transcript_law.proofs.Words.{hist, Feed, Member, flight_from, flight_end, member_reach, Flight, PlainStream, Begun, Granted, stream_branch, with_begun, item_told, IsWholeIf, IsMarker, PlainProducer}
-use Rattle.transcript_law.proofs.{Words.{PlainConsumer}, links.Sent.{fits_of, in_all, drop_whole, flight_frames_push, flight_end_push}, invariant.Agreement.{ChangeFits, BegunIs, Open, StreamIs, kept_stream, Streaming}}
+use Rattle.transcript_law.proofs.Words.{hist, Feed, Member, flight_from, flight_end, member_reach, Flight, PlainStream, Begun, Granted, stream_branch, with_begun, item_of_change, IsWholeIf, IsMarker, PlainProducer}
+use Rattle.transcript_law.proofs.{Words.{PlainConsumer}, links.Sent.{fits_of, all_by_each, drop_whole, flight_frames_push, flight_end_push}, invariant.Agreement.{ChangeFits, BegunAgrees, Open, StreamAgrees, kept_stream, Streaming}}
 use Rattle.transcript_law.proofs.{invariant.Agreement.{coming_items, flight_marks, marker_start, items_frames, flight_frames, stream_frames, first_answers, answer_frame, Wants}, links.Comings.{marks_push, snapshot_comes}}
 use Rattle.transcript_law.proofs.invariant.Tables.{never}
-use Rattle.branch_model.proofs.Lists.{in_right, in_upto, last_in, rises_in, upto-append}
+use Rattle.branch_model.proofs.Lists.{in_right, from_upto, last_in, rises_in, upto-append}
 use Rattle.vb_types.specs.Histories.{Rises, Slot, last_by, last_of, touches, upto}
 use Rattle.std.specs.Option.{option_or}
 use Rattle.std.proofs.lemmas.Bool.{leb-true}
 use Rattle.vb_calls.specs.Streams.{is_in_memory}
 use Rattle.{branch_model.proofs.Ruling.{reach_cases}, branch_model.specs.Snapshots.{plain_view, AllOf}, cluster_model.specs.Clusters.{Ground, FirstReaches}}
 use Rattle.{mcbp_dcp.specs.declared.message.DcpMsg.TheVariants.{SnapshotMarker}, std.proofs.lemmas.Bool.{false_from_ne_true, true_from_ne_false}, std.proofs.lemmas.List.{take_all}}
-use Rattle.{transcript_law.specs.Lawfulness.{start_after, reach_after}, vb_calls.specs.Streams.{items_to, snapshot_of, moved_on}, vb_calls.specs.declared.calls.VbCall.TheVariants.{Take}}
+use Rattle.{transcript_law.specs.Lawfulness.{next_marker_start, reach_after}, vb_calls.specs.Streams.{items_to, snapshot_of, moved_on}, vb_calls.specs.declared.calls.VbCall.TheVariants.{Take}}
 use Rattle.{vb_types.specs.declared.stream.AskAnswer.TheVariants.{Go}, vbucket.specs.Takes.{IsSnapshot}}
 
 -- a stream from which a snapshot up to `end` was taken
@@ -43,7 +43,7 @@ moved_there id end y (x ∷ xs) ne = by (x.id == id) refl (moved_there id end y 
 
 -- items of a history whose changes fit fit
 pub items_fit : (items held : List Change) → AllOf items held → All ChangeFits held → All ChangeFits items
-items_fit items held of fits = in_all ChangeFits items (λ x i. fits_of held x fits (of x i))
+items_fit items held of fits = all_by_each ChangeFits items (λ x i. fits_of held x fits (of x i))
 
 -- the snapshots on their way end at or above where they start
 flight_above : (w : Ground) (u from : ℕ) (xs : List (ℕ × List Change)) → Flight w u from xs → from ≤ flight_end from xs
@@ -59,15 +59,15 @@ from_se kn (Some []) e = e
 from_se kn (Some (c ∷ rest)) e = refl
 
 -- the snapshot before was put whole
-pub whole_if : (stream : PlainStream) (q : Option Begun) → BegunIs q stream → length stream.items ≤ stream.next → IsWholeIf q
+pub whole_if : (stream : PlainStream) (q : Option Begun) → BegunAgrees q stream → length stream.items ≤ stream.next → IsWholeIf q
 whole_if stream None begun l = tt
 whole_if stream (Some b) begun l = record {
   whole = stream.items;
   covers = begun.0;
-  front = sym (append-nil b.items ∙ begun.1 ∙ ap (map item_told) (take_all stream.next stream.items l));
+  front = sym (append-nil b.items ∙ begun.1 ∙ ap (map item_of_change) (take_all stream.next stream.items l));
 }
 
-module _ {o vb id : ℕ} {g : Granted} {stream : PlainStream} {pv : Option Plain} {leader : Member} {feed : Feed} {kn : Member} {in_one : Bool} (si : StreamIs o vb id g stream pv leader feed kn in_one) where
+module _ {o vb id : ℕ} {g : Granted} {stream : PlainStream} {pv : Option Plain} {leader : Member} {feed : Feed} {kn : Member} {in_one : Bool} (si : StreamAgrees o vb id g stream pv leader feed kn in_one) where
   -- a consumer of which a snapshot is on its way, or that is in one
   in_one_if : (b : Begun) → g.last ≡ Some b → feed.flight ≡ [] → in_one ≡ true
   in_one_if b e f = true_from_ne_false in_one (λ t. never (sym (ap is_some e) ∙ si.in_flight t f))
@@ -99,7 +99,7 @@ module _ {o vb id : ℕ} {g : Granted} {stream : PlainStream} {pv : Option Plain
         ∙ sym (start_first e ∙ (λ i. effective_ss (a.0 i) (a.1 i) (a.2 i)))
     start_is (Some b) e = flight_start b e feed.flight refl ∙ sym (start_later b e ∙ si.place_is)
 
-    start_lawful : (o : Option Begun) → g.last ≡ o → start_of s ≡ start_after o g
+    start_lawful : (o : Option Begun) → g.last ≡ o → start_of s ≡ next_marker_start o g
     start_lawful None e = start_first e
     start_lawful (Some b) e = start_later b e
 
@@ -149,13 +149,13 @@ abbrev pub taken_stream : PlainStream → List Change → PlainStream
 taken_stream stream items = record { vb = stream.vb; opaque = stream.opaque; items = items; next = 0; reached = stream.reached; ended = stream.ended }
 
 -- what the lines and the producer tell of the stream, after its marker
-stream_begun : {o vb id : ℕ} {g : Granted} {stream : PlainStream} {pv : Option Plain} {leader : Member} {feed : Feed} {kn : Member} {in_one : Bool} (tree : List Branch) (items : List Change) (start end : ℕ) (x : Open id g pv leader feed)
-    → StreamIs o vb id g stream pv leader feed kn in_one → flight_end (marker_start in_one kn.position) feed.flight ≡ start → length stream.items ≤ stream.next → All ChangeFits items → Covers items (hist tree (stream_branch g)) g.place end
-    → StreamIs o vb id (with_begun tree start end g) (taken_stream stream items) (Some (moved_vb x.producer id end)) leader (record { u = feed.u; log = feed.log; flight = feed.flight ++ (end, items) ∷ []; given = feed.given }) (sent_member kn feed items end) in_one
-stream_begun {id = id} {g} {stream} {feed = feed} {kn} {in_one} tree items start end x s starts whole fits covers =
+marked_stream_begun : {o vb id : ℕ} {g : Granted} {stream : PlainStream} {pv : Option Plain} {leader : Member} {feed : Feed} {kn : Member} {in_one : Bool} (tree : List Branch) (items : List Change) (start end : ℕ) (x : Open id g pv leader feed)
+    → StreamAgrees o vb id g stream pv leader feed kn in_one → flight_end (marker_start in_one kn.position) feed.flight ≡ start → length stream.items ≤ stream.next → All ChangeFits items → Covers items (hist tree (stream_branch g)) g.place end
+    → StreamAgrees o vb id (with_begun tree start end g) (taken_stream stream items) (Some (moved_vb x.producer id end)) leader (record { u = feed.u; log = feed.log; flight = feed.flight ++ (end, items) ∷ []; given = feed.given }) (sent_member kn feed items end) in_one
+marked_stream_begun {id = id} {g} {stream} {feed = feed} {kn} {in_one} tree items start end x s starts whole fits covers =
     let (y, found, ask, sync, place, taken) = x.opened in
     record {
-      put = record { vb_is = s.vb_is; opaque_is = s.opaque_is; fits = fits; next_in = omega arith; last = (covers, refl); log_told = s.log_told; front_is = s.front_is };
+      put = record { vb_is = s.vb_is; opaque_is = s.opaque_is; fits = fits; next_in = omega arith; last = (covers, refl); log_lines = s.log_lines; front_is = s.front_is };
       opens = λ q. record { producer = moved_vb x.producer id end; producer_is = refl; active = x.active; leads = x.leads; opened = (moved_stream y end, moved_here id end x.producer.streams y found, ask, sync, refl, refl) };
       over_ended = s.over_ended;
       coming = snapshot_comes g.coming stream (taken_stream stream items) feed.flight kn.coming end whole refl s.coming;
@@ -217,8 +217,8 @@ marker_streaming {fv} {kn} {pv} {leader = leader} {served = served} {asker} {put
       log_fits = t.log_fits;
       seen = t.seen;
       taking = t.taking;
-      streams = subst (λ y. StreamIs o vb served.desk.id (with_begun tree start end t.granted_is) (taken_stream t.stream items) y leader feed (sent_member kn t.feed items end) in_one) (sym moved)
-          (stream_begun tree items start end x t.streams starts whole fits covers);
+      streams = subst (λ y. StreamAgrees o vb served.desk.id (with_begun tree start end t.granted_is) (taken_stream t.stream items) y leader feed (sent_member kn t.feed items end) in_one) (sym moved)
+          (marked_stream_begun tree items start end x t.streams starts whole fits covers);
       all = ap (λ b. front ++ stream_frames o vb b in_one kn.position kn.coming (t.feed.flight ++ (end, items) ∷ [])) opens
           ∙ frames_more o vb in_one kn.position kn.coming t.feed.flight items start end front put f starts frame old;
     }
@@ -256,11 +256,11 @@ covers_more floor below changes full items from end parts low l covers = subst (
     later slot c (Some d) is above e = is ∙ sym (ap (λ o. option_or o (last_of slot (upto below end))) is) ∙ e
     later slot c None is above e =
         let old : last_of slot (upto below end) ≡ Some c = sym (ap (λ o. option_or o (last_of slot (upto below end))) is) ∙ e in
-        let there = (in_upto c below end (last_in (touches slot) (upto below end) c old).0).0 in
+        let there = (from_upto c below end (last_in (touches slot) (upto below end) c old).0).0 in
         let most : c.seq ≤ floor = (rises_in 0 floor below c low there).1 in absurd (omega arith)
 
 -- a snapshot that a stream with durable writes takes of a vBucket, and the vBucket after it
-pub record TakenIs (vb : Plain) (id : ℕ) (s : Stream) (snapshot : Snapshot) (after : Plain) : Type 0 where
+pub record SnapshotTaken (vb : Plain) (id : ℕ) (s : Stream) (snapshot : Snapshot) (after : Plain) : Type 0 where
   pub fed : vb.floor ≤ s.place
   pub disk : snapshot.disk ≡ false
   pub covers : Covers snapshot.items vb.held s.place snapshot.end
@@ -275,7 +275,7 @@ abbrev pub span_snapshot : Plain → Stream → Span → Snapshot
 span_snapshot vb s w = snapshot_of s (items_to s (all_spans vb.spans) vb.held w.last)
 
 pub taken_is : TakesSnapshots → (vb : Plain) (id : ℕ) (s : Stream) (w : Span) → Sound vb → stream_at id vb.streams ≡ Some s → s.sync ≡ true → is_in_memory vb.floor s ≡ true → end_span s (all_spans vb.spans) vb.held ≡ Some w
-    → TakenIs vb id s (span_snapshot vb s w) (take_to (Some w) s vb).0
+    → SnapshotTaken vb id s (span_snapshot vb s w) (take_to (Some w) s vb).0
 taken_is takes vb id s w sound found sync near ends =
     let snapshot : Snapshot = span_snapshot vb s w in
     let step : plain_step vb (Take id) ≡ take_to (Some w) s vb = ap (λ o. take_from o vb) found ∙ ap (λ b. take_to (if b then end_span s (all_spans vb.spans) vb.held else None) s vb) near ∙ ap (λ o. take_to o s vb) ends in

@@ -1,7 +1,7 @@
 -- what a line `down` tells and leaves before a rollback: lines of other kinds, and the journals as they were under the node's arm
 use Rattle.std.specs.Prelude.{◌≡◌, ◌∷◌, ◌++◌, ◌||◌, if◌then◌else◌}
 use Rattle.transcript_law.proofs.Words.{ℕ, true, false, List, [], list_any, refl, ap, ◌∙◌, Some, None, ne_eqb, EndReason, Event, Chronicle, States, after_line, after_lines}
-use Rattle.{disk_journals.specs.Arms.{arm_over, armed_at, under}, vb_calls.specs.Shelves.{Shelf, Shelves}, vb_disk.specs.declared.fuse.Fuse.{Fuse}, transcript_law.specs.{Chronicles.{is_rollback}, LineAnswers.{rollbacks_told}}}
+use Rattle.{disk_journals.specs.Arms.{arm_over, armed_at, under}, vb_calls.specs.Shelves.{Shelf, Shelves}, vb_disk.specs.declared.fuse.Fuse.{Fuse}, transcript_law.specs.{Chronicles.{is_rollback}, LineAnswers.{rollbacks_in_lines}}}
 use Rattle.vb_types.specs.declared.journal.Record.TheVariants as noted
 use Rattle.vb_disk.specs.declared.fuse.Fuse.TheVariants.{Off}
 use Rattle.transcript_law.proofs.invariant.JobSteps.{shelf_found}
@@ -73,7 +73,7 @@ rolled_last [] n v named to = refl
 rolled_last (line ∷ lines) n v named to = elim (is_rollback line) as (λ b. (b || list_any is_rollback (lines ++ Event.Rolled n v named to ∷ [])) ≡ true) [ true ↦ refl | false ↦ rolled_last lines n v named to ]
 
 -- which is the only one
-pub one_back : (lines : List Event) (n v named to : ℕ) → AreOnward lines → rollbacks_told (lines ++ Event.Rolled n v named to ∷ []) ≡ (n, (v, noted.Roll to)) ∷ []
+pub one_back : (lines : List Event) (n v named to : ℕ) → AreOnward lines → rollbacks_in_lines (lines ++ Event.Rolled n v named to ∷ []) ≡ (n, (v, noted.Roll to)) ∷ []
 one_back [] n v named to x = refl
 one_back (Event.Adopted m q log ∷ lines) n v named to x = one_back lines n v named to x.1
 one_back (Event.Ranged m q ss se ∷ lines) n v named to x = one_back lines n v named to x.1
@@ -82,7 +82,7 @@ one_back (Event.Acknowledged stream m q seq saved ∷ lines) n v named to x = on
 one_back (other ∷ lines) n v named to x = absurd x.0
 
 -- a link's end is none
-pub ended_back : (lines : List Event) (l : ℕ) (why : EndReason) → rollbacks_told (lines ++ Event.Ended l why ∷ []) ≡ rollbacks_told lines
+pub ended_back : (lines : List Event) (l : ℕ) (why : EndReason) → rollbacks_in_lines (lines ++ Event.Ended l why ∷ []) ≡ rollbacks_in_lines lines
 ended_back [] l why = refl
 ended_back (Event.Rolled n v named to ∷ lines) l why = ap (λ told. (n, (v, noted.Roll to)) ∷ told) (ended_back lines l why)
 ended_back (other ∷ lines) l why = ended_back lines l why

@@ -1,8 +1,8 @@
 -- outcomes that are posted to the clients of a node: all lines are lawful, and after them all agrees
 use Rattle.std.specs.Prelude.{◌≡◌, ◌∷◌}
 use Rattle.transcript_law.proofs.Words.{ℕ, List, [], refl, sym, subst, Option, Some, None, Event, StaysSound, after, left_open, PlainSession, PlainNode, PlainWorld, with_node_at, with_client, with_states, Chronicle, after_lines, LawfulFrom}
-use Rattle.transcript_law.proofs.{invariant.Agreement.{Agrees}, verbs.NodeLines.{agrees_same, node_again, same_node}, invariant.Ranged.{NodeRanged, SessionRangedIf, posted_ranged}, verbs.Requesting.{resolved_goes}, verbs.Settling.{Steady}, lines.Telling.{LawfulBefore, before_all, before_more, none_before, told_more}}
-use Rattle.client_session.specs.Serving.{outcome_served, served}
+use Rattle.transcript_law.proofs.{invariant.Agreement.{Agrees}, verbs.NodeLines.{agrees_same, node_again, node_of_same_vbs}, invariant.Ranged.{NodeRanged, SessionRangedIf, posted_ranged}, verbs.Requesting.{resolved_goes}, verbs.Settling.{Steady}, lines.Telling.{LawfulBefore, before_all, before_more, none_before, told_more}}
+use Rattle.client_session.specs.Serving.{outcome_handled, served}
 use Rattle.node_world.specs.Nodes.{all_posted, awaiting, posted_if, posted_to}
 use Rattle.node_world.specs.declared.script_node.TheConstants.{MAX_CLIENTS}
 use Rattle.vb_calls.specs.declared.calls.Resolved.{Resolved}
@@ -11,7 +11,7 @@ pub use Rattle.transcript_law.proofs.invariant.Ranged.{posts_ranged}
 
 -- where a node is there, it is as if it was put there
 pub put_agrees : (w : PlainWorld) (r : Chronicle) (n : ℕ) (node : PlainNode) → w.nodes n ≡ Some node → Agrees w r → Agrees (with_node_at w n node) r
-put_agrees w r n node known a = agrees_same w (with_node_at w n node) r a (same_node w n node node known (λ q. refl) (λ q. refl) refl)
+put_agrees w r n node known a = agrees_same w (with_node_at w n node) r a (node_of_same_vbs w n node node known (λ q. refl) (λ q. refl) refl)
 
 module _ (stays : StaysSound) (steady : Steady) (w : PlainWorld) (n : ℕ) where
   -- the node is put, and lines are read, after which all agrees
@@ -26,7 +26,7 @@ module _ (stays : StaysSound) (steady : Steady) (w : PlainWorld) (n : ℕ) where
       by : (k : Option PlainSession) → SessionRangedIf n k → Goes r (posted_if c o node k)
       by None there = (none_before r, a)
       by (Some session) there =
-          let y = after (outcome_served node.clock o (served session [])) node.vbs in
+          let y = after (outcome_handled node.clock o (served session [])) node.vbs in
           let begun = agrees_same (with_node_at w n node) (with_node_at w n (with_states node node.vbs)) r a (node_again w n node (with_states node node.vbs) (λ q. refl) (λ q. refl) refl) in
           let now = resolved_goes stays steady w r n node.clock node ranged.clock o (served session []) node.vbs (none_before r, begun, there) in
           let left : PlainNode = with_client (with_states node y.0) c (left_open y.1.session) in (

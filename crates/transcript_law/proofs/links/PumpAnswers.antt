@@ -1,8 +1,8 @@
 -- what is answered to a pull: as many frames were put as are told of, and whether that is all
 use Rattle.std.specs.Prelude.{◌++◌, ◌+◌, ◌<◌, ◌∷◌, ◌≡◌, ◌≤◌, if◌then◌else◌}
-use Rattle.transcript_law.proofs.Words.{PlainStream, Served, begun, act_message, item_line, item_put, next_put, place_told, pulled, snapshot_told, stream_put, taken_put}
-use Rattle.transcript_law.proofs.Words.{why_of, place_halt, take_unless, end_put, frame_put, frames_put, marker_put, Halt, NoSnapshot, DcpMsg, pull_told, PlainLink, moved_len, pump_at, pump_told, PlainNode}
-use Rattle.transcript_law.proofs.Words.{Bool, List, [], ap, arith, false, length, refl, subst, suc, sym, true, zero, ℕ, ◌∙◌, filter-append, length-append, filter, None, Option, Some, slice_get, both_told, frames_told}
+use Rattle.transcript_law.proofs.Words.{PlainStream, Served, begun, act_message, item_line, item_put, next_put, place_answered, pulled, snapshot_of_reply, stream_put, taken_put}
+use Rattle.transcript_law.proofs.Words.{why_of, place_halt, take_unless, end_put, frame_put, frames_put, marker_put, Halt, NoSnapshot, DcpMsg, pull_result, PlainLink, moved_len, pump_at, pump_result, PlainNode}
+use Rattle.transcript_law.proofs.Words.{Bool, List, [], ap, arith, false, length, refl, subst, suc, sym, true, zero, ℕ, ◌∙◌, filter-append, length-append, filter, None, Option, Some, slice_get, both_sent_lines, frames_in_lines}
 use Rattle.transcript_law.proofs.Words.{IsPumped, PutsAsTold, is_frame, after_bind, Plain, Call, Done, More, Stop, Turn, after, go_on, repeated, all_spans, States, call_at, end_span, stream_at, take_from, take_to}
 use Rattle.transcript_law.proofs.Words.{VbAnswer, VbCall, VbReply, Span, Stream, Change, Event, Why, Snapshot}
 use Rattle.dcp_producer.specs.Pulling.{halt_at}
@@ -15,11 +15,11 @@ pub moved_few : (wanted : ℕ) (queue : List ℕ) → moved_len wanted queue ≤
 moved_few wanted queue = omega arith
 
 -- frames that are put
-told_more : (lines : List Event) (line : Event) → is_frame line ≡ true → frames_told (lines ++ line ∷ []) ≡ frames_told lines + 1
+told_more : (lines : List Event) (line : Event) → is_frame line ≡ true → frames_in_lines (lines ++ line ∷ []) ≡ frames_in_lines lines + 1
 told_more lines line is =
     ap (λ (xs : List Event). length xs) (filter-append is_frame lines (line ∷ []))
     ∙ length-append (filter is_frame lines) (filter is_frame (line ∷ []))
-    ∙ ap (λ b. frames_told lines + length (if b then line ∷ [] else [])) is
+    ∙ ap (λ b. frames_in_lines lines + length (if b then line ∷ [] else [])) is
 
 -- it is not said that all were put
 abbrev IsShort : Why → Type 0
@@ -29,15 +29,15 @@ IsShort Why.WaitSaved = Unit {0}
 
 -- after so many turns, none of which stopped, as many frames were put and told of; before one that stopped, fewer
 abbrev Counted : ℕ → Turn Served (Served × Halt) → Type 0
-Counted k (More s) = (s.count ≡ k) × (frames_told s.events ≡ k)
-Counted k (Stop stopped) = (stopped.0.count < k) × (frames_told stopped.0.events ≡ stopped.0.count) × IsShort (why_of stopped.1)
+Counted k (More s) = (s.count ≡ k) × (frames_in_lines s.events ≡ k)
+Counted k (Stop stopped) = (stopped.0.count < k) × (frames_in_lines stopped.0.events ≡ stopped.0.count) × IsShort (why_of stopped.1)
 
-module _ (k : ℕ) (s : Served) (counts : s.count ≡ k) (tells : frames_told s.events ≡ k) where
+module _ (k : ℕ) (s : Served) (counts : s.count ≡ k) (tells : frames_in_lines s.events ≡ k) where
   stops : (halted : Halt) → IsShort (why_of halted) → Counted (suc k) (Stop (s, halted))
   stops halted short = (omega (arith, counts), tells ∙ sym counts, short)
 
-  one_more : (line : Event) → is_frame line ≡ true → (s.count + 1 ≡ suc k) × (frames_told (s.events ++ line ∷ []) ≡ suc k)
-  one_more line is = let t : frames_told (s.events ++ line ∷ []) ≡ frames_told s.events + 1 = told_more s.events line is in (omega (arith, counts), t ∙ ap (λ n. n + 1) tells ∙ omega arith)
+  one_more : (line : Event) → is_frame line ≡ true → (s.count + 1 ≡ suc k) × (frames_in_lines (s.events ++ line ∷ []) ≡ suc k)
+  one_more line is = let t : frames_in_lines (s.events ++ line ∷ []) ≡ frames_in_lines s.events + 1 = told_more s.events line is in (omega (arith, counts), t ∙ ap (λ n. n + 1) tells ∙ omega arith)
 
   module _ (stream : PlainStream) where
     item_counts : (c : Change) (o : Option DcpMsg) → Counted (suc k) (item_put s stream c o)
@@ -53,19 +53,19 @@ module _ (k : ℕ) (s : Served) (counts : s.count ≡ k) (tells : frames_told s.
     end_counts = one_more _ refl
 
     -- the vBucket was asked for its next snapshot
-    take_counts : (states : States) (o : Option Plain) → Counted (suc k) (taken_put s stream (snapshot_told (call_at states stream.vb (VbCall.Take s.end.desk.id) o).1))
+    take_counts : (states : States) (o : Option Plain) → Counted (suc k) (taken_put s stream (snapshot_of_reply (call_at states stream.vb (VbCall.Take s.end.desk.id) o).1))
     take_counts states None = end_counts
     take_counts states (Some vb) = by (stream_at s.end.desk.id vb.streams)
       where
-        by_span : (x : Stream) (w : Option Span) → Counted (suc k) (taken_put s stream (snapshot_told (Some (take_to w x vb).1)))
+        by_span : (x : Stream) (w : Option Span) → Counted (suc k) (taken_put s stream (snapshot_of_reply (Some (take_to w x vb).1)))
         by_span x None = stops Halt.Idle tt
         by_span x (Some w) = marker_counts _
 
-        by : (x : Option Stream) → Counted (suc k) (taken_put s stream (snapshot_told (Some (take_from x vb).1)))
+        by : (x : Option Stream) → Counted (suc k) (taken_put s stream (snapshot_of_reply (Some (take_from x vb).1)))
         by None = end_counts
         by (Some x) = by_span x (if is_in_memory vb.floor x then end_span x (all_spans vb.spans) vb.held else None)
 
-    place_counts : (states : States) (reply : Option VbReply) → Counted (suc k) (after (place_told s stream reply) states).1
+    place_counts : (states : States) (reply : Option VbReply) → Counted (suc k) (after (place_answered s stream reply) states).1
     place_counts states reply = by (place_halt reply) (place_short reply)
       where
         -- where there is a reason, it is not that all were put
@@ -92,7 +92,7 @@ module _ (k : ℕ) (s : Served) (counts : s.count ≡ k) (tells : frames_told s.
     next_counts states (Some c) = item_counts c (act_message c c.act)
     next_counts states None = by stream.ended
       where
-        by : (b : Bool) → Counted (suc k) (after (if b then Done (More (end_put s stream)) else Call stream.vb (VbCall.Place s.end.desk.id) (λ x. place_told s stream x)) states).1
+        by : (b : Bool) → Counted (suc k) (after (if b then Done (More (end_put s stream)) else Call stream.vb (VbCall.Place s.end.desk.id) (λ x. place_answered s stream x)) states).1
         by true = end_counts
         by false = let (states', reply) = call_at states stream.vb (VbCall.Place s.end.desk.id) (states stream.vb) in place_counts states' reply
 
@@ -129,27 +129,27 @@ unfolding frames_put
 pump_says frames link node =
     let first : Served = begun link.server in
     let x = after (repeated frames frame_put first) node.vbs in
-    subst (λ y. CarriesOut (λ told. IsPumped frames told.events told.answer) (pump_told link node y).1.1)
-    (sym (after_bind (frames_put frames first) (λ put. Done (pull_told link.up_heard put)) node.vbs ∙ ap (λ y. (y.0, pull_told link.up_heard y.1)) (after_bind (repeated frames frame_put first) pulled node.vbs)))
+    subst (λ y. CarriesOut (λ told. IsPumped frames told.events told.answer) (pump_result link node y).1.1)
+    (sym (after_bind (frames_put frames first) (λ put. Done (pull_result link.up_heard put)) node.vbs ∙ ap (λ y. (y.0, pull_result link.up_heard y.1)) (after_bind (repeated frames frame_put first) pulled node.vbs)))
     (pulled_says frames x.1 x.0 (turns_count frames first node.vbs (refl, refl)), λ why e s. cc)
 
 -- answers judged by hand
-pub pumped_right : PutsAsTold 9 both_told 3 Why.Idle
+pub pumped_right : PutsAsTold 9 both_sent_lines 3 Why.Idle
 pumped_right = record { told = refl; most = omega arith; all = λ e. cc; only = λ e. absurd (omega arith) }
 
-pub pumped_all : PutsAsTold 3 both_told 3 Why.All
+pub pumped_all : PutsAsTold 3 both_sent_lines 3 Why.All
 pumped_all = record { told = refl; most = omega arith; all = λ e. refl; only = λ e. refl }
 
-pub pumped_fewer : PutsAsTold 9 both_told 2 Why.Idle → ⊥
+pub pumped_fewer : PutsAsTold 9 both_sent_lines 2 Why.Idle → ⊥
 pumped_fewer p = let e : ◌≡◌ {A = ℕ} 2 3 = p.told in omega arith
 
-pub pumped_not_all : PutsAsTold 9 both_told 3 Why.All → ⊥
+pub pumped_not_all : PutsAsTold 9 both_sent_lines 3 Why.All → ⊥
 pumped_not_all p = let e : ◌≡◌ {A = ℕ} 3 9 = p.all refl in omega arith
 
-pub pumped_not_idle : PutsAsTold 3 both_told 3 Why.Idle → ⊥
+pub pumped_not_idle : PutsAsTold 3 both_sent_lines 3 Why.Idle → ⊥
 pumped_not_idle p = let e : Why.Idle ≡ Why.All = p.only refl in cc
 
-pub pumped_excess : PutsAsTold 2 both_told 3 Why.All → ⊥
+pub pumped_excess : PutsAsTold 2 both_sent_lines 3 Why.All → ⊥
 pumped_excess p = let e : 3 ≤ 2 = p.most in omega arith
 
 pub two_numbers : (a b : ℕ) → a < b → a ≡ b → ⊥

@@ -2,9 +2,9 @@
 use Rattle.std.specs.Prelude.{◌≡◌, ◌+◌, ◌<◌, ◌≤◌, ◌∷◌, ◌++◌, ◌&&◌}
 use Rattle.transcript_law.proofs.Words.{ℕ, zero, suc, Bool, true, false, List, [], length, map, drop, take, refl, ap, sym, ◌∙◌, subst, arith, append-nil, append_assoc}
 use Rattle.transcript_law.proofs.Words.{Option, Some, None, slice_get, is_some, nat_le, not, option_map, map-append, Frame, Readable, DcpMsg, dcp_frame, Change, Rises, Member, Plain}
-use Rattle.transcript_law.proofs.Words.{act_message, past_item, STATE_CHANGED, PlainStream, PlainLink, Begun, Granted, with_item, finished, item_told, IsNextItem, PlainProducer, PlainConsumer}
+use Rattle.transcript_law.proofs.Words.{act_message, past_item, STATE_CHANGED, PlainStream, PlainLink, Begun, Granted, with_item, finished, item_of_change, IsNextItem, PlainProducer, PlainConsumer}
 use Rattle.transcript_law.proofs.Words.{take-append-drop, AskAnswer, rises_le, more_items}
-use Rattle.transcript_law.proofs.invariant.Agreement.{ChangeFits, BegunIs, kept_stream, Streaming, first_answers, answer_frame, items_frames, flight_frames, coming_items, marker_start, OpenAt, WayIs, Wants}
+use Rattle.transcript_law.proofs.invariant.Agreement.{ChangeFits, BegunAgrees, kept_stream, Streaming, first_answers, answer_frame, items_frames, flight_frames, coming_items, marker_start, OpenAt, WayIs, Wants}
 use Rattle.transcript_law.proofs.links.Comings.{item_comes}
 use Rattle.transcript_law.proofs.links.Sent.{found_below, drop_found, take_found, items_frames_cons, flight_frames_end, change_readable, all_found, drop_whole}
 
@@ -13,10 +13,10 @@ abbrev pub put_link : PlainLink → PlainStream → List ℕ → PlainLink
 put_link link stream down = record link { server = record link.server { stream = Some stream }; down = down }
 
 -- what items of a snapshot say, and one more
-more_told : (b : Begun) (stream : PlainStream) (c : Change) → BegunIs (Some b) stream → slice_get stream.items stream.next ≡ Some c
-    → b.items ++ item_told c ∷ [] ≡ map item_told (take (stream.next + 1) stream.items)
-more_told b stream c begun e =
-    ap (λ ys. ys ++ item_told c ∷ []) begun.1 ∙ sym (map-append item_told (take stream.next stream.items) (c ∷ [])) ∙ ap (map item_told) (sym (take_found stream.items stream.next c e))
+more_is_told : (b : Begun) (stream : PlainStream) (c : Change) → BegunAgrees (Some b) stream → slice_get stream.items stream.next ≡ Some c
+    → b.items ++ item_of_change c ∷ [] ≡ map item_of_change (take (stream.next + 1) stream.items)
+more_is_told b stream c begun e =
+    ap (λ ys. ys ++ item_of_change c ∷ []) begun.1 ∙ sym (map-append item_of_change (take stream.next stream.items) (c ∷ [])) ∙ ap (map item_of_change) (sym (take_found stream.items stream.next c e))
 
 -- nothing stands behind the item with the snapshot's end
 last_item : (low high : ℕ) (xs : List Change) (n : ℕ) (c : Change) → Rises low high xs → slice_get xs n ≡ Some c → c.seq ≡ high → drop (suc n) xs ≡ []
@@ -31,23 +31,23 @@ last_item low high (y ∷ z ∷ zs) zero c r e s =
 last_item low high (y ∷ ys) (suc n) c r e s = last_item y.seq high ys n c r.1 e s
 
 -- the next item is lawful
-pub item_next : (b : Begun) (stream : PlainStream) (c : Change) → BegunIs (Some b) stream → slice_get stream.items stream.next ≡ Some c → IsNextItem b (item_told c)
-item_next b stream c begun e = (
+pub next_item_of : (b : Begun) (stream : PlainStream) (c : Change) → BegunAgrees (Some b) stream → slice_get stream.items stream.next ≡ Some c → IsNextItem b (item_of_change c)
+next_item_of b stream c begun e = (
   drop (stream.next + 1) stream.items,
   record {
     whole = stream.items;
     covers = begun.0;
-    front = ap (map item_told) (sym (take-append-drop (stream.next + 1) stream.items)) ∙ map-append item_told (take (stream.next + 1) stream.items) (drop (stream.next + 1) stream.items)
-        ∙ ap (λ ys. ys ++ map item_told (drop (stream.next + 1) stream.items)) (sym (more_told b stream c begun e));
+    front = ap (map item_of_change) (sym (take-append-drop (stream.next + 1) stream.items)) ∙ map-append item_of_change (take (stream.next + 1) stream.items) (drop (stream.next + 1) stream.items)
+        ∙ ap (λ ys. ys ++ map item_of_change (drop (stream.next + 1) stream.items)) (sym (more_is_told b stream c begun e));
   },
   λ s. let on : stream.next + 1 ≡ suc stream.next = omega arith in
       ap (λ n. drop n stream.items) on ∙ last_item b.from b.end stream.items stream.next c begun.0.remains.rises e s,
 )
 
 -- and then the lines tell of one item more
-begun_more : (o : Option Begun) (stream : PlainStream) (c : Change) → BegunIs o stream → slice_get stream.items stream.next ≡ Some c → BegunIs (option_map (more_items (item_told c)) o) (past_item c.seq stream)
+begun_more : (o : Option Begun) (stream : PlainStream) (c : Change) → BegunAgrees o stream → slice_get stream.items stream.next ≡ Some c → BegunAgrees (option_map (more_items (item_of_change c)) o) (past_item c.seq stream)
 begun_more None stream c begun e = begun
-begun_more (Some b) stream c begun e = (begun.0, more_told b stream c begun e)
+begun_more (Some b) stream c begun e = (begun.0, more_is_told b stream c begun e)
 
 some_mapped : {A B : Type 0} (f : A → B) (o : Option A) → is_some (option_map f o) ≡ is_some o
 some_mapped f None = refl
@@ -56,15 +56,15 @@ some_mapped f (Some x) = refl
 -- the snapshots on their way are as they were, of which one more frame was put
 pub item_streaming : {fv : Wants} {kn : Member} {pv : Option Plain} {leader : Member} {g g' : Option Granted} {served : PlainProducer} {asker : PlainConsumer} {up put : List Frame} (t : Streaming fv kn pv leader g served asker up put) (c : Change)
     (m : DcpMsg) (f : Frame) → t.granted_is.over ≡ false → slice_get t.stream.items t.stream.next ≡ Some c → act_message c c.act ≡ Some m → f ≡ dcp_frame m asker.asked asker.dialed.vb
-    → g' ≡ Some (with_item (item_told c) t.granted_is) → Streaming fv kn pv leader g' (record served { stream = Some (past_item c.seq t.stream) }) asker up (put ++ f ∷ [])
+    → g' ≡ Some (with_item (item_of_change c) t.granted_is) → Streaming fv kn pv leader g' (record served { stream = Some (past_item c.seq t.stream) }) asker up (put ++ f ∷ [])
 item_streaming {fv} {kn} {pv} {leader} {served = served} {asker} {put = put} t c m f opens e told is given =
     let o : ℕ = asker.asked in
     let vb : ℕ = asker.dialed.vb in
     let rest : List Change = drop (t.stream.next + 1) t.stream.items in
     let g : Granted = t.granted_is in
-    let same = some_mapped (more_items (item_told c)) g.last in
+    let same = some_mapped (more_items (item_of_change c)) g.last in
     record {
-      granted_is = with_item (item_told c) t.granted_is;
+      granted_is = with_item (item_of_change c) t.granted_is;
       told = given;
       serving = record {
         stream = past_item c.seq t.stream;
@@ -88,7 +88,7 @@ item_streaming {fv} {kn} {pv} {leader} {served = served} {asker} {put = put} t c
           fits = t.streams.fits;
           next_in = let l = found_below t.stream.items t.stream.next c e in omega arith;
           last = begun_more g.last t.stream c t.streams.last e;
-          log_told = t.streams.log_told;
+          log_lines = t.streams.log_lines;
           front_is = t.streams.front_is;
         };
         opens = λ q. subst (λ b. OpenAt served.desk.id g.ask g.place b pv leader t.feed.u) (sym same) (t.streams.opens q);

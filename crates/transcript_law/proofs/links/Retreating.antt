@@ -3,18 +3,18 @@ use Rattle.std.specs.Prelude.{◌≡◌, ◌+◌, ◌<◌, ◌≤◌, ◌∷◌,
 use Rattle.transcript_law.proofs.Words.{ℕ, Bool, true, false, List, [], map, refl, ap, sym, ◌∙◌, subst, arith, inl, inr, append_assoc, Option, Some, None, option_map, vb_in, shelf_in, Dial, with_id}
 use Rattle.transcript_law.proofs.Words.{nat_lt, concat, eq-eqb, ne_eqb, nat_tests, not, filter-append, All, All-nil, All-cons, All-tail, Frame, spelling, Readable, dcp_frame, Event}
 use Rattle.transcript_law.proofs.Words.{StreamAsk, request_of, Cluster, Move, SoundCluster, happens, keeps, Plain, quiet_reply, refusal_reply, after_job, after_job_bind, after_job_lift, lift, Position}
-use Rattle.transcript_law.proofs.Words.{with_vb_at, call_at, row_out, row_put, DialTold, with_line, roll_back, named_ask, link_number, PlainLink, PlainWorld, with_links, unlinked}
+use Rattle.transcript_law.proofs.Words.{with_vb_at, call_at, row_out, row_put, DialResult, with_line, roll_back, named_ask, link_number, PlainLink, PlainWorld, with_links, unlinked}
 use Rattle.transcript_law.proofs.{Words.{Chronicle, after_end, after_lines, LawfulLine}, invariant.Tables.{at_here}, invariant.Agreement.{shelf_of, DiskIsIf, IsArm, PowerIs, PowerIsIf, Power, power_of}}
-use Rattle.transcript_law.proofs.invariant.Agreement.{AgreesAt, Agrees, VbAgrees, UpIs, DownIs, ServerIs, LinkAgrees, is_open, is_refused_ack, spoken, top, consumer_seat, AgreesIn, Busy, idle, EndsStand}
+use Rattle.transcript_law.proofs.invariant.Agreement.{AgreesAt, Agrees, VbAgrees, UpIs, DownAgrees, ServerIs, LinkAgrees, is_open, is_refused_ack, spoken, top, consumer_seat, AgreesIn, Busy, idle, EndsStand}
 use Rattle.transcript_law.proofs.{invariant.LinkRows.{put_out}, invariant.Carrying.{MemberChanged, Changed, BecameOver, Rearmed, Relinked}, links.Cutting.{IsClosable, unlinking}, invariant.OneLink.{put_here, put_there, disk_here, disk_there, consumer_quiet, carries_armed, carries_left, carries_same, consumer_rests, out_ends}}
 use Rattle.transcript_law.proofs.{lines.Lines.{lawful_more, quiet_more, after_more}, links.Verdicts.{asks_in_range}, links.Frames.{spelled_more}, links.Requests.{ask_readable}, links.Downing.{Asker, Line, put_kept, so_far, link_now}}
 use Rattle.transcript_law.proofs.{links.Downing.{there, now, gone, lifted_at, busy_at, Before, Reached, linked, moved_agrees, same_powers, shelf_now, shelves_but, found_now, vb_here, vb_put, vb_others}, invariant.Carried.{one_idle, one_none}, disks.Disks.{ShelfIs, disk_same, parts_of, power_in}}
 use Rattle.transcript_law.proofs.{links.Onward.{Kept, one_back, onward_all, rolled_last, unarmed}, links.Rolling.{bare_point, farthest, roll_end_of, roll_taken_of, rolled_agrees, rolled_disk, rolled_shelf, stood_came}, disks.Burning.{stands_under}}
 use Rattle.branch_model.proofs.{Journaling.{ends_below, rolls_to}}
 use Rattle.branch_model.specs.Journals.{Covered, IsPoint, batches, cas_of_last, complete_points, end_of, image_at, place_of, roll_point}
-use Rattle.{cluster_model.specs.Clusters.{appended, rolled}, dcp_consumer.specs.Machine.{over_why, ended_for, asked_again, again_by}, disk_journals.specs.Arms.{under}, node_world.specs.Arms.{fuse_or, lifted}, node_world.specs.Nodes.{with_kept}}
-use Rattle.{mcbp_dcp.specs.declared.message.DcpMsg.TheVariants.{StreamRequest}, node_core.specs.Dials.{follower_ask, again_with, again_told, asked_once_more, rolled_back}}
-use Rattle.{transcript_law.specs.Chronicles.{ArmTold, DiskTold, after_calls, after_roll, calls_of_append, disk_back, rollback_of, spent}, vb_calls.specs.Following.{rolled_vb}}
+use Rattle.{cluster_model.specs.Clusters.{appended, rolled}, dcp_consumer.specs.Machine.{over_why, ended_for, request_again, again_by}, disk_journals.specs.Arms.{under}, node_world.specs.Arms.{fuse_or, lifted}, node_world.specs.Nodes.{with_kept}}
+use Rattle.{mcbp_dcp.specs.declared.message.DcpMsg.TheVariants.{StreamRequest}, node_core.specs.Dials.{follower_ask, again_with, again_result, requested_once_more, rolled_back}}
+use Rattle.{transcript_law.specs.Chronicles.{ArmKnown, DiskKnown, after_calls, after_roll, calls_of_append, disk_back, rollback_of, spent}, vb_calls.specs.Following.{rolled_vb}}
 use Rattle.{vb_calls.specs.declared.calls.VbAnswer.TheVariants.{Named}, vb_calls.specs.declared.calls.VbCall.TheVariants.{Ask}, vb_events.specs.declared.event.EndReason.TheVariants.{Protocol}}
 use Rattle.{vb_events.specs.declared.event.Event.TheVariants.{Rolled}, vb_types.specs.declared.status.Status.TheVariants.{NotMyVbucket}}
 use Rattle.vb_calls.specs.Flushes.{roll_job}
@@ -40,7 +40,7 @@ pub record Back (line : Line) : Type 0 where
   pub no_stream : line.link.server.stream ≡ None
   pub ups : UpIs (link_now line at) [] []
   pub said : List Frame
-  pub downs : DownIs (link_now line at) rest said
+  pub downs : DownAgrees (link_now line at) rest said
   pub none_said : spoken said ≡ []
 
 -- where the consumer drops all frames of two lists, it drops those of each
@@ -77,7 +77,7 @@ module _ (line : Line) (back : Back line) where
   none_left = dropped.0
 
   -- those that were not taken yet
-  downs_behind : (at' : Asker) → DownIs (link_now line at') [] back.downs.behind
+  downs_behind : (at' : Asker) → DownAgrees (link_now line at') [] back.downs.behind
   downs_behind at' = record { behind = back.downs.behind; joined = refl; bytes = back.downs.bytes; readable = readable_behind rest back.downs.behind (subst (All Readable) back.downs.joined back.downs.readable) }
 
   pub agrees : VbAgrees told n v (c.nodes k) fv
@@ -136,9 +136,9 @@ module _ (line : Line) (back : Back line) where
   pub left_of : (states : Kept) (shelf : Shelf) → states.1 v ≡ Some shelf → left states ≡ shelf.fuse
   left_of states shelf has = ap (λ (o : Option Shelf). fuse_or fuse (option_map (λ (x : Shelf). x.fuse) o)) has
 
-  arm_told : (states : Kept) → left states ≡ spent calls_of_append fuse → (x : ArmTold) → x ≡ told.arm_at n → ◌≡◌ {A = ArmTold} (record { fuse = left states; out = node.arm.out; down = x.down }) (record x { fuse = spent calls_of_append x.fuse })
+  arm_told : (states : Kept) → left states ≡ spent calls_of_append fuse → (x : ArmKnown) → x ≡ told.arm_at n → ◌≡◌ {A = ArmKnown} (record { fuse = left states; out = node.arm.out; down = x.down }) (record x { fuse = spent calls_of_append x.fuse })
   arm_told states is x e =
-      let f : x.fuse ≡ fuse = ap (λ (t : ArmTold). t.fuse) e ∙ was.fuse in let o : x.out ≡ node.arm.out = ap (λ (t : ArmTold). t.out) e ∙ was.out in
+      let f : x.fuse ≡ fuse = ap (λ (t : ArmKnown). t.fuse) e ∙ was.fuse in let o : x.out ≡ node.arm.out = ap (λ (t : ArmKnown). t.out) e ∙ was.out in
       λ i. record { fuse = (is ∙ ap (spent calls_of_append) (sym f)) i; out = sym o i; down = x.down }
 
   -- the burnt arm is told
@@ -147,7 +147,7 @@ module _ (line : Line) (back : Back line) where
   burnt states is fires busy w1 w2 x y same arms a but = (
     y,
     carries_same busy idle w2 w2 (after_calls calls_of_append n x) y
-        (subst (λ t. AgreesIn busy w2 (record x { arm_at = with_id x.arm_at n t }) y) (arm_told states is (x.arm_at n) (ap (λ (t : ℕ → ArmTold). t n) arms)) (carries_armed busy w1 w2 x y n power (lifted v (with_kept node states)).arm a same fires))
+        (subst (λ t. AgreesIn busy w2 (record x { arm_at = with_id x.arm_at n t }) y) (arm_told states is (x.arm_at n) (ap (λ (t : ℕ → ArmKnown). t n) arms)) (carries_armed busy w1 w2 x y n power (lifted v (with_kept node states)).arm a same fires))
         (record { powers = λ m. refl; vbs = λ m q. refl; shelves = λ m q. refl; uuids = refl; linked = refl }) but,
   )
 
@@ -170,7 +170,7 @@ module _ (line : Line) (back : Back line) where
 
   -- whether it is closed was told before the line
   pub told_closed : (r.disk_at n v).closed ≡ shelf.is_closed
-  told_closed = sym (ap (λ (t : ℕ → ℕ → DiskTold). (t n v).closed) (onward_all r events going.onward.lines).disks) ∙ written.closed
+  told_closed = sym (ap (λ (t : ℕ → ℕ → DiskKnown). (t n v).closed) (onward_all r events going.onward.lines).disks) ∙ written.closed
 
   -- where it goes back to
   abbrev pub to : ℕ
@@ -185,7 +185,7 @@ module _ (line : Line) (back : Back line) where
       let same = onward_all r events going.onward.lines in
       let dial : r.dial_of l ≡ Some (record { producer = link.server.desk.node; node = n; vb = v }) = sym (ap (λ (t : ℕ → Option Dial). t l) same.dials) ∙ mine.dialed in
       let point : r.point_of l ≡ Some named = sym (ap (λ (t : ℕ → Option ℕ). t l) same.points) ∙ back.point in
-      (λ i. rollback_of r (dial i) (point i)) ∙ ap (λ (t : ℕ → ℕ → DiskTold). Some (n, (v, noted.Roll (roll_point (t n v).book named)))) (sym same.disks) ∙ ap (λ x. Some (n, (v, noted.Roll x))) told_point
+      (λ i. rollback_of r (dial i) (point i)) ∙ ap (λ (t : ℕ → ℕ → DiskKnown). Some (n, (v, noted.Roll (roll_point (t n v).book named)))) (sym same.disks) ∙ ap (λ x. Some (n, (v, noted.Roll x))) told_point
 
   covered : Covered (c.nodes k).held (batches shelf.book)
   covered = subst (λ b. Covered (c.nodes k).held (batches b)) written.book (going.agrees.sound.kept k).book.covered
@@ -211,7 +211,7 @@ module _ (line : Line) (back : Back line) where
   heavy : Weighs (cas_of_last shelf.book) (upto (c.nodes k).held to)
   heavy = subst (λ b. Weighs (cas_of_last b) (upto (c.nodes k).held to)) written.book (rolled_reads top c k going.agrees.sound to point_there).weighs
 
-  abbrev pub s : DialTold
+  abbrev pub s : DialResult
   s = so_far line at None events
 
   pub known : states.0 v ≡ Some fv
@@ -247,7 +247,7 @@ module _ (line : Line) (back : Back line) where
     abbrev events' : List Event
     events' = events ++ rolled_line ∷ []
 
-    abbrev s' : DialTold
+    abbrev s' : DialResult
     s' = with_line s rolled_line
 
     sound : SoundCluster top c'
@@ -274,20 +274,20 @@ module _ (line : Line) (back : Back line) where
     journals q o = ap (λ b. if b then Some shelf' else states.1 q) (ne_eqb q v o)
 
     there_still : (told'.disk_at n v).there ≡ (told.disk_at n v).there
-    there_still = ap (λ (d : DiskTold). d.there) (at_here told.disk_at n v (disk_back to (told.disk_at n v)))
+    there_still = ap (λ (d : DiskKnown). d.there) (at_here told.disk_at n v (disk_back to (told.disk_at n v)))
 
     -- what the program comes to
 
-    rolled_came : after_job (roll_back named s) states.0 states.1 ≡ after_job (lift (asked_once_more s')) states'.0 states'.1
+    rolled_came : after_job (roll_back named s) states.0 states.1 ≡ after_job (lift (requested_once_more s')) states'.0 states'.1
     unfolding roll_back
     rolled_came = after_job_bind (roll_job v named) (λ came. lift (rolled_back named s came)) states.0 states.1
         ∙ ap (λ y. after_job (lift (rolled_back named s y.1)) y.0.0 y.0.1) (stood_came states.0 states.1 v named fv shelf known mine.follows journal.1 opens (ap all_pass journal.2 ∙ passes))
 
-    asked_came : after_job (lift (asked_once_more s')) states'.0 states'.1 ≡ (states', again_with s' (again_by waiting.Asking ask s'.dial.consumer))
-    asked_came = after_job_lift (asked_once_more s') states'.0 states'.1
-        ∙ ap (λ o. let y = call_at states'.0 v Ask o in ((y.0, shelves'), again_told s' (follower_ask y.1))) (ap (λ b. if b then Some fv' else states.0 v) (eq-eqb v v refl))
-        ∙ ap (λ b. ((with_vb_at states'.0 v fv', shelves'), again_told s' (named_ask (if b then quiet_reply (Named ask) else refusal_reply NotMyVbucket).answer))) mine.follows
-        ∙ ap (λ st. ((st, shelves'), again_told s' (Some ask))) (put_over states.0 v fv' fv')
+    asked_came : after_job (lift (requested_once_more s')) states'.0 states'.1 ≡ (states', again_with s' (again_by waiting.Asking ask s'.dial.consumer))
+    asked_came = after_job_lift (requested_once_more s') states'.0 states'.1
+        ∙ ap (λ o. let y = call_at states'.0 v Ask o in ((y.0, shelves'), again_result s' (follower_ask y.1))) (ap (λ b. if b then Some fv' else states.0 v) (eq-eqb v v refl))
+        ∙ ap (λ b. ((with_vb_at states'.0 v fv', shelves'), again_result s' (named_ask (if b then quiet_reply (Named ask) else refusal_reply NotMyVbucket).answer))) mine.follows
+        ∙ ap (λ st. ((st, shelves'), again_result s' (Some ask))) (put_over states.0 v fv' fv')
         ∙ ap (λ h. (states', again_with s' (again_by h ask s'.dial.consumer))) back.asks
 
     -- it asks again
@@ -373,7 +373,7 @@ module _ (line : Line) (back : Back line) where
     rolled_dials : (after_lines r events').dial_of ≡ r.dial_of
     rolled_dials = ap (λ (x : Chronicle). x.dial_of) (after_more r events (rolled_line ∷ [])) ∙ (onward_all r events going.onward.lines).dials
 
-    by_room : (b : Bool) → nat_lt at.asked (2 ^ 32 - 1) ≡ b → (came : Kept × DialTold) → came ≡ (states', again_with s' (if b then asked_again ask s'.dial.consumer else (ended_for Protocol s'.dial.consumer, []))) → Reached line rest came
+    by_room : (b : Bool) → nat_lt at.asked (2 ^ 32 - 1) ≡ b → (came : Kept × DialResult) → came ≡ (states', again_with s' (if b then request_again ask s'.dial.consumer else (ended_for Protocol s'.dial.consumer, []))) → Reached line rest came
     by_room true e came q =
         let low : at.asked + 1 < 2 ^ 32 = grind (arith, nat_tests, e) in
         record {

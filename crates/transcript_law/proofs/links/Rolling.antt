@@ -7,15 +7,15 @@ use Rattle.transcript_law.proofs.Words.{LogEntry, upto, kept_to, request_of, Mem
 use Rattle.transcript_law.proofs.Words.{complete_position, is_follower, no_spans, States, with_vb_at, Sound, StaysSound, Dial, Change}
 use Rattle.transcript_law.proofs.{Words.{Chronicle, is_dial_for, after_end}, invariant.Tables.{at_here, at_there, id_there, ended_there}, invariant.Wholes.{WholeTo, spanned_none}, invariant.Agreement.{ChangeFits, all_rise}}
 use Rattle.transcript_law.proofs.{invariant.Agreement.{EntryFits, own_history, VbAgrees, no_counts, vb_row, vb_contents}, invariant.Carrying.{IsApart, TakenOf}, links.Followed.{no_writes}, invariant.Carried.{no_writer}, disks.Disks.{ShelfIs, bare, no_spots, parts_of}}
-use Rattle.branch_model.proofs.{Holding.{holds_low}, Journaling.{image_at_point, point_seq, rolls_farthest, rolls_to}, Lists.{in_upto, rises_upto}}
+use Rattle.branch_model.proofs.{Holding.{holds_low}, Journaling.{image_at_point, point_seq, rolls_farthest, rolls_to}, Lists.{from_upto, rises_upto}}
 use Rattle.branch_model.specs.Journals.{Covered, IsPoint, batches, cas_of_last, complete_ends, complete_points, greatest, image_at, points, roll_point}
 use Rattle.{cluster_model.specs.Clusters.{Disk, appended, rolled}, disk_journals.specs.Arms.{under}, std.proofs.lemmas.List.Elements.{All-filter}}
 use Rattle.std.specs.FinMap as finite
-use Rattle.{std.proofs.lemmas.Bool.{false_from_ne_true, and_parts}, transcript_law.specs.Chronicles.{DiskTold, after_roll, disk_back, told_batch}, transcript_law.specs.Lawfulness.{IsFarthest, IsSavedEnd}, vb_calls.specs.Following.{cas_of, rolled_vb}}
+use Rattle.{std.proofs.lemmas.Bool.{false_from_ne_true, and_parts}, transcript_law.specs.Chronicles.{DiskKnown, after_roll, disk_back, known_batch}, transcript_law.specs.Lawfulness.{IsFarthest, IsSavedEnd}, vb_calls.specs.Following.{cas_of, rolled_vb}}
 use Rattle.{vb_calls.specs.declared.calls.VbAnswer.TheVariants.{Named, Num}, vb_calls.specs.declared.calls.VbCall.TheVariants.{Ask, RollTo}}
 use Rattle.{vb_types.specs.declared.status.Status.TheVariants.{NotMyVbucket}}
 use Rattle.vb_calls.specs.Flushes.{read_job, roll_job, roll_to_job, rollable_job, rolled_job}
-use Rattle.vb_calls.specs.Shelves.{Append, Book, DiskFailed, Fate, Idle, Keep, Read, Shelf, Shelves, Shut, Stood, WasClosed, after_fate, asked_shelf, late_of, with_shelf_at}
+use Rattle.vb_calls.specs.Shelves.{Append, Book, DiskFailed, Fate, Idle, Keep, Read, Shelf, Shelves, Shut, Stood, WasClosed, after_fate, shelf_step, late_of, with_shelf_at}
 use Rattle.vb_journal.specs.UnderArms.{all_pass, burnt_noting}
 use Rattle.vb_disk.specs.declared.fuse.Fuse.TheVariants.{Off}
 use Rattle.vb_calls.specs.declared.journals.Rolled.TheVariants as rolled_as
@@ -70,7 +70,7 @@ rolled_agrees stays r n v m fv book to a f covered point low small heavy =
           base = image_is;
           low = rises;
           fits = fits;
-          weighs = λ x i. let z : cas_of x.act ≤ fv.last_cas = a.weighs x (in_upto x m.held to i).0 in omega arith;
+          weighs = λ x i. let z : cas_of x.act ≤ fv.last_cas = a.weighs x (from_upto x m.held to i).0 in omega arith;
           entries = kept_fit to fv.log a.entries;
           high = point_seq fv.position.at m.held (batches book) to rise covered point;
         };
@@ -82,7 +82,7 @@ rolled_agrees stays r n v m fv book to a f covered point low small heavy =
         };
         member = record { active = a.member.active; position = refl; log = ap (kept_to to) a.member.log };
         branch = a.branch;
-        holds = holds_low to (WholeTo to no_spans (complete_position to)) (upto m.held to) (own_history r n v) (λ x i. a.holds.of x (in_upto x m.held to i).0) (λ i w. let k : i ≤ fork_of (complete_position to) = w.1 in omega arith);
+        holds = holds_low to (WholeTo to no_spans (complete_position to)) (upto m.held to) (own_history r n v) (λ x i. a.holds.of x (from_upto x m.held to i).0) (λ i w. let k : i ≤ fork_of (complete_position to) = w.1 in omega arith);
       };
       role = a.role;
       opened = at_here r.open_at n v false;
@@ -92,7 +92,7 @@ rolled_agrees stays r n v m fv book to a f covered point low small heavy =
 
 -- batches as lines tell them end where they end
 abbrev bare_batch : Batch → Batch
-bare_batch b = told_batch b.position b.log
+bare_batch b = known_batch b.position b.log
 
 bare_cut : (to : ℕ) (bs : List Batch) → filter (λ b. nat_le b.position.at to) (map bare_batch bs) ≡ map bare_batch (filter (λ b. nat_le b.position.at to) bs)
 bare_cut to [] = refl
@@ -121,7 +121,7 @@ bare_point js named = ap (λ ps. greatest (filter (λ p. nat_le p named) ps)) (a
 abbrev pub rolled_shelf : Shelf → ℕ → Shelf
 rolled_shelf shelf to = record shelf { book = noted.Roll to ∷ shelf.book; flush = Idle; fuse = burnt_noting shelf.fuse }
 
-pub rolled_disk : {told : DiskTold} {d : Disk} (shelf : Shelf) (fv : Plain) (to : ℕ) (image : Picture) (cas : ℕ) → shelf.is_closed ≡ false → ShelfIs told d (under Off shelf) (parts_of fv)
+pub rolled_disk : {told : DiskKnown} {d : Disk} (shelf : Shelf) (fv : Plain) (to : ℕ) (image : Picture) (cas : ℕ) → shelf.is_closed ≡ false → ShelfIs told d (under Off shelf) (parts_of fv)
     → ShelfIs (disk_back to told) (appended d (noted.Roll to)) (under Off (rolled_shelf shelf to)) (parts_of (rolled_vb fv to image cas))
 rolled_disk {d = d} shelf fv to image cas opens x = record {
   book = ap (λ b. noted.Roll to ∷ b) x.book;
@@ -178,9 +178,9 @@ roll_end_of l n v to r =
     }
 
 -- the points that lines tell are those of the batches
-end_told : (bs : List Batch) (x : ℕ) → IsPoint x (complete_ends bs) → IsSavedEnd (map (λ (b : Batch). b.position) bs) x
-end_told [] x p = ⊎_elim (λ e. e) (λ none. absurd none) p
-end_told (b ∷ bs) x p = by (b.position.at == b.position.se) refl p (end_told bs x)
+stream_end_lines : (bs : List Batch) (x : ℕ) → IsPoint x (complete_ends bs) → IsSavedEnd (map (λ (b : Batch). b.position) bs) x
+stream_end_lines [] x p = ⊎_elim (λ e. e) (λ none. absurd none) p
+stream_end_lines (b ∷ bs) x p = by (b.position.at == b.position.se) refl p (stream_end_lines bs x)
   where
     by : (k : Bool) → (b.position.at == b.position.se) ≡ k → IsPoint x (cond k (b.position.at ∷ complete_ends bs) (complete_ends bs)) → (IsPoint x (complete_ends bs) → IsSavedEnd (map (λ (b : Batch). b.position) bs) x)
         → IsSavedEnd (map (λ (b : Batch). b.position) (b ∷ bs)) x
@@ -199,7 +199,7 @@ told_end (b ∷ bs) x p = by (b.position.at == b.position.se) refl p (told_end b
 -- a rollback goes to the greatest of them
 pub farthest : (book : List Record) (named to : ℕ) → roll_point book named ≡ to → IsFarthest (points book) named to
 farthest book named to is = subst (IsFarthest (points book) named) is (record {
-  saved = end_told (batches book) (roll_point book named) (rolls_to book named).0;
+  saved = stream_end_lines (batches book) (roll_point book named) (rolls_to book named).0;
   below = (rolls_to book named).1;
   farthest = λ n p l. rolls_farthest book named n (told_end (batches book) n p) l;
 })
@@ -239,7 +239,7 @@ module _ (states : States) (shelves : Shelves) (v named : ℕ) (fv : Plain) (she
   abbrev came : Bool → Bool → Shelf × Fate
   came closed passes = let fate : Fate = if closed then WasClosed else if passes then Stood else DiskFailed in (after_fate shelf (noted.Roll point) fate, fate)
 
-  appended_is : (passes : Bool) → shelf.is_closed ≡ false → all_pass shelf.fuse ≡ passes → asked_shelf shelf (Append (noted.Roll point)) ≡ came false passes
+  appended_is : (passes : Bool) → shelf.is_closed ≡ false → all_pass shelf.fuse ≡ passes → shelf_step shelf (Append (noted.Roll point)) ≡ came false passes
   appended_is passes opens pass = (λ i. came (opens i) (pass i))
 
   -- the journal is closed

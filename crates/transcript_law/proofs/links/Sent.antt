@@ -20,31 +20,31 @@ pub all_in : (P : Change → Type 0) (xs : List Change) (x : Change) → All P x
 all_in P [] x a i = absurd i
 all_in P (y ∷ xs) x a i = ⊎_elim (λ e. subst P (sym e) (a zero y (omega arith))) (λ k. all_in P xs x (λ j d m. a (suc j) d (omega arith)) k) i
 
-pub in_all : (P : Change → Type 0) (xs : List Change) → ((x : Change) → IsIn x xs → P x) → All P xs
-in_all P [] f k d l = absurd (omega arith)
-in_all P (y ∷ xs) f zero d l = f y (inl refl)
-in_all P (y ∷ xs) f (suc k) d l = in_all P xs (λ x i. f x (inr i)) k d (omega arith)
+pub all_by_each : (P : Change → Type 0) (xs : List Change) → ((x : Change) → IsIn x xs → P x) → All P xs
+all_by_each P [] f k d l = absurd (omega arith)
+all_by_each P (y ∷ xs) f zero d l = f y (inl refl)
+all_by_each P (y ∷ xs) f (suc k) d l = all_by_each P xs (λ x i. f x (inr i)) k d (omega arith)
 
 pub not_found : {X : Type 0} (xs : List X) (i : ℕ) → slice_get xs i ≡ None → length xs ≤ i
 not_found [] i e = omega arith
 not_found (y ∷ xs) zero e = cc
 not_found (y ∷ xs) (suc i) e = let l = not_found xs i e in omega arith
 
-found_drop : {X : Type 0} (xs : List X) (i : ℕ) (x : X) → slice_get xs i ≡ Some x → drop i xs ≡ x ∷ drop (suc i) xs
-found_drop [] i x e = cc
-found_drop (y ∷ xs) zero x e = let q : y ≡ x = cc in ap (λ z. z ∷ xs) q
-found_drop (y ∷ xs) (suc i) x e = found_drop xs i x e
+found_at_drop : {X : Type 0} (xs : List X) (i : ℕ) (x : X) → slice_get xs i ≡ Some x → drop i xs ≡ x ∷ drop (suc i) xs
+found_at_drop [] i x e = cc
+found_at_drop (y ∷ xs) zero x e = let q : y ≡ x = cc in ap (λ z. z ∷ xs) q
+found_at_drop (y ∷ xs) (suc i) x e = found_at_drop xs i x e
 
-found_take : {X : Type 0} (xs : List X) (i : ℕ) (x : X) → slice_get xs i ≡ Some x → take (suc i) xs ≡ take i xs ++ x ∷ []
-found_take [] i x e = cc
-found_take (y ∷ xs) zero x e = let q : y ≡ x = cc in ap (λ z. z ∷ []) q
-found_take (y ∷ xs) (suc i) x e = ap (λ ys. y ∷ ys) (found_take xs i x e)
+found_at_take : {X : Type 0} (xs : List X) (i : ℕ) (x : X) → slice_get xs i ≡ Some x → take (suc i) xs ≡ take i xs ++ x ∷ []
+found_at_take [] i x e = cc
+found_at_take (y ∷ xs) zero x e = let q : y ≡ x = cc in ap (λ z. z ∷ []) q
+found_at_take (y ∷ xs) (suc i) x e = ap (λ ys. y ∷ ys) (found_at_take xs i x e)
 
 pub drop_found : {X : Type 0} (xs : List X) (i : ℕ) (x : X) → slice_get xs i ≡ Some x → drop i xs ≡ x ∷ drop (i + 1) xs
-drop_found xs i x e = let on : suc i ≡ i + 1 = omega arith in found_drop xs i x e ∙ ap (λ n. x ∷ drop n xs) on
+drop_found xs i x e = let on : suc i ≡ i + 1 = omega arith in found_at_drop xs i x e ∙ ap (λ n. x ∷ drop n xs) on
 
 pub take_found : {X : Type 0} (xs : List X) (i : ℕ) (x : X) → slice_get xs i ≡ Some x → take (i + 1) xs ≡ take i xs ++ x ∷ []
-take_found xs i x e = let on : i + 1 ≡ suc i = omega arith in ap (λ n. take n xs) on ∙ found_take xs i x e
+take_found xs i x e = let on : i + 1 ≡ suc i = omega arith in ap (λ n. take n xs) on ∙ found_at_take xs i x e
 
 pub drop_whole : {X : Type 0} (xs : List X) (i : ℕ) → length xs ≤ i → drop i xs ≡ []
 drop_whole xs i l = drop_all i xs l
@@ -67,8 +67,8 @@ act_told (Commit prepared doc deleted) = commit_act prepared
 act_told (Abort prepared) = Abort prepared
 
 -- and of its change
-abbrev pub change_told : Change → Change
-change_told c = record { seq = c.seq; key = c.key; act = act_told c.act }
+abbrev pub change_line : Change → Change
+change_line c = record { seq = c.seq; key = c.key; act = act_told c.act }
 
 pub plain_fits : (c : Change) → ChangeFits c → ChangeFits (plain c)
 plain_fits c f = record { seq = f.seq; key = f.key; act = by c.act f.act }

@@ -1,20 +1,20 @@
 -- the frames on their way to a consumer, but for the answers to acknowledgements that were refused
 use Rattle.std.specs.Prelude.{◌≡◌, ◌∷◌, ◌++◌}
-use Rattle.transcript_law.proofs.Words.{ℕ, true, false, not, cond, List, [], refl, ap, ◌∙◌, append-nil, filter-append, Frame, DcpMsg, StreamTold, dcp_frame, AskAnswer, LogEntry}
+use Rattle.transcript_law.proofs.Words.{ℕ, true, false, not, cond, List, [], refl, ap, ◌∙◌, append-nil, filter-append, Frame, DcpMsg, StreamVerdict, dcp_frame, AskAnswer, LogEntry}
 use Rattle.transcript_law.proofs.invariant.Agreement.{is_refused_ack, spoken, answer_frame}
 
 -- the frame of a message is no such answer
 pub message_spoken : (m : DcpMsg) (o vb : ℕ) → is_refused_ack (dcp_frame m o vb) ≡ false
 unfolding dcp_frame
-message_spoken (DcpMsg.StreamAnswer (StreamTold.Go log)) o vb = refl
-message_spoken (DcpMsg.StreamAnswer (StreamTold.Roll to)) o vb = refl
-message_spoken (DcpMsg.StreamAnswer (StreamTold.Refused code)) o vb = refl
+message_spoken (DcpMsg.StreamAnswer (StreamVerdict.Go log)) o vb = refl
+message_spoken (DcpMsg.StreamAnswer (StreamVerdict.Roll to)) o vb = refl
+message_spoken (DcpMsg.StreamAnswer (StreamVerdict.Refused code)) o vb = refl
 message_spoken m o vb = refl
 
 pub answer_spoken : (o : ℕ) (log : List LogEntry) (said : AskAnswer) → is_refused_ack (answer_frame o log said) ≡ false
-answer_spoken o log AskAnswer.Go = message_spoken (DcpMsg.StreamAnswer (StreamTold.Go log)) o 0
-answer_spoken o log (AskAnswer.Roll to) = message_spoken (DcpMsg.StreamAnswer (StreamTold.Roll to)) o 0
-answer_spoken o log (AskAnswer.Refuse code) = message_spoken (DcpMsg.StreamAnswer (StreamTold.Refused code)) o 0
+answer_spoken o log AskAnswer.Go = message_spoken (DcpMsg.StreamAnswer (StreamVerdict.Go log)) o 0
+answer_spoken o log (AskAnswer.Roll to) = message_spoken (DcpMsg.StreamAnswer (StreamVerdict.Roll to)) o 0
+answer_spoken o log (AskAnswer.Refuse code) = message_spoken (DcpMsg.StreamAnswer (StreamVerdict.Refused code)) o 0
 
 -- frames with one more in front, which the consumer takes
 pub spoken_front : (f : Frame) (fs : List Frame) → is_refused_ack f ≡ false → spoken (f ∷ fs) ≡ f ∷ spoken fs

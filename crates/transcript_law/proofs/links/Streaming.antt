@@ -3,11 +3,11 @@ use Rattle.std.specs.Prelude.{◌≡◌, ◌+◌, ◌<◌, ◌≤◌, ◌∷◌,
 use Rattle.transcript_law.proofs.Words.{ℕ, Bool, true, false, List, [], map, drop, refl, ap, sym, ◌∙◌, subst, arith, option_map, Option, Some, None, not, nat_le, is_some}
 use Rattle.transcript_law.proofs.Words.{nat_tests, Frame, dcp_frame, Change, EndReason, Event, front, uuid_of, Position, Rises, last_seq, IsOf, HasLast, Covers, hist_rises, hist, Shared, image_of, ground, Linked}
 use Rattle.transcript_law.proofs.Words.{stream_branch, above, member_reach, flight_from, Member, Move, SoundCluster, adopted, marked_by, received, keeps, kin_shared, VbCall, VbReply, Plain, plain_step, is_follower, is_answerable}
-use Rattle.transcript_law.proofs.Words.{marker_fits, marked_vb, is_next, with_received_change, Call, Ended, lift, after_job, after_job_lift, STATE_CHANGED, with_handshake, DialTold, with_consumer, with_line, over_for}
-use Rattle.transcript_law.proofs.{Words.{go_on_with, call_made, frame_taken, ItemTold, Chronicle, with_at, held_more, past_next, past_mark, after_line, after_lines, item_told, LawfulLine}, links.Sent.{act_told, change_told, message_of}}
+use Rattle.transcript_law.proofs.Words.{marker_fits, marked_vb, is_next, with_received_change, Call, Ended, lift, after_job, after_job_lift, STATE_CHANGED, with_handshake, DialResult, with_consumer, with_line, over_for}
+use Rattle.transcript_law.proofs.{Words.{go_on_with, call_made, frame_taken, ItemLine, Chronicle, with_at, held_more, past_next, past_mark, after_line, after_lines, item_of_change, LawfulLine}, links.Sent.{act_told, change_line, message_of}}
 use Rattle.transcript_law.proofs.{links.Sent.{items_frames_cons}, lines.Lines.{IsQuiet}, invariant.Seats.{seat, seat_one}, invariant.Agreement.{vb_of, ChangeFits, image_is, AgreesAt, own_history, VbAgrees, ConsumerIs, Streaming, LinkAgrees}}
-use Rattle.transcript_law.proofs.invariant.Agreement.{StreamIs, first_answers, waits_after, coming_items, flight_items, ComingIs, items_frames, end_frames, flight_frames, marker_start, spoken, stream_frames, top, consumer_seat}
-use Rattle.transcript_law.proofs.{invariant.Agreement.{wants_of, EndsStand, UpIs, vb_row, vb_contents, DialAgrees}, invariant.Carrying.{TakenOf}, invariant.OneLink.{put_here, put_there, consumer_quiet}, links.Comings.{next_told}, links.Rolling.{not_for}}
+use Rattle.transcript_law.proofs.invariant.Agreement.{StreamAgrees, first_answers, waits_after, coming_items, flight_items, ComingIs, items_frames, end_frames, flight_frames, marker_start, spoken, stream_frames, top, consumer_seat}
+use Rattle.transcript_law.proofs.{invariant.Agreement.{wants_of, EndsStand, UpIs, vb_row, vb_contents, DialAgrees}, invariant.Carrying.{TakenOf}, invariant.OneLink.{put_here, put_there, consumer_quiet}, links.Comings.{next_item_line}, links.Rolling.{not_for}}
 use Rattle.transcript_law.proofs.{links.AckLines.{due_going}, links.Acknowledging.{due_none, on_stream}, invariant.Tables.{is_dialed, range_here, range_there, at_there, changed_here, changed_there, never}, links.Taken.{next_covers, next_of, next_fits, range_is_lawful, got_is_lawful, go_frame}}
 use Rattle.transcript_law.proofs.{links.Taken.{is_none, stream_adopted, stream_marked, stream_received, first_taken, go_taken, marker_taken, change_taken, end_taken}, links.Followed.{came_of, own_is, adopt_is, adopted_agrees}}
 use Rattle.transcript_law.proofs.{links.Followed.{received_shelf, marker_is, start_is_fork, start_low, marked_agrees, completes, receive_is, received_agrees}, links.Onward.{IsOnward, Kept}, links.Downing.{put_vb, same_shelves, all_answers, Next, next_answer, few_first, Asker, waits_for, Line, so_far, link_now, now}}
@@ -16,7 +16,7 @@ use Rattle.vb_calls.specs.Shelves.{Shelf}
 use Rattle.branch_model.specs.Journals.{place_of}
 use Rattle.transcript_law.proofs.{invariant.Agreement.{DiskIsIf, shelf_of}, disks.Disks.{ShelfIs, parts_of, sealed_spots, shelf_spanned}, invariant.OneLink.{disk_here, disk_there}, Words.{with_seal}}
 use Rattle.{cluster_model.specs.Clusters.{Disk, Names, spanned, spanned_by, NextNames, Stands, set_node, marked_member}, dcp_consumer.specs.Machine.{answered, streaming as streaming_after}}
-use Rattle.{mcbp_dcp.specs.declared.message.DcpMsg.TheVariants.{SnapshotMarker, StreamEnd}, node_core.specs.Dials.{message_told, adopt_told, due_asked, is_broken}, std.proofs.lemmas.Bool.{true_from_ne_false}, std.specs.Prelude.{min}}
+use Rattle.{mcbp_dcp.specs.declared.message.DcpMsg.TheVariants.{SnapshotMarker, StreamEnd}, node_core.specs.Dials.{message_result, adopt_result, due_requested, is_broken}, std.proofs.lemmas.Bool.{true_from_ne_false}, std.specs.Prelude.{min}}
 use Rattle.{vb_events.specs.declared.event.EndReason.TheVariants.{Protocol, State}, vb_events.specs.declared.event.StreamName.TheVariants.{Link}}
 use Rattle.vb_events.specs.declared.event.Event.TheVariants as event
 use Rattle.vb_calls.specs.declared.calls.VbCall.TheVariants as call
@@ -58,7 +58,7 @@ module _ (line : Line) (course : Course line) where
   abbrev kn : Member
   kn = c.nodes k
 
-  abbrev s : DialTold
+  abbrev s : DialResult
   s = so_far line at None events
 
   abbrev in_one : Bool
@@ -107,7 +107,7 @@ module _ (line : Line) (course : Course line) where
           adopted = streaming.adopted ∙ same;
           asks = λ q. streaming.asks (ap (λ b. b && not fv.first) before);
         };
-        streams = subst (λ b. StreamIs o v link.server.desk.id streaming.granted_is streaming.stream (vb_of (now line states at) p v) (c.nodes (seat p v)) feed kn (b && not fv.first)) same streaming.streams;
+        streams = subst (λ b. StreamAgrees o v link.server.desk.id streaming.granted_is streaming.stream (vb_of (now line states at) p v) (c.nodes (seat p v)) feed kn (b && not fv.first)) same streaming.streams;
         all = ap (λ b. drop (streaming.seen + 1) (all_answers (go_frame o feed)) ++ stream_frames o v over (b && not fv.first) kn.position kn.coming feed.flight) (sym same) ∙ e;
       }))
 
@@ -121,7 +121,7 @@ module _ (line : Line) (course : Course line) where
     Then = Streaming (wants_of fv') kn' (vb_of (now line states at) p v) (c.nodes (seat p v)) ((after_line told tell).stream_of (Link l) v) link.server (end_of line at' None) mine.talk.asked more
 
     -- the line, the vBucket and the member go on together
-    on_reached : (came : Kept × DialTold) → fv'.streams ≡ fv.streams → came ≡ after_job (lift (due_asked (so_far line at' None (events ++ tell ∷ [])))) states'.0 states'.1 → IsOnward tell → IsQuiet tell → LawfulLine told tell []
+    on_reached : (came : Kept × DialResult) → fv'.streams ≡ fv.streams → came ≡ after_job (lift (due_requested (so_far line at' None (events ++ tell ∷ [])))) states'.0 states'.1 → IsOnward tell → IsQuiet tell → LawfulLine told tell []
         → TakenOf l n v told (after_line told tell) → (d : Disk) → SoundCluster top (set_node c k kn' d) → VbAgrees (after_line told tell) n v kn' fv'
         → ((shelf : Shelf) → ShelfIs (told.disk_at n v) (c.disks k) shelf (parts_of fv) → ShelfIs ((after_line told tell).disk_at n v) d shelf (parts_of fv')) → UpIs (link_now line at') [] mine.talk.asked → Then → Reached line rest came
     on_reached came streams e o q lawful taken d sound agrees disk ups x =
@@ -145,23 +145,23 @@ module _ (line : Line) (course : Course line) where
         disk_on (Some shelf) e = disk shelf (subst (λ y. DiskIsIf (told.disk_at n v) (c.disks k) y (Some fv)) e disk_before)
 
   -- what a call comes to: what is told of it, and what is due behind it
-  came_on : (call : VbCall) (next : Option VbReply → DialTold) (fv' : Plain) (reply : VbReply) → plain_step fv call ≡ (fv', reply)
-      → after_job (lift (Call v call (λ y. due_asked (next y)))) states.0 states.1 ≡ after_job (lift (due_asked (next (Some reply)))) (put_vb states v fv').0 states.1
+  came_on : (call : VbCall) (next : Option VbReply → DialResult) (fv' : Plain) (reply : VbReply) → plain_step fv call ≡ (fv', reply)
+      → after_job (lift (Call v call (λ y. due_requested (next y)))) states.0 states.1 ≡ after_job (lift (due_requested (next (Some reply)))) (put_vb states v fv').0 states.1
   came_on call next fv' reply q =
-      after_job_lift (Call v call (λ y. due_asked (next y))) states.0 states.1 ∙ ap (λ y. ((y.0, states.1), y.1)) (came_of states.0 v call (λ y. due_asked (next y)) fv fv' reply known q)
-      ∙ sym (after_job_lift (due_asked (next (Some reply))) (put_vb states v fv').0 states.1)
+      after_job_lift (Call v call (λ y. due_requested (next y))) states.0 states.1 ∙ ap (λ y. ((y.0, states.1), y.1)) (came_of states.0 v call (λ y. due_requested (next y)) fv fv' reply known q)
+      ∙ sym (after_job_lift (due_requested (next (Some reply))) (put_vb states v fv').0 states.1)
 
   -- the frame is refused, and the link is over
-  over_reached : (at' : Asker) (why : EndReason) → is_broken (Some why) ≡ false → (call : VbCall) (next : Option VbReply → DialTold) (reply : VbReply) → plain_step fv call ≡ (fv, reply) → next (Some reply) ≡ so_far line at' (Some why) events
-      → Reached line rest (after_job (lift (Call v call (λ y. due_asked (next y)))) states.0 states.1)
-  over_reached at' why other call next reply q e = ended line stays f rest states (put_vb states v fv) at at' events why (after_job (lift (Call v call (λ y. due_asked (next y)))) states.0 states.1) going other
-      (came_on call next fv reply q ∙ ap (λ y. after_job (lift (due_asked y)) (put_vb states v fv).0 states.1) e ∙ ap (λ y. after_job (lift y) (put_vb states v fv).0 states.1) (due_none (so_far line at' (Some why) events) refl)) (λ m q. vb_moved line states states.1 at at fv m q (λ e t. sym known ∙ ap states.0 (sym t))) refl
+  over_reached : (at' : Asker) (why : EndReason) → is_broken (Some why) ≡ false → (call : VbCall) (next : Option VbReply → DialResult) (reply : VbReply) → plain_step fv call ≡ (fv, reply) → next (Some reply) ≡ so_far line at' (Some why) events
+      → Reached line rest (after_job (lift (Call v call (λ y. due_requested (next y)))) states.0 states.1)
+  over_reached at' why other call next reply q e = ended line stays f rest states (put_vb states v fv) at at' events why (after_job (lift (Call v call (λ y. due_requested (next y)))) states.0 states.1) going other
+      (came_on call next fv reply q ∙ ap (λ y. after_job (lift (due_requested y)) (put_vb states v fv).0 states.1) e ∙ ap (λ y. after_job (lift y) (put_vb states v fv).0 states.1) (due_none (so_far line at' (Some why) events) refl)) (λ m q. vb_moved line states states.1 at at fv m q (λ e t. sym known ∙ ap states.0 (sym t))) refl
 
   -- the stream's answer: the log is taken over
 
   adopt_on : streaming.seen ≡ 3 → behind ≡ more ++ streaming.unput → (b : Bool) → is_answerable feed.log ≡ b → Reached line rest (after_job (lift (go_on_with feed.log s)) states.0 states.1)
   unfolding go_on_with
-  adopt_on three e false a = over_reached at Protocol refl (call.Adopt feed.log) (adopt_told feed.log s) _ (adopt_is fv feed.log false mine.follows a) refl
+  adopt_on three e false a = over_reached at Protocol refl (call.Adopt feed.log) (adopt_result feed.log s) _ (adopt_is fv feed.log false mine.follows a) refl
   adopt_on three e true a =
       let fv' : Plain = record fv { log = feed.log; first = true } in let kn' : Member = adopted kn (Some feed) in
       let early : nat_le 4 streaming.seen ≡ false = ap (nat_le 4) three in let start : in_one ≡ false = ap (λ b. b && not fv.first) early in
@@ -170,9 +170,9 @@ module _ (line : Line) (course : Course line) where
       let at' : Asker = waits_for at waiting.Streaming in
       let asks : at.waiting ≡ waiting.Asking = waits_last line at streaming.seen three streaming.consumer in
       on_reached fv' kn' at' (event.Adopted n v feed.log) refl refl (after_job (lift (go_on_with feed.log s)) states.0 states.1) refl
-      (came_on (call.Adopt feed.log) (adopt_told feed.log s) fv' _ (adopt_is fv feed.log true mine.follows a)
-      ∙ ap (λ h. after_job (lift (due_asked (with_line (with_consumer s (with_handshake s.dial.consumer (streaming_after h))) (event.Adopted n v feed.log)))) (put_vb states v fv').0 states.1) asks) tt tt
-      (l, p, streaming.granted_is, mine.dialed, streaming.told, sym streaming.streams.log_told)
+      (came_on (call.Adopt feed.log) (adopt_result feed.log s) fv' _ (adopt_is fv feed.log true mine.follows a)
+      ∙ ap (λ h. after_job (lift (due_requested (with_line (with_consumer s (with_handshake s.dial.consumer (streaming_after h))) (event.Adopted n v feed.log)))) (put_vb states v fv').0 states.1) asks) tt tt
+      (l, p, streaming.granted_is, mine.dialed, streaming.told, sym streaming.streams.log_lines)
       (record {
         tree = refl;
         writer_of = λ u. refl;
@@ -183,7 +183,7 @@ module _ (line : Line) (course : Course line) where
       })
       (c.disks k)
       (subst (λ y. SoundCluster top (set_node c k (adopted kn y) (c.disks k))) streaming.fed (keeps top c (Move.Adopt k) going.agrees.sound (quiet, none)))
-      (adopted_agrees stays told c going.agrees.hists going.agrees.rootless n v kn fv feed vb mine.follows a streaming.entries (ap (λ x. uuid_of (front x)) (sym streaming.streams.log_told) ∙ streaming.streams.front_is) joined)
+      (adopted_agrees stays told c going.agrees.hists going.agrees.rootless n v kn fv feed vb mine.follows a streaming.entries (ap (λ x. uuid_of (front x)) (sym streaming.streams.log_lines) ∙ streaming.streams.front_is) joined)
       (λ shelf x. x)
       mine.talk.ups
       (record {
@@ -201,7 +201,7 @@ module _ (line : Line) (course : Course line) where
           asks = λ q. streaming.asks start;
         };
         streams = stream_adopted none
-            (subst (λ b. StreamIs o v link.server.desk.id streaming.granted_is streaming.stream (vb_of (now line states at) p v) (c.nodes (seat p v)) feed kn b) start streaming.streams);
+            (subst (λ b. StreamAgrees o v link.server.desk.id streaming.granted_is streaming.stream (vb_of (now line states at) p v) (c.nodes (seat p v)) feed kn b) start streaming.streams);
         all = sym (ap (λ y. stream_frames o v over in_one kn.position y feed.flight) none ∙ ap (λ b. stream_frames o v over b kn.position None feed.flight) start) ∙ e;
       })
 
@@ -228,7 +228,7 @@ module _ (line : Line) (course : Course line) where
 
   -- the first item that was put and not taken is that of the next change
   abbrev NextTold : Change → List Change → Type 0
-  NextTold x later = (items : List ItemTold) × (streaming.granted_is.coming ≡ item_told x ∷ items) × (map item_told (later ++ flight_items feed.flight) ≡ items ++ map item_told (drop streaming.stream.next streaming.stream.items))
+  NextTold x later = (items : List ItemLine) × (streaming.granted_is.coming ≡ item_of_change x ∷ items) × (map item_of_change (later ++ flight_items feed.flight) ≡ items ++ map item_of_change (drop streaming.stream.next streaming.stream.items))
 
   granted_now : streaming.seen ≡ 4 → at.waiting ≡ waiting.Streaming
   granted_now four = streaming.consumer.waits ∙ ap waits_after four
@@ -239,14 +239,14 @@ module _ (line : Line) (course : Course line) where
   marker_on : (x : ℕ × List Change) (later : List (ℕ × List Change)) → streaming.seen ≡ 4 → kn.coming ≡ Some [] → feed.flight ≡ x ∷ later → items_frames o v x.1 ++ flight_frames o v over x.0 later ≡ more ++ streaming.unput
       → (b : Bool) → marker_fits fv.position fv.first start x.0 ≡ b → Reached line rest (after_job (lift (call_made (call.Marker start x.0) s)) states.0 states.1)
   unfolding call_made
-  marker_on x later four none flight e false a = over_reached at Protocol refl (call.Marker start x.0) (message_told s) _ (marker_is fv start x.0 false mine.follows a) refl
+  marker_on x later four none flight e false a = over_reached at Protocol refl (call.Marker start x.0) (message_result s) _ (marker_is fv start x.0 false mine.follows a) refl
   marker_on x later four none flight e true a =
       let fv' : Plain = marked_vb fv start x.0 in let kn' : Member = marked_by kn feed (x ∷ later) in let whole = covers x later flight in
       let from : flight_from kn kn.coming ≡ kn.position.at = ap (flight_from kn) none in
       let above : kn.position.at < x.0 = subst (λ y. y < x.0) from whole.0.goes_on in
       let ends : last_seq kn.position.at x.1 ≡ x.0 = subst (λ y. last_seq y x.1 ≡ x.0) from whole.0.reaches in
       on_reached fv' kn' at (event.Ranged n v (min start fv.position.at) x.0) refl refl (after_job (lift (call_made (call.Marker start x.0) s)) states.0 states.1) refl
-      (came_on (call.Marker start x.0) (message_told s) fv' _ (marker_is fv start x.0 true mine.follows a)) tt tt
+      (came_on (call.Marker start x.0) (message_result s) fv' _ (marker_is fv start x.0 true mine.follows a)) tt tt
       (range_is_lawful (busy_at line (f ∷ rest)) (now line states at) told c k feed going.agrees streaming.fed n v l p fv.position.at streaming.granted_is mine.dialed streaming.told streaming.streams.front_is
       (ap (last_seq 0) vb.held ∙ vb.high) (on_it (ap is_some none)) start x later streaming.streams.marks flight (subst (λ (q : Position). q.at < x.0) vb.member.position above))
       (record { tree = refl; writer_of = λ u. refl; rows = λ m q ne i. record (vb_row told m q) { opened = at_there told.open_at n v false m q ne i; contents = record (vb_contents told m q) { snap = at_there told.snap_at n v (Some (min start fv.position.at, x.0)) m q ne i } }; dials = λ j ne. refl; streams = λ j q ne other. range_there told n v (min start fv.position.at) x.0 j q (not_for n v (told.dial_of j) other); points = λ j ne other. refl })
@@ -299,10 +299,10 @@ module _ (line : Line) (course : Course line) where
   -- a change comes inside a snapshot
 
   receive_on : (x : Change) (later : List Change) → streaming.seen ≡ 4 → kn.coming ≡ Some (x ∷ later) → ChangeFits x → items_frames o v later ++ flight_frames o v over start feed.flight ≡ more ++ streaming.unput
-      → (b : Bool) → is_next fv.position x.seq ≡ b → (o : Option Act) → completed_act (pending_of fv x.key) (act_told x.act) ≡ o → Reached line rest (after_job (lift (call_made (call.Receive (change_told x)) s)) states.0 states.1)
+      → (b : Bool) → is_next fv.position x.seq ≡ b → (o : Option Act) → completed_act (pending_of fv x.key) (act_told x.act) ≡ o → Reached line rest (after_job (lift (call_made (call.Receive (change_line x)) s)) states.0 states.1)
   unfolding call_made
-  receive_on x later four coming fits e false a o d = over_reached at Protocol refl (call.Receive (change_told x)) (message_told s) _ (receive_is fv x false o mine.follows a d) refl
-  receive_on x later four coming fits e true a None d = over_reached at Protocol refl (call.Receive (change_told x)) (message_told s) _ (receive_is fv x true None mine.follows a d) refl
+  receive_on x later four coming fits e false a o d = over_reached at Protocol refl (call.Receive (change_line x)) (message_result s) _ (receive_is fv x false o mine.follows a d) refl
+  receive_on x later four coming fits e true a None d = over_reached at Protocol refl (call.Receive (change_line x)) (message_result s) _ (receive_is fv x true None mine.follows a d) refl
   receive_on x later four coming fits e true a (Some act) d =
       let names : Names (image_of kn.held) x = waiting_named x act d in
       let done : completed_act (pending_of fv x.key) (act_told x.act) ≡ Some x.act = d ∙ ap Some (completes x.act act (pending_of fv x.key) (waiting_fulfilled x later coming names) d) in
@@ -310,7 +310,7 @@ module _ (line : Line) (course : Course line) where
       let up : fv.position.at < x.seq = grind (arith, nat_tests, a) in
       let inside : in_one ≡ true = true_from_ne_false in_one (λ q. let none : x ∷ later ≡ [] = sym (ap coming_items coming) ∙ streaming.streams.not_in_one q in cc) in
       let begun : not fv.first ≡ true = sym (ap (λ y. nat_le 4 y && not fv.first) four) ∙ inside in
-      let next : NextTold x later = next_told o v start over streaming.stream x later more streaming.unput streaming.streams.fits streaming.unput_is streaming.all_put feed.flight streaming.granted_is.coming
+      let next : NextTold x later = next_item_line o v start over streaming.stream x later more streaming.unput streaming.streams.fits streaming.unput_is streaming.all_put feed.flight streaming.granted_is.coming
       (subst (ComingIs streaming.granted_is.coming streaming.stream feed.flight) coming streaming.streams.coming) e in
       let told' : Chronicle = record told { held = held_more told n v x; open_at = with_at told.open_at n v true } in
       let disk : Disk = spanned_by (c.disks k) kn (Some (x ∷ later)) in
@@ -318,17 +318,17 @@ module _ (line : Line) (course : Course line) where
       subst (λ y. SoundCluster top (set_node c k (received kn y) (spanned_by (c.disks k) kn y))) coming
       (keeps top c (Move.Receive k) going.agrees.sound (quiet, subst (NextNames (image_of kn.held)) (sym coming) names)) in
       let own : hist c.tree kn.br ≡ own_history told n v = own_is told c n v kn going.agrees.hists going.agrees.rootless vb.branch in
-      let of_branch : IsOf (own_history told n v) x = subst (λ h. IsOf h x) own (next_of (busy_at line (f ∷ rest)) (now line states at) told c k feed going.agrees streaming.fed x later coming) in
+      let points_of_branch : IsOf (own_history told n v) x = subst (λ h. IsOf h x) own (next_of (busy_at line (f ∷ rest)) (now line states at) told c k feed going.agrees streaming.fed x later coming) in
       let followed : HasLast (above kn'.held kn'.position.ss) (own_history told n v) kn'.position.ss kn'.position.at kn'.position.se =
       subst (λ h. HasLast (above kn'.held kn'.position.ss) h kn'.position.ss kn'.position.at kn'.position.se) own (subst (λ y. Stands (ground c) y) (put_here c.nodes k kn') (kept.stands k)).follows.has in
-      on_reached fv' kn' at (event.Got n v (Link l) x) refl refl (after_job (lift (call_made (call.Receive (change_told x)) s)) states.0 states.1) refl
-      (came_on (call.Receive (change_told x)) (message_told s) fv' _ (receive_is fv x true (Some x.act) mine.follows a done)) tt tt
+      on_reached fv' kn' at (event.Got n v (Link l) x) refl refl (after_job (lift (call_made (call.Receive (change_line x)) s)) states.0 states.1) refl
+      (came_on (call.Receive (change_line x)) (message_result s) fv' _ (receive_is fv x true (Some x.act) mine.follows a done)) tt tt
       (got_is_lawful (busy_at line (f ∷ rest)) (now line states at) told c k feed going.agrees streaming.fed n v l p fv.position.at streaming.granted_is mine.dialed streaming.told streaming.streams.front_is
       (ap (last_seq 0) vb.held ∙ vb.high) (on_it (ap is_some coming)) x later coming up next.0 next.1)
       (record { tree = refl; writer_of = λ u. refl; rows = λ m q ne i. record (vb_row told m q) { opened = at_there told.open_at n v true m q ne i; contents = record (vb_contents told m q) { held = at_there told.held n v (told.held n v ++ x ∷ []) m q ne i } }; dials = λ j ne. refl; streams = λ j q ne other. changed_there told' l past_next j q ne; points = λ j ne other. refl })
       disk
       kept
-      (received_agrees stays told n v kn fv x later vb mine.follows a fits done of_branch (subst (Rises 0 top) own (hist_rises top c.tree kn.br going.agrees.sound.grows)) followed)
+      (received_agrees stays told n v kn fv x later vb mine.follows a fits done points_of_branch (subst (Rises 0 top) own (hist_rises top c.tree kn.br going.agrees.sound.grows)) followed)
       (λ shelf y. subst (λ q. ShelfIs (told.disk_at n v) (spanned (c.disks k) q) shelf (parts_of fv')) (λ i. record { ss = (sym vb.member.position i).ss; se = (sym vb.member.position i).se; at = x.seq }) (received_shelf fv x (no_writer fv.role mine.follows) vb.spanned y))
       mine.talk.ups
       (record {
@@ -340,9 +340,9 @@ module _ (line : Line) (course : Course line) where
         log_fits = streaming.log_fits;
         seen = 4;
         taking = record { not_more = omega arith; consumer = consumer_now four; adopted = refl; asks = λ q. never (sym begun ∙ q) };
-        streams = subst (λ b. StreamIs o v link.server.desk.id (past_next streaming.granted_is) streaming.stream (vb_of (now line states at) p v) (c.nodes (seat p v)) feed kn' b) (sym begun)
+        streams = subst (λ b. StreamAgrees o v link.server.desk.id (past_next streaming.granted_is) streaming.stream (vb_of (now line states at) p v) (c.nodes (seat p v)) feed kn' b) (sym begun)
             (stream_received x later coming next
-            (subst (λ b. StreamIs o v link.server.desk.id streaming.granted_is streaming.stream (vb_of (now line states at) p v) (c.nodes (seat p v)) feed kn b) inside streaming.streams));
+            (subst (λ b. StreamAgrees o v link.server.desk.id streaming.granted_is streaming.stream (vb_of (now line states at) p v) (c.nodes (seat p v)) feed kn b) inside streaming.streams));
         all = ap (λ b. items_frames o v later ++ flight_frames o v over (marker_start b kn'.position) feed.flight) begun
             ∙ sym (ap (λ b. items_frames o v later ++ flight_frames o v over (marker_start b kn.position) feed.flight) inside) ∙ e;
       })

@@ -1,13 +1,13 @@
 -- what a consumer makes of the frames that a producer writes, what stays of a stream when it takes one, and that what is on its way fits the frames that tell it
 use Rattle.std.specs.Prelude.{◌≡◌, ◌<◌, ◌≤◌, ◌∷◌, ◌==◌, ◌&&◌, ◌^◌, if◌then◌else◌, ◌++◌}
 use Rattle.transcript_law.proofs.Words.{ℕ, true, false, zero, suc, List, [], length, drop, refl, ap, sym, ◌∙◌, subst, arith, Some, None, nat_le, is_some, All}
-use Rattle.transcript_law.proofs.Words.{Frame, RESPONSE, DcpMsg, StreamTold, dcp_frame, IsTold, IsSpelled, EntryInRange, ToldInRange, InRange, option_map, drop-nil, and_parts, eq-eqb, eqb-true, nat_tests, message_back, Act, Change}
-use Rattle.transcript_law.proofs.Words.{EndReason, LogEntry, IsKey, IsValue, Ended, lift, act_message, STATE_CHANGED, PlainConsumer, with_handshake, over_why, DialTold, with_consumer, over_for, go_on_with, roll_back}
+use Rattle.transcript_law.proofs.Words.{Frame, RESPONSE, DcpMsg, StreamVerdict, dcp_frame, IsVerdict, IsSpelled, EntryInRange, VerdictInRange, InRange, option_map, drop-nil, and_parts, eq-eqb, eqb-true, nat_tests, message_back, Act, Change}
+use Rattle.transcript_law.proofs.Words.{EndReason, LogEntry, IsKey, IsValue, Ended, lift, act_message, STATE_CHANGED, PlainConsumer, with_handshake, over_why, DialResult, with_consumer, over_for, go_on_with, roll_back}
 use Rattle.transcript_law.proofs.Words.{call_made, frame_taken, min, ⊎_elim, inl, inr, IsIn, last_seq, IsOf, Covers, hist, hist_rises, rises_in, Feed, Cluster, ground, Linked, Flight, flight_from, PlainWorld}
-use Rattle.transcript_law.proofs.Words.{ItemTold, Granted, Chronicle, stream_branch, item_told, stream_history, LawfulRange, LawfulGot, Bool, map, Option, Member, adopted, marked_by, received, flight_end}
+use Rattle.transcript_law.proofs.Words.{ItemLine, Granted, Chronicle, stream_branch, item_of_change, stream_history, LawfulRange, LawfulGot, Bool, map, Option, Member, adopted, marked_by, received, flight_end}
 use Rattle.transcript_law.proofs.{Words.{Plain, PlainStream, past_next, past_mark}, invariant.Agreement.{first_answers, answer_frame, DocFits, ActFits, ChangeFits, EntryFits, IsRefused, is_refused_ack, waits_after, flight_marks, top, Busy}}
-use Rattle.transcript_law.proofs.{invariant.Agreement.{AgreesIn, coming_items, flight_items, marker_start, ComingIs, StreamIs}, links.Sent.{act_told, fits_of}, links.Comings.{marker_comes, taken_comes}}
-use Rattle.{branch_model.proofs.Images.{plain_stands}, cluster_model.specs.Clusters.{Comes}, dcp_consumer.specs.Machine.{told_step, answered_with, stream_step, is_awaited, answer_step, response_step, message_step, frame_step}}
+use Rattle.transcript_law.proofs.{invariant.Agreement.{AgreesIn, coming_items, flight_items, marker_start, ComingIs, StreamAgrees}, links.Sent.{act_told, fits_of}, links.Comings.{marker_comes, taken_comes}}
+use Rattle.{branch_model.proofs.Images.{plain_stands}, cluster_model.specs.Clusters.{Comes}, dcp_consumer.specs.Machine.{verdict_step, answered_with, stream_step, is_awaited, answer_step, response_step, message_step, frame_step}}
 use Rattle.{dcp_consumer.specs.Machine.{answered, moved_by}, dcp_consumer.specs.PassiveStreams.{set_change, remove_change, prepare_change, resolved_change, commit_act, call_of_message, called, passive_of, passive_read}}
 use Rattle.{dcp_consumer.specs.declared.handshake.ConsumerStep.{ConsumerStep}, dcp_consumer.specs.declared.handshake.Handshake.{Handshake as Waiting}, dcp_consumer.specs.declared.passive_stream.Passive.{Passive}}
 use Rattle.{dcp_consumer.specs.declared.passive_stream.Passive.TheVariants.{Call, End}, mcbp_dcp.specs.declared.message.Deletion.{Deletion}, mcbp_dcp.specs.declared.message.Mutation.{Mutation}}
@@ -15,7 +15,7 @@ use Rattle.{node_core.specs.Dials.{step_made}, std.proofs.Math.Bool.{and-false},
 use Rattle.{vb_types.specs.declared.change.Act.TheVariants.{Remove, Set, Prepare, Commit, Abort}, vb_types.specs.declared.stream.AskAnswer.TheVariants.{Go}, vb_events.specs.declared.event.EndReason.TheVariants.{Refused, State}}
 use Rattle.vb_events.specs.declared.event.StreamName.TheVariants.{Link}
 use Rattle.mcbp_dcp.specs.declared.message.DcpMsg.TheVariants as msg
-use Rattle.mcbp_dcp.specs.declared.message.StreamTold.TheVariants as told
+use Rattle.mcbp_dcp.specs.declared.message.StreamVerdict.TheVariants as told
 use Rattle.vb_types.specs.declared.stream.AskAnswer.TheVariants as ask_answer
 use Rattle.dcp_consumer.specs.declared.handshake.Handshake.TheVariants as waiting
 use Rattle.dcp_consumer.specs.declared.handshake.ConsumerStep.TheVariants as step
@@ -28,13 +28,13 @@ use Rattle.transcript_law.proofs.Words.{Doc}
 use Rattle.vb_types.specs.declared.change.Level.{Level}
 
 -- what a frame comes to, by its step
-as_step : (f : Frame) (s : DialTold) (x : ConsumerStep) → frame_step s.dial.consumer f ≡ x
+as_step : (f : Frame) (s : DialResult) (x : ConsumerStep) → frame_step s.dial.consumer f ≡ x
     → frame_taken f s ≡ step_made x (with_consumer s (with_handshake s.dial.consumer (moved_by x s.dial.consumer.handshake)))
 unfolding frame_taken
 as_step f s x e = ap (λ y. step_made y (with_consumer s (with_handshake s.dial.consumer (moved_by y s.dial.consumer.handshake)))) e
 
 -- once the link is over, nothing is taken
-pub over_taken : (f : Frame) (s : DialTold) (why : EndReason) → over_why s.dial.consumer.handshake ≡ Some why → frame_taken f s ≡ Ended s
+pub over_taken : (f : Frame) (s : DialResult) (why : EndReason) → over_why s.dial.consumer.handshake ≡ Some why → frame_taken f s ≡ Ended s
 unfolding frame_step
 over_taken f s why e =
     let c : PlainConsumer = s.dial.consumer in
@@ -59,7 +59,7 @@ dropped_step c f e =
           ∙ ap (λ b. if b then answer_step c.handshake f else step.Dropped) (unawaited c.handshake c.asked f (eqb-true f.opcode 0x61 p.1))
     ]
 
-pub dropped_taken : (f : Frame) (s : DialTold) → is_refused_ack f ≡ true → frame_taken f s ≡ Ended s
+pub dropped_taken : (f : Frame) (s : DialResult) → is_refused_ack f ≡ true → frame_taken f s ≡ Ended s
 dropped_taken f s e = as_step f s step.Dropped (dropped_step s.dial.consumer f e)
 
 -- the answers to the first three requests are counted
@@ -75,18 +75,18 @@ first_step (suc zero) f more c e w = let same : dcp_frame (msg.ControlAnswer 0) 
 first_step (suc (suc zero)) f more c e w = let same : dcp_frame (msg.ControlAnswer 0) 3 0 ≡ f = cc in subst (λ x. frame_step c x ≡ step.Answered) same (awaited_step c waiting.Naming (dcp_frame (msg.ControlAnswer 0) 3 0) w refl)
 first_step (suc (suc (suc seen))) f more c e w = let none : drop seen [] ≡ [] = drop-nil {A = Frame} seen in cc
 
-pub first_taken : (seen : ℕ) (f : Frame) (more : List Frame) (s : DialTold) → drop seen first_answers ≡ f ∷ more → s.dial.consumer.handshake ≡ waits_after seen
+pub first_taken : (seen : ℕ) (f : Frame) (more : List Frame) (s : DialResult) → drop seen first_answers ≡ f ∷ more → s.dial.consumer.handshake ≡ waits_after seen
     → frame_taken f s ≡ Ended (with_consumer s (with_handshake s.dial.consumer (answered s.dial.consumer.handshake)))
 first_taken seen f more s e w = as_step f s step.Answered (first_step seen f more s.dial.consumer e w)
 
 -- the answer to a request for a stream
 
-answer_head : (t : StreamTold) (o : ℕ) → let f : Frame = dcp_frame (msg.StreamAnswer t) o 0 in ((f.magic == RESPONSE) ≡ true) × (f.opcode ≡ 0x53) × (f.opaque ≡ o)
+answer_head : (t : StreamVerdict) (o : ℕ) → let f : Frame = dcp_frame (msg.StreamAnswer t) o 0 in ((f.magic == RESPONSE) ≡ true) × (f.opcode ≡ 0x53) × (f.opaque ≡ o)
 unfolding dcp_frame
 answer_head (told.Go log) o = (refl, refl, refl)
 answer_head other o = (refl, refl, refl)
 
-answered_step : (t : StreamTold) (c : PlainConsumer) → IsTold t → ToldInRange t → c.handshake ≡ waiting.Asking → frame_step c (dcp_frame (msg.StreamAnswer t) c.asked 0) ≡ told_step t
+answered_step : (t : StreamVerdict) (c : PlainConsumer) → IsVerdict t → VerdictInRange t → c.handshake ≡ waiting.Asking → frame_step c (dcp_frame (msg.StreamAnswer t) c.asked 0) ≡ verdict_step t
 unfolding frame_step
 answered_step t c i r e =
     let n : ℕ = c.asked in let f : Frame = dcp_frame (msg.StreamAnswer t) n 0 in
@@ -96,28 +96,28 @@ answered_step t c i r e =
     ∙ ap (λ b. if b then answer_step waiting.Asking f else step.Dropped) (eq-eqb f.opcode 0x53 (answer_head t n).1)
     ∙ ap (λ x. stream_step (answered_with f.vb_or_status x)) (message_back (msg.StreamAnswer t) n 0 i r)
 
-answered_taken : (t : StreamTold) (s : DialTold) → IsTold t → ToldInRange t → s.dial.consumer.handshake ≡ waiting.Asking
-    → frame_taken (dcp_frame (msg.StreamAnswer t) s.dial.consumer.asked 0) s ≡ step_made (told_step t) (with_consumer s (with_handshake s.dial.consumer (moved_by (told_step t) s.dial.consumer.handshake)))
-answered_taken t s i r w = as_step (dcp_frame (msg.StreamAnswer t) s.dial.consumer.asked 0) s (told_step t) (answered_step t s.dial.consumer i r w)
+answered_taken : (t : StreamVerdict) (s : DialResult) → IsVerdict t → VerdictInRange t → s.dial.consumer.handshake ≡ waiting.Asking
+    → frame_taken (dcp_frame (msg.StreamAnswer t) s.dial.consumer.asked 0) s ≡ step_made (verdict_step t) (with_consumer s (with_handshake s.dial.consumer (moved_by (verdict_step t) s.dial.consumer.handshake)))
+answered_taken t s i r w = as_step (dcp_frame (msg.StreamAnswer t) s.dial.consumer.asked 0) s (verdict_step t) (answered_step t s.dial.consumer i r w)
 
 entries_in_range : (log : List LogEntry) → All EntryFits log → All EntryInRange log
 entries_in_range log a = λ k d l. record { uuid = (a k d l).0; seq = (a k d l).1 }
 
 -- the log is to be taken over
-pub go_taken : (log : List LogEntry) (s : DialTold) → length log ≤ 25 → All EntryFits log → s.dial.consumer.handshake ≡ waiting.Asking → frame_taken (answer_frame s.dial.consumer.asked log ask_answer.Go) s ≡ lift (go_on_with log s)
+pub go_taken : (log : List LogEntry) (s : DialResult) → length log ≤ 25 → All EntryFits log → s.dial.consumer.handshake ≡ waiting.Asking → frame_taken (answer_frame s.dial.consumer.asked log ask_answer.Go) s ≡ lift (go_on_with log s)
 go_taken log s short fits w = answered_taken (told.Go log) s (omega arith) (entries_in_range log fits) w
 
 -- the vBucket is sent back
-pub rolled_taken : (to : ℕ) (s : DialTold) → to < 2 ^ 64 → s.dial.consumer.handshake ≡ waiting.Asking → frame_taken (answer_frame s.dial.consumer.asked [] (ask_answer.Roll to)) s ≡ roll_back to s
+pub rolled_taken : (to : ℕ) (s : DialResult) → to < 2 ^ 64 → s.dial.consumer.handshake ≡ waiting.Asking → frame_taken (answer_frame s.dial.consumer.asked [] (ask_answer.Roll to)) s ≡ roll_back to s
 rolled_taken to s r w = answered_taken (told.Roll to) s tt r w
 
 -- the link is over
-pub refused_taken : (code : ℕ) (s : DialTold) → IsRefused (ask_answer.Refuse code) → s.dial.consumer.handshake ≡ waiting.Asking
+pub refused_taken : (code : ℕ) (s : DialResult) → IsRefused (ask_answer.Refuse code) → s.dial.consumer.handshake ≡ waiting.Asking
     → frame_taken (answer_frame s.dial.consumer.asked [] (ask_answer.Refuse code)) s ≡ Ended (over_for Refused s)
 refused_taken code s r w = answered_taken (told.Refused code) s (r.0, r.1) r.2 w
 
 -- a message of a stream that was granted
-message_read : (m : DcpMsg) (p : Passive) (n v : ℕ) (s : DialTold) → IsSpelled m → InRange m → s.dial.consumer.handshake ≡ waiting.Streaming → ((dcp_frame m n v).magic == RESPONSE) ≡ false → passive_of m ≡ p
+message_read : (m : DcpMsg) (p : Passive) (n v : ℕ) (s : DialResult) → IsSpelled m → InRange m → s.dial.consumer.handshake ≡ waiting.Streaming → ((dcp_frame m n v).magic == RESPONSE) ≡ false → passive_of m ≡ p
     → frame_taken (dcp_frame m n v) s ≡ step_made (step.Passive p) (with_consumer s (with_handshake s.dial.consumer (moved_by (step.Passive p) s.dial.consumer.handshake)))
 unfolding frame_step
 message_read m p n v s i r w q e =
@@ -128,13 +128,13 @@ message_read m p n v s i r w q e =
     ∙ ap (λ x. step.Passive (passive_read x)) (message_back m n v i r)
     ∙ ap step.Passive e)
 
-pub marker_taken : (start end n v : ℕ) (s : DialTold) → start < 2 ^ 64 → end < 2 ^ 64 → s.dial.consumer.handshake ≡ waiting.Streaming
+pub marker_taken : (start end n v : ℕ) (s : DialResult) → start < 2 ^ 64 → end < 2 ^ 64 → s.dial.consumer.handshake ≡ waiting.Streaming
     → frame_taken (dcp_frame (msg.SnapshotMarker start end 1) n v) s ≡ lift (call_made (Marker start end) s)
 unfolding dcp_frame call_of_message
 marker_taken start end n v s a b w = message_read (msg.SnapshotMarker start end 1) (Call (Marker start end)) n v s tt (a, b, omega arith) w refl refl
 
 -- the end of the stream, which a change of role at its producer's vBucket ended
-pub end_taken : (n v : ℕ) (s : DialTold) → s.dial.consumer.handshake ≡ waiting.Streaming → frame_taken (dcp_frame (msg.StreamEnd STATE_CHANGED) n v) s ≡ Ended (over_for State s)
+pub end_taken : (n v : ℕ) (s : DialResult) → s.dial.consumer.handshake ≡ waiting.Streaming → frame_taken (dcp_frame (msg.StreamEnd STATE_CHANGED) n v) s ≡ Ended (over_for State s)
 unfolding dcp_frame
 end_taken n v s w = message_read (msg.StreamEnd STATE_CHANGED) (End State) n v s tt (omega arith) w refl refl
 
@@ -177,7 +177,7 @@ prepare_spelled c level doc true k v = let key : length c.key ≤ 250 = k.1 in (
 prepare_spelled c level doc false k v = let key : length c.key ≤ 250 = k.1 in let value : length doc.value ≤ 20971520 = v in (omega arith, omega arith, λ e. let z : 0 ≡ 1 = e in cc)
 
 -- the change that a message tells
-pub change_taken : (c : Change) (a : Act) (m : DcpMsg) (n v : ℕ) (s : DialTold) → ChangeFits c → c.act ≡ a → act_message c a ≡ Some m → s.dial.consumer.handshake ≡ waiting.Streaming
+pub change_taken : (c : Change) (a : Act) (m : DcpMsg) (n v : ℕ) (s : DialResult) → ChangeFits c → c.act ≡ a → act_message c a ≡ Some m → s.dial.consumer.handshake ≡ waiting.Streaming
     → frame_taken (dcp_frame m n v) s ≡ lift (call_made (Receive (record { seq = c.seq; key = c.key; act = act_told a })) s)
 unfolding dcp_frame call_of_message
 change_taken c (Set doc) m n v s fits e q w =
@@ -233,7 +233,7 @@ is_none (Some x) e = cc
 
 module _ {o vb id : ℕ} {g : Granted} {stream : PlainStream} {pv : Option Plain} {leader : Member} {feed : Feed} {kn : Member} where
   -- a log that is taken over
-  pub stream_adopted : kn.coming ≡ None → StreamIs o vb id g stream pv leader feed kn false → StreamIs o vb id g stream pv leader feed (adopted kn (Some feed)) false
+  pub stream_adopted : kn.coming ≡ None → StreamAgrees o vb id g stream pv leader feed kn false → StreamAgrees o vb id g stream pv leader feed (adopted kn (Some feed)) false
   stream_adopted e s = record {
     put = s.put;
     opens = s.opens;
@@ -252,7 +252,7 @@ module _ {o vb id : ℕ} {g : Granted} {stream : PlainStream} {pv : Option Plain
 
   -- the first snapshot on its way that begins
   pub stream_marked : (x : ℕ × List Change) (more : List (ℕ × List Change)) (in_one : Bool) → kn.coming ≡ Some [] → feed.flight ≡ x ∷ more → kn.position.at < x.0 → last_seq kn.position.at x.1 ≡ x.0
-      → StreamIs o vb id g stream pv leader feed kn in_one → StreamIs o vb id (past_mark g) stream pv leader (record feed { flight = more }) (marked_by kn feed (x ∷ more)) true
+      → StreamAgrees o vb id g stream pv leader feed kn in_one → StreamAgrees o vb id (past_mark g) stream pv leader (record feed { flight = more }) (marked_by kn feed (x ∷ more)) true
   stream_marked x more in_one e f above ends s = record {
     put = s.put;
     opens = s.opens;
@@ -274,8 +274,8 @@ module _ {o vb id : ℕ} {g : Granted} {stream : PlainStream} {pv : Option Plain
       from (y ∷ ys) a q = refl
 
   -- the next change
-  pub stream_received : (c : Change) (later : List Change) → kn.coming ≡ Some (c ∷ later) → ((rest : List ItemTold) × (g.coming ≡ item_told c ∷ rest) × (map item_told (later ++ flight_items feed.flight) ≡ rest ++ map item_told (drop stream.next stream.items)))
-      → StreamIs o vb id g stream pv leader feed kn true → StreamIs o vb id (past_next g) stream pv leader feed (received kn (Some (c ∷ later))) true
+  pub stream_received : (c : Change) (later : List Change) → kn.coming ≡ Some (c ∷ later) → ((rest : List ItemLine) × (g.coming ≡ item_of_change c ∷ rest) × (map item_of_change (later ++ flight_items feed.flight) ≡ rest ++ map item_of_change (drop stream.next stream.items)))
+      → StreamAgrees o vb id g stream pv leader feed kn true → StreamAgrees o vb id (past_next g) stream pv leader feed (received kn (Some (c ∷ later))) true
   stream_received c later e next s =
       let ends : last_seq c.seq later ≡ kn.position.se = sym (ap (λ o. last_seq kn.position.at (coming_items o)) e) ∙ s.in_one_last refl in
       record {
@@ -348,7 +348,7 @@ module _ (busy : Busy) (w : PlainWorld) (r : Chronicle) (c : Cluster) (k : ℕ) 
     }
 
     -- a change that is taken
-    pub got_is_lawful : (x : Change) (xs : List Change) → (c.nodes k).coming ≡ Some (x ∷ xs) → at < x.seq → (later : List ItemTold) → g.coming ≡ item_told x ∷ later → LawfulGot r n v l x
+    pub got_is_lawful : (x : Change) (xs : List Change) → (c.nodes k).coming ≡ Some (x ∷ xs) → at < x.seq → (later : List ItemLine) → g.coming ≡ item_of_change x ∷ later → LawfulGot r n v l x
     got_is_lawful x xs e above later next = record {
       above = omega (arith, last, above);
       put = (g, (p, dialed, told, on), subst (λ h. IsOf h x) (ap (hist c.tree) (subst (λ o. Linked (ground c) (c.nodes k) o (Some feed)) e linked).0 ∙ same_history) (next_of x xs e), (later, next));

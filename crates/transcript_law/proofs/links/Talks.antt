@@ -2,7 +2,7 @@
 use Rattle.std.specs.Prelude.{◌≡◌, ◌+◌, ◌≤◌, ◌∷◌, ◌++◌}
 use Rattle.transcript_law.proofs.Words.{ℕ, false, List, [], length, map, take, drop, ap, sym, ◌∙◌, subst, arith, Option, concat, drop-append-le, All-tail, All-push, Frame, spelling}
 use Rattle.transcript_law.proofs.Words.{Readable, frames_in, left_of, pieces_of_frames, StreamAsk, Member, Plain, PlainProducer, PlainLink, Granted}
-use Rattle.transcript_law.proofs.invariant.Agreement.{request_frames, first_answers, UpIs, DownIs, ServerIs, Asking, Talk, wants_of, EndsStand, is_refused_ack, spoken}
+use Rattle.transcript_law.proofs.invariant.Agreement.{request_frames, first_answers, UpIs, DownAgrees, ServerIs, Asking, Talk, wants_of, EndsStand, is_refused_ack, spoken}
 use Rattle.transcript_law.proofs.{links.Frames.{spelled_more}, links.Spoken.{spoken_push}}
 
 -- a link whose producer's end has read n bytes more, of which `left` are no whole frame yet
@@ -43,7 +43,7 @@ module _ (link : PlainLink) (end : PlainProducer) (down : List ℕ) (a : Frame) 
       let e : g ∷ rest ≡ f ∷ (fs ++ u.behind) = u.joined in
       record { behind = u.behind; joined = cc; bytes = u.bytes; readable = All-tail Readable g rest u.readable }
 
-  pub more_down : (all : List Frame) → down ≡ link.down ++ spelling a → Readable a → DownIs link [] all → DownIs answered_link [] (all ++ a ∷ [])
+  pub more_down : (all : List Frame) → down ≡ link.down ++ spelling a → Readable a → DownAgrees link [] all → DownAgrees answered_link [] (all ++ a ∷ [])
   more_down all wrote good d = record {
     behind = d.behind ++ a ∷ [];
     joined = ap (λ fs. fs ++ a ∷ []) d.joined;
@@ -53,7 +53,7 @@ module _ (link : PlainLink) (end : PlainProducer) (down : List ℕ) (a : Frame) 
 
   -- one of the first three requests was answered
   pub next_asking : (fv : Plain) (kn : Member) (pv : Option Plain) (leader : Member) (granted : Option Granted) (point : Option ℕ) (ask : StreamAsk) (f g : Frame) (fs rest asked said : List Frame) (k : ℕ)
-      (t : Asking (wants_of fv) ask link.server link.consumer asked (spoken said)) → UpIs link (f ∷ fs) asked → DownIs link [] said
+      (t : Asking (wants_of fv) ask link.server link.consumer asked (spoken said)) → UpIs link (f ∷ fs) asked → DownAgrees link [] said
       → down ≡ link.down ++ spelling a → end.stream ≡ link.server.stream → Readable a → is_refused_ack a ≡ false
       → t.answered ≡ k → k + 1 ≤ 3 → ServerIs end link.consumer.dialed.node (k + 1)
       → drop k (request_frames link.consumer.asked link.consumer.dialed.node link.consumer.dialed.vb ask) ≡ g ∷ rest

@@ -4,7 +4,7 @@ use Rattle.transcript_law.proofs.{disks.Disks.{disk_same, parts_of, same_parts, 
 use Rattle.transcript_law.proofs.{invariant.Agreement.{DiskIsIf, shelf_of}}
 use Rattle.transcript_law.proofs.Words.{ℕ, Bool, true, false, List, refl, ap, sym, ◌∙◌, subst, inl, inr, ⊎_elim, Option, Some, None, not, option_map}
 use Rattle.transcript_law.proofs.Words.{eqb-true, eqb-false, Frame, Feed, Member, Cluster, SoundCluster, Stream, Plain, is_follower, stream_ids, stream_at, ended_in, PlainStream, PlainLink}
-use Rattle.transcript_law.proofs.Words.{link_number, producer_node, consumer_node, PlainWorld, told_ended, links_told, Granted, Chronicle, [], list_any, StreamName, ended_by}
+use Rattle.transcript_law.proofs.Words.{link_number, producer_node, consumer_node, PlainWorld, link_ended, links_ended, Granted, Chronicle, [], list_any, StreamName, ended_by}
 use Rattle.transcript_law.proofs.invariant.Seats.{seat, seats_apart}
 use Rattle.transcript_law.proofs.invariant.Agreement.{vb_of, AgreesAt, Open, kept_stream, Talk, consumer_seat, producer_seat, LinkAgrees, IsLink, is_open, Differ, DifferFrom, LinksDiffer, top, idle, AgreesIn, BranchesAgree, Wants, EndsStand, DialAgrees}
 use Rattle.transcript_law.proofs.invariant.Carried.{SameStream, places, streaming_again, talk_same}
@@ -36,12 +36,12 @@ id_listed id (x ∷ xs) s e = elim (x.id == id) as (λ b. (if b then Some x else
     [ true ↦ λ q. refl | false ↦ id_listed id xs s ] e
 
 -- links after a change of role
-pub told_is_link : (n v : ℕ) (ids : List ℕ) (links : List PlainLink) (y : PlainLink) → IsLink y (links_told n v ids links) → (x : PlainLink) × IsLink x links × (y ≡ told_ended n v ids x)
+pub told_is_link : (n v : ℕ) (ids : List ℕ) (links : List PlainLink) (y : PlainLink) → IsLink y (links_ended n v ids links) → (x : PlainLink) × IsLink x links × (y ≡ link_ended n v ids x)
 told_is_link n v ids [] y i = absurd i
 told_is_link n v ids (x ∷ xs) y i = ⊎_elim (λ e. (x, inl refl, e)) (λ j. let k = told_is_link n v ids xs y j in (k.0, inr k.1, k.2)) i
 
 -- a link after it, in its two forms
-pub told_by : (n v : ℕ) (ids : List ℕ) (x : PlainLink) (P : PlainLink → Type 0) → (producer_node x ≡ n → P (restreamed x (option_map (ended_in v ids x.server.desk.id) x.server.stream))) → ((producer_node x ≡ n → ⊥) → P x) → P (told_ended n v ids x)
+pub told_by : (n v : ℕ) (ids : List ℕ) (x : PlainLink) (P : PlainLink → Type 0) → (producer_node x ≡ n → P (restreamed x (option_map (ended_in v ids x.server.desk.id) x.server.stream))) → ((producer_node x ≡ n → ⊥) → P x) → P (link_ended n v ids x)
 told_by n v ids x P here there = elim (producer_node x == n) as (λ b. (producer_node x == n) ≡ b → P (if b then record x { server = ended_by v ids x.server } else x))
     [ true ↦ λ e. here (eqb-true (producer_node x) n e) | false ↦ λ e. there (eqb-false (producer_node x) n e) ] refl
 
@@ -56,7 +56,7 @@ open_before v ids id None e = e
 open_before v ids id (Some stream) e =
     ap not (not_ended v ids id stream (elim (ended_in v ids id stream).ended as (λ b. not b ≡ true → b ≡ false) [ true ↦ λ q. cc | false ↦ λ q. refl ] e)).0
 
-pub told_alike : (n v : ℕ) (ids : List ℕ) (x : PlainLink) → Alike x (told_ended n v ids x)
+pub told_alike : (n v : ℕ) (ids : List ℕ) (x : PlainLink) → Alike x (link_ended n v ids x)
 told_alike n v ids x = told_by n v ids x (Alike x)
     (λ e. record { dialed = refl; desk = refl; opens = λ q. open_before v ids x.server.desk.id x.server.stream q })
     (λ ne. record { dialed = refl; desk = refl; opens = λ q. q })
@@ -69,13 +69,13 @@ differ_alike x x' y y' a b d = record {
       (ap (λ k. k.id) (sym a.desk) ∙ g ∙ ap (λ k. k.id) b.desk);
 }
 
-pub differ_told : (n v : ℕ) (ids : List ℕ) (links : List PlainLink) → LinksDiffer links → LinksDiffer (links_told n v ids links)
+pub differ_told : (n v : ℕ) (ids : List ℕ) (links : List PlainLink) → LinksDiffer links → LinksDiffer (links_ended n v ids links)
 differ_told n v ids [] d = tt
 differ_told n v ids (x ∷ xs) d = (each xs d.0, differ_told n v ids xs d.1)
   where
-    each : (ys : List PlainLink) → DifferFrom x ys → DifferFrom (told_ended n v ids x) (links_told n v ids ys)
+    each : (ys : List PlainLink) → DifferFrom x ys → DifferFrom (link_ended n v ids x) (links_ended n v ids ys)
     each [] e = tt
-    each (y ∷ ys) e = (differ_alike x (told_ended n v ids x) y (told_ended n v ids y) (told_alike n v ids x) (told_alike n v ids y) e.0, each ys e.1)
+    each (y ∷ ys) e = (differ_alike x (link_ended n v ids x) y (link_ended n v ids y) (told_alike n v ids x) (told_alike n v ids y) e.0, each ys e.1)
 
 -- no link feeds the vBucket v of the node n
 abbrev pub NoneFeeds : ℕ → ℕ → List PlainLink → Type 0
@@ -91,7 +91,7 @@ pub record Turned (w w' : PlainWorld) (n v : ℕ) (vb : Plain) (links : List Pla
 
 -- a vBucket that no link feeds is another one, with no stream: what agreed before agrees
 module _ (w w' : PlainWorld) (r r' : Chronicle) (c c' : Cluster) (n v : ℕ) (vb vb' : Plain) (a : AgreesIn idle w r c) (known : vb_of w n v ≡ Some vb) (free : NoneFeeds n v w.links)
-    (became : Turned w w' n v vb' (links_told n v (stream_ids vb.streams) w.links))
+    (became : Turned w w' n v vb' (links_ended n v (stream_ids vb.streams) w.links))
     (members : (j : ℕ) → (j ≡ seat n v → ⊥) → c'.nodes j ≡ c.nodes j)
     (dials : (k : ℕ) → r'.dial_of k ≡ r.dial_of k) (streams : (k q : ℕ) → r'.stream_of (StreamName.Link k) q ≡ r.stream_of (StreamName.Link k) q) (points : (k : ℕ) → r'.point_of k ≡ r.point_of k) where
   abbrev ids : List ℕ
@@ -145,12 +145,12 @@ module _ (w w' : PlainWorld) (r r' : Chronicle) (c c' : Cluster) (n v : ℕ) (vb
 
   talk_told : (x : PlainLink) (fv : Plain) (kn : Member) (g : Option Granted) (point : Option ℕ)
       → Talk fv kn (vb_of w (producer_node x) x.consumer.dialed.vb) (c.nodes (producer_seat x)) g point x [] []
-      → Talk fv kn (vb_of w' (producer_node x) x.consumer.dialed.vb) (c'.nodes (producer_seat x)) g point (told_ended n v ids x) [] []
+      → Talk fv kn (vb_of w' (producer_node x) x.consumer.dialed.vb) (c'.nodes (producer_seat x)) g point (link_ended n v ids x) [] []
   talk_told x fv kn g point t = told_by n v ids x (λ y. Talk fv kn (vb_of w' (producer_node x) x.consumer.dialed.vb) (c'.nodes (producer_seat x)) g point y [] [])
       (λ at. record { asked = t.asked; said = t.said; stands = stand_here x t.stands; ups = t.ups; downs = t.downs })
       (λ away. record { asked = t.asked; said = t.said; stands = stand_there x away t.stands; ups = t.ups; downs = t.downs })
 
-  link_told : (x : PlainLink) → IsLink x w.links → LinkAgrees w' r' c' (told_ended n v ids x) [] []
+  link_told : (x : PlainLink) → IsLink x w.links → LinkAgrees w' r' c' (link_ended n v ids x) [] []
   link_told x i =
       let l = a.links x i in
       let apart = free x i in
@@ -159,9 +159,9 @@ module _ (w w' : PlainWorld) (r r' : Chronicle) (c c' : Cluster) (n v : ℕ) (vb
       let kn : Member = c.nodes (consumer_seat x) in
       let same : c'.nodes (consumer_seat x) ≡ kn = members (consumer_seat x) (seats_apart (consumer_node x) x.consumer.dialed.vb n v apart) in
       let is : vb_of w' (consumer_node x) x.consumer.dialed.vb ≡ Some fv = became.there (consumer_node x) x.consumer.dialed.vb apart ∙ l.follower_is in
-      let talk : Talk fv (c'.nodes (consumer_seat x)) (vb_of w' (producer_node x) x.consumer.dialed.vb) (c'.nodes (producer_seat x)) (r'.stream_of (StreamName.Link k) x.consumer.dialed.vb) (r'.point_of k) (told_ended n v ids x) [] [] =
+      let talk : Talk fv (c'.nodes (consumer_seat x)) (vb_of w' (producer_node x) x.consumer.dialed.vb) (c'.nodes (producer_seat x)) (r'.stream_of (StreamName.Link k) x.consumer.dialed.vb) (r'.point_of k) (link_ended n v ids x) [] [] =
       talk_same same refl refl (streams k x.consumer.dialed.vb) (points k) (talk_told x fv kn (r.stream_of (StreamName.Link k) x.consumer.dialed.vb) (r.point_of k) l.talk) in
-      agrees_at (told_ended n v ids x) (told_alike n v ids x) is l.follows (subst (λ o. DialAgrees o x.server.desk x.consumer.dialed) (sym (dials k)) l.dial) talk
+      agrees_at (link_ended n v ids x) (told_alike n v ids x) is l.follows (subst (λ o. DialAgrees o x.server.desk x.consumer.dialed) (sym (dials k)) l.dial) talk
     where
       -- in terms of the link as it is then
       agrees_at : (y : PlainLink) → Alike x y → {fv : Plain} → vb_of w' (consumer_node x) x.consumer.dialed.vb ≡ Some fv → is_follower fv.role ≡ true → DialAgrees (r'.dial_of (link_number x)) x.server.desk x.consumer.dialed
@@ -179,7 +179,7 @@ module _ (w w' : PlainWorld) (r r' : Chronicle) (c c' : Cluster) (n v : ℕ) (vb
   turned_ends : (y : PlainLink) → IsLink y w'.links → EndsUp w' y
   turned_ends y i =
       let (x, j, is) = told_is_link n v ids w.links y (subst (IsLink y) became.linked i) in let same = told_alike n v ids x in
-      subst (EndsUp w') (sym is) (ends_same w w' x (told_ended n v ids x) became.powers (record { dialed = same.dialed; desk = same.desk }) (a.ends x j))
+      subst (EndsUp w') (sym is) (ends_same w w' x (link_ended n v ids x) became.powers (record { dialed = same.dialed; desk = same.desk }) (a.ends x j))
 
   -- what rests beside it
   pub turned_rests : ((m : ℕ) → r'.arm_at m ≡ r.arm_at m) → (r'.disk_at n v).there ≡ (r.disk_at n v).there → ((m q : ℕ) → (m ≡ n → q ≡ v → ⊥) → vb_row r' m q ≡ vb_row r m q) → ((j : ℕ) → (j ≡ seat n v → ⊥) → c'.disks j ≡ c.disks j) → RestsIn w' r' c'
@@ -206,8 +206,8 @@ module _ (w w' : PlainWorld) (r r' : Chronicle) (c c' : Cluster) (n v : ℕ) (vb
   }
 
 -- a family with what it has at k is the same
-pub same_put : {A : Type 0} (xs : ℕ → A) (k j : ℕ) → put xs k (xs k) j ≡ xs j
-same_put xs k j = elim (j == k) as (λ b. (j == k) ≡ b → (if b then xs k else xs j) ≡ xs j) [ true ↦ λ e. ap xs (sym (eqb-true j k e)) | false ↦ λ e. refl ] refl
+pub put_itself : {A : Type 0} (xs : ℕ → A) (k j : ℕ) → put xs k (xs k) j ≡ xs j
+put_itself xs k j = elim (j == k) as (λ b. (j == k) ≡ b → (if b then xs k else xs j) ≡ xs j) [ true ↦ λ e. ap xs (sym (eqb-true j k e)) | false ↦ λ e. refl ] refl
 
 -- what was written down of it and of the others, before its new role is
 pub turned_disks : (w w' : PlainWorld) (r r' : Chronicle) (c c' : Cluster) (n v : ℕ) (vb vb' : Plain) (links : List PlainLink) → AgreesIn idle w r c → vb_of w n v ≡ Some vb → Turned w w' n v vb' links

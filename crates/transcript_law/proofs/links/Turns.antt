@@ -3,29 +3,29 @@ use Rattle.std.specs.Prelude.{◌≡◌, ◌+◌, ◌<◌, ◌≤◌, ◌++◌, 
 use Rattle.transcript_law.proofs.{invariant.OneLink.{disk_here, disk_there}}
 use Rattle.transcript_law.proofs.Words.{Granted, PlainProducer, ℕ, Bool, true, false, [], length, refl, ap, sym, ◌∙◌, subst, append_assoc, Option, Some, None, slice_get, option_map, Frame}
 use Rattle.transcript_law.proofs.Words.{spelling, DcpMsg, dcp_frame, Act, Change, StreamName, Member, Cluster, TakesSnapshots, Done, Call, Turn, More, Stop, after, row_at, row_put, States, past_item, item_line, item_put}
-use Rattle.transcript_law.proofs.Words.{place_told, next_put, stream_put, frame_put, end_put, STATE_CHANGED, Halt, PlainStream, Served, PlainLink, link_number, producer_node, consumer_node, PlainNode, PlainWorld}
-use Rattle.transcript_law.proofs.Words.{Begun, Chronicle, is_dial_of, with_item, finished, after_lines, item_told, IsNextItem, Readable, inl, ⊎_elim, arith, is_some, nat_le, not, eq-eqb, ne_eqb}
+use Rattle.transcript_law.proofs.Words.{place_answered, next_put, stream_put, frame_put, end_put, STATE_CHANGED, Halt, PlainStream, Served, PlainLink, link_number, producer_node, consumer_node, PlainNode, PlainWorld}
+use Rattle.transcript_law.proofs.Words.{Begun, Chronicle, is_dial_of, with_item, finished, after_lines, item_of_change, IsNextItem, Readable, inl, ⊎_elim, arith, is_some, nat_le, not, eq-eqb, ne_eqb}
 use Rattle.transcript_law.proofs.Words.{Position, Snapshot, Covers, fork_of, hist, hist_rises, Rises, ground, Move, SoundCluster, Linked, happens, flight_from, flight_end, start_cases, keeps, VbReply, Stream, Span}
-use Rattle.transcript_law.proofs.Words.{Plain, all_spans, stream_at, end_span, take_to, take_from, with_vb_at, call_at, marker_put, snapshot_told, taken_put, stream_branch, with_begun, IsMarker, LawfulMark}
-use Rattle.transcript_law.proofs.invariant.Agreement.{DownIs, vb_of, is_refused_ack, spoken, Wants, BegunIs, kept_stream, Streaming, consumer_seat, producer_seat, LinkAgrees, is_open, idle, AgreesIn, ChangeFits, wants_of, EndsStand, own_history, VbAgrees, all_rise}
+use Rattle.transcript_law.proofs.Words.{Plain, all_spans, stream_at, end_span, take_to, take_from, with_vb_at, call_at, marker_put, snapshot_of_reply, taken_put, stream_branch, with_begun, IsMarker, LawfulMark}
+use Rattle.transcript_law.proofs.invariant.Agreement.{DownAgrees, vb_of, is_refused_ack, spoken, Wants, BegunAgrees, kept_stream, Streaming, consumer_seat, producer_seat, LinkAgrees, is_open, idle, AgreesIn, ChangeFits, wants_of, EndsStand, own_history, VbAgrees, all_rise}
 use Rattle.transcript_law.proofs.{invariant.Agreement.{AgreesAt, Open, top}, invariant.Tables.{is_dialed, changed_here}, invariant.LinkRows.{found_is_link, put_is_found, put_twice}, invariant.OneLink.{carries_link, carries_producer, carries_same}}
-use Rattle.transcript_law.proofs.{links.Sent.{message_of, all_found, not_found, end_readable, marker_readable}, links.Putting.{item_next, item_streaming, end_streaming, item_readable}, links.Marking.{whole_if, items_fit, moved_there}}
-use Rattle.transcript_law.proofs.{links.Marking.{covers_more, moved_vb, sent_member, taken_stream, start_is, reaches, marker_lawful, marker_streaming, TakenIs, taken_is, span_snapshot}, links.PumpWorlds.{pumped_shelves, served_link, pumped, SoFar}}
+use Rattle.transcript_law.proofs.{links.Sent.{message_of, all_found, not_found, end_readable, marker_readable}, links.Putting.{next_item_of, item_streaming, end_streaming, item_readable}, links.Marking.{whole_if, items_fit, moved_there}}
+use Rattle.transcript_law.proofs.{links.Marking.{covers_more, moved_vb, sent_member, taken_stream, start_is, reaches, marker_lawful, marker_streaming, SnapshotTaken, taken_is, span_snapshot}, links.PumpWorlds.{pumped_shelves, served_link, pumped, SoFar}}
 use Rattle.transcript_law.proofs.{links.Spoken.{message_spoken, spoken_push}, links.PumpWorlds.{TurnsSoFar, told_stream, so_far_more, pumped_here, pumped_powers, pumped_where, once_same, twice_here, twice_there, twice_same}, links.Talks.{more_down}, invariant.Seats.{seat_one}, invariant.Wholes.{WholeTo}}
 use Rattle.transcript_law.proofs.{links.Followed.{own_is}, invariant.Carrying.{Changed, Became, FedMember, FeedChanged, NoNewStream}, invariant.Carried.{sound_streams, no_writer, talk_same}}
-use Rattle.{branch_model.proofs.Holding.{holds_covers}, branch_model.proofs.Lists.{rises_higher}, cluster_model.specs.Clusters.{MaySend, sent}, dcp_producer.specs.Pulling.{act_sent, marker_flags, told_snapshot}}
+use Rattle.{branch_model.proofs.Holding.{holds_covers}, branch_model.proofs.Lists.{rises_higher}, cluster_model.specs.Clusters.{MaySend, sent}, dcp_producer.specs.Pulling.{act_sent, marker_flags, snapshot_of_answer}}
 use Rattle.{dcp_producer.specs.declared.desk.Desk.{Desk}, mcbp_dcp.specs.declared.message.DcpMsg.TheVariants.{SnapshotMarker, StreamEnd}, std.proofs.lemmas.Bool.{cases_Bool, false_from_ne_true}}
-use Rattle.{transcript_law.specs.Chronicles.{with_changed}, transcript_law.specs.Lawfulness.{told_act}, vb_calls.specs.Streams.{is_in_memory, place_reply}, vb_calls.specs.State.{quiet_reply}, vb_calls.specs.declared.calls.VbAnswer.TheVariants.{Placed}, vb_types.specs.declared.stream.Place.TheVariants.{Memory, WaitSaved}, vb_calls.specs.declared.calls.VbCall.TheVariants.{Place, Take}}
+use Rattle.{transcript_law.specs.Chronicles.{with_changed}, transcript_law.specs.Lawfulness.{line_act}, vb_calls.specs.Streams.{is_in_memory, place_reply}, vb_calls.specs.State.{quiet_reply}, vb_calls.specs.declared.calls.VbAnswer.TheVariants.{Placed}, vb_types.specs.declared.stream.Place.TheVariants.{Memory, WaitSaved}, vb_calls.specs.declared.calls.VbCall.TheVariants.{Place, Take}}
 use Rattle.{vb_types.specs.declared.change.Act.TheVariants.{Set}, vb_events.specs.declared.event.StreamName.TheVariants.{Link}}
 use Rattle.vb_events.specs.declared.event.Event.TheVariants as event
 
 -- the snapshot of an item
-begun_of : (o : Option Begun) (stream : PlainStream) (c : Change) → BegunIs o stream → slice_get stream.items stream.next ≡ Some c → (b : Begun) × (o ≡ Some b) × IsNextItem b (item_told c)
+begun_of : (o : Option Begun) (stream : PlainStream) (c : Change) → BegunAgrees o stream → slice_get stream.items stream.next ≡ Some c → (b : Begun) × (o ≡ Some b) × IsNextItem b (item_of_change c)
 begun_of None stream c begun e = let z : None ≡ Some c = sym (ap (λ xs. slice_get xs stream.next) begun) ∙ e in cc
-begun_of (Some b) stream c begun e = (b, refl, item_next b stream c begun e)
+begun_of (Some b) stream c begun e = (b, refl, next_item_of b stream c begun e)
 
 -- a producer sends each act by the name that its line tells
-sent_is_told : (what : Act) → act_sent what ≡ told_act what
+sent_is_told : (what : Act) → act_sent what ≡ line_act what
 sent_is_told (Set doc) = refl
 sent_is_told other = refl
 
@@ -95,7 +95,7 @@ module _ (w : PlainWorld) (r : Chronicle) (l : ℕ) (link : PlainLink) (node : P
       abbrev end_with : Served
       end_with = record { end = link_with.server; events = []; out = s.out ++ spelling f; count = 0; resolved = [] }
 
-      downs_with : Readable f → DownIs link_with [] (la.talk.said ++ f ∷ [])
+      downs_with : Readable f → DownAgrees link_with [] (la.talk.said ++ f ∷ [])
       downs_with good = more_down here link_with.server link_with.down f la.talk.said (sym (append_assoc link.down s.out (spelling f))) good la.talk.downs
 
       -- its consumer hears one more
@@ -124,12 +124,12 @@ module _ (w : PlainWorld) (r : Chronicle) (l : ℕ) (link : PlainLink) (node : P
         let (m, is) = message_of item item.act in let f : Frame = dcp_frame m t.stream.opaque t.stream.vb in
         let (b, last, next) = begun_of t.granted_is.last t.stream item t.streams.last e in
         subst (λ o. Goal (after (Done (item_put s t.stream item o)) states)) (sym is)
-        (so_far_more w r l link node states states s (end_with (Some (past_item item.seq t.stream)) f).end (s.out ++ spelling f) (s.count + 1) (item_line s.end.desk item) (event.Item (Link l) item.seq (told_act item.act) item.key) g
+        (so_far_more w r l link node states states s (end_with (Some (past_item item.seq t.stream)) f).end (s.out ++ spelling f) (s.count + 1) (item_line s.end.desk item) (event.Item (Link l) item.seq (line_act item.act) item.key) g
         (ap (λ (n : StreamName). event.Item n item.seq (act_sent item.act) item.key) named ∙ ap (λ a. event.Item (Link l) item.seq a item.key) (sent_is_told item.act)) tt
         (t.granted_is, b, (vb, dialed, told), opens, last, next) g.desk (
           c,
-          put_agrees (Some (past_item item.seq t.stream)) f (with_item (item_told item)) (item_readable t item m f e is la.small.1 (frame_is m)) (message_spoken m t.stream.opaque t.stream.vb) (λ q. ap is_open kept ∙ q)
-              (item_streaming t item m f opens e is (frame_is m) (given (with_item (item_told item)))),
+          put_agrees (Some (past_item item.seq t.stream)) f (with_item (item_of_change item)) (item_readable t item m f e is la.small.1 (frame_is m)) (message_spoken m t.stream.opaque t.stream.vb) (λ q. ap is_open kept ∙ q)
+              (item_streaming t item m f opens e is (frame_is m) (given (with_item (item_of_change item)))),
         ))
 
     -- the end of a stream that a change of role ended
@@ -141,7 +141,7 @@ module _ (w : PlainWorld) (r : Chronicle) (l : ℕ) (link : PlainLink) (node : P
         (event.Finished s.end.desk.stream STATE_CHANGED) (event.Finished (Link l) STATE_CHANGED) g (ap (λ (n : StreamName). event.Finished n STATE_CHANGED) named) tt
         (t.granted_is, (vb, dialed, told), opens, whole_if t.stream t.granted_is.last t.streams.last whole, λ no_takeover no_end. refl) g.desk
         (c, put_agrees None f finished (subst Readable (sym f_is) (end_readable here.consumer.asked vb t.consumer.small la.small.1)) (message_spoken (StreamEnd STATE_CHANGED) t.stream.opaque t.stream.vb) (λ q. let z : false ≡ true = q in cc) (end_streaming t f opens over whole f_is (given finished))) in
-        subst (λ b. Goal (after (if b then Done (More (end_put s t.stream)) else Call t.stream.vb (Place s.end.desk.id) (λ x. place_told s t.stream x)) states)) (sym over) ended
+        subst (λ b. Goal (after (if b then Done (More (end_put s t.stream)) else Call t.stream.vb (Place s.end.desk.id) (λ x. place_answered s t.stream x)) states)) (sym over) ended
 
     consumer_agrees : VbAgrees read (consumer_node here) vb kn la.follower
     consumer_agrees = subst (AgreesAt read (consumer_node here) vb kn) la.follower_is (a.vbs (consumer_node here) vb)
@@ -163,7 +163,7 @@ module _ (w : PlainWorld) (r : Chronicle) (l : ℕ) (link : PlainLink) (node : P
       has : states t.stream.vb ≡ Some p
       has = ap states t.streams.vb_is ∙ sym (pumped_here w l link node states s vb) ∙ ap (λ (d : Desk). vb_of now d.node vb) (sym g.desk) ∙ at.producer_is
 
-      module _ (o : Stream) (snapshot : Snapshot) (taken : TakenIs p s.end.desk.id o snapshot (moved_vb p s.end.desk.id snapshot.end))
+      module _ (o : Stream) (snapshot : Snapshot) (taken : SnapshotTaken p s.end.desk.id o snapshot (moved_vb p s.end.desk.id snapshot.end))
           (opened : stream_at s.end.desk.id p.streams ≡ Some o) (asked : o.ask ≡ t.granted_is.ask) (placed : o.place ≡ t.granted_is.place) (before : o.taken ≡ is_some t.granted_is.last)
           (whole : length t.stream.items ≤ t.stream.next) where
         open snapshot use {end}
@@ -336,28 +336,28 @@ module _ (w : PlainWorld) (r : Chronicle) (l : ℕ) (link : PlainLink) (node : P
 
       -- the states and the turn after a take
       abbrev taken_turn : Plain × VbReply → States × Turn Served (Served × Halt)
-      taken_turn step = (with_vb_at (with_vb_at states t.stream.vb p) t.stream.vb step.0, taken_put s t.stream (told_snapshot step.1.answer))
+      taken_turn step = (with_vb_at (with_vb_at states t.stream.vb p) t.stream.vb step.0, taken_put s t.stream (snapshot_of_answer step.1.answer))
 
       -- the vBucket was asked where the stream's changes come from
-      placed_turn : (o : Stream) → stream_at s.end.desk.id p.streams ≡ Some o → after (next_put s t.stream None) states ≡ after (place_told s t.stream (Some (place_reply p.floor (Some o)))) (with_vb_at states t.stream.vb p)
+      placed_turn : (o : Stream) → stream_at s.end.desk.id p.streams ≡ Some o → after (next_put s t.stream None) states ≡ after (place_answered s t.stream (Some (place_reply p.floor (Some o)))) (with_vb_at states t.stream.vb p)
       placed_turn o opened =
           let v : ℕ = t.stream.vb in let id : ℕ = s.end.desk.id in
-          ap (λ b. after (if b then Done (More (end_put s t.stream)) else Call v (Place id) (λ x. place_told s t.stream x)) states) going
-          ∙ ap (λ x. after (place_told s t.stream (call_at states v (Place id) x).1) (call_at states v (Place id) x).0) has
-          ∙ ap (λ x. after (place_told s t.stream (Some (place_reply p.floor x))) (with_vb_at states v p)) opened
+          ap (λ b. after (if b then Done (More (end_put s t.stream)) else Call v (Place id) (λ x. place_answered s t.stream x)) states) going
+          ∙ ap (λ x. after (place_answered s t.stream (call_at states v (Place id) x).1) (call_at states v (Place id) x).0) has
+          ∙ ap (λ x. after (place_answered s t.stream (Some (place_reply p.floor x))) (with_vb_at states v p)) opened
 
       -- not all of them are in memory: the stream waits
       waited_turn : (o : Stream) → stream_at s.end.desk.id p.streams ≡ Some o → is_in_memory p.floor o ≡ false → after (next_put s t.stream None) states ≡ waiting_turn
       waited_turn o opened far = placed_turn o opened
-          ∙ ap (λ b. after (place_told s t.stream (Some (quiet_reply (Placed (if b then Memory else WaitSaved))))) (with_vb_at states t.stream.vb p)) far
+          ∙ ap (λ b. after (place_answered s t.stream (Some (quiet_reply (Placed (if b then Memory else WaitSaved))))) (with_vb_at states t.stream.vb p)) far
 
       -- all are: it was asked for the next snapshot
       asked_turn : (o : Stream) → stream_at s.end.desk.id p.streams ≡ Some o → is_in_memory p.floor o ≡ true → after (next_put s t.stream None) states ≡ taken_turn (take_to (end_span o (all_spans p.spans) p.held) o p)
       asked_turn o opened near =
           let v : ℕ = t.stream.vb in let id : ℕ = s.end.desk.id in let first : States = with_vb_at states v p in
           placed_turn o opened
-          ∙ ap (λ b. after (place_told s t.stream (Some (quiet_reply (Placed (if b then Memory else WaitSaved))))) first) near
-          ∙ ap (λ x. ((call_at first v (Take id) x).0, taken_put s t.stream (snapshot_told (call_at first v (Take id) x).1))) (ap (λ b. if b then Some p else states v) (eq-eqb v v refl))
+          ∙ ap (λ b. after (place_answered s t.stream (Some (quiet_reply (Placed (if b then Memory else WaitSaved))))) first) near
+          ∙ ap (λ x. ((call_at first v (Take id) x).0, taken_put s t.stream (snapshot_of_reply (call_at first v (Take id) x).1))) (ap (λ b. if b then Some p else states v) (eq-eqb v v refl))
           ∙ ap (λ x. taken_turn (take_from x p)) opened
           ∙ ap (λ b. taken_turn (take_to (if b then end_span o (all_spans p.spans) p.held else None) o p)) near
 
@@ -372,8 +372,8 @@ module _ (w : PlainWorld) (r : Chronicle) (l : ℕ) (link : PlainLink) (node : P
           by o opened asked sync placed before near None ends = same_so_far
           by o opened asked sync placed before near (Some win) ends =
               let snapshot : Snapshot = span_snapshot p o win in
-              let taken : TakenIs p s.end.desk.id o snapshot (take_to (Some win) o p).0 = taken_is takes p s.end.desk.id o win producer_agrees.sound opened sync near ends in
-              let moved_is : TakenIs p s.end.desk.id o snapshot (moved_vb p s.end.desk.id snapshot.end) = subst (TakenIs p s.end.desk.id o snapshot) taken.after_is taken in
+              let taken : SnapshotTaken p s.end.desk.id o snapshot (take_to (Some win) o p).0 = taken_is takes p s.end.desk.id o win producer_agrees.sound opened sync near ends in
+              let moved_is : SnapshotTaken p s.end.desk.id o snapshot (moved_vb p s.end.desk.id snapshot.end) = subst (SnapshotTaken p s.end.desk.id o snapshot) taken.after_is taken in
               subst (λ x. SoFar w r l link node (with_vb_at (with_vb_at states t.stream.vb p) t.stream.vb x) (marker_put s t.stream snapshot)) (sym taken.after_is)
               (marker_so_far o snapshot moved_is opened asked placed before whole)
 

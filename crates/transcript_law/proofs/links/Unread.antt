@@ -4,7 +4,7 @@ use Rattle.transcript_law.proofs.Words.{ℕ, List, [], map, refl, ap, sym, ◌�
 use Rattle.transcript_law.proofs.Words.{Plain, Cluster, Granted, PlainLink, PlainWorld, Chronicle, link_number, producer_node, consumer_node, row_at, row_put}
 use Rattle.mcbp_frame.proofs.Pieces.{frames-spellings, left-spellings, parted}
 use Rattle.transcript_law.proofs.invariant.Agreement.{AgreesIn, Busy, LinkAgrees, Talk, UpIs, idle}
-use Rattle.transcript_law.proofs.{invariant.Carried.{busy_one, one_here, one_idle, talk_same, told_none}, invariant.Carrying.{Relinked}, invariant.OneLink.{carries_link, mine}}
+use Rattle.transcript_law.proofs.{invariant.Carried.{busy_one, one_here, one_idle, talk_same, told_of_same}, invariant.Carrying.{Relinked}, invariant.OneLink.{carries_link, mine}}
 
 -- the frames of one link that are about to be answered
 abbrev pub answering : ℕ → List Frame → Busy
@@ -56,7 +56,7 @@ module _ (w w' : PlainWorld) (r : Chronicle) (c : Cluster) (l : ℕ) (link : Pla
   pub unread : AgreesIn (answering l fs) w r c → row_at link_number l w.links ≡ Some link → Relinked w w' (row_put link_number l (heard_link link fs) w.links) → AgreesIn idle w' r c
   unread a found same =
       let la : LinkAgrees w r c link fs [] = subst (λ p. LinkAgrees w r c link p.0 p.1) (one_here l (fs, [])) (mine (answering l fs) w r r c c l link a found) in
-      carries_link (answering l fs) idle w w' r r c l link (heard_link link fs) a found (record { dialed = refl; desk = refl }) same (λ has. has) (told_none l r) (λ k ne. sym (one_idle l (fs, []) k ne)) (record {
+      carries_link (answering l fs) idle w w' r r c l link (heard_link link fs) a found (record { dialed = refl; desk = refl }) same (λ has. has) (told_of_same l r) (λ k ne. sym (one_idle l (fs, []) k ne)) (record {
         follower = la.follower;
         follower_is = same.vbs (consumer_node link) link.consumer.dialed.vb ∙ la.follower_is;
         follows = la.follows;
@@ -68,7 +68,7 @@ module _ (w w' : PlainWorld) (r : Chronicle) (c : Cluster) (l : ℕ) (link : Pla
       → AgreesIn idle w r c → row_at link_number l w.links ≡ Some (heard_link link fs) → Relinked w w' (row_put link_number l link w.links) → AgreesIn (answering l fs) w' r c
   reread readable none left a found same =
       let la : LinkAgrees w r c (heard_link link fs) [] [] = mine idle w r r c c l (heard_link link fs) a found in
-      carries_link idle (answering l fs) w w' r r c l (heard_link link fs) link a found (record { dialed = refl; desk = refl }) same (λ has. has) (told_none l r) (one_idle l (fs, []))
+      carries_link idle (answering l fs) w w' r r c l (heard_link link fs) link a found (record { dialed = refl; desk = refl }) same (λ has. has) (told_of_same l r) (one_idle l (fs, []))
       (subst (λ p. LinkAgrees w' r c link p.0 p.1) (sym (one_here l (fs, []))) (record {
         follower = la.follower;
         follower_is = same.vbs (consumer_node link) link.consumer.dialed.vb ∙ la.follower_is;

@@ -1,32 +1,32 @@
 -- lines that move a consumer's bytes to its producer, which answers the frames that came whole
 use Rattle.std.specs.Prelude.{◌≡◌, ◌+◌, ◌<◌, ◌≤◌, ◌∷◌, ◌++◌, ◌==◌, if◌then◌else◌}
 use Rattle.dcp_producer.specs.{Serving.{with_handshake}, declared.desk.Named.{Named}}
-use Rattle.node_world.specs.Links.{frame_up, told_behind, peer_told as node_told}
+use Rattle.node_world.specs.Links.{frame_up, result_behind, peer_posted as node_told}
 use Rattle.transcript_law.proofs.disks.Disks.{power_in}
 use Rattle.transcript_law.proofs.Words.{ℕ, zero, suc, Bool, true, false, List, [], length, take, drop, refl, ap, sym, ◌∙◌, subst, arith, append_assoc, inr, Option, Some, None, eq-eqb, ne_eqb, eqb-true, eqb-false}
 use Rattle.transcript_law.proofs.Words.{Frame, spelling, Readable, left_of, dcp_frame, AskAnswer, AskInRange, LogEntry, StreamAsk, Status, Verdict, Continue, Roll, rule, request_of, Plain, Done, after, after_bind, row_at, row_put, States}
 use Rattle.transcript_law.proofs.Words.{Member, Cluster, Move, happens, May, keeps, answered, Handshake, PlainProducer, Served, begun, with_frame, frame_answered, open_request, sync_request, name_request, refuse, is_active, stream_at, open_refusal, new_stream}
-use Rattle.transcript_law.proofs.Words.{PeerTold, peer_told, PlainLink, link_number, producer_node, consumer_node, PlainNode, PlainWorld, with_states, with_node_at, with_links, with_up, vb_in, Granted, granted, Chronicle, after_ask, after_line, after_lines}
+use Rattle.transcript_law.proofs.Words.{PeerResult, peer_result, PlainLink, link_number, producer_node, consumer_node, PlainNode, PlainWorld, with_states, with_node_at, with_links, with_up, vb_in, Granted, granted, Chronicle, after_ask, after_line, after_lines}
 use Rattle.transcript_law.proofs.Words.{LawfulAsk, LawfulLine, LawfulVerdict, IsDialed, with_stream, DcpMsg, Event, StreamName}
-use Rattle.transcript_law.proofs.invariant.Agreement.{vb_of, shelf_of, request_frames, first_answers, answer_frame, is_refused_ack, spoken, set_after, ServerIs, Asking, IsRefused, PointIs, Talk, consumer_seat, producer_seat, LinkAgrees, is_open, AgreesIn, wants_of, DialAgrees, VbAgrees, AgreesAt, top}
-use Rattle.transcript_law.proofs.{disks.Absent.{nothing_here}, invariant.Carried.{told_none, one_here, one_but, no_writer, talk_same}, invariant.Carrying.{Became, FeedChanged, SamePowers, ToldOf}, invariant.LinkRows.{found_is_link, put_is_found, put_twice}}
+use Rattle.transcript_law.proofs.invariant.Agreement.{vb_of, shelf_of, request_frames, first_answers, answer_frame, is_refused_ack, spoken, set_after, ServerIs, Asking, IsRefused, PointAgrees, Talk, consumer_seat, producer_seat, LinkAgrees, is_open, AgreesIn, wants_of, DialAgrees, VbAgrees, AgreesAt, top}
+use Rattle.transcript_law.proofs.{disks.Absent.{nothing_here}, invariant.Carried.{told_of_same, one_here, one_but, no_writer, talk_same}, invariant.Carrying.{Became, FeedChanged, SamePowers, ToldOf}, invariant.LinkRows.{found_is_link, put_is_found, put_twice}}
 use Rattle.transcript_law.proofs.{verbs.NodeLines.{powers_again, shelves_again}, invariant.OneLink.{mine, carries_link, put_here, put_there, carries_producer, disk_here, disk_there}, invariant.Ranged.{NodeRanged}, invariant.Seats.{seat}}
 use Rattle.transcript_law.proofs.{links.Spoken.{message_spoken}, invariant.Tables.{id_here, id_there, stream_here, stream_there}, lines.Telling.{LawfulBefore, before_more, none_before, told_more, one_before}, links.Frames.{readable}}
 use Rattle.transcript_law.proofs.{links.Requests.{open_answered, sync_answered, name_answered}, links.Talks.{come, next_asking}, links.Unread.{answering}}
-use Rattle.transcript_law.proofs.links.Answered.{told_line, refused_told, StatesAre, granted_told, absent_asked, refused_asked, rolled_asked, granted_asked, refused_talk, asked_opened, granted_talk, streams_opened}
+use Rattle.transcript_law.proofs.links.Answered.{told_line, refused_told, StatesAre, granted_lines, absent_asked, refused_asked, rolled_asked, granted_asked, refused_talk, asked_opened, granted_talk, streams_opened}
 use Rattle.transcript_law.specs.Lawfulness.{GrantsAs}
-use Rattle.transcript_law.proofs.links.Verdicts.{active_told, asks_in_range, roll_low, refusal_named, opens_active, opens_free, absent_lawful, own_lawful, ruled_there, go_lawful, roll_lawful}
+use Rattle.transcript_law.proofs.links.Verdicts.{active_vb_lines, asks_in_range, roll_low, refusal_named, opens_active, opens_free, absent_lawful, own_lawful, ruled_there, go_lawful, roll_lawful}
 
 -- an answer that grants nothing tells of the link's point at most, and that it is the one that it says
 refused_told_of : (l v : ℕ) (r : Chronicle) (ask : StreamAsk) (log : List LogEntry) (said : AskAnswer) → IsRefused said
-    → (let r' = after_ask r l v ask log said in ToldOf l r r' × (r'.dial_of l ≡ r.dial_of l) × PointIs said (r'.point_of l))
+    → (let r' = after_ask r l v ask log said in ToldOf l r r' × (r'.dial_of l ≡ r.dial_of l) × PointAgrees said (r'.point_of l))
 refused_told_of l v r ask log AskAnswer.Go refused = absurd refused
 refused_told_of l v r ask log (AskAnswer.Roll to) refused = (
   record { tree = refl; writer_of = λ u. refl; rows = λ m q. refl; arms = λ m. refl; dials = λ j ne. refl; streams = λ k q ne. refl; points = λ k ne. id_there r.point_of l (Some to) k (λ e. ne (sym e)) },
   refl,
   id_here r.point_of l (Some to),
 )
-refused_told_of l v r ask log (AskAnswer.Refuse code) refused = (told_none l r, refl, tt)
+refused_told_of l v r ask log (AskAnswer.Refuse code) refused = (told_of_same l r, refl, tt)
 
 -- nodes that differ in their vBuckets and their clients at most
 pub record SameNode (node node' : PlainNode) : Type 0 where
@@ -45,15 +45,15 @@ module _ (w0 : PlainWorld) (r0 : Chronicle) (n : ℕ) (link0 : PlainLink) (found
   v = link0.consumer.dialed.vb
 
   -- the link with what its producer's end made of the frames so far
-  abbrev pub served_at : PeerTold → PlainLink
+  abbrev pub served_at : PeerResult → PlainLink
   served_at told = with_up link0 n told
 
   -- the world in which the producer's node is this one
-  abbrev pub world_at : PlainNode × PeerTold → PlainWorld
+  abbrev pub world_at : PlainNode × PeerResult → PlainWorld
   world_at x = with_links (with_node_at w0 m x.0) (row_put link_number l (served_at x.1) w0.links)
 
   -- so far all agrees, and these frames are about to be answered
-  pub record Now (fs : List Frame) (x : PlainNode × PeerTold) : Type 0 where
+  pub record Now (fs : List Frame) (x : PlainNode × PeerResult) : Type 0 where
     pub cluster : Cluster
     pub lawful : LawfulBefore r0 x.1.events
     pub agrees : AgreesIn (answering l fs) (world_at x) (after_lines r0 x.1.events) cluster
@@ -61,47 +61,47 @@ module _ (w0 : PlainWorld) (r0 : Chronicle) (n : ℕ) (link0 : PlainLink) (found
     pub heard : x.1.peer.heard ≡ left_of (come link0 n)
     pub ranged : NodeRanged m x.0
 
-  pub vb_here : (x : PlainNode × PeerTold) (q : ℕ) → vb_of (world_at x) m q ≡ x.0.vbs q
+  pub vb_here : (x : PlainNode × PeerResult) (q : ℕ) → vb_of (world_at x) m q ≡ x.0.vbs q
   vb_here x q = ap (λ b. vb_in (if b then Some x.0 else w0.nodes m) q) (eq-eqb m m refl)
 
-  pub vb_there : (x : PlainNode × PeerTold) (k q : ℕ) → (k ≡ m → ⊥) → vb_of (world_at x) k q ≡ vb_in (w0.nodes k) q
+  pub vb_there : (x : PlainNode × PeerResult) (k q : ℕ) → (k ≡ m → ⊥) → vb_of (world_at x) k q ≡ vb_in (w0.nodes k) q
   vb_there x k q ne = ap (λ b. vb_in (if b then Some x.0 else w0.nodes k) q) (ne_eqb k m ne)
 
-  pub same_vbs : (x y : PlainNode × PeerTold) → ((q : ℕ) → y.0.vbs q ≡ x.0.vbs q) → (k q : ℕ) → vb_of (world_at y) k q ≡ vb_of (world_at x) k q
+  pub same_vbs : (x y : PlainNode × PeerResult) → ((q : ℕ) → y.0.vbs q ≡ x.0.vbs q) → (k q : ℕ) → vb_of (world_at y) k q ≡ vb_of (world_at x) k q
   same_vbs x y same k q = by (k == m)
     where
       by : (b : Bool) → vb_in (if b then Some y.0 else w0.nodes k) q ≡ vb_in (if b then Some x.0 else w0.nodes k) q
       by true = same q
       by false = refl
 
-  pub same_shelves : (x y : PlainNode × PeerTold) → SameNode x.0 y.0 → (k q : ℕ) → shelf_of (world_at y) k q ≡ shelf_of (world_at x) k q
+  pub same_shelves : (x y : PlainNode × PeerResult) → SameNode x.0 y.0 → (k q : ℕ) → shelf_of (world_at y) k q ≡ shelf_of (world_at x) k q
   same_shelves x y same = shelves_again w0 m x.0 y.0 same.shelves
 
-  pub same_powers : (x y : PlainNode × PeerTold) → SameNode x.0 y.0 → SamePowers (world_at x) (world_at y)
+  pub same_powers : (x y : PlainNode × PeerResult) → SameNode x.0 y.0 → SamePowers (world_at x) (world_at y)
   same_powers x y same = powers_again w0 m x.0 y.0 same.power
 
-  pub found_at : (x : PlainNode × PeerTold) → row_at link_number l (world_at x).links ≡ Some (served_at x.1)
+  pub found_at : (x : PlainNode × PeerResult) → row_at link_number l (world_at x).links ≡ Some (served_at x.1)
   found_at x = put_is_found l w0.links link0 (served_at x.1) found refl
 
-  pub links_at : (x y : PlainNode × PeerTold) → (world_at y).links ≡ row_put link_number l (served_at y.1) (world_at x).links
+  pub links_at : (x y : PlainNode × PeerResult) → (world_at y).links ≡ row_put link_number l (served_at y.1) (world_at x).links
   links_at x y = sym (put_twice l w0.links (served_at x.1) (served_at y.1) refl)
 
-  pub link_now : (fs : List Frame) (x : PlainNode × PeerTold) (now : Now fs x) → LinkAgrees (world_at x) (after_lines r0 x.1.events) now.cluster (served_at x.1) fs []
+  pub link_now : (fs : List Frame) (x : PlainNode × PeerResult) (now : Now fs x) → LinkAgrees (world_at x) (after_lines r0 x.1.events) now.cluster (served_at x.1) fs []
   link_now fs x now =
       let r = after_lines r0 x.1.events in
       subst (λ p. LinkAgrees (world_at x) r now.cluster (served_at x.1) p.0 p.1) (one_here l (fs, []))
       (mine (answering l fs) (world_at x) r r now.cluster now.cluster l (served_at x.1) now.agrees (found_at x))
 
   -- a frame was answered, which made this of the vBuckets and the producer, told these lines and put these bytes
-  abbrev pub answered_at : PlainNode × PeerTold → States → PlainProducer → List Event → List ℕ → PlainNode × PeerTold
+  abbrev pub answered_at : PlainNode × PeerResult → States → PlainProducer → List Event → List ℕ → PlainNode × PeerResult
   answered_at x st end lines out =
       (with_states x.0 st, record { peer = record { heard = x.1.peer.heard; producer = end }; events = x.1.events ++ lines; out = x.1.out ++ out; resolved = [] })
 
   -- a step after which each vBucket is as it was, and that tells of no stream
-  module _ (fs gs : List Frame) (x : PlainNode × PeerTold) (now : Now fs x) (st : States) (same : (q : ℕ) → st q ≡ x.0.vbs q) (end : PlainProducer) (lines : List Event) (out : List ℕ) (desk : end.desk ≡ x.1.peer.producer.desk)
+  module _ (fs gs : List Frame) (x : PlainNode × PeerResult) (now : Now fs x) (st : States) (same : (q : ℕ) → st q ≡ x.0.vbs q) (end : PlainProducer) (lines : List Event) (out : List ℕ) (desk : end.desk ≡ x.1.peer.producer.desk)
       (no_stream : is_open end.stream ≡ true → is_open x.1.peer.producer.stream ≡ true) (lawful : LawfulBefore (after_lines r0 x.1.events) lines) (r' : Chronicle) (told : after_lines (after_lines r0 x.1.events) lines ≡ r')
-      (told_of : ToldOf l (after_lines r0 x.1.events) r') (dial : r'.dial_of l ≡ (after_lines r0 x.1.events).dial_of l) where
-    abbrev y : PlainNode × PeerTold
+      (known_of : ToldOf l (after_lines r0 x.1.events) r') (dial : r'.dial_of l ≡ (after_lines r0 x.1.events).dial_of l) where
+    abbrev y : PlainNode × PeerResult
     y = answered_at x st end lines out
 
     pub quiet_at : Talk (link_now fs x now).follower (now.cluster.nodes (consumer_seat link0)) (vb_of (world_at y) end.desk.node v) (now.cluster.nodes (producer_seat (served_at y.1))) (r'.stream_of (StreamName.Link l) v) (r'.point_of l) (served_at y.1) gs [] → Now gs y
@@ -118,7 +118,7 @@ module _ (w0 : PlainWorld) (r0 : Chronicle) (n : ℕ) (link0 : PlainLink) (found
         } in
         let agrees : AgreesIn (answering l gs) (world_at y) r' c =
         carries_link (answering l fs) (answering l gs) (world_at x) (world_at y) r r' c l (served_at x.1) (served_at y.1) now.agrees (found_at x)
-        (record { dialed = refl; desk = desk }) (record { powers = same_powers x y (record { shelves = λ q. refl; power = refl }); vbs = same_vbs x y same; shelves = same_shelves x y (record { shelves = λ q. refl; power = refl }); uuids = refl; linked = links_at x y }) no_stream told_of (one_but l (fs, []) (gs, []))
+        (record { dialed = refl; desk = desk }) (record { powers = same_powers x y (record { shelves = λ q. refl; power = refl }); vbs = same_vbs x y same; shelves = same_shelves x y (record { shelves = λ q. refl; power = refl }); uuids = refl; linked = links_at x y }) no_stream known_of (one_but l (fs, []) (gs, []))
         (subst (λ p. LinkAgrees (world_at y) r' c (served_at y.1) p.0 p.1) (sym (one_here l (gs, []))) lb) in
         record {
           cluster = c;
@@ -134,22 +134,22 @@ module _ (w0 : PlainWorld) (r0 : Chronicle) (n : ℕ) (link0 : PlainLink) (found
     quiet talk = quiet_at (talk (now.cluster.nodes (consumer_seat link0)) (vb_of (world_at y) end.desk.node v) (now.cluster.nodes (producer_seat (served_at y.1))) (r'.stream_of (StreamName.Link l) v))
 
   -- what the frame makes of the node and the connection, by the program that answers it
-  abbrev pub came_of : PlainNode × PeerTold → States × Served → PlainNode × PeerTold
-  came_of x y = told_behind x.1 (node_told x.0 (y.0, peer_told x.1.peer.heard y.1))
+  abbrev pub came_of : PlainNode × PeerResult → States × Served → PlainNode × PeerResult
+  came_of x y = result_behind x.1 (node_told x.0 (y.0, peer_result x.1.peer.heard y.1))
 
-  pub frame_came : (f : Frame) (x : PlainNode × PeerTold) → frame_up f x ≡ came_of x (after (frame_answered f (begun x.1.peer.producer)) x.0.vbs)
-  frame_came f x = ap (λ y. told_behind x.1 (node_told x.0 y)) (after_bind (frame_answered f (begun x.1.peer.producer)) (λ s. Done (peer_told x.1.peer.heard s)) x.0.vbs)
+  pub frame_came : (f : Frame) (x : PlainNode × PeerResult) → frame_up f x ≡ came_of x (after (frame_answered f (begun x.1.peer.producer)) x.0.vbs)
+  frame_came f x = ap (λ y. result_behind x.1 (node_told x.0 y)) (after_bind (frame_answered f (begun x.1.peer.producer)) (λ s. Done (peer_result x.1.peer.heard s)) x.0.vbs)
 
   -- where the link stands with a frame about to be answered
-  abbrev pub TalkNow : (f : Frame) (fs : List Frame) (x : PlainNode × PeerTold) → Now (f ∷ fs) x → Type 0
+  abbrev pub TalkNow : (f : Frame) (fs : List Frame) (x : PlainNode × PeerResult) → Now (f ∷ fs) x → Type 0
   TalkNow f fs x now = Talk (link_now (f ∷ fs) x now).follower (now.cluster.nodes (consumer_seat link0)) (vb_of (world_at x) (producer_node (served_at x.1)) v) (now.cluster.nodes (producer_seat (served_at x.1)))
       ((after_lines r0 x.1.events).stream_of (StreamName.Link l) v) ((after_lines r0 x.1.events).point_of l) (served_at x.1) (f ∷ fs) []
 
-  abbrev pub AskingNow : (f : Frame) (fs : List Frame) (x : PlainNode × PeerTold) → Now (f ∷ fs) x → StreamAsk → Type 0
+  abbrev pub AskingNow : (f : Frame) (fs : List Frame) (x : PlainNode × PeerResult) → Now (f ∷ fs) x → StreamAsk → Type 0
   AskingNow f fs x now ask = let la = link_now (f ∷ fs) x now in Asking (wants_of la.follower) ask (served_at x.1).server (served_at x.1).consumer la.talk.asked (spoken la.talk.said)
 
   -- what is answered with success
-  module _ (f : Frame) (fs : List Frame) (x : PlainNode × PeerTold) (now : Now (f ∷ fs) x) (ask : StreamAsk) (t : AskingNow f fs x now ask) where
+  module _ (f : Frame) (fs : List Frame) (x : PlainNode × PeerResult) (now : Now (f ∷ fs) x) (ask : StreamAsk) (t : AskingNow f fs x now ask) where
     -- the producer as it begins to answer
     abbrev s : Served
     s = begun x.1.peer.producer
@@ -180,7 +180,7 @@ module _ (w0 : PlainWorld) (r0 : Chronicle) (n : ℕ) (link0 : PlainLink) (found
         let r = after_lines r0 x.1.events in
         subst (Now fs) (sym (frame_came f x ∙ ap (λ h. came_of x (after (frame_answered h s) x.0.vbs)) (sym first) ∙ ap (λ p. came_of x (after p x.0.vbs)) answered))
         (quiet (f ∷ fs) fs x now x.0.vbs (λ q. refl) (with_handshake s set).end [] (spelling a) refl (λ has. has) (none_before r) r refl
-        (told_none l r) refl
+        (told_of_same l r) refl
         (λ kn pv leader g'. next_asking (served_at x.1) (with_handshake s set).end (link0.down ++ (x.1.out ++ spelling a)) a la.follower kn pv leader g' (r.point_of l) ask f g fs rest talk_now.asked talk_now.said k t
         talk_now.ups talk_now.downs (sym (append_assoc link0.down x.1.out (spelling a))) refl good no_ack is more server here later answers len))
 
@@ -204,15 +204,15 @@ module _ (w0 : PlainWorld) (r0 : Chronicle) (n : ℕ) (link0 : PlainLink) (found
         → LawfulAsk (after_lines r0 x.1.events) l s.end.desk.node v ask high log said → Now fs (came_of x (st, refused_told s link0.consumer.asked v ask log high said))
     refuse_last is st same log high said refused lawful =
         let r = after_lines r0 x.1.events in
-        let told_of = refused_told_of l v r ask log said refused in
+        let known_of = refused_told_of l v r ask log said refused in
         quiet (f ∷ fs) fs x now st same s.end (told_line s v ask log high said ∷ []) (spelling (answer_frame link0.consumer.asked [] said)) refl (λ has. has)
         (one_before r [] (told_line s v ask log high said) (none_before r)
         (λ behind. subst (λ nm. LawfulLine r (Event.Asked nm s.end.desk.node v ask high log said) behind) (sym la.named) lawful))
         (after_ask r l v ask log said)
         (ap (λ nm. after_line r (Event.Asked nm s.end.desk.node v ask high log said)) la.named)
-        told_of.0 told_of.1
+        known_of.0 known_of.1
         (λ kn pv leader g. refused_talk la.follower ask (served_at x.1) (link0.down ++ (x.1.out ++ spelling (answer_frame link0.consumer.asked [] said))) f fs talk_now.asked talk_now.said t is talk_now.ups talk_now.downs kn pv leader g said refused
-        ((after_ask r l v ask log said).point_of l) told_of.2 (sym (append_assoc link0.down x.1.out (spelling (answer_frame link0.consumer.asked [] said)))))
+        ((after_ask r l v ask log said).point_of l) known_of.2 (sym (append_assoc link0.down x.1.out (spelling (answer_frame link0.consumer.asked [] said)))))
 
     -- the request for a stream, which the producer's vBucket decides
     module _ (last : t.answered ≡ 3) where
@@ -276,16 +276,16 @@ module _ (w0 : PlainWorld) (r0 : Chronicle) (n : ℕ) (link0 : PlainLink) (found
           opened = record pv { streams = pv.streams ++ new_stream s.end.desk.id ask true ∷ [] }
 
           abbrev s' : Served
-          s' = granted_told s o v ask pv.log pv.position.at
+          s' = granted_lines s o v ask pv.log pv.position.at
 
-          abbrev came : PlainNode × PeerTold
+          abbrev came : PlainNode × PeerResult
           came = answered_at x st s'.end (told_line s v ask pv.log pv.position.at AskAnswer.Go ∷ []) (spelling (answer_frame o pv.log AskAnswer.Go))
 
           abbrev link' : PlainLink
           link' = served_at came.1
 
-          same_node : SameNode x.0 came.0
-          same_node = record { shelves = λ q. refl; power = refl }
+          node_of_same_vbs : SameNode x.0 came.0
+          node_of_same_vbs = record { shelves = λ q. refl; power = refl }
 
           wrote : link0.down ++ (x.1.out ++ spelling (answer_frame o pv.log AskAnswer.Go)) ≡ (link0.down ++ x.1.out) ++ spelling (answer_frame o pv.log AskAnswer.Go)
           wrote = sym (append_assoc link0.down x.1.out (spelling (answer_frame o pv.log AskAnswer.Go)))
@@ -336,8 +336,8 @@ module _ (w0 : PlainWorld) (r0 : Chronicle) (n : ℕ) (link0 : PlainLink) (found
             };
           }
 
-          told_of : ToldOf l r r'
-          told_of = record { tree = refl; writer_of = λ u. refl; rows = λ m q. refl; arms = λ m. refl; dials = λ j ne. refl; streams = λ j q ne. stream_there r l v (Some (granted ask pv.log)) j q ne; points = λ j ne. refl }
+          known_of : ToldOf l r r'
+          known_of = record { tree = refl; writer_of = λ u. refl; rows = λ m q. refl; arms = λ m. refl; dials = λ j ne. refl; streams = λ j q ne. stream_there r l v (Some (granted ask pv.log)) j q ne; points = λ j ne. refl }
 
           vb_opened : vb_of (world_at came) mp v ≡ Some opened
           vb_opened = ap (λ d. vb_of (world_at came) d.node v) now.desk ∙ vb_here came v ∙ are.here
@@ -350,7 +350,7 @@ module _ (w0 : PlainWorld) (r0 : Chronicle) (n : ℕ) (link0 : PlainLink) (found
               by false e = refl
 
           became : Became (world_at x) (world_at came) mp v opened l link'
-          became = record { powers = same_powers x came same_node; here = vb_opened; there = others; shelves = λ i q o. same_shelves x came same_node i q; uuids = refl; linked = links_at x came }
+          became = record { powers = same_powers x came node_of_same_vbs; here = vb_opened; there = others; shelves = λ i q o. same_shelves x came node_of_same_vbs i q; uuids = refl; linked = links_at x came }
 
           talk : Talk fv (c'.nodes k) (vb_of (world_at came) mp v) (c'.nodes p) (r'.stream_of (StreamName.Link l) v) (r.point_of l) link' fs []
           talk =
@@ -373,7 +373,7 @@ module _ (w0 : PlainWorld) (r0 : Chronicle) (n : ℕ) (link0 : PlainLink) (found
           line_lawful behind =
               subst (λ nm. LawfulLine r (Event.Asked nm mp v ask pv.position.at pv.log AskAnswer.Go) behind) (sym la.named)
               (own_lawful r c now.agrees.sound now.agrees.hists mp v p pv producer ask l dialed_there AskAnswer.Go (go_lawful r c now.agrees.sound now.agrees.hists mp v p pv producer ask active in_order ruled)
-              (active_told r c now.agrees.sound now.agrees.hists mp v p pv producer ask active))
+              (active_vb_lines r c now.agrees.sound now.agrees.hists mp v p pv producer ask active))
 
           told : after_lines r0 came.1.events ≡ r'
           told =
@@ -388,7 +388,7 @@ module _ (w0 : PlainWorld) (r0 : Chronicle) (n : ℕ) (link0 : PlainLink) (found
             agrees = subst (λ q. AgreesIn (answering l fs) (world_at came) q c') (sym told)
                 (carries_producer (answering l (f ∷ fs)) (answering l fs) (world_at x) (world_at came) r r' c c' l link link' pv opened now.agrees (found_at x)
                 (record { dialed = refl; desk = refl }) (known_there (Some pv) known) (streams_opened fv ask link (link0.down ++ (x.1.out ++ spelling (answer_frame o pv.log AskAnswer.Go))) f fs talk_now.asked talk_now.said t last talk_now.ups talk_now.downs pv kn pn follower.member.position producer.member.log (now.agrees.sound.leads p leads).front
-                (now.agrees.sound.stands p).ancestry.short producer.entries active free ends_apart wrote producer.sound) became (same_shelves x came same_node mp v) (inr free) told_of fed (keeps top c (Move.Grant k p) now.agrees.sound may)
+                (now.agrees.sound.stands p).ancestry.short producer.entries active free ends_apart wrote producer.sound) became (same_shelves x came node_of_same_vbs mp v) (inr free) known_of fed (keeps top c (Move.Grant k p) now.agrees.sound may)
                 (one_but l (f ∷ fs, []) (fs, [])) (subst (λ q. LinkAgrees (world_at came) r' c' link' q.0 q.1) (sym (one_here l (fs, []))) lb));
             desk = now.desk;
             heard = now.heard;
@@ -441,11 +441,11 @@ module _ (w0 : PlainWorld) (r0 : Chronicle) (n : ℕ) (link0 : PlainLink) (found
           judges : open_refusal pv s.end.desk.id ask ≡ None → (said : Verdict) → rule pv.log pv.position.at ask ≡ said → Now fs (frame_up f x)
           judges opens Continue ruled =
               let a = granted_asked o v nn ask s in_range asked_open no_flags t.no_stream x.0.vbs pv known opens ruled in
-              answered_as (a.0, granted_told s o v ask pv.log pv.position.at) a.2 (granted_now pv known active (opens_free pv s.end.desk.id ask active opens) ruled a.0 a.1)
+              answered_as (a.0, granted_lines s o v ask pv.log pv.position.at) a.2 (granted_now pv known active (opens_free pv s.end.desk.id ask active opens) ruled a.0 a.1)
           judges opens (Roll to) ruled =
               let a = rolled_asked o v nn ask s in_range asked_open no_flags t.no_stream x.0.vbs pv known to opens ruled in
               refused_now a.0 a.1 (AskAnswer.Roll to) (roll_low pv.log pv.position.at ask to in_range ruled)
-              (roll_lawful r c now.agrees.sound now.agrees.hists mp v p pv (producer pv known) ask active to ruled) (active_told r c now.agrees.sound now.agrees.hists mp v p pv (producer pv known) ask active) a.2
+              (roll_lawful r c now.agrees.sound now.agrees.hists mp v p pv (producer pv known) ask active to ruled) (active_vb_lines r c now.agrees.sound now.agrees.hists mp v p pv (producer pv known) ask active) a.2
 
         decides : (why : Option Status) → open_refusal pv s.end.desk.id ask ≡ why → Now fs (frame_up f x)
         decides None opens = judges (opens_active pv s.end.desk.id ask opens) opens (rule pv.log pv.position.at ask) refl
@@ -460,7 +460,7 @@ module _ (w0 : PlainWorld) (r0 : Chronicle) (n : ℕ) (link0 : PlainLink) (found
       request_decided = by_vb (x.0.vbs v) refl
 
   -- a frame that a consumer sent as it dialed, or its request for a stream
-  pub asking_next : (f : Frame) (fs : List Frame) (x : PlainNode × PeerTold) (now : Now (f ∷ fs) x) (ask : StreamAsk) (t : AskingNow f fs x now ask) (k : ℕ) → t.answered ≡ k → k ≤ 3 → Now fs (frame_up f x)
+  pub asking_next : (f : Frame) (fs : List Frame) (x : PlainNode × PeerResult) (now : Now (f ∷ fs) x) (ask : StreamAsk) (t : AskingNow f fs x now ask) (k : ℕ) → t.answered ≡ k → k ≤ 3 → Now fs (frame_up f x)
   asking_next f fs x now ask t zero is more = first f fs x now ask t is
   asking_next f fs x now ask t (suc zero) is more = second f fs x now ask t is
   asking_next f fs x now ask t (suc (suc zero)) is more = third f fs x now ask t is

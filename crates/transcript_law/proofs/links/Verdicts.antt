@@ -4,7 +4,7 @@ use Rattle.transcript_law.proofs.Words.{ℕ, Bool, true, false, cond, List, [], 
 use Rattle.transcript_law.proofs.Words.{eqb-false, All-head, All-tail, AskInRange, AskAnswer, Position, LogEntry, Status, StreamAsk, Verdict, Continue, Roll, upto, last_seq, front, uuid_of, IsFront}
 use Rattle.transcript_law.proofs.Words.{effective_ss, effective_se, rule, request_of, reach_of, Branch, hist, Shared, Cluster, SoundCluster, Stream, Plain, is_active, open_refusal, stream_at, Sound}
 use Rattle.transcript_law.proofs.Words.{refuse, Chronicle, IsIfKnown, LawfulVerdict, IsDialed, LawfulAsk, entry_for, upper, judged, continues, rolls, is_ranged, id_refusal, first_reason}
-use Rattle.transcript_law.proofs.Words.{asked_end, Role, SharesFront}
+use Rattle.transcript_law.proofs.Words.{meant_end, Role, SharesFront}
 use Rattle.transcript_law.specs.Lawfulness.{GrantsAs}
 use Rattle.transcript_law.proofs.invariant.Agreement.{EntryFits, IsRefused, VbAgrees, top}
 
@@ -109,8 +109,8 @@ module _ (r : Chronicle) (c : Cluster) (sound : SoundCluster top c) (same : (u :
     ruled_there said e = ap (λ l. rule l (c.nodes p).position.at ask) agrees.member.log ∙ ap (λ (x : Position). rule pv.log x.at ask) agrees.member.position ∙ e
 
     -- the lines tell that it is active
-    pub active_told : r.role_at n v ≡ Some (Some Role.Active)
-    active_told = agrees.role ∙ ap (λ (x : Role). Some (Some x)) (by pv.role active)
+    pub active_vb_lines : r.role_at n v ≡ Some (Some Role.Active)
+    active_vb_lines = agrees.role ∙ ap (λ (x : Role). Some (Some x)) (by pv.role active)
       where
         by : (x : Role) → is_active x ≡ true → x ≡ Role.Active
         by Role.Active e = refl
@@ -120,7 +120,7 @@ module _ (r : Chronicle) (c : Cluster) (sound : SoundCluster top c) (same : (u :
     pub go_lawful : ask.ss ≤ ask.start → rule pv.log pv.position.at ask ≡ Continue → LawfulVerdict r.tree pv.log pv.position.at ask AskAnswer.Go
     go_lawful low e = (
       e,
-      λ above. shares_front c.tree r.tree same pv.log ask.uuid (c.nodes p).br (asked_end ask) in_front
+      λ above. shares_front c.tree r.tree same pv.log ask.uuid (c.nodes p).br (meant_end ask) in_front
           (continues top c sound p ask leads (starts_above ask.start ask.ss ask.se low above) (ruled_there Continue e)),
     )
 

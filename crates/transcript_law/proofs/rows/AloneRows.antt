@@ -1,10 +1,10 @@
 -- lines that one clause alone refuses, judged by hand
 use Rattle.std.specs.Prelude.{◌≡◌, ◌<◌, ◌≤◌, ◌∷◌, ◌++◌, ◌==◌, if◌then◌else◌}
-use Rattle.transcript_law.proofs.Words.{ℕ, Bool, true, false, List, [], length, map, refl, ap, sym, ◌∙◌, subst, inl, inr, ⊎_elim, arith, Option, Some, None, key_cmp, Act, Change, Doc, Pend, Event, Role, image_of, StandsAs, IsIn, ItemTold, Begun, Granted, Dial, eqb-true}
-use Rattle.transcript_law.proofs.Words.{Chronicle, granted, finished, with_begun, item_told, stream_history, LawfulFrom, Lawful, log_of, ask_within, granted_inside, marker_told, both_told, one_change, next_change, first_doc, end_told, sent_back, inside_got, change_told, value_told}
+use Rattle.transcript_law.proofs.Words.{ℕ, Bool, true, false, List, [], length, map, refl, ap, sym, ◌∙◌, subst, inl, inr, ⊎_elim, arith, Option, Some, None, key_cmp, Act, Change, Doc, Pend, Event, Role, image_of, StandsAs, IsIn, ItemLine, Begun, Granted, Dial, eqb-true}
+use Rattle.transcript_law.proofs.Words.{Chronicle, granted, finished, with_begun, item_of_change, stream_history, LawfulFrom, Lawful, log_of, ask_within, granted_inside, marker_line, both_sent_lines, one_change, next_change, first_doc, stream_end_lines, sent_back, inside_got, change_line, value_lines}
 use Rattle.transcript_law.proofs.{rows.Followers.{begun, changes, first_item, next_covers, next_item, one_of, own_dial, seq_as, stream_is, streamed}, rows.Transcripts.{lines, pending}}
 use Rattle.transcript_law.specs.Alone.{back_at, begun_one, both_in, commit_removal, commit_set, counts_anywhere, counts_at_vb, dialed_once, ended_inside, first_before, first_groups, first_lines, got_at, held_before, held_less, held_otherwise, other_value, prepared, prepared_less, range_at, refused_at, removed_item, sent_anywhere, shown_waiting, strange_shown}
-use Rattle.transcript_law.specs.{Commits.{prepare_of, the_commit}, Contrary.{acknowledged_told, sent_told}, Followers.{next_told}, Lawfulness.{IsFed}}
+use Rattle.transcript_law.specs.{Commits.{prepare_of, the_commit}, Contrary.{acknowledged_lines, sent_known}, Followers.{next_item_line}, Lawfulness.{IsFed}}
 use Rattle.transcript_law.specs.Majorities.{IsHeldByMost}
 use Rattle.vb_types.proofs.Laws.{get-insert_same}
 use Rattle.vb_types.specs.Histories.{plain}
@@ -16,7 +16,7 @@ use Rattle.std.specs.FinMap as finite
 
 -- ---- changes
 
-pub branch : LawfulFrom held_less (change_told 0 ∷ []) → ⊥
+pub branch : LawfulFrom held_less (change_line 0 ∷ []) → ⊥
 branch l = let e : 1 < 1 = l.0.above_branch in omega arith
 
 abbrev waits : Pend
@@ -65,7 +65,7 @@ removal l =
 
 pub history : LawfulFrom held_otherwise strange_shown → ⊥
 history l =
-    let e : ◌≡◌ {A = List Event} (Event.Document (9 ∷ []) (first_doc 1 (8 ∷ [])) ∷ []) (value_told (8 ∷ [])) = (l.0.complete refl).lines ∙ lines in
+    let e : ◌≡◌ {A = List Event} (Event.Document (9 ∷ []) (first_doc 1 (8 ∷ [])) ∷ []) (value_lines (8 ∷ [])) = (l.0.complete refl).lines ∙ lines in
     let k : ◌≡◌ {A = List ℕ} (9 ∷ []) (7 ∷ []) = cc in cc
 
 pub waiting : LawfulFrom inside_got shown_waiting → ⊥
@@ -115,7 +115,7 @@ back_vb l = let (k, m, dialed, point) = l.0.0 in let e : ◌≡◌ {A = ℕ} 0 1
 abbrev whole_stream : Granted
 whole_stream = streamed (begun 0 2 (first_item ∷ next_item ∷ []))
 
-pub range : LawfulFrom (sent_told both_told) (range_at 1 0 2)
+pub range : LawfulFrom (sent_known both_sent_lines) (range_at 1 0 2)
 range = (record { ends = omega arith; put = (1, whole_stream, (0, refl, refl, refl), (0, [], refl, refl), (next_change, inr (inl refl), refl)) }, tt)
 
 pub range_anywhere : LawfulFrom sent_anywhere (range_at 1 0 2)
@@ -144,21 +144,21 @@ fed_by r g h k told only (m, dialed, has, on) = let same : Some g ≡ Some h = s
 none_third : (c : Change) → IsIn c changes → c.seq ≡ 3 → ⊥
 none_third c i e = ⊎_elim (λ one. let n : c.seq ≡ 1 = ap (λ (x : Change). x.seq) one in omega arith) (λ next. let n : c.seq ≡ 2 = ap (λ (x : Change). x.seq) next in omega arith) (one_of c i)
 
-pub range_unended : LawfulFrom (sent_told (marker_told 0 3 ∷ [])) (range_at 1 0 3) → ⊥
+pub range_unended : LawfulFrom (sent_known (marker_line 0 3 ∷ [])) (range_at 1 0 3) → ⊥
 range_unended l =
     let (k, g, fed, next, (c, is, at)) = l.0.put in
-    let same : streamed (begun 0 3 []) ≡ g = fed_by (sent_told (marker_told 0 3 ∷ [])) (streamed (begun 0 3 [])) g k refl (λ m e. one_link k m 1 0 e) fed in
-    none_third c (subst (λ (x : Granted). IsIn c (stream_history (sent_told (marker_told 0 3 ∷ [])) x)) (sym same) is) at
+    let same : streamed (begun 0 3 []) ≡ g = fed_by (sent_known (marker_line 0 3 ∷ [])) (streamed (begun 0 3 [])) g k refl (λ m e. one_link k m 1 0 e) fed in
+    none_third c (subst (λ (x : Granted). IsIn c (stream_history (sent_known (marker_line 0 3 ∷ [])) x)) (sym same) is) at
 
 mark_end : List (ℕ × ℕ) → ℕ
 mark_end [] = 0
 mark_end (m ∷ later) = m.1
 
-pub range_short : LawfulFrom (sent_told both_told) (range_at 1 0 1) → ⊥
+pub range_short : LawfulFrom (sent_known both_sent_lines) (range_at 1 0 1) → ⊥
 unfolding mark_end
 range_short l =
     let (k, g, fed, (start, later, next, starts), at) = l.0.put in
-    let same : whole_stream ≡ g = fed_by (sent_told both_told) whole_stream g k refl (λ m e. one_link k m 1 0 e) fed in
+    let same : whole_stream ≡ g = fed_by (sent_known both_sent_lines) whole_stream g k refl (λ m e. one_link k m 1 0 e) fed in
     let e : ◌≡◌ {A = ℕ} 2 1 = ap (λ (x : Granted). mark_end x.marks) same ∙ ap mark_end next in omega arith
 
 pub got_node : LawfulFrom sent_anywhere (got_at 2 0 one_change) → ⊥
@@ -182,16 +182,16 @@ other_of c is stands = ⊎_elim
     (λ one. let same : other_value ≡ one_change = ⊎_elim (λ q. q ∙ one) (λ q. q ∙ ap plain one) stands in let e : ◌≡◌ {A = List ℕ} (9 ∷ []) (8 ∷ []) = ap (λ (x : Change). value_in x.act) same in cc)
     (λ next. let n : c.seq ≡ 2 = ap (λ (x : Change). x.seq) next in let s : 1 ≡ c.seq = seq_as other_value c stands in omega arith) (one_of c is)
 
-pub got_value : LawfulFrom (sent_told both_told) (got_at 1 0 other_value) → ⊥
+pub got_value : LawfulFrom (sent_known both_sent_lines) (got_at 1 0 other_value) → ⊥
 got_value l =
     let (g, fed, (c, is, stands), within) = l.0.put in
-    let same : whole_stream ≡ g = fed_by (sent_told both_told) whole_stream g 1 refl (λ m e. refl) fed in
-    other_of c (subst (λ (x : Granted). IsIn c (stream_history (sent_told both_told) x)) (sym same) is) stands
+    let same : whole_stream ≡ g = fed_by (sent_known both_sent_lines) whole_stream g 1 refl (λ m e. refl) fed in
+    other_of c (subst (λ (x : Granted). IsIn c (stream_history (sent_known both_sent_lines) x)) (sym same) is) stands
 
-pub dead : LawfulFrom (both_in Role.Dead) (acknowledged_told 1 2) → ⊥
+pub dead : LawfulFrom (both_in Role.Dead) (acknowledged_lines 1 2) → ⊥
 dead l = let e : false ≡ true = l.0.role Role.Dead refl in cc
 
-pub active : LawfulFrom (both_in Role.Active) (acknowledged_told 1 2) → ⊥
+pub active : LawfulFrom (both_in Role.Active) (acknowledged_lines 1 2) → ⊥
 active l = let e : false ≡ true = l.0.role Role.Active refl in cc
 
 pub counted : LawfulFrom counts_anywhere (counts_at_vb 0 0)
@@ -213,16 +213,16 @@ inside = granted (ask_within 0 1 2 5) (log_of 5)
 abbrev begun_inside : Granted
 begun_inside = with_begun (granted_inside 2).tree 0 2 inside
 
-pub item : LawfulFrom begun_one (next_told ∷ [])
+pub item : LawfulFrom begun_one (next_item_line ∷ [])
 item = ((_, begun 1 2 [], (0, refl, refl), refl, refl, ([], record { whole = next_change ∷ []; covers = next_covers; front = refl }, λ e. refl)), tt)
 
-pub item_behind : LawfulFrom ended_inside (next_told ∷ []) → ⊥
+pub item_behind : LawfulFrom ended_inside (next_item_line ∷ []) → ⊥
 item_behind l =
     let (g, b, stream, opens, last, next) = l.0 in
     let same : finished begun_inside ≡ g = stream_is ended_inside (finished begun_inside) g refl refl stream in
     let e : true ≡ false = ap (λ (x : Granted). x.over) same ∙ opens in cc
 
-pub item_unbegun : LawfulFrom (granted_inside 2) (next_told ∷ []) → ⊥
+pub item_unbegun : LawfulFrom (granted_inside 2) (next_item_line ∷ []) → ⊥
 item_unbegun l =
     let (g, b, stream, opens, last, next) = l.0 in
     let same : inside ≡ g = stream_is (granted_inside 2) inside g refl refl stream in
@@ -232,16 +232,16 @@ is_set : ItemAct → Bool
 is_set ItemAct.Set = true
 is_set other = false
 
-first_is : (whole : List Change) (told : ItemTold) (rest : List ItemTold) → map item_told whole ≡ told ∷ rest → (x : Change) × (xs : List Change) × (whole ≡ x ∷ xs) × (item_told x ≡ told)
+first_is : (whole : List Change) (told : ItemLine) (rest : List ItemLine) → map item_of_change whole ≡ told ∷ rest → (x : Change) × (xs : List Change) × (whole ≡ x ∷ xs) × (item_of_change x ≡ told)
 first_is [] told rest e = cc
 first_is (x ∷ xs) told rest e = (x, xs, refl, cc)
 
 -- each change is a set, so its item is
-sets : (x c : Change) → IsIn c changes → StandsAs x c → is_set (item_told x).act ≡ false → ⊥
+sets : (x c : Change) → IsIn c changes → StandsAs x c → is_set (item_of_change x).act ≡ false → ⊥
 unfolding is_set
 sets x c h stands none = ⊎_elim
-    (λ one. let same : x ≡ one_change = ⊎_elim (λ q. q ∙ one) (λ q. q ∙ ap plain one) stands in let e : true ≡ false = sym (ap (λ (y : Change). is_set (item_told y).act) same) ∙ none in cc)
-    (λ next. let same : x ≡ next_change = ⊎_elim (λ q. q ∙ next) (λ q. q ∙ ap plain next) stands in let e : true ≡ false = sym (ap (λ (y : Change). is_set (item_told y).act) same) ∙ none in cc) (one_of c h)
+    (λ one. let same : x ≡ one_change = ⊎_elim (λ q. q ∙ one) (λ q. q ∙ ap plain one) stands in let e : true ≡ false = sym (ap (λ (y : Change). is_set (item_of_change y).act) same) ∙ none in cc)
+    (λ next. let same : x ≡ next_change = ⊎_elim (λ q. q ∙ next) (λ q. q ∙ ap plain next) stands in let e : true ≡ false = sym (ap (λ (y : Change). is_set (item_of_change y).act) same) ∙ none in cc) (one_of c h)
 
 pub item_act : LawfulFrom begun_one removed_item → ⊥
 unfolding is_set
@@ -249,14 +249,14 @@ item_act l =
     let (g, b, stream, opens, last, (more, f, ends)) = l.0 in
     let same : begun_inside ≡ g = stream_is begun_one begun_inside g refl refl stream in
     let o : Some (begun 1 2 []) ≡ Some b = ap (λ (x : Granted). x.last) same ∙ last in let is : begun 1 2 [] ≡ b = cc in
-    let told : ItemTold = record { seq = 2; act = ItemAct.Remove; key = 9 ∷ [] } in
-    let front : map item_told f.whole ≡ told ∷ map item_told more = f.front ∙ ap (λ (x : Begun). (x.items ++ told ∷ []) ++ map item_told more) (sym is) in
-    let (x, xs, whole, e) = first_is f.whole told (map item_told more) front in
+    let told : ItemLine = record { seq = 2; act = ItemAct.Remove; key = 9 ∷ [] } in
+    let front : map item_of_change f.whole ≡ told ∷ map item_of_change more = f.front ∙ ap (λ (x : Begun). (x.items ++ told ∷ []) ++ map item_of_change more) (sym is) in
+    let (x, xs, whole, e) = first_is f.whole told (map item_of_change more) front in
     let (c, i, stands) = f.covers.remains.of x (subst (λ ys. IsIn x ys) (sym whole) (inl refl)) in
     let h : IsIn c changes = subst (λ (y : Begun). IsIn c y.history) (sym is) i in
-    sets x c h stands (ap (λ (y : ItemTold). is_set y.act) e)
+    sets x c h stands (ap (λ (y : ItemLine). is_set y.act) e)
 
-pub ungranted : LawfulFrom dialed_once end_told → ⊥
+pub ungranted : LawfulFrom dialed_once stream_end_lines → ⊥
 ungranted l = let (g, (v, is, has), opens, whole, by) = l.0 in let e : ◌≡◌ {A = Option Granted} None (Some g) = has in cc
 
 pub missing : Lawful (first_lines 5) (first_groups 4) → ⊥

@@ -2,17 +2,17 @@
 use Rattle.std.specs.Prelude.{◌≡◌, ◌∷◌, ◌==◌, if◌then◌else◌}
 use Rattle.transcript_law.proofs.Words.{ℕ, Bool, true, false, List, [], refl, arith, Answer, Cause, Event, Chronicle, Verb, NodeVerb, empty_chronicle}
 use Rattle.transcript_law.proofs.{rows.CrashRows.{stops}, rows.Groups.{AreParts, in_order, whole}}
-use Rattle.transcript_law.specs.{ClientRows.{LawfulOpened, closes, hangs, opens, refused, replies, sends, waits}, Clients.{AllClosed, IsOpened, IsReached}, Chronicles.{conns_lines}, Prefixes.{told_after}}
-use Rattle.transcript_law.specs.Crashes.{LawfulAfter, Said, numbered, ok, save_under, save_under_told, stopped_behind, told_from}
+use Rattle.transcript_law.specs.{ClientRows.{LawfulOpened, closes, hangs, opens, refused, replies, sends, waits}, Clients.{AllClosed, IsOpened, IsReached}, Chronicles.{conns_lines}, Prefixes.{known_after}}
+use Rattle.transcript_law.specs.Crashes.{LawfulAfter, Said, numbered, ok, save_under, save_under_groups, stopped_behind, groups_from_number}
 use Rattle.vb_disk.specs.declared.made.Outcome.TheVariants.{Old}
 
 -- what was read when the connection was opened
 abbrev read : Chronicle
-read = told_after empty_chronicle (numbered 1 (Verb.Node 0 ∷ opens 1 ∷ [])) (told_from 1 (ok [] ∷ ok [] ∷ []))
+read = known_after empty_chronicle (numbered 1 (Verb.Node 0 ∷ opens 1 ∷ [])) (groups_from_number 1 (ok [] ∷ ok [] ∷ []))
 
 -- a transcript is lawful that is so from there on
-from_opened : (more : List Verb) (told : List Said) → in_order (numbered 3 more) (told_from 3 told) ≡ true → AreParts read (numbered 3 more) (told_from 3 told) → LawfulOpened more told
-from_opened more told o l = whole empty_chronicle (numbered 1 (Verb.Node 0 ∷ opens 1 ∷ more)) (told_from 1 (ok [] ∷ ok [] ∷ told)) o ((tt, tt, refl), ((tt, refl, refl), l))
+from_opened : (more : List Verb) (told : List Said) → in_order (numbered 3 more) (groups_from_number 3 told) ≡ true → AreParts read (numbered 3 more) (groups_from_number 3 told) → LawfulOpened more told
+from_opened more told o l = whole empty_chronicle (numbered 1 (Verb.Node 0 ∷ opens 1 ∷ more)) (groups_from_number 1 (ok [] ∷ ok [] ∷ told)) o ((tt, tt, refl), ((tt, refl, refl), l))
 
 -- it is one thing or the other
 not_both : {A : Type 0} → false ≡ true → A
@@ -169,11 +169,11 @@ armed = from_opened (Verb.AtNode 0 (NodeVerb.Crash Old) ∷ Verb.AtNode 0 (NodeV
 pub again : LawfulOpened (Verb.AtNode 0 (NodeVerb.Crash Old) ∷ Verb.AtNode 0 (NodeVerb.Fail 1) ∷ []) (ok (closes 0 1 ∷ []) ∷ ok (closes 0 1 ∷ []) ∷ []) → ⊥
 again l = not_both l.1.1.1.0.0.0
 
-pub stopped : LawfulAfter (save_under (Verb.AtNode 0 (NodeVerb.Stop 1 Old))) (save_under_told (stopped_behind []))
+pub stopped : LawfulAfter (save_under (Verb.AtNode 0 (NodeVerb.Stop 1 Old))) (save_under_groups (stopped_behind []))
 stopped = stops 1 (omega arith) (omega arith)
 
-pub stopped_untold : LawfulAfter (save_under (Verb.AtNode 0 (NodeVerb.Stop 1 Old))) (save_under_told (Event.NodeStopped 0 ∷ [], Answer.No Cause.Stopped)) → ⊥
+pub stopped_untold : LawfulAfter (save_under (Verb.AtNode 0 (NodeVerb.Stop 1 Old))) (save_under_groups (Event.NodeStopped 0 ∷ [], Answer.No Cause.Stopped)) → ⊥
 stopped_untold l = not_other (l.1.1.1.1.1.1.0.0.0.1 1)
 
-pub stopped_before : LawfulAfter (save_under (Verb.AtNode 0 (NodeVerb.Stop 1 Old))) (save_under_told (closes 0 1 ∷ Event.NodeStopped 0 ∷ closes 0 1 ∷ [], Answer.No Cause.Stopped)) → ⊥
+pub stopped_before : LawfulAfter (save_under (Verb.AtNode 0 (NodeVerb.Stop 1 Old))) (save_under_groups (closes 0 1 ∷ Event.NodeStopped 0 ∷ closes 0 1 ∷ [], Answer.No Cause.Stopped)) → ⊥
 stopped_before l = not_both l.1.1.1.1.1.1.0.0.1.1.0

@@ -1,9 +1,9 @@
 -- appends that close a journal, judged by hand
 use Rattle.std.specs.Prelude.{◌≡◌, ◌<◌, ◌≤◌, ◌∷◌}
 use Rattle.transcript_law.proofs.Words.{ℕ, Bool, true, false, List, [], refl, sym, arith, inl, Some, None, Cause, Event, Role, Lawful, LawfulAnswer, LawfulGroups}
-use Rattle.transcript_law.proofs.{rows.CrashRows.{first, from_made, no_role, one_closed, taken}, rows.Groups.{whole}}
-use Rattle.transcript_law.specs.ClosedJournals.{back_line, dead_after_start, dead_after_start_told, dialed_for, down_under, down_under_told, fails_down, follow_after_crash, follow_after_crash_told, follow_line, found_closed, save_again, save_again_told, save_given_up, save_given_up_told, save_none, save_none_told, save_twice, save_twice_told, sent_back_for, sent_back_under}
-use Rattle.transcript_law.specs.Crashes.{LawfulAfter, branch_line, dead_line, dead_under, dead_under_told, failed_behind, numbered, ok, told_from}
+use Rattle.transcript_law.proofs.{rows.CrashRows.{first, lawful_from_made, no_role, one_closed, taken}, rows.Groups.{whole}}
+use Rattle.transcript_law.specs.ClosedJournals.{back_line, dead_after_start, dead_after_start_groups, dialed_for, down_under, down_under_groups, fails_down, follow_after_crash, follow_after_crash_groups, follow_line, found_closed, save_again, save_again_groups, save_given_up, save_given_up_groups, save_none, save_none_groups, save_twice, save_twice_groups, sent_back_for, sent_back_under}
+use Rattle.transcript_law.specs.Crashes.{LawfulAfter, branch_line, dead_line, dead_under, dead_under_groups, failed_behind, numbered, ok, groups_from_number}
 use Rattle.transcript_law.specs.{Chronicles.{Idle, Taken}, Downs.{refused}, LineAnswers.{Back, IsBack}}
 use Rattle.script_text.specs.declared.verb.Verb.TheVariants as verb
 use Rattle.script_text.specs.declared.verb.VbVerb.TheVariants as vb_verb
@@ -20,20 +20,20 @@ is_shut e = cc
 
 -- a failed append closes it
 
-pub follows : (k : ℕ) (lines : List Event) → LawfulAfter (dead_under (verb.AtNode 0 (node_verb.Fail k)) (verb.AtVb 0 0 vb_verb.Follow)) (dead_under_told (failed_behind (dead_line ∷ [])) (ok lines)) → ⊥
+pub follows : (k : ℕ) (lines : List Event) → LawfulAfter (dead_under (verb.AtNode 0 (node_verb.Fail k)) (verb.AtVb 0 0 vb_verb.Follow)) (dead_under_groups (failed_behind (dead_line ∷ [])) (ok lines)) → ⊥
 follows k lines l = is_shut l.1.1.1.1.1.1.0.1.0
 
 pub stands : LawfulAfter (verb.AtVb 0 0 vb_verb.Dead ∷ []) (ok (dead_line ∷ []) ∷ [])
-stands = from_made (verb.AtVb 0 0 vb_verb.Dead ∷ []) (ok (dead_line ∷ []) ∷ []) refl (((record { another = λ e. cc; anew = λ e. cc }, tt), (refl, tt), refl), tt)
+stands = lawful_from_made (verb.AtVb 0 0 vb_verb.Dead ∷ []) (ok (dead_line ∷ []) ∷ []) refl (((record { another = λ e. cc; anew = λ e. cc }, tt), (refl, tt), refl), tt)
 
 pub unfailed : (lines : List Event) → LawfulAfter (verb.AtVb 0 0 vb_verb.Dead ∷ []) (found_closed lines ∷ []) → ⊥
 unfailed lines l = is_shut (sym l.1.1.1.1.0.1)
 
-pub unmade : (lines : List Event) → Lawful (numbered 1 (verb.Node 0 ∷ verb.AtVb 0 0 vb_verb.MakeReplica ∷ [])) (told_from 1 (ok [] ∷ found_closed lines ∷ [])) → ⊥
+pub unmade : (lines : List Event) → Lawful (numbered 1 (verb.Node 0 ∷ verb.AtVb 0 0 vb_verb.MakeReplica ∷ [])) (groups_from_number 1 (ok [] ∷ found_closed lines ∷ [])) → ⊥
 unmade lines l = is_shut (sym l.1.0.1)
 
-pub again : LawfulAfter save_again (save_again_told (found_closed []))
-again = from_made save_again (save_again_told (found_closed [])) refl (
+pub again : LawfulAfter save_again (save_again_groups (found_closed []))
+again = lawful_from_made save_again (save_again_groups (found_closed [])) refl (
   taken,
   (
     (tt, tt, refl),
@@ -47,10 +47,10 @@ again = from_made save_again (save_again_told (found_closed [])) refl (
   ),
 )
 
-pub again_ok : LawfulAfter save_again (save_again_told (ok [])) → ⊥
+pub again_ok : LawfulAfter save_again (save_again_groups (ok [])) → ⊥
 again_ok l = is_shut l.1.1.1.1.1.1.1.1.1.0.1.0.0
 
-pub twice_ok : LawfulAfter save_twice (save_twice_told (ok [])) → ⊥
+pub twice_ok : LawfulAfter save_twice (save_twice_groups (ok [])) → ⊥
 twice_ok l = is_shut l.1.1.1.1.1.1.1.1.0.1.0.0
 
 -- of a batch, where there is one
@@ -58,26 +58,26 @@ twice_ok l = is_shut l.1.1.1.1.1.1.1.1.0.1.0.0
 untaken : (b : Batch) → Idle ≡ Taken b → ⊥
 untaken b e = cc
 
-pub none_taken : LawfulAfter (save_none (verb.AtNode 0 (node_verb.Fail 1))) (save_none_told (refused cause.NothingTaken))
-none_taken = from_made (save_none (verb.AtNode 0 (node_verb.Fail 1))) (save_none_told (refused cause.NothingTaken)) refl ((tt, tt, refl), ((tt, (tt, tt), refl), tt))
+pub none_taken : LawfulAfter (save_none (verb.AtNode 0 (node_verb.Fail 1))) (save_none_groups (refused cause.NothingTaken))
+none_taken = lawful_from_made (save_none (verb.AtNode 0 (node_verb.Fail 1))) (save_none_groups (refused cause.NothingTaken)) refl ((tt, tt, refl), ((tt, (tt, tt), refl), tt))
 
-pub none_failed : (lines : List Event) → LawfulAfter (save_none (verb.AtNode 0 (node_verb.Fail 1))) (save_none_told (lines, answer.No cause.Disk)) → ⊥
+pub none_failed : (lines : List Event) → LawfulAfter (save_none (verb.AtNode 0 (node_verb.Fail 1))) (save_none_groups (lines, answer.No cause.Disk)) → ⊥
 none_failed lines l = let taken = l.1.1.1.1.1.0.1.1 in untaken taken.0 taken.1
 
-pub none_stopped : (lines : List Event) → LawfulAfter (save_none (verb.AtNode 0 (node_verb.Stop 1 Old))) (save_none_told (lines, answer.No cause.Stopped)) → ⊥
+pub none_stopped : (lines : List Event) → LawfulAfter (save_none (verb.AtNode 0 (node_verb.Stop 1 Old))) (save_none_groups (lines, answer.No cause.Stopped)) → ⊥
 none_stopped lines l = let taken = l.1.1.1.1.1.0.1.1 in untaken taken.0 taken.1
 
-pub given_up : LawfulAfter save_given_up (save_given_up_told (refused cause.NothingTaken))
-given_up = from_made save_given_up (save_given_up_told (refused cause.NothingTaken)) refl
+pub given_up : LawfulAfter save_given_up (save_given_up_groups (refused cause.NothingTaken))
+given_up = lawful_from_made save_given_up (save_given_up_groups (refused cause.NothingTaken)) refl
     (taken, ((tt, tt, refl), (((omega arith, tt), ((refl, (omega arith, omega arith)), (_, refl)), refl), ((tt, (tt, tt), refl), tt))))
 
-pub given_up_closed : (lines : List Event) → LawfulAfter save_given_up (save_given_up_told (found_closed lines)) → ⊥
+pub given_up_closed : (lines : List Event) → LawfulAfter save_given_up (save_given_up_groups (found_closed lines)) → ⊥
 given_up_closed lines l = let taken = l.1.1.1.1.1.1.1.0.1.1 in untaken taken.0 taken.1
 
 -- and a crash opens it
 
-pub opened : LawfulAfter follow_after_crash (follow_after_crash_told (ok (follow_line ∷ [])))
-opened = from_made follow_after_crash (follow_after_crash_told (ok (follow_line ∷ []))) refl (
+pub opened : LawfulAfter follow_after_crash (follow_after_crash_groups (ok (follow_line ∷ [])))
+opened = lawful_from_made follow_after_crash (follow_after_crash_groups (ok (follow_line ∷ []))) refl (
   (tt, tt, refl),
   (
     ((record { another = λ e. cc; anew = λ e. cc }, (omega arith, tt)), (refl, (omega arith, omega arith)), refl),
@@ -88,7 +88,7 @@ opened = from_made follow_after_crash (follow_after_crash_told (ok (follow_line 
   ),
 )
 
-pub opened_closed : (lines : List Event) → LawfulAfter follow_after_crash (follow_after_crash_told (found_closed lines)) → ⊥
+pub opened_closed : (lines : List Event) → LawfulAfter follow_after_crash (follow_after_crash_groups (found_closed lines)) → ⊥
 opened_closed lines l = is_shut (sym l.1.1.1.1.1.1.1.1.0.1)
 
 -- unless its append fails as the node starts
@@ -96,11 +96,11 @@ opened_closed lines l = is_shut (sym l.1.1.1.1.1.1.1.1.0.1)
 two_of_five : 2 ≤ 5
 two_of_five = omega arith
 
-pub started : LawfulAfter dead_after_start (dead_after_start_told (found_closed (dead_line ∷ [])))
-started = from_made dead_after_start (dead_after_start_told (found_closed (dead_line ∷ []))) refl
+pub started : LawfulAfter dead_after_start (dead_after_start_groups (found_closed (dead_line ∷ [])))
+started = lawful_from_made dead_after_start (dead_after_start_groups (found_closed (dead_line ∷ []))) refl
     (((refl, tt), one_closed, refl), ((tt, tt, refl), (((record { new = (λ e. omega arith, tt); newest = refl; last = refl; leaves = refl }, (omega arith, tt)), (omega arith, two_of_five), refl), (((record { another = λ e. cc; anew = λ e. cc }, tt), refl, refl), tt))))
 
-pub started_ok : (lines : List Event) → LawfulAfter dead_after_start (dead_after_start_told (ok lines)) → ⊥
+pub started_ok : (lines : List Event) → LawfulAfter dead_after_start (dead_after_start_groups (ok lines)) → ⊥
 started_ok lines l = is_shut l.1.1.1.1.1.1.1.0.1.0
 
 -- a rollback
@@ -129,18 +129,18 @@ back_closed l = is_shut (sym l.0)
 pub back_refused : (closed : Bool) (why : Cause) → LawfulAnswer (sent_back_for closed) (verb.AtLink 1 (link_verb.Down 10)) (back_line ∷ []) (answer.No why) → ⊥
 back_refused closed why l = is_shut l.2
 
-pub back_fails : LawfulGroups (sent_back_for false) (down_under (verb.AtNode 1 (node_verb.Fail 1))) (down_under_told fails_down)
-back_fails = whole (sent_back_for false) (down_under (verb.AtNode 1 (node_verb.Fail 1))) (down_under_told fails_down) refl ((tt, tt, refl), (((omega arith, ((_, refl), tt)), ((refl, (omega arith, omega arith)), (_, refl), refl), refl), tt))
+pub back_fails : LawfulGroups (sent_back_for false) (down_under (verb.AtNode 1 (node_verb.Fail 1))) (down_under_groups fails_down)
+back_fails = whole (sent_back_for false) (down_under (verb.AtNode 1 (node_verb.Fail 1))) (down_under_groups fails_down) refl ((tt, tt, refl), (((omega arith, ((_, refl), tt)), ((refl, (omega arith, omega arith)), (_, refl), refl), refl), tt))
 
 -- where the link was not sent back there is none
 
 none_back : IsBack None → ⊥
 none_back b = let e : ◌≡◌ {A = Back} None (Some b.0) = b.1 in cc
 
-pub unsent_failed : (lines : List Event) → LawfulGroups (dialed_for false) (down_under (verb.AtNode 1 (node_verb.Fail 1))) (down_under_told (lines, answer.No cause.Disk)) → ⊥
+pub unsent_failed : (lines : List Event) → LawfulGroups (dialed_for false) (down_under (verb.AtNode 1 (node_verb.Fail 1))) (down_under_groups (lines, answer.No cause.Disk)) → ⊥
 unsent_failed lines l = none_back l.1.0.1.1
 
-pub unsent_stopped : (lines : List Event) → LawfulGroups (dialed_for false) (down_under (verb.AtNode 1 (node_verb.Stop 1 Old))) (down_under_told (lines, answer.No cause.Stopped)) → ⊥
+pub unsent_stopped : (lines : List Event) → LawfulGroups (dialed_for false) (down_under (verb.AtNode 1 (node_verb.Stop 1 Old))) (down_under_groups (lines, answer.No cause.Stopped)) → ⊥
 unsent_stopped lines l = none_back l.1.0.1.1
 
 pub unsent_closed : (lines : List Event) → LawfulAnswer (dialed_for true) (verb.AtLink 1 (link_verb.Down 10)) lines (answer.No cause.Closed) → ⊥

@@ -3,7 +3,7 @@ use Rattle.std.specs.Prelude.{◌≡◌, ◌+◌, ◌*◌, ◌<◌, ◌∷◌}
 use Rattle.transcript_law.proofs.Words.{ℕ, Bool, false, List, [], length, refl, sym, ◌∙◌, subst, inl, arith, Some, Act, Doc, Pend, LawfulChange, image_of}
 use Rattle.durability.specs.{Chains.{named}, Laws.{Differ, Each, HasOne}}
 use Rattle.std.specs.FinMap.{get}
-use Rattle.transcript_law.specs.{Chronicles.{CountsTold, DiskTold}, Commits.{prepare_of, prepared_told, risen_again, risen_anew, started_anew, the_commit}, Majorities.{HasAcknowledged, IsHeldByMost}, Transcripts.{first_doc}}
+use Rattle.transcript_law.specs.{Chronicles.{CountsKnown, DiskKnown}, Commits.{prepare_of, prepared_known, risen_again, risen_anew, started_anew, the_commit}, Majorities.{HasAcknowledged, IsHeldByMost}, Transcripts.{first_doc}}
 use Rattle.vb_types.proofs.Laws.{get-insert_same}
 use Rattle.vb_types.specs.Images.{nothing}
 use Rattle.vb_types.specs.declared.change.Level.{Level}
@@ -20,7 +20,7 @@ named_so : (how : Level) (number : ℕ) (doc : Doc) (deleted : Bool) → the_com
 named_so how number doc deleted e = (cc, cc, cc)
 
 -- it may be committed where a majority holds it, and only there
-pub may : (how : Level) (f : ℕ → ℕ → CountsTold) (d : ℕ → ℕ → DiskTold) → IsHeldByMost (f 0 0) (d 0 0).saved 1 how → LawfulChange (record (prepared_told how) { counts_at = f; disk_at = d }) 0 0 5 the_commit
+pub may : (how : Level) (f : ℕ → ℕ → CountsKnown) (d : ℕ → ℕ → DiskKnown) → IsHeldByMost (f 0 0) (d 0 0).saved 1 how → LawfulChange (record (prepared_known how) { counts_at = f; disk_at = d }) 0 0 5 the_commit
 may how f d held = record {
   active = refl;
   writer = record { made_or_took = refl; on_branch = refl };
@@ -32,11 +32,11 @@ may how f d held = record {
       let found : Some (waits how) ≡ Some p = sym (waits_there how) ∙ there in let same : waits how ≡ p = cc in subst (λ (q : Pend). IsHeldByMost (f 0 0) (d 0 0).saved q.seq q.level) same held;
 }
 
-pub must : (how : Level) (f : ℕ → ℕ → CountsTold) (d : ℕ → ℕ → DiskTold) → LawfulChange (record (prepared_told how) { counts_at = f; disk_at = d }) 0 0 5 the_commit → IsHeldByMost (f 0 0) (d 0 0).saved 1 how
+pub must : (how : Level) (f : ℕ → ℕ → CountsKnown) (d : ℕ → ℕ → DiskKnown) → LawfulChange (record (prepared_known how) { counts_at = f; disk_at = d }) 0 0 5 the_commit → IsHeldByMost (f 0 0) (d 0 0).saved 1 how
 must how f d l = l.backed 1 (first_doc 1 (6 ∷ [])) false refl (waits how) (waits_there how)
 
 -- more than one is more than half of a chain of two
-pub one_at_least : {counts : CountsTold} {saved p : ℕ} {how : Level} → IsHeldByMost counts saved p how → 0 < length counts.chain → (m : ℕ) × HasOne m (named counts.chain) × HasAcknowledged counts.acks m p
+pub one_at_least : {counts : CountsKnown} {saved p : ℕ} {how : Level} → IsHeldByMost counts saved p how → 0 < length counts.chain → (m : ℕ) × HasOne m (named counts.chain) × HasAcknowledged counts.acks m p
 one_at_least {counts = counts} {p = p} h some = by h.members h.each h.most
   where
     by : (ms : List ℕ) → Each (λ m. HasOne m (named counts.chain) × HasAcknowledged counts.acks m p) ms → 1 + length counts.chain < 2 * (1 + length ms) → (m : ℕ) × HasOne m (named counts.chain) × HasAcknowledged counts.acks m p
@@ -44,7 +44,7 @@ one_at_least {counts = counts} {p = p} h some = by h.members h.each h.most
     by (m ∷ more) each most = (m, each.0.0, each.0.1)
 
 -- and more than two are more than half of one of three others
-pub two_at_least : {counts : CountsTold} {saved p : ℕ} {how : Level} → IsHeldByMost counts saved p how → 2 < length counts.chain
+pub two_at_least : {counts : CountsKnown} {saved p : ℕ} {how : Level} → IsHeldByMost counts saved p how → 2 < length counts.chain
     → (m k : ℕ) × (k ≡ m → ⊥) × HasAcknowledged counts.acks m p × HasAcknowledged counts.acks k p
 two_at_least {counts = counts} {p = p} h some = by h.members h.differ h.each h.most
   where
@@ -54,7 +54,7 @@ two_at_least {counts = counts} {p = p} h some = by h.members h.differ h.each h.m
     by (m ∷ k ∷ more) differ each most = (m, k, (λ e. differ.0 (inl (sym e))), each.0.1, each.1.0.1)
 
 -- the same on the branch that it rose to
-pub anew_lawful : (f : ℕ → ℕ → CountsTold) (d : ℕ → ℕ → DiskTold) → IsHeldByMost (f 0 0) (d 0 0).saved 1 Majority → LawfulChange (record risen_anew { counts_at = f; disk_at = d }) 0 0 7 the_commit
+pub anew_lawful : (f : ℕ → ℕ → CountsKnown) (d : ℕ → ℕ → DiskKnown) → IsHeldByMost (f 0 0) (d 0 0).saved 1 Majority → LawfulChange (record risen_anew { counts_at = f; disk_at = d }) 0 0 7 the_commit
 anew_lawful f d held = record {
   active = refl;
   writer = record { made_or_took = refl; on_branch = refl };
@@ -65,11 +65,11 @@ anew_lawful f d held = record {
   backed = (may Majority f d held).backed;
 }
 
-pub anew_held : (f : ℕ → ℕ → CountsTold) (d : ℕ → ℕ → DiskTold) → LawfulChange (record risen_anew { counts_at = f; disk_at = d }) 0 0 7 the_commit → IsHeldByMost (f 0 0) (d 0 0).saved 1 Majority
+pub anew_held : (f : ℕ → ℕ → CountsKnown) (d : ℕ → ℕ → DiskKnown) → LawfulChange (record risen_anew { counts_at = f; disk_at = d }) 0 0 7 the_commit → IsHeldByMost (f 0 0) (d 0 0).saved 1 Majority
 anew_held f d l = l.backed 1 (first_doc 1 (6 ∷ [])) false refl (waits Majority) (waits_there Majority)
 
 -- and the same on the branch on which it was dead and active again
-pub again_lawful : (f : ℕ → ℕ → CountsTold) (d : ℕ → ℕ → DiskTold) → IsHeldByMost (f 0 0) (d 0 0).saved 1 Majority → LawfulChange (record (risen_again []) { counts_at = f; disk_at = d }) 0 0 5 the_commit
+pub again_lawful : (f : ℕ → ℕ → CountsKnown) (d : ℕ → ℕ → DiskKnown) → IsHeldByMost (f 0 0) (d 0 0).saved 1 Majority → LawfulChange (record (risen_again []) { counts_at = f; disk_at = d }) 0 0 5 the_commit
 again_lawful f d held = record {
   active = refl;
   writer = record { made_or_took = refl; on_branch = refl };
@@ -80,8 +80,8 @@ again_lawful f d held = record {
   backed = (may Majority f d held).backed;
 }
 
-pub again_held : (f : ℕ → ℕ → CountsTold) (d : ℕ → ℕ → DiskTold) → LawfulChange (record (risen_again []) { counts_at = f; disk_at = d }) 0 0 5 the_commit → IsHeldByMost (f 0 0) (d 0 0).saved 1 Majority
+pub again_held : (f : ℕ → ℕ → CountsKnown) (d : ℕ → ℕ → DiskKnown) → LawfulChange (record (risen_again []) { counts_at = f; disk_at = d }) 0 0 5 the_commit → IsHeldByMost (f 0 0) (d 0 0).saved 1 Majority
 again_held f d l = l.backed 1 (first_doc 1 (6 ∷ [])) false refl (waits Majority) (waits_there Majority)
 
-pub started_held : (f : ℕ → ℕ → CountsTold) (d : ℕ → ℕ → DiskTold) → LawfulChange (record started_anew { counts_at = f; disk_at = d }) 0 0 7 the_commit → IsHeldByMost (f 0 0) (d 0 0).saved 1 Majority
+pub started_held : (f : ℕ → ℕ → CountsKnown) (d : ℕ → ℕ → DiskKnown) → LawfulChange (record started_anew { counts_at = f; disk_at = d }) 0 0 7 the_commit → IsHeldByMost (f 0 0) (d 0 0).saved 1 Majority
 started_held f d l = l.backed 1 (first_doc 1 (6 ∷ [])) false refl (waits Majority) (waits_there Majority)

@@ -2,8 +2,8 @@
 use Rattle.std.specs.Prelude.{◌≡◌, ◌<◌, ◌∷◌, ◌++◌}
 use Rattle.transcript_law.proofs.Words.{ℕ, false, List, [], length, map, refl, ap, sym, ◌∙◌, ⊎_elim, arith, Change, Option, Some, None, if◌then◌else◌, is_older, nat_list_cmp_total, key_cmp, Pend, Doc, Event, LogEntry, Role, Picture}
 use Rattle.transcript_law.proofs.Words.{image_of, front, uuid_of, kept_to, with_entry, option_map, Chronicle, empty_chronicle, after_line, log_of, made_from, after_both, shown_lines, Lawful, LawfulLine, LawfulFrom}
-use Rattle.transcript_law.proofs.{Words.{log_told, made_log, empty_shown, after_dead, first_doc, change_told}, invariant.Tables.{at_here}, rows.Transcripts.{no_entries}, rows.Rollbacks.{known_role}, rows.Groups.{both}, invariant.Waiting.{made_by}}
-use Rattle.transcript_law.specs.Contrary.{set_and_sealed, sealed_told, later_held, next_made, prepare_change, after_prepare, prepare_shown, prepare_told, after_back, taken_log, asked_by, after_follow, after_promote, second_held, third_below, third_held}
+use Rattle.transcript_law.proofs.{Words.{log_lines, made_log, empty_shown, after_dead, first_doc, change_line}, invariant.Tables.{at_here}, rows.Transcripts.{no_entries}, rows.Rollbacks.{known_role}, rows.Groups.{both}, invariant.Waiting.{made_by}}
+use Rattle.transcript_law.specs.Contrary.{set_and_sealed, sealed_groups, later_held, next_made, prepare_change, after_prepare, prepare_shown, prepare_lines, after_back, taken_log, refused_ask_lines, after_follow, after_promote, second_held, third_below, third_held}
 use Rattle.vb_types.specs.declared.change.Level.TheVariants.{Majority, MajorityPersistActive, PersistMajority}
 use Rattle.vb_types.specs.declared.change.Act.TheVariants as act
 use Rattle.std.specs.FinMap as finite
@@ -13,7 +13,7 @@ use Rattle.vb_events.specs.declared.event.Event.TheVariants as event
 use Rattle.vb_types.specs.declared.role.Role.TheVariants as role
 
 -- a change below one that its vBucket holds
-pub later : LawfulLine later_held (change_told 0) [] → ⊥
+pub later : LawfulLine later_held (change_line 0) [] → ⊥
 later l = let e : 2 < 1 = l.above_held in omega arith
 
 -- the maker of a branch changes it where it is on it, and not from another one
@@ -38,32 +38,32 @@ no_docs = no_entries Doc
 one_pending : finite.entries image.pending ≡ (7 ∷ [], pend) ∷ []
 one_pending = finite.entries-insert nat_list_cmp_total finite.empty (7 ∷ []) pend ∙ ap (λ es. finite.put key_cmp (7 ∷ []) pend es) (no_entries Pend)
 
-prepare_line : shown_lines image ≡ prepare_told 1 Majority
+prepare_line : shown_lines image ≡ prepare_lines 1 Majority
 prepare_line =
     ap (λ (ds : List (List ℕ × Doc)). map (λ e. event.Document e.0 e.1) ds ++ map (λ e. event.Prepared e.0 e.1.seq e.1.level) (finite.entries image.pending)) no_docs
     ∙ ap (λ (ps : List (List ℕ × Pend)). map (λ e. event.Prepared e.0 e.1.seq e.1.level) ps) one_pending
 
-pub prepare_right : LawfulFrom after_prepare (prepare_shown (prepare_told 1 Majority))
+pub prepare_right : LawfulFrom after_prepare (prepare_shown (prepare_lines 1 Majority))
 prepare_right = (
-  record { role = refl; newest = refl; at = refl; snapshot = refl; left = sym prepare_line; docs_left = sym (ap length no_docs); preps_left = sym (ap length one_pending); complete = λ _. record { lines = sym prepare_line; docs_told = sym (ap length no_docs); preps_told = sym (ap length one_pending); shared = λ _. refl; active = λ _. refl } },
+  record { role = refl; newest = refl; at = refl; snapshot = refl; left = sym prepare_line; docs_left = sym (ap length no_docs); preps_left = sym (ap length one_pending); complete = λ _. record { lines = sym prepare_line; docs_shown = sym (ap length no_docs); preps_shown = sym (ap length one_pending); shared = λ _. refl; active = λ _. refl } },
   (tt, tt),
 )
 
 -- what stands behind the line of a vBucket that is shown with a prepare
-behind_is : (behind : List Event) → LawfulFrom after_prepare (prepare_shown behind) → behind ≡ prepare_told 1 Majority
+behind_is : (behind : List Event) → LawfulFrom after_prepare (prepare_shown behind) → behind ≡ prepare_lines 1 Majority
 behind_is behind l = (l.0.complete refl).lines ∙ prepare_line
 
 pub prepare_missing : LawfulFrom after_prepare (prepare_shown []) → ⊥
 prepare_missing l = let e = behind_is [] l in cc
 
-pub prepare_moved : LawfulFrom after_prepare (prepare_shown (prepare_told 2 Majority)) → ⊥
+pub prepare_moved : LawfulFrom after_prepare (prepare_shown (prepare_lines 2 Majority)) → ⊥
 prepare_moved l =
-    let e : prepare_told 2 Majority ≡ prepare_told 1 Majority = behind_is (prepare_told 2 Majority) l in let n : ◌≡◌ {A = ℕ} 2 1 = cc in
+    let e : prepare_lines 2 Majority ≡ prepare_lines 1 Majority = behind_is (prepare_lines 2 Majority) l in let n : ◌≡◌ {A = ℕ} 2 1 = cc in
     omega arith
 
-pub prepare_other : LawfulFrom after_prepare (prepare_shown (prepare_told 1 PersistMajority)) → ⊥
+pub prepare_other : LawfulFrom after_prepare (prepare_shown (prepare_lines 1 PersistMajority)) → ⊥
 prepare_other l =
-    let e : prepare_told 1 PersistMajority ≡ prepare_told 1 Majority = behind_is (prepare_told 1 PersistMajority) l in
+    let e : prepare_lines 1 PersistMajority ≡ prepare_lines 1 Majority = behind_is (prepare_lines 1 PersistMajority) l in
     let n : PersistMajority ≡ Majority = cc in cc
 
 -- prepares that wait at a replica
@@ -88,7 +88,7 @@ third_waits = get-insert_same finite.empty (7 ∷ []) third
 newest : List LogEntry → ℕ
 newest es = uuid_of (front es)
 
-pub asked_otherwise : LawfulFrom after_both (asked_by (log_of 6)) → ⊥
+pub asked_otherwise : LawfulFrom after_both (refused_ask_lines (log_of 6)) → ⊥
 unfolding newest
 asked_otherwise l = let e : ◌≡◌ {A = ℕ} 5 6 = ap newest l.0.own_log in omega arith
 
@@ -99,7 +99,7 @@ pub cut_log : LawfulFrom after_back (taken_log made_log) → ⊥
 unfolding newest
 cut_log l = let e : ◌≡◌ {A = ℕ} 5 7 = ap newest l.0 in omega arith
 
-pub unmade_log : LawfulFrom empty_chronicle (log_told (log_of 5)) → ⊥
+pub unmade_log : LawfulFrom empty_chronicle (log_lines (log_of 5)) → ⊥
 unfolding newest
 unmade_log l = let e : ◌≡◌ {A = ℕ} 0 5 = ap newest l.0 in omega arith
 
@@ -108,7 +108,7 @@ unmade_log l = let e : ◌≡◌ {A = ℕ} 0 5 = ap newest l.0 in omega arith
 pub dead_again : LawfulFrom after_dead (event.Role 0 0 role.Dead ∷ []) → ⊥
 dead_again l = l.0.another refl
 
-pub follower_changes : LawfulFrom after_follow (change_told 0 ∷ []) → ⊥
+pub follower_changes : LawfulFrom after_follow (change_line 0 ∷ []) → ⊥
 follower_changes l = let e : role.Replica ≡ role.Active = known_role role.Replica role.Active l.0.active in cc
 
 pub follower_active : LawfulFrom after_follow (empty_shown role.Active) → ⊥
@@ -119,11 +119,11 @@ promoted_dead l = let e : role.Active ≡ role.Dead = known_role role.Active rol
 
 -- whatever was read before, what these lines tell is known behind them
 
-pub role_known : (told : Chronicle) (n v : ℕ) (new : Role) → (after_line told (event.Role n v new)).role_at n v ≡ Some (Some new)
-role_known told n v new = at_here told.role_at n v (Some (Some new))
+pub role_known_after : (told : Chronicle) (n v : ℕ) (new : Role) → (after_line told (event.Role n v new)).role_at n v ≡ Some (Some new)
+role_known_after told n v new = at_here told.role_at n v (Some (Some new))
 
-pub log_known : (told : Chronicle) (n v : ℕ) (log : List LogEntry) → (after_line told (event.Adopted n v log)).log_at n v ≡ Some log
-log_known told n v log = at_here told.log_at n v (Some log)
+pub log_known_after : (told : Chronicle) (n v : ℕ) (log : List LogEntry) → (after_line told (event.Adopted n v log)).log_at n v ≡ Some log
+log_known_after told n v log = at_here told.log_at n v (Some log)
 
 pub branch_known : (told : Chronicle) (n v uuid : ℕ) (parent : Option ℕ) (fork high : ℕ) (log : List LogEntry) → told.log_at n v ≡ Some log
     → (after_line told (event.Branch n v uuid parent fork high)).log_at n v ≡ Some (with_entry uuid fork log)
@@ -133,8 +133,8 @@ pub back_known : (told : Chronicle) (n v named to : ℕ) (log : List LogEntry) �
 back_known told n v named to log e = at_here told.log_at n v (option_map (kept_to to) (told.log_at n v)) ∙ ap (option_map (kept_to to)) e
 
 -- a vBucket that is sealed twice behind a change
-pub seals_twice : Lawful set_and_sealed (sealed_told 1 0)
-seals_twice = both empty_chronicle set_and_sealed (sealed_told 1 0) refl (tt, (tt, ((record { new = tt; newest = refl; last = refl; leaves = refl }, (record { another = λ e. cc; anew = λ e. refl }, tt)), ((search arith, tt), (tt, (tt, tt)))))) (tt, (refl, ((refl, tt), (refl, (refl, (refl, tt)))))) (refl, (refl, (refl, (refl, (refl, (refl, tt))))))
+pub seals_twice : Lawful set_and_sealed (sealed_groups 1 0)
+seals_twice = both empty_chronicle set_and_sealed (sealed_groups 1 0) refl (tt, (tt, ((record { new = tt; newest = refl; last = refl; leaves = refl }, (record { another = λ e. cc; anew = λ e. refl }, tt)), ((search arith, tt), (tt, (tt, tt)))))) (tt, (refl, ((refl, tt), (refl, (refl, (refl, tt)))))) (refl, (refl, (refl, (refl, (refl, (refl, tt))))))
 
 first_byte : List ℕ → ℕ
 first_byte [] = 0

@@ -6,17 +6,17 @@ use Rattle.transcript_law.proofs.Words.{empty_chronicle, Lawful, LawfulFrom, Law
 use Rattle.transcript_law.proofs.{links.PumpAnswers.{two_numbers}, rows.Transcripts.{first_change, shown, as_made, as_set}, rows.Groups.{AreParts, in_order, whole}}
 use Rattle.transcript_law.specs.Firings.{FiresAsSaid}
 use Rattle.transcript_law.specs.Clients.{AllClosed}
-use Rattle.transcript_law.specs.{Chronicles.{conns_lines, Idle, Taken, Written, no_arm, fail_told, stop_told}, Prefixes.{told_after}, LineAnswers.{MakesBranch, FailsIn, StopsIn}}
-use Rattle.transcript_law.specs.Crashes.{Said, LawfulAfter, ok, numbered, told_from, one_made, one_made_told, took, stopped_behind, failed_behind, branch_line, restarted, dead_line, none_shown, one_shown, stat_of}
-use Rattle.transcript_law.specs.Crashes.{save_under, save_under_told, dead_under, dead_under_told, save_and_dead, save_and_dead_told, crash_under, crash_under_told, crashed_after, crashed_after_told, to_save, saved_told, to_done, counted_told}
-use Rattle.transcript_law.specs.{Crashes.{commit_of, prepared, seal_after, seal_after_told}, Transcripts.{first_doc}}
+use Rattle.transcript_law.specs.{Chronicles.{conns_lines, Idle, Taken, Written, no_arm, known_fail, known_stop}, Prefixes.{known_after}, LineAnswers.{MakesBranch, FailsIn, StopsIn}}
+use Rattle.transcript_law.specs.Crashes.{Said, LawfulAfter, ok, numbered, groups_from_number, one_made, one_made_groups, took, stopped_behind, failed_behind, branch_line, restarted, dead_line, none_shown, one_shown, stat_of}
+use Rattle.transcript_law.specs.Crashes.{save_under, save_under_groups, dead_under, dead_under_groups, save_and_dead, save_and_dead_groups, crash_under, crash_under_groups, crash_behind, crash_behind_groups, to_save, saved_groups, to_done, counted_groups}
+use Rattle.transcript_law.specs.{Crashes.{commit_of, prepared, seal_restarted, seal_restarted_groups}, Transcripts.{first_doc}}
 use Rattle.std.specs.FinMap.{get}
 use Rattle.vb_types.proofs.Laws.{get-insert_same}
 use Rattle.vb_types.specs.declared.change.Act.TheVariants.{Commit}
 use Rattle.vb_types.specs.declared.change.Level.TheVariants as level
 use Rattle.vb_types.specs.declared.change.Pend.{Pend}
 use Rattle.vb_types.specs.declared.doc.Doc.{Doc}
-use Rattle.transcript_law.specs.Crashes.{stopped_in, stopped_in_told, after_noted_back, log_after_crash, log_after_crash_told, dead_unnoted, dead_unnoted_told, set_after, set_after_told, made_under, made_under_told}
+use Rattle.transcript_law.specs.Crashes.{stopped_in, stopped_in_groups, after_noted_back, log_after_crash, log_after_crash_groups, dead_unwritten, dead_unwritten_groups, set_restarted, set_restarted_groups, made_under, made_under_groups}
 use Rattle.script_text.specs.declared.verb.Verb.{Verb}
 use Rattle.script_text.specs.declared.verb.Verb.TheVariants as verb
 use Rattle.script_text.specs.declared.verb.VbVerb.TheVariants as vb_verb
@@ -30,11 +30,11 @@ use Rattle.vb_types.specs.declared.journal.Batch.{Batch}
 
 -- what was read when the change was made
 abbrev pub read : Chronicle
-read = told_after empty_chronicle (one_made []) (one_made_told [])
+read = known_after empty_chronicle (one_made []) (one_made_groups [])
 
 -- a transcript is lawful that is so from there on
-pub from_made : (more : List Verb) (told : List Said) → in_order (numbered 5 more) (told_from 5 told) ≡ true → AreParts read (numbered 5 more) (told_from 5 told) → LawfulAfter more told
-from_made more told o l = whole empty_chronicle (one_made more) (one_made_told told) o
+pub lawful_from_made : (more : List Verb) (told : List Said) → in_order (numbered 5 more) (groups_from_number 5 told) ≡ true → AreParts read (numbered 5 more) (groups_from_number 5 told) → LawfulAfter more told
+lawful_from_made more told o l = whole empty_chronicle (one_made more) (one_made_groups told) o
     ((tt, tt, refl), ((tt, refl, refl), (((record { new = tt; newest = refl; last = refl; leaves = refl }, (record { another = λ e. cc; anew = λ e. refl }, tt)), (refl, tt), refl), (((first_change _ _ _, tt), refl, refl), l))))
 
 -- the one connection of a client is told closed
@@ -68,254 +68,254 @@ first v lines other made = either_way v (λ e. subst (λ w. MakesBranch 0 w line
 above_zero : (k : ℕ) → 0 < k → (k == 0) ≡ false
 above_zero k low = ne_eqb k 0 (λ e. omega (arith, low, e))
 
-fail_stops : (calls k : ℕ) → StopsIn calls (fail_told k).fuse → ⊥
+fail_stops : (calls k : ℕ) → StopsIn calls (known_fail k).fuse → ⊥
 fail_stops calls k = elim (k == 0) as (λ b. StopsIn calls (if b then no_arm else record { fuse = Fail k; out = Old; down = false }).fuse → ⊥) [ true ↦ λ x. x | false ↦ λ x. x ]
 
-stop_fails : (calls k : ℕ) → FailsIn calls (stop_told k Old).fuse → ⊥
+stop_fails : (calls k : ℕ) → FailsIn calls (known_stop k Old).fuse → ⊥
 stop_fails calls k = elim (k == 0) as (λ b. FailsIn calls (if b then no_arm else record { fuse = Stop k; out = Old; down = false }).fuse → ⊥) [ true ↦ λ x. x | false ↦ λ x. x ]
 
-pub passed : LawfulAfter (save_under (verb.AtNode 0 (node_verb.Fail 5))) (save_under_told (ok []))
-passed = from_made (save_under (verb.AtNode 0 (node_verb.Fail 5))) (save_under_told (ok [])) refl (taken, ((tt, tt, refl), ((tt, ((refl, omega arith), (_, refl)), refl), tt)))
+pub passed : LawfulAfter (save_under (verb.AtNode 0 (node_verb.Fail 5))) (save_under_groups (ok []))
+passed = lawful_from_made (save_under (verb.AtNode 0 (node_verb.Fail 5))) (save_under_groups (ok [])) refl (taken, ((tt, tt, refl), ((tt, ((refl, omega arith), (_, refl)), refl), tt)))
 
-pub passed_failed : LawfulAfter (save_under (verb.AtNode 0 (node_verb.Fail 5))) (save_under_told (failed_behind [])) → ⊥
+pub passed_failed : LawfulAfter (save_under (verb.AtNode 0 (node_verb.Fail 5))) (save_under_groups (failed_behind [])) → ⊥
 passed_failed l = let e : 5 ≤ 4 = l.1.1.1.1.1.1.0.1.0.1.1 in omega (arith, e)
 
-pub passed_stopped : LawfulAfter (save_under (verb.AtNode 0 (node_verb.Stop 5 Old))) (save_under_told (stopped_behind [])) → ⊥
+pub passed_stopped : LawfulAfter (save_under (verb.AtNode 0 (node_verb.Stop 5 Old))) (save_under_groups (stopped_behind [])) → ⊥
 passed_stopped l = let e : 5 ≤ 4 = l.1.1.1.1.1.1.0.1.0.1.1 in omega (arith, e)
 
-pub fails : (k : ℕ) → 0 < k → k ≤ 4 → LawfulAfter (save_under (verb.AtNode 0 (node_verb.Fail k))) (save_under_told (failed_behind []))
+pub fails : (k : ℕ) → 0 < k → k ≤ 4 → LawfulAfter (save_under (verb.AtNode 0 (node_verb.Fail k))) (save_under_groups (failed_behind []))
 fails k low high = let z = above_zero k low in
-    from_made (save_under (verb.AtNode 0 (node_verb.Fail k))) (save_under_told (failed_behind [])) refl (taken, ((tt, tt, refl), (((rw z low, tt), ((refl, rw z (low, high)), (_, refl)), refl), tt)))
+    lawful_from_made (save_under (verb.AtNode 0 (node_verb.Fail k))) (save_under_groups (failed_behind [])) refl (taken, ((tt, tt, refl), (((rw z low, tt), ((refl, rw z (low, high)), (_, refl)), refl), tt)))
 
-pub fails_ok : (k : ℕ) (lines : List Event) → 0 < k → k ≤ 4 → LawfulAfter (save_under (verb.AtNode 0 (node_verb.Fail k))) (save_under_told (ok lines)) → ⊥
+pub fails_ok : (k : ℕ) (lines : List Event) → 0 < k → k ≤ 4 → LawfulAfter (save_under (verb.AtNode 0 (node_verb.Fail k))) (save_under_groups (ok lines)) → ⊥
 fails_ok k lines low high l = let z = above_zero k low in let e : 4 < k = rw z at l.1.1.1.1.1.1.0.1.0.1 in omega (arith, high, e)
 
-pub stops : (k : ℕ) → 0 < k → k ≤ 4 → LawfulAfter (save_under (verb.AtNode 0 (node_verb.Stop k Old))) (save_under_told (stopped_behind []))
+pub stops : (k : ℕ) → 0 < k → k ≤ 4 → LawfulAfter (save_under (verb.AtNode 0 (node_verb.Stop k Old))) (save_under_groups (stopped_behind []))
 stops k low high = let z = above_zero k low in
-    from_made (save_under (verb.AtNode 0 (node_verb.Stop k Old))) (save_under_told (stopped_behind [])) refl (taken, ((tt, tt, refl), ((((rw z low, one_closed), (refl, tt)), ((refl, rw z (low, high)), (_, refl)), refl), tt)))
+    lawful_from_made (save_under (verb.AtNode 0 (node_verb.Stop k Old))) (save_under_groups (stopped_behind [])) refl (taken, ((tt, tt, refl), ((((rw z low, one_closed), (refl, tt)), ((refl, rw z (low, high)), (_, refl)), refl), tt)))
 
-pub stops_ok : (k : ℕ) (lines : List Event) → 0 < k → k ≤ 4 → LawfulAfter (save_under (verb.AtNode 0 (node_verb.Stop k Old))) (save_under_told (ok lines)) → ⊥
+pub stops_ok : (k : ℕ) (lines : List Event) → 0 < k → k ≤ 4 → LawfulAfter (save_under (verb.AtNode 0 (node_verb.Stop k Old))) (save_under_groups (ok lines)) → ⊥
 stops_ok k lines low high l = let z = above_zero k low in let e : 4 < k = rw z at l.1.1.1.1.1.1.0.1.0.1 in omega (arith, high, e)
 
-pub fails_stopped : (k : ℕ) (lines : List Event) → LawfulAfter (save_under (verb.AtNode 0 (node_verb.Fail k))) (save_under_told (lines, answer.No cause.Stopped)) → ⊥
+pub fails_stopped : (k : ℕ) (lines : List Event) → LawfulAfter (save_under (verb.AtNode 0 (node_verb.Fail k))) (save_under_groups (lines, answer.No cause.Stopped)) → ⊥
 fails_stopped k lines l = fail_stops 4 k l.1.1.1.1.1.1.0.1.0.1
 
-pub stops_failed : (k : ℕ) (lines : List Event) → LawfulAfter (save_under (verb.AtNode 0 (node_verb.Stop k Old))) (save_under_told (lines, answer.No cause.Disk)) → ⊥
+pub stops_failed : (k : ℕ) (lines : List Event) → LawfulAfter (save_under (verb.AtNode 0 (node_verb.Stop k Old))) (save_under_groups (lines, answer.No cause.Disk)) → ⊥
 stops_failed k lines l = stop_fails 4 k l.1.1.1.1.1.1.0.1.0.1
 
-pub unarmed_failed : (said : Answer) → LawfulAfter (save_under (verb.AtNode 0 (node_verb.Fail 0))) (save_under_told (event.CallFailed 0 ∷ [], said)) → ⊥
+pub unarmed_failed : (said : Answer) → LawfulAfter (save_under (verb.AtNode 0 (node_verb.Fail 0))) (save_under_groups (event.CallFailed 0 ∷ [], said)) → ⊥
 unarmed_failed said l = l.1.1.1.1.1.1.0.0.0
 
-pub unarmed_stopped : (said : Answer) → LawfulAfter (save_under (verb.AtNode 0 (node_verb.Stop 0 Old))) (save_under_told (event.NodeStopped 0 ∷ event.Closed 0 1 ∷ [], said)) → ⊥
+pub unarmed_stopped : (said : Answer) → LawfulAfter (save_under (verb.AtNode 0 (node_verb.Stop 0 Old))) (save_under_groups (event.NodeStopped 0 ∷ event.Closed 0 1 ∷ [], said)) → ⊥
 unarmed_stopped said l = l.1.1.1.1.1.1.0.0.0.0
 
-pub other_failed : (said : Answer) → LawfulAfter (save_under (verb.AtNode 0 (node_verb.Stop 1 Old))) (save_under_told (event.CallFailed 0 ∷ [], said)) → ⊥
+pub other_failed : (said : Answer) → LawfulAfter (save_under (verb.AtNode 0 (node_verb.Stop 1 Old))) (save_under_groups (event.CallFailed 0 ∷ [], said)) → ⊥
 other_failed said l = l.1.1.1.1.1.1.0.0.0
 
-pub other_stopped : (said : Answer) → LawfulAfter (save_under (verb.AtNode 0 (node_verb.Fail 1))) (save_under_told (event.NodeStopped 0 ∷ event.Closed 0 1 ∷ [], said)) → ⊥
+pub other_stopped : (said : Answer) → LawfulAfter (save_under (verb.AtNode 0 (node_verb.Fail 1))) (save_under_groups (event.NodeStopped 0 ∷ event.Closed 0 1 ∷ [], said)) → ⊥
 other_stopped said l = l.1.1.1.1.1.1.0.0.0.0
 
-pub elsewhere : (said : Answer) → LawfulAfter (save_under (verb.AtNode 0 (node_verb.Fail 1))) (save_under_told (event.CallFailed 1 ∷ [], said)) → ⊥
+pub elsewhere : (said : Answer) → LawfulAfter (save_under (verb.AtNode 0 (node_verb.Fail 1))) (save_under_groups (event.CallFailed 1 ∷ [], said)) → ⊥
 elsewhere said l = l.1.1.1.1.1.1.0.0.0
 
 -- calls are counted from the arm on, and it fires once
-pub counted : LawfulAfter save_and_dead (save_and_dead_told (failed_behind (dead_line ∷ [])))
-counted = from_made save_and_dead (save_and_dead_told (failed_behind (dead_line ∷ []))) refl
+pub counted : LawfulAfter save_and_dead (save_and_dead_groups (failed_behind (dead_line ∷ [])))
+counted = lawful_from_made save_and_dead (save_and_dead_groups (failed_behind (dead_line ∷ []))) refl
     (taken, ((tt, tt, refl), ((tt, ((refl, omega arith), (_, refl)), refl), (((record { another = λ e. cc; anew = λ e. cc }, (omega arith, tt)), (refl, (omega arith, omega arith)), refl), tt))))
 
-pub counted_ok : LawfulAfter save_and_dead (save_and_dead_told (ok (dead_line ∷ []))) → ⊥
+pub counted_ok : LawfulAfter save_and_dead (save_and_dead_groups (ok (dead_line ∷ []))) → ⊥
 counted_ok l = let e : 4 < 1 = l.1.1.1.1.1.1.1.0.1.1 in omega (arith, e)
 
 abbrev followed : Said
 followed = (event.Role 0 0 Role.Replica ∷ [], answer.No cause.Closed)
 
-pub once : LawfulAfter (dead_under (verb.AtNode 0 (node_verb.Fail 1)) (verb.AtVb 0 0 vb_verb.Follow)) (dead_under_told (failed_behind (dead_line ∷ [])) followed)
-once = from_made (dead_under (verb.AtNode 0 (node_verb.Fail 1)) (verb.AtVb 0 0 vb_verb.Follow)) (dead_under_told (failed_behind (dead_line ∷ [])) followed) refl
+pub once : LawfulAfter (dead_under (verb.AtNode 0 (node_verb.Fail 1)) (verb.AtVb 0 0 vb_verb.Follow)) (dead_under_groups (failed_behind (dead_line ∷ [])) followed)
+once = lawful_from_made (dead_under (verb.AtNode 0 (node_verb.Fail 1)) (verb.AtVb 0 0 vb_verb.Follow)) (dead_under_groups (failed_behind (dead_line ∷ [])) followed) refl
     ((tt, tt, refl), (((record { another = λ e. cc; anew = λ e. cc }, (omega arith, tt)), (refl, (omega arith, omega arith)), refl), (((record { another = λ e. cc; anew = λ e. cc }, tt), refl, refl), tt)))
 
-pub twice : LawfulAfter (dead_under (verb.AtNode 0 (node_verb.Fail 1)) (verb.AtVb 0 0 vb_verb.Follow)) (dead_under_told (failed_behind (dead_line ∷ [])) (failed_behind (event.Role 0 0 Role.Replica ∷ []))) → ⊥
+pub twice : LawfulAfter (dead_under (verb.AtNode 0 (node_verb.Fail 1)) (verb.AtVb 0 0 vb_verb.Follow)) (dead_under_groups (failed_behind (dead_line ∷ [])) (failed_behind (event.Role 0 0 Role.Replica ∷ []))) → ⊥
 twice l = l.1.1.1.1.1.1.0.0.1.0
 
-pub stopped_once : LawfulAfter (dead_under (verb.AtNode 0 (node_verb.Stop 1 Old)) (verb.AtNode 0 (node_verb.Start (7 ∷ [])))) (dead_under_told (stopped_behind (dead_line ∷ [])) (restarted 0))
-stopped_once = from_made (dead_under (verb.AtNode 0 (node_verb.Stop 1 Old)) (verb.AtNode 0 (node_verb.Start (7 ∷ [])))) (dead_under_told (stopped_behind (dead_line ∷ [])) (restarted 0)) refl
+pub stopped_once : LawfulAfter (dead_under (verb.AtNode 0 (node_verb.Stop 1 Old)) (verb.AtNode 0 (node_verb.Start (7 ∷ [])))) (dead_under_groups (stopped_behind (dead_line ∷ [])) (restarted 0))
+stopped_once = lawful_from_made (dead_under (verb.AtNode 0 (node_verb.Stop 1 Old)) (verb.AtNode 0 (node_verb.Start (7 ∷ [])))) (dead_under_groups (stopped_behind (dead_line ∷ [])) (restarted 0)) refl
     ((tt, tt, refl), (((record { another = λ e. cc; anew = λ e. cc }, ((omega arith, one_closed), (refl, tt))), (refl, (omega arith, omega arith)), refl), (((record { new = (λ e. omega arith, tt); newest = refl; last = refl; leaves = refl }, tt), ((λ v e. first v (branch_line 0 0 ∷ []) (λ f. no_role Role.Active (rw f at e)) (inl (refl, refl))), tt), refl), tt)))
 
-pub stopped_twice : LawfulAfter (dead_under (verb.AtNode 0 (node_verb.Stop 1 Old)) (verb.AtNode 0 (node_verb.Start (7 ∷ [])))) (dead_under_told (stopped_behind (dead_line ∷ [])) (stopped_behind (branch_line 0 0 ∷ []))) → ⊥
+pub stopped_twice : LawfulAfter (dead_under (verb.AtNode 0 (node_verb.Stop 1 Old)) (verb.AtNode 0 (node_verb.Start (7 ∷ [])))) (dead_under_groups (stopped_behind (dead_line ∷ [])) (stopped_behind (branch_line 0 0 ∷ []))) → ⊥
 stopped_twice l = l.1.1.1.1.1.1.0.0.1.0.0
 
-pub gone : LawfulAfter (crash_under (verb.AtNode 0 (node_verb.Fail 1))) (crash_under_told (restarted 0))
-gone = from_made (crash_under (verb.AtNode 0 (node_verb.Fail 1))) (crash_under_told (restarted 0)) refl
+pub gone : LawfulAfter (crash_under (verb.AtNode 0 (node_verb.Fail 1))) (crash_under_groups (restarted 0))
+gone = lawful_from_made (crash_under (verb.AtNode 0 (node_verb.Fail 1))) (crash_under_groups (restarted 0)) refl
     ((tt, tt, refl), (((refl, tt), one_closed, refl), (((record { new = (λ e. omega arith, tt); newest = refl; last = refl; leaves = refl }, tt), ((λ v e. first v (branch_line 0 0 ∷ []) (λ f. no_role Role.Active (rw f at e)) (inl (refl, refl))), tt), refl), tt)))
 
-pub survives : LawfulAfter (crash_under (verb.AtNode 0 (node_verb.Fail 1))) (crash_under_told (failed_behind [])) → ⊥
+pub survives : LawfulAfter (crash_under (verb.AtNode 0 (node_verb.Fail 1))) (crash_under_groups (failed_behind [])) → ⊥
 survives l = l.1.1.1.1.1.1.0.0.0
 
-pub stop_survives : LawfulAfter (crash_under (verb.AtNode 0 (node_verb.Stop 1 Old))) (crash_under_told (event.NodeStopped 0 ∷ [], answer.No cause.Stopped)) → ⊥
+pub stop_survives : LawfulAfter (crash_under (verb.AtNode 0 (node_verb.Stop 1 Old))) (crash_under_groups (event.NodeStopped 0 ∷ [], answer.No cause.Stopped)) → ⊥
 stop_survives l = l.1.1.1.1.1.1.0.0.0.0
 
 -- what a stop inside a save leaves
 
-pub old : LawfulAfter (stopped_in 3 Old (verb.AtVb 0 0 vb_verb.Show)) (stopped_in_told 0 (none_shown Role.Active 7))
-old = from_made (stopped_in 3 Old (verb.AtVb 0 0 vb_verb.Show)) (stopped_in_told 0 (none_shown Role.Active 7)) refl
+pub old : LawfulAfter (stopped_in 3 Old (verb.AtVb 0 0 vb_verb.Show)) (stopped_in_groups 0 (none_shown Role.Active 7))
+old = lawful_from_made (stopped_in 3 Old (verb.AtVb 0 0 vb_verb.Show)) (stopped_in_groups 0 (none_shown Role.Active 7)) refl
     (taken, ((tt, tt, refl), ((((omega arith, one_closed), (refl, tt)), ((refl, (omega arith, omega arith)), (_, refl)), refl), (((record { new = (λ e. omega arith, tt); newest = refl; last = refl; leaves = refl }, tt), ((λ v e. first v (branch_line 0 0 ∷ []) (λ f. no_role Role.Active (rw f at e)) (inl (refl, refl))), tt), refl), (((shown _ _ _ refl refl refl refl nothing refl refl as_made (λ _. refl) (λ _. refl), tt), tt, refl), tt)))))
 
-pub old_shown : (at : ℕ) → LawfulAfter (stopped_in 3 Old (verb.AtVb 0 0 vb_verb.Show)) (stopped_in_told at (one_shown Role.Active 7)) → ⊥
+pub old_shown : (at : ℕ) → LawfulAfter (stopped_in 3 Old (verb.AtVb 0 0 vb_verb.Show)) (stopped_in_groups at (one_shown Role.Active 7)) → ⊥
 old_shown at l = two_numbers 0 1 (omega arith) (sym l.1.1.1.1.1.1.1.1.0.0.0.at)
 
-pub new : LawfulAfter (stopped_in 3 New (verb.AtVb 0 0 vb_verb.Show)) (stopped_in_told 1 (one_shown Role.Active 7))
-new = from_made (stopped_in 3 New (verb.AtVb 0 0 vb_verb.Show)) (stopped_in_told 1 (one_shown Role.Active 7)) refl
+pub new : LawfulAfter (stopped_in 3 New (verb.AtVb 0 0 vb_verb.Show)) (stopped_in_groups 1 (one_shown Role.Active 7))
+new = lawful_from_made (stopped_in 3 New (verb.AtVb 0 0 vb_verb.Show)) (stopped_in_groups 1 (one_shown Role.Active 7)) refl
     (taken, ((tt, tt, refl), ((((omega arith, one_closed), (refl, tt)), ((refl, (omega arith, omega arith)), (_, refl)), refl), (((record { new = (λ e. omega arith, tt); newest = refl; last = refl; leaves = refl }, tt), ((λ v e. first v (branch_line 0 1 ∷ []) (λ f. no_role Role.Active (rw f at e)) (inl (refl, refl))), tt), refl), (((shown _ _ _ refl refl refl refl (image_of (one_change ∷ [])) refl refl as_set (λ _. refl) (λ _. refl), (tt, tt)), tt, refl), tt)))))
 
-pub new_lost : (at : ℕ) → LawfulAfter (stopped_in 3 New (verb.AtVb 0 0 vb_verb.Show)) (stopped_in_told at (none_shown Role.Active 7)) → ⊥
+pub new_lost : (at : ℕ) → LawfulAfter (stopped_in 3 New (verb.AtVb 0 0 vb_verb.Show)) (stopped_in_groups at (none_shown Role.Active 7)) → ⊥
 new_lost at l = two_numbers 0 1 (omega arith) l.1.1.1.1.1.1.1.1.0.0.0.at
 
-pub old_stat : LawfulAfter (stopped_in 3 Old (verb.AtVb 0 0 vb_verb.Stat)) (stopped_in_told 0 (stat_of 0 0))
-old_stat = from_made (stopped_in 3 Old (verb.AtVb 0 0 vb_verb.Stat)) (stopped_in_told 0 (stat_of 0 0)) refl
-    (taken, ((tt, tt, refl), ((((omega arith, one_closed), (refl, tt)), ((refl, (omega arith, omega arith)), (_, refl)), refl), (((record { new = (λ e. omega arith, tt); newest = refl; last = refl; leaves = refl }, tt), ((λ v e. first v (branch_line 0 0 ∷ []) (λ f. no_role Role.Active (rw f at e)) (inl (refl, refl))), tt), refl), (((record { saved_told = refl; high_held = refl; flusher = omega arith; filled = omega arith }, tt), tt, refl), tt)))))
+pub old_stat : LawfulAfter (stopped_in 3 Old (verb.AtVb 0 0 vb_verb.Stat)) (stopped_in_groups 0 (stat_of 0 0))
+old_stat = lawful_from_made (stopped_in 3 Old (verb.AtVb 0 0 vb_verb.Stat)) (stopped_in_groups 0 (stat_of 0 0)) refl
+    (taken, ((tt, tt, refl), ((((omega arith, one_closed), (refl, tt)), ((refl, (omega arith, omega arith)), (_, refl)), refl), (((record { new = (λ e. omega arith, tt); newest = refl; last = refl; leaves = refl }, tt), ((λ v e. first v (branch_line 0 0 ∷ []) (λ f. no_role Role.Active (rw f at e)) (inl (refl, refl))), tt), refl), (((record { saved_as_known = refl; high_held = refl; flusher = omega arith; filled = omega arith }, tt), tt, refl), tt)))))
 
-pub old_counted : (at high : ℕ) → LawfulAfter (stopped_in 3 Old (verb.AtVb 0 0 vb_verb.Stat)) (stopped_in_told at (stat_of 1 high)) → ⊥
-old_counted at high l = two_numbers 0 1 (omega arith) (sym l.1.1.1.1.1.1.1.1.0.0.0.saved_told)
+pub old_counted : (at high : ℕ) → LawfulAfter (stopped_in 3 Old (verb.AtVb 0 0 vb_verb.Stat)) (stopped_in_groups at (stat_of 1 high)) → ⊥
+old_counted at high l = two_numbers 0 1 (omega arith) (sym l.1.1.1.1.1.1.1.1.0.0.0.saved_as_known)
 
-pub new_stat : LawfulAfter (stopped_in 3 New (verb.AtVb 0 0 vb_verb.Stat)) (stopped_in_told 1 (stat_of 1 1))
-new_stat = from_made (stopped_in 3 New (verb.AtVb 0 0 vb_verb.Stat)) (stopped_in_told 1 (stat_of 1 1)) refl
-    (taken, ((tt, tt, refl), ((((omega arith, one_closed), (refl, tt)), ((refl, (omega arith, omega arith)), (_, refl)), refl), (((record { new = (λ e. omega arith, tt); newest = refl; last = refl; leaves = refl }, tt), ((λ v e. first v (branch_line 0 1 ∷ []) (λ f. no_role Role.Active (rw f at e)) (inl (refl, refl))), tt), refl), (((record { saved_told = refl; high_held = refl; flusher = omega arith; filled = omega arith }, tt), tt, refl), tt)))))
+pub new_stat : LawfulAfter (stopped_in 3 New (verb.AtVb 0 0 vb_verb.Stat)) (stopped_in_groups 1 (stat_of 1 1))
+new_stat = lawful_from_made (stopped_in 3 New (verb.AtVb 0 0 vb_verb.Stat)) (stopped_in_groups 1 (stat_of 1 1)) refl
+    (taken, ((tt, tt, refl), ((((omega arith, one_closed), (refl, tt)), ((refl, (omega arith, omega arith)), (_, refl)), refl), (((record { new = (λ e. omega arith, tt); newest = refl; last = refl; leaves = refl }, tt), ((λ v e. first v (branch_line 0 1 ∷ []) (λ f. no_role Role.Active (rw f at e)) (inl (refl, refl))), tt), refl), (((record { saved_as_known = refl; high_held = refl; flusher = omega arith; filled = omega arith }, tt), tt, refl), tt)))))
 
-pub new_uncounted : (at high : ℕ) → LawfulAfter (stopped_in 3 New (verb.AtVb 0 0 vb_verb.Stat)) (stopped_in_told at (stat_of 0 high)) → ⊥
-new_uncounted at high l = two_numbers 0 1 (omega arith) l.1.1.1.1.1.1.1.1.0.0.0.saved_told
+pub new_uncounted : (at high : ℕ) → LawfulAfter (stopped_in 3 New (verb.AtVb 0 0 vb_verb.Stat)) (stopped_in_groups at (stat_of 0 high)) → ⊥
+new_uncounted at high l = two_numbers 0 1 (omega arith) l.1.1.1.1.1.1.1.1.0.0.0.saved_as_known
 
-pub early : LawfulAfter (stopped_in 2 New (verb.AtVb 0 0 vb_verb.Show)) (stopped_in_told 0 (none_shown Role.Active 7))
-early = from_made (stopped_in 2 New (verb.AtVb 0 0 vb_verb.Show)) (stopped_in_told 0 (none_shown Role.Active 7)) refl
+pub early : LawfulAfter (stopped_in 2 New (verb.AtVb 0 0 vb_verb.Show)) (stopped_in_groups 0 (none_shown Role.Active 7))
+early = lawful_from_made (stopped_in 2 New (verb.AtVb 0 0 vb_verb.Show)) (stopped_in_groups 0 (none_shown Role.Active 7)) refl
     (taken, ((tt, tt, refl), ((((omega arith, one_closed), (refl, tt)), ((refl, (omega arith, omega arith)), (_, refl)), refl), (((record { new = (λ e. omega arith, tt); newest = refl; last = refl; leaves = refl }, tt), ((λ v e. first v (branch_line 0 0 ∷ []) (λ f. no_role Role.Active (rw f at e)) (inl (refl, refl))), tt), refl), (((shown _ _ _ refl refl refl refl nothing refl refl as_made (λ _. refl) (λ _. refl), tt), tt, refl), tt)))))
 
-pub early_shown : (at : ℕ) → LawfulAfter (stopped_in 2 New (verb.AtVb 0 0 vb_verb.Show)) (stopped_in_told at (one_shown Role.Active 7)) → ⊥
+pub early_shown : (at : ℕ) → LawfulAfter (stopped_in 2 New (verb.AtVb 0 0 vb_verb.Show)) (stopped_in_groups at (one_shown Role.Active 7)) → ⊥
 early_shown at l = two_numbers 0 1 (omega arith) (sym l.1.1.1.1.1.1.1.1.0.0.0.at)
 
-pub filled : LawfulAfter (stopped_in 4 (Fill 1) (verb.AtVb 0 0 vb_verb.Show)) (stopped_in_told 1 (one_shown Role.Active 7))
-filled = from_made (stopped_in 4 (Fill 1) (verb.AtVb 0 0 vb_verb.Show)) (stopped_in_told 1 (one_shown Role.Active 7)) refl
+pub filled : LawfulAfter (stopped_in 4 (Fill 1) (verb.AtVb 0 0 vb_verb.Show)) (stopped_in_groups 1 (one_shown Role.Active 7))
+filled = lawful_from_made (stopped_in 4 (Fill 1) (verb.AtVb 0 0 vb_verb.Show)) (stopped_in_groups 1 (one_shown Role.Active 7)) refl
     (taken, ((tt, tt, refl), ((((omega arith, one_closed), (refl, tt)), ((refl, (omega arith, omega arith)), (_, refl)), refl), (((record { new = (λ e. omega arith, tt); newest = refl; last = refl; leaves = refl }, tt), ((λ v e. first v (branch_line 0 1 ∷ []) (λ f. no_role Role.Active (rw f at e)) (inl (refl, refl))), tt), refl), (((shown _ _ _ refl refl refl refl (image_of (one_change ∷ [])) refl refl as_set (λ _. refl) (λ _. refl), (tt, tt)), tt, refl), tt)))))
 
-pub filled_otherwise : (at : ℕ) → LawfulAfter (stopped_in 4 (Fill 2) (verb.AtVb 0 0 vb_verb.Show)) (stopped_in_told at (one_shown Role.Active 7)) → ⊥
+pub filled_otherwise : (at : ℕ) → LawfulAfter (stopped_in 4 (Fill 2) (verb.AtVb 0 0 vb_verb.Show)) (stopped_in_groups at (one_shown Role.Active 7)) → ⊥
 filled_otherwise at l = two_numbers 0 1 (omega arith) (sym l.1.1.1.1.1.1.1.1.0.0.0.at)
 
 -- what a crash leaves
 
-pub unwritten : LawfulAfter (crashed_after [] New (7 ∷ []) (verb.AtVb 0 0 vb_verb.Show)) (crashed_after_told [] (restarted 0) (none_shown Role.Active 7))
-unwritten = from_made (crashed_after [] New (7 ∷ []) (verb.AtVb 0 0 vb_verb.Show)) (crashed_after_told [] (restarted 0) (none_shown Role.Active 7)) refl
+pub unwritten : LawfulAfter (crash_behind [] New (7 ∷ []) (verb.AtVb 0 0 vb_verb.Show)) (crash_behind_groups [] (restarted 0) (none_shown Role.Active 7))
+unwritten = lawful_from_made (crash_behind [] New (7 ∷ []) (verb.AtVb 0 0 vb_verb.Show)) (crash_behind_groups [] (restarted 0) (none_shown Role.Active 7)) refl
     (((refl, tt), one_closed, refl), (((record { new = (λ e. omega arith, tt); newest = refl; last = refl; leaves = refl }, tt), ((λ v e. first v (branch_line 0 0 ∷ []) (λ f. no_role Role.Active (rw f at e)) (inl (refl, refl))), tt), refl), (((shown _ _ _ refl refl refl refl nothing refl refl as_made (λ _. refl) (λ _. refl), tt), tt, refl), tt)))
 
-pub unwritten_shown : (at : ℕ) → LawfulAfter (crashed_after [] New (7 ∷ []) (verb.AtVb 0 0 vb_verb.Show)) (crashed_after_told [] (restarted at) (one_shown Role.Active 7)) → ⊥
+pub unwritten_shown : (at : ℕ) → LawfulAfter (crash_behind [] New (7 ∷ []) (verb.AtVb 0 0 vb_verb.Show)) (crash_behind_groups [] (restarted at) (one_shown Role.Active 7)) → ⊥
 unwritten_shown at l = two_numbers 0 1 (omega arith) (sym l.1.1.1.1.1.1.0.0.0.at)
 
-pub taken_shown : (at : ℕ) → LawfulAfter (crashed_after (verb.AtVb 0 0 vb_verb.Take ∷ []) New (7 ∷ []) (verb.AtVb 0 0 vb_verb.Show)) (crashed_after_told (took ∷ []) (restarted at) (one_shown Role.Active 7)) → ⊥
+pub taken_shown : (at : ℕ) → LawfulAfter (crash_behind (verb.AtVb 0 0 vb_verb.Take ∷ []) New (7 ∷ []) (verb.AtVb 0 0 vb_verb.Show)) (crash_behind_groups (took ∷ []) (restarted at) (one_shown Role.Active 7)) → ⊥
 taken_shown at l = two_numbers 0 1 (omega arith) (sym l.1.1.1.1.1.1.1.0.0.0.at)
 
-pub written : LawfulAfter (crashed_after to_save Old (7 ∷ []) (verb.AtVb 0 0 vb_verb.Show)) (crashed_after_told saved_told (restarted 1) (one_shown Role.Active 7))
-written = from_made (crashed_after to_save Old (7 ∷ []) (verb.AtVb 0 0 vb_verb.Show)) (crashed_after_told saved_told (restarted 1) (one_shown Role.Active 7)) refl
+pub written : LawfulAfter (crash_behind to_save Old (7 ∷ []) (verb.AtVb 0 0 vb_verb.Show)) (crash_behind_groups saved_groups (restarted 1) (one_shown Role.Active 7))
+written = lawful_from_made (crash_behind to_save Old (7 ∷ []) (verb.AtVb 0 0 vb_verb.Show)) (crash_behind_groups saved_groups (restarted 1) (one_shown Role.Active 7)) refl
     (taken, ((tt, ((refl, tt), (_, refl)), refl), (((refl, tt), one_closed, refl), (((record { new = (λ e. omega arith, tt); newest = refl; last = refl; leaves = refl }, tt), ((λ v e. first v (branch_line 0 1 ∷ []) (λ f. no_role Role.Active (rw f at e)) (inl (refl, refl))), tt), refl), (((shown _ _ _ refl refl refl refl (image_of (one_change ∷ [])) refl refl as_set (λ _. refl) (λ _. refl), (tt, tt)), tt, refl), tt)))))
 
-pub written_lost : (at : ℕ) → LawfulAfter (crashed_after to_save Old (7 ∷ []) (verb.AtVb 0 0 vb_verb.Show)) (crashed_after_told saved_told (restarted at) (none_shown Role.Active 7)) → ⊥
+pub written_lost : (at : ℕ) → LawfulAfter (crash_behind to_save Old (7 ∷ []) (verb.AtVb 0 0 vb_verb.Show)) (crash_behind_groups saved_groups (restarted at) (none_shown Role.Active 7)) → ⊥
 written_lost at l = two_numbers 0 1 (omega arith) l.1.1.1.1.1.1.1.1.0.0.0.at
 
-pub saved : LawfulAfter (crashed_after to_done Old (7 ∷ []) (verb.AtVb 0 0 vb_verb.Stat)) (crashed_after_told counted_told (restarted 1) (stat_of 1 1))
-saved = from_made (crashed_after to_done Old (7 ∷ []) (verb.AtVb 0 0 vb_verb.Stat)) (crashed_after_told counted_told (restarted 1) (stat_of 1 1)) refl
-    (taken, ((tt, ((refl, tt), (_, refl)), refl), ((tt, (1, refl, refl), refl), (((refl, tt), one_closed, refl), (((record { new = (λ e. omega arith, tt); newest = refl; last = refl; leaves = refl }, tt), ((λ v e. first v (branch_line 0 1 ∷ []) (λ f. no_role Role.Active (rw f at e)) (inl (refl, refl))), tt), refl), (((record { saved_told = refl; high_held = refl; flusher = omega arith; filled = omega arith }, tt), tt, refl), tt))))))
+pub saved : LawfulAfter (crash_behind to_done Old (7 ∷ []) (verb.AtVb 0 0 vb_verb.Stat)) (crash_behind_groups counted_groups (restarted 1) (stat_of 1 1))
+saved = lawful_from_made (crash_behind to_done Old (7 ∷ []) (verb.AtVb 0 0 vb_verb.Stat)) (crash_behind_groups counted_groups (restarted 1) (stat_of 1 1)) refl
+    (taken, ((tt, ((refl, tt), (_, refl)), refl), ((tt, (1, refl, refl), refl), (((refl, tt), one_closed, refl), (((record { new = (λ e. omega arith, tt); newest = refl; last = refl; leaves = refl }, tt), ((λ v e. first v (branch_line 0 1 ∷ []) (λ f. no_role Role.Active (rw f at e)) (inl (refl, refl))), tt), refl), (((record { saved_as_known = refl; high_held = refl; flusher = omega arith; filled = omega arith }, tt), tt, refl), tt))))))
 
-pub saved_forgotten : (at : ℕ) → LawfulAfter (crashed_after to_done Old (7 ∷ []) (verb.AtVb 0 0 vb_verb.Stat)) (crashed_after_told counted_told (restarted at) (stat_of 0 1)) → ⊥
-saved_forgotten at l = two_numbers 0 1 (omega arith) l.1.1.1.1.1.1.1.1.1.0.0.0.saved_told
+pub saved_forgotten : (at : ℕ) → LawfulAfter (crash_behind to_done Old (7 ∷ []) (verb.AtVb 0 0 vb_verb.Stat)) (crash_behind_groups counted_groups (restarted at) (stat_of 0 1)) → ⊥
+saved_forgotten at l = two_numbers 0 1 (omega arith) l.1.1.1.1.1.1.1.1.1.0.0.0.saved_as_known
 
-pub undone : LawfulAfter (crashed_after to_save Old (7 ∷ []) (verb.AtVb 0 0 vb_verb.Stat)) (crashed_after_told saved_told (restarted 1) (stat_of 1 1))
-undone = from_made (crashed_after to_save Old (7 ∷ []) (verb.AtVb 0 0 vb_verb.Stat)) (crashed_after_told saved_told (restarted 1) (stat_of 1 1)) refl
-    (taken, ((tt, ((refl, tt), (_, refl)), refl), (((refl, tt), one_closed, refl), (((record { new = (λ e. omega arith, tt); newest = refl; last = refl; leaves = refl }, tt), ((λ v e. first v (branch_line 0 1 ∷ []) (λ f. no_role Role.Active (rw f at e)) (inl (refl, refl))), tt), refl), (((record { saved_told = refl; high_held = refl; flusher = omega arith; filled = omega arith }, tt), tt, refl), tt)))))
+pub undone : LawfulAfter (crash_behind to_save Old (7 ∷ []) (verb.AtVb 0 0 vb_verb.Stat)) (crash_behind_groups saved_groups (restarted 1) (stat_of 1 1))
+undone = lawful_from_made (crash_behind to_save Old (7 ∷ []) (verb.AtVb 0 0 vb_verb.Stat)) (crash_behind_groups saved_groups (restarted 1) (stat_of 1 1)) refl
+    (taken, ((tt, ((refl, tt), (_, refl)), refl), (((refl, tt), one_closed, refl), (((record { new = (λ e. omega arith, tt); newest = refl; last = refl; leaves = refl }, tt), ((λ v e. first v (branch_line 0 1 ∷ []) (λ f. no_role Role.Active (rw f at e)) (inl (refl, refl))), tt), refl), (((record { saved_as_known = refl; high_held = refl; flusher = omega arith; filled = omega arith }, tt), tt, refl), tt)))))
 
-pub undone_forgotten : (at : ℕ) → LawfulAfter (crashed_after to_save Old (7 ∷ []) (verb.AtVb 0 0 vb_verb.Stat)) (crashed_after_told saved_told (restarted at) (stat_of 0 1)) → ⊥
-undone_forgotten at l = two_numbers 0 1 (omega arith) l.1.1.1.1.1.1.1.1.0.0.0.saved_told
+pub undone_forgotten : (at : ℕ) → LawfulAfter (crash_behind to_save Old (7 ∷ []) (verb.AtVb 0 0 vb_verb.Stat)) (crash_behind_groups saved_groups (restarted at) (stat_of 0 1)) → ⊥
+undone_forgotten at l = two_numbers 0 1 (omega arith) l.1.1.1.1.1.1.1.1.0.0.0.saved_as_known
 
 idle_taken : (b : Batch) → Idle ≡ Taken b → ⊥
 idle_taken b e = cc
 
-idle_written : (n : ℕ) → Idle ≡ Written n → ⊥
-idle_written n e = cc
+idle_not_written : (n : ℕ) → Idle ≡ Written n → ⊥
+idle_not_written n e = cc
 
-pub taken_lost : LawfulAfter (crashed_after (verb.AtVb 0 0 vb_verb.Take ∷ []) New (7 ∷ []) (verb.AtVb 0 0 vb_verb.Save)) (crashed_after_told (took ∷ []) (restarted 0) ([], answer.No cause.NothingTaken))
-taken_lost = from_made (crashed_after (verb.AtVb 0 0 vb_verb.Take ∷ []) New (7 ∷ []) (verb.AtVb 0 0 vb_verb.Save)) (crashed_after_told (took ∷ []) (restarted 0) ([], answer.No cause.NothingTaken)) refl
+pub taken_lost : LawfulAfter (crash_behind (verb.AtVb 0 0 vb_verb.Take ∷ []) New (7 ∷ []) (verb.AtVb 0 0 vb_verb.Save)) (crash_behind_groups (took ∷ []) (restarted 0) ([], answer.No cause.NothingTaken))
+taken_lost = lawful_from_made (crash_behind (verb.AtVb 0 0 vb_verb.Take ∷ []) New (7 ∷ []) (verb.AtVb 0 0 vb_verb.Save)) (crash_behind_groups (took ∷ []) (restarted 0) ([], answer.No cause.NothingTaken)) refl
     (taken, (((refl, tt), one_closed, refl), (((record { new = (λ e. omega arith, tt); newest = refl; last = refl; leaves = refl }, tt), ((λ v e. first v (branch_line 0 0 ∷ []) (λ f. no_role Role.Active (rw f at e)) (inl (refl, refl))), tt), refl), ((tt, (tt, tt), refl), tt))))
 
-pub taken_survives : (at : ℕ) → LawfulAfter (crashed_after (verb.AtVb 0 0 vb_verb.Take ∷ []) New (7 ∷ []) (verb.AtVb 0 0 vb_verb.Save)) (crashed_after_told (took ∷ []) (restarted at) (ok [])) → ⊥
+pub taken_survives : (at : ℕ) → LawfulAfter (crash_behind (verb.AtVb 0 0 vb_verb.Take ∷ []) New (7 ∷ []) (verb.AtVb 0 0 vb_verb.Save)) (crash_behind_groups (took ∷ []) (restarted at) (ok [])) → ⊥
 taken_survives at l = let (b, e) = l.1.1.1.1.1.1.1.0.1.1 in idle_taken b e
 
-pub written_survives : (at saved : ℕ) → LawfulAfter (crashed_after to_save New (7 ∷ []) (verb.AtVb 0 0 vb_verb.Done)) (crashed_after_told saved_told (restarted at) ([], answer.Number saved)) → ⊥
-written_survives at n l = let (end, e, said) = l.1.1.1.1.1.1.1.1.0.1 in idle_written end e
+pub written_survives : (at saved : ℕ) → LawfulAfter (crash_behind to_save New (7 ∷ []) (verb.AtVb 0 0 vb_verb.Done)) (crash_behind_groups saved_groups (restarted at) ([], answer.Number saved)) → ⊥
+written_survives at n l = let (end, e, said) = l.1.1.1.1.1.1.1.1.0.1 in idle_not_written end e
 
-pub own_log : LawfulAfter (crashed_after to_save Old (7 ∷ []) (verb.AtVb 0 0 vb_verb.Log)) (crashed_after_told saved_told (restarted 1) (ok (event.Logged 0 0 made_log ∷ [])))
-own_log = from_made (crashed_after to_save Old (7 ∷ []) (verb.AtVb 0 0 vb_verb.Log)) (crashed_after_told saved_told (restarted 1) (ok (event.Logged 0 0 made_log ∷ []))) refl
+pub own_log : LawfulAfter (crash_behind to_save Old (7 ∷ []) (verb.AtVb 0 0 vb_verb.Log)) (crash_behind_groups saved_groups (restarted 1) (ok (event.Logged 0 0 made_log ∷ [])))
+own_log = lawful_from_made (crash_behind to_save Old (7 ∷ []) (verb.AtVb 0 0 vb_verb.Log)) (crash_behind_groups saved_groups (restarted 1) (ok (event.Logged 0 0 made_log ∷ []))) refl
     (taken, ((tt, ((refl, tt), (_, refl)), refl), (((refl, tt), one_closed, refl), (((record { new = (λ e. omega arith, tt); newest = refl; last = refl; leaves = refl }, tt), ((λ v e. first v (branch_line 0 1 ∷ []) (λ f. no_role Role.Active (rw f at e)) (inl (refl, refl))), tt), refl), (((refl, tt), tt, refl), tt)))))
 
-pub log_lost : (at : ℕ) → LawfulAfter (crashed_after to_save Old (7 ∷ []) (verb.AtVb 0 0 vb_verb.Log)) (crashed_after_told saved_told (restarted at) (ok (event.Logged 0 0 (log_of 5) ∷ []))) → ⊥
+pub log_lost : (at : ℕ) → LawfulAfter (crash_behind to_save Old (7 ∷ []) (verb.AtVb 0 0 vb_verb.Log)) (crash_behind_groups saved_groups (restarted at) (ok (event.Logged 0 0 (log_of 5) ∷ []))) → ⊥
 log_lost at l = let e : ◌≡◌ {A = ℕ} 7 5 = ap (λ es. uuid_of (front es)) l.1.1.1.1.1.1.1.1.0.0.0 in omega arith
 
 replica_active : ◌≡◌ {A = Option Role} (Some Role.Replica) (Some Role.Active) → ⊥
 replica_active e = cc
 
-pub cut_log : LawfulGroups after_noted_back log_after_crash (log_after_crash_told (log_of 5))
-cut_log = whole after_noted_back log_after_crash (log_after_crash_told (log_of 5)) refl ((tt, (λ c. refl), refl), ((tt, ((λ v e. absurd (replica_active e)), tt), refl), (((refl, tt), tt, refl), tt)))
+pub cut_log : LawfulGroups after_noted_back log_after_crash (log_after_crash_groups (log_of 5))
+cut_log = whole after_noted_back log_after_crash (log_after_crash_groups (log_of 5)) refl ((tt, (λ c. refl), refl), ((tt, ((λ v e. absurd (replica_active e)), tt), refl), (((refl, tt), tt, refl), tt)))
 
-pub cut_log_back : LawfulGroups after_noted_back log_after_crash (log_after_crash_told made_log) → ⊥
+pub cut_log_back : LawfulGroups after_noted_back log_after_crash (log_after_crash_groups made_log) → ⊥
 cut_log_back l = let e : ◌≡◌ {A = ℕ} 5 7 = ap (λ es. uuid_of (front es)) l.1.1.0.0.0 in omega arith
 
 -- vBuckets that come back
 
-pub branched : LawfulAfter (crashed_after [] Old (7 ∷ []) (verb.AtVb 0 0 vb_verb.Show)) (crashed_after_told [] (restarted 0) (none_shown Role.Active 7))
-branched = from_made (crashed_after [] Old (7 ∷ []) (verb.AtVb 0 0 vb_verb.Show)) (crashed_after_told [] (restarted 0) (none_shown Role.Active 7)) refl
+pub branched : LawfulAfter (crash_behind [] Old (7 ∷ []) (verb.AtVb 0 0 vb_verb.Show)) (crash_behind_groups [] (restarted 0) (none_shown Role.Active 7))
+branched = lawful_from_made (crash_behind [] Old (7 ∷ []) (verb.AtVb 0 0 vb_verb.Show)) (crash_behind_groups [] (restarted 0) (none_shown Role.Active 7)) refl
     (((refl, tt), one_closed, refl), (((record { new = (λ e. omega arith, tt); newest = refl; last = refl; leaves = refl }, tt), ((λ v e. first v (branch_line 0 0 ∷ []) (λ f. no_role Role.Active (rw f at e)) (inl (refl, refl))), tt), refl), (((shown _ _ _ refl refl refl refl nothing refl refl as_made (λ _. refl) (λ _. refl), tt), tt, refl), tt)))
 
-pub no_branch : (last : List Event) (said : Answer) → LawfulAfter (crashed_after [] Old (7 ∷ []) (verb.AtVb 0 0 vb_verb.Show)) (crashed_after_told [] (ok []) (last, said)) → ⊥
+pub no_branch : (last : List Event) (said : Answer) → LawfulAfter (crash_behind [] Old (7 ∷ []) (verb.AtVb 0 0 vb_verb.Show)) (crash_behind_groups [] (ok []) (last, said)) → ⊥
 no_branch last said l = l.1.1.1.1.1.0.1.0 0 refl
 
-pub other_branch : (last : List Event) (said : Answer) → LawfulAfter (crashed_after [] Old (7 ∷ []) (verb.AtVb 0 0 vb_verb.Show)) (crashed_after_told [] (ok (branch_line 1 0 ∷ [])) (last, said)) → ⊥
+pub other_branch : (last : List Event) (said : Answer) → LawfulAfter (crash_behind [] Old (7 ∷ []) (verb.AtVb 0 0 vb_verb.Show)) (crash_behind_groups [] (ok (branch_line 1 0 ∷ [])) (last, said)) → ⊥
 other_branch last said l = ⊎_elim (λ e. two_numbers 0 1 (omega arith) (sym e.1)) (λ x. x) (l.1.1.1.1.1.0.1.0 0 refl)
 
-pub short : LawfulAfter (crashed_after [] Old [] (verb.AtVb 0 0 vb_verb.Show)) (crashed_after_told [] ([], answer.No cause.IdsShort) ([], answer.No cause.NodeDown))
-short = from_made (crashed_after [] Old [] (verb.AtVb 0 0 vb_verb.Show)) (crashed_after_told [] ([], answer.No cause.IdsShort) ([], answer.No cause.NodeDown)) refl
+pub short : LawfulAfter (crash_behind [] Old [] (verb.AtVb 0 0 vb_verb.Show)) (crash_behind_groups [] ([], answer.No cause.IdsShort) ([], answer.No cause.NodeDown))
+short = lawful_from_made (crash_behind [] Old [] (verb.AtVb 0 0 vb_verb.Show)) (crash_behind_groups [] ([], answer.No cause.IdsShort) ([], answer.No cause.NodeDown)) refl
     (((refl, tt), one_closed, refl), ((tt, (refl, omega arith, tt), refl), ((tt, (refl, inl refl), refl), tt)))
 
-pub short_active : (uuid : ℕ) → LawfulAfter (crashed_after [] Old [] (verb.AtVb 0 0 vb_verb.Show)) (crashed_after_told [] ([], answer.No cause.IdsShort) (none_shown Role.Active uuid)) → ⊥
+pub short_active : (uuid : ℕ) → LawfulAfter (crash_behind [] Old [] (verb.AtVb 0 0 vb_verb.Show)) (crash_behind_groups [] ([], answer.No cause.IdsShort) (none_shown Role.Active uuid)) → ⊥
 short_active uuid l = not_active l.1.1.1.1.1.1.0.0.0.role
 
-pub old_branch_shown : (at : ℕ) → LawfulAfter (crashed_after [] Old (7 ∷ []) (verb.AtVb 0 0 vb_verb.Show)) (crashed_after_told [] (restarted at) (none_shown Role.Active 5)) → ⊥
+pub old_branch_shown : (at : ℕ) → LawfulAfter (crash_behind [] Old (7 ∷ []) (verb.AtVb 0 0 vb_verb.Show)) (crash_behind_groups [] (restarted at) (none_shown Role.Active 5)) → ⊥
 old_branch_shown at l = let e : ◌≡◌ {A = Option ℕ} (Some 7) (Some 5) = (l.1.1.1.1.1.1.0.0.0.complete refl).active refl in cc
 
-pub dead : LawfulAfter (crashed_after (verb.AtVb 0 0 vb_verb.Dead ∷ []) Old [] (verb.AtVb 0 0 vb_verb.Show)) (crashed_after_told (ok (dead_line ∷ []) ∷ []) (ok []) (none_shown Role.Dead 5))
-dead = from_made (crashed_after (verb.AtVb 0 0 vb_verb.Dead ∷ []) Old [] (verb.AtVb 0 0 vb_verb.Show)) (crashed_after_told (ok (dead_line ∷ []) ∷ []) (ok []) (none_shown Role.Dead 5)) refl
+pub dead : LawfulAfter (crash_behind (verb.AtVb 0 0 vb_verb.Dead ∷ []) Old [] (verb.AtVb 0 0 vb_verb.Show)) (crash_behind_groups (ok (dead_line ∷ []) ∷ []) (ok []) (none_shown Role.Dead 5))
+dead = lawful_from_made (crash_behind (verb.AtVb 0 0 vb_verb.Dead ∷ []) Old [] (verb.AtVb 0 0 vb_verb.Show)) (crash_behind_groups (ok (dead_line ∷ []) ∷ []) (ok []) (none_shown Role.Dead 5)) refl
     (((record { another = λ e. cc; anew = λ e. cc }, tt), (refl, tt), refl), (((refl, tt), one_closed, refl), ((tt, ((λ v e. either_way v (λ t. absurd (not_active (rw t at e))) (λ f. absurd (no_role Role.Active (rw f at e)))), tt), refl), (((shown _ _ _ refl refl refl refl nothing refl refl as_made (λ _. refl) (λ e. cc), tt), tt, refl), tt))))
 
-pub dead_replica : LawfulAfter (crashed_after (verb.AtVb 0 0 vb_verb.Dead ∷ []) Old [] (verb.AtVb 0 0 vb_verb.Show)) (crashed_after_told (ok (dead_line ∷ []) ∷ []) (ok []) (none_shown Role.Replica 5)) → ⊥
+pub dead_replica : LawfulAfter (crash_behind (verb.AtVb 0 0 vb_verb.Dead ∷ []) Old [] (verb.AtVb 0 0 vb_verb.Show)) (crash_behind_groups (ok (dead_line ∷ []) ∷ []) (ok []) (none_shown Role.Replica 5)) → ⊥
 dead_replica l = let e : ◌≡◌ {A = Option Role} (Some Role.Dead) (Some Role.Replica) = l.1.1.1.1.1.1.1.0.0.0.role in cc
 
-pub dead_active : LawfulAfter (crashed_after (verb.AtVb 0 0 vb_verb.Dead ∷ []) Old [] (verb.AtVb 0 0 vb_verb.Show)) (crashed_after_told (ok (dead_line ∷ []) ∷ []) (ok []) (none_shown Role.Active 5)) → ⊥
+pub dead_active : LawfulAfter (crash_behind (verb.AtVb 0 0 vb_verb.Dead ∷ []) Old [] (verb.AtVb 0 0 vb_verb.Show)) (crash_behind_groups (ok (dead_line ∷ []) ∷ []) (ok []) (none_shown Role.Active 5)) → ⊥
 dead_active l = not_active l.1.1.1.1.1.1.1.0.0.0.role
 
-pub unnoted : LawfulAfter (dead_unnoted Old) (dead_unnoted_told (restarted 0) (none_shown Role.Active 7))
-unnoted = from_made (dead_unnoted Old) (dead_unnoted_told (restarted 0) (none_shown Role.Active 7)) refl
+pub unnoted : LawfulAfter (dead_unwritten Old) (dead_unwritten_groups (restarted 0) (none_shown Role.Active 7))
+unnoted = lawful_from_made (dead_unwritten Old) (dead_unwritten_groups (restarted 0) (none_shown Role.Active 7)) refl
     ((tt, tt, refl), (((record { another = λ e. cc; anew = λ e. cc }, (omega arith, tt)), (refl, (omega arith, omega arith)), refl), (((refl, tt), one_closed, refl), (((record { new = (λ e. omega arith, tt); newest = refl; last = refl; leaves = refl }, tt), ((λ v e. first v (branch_line 0 0 ∷ []) (λ f. no_role Role.Active (rw f at e)) (inl (refl, refl))), tt), refl), (((shown _ _ _ refl refl refl refl nothing refl refl as_made (λ _. refl) (λ _. refl), tt), tt, refl), tt)))))
 
-pub unnoted_dead : (at : ℕ) → LawfulAfter (dead_unnoted Old) (dead_unnoted_told (restarted at) (none_shown Role.Dead 7)) → ⊥
+pub unnoted_dead : (at : ℕ) → LawfulAfter (dead_unwritten Old) (dead_unwritten_groups (restarted at) (none_shown Role.Dead 7)) → ⊥
 unnoted_dead at l = let e : ◌≡◌ {A = Option Role} (Some Role.Active) (Some Role.Dead) = l.1.1.1.1.1.1.1.1.0.0.0.role in cc
 
-pub unnoted_silent : (last : List Event) (said : Answer) → LawfulAfter (dead_unnoted Old) (dead_unnoted_told (ok []) (last, said)) → ⊥
+pub unnoted_silent : (last : List Event) (said : Answer) → LawfulAfter (dead_unwritten Old) (dead_unwritten_groups (ok []) (last, said)) → ⊥
 unnoted_silent last said l = l.1.1.1.1.1.1.1.0.1.0 0 refl
 
-pub found : LawfulAfter (dead_unnoted New) (dead_unnoted_told (ok []) (none_shown Role.Dead 5))
-found = from_made (dead_unnoted New) (dead_unnoted_told (ok []) (none_shown Role.Dead 5)) refl
+pub found : LawfulAfter (dead_unwritten New) (dead_unwritten_groups (ok []) (none_shown Role.Dead 5))
+found = lawful_from_made (dead_unwritten New) (dead_unwritten_groups (ok []) (none_shown Role.Dead 5)) refl
     ((tt, tt, refl), (((record { another = λ e. cc; anew = λ e. cc }, (omega arith, tt)), (refl, (omega arith, omega arith)), refl), (((refl, tt), one_closed, refl), ((tt, ((λ v e. either_way v (λ t. absurd (not_active (rw t at e))) (λ f. absurd (no_role Role.Active (rw f at e)))), tt), refl), (((shown _ _ _ refl refl refl refl nothing refl refl as_made (λ _. refl) (λ e. cc), tt), tt, refl), tt)))))
 
-pub found_active : LawfulAfter (dead_unnoted New) (dead_unnoted_told (ok []) (none_shown Role.Active 5)) → ⊥
+pub found_active : LawfulAfter (dead_unwritten New) (dead_unwritten_groups (ok []) (none_shown Role.Active 5)) → ⊥
 found_active l = not_active l.1.1.1.1.1.1.1.1.0.0.0.role
 
-pub on_new : LawfulAfter set_after (set_after_told 7)
-on_new = from_made set_after (set_after_told 7) refl
+pub on_new : LawfulAfter set_restarted (set_restarted_groups 7)
+on_new = lawful_from_made set_restarted (set_restarted_groups 7) refl
     (taken, ((tt, ((refl, tt), (_, refl)), refl), (((refl, tt), one_closed, refl), (((record { new = (λ e. omega arith, tt); newest = refl; last = refl; leaves = refl }, tt), ((λ v e. first v (branch_line 0 1 ∷ []) (λ f. no_role Role.Active (rw f at e)) (inl (refl, refl))), tt), refl), ((tt, refl, refl), (((search arith, tt), refl, refl), tt))))))
 
-pub on_old : LawfulAfter set_after (set_after_told 5) → ⊥
+pub on_old : LawfulAfter set_restarted (set_restarted_groups 5) → ⊥
 on_old l = let e : ◌≡◌ {A = Option ℕ} (Some 7) (Some 5) = l.1.1.1.1.1.1.1.1.1.0.0.0.writer.on_branch in cc
 
 -- a prepare that was written down is committed as its node starts
@@ -342,8 +342,8 @@ of_waiting number doc deleted e = (cc, cc, cc)
 abbrev commits_told : List Event
 commits_told = branch_line 0 2 ∷ event.Changed 0 0 7 (commit_of 2) ∷ []
 
-pub commits : LawfulAfter seal_after (seal_after_told commits_told)
-commits = from_made seal_after (seal_after_told commits_told) refl (
+pub commits : LawfulAfter seal_restarted (seal_restarted_groups commits_told)
+commits = lawful_from_made seal_restarted (seal_restarted_groups commits_told) refl (
   (
     (
       record {
@@ -393,27 +393,27 @@ commits = from_made seal_after (seal_after_told commits_told) refl (
   ),
 )
 
-pub commits_on_old : LawfulAfter seal_after (seal_after_told (branch_line 0 2 ∷ event.Changed 0 0 5 (commit_of 2) ∷ [])) → ⊥
+pub commits_on_old : LawfulAfter seal_restarted (seal_restarted_groups (branch_line 0 2 ∷ event.Changed 0 0 5 (commit_of 2) ∷ [])) → ⊥
 commits_on_old l = let e : ◌≡◌ {A = Option ℕ} (Some 7) (Some 5) = l.1.1.1.1.1.1.1.1.0.0.1.0.writer.on_branch in cc
 
-pub commits_early : (uuid : ℕ) → LawfulAfter seal_after (seal_after_told (event.Changed 0 0 uuid (commit_of 2) ∷ branch_line 0 2 ∷ [])) → ⊥
+pub commits_early : (uuid : ℕ) → LawfulAfter seal_restarted (seal_restarted_groups (event.Changed 0 0 uuid (commit_of 2) ∷ branch_line 0 2 ∷ [])) → ⊥
 commits_early uuid l = not_active l.1.1.1.1.1.1.1.1.0.0.0.active
 
-pub commits_other : LawfulAfter seal_after (seal_after_told (branch_line 0 2 ∷ event.Changed 0 0 7 (commit_of 1) ∷ [])) → ⊥
+pub commits_other : LawfulAfter seal_restarted (seal_restarted_groups (branch_line 0 2 ∷ event.Changed 0 0 7 (commit_of 1) ∷ [])) → ⊥
 commits_other l =
     let x = l.1.1.1.1.1.1.1.1.0.0.1.0.fulfils 1 (first_doc 2 (6 ∷ [])) false refl in
     let found : Some waits ≡ Some x.0 = sym waits_there ∙ x.1 in
     let same : waits ≡ x.0 = cc in
     two_numbers 1 2 (omega arith) (sym (ap (λ (p : Pend). p.seq) same ∙ x.2))
 
-pub unmade : Lawful (made_under 1 New) (made_under_told (ok []) ([], answer.No cause.UnknownVb))
-unmade = whole empty_chronicle (made_under 1 New) (made_under_told (ok []) ([], answer.No cause.UnknownVb)) refl ((tt, tt, refl), ((tt, tt, refl), (((record { new = tt; newest = refl; last = refl; leaves = refl }, (record { another = λ e. cc; anew = λ e. refl }, (omega arith, tt))), (refl, (omega arith, omega arith)), refl), ((tt, (λ c. refl), refl), ((tt, ((λ v e. either_way v (λ t. absurd (no_role Role.Active (rw t at e))) (λ f. absurd (no_role Role.Active (rw f at e)))), tt), refl), ((tt, tt, refl), tt))))))
+pub unmade : Lawful (made_under 1 New) (made_under_groups (ok []) ([], answer.No cause.UnknownVb))
+unmade = whole empty_chronicle (made_under 1 New) (made_under_groups (ok []) ([], answer.No cause.UnknownVb)) refl ((tt, tt, refl), ((tt, tt, refl), (((record { new = tt; newest = refl; last = refl; leaves = refl }, (record { another = λ e. cc; anew = λ e. refl }, (omega arith, tt))), (refl, (omega arith, omega arith)), refl), ((tt, (λ c. refl), refl), ((tt, ((λ v e. either_way v (λ t. absurd (no_role Role.Active (rw t at e))) (λ f. absurd (no_role Role.Active (rw f at e)))), tt), refl), ((tt, tt, refl), tt))))))
 
-pub unmade_shown : (said : Role) (uuid : ℕ) → Lawful (made_under 1 New) (made_under_told (ok []) (none_shown said uuid)) → ⊥
+pub unmade_shown : (said : Role) (uuid : ℕ) → Lawful (made_under 1 New) (made_under_groups (ok []) (none_shown said uuid)) → ⊥
 unmade_shown said uuid l = no_role said l.1.1.1.1.1.0.0.0.role
 
-pub late : Lawful (made_under 4 New) (made_under_told (restarted 0) (none_shown Role.Active 7))
-late = whole empty_chronicle (made_under 4 New) (made_under_told (restarted 0) (none_shown Role.Active 7)) refl ((tt, tt, refl), ((tt, tt, refl), (((record { new = tt; newest = refl; last = refl; leaves = refl }, (record { another = λ e. cc; anew = λ e. refl }, (omega arith, tt))), (refl, (omega arith, omega arith)), refl), ((tt, (λ c. refl), refl), (((record { new = (λ e. omega arith, tt); newest = refl; last = refl; leaves = refl }, tt), ((λ v e. first v (branch_line 0 0 ∷ []) (λ f. no_role Role.Active (rw f at e)) (inl (refl, refl))), tt), refl), (((shown _ _ _ refl refl refl refl nothing refl refl as_made (λ _. refl) (λ _. refl), tt), tt, refl), tt))))))
+pub late : Lawful (made_under 4 New) (made_under_groups (restarted 0) (none_shown Role.Active 7))
+late = whole empty_chronicle (made_under 4 New) (made_under_groups (restarted 0) (none_shown Role.Active 7)) refl ((tt, tt, refl), ((tt, tt, refl), (((record { new = tt; newest = refl; last = refl; leaves = refl }, (record { another = λ e. cc; anew = λ e. refl }, (omega arith, tt))), (refl, (omega arith, omega arith)), refl), ((tt, (λ c. refl), refl), (((record { new = (λ e. omega arith, tt); newest = refl; last = refl; leaves = refl }, tt), ((λ v e. first v (branch_line 0 0 ∷ []) (λ f. no_role Role.Active (rw f at e)) (inl (refl, refl))), tt), refl), (((shown _ _ _ refl refl refl refl nothing refl refl as_made (λ _. refl) (λ _. refl), tt), tt, refl), tt))))))
 
-pub late_shown : (said : Role) (uuid : ℕ) → Lawful (made_under 4 Old) (made_under_told (ok []) (none_shown said uuid)) → ⊥
+pub late_shown : (said : Role) (uuid : ℕ) → Lawful (made_under 4 Old) (made_under_groups (ok []) (none_shown said uuid)) → ⊥
 late_shown said uuid l = no_role said l.1.1.1.1.1.0.0.0.role

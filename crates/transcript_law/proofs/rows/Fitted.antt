@@ -25,9 +25,9 @@ followed_fits = All-from_recursion (λ (line : ScriptLine). VerbFits line.verb) 
 set_readable : (key value : List ℕ) → IsKey key → IsValue value → Readable (set_frame key value)
 set_readable key value k v = search arith
 
-set_is : (key value : List ℕ) → IsKey key → IsValue value → IsCommand false (set_frame key value) (Write (set_write key value) None)
-set_is key value k v = search arith
+set_is_command : (key value : List ℕ) → IsKey key → IsValue value → IsCommand false (set_frame key value) (Write (set_write key value) None)
+set_is_command key value k v = search arith
 
 -- a line that sets a key asks for that write
 pub sets_ask : SetLinesAsk
-sets_ask key value k v = (one_frame (set_frame key value) (set_readable key value k v), spelled_is_read false (set_frame key value) (Write (set_write key value) None) (set_is key value k v))
+sets_ask key value k v = (one_frame (set_frame key value) (set_readable key value k v), spelled_is_read false (set_frame key value) (Write (set_write key value) None) (set_is_command key value k v))

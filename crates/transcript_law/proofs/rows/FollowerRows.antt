@@ -5,7 +5,7 @@ use Rattle.transcript_law.proofs.Words.{Sound, FollowsBranch, AreFollowed, start
 use Rattle.std.specs.FinMap.{get-empty}
 use Rattle.disk_journals.specs.Books.{Book}
 use Rattle.durability.specs.declared.waiting.Waiting.{Waiting}
-use Rattle.transcript_law.specs.{Contrary.{after_prepare}, Followers.{client_told, prepared_in, unbounded}, Plainness.{AreOwnIf, IsOwnIf}, Prefixes.{off_of_node}, Transcripts.{set_write}}
+use Rattle.transcript_law.specs.{Contrary.{after_prepare}, Followers.{client_world, prepared_in, unbounded}, Plainness.{AreOwnIf, IsOwnIf}, Prefixes.{off_of_node}, Transcripts.{set_write}}
 use Rattle.vb_calls.specs.Durable.{durable_refusal, outstanding}
 use Rattle.vb_calls.specs.Settling.{may_commit}
 use Rattle.vb_calls.specs.Shelves.{Shelf}
@@ -99,22 +99,22 @@ session_of m = new_session (record { node = m; client = 1; base = 0 })
 abbrev holder : ℕ → PlainNode
 holder m = record empty_node { clients = λ c. if c == 1 then Some (session_of m) else None }
 
-no_vb : (n m v : ℕ) (vb : Plain) → vb_in ((client_told m).nodes n) v ≡ Some vb → ⊥
+no_vb : (n m v : ℕ) (vb : Plain) → vb_in ((client_world m).nodes n) v ≡ Some vb → ⊥
 no_vb n m v vb = elim (n == 0) as (λ b. vb_in (if b then Some (holder m) else None) v ≡ Some vb → ⊥) [ true ↦ λ e. cc | false ↦ λ e. cc ]
 
-no_shelf : (n m v : ℕ) (shelf : Shelf) → shelf_in ((client_told m).nodes n) v ≡ Some shelf → ⊥
+no_shelf : (n m v : ℕ) (shelf : Shelf) → shelf_in ((client_world m).nodes n) v ≡ Some shelf → ⊥
 no_shelf n m v shelf = elim (n == 0) as (λ b. shelf_in (if b then Some (holder m) else None) v ≡ Some shelf → ⊥) [ true ↦ λ e. cc | false ↦ λ e. cc ]
 
-no_books : (n m : ℕ) (books : List Book) → off_of_node ((client_told m).nodes n) ≡ Some books → ⊥
+no_books : (n m : ℕ) (books : List Book) → off_of_node ((client_world m).nodes n) ≡ Some books → ⊥
 no_books n m books = elim (n == 0) as (λ b. off_of_node (if b then Some (holder m) else None) ≡ Some books → ⊥) [ true ↦ λ e. cc | false ↦ λ e. cc ]
 
-own_at : (n : ℕ) → AreOwnIf n ((client_told 0).nodes n)
+own_at : (n : ℕ) → AreOwnIf n ((client_world 0).nodes n)
 own_at n = elim (n == 0) as (λ b. (n == 0) ≡ b → AreOwnIf n (if b then Some (holder 0) else None)) [
   | true ↦ λ e c. elim (c == 1) as (λ b. IsOwnIf n (if b then Some (session_of 0) else None)) [ true ↦ sym (eqb-true n 0 e) | false ↦ tt ]
   | false ↦ λ e. tt
 ] refl
 
-pub own_client : AreFollowed empty_chronicle (client_told 0)
+pub own_client : AreFollowed empty_chronicle (client_world 0)
 own_client = record {
   each = λ n v vb e. absurd (no_vb n 0 v vb e);
   points = λ n v shelf e. absurd (no_shelf n 0 v shelf e);
@@ -124,5 +124,5 @@ own_client = record {
   own = own_at;
 }
 
-pub strange_client : AreFollowed empty_chronicle (client_told 1) → ⊥
+pub strange_client : AreFollowed empty_chronicle (client_world 1) → ⊥
 strange_client f = let e : ◌≡◌ {A = ℕ} 1 0 = f.own 0 1 in omega (arith, e)

@@ -2,12 +2,12 @@
 use Rattle.std.specs.Prelude.{◌≡◌, ◌<◌, ◌≤◌, ◌∷◌, ◌++◌, ◌==◌, ◌&&◌, if◌then◌else◌}
 use Rattle.transcript_law.proofs.Words.{ℕ, List, [], length, map, take, drop, refl, ap, sym, subst, ◌∙◌, ⊎_elim, inl, inr, arith, eqb-true, Option, Some, None}
 use Rattle.transcript_law.proofs.Words.{nat_list_cmp_total, key_cmp, Change, Pend, Event, LogEntry, Continue, Roll, Rises, IsIn, Picture, image_of, is_older, last_seq, StandsAs, IsOf, front, uuid_of, Covers, Branch}
-use Rattle.transcript_law.proofs.Words.{Role, rises_in, document_line, prepare_line, image_lines, ItemTold, Begun, Granted, Dial, Chronicle, granted, is_dial_of, empty_chronicle, after_lines, item_told}
-use Rattle.transcript_law.proofs.Words.{IsMarker, IsNextItem, LawfulAsk, LawfulMark, LawfulItem, LawfulFrom, Lawful, frames_told, first_doc, one_change, two_followed, next_change, log_of, ask_within}
-use Rattle.transcript_law.proofs.{Words.{granted_inside, after_both, made_from, marker_told, first_told, both_told}, rows.Transcripts.{no_entries, docs}, rows.Groups.{AreFired, AreTold, both}, verbs.Tellings.{all_pass}}
-use Rattle.{std.specs.List.{list_any}, branch_model.proofs.Lists.{last_in}, std.proofs.Common.{◌⊎◌}, std.specs.Prelude.{Bool, true, false}, transcript_law.specs.Followers.{ask_above, asked_told, other_asked, late_asked, granted_told}}
-use Rattle.transcript_law.specs.Followers.{adopted_told, stranger_told, ended_told, both_got, again_got, followed_told, dialed_elsewhere, made_dead, replica_asked, asked_of_made, set_told, next_told}
-use Rattle.{transcript_law.specs.Followers.{replica_shown, two_docs, third_doc, asked_so, answered_so, adopted_so, sent_so, got_so, shown_so}, transcript_law.specs.Chronicles.{is_rollback}, transcript_law.specs.Lawfulness.{IsFrontOf, IsStream}, transcript_law.specs.Prefixes.{told_after}}
+use Rattle.transcript_law.proofs.Words.{Role, rises_in, document_line, prepare_line, image_lines, ItemLine, Begun, Granted, Dial, Chronicle, granted, is_dial_of, empty_chronicle, after_lines, item_of_change}
+use Rattle.transcript_law.proofs.Words.{IsMarker, IsNextItem, LawfulAsk, LawfulMark, LawfulItem, LawfulFrom, Lawful, frames_in_lines, first_doc, one_change, two_followed, next_change, log_of, ask_within}
+use Rattle.transcript_law.proofs.{Words.{granted_inside, after_both, made_from, marker_line, first_item_line, both_sent_lines}, rows.Transcripts.{no_entries, docs}, rows.Groups.{AreFired, AreTold, both}, verbs.Tellings.{all_pass}}
+use Rattle.{std.specs.List.{list_any}, branch_model.proofs.Lists.{last_in}, std.proofs.Common.{◌⊎◌}, std.specs.Prelude.{Bool, true, false}, transcript_law.specs.Followers.{ask_above, ask_lines, other_ask_lines, late_ask_lines, granted_lines}}
+use Rattle.transcript_law.specs.Followers.{adopted_lines, stranger_lines, ended_lines, both_got, again_got, followed_groups, dialed_elsewhere, made_dead, replica_ask_lines, made_ask_lines, set_item_line, next_item_line}
+use Rattle.{transcript_law.specs.Followers.{replica_shown, two_docs, third_doc, ask_groups, answered_so, adopted_so, sent_so, got_so, shown_so}, transcript_law.specs.Chronicles.{is_rollback}, transcript_law.specs.Lawfulness.{IsFrontOf, IsStream}, transcript_law.specs.Prefixes.{known_after}}
 use Rattle.{transcript_law.specs.Bound.{IsAnswered, IsBound, bound_by, if_down, if_over, is_told_down}, transcript_law.specs.LineAnswers.{LawfulAnswer}, script_text.specs.declared.verb.Verb.{Verb}, vb_types.specs.Histories.{Slot, touches}, vb_types.specs.Images.{settled}, vb_events.specs.declared.event.Answer.{Answer}, vb_events.specs.declared.event.Group.{Group}}
 use Rattle.{vb_events.specs.declared.event.ItemAct.TheVariants.{Set}, vb_events.specs.declared.event.StreamName.TheVariants.{Link}}
 use Rattle.std.specs.FinMap as finite
@@ -34,11 +34,11 @@ image = image_of changes
 both_docs : finite.entries image.docs ≡ (7 ∷ [], first_doc 1 (8 ∷ [])) ∷ (9 ∷ [], first_doc 2 (6 ∷ [])) ∷ []
 both_docs = finite.entries-insert nat_list_cmp_total (image_of (one_change ∷ [])).docs (9 ∷ []) (first_doc 2 (6 ∷ [])) ∙ ap (λ es. finite.put key_cmp (9 ∷ []) (first_doc 2 (6 ∷ [])) es) docs
 
-none_settled : (seq : ℕ) (key : List ℕ) → settled finite.empty seq key ≡ finite.empty
-none_settled seq key = ap (λ o. if is_older seq o then finite.remove {R = key_cmp} finite.empty key else finite.empty) (finite.get-empty key_cmp key)
+nothing_settled : (seq : ℕ) (key : List ℕ) → settled finite.empty seq key ≡ finite.empty
+nothing_settled seq key = ap (λ o. if is_older seq o then finite.remove {R = key_cmp} finite.empty key else finite.empty) (finite.get-empty key_cmp key)
 
 no_pending : finite.entries image.pending ≡ []
-no_pending = ap (λ pends. finite.entries (settled pends 2 (9 ∷ []))) (none_settled 1 (7 ∷ [])) ∙ ap (λ (pends : finite.FinMap key_cmp Pend). finite.entries pends) (none_settled 2 (9 ∷ [])) ∙ no_entries Pend
+no_pending = ap (λ pends. finite.entries (settled pends 2 (9 ∷ []))) (nothing_settled 1 (7 ∷ [])) ∙ ap (λ (pends : finite.FinMap key_cmp Pend). finite.entries pends) (nothing_settled 2 (9 ∷ [])) ∙ no_entries Pend
 
 image_told : image_lines image ≡ two_docs
 image_told = ap (λ ds. map document_line ds ++ map prepare_line (finite.entries image.pending)) both_docs ∙ ap (λ ps. two_docs ++ map prepare_line ps) no_pending
@@ -91,29 +91,29 @@ tree = record { id = 5; parent = None; fork = 0; own = changes } ∷ []
 
 -- the stream after markers and items
 
-abbrev pub begun : ℕ → ℕ → List ItemTold → Begun
+abbrev pub begun : ℕ → ℕ → List ItemLine → Begun
 begun from end items = record { history = changes; from = from; end = end; items = items }
 
 abbrev pub streamed : Begun → Granted
 streamed b = record { ask = ask_above 0 0; log = log_of 5; place = b.end; last = Some b; over = false; marks = (b.from, b.end) ∷ []; coming = b.items; wrote = [] }
 
-abbrev pub first_item : ItemTold
-first_item = item_told one_change
+abbrev pub first_item : ItemLine
+first_item = item_of_change one_change
 
-abbrev pub next_item : ItemTold
-next_item = item_told next_change
+abbrev pub next_item : ItemLine
+next_item = item_of_change next_change
 
 -- a transcript is lawful that is so from the request on
 
 abbrev before_asked : Chronicle
-before_asked = told_after empty_chronicle (take 8 two_followed) (take 8 (asked_so []))
+before_asked = known_after empty_chronicle (take 8 two_followed) (take 8 (ask_groups []))
 
 abbrev pub own_dial : Dial
 own_dial = record { producer = 0; node = 1; vb = 0 }
 
 -- in front of each of its lines the link is dialed as it was, and in front of the last line its node runs
 abbrev behind : ℕ → List Group → Chronicle
-behind k told = told_after empty_chronicle (take k two_followed) (take k told)
+behind k told = known_after empty_chronicle (take k two_followed) (take k told)
 
 abbrev StaysSo : List Group → Type 0
 StaysSo told = ((behind 9 told).dial_of 1 ≡ Some own_dial) × ((behind 10 told).dial_of 1 ≡ Some own_dial) × ((behind 11 told).dial_of 1 ≡ Some own_dial) × (is_told_down (behind 12 told) 1 ≡ false)
@@ -122,48 +122,48 @@ StaysSo told = ((behind 9 told).dial_of 1 ≡ Some own_dial) × ((behind 10 told
 unbound : (r : Chronicle) (line : Verb) (lines : List Event) (said : Answer) → bound_by r line ≡ [] → LawfulAnswer r line lines said → IsAnswered r line lines said
 unbound r line lines said e rule = subst (λ whys. IsBound whys (LawfulAnswer r line lines said) lines said) (sym e) rule
 
-from_asked : (asked adopted sent got shown : List Event) → frames_told sent < 9 → (list_any is_rollback adopted ≡ true → ⊥) → (list_any is_rollback got ≡ true → ⊥) → StaysSo (followed_told asked adopted sent got shown) → AreTold before_asked (drop 8 two_followed) (drop 8 (followed_told asked adopted sent got shown))
-    → AreFired before_asked (drop 8 two_followed) (drop 8 (followed_told asked adopted sent got shown)) → Lawful two_followed (followed_told asked adopted sent got shown)
-from_asked asked adopted sent got shown few straight sound so l f = let told = followed_told asked adopted sent got shown in both empty_chronicle two_followed (followed_told asked adopted sent got shown) (λ i. all_pass asked i && (all_pass adopted i && (all_pass sent i && (all_pass got i && (all_pass shown i && true)))))
+from_asked : (asked adopted sent got shown : List Event) → frames_in_lines sent < 9 → (list_any is_rollback adopted ≡ true → ⊥) → (list_any is_rollback got ≡ true → ⊥) → StaysSo (followed_groups asked adopted sent got shown) → AreTold before_asked (drop 8 two_followed) (drop 8 (followed_groups asked adopted sent got shown))
+    → AreFired before_asked (drop 8 two_followed) (drop 8 (followed_groups asked adopted sent got shown)) → Lawful two_followed (followed_groups asked adopted sent got shown)
+from_asked asked adopted sent got shown few straight sound so l f = let told = followed_groups asked adopted sent got shown in both empty_chronicle two_followed (followed_groups asked adopted sent got shown) (λ i. all_pass asked i && (all_pass adopted i && (all_pass sent i && (all_pass got i && (all_pass shown i && true)))))
     (tt ▹ tt ▹ tt ▹ (record { new = tt; newest = refl; last = refl; leaves = refl } ▹ record { another = λ e. cc; anew = λ e. refl } ▹ tt) ▹ (record { another = λ e. cc; anew = λ e. cc } ▹ tt) ▹ (search arith ▹ tt) ▹ (search arith ▹ tt) ▹ tt ▹ l)
-    (tt ▹ tt ▹ refl ▹ (refl ▹ tt) ▹ (refl ▹ tt) ▹ refl ▹ refl ▹ tt ▹ omega arith ▹ unbound (behind 9 told) (verb.AtLink 1 (link_verb.Down 1000)) adopted (answer.Number 100) (ap if_over so.0) (omega arith, λ e. absurd (straight e)) ▹ unbound (behind 10 told) (verb.AtLink 1 (link_verb.Pump 9)) sent (answer.Pulled (frames_told sent) why.Idle) (ap if_over so.1) (record { told = refl; most = omega (arith, few); all = λ e. cc; only = λ e. absurd (omega (arith, few, e)) }) ▹ unbound (behind 11 told) (verb.AtLink 1 (link_verb.Down 1000)) got (answer.Number 100) (ap if_over so.2) (omega arith, λ e. absurd (sound e)) ▹ unbound (behind 12 told) (verb.AtVb 1 0 vb_verb.Show) shown answer.Ok (ap if_down so.3) tt ▹ tt)
+    (tt ▹ tt ▹ refl ▹ (refl ▹ tt) ▹ (refl ▹ tt) ▹ refl ▹ refl ▹ tt ▹ omega arith ▹ unbound (behind 9 told) (verb.AtLink 1 (link_verb.Down 1000)) adopted (answer.Number 100) (ap if_over so.0) (omega arith, λ e. absurd (straight e)) ▹ unbound (behind 10 told) (verb.AtLink 1 (link_verb.Pump 9)) sent (answer.Pulled (frames_in_lines sent) why.Idle) (ap if_over so.1) (record { told = refl; most = omega (arith, few); all = λ e. cc; only = λ e. absurd (omega (arith, few, e)) }) ▹ unbound (behind 11 told) (verb.AtLink 1 (link_verb.Down 1000)) got (answer.Number 100) (ap if_over so.2) (omega arith, λ e. absurd (sound e)) ▹ unbound (behind 12 told) (verb.AtVb 1 0 vb_verb.Show) shown answer.Ok (ap if_down so.3) tt ▹ tt)
     (refl ▹ refl ▹ refl ▹ refl ▹ refl ▹ refl ▹ refl ▹ refl ▹ f)
 
 -- the request of the empty replica is granted, and the log is taken over
 own_request : LawfulAsk before_asked 1 0 0 (ask_above 0 0) 2 (log_of 5) ask_answer.Go
 own_request = record { dialed = (1, refl); own_log = refl; own_high = refl; verdict = (refl, λ z. absurd (omega arith)); active = refl }
 
-pub asks : Lawful two_followed (asked_so granted_told)
-asks = from_asked granted_told [] [] [] [] (omega arith) (λ e. cc) (λ e. cc) (refl, refl, refl, refl) ((own_request, tt), (tt, (tt, (tt, (tt, tt))))) (refl ▹ refl ▹ refl ▹ refl ▹ refl ▹ tt)
+pub asks : Lawful two_followed (ask_groups granted_lines)
+asks = from_asked granted_lines [] [] [] [] (omega arith) (λ e. cc) (λ e. cc) (refl, refl, refl, refl) ((own_request, tt), (tt, (tt, (tt, (tt, tt))))) (refl ▹ refl ▹ refl ▹ refl ▹ refl ▹ tt)
 
 pub adopts : Lawful two_followed (adopted_so 5)
-adopts = from_asked granted_told (adopted_told 5) [] [] [] (omega arith) (λ e. cc) (λ e. cc) (refl, refl, refl, refl) ((own_request, tt), (((1, 0, own_stream, refl, refl, refl), tt), (tt, (tt, (tt, tt))))) (refl ▹ refl ▹ refl ▹ refl ▹ refl ▹ tt)
+adopts = from_asked granted_lines (adopted_lines 5) [] [] [] (omega arith) (λ e. cc) (λ e. cc) (refl, refl, refl, refl) ((own_request, tt), (((1, 0, own_stream, refl, refl, refl), tt), (tt, (tt, (tt, tt))))) (refl ▹ refl ▹ refl ▹ refl ▹ refl ▹ tt)
 
 -- both changes in one snapshot
 
 abbrev before_sent : Chronicle
-before_sent = after_lines before_asked (granted_told ++ adopted_told 5)
+before_sent = after_lines before_asked (granted_lines ++ adopted_lines 5)
 
-both_sent : LawfulFrom before_sent both_told
+both_sent : LawfulFrom before_sent both_sent_lines
 both_sent = (own_stream, (0, refl, refl), record { opens = refl; starts = refl; behind = tt; reaches = omega arith; whole = (changes, both_cover) }, refl)
     ▹ (streamed (begun 0 2 []), begun 0 2 [], (0, refl, refl), refl, refl, (next_change ∷ [], record { whole = changes; covers = both_cover; front = refl }, λ e. absurd (omega arith)))
     ▹ (streamed (begun 0 2 (first_item ∷ [])), begun 0 2 (first_item ∷ []), (0, refl, refl), refl, refl, ([], record { whole = changes; covers = both_cover; front = refl }, λ e. refl)) ▹ tt
 
-pub whole : Lawful two_followed (sent_so both_told)
-whole = from_asked granted_told (adopted_told 5) both_told [] [] (omega arith) (λ e. cc) (λ e. cc) (refl, refl, refl, refl) ((own_request, tt), (((1, 0, own_stream, refl, refl, refl), tt), (both_sent, (tt, (tt, tt))))) (refl ▹ refl ▹ refl ▹ refl ▹ refl ▹ tt)
+pub whole : Lawful two_followed (sent_so both_sent_lines)
+whole = from_asked granted_lines (adopted_lines 5) both_sent_lines [] [] (omega arith) (λ e. cc) (λ e. cc) (refl, refl, refl, refl) ((own_request, tt), (((1, 0, own_stream, refl, refl, refl), tt), (both_sent, (tt, (tt, tt))))) (refl ▹ refl ▹ refl ▹ refl ▹ refl ▹ tt)
 
 pub right : Lawful two_followed (shown_so (replica_shown 2 two_docs))
-right = from_asked granted_told (adopted_told 5) both_told both_got (replica_shown 2 two_docs) (omega arith) (λ e. cc) (λ e. cc) (refl, refl, refl, refl)
+right = from_asked granted_lines (adopted_lines 5) both_sent_lines both_got (replica_shown 2 two_docs) (omega arith) (λ e. cc) (λ e. cc) (refl, refl, refl, refl)
     ((own_request ▹ tt) ▹ ((1, 0, own_stream, refl, refl, refl) ▹ tt) ▹ both_sent
     ▹ (record { ends = omega arith; put = (1, streamed (begun 0 2 (first_item ∷ next_item ∷ [])), (0, refl, refl, refl), (0, [], refl, refl), (next_change, inr (inl refl), refl)) }
     ▹ record { above = omega arith; put = (_, (0, refl, refl, refl), (one_change, inl refl, inl refl), (next_item ∷ [], refl)) }
     ▹ record { above = omega arith; put = (_, (0, refl, refl, refl), (next_change, inr (inl refl), inl refl), ([], refl)) } ▹ tt)
-    ▹ (record { role = refl; newest = refl; at = refl; snapshot = refl; left = sym image_told; docs_left = sym (ap length both_docs); preps_left = sym (ap length no_pending); complete = λ _. record { lines = sym image_told; docs_told = sym (ap length both_docs); preps_told = sym (ap length no_pending); shared = λ _. refl; active = λ e. cc } }
+    ▹ (record { role = refl; newest = refl; at = refl; snapshot = refl; left = sym image_told; docs_left = sym (ap length both_docs); preps_left = sym (ap length no_pending); complete = λ _. record { lines = sym image_told; docs_shown = sym (ap length both_docs); preps_shown = sym (ap length no_pending); shared = λ _. refl; active = λ e. cc } }
     ▹ tt ▹ tt ▹ tt) ▹ tt) (refl ▹ refl ▹ refl ▹ refl ▹ refl ▹ tt)
 
 -- each change in a snapshot of its own
-pub parts : Lawful two_followed (sent_so (marker_told 0 1 ∷ first_told ∷ marker_told 1 2 ∷ next_told ∷ []))
-parts = from_asked granted_told (adopted_told 5) (marker_told 0 1 ∷ first_told ∷ marker_told 1 2 ∷ next_told ∷ []) [] [] (omega arith) (λ e. cc) (λ e. cc) (refl, refl, refl, refl)
+pub parts : Lawful two_followed (sent_so (marker_line 0 1 ∷ first_item_line ∷ marker_line 1 2 ∷ next_item_line ∷ []))
+parts = from_asked granted_lines (adopted_lines 5) (marker_line 0 1 ∷ first_item_line ∷ marker_line 1 2 ∷ next_item_line ∷ []) [] [] (omega arith) (λ e. cc) (λ e. cc) (refl, refl, refl, refl)
     ((own_request ▹ tt) ▹ ((1, 0, own_stream, refl, refl, refl) ▹ tt)
     ▹ ((own_stream, (0, refl, refl), record { opens = refl; starts = refl; behind = tt; reaches = omega arith; whole = (one_change ∷ [], first_covers) }, refl)
     ▹ (streamed (begun 0 1 []), begun 0 1 [], (0, refl, refl), refl, refl, ([], record { whole = one_change ∷ []; covers = first_covers; front = refl }, λ e. refl))
@@ -177,29 +177,29 @@ dialed_vb : Option Dial → ℕ
 dialed_vb None = 0
 dialed_vb (Some d) = d.vb
 
-pub log : Lawful two_followed (asked_so (asked_told (ask_above 0 0) 2 (log_of 6) ask_answer.Go)) → ⊥
+pub log : Lawful two_followed (ask_groups (ask_lines (ask_above 0 0) 2 (log_of 6) ask_answer.Go)) → ⊥
 log l = let e : ◌≡◌ {A = ℕ} 5 6 = ap (λ es. uuid_of (front es)) l.1.1.1.1.1.1.1.1.0.0.0.own_log in omega arith
 
-pub high : Lawful two_followed (asked_so (asked_told (ask_above 0 0) 3 (log_of 5) ask_answer.Go)) → ⊥
+pub high : Lawful two_followed (ask_groups (ask_lines (ask_above 0 0) 3 (log_of 5) ask_answer.Go)) → ⊥
 high l = let e : ◌≡◌ {A = ℕ} 3 2 = l.1.1.1.1.1.1.1.1.0.0.0.own_high in omega arith
 
-pub unknown : Lawful two_followed (asked_so (asked_told (ask_above 1 9) 2 (log_of 5) ask_answer.Go)) → ⊥
+pub unknown : Lawful two_followed (ask_groups (ask_lines (ask_above 1 9) 2 (log_of 5) ask_answer.Go)) → ⊥
 unknown l = let e : Roll 0 ≡ Continue = l.1.1.1.1.1.1.1.1.0.0.0.verdict.0 in cc
 
-pub ahead : Lawful two_followed (asked_so (asked_told (ask_above 3 5) 2 (log_of 5) ask_answer.Go)) → ⊥
+pub ahead : Lawful two_followed (ask_groups (ask_lines (ask_above 3 5) 2 (log_of 5) ask_answer.Go)) → ⊥
 ahead l = let e : Roll 2 ≡ Continue = l.1.1.1.1.1.1.1.1.0.0.0.verdict.0 in cc
 
-pub back : Lawful two_followed (asked_so (asked_told (ask_above 0 0) 2 (log_of 5) (ask_answer.Roll 0))) → ⊥
+pub back : Lawful two_followed (ask_groups (ask_lines (ask_above 0 0) 2 (log_of 5) (ask_answer.Roll 0))) → ⊥
 back l = let e : Continue ≡ Roll 0 = l.1.1.1.1.1.1.1.1.0.0.0.verdict.0 in cc
 
-pub other : Lawful two_followed (asked_so other_asked) → ⊥
+pub other : Lawful two_followed (ask_groups other_ask_lines) → ⊥
 unfolding dialed_vb
 other l = let d = l.1.1.1.1.1.1.1.1.0.0.0.dialed in let e : ◌≡◌ {A = ℕ} 0 1 = ap dialed_vb d.1 in omega arith
 
-pub late : Lawful two_followed (asked_so late_asked) → ⊥
+pub late : Lawful two_followed (ask_groups late_ask_lines) → ⊥
 late l = let e = l.1.1.1.1.1.1.1.1.0.0.1.0.dialed.1 in cc
 
-pub nameless : Lawful two_followed (asked_so (asked_told (ask_above 0 0) 2 (log_of 5) (ask_answer.Refuse 0))) → ⊥
+pub nameless : Lawful two_followed (ask_groups (ask_lines (ask_above 0 0) 2 (log_of 5) (ask_answer.Refuse 0))) → ⊥
 nameless l = l.1.1.1.1.1.1.1.1.0.0.0.verdict refl
 
 -- the log that the link's producer told is the one to take over
@@ -220,7 +220,7 @@ adopted l =
 
 -- a vBucket that did not dial the link takes no log over
 
-pub stranger_takes : Lawful two_followed (answered_so stranger_told) → ⊥
+pub stranger_takes : Lawful two_followed (answered_so stranger_lines) → ⊥
 unfolding dialed_vb
 stranger_takes l = let (k, m, g, dialed, told, same) = l.1.1.1.1.1.1.1.1.1.0.0.0 in by (k == 1) m dialed
   where
@@ -234,7 +234,7 @@ none_left : (k : ℕ) (g : Granted) → (if k == 1 then None else link_stream k)
 unfolding link_stream
 none_left k g = elim (k == 1) as (λ b. (if b then None else if b && true then Some own_stream else if b then None else None) ≡ Some g → ⊥) [ true ↦ (λ e. cc) | false ↦ (λ e. cc) ]
 
-pub ended : Lawful two_followed (answered_so ended_told) → ⊥
+pub ended : Lawful two_followed (answered_so ended_lines) → ⊥
 unfolding link_stream
 ended l = let (k, m, g, dialed, told, same) = l.1.1.1.1.1.1.1.1.1.0.0.1.0 in none_left k g told
 
@@ -253,14 +253,14 @@ stream_is r g h dialed told (v, is, has) =
 marker_of : (r : Chronicle) (g : Granted) (start end : ℕ) → r.dial_of 1 ≡ Some own_dial → r.stream_of (Link 1) 0 ≡ Some g → LawfulMark r (Link 1) start end 1 → IsMarker r.tree g start end
 marker_of r g start end dialed told (h, stream, m, flags) = subst (λ x. IsMarker r.tree x start end) (sym (stream_is r g h dialed told stream)) m
 
-item_of : (r : Chronicle) (b : Begun) (item : ItemTold) → r.dial_of 1 ≡ Some own_dial → r.stream_of (Link 1) 0 ≡ Some (streamed b) → LawfulItem r (Link 1) item → IsNextItem b item
+item_of : (r : Chronicle) (b : Begun) (item : ItemLine) → r.dial_of 1 ≡ Some own_dial → r.stream_of (Link 1) 0 ≡ Some (streamed b) → LawfulItem r (Link 1) item → IsNextItem b item
 item_of r b item dialed told (g, c, stream, opens, last, next) =
     let o : Some b ≡ Some c = ap (λ (x : Granted). x.last) (stream_is r (streamed b) g dialed told stream) ∙ last in let e : b ≡ c = cc in
     subst (λ x. IsNextItem x item) (sym e) next
 
 -- markers that are not lawful
 
-pub start : Lawful two_followed (sent_so (marker_told 1 2 ∷ first_told ∷ next_told ∷ [])) → ⊥
+pub start : Lawful two_followed (sent_so (marker_line 1 2 ∷ first_item_line ∷ next_item_line ∷ [])) → ⊥
 start l = let e : ◌≡◌ {A = ℕ} 1 0 = (marker_of before_sent own_stream 1 2 refl refl l.1.1.1.1.1.1.1.1.1.1.0.0.0).starts in omega arith
 
 seq_of : (x : Change) → IsOf changes x → x.seq ≤ 2
@@ -271,65 +271,65 @@ ends_within : (n : ℕ) (xs : List Change) → n ≤ 2 → ((x : Change) → IsI
 ends_within n [] l of = l
 ends_within n (x ∷ xs) l of = ends_within x.seq xs (seq_of x (of x (inl refl))) (λ y i. of y (inr i))
 
-pub beyond : Lawful two_followed (sent_so (marker_told 0 3 ∷ [])) → ⊥
+pub beyond : Lawful two_followed (sent_so (marker_line 0 3 ∷ [])) → ⊥
 beyond l =
     let (xs, covers) = (marker_of before_sent own_stream 0 3 refl refl l.1.1.1.1.1.1.1.1.1.1.0.0.0).whole in
     let least : last_seq 0 xs ≤ 2 = ends_within 0 xs (omega arith) covers.remains.of in let e : last_seq 0 xs ≡ 3 = covers.reaches in omega arith
 
-none_put : (xs : List Change) → map item_told xs ≡ [] → last_seq 0 xs ≡ 1 → ⊥
+none_put : (xs : List Change) → map item_of_change xs ≡ [] → last_seq 0 xs ≡ 1 → ⊥
 none_put [] e r = omega arith
 none_put (x ∷ xs) e r = cc
 
-pub unput : Lawful two_followed (sent_so (marker_told 0 1 ∷ marker_told 1 2 ∷ next_told ∷ [])) → ⊥
+pub unput : Lawful two_followed (sent_so (marker_line 0 1 ∷ marker_line 1 2 ∷ next_item_line ∷ [])) → ⊥
 unput l =
-    let b : IsFrontOf (begun 0 1 []) [] [] = (marker_of (after_lines before_sent (marker_told 0 1 ∷ [])) (streamed (begun 0 1 [])) 1 2 refl refl l.1.1.1.1.1.1.1.1.1.1.0.0.1.0).behind in
+    let b : IsFrontOf (begun 0 1 []) [] [] = (marker_of (after_lines before_sent (marker_line 0 1 ∷ [])) (streamed (begun 0 1 [])) 1 2 refl refl l.1.1.1.1.1.1.1.1.1.1.0.0.1.0).behind in
     none_put b.whole b.front b.covers.reaches
 
 -- items that are not lawful
 
-first_is : (whole : List Change) (item : ItemTold) (rest : List ItemTold) → map item_told whole ≡ item ∷ rest → (x : Change) × (xs : List Change) × (whole ≡ x ∷ xs) × (item_told x ≡ item)
+first_is : (whole : List Change) (item : ItemLine) (rest : List ItemLine) → map item_of_change whole ≡ item ∷ rest → (x : Change) × (xs : List Change) × (whole ≡ x ∷ xs) × (item_of_change x ≡ item)
 first_is [] item rest e = cc
 first_is (x ∷ xs) item rest e = (x, xs, refl, cc)
 
-pub key : Lawful two_followed (sent_so (marker_told 0 2 ∷ set_told 1 (9 ∷ []) ∷ [])) → ⊥
+pub key : Lawful two_followed (sent_so (marker_line 0 2 ∷ set_item_line 1 (9 ∷ []) ∷ [])) → ⊥
 key l =
-    let (more, f, ends) = item_of (after_lines before_sent (marker_told 0 2 ∷ [])) (begun 0 2 []) (record { seq = 1; act = Set; key = 9 ∷ [] }) refl refl l.1.1.1.1.1.1.1.1.1.1.0.0.1.0 in
-    let (x, xs, whole, item) = first_is f.whole (record { seq = 1; act = Set; key = 9 ∷ [] }) (map item_told more) f.front in
+    let (more, f, ends) = item_of (after_lines before_sent (marker_line 0 2 ∷ [])) (begun 0 2 []) (record { seq = 1; act = Set; key = 9 ∷ [] }) refl refl l.1.1.1.1.1.1.1.1.1.1.0.0.1.0 in
+    let (x, xs, whole, item) = first_is f.whole (record { seq = 1; act = Set; key = 9 ∷ [] }) (map item_of_change more) f.front in
     let (c, i, stands) = f.covers.remains.of x (subst (λ ys. IsIn x ys) (sym whole) (inl refl)) in
     let s : x.seq ≡ c.seq = seq_as x c stands in let k : x.key ≡ c.key = key_as x c stands in
-    let n : x.seq ≡ 1 = ap (λ (y : ItemTold). y.seq) item in let nine : x.key ≡ 9 ∷ [] = ap (λ (y : ItemTold). y.key) item in
+    let n : x.seq ≡ 1 = ap (λ (y : ItemLine). y.seq) item in let nine : x.key ≡ 9 ∷ [] = ap (λ (y : ItemLine). y.key) item in
     ⊎_elim (λ one. let seven : c.key ≡ 7 ∷ [] = ap (λ (y : Change). y.key) one in let e : ◌≡◌ {A = List ℕ} (9 ∷ []) (7 ∷ []) = sym nine ∙ k ∙ seven in cc)
     (λ next. let two : c.seq ≡ 2 = ap (λ (y : Change). y.seq) next in omega arith) (one_of c i)
 
-pub skipped : Lawful two_followed (sent_so (marker_told 0 2 ∷ next_told ∷ [])) → ⊥
+pub skipped : Lawful two_followed (sent_so (marker_line 0 2 ∷ next_item_line ∷ [])) → ⊥
 skipped l =
-    let (more, f, ends) = item_of (after_lines before_sent (marker_told 0 2 ∷ [])) (begun 0 2 []) next_item refl refl l.1.1.1.1.1.1.1.1.1.1.0.0.1.0 in
-    let (x, xs, whole, item) = first_is f.whole next_item (map item_told more) f.front in
+    let (more, f, ends) = item_of (after_lines before_sent (marker_line 0 2 ∷ [])) (begun 0 2 []) next_item refl refl l.1.1.1.1.1.1.1.1.1.1.0.0.1.0 in
+    let (x, xs, whole, item) = first_is f.whole next_item (map item_of_change more) f.front in
     let (y, i, stands) = f.covers.remains.has (Slot.Committed (7 ∷ [])) one_change refl (omega arith) (omega arith) in
-    let s : y.seq ≡ 1 = seq_as y one_change stands in let n : x.seq ≡ 2 = ap (λ (z : ItemTold). z.seq) item in
+    let s : y.seq ≡ 1 = seq_as y one_change stands in let n : x.seq ≡ 2 = ap (λ (z : ItemLine). z.seq) item in
     let rises : Rises 0 2 (x ∷ xs) = subst (λ ys. Rises 0 2 ys) whole f.covers.remains.rises in
     let j : IsIn y (x ∷ xs) = subst (λ ys. IsIn y ys) whole i in
     ⊎_elim (λ same. let q : y.seq ≡ x.seq = ap (λ (z : Change). z.seq) same in omega arith) (λ later. let q : x.seq < y.seq = (rises_in x.seq 2 xs y rises.1 later).0 in omega arith) j
 
-second_is : (whole : List Change) (a b : ItemTold) (rest : List ItemTold) → map item_told whole ≡ a ∷ b ∷ rest → Rises 0 2 whole → a.seq < b.seq
+second_is : (whole : List Change) (a b : ItemLine) (rest : List ItemLine) → map item_of_change whole ≡ a ∷ b ∷ rest → Rises 0 2 whole → a.seq < b.seq
 second_is [] a b rest e r = cc
 second_is (x ∷ []) a b rest e r = cc
 second_is (x ∷ y ∷ ys) a b rest e r =
-    let first : item_told x ≡ a = cc in let next : item_told y ≡ b = cc in
-    let m : x.seq ≡ a.seq = ap (λ (z : ItemTold). z.seq) first in let n : y.seq ≡ b.seq = ap (λ (z : ItemTold). z.seq) next in let l : x.seq < y.seq = r.1.0 in omega arith
+    let first : item_of_change x ≡ a = cc in let next : item_of_change y ≡ b = cc in
+    let m : x.seq ≡ a.seq = ap (λ (z : ItemLine). z.seq) first in let n : y.seq ≡ b.seq = ap (λ (z : ItemLine). z.seq) next in let l : x.seq < y.seq = r.1.0 in omega arith
 
-pub twice : Lawful two_followed (sent_so (marker_told 0 2 ∷ first_told ∷ first_told ∷ [])) → ⊥
+pub twice : Lawful two_followed (sent_so (marker_line 0 2 ∷ first_item_line ∷ first_item_line ∷ [])) → ⊥
 twice l =
-    let (more, f, ends) = item_of (after_lines before_sent (marker_told 0 2 ∷ first_told ∷ [])) (begun 0 2 (first_item ∷ [])) first_item refl refl l.1.1.1.1.1.1.1.1.1.1.0.0.1.1.0 in
-    let e : ◌<◌ 1 1 = second_is f.whole first_item first_item (map item_told more) f.front f.covers.remains.rises in omega arith
+    let (more, f, ends) = item_of (after_lines before_sent (marker_line 0 2 ∷ first_item_line ∷ [])) (begun 0 2 (first_item ∷ [])) first_item refl refl l.1.1.1.1.1.1.1.1.1.1.0.0.1.1.0 in
+    let e : ◌<◌ 1 1 = second_is f.whole first_item first_item (map item_of_change more) f.front f.covers.remains.rises in omega arith
 
 -- what the replica is not to be shown with
 
 pub more : Lawful two_followed (shown_so (replica_shown 3 (two_docs ++ third_doc))) → ⊥
-more l = let e : ◌≡◌ {A = ℕ} 3 2 = (l.1.1.1.1.1.1.1.1.1.1.1.1.0.0.0.complete refl).docs_told ∙ ap length both_docs in omega arith
+more l = let e : ◌≡◌ {A = ℕ} 3 2 = (l.1.1.1.1.1.1.1.1.1.1.1.1.0.0.0.complete refl).docs_shown ∙ ap length both_docs in omega arith
 
 pub missing : Lawful two_followed (shown_so (replica_shown 1 (take 1 two_docs))) → ⊥
-missing l = let e : ◌≡◌ {A = ℕ} 1 2 = (l.1.1.1.1.1.1.1.1.1.1.1.1.0.0.0.complete refl).docs_told ∙ ap length both_docs in omega arith
+missing l = let e : ◌≡◌ {A = ℕ} 1 2 = (l.1.1.1.1.1.1.1.1.1.1.1.1.0.0.0.complete refl).docs_shown ∙ ap length both_docs in omega arith
 
 pub another : Lawful two_followed (shown_so (replica_shown 2 (take 1 two_docs ++ third_doc))) → ⊥
 another l =
@@ -340,55 +340,55 @@ another l =
 inside_stream : ℕ → Granted
 inside_stream se = granted (ask_within 0 1 se 5) (log_of 5)
 
-pub inside : LawfulFrom (granted_inside 2) (marker_told 0 2 ∷ [])
+pub inside : LawfulFrom (granted_inside 2) (marker_line 0 2 ∷ [])
 unfolding inside_stream
 inside = ((inside_stream 2, (0, refl, refl), record { opens = refl; starts = refl; behind = tt; reaches = omega arith; whole = (next_change ∷ [], next_covers) }, refl), tt)
 
-pub later_start : LawfulFrom (granted_inside 2) (marker_told 1 2 ∷ []) → ⊥
+pub later_start : LawfulFrom (granted_inside 2) (marker_line 1 2 ∷ []) → ⊥
 unfolding inside_stream
 later_start l = let e : ◌≡◌ {A = ℕ} 1 0 = (marker_of (granted_inside 2) (inside_stream 2) 1 2 refl refl l.0).starts in omega arith
 
-pub short : LawfulFrom (granted_inside 3) (marker_told 0 2 ∷ []) → ⊥
+pub short : LawfulFrom (granted_inside 3) (marker_line 0 2 ∷ []) → ⊥
 unfolding inside_stream
 short l = let e : ◌≤◌ 3 2 = (marker_of (granted_inside 3) (inside_stream 3) 0 2 refl refl l.0).reaches in omega arith
 
 -- a stream is that of the vBucket that its link dials for
-pub elsewhere : LawfulFrom dialed_elsewhere (marker_told 0 2 ∷ []) → ⊥
+pub elsewhere : LawfulFrom dialed_elsewhere (marker_line 0 2 ∷ []) → ⊥
 elsewhere l =
     let (g, (v, is, has), marker, flags) = l.0 in let at : 1 ≡ v = eqb-true 1 v is in
     let none : ◌≡◌ {A = Option Granted} None (Some g) = ap (dialed_elsewhere.stream_of (Link 1)) at ∙ has in cc
 
 -- a vBucket that was put on a branch made from its own, or from another
 
-pub continues : LawfulFrom (made_from 5) (asked_of_made 1 ask_answer.Go)
+pub continues : LawfulFrom (made_from 5) (made_ask_lines 1 ask_answer.Go)
 continues = (record { dialed = (1, refl); own_log = refl; own_high = refl; verdict = (refl, λ z. refl); active = refl }, tt)
 
-pub rolls : LawfulFrom (made_from 5) (asked_of_made 2 (ask_answer.Roll 1))
+pub rolls : LawfulFrom (made_from 5) (made_ask_lines 2 (ask_answer.Roll 1))
 rolls = (record { dialed = (1, refl); own_log = refl; own_high = refl; verdict = (refl, λ z. refl); active = refl }, tt)
 
 -- a vBucket that is dead does neither
 dead_grants : ◌≡◌ {A = Option (Option Role)} (Some (Some Role.Dead)) (Some (Some Role.Active)) → ⊥
 dead_grants e = let same : Role.Dead ≡ Role.Active = cc in cc
 
-pub dead_continues : LawfulFrom made_dead (asked_of_made 1 ask_answer.Go) → ⊥
+pub dead_continues : LawfulFrom made_dead (made_ask_lines 1 ask_answer.Go) → ⊥
 dead_continues l = dead_grants l.0.active
 
-pub dead_rolls : LawfulFrom made_dead (asked_of_made 2 (ask_answer.Roll 1)) → ⊥
+pub dead_rolls : LawfulFrom made_dead (made_ask_lines 2 (ask_answer.Roll 1)) → ⊥
 dead_rolls l = dead_grants l.0.active
 
-pub dead_refuses : LawfulFrom made_dead (asked_of_made 1 (ask_answer.Refuse 7))
+pub dead_refuses : LawfulFrom made_dead (made_ask_lines 1 (ask_answer.Refuse 7))
 dead_refuses = (record { dialed = (1, refl); own_log = refl; own_high = refl; verdict = λ e. absurd (omega arith); active = tt }, tt)
 
-pub stranger : LawfulFrom (made_from 6) (asked_of_made 1 ask_answer.Go) → ⊥
+pub stranger : LawfulFrom (made_from 6) (made_ask_lines 1 ask_answer.Go) → ⊥
 stranger l = let e : ◌≡◌ {A = List Change} (one_change ∷ []) [] = l.0.verdict.1 (omega arith) in cc
 
-pub rolls_stranger : LawfulFrom (made_from 6) (asked_of_made 2 (ask_answer.Roll 1)) → ⊥
+pub rolls_stranger : LawfulFrom (made_from 6) (made_ask_lines 2 (ask_answer.Roll 1)) → ⊥
 rolls_stranger l = let e : ◌≡◌ {A = List Change} (one_change ∷ []) [] = l.0.verdict.1 (omega arith) in cc
 
 -- a replica that is asked itself
 
-pub onward : LawfulFrom after_both (replica_asked 2)
+pub onward : LawfulFrom after_both (replica_ask_lines 2)
 onward = (record { dialed = (2, refl); own_log = refl; own_high = refl; verdict = λ e. absurd (omega arith); active = tt }, tt)
 
-pub onward_none : LawfulFrom after_both (replica_asked 0) → ⊥
+pub onward_none : LawfulFrom after_both (replica_ask_lines 0) → ⊥
 onward_none l = let e : ◌≡◌ {A = ℕ} 0 2 = l.0.own_high in omega arith

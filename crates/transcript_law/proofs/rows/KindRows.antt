@@ -45,16 +45,16 @@ meets_journal line noted = record {
 
 -- ---- arms
 
-some_none : (line : Event) (lines : List Event) → line ∷ lines ≡ [] → ⊥
-some_none line lines e = cc
+some_is_not_none : (line : Event) (lines : List Event) → line ∷ lines ≡ [] → ⊥
+some_is_not_none line lines e = cc
 
 pub fires_nothing : (line : Verb) → ((chronicle : Chronicle) (lines : List Event) (said : Answer) → FiresInLine chronicle line lines said → FiresAsSaid None lines said) → FiresNothing line
 fires_nothing line none = record {
   disk = λ chronicle lines l. none chronicle lines (Answer.No Cause.Disk) l.0.2;
   stopped = λ chronicle lines l. none chronicle lines (Answer.No Cause.Stopped) l.0.2;
-  call = λ chronicle n lines said l. some_none (Event.CallFailed n) (mishaps lines) (spared_calm (record { events = Event.CallFailed n ∷ lines; answer = said }) (none chronicle (Event.CallFailed n ∷ lines) said l.0.2));
-  stop = λ chronicle n lines said l. some_none (Event.NodeStopped n) (mishaps lines) (spared_calm (record { events = Event.NodeStopped n ∷ lines; answer = said }) (none chronicle (Event.NodeStopped n ∷ lines) said l.0.2));
-  back = λ chronicle n v named to lines said l. some_none (Event.Rolled n v named to) (mishaps lines) (spared_calm (record { events = Event.Rolled n v named to ∷ lines; answer = said }) (none chronicle (Event.Rolled n v named to ∷ lines) said l.0.2));
+  call = λ chronicle n lines said l. some_is_not_none (Event.CallFailed n) (mishaps lines) (spared_calm (record { events = Event.CallFailed n ∷ lines; answer = said }) (none chronicle (Event.CallFailed n ∷ lines) said l.0.2));
+  stop = λ chronicle n lines said l. some_is_not_none (Event.NodeStopped n) (mishaps lines) (spared_calm (record { events = Event.NodeStopped n ∷ lines; answer = said }) (none chronicle (Event.NodeStopped n ∷ lines) said l.0.2));
+  back = λ chronicle n v named to lines said l. some_is_not_none (Event.Rolled n v named to) (mishaps lines) (spared_calm (record { events = Event.Rolled n v named to ∷ lines; answer = said }) (none chronicle (Event.Rolled n v named to ∷ lines) said l.0.2));
 }
 
 -- the node of a line that tells of an arm
@@ -73,5 +73,5 @@ fires_at n line at = record {
   unstopped = λ chronicle l. none_some (Event.NodeStopped n) [] (at chronicle [] (Answer.No Cause.Stopped) l.0.2);
   elsewhere = λ chronicle m lines other l. other (ap node_of (at chronicle (Event.CallFailed m ∷ lines) (Answer.No Cause.Disk) l.0.2));
   stopped_elsewhere = λ chronicle m lines other l. other (ap node_of (at chronicle (Event.NodeStopped m ∷ lines) (Answer.No Cause.Stopped) l.0.2));
-  ok = λ chronicle m lines l. some_none (Event.CallFailed m) (mishaps lines) (at chronicle (Event.CallFailed m ∷ lines) Answer.Ok l.0.2);
+  ok = λ chronicle m lines l. some_is_not_none (Event.CallFailed m) (mishaps lines) (at chronicle (Event.CallFailed m ∷ lines) Answer.Ok l.0.2);
 }

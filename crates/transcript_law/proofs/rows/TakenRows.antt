@@ -1,9 +1,9 @@
 -- what a replica takes, judged by hand
 use Rattle.std.specs.Prelude.{◌≡◌, ◌≤◌, ◌∷◌, ◌++◌, ◌==◌, if◌then◌else◌}
-use Rattle.transcript_law.proofs.Words.{ℕ, List, [], min, refl, ap, sym, ◌∙◌, subst, ⊎_elim, inl, inr, arith, Option, Some, None, eqb-true, Change, IsIn, StandsAs, ItemTold}
-use Rattle.transcript_law.proofs.Words.{Granted, past_next, past_mark, after_lines, Dial, Chronicle, granted, next_change, log_of, ask_within, granted_inside, marker_told, first_told, both_told, after_both}
-use Rattle.transcript_law.proofs.{Words.{item_told, stream_history, LawfulFrom, one_change}, rows.Followers.{changes, own_dial, begun, streamed, first_item, next_item, one_of, seq_as, key_as, stream_is}}
-use Rattle.{std.proofs.lemmas.Bool.{true_from_ne_false}, transcript_law.specs.Contrary.{disk_marker, done_told, sent_told, range_told, got_told, strange_change, unadopted}, transcript_law.specs.LinesTold.{stream_branch}, transcript_law.specs.Lawfulness.{IsFed, EndsBy}}
+use Rattle.transcript_law.proofs.Words.{ℕ, List, [], min, refl, ap, sym, ◌∙◌, subst, ⊎_elim, inl, inr, arith, Option, Some, None, eqb-true, Change, IsIn, StandsAs, ItemLine}
+use Rattle.transcript_law.proofs.Words.{Granted, past_next, past_mark, after_lines, Dial, Chronicle, granted, next_change, log_of, ask_within, granted_inside, marker_line, first_item_line, both_sent_lines, after_both}
+use Rattle.transcript_law.proofs.{Words.{item_of_change, stream_history, LawfulFrom, one_change}, rows.Followers.{changes, own_dial, begun, streamed, first_item, next_item, one_of, seq_as, key_as, stream_is}}
+use Rattle.{std.proofs.lemmas.Bool.{true_from_ne_false}, transcript_law.specs.Contrary.{disk_marker, done_lines, sent_known, range_lines, got_lines, strange_change, unadopted}, transcript_law.specs.LinesTold.{stream_branch}, transcript_law.specs.Lawfulness.{IsFed, EndsBy}}
 use Rattle.transcript_law.specs.RefusalRows.{two_marks}
 use Rattle.vb_events.specs.declared.event.StreamName.TheVariants.{Link}
 
@@ -12,7 +12,7 @@ use Rattle.vb_events.specs.declared.event.StreamName.TheVariants.{Link}
 pub from_disk : LawfulFrom (granted_inside 2) disk_marker → ⊥
 from_disk l = let (g, stream, marker, flags) = l.0 in let e : ◌≡◌ {A = ℕ} 2 1 = flags in omega arith
 
-pub ends_otherwise : LawfulFrom (granted_inside 2) done_told → ⊥
+pub ends_otherwise : LawfulFrom (granted_inside 2) done_lines → ⊥
 ends_otherwise l =
     let (g, stream, opens, whole, by) = l.0 in
     let same : EndsBy (ask_within 0 1 2 5) 0 = subst (λ (x : Granted). EndsBy x.ask 0) (sym (stream_is (granted_inside 2) (granted (ask_within 0 1 2 5) (log_of 5)) g refl refl stream)) by in
@@ -38,13 +38,13 @@ only_one l m n v e = eqb-true l 1 (true_from_ne_false (l == 1) (λ q.
 
 -- markers that are taken
 
-pub range : LawfulFrom (sent_told both_told) (range_told 0 0 2)
+pub range : LawfulFrom (sent_known both_sent_lines) (range_lines 0 0 2)
 range = (record { ends = omega arith; put = (1, whole_stream, (0, refl, refl, refl), (0, [], refl, refl), (next_change, inr (inl refl), refl)) }, tt)
 
-pub high : LawfulFrom (sent_told both_told) (range_told 0 1 2) → ⊥
+pub high : LawfulFrom (sent_known both_sent_lines) (range_lines 0 1 2) → ⊥
 high l = let (k, g, fed, (start, later, next, starts), at) = l.0.put in let e : 1 ≡ min start 0 = starts in omega (arith, e)
 
-pub low : LawfulFrom after_both (range_told 0 0 1) → ⊥
+pub low : LawfulFrom after_both (range_lines 0 0 1) → ⊥
 low l = let e : 2 ≤ 1 = l.0.ends in omega arith
 
 -- the end of the next marker
@@ -52,26 +52,26 @@ mark_end : List (ℕ × ℕ) → ℕ
 mark_end [] = 0
 mark_end (m ∷ later) = m.1
 
-pub beyond : LawfulFrom (sent_told both_told) (range_told 0 0 3) → ⊥
+pub beyond : LawfulFrom (sent_known both_sent_lines) (range_lines 0 0 3) → ⊥
 unfolding dial_is mark_end
 beyond l =
     let (k, g, fed, (start, later, next, starts), at) = l.0.put in
-    let same : whole_stream ≡ g = fed_by (sent_told both_told) whole_stream g k refl (λ m e. only_one k m 1 0 e) fed in
+    let same : whole_stream ≡ g = fed_by (sent_known both_sent_lines) whole_stream g k refl (λ m e. only_one k m 1 0 e) fed in
     let e : ◌≡◌ {A = ℕ} 2 3 = ap (λ (x : Granted). mark_end x.marks) same ∙ ap mark_end next in omega arith
 
 -- the stream whose one marker was taken
-pub again : LawfulFrom (sent_told both_told) (range_told 0 0 2 ++ range_told 0 0 2) → ⊥
+pub again : LawfulFrom (sent_known both_sent_lines) (range_lines 0 0 2 ++ range_lines 0 0 2) → ⊥
 unfolding dial_is mark_end
 again l =
     let (k, g, fed, (start, later, next, starts), at) = l.1.0.put in
-    let same : past_mark whole_stream ≡ g = fed_by (after_lines (sent_told both_told) (range_told 0 0 2)) (past_mark whole_stream) g k refl (λ m e. only_one k m 1 0 e) fed in
+    let same : past_mark whole_stream ≡ g = fed_by (after_lines (sent_known both_sent_lines) (range_lines 0 0 2)) (past_mark whole_stream) g k refl (λ m e. only_one k m 1 0 e) fed in
     let e : ◌≡◌ {A = ℕ} 0 2 = ap (λ (x : Granted). mark_end x.marks) same ∙ ap mark_end next in omega arith
 
 -- of two markers the first one is next
-pub first_mark : LawfulFrom two_marks (range_told 0 0 1)
+pub first_mark : LawfulFrom two_marks (range_lines 0 0 1)
 first_mark = (record { ends = omega arith; put = (1, _, (0, refl, refl, refl), (0, (1, 2) ∷ [], refl, refl), (one_change, inl refl, refl)) }, tt)
 
-pub second_mark : LawfulFrom two_marks (range_told 0 0 2) → ⊥
+pub second_mark : LawfulFrom two_marks (range_lines 0 0 2) → ⊥
 unfolding dial_is mark_end
 second_mark l =
     let (k, g, fed, (start, later, next, starts), at) = l.0.put in
@@ -81,28 +81,28 @@ dialed_vb : Option Dial → ℕ
 dialed_vb None = 0
 dialed_vb (Some d) = d.vb
 
-pub stranger : LawfulFrom (sent_told both_told) (range_told 1 0 2) → ⊥
+pub stranger : LawfulFrom (sent_known both_sent_lines) (range_lines 1 0 2) → ⊥
 unfolding dial_is dialed_vb
 stranger l =
     let (k, g, (m, dialed, has, on), next, at) = l.0.put in let one : k ≡ 1 = only_one k m 1 1 dialed in
     let e : ◌≡◌ {A = ℕ} 0 1 = ap dialed_vb (ap dial_is (sym one) ∙ dialed) in omega arith
 
 -- before the log was taken over it is on no branch
-none_is : (g : Granted) → ◌≡◌ {A = Option ℕ} None (Some (stream_branch g)) → ⊥
-none_is g e = cc
+none_is_no_branch : (g : Granted) → ◌≡◌ {A = Option ℕ} None (Some (stream_branch g)) → ⊥
+none_is_no_branch g e = cc
 
-pub range_unadopted : LawfulFrom unadopted (range_told 0 0 2) → ⊥
-range_unadopted l = let (k, g, (m, dialed, has, on), next, at) = l.0.put in none_is g on
+pub range_unadopted : LawfulFrom unadopted (range_lines 0 0 2) → ⊥
+range_unadopted l = let (k, g, (m, dialed, has, on), next, at) = l.0.put in none_is_no_branch g on
 
-pub got_unadopted : LawfulFrom unadopted (got_told 1 one_change) → ⊥
-got_unadopted l = let (g, (m, dialed, has, on), of, within) = l.0.put in none_is g on
+pub got_unadopted : LawfulFrom unadopted (got_lines 1 one_change) → ⊥
+got_unadopted l = let (g, (m, dialed, has, on), of, within) = l.0.put in none_is_no_branch g on
 
 -- changes that are taken
 
-pub got : LawfulFrom (sent_told both_told) (range_told 0 0 2 ++ got_told 1 one_change)
+pub got : LawfulFrom (sent_known both_sent_lines) (range_lines 0 0 2 ++ got_lines 1 one_change)
 got = (range.0, (record { above = omega arith; put = (_, (0, refl, refl, refl), (one_change, inl refl, inl refl), (next_item ∷ [], refl)) }, tt))
 
-pub other_link : LawfulFrom (sent_told both_told) (got_told 2 one_change) → ⊥
+pub other_link : LawfulFrom (sent_known both_sent_lines) (got_lines 2 one_change) → ⊥
 other_link l = let (g, (m, dialed, has, on), of, within) = l.0.put in let e : ◌≡◌ {A = Option Dial} None (Some (record { producer = m; node = 1; vb = 0 })) = dialed in cc
 
 strange_of : (c : Change) → IsIn c changes → StandsAs strange_change c → ⊥
@@ -116,34 +116,34 @@ strange_of c is stands =
 fed_stream : (r : Chronicle) (g h : Granted) → r.stream_of (Link 1) 0 ≡ Some g → IsFed r 1 1 0 h → g ≡ h
 fed_stream r g h told (m, dialed, has, on) = let same : Some g ≡ Some h = sym told ∙ has in cc
 
-pub other_change : LawfulFrom (sent_told both_told) (got_told 1 strange_change) → ⊥
+pub other_change : LawfulFrom (sent_known both_sent_lines) (got_lines 1 strange_change) → ⊥
 other_change l =
     let (g, fed, (c, is, stands), within) = l.0.put in
-    let same : whole_stream ≡ g = fed_stream (sent_told both_told) whole_stream g refl fed in
-    strange_of c (subst (λ (x : Granted). IsIn c (stream_history (sent_told both_told) x)) (sym same) is) stands
+    let same : whole_stream ≡ g = fed_stream (sent_known both_sent_lines) whole_stream g refl fed in
+    strange_of c (subst (λ (x : Granted). IsIn c (stream_history (sent_known both_sent_lines) x)) (sym same) is) stands
 
 -- the first item is not the second change's
-next_is_not : (more later : List ItemTold) → first_item ∷ more ≡ item_told next_change ∷ later → ⊥
+next_is_not : (more later : List ItemLine) → first_item ∷ more ≡ item_of_change next_change ∷ later → ⊥
 next_is_not more later e =
-    let same : first_item ≡ item_told next_change = cc in let n : ◌≡◌ {A = ℕ} 1 2 = ap (λ (x : ItemTold). x.seq) same in omega arith
+    let same : first_item ≡ item_of_change next_change = cc in let n : ◌≡◌ {A = ℕ} 1 2 = ap (λ (x : ItemLine). x.seq) same in omega arith
 
-pub unput : LawfulFrom (sent_told (marker_told 0 1 ∷ first_told ∷ [])) (got_told 1 next_change) → ⊥
+pub unput : LawfulFrom (sent_known (marker_line 0 1 ∷ first_item_line ∷ [])) (got_lines 1 next_change) → ⊥
 unput l =
     let first : Granted = streamed (begun 0 1 (first_item ∷ [])) in let (g, fed, of, (later, next)) = l.0.put in
-    let same : first ≡ g = fed_stream (sent_told (marker_told 0 1 ∷ first_told ∷ [])) first g refl fed in
+    let same : first ≡ g = fed_stream (sent_known (marker_line 0 1 ∷ first_item_line ∷ [])) first g refl fed in
     next_is_not [] later (ap (λ (x : Granted). x.coming) same ∙ next)
 
-pub skipped : LawfulFrom (sent_told both_told) (got_told 1 next_change) → ⊥
+pub skipped : LawfulFrom (sent_known both_sent_lines) (got_lines 1 next_change) → ⊥
 skipped l =
-    let (g, fed, of, (later, next)) = l.0.put in let same : whole_stream ≡ g = fed_stream (sent_told both_told) whole_stream g refl fed in
+    let (g, fed, of, (later, next)) = l.0.put in let same : whole_stream ≡ g = fed_stream (sent_known both_sent_lines) whole_stream g refl fed in
     next_is_not (next_item ∷ []) later (ap (λ (x : Granted). x.coming) same ∙ next)
 
 -- the stream inside its snapshot, of which the first item was put and taken
 abbrev half : Granted
 half = past_next (streamed (begun 0 2 (first_item ∷ [])))
 
-pub early : LawfulFrom (sent_told (marker_told 0 2 ∷ first_told ∷ [])) (got_told 1 one_change ++ got_told 1 next_change) → ⊥
+pub early : LawfulFrom (sent_known (marker_line 0 2 ∷ first_item_line ∷ [])) (got_lines 1 one_change ++ got_lines 1 next_change) → ⊥
 early l =
     let (g, fed, of, (later, next)) = l.1.0.put in
-    let same : half ≡ g = fed_stream (after_lines (sent_told (marker_told 0 2 ∷ first_told ∷ [])) (got_told 1 one_change)) half g refl fed in
-    let none : ◌≡◌ {A = List ItemTold} [] (item_told next_change ∷ later) = ap (λ (x : Granted). x.coming) same ∙ next in cc
+    let same : half ≡ g = fed_stream (after_lines (sent_known (marker_line 0 2 ∷ first_item_line ∷ [])) (got_lines 1 one_change)) half g refl fed in
+    let none : ◌≡◌ {A = List ItemLine} [] (item_of_change next_change ∷ later) = ap (λ (x : Granted). x.coming) same ∙ next in cc

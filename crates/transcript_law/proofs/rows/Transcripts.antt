@@ -1,13 +1,13 @@
 -- transcripts judged by hand
 use Rattle.std.specs.Prelude.{◌≡◌, ◌∷◌, ◌++◌, if◌then◌else◌, ◌≢◌}
 use Rattle.transcript_law.proofs.Words.{ℕ, false, None, List, [], length, map, refl, ap, sym, ◌∙◌, arith, Option, Some, nat_list_cmp_total, key_cmp, Change, Pend, Doc, Event}
-use Rattle.transcript_law.proofs.Words.{Picture, image_of, is_older, document_line, prepare_line, image_lines, empty_chronicle, after_lines, LawfulChange, LawfulLine, LawfulFrom, Lawful, active_told}
-use Rattle.transcript_law.proofs.Words.{first_doc, one_change, change_told, value_told, one_set, both_on_one, forked_at, Role, one_set_told, two_vbs, two_vbs_told, set_and_show, sets_told}
+use Rattle.transcript_law.proofs.Words.{Picture, image_of, is_older, document_line, prepare_line, image_lines, empty_chronicle, after_lines, LawfulChange, LawfulLine, LawfulFrom, Lawful, active_vb_lines}
+use Rattle.transcript_law.proofs.Words.{first_doc, one_change, change_line, value_lines, one_set, both_on_one, forked_at, Role, one_set_groups, two_vbs, two_vbs_groups, set_and_show, sets_groups}
 use Rattle.transcript_law.proofs.Words.{shown_after_change, shown_unchanged, last_seq, Chronicle, IsIfKnown, shown_lines, LawfulShow, LawfulShown, SharesWith, ShownLine, nothing, subst}
 use Rattle.transcript_law.proofs.Words.{after_active, after_dead, due_image, inside_dead, option_map}
 use Rattle.transcript_law.specs.Lawfulness.{newest_shown}
-use Rattle.transcript_law.specs.{Contrary.{after_dead_changed, branch_inside, branch_left, logged_six}, Rollbacks.{empty_uuid}, Transcripts.{shown_one}}
-use Rattle.transcript_law.{proofs.rows.Groups.{both}, specs.{Chronicles.{ArmTold, Conns, DiskTold}, LinesTold.{roles_from}}}
+use Rattle.transcript_law.specs.{Contrary.{after_dead_changed, branch_inside, branch_left, logged_six}, Rollbacks.{empty_uuid}, Transcripts.{shown_with_change}}
+use Rattle.transcript_law.{proofs.rows.Groups.{both}, specs.{Chronicles.{ArmKnown, Conns, DiskKnown}, LinesTold.{roles_from}}}
 use Rattle.std.specs.FinMap as finite
 
 none_of : {X : Type 0} (xs : List X) → length xs ≡ 0 → xs ≡ []
@@ -28,8 +28,8 @@ docs = finite.entries-insert nat_list_cmp_total finite.empty (7 ∷ []) (first_d
 pub pending : finite.entries image.pending ≡ []
 pending = ap (λ o. finite.entries {R = key_cmp} (if is_older 1 o then finite.remove finite.empty (7 ∷ []) else finite.empty)) (finite.get-empty key_cmp (7 ∷ [])) ∙ no_entries Pend
 
-pub lines : image_lines image ≡ value_told (8 ∷ [])
-lines = ap (λ ds. map document_line ds ++ map prepare_line (finite.entries image.pending)) docs ∙ ap (λ ps. value_told (8 ∷ []) ++ map prepare_line ps) pending
+pub lines : image_lines image ≡ value_lines (8 ∷ [])
+lines = ap (λ ds. map document_line ds ++ map prepare_line (finite.entries image.pending)) docs ∙ ap (λ ps. value_lines (8 ∷ []) ++ map prepare_line ps) pending
 
 pub image_before : image_lines (image_of []) ≡ []
 image_before = ap (λ ds. map document_line ds ++ map prepare_line (finite.entries (image_of []).pending)) (no_entries Doc) ∙ ap (map prepare_line) (no_entries Pend)
@@ -38,7 +38,7 @@ image_before = ap (λ ds. map document_line ds ++ map prepare_line (finite.entri
 abbrev pub Leaves : Picture → List Event → ℕ → ℕ → Type 0
 Leaves left lines docs preps = (lines ≡ shown_lines left) × (docs ≡ length (finite.entries left.docs)) × (preps ≡ length (finite.entries left.pending))
 
-pub as_set : Leaves image (value_told (8 ∷ [])) 1 0
+pub as_set : Leaves image (value_lines (8 ∷ [])) 1 0
 as_set = (sym lines, sym (ap length docs), sym (ap length pending))
 
 pub as_made : Leaves nothing [] 0 0
@@ -50,53 +50,53 @@ pub shown : (r : Chronicle) (said : ShownLine) (behind : List Event) → IsIfKno
     → (said.uuid ≢ 0 → SharesWith r.tree said.uuid (r.branch_at said.node said.vb) said.at) → (said.role ≡ Role.Active → r.branch_at said.node said.vb ≡ Some said.uuid) → LawfulShown r said behind
 shown r said behind role newest at snapshot left held due leaves shared active =
     let of_held = subst (λ i. Leaves i behind said.docs said.preps) held leaves in
-    let of_branch = subst (λ i. Leaves i behind said.docs said.preps) due leaves in
-    let show : LawfulShow r said behind = record { lines = of_branch.0; docs_told = of_branch.1; preps_told = of_branch.2; shared = shared; active = active } in
+    let points_of_branch = subst (λ i. Leaves i behind said.docs said.preps) due leaves in
+    let show : LawfulShow r said behind = record { lines = points_of_branch.0; docs_shown = points_of_branch.1; preps_shown = points_of_branch.2; shared = shared; active = active } in
     record { role = role; newest = newest; at = at; snapshot = snapshot; left = of_held.0; docs_left = of_held.1; preps_left = of_held.2; complete = λ _. show }
 
 -- transcripts of one set, whatever was written down and is to befall nodes, and whichever connections are open
-pub first_change : (d : ℕ → ℕ → DiskTold) (a : ℕ → ArmTold) (k : Conns) → LawfulChange (record (after_lines empty_chronicle (active_told 0 5)) { disk_at = d; arm_at = a; conn_at = k }) 0 0 5 one_change
+pub first_change : (d : ℕ → ℕ → DiskKnown) (a : ℕ → ArmKnown) (k : Conns) → LawfulChange (record (after_lines empty_chronicle (active_vb_lines 0 5)) { disk_at = d; arm_at = a; conn_at = k }) 0 0 5 one_change
 first_change d a k = record { active = refl; writer = record { made_or_took = refl; on_branch = refl }; above_branch = omega arith; above_held = omega arith; above_forks = (λ e. omega arith, tt); fulfils = λ prepared doc deleted e. cc; backed = λ prepared doc deleted e. cc }
 
-pub right : Lawful one_set (one_set_told 1 0 (value_told (8 ∷ [])))
-right = both empty_chronicle one_set (one_set_told 1 0 (value_told (8 ∷ []))) refl
+pub right : Lawful one_set (one_set_groups 1 0 (value_lines (8 ∷ [])))
+right = both empty_chronicle one_set (one_set_groups 1 0 (value_lines (8 ∷ []))) refl
     (tt, (tt, ((record { new = tt; newest = refl; last = refl; leaves = refl }, (record { another = λ e. cc; anew = λ e. refl }, tt)), ((first_change _ _ _, tt), ((shown _ _ _ refl refl refl refl image refl refl as_set (λ _. refl) (λ _. refl), (tt, tt)), tt)))))
     (tt, (refl, ((refl, tt), (refl, (tt, tt))))) (refl, (refl, (refl, (refl, (refl, tt)))))
 
 -- what the last line of a lawful transcript of this kind has behind it, and how many documents and prepares it tells of
-shown_is : (count preps : ℕ) (behind : List Event) → Lawful one_set (one_set_told count preps behind) → (behind ≡ value_told (8 ∷ [])) × (count ≡ 1) × (preps ≡ 0)
-shown_is count preps behind l = let s = l.1.1.1.1.0.0.0.complete refl in (s.lines ∙ lines, s.docs_told ∙ ap length docs, s.preps_told ∙ ap length pending)
+shown_is : (count preps : ℕ) (behind : List Event) → Lawful one_set (one_set_groups count preps behind) → (behind ≡ value_lines (8 ∷ [])) × (count ≡ 1) × (preps ≡ 0)
+shown_is count preps behind l = let s = l.1.1.1.1.0.0.0.complete refl in (s.lines ∙ lines, s.docs_shown ∙ ap length docs, s.preps_shown ∙ ap length pending)
 
-pub value : Lawful one_set (one_set_told 1 0 (value_told (9 ∷ []))) → ⊥
+pub value : Lawful one_set (one_set_groups 1 0 (value_lines (9 ∷ []))) → ⊥
 value l =
-    let e = (shown_is 1 0 (value_told (9 ∷ [])) l).0 in
+    let e = (shown_is 1 0 (value_lines (9 ∷ [])) l).0 in
     let d : first_doc 1 (9 ∷ []) ≡ first_doc 1 (8 ∷ []) = cc in
     let v : ◌≡◌ {A = List ℕ} (9 ∷ []) (8 ∷ []) = ap (λ (doc : Doc). doc.value) d in
     cc
 
-pub missing : Lawful one_set (one_set_told 1 0 []) → ⊥
+pub missing : Lawful one_set (one_set_groups 1 0 []) → ⊥
 missing l = let e = (shown_is 1 0 [] l).0 in cc
 
-pub more : Lawful one_set (one_set_told 2 0 (value_told (8 ∷ []))) → ⊥
-more l = let e = (shown_is 2 0 (value_told (8 ∷ [])) l).1 in omega arith
+pub more : Lawful one_set (one_set_groups 2 0 (value_lines (8 ∷ []))) → ⊥
+more l = let e = (shown_is 2 0 (value_lines (8 ∷ [])) l).1 in omega arith
 
-pub prepares : Lawful one_set (one_set_told 1 1 (value_told (8 ∷ []))) → ⊥
-prepares l = let e = (shown_is 1 1 (value_told (8 ∷ [])) l).2 in omega arith
+pub prepares : Lawful one_set (one_set_groups 1 1 (value_lines (8 ∷ []))) → ⊥
+prepares l = let e = (shown_is 1 1 (value_lines (8 ∷ [])) l).2 in omega arith
 
 -- transcripts in which two vBuckets are made
-pub branch : Lawful (two_vbs 5 []) (two_vbs_told 5 []) → ⊥
+pub branch : Lawful (two_vbs 5 []) (two_vbs_groups 5 []) → ⊥
 branch l = l.1.1.1.0.0.0.new.0 refl
 
-pub seqno : Lawful (two_vbs 6 set_and_show) (two_vbs_told 6 (sets_told (change_told 0 ∷ change_told 0 ∷ []))) → ⊥
+pub seqno : Lawful (two_vbs 6 set_and_show) (two_vbs_groups 6 (sets_groups (change_line 0 ∷ change_line 0 ∷ []))) → ⊥
 seqno l = let e = l.1.1.1.1.0.0.1.0.above_branch in omega arith
 
-second_new : (d : ℕ → ℕ → DiskTold) (a : ℕ → ArmTold) (k : Conns) → (a 0).down ≡ false → LawfulFrom (record (after_lines empty_chronicle (active_told 0 5)) { disk_at = d; arm_at = a; conn_at = k }) (active_told 1 6)
+second_new : (d : ℕ → ℕ → DiskKnown) (a : ℕ → ArmKnown) (k : Conns) → (a 0).down ≡ false → LawfulFrom (record (after_lines empty_chronicle (active_vb_lines 0 5)) { disk_at = d; arm_at = a; conn_at = k }) (active_vb_lines 1 6)
 second_new d a k up = (
   record { new = (λ e. omega arith, tt); newest = refl; last = refl; leaves = refl },
-  (record { another = λ e. let z : ◌≡◌ {A = Option (Option Role)} (Some None) (Some (Some Role.Active)) = sym (ap (λ b. roles_from b (after_lines empty_chronicle (active_told 0 5)).role_at 0 1 0 1) up) ∙ e in cc; anew = λ e. refl }, tt),
+  (record { another = λ e. let z : ◌≡◌ {A = Option (Option Role)} (Some None) (Some (Some Role.Active)) = sym (ap (λ b. roles_from b (after_lines empty_chronicle (active_vb_lines 0 5)).role_at 0 1 0 1) up) ∙ e in cc; anew = λ e. refl }, tt),
 )
 
-change_of_two : (d : ℕ → ℕ → DiskTold) (a : ℕ → ArmTold) (k : Conns) → LawfulChange (record (after_lines empty_chronicle (active_told 0 5 ++ active_told 1 6)) { disk_at = d; arm_at = a; conn_at = k }) 0 0 5 one_change
+change_of_two : (d : ℕ → ℕ → DiskKnown) (a : ℕ → ArmKnown) (k : Conns) → LawfulChange (record (after_lines empty_chronicle (active_vb_lines 0 5 ++ active_vb_lines 1 6)) { disk_at = d; arm_at = a; conn_at = k }) 0 0 5 one_change
 change_of_two d a k = record { active = refl; writer = record { made_or_took = refl; on_branch = refl }; above_branch = omega arith; above_held = omega arith; above_forks = (λ e. omega arith, (λ e. omega arith, tt)); fulfils = λ prepared doc deleted e. cc; backed = λ prepared doc deleted e. cc }
 
 two_writers : ◌≡◌ {A = Option (ℕ × ℕ)} (Some (0, 0)) (Some (0, 1)) → ⊥
@@ -105,45 +105,45 @@ two_writers e =
     let vb : ◌≡◌ {A = ℕ} 0 1 = ap (λ (p : ℕ × ℕ). p.1) pair in
     omega arith
 
-pub own : Lawful (two_vbs 6 set_and_show) (two_vbs_told 6 (sets_told (change_told 0 ∷ [])))
-own = both empty_chronicle (two_vbs 6 set_and_show) (two_vbs_told 6 (sets_told (change_told 0 ∷ []))) refl (tt, (tt, ((record { new = tt; newest = refl; last = refl; leaves = refl }, (record { another = λ e. cc; anew = λ e. refl }, tt)), (second_new _ _ _ refl, ((change_of_two _ _ _, tt), (tt, tt)))))) (tt, (refl, ((refl, tt), ((refl, tt), (refl, (tt, tt)))))) (refl, (refl, (refl, (refl, (refl, (refl, tt))))))
+pub own : Lawful (two_vbs 6 set_and_show) (two_vbs_groups 6 (sets_groups (change_line 0 ∷ [])))
+own = both empty_chronicle (two_vbs 6 set_and_show) (two_vbs_groups 6 (sets_groups (change_line 0 ∷ []))) refl (tt, (tt, ((record { new = tt; newest = refl; last = refl; leaves = refl }, (record { another = λ e. cc; anew = λ e. refl }, tt)), (second_new _ _ _ refl, ((change_of_two _ _ _, tt), (tt, tt)))))) (tt, (refl, ((refl, tt), ((refl, tt), (refl, (tt, tt)))))) (refl, (refl, (refl, (refl, (refl, (refl, tt))))))
 
-pub writer : Lawful (two_vbs 6 set_and_show) (two_vbs_told 6 (sets_told (change_told 1 ∷ []))) → ⊥
+pub writer : Lawful (two_vbs 6 set_and_show) (two_vbs_groups 6 (sets_groups (change_line 1 ∷ []))) → ⊥
 writer l = two_writers l.1.1.1.1.0.0.0.writer.made_or_took
 
-pub maker : LawfulLine both_on_one (change_told 0) []
+pub maker : LawfulLine both_on_one (change_line 0) []
 maker = record { active = refl; writer = record { made_or_took = refl; on_branch = refl }; above_branch = omega arith; above_held = omega arith; above_forks = (λ e. omega arith, (λ e. omega arith, tt)); fulfils = λ prepared doc deleted e. cc; backed = λ prepared doc deleted e. cc }
 
-pub follower : LawfulLine both_on_one (change_told 1) [] → ⊥
+pub follower : LawfulLine both_on_one (change_line 1) [] → ⊥
 follower l = two_writers l.writer.made_or_took
 
-pub above_fork : LawfulLine (forked_at 0) (change_told 0) []
+pub above_fork : LawfulLine (forked_at 0) (change_line 0) []
 above_fork = record { active = refl; writer = record { made_or_took = refl; on_branch = refl }; above_branch = omega arith; above_held = omega arith; above_forks = (λ e. omega arith, (λ e. omega arith, tt)); fulfils = λ prepared doc deleted e. cc; backed = λ prepared doc deleted e. cc }
 
-pub at_fork : LawfulLine (forked_at 1) (change_told 0) [] → ⊥
+pub at_fork : LawfulLine (forked_at 1) (change_line 0) [] → ⊥
 at_fork l = let low = l.above_forks.0 refl in omega arith
 
-pub same : Lawful (two_vbs 6 set_and_show) (two_vbs_told 6 (shown_after_change 5))
-same = both empty_chronicle (two_vbs 6 set_and_show) (two_vbs_told 6 (shown_after_change 5)) refl
+pub same : Lawful (two_vbs 6 set_and_show) (two_vbs_groups 6 (shown_after_change 5))
+same = both empty_chronicle (two_vbs 6 set_and_show) (two_vbs_groups 6 (shown_after_change 5)) refl
     (tt, (tt, ((record { new = tt; newest = refl; last = refl; leaves = refl }, (record { another = λ e. cc; anew = λ e. refl }, tt)), (second_new _ _ _ refl, ((change_of_two _ _ _, tt), ((record { another = λ e. cc; anew = λ e. cc }, (shown _ _ _ refl refl refl refl image refl refl as_set (λ _. refl) (λ e. cc), (tt, tt))), tt))))))
     (tt, (refl, ((refl, tt), ((refl, tt), (refl, (tt, tt)))))) (refl, (refl, (refl, (refl, (refl, (refl, tt))))))
 
-pub history : Lawful (two_vbs 6 set_and_show) (two_vbs_told 6 (shown_after_change 6)) → ⊥
+pub history : Lawful (two_vbs 6 set_and_show) (two_vbs_groups 6 (shown_after_change 6)) → ⊥
 history l = let e : ◌≡◌ {A = List Change} [] (one_change ∷ []) = (l.1.1.1.1.1.0.0.1.0.complete refl).shared (λ z. omega arith) in cc
 
-pub dead : Lawful (two_vbs 6 set_and_show) (two_vbs_told 6 (shown_unchanged Role.Dead 5))
-dead = both empty_chronicle (two_vbs 6 set_and_show) (two_vbs_told 6 (shown_unchanged Role.Dead 5)) refl
+pub dead : Lawful (two_vbs 6 set_and_show) (two_vbs_groups 6 (shown_unchanged Role.Dead 5))
+dead = both empty_chronicle (two_vbs 6 set_and_show) (two_vbs_groups 6 (shown_unchanged Role.Dead 5)) refl
     (tt, (tt, ((record { new = tt; newest = refl; last = refl; leaves = refl }, (record { another = λ e. cc; anew = λ e. refl }, tt)), (second_new _ _ _ refl, (tt, ((record { another = λ e. cc; anew = λ e. cc }, (shown _ _ _ refl refl refl refl nothing refl refl as_made (λ _. refl) (λ e. cc), tt)), tt))))))
     (tt, (refl, ((refl, tt), ((refl, tt), (refl, (tt, tt)))))) (refl, (refl, (refl, (refl, (refl, (refl, tt))))))
 
-pub dead_other : Lawful (two_vbs 6 set_and_show) (two_vbs_told 6 (shown_unchanged Role.Dead 6)) → ⊥
+pub dead_other : Lawful (two_vbs 6 set_and_show) (two_vbs_groups 6 (shown_unchanged Role.Dead 6)) → ⊥
 dead_other l = let e : ◌≡◌ {A = ℕ} 5 6 = l.1.1.1.1.1.0.0.1.0.newest in omega arith
 
 -- as their logs name it
 pub log_shown : LawfulFrom (logged_six after_dead) (empty_uuid Role.Dead 6)
 log_shown = (shown _ _ _ refl refl refl refl nothing refl refl as_made (λ _. refl) (λ e. cc), tt)
 
-pub log_history : LawfulFrom (logged_six after_dead_changed) (shown_one Role.Dead 6 1 0 (value_told (8 ∷ []))) → ⊥
+pub log_history : LawfulFrom (logged_six after_dead_changed) (shown_with_change Role.Dead 6 1 0 (value_lines (8 ∷ []))) → ⊥
 log_history l = let e : ◌≡◌ {A = List Change} [] (one_change ∷ []) = (l.0.complete refl).shared (λ z. omega arith) in cc
 
 pub log_active : LawfulFrom (logged_six after_active) (empty_uuid Role.Active 6) → ⊥
@@ -174,5 +174,5 @@ leaves_inside = (record { new = (λ e. omega arith, tt); newest = refl; last = r
 pub not_inside : LawfulFrom inside_dead (branch_inside 1) → ⊥
 not_inside l = let e : ◌≡◌ {A = ℕ} 0 1 = l.0.leaves in omega arith
 
-pub active : Lawful (two_vbs 6 set_and_show) (two_vbs_told 6 (shown_unchanged Role.Active 6)) → ⊥
+pub active : Lawful (two_vbs 6 set_and_show) (two_vbs_groups 6 (shown_unchanged Role.Active 6)) → ⊥
 active l = let e : ◌≡◌ {A = Option ℕ} (Some 5) (Some 6) = (l.1.1.1.1.1.0.0.0.complete refl).active refl in cc

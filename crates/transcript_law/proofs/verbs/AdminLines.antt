@@ -1,9 +1,9 @@
 -- lines of operators tell nothing of the connections of clients, of a call that failed, and of a node that stopped, whatever the replies of vBuckets and journals
 use Rattle.std.specs.Prelude.{◌≡◌, ◌∷◌, ◌==◌}
-use Rattle.transcript_law.proofs.Words.{ℕ, [], sym, subst, map, Option, Some, None, Event, Role, AdminCall, AdminTold, PlainNode, VbAnswer, VbCall, VbReply}
-use Rattle.transcript_law.proofs.Words.{admin_call, admin_replied, admin_told, branch_lines, call_at, called_at, document_line, image_lines, prepare_line}
+use Rattle.transcript_law.proofs.Words.{ℕ, [], sym, subst, map, Option, Some, None, Event, Role, AdminCall, AdminResult, PlainNode, VbAnswer, VbCall, VbReply}
+use Rattle.transcript_law.proofs.Words.{admin_call, admin_replied, admin_result, branch_lines, call_at, called_at, document_line, image_lines, prepare_line}
 use Rattle.transcript_law.proofs.Words.{after_job}
-use Rattle.node_core.specs.{Calls.{own_lines, own_lines_if}, Admin.{admin_at, admin_job, role_at, role_noted}, Flushing.{FlushTold, flush_at, flush_told, settled_by, settled_told}}
+use Rattle.node_core.specs.{Calls.{own_lines, own_lines_if}, Admin.{admin_at, admin_job, role_at, role_noted}, Flushing.{FlushResult, flush_at, flush_result, settled_by, settled_result}}
 use Rattle.node_world.specs.{Arms.{placed}}
 use Rattle.std.specs.FinMap as finite
 use Rattle.vb_calls.proofs.JobConduct.{after_job_always, always_bind_job}
@@ -17,7 +17,7 @@ use Rattle.vb_types.specs.Images.{Picture}
 use Rattle.vb_types.specs.declared.journal.FlushPart.{FlushPart}
 use Rattle.transcript_law.proofs.{lines.Calm.{AnyAsk, any_job, either}, verbs.FiredLines.{flush_steps}}
 use Rattle.transcript_law.proofs.lines.Heard.{AreMute, mute_map, mute_more}
-use Rattle.node_core.specs.Loading.{branch_in, branch_told, start_job, start_told}
+use Rattle.node_core.specs.Loading.{branch_in, branch_lines_of_reply, start_job, start_result}
 use Rattle.node_world.specs.Power.{start_one}
 
 -- ---- operators' calls
@@ -34,7 +34,7 @@ own_mute_if n v None = tt
 own_mute_if n v (Some reply) = own_mute n v reply
 
 -- whatever the vBucket replied
-call_mute : (n v : ℕ) (asked : AdminCall) (o : Option VbReply) → AreMute (admin_told n v asked o).events
+call_mute : (n v : ℕ) (asked : AdminCall) (o : Option VbReply) → AreMute (admin_result n v asked o).events
 call_mute n v asked None = tt
 call_mute n v asked (Some reply) = by asked reply.answer
   where
@@ -56,17 +56,17 @@ call_mute n v asked (Some reply) = by asked reply.answer
 
 -- a call that keeps its vBucket's role
 pub kept_mute : (n v : ℕ) (asked : AdminCall) (node : PlainNode) → admin_job n v asked ≡ lift (admin_at n v asked) → AreMute (called_at n v asked node).1.events
-kept_mute n v asked node job = subst (λ (j : Job AdminTold). AreMute (after_job j node.vbs node.shelves).1.events) (sym job) (call_mute n v asked (call_at node.vbs v (admin_call asked) (node.vbs v)).1)
+kept_mute n v asked node job = subst (λ (j : Job AdminResult). AreMute (after_job j node.vbs node.shelves).1.events) (sym job) (call_mute n v asked (call_at node.vbs v (admin_call asked) (node.vbs v)).1)
 
 -- and one that changes it
 pub role_mute : (n v : ℕ) (asked : AdminCall) (node : PlainNode) → admin_job n v asked ≡ role_at n v asked → AreMute (called_at n v asked node).1.events
-role_mute n v asked node job = subst (λ (j : Job AdminTold). AreMute (after_job j node.vbs node.shelves).1.events) (sym job)
-    (after_job_always AnyCall AnyAsk (λ (told : AdminTold). AreMute told.events) (role_at n v asked) node.vbs node.shelves
-    (always_bind_job AnyReply AnyCall AnyAsk (λ made. Unit {0}) (λ (told : AdminTold). AreMute told.events) (role_job v (admin_call asked)) (λ made. Ended (role_noted n v asked made)) (any_job (role_job v (admin_call asked))) (λ made any. call_mute n v asked made.0)))
+role_mute n v asked node job = subst (λ (j : Job AdminResult). AreMute (after_job j node.vbs node.shelves).1.events) (sym job)
+    (after_job_always AnyCall AnyAsk (λ (told : AdminResult). AreMute told.events) (role_at n v asked) node.vbs node.shelves
+    (always_bind_job AnyReply AnyCall AnyAsk (λ made. Unit {0}) (λ (told : AdminResult). AreMute told.events) (role_job v (admin_call asked)) (λ made. Ended (role_noted n v asked made)) (any_job (role_job v (admin_call asked))) (λ made any. call_mute n v asked made.0)))
 
 -- ---- what is written down, and what is told of vBuckets that are made, that start, and that resolve durable writes
 
-flushed_mute : (n v : ℕ) (came : Flushed) → AreMute (flush_told n v came).events
+flushed_mute : (n v : ℕ) (came : Flushed) → AreMute (flush_result n v came).events
 flushed_mute n v (flushed.Took ss se at count) = either AreMute (count == 0) [] (Event.Batch n v ss se at count ∷ []) tt (tt, tt)
 flushed_mute n v (flushed.Done reply) = own_mute_if n v reply
 flushed_mute n v other = tt
@@ -78,7 +78,7 @@ pub branch_mute : (n v : ℕ) (role : Role) (uuid : ℕ) → AreMute (branch_lin
 branch_mute n v Role.Active uuid = (tt, (tt, tt))
 branch_mute n v other uuid = (tt, tt)
 
-started_mute : (n v : ℕ) (o : Option VbReply) → AreMute (branch_told n v o)
+started_mute : (n v : ℕ) (o : Option VbReply) → AreMute (branch_lines_of_reply n v o)
 started_mute n v None = tt
 started_mute n v (Some reply) = mute_more (branch_in n v reply.answer) (own_lines n v reply) (by reply.answer) (own_mute n v reply)
   where
@@ -89,10 +89,10 @@ started_mute n v (Some reply) = mute_more (branch_in n v reply.answer) (own_line
 pub start_mute : (n : ℕ) (start : ℕ × ℕ) (node : PlainNode) → AreMute (start_one n start node).1.events
 start_mute n start node =
     let at : PlainNode = placed start.0 node in
-    after_job_always AnyCall AnyAsk (λ (told : FlushTold). AreMute told.events) (start_job n start.0 start.1) at.vbs at.shelves
-    (always_bind_job AnyReply AnyCall AnyAsk (λ made. Unit {0}) (λ (told : FlushTold). AreMute told.events) (role_job start.0 (VbCall.Promote start.1)) (λ made. Ended (start_told n start.0 made)) (any_job (role_job start.0 (VbCall.Promote start.1))) (λ made any. started_mute n start.0 made.0))
+    after_job_always AnyCall AnyAsk (λ (told : FlushResult). AreMute told.events) (start_job n start.0 start.1) at.vbs at.shelves
+    (always_bind_job AnyReply AnyCall AnyAsk (λ made. Unit {0}) (λ (told : FlushResult). AreMute told.events) (role_job start.0 (VbCall.Promote start.1)) (λ made. Ended (start_result n start.0 made)) (any_job (role_job start.0 (VbCall.Promote start.1))) (λ made any. started_mute n start.0 made.0))
 
-pub settled_mute : (n v : ℕ) (o : Option VbReply) → AreMute (settled_told n v o).events
+pub settled_mute : (n v : ℕ) (o : Option VbReply) → AreMute (settled_result n v o).events
 settled_mute n v None = tt
 settled_mute n v (Some reply) = by reply.answer
   where

@@ -1,6 +1,6 @@
 -- lines that are bound to be refused are
 use Rattle.std.specs.Prelude.{◌≡◌, ◌∷◌, if◌then◌else◌}
-use Rattle.transcript_law.proofs.Words.{ℕ, Bool, true, false, List, [], refl, ap, sym, ◌∙◌, inl, inr, Option, Some, None, not, is_some, eq-eqb, Cause, AdminCall, Chronicle, PlainLink, LinkTold, PlainNode, PlainWorld, Outcome, Told}
+use Rattle.transcript_law.proofs.Words.{ℕ, Bool, true, false, List, [], refl, ap, sym, ◌∙◌, inl, inr, Option, Some, None, not, is_some, eq-eqb, Cause, AdminCall, Chronicle, PlainLink, LinkResult, PlainNode, PlainWorld, Outcome, Told}
 use Rattle.transcript_law.proofs.Words.{first_cause, link_number, link_outcome, node_outcome, on_link, on_node, refusal}
 use Rattle.transcript_law.proofs.Words.{refused_or, row_at, with_node_at}
 use Rattle.transcript_law.proofs.{invariant.Agreement.{Agrees, PowerIsIf}, disks.Disks.{power_in}, invariant.LinkRows.{found_is_link}}
@@ -9,7 +9,7 @@ use Rattle.node_world.specs.Power.{after_fire, with_arm}
 use Rattle.node_world.specs.Turns.{role_outcome}
 use Rattle.node_world.specs.declared.arm.Fired.TheVariants as fired
 use Rattle.transcript_law.specs.Bound.{IsBound, IsNoOf, if_down, if_over, is_told_down}
-use Rattle.transcript_law.specs.Chronicles.{ArmTold, Dial}
+use Rattle.transcript_law.specs.Chronicles.{ArmKnown, Dial}
 use Rattle.vb_disk.specs.declared.fuse.Fuse.{Fuse}
 use Rattle.vb_disk.specs.declared.fuse.Fuse.TheVariants.{Off, Stop, Fail}
 use Rattle.vb_types.specs.declared.journal.FlushPart.TheVariants as part
@@ -31,9 +31,9 @@ pub one : (why : Cause) (told : Told) → told ≡ refusal why → Refused (why 
 one why told e = (ap (λ (t : Told). t.events) e, inl (ap (λ (t : Told). t.answer) e))
 
 -- a node that is told down is made, and does not run
-down_is : (told : ArmTold) (o : Option PlainNode) → PowerIsIf told (power_in o) → told.down ≡ is_off o
-down_is told None p = ap (λ (t : ArmTold). t.down) p
-down_is told (Some node) p = p.down
+down_as_off : (told : ArmKnown) (o : Option PlainNode) → PowerIsIf told (power_in o) → told.down ≡ is_off o
+down_as_off told None p = ap (λ (t : ArmKnown). t.down) p
+down_as_off told (Some node) p = p.down
 
 -- lines of one node
 
@@ -115,18 +115,18 @@ over w r l ruled told a rule closed = by (r.dial_of l) refl
     by None e = one Cause.LinkClosed told (closed (undialed w r l a e))
     by (Some dial) e = rule
 
-pub closed_link : (w : PlainWorld) (l : ℕ) (end : PlainLink → ℕ) (f : PlainLink → PlainNode → PlainNode × LinkTold) → row_at link_number l w.links ≡ None → (on_link w l end f).1 ≡ refusal Cause.LinkClosed
-closed_link w l end f none = ap (λ o. (link_outcome w l end f o).1) none
+pub closed_link_refused : (w : PlainWorld) (l : ℕ) (end : PlainLink → ℕ) (f : PlainLink → PlainNode → PlainNode × LinkResult) → row_at link_number l w.links ≡ None → (on_link w l end f).1 ≡ refusal Cause.LinkClosed
+closed_link_refused w l end f none = ap (λ o. (link_outcome w l end f o).1) none
 
 -- ---- each line
 
 module _ (w : PlainWorld) (r : Chronicle) (a : Agrees w r) where
-  pub off_is : (n : ℕ) → is_told_down r n ≡ is_off (w.nodes n)
-  off_is n = down_is (r.arm_at n) (w.nodes n) (a.1.powers n)
+  pub off_as_power : (n : ℕ) → is_told_down r n ≡ is_off (w.nodes n)
+  off_as_power n = down_as_off (r.arm_at n) (w.nodes n) (a.1.powers n)
 
   -- of a node
   pub bound_at : (n : ℕ) (ruled : Type 0) (told : Told) → ruled → (is_off (w.nodes n) ≡ true → told ≡ refusal Cause.NodeDown) → IsBound (if_down (is_told_down r n)) ruled told.events told.answer
-  bound_at n ruled told rule refused = bound (is_told_down r n) Cause.NodeDown [] ruled told rule (λ e. one Cause.NodeDown told (refused (sym (off_is n) ∙ e)))
+  bound_at n ruled told rule refused = bound (is_told_down r n) Cause.NodeDown [] ruled told rule (λ e. one Cause.NodeDown told (refused (sym (off_as_power n) ∙ e)))
 
   -- that changes nothing else
   pub bound_plain : (n : ℕ) (f : PlainNode → PlainNode × Told) (ruled : Type 0) → ruled → (let told = (on_node w n f).1 in IsBound (if_down (is_told_down r n)) ruled told.events told.answer)

@@ -5,19 +5,19 @@ use Rattle.transcript_law.proofs.Words.{IsNew, with_entry, fork_of, last_seq, ma
 use Rattle.transcript_law.proofs.Words.{Outcome, PlainLink, PlainNode, PlainWorld, with_node_at, on_node, first_cause, refused_or, is_one_of, vb_causes, with_vb, vb_at, replica_causes, replica_at, vb_in, shelf_in, with_branches}
 use Rattle.transcript_law.proofs.Words.{Chronicle, parent_branch, changes_between, after_branch, after_lines, after_role, known_history, LawfulFrom, LawfulRole, StaysSound, StreamName, upto_none, vb_step}
 use Rattle.transcript_law.proofs.{disks.Absent.{NothingHere, nothing_here}, disks.Appending.{noted_node, state_came, told_disk}, disks.ArmedLines.{ArmedCame}, invariant.JobSteps.{put_found, shelf_found, shelf_over}, lines.Lines.{AreQuiet}, disks.Firing.{made_noting}, disks.Noting.{LineCame, came_as, came_goes, caused, kept_came, refused_came}}
-use Rattle.transcript_law.proofs.invariant.Agreement.{AgreesAt, AgreesIn, Agrees, AwayAt, BranchIs, LinkAgrees, ChangeFits, DiskIsIf, EntryFits, IsLink, LineGoes, PowerIsIf, RestsIn, VbAgrees, VbHolds, Writes, WritesIf, idle, is_down, own_history, power_of, shelf_of, top, vb_contents, vb_of, vb_row}
-use Rattle.transcript_law.proofs.{invariant.Carried.{all_vbs, places}, invariant.Carrying.{Changed}, disks.Disks.{AwayIs, ShelfIs, bare as bare_record, disk_same, no_spots, parts_of, power_in, same_parts}, invariant.OneLink.{put_here, put_there}, invariant.Resting.{ends_again, rests_by}, invariant.Seats.{seat, seats_apart}, links.Turning.{same_put}}
+use Rattle.transcript_law.proofs.invariant.Agreement.{AgreesAt, AgreesIn, Agrees, AwayAt, BranchAgrees, LinkAgrees, ChangeFits, DiskIsIf, EntryFits, IsLink, LineGoes, PowerIsIf, RestsIn, VbAgrees, VbHolds, Writes, WritesIf, idle, is_down, own_history, power_of, shelf_of, top, vb_contents, vb_of, vb_row}
+use Rattle.transcript_law.proofs.{invariant.Carried.{all_vbs, places}, invariant.Carrying.{Changed}, disks.Disks.{AwayAgrees, ShelfIs, bare as bare_record, disk_same, no_spots, parts_of, power_in, same_parts}, invariant.OneLink.{put_here, put_there}, invariant.Resting.{ends_again, rests_by}, invariant.Seats.{seat, seats_apart}, links.Turning.{put_itself}}
 use Rattle.transcript_law.proofs.lines.Telling.{branch_line}
 use Rattle.transcript_law.proofs.{invariant.Majorities.{alone_counts}, verbs.NodeLines.{node_changed, on_node_by, more_used, new_links, vb_told, role_row, role_there, role_here}}
 use Rattle.transcript_law.specs.{Chronicles.{alone}, Lawfulness.{LawfulBranch, fork_in, newest_of}}
 use Rattle.transcript_law.proofs.{invariant.Tables.{at_here, at_there, if_known, id_here, id_there, unused, none_there, none_hold}, invariant.Trees.{IsTold, is_told_here, is_told_there, new_untold}, invariant.Wholes.{WholeTo, spanned_none}}
 use Rattle.{branch_model.proofs.Holding.{holds_none}, branch_model.specs.Journals.{place_of}, cluster_model.specs.Clusters.{Disk, blank, front_or, member_fork, opened, promoted}, disk_journals.specs.Arms.{armed_at, under}, node_core.specs.Admin.{noted_answer}}
-use Rattle.node_world.specs.{Arms.{fired_by, fuse_or, lifted, under_arm}, Nodes.{shelf_or_blank, vb_made, vb_new}, Power.{with_arm}, Worlds.{arm_in}}
+use Rattle.node_world.specs.{Arms.{fired_by, fuse_or, lifted, under_arm}, Nodes.{shelf_or_blank, vb_made, vb_noted}, Power.{with_arm}, Worlds.{arm_in}}
 use Rattle.{vb_calls.specs.Flushes.{wrote_of}, vb_calls.specs.State.{first_log}, vb_disk.specs.declared.fuse.Fuse.TheVariants.{Off}, vb_types.specs.declared.journal.Record.{Record}}
 use Rattle.node_world.specs.Nodes.{vb_told as said_of_vb}
-use Rattle.transcript_law.specs.Chronicles.{DiskTold, after_made, after_noted, blank_disk}
+use Rattle.transcript_law.specs.Chronicles.{DiskKnown, after_made, after_noted, blank_disk}
 use Rattle.transcript_law.specs.Chronicles.{with_disk as told_disk_at}
-use Rattle.vb_calls.specs.Shelves.{Append, DiskFailed, Fate, Shelf, Stood, WasClosed, ask_at, asked_shelf, blank_shelf, with_shelf_at}
+use Rattle.vb_calls.specs.Shelves.{Append, DiskFailed, Fate, Shelf, Stood, WasClosed, ask_at, shelf_step, blank_shelf, with_shelf_at}
 use Rattle.vb_types.specs.declared.journal.Record.TheVariants as noted
 use Rattle.transcript_law.proofs.invariant.Bounded.{Weighs}
 
@@ -52,9 +52,9 @@ module _ (w : PlainWorld) (r : Chronicle) (c : Cluster) (n v uuid : ℕ) (parent
         named = x.named;
       }
 
-  branch_history : (m q : ℕ) → (m ≡ n → q ≡ v → ⊥) → BranchIs (r.branch_at m q) (c.nodes (seat m q)).br → own_history r m q ≡ own_history branching m q
+  branch_history : (m q : ℕ) → (m ≡ n → q ≡ v → ⊥) → BranchAgrees (r.branch_at m q) (c.nodes (seat m q)).br → own_history r m q ≡ own_history branching m q
   branch_history m q other is =
-      elim (r.branch_at m q) as (λ o. BranchIs o (c.nodes (seat m q)).br → known_history r.tree o ≡ known_history branching.tree o)
+      elim (r.branch_at m q) as (λ o. BranchAgrees o (c.nodes (seat m q)).br → known_history r.tree o ≡ known_history branching.tree o)
       [ None ↦ λ e. refl | Some u ↦ λ e. sym (hist_there new_one r.tree u (λ k. off_branch (seat m q) (k ∙ sym e))) ] is
       ∙ ap (known_history branching.tree) (sym (at_there r.branch_at n v (Some uuid) m q other))
 
@@ -99,14 +99,14 @@ new_disk n role uuid = record {
 }
 
 -- a disk that may be there, and is blank
-blank_there : (told : DiskTold) (d : Disk) (s : Option Shelf) → DiskIsIf told d s None → (shelf_or_blank s ≡ blank_shelf) × AwayIs told d
+blank_there : (told : DiskKnown) (d : Disk) (s : Option Shelf) → DiskIsIf told d s None → (shelf_or_blank s ≡ blank_shelf) × AwayAgrees told d
 blank_there told d None x = (refl, x)
 blank_there told d (Some s) x = (x.2, x.0)
 
 -- where no record stands, there is nothing at all
-away_blank : (told : DiskTold) (d : Disk) → d.book ≡ [] → AwayIs told d → (record told { there = true } ≡ record blank_disk { there = true }) × (d ≡ blank)
+away_blank : (told : DiskKnown) (d : Disk) → d.book ≡ [] → AwayAgrees told d → (record told { there = true } ≡ record blank_disk { there = true }) × (d ≡ blank)
 away_blank told d none x = (
-  ap (λ (t : DiskTold). record t { there = true }) x.told_is ∙ ap (λ js. record blank_disk { book = map bare_record js; saved = (place_of js).at; there = true }) none,
+  ap (λ (t : DiskKnown). record t { there = true }) x.told_is ∙ ap (λ js. record blank_disk { book = map bare_record js; saved = (place_of js).at; there = true }) none,
   x.disk ∙ ap opened none,
 )
 
@@ -120,7 +120,7 @@ module _ (w : PlainWorld) (r : Chronicle) (c : Cluster) (n v uuid : ℕ) (role :
   nothing : NothingHere r n v (c.nodes (seat n v)) (c.disks (seat n v))
   nothing = nothing_here w r c n v a not_made up
 
-  blank_now : (shelf_or_blank (node.shelves v) ≡ blank_shelf) × AwayIs (r.disk_at n v) (c.disks (seat n v))
+  blank_now : (shelf_or_blank (node.shelves v) ≡ blank_shelf) × AwayAgrees (r.disk_at n v) (c.disks (seat n v))
   blank_now = blank_there (r.disk_at n v) (c.disks (seat n v)) (node.shelves v)
       (subst (λ s. DiskIsIf (r.disk_at n v) (c.disks (seat n v)) s None) (ap (λ o. shelf_in o v) known) (subst (DiskIsIf (r.disk_at n v) (c.disks (seat n v)) (shelf_of w n v)) not_made (a.disks n v)))
 
@@ -137,7 +137,7 @@ module _ (w : PlainWorld) (r : Chronicle) (c : Cluster) (n v uuid : ℕ) (role :
     world = record { nodes = (with_node_at w n first).nodes; uuids = uuids; links = w.links }
 
     -- it has a disk now
-    abbrev there_now : DiskTold
+    abbrev there_now : DiskKnown
     there_now = record (q.disk_at n v) { there = true }
 
     abbrev told : Chronicle
@@ -153,7 +153,7 @@ module _ (w : PlainWorld) (r : Chronicle) (c : Cluster) (n v uuid : ℕ) (role :
     new_disks =
         let blanks = away_blank (r.disk_at n v) (c.disks (seat n v)) nothing.book blank_now.1 in
         all_vbs w world n v vb (λ m p o. DiskIsIf (told.disk_at m p) (c'.disks (seat m p)) (shelf_of world m p) o) changed.here changed.there
-        (disk_same (Some vb) (Some vb) (at_here q.disk_at n v there_now ∙ ap (λ (t : DiskTold). record t { there = true }) (disks_told n v) ∙ blanks.0) (disks (seat n v) ∙ blanks.1) shelf_first refl (new_disk n role uuid))
+        (disk_same (Some vb) (Some vb) (at_here q.disk_at n v there_now ∙ ap (λ (t : DiskKnown). record t { there = true }) (disks_told n v) ∙ blanks.0) (disks (seat n v) ∙ blanks.1) shelf_first refl (new_disk n role uuid))
         (λ m p o. disk_same (vb_of w m p) (vb_of w m p) (at_there q.disk_at n v there_now m p o ∙ disks_told m p) (disks (seat m p)) (changed.shelves m p o) (same_parts (vb_of w m p)) (a.disks m p))
 
     -- before that is told
@@ -164,7 +164,7 @@ module _ (w : PlainWorld) (r : Chronicle) (c : Cluster) (n v uuid : ℕ) (role :
         (places n v m p))
         (λ m p down. ⊎_elim (λ s. let z : true ≡ false = sym down ∙ ap (λ k. is_down (power_of w k)) s.0 ∙ up in cc)
         (λ o. (changed.there m p o ∙ (a.downs m p).vb_none down, changed.shelves m p o ∙ (a.downs m p).shelf_none down)) (places n v m p))
-        (λ m p e. ap (λ (t : DiskTold). t.there) (sym (disks_told m p)) ∙ e)
+        (λ m p e. ap (λ (t : DiskKnown). t.there) (sym (disks_told m p)) ∙ e)
         (λ x i. ends_again w world x changed.powers (a.ends x i))
 
     new_rests : RestsIn world told c'
@@ -175,7 +175,7 @@ module _ (w : PlainWorld) (r : Chronicle) (c : Cluster) (n v uuid : ℕ) (role :
           (places n v m p);
       downs = rests_bare.downs;
       ends = rests_bare.ends;
-      small = λ m p e. ⊎_elim (λ s. subst (λ k. k < 1024) (sym s.1) small) (λ o. rests_bare.small m p (ap (λ (t : DiskTold). t.there) (sym (at_there q.disk_at n v there_now m p o)) ∙ e)) (places n v m p);
+      small = λ m p e. ⊎_elim (λ s. subst (λ k. k < 1024) (sym s.1) small) (λ o. rests_bare.small m p (ap (λ (t : DiskKnown). t.there) (sym (at_there q.disk_at n v there_now m p o)) ∙ e)) (places n v m p);
     }
 
     -- what the vBucket agrees with, all do
@@ -196,7 +196,7 @@ module _ (n v uuid : ℕ) (role : Role) (node : PlainNode) where
 
   -- what the append comes to
   abbrev wrote : Shelf × Fate
-  wrote = asked_shelf (under node.arm.fuse blank_shelf) (Append what)
+  wrote = shelf_step (under node.arm.fuse blank_shelf) (Append what)
 
   abbrev bare_node : PlainNode
   bare_node = bare node n v role uuid
@@ -207,8 +207,8 @@ module _ (n v uuid : ℕ) (role : Role) (node : PlainNode) where
 
   made_is : shelf_or_blank (node.shelves v) ≡ blank_shelf → vb_made n v role uuid node ≡ (noted_with, said_of_vb n v role uuid wrote.1)
   made_is blanks =
-      ap (λ s. under_arm v (vb_new n v role uuid) (record node { shelves = with_shelf_at node.shelves v s })) blanks
-      ∙ ap (λ o. let x = vb_new n v role uuid (record base { shelves = armed_at base.shelves v node.arm.fuse o }) in (lifted v x.0, x.1)) (shelf_found node.shelves v blank_shelf)
+      ap (λ s. under_arm v (vb_noted n v role uuid) (record node { shelves = with_shelf_at node.shelves v s })) blanks
+      ∙ ap (λ o. let x = vb_noted n v role uuid (record base { shelves = armed_at base.shelves v node.arm.fuse o }) in (lifted v x.0, x.1)) (shelf_found node.shelves v blank_shelf)
       ∙ ap (λ o. let x = ask_at over.shelves v (Append what) o in (lifted v (with_vb over n v role uuid x.0), said_of_vb n v role uuid x.1)) (shelf_found base.shelves v (under node.arm.fuse blank_shelf))
       ∙ ap (λ o. (record after { shelves = armed_at after.shelves v Off o; arm = record node.arm { fuse = fuse_or node.arm.fuse (option_map (λ (s : Shelf). s.fuse) o) } }, said_of_vb n v role uuid wrote.1)) (shelf_found over.shelves v wrote.0)
       ∙ ap (λ s. (record after { shelves = s; arm = record node.arm { fuse = wrote.0.fuse } }, said_of_vb n v role uuid wrote.1))
@@ -224,7 +224,7 @@ module _ (n v uuid : ℕ) (role : Role) (node : PlainNode) where
       after = with_vb over n v role uuid (with_shelf_at over.shelves v wrote.0)
 
   -- all agree then, where they did before its role was written down: the vBucket is made all the same where that may not stand
-  written_came : (w : PlainWorld) (uuids : List ℕ) (q : Chronicle) → let there_now : DiskTold = record (q.disk_at n v) { there = true } in
+  written_came : (w : PlainWorld) (uuids : List ℕ) (q : Chronicle) → let there_now : DiskKnown = record (q.disk_at n v) { there = true } in
       Agrees (record { nodes = (with_node_at w n bare_node).nodes; uuids = uuids; links = w.links }) (told_disk_at q n v there_now) → is_some node.off ≡ false
       → ArmedCame n (λ said t. after_made t n v role said) (fired_by node.arm.fuse wrote.0.fuse) q (record { nodes = (with_node_at w n noted_with).nodes; uuids = uuids; links = w.links }) (noted_answer (wrote_of wrote.1) Answer.Ok)
   written_came w uuids q (c, a) runs =
@@ -367,7 +367,7 @@ module _ (starts : StartsSound) (w : PlainWorld) (r : Chronicle) (c : Cluster) (
       unlogged = λ e. let z : Some uuid ≡ None = sym branch_here ∙ e in cc;
     };
     member = record { active = refl; position = ap (λ (p : Position). complete_position p.at) unmade.position; log = λ i. with_entry uuid (no_fork i) (unmade.names i) };
-    branch = subst (λ o. BranchIs o uuid) (sym branch_here) refl;
+    branch = subst (λ o. BranchAgrees o uuid) (sym branch_here) refl;
     holds = subst (λ h. HoldsAt 0 (WholeTo 0 no_spans (complete_position 0)) h (own_history branched n v)) (sym unmade.changes) (holds_none 0 (WholeTo 0 no_spans (complete_position 0)) (own_history branched n v) (λ i y. y.1));
   }
 
@@ -391,7 +391,7 @@ module _ (starts : StartsSound) (w : PlainWorld) (r : Chronicle) (c : Cluster) (
   others = put_there c.nodes k (promoted m uuid)
 
   same_disks : (j : ℕ) → risen.disks j ≡ c.disks j
-  same_disks j = same_put c.disks k j
+  same_disks j = put_itself c.disks k j
 
   abbrev active_world : PlainWorld
   active_world = record { nodes = (with_node_at w n (bare node n v Role.Active uuid)).nodes; uuids = uuids; links = w.links }

@@ -3,10 +3,10 @@ use Rattle.std.specs.Prelude.{◌≡◌, ◌∷◌, if◌then◌else◌}
 use Rattle.transcript_law.proofs.Words.{ℕ, Bool, true, false, List, [], refl, ap, sym, ◌∙◌, subst, Option, Some, None, not, is_some, eq-eqb, Answer, Cause, Event, Plain, States, Sound, StaysSound, is_active, newest_branch, with_vb_at, call_at, quiet_reply, VbAnswer, VbCall, VbReply, Status, plain_step, refusal_reply}
 use Rattle.transcript_law.proofs.Words.{Chronicle, PlainNode, PlainWorld, Told, first_cause, on_node, refusal, refused_or, vb_in, with_node_at, with_states, after_lines}
 use Rattle.transcript_law.proofs.{invariant.Agreement.{Agrees, AgreesIn, GoesOn, VbAgrees, active_counts, idle}, links.Behind.{nothing_beside, posts_behind}, invariant.Counts.{counts_agree}, verbs.Expiring.{both, expired_log, expired_told, expires}, invariant.JobSteps.{put_found, put_over}}
-use Rattle.transcript_law.proofs.{verbs.NodeLines.{as_told, node_changed, node_grown, on_node_by, on_node_goes, refused_on, same_node, shelves_again, shelves_put, agrees_same, put_same}, invariant.Ranged.{IsRanged, NodeRanged, NodeRangedIf}, invariant.Seats.{seat}, verbs.Settling.{SettlesOn, Steady, changes_quiet, changes_told, settled_told, settles}, verbs.Writing.{mine}}
+use Rattle.transcript_law.proofs.{verbs.NodeLines.{as_told, node_changed, node_grown, on_node_by, on_node_goes, refused_on, node_of_same_vbs, shelves_again, shelves_put, agrees_same, put_same}, invariant.Ranged.{IsRanged, NodeRanged, NodeRangedIf}, invariant.Seats.{seat}, verbs.Settling.{SettlesOn, Steady, changes_quiet, changes_told, settled_told, settles}, verbs.Writing.{mine}}
 use Rattle.durability.specs.Chains.{Members, is_chain}
 use Rattle.node_core.specs.Calls.{own_lines}
-use Rattle.node_core.specs.Flushing.{settled_told as said_of_call}
+use Rattle.node_core.specs.Flushing.{settled_result as said_of_call}
 use Rattle.node_world.specs.Nodes.{chain_line, chain_made, is_active_one, settled as settled_node, tick_line}
 use Rattle.vb_calls.specs.Durable.{expired, then_settled}
 use Rattle.vb_calls.specs.Settling.{Resolving, also_resolved, settled, unresolved}
@@ -109,12 +109,12 @@ module _ (stays : StaysSound) (steady : Steady) (w : PlainWorld) (r : Chronicle)
 
     -- one that is not active has no prepare that waits for a time
     idle_goes : Goes (tick_at (vb, refusal_reply Status.NotMyVbucket))
-    idle_goes = (tt, agrees_same w (with_node_at w n (with_states node (with_vb_at node.vbs v vb))) r a (same_node w n node (with_states node (with_vb_at node.vbs v vb)) known (put_same node.vbs v vb has) (λ q. refl) refl))
+    idle_goes = (tt, agrees_same w (with_node_at w n (with_states node (with_vb_at node.vbs v vb))) r a (node_of_same_vbs w n node (with_states node (with_vb_at node.vbs v vb)) known (put_same node.vbs v vb has) (λ q. refl) refl))
 
     active_goes : is_active vb.role ≡ true → Goes (tick_at (also_resolved (also_resolved (quiet_reply VbAnswer.Done) (expired clock vb)).1 (settled (expired clock vb).vb)))
     active_goes active =
         let node1 : PlainNode = with_states node (with_vb_at node.vbs v vb) in let w1 : PlainWorld = with_node_at w n node1 in
-        let now : Agrees w1 r = agrees_same w w1 r a (same_node w n node node1 known (put_same node.vbs v vb has) (λ q. refl) refl) in
+        let now : Agrees w1 r = agrees_same w w1 r a (node_of_same_vbs w n node node1 known (put_same node.vbs v vb has) (λ q. refl) refl) in
         let t : Resolving = expired clock vb in let u : Resolving = settled t.vb in
         let s : SettlesOn w1 r n v (unresolved vb) (both t u) = expires n v steady.commits clock w1 r now.0 node1 vb now.1 (ap (λ b. if b then Some node1 else w.nodes n) (eq-eqb n n refl)) (put_found node.vbs v vb) active in
         settled_goes stays steady w r n v node ranged vb (both t u) (also_resolved (also_resolved (quiet_reply VbAnswer.Done) t).1 u).1 s (expired_told n v t u (newest_branch vb.log) s.cs (ap newest_branch (expired_log clock vb)) (ap newest_branch s.log) s.changes)

@@ -6,12 +6,12 @@ use Rattle.transcript_law.proofs.Words.{ℕ, zero, suc, Bool, true, false, List,
 use Rattle.transcript_law.proofs.Words.{Cluster, Member, SoundCluster, StreamName, link_number, StaysSound, Plain, PlainLink, producer_node, consumer_node, PlainNode, PlainWorld, with_node_at, vb_in, shelf_in, first_cause, refused_or, done, Cause, Chronicle, Dial, after_lines}
 use Rattle.{branch_model.proofs.Lists.{upto_all}, branch_model.specs.Journals.{batches, end_of, found, last_log, log_of, place_of}, cluster_model.specs.Clusters.{Disk, front_or, opened}}
 use Rattle.{disk_journals.specs.Books.{Book, below, book_at, listed, listed_below}, disk_journals.proofs.Numbers.{lists_all}, disk_journals.specs.declared.crash.TheConstants.{NUMBERS}, vb_types.specs.declared.journal.Record.{Record}}
-use Rattle.{node_world.specs.Arms.{no_arm as unarmed}, node_world.specs.Power.{all_cut, books_left, crash_causes, crash_step, down_lines, dropped, is_number, stopped_node, touches}, node_world.specs.Worlds.{is_up, node_if}}
+use Rattle.{node_world.specs.Arms.{no_arm as unarmed}, node_world.specs.Power.{all_cut, books_left, crash_causes, crash_step, down_lines, dropped, is_this_number, stopped_node, touches}, node_world.specs.Worlds.{is_up, node_if}}
 use Rattle.{vb_calls.specs.Shelves.{Shelf, left_book}, vb_disk.specs.declared.made.Outcome.{Outcome}}
-use Rattle.transcript_law.specs.Chronicles.{after_crash, after_crashed, alone, crashed_disk, down_told, finds, is_dial_at, newest_or, resting}
-use Rattle.transcript_law.proofs.{invariant.Agreement.{Agrees, AgreesAt, AgreesIn, AwayAt, BookIs, DiskIsIf, DownAt, GoesOn, IsAway, IsLink, LinkAgrees, Power, PowerIsIf, VbIsIf, VbRow, book_in, idle, is_down, power_of, shelf_of, top, vb_contents, vb_of, vb_row}, disks.ArmedLines.{AreEnds}}
+use Rattle.transcript_law.specs.Chronicles.{after_crash, after_crashed, alone, crashed_disk, known_down, finds, is_dial_at, newest_or, resting}
+use Rattle.transcript_law.proofs.{invariant.Agreement.{Agrees, AgreesAt, AgreesIn, AwayAt, BookAgrees, DiskIsIf, DownHolds, GoesOn, IsAway, IsLink, LinkAgrees, Power, PowerIsIf, VbIsIf, VbRow, book_in, idle, is_down, power_of, shelf_of, top, vb_contents, vb_of, vb_row}, disks.ArmedLines.{AreEnds}}
 use Rattle.transcript_law.proofs.{invariant.Carried.{branches_again, kept_same, link_carried, numbers}, disks.Crashed.{Loads, UnmadeIf, Written, are_written, away_late, crash_all, crash_here, crash_sound, crash_there, crash_tree, crashed_away, crashed_disk_is, crashed_rests, crashed_row, logs_fit, stood_end}}
-use Rattle.transcript_law.proofs.{disks.Disks.{AwayIs, power_in}, disks.Downed.{AreDialed, Downed, IsFree, down_dialed, down_ends, downed, ends_lawful, none_free}, invariant.Seats.{seat, seat_one}, invariant.Tables.{id_here, id_there, none_hold}, invariant.Trees.{IdsFit}}
+use Rattle.transcript_law.proofs.{disks.Disks.{AwayAgrees, power_in}, disks.Downed.{AreDialed, Downed, IsFree, down_dialed, down_ends, downed, ends_lawful, none_free}, invariant.Seats.{seat, seat_one}, invariant.Tables.{id_here, id_there, none_hold}, invariant.Trees.{IdsFit}}
 
 -- the books that a crash leaves
 
@@ -106,7 +106,7 @@ module _ (w : PlainWorld) (r : Chronicle) (c : Cluster) (n : ℕ) (node : PlainN
   -- what stands of the node's vBuckets
 
   unmade : (v : ℕ) (o : Option Plain) → vb_of w n v ≡ o → UnmadeIf o (r.disk_at n v) (c.disks (seat n v)) (shelf_of w n v)
-  unmade v None e = subst (λ p. BookIs p v (shelf_of w n v) (r.disk_at n v) (c.disks (seat n v))) (ap power_in at ∙ ap (λ o. Some (record { arm = node.arm; off = o })) on) (a.aways n v e).book
+  unmade v None e = subst (λ p. BookAgrees p v (shelf_of w n v) (r.disk_at n v) (c.disks (seat n v))) (ap power_in at ∙ ap (λ o. Some (record { arm = node.arm; off = o })) on) (a.aways n v e).book
   unmade v (Some vb) e = tt
 
   written : (v : ℕ) → Written (r.disk_at n v) (vb_contents r n v) (c.nodes (seat n v)) (c.disks (seat n v)) (shelf_of w n v)
@@ -148,11 +148,11 @@ module _ (w : PlainWorld) (r : Chronicle) (c : Cluster) (n : ℕ) (node : PlainN
     stays_away : AwayAt (power_of w n) v (shelf_of w n v) (r.role_at n v) (r.disk_at n v) m d
     stays_away = a.aways n v none
 
-    disk_by : (s : Option Shelf) → DiskIsIf (r.disk_at n v) d s None → AwayIs (r.disk_at n v) d
+    disk_by : (s : Option Shelf) → DiskIsIf (r.disk_at n v) d s None → AwayAgrees (r.disk_at n v) d
     disk_by None x = x
     disk_by (Some shelf) x = x.0
 
-    disk : AwayIs (r.disk_at n v) d
+    disk : AwayAgrees (r.disk_at n v) d
     disk = disk_by (shelf_of w n v) (subst (DiskIsIf (r.disk_at n v) d (shelf_of w n v)) none (a.disks n v))
 
     found_is : found d.book d.late (finds out) ≡ d.book
@@ -213,7 +213,7 @@ module _ (w : PlainWorld) (r : Chronicle) (c : Cluster) (n : ℕ) (node : PlainN
     away_now = crashed_away out (vb_row r n v) (c.nodes (seat n v)) m' (c.disks (seat n v)) d' (shelf_of w n v) (written v) (loads v)
         (logs_fit c' sound (subst IdsFit (sym (crash_tree n (finds out) 1024 c)) a.ids) m'.log (sound.stands (seat n v)).ancestry.at_forks) high_is
 
-  disk_now : (v : ℕ) → AwayIs (crashed_disk out (r.disk_at n v)) (c'.disks (seat n v))
+  disk_now : (v : ℕ) → AwayAgrees (crashed_disk out (r.disk_at n v)) (c'.disks (seat n v))
   disk_now v = crashed_disk_is out (vb_row r n v) (c.nodes (seat n v)) (c'.nodes (seat n v)) (c.disks (seat n v)) (c'.disks (seat n v)) (shelf_of w n v) (written v) (loads v)
 
   -- the books that are left
@@ -250,7 +250,7 @@ module _ (w : PlainWorld) (r : Chronicle) (c : Cluster) (n : ℕ) (node : PlainN
 
   disks_are : (m v : ℕ) → DiskIsIf (r'.disk_at m v) (c'.disks (seat m v)) (shelf_of w' m v) (vb_of w' m v)
   disks_are = by_node (λ m. (v : ℕ) → DiskIsIf (r'.disk_at m v) (c'.disks (seat m v)) (shelf_of w' m v) (vb_of w' m v)) n
-      (λ v. subst (λ o. DiskIsIf (r'.disk_at n v) (c'.disks (seat n v)) (shelf_in o v) (vb_in o v)) (sym here) (subst (λ (t : VbRow). AwayIs t.disk (c'.disks (seat n v))) (sym (row_here r n out v)) (disk_now v)))
+      (λ v. subst (λ o. DiskIsIf (r'.disk_at n v) (c'.disks (seat n v)) (shelf_in o v) (vb_in o v)) (sym here) (subst (λ (t : VbRow). AwayAgrees t.disk (c'.disks (seat n v))) (sym (row_here r n out v)) (disk_now v)))
       (λ m ne v. subst (λ o. DiskIsIf (r'.disk_at m v) (c'.disks (seat m v)) (shelf_in o v) (vb_in o v)) (sym (there m ne)) (subst (λ k. DiskIsIf (r'.disk_at m v) k (shelf_of w m v) (vb_of w m v)) (sym (others m v ne).1)
       (subst (λ (t : VbRow). DiskIsIf t.disk (c.disks (seat m v)) (shelf_of w m v) (vb_of w m v)) (sym (row_there r n out m v ne)) (a.disks m v))))
 
@@ -275,9 +275,9 @@ module _ (w : PlainWorld) (r : Chronicle) (c : Cluster) (n : ℕ) (node : PlainN
 
   powers_are : (m : ℕ) → PowerIsIf (r'.arm_at m) (power_of w' m)
   powers_are = by_node (λ m. PowerIsIf (r'.arm_at m) (power_of w' m)) n
-      (subst (PowerIsIf (r'.arm_at n)) (sym power_here) (subst (λ t. PowerIsIf t (Some (record { arm = unarmed; off = Some books }))) (sym (id_here r.arm_at n down_told))
+      (subst (PowerIsIf (r'.arm_at n)) (sym power_here) (subst (λ t. PowerIsIf t (Some (record { arm = unarmed; off = Some books }))) (sym (id_here r.arm_at n known_down))
       (record { fuse = refl; out = refl; down = refl; may_fire = tt; listed_so = λ b e. let same : books ≡ b = cc in subst (λ x. x ≡ listed (book_in x)) same (listed_again (λ v. option_map (left_book out) (node.shelves v))) })))
-      (λ m ne. subst (λ o. PowerIsIf (r'.arm_at m) (power_in o)) (sym (there m ne)) (subst (λ t. PowerIsIf t (power_of w m)) (sym (id_there r.arm_at n down_told m (λ e. ne (sym e)))) (a.powers m)))
+      (λ m ne. subst (λ o. PowerIsIf (r'.arm_at m) (power_in o)) (sym (there m ne)) (subst (λ t. PowerIsIf t (power_of w m)) (sym (id_there r.arm_at n known_down m (λ e. ne (sym e)))) (a.powers m)))
 
   aways_are : (m v : ℕ) → vb_of w' m v ≡ None → AwayAt (power_of w' m) v (shelf_of w' m v) (r'.role_at m v) (r'.disk_at m v) (c'.nodes (seat m v)) (c'.disks (seat m v))
   aways_are = by_node (λ m. (v : ℕ) → vb_of w' m v ≡ None → AwayAt (power_of w' m) v (shelf_of w' m v) (r'.role_at m v) (r'.disk_at m v) (c'.nodes (seat m v)) (c'.disks (seat m v))) n
@@ -288,10 +288,10 @@ module _ (w : PlainWorld) (r : Chronicle) (c : Cluster) (n : ℕ) (node : PlainN
       (subst (λ k. AwayAt (power_of w m) v (shelf_of w m v) (r.role_at m v) (r.disk_at m v) (c.nodes (seat m v)) k) (sym (others m v ne).1)
       (a.aways m v (sym (ap (λ o. vb_in o v) (there m ne)) ∙ none))))))
 
-  downs_are : (m v : ℕ) → DownAt (power_of w' m) (vb_of w' m v) (shelf_of w' m v)
-  downs_are = by_node (λ m. (v : ℕ) → DownAt (power_of w' m) (vb_of w' m v) (shelf_of w' m v)) n
-      (λ v. subst (λ o. DownAt (power_in o) (vb_in o v) (shelf_in o v)) (sym here) (record { vb_none = λ e. refl; shelf_none = λ e. refl }))
-      (λ m ne v. subst (λ o. DownAt (power_in o) (vb_in o v) (shelf_in o v)) (sym (there m ne)) (a.downs m v))
+  downs_are : (m v : ℕ) → DownHolds (power_of w' m) (vb_of w' m v) (shelf_of w' m v)
+  downs_are = by_node (λ m. (v : ℕ) → DownHolds (power_of w' m) (vb_of w' m v) (shelf_of w' m v)) n
+      (λ v. subst (λ o. DownHolds (power_in o) (vb_in o v) (shelf_in o v)) (sym here) (record { vb_none = λ e. refl; shelf_none = λ e. refl }))
+      (λ m ne v. subst (λ o. DownHolds (power_in o) (vb_in o v) (shelf_in o v)) (sym (there m ne)) (a.downs m v))
 
   small_are : (m v : ℕ) → (r'.disk_at m v).there ≡ true → v < 1024
   small_are = by_node (λ m. (v : ℕ) → (r'.disk_at m v).there ≡ true → v < 1024) n
@@ -343,7 +343,7 @@ pub record Drops (w : PlainWorld) (r : Chronicle) (n : ℕ) (out : Outcome) (als
   pub dialed : AreDialed r.dial_of (down_lines n also w)
   pub agrees : Agrees (dropped n out w) (after_crash (after_lines r (down_lines n also w)) n out)
 
-pub drops : StaysSound → (w : PlainWorld) (r : Chronicle) (n : ℕ) (out : Outcome) (also : Option ℕ) → Agrees w r → is_up (w.nodes n) ≡ true → IsFree also w.links → ((l : ℕ) → is_number l also ≡ true → (dial : Dial) × (r.dial_of l ≡ Some dial)) → Drops w r n out also
+pub drops : StaysSound → (w : PlainWorld) (r : Chronicle) (n : ℕ) (out : Outcome) (also : Option ℕ) → Agrees w r → is_up (w.nodes n) ≡ true → IsFree also w.links → ((l : ℕ) → is_this_number l also ≡ true → (dial : Dial) × (r.dial_of l ≡ Some dial)) → Drops w r n out also
 drops stays w r n out also (c, a) up free besides =
     let d : Downed w (after_lines r (down_lines n also w)) n = downed stays w r c n also a free in
     let still : is_up ((all_cut n w).nodes n) ≡ true = up_is ((all_cut n w).nodes n) ∙ ap is_on (d.powers n) ∙ sym (up_is (w.nodes n)) ∙ up in

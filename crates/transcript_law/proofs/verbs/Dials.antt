@@ -10,7 +10,7 @@ use Rattle.transcript_law.proofs.invariant.Seats.{seat}
 use Rattle.transcript_law.proofs.invariant.Agreement.{vb_of, VbAgrees, AgreesAt, request_frames, Talk, producer_seat, LinkAgrees, IsLink, idle, AgreesIn, Agrees, GoesOn, EndsStand, consumer_seat}
 use Rattle.transcript_law.proofs.invariant.LinkRows.{is_link_more, differ_more}
 use Rattle.transcript_law.proofs.invariant.Carried.{fed_same, kept_same, agrees_carried, stays_same, link_carried}
-use Rattle.{node_world.specs.Worlds.{is_off}, transcript_law.proofs.{invariant.Agreement.{EndsUp}, invariant.Resting.{off_is}}}
+use Rattle.{node_world.specs.Worlds.{is_off}, transcript_law.proofs.{invariant.Agreement.{EndsUp}, invariant.Resting.{off_as_power}}}
 use Rattle.transcript_law.proofs.links.Requests.{requests_readable}
 use Rattle.transcript_law.proofs.links.Verdicts.{asks_in_range}
 
@@ -116,7 +116,7 @@ module _ (w : PlainWorld) (r : Chronicle) (line l m n v : ℕ) (small : (n < 16)
       aways = a.aways;
       downs = a.downs;
       ends = λ x i. ⊎_elim
-          (λ e. subst (EndsUp dialed) (sym e) (record { producer = off_is (w.nodes m) ∙ up.0; consumer = off_is (w.nodes n) ∙ up.1; number = number }))
+          (λ e. subst (EndsUp dialed) (sym e) (record { producer = off_as_power (w.nodes m) ∙ up.0; consumer = off_as_power (w.nodes n) ∙ up.1; number = number }))
           (λ j. let e = a.ends x j in record { producer = e.producer; consumer = e.consumer; number = e.number })
           (is_link_more x new w.links i);
       small = a.small;

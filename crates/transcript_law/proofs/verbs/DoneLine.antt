@@ -1,7 +1,7 @@
 -- the line `done`: a batch counts as saved, and then what is due is acknowledged
 use Rattle.std.specs.Prelude.{◌≡◌, ◌∷◌, ◌==◌, if◌then◌else◌}
 use Rattle.transcript_law.proofs.Words.{ℕ, Bool, true, false, List, [], refl, sym, subst, Option, Some, None, Event, Chronicle, PlainLink, PlainNode, PlainWorld, Outcome, StaysSound, VbReply, after_job, on_node, own_link}
-use Rattle.node_core.specs.{Calls.{own_lines_if}, Flushing.{flush_at, flush_told}}
+use Rattle.node_core.specs.{Calls.{own_lines_if}, Flushing.{flush_at, flush_result}}
 use Rattle.node_world.specs.{Dues.{done_step, due_at, due_in, due_of, is_counted}, Nodes.{all_posted, flush_line, with_kept}}
 use Rattle.transcript_law.proofs.{invariant.Agreement.{Agrees, GoesOn}, lines.ClientLines.{clients_quiet, posts_of_clients}, verbs.DueLines.{due_goes}, verbs.FiredLines.{flush_steps}, verbs.FlushLines.{done_node_goes}, lines.Lines.{AreQuiet, quiet_more}, verbs.NodeLines.{as_told, on_node_by}, invariant.Ranged.{IsRanged}, verbs.Settling.{Steady, changes_quiet}}
 use Rattle.transcript_law.proofs.lines.Calm.{any_job}
@@ -16,7 +16,7 @@ own_quiet : (n v : ℕ) (o : Option VbReply) → AreQuiet (own_lines_if n v o)
 own_quiet n v None = tt
 own_quiet n v (Some reply) = changes_quiet n v reply.branch reply.changes
 
-step_quiet : (n v : ℕ) (came : Flushed) → AreQuiet (flush_told n v came).events
+step_quiet : (n v : ℕ) (came : Flushed) → AreQuiet (flush_result n v came).events
 step_quiet n v (Flushed.Took ss se at count) = elim (count == 0) as (λ b. AreQuiet (if b then [] else Event.Batch n v ss se at count ∷ [])) [ true ↦ tt | false ↦ (tt, tt) ]
 step_quiet n v (Flushed.Done reply) = own_quiet n v reply
 step_quiet n v other = tt

@@ -1,13 +1,13 @@
 -- the line `down`, from what agrees before it to what agrees after it
 use Rattle.std.specs.Prelude.{◌≡◌, ◌∷◌, ◌++◌}
-use Rattle.transcript_law.proofs.Words.{List, [], refl, ap, sym, subst, Option, Some, None, Frame, EndReason, Event, StaysSound, Ended, after_job, after_job_fold, job_stepped, DialTold, frame_taken}
+use Rattle.transcript_law.proofs.Words.{List, [], refl, ap, sym, subst, Option, Some, None, Frame, EndReason, Event, StaysSound, Ended, after_job, after_job_fold, job_stepped, DialResult, frame_taken}
 use Rattle.transcript_law.proofs.Words.{frames_taken, after_lines, ℕ, suc, drop, take, ◌∙◌, append-nil, All, frames_in, left_of, Readable, pieces_of_frames, Member, Plain, row_at, after_job_bind, over_why}
-use Rattle.transcript_law.proofs.Words.{dial_fed, PlainLink, link_number, producer_node, consumer_node, dial_of, moved_len, down_told, PlainWorld, Outcome, with_node_at, with_link, Chronicle, Dial}
+use Rattle.transcript_law.proofs.Words.{dial_bytes, PlainLink, link_number, producer_node, consumer_node, dial_of, moved_len, down_result, PlainWorld, Outcome, with_node_at, with_link, Chronicle, Dial}
 use Rattle.transcript_law.proofs.{Words.{Granted, PlainProducer, PlainConsumer}, links.Downing.{RolledAt, broken_answer, lifted_at, StandsAt, StandsWith, Asker, past, Line, so_far, link_now, now, Going, Stage, Reached, linked, counted, ended, asking_next, RefusedNext}}
-use Rattle.transcript_law.proofs.{links.Downing.{refused_next, next_downs, busy_at}, invariant.Agreement.{LinkAgrees, EndsStand, is_refused_ack, spoken, wants_of, UpIs, DownIs, waits_after, idle, Agrees, GoesOn, Wants}, links.Spoken.{spoken_dropped, spoken_front}, links.Taken.{dropped_taken, over_taken}}
-use Rattle.transcript_law.proofs.{links.Breaking.{back_reached}, links.Streaming.{streaming_next}, invariant.LinkRows.{found_is_link}, invariant.OneLink.{carries_link, carries_same}, lines.Lines.{after_more, lawful_more}, invariant.Carried.{told_none, one_here}}
-use Rattle.transcript_law.proofs.{invariant.Carried.{one_idle, one_none, talk_same}, verbs.NodeLines.{same_node}}
-use Rattle.{mcbp_frame.specs.Cutting.{fault_in, Parted}, node_core.specs.Dials.{fault_met, end_told, all_told, rest_met, bytes_taken}, node_world.specs.Links.{left_unless}}
+use Rattle.transcript_law.proofs.{links.Downing.{refused_next, next_downs, busy_at}, invariant.Agreement.{LinkAgrees, EndsStand, is_refused_ack, spoken, wants_of, UpIs, DownAgrees, waits_after, idle, Agrees, GoesOn, Wants}, links.Spoken.{spoken_dropped, spoken_front}, links.Taken.{dropped_taken, over_taken}}
+use Rattle.transcript_law.proofs.{links.Breaking.{back_reached}, links.Streaming.{streaming_next}, invariant.LinkRows.{found_is_link}, invariant.OneLink.{carries_link, carries_same}, lines.Lines.{after_more, lawful_more}, invariant.Carried.{told_of_same, one_here}}
+use Rattle.transcript_law.proofs.{invariant.Carried.{one_idle, one_none, talk_same}, verbs.NodeLines.{node_of_same_vbs}}
+use Rattle.{mcbp_frame.specs.Cutting.{fault_in, Parted}, node_core.specs.Dials.{fault_met, with_end_line, with_last_line, rest_met, bytes_taken}, node_world.specs.Links.{left_unless}}
 use Rattle.{node_world.specs.Nodes.{PlainNode, with_kept}, std.specs.List.{fold}, vb_events.specs.declared.event.EndReason.TheVariants.{Disk, Refused}}
 use Rattle.vb_events.specs.declared.event.Event.TheVariants as event
 use Rattle.transcript_law.proofs.{invariant.Agreement.{DiskIsIf, IsLink, consumer_seat, shelf_of}, disks.ArmedLines.{AreEnds, ArmedCame}, invariant.Carrying.{Relinked}, disks.Downed.{down_ends}, disks.Firing.{BrokenCame, breaks, this_noting}, invariant.LinkRows.{out_links, put_same}, lines.Lines.{AreQuiet}, verbs.NodeLines.{agrees_same}, links.Onward.{Kept, ended_back, onward_all, onward_none, over_apart, over_here, unarmed}}
@@ -38,7 +38,7 @@ module _ (stays : StaysSound) (line : Line) where
     abbrev at_frame : LinkAgrees (now line states at) (after_lines r events) g.cluster (link_now line at) [] (f ∷ rest)
     at_frame = linked line (f ∷ rest) states at events g
 
-    abbrev frame_came : Kept × DialTold
+    abbrev frame_came : Kept × DialResult
     frame_came = after_job (frame_taken f (so_far line at None events)) states.0 states.1
 
     -- the frames behind it
@@ -103,13 +103,13 @@ module _ (stays : StaysSound) (line : Line) where
       }
       by false e = let none : f ∷ spoken rest ≡ [] = sym (spoken_front f rest e) ∙ g.0 in cc
 
-  all_frames : (frames : List Frame) (so_far : Kept × DialTold) → Reached line frames so_far → Reached line [] (fold (job_stepped frame_taken) so_far frames)
+  all_frames : (frames : List Frame) (so_far : Kept × DialResult) → Reached line frames so_far → Reached line [] (fold (job_stepped frame_taken) so_far frames)
   all_frames [] so_far x = x
   all_frames (f ∷ rest) so_far x = all_frames rest (job_stepped frame_taken so_far f)
       (subst (λ y. Reached line rest (job_stepped frame_taken y f)) (sym x.same) (one f rest x.states x.at x.over x.events x.rolled x.stage))
 
   -- the frames that frame_came whole are taken
-  pub frames_reached : (frames : List Frame) (states : Kept) (s : DialTold) → Reached line frames (states, s) → Reached line [] (after_job (frames_taken frames s) states.0 states.1)
+  pub frames_reached : (frames : List Frame) (states : Kept) (s : DialResult) → Reached line frames (states, s) → Reached line [] (after_job (frames_taken frames s) states.0 states.1)
   unfolding frames_taken
   frames_reached frames states s x = subst (Reached line []) (sym (after_job_fold frame_taken frames (Ended s) states.0 states.1)) (all_frames frames (states, s) x)
 
@@ -196,7 +196,7 @@ module _ (stays : StaysSound) (w : PlainWorld) (r : Chronicle) (link : PlainLink
   mine : LinkAgrees w r a.0 link [] []
   mine = a.1.links link (found_is_link l w.links link found).0
 
-  parted : (all : List Frame) → DownIs link [] all → Parted all bytes (drop moved link.down)
+  parted : (all : List Frame) → DownAgrees link [] all → Parted all bytes (drop moved link.down)
   parted all x = subst (λ y. Parted y bytes (drop moved link.down)) (sym x.joined)
       (pieces_of_frames link.down_heard link.down x.behind moved (subst (All Readable) x.joined x.readable) x.bytes)
 
@@ -226,7 +226,7 @@ module _ (stays : StaysSound) (w : PlainWorld) (r : Chronicle) (link : PlainLink
   ] refl
 
   begins : Relinked w (with_node_at w n (with_kept node (unarmed v armed))) w.links
-  begins = same_node w n node (with_kept node (unarmed v armed)) known (λ q. refl) same_shelves refl
+  begins = node_of_same_vbs w n node (with_kept node (unarmed v armed)) known (λ q. refl) same_shelves refl
 
   -- the frames that come whole are about to be taken
   start_agrees : LinkAgrees (now line armed at) r a.0 start [] (frames_in bytes)
@@ -258,7 +258,7 @@ module _ (stays : StaysSound) (w : PlainWorld) (r : Chronicle) (link : PlainLink
       onward = record { arm = ap (option_map (λ (s : Shelf). s.fuse)) armed_here; lines = tt };
       cluster = a.0;
       agrees = carries_link idle (busy_at line (frames_in bytes)) w (now line armed at) r r a.0 l link start a.1 found (record { dialed = refl; desk = refl })
-          (record { powers = begins.powers; vbs = begins.vbs; shelves = begins.shelves; uuids = refl; linked = refl }) (λ s. s) (told_none l r) (one_idle l ([], frames_in bytes))
+          (record { powers = begins.powers; vbs = begins.vbs; shelves = begins.shelves; uuids = refl; linked = refl }) (λ s. s) (told_of_same l r) (one_idle l ([], frames_in bytes))
           (subst (λ b. LinkAgrees (now line armed at) r a.0 start b.0 b.1) (sym (one_here l ([], frames_in bytes))) start_agrees);
     };
   }
@@ -267,22 +267,22 @@ module _ (stays : StaysSound) (w : PlainWorld) (r : Chronicle) (link : PlainLink
   came = frames_reached stays line (frames_in bytes) armed (so_far line at None []) start_reached
 
   -- what is told of them, and of the link's end
-  abbrev told_of : Asker → Option EndReason → List Event → DialTold
-  told_of at' over events = all_told (so_far line at' over events)
+  abbrev known_of : Asker → Option EndReason → List Event → DialResult
+  known_of at' over events = with_last_line (so_far line at' over events)
 
-  abbrev given : Kept × DialTold
-  given = after_job (dial_fed (take moved link.down) (dial_of link)) armed.0 armed.1
+  abbrev given : Kept × DialResult
+  given = after_job (dial_bytes (take moved link.down) (dial_of link)) armed.0 armed.1
 
-  given_is : given ≡ (came.states, told_of came.at came.over came.events)
+  given_is : given ≡ (came.states, known_of came.at came.over came.events)
   unfolding bytes_taken
   given_is = after_job_bind (frames_taken (frames_in bytes) (so_far line at None [])) rest_met armed.0 armed.1 ∙ ap (λ y. after_job (rest_met y.1) y.0.0 y.0.1) came.same
-      ∙ ap (λ o. (came.states, all_told (fault_met o (so_far line came.at came.over came.events)))) (ap fault_in (parted mine.talk.said mine.talk.downs).waits)
+      ∙ ap (λ o. (came.states, with_last_line (fault_met o (so_far line came.at came.over came.events)))) (ap fault_in (parted mine.talk.said mine.talk.downs).waits)
 
   -- the world after the line and what is told of it, before the arm is looked at, and then
-  abbrev outcome_of : Kept × DialTold → Outcome
-  outcome_of came = let x = down_told link moved node came in with_link link (with_node_at w n (lifted v x.0), x.1)
+  abbrev outcome_of : Kept × DialResult → Outcome
+  outcome_of came = let x = down_result link moved node came in with_link link (with_node_at w n (lifted v x.0), x.1)
 
-  abbrev Goes : Kept × DialTold → Type 0
+  abbrev Goes : Kept × DialResult → Type 0
   Goes came = DownGoes r l wanted closed fuse (with_broken n l w (outcome_of came))
 
   -- while no rollback was begun, the arm is as it was
@@ -297,9 +297,9 @@ module _ (stays : StaysSound) (w : PlainWorld) (r : Chronicle) (link : PlainLink
 
   -- the link is open at the end
   open_goes : (states : Kept) (at' : Asker) (events : List Event) → over_why at'.waiting ≡ None → LawfulFrom r events → (list_any is_rollback events ≡ true → GoesBack (back_of r l) events × IsNoted closed fuse answer.Ok)
-      → Agrees (with_links (lifted_at line states) (row_put link_number l (link_now line at') w.links)) (after_rollback (after_lines r events) (back_of r l) events (answer.Number moved)) → Goes (states, told_of at' None events)
+      → Agrees (with_links (lifted_at line states) (row_put link_number l (link_now line at') w.links)) (after_rollback (after_lines r events) (back_of r l) events (answer.Number moved)) → Goes (states, known_of at' None events)
   open_goes states at' events still lawful passes agrees =
-      subst (λ o. Goes (states, end_told o (so_far line at' None events))) (sym still)
+      subst (λ o. Goes (states, with_end_line o (so_far line at' None events))) (sym still)
       (subst (λ o. DownGoes r l wanted closed fuse (with_broken n l w (with_link link (lifted_at line states, (left_unless o (link_now line at'), record { events = events; answer = down_answer moved o }))))) (sym still) ((lawful, agrees), (moved_few wanted link.down, passes)))
 
   -- its dial is told as before
@@ -308,9 +308,9 @@ module _ (stays : StaysSound) (w : PlainWorld) (r : Chronicle) (link : PlainLink
 
   -- it is over, not because of the disk
   over_goes : (states : Kept) (at' : Asker) (why : EndReason) (events : List Event) → is_broken (Some why) ≡ false → LawfulFrom r events → AreQuiet events → (after_lines r events).dial_of ≡ r.dial_of → (list_any is_rollback (events ++ event.Ended l why ∷ []) ≡ true → GoesBack (back_of r l) (events ++ event.Ended l why ∷ []) × IsNoted closed fuse answer.Ok)
-      → Agrees (unlinked link (lifted_at line states)) (after_rollback (after_end (after_lines r events) l) (back_of r l) (events ++ event.Ended l why ∷ []) (answer.Number moved)) → Goes (states, told_of at' (Some why) events)
+      → Agrees (unlinked link (lifted_at line states)) (after_rollback (after_end (after_lines r events) l) (back_of r l) (events ++ event.Ended l why ∷ []) (answer.Number moved)) → Goes (states, known_of at' (Some why) events)
   over_goes states at' why events other lawful quiet dials passes agrees =
-      let s : DialTold = so_far line at' (Some why) events in
+      let s : DialResult = so_far line at' (Some why) events in
       subst (λ b. Goes (states, if b then s else with_line s (event.Ended l why))) (sym other)
       (subst (λ b. DownGoes r l wanted closed fuse (with_broken n l w (unlinked link (lifted_at line states), record { events = events ++ event.Ended l why ∷ []; answer = if b then answer.No cause.Disk else answer.Number moved }))) (sym other) (
         (
@@ -357,7 +357,7 @@ module _ (stays : StaysSound) (w : PlainWorld) (r : Chronicle) (link : PlainLink
     answered fired.Failed i = (i, (_, x.rolls), behind_none events (event.CallFailed n ∷ disk_end l) x.came.2 refl)
     answered fired.Stopped i = (i, (_, x.rolls), behind_none events (event.NodeStopped n ∷ down_lines n (Some l) left) x.came.2 (ends_none (down_lines n (Some l) left) (down_ends n (Some l) left)))
 
-    broken_goes : Goes (states, told_of at' (Some Disk) events)
+    broken_goes : Goes (states, known_of at' (Some Disk) events)
     broken_goes =
         let g = breaks stays n noting (this_noting n v (appending x.what)) w left r events l (λ q. refl) (none_left states) (open_still events x.dials) a x.lawful x.quiet broken_came in
         ((g.0, subst (Agrees (out how).0) (told_is how (after_lines r (out how).1.events)) g.1), answered how (subst (λ (g : Arm). FiredIn (fired_by g.fuse (arm_in (left.nodes n)).fuse) closed fuse) (sym (ap arm_in known)) x.came.1))
@@ -366,7 +366,7 @@ module _ (stays : StaysSound) (w : PlainWorld) (r : Chronicle) (link : PlainLink
   none_back : (lines : List Event) → list_any is_rollback lines ≡ false → list_any is_rollback lines ≡ true → GoesBack (back_of r l) lines × IsNoted closed fuse answer.Ok
   none_back lines none e = let z : true ≡ false = sym e ∙ none in cc
 
-  end_goes : (states : Kept) (at' : Asker) (over : Option EndReason) (events : List Event) (rolled : Bool) → Stage line rolled [] states at' over events → Goes (states, told_of at' over events)
+  end_goes : (states : Kept) (at' : Asker) (over : Option EndReason) (events : List Event) (rolled : Bool) → Stage line rolled [] states at' over events → Goes (states, known_of at' over events)
   end_goes states at' None events false x = open_goes states at' events (still_open states at' events x) x.lawful (none_back events (onward_none events x.onward.lines))
       (subst (Agrees (with_links (lifted_at line states) (row_put link_number l (link_now line at') w.links))) (sym (told_of_none (after_lines r events) (back_of r l) events moved (onward_none events x.onward.lines)))
       (subst (λ y. Agrees (with_links (with_node_at w n y) (row_put link_number l (link_now line at') w.links)) (after_lines r events)) (arm_stays states x.onward.arm)

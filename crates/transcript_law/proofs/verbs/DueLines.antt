@@ -1,13 +1,13 @@
 -- what a vBucket's link acknowledges once more of the vBucket is written down
 use Rattle.std.specs.Prelude.{◌≡◌, ◌<◌, ◌≤◌, ◌∷◌, ◌++◌, ◌^◌, if◌then◌else◌}
 use Rattle.transcript_law.proofs.Words.{ℕ, true, false, List, [], refl, ap, sym, ◌∙◌, subst, append-nil, Option, Some, None, spelling, Event, Sound, after}
-use Rattle.transcript_law.proofs.Words.{DialTold, PlainLink, PlainNode, PlainWorld, link_number, consumer_node, dial_of, row_at, row_put, vb_in, own_link, with_links, with_node_at, with_states, Told, Chronicle, after_lines, LawfulFrom, fork_of, image_in}
+use Rattle.transcript_law.proofs.Words.{DialResult, PlainLink, PlainNode, PlainWorld, link_number, consumer_node, dial_of, row_at, row_put, vb_in, own_link, with_links, with_node_at, with_states, Told, Chronicle, after_lines, LawfulFrom, fork_of, image_in}
 use Rattle.transcript_law.proofs.invariant.Agreement.{vb_of, AgreesAt, VbAgrees, LinkAgrees, IsLink, consumer_seat, idle, AgreesIn, GoesOn}
-use Rattle.transcript_law.proofs.{links.Acknowledging.{DueCame, ack_frame, acked_agrees, ack_lawful, due_came}, invariant.Carrying.{Relinked}, disks.Downed.{row_found}, verbs.Leaving.{own_found}, invariant.LinkRows.{put_same}, verbs.NodeLines.{as_told, same_node}, invariant.OneLink.{carries_same}}
+use Rattle.transcript_law.proofs.{links.Acknowledging.{DueCame, ack_frame, acked_agrees, ack_lawful, due_came}, invariant.Carrying.{Relinked}, disks.Downed.{row_found}, verbs.Leaving.{own_found}, invariant.LinkRows.{put_same}, verbs.NodeLines.{as_told, node_of_same_vbs}, invariant.OneLink.{carries_same}}
 use Rattle.transcript_law.proofs.lines.Lines.{AreQuiet, after_more, lawful_more}
 use Rattle.transcript_law.specs.Lawfulness.{SavesThirds}
-use Rattle.{dcp_consumer.specs.Machine.{is_streaming}, node_core.specs.Dials.{acknowledged_line, acknowledged_told, due_asked, untold}}
-use Rattle.node_world.specs.Dues.{due_at, due_in, due_of, due_told, is_counted}
+use Rattle.{dcp_consumer.specs.Machine.{is_streaming}, node_core.specs.Dials.{acknowledged_line, acknowledged_result, due_requested, untold}}
+use Rattle.node_world.specs.Dues.{due_at, due_in, due_of, with_acknowledged, is_counted}
 
 -- a batch is done, which lets the vBucket v of the node n acknowledge more
 module _ (w : PlainWorld) (r : Chronicle) (n v : ℕ) (told : Told) (quiet : AreQuiet told.events) (g : GoesOn r as_told (w, told)) where
@@ -20,7 +20,7 @@ module _ (w : PlainWorld) (r : Chronicle) (n v : ℕ) (told : Told) (quiet : Are
   goes_with w' lines lawful a = (lawful_more r told.events lines quiet g.0 lawful, (g.1.0, subst (λ x. AgreesIn idle w' x g.1.0) (sym (after_more r told.events lines)) a))
 
   module _ (link : PlainLink) (own : IsLink link w.links) (here : consumer_node link ≡ n) (node : PlainNode) (at : w.nodes n ≡ Some node) where
-    abbrev s : DialTold
+    abbrev s : DialResult
     s = untold (dial_of link)
 
     abbrev mine : LinkAgrees w read g.1.0 link [] []
@@ -39,13 +39,13 @@ module _ (w : PlainWorld) (r : Chronicle) (n v : ℕ) (told : Told) (quiet : Are
     known = sym (ap (λ o. vb_in o link.consumer.dialed.vb) at) ∙ ap (λ m. vb_of w m link.consumer.dialed.vb) (sym here) ∙ mine.follower_is
 
     again : Relinked w (with_node_at w n (with_states node node.vbs)) w.links
-    again = same_node w n node (with_states node node.vbs) at (λ q. refl) (λ q. refl) refl
+    again = node_of_same_vbs w n node (with_states node node.vbs) at (λ q. refl) (λ q. refl) refl
 
     -- the world with this on its way from the consumer
     abbrev put : PlainLink → PlainWorld
     put link' = with_links (with_node_at w n (with_states node node.vbs)) (row_put link_number (link_number link) link' w.links)
 
-    silent : GoesOn r as_told (due_told n link node w told (node.vbs, s))
+    silent : GoesOn r as_told (with_acknowledged n link node w told (node.vbs, s))
     silent = let link' : PlainLink = record link { up = link.up ++ [] } in goes_with (put link') [] tt
         (carries_same idle idle w (put link') read g.1.0 g.1.1
         (record {
@@ -57,7 +57,7 @@ module _ (w : PlainWorld) (r : Chronicle) (n v : ℕ) (told : Told) (quiet : Are
         }) (λ k. refl))
 
     acked : (seq : ℕ) → is_streaming link.consumer.handshake ≡ true → seq < 2 ^ 64 → seq ≤ fork_of mine.follower.position → SavesThirds (image_in mine.follower) seq mine.follower.saved
-        → GoesOn r as_told (due_told n link node w told (node.vbs, acknowledged_told seq s mine.follower.saved))
+        → GoesOn r as_told (with_acknowledged n link node w told (node.vbs, acknowledged_result seq s mine.follower.saved))
     acked seq granted low shared thirds =
         let up : List ℕ = link.up ++ spelling (ack_frame seq link.consumer) in let link' : PlainLink = record link { consumer = record link.consumer { acked = seq }; up = up } in
         goes_with (put link') (acknowledged_line link.consumer.dialed seq mine.follower.saved ∷ []) (ack_lawful idle w read g.1.0 g.1.1 link [] [] mine seq granted shared thirds, tt)
@@ -66,9 +66,9 @@ module _ (w : PlainWorld) (r : Chronicle) (n v : ℕ) (told : Told) (quiet : Are
     node_goes : GoesOn r as_told (due_at n link w told (Some node))
     node_goes = by (due_came node.vbs mine.follower s known mine.follows sound)
       where
-        by : DueCame node.vbs mine.follower s (after (due_asked s) node.vbs) → GoesOn r as_told (due_told n link node w told (after (due_asked s) node.vbs))
-        by (DueCame.IsSilent e) = subst (λ y. GoesOn r as_told (due_told n link node w told y)) (sym e) silent
-        by (DueCame.IsAcked seq granted low shared thirds e) = subst (λ y. GoesOn r as_told (due_told n link node w told y)) (sym e) (acked seq granted low shared thirds)
+        by : DueCame node.vbs mine.follower s (after (due_requested s) node.vbs) → GoesOn r as_told (with_acknowledged n link node w told (after (due_requested s) node.vbs))
+        by (DueCame.IsSilent e) = subst (λ y. GoesOn r as_told (with_acknowledged n link node w told y)) (sym e) silent
+        by (DueCame.IsAcked seq granted low shared thirds e) = subst (λ y. GoesOn r as_told (with_acknowledged n link node w told y)) (sym e) (acked seq granted low shared thirds)
 
   at_node : (link : PlainLink) → IsLink link w.links → consumer_node link ≡ n → (o : Option PlainNode) → w.nodes n ≡ o → GoesOn r as_told (due_at n link w told o)
   at_node link own here None e = g

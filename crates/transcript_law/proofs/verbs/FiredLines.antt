@@ -1,9 +1,9 @@
 -- each line of a script tells of arms that fired as it is answered
 use Rattle.std.specs.Prelude.{◌≡◌, ◌∷◌, ◌++◌, ◌==◌, if◌then◌else◌}
-use Rattle.transcript_law.proofs.Words.{ℕ, Bool, true, false, List, [], refl, sym, subst, option_map, map, Option, Some, None, is_some, Answer, Cause, Event, Role, Chronicle, AdminCall, AdminTold, PlainLink, PlainNode, PlainWorld, Outcome, Told, VbAnswer, VbCall, VbReply, Status, after, with_states}
-use Rattle.transcript_law.proofs.Words.{admin_call, admin_line, admin_replied, admin_told, branch_lines, call_at, call_told, called_at, consumer_node, cut_off, document_line, first_cause, image_lines, link_number, no_node, node_outcome, on_node, own_link, prepare_line}
+use Rattle.transcript_law.proofs.Words.{ℕ, Bool, true, false, List, [], refl, sym, subst, option_map, map, Option, Some, None, is_some, Answer, Cause, Event, Role, Chronicle, AdminCall, AdminResult, PlainLink, PlainNode, PlainWorld, Outcome, Told, VbAnswer, VbCall, VbReply, Status, after, with_states}
+use Rattle.transcript_law.proofs.Words.{admin_call, admin_line, admin_replied, admin_result, branch_lines, call_at, call_told, called_at, consumer_node, cut_off, document_line, first_cause, image_lines, link_number, no_node, node_outcome, on_node, own_link, prepare_line}
 use Rattle.transcript_law.proofs.Words.{after_job, link_outcome, at_end, refusal, refused_or, role_outcome, row_at, turned_after, turned_if, with_ended, with_link, with_node_at}
-use Rattle.node_core.specs.{Calls.{own_lines, own_lines_if}, Admin.{admin_at, admin_job, admin_refused, promote_cause, role_at, role_noted}, Dials.{dial_due}, Flushing.{FlushTold, flush_answered, flush_at, flush_if, flush_told, settled_by, settled_told}}
+use Rattle.node_core.specs.{Calls.{own_lines, own_lines_if}, Admin.{admin_at, admin_job, admin_refused, promote_cause, role_at, role_noted}, Dials.{dial_due}, Flushing.{FlushResult, flush_answered, flush_at, flush_if, flush_result, settled_by, settled_result}}
 use Rattle.node_world.specs.{Arms.{placed, under_arm}, Dues.{due_at, due_in, due_of, is_counted}, Links.{dial_of}, Nodes.{all_posted, flush_line, save_line, vb_made, with_kept, with_posts}, Power.{is_broken_answer, with_broken}, Turns.{posted_at, posted_in, role_called}, World.{down_in, down_outcome, down_step}}
 use Rattle.std.specs.FinMap as finite
 use Rattle.script_text.specs.declared.verb.Verb.TheVariants as verb
@@ -12,7 +12,7 @@ use Rattle.transcript_law.proofs.{disks.AppendAnswers.{AllStand, unless_refused_
 use Rattle.transcript_law.proofs.{lines.Calm.{AnyAsk, Calm, Spared, Still, all_posts_calm, any_job, calm_map, calm_more, dial_due_calm, down_calm, either, posts_calm, posts_spared, spared_calm}, disks.Fired.{broken_fires, standing_fires}, verbs.NodeLines.{on_node_by}}
 use Rattle.transcript_law.specs.{Chronicles.{Dial}, Firings.{FiresAsSaid, FiresInLine, beside_rollbacks}}
 use Rattle.vb_calls.proofs.JobConduct.{after_job_always, always_bind_job}
-use Rattle.vb_calls.specs.Flushes.{batch_told, flush_job, part_job, role_job, taken_job, took}
+use Rattle.vb_calls.specs.Flushes.{batch_of_reply, flush_job, part_job, role_job, taken_job, took}
 use Rattle.vb_calls.specs.Jobs.{AlwaysJob, Job, Ended, lift}
 use Rattle.vb_calls.specs.Programs.{AnyCall, AnyReply}
 use Rattle.vb_calls.specs.Shelves.{Flush, Idle, Out, Written}
@@ -39,7 +39,7 @@ own_calm_if n v None = refl
 own_calm_if n v (Some reply) = own_calm n v reply
 
 -- whatever the vBucket replied
-call_spared : (n v : ℕ) (asked : AdminCall) (o : Option VbReply) → Spared (call_told (admin_told n v asked o))
+call_spared : (n v : ℕ) (asked : AdminCall) (o : Option VbReply) → Spared (call_told (admin_result n v asked o))
 call_spared n v asked None = refl
 call_spared n v asked (Some reply) = by asked reply.answer
   where
@@ -71,8 +71,8 @@ admin_spared n v asked job node = subst (λ j. Spared (call_told (after_job j no
 -- ---- changes of role
 
 -- what is told of one
-call_calm : (n v : ℕ) (asked : AdminCall) (o : Option VbReply) → Calm (admin_told n v asked o).events
-call_calm n v asked o = spared_calm (call_told (admin_told n v asked o)) (call_spared n v asked o)
+call_calm : (n v : ℕ) (asked : AdminCall) (o : Option VbReply) → Calm (admin_result n v asked o).events
+call_calm n v asked o = spared_calm (call_told (admin_result n v asked o)) (call_spared n v asked o)
 
 pub role_calm : (w : PlainWorld) (n v : ℕ) (asked : AdminCall) → admin_job n v asked ≡ role_at n v asked → Calm (role_outcome n v asked w).1.events
 role_calm w n v asked job = by_node (w.nodes n)
@@ -81,7 +81,7 @@ role_calm w n v asked job = by_node (w.nodes n)
     cuts None w1 = refl
     cuts (Some link) w1 = refl
 
-    by_ended : (o : Option (List ℕ)) (w1 : PlainWorld) (told : AdminTold) → Calm told.events → Calm (turned_if n v w o (w1, told)).1.events
+    by_ended : (o : Option (List ℕ)) (w1 : PlainWorld) (told : AdminResult) → Calm told.events → Calm (turned_if n v w o (w1, told)).1.events
     by_ended None w1 told c = c
     by_ended (Some ids) w1 told c =
         let w2 : PlainWorld = with_ended n v ids w1 in let own = own_link n v w2.links in
@@ -95,14 +95,14 @@ role_calm w n v asked job = by_node (w.nodes n)
             by (Some node) = calm_more t.events (all_posted rs node).1 c (all_posts_calm rs node)
 
     called_calm : (node : PlainNode) → Calm (called_at n v asked node).1.events
-    called_calm node = subst (λ (j : Job AdminTold). Calm (after_job j node.vbs node.shelves).1.events) (sym job)
-        (after_job_always AnyCall AnyAsk (λ (told : AdminTold). Calm told.events) (role_at n v asked) node.vbs node.shelves
-        (always_bind_job AnyReply AnyCall AnyAsk (λ made. Unit {0}) (λ (told : AdminTold). Calm told.events) (role_job v (admin_call asked)) (λ made. Ended (role_noted n v asked made)) (any_job (role_job v (admin_call asked))) (λ made any. call_calm n v asked made.0)))
+    called_calm node = subst (λ (j : Job AdminResult). Calm (after_job j node.vbs node.shelves).1.events) (sym job)
+        (after_job_always AnyCall AnyAsk (λ (told : AdminResult). Calm told.events) (role_at n v asked) node.vbs node.shelves
+        (always_bind_job AnyReply AnyCall AnyAsk (λ made. Unit {0}) (λ (told : AdminResult). Calm told.events) (role_job v (admin_call asked)) (λ made. Ended (role_noted n v asked made)) (any_job (role_job v (admin_call asked))) (λ made any. call_calm n v asked made.0)))
 
     node_calm : (node : PlainNode) → Calm (role_called n v asked node).1.events
     node_calm node = by (is_some node.off)
       where
-        by : (b : Bool) → Calm (let x : PlainNode × AdminTold = if b then (node, admin_refused Cause.NodeDown) else under_arm v (called_at n v asked) node in x.1.events)
+        by : (b : Bool) → Calm (let x : PlainNode × AdminResult = if b then (node, admin_refused Cause.NodeDown) else under_arm v (called_at n v asked) node in x.1.events)
         by true = refl
         by false = called_calm (placed v node)
 
@@ -116,7 +116,7 @@ refused_calm (Some why) before x c = refl
 
 -- ---- what is written down
 
-flushed_calm : (n v : ℕ) (came : Flushed) → Calm (flush_told n v came).events
+flushed_calm : (n v : ℕ) (came : Flushed) → Calm (flush_result n v came).events
 flushed_calm n v (flushed.Took ss se at count) = either Calm (count == 0) [] (Event.Batch n v ss se at count ∷ []) refl refl
 flushed_calm n v (flushed.Done reply) = own_calm_if n v reply
 flushed_calm n v other = refl
@@ -126,7 +126,7 @@ abbrev pub Taken : Flushed → Type 0
 Taken flushed.DiskFailed = ⊥
 Taken other = Unit {0}
 
-taken_spared : (n v : ℕ) (came : Flushed) → Taken came → FiresAsSaid None (flush_told n v came).events (flush_told n v came).answer
+taken_spared : (n v : ℕ) (came : Flushed) → Taken came → FiresAsSaid None (flush_result n v came).events (flush_result n v came).answer
 taken_spared n v (flushed.Took ss se at count) t = flushed_calm n v (flushed.Took ss se at count)
 taken_spared n v (flushed.Done reply) t = own_calm_if n v reply
 taken_spared n v flushed.DiskFailed t = absurd t
@@ -137,7 +137,7 @@ Steps P job = AlwaysJob AnyReply AnyCall AnyAsk P job
 
 -- `take` and `done` append nothing
 pub take_taken : (v : ℕ) (flush : Flush) → Steps Taken (part_job v part.Take flush)
-take_taken v Idle = (tt, λ reply any. by (batch_told reply))
+take_taken v Idle = (tt, λ reply any. by (batch_of_reply reply))
   where
     by : (o : Option Batch) → Steps Taken (taken_job v (λ batch. Ended (took batch)) o)
     by None = tt
@@ -150,13 +150,13 @@ done_taken v (Written seq) = (tt, λ kept. (tt, λ reply any. tt))
 done_taken v Idle = tt
 done_taken v (Out batch) = tt
 
-pub flush_steps : (P : FlushTold → Type 0) (Q : Flushed → Type 0) (n v : ℕ) (p : FlushPart) (node : PlainNode) → P (flush_answered (Answer.No Cause.UnknownVb)) → ((came : Flushed) → Q came → P (flush_told n v came))
+pub flush_steps : (P : FlushResult → Type 0) (Q : Flushed → Type 0) (n v : ℕ) (p : FlushPart) (node : PlainNode) → P (flush_answered (Answer.No Cause.UnknownVb)) → ((came : Flushed) → Q came → P (flush_result n v came))
     → ((flush : Flush) → Steps Q (part_job v p flush)) → P (after_job (flush_at n v p) node.vbs node.shelves).1
 unfolding flush_job
 flush_steps P Q n v p node none some steps = after_job_always AnyCall AnyAsk P (flush_at n v p) node.vbs node.shelves (tt, λ reply any. by (is_some reply))
   where
     by : (b : Bool) → AlwaysJob AnyReply AnyCall AnyAsk P (flush_if n v p b)
-    by true = always_bind_job AnyReply AnyCall AnyAsk Q P (flush_job v p) (λ came. Ended (flush_told n v came)) (tt, steps) some
+    by true = always_bind_job AnyReply AnyCall AnyAsk Q P (flush_job v p) (λ came. Ended (flush_result n v came)) (tt, steps) some
     by false = none
 
 pub flush_spared : (n v : ℕ) (p : FlushPart) → ((flush : Flush) → Steps Taken (part_job v p flush)) → (node : PlainNode) → Spared (flush_line n v p node).1
@@ -186,7 +186,7 @@ due_fires n v o spared = by_counted (is_counted o.1.answer) refl
 
 -- ---- chains, and prepares whose time is up
 
-settled_spared : (n v : ℕ) (o : Option VbReply) → FiresAsSaid None (settled_told n v o).events (settled_told n v o).answer
+settled_spared : (n v : ℕ) (o : Option VbReply) → FiresAsSaid None (settled_result n v o).events (settled_result n v o).answer
 settled_spared n v None = refl
 settled_spared n v (Some reply) = by reply.answer
   where
@@ -194,8 +194,8 @@ settled_spared n v (Some reply) = by reply.answer
     by answer.Done = own_calm n v reply
     by other = refl
 
-pub settled_fires : (n v : ℕ) (c : VbCall) (node : PlainNode) → (let x = call_at node.vbs v c (node.vbs v) in Spared (with_posts (settled_told n v x.1) (with_states node x.0)).1)
-settled_fires n v c node = let x = call_at node.vbs v c (node.vbs v) in posts_spared (settled_told n v x.1) (with_states node x.0) (settled_spared n v x.1)
+pub settled_fires : (n v : ℕ) (c : VbCall) (node : PlainNode) → (let x = call_at node.vbs v c (node.vbs v) in Spared (with_posts (settled_result n v x.1) (with_states node x.0)).1)
+settled_fires n v c node = let x = call_at node.vbs v c (node.vbs v) in posts_spared (settled_result n v x.1) (with_states node x.0) (settled_spared n v x.1)
 
 pub save_calm : (w : PlainWorld) (n v : ℕ) → Calm (on_node w n (save_line n v)).1.events
 save_calm w n v = on_node_by (λ o. Calm o.1.events) w n (save_line n v) refl (λ node known. refl)

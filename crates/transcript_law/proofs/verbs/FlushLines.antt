@@ -4,14 +4,14 @@ use Rattle.transcript_law.proofs.Words.{ℕ, Bool, true, false, List, [], length
 use Rattle.transcript_law.proofs.Words.{with_node_at, vb_in, shelf_in, Chronicle, Cluster, Move, happens, keeps, Sound, StaysSound, Position, Change, last_seq, Covers, IsIn, Rises, on_node, admin_line, AdminCall, call_at, Outcome, ground, map, rises_in, rises_le, upto, above, Own, Received}
 use Rattle.transcript_law.proofs.Words.{VbAnswer, VbReply, newest_branch, quiet_reply, flat_map, is_some, length-append, list_any, with_states}
 use Rattle.transcript_law.proofs.{invariant.Agreement.{AgreesAt, AgreesIn, Agrees, DiskIsIf, GoesOn, VbAgrees, all_rise, idle, shelf_of, top, vb_of}, disks.Appending.{Rewritten, row_there, told_disk, unwritten}, disks.Disks.{FlushIs, ShelfIs, bare, parts_of}, disks.Flushed.{flush_came}}
-use Rattle.transcript_law.proofs.{invariant.JobSteps.{ask_on, call_on, put_found, put_over, same_shelf, shelf_found}, links.Marking.{covers_more}, verbs.NodeLines.{admin_by, agrees_same, as_told, node_changed, node_grown, shelves_again, on_node_by, put_same, refused_on, same_node, written_agrees, written_rests}}
-use Rattle.transcript_law.proofs.{invariant.OneLink.{disk_here, disk_there}, invariant.Seats.{seat, seats_apart}, invariant.Tables.{at_here, at_there}, links.Turning.{same_put}, invariant.Wholes.{IsSpanIn}}
-use Rattle.{branch_model.specs.Journals.{batches, place_of, points}, cluster_model.specs.Clusters.{Disk, Fits, IsSpot}, node_core.specs.Flushing.{FlushTold, flush_if, flush_told}, node_world.specs.Nodes.{flush_line, with_kept, with_posts, written}}
-use Rattle.{transcript_law.specs.Chronicles.{DiskTold, Flushing, after_batch, after_done, known_log, stood, told_batch, with_disk}, transcript_law.specs.Lawfulness.{LawfulBatch, stood_end}, std.specs.Prelude.{max, nat_le, nat_lt}, std.specs.Str.{bytes_eq}}
+use Rattle.transcript_law.proofs.{invariant.JobSteps.{ask_on, call_on, put_found, put_over, same_shelf, shelf_found}, links.Marking.{covers_more}, verbs.NodeLines.{admin_by, agrees_same, as_told, node_changed, node_grown, shelves_again, on_node_by, put_same, refused_on, node_of_same_vbs, written_agrees, written_rests}}
+use Rattle.transcript_law.proofs.{invariant.OneLink.{disk_here, disk_there}, invariant.Seats.{seat, seats_apart}, invariant.Tables.{at_here, at_there}, links.Turning.{put_itself}, invariant.Wholes.{IsSpanIn}}
+use Rattle.{branch_model.specs.Journals.{batches, place_of, points}, cluster_model.specs.Clusters.{Disk, Fits, IsSpot}, node_core.specs.Flushing.{FlushResult, flush_if, flush_result}, node_world.specs.Nodes.{flush_line, with_kept, with_posts, written}}
+use Rattle.{transcript_law.specs.Chronicles.{DiskKnown, Flushing, after_batch, after_done, known_log, stood, known_batch, with_disk}, transcript_law.specs.Lawfulness.{LawfulBatch, stood_end}, std.specs.Prelude.{max, nat_le, nat_lt}, std.specs.Str.{bytes_eq}}
 use Rattle.node_core.specs.Calls.{own_lines}
 use Rattle.transcript_law.proofs.{links.Behind.{nothing_beside, posts_behind}, invariant.Ranged.{IsRanged, NodeRanged, NodeRangedIf}, verbs.Settling.{SettlesOn, Steady, changes_quiet, changes_told, settled_told, settles}}
 use Rattle.vb_calls.specs.Settling.{Resolving, also_resolved, settled, unresolved}
-use Rattle.vb_calls.specs.Flushes.{batch_told, finish_job, take_job, taken_job, took, took_nothing}
+use Rattle.vb_calls.specs.Flushes.{batch_of_reply, finish_job, take_job, taken_job, took, took_nothing}
 use Rattle.vb_calls.specs.Flushing.{batch_of, flush_from, unflushed_span}
 use Rattle.vb_calls.specs.Jobs.{Ended, Call as Asks}
 use Rattle.vb_calls.specs.Shelves.{Flush, Idle, Out, Written, Keep, Shelf, Shelves, with_shelf_at}
@@ -20,7 +20,7 @@ use Rattle.vb_calls.specs.declared.{journals.Flushed.{Flushed}, span.Origin.{Ori
 use Rattle.vb_types.specs.declared.journal.{Batch.{Batch}, FlushPart.{FlushPart}}
 use Rattle.vb_types.specs.declared.journal.FlushPart.TheVariants as part
 use Rattle.vbucket.specs.{Laws.{AllSpans, Follow}, Wholes.{BatchesAreWhole}}
-use Rattle.branch_model.proofs.{Images.{plain_stands}, Lasts.{filter_in, rises_filter}}
+use Rattle.branch_model.proofs.{Images.{plain_stands}, Lasts.{kept_in_filter, rises_filter}}
 use Rattle.std.proofs.lemmas.Bool.{and_from, le-leb, lt-ltb}
 use Rattle.transcript_law.proofs.{disks.Batches.{at_end, bare_points, fewer, saved_sound, some_items, span_found, stood_is}, invariant.Bounded.{weighs_upto}}
 
@@ -59,7 +59,7 @@ module _ (w : PlainWorld) (r : Chronicle) (n v : ℕ) (there : There w r n v) wh
   moved taken saved = record vb { flushed = taken; saved = saved }
 
   -- what is left after a step: the vBucket, what lines tell of its disk, its journal, and the cluster, in which its disk alone is another
-  record Step (states : States) (shelves : Shelves) (taken saved : ℕ) (d : DiskTold) : Type 0 where
+  record Step (states : States) (shelves : Shelves) (taken saved : ℕ) (d : DiskKnown) : Type 0 where
     vbs : (q : ℕ) → states q ≡ with_vb_at node.vbs v (moved taken saved) q
     shelf' : Shelf
     stands : shelves v ≡ Some shelf'
@@ -69,7 +69,7 @@ module _ (w : PlainWorld) (r : Chronicle) (n v : ℕ) (there : There w r n v) wh
     cluster : Rewritten c k disk
     written : ShelfIs d disk shelf' (parts_of (moved taken saved))
 
-  step_agrees : (states : States) (shelves : Shelves) (taken saved : ℕ) (d : DiskTold) → (s : Step states shelves taken saved d) → AgreesIn idle (with_node_at w n (with_kept node (states, shelves))) (with_disk r n v d) s.cluster.now
+  step_agrees : (states : States) (shelves : Shelves) (taken saved : ℕ) (d : DiskKnown) → (s : Step states shelves taken saved d) → AgreesIn idle (with_node_at w n (with_kept node (states, shelves))) (with_disk r n v d) s.cluster.now
   step_agrees states shelves taken saved d s =
       let node' : PlainNode = with_kept node (states, shelves) in let w' : PlainWorld = with_node_at w n node' in let r' : Chronicle = with_disk r n v d in let vb' : Plain = moved taken saved in let now : Cluster = s.cluster.now in
       let became = node_changed w n v node node' vb' at s.vbs s.others refl in
@@ -86,7 +86,7 @@ module _ (w : PlainWorld) (r : Chronicle) (n v : ℕ) (there : There w r n v) wh
       (subst (λ y. DiskIsIf d s.disk y (Some vb')) (sym (ap (λ b. shelf_in (if b then Some node' else w.nodes n) v) (eq-eqb n n refl) ∙ s.stands)) s.written)))
       (λ m q o. (at_there r.disk_at n v d m q o, s.cluster.there (seat m q) (seats_apart m q n v o)))
       (written_rests w w' r r' c now n v vb vb' a vb_is became (record { role = refl; wants = refl }) s.cluster.nodes refl (λ j. refl) (λ j q. refl) (λ j. refl) (λ x i has e f. refl) (λ j. refl)
-      (ap (λ (t : DiskTold). t.there) (at_here r.disk_at n v d) ∙ s.written.there ∙ sym disk.there) (λ m q o. (row_there r n v d m q o, s.cluster.there (seat m q) (seats_apart m q n v o))))
+      (ap (λ (t : DiskKnown). t.there) (at_here r.disk_at n v d) ∙ s.written.there ∙ sym disk.there) (λ m q o. (row_there r n v d m q o, s.cluster.there (seat m q) (seats_apart m q n v o))))
 
 module _ (stays : StaysSound) (steady : Steady) (wholes : BatchesAreWhole) (w : PlainWorld) (r : Chronicle) (n v : ℕ) (there : There w r n v) (ranged : NodeRanged n there.node) where
   open there use {c, a, node, at, vb, known, shelf, kept}
@@ -98,11 +98,11 @@ module _ (stays : StaysSound) (steady : Steady) (wholes : BatchesAreWhole) (w : 
   sh0 = with_shelf_at node.shelves v shelf
 
   abbrev outcome : (States × Shelves) × Flushed → Outcome
-  outcome y = let x = written node (y.0, flush_told n v y.1) in (with_node_at w n x.0, x.1)
+  outcome y = let x = written node (y.0, flush_result n v y.1) in (with_node_at w n x.0, x.1)
 
   -- nothing is changed
   stayed : (states : States) → ((q : ℕ) → states q ≡ node.vbs q) → Agrees (with_node_at w n (with_kept node (states, sh0))) r
-  stayed states same = agrees_same w (with_node_at w n (with_kept node (states, sh0))) r (c, a) (same_node w n node (with_kept node (states, sh0)) at same (same_shelf node.shelves v shelf kept) refl)
+  stayed states same = agrees_same w (with_node_at w n (with_kept node (states, sh0))) r (c, a) (node_of_same_vbs w n node (with_kept node (states, sh0)) at same (same_shelf node.shelves v shelf kept) refl)
 
   once : Agrees (with_node_at w n (with_kept node (st0, sh0))) r
   once = stayed st0 (put_same node.vbs v vb known)
@@ -152,8 +152,8 @@ module _ (stays : StaysSound) (steady : Steady) (wholes : BatchesAreWhole) (w : 
     shelf' = record shelf { flush = Out b }
 
     came : after_job (take_job v Idle) st0 sh0 ≡ ((states', with_shelf_at sh0 v shelf'), took b)
-    came = call_on st0 sh0 v VbCall.FlushTake (λ reply. taken_job v (λ batch. Ended (took batch)) (batch_told reply)) vb (flush_from (unflushed_span vb) vb).0 (flush_from (unflushed_span vb) vb).1 (put_found node.vbs v vb) refl
-        ∙ ap (λ o. after_job (taken_job v (λ batch. Ended (took batch)) (batch_told (Some (flush_from o vb).1))) (with_vb_at st0 v (flush_from o vb).0) sh0) next
+    came = call_on st0 sh0 v VbCall.FlushTake (λ reply. taken_job v (λ batch. Ended (took batch)) (batch_of_reply reply)) vb (flush_from (unflushed_span vb) vb).0 (flush_from (unflushed_span vb) vb).1 (put_found node.vbs v vb) refl
+        ∙ ap (λ o. after_job (taken_job v (λ batch. Ended (took batch)) (batch_of_reply (Some (flush_from o vb).1))) (with_vb_at st0 v (flush_from o vb).0) sh0) next
         ∙ ask_on states' sh0 v (Keep (Out b)) (λ done. Ended (took b)) shelf shelf' tt (shelf_found node.shelves v shelf) refl
 
     -- the member's disk with it: one that is taken while the journal is closed is never appended
@@ -173,15 +173,15 @@ module _ (stays : StaysSound) (steady : Steady) (wholes : BatchesAreWhole) (w : 
           cluster = subst (λ l. Rewritten c at_k (record (c.disks at_k) { batch = Some (record { position = b.position; cas = b.cas; log = l; items = b.items }) })) member_log (record {
             now = happens c (Move.Take at_k b.position b.cas b.items);
             sound = keeps top c (Move.Take at_k b.position b.cas b.items) a.sound ((spot, subst (λ p. Covers b.items (c.nodes at_k).held p b.position.at) (flush_now.1 e) covers), weighs_upto vb.last_cas b.position.at (c.nodes at_k).held m.weighs);
-            nodes = λ j. same_put c.nodes at_k j;
+            nodes = λ j. put_itself c.nodes at_k j;
             tree = refl;
             here = disk_here c.disks at_k (record (c.disks at_k) { batch = Some (record { position = b.position; cas = b.cas; log = (c.nodes at_k).log; items = b.items }) });
             there = λ j ne. disk_there c.disks at_k (record (c.disks at_k) { batch = Some (record { position = b.position; cas = b.cas; log = (c.nodes at_k).log; items = b.items }) }) j ne;
           });
         }
 
-    abbrev taken_told : DiskTold
-    taken_told = record (r.disk_at n v) { flushing = Flushing.Taken (told_batch b.position b.log) }
+    abbrev taken_told : DiskKnown
+    taken_told = record (r.disk_at n v) { flushing = Flushing.Taken (known_batch b.position b.log) }
 
     taken_shelf : ShelfIs taken_told (record (c.disks at_k) { batch = taken_batch.batch }) shelf' (parts_of (moved w r n v there x.last vb.saved))
     taken_shelf = record {
@@ -202,7 +202,7 @@ module _ (stays : StaysSound) (steady : Steady) (wholes : BatchesAreWhole) (w : 
     }
 
     agrees : Agrees (with_node_at w n (with_kept node (states', with_shelf_at sh0 v shelf'))) (after_batch r n v b.position)
-    agrees = subst (λ l. Agrees (with_node_at w n (with_kept node (states', with_shelf_at sh0 v shelf'))) (with_disk r n v (record (r.disk_at n v) { flushing = Flushing.Taken (told_batch b.position (known_log l)) }))) (sym m.log) (
+    agrees = subst (λ l. Agrees (with_node_at w n (with_kept node (states', with_shelf_at sh0 v shelf'))) (with_disk r n v (record (r.disk_at n v) { flushing = Flushing.Taken (known_batch b.position (known_log l)) }))) (sym m.log) (
       taken_batch.cluster.now,
       step_agrees w r n v there states' (with_shelf_at sh0 v shelf') x.last vb.saved taken_told (record {
         vbs = λ q. ap (λ s. s q) (put_over node.vbs v vb (moved w r n v there x.last vb.saved));
@@ -236,7 +236,7 @@ module _ (stays : StaysSound) (steady : Steady) (wholes : BatchesAreWhole) (w : 
         let within = rises_in vb.flushed b.position.at b.items y covers.remains.rises i in
         let above_is : vb.flushed < y.seq = within.0 in let high : y.seq ≤ b.position.at = within.1 in let e = last_end in let l = low in (
           z,
-          filter_in (λ q. nat_lt last q.seq && nat_le q.seq b.position.at) z (r.held n v) (subst (IsIn z) (sym m.held) there_z)
+          kept_in_filter (λ q. nat_lt last q.seq && nat_le q.seq b.position.at) z (r.held n v) (subst (IsIn z) (sym m.held) there_z)
               (and_from (nat_lt last z.seq) (nat_le z.seq b.position.at) (lt-ltb last z.seq (omega arith)) (le-leb z.seq b.position.at (omega arith))),
           level,
         )
@@ -261,8 +261,8 @@ module _ (stays : StaysSound) (steady : Steady) (wholes : BatchesAreWhole) (w : 
   take_by Idle e = by (unflushed_span vb) refl
     where
       none : unflushed_span vb ≡ None → after_job (take_job v Idle) st0 sh0 ≡ ((with_vb_at st0 v vb, sh0), took_nothing)
-      none q = call_on st0 sh0 v VbCall.FlushTake (λ reply. taken_job v (λ batch. Ended (took batch)) (batch_told reply)) vb (flush_from (unflushed_span vb) vb).0 (flush_from (unflushed_span vb) vb).1 (put_found node.vbs v vb) refl
-          ∙ ap (λ o. after_job (taken_job v (λ batch. Ended (took batch)) (batch_told (Some (flush_from o vb).1))) (with_vb_at st0 v (flush_from o vb).0) sh0) q
+      none q = call_on st0 sh0 v VbCall.FlushTake (λ reply. taken_job v (λ batch. Ended (took batch)) (batch_of_reply reply)) vb (flush_from (unflushed_span vb) vb).0 (flush_from (unflushed_span vb) vb).1 (put_found node.vbs v vb) refl
+          ∙ ap (λ o. after_job (taken_job v (λ batch. Ended (took batch)) (batch_of_reply (Some (flush_from o vb).1))) (with_vb_at st0 v (flush_from o vb).0) sh0) q
 
       by : (o : Option Span) → unflushed_span vb ≡ o → GoesOn r as_told (outcome (after_job (take_job v Idle) st0 sh0))
       by None q = subst (λ y. GoesOn r as_told (outcome y)) (sym (none q)) (tt, stayed (with_vb_at st0 v vb) (λ q. ap (λ s. s q) (put_over node.vbs v vb vb) ∙ put_same node.vbs v vb known q))
@@ -299,7 +299,7 @@ module _ (stays : StaysSound) (steady : Steady) (wholes : BatchesAreWhole) (w : 
     abbrev done_shelf : Shelf
     done_shelf = record shelf { flush = Idle }
 
-    abbrev done_disk : DiskTold
+    abbrev done_disk : DiskKnown
     done_disk = record (r.disk_at n v) { flushing = Flushing.Idle; saved = saved_now }
 
     -- what it lets the vBucket commit
@@ -366,10 +366,10 @@ module _ (stays : StaysSound) (steady : Steady) (wholes : BatchesAreWhole) (w : 
     told_is : own_lines n v done_reply ≡ changes_told n v branch_is settles_on.cs
     told_is = settled_told n v (quiet_reply (VbAnswer.Num saved_now)) saved_vb branch_is settles_on.cs refl settles_on.changes (ap newest_branch settles_on.log)
 
-    abbrev saved_told : Chronicle
-    saved_told = done_from (Answer.Number saved_now)
+    abbrev saved_as_known : Chronicle
+    saved_as_known = done_from (Answer.Number saved_now)
 
-    done_goes_on : GoesOn saved_told as_told (with_node_at w n last_node, record { events = changes_told n v branch_is settles_on.cs; answer = Answer.Number saved_now })
+    done_goes_on : GoesOn saved_as_known as_told (with_node_at w n last_node, record { events = changes_told n v branch_is settles_on.cs; answer = Answer.Number saved_now })
     done_goes_on = (
       settles_on.lawful,
       settles_on.agrees (with_node_at w n last_node)
@@ -377,12 +377,12 @@ module _ (stays : StaysSound) (steady : Steady) (wholes : BatchesAreWhole) (w : 
           (shelves_again w n saved_node last_node (λ q. refl) n v),
     )
 
-    abbrev done_told : List Event → FlushTold
-    done_told lines = record { events = lines; answer = Answer.Number saved_now; resolved = done_reply.resolved }
+    abbrev done_lines : List Event → FlushResult
+    done_lines lines = record { events = lines; answer = Answer.Number saved_now; resolved = done_reply.resolved }
 
-    done_agrees : GoesOn saved_told as_told (outcome ((last_states, with_shelf_at sh0 v done_shelf), Flushed.Done (Some done_reply)))
-    done_agrees = subst (λ (lines : List Event). let x = with_posts (done_told lines) last_node in GoesOn saved_told as_told (with_node_at w n x.0, x.1)) (sym told_is)
-        (posts_behind stays steady w saved_told n last_node (done_told (changes_told n v branch_is settles_on.cs)) as_told nothing_beside (record { clock = ranged.clock; clients = ranged.clients })
+    done_agrees : GoesOn saved_as_known as_told (outcome ((last_states, with_shelf_at sh0 v done_shelf), Flushed.Done (Some done_reply)))
+    done_agrees = subst (λ (lines : List Event). let x = with_posts (done_lines lines) last_node in GoesOn saved_as_known as_told (with_node_at w n x.0, x.1)) (sym told_is)
+        (posts_behind stays steady w saved_as_known n last_node (done_lines (changes_told n v branch_is settles_on.cs)) as_told nothing_beside (record { clock = ranged.clock; clients = ranged.clients })
         (changes_quiet n v branch_is settles_on.cs) done_goes_on)
 
   done_by : (flush : Flush) → shelf.flush ≡ flush → (let y = outcome (after_job (finish_job v flush) st0 sh0) in GoesOn (done_from y.1.answer) as_told y)
@@ -401,8 +401,8 @@ there_is w r n v c a node at vb known None e =
     absurd (subst (λ s. DiskIsIf (r.disk_at n v) (c.disks (seat n v)) s (Some vb)) shelf_is (subst (DiskIsIf (r.disk_at n v) (c.disks (seat n v)) (shelf_of w n v)) vb_is (a.disks n v)))
 there_is w r n v c a node at vb known (Some shelf) e = (shelf, e)
 
-abbrev pub there_at : (w : PlainWorld) (r : Chronicle) (n v : ℕ) → Agrees w r → (node : PlainNode) → w.nodes n ≡ Some node → is_some node.off ≡ false → (vb : Plain) → node.vbs v ≡ Some vb → There w r n v
-there_at w r n v a node at runs vb known =
+abbrev pub there_at_vb : (w : PlainWorld) (r : Chronicle) (n v : ℕ) → Agrees w r → (node : PlainNode) → w.nodes n ≡ Some node → is_some node.off ≡ false → (vb : Plain) → node.vbs v ≡ Some vb → There w r n v
+there_at_vb w r n v a node at runs vb known =
     let s = there_is w r n v a.0 a.1 node at vb known (node.shelves v) refl in
     record { c = a.0; a = a.1; node = node; at = at; runs = runs; vb = vb; known = known; shelf = s.0; kept = s.1 }
 
@@ -418,9 +418,9 @@ steps_go from w r n v p refused a goes = on_node_by (λ x. GoesOn (from x.1.answ
         (ap (λ o. let y = call_at node.vbs v VbCall.Log o in after_job (flush_if n v p (is_some y.1)) y.0 node.shelves) (sym e)) (
           tt,
           subst (Agrees (with_node_at w n (with_kept node (node.vbs, node.shelves)))) (sym (refused Cause.UnknownVb))
-              (agrees_same w (with_node_at w n (with_kept node (node.vbs, node.shelves))) r a (same_node w n node (with_kept node (node.vbs, node.shelves)) at (λ q. refl) (λ q. refl) refl)),
+              (agrees_same w (with_node_at w n (with_kept node (node.vbs, node.shelves))) r a (node_of_same_vbs w n node (with_kept node (node.vbs, node.shelves)) at (λ q. refl) (λ q. refl) refl)),
         )
-    by node at runs (Some vb) e = goes (there_at w r n v a node at runs vb e)
+    by node at runs (Some vb) e = goes (there_at_vb w r n v a node at runs vb e)
 
 module _ (stays : StaysSound) (steady : Steady) (wholes : BatchesAreWhole) (w : PlainWorld) (r : Chronicle) (n v : ℕ) (ranged : IsRanged w) (a : Agrees w r) where
   there_ranged : (t : There w r n v) → NodeRanged n t.node
@@ -456,7 +456,7 @@ spans_filled low high h [] f t = omega arith
 spans_filled low high h (x ∷ xs) f t =
     let rest = spans_filled x.last high h xs f.2 t.1 in
     let above_is : x.above ≡ low = f.0 in let up : low < x.last = f.1 in let (last, there, ends) = t.0.ends in let level : last.seq ≡ x.last = ends in
-    let some = live_some x.origin (stretch x.above x.last h) last (filter_in (λ d. nat_lt x.above d.seq && nat_le d.seq x.last) last h there
+    let some = live_some x.origin (stretch x.above x.last h) last (kept_in_filter (λ d. nat_lt x.above d.seq && nat_le d.seq x.last) last h there
     (and_from (nat_lt x.above last.seq) (nat_le last.seq x.last) (lt-ltb x.above last.seq (omega arith)) (le-leb last.seq x.last (omega arith)))) in
     let all : length (live_in x h ++ flat_map (λ x. live_in x h) xs) ≡ length (live_in x h) + length (flat_map (λ x. live_in x h) xs) = length-append (live_in x h) (flat_map (λ x. live_in x h) xs) in
     omega arith
@@ -468,17 +468,17 @@ stat_goes w r n v node a at runs = by (node.vbs v) refl
     by : (o : Option Plain) → node.vbs v ≡ o → GoesOn r as_told (admin_by w n v AdminCall.Stat node (call_at node.vbs v VbCall.Stat o))
     by None e = refused_on w r n node Cause.UnknownVb a at
     by (Some vb) e =
-        let t : There w r n v = there_at w r n v a node at runs vb e in
+        let t : There w r n v = there_at_vb w r n v a node at runs vb e in
         let m = mine w r n v t in let d = disk w r n v t in
         let node' : PlainNode = with_states node (with_vb_at node.vbs v vb) in (
           (
             record {
-              saved_told = sym d.saved;
+              saved_as_known = sym d.saved;
               high_held = sym (ap (last_seq 0) m.held ∙ m.high);
               flusher = omega arith;
               filled = spans_filled vb.floor vb.position.at vb.held (all_spans vb.spans) m.sound.spans m.sound.tidy;
             },
             tt,
           ),
-          agrees_same w (with_node_at w n node') r a (same_node w n node node' at (put_same node.vbs v vb e) (λ q. refl) refl),
+          agrees_same w (with_node_at w n node') r a (node_of_same_vbs w n node node' at (put_same node.vbs v vb e) (λ q. refl) refl),
         )

@@ -2,9 +2,9 @@
 use Rattle.std.specs.Prelude.{◌≡◌, ◌∷◌, ◌++◌, ◌==◌, ◌&&◌, if◌then◌else◌}
 use Rattle.transcript_law.proofs.Words.{ℕ, Bool, true, false, List, refl, ap, sym, ◌∙◌, subst, inl, inr, ⊎_elim, Option, Some, None, option_map, eq-eqb, eqb-true, ne_eqb}
 use Rattle.transcript_law.proofs.Words.{and_parts, Event, Cluster, Move, happens, Plain, is_active, is_follower, with_vb_at, StaysSound, row_at, row_out, ended_in, PlainStream, PlainLink, link_number, producer_node}
-use Rattle.transcript_law.proofs.Words.{consumer_node, feeds, PlainNode, PlainWorld, with_node_at, with_links, cut_outcome, unlinked, own_link, told_ended, links_told, Chronicle, after_end, after_lines}
+use Rattle.transcript_law.proofs.Words.{consumer_node, feeds, PlainNode, PlainWorld, with_node_at, with_links, cut_outcome, unlinked, own_link, link_ended, links_ended, Chronicle, after_end, after_lines}
 use Rattle.transcript_law.proofs.{Words.{LawfulFrom, []}, invariant.Seats.{seat}, invariant.Agreement.{vb_of, VbAgrees, AgreesAt, IsLink, is_open, LinksDiffer, consumer_seat, idle, AgreesIn, Agrees, GoesOn}, invariant.Carrying.{Changed}}
-use Rattle.transcript_law.proofs.{invariant.Carrying.{StreamsChanged}, invariant.Carried.{not_both, fed_same, vb_carried, stream_opened, kept_streams, end_told}, invariant.LinkRows.{found_is_link, differ_in, links_apart, out_links}}
+use Rattle.transcript_law.proofs.{invariant.Carrying.{StreamsChanged}, invariant.Carried.{not_both, fed_same, vb_carried, stream_opened, kept_streams, stream_end_lines}, invariant.LinkRows.{found_is_link, differ_in, links_apart, out_links}}
 use Rattle.transcript_law.proofs.{invariant.Agreement.{shelf_of}, disks.Disks.{disk_same, parts_of}, Words.{vb_in}}
 use Rattle.transcript_law.proofs.{invariant.OneLink.{carries_over, carries_same}, links.Cutting.{IsClosable, closable, unlinking}, verbs.NodeLines.{as_told, at_node, changed_agrees}, links.Turning.{NoneFeeds, not_ended, told_by}}
 use Rattle.transcript_law.proofs.links.Turning.{told_alike, differ_told}
@@ -23,7 +23,7 @@ row_found (x ∷ xs) link d i = ⊎_elim
 module _ (stays : StaysSound) (w : PlainWorld) (r : Chronicle) (link : PlainLink) (c : Cluster) (a : AgreesIn idle w r c) (i : IsLink link w.links) where
   pub cut_agrees : AgreesIn idle (unlinked link w) (after_end r (link_number link)) (happens c (Move.Cut (consumer_seat link)))
   cut_agrees = carries_over idle idle w (unlinked link w) r (after_end r (link_number link)) c (link_number link) link a (row_found w.links link a.differ i)
-      (unlinking stays w link (closable idle w r c link [] [] a (a.links link i))) (end_told r (link_number link)) (λ k ne. refl)
+      (unlinking stays w link (closable idle w r c link [] [] a (a.links link i))) (stream_end_lines r (link_number link)) (λ k ne. refl)
 
 -- `cut L`
 pub cut_goes : StaysSound → (w : PlainWorld) (r : Chronicle) (l : ℕ) → Agrees w r → GoesOn r as_told (cut_step w l)
@@ -91,7 +91,7 @@ cut_off_goes w r n v a (Some link) e =
       lawful = λ more x. ((_, (a.1.links link p.0).dialed), x);
       told = λ more. refl;
       cluster = happens a.0 (Move.Cut (consumer_seat link));
-      agrees = carries_over idle idle w (with_links w rest) r (after_end r l) a.0 l link a.1 (row_found w.links link a.1.differ p.0) (inl (record { powers = λ m. refl; vbs = λ m q. refl; shelves = λ m q. refl; uuids = refl; linked = refl })) (end_told r l) (λ k ne. refl);
+      agrees = carries_over idle idle w (with_links w rest) r (after_end r l) a.0 l link a.1 (row_found w.links link a.1.differ p.0) (inl (record { powers = λ m. refl; vbs = λ m q. refl; shelves = λ m q. refl; uuids = refl; linked = refl })) (stream_end_lines r l) (λ k ne. refl);
       free = subst (λ i. NoneFeeds i v rest) p.1 (subst (λ q. NoneFeeds (consumer_node link) q rest) p.2 (none_left w.links link a.1.differ p.0));
     }
 
@@ -109,23 +109,23 @@ module _ (w w' : PlainWorld) (r : Chronicle) (c : Cluster) (n v id : ℕ) (pv pv
       (disk_same (Some pv) (Some pv') refl refl refl (ap parts_of changed.alone)) (λ m. refl) (λ m q other. refl)
 
 -- links that are told which streams ended, without one of them
-out_told : (n v : ℕ) (ids : List ℕ) (k : ℕ) (links : List PlainLink) → row_out link_number k (links_told n v ids links) ≡ links_told n v ids (row_out link_number k links)
+out_told : (n v : ℕ) (ids : List ℕ) (k : ℕ) (links : List PlainLink) → row_out link_number k (links_ended n v ids links) ≡ links_ended n v ids (row_out link_number k links)
 out_told n v ids k [] = refl
 out_told n v ids k (x ∷ xs) =
-    ap (λ d. if d.link == k then links_told n v ids xs else told_ended n v ids x ∷ row_out link_number k (links_told n v ids xs)) (told_alike n v ids x).dialed
-    ∙ elim (link_number x == k) as (λ b. (if b then links_told n v ids xs else told_ended n v ids x ∷ row_out link_number k (links_told n v ids xs)) ≡ links_told n v ids (if b then xs else x ∷ row_out link_number k xs))
-    [ true ↦ refl | false ↦ ap (λ ys. told_ended n v ids x ∷ ys) (out_told n v ids k xs) ]
+    ap (λ d. if d.link == k then links_ended n v ids xs else link_ended n v ids x ∷ row_out link_number k (links_ended n v ids xs)) (told_alike n v ids x).dialed
+    ∙ elim (link_number x == k) as (λ b. (if b then links_ended n v ids xs else link_ended n v ids x ∷ row_out link_number k (links_ended n v ids xs)) ≡ links_ended n v ids (if b then xs else x ∷ row_out link_number k xs))
+    [ true ↦ refl | false ↦ ap (λ ys. link_ended n v ids x ∷ ys) (out_told n v ids k xs) ]
 
 -- and a vBucket's own one among them
-pub own_told : (n v : ℕ) (ids : List ℕ) (links : List PlainLink) → own_link n v (links_told n v ids links) ≡ option_map (told_ended n v ids) (own_link n v links)
+pub own_told : (n v : ℕ) (ids : List ℕ) (links : List PlainLink) → own_link n v (links_ended n v ids links) ≡ option_map (link_ended n v ids) (own_link n v links)
 own_told n v ids [] = refl
 own_told n v ids (x ∷ xs) =
-    ap (λ d. if d.node == n && d.vb == v then Some (told_ended n v ids x) else own_link n v (links_told n v ids xs)) (told_alike n v ids x).dialed
-    ∙ elim (feeds n v x) as (λ b. (if b then Some (told_ended n v ids x) else own_link n v (links_told n v ids xs)) ≡ option_map (told_ended n v ids) (if b then Some x else own_link n v xs)) [ true ↦ refl | false ↦ own_told n v ids xs ]
+    ap (λ d. if d.node == n && d.vb == v then Some (link_ended n v ids x) else own_link n v (links_ended n v ids xs)) (told_alike n v ids x).dialed
+    ∙ elim (feeds n v x) as (λ b. (if b then Some (link_ended n v ids x) else own_link n v (links_ended n v ids xs)) ≡ option_map (link_ended n v ids) (if b then Some x else own_link n v xs)) [ true ↦ refl | false ↦ own_told n v ids xs ]
 
-told_in : (n v : ℕ) (ids : List ℕ) (x : PlainLink) (links : List PlainLink) → IsLink x links → IsLink (told_ended n v ids x) (links_told n v ids links)
+told_in : (n v : ℕ) (ids : List ℕ) (x : PlainLink) (links : List PlainLink) → IsLink x links → IsLink (link_ended n v ids x) (links_ended n v ids links)
 told_in n v ids x [] i = absurd i
-told_in n v ids x (y ∷ ys) i = ⊎_elim (λ e. inl (ap (told_ended n v ids) e)) (λ j. inr (told_in n v ids x ys j)) i
+told_in n v ids x (y ∷ ys) i = ⊎_elim (λ e. inl (ap (link_ended n v ids) e)) (λ j. inr (told_in n v ids x ys j)) i
 
 -- the own link of a vBucket that was given another role: it feeds that vBucket, and is taken out
 module _ (stays : StaysSound) (w : PlainWorld) (r : Chronicle) (c : Cluster) (n v : ℕ) (ids : List ℕ) (node node' : PlainNode) (vb vb' : Plain) (vbs_are : (q : ℕ) → node'.vbs q ≡ with_vb_at node.vbs v vb' q) (shelves_are : (q : ℕ) → (q ≡ v → ⊥) → node'.shelves q ≡ node.shelves q)
@@ -136,10 +136,10 @@ module _ (stays : StaysSound) (w : PlainWorld) (r : Chronicle) (c : Cluster) (n 
   called = with_node_at w n node'
 
   abbrev ended : PlainWorld
-  ended = with_links called (links_told n v ids w.links)
+  ended = with_links called (links_ended n v ids w.links)
 
   abbrev link' : PlainLink
-  link' = told_ended n v ids link
+  link' = link_ended n v ids link
 
   own : IsLink link w.links × (consumer_node link ≡ n) × (link.consumer.dialed.vb ≡ v)
   own = own_found n v w.links link is_own
@@ -174,21 +174,21 @@ module _ (stays : StaysSound) (w : PlainWorld) (r : Chronicle) (c : Cluster) (n 
   -- what agrees without the link, agrees once it is taken out
   module _ (r' : Chronicle) (c' : Cluster) (more : List ℕ) where
     abbrev without : PlainWorld
-    without = record { nodes = called.nodes; uuids = w.uuids ++ more; links = links_told n v ids (row_out link_number (link_number link) w.links) }
+    without = record { nodes = called.nodes; uuids = w.uuids ++ more; links = links_ended n v ids (row_out link_number (link_number link) w.links) }
 
     abbrev over : PlainWorld
     over = record { nodes = (unlinked link' ended).nodes; uuids = (unlinked link' ended).uuids ++ more; links = (unlinked link' ended).links }
 
-    rest_is : row_out link_number (link_number link') (links_told n v ids w.links) ≡ without.links
-    rest_is = ap (λ k. row_out link_number k (links_told n v ids w.links)) same_number ∙ out_told n v ids (link_number link) w.links
+    rest_is : row_out link_number (link_number link') (links_ended n v ids w.links) ≡ without.links
+    rest_is = ap (λ k. row_out link_number k (links_ended n v ids w.links)) same_number ∙ out_told n v ids (link_number link) w.links
 
     not_apart : (x : PlainLink) → IsLink x without.links → is_open link'.server.stream ≡ true → is_open x.server.stream ≡ true → producer_node x ≡ producer_node link' → x.consumer.dialed.vb ≡ link'.consumer.dialed.vb
         → x.server.desk.id ≡ link'.server.desk.id → ⊥
     not_apart x i opens has e f id =
-        let differ : LinksDiffer (links_told n v ids w.links) = differ_told n v ids w.links a.differ in
-        let there : IsLink link' (links_told n v ids w.links) = told_in n v ids link w.links own.0 in
-        let p = out_links (link_number link') (links_told n v ids w.links) link' x differ (row_found (links_told n v ids w.links) link' differ there) (subst (IsLink x) (sym rest_is) i) in
-        (links_apart link' x (links_told n v ids w.links) differ there p.0 (λ q. p.1 (sym q))).stream opens has (sym e) (sym f) (sym id)
+        let differ : LinksDiffer (links_ended n v ids w.links) = differ_told n v ids w.links a.differ in
+        let there : IsLink link' (links_ended n v ids w.links) = told_in n v ids link w.links own.0 in
+        let p = out_links (link_number link') (links_ended n v ids w.links) link' x differ (row_found (links_ended n v ids w.links) link' differ there) (subst (IsLink x) (sym rest_is) i) in
+        (links_apart link' x (links_ended n v ids w.links) differ there p.0 (λ q. p.1 (sym q))).stream opens has (sym e) (sym f) (sym id)
 
     pub over_agrees : AgreesIn idle without r' c' → AgreesIn idle over r' c'
     over_agrees b = ⊎_elim

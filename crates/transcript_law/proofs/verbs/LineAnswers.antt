@@ -1,21 +1,21 @@
 -- how lines are answered, that one which is refused changes nothing, and that a change of role and a log have their lines
 use Rattle.std.specs.Prelude.{◌≡◌, ◌⊎◌, ◌∷◌, ◌++◌, if◌then◌else◌}
-use Rattle.transcript_law.proofs.Words.{told, admin_call, admin_replied, admin_told, AdminCall, PlainLink, consumer_node, link_number}
-use Rattle.transcript_law.proofs.Words.{admin_line, called, told_of_call, call_told, promote_step, turn_step, PlainNode, PlainWorld, Outcome, done, on_link}
+use Rattle.transcript_law.proofs.Words.{told, admin_call, admin_replied, admin_result, AdminCall, PlainLink, consumer_node, link_number}
+use Rattle.transcript_law.proofs.Words.{admin_line, called, line_of_call, call_told, promote_step, turn_step, PlainNode, PlainWorld, Outcome, done, on_link}
 use Rattle.transcript_law.proofs.Words.{on_node, vb_in, Told, Bool, List, [], ap, false, refl, subst, sym, true, ℕ, ◌∙◌, inl, inr, ⊎_elim}
 use Rattle.transcript_law.proofs.Words.{None, Option, Some, is_some, Chronicle, empty_chronicle, IsCarriedOut, IsLogged, IsPromotion, IsTurn, EndsWith, ShowsAreShown, TurnsAreTold}
 use Rattle.transcript_law.proofs.Words.{All, All-nil, VbAnswer, VbReply, Status, is_active, own_link, refusal_reply, with_states, Plain, plain_step, States, call_at, VbCall, Answer, Cause, Event, Role, row_at, after_job, lift, with_vb_at, shelf_in}
 use Rattle.disk_journals.specs.Arms.{arm_over, armed_at, under}
-use Rattle.node_core.specs.{Admin.{admin_at, admin_job, noted_answer}, Flushing.{FlushTold, flush_at, flush_if, flush_told, settled_by, settled_told}}
+use Rattle.node_core.specs.{Admin.{admin_at, admin_job, noted_answer}, Flushing.{FlushResult, flush_at, flush_if, flush_result, settled_by, settled_result}}
 use Rattle.node_world.specs.{Arms.{fired_by, placed}, Dues.{done_step, due_at, due_in, due_of, is_counted}, Nodes.{all_posted, arm_at, flush_line, save_line, shelf_or_blank, with_kept, with_posts, written as written_node}, World.{down_in, down_outcome, down_step}, Worlds.{arm_in}}
 use Rattle.node_world.specs.Power.{after_fire, with_arm}
 use Rattle.node_world.specs.declared.arm.Fired.{Fired}
 use Rattle.node_world.specs.declared.arm.Fired.TheVariants as fired
-use Rattle.transcript_law.proofs.disks.AppendAnswers.{AppendCame, ShutIs, Tells, came_noted, came_tells, fuse_in, fuse_same}
+use Rattle.transcript_law.proofs.disks.AppendAnswers.{AppendCame, ShutAgrees, Tells, came_noted, came_tells, fuse_in, fuse_same}
 use Rattle.transcript_law.proofs.disks.AppendLines.{NewShutIs, NoLines, dead_came, follow_came, promote_came}
 use Rattle.transcript_law.proofs.{invariant.Agreement.{IsArm}, disks.ArmedSteps.{shut_in}, disks.Burning.{quiet_same}, disks.Flushed.{StepSays, done_says, flush_came, looked, refused_tells, save_says, take_says, told_flush}, invariant.JobSteps.{put_found, same_shelf, shelf_found}, verbs.NodeLines.{on_node_by, put_same as put_states}}
 use Rattle.transcript_law.proofs.lines.Refusals.{Anything, CarriesOut, IsMade, Refuses, Same, Says, on_link_says, on_node_says, with_broken_keeps}
-use Rattle.transcript_law.specs.{Chronicles.{DiskTold, blank_disk}, LineAnswers.{IsAppended, IsNoted, IsOut, IsSaved, IsTaken, TakesAsTold, batches_told}, Plainness.{AndClients, IsOfClient, IsStanding}}
+use Rattle.transcript_law.specs.{Chronicles.{DiskKnown, blank_disk}, LineAnswers.{IsAppended, IsNoted, IsOut, IsSaved, IsTaken, TakesAsTold, batches_in_lines}, Plainness.{AndClients, IsOfClient, IsStanding}}
 use Rattle.transcript_law.proofs.{lines.ClientLines.{AreOfClients, posts_of_clients}, invariant.OwnClients.{posts_own}}
 use Rattle.vb_calls.specs.declared.journals.Flushed.{Flushed}
 use Rattle.vb_calls.specs.Flushes.{finish_job, part_job, save_job}
@@ -41,13 +41,13 @@ DisksTold w r = (n v : ℕ) (vb : Plain) (shelf : Shelf) → vb_in (w.nodes n) v
 
 -- and whether its journal is closed, of one that is there, and of one that is made
 abbrev pub ShutTold : PlainWorld → Chronicle → Type 0
-ShutTold w r = (n v : ℕ) → ShutIs (r.disk_at n v).closed w n v × NewShutIs (r.disk_at n v).closed w n v
+ShutTold w r = (n v : ℕ) → ShutAgrees (r.disk_at n v).closed w n v × NewShutIs (r.disk_at n v).closed w n v
 
 abbrev pub AllTold : PlainWorld → Chronicle → Type 0
 AllTold w r = OpensTold w r × DisksTold w r
 
 -- a step of writing down says this
-abbrev Writes : (List Event → Answer → Type 0) → PlainNode → (States × Shelves) × FlushTold → Type 0
+abbrev Writes : (List Event → Answer → Type 0) → PlainNode → (States × Shelves) × FlushResult → Type 0
 Writes P node y = Says (λ told. P told.events told.answer) (λ k. k ≡ node) (written_node node y)
 
 -- what is said of lines is said with those of clients behind them
@@ -55,14 +55,14 @@ abbrev Grows : (List Event → Answer → Type 0) → Type 0
 Grows P = (lines more : List Event) (said : Answer) → AreOfClients more → P lines said → P (lines ++ more) said
 
 -- lines of clients tell of no batch
-no_batches : (lines : List Event) → AreOfClients lines → batches_told lines ≡ []
+no_batches : (lines : List Event) → AreOfClients lines → batches_in_lines lines ≡ []
 no_batches [] c = refl
 no_batches (Event.Changed n v uuid change ∷ lines) c = no_batches lines c.1
 no_batches (Event.Reply n k bytes ∷ lines) c = no_batches lines c.1
 no_batches (Event.Closed n k ∷ lines) c = no_batches lines c.1
 no_batches (other ∷ lines) c = absurd c.0
 
-same_batches : (lines more : List Event) → AreOfClients more → batches_told (lines ++ more) ≡ batches_told lines
+same_batches : (lines more : List Event) → AreOfClients more → batches_in_lines (lines ++ more) ≡ batches_in_lines lines
 same_batches [] more c = no_batches more c
 same_batches (Event.Batch n v ss se at count ∷ lines) more c = ap (λ xs. (n, (v, count)) ∷ xs) (same_batches lines more c)
 same_batches (other ∷ lines) more c = same_batches lines more c
@@ -74,7 +74,7 @@ taken_grows n v lines more (Answer.Pulled count said) c x = x
 taken_grows n v lines more (Answer.No why) c x = same_batches lines more c ∙ x
 
 -- a step that is refused resolves nothing
-refused_resolves : (n v : ℕ) (came : Flushed) (why : Cause) → (flush_told n v came).answer ≡ Answer.No why → (flush_told n v came).resolved ≡ []
+refused_resolves : (n v : ℕ) (came : Flushed) (why : Cause) → (flush_result n v came).answer ≡ Answer.No why → (flush_result n v came).resolved ≡ []
 refused_resolves n v (Flushed.Done reply) why e = cc
 refused_resolves n v other why e = refl
 
@@ -90,10 +90,10 @@ flush_node P grows n v p node refuses says = by (node.vbs v) refl
     unread (Some shelf) e = λ i q. same_shelf node.shelves v shelf e q i
 
     -- and with what is posted behind it
-    posted : (y : (States × Shelves) × Flushed) → P (flush_told n v y.1).events (flush_told n v y.1).answer → ((why : Cause) → (flush_told n v y.1).answer ≡ Answer.No why → IsStanding why → y.0 ≡ (node.vbs, node.shelves))
-        → Writes P node (y.0, flush_told n v y.1)
+    posted : (y : (States × Shelves) × Flushed) → P (flush_result n v y.1).events (flush_result n v y.1).answer → ((why : Cause) → (flush_result n v y.1).answer ≡ Answer.No why → IsStanding why → y.0 ≡ (node.vbs, node.shelves))
+        → Writes P node (y.0, flush_result n v y.1)
     posted y says kept =
-        let told : FlushTold = flush_told n v y.1 in let now : PlainNode = with_kept node y.0 in (
+        let told : FlushResult = flush_result n v y.1 in let now : PlainNode = with_kept node y.0 in (
           grows told.events (all_posted told.resolved now).1 told.answer (posts_of_clients told.resolved now) says,
           λ why f s. (ap (λ rs. (all_posted rs now).0) (refused_resolves n v y.1 why f) ∙ ap (with_kept node) (kept why f s), (λ i. refused_tells n v y.1 why f i ++ (all_posted (refused_resolves n v y.1 why f i) now).1)),
         )
@@ -116,10 +116,10 @@ pub admin_says : (P : Told → Type 0) (w : PlainWorld) (n v : ℕ) (asked : Adm
     → ((vb : Plain) → vb_in (w.nodes n) v ≡ Some vb → CarriesOut P (call_told (admin_replied n v asked (plain_step vb (admin_call asked)).1)))
     → Says P (Same w) (on_node w n (admin_line n v asked))
 admin_says P w n v asked job refuses says = on_node_says P w n (admin_line n v asked) refuses (λ node known.
-    subst (λ j. Says P (λ k. k ≡ node) (told_of_call (called node (after_job j node.vbs node.shelves)))) (sym job) (by node known (node.vbs v) refl))
+    subst (λ j. Says P (λ k. k ≡ node) (line_of_call (called node (after_job j node.vbs node.shelves)))) (sym job) (by node known (node.vbs v) refl))
   where
     by : (node : PlainNode) → w.nodes n ≡ Some node → (o : Option Plain) → node.vbs v ≡ o
-        → Says P (λ k. k ≡ node) (told_of_call (called node (let x = call_at node.vbs v (admin_call asked) o in ((x.0, node.shelves), admin_told n v asked x.1))))
+        → Says P (λ k. k ≡ node) (line_of_call (called node (let x = call_at node.vbs v (admin_call asked) o in ((x.0, node.shelves), admin_result n v asked x.1))))
     by node known None e = (refuses Cause.UnknownVb, λ why f s. (refl, refl))
     by node known (Some vb) e = let s = says vb (ap (λ o. vb_in o v) known ∙ e) in (s.0, λ why f t. absurd (s.1 why f t))
 
@@ -158,14 +158,14 @@ new_shut_at w n v = (shelf_or_blank (shelf_in (w.nodes n) v)).is_closed
 
 -- a call that lets an active vBucket resolve durable writes
 abbrev settled_at : ℕ → ℕ → VbCall → PlainNode → PlainNode × Told
-settled_at n v c node = let x = call_at node.vbs v c (node.vbs v) in with_posts (settled_told n v x.1) (with_states node x.0)
+settled_at n v c node = let x = call_at node.vbs v c (node.vbs v) in with_posts (settled_result n v x.1) (with_states node x.0)
 
 pub settled_says : (n v : ℕ) (c : VbCall) (node : PlainNode) (row : Plain → Plain × VbReply) → ((vb : Plain) → plain_step vb c ≡ (if is_active vb.role then row vb else (vb, refusal_reply Status.NotMyVbucket)))
     → ((vb : Plain) → (row vb).1.answer ≡ VbAnswer.Done) → Says IsOk (λ k. k ≡ node) (settled_at n v c node)
 settled_says n v c node row is done = by (node.vbs v) refl
   where
     Out : States × Option VbReply → Type 0
-    Out x = Says IsOk (λ k. k ≡ node) (with_posts (settled_told n v x.1) (with_states node x.0))
+    Out x = Says IsOk (λ k. k ≡ node) (with_posts (settled_result n v x.1) (with_states node x.0))
 
     made : (states : States) (reply : VbReply) (a : VbAnswer) → a ≡ VbAnswer.Done → Says IsOk (λ k. k ≡ node) (with_posts (settled_by n v reply a) (with_states node states))
     made states reply VbAnswer.Done e = (tt, λ why f s. cc)
@@ -200,7 +200,7 @@ due_says P w n v o says = by_counted (is_counted o.1.answer) refl
     by_counted false e = says
 
 -- a batch counts as saved
-finishes : (d : DiskTold) (node : PlainNode) (n v : ℕ) (vb : Plain) (o : Option Shelf) → node.vbs v ≡ Some vb → ((shelf : Shelf) → o ≡ Some shelf → (d.flushing ≡ told_flush shelf.flush) × (d.saved ≡ vb.saved))
+finishes : (d : DiskKnown) (node : PlainNode) (n v : ℕ) (vb : Plain) (o : Option Shelf) → node.vbs v ≡ Some vb → ((shelf : Shelf) → o ≡ Some shelf → (d.flushing ≡ told_flush shelf.flush) × (d.saved ≡ vb.saved))
     → (let x = looked node.shelves v o in StepSays n v (λ lines said. IsSaved d said) (with_vb_at node.vbs v vb) x.0 (after_job (finish_job v x.1) (with_vb_at node.vbs v vb) x.0))
 finishes d node n v vb None has told = (tt, λ why f s. refl)
 finishes d node n v vb (Some shelf) has told =
@@ -216,15 +216,15 @@ take_line_says w n v = flush_says (IsTaken n v) (taken_grows n v) w n v part.Tak
     let x = looked node.shelves v o in take_says n v x.1 (with_vb_at node.vbs v vb) x.0 vb (put_found node.vbs v vb))
 
 -- the arm of a node is told as it is, and may fire yet
-abbrev pub ArmTold : PlainWorld → Chronicle → ℕ → Type 0
-ArmTold w r n = ((r.arm_at n).fuse ≡ fuse_in w n) × IsArm (fuse_in w n)
+abbrev pub ArmKnown : PlainWorld → Chronicle → ℕ → Type 0
+ArmKnown w r n = ((r.arm_at n).fuse ≡ fuse_in w n) × IsArm (fuse_in w n)
 
-pub armed_answered : (Lines : List Event → Type 0) (closed : Bool) (w : PlainWorld) (r : Chronicle) (n : ℕ) (o : Outcome) → ArmTold w r n → AppendCame Lines closed w n o → IsNoted closed (r.arm_at n).fuse (with_arm n w o).1.answer
+pub armed_answered : (Lines : List Event → Type 0) (closed : Bool) (w : PlainWorld) (r : Chronicle) (n : ℕ) (o : Outcome) → ArmKnown w r n → AppendCame Lines closed w n o → IsNoted closed (r.arm_at n).fuse (with_arm n w o).1.answer
 armed_answered Lines closed w r n o a c = subst (λ f. IsNoted closed f (with_arm n w o).1.answer) (sym a.0) (came_noted Lines closed w n o.0 o.1 a.1 c)
 
 -- where a batch is appended, or fails to be, it was taken
 
-looks_taken : (d : DiskTold) (v : ℕ) (f : Fuse) (shelves : Shelves) → ((shelf : Shelf) → shelves v ≡ Some shelf → d.flushing ≡ told_flush shelf.flush)
+looks_taken : (d : DiskKnown) (v : ℕ) (f : Fuse) (shelves : Shelves) → ((shelf : Shelf) → shelves v ≡ Some shelf → d.flushing ≡ told_flush shelf.flush)
     → (let armed = arm_over shelves v f in (d.flushing ≡ told_flush (looked armed v (armed v)).1) ⊎ ((looked armed v (armed v)).1 ≡ Idle))
 looks_taken d v f shelves told = by (shelves v) refl
   where
@@ -248,7 +248,7 @@ save_is_taken w r n v told = on_node_by (λ x. IsAppended (r.disk_at n v) x.1.an
 pub save_taken : (w : PlainWorld) (r : Chronicle) (n v : ℕ) → AllTold w r → (closed : Bool) → AppendCame NoLines closed w n (on_node w n (save_line n v)) → IsAppended (r.disk_at n v) (with_arm n w (on_node w n (save_line n v))).1.answer
 save_taken w r n v told closed came = by how refl
   where
-    d : DiskTold
+    d : DiskKnown
     d = r.disk_at n v
 
     o : Outcome
@@ -274,7 +274,7 @@ abbrev opens_in : Option Plain → Bool
 opens_in None = false
 opens_in (Some vb) = is_some vb.spans.current
 
-abbrev disk_in : Option Plain → Option Shelf → DiskTold
+abbrev disk_in : Option Plain → Option Shelf → DiskKnown
 disk_in (Some vb) (Some shelf) = record blank_disk { flushing = told_flush shelf.flush; saved = vb.saved }
 disk_in o s = blank_disk
 
@@ -283,7 +283,7 @@ abbrev pub opens_of : PlainWorld → Chronicle
 opens_of w = record empty_chronicle { open_at = λ n v. opens_in (vb_in (w.nodes n) v); disk_at = λ n v. disk_in (vb_in (w.nodes n) v) (shelf_in (w.nodes n) v) }
 
 disks_told_of : (w : PlainWorld) → DisksTold w (opens_of w)
-disks_told_of w n v vb shelf e f = let is : disk_in (vb_in (w.nodes n) v) (shelf_in (w.nodes n) v) ≡ disk_in (Some vb) (Some shelf) = (λ i. disk_in (e i) (f i)) in (ap (λ (d : DiskTold). d.flushing) is, ap (λ (d : DiskTold). d.saved) is)
+disks_told_of w n v vb shelf e f = let is : disk_in (vb_in (w.nodes n) v) (shelf_in (w.nodes n) v) ≡ disk_in (Some vb) (Some shelf) = (λ i. disk_in (e i) (f i)) in (ap (λ (d : DiskKnown). d.flushing) is, ap (λ (d : DiskKnown). d.saved) is)
 
 pub told_of_opens : (w : PlainWorld) → AllTold w (opens_of w)
 told_of_opens w = (λ n v vb e. ap opens_in e, disks_told_of w)

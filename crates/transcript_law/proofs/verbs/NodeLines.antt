@@ -1,22 +1,22 @@
 -- lines of one node that tell of no branch
 use Rattle.std.specs.Prelude.{◌≡◌, ◌≤◌, ◌∷◌, ◌++◌, ◌==◌, if◌then◌else◌}
 use Rattle.transcript_law.proofs.Words.{ℕ, Bool, true, false, List, refl, ap, sym, ◌∙◌, subst, arith, Option, Some, None, is_some, flat_map, eqb-true}
-use Rattle.transcript_law.proofs.Words.{eqb-false, eq-eqb, ne_eqb, Frame, Cause, new_session, Member, Cluster, VbReply, Plain, is_active, States, with_vb_at, AdminCall, admin_told, Told, PlainLink}
-use Rattle.transcript_law.proofs.Words.{link_number, producer_node, consumer_node, PlainNode, PlainWorld, Outcome, with_node_at, with_states, branch_told, empty_node, done, refusal, first_cause}
+use Rattle.transcript_law.proofs.Words.{eqb-false, eq-eqb, ne_eqb, Frame, Cause, new_session, Member, Cluster, VbReply, Plain, is_active, States, with_vb_at, AdminCall, admin_result, Told, PlainLink}
+use Rattle.transcript_law.proofs.Words.{link_number, producer_node, consumer_node, PlainNode, PlainWorld, Outcome, with_node_at, with_states, branch_of_line, empty_node, done, refusal, first_cause}
 use Rattle.transcript_law.proofs.Words.{refused_or, node_outcome, on_node, with_client, client_at, hang_at, clock_at, vb_in, Role, Chronicle, after_role, after_lines, upto, fork_of, holds_same, [], IsNew, Position, complete_position, last_seq, option_map, parent_of, with_at}
-use Rattle.transcript_law.proofs.Words.{stream_at, ⊎_elim, row_at, row_put, with_link, on_link, link_outcome, with_links, LinkTold, StreamName, call_told, node_step, front, told}
+use Rattle.transcript_law.proofs.Words.{stream_at, ⊎_elim, row_at, row_put, with_link, on_link, link_outcome, with_links, LinkResult, StreamName, call_told, node_step, front, told}
 use Rattle.transcript_law.proofs.invariant.Tables.{at_here, at_there, if_known, used_before}
 use Rattle.transcript_law.specs.Lawfulness.{LawfulBranch, fork_in, newest_of}
 use Rattle.transcript_law.proofs.invariant.Wholes.{WholeTo}
 use Rattle.transcript_law.proofs.links.Followed.{fork_low}
 use Rattle.transcript_law.proofs.invariant.Seats.{seat, seats_apart}
-use Rattle.transcript_law.proofs.invariant.Agreement.{all_rise, CountsAre, CountsIf, counts_if, vb_of, Writes, WritesIf, own_history, VbHeld, VbHolds, VbAgrees, AgreesAt, consumer_seat, producer_seat, LinkAgrees, Agrees, GoesOn, LineGoes, idle, vb_contents, vb_row, VbRow, VbTold, VbIsIf, BranchIs, IsLink, is_open, LinksDiffer, AgreesIn}
+use Rattle.transcript_law.proofs.invariant.Agreement.{all_rise, CountsAre, CountsIf, counts_if, vb_of, Writes, WritesIf, own_history, VbHeld, VbHolds, VbAgrees, AgreesAt, consumer_seat, producer_seat, LinkAgrees, Agrees, GoesOn, LineGoes, idle, vb_contents, vb_row, VbRow, VbTold, VbIsIf, BranchAgrees, IsLink, is_open, LinksDiffer, AgreesIn}
 use Rattle.transcript_law.proofs.invariant.Carrying.{Relinked, Changed}
 use Rattle.transcript_law.proofs.invariant.Carried.{kept_same, link_carried, consumer_made, branches_again, KeptVb, places, all_vbs, ids_same}
 use Rattle.transcript_law.proofs.invariant.LinkRows.{found_is_link, put_same as put_link_same}
 use Rattle.transcript_law.proofs.{invariant.OneLink.{carries_rests, carries_same}, invariant.Resting.{ends_again, rests_by}}
-use Rattle.{node_world.specs.Nodes.{if_up}, node_world.specs.Worlds.{on_made}, node_world.specs.declared.arm.Arm.{Arm}, transcript_law.specs.Chronicles.{DiskTold, alone, no_arm, snap_in_role}}
-use Rattle.transcript_law.proofs.{invariant.Agreement.{AwayAt, BookIs, IsAway, Power, PowerIsIf, RestsIn, is_down, power_of}, invariant.Carrying.{Rearmed, SamePowers}, disks.Disks.{power_in}}
+use Rattle.{node_world.specs.Nodes.{if_up}, node_world.specs.Worlds.{on_made}, node_world.specs.declared.arm.Arm.{Arm}, transcript_law.specs.Chronicles.{DiskKnown, alone, no_arm, snap_in_role}}
+use Rattle.transcript_law.proofs.{invariant.Agreement.{AwayAt, BookAgrees, IsAway, Power, PowerIsIf, RestsIn, is_down, power_of}, invariant.Carrying.{Rearmed, SamePowers}, disks.Disks.{power_in}}
 use Rattle.transcript_law.proofs.{invariant.Agreement.{DiskIsIf, shelf_of, top}, disks.Disks.{disk_same, same_parts}, Words.{SoundCluster, shelf_in}}
 
 -- a line that tells nothing beside its lines
@@ -76,9 +76,9 @@ node_again w n node node' same shelves power = record {
 }
 
 -- a node with the vBuckets that it had
-pub same_node : (w : PlainWorld) (n : ℕ) (node node' : PlainNode) → w.nodes n ≡ Some node → ((q : ℕ) → node'.vbs q ≡ node.vbs q) → ((q : ℕ) → node'.shelves q ≡ node.shelves q) → power_in (Some node') ≡ power_in (Some node)
+pub node_of_same_vbs : (w : PlainWorld) (n : ℕ) (node node' : PlainNode) → w.nodes n ≡ Some node → ((q : ℕ) → node'.vbs q ≡ node.vbs q) → ((q : ℕ) → node'.shelves q ≡ node.shelves q) → power_in (Some node') ≡ power_in (Some node)
     → Relinked w (with_node_at w n node') w.links
-same_node w n node node' known same shelves power =
+node_of_same_vbs w n node node' known same shelves power =
     let again = node_again w n node node' same shelves power in
     record {
       powers = λ m. again.powers m ∙ powers_put w n node known m;
@@ -138,7 +138,7 @@ agrees_same w w' r (c, a) same = (c, carries_same idle idle w w' r c a same (λ 
 
 -- a refused line of a node
 pub refused_on : (w : PlainWorld) (r : Chronicle) (n : ℕ) (node : PlainNode) (why : Cause) → Agrees w r → w.nodes n ≡ Some node → GoesOn r as_told (with_node_at w n node, refusal why)
-refused_on w r n node why a known = (tt, agrees_same w (with_node_at w n node) r a (same_node w n node node known (λ q. refl) (λ q. refl) refl))
+refused_on w r n node why a known = (tt, agrees_same w (with_node_at w n node) r a (node_of_same_vbs w n node node known (λ q. refl) (λ q. refl) refl))
 
 -- a node is made: it runs, and no device call of it is to be hit
 module _ (w : PlainWorld) (r : Chronicle) (n : ℕ) (c : Cluster) (a : AgreesIn idle w r c) (none : w.nodes n ≡ None) where
@@ -176,10 +176,10 @@ module _ (w : PlainWorld) (r : Chronicle) (n : ℕ) (c : Cluster) (a : AgreesIn 
     position = x.position;
     log = x.log;
     role = x.role;
-    book = subst (λ s. BookIs (power_of made m) q s (r.disk_at m q) (c.disks (seat m q))) (sym (made_shelves m q))
-        (power_by (λ k p. BookIs (power_of w k) q (shelf_of w k q) (r.disk_at k q) (c.disks (seat k q)) → BookIs p q (shelf_of w k q) (r.disk_at k q) (c.disks (seat k q)))
+    book = subst (λ s. BookAgrees (power_of made m) q s (r.disk_at m q) (c.disks (seat m q))) (sym (made_shelves m q))
+        (power_by (λ k p. BookAgrees (power_of w k) q (shelf_of w k q) (r.disk_at k q) (c.disks (seat k q)) → BookAgrees p q (shelf_of w k q) (r.disk_at k q) (c.disks (seat k q)))
         (λ b.
-        let y = subst (λ p. BookIs p q (shelf_of w n q) (r.disk_at n q) (c.disks (seat n q))) no_power b in
+        let y = subst (λ p. BookAgrees p q (shelf_of w n q) (r.disk_at n q) (c.disks (seat n q))) no_power b in
         (y.0, y.1 ∙ ap (λ o. is_some (shelf_in o q)) (sym none)))
         (λ k b. b) m x.book);
   }
@@ -205,7 +205,7 @@ node_goes w r n a = elim (w.nodes n) as (λ o. w.nodes n ≡ o → GoesOn r as_t
 -- a line of a node that changes no vBucket
 pub kept_on : (w : PlainWorld) (r : Chronicle) (n : ℕ) (node node' : PlainNode) → Agrees w r → w.nodes n ≡ Some node → ((q : ℕ) → node'.vbs q ≡ node.vbs q) → ((q : ℕ) → node'.shelves q ≡ node.shelves q)
     → power_in (Some node') ≡ power_in (Some node) → GoesOn r as_told (with_node_at w n node', done [])
-kept_on w r n node node' a known same shelves power = (tt, agrees_same w (with_node_at w n node') r a (same_node w n node node' known same shelves power))
+kept_on w r n node node' a known same shelves power = (tt, agrees_same w (with_node_at w n node') r a (node_of_same_vbs w n node node' known same shelves power))
 
 -- a connection is opened, unless it is open
 pub client_goes : (w : PlainWorld) (r : Chronicle) (n base c : ℕ) (node : PlainNode) → Agrees w r → w.nodes n ≡ Some node → GoesOn r as_told (with_node_at w n (client_at n base c node).0, (client_at n base c node).1)
@@ -242,7 +242,7 @@ pub on_node_goes : (w : PlainWorld) (r : Chronicle) (n : ℕ) (f : PlainNode →
 on_node_goes w r n f a there = on_node_by (GoesOn r as_told) w n f (tt, a) (λ node e. refused_on w r n node Cause.NodeDown a e) there
 
 -- a line for a link, by whether it is open, and by whether the node at one of its ends, which carries it out, is made
-pub on_link_by : (P : Outcome → Type 0) (w : PlainWorld) (l : ℕ) (end : PlainLink → ℕ) (f : PlainLink → PlainNode → PlainNode × LinkTold) → P (w, refusal Cause.LinkClosed)
+pub on_link_by : (P : Outcome → Type 0) (w : PlainWorld) (l : ℕ) (end : PlainLink → ℕ) (f : PlainLink → PlainNode → PlainNode × LinkResult) → P (w, refusal Cause.LinkClosed)
     → ((link : PlainLink) → row_at link_number (link_number link) w.links ≡ Some link → P (with_links w (row_put link_number (link_number link) link w.links), refusal Cause.UnknownNode))
     → ((link : PlainLink) (node : PlainNode) → row_at link_number (link_number link) w.links ≡ Some link → w.nodes (end link) ≡ Some node
     → P (with_link link (with_node_at w (end link) (f link node).0, (f link node).1)))
@@ -258,7 +258,7 @@ on_link_by P w l end f none away there = by (row_at link_number l w.links) refl
     by None e = none
     by (Some link) e = at_node link (subst (λ k. row_at link_number k w.links ≡ Some link) (sym (found_is_link l w.links link e).1) e) (w.nodes (end link)) refl
 
-pub on_link_goes : (w : PlainWorld) (r : Chronicle) (l : ℕ) (end : PlainLink → ℕ) (f : PlainLink → PlainNode → PlainNode × LinkTold) → Agrees w r
+pub on_link_goes : (w : PlainWorld) (r : Chronicle) (l : ℕ) (end : PlainLink → ℕ) (f : PlainLink → PlainNode → PlainNode × LinkResult) → Agrees w r
     → ((link : PlainLink) (node : PlainNode) → row_at link_number (link_number link) w.links ≡ Some link → w.nodes (end link) ≡ Some node
     → GoesOn r as_told (with_link link (with_node_at w (end link) (f link node).0, (f link node).1)))
     → GoesOn r as_told (on_link w l end f)
@@ -282,11 +282,11 @@ more_used w r more (c, a) = (
 
 -- a line that uses no id goes on after the branches of its lines are used
 pub line_goes_on : (r : Chronicle) (told : Chronicle → Chronicle) (outcome : Outcome) → GoesOn r told outcome → LineGoes r told outcome
-line_goes_on r told outcome g = (g.0, more_used outcome.0 (told (after_lines r outcome.1.events)) (flat_map branch_told outcome.1.events) g.1)
+line_goes_on r told outcome g = (g.0, more_used outcome.0 (told (after_lines r outcome.1.events)) (flat_map branch_of_line outcome.1.events) g.1)
 
 -- what an operator's call makes of the world, by what the vBuckets and its reply are then
 abbrev pub admin_by : PlainWorld → ℕ → ℕ → AdminCall → PlainNode → States × Option VbReply → Outcome
-admin_by w n v asked node x = (with_node_at w n (with_states node x.0), call_told (admin_told n v asked x.1))
+admin_by w n v asked node x = (with_node_at w n (with_states node x.0), call_told (admin_result n v asked x.1))
 
 -- a vBucket that is made
 
@@ -323,7 +323,7 @@ vb_told r r' n v m (Some vb) row writes front a = record {
     keeps = a.keeps;
     told = subst (λ (t : VbRow). VbTold t.contents m.held vb.log vb.position) (sym row) a.told;
     member = a.member;
-    branch = subst (λ (t : VbRow). BranchIs t.contents.branch m.br) (sym row) a.branch;
+    branch = subst (λ (t : VbRow). BranchAgrees t.contents.branch m.br) (sym row) a.branch;
     holds = holds_same vb.floor (WholeTo vb.floor vb.spans vb.position) vb.position.at m.held (own_history r n v) (own_history r' n v) (all_rise a.kept) (front vb a)
         (λ i w. let low : fork_of vb.position ≤ vb.position.at = fork_low vb.position a.sound.within.0 in let k : i ≤ fork_of vb.position = w.1 in omega arith) a.holds;
   };
@@ -442,4 +442,4 @@ changed_agrees w w' r r' c n v vb vb' a known became kept tree dials streams poi
     written_agrees w w' r r' c c n v vb vb' a known became kept (λ j. refl) tree dials streams points opens a.sound refl here elsewhere
     (disk_same (Some vb') (Some vb') (disks n v) refl shelf refl (parts (subst (DiskIsIf (r.disk_at n v) (c.disks (seat n v)) (shelf_of w n v)) known (a.disks n v))))
     (λ m q o. (disks m q, refl))
-    (written_rests w w' r r' c c n v vb vb' a known became kept (λ j. refl) tree dials streams points opens arms (ap (λ (d : DiskTold). d.there) (disks n v)) (λ m q o. (rows m q o, refl)))
+    (written_rests w w' r r' c c n v vb vb' a known became kept (λ j. refl) tree dials streams points opens arms (ap (λ (d : DiskKnown). d.there) (disks n v)) (λ m q o. (rows m q o, refl)))

@@ -1,16 +1,16 @@
 -- what the law needs of each line for a node, for a client's connection and for a link
 use Rattle.std.specs.Prelude.{◌≡◌, ◌∷◌, ◌||◌, ◌&&◌, if◌then◌else◌}
 use Rattle.transcript_law.proofs.Words.{ℕ, true, false, [], refl, ap, sym, subst, ◌∙◌, arith, Option, Some, None, is_some, not, Answer, Cause, Chronicle, Verb, NodeVerb, ClientVerb, LinkVerb, PlainLink, PlainNode, PlainWorld, Outcome, Told, IsAnswered, IsMoved, IsPumped, LawfulAnswer, after_verb, stays, take_snapshots}
-use Rattle.transcript_law.proofs.Words.{ask_in, bytes_at, client_at, clock_at, consumer_node, cut_outcome, done, drop, empty_node, fed_if, first_cause, hang_at, link_causes, link_number, new_session, node_causes, node_step, on_link, on_node, peer_of, peer_pulled, producer_node, pump_at, refusal, row_at, unlinked, up_at, with_client, with_dialed, with_links, with_node_at}
+use Rattle.transcript_law.proofs.Words.{ask_in, bytes_at, client_at, clock_at, consumer_node, cut_outcome, done, drop, empty_node, bytes_if, first_cause, hang_at, link_causes, link_number, new_session, node_causes, node_step, on_link, on_node, peer_of, peer_pulled, producer_node, pump_at, refusal, row_at, unlinked, up_at, with_client, with_dialed, with_links, with_node_at}
 use Rattle.node_world.specs.{Arms.{fail_arm, stop_arm}, Nodes.{arm_at}, Power.{crash_causes, crash_step, down_lines, dropped, start_at, start_causes, start_step}, World.{base_of, client_verb_at, cut_step, down_in, down_outcome, down_step, link_step, link_verb_step, node_verb_step}, Worlds.{is_off, on_made}, declared.arm.Arm.{Arm}}
 use Rattle.transcript_law.proofs.invariant.{AtRest.{RestsIf, Still, bytes_still, down_rests, either_node, link_still, start_still, still_put, still_ran, still_steps, up_still, weaker}, CallsKept.{InWorld, dropped_all, none_at, on_made_all, unless_all, unlinked_all}, Agreement.{Agrees}, Entering.{Entered, armed_entered, crashed_entered, dial_entered, down_entered, start_line_entered}}
 use Rattle.transcript_law.proofs.invariant.{FedLines.{broken_line, bytes_less, client_less, cut_fine, dialed_fed, down_fine, hang_less, none_less, pump_fed, start_less, unless_fed, up_fed}, Feeding.{dropped_fine, made_fine, with_node as fed_node}, TimelyCalls.{pulled_tame}}
 use Rattle.transcript_law.proofs.invariant.Ranged.{IsRanged, NodeRangedIf, bytes_ranged, client_ranged, down_ranged, dropped_ranged, hang_ranged, kept_ranged, on_link_ranged, on_made_ranged, same_ranged, start_at_ranged, unless_ranged, unlinked_ranged, up_ranged, with_node}
 use Rattle.transcript_law.proofs.{invariant.Clients.{client_answered, crash_answered}, disks.AppendLines.{start_says}, disks.Fired.{ends_calm}, lines.Calm.{Spared, bytes_calm, pump_calm, up_calm}, lines.Refusals.{Same, Says, on_link_says, on_node_says, refused_says, unchanged}, links.PumpAnswers.{moved_few, pump_says}}
-use Rattle.transcript_law.proofs.verbs.{BoundAnswers.{bound, bound_at, bound_down, closed_link, crash_refused, link_refused, node_exists, off_is, one, over, start_refused}, FiredLines.{down_fires, rows_fire}, LineAnswers.{IsOk, down_line_says, no_ok}}
+use Rattle.transcript_law.proofs.verbs.{BoundAnswers.{bound, bound_at, bound_down, closed_link_refused, crash_refused, link_refused, node_exists, off_as_power, one, over, start_refused}, FiredLines.{down_fires, rows_fire}, LineAnswers.{IsOk, down_line_says, no_ok}}
 use Rattle.transcript_law.proofs.verbs.{ArmLines.{fail_goes, stop_goes}, Crashing.{crash_goes}, Dials.{link_goes}, DownLine.{down_answered, down_goes}, Leaving.{cut_goes}, NodeLines.{client_goes, clock_goes, hang_goes, node_goes, on_link_by, on_made_by, on_node_goes}}
 use Rattle.transcript_law.proofs.verbs.{Pumping.{pump_goes}, Requesting.{bytes_goes}, Rows.{Goes, Row, alone_row, answered_row, told_goes}, Settling.{steady}, Starting.{start_answered, start_fires, start_goes}, Tellings.{all_pass, are_unless, bytes_tells, crash_tells, cut_tells, start_tells}, Ups.{up_goes}}
-use Rattle.transcript_law.specs.{Bound.{is_told_down}, Chronicles.{fail_told, stop_told}, Firings.{FiresInLine}, Tellings.{TellsOf, is_none}}
+use Rattle.transcript_law.specs.{Bound.{is_told_down}, Chronicles.{known_fail, known_stop}, Firings.{FiresInLine}, Tellings.{TellsOf, is_none}}
 use Rattle.vbucket.specs.Laws.{IsTimely}
 
 -- ---- nodes
@@ -26,7 +26,7 @@ node_row w n =
       tells = are_unless is_none why w x refl;
       told = λ r fits t. (says.0, rows_fire (node_causes w n) w x (tt, tt) refl);
       entered = λ before r old. old;
-      bound = λ r a rule. bound (is_told_down r n) Cause.NodeExists [] _ told rule (λ e. one Cause.NodeExists told (node_exists w (w.nodes n) x (sym (off_is w r a n) ∙ e)));
+      bound = λ r a rule. bound (is_told_down r n) Cause.NodeExists [] _ told rule (λ e. one Cause.NodeExists told (node_exists w (w.nodes n) x (sym (off_as_power w r a n) ∙ e)));
       goes = λ r fits ranged a. told_goes (Verb.Node n) r (node_step w n) (node_goes w r n a);
     }
 
@@ -53,8 +53,8 @@ pub node_row_of : (w : PlainWorld) (n : ℕ) (what : NodeVerb) → Row w (Verb.A
 node_row_of w n (NodeVerb.Clock nanos) = alone_row w (Verb.AtNode n (NodeVerb.Clock nanos)) n (clock_at nanos) (λ r. (refl, λ told s. s)) (λ before r lines said old. old)
     (λ fits node r. record { clock = fits.1; clients = r.clients }) (λ node here there. there) none_less (λ node. refl) (λ node. refl) (λ r told. on_node_says IsOk w n (clock_at nanos) no_ok (λ node known. (tt, λ why e s. cc)))
     (λ r fits ranged a. on_node_goes w r n (clock_at nanos) a (λ node e up. clock_goes w r n nanos node a e))
-node_row_of w n (NodeVerb.Stop k out) = arm_row w n (NodeVerb.Stop k out) (stop_arm k out) (λ r rule. rule) (λ r said. said) (λ before r said old. armed_entered r n (stop_told k out) said old) (λ r a. stop_goes w r n k out a)
-node_row_of w n (NodeVerb.Fail k) = arm_row w n (NodeVerb.Fail k) (fail_arm k) (λ r rule. rule) (λ r said. said) (λ before r said old. armed_entered r n (fail_told k) said old) (λ r a. fail_goes w r n k a)
+node_row_of w n (NodeVerb.Stop k out) = arm_row w n (NodeVerb.Stop k out) (stop_arm k out) (λ r rule. rule) (λ r said. said) (λ before r said old. armed_entered r n (known_stop k out) said old) (λ r a. stop_goes w r n k out a)
+node_row_of w n (NodeVerb.Fail k) = arm_row w n (NodeVerb.Fail k) (fail_arm k) (λ r rule. rule) (λ r said. said) (λ before r said old. armed_entered r n (known_fail k) said old) (λ r a. fail_goes w r n k a)
 node_row_of w n (NodeVerb.Crash out) =
     let x : Outcome = (dropped n out w, done (down_lines n None w)) in let why : Option Cause = first_cause (crash_causes w n) in let came : Outcome = crash_step w n out in
     let says : Says IsOk (Same w) came = refused_says IsOk (Same w) w x why no_ok (unchanged w) (tt, λ why e s. cc) in record {
@@ -73,7 +73,7 @@ node_row_of w n (NodeVerb.Start uuids) = let x : Outcome = on_made w n (start_at
   rests = λ r here a all. weaker (start_step w n uuids).0 (start_still w r n uuids a all);
   fed = λ fine. unless_fed w x why fine.fed (made_fine w n (start_at n uuids) fine (start_less n uuids)).fed;
   keeps = λ rests. (start_says w n uuids).1;
-  bound = λ r a rule. bound_down (is_told_down r n) Cause.NodeUp (Cause.UnknownNode ∷ []) _ told rule (λ e. start_refused w (w.nodes n) (drop 2 (start_causes w n uuids)) x (sym (off_is w r a n) ∙ e));
+  bound = λ r a rule. bound_down (is_told_down r n) Cause.NodeUp (Cause.UnknownNode ∷ []) _ told rule (λ e. start_refused w (w.nodes n) (drop 2 (start_causes w n uuids)) x (sym (off_as_power w r a n) ∙ e));
   tells = start_tells w n uuids;
   told = λ r fits t. (start_answered steady w r n uuids fits.1.1 t.agrees, start_fires steady w r n uuids fits.1.1 t.agrees);
   entered = λ before r old. start_line_entered r n told.events told.answer old;
@@ -96,7 +96,7 @@ client_row_of w number n c ClientVerb.Open =
     (λ r fits ranged a. on_node_goes w r n (client_at n (base_of number) c) a (λ node e up. client_goes w r n (base_of number) c node a e))
 client_row_of w number n c (ClientVerb.Bytes bytes) = answered_row (λ r. IsOk) w (Verb.AtClient n c (ClientVerb.Bytes bytes)) n (bytes_at c bytes) (λ r. (refl, λ told s. s)) (λ before r lines said old. old)
     (λ fits node r. bytes_ranged n c bytes node fits.2 r) (bytes_still n c bytes) (bytes_less c bytes) (bytes_calm c bytes) (bytes_tells c bytes)
-    (λ r told. on_node_says IsOk w n (bytes_at c bytes) no_ok (λ node known. elim (node.clients c) as (λ o. Says IsOk (λ k. k ≡ node) (fed_if c bytes node o)) [ None ↦ (tt, λ why e s. (refl, refl)) | Some session ↦ (tt, λ why e s. cc) ]))
+    (λ r told. on_node_says IsOk w n (bytes_at c bytes) no_ok (λ node known. elim (node.clients c) as (λ o. Says IsOk (λ k. k ≡ node) (bytes_if c bytes node o)) [ None ↦ (tt, λ why e s. (refl, refl)) | Some session ↦ (tt, λ why e s. cc) ]))
     (λ r t ok. client_answered r.conn_at w number t.conns n c (ClientVerb.Bytes bytes))
     (λ r fits ranged a. on_node_goes w r n (bytes_at c bytes) a (λ node e up. bytes_goes stays steady w r n c bytes node fits.2 (subst (NodeRangedIf n) e (ranged n)) a e))
 client_row_of w number n c ClientVerb.Hang =
@@ -124,7 +124,7 @@ link_row w number l m n v =
       told = λ r fits t. (says.0, rows_fire (link_causes w l m n v) w x (tt, (tt, (tt, (tt, (tt, tt))))) refl);
       entered = λ before r old. dial_entered r l m n v came.1.answer old;
       bound = λ r a rule. bound (is_told_down r m || is_told_down r n) Cause.NodeDown (Cause.UnknownNode ∷ []) _ came.1 rule (λ e.
-          link_refused w (not (is_some (w.nodes m) && is_some (w.nodes n))) (is_off (w.nodes m) || is_off (w.nodes n)) (drop 2 (link_causes w l m n v)) x ((λ i. sym (off_is w r a m) i || sym (off_is w r a n) i) ∙ e));
+          link_refused w (not (is_some (w.nodes m) && is_some (w.nodes n))) (is_off (w.nodes m) || is_off (w.nodes n)) (drop 2 (link_causes w l m n v)) x ((λ i. sym (off_as_power w r a m) i || sym (off_as_power w r a n) i) ∙ e));
       goes = λ r fits ranged a. told_goes (Verb.Link l m n v) r came (link_goes w r number l m n v fits a);
     }
 
@@ -135,7 +135,7 @@ link_row_of w l (LinkVerb.Up wanted) = let f = up_at wanted in let came : Outcom
       fed = λ fine. up_fed w fine l wanted;
       rests = λ r here a all. weaker came.0 (link_still w here all l producer_node f (λ link node at there. up_still (producer_node link) wanted link node at there));
       keeps = λ rests. says.1;
-      bound = λ r a rule. over w r l _ came.1 a rule (closed_link w l producer_node f);
+      bound = λ r a rule. over w r l _ came.1 a rule (closed_link_refused w l producer_node f);
       entered = λ before r old. old;
       tells = all_pass came.1.events;
       told = λ r fits t. (says.0, on_link_by (λ o. Spared o.1) w l producer_node f refl (λ link found. refl) (λ link node found known. up_calm wanted link node));
@@ -148,7 +148,7 @@ link_row_of w l (LinkVerb.Down wanted) = let o : Outcome = on_link w l consumer_
   keeps = λ rests. (down_line_says w l wanted).1;
   tells = all_pass came.1.events;
   told = λ r fits t. (down_answered stays w r l wanted t.agrees, down_fires w r l wanted t.dials);
-  bound = λ r a rule. over w r l _ came.1 a rule (λ none. ap (λ k. (down_outcome w l k o).1) none ∙ closed_link w l consumer_node (down_in wanted) none);
+  bound = λ r a rule. over w r l _ came.1 a rule (λ none. ap (λ k. (down_outcome w l k o).1) none ∙ closed_link_refused w l consumer_node (down_in wanted) none);
   entered = λ before r old. down_entered before r (before.dial_of l) (before.point_of l) came.1.events came.1.answer old;
   goes = λ r fits ranged a. told_goes (Verb.AtLink l (LinkVerb.Down wanted)) r came (down_goes stays w r l wanted a);
 }
@@ -158,7 +158,7 @@ link_row_of w l (LinkVerb.Pump frames) = let f = pump_at frames in let came : Ou
       fed = λ fine. pump_fed w fine l frames;
       rests = λ r here a all. weaker came.0 (link_still w here all l producer_node f (λ link node at there. still_ran (peer_pulled frames (peer_of link)) node.vbs (pulled_tame frames (peer_of link)) there));
       keeps = λ rests. says.1;
-      bound = λ r a rule. over w r l _ came.1 a rule (closed_link w l producer_node f);
+      bound = λ r a rule. over w r l _ came.1 a rule (closed_link_refused w l producer_node f);
       entered = λ before r old. old;
       tells = all_pass came.1.events;
       told = λ r fits t. (says.0, on_link_by (λ o. Spared o.1) w l producer_node f refl (λ link found. refl) (λ link node found known. pump_calm frames link node));

@@ -1,14 +1,14 @@
 -- a line that has a producer put frames
 use Rattle.std.specs.Prelude.{◌≡◌}
 use Rattle.transcript_law.proofs.Words.{ℕ, zero, suc, refl, ap, sym, ◌∙◌, subst, append-nil, Some, TakesSnapshots, Done, Turn, More, Stop, go_on, repeated, after, row_at, row_put, States}
-use Rattle.transcript_law.proofs.Words.{after_bind, frame_put, frames_put, pulled, Halt, Served, begun, pull_told, PlainLink, link_number, producer_node, peer_of, pump_told, pump_at, PlainNode}
-use Rattle.transcript_law.proofs.Words.{PlainWorld, with_states, with_node_at, with_link, on_link, Chronicle, PullTold, peer_pulled}
+use Rattle.transcript_law.proofs.Words.{after_bind, frame_put, frames_put, pulled, Halt, Served, begun, pull_result, PlainLink, link_number, producer_node, peer_of, pump_result, pump_at, PlainNode}
+use Rattle.transcript_law.proofs.Words.{PlainWorld, with_states, with_node_at, with_link, on_link, Chronicle, PullResult, peer_pulled}
 use Rattle.transcript_law.proofs.invariant.Agreement.{idle, Agrees, GoesOn}
 use Rattle.transcript_law.proofs.{invariant.Carrying.{Relinked}, invariant.OneLink.{carries_same}}
 use Rattle.transcript_law.proofs.invariant.LinkRows.{put_same}
 use Rattle.transcript_law.proofs.links.PumpWorlds.{pumped, SoFar, TurnSoFar, TurnsSoFar}
 use Rattle.transcript_law.proofs.links.Turns.{turn}
-use Rattle.transcript_law.proofs.verbs.NodeLines.{as_told, on_link_goes, same_node}
+use Rattle.transcript_law.proofs.verbs.NodeLines.{as_told, on_link_goes, node_of_same_vbs}
 
 module _ (takes : TakesSnapshots) where
   module _ (w : PlainWorld) (r : Chronicle) (link : PlainLink) (node : PlainNode) (found : row_at link_number (link_number link) w.links ≡ Some link) where
@@ -25,14 +25,14 @@ module _ (takes : TakesSnapshots) where
         subst (TurnsSoFar w r l link node) (sym (after_bind (repeated k frame_put s) (go_on frame_put) states))
         (next_turn (after (repeated k frame_put s) states).0 (after (repeated k frame_put s) states).1 (turns k states s g))
 
-    abbrev Gone : States × PullTold → Type 0
-    Gone y = GoesOn r (λ x. x) (with_link link (with_node_at w (producer_node link) (pump_told link node y).0, (pump_told link node y).1))
+    abbrev Gone : States × PullResult → Type 0
+    Gone y = GoesOn r (λ x. x) (with_link link (with_node_at w (producer_node link) (pump_result link node y).0, (pump_result link node y).1))
 
     -- what is told of the line
-    abbrev told_of : States × (Served × Halt) → States × PullTold
-    told_of x = (x.0, pull_told link.up_heard x.1)
+    abbrev known_of : States × (Served × Halt) → States × PullResult
+    known_of x = (x.0, pull_result link.up_heard x.1)
 
-    ended : (states : States) (x : Turn Served (Served × Halt)) → TurnSoFar w r l link node states x → Gone (told_of (after (pulled x) states))
+    ended : (states : States) (x : Turn Served (Served × Halt)) → TurnSoFar w r l link node states x → Gone (known_of (after (pulled x) states))
     ended states (More s) g = (g.lawful, g.agrees)
     ended states (Stop stopped) g = (g.lawful, g.agrees)
 
@@ -41,7 +41,7 @@ module _ (takes : TakesSnapshots) where
       first = begun link.server
 
       same : Relinked w (with_node_at w (producer_node link) (with_states node node.vbs)) w.links
-      same = same_node w (producer_node link) node (with_states node node.vbs) known (λ q. refl) (λ q. refl) refl
+      same = node_of_same_vbs w (producer_node link) node (with_states node node.vbs) known (λ q. refl) (λ q. refl) refl
 
       first_so_far : SoFar w r l link node node.vbs first
       first_so_far = record {
@@ -60,7 +60,7 @@ module _ (takes : TakesSnapshots) where
       node_goes frames =
           let x = after (repeated frames frame_put first) node.vbs in
           subst Gone
-          (sym (after_bind (frames_put frames first) (λ put. Done (pull_told link.up_heard put)) node.vbs ∙ ap told_of (after_bind (repeated frames frame_put first) pulled node.vbs)))
+          (sym (after_bind (frames_put frames first) (λ put. Done (pull_result link.up_heard put)) node.vbs ∙ ap known_of (after_bind (repeated frames frame_put first) pulled node.vbs)))
           (ended x.0 x.1 (turns frames node.vbs first first_so_far))
 
   -- a line `pump`

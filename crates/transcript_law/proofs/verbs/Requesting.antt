@@ -2,15 +2,15 @@
 use Rattle.std.specs.Prelude.{◌≡◌, ◌<◌, ◌+◌, ◌∷◌, ◌++◌, ◌==◌, ◌^◌, if◌then◌else◌, nat_le}
 use Rattle.transcript_law.proofs.Words.{ℕ, Bool, true, false, List, [], refl, ap, sym, ◌∙◌, subst, append_assoc, Option, Some, None, Result, Ok, Err, length, image_of, eq-eqb, Op, Frame, FrameFault, RESPONSE, AreBytes, WriteFits, KvRequest, Change, Doc}
 use Rattle.transcript_law.proofs.Words.{Event, Status, Write, Member, Move, happens, VbReply, VbCall, Plain, plain_step, Done, after, newest_branch, is_active, doc_at, refusal_reply, States, with_vb_at, call_at, growth, write_change, new_cas}
-use Rattle.transcript_law.proofs.Words.{Sound, StaysSound, PlainSession, ended_at, request_served, frame_served, bytes_served, told, left_open, PlainNode, PlainWorld, with_node_at, with_client, with_states, fed_if, bytes_at, Chronicle, after_lines, after_change}
-use Rattle.transcript_law.proofs.{Words.{LawfulFrom}, invariant.Seats.{seat}, invariant.Agreement.{Agrees, AgreesIn, GoesOn, idle}, invariant.Carrying.{Changed}, lines.Lines.{lawful_more}, verbs.NodeLines.{agrees_same, as_told, node_again, node_grown, put_same, refused_on, same_node, shelves_again}}
+use Rattle.transcript_law.proofs.Words.{Sound, StaysSound, PlainSession, ended_at, request_handled, frame_handled, bytes_handled, told, left_open, PlainNode, PlainWorld, with_node_at, with_client, with_states, bytes_if, bytes_at, Chronicle, after_lines, after_change}
+use Rattle.transcript_law.proofs.{Words.{LawfulFrom}, invariant.Seats.{seat}, invariant.Agreement.{Agrees, AgreesIn, GoesOn, idle}, invariant.Carrying.{Changed}, lines.Lines.{lawful_more}, verbs.NodeLines.{agrees_same, as_told, node_again, node_grown, put_same, refused_on, node_of_same_vbs, shelves_again}}
 use Rattle.transcript_law.proofs.{invariant.Ranged.{NodeRanged, SessionRangedIf}, invariant.Sessions.{Received, SessionRanged, fault_ranged, first_received, front_ranged, more_ranged}, verbs.Settling.{SettlesOn, Steady, changes_quiet, changes_told, settles}}
 use Rattle.transcript_law.proofs.{lines.Telling.{LawfulBefore, TellNothing, none_before, before_more, before_all, told_more}, verbs.Writing.{change_fits, has_room, is_lawful, mine, newest, prepare_fits, prepare_fulfils, prepare_unheld, room_for_two, store_taken, write_fulfils, write_unheld, written}}
-use Rattle.client_session.specs.Answers.{status_reply, value_reply, reply_to, reply_line, reply_lines, change_lines, asked_lines, fault_lines}
-use Rattle.client_session.specs.Serving.{MOST_DURABLE, Served, awaited_by, deadline_of, durable_called, durable_told, next_waiter, outcome_of, outcome_reply, outcome_served, outcome_told, prepared_told, refused, served, settings_of, with_lines, with_used}
+use Rattle.client_session.specs.Answers.{status_reply, value_reply, reply_to, reply_line, reply_lines, change_lines, request_lines, fault_lines}
+use Rattle.client_session.specs.Serving.{MOST_DURABLE, Served, awaited_by, deadline_of, durable_called, durable_replied, next_waiter, outcome_of, outcome_reply, outcome_handled, outcome_answered, answered_or_awaited, refused, served, settings_of, with_lines, with_used}
 use Rattle.client_session.{proofs.Conduct.{either}, proofs.Keeping.{bytes_go, front_of, outcome_goes}, specs.declared.session.Awaited.{Awaited}}
 use Rattle.{mcbp_frame.specs.Frames.{faulty_head, first_frame}, mcbp_frame.specs.declared.frame.FaultyHead.{FaultyHead}, mcbp_kv.proofs.Asked.{passed}, mcbp_kv.proofs.Commands.{read_fits}, mcbp_kv.proofs.Shapes.{each_code}, mcbp_kv.specs.Features.{feature_bytes}}
-use Rattle.{mcbp_kv.specs.Fitting.{RequestFits}, mcbp_kv.specs.Requests.{asked_by, op_of, request_of}, mcbp_kv.specs.declared.reply.KvReply.{KvReply}, mcbp_kv.specs.declared.opcodes.TheConstants.{ADD, REPLACE, SET}}
+use Rattle.{mcbp_kv.specs.Fitting.{RequestFits}, mcbp_kv.specs.Requests.{request_by, op_of, request_of}, mcbp_kv.specs.declared.reply.KvReply.{KvReply}, mcbp_kv.specs.declared.opcodes.TheConstants.{ADD, REPLACE, SET}}
 use Rattle.vb_calls.specs.{Durable.{Wish, durable_outcome, durable_refusal, outstanding, prepare_change, prepared_vb}, Settling.{is_empty, settled, unresolved}, State.{get_reply, is_left, pending_of}, States.{stepped_at}}
 use Rattle.vb_calls.specs.Writes.{store_refusal, store_outcome, key_refusal, lacks_seqnos}
 use Rattle.vb_calls.specs.declared.calls.{Resolution.{Resolution}, Resolved.{Resolved}}
@@ -35,7 +35,7 @@ stores o code opcode e is other d = other (sym is ∙ ap op_of (sym e) ∙ d)
 removes_alone : (json : Bool) (f : Frame) (r : KvRequest) → request_of json f ≡ Ok r → RemovesAlone r
 removes_alone json f r e =
     let p = passed json f r e in
-    each_code (λ n. f.opcode ≡ n → asked_by n p.durable f ≡ r → RemovesAlone r)
+    each_code (λ n. f.opcode ≡ n → request_by n p.durable f ≡ r → RemovesAlone r)
     (λ c a. subst RemovesAlone a tt)
     (λ c a. subst RemovesAlone a (λ d. absurd (stores Op.Set SET f.opcode c refl (λ z. cc) d)))
     (λ c a. subst RemovesAlone a (λ d. absurd (stores Op.Add ADD f.opcode c refl (λ z. cc) d)))
@@ -72,11 +72,11 @@ no_change n v false again o = refl
 
 -- the vBuckets and the session after a request that a vBucket answered so
 abbrev answered_by : Frame → Served → States × Option VbReply → States × Served
-answered_by f s (states, reply) = (states, with_lines s (asked_lines s.session.who.node s.session.who.client s.session.settings f reply))
+answered_by f s (states, reply) = (states, with_lines s (request_lines s.session.who.node s.session.who.client s.session.settings f reply))
 
 -- and after a durable one
 abbrev durably_by : Frame → Served → States × Option VbReply → States × Served
-durably_by f s (states, reply) = (states, durable_told (next_waiter s.session) f (with_used s) reply)
+durably_by f s (states, reply) = (states, durable_replied (next_waiter s.session) f (with_used s) reply)
 
 -- a vBucket that is put twice is put once
 put_twice : (states : States) (v : ℕ) (one other : Plain) (q : ℕ) → with_vb_at states v other q ≡ with_vb_at (with_vb_at states v one) v other q
@@ -115,9 +115,9 @@ module _ (stays : StaysSound) (steady : Steady) (w : PlainWorld) (r : Chronicle)
   )
 
   -- changes
-  told_changes : (x : States × Served) → Now x → (states : States) (m v u uuid : ℕ) (changes : List Change) → m ≡ n → u ≡ uuid → LawfulFrom (so_far x) (changes_told n v uuid changes)
+  told_each_change : (x : States × Served) → Now x → (states : States) (m v u uuid : ℕ) (changes : List Change) → m ≡ n → u ≡ uuid → LawfulFrom (so_far x) (changes_told n v uuid changes)
       → Agrees (world_at states) (after_lines (so_far x) (changes_told n v uuid changes)) → Now (states, with_lines x.1 (changes_told m v u changes))
-  told_changes x now states m v u uuid changes at on lawful agrees =
+  told_each_change x now states m v u uuid changes at on lawful agrees =
       let lines : List Event = changes_told n v uuid changes in
       let it : Now (states, with_lines x.1 lines) = (
         before_more r x.1.events lines now.0 (λ more rest. lawful_more (so_far x) lines more (changes_quiet n v uuid changes) lawful rest),
@@ -131,12 +131,12 @@ module _ (stays : StaysSound) (steady : Steady) (w : PlainWorld) (r : Chronicle)
   status_goes f st x now = quiet x now x.0 (λ q. refl) x.1.session now.2 _ (line_silent x.1.session.who.node x.1.session.who.client (status_reply f st))
 
   -- the outcome of a durable write is told
-  outcome_goes_on : (a : Awaited) (how : Resolution) (x : States × Served) → Now x → Now (x.0, outcome_told a how x.1)
+  outcome_goes_on : (a : Awaited) (how : Resolution) (x : States × Served) → Now x → Now (x.0, outcome_answered a how x.1)
   outcome_goes_on a how x now = quiet x now x.0 (λ q. refl) (record x.1.session { awaited = None }) (record { node = now.2.node; bytes = now.2.bytes }) _
       (line_silent x.1.session.who.node x.1.session.who.client (outcome_reply x.1.session.settings a how))
 
   -- or awaited
-  prepared_goes : (a : Awaited) (how : Option Resolution) (x : States × Served) → Now x → Now (x.0, prepared_told a how x.1)
+  prepared_goes : (a : Awaited) (how : Option Resolution) (x : States × Served) → Now x → Now (x.0, answered_or_awaited a how x.1)
   prepared_goes a None x now = again x now (record x.1.session { awaited = Some a }) (record { node = now.2.node; bytes = now.2.bytes })
   prepared_goes a (Some how) x now = outcome_goes_on a how x now
 
@@ -181,7 +181,7 @@ module _ (stays : StaysSound) (steady : Steady) (w : PlainWorld) (r : Chronicle)
           let named = write_fulfils (image_of member.held) vb write cas in
           let change_is = change_fits vb write clock fits small room in let states : States = with_vb_at x.0 v (growth vb change cas).0 in
           let grown : Changed (world_at x.0) (world_at states) n v (growth vb change cas).0 w.links = node_grown w n v there0 (with_states node states) (growth vb change cas).0 (λ q. refl) (λ q o. refl) refl in
-          let made = told_changes x now states x.1.session.who.node v (newest_branch vb.log) member.br (change ∷ []) now.2.node
+          let made = told_each_change x now states x.1.session.who.node v (newest_branch vb.log) member.br (change ∷ []) now.2.node
           (newest (world_at x.0) (so_far x) cl n v there0 vb in_it known has change cas taken.0 refl room change_is named vb.waiting sound)
           (is_lawful (world_at x.0) (so_far x) cl n v there0 vb in_it known has change cas taken.0 refl room change_is named vb.waiting sound (write_unheld ((so_far x).counts_at n v) ((so_far x).disk_at n v).saved (image_of member.held) vb write cas), tt)
           (happens cl (Move.Own (seat n v) change), written (world_at x.0) (so_far x) cl n v there0 vb in_it known has change cas taken.0 refl room change_is named vb.waiting sound (world_at states) grown (shelves_again w n (with_states node x.0) (with_states node states) (λ q. refl) n v) (cas_rises clock vb.last_cas here.sound.last_cas)) in
@@ -196,7 +196,7 @@ module _ (stays : StaysSound) (steady : Steady) (w : PlainWorld) (r : Chronicle)
 
       -- a durable write is prepared, and what may be committed then is
       durable_goes : (write : Write) (wish : Wish) → WriteFits write → (write.op ≡ Op.Delete → write.value ≡ []) → durable_refusal vb write ≡ None → Now (durably_by f x.1 (stepped_at x.0 v (durable_outcome None vb write wish cas)))
-      unfolding durable_told
+      unfolding durable_replied
       durable_goes write wish fits alone free =
           let (cl, in_it) = now.1 in let change : Change = prepare_change vb write wish.level cas in let made : Plain = prepared_vb vb write wish cas in
           let member : Member = cl.nodes (seat n v) in let left = placed (outstanding write wish (vb.position.at + 1)) vb.waiting in
@@ -216,7 +216,7 @@ module _ (stays : StaysSound) (steady : Steady) (w : PlainWorld) (r : Chronicle)
           let states2 : States = with_vb_at x.0 v (settled made).vb in let there2 : PlainNode = with_states node states2 in
           let changed : Changed (world_at states1) (world_at states2) n v (settled made).vb w.links = node_grown w n v there1 there2 (settled made).vb (λ q. put_twice x.0 v made (settled made).vb q) (λ q o. refl) refl in
           let on : newest_branch vb.log ≡ member.br = newest (world_at x.0) (so_far x) cl n v there0 vb in_it known has change cas taken.0 refl room change_is named left sound in
-          let gone = told_changes (x.0, with_used x.1) used states2 x.1.session.who.node v (if is_empty (settled made).changes then newest_branch vb.log else newest_branch (settled made).vb.log) member.br (change ∷ later.cs) now.2.node
+          let gone = told_each_change (x.0, with_used x.1) used states2 x.1.session.who.node v (if is_empty (settled made).changes then newest_branch vb.log else newest_branch (settled made).vb.log) member.br (change ∷ later.cs) now.2.node
           (one_branch (is_empty (settled made).changes) (newest_branch vb.log) (newest_branch (settled made).vb.log) (ap newest_branch later.log) ∙ on)
           (is_lawful (world_at x.0) (so_far x) cl n v there0 vb in_it known has change cas taken.0 refl room change_is named left sound (prepare_unheld ((so_far x).counts_at n v) ((so_far x).disk_at n v).saved (image_of member.held) vb write wish.level cas), subst (λ u. LawfulFrom r1 (changes_told n v u later.cs)) on later.lawful)
           (subst (λ u. Agrees (world_at states2) (after_lines r1 (changes_told n v u later.cs))) on (later.agrees (world_at states2) changed (shelves_again w n there1 there2 (λ q. refl) n v))) in
@@ -225,7 +225,7 @@ module _ (stays : StaysSound) (steady : Steady) (w : PlainWorld) (r : Chronicle)
           (subst (λ cs. Now (states2, with_lines (with_used x.1) (changes_told x.1.session.who.node v branch (change ∷ cs)))) (sym later.changes) gone)
 
       durably : (write : Write) (wish : Wish) → WriteFits write → (write.op ≡ Op.Delete → write.value ≡ []) → (said : Option Status) → durable_refusal vb write ≡ said → Now (durably_by f x.1 (stepped_at x.0 v (durable_outcome said vb write wish cas)))
-      unfolding durable_told
+      unfolding durable_replied
       durably write wish fits alone (Some st) e =
           let states : States = with_vb_at x.0 v vb in
           status_goes f st (states, with_lines (with_used x.1) [])
@@ -242,13 +242,13 @@ module _ (stays : StaysSound) (steady : Steady) (w : PlainWorld) (r : Chronicle)
 
     prepared : (write : Write) (wish : Wish) → WriteFits write → (write.op ≡ Op.Delete → write.value ≡ []) → (o : Option Plain) → x.0 v ≡ o
         → Now (durably_by f x.1 (call_at x.0 v (Durable write clock wish.level wish.deadline wish.waiter) o))
-    unfolding durable_told
+    unfolding durable_replied
     prepared write wish fits alone None none = status_goes f NotMyVbucket (x.0, with_used x.1) used
     prepared write wish fits alone (Some vb) has = durably vb has write wish fits alone (durable_refusal vb write) refl
 
     -- a request
-    asked_goes : (q : Result KvRequest Status) → ((asked : KvRequest) → q ≡ Ok asked → AskedFits asked) → Now (after (request_served clock f q x.1) x.0)
-    unfolding request_served told
+    asked_goes : (q : Result KvRequest Status) → ((asked : KvRequest) → q ≡ Ok asked → AskedFits asked) → Now (after (request_handled clock f q x.1) x.0)
+    unfolding request_handled told
     asked_goes (Err st) fits = status_goes f st x now
     asked_goes (Ok request.Noop) fits = status_goes f Success x now
     asked_goes (Ok (request.Hello features)) fits = quiet x now x.0 (λ q. refl) (record x.1.session { settings = settings_of features }) (record { node = now.2.node; bytes = now.2.bytes }) _
@@ -262,13 +262,13 @@ module _ (stays : StaysSound) (steady : Steady) (w : PlainWorld) (r : Chronicle)
         (prepared write (record { level = wish.level; deadline = deadline_of clock wish.timeout; waiter = next_waiter x.1.session }) fit.0 fit.1 (x.0 v) refl)
 
     -- a frame
-    frame_goes : Received f → Now (after (frame_served clock f x.1) x.0)
-    unfolding frame_served
-    frame_goes good = either (λ p. Now (after p x.0)) (f.magic == RESPONSE) (Done x.1) (request_served clock f (request_of x.1.session.settings.json f) x.1) now
+    frame_goes : Received f → Now (after (frame_handled clock f x.1) x.0)
+    unfolding frame_handled
+    frame_goes good = either (λ p. Now (after p x.0)) (f.magic == RESPONSE) (Done x.1) (request_handled clock f (request_of x.1.session.settings.json f) x.1) now
         (asked_goes (request_of x.1.session.settings.json f) (λ asked e. ((read_fits x.1.session.settings.json f asked good.readable good.extras e).0, removes_alone x.1.session.settings.json f asked e)))
 
   -- a frame that the kept bytes begin with
-  framed : (f : Frame) (states : States) (s : Served) → first_frame s.session.reader ≡ Some (Ok f) → Now (states, s) → Now (after (frame_served clock f (front_of f s)) states)
+  framed : (f : Frame) (states : States) (s : Served) → first_frame s.session.reader ≡ Some (Ok f) → Now (states, s) → Now (after (frame_handled clock f (front_of f s)) states)
   framed f states s e now = frame_goes f (states, front_of f s) (again (states, s) now (front_of f s).session (front_ranged n f s now.2)) (first_received s.session.reader f now.2.bytes e)
 
   -- or a fault
@@ -277,11 +277,11 @@ module _ (stays : StaysSound) (steady : Steady) (w : PlainWorld) (r : Chronicle)
       (fault_silent s.session.who.node s.session.who.client (faulty_head fault s.session.reader))
 
   -- bytes for a session
-  pub served_goes : (piece : List ℕ) (s : Served) (states : States) → AreBytes piece → Now (states, s) → Now (after (bytes_served clock piece s) states)
+  pub served_goes : (piece : List ℕ) (s : Served) (states : States) → AreBytes piece → Now (states, s) → Now (after (bytes_handled clock piece s) states)
   served_goes piece s states bytes now = bytes_go Now clock framed faulty piece s states now (now.0, now.1, more_ranged n piece s.session bytes now.2)
 
   -- and an outcome
-  pub resolved_goes : (o : Resolved) (s : Served) (states : States) → Now (states, s) → Now (after (outcome_served clock o s) states)
+  pub resolved_goes : (o : Resolved) (s : Served) (states : States) → Now (states, s) → Now (after (outcome_handled clock o s) states)
   resolved_goes o s states now = outcome_goes Now clock framed faulty o s states now (λ a e. outcome_goes_on a o.how (states, s) now)
 
 -- `bytes N C HEX`
@@ -289,11 +289,11 @@ pub bytes_goes : StaysSound → Steady → (w : PlainWorld) (r : Chronicle) (n c
     → GoesOn r as_told (with_node_at w n (bytes_at c bytes node).0, (bytes_at c bytes node).1)
 bytes_goes stays steady w r n c bytes node are ranged a known = by (node.clients c) (ranged.clients c)
   where
-    by : (o : Option PlainSession) → SessionRangedIf n o → GoesOn r as_told (with_node_at w n (fed_if c bytes node o).0, (fed_if c bytes node o).1)
+    by : (o : Option PlainSession) → SessionRangedIf n o → GoesOn r as_told (with_node_at w n (bytes_if c bytes node o).0, (bytes_if c bytes node o).1)
     by None there = refused_on w r n node LinkClosed a known
     by (Some session) there =
-        let y : States × Served = after (bytes_served node.clock bytes (served session [])) node.vbs in
-        let begun = agrees_same w (with_node_at w n (with_states node node.vbs)) r a (same_node w n node (with_states node node.vbs) known (λ q. refl) (λ q. refl) refl) in
+        let y : States × Served = after (bytes_handled node.clock bytes (served session [])) node.vbs in
+        let begun = agrees_same w (with_node_at w n (with_states node node.vbs)) r a (node_of_same_vbs w n node (with_states node node.vbs) known (λ q. refl) (λ q. refl) refl) in
         let now = served_goes stays steady w r n node.clock node ranged.clock bytes (served session []) node.vbs are (none_before r, begun, there) in
         let left : PlainNode = with_client (with_states node y.0) c (left_open y.1.session) in (
           before_all r y.1.events now.0,

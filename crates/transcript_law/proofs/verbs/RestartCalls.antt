@@ -2,7 +2,7 @@
 use Rattle.std.specs.Prelude.{◌≡◌, ◌∷◌}
 use Rattle.transcript_law.proofs.Words.{ℕ, [], refl, ap, ◌∙◌, Option, Some, option_map, Role, Event, Plain, plain_step, PlainNode, States, with_vb_at, VbCall, VbReply, VbAnswer, Ended, after_job, after_job_bind, ending_reply, quiet_reply, fork_of, led, parent_of}
 use Rattle.transcript_law.proofs.{invariant.JobSteps.{ask_on, call_on, put_found, put_over, shelf_found, shelf_over}, verbs.RoleCalls.{said_of}}
-use Rattle.{disk_journals.specs.Arms.{armed_at, under}, node_core.specs.{Calls.{own_lines}, Flushing.{FlushTold}, Loading.{start_told}}, node_world.specs.Arms.{fuse_or, lifted, placed}, node_world.specs.Nodes.{with_kept}, node_world.specs.Power.{start_call, start_one}}
+use Rattle.{disk_journals.specs.Arms.{armed_at, under}, node_core.specs.{Calls.{own_lines}, Flushing.{FlushResult}, Loading.{start_result}}, node_world.specs.Arms.{fuse_or, lifted, placed}, node_world.specs.Nodes.{with_kept}, node_world.specs.Power.{start_call, start_one}}
 use Rattle.vb_calls.specs.Settling.{Resolving, also_resolved, and_settled, settled}
 use Rattle.{vb_calls.specs.Flushes.{note_role_job, role_job, role_told_job, wrote_of}}
 use Rattle.{vb_calls.specs.Shelves.{Append, Fate, Shelf, Shelves, after_fate, fate_of, with_shelf_at}, vb_disk.specs.declared.fuse.Fuse.TheVariants.{Off}, vb_types.specs.declared.journal.Record.{Record}}
@@ -64,13 +64,13 @@ module _ (node : PlainNode) (n v uuid : ℕ) (vb : Plain) (shelf : Shelf) (there
       ∙ ap (λ (s : Shelves). record node { vbs = with_vb_at node.vbs v vb'; shelves = s; arm = record node.arm { fuse = left.fuse } }) (shelf_over node.shelves v left (under Off left))
 
   -- its branch, its changes, and the answer
-  abbrev pub told : FlushTold
+  abbrev pub told : FlushResult
   told = record { events = Event.Branch n v uuid (parent_of vb.log) (fork_of vb.position) vb.position.at ∷ own_lines n v reply; answer = said_of fate; resolved = [] }
 
   call_came : start_call n v uuid over ≡ (with_kept over (with_vb_at (with_vb_at node.vbs v vb') v vb', with_shelf_at over.shelves v left), told)
   call_came =
-      ap (λ y. (with_kept over y.0, y.1)) (after_job_bind (role_job v (VbCall.Promote uuid)) (λ made. Ended (start_told n v made)) node.vbs over.shelves)
-      ∙ ap (λ y. (with_kept over y.0, start_told n v y.1)) job_came
+      ap (λ y. (with_kept over y.0, y.1)) (after_job_bind (role_job v (VbCall.Promote uuid)) (λ made. Ended (start_result n v made)) node.vbs over.shelves)
+      ∙ ap (λ y. (with_kept over y.0, start_result n v y.1)) job_came
 
   pub start_came : start_one n (v, uuid) node ≡ (node', told)
   start_came =

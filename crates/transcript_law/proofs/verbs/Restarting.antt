@@ -1,7 +1,7 @@
 -- a vBucket that was active takes its new branch, which is written down under the node's arm
 use Rattle.std.specs.Prelude.{◌≡◌, ◌<◌, ◌∷◌, ◌++◌, ◌==◌, ◌^◌, ◌&&◌, if◌then◌else◌}
 use Rattle.transcript_law.proofs.Words.{ℕ, Bool, true, false, List, [], refl, ap, sym, ◌∙◌, subst, inl, inr, ⊎_elim, Some, None, not, is_some, eq-eqb, eqb-true, ne_eqb, Answer, Cause, Chronicle, Cluster, Event, Move, Plain, PlainLink, PlainNode, PlainWorld, Change, States, after_lines, newest_branch}
-use Rattle.transcript_law.proofs.Words.{VbAnswer, VbCall, ending_reply, plain_step, after_branch, after_role, consumer_node, fork_of, happens, is_active, is_one_of, led, links_told, parent_of, producer_node, ended_by, shelf_in, last_seq, stream_ids, vb_in, with_at, with_node_at, with_vb_at}
+use Rattle.transcript_law.proofs.Words.{VbAnswer, VbCall, ending_reply, plain_step, after_branch, after_role, consumer_node, fork_of, happens, is_active, is_one_of, led, links_ended, parent_of, producer_node, ended_by, shelf_in, last_seq, stream_ids, vb_in, with_at, with_node_at, with_vb_at}
 use Rattle.transcript_law.proofs.{invariant.Agreement.{Agrees, AgreesAt, AgreesIn, IsLink, Power, PowerIs, PowerIsIf, VbAgrees, idle, shelf_of, vb_of}, disks.Appending.{Noted, noted_node, state_came}, disks.ArmedLines.{ArmedCame}, disks.Burning.{BreaksUnder, StandsUnder, breaks_under, stands_under}}
 use Rattle.transcript_law.proofs.{disks.Disks.{power_in}, verbs.NodeLines.{node_grown, shelves_again}, verbs.RestartCalls.{fate, left, node', reply, what}, verbs.Rising.{promote_is, rose}, verbs.RoleCalls.{said_of}, invariant.Seats.{seat}, invariant.Tables.{at_here}, links.Turning.{NoneFeeds, Turned}}
 use Rattle.disk_journals.specs.Arms.{under}
@@ -10,7 +10,7 @@ use Rattle.transcript_law.proofs.{invariant.Carrying.{Changed}, lines.Changes.{a
 use Rattle.vb_calls.specs.Settling.{and_settled, settled, unresolved}
 use Rattle.node_world.specs.Arms.{fired_by}
 use Rattle.node_world.specs.declared.arm.Fired.TheVariants as fired
-use Rattle.transcript_law.specs.Chronicles.{ArmTold, after_calls, after_noted, after_restart, alone, broken_by, calls_of_append, is_off, spent, state_of, with_disk, with_record}
+use Rattle.transcript_law.specs.Chronicles.{ArmKnown, after_calls, after_noted, after_restart, alone, broken_by, calls_of_append, is_off, spent, state_of, with_disk, with_record}
 use Rattle.transcript_law.specs.Lawfulness.{IsToFail, IsToStop}
 use Rattle.transcript_law.specs.LineAnswers.{FailsIn, PassesAppend, StopsIn}
 use Rattle.vb_calls.specs.Shelves.{Fate, Shelf, Stood, DiskFailed, WasClosed, after_fate}
@@ -24,7 +24,7 @@ abbrev pub NoEnds : ℕ → List PlainLink → Type 0
 NoEnds n links = (x : PlainLink) → IsLink x links → (producer_node x ≡ n → ⊥) × (consumer_node x ≡ n → ⊥)
 
 -- so none is told of a change of role there
-untold : (n v : ℕ) (ids : List ℕ) (links : List PlainLink) → NoEnds n links → links_told n v ids links ≡ links
+untold : (n v : ℕ) (ids : List ℕ) (links : List PlainLink) → NoEnds n links → links_ended n v ids links ≡ links
 untold n v ids [] free = refl
 untold n v ids (x ∷ xs) free = (λ i. ap (λ b. if b then record x { server = ended_by v ids x.server } else x) (ne_eqb (producer_node x) n (free x (inl refl)).0) i ∷ untold n v ids xs (λ y j. free y (inr j)) i)
 
@@ -94,7 +94,7 @@ module _ (steady : Steady) (w : PlainWorld) (n : ℕ) (free : NoEnds n w.links) 
     pub call_is : plain_step vb (VbCall.Promote uuid) ≡ and_settled (led_vb, ending_reply vb (VbAnswer.Branch uuid (parent_of vb.log) (fork_of vb.position) vb.position.at))
     call_is = promote_is steady (world node used) w0 r c n v uuid vb a known none_feeds rests unused named small
 
-    became : Turned (world node used) w0 n v led_vb (links_told n v (stream_ids vb.streams) w.links)
+    became : Turned (world node used) w0 n v led_vb (links_ended n v (stream_ids vb.streams) w.links)
     became = let one = node_grown w n v node led_node led_vb (λ q. refl) (λ q o. refl) refl in
         record { powers = one.powers; here = one.here; there = one.there; shelves = shelves_again w n node led_node (λ q. refl); linked = sym (untold n v (stream_ids vb.streams) w.links free) }
 
@@ -193,35 +193,35 @@ module _ (steady : Steady) (w : PlainWorld) (n : ℕ) (free : NoEnds n w.links) 
     told = after_restart changed_told n v
 
     -- and with its role
-    abbrev active_told : Chronicle
-    active_told = record changed_told { role_at = with_at changed_told.role_at n v (Some (Some role.Active)) }
+    abbrev active_vb_lines : Chronicle
+    active_vb_lines = record changed_told { role_at = with_at changed_told.role_at n v (Some (Some role.Active)) }
 
-    active_is : active_on ≡ active_told
+    active_is : active_on ≡ active_vb_lines
     active_is =
         ap (λ x. after_lines x (changes_told n v uuid cs)) active_as
         ∙ ap (λ o. after_lines (record branched { role_at = with_at branched.role_at n v (Some (Some role.Active)); open_at = o }) (changes_told n v uuid cs)) not_open
         ∙ roles_past (with_at branched.role_at n v (Some (Some role.Active))) branched n v uuid cs
         ∙ ap (λ t. record changed_told { role_at = with_at t n v (Some (Some role.Active)) }) (sym (roles_same branched n v uuid cs))
 
-    came_so : ArmedCame n (λ said told. after_noted told n v role.Active said) (fired_by f left_shelf.fuse) active_told w2 (said_of came)
+    came_so : ArmedCame n (λ said told. after_noted told n v role.Active said) (fired_by f left_shelf.fuse) active_vb_lines w2 (said_of came)
     came_so = subst (λ x. ArmedCame n (λ said told. after_noted told n v role.Active said) (fired_by f left_shelf.fuse) x w2 (said_of came)) active_is armed_came
 
     fuse_is : (changed_told.arm_at n).fuse ≡ f
-    fuse_is = ap (λ (t : ℕ → ArmTold). (t n).fuse) (arms_same branched n v uuid cs) ∙ arm_is.fuse
+    fuse_is = ap (λ (t : ℕ → ArmKnown). (t n).fuse) (arms_same branched n v uuid cs) ∙ arm_is.fuse
 
     -- by whether the append was hit
     abbrev told_if : Bool → Chronicle
     told_if hit =
         let d = changed_told.disk_at n v in let what = state_of changed_told n v role.Active in
-        after_calls calls_of_append n (with_disk active_told n v (if hit then broken_by (changed_told.arm_at n).fuse (Some what) d else with_record what d))
+        after_calls calls_of_append n (with_disk active_vb_lines n v (if hit then broken_by (changed_told.arm_at n).fuse (Some what) d else with_record what d))
 
-    told_as : (hit : Bool) → (is_off (spent calls_of_append f) && not (is_off f)) ≡ hit → told ≡ told_if hit
-    told_as hit e = ap told_if (ap (λ g. is_off (spent calls_of_append g) && not (is_off g)) fuse_is ∙ e)
+    result_of_fate : (hit : Bool) → (is_off (spent calls_of_append f) && not (is_off f)) ≡ hit → told ≡ told_if hit
+    result_of_fate hit e = ap told_if (ap (λ g. is_off (spent calls_of_append g) && not (is_off g)) fuse_is ∙ e)
 
-    stood_is : told_if false ≡ after_noted active_told n v role.Active Answer.Ok
+    stood_is : told_if false ≡ after_noted active_vb_lines n v role.Active Answer.Ok
     stood_is = refl
 
-    broken_is : told_if true ≡ after_noted active_told n v role.Active (Answer.No Cause.Disk)
+    broken_is : told_if true ≡ after_noted active_vb_lines n v role.Active (Answer.No Cause.Disk)
     broken_is = refl
 
     -- what it comes to: the record stands; or the disk failed; or the node stopped
@@ -242,20 +242,20 @@ module _ (steady : Steady) (w : PlainWorld) (n : ℕ) (free : NoEnds n w.links) 
         let s : StandsUnder f = stands_under f arm_is.may_fire e in
         let quiet : fired_by f left_shelf.fuse ≡ fired.No = ap (fired_by f) (left_is true e ∙ s.left) ∙ s.quiet in
         let said : said_of came ≡ Answer.Ok = ap said_of (fate_is true e) in
-        Restarted.Stands quiet said s.answers (subst (Agrees w2) (sym (told_as false s.off_before ∙ stood_is)) (subst (λ y. Agrees w2 (after_noted active_told n v role.Active y)) said (subst (λ y. ArmedCame n (λ said told. after_noted told n v role.Active said) y active_told w2 (said_of came)) quiet came_so)))
+        Restarted.Stands quiet said s.answers (subst (Agrees w2) (sym (result_of_fate false s.off_before ∙ stood_is)) (subst (λ y. Agrees w2 (after_noted active_vb_lines n v role.Active y)) said (subst (λ y. ArmedCame n (λ said told. after_noted told n v role.Active said) y active_vb_lines w2 (said_of came)) quiet came_so)))
     by false e =
         let s : BreaksUnder f = breaks_under f arm_is.may_fire e in
         let said : said_of came ≡ Answer.No Cause.Disk = ap said_of (fate_is false e) in
-        let now : told ≡ after_noted active_told n v role.Active (Answer.No Cause.Disk) = told_as true s.off_now ∙ broken_is in
+        let now : told ≡ after_noted active_vb_lines n v role.Active (Answer.No Cause.Disk) = result_of_fate true s.off_now ∙ broken_is in
         ⊎_elim
         (λ h.
         let failed : fired_by f left_shelf.fuse ≡ fired.Failed = ap (fired_by f) (left_is false e ∙ s.left) ∙ h.1 in
-        let x = subst (λ y. ArmedCame n (λ said told. after_noted told n v role.Active said) y active_told w2 (said_of came)) failed came_so in
-        Restarted.Fails failed said h.0 s.spent_off (subst (Agrees w2) (sym now) (subst (λ y. Agrees w2 (after_noted active_told n v role.Active y)) said x.1)))
+        let x = subst (λ y. ArmedCame n (λ said told. after_noted told n v role.Active said) y active_vb_lines w2 (said_of came)) failed came_so in
+        Restarted.Fails failed said h.0 s.spent_off (subst (Agrees w2) (sym now) (subst (λ y. Agrees w2 (after_noted active_vb_lines n v role.Active y)) said x.1)))
         (λ h.
         let stopped : fired_by f left_shelf.fuse ≡ fired.Stopped = ap (fired_by f) (left_is false e ∙ s.left) ∙ h.1 in
-        let x = subst (λ y. ArmedCame n (λ said told. after_noted told n v role.Active said) y active_told w2 (said_of came)) stopped came_so in
-        Restarted.Stops stopped said h.0 (subst (Agrees w2) (sym now) (subst (λ y. Agrees w2 (after_noted active_told n v role.Active y)) said x.2)))
+        let x = subst (λ y. ArmedCame n (λ said told. after_noted told n v role.Active said) y active_vb_lines w2 (said_of came)) stopped came_so in
+        Restarted.Stops stopped said h.0 (subst (Agrees w2) (sym now) (subst (λ y. Agrees w2 (after_noted active_vb_lines n v role.Active y)) said x.2)))
         s.how
 
     pub restarted : Restarted

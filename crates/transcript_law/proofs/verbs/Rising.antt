@@ -4,13 +4,13 @@ use Rattle.transcript_law.proofs.Words.{ℕ, Bool, true, false, List, refl, ap, 
 use Rattle.transcript_law.proofs.Words.{All, filter, eqb-true, eqb-false, ne_eqb, cases_lt, ltb-false, All-nil, All-cons, All-append, Change, Position, LogEntry, Role, upto, Rises, with_entry}
 use Rattle.transcript_law.proofs.Words.{kept_to, Traces, AtForks, fork_of, Branch, branch, hist, hist_here, hist_there, hist_rises, HoldsAt, holds_fewer, upto_none, upto_down, in_filter, ground, Member, Cluster}
 use Rattle.transcript_law.proofs.Words.{Move, SoundCluster, happens, member_reach, made, at_le, kin_shared, keeps, VbCall, Plain, plain_step, is_active, complete_position, stream_ids, in_role, ending_reply}
-use Rattle.transcript_law.proofs.Words.{parent_of, promoted, led, is_role, with_seal, Sound, StaysSound, PlainWorld, is_one_of, links_told, Chronicle, parent_branch, changes_between, after_branch, after_role}
+use Rattle.transcript_law.proofs.Words.{parent_of, promoted, led, is_role, with_seal, Sound, StaysSound, PlainWorld, is_one_of, links_ended, Chronicle, parent_branch, changes_between, after_branch, after_role}
 use Rattle.transcript_law.proofs.{Words.{known_history, []}, invariant.Seats.{seat, seats_apart}, invariant.Tables.{at_here, at_there, id_here, unused}, invariant.Trees.{is_told_here}, invariant.Wholes.{WholeTo, whole_fork, whole_sealed}}
-use Rattle.transcript_law.proofs.{invariant.Wholes.{spanned_sealed, spanned_active}, invariant.Agreement.{all_rise, vb_of, ChangeFits, EntryFits, BranchIs, own_history, VbHolds, VbAgrees, AgreesAt, top, idle, AgreesIn, vb_contents, vb_row}, invariant.OneLink.{put_here}}
-use Rattle.transcript_law.proofs.{invariant.OneLink.{put_there}, links.Sent.{all_in, in_all}, links.Followed.{own_is, fork_low}, links.Rolling.{kept_fit}, verbs.NodeLines.{branch_of, role_row, role_there, role_here}, verbs.Branching.{branch_there, new_fits}, invariant.Majorities.{alone_counts}}
+use Rattle.transcript_law.proofs.{invariant.Wholes.{spanned_sealed, spanned_active}, invariant.Agreement.{all_rise, vb_of, ChangeFits, EntryFits, BranchAgrees, own_history, VbHolds, VbAgrees, AgreesAt, top, idle, AgreesIn, vb_contents, vb_row}, invariant.OneLink.{put_here}}
+use Rattle.transcript_law.proofs.{invariant.OneLink.{put_there}, links.Sent.{all_in, all_by_each}, links.Followed.{own_is, fork_low}, links.Rolling.{kept_fit}, verbs.NodeLines.{branch_of, role_row, role_there, role_here}, verbs.Branching.{branch_there, new_fits}, invariant.Majorities.{alone_counts}}
 use Rattle.transcript_law.specs.Chronicles.{alone}
-use Rattle.transcript_law.proofs.{links.Turning.{NoneFeeds, Turned, same_put, turned_agrees, turned_disks, turned_rests}, invariant.Carried.{branches_again, ids_same, all_vbs}}
-use Rattle.branch_model.proofs.{Images.{plain_stands}, Lasts.{filter_in}, Lists.{in_append, in_left, in_right, in_upto, last_in, upto_in}}
+use Rattle.transcript_law.proofs.{links.Turning.{NoneFeeds, Turned, put_itself, turned_agrees, turned_disks, turned_rests}, invariant.Carried.{branches_again, ids_same, all_vbs}}
+use Rattle.branch_model.proofs.{Images.{plain_stands}, Lasts.{kept_in_filter}, Lists.{in_append, in_left, in_right, from_upto, last_in, upto_in}}
 use Rattle.{std.proofs.lemmas.Bool.{lt-ltb}, vb_types.specs.Histories.{touches}}
 use Rattle.{branch_model.proofs.Holding.{holds_forked}, branch_model.proofs.Lists.{upto_all}, branch_model.specs.Trees.{inherited}, cluster_model.specs.Clusters.{Kin, member_fork, front_or, promoted as raised}}
 use Rattle.{cluster_model.specs.Clusters.{yielded}, std.proofs.lemmas.List.Elements.{All-take}, std.specs.Prelude.{option_map}, transcript_law.specs.Lawfulness.{LawfulBranch}, vb_calls.specs.Following.{log_lacks}}
@@ -23,28 +23,28 @@ other_role x Active e s = let z : true ≡ false = subst (λ k. is_role k Active
 other_role x y e s = let z : true ≡ false = subst (λ k. is_role k y ≡ false) s e in cc
 
 -- the role that was told is another one
-pub role_other : (r : Chronicle) (n v : ℕ) (m : Member) (vb : Plain) (new : Role) → VbAgrees r n v m vb → is_role vb.role new ≡ false → r.role_at n v ≡ Some (Some new) → ⊥
-role_other r n v m vb new a e told = let s : Some (Some vb.role) ≡ Some (Some new) = sym a.role ∙ told in let same : vb.role ≡ new = cc in other_role vb.role new e same
+pub other_role_known : (r : Chronicle) (n v : ℕ) (m : Member) (vb : Plain) (new : Role) → VbAgrees r n v m vb → is_role vb.role new ≡ false → r.role_at n v ≡ Some (Some new) → ⊥
+other_role_known r n v m vb new a e told = let s : Some (Some vb.role) ≡ Some (Some new) = sym a.role ∙ told in let same : vb.role ≡ new = cc in other_role vb.role new e same
 
 -- a vBucket that is not active any more, or still is not
 
 module _ (stays : StaysSound) (w w' : PlainWorld) (r : Chronicle) (c : Cluster) (n v : ℕ) (vb : Plain) (new : Role) (turn : VbCall) (a : AgreesIn idle w r c) (known : vb_of w n v ≡ Some vb) (free : NoneFeeds n v w.links)
     (rests : is_active new ≡ false) (is : plain_step vb turn ≡ (in_role vb new, ending_reply vb answer.Done)) (timely : Sound vb → Sound (plain_step vb turn).0)
-    (became : Turned w w' n v (in_role vb new) (links_told n v (stream_ids vb.streams) w.links)) (uuids : w'.uuids ≡ w.uuids) where
+    (became : Turned w w' n v (in_role vb new) (links_ended n v (stream_ids vb.streams) w.links)) (uuids : w'.uuids ≡ w.uuids) where
   abbrev seated : ℕ
   seated = seat n v
 
   abbrev rest_cluster : Cluster
   rest_cluster = happens c (Move.Yield seated)
 
-  abbrev rest_told : Chronicle
-  rest_told = after_role r n v new
+  abbrev rest_lines : Chronicle
+  rest_lines = after_role r n v new
 
   before : VbAgrees r n v (c.nodes seated) vb
   before = subst (AgreesAt r n v (c.nodes seated)) known (a.vbs n v)
 
-  here : VbAgrees rest_told n v (rest_cluster.nodes seated) (in_role vb new)
-  here = subst (λ m. VbAgrees rest_told n v m (in_role vb new)) (sym (put_here c.nodes seated (yielded (c.nodes seated))))
+  here : VbAgrees rest_lines n v (rest_cluster.nodes seated) (in_role vb new)
+  here = subst (λ m. VbAgrees rest_lines n v m (in_role vb new)) (sym (put_here c.nodes seated (yielded (c.nodes seated))))
       (role_here r n v new (yielded (c.nodes seated)) (in_role vb new) refl refl (λ e. let z : false ≡ true = sym rests ∙ e in cc) (record {
         sound = subst Sound (ap (λ p. p.0) is) (timely before.sound);
         spanned = spanned_sealed vb.role new vb.spans vb.position before.spanned;
@@ -55,19 +55,19 @@ module _ (stays : StaysSound) (w w' : PlainWorld) (r : Chronicle) (c : Cluster) 
         holds = holds_fewer vb.floor (WholeTo vb.floor (with_seal vb.spans) vb.position) (WholeTo vb.floor vb.spans vb.position) (c.nodes seated).held (own_history r n v) (λ i x. (whole_sealed vb.spans i x.0, x.1, x.2)) before.holds;
       }))
 
-  rest_there : (m q : ℕ) → (m ≡ n → q ≡ v → ⊥) → AgreesAt rest_told m q (rest_cluster.nodes (seat m q)) (vb_of w m q)
-  rest_there m q other = subst (λ x. AgreesAt rest_told m q x (vb_of w m q)) (sym (put_there c.nodes seated (yielded (c.nodes seated)) (seat m q) (seats_apart m q n v other)))
+  rest_there : (m q : ℕ) → (m ≡ n → q ≡ v → ⊥) → AgreesAt rest_lines m q (rest_cluster.nodes (seat m q)) (vb_of w m q)
+  rest_there m q other = subst (λ x. AgreesAt rest_lines m q x (vb_of w m q)) (sym (put_there c.nodes seated (yielded (c.nodes seated)) (seat m q) (seats_apart m q n v other)))
       (role_there r n v new m q (c.nodes (seat m q)) (vb_of w m q) other (a.vbs m q))
 
   -- the vBucket rests, and all agrees
-  pub rested : AgreesIn idle w' rest_told rest_cluster
-  rested = turned_agrees w w' r rest_told c rest_cluster n v vb (in_role vb new) a known free became (λ j ne. put_there c.nodes seated (yielded (c.nodes seated)) j ne) (λ i. refl) (λ i q. refl) (λ i. refl)
+  pub rested : AgreesIn idle w' rest_lines rest_cluster
+  rested = turned_agrees w w' r rest_lines c rest_cluster n v vb (in_role vb new) a known free became (λ j ne. put_there c.nodes seated (yielded (c.nodes seated)) j ne) (λ i. refl) (λ i q. refl) (λ i. refl)
       (keeps top c (Move.Yield seated) a.sound tt)
-      (all_vbs w w' n v (in_role vb new) (λ m q o. AgreesAt rest_told m q (rest_cluster.nodes (seat m q)) o) became.here became.there here rest_there)
-      (turned_disks w w' r rest_told c rest_cluster n v vb (in_role vb new) (links_told n v (stream_ids vb.streams) w.links) a known became (λ m q. refl) (same_put c.disks seated) refl)
+      (all_vbs w w' n v (in_role vb new) (λ m q o. AgreesAt rest_lines m q (rest_cluster.nodes (seat m q)) o) became.here became.there here rest_there)
+      (turned_disks w w' r rest_lines c rest_cluster n v vb (in_role vb new) (links_ended n v (stream_ids vb.streams) w.links) a known became (λ m q. refl) (put_itself c.disks seated) refl)
       (branches_again refl refl (ids_same uuids) a.branches)
-      (turned_rests w w' r rest_told c rest_cluster n v vb (in_role vb new) a known free became (λ j ne. put_there c.nodes seated (yielded (c.nodes seated)) j ne) (λ i. refl) (λ i q. refl) (λ i. refl)
-      (λ m. refl) refl (role_row r n v new) (λ j ne. same_put c.disks seated j))
+      (turned_rests w w' r rest_lines c rest_cluster n v vb (in_role vb new) a known free became (λ j ne. put_there c.nodes seated (yielded (c.nodes seated)) j ne) (λ i. refl) (λ i q. refl) (λ i. refl)
+      (λ m. refl) refl (role_row r n v new) (λ j ne. put_itself c.disks seated j))
 
 -- a vBucket that becomes active on a new branch
 
@@ -82,16 +82,16 @@ lacks_new tree (e ∷ older) u f none =
 holds_above : (low : ℕ) (W V : ℕ → Type 0) (f : ℕ) (xs h : List Change) → f < low → HoldsAt low W xs h → HoldsAt low V xs (upto h f ++ filter (λ c. nat_lt f c.seq) xs)
 holds_above low W V f xs h below holds = record {
   of = λ x i. ⊎_elim
-      (λ m. (x, in_right x (upto h f) own (filter_in (λ c. nat_lt f c.seq) x xs i (lt-ltb f x.seq m)), inl refl))
+      (λ m. (x, in_right x (upto h f) own (kept_in_filter (λ c. nat_lt f c.seq) x xs i (lt-ltb f x.seq m)), inl refl))
       (λ m.
       let o = holds.of x i in
       let level : x.seq ≡ o.0.seq = ap (λ (y : Change). y.seq) (plain_stands x o.0 o.2) in
       (o.0, in_left o.0 (upto h f) own (upto_in o.0 h f o.1 (omega arith)), o.2))
       (cases_lt f x.seq);
   has = λ n v slot c e a b. ⊎_elim
-      (λ j. let most : c.seq ≤ f = (in_upto c h f j).1 in absurd (omega arith))
+      (λ j. let most : c.seq ≤ f = (from_upto c h f j).1 in absurd (omega arith))
       (λ j. (c, (in_filter (λ x. nat_lt f x.seq) c xs j).0, inl refl))
-      (in_append c (upto h f) own (in_upto c (upto h f ++ own) n (last_in (touches slot) (upto (upto h f ++ own) n) c e).0).0);
+      (in_append c (upto h f) own (from_upto c (upto h f ++ own) n (last_in (touches slot) (upto (upto h f ++ own) n) c e).0).0);
 }
   where
     own : List Change
@@ -174,7 +174,7 @@ module _ (steady : Steady) (w w' : PlainWorld) (r : Chronicle) (c : Cluster) (n 
   parent_told : inherited (hist r.tree) new.parent fork ≡ upto (hist c.tree (front_or m.br m.log)) fork
   parent_told = ap (λ l. inherited (hist r.tree) (parent_branch (parent_of l) fork (r.branch_at n v)) fork) (sym old.member.log) ∙ by m.log
     where
-      root_told : (b : Bool) → nat_lt 0 fork ≡ b → (o : Option ℕ) → BranchIs o m.br → inherited (hist r.tree) (if b then o else None) fork ≡ upto (hist c.tree m.br) fork
+      root_told : (b : Bool) → nat_lt 0 fork ≡ b → (o : Option ℕ) → BranchAgrees o m.br → inherited (hist r.tree) (if b then o else None) fork ≡ upto (hist c.tree m.br) fork
       root_told true e None is = sym (ap (λ h. upto h fork) (ap (hist c.tree) is ∙ a.rootless))
       root_told true e (Some u) is = ap (λ h. upto h fork) (sym (a.hists u) ∙ ap (hist c.tree) (sym is))
       root_told false e o is = sym (upto_none 0 top fork (hist c.tree m.br) (hist_rises top c.tree m.br a.sound.grows) (ltb-false 0 fork e))
@@ -195,7 +195,7 @@ module _ (steady : Steady) (w w' : PlainWorld) (r : Chronicle) (c : Cluster) (n 
   parent_known : (p : ℕ) → new.parent ≡ Some p → (made m uuid).parent ≡ Some p
   parent_known p e = by m.log (ap (λ l. parent_branch (parent_of l) fork (r.branch_at n v)) old.member.log ∙ e)
     where
-      root_known : (b : Bool) (o : Option ℕ) → BranchIs o m.br → (if b then o else None) ≡ Some p → Some m.br ≡ Some p
+      root_known : (b : Bool) (o : Option ℕ) → BranchAgrees o m.br → (if b then o else None) ≡ Some p → Some m.br ≡ Some p
       root_known true None is q = cc
       root_known true (Some u) is q = ap Some is ∙ q
       root_known false o is q = cc
@@ -254,7 +254,7 @@ module _ (steady : Steady) (w w' : PlainWorld) (r : Chronicle) (c : Cluster) (n 
       position = ap (λ (p : Position). complete_position p.at) old.member.position;
       log = (λ i. with_entry uuid (fork_same i) (old.member.log i));
     };
-    branch = subst (λ o. BranchIs o uuid) (sym branch_here) refl;
+    branch = subst (λ o. BranchAgrees o uuid) (sym branch_here) refl;
     holds = subst (HoldsAt vb.floor Then m.held) (sym (ap (known_history branched.tree) branch_here ∙ new_told)) left;
   }
 
@@ -275,20 +275,20 @@ module _ (steady : Steady) (w w' : PlainWorld) (r : Chronicle) (c : Cluster) (n 
 
   branch_fits : All ChangeFits (hist branched.tree uuid)
   branch_fits = subst (All ChangeFits) (sym new_told) (All-append ChangeFits (upto (own_history r n v) fork) own
-      (in_all ChangeFits (upto (own_history r n v) fork) (λ x i. all_in ChangeFits (own_history r n v) x (fits_of (r.branch_at n v)) (in_filter (λ y. nat_le y.seq fork) x (own_history r n v) i).0))
-      (in_all ChangeFits own (λ x i. all_in ChangeFits m.held x old.fits (in_filter (λ y. nat_lt fork y.seq) x m.held i).0)))
+      (all_by_each ChangeFits (upto (own_history r n v) fork) (λ x i. all_in ChangeFits (own_history r n v) x (fits_of (r.branch_at n v)) (in_filter (λ y. nat_le y.seq fork) x (own_history r n v) i).0))
+      (all_by_each ChangeFits own (λ x i. all_in ChangeFits m.held x old.fits (in_filter (λ y. nat_lt fork y.seq) x m.held i).0)))
     where
       fits_of : (o : Option ℕ) → All ChangeFits (known_history r.tree o)
       fits_of None = All-nil ChangeFits
       fits_of (Some u) = a.fits u
 
   -- the vBucket is active on a new branch, and all agrees in a world with one more id
-  pub rose : Turned w w' n v vb' (links_told n v (stream_ids vb.streams) w.links) → w'.uuids ≡ w.uuids ++ uuid ∷ [] → AgreesIn idle w' r' c'
+  pub rose : Turned w w' n v vb' (links_ended n v (stream_ids vb.streams) w.links) → w'.uuids ≡ w.uuids ++ uuid ∷ [] → AgreesIn idle w' r' c'
   rose became uuids = turned_agrees w w' r r' c c' n v vb vb' a known free became (λ j ne. put_there c.nodes k (raised m uuid) j ne) (λ i. refl) (λ i q. refl) (λ i. refl) is_sound
       (all_vbs w w' n v vb' (λ i q o. AgreesAt r' i q (c'.nodes (seat i q)) o) became.here became.there
       (subst (λ x. VbAgrees r' n v x vb') (sym (put_here c.nodes k (raised m uuid))) (role_here branched n v Active (raised m uuid) vb' refl refl (λ e.
       (record { branch = branch_here; is_told = is_told_here new r.tree; writer = id_here r.writer_of uuid (Some (n, v)); named = named }, alone_counts branched n v, refl)) holds)) there)
-      (turned_disks w w' r r' c c' n v vb vb' (links_told n v (stream_ids vb.streams) w.links) a known became (λ m q. refl) (same_put c.disks k) refl)
+      (turned_disks w w' r r' c c' n v vb vb' (links_ended n v (stream_ids vb.streams) w.links) a known became (λ m q. refl) (put_itself c.disks k) refl)
       (record {
         hists = λ u. same_hist u (uuid == u) refl;
         are_told = (refl, fork_same, parent_known, a.are_told);
@@ -299,7 +299,7 @@ module _ (steady : Steady) (w w' : PlainWorld) (r : Chronicle) (c : Cluster) (n 
         fresh = λ u e. let p = unused u uuid w.uuids (sym (ap (is_one_of u) uuids) ∙ e) in (p.1, a.fresh u p.0);
       })
       (turned_rests w w' r r' c c' n v vb vb' a known free became (λ j ne. put_there c.nodes k (raised m uuid) j ne) (λ i. refl) (λ i q. refl) (λ i. refl)
-      (λ i. refl) refl (λ i q other. role_row branched n v Active i q other ∙ branch_row i q other) (λ j ne. same_put c.disks k j))
+      (λ i. refl) refl (λ i q other. role_row branched n v Active i q other ∙ branch_row i q other) (λ j ne. put_itself c.disks k j))
 
   -- its branch is a new one, and leaves where it stands
   pub branch_lawful : LawfulBranch r n v uuid (parent_of vb.log) fork high

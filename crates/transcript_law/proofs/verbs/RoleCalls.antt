@@ -1,10 +1,10 @@
 -- an operator's call that changes a vBucket's role: what the call, and the record of the role under the node's arm, make of the node
 use Rattle.std.specs.Prelude.{◌≡◌, if◌then◌else◌}
-use Rattle.transcript_law.proofs.Words.{ℕ, false, List, refl, ap, ◌∙◌, Option, Some, None, is_some, Cause, Role, Event, Plain, plain_step, AdminCall, AdminTold, admin_call, admin_replied, role_changed, PlainNode, States, with_vb_at, VbCall, VbReply, VbAnswer}
+use Rattle.transcript_law.proofs.Words.{ℕ, false, List, refl, ap, ◌∙◌, Option, Some, None, is_some, Cause, Role, Event, Plain, plain_step, AdminCall, AdminResult, admin_call, admin_replied, role_changed, PlainNode, States, with_vb_at, VbCall, VbReply, VbAnswer}
 use Rattle.transcript_law.proofs.Words.{Ended, after_job, after_job_bind, called_at, option_map, quiet_reply}
 use Rattle.transcript_law.proofs.invariant.JobSteps.{ask_on, call_on, put_found, put_over, shelf_found, shelf_over}
 use Rattle.{disk_journals.specs.Arms.{armed_at, under}, node_core.specs.Admin.{admin_job, admin_refused, noted_answer, role_at, role_noted}, node_world.specs.Arms.{fuse_or, lifted, placed, under_arm}, node_world.specs.Nodes.{with_kept}}
-use Rattle.{node_world.specs.Turns.{called, role_called}, vb_calls.specs.Flushes.{is_refusal, note_role_job, role_after, role_job, role_told_job, wrote_of}, vb_calls.specs.Jobs.{Call}}
+use Rattle.{node_world.specs.Turns.{called, role_called}, vb_calls.specs.Flushes.{is_refusal, note_role_job, role_of_call, role_job, role_told_job, wrote_of}, vb_calls.specs.Jobs.{Call}}
 use Rattle.{vb_calls.specs.Shelves.{Append, DiskFailed, Fate, Shelf, Stood, WasClosed, Shelves, after_fate, fate_of, with_shelf_at}, vb_disk.specs.declared.fuse.Fuse.TheVariants.{Off}, vb_events.specs.declared.event.Answer.{Answer}, vb_types.specs.declared.journal.Record.{Record}}
 use Rattle.vb_calls.specs.declared.journals.Wrote.TheVariants as wrote
 use Rattle.vb_events.specs.declared.event.Answer.TheVariants as answer
@@ -15,7 +15,7 @@ abbrev pub said_of : Fate → Answer
 said_of fate = noted_answer (wrote_of fate) answer.Ok
 
 -- what is told of a change of role, by the vBucket's reply
-abbrev pub changed_told : VbReply → List Event → Answer → AdminTold
+abbrev pub changed_told : VbReply → List Event → Answer → AdminResult
 changed_told reply lines said = record { events = lines; answer = said; ended = Some reply.ended; resolved = reply.resolved }
 
 -- no call of it stopped its node
@@ -32,7 +32,7 @@ lifted_is node shelves v shelf is = ap (λ (o : Option Shelf). record node { she
 module _ (node : PlainNode) (n v : ℕ) (asked : AdminCall) (vb vb' : Plain) (shelf : Shelf) (there : node.vbs v ≡ Some vb) (kept : node.shelves v ≡ Some shelf) (up : node.off ≡ None) (reply : VbReply)
     (is : plain_step vb (admin_call asked) ≡ (vb', reply)) (job_is : admin_job n v asked ≡ role_at n v asked) (made : is_refusal reply.answer ≡ false) where
   abbrev pub new : Role
-  new = role_after (admin_call asked)
+  new = role_of_call (admin_call asked)
 
   abbrev pub what : Record
   what = noted.State new vb'.log

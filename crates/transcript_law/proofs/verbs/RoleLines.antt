@@ -3,14 +3,14 @@ use Rattle.transcript_law.specs.Chronicles.{alone}
 use Rattle.std.specs.Prelude.{◌≡◌, ◌<◌, ◌∷◌, ◌++◌, ◌==◌, ◌^◌, if◌then◌else◌, not}
 use Rattle.transcript_law.proofs.Words.{ℕ, Bool, true, false, List, refl, ap, sym, ◌∙◌, subst, append-nil, Option, Some, None, is_some, flat_map, option_map, eqb-false, eqb-true, eq-eqb, ne_eqb}
 use Rattle.transcript_law.proofs.Words.{Cause, Event, Role, Cluster, Move, happens, Plain, plain_step, is_active, refusal_reply, with_vb_at, call_at, stream_ids, in_role, ending_reply, parent_of, led}
-use Rattle.transcript_law.proofs.Words.{is_role, with_seal, fork_of, holds_fewer, Sound, StaysSound, AdminCall, AdminTold, admin_call, admin_replied, PlainLink, PlainNode, PlainWorld, Outcome, with_branches}
-use Rattle.transcript_law.proofs.Words.{with_node_at, with_links, with_states, node_outcome, vb_in, first_cause, refused_or, is_one_of, branch_told, on_node, own_link, cut_off, told_ended, links_told, unlinked}
+use Rattle.transcript_law.proofs.Words.{is_role, with_seal, fork_of, holds_fewer, Sound, StaysSound, AdminCall, AdminResult, admin_call, admin_replied, PlainLink, PlainNode, PlainWorld, Outcome, with_branches}
+use Rattle.transcript_law.proofs.Words.{with_node_at, with_links, with_states, node_outcome, vb_in, first_cause, refused_or, is_one_of, branch_of_line, on_node, own_link, cut_off, link_ended, links_ended, unlinked}
 use Rattle.transcript_law.proofs.Words.{admin_line, no_node, turned_after, role_outcome, turn_causes, turn_step, Chronicle, after_lines, with_at, LawfulFrom, [], EndReason, VbAnswer, VbReply, producer_node, node_if}
-use Rattle.transcript_law.proofs.Words.{LawfulRole, States, VbCall, after_branch, after_line, after_role, newest_branch, Status, turn_row, seal_row, role_changed, told_after, promote_step, after_seal, uuid_causes, role_causes, shelf_in}
+use Rattle.transcript_law.proofs.Words.{LawfulRole, States, VbCall, after_branch, after_line, after_role, newest_branch, Status, turn_row, seal_row, role_changed, after_cuts, promote_step, after_seal, uuid_causes, role_causes, shelf_in}
 use Rattle.transcript_law.proofs.{invariant.Agreement.{DiskIsIf, PowerIsIf, is_down, power_of, shelf_of}, disks.Appending.{Noted, state_came}, disks.ArmedLines.{ArmedCame}, disks.Burning.{quiet_same}, disks.Disks.{Power, power_in, sealed_disk}, disks.Firing.{line_fires, role_noting}, invariant.JobSteps.{put_found, put_over, shelf_found}, lines.Lines.{AreQuiet}, verbs.NodeLines.{shelves_again, shelves_put, shelves_there}}
 use Rattle.transcript_law.proofs.{links.Behind.{NotingGoes, noted_beside, posts_come}, invariant.Ranged.{IsRanged, NodeRanged, NodeRangedIf, unlinked_ranged, with_node}, verbs.RoleCalls.{changed_told, fate, left, node', not_stopped, role_came, said_of}}
 use Rattle.{disk_journals.specs.Arms.{under}, node_core.specs.Admin.{admin_job, role_at}, node_world.specs.Arms.{fired_by}, node_world.specs.Cuts.{closed_at}, node_world.specs.Power.{with_arm}, node_world.specs.Turns.{posted_in, role_called}, node_world.specs.Worlds.{arm_in, is_up}}
-use Rattle.{node_world.specs.declared.arm.Arm.{Arm}, node_world.specs.declared.arm.Fired.{Fired}, transcript_law.specs.Chronicles.{after_noted}, vb_calls.specs.Flushes.{is_refusal, role_after}}
+use Rattle.{node_world.specs.declared.arm.Arm.{Arm}, node_world.specs.declared.arm.Fired.{Fired}, transcript_law.specs.Chronicles.{after_noted}, vb_calls.specs.Flushes.{is_refusal, role_of_call}}
 use Rattle.{vb_calls.specs.Shelves.{Fate, Shelf}, vb_disk.specs.declared.fuse.Fuse.TheVariants.{Off}, vb_events.specs.declared.event.Answer.{Answer}}
 use Rattle.node_world.specs.declared.arm.Fired.TheVariants as fired
 use Rattle.vb_events.specs.declared.event.Answer.TheVariants as answer
@@ -20,11 +20,11 @@ use Rattle.transcript_law.proofs.invariant.Wholes.{WholeTo, whole_sealed, spanne
 use Rattle.transcript_law.proofs.invariant.Agreement.{vb_of, own_history, VbAgrees, AgreesAt, idle, AgreesIn, Agrees, GoesOn, LineGoes, vb_row}
 use Rattle.transcript_law.proofs.invariant.Carrying.{Changed}
 use Rattle.transcript_law.proofs.invariant.Carried.{agrees_carried, fed_same}
-use Rattle.transcript_law.proofs.verbs.NodeLines.{as_told, node_changed, node_grown, refused_on, agrees_same, same_node, put_same, more_used, admin_by, changed_agrees, on_node_by}
+use Rattle.transcript_law.proofs.verbs.NodeLines.{as_told, node_changed, node_grown, refused_on, agrees_same, node_of_same_vbs, put_same, more_used, admin_by, changed_agrees, on_node_by}
 use Rattle.transcript_law.proofs.verbs.Writing.{mine as own_vb}
 use Rattle.transcript_law.proofs.links.Turning.{Turned}
 use Rattle.transcript_law.proofs.verbs.Leaving.{links_left, cut_lines, cut_off_goes, own_told, same_number, over_agrees, own_found}
-use Rattle.transcript_law.proofs.verbs.Rising.{role_other, rested, rose, promote_is, branch_lawful}
+use Rattle.transcript_law.proofs.verbs.Rising.{other_role_known, rested, rose, promote_is, branch_lawful}
 use Rattle.transcript_law.proofs.verbs.Settling.{Steady, changes_quiet, changes_told, none_branched, settled_told, settles}
 use Rattle.transcript_law.proofs.lines.Telling.{branch_line}
 use Rattle.vb_calls.specs.Settling.{Resolving, also_resolved, settled}
@@ -45,9 +45,9 @@ told_up w r c n node a at up = (subst (PowerIsIf (r.arm_at n)) (ap power_in at) 
 
 -- a world in which the vBucket v of a node is another one, more ids are used, and the links were told
 abbrev pub turned_at : PlainWorld → ℕ → ℕ → PlainNode → Plain → List ℕ → List PlainLink → List ℕ → PlainWorld
-turned_at w n v node x ids links more = record { nodes = (with_node_at w n (with_states node (with_vb_at node.vbs v x))).nodes; uuids = w.uuids ++ more; links = links_told n v ids links }
+turned_at w n v node x ids links more = record { nodes = (with_node_at w n (with_states node (with_vb_at node.vbs v x))).nodes; uuids = w.uuids ++ more; links = links_ended n v ids links }
 
-turned_became : (w : PlainWorld) (n v : ℕ) (node : PlainNode) (x : Plain) (ids : List ℕ) (links : List PlainLink) (more : List ℕ) → w.nodes n ≡ Some node → Turned (with_links w links) (turned_at w n v node x ids links more) n v x (links_told n v ids links)
+turned_became : (w : PlainWorld) (n v : ℕ) (node : PlainNode) (x : Plain) (ids : List ℕ) (links : List PlainLink) (more : List ℕ) → w.nodes n ≡ Some node → Turned (with_links w links) (turned_at w n v node x ids links more) n v x (links_ended n v ids links)
 turned_became w n v node x ids links more at =
     let called : PlainNode = with_states node (with_vb_at node.vbs v x) in
     let one = node_changed w n v node called x at (λ q. refl) (λ q o. refl) refl in
@@ -55,7 +55,7 @@ turned_became w n v node x ids links more at =
 
 -- and once more
 turned_again : (w : PlainWorld) (n v : ℕ) (node : PlainNode) (x y : Plain) (ids : List ℕ) (links : List PlainLink) (more : List ℕ)
-    → Changed (turned_at w n v node x ids links more) (turned_at w n v node y ids links more) n v y (links_told n v ids links) × (shelf_of (turned_at w n v node y ids links more) n v ≡ shelf_of (turned_at w n v node x ids links more) n v)
+    → Changed (turned_at w n v node x ids links more) (turned_at w n v node y ids links more) n v y (links_ended n v ids links) × (shelf_of (turned_at w n v node y ids links more) n v ≡ shelf_of (turned_at w n v node x ids links more) n v)
 turned_again w n v node x y ids links more =
     let first : PlainNode = with_states node (with_vb_at node.vbs v x) in let next : PlainNode = with_states node (with_vb_at node.vbs v y) in
     let one = node_grown w n v first next y (λ q. sym (ap (λ (f : States). f q) (put_over node.vbs v x y))) (λ q o. refl) refl in
@@ -119,7 +119,7 @@ module _ (stays : StaysSound) (steady : Steady) (w : PlainWorld) (r : Chronicle)
   up = node_up w r a n v vb known node at
 
   abbrev new : Role
-  new = role_after (admin_call asked)
+  new = role_of_call (admin_call asked)
 
   abbrev fated : Fate
   fated = fate node n v asked vb vb' shelf (node_of w n v vb known).2 journal.1 up reply is job_is made
@@ -135,23 +135,23 @@ module _ (stays : StaysSound) (steady : Steady) (w : PlainWorld) (r : Chronicle)
   shelves_are q o = ap (λ b. if b then Some (under Off left_shelf) else node.shelves q) (ne_eqb q v o)
 
   abbrev ended : PlainWorld
-  ended = with_links (with_node_at w n last) (links_told n v ids w.links)
+  ended = with_links (with_node_at w n last) (links_ended n v ids w.links)
 
   -- what is told of the call
-  abbrev call_is : AdminTold
+  abbrev call_is : AdminResult
   call_is = changed_told reply lines (said_of fated)
 
   -- what becomes of it, by the vBucket's own link
   abbrev came_with : Option PlainLink → Outcome
-  came_with own = told_after call_is (cut_off (option_map (told_ended n v ids) own) ended)
+  came_with own = after_cuts call_is (cut_off (option_map (link_ended n v ids) own) ended)
 
   -- and behind it outcomes are posted
   outcome_came : role_outcome n v asked w ≡ posted_in n reply.resolved (came_with (own_link n v w.links))
   outcome_came =
       ap (turned_after n v w) (ap (λ o. node_outcome w n no_node o (role_called n v asked)) at
       ∙ ap (λ x. (with_node_at w n x.0, x.1)) (role_came node n v asked vb vb' shelf (node_of w n v vb known).2 journal.1 up reply is job_is made lines line_is))
-      ∙ ap (λ xs. let links : List PlainLink = links_told n v xs w.links in posted_in n reply.resolved (told_after call_is (cut_off (own_link n v links) (with_links (with_node_at w n last) links)))) ends
-      ∙ ap (λ o. posted_in n reply.resolved (told_after call_is (cut_off o ended))) (own_told n v ids w.links)
+      ∙ ap (λ xs. let links : List PlainLink = links_ended n v xs w.links in posted_in n reply.resolved (after_cuts call_is (cut_off (own_link n v links) (with_links (with_node_at w n last) links)))) ends
+      ∙ ap (λ o. posted_in n reply.resolved (after_cuts call_is (cut_off o ended))) (own_told n v ids w.links)
 
   last_ranged : IsRanged (with_node_at w n last)
   last_ranged = let here : NodeRanged n node = subst (NodeRangedIf n) at (ranged n) in with_node w n last ranged (record { clock = here.clock; clients = here.clients })
@@ -159,7 +159,7 @@ module _ (stays : StaysSound) (steady : Steady) (w : PlainWorld) (r : Chronicle)
   -- once they are
   posted_goes : (own : Option PlainLink) → NotingGoes n (role_noted_so n v new) w r (came_with own) → NotingGoes n (role_noted_so n v new) w r (posted_in n reply.resolved (came_with own))
   posted_goes None so = posts_come stays steady n (role_noted_so n v new) w r reply.resolved (came_with None) so (noted_beside n v new (said_of fated) (not_stopped fated)) last_ranged
-  posted_goes (Some link) so = posts_come stays steady n (role_noted_so n v new) w r reply.resolved (came_with (Some link)) so (noted_beside n v new (said_of fated) (not_stopped fated)) (unlinked_ranged ended (told_ended n v ids link) last_ranged)
+  posted_goes (Some link) so = posts_come stays steady n (role_noted_so n v new) w r reply.resolved (came_with (Some link)) so (noted_beside n v new (said_of fated) (not_stopped fated)) (unlinked_ranged ended (link_ended n v ids link) last_ranged)
 
   -- the world in which these links were told, and nothing was written down
   abbrev called : PlainNode
@@ -168,12 +168,12 @@ module _ (stays : StaysSound) (steady : Steady) (w : PlainWorld) (r : Chronicle)
   abbrev pub turned_with : List PlainLink → List ℕ → PlainWorld
   turned_with links more = turned_at w n v node vb' ids links more
 
-  pub turn_became : (links : List PlainLink) (more : List ℕ) → Turned (with_links w links) (turned_with links more) n v vb' (links_told n v ids links)
+  pub turn_became : (links : List PlainLink) (more : List ℕ) → Turned (with_links w links) (turned_with links more) n v vb' (links_ended n v ids links)
   turn_became links more = turned_became w n v node vb' ids links more at
 
   -- the same once the role is written down
   abbrev last_with : List PlainLink → List ℕ → PlainWorld
-  last_with links more = record { nodes = (with_node_at w n last).nodes; uuids = w.uuids ++ more; links = links_told n v ids links }
+  last_with links more = record { nodes = (with_node_at w n last).nodes; uuids = w.uuids ++ more; links = links_ended n v ids links }
 
   abbrev power : Power
   power = record { arm = node.arm; off = node.off }
@@ -211,20 +211,20 @@ module _ (stays : StaysSound) (steady : Steady) (w : PlainWorld) (r : Chronicle)
 
   -- its lines are lawful, and what agrees without the own link, before the role is written down, agrees after it
   pub role_goes : (own : Option PlainLink) → own_link n v w.links ≡ own → LawfulFrom (after_lines r (cut_lines own)) lines → AreQuiet lines
-      → Agrees (turned_with (links_left own w.links) (flat_map branch_told lines)) (after_lines (after_lines r (cut_lines own)) lines) → NotingGoes n (role_noted_so n v new) w r (role_outcome n v asked w)
+      → Agrees (turned_with (links_left own w.links) (flat_map branch_of_line lines)) (after_lines (after_lines r (cut_lines own)) lines) → NotingGoes n (role_noted_so n v new) w r (role_outcome n v asked w)
   role_goes own e lawful quiet (c', agrees) = subst (NotingGoes n (role_noted_so n v new) w r) (sym (outcome_came ∙ ap (λ o. posted_in n reply.resolved (came_with o)) e))
-      (posted_goes own (by own e lawful (noting (links_left own w.links) (flat_map branch_told lines) (after_lines (after_lines r (cut_lines own)) lines) c' agrees)))
+      (posted_goes own (by own e lawful (noting (links_left own w.links) (flat_map branch_of_line lines) (after_lines (after_lines r (cut_lines own)) lines) c' agrees)))
     where
       more : List ℕ
-      more = flat_map branch_told lines
+      more = flat_map branch_of_line lines
 
       by : (own : Option PlainLink) → own_link n v w.links ≡ own → LawfulFrom (after_lines r (cut_lines own)) lines
           → ArmedCame n (role_noted_so n v new) (fired_by node.arm.fuse left_shelf.fuse) (after_lines (after_lines r (cut_lines own)) lines) (last_with (links_left own w.links) more) (said_of fated) → NotingGoes n (role_noted_so n v new) w r (came_with own)
       by None e lawful b = record { lawful = lawful; quiet = quiet; came = came_so ended more w.links (after_lines r lines) refl (λ y. y) b }
       by (Some link) e lawful b =
-          let link' : PlainLink = told_ended n v ids link in
+          let link' : PlainLink = link_ended n v ids link in
           let told : List Event = cut_lines (Some link) ++ lines in
-          subst (λ k. NotingGoes n (role_noted_so n v new) w r (told_after call_is (unlinked link' ended, Event.Ended k EndReason.Cut ∷ []))) (sym (same_number stays w r a.0 n v ids node last vb vb' (λ q. refl) shelves_are link a.1 at known e)) (record {
+          subst (λ k. NotingGoes n (role_noted_so n v new) w r (after_cuts call_is (unlinked link' ended, Event.Ended k EndReason.Cut ∷ []))) (sym (same_number stays w r a.0 n v ids node last vb vb' (λ q. refl) shelves_are link a.1 at known e)) (record {
             lawful = ((_, (a.1.links link (own_found n v w.links link e).0).dialed), lawful);
             quiet = (tt, quiet);
             came = came_so (unlinked link' ended) more (links_left (Some link) w.links) (after_lines r told) (unlinked_power link' ended n)
@@ -279,7 +279,7 @@ turn_done vb new e = ap (λ b. if b then (vb, refusal_reply Status.NotMyVbucket)
 module _ (stays : StaysSound) (steady : Steady) (r : Chronicle) (n v : ℕ) (new : Role) (asked : AdminCall) (rests : is_active new ≡ false) (row : (vb : Plain) → plain_step vb (admin_call asked) ≡ turn_row vb new)
     (timely : (vb : Plain) → Sound vb → Sound (plain_step vb (admin_call asked)).0)
     (line_is : (vb : Plain) → admin_replied n v asked (ending_reply vb VbAnswer.Done) ≡ role_changed (ending_reply vb VbAnswer.Done) (Event.Role n v new ∷ []))
-    (job_is : admin_job n v asked ≡ role_at n v asked) (new_is : role_after (admin_call asked) ≡ new) where
+    (job_is : admin_job n v asked ≡ role_at n v asked) (new_is : role_of_call (admin_call asked) ≡ new) where
   turned_goes : (w : PlainWorld) (vb : Plain) → IsRanged w → Agrees w r → vb_of w n v ≡ Some vb → is_role vb.role new ≡ false → (own : Option PlainLink) → own_link n v w.links ≡ own → NotingGoes n (role_noted_so n v new) w r (role_outcome n v asked w)
   turned_goes w vb ranged a known other own e =
       let x = cut_off_goes w r n v a own e in
@@ -291,7 +291,7 @@ module _ (stays : StaysSound) (steady : Steady) (r : Chronicle) (n v : ℕ) (new
       let old : VbAgrees r1 n v (x.cluster.nodes (seat n v)) vb = subst (AgreesAt r1 n v (x.cluster.nodes (seat n v))) known (x.agrees.vbs n v) in
       subst (λ k. NotingGoes n (role_noted_so n v k) w r (role_outcome n v asked w)) new_is
       (role_goes stays steady w r n v asked vb (in_role vb new) a known ranged (ending_reply vb VbAnswer.Done) is refl line (line_is vb) job_is refl own e
-      (record { another = role_other r1 n v (x.cluster.nodes (seat n v)) vb new old other; anew = λ is. let active : is_active new ≡ true = ap is_active is in cc }, tt) (tt, tt) (
+      (record { another = other_role_known r1 n v (x.cluster.nodes (seat n v)) vb new old other; anew = λ is. let active : is_active new ≡ true = ap is_active is in cc }, tt) (tt, tt) (
         happens x.cluster (Move.Yield (seat n v)),
         rested stays w0 (turned_with stays steady w r n v asked vb (in_role vb new) a known ranged (ending_reply vb VbAnswer.Done) is refl line (line_is vb) job_is refl links []) r1 x.cluster n v vb new (admin_call asked) x.agrees known x.free rests is (timely vb)
             (turn_became stays steady w r n v asked vb (in_role vb new) a known ranged (ending_reply vb VbAnswer.Done) is refl line (line_is vb) job_is refl links []) (append-nil w.uuids),
@@ -348,14 +348,14 @@ module _ (stays : StaysSound) (steady : Steady) (r : Chronicle) (n v uuid : ℕ)
       -- the node is running, so the branch is read as it is
       let runs : (r1.arm_at n).down ≡ false = told_up w0 r1 c1 n node x.agrees at (node_up w r a n v vb known node at) in
       let read : after_line r1 (Event.Branch n v uuid parent fork high) ≡ branched = branch_line r1 n v uuid parent fork high runs in
-      let ids_told : uuid ∷ [] ≡ flat_map branch_told line = ap (λ us. uuid ∷ us) (sym (none_branched n v uuid s.cs)) in
+      let ids_told : uuid ∷ [] ≡ flat_map branch_of_line line = ap (λ us. uuid ∷ us) (sym (none_branched n v uuid s.cs)) in
       let now : Agrees (turned_at w n v node made.vb ids links (uuid ∷ [])) (after_lines active own_lines_are) = s.agrees (turned_at w n v node made.vb ids links (uuid ∷ [])) again.0 again.1 in
       role_goes stays steady w r n v (AdminCall.Promote uuid) vb made.vb a known ranged (also_resolved reply made).1 is refl line line_is refl refl own e (
         branch_lawful steady w0 w0 r1 c1 n v uuid vb x.agrees known x.free rests unused named small,
-        subst (λ b. LawfulRole b n v Role.Active × LawfulFrom (after_role b n v Role.Active) own_lines_are) (sym read) (record { another = role_other r1 n v (c1.nodes (seat n v)) vb Role.Active old other; anew = λ is. at_here r1.counts_at n v alone }, s.lawful),
+        subst (λ b. LawfulRole b n v Role.Active × LawfulFrom (after_role b n v Role.Active) own_lines_are) (sym read) (record { another = other_role_known r1 n v (c1.nodes (seat n v)) vb Role.Active old other; anew = λ is. at_here r1.counts_at n v alone }, s.lawful),
       )
       (tt, (tt, changes_quiet n v uuid s.cs))
-      (subst (λ b. Agrees (turned_at w n v node made.vb ids links (flat_map branch_told line)) (after_lines (after_role b n v Role.Active) own_lines_are)) (sym read)
+      (subst (λ b. Agrees (turned_at w n v node made.vb ids links (flat_map branch_of_line line)) (after_lines (after_role b n v Role.Active) own_lines_are)) (sym read)
       (subst (λ us. Agrees (turned_at w n v node made.vb ids links us) (after_lines active own_lines_are)) ids_told now))
 
   pub promote_goes : (w : PlainWorld) → IsRanged w → Agrees w r → NotingGoes n (role_noted_so n v Role.Active) w r (promote_step w n v uuid)
@@ -440,5 +440,5 @@ log_goes w r n v node a known = elim (node.vbs v) as (λ o. node.vbs v ≡ o →
   | None ↦ λ e. refused_on w r n node Cause.UnknownVb a known
   | Some vb ↦ λ e.
       let node' : PlainNode = with_states node (with_vb_at node.vbs v vb) in
-      ((if_known (r.log_at n v) vb.log (own_vb w r a.0 n v node vb a.1 known e).log, tt), agrees_same w (with_node_at w n node') r a (same_node w n node node' known (put_same node.vbs v vb e) (λ q. refl) refl))
+      ((if_known (r.log_at n v) vb.log (own_vb w r a.0 n v node vb a.1 known e).log, tt), agrees_same w (with_node_at w n node') r a (node_of_same_vbs w n node node' known (put_same node.vbs v vb e) (λ q. refl) refl))
 ] refl

@@ -4,7 +4,7 @@ use Rattle.transcript_law.proofs.Words.{ℕ, List, [], refl, sym, subst, Answer,
 use Rattle.node_world.specs.Rests.{Rests}
 use Rattle.transcript_law.proofs.invariant.{Agreement.{Agrees, GoesOn, LineGoes}, AtRest.{RestsIf, Still, node_still, weaker}, CallsKept.{AllAt, InWorld}, ClientWorlds.{ConnsAre}, Entering.{Entered}, Feeding.{AllFed, Fine, node_fine}, Ranged.{IsRanged, NodeRanged, on_node_ranged}, Unopened.{NoNew}}
 use Rattle.transcript_law.proofs.lines.{Calm.{Spared}, Refusals.{Same, Says}}
-use Rattle.transcript_law.proofs.verbs.{BoundAnswers.{bound_plain}, FiredLines.{DialsTold}, LineAnswers.{AllTold, ArmTold, ShutTold, opens_of, told_of_opens}, NodeLines.{line_goes_on, on_node_by}}
+use Rattle.transcript_law.proofs.verbs.{BoundAnswers.{bound_plain}, FiredLines.{DialsTold}, LineAnswers.{AllTold, ArmKnown, ShutTold, opens_of, told_of_opens}, NodeLines.{line_goes_on, on_node_by}}
 use Rattle.transcript_law.specs.{Bound.{IsBound, bound_by, if_down, is_told_down}, Chronicles.{ahead}, Firings.{FiresInLine}, Plainness.{IsStanding}, Tellings.{TellsOf}}
 
 -- what a chronicle tells of a world with which it agrees
@@ -13,7 +13,7 @@ pub record AsTold (w : PlainWorld) (r : Chronicle) : Type 0 where
   pub rests : Rests w
   pub disks : AllTold w r
   pub shut : ShutTold w r
-  pub arms : (n : ℕ) → ArmTold w r n
+  pub arms : (n : ℕ) → ArmKnown w r n
   pub dials : DialsTold w r
   pub conns : ConnsAre w r.conn_at
 

@@ -1,13 +1,13 @@
 -- the line `save`: a batch that was taken is appended, under its node's arm
 use Rattle.std.specs.Prelude.{◌≡◌, if◌then◌else◌}
 use Rattle.transcript_law.proofs.Words.{ℕ, false, [], refl, ap, sym, ◌∙◌, subst, Option, Some, None, option_map, eq-eqb, is_some, Answer, Cause, Chronicle, Ended, Plain, PlainNode, PlainWorld, States, VbCall, after_job, call_at, on_node, refusal, StaysSound, shelf_in, vb_in, with_branches, with_node_at, with_vb_at}
-use Rattle.transcript_law.proofs.{invariant.Agreement.{Agrees, DiskIsIf, LineGoes, shelf_of, vb_of}, disks.Appending.{batch_came, flush_after, noted_node}, disks.ArmedLines.{ArmedCame}, verbs.FlushLines.{There, shelf_is, there_at, vb_is}, disks.Flushed.{flush_came}}
+use Rattle.transcript_law.proofs.{invariant.Agreement.{Agrees, DiskIsIf, LineGoes, shelf_of, vb_of}, disks.Appending.{batch_came, flush_after, noted_node}, disks.ArmedLines.{ArmedCame}, verbs.FlushLines.{There, shelf_is, there_at_vb, vb_is}, disks.Flushed.{flush_came}}
 use Rattle.transcript_law.proofs.{invariant.JobSteps.{ask_on, same_shelf, shelf_found, shelf_over}, verbs.NodeLines.{on_node_by, put_same}, disks.Firing.{save_noting}, disks.Noting.{LineCame, came_goes, came_used, kept_came, refused_came}, invariant.Seats.{seat}, invariant.Tables.{none_there}}
-use Rattle.{disk_journals.specs.Arms.{armed_at, under}, node_core.specs.Admin.{noted_answer}, node_core.specs.Flushing.{flush_at, flush_if, flush_told}, node_world.specs.declared.told.Told.{Told}}
+use Rattle.{disk_journals.specs.Arms.{armed_at, under}, node_core.specs.Admin.{noted_answer}, node_core.specs.Flushing.{flush_at, flush_if, flush_result}, node_world.specs.declared.told.Told.{Told}}
 use Rattle.node_world.specs.{Arms.{fired_by, fuse_or, lifted, placed}, Nodes.{save_line, with_kept, with_posts, written}, Power.{with_arm}, Worlds.{arm_in}}
 use Rattle.transcript_law.specs.Chronicles.{after_append, saving}
 use Rattle.vb_calls.specs.Flushes.{appended_job, save_job, wrote_of}
-use Rattle.vb_calls.specs.Shelves.{Append, DiskFailed, Fate, Flush, Idle, Keep, Out, Shelf, Shelves, Stood, WasClosed, Written, asked_shelf, with_shelf_at}
+use Rattle.vb_calls.specs.Shelves.{Append, DiskFailed, Fate, Flush, Idle, Keep, Out, Shelf, Shelves, Stood, WasClosed, Written, shelf_step, with_shelf_at}
 use Rattle.vb_calls.specs.declared.journals.Flushed.{Flushed}
 use Rattle.vb_disk.specs.declared.fuse.Fuse.TheVariants.{Off}
 use Rattle.vb_types.specs.declared.journal.Batch.{Batch}
@@ -33,10 +33,10 @@ saved_as WasClosed = Flushed.Closed
 saved_as DiskFailed = Flushed.DiskFailed
 
 -- and what is told of it
-told_as : (n v : ℕ) (fate : Fate) → flush_told n v (saved_as fate) ≡ record { events = []; answer = noted_answer (wrote_of fate) Answer.Ok; resolved = [] }
-told_as n v Stood = refl
-told_as n v WasClosed = refl
-told_as n v DiskFailed = refl
+result_of_fate : (n v : ℕ) (fate : Fate) → flush_result n v (saved_as fate) ≡ record { events = []; answer = noted_answer (wrote_of fate) Answer.Ok; resolved = [] }
+result_of_fate n v Stood = refl
+result_of_fate n v WasClosed = refl
+result_of_fate n v DiskFailed = refl
 
 -- what the line tells beside its lines
 abbrev pub saves : ℕ → ℕ → Answer → Chronicle → Chronicle
@@ -66,7 +66,7 @@ module _ (w : PlainWorld) (r : Chronicle) (n v : ℕ) (there : There w r n v) wh
 
   -- the node after a job, and what is told
   abbrev outcome : (States × Shelves) × Flushed → PlainNode × Told
-  outcome y = let x = written over (y.0, flush_told n v y.1) in (lifted v x.0, x.1)
+  outcome y = let x = written over (y.0, flush_result n v y.1) in (lifted v x.0, x.1)
 
   line_is : save_line n v node ≡ outcome (after_job (save_job v shelf.flush) st0 sh0)
   line_is =
@@ -88,7 +88,7 @@ module _ (w : PlainWorld) (r : Chronicle) (n v : ℕ) (there : There w r n v) wh
   module _ (b : Batch) (out : shelf.flush ≡ Out b) where
     -- what its append comes to
     abbrev wrote : Shelf × Fate
-    wrote = asked_shelf armed (Append (noted.Rows b))
+    wrote = shelf_step armed (Append (noted.Rows b))
 
     abbrev left : Shelf
     left = record wrote.0 { flush = flush_after b wrote.1 }
@@ -113,7 +113,7 @@ module _ (w : PlainWorld) (r : Chronicle) (n v : ℕ) (there : There w r n v) wh
     saved_is =
         let s1 : Shelves = with_shelf_at sh0 v wrote.0 in let s2 : Shelves = with_shelf_at s1 v left in
         ap outcome job_is
-        ∙ ap (λ told. let x = with_posts told (with_kept over (st0, s2)) in (lifted v x.0, x.1)) (told_as n v wrote.1)
+        ∙ ap (λ told. let x = with_posts told (with_kept over (st0, s2)) in (lifted v x.0, x.1)) (result_of_fate n v wrote.1)
         ∙ (λ i. (lifted v (record over { vbs = same_vbs i; shelves = s2 }), said))
         ∙ ap (λ o. (record over { shelves = armed_at s2 v Off o; arm = record node.arm { fuse = fuse_or node.arm.fuse (option_map (λ (s : Shelf). s.fuse) o) } }, said)) (shelf_found s1 v left)
         ∙ ap (λ x. (record over { shelves = x; arm = record node.arm { fuse = wrote.0.fuse } }, said))
@@ -151,7 +151,7 @@ save_came w r n v a = on_node_by (LineCame n (saves n v) w r) w n (save_line n v
     (λ node at runs. by node at runs (node.vbs v) refl)
   where
     by : (node : PlainNode) → w.nodes n ≡ Some node → is_some node.off ≡ false → (o : Option Plain) → node.vbs v ≡ o → LineCame n (saves n v) w r (with_node_at w n (save_line n v node).0, (save_line n v node).1)
-    by node at runs (Some vb) e = save_there w r n v (there_at w r n v a node at runs vb e)
+    by node at runs (Some vb) e = save_there w r n v (there_at_vb w r n v a node at runs vb e)
     by node at runs None e =
         let over : PlainNode = placed v node in
         subst (λ (x : PlainNode × Told). LineCame n (saves n v) w r (with_node_at w n x.0, x.1))

@@ -1,7 +1,7 @@
 -- what a vBucket commits of its own behind a call: the lines of it are lawful, and after them all agrees
 use Rattle.std.specs.Prelude.{◌≡◌, ◌+◌, ◌<◌, ◌∷◌, ◌++◌, ◌&&◌, ◌^◌, if◌then◌else◌, nat_lt}
 use Rattle.transcript_law.proofs.Words.{ℕ, Bool, true, false, List, [], map, refl, ap, sym, ◌∙◌, subst, arith, inl, nat_tests, ⊎_elim, append-nil, append_assoc, eq-eqb, Option, Some, None, Act, Change, Event, MAX_SEQ, Member, Cluster, Move, happens, Plain, is_active, newest_branch, image_of, Sound, led}
-use Rattle.transcript_law.proofs.Words.{PlainNode, PlainWorld, with_node_at, with_states, with_vb_at, vb_in, Chronicle, after_change, after_lines, LawfulChange, LawfulFrom, VbReply, branch_told, flat_map}
+use Rattle.transcript_law.proofs.Words.{PlainNode, PlainWorld, with_node_at, with_states, with_vb_at, vb_in, Chronicle, after_change, after_lines, LawfulChange, LawfulFrom, VbReply, branch_of_line, flat_map}
 use Rattle.transcript_law.proofs.{invariant.Agreement.{ActFits, Agrees, AgreesIn, ChangeFits, DiskIsIf, VbAgrees, active_counts, all_rise, idle, image_is, shelf_of, vb_of}, invariant.Carried.{places}, invariant.Carrying.{Changed, Relinked}, lines.Lines.{AreQuiet}}
 use Rattle.transcript_law.proofs.{verbs.NodeLines.{agrees_same, node_changed, shelves_again, shelves_put}, invariant.Seats.{seat}, invariant.Waiting.{IsCommit, commit_of, pends_above, pends_fit}, verbs.Writing.{is_lawful, mine, newest, written}}
 use Rattle.cluster_model.specs.Clusters.{Fulfils}
@@ -242,6 +242,6 @@ settled_told n v reply vb uuid cs none is on =
     ∙ (λ i. changes_told n v (on i) (is i))
 
 -- lines of changes tell of no branch
-pub none_branched : (n v uuid : ℕ) (cs : List Change) → flat_map branch_told (changes_told n v uuid cs) ≡ []
+pub none_branched : (n v uuid : ℕ) (cs : List Change) → flat_map branch_of_line (changes_told n v uuid cs) ≡ []
 none_branched n v uuid [] = refl
 none_branched n v uuid (c ∷ cs) = none_branched n v uuid cs

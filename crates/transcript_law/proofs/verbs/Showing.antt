@@ -7,8 +7,8 @@ use Rattle.transcript_law.proofs.Words.{known_history, shown_lines, LawfulFrom, 
 use Rattle.transcript_law.proofs.Words.{LawfulShown, option_map}
 use Rattle.transcript_law.specs.Lawfulness.{newest_shown}
 use Rattle.transcript_law.proofs.invariant.Seats.{seat}
-use Rattle.transcript_law.proofs.invariant.Agreement.{BranchIs, Writes, WritesIf, VbAgrees, image_is, top, idle, AgreesIn, Agrees, GoesOn}
-use Rattle.transcript_law.proofs.verbs.NodeLines.{as_told, same_node, put_same, agrees_same, refused_on, admin_by}
+use Rattle.transcript_law.proofs.invariant.Agreement.{BranchAgrees, Writes, WritesIf, VbAgrees, image_is, top, idle, AgreesIn, Agrees, GoesOn}
+use Rattle.transcript_law.proofs.verbs.NodeLines.{as_told, node_of_same_vbs, put_same, agrees_same, refused_on, admin_by}
 use Rattle.transcript_law.proofs.invariant.Tables.{if_known}
 use Rattle.transcript_law.proofs.verbs.Writing.{mine, front_newest}
 use Rattle.std.specs.FinMap as finite
@@ -25,7 +25,7 @@ reach_complete : (p : Position) → p.at ≡ p.se → reach_of p ≡ p.at
 reach_complete p e = elim (p.at == effective_ss p.at p.ss p.se) as (λ b. (if b then p.at else p.se) ≡ p.at) [ true ↦ refl | false ↦ sym e ]
 
 -- a member's branch has the history that the lines tell of it
-pub history_by : (w : PlainWorld) (r : Chronicle) (c : Cluster) → AgreesIn idle w r c → (br : ℕ) (o : Option ℕ) → BranchIs o br → known_history r.tree o ≡ hist c.tree br
+pub history_by : (w : PlainWorld) (r : Chronicle) (c : Cluster) → AgreesIn idle w r c → (br : ℕ) (o : Option ℕ) → BranchAgrees o br → known_history r.tree o ≡ hist c.tree br
 history_by w r c a br None e = sym (ap (hist c.tree) e ∙ a.rootless)
 history_by w r c a br (Some u) e = sym (a.hists u) ∙ ap (hist c.tree) (sym e)
 
@@ -57,7 +57,7 @@ module _ (w : PlainWorld) (r : Chronicle) (c : Cluster) (n v : ℕ) (vb : Plain)
       ∙ sym (shows top c a.sound (seat n v) whole)
       ∙ sym (image_is m.kept)
 
-  shared_by : (log : List LogEntry) (o : Option ℕ) → Ancestry c.tree log member.br (member_reach member) → BranchIs o member.br → (o ≡ None → log ≡ []) → newest_branch log ≢ 0
+  shared_by : (log : List LogEntry) (o : Option ℕ) → Ancestry c.tree log member.br (member_reach member) → BranchAgrees o member.br → (o ≡ None → log ≡ []) → newest_branch log ≢ 0
       → SharesWith r.tree (newest_branch log) o vb.position.at
   shared_by [] o t b none ne = absurd (ne refl)
   shared_by (e ∷ older) None t b none ne = let z : e ∷ older ≡ [] = none refl in cc
@@ -69,8 +69,8 @@ module _ (w : PlainWorld) (r : Chronicle) (c : Cluster) (n v : ℕ) (vb : Plain)
   show_lawful : LawfulShow r (said_of n v vb) (image_lines (image_in vb))
   show_lawful = record {
     lines = ap shown_lines (sym same_image);
-    docs_told = ap (λ (i : Picture). length (finite.entries i.docs)) (sym same_image);
-    preps_told = ap (λ (i : Picture). length (finite.entries i.pending)) (sym same_image);
+    docs_shown = ap (λ (i : Picture). length (finite.entries i.docs)) (sym same_image);
+    preps_shown = ap (λ (i : Picture). length (finite.entries i.pending)) (sym same_image);
     shared = shared_by vb.log (r.branch_at n v) (subst (λ l. Ancestry c.tree l member.br (member_reach member)) m.member.log (tells top c a.sound (seat n v))) m.branch m.unlogged;
     active = λ e.
         let writes : Writes r n v member.br = subst (λ x. WritesIf x r n v member.br) (ap is_active e) m.writes in
@@ -105,7 +105,7 @@ module _ (w : PlainWorld) (r : Chronicle) (n v : ℕ) (node : PlainNode) (a : Ag
       let node' : PlainNode = with_states node (with_vb_at node.vbs v vb) in (
         (shown_lawful w r c n v vb in_it (mine w r c n v node vb in_it known has), told.0),
         subst (Agrees (with_node_at w n node')) (sym told.1)
-            (agrees_same w (with_node_at w n node') r a (same_node w n node node' known (put_same node.vbs v vb has) (λ q. refl) refl)),
+            (agrees_same w (with_node_at w n node') r a (node_of_same_vbs w n node node' known (put_same node.vbs v vb has) (λ q. refl) refl)),
       )
 
   pub show_goes : GoesOn r as_told (with_node_at w n (admin_line n v AdminCall.Show node).0, (admin_line n v AdminCall.Show node).1)

@@ -1,15 +1,15 @@
 -- the vBuckets that were active start one after the other
 use Rattle.std.specs.Prelude.{◌≡◌, ◌<◌, ◌∷◌, ◌++◌, ◌^◌, ◌-◌, ◌⊎◌, ◌||◌, if◌then◌else◌, nat_le, ◌+◌, ◌*◌, ◌≤◌}
 use Rattle.transcript_law.proofs.Words.{ℕ, true, false, List, [], refl, ap, sym, ◌∙◌, subst, arith, inl, inr, ⊎_elim, append-nil, append_assoc, filter-append, flat_map, Some, None, eq-eqb, ne_eqb, Answer, Chronicle, Cluster, Event, Plain, PlainLink, PlainNode, PlainWorld, LawfulFrom, Bool, Change, after_branch, after_lines, option_map, with_entry, with_id, length}
-use Rattle.transcript_law.proofs.Words.{after_line, branch_told, consumer_node, fork_of, producer_node, is_active, is_one_of, parent_of, with_node_at, with_at, changes_between, ending_reply, led, parent_branch, plain_step, VbAnswer, VbCall}
-use Rattle.transcript_law.proofs.{invariant.Agreement.{Agrees, AgreesIn, IsLink, PowerIs, idle}, lines.Calm.{Calm, calm_map, calm_more, fires_once}, lines.Changes.{Reads, arms_same, branch_read, changes_read, reads_changes, restart_past, restart_saved, roles_past, roles_same}, lines.Lines.{lawful_more}, verbs.NodeLines.{branch_of}, invariant.Seats.{seat}, verbs.Settling.{Steady, changes_quiet, changes_told}, verbs.RestartCalls.{fate, left, node', start_came}, verbs.RoleCalls.{said_of}, verbs.Restarting.{NoEnds, Restarted, active_as, arm_is, call_is, cs, mine, restarted, settles_on, told_is, twice, world, active, fails_to, stops_to}, verbs.StartTold.{Apart, AreStarts, apart_changes, starts_changes, told_by, told_changes}, invariant.Tables.{id_here}}
+use Rattle.transcript_law.proofs.Words.{after_line, branch_of_line, consumer_node, fork_of, producer_node, is_active, is_one_of, parent_of, with_node_at, with_at, changes_between, ending_reply, led, parent_branch, plain_step, VbAnswer, VbCall}
+use Rattle.transcript_law.proofs.{invariant.Agreement.{Agrees, AgreesIn, IsLink, PowerIs, idle}, lines.Calm.{Calm, calm_map, calm_more, fires_once}, lines.Changes.{Reads, arms_same, branch_read, changes_read, reads_changes, restart_past, restart_saved, roles_past, roles_same}, lines.Lines.{lawful_more}, verbs.NodeLines.{branch_of}, invariant.Seats.{seat}, verbs.Settling.{Steady, changes_quiet, changes_told}, verbs.RestartCalls.{fate, left, node', start_came}, verbs.RoleCalls.{said_of}, verbs.Restarting.{NoEnds, Restarted, active_as, arm_is, call_is, cs, mine, restarted, settles_on, told_is, twice, world, active, fails_to, stops_to}, verbs.StartTold.{Apart, AreStarts, apart_changes, starts_changes, told_by, told_each_change}, invariant.Tables.{id_here}}
 use Rattle.node_world.specs.Power.{Starting, first_no, started_by, starts_from, stopped_node, touches}
 use Rattle.disk_journals.specs.Arms.{under}
-use Rattle.node_core.specs.Flushing.{FlushTold}
+use Rattle.node_core.specs.Flushing.{FlushResult}
 use Rattle.node_world.specs.Arms.{fired_by}
 use Rattle.node_world.specs.declared.arm.Fired.{Fired}
 use Rattle.node_world.specs.declared.told.Told.{Told}
-use Rattle.transcript_law.specs.Chronicles.{ArmTold, alone, after_crash, after_restart, after_stop, spent, calls_of_append}
+use Rattle.transcript_law.specs.Chronicles.{ArmKnown, alone, after_crash, after_restart, after_stop, spent, calls_of_append}
 use Rattle.branch_model.specs.Trees.{IsNew}
 use Rattle.transcript_law.proofs.disks.Burning.{fails_more, spent_fails, spent_passes, spent_stops, spent_twice, stops_more}
 use Rattle.transcript_law.specs.Firings.{FiresAsSaid, mishaps, is_mishap}
@@ -105,7 +105,7 @@ all_behind : (n : ℕ) (starts : List (ℕ × ℕ)) (m q uuid : ℕ) (cs : List 
 all_behind n starts m q uuid [] lines x = x
 all_behind n starts m q uuid (c ∷ cs) lines x = all_more n starts (Event.Changed m q uuid c) (changes_told m q uuid cs ++ lines) (all_behind n starts m q uuid cs lines x)
 
-branched_more : (n v uuid : ℕ) (cs : List Change) (lines : List Event) → flat_map branch_told (changes_told n v uuid cs ++ lines) ≡ flat_map branch_told lines
+branched_more : (n v uuid : ℕ) (cs : List Change) (lines : List Event) → flat_map branch_of_line (changes_told n v uuid cs ++ lines) ≡ flat_map branch_of_line lines
 branched_more n v uuid [] lines = refl
 branched_more n v uuid (c ∷ cs) lines = branched_more n v uuid cs lines
 
@@ -122,7 +122,7 @@ module _ (steady : Steady) (crashes : Crashes) (w : PlainWorld) (n : ℕ) (free 
     pub apart : (v : ℕ) → NotAmong v starts → Apart v lines
     pub make : came.1.answer ≡ answer.Ok → AllMake n starts lines
     pub fires : FiresAsSaid (Some n) came.1.events came.1.answer
-    pub ended : Ended q n (calls_behind calls starts) came.1.answer (with_it came.0 (used ++ flat_map branch_told lines)) (told_by r lines)
+    pub ended : Ended q n (calls_behind calls starts) came.1.answer (with_it came.0 (used ++ flat_map branch_of_line lines)) (told_by r lines)
 
   none_left : (node : PlainNode) (used : List ℕ) (before : Told) (calls : ℕ) (q r : Chronicle) → SoFar q r n calls before → Agrees (with_it node used) r → Started [] used before calls q r (node, before)
   none_left node used before calls q r so_far a = record {
@@ -186,25 +186,25 @@ module _ (steady : Steady) (crashes : Crashes) (w : PlainWorld) (n : ℕ) (free 
 
     -- its changes tell of no arm
     arms_q : (q1.arm_at n) ≡ (q.arm_at n)
-    arms_q = ap (λ (t : ℕ → ArmTold). t n) (arms_same q0 n v uuid (cs steady w n free node used r c a up v uuid vb ready.there ready.rests ready.sealed ready.shelf ready.kept ready.opens unused named small))
+    arms_q = ap (λ (t : ℕ → ArmKnown). t n) (arms_same q0 n v uuid (cs steady w n free node used r c a up v uuid vb ready.there ready.rests ready.sealed ready.shelf ready.kept ready.opens unused named small))
 
     arms_r : ((after_lines r0 changes).arm_at n) ≡ (r.arm_at n)
-    arms_r = ap (λ (t : ℕ → ArmTold). t n) (arms_same r0 n v uuid (cs steady w n free node used r c a up v uuid vb ready.there ready.rests ready.sealed ready.shelf ready.kept ready.opens unused named small))
+    arms_r = ap (λ (t : ℕ → ArmKnown). t n) (arms_same r0 n v uuid (cs steady w n free node used r c a up v uuid vb ready.there ready.rests ready.sealed ready.shelf ready.kept ready.opens unused named small))
 
     arm_now : (r1.arm_at n) ≡ record (r.arm_at n) { fuse = spent 4 (r.arm_at n).fuse }
-    arm_now = id_here (after_lines r0 changes).arm_at n (record ((after_lines r0 changes).arm_at n) { fuse = spent 4 ((after_lines r0 changes).arm_at n).fuse }) ∙ ap (λ (t : ArmTold). record t { fuse = spent 4 t.fuse }) arms_r
+    arm_now = id_here (after_lines r0 changes).arm_at n (record ((after_lines r0 changes).arm_at n) { fuse = spent 4 ((after_lines r0 changes).arm_at n).fuse }) ∙ ap (λ (t : ArmKnown). record t { fuse = spent 4 t.fuse }) arms_r
 
     spent_so : (r1.arm_at n).fuse ≡ spent 4 (r.arm_at n).fuse
-    spent_so = ap (λ (t : ArmTold). t.fuse) arm_now
+    spent_so = ap (λ (t : ArmKnown). t.fuse) arm_now
 
     out_so : (r1.arm_at n).out ≡ node.arm.out
-    out_so = ap (λ (t : ArmTold). t.out) arm_now ∙ power.out
+    out_so = ap (λ (t : ArmKnown). t.out) arm_now ∙ power.out
 
     -- with its role, what was read of the branch is read alike
-    abbrev active_told : (ℕ → ℕ → Bool) → Chronicle
-    active_told opened = record r0 { role_at = with_at r.role_at n v (Some (Some role.Active)); open_at = opened }
+    abbrev active_vb_lines : (ℕ → ℕ → Bool) → Chronicle
+    active_vb_lines opened = record r0 { role_at = with_at r.role_at n v (Some (Some role.Active)); open_at = opened }
 
-    reads_branch : (opened : ℕ → ℕ → Bool) → Reads q0 (active_told opened)
+    reads_branch : (opened : ℕ → ℕ → Bool) → Reads q0 (active_vb_lines opened)
     reads_branch opened = record {
       tree = λ i. record { id = uuid; parent = parent_branch (parent_of vb.log) (fork_of vb.position) (alike.reads.branch i n v); fork = fork_of vb.position; own = changes_between (fork_of vb.position) vb.position.at (alike.reads.held i n v) } ∷ alike.reads.tree i;
       branch = λ i. with_at (alike.reads.branch i) n v (Some uuid);
@@ -220,13 +220,13 @@ module _ (steady : Steady) (crashes : Crashes) (w : PlainWorld) (n : ℕ) (free 
     -- and so are its changes
     reads_on : Reads q1 r1
     reads_on =
-        let there = reads_changes q0 (active_told r0.open_at) n v uuid (cs steady w n free node used r c a up v uuid vb ready.there ready.rests ready.sealed ready.shelf ready.kept ready.opens unused named small) (reads_branch r0.open_at) in
-        let same : after_lines (active_told r0.open_at) changes ≡ record (after_lines r0 changes) { role_at = with_at r.role_at n v (Some (Some role.Active)) } = roles_past (with_at r.role_at n v (Some (Some role.Active))) r0 n v uuid (cs steady w n free node used r c a up v uuid vb ready.there ready.rests ready.sealed ready.shelf ready.kept ready.opens unused named small) in
+        let there = reads_changes q0 (active_vb_lines r0.open_at) n v uuid (cs steady w n free node used r c a up v uuid vb ready.there ready.rests ready.sealed ready.shelf ready.kept ready.opens unused named small) (reads_branch r0.open_at) in
+        let same : after_lines (active_vb_lines r0.open_at) changes ≡ record (after_lines r0 changes) { role_at = with_at r.role_at n v (Some (Some role.Active)) } = roles_past (with_at r.role_at n v (Some (Some role.Active))) r0 n v uuid (cs steady w n free node used r c a up v uuid vb ready.there ready.rests ready.sealed ready.shelf ready.kept ready.opens unused named small) in
         let found : Reads q1 (record (after_lines r0 changes) { role_at = with_at r.role_at n v (Some (Some role.Active)) }) = subst (Reads q1) same there in
         record { tree = found.tree; branch = found.branch; held = found.held; writer = found.writer; counts = found.counts; log = found.log; snap = found.snap; saved = λ m p. restart_saved (after_lines r0 changes) n v m p ∙ found.saved m p; role = ap (λ t. with_at t n v (Some (Some role.Active))) (roles_same r0 n v uuid (cs steady w n free node used r c a up v uuid vb ready.there ready.rests ready.sealed ready.shelf ready.kept ready.opens unused named small)) ∙ found.role }
 
     changes_lawful : LawfulFrom q0 changes
-    changes_lawful = changes_read q0 (active_told (with_at r0.open_at n v false)) n v uuid (cs steady w n free node used r c a up v uuid vb ready.there ready.rests ready.sealed ready.shelf ready.kept ready.opens unused named small) (reads_branch (with_at r0.open_at n v false))
+    changes_lawful = changes_read q0 (active_vb_lines (with_at r0.open_at n v false)) n v uuid (cs steady w n free node used r c a up v uuid vb ready.there ready.rests ready.sealed ready.shelf ready.kept ready.opens unused named small) (reads_branch (with_at r0.open_at n v false))
         (subst (λ x. LawfulFrom x changes) (active_as steady w n free node used r c a up v uuid vb ready.there ready.rests ready.sealed ready.shelf ready.kept ready.opens unused named small) (settles_on steady w n free node used r c a up v uuid vb ready.there ready.rests ready.sealed ready.shelf ready.kept ready.opens unused named small).lawful)
 
     arm_so : (r.arm_at n).fuse ≡ node.arm.fuse
@@ -236,8 +236,8 @@ module _ (steady : Steady) (crashes : Crashes) (w : PlainWorld) (n : ℕ) (free 
     pub alike_on : Alike n (calls + 4) q1 r1
     alike_on = record {
       reads = reads_on;
-      down = ap (λ (t : ArmTold). t.down) arms_q ∙ alike.down;
-      spends = spent_so ∙ ap (spent 4) alike.spends ∙ spent_twice calls 4 (q.arm_at n).fuse ∙ sym (ap (λ (t : ArmTold). spent (calls + 4) t.fuse) arms_q);
+      down = ap (λ (t : ArmKnown). t.down) arms_q ∙ alike.down;
+      spends = spent_so ∙ ap (spent 4) alike.spends ∙ spent_twice calls 4 (q.arm_at n).fuse ∙ sym (ap (λ (t : ArmKnown). spent (calls + 4) t.fuse) arms_q);
     }
 
     lawful_line : LawfulBranch q n v uuid (parent_of vb.log) (fork_of vb.position) vb.position.at
@@ -255,10 +255,10 @@ module _ (steady : Steady) (crashes : Crashes) (w : PlainWorld) (n : ℕ) (free 
 
     -- the same of what is read with its lines
     to_q1 : (P : Fuse → Type 0) → P (q.arm_at n).fuse → P (q1.arm_at n).fuse
-    to_q1 P x = subst (λ (t : ArmTold). P t.fuse) (sym arms_q) x
+    to_q1 P x = subst (λ (t : ArmKnown). P t.fuse) (sym arms_q) x
 
     -- the node's lines so far, by what the arm did
-    abbrev one : FlushTold
+    abbrev one : FlushResult
     one = record { events = all_lines; answer = said; resolved = [] }
 
     abbrev ran : Told
@@ -267,15 +267,15 @@ module _ (steady : Steady) (crashes : Crashes) (w : PlainWorld) (n : ℕ) (free 
     abbrev failed : Told
     failed = record { events = before.events ++ one.events ++ Event.CallFailed n ∷ []; answer = first_no before.answer said }
 
-    used_more : (lines : List Event) → (used ++ uuid ∷ []) ++ flat_map branch_told lines ≡ used ++ flat_map branch_told (all_lines ++ lines)
-    used_more lines = append_assoc used (uuid ∷ []) (flat_map branch_told lines) ∙ ap (λ ids. used ++ uuid ∷ ids) (sym (branched_more n v uuid (cs steady w n free node used r c a up v uuid vb ready.there ready.rests ready.sealed ready.shelf ready.kept ready.opens unused named small) lines))
+    still_used : (lines : List Event) → (used ++ uuid ∷ []) ++ flat_map branch_of_line lines ≡ used ++ flat_map branch_of_line (all_lines ++ lines)
+    still_used lines = append_assoc used (uuid ∷ []) (flat_map branch_of_line lines) ∙ ap (λ ids. used ++ uuid ∷ ids) (sym (branched_more n v uuid (cs steady w n free node used r c a up v uuid vb ready.there ready.rests ready.sealed ready.shelf ready.kept ready.opens unused named small) lines))
 
     lines_calm : Calm all_lines
     lines_calm = calm_map (Event.Changed n v uuid) (cs steady w n free node used r c a up v uuid vb ready.there ready.rests ready.sealed ready.shelf ready.kept ready.opens unused named small) (λ c. refl)
 
     -- what is told with its branch and its changes, and then with these
     told_on : (lines : List Event) → told_by r1 lines ≡ told_by r (all_lines ++ lines)
-    told_on lines = ap (λ x. told_by x lines) (restart_past r0 n v n v uuid (cs steady w n free node used r c a up v uuid vb ready.there ready.rests ready.sealed ready.shelf ready.kept ready.opens unused named small)) ∙ sym (told_changes (after_restart r0 n v) n v uuid (cs steady w n free node used r c a up v uuid vb ready.there ready.rests ready.sealed ready.shelf ready.kept ready.opens unused named small) lines)
+    told_on lines = ap (λ x. told_by x lines) (restart_past r0 n v n v uuid (cs steady w n free node used r c a up v uuid vb ready.there ready.rests ready.sealed ready.shelf ready.kept ready.opens unused named small)) ∙ sym (told_each_change (after_restart r0 n v) n v uuid (cs steady w n free node used r c a up v uuid vb ready.there ready.rests ready.sealed ready.shelf ready.kept ready.opens unused named small) lines)
 
     pub others_same : (u : ℕ) → (u ≡ v → ⊥) → (after.vbs u ≡ node.vbs u) × (after.shelves u ≡ node.shelves u)
     others_same u ne = (
@@ -285,9 +285,9 @@ module _ (steady : Steady) (crashes : Crashes) (w : PlainWorld) (n : ℕ) (free 
 
     -- the arm is told before or after the branch
     again : {count : ℕ} {answer_is : Answer} {w' : PlainWorld} {r' : Chronicle} → Ended q1 n count answer_is w' r' → Ended q n count answer_is w' r'
-    again {count = count} (Ended.Runs e p y) = Ended.Runs e (subst (λ (t : ArmTold). PassesIn count t.fuse) arms_q p) y
-    again {count = count} (Ended.Fails e f y) = Ended.Fails e (subst (λ (t : ArmTold). FailsIn count t.fuse) arms_q f) y
-    again {count = count} (Ended.Stops e f y) = Ended.Stops e (subst (λ (t : ArmTold). StopsIn count t.fuse) arms_q f) y
+    again {count = count} (Ended.Runs e p y) = Ended.Runs e (subst (λ (t : ArmKnown). PassesIn count t.fuse) arms_q p) y
+    again {count = count} (Ended.Fails e f y) = Ended.Fails e (subst (λ (t : ArmKnown). FailsIn count t.fuse) arms_q f) y
+    again {count = count} (Ended.Stops e f y) = Ended.Stops e (subst (λ (t : ArmKnown). StopsIn count t.fuse) arms_q f) y
 
     -- an arm that is off does not fire
     none_fails : (r.arm_at n).fuse ≡ Off → FailsIn 4 node.arm.fuse → ⊥
@@ -325,7 +325,7 @@ module _ (steady : Steady) (crashes : Crashes) (w : PlainWorld) (n : ℕ) (free 
           apart = λ u y. behind_apart u x.lines y.0 (x.apart u y.1);
           make = λ e. behind_make x.lines (x.make e);
           fires = x.fires;
-          ended = subst (λ ids. Ended q n (calls_behind (calls + 4) starts) came.1.answer (with_it came.0 ids) (told_by r (all_lines ++ x.lines))) (used_more x.lines) (subst (Ended q n (calls_behind (calls + 4) starts) came.1.answer (with_it came.0 ((used ++ uuid ∷ []) ++ flat_map branch_told x.lines))) (told_on x.lines) (again x.ended));
+          ended = subst (λ ids. Ended q n (calls_behind (calls + 4) starts) came.1.answer (with_it came.0 ids) (told_by r (all_lines ++ x.lines))) (still_used x.lines) (subst (Ended q n (calls_behind (calls + 4) starts) came.1.answer (with_it came.0 ((used ++ uuid ∷ []) ++ flat_map branch_of_line x.lines))) (told_on x.lines) (again x.ended));
         }
 
     -- the disk failed, and it goes on
@@ -343,7 +343,7 @@ module _ (steady : Steady) (crashes : Crashes) (w : PlainWorld) (n : ℕ) (free 
           apart = λ u y. behind_apart u more y.0 (x.apart u y.1);
           make = λ e. behind_make more (all_more n starts (Event.CallFailed n) x.lines (x.make e));
           fires = x.fires;
-          ended = subst (λ ids. Ended q n (calls_behind (calls + 4) starts) came.1.answer (with_it came.0 ids) (told_by r (all_lines ++ more))) (used_more more) (subst (Ended q n (calls_behind (calls + 4) starts) came.1.answer (with_it came.0 ((used ++ uuid ∷ []) ++ flat_map branch_told more))) (told_on more) (again x.ended));
+          ended = subst (λ ids. Ended q n (calls_behind (calls + 4) starts) came.1.answer (with_it came.0 ids) (told_by r (all_lines ++ more))) (still_used more) (subst (Ended q n (calls_behind (calls + 4) starts) came.1.answer (with_it came.0 ((used ++ uuid ∷ []) ++ flat_map branch_of_line more))) (told_on more) (again x.ended));
         }
 
     -- the node stopped
@@ -359,7 +359,7 @@ module _ (steady : Steady) (crashes : Crashes) (w : PlainWorld) (n : ℕ) (free 
       apart = λ u y. behind_apart u more y.0 tt;
       make = λ e. cc;
       fires = ⊎_elim (λ p. fires_once (before.events ++ all_lines) (Event.NodeStopped n) [] (calm_more before.events all_lines p.1 lines_calm) refl refl) (λ p. absurd (none_stops p.3 to_stop)) so_far;
-      ended = subst (λ ids. Ended q n (calls_behind (calls + 4) starts) (answer.No cause.Stopped) (with_it stopped.0 ids) (told_by r (all_lines ++ more))) (used_more more)
+      ended = subst (λ ids. Ended q n (calls_behind (calls + 4) starts) (answer.No cause.Stopped) (with_it stopped.0 ids) (told_by r (all_lines ++ more))) (still_used more)
           (subst (Ended q n (calls_behind (calls + 4) starts) (answer.No cause.Stopped) (with_it stopped.0 ((used ++ uuid ∷ []) ++ []))) (told_on more)
           (subst (λ ids. Ended q n (calls_behind (calls + 4) starts) (answer.No cause.Stopped) (with_it stopped.0 ids) r1) (sym (append-nil (used ++ uuid ∷ [])))
           (Ended.Stops refl (stops_more (calls + 4) (calls_behind (calls + 4) starts) (q.arm_at n).fuse (behind_more (calls + 4) starts) (stops_so to_stop)) (subst (λ o. Agrees (with_it (stopped_node node.arm.out after) (used ++ uuid ∷ [])) (after_crash r1 n o)) (sym out_so)

@@ -2,7 +2,7 @@
 use Rattle.std.specs.Prelude.{◌≡◌, ◌∷◌, ◌++◌, ◌==◌, ◌&&◌, if◌then◌else◌}
 use Rattle.transcript_law.proofs.Words.{ℕ, Bool, true, false, List, [], map, refl, ap, sym, ◌∙◌, eq-eqb, eqb-false, eqb-true, ne_eqb, Option, Some, not, Change, Event, Chronicle, LogEntry, after_branch, after_change, after_line, after_lines, option_map, with_at, with_entry, with_id}
 use Rattle.transcript_law.proofs.invariant.Tables.{at_there}
-use Rattle.transcript_law.specs.Chronicles.{ArmTold, DiskTold, after_calls, after_restart, after_restarts, after_up, broken_by, calls_of_append, is_off, known_log, spent, with_disk, with_record}
+use Rattle.transcript_law.specs.Chronicles.{ArmKnown, DiskKnown, after_calls, after_restart, after_restarts, after_up, broken_by, calls_of_append, is_off, known_log, spent, with_disk, with_record}
 use Rattle.transcript_law.specs.LinesTold.{roles_from}
 use Rattle.vb_disk.specs.declared.fuse.Fuse.{Fuse}
 use Rattle.vb_types.specs.declared.journal.Record.TheVariants as noted
@@ -43,9 +43,9 @@ starts_changes n v uuid [] lines x = x
 starts_changes n v uuid (c ∷ cs) lines x = starts_changes n v uuid cs lines x
 
 -- and are told before the others
-pub told_changes : (r : Chronicle) (n v uuid : ℕ) (cs : List Change) (lines : List Event) → told_by r (map (Event.Changed n v uuid) cs ++ lines) ≡ told_by (after_lines r (map (Event.Changed n v uuid) cs)) lines
-told_changes r n v uuid [] lines = refl
-told_changes r n v uuid (c ∷ cs) lines = told_changes (after_change r n v uuid c) n v uuid cs lines
+pub told_each_change : (r : Chronicle) (n v uuid : ℕ) (cs : List Change) (lines : List Event) → told_by r (map (Event.Changed n v uuid) cs ++ lines) ≡ told_by (after_lines r (map (Event.Changed n v uuid) cs)) lines
+told_each_change r n v uuid [] lines = refl
+told_each_change r n v uuid (c ∷ cs) lines = told_each_change (after_change r n v uuid c) n v uuid cs lines
 
 -- a vBucket that took its new branch, with this log
 abbrev restart_with : Option (List LogEntry) → Chronicle → ℕ → ℕ → Chronicle
@@ -74,7 +74,7 @@ at_swap table n v m q x y other = λ i k u. by k u (k == n && u == v) (k == m &&
     by k u false false f = refl
 
 -- a node is told down or not, whatever its arm is
-down_same : (arms : ℕ → ArmTold) (n m : ℕ) (f : Fuse) → (with_id arms n (record (arms n) { fuse = f }) m).down ≡ (arms m).down
+down_same : (arms : ℕ → ArmKnown) (n m : ℕ) (f : Fuse) → (with_id arms n (record (arms n) { fuse = f }) m).down ≡ (arms m).down
 down_same arms n m f = elim (m == n) as (λ b. (m == n) ≡ b → (if b then record (arms n) { fuse = f } else arms m).down ≡ (arms m).down) [ true ↦ λ e. ap (λ k. (arms k).down) (sym (eqb-true m n e)) | false ↦ λ e. refl ] refl
 
 -- the role of a vBucket that takes its branch is told, or was told with its branch
@@ -115,17 +115,17 @@ past r n v (other ∷ lines) apart = absurd apart
 -- that a node runs is told before or after a vBucket takes its branch
 
 -- the arms then
-arms_swap : (arms : ℕ → ArmTold) (n m : ℕ) (spend : Fuse → Fuse) → (let up : ℕ → ArmTold = with_id arms n (record (arms n) { down = false }) in let burnt : ℕ → ArmTold = with_id arms m (record (arms m) { fuse = spend (arms m).fuse }) in
+arms_swap : (arms : ℕ → ArmKnown) (n m : ℕ) (spend : Fuse → Fuse) → (let up : ℕ → ArmKnown = with_id arms n (record (arms n) { down = false }) in let burnt : ℕ → ArmKnown = with_id arms m (record (arms m) { fuse = spend (arms m).fuse }) in
     with_id up m (record (up m) { fuse = spend (up m).fuse }) ≡ with_id burnt n (record (burnt n) { down = false }))
 arms_swap arms n m spend = λ i j. by j (j == m) (j == n) (m == n) (n == m)
     (λ s t. let e : m ≡ n = sym (eqb-true j m s) ∙ eqb-true j n t in (ap (λ k. m == k) (sym e) ∙ eq-eqb m m refl, ap (λ k. n == k) e ∙ eq-eqb n n refl, ap arms e))
     (λ s t. ne_eqb m n (λ e. eqb-false j n t (eqb-true j m s ∙ e)))
     (λ s t. ne_eqb n m (λ e. eqb-false j m s (eqb-true j n t ∙ e))) i
   where
-    first : ArmTold → ArmTold
+    first : ArmKnown → ArmKnown
     first a = record a { fuse = spend a.fuse }
 
-    next : ArmTold → ArmTold
+    next : ArmKnown → ArmKnown
     next a = record a { down = false }
 
     by : (j : ℕ) (s t mn nm : Bool) → (s ≡ true → t ≡ true → (mn ≡ true) × (nm ≡ true) × (arms m ≡ arms n)) → (s ≡ true → t ≡ false → mn ≡ false) → (s ≡ false → t ≡ true → nm ≡ false)
@@ -141,7 +141,7 @@ restart_up r n m v = λ i. record (after_restart r m v) {
   arm_at = arms_swap r.arm_at n m (spent calls_of_append) i;
 }
   where
-    disk_with : Fuse → DiskTold
+    disk_with : Fuse → DiskKnown
     disk_with f =
         let d = r.disk_at m v in let what = noted.State role.Active (known_log (r.log_at m v)) in
         if is_off (spent calls_of_append f) && not (is_off f) then broken_by f (Some what) d else with_record what d
@@ -182,10 +182,10 @@ same_disks r (Event.CallFailed m ∷ lines) are = same_disks r lines are
 same_disks r (Event.NodeStopped m ∷ lines) are = same_disks r lines are
 same_disks r (other ∷ lines) are = absurd are
 
-pub same_arms : (r : Chronicle) (lines : List Event) → AreStarts lines → (after_lines r lines).arm_at ≡ r.arm_at
-same_arms r [] are = refl
-same_arms r (Event.Branch m v uuid parent fork high ∷ lines) are = same_arms (after_line r (Event.Branch m v uuid parent fork high)) lines are.1
-same_arms r (Event.Changed m q uuid change ∷ lines) are = same_arms (after_change r m q uuid change) lines are
-same_arms r (Event.CallFailed m ∷ lines) are = same_arms r lines are
-same_arms r (Event.NodeStopped m ∷ lines) are = same_arms r lines are
-same_arms r (other ∷ lines) are = absurd are
+pub arms_behind_starts : (r : Chronicle) (lines : List Event) → AreStarts lines → (after_lines r lines).arm_at ≡ r.arm_at
+arms_behind_starts r [] are = refl
+arms_behind_starts r (Event.Branch m v uuid parent fork high ∷ lines) are = arms_behind_starts (after_line r (Event.Branch m v uuid parent fork high)) lines are.1
+arms_behind_starts r (Event.Changed m q uuid change ∷ lines) are = arms_behind_starts (after_change r m q uuid change) lines are
+arms_behind_starts r (Event.CallFailed m ∷ lines) are = arms_behind_starts r lines are
+arms_behind_starts r (Event.NodeStopped m ∷ lines) are = arms_behind_starts r lines are
+arms_behind_starts r (other ∷ lines) are = absurd are

@@ -4,7 +4,7 @@ use Rattle.transcript_law.proofs.Words.{ℕ, Bool, true, false, List, [], refl, 
 use Rattle.transcript_law.proofs.Words.{after_lines, first_cause, is_active, is_one_of, done, refusal, refused_or, with_branches, with_id, with_node_at, node_outcome}
 use Rattle.transcript_law.proofs.{invariant.Agreement.{Agrees, AgreesIn, IsArm, LineGoes, PowerIs, PowerIsIf, book_in, idle}, disks.Burning.{Fires, Passes, burns, fails_more, opened_all, opened_hit, stops_more}, verbs.NodeLines.{more_used}, invariant.Rearming.{rearmed, told_arm, with_arm_told}, disks.Crashed.{crash_all}, verbs.Crashing.{stopped_agrees}, disks.Disks.{bare, power_in}, disks.Reloaded.{all_there, arm_here, arm_is, away_disk, book, no_ends, reloaded, so}, invariant.Seats.{seat}, verbs.Settling.{Steady}}
 use Rattle.transcript_law.proofs.{disks.Reloading.{loaded_rests}, verbs.Restarting.{fails_to, stops_to}, disks.Shelving.{loaded_at, loaded_of, opened_at_number}, verbs.StartIds.{active_at, active_listed, apart_zip, differ_active, each_active, free_zip, made_zip, ready_zip, was_active_in, zip_long, Each, AllDiffer}}
-use Rattle.transcript_law.proofs.{verbs.StartRuns.{AllMake, Crashes, Ended, Ready, Started, all_start, behind_is, calls_behind}, verbs.StartTold.{AreStarts, calls_before, same_arms, same_disks, told_by, up_each}, invariant.Tables.{id_here}}
+use Rattle.transcript_law.proofs.{verbs.StartRuns.{AllMake, Crashes, Ended, Ready, Started, all_start, behind_is, calls_behind}, verbs.StartTold.{AreStarts, calls_before, arms_behind_starts, same_disks, told_by, up_each}, invariant.Tables.{id_here}}
 use Rattle.branch_model.specs.Journals.{role_of}
 use Rattle.disk_journals.specs.Arms.{opens_all}
 use Rattle.cluster_model.specs.Clusters.{Disk}
@@ -20,7 +20,7 @@ use Rattle.node_world.specs.declared.arm.Arm.{Arm}
 use Rattle.node_world.specs.declared.arm.Fired.{Fired}
 use Rattle.node_world.specs.declared.arm.Fired.TheVariants as fired
 use Rattle.node_world.specs.declared.told.Told.{Told}
-use Rattle.transcript_law.specs.Chronicles.{ArmTold, DiskTold, after_calls, after_openings, after_restarts, after_start, after_stop, after_up, disks_of, down_told, finds, is_off, spent}
+use Rattle.transcript_law.specs.Chronicles.{ArmKnown, DiskKnown, after_calls, after_openings, after_restarts, after_start, after_stop, after_up, disks_of, known_down, finds, is_off, spent}
 use Rattle.transcript_law.specs.Firings.{FiresAsSaid}
 use Rattle.transcript_law.specs.Lawfulness.{IsToFail, IsToStop}
 use Rattle.transcript_law.specs.LineAnswers.{AllBranch, FailsIn, IsStarted, PassesIn, StopsIn, MakesBranch, calls_of_start, is_role_active, was_active, were_active}
@@ -47,18 +47,18 @@ module _ (r : Chronicle) (n : ℕ) (lines : List Event) (are : AreStarts lines) 
   -- what the line tells beside its lines, where it touched a disk
   openings_told : (said : Answer) → after_openings ((after_lines r lines).arm_at n).fuse (after_calls (disks_of (after_lines r lines) n) n (after_lines r lines)) n lines said ≡ after_openings f (after_lines opened lines) n lines said
   openings_told said =
-      (λ i. after_openings (same_arms r lines are i n).fuse (after_calls (length (filter (λ v. (same_disks r lines are i n v).there) (below 1024))) n (after_lines r lines)) n lines said)
+      (λ i. after_openings (arms_behind_starts r lines are i n).fuse (after_calls (length (filter (λ v. (same_disks r lines are i n v).there) (below 1024))) n (after_lines r lines)) n lines said)
       ∙ ap (λ x. after_openings f x n lines said) (calls_before (disks_of r n) n r lines are)
 
   fuse_is : ((after_lines opened lines).arm_at n).fuse ≡ spent (disks_of r n) f
-  fuse_is = ap (λ (t : ℕ → ArmTold). (t n).fuse) (same_arms opened lines are) ∙ ap (λ (t : ArmTold). t.fuse) (id_here r.arm_at n (record (r.arm_at n) { fuse = spent (disks_of r n) f }))
+  fuse_is = ap (λ (t : ℕ → ArmKnown). (t n).fuse) (arms_behind_starts opened lines are) ∙ ap (λ (t : ArmKnown). t.fuse) (id_here r.arm_at n (record (r.arm_at n) { fuse = spent (disks_of r n) f }))
 
   -- all were opened
   not_off : (is_off (spent (disks_of r n) f) && not (is_off f)) ≡ false → (is_off ((after_lines opened lines).arm_at n).fuse && not (is_off f)) ≡ false
   not_off e = ap (λ g. is_off g && not (is_off f)) fuse_is ∙ e
 
   abbrev hit : Chronicle
-  hit = record (after_lines opened lines) { arm_at = with_id (after_lines opened lines).arm_at n down_told }
+  hit = record (after_lines opened lines) { arm_at = with_id (after_lines opened lines).arm_at n known_down }
 
   -- the node runs before its branches are told, or after
   run_each : after_restarts (after_up n (after_lines opened lines)) lines ≡ told_by (after_up n opened) lines
@@ -85,12 +85,12 @@ at_made P w n uuids goes (Some node) known there down = by node.off refl down
     by (Some books) e off = goes node books known e
 
 -- a node that is not made is not told down, nor is one that runs
-absent_told : (told : ArmTold) (o : Option PlainNode) → PowerIsIf told (power_in o) → not (is_some o) ≡ true → told.down ≡ false
-absent_told told None p e = ap (λ (t : ArmTold). t.down) p
+absent_told : (told : ArmKnown) (o : Option PlainNode) → PowerIsIf told (power_in o) → not (is_some o) ≡ true → told.down ≡ false
+absent_told told None p e = ap (λ (t : ArmKnown). t.down) p
 absent_told told (Some node) p e = let z : false ≡ true = e in cc
 
-running_told : (told : ArmTold) (o : Option PlainNode) → PowerIsIf told (power_in o) → is_up o ≡ true → told.down ≡ false
-running_told told None p e = ap (λ (t : ArmTold). t.down) p
+running_told : (told : ArmKnown) (o : Option PlainNode) → PowerIsIf told (power_in o) → is_up o ≡ true → told.down ≡ false
+running_told told None p e = ap (λ (t : ArmKnown). t.down) p
 running_told told (Some node) p e = p.down ∙ by (is_some node.off) e
   where
     by : (b : Bool) → not b ≡ true → b ≡ false
@@ -98,11 +98,11 @@ running_told told (Some node) p e = p.down ∙ by (is_some node.off) e
     by false x = refl
 
 -- the last role of records as lines tell them
-role_bare : (js : List Record) → role_of (map bare js) ≡ role_of js
-role_bare [] = refl
-role_bare (noted.State said log ∷ older) = refl
-role_bare (noted.Rows b ∷ older) = role_bare older
-role_bare (noted.Roll to ∷ older) = role_bare older
+bare_role_of : (js : List Record) → role_of (map bare js) ≡ role_of js
+bare_role_of [] = refl
+bare_role_of (noted.State said log ∷ older) = refl
+bare_role_of (noted.Rows b ∷ older) = bare_role_of older
+bare_role_of (noted.Roll to ∷ older) = bare_role_of older
 
 -- a vBucket of which a role is told is active by the same words
 role_active : (o : Option Role) → is_active (or_dead o) ≡ is_role_active o
@@ -144,13 +144,13 @@ module _ (steady : Steady) (crashes : Crashes) (w : PlainWorld) (r : Chronicle) 
     -- ---- one is hit
 
     abbrev hit_all : Chronicle
-    hit_all = record (after_calls (disks_of r n) n r) { arm_at = with_id (after_calls (disks_of r n) n r).arm_at n down_told }
+    hit_all = record (after_calls (disks_of r n) n r) { arm_at = with_id (after_calls (disks_of r n) n r).arm_at n known_down }
 
     abbrev still_down : PlainNode
     still_down = record node { arm = unarmed }
 
     down_again : Agrees (with_node_at w n still_down) hit_all
-    down_again = subst (Agrees (with_node_at w n still_down)) (ap (λ t. record r { arm_at = t }) ((λ i. with_id r.arm_at n (record down_told { down = power.down i })) ∙ sym (id_twice r.arm_at n (record (r.arm_at n) { fuse = spent (disks_of r n) (r.arm_at n).fuse }) down_told))) (rearmed w r n node unarmed known tt (c, a))
+    down_again = subst (Agrees (with_node_at w n still_down)) (ap (λ t. record r { arm_at = t }) ((λ i. with_id r.arm_at n (record known_down { down = power.down i })) ∙ sym (id_twice r.arm_at n (record (r.arm_at n) { fuse = spent (disks_of r n) (r.arm_at n).fuse }) known_down))) (rearmed w r n node unarmed known tt (c, a))
 
     module _ (x : Fires count fuse) where
       off_now : (is_off ((after_calls (disks_of r n) n r).arm_at n).fuse && not (is_off (r.arm_at n).fuse)) ≡ true
@@ -210,7 +210,7 @@ module _ (steady : Steady) (crashes : Crashes) (w : PlainWorld) (r : Chronicle) 
       d_at v = c.disks (seat n v)
 
       role_same : (v : ℕ) → role_of (r.disk_at n v).book ≡ role_of (d_at v).book
-      role_same v = ap (λ (x : DiskTold). role_of x.book) (away_disk w r c n node books a known down opens v).told_is ∙ role_bare (d_at v).book
+      role_same v = ap (λ (x : DiskKnown). role_of x.book) (away_disk w r c n node books a known down opens v).told_is ∙ bare_role_of (d_at v).book
 
       active_same : (v : ℕ) → was_active_in (book_in books v) ≡ was_active (r.disk_at n v)
       active_same v = by (r.disk_at n v).there refl
@@ -236,7 +236,7 @@ module _ (steady : Steady) (crashes : Crashes) (w : PlainWorld) (r : Chronicle) 
         (
           tt,
           more_used (with_node_at w n (record node { arm = arm })) (after_start r n [] (answer.No cause.IdsShort)) []
-              (subst (Agrees (with_node_at w n (record node { arm = arm }))) (spent_is ∙ sym (ap (λ b. if b then record (after_calls (disks_of r n) n r) { arm_at = with_id (after_calls (disks_of r n) n r).arm_at n down_told } else after_calls (disks_of r n) n r) still))
+              (subst (Agrees (with_node_at w n (record node { arm = arm }))) (spent_is ∙ sym (ap (λ b. if b then record (after_calls (disks_of r n) n r) { arm_at = with_id (after_calls (disks_of r n) n r).arm_at n known_down } else after_calls (disks_of r n) n r) still))
               (rearmed w r n node arm known (subst IsArm (sym (burns count fuse power.may_fire)) passes.arm) (c, a))),
         ),
         (
@@ -282,7 +282,7 @@ module _ (steady : Steady) (crashes : Crashes) (w : PlainWorld) (r : Chronicle) 
           (record {
             reads = record { tree = refl; branch = refl; held = refl; writer = refl; role = refl; counts = refl; log = refl; snap = refl; saved = λ m q. refl };
             down = power.down;
-            spends = ap (λ (t : ArmTold). t.fuse) (arm_here w r c n node books a known down opens);
+            spends = ap (λ (t : ArmKnown). t.fuse) (arm_here w r c n node books a known down opens);
           })
           (inl (refl, refl, opened_past))
 
@@ -303,11 +303,11 @@ module _ (steady : Steady) (crashes : Crashes) (w : PlainWorld) (r : Chronicle) 
           (subst (λ bs. Each (λ u. MakesBranch n u lines) (active_ones bs)) books_so (made_zip n (active_ones books) uuids lines (ltb-false (length uuids) (length (active_ones books)) enough) make))
         where
           told_role : role_of (map bare (c.disks (seat n v)).book) ≡ Some role.Active
-          told_role = ap (λ (d : DiskTold). role_of d.book) (sym (away_disk w r c n node books a known down opens v).told_is) ∙ active
+          told_role = ap (λ (d : DiskKnown). role_of d.book) (sym (away_disk w r c n node books a known down opens v).told_is) ∙ active
 
           by : (b : Bool) → (r.disk_at n v).there ≡ b → (v < 1024) × (was_active_in (book_in books v) ≡ true)
           by false e = let z : None ≡ Some role.Active = ap (λ js. role_of (map bare js)) (sym ((book w r c n node books a known down v).1 e)) ∙ told_role in cc
-          by true e = (a.small n v e, ap was_active_in ((book w r c n node books a known down v).0 ∙ ap (λ b. if b then Some (c.disks (seat n v)).book else None) e) ∙ ap (λ o. is_active (or_dead o)) (sym (role_bare (c.disks (seat n v)).book) ∙ told_role))
+          by true e = (a.small n v e, ap was_active_in ((book w r c n node books a known down v).0 ∙ ap (λ b. if b then Some (c.disks (seat n v)).book else None) e) ∙ ap (λ o. is_active (or_dead o)) (sym (bare_role_of (c.disks (seat n v)).book) ∙ told_role))
 
           there_is : (v < 1024) × (was_active_in (book_in books v) ≡ true)
           there_is = by (r.disk_at n v).there refl

@@ -1,17 +1,17 @@
 -- each line of a script tells of nothing else than it may
 use Rattle.std.specs.Prelude.{◌≡◌, ◌∷◌, ◌++◌, ◌==◌, ◌&&◌, ◌||◌, if◌then◌else◌}
-use Rattle.transcript_law.proofs.Words.{ℕ, Bool, true, false, List, [], refl, sym, ◌∙◌, subst, map, flat_map, length, Option, Some, None, is_some, eq-eqb, and_parts, Answer, Cause, Event, EndReason, Role, VbVerb, NodeVerb, LinkVerb, ClientVerb, AdminCall, AdminTold, PlainLink, PlainNode, PlainWorld, Outcome, Told, VbAnswer, VbCall, VbReply, after, after_job, with_states, row_at, link_number}
-use Rattle.transcript_law.proofs.Words.{admin_call, admin_line, admin_told, branch_lines, bytes_at, call_at, called_at, cut_off, cut_outcome, done, first_cause, no_node, node_outcome, on_node, own_link, refusal, refused_or, role_outcome, turned_after, turned_if, with_ended, with_node_at}
+use Rattle.transcript_law.proofs.Words.{ℕ, Bool, true, false, List, [], refl, sym, ◌∙◌, subst, map, flat_map, length, Option, Some, None, is_some, eq-eqb, and_parts, Answer, Cause, Event, EndReason, Role, VbVerb, NodeVerb, LinkVerb, ClientVerb, AdminCall, AdminResult, PlainLink, PlainNode, PlainWorld, Outcome, Told, VbAnswer, VbCall, VbReply, after, after_job, with_states, row_at, link_number}
+use Rattle.transcript_law.proofs.Words.{admin_call, admin_line, admin_result, branch_lines, bytes_at, call_at, called_at, cut_off, cut_outcome, done, first_cause, no_node, node_outcome, on_node, own_link, refusal, refused_or, role_outcome, turned_after, turned_if, with_ended, with_node_at}
 use Rattle.disk_journals.specs.{Arms.{opens_all}, Books.{Book}}
-use Rattle.node_core.specs.{Calls.{own_lines, own_lines_if}, Admin.{admin_refused, promote_told, role_at, role_noted, role_told}, Dials.{DialTold, acknowledged_line, dial_due, untold}, Flushing.{FlushTold, flush_answered, flush_at, flush_if, flush_told, settled_by, settled_told}, Loading.{are_short, branch_in, start_job, start_told, starts_of}}
+use Rattle.node_core.specs.{Calls.{own_lines, own_lines_if}, Admin.{admin_refused, promote_result, role_at, role_noted, role_result}, Dials.{DialResult, acknowledged_line, dial_due, untold}, Flushing.{FlushResult, flush_answered, flush_at, flush_if, flush_result, settled_by, settled_result}, Loading.{are_short, branch_in, start_job, start_result, starts_of}}
 use Rattle.node_world.specs.{Arms.{fired_by, no_arm, placed, under_arm}, Dues.{done_step, due_at, due_in, due_of, is_counted}, Links.{dial_of}, Nodes.{all_posted, chain_causes, chain_line, chain_made, flush_line, save_line, tick_line, vb_made, with_kept, with_posts}}
-use Rattle.node_world.specs.{Power.{Starting, after_fire, all_numbers, burnt_arm, closed_line, closed_lines, crash_causes, crash_step, down_lines, dropped, end_line, end_lines, first_no, has_client, is_number, is_touched, loaded_node, not_opened, opened_at, opening_told, start_at, start_causes, start_if, start_one, start_step, started_by, starts_from, with_arm}, Turns.{posted_at, posted_in, role_called}, World.{cut_step}, Worlds.{arm_in, on_made}}
+use Rattle.node_world.specs.{Power.{Starting, after_fire, all_numbers, burnt_arm, closed_line, closed_lines, crash_causes, crash_step, down_lines, dropped, end_line, end_lines, first_no, has_client, is_this_number, is_touched, loaded_node, not_opened, opened_at, opening_told, start_at, start_causes, start_if, start_one, start_step, started_by, starts_from, with_arm}, Turns.{posted_at, posted_in, role_called}, World.{cut_step}, Worlds.{arm_in, on_made}}
 use Rattle.node_world.specs.declared.arm.Fired.{Fired}
 use Rattle.node_world.specs.declared.arm.Fired.TheVariants as fired
 use Rattle.transcript_law.proofs.{invariant.LinkRows.{found_is_link}, lines.Calm.{AnyAsk, any_job, due_keeps, either}, lines.ClientLines.{AreOfClients, IsOfClients, bytes_of_clients, posts_of_clients}, verbs.NodeLines.{on_made_by, on_node_by}}
 use Rattle.transcript_law.specs.Tellings.{are_all, at_client, at_link, at_node, at_vb, is_any, is_none, is_of_start}
 use Rattle.vb_calls.proofs.{Conduct.{after_always}, JobConduct.{after_job_always, always_bind_job}}
-use Rattle.vb_calls.specs.Flushes.{appended_job, batch_told, flush_job, part_job, role_job, taken_job, took}
+use Rattle.vb_calls.specs.Flushes.{appended_job, batch_of_reply, flush_job, part_job, role_job, taken_job, took}
 use Rattle.vb_calls.specs.Jobs.{AlwaysJob, Job, Ended}
 use Rattle.vb_calls.specs.Programs.{AnyCall, AnyReply}
 use Rattle.vb_calls.specs.Shelves.{DiskFailed, Flush, Idle, Out, Stood, WasClosed, Written, Fate}
@@ -76,7 +76,7 @@ module _ (q : Event → Bool) where
 
   are_down : (n : ℕ) (also : Option ℕ) (w : PlainWorld) → ((l : ℕ) → q (Event.Ended l EndReason.Cut) ≡ true) → ((c : ℕ) → q (Event.Closed n c) ≡ true) → Are (down_lines n also w)
   are_down n also w ends closes = are_more (end_lines n also w.links) (closed_lines n (w.nodes n))
-      (are_each (end_line n also w.links) all_numbers (λ l. either Are (is_number l also || is_touched n (row_at link_number l w.links)) (Event.Ended l EndReason.Cut ∷ []) [] (are_cons (Event.Ended l EndReason.Cut) [] (ends l) refl) refl))
+      (are_each (end_line n also w.links) all_numbers (λ l. either Are (is_this_number l also || is_touched n (row_at link_number l w.links)) (Event.Ended l EndReason.Cut ∷ []) [] (are_cons (Event.Ended l EndReason.Cut) [] (ends l) refl) refl))
       (are_each (closed_line n (w.nodes n)) all_numbers (λ c. either Are (has_client c (w.nodes n)) (Event.Closed n c ∷ []) [] (are_cons (Event.Closed n c) [] (closes c) refl) refl))
 
   are_armed : (n : ℕ) → OfDisk n → (w : PlainWorld) (came : Outcome) → Are came.1.events → Are (with_arm n w came).1.events
@@ -93,13 +93,13 @@ module _ (q : Event → Bool) where
     are_posts : (rs : List Resolved) (node : PlainNode) → Are (all_posted rs node).1
     are_posts rs node = are_clients clients (all_posted rs node).1 (posts_of_clients rs node)
 
-    are_posted : (told : FlushTold) (node : PlainNode) → Are told.events → Are (with_posts told node).1.events
+    are_posted : (told : FlushResult) (node : PlainNode) → Are told.events → Are (with_posts told node).1.events
     are_posted told node a = are_more told.events (all_posted told.resolved node).1 a (are_posts told.resolved node)
 
     changes : (n v uuid : ℕ) (reply : VbReply) → Are (map (Event.Changed n v uuid) reply.changes)
     changes n v uuid reply = are_map (Event.Changed n v uuid) reply.changes (λ c. clients (Event.Changed n v uuid c) tt)
 
-    are_settled : (n v : ℕ) (o : Option VbReply) → Are (settled_told n v o).events
+    are_settled : (n v : ℕ) (o : Option VbReply) → Are (settled_result n v o).events
     are_settled n v None = refl
     are_settled n v (Some reply) = by reply.answer
       where
@@ -107,36 +107,36 @@ module _ (q : Event → Bool) where
         by answer.Done = changes n v reply.branch reply
         by other = refl
 
-    settles : (n v : ℕ) (c : VbCall) (node : PlainNode) → (let x = call_at node.vbs v c (node.vbs v) in Are (with_posts (settled_told n v x.1) (with_states node x.0)).1.events)
-    settles n v c node = let x = call_at node.vbs v c (node.vbs v) in are_posted (settled_told n v x.1) (with_states node x.0) (are_settled n v x.1)
+    settles : (n v : ℕ) (c : VbCall) (node : PlainNode) → (let x = call_at node.vbs v c (node.vbs v) in Are (with_posts (settled_result n v x.1) (with_states node x.0)).1.events)
+    settles n v c node = let x = call_at node.vbs v c (node.vbs v) in are_posted (settled_result n v x.1) (with_states node x.0) (are_settled n v x.1)
 
     -- a change of role
     module _ (n v : ℕ) (branch : (uuid : ℕ) (parent : Option ℕ) (fork high : ℕ) → q (Event.Branch n v uuid parent fork high) ≡ true) (turn : (r : Role) → q (Event.Role n v r) ≡ true) (cuts : (l : ℕ) → q (Event.Ended l EndReason.Cut) ≡ true) where
-      rises : (uuid : ℕ) (o : Option VbReply) → Are (admin_told n v (AdminCall.Promote uuid) o).events
+      rises : (uuid : ℕ) (o : Option VbReply) → Are (admin_result n v (AdminCall.Promote uuid) o).events
       rises uuid None = refl
       rises uuid (Some reply) = by reply.answer
         where
-          by : (a : VbAnswer) → Are (promote_told n v reply a).events
+          by : (a : VbAnswer) → Are (promote_result n v reply a).events
           by (answer.Branch u parent fork high) = are_cons (Event.Branch n v u parent fork high) (Event.Role n v Role.Active ∷ own_lines n v reply) (branch u parent fork high) (are_cons (Event.Role n v Role.Active) (own_lines n v reply) (turn Role.Active) (changes n v reply.branch reply))
           by (answer.Status st) = refl
           by other = refl
 
-      turned_to : (r : Role) (reply : VbReply) (a : VbAnswer) → Are (role_told n v r reply a).events
+      turned_to : (r : Role) (reply : VbReply) (a : VbAnswer) → Are (role_result n v r reply a).events
       turned_to r reply answer.Done = are_cons (Event.Role n v r) [] (turn r) refl
       turned_to r reply other = refl
 
-      follows : (o : Option VbReply) → Are (admin_told n v AdminCall.Follow o).events
+      follows : (o : Option VbReply) → Are (admin_result n v AdminCall.Follow o).events
       follows None = refl
       follows (Some reply) = turned_to Role.Replica reply reply.answer
 
-      dies : (o : Option VbReply) → Are (admin_told n v AdminCall.Dead o).events
+      dies : (o : Option VbReply) → Are (admin_result n v AdminCall.Dead o).events
       dies None = refl
       dies (Some reply) = turned_to Role.Dead reply reply.answer
 
-      module _ (w : PlainWorld) (asked : AdminCall) (call_are : (o : Option VbReply) → Are (admin_told n v asked o).events) where
+      module _ (w : PlainWorld) (asked : AdminCall) (call_are : (o : Option VbReply) → Are (admin_result n v asked o).events) where
         at_once : (node : PlainNode) → Are (after_job (role_at n v asked) node.vbs node.shelves).1.events
-        at_once node = after_job_always AnyCall AnyAsk (λ (told : AdminTold). Are told.events) (role_at n v asked) node.vbs node.shelves
-            (always_bind_job AnyReply AnyCall AnyAsk (λ made. Unit {0}) (λ (told : AdminTold). Are told.events) (role_job v (admin_call asked)) (λ made. Ended (role_noted n v asked made)) (any_job (role_job v (admin_call asked))) (λ made any. call_are made.0))
+        at_once node = after_job_always AnyCall AnyAsk (λ (told : AdminResult). Are told.events) (role_at n v asked) node.vbs node.shelves
+            (always_bind_job AnyReply AnyCall AnyAsk (λ made. Unit {0}) (λ (told : AdminResult). Are told.events) (role_job v (admin_call asked)) (λ made. Ended (role_noted n v asked made)) (any_job (role_job v (admin_call asked))) (λ made any. call_are made.0))
 
         are_cut : (o : Option PlainLink) (w1 : PlainWorld) → Are (cut_off o w1).1
         are_cut None w1 = refl
@@ -149,7 +149,7 @@ module _ (q : Event → Bool) where
             by None = a
             by (Some node) = are_more t.events (all_posted rs node).1 a (are_posts rs node)
 
-        by_ended : (o : Option (List ℕ)) (w1 : PlainWorld) (told : AdminTold) → Are told.events → Are (turned_if n v w o (w1, told)).1.events
+        by_ended : (o : Option (List ℕ)) (w1 : PlainWorld) (told : AdminResult) → Are told.events → Are (turned_if n v w o (w1, told)).1.events
         by_ended None w1 told a = a
         by_ended (Some ids) w1 told a =
             let w2 : PlainWorld = with_ended n v ids w1 in let own = own_link n v w2.links in
@@ -159,7 +159,7 @@ module _ (q : Event → Bool) where
           called_are : (node : PlainNode) → Are (role_called n v asked node).1.events
           called_are node = by (is_some node.off)
             where
-              by : (b : Bool) → Are (let x : PlainNode × AdminTold = if b then (node, admin_refused Cause.NodeDown) else under_arm v (called_at n v asked) node in x.1.events)
+              by : (b : Bool) → Are (let x : PlainNode × AdminResult = if b then (node, admin_refused Cause.NodeDown) else under_arm v (called_at n v asked) node in x.1.events)
               by true = refl
               by false = called (placed v node)
 
@@ -180,13 +180,13 @@ all_pass (line ∷ lines) = all_pass lines
 abbrev Steps : (Flushed → Type 0) → Job Flushed → Type 0
 Steps P job = AlwaysJob AnyReply AnyCall AnyAsk P job
 
-flush_steps : (P : FlushTold → Type 0) (Q : Flushed → Type 0) (n v : ℕ) (p : FlushPart) (node : PlainNode) → P (flush_answered (Answer.No Cause.UnknownVb)) → ((came : Flushed) → Q came → P (flush_told n v came))
+flush_steps : (P : FlushResult → Type 0) (Q : Flushed → Type 0) (n v : ℕ) (p : FlushPart) (node : PlainNode) → P (flush_answered (Answer.No Cause.UnknownVb)) → ((came : Flushed) → Q came → P (flush_result n v came))
     → ((flush : Flush) → Steps Q (part_job v p flush)) → P (after_job (flush_at n v p) node.vbs node.shelves).1
 unfolding flush_job
 flush_steps P Q n v p node none some steps = after_job_always AnyCall AnyAsk P (flush_at n v p) node.vbs node.shelves (tt, λ reply any. by (is_some reply))
   where
     by : (b : Bool) → AlwaysJob AnyReply AnyCall AnyAsk P (flush_if n v p b)
-    by true = always_bind_job AnyReply AnyCall AnyAsk Q P (flush_job v p) (λ came. Ended (flush_told n v came)) (tt, steps) some
+    by true = always_bind_job AnyReply AnyCall AnyAsk Q P (flush_job v p) (λ came. Ended (flush_result n v came)) (tt, steps) some
     by false = none
 
 -- a take comes to a batch, or to none that is free
@@ -196,7 +196,7 @@ TakesSo flushed.BatchOut = Unit {0}
 TakesSo other = ⊥
 
 take_steps : (v : ℕ) (flush : Flush) → Steps TakesSo (part_job v part.Take flush)
-take_steps v Idle = (tt, λ reply any. by (batch_told reply))
+take_steps v Idle = (tt, λ reply any. by (batch_of_reply reply))
   where
     by : (o : Option Batch) → Steps TakesSo (taken_job v (λ batch. Ended (took batch)) o)
     by None = tt
@@ -234,17 +234,17 @@ done_steps v (Out batch) = tt
 done_steps v (Written seq) = (tt, λ kept. (tt, λ reply any. tt))
 
 -- nothing is posted where nothing was settled
-unposted : (q : Event → Bool) (told : FlushTold) (node : PlainNode) → Are q told.events → told.resolved ≡ [] → Are q (with_posts told node).1.events
+unposted : (q : Event → Bool) (told : FlushResult) (node : PlainNode) → Are q told.events → told.resolved ≡ [] → Are q (with_posts told node).1.events
 unposted q told node a none = are_more q told.events (all_posted told.resolved node).1 a (subst (λ rs. Are q (all_posted rs node).1) (sym none) refl)
 
-abbrev Alone : (Event → Bool) → FlushTold → Type 0
+abbrev Alone : (Event → Bool) → FlushResult → Type 0
 Alone q told = Are q told.events × (told.resolved ≡ [])
 
 -- ---- lines for a node
 
 starts_so : (n : ℕ) (branch : (v uuid : ℕ) (parent : Option ℕ) (fork high : ℕ) → is_of_start n (Event.Branch n v uuid parent fork high) ≡ true) → (v uuid : ℕ) (node : PlainNode) → Are (is_of_start n) (after_job (start_job n v uuid) node.vbs node.shelves).1.events
-starts_so n branch v uuid node = after_job_always AnyCall AnyAsk (λ (told : FlushTold). Are q told.events) (start_job n v uuid) node.vbs node.shelves
-    (always_bind_job AnyReply AnyCall AnyAsk (λ made. Unit {0}) (λ (told : FlushTold). Are q told.events) (role_job v (VbCall.Promote uuid)) (λ made. Ended (start_told n v made)) (any_job (role_job v (VbCall.Promote uuid))) (λ made any. by made.0 made.1))
+starts_so n branch v uuid node = after_job_always AnyCall AnyAsk (λ (told : FlushResult). Are q told.events) (start_job n v uuid) node.vbs node.shelves
+    (always_bind_job AnyReply AnyCall AnyAsk (λ made. Unit {0}) (λ (told : FlushResult). Are q told.events) (role_job v (VbCall.Promote uuid)) (λ made. Ended (start_result n v made)) (any_job (role_job v (VbCall.Promote uuid))) (λ made any. by made.0 made.1))
   where
     q : Event → Bool
     q = is_of_start n
@@ -253,7 +253,7 @@ starts_so n branch v uuid node = after_job_always AnyCall AnyAsk (λ (told : Flu
     in_answer (answer.Branch u parent fork high) = are_cons q (Event.Branch n v u parent fork high) [] (branch v u parent fork high) refl
     in_answer other = refl
 
-    by : (o : Option VbReply) (wrote : Wrote) → Are q (start_told n v (o, wrote)).events
+    by : (o : Option VbReply) (wrote : Wrote) → Are q (start_result n v (o, wrote)).events
     by None wrote = refl
     by (Some reply) wrote = are_more q (branch_in n v reply.answer) (own_lines n v reply) (in_answer reply.answer) (are_map q (Event.Changed n v reply.branch) reply.changes (λ c. eq-eqb n n refl))
 
@@ -265,7 +265,7 @@ module _ (n : ℕ) where
   starts_are [] so_far a = a
   starts_are (start ∷ starts) so_far a = by (fired_by so_far.0.arm.fuse (start_one n start so_far.0).0.arm.fuse) (starts_are starts)
     where
-      one : FlushTold
+      one : FlushResult
       one = (start_one n start so_far.0).1
 
       more : Are q (so_far.1.events ++ one.events)
@@ -356,37 +356,37 @@ module _ (w : PlainWorld) (n v : ℕ) where
   turn_role : (r : Role) → turns (Event.Role n v r) ≡ true
   turn_role r = λ i. same_place n v i || false || false
 
-  role_tells : (why : Option Cause) (asked : AdminCall) → ((o : Option VbReply) → Are turns (admin_told n v asked o).events) → ((node : PlainNode) → Are turns (called_at n v asked node).1.events)
+  role_tells : (why : Option Cause) (asked : AdminCall) → ((o : Option VbReply) → Are turns (admin_result n v asked o).events) → ((node : PlainNode) → Are turns (called_at n v asked node).1.events)
       → Are turns (with_arm n w (refused_or why w (role_outcome n v asked w))).1.events
   role_tells why asked call_are called =
       are_armed turns n turn_disk w (refused_or why w (role_outcome n v asked w))
       (are_unless turns why w (role_outcome n v asked w) (roles turns clients_turn n v turn_branch turn_role (λ l. refl) w asked call_are called))
 
-  call_so : (asked : AdminCall) → ((o : Option VbReply) → Are turns (admin_told n v asked o).events) → (node : PlainNode) → Are turns (after_job (role_at n v asked) node.vbs node.shelves).1.events
+  call_so : (asked : AdminCall) → ((o : Option VbReply) → Are turns (admin_result n v asked o).events) → (node : PlainNode) → Are turns (after_job (role_at n v asked) node.vbs node.shelves).1.events
   call_so asked call_are node = at_once turns clients_turn n v turn_branch turn_role (λ l. refl) w asked call_are node
 
   -- an operator's call that keeps the role
-  seal_so : (o : Option VbReply) → Are is_none (admin_told n v AdminCall.Seal o).events
+  seal_so : (o : Option VbReply) → Are is_none (admin_result n v AdminCall.Seal o).events
   seal_so None = refl
   seal_so (Some reply) = by reply.answer
     where
-      by : (a : VbAnswer) → Are is_none (admin_told n v AdminCall.Seal (Some (record reply { answer = a }))).events
+      by : (a : VbAnswer) → Are is_none (admin_result n v AdminCall.Seal (Some (record reply { answer = a }))).events
       by (answer.Flag sealed) = refl
       by other = refl
 
-  stat_so : (o : Option VbReply) → Are (at_vb n v VbVerb.Stat) (admin_told n v AdminCall.Stat o).events
+  stat_so : (o : Option VbReply) → Are (at_vb n v VbVerb.Stat) (admin_result n v AdminCall.Stat o).events
   stat_so None = refl
   stat_so (Some reply) = by reply.answer
     where
-      by : (a : VbAnswer) → Are (at_vb n v VbVerb.Stat) (admin_told n v AdminCall.Stat (Some (record reply { answer = a }))).events
+      by : (a : VbAnswer) → Are (at_vb n v VbVerb.Stat) (admin_result n v AdminCall.Stat (Some (record reply { answer = a }))).events
       by (answer.Stat windows items cursors saved high) = are_cons (at_vb n v VbVerb.Stat) (Event.Stat n v windows items cursors saved high) [] (same_place n v) refl
       by other = refl
 
-  log_so : (o : Option VbReply) → Are (at_vb n v VbVerb.Log) (admin_told n v AdminCall.Log o).events
+  log_so : (o : Option VbReply) → Are (at_vb n v VbVerb.Log) (admin_result n v AdminCall.Log o).events
   log_so None = refl
   log_so (Some reply) = by reply.answer
     where
-      by : (a : VbAnswer) → Are (at_vb n v VbVerb.Log) (admin_told n v AdminCall.Log (Some (record reply { answer = a }))).events
+      by : (a : VbAnswer) → Are (at_vb n v VbVerb.Log) (admin_result n v AdminCall.Log (Some (record reply { answer = a }))).events
       by (answer.Logged log) = are_cons (at_vb n v VbVerb.Log) (Event.Logged n v log) [] (same_place n v) refl
       by other = refl
 
@@ -396,7 +396,7 @@ module _ (w : PlainWorld) (n v : ℕ) where
       let q = at_vb n v VbVerb.Take in let y = after_job (flush_at n v part.Take) node.vbs node.shelves in
       let a : Alone q y.1 = flush_steps (Alone q) TakesSo n v part.Take node (refl, refl) by (take_steps v) in unposted q y.1 (with_kept node y.0) a.0 a.1
     where
-      by : (came : Flushed) → TakesSo came → Alone (at_vb n v VbVerb.Take) (flush_told n v came)
+      by : (came : Flushed) → TakesSo came → Alone (at_vb n v VbVerb.Take) (flush_result n v came)
       by (flushed.Took ss se at count) s = (either (Are (at_vb n v VbVerb.Take)) (count == 0) [] (Event.Batch n v ss se at count ∷ []) refl (are_cons (at_vb n v VbVerb.Take) (Event.Batch n v ss se at count) [] (same_place n v) refl), refl)
       by flushed.BatchOut s = (refl, refl)
       by other s = absurd s
@@ -406,7 +406,7 @@ module _ (w : PlainWorld) (n v : ℕ) where
       let q = at_vb n v VbVerb.Save in let at : PlainNode = placed v node in let y = after_job (flush_at n v part.Save) at.vbs at.shelves in
       let a : Alone q y.1 = flush_steps (Alone q) SavesSo n v part.Save at (refl, refl) by (save_steps v) in unposted q y.1 (with_kept at y.0) a.0 a.1
     where
-      by : (came : Flushed) → SavesSo came → Alone (at_vb n v VbVerb.Save) (flush_told n v came)
+      by : (came : Flushed) → SavesSo came → Alone (at_vb n v VbVerb.Save) (flush_result n v came)
       by flushed.Saved s = (refl, refl)
       by flushed.NothingTaken s = (refl, refl)
       by flushed.Closed s = (refl, refl)
@@ -418,7 +418,7 @@ module _ (w : PlainWorld) (n v : ℕ) where
       let q = at_vb n v VbVerb.Done in let y = after_job (flush_at n v part.Done) node.vbs node.shelves in
       are_posted q clients_done y.1 (with_kept node y.0) (flush_steps (λ told. Are q told.events) EndsSo n v part.Done node refl by (done_steps v))
     where
-      by : (came : Flushed) → EndsSo came → Are (at_vb n v VbVerb.Done) (flush_told n v came).events
+      by : (came : Flushed) → EndsSo came → Are (at_vb n v VbVerb.Done) (flush_result n v came).events
       by (flushed.Done reply) s = are_own (at_vb n v VbVerb.Done) n v (λ uuid reply. changes (at_vb n v VbVerb.Done) clients_done n v uuid reply) reply
       by flushed.NothingTaken s = refl
       by other s = absurd s
@@ -430,7 +430,7 @@ module _ (w : PlainWorld) (n v : ℕ) where
       q = at_vb n v VbVerb.Done
 
       acks : (link : PlainLink) (node : PlainNode) → Are q (after (dial_due (dial_of link)) node.vbs).1.events
-      acks link node = after_always AnyCall (λ (t : DialTold). Are q t.events) (dial_due (dial_of link)) node.vbs
+      acks link node = after_always AnyCall (λ (t : DialResult). Are q t.events) (dial_due (dial_of link)) node.vbs
           (due_keeps (Are q) (λ lines d seq saved b. are_more q lines (acknowledged_line d seq saved ∷ []) b refl) (untold (dial_of link)) refl)
 
       at : (link : PlainLink) (o : Option PlainNode) → Are q (due_at n link came.0 came.1 o).1.events

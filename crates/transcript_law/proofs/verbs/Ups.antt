@@ -1,10 +1,10 @@
 -- lines that move a consumer's bytes to its producer: all lines are lawful, and after them all agree
 use Rattle.std.specs.Prelude.{◌≡◌, ◌∷◌, ◌++◌}
 use Rattle.node_world.specs.Links.{frame_up, frames_up, untold_peer}
-use Rattle.transcript_law.proofs.Words.{ℕ, List, [], refl, sym, ◌∙◌, subst, append-nil, Some, Frame, frames_in, left_of, StaysSound, row_at, PeerTold, PlainLink, link_number, producer_node, consumer_node, moved_len, peer_of, up_at}
+use Rattle.transcript_law.proofs.Words.{ℕ, List, [], refl, sym, ◌∙◌, subst, append-nil, Some, Frame, frames_in, left_of, StaysSound, row_at, PeerResult, PlainLink, link_number, producer_node, consumer_node, moved_len, peer_of, up_at}
 use Rattle.transcript_law.proofs.Words.{PlainNode, PlainWorld, with_node_at, with_link, on_link, Chronicle, after_lines, moved, up_moved, StreamName}
 use Rattle.transcript_law.proofs.invariant.Agreement.{vb_of, consumer_seat, producer_seat, Talk, LinkAgrees, idle, Agrees, EndsStand, GoesOn, spoken, wants_of}
-use Rattle.transcript_law.proofs.{invariant.Carried.{told_none, one_here, one_idle, one_none, talk_same}, invariant.Carrying.{Relinked}, links.Counting.{ack_next}, verbs.NodeLines.{as_told, on_link_goes, same_node}, invariant.OneLink.{mine, carries_link, carries_same}}
+use Rattle.transcript_law.proofs.{invariant.Carried.{told_of_same, one_here, one_idle, one_none, talk_same}, invariant.Carrying.{Relinked}, links.Counting.{ack_next}, verbs.NodeLines.{as_told, on_link_goes, node_of_same_vbs}, invariant.OneLink.{mine, carries_link, carries_same}}
 use Rattle.transcript_law.proofs.{invariant.Ranged.{IsRanged, NodeRanged, NodeRangedIf}, verbs.Settling.{Steady}, links.Talks.{come, read_link, read_talk}, lines.Telling.{none_before, before_all}, links.Unread.{answering}}
 use Rattle.transcript_law.proofs.links.Upward.{Now, asking_next, link_now, served_at, world_at}
 
@@ -16,7 +16,7 @@ module _ (stays : StaysSound) (steady : Steady) (w : PlainWorld) (r : Chronicle)
   l = link_number link
 
   -- one frame is answered
-  one_answered : (f : Frame) (fs : List Frame) (x : PlainNode × PeerTold) → Now w r n link found (f ∷ fs) x → Now w r n link found fs (frame_up f x)
+  one_answered : (f : Frame) (fs : List Frame) (x : PlainNode × PeerResult) → Now w r n link found (f ∷ fs) x → Now w r n link found fs (frame_up f x)
   one_answered f fs x now = by la.talk.stands
     where
       la : LinkAgrees (world_at w r n link found x) (after_lines r x.1.events) now.cluster (served_at w r n link found x.1) (f ∷ fs) []
@@ -30,7 +30,7 @@ module _ (stays : StaysSound) (steady : Steady) (w : PlainWorld) (r : Chronicle)
       by (EndsStand.IsStreaming t) = ack_next stays steady w r n link found f fs x now t
 
   -- all frames are answered
-  all_answered : (fs : List Frame) (x : PlainNode × PeerTold) → Now w r n link found fs x → Now w r n link found [] (frames_up fs x)
+  all_answered : (fs : List Frame) (x : PlainNode × PeerResult) → Now w r n link found fs x → Now w r n link found [] (frames_up fs x)
   all_answered [] x now = now
   all_answered (f ∷ fs) x now = all_answered fs (frame_up f x) (one_answered f fs x now)
 
@@ -39,11 +39,11 @@ module _ (stays : StaysSound) (steady : Steady) (w : PlainWorld) (r : Chronicle)
     bytes = come link n
 
     -- the node and the connection before a frame is answered
-    abbrev first : PlainNode × PeerTold
+    abbrev first : PlainNode × PeerResult
     first = (node, untold_peer (record (peer_of link) { heard = left_of bytes }))
 
     same : Relinked w (with_node_at w (producer_node link) node) w.links
-    same = same_node w (producer_node link) node node known (λ q. refl) (λ q. refl) refl
+    same = node_of_same_vbs w (producer_node link) node node known (λ q. refl) (λ q. refl) refl
 
     same_vbs : (k q : ℕ) → vb_of (world_at w r n link found first) k q ≡ vb_of w k q
     same_vbs = same.vbs
@@ -63,7 +63,7 @@ module _ (stays : StaysSound) (steady : Steady) (w : PlainWorld) (r : Chronicle)
           cluster = c;
           lawful = none_before r;
           agrees = carries_link idle (answering l (frames_in bytes)) w (world_at w r n link found first) r r c l link (served_at w r n link found first.1) a found
-              (record { dialed = refl; desk = refl }) (record { powers = same.powers; vbs = same_vbs; shelves = same.shelves; uuids = refl; linked = refl }) (λ has. has) (told_none l r) (one_idle l (frames_in bytes, []))
+              (record { dialed = refl; desk = refl }) (record { powers = same.powers; vbs = same_vbs; shelves = same.shelves; uuids = refl; linked = refl }) (λ has. has) (told_of_same l r) (one_idle l (frames_in bytes, []))
               (subst (λ p. LinkAgrees (world_at w r n link found first) r c (served_at w r n link found first.1) p.0 p.1) (sym (one_here l (frames_in bytes, []))) lb);
           desk = refl;
           heard = refl;
@@ -71,7 +71,7 @@ module _ (stays : StaysSound) (steady : Steady) (w : PlainWorld) (r : Chronicle)
         }
 
     -- all frames that came whole were answered
-    ended : (y : PlainNode × PeerTold) → Now w r n link found [] y → GoesOn r as_told (world_at w r n link found y, moved n y.1.events)
+    ended : (y : PlainNode × PeerResult) → Now w r n link found [] y → GoesOn r as_told (world_at w r n link found y, moved n y.1.events)
     ended y now = (
       before_all r y.1.events now.lawful,
       (

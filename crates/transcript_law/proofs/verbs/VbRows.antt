@@ -7,7 +7,7 @@ use Rattle.node_world.specs.{Arms.{placed}, Dues.{done_step}, Nodes.{chain_cause
 use Rattle.transcript_law.proofs.invariant.{Agreement.{Agrees, LineGoes}, AtRest.{Still, admin_still, chain_still, due_still, flush_still, made_rests, node_still, role_still, still_steps, tick_still, weaker}, CallsKept.{armed_all, unless_all}, Entering.{Entered, made_entered, noted_entered, save_entered, seal_entered}}
 use Rattle.transcript_law.proofs.invariant.{FedLines.{chain_less, due_fine, flush_less, made_less, refused_less, tick_less, unless_fine}, Feeding.{armed_fine, node_fine, role_fine}, Quiets.{Ends, dead_ends, follow_ends, promote_ends}, Unopened.{NoNew, OpensNone, step_new}}
 use Rattle.transcript_law.proofs.invariant.Ranged.{IsRanged, admin_ranged, armed_ranged, chain_ranged, due_ranged, flush_ranged, kept_or, kept_ranged, on_node_ranged, role_ranged, save_ranged, tick_ranged, unless_ranged}
-use Rattle.transcript_law.proofs.disks.{AppendAnswers.{AndPosts, AppendCame, ShutIs, came_keeps}, AppendLines.{AnyPosts, NewShutIs, NoLines, dead_came, follow_came, promote_came, replica_came, save_line_came, vb_came}, Fired.{armed_fires}}
+use Rattle.transcript_law.proofs.disks.{AppendAnswers.{AndPosts, AppendCame, ShutAgrees, came_keeps}, AppendLines.{AnyPosts, NewShutIs, NoLines, dead_came, follow_came, promote_came, replica_came, save_line_came, vb_came}, Fired.{armed_fires}}
 use Rattle.transcript_law.proofs.{lines.Refusals.{Same, Says, on_node_says, refused_says}, verbs.BoundAnswers.{bound_armed, bound_at, done_refused, role_refused}}
 use Rattle.transcript_law.proofs.verbs.FiredLines.{admin_spared, done_taken, due_fires, flush_spared, made_calm, refused_calm, role_calm, rows_fire, save_calm, settled_fires, take_taken}
 use Rattle.transcript_law.proofs.verbs.LineAnswers.{AllTold, IsOk, admin_says, armed_answered, done_line_says, new_shut_at, no_ok, opens_of, save_taken, settled_says, shut_at, take_line_says, told_of_opens}
@@ -61,7 +61,7 @@ module _ (w : PlainWorld) (n v : ℕ) where
 
     role_row : (what : VbVerb) → vb_kind what ≡ kind.Notes → admin_job n v asked ≡ role_at n v asked
         → ((node : PlainNode) (ids : List ℕ) → (called_at n v asked (placed v node)).1.ended ≡ Some ids → Ends node.vbs (called_at n v asked (placed v node)).0.vbs v)
-        → (Lines : List Event → Type 0) → ((closed : Bool) → ShutIs closed w n v → AppendCame Lines closed w n turn) → EntersBy what → GoesBy what (with_arm n w turn) → TellsOf (Verb.AtVb n v what) (with_arm n w turn).1.events → Row w (Verb.AtVb n v what) (with_arm n w turn)
+        → (Lines : List Event → Type 0) → ((closed : Bool) → ShutAgrees closed w n v → AppendCame Lines closed w n turn) → EntersBy what → GoesBy what (with_arm n w turn) → TellsOf (Verb.AtVb n v what) (with_arm n w turn).1.events → Row w (Verb.AtVb n v what) (with_arm n w turn)
     role_row what notes job ends Lines came entered goes tells = let y : Outcome = role_outcome n v asked w in let why : Option Cause = first_cause rows in let x : Told = (with_arm n w turn).1 in record {
       ranged = λ fits here. armed_ranged n w turn (unless_ranged w y why here (role_ranged w n v asked here));
       rests = λ r here a all. weaker (with_arm n w turn).0 (armed_all Still IsTimely still_steps (λ id. tt) n w turn (unless_all Still IsTimely still_steps (λ id. tt) w y why all (role_still w n v asked here all)));

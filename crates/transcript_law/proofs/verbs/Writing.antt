@@ -1,6 +1,6 @@
 -- lines that send a request
 use Rattle.std.specs.Prelude.{◌≡◌, ◌+◌, ◌<◌, ◌≤◌, ◌∷◌, ◌++◌, ◌⊎◌, ◌^◌, if◌then◌else◌}
-use Rattle.{branch_model.specs.Journals.{place_of}, cluster_model.specs.Clusters.{Fulfils, spanned}, durability.specs.declared.waiting.Waiting.{Waiting}, vb_calls.specs.Shelves.{Shelf}, vbucket.specs.Laws.{CasUpTo, OpensOwn}, vb_calls.specs.{Durable.{is_delete, prepare_change}, Following.{cas_of}}, vb_types.specs.declared.change.Level.{Level}, transcript_law.proofs.invariant.Bounded.{weighs_push}, transcript_law.specs.Chronicles.{CountsTold}, transcript_law.specs.Lawfulness.{IsHeldIfCommitted}}
+use Rattle.{branch_model.specs.Journals.{place_of}, cluster_model.specs.Clusters.{Fulfils, spanned}, durability.specs.declared.waiting.Waiting.{Waiting}, vb_calls.specs.Shelves.{Shelf}, vbucket.specs.Laws.{CasUpTo, OpensOwn}, vb_calls.specs.{Durable.{is_delete, prepare_change}, Following.{cas_of}}, vb_types.specs.declared.change.Level.{Level}, transcript_law.proofs.invariant.Bounded.{weighs_push}, transcript_law.specs.Chronicles.{CountsKnown}, transcript_law.specs.Lawfulness.{IsHeldIfCommitted}}
 use Rattle.transcript_law.proofs.{invariant.Agreement.{DiskIsIf, shelf_of}, disks.Disks.{ShelfIs, disk_same, grown_spots, parts_of, same_parts, shelf_spanned}, invariant.OneLink.{disk_here, disk_there}}
 use Rattle.transcript_law.proofs.Words.{ℕ, Bool, true, false, List, [], refl, ap, sym, ◌∙◌, subst, inl, inr, ⊎_elim, arith, Option, Some, None}
 use Rattle.transcript_law.proofs.Words.{nat_lt, All, cases_lt, nat_tests, All-push, WriteFits, Change, Doc, MAX_SEQ, LogEntry, Picture, image_of, Role, Status, Write, Position, upto, Rises, last_seq, fork_of, HasLast}
@@ -12,7 +12,7 @@ use Rattle.transcript_law.proofs.invariant.Seats.{seat, seats_apart}
 use Rattle.transcript_law.proofs.invariant.Tables.{at_here, at_there, if_known}
 use Rattle.transcript_law.proofs.invariant.Trees.{ids_grow, told_grow, told_below, told_found, new_grow, is_told_grow}
 use Rattle.transcript_law.proofs.invariant.Wholes.{joined_opens, WholeTo, fork_held, whole_before, spanned_active}
-use Rattle.transcript_law.proofs.invariant.Agreement.{vb_of, DocFits, ActFits, ChangeFits, BranchIs, Writes, WritesIf, own_history, VbAgrees, AgreesAt, consumer_seat, producer_seat, LinkAgrees, IsLink, LinksDiffer, top, idle, AgreesIn, vb_row, vb_contents}
+use Rattle.transcript_law.proofs.invariant.Agreement.{vb_of, DocFits, ActFits, ChangeFits, BranchAgrees, Writes, WritesIf, own_history, VbAgrees, AgreesAt, consumer_seat, producer_seat, LinkAgrees, IsLink, LinksDiffer, top, idle, AgreesIn, vb_row, vb_contents}
 use Rattle.transcript_law.proofs.invariant.Carrying.{Changed}
 use Rattle.transcript_law.proofs.invariant.Carried.{places, numbers, not_both, kept_same, link_carried, StaysProducer, all_vbs}
 use Rattle.transcript_law.proofs.invariant.OneLink.{put_here, put_there}
@@ -33,7 +33,7 @@ pub write_fulfils : (image : Picture) (vb : Plain) (write : Write) (cas : ℕ) �
 write_fulfils image vb write cas number committed deleted e = absurd (no_commit write.op (written_doc write cas (new_rev (doc_at vb write.key))) number committed deleted e)
 
 -- so nobody has to hold it
-pub write_unheld : (counts : CountsTold) (saved : ℕ) (image : Picture) (vb : Plain) (write : Write) (cas : ℕ) → IsHeldIfCommitted counts saved image (write_change vb write cas)
+pub write_unheld : (counts : CountsKnown) (saved : ℕ) (image : Picture) (vb : Plain) (write : Write) (cas : ℕ) → IsHeldIfCommitted counts saved image (write_change vb write cas)
 write_unheld counts saved image vb write cas number committed deleted e = absurd (no_commit write.op (written_doc write cas (new_rev (doc_at vb write.key))) number committed deleted e)
 
 -- the document of a write
@@ -58,7 +58,7 @@ prepare_fits vb write clock level f alone small l = record { seq = omega arith; 
 pub prepare_fulfils : (image : Picture) (vb : Plain) (write : Write) (level : Level) (cas : ℕ) → Fulfils image (prepare_change vb write level cas)
 prepare_fulfils image vb write level cas number committed deleted e = cc
 
-pub prepare_unheld : (counts : CountsTold) (saved : ℕ) (image : Picture) (vb : Plain) (write : Write) (level : Level) (cas : ℕ) → IsHeldIfCommitted counts saved image (prepare_change vb write level cas)
+pub prepare_unheld : (counts : CountsKnown) (saved : ℕ) (image : Picture) (vb : Plain) (write : Write) (level : Level) (cas : ℕ) → IsHeldIfCommitted counts saved image (prepare_change vb write level cas)
 prepare_unheld counts saved image vb write level cas number committed deleted e = cc
 
 -- a write that is not refused
@@ -266,7 +266,7 @@ module _ (w : PlainWorld) (r : Chronicle) (cl : Cluster) (n v : ℕ) (node : Pla
             let there = member_at in
             omega (arith, there, settled, tips, tip, level, next)
 
-        by : (o : Option ℕ) → BranchIs o (cl.nodes (seat m q)).br → upto (known_history r.tree o) x.position.at ≡ upto (known_history after.tree o) x.position.at
+        by : (o : Option ℕ) → BranchAgrees o (cl.nodes (seat m q)).br → upto (known_history r.tree o) x.position.at ≡ upto (known_history after.tree o) x.position.at
         by None is = refl
         by (Some u) is = ⊎_elim
             (λ same. sym (grow_below r.tree member.br change u x.position.at (low (is ∙ same))))

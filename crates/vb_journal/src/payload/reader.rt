@@ -1,7 +1,7 @@
 //! What bytes are as a record. Each function takes what it reads off the front of the bytes; where
 //! it reads nothing it may take a part.
 ghost use Rattle.std.specs.Prelude.{◌≡◌, ◌≤◌, length, IfOk, option_map};
-ghost use Rattle.{vb_journal.specs.declared.payload.TheConstants.{DOC_HEAD, ROWS_HEAD}, vb_journal.specs.Payloads.{number_64, role_in, flag_in, entry_in, entries_in, log_in, doc_with, doc_in, remove_in, prepare_in, commit_in, abort_in, act_in, item_in, items_in, is_below, rise, changes_in, batch_in, state_in, roll_in, record_in}};
+ghost use Rattle.{vb_journal.specs.declared.payload.TheConstants.{DOC_HEAD, ROWS_HEAD}, vb_journal.specs.Payloads.{number_64, role_by_byte, flag_in, entry_in, entries_in, log_in, doc_with, doc_in, remove_in, prepare_in, commit_in, abort_in, act_in, item_in, items_in, is_below, rise, changes_in, batch_in, state_in, roll_in, record_in}};
 
 use super::{
     DOC_HEAD, ENTRY_LEN, ITEM_HEAD, MAX_LOG, MAX_PAYLOAD, ROLL, ROWS, ROWS_HEAD, STATE, VERSION,
@@ -14,7 +14,7 @@ use vb_types::{
 };
 
 fn role_of(byte: u8) -> Option<Role>
-    ensures { result ≡ role_in byte }
+    ensures { result ≡ role_by_byte byte }
 {
     match byte {
         1 => Some(Role::Active),

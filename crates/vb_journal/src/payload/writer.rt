@@ -150,7 +150,7 @@ fn put_act(out: &mut Vec<u8>, act: &Act) -> Result<(), AllocError>
 }
 
 #[tactic(auto, unfolding(crate::specs::Payloads::item_bytes))]
-fn put_item(out: &mut Vec<u8>, item: &Change) -> Result<(), AllocError>
+fn write_item(out: &mut Vec<u8>, item: &Change) -> Result<(), AllocError>
     ensures bytes { OnOk result (out.new.items ≡ out.old.items ++ item_bytes item.now) }
     ensures fits { OnOk result (ItemFits item.now) }
 {
@@ -169,7 +169,7 @@ fn put_items(out: &mut Vec<u8>, items: &[Change]) -> Result<(), AllocError>
     ensures fits { OnOk result (All ItemFits items.now) }
 {
     for item in items {
-        put_item(out, item)?;
+        write_item(out, item)?;
     }
     Ok(())
 }

@@ -61,7 +61,7 @@ impl VBucket {
         if !following::follows(self.role) {
             return Ok(self.told(VbAnswer::Status(Status::NotMyVbucket)));
         }
-        if !following::fits_marker(self.position, self.first, start, end) {
+        if !following::takes_marker(self.position, self.first, start, end) {
             return Ok(self.told(VbAnswer::Status(Status::Erange)));
         }
         self.list.seal()?;

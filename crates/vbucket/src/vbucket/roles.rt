@@ -3,7 +3,7 @@ ghost use Rattle.std.specs.Prelude.{◌≡◌, ◌<◌, true, false, not, is_som
 ghost use Rattle.std.specs.List.{fold};
 ghost use Rattle.durability.specs.Chains.{committed_now};
 ghost use Rattle.durability.specs.Outstanding.{acked, no_acks};
-ghost use Rattle.vb_calls.specs.Streams.{close_row, closed_stream};
+ghost use Rattle.vb_calls.specs.Streams.{close_row, without_stream};
 ghost use Rattle.branch_model.specs.Logs.{Lacks};
 ghost use Rattle.vb_calls.specs.declared.calls.VbAnswer.TheVariants.{Flag};
 ghost use Rattle.vb_calls.specs.declared.calls.VbCall.TheVariants.{Promote};
@@ -17,7 +17,7 @@ ghost use Rattle.ckpt_list.specs.Windows.{ArePartsAbove};
 ghost use Rattle.vbucket.specs.Kept.{SameChanges, SealedIf};
 ghost use Rattle.vbucket.specs.Promoting as spec;
 ghost use Rattle.vbucket.specs.Settling.{with_commits, with_made};
-ghost use Rattle.vbucket.specs.Steady.{AreFed};
+ghost use Rattle.vbucket.specs.Steady.{CursorsAreStreams};
 
 use super::settling::{Plan, ambiguous, resolve_all};
 use super::{VBucket, complete_at, entering};
@@ -232,10 +232,10 @@ fn add_left(left: &mut Active, prepares: &[(Key, Pend)]) -> Result<(), AllocErro
 
 /// Takes away a stream and its cursor. No stream has the number 0.
 fn close(list: &mut CkptList, streams: &mut Vec<Stream>, id: u64)
-    requires { AreFed list.old.places list.old.floor streams.old.items }
-    ensures streams { streams.new.items ≡ closed_stream id streams.old.items }
+    requires { CursorsAreStreams list.old.places list.old.floor streams.old.items }
+    ensures streams { streams.new.items ≡ without_stream id streams.old.items }
     ensures list { SameChanges list.old list.new }
-    ensures fed { AreFed list.new.places list.new.floor streams.new.items }
+    ensures fed { CursorsAreStreams list.new.places list.new.floor streams.new.items }
 {
     streams::close(streams, id);
     if id == 0 {
@@ -246,9 +246,9 @@ fn close(list: &mut CkptList, streams: &mut Vec<Stream>, id: u64)
 
 /// Takes the cursors of these streams away.
 fn drop_cursors(list: &mut CkptList, streams: &[Stream])
-    requires { AreFed list.old.places list.old.floor streams.now }
+    requires { CursorsAreStreams list.old.places list.old.floor streams.now }
     ensures changes { SameChanges list.old list.new }
-    ensures none { AreFed list.new.places list.new.floor [] }
+    ensures none { CursorsAreStreams list.new.places list.new.floor [] }
 {
     for stream in streams {
         list.drop_cursor(stream.id);

@@ -99,7 +99,7 @@ fn commit(
 
 /// Tells the outcome to who waits for it; nobody does under 0.
 fn tell(resolved: &mut Listed<Resolved>, waiter: u64, how: Resolution) -> Result<(), AllocError>
-    ensures { OnOk result (resolved.new ≡ spec.also_told waiter how resolved.old) }
+    ensures { OnOk result (resolved.new ≡ spec.with_outcome waiter how resolved.old) }
 {
     if waiter == 0 {
         return Ok(());

@@ -15,5 +15,5 @@ loop-change-init c =
 
 pub loop-change-preserved : goal.loop-change-preserved
 loop-change-preserved c =
-    puts_to c.last-last.result c.args.newest.now c.from-rest.result.items (c.loop-change.full.items, c.loop-change.newest) (c.put_next.new.full.items, c.put_next.new.newest) c.in-Some.change
-    c.loop-change.rest.items c.pop_front.new.self.items c.loop-change.invariant c.in-Some.ensures.items c.in_default-put_next.ensures.ok
+    puts_to c.last-last.result c.args.newest.now c.from-rest.result.items (c.loop-change.full.items, c.loop-change.newest) (c.put_in_newest.new.full.items, c.put_in_newest.new.newest) c.in-Some.change
+    c.loop-change.rest.items c.pop_front.new.self.items c.loop-change.invariant c.in-Some.ensures.items c.in_default-put_in_newest.ensures.ok

@@ -14,4 +14,4 @@ pub returns-clause-dials : goal.returns-clause-dials
 returns-clause-dials c = λ w n v node vb there here. dials w n v node vb there here
 
 pub returns-clause-frames : goal.returns-clause-frames
-returns-clause-frames c = λ w l link producer open_link from. frames w l link producer open_link from
+returns-clause-frames c = λ w l link producer add_link from. frames w l link producer add_link from

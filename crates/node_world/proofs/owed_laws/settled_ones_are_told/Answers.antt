@@ -5,4 +5,4 @@ pub returns-clause-lines : goal.returns-clause-lines
 returns-clause-lines c = λ w n v node vb there up here. outcomes w n node there up v vb here
 
 pub returns-clause-ups : goal.returns-clause-ups
-returns-clause-ups c = λ w l link producer open_link from. ups_tell w l link producer open_link from
+returns-clause-ups c = λ w l link producer add_link from. ups_tell w l link producer add_link from

@@ -1,6 +1,6 @@
 use Rattle.std.specs.Prelude.{◌≡◌, ◌≤◌, ◌∷◌}
 use Rattle.transcript_law.proofs.Words.{ℕ, [], length, ap, sym, ◌∙◌, refl, inl, inr, ⊎_elim, arith}
-use Rattle.transcript_law.specs.Chronicles.{CountsTold}
+use Rattle.transcript_law.specs.Chronicles.{CountsKnown}
 use Rattle.transcript_law.proofs.rows.CommitRows.{again_held, again_lawful, anew_held, anew_lawful, started_held, may, must, one_at_least, two_at_least}
 use Rattle.vb_types.specs.declared.change.Level.TheVariants.{Majority, MajorityPersistActive, PersistMajority}
 use Rattle.transcript_law.proofs.commits.judged_commits.Goals as goal
@@ -41,7 +41,7 @@ returns c = record {
   again_chained = λ l. let x = one_at_least (again_held _ _ l.0) (omega arith) in absurd x.2;
   again_counted = (again_lawful _ _ (record { members = 1 ∷ []; differ = (λ i. i, tt); each = ((inl refl, inl (refl, omega arith)), tt); most = omega arith; saved_for = λ w. absurd w }), tt);
   alone_again = (record { another = λ e. cc; anew = λ e. refl }, tt);
-  chained_active = λ l. let same : ◌≡◌ {A = ℕ} 1 0 = ap (λ (t : CountsTold). length t.chain) (l.0.anew refl) in absurd (omega (arith, same));
+  chained_active = λ l. let same : ◌≡◌ {A = ℕ} 1 0 = ap (λ (t : CountsKnown). length t.chain) (l.0.anew refl) in absurd (omega (arith, same));
   crashed = (record { another = λ e. cc; anew = λ e. refl }, tt);
   anew = (anew_lawful _ _ (record { members = []; differ = tt; each = tt; most = omega arith; saved_for = λ w. absurd w }), tt);
   anew_chained = λ l. let x = one_at_least (anew_held _ _ l.0) (omega arith) in absurd x.2;

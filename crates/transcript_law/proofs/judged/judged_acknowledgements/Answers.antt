@@ -75,7 +75,7 @@ returns c = record {
   elsewhere = λ l. let same : ◌≡◌ {A = ℕ} 2 1 = ap node_in l.0.fed.1.1 in absurd (omega (arith, same));
   ungranted = λ l. let e = l.0.fed.1.2 in absurd cc;
   saved = (acked_is_lawful third_saved 1 0 1 2 2 0 _ (record { at = 2; ss = 0; se = 2 }) (third_held.held 1 0) refl refl refl unmade refl refl refl (omega arith) (omega arith) refl (λ key e is third low. low) (all_followed _), tt);
-  missaid = λ l. let same : 3 ≡ 2 = l.0.saved_told in absurd (omega (arith, same));
+  missaid = λ l. let same : 3 ≡ 2 = l.0.saved_as_known in absurd (omega (arith, same));
   astray = λ l. let same : ◌≡◌ {A = ℕ} 9 5 = ap number_in l.0.fed.1.3 ∙ sym (ap branch_in l.0.fed.1.2) in absurd (omega (arith, same));
   lost = λ l.
       let of_five : ◌≡◌ {A = ℕ} 5 (stream_branch l.0.fed.0) = ap branch_in l.0.fed.1.2 in
@@ -84,7 +84,7 @@ returns c = record {
       let (x, i, stands) = follows.has (Slot.Committed (7 ∷ [])) one_change refl (omega arith) (omega arith) in
       ⊎_elim (λ e. other_key (sym (ap (λ (c : Change). c.key) e) ∙ key_as x one_change stands)) (λ j. absurd j) i;
   unsaved_below = λ l. let few : 2 ≤ 0 = l.0.thirds (7 ∷ []) third below_waits refl (omega arith) in absurd (omega arith);
-  below_unsaved = (
+  below_the_unsaved = (
     acked_is_lawful third_held 1 0 1 1 0 0 _ (record { at = 2; ss = 0; se = 2 }) (third_held.held 1 0) refl refl refl unmade refl refl refl (omega arith) (omega arith) refl
         (λ key e is third low. let up : 1 < e.seq = pends_above 1 2 (third_held.held 1 0) key e (omega arith, omega arith) is in absurd (omega arith)) (all_followed _),
     tt,

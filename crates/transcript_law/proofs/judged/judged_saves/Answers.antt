@@ -22,8 +22,8 @@ returns c = record {
   early = early;
   stands = refl;
   counts = refl;
-  numbers = (record { saved_told = refl; high_held = refl; flusher = omega arith; filled = omega arith }, tt);
-  more_saved = λ l. two_numbers 1 2 (omega arith) (sym l.0.saved_told);
+  numbers = (record { saved_as_known = refl; high_held = refl; flusher = omega arith; filled = omega arith }, tt);
+  more_saved = λ l. two_numbers 1 2 (omega arith) (sym l.0.saved_as_known);
   other_last = λ l. two_numbers 2 3 (omega arith) (sym l.0.high_held);
   no_cursor = λ l. let e : ◌≡◌ {A = ℕ} 0 0 = refl in absurd (omega (arith, l.0.flusher));
   empty_span = empty_span;

@@ -4,7 +4,7 @@ use Rattle.std.specs.List.{All}
 use Rattle.std.specs.List.Sorted.{IsNonDecreasingBy}
 use Rattle.checkpoint.specs.Checkpoints.{Ckpt, ckpt_span}
 use Rattle.ckpt_list.specs.Lists.{Ckpts, sealed_list}
-use Rattle.ckpt_list.specs.Windows.{ends_with}
+use Rattle.ckpt_list.specs.Windows.{ends_behind}
 use Rattle.ckpt_list.proofs.Seals.{moved, sealed_on, wholes_below, wholes_sorted}
 use Rattle.ckpt_list.proofs.ckpt_list.CkptList.seal.Goals as goal
 
@@ -28,7 +28,7 @@ invariant_of-self-2 c =
       places = v.cursors;
       floor = v.floor;
     } in
-    moved (sealed_list l) made _ _ (sym same) (sym (put.wholes ∙ ap (ends_with (ckpt_span k)) c.make_room.ensures.wholes)) (sealed_on l v.wholes.items c.self.invariant put.light)
+    moved (sealed_list l) made _ _ (sym same) (sym (put.wholes ∙ ap (ends_behind (ckpt_span k)) c.make_room.ensures.wholes)) (sealed_on l v.wholes.items c.self.invariant put.light)
 
 pub returns-clause-ok : goal.returns-clause-ok
 returns-clause-ok c =

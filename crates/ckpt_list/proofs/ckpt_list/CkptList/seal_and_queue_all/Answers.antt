@@ -6,7 +6,7 @@ use Rattle.vb_types.specs.declared.change.Change.{Change}
 use Rattle.checkpoint.specs.Checkpoints.{Ckpt, ckpt_last, ckpt_span, empty_ckpt, items_weight}
 use Rattle.ckpt_list.specs.Lists.{Ckpts, sealed_list}
 use Rattle.ckpt_list.specs.Sound.{HasWholes}
-use Rattle.ckpt_list.specs.Windows.{CanSeal, Sealed, ends_with, put_in, queued_all, sealed_behind}
+use Rattle.ckpt_list.specs.Windows.{CanSeal, Sealed, ends_behind, put_in, queued_all, sealed_behind}
 use Rattle.ckpt_list.proofs.Seals.{sealed_on, sealed_sound, wholes_below, wholes_sorted}
 use Rattle.ckpt_list.proofs.Queues.{Filling, count_light, ends_count, filling, full_can_seal, full_sealed, span_count}
 use Rattle.ckpt_list.proofs.ckpt_list.CkptList.seal_and_queue_all.Goals as goal
@@ -58,8 +58,8 @@ seal_all-requires-clause-can c =
     filling (sealed_list l) (sealed_list c.args.self.now) all full k (sealed_sound l v.wholes.items c.self.invariant.sound c.self.invariant.wholes).0 (ap sealed_list c.self.view_is) c.requires
     (c.in_ok-full.ensures.ok ∙ ap (λ (n : Ckpt). fold put_in ([], n) all) fresh) in
     let put = c.seal_behind.ensures in
-    let ends : List ℕ = ends_with (ckpt_span v.newest) v.wholes.items in
-    subst (λ es. CanSeal es full) (sym (put.wholes ∙ ap (ends_with (ckpt_span v.newest)) c.make_room.ensures.wholes)) (full_can_seal (sealed_list l) ends all full k (sealed_on l v.wholes.items c.self.invariant put.light) f)
+    let ends : List ℕ = ends_behind (ckpt_span v.newest) v.wholes.items in
+    subst (λ es. CanSeal es full) (sym (put.wholes ∙ ap (ends_behind (ckpt_span v.newest)) c.make_room.ensures.wholes)) (full_can_seal (sealed_list l) ends all full k (sealed_on l v.wholes.items c.self.invariant put.light) f)
 
 pub invariant_of-self-2 : goal.invariant_of-self-2
 invariant_of-self-2 c =
@@ -74,12 +74,12 @@ invariant_of-self-2 c =
     (c.in_ok-full.ensures.ok ∙ ap (λ (n : Ckpt). fold put_in ([], n) all) fresh) in
     let put = c.seal_behind.ensures in
     let room = c.make_room.ensures in
-    let ends : List ℕ = ends_with (ckpt_span v.newest) v.wholes.items in
+    let ends : List ℕ = ends_behind (ckpt_span v.newest) v.wholes.items in
     let old : Sealed = record { spans = (sealed_list l).sealed; items = (sealed_list l).items; ends = ends } in
     let kept : record { spans = c.seal_behind.new.sealed.items; items = c.seal_behind.new.items.items; ends = c.seal_behind.new.wholes.items } ≡ old = λ i. record {
       spans = (put.sealed ∙ ap (λ ws. ws ++ option_to_list (ckpt_span v.newest)) room.sealed) i;
       items = (put.items ∙ ap (λ xs. xs ++ v.newest.items) room.items) i;
-      ends = (put.wholes ∙ ap (ends_with (ckpt_span v.newest)) room.wholes) i;
+      ends = (put.wholes ∙ ap (ends_behind (ckpt_span v.newest)) room.wholes) i;
     } in
     let s : Sealed = record { spans = c.seal_all.new.sealed.items; items = c.seal_all.new.items.items; ends = c.seal_all.new.wholes.items } in
     let made : s ≡ fold sealed_behind old full = c.seal_all.ensures.sealed ∙ ap (λ (t : Sealed). fold sealed_behind t full) kept in
@@ -99,12 +99,12 @@ returns-clause-ok c =
     (c.in_ok-full.ensures.ok ∙ ap (λ (n : Ckpt). fold put_in ([], n) all) fresh) in
     let put = c.seal_behind.ensures in
     let room = c.make_room.ensures in
-    let ends : List ℕ = ends_with (ckpt_span v.newest) v.wholes.items in
+    let ends : List ℕ = ends_behind (ckpt_span v.newest) v.wholes.items in
     let old : Sealed = record { spans = (sealed_list l).sealed; items = (sealed_list l).items; ends = ends } in
     let kept : record { spans = c.seal_behind.new.sealed.items; items = c.seal_behind.new.items.items; ends = c.seal_behind.new.wholes.items } ≡ old = λ i. record {
       spans = (put.sealed ∙ ap (λ ws. ws ++ option_to_list (ckpt_span v.newest)) room.sealed) i;
       items = (put.items ∙ ap (λ xs. xs ++ v.newest.items) room.items) i;
-      ends = (put.wholes ∙ ap (ends_with (ckpt_span v.newest)) room.wholes) i;
+      ends = (put.wholes ∙ ap (ends_behind (ckpt_span v.newest)) room.wholes) i;
     } in
     let s : Sealed = record { spans = c.seal_all.new.sealed.items; items = c.seal_all.new.items.items; ends = c.seal_all.new.wholes.items } in
     let made : s ≡ fold sealed_behind old full = c.seal_all.ensures.sealed ∙ ap (λ (t : Sealed). fold sealed_behind t full) kept in

@@ -3,18 +3,18 @@ use Rattle.std.specs.List.{find}
 use Rattle.std.specs.List.Sorted.{IsNonDecreasingBy}
 use Rattle.checkpoint.specs.Checkpoints.{ckpt_span}
 use Rattle.ckpt_list.specs.Lists.{Ckpts}
-use Rattle.ckpt_list.specs.Sound.{IsSound, whole_by, whole_ends}
-use Rattle.ckpt_list.proofs.Stops.{stop_sealed}
+use Rattle.ckpt_list.specs.Sound.{IsSound, whole_by, ends_of_whole}
+use Rattle.ckpt_list.proofs.Stops.{stop_of_sealed}
 use Rattle.ckpt_list.proofs.Seals.{wholes_sorted}
 use Rattle.ckpt_list.proofs.ckpt_list.CkptList.sealed_stop.Goals as goal
 
 pub returns : goal.returns
 returns c =
     let l : Ckpts = c.args.self.now in
-    let ends : c.deref.result.now ≡ whole_ends l.sealed = c.deref.ensures.value ∙ c.self.invariant.wholes ∙ ap (λ (m : Ckpts). whole_ends m.sealed) c.self.view_is in
+    let ends : c.deref.result.now ≡ ends_of_whole l.sealed = c.deref.ensures.value ∙ c.self.invariant.wholes ∙ ap (λ (m : Ckpts). ends_of_whole m.sealed) c.self.view_is in
     c.unless_split.ensures ∙ ap (λ o. whole_by o c.first_above.result) c.current.ensures
     ∙ ap (whole_by (ckpt_span l.newest)) (c.first_above.ensures ∙ ap (find (λ e. ltb c.args.n e)) ends)
-    ∙ stop_sealed l c.args.n (subst IsSound c.self.view_is c.self.invariant.sound)
+    ∙ stop_of_sealed l c.args.n (subst IsSound c.self.view_is c.self.invariant.sound)
 
 pub first_above-requires : goal.first_above-requires
 first_above-requires c = subst (IsNonDecreasingBy (λ (e : ℕ). e)) (sym (c.deref.ensures.value ∙ c.self.invariant.wholes)) (wholes_sorted _ c.self.invariant.sound)

@@ -5,7 +5,7 @@ use Rattle.vb_types.specs.declared.change.Change.{Change}
 use Rattle.checkpoint.specs.Checkpoints.{has_seen}
 use Rattle.ckpt_list.specs.Lists.{Ckpts}
 use Rattle.ckpt_list.specs.Sound.{IsSound}
-use Rattle.ckpt_list.proofs.Stops.{first_of, first_within, stop_end, stop_or, stop_open, stop_none}
+use Rattle.ckpt_list.proofs.Stops.{first_of, first_within, stop_end, stop_or, stop_of_open, stop_none}
 use Rattle.ckpt_list.proofs.Seals.{items_sorted}
 use Rattle.ckpt_list.proofs.ckpt_list.CkptList.whole_end.Goals as goal
 
@@ -33,7 +33,7 @@ returns-in-None-clause-stop c =
     let first : first_of c.args.place c.args.sync l.items ≡ None =
     sym (c.first_seen.ensures ∙ ap (first_of c.args.place c.args.sync) (c.deref.ensures.value ∙ ap (λ (m : Ckpts). m.items) c.self.view_is)) ∙ c.in-None.is in
     let seen : has_seen c.args.sync c.args.place l.newest.items ≡ true = sym (c.has_seen.ensures ∙ ap (λ (m : Ckpts). has_seen c.args.sync c.args.place m.newest.items) c.self.view_is) ∙ c.if-has_seen.true in
-    c.open_stop-in-None.ensures ∙ stop_open l c.args.place c.args.need c.args.sync (subst IsSound c.self.view_is c.self.invariant.sound) first seen
+    c.open_stop-in-None.ensures ∙ stop_of_open l c.args.place c.args.need c.args.sync (subst IsSound c.self.view_is c.self.invariant.sound) first seen
 
 pub returns-in-None-2-clause-stop : goal.returns-in-None-2-clause-stop
 returns-in-None-2-clause-stop c =

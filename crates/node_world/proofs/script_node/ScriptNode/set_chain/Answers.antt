@@ -1,7 +1,7 @@
 use Rattle.std.proofs.Common.{◌∙◌, refl, sym}
 use Rattle.std.proofs.lemmas.Result.{IfOk-weaker}
 use Rattle.durability.specs.Chains.{chain_of}
-use Rattle.node_core.specs.Flushing.{chain_set}
+use Rattle.node_core.specs.Flushing.{chain_changed}
 use Rattle.node_world.specs.Stands.{node_number}
 use Rattle.node_world.proofs.Chaining.{chain_carried, chain_refused}
 use Rattle.node_world.proofs.Nodes.{inside, settles}
@@ -21,6 +21,6 @@ returns-in_ok-out-in-Some c =
     IfOk-weaker c.tell_out.result _ _
     (λ told went. chain_carried c.args.v c.args.others.now c.in-Some.chain old c.tell_out.new.self told
     ((λ i. chain_of (sym c.number.ensures i) (sym c.in_ok-members.ensures.items i)) ∙ sym c.new.ensures ∙ c.in-Some.is)
-    (settles_told (λ plain. chain_set n c.args.v c.in-Some.chain) old (inside old c.set_chain.new.self) c.tell_out.new.self c.in_ok-out-in-Some.out told
-    (settles (λ plain. chain_set n c.args.v c.in-Some.chain) old (chain_set n c.args.v c.in-Some.chain) c.in_ok-out-in-Some.out c.set_chain.new.self (λ plain stands. refl) c.in_ok-out-in-Some.ensures.ok) went))
+    (settles_told (λ plain. chain_changed n c.args.v c.in-Some.chain) old (inside old c.set_chain.new.self) c.tell_out.new.self c.in_ok-out-in-Some.out told
+    (settles (λ plain. chain_changed n c.args.v c.in-Some.chain) old (chain_changed n c.args.v c.in-Some.chain) c.in_ok-out-in-Some.out c.set_chain.new.self (λ plain stands. refl) c.in_ok-out-in-Some.ensures.ok) went))
     c.tell_out.ensures

@@ -44,7 +44,7 @@ returns-in_default-answer c = λ w stands.
     (known.0, c.of.ensures ∙ known.1)
 
 pub returns : goal.returns
-returns c = IfOk-weaker c.open_link.result _ _ (λ told opens w stands.
+returns c = IfOk-weaker c.add_link.result _ _ (λ told opens w stands.
     let known = dialed_link _ w c.args.asked.line c.args.asked.link c.args.asked.producer c.args.asked.node c.args.asked.vb c.in-Some-node_place.at c.in-Some.serving c.index_mut.result.now c.dial.new.self
     c.in_ok-out.out c.is_none-is_free.result c.link_place.result
     (in_inside c.args.self.now _ c.deref-2.result.now c.args.asked.node c.node_place-2.result c.self.view_is c.deref-2.ensures.value c.node_place-2.ensures ∙ c.in-Some-node_place.is)
@@ -55,4 +55,4 @@ returns c = IfOk-weaker c.open_link.result _ _ (λ told opens w stands.
     (off_at _ w c.args.asked.node c.in-Some-node_place.at c.index-2.result.now c.index-2.result.now (in_inside c.args.self.now _ c.deref-2.result.now c.args.asked.node c.node_place-2.result c.self.view_is c.deref-2.ensures.value c.node_place-2.ensures ∙ c.in-Some-node_place.is) c.index-2.ensures (stands_in c.args.self.now _ w c.self.view_is stands) ∙ seen_up c.index-2.result.now.off c.is_up-runs.result c.is_up-runs.ensures c.if-not-runs.false)) c.in-Ok.is opens.server opens.peer opens.conn opens.found opens.opens c.in_ok-out.out.out refl in (
       subst (λ (k : Kept). WorldStands k (link_step w c.args.asked.line c.args.asked.link c.args.asked.producer c.args.asked.node c.args.asked.vb).0) (sym opens.after) known.0,
       opens.said ∙ known.1,
-    )) c.open_link.ensures
+    )) c.add_link.ensures

@@ -9,8 +9,8 @@ use Rattle.ckpt_list.specs.Lists.{between, held_of, stop_of}
 use Rattle.vbucket.specs.Kept.{Kept, kept_take, sent_items}
 use Rattle.vbucket.specs.contracts.vbucket.VBucket as row
 use Rattle.cursor_set.specs.Cursors.{place_of}
-use Rattle.vbucket.proofs.Receiving.{of_most}
-use Rattle.vbucket.proofs.Feeding.{fed_at, moved_zero, numbered}
+use Rattle.vbucket.proofs.Receiving.{most_tested}
+use Rattle.vbucket.proofs.Feeding.{fed_at, zero_stays, numbered}
 use Rattle.vbucket.proofs.Steadying.{may_go, moved_steady, stop_above, took}
 use Rattle.vbucket.proofs.vbucket.VBucket.take.Goals as goal
 
@@ -49,12 +49,12 @@ returns-clause-ok c =
     let memory : v.list.floor ≤ s.place = omega (arith, c.if-stream-floor.false, c.floor.ensures) in
     let new : Kept = record { rest = record (row.the_view v).rest { streams = ss }; list = c.advance.new.self } in
     subst (λ (k : Kept). (new, c.told-2.result) ≡ kept_take k c.args.id) c.self.view_is
-    (took (row.the_view v) c.args.id c.in-Some-whole_end.end s c.advance.new.self ss c.told-2.result there (of_most v.list.floor s.place memory) stop c.advance.ensures moved told)
+    (took (row.the_view v) c.args.id c.in-Some-whole_end.end s c.advance.new.self ss c.told-2.result there (most_tested v.list.floor s.place memory) stop c.advance.ensures moved told)
 
 pub returns-clause-zero : goal.returns-clause-zero
 returns-clause-zero c =
     let v = c.self.inside in
     let s = c.in-Some.stream.now in
     let there : stream_at c.args.id v.streams.items ≡ Some s = ap (stream_at c.args.id) (sym c.deref.ensures.value) ∙ sym c.stream_of.ensures ∙ ap option_copied c.in-Some.is in
-    moved_zero v.list c.advance.new.self c.args.id c.in-Some-whole_end.end (numbered v.list.places v.list.floor v.streams.items c.args.id s c.self.invariant.fed there) c.advance.ensures
+    zero_stays v.list c.advance.new.self c.args.id c.in-Some-whole_end.end (numbered v.list.places v.list.floor v.streams.items c.args.id s c.self.invariant.fed there) c.advance.ensures
     ∙ ap (λ (k : Kept). place_of k.list.places 0) c.self.view_is

@@ -1,14 +1,14 @@
 use Rattle.std.proofs.Common.{◌≡◌, ◌+◌, suc, false, ap, refl, sym, subst, get_or, drop, arith}
 use Rattle.vb_calls.specs.declared.stream.Stream.{Stream}
 use Rattle.ckpt_list.specs.Lists.{Ckpts}
-use Rattle.vbucket.proofs.Feeding.{AreGone, dropped_same, gone_first, gone_next, numbered_at, same_more}
+use Rattle.vbucket.proofs.Feeding.{AreGone, dropped_same, first_stream_gone, gone_next, numbered_at, same_more}
 use Rattle.vbucket.proofs.vbucket.roles.drop_cursors.Goals as goal
 
 abbrev none : Stream
 none = record { id = 0; ask = record { flags = 0; start = 0; end = 0; uuid = 0; ss = 0; se = 0 }; sync = false; place = 0; taken = false }
 
 pub loop-stream-init : goal.loop-stream-init
-loop-stream-init c = (record { rest = refl; zero = refl }, gone_first c.args.list.now.places c.args.list.now.floor c.args.streams.now c.requires)
+loop-stream-init c = (record { rest = refl; zero = refl }, first_stream_gone c.args.list.now.places c.args.list.now.floor c.args.streams.now c.requires)
 
 pub drop_cursor-requires : goal.drop_cursor-requires
 drop_cursor-requires c =

@@ -1,6 +1,6 @@
 use Rattle.std.proofs.lemmas.Result.{IfOk-weaker}
 use Rattle.node_world.proofs.StartRuns.{starts_next}
-use Rattle.node_world.proofs.script_node.ScriptNode.start_next.Goals as goal
+use Rattle.node_world.proofs.script_node.ScriptNode.start_one_more.Goals as goal
 
 pub returns : goal.returns
 returns c =

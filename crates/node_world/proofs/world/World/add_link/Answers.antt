@@ -1,6 +1,6 @@
 use Rattle.std.proofs.Common.{◌≡◌, ◌∙◌, ◌++◌, ◌∷◌, [], get_or, set, subst}
 use Rattle.node_world.specs.Stands.{Kept}
-use Rattle.node_world.proofs.world.World.open_link.Goals as goal
+use Rattle.node_world.proofs.world.World.add_link.Goals as goal
 
 pub returns : goal.returns
 returns c =

@@ -2,7 +2,7 @@ use Rattle.std.proofs.Common.{◌≤◌}
 use Rattle.node_world.specs.Stands.{WorldStands}
 use Rattle.node_world.specs.Starts.{Cutting}
 use Rattle.node_world.specs.Worlds.{PlainWorld}
-use Rattle.node_world.proofs.world.World.cut_all.Given as goal
+use Rattle.node_world.proofs.world.World.cut_links_of.Given as goal
 
 abbrev pub invariant-loop-turn : goal.invariant-loop-turn
 invariant-loop-turn l = record {

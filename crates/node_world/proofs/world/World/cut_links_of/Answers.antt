@@ -3,7 +3,7 @@ use Rattle.node_world.specs.declared.link.Link.{Link}
 use Rattle.node_world.specs.Stands.{Kept}
 use Rattle.node_world.specs.Starts.{Cutting}
 use Rattle.node_world.proofs.Dropping.{cut_begun, cut_done}
-use Rattle.node_world.proofs.world.World.cut_all.Goals as goal
+use Rattle.node_world.proofs.world.World.cut_links_of.Goals as goal
 
 pub loop-turn-init : goal.loop-turn-init
 loop-turn-init c = record {

@@ -4,7 +4,7 @@ use Rattle.disk_journals.specs.Devices.{fuse_device}
 use Rattle.node_core.specs.Loads.{FailsBy, Loads}
 use Rattle.node_world.specs.Arms.{no_arm}
 use Rattle.node_world.proofs.StartRuns.{IsDown, ids_short, none_damaged, not_all, starts_loaded}
-use Rattle.node_world.proofs.script_node.ScriptNode.start_from.Goals as goal
+use Rattle.node_world.proofs.script_node.ScriptNode.start_with_ids.Goals as goal
 
 pub returns-in-Ok : goal.returns-in-Ok
 returns-in-Ok c =
