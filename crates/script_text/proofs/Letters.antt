@@ -14,7 +14,7 @@ use Rattle.script_text.proofs.Wordings.{word_of}
 
 pub changes : ChangesInLetters
 unfolding event_text place_text link_text doc_text act_text hex_text encode_with digits
-changes = record { set = refl; removed = refl; prepared = refl; committed = refl; aborted = refl; got = refl }
+changes = record { set = refl; removed = refl; prepared = refl; committed = refl; aborted = refl; got = refl; item = refl; document = refl }
 
 pub streams : StreamsInLetters
 unfolding event_text place_text link_text ask_text request_text entry_text hex_text encode_with digits

@@ -120,6 +120,7 @@ stops_read = record {
   stop_old = refl;
   stop_new = refl;
   stop_fill = refl;
+  fail_none = refl;
   fail = refl;
   crash_old = refl;
   crash_new = refl;

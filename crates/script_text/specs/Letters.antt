@@ -25,12 +25,12 @@ use Rattle.vb_types.specs.declared.stream.StreamAsk.{StreamAsk}
 use Rattle.script_text.specs.Transcript.{answer_text, event_text, group_text, print_of, reason_text, role_text, sent_text, why_text}
 use Rattle.script_text.specs.Wordings.{IsWordOf}
 
--- a document of which no two numbers are alike, and a change of the key `a`
+-- a document of which no two numbers are alike, and a change of the key `k`, whose code has a letter in hexadecimal
 abbrev pub some_doc : Doc
 some_doc = record { value = 0xab ∷ 0x0c ∷ []; cas = 5; rev = 6; flags = 7; expiry = 8; datatype = 9 }
 
 abbrev pub changed : Act → Event
-changed a = event.Changed 1 2 3 (record { seq = 4; key = 0x61 ∷ []; act = a })
+changed a = event.Changed 1 2 3 (record { seq = 4; key = 0x6b ∷ []; act = a })
 
 -- a request, and a failover log
 abbrev pub some_ask : StreamAsk
@@ -44,12 +44,14 @@ answered log said = event.Asked (stream.Link 1) 2 3 some_ask 4 log said
 
 -- the line of a change: the branch, the seqno, the act and the key, and then what the act has
 pub record ChangesInLetters : Type 0 where
-  pub set : event_text (changed (act.Set some_doc)) ≡ codes "change 1 2 3 4 set 61 5 6 7 8 9 ab0c"
-  pub removed : event_text (changed (act.Remove 5 6)) ≡ codes "change 1 2 3 4 remove 61 5 6"
-  pub prepared : event_text (changed (act.Prepare level.MajorityPersistActive some_doc false)) ≡ codes "change 1 2 3 4 prepare 61 5 6 7 8 9 ab0c 2 0"
-  pub committed : event_text (changed (act.Commit 10 some_doc true)) ≡ codes "change 1 2 3 4 commit 61 5 6 7 8 9 ab0c 10 1"
-  pub aborted : event_text (changed (act.Abort 10)) ≡ codes "change 1 2 3 4 abort 61 10"
-  pub got : event_text (event.Got 1 2 (stream.Link 3) (record { seq = 4; key = 0x61 ∷ []; act = act.Remove 5 6 })) ≡ codes "got 1 2 L3 4 remove 61 5 6"
+  pub set : event_text (changed (act.Set some_doc)) ≡ codes "change 1 2 3 4 set 6b 5 6 7 8 9 ab0c"
+  pub removed : event_text (changed (act.Remove 5 6)) ≡ codes "change 1 2 3 4 remove 6b 5 6"
+  pub prepared : event_text (changed (act.Prepare level.MajorityPersistActive some_doc false)) ≡ codes "change 1 2 3 4 prepare 6b 5 6 7 8 9 ab0c 2 0"
+  pub committed : event_text (changed (act.Commit 10 some_doc true)) ≡ codes "change 1 2 3 4 commit 6b 5 6 7 8 9 ab0c 10 1"
+  pub aborted : event_text (changed (act.Abort 10)) ≡ codes "change 1 2 3 4 abort 6b 10"
+  pub got : event_text (event.Got 1 2 (stream.Link 3) (record { seq = 4; key = 0x6b ∷ []; act = act.Remove 5 6 })) ≡ codes "got 1 2 L3 4 remove 6b 5 6"
+  pub item : event_text (event.Item (stream.Link 1) 2 sent.Set (0x6b ∷ [])) ≡ codes "item L1 2 set 6b"
+  pub document : event_text (event.Document (0x6b ∷ []) some_doc) ≡ codes "doc 6b 5 6 7 8 9 ab0c"
 
 -- the line of a request for a stream: the link, the vBucket, the branch, start and end, the snapshot's start and end and the flags; then the last seqno, the log and the answer; and the other lines of logs, of answers to clients and of ends
 pub record StreamsInLetters : Type 0 where

@@ -131,6 +131,7 @@ pub record StopsAreRead : Type 0 where
   pub stop_old : verb_by_letters (codes "stop 15 1000000000 old") ≡ Some (verb.AtNode 15 (node_verb.Stop 1000000000 outcome.Old))
   pub stop_new : verb_by_letters (codes "stop 0 0 new") ≡ Some (verb.AtNode 0 (node_verb.Stop 0 outcome.New))
   pub stop_fill : verb_by_letters (codes "stop 3 7 fill 255") ≡ Some (verb.AtNode 3 (node_verb.Stop 7 (outcome.Fill 255)))
+  pub fail_none : verb_by_letters (codes "fail 0 0") ≡ Some (verb.AtNode 0 (node_verb.Fail 0))
   pub fail : verb_by_letters (codes "fail 3 1000000000") ≡ Some (verb.AtNode 3 (node_verb.Fail 1000000000))
   pub crash_old : verb_by_letters (codes "crash 15 old") ≡ Some (verb.AtNode 15 (node_verb.Crash outcome.Old))
   pub crash_new : verb_by_letters (codes "crash 0 new") ≡ Some (verb.AtNode 0 (node_verb.Crash outcome.New))

@@ -3,7 +3,7 @@
 ghost use Rattle.std.specs.Prelude.{[], ◌∷◌};
 ghost use Rattle.transcript_law.specs.Alone.{back_at, begun_one, both_in, commit_removal, commit_set, counts_anywhere, counts_at_vb, dialed_once, ended_inside, first_before, first_groups, first_lines, got_at, held_before, held_less, held_otherwise, other_value, prepared, prepared_less, range_at, refused_at, removed_item, sent_anywhere, shown_waiting, strange_shown};
 ghost use Rattle.transcript_law.specs.Contrary.{acknowledged_lines, inside_got, sent_known};
-ghost use Rattle.transcript_law.specs.Followers.{both_sent_lines, granted_inside, marker_line, next_item_line};
+ghost use Rattle.transcript_law.specs.Followers.{both_sent_lines, first_item_line, granted_inside, marker_line, next_item_line};
 ghost use Rattle.transcript_law.specs.Lawfulness.{Lawful, LawfulFrom};
 ghost use Rattle.transcript_law.specs.Rollbacks.{stream_end_lines, sent_back};
 ghost use Rattle.transcript_law.specs.Transcripts.{change_line, one_change};
@@ -53,13 +53,14 @@ pub fn judged_single_links()
     ensures counted_vb { LawfulFrom counts_anywhere (counts_at_vb 0 1) → ⊥ }
 {}
 
-/// Not lawful are an item behind its stream's end, one before any marker, and one of another act than
-/// its change's; and the end of a stream that was not granted. A transcript has a group for each line of
-/// its script, and no more.
+/// Not lawful are an item behind its stream's end, one before any marker, one at the request's start, and
+/// one of another act than its change's; and the end of a stream that was not granted. A transcript has a
+/// group for each line of its script, and no more.
 pub fn judged_single_streams()
     ensures item { LawfulFrom begun_one (next_item_line ∷ []) }
     ensures item_behind { LawfulFrom ended_inside (next_item_line ∷ []) → ⊥ }
     ensures item_unbegun { LawfulFrom (granted_inside 2) (next_item_line ∷ []) → ⊥ }
+    ensures item_below { LawfulFrom begun_one (first_item_line ∷ []) → ⊥ }
     ensures item_act { LawfulFrom begun_one removed_item → ⊥ }
     ensures ungranted { LawfulFrom dialed_once stream_end_lines → ⊥ }
     ensures missing { Lawful (first_lines 5) (first_groups 4) → ⊥ }

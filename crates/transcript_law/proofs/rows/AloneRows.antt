@@ -1,10 +1,10 @@
 -- lines that one clause alone refuses, judged by hand
 use Rattle.std.specs.Prelude.{◌≡◌, ◌<◌, ◌≤◌, ◌∷◌, ◌++◌, ◌==◌, if◌then◌else◌}
-use Rattle.transcript_law.proofs.Words.{ℕ, Bool, true, false, List, [], length, map, refl, ap, sym, ◌∙◌, subst, inl, inr, ⊎_elim, arith, Option, Some, None, key_cmp, Act, Change, Doc, Pend, Event, Role, image_of, StandsAs, IsIn, ItemLine, Begun, Granted, Dial, eqb-true}
+use Rattle.transcript_law.proofs.Words.{ℕ, Bool, true, false, List, [], length, map, refl, ap, sym, ◌∙◌, subst, inl, inr, ⊎_elim, arith, Option, Some, None, key_cmp, Act, Change, Doc, Pend, Event, Role, image_of, StandsAs, IsIn, ItemLine, Begun, Granted, Dial, Rises, eqb-true}
 use Rattle.transcript_law.proofs.Words.{Chronicle, granted, finished, with_begun, item_of_change, stream_history, LawfulFrom, Lawful, log_of, ask_within, granted_inside, marker_line, both_sent_lines, one_change, next_change, first_doc, stream_end_lines, sent_back, inside_got, change_line, value_lines}
 use Rattle.transcript_law.proofs.{rows.Followers.{begun, changes, first_item, next_covers, next_item, one_of, own_dial, seq_as, stream_is, streamed}, rows.Transcripts.{lines, pending}}
 use Rattle.transcript_law.specs.Alone.{back_at, begun_one, both_in, commit_removal, commit_set, counts_anywhere, counts_at_vb, dialed_once, ended_inside, first_before, first_groups, first_lines, got_at, held_before, held_less, held_otherwise, other_value, prepared, prepared_less, range_at, refused_at, removed_item, sent_anywhere, shown_waiting, strange_shown}
-use Rattle.transcript_law.specs.{Commits.{prepare_of, the_commit}, Contrary.{acknowledged_lines, sent_known}, Followers.{next_item_line}, Lawfulness.{IsFed}}
+use Rattle.transcript_law.specs.{Commits.{prepare_of, the_commit}, Contrary.{acknowledged_lines, sent_known}, Followers.{first_item_line, next_item_line}, Lawfulness.{IsFed}}
 use Rattle.transcript_law.specs.Majorities.{IsHeldByMost}
 use Rattle.vb_types.proofs.Laws.{get-insert_same}
 use Rattle.vb_types.specs.Histories.{plain}
@@ -235,6 +235,18 @@ is_set other = false
 first_is : (whole : List Change) (told : ItemLine) (rest : List ItemLine) → map item_of_change whole ≡ told ∷ rest → (x : Change) × (xs : List Change) × (whole ≡ x ∷ xs) × (item_of_change x ≡ told)
 first_is [] told rest e = cc
 first_is (x ∷ xs) told rest e = (x, xs, refl, cc)
+
+-- an item of the start that the request means is not above it
+pub item_below : LawfulFrom begun_one (first_item_line ∷ []) → ⊥
+item_below l =
+    let (g, b, stream, opens, last, (more, f, ends)) = l.0 in
+    let same : begun_inside ≡ g = stream_is begun_one begun_inside g refl refl stream in
+    let o : Some (begun 1 2 []) ≡ Some b = ap (λ (x : Granted). x.last) same ∙ last in let is : begun 1 2 [] ≡ b = cc in
+    let front : map item_of_change f.whole ≡ first_item ∷ map item_of_change more = f.front ∙ ap (λ (x : Begun). (x.items ++ first_item ∷ []) ++ map item_of_change more) (sym is) in
+    let (x, xs, whole, e) = first_is f.whole first_item (map item_of_change more) front in
+    let low : 1 ≡ b.from = ap (λ (y : Begun). y.from) is in
+    let rises : Rises b.from b.end (x ∷ xs) = subst (λ ys. Rises b.from b.end ys) whole f.covers.remains.rises in
+    let n : x.seq ≡ 1 = ap (λ (y : ItemLine). y.seq) e in let above : b.from < x.seq = rises.0 in omega arith
 
 -- each change is a set, so its item is
 sets : (x c : Change) → IsIn c changes → StandsAs x c → is_set (item_of_change x).act ≡ false → ⊥
