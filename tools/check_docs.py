@@ -25,7 +25,8 @@ LENGTHS = {
     "docs/ARCHITECTURE.md": 340,
     "docs/GUARANTEES.md": 365,
     "docs/KV_ENGINE.md": 100,
-    "docs/PROOFS.md": 560,
+    "docs/PROOFS.md": 450,
+    "docs/TWINS.md": 220,
 }
 PAGES = ["README.md", "CONTRIBUTING.md", "CHANGELOG.md", "corpus/README.md", "docs/*.md", "crates/*/README.md"]
 
@@ -104,10 +105,10 @@ def wrong_clauses() -> Iterator[str]:
 
 
 def wrong_refusals() -> Iterator[str]:
-    """Of the wrong definitions in docs/PROOFS.md each law is in its crate, and each clause is one of its row's laws."""
+    """Of the wrong definitions in docs/TWINS.md each law is in its crate, and each clause is one of its row's laws."""
     codes = {crate: code_of(crate) for crate in edges()}
     crate, named = "", []
-    for line in text_of("docs/PROOFS.md").partition("## What refuses")[2].split("\n"):
+    for line in text_of("docs/TWINS.md").partition("## What refuses")[2].split("\n"):
         row = cells(line)
         if len(row) != 2 or not (row[0] == "" or row[0].split(" ")[0] in codes):
             continue
@@ -117,7 +118,7 @@ def wrong_refusals() -> Iterator[str]:
         missing = [law for law in named if f"fn {law}" not in codes[crate]]
         missing += set(re.findall(r"`\.(\w+)`", row[1])) - clauses
         if missing:
-            yield f"docs/PROOFS.md: {crate} {' '.join(named)}: there is no {' '.join(missing)}"
+            yield f"docs/TWINS.md: {crate} {' '.join(named)}: there is no {' '.join(missing)}"
 
 
 def wrong_laws() -> Iterator[str]:
