@@ -48,7 +48,7 @@ IsOpened opened (answer.No cause.UnknownNode) = opened ≡ false
 IsOpened opened (answer.No cause.NodeDown) = opened ≡ false
 IsOpened opened (answer.No why) = ⊥
 
--- a line over it is carried out exactly where it is open, and is refused as closed where it is not
+-- a line over it is carried out exactly where it is open; where it is not, it is refused as closed, or because its node is not there, or down
 abbrev pub IsReached : Bool → Answer → Type 0
 IsReached opened answer.Ok = opened ≡ true
 IsReached opened (answer.Number n) = ⊥

@@ -356,7 +356,7 @@ IsNextItem b item = (more : List Change) × IsFrontOf b (b.items ++ item ∷ [])
 abbrev pub LawfulItem : Chronicle → StreamName → ItemLine → Type 0
 LawfulItem chronicle stream item = (g : Granted) × (b : Begun) × IsStream chronicle stream g × (g.over ≡ false) × (g.last ≡ Some b) × IsNextItem b item
 
--- a stream that was asked for with no end, and for no takeover, ends only where its vBucket changed its role: the reason is 2
+-- a stream that was asked for with no end, and for no takeover, ends with the reason 2
 abbrev pub EndsBy : StreamAsk → ℕ → Type 0
 EndsBy ask reason = ask.flags ≡ 0 → ask.end ≡ 2 ^ 64 - 1 → reason ≡ 2
 

@@ -36,7 +36,7 @@ is_of_end n (event.Ended l reason) = true
 is_of_end n (event.Closed m c) = m == n
 is_of_end n other = false
 
--- a disk of the node n: a call failed, or the node stopped inside one, and went down
+-- a disk of the node n: a call failed, or the node stopped inside one; and what ends with a node, or where a role cuts a link: any link, and the node's clients
 abbrev pub is_of_disk : ℕ → Event → Bool
 is_of_disk n (event.CallFailed m) = m == n
 is_of_disk n (event.NodeStopped m) = m == n
@@ -58,7 +58,7 @@ is_of_start n (event.CallFailed m) = m == n
 is_of_start n (event.NodeStopped m) = m == n
 is_of_start n other = false
 
--- a batch of this vBucket, what it acknowledged, its numbers, and its log
+-- a batch of this vBucket, an acknowledgement of any, its numbers, and its log
 abbrev pub is_of_batch : ℕ → ℕ → Event → Bool
 is_of_batch n v (event.Batch m u ss se at count) = m == n && u == v
 is_of_batch n v other = false

@@ -12,7 +12,7 @@ ghost use Rattle.vb_events.specs.declared.event.Event.TheVariants as event;
 
 /// A connection that is open is told closed, or answered. Not lawful is that of one that was never
 /// opened, of one of that number at another node, and of one that is not open any more: it was told
-/// closed before, in the same group or in an earlier one, its client hung up, or its node crashed.
+/// closed before, in the same group or in an earlier one, or its client hung up.
 pub fn judged_client_lines()
     ensures closed { LawfulOpened (sends 1 ∷ []) (ok (closes 0 1 ∷ []) ∷ []) }
     ensures closed_other { LawfulOpened (sends 1 ∷ []) (ok (closes 0 2 ∷ []) ∷ []) → ⊥ }
@@ -57,7 +57,7 @@ pub fn judged_client_answers()
 {}
 
 /// Where a node stops each of its connections is told closed, once, in that group: where it crashes,
-/// and behind the line that tells that it stopped. None is left when it starts.
+/// and behind the line that tells that it stopped.
 pub fn judged_client_stops()
     ensures crashed { LawfulOpened (verb.AtNode 0 (node_verb.Crash Old) ∷ []) (ok (closes 0 1 ∷ []) ∷ []) }
     ensures untold { LawfulOpened (verb.AtNode 0 (node_verb.Crash Old) ∷ []) (ok [] ∷ []) → ⊥ }
