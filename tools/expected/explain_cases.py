@@ -9,6 +9,9 @@ LINES = {
     "bytes 3 41 800a": "Client 41 sends to node 3:",
     "hang 3 41": "Client 41 is to leave node 3.",
     "link 505 3 9 702 0 follow": "Node 9 is to follow vBucket 702 of node 3, over link 505.",
+    "link 505 3 9 702 11 follow":
+    "Node 9 is to follow vBucket 702 of node 3, over link 505, with a buffer of 11 bytes.",
+    "link 505 3 9 702 1 follow": "Node 9 is to follow vBucket 702 of node 3, over link 505, with a buffer of 1 byte.",
     "up 505 60": "At most 60 bytes of link 505 are to reach its producer.",
     "down 505 70": "At most 70 bytes of link 505 are to reach its consumer.",
     "pump 505 80": "The producer of link 505 is to put 80 frames.",
@@ -132,6 +135,7 @@ ANSWERS = {
     ("take 3 702", "ok 0"): "There was nothing to take.",
     ("done 3 702", "ok 22"): "All up to 22 is saved.",
     ("pump 505 80", "ok 6 idle"): "6 frames were put, and there is no more to put now.",
+    ("pump 505 80", "ok 2 full"): "2 frames were put, and the window is shut.",
     ("pump 505 80", "ok 1 wait-saved"): "1 frame was put, and what comes next is in the journal alone.",
     ("pump 505 80", "ok 80 -"): "80 frames were put.",
     ("node 3", "ok"): "",

@@ -45,11 +45,16 @@ FAULTS = {
     " wanted is bytes, each two hexadecimal digits: bytes N C HEX",
     b"bytes 0 1 " + b"8" * 41: f'word 4 "{"8" * 40}".. has an odd number of digits, 41;'
     " wanted is bytes, each two hexadecimal digits: bytes N C HEX",
-    b"link 1000 0 1 7 0 follow": 'word 2 "1000" is above 999; wanted is a link from 0 to 999: link L M N V 0 follow',
-    b"link 1 16 1 7 0 follow": 'word 3 "16" is above 15; wanted is a node from 0 to 15: link L M N V 0 follow',
-    b"link 1 0 1 7 1 follow": 'word 6 "1" is none that may stand there; wanted is 0: link L M N V 0 follow',
+    b"link 1000 0 1 7 0 follow": 'word 2 "1000" is above 999; wanted is a link from 0 to 999: link L M N V BUF follow',
+    b"link 1 16 1 7 0 follow": 'word 3 "16" is above 15; wanted is a node from 0 to 15: link L M N V BUF follow',
+    b"link 1 0 1 7 4294967296 follow": 'word 6 "4294967296" is above 4294967295;'
+    " wanted is a number of bytes from 0 to 4294967295: link L M N V BUF follow",
+    b"link 1 0 1 7 007 follow": 'word 6 "007" has a needless zero;'
+    " wanted is a number of bytes from 0 to 4294967295: link L M N V BUF follow",
+    b"link 1 0 1 7 follow": 'word 6 "follow" is no number;'
+    " wanted is a number of bytes from 0 to 4294967295: link L M N V BUF follow",
     b"link 1 0 1 7 0 takeover": 'word 7 "takeover" is none that may stand there;'
-    " wanted is follow: link L M N V 0 follow",
+    " wanted is follow: link L M N V BUF follow",
     b"up 1 1000000001": 'word 3 "1000000001" is above 1000000000;'
     " wanted is a number of bytes from 0 to 1000000000: up L B",
     b"pump 1 0": 'word 3 "0" is below 1; wanted is a number of frames from 1 to 1000000: pump L K',
@@ -66,9 +71,9 @@ FAULTS = {
 # The longest and the shortest of each kind.
 GOOD = [
     b"node 15", b"vb 15 1023 active 18446744073709551615", b"vb 0 0 active 0", b"chain 0 0", b"chain 15 1023 15 - 0",
-    b"clock 0 18446744073709551615", b"client 0 999", b"bytes 0 999 aF", b"link 999 15 15 1023 0 follow",
-    b"up 0 1000000000", b"down 999 0", b"pump 999 1000000", b"pump 0 1", b"stop 0 1000000000 fill 255",
-    b"stop 0 0 fill 0", b"fail 0 0", b"crash 0 new", b"start 15", b"start 0" + b" 0" * 64,
+    b"clock 0 18446744073709551615", b"client 0 999", b"bytes 0 999 aF", b"link 0 0 0 0 0 follow",
+    b"link 999 15 15 1023 4294967295 follow", b"up 0 1000000000", b"down 999 0", b"pump 999 1000000", b"pump 0 1",
+    b"stop 0 1000000000 fill 255", b"stop 0 0 fill 0", b"fail 0 0", b"crash 0 new", b"start 15", b"start 0" + b" 0" * 64,
 ]  # fmt: skip
 
 BEGUN = "node 3\nclient 3 41\n"

@@ -12,7 +12,6 @@ LINES = {
     "client": "Client {client} is to connect to node {node}.",
     "bytes": "Client {client} sends to node {node}:",
     "hang": "Client {client} is to leave node {node}.",
-    "link": "Node {consumer} is to follow vBucket {vb} of node {producer}, over link {link}.",
     "up": "At most {count} bytes of link {link} are to reach its producer.",
     "down": "At most {count} bytes of link {link} are to reach its consumer.",
     "pump": "The producer of link {link} is to put {count} frames.",
@@ -66,10 +65,18 @@ def chain_sentence(line: Line) -> str:
     return f"vBucket {line['vb']} of node {line['node']} is to have a chain: {chain}."
 
 
+def link_sentence(line: Line) -> str:
+    buffer = f", with a buffer of {counted(line['buffer'], 'byte', 'bytes')}" if line["buffer"] else ""
+    ends = f"Node {line['consumer']} is to follow vBucket {line['vb']} of node {line['producer']}"
+    return f"{ends}, over link {line['link']}{buffer}."
+
+
 def line_sentence(line: Line) -> str:
     if line.verb == "vb":
         what = f"active on branch {line['branch']}" if line.operands["role"] == "active" else "an empty replica"
         return f"Node {line['node']} is to have vBucket {line['vb']}, {what}."
+    if line.verb == "link":
+        return link_sentence(line)
     if line.verb == "start":
         return start_sentence(line)
     if line.verb == "chain":
@@ -98,6 +105,8 @@ def answer_sentence(line: Line, answer: list[str]) -> str:
             return f"All up to {saved} is saved."
         case ["ok", count, "idle"]:
             return f"{counted(int(count), 'frame was', 'frames were')} put, and there is no more to put now."
+        case ["ok", count, "full"]:
+            return f"{counted(int(count), 'frame was', 'frames were')} put, and the window is shut."
         case ["ok", count, "wait-saved"]:
             put = counted(int(count), "frame was", "frames were")
             return f"{put} put, and what comes next is in the journal alone."

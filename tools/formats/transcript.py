@@ -129,7 +129,7 @@ def is_answer(words: list[str]) -> bool:
     match words:
         case ["ok"] | ["no", _]:
             return True
-        case ["ok", count] | ["ok", count, "-" | "idle" | "wait-saved"]:
+        case ["ok", count] | ["ok", count, "-" | "idle" | "full" | "wait-saved"]:
             return is_number(count)
     return False
 

@@ -35,11 +35,11 @@ class Grammar(unittest.TestCase):
         limits = 0
         for row in rows:
             verb, numbers = row[0].strip("`").split(" ")[0], row[2].replace(",", "") if len(row) > 2 else ""
-            for sign, words, limit in re.findall(r"\b([A-Z]) (below|at most|from 1 to) (\d+)", numbers):
+            for sign, words, limit in re.findall(r"\b([A-Z]+) (below|at most|from 1 to) (\d+)", numbers):
                 (kind,) = grammar.kinds_of(verb, [sign])
                 self.assertEqual((kind.least, kind.most), (words == "from 1 to", int(limit) - (words == "below")), row)
                 limits += 1
-        self.assertGreaterEqual(limits, 9)
+        self.assertGreaterEqual(limits, 10)
 
     def test_faults(self) -> None:
         """Each kind of message with its text, and in a script of many lines each bad one."""

@@ -18,6 +18,7 @@ use Rattle.dcp_consumer.specs.declared.handshake.Handshake.TheVariants as handsh
 pub streams : (h : Handshake) → IsTrue (is_streaming h) ↔ (h ≡ handshake.Streaming)
 streams handshake.Streaming = (λ t. refl, λ e. refl)
 streams handshake.Opening = (λ t. cc, λ e. cc)
+streams handshake.Buffering = (λ t. cc, λ e. cc)
 streams handshake.SyncWrites = (λ t. cc, λ e. cc)
 streams handshake.Naming = (λ t. cc, λ e. cc)
 streams handshake.Asking = (λ t. cc, λ e. cc)

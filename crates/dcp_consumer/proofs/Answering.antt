@@ -1,6 +1,6 @@
 -- what is known of a producer's answers by their numbers
-use Rattle.std.proofs.Common.{◌≡◌, ◌≢◌, ℕ, true, false, List, refl, ap, ◌∙◌, inl, inr, Option, Some, None, Result, Ok, Err}
-use Rattle.std.specs.Prelude.{◌⊎◌, ◌==◌, ◌||◌, if◌then◌else◌}
+use Rattle.std.proofs.Common.{◌≡◌, ◌≢◌, ℕ, Bool, true, false, List, refl, sym, ap, ◌∙◌, inl, inr, Option, Some, None, Result, Ok, Err}
+use Rattle.std.specs.Prelude.{◌⊎◌, ◌-◌, ◌==◌, ◌||◌, if◌then◌else◌}
 use Rattle.std.specs.Option.{option_map}
 use Rattle.std.proofs.lemmas.Bool.{eq-eqb, ne_eqb, eqb-true, and_parts, and_from}
 use Rattle.std.proofs.lemmas.Bool.Decides.{eqb_tells}
@@ -18,6 +18,7 @@ use Rattle.mcbp_dcp.specs.Shapes.{shape_fault}
 use Rattle.mcbp_dcp.specs.Messages.{verdict_in, message_in, unless_fault, read_as, read_of}
 use Rattle.vb_events.specs.declared.event.EndReason.TheVariants as reason
 use Rattle.dcp_consumer.specs.Conduct.{AnswersTo, Awaits, Reads}
+use Rattle.dcp_consumer.specs.Dialing.{stream_opaque}
 use Rattle.dcp_consumer.specs.Machine.{answers, is_awaited, misread_reason, answered_with}
 use Rattle.dcp_consumer.specs.declared.handshake.Handshake.{Handshake}
 use Rattle.dcp_consumer.specs.declared.handshake.Handshake.TheVariants as handshake
@@ -31,26 +32,46 @@ fits_back : (opaque opcode : ℕ) (f : Frame) → f.magic ≡ 0x81 → answers o
 fits_back opaque opcode f magic e =
     let parts = and_parts (f.opaque == opaque) (f.opcode == opcode) e in (magic, eqb-true f.opaque opaque parts.0, eqb-true f.opcode opcode parts.1)
 
-pub awaited_so : (h : Handshake) (n : ℕ) (f : Frame) → Awaits h n f → is_awaited h n f ≡ true
-awaited_so handshake.Opening n f a = fits_so 1 0x50 f a
-awaited_so handshake.SyncWrites n f a = fits_so 2 0x5e f a
-awaited_so handshake.Naming n f a = fits_so 3 0x5e f a
-awaited_so handshake.Asking n f a = fits_so n 0x53 f a
-awaited_so other n f a = absurd a
+-- the opaques of the two CONTROLs that each consumer sends, right before the request for the stream
+sync_by : (b : Bool) → (if b then 4 else 5) - 2 ≡ (if b then 2 else 3)
+sync_by true = refl
+sync_by false = refl
 
-pub awaited_back : (h : Handshake) (n : ℕ) (f : Frame) → f.magic ≡ 0x81 → is_awaited h n f ≡ true → Awaits h n f
-awaited_back handshake.Opening n f magic e = fits_back 1 0x50 f magic e
-awaited_back handshake.SyncWrites n f magic e = fits_back 2 0x5e f magic e
-awaited_back handshake.Naming n f magic e = fits_back 3 0x5e f magic e
-awaited_back handshake.Asking n f magic e = fits_back n 0x53 f magic e
-awaited_back other n f magic e = cc
+name_by : (b : Bool) → (if b then 4 else 5) - 1 ≡ (if b then 3 else 4)
+name_by true = refl
+name_by false = refl
 
-pub awaited_magic : (h : Handshake) (n : ℕ) (f : Frame) → Awaits h n f → f.magic ≡ 0x81
-awaited_magic handshake.Opening n f a = a.0
-awaited_magic handshake.SyncWrites n f a = a.0
-awaited_magic handshake.Naming n f a = a.0
-awaited_magic handshake.Asking n f a = a.0
-awaited_magic other n f a = absurd a
+-- the same frame by another spelling of its opaque
+renumbered : (k j opcode : ℕ) (f : Frame) → k ≡ j → answers j opcode f ≡ true → answers k opcode f ≡ true
+renumbered k j opcode f e fits = ap (λ opaque. answers opaque opcode f) e ∙ fits
+
+pub awaited_so : (buffer : ℕ) (h : Handshake) (n : ℕ) (f : Frame) → Awaits buffer h n f → is_awaited buffer h n f ≡ true
+awaited_so buffer handshake.Opening n f a = fits_so 1 0x50 f a
+awaited_so buffer handshake.Buffering n f a = fits_so 2 0x5e f a
+awaited_so buffer handshake.SyncWrites n f a =
+    renumbered (stream_opaque buffer - 2) (if buffer == 0 then 2 else 3) 0x5e f (sync_by (buffer == 0)) (fits_so (if buffer == 0 then 2 else 3) 0x5e f a)
+awaited_so buffer handshake.Naming n f a =
+    renumbered (stream_opaque buffer - 1) (if buffer == 0 then 3 else 4) 0x5e f (name_by (buffer == 0)) (fits_so (if buffer == 0 then 3 else 4) 0x5e f a)
+awaited_so buffer handshake.Asking n f a = fits_so n 0x53 f a
+awaited_so buffer other n f a = absurd a
+
+pub awaited_back : (buffer : ℕ) (h : Handshake) (n : ℕ) (f : Frame) → f.magic ≡ 0x81 → is_awaited buffer h n f ≡ true → Awaits buffer h n f
+awaited_back buffer handshake.Opening n f magic e = fits_back 1 0x50 f magic e
+awaited_back buffer handshake.Buffering n f magic e = fits_back 2 0x5e f magic e
+awaited_back buffer handshake.SyncWrites n f magic e =
+    fits_back (if buffer == 0 then 2 else 3) 0x5e f magic (renumbered (if buffer == 0 then 2 else 3) (stream_opaque buffer - 2) 0x5e f (sym (sync_by (buffer == 0))) e)
+awaited_back buffer handshake.Naming n f magic e =
+    fits_back (if buffer == 0 then 3 else 4) 0x5e f magic (renumbered (if buffer == 0 then 3 else 4) (stream_opaque buffer - 1) 0x5e f (sym (name_by (buffer == 0))) e)
+awaited_back buffer handshake.Asking n f magic e = fits_back n 0x53 f magic e
+awaited_back buffer other n f magic e = cc
+
+pub awaited_magic : (buffer : ℕ) (h : Handshake) (n : ℕ) (f : Frame) → Awaits buffer h n f → f.magic ≡ 0x81
+awaited_magic buffer handshake.Opening n f a = a.0
+awaited_magic buffer handshake.Buffering n f a = a.0
+awaited_magic buffer handshake.SyncWrites n f a = a.0
+awaited_magic buffer handshake.Naming n f a = a.0
+awaited_magic buffer handshake.Asking n f a = a.0
+awaited_magic buffer other n f a = absurd a
 
 -- ---- statuses
 

@@ -6,4 +6,7 @@ pub mod Reasons
 mod Receiving
 mod Storing
 mod Acknowledging
+mod FirstRequests
+pub mod Counted
+mod Ordered
 mod DialBytes

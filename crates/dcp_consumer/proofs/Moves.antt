@@ -1,7 +1,8 @@
 -- how a handshake moves, and how a link ends
-use Rattle.std.proofs.Common.{◌≡◌, ◌≢◌, ℕ, ◌+◌, ◌<◌, [], refl, sym, ap, ◌∙◌, subst, inl, inr, Some, None}
-use Rattle.std.specs.Prelude.{◌↔◌, ◌-◌, ◌^◌, nat_lt, if◌then◌else◌}
-use Rattle.std.proofs.lemmas.Bool.{lt-ltb}
+use Rattle.std.proofs.Common.{◌≡◌, ◌≢◌, ℕ, Bool, true, false, ◌+◌, ◌<◌, [], refl, sym, ap, ◌∙◌, subst, inl, inr, Some, None}
+use Rattle.std.specs.Prelude.{◌↔◌, ◌⊎◌, ◌==◌, ◌-◌, ◌^◌, nat_lt, if◌then◌else◌}
+use Rattle.std.proofs.lemmas.Bool.{eq-eqb, ne_eqb, lt-ltb}
+use Rattle.std.proofs.lemmas.Bool.Decides.{eqb_tells}
 use Rattle.mcbp_frame.specs.declared.frame.Frame.{Frame}
 use Rattle.mcbp_frame.specs.Spelling.{spelling}
 use Rattle.mcbp_dcp.specs.declared.message.DcpMsg.TheVariants as msg
@@ -11,7 +12,8 @@ use Rattle.vb_events.specs.declared.event.EndReason.{EndReason}
 use Rattle.vb_events.specs.declared.event.EndReason.TheVariants as reason
 use Rattle.vb_types.specs.declared.stream.StreamAsk.{StreamAsk}
 use Rattle.dcp_consumer.specs.Conduct.{Awaits, Comes, IsNext, Ends, IsRequest}
-use Rattle.dcp_consumer.specs.Machine.{PlainConsumer, with_handshake, over_why, answered, moved_by, frame_step, consumer_step, IsDue, streaming, granted, request_again, again_by, again, ended_for}
+use Rattle.dcp_consumer.specs.Machine.{PlainConsumer, dialed_consumer, with_handshake, over_why, answered, moved_by, frame_step, consumer_step, IsDue, streaming, granted, request_again, again_by, again, ended_for}
+use Rattle.dcp_consumer.specs.declared.handshake.Dialed.{Dialed}
 use Rattle.dcp_consumer.specs.declared.handshake.Handshake.{Handshake}
 use Rattle.dcp_consumer.specs.declared.handshake.Handshake.TheVariants as handshake
 use Rattle.dcp_consumer.specs.declared.handshake.ConsumerStep.{ConsumerStep}
@@ -24,35 +26,47 @@ use Rattle.dcp_consumer.proofs.Steps.{over_step, comes_so, comes_itself}
 is_over : (why : EndReason) (h : Handshake) → handshake.Over why ≡ h → over_why h ≡ None → ⊥
 is_over why h e live = let is : Some why ≡ over_why h = ap over_why e in cc
 
-next_on : (h next : Handshake) (n : ℕ) (f : Frame) → Awaits h n f → h ≢ handshake.Asking → answered h ≡ next → IsNext h next
-next_on handshake.Opening next n f a ne e = subst (IsNext handshake.Opening) e tt
-next_on handshake.SyncWrites next n f a ne e = subst (IsNext handshake.SyncWrites) e tt
-next_on handshake.Naming next n f a ne e = subst (IsNext handshake.Naming) e tt
-next_on handshake.Asking next n f a ne e = absurd (ne refl)
-next_on other next n f a ne e = absurd a
+-- the handshake behind OPEN
+abbrev first_next : Bool → Handshake
+first_next b = if b then handshake.SyncWrites else handshake.Buffering
 
-next_is_on : (h next : Handshake) → IsNext h next → (h ≢ handshake.Asking) × (answered h ≡ next)
-next_is_on handshake.Opening handshake.SyncWrites is = ((λ e. cc), refl)
-next_is_on handshake.SyncWrites handshake.Naming is = ((λ e. cc), refl)
-next_is_on handshake.Naming handshake.Asking is = ((λ e. cc), refl)
-next_is_on h next is = absurd is
+opening_on : (buffer : ℕ) (next : Handshake) → (((buffer == 0) ≡ true) × (buffer ≡ 0)) ⊎ (((buffer == 0) ≡ false) × (buffer ≢ 0)) → first_next (buffer == 0) ≡ next
+    → IsNext buffer handshake.Opening next
+opening_on buffer next (inl none) e = subst (IsNext buffer handshake.Opening) (sym (ap first_next none.0) ∙ e) none.1
+opening_on buffer next (inr some) e = subst (IsNext buffer handshake.Opening) (sym (ap first_next some.0) ∙ e) some.1
 
-moved_next : (h next : Handshake) (n : ℕ) (f : Frame) (s : ConsumerStep) → Comes h n f s → next ≢ h → over_why next ≡ None → moved_by s h ≡ next
-    → IsNext h next × Awaits h n f × (f.vb_or_status ≡ 0)
-moved_next h next n f step.Answered p ne live e = (next_on h next n f p.0 p.1 e, p.0, p.2)
-moved_next h next n f (step.Over why) p ne live e = absurd (is_over why next e live)
-moved_next h next n f (step.Passive (passive.End why)) p ne live e = absurd (is_over why next e live)
-moved_next h next n f (step.Passive passive.Protocol) p ne live e = absurd (is_over reason.Protocol next e live)
-moved_next h next n f other p ne live e = absurd (ne (sym e))
+next_on : (buffer : ℕ) (h next : Handshake) (n : ℕ) (f : Frame) → Awaits buffer h n f → h ≢ handshake.Asking → answered buffer h ≡ next → IsNext buffer h next
+next_on buffer handshake.Opening next n f a ne e = opening_on buffer next (eqb_tells buffer 0) e
+next_on buffer handshake.Buffering next n f a ne e = subst (IsNext buffer handshake.Buffering) e tt
+next_on buffer handshake.SyncWrites next n f a ne e = subst (IsNext buffer handshake.SyncWrites) e tt
+next_on buffer handshake.Naming next n f a ne e = subst (IsNext buffer handshake.Naming) e tt
+next_on buffer handshake.Asking next n f a ne e = absurd (ne refl)
+next_on buffer other next n f a ne e = absurd a
+
+next_is_on : (buffer : ℕ) (h next : Handshake) → IsNext buffer h next → (h ≢ handshake.Asking) × (answered buffer h ≡ next)
+next_is_on buffer handshake.Opening handshake.Buffering is = ((λ e. cc), ap first_next (ne_eqb buffer 0 is))
+next_is_on buffer handshake.Opening handshake.SyncWrites is = ((λ e. cc), ap first_next (eq-eqb buffer 0 is))
+next_is_on buffer handshake.Buffering handshake.SyncWrites is = ((λ e. cc), refl)
+next_is_on buffer handshake.SyncWrites handshake.Naming is = ((λ e. cc), refl)
+next_is_on buffer handshake.Naming handshake.Asking is = ((λ e. cc), refl)
+next_is_on buffer h next is = absurd is
+
+moved_next : (buffer : ℕ) (h next : Handshake) (n : ℕ) (f : Frame) (s : ConsumerStep) → Comes buffer h n f s → next ≢ h → over_why next ≡ None → moved_by buffer s h ≡ next
+    → IsNext buffer h next × Awaits buffer h n f × (f.vb_or_status ≡ 0)
+moved_next buffer h next n f step.Answered p ne live e = (next_on buffer h next n f p.0 p.1 e, p.0, p.2)
+moved_next buffer h next n f (step.Over why) p ne live e = absurd (is_over why next e live)
+moved_next buffer h next n f (step.Passive (passive.End why)) p ne live e = absurd (is_over why next e live)
+moved_next buffer h next n f (step.Passive passive.Protocol) p ne live e = absurd (is_over reason.Protocol next e live)
+moved_next buffer h next n f other p ne live e = absurd (ne (sym e))
 
 pub next_moves : (c : PlainConsumer) (f : Frame) (next : Handshake) → next ≢ c.handshake → over_why next ≡ None
-    → ((consumer_step c f).0.handshake ≡ next) ↔ (IsNext c.handshake next × Awaits c.handshake c.asked f × (f.vb_or_status ≡ 0))
+    → ((consumer_step c f).0.handshake ≡ next) ↔ (IsNext c.dialed.buffer c.handshake next × Awaits c.dialed.buffer c.handshake c.asked f × (f.vb_or_status ≡ 0))
 next_moves c f next ne live = (
-  λ e. moved_next c.handshake next c.asked f (frame_step c f) (comes_itself c f) ne live e,
-  λ p. let on = next_is_on c.handshake next p.0 in ap (λ s. moved_by s c.handshake) (comes_so c f step.Answered (p.1, on.0, p.2)) ∙ on.1,
+  λ e. moved_next c.dialed.buffer c.handshake next c.asked f (frame_step c f) (comes_itself c f) ne live e,
+  λ p. let on = next_is_on c.dialed.buffer c.handshake next p.0 in ap (λ s. moved_by c.dialed.buffer s c.handshake) (comes_so c f step.Answered (p.1, on.0, p.2)) ∙ on.1,
 )
 
-due_by : (c : PlainConsumer) (f : Frame) (s : ConsumerStep) → Comes c.handshake c.asked f s → IsDue s (with_handshake c (moved_by s c.handshake))
+due_by : (c : PlainConsumer) (f : Frame) (s : ConsumerStep) → Comes c.dialed.buffer c.handshake c.asked f s → IsDue s (with_handshake c (moved_by c.dialed.buffer s c.handshake))
 due_by c f (step.Adopt log) p = p.0
 due_by c f (step.Roll point) p = p.0
 due_by c f other p = tt
@@ -72,38 +86,45 @@ granted_other c ne = ap (with_handshake c) (streaming_other c.handshake ne)
 
 -- ---- the end
 
-answered_live : (h : Handshake) → over_why h ≡ None → over_why (answered h) ≡ None
-answered_live (handshake.Over why) live = live
-answered_live other live = refl
+first_live : (b : Bool) → over_why (first_next b) ≡ None
+first_live true = refl
+first_live false = refl
+
+answered_live : (buffer : ℕ) (h : Handshake) → over_why h ≡ None → over_why (answered buffer h) ≡ None
+answered_live buffer handshake.Opening live = first_live (buffer == 0)
+answered_live buffer handshake.Buffering live = refl
+answered_live buffer handshake.SyncWrites live = refl
+answered_live buffer handshake.Naming live = refl
+answered_live buffer other live = live
 
 same_reason : (first second : EndReason) → handshake.Over first ≡ handshake.Over second → first ≡ second
 same_reason first second e = cc
 
-moved_end : (h : Handshake) (n : ℕ) (f : Frame) (why : EndReason) (s : ConsumerStep) → Comes h n f s → over_why h ≡ None → moved_by s h ≡ handshake.Over why → Ends why s
-moved_end h n f why step.Answered p live e = absurd (is_over why (answered h) (sym e) (answered_live h live))
-moved_end h n f why (step.Over reason.Refused) p live e = subst (λ w. Ends w (step.Over reason.Refused)) (same_reason reason.Refused why e) refl
-moved_end h n f why (step.Over reason.Protocol) p live e = subst (λ w. Ends w (step.Over reason.Protocol)) (same_reason reason.Protocol why e) (inl refl)
-moved_end h n f why (step.Over other) p live e = absurd p
-moved_end h n f why (step.Passive (passive.End reason.Done)) p live e = subst (λ w. Ends w (step.Passive (passive.End reason.Done))) (same_reason reason.Done why e) refl
-moved_end h n f why (step.Passive (passive.End reason.State)) p live e = subst (λ w. Ends w (step.Passive (passive.End reason.State))) (same_reason reason.State why e) refl
-moved_end h n f why (step.Passive (passive.End other)) p live e = absurd p
-moved_end h n f why (step.Passive passive.Protocol) p live e = subst (λ w. Ends w (step.Passive passive.Protocol)) (same_reason reason.Protocol why e) (inr refl)
-moved_end h n f why other p live e = absurd (is_over why h (sym e) live)
+moved_end : (buffer : ℕ) (h : Handshake) (n : ℕ) (f : Frame) (why : EndReason) (s : ConsumerStep) → Comes buffer h n f s → over_why h ≡ None → moved_by buffer s h ≡ handshake.Over why → Ends why s
+moved_end buffer h n f why step.Answered p live e = absurd (is_over why (answered buffer h) (sym e) (answered_live buffer h live))
+moved_end buffer h n f why (step.Over reason.Refused) p live e = subst (λ w. Ends w (step.Over reason.Refused)) (same_reason reason.Refused why e) refl
+moved_end buffer h n f why (step.Over reason.Protocol) p live e = subst (λ w. Ends w (step.Over reason.Protocol)) (same_reason reason.Protocol why e) (inl refl)
+moved_end buffer h n f why (step.Over other) p live e = absurd p
+moved_end buffer h n f why (step.Passive (passive.End reason.Done)) p live e = subst (λ w. Ends w (step.Passive (passive.End reason.Done))) (same_reason reason.Done why e) refl
+moved_end buffer h n f why (step.Passive (passive.End reason.State)) p live e = subst (λ w. Ends w (step.Passive (passive.End reason.State))) (same_reason reason.State why e) refl
+moved_end buffer h n f why (step.Passive (passive.End other)) p live e = absurd p
+moved_end buffer h n f why (step.Passive passive.Protocol) p live e = subst (λ w. Ends w (step.Passive passive.Protocol)) (same_reason reason.Protocol why e) (inr refl)
+moved_end buffer h n f why other p live e = absurd (is_over why h (sym e) live)
 
-end_moves : (h : Handshake) (why : EndReason) (s : ConsumerStep) → Ends why s → moved_by s h ≡ handshake.Over why
-end_moves h reason.Cut s e = absurd e
-end_moves h reason.Disk s e = absurd e
-end_moves h reason.Protocol s (inl e) = ap (λ x. moved_by x h) e
-end_moves h reason.Protocol s (inr e) = ap (λ x. moved_by x h) e
-end_moves h reason.Refused s e = ap (λ x. moved_by x h) e
-end_moves h reason.Done s e = ap (λ x. moved_by x h) e
-end_moves h reason.State s e = ap (λ x. moved_by x h) e
+end_moves : (buffer : ℕ) (h : Handshake) (why : EndReason) (s : ConsumerStep) → Ends why s → moved_by buffer s h ≡ handshake.Over why
+end_moves buffer h reason.Cut s e = absurd e
+end_moves buffer h reason.Disk s e = absurd e
+end_moves buffer h reason.Protocol s (inl e) = ap (λ x. moved_by buffer x h) e
+end_moves buffer h reason.Protocol s (inr e) = ap (λ x. moved_by buffer x h) e
+end_moves buffer h reason.Refused s e = ap (λ x. moved_by buffer x h) e
+end_moves buffer h reason.Done s e = ap (λ x. moved_by buffer x h) e
+end_moves buffer h reason.State s e = ap (λ x. moved_by buffer x h) e
 
 pub ends_so : (c : PlainConsumer) (f : Frame) (why : EndReason) → over_why c.handshake ≡ None → ((consumer_step c f).0.handshake ≡ handshake.Over why) ↔ Ends why (consumer_step c f).1
-ends_so c f why live = (λ e. moved_end c.handshake c.asked f why (frame_step c f) (comes_itself c f) live e, λ e. end_moves c.handshake why (frame_step c f) e)
+ends_so c f why live = (λ e. moved_end c.dialed.buffer c.handshake c.asked f why (frame_step c f) (comes_itself c f) live e, λ e. end_moves c.dialed.buffer c.handshake why (frame_step c f) e)
 
 pub over_so : (c : PlainConsumer) (f : Frame) → over_why c.handshake ≢ None → consumer_step c f ≡ (c, step.Dropped)
-over_so c f over = ap (λ s. (with_handshake c (moved_by s c.handshake), s)) (over_step c f over)
+over_so c f over = ap (λ s. (with_handshake c (moved_by c.dialed.buffer s c.handshake), s)) (over_step c f over)
 
 -- ---- one more request
 
@@ -118,6 +139,9 @@ request_is ask n v = record {
   vb = refl;
   read = λ fits. message_back (msg.StreamRequest ask) n v tt fits;
 }
+
+pub first_asked : (dialed : Dialed) → (dialed.buffer ≡ 0 → (dialed_consumer dialed).asked ≡ 4) × (dialed.buffer ≢ 0 → (dialed_consumer dialed).asked ≡ 5)
+first_asked dialed = (λ e. ap (λ b. if b then 4 else 5) (eq-eqb dialed.buffer 0 e), λ ne. ap (λ b. if b then 4 else 5) (ne_eqb dialed.buffer 0 ne))
 
 pub back : (c : PlainConsumer) (ask : StreamAsk) → c.handshake ≡ handshake.Asking → c.asked < 4294967295
     → ((again ask c).0 ≡ record c { asked = c.asked + 1 }) × IsRequest ask (c.asked + 1) c.dialed.vb (again ask c).1

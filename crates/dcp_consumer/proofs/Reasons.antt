@@ -1,6 +1,6 @@
 -- which answers are passed over, and which frames end a link for which reason
 use Rattle.std.proofs.Common.{◌≡◌, ◌≢◌, ℕ, sym, ap, subst, inl, inr, Some, None}
-use Rattle.std.specs.Prelude.{◌↔◌}
+use Rattle.std.specs.Prelude.{◌↔◌, ◌==◌, if◌then◌else◌}
 use Rattle.mcbp_frame.specs.declared.frame.Frame.{Frame}
 use Rattle.vb_events.specs.declared.event.EndReason.{EndReason}
 use Rattle.vb_events.specs.declared.event.EndReason.TheVariants as reason
@@ -23,70 +23,72 @@ numbers : (opaque opcode : ℕ) (f : Frame) → f.magic ≡ 0x81 → Some (pair 
 numbers opaque opcode f magic e =
     let p : pair opaque opcode ≡ pair f.opaque f.opcode = cc in (magic, sym (ap (λ q. q.0) p), sym (ap (λ q. q.1) p))
 
-awaits : (h : Handshake) (n : ℕ) (f : Frame) → IsAnswer h n f → Awaits h n f
-awaits handshake.Opening n f a = numbers 1 0x50 f a.0 a.1
-awaits handshake.SyncWrites n f a = numbers 2 0x5e f a.0 a.1
-awaits handshake.Naming n f a = numbers 3 0x5e f a.0 a.1
-awaits handshake.Asking n f a = numbers n 0x53 f a.0 a.1
-awaits other n f a = let e : None ≡ Some (pair f.opaque f.opcode) = a.1 in cc
+awaits : (buffer : ℕ) (h : Handshake) (n : ℕ) (f : Frame) → IsAnswer buffer h n f → Awaits buffer h n f
+awaits buffer handshake.Opening n f a = numbers 1 0x50 f a.0 a.1
+awaits buffer handshake.Buffering n f a = numbers 2 0x5e f a.0 a.1
+awaits buffer handshake.SyncWrites n f a = numbers (if buffer == 0 then 2 else 3) 0x5e f a.0 a.1
+awaits buffer handshake.Naming n f a = numbers (if buffer == 0 then 3 else 4) 0x5e f a.0 a.1
+awaits buffer handshake.Asking n f a = numbers n 0x53 f a.0 a.1
+awaits buffer other n f a = let e : None ≡ Some (pair f.opaque f.opcode) = a.1 in cc
 
 named : (opaque opcode : ℕ) (f : Frame) → AnswersTo opaque opcode f → Some (pair opaque opcode) ≡ Some (pair f.opaque f.opcode)
 named opaque opcode f a = λ i. Some (sym a.1 i, sym a.2 i)
 
-is_answer : (h : Handshake) (n : ℕ) (f : Frame) → Awaits h n f → IsAnswer h n f
-is_answer handshake.Opening n f a = (a.0, named 1 0x50 f a)
-is_answer handshake.SyncWrites n f a = (a.0, named 2 0x5e f a)
-is_answer handshake.Naming n f a = (a.0, named 3 0x5e f a)
-is_answer handshake.Asking n f a = (a.0, named n 0x53 f a)
-is_answer other n f a = absurd a
+is_answer : (buffer : ℕ) (h : Handshake) (n : ℕ) (f : Frame) → Awaits buffer h n f → IsAnswer buffer h n f
+is_answer buffer handshake.Opening n f a = (a.0, named 1 0x50 f a)
+is_answer buffer handshake.Buffering n f a = (a.0, named 2 0x5e f a)
+is_answer buffer handshake.SyncWrites n f a = (a.0, named (if buffer == 0 then 2 else 3) 0x5e f a)
+is_answer buffer handshake.Naming n f a = (a.0, named (if buffer == 0 then 3 else 4) 0x5e f a)
+is_answer buffer handshake.Asking n f a = (a.0, named n 0x53 f a)
+is_answer buffer other n f a = absurd a
 
-comes_at : (c : PlainConsumer) (f : Frame) (s : ConsumerStep) → frame_step c f ≡ s → Comes c.handshake c.asked f s
-comes_at c f s e = subst (Comes c.handshake c.asked f) e (comes_itself c f)
+comes_at : (c : PlainConsumer) (f : Frame) (s : ConsumerStep) → frame_step c f ≡ s → Comes c.dialed.buffer c.handshake c.asked f s
+comes_at c f s e = subst (Comes c.dialed.buffer c.handshake c.asked f) e (comes_itself c f)
 
 -- what is passed over is no such answer
-passed_by : (h : Handshake) (n : ℕ) (f : Frame) → Comes h n f step.Dropped → IsAnswer h n f → ⊥
-passed_by h n f (inl over) a = over (awaits_live h n f (awaits h n f a))
-passed_by h n f (inr p) a = p.1 (awaits h n f a)
+passed_by : (buffer : ℕ) (h : Handshake) (n : ℕ) (f : Frame) → Comes buffer h n f step.Dropped → IsAnswer buffer h n f → ⊥
+passed_by buffer h n f (inl over) a = over (awaits_live buffer h n f (awaits buffer h n f a))
+passed_by buffer h n f (inr p) a = p.1 (awaits buffer h n f a)
 
-pub passed_over : (c : PlainConsumer) (f : Frame) → f.magic ≡ 0x81 → (consumer_step c f ≡ (c, step.Dropped)) ↔ (awaited c.handshake c.asked ≢ Some (f.opaque, f.opcode))
+pub passed_over : (c : PlainConsumer) (f : Frame) → f.magic ≡ 0x81 → (consumer_step c f ≡ (c, step.Dropped)) ↔ (awaited c.dialed.buffer c.handshake c.asked ≢ Some (f.opaque, f.opcode))
 passed_over c f magic = (
-  λ e a. passed_by c.handshake c.asked f (comes_at c f step.Dropped (ap (λ p. p.1) e)) (magic, a),
-  λ never. ap (λ s. (with_handshake c (moved_by s c.handshake), s)) (comes_so c f step.Dropped (inr (magic, λ a. never (is_answer c.handshake c.asked f a).1))),
+  λ e a. passed_by c.dialed.buffer c.handshake c.asked f (comes_at c f step.Dropped (ap (λ p. p.1) e)) (magic, a),
+  λ never. ap (λ s. (with_handshake c (moved_by c.dialed.buffer s c.handshake), s)) (comes_so c f step.Dropped (inr (magic, λ a. never (is_answer c.dialed.buffer c.handshake c.asked f a).1))),
 )
 
 -- ---- the reasons
 
-by_frame : (h : Handshake) (n : ℕ) (f : Frame) (why : EndReason) (s : ConsumerStep) → Ends why s → Comes h n f s → EndsBy why h n f
-by_frame h n f reason.Cut s e p = absurd e
-by_frame h n f reason.Disk s e p = absurd e
-by_frame h n f reason.Refused s e p =
-    let q : Comes h n f (step.Over reason.Refused) = subst (Comes h n f) e p in (is_answer h n f q.0, q.1, q.2)
-by_frame h n f reason.Protocol s (inl e) p =
-    let q : Comes h n f (step.Over reason.Protocol) = subst (Comes h n f) e p in
-    inl (q.0, is_answer h n f (subst (λ k. Awaits k n f) (sym q.0) q.1), q.2, q.3)
-by_frame h n f reason.Protocol s (inr e) p =
-    let q : Comes h n f (step.Passive passive.Protocol) = subst (Comes h n f) e p in inr (q.0.0, q.1)
-by_frame h n f reason.Done s e p =
-    let q : Comes h n f (step.Passive (passive.End reason.Done)) = subst (Comes h n f) e p in (q.0.0, q.1, q.2)
-by_frame h n f reason.State s e p =
-    let q : Comes h n f (step.Passive (passive.End reason.State)) = subst (Comes h n f) e p in (q.0.0, q.1, q.2)
+by_frame : (buffer : ℕ) (h : Handshake) (n : ℕ) (f : Frame) (why : EndReason) (s : ConsumerStep) → Ends why s → Comes buffer h n f s → EndsBy why buffer h n f
+by_frame buffer h n f reason.Cut s e p = absurd e
+by_frame buffer h n f reason.Disk s e p = absurd e
+by_frame buffer h n f reason.Refused s e p =
+    let q : Comes buffer h n f (step.Over reason.Refused) = subst (Comes buffer h n f) e p in (is_answer buffer h n f q.0, q.1, q.2)
+by_frame buffer h n f reason.Protocol s (inl e) p =
+    let q : Comes buffer h n f (step.Over reason.Protocol) = subst (Comes buffer h n f) e p in
+    inl (q.0, is_answer buffer h n f (subst (λ k. Awaits buffer k n f) (sym q.0) q.1), q.2, q.3)
+by_frame buffer h n f reason.Protocol s (inr e) p =
+    let q : Comes buffer h n f (step.Passive passive.Protocol) = subst (Comes buffer h n f) e p in inr (q.0.0, q.1)
+by_frame buffer h n f reason.Done s e p =
+    let q : Comes buffer h n f (step.Passive (passive.End reason.Done)) = subst (Comes buffer h n f) e p in (q.0.0, q.1, q.2)
+by_frame buffer h n f reason.State s e p =
+    let q : Comes buffer h n f (step.Passive (passive.End reason.State)) = subst (Comes buffer h n f) e p in (q.0.0, q.1, q.2)
 
-moved_so : (c : PlainConsumer) (f : Frame) (s : ConsumerStep) → Comes c.handshake c.asked f s → (consumer_step c f).0.handshake ≡ moved_by s c.handshake
-moved_so c f s p = ap (λ s. moved_by s c.handshake) (comes_so c f s p)
+moved_so : (c : PlainConsumer) (f : Frame) (s : ConsumerStep) → Comes c.dialed.buffer c.handshake c.asked f s → (consumer_step c f).0.handshake ≡ moved_by c.dialed.buffer s c.handshake
+moved_so c f s p = ap (λ s. moved_by c.dialed.buffer s c.handshake) (comes_so c f s p)
 
-ends_by_frame : (c : PlainConsumer) (f : Frame) (why : EndReason) → over_why c.handshake ≡ None → EndsBy why c.handshake c.asked f → (consumer_step c f).0.handshake ≡ handshake.Over why
+ends_by_frame : (c : PlainConsumer) (f : Frame) (why : EndReason) → over_why c.handshake ≡ None → EndsBy why c.dialed.buffer c.handshake c.asked f → (consumer_step c f).0.handshake ≡ handshake.Over why
 ends_by_frame c f reason.Cut live p = absurd p
 ends_by_frame c f reason.Disk live p = absurd p
-ends_by_frame c f reason.Refused live p = moved_so c f (step.Over reason.Refused) (awaits c.handshake c.asked f p.0, p.1, p.2)
+ends_by_frame c f reason.Refused live p = moved_so c f (step.Over reason.Refused) (awaits c.dialed.buffer c.handshake c.asked f p.0, p.1, p.2)
 ends_by_frame c f reason.Protocol live (inl p) =
-    let a : Awaits handshake.Asking c.asked f = subst (λ k. Awaits k c.asked f) p.0 (awaits c.handshake c.asked f p.1) in
+    let a : Awaits c.dialed.buffer handshake.Asking c.asked f = subst (λ k. Awaits c.dialed.buffer k c.asked f) p.0 (awaits c.dialed.buffer c.handshake c.asked f p.1) in
     moved_so c f (step.Over reason.Protocol) (p.0, a, p.2, p.3)
 ends_by_frame c f reason.Protocol live (inr p) = moved_so c f (step.Passive passive.Protocol) ((p.0, live), p.1)
 ends_by_frame c f reason.Done live p = moved_so c f (step.Passive (passive.End reason.Done)) ((p.0, live), p.1, p.2)
 ends_by_frame c f reason.State live p = moved_so c f (step.Passive (passive.End reason.State)) ((p.0, live), p.1, p.2)
 
-pub reasons_so : (c : PlainConsumer) (f : Frame) (why : EndReason) → over_why c.handshake ≡ None → ((consumer_step c f).0.handshake ≡ handshake.Over why) ↔ EndsBy why c.handshake c.asked f
+pub reasons_so : (c : PlainConsumer) (f : Frame) (why : EndReason) → over_why c.handshake ≡ None → ((consumer_step c f).0.handshake ≡ handshake.Over why) ↔ EndsBy why c.dialed.buffer c.handshake c.asked f
 reasons_so c f why live = (
-  λ e. by_frame c.handshake c.asked f why (frame_step c f) ((ends_so c f why live).0 e) (comes_itself c f),
+  λ e. by_frame c.dialed.buffer c.handshake c.asked f why (frame_step c f) ((ends_so c f why live).0 e) (comes_itself c f),
   ends_by_frame c f why live,
 )

@@ -31,34 +31,34 @@ over_by : (c : PlainConsumer) (f : Frame) (over : Option EndReason) → over_why
 unfolding frame_step
 over_by c f None e ne = absurd (ne refl)
 over_by c f (Some why) e ne =
-    ap (λ o. if is_some o then step.Dropped else if f.magic == RESPONSE then response_step c.handshake c.asked f else message_step c.handshake f) e
+    ap (λ o. if is_some o then step.Dropped else if f.magic == RESPONSE then response_step c.dialed.buffer c.handshake c.asked f else message_step c.handshake f) e
 
 pub over_step : (c : PlainConsumer) (f : Frame) → over_why c.handshake ≢ None → frame_step c f ≡ step.Dropped
 over_step c f over = over_by c f (over_why c.handshake) refl over
 
 live_step : (c : PlainConsumer) (f : Frame) (b : Bool) → over_why c.handshake ≡ None → (f.magic == RESPONSE) ≡ b
-    → frame_step c f ≡ (if b then response_step c.handshake c.asked f else message_step c.handshake f)
+    → frame_step c f ≡ (if b then response_step c.dialed.buffer c.handshake c.asked f else message_step c.handshake f)
 unfolding frame_step
 live_step c f b live magic =
-    ap (λ o. if is_some o then step.Dropped else if f.magic == RESPONSE then response_step c.handshake c.asked f else message_step c.handshake f) live
-    ∙ ap (λ x. if x then response_step c.handshake c.asked f else message_step c.handshake f) magic
+    ap (λ o. if is_some o then step.Dropped else if f.magic == RESPONSE then response_step c.dialed.buffer c.handshake c.asked f else message_step c.handshake f) live
+    ∙ ap (λ x. if x then response_step c.dialed.buffer c.handshake c.asked f else message_step c.handshake f) magic
 
-pub awaits_live : (h : Handshake) (n : ℕ) (f : Frame) → Awaits h n f → over_why h ≡ None
-awaits_live (handshake.Over why) n f a = absurd a
-awaits_live other n f a = refl
+pub awaits_live : (buffer : ℕ) (h : Handshake) (n : ℕ) (f : Frame) → Awaits buffer h n f → over_why h ≡ None
+awaits_live buffer (handshake.Over why) n f a = absurd a
+awaits_live buffer other n f a = refl
 
-pub awaited_step : (c : PlainConsumer) (f : Frame) → Awaits c.handshake c.asked f → frame_step c f ≡ answer_step c.handshake f
+pub awaited_step : (c : PlainConsumer) (f : Frame) → Awaits c.dialed.buffer c.handshake c.asked f → frame_step c f ≡ answer_step c.handshake f
 awaited_step c f a =
-    live_step c f true (awaits_live c.handshake c.asked f a) (eq-eqb f.magic RESPONSE (awaited_magic c.handshake c.asked f a))
-    ∙ ap (λ b. if b then answer_step c.handshake f else step.Dropped) (awaited_so c.handshake c.asked f a)
+    live_step c f true (awaits_live c.dialed.buffer c.handshake c.asked f a) (eq-eqb f.magic RESPONSE (awaited_magic c.dialed.buffer c.handshake c.asked f a))
+    ∙ ap (λ b. if b then answer_step c.handshake f else step.Dropped) (awaited_so c.dialed.buffer c.handshake c.asked f a)
 
-unawaited_by : (c : PlainConsumer) (f : Frame) (b : Bool) → over_why c.handshake ≡ None → f.magic ≡ 0x81 → (Awaits c.handshake c.asked f → ⊥) → is_awaited c.handshake c.asked f ≡ b
+unawaited_by : (c : PlainConsumer) (f : Frame) (b : Bool) → over_why c.handshake ≡ None → f.magic ≡ 0x81 → (Awaits c.dialed.buffer c.handshake c.asked f → ⊥) → is_awaited c.dialed.buffer c.handshake c.asked f ≡ b
     → frame_step c f ≡ step.Dropped
-unawaited_by c f true live magic never e = absurd (never (awaited_back c.handshake c.asked f magic e))
+unawaited_by c f true live magic never e = absurd (never (awaited_back c.dialed.buffer c.handshake c.asked f magic e))
 unawaited_by c f false live magic never e = live_step c f true live (eq-eqb f.magic RESPONSE magic) ∙ ap (λ b. if b then answer_step c.handshake f else step.Dropped) e
 
-unawaited_at : (c : PlainConsumer) (f : Frame) (over : Option EndReason) → over_why c.handshake ≡ over → f.magic ≡ 0x81 → (Awaits c.handshake c.asked f → ⊥) → frame_step c f ≡ step.Dropped
-unawaited_at c f None live magic never = unawaited_by c f (is_awaited c.handshake c.asked f) live magic never refl
+unawaited_at : (c : PlainConsumer) (f : Frame) (over : Option EndReason) → over_why c.handshake ≡ over → f.magic ≡ 0x81 → (Awaits c.dialed.buffer c.handshake c.asked f → ⊥) → frame_step c f ≡ step.Dropped
+unawaited_at c f None live magic never = unawaited_by c f (is_awaited c.dialed.buffer c.handshake c.asked f) live magic never refl
 unawaited_at c f (Some why) over magic never = over_by c f (Some why) over (λ e. cc)
 
 message_met : (c : PlainConsumer) (f : Frame) → IsMessage c.handshake f → frame_step c f ≡ message_step c.handshake f
@@ -66,9 +66,9 @@ message_met c f m = live_step c f false m.1 (ne_eqb f.magic RESPONSE m.0)
 
 -- ---- answers
 
-status_met : (h : Handshake) (n : ℕ) (f : Frame) → Awaits h n f → h ≢ handshake.Asking → answer_step h f ≡ status_step f.vb_or_status
-status_met handshake.Asking n f a ne = absurd (ne refl)
-status_met other n f a ne = refl
+status_met : (buffer : ℕ) (h : Handshake) (n : ℕ) (f : Frame) → Awaits buffer h n f → h ≢ handshake.Asking → answer_step h f ≡ status_step f.vb_or_status
+status_met buffer handshake.Asking n f a ne = absurd (ne refl)
+status_met buffer other n f a ne = refl
 
 failure : (code : ℕ) → code ≢ 0 → status_step code ≡ step.Over reason.Refused
 failure code ne = ap (λ b. if b then step.Answered else step.Over reason.Refused) (ne_eqb code SUCCESS ne)
@@ -78,17 +78,17 @@ refused_by f first second (inl r) =
     ap stream_step r.2 ∙ ap (λ t. stream_step (Ok t)) (read_told f r.0 r.1 ∙ told_other f.vb_or_status f.value first second)
 refused_by f first second (inr r) = ap stream_step r.1 ∙ ap step.Over (misread_other f.vb_or_status first second)
 
-refused_at : (h : Handshake) (n : ℕ) (f : Frame) → Awaits h n f → f.vb_or_status ≢ 0 → (h ≡ handshake.Asking → f.vb_or_status ≢ 0x23) → answer_step h f ≡ step.Over reason.Refused
-refused_at handshake.Asking n f a ne other = refused_by f ne (other refl) (read_case f.vb_or_status (read_of f))
-refused_at h n f a ne other = failure f.vb_or_status ne
+refused_at : (buffer : ℕ) (h : Handshake) (n : ℕ) (f : Frame) → Awaits buffer h n f → f.vb_or_status ≢ 0 → (h ≡ handshake.Asking → f.vb_or_status ≢ 0x23) → answer_step h f ≡ step.Over reason.Refused
+refused_at buffer handshake.Asking n f a ne other = refused_by f ne (other refl) (read_case f.vb_or_status (read_of f))
+refused_at buffer h n f a ne other = failure f.vb_or_status ne
 
 misread_by : (f : Frame) → (f.vb_or_status ≡ 0) ⊎ (f.vb_or_status ≡ 0x23) → ((t : StreamVerdict) → Reads f (msg.StreamAnswer t) → ⊥) → ReadCase f.vb_or_status (read_of f)
     → stream_step (answered_with f.vb_or_status (read_of f)) ≡ step.Over reason.Protocol
 misread_by f code none (inl r) = absurd (none r.0 r.1)
 misread_by f code none (inr r) = ap stream_step r.1 ∙ ap step.Over (misread_back f.vb_or_status code)
 
-asking_step : (c : PlainConsumer) (f : Frame) → c.handshake ≡ handshake.Asking → Awaits handshake.Asking c.asked f → frame_step c f ≡ stream_step (answered_with f.vb_or_status (read_of f))
-asking_step c f asks a = awaited_step c f (subst (λ h. Awaits h c.asked f) (sym asks) a) ∙ ap (λ h. answer_step h f) asks
+asking_step : (c : PlainConsumer) (f : Frame) → c.handshake ≡ handshake.Asking → Awaits c.dialed.buffer handshake.Asking c.asked f → frame_step c f ≡ stream_step (answered_with f.vb_or_status (read_of f))
+asking_step c f asks a = awaited_step c f (subst (λ h. Awaits c.dialed.buffer h c.asked f) (sym asks) a) ∙ ap (λ h. answer_step h f) asks
 
 -- ---- messages
 
@@ -119,15 +119,15 @@ strange_at other f never = refl
 
 -- ---- each step comes where it is said to
 
-dropped_so : (c : PlainConsumer) (f : Frame) → Comes c.handshake c.asked f step.Dropped → frame_step c f ≡ step.Dropped
+dropped_so : (c : PlainConsumer) (f : Frame) → Comes c.dialed.buffer c.handshake c.asked f step.Dropped → frame_step c f ≡ step.Dropped
 dropped_so c f (inl over) = over_step c f over
 dropped_so c f (inr p) = unawaited_at c f (over_why c.handshake) refl p.0 p.1
 
-pub comes_so : (c : PlainConsumer) (f : Frame) (s : ConsumerStep) → Comes c.handshake c.asked f s → frame_step c f ≡ s
-comes_so c f step.Answered p = awaited_step c f p.0 ∙ status_met c.handshake c.asked f p.0 p.1 ∙ ap status_step p.2
+pub comes_so : (c : PlainConsumer) (f : Frame) (s : ConsumerStep) → Comes c.dialed.buffer c.handshake c.asked f s → frame_step c f ≡ s
+comes_so c f step.Answered p = awaited_step c f p.0 ∙ status_met c.dialed.buffer c.handshake c.asked f p.0 p.1 ∙ ap status_step p.2
 comes_so c f (step.Adopt log) p = asking_step c f p.0 p.1 ∙ ap (λ r. stream_step (answered_with f.vb_or_status r)) p.2
 comes_so c f (step.Roll point) p = asking_step c f p.0 p.1 ∙ ap (λ r. stream_step (answered_with f.vb_or_status r)) p.2
-comes_so c f (step.Over reason.Refused) p = awaited_step c f p.0 ∙ refused_at c.handshake c.asked f p.0 p.1 p.2
+comes_so c f (step.Over reason.Refused) p = awaited_step c f p.0 ∙ refused_at c.dialed.buffer c.handshake c.asked f p.0 p.1 p.2
 comes_so c f (step.Over reason.Protocol) p = asking_step c f p.0 p.1 ∙ misread_by f p.2 p.3 (read_case f.vb_or_status (read_of f))
 comes_so c f (step.Over other) p = absurd p
 comes_so c f (step.Passive (passive.Call call)) p =
@@ -143,76 +143,76 @@ comes_so c f step.Dropped p = dropped_so c f p
 -- ---- and each frame comes to one of them
 
 -- a step, which comes so
-abbrev Coming : Handshake → ℕ → Frame → Type 0
-Coming h n f = (s : ConsumerStep) × Comes h n f s
+abbrev Coming : ℕ → Handshake → ℕ → Frame → Type 0
+Coming buffer h n f = (s : ConsumerStep) × Comes buffer h n f s
 
-status_comes : (h : Handshake) (n : ℕ) (f : Frame) → Awaits h n f → h ≢ handshake.Asking → (((f.vb_or_status == 0) ≡ true) × (f.vb_or_status ≡ 0)) ⊎ (((f.vb_or_status == 0) ≡ false) × (f.vb_or_status ≢ 0))
-    → Coming h n f
-status_comes h n f a ne (inl code) = (step.Answered, (a, ne, code.1))
-status_comes h n f a ne (inr code) = (step.Over reason.Refused, (a, code.1, λ e. absurd (ne e)))
+status_comes : (buffer : ℕ) (h : Handshake) (n : ℕ) (f : Frame) → Awaits buffer h n f → h ≢ handshake.Asking → (((f.vb_or_status == 0) ≡ true) × (f.vb_or_status ≡ 0)) ⊎ (((f.vb_or_status == 0) ≡ false) × (f.vb_or_status ≢ 0))
+    → Coming buffer h n f
+status_comes buffer h n f a ne (inl code) = (step.Answered, (a, ne, code.1))
+status_comes buffer h n f a ne (inr code) = (step.Over reason.Refused, (a, code.1, λ e. absurd (ne e)))
 
-refuse_comes : (n : ℕ) (f : Frame) (code : ℕ) → Awaits handshake.Asking n f → Reads f (msg.StreamAnswer (told.Refused code)) → StatusCase f.vb_or_status → Coming handshake.Asking n f
-refuse_comes n f code a r (inl e) =
+refuse_comes : (buffer : ℕ) (n : ℕ) (f : Frame) (code : ℕ) → Awaits buffer handshake.Asking n f → Reads f (msg.StreamAnswer (told.Refused code)) → StatusCase f.vb_or_status → Coming buffer handshake.Asking n f
+refuse_comes buffer n f code a r (inl e) =
     let is : told.Refused code ≡ verdict_in 0 f.value = read_told f (told.Refused code) r ∙ ap (λ status. verdict_in status f.value) e in cc
-refuse_comes n f code a r (inr (inl e)) =
+refuse_comes buffer n f code a r (inr (inl e)) =
     let is : told.Refused code ≡ verdict_in 0x23 f.value = read_told f (told.Refused code) r ∙ ap (λ status. verdict_in status f.value) e in cc
-refuse_comes n f code a r (inr (inr p)) = (step.Over reason.Refused, (a, p.0, λ e. p.1))
+refuse_comes buffer n f code a r (inr (inr p)) = (step.Over reason.Refused, (a, p.0, λ e. p.1))
 
-told_comes : (n : ℕ) (f : Frame) (t : StreamVerdict) → Awaits handshake.Asking n f → Reads f (msg.StreamAnswer t) → Coming handshake.Asking n f
-told_comes n f (told.Go log) a r = (step.Adopt log, (refl, a, r))
-told_comes n f (told.Roll point) a r = (step.Roll point, (refl, a, r))
-told_comes n f (told.Refused code) a r = refuse_comes n f code a r (status_case f.vb_or_status)
+told_comes : (buffer : ℕ) (n : ℕ) (f : Frame) (t : StreamVerdict) → Awaits buffer handshake.Asking n f → Reads f (msg.StreamAnswer t) → Coming buffer handshake.Asking n f
+told_comes buffer n f (told.Go log) a r = (step.Adopt log, (refl, a, r))
+told_comes buffer n f (told.Roll point) a r = (step.Roll point, (refl, a, r))
+told_comes buffer n f (told.Refused code) a r = refuse_comes buffer n f code a r (status_case f.vb_or_status)
 
-untold_comes : (n : ℕ) (f : Frame) → Awaits handshake.Asking n f → ((t : StreamVerdict) → Reads f (msg.StreamAnswer t) → ⊥) → StatusCase f.vb_or_status → Coming handshake.Asking n f
-untold_comes n f a none (inl e) = (step.Over reason.Protocol, (refl, a, inl e, none))
-untold_comes n f a none (inr (inl e)) = (step.Over reason.Protocol, (refl, a, inr e, none))
-untold_comes n f a none (inr (inr p)) = (step.Over reason.Refused, (a, p.0, λ e. p.1))
+untold_comes : (buffer : ℕ) (n : ℕ) (f : Frame) → Awaits buffer handshake.Asking n f → ((t : StreamVerdict) → Reads f (msg.StreamAnswer t) → ⊥) → StatusCase f.vb_or_status → Coming buffer handshake.Asking n f
+untold_comes buffer n f a none (inl e) = (step.Over reason.Protocol, (refl, a, inl e, none))
+untold_comes buffer n f a none (inr (inl e)) = (step.Over reason.Protocol, (refl, a, inr e, none))
+untold_comes buffer n f a none (inr (inr p)) = (step.Over reason.Refused, (a, p.0, λ e. p.1))
 
-stream_comes : (n : ℕ) (f : Frame) → Awaits handshake.Asking n f → ReadCase f.vb_or_status (read_of f) → Coming handshake.Asking n f
-stream_comes n f a (inl r) = told_comes n f r.0 a r.1
-stream_comes n f a (inr r) = untold_comes n f a r.0 (status_case f.vb_or_status)
+stream_comes : (buffer : ℕ) (n : ℕ) (f : Frame) → Awaits buffer handshake.Asking n f → ReadCase f.vb_or_status (read_of f) → Coming buffer handshake.Asking n f
+stream_comes buffer n f a (inl r) = told_comes buffer n f r.0 a r.1
+stream_comes buffer n f a (inr r) = untold_comes buffer n f a r.0 (status_case f.vb_or_status)
 
-answer_comes : (h : Handshake) (n : ℕ) (f : Frame) → Awaits h n f → Coming h n f
-answer_comes handshake.Asking n f a = stream_comes n f a (read_case f.vb_or_status (read_of f))
-answer_comes h n f a = status_comes h n f a (λ e. cc) (eqb_tells f.vb_or_status 0)
+answer_comes : (buffer : ℕ) (h : Handshake) (n : ℕ) (f : Frame) → Awaits buffer h n f → Coming buffer h n f
+answer_comes buffer handshake.Asking n f a = stream_comes buffer n f a (read_case f.vb_or_status (read_of f))
+answer_comes buffer h n f a = status_comes buffer h n f a (λ e. cc) (eqb_tells f.vb_or_status 0)
 
-end_comes : (n : ℕ) (f : Frame) (why : ℕ) → IsMessage handshake.Streaming f → Reads f (msg.StreamEnd why) → (((why == 0) ≡ true) × (why ≡ 0)) ⊎ (((why == 0) ≡ false) × (why ≢ 0))
-    → Coming handshake.Streaming n f
-end_comes n f why m r (inl zero) = (step.Passive (passive.End reason.Done), (m, refl, subst (λ w. Reads f (msg.StreamEnd w)) zero.1 r))
-end_comes n f why m r (inr more) = (step.Passive (passive.End reason.State), (m, refl, (why, more.1, r)))
+end_comes : (buffer : ℕ) (n : ℕ) (f : Frame) (why : ℕ) → IsMessage handshake.Streaming f → Reads f (msg.StreamEnd why) → (((why == 0) ≡ true) × (why ≡ 0)) ⊎ (((why == 0) ≡ false) × (why ≢ 0))
+    → Coming buffer handshake.Streaming n f
+end_comes buffer n f why m r (inl zero) = (step.Passive (passive.End reason.Done), (m, refl, subst (λ w. Reads f (msg.StreamEnd w)) zero.1 r))
+end_comes buffer n f why m r (inr more) = (step.Passive (passive.End reason.State), (m, refl, (why, more.1, r)))
 
 same_read : (f : Frame) (m k : DcpMsg) → Reads f m → Reads f k → m ≡ k
 same_read f m k first second = cc
 
-call_comes : (n : ℕ) (f : Frame) (m : DcpMsg) → IsMessage handshake.Streaming f → Reads f m → (IsOfStream m → call_of_message m ≢ None) → (o : Option VbCall) → call_of_message m ≡ o
-    → Coming handshake.Streaming n f
-call_comes n f m is r makes (Some call) e = (step.Passive (passive.Call call), (is, refl, (m, r, e)))
-call_comes n f m is r makes None e = (step.Passive passive.Protocol, (is, λ streams k read of. makes (subst IsOfStream (same_read f k m read r) of) e))
+call_comes : (buffer : ℕ) (n : ℕ) (f : Frame) (m : DcpMsg) → IsMessage handshake.Streaming f → Reads f m → (IsOfStream m → call_of_message m ≢ None) → (o : Option VbCall) → call_of_message m ≡ o
+    → Coming buffer handshake.Streaming n f
+call_comes buffer n f m is r makes (Some call) e = (step.Passive (passive.Call call), (is, refl, (m, r, e)))
+call_comes buffer n f m is r makes None e = (step.Passive passive.Protocol, (is, λ streams k read of. makes (subst IsOfStream (same_read f k m read r) of) e))
 
-message_comes : (n : ℕ) (f : Frame) (m : DcpMsg) → IsMessage handshake.Streaming f → Reads f m → Coming handshake.Streaming n f
-message_comes n f (msg.StreamEnd why) is r = end_comes n f why is r (eqb_tells why 0)
-message_comes n f m is r = call_comes n f m is r (λ makes. makes) (call_of_message m) refl
+message_comes : (buffer : ℕ) (n : ℕ) (f : Frame) (m : DcpMsg) → IsMessage handshake.Streaming f → Reads f m → Coming buffer handshake.Streaming n f
+message_comes buffer n f (msg.StreamEnd why) is r = end_comes buffer n f why is r (eqb_tells why 0)
+message_comes buffer n f m is r = call_comes buffer n f m is r (λ makes. makes) (call_of_message m) refl
 
-read_comes : (n : ℕ) (f : Frame) → IsMessage handshake.Streaming f → (read : Option (Result DcpMsg DcpFault)) → read_of f ≡ read → Coming handshake.Streaming n f
-read_comes n f is (Some (Ok m)) r = message_comes n f m is r
-read_comes n f is None r = (step.Passive passive.Protocol, (is, λ streams m read of. cc))
-read_comes n f is (Some (Err fault)) r = (step.Passive passive.Protocol, (is, λ streams m read of. cc))
+read_comes : (buffer : ℕ) (n : ℕ) (f : Frame) → IsMessage handshake.Streaming f → (read : Option (Result DcpMsg DcpFault)) → read_of f ≡ read → Coming buffer handshake.Streaming n f
+read_comes buffer n f is (Some (Ok m)) r = message_comes buffer n f m is r
+read_comes buffer n f is None r = (step.Passive passive.Protocol, (is, λ streams m read of. cc))
+read_comes buffer n f is (Some (Err fault)) r = (step.Passive passive.Protocol, (is, λ streams m read of. cc))
 
-sent_comes : (h : Handshake) (n : ℕ) (f : Frame) → f.magic ≢ 0x81 → Coming h n f
-sent_comes handshake.Streaming n f magic = read_comes n f (magic, refl) (read_of f) refl
-sent_comes (handshake.Over why) n f magic = (step.Dropped, inl (λ e. cc))
-sent_comes h n f magic = (step.Passive passive.Protocol, ((magic, refl), λ streams. cc))
+sent_comes : (buffer : ℕ) (h : Handshake) (n : ℕ) (f : Frame) → f.magic ≢ 0x81 → Coming buffer h n f
+sent_comes buffer handshake.Streaming n f magic = read_comes buffer n f (magic, refl) (read_of f) refl
+sent_comes buffer (handshake.Over why) n f magic = (step.Dropped, inl (λ e. cc))
+sent_comes buffer h n f magic = (step.Passive passive.Protocol, ((magic, refl), λ streams. cc))
 
-awaited_comes : (h : Handshake) (n : ℕ) (f : Frame) → f.magic ≡ 0x81 → (b : Bool) → is_awaited h n f ≡ b → Coming h n f
-awaited_comes h n f magic true e = answer_comes h n f (awaited_back h n f magic e)
-awaited_comes h n f magic false e = (step.Dropped, inr (magic, λ a. let so : is_awaited h n f ≡ true = awaited_so h n f a in cc))
+awaited_comes : (buffer : ℕ) (h : Handshake) (n : ℕ) (f : Frame) → f.magic ≡ 0x81 → (b : Bool) → is_awaited buffer h n f ≡ b → Coming buffer h n f
+awaited_comes buffer h n f magic true e = answer_comes buffer h n f (awaited_back buffer h n f magic e)
+awaited_comes buffer h n f magic false e = (step.Dropped, inr (magic, λ a. let so : is_awaited buffer h n f ≡ true = awaited_so buffer h n f a in cc))
 
-any_comes : (h : Handshake) (n : ℕ) (f : Frame) → (((f.magic == 0x81) ≡ true) × (f.magic ≡ 0x81)) ⊎ (((f.magic == 0x81) ≡ false) × (f.magic ≢ 0x81)) → Coming h n f
-any_comes h n f (inl magic) = awaited_comes h n f magic.1 (is_awaited h n f) refl
-any_comes h n f (inr magic) = sent_comes h n f magic.1
+any_comes : (buffer : ℕ) (h : Handshake) (n : ℕ) (f : Frame) → (((f.magic == 0x81) ≡ true) × (f.magic ≡ 0x81)) ⊎ (((f.magic == 0x81) ≡ false) × (f.magic ≢ 0x81)) → Coming buffer h n f
+any_comes buffer h n f (inl magic) = awaited_comes buffer h n f magic.1 (is_awaited buffer h n f) refl
+any_comes buffer h n f (inr magic) = sent_comes buffer h n f magic.1
 
 -- what the step of a frame needs
-pub comes_itself : (c : PlainConsumer) (f : Frame) → Comes c.handshake c.asked f (frame_step c f)
+pub comes_itself : (c : PlainConsumer) (f : Frame) → Comes c.dialed.buffer c.handshake c.asked f (frame_step c f)
 comes_itself c f =
-    let coming = any_comes c.handshake c.asked f (eqb_tells f.magic 0x81) in
-    subst (Comes c.handshake c.asked f) (sym (comes_so c f coming.0 coming.1)) coming.1
+    let coming = any_comes c.dialed.buffer c.handshake c.asked f (eqb_tells f.magic 0x81) in
+    subst (Comes c.dialed.buffer c.handshake c.asked f) (sym (comes_so c f coming.0 coming.1)) coming.1

@@ -1,5 +1,5 @@
 -- what a consumer makes of each frame, in the numbers of the protocol
-use Rattle.std.specs.Prelude.{◌≡◌, ◌≢◌, ℕ, ◌<◌, ◌⊎◌, List, [], ◌∷◌, Option, Some, None, Ok}
+use Rattle.std.specs.Prelude.{◌≡◌, ◌≢◌, ℕ, ◌<◌, ◌==◌, if◌then◌else◌, ◌⊎◌, List, [], ◌∷◌, Option, Some, None, Ok}
 use Rattle.std.specs.Int.{w64, to_be_bytes}
 use Rattle.mcbp_frame.specs.declared.frame.Frame.{Frame}
 use Rattle.mcbp_frame.specs.Spelling.{spelling}
@@ -24,25 +24,32 @@ use Rattle.dcp_consumer.specs.declared.passive_stream.Passive.TheVariants as pas
 abbrev pub AnswersTo : ℕ → ℕ → Frame → Type 0
 AnswersTo opaque opcode f = (f.magic ≡ 0x81) × (f.opaque ≡ opaque) × (f.opcode ≡ opcode)
 
--- the answer that is waited for: OPEN has the opaque 1 and the opcode 0x50, the CONTROLs 2, 3 and 0x5e, and the last STREAM_REQUEST its opaque and 0x53
-abbrev pub Awaits : Handshake → ℕ → Frame → Type 0
-Awaits handshake.Opening asked f = AnswersTo 1 0x50 f
-Awaits handshake.SyncWrites asked f = AnswersTo 2 0x5e f
-Awaits handshake.Naming asked f = AnswersTo 3 0x5e f
-Awaits handshake.Asking asked f = AnswersTo asked 0x53 f
-Awaits other asked f = ⊥
+-- the answer that is waited for. OPEN has the opaque 1 and the opcode 0x50, and the CONTROLs have 0x5e: that for the buffer the opaque 2, and the two others 2 and 3, or 3 and 4 where there is a buffer.
+-- The last STREAM_REQUEST has its opaque and 0x53
+abbrev pub Awaits : ℕ → Handshake → ℕ → Frame → Type 0
+Awaits buffer handshake.Opening asked f = AnswersTo 1 0x50 f
+Awaits buffer handshake.Buffering asked f = AnswersTo 2 0x5e f
+Awaits buffer handshake.SyncWrites asked f = AnswersTo (if buffer == 0 then 2 else 3) 0x5e f
+Awaits buffer handshake.Naming asked f = AnswersTo (if buffer == 0 then 3 else 4) 0x5e f
+Awaits buffer handshake.Asking asked f = AnswersTo asked 0x53 f
+Awaits buffer other asked f = ⊥
 
 -- the opaque and the opcode of the answer that is waited for, if any is
-abbrev pub awaited : Handshake → ℕ → Option (ℕ × ℕ)
-awaited handshake.Opening asked = Some (1, 0x50)
-awaited handshake.SyncWrites asked = Some (2, 0x5e)
-awaited handshake.Naming asked = Some (3, 0x5e)
-awaited handshake.Asking asked = Some (asked, 0x53)
-awaited other asked = None
+abbrev pub awaited : ℕ → Handshake → ℕ → Option (ℕ × ℕ)
+awaited buffer handshake.Opening asked = Some (1, 0x50)
+awaited buffer handshake.Buffering asked = Some (2, 0x5e)
+awaited buffer handshake.SyncWrites asked = Some ((if buffer == 0 then 2 else 3), 0x5e)
+awaited buffer handshake.Naming asked = Some ((if buffer == 0 then 3 else 4), 0x5e)
+awaited buffer handshake.Asking asked = Some (asked, 0x53)
+awaited buffer other asked = None
+
+-- the opaque and the opcode that the answer to this request has
+abbrev pub answer_numbers : Frame → Option (ℕ × ℕ)
+answer_numbers f = Some (f.opaque, f.opcode)
 
 -- an answer, of the magic 0x81, with that opaque and that opcode
-abbrev pub IsAnswer : Handshake → ℕ → Frame → Type 0
-IsAnswer h asked f = (f.magic ≡ 0x81) × (awaited h asked ≡ Some (f.opaque, f.opcode))
+abbrev pub IsAnswer : ℕ → Handshake → ℕ → Frame → Type 0
+IsAnswer buffer h asked f = (f.magic ≡ 0x81) × (awaited buffer h asked ≡ Some (f.opaque, f.opcode))
 
 -- a message of the producer, to a consumer whose link is not over
 abbrev pub IsMessage : Handshake → Frame → Type 0
@@ -58,30 +65,32 @@ IsOfStream (msg.StreamEnd why) = Unit {0}
 IsOfStream m = call_of_message m ≢ None
 
 -- when a frame comes to which step; the status 0 is Success and 0x23 is Rollback
-abbrev pub Comes : Handshake → ℕ → Frame → ConsumerStep → Type 0
-Comes h asked f step.Answered = Awaits h asked f × (h ≢ handshake.Asking) × (f.vb_or_status ≡ 0)
-Comes h asked f (step.Adopt log) = (h ≡ handshake.Asking) × AnswersTo asked 0x53 f × Reads f (msg.StreamAnswer (told.Go log))
-Comes h asked f (step.Roll point) = (h ≡ handshake.Asking) × AnswersTo asked 0x53 f × Reads f (msg.StreamAnswer (told.Roll point))
-Comes h asked f (step.Over reason.Refused) = Awaits h asked f × (f.vb_or_status ≢ 0) × (h ≡ handshake.Asking → f.vb_or_status ≢ 0x23)
-Comes h asked f (step.Over reason.Protocol) =
+abbrev pub Comes : ℕ → Handshake → ℕ → Frame → ConsumerStep → Type 0
+Comes buffer h asked f step.Answered = Awaits buffer h asked f × (h ≢ handshake.Asking) × (f.vb_or_status ≡ 0)
+Comes buffer h asked f (step.Adopt log) = (h ≡ handshake.Asking) × AnswersTo asked 0x53 f × Reads f (msg.StreamAnswer (told.Go log))
+Comes buffer h asked f (step.Roll point) = (h ≡ handshake.Asking) × AnswersTo asked 0x53 f × Reads f (msg.StreamAnswer (told.Roll point))
+Comes buffer h asked f (step.Over reason.Refused) = Awaits buffer h asked f × (f.vb_or_status ≢ 0) × (h ≡ handshake.Asking → f.vb_or_status ≢ 0x23)
+Comes buffer h asked f (step.Over reason.Protocol) =
     (h ≡ handshake.Asking) × AnswersTo asked 0x53 f × ((f.vb_or_status ≡ 0) ⊎ (f.vb_or_status ≡ 0x23))
     × ((t : StreamVerdict) → Reads f (msg.StreamAnswer t) → ⊥)
-Comes h asked f (step.Over other) = ⊥
-Comes h asked f (step.Passive (passive.Call call)) =
+Comes buffer h asked f (step.Over other) = ⊥
+Comes buffer h asked f (step.Passive (passive.Call call)) =
     IsMessage h f × (h ≡ handshake.Streaming) × ((m : DcpMsg) × Reads f m × (call_of_message m ≡ Some call))
-Comes h asked f (step.Passive (passive.End reason.Done)) = IsMessage h f × (h ≡ handshake.Streaming) × Reads f (msg.StreamEnd 0)
-Comes h asked f (step.Passive (passive.End reason.State)) =
+Comes buffer h asked f (step.Passive (passive.End reason.Done)) = IsMessage h f × (h ≡ handshake.Streaming) × Reads f (msg.StreamEnd 0)
+Comes buffer h asked f (step.Passive (passive.End reason.State)) =
     IsMessage h f × (h ≡ handshake.Streaming) × ((why : ℕ) × (why ≢ 0) × Reads f (msg.StreamEnd why))
-Comes h asked f (step.Passive (passive.End other)) = ⊥
-Comes h asked f (step.Passive passive.Protocol) = IsMessage h f × (h ≡ handshake.Streaming → (m : DcpMsg) → Reads f m → IsOfStream m → ⊥)
-Comes h asked f step.Dropped = (over_why h ≢ None) ⊎ ((f.magic ≡ 0x81) × (Awaits h asked f → ⊥))
+Comes buffer h asked f (step.Passive (passive.End other)) = ⊥
+Comes buffer h asked f (step.Passive passive.Protocol) = IsMessage h f × (h ≡ handshake.Streaming → (m : DcpMsg) → Reads f m → IsOfStream m → ⊥)
+Comes buffer h asked f step.Dropped = (over_why h ≢ None) ⊎ ((f.magic ≡ 0x81) × (Awaits buffer h asked f → ⊥))
 
--- OPEN is asked first, and then the two CONTROLs and the stream
-abbrev pub IsNext : Handshake → Handshake → Type 0
-IsNext handshake.Opening handshake.SyncWrites = Unit {0}
-IsNext handshake.SyncWrites handshake.Naming = Unit {0}
-IsNext handshake.Naming handshake.Asking = Unit {0}
-IsNext h next = ⊥
+-- OPEN is asked first, then the CONTROLs, and then the stream; the buffer is asked for exactly where it is not 0
+abbrev pub IsNext : ℕ → Handshake → Handshake → Type 0
+IsNext buffer handshake.Opening handshake.Buffering = buffer ≢ 0
+IsNext buffer handshake.Opening handshake.SyncWrites = buffer ≡ 0
+IsNext buffer handshake.Buffering handshake.SyncWrites = Unit {0}
+IsNext buffer handshake.SyncWrites handshake.Naming = Unit {0}
+IsNext buffer handshake.Naming handshake.Asking = Unit {0}
+IsNext buffer h next = ⊥
 
 -- the steps that end a link for a reason
 abbrev pub Ends : EndReason → ConsumerStep → Type 0
@@ -94,15 +103,15 @@ Ends reason.Disk s = ⊥
 
 -- For which frames a link ends, and why. A status but 0 refuses; 0x23, Rollback, does not refuse a stream. A log or a point that cannot be read, and a message that no stream has or before one is granted,
 -- is none of the protocol's. The stream's end tells with 0 that all was sent, and with any other number that the producer's vBucket changed.
-abbrev pub EndsBy : EndReason → Handshake → ℕ → Frame → Type 0
-EndsBy reason.Cut h asked f = ⊥
-EndsBy reason.Refused h asked f = IsAnswer h asked f × (f.vb_or_status ≢ 0) × (h ≡ handshake.Asking → f.vb_or_status ≢ 0x23)
-EndsBy reason.Protocol h asked f =
-    ((h ≡ handshake.Asking) × IsAnswer h asked f × ((f.vb_or_status ≡ 0) ⊎ (f.vb_or_status ≡ 0x23)) × ((t : StreamVerdict) → Reads f (msg.StreamAnswer t) → ⊥))
+abbrev pub EndsBy : EndReason → ℕ → Handshake → ℕ → Frame → Type 0
+EndsBy reason.Cut buffer h asked f = ⊥
+EndsBy reason.Refused buffer h asked f = IsAnswer buffer h asked f × (f.vb_or_status ≢ 0) × (h ≡ handshake.Asking → f.vb_or_status ≢ 0x23)
+EndsBy reason.Protocol buffer h asked f =
+    ((h ≡ handshake.Asking) × IsAnswer buffer h asked f × ((f.vb_or_status ≡ 0) ⊎ (f.vb_or_status ≡ 0x23)) × ((t : StreamVerdict) → Reads f (msg.StreamAnswer t) → ⊥))
     ⊎ ((f.magic ≢ 0x81) × (h ≡ handshake.Streaming → (m : DcpMsg) → Reads f m → IsOfStream m → ⊥))
-EndsBy reason.Done h asked f = (f.magic ≢ 0x81) × (h ≡ handshake.Streaming) × Reads f (msg.StreamEnd 0)
-EndsBy reason.State h asked f = (f.magic ≢ 0x81) × (h ≡ handshake.Streaming) × ((why : ℕ) × (why ≢ 0) × Reads f (msg.StreamEnd why))
-EndsBy reason.Disk h asked f = ⊥
+EndsBy reason.Done buffer h asked f = (f.magic ≢ 0x81) × (h ≡ handshake.Streaming) × Reads f (msg.StreamEnd 0)
+EndsBy reason.State buffer h asked f = (f.magic ≢ 0x81) × (h ≡ handshake.Streaming) × ((why : ℕ) × (why ≢ 0) × Reads f (msg.StreamEnd why))
+EndsBy reason.Disk buffer h asked f = ⊥
 
 -- these bytes are one STREAM_REQUEST: of magic 0x80 and opcode 0x53, with this opaque, for this vBucket
 pub record IsRequest (ask : StreamAsk) (n v : ℕ) (bytes : List ℕ) : Type 0 where

@@ -3,3 +3,4 @@ pub mod Receiving
 pub mod Dialing
 pub mod Machine
 pub mod Conduct
+pub mod Counting

@@ -15,6 +15,7 @@ use Rattle.vb_events.specs.declared.event.EndReason.{EndReason}
 use Rattle.vb_events.specs.declared.event.EndReason.TheVariants as reason
 use Rattle.vb_types.specs.declared.stream.StreamAsk.{StreamAsk}
 use Rattle.dcp_consumer.specs.PassiveStreams.{passive_read}
+use Rattle.dcp_consumer.specs.Dialing.{stream_opaque}
 use Rattle.dcp_consumer.specs.declared.handshake.Handshake.{Handshake}
 use Rattle.dcp_consumer.specs.declared.handshake.Handshake.TheVariants as handshake
 use Rattle.dcp_consumer.specs.declared.handshake.ConsumerStep.{ConsumerStep}
@@ -35,13 +36,9 @@ pub record KeptConsumer : Type 0 where
   pub plain : PlainConsumer
   pub spent : Bool
 
--- the first request for a stream has this opaque, and each later one the next
-abbrev pub stream_opaque : ℕ
-stream_opaque = 4
-
 -- a consumer that has dialed waits for the answer to OPEN
 abbrev pub dialed_consumer : Dialed → PlainConsumer
-dialed_consumer dialed = record { dialed = dialed; handshake = handshake.Opening; asked = stream_opaque; acked = 0 }
+dialed_consumer dialed = record { dialed = dialed; handshake = handshake.Opening; asked = stream_opaque dialed.buffer; acked = 0 }
 
 -- the consumer with this handshake
 abbrev pub with_handshake : PlainConsumer → Handshake → PlainConsumer
@@ -60,13 +57,14 @@ over_why other = None
 abbrev pub answers : ℕ → ℕ → Frame → Bool
 answers opaque opcode f = f.opaque == opaque && f.opcode == opcode
 
--- the answer that is waited for: to OPEN, to one of the two CONTROLs, or to the last request for a stream
-abbrev pub is_awaited : Handshake → ℕ → Frame → Bool
-is_awaited handshake.Opening asked f = answers 1 0x50 f
-is_awaited handshake.SyncWrites asked f = answers 2 0x5e f
-is_awaited handshake.Naming asked f = answers 3 0x5e f
-is_awaited handshake.Asking asked f = answers asked 0x53 f
-is_awaited other asked f = false
+-- the answer that is waited for: to OPEN, to one of the CONTROLs, of which the last two stand right before the first request for a stream, or to the last such request
+abbrev pub is_awaited : ℕ → Handshake → ℕ → Frame → Bool
+is_awaited buffer handshake.Opening asked f = answers 1 0x50 f
+is_awaited buffer handshake.Buffering asked f = answers 2 0x5e f
+is_awaited buffer handshake.SyncWrites asked f = answers (stream_opaque buffer - 2) 0x5e f
+is_awaited buffer handshake.Naming asked f = answers (stream_opaque buffer - 1) 0x5e f
+is_awaited buffer handshake.Asking asked f = answers asked 0x53 f
+is_awaited buffer other asked f = false
 
 -- the answer to OPEN or CONTROL: any status but Success ends the link
 abbrev pub status_step : ℕ → ConsumerStep
@@ -98,8 +96,8 @@ answer_step handshake.Asking f = stream_step (answered_with f.vb_or_status (read
 answer_step other f = status_step f.vb_or_status
 
 -- an answer; one that nothing waits for is dropped
-abbrev pub response_step : Handshake → ℕ → Frame → ConsumerStep
-response_step h asked f = if is_awaited h asked f then answer_step h f else step.Dropped
+abbrev pub response_step : ℕ → Handshake → ℕ → Frame → ConsumerStep
+response_step buffer h asked f = if is_awaited buffer h asked f then answer_step h f else step.Dropped
 
 -- a message; there is none before the stream was granted
 abbrev pub message_step : Handshake → Frame → ConsumerStep
@@ -110,15 +108,16 @@ message_step other f = step.Passive passive.Protocol
 unfoldable pub frame_step : PlainConsumer → Frame → ConsumerStep
 frame_step c f =
     if is_some (over_why c.handshake) then step.Dropped
-    else if f.magic == RESPONSE then response_step c.handshake c.asked f
+    else if f.magic == RESPONSE then response_step c.dialed.buffer c.handshake c.asked f
     else message_step c.handshake f
 
--- OPEN or CONTROL was answered, and the next answer is waited for
-abbrev pub answered : Handshake → Handshake
-answered handshake.Opening = handshake.SyncWrites
-answered handshake.SyncWrites = handshake.Naming
-answered handshake.Naming = handshake.Asking
-answered other = other
+-- OPEN or CONTROL was answered, and the next answer is waited for; a buffer of 0 was not asked for
+abbrev pub answered : ℕ → Handshake → Handshake
+answered buffer handshake.Opening = if buffer == 0 then handshake.SyncWrites else handshake.Buffering
+answered buffer handshake.Buffering = handshake.SyncWrites
+answered buffer handshake.SyncWrites = handshake.Naming
+answered buffer handshake.Naming = handshake.Asking
+answered buffer other = other
 
 -- the end of the stream, and a message that is none of a stream, end the link
 abbrev pub passive_moved : Passive → Handshake → Handshake
@@ -127,15 +126,15 @@ passive_moved (passive.End why) h = handshake.Over why
 passive_moved passive.Protocol h = handshake.Over reason.Protocol
 
 -- The handshake after a step. One that asks for a call leaves it: a request for a stream stays the last that was asked until `granted` or `again`.
-abbrev pub moved_by : ConsumerStep → Handshake → Handshake
-moved_by step.Answered h = answered h
-moved_by (step.Over why) h = handshake.Over why
-moved_by (step.Passive p) h = passive_moved p h
-moved_by other h = h
+abbrev pub moved_by : ℕ → ConsumerStep → Handshake → Handshake
+moved_by buffer step.Answered h = answered buffer h
+moved_by buffer (step.Over why) h = handshake.Over why
+moved_by buffer (step.Passive p) h = passive_moved p h
+moved_by buffer other h = h
 
 -- a consumer takes a frame
 abbrev pub consumer_step : PlainConsumer → Frame → PlainConsumer × ConsumerStep
-consumer_step c f = (with_handshake c (moved_by (frame_step c f) c.handshake), frame_step c f)
+consumer_step c f = (with_handshake c (moved_by c.dialed.buffer (frame_step c f) c.handshake), frame_step c f)
 
 -- a log is told, or a point to go back to, to a consumer that asks for a stream alone, and it goes on asking
 abbrev pub IsDue : ConsumerStep → PlainConsumer → Type 0

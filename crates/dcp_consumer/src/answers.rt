@@ -2,6 +2,7 @@
 ghost use Rattle.std.specs.Prelude.{◌≡◌, IfOk};
 ghost use Rattle.{dcp_consumer.specs.Machine.{is_awaited, status_step, misread_reason, answered_with, stream_step, response_step}, mcbp_dcp.specs.Messages.{read_of}};
 
+use crate::requests::stream_opaque;
 use crate::{Alloc, ConsumerStep, Handshake};
 use mcbp_dcp::{DcpFault, DcpMsg, Opcode, StreamVerdict, read_dcp};
 use mcbp_frame::Frame;
@@ -10,13 +11,14 @@ use vb_events::EndReason;
 use vb_types::Status;
 
 /// Whether a response is the answer that is waited for.
-fn is_awaited(handshake: Handshake, asked: u32, frame: &Frame) -> bool
-    ensures { result ≡ is_awaited handshake asked frame.now }
+fn is_awaited(buffer: u32, handshake: Handshake, asked: u32, frame: &Frame) -> bool
+    ensures { result ≡ is_awaited buffer handshake asked frame.now }
 {
     let (opaque, opcode) = match handshake {
         Handshake::Opening => (1, Opcode::Open),
-        Handshake::SyncWrites => (2, Opcode::Control),
-        Handshake::Naming => (3, Opcode::Control),
+        Handshake::Buffering => (2, Opcode::Control),
+        Handshake::SyncWrites => (stream_opaque(buffer) - 2, Opcode::Control),
+        Handshake::Naming => (stream_opaque(buffer) - 1, Opcode::Control),
         Handshake::Asking => (asked, Opcode::StreamRequest),
         _ => return false,
     };
@@ -84,13 +86,14 @@ fn stream_step(told: Result<StreamVerdict, EndReason>) -> ConsumerStep
 /// What an answer comes to; one that nothing waits for is dropped.
 pub fn response_step(
     alloc: Global,
+    buffer: u32,
     handshake: Handshake,
     asked: u32,
     frame: &Frame,
 ) -> Alloc<ConsumerStep>
-    ensures { IfOk result (λ step. step ≡ response_step handshake asked frame.now) }
+    ensures { IfOk result (λ step. step ≡ response_step buffer handshake asked frame.now) }
 {
-    if !is_awaited(handshake, asked, frame) {
+    if !is_awaited(buffer, handshake, asked, frame) {
         return Ok(ConsumerStep::Dropped);
     }
     match handshake {

@@ -1,10 +1,11 @@
 //! A consumer, a machine that makes no call.
 ghost use Rattle.std.specs.Prelude.{◌≡◌, ◌++◌, ◌+◌, ◌<◌, ◌^◌, false, true, IfOk, OnOk, OnErr};
 ghost use Rattle.{dcp_consumer.specs.Dialing.{requests}, dcp_consumer.specs.Machine.{dialed_consumer, ended_for, over_why, frame_step, consumer_step, granted, request_again, again, is_streaming, may_acknowledge, acknowledged}};
+ghost use Rattle.dcp_consumer.specs.Counting.{bytes_acknowledged};
 
 use crate::answers::response_step;
 use crate::passive_stream::message;
-use crate::requests::{STREAM_OPAQUE, send, write_requests};
+use crate::requests::{send, stream_opaque, write_requests};
 use crate::{Alloc, ConsumerStep, Dialed, Handshake, Passive};
 use bytes::BytesMut;
 use mcbp_dcp::DcpMsg;
@@ -37,14 +38,14 @@ impl Consumer {
     /// Asks for a stream: appends the requests for the producer, and waits for the first answer.
     pub fn dial(alloc: Global, dialed: Dialed, ask: StreamAsk, out: &mut BytesMut) -> Alloc<Self>
         ensures consumer { IfOk result (λ c. c ≡ record { plain = dialed_consumer dialed; spent = false }) }
-        ensures requests { OnOk result (out.new.items ≡ out.old.items ++ requests dialed.node dialed.vb ask) }
+        ensures requests { OnOk result (out.new.items ≡ out.old.items ++ requests dialed ask) }
     {
-        write_requests(dialed.node, dialed.vb, ask, out)?;
+        write_requests(dialed, ask, out)?;
         Ok(Consumer {
             alloc,
             dialed,
             handshake: Handshake::Opening,
-            asked: STREAM_OPAQUE,
+            asked: stream_opaque(dialed.buffer),
             acked: 0,
             spent: false,
         })
@@ -84,7 +85,8 @@ impl Consumer {
             return Ok(ConsumerStep::Dropped);
         }
         if frame.magic == RESPONSE {
-            return response_step(self.alloc, self.handshake, self.asked, frame);
+            let buffer = self.dialed.buffer;
+            return response_step(self.alloc, buffer, self.handshake, self.asked, frame);
         }
         match self.handshake {
             Handshake::Streaming => Ok(ConsumerStep::Passive(message(self.alloc, frame)?)),
@@ -103,7 +105,7 @@ impl Consumer {
         self.begin()?;
         let step = self.step_of(frame)?;
         self.spent = false;
-        self.handshake = self.handshake.after(&step);
+        self.handshake = self.handshake.after(self.dialed.buffer, &step);
         Ok(step)
     }
 
@@ -173,6 +175,21 @@ impl Consumer {
         send(message, self.asked, self.dialed.vb, out)?;
         self.spent = false;
         self.acked = seq;
+        Ok(())
+    }
+
+    /// Acknowledges so many bytes of the stream: appends BUFFER_ACKNOWLEDGEMENT, with the opaque of its
+    /// stream.
+    pub fn acknowledge_bytes(&mut self, bytes: u32, out: &mut BytesMut) -> Alloc<()>
+        ensures ok { OnOk result (self.new ≡ self.old) }
+        ensures message { OnOk result (out.new.items ≡ out.old.items ++ bytes_acknowledged bytes self.old.plain) }
+        ensures whole { OnOk result (self.old.spent ≡ false) }
+        ensures err { OnErr result (self.new ≡ record self.old { spent = true }) }
+    {
+        self.begin()?;
+        let message = DcpMsg::BufferAcknowledgement { bytes };
+        send(message, self.asked, 0, out)?;
+        self.spent = false;
         Ok(())
     }
 

@@ -12,6 +12,9 @@ pub struct Dialed {
     pub link: u32,
     pub node: u8,
     pub vb: u16,
+    /// The size of the producer's window: a frame goes only while fewer bytes than this are not
+    /// acknowledged; 0 for no window.
+    pub buffer: u32,
 }
 
 /// What a consumer asked last and was not answered yet, or how its link stands.
@@ -19,11 +22,13 @@ pub struct Dialed {
 pub enum Handshake {
     /// OPEN, with the opaque 1.
     Opening,
-    /// CONTROL, for prepares, commits and aborts, with the opaque 2.
+    /// CONTROL, for the buffer, with the opaque 2; only where the buffer is not 0.
+    Buffering,
+    /// CONTROL, for prepares, commits and aborts, with the opaque 2, or 3 with a buffer.
     SyncWrites,
-    /// CONTROL, for the name under which it acknowledges, with the opaque 3.
+    /// CONTROL, for the name under which it acknowledges, with the next opaque.
     Naming,
-    /// STREAM_REQUEST, with an opaque from 4.
+    /// STREAM_REQUEST, with an opaque from 4, or from 5 with a buffer.
     Asking,
     /// The stream is granted.
     Streaming,
@@ -59,24 +64,25 @@ impl Handshake {
         }
     }
 
-    /// OPEN or CONTROL was answered.
-    fn answered(self) -> Handshake
-        ensures { result ≡ answered self }
+    /// OPEN or CONTROL was answered, of a link with this buffer.
+    fn answered(self, buffer: u32) -> Handshake
+        ensures { result ≡ answered buffer self }
     {
         match self {
-            Handshake::Opening => Handshake::SyncWrites,
+            Handshake::Opening if buffer != 0 => Handshake::Buffering,
+            Handshake::Opening | Handshake::Buffering => Handshake::SyncWrites,
             Handshake::SyncWrites => Handshake::Naming,
             Handshake::Naming => Handshake::Asking,
             other => other,
         }
     }
 
-    /// The handshake after a step.
-    pub fn after(self, step: &ConsumerStep) -> Handshake
-        ensures { result ≡ moved_by step.now self }
+    /// The handshake after a step, of a link with this buffer.
+    pub fn after(self, buffer: u32, step: &ConsumerStep) -> Handshake
+        ensures { result ≡ moved_by buffer step.now self }
     {
         match step {
-            ConsumerStep::Answered => self.answered(),
+            ConsumerStep::Answered => self.answered(buffer),
             ConsumerStep::Over(why) => Handshake::Over(*why),
             ConsumerStep::Passive(Passive::End(why)) => Handshake::Over(*why),
             ConsumerStep::Passive(Passive::Protocol) => Handshake::Over(EndReason::Protocol),

@@ -1,7 +1,9 @@
 //! Laws of a consumer. Each is a function with no work to do, and its clauses are the law.
-ghost use Rattle.std.specs.Prelude.{◌≡◌, ◌≢◌, ◌↔◌, ◌⊎◌, ◌+◌, ◌++◌, ◌^◌, ◌<◌, ◌≤◌, ◌∷◌, ℕ, true, false, [], None, Some, IsTrue, IsFalse};
+ghost use Rattle.std.specs.Prelude.{◌≡◌, ◌≢◌, ◌↔◌, ◌⊎◌, ◌+◌, ◌++◌, ◌^◌, ◌<◌, ◌≤◌, ◌∷◌, ℕ, List, true, false, [], None, Some, IsTrue, IsFalse, length, map, min};
+ghost use Rattle.{std.specs.List.{All, concat}, mcbp_dcp.specs.DcpFrames.{dcp_frame}, mcbp_frame.specs.Spelling.{spelling}};
 ghost use Rattle.{dcp_consumer.specs.PassiveStreams.{passive_of}, dcp_consumer.specs.Receiving.{BytesCome, IsPrepared, IsRemoved, IsResolved, IsStored, IsUnfit, committed, durable_call, durable_doc, typed_bytes, typed_call}};
 ghost use Rattle.{dcp_consumer.specs.declared.passive_stream.Passive.TheVariants.{Call, End, Protocol as Strange}, mcbp_dcp.specs.DurableRows.{no_cas, no_times, prepare_bytes, resolution_bytes, some_value}};
+ghost use Rattle.mcbp_dcp.specs.declared.message.DcpMsg.{DcpMsg as MessageData};
 ghost use Rattle.{mcbp_dcp.specs.declared.message.Deletion.{Deletion as RemovalData}, mcbp_dcp.specs.declared.message.Mutation.{Mutation as PutData}};
 ghost use Rattle.{mcbp_dcp.specs.declared.message.Prepare.{Prepare as PreparedData}, mcbp_dcp.specs.declared.message.Resolution.{Resolution as ResolvedData}};
 ghost use Rattle.mcbp_dcp.specs.declared.message.DcpMsg.TheVariants as msg;
@@ -9,25 +11,28 @@ ghost use Rattle.mcbp_dcp.specs.MessageRows.{deletion_bytes, end_bytes, four_byt
 ghost use Rattle.{vb_calls.specs.declared.calls.VbCall.TheVariants.{Marker, Receive}, vb_types.specs.Limits.{IsKey, IsValue}};
 ghost use Rattle.{vb_types.specs.declared.change.Act.TheVariants.{Abort, Prepare, Remove, Set}, vb_types.specs.declared.change.Change.{Change as ChangeData}};
 ghost use Rattle.vb_types.specs.declared.change.Level.TheVariants.{MajorityPersistActive, PersistMajority};
-ghost use Rattle.dcp_consumer.specs.Conduct.{Awaits, awaited, Comes, IsNext, Ends, EndsBy, IsRequest, Acknowledges, IsAcknowledgement, HasAcknowledged, LeavesAcknowledged, acknowledgement_bytes};
-ghost use Rattle.dcp_consumer.specs.Dialing.{member_name, requests, ask_row, open_bytes, sync_bytes, name_bytes, request_bytes};
+ghost use Rattle.dcp_consumer.specs.Conduct.{Awaits, awaited, answer_numbers, Comes, IsNext, Ends, EndsBy, IsRequest, Acknowledges, IsAcknowledgement, HasAcknowledged, LeavesAcknowledged, acknowledgement_bytes};
+ghost use Rattle.dcp_consumer.specs.Counting.{is_counted, counted_bytes, bytes_acknowledged, Counts, CountsAsMessage, IsBufferAcknowledgement, buffer_acknowledgement_bytes};
+ghost use Rattle.dcp_consumer.specs.Dialing.{member_name, first_requests, numbered, requests, ask_row, dialed_row, open_bytes, buffer_bytes, sync_bytes, name_bytes, request_bytes};
 ghost use Rattle.dcp_consumer.specs.Machine.{PlainConsumer, dialed_consumer, over_why, consumer_step, IsDue, granted, again, ended_for, is_streaming, may_acknowledge, acknowledged};
 ghost use Rattle.{dcp_consumer.specs.declared.handshake.ConsumerStep.{ConsumerStep as StepData}, dcp_consumer.specs.declared.handshake.ConsumerStep.TheVariants.{Dropped}};
 ghost use Rattle.{dcp_consumer.specs.declared.handshake.Dialed.{Dialed as DialedData}, dcp_consumer.specs.declared.handshake.Handshake.{Handshake as HandshakeData}};
-ghost use Rattle.{dcp_consumer.specs.declared.handshake.Handshake.TheVariants.{Asking, Streaming, Over}, mcbp_frame.specs.declared.frame.Frame.{Frame as FrameData}};
+ghost use Rattle.{dcp_consumer.specs.declared.handshake.Handshake.TheVariants.{Opening, Buffering, SyncWrites, Naming, Asking, Streaming, Over}, mcbp_frame.specs.declared.frame.Frame.{Frame as FrameData}};
 ghost use Rattle.{vb_events.specs.declared.event.EndReason.{EndReason as ReasonData}, vb_events.specs.declared.event.EndReason.TheVariants.{Done, Protocol, State}};
 ghost use Rattle.vb_types.specs.declared.stream.StreamAsk.{StreamAsk as AskData};
 
 /// What a consumer writes when it dials, byte by byte: it opens under its node's name as a member,
-/// asks for durable writes, says under which name it acknowledges, and requests the stream, with the
-/// opaques 1 to 4. Only the request names the vBucket.
+/// asks for the buffer where there is one, asks for durable writes, says under which name it
+/// acknowledges, and requests the stream, with the opaques 1 to 4, or 1 to 5 with a buffer. Only the
+/// request names the vBucket.
 pub fn dials_in_bytes()
-    ensures { requests 12 0x0102 ask_row ≡ open_bytes ++ sync_bytes ++ name_bytes ++ request_bytes }
+    ensures plain { (link : ℕ) → requests (dialed_row link 0) ask_row ≡ open_bytes ++ sync_bytes 2 ++ name_bytes 3 ++ request_bytes 4 }
+    ensures buffered { (link : ℕ) → requests (dialed_row link 0x01020304) ask_row ≡ open_bytes ++ buffer_bytes ++ sync_bytes 3 ++ name_bytes 4 ++ request_bytes 5 }
 {}
 
 /// Which frame comes to which step, in both directions.
 pub fn frames_come_to_steps()
-    ensures { (c : PlainConsumer) (f : FrameData) (s : StepData) → ((consumer_step c f).1 ≡ s) ↔ Comes c.handshake c.asked f s }
+    ensures { (c : PlainConsumer) (f : FrameData) (s : StepData) → ((consumer_step c f).1 ≡ s) ↔ Comes c.dialed.buffer c.handshake c.asked f s }
 {}
 
 /// A frame moves the handshake one on exactly where it is the awaited answer with Success, and no
@@ -35,7 +40,7 @@ pub fn frames_come_to_steps()
 /// when its vBucket took the log over.
 pub fn handshakes_move_on()
     ensures next { (c : PlainConsumer) (f : FrameData) (next : HandshakeData) → next ≢ c.handshake → over_why next ≡ None
-        → ((consumer_step c f).0.handshake ≡ next) ↔ (IsNext c.handshake next × Awaits c.handshake c.asked f × (f.vb_or_status ≡ 0)) }
+        → ((consumer_step c f).0.handshake ≡ next) ↔ (IsNext c.dialed.buffer c.handshake next × Awaits c.dialed.buffer c.handshake c.asked f × (f.vb_or_status ≡ 0)) }
     ensures due { (c : PlainConsumer) (f : FrameData) → IsDue (consumer_step c f).1 (consumer_step c f).0 }
     ensures granted { (c : PlainConsumer) → c.handshake ≡ Asking → granted c ≡ record c { handshake = Streaming } }
     ensures others { (c : PlainConsumer) → c.handshake ≢ Asking → granted c ≡ c }
@@ -53,13 +58,22 @@ pub fn links_end()
 /// opcode than the one that is waited for.
 pub fn answers_are_awaited()
     ensures { (c : PlainConsumer) (f : FrameData) → f.magic ≡ 0x81
-        → (consumer_step c f ≡ (c, Dropped)) ↔ (awaited c.handshake c.asked ≢ Some (f.opaque, f.opcode)) }
+        → (consumer_step c f ≡ (c, Dropped)) ↔ (awaited c.dialed.buffer c.handshake c.asked ≢ Some (f.opaque, f.opcode)) }
+{}
+
+/// Each answer that a handshake waits for is the one to its own request, by opaque and opcode, in the
+/// order in which the requests go out; and the first request for a stream comes right behind them.
+pub fn requests_are_answered()
+    ensures plain { (node asked : ℕ) → map answer_numbers (numbered 1 (first_requests node 0)) ≡ map (λ h. awaited 0 h asked) (Opening ∷ SyncWrites ∷ Naming ∷ []) }
+    ensures buffered { (node buffer asked : ℕ) → buffer ≢ 0
+        → map answer_numbers (numbered 1 (first_requests node buffer)) ≡ map (λ h. awaited buffer h asked) (Opening ∷ Buffering ∷ SyncWrites ∷ Naming ∷ []) }
+    ensures stream { (dialed : DialedData) → awaited dialed.buffer Asking (dialed_consumer dialed).asked ≡ Some (1 + length (first_requests dialed.node dialed.buffer), 0x53) }
 {}
 
 /// Which frames end a link for which reason, in both directions.
 pub fn reasons_are_told()
     ensures { (c : PlainConsumer) (f : FrameData) (why : ReasonData) → over_why c.handshake ≡ None
-        → ((consumer_step c f).0.handshake ≡ Over why) ↔ EndsBy why c.handshake c.asked f }
+        → ((consumer_step c f).0.handshake ≡ Over why) ↔ EndsBy why c.dialed.buffer c.handshake c.asked f }
 {}
 
 /// A prepare, a commit and an abort are taken in as the changes that they are, and no other message of
@@ -104,10 +118,10 @@ pub fn changes_from_bytes()
     ensures changed { BytesCome (end_bytes four_bytes) (End State) }
 {}
 
-/// The first request for a stream has the opaque 4. A consumer asks again only where it went back,
-/// each time with the next opaque; where none is left, its link is over.
+/// The first request for a stream has the opaque 4, or 5 with a buffer. A consumer asks again only
+/// where it went back, each time with the next opaque; where none is left, its link is over.
 pub fn asks_again_once_back()
-    ensures first { (dialed : DialedData) → (dialed_consumer dialed).asked ≡ 4 }
+    ensures first { (dialed : DialedData) → (dialed.buffer ≡ 0 → (dialed_consumer dialed).asked ≡ 4) × (dialed.buffer ≢ 0 → (dialed_consumer dialed).asked ≡ 5) }
     ensures fed { (c : PlainConsumer) (f : FrameData) → (consumer_step c f).0 ≡ record c { handshake = (consumer_step c f).0.handshake } }
     ensures granted { (c : PlainConsumer) → granted c ≡ record c { handshake = (granted c).handshake } }
     ensures back { (c : PlainConsumer) (ask : AskData) → c.handshake ≡ Asking → c.asked < 4294967295
@@ -129,6 +143,27 @@ pub fn acknowledgements_rise()
     ensures same { (c : PlainConsumer) (seq : ℕ) → HasAcknowledged seq c (acknowledged seq c).0 }
     ensures others { (c : PlainConsumer) → LeavesAcknowledged c }
     ensures bytes { (c : PlainConsumer) → c.dialed.vb ≡ 0x0102 → c.asked ≡ 4 → (acknowledged 0x1112131415161718 c).1 ≡ acknowledgement_bytes }
+{}
+
+/// Which frames count for flow control, by their opcodes and by their messages, and no answer does. A
+/// frame that counts does so with all its bytes, as they are written: 24 of the header, and the body.
+pub fn bytes_are_counted()
+    ensures counts { (f : FrameData) → IsTrue (is_counted f) ↔ Counts f }
+    ensures messages { (m : MessageData) (opaque vb : ℕ) → IsTrue (is_counted (dcp_frame m opaque vb)) ↔ CountsAsMessage m }
+    ensures whole { (f : FrameData) → Counts f → counted_bytes (f ∷ []) ≡ 24 + (length f.framing + length f.extras + length f.key + length f.value) }
+    ensures others { (f : FrameData) → (Counts f → ⊥) → counted_bytes (f ∷ []) ≡ 0 }
+    ensures written { (fs : List FrameData) → All Counts fs → counted_bytes fs ≡ length (concat (map spelling fs)) }
+    ensures both { (fs gs : List FrameData) → counted_bytes (fs ++ gs) ≡ counted_bytes fs + counted_bytes gs }
+{}
+
+/// Bytes are acknowledged by one message, which holds their number alone, with the opaque of the stream
+/// and for the vBucket 0: 2^32 - 1 at most, and that also where they are more.
+pub fn bytes_are_acknowledged()
+    ensures written { (c : PlainConsumer) (n : ℕ) → n < 2 ^ 32 → IsBufferAcknowledgement n c.asked (bytes_acknowledged n c) }
+    ensures most { (c : PlainConsumer) (n : ℕ) → 4294967295 ≤ n → bytes_acknowledged n c ≡ bytes_acknowledged 4294967295 c }
+    ensures once { (c : PlainConsumer) (n : ℕ) → bytes_acknowledged (min n 4294967295) c ≡ bytes_acknowledged n c }
+    ensures bytes { (c : PlainConsumer) → c.asked ≡ 5 → bytes_acknowledged 0x11121314 c ≡ buffer_acknowledgement_bytes (0x11 ∷ 0x12 ∷ 0x13 ∷ 0x14 ∷ []) }
+    ensures more { (c : PlainConsumer) → c.asked ≡ 5 → bytes_acknowledged 4294967296 c ≡ buffer_acknowledgement_bytes (0xff ∷ 0xff ∷ 0xff ∷ 0xff ∷ []) }
 {}
 
 /// Under which name a node acknowledges: an `n` and its number, with no zero in front.

@@ -1,16 +1,22 @@
 //! What a consumer writes when it dials.
-ghost use Rattle.std.specs.Prelude.{◌≡◌, ◌≤◌, ◌++◌, length, IfOk, OnOk};
-ghost use Rattle.{dcp_consumer.specs.Dialing.{member_name, open_request, sync_request, name_request, requests}, mcbp_dcp.specs.DcpFrames.{dcp_frame, IsSpelled}};
+ghost use Rattle.std.specs.Prelude.{◌≡◌, ◌≤◌, ◌++◌, length, map, decimal, IfOk, OnOk};
+ghost use Rattle.{std.specs.List.{concat}, mcbp_dcp.specs.DcpFrames.{dcp_frame, IsSpelled}};
+ghost use Rattle.dcp_consumer.specs.Dialing.{member_name, open_request, buffer_request, buffer_requests, sync_request, name_request, numbered, stream_opaque, requests};
 ghost use Rattle.mcbp_frame.specs.Spelling.{spelling};
 
-use crate::Alloc;
+use crate::{Alloc, Dialed};
 use bytes::{Bytes, BytesMut};
 use mcbp_dcp::{DcpMsg, write_dcp};
 use std::alloc::Global;
 use vb_types::StreamAsk;
 
-/// The opaque of the first request for the stream; each later one has the next.
-pub const STREAM_OPAQUE: u32 = 4;
+/// The opaque of the first request for the stream, behind those for all else; each later one has the
+/// next.
+pub fn stream_opaque(buffer: u32) -> u32
+    ensures { result ≡ stream_opaque buffer }
+{
+    if buffer == 0 { 4 } else { 5 }
+}
 
 /// The name of a node as a member.
 #[tactic(auto, using(crate::proofs::Names::short_name))]
@@ -32,6 +38,28 @@ fn open_request(alloc: Global, node: u8) -> Alloc<DcpMsg>
         seqno: 0,
         flags: 1,
         name: member_name(alloc, node)?,
+    })
+}
+
+/// A buffer in decimal.
+#[tactic(auto, using(crate::proofs::Names::short_number))]
+fn decimal_of(alloc: Global, buffer: u32) -> Alloc<Bytes>
+    ensures text { IfOk result (λ text. text ≡ decimal buffer) }
+    ensures short { length (decimal buffer) ≤ 10 }
+{
+    let text = format!(in alloc; "{buffer}")?;
+    Bytes::copy_from_slice(alloc, text.as_bytes())
+}
+
+/// CONTROL, for the size of the producer's window: a frame goes only while fewer bytes than this are not
+/// acknowledged.
+fn buffer_request(alloc: Global, buffer: u32) -> Alloc<DcpMsg>
+    ensures message { IfOk result (λ m. m ≡ buffer_request buffer) }
+    ensures spelled { IfOk result IsSpelled }
+{
+    Ok(DcpMsg::Control {
+        key: Bytes::copy_from_slice(alloc, b"connection_buffer_size")?,
+        value: decimal_of(alloc, buffer)?,
     })
 }
 
@@ -67,14 +95,27 @@ pub fn send(message: DcpMsg, opaque: u32, vb: u16, out: &mut BytesMut) -> Alloc<
     sent
 }
 
+/// Asks for the buffer, where it is not 0.
+fn ask_for_buffer(buffer: u32, out: &mut BytesMut) -> Alloc<()>
+    ensures { OnOk result (out.new.items ≡ out.old.items ++ concat (map spelling (numbered 2 (buffer_requests buffer)))) }
+{
+    if buffer == 0 {
+        return Ok(());
+    }
+    let request = buffer_request(*out.allocator(), buffer)?;
+    send(request, 2, 0, out)
+}
+
 /// Writes all that goes out when a consumer dials.
-#[tactic(auto, unfolding(crate::specs::Dialing::requests))]
-pub fn write_requests(node: u8, vb: u16, ask: StreamAsk, out: &mut BytesMut) -> Alloc<()>
-    ensures { OnOk result (out.new.items ≡ out.old.items ++ requests node vb ask) }
+#[tactic(auto, using(crate::proofs::FirstRequests::requests_behind))]
+pub fn write_requests(dialed: Dialed, ask: StreamAsk, out: &mut BytesMut) -> Alloc<()>
+    ensures { OnOk result (out.new.items ≡ out.old.items ++ requests dialed ask) }
 {
     let alloc = *out.allocator();
-    send(open_request(alloc, node)?, 1, 0, out)?;
-    send(sync_request(alloc)?, 2, 0, out)?;
-    send(name_request(alloc, node)?, 3, 0, out)?;
-    send(DcpMsg::StreamRequest { ask }, STREAM_OPAQUE, vb, out)
+    let opaque = stream_opaque(dialed.buffer);
+    send(open_request(alloc, dialed.node)?, 1, 0, out)?;
+    ask_for_buffer(dialed.buffer, out)?;
+    send(sync_request(alloc)?, opaque - 2, 0, out)?;
+    send(name_request(alloc, dialed.node)?, opaque - 1, 0, out)?;
+    send(DcpMsg::StreamRequest { ask }, opaque, dialed.vb, out)
 }

@@ -1,6 +1,6 @@
 -- what is counted: frames that a pull puts, and nothing else
-use Rattle.std.proofs.Common.{◌≡◌, ◌+◌, ◌<◌, ℕ, zero, suc, Bool, true, false, [], ◌∷◌, ◌++◌, length, map, refl, sym, ap, ◌∙◌, subst, ◌⊎◌, inl, inr, append-nil, append_assoc, arith, Option, Some, None, Result, Ok, Err}
-use Rattle.std.specs.Prelude.{if◌then◌else◌, slice_get, IsSome, OnErr}
+use Rattle.std.proofs.Common.{◌≡◌, ◌+◌, ◌<◌, ◌≤◌, ℕ, zero, suc, Bool, true, false, [], ◌∷◌, ◌++◌, length, map, refl, sym, ap, ◌∙◌, subst, ◌⊎◌, inl, inr, append-nil, append_assoc, arith, Option, Some, None, Result, Ok, Err}
+use Rattle.std.specs.Prelude.{if◌then◌else◌, slice_get, is_some, IsSome, OnErr}
 use Rattle.std.specs.List.{All, concat}
 use Rattle.std.specs.Option.{option_map}
 use Rattle.std.proofs.lemmas.Bool.{false≢true}
@@ -28,8 +28,9 @@ use Rattle.dcp_producer.specs.declared.halt.Halt.TheVariants as halt
 use Rattle.dcp_producer.specs.declared.halt.NoSnapshot.{NoSnapshot}
 use Rattle.dcp_producer.specs.declared.halt.NoSnapshot.TheVariants as no_snapshot
 use Rattle.dcp_producer.specs.Producers.{PlainStream, PlainProducer, Served, begun}
-use Rattle.dcp_producer.specs.Pulling.{act_message, act_sent, item_line, put, past_item, with_snapshot, item_put, marker_flags, marker_put, STATE_CHANGED, snapshot_of_reply, taken_put, take_next, take_unless, place_halt, place_requested, end_put, next_put, stream_put, frame_put, pulled, frames_put, counted_unless}
+use Rattle.dcp_producer.specs.Pulling.{act_message, act_sent, item_line, put, past_item, with_snapshot, item_put, marker_flags, marker_put, STATE_CHANGED, snapshot_of_reply, taken_put, take_next, take_unless, place_halt, place_requested, end_put, next_put, stream_put, with_window, in_window, frame_put, pulled, frames_put, counted, counted_unless}
 use Rattle.dcp_producer.specs.Wanting.{standing, Stays}
+use Rattle.dcp_producer.proofs.Through.{through_always}
 use Rattle.dcp_producer.proofs.Tellings.{IsGiven, reply_given, IsHalted, reply_halted}
 use Rattle.dcp_producer.specs.Conduct.{TellsOf, Goes, Grew, CountsFrames}
 
@@ -39,6 +40,7 @@ IsShort halt.All = ⊥
 IsShort halt.Idle = Unit {0}
 IsShort halt.Unput = Unit {0}
 IsShort halt.WaitSaved = Unit {0}
+IsShort halt.Full = Unit {0}
 
 -- so it was where no snapshot was given, or none taken
 idle_short : (h : Halt) → h ≡ halt.Idle → IsShort h
@@ -193,9 +195,19 @@ unfolding Turned IsShort
 stream_turned s None is = (refl, tt)
 stream_turned s (Some stream) is = next_turned s stream is (slice_get stream.items stream.next)
 
+-- the window does not tell of it
+window_grew : (n before : ℕ) (s s' : Served) → Grew n s s' → Grew n s (with_window before s')
+window_grew n before s s' grew =
+    record { put = grew.put; many = grew.many; each = grew.each; out = grew.out; told = grew.told; count = grew.count; resolved = grew.resolved; goes = grew.goes }
+
+window_turned : (before : ℕ) (s : Served) (t : Turn Served (Served × Halt)) → Turned s t → Turned s (in_window before t)
+unfolding Turned
+window_turned before s (More s') grew = window_grew 1 before s s' grew
+window_turned before s (Stop (s', h)) none = none
+
 frame_turned : (s : Served) → Always AnyCall (Turned s) (frame_put s)
-unfolding frame_put
-frame_turned s = stream_turned s s.end.stream refl
+unfolding Turned IsShort
+frame_turned s = through_always AnyCall (Turned s) s (window_turned (length s.out) s) (λ shut. (refl, tt)) (λ free. stream_turned s s.end.stream refl)
 
 -- turns put a frame each, until one puts none
 AllTurned : ℕ → Served → Turn Served (Served × Halt) → Type 0
@@ -231,6 +243,15 @@ module _ {W : Type 0} (step : W → ℕ → VbCall → Option VbReply → W → 
   pub ran_always : {A : Type 0} (calls : ℕ → VbCall → Type 0) (answers : A → Type 0) (prog : Prog A) (old : W) (a : A) (new : W) → Ran step prog old a new → Always calls answers prog → answers a
   ran_always calls answers (Done b) old a new ran always = subst answers (sym ran.0) always
   ran_always calls answers (Call v call next) old a new ran always = ran_always calls answers (next ran.0) ran.1 a new ran.3 (always.1 ran.0 tt)
+
+  -- no byte is taken back
+  pub out_grows : (s s' : Served) (halted : Option Halt) (old new : W) → is_some halted ≡ false → Ran step (stream_put s s.end.stream) old (counted_unless halted s') new → length s.out ≤ length s'.out
+  unfolding Turned
+  out_grows s s' (Some h) old new none ran = absurd (cc none)
+  out_grows s s' None old new none ran =
+      let grew = ran_always AnyCall (Turned s) (stream_put s s.end.stream) old (More (counted s')) new ran (stream_turned s s.end.stream refl) in
+      let e = ap length grew.out ∙ length-append s.out (concat (map (λ p. spelling p.0) grew.put)) in
+      omega (arith, e)
 
   -- a frame that was put is not counted yet
   pub frame_kept : (s s' : Served) (halted : Option Halt) (old new : W) → Ran step (frame_put s) old (counted_unless halted s') new → s'.count ≡ s.count

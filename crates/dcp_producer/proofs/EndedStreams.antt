@@ -1,5 +1,5 @@
 -- what a stream still puts that a change of role ended
-use Rattle.std.proofs.Common.{◌≡◌, ℕ, zero, suc, refl, sym, subst, Option, Some, None}
+use Rattle.std.proofs.Common.{◌≡◌, ℕ, zero, suc, length, refl, sym, subst, Option, Some, None}
 use Rattle.std.specs.Prelude.{if◌then◌else◌, IsTrue, slice_get}
 use Rattle.mcbp_dcp.specs.declared.message.DcpMsg.{DcpMsg}
 use Rattle.vb_types.specs.declared.change.Change.{Change}
@@ -7,8 +7,9 @@ use Rattle.vb_calls.specs.Programs.{Done, Turn, More, Stop, go_on, repeated, Any
 use Rattle.vb_calls.proofs.Conduct.{always_bind}
 use Rattle.dcp_producer.specs.declared.halt.Halt.{Halt}
 use Rattle.dcp_producer.specs.Producers.{PlainStream, Served}
-use Rattle.dcp_producer.specs.Pulling.{act_message, item_put, end_put, place_requested, next_put, stream_put, frame_put, pulled, frames_put}
+use Rattle.dcp_producer.specs.Pulling.{act_message, item_put, end_put, place_requested, next_put, stream_put, in_window, frame_put, pulled, frames_put}
 use Rattle.dcp_producer.specs.Ending.{IsEnding, LeavesEnding, NoCall}
+use Rattle.dcp_producer.proofs.Through.{through_always}
 
 -- a turn leaves no stream, or one that was ended
 Leaves : Turn Served (Served × Halt) → Type 0
@@ -31,9 +32,14 @@ unfolding Leaves
 stream_leaves s None is ending = subst IsEnding (sym is) tt
 stream_leaves s (Some stream) is ending = next_leaves s stream (slice_get stream.items stream.next) ending (subst IsEnding (sym is) ending)
 
+window_leaves : (before : ℕ) (t : Turn Served (Served × Halt)) → Leaves t → Leaves (in_window before t)
+unfolding Leaves
+window_leaves before (More s) ending = ending
+window_leaves before (Stop (s, halted)) ending = ending
+
 turn_leaves : (t : Turn Served (Served × Halt)) → Leaves t → Always NoCall Leaves (go_on frame_put t)
-unfolding Leaves frame_put
-turn_leaves (More s) ending = stream_leaves s s.end.stream refl ending
+unfolding Leaves
+turn_leaves (More s) ending = through_always NoCall Leaves s (window_leaves (length s.out)) (λ shut. ending) (λ free. stream_leaves s s.end.stream refl ending)
 turn_leaves (Stop (s, halted)) ending = ending
 
 turns_leave : (k : ℕ) (s : Served) → IsEnding s.end.stream → Always NoCall Leaves (repeated k frame_put s)

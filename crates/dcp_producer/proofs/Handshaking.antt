@@ -1,10 +1,10 @@
 -- what OPEN and CONTROL are answered
-use Rattle.std.proofs.Common.{◌≡◌, ◌<◌, ℕ, Bool, true, false, List, length, refl, sym, ap, ◌∙◌, subst, ◌⊎◌, inl, inr, arith, Option, Some, None}
+use Rattle.std.proofs.Common.{◌≡◌, ◌<◌, ◌^◌, ℕ, Bool, true, false, List, length, refl, sym, ap, ◌∙◌, subst, ◌⊎◌, inl, inr, arith, Option, Some, None}
 use Rattle.std.proofs.lemmas.Bool.{and_parts}
 use Rattle.std.proofs.lemmas.Bool.Decides.{nat_tests}
 use Rattle.std.proofs.lemmas.Slice.Eq.{bytes_eq-Decides}
 use Rattle.std.specs.Option.{option_map, ok_or}
-use Rattle.std.specs.Prelude.{if◌then◌else◌, ◌==◌, nat_lt, nat_le, codes}
+use Rattle.std.specs.Prelude.{if◌then◌else◌, ◌==◌, nat_lt, nat_le, codes, decimal}
 use Rattle.std.specs.Str.{bytes_eq}
 use Rattle.mcbp_frame.specs.declared.frame.Frame.{Frame}
 use Rattle.mcbp_dcp.specs.declared.message.DcpMsg.TheVariants as msg
@@ -17,9 +17,11 @@ use Rattle.dcp_producer.specs.declared.desk.Handshake.TheVariants as handshake
 use Rattle.dcp_producer.specs.declared.desk.Named.{Named}
 use Rattle.dcp_producer.specs.declared.desk.Named.TheVariants as named
 use Rattle.dcp_producer.specs.Producers.{Served}
-use Rattle.dcp_producer.specs.Serving.{status_frame, status_sent, with_handshake, set_answered, opened, open_refusal, opened_unless, is_name, named_by, set_by, controlled, controlled_as, message_answered}
+use Rattle.dcp_producer.specs.Serving.{status_frame, status_sent, with_handshake, set_answered, opened, open_refusal, opened_unless, is_name, named_by, set_by, controlled, controlled_as, sized, sized_as, with_window_size, control_answered, message_answered}
+use Rattle.dcp_producer.specs.Sizes.{size_of}
 use Rattle.dcp_producer.specs.Conduct.{IsOpened}
-use Rattle.dcp_producer.specs.Handshaking.{Gets, IsName, IsKnown}
+use Rattle.dcp_producer.specs.Handshaking.{Gets, Sizes, IsName, IsKnown}
+use Rattle.dcp_producer.proofs.Decimals.{sizes}
 
 -- OPEN and CONTROL are answered by what they set
 pub open_set : (refused : Option Status) (f : Frame) (s : Served) → set_answered (opened refused) f s ≡ opened_unless refused f s
@@ -101,43 +103,87 @@ is_named value is = let (some, few) = and_parts (nat_le 1 (length value)) (nat_l
 set_unknown : (sync : Bool) (name : Named) (key value : List ℕ) → (IsKnown key value → ⊥) → set_by sync name key value ≡ None
 set_unknown sync name key value unknown =
     set_none sync name (named_by value) (bytes_eq key (codes "enable_sync_writes")) (bytes_eq key (codes "consumer_name")) (bytes_eq value (codes "true")) (bytes_eq value (codes "false")) (is_name value)
-    (λ k v. unknown (inr (same_bytes key (codes "enable_sync_writes") k, inl (same_bytes value (codes "true") v))))
-    (λ k v. unknown (inr (same_bytes key (codes "enable_sync_writes") k, inr (same_bytes value (codes "false") v))))
+    (λ k v. unknown (inr (inl (same_bytes key (codes "enable_sync_writes") k, inl (same_bytes value (codes "true") v)))))
+    (λ k v. unknown (inr (inl (same_bytes key (codes "enable_sync_writes") k, inr (same_bytes value (codes "false") v)))))
     (λ k v. unknown (inl (same_bytes key (codes "consumer_name") k, is_named value v)))
 
-controlled_unknown : (h : Handshake) (key value : List ℕ) → (h ≡ handshake.Fresh) ⊎ (IsKnown key value → ⊥) → controlled h key value ≡ None
-controlled_unknown handshake.Fresh key value either = refl
-controlled_unknown (handshake.Open sync name) key value (inl fresh) = absurd (not_fresh fresh)
+-- OPEN came
+not_fresh : (sync : Bool) (name : Named) → handshake.Open sync name ≡ handshake.Fresh → ⊥
+not_fresh sync name e = subst Fresh (sym e) tt
   where
     Fresh : Handshake → Type 0
     Fresh handshake.Fresh = Unit {0}
     Fresh (handshake.Open sync' name') = ⊥
 
-    not_fresh : handshake.Open sync name ≡ handshake.Fresh → ⊥
-    not_fresh e = subst Fresh (sym e) tt
+controlled_unknown : (h : Handshake) (key value : List ℕ) → (h ≡ handshake.Fresh) ⊎ (IsKnown key value → ⊥) → controlled h key value ≡ None
+controlled_unknown handshake.Fresh key value either = refl
+controlled_unknown (handshake.Open sync name) key value (inl fresh) = absurd (not_fresh sync name fresh)
 controlled_unknown (handshake.Open sync name) key value (inr unknown) = set_unknown sync name key value unknown
+
+-- CONTROL of the window with a value that is no size
+no_size : (value : List ℕ) (o : Option ℕ) → size_of value ≡ o → ((n : ℕ) → n < 2 ^ 32 → value ≡ decimal n → ⊥) → o ≡ None
+no_size value None is none = refl
+no_size value (Some n) is none = let (says, fits) = (sizes value n).0 is in absurd (none n fits says)
+
+sized_unknown : (h : Handshake) (value : List ℕ) → (h ≡ handshake.Fresh) ⊎ ((n : ℕ) → n < 2 ^ 32 → value ≡ decimal n → ⊥) → sized h value ≡ None
+sized_unknown handshake.Fresh value either = refl
+sized_unknown (handshake.Open sync name) value (inl fresh) = absurd (not_fresh sync name fresh)
+sized_unknown (handshake.Open sync name) value (inr none) = no_size value (size_of value) refl none
+
+-- the same of one with a key of the handshake, or with that of the window
+none_known : (h : Handshake) (key value : List ℕ) → (h ≡ handshake.Fresh) ⊎ (IsKnown key value → ⊥) → key ≡ codes "connection_buffer_size" → (h ≡ handshake.Fresh) ⊎ ((n : ℕ) → n < 2 ^ 32 → value ≡ decimal n → ⊥)
+none_known h key value (inl fresh) is = inl fresh
+none_known h key value (inr unknown) is = inr (λ n fits says. unknown (inr (inr (is, (n, fits, says)))))
+
+control_refused : (f : Frame) (s : Served) (key value : List ℕ) → (s.end.handshake ≡ handshake.Fresh) ⊎ (IsKnown key value → ⊥) → control_answered f key value s ≡ status_sent f status.Einval s
+control_refused f s key value either = by (bytes_eq key (codes "connection_buffer_size")) refl
+  where
+    by : (b : Bool) → bytes_eq key (codes "connection_buffer_size") ≡ b
+        → (if b then sized_as (sized s.end.handshake value) f s else controlled_as (controlled s.end.handshake key value) f s) ≡ status_sent f status.Einval s
+    by true is = ap (λ o. sized_as o f s) (sized_unknown s.end.handshake value (none_known s.end.handshake key value either (same_bytes key (codes "connection_buffer_size") is)))
+    by false is = ap (λ o. controlled_as o f s) (controlled_unknown s.end.handshake key value either)
 
 module _ (f : Frame) (s : Served) where
   -- CONTROL that sets this
-  set_so : (key value : List ℕ) (h : Handshake) → controlled s.end.handshake key value ≡ Some h → Gets 0 h f s (message_answered f (msg.Control key value) s)
-  set_so key value h is =
-      gets_so 0 h f s (controlled_as (controlled s.end.handshake key value) f s) (status_sent f status.Success (with_handshake s h))
-      (ap (λ o. controlled_as o f s) is) (gets_set f status.Success s h)
+  set_so : (key value : List ℕ) (h : Handshake) → bytes_eq key (codes "connection_buffer_size") ≡ false → controlled s.end.handshake key value ≡ Some h → Gets 0 h f s (message_answered f (msg.Control key value) s)
+  set_so key value h other is =
+      gets_so 0 h f s (control_answered f key value s) (status_sent f status.Success (with_handshake s h))
+      (ap (λ b. if b then sized_as (sized s.end.handshake value) f s else controlled_as (controlled s.end.handshake key value) f s) other ∙ ap (λ o. controlled_as o f s) is)
+      (gets_set f status.Success s h)
 
   pub controls_refused : (key value : List ℕ) → (s.end.handshake ≡ handshake.Fresh) ⊎ (IsKnown key value → ⊥) → Gets 4 s.end.handshake f s (message_answered f (msg.Control key value) s)
   controls_refused key value either =
-      gets_so 4 s.end.handshake f s (controlled_as (controlled s.end.handshake key value) f s) (status_sent f status.Einval s)
-      (ap (λ o. controlled_as o f s) (controlled_unknown s.end.handshake key value either)) (refused_alone f status.Einval s)
+      gets_so 4 s.end.handshake f s (control_answered f key value s) (status_sent f status.Einval s) (control_refused f s key value either) (refused_alone f status.Einval s)
+
+  -- of the window
+  size_set : (size : ℕ) → Sizes size f s (Done (status_sent f status.Success (with_window_size size s)))
+  unfolding status_sent
+  size_set size = record {
+    frame = status_frame f status.Success;
+    is = record {
+      header = record { magic = refl; opcode = refl; key = refl; datatype = refl; status = refl; opaque = refl; framing = refl };
+      cas = refl;
+      extras = refl;
+      value = refl;
+    };
+    answered = refl;
+  }
 
   module _ (sync : Bool) (name : Named) (opened : s.end.handshake ≡ handshake.Open sync name) where
     pub controls_name : (value : List ℕ) → IsName value → Gets 0 (handshake.Open sync (named_by value)) f s (message_answered f (msg.Control (codes "consumer_name") value) s)
     controls_name value (some, few) =
         let e : is_name value ≡ true = grind (arith, nat_tests) in
-        set_so (codes "consumer_name") value (handshake.Open sync (named_by value))
+        set_so (codes "consumer_name") value (handshake.Open sync (named_by value)) refl
         (ap (λ h. controlled h (codes "consumer_name") value) opened ∙ ap (λ b. if b then Some (handshake.Open sync (named_by value)) else None) e)
 
     pub controls_on : Gets 0 (handshake.Open true name) f s (message_answered f (msg.Control (codes "enable_sync_writes") (codes "true")) s)
-    controls_on = set_so (codes "enable_sync_writes") (codes "true") (handshake.Open true name) (ap (λ h. controlled h (codes "enable_sync_writes") (codes "true")) opened)
+    controls_on = set_so (codes "enable_sync_writes") (codes "true") (handshake.Open true name) refl (ap (λ h. controlled h (codes "enable_sync_writes") (codes "true")) opened)
 
     pub controls_off : Gets 0 (handshake.Open false name) f s (message_answered f (msg.Control (codes "enable_sync_writes") (codes "false")) s)
-    controls_off = set_so (codes "enable_sync_writes") (codes "false") (handshake.Open false name) (ap (λ h. controlled h (codes "enable_sync_writes") (codes "false")) opened)
+    controls_off = set_so (codes "enable_sync_writes") (codes "false") (handshake.Open false name) refl (ap (λ h. controlled h (codes "enable_sync_writes") (codes "false")) opened)
+
+    pub controls_size : (n : ℕ) → n < 2 ^ 32 → Sizes n f s (message_answered f (msg.Control (codes "connection_buffer_size") (decimal n)) s)
+    controls_size n fits =
+        let is : sized s.end.handshake (decimal n) ≡ Some n = ap (λ h. sized h (decimal n)) opened ∙ (sizes (decimal n) n).1 (refl, fits) in
+        let set = size_set n in
+        record { frame = set.frame; is = set.is; answered = ap (λ o. Done (sized_as o f s)) is ∙ set.answered }

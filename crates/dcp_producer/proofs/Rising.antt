@@ -1,5 +1,5 @@
 -- up to which seqno a consumer may have all behind a pull
-use Rattle.std.proofs.Common.{◌≡◌, ℕ, zero, suc, Bool, true, false, List, [], ◌∷◌, ◌++◌, map, refl, sym, ap, ◌∙◌, subst, append-nil, append_assoc, arith, Option, Some, None, Result, Ok, Err}
+use Rattle.std.proofs.Common.{◌≡◌, ℕ, zero, suc, Bool, true, false, List, [], ◌∷◌, ◌++◌, map, refl, sym, ap, ◌∙◌, subst, append-nil, append_assoc, length, arith, Option, Some, None, Result, Ok, Err}
 use Rattle.std.specs.Prelude.{if◌then◌else◌, max, slice_get}
 use Rattle.std.specs.List.{fold}
 use Rattle.std.proofs.Math.Nat.{max-eq_left}
@@ -17,7 +17,8 @@ use Rattle.dcp_producer.specs.declared.halt.Halt.{Halt}
 use Rattle.dcp_producer.specs.declared.halt.NoSnapshot.{NoSnapshot}
 use Rattle.dcp_producer.specs.declared.halt.NoSnapshot.TheVariants as no_snapshot
 use Rattle.dcp_producer.specs.Producers.{PlainStream, Served}
-use Rattle.dcp_producer.specs.Pulling.{act_message, item_line, put, past_item, with_snapshot, item_put, marker_flags, marker_put, STATE_CHANGED, snapshot_of_reply, halted_put, taken_put, take_unless, place_halt, place_requested, end_put, next_put, stream_put, frame_put, pulled, frames_put}
+use Rattle.dcp_producer.specs.Pulling.{act_message, item_line, put, past_item, with_snapshot, item_put, marker_flags, marker_put, STATE_CHANGED, snapshot_of_reply, halted_put, taken_put, take_unless, place_halt, place_requested, end_put, next_put, stream_put, in_window, frame_put, pulled, frames_put}
+use Rattle.dcp_producer.proofs.Through.{through_always}
 use Rattle.dcp_producer.specs.Counting.{item_seq, greatest_item, TellsUp, ReachesItems}
 
 -- one line more
@@ -84,9 +85,14 @@ unfolding TurnedUp
 stream_up s None is = refl
 stream_up s (Some stream) is = next_up s stream is (slice_get stream.items stream.next)
 
+window_up : (before : ℕ) (s : Served) (t : Turn Served (Served × Halt)) → TurnedUp s t → TurnedUp s (in_window before t)
+unfolding TurnedUp
+window_up before s (More s') up = up
+window_up before s (Stop (s', h)) same = same
+
 frame_up : (s : Served) → Always AnyCall (TurnedUp s) (frame_put s)
-unfolding frame_put
-frame_up s = stream_up s s.end.stream refl
+unfolding TurnedUp
+frame_up s = through_always AnyCall (TurnedUp s) s (window_up (length s.out) s) (λ shut. refl) (λ free. stream_up s s.end.stream refl)
 
 -- turns tell their lines, until one tells none
 AllUp : ℕ → Served → Turn Served (Served × Halt) → Type 0

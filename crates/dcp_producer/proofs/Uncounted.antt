@@ -1,6 +1,7 @@
 -- answering counts no frames, and the connection stays the same one
 use Rattle.std.proofs.Common.{◌≡◌, ℕ, Bool, true, false, refl, sym, ap, ◌∙◌, subst, inl, inr, Option, Some, None, Result, Ok, Err}
-use Rattle.std.specs.Prelude.{if◌then◌else◌, ◌==◌}
+use Rattle.std.specs.Prelude.{if◌then◌else◌, ◌==◌, codes}
+use Rattle.std.specs.Str.{bytes_eq}
 use Rattle.std.specs.List.{list_any}
 use Rattle.mcbp_frame.specs.declared.frame.Frame.{Frame}
 use Rattle.mcbp_frame.specs.declared.frame.TheConstants.{RESPONSE}
@@ -20,8 +21,9 @@ use Rattle.vb_calls.specs.declared.calls.VbAnswer.TheVariants as answer
 use Rattle.vb_calls.specs.declared.calls.VbReply.{VbReply}
 use Rattle.vb_calls.specs.Programs.{Prog, Done, AnyCall, Always, Ran}
 use Rattle.dcp_producer.specs.declared.desk.Handshake.{Handshake}
-use Rattle.dcp_producer.specs.Producers.{PlainProducer, Served, begun, member_of}
-use Rattle.dcp_producer.specs.Serving.{status_sent, open_refusal, opened_unless, controlled, controlled_as, ask_verdict, request_refusal, verdict_with, with_stream, stream_answered, stream_request, stream_of, weighed, counted_by, count_answered, count_requested, acknowledged, message_answered, row_answered, read_answered, frame_answered}
+use Rattle.flow_control.specs.Windows.{with_acked}
+use Rattle.dcp_producer.specs.Producers.{PlainProducer, Served, begun, is_open, member_of}
+use Rattle.dcp_producer.specs.Serving.{status_sent, open_refusal, opened_unless, controlled, controlled_as, sized, sized_as, ask_verdict, request_refusal, verdict_with, with_stream, stream_answered, stream_request, stream_of, weighed, counted_by, count_answered, count_requested, acknowledged, message_answered, row_answered, read_answered, frame_answered}
 use Rattle.dcp_producer.specs.Wanting.{Cut}
 use Rattle.dcp_producer.proofs.Counting.{ran_always}
 use Rattle.dcp_producer.proofs.Wanting.{left_ran}
@@ -43,6 +45,15 @@ set : (f : Frame) (how : Option Handshake) (s : Served) → Same s (controlled_a
 unfolding Same status_sent
 set f None s = (refl, refl)
 set f (Some how) s = (refl, refl)
+
+size : (f : Frame) (how : Option ℕ) (s : Served) → Same s (sized_as how f s)
+unfolding Same status_sent
+size f None s = (refl, refl)
+size f (Some how) s = (refl, refl)
+
+control : (f : Frame) (s : Served) (b : Bool) (how : Option Handshake) (of : Option ℕ) → Same s (if b then sized_as of f s else controlled_as how f s)
+control f s true how of = size f of s
+control f s false how of = set f how s
 
 -- a stream that is made is the same connection's
 with_same : (end : PlainProducer) (f : Frame) (ask : StreamAsk) (said : AskAnswer) → (with_stream end f ask said).desk ≡ end.desk
@@ -72,9 +83,14 @@ acknowledged_same : (f : Frame) (seq : ℕ) (s : Served) → Always AnyCall (Sam
 unfolding acknowledged
 acknowledged_same f seq s = weighed_same f seq s (weighed seq (stream_of f.vb_or_status s.end.stream) (member_of s.end.handshake))
 
+bytes_same : (f : Frame) (bytes : ℕ) (s : Served) (free : Bool) → Same s (if free then record s { end = record s.end { window = with_acked bytes s.end.window } } else status_sent f status.Einval s)
+unfolding Same
+bytes_same f bytes s true = (refl, refl)
+bytes_same f bytes s false = sent f status.Einval s
+
 message_same : (f : Frame) (m : DcpMsg) (s : Served) → Always AnyCall (Same s) (message_answered f m s)
 message_same f (msg.Open number flags name) s = opened f (open_refusal s.end.handshake flags) s
-message_same f (msg.Control key value) s = set f (controlled s.end.handshake key value) s
+message_same f (msg.Control key value) s = control f s (bytes_eq key (codes "connection_buffer_size")) (controlled s.end.handshake key value) (sized s.end.handshake value)
 message_same f (msg.StreamRequest ask) s = asked f ask s
 message_same f (msg.StreamEnd reason) s = sent f status.Einval s
 message_same f (msg.SnapshotMarker start end flags) s = sent f status.Einval s
@@ -84,9 +100,16 @@ message_same f (msg.Prepare change) s = sent f status.Einval s
 message_same f (msg.Commit change) s = sent f status.Einval s
 message_same f (msg.Abort change) s = sent f status.Einval s
 message_same f (msg.SeqnoAcknowledged seq) s = acknowledged_same f seq s
+message_same f msg.CloseStream s = sent f status.Einval s
+message_same f msg.GetFailoverLog s = sent f status.Einval s
+message_same f msg.Noop s = sent f status.Einval s
+message_same f (msg.BufferAcknowledgement bytes) s = bytes_same f bytes s (is_open s.end.handshake)
 message_same f (msg.OpenAnswer st) s = sent f status.Einval s
 message_same f (msg.ControlAnswer st) s = sent f status.Einval s
 message_same f (msg.StreamAnswer told) s = sent f status.Einval s
+message_same f (msg.CloseAnswer st) s = sent f status.Einval s
+message_same f (msg.NoopAnswer st) s = sent f status.Einval s
+message_same f (msg.LogAnswer st log) s = sent f status.Einval s
 
 row_same : (f : Frame) (read : Result DcpMsg DcpFault) (s : Served) → Always AnyCall (Same s) (row_answered f read s)
 row_same f (Ok m) s = message_same f m s

@@ -1,5 +1,5 @@
 -- a stream that waits puts nothing
-use Rattle.std.proofs.Common.{◌≡◌, ◌<◌, ℕ, drop, zero, suc, Bool, true, false, List, [], ◌∷◌, ◌++◌, refl, sym, ap, ◌∙◌, subst, arith, append-nil, inl, inr, ◌⊎◌, Option, Some, None, Result, Ok, Err}
+use Rattle.std.proofs.Common.{◌≡◌, ◌<◌, ℕ, drop, zero, suc, Bool, true, false, List, [], ◌∷◌, ◌++◌, refl, sym, ap, ◌∙◌, subst, arith, append-nil, length, inl, inr, ◌⊎◌, ⊎_elim, Option, Some, None, Result, Ok, Err}
 use Rattle.std.specs.Prelude.{◌↔◌, if◌then◌else◌, slice_get}
 use Rattle.mcbp_dcp.specs.declared.message.DcpMsg.{DcpMsg}
 use Rattle.vb_types.specs.declared.change.Change.{Change}
@@ -8,15 +8,16 @@ use Rattle.vb_types.specs.declared.stream.Snapshot.{Snapshot}
 use Rattle.vb_calls.specs.declared.calls.VbCall.{VbCall}
 use Rattle.vb_calls.specs.declared.calls.VbCall.TheVariants as call
 use Rattle.vb_calls.specs.declared.calls.VbReply.{VbReply}
-use Rattle.vb_calls.specs.Programs.{Prog, Done, Call, bind, Made, Told, Turn, More, Stop, go_on, repeated}
+use Rattle.vb_calls.specs.Programs.{Done, Made, Told, Turn, More, Stop, go_on, repeated}
 use Rattle.dcp_producer.specs.declared.halt.Halt.{Halt}
 use Rattle.dcp_producer.specs.declared.halt.Halt.TheVariants as halt
 use Rattle.dcp_producer.specs.declared.halt.NoSnapshot.{NoSnapshot}
 use Rattle.dcp_producer.specs.declared.halt.NoSnapshot.TheVariants as no_snapshot
 use Rattle.dcp_producer.specs.Producers.{PlainStream, Served}
-use Rattle.dcp_producer.specs.Pulling.{act_message, item_put, snapshot_of_reply, taken_put, halt_at, place_halt, take_unless, place_requested, end_put, next_put, stream_put, frame_put, pulled, frames_put, why_of}
+use Rattle.dcp_producer.specs.Pulling.{act_message, item_put, snapshot_of_reply, taken_put, halt_at, place_halt, take_unless, place_requested, end_put, next_put, stream_put, in_window, frame_put, pulled, frames_put, why_of}
 use Rattle.dcp_producer.specs.Conduct.{SaysWait, IsToldToWait, WaitsAsAnswered, WaitsBehind}
 use Rattle.dcp_producer.proofs.Calling.{told_bind, told_both}
+use Rattle.dcp_producer.proofs.Through.{through_told}
 use Rattle.dcp_producer.proofs.Tellings.{IsGiven, reply_given, IsHalted, reply_halted}
 
 -- ---- calls that end with the answer that the stream waits
@@ -62,6 +63,9 @@ not_idle is = absurd (cc is)
 
 not_unput : halt.Unput ≡ halt.WaitSaved → ⊥
 not_unput is = absurd (cc is)
+
+not_full : halt.Full ≡ halt.WaitSaved → ⊥
+not_full is = absurd (cc is)
 
 done_waits : (s : Served) (made : List Made) (come turn : Turn Served (Served × Halt)) → GoesOn come → Told (Done come) made turn → WaitsSo s made turn
 done_waits s (m ∷ made) come turn goes is = elim is [ ]
@@ -139,9 +143,22 @@ stream_waits : (s : Served) (o : Option PlainStream) → s.end.stream ≡ o → 
 stream_waits s None is made turn told = done_waits s made (Stop (s, halt.Idle)) turn not_idle told
 stream_waits s (Some stream) is made turn told = next_waits s stream is (slice_get stream.items stream.next) made turn told
 
+-- what stops in a window stopped before it
+stopped_before : (before : ℕ) (t : Turn Served (Served × Halt)) (stopped : Served × Halt) → in_window before t ≡ Stop stopped → t ≡ Stop stopped
+stopped_before before (More s) stopped is = absurd (cc is)
+stopped_before before (Stop other) stopped is = is
+
+window_waits : (s : Served) (made : List Made) (t turn : Turn Served (Served × Halt)) → turn ≡ in_window (length s.out) t → WaitsSo s made t → WaitsSo s made turn
+window_waits s made t turn is so = record {
+  ends = λ ends. is ∙ ap (in_window (length s.out)) (so.ends ends);
+  waits = λ left comes. so.waits left (stopped_before (length s.out) t (left, halt.WaitSaved) (sym is ∙ comes));
+  alone = so.alone;
+}
+
 frame_waits : (s : Served) (made : List Made) (turn : Turn Served (Served × Halt)) → Told (frame_put s) made turn → WaitsSo s made turn
-unfolding frame_put
-frame_waits s made turn told = stream_waits s s.end.stream refl made turn told
+frame_waits s made turn told =
+    ⊎_elim (λ through. window_waits s made through.0 turn through.2 (stream_waits s s.end.stream refl made through.0 through.1)) (λ shut. done_waits s made (Stop (s, halt.Full)) turn not_full shut)
+    (through_told s made turn told)
 
 pub turn_waits : (s : Served) (made : List Made) (turn : Turn Served (Served × Halt)) → Told (frame_put s) made turn → WaitsAsAnswered s made turn
 turn_waits s made turn told = let so = frame_waits s made turn told in record { told = λ asked. so.ends (told_ends s made asked); waits = so.waits; alone = so.alone }
@@ -261,3 +278,4 @@ line_waits halt.All = (λ is. absurd (cc is), λ is. absurd (cc is))
 line_waits halt.Idle = (λ is. absurd (cc is), λ is. absurd (cc is))
 line_waits halt.Unput = (λ is. absurd (cc is), λ is. absurd (cc is))
 line_waits halt.WaitSaved = (λ is. refl, λ is. refl)
+line_waits halt.Full = (λ is. absurd (cc is), λ is. absurd (cc is))

@@ -68,19 +68,19 @@ module _ (f : Frame) (s : Served) where
   by_opcode : (o : Option Opcode) → opcode_of f.opcode ≡ o → IsOther f.opcode → read_answered f (option_map (read_as f) (row_by_opcode o false)) s ≡ Einval
   by_opcode None e n = refl
   by_opcode (Some op.Open) e n = absurd (n.0 (number_of f.opcode op.Open e))
-  by_opcode (Some op.CloseStream) e n = refl
+  by_opcode (Some op.CloseStream) e n = by_fault (shape_fault row.CloseStream f) (message_in row.CloseStream f) refl (f.datatype == 0)
   by_opcode (Some op.StreamRequest) e n = absurd (n.1 (number_of f.opcode op.StreamRequest e))
-  by_opcode (Some op.GetFailoverLog) e n = refl
+  by_opcode (Some op.GetFailoverLog) e n = by_fault (shape_fault row.GetFailoverLog f) (message_in row.GetFailoverLog f) refl (f.datatype == 0)
   by_opcode (Some op.StreamEnd) e n = by_fault (shape_fault row.StreamEnd f) (message_in row.StreamEnd f) refl (f.datatype == 0)
   by_opcode (Some op.SnapshotMarker) e n = by_fault (shape_fault row.SnapshotMarker f) (message_in row.SnapshotMarker f) refl (f.datatype == 0)
   by_opcode (Some op.Mutation) e n = by_fault (shape_fault row.Mutation f) (message_in row.Mutation f) refl (f.datatype == 0)
   by_opcode (Some op.Deletion) e n = by_fault (shape_fault row.Deletion f) (message_in row.Deletion f) refl (f.datatype == 0)
   by_opcode (Some op.SetVbucketState) e n = refl
-  by_opcode (Some op.Noop) e n = refl
-  by_opcode (Some op.BufferAcknowledgement) e n = refl
-  by_opcode (Some op.Control) e n = absurd (n.2 (number_of f.opcode op.Control e))
+  by_opcode (Some op.Noop) e n = by_fault (shape_fault row.Noop f) (message_in row.Noop f) refl (f.datatype == 0)
+  by_opcode (Some op.BufferAcknowledgement) e n = absurd (n.2 (number_of f.opcode op.BufferAcknowledgement e))
+  by_opcode (Some op.Control) e n = absurd (n.3 (number_of f.opcode op.Control e))
   by_opcode (Some op.Prepare) e n = by_fault (shape_fault row.Prepare f) (message_in row.Prepare f) refl (f.datatype == 0)
-  by_opcode (Some op.SeqnoAcknowledged) e n = absurd (n.3 (number_of f.opcode op.SeqnoAcknowledged e))
+  by_opcode (Some op.SeqnoAcknowledged) e n = absurd (n.4 (number_of f.opcode op.SeqnoAcknowledged e))
   by_opcode (Some op.Commit) e n = by_fault (shape_fault row.Commit f) (message_in row.Commit f) refl (f.datatype == 0)
   by_opcode (Some op.Abort) e n = by_fault (shape_fault row.Abort f) (message_in row.Abort f) refl (f.datatype == 0)
 

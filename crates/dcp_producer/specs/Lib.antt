@@ -1,4 +1,5 @@
 pub mod Producers
+pub mod Sizes
 pub mod Serving
 pub mod Pulling
 pub mod Ending
@@ -9,3 +10,4 @@ pub mod Counting
 pub mod Taking
 pub mod Rows
 pub mod Losing
+pub mod Holding

@@ -1,4 +1,4 @@
--- what a producer is: its connection, what OPEN and CONTROL set, and its stream
+-- what a producer is: its connection, what OPEN and CONTROL set, its stream and its window
 use Rattle.std.specs.Prelude.{ℕ, Bool, true, false, ◌&&◌, List, [], Option, Some, None}
 use Rattle.vb_types.specs.declared.change.Change.{Change}
 use Rattle.vb_events.specs.declared.event.Event.{Event}
@@ -10,6 +10,8 @@ use Rattle.dcp_producer.specs.declared.desk.Handshake.TheVariants as handshake
 use Rattle.dcp_producer.specs.declared.desk.Named.{Named}
 use Rattle.dcp_producer.specs.declared.desk.Named.TheVariants as named
 use Rattle.vb_calls.specs.declared.calls.Resolved.{Resolved}
+use Rattle.flow_control.specs.declared.window.Window.{Window}
+use Rattle.flow_control.specs.Windows.{new_window}
 
 -- a change of role ended the stream
 abbrev pub is_ended : StreamState → Bool
@@ -25,11 +27,12 @@ pub record PlainStream : Type 0 where
   pub reached : ℕ
   pub ended : Bool
 
--- a producer; so far a connection has one stream
+-- a producer, with the window through which its frames go; so far a connection has one stream
 pub record PlainProducer : Type 0 where
   pub desk : Desk
   pub handshake : Handshake
   pub stream : Option PlainStream
+  pub window : Window
 
 -- a producer in a call, with the lines that tell what happened, the bytes for the consumer, how many frames of the stream were put so far, and what became of durable writes that are waited for
 pub record Served : Type 0 where
@@ -44,9 +47,9 @@ pub record KeptProducer : Type 0 where
   pub plain : PlainProducer
   pub spent : Bool
 
--- a new connection
+-- a new connection; its window holds nothing back
 abbrev pub new_end : Desk → PlainProducer
-new_end desk = record { desk = desk; handshake = handshake.Fresh; stream = None }
+new_end desk = record { desk = desk; handshake = handshake.Fresh; stream = None; window = new_window 0 }
 
 -- a call begins
 abbrev pub begun : PlainProducer → Served

@@ -1,5 +1,5 @@
 -- how a producer puts the frames of a stream, as programs over its node's vBuckets
-use Rattle.std.specs.Prelude.{ℕ, ◌+◌, max, Bool, true, false, if◌then◌else◌, [], ◌∷◌, ◌++◌, slice_get, Option, Some, None, Result, Ok, Err}
+use Rattle.std.specs.Prelude.{ℕ, ◌+◌, ◌-◌, max, Bool, true, false, if◌then◌else◌, [], ◌∷◌, ◌++◌, length, slice_get, Option, Some, None, Result, Ok, Err}
 use Rattle.mcbp_dcp.specs.declared.message.DcpMsg.{DcpMsg}
 use Rattle.mcbp_dcp.specs.declared.message.DcpMsg.TheVariants as msg
 use Rattle.mcbp_dcp.specs.declared.message.Resolution.{Resolution}
@@ -24,6 +24,7 @@ use Rattle.vb_calls.specs.declared.calls.VbAnswer.{VbAnswer}
 use Rattle.vb_calls.specs.declared.calls.VbAnswer.TheVariants as answer
 use Rattle.vb_calls.specs.declared.calls.VbReply.{VbReply}
 use Rattle.vb_calls.specs.Programs.{Prog, Done, Call, bind, Turn, More, Stop, repeated}
+use Rattle.flow_control.specs.Windows.{is_open, with_put}
 use Rattle.dcp_producer.specs.declared.desk.Desk.{Desk}
 use Rattle.dcp_producer.specs.declared.halt.Halt.{Halt}
 use Rattle.dcp_producer.specs.declared.halt.Halt.TheVariants as halt
@@ -33,11 +34,12 @@ use Rattle.dcp_producer.specs.declared.halt.Turned.{Turned}
 use Rattle.dcp_producer.specs.declared.halt.Turned.TheVariants as turned
 use Rattle.dcp_producer.specs.Producers.{PlainStream, Served}
 
--- why no more was put, as the line says it: that all were that were asked for, or that there was no more
+-- why no more was put, as the line says it: that all were that were asked for, that there was no more, that the window is shut, or that the stream waits
 abbrev pub why_of : Halt → Why
 why_of halt.All = why.All
 why_of halt.Idle = why.Idle
 why_of halt.Unput = why.Idle
+why_of halt.Full = why.Full
 why_of halt.WaitSaved = why.WaitSaved
 
 -- the connection, with this stream
@@ -225,9 +227,22 @@ abbrev pub stream_put : Served → Option PlainStream → Prog (Turn Served (Ser
 stream_put s None = Done (Stop (s, halt.Idle))
 stream_put s (Some stream) = next_put s stream (slice_get stream.items stream.next)
 
--- one frame of the stream, if there is one to put
+-- the connection, with what was put since so many bytes were out counted in its window
+abbrev pub with_window : ℕ → Served → Served
+with_window before s = record s { end = record s.end { window = with_put (length s.out - before) s.end.window } }
+
+-- what a turn put is counted in the window
+abbrev pub in_window : ℕ → Turn Served (Served × Halt) → Turn Served (Served × Halt)
+in_window before (More s) = More (with_window before s)
+in_window before (Stop stopped) = Stop stopped
+
+-- so is what a program puts
+abbrev pub counted_in_window : ℕ → Prog (Turn Served (Served × Halt)) → Prog (Turn Served (Served × Halt))
+counted_in_window before prog = bind prog (λ turn. Done (in_window before turn))
+
+-- one frame of the stream, if there is one to put; none goes through a window that is shut, whatever stream there is
 unfoldable pub frame_put : Served → Prog (Turn Served (Served × Halt))
-frame_put s = stream_put s s.end.stream
+frame_put s = if is_open s.end.window then counted_in_window (length s.out) (stream_put s s.end.stream) else Done (Stop (s, halt.Full))
 
 -- what is left after so many turns, and why no more was put
 abbrev pub pulled : Turn Served (Served × Halt) → Prog (Served × Halt)

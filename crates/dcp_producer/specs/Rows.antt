@@ -7,6 +7,7 @@ use Rattle.vb_events.specs.declared.event.Event.TheVariants as event
 use Rattle.vb_events.specs.declared.event.ItemAct.TheVariants as item_act
 use Rattle.vb_events.specs.declared.event.StreamName.TheVariants as stream
 use Rattle.vb_calls.specs.Programs.{Prog, Done, Call}
+use Rattle.flow_control.specs.Windows.{new_window}
 use Rattle.dcp_producer.specs.declared.desk.Desk.{Desk}
 use Rattle.dcp_producer.specs.declared.desk.Handshake.TheVariants as handshake
 use Rattle.dcp_producer.specs.declared.desk.Named.TheVariants as named
@@ -33,7 +34,7 @@ some_stream next reached ended = record { vb = 3; opaque = 9; items = earlier �
 
 -- that connection, with such a stream or with none
 abbrev pub with_streams : Option PlainStream → PlainProducer
-with_streams s = record { desk = some_desk; handshake = handshake.Open true (named.Member 4); stream = s }
+with_streams s = record { desk = some_desk; handshake = handshake.Open true (named.Member 4); stream = s; window = new_window 0 }
 
 -- what a pull told, counted, left and stopped for, where it needs no call
 abbrev pub lines_in : Prog (Served × Halt) → Option (List Event)
@@ -73,7 +74,7 @@ pub record PutInTurn : Type 0 where
   pub more : (lines_in (pull 9 (Some (some_stream 0 4 true))) ≡ Some (first_line ∷ second_line ∷ end_line ∷ [])) × (count_in (pull 9 (Some (some_stream 0 4 true))) ≡ Some (3, halt.Idle))
   pub no_stream : (lines_in (pull 5 None) ≡ Some []) × (count_in (pull 5 None) ≡ Some (0, halt.Idle))
 
--- A change of role at a vBucket ends the stream of this connection exactly where it is that vBucket's and has one of the numbers that are named.
+-- A change of role at a vBucket ends the stream of this connection exactly where it is that vBucket's and has one of the numbers that are named; all else of any connection stays.
 pub record EndsByNumber : Type 0 where
   pub named : ended_by 3 (5 ∷ 7 ∷ []) (with_streams (Some (some_stream 1 5 false))) ≡ with_streams (Some (some_stream 1 5 true))
   pub first : ended_by 3 (7 ∷ 5 ∷ []) (with_streams (Some (some_stream 1 5 false))) ≡ with_streams (Some (some_stream 1 5 true))
@@ -82,3 +83,22 @@ pub record EndsByNumber : Type 0 where
   pub elsewhere : ended_by 4 (7 ∷ []) (with_streams (Some (some_stream 1 5 false))) ≡ with_streams (Some (some_stream 1 5 false))
   pub again : ended_by 4 [] (with_streams (Some (some_stream 1 5 true))) ≡ with_streams (Some (some_stream 1 5 true))
   pub no_stream : ended_by 3 (7 ∷ []) (with_streams None) ≡ with_streams None
+  pub rest : (v : ℕ) (ids : List ℕ) (end : PlainProducer) → ended_by v ids end ≡ record end { stream = (ended_by v ids end).stream }
+
+-- a pull of so many frames of that ended stream, through a window of this size
+abbrev pub pull_through : ℕ → ℕ → Prog (Served × Halt)
+pull_through frames size = frames_put frames (begun (record (with_streams (Some (some_stream 0 4 true))) { window = new_window size }))
+
+-- what is outstanding then
+abbrev pub outstanding_in : Prog (Served × Halt) → Option ℕ
+outstanding_in (Done (s, halted)) = Some s.end.window.outstanding
+outstanding_in (Call v call next) = None
+
+-- The frames of that stream have 43, 41 and 28 bytes. The window is asked for each: the last one that goes passes over the size, and behind all that were asked for it is not asked.
+pub record HeldAtEdge : Type 0 where
+  pub first : (count_in (pull_through 9 43) ≡ Some (1, halt.Full)) × (outstanding_in (pull_through 9 43) ≡ Some 43)
+  pub both : (count_in (pull_through 9 44) ≡ Some (2, halt.Full)) × (outstanding_in (pull_through 9 44) ≡ Some 84)
+  pub last : (count_in (pull_through 9 84) ≡ Some (2, halt.Full)) × (count_in (pull_through 9 85) ≡ Some (3, halt.Full))
+  pub more : (count_in (pull_through 9 112) ≡ Some (3, halt.Full)) × (count_in (pull_through 9 113) ≡ Some (3, halt.Idle))
+  pub asked : (count_in (pull_through 1 1) ≡ Some (1, halt.All)) × (count_in (pull_through 2 1) ≡ Some (1, halt.Full))
+  pub free : (count_in (pull_through 9 0) ≡ Some (3, halt.Idle)) × (outstanding_in (pull_through 9 0) ≡ Some 0)

@@ -35,7 +35,9 @@ use Rattle.dcp_producer.specs.declared.desk.Handshake.{Handshake}
 use Rattle.dcp_producer.specs.declared.desk.Handshake.TheVariants as handshake
 use Rattle.dcp_producer.specs.declared.desk.Named.{Named}
 use Rattle.dcp_producer.specs.declared.desk.Named.TheVariants as named
+use Rattle.flow_control.specs.Windows.{with_acked, with_size}
 use Rattle.dcp_producer.specs.Producers.{PlainStream, PlainProducer, Served, is_open, is_sync, member_of}
+use Rattle.dcp_producer.specs.Sizes.{size_of}
 
 -- the connection after one more frame was put on its way
 abbrev pub with_frame : Served → Frame → Served
@@ -53,7 +55,7 @@ status_frame f st = reply_frame (record { opcode = f.opcode; status = st; opaque
 unfoldable pub status_sent : Frame → Status → Served → Served
 status_sent f st s = with_frame s (status_frame f st)
 
--- what OPEN and CONTROL set
+-- what OPEN and CONTROL set, but for the window's size
 abbrev pub with_handshake : Served → Handshake → Served
 with_handshake s set = record s { end = record s.end { handshake = set } }
 
@@ -88,7 +90,7 @@ named_by (n ∷ d ∷ []) = if n == 110 && is_digit 9 d then named.Member (d - 4
 named_by (n ∷ one ∷ d ∷ []) = if (n == 110 && one == 49) && is_digit 5 d then named.Member (10 + (d - 48)) else named.Stranger
 named_by other = named.Stranger
 
--- CONTROL of an open connection: the keys that are known, `enable_sync_writes` and `consumer_name`, each with its values; None for any other
+-- CONTROL of an open connection: the keys of the handshake, `enable_sync_writes` and `consumer_name`, each with its values; None for any other
 abbrev pub set_by : Bool → Named → List ℕ → List ℕ → Option Handshake
 set_by sync_writes name key value =
     if bytes_eq key (codes "enable_sync_writes") then option_map (λ flag. handshake.Open flag name) (flag_of value)
@@ -100,12 +102,26 @@ abbrev pub controlled : Handshake → List ℕ → List ℕ → Option Handshake
 controlled handshake.Fresh key value = None
 controlled (handshake.Open sync_writes name) key value = set_by sync_writes name key value
 
--- CONTROL: it is set, or the request is refused
+-- the size of the window that CONTROL of `connection_buffer_size` sets; none before OPEN
+abbrev pub sized : Handshake → List ℕ → Option ℕ
+sized handshake.Fresh value = None
+sized (handshake.Open sync_writes name) value = size_of value
+
+-- the window gets another size
+abbrev pub with_window_size : ℕ → Served → Served
+with_window_size size s = record s { end = record s.end { window = with_size size s.end.window } }
+
+-- CONTROL of the window: it gets the size, or the request is refused
+abbrev pub sized_as : Option ℕ → Frame → Served → Served
+sized_as None f s = status_sent f status.Einval s
+sized_as (Some size) f s = status_sent f status.Success (with_window_size size s)
+
+-- CONTROL of a key of the handshake: it is set, or the request is refused
 abbrev pub controlled_as : Option Handshake → Frame → Served → Served
 controlled_as None f s = status_sent f status.Einval s
 controlled_as (Some set) f s = status_sent f status.Success (with_handshake s set)
 
--- OPEN and CONTROL, by what they set or why they are refused
+-- OPEN, and CONTROL of a key of the handshake, by what they set or why they are refused
 abbrev pub set_answered : Result Handshake Status → Frame → Served → Served
 set_answered (Ok set) f s = status_sent f status.Success (with_handshake s set)
 set_answered (Err st) f s = status_sent f st s
@@ -117,7 +133,9 @@ opened (Some st) = Err st
 
 -- CONTROL
 abbrev pub control_answered : Frame → List ℕ → List ℕ → Served → Served
-control_answered f key value s = controlled_as (controlled s.end.handshake key value) f s
+control_answered f key value s =
+    if bytes_eq key (codes "connection_buffer_size") then sized_as (sized s.end.handshake value) f s
+    else controlled_as (controlled s.end.handshake key value) f s
 
 -- refused, with this status
 abbrev pub refuse : Status → AskAnswer
@@ -249,12 +267,19 @@ count_requested f seq s (Ok member) = Call f.vb_or_status (call.Ack member seq) 
 unfoldable pub acknowledged : Frame → ℕ → Served → Prog Served
 acknowledged f seq s = count_requested f seq s (weighed seq (stream_of f.vb_or_status s.end.stream) (member_of s.end.handshake))
 
+-- BUFFER_ACKNOWLEDGEMENT: so many bytes are outstanding no more; there is no answer, unless it comes before OPEN
+abbrev pub bytes_acknowledged : Frame → ℕ → Served → Served
+bytes_acknowledged f bytes s =
+    if is_open s.end.handshake then record s { end = record s.end { window = with_acked bytes s.end.window } }
+    else status_sent f status.Einval s
+
 -- a message, by its row; a producer takes no other
 abbrev pub message_answered : Frame → DcpMsg → Served → Prog Served
 message_answered f (msg.Open number flags name) s = Done (opened_unless (open_refusal s.end.handshake flags) f s)
 message_answered f (msg.Control key value) s = Done (control_answered f key value s)
 message_answered f (msg.StreamRequest ask) s = stream_request f ask s
 message_answered f (msg.SeqnoAcknowledged seq) s = acknowledged f seq s
+message_answered f (msg.BufferAcknowledgement bytes) s = Done (bytes_acknowledged f bytes s)
 message_answered f other s = Done (status_sent f status.Einval s)
 
 -- a message that was read, or Einval where a part is not the row's

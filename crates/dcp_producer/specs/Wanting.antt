@@ -24,10 +24,11 @@ Cut step prog before old end new = ((end ≡ before) × (new ≡ old)) ⊎ Left 
 abbrev pub standing : PlainStream → ℕ × ℕ × Bool
 standing stream = (stream.vb, stream.opaque, stream.ended)
 
--- the connection has the same stream, or none as before, and what OPEN and CONTROL set
+-- the connection has the same stream, or none as before, and the same desk and handshake; of its window nothing is said
 abbrev pub Stays : PlainProducer → PlainProducer → Type 0
 Stays old new = (new.desk ≡ old.desk) × (new.handshake ≡ old.handshake) × (option_map standing new.stream ≡ option_map standing old.stream)
 
--- a turn at a stream leaves it the same stream of the same connection
+-- a turn at a stream leaves it the same stream of the same connection, with the same window
 abbrev pub SameThere : Served → PlainStream → Served → PlainStream → Type 0
-SameThere s stream s' stream' = (s'.end.desk ≡ s.end.desk) × (s'.end.handshake ≡ s.end.handshake) × (standing stream' ≡ standing stream)
+SameThere s stream s' stream' =
+    (s'.end.desk ≡ s.end.desk) × (s'.end.handshake ≡ s.end.handshake) × (s'.end.window ≡ s.end.window) × (standing stream' ≡ standing stream)

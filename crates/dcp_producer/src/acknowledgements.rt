@@ -1,6 +1,6 @@
-//! How a producer counts what its consumer acknowledges.
+//! How a producer counts what its consumer acknowledges: changes, and bytes.
 ghost use Rattle.std.specs.Prelude.{◌≡◌, ◌++◌, ◌∷◌, map, OnOk, OnErr};
-ghost use Rattle.dcp_producer.specs.Serving.{stream_of, weighed, with_event, counted_line, counted_with, counted_by, count_answered, acknowledged};
+ghost use Rattle.dcp_producer.specs.Serving.{stream_of, weighed, with_event, counted_line, counted_with, counted_by, count_answered, acknowledged, bytes_acknowledged};
 ghost use Rattle.{dcp_producer.specs.Producers.{member_of}, dcp_producer.specs.Wanting.{Cut, Sent}, vb_calls.specs.Programs.{Ran}};
 ghost use Rattle.vb_events.specs.declared.event.Event.TheVariants.{Changed};
 
@@ -115,5 +115,17 @@ impl Connection {
         };
         let reply = vbs.call(vb, VbCall::Ack { member, seq })?;
         self.answer_if(f, member, seq, reply)
+    }
+
+    /// Takes bytes out of the window that the consumer acknowledged. There is no answer, unless OPEN did
+    /// not come.
+    pub fn acknowledge_bytes(&mut self, f: &Frame, bytes: u32) -> Alloc<()>
+        ensures { Sent result self.new (bytes_acknowledged f.now bytes self.old) }
+    {
+        if !self.handshake.is_open() {
+            return self.send_status(f, Status::Einval);
+        }
+        self.window.ack(bytes);
+        Ok(())
     }
 }

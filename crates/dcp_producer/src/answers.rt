@@ -1,6 +1,6 @@
 //! How a producer answers the requests of a connection.
 ghost use Rattle.std.specs.Prelude.{◌≡◌, OnOk, OnErr};
-ghost use Rattle.dcp_producer.specs.Serving.{with_frame, set_answered, opening_id, stream_verdict, stream_answered, stream_request, message_answered, read_answered, frame_answered};
+ghost use Rattle.dcp_producer.specs.Serving.{with_frame, set_answered, sized_as, control_answered, opening_id, stream_verdict, stream_answered, stream_request, message_answered, read_answered, frame_answered};
 ghost use Rattle.{dcp_producer.specs.Wanting.{Cut, Sent}, mcbp_dcp.specs.DcpFrames.{dcp_frame, IsVerdict}, mcbp_dcp.specs.declared.message.DcpMsg.TheVariants.{StreamAnswer}};
 ghost use Rattle.{mcbp_dcp.specs.declared.message.StreamVerdict.TheVariants.{Go, Roll}, vb_calls.specs.Programs.{Ran}};
 
@@ -23,6 +23,32 @@ impl Connection {
                 self.send_status(f, Status::Success)
             }
             Err(status) => self.send_status(f, status),
+        }
+    }
+
+    /// Answers CONTROL of the window, by the size that it gets, if it gets one.
+    fn answer_size(&mut self, f: &Frame, size: Option<u32>) -> Alloc<()>
+        ensures { Sent result self.new (sized_as size f.now self.old) }
+    {
+        match size {
+            Some(size) => {
+                self.window.resize(size);
+                self.send_status(f, Status::Success)
+            }
+            None => self.send_status(f, Status::Einval),
+        }
+    }
+
+    /// Answers CONTROL.
+    #[tactic(auto, using(crate::proofs::Handshaking::control_set))]
+    fn answer_control(&mut self, f: &Frame, key: &[u8], value: &[u8]) -> Alloc<()>
+        ensures { Sent result self.new (control_answered f.now key.now value.now self.old) }
+    {
+        if key == b"connection_buffer_size".as_slice() {
+            self.answer_size(f, self.handshake.sized(value))
+        } else {
+            let set = self.handshake.controlled(key, value);
+            self.answer_set(f, set.ok_or(Status::Einval))
         }
     }
 
@@ -106,7 +132,7 @@ impl Connection {
     }
 
     /// Answers a message.
-    #[tactic(auto, using(vb_calls::proofs::Runs::runs, crate::proofs::Handshaking::open_set, crate::proofs::Handshaking::control_set))]
+    #[tactic(auto, using(vb_calls::proofs::Runs::runs, crate::proofs::Handshaking::open_set))]
     fn answer_message<A: VbAccess>(&mut self, vbs: &mut A, f: &Frame, message: &DcpMsg) -> Alloc<()>
         ensures ok { OnOk result (Ran A.step (message_answered f.now message.now self.old) vbs.old self.new vbs.new) }
         ensures err { OnErr result (Cut A.step (message_answered f.now message.now self.old) self.old.end vbs.old self.new.end vbs.new) }
@@ -114,11 +140,11 @@ impl Connection {
         match message {
             DcpMsg::Open { flags, .. } => self.answer_set(f, self.handshake.opened(*flags)),
             DcpMsg::Control { key, value } => {
-                let set = self.handshake.controlled(key.as_slice(), value.as_slice());
-                self.answer_set(f, set.ok_or(Status::Einval))
+                self.answer_control(f, key.as_slice(), value.as_slice())
             }
             DcpMsg::StreamRequest { ask } => self.answer_request(vbs, f, ask),
             DcpMsg::SeqnoAcknowledged { seq } => self.acknowledge(vbs, f, *seq),
+            DcpMsg::BufferAcknowledgement { bytes } => self.acknowledge_bytes(f, *bytes),
             _ => self.send_status(f, Status::Einval),
         }
     }

@@ -5,6 +5,7 @@ ghost use Rattle.{mcbp_dcp.specs.declared.message.DcpMsg.TheVariants.{StreamAnsw
 
 use crate::{ActiveStream, Alloc, Asked, Desk, Handshake};
 use bytes::{Bytes, BytesMut};
+use flow_control::Window;
 use mcbp_dcp::{DcpMsg, Opcode, write_dcp};
 use mcbp_frame::{Frame, RESPONSE, write_frame};
 use mcbp_kv::{KvReply, write_reply};
@@ -14,14 +15,16 @@ use vb_calls::Resolved;
 use vb_events::Event;
 use vb_types::{Listed, Status};
 
-/// A connection, with the lines that tell what happened in this call, the bytes for the consumer,
-/// how many frames of the stream were put, and what became of durable writes that are waited for.
+/// A connection with its window, and with the lines that tell what happened in this call, the bytes
+/// for the consumer, how many frames of the stream were put, and what became of durable writes that
+/// are waited for.
 #[derive(Drop)]
 pub struct Connection {
     pub alloc: Global,
     pub desk: Desk,
     pub handshake: Handshake,
     pub stream: Option<ActiveStream>,
+    pub window: Window,
     pub events: Listed<Event>,
     pub out: BytesMut,
     pub count: u64,
@@ -34,7 +37,7 @@ impl Model for Connection {
     ghost Value = { Served };
 
     ghost view = { λ s. record {
-      end = record { desk = s.desk; handshake = s.handshake; stream = s.stream };
+      end = record { desk = s.desk; handshake = s.handshake; stream = s.stream; window = s.window };
       events = s.events;
       out = s.out.items;
       count = s.count;

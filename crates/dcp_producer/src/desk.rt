@@ -1,7 +1,8 @@
 //! What a producer knows of its connection, what OPEN and CONTROL set, and what is refused by it.
 ghost use Rattle.std.specs.Prelude.{◌≡◌};
-ghost use Rattle.{dcp_producer.specs.Producers.{is_open, is_named, is_sync, member_named, member_of}, dcp_producer.specs.Serving.{opened, open_refusal, flag_of, named_by, controlled, request_refusal}};
+ghost use Rattle.{dcp_producer.specs.Producers.{is_open, is_named, is_sync, member_named, member_of}, dcp_producer.specs.Serving.{opened, open_refusal, flag_of, named_by, controlled, sized, request_refusal}};
 
+use crate::sizes::size_of;
 use mcbp_dcp::MAX_NAME;
 use vb_events::StreamName;
 use vb_types::{Status, StreamAsk};
@@ -26,7 +27,7 @@ pub enum Named {
     Member(u8),
 }
 
-/// What OPEN and CONTROL set.
+/// What OPEN and CONTROL set, but for the window's size.
 #[derive(Clone, Copy)]
 pub enum Handshake {
     /// OPEN did not come yet.
@@ -138,6 +139,13 @@ impl Handshake {
             return Some(Handshake::Open { sync_writes, name });
         }
         None
+    }
+
+    /// The size that a control gives the window; none before OPEN, and where its value is no size.
+    pub fn sized(self, value: &[u8]) -> Option<u32>
+        ensures { result ≡ sized self value.now }
+    {
+        if self.is_open() { size_of(value) } else { None }
     }
 
     /// Why the producer itself refuses a request for a stream.

@@ -13,6 +13,8 @@ pub enum Halt {
     Idle,
     /// The next change has no message.
     Unput,
+    /// The window is shut.
+    Full,
     /// The stream's next changes are not all in memory; it waits until they are saved.
     WaitSaved,
 }
@@ -43,6 +45,7 @@ impl Halt {
         match self {
             Halt::All => Why::All,
             Halt::Idle | Halt::Unput => Why::Idle,
+            Halt::Full => Why::Full,
             Halt::WaitSaved => Why::WaitSaved,
         }
     }

@@ -1,8 +1,8 @@
 //! Laws of a producer. Each is a function with no work to do, and its clauses are the law.
-ghost use Rattle.std.specs.Prelude.{◌≡◌, ◌<◌, ◌≤◌, ◌⊎◌, ◌↔◌, ◌++◌, ℕ, Bool, true, false, List, [], ◌∷◌, Some, Ok, codes, decimal, Err};
+ghost use Rattle.std.specs.Prelude.{◌≡◌, ◌<◌, ◌≤◌, ◌⊎◌, ◌↔◌, ◌++◌, ◌^◌, ℕ, Bool, true, false, List, [], ◌∷◌, Some, Ok, codes, decimal, Err};
 ghost use Rattle.dcp_producer.specs.Counting.{IsCountable, IsFed, IsMember, IsNoMember, IsUnfed, OneCount, ReachesItem, ReachesSame, ReachesStart, ReachesStill, ReachesItems};
 ghost use Rattle.{dcp_producer.specs.Conduct.{CountsFrames, IsInactive, IsOpened, OneReply, PutsBytes, PutsDurables, PutsPlain, RefusedWith, MarksBytes, MarksSnapshots, EndsBytes, WaitsAsAnswered, WaitsBehind, durable_doc, durable_row}, dcp_producer.specs.Ending.{IsEnding, LeavesEnding, NoCall}};
-ghost use Rattle.{dcp_producer.specs.Handshaking.{Asks, Gets, IsKnown, IsName, IsOther}, dcp_producer.specs.Producers.{PlainProducer, PlainStream, Served}, dcp_producer.specs.Pulling.{frame_put, frames_put, why_of}};
+ghost use Rattle.{dcp_producer.specs.Handshaking.{Asks, Gets, IsKnown, IsName, IsOther, Sizes}, dcp_producer.specs.Producers.{PlainProducer, PlainStream, Served}, dcp_producer.specs.Pulling.{frame_put, frames_put, why_of}};
 ghost use Rattle.{dcp_producer.specs.declared.halt.Halt.{Halt}, dcp_producer.specs.declared.halt.Halt.TheVariants.{WaitSaved}, vb_events.specs.declared.event.Why.TheVariants.{WaitSaved as SavedLine}};
 ghost use Rattle.{dcp_producer.specs.Serving.{frame_answered, message_answered, named_by}, dcp_producer.specs.declared.desk.Handshake.TheVariants.{Fresh, Open as Shaken}};
 ghost use Rattle.{dcp_producer.specs.declared.desk.Named.{Named as Name}, dcp_producer.specs.declared.desk.Named.TheVariants.{Member, Nobody, Stranger}};
@@ -46,7 +46,7 @@ pub fn waiting_streams_put_nothing()
 /// A stream whose vBucket is absent, or of which its vBucket knows nothing, ends as one that a change
 /// of role ended: the turn that is told so puts its end with reason 2, with its line, counts that one
 /// frame, and leaves no stream. No other turn ends a stream that no change of role ended. So behind a
-/// pull the end is told last, and nothing is waited for.
+/// pull the end is told last, and nothing is waited for but the window.
 pub fn lost_streams_end()
     ensures turn { (s : Served) (stream : PlainStream) (made : List Made) (turn : Turn Served (Served × Halt)) → s.end.stream ≡ Some stream
         → Told (frame_put s) made turn → EndsAsLost s stream made turn }
@@ -126,8 +126,9 @@ pub fn opens_are_answered()
         → Gets 0 (Shaken false Nobody) f s (message_answered f (Open number 1 name) s) }
 {}
 
-/// CONTROL of an open connection takes a name of 1 to 250 bytes, and the two words of synchronous
-/// writes; any other key or value, and any before OPEN, is Einval.
+/// CONTROL of an open connection takes a name of 1 to 250 bytes, the two words of synchronous writes,
+/// and for the window the decimal of a number that fits 32 bits; any other key or value, and any before
+/// OPEN, is Einval.
 pub fn controls_are_known()
     ensures name { (f : FrameData) (s : Served) (sync : Bool) (name : Name) (value : List ℕ)
         → s.end.handshake ≡ Shaken sync name → IsName value
@@ -136,6 +137,8 @@ pub fn controls_are_known()
         → Gets 0 (Shaken true name) f s (message_answered f (Control (codes "enable_sync_writes") (codes "true")) s) }
     ensures off { (f : FrameData) (s : Served) (sync : Bool) (name : Name) → s.end.handshake ≡ Shaken sync name
         → Gets 0 (Shaken false name) f s (message_answered f (Control (codes "enable_sync_writes") (codes "false")) s) }
+    ensures size { (f : FrameData) (s : Served) (sync : Bool) (name : Name) (n : ℕ) → s.end.handshake ≡ Shaken sync name → n < 2 ^ 32
+        → Sizes n f s (message_answered f (Control (codes "connection_buffer_size") (decimal n)) s) }
     ensures others { (f : FrameData) (s : Served) (key value : List ℕ)
         → (s.end.handshake ≡ Fresh) ⊎ (IsKnown key value → ⊥)
         → Gets 4 s.end.handshake f s (message_answered f (Control key value) s) }

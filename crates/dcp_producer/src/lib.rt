@@ -13,7 +13,9 @@ mod messages;
 mod producer;
 mod pulls;
 mod replies;
+mod sizes;
 mod turn_laws;
+mod window_laws;
 
 use active_stream::ActiveStream;
 use connection::Connection;
@@ -29,6 +31,9 @@ pub use laws::{
 pub use producer::{Asked, Producer, Pulled};
 pub use turn_laws::{
     connections_end_their_stream, items_are_put_in_turn, snapshots_follow, streams_end_by_number,
+};
+pub use window_laws::{
+    bytes_are_acknowledged, sizes_are_decimals, windows_hold_at_their_edge, windows_hold_back,
 };
 
 /// What a call gives that needs memory, or that memory was short.

@@ -6,6 +6,7 @@ ghost use Rattle.vb_calls.specs.declared.calls.VbCall.TheVariants.{CloseStream};
 
 use crate::{Alloc, Connection, Desk, Halt, Handshake};
 use bytes::BytesMut;
+use flow_control::Window;
 use mcbp_frame::Frame;
 use std::alloc::{AllocError, Global};
 use std::marker::Model;
@@ -71,6 +72,7 @@ impl Producer {
                 desk,
                 handshake: Handshake::Fresh,
                 stream: None,
+                window: Window::new(0),
                 events: Listed::new(alloc),
                 out: BytesMut::new(alloc),
                 count: 0,

@@ -1,6 +1,6 @@
 //! How a producer puts the frames of its stream.
 ghost use Rattle.std.specs.Prelude.{◌≡◌, slice_get, IfOk, IsSome, OnOk, OnErr, Some};
-ghost use Rattle.dcp_producer.specs.Pulling.{with_stream_back, came_to, counted_unless, act_message, act_sent, item_line, marker_flags, marker_put, with_line, take_next, end_put, place_requested, halted_put, next_put, frame_put, frames_put};
+ghost use Rattle.dcp_producer.specs.Pulling.{with_stream_back, came_to, counted_unless, act_message, act_sent, item_line, marker_flags, marker_put, with_line, take_next, end_put, place_requested, halted_put, next_put, stream_put, frame_put, frames_put};
 ghost use Rattle.{dcp_producer.specs.Wanting.{SameThere, Stays}, mcbp_dcp.specs.declared.message.DcpMsg.{DcpMsg as Message}, vb_calls.specs.Programs.{Ran, Began, More}};
 
 use crate::halt::{NoSnapshot, Turned};
@@ -81,7 +81,7 @@ impl Connection {
     #[tactic(auto, unfolding(crate::specs::Pulling::end_put))]
     fn write_end(&mut self, stream: &ActiveStream) -> Alloc<Turned>
         ensures ok { IfOk result (λ turned. came_to turned self.new stream.now ≡ More (end_put (with_stream_back self.old stream.now) stream.now)) }
-        ensures same { (self.new.end.desk ≡ self.old.end.desk) × (self.new.end.handshake ≡ self.old.end.handshake) }
+        ensures same { (self.new.end.desk ≡ self.old.end.desk) × (self.new.end.handshake ≡ self.old.end.handshake) × (self.new.end.window ≡ self.old.end.window) }
     {
         self.stream = None;
         let reason = STATE_CHANGED;
@@ -96,7 +96,7 @@ impl Connection {
     /// Puts the end of a stream that its vBucket lost; or says why it gives no snapshot now.
     fn put_no_snapshot(&mut self, stream: &ActiveStream, none: NoSnapshot) -> Alloc<Turned>
         ensures ok { IfOk result (λ turned. came_to turned self.new stream.now ≡ halted_put (with_stream_back self.old stream.now) stream.now none) }
-        ensures same { (self.new.end.desk ≡ self.old.end.desk) × (self.new.end.handshake ≡ self.old.end.handshake) }
+        ensures same { (self.new.end.desk ≡ self.old.end.desk) × (self.new.end.handshake ≡ self.old.end.handshake) × (self.new.end.window ≡ self.old.end.window) }
     {
         match none {
             NoSnapshot::Lost => self.write_end(stream),
@@ -151,12 +151,13 @@ impl Connection {
 
     /// Puts one frame of the stream, and does not count it yet; or says why there is none to put.
     /// The stream is back behind it, also where memory was wanting.
-    #[tactic(auto, using(vb_calls::proofs::Runs::runs), unfolding(crate::specs::Pulling::frame_put))]
-    fn put_one_frame<A: VbAccess>(&mut self, vbs: &mut A) -> Alloc<Option<Halt>>
-        ensures ok { IfOk result (λ halt. Ran A.step (frame_put self.old) vbs.old (counted_unless halt self.new) vbs.new) }
-        ensures err { OnErr result (Began A.step (frame_put self.old) vbs.old vbs.new) }
+    #[tactic(auto, using(vb_calls::proofs::Runs::runs))]
+    fn put_of_stream<A: VbAccess>(&mut self, vbs: &mut A) -> Alloc<Option<Halt>>
+        ensures ok { IfOk result (λ halt. Ran A.step (stream_put self.old self.old.end.stream) vbs.old (counted_unless halt self.new) vbs.new) }
+        ensures err { OnErr result (Began A.step (stream_put self.old self.old.end.stream) vbs.old vbs.new) }
         ensures same { OnErr result (Stays self.old.end self.new.end) }
         ensures there { OnErr result (IsSome self.old.end.stream) }
+        ensures window { self.new.end.window ≡ self.old.end.window }
     {
         let Some(mut stream) = self.stream.take() else {
             return Ok(Some(Halt::Idle))
@@ -169,6 +170,25 @@ impl Connection {
             Turned::Put | Turned::Ended => Ok(None),
             Turned::Halted(halt) => Ok(Some(halt)),
         }
+    }
+
+    /// Puts one frame through the window, which counts it whole; or says why there is none to put.
+    #[tactic(auto, using(vb_calls::proofs::Runs::runs), unfolding(crate::specs::Pulling::frame_put))]
+    fn put_one_frame<A: VbAccess>(&mut self, vbs: &mut A) -> Alloc<Option<Halt>>
+        ensures ok { IfOk result (λ halt. Ran A.step (frame_put self.old) vbs.old (counted_unless halt self.new) vbs.new) }
+        ensures err { OnErr result (Began A.step (frame_put self.old) vbs.old vbs.new) }
+        ensures same { OnErr result (Stays self.old.end self.new.end) }
+        ensures there { OnErr result (IsSome self.old.end.stream) }
+    {
+        if !self.window.open() {
+            return Ok(Some(Halt::Full));
+        }
+        let before = self.out.len();
+        let halt = self.put_of_stream(vbs)?;
+        if halt.is_none() {
+            self.window.add((self.out.len() - before) as u64);
+        }
+        Ok(halt)
     }
 
     /// Puts at most so many frames of the stream, each with its line, and says why no more.

@@ -29,16 +29,17 @@ pub fn snapshots_follow()
     ensures idle { (why_of halts.Idle ≡ told.Idle) × (why_of halts.Unput ≡ told.Idle) }
 {}
 
-/// A change of role ends just the stream that it names.
+/// A change of role ends just the stream that it names, and leaves all else, its window too.
 pub fn streams_end_by_number()
     ensures { EndsByNumber }
 {}
 
-/// A connection begins before OPEN, without a stream. One that ends closes its stream at the vBucket
-/// that it is of, under its own number, unless a change of role ended the stream before.
+/// A connection begins before OPEN, without a stream, and its window has no size. One that ends closes
+/// its stream at the vBucket that it is of, under its own number, unless a change of role ended the
+/// stream before.
 #[tactic(auto, unfolding(crate::specs::Ending::end_closed))]
 pub fn connections_end_their_stream()
-    ensures fresh { (desk : DeskData) → new_end desk ≡ record { desk = desk; handshake = Fresh; stream = None } }
+    ensures fresh { (desk : DeskData) → new_end desk ≡ record { desk = desk; handshake = Fresh; stream = None; window = record { size = 0; outstanding = 0 } } }
     ensures closes { AsksFirst 3 (CloseStream 7) (end_closed (with_streams (Some (some_stream 1 5 false)))) }
     ensures ended { end_closed (with_streams (Some (some_stream 1 5 true))) ≡ Done tt }
     ensures none { end_closed (with_streams None) ≡ Done tt }

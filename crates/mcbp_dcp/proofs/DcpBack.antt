@@ -1,11 +1,13 @@
 -- a message that is written is read back
-use Rattle.std.proofs.Common.{◌≡◌, ℕ, ◌<◌, ◌≤◌, ◌++◌, Bool, true, false, List, [], length, refl, ap, ◌∙◌, arith, cond}
+use Rattle.std.proofs.Common.{◌≡◌, ◌≢◌, ℕ, ◌<◌, ◌≤◌, ◌++◌, Bool, true, false, List, [], length, refl, ap, ◌∙◌, arith, cond}
 use Rattle.std.specs.Prelude.{Some, None, Ok, ◌&&◌, ◌==◌, ◌%◌, not, nat_le, ◌||◌}
+use Rattle.std.specs.List.{All}
 use Rattle.std.proofs.lemmas.Bool.Decides.{nat_tests}
 use Rattle.std.proofs.lemmas.Nat.{from_be_bytes-to_be_bytes_4, from_be_bytes-to_be_bytes_8}
 use Rattle.mcbp_frame.specs.Frames.{first_frame, body_size, big_64_at}
 use Rattle.mcbp_frame.specs.Spelling.{spelling, Readable}
 use Rattle.mcbp_frame.proofs.ReadBack.{reads_back}
+use Rattle.vb_types.specs.declared.role.LogEntry.{LogEntry}
 use Rattle.mcbp_dcp.specs.declared.row.DcpRow.TheVariants as row
 use Rattle.mcbp_dcp.specs.declared.message.DcpMsg.{DcpMsg}
 use Rattle.mcbp_dcp.specs.declared.message.DcpMsg.TheVariants as msg
@@ -17,8 +19,8 @@ use Rattle.mcbp_dcp.specs.Rows.{frame_row}
 use Rattle.mcbp_dcp.specs.Shapes.{shape_fault}
 use Rattle.mcbp_dcp.specs.WireLogs.{log_spelling, log_in}
 use Rattle.mcbp_dcp.specs.Messages.{message_in, unless_fault, read_of}
-use Rattle.mcbp_dcp.specs.DcpFrames.{dcp_frame, prepare_frame, verdict_frame, IsVerdict, IsSpelled, IsSpelledPrepare}
-use Rattle.mcbp_dcp.specs.DcpLaws.{PrepareInRange, VerdictInRange, InRange}
+use Rattle.mcbp_dcp.specs.DcpFrames.{dcp_frame, prepare_frame, verdict_frame, log_frame, IsVerdict, IsSpelled, IsSpelledPrepare, IsSpelledLog}
+use Rattle.mcbp_dcp.specs.DcpLaws.{EntryInRange, PrepareInRange, VerdictInRange, InRange}
 use Rattle.mcbp_dcp.proofs.WireLogs.{length_log, log_back}
 
 told_back : (t : StreamVerdict) (opaque : ℕ) → IsVerdict t → VerdictInRange t → read_of (verdict_frame t opaque) ≡ Some (Ok (msg.StreamAnswer t))
@@ -32,6 +34,17 @@ told_back (told.Refused status) opaque s r =
     let good : (status == 0) ≡ false = grind (arith, nat_tests, s.0) in
     let back : (status == 35) ≡ false = grind (arith, nat_tests, s.1) in
     λ i. Some (unless_fault (cond (not (cond (good i) true (cond (back i) false true))) (Some WrongValue) None) (msg.StreamAnswer (cond (good i) (told.Go (log_in [])) (cond (back i) (told.Roll (big_64_at [] 0)) (told.Refused status)))))
+
+-- a log is whole entries, and a refusal has none
+log_fitting : (status : ℕ) (log : List LogEntry) (good : Bool) → (status == 0) ≡ good → (status ≢ 0 → log ≡ []) → cond good (length (log_spelling log) % 16 == 0) (length (log_spelling log) == 0) ≡ true
+log_fitting status log true e none = grind (arith, nat_tests, length_log log)
+log_fitting status log false e none = let empty : log ≡ [] = none (λ s. grind (arith, nat_tests, e, s)) in ap (λ l. length (log_spelling l) == 0) empty
+
+answer_back : (status : ℕ) (log : List LogEntry) (opaque : ℕ) → IsSpelledLog status log → All EntryInRange log → read_of (log_frame status log opaque) ≡ Some (Ok (msg.LogAnswer status log))
+unfolding read_of frame_row shape_fault
+answer_back status log opaque s r =
+    ap (λ b. Some (unless_fault (cond (not b) (Some WrongValue) None) (message_in row.LogAnswer (log_frame status log opaque)))) (log_fitting status log (status == 0) refl s.1)
+    ∙ (λ i. Some (Ok (msg.LogAnswer status (log_back log r i))))
 
 -- a prepare of a removal has no value
 no_value : (deleted len : ℕ) (removal : Bool) → (deleted == 1) ≡ removal → (deleted ≡ 1 → len ≡ 0) → (not removal || len == 0) ≡ true
@@ -101,9 +114,16 @@ message_back (msg.Abort c) opaque v s r = λ i. Some (Ok (msg.Abort (record {
   key = c.key;
 })))
 message_back (msg.SeqnoAcknowledged seq) opaque v s r = λ i. Some (Ok (msg.SeqnoAcknowledged (from_be_bytes-to_be_bytes_8 seq r i)))
+message_back msg.CloseStream opaque v s r = refl
+message_back msg.GetFailoverLog opaque v s r = refl
+message_back msg.Noop opaque v s r = refl
+message_back (msg.BufferAcknowledgement bytes) opaque v s r = λ i. Some (Ok (msg.BufferAcknowledgement (from_be_bytes-to_be_bytes_4 bytes r i)))
 message_back (msg.OpenAnswer status) opaque v s r = refl
 message_back (msg.ControlAnswer status) opaque v s r = refl
 message_back (msg.StreamAnswer t) opaque v s r = told_back t opaque s r
+message_back (msg.CloseAnswer status) opaque v s r = refl
+message_back (msg.NoopAnswer status) opaque v s r = refl
+message_back (msg.LogAnswer status log) opaque v s r = answer_back status log opaque s r.1
 
 told_readable : (t : StreamVerdict) (opaque : ℕ) → IsVerdict t → VerdictInRange t → opaque < 4294967296 → body_size (verdict_frame t opaque) ≤ 22020096 → Readable (verdict_frame t opaque)
 told_readable (told.Go log) opaque s r o limit =
@@ -137,11 +157,25 @@ message_readable (msg.Abort c) opaque v s r o u limit =
     record { fits = record { framing = omega arith; extras = omega arith; key = s; body = omega arith }; magic = refl; limit = limit; vb_or_status = u; opaque = o; cas = omega arith }
 message_readable (msg.SeqnoAcknowledged seq) opaque v s r o u limit =
     record { fits = record { framing = omega arith; extras = omega arith; key = omega arith; body = omega arith }; magic = refl; limit = limit; vb_or_status = u; opaque = o; cas = omega arith }
+message_readable msg.CloseStream opaque v s r o u limit =
+    record { fits = record { framing = omega arith; extras = omega arith; key = omega arith; body = omega arith }; magic = refl; limit = limit; vb_or_status = u; opaque = o; cas = omega arith }
+message_readable msg.GetFailoverLog opaque v s r o u limit =
+    record { fits = record { framing = omega arith; extras = omega arith; key = omega arith; body = omega arith }; magic = refl; limit = limit; vb_or_status = u; opaque = o; cas = omega arith }
+message_readable msg.Noop opaque v s r o u limit =
+    record { fits = record { framing = omega arith; extras = omega arith; key = omega arith; body = omega arith }; magic = refl; limit = limit; vb_or_status = u; opaque = o; cas = omega arith }
+message_readable (msg.BufferAcknowledgement bytes) opaque v s r o u limit =
+    record { fits = record { framing = omega arith; extras = omega arith; key = omega arith; body = omega arith }; magic = refl; limit = limit; vb_or_status = u; opaque = o; cas = omega arith }
 message_readable (msg.OpenAnswer status) opaque v s r o u limit =
     record { fits = record { framing = omega arith; extras = omega arith; key = omega arith; body = omega arith }; magic = refl; limit = limit; vb_or_status = r; opaque = o; cas = omega arith }
 message_readable (msg.ControlAnswer status) opaque v s r o u limit =
     record { fits = record { framing = omega arith; extras = omega arith; key = omega arith; body = omega arith }; magic = refl; limit = limit; vb_or_status = r; opaque = o; cas = omega arith }
 message_readable (msg.StreamAnswer t) opaque v s r o u limit = told_readable t opaque s r o limit
+message_readable (msg.CloseAnswer status) opaque v s r o u limit =
+    record { fits = record { framing = omega arith; extras = omega arith; key = omega arith; body = omega arith }; magic = refl; limit = limit; vb_or_status = r; opaque = o; cas = omega arith }
+message_readable (msg.NoopAnswer status) opaque v s r o u limit =
+    record { fits = record { framing = omega arith; extras = omega arith; key = omega arith; body = omega arith }; magic = refl; limit = limit; vb_or_status = r; opaque = o; cas = omega arith }
+message_readable (msg.LogAnswer status log) opaque v s r o u limit =
+    record { fits = record { framing = omega arith; extras = omega arith; key = omega arith; body = omega arith }; magic = refl; limit = limit; vb_or_status = r.0; opaque = o; cas = omega arith }
 
 -- and so are its bytes
 pub bytes_back : (m : DcpMsg) (opaque v : ℕ) (rest : List ℕ) → IsSpelled m → InRange m → opaque < 4294967296 → v < 65536 → body_size (dcp_frame m opaque v) ≤ 22020096

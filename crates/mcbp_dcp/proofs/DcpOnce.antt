@@ -22,7 +22,7 @@ use Rattle.mcbp_dcp.specs.Rows.{row_opcode, row_magic, row_of_opcode, row_by_opc
 use Rattle.mcbp_dcp.specs.Shapes.{extras_size, lacks_metadata, extras_fit, key_fits, value_fits, shape_fault}
 use Rattle.mcbp_dcp.specs.WireLogs.{log_in}
 use Rattle.mcbp_dcp.specs.Messages.{message_in, unless_fault, read_as, read_of}
-use Rattle.mcbp_dcp.specs.DcpFrames.{dcp_frame, verdict_frame, IsVerdict, IsSpelled, ask_extras}
+use Rattle.mcbp_dcp.specs.DcpFrames.{dcp_frame, verdict_frame, IsVerdict, IsSpelled, IsSpelledLog, ask_extras}
 use Rattle.mcbp_dcp.specs.DcpLaws.{extras_read, frame_read}
 use Rattle.mcbp_dcp.proofs.Opcodes.{number_of}
 use Rattle.mcbp_dcp.proofs.Words.{byte, word_16, word_32, word_64, behind}
@@ -51,6 +51,13 @@ row_as op.Abort false r h = subst (IsOf 99 128) (let same : row.Abort ≡ r = cc
 row_as op.SeqnoAcknowledged false r h = subst (IsOf 97 128) (let same : row.SeqnoAcknowledged ≡ r = cc in same) (refl, refl)
 row_as op.Control false r h = subst (IsOf 94 128) (let same : row.Control ≡ r = cc in same) (refl, refl)
 row_as op.Control true r h = subst (IsOf 94 129) (let same : row.ControlAnswer ≡ r = cc in same) (refl, refl)
+row_as op.CloseStream false r h = subst (IsOf 82 128) (let same : row.CloseStream ≡ r = cc in same) (refl, refl)
+row_as op.CloseStream true r h = subst (IsOf 82 129) (let same : row.CloseAnswer ≡ r = cc in same) (refl, refl)
+row_as op.GetFailoverLog false r h = subst (IsOf 84 128) (let same : row.GetFailoverLog ≡ r = cc in same) (refl, refl)
+row_as op.GetFailoverLog true r h = subst (IsOf 84 129) (let same : row.LogAnswer ≡ r = cc in same) (refl, refl)
+row_as op.Noop false r h = subst (IsOf 92 128) (let same : row.Noop ≡ r = cc in same) (refl, refl)
+row_as op.Noop true r h = subst (IsOf 92 129) (let same : row.NoopAnswer ≡ r = cc in same) (refl, refl)
+row_as op.BufferAcknowledgement false r h = subst (IsOf 93 128) (let same : row.BufferAcknowledgement ≡ r = cc in same) (refl, refl)
 row_as other answers r h = cc
 
 row_by : (n : ℕ) (r : DcpRow) (answers : Bool) (o : Option Opcode) → opcode_of n ≡ o → row_by_opcode o answers ≡ Some r → IsOf n (magic_of answers) r
@@ -148,6 +155,11 @@ told_once f false true ta tb t is h framing extras key =
 told_once f false false ta tb t is h framing extras key =
     λ i. record { magic = sym is.1 i; opcode = sym is.0 i; datatype = 0; vb_or_status = f.vb_or_status; opaque = f.opaque; cas = 0; framing = framing i; extras = extras i; key = key i; value = no_bytes f.value t i }
 
+-- the value of an answer with a log is whole entries
+whole_log : (len : ℕ) (good : Bool) → cond good (len % 16 == 0) (len == 0) ≡ true → len % 16 ≡ 0
+whole_log len true t = grind (arith, nat_tests)
+whole_log len false t = let zero : len ≡ 0 = grind (arith, nat_tests) in omega (arith, zero)
+
 once_as : (r : DcpRow) (f : Frame) → IsOf f.opcode (cond (f.magic == 129) 129 128) r → AreBytes f.extras → AreBytes f.value → extras_fit r f ≡ true → key_fits r f ≡ true → value_fits r f ≡ true
     → dcp_frame (message_in r f) f.opaque f.vb_or_status ≡ frame_read r f
 unfolding dcp_frame
@@ -184,6 +196,18 @@ once_as row.Abort f is hx hv x k v =
 once_as row.SeqnoAcknowledged f is hx hv x k v =
     let e = extras_are row.SeqnoAcknowledged f x in
     λ i. record { magic = sym is.1 i; opcode = sym is.0 i; datatype = 0; vb_or_status = f.vb_or_status; opaque = f.opaque; cas = 0; framing = e.0 i; extras = seqno_once f.extras hx e.1 i; key = no_bytes f.key k i; value = no_bytes f.value v i }
+once_as row.CloseStream f is hx hv x k v =
+    let e = extras_are row.CloseStream f x in
+    λ i. record { magic = sym is.1 i; opcode = sym is.0 i; datatype = 0; vb_or_status = f.vb_or_status; opaque = f.opaque; cas = 0; framing = e.0 i; extras = none f.extras e.1 i; key = no_bytes f.key k i; value = no_bytes f.value v i }
+once_as row.GetFailoverLog f is hx hv x k v =
+    let e = extras_are row.GetFailoverLog f x in
+    λ i. record { magic = sym is.1 i; opcode = sym is.0 i; datatype = 0; vb_or_status = f.vb_or_status; opaque = f.opaque; cas = 0; framing = e.0 i; extras = none f.extras e.1 i; key = no_bytes f.key k i; value = no_bytes f.value v i }
+once_as row.Noop f is hx hv x k v =
+    let e = extras_are row.Noop f x in
+    λ i. record { magic = sym is.1 i; opcode = sym is.0 i; datatype = 0; vb_or_status = f.vb_or_status; opaque = f.opaque; cas = 0; framing = e.0 i; extras = none f.extras e.1 i; key = no_bytes f.key k i; value = no_bytes f.value v i }
+once_as row.BufferAcknowledgement f is hx hv x k v =
+    let e = extras_are row.BufferAcknowledgement f x in
+    λ i. record { magic = sym is.1 i; opcode = sym is.0 i; datatype = 0; vb_or_status = f.vb_or_status; opaque = f.opaque; cas = 0; framing = e.0 i; extras = end_once f.extras hx e.1 i; key = no_bytes f.key k i; value = no_bytes f.value v i }
 once_as row.OpenAnswer f is hx hv x k v =
     let e = extras_are row.OpenAnswer f x in
     λ i. record { magic = sym is.1 i; opcode = sym is.0 i; datatype = 0; vb_or_status = f.vb_or_status; opaque = f.opaque; cas = 0; framing = e.0 i; extras = none f.extras e.1 i; key = no_bytes f.key k i; value = no_bytes f.value v i }
@@ -193,6 +217,16 @@ once_as row.ControlAnswer f is hx hv x k v =
 once_as row.StreamAnswer f is hx hv x k v =
     let e = extras_are row.StreamAnswer f x in
     told_once f (f.vb_or_status == 0) (f.vb_or_status == 35) refl refl v is hv e.0 (none f.extras e.1) (no_bytes f.key k)
+once_as row.CloseAnswer f is hx hv x k v =
+    let e = extras_are row.CloseAnswer f x in
+    λ i. record { magic = sym is.1 i; opcode = sym is.0 i; datatype = 0; vb_or_status = f.vb_or_status; opaque = f.opaque; cas = 0; framing = e.0 i; extras = none f.extras e.1 i; key = no_bytes f.key k i; value = no_bytes f.value v i }
+once_as row.NoopAnswer f is hx hv x k v =
+    let e = extras_are row.NoopAnswer f x in
+    λ i. record { magic = sym is.1 i; opcode = sym is.0 i; datatype = 0; vb_or_status = f.vb_or_status; opaque = f.opaque; cas = 0; framing = e.0 i; extras = none f.extras e.1 i; key = no_bytes f.key k i; value = no_bytes f.value v i }
+once_as row.LogAnswer f is hx hv x k v =
+    let e = extras_are row.LogAnswer f x in
+    let log = log_once f.value hv (whole_log (length f.value) (f.vb_or_status == 0) v) in
+    λ i. record { magic = sym is.1 i; opcode = sym is.0 i; datatype = 0; vb_or_status = f.vb_or_status; opaque = f.opaque; cas = 0; framing = e.0 i; extras = none f.extras e.1 i; key = no_bytes f.key k i; value = log i }
 
 -- where there is a message, there is no fault, and it is the row's
 no_fault : (fault : Option DcpFault) (n m : DcpMsg) → unless_fault fault n ≡ Ok m → (fault ≡ None) × (n ≡ m)
@@ -222,6 +256,17 @@ told_spelled f true b ta tb t h len =
 told_spelled f false true ta tb t h len = tt
 told_spelled f false false ta tb t h len = (λ e. grind (arith, nat_tests, e), λ e. grind (arith, nat_tests, e))
 
+log_spelled : (f : Frame) (good : Bool) → (f.vb_or_status == 0) ≡ good → cond good (length f.value % 16 == 0) (length f.value == 0) ≡ true
+    → AreBytes f.value → length f.value < 4294967296 → IsSpelledLog f.vb_or_status (log_in f.value)
+unfolding log_in
+log_spelled f true e t h len =
+    let whole : length f.value % 16 ≡ 0 = grind (arith, nat_tests) in
+    let all : 16 * length (log_in f.value) ≡ length f.value = sym (length_log (log_in f.value)) ∙ ap length (log_once f.value h whole) in
+    (omega (arith, all), λ n. absurd (n (grind (arith, nat_tests, e))))
+log_spelled f false e t h len =
+    let empty : log_in f.value ≡ [] = ap log_in (sym (no_bytes f.value t)) in
+    (let all : 16 * length (log_in f.value) ≡ 0 = ap (λ l. 16 * length l) empty in omega (arith, all), λ n. empty)
+
 spelled_as : (r : DcpRow) (f : Frame) → Fits f → AreBytes f.value → extras_fit r f ≡ true → key_fits r f ≡ true → value_fits r f ≡ true → IsSpelled (message_in r f)
 spelled_as row.Open f fits hv x k v = (grind (arith, nat_tests), grind (arith, nat_tests))
 spelled_as row.Control f fits hv x k v = (key_short (f.magic == 8) _ fits.key, omega (arith, fits.body))
@@ -235,9 +280,16 @@ spelled_as row.Prepare f fits hv x k v =
 spelled_as row.Commit f fits hv x k v = key_short (f.magic == 8) _ fits.key
 spelled_as row.Abort f fits hv x k v = key_short (f.magic == 8) _ fits.key
 spelled_as row.SeqnoAcknowledged f fits hv x k v = tt
+spelled_as row.CloseStream f fits hv x k v = tt
+spelled_as row.GetFailoverLog f fits hv x k v = tt
+spelled_as row.Noop f fits hv x k v = tt
+spelled_as row.BufferAcknowledgement f fits hv x k v = tt
 spelled_as row.OpenAnswer f fits hv x k v = tt
 spelled_as row.ControlAnswer f fits hv x k v = tt
 spelled_as row.StreamAnswer f fits hv x k v = told_spelled f (f.vb_or_status == 0) (f.vb_or_status == 35) refl refl v hv (omega (arith, fits.body))
+spelled_as row.CloseAnswer f fits hv x k v = tt
+spelled_as row.NoopAnswer f fits hv x k v = tt
+spelled_as row.LogAnswer f fits hv x k v = log_spelled f (f.vb_or_status == 0) refl v hv (omega (arith, fits.body))
 
 spelled_by : (f : Frame) (r : Option DcpRow) (m : DcpMsg) → Fits f → AreBytes f.value → option_map (read_as f) r ≡ Some (Ok m) → IsSpelled m
 spelled_by f None m fits hv read = cc

@@ -11,16 +11,16 @@ use Rattle.mcbp_dcp.proofs.DcpFaults.{wrong_extras, wrong_key, wrong_value}
 use Rattle.mcbp_dcp.proofs.Metadata.{no_answer, same, other, is_empty, not_empty}
 
 -- the row of a message's opcode
-row_of : (f : Frame) (opcode : ℕ) → f.opcode ≡ opcode → f.magic ≢ RESPONSE → frame_row f ≡ row_by_opcode (opcode_of opcode) false
+pub row_of : (f : Frame) (opcode : ℕ) → f.opcode ≡ opcode → f.magic ≢ RESPONSE → frame_row f ≡ row_by_opcode (opcode_of opcode) false
 unfolding frame_row
 row_of f opcode o m = ap (λ b. row_by_opcode (opcode_of f.opcode) b) (no_answer f m) ∙ ap (λ n. row_by_opcode (opcode_of n) false) o
 
 -- whether there are bytes
-present : (bytes : List ℕ) (t : Bool) → (length bytes == 0) ≡ t → IsFalse t ↔ (bytes ≢ [])
+pub present : (bytes : List ℕ) (t : Bool) → (length bytes == 0) ≡ t → IsFalse t ↔ (bytes ≢ [])
 present bytes false e = (λ q. not_empty bytes e, λ n. refl)
 present bytes true e = (λ q. cc, λ n. absurd (n (is_empty bytes e)))
 
-absent : (bytes : List ℕ) (t : Bool) → (length bytes == 0) ≡ t → IsTrue t ↔ (bytes ≡ [])
+pub absent : (bytes : List ℕ) (t : Bool) → (length bytes == 0) ≡ t → IsTrue t ↔ (bytes ≡ [])
 absent bytes false e = (λ q. cc, λ n. absurd (not_empty bytes e n))
 absent bytes true e = (λ q. is_empty bytes e, λ n. refl)
 
@@ -41,10 +41,10 @@ module _ (f : Frame) (len : ℕ) where
   has_extras true false e g = (λ q. cc, λ h. absurd (other (length f.extras) len g h.1))
   has_extras true true e g = (λ q. (is_empty f.framing e, same (length f.extras) len g), λ h. refl)
 
-  others : IsFalse ((length f.framing == 0 && length f.extras == len) && true) ↔ ((f.framing ≢ []) ⊎ (length f.extras ≢ len))
+  pub others : IsFalse ((length f.framing == 0 && length f.extras == len) && true) ↔ ((f.framing ≢ []) ⊎ (length f.extras ≢ len))
   others = other_extras (length f.framing == 0) (length f.extras == len) refl refl
 
-  has : IsTrue ((length f.framing == 0 && length f.extras == len) && true) ↔ HasExtras f len
+  pub has : IsTrue ((length f.framing == 0 && length f.extras == len) && true) ↔ HasExtras f len
   has = has_extras (length f.framing == 0) (length f.extras == len) refl refl
 
 pub prepare_lengths : RefusesLengths 0x60 31

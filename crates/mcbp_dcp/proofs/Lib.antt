@@ -2,7 +2,9 @@ pub mod WireLogs
 pub mod Words
 mod Metadata
 mod DurableFaults
+mod ConnectionFaults
 pub mod DurableBytes
+pub mod ConnectionBytes
 pub mod MessageBytes
 pub mod Opcodes
 pub mod DcpBack

@@ -1,7 +1,8 @@
 -- the one frame of a message
-use Rattle.std.specs.Prelude.{◌≡◌, ℕ, ◌+◌, ◌*◌, ◌^◌, ◌<◌, ◌≤◌, List, [], ◌∷◌, ◌++◌, length}
+use Rattle.std.specs.Prelude.{◌≡◌, ◌≢◌, ℕ, ◌+◌, ◌*◌, ◌^◌, ◌<◌, ◌≤◌, List, [], ◌∷◌, ◌++◌, length}
 use Rattle.std.specs.Int.{w16, w32, w64, to_be_bytes}
 use Rattle.vb_types.specs.declared.stream.StreamAsk.{StreamAsk}
+use Rattle.vb_types.specs.declared.role.LogEntry.{LogEntry}
 use Rattle.mcbp_frame.specs.declared.frame.Frame.{Frame}
 use Rattle.mcbp_dcp.specs.declared.opcode.Opcode.{Opcode}
 use Rattle.mcbp_dcp.specs.declared.opcode.Opcode.TheVariants as op
@@ -100,6 +101,10 @@ verdict_frame (told.Go log) opaque = frame_of_row row.StreamAnswer SUCCESS opaqu
 verdict_frame (told.Roll point) opaque = frame_of_row row.StreamAnswer ROLLBACK opaque [] [] (to_be_bytes w64 point)
 verdict_frame (told.Refused status) opaque = frame_of_row row.StreamAnswer status opaque [] [] []
 
+-- a failover log, or the refusal of one
+abbrev pub log_frame : ℕ → List LogEntry → ℕ → Frame
+log_frame status log opaque = frame_of_row row.LogAnswer status opaque [] [] (log_spelling log)
+
 -- the frame of a message with an opaque and a vBucket, which an answer does not name
 unfoldable pub dcp_frame : DcpMsg → ℕ → ℕ → Frame
 dcp_frame (msg.Open number flags name) opaque v = frame_of_row row.Open v opaque (open_extras number flags) name []
@@ -113,9 +118,16 @@ dcp_frame (msg.Prepare change) opaque v = prepare_frame change opaque v
 dcp_frame (msg.Commit change) opaque v = resolution_frame op.Commit change opaque v
 dcp_frame (msg.Abort change) opaque v = resolution_frame op.Abort change opaque v
 dcp_frame (msg.SeqnoAcknowledged seq) opaque v = frame_of_row row.SeqnoAcknowledged v opaque (to_be_bytes w64 seq) [] []
+dcp_frame msg.CloseStream opaque v = frame_of_row row.CloseStream v opaque [] [] []
+dcp_frame msg.GetFailoverLog opaque v = frame_of_row row.GetFailoverLog v opaque [] [] []
+dcp_frame msg.Noop opaque v = frame_of_row row.Noop v opaque [] [] []
+dcp_frame (msg.BufferAcknowledgement bytes) opaque v = frame_of_row row.BufferAcknowledgement v opaque (to_be_bytes w32 bytes) [] []
 dcp_frame (msg.OpenAnswer status) opaque v = frame_of_row row.OpenAnswer status opaque [] [] []
 dcp_frame (msg.ControlAnswer status) opaque v = frame_of_row row.ControlAnswer status opaque [] [] []
 dcp_frame (msg.StreamAnswer told) opaque v = verdict_frame told opaque
+dcp_frame (msg.CloseAnswer status) opaque v = frame_of_row row.CloseAnswer status opaque [] [] []
+dcp_frame (msg.NoopAnswer status) opaque v = frame_of_row row.NoopAnswer status opaque [] [] []
+dcp_frame (msg.LogAnswer status log) opaque v = log_frame status log opaque
 
 -- an answer's parts fit: a log its length field, and a refusal has neither status of the other two
 abbrev pub IsVerdict : StreamVerdict → Type 0
@@ -126,6 +138,10 @@ IsVerdict (told.Refused status) = (status ≡ SUCCESS → ⊥) × (status ≡ RO
 -- key and value fit their length fields, and a prepare of a removal has no value
 abbrev pub IsSpelledPrepare : Prepare → Type 0
 IsSpelledPrepare p = (length p.key < 2 ^ 16) × (extras_size row.Prepare + length p.key + length p.value < 2 ^ 32) × (p.deleted ≡ 1 → length p.value ≡ 0)
+
+-- a log fits its length field, and a refusal has none
+abbrev pub IsSpelledLog : ℕ → List LogEntry → Type 0
+IsSpelledLog status log = (ENTRY_LEN * length log < 2 ^ 32) × (status ≢ SUCCESS → log ≡ [])
 
 -- a message that has a spelling: its parts are its row's and fit their length fields
 abbrev pub IsSpelled : DcpMsg → Type 0
@@ -140,6 +156,13 @@ IsSpelled (msg.Prepare change) = IsSpelledPrepare change
 IsSpelled (msg.Commit change) = length change.key < 2 ^ 16
 IsSpelled (msg.Abort change) = length change.key < 2 ^ 16
 IsSpelled (msg.SeqnoAcknowledged seq) = Unit {0}
+IsSpelled msg.CloseStream = Unit {0}
+IsSpelled msg.GetFailoverLog = Unit {0}
+IsSpelled msg.Noop = Unit {0}
+IsSpelled (msg.BufferAcknowledgement bytes) = Unit {0}
 IsSpelled (msg.OpenAnswer status) = Unit {0}
 IsSpelled (msg.ControlAnswer status) = Unit {0}
 IsSpelled (msg.StreamAnswer told) = IsVerdict told
+IsSpelled (msg.CloseAnswer status) = Unit {0}
+IsSpelled (msg.NoopAnswer status) = Unit {0}
+IsSpelled (msg.LogAnswer status log) = IsSpelledLog status log

@@ -1,5 +1,5 @@
 -- which numbers the fields of a message hold, and what of a frame is not read
-use Rattle.std.specs.Prelude.{◌≡◌, ◌≢◌, ◌↔◌, ◌⊎◌, ℕ, ◌+◌, ◌*◌, ◌^◌, ◌<◌, ◌==◌, if◌then◌else◌, List, [], ◌∷◌, ◌++◌, length, slice_index, Some, Err}
+use Rattle.std.specs.Prelude.{◌≡◌, ◌≢◌, ◌↔◌, ◌⊎◌, ℕ, ◌+◌, ◌*◌, ◌%◌, ◌^◌, ◌<◌, ◌==◌, if◌then◌else◌, List, [], ◌∷◌, ◌++◌, length, slice_index, Some, None, Err}
 use Rattle.std.specs.List.{All}
 use Rattle.vb_types.specs.declared.stream.StreamAsk.{StreamAsk}
 use Rattle.vb_types.specs.declared.role.LogEntry.{LogEntry}
@@ -81,9 +81,16 @@ InRange (msg.Prepare change) = PrepareInRange change
 InRange (msg.Commit change) = ResolutionInRange change
 InRange (msg.Abort change) = ResolutionInRange change
 InRange (msg.SeqnoAcknowledged seq) = seq < 2 ^ 64
+InRange msg.CloseStream = Unit {0}
+InRange msg.GetFailoverLog = Unit {0}
+InRange msg.Noop = Unit {0}
+InRange (msg.BufferAcknowledgement bytes) = bytes < 2 ^ 32
 InRange (msg.OpenAnswer status) = status < 2 ^ 16
 InRange (msg.ControlAnswer status) = status < 2 ^ 16
 InRange (msg.StreamAnswer told) = VerdictInRange told
+InRange (msg.CloseAnswer status) = status < 2 ^ 16
+InRange (msg.NoopAnswer status) = status < 2 ^ 16
+InRange (msg.LogAnswer status log) = (status < 2 ^ 16) × All EntryInRange log
 
 -- extras with 0 in the fields that are not read: a request's reserved field, the lock time and nru of a mutation, between which no metadata stand, and those of a prepare
 abbrev pub extras_read : DcpRow → List ℕ → List ℕ
@@ -98,9 +105,16 @@ extras_read row.Prepare extras = part extras 0 24 ++ 0 ∷ 0 ∷ 0 ∷ 0 ∷ 0 �
 extras_read row.Commit extras = extras
 extras_read row.Abort extras = extras
 extras_read row.SeqnoAcknowledged extras = extras
+extras_read row.CloseStream extras = extras
+extras_read row.GetFailoverLog extras = extras
+extras_read row.Noop extras = extras
+extras_read row.BufferAcknowledgement extras = extras
 extras_read row.OpenAnswer extras = extras
 extras_read row.ControlAnswer extras = extras
 extras_read row.StreamAnswer extras = extras
+extras_read row.CloseAnswer extras = extras
+extras_read row.NoopAnswer extras = extras
+extras_read row.LogAnswer extras = extras
 
 -- the datatype of mutations and prepares is read, and that of no other row
 abbrev pub datatype_read : DcpRow → ℕ → ℕ
@@ -115,9 +129,16 @@ datatype_read row.Prepare datatype = datatype
 datatype_read row.Commit datatype = 0
 datatype_read row.Abort datatype = 0
 datatype_read row.SeqnoAcknowledged datatype = 0
+datatype_read row.CloseStream datatype = 0
+datatype_read row.GetFailoverLog datatype = 0
+datatype_read row.Noop datatype = 0
+datatype_read row.BufferAcknowledgement datatype = 0
 datatype_read row.OpenAnswer datatype = 0
 datatype_read row.ControlAnswer datatype = 0
 datatype_read row.StreamAnswer datatype = 0
+datatype_read row.CloseAnswer datatype = 0
+datatype_read row.NoopAnswer datatype = 0
+datatype_read row.LogAnswer datatype = 0
 
 -- the CAS of mutations, deletions and prepares
 abbrev pub cas_read : DcpRow → ℕ → ℕ
@@ -132,9 +153,16 @@ cas_read row.Prepare cas = cas
 cas_read row.Commit cas = 0
 cas_read row.Abort cas = 0
 cas_read row.SeqnoAcknowledged cas = 0
+cas_read row.CloseStream cas = 0
+cas_read row.GetFailoverLog cas = 0
+cas_read row.Noop cas = 0
+cas_read row.BufferAcknowledgement cas = 0
 cas_read row.OpenAnswer cas = 0
 cas_read row.ControlAnswer cas = 0
 cas_read row.StreamAnswer cas = 0
+cas_read row.CloseAnswer cas = 0
+cas_read row.NoopAnswer cas = 0
+cas_read row.LogAnswer cas = 0
 
 -- a frame with 0 in all that its row does not use, and a message's magic where it is no answer
 abbrev pub frame_read : DcpRow → Frame → Frame
@@ -180,6 +208,34 @@ abbrev pub AcknowledgesBare : Type 0
 AcknowledgesBare = (f : Frame) → f.opcode ≡ 0x61 → f.magic ≢ RESPONSE
     → ((read_of f ≡ Some (Err WrongKey)) ↔ (HasExtras f 8 × (f.key ≢ []))) × ((read_of f ≡ Some (Err WrongValue)) ↔ (HasExtras f 8 × (f.key ≡ []) × (f.value ≢ [])))
 
+-- the frames of this opcode that are no answers are WrongKey exactly where they have such extras and a key, and WrongValue where they have a value and no key
+abbrev pub RefusesBodies : ℕ → ℕ → Type 0
+RefusesBodies opcode len = (f : Frame) → f.opcode ≡ opcode → f.magic ≢ RESPONSE
+    → ((read_of f ≡ Some (Err WrongKey)) ↔ (HasExtras f len × (f.key ≢ []))) × ((read_of f ≡ Some (Err WrongValue)) ↔ (HasExtras f len × (f.key ≡ []) × (f.value ≢ [])))
+
+-- the answers of this opcode are WrongExtras exactly where they have framing extras or extras, and WrongKey where they have neither and a key
+abbrev pub RefusesAnswers : ℕ → Type 0
+RefusesAnswers opcode = (f : Frame) → f.opcode ≡ opcode → f.magic ≡ RESPONSE
+    → ((read_of f ≡ Some (Err WrongExtras)) ↔ ((f.framing ≢ []) ⊎ (length f.extras ≢ 0))) × ((read_of f ≡ Some (Err WrongKey)) ↔ (HasExtras f 0 × (f.key ≢ [])))
+
+-- the answers of this opcode are WrongValue exactly where they have a value and nothing before it
+abbrev pub RefusesValuesOfAnswers : ℕ → Type 0
+RefusesValuesOfAnswers opcode = (f : Frame) → f.opcode ≡ opcode → f.magic ≡ RESPONSE
+    → (read_of f ≡ Some (Err WrongValue)) ↔ (HasExtras f 0 × (f.key ≡ []) × (f.value ≢ []))
+
+-- no log is these bytes: they are not 16 an entry, or they are there without Success
+abbrev pub IsNoLog : ℕ → List ℕ → Type 0
+IsNoLog status value = ((status ≡ 0) × (length value % 16 ≢ 0)) ⊎ ((status ≢ 0) × (value ≢ []))
+
+-- an answer to GET_FAILOVER_LOG is WrongValue exactly where its value is no log, and nothing stands before it
+abbrev pub RefusesOtherLogs : Type 0
+RefusesOtherLogs = (f : Frame) → f.opcode ≡ 0x54 → f.magic ≡ RESPONSE
+    → (read_of f ≡ Some (Err WrongValue)) ↔ (HasExtras f 0 × (f.key ≡ []) × IsNoLog f.vb_or_status f.value)
+
+-- an answer of this opcode has no row
+abbrev pub HasNoAnswer : ℕ → Type 0
+HasNoAnswer opcode = (f : Frame) → f.opcode ≡ opcode → f.magic ≡ RESPONSE → read_of f ≡ None
+
 -- how long the answer to a request for a stream is as bytes
 abbrev pub verdict_len : StreamVerdict → ℕ
 verdict_len (told.Go log) = HEADER_LEN + ENTRY_LEN * length log
@@ -199,6 +255,13 @@ dcp_len (msg.Prepare change) = HEADER_LEN + extras_size row.Prepare + length cha
 dcp_len (msg.Commit change) = HEADER_LEN + extras_size row.Commit + length change.key
 dcp_len (msg.Abort change) = HEADER_LEN + extras_size row.Abort + length change.key
 dcp_len (msg.SeqnoAcknowledged seq) = HEADER_LEN + extras_size row.SeqnoAcknowledged
+dcp_len msg.CloseStream = HEADER_LEN
+dcp_len msg.GetFailoverLog = HEADER_LEN
+dcp_len msg.Noop = HEADER_LEN
+dcp_len (msg.BufferAcknowledgement bytes) = HEADER_LEN + extras_size row.BufferAcknowledgement
 dcp_len (msg.OpenAnswer status) = HEADER_LEN
 dcp_len (msg.ControlAnswer status) = HEADER_LEN
 dcp_len (msg.StreamAnswer told) = verdict_len told
+dcp_len (msg.CloseAnswer status) = HEADER_LEN
+dcp_len (msg.NoopAnswer status) = HEADER_LEN
+dcp_len (msg.LogAnswer status log) = HEADER_LEN + ENTRY_LEN * length log

@@ -1,4 +1,4 @@
--- the other messages in numbers, byte by byte, no two of a message's numbers alike: the handshake, a stream's request, its marker, its changes and its end, and the answers
+-- the other messages in numbers, byte by byte, no two of a message's numbers alike: the handshake, a stream's request, its marker, its changes and its end, and the answers; and the messages of a connection beside them
 use Rattle.std.specs.Prelude.{◌≡◌, ℕ, List, [], ◌∷◌, ◌++◌}
 use Rattle.vb_types.specs.declared.role.LogEntry.{LogEntry}
 use Rattle.mcbp_frame.specs.Spelling.{spelling}
@@ -90,6 +90,14 @@ deletion_row = msg.Deletion (record { seq = 0x1112131415161718; rev = 0x21222324
 abbrev pub deletion_bytes : ℕ → List ℕ
 deletion_bytes datatype = 0x80 ∷ 0x58 ∷ 0x00 ∷ 0x03 ∷ 0x12 ∷ datatype ∷ middle 0x15 ++ some_cas ++ two_numbers ++ 0x00 ∷ 0x00 ∷ some_key
 
+-- a message of a header alone, with this opcode, datatype and CAS
+abbrev pub bare_bytes : ℕ → ℕ → List ℕ → List ℕ
+bare_bytes opcode datatype cas = 0x80 ∷ opcode ∷ 0x00 ∷ 0x00 ∷ 0x00 ∷ datatype ∷ middle 0x00 ++ cas
+
+-- BUFFER_ACKNOWLEDGEMENT, with this datatype and CAS: how many bytes
+abbrev pub buffer_bytes : ℕ → List ℕ → List ℕ
+buffer_bytes datatype cas = 0x80 ∷ 0x5d ∷ 0x00 ∷ 0x00 ∷ 0x04 ∷ datatype ∷ middle 0x04 ++ cas ++ four_bytes
+
 -- an answer's header: the status stands where a request has its vBucket
 abbrev pub answer_head : ℕ → ℕ → ℕ → ℕ → List ℕ
 answer_head opcode high low body =
@@ -106,6 +114,10 @@ some_log =
 
 abbrev pub log_told_bytes : List ℕ
 log_told_bytes = answer_head 0x53 0x00 0x00 0x20 ++ two_numbers ++ two_others
+
+-- the same log as the answer to GET_FAILOVER_LOG
+abbrev pub log_answer_bytes : List ℕ
+log_answer_bytes = answer_head 0x54 0x00 0x00 0x20 ++ two_numbers ++ two_others
 
 -- a point to go back to
 abbrev pub point_told_bytes : List ℕ

@@ -85,9 +85,16 @@ message_in row.Prepare f = msg.Prepare (prepare_in f)
 message_in row.Commit f = msg.Commit (resolution_in f)
 message_in row.Abort f = msg.Abort (resolution_in f)
 message_in row.SeqnoAcknowledged f = msg.SeqnoAcknowledged (big_64_at f.extras 0)
+message_in row.CloseStream f = msg.CloseStream
+message_in row.GetFailoverLog f = msg.GetFailoverLog
+message_in row.Noop f = msg.Noop
+message_in row.BufferAcknowledgement f = msg.BufferAcknowledgement (big_32_at f.extras 0)
 message_in row.OpenAnswer f = msg.OpenAnswer f.vb_or_status
 message_in row.ControlAnswer f = msg.ControlAnswer f.vb_or_status
 message_in row.StreamAnswer f = msg.StreamAnswer (verdict_in f.vb_or_status f.value)
+message_in row.CloseAnswer f = msg.CloseAnswer f.vb_or_status
+message_in row.NoopAnswer f = msg.NoopAnswer f.vb_or_status
+message_in row.LogAnswer f = msg.LogAnswer f.vb_or_status (log_in f.value)
 
 -- the fault, or else the message
 abbrev pub unless_fault : Option DcpFault → DcpMsg → Result DcpMsg DcpFault

@@ -25,9 +25,16 @@ row_opcode row.Prepare = op.Prepare
 row_opcode row.Commit = op.Commit
 row_opcode row.Abort = op.Abort
 row_opcode row.SeqnoAcknowledged = op.SeqnoAcknowledged
+row_opcode row.CloseStream = op.CloseStream
+row_opcode row.GetFailoverLog = op.GetFailoverLog
+row_opcode row.Noop = op.Noop
+row_opcode row.BufferAcknowledgement = op.BufferAcknowledgement
 row_opcode row.OpenAnswer = op.Open
 row_opcode row.ControlAnswer = op.Control
 row_opcode row.StreamAnswer = op.StreamRequest
+row_opcode row.CloseAnswer = op.CloseStream
+row_opcode row.NoopAnswer = op.Noop
+row_opcode row.LogAnswer = op.GetFailoverLog
 
 -- the magic that a row is written with
 abbrev pub row_magic : DcpRow → ℕ
@@ -42,9 +49,16 @@ row_magic row.Prepare = REQUEST
 row_magic row.Commit = REQUEST
 row_magic row.Abort = REQUEST
 row_magic row.SeqnoAcknowledged = REQUEST
+row_magic row.CloseStream = REQUEST
+row_magic row.GetFailoverLog = REQUEST
+row_magic row.Noop = REQUEST
+row_magic row.BufferAcknowledgement = REQUEST
 row_magic row.OpenAnswer = RESPONSE
 row_magic row.ControlAnswer = RESPONSE
 row_magic row.StreamAnswer = RESPONSE
+row_magic row.CloseAnswer = RESPONSE
+row_magic row.NoopAnswer = RESPONSE
+row_magic row.LogAnswer = RESPONSE
 
 -- the row with an opcode: an answer, or a message
 abbrev pub row_of_opcode : Opcode → Bool → Option DcpRow
@@ -62,6 +76,13 @@ row_of_opcode op.Abort false = Some row.Abort
 row_of_opcode op.SeqnoAcknowledged false = Some row.SeqnoAcknowledged
 row_of_opcode op.Control false = Some row.Control
 row_of_opcode op.Control true = Some row.ControlAnswer
+row_of_opcode op.CloseStream false = Some row.CloseStream
+row_of_opcode op.CloseStream true = Some row.CloseAnswer
+row_of_opcode op.GetFailoverLog false = Some row.GetFailoverLog
+row_of_opcode op.GetFailoverLog true = Some row.LogAnswer
+row_of_opcode op.Noop false = Some row.Noop
+row_of_opcode op.Noop true = Some row.NoopAnswer
+row_of_opcode op.BufferAcknowledgement false = Some row.BufferAcknowledgement
 row_of_opcode other answers = None
 
 -- the row with an opcode, where there is one

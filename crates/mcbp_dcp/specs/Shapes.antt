@@ -21,9 +21,16 @@ extras_size row.Prepare = 31
 extras_size row.Commit = 16
 extras_size row.Abort = 16
 extras_size row.SeqnoAcknowledged = 8
+extras_size row.CloseStream = 0
+extras_size row.GetFailoverLog = 0
+extras_size row.Noop = 0
+extras_size row.BufferAcknowledgement = 4
 extras_size row.OpenAnswer = 0
 extras_size row.ControlAnswer = 0
 extras_size row.StreamAnswer = 0
+extras_size row.CloseAnswer = 0
+extras_size row.NoopAnswer = 0
+extras_size row.LogAnswer = 0
 
 -- where a row has a length of metadata, it is 0
 abbrev pub lacks_metadata : DcpRow → List ℕ → Bool
@@ -38,9 +45,16 @@ lacks_metadata row.Prepare extras = true
 lacks_metadata row.Commit extras = true
 lacks_metadata row.Abort extras = true
 lacks_metadata row.SeqnoAcknowledged extras = true
+lacks_metadata row.CloseStream extras = true
+lacks_metadata row.GetFailoverLog extras = true
+lacks_metadata row.Noop extras = true
+lacks_metadata row.BufferAcknowledgement extras = true
 lacks_metadata row.OpenAnswer extras = true
 lacks_metadata row.ControlAnswer extras = true
 lacks_metadata row.StreamAnswer extras = true
+lacks_metadata row.CloseAnswer extras = true
+lacks_metadata row.NoopAnswer extras = true
+lacks_metadata row.LogAnswer extras = true
 
 -- no framing extras, and extras of the row's length without metadata
 abbrev pub extras_fit : DcpRow → Frame → Bool
@@ -59,19 +73,30 @@ key_fits row.Prepare f = true
 key_fits row.Commit f = true
 key_fits row.Abort f = true
 key_fits row.SeqnoAcknowledged f = length f.key == 0
+key_fits row.CloseStream f = length f.key == 0
+key_fits row.GetFailoverLog f = length f.key == 0
+key_fits row.Noop f = length f.key == 0
+key_fits row.BufferAcknowledgement f = length f.key == 0
 key_fits row.OpenAnswer f = length f.key == 0
 key_fits row.ControlAnswer f = length f.key == 0
 key_fits row.StreamAnswer f = length f.key == 0
+key_fits row.CloseAnswer f = length f.key == 0
+key_fits row.NoopAnswer f = length f.key == 0
+key_fits row.LogAnswer f = length f.key == 0
 
 -- the value of an answer to a request for a stream: a log, a point to roll back to, or none
 abbrev pub verdict_fits : ℕ → ℕ → Bool
 verdict_fits status len = if status == SUCCESS then len % ENTRY_LEN == 0 else if status == ROLLBACK then len == 8 else len == 0
 
+-- the value of an answer to a request for a failover log: the log, or none
+abbrev pub log_fits : ℕ → ℕ → Bool
+log_fits status len = if status == SUCCESS then len % ENTRY_LEN == 0 else len == 0
+
 -- the prepare is of a removal, as the byte at 29 of its extras says
 abbrev pub prepares_removal : List ℕ → Bool
 prepares_removal extras = slice_index extras 29 == 1
 
--- CONTROL and MUTATION have any value, and PREPARE too, but none where it is of a removal; such an answer has one by its status, and all else has none
+-- CONTROL and MUTATION have any value, and PREPARE too, but none where it is of a removal; the answers to a request for a stream and for a log have one by their status, and all else has none
 abbrev pub value_fits : DcpRow → Frame → Bool
 value_fits row.Open f = length f.value == 0
 value_fits row.Control f = true
@@ -84,9 +109,16 @@ value_fits row.Prepare f = not (prepares_removal f.extras) || (length f.value ==
 value_fits row.Commit f = length f.value == 0
 value_fits row.Abort f = length f.value == 0
 value_fits row.SeqnoAcknowledged f = length f.value == 0
+value_fits row.CloseStream f = length f.value == 0
+value_fits row.GetFailoverLog f = length f.value == 0
+value_fits row.Noop f = length f.value == 0
+value_fits row.BufferAcknowledgement f = length f.value == 0
 value_fits row.OpenAnswer f = length f.value == 0
 value_fits row.ControlAnswer f = length f.value == 0
 value_fits row.StreamAnswer f = verdict_fits f.vb_or_status (length f.value)
+value_fits row.CloseAnswer f = length f.value == 0
+value_fits row.NoopAnswer f = length f.value == 0
+value_fits row.LogAnswer f = log_fits f.vb_or_status (length f.value)
 
 -- the first part that is not the row's
 unfoldable pub shape_fault : DcpRow → Frame → Option DcpFault

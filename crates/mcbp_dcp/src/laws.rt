@@ -1,6 +1,6 @@
 //! What holds of DCP messages and their frames beyond any one call, each law as the contract of a
 //! function.
-ghost use Rattle.std.specs.Prelude.{◌≡◌, ◌↔◌, ◌++◌, ◌∷◌, [], ℕ, List, length, ◌≤◌, ◌<◌, ◌^◌, ◌+◌, true, false, Some, None, Ok, Err, IsTrue, IsFalse};
+ghost use Rattle.std.specs.Prelude.{◌≡◌, ◌≢◌, ◌↔◌, ◌++◌, ◌∷◌, [], ℕ, List, length, ◌≤◌, ◌<◌, ◌^◌, ◌+◌, ◌*◌, true, false, Some, None, Ok, Err, IsTrue, IsFalse};
 ghost use Rattle.mcbp_frame.specs.declared.frame.Frame.{Frame as FrameData};
 ghost use Rattle.mcbp_frame.specs.declared.frame.TheConstants.{MAX_BODY_LEN};
 ghost use Rattle.mcbp_frame.specs.Frames.{first_frame, body_size, frame_len};
@@ -16,15 +16,16 @@ ghost use Rattle.mcbp_dcp.specs.declared.message.Resolution.{Resolution as Resol
 ghost use Rattle.mcbp_dcp.specs.declared.message.StreamVerdict.{StreamVerdict as ToldData};
 ghost use Rattle.mcbp_dcp.specs.declared.message.StreamVerdict.TheVariants as told_as;
 ghost use Rattle.vb_types.specs.declared.stream.StreamAsk.{StreamAsk as AskData};
+ghost use Rattle.vb_types.specs.declared.role.LogEntry.{LogEntry as EntryData};
 ghost use Rattle.mcbp_dcp.specs.declared.message.DcpFault.TheVariants.{WrongExtras, WrongKey, WrongValue};
 ghost use Rattle.mcbp_dcp.specs.declared.shape.TheConstants.{MAX_NAME, ENTRY_LEN, SUCCESS, ROLLBACK};
 ghost use Rattle.mcbp_dcp.specs.Rows.{dcp_opcodes, frame_row};
-ghost use Rattle.mcbp_dcp.specs.Shapes.{extras_fit, key_fits, verdict_fits, value_fits};
+ghost use Rattle.mcbp_dcp.specs.Shapes.{extras_fit, key_fits, verdict_fits, log_fits, value_fits};
 ghost use Rattle.mcbp_dcp.specs.Messages.{read_of};
 ghost use Rattle.mcbp_dcp.specs.DcpFrames.{dcp_frame, IsSpelled};
-ghost use Rattle.mcbp_dcp.specs.DcpLaws.{InRange, Carries, RefusesExtras, RefusesLengths, RefusesValues, RefusesValuesOfRemovals, AcknowledgesBare, frame_read, dcp_len};
+ghost use Rattle.mcbp_dcp.specs.DcpLaws.{InRange, Carries, RefusesExtras, RefusesLengths, RefusesValues, RefusesValuesOfRemovals, AcknowledgesBare, RefusesBodies, RefusesAnswers, RefusesValuesOfAnswers, RefusesOtherLogs, HasNoAnswer, frame_read, dcp_len};
 ghost use Rattle.mcbp_dcp.specs.DurableRows.{IsReadAs, IsWrittenAs, prepare_row, prepare_bytes, no_times, some_times, no_cas, some_cas, some_value, resolution_row, resolution_bytes, acknowledged_bytes};
-ghost use Rattle.mcbp_dcp.specs.MessageRows.{IsAnsweredAs, open_row, open_bytes, control_row, control_bytes, request_row, request_bytes, end_bytes, marker_row, marker_bytes, mutation_row, mutation_bytes, deletion_row, deletion_bytes, answer_head, some_log, log_told_bytes, point_told_bytes, refused_told_bytes, four_bytes, no_four};
+ghost use Rattle.mcbp_dcp.specs.MessageRows.{IsAnsweredAs, open_row, open_bytes, control_row, control_bytes, request_row, request_bytes, end_bytes, marker_row, marker_bytes, mutation_row, mutation_bytes, deletion_row, deletion_bytes, bare_bytes, buffer_bytes, answer_head, some_log, log_told_bytes, log_answer_bytes, point_told_bytes, refused_told_bytes, four_bytes, no_four};
 
 /// A message that is written is read back, whatever follows it.
 pub fn dcp_reads_back()
@@ -72,6 +73,20 @@ pub fn durable_faults()
     ensures bare { AcknowledgesBare }
 {}
 
+/// What of the messages beside handshake and streams is refused, in numbers: extras, but the 4 bytes of an
+/// acknowledgement of bytes, which has no answer; a key; and a value, but the log of an answer that is
+/// Success, 16 bytes an entry.
+pub fn connection_faults()
+    ensures close { RefusesLengths 0x52 0 × RefusesBodies 0x52 0 }
+    ensures ask { RefusesLengths 0x54 0 × RefusesBodies 0x54 0 }
+    ensures noop { RefusesLengths 0x5c 0 × RefusesBodies 0x5c 0 }
+    ensures acknowledged { RefusesLengths 0x5d 4 × RefusesBodies 0x5d 4 }
+    ensures closed { RefusesAnswers 0x52 × RefusesValuesOfAnswers 0x52 }
+    ensures nooped { RefusesAnswers 0x5c × RefusesValuesOfAnswers 0x5c }
+    ensures log { RefusesAnswers 0x54 × RefusesOtherLogs }
+    ensures unanswered { HasNoAnswer 0x5d }
+{}
+
 /// The messages of durable writes, byte by byte, and what of them is not read: lock time and nru of a
 /// prepare, datatype and CAS of the others.
 pub fn durable_messages_in_bytes()
@@ -106,6 +121,22 @@ pub fn messages_in_bytes()
     ensures typed { IsReadAs (deletion_bytes 1) deletion_row }
 {}
 
+/// The messages beside handshake and streams, byte by byte: the request to close a stream, that for a log,
+/// the question whether the other side is there, and how many bytes were taken; and the answers to the
+/// first three. Datatype and CAS are not read.
+pub fn connection_messages_in_bytes()
+    ensures close { IsWrittenAs msg.CloseStream (bare_bytes 0x52 0 no_cas) }
+    ensures ask { IsWrittenAs msg.GetFailoverLog (bare_bytes 0x54 0 no_cas) }
+    ensures noop { IsWrittenAs msg.Noop (bare_bytes 0x5c 0 no_cas) }
+    ensures acknowledged { IsWrittenAs (msg.BufferAcknowledgement 0x01020304) (buffer_bytes 0 no_cas) }
+    ensures closed { IsAnsweredAs (msg.CloseAnswer 0x0304) (answer_head 0x52 0x03 0x04 0x00) }
+    ensures nooped { IsAnsweredAs (msg.NoopAnswer 0x0304) (answer_head 0x5c 0x03 0x04 0x00) }
+    ensures log { IsAnsweredAs (msg.LogAnswer 0 some_log) log_answer_bytes }
+    ensures refused { IsAnsweredAs (msg.LogAnswer 0x0304 []) (answer_head 0x54 0x03 0x04 0x00) }
+    ensures heads { IsReadAs (bare_bytes 0x52 1 some_cas) msg.CloseStream × IsReadAs (bare_bytes 0x54 1 some_cas) msg.GetFailoverLog
+        × IsReadAs (bare_bytes 0x5c 1 some_cas) msg.Noop × IsReadAs (buffer_bytes 1 some_cas) (msg.BufferAcknowledgement 0x01020304) }
+{}
+
 /// How long a message is as bytes, whatever its opaque and vBucket.
 pub fn dcp_lengths()
     ensures { (m : MsgData) (opaque v : ℕ) → frame_len (dcp_frame m opaque v) ≡ dcp_len m }
@@ -127,9 +158,16 @@ pub fn dcp_opcodes_in_numbers()
     ensures commit { (change : ResolvedData) (opaque v : ℕ) → Carries (dcp_frame (msg.Commit change) opaque v) 0x62 16 }
     ensures abort { (change : ResolvedData) (opaque v : ℕ) → Carries (dcp_frame (msg.Abort change) opaque v) 0x63 16 }
     ensures acknowledged { (seq opaque v : ℕ) → Carries (dcp_frame (msg.SeqnoAcknowledged seq) opaque v) 0x61 8 }
+    ensures close { (opaque v : ℕ) → Carries (dcp_frame msg.CloseStream opaque v) 0x52 0 }
+    ensures ask { (opaque v : ℕ) → Carries (dcp_frame msg.GetFailoverLog opaque v) 0x54 0 }
+    ensures noop { (opaque v : ℕ) → Carries (dcp_frame msg.Noop opaque v) 0x5c 0 }
+    ensures buffer { (bytes opaque v : ℕ) → Carries (dcp_frame (msg.BufferAcknowledgement bytes) opaque v) 0x5d 4 }
     ensures opened { (status opaque v : ℕ) → Carries (dcp_frame (msg.OpenAnswer status) opaque v) 0x50 0 }
     ensures controlled { (status opaque v : ℕ) → Carries (dcp_frame (msg.ControlAnswer status) opaque v) 0x5e 0 }
     ensures told { (told : ToldData) (opaque v : ℕ) → Carries (dcp_frame (msg.StreamAnswer told) opaque v) 0x53 0 }
+    ensures closed { (status opaque v : ℕ) → Carries (dcp_frame (msg.CloseAnswer status) opaque v) 0x52 0 }
+    ensures nooped { (status opaque v : ℕ) → Carries (dcp_frame (msg.NoopAnswer status) opaque v) 0x5c 0 }
+    ensures log { (status opaque v : ℕ) (log : List EntryData) → Carries (dcp_frame (msg.LogAnswer status log) opaque v) 0x54 0 }
 {}
 
 /// The numbers that the protocol fixes for these messages.
@@ -144,8 +182,9 @@ pub fn names_have_lengths()
     ensures { (number flags : ℕ) (name : List ℕ) → IsSpelled (msg.Open number flags name) ↔ ((1 ≤ length name) × (length name ≤ 250)) }
 {}
 
-/// Which messages have a spelling: a CONTROL of any key and value, and a deletion, a commit and an abort of
-/// any key, that fit their length fields; and each message without a key.
+/// Which messages have a spelling: a CONTROL and a mutation of any key and value, a deletion, a commit and
+/// an abort of any key, that fit their length fields; a log that fits its own, and none where it is
+/// refused; and each other message without a key but the answer to a request for a stream.
 pub fn messages_have_room()
     ensures control { (key value : List ℕ) → IsSpelled (msg.Control key value) ↔ ((length key < 65536) × (length key + length value < 4294967296)) }
     ensures mutation { (change : PutData) → IsSpelled (msg.Mutation change) ↔ ((length change.key < 65536) × (31 + length change.key + length change.value < 4294967296)) }
@@ -154,13 +193,19 @@ pub fn messages_have_room()
     ensures request { (ask : AskData) → IsSpelled (msg.StreamRequest ask) }
     ensures marker { (start end flags : ℕ) → IsSpelled (msg.SnapshotMarker start end flags) }
     ensures others { (n : ℕ) → IsSpelled (msg.StreamEnd n) × IsSpelled (msg.SeqnoAcknowledged n) × IsSpelled (msg.OpenAnswer n) × IsSpelled (msg.ControlAnswer n) }
+    ensures connection { (n : ℕ) → IsSpelled msg.CloseStream × IsSpelled msg.GetFailoverLog × IsSpelled msg.Noop × IsSpelled (msg.BufferAcknowledgement n) × IsSpelled (msg.CloseAnswer n) × IsSpelled (msg.NoopAnswer n) }
+    ensures log { (log : List EntryData) → IsSpelled (msg.LogAnswer 0 log) ↔ (16 * length log < 4294967296) }
+    ensures refused { (status : ℕ) (log : List EntryData) → status ≢ 0 → IsSpelled (msg.LogAnswer status log) ↔ (log ≡ []) }
 {}
 
 /// How many bytes stand in an answer to a request for a stream: whole entries of 16 where it is granted,
-/// the 8 of a point where the consumer is sent back, and none where it is refused.
+/// the 8 of a point where the consumer is sent back, and none where it is refused; and in one to a request
+/// for a log: whole entries of 16 where it is granted, and else none.
 pub fn answers_fit()
     ensures granted { (verdict_fits 0 0 ≡ true) × (verdict_fits 0 16 ≡ true) × (verdict_fits 0 400 ≡ true) }
     ensures cut { (verdict_fits 0 8 ≡ false) × (verdict_fits 0 17 ≡ false) × (verdict_fits 0 31 ≡ false) }
     ensures sent_back { (verdict_fits 35 8 ≡ true) × (verdict_fits 35 0 ≡ false) × (verdict_fits 35 16 ≡ false) }
     ensures refused { (verdict_fits 7 0 ≡ true) × (verdict_fits 4 0 ≡ true) × (verdict_fits 7 8 ≡ false) × (verdict_fits 34 16 ≡ false) }
+    ensures log { (log_fits 0 0 ≡ true) × (log_fits 0 16 ≡ true) × (log_fits 0 400 ≡ true) × (log_fits 0 8 ≡ false) × (log_fits 0 31 ≡ false) }
+    ensures no_log { (log_fits 7 0 ≡ true) × (log_fits 35 0 ≡ true) × (log_fits 35 8 ≡ false) × (log_fits 7 16 ≡ false) }
 {}

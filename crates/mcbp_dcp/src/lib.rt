@@ -11,9 +11,9 @@ mod shape;
 mod writer;
 
 pub use laws::{
-    answers_fit, dcp_faults, dcp_lengths, dcp_numbers, dcp_one_spelling, dcp_opcodes_in_numbers,
-    dcp_reads_back, durable_faults, durable_messages_in_bytes, messages_have_room,
-    names_have_lengths,
+    answers_fit, connection_faults, connection_messages_in_bytes, dcp_faults, dcp_lengths,
+    dcp_numbers, dcp_one_spelling, dcp_opcodes_in_numbers, dcp_reads_back, durable_faults,
+    durable_messages_in_bytes, messages_have_room, names_have_lengths,
 };
 pub use message::{DcpFault, DcpMsg, Deletion, Mutation, Prepare, Resolution, StreamVerdict};
 pub use opcode::Opcode;

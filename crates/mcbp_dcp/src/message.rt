@@ -86,12 +86,26 @@ pub enum DcpMsg {
     Abort { change: Resolution },
     /// The consumer has all changes up to this seqno, as far as their durable writes ask for it.
     SeqnoAcknowledged { seq: u64 },
+    /// Asks that the stream of a vBucket be closed.
+    CloseStream,
+    /// Asks for a vBucket's failover log.
+    GetFailoverLog,
+    /// Asks whether the other side is there.
+    Noop,
+    /// The consumer has taken this many bytes more.
+    BufferAcknowledgement { bytes: u32 },
     /// The answer to `Open`, with the status that stands for it on the wire.
     OpenAnswer { status: u16 },
     /// The answer to `Control`.
     ControlAnswer { status: u16 },
     /// The answer to `StreamRequest`.
     StreamAnswer { told: StreamVerdict },
+    /// The answer to `CloseStream`.
+    CloseAnswer { status: u16 },
+    /// The answer to `Noop`.
+    NoopAnswer { status: u16 },
+    /// The answer to `GetFailoverLog`: the log, the newest entry first, where the status is Success.
+    LogAnswer { status: u16, log: Listed<LogEntry> },
 }
 
 /// Which part of a frame is not its row's.

@@ -2,7 +2,7 @@
 ghost use Rattle.std.specs.Prelude.{◌≡◌, length, IfOk, IsTrue};
 ghost use Rattle.mcbp_dcp.specs.declared.message.DcpMsg.TheVariants as msg;
 ghost use Rattle.mcbp_frame.specs.Frames.{big_32_at, big_64_at};
-ghost use Rattle.{mcbp_dcp.specs.Messages.{ask_in, mutation_in, deletion_in, prepare_in, resolution_in, verdict_in, message_in, read_of}, mcbp_dcp.specs.Shapes.{extras_size, value_fits, verdict_fits}};
+ghost use Rattle.{mcbp_dcp.specs.Messages.{ask_in, mutation_in, deletion_in, prepare_in, resolution_in, verdict_in, message_in, read_of}, mcbp_dcp.specs.Shapes.{extras_size, value_fits, verdict_fits}, mcbp_dcp.specs.WireLogs.{log_in}};
 
 use crate::log::log_of;
 use crate::row::{DcpRow, row_of};
@@ -164,6 +164,13 @@ fn answer_of(alloc: Global, status: u16, value: &[u8]) -> Result<DcpMsg, AllocEr
     Ok(DcpMsg::StreamAnswer { told })
 }
 
+fn log_answer_of(alloc: Global, status: u16, value: &[u8]) -> Result<DcpMsg, AllocError>
+    ensures { IfOk result (λ m. m ≡ msg.LogAnswer status (log_in value.now)) }
+{
+    let log = log_of(alloc, value)?;
+    Ok(DcpMsg::LogAnswer { status, log })
+}
+
 /// The message of a frame that has the row's extras and value.
 fn message_of(alloc: Global, f: &Frame, row: DcpRow) -> Result<DcpMsg, AllocError>
     requires extras { length f.now.extras ≡ extras_size row }
@@ -189,9 +196,18 @@ fn message_of(alloc: Global, f: &Frame, row: DcpRow) -> Result<DcpMsg, AllocErro
         DcpRow::SeqnoAcknowledged => Ok(DcpMsg::SeqnoAcknowledged {
             seq: BigEndian::read_u64(&extras[0..8]),
         }),
+        DcpRow::CloseStream => Ok(DcpMsg::CloseStream),
+        DcpRow::GetFailoverLog => Ok(DcpMsg::GetFailoverLog),
+        DcpRow::Noop => Ok(DcpMsg::Noop),
+        DcpRow::BufferAcknowledgement => Ok(DcpMsg::BufferAcknowledgement {
+            bytes: BigEndian::read_u32(&extras[0..4]),
+        }),
         DcpRow::OpenAnswer => Ok(DcpMsg::OpenAnswer { status }),
         DcpRow::ControlAnswer => Ok(DcpMsg::ControlAnswer { status }),
         DcpRow::StreamAnswer => answer_of(alloc, status, f.value.as_slice()),
+        DcpRow::CloseAnswer => Ok(DcpMsg::CloseAnswer { status }),
+        DcpRow::NoopAnswer => Ok(DcpMsg::NoopAnswer { status }),
+        DcpRow::LogAnswer => log_answer_of(alloc, status, f.value.as_slice()),
     }
 }
 

@@ -19,9 +19,16 @@ pub enum DcpRow {
     Commit,
     Abort,
     SeqnoAcknowledged,
+    CloseStream,
+    GetFailoverLog,
+    Noop,
+    BufferAcknowledgement,
     OpenAnswer,
     ControlAnswer,
     StreamAnswer,
+    CloseAnswer,
+    NoopAnswer,
+    LogAnswer,
 }
 
 /// Whether DCP has a message with this opcode.
@@ -51,6 +58,13 @@ pub fn row_of(f: &Frame) -> Option<DcpRow>
         (Opcode::SeqnoAcknowledged, false) => Some(DcpRow::SeqnoAcknowledged),
         (Opcode::Control, false) => Some(DcpRow::Control),
         (Opcode::Control, true) => Some(DcpRow::ControlAnswer),
+        (Opcode::CloseStream, false) => Some(DcpRow::CloseStream),
+        (Opcode::CloseStream, true) => Some(DcpRow::CloseAnswer),
+        (Opcode::GetFailoverLog, false) => Some(DcpRow::GetFailoverLog),
+        (Opcode::GetFailoverLog, true) => Some(DcpRow::LogAnswer),
+        (Opcode::Noop, false) => Some(DcpRow::Noop),
+        (Opcode::Noop, true) => Some(DcpRow::NoopAnswer),
+        (Opcode::BufferAcknowledgement, false) => Some(DcpRow::BufferAcknowledgement),
         _ => None,
     }
 }

@@ -31,7 +31,7 @@ fn have_extras(f: &Frame, row: DcpRow) -> bool
     match row {
         DcpRow::Open => extras.len() == 8,
         DcpRow::StreamRequest => extras.len() == 48,
-        DcpRow::StreamEnd => extras.len() == 4,
+        DcpRow::StreamEnd | DcpRow::BufferAcknowledgement => extras.len() == 4,
         DcpRow::SnapshotMarker => extras.len() == 20,
         DcpRow::Mutation => extras.len() == 31 && BigEndian::read_u16(&extras[28..30]) == 0,
         DcpRow::Deletion => extras.len() == 18 && BigEndian::read_u16(&extras[16..18]) == 0,
@@ -64,6 +64,10 @@ fn has_value(f: &Frame, row: DcpRow) -> bool
         DcpRow::StreamAnswer => match f.vb_or_status {
             SUCCESS => f.value.len() % ENTRY_LEN == 0,
             ROLLBACK => f.value.len() == 8,
+            _ => f.value.is_empty(),
+        },
+        DcpRow::LogAnswer => match f.vb_or_status {
+            SUCCESS => f.value.len() % ENTRY_LEN == 0,
             _ => f.value.is_empty(),
         },
         _ => f.value.is_empty(),

@@ -1,9 +1,10 @@
 //! The one frame of a message, as bytes.
-ghost use Rattle.std.specs.Prelude.{◌≡◌, ◌++◌, [], IfOk, OnOk, OnErr};
-ghost use Rattle.std.specs.{Int.{w64, to_be_bytes}, List.{flat_map}};
-ghost use Rattle.mcbp_dcp.specs.DcpFrames.{bare_frame, frame_of_row, request_frame, mutation_frame, deletion_frame, prepare_frame, resolution_frame, verdict_frame, dcp_frame, IsVerdict, IsSpelled};
+ghost use Rattle.std.specs.Prelude.{◌≡◌, ◌*◌, ◌^◌, ◌<◌, ◌++◌, [], length, IfOk, OnOk, OnErr};
+ghost use Rattle.std.specs.{Int.{w32, w64, to_be_bytes}, List.{flat_map}};
+ghost use Rattle.mcbp_dcp.specs.DcpFrames.{bare_frame, frame_of_row, request_frame, mutation_frame, deletion_frame, prepare_frame, resolution_frame, verdict_frame, log_frame, dcp_frame, IsVerdict, IsSpelled};
 ghost use Rattle.mcbp_dcp.specs.DcpFrames.{open_extras, stream_end_extras, marker_extras, mutation_extras, prepare_extras};
 ghost use Rattle.mcbp_dcp.specs.declared.row.DcpRow.TheVariants as row;
+ghost use Rattle.mcbp_dcp.specs.declared.shape.TheConstants.{ENTRY_LEN};
 ghost use Rattle.mcbp_frame.specs.Spelling.{Fits, spelling};
 
 use crate::log::log_bytes;
@@ -12,7 +13,7 @@ use crate::{DcpMsg, Deletion, Mutation, Opcode, Prepare, Resolution, StreamVerdi
 use bytes::{Bytes, BytesMut};
 use mcbp_frame::{Frame, REQUEST, RESPONSE, write_frame};
 use std::alloc::{AllocError, Global};
-use vb_types::StreamAsk;
+use vb_types::{LogEntry, StreamAsk};
 
 /// A frame without datatype, CAS and body.
 fn bare(magic: u8, opcode: Opcode, vb_or_status: u16, opaque: u32) -> Frame
@@ -252,6 +253,18 @@ fn of_acknowledged(alloc: Global, seq: u64, opaque: u32, v: u16) -> Result<Frame
     Ok(request(Opcode::SeqnoAcknowledged, v, opaque, bare_extras(extras)))
 }
 
+fn buffer_as_frame(alloc: Global, bytes: u32, opaque: u32, v: u16) -> Result<Frame, AllocError>
+    ensures { IfOk result (λ frame. frame ≡ frame_of_row row.BufferAcknowledgement v opaque (to_be_bytes w32 bytes) [] []) }
+{
+    let extras = numbers!(alloc; bytes)?;
+    Ok(request(
+        Opcode::BufferAcknowledgement,
+        v,
+        opaque,
+        bare_extras(extras),
+    ))
+}
+
 fn verdict_as_frame(alloc: Global, told: &StreamVerdict, opaque: u32) -> Result<Frame, AllocError>
     requires { IsVerdict told.now }
     ensures frame { IfOk result (λ frame. frame ≡ verdict_frame told.now opaque) }
@@ -265,6 +278,23 @@ fn verdict_as_frame(alloc: Global, told: &StreamVerdict, opaque: u32) -> Result<
     Ok(Frame {
         value,
         ..bare(RESPONSE, Opcode::StreamRequest, status, opaque)
+    })
+}
+
+fn log_as_frame(
+    alloc: Global,
+    status: u16,
+    log: &[LogEntry],
+    opaque: u32,
+) -> Result<Frame, AllocError>
+    requires { ENTRY_LEN * length log.now < 2 ^ 32 }
+    ensures frame { IfOk result (λ frame. frame ≡ log_frame status log.now opaque) }
+    ensures fits { IfOk result Fits }
+{
+    let value = log_bytes(alloc, log)?;
+    Ok(Frame {
+        value,
+        ..bare(RESPONSE, Opcode::GetFailoverLog, status, opaque)
     })
 }
 
@@ -291,9 +321,16 @@ fn frame_for(alloc: Global, m: &DcpMsg, opaque: u32, v: u16) -> Result<Frame, Al
         DcpMsg::Commit { change } => resolution_as_frame(alloc, Opcode::Commit, change, opaque, v),
         DcpMsg::Abort { change } => resolution_as_frame(alloc, Opcode::Abort, change, opaque, v),
         DcpMsg::SeqnoAcknowledged { seq } => of_acknowledged(alloc, *seq, opaque, v),
+        DcpMsg::CloseStream => Ok(bare(REQUEST, Opcode::CloseStream, v, opaque)),
+        DcpMsg::GetFailoverLog => Ok(bare(REQUEST, Opcode::GetFailoverLog, v, opaque)),
+        DcpMsg::Noop => Ok(bare(REQUEST, Opcode::Noop, v, opaque)),
+        DcpMsg::BufferAcknowledgement { bytes } => buffer_as_frame(alloc, *bytes, opaque, v),
         DcpMsg::OpenAnswer { status } => Ok(bare(RESPONSE, Opcode::Open, *status, opaque)),
         DcpMsg::ControlAnswer { status } => Ok(bare(RESPONSE, Opcode::Control, *status, opaque)),
         DcpMsg::StreamAnswer { told } => verdict_as_frame(alloc, told, opaque),
+        DcpMsg::CloseAnswer { status } => Ok(bare(RESPONSE, Opcode::CloseStream, *status, opaque)),
+        DcpMsg::NoopAnswer { status } => Ok(bare(RESPONSE, Opcode::Noop, *status, opaque)),
+        DcpMsg::LogAnswer { status, log } => log_as_frame(alloc, *status, log.as_slice(), opaque),
     }
 }
 

@@ -7,7 +7,7 @@ use Rattle.std.proofs.lemmas.List.{map-append}
 use Rattle.std.proofs.lemmas.List.Elements.{All-nil, filter_map-append}
 use Rattle.mcbp_frame.specs.declared.frame.Frame.{Frame}
 use Rattle.mcbp_frame.specs.declared.frame.FrameFault.{FrameFault}
-use Rattle.mcbp_frame.specs.Cutting.{front_fault, frames_in}
+use Rattle.mcbp_frame.specs.Cutting.{frames_in}
 use Rattle.vb_types.specs.declared.change.Change.{Change}
 use Rattle.vb_events.specs.declared.event.Event.{Event}
 use Rattle.vb_events.specs.declared.event.Event.TheVariants as event
@@ -24,7 +24,7 @@ use Rattle.vb_calls.specs.declared.calls.VbReply.{VbReply}
 use Rattle.vb_calls.specs.declared.journals.Rolled.{Rolled}
 use Rattle.vb_calls.specs.declared.journals.Rolled.TheVariants as rolled
 use Rattle.vb_calls.specs.Flushes.{rolled_job, read_job, may_roll_job, rollable_job, roll_job}
-use Rattle.vb_calls.specs.Jobs.{Job, Ended, Call, Request, bind_job, next_job, each_job, lift}
+use Rattle.vb_calls.specs.Jobs.{Job, Ended, Call, Request, bind_job, next_job, lift}
 use Rattle.vb_calls.specs.Programs.{Done}
 use Rattle.vb_calls.specs.Programs as prog
 use Rattle.vb_calls.specs.Shelves.{Fate, Stood, WasClosed, DiskFailed, Reading, Book, Shut, Unread, Broken}
@@ -34,13 +34,13 @@ use Rattle.dcp_consumer.specs.declared.handshake.Handshake.{Handshake}
 use Rattle.dcp_consumer.specs.declared.handshake.Handshake.TheVariants as handshake
 use Rattle.dcp_consumer.specs.declared.handshake.Dialed.{Dialed}
 use Rattle.dcp_consumer.specs.declared.passive_stream.Passive.TheVariants as passive
-use Rattle.dcp_consumer.specs.Machine.{PlainConsumer, over_why, with_handshake, moved_by, frame_step, granted, streaming, ended_for, request_again, again_by, is_streaming, may_acknowledge, acknowledged}
-use Rattle.node_core.specs.Conduct.{Asks, Acknowledges, IsOfDial, KeepsLink, AnyOther, DueNext, StatNext, Dues, said, log_behind, message_behind, due_behind, stat_behind, behind, CallsAs, seqno_written, seqnos_of_line, Acknowledged, begins}
-use Rattle.node_core.specs.Dials.{PlainDial, DialResult, untold, is_broken, is_over, with_consumer, with_line, with_left, over_for, adopted_line, granted_with, is_done_answer, adopt_result, acknowledged_line, acknowledged_result, saved_in, saved_of_reply, due_in, due_of_reply, due_met, due_requested, dial_due, go_on_with, follower_ask, again_with, again_result, requested_once_more, rolled_line, rolled_back, roll_back, got_line, taken_as, message_result, call_made, step_made, frame_taken, frames_taken, fault_met, with_end_line, rest_met, bytes_taken, dial_bytes}
+use Rattle.dcp_consumer.specs.Machine.{PlainConsumer, with_handshake, moved_by, frame_step, granted, streaming, ended_for, request_again, again_by, is_streaming, may_acknowledge, acknowledged}
+use Rattle.node_core.specs.Conduct.{Asks, Acknowledges, bytes_written, IsOfDial, KeepsLink, AnyOther, DueNext, StatNext, Dues, said, log_behind, message_behind, due_behind, stat_behind, behind, CallsAs, seqno_written, seqnos_of_line, Acknowledged, begins}
+use Rattle.node_core.specs.Dials.{PlainDial, DialResult, untold, is_over, with_consumer, with_line, with_left, over_for, adopted_line, granted_with, is_done_answer, adopt_result, acknowledged_line, acknowledged_result, saved_in, saved_of_reply, due_in, due_of_reply, due_met, due_requested, dial_due, go_on_with, follower_ask, again_with, again_result, requested_once_more, rolled_line, rolled_back, roll_back, got_line, taken_as, message_result, call_made, step_made, frame_taken, frames_taken, fault_met}
 use Rattle.node_core.proofs.Conduct.{either, FollowsIf, Follows, IsMessage, step_follows, over_keeps, lines_keep, wrote_keeps, silent_keeps, one_own, got_own}
 
 -- one job after the other
-calls_bind : {A B : Type 0} (between : Dues → A → Type 0) (ends : Dues → B → Type 0) (d : Dues) (job : Job A) (k : A → Job B)
+pub calls_bind : {A B : Type 0} (between : Dues → A → Type 0) (ends : Dues → B → Type 0) (d : Dues) (job : Job A) (k : A → Job B)
     → CallsAs between d job → ((e : Dues) (a : A) → between e a → CallsAs ends e (k a)) → CallsAs ends d (bind_job job k)
 calls_bind between ends d (Ended a) k first second = second d a first
 calls_bind between ends d (Call v call next) k first second =
@@ -58,30 +58,34 @@ abbrev free : ℕ → List (ℕ × ℕ) → Dues
 free last met = record { next = AnyOther; last = last; met = met }
 
 -- with lines that tell of no acknowledgement
-lines_told : (old s : DialResult) (d : Dues) (events : List Event) → All (IsOfDial s.dial.consumer.dialed) events → filter_map seqnos_of_line events ≡ []
-    → Acknowledged old d s → Acknowledged old d (record s { events = s.events ++ events })
+unfoldable pub lines_told : {bytes : List ℕ} (old s : DialResult) (d : Dues) (events : List Event) → All (IsOfDial s.dial.consumer.dialed) events → filter_map seqnos_of_line events ≡ []
+    → Acknowledged bytes old d s → Acknowledged bytes old d (record s { events = s.events ++ events })
 lines_told old s d events own none m = record {
   next = m.next;
   last = m.last;
   link = lines_keep old s events own m.link;
   written = m.written;
   told = filter_map-append seqnos_of_line m.link.lines.0 events ∙ (λ i. m.told i ++ none i) ∙ append-nil d.met;
+  counted = m.counted;
+  heard = m.heard;
 }
 
-over_told : (old s : DialResult) (d : Dues) (why : EndReason) → Acknowledged old d s → Acknowledged old d (over_for why s)
-over_told old s d why m = record { next = m.next; last = m.last; link = over_keeps old s why m.link; written = m.written; told = m.told }
+over_told : (old s : DialResult) (d : Dues) (why : EndReason) → Acknowledged [] old d s → Acknowledged [] old d (over_for why s)
+over_told old s d why m = record { next = m.next; last = m.last; link = over_keeps old s why m.link; written = m.written; told = m.told; counted = m.counted; heard = m.heard }
 
-moved_told : (old s : DialResult) (d : Dues) (h : Handshake) → Acknowledged old d s → Acknowledged old d (with_consumer s (with_handshake s.dial.consumer h))
+moved_told : (old s : DialResult) (d : Dues) (h : Handshake) → Acknowledged [] old d s → Acknowledged [] old d (with_consumer s (with_handshake s.dial.consumer h))
 moved_told old s d h m = record {
   next = m.next;
   last = m.last;
   link = record { dialed = m.link.dialed; writes = m.link.writes; lines = m.link.lines };
   written = m.written;
   told = m.told;
+  counted = m.counted;
+  heard = m.heard;
 }
 
 -- with one more request
-asked_told : (old s : DialResult) (d : Dues) (ask : StreamAsk) → Acknowledged old d s → Acknowledged old d (again_with s (request_again ask s.dial.consumer))
+asked_told : (old s : DialResult) (d : Dues) (ask : StreamAsk) → Acknowledged [] old d s → Acknowledged [] old d (again_with s (request_again ask s.dial.consumer))
 asked_told old s d ask m =
     let c = s.dial.consumer in
     record {
@@ -90,21 +94,25 @@ asked_told old s d ask m =
       link = wrote_keeps old s (request_again ask c).0 (Asks ask) (request_again ask c).1 refl (omega arith) (sym (append-nil (request_again ask c).1)) m.link;
       written = filter_map-append seqno_written m.link.writes.0 (Asks ask ∷ []) ∙ append-nil (filter_map seqno_written m.link.writes.0) ∙ m.written;
       told = m.told;
+      counted = filter_map-append bytes_written m.link.writes.0 (Asks ask ∷ []) ∙ append-nil (filter_map bytes_written m.link.writes.0) ∙ m.counted;
+      heard = m.heard;
     }
 
 silent_told : (old s : DialResult) (d : Dues) (c : PlainConsumer) → c.dialed ≡ s.dial.consumer.dialed → c.asked ≡ s.dial.consumer.asked → s.dial.consumer.acked ≡ c.acked
-    → Acknowledged old d s → Acknowledged old d (again_with s (c, []))
+    → Acknowledged [] old d s → Acknowledged [] old d (again_with s (c, []))
 silent_told old s d c dialed asked acked m = record {
   next = m.next;
   last = m.last ∙ acked;
   link = silent_keeps old s c dialed asked m.link;
   written = m.written;
   told = m.told;
+  counted = m.counted;
+  heard = m.heard;
 }
 
 -- with one more acknowledgement
-met_told : (old s : DialResult) (last : ℕ) (met : List (ℕ × ℕ)) (seq saved : ℕ) → Acknowledged old (free last met) s
-    → Acknowledged old (free seq (met ++ (seq, saved) ∷ [])) (acknowledged_result seq s saved)
+met_told : (old s : DialResult) (last : ℕ) (met : List (ℕ × ℕ)) (seq saved : ℕ) → Acknowledged [] old (free last met) s
+    → Acknowledged [] old (free seq (met ++ (seq, saved) ∷ [])) (acknowledged_result seq s saved)
 met_told old s last met seq saved m =
     let c = s.dial.consumer in
     let wrote : List ℕ = (acknowledged seq c).1 in
@@ -117,21 +125,23 @@ met_told old s last met seq saved m =
       written = filter_map-append seqno_written m.link.writes.0 (Acknowledges seq ∷ []) ∙ ap (λ l. l ++ seq ∷ []) m.written
           ∙ sym (map-append (λ (p : ℕ × ℕ). p.0) met ((seq, saved) ∷ []));
       told = filter_map-append seqnos_of_line m.link.lines.0 (line ∷ []) ∙ ap (λ l. l ++ (seq, saved) ∷ []) m.told;
+      counted = filter_map-append bytes_written m.link.writes.0 (Acknowledges seq ∷ []) ∙ append-nil (filter_map bytes_written m.link.writes.0) ∙ m.counted;
+      heard = m.heard;
     }
 
 -- what Stat says
-module _ (old s : DialResult) (last : ℕ) (met : List (ℕ × ℕ)) (m : Acknowledged old (free last met) s) where
-  stat_said : (seq : ℕ) (a : VbAnswer) → Acknowledged old (stat_behind (record { next = StatNext seq; last = last; met = met }) (StatNext seq) a) (acknowledged_result seq s (saved_in a))
+module _ (old s : DialResult) (last : ℕ) (met : List (ℕ × ℕ)) (m : Acknowledged [] old (free last met) s) where
+  stat_said : (seq : ℕ) (a : VbAnswer) → Acknowledged [] old (stat_behind (record { next = StatNext seq; last = last; met = met }) (StatNext seq) a) (acknowledged_result seq s (saved_in a))
   stat_said seq (answer.Stat spans items cursors saved high) = met_told old s last met seq saved m
   stat_said seq other = met_told old s last met seq 0 m
 
   stat_replied : (seq : ℕ) (reply : Option VbReply)
-      → Acknowledged old (stat_behind (record { next = StatNext seq; last = last; met = met }) (StatNext seq) (said reply)) (acknowledged_result seq s (saved_of_reply reply))
+      → Acknowledged [] old (stat_behind (record { next = StatNext seq; last = last; met = met }) (StatNext seq) (said reply)) (acknowledged_result seq s (saved_of_reply reply))
   stat_replied seq None = met_told old s last met seq 0 m
   stat_replied seq (Some r) = stat_said seq r.answer
 
   -- what is due is met
-  meets : (seq : ℕ) (b : Bool) → CallsAs (Acknowledged old) (record { next = if b then StatNext seq else AnyOther; last = last; met = met })
+  meets : (seq : ℕ) (b : Bool) → CallsAs (Acknowledged [] old) (record { next = if b then StatNext seq else AnyOther; last = last; met = met })
       (lift (if b then prog.Call s.dial.consumer.dialed.vb call.Stat (λ reply. Done (acknowledged_result seq s (saved_of_reply reply))) else Done s))
   meets seq true = (tt, λ reply. stat_replied seq reply)
   meets seq false = m
@@ -141,34 +151,34 @@ module _ (old s : DialResult) (last : ℕ) (met : List (ℕ × ℕ)) (m : Acknow
   none_above false n = refl
 
   -- nothing is due
-  meets_none : CallsAs (Acknowledged old) (free last met) (lift (due_met s 0))
+  meets_none : CallsAs (Acknowledged [] old) (free last met) (lift (due_met s 0))
   meets_none =
-      subst (λ b. CallsAs (Acknowledged old) (free last met) (lift (if b then prog.Call s.dial.consumer.dialed.vb call.Stat (λ reply. Done (acknowledged_result 0 s (saved_of_reply reply))) else Done s)))
+      subst (λ b. CallsAs (Acknowledged [] old) (free last met) (lift (if b then prog.Call s.dial.consumer.dialed.vb call.Stat (λ reply. Done (acknowledged_result 0 s (saved_of_reply reply))) else Done s)))
       (sym (none_above (is_streaming s.dial.consumer.handshake) s.dial.consumer.acked)) m
 
   module _ (streams : s.dial.consumer.handshake ≡ handshake.Streaming) where
-    due_said : (a : VbAnswer) → CallsAs (Acknowledged old) (due_behind (record { next = DueNext; last = last; met = met }) a) (lift (due_met s (due_in a)))
+    due_said : (a : VbAnswer) → CallsAs (Acknowledged [] old) (due_behind (record { next = DueNext; last = last; met = met }) a) (lift (due_met s (due_in a)))
     due_said (answer.Num seq) =
         let may : nat_lt last seq ≡ may_acknowledge seq s.dial.consumer = λ i. is_streaming (sym streams i) && nat_lt (m.last i) seq in
-        subst (λ b. CallsAs (Acknowledged old) (record { next = if nat_lt last seq then StatNext seq else AnyOther; last = last; met = met })
+        subst (λ b. CallsAs (Acknowledged [] old) (record { next = if nat_lt last seq then StatNext seq else AnyOther; last = last; met = met })
         (lift (if b then prog.Call s.dial.consumer.dialed.vb call.Stat (λ reply. Done (acknowledged_result seq s (saved_of_reply reply))) else Done s)))
         may (meets seq (nat_lt last seq))
     due_said other = meets_none
 
-    due_replied : (reply : Option VbReply) → CallsAs (Acknowledged old) (due_behind (record { next = DueNext; last = last; met = met }) (said reply)) (lift (due_met s (due_of_reply reply)))
+    due_replied : (reply : Option VbReply) → CallsAs (Acknowledged [] old) (due_behind (record { next = DueNext; last = last; met = met }) (said reply)) (lift (due_met s (due_of_reply reply)))
     due_replied None = meets_none
     due_replied (Some r) = due_said r.answer
 
     -- what is due is asked
-    pub asks_due : CallsAs (Acknowledged old) (record { next = DueNext; last = last; met = met }) (lift (due_requested s))
+    pub asks_due : CallsAs (Acknowledged [] old) (record { next = DueNext; last = last; met = met }) (lift (due_requested s))
     unfolding due_requested
     asks_due =
-        subst (λ b. CallsAs (Acknowledged old) (record { next = DueNext; last = last; met = met })
+        subst (λ b. CallsAs (Acknowledged [] old) (record { next = DueNext; last = last; met = met })
         (lift (if b then prog.Call s.dial.consumer.dialed.vb call.Due (λ reply. due_met s (due_of_reply reply)) else Done s)))
         (ap is_streaming (sym streams)) (tt, λ reply. due_replied reply)
 
 -- a link that is over asks nothing
-over_asks : (old s : DialResult) (d : Dues) (why : EndReason) → Acknowledged old d s → CallsAs (Acknowledged old) d (lift (due_requested (over_for why s)))
+over_asks : (old s : DialResult) (d : Dues) (why : EndReason) → Acknowledged [] old d s → CallsAs (Acknowledged [] old) d (lift (due_requested (over_for why s)))
 unfolding due_requested
 over_asks old s d why m = over_told old s d why m
 
@@ -177,9 +187,9 @@ none_told : (dialed : Dialed) (changes : List Change) → filter_map seqnos_of_l
 none_told dialed [] = refl
 none_told dialed (c ∷ changes) = none_told dialed changes
 
-module _ (old s : DialResult) (last : ℕ) (met : List (ℕ × ℕ)) (m : Acknowledged old (free last met) s) where
+module _ (old s : DialResult) (last : ℕ) (met : List (ℕ × ℕ)) (m : Acknowledged [] old (free last met) s) where
   message_said : s.dial.consumer.handshake ≡ handshake.Streaming → (r : VbReply) (a : VbAnswer)
-      → CallsAs (Acknowledged old) (message_behind (free last met) a) (lift (due_requested (taken_as r s a)))
+      → CallsAs (Acknowledged [] old) (message_behind (free last met) a) (lift (due_requested (taken_as r s a)))
   message_said streams r (answer.Range ss se) =
       let line : Event = event.Ranged s.dial.consumer.dialed.node s.dial.consumer.dialed.vb ss se in
       asks_due old (with_line s line) last met (lines_told old s (free last met) (line ∷ []) (one_own s.dial.consumer.dialed line (refl, refl)) refl m) streams
@@ -190,11 +200,11 @@ module _ (old s : DialResult) (last : ℕ) (met : List (ℕ × ℕ)) (m : Acknow
   message_said streams r other = over_asks old s (free last met) reason.Protocol m
 
   message_replied : s.dial.consumer.handshake ≡ handshake.Streaming → (reply : Option VbReply)
-      → CallsAs (Acknowledged old) (message_behind (free last met) (said reply)) (lift (due_requested (message_result s reply)))
+      → CallsAs (Acknowledged [] old) (message_behind (free last met) (said reply)) (lift (due_requested (message_result s reply)))
   message_replied streams None = over_asks old s (free last met) reason.Protocol m
   message_replied streams (Some r) = message_said streams r r.answer
 
-  message_calls : s.dial.consumer.handshake ≡ handshake.Streaming → (c : VbCall) → IsMessage c → CallsAs (Acknowledged old) (free last met) (lift (call_made c s))
+  message_calls : s.dial.consumer.handshake ≡ handshake.Streaming → (c : VbCall) → IsMessage c → CallsAs (Acknowledged [] old) (free last met) (lift (call_made c s))
   unfolding call_made
   message_calls streams (call.Marker start end) message = (tt, λ reply. message_replied streams reply)
   message_calls streams (call.Receive change) message = (tt, λ reply. message_replied streams reply)
@@ -202,7 +212,7 @@ module _ (old s : DialResult) (last : ℕ) (met : List (ℕ × ℕ)) (m : Acknow
 
   -- a log
   granted_asks : s.dial.consumer.handshake ≡ handshake.Asking → (log : List LogEntry)
-      → CallsAs (Acknowledged old) (record { next = DueNext; last = last; met = met }) (lift (due_requested (granted_with log s)))
+      → CallsAs (Acknowledged [] old) (record { next = DueNext; last = last; met = met }) (lift (due_requested (granted_with log s)))
   granted_asks asks log =
       let c = s.dial.consumer in
       let given : DialResult = with_consumer s (granted c) in
@@ -211,32 +221,32 @@ module _ (old s : DialResult) (last : ℕ) (met : List (ℕ × ℕ)) (m : Acknow
       (lines_told old given (free last met) (line ∷ []) (one_own c.dialed line (refl, refl)) refl (moved_told old s (free last met) (streaming c.handshake) m)) (ap streaming asks)
 
   log_said : s.dial.consumer.handshake ≡ handshake.Asking → (log : List LogEntry) (a : VbAnswer)
-      → CallsAs (Acknowledged old) (log_behind (free last met) a) (lift (due_requested (if is_done_answer a then granted_with log s else over_for reason.Protocol s)))
+      → CallsAs (Acknowledged [] old) (log_behind (free last met) a) (lift (due_requested (if is_done_answer a then granted_with log s else over_for reason.Protocol s)))
   log_said asks log answer.Done = granted_asks asks log
   log_said asks log other = over_asks old s (free last met) reason.Protocol m
 
   log_replied : s.dial.consumer.handshake ≡ handshake.Asking → (log : List LogEntry) (reply : Option VbReply)
-      → CallsAs (Acknowledged old) (log_behind (free last met) (said reply)) (lift (due_requested (adopt_result log s reply)))
+      → CallsAs (Acknowledged [] old) (log_behind (free last met) (said reply)) (lift (due_requested (adopt_result log s reply)))
   log_replied asks log None = over_asks old s (free last met) reason.Protocol m
   log_replied asks log (Some r) = log_said asks log r.answer
 
-  log_calls : s.dial.consumer.handshake ≡ handshake.Asking → (log : List LogEntry) → CallsAs (Acknowledged old) (free last met) (lift (go_on_with log s))
+  log_calls : s.dial.consumer.handshake ≡ handshake.Asking → (log : List LogEntry) → CallsAs (Acknowledged [] old) (free last met) (lift (go_on_with log s))
   unfolding go_on_with
   log_calls asks log = (tt, λ reply. log_replied asks log reply)
 
   -- a request once the vBucket went back
-  again_result_so : (ask : StreamAsk) (h : Handshake) → Acknowledged old (free last met) (again_with s (again_by h ask s.dial.consumer))
+  again_result_so : (ask : StreamAsk) (h : Handshake) → Acknowledged [] old (free last met) (again_with s (again_by h ask s.dial.consumer))
   again_result_so ask handshake.Asking =
       let c = s.dial.consumer in
-      either (λ a. Acknowledged old (free last met) (again_with s a)) (nat_lt c.asked (2 ^ 32 - 1)) (request_again ask c) (ended_for reason.Protocol c, [])
+      either (λ a. Acknowledged [] old (free last met) (again_with s a)) (nat_lt c.asked (2 ^ 32 - 1)) (request_again ask c) (ended_for reason.Protocol c, [])
       (asked_told old s (free last met) ask m) (silent_told old s (free last met) (ended_for reason.Protocol c) refl refl refl m)
   again_result_so ask other = silent_told old s (free last met) s.dial.consumer refl refl refl m
 
-  again_if_told : (ask : Option StreamAsk) → Acknowledged old (free last met) (again_result s ask)
+  again_if_told : (ask : Option StreamAsk) → Acknowledged [] old (free last met) (again_result s ask)
   again_if_told None = over_told old s (free last met) reason.Protocol m
   again_if_told (Some ask) = again_result_so ask s.dial.consumer.handshake
 
-  once_more_calls : CallsAs (Acknowledged old) (free last met) (lift (requested_once_more s))
+  once_more_calls : CallsAs (Acknowledged [] old) (free last met) (lift (requested_once_more s))
   once_more_calls = (tt, λ reply. again_if_told (follower_ask reply))
 
 -- a rollback leaves where the calls stand
@@ -275,8 +285,8 @@ module _ (v last : ℕ) (met : List (ℕ × ℕ)) where
   unfolding Rolls roll_job
   rolls named = (tt, λ reply. goes_back named reply)
 
-module _ (old s : DialResult) (last : ℕ) (met : List (ℕ × ℕ)) (m : Acknowledged old (free last met) s) where
-  rolled_calls : (point : ℕ) (came : Rolled) → CallsAs (Acknowledged old) (free last met) (lift (rolled_back point s came))
+module _ (old s : DialResult) (last : ℕ) (met : List (ℕ × ℕ)) (m : Acknowledged [] old (free last met) s) where
+  rolled_calls : (point : ℕ) (came : Rolled) → CallsAs (Acknowledged [] old) (free last met) (lift (rolled_back point s came))
   rolled_calls point (rolled.To to) =
       let line : Event = rolled_line s.dial.consumer.dialed point to in
       once_more_calls old (with_line s line) last met (lines_told old s (free last met) (line ∷ []) (one_own s.dial.consumer.dialed line (refl, refl)) refl m)
@@ -285,60 +295,51 @@ module _ (old s : DialResult) (last : ℕ) (met : List (ℕ × ℕ)) (m : Acknow
   rolled_calls point rolled.DiskFailed = over_told old s (free last met) reason.Disk m
   rolled_calls point (rolled.Damaged place) = over_told old s (free last met) reason.Disk m
 
-  roll_calls : (point : ℕ) → CallsAs (Acknowledged old) (free last met) (roll_back point s)
+  roll_calls : (point : ℕ) → CallsAs (Acknowledged [] old) (free last met) (roll_back point s)
   unfolding roll_back Rolls Stays
   roll_calls point =
-      calls_bind (Stays (free last met)) (Acknowledged old) (free last met) (roll_job s.dial.consumer.dialed.vb point) (λ came. lift (rolled_back point s came))
+      calls_bind (Stays (free last met)) (Acknowledged [] old) (free last met) (roll_job s.dial.consumer.dialed.vb point) (λ came. lift (rolled_back point s came))
       (rolls s.dial.consumer.dialed.vb last met point)
-      (λ e came same. subst (λ d. CallsAs (Acknowledged old) d (lift (rolled_back point s came))) (sym same) (rolled_calls point came))
+      (λ e came same. subst (λ d. CallsAs (Acknowledged [] old) d (lift (rolled_back point s came))) (sym same) (rolled_calls point came))
 
   -- a frame
   step_calls : (t : ConsumerStep) → Follows s.dial.consumer.handshake t
-      → CallsAs (Acknowledged old) (free last met) (step_made t (with_consumer s (with_handshake s.dial.consumer (moved_by t s.dial.consumer.handshake))))
+      → CallsAs (Acknowledged [] old) (free last met) (step_made t (with_consumer s (with_handshake s.dial.consumer (moved_by s.dial.consumer.dialed.buffer t s.dial.consumer.handshake))))
   unfolding Follows FollowsIf
   step_calls (step.Adopt log) asks = log_calls old s last met m asks log
   step_calls (step.Roll point) follows = roll_calls point
   step_calls (step.Passive (passive.Call c)) follows = message_calls old s last met m follows.0 c follows.1
-  step_calls (step.Passive p) follows = moved_told old s (free last met) (moved_by (step.Passive p) s.dial.consumer.handshake) m
-  step_calls t follows = moved_told old s (free last met) (moved_by t s.dial.consumer.handshake) m
+  step_calls (step.Passive p) follows = moved_told old s (free last met) (moved_by s.dial.consumer.dialed.buffer (step.Passive p) s.dial.consumer.handshake) m
+  step_calls t follows = moved_told old s (free last met) (moved_by s.dial.consumer.dialed.buffer t s.dial.consumer.handshake) m
 
-frame_calls : (old : DialResult) (f : Frame) (d : Dues) (s : DialResult) → Acknowledged old d s → CallsAs (Acknowledged old) d (frame_taken f s)
+frame_calls : (old : DialResult) (f : Frame) (d : Dues) (s : DialResult) → Acknowledged [] old d s → CallsAs (Acknowledged [] old) d (frame_taken f s)
 unfolding frame_taken
 frame_calls old f d s m =
     let free_there : free d.last d.met ≡ d = λ i. record { next = sym m.next i; last = d.last; met = d.met } in
     let c = s.dial.consumer in
-    subst (λ e. CallsAs (Acknowledged old) e (step_made (frame_step c f) (with_consumer s (with_handshake c (moved_by (frame_step c f) c.handshake))))) free_there
-    (step_calls old s d.last d.met (subst (λ e. Acknowledged old e s) (sym free_there) m) (frame_step c f) (step_follows c f))
+    subst (λ e. CallsAs (Acknowledged [] old) e (step_made (frame_step c f) (with_consumer s (with_handshake c (moved_by c.dialed.buffer (frame_step c f) c.handshake))))) free_there
+    (step_calls old s d.last d.met (subst (λ e. Acknowledged [] old e s) (sym free_there) m) (frame_step c f) (step_follows c f))
 
-fault_told : (old s : DialResult) (d : Dues) (fault : Option FrameFault) → Acknowledged old d s → Acknowledged old d (fault_met fault s)
+pub fault_told : (old s : DialResult) (d : Dues) (fault : Option FrameFault) → Acknowledged [] old d s → Acknowledged [] old d (fault_met fault s)
 fault_told old s d None m = m
-fault_told old s d (Some fault) m = either (Acknowledged old d) (is_over s.dial) s (over_for reason.Protocol s) m (over_told old s d reason.Protocol m)
+fault_told old s d (Some fault) m = either (Acknowledged [] old d) (is_over s.dial) s (over_for reason.Protocol s) m (over_told old s d reason.Protocol m)
 
-end_told_so : (old s : DialResult) (d : Dues) (why : Option EndReason) → Acknowledged old d s → Acknowledged old d (with_end_line why s)
-end_told_so old s d None m = m
-end_told_so old s d (Some why) m =
-    let line : Event = event.Ended s.dial.consumer.dialed.link why in
-    either (Acknowledged old d) (is_broken (Some why)) s (with_line s line) m (lines_told old s d (line ∷ []) (one_own s.dial.consumer.dialed line refl) refl m)
-
--- bytes
-pub bytes_acknowledge : (piece : List ℕ) (dial : PlainDial) → CallsAs (Acknowledged (untold dial)) (begins AnyOther dial) (dial_bytes piece dial)
-unfolding bytes_taken frames_taken
-bytes_acknowledge piece dial =
-    let bytes : List ℕ = dial.heard ++ piece in
-    let old : DialResult = untold dial in
-    let link : KeepsLink old (with_left old bytes) = record { dialed = refl; writes = ([], refl, omega arith); lines = ([], refl, All-nil (IsOfDial dial.consumer.dialed)) } in
-    let start : Acknowledged old (begins AnyOther dial) (with_left old bytes) = record { next = refl; last = refl; link = link; written = refl; told = refl } in
-    calls_bind (Acknowledged old) (Acknowledged old) (begins AnyOther dial) (each_job frame_taken (frames_in bytes) (with_left old bytes)) rest_met
-    (calls_each (Acknowledged old) frame_taken (frame_calls old) (begins AnyOther dial) (frames_in bytes) (Ended (with_left old bytes)) start)
-    (λ d t m. end_told_so old (fault_met (front_fault t.dial.heard) t) d (over_why (fault_met (front_fault t.dial.heard) t).dial.consumer.handshake)
-    (fault_told old t d (front_fault t.dial.heard) m))
+-- the frames of a delivery, and bytes that begin none
+pub frames_acknowledge : (bytes : List ℕ) (dial : PlainDial)
+    → CallsAs (Acknowledged [] (with_left (untold dial) bytes)) (begins AnyOther dial) (frames_taken (frames_in bytes) (with_left (untold dial) bytes))
+unfolding frames_taken
+frames_acknowledge bytes dial =
+    let old : DialResult = with_left (untold dial) bytes in
+    let link : KeepsLink old old = record { dialed = refl; writes = ([], refl, omega arith); lines = ([], refl, All-nil (IsOfDial dial.consumer.dialed)) } in
+    let start : Acknowledged [] old (begins AnyOther dial) old = record { next = refl; last = refl; link = link; written = refl; told = refl; counted = refl; heard = refl } in
+    calls_each (Acknowledged [] old) frame_taken (frame_calls old) (begins AnyOther dial) (frames_in bytes) (Ended old) start
 
 -- more is written down
-pub due_acknowledges : (dial : PlainDial) → dial.consumer.handshake ≡ handshake.Streaming → CallsAs (Acknowledged (untold dial)) (begins DueNext dial) (lift (dial_due dial))
+pub due_acknowledges : (dial : PlainDial) → dial.consumer.handshake ≡ handshake.Streaming → CallsAs (Acknowledged [] (untold dial)) (begins DueNext dial) (lift (dial_due dial))
 due_acknowledges dial streams =
     let old : DialResult = untold dial in
     let link : KeepsLink old old = record { dialed = refl; writes = ([], refl, omega arith); lines = ([], refl, All-nil (IsOfDial dial.consumer.dialed)) } in
-    asks_due old old dial.consumer.acked [] (record { next = refl; last = refl; link = link; written = refl; told = refl }) streams
+    asks_due old old dial.consumer.acked [] (record { next = refl; last = refl; link = link; written = refl; told = refl; counted = refl; heard = refl }) streams
 
 not_streaming : (h : Handshake) → (h ≡ handshake.Streaming → ⊥) → is_streaming h ≡ false
 not_streaming handshake.Streaming idle = elim (idle refl) [ ]

@@ -1,6 +1,6 @@
 -- what a dial may do, whatever its vBucket replies and its journal answers
 use Rattle.std.proofs.Common.{◌≡◌, ℕ, ◌+◌, Bool, true, false, List, [], ◌∷◌, ◌++◌, map, refl, sym, subst, ap, ◌∙◌, arith, append_assoc, append-nil, Option, Some, None, Result, Ok, Err}
-use Rattle.std.specs.Prelude.{◌==◌, ◌-◌, ◌^◌, nat_lt, if◌then◌else◌, is_some}
+use Rattle.std.specs.Prelude.{◌==◌, ◌||◌, ◌-◌, ◌^◌, nat_lt, min, if◌then◌else◌, is_some}
 use Rattle.std.specs.List.{fold, All}
 use Rattle.std.proofs.lemmas.List.Elements.{All-nil, All-cons, All-append}
 use Rattle.std.specs.Option.{option_map}
@@ -48,10 +48,11 @@ use Rattle.dcp_consumer.specs.declared.handshake.Handshake.TheVariants as handsh
 use Rattle.dcp_consumer.specs.declared.passive_stream.Passive.{Passive}
 use Rattle.dcp_consumer.specs.declared.passive_stream.Passive.TheVariants as passive
 use Rattle.dcp_consumer.specs.PassiveStreams.{set_change, remove_change, prepare_change, resolved_change, commit_act, flag_of, call_of_message, called, passive_of, passive_read}
+use Rattle.dcp_consumer.specs.Counting.{counted_bytes, bytes_acknowledged}
 use Rattle.dcp_consumer.specs.Machine.{PlainConsumer, over_why, is_awaited, status_step, verdict_step, answered_with, stream_step, answer_step, response_step, message_step, frame_step, with_handshake, moved_by, consumer_step, granted, ended_for, request_again, again_by, is_streaming, may_acknowledge, acknowledged}
 use Rattle.dcp_consumer.specs.declared.handshake.Dialed.{Dialed}
-use Rattle.node_core.specs.Conduct.{IsFollowing, FollowsAt, RollsAt, Writes, Asks, Acknowledges, asks_in, writes_past, IsOfDial, KeepsLink}
-use Rattle.node_core.specs.Dials.{PlainDial, DialResult, untold, is_broken, is_over, with_consumer, with_line, with_left, over_for, adopted_line, granted_with, is_done, adopt_result, acknowledged_line, acknowledged_result, saved_of_reply, due_of_reply, due_met, due_requested, go_on_with, follower_ask, again_with, again_result, requested_once_more, rolled_line, rolled_back, roll_back, got_line, taken_as, message_result, call_made, passive_made, step_made, frame_taken, frames_taken, fault_met, with_end_line, with_last_line, rest_met, bytes_taken, dial_bytes}
+use Rattle.node_core.specs.Conduct.{IsFollowing, FollowsAt, RollsAt, Writes, Asks, Acknowledges, AcknowledgesBytes, asks_in, writes_past, IsOfDial, KeepsLink}
+use Rattle.node_core.specs.Dials.{PlainDial, DialResult, untold, is_broken, is_over, with_consumer, with_line, with_left, over_for, adopted_line, granted_with, is_done, adopt_result, acknowledged_line, acknowledged_result, saved_of_reply, due_of_reply, due_met, due_requested, go_on_with, follower_ask, again_with, again_result, requested_once_more, rolled_line, rolled_back, roll_back, got_line, taken_as, message_result, call_made, passive_made, step_made, frame_taken, frames_taken, fault_met, bytes_counted, with_end_line, with_last_line, rest_met, bytes_taken, dial_bytes}
 
 -- one of two
 pub either : {A : Type 0} (P : A → Type 0) (b : Bool) (x y : A) → P x → P y → P (if b then x else y)
@@ -134,12 +135,12 @@ pub step_follows : (c : PlainConsumer) (f : Frame) → Follows c.handshake (fram
 unfolding Follows frame_step
 step_follows c f =
     let h = c.handshake in
-    let response = response_step h c.asked f in
+    let response = response_step c.dialed.buffer h c.asked f in
     let message = message_step h f in
     let any : ConsumerStep = if f.magic == RESPONSE then response else message in
     either (Follows h) (is_some (over_why h)) step.Dropped any tt
     (either (Follows h) (f.magic == RESPONSE) response message
-    (either (Follows h) (is_awaited h c.asked f) (answer_step h f) step.Dropped (answer_follows h f) tt)
+    (either (Follows h) (is_awaited c.dialed.buffer h c.asked f) (answer_step h f) step.Dropped (answer_follows h f) tt)
     (message_step_follows h f))
 
 -- some writes, and then others
@@ -156,11 +157,15 @@ writes_append vb asked (Asks ask ∷ more) rest =
 writes_append vb asked (Acknowledges seq ∷ more) rest =
     let first : List ℕ = spelling (dcp_frame (msg.SeqnoAcknowledged seq) asked vb) in
     ap (λ l. first ++ l) (writes_append vb asked more rest) ∙ sym (append_assoc first (writes_past vb asked more) (writes_past vb (asked + asks_in more) rest))
+writes_append vb asked (AcknowledgesBytes bytes ∷ more) rest =
+    let first : List ℕ = spelling (dcp_frame (msg.BufferAcknowledgement bytes) asked 0) in
+    ap (λ l. first ++ l) (writes_append vb asked more rest) ∙ sym (append_assoc first (writes_past vb asked more) (writes_past vb (asked + asks_in more) rest))
 
 pub asks_append : (more rest : List Writes) → asks_in (more ++ rest) ≡ asks_in more + asks_in rest
 asks_append [] rest = omega arith
 asks_append (Asks ask ∷ more) rest = omega (arith, asks_append more rest)
 asks_append (Acknowledges seq ∷ more) rest = asks_append more rest
+asks_append (AcknowledgesBytes bytes ∷ more) rest = asks_append more rest
 
 -- one more request or acknowledgement
 abbrev pub wrote_keeps : (old s : DialResult) (c : PlainConsumer) (w : Writes) (bytes : List ℕ) → c.dialed ≡ s.dial.consumer.dialed → c.asked ≡ s.dial.consumer.asked + asks_in (w ∷ [])
@@ -374,6 +379,15 @@ fault_keeps : (old s : DialResult) (fault : Option FrameFault) → KeepsLink old
 fault_keeps old s None kept = kept
 fault_keeps old s (Some fault) kept = either (KeepsLink old) (is_over s.dial) s (over_for reason.Protocol s) kept (over_keeps old s reason.Protocol kept)
 
+-- an acknowledgement of bytes
+counted_keeps : (old s : DialResult) (frames : List Frame) → KeepsLink old s → KeepsLink old (bytes_counted frames s)
+unfolding bytes_counted
+counted_keeps old s frames kept =
+    let c = s.dial.consumer in
+    let wrote : List ℕ = bytes_acknowledged (counted_bytes frames) c in
+    either (KeepsLink old) (is_over s.dial || c.dialed.buffer == 0 || counted_bytes frames == 0) s (again_with s (c, wrote)) kept
+    (wrote_keeps old s c (AcknowledgesBytes (min (counted_bytes frames) (2 ^ 32 - 1))) wrote refl (omega arith) (sym (append-nil wrote)) kept)
+
 end_keeps : (old s : DialResult) (why : Option EndReason) → KeepsLink old s → KeepsLink old (with_end_line why s)
 end_keeps old s None kept = kept
 end_keeps old s (Some why) kept = either (KeepsLink old) (is_broken (Some why)) s (with_line s (event.Ended s.dial.consumer.dialed.link why)) kept
@@ -392,20 +406,22 @@ bytes_follow piece dial =
     let start : KeepsLink s (with_left s bytes) = record { dialed = refl; writes = ([], refl, omega arith); lines = ([], refl, All-nil (IsOfDial dial.consumer.dialed)) } in
     let calls : ℕ → VbCall → Type 0 = FollowsAt dial.consumer.dialed.vb in
     let requests : ℕ → Ask → Type 0 = RollsAt dial.consumer.dialed.vb in
-    always_bind_job AnyReply calls requests (KeepsLink s) (KeepsLink s) (each_job frame_taken (frames_in bytes) (with_left s bytes)) rest_met
+    always_bind_job AnyReply calls requests (KeepsLink s) (KeepsLink s) (each_job frame_taken (frames_in bytes) (with_left s bytes)) (rest_met (frames_in bytes))
     (always_each_job AnyReply calls requests (KeepsLink s) frame_taken (λ f t kept. frame_keeps s f t kept) (frames_in bytes) (Ended (with_left s bytes)) start)
-    (λ t kept. all_keep s (fault_met (front_fault t.dial.heard) t) (fault_keeps s t (front_fault t.dial.heard) kept))
+    (λ t kept.
+    let met : DialResult = fault_met (front_fault t.dial.heard) t in
+    all_keep s (bytes_counted (frames_in bytes) met) (counted_keeps s met (frames_in bytes) (fault_keeps s t (front_fault t.dial.heard) kept)))
 
 -- a dial that is over takes no frame
 dropped : (c : PlainConsumer) (f : Frame) → is_some (over_why c.handshake) ≡ true → frame_step c f ≡ step.Dropped
 unfolding frame_step
-dropped c f over = ap (λ b. if b then step.Dropped else if f.magic == RESPONSE then response_step c.handshake c.asked f else message_step c.handshake f) over
+dropped c f over = ap (λ b. if b then step.Dropped else if f.magic == RESPONSE then response_step c.dialed.buffer c.handshake c.asked f else message_step c.handshake f) over
 
 skipped : (f : Frame) (s : DialResult) → is_over s.dial ≡ true → frame_taken f s ≡ Ended s
 unfolding frame_taken
 skipped f s over =
     let c = s.dial.consumer in
-    ap (λ t. step_made t (with_consumer s (with_handshake c (moved_by t c.handshake)))) (dropped c f over)
+    ap (λ t. step_made t (with_consumer s (with_handshake c (moved_by c.dialed.buffer t c.handshake)))) (dropped c f over)
 
 all_skipped : (fs : List Frame) (s : DialResult) → is_over s.dial ≡ true → each_job frame_taken fs s ≡ Ended s
 all_skipped [] s over = refl
@@ -415,13 +431,20 @@ fault_skipped : (fault : Option FrameFault) (s : DialResult) → is_over s.dial 
 fault_skipped None s over = refl
 fault_skipped (Some fault) s over = ap (λ b. if b then s else over_for reason.Protocol s) over
 
+counted_skipped : (frames : List Frame) (s : DialResult) → is_over s.dial ≡ true → bytes_counted frames s ≡ s
+unfolding bytes_counted
+counted_skipped frames s over =
+    let c = s.dial.consumer in
+    ap (λ b. if b || c.dialed.buffer == 0 || counted_bytes frames == 0 then s else again_with s (c, bytes_acknowledged (counted_bytes frames) c)) over
+
 pub bytes_skipped : (piece : List ℕ) (dial : PlainDial) → is_over dial ≡ true → dial_bytes piece dial ≡ Ended (with_last_line (with_left (untold dial) (dial.heard ++ piece)))
 unfolding bytes_taken frames_taken
 bytes_skipped piece dial over =
     let bytes : List ℕ = dial.heard ++ piece in
     let s : DialResult = with_left (untold dial) bytes in
-    ap (λ p. bind_job p rest_met) (all_skipped (frames_in bytes) s over)
-    ∙ ap (λ t. Ended (with_last_line t)) (fault_skipped (front_fault (left_of bytes)) s over)
+    ap (λ p. bind_job p (rest_met (frames_in bytes))) (all_skipped (frames_in bytes) s over)
+    ∙ ap (λ t. Ended (with_last_line (bytes_counted (frames_in bytes) t))) (fault_skipped (front_fault (left_of bytes)) s over)
+    ∙ ap (λ t. Ended (with_last_line t)) (counted_skipped (frames_in bytes) s over)
 
 pub others_stay : (piece : List ℕ) (dial : PlainDial) (states : States) (shelves : Shelves) (w : ℕ) → (w ≡ dial.consumer.dialed.vb → ⊥)
     → ((after_job (dial_bytes piece dial) states shelves).0.0 w ≡ states w) × ((after_job (dial_bytes piece dial) states shelves).0.1 w ≡ shelves w)

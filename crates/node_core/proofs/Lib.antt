@@ -3,6 +3,8 @@ pub mod Keys
 pub mod Admins
 pub mod Began
 pub mod Conduct
+pub mod Counted
+pub mod Deliveries
 pub mod FirstRecord
 mod LoadNumbers
 pub mod LoadSteps

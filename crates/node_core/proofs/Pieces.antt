@@ -1,7 +1,9 @@
 -- pieces of bytes, and bytes that begin no frame
-use Rattle.std.proofs.Common.{◌≡◌, ℕ, List, [], ◌++◌, drop, refl, sym, ap, ◌∙◌, append_assoc, append-nil, Option, Some, None, is_some}
-use Rattle.std.specs.Prelude.{if◌then◌else◌}
+use Rattle.std.proofs.Common.{◌≡◌, ℕ, Bool, true, List, [], ◌++◌, drop, refl, sym, ap, ◌∙◌, append_assoc, append-nil, Option, Some, None, is_some}
+use Rattle.std.specs.Prelude.{◌==◌, ◌||◌, if◌then◌else◌}
+use Rattle.std.proofs.lemmas.Bool.{or_right}
 use Rattle.std.specs.List.{sum_by}
+use Rattle.dcp_consumer.specs.Counting.{bytes_acknowledged, counted_bytes}
 use Rattle.dcp_consumer.specs.Machine.{over_why}
 use Rattle.mcbp_frame.proofs.Pieces.{fault_stays, frames-append, frames-spellings, left-append, left-spellings}
 use Rattle.mcbp_frame.specs.Cutting.{cut_len, front_fault, frames_in, left_of}
@@ -10,7 +12,7 @@ use Rattle.mcbp_frame.specs.declared.frame.FrameFault.{FrameFault}
 use Rattle.vb_calls.specs.Jobs.{Ended, bind_job, each_job}
 use Rattle.vb_events.specs.declared.event.EndReason.{EndReason}
 use Rattle.vb_events.specs.declared.event.EndReason.TheVariants as reason
-use Rattle.node_core.specs.Dials.{PlainDial, DialResult, with_last_line, bytes_taken, dial_bytes, with_end_line, fault_met, frame_taken, frames_taken, over_for, rest_met, untold}
+use Rattle.node_core.specs.Dials.{PlainDial, DialResult, is_over, bytes_counted, with_last_line, bytes_taken, dial_bytes, with_end_line, fault_met, frame_taken, frames_taken, over_for, rest_met, untold}
 use Rattle.node_core.specs.PieceLaws.{JoinsPieces, StopsAtFaults, WaitsForFrames}
 
 -- with no whole frame nothing is taken away
@@ -53,11 +55,20 @@ module _ (piece : List ℕ) (dial : PlainDial) where
   abbrev holding : List ℕ → DialResult
   holding left = record (untold dial) { dial = record dial { heard = left } }
 
+  -- no frame counts
+  none_counted : (s : DialResult) → bytes_counted [] s ≡ s
+  unfolding bytes_counted counted_bytes
+  none_counted s =
+      let c = s.dial.consumer in
+      let last : Bool = is_over s.dial || c.dialed.buffer == 0 in
+      ap (λ b. if b then s else record s { out = s.out ++ bytes_acknowledged 0 c }) (or_right last true refl)
+
   waits : frames_in bytes ≡ [] → dial_bytes piece dial ≡ Ended (with_last_line (fault_met (front_fault bytes) (holding bytes)))
   unfolding bytes_taken frames_taken
   waits none =
-      ap (λ fs. bind_job (each_job frame_taken fs (holding (left_of bytes))) rest_met) none
-      ∙ ap (λ left. Ended (with_last_line (fault_met (front_fault left) (holding left)))) (left_whole bytes none)
+      ap (λ fs. bind_job (each_job frame_taken fs (holding (left_of bytes))) (rest_met fs)) none
+      ∙ ap (λ left. Ended (with_last_line (bytes_counted [] (fault_met (front_fault left) (holding left))))) (left_whole bytes none)
+      ∙ ap (λ s. Ended (with_last_line s)) (none_counted (fault_met (front_fault bytes) (holding bytes)))
 
   abbrev met : Option EndReason → DialResult
   met o = if is_some o then holding bytes else over_for reason.Protocol (holding bytes)

@@ -1,9 +1,11 @@
 -- what a dial may do, whatever its vBucket replies and its journal answers
-use Rattle.std.specs.Prelude.{◌≡◌, ℕ, ◌+◌, nat_lt, if◌then◌else◌, List, [], ◌∷◌, ◌++◌, map, Option, Some, None}
+use Rattle.std.specs.Prelude.{◌≡◌, ◌<◌, ℕ, ◌+◌, nat_lt, min, if◌then◌else◌, List, [], ◌∷◌, ◌++◌, map, Option, Some, None, IsTrue}
 use Rattle.std.specs.List.{All, filter_map}
 use Rattle.mcbp_frame.specs.Spelling.{spelling}
+use Rattle.mcbp_frame.specs.declared.frame.Frame.{Frame}
 use Rattle.mcbp_dcp.specs.declared.message.DcpMsg.TheVariants as msg
 use Rattle.mcbp_dcp.specs.DcpFrames.{dcp_frame}
+use Rattle.vb_events.specs.declared.event.EndReason.{EndReason}
 use Rattle.vb_events.specs.declared.event.Event.{Event}
 use Rattle.vb_events.specs.declared.event.Event.TheVariants as event
 use Rattle.vb_events.specs.declared.event.StreamName.TheVariants as name
@@ -16,6 +18,8 @@ use Rattle.vb_calls.specs.declared.calls.VbReply.{VbReply}
 use Rattle.vb_calls.specs.Jobs.{Job, Ended, Call, Request}
 use Rattle.vb_calls.specs.Shelves.{Ask, Got, Append, Read, Keep, Idle}
 use Rattle.vb_types.specs.declared.journal.Record.TheVariants as noted
+use Rattle.dcp_consumer.specs.Counting.{counted_bytes, is_counted}
+use Rattle.dcp_consumer.specs.Machine.{over_why}
 use Rattle.dcp_consumer.specs.declared.handshake.Dialed.{Dialed}
 use Rattle.node_core.specs.Dials.{PlainDial, DialResult}
 
@@ -45,22 +49,25 @@ IsOfRoll other = ⊥
 abbrev pub RollsAt : ℕ → ℕ → Ask → Type 0
 RollsAt vb v ask = (v ≡ vb) × IsOfRoll ask
 
--- what a dial writes to its producer behind its first requests
+-- what a dial writes to its producer behind its first requests: a request for a stream, an acknowledgement of all up to a seqno, or one of so many bytes
 pub data Writes : Type 0 where
   Asks : StreamAsk → Writes
   Acknowledges : ℕ → Writes
+  AcknowledgesBytes : ℕ → Writes
 
 -- how many of these are requests for a stream
 abbrev pub asks_in : List Writes → ℕ
 asks_in [] = 0
 asks_in (Asks ask ∷ more) = 1 + asks_in more
 asks_in (Acknowledges seq ∷ more) = asks_in more
+asks_in (AcknowledgesBytes bytes ∷ more) = asks_in more
 
--- requests for a stream of the vBucket vb and acknowledgements as bytes: each request with the opaque that follows that of the one before, the first with the one that follows `asked`, and each acknowledgement with that of the last request
+-- requests for a stream of the vBucket vb and acknowledgements as bytes: each request with the opaque that follows that of the one before, the first with the one that follows `asked`, and each acknowledgement with that of the last request; one of bytes is of the connection, and names the vBucket 0
 abbrev pub writes_past : ℕ → ℕ → List Writes → List ℕ
 writes_past vb asked [] = []
 writes_past vb asked (Asks ask ∷ more) = spelling (dcp_frame (msg.StreamRequest ask) (asked + 1) vb) ++ writes_past vb (asked + 1) more
 writes_past vb asked (Acknowledges seq ∷ more) = spelling (dcp_frame (msg.SeqnoAcknowledged seq) asked vb) ++ writes_past vb asked more
+writes_past vb asked (AcknowledgesBytes bytes ∷ more) = spelling (dcp_frame (msg.BufferAcknowledgement bytes) asked 0) ++ writes_past vb asked more
 
 -- a line of a dial names its vBucket and node, or its link: a log that was taken over, a rollback, a snapshot that begins, a change that was taken, what was acknowledged, or the link's end
 abbrev pub IsOfDial : Dialed → Event → Type 0
@@ -149,19 +156,50 @@ CallsAs ends d (Request v ask next) = (got : Got ask) → CallsAs ends d (next g
 abbrev pub seqno_written : Writes → Option ℕ
 seqno_written (Asks ask) = None
 seqno_written (Acknowledges seq) = Some seq
+seqno_written (AcknowledgesBytes bytes) = None
+
+-- the number of an acknowledgement of bytes that is written
+abbrev pub bytes_written : Writes → Option ℕ
+bytes_written (Asks ask) = None
+bytes_written (Acknowledges seq) = None
+bytes_written (AcknowledgesBytes bytes) = Some bytes
 
 -- the two seqnos of a line that tells of one
 abbrev pub seqnos_of_line : Event → Option (ℕ × ℕ)
 seqnos_of_line (event.Acknowledged stream n v seq saved) = Some (seq, saved)
 seqnos_of_line other = None
 
--- Neither Due nor Stat is left to come, and what was written and told as acknowledged is what was to be acknowledged.
-pub record Acknowledged (old : DialResult) (d : Dues) (new : DialResult) : Type 0 where
+-- Neither Due nor Stat is left to come; what was written and told as acknowledged is what was to be acknowledged, and these numbers of bytes; and the bytes that came and are no whole frame yet stay as they were.
+pub record Acknowledged (bytes : List ℕ) (old : DialResult) (d : Dues) (new : DialResult) : Type 0 where
   pub next : d.next ≡ AnyOther
   pub last : d.last ≡ new.dial.consumer.acked
   pub link : KeepsLink old new
   pub written : filter_map seqno_written link.writes.0 ≡ map (λ (m : ℕ × ℕ). m.0) d.met
   pub told : filter_map seqnos_of_line link.lines.0 ≡ d.met
+  pub counted : filter_map bytes_written link.writes.0 ≡ bytes
+  pub heard : new.dial.heard ≡ old.dial.heard
+
+-- one of these frames counts
+abbrev pub SomeCounts : List Frame → Type 0
+SomeCounts frames = (before : List Frame) × (f : Frame) × (behind : List Frame) × (frames ≡ before ++ f ∷ behind) × IsTrue (is_counted f)
+
+-- What a dial acknowledges by bytes behind a delivery of these frames: where its link has a buffer and goes on, and one of them counts, how long those that count are together, or as much as a message can tell; else nothing.
+pub record OwesBytes (frames : List Frame) (dial : PlainDial) (bytes : List ℕ) : Type 0 where
+  pub owed : over_why dial.consumer.handshake ≡ None → 0 < dial.consumer.dialed.buffer → SomeCounts frames → bytes ≡ min (counted_bytes frames) 4294967295 ∷ []
+  pub over : (why : EndReason) → over_why dial.consumer.handshake ≡ Some why → bytes ≡ []
+  pub unbuffered : dial.consumer.dialed.buffer ≡ 0 → bytes ≡ []
+  pub uncounted : (SomeCounts frames → ⊥) → bytes ≡ []
+
+-- with these bytes heard, which are no whole frame yet
+abbrev pub with_heard : DialResult → List ℕ → DialResult
+with_heard s left = record s { dial = record s.dial { heard = left } }
+
+-- A delivery of these frames, behind which these bytes are left: they are kept, what was to be acknowledged is, and behind all else that is written, what is acknowledged by bytes.
+pub record Delivers (frames : List Frame) (left : List ℕ) (old : DialResult) (d : Dues) (new : DialResult) : Type 0 where
+  pub bytes : List ℕ
+  pub owes : OwesBytes frames new.dial bytes
+  pub acknowledged : Acknowledged bytes (with_heard old left) d new
+  pub last : (before : List Writes) × (acknowledged.link.writes.0 ≡ before ++ map AcknowledgesBytes bytes)
 
 -- a dial of which nothing is acknowledged yet, where this call comes next
 abbrev pub begins : NextCall → PlainDial → Dues

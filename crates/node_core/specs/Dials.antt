@@ -1,5 +1,5 @@
 -- the dial of a vBucket: what its consumer's steps ask for, as jobs over the node's vBuckets and their journals
-use Rattle.std.specs.Prelude.{ℕ, Bool, true, false, if◌then◌else◌, List, [], ◌∷◌, ◌++◌, map, Option, Some, None, is_some}
+use Rattle.std.specs.Prelude.{ℕ, ◌==◌, ◌||◌, Bool, true, false, if◌then◌else◌, List, [], ◌∷◌, ◌++◌, map, Option, Some, None, is_some}
 use Rattle.mcbp_frame.specs.declared.frame.Frame.{Frame}
 use Rattle.mcbp_frame.specs.declared.frame.FrameFault.{FrameFault}
 use Rattle.mcbp_frame.specs.Cutting.{front_fault, frames_in, left_of}
@@ -26,6 +26,7 @@ use Rattle.dcp_consumer.specs.declared.handshake.ConsumerStep.TheVariants as ste
 use Rattle.dcp_consumer.specs.declared.handshake.Dialed.{Dialed}
 use Rattle.dcp_consumer.specs.declared.passive_stream.Passive.{Passive}
 use Rattle.dcp_consumer.specs.declared.passive_stream.Passive.TheVariants as passive
+use Rattle.dcp_consumer.specs.Counting.{counted_bytes, bytes_acknowledged}
 use Rattle.dcp_consumer.specs.Machine.{PlainConsumer, dialed_consumer, over_why, ended_for, granted, again, consumer_step, is_streaming, may_acknowledge, acknowledged}
 use Rattle.node_core.specs.Calls.{named_ask}
 
@@ -219,6 +220,12 @@ abbrev pub fault_met : Option FrameFault → DialResult → DialResult
 fault_met None s = s
 fault_met (Some fault) s = if is_over s.dial then s else over_for reason.Protocol s
 
+-- the frames of a delivery that count are acknowledged by their bytes, where there are any, the link has a buffer, and is not over
+unfoldable pub bytes_counted : List Frame → DialResult → DialResult
+bytes_counted frames s =
+    if is_over s.dial || s.dial.consumer.dialed.buffer == 0 || counted_bytes frames == 0 then s
+    else record s { out = s.out ++ bytes_acknowledged (counted_bytes frames) s.dial.consumer }
+
 -- the link is over, as a rollback could not be written down
 abbrev pub is_broken : Option EndReason → Bool
 is_broken (Some reason.Disk) = true
@@ -233,13 +240,17 @@ with_end_line (Some why) s = if is_broken (Some why) then s else with_line s (ev
 abbrev pub with_last_line : DialResult → DialResult
 with_last_line s = with_end_line (over_why s.dial.consumer.handshake) s
 
--- the bytes that are left in the reader, and the end of the link
-abbrev pub rest_met : DialResult → Job DialResult
-rest_met s = Ended (with_last_line (fault_met (front_fault s.dial.heard) s))
+-- behind the frames of a delivery: the bytes that are left in the reader, what is acknowledged by its bytes, and the end of the link
+abbrev pub rest_met : List Frame → DialResult → Job DialResult
+rest_met frames s = Ended (with_last_line (bytes_counted frames (fault_met (front_fault s.dial.heard) s)))
+
+-- a delivery of these frames
+abbrev pub delivered : List Frame → DialResult → Job DialResult
+delivered frames s = bind_job (frames_taken frames s) (rest_met frames)
 
 -- the next bytes from the producer: the frames that are whole now are taken
 unfoldable pub bytes_taken : List ℕ → DialResult → Job DialResult
-bytes_taken piece s = bind_job (frames_taken (frames_in (s.dial.heard ++ piece)) (with_left s (s.dial.heard ++ piece))) rest_met
+bytes_taken piece s = delivered (frames_in (s.dial.heard ++ piece)) (with_left s (s.dial.heard ++ piece))
 
 -- the next bytes from the producer of a dial
 abbrev pub dial_bytes : List ℕ → PlainDial → Job DialResult

@@ -8,6 +8,7 @@ use Rattle.slab.specs.Slab.{get, Updates}
 use Rattle.client_session.specs.Serving.{PlainSession, KeptSession, Served, served, new_session, bytes_handled, outcome_handled, awaits}
 use Rattle.dcp_producer.specs.Ending.{end_closed}
 use Rattle.dcp_consumer.specs.Dialing.{requests}
+use Rattle.dcp_consumer.specs.declared.handshake.Dialed.{Dialed as Link}
 use Rattle.vb_events.specs.declared.event.Cause.{Cause}
 use Rattle.vb_events.specs.declared.event.Cause.TheVariants as cause
 use Rattle.vb_types.specs.declared.role.Role.{Role}
@@ -116,10 +117,9 @@ abbrev pub kept_unless : Bool → Conn → Option Conn
 kept_unless closed c = if closed then None else Some c
 
 -- a vBucket was asked, to dial: the dial that there is now, and the requests for its producer, or why there is none
-abbrev pub DialedAs : ℕ → ℕ → ℕ → Result StreamAsk Cause → List (ℕ × KeptDial) → NodeOut → List (ℕ × KeptDial) → Type 0
-DialedAs n v link (Err why) old out new = (out ≡ refused_out why) × (new ≡ old)
-DialedAs n v link (Ok ask) old out new =
-    (out ≡ done_out [] (requests n v ask)) × Renumbered old new v (Some (live_dial (new_dial (record { link = link; node = n; vb = v }))))
+abbrev pub DialedAs : Link → Result StreamAsk Cause → List (ℕ × KeptDial) → NodeOut → List (ℕ × KeptDial) → Type 0
+DialedAs link (Err why) old out new = (out ≡ refused_out why) × (new ≡ old)
+DialedAs link (Ok ask) old out new = (out ≡ done_out [] (requests link ask)) × Renumbered old new link.vb (Some (live_dial (new_dial link)))
 
 -- a dial, unless it is over
 abbrev pub dial_left : PlainDial → Option KeptDial
@@ -342,11 +342,11 @@ module _ {W J : Type 0} (step : W → ℕ → VbCall → Option VbReply → W �
     pub dials : Renumbered old.dials new.dials v (Some left)
     pub rest : new ≡ record old { vbs = new.vbs; dials = new.dials }
 
-  -- the vBucket v dials as the consumer of a link, unless it dialed already, or the link is not free
-  pub record Dialed (v link : ℕ) (is_free : Bool) (old : Node W J) (out : NodeOut) (new : Node W J) : Type 0 where
+  -- the vBucket v dials as the consumer of a link with this buffer, unless it dialed already, or the link is not free
+  pub record Dialed (v link buffer : ℕ) (is_free : Bool) (old : Node W J) (out : NodeOut) (new : Node W J) : Type 0 where
     pub said : Result StreamAsk Cause
     pub ran : Ran step (dial_requested v (is_free && not (is_some (value_at old.dials v)))) old.vbs said new.vbs
-    pub dials : DialedAs old.number v link said old.dials out new.dials
+    pub dials : DialedAs (record { link = link; node = old.number; vb = v; buffer = buffer }) said old.dials out new.dials
     pub rest : new ≡ record old { vbs = new.vbs; dials = new.dials }
 
 module _ {W J : Type 0} (step : W → ℕ → VbCall → Option VbReply → W → Type 0) (asks : J → ℕ → (ask : Ask) → Got ask → J → Type 0) where

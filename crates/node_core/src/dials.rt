@@ -1,17 +1,18 @@
 //! The dial of a vBucket: its consumer, and the calls that the consumer's steps ask for.
 ghost use Rattle.std.specs.Prelude.{◌≡◌, ◌++◌, map, [], false, true, IfOk, OnOk, OnErr, IsOk};
 ghost use Rattle.dcp_consumer.specs.{Dialing.{requests}, Machine.{over_why}};
-ghost use Rattle.node_core.specs.Dials.{DialResult, new_dial, is_over, untold, over_for, adopt_result, go_on_with, requested_once_more, rolled_back, roll_back, got_line, acknowledged_line, acknowledged_result, due_met, due_requested, dial_due, taken_as, message_result, call_made, step_made, frame_taken, frames_taken, fault_met, with_last_line, bytes_taken, dial_bytes};
+ghost use Rattle.node_core.specs.Dials.{DialResult, new_dial, is_over, untold, over_for, adopt_result, go_on_with, requested_once_more, rolled_back, roll_back, got_line, acknowledged_line, acknowledged_result, due_met, due_requested, dial_due, taken_as, message_result, call_made, step_made, frame_taken, frames_taken, dial_bytes};
 ghost use Rattle.{node_core.specs.Outs.{cut_line, dial_answer, dial_out, done_out}, vb_calls.specs.Jobs.{RanJob, BeganJob}, vb_calls.specs.Programs.{Ran, Began}};
 ghost use Rattle.vb_events.specs.declared.event.Event.TheVariants.{Ended};
 
+mod deliveries;
 mod replies;
 
 use crate::out::bytes_of;
 use crate::{Alloc, NodeOut};
 use bytes::{Bytes, BytesMut};
 use dcp_consumer::{Consumer, ConsumerStep, Dialed, Passive};
-use mcbp_frame::{Frame, FrameFault, FrameReader};
+use mcbp_frame::{Frame, FrameReader};
 use replies::{due_of_reply, follower_ask, is_done, saved_of_reply};
 use std::alloc::{AllocError, Global};
 use std::marker::Model;
@@ -98,7 +99,7 @@ impl DialTurn {
         ensures link { self.new.dial.consumer.dialed ≡ self.old.dial.consumer.dialed }
     {
         self.consumer.acknowledge(seq, &mut self.out)?;
-        let Dialed { link, node, vb } = self.consumer.dialed();
+        let Dialed { link, node, vb, .. } = self.consumer.dialed();
         self.events.push(Event::Acknowledged {
             stream: StreamName::Link(link),
             node,
@@ -231,7 +232,7 @@ impl DialTurn {
         ensures ok { OnOk result (self.new ≡ record self.old { events = self.old.events ++ map (got_line self.old.dial.consumer.dialed) changes.now }) }
         ensures link { self.new.dial.consumer.dialed ≡ self.old.dial.consumer.dialed }
     {
-        let Dialed { link, node, vb } = self.consumer.dialed();
+        let Dialed { link, node, vb, .. } = self.consumer.dialed();
         for change in changes {
             let change = change.copy()?;
             self.events.push(Event::Got {
@@ -327,52 +328,6 @@ impl DialTurn {
         }
         Ok(())
     }
-
-    /// Bytes that begin no frame, whatever follows, end the link.
-    fn meet_fault(&mut self, fault: Option<FrameFault>)
-        ensures { self.new ≡ fault_met fault self.old }
-    {
-        if fault.is_some() && self.consumer.over().is_none() {
-            self.consumer.end(EndReason::Protocol);
-        }
-    }
-
-    /// Tells why the link is over, where it is. That the disk is why is left to who called: what befell
-    /// the disk comes before it.
-    fn tell_end(&mut self) -> Alloc<()>
-        ensures ok { OnOk result (self.new ≡ with_last_line self.old) }
-        ensures link { self.new.dial.consumer.dialed ≡ self.old.dial.consumer.dialed }
-    {
-        match self.consumer.over() {
-            None | Some(EndReason::Disk) => Ok(()),
-            Some(reason) => {
-                let line = self.ended(reason);
-                self.events.push(line)
-            }
-        }
-    }
-
-    /// Takes the next bytes from the producer.
-    #[tactic(auto, using(vb_calls::proofs::JobRuns::jobs), unfolding(crate::specs::Dials::bytes_taken))]
-    fn take_bytes<A: VbAccess, J: Journals>(
-        &mut self,
-        vbs: &mut A,
-        disks: &mut J,
-        piece: &[u8],
-    ) -> Alloc<()>
-        ensures ok { OnOk result (RanJob A.step J.asks (bytes_taken piece.now self.old) vbs.old disks.old self.new vbs.new disks.new) }
-        ensures err { OnErr result (BeganJob A.step J.asks (bytes_taken piece.now self.old) vbs.old disks.old vbs.new disks.new) }
-        ensures link { self.new.dial.consumer.dialed ≡ self.old.dial.consumer.dialed }
-    {
-        self.reader.feed(piece)?;
-        let frames = self.reader.frames()?;
-        let taken = self.take_frames(vbs, disks, &frames);
-        drop(frames);
-        taken?;
-        let fault = self.reader.fault()?;
-        self.meet_fault(fault);
-        self.tell_end()
-    }
 }
 
 /// A vBucket's dial. After want of memory it is spent, and does nothing any more.
@@ -397,7 +352,7 @@ impl Dial {
     /// A new dial, whose requests are appended.
     pub fn new(alloc: Global, dialed: Dialed, ask: StreamAsk, out: &mut BytesMut) -> Alloc<Dial>
         ensures dial { IfOk result (λ dial. dial ≡ record { plain = new_dial dialed; spent = false }) }
-        ensures requests { OnOk result (out.new.items ≡ out.old.items ++ requests dialed.node dialed.vb ask) }
+        ensures requests { OnOk result (out.new.items ≡ out.old.items ++ requests dialed ask) }
     {
         Ok(Dial {
             turn: DialTurn {

@@ -6,12 +6,15 @@ ghost use Rattle.{durability.specs.Chains.{Links}, node_core.specs.Resolving.{Do
 ghost use Rattle.{node_core.specs.Admin.{AdminResult, admin_job, admin_lines, admin_result, stat_result}, node_core.specs.Flushing.{FlushResult, activity_of_reply, chain_changed, flush_answered, flush_at, flush_result, ticked}, node_core.specs.Noting.{Gives, ChangesRole, FlushesAt, NotesFirst}};
 ghost use Rattle.{node_core.specs.declared.admin.AdminCall.{AdminCall as TheCall}, vb_types.specs.declared.role.Role.{Role as TheRole}, vb_types.specs.declared.journal.FlushPart.{FlushPart as ThePart}};
 ghost use Rattle.{node_core.specs.Calls.{branch_lines}, node_core.specs.Loading.{start_result}, vb_calls.specs.declared.calls.Resolved.{Resolved as Outcome}, vb_types.specs.declared.change.Change.{Change}};
-ghost use Rattle.{node_core.specs.Conduct.{AnyOther, DueNext, CallsAs, Acknowledged, begins}, node_core.specs.Dials.{dial_due}, vb_calls.specs.Jobs.{lift}, vb_calls.specs.Programs.{Done}};
+ghost use Rattle.{mcbp_frame.specs.Cutting.{frames_in, left_of}, node_core.specs.Conduct.{AnyOther, DueNext, CallsAs, Acknowledged, Delivers, begins}, node_core.specs.Dials.{dial_due}, vb_calls.specs.Jobs.{lift}, vb_calls.specs.Programs.{Done}};
+ghost use Rattle.{dcp_producer.specs.Producers.{Served as Put}, node_core.specs.Peers.{pull_result}};
 ghost use Rattle.dcp_consumer.specs.declared.handshake.Handshake.TheVariants as handshake;
+ghost use Rattle.dcp_producer.specs.declared.halt.Halt.TheVariants as halt;
 ghost use Rattle.node_core.specs.declared.admin.AdminCall.TheVariants as admin;
 ghost use Rattle.vb_events.specs.declared.event.Answer.TheVariants as line;
 ghost use Rattle.vb_events.specs.declared.event.Cause.TheVariants as cause;
 ghost use Rattle.vb_events.specs.declared.event.Event.TheVariants as event;
+ghost use Rattle.vb_events.specs.declared.event.Why.TheVariants as why;
 ghost use Rattle.vb_calls.specs.declared.calls.VbAnswer.TheVariants as answer;
 ghost use Rattle.vb_calls.specs.declared.calls.VbCall.TheVariants as call;
 ghost use Rattle.vb_calls.specs.declared.journals.Flushed.TheVariants as flushed;
@@ -29,7 +32,8 @@ pub fn node_limits()
 
 /// A dial calls its own vBucket alone, and only as a follower, and asks its own journal alone, and only
 /// to roll back. It hands out nothing but requests for a stream, each with the next opaque, and
-/// acknowledgements, tells lines of its own vBucket and link alone, and stays that of its link.
+/// acknowledgements of seqnos and of bytes, tells lines of its own vBucket and link alone, and stays
+/// that of its link.
 pub fn dials_follow()
     ensures { (piece : List ℕ) (dial : PlainDial)
         → AlwaysJob AnyReply (FollowsAt dial.consumer.dialed.vb) (RollsAt dial.consumer.dialed.vb) (KeepsLink (untold dial)) (dial_bytes piece dial) }
@@ -38,11 +42,16 @@ pub fn dials_follow()
 /// Whatever is replied, a dial asks what is due right behind each log and each message that is taken, as
 /// its stream is granted then, and nowhere else. Right behind a reply that names a seqno above the last
 /// one that it acknowledged, and nowhere else, it asks for Stat; and it acknowledges that seqno, and tells
-/// so in one line, with what Stat says is written down. It acknowledges nothing else. After more was
+/// so in one line, with what Stat says is written down. It acknowledges no other seqno. After more was
 /// written down it asks once, if its stream is granted, and else does nothing.
+///
+/// Last of all that it writes of a delivery, it acknowledges by one number how long the frames that
+/// count and were whole in it are together: exactly where there is one, its link has a buffer, and goes
+/// on. After more was written down it acknowledges no bytes. What is left of the bytes behind the frames
+/// that were whole is kept, whatever became of these, and also after more was written down.
 pub fn dials_acknowledge()
-    ensures bytes { (piece : List ℕ) (dial : PlainDial) → CallsAs (Acknowledged (untold dial)) (begins AnyOther dial) (dial_bytes piece dial) }
-    ensures saved { (dial : PlainDial) → dial.consumer.handshake ≡ handshake.Streaming → CallsAs (Acknowledged (untold dial)) (begins DueNext dial) (lift (dial_due dial)) }
+    ensures bytes { (piece : List ℕ) (dial : PlainDial) → CallsAs (Delivers (frames_in (dial.heard ++ piece)) (left_of (dial.heard ++ piece)) (untold dial)) (begins AnyOther dial) (dial_bytes piece dial) }
+    ensures saved { (dial : PlainDial) → dial.consumer.handshake ≡ handshake.Streaming → CallsAs (Acknowledged [] (untold dial)) (begins DueNext dial) (lift (dial_due dial)) }
     ensures idle { (dial : PlainDial) → dial.consumer.handshake ≢ handshake.Streaming → dial_due dial ≡ Done (untold dial) }
 {}
 
@@ -118,8 +127,9 @@ pub fn makings_in_numbers()
     ensures replica { branch_lines 1 2 role.Replica 3 ≡ event.Role 1 2 role.Replica ∷ [] }
 {}
 
-/// What is told of a Stat and of a step of writing down, with numbers of which no two are alike; and
-/// whether a vBucket is active, by its refusal of the branch 0: one that is not takes the id for bad.
+/// What is told of a Stat and of a step of writing down, with numbers of which no two are alike;
+/// whether a vBucket is active, by its refusal of the branch 0: one that is not takes the id for bad;
+/// and why a pull put no more, beside how many frames it put.
 pub fn told_in_numbers()
     ensures stat { stat_result 1 2 (answer.Stat 3 4 5 6 7) ≡ admin_lines (event.Stat 1 2 3 4 5 6 7 ∷ []) }
     ensures took { flush_result 1 2 (flushed.Took 3 4 5 6) ≡ record { events = event.Batch 1 2 3 4 5 6 ∷ []; answer = line.Number 6; resolved = [] } }
@@ -132,5 +142,7 @@ pub fn told_in_numbers()
         → activity_of_reply (Some (record { answer = answer.Status status.NotMyVbucket; resolved = resolved; ended = ids; branch = 8; changes = changes })) ≡ Some true }
     ensures inactive { (resolved : List Outcome) (ids : List ℕ) (changes : List Change)
         → activity_of_reply (Some (record { answer = answer.Status status.Einval; resolved = resolved; ended = ids; branch = 8; changes = changes })) ≡ Some false }
+    ensures pulled { (heard : List ℕ) (s : Put) → ((pull_result heard (s, halt.All)).answer ≡ line.Pulled s.count why.All) × ((pull_result heard (s, halt.Idle)).answer ≡ line.Pulled s.count why.Idle)
+        × ((pull_result heard (s, halt.Full)).answer ≡ line.Pulled s.count why.Full) × ((pull_result heard (s, halt.WaitSaved)).answer ≡ line.Pulled s.count why.WaitSaved) }
     ensures failed { (flush_result 1 2 flushed.Closed ≡ flush_answered (line.No cause.Closed)) × (flush_result 1 2 flushed.DiskFailed ≡ flush_answered (line.No cause.Disk)) }
 {}

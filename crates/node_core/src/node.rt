@@ -294,35 +294,41 @@ impl<A: VbAccess, J: Journals> Node<A, J> {
         }
     }
 
-    /// Keeps a new dial of a vBucket, which asks for this, and hands out its requests.
-    fn open_dial(&mut self, vb: u16, link: u32, ask: StreamAsk) -> Alloc<NodeOut>
-        ensures ok { IfOk result (λ out. DialedAs self.old.number vb link (Ok ask) self.old.dials out self.new.dials) }
+    /// Keeps a new dial of a link, which asks for this, and hands out its requests.
+    fn open_dial(&mut self, dialed: consumer::Dialed, ask: StreamAsk) -> Alloc<NodeOut>
+        ensures ok { IfOk result (λ out. DialedAs dialed (Ok ask) self.old.dials out self.new.dials) }
         ensures rest { self.new ≡ record self.old { dials = self.new.dials } }
         ensures err { OnErr result (self.new ≡ self.old) }
     {
         let mut requests = BytesMut::new(self.alloc);
-        let node = self.number;
-        let dialed = consumer::Dialed { link, node, vb };
         let dial = Dial::new(self.alloc, dialed, ask, &mut requests)?;
         let out = bytes_of(requests)?;
-        self.dials.put(u32::from(vb), dial)?;
+        self.dials.put(u32::from(dialed.vb), dial)?;
         Ok(NodeOut::done(self.alloc, Listed::new(self.alloc), out))
     }
 
     /// Dials for a vBucket, as the consumer of the link of this number, and hands out the requests
-    /// for its producer. It is refused where there is no such vBucket or it does not follow, and then
-    /// where it dialed already or the link's number is not free. An `Err` dials nothing.
-    pub fn dial(&mut self, v: u16, link: u32, is_free: bool) -> Alloc<NodeOut>
-        ensures ok { IfOk result (λ out. Dialed A.step v link is_free self.old out self.new) }
+    /// for its producer. `buffer` is the size of the producer's window: a frame goes only while fewer
+    /// bytes than this are not acknowledged; 0 for no window. The call is refused where there is no
+    /// such vBucket or it does not follow, and then where it dialed already or the link's number is
+    /// not free. An `Err` dials nothing.
+    pub fn dial(&mut self, v: u16, link: u32, buffer: u32, is_free: bool) -> Alloc<NodeOut>
+        ensures ok { IfOk result (λ out. Dialed A.step v link buffer is_free self.old out self.new) }
         ensures err { OnErr result (self.new ≡ record self.old { vbs = self.new.vbs }) }
         ensures began { OnErr result (Began A.step (dial_requested v is_free) self.old.vbs self.new.vbs) }
     {
         let reply = self.vbs.call(v, VbCall::Ask)?;
         let asked = self.asked(v, is_free, &reply);
         drop(reply);
+        let dialed = consumer::Dialed {
+            link,
+            node: self.number,
+            vb: v,
+            buffer,
+        };
         match asked {
             Err(why) => Ok(NodeOut::refused(self.alloc, why)),
-            Ok(ask) => self.open_dial(v, link, ask),
+            Ok(ask) => self.open_dial(dialed, ask),
         }
     }
 

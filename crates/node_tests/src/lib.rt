@@ -5,6 +5,8 @@
 #[cfg(test)]
 mod bench;
 #[cfg(test)]
+mod buffers;
+#[cfg(test)]
 mod consumers;
 #[cfg(test)]
 mod durable;

@@ -133,17 +133,17 @@ no_ok why e = cc
 
 module _ (w : PlainWorld) (n v : ℕ) (node : PlainNode) (vb : Plain) (there : w.nodes n ≡ Some node) (here : node.vbs v ≡ Some vb) where
   pub dials : PassesDials w n v node vb
-  dials number l m ask asks ok = by (first_cause (link_causes w l m n v)) ok
+  dials number l m buffer ask asks ok = by (first_cause (link_causes w l m n v)) ok
     where
       asked : ask_in w n v ≡ Some ask
       asked = ap (λ o. option_and_then ask_of (vb_in o v)) there ∙ ap (option_and_then ask_of) here ∙ ap named_ask asks
 
       came : Outcome
-      came = (with_links w (with_dialed number l m n v w.links (ask_in w n v)), done [])
+      came = (with_links w (with_dialed number l m n v buffer w.links (ask_in w n v)), done [])
 
-      by : (why : Option Cause) → (refused_or why w came).1.answer ≡ line.Ok → (link : PlainLink) × ((refused_or why w came).0.links ≡ w.links ++ link ∷ []) × DialsAs number l m n v ask link
+      by : (why : Option Cause) → (refused_or why w came).1.answer ≡ line.Ok → (link : PlainLink) × ((refused_or why w came).0.links ≡ w.links ++ link ∷ []) × DialsAs number l m n v buffer ask link
       by (Some why) ok = absurd (no_ok why ok)
-      by None ok = (new_link number l m n v ask, ap (with_dialed number l m n v w.links) asked, record { consumer = refl; producer = refl; up = refl; down = refl })
+      by None ok = (new_link number l m n v buffer ask, ap (with_dialed number l m n v buffer w.links) asked, record { consumer = refl; producer = refl; up = refl; down = refl })
 
 module _ (w : PlainWorld) (l : ℕ) (link : PlainLink) (producer : PlainNode) (add_link : row_at link_number l w.links ≡ Some link) (from : w.nodes (producer_node link) ≡ Some producer) where
   pub frames : PassesFrames w l link producer

@@ -21,7 +21,7 @@ use Rattle.node_world.specs.Worlds.{PlainWorld, Outcome, arm_in, node_outcome, w
 no_number : (why : Cause) (k : ℕ) → line.No why ≡ line.Number k → ⊥
 no_number why k e = cc
 
-most : (wanted there : ℕ) → IsMost wanted there (min wanted there)
+pub most : (wanted there : ℕ) → IsMost wanted there (min wanted there)
 most wanted there = record { few = λ few. omega (arith, few); all = λ all. omega (arith, all) }
 
 -- a line for an open link, which the node at this end carries out

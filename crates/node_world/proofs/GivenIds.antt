@@ -186,7 +186,7 @@ at_link_ids w l link_verb.Cut = by (row_at link_number l w.links)
 
 verb_ids : (w : PlainWorld) (number : ℕ) (line : Verb) → (verb_step w number line).0.uuids ≡ w.uuids
 verb_ids w number (verb.Node n) = unless (first_cause (node_causes w n)) w (with_node_at w n empty_node, done []) refl
-verb_ids w number (verb.Link l m n v) = unless (first_cause (link_causes w l m n v)) w (with_links w (with_dialed number l m n v w.links (ask_in w n v)), done []) refl
+verb_ids w number (verb.Link l m n v buffer) = unless (first_cause (link_causes w l m n v)) w (with_links w (with_dialed number l m n v buffer w.links (ask_in w n v)), done []) refl
 verb_ids w number (verb.AtNode n what) = node_ids w n what
 verb_ids w number (verb.AtVb n v what) = vb_ids w n v what
 verb_ids w number (verb.AtClient n c what) = on_ids w n (client_verb_at n number c what)

@@ -1,6 +1,7 @@
 -- a producer keeps its place, and a consumer what it dialed
-use Rattle.std.proofs.Common.{◌≡◌, ℕ, zero, suc, Bool, true, false, List, [], ◌∷◌, ◌++◌, refl, ◌∙◌, Option, Some, None}
-use Rattle.std.specs.Prelude.{◌==◌, if◌then◌else◌, nat_lt, slice_get, Result, Ok, Err, ◌^◌, ◌-◌}
+use Rattle.std.proofs.Common.{◌≡◌, ℕ, zero, suc, Bool, true, false, List, [], ◌∷◌, ◌++◌, length, refl, ◌∙◌, Option, Some, None}
+use Rattle.std.specs.Prelude.{◌==◌, ◌||◌, codes, if◌then◌else◌, nat_lt, slice_get, Result, Ok, Err, ◌^◌, ◌-◌}
+use Rattle.std.specs.Str.{bytes_eq}
 use Rattle.std.specs.List.{list_any}
 use Rattle.mcbp_frame.specs.declared.frame.Frame.{Frame}
 use Rattle.mcbp_frame.specs.declared.frame.FrameFault.{FrameFault}
@@ -40,11 +41,12 @@ use Rattle.vb_calls.proofs.Conduct.{always_bind, after_always}
 use Rattle.dcp_producer.specs.declared.desk.Desk.{Desk}
 use Rattle.dcp_producer.specs.declared.desk.Handshake.{Handshake}
 use Rattle.dcp_producer.specs.declared.halt.Halt.{Halt}
+use Rattle.dcp_producer.specs.declared.halt.Halt.TheVariants as halt
 use Rattle.dcp_producer.specs.declared.halt.NoSnapshot.{NoSnapshot}
 use Rattle.dcp_producer.specs.declared.halt.NoSnapshot.TheVariants as no_snapshot
-use Rattle.dcp_producer.specs.Producers.{PlainStream, Served, begun}
-use Rattle.dcp_producer.specs.Serving.{status_sent, open_refusal, opened_unless, controlled, controlled_as, stream_answered, stream_request, message_answered, row_answered, read_answered, frame_answered, counted_by, count_answered, count_requested, acknowledged}
-use Rattle.dcp_producer.specs.Pulling.{item_put, marker_put, halted_put, taken_put, place_requested, end_put, next_put, stream_put, frame_put, pulled, frames_put, place_halt, take_unless, snapshot_of_reply, act_message}
+use Rattle.dcp_producer.specs.Producers.{PlainStream, Served, begun, is_open}
+use Rattle.dcp_producer.specs.Serving.{bytes_acknowledged as bytes_taken_back, status_sent, open_refusal, opened_unless, control_answered, controlled, controlled_as, sized, sized_as, stream_answered, stream_request, message_answered, row_answered, read_answered, frame_answered, counted_by, count_answered, count_requested, acknowledged}
+use Rattle.dcp_producer.specs.Pulling.{item_put, marker_put, halted_put, taken_put, place_requested, end_put, next_put, stream_put, frame_put, pulled, frames_put, in_window, counted_in_window, place_halt, take_unless, snapshot_of_reply, act_message}
 use Rattle.dcp_consumer.specs.declared.handshake.ConsumerStep.{ConsumerStep}
 use Rattle.dcp_consumer.specs.declared.handshake.ConsumerStep.TheVariants as step
 use Rattle.dcp_consumer.specs.declared.handshake.Dialed.{Dialed}
@@ -52,8 +54,9 @@ use Rattle.dcp_consumer.specs.declared.handshake.Handshake.{Handshake as Consume
 use Rattle.dcp_consumer.specs.declared.handshake.Handshake.TheVariants as shaken
 use Rattle.dcp_consumer.specs.declared.passive_stream.Passive.{Passive}
 use Rattle.dcp_consumer.specs.declared.passive_stream.Passive.TheVariants as passive
+use Rattle.dcp_consumer.specs.Counting.{bytes_acknowledged, counted_bytes}
 use Rattle.dcp_consumer.specs.Machine.{over_why, ended_for, request_again, again_by, consumer_step, is_streaming, may_acknowledge}
-use Rattle.node_core.specs.Dials.{PlainDial, DialResult, acknowledged_result, adopt_result, due_requested, due_met, due_of_reply, dial_due, saved_of_reply, untold, is_broken, is_over, with_line, over_for, granted_with, is_done, go_on_with, follower_ask, again_with, again_result, rolled_back, roll_back, taken_as, message_result, call_made, passive_made, step_made, frame_taken, frames_taken, with_left, fault_met, with_end_line, rest_met, bytes_taken, dial_bytes}
+use Rattle.node_core.specs.Dials.{PlainDial, DialResult, acknowledged_result, adopt_result, due_requested, due_met, due_of_reply, dial_due, saved_of_reply, untold, is_broken, is_over, with_line, over_for, granted_with, is_done, go_on_with, follower_ask, again_with, again_result, rolled_back, roll_back, taken_as, message_result, call_made, passive_made, step_made, frame_taken, frames_taken, with_left, fault_met, with_end_line, bytes_counted, rest_met, bytes_taken, dial_bytes}
 use Rattle.node_core.specs.Peers.{PlainPeer, PeerResult, PullResult, peer_result, peer_heard, peer_frames, peer_answered, pull_result, peer_pulled}
 use Rattle.node_world.specs.Links.{frame_up, frames_up, peer_given, untold_peer}
 use Rattle.node_world.specs.Nodes.{PlainNode}
@@ -86,6 +89,26 @@ module _ (desk : Desk) where
   control_at None f s e = e
   control_at (Some set) f s e = e
 
+  sized_at : (o : Option ℕ) (f : Frame) (s : Served) → At s → At (sized_as o f s)
+  unfolding status_sent
+  sized_at None f s e = e
+  sized_at (Some size) f s e = e
+
+  set_at : (f : Frame) (key value : List ℕ) (s : Served) → At s → At (control_answered f key value s)
+  set_at f key value s e = by (bytes_eq key (codes "connection_buffer_size"))
+    where
+      by : (b : Bool) → At (if b then sized_as (sized s.end.handshake value) f s else controlled_as (controlled s.end.handshake key value) f s)
+      by true = sized_at (sized s.end.handshake value) f s e
+      by false = control_at (controlled s.end.handshake key value) f s e
+
+  bytes_at : (f : Frame) (bytes : ℕ) (s : Served) → At s → At (bytes_taken_back f bytes s)
+  unfolding status_sent
+  bytes_at f bytes s e = by (is_open s.end.handshake) _ e
+    where
+      by : (b : Bool) (x : Served) → At x → At (if b then x else status_sent f status.Einval s)
+      by true x here = here
+      by false x here = e
+
   request_keeps : (f : Frame) (ask : StreamAsk) (s : Served) → At s → Keeps (stream_request f ask s)
   unfolding stream_request
   request_keeps f ask s e = (tt, λ reply formed. asked_at f ask s _ _ _ e)
@@ -109,9 +132,10 @@ module _ (desk : Desk) where
 
   message_keeps : (f : Frame) (m : DcpMsg) (s : Served) → At s → Keeps (message_answered f m s)
   message_keeps f (msg.Open number flags name) s e = open_at (open_refusal s.end.handshake flags) f s e
-  message_keeps f (msg.Control key value) s e = control_at (controlled s.end.handshake key value) f s e
+  message_keeps f (msg.Control key value) s e = set_at f key value s e
   message_keeps f (msg.StreamRequest ask) s e = request_keeps f ask s e
   message_keeps f (msg.SeqnoAcknowledged seq) s e = acknowledged_keeps f seq s e
+  message_keeps f (msg.BufferAcknowledgement bytes) s e = bytes_at f bytes s e
   message_keeps f other s e = status_at f _ s e
 
   read_keeps : (f : Frame) (o : Option (Result DcpMsg DcpFault)) (s : Served) → At s → Keeps (read_answered f o s)
@@ -171,9 +195,18 @@ module _ (desk : Desk) where
   stream_keeps s None e = e
   stream_keeps s (Some stream) e = next_keeps s stream (slice_get stream.items stream.next) e
 
+  -- what a turn put is counted in the window
+  window_keeps : (before : ℕ) (t : Turn Served (Served × Halt)) → Turned t → Always AnyCall Turned (Done (in_window before t))
+  window_keeps before (More s) e = e
+  window_keeps before (Stop put) e = e
+
   put_keeps : (s : Served) → At s → Always AnyCall Turned (frame_put s)
   unfolding frame_put
-  put_keeps s e = stream_keeps s s.end.stream e
+  put_keeps s e = by _
+    where
+      by : (b : Bool) → Always AnyCall Turned (if b then counted_in_window (length s.out) (stream_put s s.end.stream) else Done (Stop (s, halt.Full)))
+      by true = always_bind AnyReply AnyCall Turned Turned (stream_put s s.end.stream) (λ turn. Done (in_window (length s.out) turn)) (stream_keeps s s.end.stream e) (window_keeps (length s.out))
+      by false = e
 
   go_keeps : (t : Turn Served (Served × Halt)) → Turned t → Always AnyCall Turned (go_on frame_put t)
   go_keeps (More s) e = put_keeps s e
@@ -333,14 +366,25 @@ module _ (dialed : Dialed) where
       by true = e
       by false = e
 
-  rest_stays : (s : DialResult) → Still s → Holds (rest_met s)
-  rest_stays s e =
-      let met = fault_met (front_fault s.dial.heard) s in
-      end_stays (over_why met.dial.consumer.handshake) met (fault_stays (front_fault s.dial.heard) s e)
+  counted_stays : (frames : List Frame) (s : DialResult) → Still s → Still (bytes_counted frames s)
+  unfolding bytes_counted
+  counted_stays frames s e = by (is_over s.dial || s.dial.consumer.dialed.buffer == 0 || counted_bytes frames == 0)
+    where
+      by : (b : Bool) → Still (if b then s else record s { out = s.out ++ bytes_acknowledged (counted_bytes frames) s.dial.consumer })
+      by true = e
+      by false = e
+
+  rest_stays : (frames : List Frame) (s : DialResult) → Still s → Holds (rest_met frames s)
+  rest_stays frames s e =
+      let faulted = fault_met (front_fault s.dial.heard) s in
+      let met = bytes_counted frames faulted in
+      end_stays (over_why met.dial.consumer.handshake) met (counted_stays frames faulted (fault_stays (front_fault s.dial.heard) s e))
 
   bytes_stay : (piece : List ℕ) (s : DialResult) → Still s → Holds (bytes_taken piece s)
   unfolding bytes_taken
-  bytes_stay piece s e = always_bind_job AnyReply AnyCall EachAsk Still Still (frames_taken (frames_in (s.dial.heard ++ piece)) (with_left s (s.dial.heard ++ piece))) rest_met (frames_stay _ _ e) rest_stays
+  bytes_stay piece s e =
+      let frames = frames_in (s.dial.heard ++ piece) in
+      always_bind_job AnyReply AnyCall EachAsk Still Still (frames_taken frames (with_left s (s.dial.heard ++ piece))) (rest_met frames) (frames_stay _ _ e) (rest_stays frames)
 
 pub fed_dialed : (piece : List ℕ) (dial : PlainDial) (states : States) (shelves : Shelves) → (after_job (dial_bytes piece dial) states shelves).1.dial.consumer.dialed ≡ dial.consumer.dialed
 fed_dialed piece dial states shelves = after_job_always AnyCall EachAsk (Still dial.consumer.dialed) (dial_bytes piece dial) states shelves (bytes_stay dial.consumer.dialed piece (untold dial) refl)

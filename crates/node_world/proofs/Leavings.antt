@@ -72,11 +72,11 @@ puts_down w l link producer add_link from number frames = (
   refl,
 )
 
-pub dials_quietly : (w : PlainWorld) (l m n v : ℕ) → DialsQuietly w l m n v
-dials_quietly w l m n v = record { silent = λ number. lines number (first_cause (link_causes w l m n v)); nodes = λ number k. stay number k (first_cause (link_causes w l m n v)) }
+pub dials_quietly : (w : PlainWorld) (l m n v buffer : ℕ) → DialsQuietly w l m n v buffer
+dials_quietly w l m n v buffer = record { silent = λ number. lines number (first_cause (link_causes w l m n v)); nodes = λ number k. stay number k (first_cause (link_causes w l m n v)) }
   where
     dialed : ℕ → Outcome
-    dialed number = (with_links w (with_dialed number l m n v w.links (ask_in w n v)), done [])
+    dialed number = (with_links w (with_dialed number l m n v buffer w.links (ask_in w n v)), done [])
 
     lines : (number : ℕ) (why : Option Cause) → (refused_or why w (dialed number)).1.events ≡ []
     lines number (Some why) = refl

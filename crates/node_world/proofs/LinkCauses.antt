@@ -48,11 +48,11 @@ five_is before came ok false false false false true = refl
 five_is before came ok false false false false false = ok
 
 -- a link that is dialed
-module _ (w : PlainWorld) (l m n v : ℕ) where
+module _ (w : PlainWorld) (l m n v buffer : ℕ) where
   dialed_by : (line : ℕ) (a b c d e : Bool) → not (is_some (w.nodes m) && is_some (w.nodes n)) ≡ a → (is_off (w.nodes m) || is_off (w.nodes n)) ≡ b → not (is_some (vb_in (w.nodes n) v)) ≡ c → not (is_some (ask_in w n v)) ≡ d → is_taken w.links l n v ≡ e
-      → (link_step w line l m n v).1.answer ≡ five a b c d e
+      → (link_step w line l m n v buffer).1.answer ≡ five a b c d e
   dialed_by line a b c d e is_a is_b is_c is_d is_e =
-      let came : Outcome = (with_links w (with_dialed line l m n v w.links (ask_in w n v)), done []) in
+      let came : Outcome = (with_links w (with_dialed line l m n v buffer w.links (ask_in w n v)), done []) in
       (λ i. (refused_or (first_cause ((is_a i, cause.UnknownNode) ∷ (is_b i, cause.NodeDown) ∷ (is_c i, cause.UnknownVb) ∷ (is_d i, cause.WrongRole) ∷ (is_e i, cause.LinkOpen) ∷ [])) w came).1.answer) ∙ five_is w came refl a b c d e
 
   abbrev no_vb : Bool
@@ -98,7 +98,7 @@ module _ (w : PlainWorld) (l m n v : ℕ) where
   follower role.Pending a d = refl
   follower role.Dead a d = absurd (d refl)
 
-  pub dials : Dials w l m n v
+  pub dials : Dials w l m n v buffer
   dials = record {
     no_producer = λ e number. dialed_by number true off no_vb no_ask taken (ap (λ o. not (is_some o && is_some (w.nodes n))) e) refl refl refl refl;
     no_node = λ e number. dialed_by number true off no_vb no_ask taken (ap (λ o. not (is_some (w.nodes m) && is_some o)) e ∙ second (is_some (w.nodes m))) refl refl refl refl;
@@ -119,7 +119,7 @@ module _ (w : PlainWorld) (l m n v : ℕ) where
 
     -- both are running
     linked_by : (vb : Plain) → producer.off ≡ None → node.off ≡ None → node.vbs v ≡ Some vb → (b d : Bool) → is_follower vb.role ≡ b → taken ≡ d → (number : ℕ)
-        → (link_step w number l m n v).1.answer ≡ (if not b then answer.No cause.WrongRole else if d then answer.No cause.LinkOpen else answer.Ok)
+        → (link_step w number l m n v buffer).1.answer ≡ (if not b then answer.No cause.WrongRole else if d then answer.No cause.LinkOpen else answer.Ok)
     linked_by vb up own_up is b d e f number =
         dialed_by number false false false (not b) d nodes_are (off_as_plain ∙ (λ i. is_some (up i) || is_some (own_up i))) (vb_is ∙ ap (λ x. not (is_some x)) is) (asks vb is b e) f
 
@@ -127,7 +127,7 @@ module _ (w : PlainWorld) (l m n v : ℕ) where
     second_off true b e = refl
     second_off false b e = e
 
-    pub dials_made : DialsMade w l m n v producer node
+    pub dials_made : DialsMade w l m n v buffer producer node
     dials_made = record {
       down = λ e number. dialed_by number false true no_vb no_ask taken nodes_are (off_as_plain ∙ ap (λ b. b || is_some node.off) e) refl refl refl;
       own_down = λ e number. dialed_by number false true no_vb no_ask taken nodes_are (off_as_plain ∙ second_off (is_some producer.off) (is_some node.off) e) refl refl refl;

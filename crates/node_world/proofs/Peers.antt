@@ -16,6 +16,7 @@ use Rattle.node_core.specs.declared.conn.ConnKind.TheVariants as kind
 use Rattle.node_core.specs.declared.out.NodeOut.{NodeOut}
 use Rattle.node_core.specs.Calls.{dial_requested}
 use Rattle.node_core.specs.Dials.{PlainDial, KeptDial, DialResult, dial_due, dial_bytes}
+use Rattle.dcp_consumer.specs.declared.handshake.Dialed.{Dialed as LinkDialed}
 use Rattle.node_core.specs.Outcomes.{value_at, Renumbered, peer_conn, live_dial, Opened, ConnHeard, Heard, Answered, AnsweredAt, Pulled, PulledAt, Shut, ShutAt, DialedAs, Dialed, DialDue, DialDueAt, DialFed, DialFedAt, DialShutAt, dial_left}
 use Rattle.node_core.specs.Outs.{done_out, peer_out, pull_out, dial_out}
 use Rattle.node_core.specs.Peers.{PlainPeer, PeerResult, PullResult, peer_heard, peer_frames, peer_answered, peer_pulled}
@@ -139,12 +140,12 @@ module _ (old : ScriptNode) (v : ℕ) (out : NodeOut) (node : MemNode) where
   same_clients conns k = ap (λ (s : Slab Conn). client_part (get s k)) conns
 
   -- is made
-  pub dials_for : (link : ℕ) (is_free : Bool) → Dialed (alone_step SlotsStand) v link is_free old.node out node → DialsFor v link is_free old out (inside old node)
-  dials_for link is_free went plain stands up =
+  pub dials_for : (link buffer : ℕ) (is_free : Bool) → Dialed (alone_step SlotsStand) v link buffer is_free old.node out node → DialsFor v link buffer is_free old out (inside old node)
+  dials_for link buffer is_free went plain stands up =
       let asked = dial_requested v (is_free && not (is_some (dial_under old v))) in
       let known = alone_after SlotsStand asked old.node.vbs went.said node.vbs went.ran plain.vbs stands.slots in (
         with_slots old node plain (after asked plain.vbs).0 known.1 (ap (λ (x : MemNode). x.disks) went.rest) (same_clients conns) (off_up old (inside old node) plain.off refl up stands.off) stands,
-        subst (λ said. DialCame v link said old out (inside old node)) known.0 (by went.said went.dials),
+        subst (λ said. DialCame link_dialed said old out (inside old node)) known.0 (by went.said went.dials),
       )
     where
       number : node.number ≡ old.node.number
@@ -153,7 +154,10 @@ module _ (old : ScriptNode) (v : ℕ) (out : NodeOut) (node : MemNode) where
       conns : node.conns ≡ old.node.conns
       conns = ap (λ (x : MemNode). x.conns) went.rest
 
-      by : (said : Result StreamAsk Cause) → DialedAs (node_number old) v link said old.node.dials out node.dials → DialCame v link said old out (inside old node)
+      link_dialed : LinkDialed
+      link_dialed = record { link = link; node = node_number old; vb = v; buffer = buffer }
+
+      by : (said : Result StreamAsk Cause) → DialedAs link_dialed said old.node.dials out node.dials → DialCame link_dialed said old out (inside old node)
       by (Err why) h = (h.0, record { number = number; peers = λ key. ap (λ (s : Slab Conn). peer_part (get s key)) conns; dials = λ u. ap (λ rows. value_at rows u) h.1 })
       by (Ok ask) h = (h.0, puts_dial _ number conns h.1)
 

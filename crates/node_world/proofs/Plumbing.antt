@@ -1,9 +1,10 @@
 -- numberings that keep apart, and what a line tells beside what its node did
-use Rattle.std.proofs.Common.{◌≡◌, ◌≢◌, ℕ, ◌+◌, Bool, true, false, List, [], ◌++◌, append-nil, refl, sym, ap, ◌∙◌, arith, Option, Some, None}
+use Rattle.std.proofs.Common.{◌≡◌, ◌≢◌, ℕ, Bool, true, false, List, [], ◌++◌, append-nil, refl, sym, ap, ◌∙◌, arith, Option, Some, None}
 use Rattle.std.proofs.lemmas.Bool.{eq-eqb, ne_eqb}
 use Rattle.std.proofs.Math.Nat.{mod-eq_of_lt, mod-lt}
 use Rattle.std.specs.Prelude.{◌%◌, if◌then◌else◌, is_some}
 use Rattle.client_session.specs.Serving.{PlainSession, new_session}
+use Rattle.dcp_consumer.specs.Dialing.{stream_opaque}
 use Rattle.disk_journals.specs.Books.{Book}
 use Rattle.script_text.specs.declared.verb.ScriptLine.{ScriptLine}
 use Rattle.script_text.specs.declared.verb.Verb.TheVariants as verb
@@ -66,6 +67,13 @@ opens w line n c = record { opened = by (w.nodes n) }
     by : (o : Option PlainNode) → Opens w line n c (node_outcome w n (refusal cause.UnknownNode) o (if_up (client_at n (base_of line) c)))
     by None = λ e. absurd (no_ok cause.UnknownNode e)
     by (Some node) = pick node (is_some node.off) (is_some (node.clients c))
+
+-- the opaque of the first request for a stream
+pub first_opaque : (buffer : ℕ) → buffer ≡ 0 → stream_opaque buffer ≡ 4
+first_opaque buffer e = ap (λ b. if b then 4 else 5) (eq-eqb buffer 0 e)
+
+pub later_opaque : (buffer : ℕ) → buffer ≢ 0 → stream_opaque buffer ≡ 5
+later_opaque buffer ne = ap (λ b. if b then 4 else 5) (ne_eqb buffer 0 ne)
 
 -- ---- arms
 

@@ -1,7 +1,7 @@
 -- lists of rows that have a number: a row set, and a row taken out
 use Rattle.std.proofs.Common.{◌≡◌, ℕ, Bool, true, false, List, [], ◌∷◌, length, get_or, set, remove, refl, ap, sym, ◌∙◌, Option, Some, None, zero, suc, ◌<◌, arith}
 use Rattle.std.specs.Prelude.{◌==◌, if◌then◌else◌}
-use Rattle.std.proofs.lemmas.Bool.{eqb-true}
+use Rattle.std.proofs.lemmas.Bool.{eq-eqb, eqb-true}
 use Rattle.vbucket.specs.Rows.{row_at, row_put, row_out}
 
 module _ {S : Type 0} (number : S → ℕ) where
@@ -39,3 +39,12 @@ module _ {S : Type 0} (number : S → ℕ) where
   pub row_number : (v : ℕ) (xs : List S) (s : S) → row_at number v xs ≡ Some s → number s ≡ v
   row_number v [] s e = cc
   row_number v (x ∷ xs) s e = number_here v x s (row_at number v xs) (number x == v) refl e (λ f. row_number v xs s f)
+
+  -- a row that was put in place of another one is found
+  pub put_found : (v : ℕ) (xs : List S) (s t : S) → row_at number v xs ≡ Some s → number t ≡ v → row_at number v (row_put number v t xs) ≡ Some t
+  put_found v [] s t e is = cc
+  put_found v (x ∷ xs) s t e is = by (number x == v) refl e (λ found. put_found v xs s t found is)
+    where
+      by : (b : Bool) → (number x == v) ≡ b → (if b then Some x else row_at number v xs) ≡ Some s → (row_at number v xs ≡ Some s → row_at number v (row_put number v t xs) ≡ Some t) → row_at number v (if b then t ∷ xs else x ∷ row_put number v t xs) ≡ Some t
+      by true here found later = ap (λ b. if b then Some t else row_at number v xs) (eq-eqb (number t) v is)
+      by false away found later = ap (λ b. if b then Some x else row_at number v (row_put number v t xs)) away ∙ later found

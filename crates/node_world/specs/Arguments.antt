@@ -63,16 +63,16 @@ pub record PassesVbs (w : PlainWorld) (n : ℕ) (node : PlainNode) : Type 0 wher
       → (now : PlainNode) × MakesVb n v role.Active uuid node now (verb_step w number (verb.AtVb n v (vb_verb.MakeActive uuid)))
   pub replica : (number v : ℕ) → node.vbs v ≡ None → node.made < 64 → Notes node (shelf_or_blank (node.shelves v)) → (now : PlainNode) × MakesVb n v role.Replica 0 node now (verb_step w number (verb.AtVb n v vb_verb.MakeReplica))
 
--- a link that is dialed has both its ends as its line says: a consumer of the vBucket v of the node n, and a producer at the node m under the line's number; and what that vBucket asks for goes up
-pub record DialsAs (number l m n v : ℕ) (ask : StreamAsk) (link : PlainLink) : Type 0 where
-  pub consumer : link.consumer.dialed ≡ record { link = l; node = n; vb = v }
+-- a link that is dialed has both its ends as its line says: a consumer of the vBucket v of the node n, which asks for a window of this size, and a producer at the node m under the line's number; and what that vBucket asks for goes up
+pub record DialsAs (number l m n v buffer : ℕ) (ask : StreamAsk) (link : PlainLink) : Type 0 where
+  pub consumer : link.consumer.dialed ≡ record { link = l; node = n; vb = v; buffer = buffer }
   pub producer : link.server.desk ≡ record { stream = name.Link l; node = m; id = number }
-  pub up : link.up ≡ requests n v ask
+  pub up : link.up ≡ requests (record { link = l; node = n; vb = v; buffer = buffer }) ask
   pub down : link.down ≡ []
 
 abbrev pub PassesDials : PlainWorld → ℕ → ℕ → PlainNode → Plain → Type 0
-PassesDials w n v node vb = (number l m : ℕ) (ask : StreamAsk) → (reply_of vb call.Ask).answer ≡ answer.Named ask → (verb_step w number (verb.Link l m n v)).1.answer ≡ line.Ok
-    → (link : PlainLink) × ((verb_step w number (verb.Link l m n v)).0.links ≡ w.links ++ link ∷ []) × DialsAs number l m n v ask link
+PassesDials w n v node vb = (number l m buffer : ℕ) (ask : StreamAsk) → (reply_of vb call.Ask).answer ≡ answer.Named ask → (verb_step w number (verb.Link l m n v buffer)).1.answer ≡ line.Ok
+    → (link : PlainLink) × ((verb_step w number (verb.Link l m n v buffer)).0.links ≡ w.links ++ link ∷ []) × DialsAs number l m n v buffer ask link
 
 -- so many frames are asked of the producer of an open link
 abbrev pub PassesFrames : PlainWorld → ℕ → PlainLink → PlainNode → Type 0

@@ -9,6 +9,7 @@ use Rattle.vb_events.specs.declared.event.Cause.{Cause}
 use Rattle.vb_calls.specs.Jobs.{after_job}
 use Rattle.vb_calls.specs.Programs.{after}
 use Rattle.dcp_consumer.specs.Dialing.{requests}
+use Rattle.dcp_consumer.specs.declared.handshake.Dialed.{Dialed}
 use Rattle.dcp_producer.specs.Ending.{end_closed}
 use Rattle.node_core.specs.declared.admin.AdminCall.{AdminCall}
 use Rattle.node_core.specs.declared.out.NodeOut.{NodeOut}
@@ -153,16 +154,15 @@ ShutsPeer key old new = (plain : PlainNode) (peer : PlainPeer) → NodeMatch old
     NodeMatch new (with_states plain (after (end_closed peer.producer) plain.vbs).0) × PutsPeer old new key None
 
 -- the dial of a vBucket that was asked for this, unless that was refused
-abbrev pub DialCame : ℕ → ℕ → Result StreamAsk Cause → ScriptNode → NodeOut → ScriptNode → Type 0
-DialCame v link (Err why) old out new = (out ≡ refused_out why) × KeepsEnds old new
-DialCame v link (Ok ask) old out new =
-    (out ≡ done_out [] (requests (node_number old) v ask)) × PutsDial old new v (Some (live_dial (new_dial (record { link = link; node = node_number old; vb = v }))))
+abbrev pub DialCame : Dialed → Result StreamAsk Cause → ScriptNode → NodeOut → ScriptNode → Type 0
+DialCame dialed (Err why) old out new = (out ≡ refused_out why) × KeepsEnds old new
+DialCame dialed (Ok ask) old out new = (out ≡ done_out [] (requests dialed ask)) × PutsDial old new dialed.vb (Some (live_dial (new_dial dialed)))
 
--- the vBucket v of a node that is running dials, as the consumer of a link
-abbrev pub DialsFor : ℕ → ℕ → Bool → ScriptNode → NodeOut → ScriptNode → Type 0
-DialsFor v link is_free old out new = (plain : PlainNode) → NodeMatch old plain → plain.off ≡ None →
+-- the vBucket v of a node that is running dials, as the consumer of a link, with a window of this size
+abbrev pub DialsFor : ℕ → ℕ → ℕ → Bool → ScriptNode → NodeOut → ScriptNode → Type 0
+DialsFor v link buffer is_free old out new = (plain : PlainNode) → NodeMatch old plain → plain.off ≡ None →
     let (states, said) = after (dial_requested v (is_free && not (is_some (dial_under old v)))) plain.vbs in
-    NodeMatch new (with_states plain states) × DialCame v link said old out new
+    NodeMatch new (with_states plain states) × DialCame (record { link = link; node = node_number old; vb = v; buffer = buffer }) said old out new
 
 -- a node after bytes for a dial of it
 abbrev pub dial_given : List ℕ → PlainDial → PlainNode → PlainNode × DialResult

@@ -42,9 +42,9 @@ PutsDown w l link producer = (number frames : ℕ) → (now : PlainLink) × ((ve
     × (now.down ≡ link.down ++ (after (peer_pulled frames (peer_of link)) producer.vbs).1.out) × (now.up ≡ link.up)
 
 -- a dial tells of nothing, and leaves all nodes
-pub record DialsQuietly (w : PlainWorld) (l m n v : ℕ) : Type 0 where
-  pub silent : (number : ℕ) → (verb_step w number (verb.Link l m n v)).1.events ≡ []
-  pub nodes : (number k : ℕ) → (verb_step w number (verb.Link l m n v)).0.nodes k ≡ w.nodes k
+pub record DialsQuietly (w : PlainWorld) (l m n v buffer : ℕ) : Type 0 where
+  pub silent : (number : ℕ) → (verb_step w number (verb.Link l m n v buffer)).1.events ≡ []
+  pub nodes : (number k : ℕ) → (verb_step w number (verb.Link l m n v buffer)).0.nodes k ≡ w.nodes k
 
 -- ---- connections
 

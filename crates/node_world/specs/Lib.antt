@@ -34,3 +34,4 @@ pub mod StartsRefused
 pub mod MadeOnes
 pub mod FramesUp
 pub mod Leavings
+pub mod Buffers

@@ -65,13 +65,13 @@ is_taken links l n v = list_any (λ link. link_number link == l || feeds n v lin
 abbrev pub ask_of : Plain → Option StreamAsk
 ask_of vb = named_ask (ask_row vb).answer
 
--- the link l from the vBucket v of the node n to the node m; its stream is opened under a number that no other has, that of the script's line
-abbrev pub new_link : ℕ → ℕ → ℕ → ℕ → ℕ → StreamAsk → PlainLink
-new_link line l m n v ask = record {
+-- the link l from the vBucket v of the node n to the node m, whose consumer asks for a window of this size; its stream is opened under a number that no other has, that of the script's line
+abbrev pub new_link : ℕ → ℕ → ℕ → ℕ → ℕ → ℕ → StreamAsk → PlainLink
+new_link line l m n v buffer ask = record {
   server = new_end (record { stream = name.Link l; node = m; id = line });
-  consumer = dialed_consumer (record { link = l; node = n; vb = v });
+  consumer = dialed_consumer (record { link = l; node = n; vb = v; buffer = buffer });
   up_heard = [];
-  up = requests n v ask;
+  up = requests (record { link = l; node = n; vb = v; buffer = buffer }) ask;
   down_heard = [];
   down = [];
 }

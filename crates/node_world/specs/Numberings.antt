@@ -1,5 +1,5 @@
 -- numbers that keep waits, streams and connections apart
-use Rattle.std.specs.Prelude.{◌≡◌, ◌<◌, ◌%◌, ℕ, Some, None}
+use Rattle.std.specs.Prelude.{◌≡◌, ◌≢◌, ◌<◌, ◌%◌, ℕ, Some, None}
 use Rattle.client_session.specs.Serving.{PlainSession, next_waiter}
 use Rattle.script_text.specs.declared.verb.Verb.TheVariants as verb
 use Rattle.script_text.specs.declared.verb.ClientVerb.TheVariants as client_verb
@@ -26,9 +26,10 @@ pub record OpensApart (w : PlainWorld) (line n c : ℕ) : Type 0 where
   pub opened : (verb_step w line (verb.AtClient n c client_verb.Open)).1.answer ≡ answer.Ok → (node : PlainNode) × (session : PlainSession) × ((verb_step w line (verb.AtClient n c client_verb.Open)).0.nodes n ≡ Some node) × (node.clients c ≡ Some session)
       × (session.who.base ≡ line % 4294967296) × (session.used ≡ 0) × (session.awaited ≡ None)
 
--- a new link has its own number and its line's, under which its stream is to be opened; it has no stream yet, and its first request for one has the opaque 4
-pub record LinksAreApart (line l m n v : ℕ) (ask : StreamAsk) : Type 0 where
-  pub number : link_number (new_link line l m n v ask) ≡ l
-  pub under : (new_link line l m n v ask).server.desk.id ≡ line
-  pub stream : (new_link line l m n v ask).server.stream ≡ None
-  pub opaque : (new_link line l m n v ask).consumer.asked ≡ 4
+-- a new link has its own number and its line's, under which its stream is to be opened; it has no stream yet, and its first request for one has the opaque 4, or 5 where it asks for a window
+pub record LinksAreApart (line l m n v buffer : ℕ) (ask : StreamAsk) : Type 0 where
+  pub number : link_number (new_link line l m n v buffer ask) ≡ l
+  pub under : (new_link line l m n v buffer ask).server.desk.id ≡ line
+  pub stream : (new_link line l m n v buffer ask).server.stream ≡ None
+  pub opaque : buffer ≡ 0 → (new_link line l m n v buffer ask).consumer.asked ≡ 4
+  pub later : buffer ≢ 0 → (new_link line l m n v buffer ask).consumer.asked ≡ 5

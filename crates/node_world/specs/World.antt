@@ -50,21 +50,21 @@ vb_step w n v uuid = with_arm n w (on_node w n (vb_at w.uuids n v uuid))
 abbrev pub ask_in : PlainWorld → ℕ → ℕ → Option StreamAsk
 ask_in w n v = option_and_then ask_of (vb_in (w.nodes n) v)
 
--- `link L M N V 0 follow`: the causes to refuse it, in their order
+-- `link L M N V BUF follow`: the causes to refuse it, in their order
 abbrev pub link_causes : PlainWorld → ℕ → ℕ → ℕ → ℕ → List (Bool × Cause)
 link_causes w l m n v =
     (not (is_some (w.nodes m) && is_some (w.nodes n)), cause.UnknownNode) ∷ (is_off (w.nodes m) || is_off (w.nodes n), cause.NodeDown) ∷ (not (is_some (vb_in (w.nodes n) v)), cause.UnknownVb)
     ∷ (not (is_some (ask_in w n v)), cause.WrongRole) ∷ (is_taken w.links l n v, cause.LinkOpen) ∷ []
 
 -- the links with one more, by what its consumer's vBucket asks for; the third cause is that it asks for nothing
-abbrev pub with_dialed : ℕ → ℕ → ℕ → ℕ → ℕ → List PlainLink → Option StreamAsk → List PlainLink
-with_dialed line l m n v links None = links
-with_dialed line l m n v links (Some ask) = links ++ new_link line l m n v ask ∷ []
+abbrev pub with_dialed : ℕ → ℕ → ℕ → ℕ → ℕ → ℕ → List PlainLink → Option StreamAsk → List PlainLink
+with_dialed line l m n v buffer links None = links
+with_dialed line l m n v buffer links (Some ask) = links ++ new_link line l m n v buffer ask ∷ []
 
--- `link L M N V 0 follow`: the consumer of the node N's vBucket V dials the node M
-abbrev pub link_step : PlainWorld → ℕ → ℕ → ℕ → ℕ → ℕ → Outcome
-link_step w line l m n v =
-    refused_or (first_cause (link_causes w l m n v)) w (with_links w (with_dialed line l m n v w.links (ask_in w n v)), done [])
+-- `link L M N V BUF follow`: the consumer of the node N's vBucket V dials the node M, and asks for a window of BUF bytes there
+abbrev pub link_step : PlainWorld → ℕ → ℕ → ℕ → ℕ → ℕ → ℕ → Outcome
+link_step w line l m n v buffer =
+    refused_or (first_cause (link_causes w l m n v)) w (with_links w (with_dialed line l m n v buffer w.links (ask_in w n v)), done [])
 
 -- the world after a line for a link: it goes on as it is then, or it is over, and its stream is closed
 abbrev pub relinked : PlainLink → Option PlainLink → PlainWorld → PlainWorld
@@ -154,7 +154,7 @@ link_verb_step w l link_verb.Cut = cut_step w l
 -- the world after the line of this number, by what its verb names
 abbrev pub verb_step : PlainWorld → ℕ → Verb → Outcome
 verb_step w line (verb.Node n) = node_step w n
-verb_step w line (verb.Link l m n v) = link_step w line l m n v
+verb_step w line (verb.Link l m n v buffer) = link_step w line l m n v buffer
 verb_step w line (verb.AtNode n what) = node_verb_step w n what
 verb_step w line (verb.AtVb n v what) = vb_verb_step w n v what
 verb_step w line (verb.AtClient n c what) = on_node w n (client_verb_at n line c what)

@@ -55,7 +55,7 @@ pub fn links_go_once_over()
     ensures downs { (w : PlainWorld) (l : ℕ) (link : PlainLink) (node : PlainNode) → row_at link_number l w.links ≡ Some link → w.nodes (consumer_node link) ≡ Some node → EndsOnceOver w l link node }
     ensures cuts { (w : PlainWorld) (l : ℕ) (link : PlainLink) → row_at link_number l w.links ≡ Some link → CutsOne w l link }
     ensures pumps { (w : PlainWorld) (l : ℕ) (link : PlainLink) (producer : PlainNode) → row_at link_number l w.links ≡ Some link → w.nodes (producer_node link) ≡ Some producer → PutsDown w l link producer }
-    ensures dials { (w : PlainWorld) (l m n v : ℕ) → DialsQuietly w l m n v }
+    ensures dials { (w : PlainWorld) (l m n v buffer : ℕ) → DialsQuietly w l m n v buffer }
 {}
 
 /// A connection that its bytes closed, or an outcome, is no client's any more: where no connection of a

@@ -32,7 +32,8 @@ pub use owed_laws::{
     roles_are_as_named, settled_ones_are_told, starts_count, writes_are_clocked,
 };
 pub use plumbing_laws::{
-    ends_are_links, failures_are_told, lines_are_told_in_order, numberings_are_apart,
+    buffers_become_windows, ends_are_links, failures_are_told, lines_are_told_in_order,
+    numberings_are_apart,
 };
 pub use script_node::{NodeLine, ScriptNode};
 pub use told::Told;

@@ -2,6 +2,7 @@
 //! function with no work to do.
 ghost use Rattle.std.specs.Prelude.{ℕ};
 ghost use Rattle.client_session.specs.Serving.{PlainSession};
+ghost use Rattle.node_world.specs.Buffers.{BuffersBecomeWindows, BuffersInNumbers};
 ghost use Rattle.node_world.specs.declared.told.Told.{Told as ToldData};
 ghost use Rattle.node_world.specs.Nodes.{PlainNode};
 ghost use Rattle.node_world.specs.Numberings.{BasesAreApart, LinksAreApart, OpensApart, WaitsAreApart};
@@ -24,7 +25,14 @@ pub fn numberings_are_apart()
     ensures waits { (s t : PlainSession) → WaitsAreApart s t }
     ensures bases { (line other : ℕ) → BasesAreApart line other }
     ensures opened { (w : PlainWorld) (line n c : ℕ) → OpensApart w line n c }
-    ensures links { (line l m n v : ℕ) (ask : StreamAsk) → LinksAreApart line l m n v ask }
+    ensures links { (line l m n v buffer : ℕ) (ask : StreamAsk) → LinksAreApart line l m n v buffer ask }
+{}
+
+/// The BUF of a line that dials is what the link's consumer asks for, right behind OPEN, and what its
+/// producer's window has once that came up, and not before. With 0 nothing is asked for.
+pub fn buffers_become_windows()
+    ensures lines { (w : PlainWorld) (l m n v buffer : ℕ) → BuffersBecomeWindows w l m n v buffer }
+    ensures numbers { (line l m v : ℕ) (ask : StreamAsk) (producer : PlainNode) → BuffersInNumbers line l m v ask producer }
 {}
 
 /// An arm fires once, as it was to. A call that failed is told behind all else, and before the end of

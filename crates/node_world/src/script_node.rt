@@ -440,10 +440,10 @@ impl ScriptNode {
     }
 
     /// Dials for a vBucket, as the consumer of a link.
-    pub fn dial(&mut self, v: u16, link: u32, is_free: bool) -> Alloc<NodeOut>
-        ensures { IfOk result (λ out. DialsFor v link is_free self.old out self.new) }
+    pub fn dial(&mut self, v: u16, link: u32, buffer: u32, is_free: bool) -> Alloc<NodeOut>
+        ensures { IfOk result (λ out. DialsFor v link buffer is_free self.old out self.new) }
     {
-        self.node.dial(v, link, is_free)
+        self.node.dial(v, link, buffer, is_free)
     }
 
     /// Gives a link's consumer the next bytes from its producer, under the arm: its vBucket may have

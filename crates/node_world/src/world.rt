@@ -41,8 +41,8 @@ impl Model for World {
     ghost view = { λ w. record { nodes = w.nodes.items; ids = w.ids; links = w.links.items } };
 }
 
-/// What a line asks for that dials: its own number, the link's, the nodes of both ends, and the
-/// vBucket that is fed.
+/// What a line asks for that dials: its own number, the link's, the nodes of both ends, the vBucket
+/// that is fed, and the size of the producer's window.
 #[derive(Clone, Copy)]
 pub(crate) struct LinkAsk {
     line: u64,
@@ -50,6 +50,7 @@ pub(crate) struct LinkAsk {
     producer: u8,
     node: u8,
     vb: u16,
+    buffer: u32,
 }
 
 /// Whether a line's answer says that a rollback could not be written down.
@@ -248,8 +249,8 @@ impl World {
     /// Dials a node for a vBucket of another one.
     fn dial(&mut self, asked: LinkAsk) -> Alloc<Told>
         ensures { IfOk result (λ told. (w : PlainWorld) → WorldStands self.old w →
-            WorldStands self.new (link_step w asked.line asked.link asked.producer asked.node asked.vb).0
-            × (told ≡ (link_step w asked.line asked.link asked.producer asked.node asked.vb).1)) }
+            WorldStands self.new (link_step w asked.line asked.link asked.producer asked.node asked.vb asked.buffer).0
+            × (told ≡ (link_step w asked.line asked.link asked.producer asked.node asked.vb asked.buffer).1)) }
     {
         let Some(serving) = node_place(&self.nodes, asked.producer) else {
             return Ok(Told::refusal(self.alloc, Cause::UnknownNode));
@@ -266,7 +267,7 @@ impl World {
             return Ok(Told::refusal(self.alloc, Cause::NodeDown));
         }
         let is_free = link_place(&self.links, asked.link).is_none();
-        let out = self.nodes[at].dial(asked.vb, asked.link, is_free)?;
+        let out = self.nodes[at].dial(asked.vb, asked.link, asked.buffer, is_free)?;
         let Answer::Ok = out.answer else {
             return Ok(Told::of(out));
         };
@@ -426,12 +427,19 @@ impl World {
     {
         match verb {
             &Verb::Node { node } => self.make_node(node),
-            &Verb::Link { id, from, to, vb } => self.dial(LinkAsk {
+            &Verb::Link {
+                id,
+                from,
+                to,
+                vb,
+                buffer,
+            } => self.dial(LinkAsk {
                 line,
                 link: id,
                 producer: from,
                 node: to,
                 vb,
+                buffer,
             }),
             Verb::AtNode { node, what } => self.tell_node(*node, what),
             Verb::AtVb { node, vb, what } => self.tell_vb(*node, *vb, what),

@@ -1,4 +1,4 @@
--- the words that tell of durable writes and of chains, of what is saved, and of nodes that stop
+-- the words that tell of durable writes and of chains, of what is saved, of nodes that stop, and of windows
 use Rattle.std.proofs.Common.{◌≡◌, ℕ, true, false, List, [], ◌∷◌, ◌++◌, Option, Some, refl, sym, ap, ◌∙◌, append_assoc}
 use Rattle.std.specs.Prelude.{codes, decimal}
 use Rattle.vb_types.specs.declared.change.Level.TheVariants as level
@@ -9,7 +9,7 @@ use Rattle.vb_events.specs.declared.event.Why.TheVariants as why
 use Rattle.vb_types.specs.declared.role.Role.TheVariants as role
 use Rattle.script_text.specs.Numbers.{number_of}
 use Rattle.script_text.specs.Transcript.{act_text, cause_text, event_text, flag_text, level_text, link_text, place_text, reason_text, role_text, sent_text, spaced, why_text}
-use Rattle.script_text.specs.Wordings.{IsWordOf, LevelsInWords, ActsInWords, DurableWords, ChainsInWords, ChainsAreRead, ChainsAreRefused, AcknowledgementWords, SavingInWords, SavingWords, StopsInWords, StopWords, StopsAreRead, StopsAreRefused}
+use Rattle.script_text.specs.Wordings.{IsWordOf, LevelsInWords, ActsInWords, DurableWords, ChainsInWords, ChainsAreRead, ChainsAreRefused, AcknowledgementWords, SavingInWords, SavingWords, StopsInWords, StopWords, StopsAreRead, StopsAreRefused, WindowWords, LinksAreRead, LinksAreRefused}
 use Rattle.script_text.proofs.KindWords.{level_of, level_is, sent_of, sent_is, flag_of, flag_is, role_of, role_is, cause_of, cause_is, reason_of, reason_is, why_of, why_is}
 
 -- what is read back is the one thing of its word
@@ -143,4 +143,30 @@ stops_refused = record {
   node = refl;
   no_node = refl;
   wide = refl;
+}
+
+pub windows : WindowWords
+windows = record { full = word_of why_of why_text why_is why.Full (codes "full") refl; stops = λ frames. refl }
+
+pub links_read : LinksAreRead
+unfolding number_of
+links_read = record { none = refl; some = refl; most = refl }
+
+pub links_refused : LinksAreRefused
+unfolding number_of
+links_refused = record {
+  wide = refl;
+  zeros = refl;
+  two_zeros = refl;
+  sign = refl;
+  empty = refl;
+  dash = refl;
+  no_buffer = refl;
+  no_mode = refl;
+  other_mode = refl;
+  more = refl;
+  link = refl;
+  producer = refl;
+  node = refl;
+  vb = refl;
 }

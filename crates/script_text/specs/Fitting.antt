@@ -22,6 +22,10 @@ IsVb v = v < 1024
 abbrev pub IsConnection : ℕ → Type 0
 IsConnection c = c < 1000
 
+-- how many bytes a link's buffer has
+abbrev pub IsBuffer : ℕ → Type 0
+IsBuffer b = b < 2 ^ 32
+
 -- each number is that of a byte
 abbrev pub AreBytes : List ℕ → Type 0
 AreBytes bytes = All (λ b. b < 256) bytes
@@ -72,7 +76,7 @@ LinkFits link_verb.Cut = Unit {0}
 -- the reader is refused here.
 abbrev pub VerbFits : Verb → Type 0
 VerbFits (verb.Node n) = IsNode n
-VerbFits (verb.Link l m n v) = IsConnection l × IsNode m × IsNode n × IsVb v
+VerbFits (verb.Link l m n v b) = IsConnection l × IsNode m × IsNode n × IsVb v × IsBuffer b
 VerbFits (verb.AtNode n what) = IsNode n × NodeFits what
 VerbFits (verb.AtVb n v what) = IsNode n × IsVb v × VbFits what
 VerbFits (verb.AtClient n c what) = IsNode n × IsConnection c × ClientFits what

@@ -3,7 +3,7 @@ use Rattle.std.specs.Prelude.{ℕ, ◌==◌, ◌&&◌, if◌then◌else◌, nat_
 use Rattle.std.specs.Option.{option_map}
 use Rattle.std.specs.Str.{bytes_eq}
 use Rattle.hex.specs.Hex.{decode_of}
-use Rattle.script_text.specs.Numbers.{number_of, node_of, vbucket_of, connection_of, moved_of, frames_of, byte_of, numbers_of}
+use Rattle.script_text.specs.Numbers.{number_of, node_of, vbucket_of, connection_of, moved_of, frames_of, byte_of, buffer_of, numbers_of}
 use Rattle.script_text.specs.declared.line.TheConstants.{BRANCHES, OTHERS}
 use Rattle.vb_disk.specs.declared.made.Outcome.{Outcome}
 use Rattle.vb_disk.specs.declared.made.Outcome.TheVariants as outcome
@@ -190,18 +190,18 @@ vb_line word node vb role uuid =
 abbrev pub five_words : List ℕ → List ℕ → List ℕ → List ℕ → List ℕ → Option Verb
 five_words word a b c d = if bytes_eq word (codes "stop") then stop_line a b (filled_of c d) else vb_line word a b c d
 
--- the line makes a link that follows; so far each link goes with no flow-control buffer, and its BUF is 0
-abbrev pub is_link : List ℕ → List ℕ → List ℕ → Bool
-is_link word buffer mode = bytes_eq word (codes "link") && bytes_eq buffer (codes "0") && bytes_eq mode (codes "follow")
+-- the line makes a link that follows
+abbrev pub is_link : List ℕ → List ℕ → Bool
+is_link word mode = bytes_eq word (codes "link") && bytes_eq mode (codes "follow")
 
--- `link L M N V 0 follow`, by its numbers
-abbrev pub linked : List ℕ → List ℕ → List ℕ → List ℕ → Option Verb
-linked link producer node vb =
-    option_and_then (λ l. option_and_then (λ m. option_and_then (λ n. option_map (verb.Link l m n) (vbucket_of vb)) (node_of node)) (node_of producer)) (connection_of link)
+-- `link L M N V BUF follow`, by its numbers
+abbrev pub linked : List ℕ → List ℕ → List ℕ → List ℕ → List ℕ → Option Verb
+linked link producer node vb buffer =
+    option_and_then (λ l. option_and_then (λ m. option_and_then (λ n. option_and_then (λ v. option_map (verb.Link l m n v) (buffer_of buffer)) (vbucket_of vb)) (node_of node)) (node_of producer)) (connection_of link)
 
 -- a line of seven words
 abbrev pub link_line : List ℕ → List ℕ → List ℕ → List ℕ → List ℕ → List ℕ → List ℕ → Option Verb
-link_line word link producer node vb buffer mode = if is_link word buffer mode then linked link producer node vb else None
+link_line word link producer node vb buffer mode = if is_link word mode then linked link producer node vb buffer else None
 
 -- what the words of a line say, by how many they are
 abbrev pub counted_verb : List (List ℕ) → Option Verb

@@ -2,7 +2,7 @@
 use Rattle.std.specs.Prelude.{ℕ, ◌+◌, ◌-◌, ◌*◌, ◌^◌, ◌==◌, ◌&&◌, if◌then◌else◌, nat_lt, nat_le, List, [], ◌∷◌, length, slice_index, Option, Some, None, option_and_then}
 use Rattle.std.specs.List.{fold}
 use Rattle.std.specs.Option.{option_map}
-use Rattle.script_text.specs.declared.numbers.TheConstants.{NODES, VBUCKETS, CONNECTIONS, MOVED, FRAMES, BYTES}
+use Rattle.script_text.specs.declared.numbers.TheConstants.{NODES, VBUCKETS, CONNECTIONS, MOVED, FRAMES, BYTES, BUFFERS}
 
 -- one more digit of a number within 64 bits
 abbrev pub digit_step : Option ℕ → ℕ → Option ℕ
@@ -49,6 +49,10 @@ frames_of text = if_frames (number_of text)
 -- a byte's number
 abbrev pub byte_of : List ℕ → Option ℕ
 byte_of text = if_below BYTES (number_of text)
+
+-- how many bytes a link's buffer has
+abbrev pub buffer_of : List ℕ → Option ℕ
+buffer_of text = if_below BUFFERS (number_of text)
 
 -- the numbers that texts say, if each says one
 abbrev pub numbers_of : List (List ℕ) → Option (List ℕ)

@@ -1,5 +1,5 @@
 -- lines and causes of a transcript in letters, no two numbers of a line alike
-use Rattle.std.specs.Prelude.{◌≡◌, ℕ, List, [], ◌∷◌, Some, None, codes}
+use Rattle.std.specs.Prelude.{◌≡◌, [], Some, None, codes}
 use Rattle.vb_events.specs.declared.event.Cause.{Cause}
 use Rattle.vb_events.specs.declared.event.Cause.TheVariants as cause
 use Rattle.vb_events.specs.declared.event.Event.TheVariants as event

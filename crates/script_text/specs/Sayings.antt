@@ -91,8 +91,8 @@ link_words link_verb.Cut = (codes "cut", [])
 -- the line is the verb's words, with single spaces between
 abbrev pub Spells : List ℕ → Verb → Type 0
 Spells line (verb.Node n) = line ≡ codes "node " ⧺ decimal n
-Spells line (verb.Link l m n v) =
-    line ≡ codes "link " ⧺ decimal l ⧺ codes " " ⧺ decimal m ⧺ codes " " ⧺ decimal n ⧺ codes " " ⧺ decimal v ⧺ codes " 0 follow"
+Spells line (verb.Link l m n v b) =
+    line ≡ codes "link " ⧺ decimal l ⧺ codes " " ⧺ decimal m ⧺ codes " " ⧺ decimal n ⧺ codes " " ⧺ decimal v ⧺ codes " " ⧺ decimal b ⧺ codes " follow"
 Spells line (verb.AtNode n what) = line ≡ (node_words what).0 ⧺ codes " " ⧺ decimal n ⧺ (node_words what).1
 Spells line (verb.AtVb n v what) = line ≡ vb_word what ⧺ codes " " ⧺ decimal n ⧺ codes " " ⧺ decimal v ⧺ vb_tail what
 Spells line (verb.AtClient n c what) =

@@ -226,6 +226,7 @@ cause_text cause.Stopped = codes "stopped"
 abbrev pub why_text : Why → List ℕ
 why_text why.All = codes "-"
 why_text why.Idle = codes "idle"
+why_text why.Full = codes "full"
 why_text why.WaitSaved = codes "wait-saved"
 
 -- the answer to a script line: `ok`, with its number or with what was put, or `no` and the cause

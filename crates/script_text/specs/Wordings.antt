@@ -1,4 +1,4 @@
--- the words that tell of durable writes and of chains, of what is saved, and of nodes that stop
+-- the words that tell of durable writes and of chains, of what is saved, of nodes that stop, and of windows
 use Rattle.std.specs.Prelude.{◌≡◌, ◌↔◌, ℕ, Bool, true, false, List, [], ◌∷◌, ◌++◌, Option, Some, None, codes, decimal}
 use Rattle.vb_types.specs.declared.doc.Doc.{Doc}
 use Rattle.vb_types.specs.declared.change.Act.TheVariants as act
@@ -152,3 +152,31 @@ pub record StopsAreRefused : Type 0 where
   pub node : verb_by_letters (codes "start 16") ≡ None
   pub no_node : verb_by_letters (codes "start") ≡ None
   pub wide : verb_by_letters (codes "start 0 18446744073709551616") ≡ None
+
+-- why no more frames were put where the window is shut, and a pull that stops there, word by word
+pub record WindowWords : Type 0 where
+  pub full : IsWordOf Why why_text why.Full (codes "full")
+  pub stops : (frames : ℕ) → answer_text (answer.Pulled frames why.Full) ≡ codes "ok " ++ decimal frames ++ codes " full"
+
+-- lines of links, with no buffer, with some, and at the limits
+pub record LinksAreRead : Type 0 where
+  pub none : verb_by_letters (codes "link 1 2 3 4 0 follow") ≡ Some (verb.Link 1 2 3 4 0)
+  pub some : verb_by_letters (codes "link 1 2 3 4 10 follow") ≡ Some (verb.Link 1 2 3 4 10)
+  pub most : verb_by_letters (codes "link 999 15 15 1023 4294967295 follow") ≡ Some (verb.Link 999 15 15 1023 4294967295)
+
+-- lines beside them that say nothing
+pub record LinksAreRefused : Type 0 where
+  pub wide : verb_by_letters (codes "link 1 2 3 4 4294967296 follow") ≡ None
+  pub zeros : verb_by_letters (codes "link 1 2 3 4 007 follow") ≡ None
+  pub two_zeros : verb_by_letters (codes "link 1 2 3 4 00 follow") ≡ None
+  pub sign : verb_by_letters (codes "link 1 2 3 4 +5 follow") ≡ None
+  pub empty : verb_by_letters (codes "link 1 2 3 4  follow") ≡ None
+  pub dash : verb_by_letters (codes "link 1 2 3 4 - follow") ≡ None
+  pub no_buffer : verb_by_letters (codes "link 1 2 3 4 follow") ≡ None
+  pub no_mode : verb_by_letters (codes "link 1 2 3 4 0") ≡ None
+  pub other_mode : verb_by_letters (codes "link 1 2 3 4 0 follows") ≡ None
+  pub more : verb_by_letters (codes "link 1 2 3 4 0 follow 0") ≡ None
+  pub link : verb_by_letters (codes "link 1000 2 3 4 0 follow") ≡ None
+  pub producer : verb_by_letters (codes "link 1 16 3 4 0 follow") ≡ None
+  pub node : verb_by_letters (codes "link 1 2 16 4 0 follow") ≡ None
+  pub vb : verb_by_letters (codes "link 1 2 3 1024 0 follow") ≡ None

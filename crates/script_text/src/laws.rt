@@ -11,7 +11,7 @@ ghost use Rattle.script_text.specs.Ranges.{IsGroupRanged};
 ghost use Rattle.script_text.specs.Transcript.{hex_text, print_of};
 ghost use Rattle.vb_events.specs.declared.event.Group.{Group};
 ghost use Rattle.script_text.specs.Scripts.{line_said, IsScript, FirstBad};
-ghost use Rattle.script_text.specs.Wordings.{LevelsInWords, ActsInWords, DurableWords, ChainsInWords, ChainsAreRead, ChainsAreRefused, AcknowledgementWords, SavingInWords, SavingWords, StopsInWords, StopWords, StopsAreRead, StopsAreRefused};
+ghost use Rattle.script_text.specs.Wordings.{LevelsInWords, ActsInWords, DurableWords, ChainsInWords, ChainsAreRead, ChainsAreRefused, AcknowledgementWords, SavingInWords, SavingWords, StopsInWords, StopWords, StopsAreRead, StopsAreRefused, WindowWords, LinksAreRead, LinksAreRefused};
 ghost use Rattle.script_text.specs.Letters.{ChangesInLetters, GroupsInLetters, StreamsInLetters, WordsInLetters};
 ghost use Rattle.script_text.specs.Printed.{CausesInLetters, LinesInLetters};
 ghost use Rattle.script_text.specs.declared.script.Said.TheVariants as said;
@@ -66,7 +66,7 @@ pub fn script_or_bad_line()
 {}
 
 /// Each line of a script that was read is within its grammar's limits: node, vBucket, connection and
-/// link, branch, clock, what it moves or asks for, and the bytes that a client sends.
+/// link, buffer, branch, clock, what it moves or asks for, and the bytes that a client sends.
 pub fn lines_fit()
     ensures { (bytes : List ℕ) (script : List ScriptLine) → IsScript bytes script → ScriptFits script }
 {}
@@ -106,6 +106,14 @@ pub fn stops_in_words()
     ensures lines { StopWords }
     ensures read { StopsAreRead }
     ensures refused { StopsAreRefused }
+{}
+
+/// Flow control has words of its own. The line `link` says what it says by literal text, with a buffer
+/// up to its limit, and nothing past it; and `full` tells that a pull stopped at a shut window.
+pub fn windows_in_words()
+    ensures words { WindowWords }
+    ensures read { LinksAreRead }
+    ensures refused { LinksAreRefused }
 {}
 
 /// Lists of groups that print the same text are the same.

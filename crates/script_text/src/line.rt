@@ -4,7 +4,7 @@ ghost use Rattle.script_text.specs.Grammar.{hex_bytes_of, two_words, three_words
 ghost use Rattle.{std.specs.Str.{bytes_eq}, script_text.specs.Lines.{words_of}};
 ghost use Rattle.script_text.specs.Numbers.{numbers_of};
 
-use crate::numbers::{byte, connection, frames, moved, node, number, vbucket};
+use crate::numbers::{buffer, byte, connection, frames, moved, node, number, vbucket};
 use crate::verb::{ClientVerb, LinkVerb, NodeVerb, VbVerb, Verb};
 use bytes::Bytes;
 use std::alloc::{AllocError, Global};
@@ -303,21 +303,22 @@ fn vb_verb(word: &[u8], n: &[u8], v: &[u8], role: &[u8], u: &[u8]) -> Option<Ver
     Some(Verb::AtVb { node, vb, what })
 }
 
-/// Whether a line makes a link that follows. So far each link goes with no flow-control buffer.
-fn is_link(word: &[u8], buffer: &[u8], mode: &[u8]) -> bool
-    ensures { result ≡ is_link word.now buffer.now mode.now }
+/// Whether a line makes a link that follows.
+fn is_link(word: &[u8], mode: &[u8]) -> bool
+    ensures { result ≡ is_link word.now mode.now }
 {
-    says(word, b"link") && says(buffer, b"0") && says(mode, b"follow")
+    says(word, b"link") && says(mode, b"follow")
 }
 
-fn link_verb(l: &[u8], m: &[u8], n: &[u8], v: &[u8]) -> Option<Verb>
-    ensures { result ≡ linked l.now m.now n.now v.now }
+fn link_verb(l: &[u8], m: &[u8], n: &[u8], v: &[u8], b: &[u8]) -> Option<Verb>
+    ensures { result ≡ linked l.now m.now n.now v.now b.now }
 {
     Some(Verb::Link {
         id: connection(l)?,
         from: node(m)?,
         to: node(n)?,
         vb: vbucket(v)?,
+        buffer: buffer(b)?,
     })
 }
 
@@ -431,9 +432,9 @@ fn counted_verb(alloc: Global, words: &[&[u8]]) -> Result<Option<Verb>, AllocErr
         [word, a, b] => Ok(verb_of_three(word, a, b)),
         [word, a, b, c] => verb_of_four(alloc, word, a, b, c),
         [word, a, b, c, d] => Ok(verb_of_five(word, a, b, c, d)),
-        [word, l, m, n, v, buffer, mode] => {
-            if is_link(word, buffer, mode) {
-                Ok(link_verb(l, m, n, v))
+        [word, l, m, n, v, b, mode] => {
+            if is_link(word, mode) {
+                Ok(link_verb(l, m, n, v, b))
             } else {
                 Ok(None)
             }

@@ -1,6 +1,6 @@
 //! Numbers of a script line.
 ghost use Rattle.std.specs.Prelude.{◌≡◌};
-ghost use Rattle.script_text.specs.Numbers.{digit_step, number_of, if_below, node_of, vbucket_of, connection_of, moved_of, frames_of, byte_of};
+ghost use Rattle.script_text.specs.Numbers.{digit_step, number_of, if_below, node_of, vbucket_of, connection_of, moved_of, frames_of, byte_of, buffer_of};
 
 /// A script names nodes below this number.
 const NODES: u64 = 16;
@@ -19,6 +19,9 @@ const FRAMES: u64 = 1_000_000;
 
 /// A byte's number is below this one.
 const BYTES: u64 = 256;
+
+/// A link's buffer is below this number of bytes.
+const BUFFERS: u64 = 4_294_967_296;
 
 fn next_digit(number: Option<u64>, b: u8) -> Option<u64>
     ensures { result ≡ digit_step number b }
@@ -96,4 +99,12 @@ pub fn byte(text: &[u8]) -> Option<u8>
 {
     let number = below(BYTES, text)?;
     Some(number as u8)
+}
+
+/// How many bytes a link's buffer has.
+pub fn buffer(text: &[u8]) -> Option<u32>
+    ensures { result ≡ buffer_of text.now }
+{
+    let number = below(BUFFERS, text)?;
+    Some(number as u32)
 }

@@ -20,6 +20,7 @@ fn push_answer(text: &mut String, answer: Answer) -> Result<(), AllocError>
         Answer::Number(number) => write!(text, "ok {number}"),
         Answer::Pulled(frames, Why::All) => write!(text, "ok {frames} -"),
         Answer::Pulled(frames, Why::Idle) => write!(text, "ok {frames} idle"),
+        Answer::Pulled(frames, Why::Full) => write!(text, "ok {frames} full"),
         Answer::Pulled(frames, Why::WaitSaved) => write!(text, "ok {frames} wait-saved"),
         Answer::No(cause) => write!(text, "no {}", cause_word(cause)),
     }

@@ -10,13 +10,14 @@ pub enum Verb {
     Node {
         node: u8,
     },
-    /// `link L M N V BUF follow`: node N's consumer of vBucket V dials node M, with no flow-control
-    /// buffer, to follow its active vBucket.
+    /// `link L M N V BUF follow`: node N's consumer of vBucket V dials node M, to follow its active
+    /// vBucket, with a flow-control buffer of BUF bytes; with none where BUF is 0.
     Link {
         id: u32,
         from: u8,
         to: u8,
         vb: u16,
+        buffer: u32,
     },
     /// A line for a node.
     AtNode {

@@ -7,3 +7,4 @@ pub mod links
 pub mod disks
 pub mod verbs
 pub mod lines
+pub mod balance

@@ -123,7 +123,7 @@ as_told_of w r are a = record { agrees = a; conns = are; rests = rests_told w r 
 -- what the law needs of each line, by what it names
 pub row_of : (w : PlainWorld) (number : ℕ) (line : Verb) → Row w line (verb_step w number line)
 row_of w number (Verb.Node n) = node_row w n
-row_of w number (Verb.Link l m n v) = link_row w number l m n v
+row_of w number (Verb.Link l m n v buffer) = link_row w number l m n v buffer
 row_of w number (Verb.AtNode n what) = node_row_of w n what
 row_of w number (Verb.AtVb n v what) = vb_row_of w n v what
 row_of w number (Verb.AtClient n c what) = client_row_of w number n c what

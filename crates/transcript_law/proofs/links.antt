@@ -5,6 +5,7 @@ pub mod Breaking
 pub mod Comings
 pub mod Cutting
 pub mod Downing
+pub mod Firsts
 pub mod Followed
 pub mod Frames
 pub mod Marking
@@ -28,3 +29,5 @@ pub mod Counting
 pub mod Verdicts
 pub mod Posting
 pub mod Behind
+pub mod Windows
+pub mod Deliveries

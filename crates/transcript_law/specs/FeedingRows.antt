@@ -32,7 +32,7 @@ has_one said = record empty_node { vbs = one_in said }
 
 -- the link l feeds the vBucket 0 of the node 1 from the node 0, and asks for this
 abbrev pub feeding : ℕ → StreamAsk → PlainLink
-feeding l ask = new_link 9 l 0 1 0 ask
+feeding l ask = new_link 9 l 0 1 0 0 ask
 
 -- a node that runs, whose vBucket 0 is active and has these streams
 abbrev pub has_streams : List Stream → PlainNode

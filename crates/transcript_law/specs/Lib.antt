@@ -29,3 +29,4 @@ pub mod RefusalRows
 pub mod Tellings
 pub mod TellingRows
 pub mod FeedingRows
+pub mod Balance

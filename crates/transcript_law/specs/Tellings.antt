@@ -114,7 +114,7 @@ at_link l other line = is_any line
 
 abbrev pub may_tell : Verb → Event → Bool
 may_tell (verb.Node n) line = is_none line
-may_tell (verb.Link l m n v) line = is_none line
+may_tell (verb.Link l m n v buffer) line = is_none line
 may_tell (verb.AtNode n what) line = at_node n what line
 may_tell (verb.AtVb n v what) line = at_vb n v what line
 may_tell (verb.AtClient n c what) line = at_client what line

@@ -1,6 +1,6 @@
 //! What makes a transcript lawful or not, and what is no state that a script leaves.
 
-ghost use Rattle.std.specs.Prelude.{◌≡◌, [], ◌∷◌, ◌++◌, take, Some};
+ghost use Rattle.std.specs.Prelude.{◌≡◌, ◌<◌, ℕ, [], ◌∷◌, ◌++◌, take, Some};
 ghost use Rattle.transcript_law.specs.Followers.{two_followed, log_of, ask_above, ask_lines, other_ask_lines, late_ask_lines, granted_lines, stranger_lines, ended_lines, again_got, marker_line, set_item_line, first_item_line, next_item_line, both_sent_lines, next_change, replica_shown, two_docs, third_doc, ask_groups, answered_so, adopted_so, sent_so, got_so, shown_so, granted_inside, dialed_elsewhere, after_both, replica_ask_lines, made_from, made_dead, made_ask_lines, after_adopted, empty_in, changed_in, after_got, based, all_active, client_world, prepared_in, unbounded};
 ghost use Rattle.transcript_law.specs.Chronicles.{Idle, Written, empty_chronicle, after_lines, after_group, stood};
 ghost use Rattle.transcript_law.specs.Journals.{within, taken, with_written, with_stood, batch_lines, stat_lines, point_noted};
@@ -366,7 +366,12 @@ pub fn judged_answers()
     ensures uncounted { LawfulAnswer empty_chronicle (verb.AtLink 1 (link_verb.Up 10)) [] answer.Ok → ⊥ }
     ensures pumped { LawfulAnswer empty_chronicle (verb.AtLink 1 (link_verb.Pump 9)) both_sent_lines (answer.Pulled 3 why.Idle) }
     ensures all { LawfulAnswer empty_chronicle (verb.AtLink 1 (link_verb.Pump 3)) both_sent_lines (answer.Pulled 3 why.All) }
+    ensures full { LawfulAnswer empty_chronicle (verb.AtLink 1 (link_verb.Pump 9)) both_sent_lines (answer.Pulled 3 why.Full) }
+    ensures full_at_once { (wanted : ℕ) → 0 < wanted → LawfulAnswer empty_chronicle (verb.AtLink 1 (link_verb.Pump wanted)) [] (answer.Pulled 0 why.Full) }
     ensures fewer { LawfulAnswer empty_chronicle (verb.AtLink 1 (link_verb.Pump 9)) both_sent_lines (answer.Pulled 2 why.Idle) → ⊥ }
+    ensures full_fewer { LawfulAnswer empty_chronicle (verb.AtLink 1 (link_verb.Pump 9)) both_sent_lines (answer.Pulled 2 why.Full) → ⊥ }
+    ensures full_more { LawfulAnswer empty_chronicle (verb.AtLink 1 (link_verb.Pump 9)) both_sent_lines (answer.Pulled 4 why.Full) → ⊥ }
+    ensures not_full { LawfulAnswer empty_chronicle (verb.AtLink 1 (link_verb.Pump 3)) both_sent_lines (answer.Pulled 3 why.Full) → ⊥ }
     ensures not_all { LawfulAnswer empty_chronicle (verb.AtLink 1 (link_verb.Pump 9)) both_sent_lines (answer.Pulled 3 why.All) → ⊥ }
     ensures not_idle { LawfulAnswer empty_chronicle (verb.AtLink 1 (link_verb.Pump 3)) both_sent_lines (answer.Pulled 3 why.Idle) → ⊥ }
     ensures excess { LawfulAnswer empty_chronicle (verb.AtLink 1 (link_verb.Pump 2)) both_sent_lines (answer.Pulled 3 why.All) → ⊥ }

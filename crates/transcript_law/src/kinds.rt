@@ -22,7 +22,7 @@ pub fn judged_kinds()
     ensures bytes { (k : ℕ) (sent : List ℕ) → CountsNothing empty_chronicle (verb.AtClient 0 k (client_verb.Bytes sent)) }
     ensures hang { (k : ℕ) → CountsNothing empty_chronicle (verb.AtClient 0 k client_verb.Hang) }
     ensures clock { (nanos : ℕ) → CountsNothing empty_chronicle (verb.AtNode 0 (node_verb.Clock nanos)) }
-    ensures link { (l : ℕ) (v : ℕ) → CountsNothing empty_chronicle (verb.Link l 0 1 v) }
+    ensures link { (l : ℕ) (v : ℕ) (buffer : ℕ) → CountsNothing empty_chronicle (verb.Link l 0 1 v buffer) }
     ensures cut { CountsNothing one_dialed (verb.AtLink 1 link_verb.Cut) }
     ensures promote { (v : ℕ) (uuid : ℕ) → CountsNothing empty_chronicle (verb.AtVb 0 v (vb_verb.Promote uuid)) }
     ensures follow { (v : ℕ) → CountsNothing empty_chronicle (verb.AtVb 0 v vb_verb.Follow) }
@@ -66,7 +66,7 @@ pub fn judged_firing_lines()
     ensures bytes { (k : ℕ) (sent : List ℕ) → FiresNothing (verb.AtClient 0 k (client_verb.Bytes sent)) }
     ensures hang { (k : ℕ) → FiresNothing (verb.AtClient 0 k client_verb.Hang) }
     ensures clock { (nanos : ℕ) → FiresNothing (verb.AtNode 0 (node_verb.Clock nanos)) }
-    ensures link { (l : ℕ) (v : ℕ) → FiresNothing (verb.Link l 0 1 v) }
+    ensures link { (l : ℕ) (v : ℕ) (buffer : ℕ) → FiresNothing (verb.Link l 0 1 v buffer) }
     ensures up { (wanted : ℕ) → FiresNothing (verb.AtLink 1 (link_verb.Up wanted)) }
     ensures pump { (wanted : ℕ) → FiresNothing (verb.AtLink 1 (link_verb.Pump wanted)) }
     ensures cut { FiresNothing (verb.AtLink 1 link_verb.Cut) }

@@ -4,6 +4,7 @@
 #![tactic(auto)]
 
 mod alone;
+mod balances;
 mod bound;
 mod branches;
 mod clients;
@@ -22,6 +23,7 @@ mod tellings;
 mod untold;
 
 pub use alone::{judged_single_changes, judged_single_links, judged_single_streams};
+pub use balances::{balances_in_numbers, windows_balance};
 pub use bound::{judged_closed_links, judged_down_lines};
 pub use branches::branches_are_followed;
 pub use clients::{judged_client_answers, judged_client_lines, judged_client_stops};

@@ -52,7 +52,7 @@ pub fn judged_own_lines()
 /// cut of its own link.
 pub fn judged_other_lines()
     ensures node { MayNotTell (verb.Node 0) (turns_at 0 0) }
-    ensures link { MayNotTell (verb.Link 1 0 1 0) (ends_at 1) }
+    ensures link { (buffer : ℕ) → MayNotTell (verb.Link 1 0 1 0 buffer) (ends_at 1) }
     ensures clock { (nanos : ℕ) → MayNotTell (verb.AtNode 0 (node_verb.Clock nanos)) changes_here }
     ensures clock_closes { (nanos : ℕ) → MayNotTell (verb.AtNode 0 (node_verb.Clock nanos)) (closes 0 1) }
     ensures stop { (k : ℕ) (out : Outcome) → MayNotTell (verb.AtNode 0 (node_verb.Stop k out)) (stops_at 0) }

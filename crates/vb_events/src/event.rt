@@ -219,6 +219,8 @@ pub enum Why {
     All,
     /// It has nothing more to put.
     Idle,
+    /// The connection's window is shut, until its consumer acknowledges bytes or asks for another size.
+    Full,
     /// A stream goes on once more of its vBucket is saved.
     WaitSaved,
 }

@@ -10,7 +10,7 @@ use mcbp_dcp::{
 use mcbp_frame::Frame;
 use std::alloc::{AllocError, Global};
 use std::test::Fail;
-use vb_types::StreamAsk;
+use vb_types::{LogEntry, StreamAsk};
 
 // In each of these the opaque is 0x0a0b0c0d, and no two fields are alike. First stand magic, opcode,
 // length of the key, length of the extras, datatype and vBucket or status; then the length of the
@@ -108,6 +108,26 @@ const ROLLS_BACK: &[u8] = b"\x81\x53\0\0\0\0\0\x23\0\0\0\x08\x0a\x0b\x0c\x0d\0\0
 
 const REFUSES: &[u8] = b"\x81\x53\0\0\0\0\x01\x02\0\0\0\0\x0a\x0b\x0c\x0d\0\0\0\0\0\0\0\0";
 
+const CLOSE: &[u8] = b"\x80\x52\0\0\0\0\x01\x02\0\0\0\0\x0a\x0b\x0c\x0d\0\0\0\0\0\0\0\0";
+
+const LOG_REQUEST: &[u8] = b"\x80\x54\0\0\0\0\x01\x02\0\0\0\0\x0a\x0b\x0c\x0d\0\0\0\0\0\0\0\0";
+
+const NOOP: &[u8] = b"\x80\x5c\0\0\0\0\x01\x02\0\0\0\0\x0a\x0b\x0c\x0d\0\0\0\0\0\0\0\0";
+
+const TAKEN: &[u8] = b"\x80\x5d\0\0\x04\0\x01\x02\0\0\0\x04\x0a\x0b\x0c\x0d\0\0\0\0\0\0\0\0\
+    \x01\x02\x03\x04";
+
+const CLOSED: &[u8] = b"\x81\x52\0\0\0\0\x01\x02\0\0\0\0\x0a\x0b\x0c\x0d\0\0\0\0\0\0\0\0";
+
+const ALIVE: &[u8] = b"\x81\x5c\0\0\0\0\x01\x02\0\0\0\0\x0a\x0b\x0c\x0d\0\0\0\0\0\0\0\0";
+
+// Two entries: a UUID and a seqno each.
+const LOG: &[u8] = b"\x81\x54\0\0\0\0\0\0\0\0\0\x20\x0a\x0b\x0c\x0d\0\0\0\0\0\0\0\0\
+    \x11\x12\x13\x14\x15\x16\x17\x18\x21\x22\x23\x24\x25\x26\x27\x28\
+    \x31\x32\x33\x34\x35\x36\x37\x38\x41\x42\x43\x44\x45\x46\x47\x48";
+
+const NO_LOG: &[u8] = b"\x81\x54\0\0\0\0\x01\x02\0\0\0\0\x0a\x0b\x0c\x0d\0\0\0\0\0\0\0\0";
+
 // Numbers of which no two bytes are alike.
 const A: u64 = 0x1112131415161718;
 
@@ -155,9 +175,16 @@ fn outline(message: &DcpMsg) -> Outline<'_> {
         DcpMsg::Commit { change } => outline_resolution("commit", change),
         DcpMsg::Abort { change } => outline_resolution("abort", change),
         DcpMsg::SeqnoAcknowledged { seq } => outline_number("acknowledged", *seq),
+        DcpMsg::CloseStream => ("close", [0; 8], b"", b""),
+        DcpMsg::GetFailoverLog => ("log request", [0; 8], b"", b""),
+        DcpMsg::Noop => ("noop", [0; 8], b"", b""),
+        DcpMsg::BufferAcknowledgement { bytes } => outline_number("taken", *bytes as u64),
         DcpMsg::OpenAnswer { status } => outline_number("opened", *status as u64),
         DcpMsg::ControlAnswer { status } => outline_number("controlled", *status as u64),
         DcpMsg::StreamAnswer { told } => outline_told(told),
+        DcpMsg::CloseAnswer { status } => outline_number("closed", *status as u64),
+        DcpMsg::NoopAnswer { status } => outline_number("alive", *status as u64),
+        DcpMsg::LogAnswer { status, log } => outline_answer(*status, log.as_slice()),
     }
 }
 
@@ -215,18 +242,32 @@ fn outline_resolution<'a>(name: &'static str, change: &'a Resolution) -> Outline
     (name, numbers, change.key.as_slice(), b"")
 }
 
-/// The same of an answer to a request for a stream: of a log its first two entries and its length.
+/// The same of a log of two entries.
+fn outline_log(name: &'static str, log: &[LogEntry]) -> Outline<'static> {
+    match log {
+        [one, two] => (
+            name,
+            [one.uuid, one.seq, two.uuid, two.seq, 0, 0, 0, 0],
+            b"",
+            b"",
+        ),
+        _ => ("another log", [0; 8], b"", b""),
+    }
+}
+
+/// The same of an answer to a request for a log.
+fn outline_answer(status: u16, log: &[LogEntry]) -> Outline<'static> {
+    if status == 0 {
+        outline_log("log", log)
+    } else {
+        outline_number("no log", status as u64)
+    }
+}
+
+/// The same of an answer to a request for a stream.
 fn outline_told(told: &StreamVerdict) -> Outline<'_> {
     match told {
-        StreamVerdict::Go { log } => match log.as_slice() {
-            [one, two] => (
-                "streams",
-                [one.uuid, one.seq, two.uuid, two.seq, 0, 0, 0, 0],
-                b"",
-                b"",
-            ),
-            _ => ("another log", [0; 8], b"", b""),
-        },
+        StreamVerdict::Go { log } => outline_log("streams", log.as_slice()),
         StreamVerdict::Roll { point } => outline_number("rolls back", *point),
         StreamVerdict::Refused { status } => outline_number("refuses", *status as u64),
     }
@@ -258,6 +299,11 @@ fn is_spelled(message: &DcpMsg) -> bool
             StreamVerdict::Go { log } => log.as_slice().len() == 2,
             StreamVerdict::Roll { .. } => true,
             StreamVerdict::Refused { status } => *status == 0x0102,
+        },
+        DcpMsg::LogAnswer { status, log } => match log.as_slice() {
+            [] => true,
+            [_, _] => *status == 0,
+            _ => false,
         },
         _ => true,
     }
@@ -305,7 +351,7 @@ fn taken(alloc: Global, row: &Row) -> Result<(bool, BytesMut), Fail> {
 
 // A message's numbers, key and value are all that it has: so what is written of the one that is read
 // is what is written of the one that the row says.
-const ROWS: [Row; 17] = [
+const ROWS: [Row; 25] = [
     (OPEN, "open", [X, Y, 0, 0, 0, 0, 0, 0], b"n7", b""),
     (CONTROL, "control", [0; 8], b"key", b"value"),
     (
@@ -353,6 +399,14 @@ const ROWS: [Row; 17] = [
     (STREAMS, "streams", [A, B, C, D, 0, 0, 0, 0], b"", b""),
     (ROLLS_BACK, "rolls back", [A, 0, 0, 0, 0, 0, 0, 0], b"", b""),
     (REFUSES, "refuses", [0x0102, 0, 0, 0, 0, 0, 0, 0], b"", b""),
+    (CLOSE, "close", [0; 8], b"", b""),
+    (LOG_REQUEST, "log request", [0; 8], b"", b""),
+    (NOOP, "noop", [0; 8], b"", b""),
+    (TAKEN, "taken", [X, 0, 0, 0, 0, 0, 0, 0], b"", b""),
+    (CLOSED, "closed", [0x0102, 0, 0, 0, 0, 0, 0, 0], b"", b""),
+    (ALIVE, "alive", [0x0102, 0, 0, 0, 0, 0, 0, 0], b"", b""),
+    (LOG, "log", [A, B, C, D, 0, 0, 0, 0], b"", b""),
+    (NO_LOG, "no log", [0x0102, 0, 0, 0, 0, 0, 0, 0], b"", b""),
 ];
 
 /// The place of the first row that is read otherwise, or whose message is written otherwise.

@@ -1,31 +1,19 @@
 -- what is read of the lines agrees with the plain world, and both with a cluster in which what happened may happen
 use Rattle.std.specs.Prelude.{◌≡◌, ◌<◌, ◌≤◌, ◌∷◌, ◌++◌, ◌⊎◌, ◌^◌, ◌&&◌, ◌==◌, if◌then◌else◌}
-use Rattle.transcript_law.proofs.Words.{ℕ, zero, suc, Bool, true, false, List, [], length, map, drop, take, Option, Some, None, not, nat_le, is_some, All, concat, filter, flat_map}
+use Rattle.transcript_law.proofs.Words.{ℕ, suc, Bool, true, false, List, [], length, map, drop, take, Option, Some, None, not, nat_lt, is_some, All, concat, filter, flat_map}
 use Rattle.transcript_law.proofs.Words.{Frame, RESPONSE, spelling, Readable, DcpMsg, dcp_frame, Change, AskAnswer, Position, LogEntry, StreamAsk, last_seq, request_of, fork_of, Covers, Branch, hist, branch, IsNew, Feed}
 use Rattle.transcript_law.proofs.Words.{Member, Cluster, SoundCluster, flight_from, flight_end, Stream, Plain, is_active, is_follower, stream_at, Handshake, PlainStream, stream_verdict, act_message, STATE_CHANGED}
-use Rattle.transcript_law.proofs.Words.{open_request, sync_request, name_request, PlainLink, link_number, producer_node, consumer_node, PlainWorld, Outcome, is_one_of, with_branches, ItemLine, Begun, Granted}
+use Rattle.transcript_law.proofs.Words.{PlainLink, link_number, producer_node, consumer_node, PlainWorld, Outcome, is_one_of, with_branches, ItemLine, Begun, Granted}
 use Rattle.transcript_law.proofs.{Words.{Chronicle, after_lines, item_of_change, LawfulFrom, PlainProducer, PlainConsumer, uuid_of, front, Dial}, invariant.Seats.{seat}, invariant.Trees.{AreTold, IdsFit}}
-use Rattle.{dcp_consumer.specs.declared.handshake.Dialed.{Dialed}, dcp_consumer.specs.declared.handshake.Handshake.{Handshake as Waiting}, dcp_producer.specs.declared.desk.Desk.{Desk}}
+use Rattle.{dcp_consumer.specs.declared.handshake.Dialed.{Dialed}, dcp_producer.specs.declared.desk.Desk.{Desk}, transcript_law.proofs.links.Firsts.{request_frames, first_answers, first_count, set_after, waits_after}}
 use Rattle.vb_events.specs.declared.event.StreamName.TheVariants.{Link}
 use Rattle.{branch_model.specs.Journals.{log_of, place_of}, cluster_model.specs.Clusters.{Disk}, disk_journals.specs.Books.{Book, listed}, durability.specs.Laws.{HasOne}, vb_calls.specs.Shelves.{Shelf}}
 use Rattle.{transcript_law.specs.Chronicles.{ArmKnown, DiskKnown, no_arm, resting}, vb_disk.specs.declared.fuse.Fuse.{Fuse}, vb_types.specs.declared.role.Role.{Role}}
 use Rattle.vb_disk.specs.declared.fuse.Fuse.TheVariants.{Off, Stop, Fail}
 use Rattle.mcbp_dcp.specs.declared.message.DcpMsg.TheVariants as msg
 use Rattle.vb_types.specs.declared.stream.AskAnswer.TheVariants as ask_answer
-use Rattle.dcp_producer.specs.declared.desk.Handshake.TheVariants as shaken
-use Rattle.dcp_producer.specs.declared.desk.Named.TheVariants as named_as
-use Rattle.dcp_consumer.specs.declared.handshake.Handshake.TheVariants as waiting
 pub use Rattle.transcript_law.proofs.disks.Disks.{DiskIsIf, Power, book_in, power_of, shelf_of}
 pub use Rattle.transcript_law.proofs.invariant.Holdings.{vb_of, DocFits, ActFits, ChangeFits, MemberAgrees, BranchAgrees, IsWriter, IsWriterIf, Writes, WritesIf, EntryFits, own_history, VbContents, vb_contents, VbRow, vb_row, Keeps, VbTold, VbHeld, VbHolds, VbRowIs, VbAgrees, CountsAre, CountsIf, no_counts, active_counts, counts_if, IsAway, VbIsIf, AgreesAt, all_rise, image_is}
-
--- the frames that a consumer writes, in order: those of dialing, and its last request for a stream, with the opaque o
-abbrev pub request_frames : ℕ → ℕ → ℕ → StreamAsk → List Frame
-request_frames o node vb ask =
-    dcp_frame (open_request node) 1 0 ∷ dcp_frame sync_request 2 0 ∷ dcp_frame (name_request node) 3 0 ∷ dcp_frame (msg.StreamRequest ask) o vb ∷ []
-
--- the answers to the first three of them, which are never refused
-abbrev pub first_answers : List Frame
-first_answers = dcp_frame (msg.OpenAnswer 0) 1 0 ∷ dcp_frame (msg.ControlAnswer 0) 2 0 ∷ dcp_frame (msg.ControlAnswer 0) 3 0 ∷ []
 
 -- the frame of the answer to a request for a stream
 abbrev pub answer_frame : ℕ → List LogEntry → AskAnswer → Frame
@@ -145,30 +133,13 @@ UpIs link busy all = QueueIs link.up_heard link.up busy all
 abbrev pub DownAgrees : PlainLink → List Frame → List Frame → Type 0
 DownAgrees link busy all = QueueIs link.down_heard link.down busy all
 
--- what is set at a producer that has answered so many of the requests of its consumer at this node
-abbrev pub set_after : ℕ → ℕ → Handshake
-set_after node zero = shaken.Fresh
-set_after node (suc zero) = shaken.Open false named_as.Nobody
-set_after node (suc (suc zero)) = shaken.Open true named_as.Nobody
-set_after node (suc (suc (suc answered))) = shaken.Open true (named_as.Member node)
+-- the producer has answered so many of the requests of the consumer of this dial
+abbrev pub ServerIs : PlainProducer → Dialed → ℕ → Type 0
+ServerIs end d answered = end.handshake ≡ set_after d answered
 
--- what a consumer waits for that has taken so many of the answers: those to the first three requests, and to its last request for a stream
-abbrev pub waits_after : ℕ → Waiting
-waits_after zero = waiting.Opening
-waits_after (suc zero) = waiting.SyncWrites
-waits_after (suc (suc zero)) = waiting.Naming
-waits_after (suc (suc (suc zero))) = waiting.Asking
-waits_after (suc (suc (suc (suc seen)))) = waiting.Streaming
-
--- the producer has answered so many of the requests of the consumer at this node
-abbrev pub ServerIs : PlainProducer → ℕ → ℕ → Type 0
-ServerIs end node answered = end.handshake ≡ set_after node answered
-
--- the consumer has taken so many of the answers; a later request for a stream than the first comes behind all answers so far
+-- the consumer has taken so many of the answers; its last request for a stream has an opaque
 pub record ConsumerIs (end : PlainConsumer) (seen : ℕ) : Type 0 where
-  pub waits : end.handshake ≡ waits_after seen
-  pub first : seen ≤ 2 → end.asked ≡ 4
-  pub later : 4 ≤ end.asked
+  pub waits : end.handshake ≡ waits_after end.dialed seen
   pub small : end.asked < 2 ^ 32
 
 -- what a consumer's vBucket asks by, and whether its next marker is the first one of a stream
@@ -184,13 +155,13 @@ wants_of vb = record { log = vb.log; position = vb.position; first = vb.first }
 pub record AskingAt (fv : Wants) (ask : StreamAsk) (set : Handshake) (asker : PlainConsumer) (up down : List Frame) : Type 0 where
   pub answered : ℕ
   pub seen : ℕ
-  pub some_left : answered ≤ 3
+  pub some_left : answered ≤ first_count asker.dialed
   pub not_more : seen ≤ answered
-  pub server : set ≡ set_after asker.dialed.node answered
+  pub server : set ≡ set_after asker.dialed answered
   pub consumer : ConsumerIs asker seen
   pub asks : ask ≡ request_of fv.log fv.position
-  pub asked_is : up ≡ drop answered (request_frames asker.asked asker.dialed.node asker.dialed.vb ask)
-  pub said_is : down ≡ drop seen (take answered first_answers)
+  pub asked_is : up ≡ drop answered (request_frames asker.asked asker.dialed ask)
+  pub said_is : down ≡ drop seen (take answered (first_answers asker.dialed))
 
 pub record Asking (fv : Wants) (ask : StreamAsk) (served : PlainProducer) (asker : PlainConsumer) (up down : List Frame) : Type 0 where
   pub no_stream : served.stream ≡ None
@@ -215,11 +186,11 @@ pub record RefusedAt (point : Option ℕ) (set : Handshake) (asker : PlainConsum
   pub refused : IsRefused said
   pub told : PointAgrees said point
   pub seen : ℕ
-  pub not_more : seen ≤ 3
-  pub server : set ≡ set_after asker.dialed.node 4
+  pub not_more : seen ≤ first_count asker.dialed
+  pub server : set ≡ set_after asker.dialed (first_count asker.dialed)
   pub consumer : ConsumerIs asker seen
   pub asked_is : up ≡ []
-  pub said_is : down ≡ drop seen first_answers ++ answer_frame asker.asked [] said ∷ []
+  pub said_is : down ≡ drop seen (first_answers asker.dialed) ++ answer_frame asker.asked [] said ∷ []
 
 pub record RefusedYet (point : Option ℕ) (served : PlainProducer) (asker : PlainConsumer) (up down : List Frame) : Type 0 where
   pub no_stream : served.stream ≡ None
@@ -232,8 +203,15 @@ kept_stream false stream = Some stream
 kept_stream true stream = None
 
 -- an acknowledgement of a stream with the opaque o, of the vBucket vb, on its way to the producer: of a number of which the lines told before
+abbrev pub IsSeqnoAcknowledgement : List ℕ → ℕ → ℕ → Frame → Type 0
+IsSeqnoAcknowledgement wrote o vb f = (seq : ℕ) × (f ≡ dcp_frame (msg.SeqnoAcknowledged seq) o vb) × (seq < 2 ^ 64) × HasOne seq wrote
+
+-- one of the bytes of a delivery
+abbrev pub IsBytesAcknowledgement : ℕ → Frame → Type 0
+IsBytesAcknowledgement o f = (bytes : ℕ) × (f ≡ dcp_frame (msg.BufferAcknowledgement bytes) o 0) × (bytes < 2 ^ 32)
+
 abbrev pub IsAcknowledgement : List ℕ → ℕ → ℕ → Frame → Type 0
-IsAcknowledgement wrote o vb f = (seq : ℕ) × (f ≡ dcp_frame (msg.SeqnoAcknowledged seq) o vb) × (seq < 2 ^ 64) × HasOne seq wrote
+IsAcknowledgement wrote o vb f = IsSeqnoAcknowledgement wrote o vb f ⊎ IsBytesAcknowledgement o f
 
 -- the answer to an acknowledgement that was refused, which its consumer drops
 abbrev pub is_refused_ack : Frame → Bool
@@ -244,22 +222,26 @@ abbrev pub spoken : List Frame → List Frame
 spoken frames = filter (λ f. not (is_refused_ack f)) frames
 
 -- the producer's end of a granted stream, which has answered all requests but acknowledgements; and the frames of items that it is to put
-pub record Serving (served : PlainProducer) (o vb node : ℕ) (over : Bool) (wrote : List ℕ) (up : List Frame) : Type 0 where
+pub record Serving (served : PlainProducer) (o : ℕ) (d : Dialed) (over : Bool) (wrote : List ℕ) (up : List Frame) : Type 0 where
   pub stream : PlainStream
   pub stream_is : served.stream ≡ kept_stream over stream
-  pub apart : served.desk.node ≡ node → ⊥
-  pub server : ServerIs served node 4
-  pub acks : All (IsAcknowledgement wrote o vb) up
+  pub apart : served.desk.node ≡ d.node → ⊥
+  pub server : ServerIs served d (first_count d)
+  pub acks : All (IsAcknowledgement wrote o d.vb) up
   pub unput : List Frame
-  pub unput_is : unput ≡ items_frames o vb (drop stream.next stream.items)
+  pub unput_is : unput ≡ items_frames o d.vb (drop stream.next stream.items)
   pub all_put : over ≡ true → unput ≡ []
+
+-- a consumer has taken so many of the answers that the one that granted its stream is among them
+abbrev pub is_granted : Dialed → ℕ → Bool
+is_granted d seen = nat_lt (first_count d) seen
 
 -- its consumer's end: until it takes the answer that granted it, its vBucket asks for the same
 pub record Taking (fv : Wants) (coming : Option (List Change)) (asker : PlainConsumer) (ask : StreamAsk) (seen : ℕ) : Type 0 where
-  pub not_more : seen ≤ 4
+  pub not_more : seen ≤ suc (first_count asker.dialed)
   pub consumer : ConsumerIs asker seen
-  pub adopted : is_some coming ≡ nat_le 4 seen
-  pub asks : (nat_le 4 seen && not fv.first) ≡ false → (ask.start ≡ fv.position.at) × (ask.ss ≡ fv.position.ss) × (ask.se ≡ fv.position.se)
+  pub adopted : is_some coming ≡ is_granted asker.dialed seen
+  pub asks : (is_granted asker.dialed seen && not fv.first) ≡ false → (ask.start ≡ fv.position.at) × (ask.ss ≡ fv.position.ss) × (ask.se ≡ fv.position.se)
 
 -- a failover log that goes with an answer
 pub record LogFits (log : List LogEntry) : Type 0 where
@@ -270,7 +252,7 @@ pub record LogFits (log : List LogEntry) : Type 0 where
 pub record Streaming (fv : Wants) (kn : Member) (pv : Option Plain) (leader : Member) (g : Option Granted) (served : PlainProducer) (asker : PlainConsumer) (up put : List Frame) : Type 0 where
   pub granted_is : Granted
   pub told : g ≡ Some granted_is
-  pub serving : Serving served asker.asked asker.dialed.vb asker.dialed.node granted_is.over granted_is.wrote up
+  pub serving : Serving served asker.asked asker.dialed granted_is.over granted_is.wrote up
   pub open serving use *
   pub feed : Feed
   pub fed : kn.link ≡ Some feed
@@ -279,9 +261,9 @@ pub record Streaming (fv : Wants) (kn : Member) (pv : Option Plain) (leader : Me
   pub seen : ℕ
   pub taking : Taking fv kn.coming asker granted_is.ask seen
   pub open taking use *
-  pub streams : StreamAgrees asker.asked asker.dialed.vb served.desk.id granted_is serving.stream pv leader feed kn (nat_le 4 seen && not fv.first)
-  pub all : drop seen (first_answers ++ answer_frame asker.asked feed.log ask_answer.Go ∷ [])
-      ++ stream_frames asker.asked asker.dialed.vb granted_is.over (nat_le 4 seen && not fv.first) kn.position kn.coming feed.flight ≡ put ++ serving.unput
+  pub streams : StreamAgrees asker.asked asker.dialed.vb served.desk.id granted_is serving.stream pv leader feed kn (is_granted asker.dialed seen && not fv.first)
+  pub all : drop seen (first_answers asker.dialed ++ answer_frame asker.asked feed.log ask_answer.Go ∷ [])
+      ++ stream_frames asker.asked asker.dialed.vb granted_is.over (is_granted asker.dialed seen && not fv.first) kn.position kn.coming feed.flight ≡ put ++ serving.unput
 
 -- where the two ends of a link stand, with these frames on their way to the producer and to the consumer
 pub data EndsStand (fv : Wants) (kn : Member) (pv : Option Plain) (leader : Member) (g : Option Granted) (point : Option ℕ) (served : PlainProducer) (asker : PlainConsumer) (up down : List Frame) : Type 0 where
@@ -308,7 +290,7 @@ producer_seat link = seat (producer_node link) link.consumer.dialed.vb
 pub record DialAgrees (told : Option Dial) (desk : Desk) (d : Dialed) : Type 0 where
   pub dialed : told ≡ Some (record { producer = desk.node; node = d.node; vb = d.vb })
   pub named : desk.stream ≡ Link d.link
-  pub small : (d.node < 16) × (d.vb < 1024)
+  pub small : (d.node < 16) × (d.vb < 1024) × (d.buffer < 2 ^ 32)
 
 -- a link whose frames `up` are about to be answered, and whose frames `down` are about to be taken
 pub record LinkAgrees (w : PlainWorld) (r : Chronicle) (c : Cluster) (link : PlainLink) (up down : List Frame) : Type 0 where

@@ -126,7 +126,7 @@ module _ (conns : Conns) (w : PlainWorld) (number : ℕ) (are : ConnsAre w conns
   line_heard (Verb.AtClient n c (ClientVerb.Bytes bytes)) fits = came conns (verb_step w number (Verb.AtClient n c (ClientVerb.Bytes bytes))) (on conns w n (bytes_at c bytes) are (λ node t. bytes_go conns n c bytes node t))
   line_heard (Verb.AtClient n c ClientVerb.Hang) fits = hang_came conns w n c are
   line_heard (Verb.AtNode n (NodeVerb.Clock nanos)) fits = came conns (verb_step w number (Verb.AtNode n (NodeVerb.Clock nanos))) (on conns w n (clock_at nanos) are (λ node t. stays conns n node (clock_at nanos node).0 [] tt (λ c. refl) refl t))
-  line_heard (Verb.Link l m n v) fits = came conns (verb_step w number (Verb.Link l m n v)) (unless conns w (with_links w (with_dialed number l m n v w.links (ask_in w n v)), done []) (first_cause (link_causes w l m n v)) are (tt, are))
+  line_heard (Verb.Link l m n v buffer) fits = came conns (verb_step w number (Verb.Link l m n v buffer)) (unless conns w (with_links w (with_dialed number l m n v buffer w.links (ask_in w n v)), done []) (first_cause (link_causes w l m n v)) are (tt, are))
   line_heard (Verb.AtLink l (LinkVerb.Up wanted)) fits = came conns (verb_step w number (Verb.AtLink l (LinkVerb.Up wanted))) (over conns w l producer_node (up_at wanted) are (λ link node t. up_goes conns (producer_node link) wanted link node t))
   line_heard (Verb.AtLink l (LinkVerb.Down wanted)) fits = down_came conns w l (row_at link_number l w.links) (on_link w l consumer_node (down_in wanted)) (over conns w l consumer_node (down_in wanted) are (λ link node t.
       stays conns (consumer_node link) node (down_in wanted link node).0 (down_in wanted link node).1.1.events (down_mute wanted link node) (λ c. refl) refl t))

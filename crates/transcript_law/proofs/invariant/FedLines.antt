@@ -1,5 +1,5 @@
 -- after each line each stream of a vBucket is that of an open link
-use Rattle.std.specs.Prelude.{◌≡◌, ◌∷◌, ◌++◌, ◌⊎◌}
+use Rattle.std.specs.Prelude.{◌≡◌, ◌∷◌, ◌++◌}
 use Rattle.transcript_law.proofs.Words.{ℕ, List, [], refl, ap, inl, inr, ⊎_elim, fold, length, take, Option, Some, None, is_some, row_at, States, after, after_job, Cause, EndReason, Role, Plain}
 use Rattle.transcript_law.proofs.Words.{PlainLink, link_number, producer_node, consumer_node, PlainNode, PlainWorld, Told, Outcome, DialResult, with_node_at, with_links, with_states, node_outcome, own_link, moved_len, peer_of, dial_of, dial_bytes, over_why, up_at, pump_at, refusal, refused_or, first_cause, done}
 use Rattle.transcript_law.proofs.Words.{PlainSession, new_session, bytes_at, bytes_if, client_at, hang_at, cut_outcome, with_client, with_dialed, link_outcome, on_link, with_link, StreamAsk, new_link, new_vb, peer_pulled, with_vb_at}
@@ -194,9 +194,9 @@ module _ (w : PlainWorld) (fine : Fine w) where
   more_in x y [] i = absurd i
   more_in x y (z ∷ zs) i = ⊎_elim (λ e. inl e) (λ j. inr (more_in x y zs j)) i
 
-  pub dialed_fed : (line l m n v : ℕ) (o : Option StreamAsk) → AllFed (with_links w (with_dialed line l m n v w.links o))
-  dialed_fed line l m n v None = fine.fed
-  dialed_fed line l m n v (Some ask) = λ k q id h. let (x, i, of) = fine.fed k q id h in (x, more_in x (new_link line l m n v ask) w.links i, of)
+  pub dialed_fed : (line l m n v buffer : ℕ) (o : Option StreamAsk) → AllFed (with_links w (with_dialed line l m n v buffer w.links o))
+  dialed_fed line l m n v buffer None = fine.fed
+  dialed_fed line l m n v buffer (Some ask) = λ k q id h. let (x, i, of) = fine.fed k q id h in (x, more_in x (new_link line l m n v buffer ask) w.links i, of)
 
 -- what is due behind a batch
 pub due_fine : (n v : ℕ) (o : Outcome) → Fine o.0 → Fine (due_in n v o).0

@@ -1,13 +1,14 @@
 -- a producer's frames: each stream that a vBucket has more is the connection's own, which it keeps until that is over
 use Rattle.std.specs.Prelude.{◌≡◌, ◌∷◌, ◌++◌, ◌⊎◌, ◌==◌, ◌||◌, if◌then◌else◌, cond}
-use Rattle.transcript_law.proofs.Words.{ℕ, zero, suc, Bool, true, false, List, [], refl, ap, sym, ◌∙◌, subst, inl, inr, ⊎_elim, Option, Some, None, Result, Ok, Err, is_some, slice_get, list_any, is_active, eqb-true, eqb-false, Frame, RESPONSE, Status, Change, Plain, VbReply, Span, Stream, States, StreamAsk, Verdict, Continue, Roll}
+use Rattle.transcript_law.proofs.Words.{ℕ, zero, suc, codes, length, Bool, true, false, List, [], refl, ap, sym, ◌∙◌, subst, inl, inr, ⊎_elim, Option, Some, None, Result, Ok, Err, is_some, slice_get, list_any, is_active, eqb-true, eqb-false, Frame, RESPONSE, Status, Change, Plain, VbReply, Span, Stream, States, StreamAsk, Verdict, Continue, Roll}
 use Rattle.transcript_law.proofs.Words.{after, after_bind, Done, Prog, Turn, More, Stop, repeated, go_on, Halt, NoSnapshot, Handshake, DcpMsg, PlainProducer, PlainStream, Served, AskAnswer, rule, open_refusal, open_outcome, judged_open, id_refusal, first_reason, is_ranged, new_stream, stream_at, with_vb_at, call_at}
 use Rattle.transcript_law.proofs.Words.{frame_answered, read_answered, stream_request, stream_answered, status_sent, opened_unless, controlled, controlled_as, request_refusal, opening_id, verdict_with, ask_verdict, act_message, item_put, next_put, stream_put, halted_put, taken_put, take_unless, snapshot_of_reply, place_halt, pulled, frame_put, frames_put, end_put, marker_put}
 use Rattle.transcript_law.proofs.invariant.Unopened.{NoNew, put_new, step_new}
 use Rattle.transcript_law.specs.Feeding.{Has, HasIn, IsOpenAt}
 use Rattle.dcp_producer.specs.Producers.{member_of, is_sync}
-use Rattle.dcp_producer.specs.Pulling.{halt_at, place_requested, snapshot_of_answer}
-use Rattle.dcp_producer.specs.Serving.{acknowledged, count_answered, count_requested, counted_by, message_answered, open_refusal as opening_refusal, row_answered, stream_of, weighed, with_stream}
+use Rattle.dcp_producer.specs.Pulling.{counted_in_window, halt_at, in_window, place_requested, snapshot_of_answer}
+use Rattle.dcp_producer.specs.Serving.{acknowledged, count_answered, count_requested, counted_by, message_answered, open_refusal as opening_refusal, row_answered, sized, sized_as, stream_of, weighed, with_stream}
+use Rattle.std.specs.Str.{bytes_eq}
 use Rattle.mcbp_dcp.specs.Messages.{read_of}
 use Rattle.mcbp_dcp.specs.Rows.{dcp_opcodes}
 use Rattle.mcbp_dcp.specs.declared.message.DcpFault.{DcpFault}
@@ -102,6 +103,15 @@ module _ (others : ℕ → ℕ → Type 0) (id : ℕ) where
     unfolding status_sent
     control_keeps None = (mine, owned)
     control_keeps (Some set) = (mine, owned)
+
+    size_keeps : (o : Option ℕ) → Keeps (Done (sized_as o f s)) states
+    unfolding status_sent
+    size_keeps None = (mine, owned)
+    size_keeps (Some size) = (mine, owned)
+
+    bytes_keep : (b : Bool) (end : PlainProducer) → end.desk ≡ s.end.desk → end.stream ≡ s.end.stream → Keeps (Done (if b then record s { end = end } else status_sent f Status.Einval s)) states
+    bytes_keep true end desk stream = (ap (λ d. d.id) desk ∙ mine, subst (Owned states) (sym stream) owned)
+    bytes_keep false end desk stream = status_keeps Status.Einval
 
     counted_keeps : (member seq : ℕ) (reply : Option VbReply) → let t = count_answered f member seq s reply in (t.end.desk.id ≡ s.end.desk.id) × (t.end.stream ≡ s.end.stream)
     unfolding status_sent
@@ -207,7 +217,12 @@ module _ (others : ℕ → ℕ → Type 0) (id : ℕ) where
 
     message_keeps : (m : DcpMsg) → Keeps (message_answered f m s) states
     message_keeps (msg.Open number flags name) = open_keeps (opening_refusal s.end.handshake flags)
-    message_keeps (msg.Control key value) = control_keeps (controlled s.end.handshake key value)
+    message_keeps (msg.Control key value) = control_by (bytes_eq key (codes "connection_buffer_size"))
+      where
+        control_by : (b : Bool) → Keeps (Done (if b then sized_as (sized s.end.handshake value) f s else controlled_as (controlled s.end.handshake key value) f s)) states
+        control_by true = size_keeps (sized s.end.handshake value)
+        control_by false = control_keeps (controlled s.end.handshake key value)
+    message_keeps (msg.BufferAcknowledgement bytes) = bytes_keep _ _ refl refl
     message_keeps (msg.StreamRequest ask) = request_keeps ask
     message_keeps (msg.SeqnoAcknowledged seq) = ack_keeps seq
     message_keeps other = status_keeps Status.Einval
@@ -282,7 +297,22 @@ module _ (others : ℕ → ℕ → Type 0) (id : ℕ) where
 
     turn : (states : States) → Owned states s.end.stream → Turned (after (frame_put s) states)
     unfolding frame_put
-    turn states owned = stream_turns s.end.stream states refl owned
+    turn states owned = by _
+      where
+        program : Prog (Turn Served (Served × Halt))
+        program = counted_in_window (length s.out) (stream_put s s.end.stream)
+
+        counts : (t : Turn Served (Served × Halt)) (st : States) → Turned (st, t) → Turned (st, in_window (length s.out) t)
+        counts (More t) st x = x
+        counts (Stop put) st x = x
+
+        goes : Turned (after program states)
+        goes = subst Turned (sym (after_bind (stream_put s s.end.stream) (λ t. Done (in_window (length s.out) t)) states))
+            (counts (after (stream_put s s.end.stream) states).1 (after (stream_put s s.end.stream) states).0 (stream_turns s.end.stream states refl owned))
+
+        by : (b : Bool) → Turned (after (if b then program else Done (Stop (s, Halt.Full))) states)
+        by true = goes
+        by false = (mine, owned)
 
   go_turns : (t : Turn Served (Served × Halt)) (states : States) → Turned (states, t) → Turned (after (go_on frame_put t) states)
   go_turns (More s) states x = turn s x.0 states x.1

@@ -1,12 +1,12 @@
 -- the calls of clients, of a producer, of an operator and of writing down are such that a vBucket stays sound at them, whatever is replied
 use Rattle.std.specs.Prelude.{◌≡◌, ◌<◌, ◌^◌, ◌==◌, if◌then◌else◌, nat_le, slice_get}
 use Rattle.std.specs.List.{list_any}
-use Rattle.transcript_law.proofs.Words.{ℕ, zero, suc, Bool, true, false, Option, Some, None, is_some, Result, Ok, Err, Frame, KvRequest, RESPONSE, Status, Change, DcpMsg, Halt, NoSnapshot, PlainStream, PlainProducer, AdminCall, VbCall, VbReply, DialResult, Prog, Call, Done, Turn, More, Stop, repeated, go_on, bind, Job, Ended, bind_job}
-use Rattle.transcript_law.proofs.Words.{request_handled, frame_handled, frame_answered, stream_request, read_answered, take_unless, place_halt, next_put, stream_put, end_put, frame_put, frames_put, pulled, end_closed, stream_closed, admin_call, peer_pulled}
+use Rattle.transcript_law.proofs.Words.{ℕ, zero, suc, length, Bool, true, false, Option, Some, None, is_some, Result, Ok, Err, Frame, KvRequest, RESPONSE, Status, Change, DcpMsg, Halt, NoSnapshot, PlainStream, PlainProducer, AdminCall, VbCall, VbReply, DialResult, Prog, Call, Done, Turn, More, Stop, repeated, go_on, bind, Job, Ended, bind_job}
+use Rattle.transcript_law.proofs.Words.{request_handled, frame_handled, frame_answered, stream_request, read_answered, take_unless, place_halt, next_put, stream_put, end_put, frame_put, frames_put, pulled, end_closed, stream_closed, peer_pulled}
 use Rattle.client_session.proofs.Conduct.{either}
 use Rattle.client_session.specs.Serving.{MOST_DURABLE, Served as Session, deadline_of, durable_called, next_waiter, refused}
 use Rattle.dcp_producer.specs.Producers.{Served, begun, member_of}
-use Rattle.dcp_producer.specs.Pulling.{place_requested}
+use Rattle.dcp_producer.specs.Pulling.{counted_in_window, in_window, place_requested}
 use Rattle.dcp_producer.specs.Serving.{acknowledged, count_requested, message_answered, row_answered, status_sent, stream_of, weighed}
 use Rattle.durability.specs.Chains.{is_chain, Links}
 use Rattle.mcbp_dcp.specs.Messages.{read_of}
@@ -131,7 +131,14 @@ stream_tame s (Some stream) = next_tame s stream (slice_get stream.items stream.
 
 turn_tame : (s : Served) → Tame (frame_put s)
 unfolding frame_put
-turn_tame s = stream_tame s s.end.stream
+turn_tame s = by _
+  where
+    program : Prog (Turn Served (Served × Halt))
+    program = counted_in_window (length s.out) (stream_put s s.end.stream)
+
+    by : (b : Bool) → Tame (if b then program else Done (Stop (s, Halt.Full)))
+    by true = tame_bind (stream_put s s.end.stream) (λ t. Done (in_window (length s.out) t)) (stream_tame s s.end.stream) (λ t. tt)
+    by false = tt
 
 on_tame : (t : Turn Served (Served × Halt)) → Tame (go_on frame_put t)
 on_tame (More s) = turn_tame s

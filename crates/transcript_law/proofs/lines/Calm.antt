@@ -1,20 +1,22 @@
 -- lines that tell of no arm, and of no rollback but where a link's bytes are taken: those of connections, links and streams, whatever the replies of vBuckets and journals
 use Rattle.std.specs.Prelude.{◌≡◌, ◌∷◌, ◌++◌, ◌==◌, if◌then◌else◌}
-use Rattle.transcript_law.proofs.Words.{ℕ, Bool, true, false, List, [], refl, ap, ◌∙◌, zero, suc, take, map, Told, Answer, Cause, flat_map, filter-append, list_any, Option, Some, None, slice_get, Result, Ok, Err, Event, EndReason, Status, Change, Frame, FrameFault, RESPONSE, States, after, front_fault, frames_in, with_states, LogEntry, StreamAsk, VbAnswer, VbReply, PlainLink, PlainNode}
-use Rattle.transcript_law.proofs.Words.{Done, Turn, More, Stop, repeated, go_on, Handshake, Halt, NoSnapshot, DcpMsg, PlainStream, Served, begun, peer_pulled, peer_of, dial_of, moved_len, up_at, pump_at, bytes_at, bytes_if, PlainSession}
-use Rattle.transcript_law.proofs.Words.{stream_put, next_put, item_put, halted_put, take_unless, taken_put, snapshot_of_reply, pulled, act_message, place_halt, read_answered, opened_unless, controlled_as}
-use Rattle.dcp_producer.specs.Pulling.{end_put, frame_put, frames_put, marker_put, take_next}
+use Rattle.transcript_law.proofs.Words.{ℕ, Bool, true, false, List, [], refl, ap, ◌∙◌, zero, suc, length, take, map, Told, Answer, Cause, flat_map, filter-append, list_any, Option, Some, None, slice_get, Result, Ok, Err, Event, EndReason, Status, Change, Frame, FrameFault, RESPONSE, States, after, front_fault, frames_in, with_states, LogEntry, StreamAsk, VbAnswer, VbReply, PlainLink, PlainNode}
+use Rattle.transcript_law.proofs.Words.{Done, Turn, More, Stop, repeated, go_on, Handshake, Halt, NoSnapshot, DcpMsg, PlainProducer, PlainStream, Served, begun, peer_pulled, peer_of, dial_of, moved_len, up_at, pump_at, bytes_at, bytes_if, PlainSession}
+use Rattle.transcript_law.proofs.Words.{stream_put, next_put, item_put, halted_put, take_unless, taken_put, snapshot_of_reply, pulled, act_message, place_halt, read_answered, opened_unless, controlled, controlled_as, codes, Prog}
+use Rattle.dcp_producer.specs.Pulling.{counted_in_window, end_put, frame_put, frames_put, in_window, marker_put, take_next}
 use Rattle.dcp_consumer.specs.declared.handshake.Dialed.{Dialed}
 use Rattle.dcp_producer.specs.Producers.{member_of}
-use Rattle.dcp_producer.specs.Serving.{acknowledged, count_answered, count_requested, counted_by, frame_answered, message_answered, row_answered, status_sent, stream_answered, stream_of, stream_request, weighed}
+use Rattle.dcp_producer.specs.Serving.{acknowledged, count_answered, count_requested, counted_by, frame_answered, message_answered, row_answered, sized, sized_as, status_sent, stream_answered, stream_of, stream_request, weighed}
+use Rattle.std.specs.Str.{bytes_eq}
 use Rattle.mcbp_dcp.specs.declared.message.DcpFault.{DcpFault}
 use Rattle.mcbp_dcp.specs.declared.message.DcpMsg.TheVariants as msg
 use Rattle.mcbp_dcp.specs.Rows.{dcp_opcodes}
 use Rattle.node_core.specs.Flushing.{FlushResult}
 use Rattle.node_core.specs.Peers.{PeerResult, PlainPeer, peer_answered, peer_frames, peer_heard}
-use Rattle.node_core.specs.Dials.{DialResult, PlainDial, acknowledged_line, adopt_result, again_result, with_last_line, requested_once_more, bytes_taken, call_made, dial_due, dial_bytes, due_requested, due_met, due_of_reply, with_end_line, fault_met, follower_ask, frame_taken, frames_taken, go_on_with, got_line, granted_with, is_broken, is_done, is_over, message_result, over_for, passive_made, rest_met as dial_met, roll_back, rolled_back, saved_of_reply, step_made, taken_as, untold, with_consumer}
+use Rattle.node_core.specs.Dials.{DialResult, PlainDial, acknowledged_line, adopt_result, again_result, bytes_counted, with_last_line, requested_once_more, bytes_taken, call_made, dial_due, dial_bytes, due_requested, due_met, due_of_reply, with_end_line, fault_met, follower_ask, frame_taken, frames_taken, go_on_with, got_line, granted_with, is_broken, is_done, is_over, message_result, over_for, passive_made, rest_met as dial_met, roll_back, rolled_back, saved_of_reply, step_made, taken_as, untold, with_consumer}
 use Rattle.node_core.specs.Dials.{with_left as with_heard}
 use Rattle.dcp_consumer.specs.Machine.{consumer_step, is_streaming, may_acknowledge, over_why}
+use Rattle.dcp_consumer.specs.Counting.{bytes_acknowledged, counted_bytes}
 use Rattle.dcp_consumer.specs.declared.handshake.ConsumerStep.{ConsumerStep}
 use Rattle.dcp_consumer.specs.declared.handshake.ConsumerStep.TheVariants as step
 use Rattle.dcp_consumer.specs.declared.passive_stream.Passive.{Passive}
@@ -157,13 +159,22 @@ message_calm f (msg.Open number flags name) s c = by _
     by : (o : Option Status) → Producer (opened_unless o f s)
     by None = c
     by (Some st) = c
-message_calm f (msg.Control key value) s c = by _
+message_calm f (msg.Control key value) s c = either Producer (bytes_eq key (codes "connection_buffer_size")) (sized_as (sized s.end.handshake value) f s) (controlled_as (controlled s.end.handshake key value) f s) (sizes _) (by _)
   where
+    sizes : (o : Option ℕ) → Producer (sized_as o f s)
+    sizes None = c
+    sizes (Some size) = c
+
     by : (o : Option Handshake) → Producer (controlled_as o f s)
     by None = c
     by (Some set) = c
 message_calm f (msg.StreamRequest ask) s c = stream_calm f ask s c
 message_calm f (msg.SeqnoAcknowledged seq) s c = ack_calm f seq s c
+message_calm f (msg.BufferAcknowledgement bytes) s c = passes _ _
+  where
+    passes : (b : Bool) (end : PlainProducer) → Producer (if b then record s { end = end } else status_sent f Status.Einval s)
+    passes true end = c
+    passes false end = c
 message_calm f other s c = c
 
 answered_calm : (f : Frame) (s : Served) → Producer s → Always AnyCall Producer (frame_answered f s)
@@ -231,11 +242,22 @@ module _ (s : Served) (c : Producer s) where
 
   turn_calm : Always AnyCall Turned (frame_put s)
   unfolding frame_put
-  turn_calm = by s.end.stream
+  turn_calm = whether _
     where
+      program : Prog (Turn Served (Served × Halt))
+      program = counted_in_window (length s.out) (stream_put s s.end.stream)
+
+      counts : (t : Turn Served (Served × Halt)) → Turned t → Turned (in_window (length s.out) t)
+      counts (More t) d = d
+      counts (Stop stopped) d = d
+
       by : (o : Option PlainStream) → Always AnyCall Turned (stream_put s o)
       by None = c
       by (Some stream) = next_calm stream (slice_get stream.items stream.next)
+
+      whether : (b : Bool) → Always AnyCall Turned (if b then program else Done (Stop (s, Halt.Full)))
+      whether true = always_bind AnyReply AnyCall Turned Turned (stream_put s s.end.stream) (λ t. Done (in_window (length s.out) t)) (by s.end.stream) counts
+      whether false = c
 
 turns_calm : (k : ℕ) (s : Served) → Producer s → Always AnyCall Turned (repeated k frame_put s)
 turns_calm zero s c = c
@@ -337,8 +359,17 @@ taken_calm : (f : Frame) (s : DialResult) → Dial s → Takes (frame_taken f s)
 unfolding frame_taken
 taken_calm f s c = step_calm (consumer_step s.dial.consumer f).1 (with_consumer s (consumer_step s.dial.consumer f).0) c
 
-met_calm : (s : DialResult) → Dial s → Takes (dial_met s)
-met_calm s c = last (fault_met (front_fault s.dial.heard) s) (fault (front_fault s.dial.heard))
+written_calm : (frames : List Frame) (s : DialResult) → Dial s → Dial (bytes_counted frames s)
+unfolding bytes_counted
+written_calm frames s c = by _
+  where
+    by : (b : Bool) → Dial (if b then s else record s { out = s.out ++ bytes_acknowledged (counted_bytes frames) s.dial.consumer })
+    by true = c
+    by false = c
+
+met_calm : (frames : List Frame) (s : DialResult) → Dial s → Takes (dial_met frames s)
+met_calm frames s c =
+    let t : DialResult = fault_met (front_fault s.dial.heard) s in last (bytes_counted frames t) (written_calm frames t (fault (front_fault s.dial.heard)))
   where
     fault : (o : Option FrameFault) → Dial (fault_met o s)
     fault None = c
@@ -355,7 +386,7 @@ dial_calm : (piece : List ℕ) (dial : PlainDial) → Takes (dial_bytes piece di
 unfolding bytes_taken frames_taken
 dial_calm piece dial =
     let bytes : List ℕ = dial.heard ++ piece in let s : DialResult = with_heard (untold dial) bytes in
-    always_bind_job AnyReply AnyCall AnyAsk Dial Dial (each_job frame_taken (frames_in bytes) s) dial_met (always_each_job AnyReply AnyCall AnyAsk Dial frame_taken taken_calm (frames_in bytes) (Ended s) refl) met_calm
+    always_bind_job AnyReply AnyCall AnyAsk Dial Dial (each_job frame_taken (frames_in bytes) s) (dial_met (frames_in bytes)) (always_each_job AnyReply AnyCall AnyAsk Dial frame_taken taken_calm (frames_in bytes) (Ended s) refl) (met_calm (frames_in bytes))
 
 pub down_calm : (wanted : ℕ) (link : PlainLink) (node : PlainNode) → Still (down_in wanted link node).1.1.events
 down_calm wanted link node =

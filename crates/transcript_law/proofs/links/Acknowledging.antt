@@ -1,12 +1,12 @@
 -- a link whose consumer acknowledges: what it asks its vBucket for before that, and where the ends of the link stand then
 use Rattle.std.specs.Prelude.{◌≡◌, ◌<◌, ◌≤◌, ◌∷◌, ◌++◌, ◌==◌, ◌^◌, if◌then◌else◌}
 use Rattle.std.specs.FinMap as finite
-use Rattle.transcript_law.proofs.Words.{ℕ, Bool, true, false, zero, suc, List, [], refl, ap, sym, ◌∙◌, subst, inl, inr, ⊎_elim, map, arith, append_assoc, option_map, is_some, Option, Some, None, All, All-push, All-weaker, Frame, spelling, Readable, DcpMsg}
+use Rattle.transcript_law.proofs.Words.{ℕ, Bool, true, false, List, [], refl, ap, sym, ◌∙◌, subst, inl, inr, ⊎_elim, map, arith, append_assoc, option_map, is_some, Option, Some, None, All, All-push, All-weaker, Frame, spelling, Readable, DcpMsg}
 use Rattle.transcript_law.proofs.Words.{dcp_frame, Change, Position, last_seq, eqb-true, LawfulAcknowledged, Member, Cluster, Plain, is_follower, fork_of, quiet_reply, refusal_reply, States, with_vb_at, call_at, Call, Done, after, Sound, PlainConsumer, DialResult}
 use Rattle.transcript_law.proofs.Words.{row_at, row_put, PlainLink, link_number, producer_node, consumer_node, PlainWorld, Granted, Chronicle, PlainProducer, StreamName, Role, Feed, above, hist, image_in, image_of, ground, stream_branch, with_changed}
-use Rattle.transcript_law.proofs.invariant.Agreement.{vb_of, image_is, shelf_of, consumer_seat, AgreesAt, BranchAgrees, DiskIsIf, VbAgrees, IsAcknowledgement, UpIs, ConsumerIs, waits_after, EndsStand, Wants, LinkAgrees, Busy, AgreesIn}
+use Rattle.transcript_law.proofs.invariant.Agreement.{vb_of, image_is, shelf_of, consumer_seat, AgreesAt, BranchAgrees, DiskIsIf, VbAgrees, IsAcknowledgement, UpIs, ConsumerIs, EndsStand, Wants, LinkAgrees, Busy, AgreesIn}
 use Rattle.transcript_law.proofs.{invariant.Carried.{talk_same}, invariant.Carrying.{Relinked}, disks.Disks.{saved_so}, links.Followed.{fork_low, own_is}, links.Frames.{readable, spelled_more}, verbs.NodeLines.{put_same}, invariant.OneLink.{carries_link, mine}, links.PumpWorlds.{told_stream}, invariant.Tables.{changed_here, is_dialed}}
-use Rattle.{branch_model.specs.Logs.{IsFront}, cluster_model.specs.Clusters.{Comes, Ground, Joined, Linked, Stands}, std.proofs.lemmas.Bool.{le-leb}}
+use Rattle.{branch_model.specs.Logs.{IsFront}, cluster_model.specs.Clusters.{Comes, Ground, Joined, Linked, Stands}, std.proofs.lemmas.Bool.Decides.{nat_tests}, transcript_law.proofs.links.Firsts.{first_count}, transcript_law.proofs.links.Requests.{granted_past}}
 use Rattle.transcript_law.specs.{Chronicles.{acknowledging}, Lawfulness.{SavesThirds, known_history, stream_history}}
 use Rattle.branch_model.specs.Snapshots.{Follows}
 use Rattle.{dcp_consumer.specs.Machine.{acknowledged, is_streaming, may_acknowledge}}
@@ -20,17 +20,9 @@ use Rattle.vb_types.specs.declared.status.Status.TheVariants.{NotMyVbucket}
 abbrev pub ack_frame : ℕ → PlainConsumer → Frame
 ack_frame seq c = dcp_frame (DcpMsg.SeqnoAcknowledged seq) c.asked c.dialed.vb
 
--- a stream that was granted is past all answers to its requests
-granted_past : (seen : ℕ) → is_streaming (waits_after seen) ≡ true → 4 ≤ seen
-granted_past zero e = cc
-granted_past (suc zero) e = cc
-granted_past (suc (suc zero)) e = cc
-granted_past (suc (suc (suc zero))) e = cc
-granted_past (suc (suc (suc (suc seen)))) e = omega arith
-
 -- no stream is granted before its answer came
-not_before : (consumer : PlainConsumer) → is_streaming consumer.handshake ≡ true → (seen : ℕ) → seen ≤ 3 → ConsumerIs consumer seen → ⊥
-not_before consumer granted seen few x = let past : 4 ≤ seen = granted_past seen (sym (ap is_streaming x.waits) ∙ granted) in omega arith
+pub not_before : (consumer : PlainConsumer) → is_streaming consumer.handshake ≡ true → (seen : ℕ) → seen ≤ first_count consumer.dialed → ConsumerIs consumer seen → ⊥
+not_before consumer granted seen few x = let past : first_count consumer.dialed < seen = granted_past consumer.dialed seen (sym (ap is_streaming x.waits) ∙ granted) in omega arith
 
 -- a stream that was granted, as the lines tell it: what feeds its consumer, which adopted its log, is of the same branch
 pub record GrantedTo (kn : Member) (told : Option Granted) : Type 0 where
@@ -44,14 +36,14 @@ pub record GrantedTo (kn : Member) (told : Option Granted) : Type 0 where
 -- a consumer whose stream was granted has one that the lines tell
 pub stream_granted : {fv : Wants} {kn leader : Member} {pv : Option Plain} {g : Option Granted} {point : Option ℕ} {served : PlainProducer} {consumer : PlainConsumer} {asked said : List Frame} → EndsStand fv kn pv leader g point served consumer asked said
     → is_streaming consumer.handshake ≡ true → GrantedTo kn g
-stream_granted {consumer = consumer} (EndsStand.IsAsking ask x) granted = let a : x.seen ≤ x.answered = x.not_more in let b : x.answered ≤ 3 = x.some_left in absurd (not_before consumer granted x.seen (omega arith) x.consumer)
+stream_granted {consumer = consumer} (EndsStand.IsAsking ask x) granted = let a : x.seen ≤ x.answered = x.not_more in let b : x.answered ≤ first_count consumer.dialed = x.some_left in absurd (not_before consumer granted x.seen (omega arith) x.consumer)
 stream_granted {consumer = consumer} (EndsStand.IsRefusedYet x) granted = absurd (not_before consumer granted x.seen x.not_more x.consumer)
-stream_granted (EndsStand.IsStreaming x) granted = record {
+stream_granted {consumer = consumer} (EndsStand.IsStreaming x) granted = record {
   stream = x.granted_is;
   is_told = x.told;
   feed = x.feed;
   fed = x.fed;
-  adopted = x.adopted ∙ le-leb 4 x.seen (granted_past x.seen (sym (ap is_streaming x.consumer.waits) ∙ granted));
+  adopted = x.adopted ∙ (let past = granted_past consumer.dialed x.seen (sym (ap is_streaming x.consumer.waits) ∙ granted) in grind (arith, nat_tests, past));
   points_of_branch = x.streams.put.front_is;
 }
 
@@ -72,7 +64,7 @@ on_stream g kn feed b s fed adopted is unlogged = by b is unlogged
 
 -- once more is acknowledged, what was on its way before is acknowledged still
 acks_more : (seq o vb : ℕ) (wrote : List ℕ) (frames : List Frame) → All (IsAcknowledgement wrote o vb) frames → All (IsAcknowledgement (seq ∷ wrote) o vb) frames
-acks_more seq o vb wrote frames acks = All-weaker (IsAcknowledgement wrote o vb) (IsAcknowledgement (seq ∷ wrote) o vb) (λ f a. (a.0, a.1, a.2, inr a.3)) frames acks
+acks_more seq o vb wrote frames acks = All-weaker (IsAcknowledgement wrote o vb) (IsAcknowledgement (seq ∷ wrote) o vb) (λ f a. ⊎_elim (λ s. inl (s.0, s.1, s.2, inr s.3)) (λ b. inr b) a) frames acks
 
 -- a link whose consumer acknowledged all up to a seqno, with these bytes on their way to the producer
 abbrev pub acked_link : PlainLink → ℕ → List ℕ → PlainLink
@@ -92,7 +84,7 @@ module _ (link : PlainLink) (seq : ℕ) (up : List ℕ) (wrote : up ≡ link.up 
     opaque_small (EndsStand.IsStreaming x) = x.consumer.small
 
     stands_acked : {g' : Option Granted} → g' ≡ option_map (acknowledging seq) g → EndsStand fv kn pv leader g point link.server link.consumer asked said → EndsStand fv kn pv leader g' point link.server after_ack.consumer (asked ++ frame ∷ []) said
-    stands_acked told (EndsStand.IsAsking ask x) = let a : x.seen ≤ x.answered = x.not_more in let b : x.answered ≤ 3 = x.some_left in absurd (not_before link.consumer granted x.seen (omega arith) x.consumer)
+    stands_acked told (EndsStand.IsAsking ask x) = let a : x.seen ≤ x.answered = x.not_more in let b : x.answered ≤ first_count link.consumer.dialed = x.some_left in absurd (not_before link.consumer granted x.seen (omega arith) x.consumer)
     stands_acked told (EndsStand.IsRefusedYet x) = absurd (not_before link.consumer granted x.seen x.not_more x.consumer)
     stands_acked told (EndsStand.IsStreaming x) = EndsStand.IsStreaming (record {
       granted_is = acknowledging seq x.granted_is;
@@ -102,7 +94,7 @@ module _ (link : PlainLink) (seq : ℕ) (up : List ℕ) (wrote : up ≡ link.up 
         stream_is = x.stream_is;
         apart = x.apart;
         server = x.server;
-        acks = All-push (IsAcknowledgement (seq ∷ x.granted_is.wrote) link.consumer.asked link.consumer.dialed.vb) asked frame (acks_more seq link.consumer.asked link.consumer.dialed.vb x.granted_is.wrote asked x.acks) (seq, refl, low, inl refl);
+        acks = All-push (IsAcknowledgement (seq ∷ x.granted_is.wrote) link.consumer.asked link.consumer.dialed.vb) asked frame (acks_more seq link.consumer.asked link.consumer.dialed.vb x.granted_is.wrote asked x.acks) (inl (seq, refl, low, inl refl));
         unput = x.unput;
         unput_is = x.unput_is;
         all_put = x.all_put;
@@ -113,7 +105,7 @@ module _ (link : PlainLink) (seq : ℕ) (up : List ℕ) (wrote : up ≡ link.up 
       seen = x.seen;
       taking = record {
         not_more = x.not_more;
-        consumer = record { waits = x.consumer.waits; first = x.consumer.first; later = x.consumer.later; small = x.consumer.small };
+        consumer = record { waits = x.consumer.waits; small = x.consumer.small };
         adopted = x.adopted;
         asks = x.asks;
       };

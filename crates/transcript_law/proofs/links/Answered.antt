@@ -1,19 +1,22 @@
 -- how a request for a stream is answered, over the plain vBuckets of a node, and where the two ends of its link stand then
 use Rattle.std.specs.Prelude.{◌≡◌, ◌<◌, ◌≤◌, ◌∷◌, ◌++◌, ◌==◌, ◌&&◌, ◌^◌, if◌then◌else◌, ◌||◌}
 use Rattle.transcript_law.proofs.Words.{answered, ℕ, true, false, List, [], length, take, drop, refl, ap, sym, ◌∙◌, subst, arith, Option, Some, None, not}
-use Rattle.transcript_law.proofs.Words.{nat_le, All, eq-eqb, ne_eqb, nat_tests, drop-append-le, All-nil, Frame, spelling, Readable, dcp_frame, EntryInRange, AskAnswer, Position}
+use Rattle.transcript_law.proofs.Words.{All, eq-eqb, ne_eqb, nat_tests, drop-append-le, All-nil, Frame, spelling, Readable, dcp_frame, EntryInRange, AskAnswer, Position}
 use Rattle.transcript_law.proofs.Words.{LogEntry, StreamAsk, front, uuid_of, IsFront, Member, Stream, Plain, is_active, stream_at, new_stream, Sound, stream_verdict, PlainProducer, granted, PlainLink}
 use Rattle.transcript_law.proofs.Words.{producer_node, consumer_node, Granted, Feed, option_or, All-weaker, find-append, DcpMsg, Handshake, is_some, nat_lt, AskInRange, Event, Status, Verdict}
 use Rattle.transcript_law.proofs.Words.{Continue, Roll, rule, open_refusal, after, States, with_vb_at, call_at, with_frame, refuse, stream_request, frame_answered, PlainStream, Served, VbCall}
 use Rattle.transcript_law.proofs.Words.{judged_open, open_outcome, verdict_with, ask_verdict, opening_id, high_of_reply, request_refusal, stream_answered, is_sync, told}
+use Rattle.std.proofs.lemmas.List.{take_all}
+use Rattle.dcp_consumer.specs.declared.handshake.Dialed.{Dialed}
 use Rattle.dcp_producer.specs.declared.desk.Named.{Named}
-use Rattle.transcript_law.proofs.invariant.Agreement.{EntryFits, IsAcknowledgement, spoken, request_frames, first_answers, answer_frame, set_after, StreamAgrees, UpIs, DownAgrees, Asking, IsRefused, PointAgrees, wants_of, EndsStand, Talk}
+use Rattle.transcript_law.proofs.invariant.Agreement.{EntryFits, IsAcknowledgement, spoken, answer_frame, is_granted, StreamAgrees, UpIs, DownAgrees, Asking, IsRefused, PointAgrees, wants_of, EndsStand, Talk}
 use Rattle.transcript_law.proofs.invariant.Carrying.{StreamsChanged}
 use Rattle.transcript_law.proofs.{links.Frames.{readable}, links.Spoken.{answer_spoken, spoken_push}}
 use Rattle.transcript_law.proofs.links.Talks.{served_link, next_up, more_down}
 use Rattle.transcript_law.proofs.invariant.Carried.{sound_streams}
 use Rattle.dcp_producer.specs.Serving.{log_of_reply}
-use Rattle.transcript_law.proofs.links.Requests.{request_answered}
+use Rattle.transcript_law.proofs.links.Firsts.{first_answers, first_count, request_frames, set_after}
+use Rattle.transcript_law.proofs.links.Requests.{all_set, answers_count, request_answered, request_last}
 
 -- the states with this vBucket at v, and else the same
 pub record StatesAre (st : States) (v : ℕ) (vb : Plain) (st' : States) : Type 0 where
@@ -135,27 +138,33 @@ granted_readable o log few short fits =
     few (omega arith) (omega (arith, short))
 
 -- where the last request is about to be answered
-module _ (fv : Plain) (ask : StreamAsk) (link : PlainLink) (down : List ℕ) (f : Frame) (fs asked said : List Frame) (t : Asking (wants_of fv) ask link.server link.consumer asked (spoken said)) (last : t.answered ≡ 3)
+module _ (fv : Plain) (ask : StreamAsk) (link : PlainLink) (down : List ℕ) (f : Frame) (fs asked said : List Frame) (t : Asking (wants_of fv) ask link.server link.consumer asked (spoken said)) (last : t.answered ≡ first_count link.consumer.dialed)
     (ups : UpIs link (f ∷ fs) asked) (downs : DownAgrees link [] said) where
   -- the request's opaque
   abbrev o : ℕ
   o = link.consumer.asked
 
-  seen_most : t.seen ≤ 3
+  abbrev dialed : Dialed
+  dialed = link.consumer.dialed
+
+  seen_most : t.seen ≤ first_count dialed
   seen_most = subst (λ j. t.seen ≤ j) last t.not_more
 
   last_up : (end : PlainProducer) (a : Frame) → UpIs (served_link link end down) fs []
   last_up end a = next_up link end down a f (dcp_frame (DcpMsg.StreamRequest ask) o link.consumer.dialed.vb) fs []
-      (subst (UpIs link (f ∷ fs)) (t.asked_is ∙ ap (λ j. drop j (request_frames o link.consumer.dialed.node link.consumer.dialed.vb ask)) last) ups)
+      (subst (UpIs link (f ∷ fs)) (t.asked_is ∙ ap (λ j. drop j (request_frames o dialed ask)) last ∙ request_last o dialed ask) ups)
 
-  answers_said : spoken said ≡ drop t.seen first_answers
-  answers_said = t.said_is ∙ ap (λ j. drop t.seen (take j first_answers)) last
+  answers_said : spoken said ≡ drop t.seen (first_answers dialed)
+  answers_said = t.said_is ∙ ap (λ j. drop t.seen (take j (first_answers dialed))) last ∙ ap (drop t.seen) (take_all (first_count dialed) (first_answers dialed) (omega (arith, answers_count dialed)))
 
   last_down : (end : PlainProducer) (a : Frame) → down ≡ link.down ++ spelling a → Readable a → DownAgrees (served_link link end down) [] (said ++ a ∷ [])
   last_down end a wrote good = more_down link end down a said wrote good downs
 
+  all_answered : link.server.handshake ≡ set_after dialed (first_count dialed)
+  all_answered = t.server ∙ ap (set_after dialed) last
+
   pub asked_opened : link.server.handshake ≡ Handshake.Open true (Named.Member link.consumer.dialed.node)
-  asked_opened = t.server ∙ ap (set_after link.consumer.dialed.node) last
+  asked_opened = all_answered ∙ all_set dialed
 
   pub refused_talk : (kn : Member) (pv : Option Plain) (leader : Member) (g : Option Granted) (answer : AskAnswer) → IsRefused answer → (point : Option ℕ) → PointAgrees answer point → down ≡ link.down ++ spelling (answer_frame o [] answer)
       → Talk fv kn pv leader g point (served_link link link.server down) fs []
@@ -170,7 +179,7 @@ module _ (fv : Plain) (ask : StreamAsk) (link : PlainLink) (down : List ℕ) (f 
         told = told;
         seen = t.seen;
         not_more = seen_most;
-        server = asked_opened;
+        server = all_answered;
         consumer = t.consumer;
         asked_is = refl;
         said_is = spoken_push said (answer_frame o [] answer) (answer_spoken o [] answer) ∙ ap (λ x. x ++ answer_frame o [] answer ∷ []) answers_said;
@@ -204,7 +213,7 @@ module _ (fv : Plain) (ask : StreamAsk) (link : PlainLink) (down : List ℕ) (f 
     front_uuid [] br e = absurd e
     front_uuid (e ∷ older) br is = is
 
-    low : nat_le 4 t.seen ≡ false
+    low : is_granted dialed t.seen ≡ false
     low = let most = seen_most in grind (arith, nat_tests, most)
 
     marked_stream_begun : StreamAgrees o link.consumer.dialed.vb link.server.desk.id (granted ask pv.log) (begun_stream o link.consumer.dialed.vb ask.start) (Some opened_vb) pn
@@ -236,9 +245,9 @@ module _ (fv : Plain) (ask : StreamAsk) (link : PlainLink) (down : List ℕ) (f 
     abbrev new_feed : Feed
     new_feed = record { u = pn.br; log = pn.log; flight = []; given = None }
 
-    all_said : spoken (said ++ answer_frame o pv.log AskAnswer.Go ∷ []) ≡ drop t.seen (first_answers ++ answer_frame o pv.log AskAnswer.Go ∷ [])
+    all_said : spoken (said ++ answer_frame o pv.log AskAnswer.Go ∷ []) ≡ drop t.seen (first_answers dialed ++ answer_frame o pv.log AskAnswer.Go ∷ [])
     all_said = let most = seen_most in
-        spoken_push said (answer_frame o pv.log AskAnswer.Go) (answer_spoken o pv.log AskAnswer.Go) ∙ ap (λ x. x ++ answer_frame o pv.log AskAnswer.Go ∷ []) answers_said ∙ sym (drop-append-le t.seen first_answers (answer_frame o pv.log AskAnswer.Go ∷ []) (omega (arith, most)))
+        spoken_push said (answer_frame o pv.log AskAnswer.Go) (answer_spoken o pv.log AskAnswer.Go) ∙ ap (λ x. x ++ answer_frame o pv.log AskAnswer.Go ∷ []) answers_said ∙ sym (drop-append-le t.seen (first_answers dialed) (answer_frame o pv.log AskAnswer.Go ∷ []) (omega (arith, most, answers_count dialed)))
 
     pub granted_talk : (point : Option ℕ) → Talk fv (answered kn pn) (Some opened_vb) pn (Some (granted ask pv.log)) point granted_link fs []
     granted_talk point = record {
@@ -251,7 +260,7 @@ module _ (fv : Plain) (ask : StreamAsk) (link : PlainLink) (down : List ℕ) (f 
           stream = begun_stream o link.consumer.dialed.vb ask.start;
           stream_is = refl;
           apart = apart;
-          server = asked_opened;
+          server = all_answered;
           acks = All-nil (IsAcknowledgement [] o link.consumer.dialed.vb);
           unput = [];
           unput_is = refl;
@@ -268,7 +277,7 @@ module _ (fv : Plain) (ask : StreamAsk) (link : PlainLink) (down : List ℕ) (f 
           asks = λ e. (ap (λ (a : StreamAsk). a.start) t.asks, ap (λ (a : StreamAsk). a.ss) t.asks, ap (λ (a : StreamAsk). a.se) t.asks);
         };
         streams = subst (λ b. StreamAgrees o link.consumer.dialed.vb link.server.desk.id (granted ask pv.log) (begun_stream o link.consumer.dialed.vb ask.start) (Some opened_vb) pn new_feed (answered kn pn) (b && not fv.first)) (sym low) marked_stream_begun;
-        all = ap (λ l. drop t.seen (first_answers ++ answer_frame o l AskAnswer.Go ∷ []) ++ []) logs ∙ ap (λ x. x ++ []) (sym all_said);
+        all = ap (λ l. drop t.seen (first_answers dialed ++ answer_frame o l AskAnswer.Go ∷ []) ++ []) logs ∙ ap (λ x. x ++ []) (sym all_said);
       });
       ups = last_up (record link.server { stream = Some (begun_stream o link.consumer.dialed.vb ask.start) }) (answer_frame o pv.log AskAnswer.Go);
       downs = last_down (record link.server { stream = Some (begun_stream o link.consumer.dialed.vb ask.start) }) (answer_frame o pv.log AskAnswer.Go) wrote

@@ -1,18 +1,18 @@
 -- an acknowledgement is counted at a producer, or refused: all lines are lawful, and after them all agrees
 use Rattle.std.specs.Prelude.{◌≡◌, ◌<◌, ◌≤◌, ◌∷◌, ◌++◌, ◌==◌, ◌&&◌, ◌^◌, if◌then◌else◌, nat_lt, not, Result, Ok, Err}
-use Rattle.dcp_producer.specs.{Producers.{member_of}, Serving.{acknowledged, count_answered, count_requested, counted_by, counted_line, status_frame, stream_of, weighed}}
+use Rattle.dcp_producer.specs.{Producers.{member_of}, declared.desk.Named.{Named}, Serving.{acknowledged, count_answered, count_requested, counted_by, counted_line, status_frame, stream_of, weighed}}
 use Rattle.durability.specs.Outstanding.{with_ack}
 use Rattle.mcbp_frame.proofs.Pieces.{frames-left, left-left}
 use Rattle.node_core.specs.Calls.{own_lines}
 use Rattle.node_world.specs.{Links.{frame_up}, Nodes.{all_posted}}
 use Rattle.transcript_law.proofs.Words.{ℕ, Bool, true, false, List, [], map, refl, ap, sym, ◌∙◌, subst, arith, append-nil, append_assoc, eq-eqb, Option, Some, None, is_some, last_seq, ltb-false, LawfulCounted, LawfulLine, PlainStream, Role, All, All-head, All-tail, Frame, spelling, Readable, frames_in, left_of, dcp_frame, Event, Status, StreamName}
 use Rattle.transcript_law.proofs.Words.{Plain, is_active, newest_branch, quiet_reply, refusal_reply, after, row_at, row_put, States, with_vb_at, call_at, VbAnswer, VbCall, VbReply, Member, Granted, StaysSound, Served, begun, frame_answered, status_sent}
-use Rattle.transcript_law.proofs.Words.{PlainProducer, PlainConsumer, PeerResult, PlainLink, link_number, producer_node, PlainNode, PlainWorld, with_states, with_node_at, with_links, vb_in, shelf_in, Chronicle, after_line, after_lines, stream_branch, LawfulFrom}
-use Rattle.transcript_law.proofs.invariant.Agreement.{active_counts, Agrees, AgreesAt, AgreesIn, EndsStand, IsAcknowledgement, IsWriter, IsWriterIf, LinkAgrees, kept_stream, Streaming, Talk, VbAgrees, Wants, consumer_seat, idle, is_refused_ack, producer_seat, spoken, vb_of, wants_of, DownAgrees, UpIs}
+use Rattle.transcript_law.proofs.Words.{DcpMsg, Done, Handshake, ⊎_elim, PlainProducer, PlainConsumer, PeerResult, PlainLink, link_number, producer_node, PlainNode, PlainWorld, with_states, with_node_at, with_links, vb_in, shelf_in, Chronicle, after_line, after_lines, stream_branch, LawfulFrom}
+use Rattle.transcript_law.proofs.invariant.Agreement.{active_counts, Agrees, AgreesAt, AgreesIn, EndsStand, IsAcknowledgement, IsBytesAcknowledgement, IsSeqnoAcknowledgement, IsWriter, IsWriterIf, LinkAgrees, kept_stream, Streaming, Talk, VbAgrees, Wants, consumer_seat, idle, is_refused_ack, producer_seat, spoken, vb_of, wants_of, DownAgrees, UpIs}
 use Rattle.transcript_law.proofs.{invariant.Counts.{counts_agree}, invariant.Majorities.{counts_more}}
 use Rattle.transcript_law.specs.Chronicles.{after_count}
 use Rattle.transcript_law.proofs.{invariant.Carried.{talk_same, told_of_same}, lines.ClientLines.{clients_quiet}, disks.Disks.{power_in}, invariant.JobSteps.{put_over}, invariant.LinkRows.{put_is_found, put_twice}, lines.Lines.{AreQuiet, after_more, lawful_more, quiet_more}}
-use Rattle.transcript_law.proofs.{verbs.NodeLines.{node_changed, node_grown, put_same, shelves_again, shelves_put}, links.Posting.{posts_go, posts_of_clients, posts_ranged}, invariant.Ranged.{NodeRanged}, links.Requests.{ack_answered}, invariant.Seats.{seat}}
+use Rattle.transcript_law.proofs.{verbs.NodeLines.{node_changed, node_grown, put_same, shelves_again, shelves_put}, links.Posting.{posts_go, posts_of_clients, posts_ranged}, invariant.Ranged.{NodeRanged}, links.Requests.{ack_answered, all_set, bytes_answered, passed_end}, links.Windows.{streaming_served}, invariant.Seats.{seat}}
 use Rattle.transcript_law.proofs.verbs.Settling.{SettlesOn, Steady, changes_quiet, changes_told, settled_told, settles}
 use Rattle.transcript_law.proofs.{links.Spoken.{spoken_pushed}, invariant.Tables.{if_known}, links.Talks.{come, more_down, next_up}, lines.Telling.{LawfulBefore, before_more, none_before, told_more}, links.Unread.{answering, heard_link, readable_up, reread, unread}}
 use Rattle.transcript_law.proofs.links.Upward.{Now, answered_at, came_of, found_at, frame_came, link_now, quiet_at, same_vbs, served_at, vb_here, world_at}
@@ -76,7 +76,13 @@ module _ (stays : StaysSound) (steady : Steady) (w0 : PlainWorld) (r0 : Chronicl
       Streaming (wants_of la.follower) (now.cluster.nodes (consumer_seat link0)) (vb_of (world_at w0 r0 n link0 found x) (producer_node (served_at w0 r0 n link0 found x.1)) v) (now.cluster.nodes (producer_seat (served_at w0 r0 n link0 found x.1)))
       ((after_lines r0 x.1.events).stream_of (StreamName.Link l) v) x.1.peer.producer link0.consumer la.talk.asked (spoken la.talk.said)
 
-  module _ (f : Frame) (fs : List Frame) (x : PlainNode × PeerResult) (now : So (f ∷ fs) x) (t : StreamingNow f fs x now) where
+  -- what is on its way, and is an acknowledgement each
+  all_acks : (f : Frame) (fs : List Frame) (x : PlainNode × PeerResult) (now : So (f ∷ fs) x) (t : StreamingNow f fs x now)
+      → All (IsAcknowledgement t.granted_is.wrote o v) (f ∷ (fs ++ (link_now w0 r0 n link0 found (f ∷ fs) x now).talk.ups.behind))
+  all_acks f fs x now t = subst (All (IsAcknowledgement t.granted_is.wrote o v)) (link_now w0 r0 n link0 found (f ∷ fs) x now).talk.ups.joined t.acks
+
+  -- the frame is an acknowledgement of a seqno
+  module _ (f : Frame) (fs : List Frame) (x : PlainNode × PeerResult) (now : So (f ∷ fs) x) (t : StreamingNow f fs x now) (it : IsSeqnoAcknowledgement t.granted_is.wrote o v f) where
     abbrev end : PlainProducer
     end = x.1.peer.producer
 
@@ -96,13 +102,6 @@ module _ (stays : StaysSound) (steady : Steady) (w0 : PlainWorld) (r0 : Chronicl
     -- what is on its way behind the frame
     abbrev rest : List Frame
     rest = fs ++ la.talk.ups.behind
-
-    all_acks : All (IsAcknowledgement t.granted_is.wrote o v) (f ∷ rest)
-    all_acks = subst (All (IsAcknowledgement t.granted_is.wrote o v)) la.talk.ups.joined t.acks
-
-    -- the frame is an acknowledgement
-    it : IsAcknowledgement t.granted_is.wrote o v f
-    it = All-head (IsAcknowledgement t.granted_is.wrote o v) f rest all_acks
 
     abbrev seq : ℕ
     seq = it.0
@@ -124,7 +123,7 @@ module _ (stays : StaysSound) (steady : Steady) (w0 : PlainWorld) (r0 : Chronicl
 
     member_is : (member : ℕ) → weighed seq (stream_of f.vb_or_status s.end.stream) (member_of s.end.handshake) ≡ Ok member → link0.consumer.dialed.node ≡ member
     member_is member e =
-        let named : member_of s.end.handshake ≡ Some link0.consumer.dialed.node = ap member_of t.server in
+        let named : member_of s.end.handshake ≡ Some link0.consumer.dialed.node = ap member_of (t.server ∙ all_set link0.consumer.dialed) in
         let counted_as : member_of s.end.handshake ≡ Some member = (weighs (stream_of f.vb_or_status s.end.stream) (member_of s.end.handshake) member e).1 in
         cc
 
@@ -152,7 +151,7 @@ module _ (stays : StaysSound) (steady : Steady) (w0 : PlainWorld) (r0 : Chronicl
       asked = rest;
       said = said;
       stands = EndsStand.IsStreaming (subst (Streaming (wants_of la.follower) (now.cluster.nodes (consumer_seat link0)) (vb_of (world_at w0 r0 n link0 found x) (producer_node here) v) (now.cluster.nodes (producer_seat here)) (r.stream_of (StreamName.Link l) v)
-          end link0.consumer rest) (sym same) (acks_left t rest (All-tail (IsAcknowledgement t.granted_is.wrote o v) f rest all_acks)));
+          end link0.consumer rest) (sym same) (acks_left t rest (All-tail (IsAcknowledgement t.granted_is.wrote o v) f rest (all_acks f fs x now t))));
       ups = next_up here end (link0.down ++ (x.1.out ++ out)) f f f fs rest (subst (UpIs here (f ∷ fs)) la.talk.ups.joined la.talk.ups);
       downs = downs;
     }
@@ -400,6 +399,33 @@ module _ (stays : StaysSound) (steady : Steady) (w0 : PlainWorld) (r0 : Chronicl
     answered_is = ap (λ g. frame_answered g s) it.1 ∙ ack_answered o v seq s it.2 ∙ ap (λ g. acknowledged g seq s) (sym it.1)
 
     -- the acknowledgement is answered
-    pub ack_next : So fs (frame_up f x)
+    seqno_next : So fs (frame_up f x)
     unfolding acknowledged
-    ack_next = subst (So fs) (sym (frame_came w0 r0 n link0 found f x ∙ ap (λ p. came_of w0 r0 n link0 found x (after p x.0.vbs)) answered_is)) (by_weight (weighed seq (stream_of f.vb_or_status s.end.stream) (member_of s.end.handshake)) refl)
+    seqno_next = subst (So fs) (sym (frame_came w0 r0 n link0 found f x ∙ ap (λ p. came_of w0 r0 n link0 found x (after p x.0.vbs)) answered_is)) (by_weight (weighed seq (stream_of f.vb_or_status s.end.stream) (member_of s.end.handshake)) refl)
+
+  -- it is one of bytes: the producer has another window, and else all is as it was
+  bytes_next : (f : Frame) (fs : List Frame) (x : PlainNode × PeerResult) (now : So (f ∷ fs) x) (t : StreamingNow f fs x now) → IsBytesAcknowledgement o f → So fs (frame_up f x)
+  bytes_next f fs x now t (bytes, is, low) =
+      let s : Served = begun x.1.peer.producer in let r : Chronicle = after_lines r0 x.1.events in let named : Named = Named.Member link0.consumer.dialed.node in
+      let opened : s.end.handshake ≡ Handshake.Open true named = t.server ∙ all_set link0.consumer.dialed in
+      let frame : Frame = dcp_frame (DcpMsg.BufferAcknowledgement bytes) o 0 in
+      let end : PlainProducer = passed_end s frame bytes true named in
+      let here : PlainLink = served_at w0 r0 n link0 found x.1 in
+      let la : LinkAgrees (world_at w0 r0 n link0 found x) r now.cluster here (f ∷ fs) [] = link_now w0 r0 n link0 found (f ∷ fs) x now in
+      let rest : List Frame = fs ++ la.talk.ups.behind in
+      let y : PlainNode × PeerResult = answered_at w0 r0 n link0 found x x.0.vbs end [] [] in
+      let came : frame_answered f s ≡ Done (record s { end = end }) = ap (λ g. frame_answered g s) is ∙ bytes_answered o bytes s true named low opened in
+      subst (So fs) (sym (frame_came w0 r0 n link0 found f x ∙ ap (λ p. came_of w0 r0 n link0 found x (after p x.0.vbs)) came))
+      (quiet_at w0 r0 n link0 found (f ∷ fs) fs x now x.0.vbs (λ q. refl) end [] [] refl (λ has. has) (none_before r) r refl (told_of_same l r) refl
+      (talk_same refl (same_vbs w0 r0 n link0 found x y (λ q. refl) end.desk.node v) refl refl refl (record {
+        asked = rest;
+        said = la.talk.said;
+        stands = EndsStand.IsStreaming (streaming_served (acks_left t rest (All-tail (IsAcknowledgement t.granted_is.wrote o v) f rest (all_acks f fs x now t))) end (record { desk = refl; handshake = sym opened; stream = refl }));
+        ups = next_up here end (link0.down ++ (x.1.out ++ [])) f f f fs rest (subst (UpIs here (f ∷ fs)) la.talk.ups.joined la.talk.ups);
+        downs = subst (λ out. DownAgrees (record here { server = end; down = link0.down ++ out }) [] la.talk.said) (sym (append-nil x.1.out)) (record { behind = la.talk.downs.behind; joined = la.talk.downs.joined; bytes = la.talk.downs.bytes; readable = la.talk.downs.readable });
+      })))
+
+  -- an acknowledgement is answered
+  pub ack_next : (f : Frame) (fs : List Frame) (x : PlainNode × PeerResult) (now : So (f ∷ fs) x) → StreamingNow f fs x now → So fs (frame_up f x)
+  ack_next f fs x now t =
+      ⊎_elim (λ it. seqno_next f fs x now t it) (λ it. bytes_next f fs x now t it) (All-head (IsAcknowledgement t.granted_is.wrote o v) f (fs ++ (link_now w0 r0 n link0 found (f ∷ fs) x now).talk.ups.behind) (all_acks f fs x now t))

@@ -1,14 +1,16 @@
 -- the line `down` while its frames are taken one after another
-use Rattle.std.specs.Prelude.{◌≡◌, ◌+◌, ◌<◌, ◌≤◌, ◌∷◌, ◌++◌, ◌==◌, if◌then◌else◌}
-use Rattle.transcript_law.proofs.Words.{ℕ, Bool, true, false, zero, suc, List, [], drop, take, refl, ap, sym, ◌∙◌, subst, arith, inl, inr, ⊎_elim, Option, Some, None}
-use Rattle.transcript_law.proofs.Words.{All, drop-nil, All-tail, eq-eqb, eqb-true, Frame, Readable, dcp_frame, AskAnswer, StreamAsk, Event, EndReason, Cluster, Move, happens, SoundCluster, Plain, shelf_in}
+use Rattle.std.specs.Prelude.{◌≡◌, ◌<◌, ◌≤◌, ◌∷◌, ◌++◌, ◌==◌, if◌then◌else◌}
+use Rattle.transcript_law.proofs.Words.{ℕ, Bool, true, false, suc, List, [], append-nil, drop, drop-append-le, take, refl, ap, sym, ◌∙◌, subst, arith, inl, inr, ⊎_elim, Option, Some, None}
+use Rattle.transcript_law.proofs.Words.{All, All-tail, eq-eqb, eqb-true, Frame, Readable, AskAnswer, StreamAsk, Event, EndReason, Cluster, Move, happens, SoundCluster, Plain, shelf_in}
 use Rattle.transcript_law.proofs.Words.{Ended, row_at, row_put, row_out, with_vb_at, after_job, PlainConsumer, DialResult, frame_taken, roll_back, PlainLink, link_number, PlainWorld, with_node_at, with_links}
-use Rattle.transcript_law.proofs.{Words.{vb_in, Chronicle, after_end, after_line, after_lines, LawfulLine, LawfulFrom, StaysSound, unlinked}, invariant.Agreement.{DiskIsIf, shelf_of, EndsStand, wants_of, vb_of, first_answers, answer_frame, spoken}}
-use Rattle.transcript_law.proofs.{invariant.Agreement.{waits_after, IsRefused, PointAgrees, DownAgrees, ServerIs, ConsumerIs, Asking, RefusedYet, VbAgrees, LinkAgrees, Busy, idle, top, AgreesIn, consumer_seat, Wants}, invariant.Seats.{seat}}
+use Rattle.transcript_law.proofs.{Words.{vb_in, Chronicle, after_end, after_line, after_lines, LawfulLine, LawfulFrom, StaysSound, unlinked}, invariant.Agreement.{DiskIsIf, shelf_of, EndsStand, wants_of, vb_of, answer_frame, spoken}}
+use Rattle.transcript_law.proofs.{invariant.Agreement.{IsRefused, PointAgrees, DownAgrees, ServerIs, ConsumerIs, Asking, RefusedYet, VbAgrees, LinkAgrees, Busy, idle, top, AgreesIn, consumer_seat, Wants}, invariant.Seats.{seat}}
 use Rattle.transcript_law.proofs.{invariant.Carrying.{ToldOf, TakenOf, MemberChanged, BecameOver}, links.Cutting.{IsClosable, closable, unlinking}, invariant.LinkRows.{found_is_link, put_is_found, put_twice, put_out}, invariant.OneLink.{carries_link}}
 use Rattle.transcript_law.proofs.{invariant.OneLink.{carries_over, carries_consumer}, lines.Lines.{IsQuiet, AreQuiet, after_more, lawful_more, quiet_more}, links.Taken.{first_taken, refused_taken, rolled_taken}, invariant.Carried.{told_of_same}}
 use Rattle.transcript_law.proofs.invariant.Carried.{stream_end_lines, busy_one, one_here, one_but, one_idle}
-use Rattle.{dcp_consumer.specs.Machine.{answered, over_why}, dcp_consumer.specs.declared.handshake.Handshake.{Handshake}, mcbp_dcp.specs.declared.message.DcpMsg.TheVariants.{ControlAnswer, OpenAnswer}}
+use Rattle.{dcp_consumer.specs.Machine.{answered, over_why}, dcp_consumer.specs.declared.handshake.Dialed.{Dialed}, dcp_consumer.specs.declared.handshake.Handshake.{Handshake}}
+use Rattle.transcript_law.proofs.links.Firsts.{Next, behind_first, first_answers, first_count, next_answer, untaken, waits_after}
+use Rattle.transcript_law.proofs.links.Requests.{answers_count, few_first, waits_asking, waits_next}
 use Rattle.{disk_journals.specs.Arms.{arm_over, fuse_at, under}, node_core.specs.Dials.{is_broken}, node_world.specs.Arms.{fired_by, lifted}, node_world.specs.Worlds.{arm_in}, node_world.specs.declared.arm.Fired.{Fired}, std.specs.List.{list_any}, vb_calls.specs.Shelves.{Shelf, Shelves}}
 use Rattle.node_world.specs.declared.arm.Fired.TheVariants as fired
 use Rattle.transcript_law.specs.LineAnswers.{FailsIn, IsNoted, StopsIn, rollbacks_in_lines}
@@ -23,50 +25,13 @@ use Rattle.{node_world.specs.Nodes.{PlainNode, with_kept}, vb_events.specs.decla
 use Rattle.vb_types.specs.declared.stream.AskAnswer.TheVariants as ask_answer
 use Rattle.dcp_consumer.specs.declared.handshake.Handshake.TheVariants as waiting
 
--- what is behind the first of the rest of a list
-pub behind_first : {A : Type 0} (n : ℕ) (xs : List A) (x : A) (more : List A) → drop n xs ≡ x ∷ more → drop (n + 1) xs ≡ more
-behind_first zero xs x more e = ap (drop 1) e
-behind_first (suc n) [] x more e = cc
-behind_first (suc n) (y ∷ xs) x more e = let s : suc n + 1 ≡ suc (n + 1) = omega arith in ap (λ k. drop k (y ∷ xs)) s ∙ behind_first n xs x more e
-
--- the rest of a front part is a front part of the rest
-pub untaken : {A : Type 0} (n m : ℕ) (xs : List A) (x : A) (more : List A) → drop n (take m xs) ≡ x ∷ more → (n < m) × (others : List A) × (drop n xs ≡ x ∷ others)
-untaken zero zero xs x more e = cc
-untaken zero (suc m) [] x more e = cc
-untaken zero (suc m) (y ∷ xs) x more e = let s : y ≡ x = cc in (omega arith, xs, ap (λ z. z ∷ xs) s)
-untaken (suc n) zero xs x more e = cc
-untaken (suc n) (suc m) [] x more e = cc
-untaken (suc n) (suc m) (y ∷ xs) x more e = let i = untaken n m xs x more e in let l : n < m = i.0 in (omega arith, i.1, i.2)
-
--- the first answers are three
-pub few_first : (seen : ℕ) (f : Frame) (more : List Frame) → drop seen first_answers ≡ f ∷ more → seen ≤ 2
-few_first (suc (suc (suc seen))) f more e = let none : drop seen [] ≡ [] = drop-nil {A = Frame} seen in cc
-few_first seen f more e = omega arith
-
--- all answers to a consumer's requests, of which `last` is the stream's
-abbrev pub all_answers : Frame → List Frame
-all_answers last = first_answers ++ last ∷ []
-
--- the next frame of those answers and of what is behind them
-pub data Next (last f : Frame) (behind more : List Frame) (seen : ℕ) : Type 0 where
-  IsFirst : (others : List Frame) → drop seen first_answers ≡ f ∷ others → drop (seen + 1) (all_answers last) ++ behind ≡ more → Next last f behind more seen
-  IsLast : seen ≡ 3 → last ≡ f → behind ≡ more → Next last f behind more seen
-  IsBehind : seen ≡ 4 → behind ≡ f ∷ more → Next last f behind more seen
-
-pub next_answer : (last f : Frame) (behind more : List Frame) (seen : ℕ) → seen ≤ 4 → drop seen (all_answers last) ++ behind ≡ f ∷ more → Next last f behind more seen
-next_answer last f behind more zero l e =
-    let h : dcp_frame (OpenAnswer 0) 1 0 ≡ f = cc in Next.IsFirst (drop 1 first_answers) (ap (λ x. x ∷ drop 1 first_answers) h) (ap (drop 1) e)
-next_answer last f behind more (suc zero) l e =
-    let h : dcp_frame (ControlAnswer 0) 2 0 ≡ f = cc in Next.IsFirst (drop 2 first_answers) (ap (λ x. x ∷ drop 2 first_answers) h) (ap (drop 1) e)
-next_answer last f behind more (suc (suc zero)) l e = let h : dcp_frame (ControlAnswer 0) 3 0 ≡ f = cc in Next.IsFirst [] (ap (λ x. x ∷ []) h) (ap (drop 1) e)
-next_answer last f behind more (suc (suc (suc zero))) l e = let h : last ≡ f = cc in Next.IsLast refl h (ap (drop 1) e)
-next_answer last f behind more (suc (suc (suc (suc zero)))) l e = Next.IsBehind refl e
-next_answer last f behind more (suc (suc (suc (suc (suc seen))))) l e = absurd (omega arith)
+-- all answers to the requests of a consumer, of which `last` is the stream's
+abbrev pub all_answers : Dialed → Frame → List Frame
+all_answers d last = first_answers d ++ last ∷ []
 
 -- the answers and the refusal behind them, written as all answers
-pub refused_all : (last : Frame) (seen : ℕ) → seen ≤ 3 → drop seen first_answers ++ last ∷ [] ≡ drop seen (all_answers last) ++ []
-refused_all last (suc (suc (suc (suc seen)))) l = absurd (omega arith)
-refused_all last seen l = refl
+pub refused_all : (d : Dialed) (last : Frame) (seen : ℕ) → seen ≤ first_count d → drop seen (first_answers d) ++ last ∷ [] ≡ drop seen (all_answers d last) ++ []
+refused_all d last seen few = sym (append-nil (drop seen (all_answers d last)) ∙ drop-append-le seen (first_answers d) (last ∷ []) (omega (arith, answers_count d)))
 
 -- the consumer's end in the course of a line, but for what came and for whether the link is over: what it wrote, which answer it waits for, the opaque of its last
 -- request for a stream, and what it acknowledged last
@@ -80,9 +45,9 @@ pub record Asker : Type 0 where
 abbrev pub waits_for : Asker → Handshake → Asker
 waits_for at h = record { out = at.out; waiting = h; asked = at.asked; acked = at.acked }
 
--- after one more answer
-abbrev pub past : Asker → Asker
-past at = waits_for at (answered at.waiting)
+-- after one more answer, by the buffer of the link
+abbrev pub past : ℕ → Asker → Asker
+past buffer at = waits_for at (answered buffer at.waiting)
 
 -- what it waits for, unless the link is over
 abbrev pub waiting_unless : Option EndReason → Handshake → Handshake
@@ -397,50 +362,51 @@ module _ (line : Line) where
         agrees = moved_agrees f rest states states.1 at at' events fv fv' told c' g (λ q o. refl) known role streams same.arms (ap (λ (t : ℕ → ℕ → DiskKnown). (t n v).there) same.disks) taken member sound vb disk rest a;
       }
 
+  -- the dial of the link
+  abbrev dialed : Dialed
+  dialed = link.consumer.dialed
+
   -- one more answer was seen
-  pub counted_consumer : (at : Asker) (seen : ℕ) → seen ≤ 2 → ConsumerIs (end_of at None) seen → ConsumerIs (end_of (past at) None) (seen + 1)
-  counted_consumer at seen few x = record { waits = ap answered x.waits ∙ next seen few; first = λ l. x.first few; later = x.later; small = x.small }
-    where
-      next : (seen : ℕ) → seen ≤ 2 → answered (waits_after seen) ≡ waits_after (seen + 1)
-      next (suc (suc (suc seen))) few = absurd (omega arith)
-      next seen few = refl
+  pub counted_consumer : (at : Asker) (seen : ℕ) → seen < first_count dialed → ConsumerIs (end_of at None) seen → ConsumerIs (end_of (past dialed.buffer at) None) (suc seen)
+  counted_consumer at seen few x = record { waits = ap (answered dialed.buffer) x.waits ∙ waits_next dialed seen few; small = x.small }
 
   -- what is waited for after the first answers
-  pub waits_last : (at : Asker) (seen : ℕ) → seen ≡ 3 → ConsumerIs (end_of at None) seen → at.waiting ≡ waiting.Asking
-  waits_last at seen three x = x.waits ∙ ap waits_after three
+  pub waits_last : (at : Asker) (seen : ℕ) → seen ≡ first_count dialed → ConsumerIs (end_of at None) seen → at.waiting ≡ waiting.Asking
+  waits_last at seen all x = x.waits ∙ ap (waits_after dialed) all ∙ waits_asking dialed
 
   pub asking_next : (fv : Wants) (ask : StreamAsk) (f : Frame) (at : Asker) (events : List Event) (up down more : List Frame) → down ≡ f ∷ more → Asking fv ask link.server (end_of at None) up down
-      → (frame_taken f (so_far at None events) ≡ Ended (so_far (past at) None events)) × Asking fv ask link.server (end_of (past at) None) up more
+      → (frame_taken f (so_far at None events) ≡ Ended (so_far (past dialed.buffer at) None events)) × Asking fv ask link.server (end_of (past dialed.buffer at) None) up more
   asking_next fv ask f at events up down more e x =
-      let d : drop x.seen (take x.answered first_answers) ≡ f ∷ more = sym x.said_is ∙ e in
-      let i = untaken x.seen x.answered first_answers f more d in let below : x.seen < x.answered = i.0 in
-      let few : x.seen ≤ 2 = few_first x.seen f i.1 i.2 in (
+      let answers : List Frame = first_answers dialed in
+      let d : drop x.seen (take x.answered answers) ≡ f ∷ more = sym x.said_is ∙ e in
+      let i = untaken x.seen x.answered answers f more d in let below : x.seen < x.answered = i.0 in
+      let few : x.seen < first_count dialed = few_first dialed x.seen f i.1 i.2 in (
         first_taken x.seen f i.1 (so_far at None events) i.2 x.consumer.waits,
         record {
           no_stream = x.no_stream;
           asking = record {
             answered = x.answered;
-            seen = x.seen + 1;
+            seen = suc x.seen;
             some_left = x.some_left;
             not_more = omega arith;
             server = x.server;
             consumer = counted_consumer at x.seen few x.consumer;
             asks = x.asks;
             asked_is = x.asked_is;
-            said_is = sym (behind_first x.seen (take x.answered first_answers) f more d);
+            said_is = sym (behind_first x.seen (take x.answered answers) f more d);
           };
         },
       )
 
   -- what becomes of a frame of a link that was refused or sent back: it is only counted, or it is that answer, and nothing is behind it
   pub data RefusedNext (f : Frame) (at : Asker) (events : List Event) (point : Option ℕ) (up more : List Frame) : Type 0 where
-    IsCounted : frame_taken f (so_far at None events) ≡ Ended (so_far (past at) None events) → RefusedYet point link.server (end_of (past at) None) up more → RefusedNext f at events point up more
+    IsCounted : frame_taken f (so_far at None events) ≡ Ended (so_far (past dialed.buffer at) None events) → RefusedYet point link.server (end_of (past dialed.buffer at) None) up more → RefusedNext f at events point up more
     IsOver : frame_taken f (so_far at None events) ≡ Ended (so_far at (Some Refused) events) → RefusedNext f at events point up more
-    IsBack : (to : ℕ) → point ≡ Some to → frame_taken f (so_far at None events) ≡ roll_back to (so_far at None events) → at.waiting ≡ waiting.Asking → 4 ≤ at.asked
-        → ServerIs link.server n 4 → link.server.stream ≡ None → up ≡ [] → more ≡ [] → RefusedNext f at events point up more
+    IsBack : (to : ℕ) → point ≡ Some to → frame_taken f (so_far at None events) ≡ roll_back to (so_far at None events) → at.waiting ≡ waiting.Asking
+        → ServerIs link.server dialed (first_count dialed) → link.server.stream ≡ None → up ≡ [] → more ≡ [] → RefusedNext f at events point up more
 
   pub refused_next : (f : Frame) (at : Asker) (events : List Event) (point : Option ℕ) (up down more : List Frame) → down ≡ f ∷ more → RefusedYet point link.server (end_of at None) up down → RefusedNext f at events point up more
-  refused_next f at events point up down more d x = by (next_answer last f [] more x.seen (let y : x.seen ≤ 3 = x.not_more in omega arith) (sym (refused_all last x.seen x.not_more) ∙ sym x.said_is ∙ d))
+  refused_next f at events point up down more d x = by (next_answer (first_answers dialed) (first_count dialed) last f [] more x.seen (answers_count dialed) (let y : x.seen ≤ first_count dialed = x.not_more in omega arith) (sym (refused_all dialed last x.seen x.not_more) ∙ sym x.said_is ∙ d))
     where
       last : Frame
       last = answer_frame at.asked [] x.said
@@ -449,33 +415,33 @@ module _ (line : Line) where
       s = so_far at None events
 
       -- the answer itself
-      by_said : (said : AskAnswer) → IsRefused said → PointAgrees said point → x.seen ≡ 3 → answer_frame at.asked [] said ≡ f → [] ≡ more → RefusedNext f at events point up more
-      by_said ask_answer.Go refused told three h e = absurd refused
-      by_said (ask_answer.Roll to) refused told three h e = RefusedNext.IsBack to told
-          (subst (λ y. frame_taken y s ≡ roll_back to s) h (rolled_taken to s refused (waits_last at x.seen three x.consumer)))
-          (waits_last at x.seen three x.consumer) x.consumer.later x.server x.no_stream x.asked_is (sym e)
-      by_said (ask_answer.Refuse code) refused told three h e = RefusedNext.IsOver (subst (λ y. frame_taken y s ≡ Ended (so_far at (Some Refused) events)) h
-          (refused_taken code s refused (waits_last at x.seen three x.consumer)))
+      by_said : (said : AskAnswer) → IsRefused said → PointAgrees said point → x.seen ≡ first_count dialed → answer_frame at.asked [] said ≡ f → [] ≡ more → RefusedNext f at events point up more
+      by_said ask_answer.Go refused told all h e = absurd refused
+      by_said (ask_answer.Roll to) refused told all h e = RefusedNext.IsBack to told
+          (subst (λ y. frame_taken y s ≡ roll_back to s) h (rolled_taken to s refused (waits_last at x.seen all x.consumer)))
+          (waits_last at x.seen all x.consumer) x.server x.no_stream x.asked_is (sym e)
+      by_said (ask_answer.Refuse code) refused told all h e = RefusedNext.IsOver (subst (λ y. frame_taken y s ≡ Ended (so_far at (Some Refused) events)) h
+          (refused_taken code s refused (waits_last at x.seen all x.consumer)))
 
-      by : Next last f [] more x.seen → RefusedNext f at events point up more
+      by : Next (first_answers dialed) (first_count dialed) last f [] more x.seen → RefusedNext f at events point up more
       by (Next.IsFirst others h e) =
-          let few : x.seen ≤ 2 = few_first x.seen f others h in
+          let few : x.seen < first_count dialed = few_first dialed x.seen f others h in
           RefusedNext.IsCounted (first_taken x.seen f others s h x.consumer.waits) (record {
             no_stream = x.no_stream;
             refusal = record {
               said = x.said;
               refused = x.refused;
               told = x.told;
-              seen = x.seen + 1;
+              seen = suc x.seen;
               not_more = omega arith;
               server = x.server;
               consumer = counted_consumer at x.seen few x.consumer;
               asked_is = x.asked_is;
-              said_is = sym (refused_all last (x.seen + 1) (omega arith) ∙ e);
+              said_is = sym (refused_all dialed last (suc x.seen) (omega arith) ∙ e);
             };
           })
-      by (Next.IsLast three h e) = by_said x.said x.refused x.told three h e
-      by (Next.IsBehind four e) = let y : x.seen ≤ 3 = x.not_more in absurd (omega arith)
+      by (Next.IsLast all h e) = by_said x.said x.refused x.told all h e
+      by (Next.IsBehind all e) = let y : x.seen ≤ first_count dialed = x.not_more in absurd (omega arith)
 
 -- while the link is open, before its next frame is taken
 pub record Before (line : Line) : Type 0 where

@@ -2,10 +2,10 @@
 use Rattle.std.specs.Prelude.{◌≡◌, ◌≤◌, if◌then◌else◌, ◌<◌, ◌∷◌, ◌++◌, ◌==◌, ◌&&◌}
 use Rattle.transcript_law.proofs.Words.{length-append, ℕ, true, false, refl, ap, sym, ◌∙◌, subst, arith, Some, Snapshot, Covers, Stream, Span, Plain, plain_step, all_spans, is_whole}
 use Rattle.transcript_law.proofs.Words.{stream_at, need_of, start_of, end_span, take_to, take_from, Sound, TakesSnapshots, Bool, cond, List, [], length, map, drop, ⊎_elim, append_assoc, append-nil}
-use Rattle.transcript_law.proofs.Words.{Option, None, is_some, nat_le, not, All, eqb-true, ne_eqb, Frame, dcp_frame, Change, Position, StreamAsk, last_seq, effective_ss, effective_se, fork_of, Branch}
+use Rattle.transcript_law.proofs.Words.{Option, None, is_some, not, All, eqb-true, ne_eqb, Frame, dcp_frame, Change, Position, StreamAsk, last_seq, effective_ss, effective_se, fork_of, Branch}
 use Rattle.transcript_law.proofs.Words.{hist, Feed, Member, flight_from, flight_end, member_reach, Flight, PlainStream, Begun, Granted, stream_branch, with_begun, item_of_change, IsWholeIf, IsMarker, PlainProducer}
 use Rattle.transcript_law.proofs.{Words.{PlainConsumer}, links.Sent.{fits_of, all_by_each, drop_whole, flight_frames_push, flight_end_push}, invariant.Agreement.{ChangeFits, BegunAgrees, Open, StreamAgrees, kept_stream, Streaming}}
-use Rattle.transcript_law.proofs.{invariant.Agreement.{coming_items, flight_marks, marker_start, items_frames, flight_frames, stream_frames, first_answers, answer_frame, Wants}, links.Comings.{marks_push, snapshot_comes}}
+use Rattle.transcript_law.proofs.{invariant.Agreement.{coming_items, flight_marks, marker_start, items_frames, flight_frames, stream_frames, answer_frame, is_granted, Wants}, links.Firsts.{first_answers}, links.Comings.{marks_push, snapshot_comes}}
 use Rattle.transcript_law.proofs.invariant.Tables.{never}
 use Rattle.branch_model.proofs.Lists.{in_right, from_upto, last_in, rises_in, upto-append}
 use Rattle.vb_types.specs.Histories.{Rises, Slot, last_by, last_of, touches, upto}
@@ -189,13 +189,13 @@ frames_more o vb in_one p coming flight items start end front put f starts is ol
 pub marker_streaming : {fv : Wants} {kn : Member} {pv pv' : Option Plain} {leader : Member} {g g' : Option Granted} {served : PlainProducer} {asker : PlainConsumer} {up put : List Frame} (t : Streaming fv kn pv leader g served asker up put)
     (tree : List Branch) (items : List Change) (start end : ℕ) (f : Frame) (x : Open served.desk.id t.granted_is pv leader t.feed) → t.granted_is.over ≡ false
     → length t.stream.items ≤ t.stream.next → All ChangeFits items → Covers items (hist tree (stream_branch t.granted_is)) t.granted_is.place end
-    → flight_end (marker_start (nat_le 4 t.seen && not fv.first) kn.position) t.feed.flight ≡ start
+    → flight_end (marker_start (is_granted asker.dialed t.seen && not fv.first) kn.position) t.feed.flight ≡ start
     → f ≡ dcp_frame (SnapshotMarker start end 1) asker.asked asker.dialed.vb → pv' ≡ Some (moved_vb x.producer served.desk.id end) → g' ≡ Some (with_begun tree start end t.granted_is)
     → Streaming fv (sent_member kn t.feed items end) pv' leader g' (record served { stream = Some (taken_stream t.stream items) }) asker up (put ++ f ∷ [])
 marker_streaming {fv} {kn} {pv} {leader = leader} {served = served} {asker} {put = put} t tree items start end f x opens whole fits covers starts frame moved given =
-    let o : ℕ = asker.asked in let vb : ℕ = asker.dialed.vb in let in_one : Bool = nat_le 4 t.seen && not fv.first in
+    let o : ℕ = asker.asked in let vb : ℕ = asker.dialed.vb in let in_one : Bool = is_granted asker.dialed t.seen && not fv.first in
     let feed : Feed = record { u = t.feed.u; log = t.feed.log; flight = t.feed.flight ++ (end, items) ∷ []; given = t.feed.given } in
-    let front : List Frame = drop t.seen (first_answers ++ answer_frame o t.feed.log Go ∷ []) in
+    let front : List Frame = drop t.seen (first_answers asker.dialed ++ answer_frame o t.feed.log Go ∷ []) in
     let unput_none : t.unput ≡ [] = t.unput_is ∙ ap (items_frames o vb) (drop_whole t.stream.items t.stream.next whole) in
     let old : front ++ stream_frames o vb false in_one kn.position kn.coming t.feed.flight ≡ put =
     sym (ap (λ b. front ++ stream_frames o vb b in_one kn.position kn.coming t.feed.flight) opens) ∙ t.all ∙ ap (λ u. put ++ u) unput_none ∙ append-nil put in

@@ -3,9 +3,9 @@ use Rattle.std.specs.Prelude.{◌++◌, ◌+◌, ◌<◌, ◌∷◌, ◌≡◌, 
 use Rattle.transcript_law.proofs.Words.{PlainStream, Served, begun, act_message, item_line, item_put, next_put, place_answered, pulled, snapshot_of_reply, stream_put, taken_put}
 use Rattle.transcript_law.proofs.Words.{why_of, place_halt, take_unless, end_put, frame_put, frames_put, marker_put, Halt, NoSnapshot, DcpMsg, pull_result, PlainLink, moved_len, pump_at, pump_result, PlainNode}
 use Rattle.transcript_law.proofs.Words.{Bool, List, [], ap, arith, false, length, refl, subst, suc, sym, true, zero, ℕ, ◌∙◌, filter-append, length-append, filter, None, Option, Some, slice_get, both_sent_lines, frames_in_lines}
-use Rattle.transcript_law.proofs.Words.{IsPumped, PutsAsTold, is_frame, after_bind, Plain, Call, Done, More, Stop, Turn, after, go_on, repeated, all_spans, States, call_at, end_span, stream_at, take_from, take_to}
+use Rattle.transcript_law.proofs.Words.{IsPumped, PutsAsTold, is_frame, after_bind, Plain, Call, Done, More, Prog, Stop, Turn, after, go_on, repeated, all_spans, States, call_at, end_span, stream_at, take_from, take_to}
 use Rattle.transcript_law.proofs.Words.{VbAnswer, VbCall, VbReply, Span, Stream, Change, Event, Why, Snapshot}
-use Rattle.dcp_producer.specs.Pulling.{halt_at}
+use Rattle.dcp_producer.specs.Pulling.{counted_in_window, halt_at, in_window}
 use Rattle.transcript_law.proofs.lines.Refusals.{CarriesOut}
 use Rattle.vb_calls.specs.Streams.{is_in_memory}
 use Rattle.vb_types.specs.declared.stream.Place.TheVariants as Place
@@ -25,6 +25,7 @@ told_more lines line is =
 abbrev IsShort : Why → Type 0
 IsShort Why.All = ⊥
 IsShort Why.Idle = Unit {0}
+IsShort Why.Full = Unit {0}
 IsShort Why.WaitSaved = Unit {0}
 
 -- after so many turns, none of which stopped, as many frames were put and told of; before one that stopped, fewer
@@ -98,11 +99,23 @@ module _ (k : ℕ) (s : Served) (counts : s.count ≡ k) (tells : frames_in_line
 
   turn_counts : (states : States) → Counted (suc k) (after (frame_put s) states).1
   unfolding frame_put
-  turn_counts states = by s.end.stream
+  turn_counts states = open_or_full _
     where
+      program : Prog (Turn Served (Served × Halt))
+      program = counted_in_window (length s.out) (stream_put s s.end.stream)
+
+      -- the window counts no frames
+      windowed : (x : Turn Served (Served × Halt)) → Counted (suc k) x → Counted (suc k) (in_window (length s.out) x)
+      windowed (More t) c = c
+      windowed (Stop stopped) c = c
+
       by : (o : Option PlainStream) → Counted (suc k) (after (stream_put s o) states).1
       by None = stops Halt.Idle tt
       by (Some stream) = next_counts stream states (slice_get stream.items stream.next)
+
+      open_or_full : (b : Bool) → Counted (suc k) (after (if b then program else Done (Stop (s, Halt.Full))) states).1
+      open_or_full true = subst (λ y. Counted (suc k) y.1) (sym (after_bind (stream_put s s.end.stream) (λ t. Done (in_window (length s.out) t)) states)) (windowed (after (stream_put s s.end.stream) states).1 (by s.end.stream))
+      open_or_full false = stops Halt.Full tt
 
 go_on_counts : (k : ℕ) (x : Turn Served (Served × Halt)) (states : States) → Counted k x → Counted (suc k) (after (go_on frame_put x) states).1
 go_on_counts k (More s) states c = turn_counts k s c.0 c.1 states
@@ -139,6 +152,21 @@ pumped_right = record { told = refl; most = omega arith; all = λ e. cc; only = 
 
 pub pumped_all : PutsAsTold 3 both_sent_lines 3 Why.All
 pumped_all = record { told = refl; most = omega arith; all = λ e. refl; only = λ e. refl }
+
+pub pumped_full : PutsAsTold 9 both_sent_lines 3 Why.Full
+pumped_full = record { told = refl; most = omega arith; all = λ e. cc; only = λ e. absurd (omega arith) }
+
+pub full_at_once : (wanted : ℕ) → 0 < wanted → PutsAsTold wanted [] 0 Why.Full
+full_at_once wanted some = record { told = refl; most = omega arith; all = λ e. cc; only = λ e. absurd (omega (arith, some, e)) }
+
+pub full_fewer : PutsAsTold 9 both_sent_lines 2 Why.Full → ⊥
+full_fewer p = let e : ◌≡◌ {A = ℕ} 2 3 = p.told in omega arith
+
+pub full_more : PutsAsTold 9 both_sent_lines 4 Why.Full → ⊥
+full_more p = let e : ◌≡◌ {A = ℕ} 4 3 = p.told in omega arith
+
+pub pumped_not_full : PutsAsTold 3 both_sent_lines 3 Why.Full → ⊥
+pumped_not_full p = let e : Why.Full ≡ Why.All = p.only refl in cc
 
 pub pumped_fewer : PutsAsTold 9 both_sent_lines 2 Why.Idle → ⊥
 pumped_fewer p = let e : ◌≡◌ {A = ℕ} 2 3 = p.told in omega arith

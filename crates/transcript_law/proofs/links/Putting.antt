@@ -1,10 +1,11 @@
 -- a producer puts the next item of its snapshot
 use Rattle.std.specs.Prelude.{◌≡◌, ◌+◌, ◌<◌, ◌≤◌, ◌∷◌, ◌++◌, ◌&&◌}
 use Rattle.transcript_law.proofs.Words.{ℕ, zero, suc, Bool, true, false, List, [], length, map, drop, take, refl, ap, sym, ◌∙◌, subst, arith, append-nil, append_assoc}
-use Rattle.transcript_law.proofs.Words.{Option, Some, None, slice_get, is_some, nat_le, not, option_map, map-append, Frame, Readable, DcpMsg, dcp_frame, Change, Rises, Member, Plain}
+use Rattle.transcript_law.proofs.Words.{Option, Some, None, slice_get, is_some, not, option_map, map-append, Frame, Readable, DcpMsg, dcp_frame, Change, Rises, Member, Plain}
 use Rattle.transcript_law.proofs.Words.{act_message, past_item, STATE_CHANGED, PlainStream, PlainLink, Begun, Granted, with_item, finished, item_of_change, IsNextItem, PlainProducer, PlainConsumer}
 use Rattle.transcript_law.proofs.Words.{take-append-drop, AskAnswer, rises_le, more_items}
-use Rattle.transcript_law.proofs.invariant.Agreement.{ChangeFits, BegunAgrees, kept_stream, Streaming, first_answers, answer_frame, items_frames, flight_frames, coming_items, marker_start, OpenAt, WayIs, Wants}
+use Rattle.transcript_law.proofs.invariant.Agreement.{ChangeFits, BegunAgrees, kept_stream, Streaming, answer_frame, is_granted, items_frames, flight_frames, coming_items, marker_start, OpenAt, WayIs, Wants}
+use Rattle.transcript_law.proofs.links.Firsts.{first_answers}
 use Rattle.transcript_law.proofs.links.Comings.{item_comes}
 use Rattle.transcript_law.proofs.links.Sent.{found_below, drop_found, take_found, items_frames_cons, flight_frames_end, change_readable, all_found, drop_whole}
 
@@ -94,7 +95,7 @@ item_streaming {fv} {kn} {pv} {leader} {served = served} {asker} {put = put} t c
         opens = λ q. subst (λ b. OpenAt served.desk.id g.ask g.place b pv leader t.feed.u) (sym same) (t.streams.opens q);
         over_ended = t.streams.over_ended;
         coming = item_comes g.coming t.stream t.feed.flight kn.coming c e t.streams.coming;
-        way = subst (λ b. WayIs g.place g.marks b t.feed.flight kn (nat_le 4 t.seen && not fv.first)) (sym same) t.streams.way;
+        way = subst (λ b. WayIs g.place g.marks b t.feed.flight kn (is_granted asker.dialed t.seen && not fv.first)) (sym same) t.streams.way;
       };
       all = t.all ∙ ap (λ fs. put ++ fs) (t.unput_is ∙ ap (items_frames o vb) (drop_found t.stream.items t.stream.next c e)
           ∙ items_frames_cons o vb c rest m told
@@ -119,9 +120,9 @@ pub end_streaming : {fv : Wants} {kn : Member} {pv : Option Plain} {leader : Mem
 end_streaming {fv} {kn} {pv} {leader} {served = served} {asker} {put = put} t f opens ended whole is given =
     let o : ℕ = asker.asked in
     let vb : ℕ = asker.dialed.vb in
-    let in_one : Bool = nat_le 4 t.seen && not fv.first in
+    let in_one : Bool = is_granted asker.dialed t.seen && not fv.first in
     let none : t.unput ≡ [] = t.unput_is ∙ ap (items_frames o vb) (drop_whole t.stream.items t.stream.next whole) in
-    let front : List Frame = drop t.seen (first_answers ++ answer_frame o t.feed.log AskAnswer.Go ∷ []) in
+    let front : List Frame = drop t.seen (first_answers asker.dialed ++ answer_frame o t.feed.log AskAnswer.Go ∷ []) in
     let here : List Frame = items_frames o vb (coming_items kn.coming) in
     let flight : Bool → List Frame = λ b. flight_frames o vb b (marker_start in_one kn.position) t.feed.flight in
     record {

@@ -7,7 +7,7 @@ use Rattle.transcript_law.proofs.Words.{with_vb_at, call_at, row_out, row_put, D
 use Rattle.transcript_law.proofs.{Words.{Chronicle, after_end, after_lines, LawfulLine}, invariant.Tables.{at_here}, invariant.Agreement.{shelf_of, DiskIsIf, IsArm, PowerIs, PowerIsIf, Power, power_of}}
 use Rattle.transcript_law.proofs.invariant.Agreement.{AgreesAt, Agrees, VbAgrees, UpIs, DownAgrees, ServerIs, LinkAgrees, is_open, is_refused_ack, spoken, top, consumer_seat, AgreesIn, Busy, idle, EndsStand}
 use Rattle.transcript_law.proofs.{invariant.LinkRows.{put_out}, invariant.Carrying.{MemberChanged, Changed, BecameOver, Rearmed, Relinked}, links.Cutting.{IsClosable, unlinking}, invariant.OneLink.{put_here, put_there, disk_here, disk_there, consumer_quiet, carries_armed, carries_left, carries_same, consumer_rests, out_ends}}
-use Rattle.transcript_law.proofs.{lines.Lines.{lawful_more, quiet_more, after_more}, links.Verdicts.{asks_in_range}, links.Frames.{spelled_more}, links.Requests.{ask_readable}, links.Downing.{Asker, Line, put_kept, so_far, link_now}}
+use Rattle.transcript_law.proofs.{lines.Lines.{lawful_more, quiet_more, after_more}, links.Verdicts.{asks_in_range}, links.Frames.{spelled_more}, links.Firsts.{first_count}, links.Requests.{answers_past, ask_readable, request_last, waits_asking}, links.Downing.{Asker, Line, put_kept, so_far, link_now}}
 use Rattle.transcript_law.proofs.{links.Downing.{there, now, gone, lifted_at, busy_at, Before, Reached, linked, moved_agrees, same_powers, shelf_now, shelves_but, found_now, vb_here, vb_put, vb_others}, invariant.Carried.{one_idle, one_none}, disks.Disks.{ShelfIs, disk_same, parts_of, power_in}}
 use Rattle.transcript_law.proofs.{links.Onward.{Kept, one_back, onward_all, rolled_last, unarmed}, links.Rolling.{bare_point, farthest, roll_end_of, roll_taken_of, rolled_agrees, rolled_disk, rolled_shelf, stood_came}, disks.Burning.{stands_under}}
 use Rattle.branch_model.proofs.{Journaling.{ends_below, rolls_to}}
@@ -35,8 +35,7 @@ pub record Back (line : Line) : Type 0 where
   pub named : ℕ
   pub point : (after_lines line.r events).point_of line.link.consumer.dialed.link ≡ Some named
   pub asks : at.waiting ≡ waiting.Asking
-  pub later : 4 ≤ at.asked
-  pub server : ServerIs line.link.server line.link.consumer.dialed.node 4
+  pub server : ServerIs line.link.server line.link.consumer.dialed (first_count line.link.consumer.dialed)
   pub no_stream : line.link.server.stream ≡ None
   pub ups : UpIs (link_now line at) [] []
   pub said : List Frame
@@ -311,15 +310,15 @@ module _ (line : Line) (back : Back line) where
         stands = EndsStand.IsAsking ask (record {
           no_stream = back.no_stream;
           asking = record {
-            answered = 3;
-            seen = 3;
+            answered = first_count link.consumer.dialed;
+            seen = first_count link.consumer.dialed;
             some_left = omega arith;
             not_more = omega arith;
             server = back.server;
-            consumer = record { waits = back.asks; first = λ few. absurd (omega arith); later = (let l = back.later in omega (arith, l)); small = small };
+            consumer = record { waits = back.asks ∙ sym (waits_asking link.consumer.dialed); small = small };
             asks = refl;
-            asked_is = refl;
-            said_is = dropped.1;
+            asked_is = sym (request_last (at.asked + 1) link.consumer.dialed ask);
+            said_is = dropped.1 ∙ sym (answers_past link.consumer.dialed);
           };
         });
         ups = record {

@@ -1,21 +1,22 @@
 -- a stream's frames, as its consumer takes them
-use Rattle.std.specs.Prelude.{◌≡◌, ◌+◌, ◌<◌, ◌≤◌, ◌∷◌, ◌++◌, ◌&&◌, ◌^◌}
-use Rattle.transcript_law.proofs.Words.{ℕ, Bool, true, false, List, [], map, drop, refl, ap, sym, ◌∙◌, subst, arith, option_map, Option, Some, None, not, nat_le, is_some}
+use Rattle.std.specs.Prelude.{◌≡◌, ◌<◌, ◌≤◌, ◌∷◌, ◌++◌, ◌&&◌, ◌^◌}
+use Rattle.transcript_law.proofs.Words.{ℕ, Bool, true, false, List, [], map, drop, refl, ap, sym, ◌∙◌, subst, arith, option_map, Option, Some, None, not, is_some, suc, and_parts, length-append}
 use Rattle.transcript_law.proofs.Words.{nat_tests, Frame, dcp_frame, Change, EndReason, Event, front, uuid_of, Position, Rises, last_seq, IsOf, HasLast, Covers, hist_rises, hist, Shared, image_of, ground, Linked}
 use Rattle.transcript_law.proofs.Words.{stream_branch, above, member_reach, flight_from, Member, Move, SoundCluster, adopted, marked_by, received, keeps, kin_shared, VbCall, VbReply, Plain, plain_step, is_follower, is_answerable}
 use Rattle.transcript_law.proofs.Words.{marker_fits, marked_vb, is_next, with_received_change, Call, Ended, lift, after_job, after_job_lift, STATE_CHANGED, with_handshake, DialResult, with_consumer, with_line, over_for}
 use Rattle.transcript_law.proofs.{Words.{go_on_with, call_made, frame_taken, ItemLine, Chronicle, with_at, held_more, past_next, past_mark, after_line, after_lines, item_of_change, LawfulLine}, links.Sent.{act_told, change_line, message_of}}
 use Rattle.transcript_law.proofs.{links.Sent.{items_frames_cons}, lines.Lines.{IsQuiet}, invariant.Seats.{seat, seat_one}, invariant.Agreement.{vb_of, ChangeFits, image_is, AgreesAt, own_history, VbAgrees, ConsumerIs, Streaming, LinkAgrees}}
-use Rattle.transcript_law.proofs.invariant.Agreement.{StreamAgrees, first_answers, waits_after, coming_items, flight_items, ComingIs, items_frames, end_frames, flight_frames, marker_start, spoken, stream_frames, top, consumer_seat}
+use Rattle.transcript_law.proofs.{links.Firsts.{Next, first_answers, first_count, next_answer, waits_after}, links.Requests.{answers_count, few_first, waits_streaming}}
+use Rattle.transcript_law.proofs.invariant.Agreement.{StreamAgrees, is_granted, coming_items, flight_items, ComingIs, items_frames, end_frames, flight_frames, marker_start, spoken, stream_frames, top, consumer_seat}
 use Rattle.transcript_law.proofs.{invariant.Agreement.{wants_of, EndsStand, UpIs, vb_row, vb_contents, DialAgrees}, invariant.Carrying.{TakenOf}, invariant.OneLink.{put_here, put_there, consumer_quiet}, links.Comings.{next_item_line}, links.Rolling.{not_for}}
 use Rattle.transcript_law.proofs.{links.AckLines.{due_going}, links.Acknowledging.{due_none, on_stream}, invariant.Tables.{is_dialed, range_here, range_there, at_there, changed_here, changed_there, never}, links.Taken.{next_covers, next_of, next_fits, range_is_lawful, got_is_lawful, go_frame}}
 use Rattle.transcript_law.proofs.{links.Taken.{is_none, stream_adopted, stream_marked, stream_received, first_taken, go_taken, marker_taken, change_taken, end_taken}, links.Followed.{came_of, own_is, adopt_is, adopted_agrees}}
-use Rattle.transcript_law.proofs.{links.Followed.{received_shelf, marker_is, start_is_fork, start_low, marked_agrees, completes, receive_is, received_agrees}, links.Onward.{IsOnward, Kept}, links.Downing.{put_vb, same_shelves, all_answers, Next, next_answer, few_first, Asker, waits_for, Line, so_far, link_now, now}}
+use Rattle.transcript_law.proofs.{links.Followed.{received_shelf, marker_is, start_is_fork, start_low, marked_agrees, completes, receive_is, received_agrees}, links.Onward.{IsOnward, Kept}, links.Downing.{put_vb, same_shelves, all_answers, Asker, waits_for, Line, so_far, link_now, now}}
 use Rattle.transcript_law.proofs.{links.Downing.{busy_at, Before, Reached, linked, counted, ended, vb_moved, moved_on, vb_here, vb_put, vb_others, counted_consumer, waits_last, next_downs, end_of}, invariant.Carried.{no_writer, talk_same}}
 use Rattle.vb_calls.specs.Shelves.{Shelf}
 use Rattle.branch_model.specs.Journals.{place_of}
 use Rattle.transcript_law.proofs.{invariant.Agreement.{DiskIsIf, shelf_of}, disks.Disks.{ShelfIs, parts_of, sealed_spots, shelf_spanned}, invariant.OneLink.{disk_here, disk_there}, Words.{with_seal}}
-use Rattle.{cluster_model.specs.Clusters.{Disk, Names, spanned, spanned_by, NextNames, Stands, set_node, marked_member}, dcp_consumer.specs.Machine.{answered, streaming as streaming_after}}
+use Rattle.{cluster_model.specs.Clusters.{Disk, Names, spanned, spanned_by, NextNames, Stands, set_node, marked_member}, dcp_consumer.specs.Machine.{answered, streaming as streaming_after}, dcp_consumer.specs.declared.handshake.Dialed.{Dialed}, std.proofs.lemmas.List.{drop_all}}
 use Rattle.{mcbp_dcp.specs.declared.message.DcpMsg.TheVariants.{SnapshotMarker, StreamEnd}, node_core.specs.Dials.{message_result, adopt_result, due_requested, is_broken}, std.proofs.lemmas.Bool.{true_from_ne_false}, std.specs.Prelude.{min}}
 use Rattle.{vb_events.specs.declared.event.EndReason.TheVariants.{Protocol, State}, vb_events.specs.declared.event.StreamName.TheVariants.{Link}}
 use Rattle.vb_events.specs.declared.event.Event.TheVariants as event
@@ -44,6 +45,9 @@ module _ (line : Line) (course : Course line) where
   open line.link.server.desk use {node as p}
   open course use {before.{stays, f, rest, states, at, events, going, at.{asked as o}, going.{cluster as c}}, streaming, streaming.{feed, granted_is.{over}}}
 
+  abbrev dial : Dialed
+  dial = link.consumer.dialed
+
   abbrev k : ℕ
   k = consumer_seat link
 
@@ -62,7 +66,7 @@ module _ (line : Line) (course : Course line) where
   s = so_far line at None events
 
   abbrev in_one : Bool
-  in_one = nat_le 4 streaming.seen && not fv.first
+  in_one = is_granted dial streaming.seen && not fv.first
 
   abbrev behind : List Frame
   behind = stream_frames o v over in_one kn.position kn.coming feed.flight
@@ -85,14 +89,14 @@ module _ (line : Line) (course : Course line) where
   seats_apart e = streaming.apart (seat_one p v n v e).0
 
   -- an answer that is only counted
-  counted_on : (others : List Frame) → drop streaming.seen first_answers ≡ f ∷ others → drop (streaming.seen + 1) (all_answers (go_frame o feed)) ++ behind ≡ more ++ streaming.unput
+  counted_on : (others : List Frame) → drop streaming.seen (first_answers dial) ≡ f ∷ others → drop (suc streaming.seen) (all_answers dial (go_frame o feed)) ++ behind ≡ more ++ streaming.unput
       → Reached line rest (after_job (frame_taken f s) states.0 states.1)
   counted_on others h e =
-      let few : streaming.seen ≤ 2 = few_first streaming.seen f others h in
-      let before : nat_le 4 streaming.seen ≡ false = grind (arith, nat_tests) in
-      let later : nat_le 4 (streaming.seen + 1) ≡ false = grind (arith, nat_tests) in
-      let same : nat_le 4 streaming.seen ≡ nat_le 4 (streaming.seen + 1) = before ∙ sym later in
-      counted line f rest states at (answered at.waiting) events going (first_taken streaming.seen f others s h streaming.consumer.waits)
+      let few : streaming.seen < first_count dial = few_first dial streaming.seen f others h in
+      let before : is_granted dial streaming.seen ≡ false = grind (arith, nat_tests) in
+      let later : is_granted dial (suc streaming.seen) ≡ false = grind (arith, nat_tests) in
+      let same : is_granted dial streaming.seen ≡ is_granted dial (suc streaming.seen) = before ∙ sym later in
+      counted line f rest states at (answered dial.buffer at.waiting) events going (first_taken streaming.seen f others s h streaming.consumer.waits)
       (EndsStand.IsStreaming (record {
         granted_is = streaming.granted_is;
         told = streaming.told;
@@ -100,7 +104,7 @@ module _ (line : Line) (course : Course line) where
         feed = feed;
         fed = streaming.fed;
         log_fits = streaming.log_fits;
-        seen = streaming.seen + 1;
+        seen = suc streaming.seen;
         taking = record {
           not_more = omega arith;
           consumer = counted_consumer line at streaming.seen few streaming.consumer;
@@ -108,7 +112,7 @@ module _ (line : Line) (course : Course line) where
           asks = λ q. streaming.asks (ap (λ b. b && not fv.first) before);
         };
         streams = subst (λ b. StreamAgrees o v link.server.desk.id streaming.granted_is streaming.stream (vb_of (now line states at) p v) (c.nodes (seat p v)) feed kn (b && not fv.first)) same streaming.streams;
-        all = ap (λ b. drop (streaming.seen + 1) (all_answers (go_frame o feed)) ++ stream_frames o v over (b && not fv.first) kn.position kn.coming feed.flight) (sym same) ∙ e;
+        all = ap (λ b. drop (suc streaming.seen) (all_answers dial (go_frame o feed)) ++ stream_frames o v over (b && not fv.first) kn.position kn.coming feed.flight) (sym same) ∙ e;
       }))
 
   -- what a call that was made carries over, where one line tells of it
@@ -157,18 +161,28 @@ module _ (line : Line) (course : Course line) where
   over_reached at' why other call next reply q e = ended line stays f rest states (put_vb states v fv) at at' events why (after_job (lift (Call v call (λ y. due_requested (next y)))) states.0 states.1) going other
       (came_on call next fv reply q ∙ ap (λ y. after_job (lift (due_requested y)) (put_vb states v fv).0 states.1) e ∙ ap (λ y. after_job (lift y) (put_vb states v fv).0 states.1) (due_none (so_far line at' (Some why) events) refl)) (λ m q. vb_moved line states states.1 at at fv m q (λ e t. sym known ∙ ap states.0 (sym t))) refl
 
+  -- behind all answers, also to the request for the stream
+  abbrev last : ℕ
+  last = suc (first_count dial)
+
+  granted_last : is_granted dial last ≡ true
+  granted_last = grind (arith, nat_tests)
+
+  none_behind : drop last (all_answers dial (go_frame o feed)) ≡ []
+  none_behind = drop_all last (all_answers dial (go_frame o feed)) (omega (arith, length-append (first_answers dial) (go_frame o feed ∷ []), answers_count dial))
+
   -- the stream's answer: the log is taken over
 
-  adopt_on : streaming.seen ≡ 3 → behind ≡ more ++ streaming.unput → (b : Bool) → is_answerable feed.log ≡ b → Reached line rest (after_job (lift (go_on_with feed.log s)) states.0 states.1)
+  adopt_on : streaming.seen ≡ first_count dial → behind ≡ more ++ streaming.unput → (b : Bool) → is_answerable feed.log ≡ b → Reached line rest (after_job (lift (go_on_with feed.log s)) states.0 states.1)
   unfolding go_on_with
-  adopt_on three e false a = over_reached at Protocol refl (call.Adopt feed.log) (adopt_result feed.log s) _ (adopt_is fv feed.log false mine.follows a) refl
-  adopt_on three e true a =
+  adopt_on all e false a = over_reached at Protocol refl (call.Adopt feed.log) (adopt_result feed.log s) _ (adopt_is fv feed.log false mine.follows a) refl
+  adopt_on all e true a =
       let fv' : Plain = record fv { log = feed.log; first = true } in let kn' : Member = adopted kn (Some feed) in
-      let early : nat_le 4 streaming.seen ≡ false = ap (nat_le 4) three in let start : in_one ≡ false = ap (λ b. b && not fv.first) early in
+      let early : is_granted dial streaming.seen ≡ false = grind (arith, nat_tests, all) in let start : in_one ≡ false = ap (λ b. b && not fv.first) early in
       let none : kn.coming ≡ None = is_none kn.coming (streaming.adopted ∙ early) in
       let joined : Shared c.tree kn.br feed.u (member_reach kn) = kin_shared (ground c) kn.br feed.u (member_reach kn) (subst (λ y. Linked (ground c) kn y (Some feed)) none (subst (Linked (ground c) kn kn.coming) streaming.fed (going.agrees.sound.stands k).linked)).0.0 in
       let at' : Asker = waits_for at waiting.Streaming in
-      let asks : at.waiting ≡ waiting.Asking = waits_last line at streaming.seen three streaming.consumer in
+      let asks : at.waiting ≡ waiting.Asking = waits_last line at streaming.seen all streaming.consumer in
       on_reached fv' kn' at' (event.Adopted n v feed.log) refl refl (after_job (lift (go_on_with feed.log s)) states.0 states.1) refl
       (came_on (call.Adopt feed.log) (adopt_result feed.log s) fv' _ (adopt_is fv feed.log true mine.follows a)
       ∙ ap (λ h. after_job (lift (due_requested (with_line (with_consumer s (with_handshake s.dial.consumer (streaming_after h))) (event.Adopted n v feed.log)))) (put_vb states v fv').0 states.1) asks) tt tt
@@ -193,22 +207,23 @@ module _ (line : Line) (course : Course line) where
         feed = feed;
         fed = refl;
         log_fits = streaming.log_fits;
-        seen = 4;
+        seen = last;
         taking = record {
           not_more = omega arith;
-          consumer = record { waits = refl; first = λ few. absurd (omega arith); later = streaming.consumer.later; small = streaming.consumer.small };
-          adopted = refl;
+          consumer = record { waits = sym (waits_streaming dial); small = streaming.consumer.small };
+          adopted = sym granted_last;
           asks = λ q. streaming.asks start;
         };
-        streams = stream_adopted none
-            (subst (λ b. StreamAgrees o v link.server.desk.id streaming.granted_is streaming.stream (vb_of (now line states at) p v) (c.nodes (seat p v)) feed kn b) start streaming.streams);
-        all = sym (ap (λ y. stream_frames o v over in_one kn.position y feed.flight) none ∙ ap (λ b. stream_frames o v over b kn.position None feed.flight) start) ∙ e;
+        streams = subst (λ b. StreamAgrees o v link.server.desk.id streaming.granted_is streaming.stream (vb_of (now line states at) p v) (c.nodes (seat p v)) feed kn' b) (sym (ap (λ b. b && not fv'.first) granted_last)) (stream_adopted none
+            (subst (λ b. StreamAgrees o v link.server.desk.id streaming.granted_is streaming.stream (vb_of (now line states at) p v) (c.nodes (seat p v)) feed kn b) start streaming.streams));
+        all = (λ i. none_behind i ++ stream_frames o v over (granted_last i && not fv'.first) kn.position (Some []) feed.flight)
+            ∙ sym (ap (λ y. stream_frames o v over in_one kn.position y feed.flight) none ∙ ap (λ b. stream_frames o v over b kn.position None feed.flight) start) ∙ e;
       })
 
-  adopt_next : streaming.seen ≡ 3 → go_frame o feed ≡ f → behind ≡ more ++ streaming.unput → Reached line rest (after_job (frame_taken f s) states.0 states.1)
-  adopt_next three h e = subst (λ y. Reached line rest (after_job (frame_taken y s) states.0 states.1)) h
-      (subst (λ y. Reached line rest (after_job y states.0 states.1)) (sym (go_taken feed.log s streaming.short streaming.entries (waits_last line at streaming.seen three streaming.consumer)))
-      (adopt_on three e (is_answerable feed.log) refl))
+  adopt_next : streaming.seen ≡ first_count dial → go_frame o feed ≡ f → behind ≡ more ++ streaming.unput → Reached line rest (after_job (frame_taken f s) states.0 states.1)
+  adopt_next all h e = subst (λ y. Reached line rest (after_job (frame_taken y s) states.0 states.1)) h
+      (subst (λ y. Reached line rest (after_job y states.0 states.1)) (sym (go_taken feed.log s streaming.short streaming.entries (waits_last line at streaming.seen all streaming.consumer)))
+      (adopt_on all e (is_answerable feed.log) refl))
 
   -- the position lies in its snapshot
   position_within : (kn.position.ss ≤ kn.position.at) × (kn.position.at ≤ kn.position.se) × (kn.position.se ≤ 2 ^ 48)
@@ -230,20 +245,21 @@ module _ (line : Line) (course : Course line) where
   abbrev NextTold : Change → List Change → Type 0
   NextTold x later = (items : List ItemLine) × (streaming.granted_is.coming ≡ item_of_change x ∷ items) × (map item_of_change (later ++ flight_items feed.flight) ≡ items ++ map item_of_change (drop streaming.stream.next streaming.stream.items))
 
-  granted_now : streaming.seen ≡ 4 → at.waiting ≡ waiting.Streaming
-  granted_now four = streaming.consumer.waits ∙ ap waits_after four
+  granted_now : streaming.seen ≡ last → at.waiting ≡ waiting.Streaming
+  granted_now all = streaming.consumer.waits ∙ ap (waits_after dial) all ∙ waits_streaming dial
 
-  consumer_now : streaming.seen ≡ 4 → ConsumerIs (end_of line at None) 4
-  consumer_now four = record { waits = granted_now four; first = λ few. absurd (omega arith); later = streaming.consumer.later; small = streaming.consumer.small }
+  consumer_now : streaming.seen ≡ last → ConsumerIs (end_of line at None) last
+  consumer_now all = record { waits = granted_now all ∙ sym (waits_streaming dial); small = streaming.consumer.small }
 
-  marker_on : (x : ℕ × List Change) (later : List (ℕ × List Change)) → streaming.seen ≡ 4 → kn.coming ≡ Some [] → feed.flight ≡ x ∷ later → items_frames o v x.1 ++ flight_frames o v over x.0 later ≡ more ++ streaming.unput
+  marker_on : (x : ℕ × List Change) (later : List (ℕ × List Change)) → streaming.seen ≡ last → kn.coming ≡ Some [] → feed.flight ≡ x ∷ later → items_frames o v x.1 ++ flight_frames o v over x.0 later ≡ more ++ streaming.unput
       → (b : Bool) → marker_fits fv.position fv.first start x.0 ≡ b → Reached line rest (after_job (lift (call_made (call.Marker start x.0) s)) states.0 states.1)
   unfolding call_made
-  marker_on x later four none flight e false a = over_reached at Protocol refl (call.Marker start x.0) (message_result s) _ (marker_is fv start x.0 false mine.follows a) refl
-  marker_on x later four none flight e true a =
+  marker_on x later all none flight e false a = over_reached at Protocol refl (call.Marker start x.0) (message_result s) _ (marker_is fv start x.0 false mine.follows a) refl
+  marker_on x later all none flight e true a =
       let fv' : Plain = marked_vb fv start x.0 in let kn' : Member = marked_by kn feed (x ∷ later) in let whole = covers x later flight in
       let from : flight_from kn kn.coming ≡ kn.position.at = ap (flight_from kn) none in
       let above : kn.position.at < x.0 = subst (λ y. y < x.0) from whole.0.goes_on in
+      let inside : (is_granted dial last && not fv'.first) ≡ true = ap (λ b. b && not fv'.first) granted_last in
       let ends : last_seq kn.position.at x.1 ≡ x.0 = subst (λ y. last_seq y x.1 ≡ x.0) from whole.0.reaches in
       on_reached fv' kn' at (event.Ranged n v (min start fv.position.at) x.0) refl refl (after_job (lift (call_made (call.Marker start x.0) s)) states.0 states.1) refl
       (came_on (call.Marker start x.0) (message_result s) fv' _ (marker_is fv start x.0 true mine.follows a)) tt tt
@@ -263,19 +279,20 @@ module _ (line : Line) (course : Course line) where
         feed = record feed { flight = later };
         fed = refl;
         log_fits = streaming.log_fits;
-        seen = 4;
-        taking = record { not_more = omega arith; consumer = consumer_now four; adopted = refl; asks = λ q. never q };
-        streams = stream_marked x later in_one none flight above ends streaming.streams;
-        all = e;
+        seen = last;
+        taking = record { not_more = omega arith; consumer = consumer_now all; adopted = sym granted_last; asks = λ q. never (sym inside ∙ q) };
+        streams = subst (λ b. StreamAgrees o v link.server.desk.id (past_mark streaming.granted_is) streaming.stream (vb_of (now line states at) p v) (c.nodes (seat p v)) (record feed { flight = later }) kn' b) (sym inside)
+            (stream_marked x later in_one none flight above ends streaming.streams);
+        all = (λ i. none_behind i ++ stream_frames o v over (inside i) kn'.position kn'.coming later) ∙ e;
       })
 
-  marker_next : (x : ℕ × List Change) (later : List (ℕ × List Change)) → streaming.seen ≡ 4 → kn.coming ≡ Some [] → feed.flight ≡ x ∷ later
+  marker_next : (x : ℕ × List Change) (later : List (ℕ × List Change)) → streaming.seen ≡ last → kn.coming ≡ Some [] → feed.flight ≡ x ∷ later
       → flight_frames o v over start (x ∷ later) ≡ f ∷ (more ++ streaming.unput) → Reached line rest (after_job (frame_taken f s) states.0 states.1)
-  marker_next x later four none flight e =
+  marker_next x later all none flight e =
       let same : dcp_frame (SnapshotMarker start x.0 1) o v ≡ f = cc in let low : x.0 ≤ 2 ^ 48 = (covers x later flight).1 in
       subst (λ y. Reached line rest (after_job (frame_taken y s) states.0 states.1)) same
-      (subst (λ y. Reached line rest (after_job y states.0 states.1)) (sym (marker_taken start x.0 o v s (start_low kn.position in_one position_within.0 position_within.1 position_within.2) (omega arith) (granted_now four)))
-      (marker_on x later four none flight (ap (drop 1) e) (marker_fits fv.position fv.first start x.0) refl))
+      (subst (λ y. Reached line rest (after_job y states.0 states.1)) (sym (marker_taken start x.0 o v s (start_low kn.position in_one position_within.0 position_within.1 position_within.2) (omega arith) (granted_now all)))
+      (marker_on x later all none flight (ap (drop 1) e) (marker_fits fv.position fv.first start x.0) refl))
 
   -- what waits at a key, in the vBucket and in its member
   waits_at : (key : List ℕ) → pending_of fv key ≡ get (image_of kn.held).pending key
@@ -298,18 +315,18 @@ module _ (line : Line) (course : Course line) where
 
   -- a change comes inside a snapshot
 
-  receive_on : (x : Change) (later : List Change) → streaming.seen ≡ 4 → kn.coming ≡ Some (x ∷ later) → ChangeFits x → items_frames o v later ++ flight_frames o v over start feed.flight ≡ more ++ streaming.unput
+  receive_on : (x : Change) (later : List Change) → streaming.seen ≡ last → kn.coming ≡ Some (x ∷ later) → ChangeFits x → items_frames o v later ++ flight_frames o v over start feed.flight ≡ more ++ streaming.unput
       → (b : Bool) → is_next fv.position x.seq ≡ b → (o : Option Act) → completed_act (pending_of fv x.key) (act_told x.act) ≡ o → Reached line rest (after_job (lift (call_made (call.Receive (change_line x)) s)) states.0 states.1)
   unfolding call_made
-  receive_on x later four coming fits e false a o d = over_reached at Protocol refl (call.Receive (change_line x)) (message_result s) _ (receive_is fv x false o mine.follows a d) refl
-  receive_on x later four coming fits e true a None d = over_reached at Protocol refl (call.Receive (change_line x)) (message_result s) _ (receive_is fv x true None mine.follows a d) refl
-  receive_on x later four coming fits e true a (Some act) d =
+  receive_on x later all coming fits e false a o d = over_reached at Protocol refl (call.Receive (change_line x)) (message_result s) _ (receive_is fv x false o mine.follows a d) refl
+  receive_on x later all coming fits e true a None d = over_reached at Protocol refl (call.Receive (change_line x)) (message_result s) _ (receive_is fv x true None mine.follows a d) refl
+  receive_on x later all coming fits e true a (Some act) d =
       let names : Names (image_of kn.held) x = waiting_named x act d in
       let done : completed_act (pending_of fv x.key) (act_told x.act) ≡ Some x.act = d ∙ ap Some (completes x.act act (pending_of fv x.key) (waiting_fulfilled x later coming names) d) in
       let fv' : Plain = (with_received_change fv x).0 in let kn' : Member = received kn (Some (x ∷ later)) in
       let up : fv.position.at < x.seq = grind (arith, nat_tests, a) in
       let inside : in_one ≡ true = true_from_ne_false in_one (λ q. let none : x ∷ later ≡ [] = sym (ap coming_items coming) ∙ streaming.streams.not_in_one q in cc) in
-      let begun : not fv.first ≡ true = sym (ap (λ y. nat_le 4 y && not fv.first) four) ∙ inside in
+      let begun : (is_granted dial last && not fv.first) ≡ true = ap (λ b. b && not fv.first) granted_last ∙ (and_parts (is_granted dial streaming.seen) (not fv.first) inside).1 in
       let next : NextTold x later = next_item_line o v start over streaming.stream x later more streaming.unput streaming.streams.fits streaming.unput_is streaming.all_put feed.flight streaming.granted_is.coming
       (subst (ComingIs streaming.granted_is.coming streaming.stream feed.flight) coming streaming.streams.coming) e in
       let told' : Chronicle = record told { held = held_more told n v x; open_at = with_at told.open_at n v true } in
@@ -338,49 +355,49 @@ module _ (line : Line) (course : Course line) where
         feed = feed;
         fed = streaming.fed;
         log_fits = streaming.log_fits;
-        seen = 4;
-        taking = record { not_more = omega arith; consumer = consumer_now four; adopted = refl; asks = λ q. never (sym begun ∙ q) };
+        seen = last;
+        taking = record { not_more = omega arith; consumer = consumer_now all; adopted = sym granted_last; asks = λ q. never (sym begun ∙ q) };
         streams = subst (λ b. StreamAgrees o v link.server.desk.id (past_next streaming.granted_is) streaming.stream (vb_of (now line states at) p v) (c.nodes (seat p v)) feed kn' b) (sym begun)
             (stream_received x later coming next
             (subst (λ b. StreamAgrees o v link.server.desk.id streaming.granted_is streaming.stream (vb_of (now line states at) p v) (c.nodes (seat p v)) feed kn b) inside streaming.streams));
-        all = ap (λ b. items_frames o v later ++ flight_frames o v over (marker_start b kn'.position) feed.flight) begun
+        all = (λ i. none_behind i ++ (items_frames o v later ++ flight_frames o v over (marker_start (begun i) kn'.position) feed.flight))
             ∙ sym (ap (λ b. items_frames o v later ++ flight_frames o v over (marker_start b kn.position) feed.flight) inside) ∙ e;
       })
 
-  receive_next : (x : Change) (later : List Change) → streaming.seen ≡ 4 → kn.coming ≡ Some (x ∷ later) → items_frames o v (x ∷ later) ++ flight_frames o v over start feed.flight ≡ f ∷ (more ++ streaming.unput)
+  receive_next : (x : Change) (later : List Change) → streaming.seen ≡ last → kn.coming ≡ Some (x ∷ later) → items_frames o v (x ∷ later) ++ flight_frames o v over start feed.flight ≡ f ∷ (more ++ streaming.unput)
       → Reached line rest (after_job (frame_taken f s) states.0 states.1)
-  receive_next x later four coming e =
+  receive_next x later all coming e =
       let fits : ChangeFits x = next_fits (busy_at line (f ∷ rest)) (now line states at) told c k feed going.agrees streaming.fed x later coming in
       let (m, is) = message_of x x.act in
-      let all : dcp_frame m o v ∷ (items_frames o v later ++ flight_frames o v over start feed.flight) ≡ f ∷ (more ++ streaming.unput) = sym (ap (λ y. y ++ flight_frames o v over start feed.flight) (items_frames_cons o v x later m is)) ∙ e in
+      let frames : dcp_frame m o v ∷ (items_frames o v later ++ flight_frames o v over start feed.flight) ≡ f ∷ (more ++ streaming.unput) = sym (ap (λ y. y ++ flight_frames o v over start feed.flight) (items_frames_cons o v x later m is)) ∙ e in
       let same : dcp_frame m o v ≡ f = cc in
       subst (λ y. Reached line rest (after_job (frame_taken y s) states.0 states.1)) same
-      (subst (λ y. Reached line rest (after_job y states.0 states.1)) (sym (change_taken x x.act m o v s fits refl is (granted_now four)))
-      (receive_on x later four coming fits (ap (drop 1) all) (is_next fv.position x.seq) refl (completed_act (pending_of fv x.key) (act_told x.act)) refl))
+      (subst (λ y. Reached line rest (after_job y states.0 states.1)) (sym (change_taken x x.act m o v s fits refl is (granted_now all)))
+      (receive_on x later all coming fits (ap (drop 1) frames) (is_next fv.position x.seq) refl (completed_act (pending_of fv x.key) (act_told x.act)) refl))
 
   -- the stream's end: the link is over
-  end_next : streaming.seen ≡ 4 → (b : Bool) → over ≡ b → end_frames o v b ≡ f ∷ (more ++ streaming.unput) → Reached line rest (after_job (frame_taken f s) states.0 states.1)
-  end_next four false q h = never (let z : [] ≡ f ∷ (more ++ streaming.unput) = h in cc)
-  end_next four true q h =
+  end_next : streaming.seen ≡ last → (b : Bool) → over ≡ b → end_frames o v b ≡ f ∷ (more ++ streaming.unput) → Reached line rest (after_job (frame_taken f s) states.0 states.1)
+  end_next all false q h = never (let z : [] ≡ f ∷ (more ++ streaming.unput) = h in cc)
+  end_next all true q h =
       let same : dcp_frame (StreamEnd STATE_CHANGED) o v ≡ f = cc in
       ended line stays f rest states states at at events State (after_job (frame_taken f s) states.0 states.1) going refl
-      (ap (λ y. after_job y states.0 states.1) (subst (λ y. frame_taken y s ≡ Ended (over_for State s)) same (end_taken o v s (granted_now four)))) (λ m q. refl) refl
+      (ap (λ y. after_job y states.0 states.1) (subst (λ y. frame_taken y s ≡ Ended (over_for State s)) same (end_taken o v s (granted_now all)))) (λ m q. refl) refl
 
   -- a frame behind the answers
-  stream_next : streaming.seen ≡ 4 → behind ≡ f ∷ (more ++ streaming.unput) → Reached line rest (after_job (frame_taken f s) states.0 states.1)
-  stream_next four e = by kn.coming refl feed.flight refl
+  stream_next : streaming.seen ≡ last → behind ≡ f ∷ (more ++ streaming.unput) → Reached line rest (after_job (frame_taken f s) states.0 states.1)
+  stream_next all e = by kn.coming refl feed.flight refl
     where
       by : (o' : Option (List Change)) → kn.coming ≡ o' → (xs : List (ℕ × List Change)) → feed.flight ≡ xs → Reached line rest (after_job (frame_taken f s) states.0 states.1)
-      by None q xs fl = never (sym (ap (nat_le 4) four) ∙ sym streaming.adopted ∙ ap is_some q)
-      by (Some []) q [] fl = end_next four over refl (sym ((λ i. stream_frames o v over in_one kn.position (q i) (fl i))) ∙ e)
-      by (Some []) q (x ∷ later) fl = marker_next x later four q fl (sym ((λ i. stream_frames o v over in_one kn.position (q i) (fl i))) ∙ e)
-      by (Some (x ∷ later)) q xs fl = receive_next x later four q (sym (ap (λ y. stream_frames o v over in_one kn.position y feed.flight) q) ∙ e)
+      by None q xs fl = never (sym granted_last ∙ sym (ap (is_granted dial) all) ∙ sym streaming.adopted ∙ ap is_some q)
+      by (Some []) q [] fl = end_next all over refl (sym ((λ i. stream_frames o v over in_one kn.position (q i) (fl i))) ∙ e)
+      by (Some []) q (x ∷ later) fl = marker_next x later all q fl (sym ((λ i. stream_frames o v over in_one kn.position (q i) (fl i))) ∙ e)
+      by (Some (x ∷ later)) q xs fl = receive_next x later all q (sym (ap (λ y. stream_frames o v over in_one kn.position y feed.flight) q) ∙ e)
 
   -- the next frame of a link with a stream
   pub streaming_next : Reached line rest (after_job (frame_taken f s) states.0 states.1)
-  streaming_next = by (next_answer (go_frame o feed) f behind (more ++ streaming.unput) streaming.seen streaming.not_more (streaming.all ∙ ap (λ x. x ++ streaming.unput) course.heard))
+  streaming_next = by (next_answer (first_answers dial) (first_count dial) (go_frame o feed) f behind (more ++ streaming.unput) streaming.seen (answers_count dial) streaming.not_more (streaming.all ∙ ap (λ x. x ++ streaming.unput) course.heard))
     where
-      by : Next (go_frame o feed) f behind (more ++ streaming.unput) streaming.seen → Reached line rest (after_job (frame_taken f s) states.0 states.1)
+      by : Next (first_answers dial) (first_count dial) (go_frame o feed) f behind (more ++ streaming.unput) streaming.seen → Reached line rest (after_job (frame_taken f s) states.0 states.1)
       by (Next.IsFirst others h e) = counted_on others h e
-      by (Next.IsLast three h e) = adopt_next three h e
-      by (Next.IsBehind four e) = stream_next four e
+      by (Next.IsLast all h e) = adopt_next all h e
+      by (Next.IsBehind all e) = stream_next all e

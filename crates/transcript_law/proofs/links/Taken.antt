@@ -1,14 +1,14 @@
 -- what a consumer makes of the frames that a producer writes, what stays of a stream when it takes one, and that what is on its way fits the frames that tell it
-use Rattle.std.specs.Prelude.{◌≡◌, ◌<◌, ◌≤◌, ◌∷◌, ◌==◌, ◌&&◌, ◌^◌, if◌then◌else◌, ◌++◌}
-use Rattle.transcript_law.proofs.Words.{ℕ, true, false, zero, suc, List, [], length, drop, refl, ap, sym, ◌∙◌, subst, arith, Some, None, nat_le, is_some, All}
-use Rattle.transcript_law.proofs.Words.{Frame, RESPONSE, DcpMsg, StreamVerdict, dcp_frame, IsVerdict, IsSpelled, EntryInRange, VerdictInRange, InRange, option_map, drop-nil, and_parts, eq-eqb, eqb-true, nat_tests, message_back, Act, Change}
+use Rattle.std.specs.Prelude.{◌≡◌, ◌<◌, ◌≤◌, ◌∷◌, ◌==◌, ◌&&◌, ◌-◌, ◌^◌, if◌then◌else◌, ◌++◌}
+use Rattle.transcript_law.proofs.Words.{ℕ, true, false, List, [], length, drop, refl, ap, sym, ◌∙◌, subst, arith, Some, None, nat_le, is_some, All}
+use Rattle.transcript_law.proofs.Words.{Frame, RESPONSE, DcpMsg, StreamVerdict, dcp_frame, IsVerdict, IsSpelled, EntryInRange, VerdictInRange, InRange, option_map, and_parts, eq-eqb, eqb-true, nat_tests, message_back, Act, Change}
 use Rattle.transcript_law.proofs.Words.{EndReason, LogEntry, IsKey, IsValue, Ended, lift, act_message, STATE_CHANGED, PlainConsumer, with_handshake, over_why, DialResult, with_consumer, over_for, go_on_with, roll_back}
 use Rattle.transcript_law.proofs.Words.{call_made, frame_taken, min, ⊎_elim, inl, inr, IsIn, last_seq, IsOf, Covers, hist, hist_rises, rises_in, Feed, Cluster, ground, Linked, Flight, flight_from, PlainWorld}
 use Rattle.transcript_law.proofs.Words.{ItemLine, Granted, Chronicle, stream_branch, item_of_change, stream_history, LawfulRange, LawfulGot, Bool, map, Option, Member, adopted, marked_by, received, flight_end}
-use Rattle.transcript_law.proofs.{Words.{Plain, PlainStream, past_next, past_mark}, invariant.Agreement.{first_answers, answer_frame, DocFits, ActFits, ChangeFits, EntryFits, IsRefused, is_refused_ack, waits_after, flight_marks, top, Busy}}
+use Rattle.transcript_law.proofs.{Words.{Plain, PlainStream, past_next, past_mark}, invariant.Agreement.{answer_frame, DocFits, ActFits, ChangeFits, EntryFits, IsRefused, is_refused_ack, flight_marks, top, Busy}, links.Firsts.{first_answers, waits_after}, links.Requests.{first_counted}}
 use Rattle.transcript_law.proofs.{invariant.Agreement.{AgreesIn, coming_items, flight_items, marker_start, ComingIs, StreamAgrees}, links.Sent.{act_told, fits_of}, links.Comings.{marker_comes, taken_comes}}
 use Rattle.{branch_model.proofs.Images.{plain_stands}, cluster_model.specs.Clusters.{Comes}, dcp_consumer.specs.Machine.{verdict_step, answered_with, stream_step, is_awaited, answer_step, response_step, message_step, frame_step}}
-use Rattle.{dcp_consumer.specs.Machine.{answered, moved_by}, dcp_consumer.specs.PassiveStreams.{set_change, remove_change, prepare_change, resolved_change, commit_act, call_of_message, called, passive_of, passive_read}}
+use Rattle.{dcp_consumer.specs.Dialing.{stream_opaque}, dcp_consumer.specs.Machine.{answered, moved_by}, dcp_consumer.specs.PassiveStreams.{set_change, remove_change, prepare_change, resolved_change, commit_act, call_of_message, called, passive_of, passive_read}}
 use Rattle.{dcp_consumer.specs.declared.handshake.ConsumerStep.{ConsumerStep}, dcp_consumer.specs.declared.handshake.Handshake.{Handshake as Waiting}, dcp_consumer.specs.declared.passive_stream.Passive.{Passive}}
 use Rattle.{dcp_consumer.specs.declared.passive_stream.Passive.TheVariants.{Call, End}, mcbp_dcp.specs.declared.message.Deletion.{Deletion}, mcbp_dcp.specs.declared.message.Mutation.{Mutation}}
 use Rattle.{node_core.specs.Dials.{step_made}, std.proofs.Math.Bool.{and-false}, std.proofs.lemmas.Bool.{true_from_ne_false}, vb_calls.specs.declared.calls.VbCall.TheVariants.{Marker, Receive}, vb_types.specs.Limits.{key_of, value_of}}
@@ -28,56 +28,46 @@ use Rattle.transcript_law.proofs.Words.{Doc}
 use Rattle.vb_types.specs.declared.change.Level.{Level}
 
 -- what a frame comes to, by its step
-as_step : (f : Frame) (s : DialResult) (x : ConsumerStep) → frame_step s.dial.consumer f ≡ x
-    → frame_taken f s ≡ step_made x (with_consumer s (with_handshake s.dial.consumer (moved_by x s.dial.consumer.handshake)))
+pub as_step : (f : Frame) (s : DialResult) (x : ConsumerStep) → frame_step s.dial.consumer f ≡ x
+    → frame_taken f s ≡ step_made x (with_consumer s (with_handshake s.dial.consumer (moved_by s.dial.consumer.dialed.buffer x s.dial.consumer.handshake)))
 unfolding frame_taken
-as_step f s x e = ap (λ y. step_made y (with_consumer s (with_handshake s.dial.consumer (moved_by y s.dial.consumer.handshake)))) e
+as_step f s x e = ap (λ y. step_made y (with_consumer s (with_handshake s.dial.consumer (moved_by s.dial.consumer.dialed.buffer y s.dial.consumer.handshake)))) e
 
 -- once the link is over, nothing is taken
 pub over_taken : (f : Frame) (s : DialResult) (why : EndReason) → over_why s.dial.consumer.handshake ≡ Some why → frame_taken f s ≡ Ended s
 unfolding frame_step
 over_taken f s why e =
     let c : PlainConsumer = s.dial.consumer in
-    as_step f s step.Dropped (ap (λ o. if is_some o then step.Dropped else if f.magic == RESPONSE then response_step c.handshake c.asked f else message_step c.handshake f) e)
+    as_step f s step.Dropped (ap (λ o. if is_some o then step.Dropped else if f.magic == RESPONSE then response_step c.dialed.buffer c.handshake c.asked f else message_step c.handshake f) e)
 
 -- the answer to an acknowledgement that was refused is none that is waited for, so it is dropped
 
-unawaited : (h : Waiting) (asked : ℕ) (f : Frame) → f.opcode ≡ 0x61 → is_awaited h asked f ≡ false
-unawaited waiting.Opening asked f e = ap (λ n. f.opaque == 1 && n == 0x50) e ∙ and-false (f.opaque == 1)
-unawaited waiting.SyncWrites asked f e = ap (λ n. f.opaque == 2 && n == 0x5e) e ∙ and-false (f.opaque == 2)
-unawaited waiting.Naming asked f e = ap (λ n. f.opaque == 3 && n == 0x5e) e ∙ and-false (f.opaque == 3)
-unawaited waiting.Asking asked f e = ap (λ n. f.opaque == asked && n == 0x53) e ∙ and-false (f.opaque == asked)
-unawaited other asked f e = refl
+unawaited : (buffer : ℕ) (h : Waiting) (asked : ℕ) (f : Frame) → f.opcode ≡ 0x61 → is_awaited buffer h asked f ≡ false
+unawaited buffer waiting.Opening asked f e = ap (λ n. f.opaque == 1 && n == 0x50) e ∙ and-false (f.opaque == 1)
+unawaited buffer waiting.Buffering asked f e = ap (λ n. f.opaque == 2 && n == 0x5e) e ∙ and-false (f.opaque == 2)
+unawaited buffer waiting.SyncWrites asked f e = ap (λ n. f.opaque == stream_opaque buffer - 2 && n == 0x5e) e ∙ and-false (f.opaque == stream_opaque buffer - 2)
+unawaited buffer waiting.Naming asked f e = ap (λ n. f.opaque == stream_opaque buffer - 1 && n == 0x5e) e ∙ and-false (f.opaque == stream_opaque buffer - 1)
+unawaited buffer waiting.Asking asked f e = ap (λ n. f.opaque == asked && n == 0x53) e ∙ and-false (f.opaque == asked)
+unawaited buffer other asked f e = refl
 
 dropped_step : (c : PlainConsumer) (f : Frame) → is_refused_ack f ≡ true → frame_step c f ≡ step.Dropped
 unfolding frame_step
 dropped_step c f e =
     let p = and_parts (f.magic == RESPONSE) (f.opcode == 0x61) e in
-    elim (is_some (over_why c.handshake)) as (λ b. (if b then step.Dropped else if f.magic == RESPONSE then response_step c.handshake c.asked f else message_step c.handshake f) ≡ step.Dropped) [
+    elim (is_some (over_why c.handshake)) as (λ b. (if b then step.Dropped else if f.magic == RESPONSE then response_step c.dialed.buffer c.handshake c.asked f else message_step c.handshake f) ≡ step.Dropped) [
       | true ↦ refl
-      | false ↦ ap (λ b. if b then response_step c.handshake c.asked f else message_step c.handshake f) p.0
-          ∙ ap (λ b. if b then answer_step c.handshake f else step.Dropped) (unawaited c.handshake c.asked f (eqb-true f.opcode 0x61 p.1))
+      | false ↦ ap (λ b. if b then response_step c.dialed.buffer c.handshake c.asked f else message_step c.handshake f) p.0
+          ∙ ap (λ b. if b then answer_step c.handshake f else step.Dropped) (unawaited c.dialed.buffer c.handshake c.asked f (eqb-true f.opcode 0x61 p.1))
     ]
 
 pub dropped_taken : (f : Frame) (s : DialResult) → is_refused_ack f ≡ true → frame_taken f s ≡ Ended s
 dropped_taken f s e = as_step f s step.Dropped (dropped_step s.dial.consumer f e)
 
--- the answers to the first three requests are counted
+-- the answers to the first requests are counted
 
-awaited_step : (c : PlainConsumer) (h : Waiting) (f : Frame) → c.handshake ≡ h → (if is_some (over_why h) then step.Dropped else if f.magic == RESPONSE then response_step h c.asked f else message_step h f) ≡ step.Answered → frame_step c f ≡ step.Answered
-unfolding frame_step
-awaited_step c h f e is = ap (λ h. if is_some (over_why h) then step.Dropped else if f.magic == RESPONSE then response_step h c.asked f else message_step h f) e ∙ is
-
-first_step : (seen : ℕ) (f : Frame) (more : List Frame) (c : PlainConsumer) → drop seen first_answers ≡ f ∷ more → c.handshake ≡ waits_after seen → frame_step c f ≡ step.Answered
-unfolding dcp_frame
-first_step zero f more c e w = let same : dcp_frame (msg.OpenAnswer 0) 1 0 ≡ f = cc in subst (λ x. frame_step c x ≡ step.Answered) same (awaited_step c waiting.Opening (dcp_frame (msg.OpenAnswer 0) 1 0) w refl)
-first_step (suc zero) f more c e w = let same : dcp_frame (msg.ControlAnswer 0) 2 0 ≡ f = cc in subst (λ x. frame_step c x ≡ step.Answered) same (awaited_step c waiting.SyncWrites (dcp_frame (msg.ControlAnswer 0) 2 0) w refl)
-first_step (suc (suc zero)) f more c e w = let same : dcp_frame (msg.ControlAnswer 0) 3 0 ≡ f = cc in subst (λ x. frame_step c x ≡ step.Answered) same (awaited_step c waiting.Naming (dcp_frame (msg.ControlAnswer 0) 3 0) w refl)
-first_step (suc (suc (suc seen))) f more c e w = let none : drop seen [] ≡ [] = drop-nil {A = Frame} seen in cc
-
-pub first_taken : (seen : ℕ) (f : Frame) (more : List Frame) (s : DialResult) → drop seen first_answers ≡ f ∷ more → s.dial.consumer.handshake ≡ waits_after seen
-    → frame_taken f s ≡ Ended (with_consumer s (with_handshake s.dial.consumer (answered s.dial.consumer.handshake)))
-first_taken seen f more s e w = as_step f s step.Answered (first_step seen f more s.dial.consumer e w)
+pub first_taken : (seen : ℕ) (f : Frame) (more : List Frame) (s : DialResult) → drop seen (first_answers s.dial.consumer.dialed) ≡ f ∷ more → s.dial.consumer.handshake ≡ waits_after s.dial.consumer.dialed seen
+    → frame_taken f s ≡ Ended (with_consumer s (with_handshake s.dial.consumer (answered s.dial.consumer.dialed.buffer s.dial.consumer.handshake)))
+first_taken seen f more s e w = as_step f s step.Answered (first_counted s.dial.consumer seen f more e w)
 
 -- the answer to a request for a stream
 
@@ -90,14 +80,14 @@ answered_step : (t : StreamVerdict) (c : PlainConsumer) → IsVerdict t → Verd
 unfolding frame_step
 answered_step t c i r e =
     let n : ℕ = c.asked in let f : Frame = dcp_frame (msg.StreamAnswer t) n 0 in
-    ap (λ h. if is_some (over_why h) then step.Dropped else if f.magic == RESPONSE then response_step h n f else message_step h f) e
-    ∙ ap (λ b. if b then response_step waiting.Asking n f else message_step waiting.Asking f) (answer_head t n).0
+    ap (λ h. if is_some (over_why h) then step.Dropped else if f.magic == RESPONSE then response_step c.dialed.buffer h n f else message_step h f) e
+    ∙ ap (λ b. if b then response_step c.dialed.buffer waiting.Asking n f else message_step waiting.Asking f) (answer_head t n).0
     ∙ ap (λ b. if b && f.opcode == 0x53 then answer_step waiting.Asking f else step.Dropped) (eq-eqb f.opaque n (answer_head t n).2)
     ∙ ap (λ b. if b then answer_step waiting.Asking f else step.Dropped) (eq-eqb f.opcode 0x53 (answer_head t n).1)
     ∙ ap (λ x. stream_step (answered_with f.vb_or_status x)) (message_back (msg.StreamAnswer t) n 0 i r)
 
 answered_taken : (t : StreamVerdict) (s : DialResult) → IsVerdict t → VerdictInRange t → s.dial.consumer.handshake ≡ waiting.Asking
-    → frame_taken (dcp_frame (msg.StreamAnswer t) s.dial.consumer.asked 0) s ≡ step_made (verdict_step t) (with_consumer s (with_handshake s.dial.consumer (moved_by (verdict_step t) s.dial.consumer.handshake)))
+    → frame_taken (dcp_frame (msg.StreamAnswer t) s.dial.consumer.asked 0) s ≡ step_made (verdict_step t) (with_consumer s (with_handshake s.dial.consumer (moved_by s.dial.consumer.dialed.buffer (verdict_step t) s.dial.consumer.handshake)))
 answered_taken t s i r w = as_step (dcp_frame (msg.StreamAnswer t) s.dial.consumer.asked 0) s (verdict_step t) (answered_step t s.dial.consumer i r w)
 
 entries_in_range : (log : List LogEntry) → All EntryFits log → All EntryInRange log
@@ -118,13 +108,13 @@ refused_taken code s r w = answered_taken (told.Refused code) s (r.0, r.1) r.2 w
 
 -- a message of a stream that was granted
 message_read : (m : DcpMsg) (p : Passive) (n v : ℕ) (s : DialResult) → IsSpelled m → InRange m → s.dial.consumer.handshake ≡ waiting.Streaming → ((dcp_frame m n v).magic == RESPONSE) ≡ false → passive_of m ≡ p
-    → frame_taken (dcp_frame m n v) s ≡ step_made (step.Passive p) (with_consumer s (with_handshake s.dial.consumer (moved_by (step.Passive p) s.dial.consumer.handshake)))
+    → frame_taken (dcp_frame m n v) s ≡ step_made (step.Passive p) (with_consumer s (with_handshake s.dial.consumer (moved_by s.dial.consumer.dialed.buffer (step.Passive p) s.dial.consumer.handshake)))
 unfolding frame_step
 message_read m p n v s i r w q e =
     let f : Frame = dcp_frame m n v in let c : PlainConsumer = s.dial.consumer in
     as_step f s (step.Passive p)
-    (ap (λ h. if is_some (over_why h) then step.Dropped else if f.magic == RESPONSE then response_step h c.asked f else message_step h f) w
-    ∙ ap (λ b. if b then response_step waiting.Streaming c.asked f else message_step waiting.Streaming f) q
+    (ap (λ h. if is_some (over_why h) then step.Dropped else if f.magic == RESPONSE then response_step c.dialed.buffer h c.asked f else message_step h f) w
+    ∙ ap (λ b. if b then response_step c.dialed.buffer waiting.Streaming c.asked f else message_step waiting.Streaming f) q
     ∙ ap (λ x. step.Passive (passive_read x)) (message_back m n v i r)
     ∙ ap step.Passive e)
 

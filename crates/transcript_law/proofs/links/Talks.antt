@@ -1,8 +1,10 @@
 -- where the two ends of a link stand, after the producer's end read or answered
-use Rattle.std.specs.Prelude.{◌≡◌, ◌+◌, ◌≤◌, ◌∷◌, ◌++◌}
-use Rattle.transcript_law.proofs.Words.{ℕ, false, List, [], length, map, take, drop, ap, sym, ◌∙◌, subst, arith, Option, concat, drop-append-le, All-tail, All-push, Frame, spelling}
+use Rattle.std.specs.Prelude.{◌≡◌, ◌<◌, ◌≤◌, ◌∷◌, ◌++◌}
+use Rattle.transcript_law.proofs.Words.{ℕ, suc, false, List, [], length, map, take, drop, ap, sym, ◌∙◌, subst, arith, Option, concat, drop-append-le, All-tail, All-push, Frame, spelling}
 use Rattle.transcript_law.proofs.Words.{Readable, frames_in, left_of, pieces_of_frames, StreamAsk, Member, Plain, PlainProducer, PlainLink, Granted}
-use Rattle.transcript_law.proofs.invariant.Agreement.{request_frames, first_answers, UpIs, DownAgrees, ServerIs, Asking, Talk, wants_of, EndsStand, is_refused_ack, spoken}
+use Rattle.std.proofs.lemmas.List.{length-take}
+use Rattle.transcript_law.proofs.links.Firsts.{Begin, behind_first, first_answers, first_count, front_ends, goes_on_short, request_frames}
+use Rattle.transcript_law.proofs.invariant.Agreement.{UpIs, DownAgrees, ServerIs, Asking, Talk, wants_of, EndsStand, is_refused_ack, spoken}
 use Rattle.transcript_law.proofs.{links.Frames.{spelled_more}, links.Spoken.{spoken_push}}
 
 -- a link whose producer's end has read n bytes more, of which `left` are no whole frame yet
@@ -51,17 +53,17 @@ module _ (link : PlainLink) (end : PlainProducer) (down : List ℕ) (a : Frame) 
     readable = All-push Readable all a d.readable good;
   }
 
-  -- one of the first three requests was answered
-  pub next_asking : (fv : Plain) (kn : Member) (pv : Option Plain) (leader : Member) (granted : Option Granted) (point : Option ℕ) (ask : StreamAsk) (f g : Frame) (fs rest asked said : List Frame) (k : ℕ)
+  -- one of the first requests was answered
+  pub next_asking : (fv : Plain) (kn : Member) (pv : Option Plain) (leader : Member) (granted : Option Granted) (point : Option ℕ) (ask : StreamAsk) (f g : Frame) (fs asked said : List Frame) (k : ℕ)
       (t : Asking (wants_of fv) ask link.server link.consumer asked (spoken said)) → UpIs link (f ∷ fs) asked → DownAgrees link [] said
       → down ≡ link.down ++ spelling a → end.stream ≡ link.server.stream → Readable a → is_refused_ack a ≡ false
-      → t.answered ≡ k → k + 1 ≤ 3 → ServerIs end link.consumer.dialed.node (k + 1)
-      → drop k (request_frames link.consumer.asked link.consumer.dialed.node link.consumer.dialed.vb ask) ≡ g ∷ rest
-      → drop (k + 1) (request_frames link.consumer.asked link.consumer.dialed.node link.consumer.dialed.vb ask) ≡ rest
-      → take (k + 1) first_answers ≡ take k first_answers ++ a ∷ [] → length (take k first_answers) ≡ k
+      → t.answered ≡ k → k < first_count link.consumer.dialed → ServerIs end link.consumer.dialed (suc k)
+      → Begin (drop k (request_frames link.consumer.asked link.consumer.dialed ask)) g → Begin (drop k (first_answers link.consumer.dialed)) a
       → Talk fv kn pv leader granted point answered_link fs []
-  next_asking fv kn pv leader granted point ask f g fs rest asked said k t ups downs wrote same_stream good no_ack is more server now later answers len =
-      let frames = request_frames link.consumer.asked link.consumer.dialed.node link.consumer.dialed.vb ask in
+  next_asking fv kn pv leader granted point ask f g fs asked said k t ups downs wrote same_stream good no_ack is few server (rest, here) (others, says) =
+      let frames : List Frame = request_frames link.consumer.asked link.consumer.dialed ask in
+      let answers : List Frame = first_answers link.consumer.dialed in
+      let short : k < length answers = goes_on_short k answers a others says in
       let seen : t.seen ≤ k = subst (λ j. t.seen ≤ j) is t.not_more in
       record {
         asked = rest;
@@ -69,18 +71,18 @@ module _ (link : PlainLink) (end : PlainProducer) (down : List ℕ) (a : Frame) 
         stands = EndsStand.IsAsking ask (record {
           no_stream = same_stream ∙ t.no_stream;
           asking = record {
-            answered = k + 1;
+            answered = suc k;
             seen = t.seen;
-            some_left = more;
+            some_left = omega arith;
             not_more = omega (arith, seen);
             server = server;
             consumer = t.consumer;
             asks = t.asks;
-            asked_is = sym later;
-            said_is = spoken_push said a no_ack ∙ ap (λ x. x ++ a ∷ []) (t.said_is ∙ ap (λ j. drop t.seen (take j first_answers)) is)
-                ∙ sym (ap (drop t.seen) answers ∙ drop-append-le t.seen (take k first_answers) (a ∷ []) (omega (arith, seen, len)));
+            asked_is = sym (behind_first k frames g rest here);
+            said_is = spoken_push said a no_ack ∙ ap (λ x. x ++ a ∷ []) (t.said_is ∙ ap (λ j. drop t.seen (take j answers)) is)
+                ∙ sym (ap (drop t.seen) (front_ends k answers a others says) ∙ drop-append-le t.seen (take k answers) (a ∷ []) (omega (arith, seen, length-take k answers, short)));
           };
         });
-        ups = next_up f g fs rest (subst (UpIs link (f ∷ fs)) (t.asked_is ∙ ap (λ j. drop j frames) is ∙ now) ups);
+        ups = next_up f g fs rest (subst (UpIs link (f ∷ fs)) (t.asked_is ∙ ap (λ j. drop j frames) is ∙ here) ups);
         downs = more_down said wrote good downs;
       }

@@ -2,18 +2,18 @@
 use Rattle.std.specs.Prelude.{◌≡◌, ◌+◌, ◌<◌, ◌≤◌, ◌++◌, if◌then◌else◌, ◌∷◌, ◌&&◌, ◌^◌}
 use Rattle.transcript_law.proofs.{invariant.OneLink.{disk_here, disk_there}}
 use Rattle.transcript_law.proofs.Words.{Granted, PlainProducer, ℕ, Bool, true, false, [], length, refl, ap, sym, ◌∙◌, subst, append_assoc, Option, Some, None, slice_get, option_map, Frame}
-use Rattle.transcript_law.proofs.Words.{spelling, DcpMsg, dcp_frame, Act, Change, StreamName, Member, Cluster, TakesSnapshots, Done, Call, Turn, More, Stop, after, row_at, row_put, States, past_item, item_line, item_put}
+use Rattle.transcript_law.proofs.Words.{spelling, DcpMsg, dcp_frame, Act, Change, StreamName, Member, Cluster, TakesSnapshots, Done, Call, Prog, Turn, More, Stop, after, after_bind, row_at, row_put, States, past_item, item_line, item_put}
 use Rattle.transcript_law.proofs.Words.{place_answered, next_put, stream_put, frame_put, end_put, STATE_CHANGED, Halt, PlainStream, Served, PlainLink, link_number, producer_node, consumer_node, PlainNode, PlainWorld}
-use Rattle.transcript_law.proofs.Words.{Begun, Chronicle, is_dial_of, with_item, finished, after_lines, item_of_change, IsNextItem, Readable, inl, ⊎_elim, arith, is_some, nat_le, not, eq-eqb, ne_eqb}
+use Rattle.transcript_law.proofs.Words.{Begun, Chronicle, is_dial_of, with_item, finished, after_lines, item_of_change, IsNextItem, Readable, inl, ⊎_elim, arith, is_some, not, eq-eqb, ne_eqb}
 use Rattle.transcript_law.proofs.Words.{Position, Snapshot, Covers, fork_of, hist, hist_rises, Rises, ground, Move, SoundCluster, Linked, happens, flight_from, flight_end, start_cases, keeps, VbReply, Stream, Span}
 use Rattle.transcript_law.proofs.Words.{Plain, all_spans, stream_at, end_span, take_to, take_from, with_vb_at, call_at, marker_put, snapshot_of_reply, taken_put, stream_branch, with_begun, IsMarker, LawfulMark}
-use Rattle.transcript_law.proofs.invariant.Agreement.{DownAgrees, vb_of, is_refused_ack, spoken, Wants, BegunAgrees, kept_stream, Streaming, consumer_seat, producer_seat, LinkAgrees, is_open, idle, AgreesIn, ChangeFits, wants_of, EndsStand, own_history, VbAgrees, all_rise}
+use Rattle.transcript_law.proofs.invariant.Agreement.{DownAgrees, vb_of, is_granted, is_refused_ack, spoken, Wants, BegunAgrees, kept_stream, Streaming, consumer_seat, producer_seat, LinkAgrees, is_open, idle, AgreesIn, ChangeFits, wants_of, EndsStand, own_history, VbAgrees, all_rise}
 use Rattle.transcript_law.proofs.{invariant.Agreement.{AgreesAt, Open, top}, invariant.Tables.{is_dialed, changed_here}, invariant.LinkRows.{found_is_link, put_is_found, put_twice}, invariant.OneLink.{carries_link, carries_producer, carries_same}}
 use Rattle.transcript_law.proofs.{links.Sent.{message_of, all_found, not_found, end_readable, marker_readable}, links.Putting.{next_item_of, item_streaming, end_streaming, item_readable}, links.Marking.{whole_if, items_fit, moved_there}}
 use Rattle.transcript_law.proofs.{links.Marking.{covers_more, moved_vb, sent_member, taken_stream, start_is, reaches, marker_lawful, marker_streaming, SnapshotTaken, taken_is, span_snapshot}, links.PumpWorlds.{pumped_shelves, served_link, pumped, SoFar}}
-use Rattle.transcript_law.proofs.{links.Spoken.{message_spoken, spoken_push}, links.PumpWorlds.{TurnsSoFar, told_stream, so_far_more, pumped_here, pumped_powers, pumped_where, once_same, twice_here, twice_there, twice_same}, links.Talks.{more_down}, invariant.Seats.{seat_one}, invariant.Wholes.{WholeTo}}
+use Rattle.transcript_law.proofs.{links.Spoken.{message_spoken, spoken_push}, links.PumpWorlds.{TurnsSoFar, told_stream, so_far_more, pumped_here, pumped_powers, pumped_where, once_same, twice_here, twice_there, twice_same}, links.Talks.{more_down}, links.Windows.{windowed_turn}, invariant.Seats.{seat_one}, invariant.Wholes.{WholeTo}}
 use Rattle.transcript_law.proofs.{links.Followed.{own_is}, invariant.Carrying.{Changed, Became, FedMember, FeedChanged, NoNewStream}, invariant.Carried.{sound_streams, no_writer, talk_same}}
-use Rattle.{branch_model.proofs.Holding.{holds_covers}, branch_model.proofs.Lists.{rises_higher}, cluster_model.specs.Clusters.{MaySend, sent}, dcp_producer.specs.Pulling.{act_sent, marker_flags, snapshot_of_answer}}
+use Rattle.{branch_model.proofs.Holding.{holds_covers}, branch_model.proofs.Lists.{rises_higher}, cluster_model.specs.Clusters.{MaySend, sent}, dcp_producer.specs.Pulling.{act_sent, counted_in_window, in_window, marker_flags, snapshot_of_answer}}
 use Rattle.{dcp_producer.specs.declared.desk.Desk.{Desk}, mcbp_dcp.specs.declared.message.DcpMsg.TheVariants.{SnapshotMarker, StreamEnd}, std.proofs.lemmas.Bool.{cases_Bool, false_from_ne_true}}
 use Rattle.{transcript_law.specs.Chronicles.{with_changed}, transcript_law.specs.Lawfulness.{line_act}, vb_calls.specs.Streams.{is_in_memory, place_reply}, vb_calls.specs.State.{quiet_reply}, vb_calls.specs.declared.calls.VbAnswer.TheVariants.{Placed}, vb_types.specs.declared.stream.Place.TheVariants.{Memory, WaitSaved}, vb_calls.specs.declared.calls.VbCall.TheVariants.{Place, Take}}
 use Rattle.{vb_types.specs.declared.change.Act.TheVariants.{Set}, vb_events.specs.declared.event.StreamName.TheVariants.{Link}}
@@ -169,7 +169,7 @@ module _ (w : PlainWorld) (r : Chronicle) (l : ℕ) (link : PlainLink) (node : P
         open snapshot use {end}
 
         abbrev in_one : Bool
-        in_one = nat_le 4 t.seen && not la.follower.first
+        in_one = is_granted link.consumer.dialed t.seen && not la.follower.first
 
         abbrev moved : Plain
         moved = moved_vb p s.end.desk.id end
@@ -388,8 +388,7 @@ module _ (w : PlainWorld) (r : Chronicle) (l : ℕ) (link : PlainLink) (node : P
     more_turn takes whole false going = marker_turn going takes whole
 
     -- a turn of a connection with a stream
-    stream_turn : TakesSnapshots → Goal (after (frame_put s) states)
-    unfolding frame_put
+    stream_turn : TakesSnapshots → Goal (after (stream_put s s.end.stream) states)
     stream_turn takes = subst (λ o. Goal (after (stream_put s o) states)) (sym kept) (by (slice_get t.stream.items t.stream.next) refl)
       where
         by : (o : Option Change) → slice_get t.stream.items t.stream.next ≡ o → Goal (after (next_put s t.stream o) states)
@@ -397,19 +396,31 @@ module _ (w : PlainWorld) (r : Chronicle) (l : ℕ) (link : PlainLink) (node : P
         by (Some item) e = item_turn item e
 
   -- where the connection has no stream, nothing is put
-  none_turn : s.end.stream ≡ None → Goal (after (frame_put s) states)
-  unfolding frame_put
+  none_turn : s.end.stream ≡ None → Goal (after (stream_put s s.end.stream) states)
   none_turn none = subst (λ o. Goal (after (stream_put s o) states)) (sym none) g
 
   talk_turn : (c : Cluster) → AgreesIn idle now read c → (la : LinkAgrees now read c here [] []) → TakesSnapshots
       → EndsStand (wants_of la.follower) (c.nodes (consumer_seat here)) (vb_of now (producer_node here) vb) (c.nodes (producer_seat here)) (read.stream_of (Link (link_number here)) vb) (read.point_of (link_number here)) here.server here.consumer
-      la.talk.asked (spoken la.talk.said) → Goal (after (frame_put s) states)
+      la.talk.asked (spoken la.talk.said) → Goal (after (stream_put s s.end.stream) states)
   talk_turn c a la takes (EndsStand.IsAsking ask t) = none_turn t.no_stream
   talk_turn c a la takes (EndsStand.IsRefusedYet t) = none_turn t.no_stream
   talk_turn c a la takes (EndsStand.IsStreaming t) = ⊎_elim (λ e. none_turn (t.stream_is ∙ ap (λ q. kept_stream q t.stream) e))
       (λ e. stream_turn c a la t (t.stream_is ∙ ap (λ q. kept_stream q t.stream) e) takes) (cases_Bool t.granted_is.over)
 
-  -- one turn
-  pub turn : TakesSnapshots → Goal (after (frame_put s) states)
-  turn takes =
+  -- one turn, while the window is open
+  open_turn : TakesSnapshots → Goal (after (stream_put s s.end.stream) states)
+  open_turn takes =
       let (c, a) = g.agrees in let la = a.links here (found_is_link l now.links here found_here).0 in talk_turn c a la takes la.talk.stands
+
+  -- and whether it is open or shut
+  pub turn : TakesSnapshots → Goal (after (frame_put s) states)
+  unfolding frame_put
+  turn takes = by _
+    where
+      program : Prog (Turn Served (Served × Halt))
+      program = counted_in_window (length s.out) (stream_put s s.end.stream)
+
+      by : (b : Bool) → Goal (after (if b then program else Done (Stop (s, Halt.Full))) states)
+      by true = subst Goal (sym (after_bind (stream_put s s.end.stream) (λ x. Done (in_window (length s.out) x)) states))
+          (windowed_turn w r l link node found (after (stream_put s s.end.stream) states).0 (length s.out) (after (stream_put s s.end.stream) states).1 (open_turn takes))
+      by false = g

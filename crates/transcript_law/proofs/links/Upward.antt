@@ -1,18 +1,18 @@
 -- lines that move a consumer's bytes to its producer, which answers the frames that came whole
-use Rattle.std.specs.Prelude.{◌≡◌, ◌+◌, ◌<◌, ◌≤◌, ◌∷◌, ◌++◌, ◌==◌, if◌then◌else◌}
-use Rattle.dcp_producer.specs.{Serving.{with_handshake}, declared.desk.Named.{Named}}
+use Rattle.std.specs.Prelude.{◌≡◌, ◌<◌, ◌≤◌, ◌∷◌, ◌++◌, ◌==◌, if◌then◌else◌}
+use Rattle.{dcp_consumer.specs.declared.handshake.Dialed.{Dialed}, dcp_producer.specs.declared.desk.Named.{Named}}
 use Rattle.node_world.specs.Links.{frame_up, result_behind, peer_posted as node_told}
 use Rattle.transcript_law.proofs.disks.Disks.{power_in}
-use Rattle.transcript_law.proofs.Words.{ℕ, zero, suc, Bool, true, false, List, [], length, take, drop, refl, ap, sym, ◌∙◌, subst, arith, append_assoc, inr, Option, Some, None, eq-eqb, ne_eqb, eqb-true, eqb-false}
-use Rattle.transcript_law.proofs.Words.{Frame, spelling, Readable, left_of, dcp_frame, AskAnswer, AskInRange, LogEntry, StreamAsk, Status, Verdict, Continue, Roll, rule, request_of, Plain, Done, after, after_bind, row_at, row_put, States}
-use Rattle.transcript_law.proofs.Words.{Member, Cluster, Move, happens, May, keeps, answered, Handshake, PlainProducer, Served, begun, with_frame, frame_answered, open_request, sync_request, name_request, refuse, is_active, stream_at, open_refusal, new_stream}
+use Rattle.transcript_law.proofs.Words.{ℕ, suc, Bool, true, false, List, [], drop, refl, ap, sym, ◌∙◌, subst, arith, append_assoc, cases_lt, inr, ⊎_elim, Option, Some, None, eq-eqb, ne_eqb, eqb-true, eqb-false}
+use Rattle.transcript_law.proofs.Words.{Frame, spelling, left_of, dcp_frame, AskAnswer, AskInRange, LogEntry, StreamAsk, Status, Verdict, Continue, Roll, rule, request_of, Plain, Done, after, after_bind, row_at, row_put, States}
+use Rattle.transcript_law.proofs.Words.{Member, Cluster, Move, happens, May, keeps, answered, Handshake, PlainProducer, Served, begun, frame_answered, refuse, is_active, stream_at, open_refusal, new_stream}
 use Rattle.transcript_law.proofs.Words.{PeerResult, peer_result, PlainLink, link_number, producer_node, consumer_node, PlainNode, PlainWorld, with_states, with_node_at, with_links, with_up, vb_in, Granted, granted, Chronicle, after_ask, after_line, after_lines}
 use Rattle.transcript_law.proofs.Words.{LawfulAsk, LawfulLine, LawfulVerdict, IsDialed, with_stream, DcpMsg, Event, StreamName}
-use Rattle.transcript_law.proofs.invariant.Agreement.{vb_of, shelf_of, request_frames, first_answers, answer_frame, is_refused_ack, spoken, set_after, ServerIs, Asking, IsRefused, PointAgrees, Talk, consumer_seat, producer_seat, LinkAgrees, is_open, AgreesIn, wants_of, DialAgrees, VbAgrees, AgreesAt, top}
+use Rattle.transcript_law.proofs.invariant.Agreement.{vb_of, shelf_of, answer_frame, spoken, Asking, IsRefused, PointAgrees, Talk, consumer_seat, producer_seat, LinkAgrees, is_open, AgreesIn, wants_of, DialAgrees, VbAgrees, AgreesAt, top}
 use Rattle.transcript_law.proofs.{disks.Absent.{nothing_here}, invariant.Carried.{told_of_same, one_here, one_but, no_writer, talk_same}, invariant.Carrying.{Became, FeedChanged, SamePowers, ToldOf}, invariant.LinkRows.{found_is_link, put_is_found, put_twice}}
 use Rattle.transcript_law.proofs.{verbs.NodeLines.{powers_again, shelves_again}, invariant.OneLink.{mine, carries_link, put_here, put_there, carries_producer, disk_here, disk_there}, invariant.Ranged.{NodeRanged}, invariant.Seats.{seat}}
-use Rattle.transcript_law.proofs.{links.Spoken.{message_spoken}, invariant.Tables.{id_here, id_there, stream_here, stream_there}, lines.Telling.{LawfulBefore, before_more, none_before, told_more, one_before}, links.Frames.{readable}}
-use Rattle.transcript_law.proofs.{links.Requests.{open_answered, sync_answered, name_answered}, links.Talks.{come, next_asking}, links.Unread.{answering}}
+use Rattle.transcript_law.proofs.{links.Spoken.{message_spoken}, invariant.Tables.{id_here, id_there, stream_here, stream_there}, lines.Telling.{LawfulBefore, before_more, none_before, told_more, one_before}}
+use Rattle.transcript_law.proofs.{links.Firsts.{ServedAt, Succeeds, asks_from, first_count, firsts, goes_on_before, request_frames, set_after}, links.Requests.{first_served, request_last}, links.Talks.{come, next_asking}, links.Unread.{answering}}
 use Rattle.transcript_law.proofs.links.Answered.{told_line, refused_told, StatesAre, granted_lines, absent_asked, refused_asked, rolled_asked, granted_asked, refused_talk, asked_opened, granted_talk, streams_opened}
 use Rattle.transcript_law.specs.Lawfulness.{GrantsAs}
 use Rattle.transcript_law.proofs.links.Verdicts.{active_vb_lines, asks_in_range, roll_low, refusal_named, opens_active, opens_free, absent_lawful, own_lawful, ruled_there, go_lawful, roll_lawful}
@@ -158,7 +158,7 @@ module _ (w0 : PlainWorld) (r0 : Chronicle) (n : ℕ) (link0 : PlainLink) (found
     la = link_now (f ∷ fs) x now
 
     abbrev frames : List Frame
-    frames = request_frames link0.consumer.asked (consumer_node link0) v ask
+    frames = request_frames link0.consumer.asked link0.consumer.dialed ask
 
     small : consumer_node link0 < 16
     small = la.small.0
@@ -169,38 +169,27 @@ module _ (w0 : PlainWorld) (r0 : Chronicle) (n : ℕ) (link0 : PlainLink) (found
     pub next_frame : (k : ℕ) → t.answered ≡ k → drop k frames ≡ f ∷ (fs ++ talk_now.ups.behind)
     next_frame k is = sym (ap (λ j. drop j frames) is) ∙ sym t.asked_is ∙ talk_now.ups.joined
 
-    -- one of the first three requests
-    success : (k : ℕ) (set : Handshake) (g a : Frame) (rest : List Frame) → Readable a → is_refused_ack a ≡ false
-        → t.answered ≡ k → k + 1 ≤ 3 → ServerIs (with_frame (with_handshake s set) a).end (consumer_node link0) (k + 1)
-        → drop k frames ≡ g ∷ rest → drop (k + 1) frames ≡ rest → take (k + 1) first_answers ≡ take k first_answers ++ a ∷ [] → length (take k first_answers) ≡ k
-        → frame_answered g s ≡ Done (with_frame (with_handshake s set) a) → Now fs (frame_up f x)
-    success k set g a rest good no_ack is more server here later answers len answered =
-        let e : g ∷ rest ≡ f ∷ (fs ++ talk_now.ups.behind) = sym here ∙ next_frame k is in
-        let first : g ≡ f = cc in
+    -- one of the first requests
+    success : (k : ℕ) → t.answered ≡ k → k < first_count link0.consumer.dialed → Now fs (frame_up f x)
+    success k is few =
+        let d : Dialed = link0.consumer.dialed in
+        let at : ServedAt 1 k (suc k) Handshake.Fresh (firsts d) = first_served d k small la.small.2 few in
+        let g : Frame = dcp_frame at.row.request (suc k) 0 in let a : Frame = dcp_frame at.row.answer (suc k) 0 in
+        let came : Succeeds s g a at.row.set = at.served.succeeds s (t.server ∙ ap (set_after d) is) in
+        let request : List Frame = dcp_frame (DcpMsg.StreamRequest ask) link0.consumer.asked v ∷ [] in
+        let here : drop k frames ≡ g ∷ (at.asked.0 ++ request) = goes_on_before k (asks_from 1 (firsts d)) request g at.asked.0 at.asked.1 in
+        let e : g ∷ (at.asked.0 ++ request) ≡ f ∷ (fs ++ talk_now.ups.behind) = sym here ∙ next_frame k is in
+        let same : g ≡ f = cc in
         let r = after_lines r0 x.1.events in
-        subst (Now fs) (sym (frame_came f x ∙ ap (λ h. came_of x (after (frame_answered h s) x.0.vbs)) (sym first) ∙ ap (λ p. came_of x (after p x.0.vbs)) answered))
-        (quiet (f ∷ fs) fs x now x.0.vbs (λ q. refl) (with_handshake s set).end [] (spelling a) refl (λ has. has) (none_before r) r refl
+        subst (Now fs) (sym (frame_came f x ∙ ap (λ h. came_of x (after (frame_answered h s) x.0.vbs)) (sym same) ∙ ap (λ p. came_of x (after p x.0.vbs)) came.came))
+        (quiet (f ∷ fs) fs x now x.0.vbs (λ q. refl) came.end [] (spelling a) came.desk (λ has. subst (λ o. is_open o ≡ true) came.stream has) (none_before r) r refl
         (told_of_same l r) refl
-        (λ kn pv leader g'. next_asking (served_at x.1) (with_handshake s set).end (link0.down ++ (x.1.out ++ spelling a)) a la.follower kn pv leader g' (r.point_of l) ask f g fs rest talk_now.asked talk_now.said k t
-        talk_now.ups talk_now.downs (sym (append_assoc link0.down x.1.out (spelling a))) refl good no_ack is more server here later answers len))
-
-    pub first : t.answered ≡ 0 → Now fs (frame_up f x)
-    first is = success 0 (Handshake.Open false Named.Nobody) (dcp_frame (open_request (consumer_node link0)) 1 0) (dcp_frame (DcpMsg.OpenAnswer 0) 1 0) (drop 1 frames)
-        (readable (DcpMsg.OpenAnswer 0) 1 0 tt (omega arith) (omega arith) (omega arith) (omega arith)) (message_spoken (DcpMsg.OpenAnswer 0) 1 0) is (omega arith)
-        refl refl refl refl refl (open_answered (consumer_node link0) s small (t.server ∙ ap (set_after (consumer_node link0)) is))
-
-    pub second : t.answered ≡ 1 → Now fs (frame_up f x)
-    second is = success 1 (Handshake.Open true Named.Nobody) (dcp_frame sync_request 2 0) (dcp_frame (DcpMsg.ControlAnswer 0) 2 0) (drop 2 frames)
-        (readable (DcpMsg.ControlAnswer 0) 2 0 tt (omega arith) (omega arith) (omega arith) (omega arith)) (message_spoken (DcpMsg.ControlAnswer 0) 2 0) is (omega arith)
-        refl refl refl refl refl (sync_answered s (t.server ∙ ap (set_after (consumer_node link0)) is))
-
-    pub third : t.answered ≡ 2 → Now fs (frame_up f x)
-    third is = success 2 (Handshake.Open true (Named.Member (consumer_node link0))) (dcp_frame (name_request (consumer_node link0)) 3 0) (dcp_frame (DcpMsg.ControlAnswer 0) 3 0) (drop 3 frames)
-        (readable (DcpMsg.ControlAnswer 0) 3 0 tt (omega arith) (omega arith) (omega arith) (omega arith)) (message_spoken (DcpMsg.ControlAnswer 0) 3 0) is (omega arith)
-        refl refl refl refl refl (name_answered (consumer_node link0) s small (t.server ∙ ap (set_after (consumer_node link0)) is))
+        (λ kn pv leader g'. next_asking (served_at x.1) came.end (link0.down ++ (x.1.out ++ spelling a)) a la.follower kn pv leader g' (r.point_of l) ask f g fs talk_now.asked talk_now.said k t
+        talk_now.ups talk_now.downs (sym (append_assoc link0.down x.1.out (spelling a))) came.stream at.served.says (message_spoken at.row.answer (suc k) 0) is few (came.set_is ∙ sym at.set)
+        (at.asked.0 ++ request, here) at.said))
 
     -- the request for a stream, refused
-    pub refuse_last : t.answered ≡ 3 → (st : States) → ((q : ℕ) → st q ≡ x.0.vbs q) → (log : List LogEntry) (high : ℕ) (said : AskAnswer) → IsRefused said
+    pub refuse_last : t.answered ≡ first_count link0.consumer.dialed → (st : States) → ((q : ℕ) → st q ≡ x.0.vbs q) → (log : List LogEntry) (high : ℕ) (said : AskAnswer) → IsRefused said
         → LawfulAsk (after_lines r0 x.1.events) l s.end.desk.node v ask high log said → Now fs (came_of x (st, refused_told s link0.consumer.asked v ask log high said))
     refuse_last is st same log high said refused lawful =
         let r = after_lines r0 x.1.events in
@@ -215,7 +204,7 @@ module _ (w0 : PlainWorld) (r0 : Chronicle) (n : ℕ) (link0 : PlainLink) (found
         ((after_ask r l v ask log said).point_of l) known_of.2 (sym (append_assoc link0.down x.1.out (spelling (answer_frame link0.consumer.asked [] said)))))
 
     -- the request for a stream, which the producer's vBucket decides
-    module _ (last : t.answered ≡ 3) where
+    module _ (last : t.answered ≡ first_count link0.consumer.dialed) where
       abbrev o : ℕ
       o = link0.consumer.asked
 
@@ -397,7 +386,7 @@ module _ (w0 : PlainWorld) (r0 : Chronicle) (n : ℕ) (link0 : PlainLink) (found
 
       answered_as : (y : States × Served) → after (frame_answered (dcp_frame (DcpMsg.StreamRequest ask) o v) s) x.0.vbs ≡ y → Now fs (came_of x y) → Now fs (frame_up f x)
       answered_as y e now' =
-          let it : dcp_frame (DcpMsg.StreamRequest ask) o v ∷ [] ≡ f ∷ (fs ++ talk_now.ups.behind) = next_frame 3 last in
+          let it : dcp_frame (DcpMsg.StreamRequest ask) o v ∷ [] ≡ f ∷ (fs ++ talk_now.ups.behind) = sym (request_last o link0.consumer.dialed ask) ∙ next_frame (first_count link0.consumer.dialed) last in
           let same : dcp_frame (DcpMsg.StreamRequest ask) o v ≡ f = cc in
           subst (Now fs) (sym (frame_came f x ∙ ap (λ g. came_of x (after (frame_answered g s) x.0.vbs)) (sym same) ∙ ap (came_of x) e)) now'
 
@@ -460,9 +449,6 @@ module _ (w0 : PlainWorld) (r0 : Chronicle) (n : ℕ) (link0 : PlainLink) (found
       request_decided = by_vb (x.0.vbs v) refl
 
   -- a frame that a consumer sent as it dialed, or its request for a stream
-  pub asking_next : (f : Frame) (fs : List Frame) (x : PlainNode × PeerResult) (now : Now (f ∷ fs) x) (ask : StreamAsk) (t : AskingNow f fs x now ask) (k : ℕ) → t.answered ≡ k → k ≤ 3 → Now fs (frame_up f x)
-  asking_next f fs x now ask t zero is more = first f fs x now ask t is
-  asking_next f fs x now ask t (suc zero) is more = second f fs x now ask t is
-  asking_next f fs x now ask t (suc (suc zero)) is more = third f fs x now ask t is
-  asking_next f fs x now ask t (suc (suc (suc zero))) is more = request_decided f fs x now ask t is
-  asking_next f fs x now ask t (suc (suc (suc (suc k)))) is more = let no : ⊥ = omega arith in absurd no
+  pub asking_next : (f : Frame) (fs : List Frame) (x : PlainNode × PeerResult) (now : Now (f ∷ fs) x) (ask : StreamAsk) → AskingNow f fs x now ask → Now fs (frame_up f x)
+  asking_next f fs x now ask t =
+      ⊎_elim (λ few. success f fs x now ask t t.answered refl few) (λ all. request_decided f fs x now ask t (let most : t.answered ≤ first_count link0.consumer.dialed = t.some_left in omega arith)) (cases_lt t.answered (first_count link0.consumer.dialed))

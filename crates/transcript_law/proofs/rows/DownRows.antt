@@ -37,8 +37,8 @@ makes lines l = ⊎_elim (λ e. cc) (λ x. x) l.1.1.1.1.1.0.1.1
 pub opens : (lines : List Event) → LawfulAfter (crash_and (verb.AtClient 0 1 client_verb.Open)) (crash_and_groups (ok lines)) → ⊥
 opens lines l = ⊎_elim (λ e. cc) (λ x. x) l.1.1.1.1.1.0.1.1
 
-pub dials : (lines : List Event) → LawfulAfter (crash_and (verb.Link 1 0 0 0)) (crash_and_groups (ok lines)) → ⊥
-dials lines l = ⊎_elim (λ e. cc) (λ x. ⊎_elim (λ e. cc) (λ y. y) x) l.1.1.1.1.1.0.1.1
+pub dials : (buffer : ℕ) (lines : List Event) → LawfulAfter (crash_and (verb.Link 1 0 0 0 buffer)) (crash_and_groups (ok lines)) → ⊥
+dials buffer lines l = ⊎_elim (λ e. cc) (λ x. ⊎_elim (λ e. cc) (λ y. y) x) l.1.1.1.1.1.0.1.1
 
 pub crashes_twice : (lines : List Event) → LawfulAfter (crash_and (verb.AtNode 0 (node_verb.Crash Old))) (crash_and_groups (ok lines)) → ⊥
 crashes_twice lines l = ⊎_elim (λ e. cc) (λ x. x) l.1.1.1.1.1.0.1.1

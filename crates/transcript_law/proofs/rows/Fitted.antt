@@ -20,7 +20,7 @@ one_fits = All-from_recursion (λ (line : ScriptLine). VerbFits line.verb) one_s
     (omega arith, ((omega arith, omega arith, tt), ((omega arith, omega arith, omega arith), (set_fits 4 7 8 (omega arith) (omega arith), ((omega arith, omega arith, tt), tt)))))
 
 pub followed_fits : ScriptFits two_followed
-followed_fits = All-from_recursion (λ (line : ScriptLine). VerbFits line.verb) two_followed (omega arith, (omega arith, ((omega arith, omega arith, tt), ((omega arith, omega arith, omega arith), ((omega arith, omega arith, tt), (set_fits 6 7 8 (omega arith) (omega arith), (set_fits 7 9 6 (omega arith) (omega arith), ((omega arith, omega arith, omega arith, omega arith), ((omega arith, omega arith), ((omega arith, omega arith), ((omega arith, (omega arith, omega arith)), ((omega arith, omega arith), ((omega arith, omega arith, tt), tt)))))))))))))
+followed_fits = All-from_recursion (λ (line : ScriptLine). VerbFits line.verb) two_followed (omega arith, (omega arith, ((omega arith, omega arith, tt), ((omega arith, omega arith, omega arith), ((omega arith, omega arith, tt), (set_fits 6 7 8 (omega arith) (omega arith), (set_fits 7 9 6 (omega arith) (omega arith), ((omega arith, omega arith, omega arith, omega arith, omega arith), ((omega arith, omega arith), ((omega arith, omega arith), ((omega arith, (omega arith, omega arith)), ((omega arith, omega arith), ((omega arith, omega arith, tt), tt)))))))))))))
 
 set_readable : (key value : List ℕ) → IsKey key → IsValue value → Readable (set_frame key value)
 set_readable key value k v = search arith

@@ -1,28 +1,28 @@
 -- lines that open a link
-use Rattle.std.specs.Prelude.{◌≡◌, ◌<◌, ◌∷◌, ◌++◌, ◌==◌, ◌&&◌, ◌||◌, if◌then◌else◌}
-use Rattle.transcript_law.proofs.Words.{ℕ, Bool, true, false, List, [], map, refl, ap, sym, ◌∙◌, subst, arith, append_assoc, append-nil, ⊎_elim, Option, Some, None}
-use Rattle.transcript_law.proofs.Words.{not, is_some, concat, eqb-false, eq-eqb, All-nil, spelling, Readable, dcp_frame, AskInRange, VerbFits, Cause, StreamAsk, request_of}
-use Rattle.transcript_law.proofs.Words.{Cluster, Plain, is_follower, quiet_reply, refusal_reply, open_request, sync_request, name_request, named_ask, PlainLink, link_number, producer_node}
+use Rattle.std.specs.Prelude.{◌≡◌, ◌<◌, ◌∷◌, ◌++◌, ◌==◌, ◌&&◌, ◌||◌, ◌^◌, if◌then◌else◌}
+use Rattle.transcript_law.proofs.Words.{ℕ, Bool, true, false, List, [], map, refl, ap, sym, ◌∙◌, subst, arith, append-nil, ⊎_elim, Option, Some, None}
+use Rattle.transcript_law.proofs.Words.{not, is_some, concat, concat-append, eqb-false, eq-eqb, All-nil, Frame, map-append, spelling, Readable, dcp_frame, AskInRange, VerbFits, Cause, StreamAsk, request_of}
+use Rattle.transcript_law.proofs.Words.{Cluster, Plain, is_follower, quiet_reply, refusal_reply, named_ask, PlainLink, link_number, producer_node}
 use Rattle.transcript_law.proofs.Words.{consumer_node, feeds, PlainWorld, Outcome, with_links, ask_in, first_cause, link_causes, refused_or, with_dialed, done, Chronicle, after_dial, option_and_then}
 use Rattle.transcript_law.proofs.Words.{DcpMsg, Verb, VbAnswer, Status, Answer, requests, is_taken, ask_of, new_link, link_step, StreamName}
 use Rattle.transcript_law.proofs.invariant.Tables.{ended_there, id_here, id_there, never, none_hold}
 use Rattle.transcript_law.proofs.invariant.Seats.{seat}
-use Rattle.transcript_law.proofs.invariant.Agreement.{vb_of, VbAgrees, AgreesAt, request_frames, Talk, producer_seat, LinkAgrees, IsLink, idle, AgreesIn, Agrees, GoesOn, EndsStand, consumer_seat}
+use Rattle.transcript_law.proofs.invariant.Agreement.{vb_of, VbAgrees, AgreesAt, Talk, producer_seat, LinkAgrees, IsLink, idle, AgreesIn, Agrees, GoesOn, EndsStand, consumer_seat}
 use Rattle.transcript_law.proofs.invariant.LinkRows.{is_link_more, differ_more}
 use Rattle.transcript_law.proofs.invariant.Carried.{fed_same, kept_same, agrees_carried, stays_same, link_carried}
 use Rattle.{node_world.specs.Worlds.{is_off}, transcript_law.proofs.{invariant.Agreement.{EndsUp}, invariant.Resting.{off_as_power}}}
-use Rattle.transcript_law.proofs.links.Requests.{requests_readable}
+use Rattle.{dcp_consumer.specs.Dialing.{numbered, stream_opaque}, dcp_consumer.specs.declared.handshake.Dialed.{Dialed}, transcript_law.proofs.links.Firsts.{asks_from, firsts, request_frames}}
+use Rattle.transcript_law.proofs.links.Requests.{dials_waiting, first_asked, opaque_small, requests_readable}
 use Rattle.transcript_law.proofs.links.Verdicts.{asks_in_range}
 
 -- what a consumer writes is the spelling of its requests
-requests_spelled : (node vb : ℕ) (ask : StreamAsk) → requests node vb ask ≡ concat (map spelling (request_frames 4 node vb ask))
+requests_spelled : (d : Dialed) (ask : StreamAsk) → requests d ask ≡ concat (map spelling (request_frames (stream_opaque d.buffer) d ask))
 unfolding requests
-requests_spelled node vb ask =
-    let a = spelling (dcp_frame (open_request node) 1 0) in
-    let b = spelling (dcp_frame sync_request 2 0) in
-    let c = spelling (dcp_frame (name_request node) 3 0) in
-    let d = spelling (dcp_frame (DcpMsg.StreamRequest ask) 4 vb) in
-    append_assoc (a ++ b) c d ∙ append_assoc a b (c ++ d) ∙ ap (λ z. a ++ (b ++ (c ++ z))) (sym (append-nil d))
+requests_spelled d ask =
+    let last : Frame = dcp_frame (DcpMsg.StreamRequest ask) (stream_opaque d.buffer) d.vb in let first : List Frame = asks_from 1 (firsts d) in
+    ap (λ ms. concat (map spelling (numbered 1 ms)) ++ spelling last) (first_asked d)
+    ∙ ap (λ l. concat (map spelling first) ++ l) (sym (append-nil (spelling last)))
+    ∙ sym (concat-append (map spelling first) (spelling last ∷ [])) ∙ ap concat (sym (map-append spelling first (last ∷ [])))
 
 -- what a vBucket asks for
 asks_as : (vb : Plain) (ask : StreamAsk) → ask_of vb ≡ Some ask → (is_follower vb.role ≡ true) × (ask ≡ request_of vb.log vb.position)
@@ -45,10 +45,10 @@ free_links (y ∷ ys) l n v e x i =
     (eqb-false (link_number y) l here.0, λ f g. never (sym (ap (λ b. b && y.consumer.dialed.vb == v) (eq-eqb (consumer_node y) n f) ∙ eq-eqb y.consumer.dialed.vb v g) ∙ here.1)))
     (λ j. free_links ys l n v both.1 x j) i
 
-module _ (w : PlainWorld) (r : Chronicle) (line l m n v : ℕ) (small : (n < 16) × (v < 1024)) (number : l < 1000) (up : (is_off (w.nodes m) ≡ false) × (is_off (w.nodes n) ≡ false)) (c : Cluster) (a : AgreesIn idle w r c) (fv : Plain) (ask : StreamAsk)
+module _ (w : PlainWorld) (r : Chronicle) (line l m n v buffer : ℕ) (small : (n < 16) × (v < 1024) × (buffer < 2 ^ 32)) (number : l < 1000) (up : (is_off (w.nodes m) ≡ false) × (is_off (w.nodes n) ≡ false)) (c : Cluster) (a : AgreesIn idle w r c) (fv : Plain) (ask : StreamAsk)
     (known : vb_of w n v ≡ Some fv) (asked : ask_of fv ≡ Some ask) (free : is_taken w.links l n v ≡ false) where
   abbrev new : PlainLink
-  new = new_link line l m n v ask
+  new = new_link line l m n v buffer ask
 
   abbrev dialed : PlainWorld
   dialed = with_links w (w.links ++ new ∷ [])
@@ -63,7 +63,7 @@ module _ (w : PlainWorld) (r : Chronicle) (line l m n v : ℕ) (small : (n < 16)
   asking =
       let asks = asks_as fv ask asked in
       record {
-        asked = request_frames 4 n v ask;
+        asked = request_frames new.consumer.asked new.consumer.dialed ask;
         said = [];
         stands = EndsStand.IsAsking ask (record {
           no_stream = refl;
@@ -73,17 +73,17 @@ module _ (w : PlainWorld) (r : Chronicle) (line l m n v : ℕ) (small : (n < 16)
             some_left = omega arith;
             not_more = omega arith;
             server = refl;
-            consumer = record { waits = refl; first = λ few. refl; later = omega arith; small = omega arith };
+            consumer = record { waits = dials_waiting new.consumer.dialed; small = opaque_small buffer };
             asks = asks.1;
             asked_is = refl;
             said_is = refl;
           };
         });
         ups = record {
-          behind = request_frames 4 n v ask;
+          behind = request_frames new.consumer.asked new.consumer.dialed ask;
           joined = refl;
-          bytes = requests_spelled n v ask;
-          readable = requests_readable n v ask small.0 small.1 (subst AskInRange (sym asks.1) (asks_in_range fv follower.sound follower.entries));
+          bytes = requests_spelled new.consumer.dialed ask;
+          readable = requests_readable new.consumer.asked new.consumer.dialed ask (opaque_small buffer) small (subst AskInRange (sym asks.1) (asks_in_range fv follower.sound follower.entries));
         };
         downs = record { behind = []; joined = refl; bytes = refl; readable = All-nil Readable };
       }
@@ -132,26 +132,26 @@ module _ (w : PlainWorld) (r : Chronicle) (line l m n v : ℕ) (small : (n < 16)
 no_ask : {A : Type 0} (ask : StreamAsk) → None ≡ Some ask → A
 no_ask ask e = cc
 
-module _ (w : PlainWorld) (r : Chronicle) (line l m n v : ℕ) where
+module _ (w : PlainWorld) (r : Chronicle) (line l m n v buffer : ℕ) where
   -- what becomes of the line, by the cause to refuse it and by what the vBucket asks for
   abbrev outcome : Option Cause → Option StreamAsk → Outcome
-  outcome why ask = refused_or why w (with_links w (with_dialed line l m n v w.links ask), done [])
+  outcome why ask = refused_or why w (with_links w (with_dialed line l m n v buffer w.links ask), done [])
 
   abbrev Goes : Option Cause → Option StreamAsk → Type 0
   Goes why ask = GoesOn r (λ told. after_dial told l m n v (outcome why ask).1.answer) (outcome why ask)
 
-  opened : Agrees w r → (n < 16) × (v < 1024) → l < 1000 → (is_off (w.nodes m) || is_off (w.nodes n)) ≡ false → (o : Option Plain) → vb_of w n v ≡ o → (q : Option StreamAsk) → option_and_then ask_of o ≡ q
+  opened : Agrees w r → (n < 16) × (v < 1024) × (buffer < 2 ^ 32) → l < 1000 → (is_off (w.nodes m) || is_off (w.nodes n)) ≡ false → (o : Option Plain) → vb_of w n v ≡ o → (q : Option StreamAsk) → option_and_then ask_of o ≡ q
       → not (is_some q) ≡ false → is_taken w.links l n v ≡ false → Goes None q
   opened a small number up o known None e some free = never some
   opened a small number up None none (Some ask) e some free = no_ask ask e
-  opened a small number up (Some fv) known (Some ask) e some free = (tt, (a.0, dialed_agrees w r line l m n v small number (neither (is_off (w.nodes m)) (is_off (w.nodes n)) up) a.0 a.1 fv ask known e free))
+  opened a small number up (Some fv) known (Some ask) e some free = (tt, (a.0, dialed_agrees w r line l m n v buffer small number (neither (is_off (w.nodes m)) (is_off (w.nodes n)) up) a.0 a.1 fv ask known e free))
 
-  by_cause : Agrees w r → (n < 16) × (v < 1024) → l < 1000 → (why : Option Cause) → first_cause (link_causes w l m n v) ≡ why → Goes why (ask_in w n v)
+  by_cause : Agrees w r → (n < 16) × (v < 1024) × (buffer < 2 ^ 32) → l < 1000 → (why : Option Cause) → first_cause (link_causes w l m n v) ≡ why → Goes why (ask_in w n v)
   by_cause a small number (Some why) e = (tt, a)
   by_cause a small number None e =
       let clear = none_hold (link_causes w l m n v) e in opened a small number clear.1.0 (vb_of w n v) refl (ask_in w n v) refl clear.1.1.1.0 clear.1.1.1.1.0
 
--- `link L M N V`
-pub link_goes : (w : PlainWorld) (r : Chronicle) (line l m n v : ℕ) → VerbFits (Verb.Link l m n v) → Agrees w r
-    → GoesOn r (λ told. after_dial told l m n v (link_step w line l m n v).1.answer) (link_step w line l m n v)
-link_goes w r line l m n v fits a = by_cause w r line l m n v a (fits.2, fits.3) fits.0 (first_cause (link_causes w l m n v)) refl
+-- `link L M N V BUF`
+pub link_goes : (w : PlainWorld) (r : Chronicle) (line l m n v buffer : ℕ) → VerbFits (Verb.Link l m n v buffer) → Agrees w r
+    → GoesOn r (λ told. after_dial told l m n v (link_step w line l m n v buffer).1.answer) (link_step w line l m n v buffer)
+link_goes w r line l m n v buffer fits a = by_cause w r line l m n v buffer a (fits.2, fits.3, fits.4) fits.0 (first_cause (link_causes w l m n v)) refl

@@ -1,13 +1,13 @@
 -- the line `down`, from what agrees before it to what agrees after it
 use Rattle.std.specs.Prelude.{◌≡◌, ◌∷◌, ◌++◌}
 use Rattle.transcript_law.proofs.Words.{List, [], refl, ap, sym, subst, Option, Some, None, Frame, EndReason, Event, StaysSound, Ended, after_job, after_job_fold, job_stepped, DialResult, frame_taken}
-use Rattle.transcript_law.proofs.Words.{frames_taken, after_lines, ℕ, suc, drop, take, ◌∙◌, append-nil, All, frames_in, left_of, Readable, pieces_of_frames, Member, Plain, row_at, after_job_bind, over_why}
+use Rattle.transcript_law.proofs.Words.{frames_taken, after_lines, ℕ, drop, take, ◌∙◌, append-nil, All, frames_in, left_of, Readable, pieces_of_frames, Member, Plain, row_at, after_job_bind, over_why}
 use Rattle.transcript_law.proofs.Words.{dial_bytes, PlainLink, link_number, producer_node, consumer_node, dial_of, moved_len, down_result, PlainWorld, Outcome, with_node_at, with_link, Chronicle, Dial}
 use Rattle.transcript_law.proofs.{Words.{Granted, PlainProducer, PlainConsumer}, links.Downing.{RolledAt, broken_answer, lifted_at, StandsAt, StandsWith, Asker, past, Line, so_far, link_now, now, Going, Stage, Reached, linked, counted, ended, asking_next, RefusedNext}}
-use Rattle.transcript_law.proofs.{links.Downing.{refused_next, next_downs, busy_at}, invariant.Agreement.{LinkAgrees, EndsStand, is_refused_ack, spoken, wants_of, UpIs, DownAgrees, waits_after, idle, Agrees, GoesOn, Wants}, links.Spoken.{spoken_dropped, spoken_front}, links.Taken.{dropped_taken, over_taken}}
+use Rattle.transcript_law.proofs.{links.Downing.{refused_next, next_downs, busy_at}, invariant.Agreement.{LinkAgrees, EndsStand, is_refused_ack, spoken, wants_of, UpIs, DownAgrees, idle, Agrees, GoesOn, Wants}, links.Deliveries.{bytes_reached, taken_counts}, links.Requests.{waits_open}, links.Spoken.{spoken_dropped, spoken_front}, links.Taken.{dropped_taken, over_taken}}
 use Rattle.transcript_law.proofs.{links.Breaking.{back_reached}, links.Streaming.{streaming_next}, invariant.LinkRows.{found_is_link}, invariant.OneLink.{carries_link, carries_same}, lines.Lines.{after_more, lawful_more}, invariant.Carried.{told_of_same, one_here}}
 use Rattle.transcript_law.proofs.{invariant.Carried.{one_idle, one_none, talk_same}, verbs.NodeLines.{node_of_same_vbs}}
-use Rattle.{mcbp_frame.specs.Cutting.{fault_in, Parted}, node_core.specs.Dials.{fault_met, with_end_line, with_last_line, rest_met, bytes_taken}, node_world.specs.Links.{left_unless}}
+use Rattle.{mcbp_frame.specs.Cutting.{fault_in, Parted}, node_core.specs.Dials.{bytes_counted, fault_met, with_end_line, with_last_line, rest_met, bytes_taken}, node_world.specs.Links.{left_unless}}
 use Rattle.{node_world.specs.Nodes.{PlainNode, with_kept}, std.specs.List.{fold}, vb_events.specs.declared.event.EndReason.TheVariants.{Disk, Refused}}
 use Rattle.vb_events.specs.declared.event.Event.TheVariants as event
 use Rattle.transcript_law.proofs.{invariant.Agreement.{DiskIsIf, IsLink, consumer_seat, shelf_of}, disks.ArmedLines.{AreEnds, ArmedCame}, invariant.Carrying.{Relinked}, disks.Downed.{down_ends}, disks.Firing.{BrokenCame, breaks, this_noting}, invariant.LinkRows.{out_links, put_same}, lines.Lines.{AreQuiet}, verbs.NodeLines.{agrees_same}, links.Onward.{Kept, ended_back, onward_all, onward_none, over_apart, over_here, unarmed}}
@@ -45,20 +45,19 @@ module _ (stays : StaysSound) (line : Line) where
     abbrev more : List Frame
     more = rest ++ at_frame.talk.downs.behind
 
-    counted_on : frame_taken f (so_far line at None events) ≡ Ended (so_far line (past at) None events) → StandsAt line (f ∷ rest) states at events g (past at) more → Reached line rest frame_came
-    counted_on e t = counted line f rest states at (waited_for at.waiting) events g e t
+    counted_on : frame_taken f (so_far line at None events) ≡ Ended (so_far line (past line.link.consumer.dialed.buffer at) None events) → StandsAt line (f ∷ rest) states at events g (past line.link.consumer.dialed.buffer at) more → Reached line rest frame_came
+    counted_on e t = counted line f rest states at (waited_for line.link.consumer.dialed.buffer at.waiting) events g e t
 
     -- a frame of a link that was refused or sent back
     refused_on : RefusedNext line f at events ((after_lines r events).point_of link.consumer.dialed.link) at_frame.talk.asked (spoken more) → Reached line rest frame_came
     refused_on (RefusedNext.IsCounted e t) = counted_on e (EndsStand.IsRefusedYet t)
     refused_on (RefusedNext.IsOver e) = ended line stays f rest states states at at events Refused frame_came g refl (ap (λ p. after_job p states.0 states.1) e) (λ m q. refl) refl
-    refused_on (RefusedNext.IsBack to point e asks later server no_stream none_asked none_said) =
+    refused_on (RefusedNext.IsBack to point e asks server no_stream none_asked none_said) =
         subst (λ p. Reached line rest (after_job p states.0 states.1)) (sym e) (back_reached line (record {
           before = record { stays = stays; f = f; rest = rest; states = states; at = at; events = events; going = g };
           named = to;
           point = point;
           asks = asks;
-          later = later;
           server = server;
           no_stream = no_stream;
           ups = subst (UpIs (link_now line at) []) none_asked at_frame.talk.ups;
@@ -114,15 +113,11 @@ module _ (stays : StaysSound) (line : Line) where
   frames_reached frames states s x = subst (Reached line []) (sym (after_job_fold frame_taken frames (Ended s) states.0 states.1)) (all_frames frames (states, s) x)
 
 -- a link is not over while an answer or its stream is waited for
-waits_open : (seen : ℕ) → over_why (waits_after seen) ≡ None
-waits_open (suc (suc (suc (suc seen)))) = refl
-waits_open seen = refl
-
 open_of : {fv : Wants} {kn : Member} {pv : Option Plain} {leader : Member} {g : Option Granted} {point : Option ℕ} {served : PlainProducer} {asker : PlainConsumer} {asked said : List Frame} → EndsStand fv kn pv leader g point served asker asked said
     → over_why asker.handshake ≡ None
-open_of (EndsStand.IsAsking ask x) = ap over_why x.consumer.waits ∙ waits_open x.seen
-open_of (EndsStand.IsRefusedYet x) = ap over_why x.consumer.waits ∙ waits_open x.seen
-open_of (EndsStand.IsStreaming x) = ap over_why x.consumer.waits ∙ waits_open x.seen
+open_of {asker = asker} (EndsStand.IsAsking ask x) = ap over_why x.consumer.waits ∙ waits_open asker.dialed x.seen
+open_of {asker = asker} (EndsStand.IsRefusedYet x) = ap over_why x.consumer.waits ∙ waits_open asker.dialed x.seen
+open_of {asker = asker} (EndsStand.IsStreaming x) = ap over_why x.consumer.waits ∙ waits_open asker.dialed x.seen
 
 -- lines of a line `down` and of its link's end, which tell of a rollback, or of none
 ended_tells : (events : List Event) (l : ℕ) (why : EndReason) (b : Bool) → list_any is_rollback events ≡ b → list_any is_rollback (events ++ event.Ended l why ∷ []) ≡ b
@@ -263,8 +258,15 @@ module _ (stays : StaysSound) (w : PlainWorld) (r : Chronicle) (link : PlainLink
     };
   }
 
-  came : Reached line [] (after_job (frames_taken (frames_in bytes) (so_far line at None [])) armed.0 armed.1)
-  came = frames_reached stays line (frames_in bytes) armed (so_far line at None []) start_reached
+  abbrev taken : Kept × DialResult
+  taken = after_job (frames_taken (frames_in bytes) (so_far line at None [])) armed.0 armed.1
+
+  frames_came : Reached line [] taken
+  frames_came = frames_reached stays line (frames_in bytes) armed (so_far line at None []) start_reached
+
+  -- and what is acknowledged by its bytes
+  came : Reached line [] (taken.0, bytes_counted (frames_in bytes) taken.1)
+  came = bytes_reached line (frames_in bytes) taken frames_came (taken_counts (frames_in bytes) (so_far line at None []) armed.0 armed.1)
 
   -- what is told of them, and of the link's end
   abbrev known_of : Asker → Option EndReason → List Event → DialResult
@@ -275,8 +277,10 @@ module _ (stays : StaysSound) (w : PlainWorld) (r : Chronicle) (link : PlainLink
 
   given_is : given ≡ (came.states, known_of came.at came.over came.events)
   unfolding bytes_taken
-  given_is = after_job_bind (frames_taken (frames_in bytes) (so_far line at None [])) rest_met armed.0 armed.1 ∙ ap (λ y. after_job (rest_met y.1) y.0.0 y.0.1) came.same
-      ∙ ap (λ o. (came.states, with_last_line (fault_met o (so_far line came.at came.over came.events)))) (ap fault_in (parted mine.talk.said mine.talk.downs).waits)
+  given_is = after_job_bind (frames_taken (frames_in bytes) (so_far line at None [])) (rest_met (frames_in bytes)) armed.0 armed.1
+      ∙ ap (λ y. after_job (rest_met (frames_in bytes) y.1) y.0.0 y.0.1) frames_came.same
+      ∙ ap (λ o. (frames_came.states, with_last_line (bytes_counted (frames_in bytes) (fault_met o (so_far line frames_came.at frames_came.over frames_came.events))))) (ap fault_in (parted mine.talk.said mine.talk.downs).waits)
+      ∙ ap (λ y. (y.0, with_last_line (bytes_counted (frames_in bytes) y.1))) (sym frames_came.same) ∙ ap (λ y. (y.0, with_last_line y.1)) came.same
 
   -- the world after the line and what is told of it, before the arm is looked at, and then
   abbrev outcome_of : Kept × DialResult → Outcome

@@ -112,20 +112,20 @@ client_row_of w number n c ClientVerb.Hang =
 
 -- ---- links
 
-pub link_row : (w : PlainWorld) (number l m n v : ℕ) → Row w (Verb.Link l m n v) (link_step w number l m n v)
-link_row w number l m n v =
-    let x : Outcome = (with_links w (with_dialed number l m n v w.links (ask_in w n v)), done []) in let why : Option Cause = first_cause (link_causes w l m n v) in let came : Outcome = link_step w number l m n v in
+pub link_row : (w : PlainWorld) (number l m n v buffer : ℕ) → Row w (Verb.Link l m n v buffer) (link_step w number l m n v buffer)
+link_row w number l m n v buffer =
+    let x : Outcome = (with_links w (with_dialed number l m n v buffer w.links (ask_in w n v)), done []) in let why : Option Cause = first_cause (link_causes w l m n v) in let came : Outcome = link_step w number l m n v buffer in
     let says : Says IsOk (Same w) came = refused_says IsOk (Same w) w x why no_ok (unchanged w) (tt, λ why e s. cc) in record {
       ranged = λ fits r. unless_ranged w x why r r;
       rests = λ r here a all. weaker came.0 (unless_all Still IsTimely still_steps (λ id. tt) w x why all all);
-      fed = λ fine. unless_fed w x why fine.fed (dialed_fed w fine number l m n v (ask_in w n v));
+      fed = λ fine. unless_fed w x why fine.fed (dialed_fed w fine number l m n v buffer (ask_in w n v));
       keeps = λ rests. says.1;
       tells = are_unless is_none why w x refl;
       told = λ r fits t. (says.0, rows_fire (link_causes w l m n v) w x (tt, (tt, (tt, (tt, (tt, tt))))) refl);
       entered = λ before r old. dial_entered r l m n v came.1.answer old;
       bound = λ r a rule. bound (is_told_down r m || is_told_down r n) Cause.NodeDown (Cause.UnknownNode ∷ []) _ came.1 rule (λ e.
           link_refused w (not (is_some (w.nodes m) && is_some (w.nodes n))) (is_off (w.nodes m) || is_off (w.nodes n)) (drop 2 (link_causes w l m n v)) x ((λ i. sym (off_as_power w r a m) i || sym (off_as_power w r a n) i) ∙ e));
-      goes = λ r fits ranged a. told_goes (Verb.Link l m n v) r came (link_goes w r number l m n v fits a);
+      goes = λ r fits ranged a. told_goes (Verb.Link l m n v buffer) r came (link_goes w r number l m n v buffer fits a);
     }
 
 pub link_row_of : (w : PlainWorld) (l : ℕ) (what : LinkVerb) → Row w (Verb.AtLink l what) (link_verb_step w l what)

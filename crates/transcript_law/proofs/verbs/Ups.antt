@@ -25,7 +25,7 @@ module _ (stays : StaysSound) (steady : Steady) (w : PlainWorld) (r : Chronicle)
       by : EndsStand (wants_of la.follower) (now.cluster.nodes (consumer_seat link)) (vb_of (world_at w r n link found x) (producer_node (served_at w r n link found x.1)) link.consumer.dialed.vb)
           (now.cluster.nodes (producer_seat (served_at w r n link found x.1))) ((after_lines r x.1.events).stream_of (StreamName.Link l) link.consumer.dialed.vb) ((after_lines r x.1.events).point_of l) x.1.peer.producer link.consumer la.talk.asked (spoken la.talk.said)
           → Now w r n link found fs (frame_up f x)
-      by (EndsStand.IsAsking ask t) = asking_next w r n link found f fs x now ask t t.answered refl t.some_left
+      by (EndsStand.IsAsking ask t) = asking_next w r n link found f fs x now ask t
       by (EndsStand.IsRefusedYet t) = no_frames f (fs ++ la.talk.ups.behind) (sym t.asked_is ∙ la.talk.ups.joined)
       by (EndsStand.IsStreaming t) = ack_next stays steady w r n link found f fs x now t
 

@@ -1,4 +1,4 @@
-use Rattle.dcp_producer.proofs.Handshaking.{controls_name, controls_on, controls_off, controls_refused}
+use Rattle.dcp_producer.proofs.Handshaking.{controls_name, controls_on, controls_off, controls_size, controls_refused}
 use Rattle.dcp_producer.proofs.laws.controls_are_known.Goals as goal
 
 pub returns-clause-name : goal.returns-clause-name
@@ -9,6 +9,9 @@ returns-clause-on c = controls_on
 
 pub returns-clause-off : goal.returns-clause-off
 returns-clause-off c = controls_off
+
+pub returns-clause-size : goal.returns-clause-size
+returns-clause-size c f s sync name n opened fits = controls_size f s sync name opened n fits
 
 pub returns-clause-others : goal.returns-clause-others
 returns-clause-others c = controls_refused

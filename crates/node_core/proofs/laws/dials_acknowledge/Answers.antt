@@ -1,4 +1,5 @@
-use Rattle.node_core.proofs.Acknowledging.{bytes_acknowledge, due_acknowledges, idle_is_silent}
+use Rattle.node_core.proofs.Acknowledging.{due_acknowledges, idle_is_silent}
+use Rattle.node_core.proofs.Deliveries.{bytes_acknowledge}
 use Rattle.node_core.proofs.laws.dials_acknowledge.Goals as goal
 
 pub returns : goal.returns

@@ -11,4 +11,4 @@ pub returns-clause-pumps : goal.returns-clause-pumps
 returns-clause-pumps c = λ w l link producer add_link from. puts_down w l link producer add_link from
 
 pub returns-clause-dials : goal.returns-clause-dials
-returns-clause-dials c = λ w l m n v. dials_quietly w l m n v
+returns-clause-dials c = λ w l m n v buffer. dials_quietly w l m n v buffer

@@ -1,5 +1,5 @@
 use Rattle.std.proofs.Common.{refl}
-use Rattle.node_world.proofs.Plumbing.{bases, opens, waits}
+use Rattle.node_world.proofs.Plumbing.{bases, first_opaque, later_opaque, opens, waits}
 use Rattle.node_world.proofs.plumbing_laws.numberings_are_apart.Goals as goal
 
 pub returns-clause-waits : goal.returns-clause-waits
@@ -12,4 +12,4 @@ pub returns-clause-opened : goal.returns-clause-opened
 returns-clause-opened c = opens
 
 pub returns-clause-links : goal.returns-clause-links
-returns-clause-links c = λ line l m n v ask. record { number = refl; under = refl; stream = refl; opaque = refl }
+returns-clause-links c = λ line l m n v buffer ask. record { number = refl; under = refl; stream = refl; opaque = first_opaque buffer; later = later_opaque buffer }

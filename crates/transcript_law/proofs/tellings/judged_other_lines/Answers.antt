@@ -11,7 +11,7 @@ use Rattle.transcript_law.specs.TellingRows.{branches_at, changes_here, ends_at,
 pub returns : goal.returns
 returns c = record {
   node = may_not (verb.Node 0) (turns_at 0 0) refl;
-  link = may_not (verb.Link 1 0 1 0) (ends_at 1) refl;
+  link = λ buffer. may_not (verb.Link 1 0 1 0 buffer) (ends_at 1) refl;
   clock = λ nanos. may_not (verb.AtNode 0 (node_verb.Clock nanos)) changes_here refl;
   clock_closes = λ nanos. may_not (verb.AtNode 0 (node_verb.Clock nanos)) (closes 0 1) refl;
   stop = λ k out. may_not (verb.AtNode 0 (node_verb.Stop k out)) (stops_at 0) refl;

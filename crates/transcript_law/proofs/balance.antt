@@ -1,0 +1,15 @@
+pub mod Rooms
+pub mod Measures
+pub mod Answering
+pub mod Putting
+pub mod Writing
+pub mod Hearing
+pub mod Levels
+pub mod Stepping
+pub mod Upping
+pub mod Pumping
+pub mod Downing
+pub mod Leaving
+pub mod Opening
+pub mod Running
+pub mod Numbers

@@ -1,0 +1,160 @@
+-- the line `pump`: the balance of its link, turn by turn
+use Rattle.std.specs.Prelude.{◌≡◌, ℕ, ◌+◌, ◌<◌, ◌^◌, ◌++◌, List, [], length}
+use Rattle.transcript_law.proofs.Words.{zero, suc, Bool, true, false, refl, ap, sym, ◌∙◌, subst, inl, ⊎_elim, arith, append-nil, append_assoc, Option, Some, None, All, Frame, Readable, spelling, frames_in, States, Done, Turn, More, Stop, go_on, repeated, after, after_bind, frame_put, frames_put, pulled, Halt, PlainStream, Served, begun, TakesSnapshots}
+use Rattle.transcript_law.proofs.Words.{row_at, row_put, PlainLink, PlainConsumer, PlainProducer, link_number, producer_node, PlainNode, PlainWorld, pull_result, PullResult, peer_pulled, peer_of, with_states, with_node_at, Chronicle, after_lines, Member, Plain, Granted}
+use Rattle.mcbp_frame.proofs.Cases.{length-spelling}
+use Rattle.dcp_producer.specs.Holding.{Passes}
+use Rattle.transcript_law.proofs.balance.Rooms.{room_of}
+use Rattle.transcript_law.specs.Balance.{is_of_stream, stream_len}
+use Rattle.transcript_law.proofs.balance.{Levels.{Buffered, Holds, Level, WindowIs}, Measures.{over, over_more, over_one, spelled}, Putting.{StreamFits, Went, put_len, turn_went}, Stepping.{sized_if}, Upping.{later_frames}}
+use Rattle.transcript_law.proofs.invariant.{Agreement.{Agrees, ChangeFits, EndsStand, LinkAgrees, Wants, idle, kept_stream}, LinkRows.{found_is_link, put_is_found, put_same}, OneLink.{carries_same}, Carrying.{Relinked}}
+use Rattle.transcript_law.proofs.links.{PumpWorlds.{SoFar, TurnSoFar, TurnsSoFar, pumped, served_link}, Sent.{all_found, change_readable}, Turns.{turn}}
+use Rattle.transcript_law.proofs.verbs.NodeLines.{node_of_same_vbs}
+
+no_stream : {A : Type 0} (o : Option PlainStream) (stream : PlainStream) → o ≡ Some stream → o ≡ None → A
+no_stream o stream e f = let z : Some stream ≡ None = sym e ∙ f in cc
+
+-- what a producer may put of its stream fits
+module _ {fv : Wants} {kn : Member} {pv : Option Plain} {leader : Member} {g : Option Granted} {point : Option ℕ} {served : PlainProducer} {asker : PlainConsumer} {asked said : List Frame} where
+  pub stream_fits : asker.dialed.vb < 1024 → EndsStand fv kn pv leader g point served asker asked said → (stream : PlainStream) → served.stream ≡ Some stream → StreamFits stream
+  stream_fits few (EndsStand.IsAsking ask x) stream e = no_stream served.stream stream e x.no_stream
+  stream_fits few (EndsStand.IsRefusedYet x) stream e = no_stream served.stream stream e x.no_stream
+  stream_fits few (EndsStand.IsStreaming x) stream e = by x.granted_is.over (x.stream_is)
+    where
+      own : StreamFits x.stream
+      own =
+          let o : x.stream.opaque ≡ asker.asked = x.streams.put.opaque_is in
+          let v : x.stream.vb ≡ asker.dialed.vb = x.streams.put.vb_is in
+          let small : asker.asked < 2 ^ 32 = x.consumer.small in
+          record {
+            opaque = omega arith;
+            vb = omega arith;
+            item = λ c m here says. change_readable c x.stream.opaque x.stream.vb m (all_found ChangeFits x.stream.items x.stream.next c x.streams.put.fits here) (omega arith) (omega arith) says;
+          }
+
+      by : (over : Bool) → served.stream ≡ kept_stream over x.stream → StreamFits stream
+      by true kept = no_stream served.stream stream e kept
+      by false kept = let same : Some stream ≡ Some x.stream = sym e ∙ kept in let is : stream ≡ x.stream = cc in subst StreamFits (sym is) own
+
+module _ (takes : TakesSnapshots) (w : PlainWorld) (r : Chronicle) (link : PlainLink) (node : PlainNode) (found : row_at link_number (link_number link) w.links ≡ Some link) (buffered : Buffered link.consumer.dialed.buffer) where
+  abbrev buffer : ℕ
+  buffer = link.consumer.dialed.buffer
+
+  abbrev l : ℕ
+  l = link_number link
+
+  -- what was put so far is on its way down
+  abbrev down_at : List ℕ → List ℕ
+  down_at out = link.down_heard ++ (link.down ++ out)
+
+  abbrev asked : List Frame
+  asked = frames_in (link.up_heard ++ link.up)
+
+  abbrev PutHolds : Served → Type 0
+  PutHolds s = Holds buffer (room_of s.end) (over stream_len (down_at s.out)) asked
+
+  -- the same behind a turn
+  abbrev TurnPuts : Turn Served (Served × Halt) → Type 0
+  TurnPuts (More t) = PutHolds t
+  TurnPuts (Stop stopped) = PutHolds stopped.0
+
+  -- and of what a pull comes to
+  abbrev PutEnds : PullResult → Type 0
+  PutEnds told = Holds buffer (room_of told.peer.producer) (over stream_len (down_at told.out)) (frames_in (told.peer.heard ++ link.up))
+
+  module _ (states : States) (s : Served) (g : SoFar w r l link node states s) (holds : PutHolds s) where
+    abbrev here : PlainLink
+    here = served_link link s
+
+    abbrev now : PlainWorld
+    now = pumped w l link node states s
+
+    la : LinkAgrees now (after_lines r s.events) g.agrees.0 here [] []
+    la = let p = found_is_link l now.links here (put_is_found l w.links link here found refl) in g.agrees.1.links here p.0
+
+    said_spelled : down_at s.out ≡ spelled la.talk.said
+    said_spelled = la.talk.downs.bytes ∙ ap spelled (sym la.talk.downs.joined)
+
+    asked_are : asked ≡ la.talk.asked
+    asked_are = later_frames link.up_heard link.up [] la.talk.ups.behind la.talk.ups.bytes (subst (All Readable) la.talk.ups.joined la.talk.ups.readable) ∙ sym la.talk.ups.joined
+
+    fits : (stream : PlainStream) → s.end.stream ≡ Some stream → StreamFits stream
+    fits = stream_fits la.small.1 la.talk.stands
+
+    sized : (s.end.stream ≡ None → ⊥) → s.end.window.size ≡ buffer
+    sized some = sized_if la.talk.stands some (subst (WindowIs buffer (room_of s.end)) asked_are holds.window)
+
+    -- a frame was put
+    more_holds : (t : Served) (f : Frame) → Readable f → is_of_stream f ≡ true → (s.end.stream ≡ None → ⊥) → t.out ≡ s.out ++ spelling f → Passes (length (spelling f)) s.end.window t.end.window → PutHolds t
+    more_holds t f readable counts some out (same, passed) =
+        let size : s.end.window.size ≡ buffer = sized some in
+        let some_buffer = buffered.some in
+        let behind : down_at (s.out ++ spelling f) ≡ down_at s.out ++ spelling f = ap (λ b. link.down_heard ++ b) (sym (append_assoc link.down s.out (spelling f))) ∙ sym (append_assoc link.down_heard (link.down ++ s.out) (spelling f)) in
+        let more = over_more stream_len (down_at s.out) (spelling f) la.talk.said la.talk.downs.readable said_spelled in
+        let one = over_one stream_len f readable in
+        let len = put_len f counts in
+        let whole = length-spelling f in
+        let limit = readable.limit in
+        let counted : over stream_len (down_at t.out) ≡ over stream_len (down_at s.out) + length (spelling f) = ap (λ o. over stream_len (down_at o)) out ∙ ap (over stream_len) behind ∙ omega (arith, more, one, len) in
+        let grew : (s.end.window.outstanding < s.end.window.size) × (t.end.window.outstanding ≡ s.end.window.outstanding + length (spelling f)) = ⊎_elim (λ none. let z = none.0 in absurd (omega arith)) (λ go. go) passed in
+        let free = grew.0 in
+        let went = grew.1 in
+        let before = holds.balance in
+        record { balance = omega arith; window = inl (same ∙ size); below = omega arith }
+
+    after_turn : (t : Turn Served (Served × Halt)) → Went s t → TurnPuts t
+    after_turn (More t) (f, is, some, out, passed) = more_holds t f is.0 is.1 some out passed
+    after_turn (Stop (t, h)) same = subst PutHolds (sym same) holds
+
+    one_turn : TurnPuts (after (frame_put s) states).1
+    one_turn = after_turn (after (frame_put s) states).1 (turn_went s states fits)
+
+  -- so many turns
+  abbrev Both : States × Turn Served (Served × Halt) → Type 0
+  Both x = TurnsSoFar w r l link node x × TurnPuts x.1
+
+  next_turn : (states : States) (x : Turn Served (Served × Halt)) → TurnSoFar w r l link node states x → TurnPuts x → Both (after (go_on frame_put x) states)
+  next_turn states (More s) g holds = (turn w r l link node found states s g takes, one_turn states s g holds)
+  next_turn states (Stop stopped) g holds = (g, holds)
+
+  turns : (k : ℕ) (states : States) (s : Served) → SoFar w r l link node states s → PutHolds s → Both (after (repeated k frame_put s) states)
+  turns zero states s g holds = (g, holds)
+  turns (suc k) states s g holds =
+      let x = after (repeated k frame_put s) states in
+      let before = turns k states s g holds in
+      subst Both (sym (after_bind (repeated k frame_put s) (go_on frame_put) states)) (next_turn x.0 x.1 before.0 before.1)
+
+  -- what is left of the turns
+  left_holds : (states : States) (x : Turn Served (Served × Halt)) → TurnPuts x → PutHolds (after (pulled x) states).1.0
+  left_holds states (More s) holds = holds
+  left_holds states (Stop stopped) holds = holds
+
+  module _ (a : Agrees w r) (known : w.nodes (producer_node link) ≡ Some node) where
+    abbrev first : Served
+    first = begun link.server
+
+    same : Relinked w (with_node_at w (producer_node link) (with_states node node.vbs)) w.links
+    same = node_of_same_vbs w (producer_node link) node (with_states node node.vbs) known (λ q. refl) (λ q. refl) refl
+
+    first_so_far : SoFar w r l link node node.vbs first
+    first_so_far = record {
+      lawful = tt;
+      quiet = tt;
+      desk = refl;
+      agrees = (
+        a.0,
+        carries_same idle idle w (pumped w l link node node.vbs first) r a.0 a.1
+            (record { powers = same.powers; vbs = same.vbs; shelves = same.shelves; uuids = refl; linked = ap (λ x. row_put link_number l (record link { down = x }) w.links) (append-nil link.down) ∙ put_same l w.links link found }) (λ k. refl),
+      );
+    }
+
+    first_holds : Level link → PutHolds first
+    first_holds level = subst (λ b. Holds buffer (room_of link.server) (over stream_len (link.down_heard ++ b)) asked) (sym (append-nil link.down)) (level buffered)
+
+    pub pump_holds : (frames : ℕ) → Level link → PutEnds (after (peer_pulled frames (peer_of link)) node.vbs).1
+    unfolding frames_put
+    pump_holds frames level =
+        let x = after (repeated frames frame_put first) node.vbs in
+        subst PutEnds
+        (sym (ap (λ y. y.1) (after_bind (frames_put frames first) (λ put. Done (pull_result link.up_heard put)) node.vbs) ∙ ap (λ y. pull_result link.up_heard y.1) (after_bind (repeated frames frame_put first) pulled node.vbs)))
+        (left_holds x.0 x.1 (turns frames node.vbs first first_so_far (first_holds level)).1)
