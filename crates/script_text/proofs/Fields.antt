@@ -74,7 +74,7 @@ some_hex b bytes =
     let some : (length (b ∷ bytes) == 0) ≡ false = grind (arith) in
     ap (λ t. if t then codes "-" else encode_lower (b ∷ bytes)) some
 
-hex_clean : (bytes : List ℕ) → IsBytes bytes → clean ends (hex_text bytes) ≡ true
+pub hex_clean : (bytes : List ℕ) → IsBytes bytes → clean ends (hex_text bytes) ≡ true
 unfolding hex_text
 hex_clean [] h = refl
 hex_clean (b ∷ bytes) h =
@@ -95,7 +95,7 @@ abbrev pub link_of : List ℕ → Option ℕ
 link_of [] = None
 link_of (b ∷ word) = number_of word
 
-link_clean : (l : ℕ) → IsWide l → clean ends (link_text l) ≡ true
+pub link_clean : (l : ℕ) → IsWide l → clean ends (link_text l) ≡ true
 unfolding link_text
 link_clean l h = decimal_clean ends digit_no_end l h
 
@@ -109,7 +109,7 @@ link_back l s rest k h e = read_word link_of (link_text l) l s rest k (link_clea
 abbrev pub stream_of : List ℕ → Option StreamName
 stream_of word = option_map stream.Link (link_of word)
 
-stream_clean : (n : StreamName) → IsStreamRanged n → clean ends (stream_text n) ≡ true
+pub stream_clean : (n : StreamName) → IsStreamRanged n → clean ends (stream_text n) ≡ true
 stream_clean (stream.Link l) h = link_clean l h
 
 stream_is : (n : StreamName) → IsStreamRanged n → stream_of (stream_text n) ≡ Some n
@@ -121,7 +121,7 @@ stream_back n s rest k h e = read_word stream_of (stream_text n) n s rest k (str
 abbrev pub parent_of : List ℕ → Option (Option ℕ)
 parent_of word = Some (number_of word)
 
-parent_clean : (p : Option ℕ) → IsParentRanged p → clean ends (parent_text p) ≡ true
+pub parent_clean : (p : Option ℕ) → IsParentRanged p → clean ends (parent_text p) ≡ true
 parent_clean None h = refl
 parent_clean (Some uuid) h = decimal_clean ends digit_no_end uuid h
 
@@ -240,7 +240,7 @@ colon b = b == 58
 digit_no_comma : (b : ℕ) → (nat_le 48 b && nat_le b 57) ≡ true → comma b ≡ false
 digit_no_comma b h = grind (arith)
 
-digit_no_colon : (b : ℕ) → (nat_le 48 b && nat_le b 57) ≡ true → colon b ≡ false
+pub digit_no_colon : (b : ℕ) → (nat_le 48 b && nat_le b 57) ≡ true → colon b ≡ false
 digit_no_colon b h = grind (arith)
 
 abbrev entry_of : List ℕ → Option LogEntry
@@ -272,7 +272,7 @@ entries_are (entry ∷ log) h =
     ap (option_and_then (λ entry. option_map (λ more. entry ∷ more) (entries_of (map entry_text log)))) (entry_is entry (All-head IsEntryRanged entry log h))
     ∙ ap (option_map (λ more. entry ∷ more)) (entries_are log (All-tail IsEntryRanged entry log h))
 
-cut_again : (entry : LogEntry) (log : List LogEntry) → All IsEntryRanged (entry ∷ log) → slice_split comma (join_with_byte 44 (map entry_text (entry ∷ log))) ≡ map entry_text (entry ∷ log)
+pub cut_again : (entry : LogEntry) (log : List LogEntry) → All IsEntryRanged (entry ∷ log) → slice_split comma (join_with_byte 44 (map entry_text (entry ∷ log))) ≡ map entry_text (entry ∷ log)
 cut_again entry [] h = slice_split_none comma (entry_text entry) (clean_all comma (entry_text entry) (entry_clean comma digit_no_comma refl entry (All-head IsEntryRanged entry [] h)))
 cut_again entry (older ∷ log) h =
     slice_split_at comma (entry_text entry) 44 (join_with_byte 44 (map entry_text (older ∷ log)))
@@ -299,7 +299,7 @@ joined_clean entry (older ∷ log) h =
     (entry_clean ends digit_no_end refl entry (All-head IsEntryRanged entry (older ∷ log) h))
     (joined_clean older log (All-tail IsEntryRanged entry (older ∷ log) h))
 
-log_clean : (log : List LogEntry) → All IsEntryRanged log → clean ends (log_text log) ≡ true
+pub log_clean : (log : List LogEntry) → All IsEntryRanged log → clean ends (log_text log) ≡ true
 log_clean [] h = refl
 log_clean (entry ∷ log) h = joined_clean entry log h
 

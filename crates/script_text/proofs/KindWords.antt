@@ -22,7 +22,7 @@ role_of [] = None
 role_of (b ∷ word) =
     if b == 97 then Some role.Active else if b == 114 then Some role.Replica else if b == 112 then Some role.Pending else Some role.Dead
 
-role_clean : (r : Role) → clean ends (role_text r) ≡ true
+pub role_clean : (r : Role) → clean ends (role_text r) ≡ true
 role_clean role.Active = refl
 role_clean role.Replica = refl
 role_clean role.Pending = refl
@@ -41,7 +41,7 @@ abbrev pub level_of : List ℕ → Option Level
 level_of [] = None
 level_of (b ∷ word) = if b == 49 then Some level.Majority else if b == 50 then Some level.MajorityPersistActive else Some level.PersistMajority
 
-level_clean : (l : Level) → clean ends (level_text l) ≡ true
+pub level_clean : (l : Level) → clean ends (level_text l) ≡ true
 level_clean level.Majority = refl
 level_clean level.MajorityPersistActive = refl
 level_clean level.PersistMajority = refl
@@ -58,7 +58,7 @@ abbrev pub flag_of : List ℕ → Option Bool
 flag_of [] = None
 flag_of (b ∷ word) = Some (b == 49)
 
-flag_clean : (f : Bool) → clean ends (flag_text f) ≡ true
+pub flag_clean : (f : Bool) → clean ends (flag_text f) ≡ true
 flag_clean true = refl
 flag_clean false = refl
 
@@ -78,7 +78,7 @@ sent_of (b ∷ word) =
     else if b == 99 then Some sent.Commit
     else Some sent.Abort
 
-sent_clean : (a : ItemAct) → clean ends (sent_text a) ≡ true
+pub sent_clean : (a : ItemAct) → clean ends (sent_text a) ≡ true
 sent_clean sent.Set = refl
 sent_clean sent.Remove = refl
 sent_clean sent.Prepare = refl
@@ -104,7 +104,7 @@ reason_of word =
     else if bytes_eq word (codes "state") then Some reason.State
     else Some reason.Disk
 
-reason_clean : (r : EndReason) → clean ends (reason_text r) ≡ true
+pub reason_clean : (r : EndReason) → clean ends (reason_text r) ≡ true
 reason_clean reason.Cut = refl
 reason_clean reason.Refused = refl
 reason_clean reason.Protocol = refl
@@ -127,7 +127,7 @@ abbrev pub why_of : List ℕ → Option Why
 why_of [] = None
 why_of (b ∷ word) = if b == 45 then Some why.All else if b == 105 then Some why.Idle else if b == 102 then Some why.Full else Some why.WaitSaved
 
-why_clean : (w : Why) → clean ends (why_text w) ≡ true
+pub why_clean : (w : Why) → clean ends (why_text w) ≡ true
 why_clean why.All = refl
 why_clean why.Idle = refl
 why_clean why.Full = refl
@@ -164,7 +164,7 @@ cause_of word =
     else if bytes_eq word (codes "disk") then Some cause.Disk
     else Some cause.Stopped
 
-cause_clean : (c : Cause) → clean ends (cause_text c) ≡ true
+pub cause_clean : (c : Cause) → clean ends (cause_text c) ≡ true
 cause_clean cause.UnknownNode = refl
 cause_clean cause.NodeExists = refl
 cause_clean cause.UnknownVb = refl

@@ -18,3 +18,14 @@ pub mod Fitting
 mod Wordings
 pub mod Printed
 mod Letters
+pub mod Rows
+pub mod LineParts
+pub mod LineWords
+pub mod Helds
+pub mod Cuts
+pub mod Endings
+pub mod LineReads
+pub mod Placed
+pub mod Breaks
+pub mod ReadLaws
+pub mod ReadRows

@@ -9,3 +9,8 @@ pub mod Ranges
 pub mod Wordings
 pub mod Printed
 pub mod Letters
+pub mod Held
+pub mod Taken
+pub mod TakenLines
+pub mod ReadBack
+pub mod ReadRows

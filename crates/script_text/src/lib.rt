@@ -7,6 +7,11 @@ mod laws;
 mod line;
 mod numbers;
 mod parts;
+mod read_events;
+mod read_laws;
+mod read_lines;
+mod read_transcript;
+mod read_words;
 mod script;
 mod transcript;
 mod verb;
@@ -17,6 +22,10 @@ pub use laws::{
     savings_in_words, script_or_bad_line, stops_in_words, streams_in_letters,
     transcripts_in_letters, windows_in_words, words_make_the_line,
 };
+pub use read_laws::{
+    bad_lines_break_off, events_are_lines, read_in_letters, transcripts_read_back,
+};
+pub use read_transcript::{Groups, parse_transcript};
 pub use script::{BadLine, parse};
 pub use transcript::print;
 pub use verb::{ClientVerb, LinkVerb, NodeVerb, Script, ScriptLine, VbVerb, Verb};

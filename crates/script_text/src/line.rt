@@ -29,7 +29,7 @@ pub fn words(alloc: Global, line: &[u8]) -> Result<Vec<&[u8]>, AllocError>
 
 /// The bytes that a text of hexadecimal digits says, if it says any.
 #[tactic(auto, unfolding(crate::specs::Grammar::hex_bytes_of))]
-fn hex_bytes(alloc: Global, text: &[u8]) -> Result<Option<Bytes>, AllocError>
+pub fn hex_bytes(alloc: Global, text: &[u8]) -> Result<Option<Bytes>, AllocError>
     ensures { IfOk result (λ bytes. bytes ≡ hex_bytes_of text.now) }
 {
     if text.is_empty() {
@@ -43,7 +43,7 @@ fn hex_bytes(alloc: Global, text: &[u8]) -> Result<Option<Bytes>, AllocError>
 }
 
 /// Whether a word is this one.
-fn says(word: &[u8], name: &[u8]) -> bool
+pub fn says(word: &[u8], name: &[u8]) -> bool
     ensures { result ≡ bytes_eq word.now name.now }
 {
     word == name

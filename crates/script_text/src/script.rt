@@ -46,7 +46,7 @@ fn read_line(alloc: Global, line: u64, text: &[u8]) -> Result<Said, AllocError>
 }
 
 /// Where the first newline stands.
-fn newline(bytes: &[u8]) -> Option<usize>
+pub fn newline(bytes: &[u8]) -> Option<usize>
     ensures { result ≡ position (λ b. b == 10) bytes.now }
 {
     bytes.iter().position(|b| *b == b'\n')

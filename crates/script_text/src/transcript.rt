@@ -12,7 +12,7 @@ use vb_events::{Answer, Group, Why};
 const USUAL: usize = 256;
 
 /// The last line of a group, without its newline.
-fn push_answer(text: &mut String, answer: Answer) -> Result<(), AllocError>
+pub fn push_answer(text: &mut String, answer: Answer) -> Result<(), AllocError>
     ensures { OnOk result (string_bytes text.new ≡ string_bytes text.old ++ answer_text answer) }
 {
     match answer {

@@ -1,0 +1,43 @@
+-- short transcripts are read, and short texts that are none break off where they do
+use Rattle.std.proofs.Common.{refl}
+use Rattle.std.specs.Fmt.{digits}
+use Rattle.hex.specs.Hex.{encode_with, decode_pairs}
+use Rattle.script_text.specs.Numbers.{number_of}
+use Rattle.script_text.specs.Grammar.{hex_bytes_of}
+use Rattle.script_text.specs.Transcript.{hex_text, place_text, event_text}
+use Rattle.script_text.specs.Taken.{as_bytes}
+use Rattle.script_text.specs.TakenLines.{line_taken}
+use Rattle.script_text.specs.ReadBack.{line_text, line_of, transcript_of}
+use Rattle.script_text.specs.ReadRows.{ReadInLetters, BreaksInLetters}
+use Rattle.script_text.proofs.ReadLaws.{found, broken}
+
+pub read : ReadInLetters
+unfolding transcript_of line_of line_taken line_text event_text place_text number_of digits
+read = record {
+  empty = found _ _ refl;
+  one = found _ _ refl;
+  two = found _ _ refl;
+  wide = found _ _ refl;
+}
+
+pub breaks : BreaksInLetters
+unfolding transcript_of line_of line_taken line_text event_text place_text hex_text as_bytes hex_bytes_of number_of digits encode_with decode_pairs
+breaks = record {
+  event_outside = broken _ _ refl;
+  event_behind = broken _ _ refl;
+  answer_outside = broken _ _ refl;
+  head_inside = broken _ _ refl;
+  no_newline = broken _ _ refl;
+  no_newline_bad = broken _ _ refl;
+  ends_at_head = broken _ _ refl;
+  ends_at_event = broken _ _ refl;
+  head_zeros = broken _ _ refl;
+  zeros = broken _ _ refl;
+  node = broken _ _ refl;
+  few = broken _ _ refl;
+  many = broken _ _ refl;
+  spaces = broken _ _ refl;
+  no_line = broken _ _ refl;
+  other_case = broken _ _ refl;
+  unknown = broken _ _ refl;
+}
