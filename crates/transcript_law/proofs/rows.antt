@@ -1,5 +1,7 @@
 pub mod Contrary
 pub mod ClosedRows
+pub mod ChangeRows
+pub mod NextRows
 pub mod ClientRows
 pub mod CommitRows
 pub mod CrashRows

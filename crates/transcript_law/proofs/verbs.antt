@@ -7,6 +7,7 @@ pub mod DownLine
 pub mod DueLines
 pub mod FlushLines
 pub mod Leaving
+pub mod Making
 pub mod LineAnswers
 pub mod NodeLines
 pub mod Pumping

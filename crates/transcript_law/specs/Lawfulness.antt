@@ -42,6 +42,7 @@ use Rattle.transcript_law.specs.Bound.{IsAnswered}
 use Rattle.transcript_law.specs.Clients.{Heard}
 use Rattle.durability.specs.Laws.{HasOne}
 use Rattle.transcript_law.specs.Majorities.{IsHeldByMost}
+use Rattle.transcript_law.specs.OwnChanges.{IsNextChange}
 use Rattle.transcript_law.specs.Chronicles.{Conns, CountsKnown, ahead, conns_line, alone, ItemLine, Begun, Dial, Granted, Idle, Chronicle, empty_chronicle, is_stream_of, stood, stream_branch, after_line, after_group}
 
 -- the history of a branch, if it is known
@@ -128,14 +129,14 @@ Fulfils image c = (prepared : ℕ) (doc : Doc) (deleted : Bool) → c.act ≡ ac
 abbrev pub IsHeldIfCommitted : CountsKnown → ℕ → Picture → Change → Type 0
 IsHeldIfCommitted counts saved image c = (prepared : ℕ) (doc : Doc) (deleted : Bool) → c.act ≡ act.Commit prepared doc deleted → (e : Pend) → finite.get image.pending c.key ≡ Some e → IsHeldByMost counts saved e.seq e.level
 
--- a change is made by its branch's writer, which is not known to be other than active, above all that the branch has, all that the vBucket holds, and
--- where any branch was made from this one; and a commit is of what the vBucket prepared, and a majority of its chain holds
+-- a change is made by its branch's writer, which is not known to be other than active, above all that the branch has, and where any branch was made from this one; it is the next one behind what the vBucket
+-- holds; and a commit is of what the vBucket prepared, and a majority of its chain holds
 pub record LawfulChange (chronicle : Chronicle) (n v uuid : ℕ) (change : Change) : Type 0 where
   pub active : IsIfKnown (chronicle.role_at n v) (Some Active)
   pub writer : IsWriter chronicle n v uuid
   pub above_branch : last_seq 0 (hist chronicle.tree uuid) < change.seq
-  pub above_held : last_seq 0 (chronicle.held n v) < change.seq
   pub above_forks : ForksBelow uuid change.seq chronicle.tree
+  pub made : IsNextChange (chronicle.held n v) change
   pub fulfils : Fulfils (image_of (chronicle.held n v)) change
   pub backed : IsHeldIfCommitted (chronicle.counts_at n v) (chronicle.disk_at n v).saved (image_of (chronicle.held n v)) change
 

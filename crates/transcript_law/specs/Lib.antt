@@ -1,5 +1,6 @@
 pub mod Bound
 pub mod Chronicles
+pub mod ChangeRows
 pub mod Clients
 pub mod ClientRows
 pub mod ClosedJournals
@@ -12,6 +13,7 @@ pub mod Followers
 pub mod Journals
 pub mod LinesTold
 pub mod Majorities
+pub mod OwnChanges
 pub mod Lawfulness
 pub mod Commits
 pub mod LineAnswers

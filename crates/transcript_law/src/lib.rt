@@ -7,6 +7,7 @@ mod alone;
 mod balances;
 mod bound;
 mod branches;
+mod changes;
 mod clients;
 mod closed;
 mod commits;
@@ -26,6 +27,7 @@ pub use alone::{judged_single_changes, judged_single_links, judged_single_stream
 pub use balances::{balances_in_numbers, windows_balance};
 pub use bound::{judged_closed_links, judged_down_lines};
 pub use branches::branches_are_followed;
+pub use changes::{judged_casses, judged_next_changes, judged_revisions};
 pub use clients::{judged_client_answers, judged_client_lines, judged_client_stops};
 pub use closed::judged_closed;
 pub use commits::judged_commits;

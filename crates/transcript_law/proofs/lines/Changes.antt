@@ -4,7 +4,7 @@ use Rattle.transcript_law.proofs.Words.{ℕ, Bool, true, false, not, List, [], r
 use Rattle.transcript_law.proofs.{invariant.Carried.{places}, invariant.Tables.{at_here, at_there}}
 use Rattle.transcript_law.specs.Chronicles.{CountsKnown, DiskKnown, after_calls, after_restart, broken_by, calls_of_append, is_off, spent, state_of, with_disk, with_record}
 use Rattle.{vb_disk.specs.declared.fuse.Fuse.{Fuse}, vb_types.specs.declared.journal.Record.{Record}}
-use Rattle.transcript_law.specs.Lawfulness.{Fulfils, IsHeldIfCommitted, LawfulBranch, fork_in, newest_of}
+use Rattle.transcript_law.specs.{Lawfulness.{Fulfils, IsHeldIfCommitted, LawfulBranch, fork_in, newest_of}, OwnChanges.{IsNextChange}}
 use Rattle.vb_types.specs.declared.role.Role.TheVariants.{Active}
 
 -- what such a line and that of a branch read is the same in both
@@ -54,8 +54,8 @@ change_read q r n v uuid change s l = record {
   active = subst (λ (f : ℕ → ℕ → Option (Option Role)). IsIfKnown (f n v) (Some Active)) s.role l.active;
   writer = record { made_or_took = ap (λ (f : ℕ → Option (ℕ × ℕ)). f uuid) (sym s.writer) ∙ l.writer.made_or_took; on_branch = ap (λ (f : ℕ → ℕ → Option ℕ). f n v) (sym s.branch) ∙ l.writer.on_branch };
   above_branch = subst (λ t. last_seq 0 (hist t uuid) < change.seq) s.tree l.above_branch;
-  above_held = subst (λ (h : ℕ → ℕ → List Change). last_seq 0 (h n v) < change.seq) s.held l.above_held;
   above_forks = subst (ForksBelow uuid change.seq) s.tree l.above_forks;
+  made = subst (λ (h : ℕ → ℕ → List Change). IsNextChange (h n v) change) s.held l.made;
   fulfils = subst (λ (h : ℕ → ℕ → List Change). Fulfils (image_of (h n v)) change) s.held l.fulfils;
   backed = subst (λ (f : ℕ → ℕ → CountsKnown). IsHeldIfCommitted (f n v) (q.disk_at n v).saved (image_of (q.held n v)) change) s.counts
       (subst (λ k. IsHeldIfCommitted (r.counts_at n v) k (image_of (q.held n v)) change) (s.saved n v) (subst (λ (h : ℕ → ℕ → List Change). IsHeldIfCommitted (r.counts_at n v) (r.disk_at n v).saved (image_of (h n v)) change) s.held l.backed));

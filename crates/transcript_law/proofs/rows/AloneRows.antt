@@ -2,7 +2,7 @@
 use Rattle.std.specs.Prelude.{◌≡◌, ◌<◌, ◌≤◌, ◌∷◌, ◌++◌, ◌==◌, if◌then◌else◌}
 use Rattle.transcript_law.proofs.Words.{ℕ, Bool, true, false, List, [], length, map, refl, ap, sym, ◌∙◌, subst, inl, inr, ⊎_elim, arith, Option, Some, None, key_cmp, Act, Change, Doc, Pend, Event, Role, image_of, StandsAs, IsIn, ItemLine, Begun, Granted, Dial, Rises, eqb-true}
 use Rattle.transcript_law.proofs.Words.{Chronicle, granted, finished, with_begun, item_of_change, stream_history, LawfulFrom, Lawful, log_of, ask_within, granted_inside, marker_line, both_sent_lines, one_change, next_change, first_doc, stream_end_lines, sent_back, inside_got, change_line, value_lines}
-use Rattle.transcript_law.proofs.{rows.Followers.{begun, changes, first_item, next_covers, next_item, one_of, own_dial, seq_as, stream_is, streamed}, rows.Transcripts.{lines, pending}}
+use Rattle.transcript_law.proofs.{rows.Followers.{begun, changes, first_item, next_covers, next_item, one_of, own_dial, seq_as, stream_is, streamed}, rows.NextRows.{resolving_next}, rows.Transcripts.{lines, pending}}
 use Rattle.transcript_law.specs.Alone.{back_at, begun_one, both_in, commit_removal, commit_set, counts_anywhere, counts_at_vb, dialed_once, ended_inside, first_before, first_groups, first_lines, got_at, held_before, held_less, held_otherwise, other_value, prepared, prepared_less, range_at, refused_at, removed_item, sent_anywhere, shown_waiting, strange_shown}
 use Rattle.transcript_law.specs.{Commits.{prepare_of, the_commit}, Contrary.{acknowledged_lines, sent_known}, Followers.{first_item_line, next_item_line}, Lawfulness.{IsFed}}
 use Rattle.transcript_law.specs.Majorities.{IsHeldByMost}
@@ -38,8 +38,8 @@ commits = (
     active = refl;
     writer = record { made_or_took = refl; on_branch = refl };
     above_branch = omega arith;
-    above_held = omega arith;
     above_forks = (λ e. omega arith, tt);
+    made = resolving_next (prepare_of Majority ∷ []) the_commit waits refl waits_there refl refl refl refl;
     fulfils = λ number doc deleted e. let t = named_so number doc deleted e in (waits, waits_there, t.0, t.1, t.2);
     backed = λ number doc deleted e p there. let found : Some waits ≡ Some p = sym waits_there ∙ there in let same : waits ≡ p = cc in subst (λ (q : Pend). IsHeldByMost (prepared.counts_at 0 0) (prepared.disk_at 0 0).saved q.seq q.level) same (held_alone 1);
   },

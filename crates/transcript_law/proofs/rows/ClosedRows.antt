@@ -1,7 +1,7 @@
 -- appends that close a journal, judged by hand
 use Rattle.std.specs.Prelude.{◌≡◌, ◌<◌, ◌≤◌, ◌∷◌}
 use Rattle.transcript_law.proofs.Words.{ℕ, Bool, true, false, List, [], refl, sym, arith, inl, Some, None, Cause, Event, Role, Lawful, LawfulAnswer, LawfulGroups}
-use Rattle.transcript_law.proofs.{rows.CrashRows.{first, lawful_from_made, no_role, one_closed, taken}, rows.Groups.{whole}}
+use Rattle.transcript_law.proofs.{rows.CrashRows.{first, lawful_from_made, no_role, one_closed, taken}, rows.{Groups.{whole}, NextRows.{second_next}}}
 use Rattle.transcript_law.specs.ClosedJournals.{back_line, dead_after_start, dead_after_start_groups, dialed_for, down_under, down_under_groups, fails_down, follow_after_crash, follow_after_crash_groups, follow_line, found_closed, save_again, save_again_groups, save_given_up, save_given_up_groups, save_none, save_none_groups, save_twice, save_twice_groups, sent_back_for, sent_back_under}
 use Rattle.transcript_law.specs.Crashes.{LawfulAfter, branch_line, dead_line, dead_under, dead_under_groups, failed_behind, numbered, ok, groups_from_number}
 use Rattle.transcript_law.specs.{Chronicles.{Idle, Taken}, Downs.{refused}, LineAnswers.{Back, IsBack}}
@@ -40,7 +40,7 @@ again = lawful_from_made save_again (save_again_groups (found_closed [])) refl (
     (
       ((omega arith, tt), ((refl, (omega arith, omega arith)), (_, refl)), refl),
       (
-        ((search arith, tt), refl, refl),
+        ((search (arith, second_next), tt), refl, refl),
         (((record { idle = refl; goes_on = omega arith; held = omega arith; starts = omega arith; ends = omega arith; some = omega arith; most = omega arith }, tt), refl, refl), ((tt, (refl, (_, refl)), refl), tt)),
       ),
     ),

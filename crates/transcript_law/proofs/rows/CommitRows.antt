@@ -3,8 +3,8 @@ use Rattle.std.specs.Prelude.{◌≡◌, ◌+◌, ◌*◌, ◌<◌, ◌∷◌}
 use Rattle.transcript_law.proofs.Words.{ℕ, Bool, false, List, [], length, refl, sym, ◌∙◌, subst, inl, arith, Some, Act, Doc, Pend, LawfulChange, image_of}
 use Rattle.durability.specs.{Chains.{named}, Laws.{Differ, Each, HasOne}}
 use Rattle.std.specs.FinMap.{get}
-use Rattle.transcript_law.specs.{Chronicles.{CountsKnown, DiskKnown}, Commits.{prepare_of, prepared_known, risen_again, risen_anew, started_anew, the_commit}, Majorities.{HasAcknowledged, IsHeldByMost}, Transcripts.{first_doc}}
-use Rattle.vb_types.proofs.Laws.{get-insert_same}
+use Rattle.transcript_law.specs.{Chronicles.{CountsKnown, DiskKnown}, Commits.{prepare_of, prepared_known, risen_again, risen_anew, started_anew, the_commit}, Majorities.{HasAcknowledged, IsHeldByMost}, OwnChanges.{IsNextChange}, Transcripts.{first_doc}}
+use Rattle.{transcript_law.proofs.rows.NextRows.{resolving_next}, vb_types.proofs.Laws.{get-insert_same}}
 use Rattle.vb_types.specs.Images.{nothing}
 use Rattle.vb_types.specs.declared.change.Level.{Level}
 use Rattle.vb_types.specs.declared.change.Level.TheVariants.{Majority}
@@ -19,14 +19,17 @@ waits_there how = get-insert_same nothing.pending (9 ∷ []) (waits how)
 named_so : (how : Level) (number : ℕ) (doc : Doc) (deleted : Bool) → the_commit.act ≡ Act.Commit number doc deleted → ((waits how).seq ≡ number) × ((waits how).doc ≡ doc) × ((waits how).deleted ≡ deleted)
 named_so how number doc deleted e = (cc, cc, cc)
 
+commit_next : (how : Level) → IsNextChange (prepare_of how ∷ []) the_commit
+commit_next how = resolving_next (prepare_of how ∷ []) the_commit (waits how) refl (waits_there how) refl refl refl refl
+
 -- it may be committed where a majority holds it, and only there
 pub may : (how : Level) (f : ℕ → ℕ → CountsKnown) (d : ℕ → ℕ → DiskKnown) → IsHeldByMost (f 0 0) (d 0 0).saved 1 how → LawfulChange (record (prepared_known how) { counts_at = f; disk_at = d }) 0 0 5 the_commit
 may how f d held = record {
   active = refl;
   writer = record { made_or_took = refl; on_branch = refl };
   above_branch = omega arith;
-  above_held = omega arith;
   above_forks = (λ e. omega arith, tt);
+  made = commit_next how;
   fulfils = λ number doc deleted e. let t = named_so how number doc deleted e in (waits how, waits_there how, t.0, t.1, t.2);
   backed = λ number doc deleted e p there.
       let found : Some (waits how) ≡ Some p = sym (waits_there how) ∙ there in let same : waits how ≡ p = cc in subst (λ (q : Pend). IsHeldByMost (f 0 0) (d 0 0).saved q.seq q.level) same held;
@@ -59,8 +62,8 @@ anew_lawful f d held = record {
   active = refl;
   writer = record { made_or_took = refl; on_branch = refl };
   above_branch = omega arith;
-  above_held = omega arith;
   above_forks = (λ e. omega arith, (λ e. omega arith, tt));
+  made = (may Majority f d held).made;
   fulfils = (may Majority f d held).fulfils;
   backed = (may Majority f d held).backed;
 }
@@ -74,8 +77,8 @@ again_lawful f d held = record {
   active = refl;
   writer = record { made_or_took = refl; on_branch = refl };
   above_branch = omega arith;
-  above_held = omega arith;
   above_forks = (λ e. omega arith, tt);
+  made = (may Majority f d held).made;
   fulfils = (may Majority f d held).fulfils;
   backed = (may Majority f d held).backed;
 }

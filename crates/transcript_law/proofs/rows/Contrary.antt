@@ -1,8 +1,8 @@
 -- lines and states that contradict the lines before them, judged by hand
-use Rattle.std.specs.Prelude.{◌≡◌, ◌<◌, ◌∷◌, ◌++◌}
+use Rattle.std.specs.Prelude.{◌≡◌, ◌∷◌, ◌++◌}
 use Rattle.transcript_law.proofs.Words.{ℕ, false, List, [], length, map, refl, ap, sym, ◌∙◌, ⊎_elim, arith, Change, Option, Some, None, if◌then◌else◌, is_older, nat_list_cmp_total, key_cmp, Pend, Doc, Event, LogEntry, Role, Picture}
 use Rattle.transcript_law.proofs.Words.{image_of, front, uuid_of, kept_to, with_entry, option_map, Chronicle, empty_chronicle, after_line, log_of, made_from, after_both, shown_lines, Lawful, LawfulLine, LawfulFrom}
-use Rattle.transcript_law.proofs.{Words.{log_lines, made_log, empty_shown, after_dead, first_doc, change_line}, invariant.Tables.{at_here}, rows.Transcripts.{no_entries}, rows.Rollbacks.{known_role}, rows.Groups.{both}, invariant.Waiting.{made_by}}
+use Rattle.transcript_law.proofs.{Words.{log_lines, made_log, empty_shown, after_dead, first_doc, change_line}, invariant.Tables.{at_here}, rows.Transcripts.{no_entries}, rows.Rollbacks.{known_role}, rows.Groups.{both}, rows.NextRows.{first_next, second_next}, invariant.Waiting.{made_by}}
 use Rattle.transcript_law.specs.Contrary.{set_and_sealed, sealed_groups, later_held, next_made, prepare_change, after_prepare, prepare_shown, prepare_lines, after_back, taken_log, refused_ask_lines, after_follow, after_promote, second_held, third_below, third_held}
 use Rattle.vb_types.specs.declared.change.Level.TheVariants.{Majority, MajorityPersistActive, PersistMajority}
 use Rattle.vb_types.specs.declared.change.Act.TheVariants as act
@@ -14,12 +14,23 @@ use Rattle.vb_types.specs.declared.role.Role.TheVariants as role
 
 -- a change below one that its vBucket holds
 pub later : LawfulLine later_held (change_line 0) [] → ⊥
-later l = let e : 2 < 1 = l.above_held in omega arith
+later l = let e : ◌≡◌ {A = ℕ} 1 3 = l.made.next in omega arith
 
 -- the maker of a branch changes it where it is on it, and not from another one
 
 pub on_new : LawfulFrom (made_from 5) (next_made 7)
-on_new = search arith
+on_new = (
+  record {
+    active = refl;
+    writer = record { made_or_took = refl; on_branch = refl };
+    above_branch = omega arith;
+    above_forks = (λ e. omega arith, (λ e. omega arith, (λ e. omega arith, tt)));
+    made = second_next;
+    fulfils = λ number doc deleted e. cc;
+    backed = λ number doc deleted e. cc;
+  },
+  tt,
+)
 
 pub left_behind : LawfulFrom (made_from 5) (next_made 5) → ⊥
 left_behind l = let e : ◌≡◌ {A = Option ℕ} (Some 7) (Some 5) = l.0.writer.on_branch in cc
@@ -134,7 +145,7 @@ back_known told n v named to log e = at_here told.log_at n v (option_map (kept_t
 
 -- a vBucket that is sealed twice behind a change
 pub seals_twice : Lawful set_and_sealed (sealed_groups 1 0)
-seals_twice = both empty_chronicle set_and_sealed (sealed_groups 1 0) refl (tt, (tt, ((record { new = tt; newest = refl; last = refl; leaves = refl }, (record { another = λ e. cc; anew = λ e. refl }, tt)), ((search arith, tt), (tt, (tt, tt)))))) (tt, (refl, ((refl, tt), (refl, (refl, (refl, tt)))))) (refl, (refl, (refl, (refl, (refl, (refl, tt))))))
+seals_twice = both empty_chronicle set_and_sealed (sealed_groups 1 0) refl (tt, (tt, ((record { new = tt; newest = refl; last = refl; leaves = refl }, (record { another = λ e. cc; anew = λ e. refl }, tt)), ((search (arith, first_next), tt), (tt, (tt, tt)))))) (tt, (refl, ((refl, tt), (refl, (refl, (refl, tt)))))) (refl, (refl, (refl, (refl, (refl, (refl, tt))))))
 
 first_byte : List ℕ → ℕ
 first_byte [] = 0

@@ -3,7 +3,7 @@ use Rattle.transcript_law.specs.{Chronicles.{alone}, Majorities.{IsHeldByMost}}
 use Rattle.std.specs.Prelude.{◌≡◌, ◌<◌, ◌≤◌, ◌∷◌, ◌==◌, if◌then◌else◌}
 use Rattle.transcript_law.proofs.Words.{ℕ, Bool, true, false, List, [], refl, ap, sym, ◌∙◌, subst, arith, inl, ⊎_elim, eqb-true, ne_eqb, Option, Some, None, Event, Answer, Role, front, uuid_of, Chronicle}
 use Rattle.transcript_law.proofs.Words.{empty_chronicle, Lawful, LawfulFrom, LawfulGroups, LawfulAnswer, nothing, image_of, one_change, log_of, made_log}
-use Rattle.transcript_law.proofs.{links.PumpAnswers.{two_numbers}, rows.Transcripts.{first_change, shown, as_made, as_set}, rows.Groups.{AreParts, in_order, whole}}
+use Rattle.transcript_law.proofs.{links.PumpAnswers.{two_numbers}, rows.NextRows.{nine_next, resolving_next, second_next}, rows.Transcripts.{first_change, shown, as_made, as_set}, rows.Groups.{AreParts, in_order, whole}}
 use Rattle.transcript_law.specs.Firings.{FiresAsSaid}
 use Rattle.transcript_law.specs.Clients.{AllClosed}
 use Rattle.transcript_law.specs.{Chronicles.{conns_lines, Idle, Taken, Written, no_arm, known_fail, known_stop}, Prefixes.{known_after}, LineAnswers.{MakesBranch, FailsIn, StopsIn}}
@@ -313,7 +313,7 @@ found_active l = not_active l.1.1.1.1.1.1.1.1.0.0.0.role
 
 pub on_new : LawfulAfter set_restarted (set_restarted_groups 7)
 on_new = lawful_from_made set_restarted (set_restarted_groups 7) refl
-    (taken, ((tt, ((refl, tt), (_, refl)), refl), (((refl, tt), one_closed, refl), (((record { new = (λ e. omega arith, tt); newest = refl; last = refl; leaves = refl }, tt), ((λ v e. first v (branch_line 0 1 ∷ []) (λ f. no_role Role.Active (rw f at e)) (inl (refl, refl))), tt), refl), ((tt, refl, refl), (((search arith, tt), refl, refl), tt))))))
+    (taken, ((tt, ((refl, tt), (_, refl)), refl), (((refl, tt), one_closed, refl), (((record { new = (λ e. omega arith, tt); newest = refl; last = refl; leaves = refl }, tt), ((λ v e. first v (branch_line 0 1 ∷ []) (λ f. no_role Role.Active (rw f at e)) (inl (refl, refl))), tt), refl), ((tt, refl, refl), (((search (arith, second_next), tt), refl, refl), tt))))))
 
 pub on_old : LawfulAfter set_restarted (set_restarted_groups 5) → ⊥
 on_old l = let e : ◌≡◌ {A = Option ℕ} (Some 7) (Some 5) = l.1.1.1.1.1.1.1.1.1.0.0.0.writer.on_branch in cc
@@ -350,8 +350,8 @@ commits = lawful_from_made seal_restarted (seal_restarted_groups commits_told) r
         active = refl;
         writer = record { made_or_took = refl; on_branch = refl };
         above_branch = omega arith;
-        above_held = omega arith;
         above_forks = (λ e. omega arith, tt);
+        made = nine_next prepared.act 2 (omega arith) (omega arith) refl refl refl refl;
         fulfils = λ number doc deleted e. absurd (no_commit number doc deleted e);
         backed = λ number doc deleted e. absurd (no_commit number doc deleted e);
       },
@@ -375,8 +375,8 @@ commits = lawful_from_made seal_restarted (seal_restarted_groups commits_told) r
                   active = refl;
                   writer = record { made_or_took = refl; on_branch = refl };
                   above_branch = omega arith;
-                  above_held = omega arith;
                   above_forks = (λ e. omega arith, (λ e. omega arith, tt));
+                  made = resolving_next (one_change ∷ prepared ∷ []) (commit_of 2) waits refl waits_there refl refl refl refl;
                   fulfils = λ number doc deleted e. let t = of_waiting number doc deleted e in (waits, waits_there, t.0, t.1, t.2);
                   backed = λ number doc deleted e. waits_held _;
                 },

@@ -4,7 +4,7 @@ use Rattle.transcript_law.proofs.Words.{ℕ, List, [], length, map, take, drop, 
 use Rattle.transcript_law.proofs.Words.{nat_list_cmp_total, key_cmp, Change, Pend, Event, LogEntry, Continue, Roll, Rises, IsIn, Picture, image_of, is_older, last_seq, StandsAs, IsOf, front, uuid_of, Covers, Branch}
 use Rattle.transcript_law.proofs.Words.{Role, rises_in, document_line, prepare_line, image_lines, ItemLine, Begun, Granted, Dial, Chronicle, granted, is_dial_of, empty_chronicle, after_lines, item_of_change}
 use Rattle.transcript_law.proofs.Words.{IsMarker, IsNextItem, LawfulAsk, LawfulMark, LawfulItem, LawfulFrom, Lawful, frames_in_lines, first_doc, one_change, two_followed, next_change, log_of, ask_within}
-use Rattle.transcript_law.proofs.{Words.{granted_inside, after_both, made_from, marker_line, first_item_line, both_sent_lines}, rows.Transcripts.{no_entries, docs}, rows.Groups.{AreFired, AreTold, both}, verbs.Tellings.{all_pass}}
+use Rattle.transcript_law.proofs.{Words.{granted_inside, after_both, made_from, marker_line, first_item_line, both_sent_lines}, rows.Transcripts.{no_entries, docs}, rows.Groups.{AreFired, AreTold, both}, rows.NextRows.{first_next, second_next}, verbs.Tellings.{all_pass}}
 use Rattle.{std.specs.List.{list_any}, branch_model.proofs.Lists.{last_in}, std.proofs.Common.{◌⊎◌}, std.specs.Prelude.{Bool, true, false}, transcript_law.specs.Followers.{ask_above, ask_lines, other_ask_lines, late_ask_lines, granted_lines}}
 use Rattle.transcript_law.specs.Followers.{adopted_lines, stranger_lines, ended_lines, both_got, again_got, followed_groups, dialed_elsewhere, made_dead, replica_ask_lines, made_ask_lines, set_item_line, next_item_line}
 use Rattle.{transcript_law.specs.Followers.{replica_shown, two_docs, third_doc, ask_groups, answered_so, adopted_so, sent_so, got_so, shown_so}, transcript_law.specs.Chronicles.{is_rollback}, transcript_law.specs.Lawfulness.{IsFrontOf, IsStream}, transcript_law.specs.Prefixes.{known_after}}
@@ -125,7 +125,7 @@ unbound r line lines said e rule = subst (λ whys. IsBound whys (LawfulAnswer r 
 from_asked : (asked adopted sent got shown : List Event) → frames_in_lines sent < 9 → (list_any is_rollback adopted ≡ true → ⊥) → (list_any is_rollback got ≡ true → ⊥) → StaysSo (followed_groups asked adopted sent got shown) → AreTold before_asked (drop 8 two_followed) (drop 8 (followed_groups asked adopted sent got shown))
     → AreFired before_asked (drop 8 two_followed) (drop 8 (followed_groups asked adopted sent got shown)) → Lawful two_followed (followed_groups asked adopted sent got shown)
 from_asked asked adopted sent got shown few straight sound so l f = let told = followed_groups asked adopted sent got shown in both empty_chronicle two_followed (followed_groups asked adopted sent got shown) (λ i. all_pass asked i && (all_pass adopted i && (all_pass sent i && (all_pass got i && (all_pass shown i && true)))))
-    (tt ▹ tt ▹ tt ▹ (record { new = tt; newest = refl; last = refl; leaves = refl } ▹ record { another = λ e. cc; anew = λ e. refl } ▹ tt) ▹ (record { another = λ e. cc; anew = λ e. cc } ▹ tt) ▹ (search arith ▹ tt) ▹ (search arith ▹ tt) ▹ tt ▹ l)
+    (tt ▹ tt ▹ tt ▹ (record { new = tt; newest = refl; last = refl; leaves = refl } ▹ record { another = λ e. cc; anew = λ e. refl } ▹ tt) ▹ (record { another = λ e. cc; anew = λ e. cc } ▹ tt) ▹ (search (arith, first_next) ▹ tt) ▹ (search (arith, second_next) ▹ tt) ▹ tt ▹ l)
     (tt ▹ tt ▹ refl ▹ (refl ▹ tt) ▹ (refl ▹ tt) ▹ refl ▹ refl ▹ tt ▹ omega arith ▹ unbound (behind 9 told) (verb.AtLink 1 (link_verb.Down 1000)) adopted (answer.Number 100) (ap if_over so.0) (omega arith, λ e. absurd (straight e)) ▹ unbound (behind 10 told) (verb.AtLink 1 (link_verb.Pump 9)) sent (answer.Pulled (frames_in_lines sent) why.Idle) (ap if_over so.1) (record { told = refl; most = omega (arith, few); all = λ e. cc; only = λ e. absurd (omega (arith, few, e)) }) ▹ unbound (behind 11 told) (verb.AtLink 1 (link_verb.Down 1000)) got (answer.Number 100) (ap if_over so.2) (omega arith, λ e. absurd (sound e)) ▹ unbound (behind 12 told) (verb.AtVb 1 0 vb_verb.Show) shown answer.Ok (ap if_down so.3) tt ▹ tt)
     (refl ▹ refl ▹ refl ▹ refl ▹ refl ▹ refl ▹ refl ▹ refl ▹ f)
 

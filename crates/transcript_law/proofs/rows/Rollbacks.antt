@@ -6,7 +6,7 @@ use Rattle.transcript_law.proofs.Words.{marker_line, item_of_change, IsWholeIf, 
 use Rattle.transcript_law.proofs.Words.{stream_end_lines, rest_lines, after_active, forgotten, nothing, inl, inside_dead, inside_got, inside_shown, log_forgotten, strange, after_adopted, after_got}
 use Rattle.transcript_law.proofs.Words.{all_active, based, changed_in, empty_in, AreFollowed, FollowsBranch, both_on_one, first_doc, forked_at, one_change, value_lines, new_vb, Picture, image_of}
 use Rattle.transcript_law.proofs.rows.Followers.{next_covers, stream_is}
-use Rattle.transcript_law.proofs.rows.FollowerRows.{based_sound, inside_sound}
+use Rattle.transcript_law.proofs.rows.{FollowerRows.{based_sound, inside_sound}, NextRows.{first_next}}
 use Rattle.vbucket.proofs.Committing.{none_rests}
 use Rattle.std.specs.FinMap as finite
 use Rattle.transcript_law.proofs.rows.Transcripts.{no_entries, as_made, as_set, image, shown, docs, pending, lines}
@@ -116,7 +116,7 @@ pub any_role : LawfulFrom forgotten (Event.Role 0 0 Role.Dead ∷ [])
 any_role = (record { another = λ e. cc; anew = λ e. cc }, tt)
 
 pub any_change : LawfulFrom forgotten (change_line 0 ∷ [])
-any_change = (record { active = tt; writer = record { made_or_took = refl; on_branch = refl }; above_branch = omega arith; above_held = omega arith; above_forks = (λ e. omega arith, tt); fulfils = λ prepared doc deleted e. cc; backed = λ prepared doc deleted e. cc }, tt)
+any_change = (record { active = tt; writer = record { made_or_took = refl; on_branch = refl }; above_branch = omega arith; above_forks = (λ e. omega arith, tt); made = first_next; fulfils = λ prepared doc deleted e. cc; backed = λ prepared doc deleted e. cc }, tt)
 
 pub any_shown : LawfulFrom forgotten (empty_shown Role.Replica)
 any_shown = (shown _ _ _ tt tt refl refl nothing refl refl as_made (λ _. refl) (λ e. cc), tt)

@@ -7,7 +7,7 @@ use Rattle.transcript_law.proofs.Words.{shown_after_change, shown_unchanged, las
 use Rattle.transcript_law.proofs.Words.{after_active, after_dead, due_image, inside_dead, option_map}
 use Rattle.transcript_law.specs.Lawfulness.{newest_shown}
 use Rattle.transcript_law.specs.{Contrary.{after_dead_changed, branch_inside, branch_left, logged_six}, Rollbacks.{empty_uuid}, Transcripts.{shown_with_change}}
-use Rattle.transcript_law.{proofs.rows.Groups.{both}, specs.{Chronicles.{ArmKnown, Conns, DiskKnown}, LinesTold.{roles_from}}}
+use Rattle.transcript_law.{proofs.rows.{Groups.{both}, NextRows.{first_next}}, specs.{Chronicles.{ArmKnown, Conns, DiskKnown}, LinesTold.{roles_from}}}
 use Rattle.std.specs.FinMap as finite
 
 none_of : {X : Type 0} (xs : List X) → length xs ≡ 0 → xs ≡ []
@@ -56,7 +56,7 @@ shown r said behind role newest at snapshot left held due leaves shared active =
 
 -- transcripts of one set, whatever was written down and is to befall nodes, and whichever connections are open
 pub first_change : (d : ℕ → ℕ → DiskKnown) (a : ℕ → ArmKnown) (k : Conns) → LawfulChange (record (after_lines empty_chronicle (active_vb_lines 0 5)) { disk_at = d; arm_at = a; conn_at = k }) 0 0 5 one_change
-first_change d a k = record { active = refl; writer = record { made_or_took = refl; on_branch = refl }; above_branch = omega arith; above_held = omega arith; above_forks = (λ e. omega arith, tt); fulfils = λ prepared doc deleted e. cc; backed = λ prepared doc deleted e. cc }
+first_change d a k = record { active = refl; writer = record { made_or_took = refl; on_branch = refl }; above_branch = omega arith; above_forks = (λ e. omega arith, tt); made = first_next; fulfils = λ prepared doc deleted e. cc; backed = λ prepared doc deleted e. cc }
 
 pub right : Lawful one_set (one_set_groups 1 0 (value_lines (8 ∷ [])))
 right = both empty_chronicle one_set (one_set_groups 1 0 (value_lines (8 ∷ []))) refl
@@ -97,7 +97,7 @@ second_new d a k up = (
 )
 
 change_of_two : (d : ℕ → ℕ → DiskKnown) (a : ℕ → ArmKnown) (k : Conns) → LawfulChange (record (after_lines empty_chronicle (active_vb_lines 0 5 ++ active_vb_lines 1 6)) { disk_at = d; arm_at = a; conn_at = k }) 0 0 5 one_change
-change_of_two d a k = record { active = refl; writer = record { made_or_took = refl; on_branch = refl }; above_branch = omega arith; above_held = omega arith; above_forks = (λ e. omega arith, (λ e. omega arith, tt)); fulfils = λ prepared doc deleted e. cc; backed = λ prepared doc deleted e. cc }
+change_of_two d a k = record { active = refl; writer = record { made_or_took = refl; on_branch = refl }; above_branch = omega arith; above_forks = (λ e. omega arith, (λ e. omega arith, tt)); made = first_next; fulfils = λ prepared doc deleted e. cc; backed = λ prepared doc deleted e. cc }
 
 two_writers : ◌≡◌ {A = Option (ℕ × ℕ)} (Some (0, 0)) (Some (0, 1)) → ⊥
 two_writers e =
@@ -112,13 +112,13 @@ pub writer : Lawful (two_vbs 6 set_and_show) (two_vbs_groups 6 (sets_groups (cha
 writer l = two_writers l.1.1.1.1.0.0.0.writer.made_or_took
 
 pub maker : LawfulLine both_on_one (change_line 0) []
-maker = record { active = refl; writer = record { made_or_took = refl; on_branch = refl }; above_branch = omega arith; above_held = omega arith; above_forks = (λ e. omega arith, (λ e. omega arith, tt)); fulfils = λ prepared doc deleted e. cc; backed = λ prepared doc deleted e. cc }
+maker = record { active = refl; writer = record { made_or_took = refl; on_branch = refl }; above_branch = omega arith; above_forks = (λ e. omega arith, (λ e. omega arith, tt)); made = first_next; fulfils = λ prepared doc deleted e. cc; backed = λ prepared doc deleted e. cc }
 
 pub follower : LawfulLine both_on_one (change_line 1) [] → ⊥
 follower l = two_writers l.writer.made_or_took
 
 pub above_fork : LawfulLine (forked_at 0) (change_line 0) []
-above_fork = record { active = refl; writer = record { made_or_took = refl; on_branch = refl }; above_branch = omega arith; above_held = omega arith; above_forks = (λ e. omega arith, (λ e. omega arith, tt)); fulfils = λ prepared doc deleted e. cc; backed = λ prepared doc deleted e. cc }
+above_fork = record { active = refl; writer = record { made_or_took = refl; on_branch = refl }; above_branch = omega arith; above_forks = (λ e. omega arith, (λ e. omega arith, tt)); made = first_next; fulfils = λ prepared doc deleted e. cc; backed = λ prepared doc deleted e. cc }
 
 pub at_fork : LawfulLine (forked_at 1) (change_line 0) [] → ⊥
 at_fork l = let low = l.above_forks.0 refl in omega arith

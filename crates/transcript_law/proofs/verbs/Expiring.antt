@@ -16,7 +16,7 @@ use Rattle.vb_calls.specs.declared.calls.Resolution.TheVariants as resolution
 use Rattle.vb_calls.specs.declared.calls.VbAnswer.{VbAnswer}
 use Rattle.vb_types.specs.declared.change.Act.TheVariants.{Abort}
 use Rattle.vbucket.proofs.Preparing.{AreTimed, abort_sound, ascend_late, late_timed, may_abort, timed_rest}
-use Rattle.vbucket.specs.Laws.{Ascend}
+use Rattle.{transcript_law.proofs.verbs.Making.{resolving_is_next}, vbucket.specs.Laws.{Ascend}}
 
 -- the lines of changes, and of others behind them
 told_more : (n v uuid : ℕ) (cs ds : List Change) → changes_told n v uuid (cs ++ ds) ≡ changes_told n v uuid cs ++ changes_told n v uuid ds
@@ -112,7 +112,7 @@ module _ (n v : ℕ) (x : Waiting) (s : Resolving) (w : PlainWorld) (r : Chronic
   newest_is = newest w r cl n v node s.vb agrees known has change s.vb.last_cas active refl room fits named (without x.seq s.vb.waiting) sound
 
   lawful : LawfulChange r n v member.br change
-  lawful = is_lawful w r cl n v node s.vb agrees known has change s.vb.last_cas active refl room fits named (without x.seq s.vb.waiting) sound unheld
+  lawful = is_lawful w r cl n v node s.vb agrees known has change s.vb.last_cas active refl room fits named (without x.seq s.vb.waiting) sound (resolving_is_next s.vb own.kept x (Abort x.seq) waits.0 waits.1 waits.2 refl refl refl refl) unheld
 
   agrees_in : (w' : PlainWorld) → Changed w w' n v given_up.vb w.links → shelf_of w' n v ≡ shelf_of w n v → AgreesIn idle w' (after_change r n v member.br change) (happens cl (Move.Own (seat n v) change))
   agrees_in w' changes shelf = written w r cl n v node s.vb agrees known has change s.vb.last_cas active refl room fits named (without x.seq s.vb.waiting) sound w' changes shelf (omega arith)

@@ -19,7 +19,7 @@ use Rattle.vb_events.specs.declared.event.Cause.TheVariants.{LinkClosed}
 use Rattle.vb_types.specs.declared.status.Status.TheVariants.{Etmpfail, NotMyVbucket, Success}
 use Rattle.mcbp_kv.specs.declared.request.KvRequest.TheVariants as request
 use Rattle.durability.specs.{Chains.{is_possible}, Outstanding.{placed}}
-use Rattle.vbucket.proofs.{Preparing.{durable_free, prepared_sound}, Soundness.{cas_rises}}
+use Rattle.{transcript_law.proofs.verbs.Making.{prepare_is_next, write_is_next}, vbucket.proofs.{Preparing.{durable_free, prepared_sound}, Soundness.{cas_rises}, Storing.{said_none}}}
 
 -- ---- what a frame asks
 
@@ -183,7 +183,7 @@ module _ (stays : StaysSound) (steady : Steady) (w : PlainWorld) (r : Chronicle)
           let grown : Changed (world_at x.0) (world_at states) n v (growth vb change cas).0 w.links = node_grown w n v there0 (with_states node states) (growth vb change cas).0 (λ q. refl) (λ q o. refl) refl in
           let made = told_each_change x now states x.1.session.who.node v (newest_branch vb.log) member.br (change ∷ []) now.2.node
           (newest (world_at x.0) (so_far x) cl n v there0 vb in_it known has change cas taken.0 refl room change_is named vb.waiting sound)
-          (is_lawful (world_at x.0) (so_far x) cl n v there0 vb in_it known has change cas taken.0 refl room change_is named vb.waiting sound (write_unheld ((so_far x).counts_at n v) ((so_far x).disk_at n v).saved (image_of member.held) vb write cas), tt)
+          (is_lawful (world_at x.0) (so_far x) cl n v there0 vb in_it known has change cas taken.0 refl room change_is named vb.waiting sound (write_is_next vb here.kept write clock small (said_none vb.role (lacks_seqnos vb 1) (key_refusal vb write) free)) (write_unheld ((so_far x).counts_at n v) ((so_far x).disk_at n v).saved (image_of member.held) vb write cas), tt)
           (happens cl (Move.Own (seat n v) change), written (world_at x.0) (so_far x) cl n v there0 vb in_it known has change cas taken.0 refl room change_is named vb.waiting sound (world_at states) grown (shelves_again w n (with_states node x.0) (with_states node states) (λ q. refl) n v) (cas_rises clock vb.last_cas here.sound.last_cas)) in
           let lines : List Event = changes_told x.1.session.who.node v (newest_branch vb.log) (change ∷ []) in
           let replies : List Event = reply_lines x.1.session.who.node x.1.session.who.client (reply_to x.1.session.settings f (growth vb change cas).1.answer) in
@@ -218,7 +218,7 @@ module _ (stays : StaysSound) (steady : Steady) (w : PlainWorld) (r : Chronicle)
           let on : newest_branch vb.log ≡ member.br = newest (world_at x.0) (so_far x) cl n v there0 vb in_it known has change cas taken.0 refl room change_is named left sound in
           let gone = told_each_change (x.0, with_used x.1) used states2 x.1.session.who.node v (if is_empty (settled made).changes then newest_branch vb.log else newest_branch (settled made).vb.log) member.br (change ∷ later.cs) now.2.node
           (one_branch (is_empty (settled made).changes) (newest_branch vb.log) (newest_branch (settled made).vb.log) (ap newest_branch later.log) ∙ on)
-          (is_lawful (world_at x.0) (so_far x) cl n v there0 vb in_it known has change cas taken.0 refl room change_is named left sound (prepare_unheld ((so_far x).counts_at n v) ((so_far x).disk_at n v).saved (image_of member.held) vb write wish.level cas), subst (λ u. LawfulFrom r1 (changes_told n v u later.cs)) on later.lawful)
+          (is_lawful (world_at x.0) (so_far x) cl n v there0 vb in_it known has change cas taken.0 refl room change_is named left sound (prepare_is_next vb here.kept write wish.level clock small taken.3) (prepare_unheld ((so_far x).counts_at n v) ((so_far x).disk_at n v).saved (image_of member.held) vb write wish.level cas), subst (λ u. LawfulFrom r1 (changes_told n v u later.cs)) on later.lawful)
           (subst (λ u. Agrees (world_at states2) (after_lines r1 (changes_told n v u later.cs))) on (later.agrees (world_at states2) changed (shelves_again w n there1 there2 (λ q. refl) n v))) in
           let branch : ℕ = if is_empty (settled made).changes then newest_branch vb.log else newest_branch (settled made).vb.log in
           prepared_goes (awaited_by (next_waiter x.1.session) f) (outcome_of (next_waiter x.1.session) (settled made).resolved) (states2, with_lines (with_used x.1) (changes_told x.1.session.who.node v branch (change ∷ (settled made).changes)))

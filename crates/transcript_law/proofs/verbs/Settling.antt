@@ -15,7 +15,7 @@ use Rattle.vb_calls.specs.State.{pending_of}
 use Rattle.vb_calls.specs.declared.calls.Resolution.{Resolution}
 use Rattle.vb_calls.specs.declared.calls.Resolution.TheVariants as resolution
 use Rattle.vb_types.specs.declared.change.Act.TheVariants.{Commit}
-use Rattle.vbucket.proofs.{Settling.{commit_sound}, Soundness.{led_sound}}
+use Rattle.{transcript_law.{proofs.verbs.Making.{resolving_is_next}, specs.OwnChanges.{IsNextChange}}, vbucket.proofs.{Settling.{commit_sound}, Soundness.{led_sound}}}
 
 -- the lines of changes that a vBucket made of its own
 abbrev pub changes_told : ℕ → ℕ → ℕ → List Change → List Event
@@ -134,6 +134,10 @@ module _ (commits : CommitsSound) (n v : ℕ) (x : Waiting) (more : List Waiting
       let same : Commit x.seq of.pend.doc of.pend.deleted ≡ Commit number doc deleted = of.commits ∙ e in
       (of.pend, waits, of.named ∙ cc, cc, cc)
 
+  -- it commits the prepare that waits at its key
+  next_one : IsNextChange member.held change
+  next_one = subst (λ b. IsNextChange member.held (resolving_change s.vb x b)) of.commits (resolving_is_next s.vb own.kept x (Commit x.seq of.pend.doc of.pend.deleted) of.pend waits of.named refl refl refl refl)
+
   -- the vBucket has saved what the lines tell
   saved_is : s.vb.saved ≡ (r.disk_at n v).saved
   saved_is = saved_so (r.disk_at n v) (cl.disks (seat n v)) (shelf_of w n v) s.vb (subst (DiskIsIf (r.disk_at n v) (cl.disks (seat n v)) (shelf_of w n v)) (ap (λ o. vb_in o v) known ∙ has) (agrees.disks n v))
@@ -178,7 +182,7 @@ module _ (commits : CommitsSound) (n v : ℕ) (x : Waiting) (more : List Waiting
   agrees1 = written w r cl n v node s.vb agrees known has change s.vb.last_cas active refl room fits named (without x.seq s.vb.waiting) sound.0 w1 changed shelf_is (omega arith)
 
   lawful1 : LawfulChange r n v member.br change
-  lawful1 = is_lawful w r cl n v node s.vb agrees known has change s.vb.last_cas active refl room fits named (without x.seq s.vb.waiting) sound.0 backed
+  lawful1 = is_lawful w r cl n v node s.vb agrees known has change s.vb.last_cas active refl room fits named (without x.seq s.vb.waiting) sound.0 next_one backed
 
   newest_is : newest_branch s.vb.log ≡ member.br
   newest_is = newest w r cl n v node s.vb agrees known has change s.vb.last_cas active refl room fits named (without x.seq s.vb.waiting) sound.0

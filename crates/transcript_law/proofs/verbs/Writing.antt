@@ -1,6 +1,6 @@
 -- lines that send a request
 use Rattle.std.specs.Prelude.{◌≡◌, ◌+◌, ◌<◌, ◌≤◌, ◌∷◌, ◌++◌, ◌⊎◌, ◌^◌, if◌then◌else◌}
-use Rattle.{branch_model.specs.Journals.{place_of}, cluster_model.specs.Clusters.{Fulfils, spanned}, durability.specs.declared.waiting.Waiting.{Waiting}, vb_calls.specs.Shelves.{Shelf}, vbucket.specs.Laws.{CasUpTo, OpensOwn}, vb_calls.specs.{Durable.{is_delete, prepare_change}, Following.{cas_of}}, vb_types.specs.declared.change.Level.{Level}, transcript_law.proofs.invariant.Bounded.{weighs_push}, transcript_law.specs.Chronicles.{CountsKnown}, transcript_law.specs.Lawfulness.{IsHeldIfCommitted}}
+use Rattle.{branch_model.specs.Journals.{place_of}, cluster_model.specs.Clusters.{Fulfils, spanned}, durability.specs.declared.waiting.Waiting.{Waiting}, vb_calls.specs.Shelves.{Shelf}, vbucket.specs.Laws.{CasUpTo, OpensOwn}, vb_calls.specs.{Durable.{is_delete, prepare_change}, Following.{cas_of}}, vb_types.specs.declared.change.Level.{Level}, transcript_law.proofs.invariant.Bounded.{weighs_push}, transcript_law.specs.Chronicles.{CountsKnown}, transcript_law.specs.{Lawfulness.{IsHeldIfCommitted}, OwnChanges.{IsNextChange}}}
 use Rattle.transcript_law.proofs.{invariant.Agreement.{DiskIsIf, shelf_of}, disks.Disks.{ShelfIs, disk_same, grown_spots, parts_of, same_parts, shelf_spanned}, invariant.OneLink.{disk_here, disk_there}}
 use Rattle.transcript_law.proofs.Words.{ℕ, Bool, true, false, List, [], refl, ap, sym, ◌∙◌, subst, inl, inr, ⊎_elim, arith, Option, Some, None}
 use Rattle.transcript_law.proofs.Words.{nat_lt, All, cases_lt, nat_tests, All-push, WriteFits, Change, Doc, MAX_SEQ, LogEntry, Picture, image_of, Role, Status, Write, Position, upto, Rises, last_seq, fork_of, HasLast}
@@ -154,13 +154,13 @@ module _ (w : PlainWorld) (r : Chronicle) (cl : Cluster) (n v : ℕ) (node : Pla
     told_below_it : ForksBelow member.br change.seq r.tree
     told_below_it = told_below cl.tree r.tree member.br change.seq a.are_told below
 
-    pub is_lawful : IsHeldIfCommitted (r.counts_at n v) (r.disk_at n v).saved (image_of member.held) change → LawfulChange r n v member.br change
-    is_lawful backed = record {
+    pub is_lawful : IsNextChange member.held change → IsHeldIfCommitted (r.counts_at n v) (r.disk_at n v).saved (image_of member.held) change → LawfulChange r n v member.br change
+    is_lawful next_one backed = record {
       active = if_known (r.role_at n v) (Some Role.Active) (mine.role ∙ ap (λ (x : Role). Some (Some x)) (is_active_role vb.role active));
       writer = record { made_or_took = writer.writer; on_branch = writer.branch };
       above_branch = (let most : last_seq 0 (hist r.tree member.br) ≤ vb.position.at = last_seq_le 0 vb.position.at 0 (hist r.tree member.br) (omega arith) branch_rises in omega arith);
-      above_held = subst (λ h. last_seq 0 h < change.seq) (sym mine.held) (let e = mine.high in omega arith);
       above_forks = told_below_it;
+      made = subst (λ h. IsNextChange h change) (sym mine.held) next_one;
       fulfils = subst (λ h. Fulfils (image_of h) change) (sym mine.held) named;
       backed = subst (λ h. IsHeldIfCommitted (r.counts_at n v) (r.disk_at n v).saved (image_of h) change) (sym mine.held) backed;
     }

@@ -1,0 +1,142 @@
+-- changes that a vBucket makes of its own, judged by hand
+use Rattle.std.specs.Prelude.{◌≡◌, ◌+◌, ◌^◌, ◌<◌, ◌∷◌, if◌then◌else◌}
+use Rattle.std.specs.FinMap.{get, get-empty, remove}
+use Rattle.transcript_law.proofs.Words.{ℕ, Bool, true, false, List, [], refl, ap, sym, ◌∙◌, inl, ⊎_elim, arith, Option, Some, None, option_map, Act, Change, Doc, Pend, first_doc, image_of, is_older, key_cmp, nothing, one_change, LawfulFrom}
+use Rattle.transcript_law.proofs.rows.NextRows.{above_two, keys_differ, nine_none, resolving_next, seven, seven_pending, seven_there, write_next}
+use Rattle.transcript_law.specs.{ChangeRows.{greatest, greatest_known, own_change, own_lines, removed_known, set_known, stamped, waiting_known}, Commits.{prepare_of}, OwnChanges.{IsCasAbove, IsNextChange, given_rev, is_removal, resolved_seq, rev_behind}}
+use Rattle.vb_calls.specs.Following.{cas_of}
+use Rattle.vb_types.proofs.Laws.{get-insert_other, get-insert_same, get-remove_same}
+use Rattle.vb_types.specs.Histories.{IsIn}
+use Rattle.vb_types.specs.declared.change.Act.TheVariants.{Abort, Commit, Remove, Set}
+use Rattle.vb_types.specs.declared.change.Level.TheVariants.{Majority}
+
+-- an act that commits nothing
+abbrev NoCommit : Act → Type 0
+NoCommit a = (prepared : ℕ) (doc : Doc) (deleted : Bool) → a ≡ Commit prepared doc deleted → ⊥
+
+-- what the vBucket that set the key 7 may make next
+pub after_set : (a : Act) (key : ℕ) → NoCommit a → IsNextChange (one_change ∷ []) (own_change 2 key a) → LawfulFrom set_known (own_lines 2 key a)
+after_set a key none made = (
+  record {
+    active = refl;
+    writer = record { made_or_took = refl; on_branch = refl };
+    above_branch = omega arith;
+    above_forks = (λ e. omega arith, tt);
+    made = made;
+    fulfils = λ prepared doc deleted e. absurd (none prepared doc deleted e);
+    backed = λ prepared doc deleted e. absurd (none prepared doc deleted e);
+  },
+  tt,
+)
+
+-- as if with the greatest numbers
+abbrev pub full : Doc
+full = stamped greatest greatest
+
+pub after_greatest : (a : Act) (key : ℕ) → NoCommit a → IsNextChange (seven full ∷ []) (own_change 2 key a) → LawfulFrom greatest_known (own_lines 2 key a)
+after_greatest a key none made = (
+  record {
+    active = refl;
+    writer = record { made_or_took = refl; on_branch = refl };
+    above_branch = omega arith;
+    above_forks = (λ e. omega arith, tt);
+    made = made;
+    fulfils = λ prepared doc deleted e. absurd (none prepared doc deleted e);
+    backed = λ prepared doc deleted e. absurd (none prepared doc deleted e);
+  },
+  tt,
+)
+
+pub greatest_next : (key : ℕ) (rev : ℕ) (there : Option Doc) → get (image_of (seven full ∷ [])).docs (key ∷ []) ≡ there → rev ≡ rev_behind there → IsNextChange (seven full ∷ []) (own_change 2 key (Set (stamped greatest rev)))
+greatest_next key rev there found behind = write_next (seven full ∷ []) (own_change 2 key (Set (stamped greatest rev))) there refl (seven_pending full (key ∷ [])) found refl
+    (λ n e. let same : greatest ≡ n = cc in (omega (arith, same), inl (sym same))) (λ n e. (let same : rev ≡ n = cc in sym same ∙ behind)) (λ e. cc)
+
+-- what the one whose prepare waits may make next
+pub after_waiting : (a : Act) (key : ℕ) → NoCommit a → IsNextChange (prepare_of Majority ∷ []) (own_change 2 key a) → LawfulFrom waiting_known (own_lines 2 key a)
+after_waiting a key none made = (
+  record {
+    active = refl;
+    writer = record { made_or_took = refl; on_branch = refl };
+    above_branch = omega arith;
+    above_forks = (λ e. omega arith, tt);
+    made = made;
+    fulfils = λ prepared doc deleted e. absurd (none prepared doc deleted e);
+    backed = λ prepared doc deleted e. absurd (none prepared doc deleted e);
+  },
+  tt,
+)
+
+abbrev waits : Pend
+waits = record { seq = 1; level = Majority; doc = first_doc 1 (6 ∷ []); deleted = false }
+
+pub waits_there : get (image_of (prepare_of Majority ∷ [])).pending (9 ∷ []) ≡ Some waits
+waits_there = get-insert_same nothing.pending (9 ∷ []) waits
+
+pub none_beside : get (image_of (prepare_of Majority ∷ [])).pending (7 ∷ []) ≡ None
+none_beside = get-insert_other nothing.pending (9 ∷ []) waits (7 ∷ []) (keys_differ 9 7 (λ e. omega arith)) ∙ get-empty key_cmp (7 ∷ [])
+
+pub aborted : LawfulFrom waiting_known (own_lines 2 9 (Abort 1))
+aborted = after_waiting (Abort 1) 9 (λ prepared doc deleted e. cc) (resolving_next (prepare_of Majority ∷ []) (own_change 2 9 (Abort 1)) waits refl waits_there refl refl refl refl)
+
+-- the prepare waits, so no change of its key does other than resolve it
+pub must_resolve : (a : Act) → LawfulFrom waiting_known (own_lines 2 9 a) → resolved_seq a ≡ Some 1
+must_resolve a l = l.0.made.waits ∙ ap (option_map (λ (p : Pend). p.seq)) waits_there
+
+pub resolves_none : (a : Act) → LawfulFrom waiting_known (own_lines 2 7 a) → resolved_seq a ≡ None
+resolves_none a l = l.0.made.waits ∙ ap (option_map (λ (p : Pend). p.seq)) none_beside
+
+pub resolves_nothing : (a : Act) (key : ℕ) → LawfulFrom set_known (own_lines 2 key a) → resolved_seq a ≡ None
+resolves_nothing a key l = l.0.made.waits ∙ ap (option_map (λ (p : Pend). p.seq)) (seven_pending (first_doc 1 (8 ∷ [])) (key ∷ []))
+
+-- a CAS that is lawful is above that of each change that is held, unless it is the greatest one
+pub is_above : (held : List Change) (c : Change) (n : ℕ) → IsIn c held → IsCasAbove held n → n + 1 < 2 ^ 64 → cas_of c.act < n
+is_above held c n i above low = ⊎_elim (λ e. omega arith) (λ f. f c i) above.1
+
+-- and a revision
+pub rev_of_seven : (a : Act) (n : ℕ) → given_rev a ≡ Some n → LawfulFrom set_known (own_lines 2 7 a) → n ≡ 2
+rev_of_seven a n is l = l.0.made.rev n is ∙ ap rev_behind (seven_there (first_doc 1 (8 ∷ [])))
+
+pub rev_of_nine : (a : Act) (n : ℕ) → given_rev a ≡ Some n → LawfulFrom set_known (own_lines 2 9 a) → n ≡ 1
+rev_of_nine a n is l = l.0.made.rev n is ∙ ap rev_behind (nine_none (first_doc 1 (8 ∷ [])))
+
+pub rev_of_greatest : (a : Act) (n : ℕ) → given_rev a ≡ Some n → LawfulFrom greatest_known (own_lines 2 7 a) → n ≡ greatest
+rev_of_greatest a n is l = l.0.made.rev n is ∙ ap rev_behind (seven_there full)
+
+-- a removal of the key 9 takes nothing
+pub takes_none : (a : Act) → is_removal a ≡ true → LawfulFrom set_known (own_lines 2 9 a) → ⊥
+takes_none a is l = let x = l.0.made.taken is in let e : None ≡ Some x.0 = sym (nine_none (first_doc 1 (8 ∷ []))) ∙ x.1 in cc
+
+-- the key 7 was removed
+
+abbrev pub removed_held : List Change
+removed_held = one_change ∷ own_change 2 7 (Remove 2 2) ∷ []
+
+pub removed_none : get (image_of removed_held).docs (7 ∷ []) ≡ None
+removed_none = get-remove_same (image_of (one_change ∷ [])).docs (7 ∷ [])
+
+pub rev_of_removed : (a : Act) (n : ℕ) → given_rev a ≡ Some n → LawfulFrom removed_known (own_lines 3 7 a) → n ≡ 1
+rev_of_removed a n is l = l.0.made.rev n is ∙ ap rev_behind removed_none
+
+pub takes_again : (a : Act) → is_removal a ≡ true → LawfulFrom removed_known (own_lines 3 7 a) → ⊥
+takes_again a is l = let x = l.0.made.taken is in let e : None ≡ Some x.0 = sym removed_none ∙ x.1 in cc
+
+pub after_removed : LawfulFrom removed_known (own_lines 3 7 (Set (stamped 3 1)))
+after_removed = (
+  record {
+    active = refl;
+    writer = record { made_or_took = refl; on_branch = refl };
+    above_branch = omega arith;
+    above_forks = (λ e. omega arith, tt);
+    made = write_next removed_held (own_change 3 7 (Set (stamped 3 1))) None refl removed_pending removed_none refl
+        (λ n e. let q : 3 ≡ n = cc in above_two one_change (own_change 2 7 (Remove 2 2)) n (omega (arith, q)) (omega (arith, q)) (omega (arith, q))) (λ n e. cc) (λ e. cc);
+    fulfils = λ prepared doc deleted e. cc;
+    backed = λ prepared doc deleted e. cc;
+  },
+  tt,
+)
+  where
+    -- no prepare was there
+    removed_pending : get (image_of removed_held).pending (7 ∷ []) ≡ None
+    removed_pending =
+        let pending = (image_of (one_change ∷ [])).pending in
+        ap (λ o. get (if is_older 2 o then remove pending (7 ∷ []) else pending) (7 ∷ [])) (seven_pending (first_doc 1 (8 ∷ [])) (7 ∷ [])) ∙ seven_pending (first_doc 1 (8 ∷ [])) (7 ∷ [])

@@ -1,0 +1,48 @@
+-- changes that a vBucket makes of its own, to be judged, by what was read before them
+use Rattle.std.specs.Prelude.{ℕ, ◌-◌, ◌^◌, Bool, List, [], ◌∷◌}
+use Rattle.vb_events.specs.declared.event.Event.{Event}
+use Rattle.vb_events.specs.declared.event.Event.TheVariants as event
+use Rattle.vb_types.specs.declared.change.Act.{Act}
+use Rattle.vb_types.specs.declared.change.Act.TheVariants as act
+use Rattle.vb_types.specs.declared.change.Change.{Change}
+use Rattle.vb_types.specs.declared.change.Level.TheVariants as level
+use Rattle.vb_types.specs.declared.doc.Doc.{Doc}
+use Rattle.transcript_law.specs.Chronicles.{Chronicle, after_lines}
+use Rattle.transcript_law.specs.Commits.{prepared_known}
+use Rattle.transcript_law.specs.Rollbacks.{after_active}
+use Rattle.transcript_law.specs.Transcripts.{change_line}
+
+-- a document with this CAS and this revision
+abbrev pub stamped : ℕ → ℕ → Doc
+stamped cas rev = record { value = 6 ∷ []; cas = cas; rev = rev; flags = 0; expiry = 0; datatype = 0 }
+
+-- the vBucket 0 of the node 0 makes this change of a key of one byte on the branch 5
+abbrev pub own_change : ℕ → ℕ → Act → Change
+own_change seq key a = record { seq = seq; key = key ∷ []; act = a }
+
+abbrev pub own_lines : ℕ → ℕ → Act → List Event
+own_lines seq key a = event.Changed 0 0 5 (own_change seq key a) ∷ []
+
+-- what was read when it set the key 7, with the CAS 1 and the revision 1
+abbrev pub set_known : Chronicle
+set_known = after_lines after_active (change_line 0 ∷ [])
+
+-- when it removed that key then, with the CAS 2
+abbrev pub removed_known : Chronicle
+removed_known = after_lines set_known (own_lines 2 7 (act.Remove 2 2))
+
+-- when it prepared the key 9 instead, with the CAS 1 and the seqno 1
+abbrev pub waiting_known : Chronicle
+waiting_known = prepared_known level.Majority
+
+-- the greatest number of 64 bits
+abbrev pub greatest : ℕ
+greatest = 2 ^ 64 - 1
+
+-- and when it set the key 7, as if with these greatest numbers
+abbrev pub greatest_known : Chronicle
+greatest_known = record set_known { held = λ n v. own_change 1 7 (act.Set (stamped greatest greatest)) ∷ [] }
+
+-- a prepare of a set, and of a removal, with this CAS and this revision
+abbrev pub prepares : ℕ → ℕ → Bool → Act
+prepares cas rev deleted = act.Prepare level.Majority (stamped cas rev) deleted

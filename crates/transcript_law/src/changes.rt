@@ -1,0 +1,66 @@
+//! Which changes a vBucket may make of its own next, by what the lines before them tell.
+
+ghost use Rattle.std.specs.Prelude.{true, false, [], ◌∷◌, ◌+◌};
+ghost use Rattle.transcript_law.specs.ChangeRows.{greatest, greatest_known, own_lines, prepares, removed_known, set_known, stamped, waiting_known};
+ghost use Rattle.transcript_law.specs.Lawfulness.{LawfulFrom};
+ghost use Rattle.transcript_law.specs.Transcripts.{first_doc};
+ghost use Rattle.vb_types.specs.declared.change.Act.TheVariants.{Abort, Commit, Remove, Set};
+
+/// A change has the seqno behind the last one that its vBucket holds, and no other. While a prepare
+/// waits at a key, the key gets its commit or its abort, by its seqno, and other keys are written. Not
+/// lawful are a set, a removal or another prepare of that key then, and a commit or an abort that
+/// names another seqno; nor are those of a key at which no prepare waits.
+pub fn judged_next_changes()
+    ensures next { LawfulFrom set_known (own_lines 2 7 (Set (stamped 2 2))) }
+    ensures gap { LawfulFrom set_known (own_lines 3 7 (Set (stamped 2 2))) → ⊥ }
+    ensures beside { LawfulFrom waiting_known (own_lines 2 7 (Set (stamped 2 1))) }
+    ensures set { LawfulFrom waiting_known (own_lines 2 9 (Set (stamped 2 1))) → ⊥ }
+    ensures removed { LawfulFrom waiting_known (own_lines 2 9 (Remove 2 1)) → ⊥ }
+    ensures prepared { LawfulFrom waiting_known (own_lines 2 9 (prepares 2 1 false)) → ⊥ }
+    ensures commits { LawfulFrom waiting_known (own_lines 2 9 (Commit 1 (first_doc 1 (6 ∷ [])) false)) }
+    ensures commits_other { LawfulFrom waiting_known (own_lines 2 9 (Commit 2 (first_doc 1 (6 ∷ [])) false)) → ⊥ }
+    ensures commits_none { LawfulFrom waiting_known (own_lines 2 7 (Commit 1 (first_doc 1 (6 ∷ [])) false)) → ⊥ }
+    ensures aborts { LawfulFrom waiting_known (own_lines 2 9 (Abort 1)) }
+    ensures aborts_other { LawfulFrom waiting_known (own_lines 2 9 (Abort 2)) → ⊥ }
+    ensures aborts_none { LawfulFrom waiting_known (own_lines 2 7 (Abort 1)) → ⊥ }
+    ensures aborts_set { LawfulFrom set_known (own_lines 2 7 (Abort 1)) → ⊥ }
+{}
+
+/// A set, a removal and a prepare have a CAS above each that their vBucket holds, of whichever key and
+/// also of a prepare that waits, or the greatest number of 64 bits: not the same one, nor a lower one,
+/// and none above that number.
+pub fn judged_casses()
+    ensures above { LawfulFrom set_known (own_lines 2 9 (Set (stamped 2 1))) }
+    ensures far_above { LawfulFrom set_known (own_lines 2 9 (Set (stamped 5 1))) }
+    ensures same { LawfulFrom set_known (own_lines 2 7 (Set (stamped 1 2))) → ⊥ }
+    ensures falls { LawfulFrom set_known (own_lines 2 7 (Set (stamped 0 2))) → ⊥ }
+    ensures elsewhere { LawfulFrom set_known (own_lines 2 9 (Set (stamped 1 1))) → ⊥ }
+    ensures waiting { LawfulFrom waiting_known (own_lines 2 7 (Set (stamped 1 1))) → ⊥ }
+    ensures removal { LawfulFrom set_known (own_lines 2 7 (Remove 1 2)) → ⊥ }
+    ensures prepare { LawfulFrom set_known (own_lines 2 7 (prepares 1 2 false)) → ⊥ }
+    ensures removed { LawfulFrom removed_known (own_lines 3 7 (Set (stamped 2 1))) → ⊥ }
+    ensures greatest { LawfulFrom greatest_known (own_lines 2 9 (Set (stamped greatest 1))) }
+    ensures too_great { LawfulFrom greatest_known (own_lines 2 9 (Set (stamped (greatest + 1) 1))) → ⊥ }
+    ensures below_greatest { LawfulFrom greatest_known (own_lines 2 9 (Set (stamped 2 1))) → ⊥ }
+{}
+
+/// They have the revision behind that of the key's document, the first one where there is none, and none
+/// above the greatest number of 64 bits; and a removal, or the prepare of one, has a document to take.
+pub fn judged_revisions()
+    ensures prepare { LawfulFrom set_known (own_lines 2 7 (prepares 2 2 false)) }
+    ensures same { LawfulFrom set_known (own_lines 2 7 (Set (stamped 2 1))) → ⊥ }
+    ensures jumps { LawfulFrom set_known (own_lines 2 7 (Set (stamped 2 3))) → ⊥ }
+    ensures removal_jumps { LawfulFrom set_known (own_lines 2 7 (Remove 2 3)) → ⊥ }
+    ensures prepare_jumps { LawfulFrom set_known (own_lines 2 7 (prepares 2 3 false)) → ⊥ }
+    ensures first { LawfulFrom set_known (own_lines 2 9 (prepares 2 1 false)) }
+    ensures other_first { LawfulFrom set_known (own_lines 2 9 (Set (stamped 2 2))) → ⊥ }
+    ensures anew { LawfulFrom removed_known (own_lines 3 7 (Set (stamped 3 1))) }
+    ensures goes_on { LawfulFrom removed_known (own_lines 3 7 (Set (stamped 3 3))) → ⊥ }
+    ensures greatest { LawfulFrom greatest_known (own_lines 2 7 (Set (stamped greatest greatest))) }
+    ensures above_greatest { LawfulFrom greatest_known (own_lines 2 7 (Set (stamped greatest (greatest + 1)))) → ⊥ }
+    ensures removes { LawfulFrom set_known (own_lines 2 7 (Remove 2 2)) }
+    ensures removes_none { LawfulFrom set_known (own_lines 2 9 (Remove 2 1)) → ⊥ }
+    ensures removes_again { LawfulFrom removed_known (own_lines 3 7 (Remove 3 1)) → ⊥ }
+    ensures prepares_removal { LawfulFrom set_known (own_lines 2 7 (prepares 2 2 true)) }
+    ensures prepares_none { LawfulFrom set_known (own_lines 2 9 (prepares 2 1 true)) → ⊥ }
+{}
