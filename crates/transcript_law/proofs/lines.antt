@@ -6,4 +6,6 @@ pub mod Changes
 pub mod ClientLines
 pub mod Heard
 pub mod LinkLines
+pub mod LinkTold
+pub mod DialTold
 pub mod SessionLines

@@ -9,6 +9,8 @@ pub mod DownRows
 pub mod Fitted
 pub mod FollowerRows
 pub mod Followers
+pub mod AskedTests
+pub mod AskedRows
 pub mod Groups
 pub mod JournalRows
 pub mod Rollbacks

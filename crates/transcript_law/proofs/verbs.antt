@@ -35,3 +35,6 @@ pub mod Rows
 pub mod VbRows
 pub mod AdminLines
 pub mod Tellings
+pub mod Asking
+pub mod AskingStarts
+pub mod AskingLines

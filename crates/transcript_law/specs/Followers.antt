@@ -12,7 +12,9 @@ use Rattle.vb_types.specs.declared.change.Change.{Change}
 use Rattle.vb_types.specs.declared.change.Level.TheVariants as level
 use Rattle.vb_types.specs.declared.stream.AskAnswer.{AskAnswer}
 use Rattle.vb_types.specs.declared.stream.AskAnswer.TheVariants as ask_answer
+use Rattle.vb_events.specs.declared.event.Answer.{Answer}
 use Rattle.vb_events.specs.declared.event.Answer.TheVariants as answer
+use Rattle.vb_events.specs.declared.event.Cause.TheVariants as cause
 use Rattle.vb_events.specs.declared.event.Event.{Event}
 use Rattle.vb_events.specs.declared.event.Event.TheVariants as event
 use Rattle.vb_events.specs.declared.event.Group.{Group}
@@ -128,6 +130,11 @@ third_doc = event.Document (11 ∷ []) (first_doc 3 (6 ∷ [])) ∷ []
 abbrev pub both_changed : List Event
 both_changed = event.Changed 0 0 5 one_change ∷ event.Changed 0 0 5 next_change ∷ []
 
+-- the answer of a show by what it tells: one that tells of nothing is refused
+abbrev pub show_answer : List Event → Answer
+show_answer [] = answer.No cause.UnknownVb
+show_answer (line ∷ lines) = answer.Ok
+
 -- what is told of that script, but for replies and counts of bytes: lines of the request, of the log taken over, of snapshots as sent and as got, and of the replica
 abbrev pub followed_groups : List Event → List Event → List Event → List Event → List Event → List Group
 followed_groups asked adopted sent got shown =
@@ -135,21 +142,21 @@ followed_groups asked adopted sent got shown =
     ∷ group_done 4 (active_vb_lines 0 5) ∷ group_done 5 (event.Role 1 0 role.Replica ∷ [])
     ∷ group_done 6 (take 1 both_changed) ∷ group_done 7 (drop 1 both_changed)
     ∷ group_done 8 [] ∷ group_answered 9 asked (answer.Number 100) ∷ group_answered 10 adopted (answer.Number 100)
-    ∷ group_answered 11 sent (answer.Pulled (frames_in_lines sent) why.Idle) ∷ group_answered 12 got (answer.Number 100) ∷ group_done 13 shown ∷ []
+    ∷ group_answered 11 sent (answer.Pulled (frames_in_lines sent) why.Idle) ∷ group_answered 12 got (answer.Number 100) ∷ group_answered 13 shown (show_answer shown) ∷ []
 
--- the request is answered so, and nothing is told of what follows
+-- the request is answered so, nothing is told of what follows, and the show is refused
 abbrev pub ask_groups : List Event → List Group
 ask_groups asked = followed_groups asked [] [] [] []
 
--- the request is granted, these lines come with its answer, and nothing is told of what follows
+-- the request is granted, these lines come with its answer, nothing is told of what follows, and the show is refused
 abbrev pub answered_so : List Event → List Group
 answered_so adopted = followed_groups granted_lines adopted [] [] []
 
--- a log of this branch is taken over, and nothing is told of what follows
+-- a log of this branch is taken over, nothing is told of what follows, and the show is refused
 abbrev pub adopted_so : ℕ → List Group
 adopted_so uuid = answered_so (adopted_lines uuid)
 
--- snapshots are sent so, and nothing is told of what follows
+-- snapshots are sent so, nothing is told of what follows, and the show is refused
 abbrev pub sent_so : List Event → List Group
 sent_so sent = followed_groups granted_lines (adopted_lines 5) sent [] []
 

@@ -38,6 +38,7 @@ use Rattle.script_text.specs.declared.verb.ScriptLine.{ScriptLine}
 use Rattle.transcript_law.specs.Firings.{FiresInLine}
 use Rattle.transcript_law.specs.Standing.{TellsIfBegun}
 use Rattle.transcript_law.specs.Tellings.{TellsOf}
+use Rattle.transcript_law.specs.Asked.{TellsAsAsked}
 use Rattle.transcript_law.specs.Bound.{IsAnswered}
 use Rattle.transcript_law.specs.Clients.{Heard}
 use Rattle.durability.specs.Laws.{HasOne}
@@ -417,13 +418,13 @@ abbrev pub LinesFrom : Chronicle → Conns → List Event → Type 0
 LinesFrom chronicle conns [] = Unit {0}
 LinesFrom chronicle conns (line ∷ behind) = Heard conns line behind (LawfulLine chronicle line behind) × LinesFrom (after_line chronicle line) (conns_line conns line) behind
 
--- the groups of the lines of a script that come next, one for each, with its number: its lines, its answer, and what both say of arms that fired and of vBuckets that went back; one that was refused where it stood tells of nothing; and none tells of anything else than its line may
+-- the groups of the lines of a script that come next, one for each, with its number: its lines, its answer, and what both say of arms that fired and of vBuckets that went back; one that was refused where it stood tells of nothing; none tells of anything else than its line may; and each tells what its line asked for
 abbrev pub LawfulGroups : Chronicle → List ScriptLine → List Group → Type 0
 LawfulGroups chronicle [] [] = Unit {0}
 LawfulGroups chronicle (line ∷ lines) [] = ⊥
 LawfulGroups chronicle [] (group ∷ groups) = ⊥
 LawfulGroups chronicle (line ∷ lines) (group ∷ groups) =
-    (LinesFrom (ahead chronicle line.verb group.answer) chronicle.conn_at group.events × IsAnswered chronicle line.verb group.events group.answer × FiresInLine chronicle line.verb group.events group.answer × (group.line ≡ line.line) × TellsIfBegun group.events group.answer × TellsOf line.verb group.events)
+    (LinesFrom (ahead chronicle line.verb group.answer) chronicle.conn_at group.events × IsAnswered chronicle line.verb group.events group.answer × FiresInLine chronicle line.verb group.events group.answer × (group.line ≡ line.line) × TellsIfBegun group.events group.answer × TellsOf line.verb group.events × TellsAsAsked chronicle line.verb group.events group.answer)
     × LawfulGroups (after_group chronicle line.verb group.events group.answer) lines groups
 
 -- a whole transcript of a script

@@ -30,5 +30,7 @@ pub mod Effects
 pub mod RefusalRows
 pub mod Tellings
 pub mod TellingRows
+pub mod Asked
+pub mod AskedRows
 pub mod FeedingRows
 pub mod Balance

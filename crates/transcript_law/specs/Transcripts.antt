@@ -115,30 +115,36 @@ abbrev pub two_vbs_groups : ℕ → List Group → List Group
 two_vbs_groups uuid more =
     group_done 1 [] ∷ group_done 2 [] ∷ group_done 3 (active_vb_lines 0 5) ∷ group_done 4 (active_vb_lines 1 uuid) ∷ more
 
--- the key 7 is set at the vBucket 0, which is then shown
+-- the key 7 is set at the vBucket 0
+abbrev pub set_one : List ScriptLine
+set_one = set_line 5 (7 ∷ []) (8 ∷ []) ∷ []
+
+-- the line of the set tells these changes
+abbrev pub sets_groups : List Event → List Group
+sets_groups changes = group_done 5 changes ∷ []
+
+-- the key 7 is set there, and the vBucket is shown; or it turns dead before that
 abbrev pub set_and_show : List ScriptLine
 set_and_show = set_line 5 (7 ∷ []) (8 ∷ []) ∷ script_line 6 (verb.AtVb 0 0 vb_verb.Show) ∷ []
 
--- the line of the set tells these changes, and nothing is told of the show
-abbrev pub sets_groups : List Event → List Group
-sets_groups changes = group_done 5 changes ∷ group_done 6 [] ∷ []
+abbrev pub set_dead_and_show : List ScriptLine
+set_dead_and_show = set_line 5 (7 ∷ []) (8 ∷ []) ∷ script_line 6 (verb.AtVb 0 0 vb_verb.Dead) ∷ script_line 7 (verb.AtVb 0 0 vb_verb.Show) ∷ []
 
 -- what was read when both vBuckets are on the branch 5, as a replica and its active are
 abbrev pub both_on_one : Chronicle
 both_on_one = record (after_lines empty_chronicle (active_vb_lines 0 5 ++ active_vb_lines 1 6)) { branch_at = λ n v. Some 5 }
 
--- the active vBucket 0 gets this role, if it is another one
-abbrev pub turned_lines : Role → List Event
-turned_lines role.Active = []
-turned_lines other = event.Role 0 0 other ∷ []
-
 -- after its change the vBucket 0 is dead, and is shown with this newest branch
 abbrev pub shown_after_change : ℕ → List Group
-shown_after_change uuid = group_done 5 (change_line 0 ∷ []) ∷ group_done 6 (turned_lines role.Dead ++ shown_with_change role.Dead uuid 1 0 (value_lines (8 ∷ []))) ∷ []
+shown_after_change uuid = group_done 5 (change_line 0 ∷ []) ∷ group_done 6 (event.Role 0 0 role.Dead ∷ []) ∷ group_done 7 (shown_with_change role.Dead uuid 1 0 (value_lines (8 ∷ []))) ∷ []
 
--- with no change the vBucket 0 gets this role, and is shown in it with this newest branch
-abbrev pub shown_unchanged : Role → ℕ → List Group
-shown_unchanged said uuid = group_done 5 [] ∷ group_done 6 (turned_lines said ++ event.Shown 0 0 said uuid 0 0 0 0 0 ∷ []) ∷ []
+-- with no change it is dead, and is shown with this newest branch
+abbrev pub shown_dead : ℕ → List Group
+shown_dead uuid = group_done 5 [] ∷ group_done 6 (event.Role 0 0 role.Dead ∷ []) ∷ group_done 7 (event.Shown 0 0 role.Dead uuid 0 0 0 0 0 ∷ []) ∷ []
+
+-- with no change it is shown as the active one that it is, with this newest branch
+abbrev pub shown_active : ℕ → List Group
+shown_active uuid = group_done 5 [] ∷ group_done 6 (event.Shown 0 0 role.Active uuid 0 0 0 0 0 ∷ []) ∷ []
 
 -- what was read when the vBucket 1 is put on the branch 7, which was made from the branch 5 at this seqno
 abbrev pub forked_at : ℕ → Chronicle

@@ -9,7 +9,7 @@ ghost use Rattle.transcript_law.specs.Lawfulness.{Lawful, LawfulFrom, LawfulGrou
 ghost use Rattle.transcript_law.specs.Prefixes.{AreFollowed, FollowsBranch, PointsAreBranch};
 ghost use Rattle.transcript_law.specs.Rollbacks.{sent_back, rolled_lines, stream_end_lines, rest_lines, log_lines, made_log, empty_shown, empty_uuid, after_active, after_dead, forgotten};
 ghost use Rattle.transcript_law.specs.LineAnswers.{LawfulAnswer};
-ghost use Rattle.transcript_law.specs.Transcripts.{one_change, one_set, one_set_groups, change_line, shown_with_change, value_lines, two_vbs, two_vbs_groups, set_and_show, sets_groups, both_on_one, forked_at, shown_after_change, shown_unchanged};
+ghost use Rattle.transcript_law.specs.Transcripts.{one_change, one_set, one_set_groups, change_line, shown_with_change, value_lines, two_vbs, two_vbs_groups, set_and_show, set_dead_and_show, set_one, sets_groups, both_on_one, forked_at, shown_after_change, shown_active, shown_dead};
 ghost use Rattle.vb_types.specs.declared.change.Level.TheVariants as level;
 ghost use Rattle.script_text.specs.declared.verb.Verb.TheVariants as verb;
 ghost use Rattle.script_text.specs.declared.verb.VbVerb.TheVariants as vb_verb;
@@ -31,7 +31,7 @@ pub fn judged_transcripts()
     ensures more { Lawful one_set (one_set_groups 2 0 (value_lines (8 ∷ []))) → ⊥ }
     ensures prepares { Lawful one_set (one_set_groups 1 1 (value_lines (8 ∷ []))) → ⊥ }
     ensures branch { Lawful (two_vbs 5 []) (two_vbs_groups 5 []) → ⊥ }
-    ensures seqno { Lawful (two_vbs 6 set_and_show) (two_vbs_groups 6 (sets_groups (change_line 0 ∷ change_line 0 ∷ []))) → ⊥ }
+    ensures seqno { Lawful (two_vbs 6 set_one) (two_vbs_groups 6 (sets_groups (change_line 0 ∷ change_line 0 ∷ []))) → ⊥ }
 {}
 
 /// Of two vBuckets that are each made on a branch of its own, the one that made a branch changes it,
@@ -44,8 +44,8 @@ pub fn judged_transcripts()
 /// parent there, or where the snapshot starts that the vBucket is inside; not from another branch, or
 /// from none, nor elsewhere, nor further up.
 pub fn judged_branches()
-    ensures own { Lawful (two_vbs 6 set_and_show) (two_vbs_groups 6 (sets_groups (change_line 0 ∷ []))) }
-    ensures writer { Lawful (two_vbs 6 set_and_show) (two_vbs_groups 6 (sets_groups (change_line 1 ∷ []))) → ⊥ }
+    ensures own { Lawful (two_vbs 6 set_one) (two_vbs_groups 6 (sets_groups (change_line 0 ∷ []))) }
+    ensures writer { Lawful (two_vbs 6 set_one) (two_vbs_groups 6 (sets_groups (change_line 1 ∷ []))) → ⊥ }
     ensures maker { LawfulLine both_on_one (change_line 0) [] }
     ensures follower { LawfulLine both_on_one (change_line 1) [] → ⊥ }
     ensures above { LawfulLine (forked_at 0) (change_line 0) [] }
@@ -53,11 +53,11 @@ pub fn judged_branches()
     ensures later { LawfulLine later_held (change_line 0) [] → ⊥ }
     ensures on_new { LawfulFrom (made_from 5) (next_made 7) }
     ensures left { LawfulFrom (made_from 5) (next_made 5) → ⊥ }
-    ensures same { Lawful (two_vbs 6 set_and_show) (two_vbs_groups 6 (shown_after_change 5)) }
-    ensures history { Lawful (two_vbs 6 set_and_show) (two_vbs_groups 6 (shown_after_change 6)) → ⊥ }
-    ensures dead { Lawful (two_vbs 6 set_and_show) (two_vbs_groups 6 (shown_unchanged role.Dead 5)) }
-    ensures dead_other { Lawful (two_vbs 6 set_and_show) (two_vbs_groups 6 (shown_unchanged role.Dead 6)) → ⊥ }
-    ensures active { Lawful (two_vbs 6 set_and_show) (two_vbs_groups 6 (shown_unchanged role.Active 6)) → ⊥ }
+    ensures same { Lawful (two_vbs 6 set_dead_and_show) (two_vbs_groups 6 (shown_after_change 5)) }
+    ensures history { Lawful (two_vbs 6 set_dead_and_show) (two_vbs_groups 6 (shown_after_change 6)) → ⊥ }
+    ensures dead { Lawful (two_vbs 6 set_dead_and_show) (two_vbs_groups 6 (shown_dead 5)) }
+    ensures dead_other { Lawful (two_vbs 6 set_dead_and_show) (two_vbs_groups 6 (shown_dead 6)) → ⊥ }
+    ensures active { Lawful (two_vbs 6 set_and_show) (two_vbs_groups 6 (shown_active 6)) → ⊥ }
     ensures log_shown { LawfulFrom (logged_six after_dead) (empty_uuid role.Dead 6) }
     ensures log_history { LawfulFrom (logged_six after_dead_changed) (shown_with_change role.Dead 6 1 0 (value_lines (8 ∷ []))) → ⊥ }
     ensures log_active { LawfulFrom (logged_six after_active) (empty_uuid role.Active 6) → ⊥ }

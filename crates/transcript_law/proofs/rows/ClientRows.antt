@@ -11,7 +11,7 @@ abbrev read : Chronicle
 read = known_after empty_chronicle (numbered 1 (Verb.Node 0 ∷ opens 1 ∷ [])) (groups_from_number 1 (ok [] ∷ ok [] ∷ []))
 
 -- a transcript is lawful that is so from there on
-from_opened : (more : List Verb) (told : List Said) → in_order (numbered 3 more) (groups_from_number 3 told) ≡ true → AreParts read (numbered 3 more) (groups_from_number 3 told) → LawfulOpened more told
+from_opened : (more : List Verb) (told : List Said) → in_order read (numbered 3 more) (groups_from_number 3 told) ≡ true → AreParts read (numbered 3 more) (groups_from_number 3 told) → LawfulOpened more told
 from_opened more told o l = whole empty_chronicle (numbered 1 (Verb.Node 0 ∷ opens 1 ∷ more)) (groups_from_number 1 (ok [] ∷ ok [] ∷ told)) o ((tt, tt, refl), ((tt, refl, refl), l))
 
 -- it is one thing or the other

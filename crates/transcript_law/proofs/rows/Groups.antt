@@ -2,6 +2,7 @@
 use Rattle.std.specs.Prelude.{◌≡◌, ◌∷◌, ◌==◌, ◌&&◌}
 use Rattle.transcript_law.proofs.Words.{Bool, true, false, List, [], refl, sym, subst, and_parts, eqb-true, Answer, Cause, Event, ScriptLine, Chronicle, IsAnswered, LawfulGroups, Group}
 use Rattle.transcript_law.specs.{Chronicles.{after_group, ahead}, Firings.{FiresInLine}, Lawfulness.{LinesFrom}, Standing.{IsStanding, TellsIfBegun}, Tellings.{are_all, may_tell as may_tell_of}}
+use Rattle.transcript_law.proofs.rows.AskedTests.{asked_so, is_asked_so}
 use Rattle.vb_events.specs.declared.event.Answer.TheVariants as answer
 use Rattle.vb_events.specs.declared.event.Cause.TheVariants as cause
 
@@ -28,7 +29,7 @@ AreFired chronicle [] (group ∷ groups) = ⊥
 AreFired chronicle (line ∷ lines) (group ∷ groups) =
     FiresInLine chronicle line.verb group.events group.answer × AreFired (after_group chronicle line.verb group.events group.answer) lines groups
 
--- whether each has its line's number, tells of nothing where it was refused before its line was begun, and of nothing else than its line may
+-- whether each has its line's number, tells of nothing where it was refused before its line was begun, of nothing else than its line may, and what its line asked for
 abbrev pub may_tell : List Event → Cause → Bool
 may_tell [] why = true
 may_tell (line ∷ lines) cause.IdsShort = true
@@ -41,11 +42,13 @@ abbrev pub is_answered_so : List Event → Answer → Bool
 is_answered_so lines (answer.No why) = may_tell lines why
 is_answered_so lines other = true
 
-abbrev pub in_order : List ScriptLine → List Group → Bool
-in_order [] [] = true
-in_order (line ∷ lines) [] = false
-in_order [] (group ∷ groups) = false
-in_order (line ∷ lines) (group ∷ groups) = group.line == line.line && (is_answered_so group.events group.answer && (are_all (may_tell_of line.verb) group.events && in_order lines groups))
+abbrev pub in_order : Chronicle → List ScriptLine → List Group → Bool
+in_order chronicle [] [] = true
+in_order chronicle (line ∷ lines) [] = false
+in_order chronicle [] (group ∷ groups) = false
+in_order chronicle (line ∷ lines) (group ∷ groups) =
+    group.line == line.line
+    && (is_answered_so group.events group.answer && (are_all (may_tell_of line.verb) group.events && (is_asked_so chronicle line.verb group.events group.answer && in_order (after_group chronicle line.verb group.events group.answer) lines groups)))
 
 tells_so : (lines : List Event) (said : Answer) → is_answered_so lines said ≡ true → TellsIfBegun lines said
 tells_so lines (answer.No c) e why said standing = let same : c ≡ why = cc in by lines c e (subst IsStanding (sym same) standing)
@@ -69,17 +72,19 @@ AreParts chronicle (line ∷ lines) (group ∷ groups) =
     × AreParts (after_group chronicle line.verb group.events group.answer) lines groups
 
 -- and all of it
-pub whole : (chronicle : Chronicle) (script : List ScriptLine) (told : List Group) → in_order script told ≡ true → AreParts chronicle script told → LawfulGroups chronicle script told
+pub whole : (chronicle : Chronicle) (script : List ScriptLine) (told : List Group) → in_order chronicle script told ≡ true → AreParts chronicle script told → LawfulGroups chronicle script told
 whole chronicle [] [] o p = tt
 whole chronicle (line ∷ lines) [] o p = absurd p
 whole chronicle [] (group ∷ groups) o p = absurd p
 whole chronicle (line ∷ lines) (group ∷ groups) o p =
-    let one = and_parts (group.line == line.line) (is_answered_so group.events group.answer && (are_all (may_tell_of line.verb) group.events && in_order lines groups)) o in
-    let two = and_parts (is_answered_so group.events group.answer) (are_all (may_tell_of line.verb) group.events && in_order lines groups) one.1 in
-    let three = and_parts (are_all (may_tell_of line.verb) group.events) (in_order lines groups) two.1 in
-    ((p.0.0, p.0.1, p.0.2, eqb-true group.line line.line one.0, tells_so group.events group.answer two.0, three.0), whole (after_group chronicle line.verb group.events group.answer) lines groups three.1 p.1)
+    let next : Chronicle = after_group chronicle line.verb group.events group.answer in
+    let one = and_parts (group.line == line.line) _ o in
+    let two = and_parts (is_answered_so group.events group.answer) _ one.1 in
+    let three = and_parts (are_all (may_tell_of line.verb) group.events) _ two.1 in
+    let four = and_parts (is_asked_so chronicle line.verb group.events group.answer) (in_order next lines groups) three.1 in
+    ((p.0.0, p.0.1, p.0.2, eqb-true group.line line.line one.0, tells_so group.events group.answer two.0, three.0, asked_so chronicle line.verb group.events group.answer four.0), whole next lines groups four.1 p.1)
 
-pub both : (chronicle : Chronicle) (script : List ScriptLine) (told : List Group) → in_order script told ≡ true → AreTold chronicle script told → AreAnswered chronicle script told → AreFired chronicle script told → LawfulGroups chronicle script told
+pub both : (chronicle : Chronicle) (script : List ScriptLine) (told : List Group) → in_order chronicle script told ≡ true → AreTold chronicle script told → AreAnswered chronicle script told → AreFired chronicle script told → LawfulGroups chronicle script told
 both chronicle script told o t a f = whole chronicle script told o (parts chronicle script told t a f)
   where
     parts : (chronicle : Chronicle) (script : List ScriptLine) (told : List Group) → AreTold chronicle script told → AreAnswered chronicle script told → AreFired chronicle script told → AreParts chronicle script told

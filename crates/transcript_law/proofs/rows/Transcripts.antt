@@ -3,7 +3,7 @@ use Rattle.std.specs.Prelude.{◌≡◌, ◌∷◌, ◌++◌, if◌then◌else�
 use Rattle.transcript_law.proofs.Words.{ℕ, false, None, List, [], length, map, refl, ap, sym, ◌∙◌, arith, Option, Some, nat_list_cmp_total, key_cmp, Change, Pend, Doc, Event}
 use Rattle.transcript_law.proofs.Words.{Picture, image_of, is_older, document_line, prepare_line, image_lines, empty_chronicle, after_lines, LawfulChange, LawfulLine, LawfulFrom, Lawful, active_vb_lines}
 use Rattle.transcript_law.proofs.Words.{first_doc, one_change, change_line, value_lines, one_set, both_on_one, forked_at, Role, one_set_groups, two_vbs, two_vbs_groups, set_and_show, sets_groups}
-use Rattle.transcript_law.proofs.Words.{shown_after_change, shown_unchanged, last_seq, Chronicle, IsIfKnown, shown_lines, LawfulShow, LawfulShown, SharesWith, ShownLine, nothing, subst}
+use Rattle.transcript_law.proofs.Words.{set_dead_and_show, set_one, shown_active, shown_after_change, shown_dead, last_seq, Chronicle, IsIfKnown, shown_lines, LawfulShow, LawfulShown, SharesWith, ShownLine, nothing, subst}
 use Rattle.transcript_law.proofs.Words.{after_active, after_dead, due_image, inside_dead, option_map}
 use Rattle.transcript_law.specs.Lawfulness.{newest_shown}
 use Rattle.transcript_law.specs.{Contrary.{after_dead_changed, branch_inside, branch_left, logged_six}, Rollbacks.{empty_uuid}, Transcripts.{shown_with_change}}
@@ -87,7 +87,7 @@ prepares l = let e = (shown_is 1 1 (value_lines (8 ∷ [])) l).2 in omega arith
 pub branch : Lawful (two_vbs 5 []) (two_vbs_groups 5 []) → ⊥
 branch l = l.1.1.1.0.0.0.new.0 refl
 
-pub seqno : Lawful (two_vbs 6 set_and_show) (two_vbs_groups 6 (sets_groups (change_line 0 ∷ change_line 0 ∷ []))) → ⊥
+pub seqno : Lawful (two_vbs 6 set_one) (two_vbs_groups 6 (sets_groups (change_line 0 ∷ change_line 0 ∷ []))) → ⊥
 seqno l = let e = l.1.1.1.1.0.0.1.0.above_branch in omega arith
 
 second_new : (d : ℕ → ℕ → DiskKnown) (a : ℕ → ArmKnown) (k : Conns) → (a 0).down ≡ false → LawfulFrom (record (after_lines empty_chronicle (active_vb_lines 0 5)) { disk_at = d; arm_at = a; conn_at = k }) (active_vb_lines 1 6)
@@ -105,10 +105,10 @@ two_writers e =
     let vb : ◌≡◌ {A = ℕ} 0 1 = ap (λ (p : ℕ × ℕ). p.1) pair in
     omega arith
 
-pub own : Lawful (two_vbs 6 set_and_show) (two_vbs_groups 6 (sets_groups (change_line 0 ∷ [])))
-own = both empty_chronicle (two_vbs 6 set_and_show) (two_vbs_groups 6 (sets_groups (change_line 0 ∷ []))) refl (tt, (tt, ((record { new = tt; newest = refl; last = refl; leaves = refl }, (record { another = λ e. cc; anew = λ e. refl }, tt)), (second_new _ _ _ refl, ((change_of_two _ _ _, tt), (tt, tt)))))) (tt, (refl, ((refl, tt), ((refl, tt), (refl, (tt, tt)))))) (refl, (refl, (refl, (refl, (refl, (refl, tt))))))
+pub own : Lawful (two_vbs 6 set_one) (two_vbs_groups 6 (sets_groups (change_line 0 ∷ [])))
+own = both empty_chronicle (two_vbs 6 set_one) (two_vbs_groups 6 (sets_groups (change_line 0 ∷ []))) refl (tt, (tt, ((record { new = tt; newest = refl; last = refl; leaves = refl }, (record { another = λ e. cc; anew = λ e. refl }, tt)), (second_new _ _ _ refl, ((change_of_two _ _ _, tt), tt))))) (tt, (refl, ((refl, tt), ((refl, tt), (refl, tt))))) (refl, (refl, (refl, (refl, (refl, tt)))))
 
-pub writer : Lawful (two_vbs 6 set_and_show) (two_vbs_groups 6 (sets_groups (change_line 1 ∷ []))) → ⊥
+pub writer : Lawful (two_vbs 6 set_one) (two_vbs_groups 6 (sets_groups (change_line 1 ∷ []))) → ⊥
 writer l = two_writers l.1.1.1.1.0.0.0.writer.made_or_took
 
 pub maker : LawfulLine both_on_one (change_line 0) []
@@ -123,21 +123,21 @@ above_fork = record { active = refl; writer = record { made_or_took = refl; on_b
 pub at_fork : LawfulLine (forked_at 1) (change_line 0) [] → ⊥
 at_fork l = let low = l.above_forks.0 refl in omega arith
 
-pub same : Lawful (two_vbs 6 set_and_show) (two_vbs_groups 6 (shown_after_change 5))
-same = both empty_chronicle (two_vbs 6 set_and_show) (two_vbs_groups 6 (shown_after_change 5)) refl
-    (tt, (tt, ((record { new = tt; newest = refl; last = refl; leaves = refl }, (record { another = λ e. cc; anew = λ e. refl }, tt)), (second_new _ _ _ refl, ((change_of_two _ _ _, tt), ((record { another = λ e. cc; anew = λ e. cc }, (shown _ _ _ refl refl refl refl image refl refl as_set (λ _. refl) (λ e. cc), (tt, tt))), tt))))))
-    (tt, (refl, ((refl, tt), ((refl, tt), (refl, (tt, tt)))))) (refl, (refl, (refl, (refl, (refl, (refl, tt))))))
+pub same : Lawful (two_vbs 6 set_dead_and_show) (two_vbs_groups 6 (shown_after_change 5))
+same = both empty_chronicle (two_vbs 6 set_dead_and_show) (two_vbs_groups 6 (shown_after_change 5)) refl
+    (tt, (tt, ((record { new = tt; newest = refl; last = refl; leaves = refl }, (record { another = λ e. cc; anew = λ e. refl }, tt)), (second_new _ _ _ refl, ((change_of_two _ _ _, tt), ((record { another = λ e. cc; anew = λ e. cc }, tt), ((shown _ _ _ refl refl refl refl image refl refl as_set (λ _. refl) (λ e. cc), (tt, tt)), tt)))))))
+    (tt, (refl, ((refl, tt), ((refl, tt), (refl, ((refl, tt), (tt, tt))))))) (refl, (refl, (refl, (refl, (refl, (refl, (refl, tt)))))))
 
-pub history : Lawful (two_vbs 6 set_and_show) (two_vbs_groups 6 (shown_after_change 6)) → ⊥
-history l = let e : ◌≡◌ {A = List Change} [] (one_change ∷ []) = (l.1.1.1.1.1.0.0.1.0.complete refl).shared (λ z. omega arith) in cc
+pub history : Lawful (two_vbs 6 set_dead_and_show) (two_vbs_groups 6 (shown_after_change 6)) → ⊥
+history l = let e : ◌≡◌ {A = List Change} [] (one_change ∷ []) = (l.1.1.1.1.1.1.0.0.0.complete refl).shared (λ z. omega arith) in cc
 
-pub dead : Lawful (two_vbs 6 set_and_show) (two_vbs_groups 6 (shown_unchanged Role.Dead 5))
-dead = both empty_chronicle (two_vbs 6 set_and_show) (two_vbs_groups 6 (shown_unchanged Role.Dead 5)) refl
-    (tt, (tt, ((record { new = tt; newest = refl; last = refl; leaves = refl }, (record { another = λ e. cc; anew = λ e. refl }, tt)), (second_new _ _ _ refl, (tt, ((record { another = λ e. cc; anew = λ e. cc }, (shown _ _ _ refl refl refl refl nothing refl refl as_made (λ _. refl) (λ e. cc), tt)), tt))))))
-    (tt, (refl, ((refl, tt), ((refl, tt), (refl, (tt, tt)))))) (refl, (refl, (refl, (refl, (refl, (refl, tt))))))
+pub dead : Lawful (two_vbs 6 set_dead_and_show) (two_vbs_groups 6 (shown_dead 5))
+dead = both empty_chronicle (two_vbs 6 set_dead_and_show) (two_vbs_groups 6 (shown_dead 5)) refl
+    (tt, (tt, ((record { new = tt; newest = refl; last = refl; leaves = refl }, (record { another = λ e. cc; anew = λ e. refl }, tt)), (second_new _ _ _ refl, (tt, ((record { another = λ e. cc; anew = λ e. cc }, tt), ((shown _ _ _ refl refl refl refl nothing refl refl as_made (λ _. refl) (λ e. cc), tt), tt)))))))
+    (tt, (refl, ((refl, tt), ((refl, tt), (refl, ((refl, tt), (tt, tt))))))) (refl, (refl, (refl, (refl, (refl, (refl, (refl, tt)))))))
 
-pub dead_other : Lawful (two_vbs 6 set_and_show) (two_vbs_groups 6 (shown_unchanged Role.Dead 6)) → ⊥
-dead_other l = let e : ◌≡◌ {A = ℕ} 5 6 = l.1.1.1.1.1.0.0.1.0.newest in omega arith
+pub dead_other : Lawful (two_vbs 6 set_dead_and_show) (two_vbs_groups 6 (shown_dead 6)) → ⊥
+dead_other l = let e : ◌≡◌ {A = ℕ} 5 6 = l.1.1.1.1.1.1.0.0.0.newest in omega arith
 
 -- as their logs name it
 pub log_shown : LawfulFrom (logged_six after_dead) (empty_uuid Role.Dead 6)
@@ -174,5 +174,5 @@ leaves_inside = (record { new = (λ e. omega arith, tt); newest = refl; last = r
 pub not_inside : LawfulFrom inside_dead (branch_inside 1) → ⊥
 not_inside l = let e : ◌≡◌ {A = ℕ} 0 1 = l.0.leaves in omega arith
 
-pub active : Lawful (two_vbs 6 set_and_show) (two_vbs_groups 6 (shown_unchanged Role.Active 6)) → ⊥
+pub active : Lawful (two_vbs 6 set_and_show) (two_vbs_groups 6 (shown_active 6)) → ⊥
 active l = let e : ◌≡◌ {A = Option ℕ} (Some 5) (Some 6) = (l.1.1.1.1.1.0.0.0.complete refl).active refl in cc

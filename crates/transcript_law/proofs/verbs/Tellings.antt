@@ -27,7 +27,7 @@ use Rattle.vb_types.specs.declared.journal.FlushPart.TheVariants as part
 
 -- ---- lists of lines
 
-same_place : (n v : ℕ) → (n == n && v == v) ≡ true
+pub same_place : (n v : ℕ) → (n == n && v == v) ≡ true
 same_place n v = λ i. eq-eqb n n refl i && eq-eqb v v refl i
 
 -- all lines pass a test
@@ -35,22 +35,22 @@ module _ (q : Event → Bool) where
   abbrev pub Are : List Event → Type 0
   Are lines = are_all q lines ≡ true
 
-  are_cons : (line : Event) (lines : List Event) → q line ≡ true → Are lines → Are (line ∷ lines)
+  pub are_cons : (line : Event) (lines : List Event) → q line ≡ true → Are lines → Are (line ∷ lines)
   are_cons line lines a b = λ i. a i && b i
 
-  are_more : (xs ys : List Event) → Are xs → Are ys → Are (xs ++ ys)
+  pub are_more : (xs ys : List Event) → Are xs → Are ys → Are (xs ++ ys)
   are_more [] ys a b = b
   are_more (x ∷ xs) ys a b = let p = and_parts (q x) (are_all q xs) a in are_cons x (xs ++ ys) p.0 (are_more xs ys p.1 b)
 
-  are_map : {A : Type 0} (f : A → Event) (xs : List A) → ((x : A) → q (f x) ≡ true) → Are (map f xs)
+  pub are_map : {A : Type 0} (f : A → Event) (xs : List A) → ((x : A) → q (f x) ≡ true) → Are (map f xs)
   are_map f [] each = refl
   are_map f (x ∷ xs) each = are_cons (f x) (map f xs) (each x) (are_map f xs each)
 
-  are_each : {A : Type 0} (f : A → List Event) (xs : List A) → ((x : A) → Are (f x)) → Are (flat_map f xs)
+  pub are_each : {A : Type 0} (f : A → List Event) (xs : List A) → ((x : A) → Are (f x)) → Are (flat_map f xs)
   are_each f [] each = refl
   are_each f (x ∷ xs) each = are_more (f x) (flat_map f xs) (each x) (are_each f xs each)
 
-  are_clients : ((line : Event) → IsOfClients line → q line ≡ true) → (lines : List Event) → AreOfClients lines → Are lines
+  pub are_clients : ((line : Event) → IsOfClients line → q line ≡ true) → (lines : List Event) → AreOfClients lines → Are lines
   are_clients each [] c = refl
   are_clients each (line ∷ lines) c = are_cons line lines (each line c.0) (are_clients each lines c.1)
 
@@ -63,7 +63,7 @@ module _ (q : Event → Bool) where
   are_node w n f each = on_node_by (λ o. Are o.1.events) w n f refl (λ node known. refl) (λ node known up. each node)
 
   -- lines of changes
-  are_own : (n v : ℕ) → ((uuid : ℕ) (reply : VbReply) → Are (map (Event.Changed n v uuid) reply.changes)) → (o : Option VbReply) → Are (own_lines_if n v o)
+  pub are_own : (n v : ℕ) → ((uuid : ℕ) (reply : VbReply) → Are (map (Event.Changed n v uuid) reply.changes)) → (o : Option VbReply) → Are (own_lines_if n v o)
   are_own n v each None = refl
   are_own n v each (Some reply) = each reply.branch reply
 
@@ -74,7 +74,7 @@ module _ (q : Event → Bool) where
     pub ends : (l : ℕ) (why : EndReason) → q (Event.Ended l why) ≡ true
     pub closes : (c : ℕ) → q (Event.Closed n c) ≡ true
 
-  are_down : (n : ℕ) (also : Option ℕ) (w : PlainWorld) → ((l : ℕ) → q (Event.Ended l EndReason.Cut) ≡ true) → ((c : ℕ) → q (Event.Closed n c) ≡ true) → Are (down_lines n also w)
+  pub are_down : (n : ℕ) (also : Option ℕ) (w : PlainWorld) → ((l : ℕ) → q (Event.Ended l EndReason.Cut) ≡ true) → ((c : ℕ) → q (Event.Closed n c) ≡ true) → Are (down_lines n also w)
   are_down n also w ends closes = are_more (end_lines n also w.links) (closed_lines n (w.nodes n))
       (are_each (end_line n also w.links) all_numbers (λ l. either Are (is_this_number l also || is_touched n (row_at link_number l w.links)) (Event.Ended l EndReason.Cut ∷ []) [] (are_cons (Event.Ended l EndReason.Cut) [] (ends l) refl) refl))
       (are_each (closed_line n (w.nodes n)) all_numbers (λ c. either Are (has_client c (w.nodes n)) (Event.Closed n c ∷ []) [] (are_cons (Event.Closed n c) [] (closes c) refl) refl))
@@ -90,13 +90,13 @@ module _ (q : Event → Bool) where
 
   -- what is posted to clients
   module _ (clients : (line : Event) → IsOfClients line → q line ≡ true) where
-    are_posts : (rs : List Resolved) (node : PlainNode) → Are (all_posted rs node).1
+    pub are_posts : (rs : List Resolved) (node : PlainNode) → Are (all_posted rs node).1
     are_posts rs node = are_clients clients (all_posted rs node).1 (posts_of_clients rs node)
 
-    are_posted : (told : FlushResult) (node : PlainNode) → Are told.events → Are (with_posts told node).1.events
+    pub are_posted : (told : FlushResult) (node : PlainNode) → Are told.events → Are (with_posts told node).1.events
     are_posted told node a = are_more told.events (all_posted told.resolved node).1 a (are_posts told.resolved node)
 
-    changes : (n v uuid : ℕ) (reply : VbReply) → Are (map (Event.Changed n v uuid) reply.changes)
+    pub changes : (n v uuid : ℕ) (reply : VbReply) → Are (map (Event.Changed n v uuid) reply.changes)
     changes n v uuid reply = are_map (Event.Changed n v uuid) reply.changes (λ c. clients (Event.Changed n v uuid c) tt)
 
     are_settled : (n v : ℕ) (o : Option VbReply) → Are (settled_result n v o).events
@@ -180,7 +180,7 @@ all_pass (line ∷ lines) = all_pass lines
 abbrev Steps : (Flushed → Type 0) → Job Flushed → Type 0
 Steps P job = AlwaysJob AnyReply AnyCall AnyAsk P job
 
-flush_steps : (P : FlushResult → Type 0) (Q : Flushed → Type 0) (n v : ℕ) (p : FlushPart) (node : PlainNode) → P (flush_answered (Answer.No Cause.UnknownVb)) → ((came : Flushed) → Q came → P (flush_result n v came))
+pub flush_steps : (P : FlushResult → Type 0) (Q : Flushed → Type 0) (n v : ℕ) (p : FlushPart) (node : PlainNode) → P (flush_answered (Answer.No Cause.UnknownVb)) → ((came : Flushed) → Q came → P (flush_result n v came))
     → ((flush : Flush) → Steps Q (part_job v p flush)) → P (after_job (flush_at n v p) node.vbs node.shelves).1
 unfolding flush_job
 flush_steps P Q n v p node none some steps = after_job_always AnyCall AnyAsk P (flush_at n v p) node.vbs node.shelves (tt, λ reply any. by (is_some reply))
@@ -223,12 +223,12 @@ save_steps v (Out batch) = (tt, by)
 save_steps v (Written seq) = tt
 
 -- a `done` comes to a batch that stands, or to none
-abbrev EndsSo : Flushed → Type 0
+abbrev pub EndsSo : Flushed → Type 0
 EndsSo (flushed.Done reply) = Unit {0}
 EndsSo flushed.NothingTaken = Unit {0}
 EndsSo other = ⊥
 
-done_steps : (v : ℕ) (flush : Flush) → Steps EndsSo (part_job v part.Done flush)
+pub done_steps : (v : ℕ) (flush : Flush) → Steps EndsSo (part_job v part.Done flush)
 done_steps v Idle = tt
 done_steps v (Out batch) = tt
 done_steps v (Written seq) = (tt, λ kept. (tt, λ reply any. tt))
