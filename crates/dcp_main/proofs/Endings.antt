@@ -6,9 +6,9 @@ use Rattle.dcp_io.proofs.Counted.{raised_monotone}
 use Rattle.dcp_main.specs.declared.input.TheConstants.{MAX_SCRIPT}
 use Rattle.dcp_main.specs.declared.status.Status.{Status}
 use Rattle.dcp_main.specs.declared.status.Status.TheVariants as status
-use Rattle.dcp_main.specs.Exits.{exit_code, TellsRun, TellsUsage, WritesFront}
+use Rattle.dcp_main.specs.Exits.{exit_code, TellsMade, TellsRun, TellsUsage, WritesFront}
 use Rattle.dcp_main.specs.Reads.{Read, ReadSome}
-use Rattle.dcp_main.specs.Runs.{Ran, Complete, Broken, UsageTold}
+use Rattle.dcp_main.specs.Runs.{Ran, Complete, Broken, GenRan, UsageTold}
 
 -- where the script was not read, nothing was written
 pub unread : (old new : Intake) (before : Outlet) (stop : Status) → Read old new (Err stop) → Ran old new before before stop
@@ -72,6 +72,13 @@ tells_run old new before after status.WriteFault ran = inr (inr (inr (inl (refl,
 tells_run old new before after status.NoMemory ran = inr (inr (inr (inr (inl (refl, some_read old new before after ran.1, ran.0, some_written old new before after ran.1)))))
 tells_run old new before after status.InputTooLong ran = inr (inr (inr (inr (inr (refl, ran.0.faults, ran.1, (ran.0.bytes, ran.0.drew.left, ran.0.above))))))
 tells_run old new before after status.Usage ran = absurd ran
+
+pub tells_made : (seed count : ℕ) (old new : Intake) (before after : Outlet) (answer : Status)
+    → GenRan seed count old new before after answer → TellsMade (exit_code answer) seed count old new before after
+tells_made seed count old new before after status.Ok ran = inl (refl, ran.0, ran.1)
+tells_made seed count old new before after status.WriteFault ran = inr (inl (refl, ran.0, ran.1.0, ran.1.1))
+tells_made seed count old new before after status.NoMemory ran = inr (inr (refl, ran.0, ran.1.0, ran.1.1))
+tells_made seed count old new before after other ran = absurd ran.1
 
 pub tells_usage : (old new : Intake) (before after : Outlet) (answer : Status) → UsageTold old new before after answer → TellsUsage (exit_code answer) old new before after
 tells_usage old new before after status.Usage told = inl (refl, told.0, told.1.0, told.1.1)

@@ -1,4 +1,9 @@
 pub mod Endings
 pub mod Groups
+pub mod Keeping
 pub mod Letters
+pub mod Made
+pub mod Newlines
+pub mod Showing
+pub mod TellLines
 pub mod Wanting

@@ -4,10 +4,12 @@ use Rattle.std.specs.Io.KnownBytes.{Appends, Consumes, IsAtEnd}
 use Rattle.dcp_io.specs.Counts.{Rose}
 use Rattle.dcp_io.specs.Moves.{Intake, Outlet, WrotePart}
 use Rattle.node_world.specs.World.{groups}
+use Rattle.script_gen.specs.Scripts.{gen_script}
 use Rattle.script_text.specs.Scripts.{FirstBad, IsScript}
 use Rattle.script_text.specs.Transcript.{print_of}
 use Rattle.script_text.specs.declared.verb.ScriptLine.{ScriptLine}
-use Rattle.dcp_main.specs.Runs.{Completed, BadLineTold}
+use Rattle.dcp_main.specs.Runs.{Completed, BadLineTold, Made}
+use Rattle.dcp_main.specs.Summaries.{summary_text}
 use Rattle.dcp_main.specs.declared.status.Status.{Status}
 use Rattle.dcp_main.specs.declared.status.Status.TheVariants as status
 
@@ -41,10 +43,18 @@ TellsRun number old new before after =
     ⊎ ((number ≡ 11) × (new.faults ≡ old.faults) × (after ≡ before)
     × ((bytes : List ℕ) × Consumes old.left new.left bytes × (268435456 < length bytes)))))))
 
--- What the number tells of words that are not the word `run`: 2 that the usage line was written; 5 that the output failed, and 6 that
+-- What the number tells of a script that was made and run: 0 that exactly the lines on it were written, and that its transcript is lawful; 5 that the
+-- output failed, and 6 that memory was short, after a front part of them. Nothing was read.
+abbrev pub TellsMade : ℕ → ℕ → ℕ → Intake → Intake → Outlet → Outlet → Type 0
+TellsMade number seed count old new before after =
+    ((number ≡ 0) × (new ≡ old) × Made seed count before after)
+    ⊎ (((number ≡ 5) × (new ≡ old) × WrotePart before.held after.held (summary_text (gen_script seed count)) × Rose before.faults after.faults)
+    ⊎ ((number ≡ 6) × (new ≡ old) × WrotePart before.held after.held (summary_text (gen_script seed count)) × (after.faults ≡ before.faults)))
+
+-- What the number tells of words that the program has not: 2 that the usage line was written; 5 that the output failed, and 6 that
 -- memory was short, after a front part of the line. Nothing was read.
 abbrev pub TellsUsage : ℕ → Intake → Intake → Outlet → Outlet → Type 0
 TellsUsage number old new before after =
-    ((number ≡ 2) × (new ≡ old) × Appends before.held after.held (codes "usage: dcp_main run\n") × (after.faults ≡ before.faults))
-    ⊎ (((number ≡ 5) × (new ≡ old) × WrotePart before.held after.held (codes "usage: dcp_main run\n") × Rose before.faults after.faults)
-    ⊎ ((number ≡ 6) × (new ≡ old) × WrotePart before.held after.held (codes "usage: dcp_main run\n") × (after.faults ≡ before.faults)))
+    ((number ≡ 2) × (new ≡ old) × Appends before.held after.held (codes "usage: dcp_main run | gen SEED COUNT\n") × (after.faults ≡ before.faults))
+    ⊎ (((number ≡ 5) × (new ≡ old) × WrotePart before.held after.held (codes "usage: dcp_main run | gen SEED COUNT\n") × Rose before.faults after.faults)
+    ⊎ ((number ≡ 6) × (new ≡ old) × WrotePart before.held after.held (codes "usage: dcp_main run | gen SEED COUNT\n") × (after.faults ≡ before.faults)))

@@ -3,3 +3,6 @@ pub mod Reads
 pub mod Words
 pub mod Writes
 pub mod Runs
+pub mod Summaries
+pub mod Sums
+pub mod Showing

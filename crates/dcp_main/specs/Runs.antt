@@ -4,6 +4,7 @@ use Rattle.std.specs.Io.KnownBytes.{Consumes}
 use Rattle.dcp_io.specs.Counts.{raised, Rose}
 use Rattle.dcp_io.specs.Moves.{Intake, Outlet, WrotePart}
 use Rattle.node_world.specs.World.{groups}
+use Rattle.script_gen.specs.Scripts.{gen_script}
 use Rattle.transcript_law.specs.Lawfulness.{Lawful}
 use Rattle.transcript_law.specs.Prefixes.{AreFollowed, known_of, world_of}
 use Rattle.script_text.specs.Scripts.{IsScript, FirstBad}
@@ -13,6 +14,7 @@ use Rattle.dcp_main.specs.declared.input.TheConstants.{MAX_SCRIPT}
 use Rattle.dcp_main.specs.declared.status.Status.{Status}
 use Rattle.dcp_main.specs.declared.status.Status.TheVariants as status
 use Rattle.dcp_main.specs.Reads.{ReadAll, ReadFailed, ReadMore, ReadSome}
+use Rattle.dcp_main.specs.Summaries.{summary_text}
 use Rattle.dcp_main.specs.Writes.{WroteAll, Stopped}
 
 -- the message on a script whose first bad line has this number
@@ -70,9 +72,30 @@ Complete old new before after answer =
     → ((bytes : List ℕ) (line : ℕ) → Consumes old.left new.left bytes → ¬ FirstBad bytes line)
     → (answer ≡ status.Ok) ⊎ (answer ≡ status.NoMemory)
 
+-- the script of this seed and so many writes was run, and its lines were told: how many it has, how many its transcript has, which is lawful, and how
+-- its last two groups show both vBuckets; what the script leaves is what its groups tell, and each vBucket follows its branch
+pub record Made (seed count : ℕ) (before after : Outlet) : Type 0 where
+  pub lawful : Lawful (gen_script seed count) (groups (gen_script seed count))
+  pub followed : AreFollowed (known_of (gen_script seed count)) (world_of (gen_script seed count))
+  pub wrote : WroteAll before after (summary_text (gen_script seed count))
+
+-- what became of the lines on a script that was made, by the status that is answered
+abbrev pub GenTold : ℕ → ℕ → Outlet → Outlet → Status → Type 0
+GenTold seed count before after status.Ok = Made seed count before after
+GenTold seed count before after status.WriteFault = Stopped before after (summary_text (gen_script seed count)) status.WriteFault
+GenTold seed count before after status.NoMemory = Stopped before after (summary_text (gen_script seed count)) status.NoMemory
+GenTold seed count before after status.Usage = ⊥
+GenTold seed count before after status.BadScript = ⊥
+GenTold seed count before after status.ReadFault = ⊥
+GenTold seed count before after status.InputTooLong = ⊥
+
+-- and nothing was read
+abbrev pub GenRan : ℕ → ℕ → Intake → Intake → Outlet → Outlet → Status → Type 0
+GenRan seed count old new before after answer = (new ≡ old) × GenTold seed count before after answer
+
 -- the usage line
 abbrev pub usage_text : List ℕ
-usage_text = codes "usage: dcp_main run\n"
+usage_text = codes "usage: dcp_main run | gen SEED COUNT\n"
 
 -- the words are none that the program has: nothing was read, and the usage line was written, or a front part of it
 abbrev pub UsageTold : Intake → Intake → Outlet → Outlet → Status → Type 0

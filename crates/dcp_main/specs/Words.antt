@@ -1,10 +1,12 @@
 -- the words of the command line
-use Rattle.std.specs.Prelude.{◌≡◌, ◌≢◌, ℕ, List, [], ◌∷◌, Bool, false, codes, Result, Ok, Err, Vec, String}
+use Rattle.std.specs.Prelude.{◌≡◌, ◌≢◌, ℕ, ◌&&◌, if◌then◌else◌, nat_le, List, [], ◌∷◌, Bool, false, codes, Option, Some, None, Result, Ok, Err, Vec, String}
 use Rattle.std.specs.Str.{bytes_eq}
 use Rattle.std.specs.Global.{Global}
 use Rattle.std.specs.IoError.{error_kind}
 use Rattle.std.specs.declared.io.Error.{Error}
 use Rattle.std.specs.declared.io.ErrorKind.TheVariants as kind
+use Rattle.script_text.specs.Numbers.{number_of}
+use Rattle.dcp_main.specs.declared.words.TheConstants.{MAX_COUNT}
 use Rattle.dcp_main.specs.declared.status.Status.{Status}
 use Rattle.dcp_main.specs.declared.status.Status.TheVariants as status
 
@@ -13,6 +15,25 @@ abbrev pub says_run : List (List ℕ) → Bool
 says_run [] = false
 says_run (word ∷ []) = bytes_eq word (codes "run")
 says_run (word ∷ next ∷ words) = false
+
+-- how many writes a number asks for, if there may be so many
+abbrev pub if_count : Option ℕ → Option ℕ
+if_count None = None
+if_count (Some n) = if nat_le 1 n && nat_le n MAX_COUNT then Some n else None
+
+-- a seed and a count, where both are there
+abbrev pub both_said : Option ℕ → Option ℕ → Option (ℕ × ℕ)
+both_said None count = None
+both_said (Some seed) None = None
+both_said (Some seed) (Some count) = Some (seed, count)
+
+-- the words are `gen` with a seed and a count behind it: the script of these is to be run
+abbrev pub gen_words : List (List ℕ) → Option (ℕ × ℕ)
+gen_words [] = None
+gen_words (word ∷ []) = None
+gen_words (word ∷ seed ∷ []) = None
+gen_words (word ∷ seed ∷ count ∷ []) = if bytes_eq word (codes "gen") then both_said (number_of seed) (if_count (number_of count)) else None
+gen_words (word ∷ seed ∷ count ∷ next ∷ words) = None
 
 -- the words to go by, or how the process ends
 abbrev pub Answered : Type 0

@@ -1,9 +1,11 @@
 //! What the process's number means.
-ghost use Rattle.std.specs.Prelude.{◌≡◌, ◌≢◌, ◌↔◌, ◌++◌, ℕ, List, [], ◌∷◌, decimal, true, Err};
+ghost use Rattle.std.specs.Prelude.{◌≡◌, ◌≢◌, ◌↔◌, ◌++◌, ◌<◌, ◌≤◌, ◌+◌, length, ℕ, List, [], ◌∷◌, decimal, true, Some, None, Err};
 ghost use Rattle.std.specs.IoError.{error_kind};
 ghost use Rattle.std.specs.declared.io.Error.{Error as Fault};
 ghost use Rattle.std.specs.declared.io.ErrorKind.TheVariants as kind;
-ghost use Rattle.{dcp_io.specs.Moves.{Intake, Outlet}, dcp_main.specs.Exits.{exit_code, TellsRun, TellsUsage}, dcp_main.specs.Runs.{Ran, UsageTold, bad_text}, dcp_main.specs.Words.{AcceptedWords, Answered, says_run}};
+ghost use Rattle.{dcp_io.specs.Moves.{Intake, Outlet}, dcp_main.specs.Exits.{exit_code, TellsMade, TellsRun, TellsUsage}, dcp_main.specs.Runs.{GenRan, Ran, UsageTold, bad_text}, dcp_main.specs.Words.{AcceptedWords, Answered, gen_words, says_run}};
+ghost use Rattle.{node_world.specs.World.{PlainWorld}, script_text.specs.Transcript.{group_text, print_of}, vb_events.specs.declared.event.Group.{Group}};
+ghost use Rattle.dcp_main.specs.{Showing.{FewTold, ShowsIfThere, ThreeTold}, Summaries.{newlines}, Sums.{transcript_lines}};
 ghost use Rattle.dcp_main.specs.declared.status.Status.{Status};
 ghost use Rattle.dcp_main.specs.declared.status.Status.TheVariants as status;
 
@@ -15,13 +17,20 @@ pub fn exits_in_numbers()
     ensures distinct { (one other : Status) → exit_code one ≡ exit_code other → one ≡ other }
     ensures run { (old new : Intake) (before after : Outlet) (answer : Status)
         → Ran old new before after answer → TellsRun (exit_code answer) old new before after }
+    ensures made { (seed count : ℕ) (old new : Intake) (before after : Outlet) (answer : Status)
+        → GenRan seed count old new before after answer → TellsMade (exit_code answer) seed count old new before after }
     ensures usage { (old new : Intake) (before after : Outlet) (answer : Status)
         → UsageTold old new before after answer → TellsUsage (exit_code answer) old new before after }
 {}
 
-/// The words ask for a run exactly where they are one word of the letters `run`: no other word does, nor none, nor more.
+/// The words ask for a run exactly where they are one word of the letters `run`: no other word does, nor none, nor more. They ask
+/// for a script that is made exactly where they are three: the letters `gen`, the decimal of a number of 64 bits, and the
+/// decimal of one from 1 to 100,000, both with no sign and no needless zero. No words ask for both.
 pub fn words_in_letters()
     ensures run { (words : List (List ℕ)) → (says_run words ≡ true) ↔ (words ≡ (114 ∷ 117 ∷ 110 ∷ []) ∷ []) }
+    ensures made { (words : List (List ℕ)) (seed count : ℕ) → (gen_words words ≡ Some (seed, count))
+        ↔ ((words ≡ (103 ∷ 101 ∷ 110 ∷ []) ∷ decimal seed ∷ decimal count ∷ []) × (seed < 18446744073709551616) × (1 ≤ count) × (count ≤ 100000)) }
+    ensures one { (words : List (List ℕ)) → says_run words ≡ true → gen_words words ≡ None }
 {}
 
 /// What is written of a bad line, letter by letter: its words, its number and a newline.
@@ -34,4 +43,24 @@ pub fn bad_lines_in_letters()
 pub fn words_want_memory()
     ensures short { (fault : Fault) (answer : Answered) → error_kind fault ≡ kind.OutOfMemory → AcceptedWords (Err fault) answer → answer ≡ Err status.NoMemory }
     ensures no_text { (fault : Fault) (stop : Status) → error_kind fault ≢ kind.OutOfMemory → AcceptedWords (Err fault) (Err stop) → ⊥ }
+{}
+
+/// A transcript has a line for each script line, for each event and for each answer, whatever they
+/// tell: that many newlines are in its text.
+pub fn transcripts_in_lines()
+    ensures group { (g : Group) → newlines (group_text g) ≡ 2 + length g.events }
+    ensures all { (told : List Group) → newlines (print_of told) ≡ transcript_lines told }
+{}
+
+/// A line that shows a vBucket has one `shown` line, of that vBucket of that node, or it is refused and has
+/// none, whatever the world is.
+pub fn shows_have_one_line()
+    ensures { (w : PlainWorld) (number n v : ℕ) → ShowsIfThere w number n v }
+{}
+
+/// What is told of a script that was made, in letters: of three groups, of fewer, and of two that show
+/// nothing.
+pub fn summaries_in_letters()
+    ensures three { ThreeTold }
+    ensures few { FewTold }
 {}

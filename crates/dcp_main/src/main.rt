@@ -1,10 +1,12 @@
-//! Runs a script over a cluster of nodes, and writes the transcript of all that happened.
+//! Runs a script over a cluster of nodes, and writes the transcript of all that happened, or few lines
+//! on that of a script that is made.
 #![tactic(auto)]
 
 mod input;
 mod laws;
 mod output;
 mod status;
+mod summary;
 mod top;
 mod words;
 

@@ -1,12 +1,13 @@
 //! The top calls.
-ghost use Rattle.std.specs.Prelude.{◌≡◌, ◌+◌, ◌≤◌, IsTrue, false, map, string_bytes};
-ghost use Rattle.{dcp_main.specs.Runs.{Ran, Complete, UsageTold, bad_text}, dcp_main.specs.Words.{says_run}, dcp_main.specs.Writes.{Wrote}};
+ghost use Rattle.std.specs.Prelude.{◌≡◌, ◌+◌, ◌<◌, ◌≤◌, ◌^◌, ℕ, IsTrue, Some, None, false, map, string_bytes};
+ghost use Rattle.{dcp_main.specs.Runs.{Ran, Complete, GenRan, GenTold, UsageTold, bad_text}, dcp_main.specs.Words.{gen_words, says_run}, dcp_main.specs.Writes.{Wrote}};
 ghost use Rattle.dcp_main.specs.declared.input.TheConstants.{MAX_SCRIPT};
 
 use crate::input::read_all;
 use crate::output::{put, run_script};
 use crate::status::Status;
-use crate::words::is_run;
+use crate::summary::summarize;
+use crate::words::{gen_words, is_run};
 use dcp_io::{Sink, Source};
 use script_text::parse;
 use std::alloc::Global;
@@ -57,8 +58,27 @@ pub fn script_main<I: Source, O: Sink>(alloc: Global, input: &mut I, output: &mu
     }
 }
 
-/// Does what the command line asks for: `run` is [`script_main`]. At any other words nothing is
-/// read, and `Usage` says that the usage line was written whole.
+/// Runs the script of a seed and so many writes, and writes four lines: how many lines it has, how many
+/// its transcript has, and how its last two lines show both vBuckets.
+///
+/// What the status says, of a sink that tells its bytes:
+/// - `Ok`: exactly these lines were written, and the transcript, of which they tell, is lawful; each
+///   vBucket that the script leaves follows its branch.
+/// - `WriteFault`: the sink's count of faults rose; `NoMemory`: it did not. At both, what was written
+///   is a front part of these lines, perhaps nothing.
+#[tactic(auto, using(crate::proofs::Made::made_is_lawful, crate::proofs::Made::made_is_followed))]
+pub fn gen_main<O: Sink>(alloc: Global, seed: u64, count: u32, output: &mut O) -> Status
+    ensures { GenTold seed count (O.outlet output.old) (O.outlet output.new) result }
+{
+    let Ok(text) = summarize(alloc, seed, count) else {
+        return Status::NoMemory;
+    };
+    put(output, text.as_bytes()).err().unwrap_or(Status::Ok)
+}
+
+/// Does what the command line asks for: `run` is [`script_main`], and `gen SEED COUNT` is
+/// [`gen_main`], which reads nothing. At any other words nothing is read, and `Usage` says that the
+/// usage line was written whole.
 pub fn dcp_main<I: Source, O: Sink>(
     alloc: Global,
     words: &[String],
@@ -69,14 +89,19 @@ pub fn dcp_main<I: Source, O: Sink>(
         → Ran (I.intake input.old) (I.intake input.new) (O.outlet output.old) (O.outlet output.new) result }
     ensures complete { IsTrue (says_run (map string_bytes words.now))
         → Complete (I.intake input.old) (I.intake input.new) (O.outlet output.old) (O.outlet output.new) result }
-    ensures other { says_run (map string_bytes words.now) ≡ false
+    ensures made { (seed count : ℕ) → gen_words (map string_bytes words.now) ≡ Some (seed, count)
+        → GenRan seed count (I.intake input.old) (I.intake input.new) (O.outlet output.old) (O.outlet output.new) result }
+    ensures other { says_run (map string_bytes words.now) ≡ false → gen_words (map string_bytes words.now) ≡ None
         → UsageTold (I.intake input.old) (I.intake input.new) (O.outlet output.old) (O.outlet output.new) result }
     ensures turns { (I.intake input.new).turns ≤ (I.intake input.old).turns + MAX_SCRIPT + 1 }
 {
     if is_run(words) {
         return script_main(alloc, input, output);
     }
-    put(output, b"usage: dcp_main run\n")
+    if let Some((seed, count)) = gen_words(words) {
+        return gen_main(alloc, seed, count, output);
+    }
+    put(output, b"usage: dcp_main run | gen SEED COUNT\n")
         .err()
         .unwrap_or(Status::Usage)
 }

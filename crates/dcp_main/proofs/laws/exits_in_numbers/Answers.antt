@@ -1,4 +1,4 @@
-use Rattle.dcp_main.proofs.Endings.{codes_differ, tells_run, tells_usage}
+use Rattle.dcp_main.proofs.Endings.{codes_differ, tells_made, tells_run, tells_usage}
 use Rattle.dcp_main.proofs.laws.exits_in_numbers.Goals as goal
 
 pub returns-clause-distinct : goal.returns-clause-distinct
@@ -9,3 +9,6 @@ returns-clause-run c = tells_run
 
 pub returns-clause-usage : goal.returns-clause-usage
 returns-clause-usage c = tells_usage
+
+pub returns-clause-made : goal.returns-clause-made
+returns-clause-made c = tells_made

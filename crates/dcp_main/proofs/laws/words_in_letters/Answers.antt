@@ -1,5 +1,5 @@
-use Rattle.dcp_main.proofs.Letters.{letters_run}
+use Rattle.dcp_main.proofs.Letters.{letters_made, letters_one, letters_run}
 use Rattle.dcp_main.proofs.laws.words_in_letters.Goals as goal
 
 pub returns : goal.returns
-returns c = record { run = letters_run }
+returns c = record { run = letters_run; made = letters_made; one = letters_one }
