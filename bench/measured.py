@@ -16,7 +16,7 @@ RUNS = 3
 LAUNCHER = """
 import os, sys, time
 begun = time.perf_counter()
-child = os.posix_spawn(sys.argv[1], [sys.argv[1], "run"], os.environ)
+child = os.posix_spawn(sys.argv[1], sys.argv[1:], os.environ)
 _, status, usage = os.wait4(child, 0)
 print(time.perf_counter() - begun, usage.ru_maxrss, os.waitstatus_to_exitcode(status), file=sys.stderr)
 """
@@ -43,9 +43,9 @@ def get_frame(key: bytes, opaque: int) -> str:
     return frame(0x00, key, b"", b"", opaque)
 
 
-def run(program: str, path: str) -> tuple[float, int, str]:
+def run(program: str, path: str, words: Iterable[str] = ("run",)) -> tuple[float, int, str]:
     """The seconds, the peak of memory in KiB, and the transcript."""
-    launch = [sys.executable, "-I", "-S", "-c", LAUNCHER, program]
+    launch = [sys.executable, "-I", "-S", "-c", LAUNCHER, program, *words]
     with open(path, "rb") as source, tempfile.TemporaryFile() as sink:
         told = subprocess.run(launch, stdin=source, stdout=sink, stderr=subprocess.PIPE, text=True)
         if told.returncode != 0:

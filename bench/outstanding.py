@@ -12,10 +12,9 @@ each client still awaits its outcome; there are 1,000 at most. In the second one
 import sys
 
 from durable import durable_frame
-from line import told
+from line import CALLGRIND, told
 from measured import PROGRAM
 
-CALLGRIND = "--tool=callgrind --callgrind-out-file=/dev/null"
 HEAD = ["node 0", "node 1", "vb 0 0 active 11", "vb 1 0 replica", "chain 0 0 1"]
 FEED = ["link 1 0 1 0 0 follow", "up 1 1000", "down 1 1000"]
 DOWN, UP = "down 1 1000000000", "up 1 1000000000"
