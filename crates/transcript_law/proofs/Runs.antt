@@ -9,7 +9,7 @@ use Rattle.transcript_law.proofs.Words.{with_branches, verb_step, world_step, gr
 use Rattle.transcript_law.proofs.Words.{consumer_node, option_map}
 use Rattle.transcript_law.proofs.{invariant.Seats.{seat}}
 use Rattle.transcript_law.proofs.invariant.Agreement.{ChangeFits, EntryFits, AgreesAt, top, Agrees}
-use Rattle.transcript_law.proofs.{verbs.FiredLines.{DialsTold}, verbs.NodeRows.{client_row_of, link_row, link_row_of, node_row, node_row_of}, verbs.AskingLines.{line_asked}, verbs.Rows.{AsTold, Row}, verbs.VbRows.{vb_row_of}, invariant.LinkRows.{found_is_link}}
+use Rattle.transcript_law.proofs.{verbs.FiredLines.{DialsTold}, verbs.NodeRows.{client_row_of, link_row, link_row_of, node_row, node_row_of}, verbs.AskingLines.{line_asked}, verbs.Undone.{leaves_none}, verbs.Rows.{AsTold, Row}, verbs.VbRows.{vb_row_of}, invariant.LinkRows.{found_is_link}}
 use Rattle.transcript_law.proofs.invariant.Ranged.{IsRanged, start_ranged}
 use Rattle.transcript_law.proofs.{invariant.ClientWorlds.{ConnsAre, start_conns}, invariant.Clients.{line_heard}, lines.Heard.{lines_heard}}
 use Rattle.cluster_model.specs.Clusters as cluster
@@ -63,7 +63,7 @@ conns_beside w r conns (c, a) = (
     vbs = a.vbs;
     disks = a.disks;
     branches = a.branches;
-    links = λ x i. let l = a.links x i in record { follower = l.follower; follower_is = l.follower_is; follows = l.follows; dial = l.dial; talk = l.talk };
+    links = λ x i. let l = a.links x i in record { follower = l.follower; follower_is = l.follower_is; follows = l.follows; acks = l.acks; dial = l.dial; talk = l.talk };
     differ = a.differ;
     rests = record { powers = a.powers; aways = a.aways; downs = a.downs; ends = a.ends; small = a.small };
   },
@@ -157,6 +157,7 @@ lawful_from w r (line ∷ lines) fits ranged are a =
         λ why said standing. (row.keeps told.rests why said standing).1,
         row.tells,
         line_asked w r line.line line.verb a,
+        leaves_none w line.line line.verb r ranged a,
       ),
       lawful_from (with_branches outcome.1.events outcome.0) (after_group r line.verb outcome.1.events outcome.1.answer) lines (All-tail (λ (x : ScriptLine). VerbFits x.verb) line lines fits)
           (row.ranged fit ranged) heard.1 (group_agrees w r line.line line.verb fit ranged a),

@@ -8,6 +8,8 @@ pub mod Downing
 pub mod Firsts
 pub mod Followed
 pub mod Frames
+pub mod Idling
+pub mod Owing
 pub mod Marking
 pub mod Onward
 pub mod PumpWorlds

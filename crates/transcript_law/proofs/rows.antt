@@ -24,3 +24,4 @@ pub mod EffectRows
 pub mod RefusalRows
 pub mod FeedingRows
 pub mod TellingRows
+pub mod UndoneRows

@@ -38,3 +38,4 @@ pub mod Tellings
 pub mod Asking
 pub mod AskingStarts
 pub mod AskingLines
+pub mod Undone

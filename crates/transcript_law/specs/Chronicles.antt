@@ -58,7 +58,7 @@ broken_by f (Some r) d = record d { late = late_record f r; closed = true }
 -- what becomes of a disk in a crash that leaves this
 abbrev pub crashed_disk : Outcome → DiskKnown → DiskKnown
 crashed_disk out d =
-    let book = found d.book d.late (finds out) in record { flushing = Idle; book = book; late = None; saved = (place_of book).at; there = d.there; closed = false }
+    let book = found d.book d.late (finds out) in record { flushing = Idle; book = book; late = None; saved = (place_of book).at; taken = (place_of book).at; there = d.there; closed = false }
 
 -- the newest branch of a log, or the one before where it is empty
 abbrev pub newest_or : Option ℕ → List LogEntry → Option ℕ

@@ -168,7 +168,7 @@ abbrev pub back_noted : List Record
 back_noted = noted.Roll 0 ∷ noted.Rows (known_batch (within 2 2) made_log) ∷ noted.State role.Replica [] ∷ []
 
 abbrev pub after_noted_back : Chronicle
-after_noted_back = record after_back { disk_at = λ n v. record { flushing = Idle; book = back_noted; late = None; saved = 0; there = true; closed = false } }
+after_noted_back = record after_back { disk_at = λ n v. record { flushing = Idle; book = back_noted; late = None; saved = 0; taken = 0; there = true; closed = false } }
 
 -- its node crashes and starts, and its log is shown
 abbrev pub log_after_crash : List ScriptLine

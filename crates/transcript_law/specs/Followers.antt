@@ -33,13 +33,13 @@ use Rattle.transcript_law.specs.Chronicles.{Chronicle, empty_chronicle, after_li
 use Rattle.transcript_law.specs.LineAnswers.{frames_in_lines}
 use Rattle.transcript_law.specs.Transcripts.{script_line, set_line, set_write, group_answered, group_done, active_vb_lines, first_doc, one_change, change_line}
 
--- two keys are set on the branch 5, and a replica at the node 1 follows over the link 1, and is shown
+-- two keys are set on the branch 5, and a replica at the node 1 follows over the link 1, whose window is small, and is shown
 abbrev pub two_followed : List ScriptLine
 two_followed =
     script_line 1 (verb.Node 0) ∷ script_line 2 (verb.Node 1) ∷ script_line 3 (verb.AtClient 0 1 client_verb.Open)
     ∷ script_line 4 (verb.AtVb 0 0 (vb_verb.MakeActive 5)) ∷ script_line 5 (verb.AtVb 1 0 vb_verb.MakeReplica)
     ∷ set_line 6 (7 ∷ []) (8 ∷ []) ∷ set_line 7 (9 ∷ []) (6 ∷ [])
-    ∷ script_line 8 (verb.Link 1 0 1 0 0) ∷ script_line 9 (verb.AtLink 1 (link_verb.Up 1000)) ∷ script_line 10 (verb.AtLink 1 (link_verb.Down 1000))
+    ∷ script_line 8 (verb.Link 1 0 1 0 1) ∷ script_line 9 (verb.AtLink 1 (link_verb.Up 1000)) ∷ script_line 10 (verb.AtLink 1 (link_verb.Down 1000))
     ∷ script_line 11 (verb.AtLink 1 (link_verb.Pump 9)) ∷ script_line 12 (verb.AtLink 1 (link_verb.Down 1000)) ∷ script_line 13 (verb.AtVb 1 0 vb_verb.Show) ∷ []
 
 -- the key 9 is set to 6 by the second change
@@ -142,7 +142,7 @@ followed_groups asked adopted sent got shown =
     ∷ group_done 4 (active_vb_lines 0 5) ∷ group_done 5 (event.Role 1 0 role.Replica ∷ [])
     ∷ group_done 6 (take 1 both_changed) ∷ group_done 7 (drop 1 both_changed)
     ∷ group_done 8 [] ∷ group_answered 9 asked (answer.Number 100) ∷ group_answered 10 adopted (answer.Number 100)
-    ∷ group_answered 11 sent (answer.Pulled (frames_in_lines sent) why.Idle) ∷ group_answered 12 got (answer.Number 100) ∷ group_answered 13 shown (show_answer shown) ∷ []
+    ∷ group_answered 11 sent (answer.Pulled (frames_in_lines sent) why.Full) ∷ group_answered 12 got (answer.Number 100) ∷ group_answered 13 shown (show_answer shown) ∷ []
 
 -- the request is answered so, nothing is told of what follows, and the show is refused
 abbrev pub ask_groups : List Event → List Group

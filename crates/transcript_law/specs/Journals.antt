@@ -17,9 +17,15 @@ within end at = record { ss = 0; se = end; at = at }
 abbrev pub taken : ℕ → ℕ → Flushing
 taken end at = Taken (known_batch (within end at) [])
 
+-- all up to there was taken: to where the batch on its way ends, or else the last one that stands
+abbrev pub taken_to : Flushing → List Position → ℕ
+taken_to (Taken b) stood = b.position.at
+taken_to other [] = 0
+taken_to other (p ∷ ps) = p.at
+
 -- what was read, where this batch is on its way, these were written down, the last first, and all up to here counts as saved
 abbrev pub with_written : Chronicle → Flushing → List Position → ℕ → Chronicle
-with_written chronicle flushing stood saved = record chronicle { disk_at = λ n v. record { flushing = flushing; book = map (λ p. noted.Rows (known_batch p [])) stood; late = None; saved = saved; there = true; closed = false } }
+with_written chronicle flushing stood saved = record chronicle { disk_at = λ n v. record { flushing = flushing; book = map (λ p. noted.Rows (known_batch p [])) stood; late = None; saved = saved; taken = taken_to flushing stood; there = true; closed = false } }
 
 -- and where none is on its way
 abbrev pub with_stood : Chronicle → List Position → ℕ → Chronicle

@@ -39,6 +39,7 @@ use Rattle.transcript_law.specs.Firings.{FiresInLine}
 use Rattle.transcript_law.specs.Standing.{TellsIfBegun}
 use Rattle.transcript_law.specs.Tellings.{TellsOf}
 use Rattle.transcript_law.specs.Asked.{TellsAsAsked}
+use Rattle.transcript_law.specs.Undone.{LeavesNone}
 use Rattle.transcript_law.specs.Bound.{IsAnswered}
 use Rattle.transcript_law.specs.Clients.{Heard}
 use Rattle.durability.specs.Laws.{HasOne}
@@ -223,21 +224,16 @@ pub record IsFarthest (stood : List Position) (named to : ℕ) : Type 0 where
 abbrev pub LawfulRoll : Chronicle → ℕ → ℕ → ℕ → ℕ → Type 0
 LawfulRoll chronicle n v named to = IsSentBack chronicle n v named × IsFarthest (stood (chronicle.disk_at n v)) named to
 
--- the end of the last batch that stands, or 0
-abbrev pub stood_end : List Position → ℕ
-stood_end [] = 0
-stood_end (p ∷ ps) = p.at
-
--- a batch is taken where none is on its way; it goes on where the last one that stands ended, up to a seqno that the vBucket holds; it ends inside its snapshot, or with it; and it has changes, no more than the
+-- a batch is taken where none is on its way; it goes on where the last one that was taken ended, whether that stands or is gone, up to a seqno that the vBucket holds; it ends inside its snapshot, or with it; and it has changes, no more than the
 -- vBucket holds there
 pub record LawfulBatch (chronicle : Chronicle) (n v : ℕ) (p : Position) (count : ℕ) : Type 0 where
   pub idle : (chronicle.disk_at n v).flushing ≡ Idle
-  pub goes_on : stood_end (stood (chronicle.disk_at n v)) < p.at
+  pub goes_on : (chronicle.disk_at n v).taken < p.at
   pub held : p.at ≤ last_seq 0 (chronicle.held n v)
   pub starts : p.ss ≤ p.at
   pub ends : p.at ≤ p.se
   pub some : 0 < count
-  pub most : count ≤ length (stretch (stood_end (stood (chronicle.disk_at n v))) p.at (chronicle.held n v))
+  pub most : count ≤ length (stretch (chronicle.disk_at n v).taken p.at (chronicle.held n v))
 
 -- a vBucket's numbers: what counts as saved is what the lines tell, and the last seqno is that of the last change that it holds; there is the flusher's cursor, and no span is empty
 pub record LawfulStat (chronicle : Chronicle) (n v windows items cursors saved high : ℕ) : Type 0 where
@@ -418,13 +414,13 @@ abbrev pub LinesFrom : Chronicle → Conns → List Event → Type 0
 LinesFrom chronicle conns [] = Unit {0}
 LinesFrom chronicle conns (line ∷ behind) = Heard conns line behind (LawfulLine chronicle line behind) × LinesFrom (after_line chronicle line) (conns_line conns line) behind
 
--- the groups of the lines of a script that come next, one for each, with its number: its lines, its answer, and what both say of arms that fired and of vBuckets that went back; one that was refused where it stood tells of nothing; none tells of anything else than its line may; and each tells what its line asked for
+-- the groups of the lines of a script that come next, one for each, with its number: its lines, its answer, and what both say of arms that fired and of vBuckets that went back; one that was refused where it stood tells of nothing; none tells of anything else than its line may; each tells what its line asked for; and none leaves undone what it is for
 abbrev pub LawfulGroups : Chronicle → List ScriptLine → List Group → Type 0
 LawfulGroups chronicle [] [] = Unit {0}
 LawfulGroups chronicle (line ∷ lines) [] = ⊥
 LawfulGroups chronicle [] (group ∷ groups) = ⊥
 LawfulGroups chronicle (line ∷ lines) (group ∷ groups) =
-    (LinesFrom (ahead chronicle line.verb group.answer) chronicle.conn_at group.events × IsAnswered chronicle line.verb group.events group.answer × FiresInLine chronicle line.verb group.events group.answer × (group.line ≡ line.line) × TellsIfBegun group.events group.answer × TellsOf line.verb group.events × TellsAsAsked chronicle line.verb group.events group.answer)
+    (LinesFrom (ahead chronicle line.verb group.answer) chronicle.conn_at group.events × IsAnswered chronicle line.verb group.events group.answer × FiresInLine chronicle line.verb group.events group.answer × (group.line ≡ line.line) × TellsIfBegun group.events group.answer × TellsOf line.verb group.events × TellsAsAsked chronicle line.verb group.events group.answer × LeavesNone chronicle line.verb group.events group.answer)
     × LawfulGroups (after_group chronicle line.verb group.events group.answer) lines groups
 
 -- a whole transcript of a script

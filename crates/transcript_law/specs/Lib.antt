@@ -29,6 +29,8 @@ pub mod KindRows
 pub mod Effects
 pub mod RefusalRows
 pub mod Tellings
+pub mod Undone
+pub mod UndoneRows
 pub mod TellingRows
 pub mod Asked
 pub mod AskedRows

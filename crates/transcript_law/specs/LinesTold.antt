@@ -75,18 +75,19 @@ pub data Flushing : Type 0 where
   Taken : Batch → Flushing
   Written : ℕ → Flushing
 
--- what a vBucket wrote down: the batch on its way; the records that stand, the last first, without the changes and the CAS of batches, of which lines do not tell; the record whose append was broken off, where a crash may find it; up to where all counts as saved; whether it has a disk; and whether its journal is closed, which takes no record then until a crash
+-- what a vBucket wrote down: the batch on its way; the records that stand, the last first, without the changes and the CAS of batches, of which lines do not tell; the record whose append was broken off, where a crash may find it; up to where all counts as saved, and up to where all was taken to be written down, also by a batch that is gone; whether it has a disk; and whether its journal is closed, which takes no record then until a crash
 pub record DiskKnown : Type 0 where
   pub flushing : Flushing
   pub book : List Record
   pub late : Option Record
   pub saved : ℕ
+  pub taken : ℕ
   pub there : Bool
   pub closed : Bool
 
 -- nothing was written down
 abbrev pub blank_disk : DiskKnown
-blank_disk = record { flushing = Idle; book = []; late = None; saved = 0; there = false; closed = false }
+blank_disk = record { flushing = Idle; book = []; late = None; saved = 0; taken = 0; there = false; closed = false }
 
 -- the positions of the batches that stand, the last first
 abbrev pub stood : DiskKnown → List Position
@@ -370,7 +371,7 @@ finds (Fill byte) = byte == 1
 
 -- a vBucket that went back to a seqno wrote that down; no batch is on its way any more
 abbrev pub disk_back : ℕ → DiskKnown → DiskKnown
-disk_back to d = record d { flushing = Idle; book = noted.Roll to ∷ d.book; saved = to }
+disk_back to d = record d { flushing = Idle; book = noted.Roll to ∷ d.book; saved = to; taken = to }
 
 -- a vBucket that went back to a seqno holds the changes up to there, and keeps the entries of its log up to there; no link sends it back any more
 abbrev pub after_roll : Chronicle → ℕ → ℕ → ℕ → Chronicle
@@ -394,7 +395,7 @@ known_log (Some log) = log
 
 -- a batch up to a position is on its way, with the failover log that the vBucket has then
 abbrev pub after_batch : Chronicle → ℕ → ℕ → Position → Chronicle
-after_batch chronicle n v p = with_disk chronicle n v (record (chronicle.disk_at n v) { flushing = Taken (known_batch p (known_log (chronicle.log_at n v))) })
+after_batch chronicle n v p = with_disk chronicle n v (record (chronicle.disk_at n v) { flushing = Taken (known_batch p (known_log (chronicle.log_at n v))); taken = p.at })
 
 -- one more is counted at a vBucket: the node acknowledged all up to a seqno
 abbrev pub after_count : Chronicle → ℕ → ℕ → ℕ → ℕ → Chronicle

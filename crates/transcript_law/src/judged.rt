@@ -222,7 +222,7 @@ pub fn judged_saves()
     ensures taken { LawfulAnswer after_both (verb.AtVb 1 0 vb_verb.Take) (batch_lines 2 2 2) (answer.Number 2) }
     ensures taken_other { LawfulAnswer after_both (verb.AtVb 1 0 vb_verb.Take) (batch_lines 2 2 2) (answer.Number 1) → ⊥ }
     ensures taken_elsewhere { LawfulAnswer after_both (verb.AtVb 2 0 vb_verb.Take) (batch_lines 2 2 2) (answer.Number 2) → ⊥ }
-    ensures none { LawfulAnswer after_both (verb.AtVb 1 0 vb_verb.Take) [] (answer.Number 0) }
+    ensures none { LawfulAnswer (with_stood after_both (within 2 2 ∷ []) 2) (verb.AtVb 1 0 vb_verb.Take) [] (answer.Number 0) }
     ensures untold { LawfulAnswer after_both (verb.AtVb 1 0 vb_verb.Take) [] (answer.Number 2) → ⊥ }
     ensures refused { LawfulAnswer after_both (verb.AtVb 1 0 vb_verb.Take) [] (answer.No cause.BatchOut) }
     ensures refused_told { LawfulAnswer after_both (verb.AtVb 1 0 vb_verb.Take) (batch_lines 2 2 2) (answer.No cause.BatchOut) → ⊥ }

@@ -22,6 +22,7 @@ mod lawful;
 mod steps;
 mod streams;
 mod tellings;
+mod undone;
 mod untold;
 
 pub use alone::{judged_single_changes, judged_single_links, judged_single_streams};
@@ -48,4 +49,5 @@ pub use lawful::{groups_are_lawful, lines_are_known, set_lines_ask};
 pub use steps::plain_lines;
 pub use streams::streams_are_links;
 pub use tellings::{judged_fed_links, judged_linked_streams, judged_other_lines, judged_own_lines};
+pub use undone::{judged_dues, judged_idle_pumps, judged_lost_batches, judged_takes};
 pub use untold::{judged_mishaps, judged_next_markers, judged_refusals};

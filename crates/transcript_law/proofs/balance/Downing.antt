@@ -24,8 +24,8 @@ pub record Writing (link : PlainLink) : Type 0 where
   pub vb : link.consumer.dialed.vb < 2 ^ 16
 
 small_opaque : {fv : Wants} {kn : Member} {pv : Option Plain} {leader : Member} {g : Option Granted} {point : Option ℕ} {served : PlainProducer} {asker : PlainConsumer} {asked said : List Frame} → EndsStand fv kn pv leader g point served asker asked said → asker.asked < 2 ^ 32
-small_opaque (EndsStand.IsAsking ask x) = x.consumer.small
-small_opaque (EndsStand.IsRefusedYet x) = x.consumer.small
+small_opaque (EndsStand.IsAsking ask none x) = x.consumer.small
+small_opaque (EndsStand.IsRefusedYet none x) = x.consumer.small
 small_opaque (EndsStand.IsStreaming x) = x.consumer.small
 
 pub writing_of : (w : PlainWorld) (r : Chronicle) (c : Cluster) (link : PlainLink) → LinkAgrees w r c link [] [] → Writing link

@@ -17,8 +17,8 @@ no_stream o stream e f = let z : Some stream ≡ None = sym e ∙ f in cc
 -- what a producer may put of its stream fits
 module _ {fv : Wants} {kn : Member} {pv : Option Plain} {leader : Member} {g : Option Granted} {point : Option ℕ} {served : PlainProducer} {asker : PlainConsumer} {asked said : List Frame} where
   pub stream_fits : asker.dialed.vb < 1024 → EndsStand fv kn pv leader g point served asker asked said → (stream : PlainStream) → served.stream ≡ Some stream → StreamFits stream
-  stream_fits few (EndsStand.IsAsking ask x) stream e = no_stream served.stream stream e x.no_stream
-  stream_fits few (EndsStand.IsRefusedYet x) stream e = no_stream served.stream stream e x.no_stream
+  stream_fits few (EndsStand.IsAsking ask none x) stream e = no_stream served.stream stream e x.no_stream
+  stream_fits few (EndsStand.IsRefusedYet none x) stream e = no_stream served.stream stream e x.no_stream
   stream_fits few (EndsStand.IsStreaming x) stream e = by x.granted_is.over (x.stream_is)
     where
       own : StreamFits x.stream

@@ -168,17 +168,17 @@ module _ (served : PlainProducer) (asker : PlainConsumer) (counted : ℕ) (f : F
 module _ {fv : Wants} {kn : Member} {pv : Option Plain} {leader : Member} {g : Option Granted} {point : Option ℕ} {served : PlainProducer} {asker : PlainConsumer} {said : List Frame} where
   -- a producer with a stream has a window of the size that was asked for
   pub sized_if : {asked : List Frame} → EndsStand fv kn pv leader g point served asker asked said → (served.stream ≡ None → ⊥) → WindowIs asker.dialed.buffer (room_of served) asked → (room_of served).size ≡ asker.dialed.buffer
-  sized_if (EndsStand.IsAsking ask x) some is = absurd (some x.no_stream)
-  sized_if (EndsStand.IsRefusedYet x) some is = absurd (some x.no_stream)
+  sized_if (EndsStand.IsAsking ask none x) some is = absurd (some x.no_stream)
+  sized_if (EndsStand.IsRefusedYet none x) some is = absurd (some x.no_stream)
   sized_if {asked} (EndsStand.IsStreaming x) some is = ⊎_elim (λ s. s) (λ y. absurd (acks_other x.granted_is.wrote asker.asked asker.dialed.vb asker.dialed.buffer asked x.acks y.1)) is
 
   pub stands_step : (counted : ℕ) (f : Frame) (rest : List Frame) → 0 < asker.dialed.buffer → asker.dialed.buffer < 2 ^ 32 → Holds asker.dialed.buffer (room_of served) counted (f ∷ rest)
       → EndsStand fv kn pv leader g point served asker (f ∷ rest) said → Holds asker.dialed.buffer (window_behind f served.handshake (room_of served)) counted rest
-  stands_step counted f rest buffered low holds (EndsStand.IsAsking ask x) =
+  stands_step counted f rest buffered low holds (EndsStand.IsAsking ask none x) =
       let some : (asker.dialed.buffer == 0) ≡ false = grind (arith, nat_tests, buffered) in
       request_step served asker counted f rest buffered low holds ask (λ h. ap is_open h ∙ opened_next asker.dialed some) x.answered x.server
       (x.asked_is ∙ ap (drop x.answered) (requests_are asker.asked asker.dialed ask some))
-  stands_step counted f rest buffered low holds (EndsStand.IsRefusedYet x) = no_frames x.asked_is
+  stands_step counted f rest buffered low holds (EndsStand.IsRefusedYet none x) = no_frames x.asked_is
     where
       no_frames : {A : Type 0} → f ∷ rest ≡ [] → A
       no_frames e = cc

@@ -45,6 +45,7 @@ module _ {told : DiskKnown} {d : Disk} {shelf : Shelf} {x : Parts} (a : ShelfIs 
     closed = a.closed;
     flush = a.flush;
     saved = a.saved;
+    taken = a.taken;
     spots = a.spots;
     floor = a.floor;
     cas = a.cas;
@@ -71,6 +72,7 @@ module _ {told : DiskKnown} {d : Disk} {shelf : Shelf} {x : Parts} (a : ShelfIs 
         closed = a.closed;
         flush = (refl, (λ e. o.2), (let e : x.flushed ≡ b.position.at = o.2 in omega arith));
         saved = a.saved;
+        taken = a.taken;
         spots = λ s i l. a.spots s i (let up : b.position.at < s.last = l in omega arith);
         floor = let f : x.floor ≤ (place_of d.book).at = a.floor in omega arith;
         cas = o.4;
@@ -91,6 +93,7 @@ module _ {told : DiskKnown} {d : Disk} {shelf : Shelf} {x : Parts} (a : ShelfIs 
     closed = refl;
     flush = closes shelf.is_closed shelf.flush told.flushing d.batch x.flushed (place_of d.book).at a.flush;
     saved = a.saved;
+    taken = a.taken;
     spots = a.spots;
     floor = a.floor;
     cas = a.cas;
@@ -112,6 +115,7 @@ module _ {told : DiskKnown} {d : Disk} {shelf : Shelf} {x : Parts} (a : ShelfIs 
         closed = a.closed;
         flush = (refl, (λ e. let z : true ≡ false = sym closed ∙ e in cc), (let e : x.flushed ≡ b.position.at = o.2 in omega arith));
         saved = a.saved;
+        taken = a.taken;
         spots = a.spots;
         floor = a.floor;
         cas = a.cas;

@@ -1,15 +1,11 @@
--- the changes of a batch, where the last batch ended that lines tell of, and a vBucket of which more counts as saved
+-- the changes of a batch, the span that it is taken from, and a vBucket of which more counts as saved
 use Rattle.std.specs.Prelude.{◌≡◌, ◌<◌, ◌≤◌, ◌∷◌}
-use Rattle.transcript_law.proofs.Words.{ℕ, Bool, true, false, List, [], length, refl, ap, sym, ◌∙◌, subst, arith, inl, inr, ⊎_elim, Some, Plain, Span, Sound, Position, Change, last_seq, IsIn, Rises, cond, ltb-true, map, filter, rises_in, Own, Received}
-use Rattle.transcript_law.proofs.{disks.Disks.{bare}, invariant.Wholes.{IsSpanIn}}
-use Rattle.branch_model.specs.Journals.{batches, end_of, points}
+use Rattle.transcript_law.proofs.Words.{ℕ, Bool, true, false, List, [], length, refl, ap, sym, ◌∙◌, subst, arith, inl, inr, ⊎_elim, Some, Plain, Span, Sound, Change, last_seq, IsIn, Rises, cond, ltb-true, rises_in, Own, Received}
+use Rattle.transcript_law.proofs.{invariant.Wholes.{IsSpanIn}}
 use Rattle.std.specs.List.{find}
-use Rattle.std.specs.Prelude.{nat_le, nat_lt}
-use Rattle.transcript_law.specs.Lawfulness.{stood_end}
+use Rattle.std.specs.Prelude.{nat_lt}
 use Rattle.vb_calls.specs.Spans.{span_position}
 use Rattle.vb_calls.specs.declared.span.Origin.{Origin}
-use Rattle.vb_types.specs.declared.journal.{Batch.{Batch}, Record.{Record}}
-use Rattle.vb_types.specs.declared.journal.Record.TheVariants as noted
 
 -- of lists of changes that rise, one whose seqnos are all in the other is no longer
 pub fewer : (a b m d : ℕ) (xs ys : List Change) → Rises a b xs → Rises m d ys → ((x : Change) → IsIn x xs → (y : Change) × IsIn y ys × (x.seq ≡ y.seq)) → length xs ≤ length ys
@@ -32,28 +28,7 @@ pub some_items : (from end : ℕ) (xs : List Change) → from < end → last_seq
 some_items from end [] l e = let z : from ≡ end = e in absurd (omega arith)
 some_items from end (x ∷ xs) l e = omega arith
 
--- where the last batch ends that the lines tell of
-
-pub stood_is : (bs : List Batch) → stood_end (map (λ (b : Batch). b.position) bs) ≡ end_of bs
-stood_is [] = refl
-stood_is (b ∷ bs) = refl
-
-cut_points : (to : ℕ) (bs : List Batch) → map (λ (b : Batch). b.position) (filter (λ b. nat_le b.position.at to) bs) ≡ filter (λ (p : Position). nat_le p.at to) (map (λ (b : Batch). b.position) bs)
-cut_points to [] = refl
-cut_points to (b ∷ bs) = by (nat_le b.position.at to) (cut_points to bs)
-  where
-    by : (t : Bool) → map (λ (b : Batch). b.position) (filter (λ b. nat_le b.position.at to) bs) ≡ filter (λ (p : Position). nat_le p.at to) (map (λ (b : Batch). b.position) bs)
-        → map (λ (b : Batch). b.position) (cond t (b ∷ filter (λ b. nat_le b.position.at to) bs) (filter (λ b. nat_le b.position.at to) bs))
-        ≡ cond t (b.position ∷ filter (λ (p : Position). nat_le p.at to) (map (λ (b : Batch). b.position) bs)) (filter (λ (p : Position). nat_le p.at to) (map (λ (b : Batch). b.position) bs))
-    by true e = ap (λ ps. b.position ∷ ps) e
-    by false e = e
-
-pub bare_points : (js : List Record) → points (map bare js) ≡ points js
-bare_points [] = refl
-bare_points (noted.State role log ∷ older) = bare_points older
-bare_points (noted.Rows b ∷ older) = ap (λ ps. b.position ∷ ps) (bare_points older)
-bare_points (noted.Roll to ∷ older) = cut_points to (batches (map bare older)) ∙ ap (filter (λ (p : Position). nat_le p.at to)) (bare_points older) ∙ sym (cut_points to (batches older))
-
+-- where a span's batch ends
 pub at_end : (o : Origin) (n : ℕ) → (span_position o n).at ≡ n
 at_end Own n = refl
 at_end (Received ss se) n = refl

@@ -189,7 +189,7 @@ module _ (out : Outcome) (row : VbRow) (m m' : Member) (d d' : Disk) (shelf : Op
 
   pub crashed_disk_is : AwayAgrees told d'
   crashed_disk_is = subst (AwayAgrees told) (sym l.disk) (record {
-    told_is = λ i. record { flushing = Flushing.Idle; book = book_is i; late = None; saved = (place_is i).at; there = row.disk.there; closed = false };
+    told_is = λ i. record { flushing = Flushing.Idle; book = book_is i; late = None; saved = (place_is i).at; taken = (place_is i).at; there = row.disk.there; closed = false };
     disk = refl;
     cas = cas_is d.late refl (finds out);
   })

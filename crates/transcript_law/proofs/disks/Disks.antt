@@ -62,6 +62,7 @@ pub record ShelfIs (told : DiskKnown) (d : Disk) (shelf : Shelf) (x : Parts) : T
   pub closed : told.closed ≡ shelf.is_closed
   pub flush : FlushIs shelf.is_closed shelf.flush told.flushing d.batch x.flushed (place_of d.book).at
   pub saved : told.saved ≡ x.saved
+  pub taken : told.taken ≡ x.flushed
   pub spots : EndAtSpots (place_of d.book).at x.spans d.stood
   pub floor : x.floor ≤ (place_of d.book).at
   pub cas : cas_of_last d.book < 2 ^ 64
@@ -69,7 +70,7 @@ pub record ShelfIs (told : DiskKnown) (d : Disk) (shelf : Shelf) (x : Parts) : T
 
 -- the disk of a vBucket that is not there: its member loads what stands on it, and nothing else is on its way
 pub record AwayAgrees (told : DiskKnown) (d : Disk) : Type 0 where
-  pub told_is : told ≡ record { flushing = Flushing.Idle; book = map bare d.book; late = None; saved = (place_of d.book).at; there = told.there; closed = false }
+  pub told_is : told ≡ record { flushing = Flushing.Idle; book = map bare d.book; late = None; saved = (place_of d.book).at; taken = (place_of d.book).at; there = told.there; closed = false }
   pub disk : d ≡ opened d.book
   pub cas : cas_of_last d.book < 2 ^ 64
 
@@ -144,6 +145,7 @@ shelf_spanned {told} {d} {d' = d'} {shelf} {x} ws a book batch late spots =
       closed = a.closed;
       flush = subst (λ b. FlushIs shelf.is_closed shelf.flush told.flushing b x.flushed (place_of d'.book).at) (sym batch) (subst (FlushIs shelf.is_closed shelf.flush told.flushing d.batch x.flushed) (sym at) a.flush);
       saved = a.saved;
+      taken = a.taken;
       spots = subst (λ n. EndAtSpots n ws d'.stood) (sym at) spots;
       floor = subst (λ n. x.floor ≤ n) (sym at) a.floor;
       cas = subst (λ b. cas_of_last b < 2 ^ 64) (sym book) a.cas;

@@ -147,6 +147,7 @@ module _ (w : PlainWorld) (r : Chronicle) (c : Cluster) (n v : ℕ) (a : AgreesI
     closed = ap (λ (t : DiskKnown). t.closed) told.told_is;
     flush = (ap (λ (t : DiskKnown). t.flushing) told.told_is, (λ e. ap (λ b. (place_of b).at) (sym is)), (let e : (place_of d.book).at ≡ (place_of js).at = ap (λ b. (place_of b).at) is in omega arith));
     saved = ap (λ (t : DiskKnown). t.saved) told.told_is ∙ ap (λ b. (place_of b).at) is;
+    taken = ap (λ (t : DiskKnown). t.taken) told.told_is ∙ ap (λ b. (place_of b).at) is;
     spots = no_spots (place_of d.book).at d.stood;
     floor = let e : (place_of d.book).at ≡ (place_of js).at = ap (λ b. (place_of b).at) is in omega arith;
     cas = told.cas;

@@ -1,11 +1,12 @@
 -- what is read of the lines agrees with the plain world, and both with a cluster in which what happened may happen
 use Rattle.std.specs.Prelude.{◌≡◌, ◌<◌, ◌≤◌, ◌∷◌, ◌++◌, ◌⊎◌, ◌^◌, ◌&&◌, ◌==◌, if◌then◌else◌}
-use Rattle.transcript_law.proofs.Words.{ℕ, suc, Bool, true, false, List, [], length, map, drop, take, Option, Some, None, not, nat_lt, is_some, All, concat, filter, flat_map}
+use Rattle.transcript_law.proofs.Words.{ℕ, suc, Bool, true, false, List, [], length, map, drop, take, Option, Some, None, not, nat_lt, is_some, All, concat, filter, flat_map, ap, sym, ◌∙◌, option_map}
 use Rattle.transcript_law.proofs.Words.{Frame, RESPONSE, spelling, Readable, DcpMsg, dcp_frame, Change, AskAnswer, Position, LogEntry, StreamAsk, last_seq, request_of, fork_of, Covers, Branch, hist, branch, IsNew, Feed}
 use Rattle.transcript_law.proofs.Words.{Member, Cluster, SoundCluster, flight_from, flight_end, Stream, Plain, is_active, is_follower, stream_at, Handshake, PlainStream, stream_verdict, act_message, STATE_CHANGED}
 use Rattle.transcript_law.proofs.Words.{PlainLink, link_number, producer_node, consumer_node, PlainWorld, Outcome, is_one_of, with_branches, ItemLine, Begun, Granted}
 use Rattle.transcript_law.proofs.{Words.{Chronicle, after_lines, item_of_change, LawfulFrom, PlainProducer, PlainConsumer, uuid_of, front, Dial}, invariant.Seats.{seat}, invariant.Trees.{AreTold, IdsFit}}
 use Rattle.{dcp_consumer.specs.declared.handshake.Dialed.{Dialed}, dcp_producer.specs.declared.desk.Desk.{Desk}, transcript_law.proofs.links.Firsts.{request_frames, first_answers, first_count, set_after, waits_after}}
+use Rattle.transcript_law.specs.Undone.{newest}
 use Rattle.vb_events.specs.declared.event.StreamName.TheVariants.{Link}
 use Rattle.{branch_model.specs.Journals.{log_of, place_of}, cluster_model.specs.Clusters.{Disk}, disk_journals.specs.Books.{Book, listed}, durability.specs.Laws.{HasOne}, vb_calls.specs.Shelves.{Shelf}}
 use Rattle.{transcript_law.specs.Chronicles.{ArmKnown, DiskKnown, no_arm, resting}, vb_disk.specs.declared.fuse.Fuse.{Fuse}, vb_types.specs.declared.role.Role.{Role}}
@@ -267,8 +268,8 @@ pub record Streaming (fv : Wants) (kn : Member) (pv : Option Plain) (leader : Me
 
 -- where the two ends of a link stand, with these frames on their way to the producer and to the consumer
 pub data EndsStand (fv : Wants) (kn : Member) (pv : Option Plain) (leader : Member) (g : Option Granted) (point : Option ℕ) (served : PlainProducer) (asker : PlainConsumer) (up down : List Frame) : Type 0 where
-  IsAsking : (ask : StreamAsk) → Asking fv ask served asker up down → EndsStand fv kn pv leader g point served asker up down
-  IsRefusedYet : RefusedYet point served asker up down → EndsStand fv kn pv leader g point served asker up down
+  IsAsking : (ask : StreamAsk) → g ≡ None → Asking fv ask served asker up down → EndsStand fv kn pv leader g point served asker up down
+  IsRefusedYet : g ≡ None → RefusedYet point served asker up down → EndsStand fv kn pv leader g point served asker up down
   IsStreaming : Streaming fv kn pv leader g served asker up down → EndsStand fv kn pv leader g point served asker up down
 
 -- the same of a link, and what its queues hold
@@ -292,6 +293,17 @@ pub record DialAgrees (told : Option Dial) (desk : Desk) (d : Dialed) : Type 0 w
   pub named : desk.stream ≡ Link d.link
   pub small : (d.node < 16) × (d.vb < 1024) × (d.buffer < 2 ^ 32)
 
+-- the last seqno that a consumer acknowledged is the last one that the lines tell of its stream, and 0 where they tell of none
+abbrev pub AckedIs : Option Granted → ℕ → Type 0
+AckedIs None acked = acked ≡ 0
+AckedIs (Some g) acked = acked ≡ newest g.wrote
+
+-- so it is of a stream that is told otherwise, where its acknowledgements are not
+pub acked_still : (b : Bool) (f : Granted → Granted) (o : Option Granted) (acked : ℕ) → ((g : Granted) → (f g).wrote ≡ g.wrote) → AckedIs o acked → AckedIs (if b then option_map f o else o) acked
+acked_still true f None acked same x = x
+acked_still true f (Some g) acked same x = x ∙ ap newest (sym (same g))
+acked_still false f o acked same x = x
+
 -- a link whose frames `up` are about to be answered, and whose frames `down` are about to be taken
 pub record LinkAgrees (w : PlainWorld) (r : Chronicle) (c : Cluster) (link : PlainLink) (up down : List Frame) : Type 0 where
   pub follower : Plain
@@ -299,6 +311,7 @@ pub record LinkAgrees (w : PlainWorld) (r : Chronicle) (c : Cluster) (link : Pla
   pub follows : is_follower follower.role ≡ true
   pub dial : DialAgrees (r.dial_of (link_number link)) link.server.desk link.consumer.dialed
   pub open dial use *
+  pub acks : AckedIs (r.stream_of (Link (link_number link)) link.consumer.dialed.vb) link.consumer.acked
   pub talk : Talk follower (c.nodes (consumer_seat link)) (vb_of w (producer_node link) link.consumer.dialed.vb) (c.nodes (producer_seat link)) (r.stream_of (Link (link_number link)) link.consumer.dialed.vb) (r.point_of (link_number link)) link up down
 
 -- one of the links

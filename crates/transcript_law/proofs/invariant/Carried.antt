@@ -5,7 +5,7 @@ use Rattle.transcript_law.proofs.Words.{Plain, is_active, is_follower, stream_at
 use Rattle.transcript_law.proofs.{Words.{Branch, Covers, PlainProducer, PlainConsumer, Begun, item_of_change, map, drop, take, after_end, if◌then◌else◌, eq-eqb, ne_eqb, []}, invariant.Seats.{seat, seat_one}, invariant.Trees.{IsTold}}
 use Rattle.transcript_law.proofs.Words.{HoldsAt}
 use Rattle.transcript_law.proofs.invariant.Wholes.{WholeTo}
-use Rattle.transcript_law.proofs.invariant.Agreement.{Keeps, VbTold, own_history, vb_of, ChangeFits, BranchAgrees, CountsIf, WritesIf, VbAgrees, IsAway, AgreesAt, RestsIn, kept_stream, spoken, Streaming, Talk, is_open, consumer_seat, producer_seat, LinkAgrees, IsLink, Differ, LinksDiffer}
+use Rattle.transcript_law.proofs.invariant.Agreement.{AckedIs, Keeps, VbTold, own_history, vb_of, ChangeFits, BranchAgrees, CountsIf, WritesIf, VbAgrees, IsAway, AgreesAt, RestsIn, kept_stream, spoken, Streaming, Talk, is_open, consumer_seat, producer_seat, LinkAgrees, IsLink, Differ, LinksDiffer}
 use Rattle.transcript_law.proofs.{invariant.Agreement.{DiskIsIf, shelf_of, top, Busy, AgreesIn, BranchesAgree, Wants, wants_of, EndsStand, Open, BegunAgrees, items_frames, VbRow, vb_row, vb_contents, VbHeld, idle, DialAgrees}, invariant.Carrying.{SameEnds}}
 use Rattle.transcript_law.proofs.{invariant.Carrying.{ToldOf, TakenOf, FedMember, FeedChanged, BusyBut, StreamsChanged}, invariant.LinkRows.{found_is_link, links_apart, put_links, differ_put}, invariant.Tables.{id_there, ended_there}}
 use Rattle.{std.proofs.lemmas.Bool.{false_from_ne_true}, vb_events.specs.declared.event.StreamName.TheVariants.{Link}, vb_types.specs.declared.role.Role.TheVariants.{Active}}
@@ -225,8 +225,8 @@ streaming_again {asker = asker} a o stream same is opens =
 
 module _ (kn : Member) (pv pv' : Option Plain) (leader leader' : Member) (g : Option Granted) (point : Option ℕ) (link : PlainLink) (stays : StaysProducer pv pv' leader leader' link) where
   stands_carried : {fv : Wants} {up down : List Frame} → EndsStand fv kn pv leader g point link.server link.consumer up down → EndsStand fv kn pv' leader' g point link.server link.consumer up down
-  stands_carried (EndsStand.IsAsking ask a) = EndsStand.IsAsking ask a
-  stands_carried (EndsStand.IsRefusedYet a) = EndsStand.IsRefusedYet a
+  stands_carried (EndsStand.IsAsking ask none a) = EndsStand.IsAsking ask none a
+  stands_carried (EndsStand.IsRefusedYet none a) = EndsStand.IsRefusedYet none a
   stands_carried (EndsStand.IsStreaming a) = EndsStand.IsStreaming
       (streaming_again a link.server.stream a.stream (record { vb = refl; opaque = refl; items = refl; next = refl; ended = λ e. e }) a.stream_is (λ e.
       let o = a.streams.opens e in
@@ -265,6 +265,7 @@ link_carried w w' r r' c c' link up down follower dial stream point member stays
       follower = fv';
       follower_is = is;
       follows = ap is_follower kept.role ∙ a.follows;
+      acks = subst (λ o. AckedIs o link.consumer.acked) (sym stream) a.acks;
       dial = subst (λ o. DialAgrees o link.server.desk link.consumer.dialed) (sym dial) a.dial;
       talk = talk_same member refl refl stream point (talk_carried (c.nodes (consumer_seat link)) (vb_of w (producer_node link) link.consumer.dialed.vb) pv' (c.nodes (producer_seat link)) leader'
           (r.stream_of (Link (link_number link)) link.consumer.dialed.vb) (r.point_of (link_number link)) link stays a.follower fv' up down kept.wants a.talk);
@@ -281,8 +282,8 @@ stream_opened w r c link up down a stream has ended = by a.talk.stands
 
     by : {fv : Wants} {kn : Member} {pv : Option Plain} {leader : Member} {g : Option Granted} {point : Option ℕ} {asked said : List Frame} → EndsStand fv kn pv leader g point link.server link.consumer asked said
         → (p : Plain) × (pv ≡ Some p) × (is_active p.role ≡ true) × (s : Stream) × (stream_at link.server.desk.id p.streams ≡ Some s) × (stream.vb ≡ link.consumer.dialed.vb)
-    by (EndsStand.IsAsking ask t) = let z : None ≡ Some stream = sym t.no_stream ∙ has in cc
-    by (EndsStand.IsRefusedYet t) = let z : None ≡ Some stream = sym t.no_stream ∙ has in cc
+    by (EndsStand.IsAsking ask none t) = let z : None ≡ Some stream = sym t.no_stream ∙ has in cc
+    by (EndsStand.IsRefusedYet none t) = let z : None ≡ Some stream = sym t.no_stream ∙ has in cc
     by (EndsStand.IsStreaming t) =
         let same : t.stream ≡ stream = one t.granted_is.over t.stream t.stream_is in
         let o = t.streams.opens (ap (λ (x : PlainStream). x.ended) same ∙ ended) in

@@ -222,7 +222,7 @@ line_entered r (event.Ended l reason) behind old lawful =
     record { disks = old.disks; logs = old.logs; streams = λ s q. either r.tree (is_name s (name.Link l)) None (r.stream_of s q) (λ g e. cc) (old.streams s q) }
 line_entered r (event.Batch n v ss se at count) behind old lawful =
     let d = r.disk_at n v in let p : Position = record { ss = ss; se = se; at = at } in
-    disk_entered r n v (record d { flushing = Taken (known_batch p (known_log (r.log_at n v))) }) old (record { book = (old.disks n v).book; late = (old.disks n v).late; flushing = known_at r n v old })
+    disk_entered r n v (record d { flushing = Taken (known_batch p (known_log (r.log_at n v))); taken = at }) old (record { book = (old.disks n v).book; late = (old.disks n v).late; flushing = known_at r n v old })
 line_entered r (event.Counted stream n v member seq) behind old lawful = record { disks = old.disks; logs = old.logs; streams = old.streams }
 line_entered r other behind old lawful = old
 

@@ -1,5 +1,11 @@
 -- what a consumer acknowledges in the course of a line `down`
 use Rattle.std.specs.Prelude.{◌≡◌, ◌<◌, ◌≤◌, ◌∷◌, ◌++◌, ◌^◌}
+use Rattle.durability.specs.Pending.{due}
+use Rattle.vb_calls.specs.Durable.{pending_prepares}
+use Rattle.transcript_law.proofs.invariant.Agreement.{vb_of}
+use Rattle.transcript_law.proofs.Words.{arith}
+use Rattle.transcript_law.proofs.Words.{Some}
+use Rattle.transcript_law.proofs.Words.{Plain}
 use Rattle.transcript_law.proofs.Words.{ℕ, true, false, List, [], refl, ap, sym, ◌∙◌, subst, append_assoc, None, Frame, spelling, Event, Sound, fork_of, States, after, after_job, after_job_lift, lift}
 use Rattle.transcript_law.proofs.Words.{DialResult, Chronicle, after_lines, image_in}
 use Rattle.transcript_law.proofs.invariant.Agreement.{AgreesAt, VbAgrees, LinkAgrees, consumer_seat, AgreesIn}
@@ -9,7 +15,7 @@ use Rattle.transcript_law.specs.Lawfulness.{SavesThirds}
 use Rattle.{dcp_consumer.specs.Machine.{is_streaming}, node_core.specs.Dials.{acknowledged_line, acknowledged_result, due_requested}}
 
 -- a line `down` is in its course: what is due now
-module _ (line : Line) (rest : List Frame) (states : Kept) (at : Asker) (events : List Event) (g : Going line rest states at events) where
+module _ (line : Line) (rest : List Frame) (states : Kept) (at : Asker) (events : List Event) (g : Going line rest states at events) (granted : is_streaming at.waiting ≡ true) where
   open line use {w, r, link}
   open line.link.consumer.dialed use {node as n, vb as v, link as l}
 
@@ -34,9 +40,14 @@ module _ (line : Line) (rest : List Frame) (states : Kept) (at : Asker) (events 
   came_is : (y : States × DialResult) → after (due_requested s) states.0 ≡ y → came ≡ ((y.0, states.1), y.1)
   came_is y e = after_job_lift (due_requested s) states.0 states.1 ∙ ap (λ y. ((y.0, states.1), y.1)) e
 
-  acked_on : (seq : ℕ) → is_streaming at.waiting ≡ true → seq < 2 ^ 64 → seq ≤ fork_of mine.follower.position → SavesThirds (image_in mine.follower) seq mine.follower.saved → after (due_requested s) states.0 ≡ (states.0, acknowledged_result seq s mine.follower.saved)
+  -- what is due is no more than this
+  met_by : (acked : ℕ) → due (pending_prepares mine.follower) (fork_of mine.follower.position) mine.follower.saved ≤ acked → (fv : Plain) → vb_of (now line states at) n v ≡ Some fv → due (pending_prepares fv) (fork_of fv.position) fv.saved ≤ acked
+  met_by acked low fv is = let one : Some mine.follower ≡ Some fv = sym mine.follower_is ∙ is in let same : mine.follower ≡ fv = cc in subst (λ (x : Plain). due (pending_prepares x) (fork_of x.position) x.saved ≤ acked) same low
+
+  -- nothing is, or it is acknowledged
+  acked_on : (seq : ℕ) → due (pending_prepares mine.follower) (fork_of mine.follower.position) mine.follower.saved ≡ seq → seq < 2 ^ 64 → seq ≤ fork_of mine.follower.position → SavesThirds (image_in mine.follower) seq mine.follower.saved → after (due_requested s) states.0 ≡ (states.0, acknowledged_result seq s mine.follower.saved)
       → Reached line rest came
-  acked_on seq granted low shared thirds e =
+  acked_on seq is low shared thirds e =
       let saved : ℕ = mine.follower.saved in
       let bytes : List ℕ = spelling (ack_frame seq s.dial.consumer) in
       let at' : Asker = record { out = at.out ++ bytes; waiting = at.waiting; asked = at.asked; acked = seq } in
@@ -48,7 +59,7 @@ module _ (line : Line) (rest : List Frame) (states : Kept) (at : Asker) (events 
         events = events ++ tell ∷ [];
         same = came_is (states.0, acknowledged_result seq s saved) e;
         rolled = false;
-        stage = record {
+        stage = (record {
           lawful = lawful_more r events (tell ∷ []) g.quiet g.lawful (ack_lawful (busy_at line rest) (now line states at) told g.cluster g.agrees (link_now line at) [] rest mine seq granted shared thirds, tt);
           quiet = quiet_more events (tell ∷ []) g.quiet (tt, tt);
           onward = record { arm = g.onward.arm; lines = onward_more events tell g.onward.lines tt };
@@ -57,13 +68,12 @@ module _ (line : Line) (rest : List Frame) (states : Kept) (at : Asker) (events 
               (acked_agrees (link_now line at) seq (link_now line at').up (sym (append_assoc link.up at.out bytes)) granted low (busy_at line rest) (now line states at) (now line states at') told g.cluster
               g.agrees (found_now line states at)
               (record { powers = λ m. refl; vbs = λ m q. refl; shelves = λ m q. refl; uuids = refl; linked = sym (put_twice l w.links (link_now line at) (link_now line at') refl) }));
-        };
+        }, λ t. (granted, met_by seq (omega (arith, is))));
       }
 
-  -- nothing is, or it is acknowledged
   pub due_going : Reached line rest came
   due_going = by (due_came states.0 mine.follower s (vb_here line states at mine.follower mine.follower_is) mine.follows sound)
     where
       by : DueCame states.0 mine.follower s (after (due_requested s) states.0) → Reached line rest came
-      by (DueCame.IsSilent e) = record { states = states; at = at; over = None; events = events; same = came_is (states.0, s) e; rolled = false; stage = g }
-      by (DueCame.IsAcked seq granted low shared thirds e) = acked_on seq granted low shared thirds e
+      by (DueCame.IsSilent low e) = record { states = states; at = at; over = None; events = events; same = came_is (states.0, s) e; rolled = false; stage = (g, λ t. (granted, met_by at.acked (low granted))) }
+      by (DueCame.IsAcked seq is granted low shared thirds e) = acked_on seq is low shared thirds e

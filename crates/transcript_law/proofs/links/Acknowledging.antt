@@ -1,10 +1,11 @@
 -- a link whose consumer acknowledges: what it asks its vBucket for before that, and where the ends of the link stand then
-use Rattle.std.specs.Prelude.{◌≡◌, ◌<◌, ◌≤◌, ◌∷◌, ◌++◌, ◌==◌, ◌^◌, if◌then◌else◌}
+use Rattle.std.specs.Prelude.{◌≡◌, ◌<◌, ◌≤◌, ◌∷◌, ◌++◌, ◌==◌, ◌&&◌, ◌^◌, if◌then◌else◌}
 use Rattle.std.specs.FinMap as finite
+use Rattle.std.specs.Prelude.{nat_lt}
 use Rattle.transcript_law.proofs.Words.{ℕ, Bool, true, false, List, [], refl, ap, sym, ◌∙◌, subst, inl, inr, ⊎_elim, map, arith, append_assoc, option_map, is_some, Option, Some, None, All, All-push, All-weaker, Frame, spelling, Readable, DcpMsg}
 use Rattle.transcript_law.proofs.Words.{dcp_frame, Change, Position, last_seq, eqb-true, LawfulAcknowledged, Member, Cluster, Plain, is_follower, fork_of, quiet_reply, refusal_reply, States, with_vb_at, call_at, Call, Done, after, Sound, PlainConsumer, DialResult}
 use Rattle.transcript_law.proofs.Words.{row_at, row_put, PlainLink, link_number, producer_node, consumer_node, PlainWorld, Granted, Chronicle, PlainProducer, StreamName, Role, Feed, above, hist, image_in, image_of, ground, stream_branch, with_changed}
-use Rattle.transcript_law.proofs.invariant.Agreement.{vb_of, image_is, shelf_of, consumer_seat, AgreesAt, BranchAgrees, DiskIsIf, VbAgrees, IsAcknowledgement, UpIs, ConsumerIs, EndsStand, Wants, LinkAgrees, Busy, AgreesIn}
+use Rattle.transcript_law.proofs.invariant.Agreement.{AckedIs, vb_of, image_is, shelf_of, consumer_seat, AgreesAt, BranchAgrees, DiskIsIf, VbAgrees, IsAcknowledgement, UpIs, ConsumerIs, EndsStand, Wants, LinkAgrees, Busy, AgreesIn}
 use Rattle.transcript_law.proofs.{invariant.Carried.{talk_same}, invariant.Carrying.{Relinked}, disks.Disks.{saved_so}, links.Followed.{fork_low, own_is}, links.Frames.{readable, spelled_more}, verbs.NodeLines.{put_same}, invariant.OneLink.{carries_link, mine}, links.PumpWorlds.{told_stream}, invariant.Tables.{changed_here, is_dialed}}
 use Rattle.{branch_model.specs.Logs.{IsFront}, cluster_model.specs.Clusters.{Comes, Ground, Joined, Linked, Stands}, std.proofs.lemmas.Bool.Decides.{nat_tests}, transcript_law.proofs.links.Firsts.{first_count}, transcript_law.proofs.links.Requests.{granted_past}}
 use Rattle.transcript_law.specs.{Chronicles.{acknowledging}, Lawfulness.{SavesThirds, known_history, stream_history}}
@@ -36,8 +37,8 @@ pub record GrantedTo (kn : Member) (told : Option Granted) : Type 0 where
 -- a consumer whose stream was granted has one that the lines tell
 pub stream_granted : {fv : Wants} {kn leader : Member} {pv : Option Plain} {g : Option Granted} {point : Option ℕ} {served : PlainProducer} {consumer : PlainConsumer} {asked said : List Frame} → EndsStand fv kn pv leader g point served consumer asked said
     → is_streaming consumer.handshake ≡ true → GrantedTo kn g
-stream_granted {consumer = consumer} (EndsStand.IsAsking ask x) granted = let a : x.seen ≤ x.answered = x.not_more in let b : x.answered ≤ first_count consumer.dialed = x.some_left in absurd (not_before consumer granted x.seen (omega arith) x.consumer)
-stream_granted {consumer = consumer} (EndsStand.IsRefusedYet x) granted = absurd (not_before consumer granted x.seen x.not_more x.consumer)
+stream_granted {consumer = consumer} (EndsStand.IsAsking ask none x) granted = let a : x.seen ≤ x.answered = x.not_more in let b : x.answered ≤ first_count consumer.dialed = x.some_left in absurd (not_before consumer granted x.seen (omega arith) x.consumer)
+stream_granted {consumer = consumer} (EndsStand.IsRefusedYet none x) granted = absurd (not_before consumer granted x.seen x.not_more x.consumer)
 stream_granted {consumer = consumer} (EndsStand.IsStreaming x) granted = record {
   stream = x.granted_is;
   is_told = x.told;
@@ -79,13 +80,13 @@ module _ (link : PlainLink) (seq : ℕ) (up : List ℕ) (wrote : up ≡ link.up 
 
   module _ {fv : Wants} {kn leader : Member} {pv : Option Plain} {g : Option Granted} {point : Option ℕ} {asked said : List Frame} where
     opaque_small : EndsStand fv kn pv leader g point link.server link.consumer asked said → link.consumer.asked < 2 ^ 32
-    opaque_small (EndsStand.IsAsking ask x) = x.consumer.small
-    opaque_small (EndsStand.IsRefusedYet x) = x.consumer.small
+    opaque_small (EndsStand.IsAsking ask none x) = x.consumer.small
+    opaque_small (EndsStand.IsRefusedYet none x) = x.consumer.small
     opaque_small (EndsStand.IsStreaming x) = x.consumer.small
 
     stands_acked : {g' : Option Granted} → g' ≡ option_map (acknowledging seq) g → EndsStand fv kn pv leader g point link.server link.consumer asked said → EndsStand fv kn pv leader g' point link.server after_ack.consumer (asked ++ frame ∷ []) said
-    stands_acked told (EndsStand.IsAsking ask x) = let a : x.seen ≤ x.answered = x.not_more in let b : x.answered ≤ first_count link.consumer.dialed = x.some_left in absurd (not_before link.consumer granted x.seen (omega arith) x.consumer)
-    stands_acked told (EndsStand.IsRefusedYet x) = absurd (not_before link.consumer granted x.seen x.not_more x.consumer)
+    stands_acked told (EndsStand.IsAsking ask none x) = let a : x.seen ≤ x.answered = x.not_more in let b : x.answered ≤ first_count link.consumer.dialed = x.some_left in absurd (not_before link.consumer granted x.seen (omega arith) x.consumer)
+    stands_acked told (EndsStand.IsRefusedYet none x) = absurd (not_before link.consumer granted x.seen x.not_more x.consumer)
     stands_acked told (EndsStand.IsStreaming x) = EndsStand.IsStreaming (record {
       granted_is = acknowledging seq x.granted_is;
       told = told ∙ ap (option_map (acknowledging seq)) x.told;
@@ -134,6 +135,7 @@ module _ (link : PlainLink) (seq : ℕ) (up : List ℕ) (wrote : up ≡ link.up 
     follower = x.follower;
     follower_is = vbs (consumer_node link) link.consumer.dialed.vb ∙ x.follower_is;
     follows = x.follows;
+    acks = subst (λ o. AckedIs o seq) (sym (changed_here r (link_number link) v (acknowledging seq) (is_dialed (r.dial_of (link_number link)) link.server.desk.node link.consumer.dialed.node v x.dialed) ∙ ap (option_map (acknowledging seq)) (stream_granted x.talk.stands granted).is_told)) refl;
     dial = x.dial;
     talk = talk_same refl (vbs (producer_node link) link.consumer.dialed.vb) refl refl refl (record {
       asked = t.asked ++ frame ∷ [];
@@ -216,11 +218,11 @@ ack_lawful busy w q c a link asking taking x seq granted low thirds =
 
 -- it is left as it was, and nothing is acknowledged, or all up to a seqno that its last complete snapshot has, and up to which each prepare of level 3 that waits in its image counts as saved
 pub data DueCame (states : States) (fv : Plain) (s : DialResult) (came : States × DialResult) : Type 0 where
-  IsSilent : came ≡ (states, s) → DueCame states fv s came
-  IsAcked : (seq : ℕ) → is_streaming s.dial.consumer.handshake ≡ true → seq < 2 ^ 64 → seq ≤ fork_of fv.position → SavesThirds (image_in fv) seq fv.saved → came ≡ (states, acknowledged_result seq s fv.saved) → DueCame states fv s came
+  IsSilent : (is_streaming s.dial.consumer.handshake ≡ true → due (pending_prepares fv) (fork_of fv.position) fv.saved ≤ s.dial.consumer.acked) → came ≡ (states, s) → DueCame states fv s came
+  IsAcked : (seq : ℕ) → due (pending_prepares fv) (fork_of fv.position) fv.saved ≡ seq → is_streaming s.dial.consumer.handshake ≡ true → seq < 2 ^ 64 → seq ≤ fork_of fv.position → SavesThirds (image_in fv) seq fv.saved → came ≡ (states, acknowledged_result seq s fv.saved) → DueCame states fv s came
 
 -- a prepare of the list of those that wait
-entry_waits : (es : List Entry) (e : Entry) → IsEntry e es → IsPending e.1 (map (λ x. x.1) es)
+pub entry_waits : (es : List Entry) (e : Entry) → IsEntry e es → IsPending e.1 (map (λ x. x.1) es)
 entry_waits [] e i = absurd i
 entry_waits (x ∷ es) e i = ⊎_elim (λ s. inl (ap (λ (y : Entry). y.1) s)) (λ j. inr (entry_waits es e j)) i
 
@@ -261,12 +263,16 @@ module _ (states : States) (fv : Plain) (s : DialResult) (known : states s.dial.
 
   met : (b : Bool) → may_acknowledge number s.dial.consumer ≡ b → is_streaming s.dial.consumer.handshake ≡ true
       → DueCame states fv s (after (if b then Call v call.Stat (λ reply. Done (acknowledged_result number s (saved_of_reply reply))) else Done s) states)
-  met false e granted = DueCame.IsSilent refl
-  met true e granted = DueCame.IsAcked number granted number_low number_complete number_thirds
+  met false e granted = DueCame.IsSilent (λ g. low_enough (nat_lt s.dial.consumer.acked number) refl (ap (λ b. b && nat_lt s.dial.consumer.acked number) (sym granted) ∙ e)) refl
+    where
+      low_enough : (b : Bool) → nat_lt s.dial.consumer.acked number ≡ b → b ≡ false → number ≤ s.dial.consumer.acked
+      low_enough true t f = cc
+      low_enough false t f = grind (arith, nat_tests, t)
+  met true e granted = DueCame.IsAcked number refl granted number_low number_complete number_thirds
       (ap (λ o. let y = call_at states v call.Stat o in (y.0, acknowledged_result number s (saved_of_reply y.1))) known ∙ ap (λ st. (st, acknowledged_result number s fv.saved)) same)
 
   asks_due : (b : Bool) → is_streaming s.dial.consumer.handshake ≡ b → DueCame states fv s (after (if b then Call v call.Due (λ reply. due_met s (due_of_reply reply)) else Done s) states)
-  asks_due false e = DueCame.IsSilent refl
+  asks_due false e = DueCame.IsSilent (λ g. let z : true ≡ false = sym g ∙ e in cc) refl
   asks_due true e = subst (DueCame states fv s) (sym asked_on) (met (may_acknowledge number s.dial.consumer) refl e)
 
   pub due_came : DueCame states fv s (after (due_requested s) states)

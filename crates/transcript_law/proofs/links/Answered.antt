@@ -166,12 +166,12 @@ module _ (fv : Plain) (ask : StreamAsk) (link : PlainLink) (down : List ℕ) (f 
   pub asked_opened : link.server.handshake ≡ Handshake.Open true (Named.Member link.consumer.dialed.node)
   asked_opened = all_answered ∙ all_set dialed
 
-  pub refused_talk : (kn : Member) (pv : Option Plain) (leader : Member) (g : Option Granted) (answer : AskAnswer) → IsRefused answer → (point : Option ℕ) → PointAgrees answer point → down ≡ link.down ++ spelling (answer_frame o [] answer)
+  pub refused_talk : (kn : Member) (pv : Option Plain) (leader : Member) (g : Option Granted) → g ≡ None → (answer : AskAnswer) → IsRefused answer → (point : Option ℕ) → PointAgrees answer point → down ≡ link.down ++ spelling (answer_frame o [] answer)
       → Talk fv kn pv leader g point (served_link link link.server down) fs []
-  refused_talk kn pv leader g answer refused point told wrote = record {
+  refused_talk kn pv leader g none answer refused point told wrote = record {
     asked = [];
     said = said ++ answer_frame o [] answer ∷ [];
-    stands = EndsStand.IsRefusedYet (record {
+    stands = EndsStand.IsRefusedYet none (record {
       no_stream = t.no_stream;
       refusal = record {
         said = answer;

@@ -1,5 +1,6 @@
 -- a consumer that is sent back, and whose vBucket can't write that down: the link is over, and the vBucket stays
 use Rattle.std.specs.Prelude.{◌≡◌, ◌∷◌, ◌==◌, if◌then◌else◌}
+use Rattle.transcript_law.proofs.links.Retreating.{none_yet}
 use Rattle.transcript_law.proofs.Words.{ℕ, true, false, List, [], refl, ap, sym, ◌∙◌, subst, ⊎_elim, is_some, not, PlainNode, Option, Some, None, vb_in}
 use Rattle.transcript_law.proofs.Words.{ne_eqb}
 use Rattle.transcript_law.proofs.Words.{Cluster, Move, happens, after_job, after_job_bind, lift}
@@ -134,7 +135,7 @@ module _ (line : Line) (back : Back line) where
         events = events;
         same = same;
         rolled = true;
-        stage = (none_left line back, record { lawful = going.lawful; quiet = going.quiet; what = what; rolls = rolls line back; dials = (onward_all r events going.onward.lines).dials; came = (how.0, how.1, onward_none events going.onward.lines) });
+        stage = (none_left line back, record { lawful = going.lawful; quiet = going.quiet; what = what; rolls = rolls line back; dials = (onward_all r events going.onward.lines).dials; none_taken = none_yet line back; came = (how.0, how.1, onward_none events going.onward.lines) });
       }
 
   roll_shut : (x : Shelf) (came : RolledJob) → after_job (roll_job v named) states.0 states.1 ≡ (shut_kept x, came) → after_job (lift (rolled_back named s came)) (shut_kept x).0 (shut_kept x).1 ≡ (shut_kept x, so_far line at (Some Disk) events)

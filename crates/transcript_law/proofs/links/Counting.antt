@@ -161,7 +161,7 @@ module _ (stays : StaysSound) (steady : Steady) (w0 : PlainWorld) (r0 : Chronicl
         → DownAgrees (served_at w0 r0 n link0 found (answered_at w0 r0 n link0 found x st end lines out).1) [] said → So fs (answered_at w0 r0 n link0 found x st end lines out)
     left_on st same lines lawful told out said spoke downs =
         let y = answered_at w0 r0 n link0 found x st end lines out in
-        quiet_at w0 r0 n link0 found (f ∷ fs) fs x now st same end lines out refl (λ has. has) lawful r told (told_of_same l r) refl
+        quiet_at w0 r0 n link0 found (f ∷ fs) fs x now st same end lines out refl (λ has. has) lawful r told (told_of_same l r) refl refl
         (talk_same refl (same_vbs w0 r0 n link0 found x y same end.desk.node v) refl refl refl (talk_left out said spoke downs))
 
     -- it is refused
@@ -416,7 +416,7 @@ module _ (stays : StaysSound) (steady : Steady) (w0 : PlainWorld) (r0 : Chronicl
       let y : PlainNode × PeerResult = answered_at w0 r0 n link0 found x x.0.vbs end [] [] in
       let came : frame_answered f s ≡ Done (record s { end = end }) = ap (λ g. frame_answered g s) is ∙ bytes_answered o bytes s true named low opened in
       subst (So fs) (sym (frame_came w0 r0 n link0 found f x ∙ ap (λ p. came_of w0 r0 n link0 found x (after p x.0.vbs)) came))
-      (quiet_at w0 r0 n link0 found (f ∷ fs) fs x now x.0.vbs (λ q. refl) end [] [] refl (λ has. has) (none_before r) r refl (told_of_same l r) refl
+      (quiet_at w0 r0 n link0 found (f ∷ fs) fs x now x.0.vbs (λ q. refl) end [] [] refl (λ has. has) (none_before r) r refl (told_of_same l r) refl refl
       (talk_same refl (same_vbs w0 r0 n link0 found x y (λ q. refl) end.desk.node v) refl refl refl (record {
         asked = rest;
         said = la.talk.said;

@@ -171,13 +171,13 @@ module _ (link : PlainLink) (n : ℕ) (up : List ℕ) (wrote : up ≡ link.up ++
 
   module _ {fv : Wants} {kn leader : Member} {pv : Option Plain} {g : Option Granted} {point : Option ℕ} {asked said : List Frame} where
     opaque_low : EndsStand fv kn pv leader g point link.server link.consumer asked said → link.consumer.asked < 2 ^ 32
-    opaque_low (EndsStand.IsAsking ask x) = x.consumer.small
-    opaque_low (EndsStand.IsRefusedYet x) = x.consumer.small
+    opaque_low (EndsStand.IsAsking ask none x) = x.consumer.small
+    opaque_low (EndsStand.IsRefusedYet none x) = x.consumer.small
     opaque_low (EndsStand.IsStreaming x) = x.consumer.small
 
     stands_acked : EndsStand fv kn pv leader g point link.server link.consumer asked said → EndsStand fv kn pv leader g point link.server link.consumer (asked ++ frame ∷ []) said
-    stands_acked (EndsStand.IsAsking ask x) = let a : x.seen ≤ x.answered = x.not_more in let b : x.answered ≤ first_count link.consumer.dialed = x.some_left in absurd (not_before link.consumer granted x.seen (omega arith) x.consumer)
-    stands_acked (EndsStand.IsRefusedYet x) = absurd (not_before link.consumer granted x.seen x.not_more x.consumer)
+    stands_acked (EndsStand.IsAsking ask none x) = let a : x.seen ≤ x.answered = x.not_more in let b : x.answered ≤ first_count link.consumer.dialed = x.some_left in absurd (not_before link.consumer granted x.seen (omega arith) x.consumer)
+    stands_acked (EndsStand.IsRefusedYet none x) = absurd (not_before link.consumer granted x.seen x.not_more x.consumer)
     stands_acked (EndsStand.IsStreaming x) = EndsStand.IsStreaming (acks_left x (asked ++ frame ∷ []) (All-push (IsAcknowledgement x.granted_is.wrote link.consumer.asked link.consumer.dialed.vb) asked frame x.acks (inr (number, refl, few))))
 
   ack_readable : link.consumer.asked < 2 ^ 32 → Readable frame
@@ -196,6 +196,7 @@ module _ (link : PlainLink) (n : ℕ) (up : List ℕ) (wrote : up ≡ link.up ++
     follower = x.follower;
     follower_is = vbs (consumer_node link) link.consumer.dialed.vb ∙ x.follower_is;
     follows = x.follows;
+    acks = x.acks;
     dial = x.dial;
     talk = talk_same refl (vbs (producer_node link) link.consumer.dialed.vb) refl refl refl (record {
       asked = t.asked ++ frame ∷ [];
@@ -256,6 +257,7 @@ module _ (line : Line) (frames : List Frame) (states : Kept) (at : Asker) (event
           what = x.what;
           rolls = x.rolls;
           dials = x.dials;
+          none_taken = x.none_taken;
           came = (
             still,
             is_rolled,
@@ -270,7 +272,7 @@ module _ (line : Line) (frames : List Frame) (states : Kept) (at : Asker) (event
         }
 
     stage_counted : (rolled : Bool) → Stage line rolled [] states at None events → Stage line rolled [] states at' None events
-    stage_counted false g = going_counted g
+    stage_counted false g = (going_counted g.0, g.1)
     stage_counted true (none, x) = (none, rolled_counted x)
 
 -- a consumer that is not over waits, or has its stream

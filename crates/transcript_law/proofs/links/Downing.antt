@@ -1,5 +1,10 @@
 -- the line `down` while its frames are taken one after another
 use Rattle.std.specs.Prelude.{◌≡◌, ◌<◌, ◌≤◌, ◌∷◌, ◌++◌, ◌==◌, if◌then◌else◌}
+use Rattle.transcript_law.specs.Undone.{is_taking}
+use Rattle.dcp_consumer.specs.Machine.{is_streaming}
+use Rattle.durability.specs.Pending.{due}
+use Rattle.vb_calls.specs.Durable.{pending_prepares}
+use Rattle.transcript_law.proofs.Words.{fork_of}
 use Rattle.transcript_law.proofs.Words.{ℕ, Bool, true, false, suc, List, [], append-nil, drop, drop-append-le, take, refl, ap, sym, ◌∙◌, subst, arith, inl, inr, ⊎_elim, Option, Some, None}
 use Rattle.transcript_law.proofs.Words.{All, All-tail, eq-eqb, eqb-true, Frame, Readable, AskAnswer, StreamAsk, Event, EndReason, Cluster, Move, happens, SoundCluster, Plain, shelf_in}
 use Rattle.transcript_law.proofs.Words.{Ended, row_at, row_put, row_out, with_vb_at, after_job, PlainConsumer, DialResult, frame_taken, roll_back, PlainLink, link_number, PlainWorld, with_node_at, with_links}
@@ -83,6 +88,11 @@ put_kept kept shelves v fv = (with_vb_at kept.0 v fv, shelves)
 abbrev pub put_vb : Kept → ℕ → Plain → Kept
 put_vb kept v fv = put_kept kept kept.1 v fv
 
+-- a consumer that has its stream waits for no answer
+pub answered_streams : (buffer : ℕ) (h : Handshake) → is_streaming h ≡ true → is_streaming (answered buffer h) ≡ true
+answered_streams buffer waiting.Streaming e = refl
+answered_streams buffer other e = cc
+
 module _ (line : Line) where
   -- the vBucket v of the node n is fed by the link l, and is the member k
   open line use {w, r, link, node, moved, left, found}
@@ -130,6 +140,11 @@ module _ (line : Line) where
     pub cluster : Cluster
     pub agrees : AgreesIn (busy_at busy) (now states at) (after_lines r events) cluster
 
+  -- once the vBucket took something of the stream, the link has it, and what is due was acknowledged
+  abbrev pub Met : Kept → Asker → List Event → Type 0
+  Met states at events =
+      list_any is_taking events ≡ true → (is_streaming at.waiting ≡ true) × ((fv : Plain) → vb_of (now states at) n v ≡ Some fv → due (pending_prepares fv) (fork_of fv.position) fv.saved ≤ at.acked)
+
   pub record Gone (why : EndReason) (states : Kept) (events : List Event) : Type 0 where
     pub lawful : LawfulFrom r events
     pub quiet : AreQuiet events
@@ -157,10 +172,11 @@ module _ (line : Line) where
     pub what : Record
     pub rolls : rollback_of r (r.dial_of l) (r.point_of l) ≡ Some (n, (v, what))
     pub dials : (after_lines r events).dial_of ≡ r.dial_of
+    pub none_taken : list_any is_taking events ≡ false
     pub came : RolledCame what over states at events
 
   abbrev pub Stage : Bool → List Frame → Kept → Asker → Option EndReason → List Event → Type 0
-  Stage false busy states at None events = Going busy states at events
+  Stage false busy states at None events = Going busy states at events × Met states at events
   Stage false busy states at (Some why) events = Gone why states events
   Stage true busy states at over events = (spoken busy ≡ []) × RolledAt over states at events
 
@@ -199,18 +215,18 @@ module _ (line : Line) where
   StandsAt busy states at events g at' said = StandsWith busy states at events g at' (spoken said)
 
   -- an answer that is only counted, or a frame that is dropped
-  pub counted : (f : Frame) (rest : List Frame) (states : Kept) (at : Asker) (h : Handshake) (events : List Event) (g : Going (f ∷ rest) states at events)
+  pub counted : (f : Frame) (rest : List Frame) (states : Kept) (at : Asker) (h : Handshake) (events : List Event) (g : Going (f ∷ rest) states at events) → Met states at events → (is_streaming at.waiting ≡ true → is_streaming h ≡ true)
       → frame_taken f (so_far at None events) ≡ Ended (so_far (waits_for at h) None events)
       → StandsAt (f ∷ rest) states at events g (waits_for at h) (rest ++ (linked (f ∷ rest) states at events g).talk.downs.behind)
       → Reached rest (after_job (frame_taken f (so_far at None events)) states.0 states.1)
-  counted f rest states at h events g e stands = let m = linked (f ∷ rest) states at events g in let at' : Asker = waits_for at h in record {
+  counted f rest states at h events g met still e stands = let m = linked (f ∷ rest) states at events g in let at' : Asker = waits_for at h in record {
     states = states;
     at = at';
     over = None;
     events = events;
     same = ap (λ p. after_job p states.0 states.1) e;
     rolled = false;
-    stage = record {
+    stage = (record {
       lawful = g.lawful;
       quiet = g.quiet;
       onward = g.onward;
@@ -223,10 +239,11 @@ module _ (line : Line) where
             follower = m.follower;
             follower_is = m.follower_is;
             follows = m.follows;
+            acks = m.acks;
             dial = m.dial;
             talk = record { asked = m.talk.asked; said = rest ++ m.talk.downs.behind; stands = stands; ups = m.talk.ups; downs = next_downs at at' f rest m.talk.said m.talk.downs };
           }));
-    };
+    }, λ t. (still (met t).0, (met t).1));
   }
 
   -- the arms are as they were
@@ -452,3 +469,4 @@ pub record Before (line : Line) : Type 0 where
   pub at : Asker
   pub events : List Event
   pub going : Going line (f ∷ rest) states at events
+  pub met : Met line states at events

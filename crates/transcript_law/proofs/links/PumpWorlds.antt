@@ -3,10 +3,11 @@ use Rattle.std.specs.Prelude.{◌≡◌, ◌∷◌, ◌++◌, ◌==◌, if◌the
 use Rattle.transcript_law.proofs.{invariant.Agreement.{shelf_of}, verbs.NodeLines.{powers_again, shelves_again}}
 use Rattle.transcript_law.proofs.Words.{ℕ, true, false, List, [], refl, ap, sym, ◌∙◌, subst, Some, eqb-true, eq-eqb, ne_eqb, Event, Plain, row_put, States}
 use Rattle.transcript_law.proofs.Words.{with_vb_at, Halt, PlainProducer, Served, PlainLink, link_number, producer_node, PlainNode, PlainWorld, vb_in, with_node_at, with_states, with_links, Chronicle}
-use Rattle.transcript_law.proofs.Words.{after_line, after_lines, Granted, with_changed, LawfulLine, LawfulFrom, Turn, More, Stop, StreamName, told}
+use Rattle.transcript_law.proofs.Words.{after_line, after_lines, Granted, with_changed, LawfulLine, LawfulFrom, Turn, More, Stop, StreamName, Why, told, why_of}
 use Rattle.transcript_law.proofs.invariant.Agreement.{vb_of, Agrees}
 use Rattle.transcript_law.proofs.lines.Lines.{IsQuiet, AreQuiet, after_more, lawful_more, quiet_more}
 use Rattle.transcript_law.proofs.invariant.Tables.{changed_there}
+use Rattle.transcript_law.specs.Undone.{AllPut}
 use Rattle.transcript_law.proofs.invariant.Carrying.{SamePowers, ToldOf}
 
 -- the link with this end at its producer, and with what that wrote
@@ -24,10 +25,10 @@ pub record SoFar (w : PlainWorld) (r : Chronicle) (l : ℕ) (link : PlainLink) (
   pub desk : s.end.desk ≡ link.server.desk
   pub agrees : Agrees (pumped w l link node states s) (after_lines r s.events)
 
--- the same after one turn
+-- the same after one turn; where there is no more to put, all was put that the lines so far let the stream have
 abbrev pub TurnSoFar : PlainWorld → Chronicle → ℕ → PlainLink → PlainNode → States → Turn Served (Served × Halt) → Type 0
 TurnSoFar w r l link node states (More s) = SoFar w r l link node states s
-TurnSoFar w r l link node states (Stop stopped) = SoFar w r l link node states stopped.0
+TurnSoFar w r l link node states (Stop stopped) = SoFar w r l link node states stopped.0 × (why_of stopped.1 ≡ Why.Idle → AllPut (after_lines r stopped.0.events) l)
 
 -- of the states and the turn that a program came to
 abbrev pub TurnsSoFar : PlainWorld → Chronicle → ℕ → PlainLink → PlainNode → States × Turn Served (Served × Halt) → Type 0

@@ -1,9 +1,15 @@
 -- a consumer that is sent back: it goes back to the greatest complete point of its journal, once that is written down, and asks again
 use Rattle.std.specs.Prelude.{◌≡◌, ◌+◌, ◌<◌, ◌≤◌, ◌∷◌, ◌++◌, ◌==◌, ◌^◌, ◌-◌, if◌then◌else◌}
+use Rattle.std.proofs.lemmas.Bool.{false_from_ne_true}
+use Rattle.transcript_law.specs.Undone.{is_taking}
+use Rattle.dcp_consumer.specs.Machine.{is_streaming}
+use Rattle.std.specs.Prelude.{◌||◌}
+use Rattle.transcript_law.proofs.Words.{list_any-append}
+use Rattle.transcript_law.proofs.Words.{list_any}
 use Rattle.transcript_law.proofs.Words.{ℕ, Bool, true, false, List, [], map, refl, ap, sym, ◌∙◌, subst, arith, inl, inr, append_assoc, Option, Some, None, option_map, vb_in, shelf_in, Dial, with_id}
 use Rattle.transcript_law.proofs.Words.{nat_lt, concat, eq-eqb, ne_eqb, nat_tests, not, filter-append, All, All-nil, All-cons, All-tail, Frame, spelling, Readable, dcp_frame, Event}
 use Rattle.transcript_law.proofs.Words.{StreamAsk, request_of, Cluster, Move, SoundCluster, happens, keeps, Plain, quiet_reply, refusal_reply, after_job, after_job_bind, after_job_lift, lift, Position}
-use Rattle.transcript_law.proofs.Words.{with_vb_at, call_at, row_out, row_put, DialResult, with_line, roll_back, named_ask, link_number, PlainLink, PlainWorld, with_links, unlinked}
+use Rattle.transcript_law.proofs.Words.{with_vb_at, call_at, row_out, row_put, DialResult, with_line, roll_back, named_ask, link_number, PlainLink, StreamName, PlainWorld, with_links, unlinked}
 use Rattle.transcript_law.proofs.{Words.{Chronicle, after_end, after_lines, LawfulLine}, invariant.Tables.{at_here}, invariant.Agreement.{shelf_of, DiskIsIf, IsArm, PowerIs, PowerIsIf, Power, power_of}}
 use Rattle.transcript_law.proofs.invariant.Agreement.{AgreesAt, Agrees, VbAgrees, UpIs, DownAgrees, ServerIs, LinkAgrees, is_open, is_refused_ack, spoken, top, consumer_seat, AgreesIn, Busy, idle, EndsStand}
 use Rattle.transcript_law.proofs.{invariant.LinkRows.{put_out}, invariant.Carrying.{MemberChanged, Changed, BecameOver, Rearmed, Relinked}, links.Cutting.{IsClosable, unlinking}, invariant.OneLink.{put_here, put_there, disk_here, disk_there, consumer_quiet, carries_armed, carries_left, carries_same, consumer_rests, out_ends}}
@@ -36,6 +42,7 @@ pub record Back (line : Line) : Type 0 where
   pub point : (after_lines line.r events).point_of line.link.consumer.dialed.link ≡ Some named
   pub asks : at.waiting ≡ waiting.Asking
   pub server : ServerIs line.link.server line.link.consumer.dialed (first_count line.link.consumer.dialed)
+  pub untold : (after_lines line.r events).stream_of (StreamName.Link line.link.consumer.dialed.link) line.link.consumer.dialed.vb ≡ None
   pub no_stream : line.link.server.stream ≡ None
   pub ups : UpIs (link_now line at) [] []
   pub said : List Frame
@@ -55,7 +62,7 @@ readable_behind (f ∷ xs) ys good = readable_behind xs ys (All-tail Readable f 
 module _ (line : Line) (back : Back line) where
   open line use {w, r, link, node}
   open line.link.consumer.dialed use {node as n, vb as v, link as l}
-  open back use {before.{stays, f, rest, states, at, events, going, going.{cluster as c}}, named}
+  open back use {before.{stays, f, rest, states, at, events, going, met, going.{cluster as c}}, named}
 
   abbrev pub k : ℕ
   k = consumer_seat link
@@ -67,6 +74,10 @@ module _ (line : Line) (back : Back line) where
   mine = linked line (f ∷ rest) states at events going
 
   open mine use {follower as fv}
+
+  -- nothing was taken of a stream yet
+  pub none_yet : list_any is_taking events ≡ false
+  none_yet = false_from_ne_true (list_any is_taking events) (λ t. let z : true ≡ false = sym (met t).0 ∙ ap is_streaming back.asks in cc)
 
   -- the consumer drops all frames that are to come
   dropped : (spoken rest ≡ []) × (spoken back.downs.behind ≡ [])
@@ -303,11 +314,12 @@ module _ (line : Line) (back : Back line) where
       follower = fv';
       follower_is = vb_put line states shelves' again fv';
       follows = mine.follows;
+      acks = mine.acks;
       dial = mine.dial;
       talk = record {
         asked = ask_frame ∷ [];
         said = back.downs.behind;
-        stands = EndsStand.IsAsking ask (record {
+        stands = EndsStand.IsAsking ask back.untold (record {
           no_stream = back.no_stream;
           asking = record {
             answered = first_count link.consumer.dialed;
@@ -369,6 +381,9 @@ module _ (line : Line) (back : Back line) where
     lawful = ((l, link.server.desk.node, mine.dialed, back.point), farthest (told.disk_at n v).book named to told_point)
 
     -- its link is dialed as it was
+    rolled_untaken : list_any is_taking events' ≡ false
+    rolled_untaken = list_any-append is_taking events (rolled_line ∷ []) ∙ ap (λ x. x || false) none_yet
+
     rolled_dials : (after_lines r events').dial_of ≡ r.dial_of
     rolled_dials = ap (λ (x : Chronicle). x.dial_of) (after_more r events (rolled_line ∷ [])) ∙ (onward_all r events going.onward.lines).dials
 
@@ -390,6 +405,7 @@ module _ (line : Line) (back : Back line) where
               what = noted.Roll to;
               rolls = rolls;
               dials = rolled_dials;
+              none_taken = rolled_untaken;
               came = (
                 ap over_why back.asks,
                 rolled_last events n v named to,
@@ -419,6 +435,7 @@ module _ (line : Line) (back : Back line) where
           what = noted.Roll to;
           rolls = rolls;
           dials = rolled_dials;
+          none_taken = rolled_untaken;
           came = (
             rolled_last events n v named to,
             subst (λ x. Agrees (unlinked link (lifted_at line states')) (after_calls calls_of_append n (after_end x l))) (sym (after_more r events (rolled_line ∷ [])))

@@ -134,6 +134,7 @@ rolled_disk {d = d} shelf fv to image cas opens x = record {
   closed = x.closed;
   flush = (refl, (λ e. refl), omega arith);
   saved = refl;
+  taken = refl;
   spots = no_spots to [];
   floor = omega arith;
   cas = x.cas;

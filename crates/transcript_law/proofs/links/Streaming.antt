@@ -1,5 +1,7 @@
 -- a stream's frames, as its consumer takes them
 use Rattle.std.specs.Prelude.{◌≡◌, ◌<◌, ◌≤◌, ◌∷◌, ◌++◌, ◌&&◌, ◌^◌}
+use Rattle.dcp_consumer.specs.Machine.{is_streaming}
+use Rattle.transcript_law.proofs.links.Downing.{answered_streams}
 use Rattle.transcript_law.proofs.Words.{ℕ, Bool, true, false, List, [], map, drop, refl, ap, sym, ◌∙◌, subst, arith, option_map, Option, Some, None, not, is_some, suc, and_parts, length-append}
 use Rattle.transcript_law.proofs.Words.{nat_tests, Frame, dcp_frame, Change, EndReason, Event, front, uuid_of, Position, Rises, last_seq, IsOf, HasLast, Covers, hist_rises, hist, Shared, image_of, ground, Linked}
 use Rattle.transcript_law.proofs.Words.{stream_branch, above, member_reach, flight_from, Member, Move, SoundCluster, adopted, marked_by, received, keeps, kin_shared, VbCall, VbReply, Plain, plain_step, is_follower, is_answerable}
@@ -7,7 +9,7 @@ use Rattle.transcript_law.proofs.Words.{marker_fits, marked_vb, is_next, with_re
 use Rattle.transcript_law.proofs.{Words.{go_on_with, call_made, frame_taken, ItemLine, Chronicle, with_at, held_more, past_next, past_mark, after_line, after_lines, item_of_change, LawfulLine}, links.Sent.{act_told, change_line, message_of}}
 use Rattle.transcript_law.proofs.{links.Sent.{items_frames_cons}, lines.Lines.{IsQuiet}, invariant.Seats.{seat, seat_one}, invariant.Agreement.{vb_of, ChangeFits, image_is, AgreesAt, own_history, VbAgrees, ConsumerIs, Streaming, LinkAgrees}}
 use Rattle.transcript_law.proofs.{links.Firsts.{Next, first_answers, first_count, next_answer, waits_after}, links.Requests.{answers_count, few_first, waits_streaming}}
-use Rattle.transcript_law.proofs.invariant.Agreement.{StreamAgrees, is_granted, coming_items, flight_items, ComingIs, items_frames, end_frames, flight_frames, marker_start, spoken, stream_frames, top, consumer_seat}
+use Rattle.transcript_law.proofs.invariant.Agreement.{AckedIs, acked_still, StreamAgrees, is_granted, coming_items, flight_items, ComingIs, items_frames, end_frames, flight_frames, marker_start, spoken, stream_frames, top, consumer_seat}
 use Rattle.transcript_law.proofs.{invariant.Agreement.{wants_of, EndsStand, UpIs, vb_row, vb_contents, DialAgrees}, invariant.Carrying.{TakenOf}, invariant.OneLink.{put_here, put_there, consumer_quiet}, links.Comings.{next_item_line}, links.Rolling.{not_for}}
 use Rattle.transcript_law.proofs.{links.AckLines.{due_going}, links.Acknowledging.{due_none, on_stream}, invariant.Tables.{is_dialed, range_here, range_there, at_there, changed_here, changed_there, never}, links.Taken.{next_covers, next_of, next_fits, range_is_lawful, got_is_lawful, go_frame}}
 use Rattle.transcript_law.proofs.{links.Taken.{is_none, stream_adopted, stream_marked, stream_received, first_taken, go_taken, marker_taken, change_taken, end_taken}, links.Followed.{came_of, own_is, adopt_is, adopted_agrees}}
@@ -43,7 +45,7 @@ module _ (line : Line) (course : Course line) where
   open line use {w, r, link}
   open line.link.consumer.dialed use {node as n, vb as v, link as l}
   open line.link.server.desk use {node as p}
-  open course use {before.{stays, f, rest, states, at, events, going, at.{asked as o}, going.{cluster as c}}, streaming, streaming.{feed, granted_is.{over}}}
+  open course use {before.{stays, f, rest, states, at, events, met, going, at.{asked as o}, going.{cluster as c}}, streaming, streaming.{feed, granted_is.{over}}}
 
   abbrev dial : Dialed
   dial = link.consumer.dialed
@@ -96,7 +98,7 @@ module _ (line : Line) (course : Course line) where
       let before : is_granted dial streaming.seen ≡ false = grind (arith, nat_tests) in
       let later : is_granted dial (suc streaming.seen) ≡ false = grind (arith, nat_tests) in
       let same : is_granted dial streaming.seen ≡ is_granted dial (suc streaming.seen) = before ∙ sym later in
-      counted line f rest states at (answered dial.buffer at.waiting) events going (first_taken streaming.seen f others s h streaming.consumer.waits)
+      counted line f rest states at (answered dial.buffer at.waiting) events going met (answered_streams dial.buffer at.waiting) (first_taken streaming.seen f others s h streaming.consumer.waits)
       (EndsStand.IsStreaming (record {
         granted_is = streaming.granted_is;
         told = streaming.told;
@@ -125,10 +127,10 @@ module _ (line : Line) (course : Course line) where
     Then = Streaming (wants_of fv') kn' (vb_of (now line states at) p v) (c.nodes (seat p v)) ((after_line told tell).stream_of (Link l) v) link.server (end_of line at' None) mine.talk.asked more
 
     -- the line, the vBucket and the member go on together
-    on_reached : (came : Kept × DialResult) → fv'.streams ≡ fv.streams → came ≡ after_job (lift (due_requested (so_far line at' None (events ++ tell ∷ [])))) states'.0 states'.1 → IsOnward tell → IsQuiet tell → LawfulLine told tell []
+    on_reached : is_streaming at'.waiting ≡ true → (AckedIs (told.stream_of (Link l) v) at.acked → AckedIs ((after_line told tell).stream_of (Link l) v) at'.acked) → (came : Kept × DialResult) → fv'.streams ≡ fv.streams → came ≡ after_job (lift (due_requested (so_far line at' None (events ++ tell ∷ [])))) states'.0 states'.1 → IsOnward tell → IsQuiet tell → LawfulLine told tell []
         → TakenOf l n v told (after_line told tell) → (d : Disk) → SoundCluster top (set_node c k kn' d) → VbAgrees (after_line told tell) n v kn' fv'
         → ((shelf : Shelf) → ShelfIs (told.disk_at n v) (c.disks k) shelf (parts_of fv) → ShelfIs ((after_line told tell).disk_at n v) d shelf (parts_of fv')) → UpIs (link_now line at') [] mine.talk.asked → Then → Reached line rest came
-    on_reached came streams e o q lawful taken d sound agrees disk ups x =
+    on_reached granted acks came streams e o q lawful taken d sound agrees disk ups x =
         subst (Reached line rest) (sym e) (due_going line rest states' at' (events ++ tell ∷ []) (moved_on line f rest states at at' events fv fv' tell (set_node c k kn' d) going mine.follower_is role_same streams o q lawful taken
         (record { tree = refl; others = λ j ne. put_there c.nodes k kn' j ne; disks = λ j ne. disk_there c.disks k d j ne }) sound (subst (λ y. VbAgrees (after_line told tell) n v y fv') (sym (put_here c.nodes k kn')) agrees)
         (subst (λ y. DiskIsIf ((after_line told tell).disk_at n v) y (shelf_of (now line (put_vb states v fv') at') n v) (Some fv')) (sym (disk_here c.disks k d))
@@ -136,10 +138,11 @@ module _ (line : Line) (course : Course line) where
           follower = fv';
           follower_is = vb_put line states states.1 at' fv';
           follows = ap is_follower role_same ∙ mine.follows;
+          acks = acks mine.acks;
           dial = subst (λ o. DialAgrees o link.server.desk link.consumer.dialed) (sym dial_same) mine.dial;
           talk = talk_same (put_here c.nodes k kn') (vb_others line states states.1 at at' fv' p v (λ e f. streaming.apart e)) (put_there c.nodes k kn' (seat p v) seats_apart) refl refl
               (record { asked = mine.talk.asked; said = rest ++ mine.talk.downs.behind; stands = EndsStand.IsStreaming x; ups = ups; downs = next_downs line at at' f rest mine.talk.said mine.talk.downs });
-        })))
+        })) granted)
       where
         disk_before : DiskIsIf (told.disk_at n v) (c.disks k) (shelf_of (now line states at) n v) (Some fv)
         disk_before = subst (DiskIsIf (told.disk_at n v) (c.disks k) (shelf_of (now line states at) n v)) mine.follower_is (going.agrees.disks n v)
@@ -183,7 +186,7 @@ module _ (line : Line) (course : Course line) where
       let joined : Shared c.tree kn.br feed.u (member_reach kn) = kin_shared (ground c) kn.br feed.u (member_reach kn) (subst (λ y. Linked (ground c) kn y (Some feed)) none (subst (Linked (ground c) kn kn.coming) streaming.fed (going.agrees.sound.stands k).linked)).0.0 in
       let at' : Asker = waits_for at waiting.Streaming in
       let asks : at.waiting ≡ waiting.Asking = waits_last line at streaming.seen all streaming.consumer in
-      on_reached fv' kn' at' (event.Adopted n v feed.log) refl refl (after_job (lift (go_on_with feed.log s)) states.0 states.1) refl
+      on_reached fv' kn' at' (event.Adopted n v feed.log) refl refl refl (λ x. x) (after_job (lift (go_on_with feed.log s)) states.0 states.1) refl
       (came_on (call.Adopt feed.log) (adopt_result feed.log s) fv' _ (adopt_is fv feed.log true mine.follows a)
       ∙ ap (λ h. after_job (lift (due_requested (with_line (with_consumer s (with_handshake s.dial.consumer (streaming_after h))) (event.Adopted n v feed.log)))) (put_vb states v fv').0 states.1) asks) tt tt
       (l, p, streaming.granted_is, mine.dialed, streaming.told, sym streaming.streams.log_lines)
@@ -261,7 +264,7 @@ module _ (line : Line) (course : Course line) where
       let above : kn.position.at < x.0 = subst (λ y. y < x.0) from whole.0.goes_on in
       let inside : (is_granted dial last && not fv'.first) ≡ true = ap (λ b. b && not fv'.first) granted_last in
       let ends : last_seq kn.position.at x.1 ≡ x.0 = subst (λ y. last_seq y x.1 ≡ x.0) from whole.0.reaches in
-      on_reached fv' kn' at (event.Ranged n v (min start fv.position.at) x.0) refl refl (after_job (lift (call_made (call.Marker start x.0) s)) states.0 states.1) refl
+      on_reached fv' kn' at (event.Ranged n v (min start fv.position.at) x.0) refl refl (ap is_streaming (granted_now all)) (acked_still _ past_mark (told.stream_of (Link l) v) at.acked (λ g. refl)) (after_job (lift (call_made (call.Marker start x.0) s)) states.0 states.1) refl
       (came_on (call.Marker start x.0) (message_result s) fv' _ (marker_is fv start x.0 true mine.follows a)) tt tt
       (range_is_lawful (busy_at line (f ∷ rest)) (now line states at) told c k feed going.agrees streaming.fed n v l p fv.position.at streaming.granted_is mine.dialed streaming.told streaming.streams.front_is
       (ap (last_seq 0) vb.held ∙ vb.high) (on_it (ap is_some none)) start x later streaming.streams.marks flight (subst (λ (q : Position). q.at < x.0) vb.member.position above))
@@ -338,7 +341,7 @@ module _ (line : Line) (course : Course line) where
       let points_of_branch : IsOf (own_history told n v) x = subst (λ h. IsOf h x) own (next_of (busy_at line (f ∷ rest)) (now line states at) told c k feed going.agrees streaming.fed x later coming) in
       let followed : HasLast (above kn'.held kn'.position.ss) (own_history told n v) kn'.position.ss kn'.position.at kn'.position.se =
       subst (λ h. HasLast (above kn'.held kn'.position.ss) h kn'.position.ss kn'.position.at kn'.position.se) own (subst (λ y. Stands (ground c) y) (put_here c.nodes k kn') (kept.stands k)).follows.has in
-      on_reached fv' kn' at (event.Got n v (Link l) x) refl refl (after_job (lift (call_made (call.Receive (change_line x)) s)) states.0 states.1) refl
+      on_reached fv' kn' at (event.Got n v (Link l) x) refl refl (ap is_streaming (granted_now all)) (acked_still _ past_next (told.stream_of (Link l) v) at.acked (λ g. refl)) (after_job (lift (call_made (call.Receive (change_line x)) s)) states.0 states.1) refl
       (came_on (call.Receive (change_line x)) (message_result s) fv' _ (receive_is fv x true (Some x.act) mine.follows a done)) tt tt
       (got_is_lawful (busy_at line (f ∷ rest)) (now line states at) told c k feed going.agrees streaming.fed n v l p fv.position.at streaming.granted_is mine.dialed streaming.told streaming.streams.front_is
       (ap (last_seq 0) vb.held ∙ vb.high) (on_it (ap is_some coming)) x later coming up next.0 next.1)

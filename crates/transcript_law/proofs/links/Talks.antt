@@ -1,6 +1,6 @@
 -- where the two ends of a link stand, after the producer's end read or answered
 use Rattle.std.specs.Prelude.{◌≡◌, ◌<◌, ◌≤◌, ◌∷◌, ◌++◌}
-use Rattle.transcript_law.proofs.Words.{ℕ, suc, false, List, [], length, map, take, drop, ap, sym, ◌∙◌, subst, arith, Option, concat, drop-append-le, All-tail, All-push, Frame, spelling}
+use Rattle.transcript_law.proofs.Words.{ℕ, suc, false, List, [], length, map, take, drop, ap, sym, ◌∙◌, subst, arith, Option, None, concat, drop-append-le, All-tail, All-push, Frame, spelling}
 use Rattle.transcript_law.proofs.Words.{Readable, frames_in, left_of, pieces_of_frames, StreamAsk, Member, Plain, PlainProducer, PlainLink, Granted}
 use Rattle.std.proofs.lemmas.List.{length-take}
 use Rattle.transcript_law.proofs.links.Firsts.{Begin, behind_first, first_answers, first_count, front_ends, goes_on_short, request_frames}
@@ -54,13 +54,13 @@ module _ (link : PlainLink) (end : PlainProducer) (down : List ℕ) (a : Frame) 
   }
 
   -- one of the first requests was answered
-  pub next_asking : (fv : Plain) (kn : Member) (pv : Option Plain) (leader : Member) (granted : Option Granted) (point : Option ℕ) (ask : StreamAsk) (f g : Frame) (fs asked said : List Frame) (k : ℕ)
+  pub next_asking : (fv : Plain) (kn : Member) (pv : Option Plain) (leader : Member) (granted : Option Granted) → granted ≡ None → (point : Option ℕ) (ask : StreamAsk) (f g : Frame) (fs asked said : List Frame) (k : ℕ)
       (t : Asking (wants_of fv) ask link.server link.consumer asked (spoken said)) → UpIs link (f ∷ fs) asked → DownAgrees link [] said
       → down ≡ link.down ++ spelling a → end.stream ≡ link.server.stream → Readable a → is_refused_ack a ≡ false
       → t.answered ≡ k → k < first_count link.consumer.dialed → ServerIs end link.consumer.dialed (suc k)
       → Begin (drop k (request_frames link.consumer.asked link.consumer.dialed ask)) g → Begin (drop k (first_answers link.consumer.dialed)) a
       → Talk fv kn pv leader granted point answered_link fs []
-  next_asking fv kn pv leader granted point ask f g fs asked said k t ups downs wrote same_stream good no_ack is few server (rest, here) (others, says) =
+  next_asking fv kn pv leader granted none point ask f g fs asked said k t ups downs wrote same_stream good no_ack is few server (rest, here) (others, says) =
       let frames : List Frame = request_frames link.consumer.asked link.consumer.dialed ask in
       let answers : List Frame = first_answers link.consumer.dialed in
       let short : k < length answers = goes_on_short k answers a others says in
@@ -68,7 +68,7 @@ module _ (link : PlainLink) (end : PlainProducer) (down : List ℕ) (a : Frame) 
       record {
         asked = rest;
         said = said ++ a ∷ [];
-        stands = EndsStand.IsAsking ask (record {
+        stands = EndsStand.IsAsking ask none (record {
           no_stream = same_stream ∙ t.no_stream;
           asking = record {
             answered = suc k;

@@ -6,7 +6,7 @@ use Rattle.transcript_law.proofs.Words.{ℕ, Bool, true, false, List, refl, ap, 
 use Rattle.transcript_law.proofs.Words.{eqb-true, eqb-false, Frame, Feed, Member, Cluster, SoundCluster, Stream, Plain, is_follower, stream_ids, stream_at, ended_in, PlainStream, PlainLink}
 use Rattle.transcript_law.proofs.Words.{link_number, producer_node, consumer_node, PlainWorld, link_ended, links_ended, Granted, Chronicle, [], list_any, StreamName, ended_by}
 use Rattle.transcript_law.proofs.invariant.Seats.{seat, seats_apart}
-use Rattle.transcript_law.proofs.invariant.Agreement.{vb_of, AgreesAt, Open, kept_stream, Talk, consumer_seat, producer_seat, LinkAgrees, IsLink, is_open, Differ, DifferFrom, LinksDiffer, top, idle, AgreesIn, BranchesAgree, Wants, EndsStand, DialAgrees}
+use Rattle.transcript_law.proofs.invariant.Agreement.{AckedIs, vb_of, AgreesAt, Open, kept_stream, Talk, consumer_seat, producer_seat, LinkAgrees, IsLink, is_open, Differ, DifferFrom, LinksDiffer, top, idle, AgreesIn, BranchesAgree, Wants, EndsStand, DialAgrees}
 use Rattle.transcript_law.proofs.invariant.Carried.{SameStream, places, streaming_again, talk_same}
 use Rattle.transcript_law.proofs.{invariant.Agreement.{EndsUp, RestsIn, VbRow, vb_row}, invariant.Carrying.{SamePowers}, invariant.Resting.{ends_same, rests_by}}
 
@@ -49,6 +49,7 @@ told_by n v ids x P here there = elim (producer_node x == n) as (λ b. (producer
 pub record Alike (x y : PlainLink) : Type 0 where
   pub dialed : y.consumer.dialed ≡ x.consumer.dialed
   pub desk : y.server.desk ≡ x.server.desk
+  pub acked : y.consumer.acked ≡ x.consumer.acked
   pub opens : is_open y.server.stream ≡ true → is_open x.server.stream ≡ true
 
 pub open_before : (v : ℕ) (ids : List ℕ) (id : ℕ) (o : Option PlainStream) → is_open (option_map (ended_in v ids id) o) ≡ true → is_open o ≡ true
@@ -58,8 +59,8 @@ open_before v ids id (Some stream) e =
 
 pub told_alike : (n v : ℕ) (ids : List ℕ) (x : PlainLink) → Alike x (link_ended n v ids x)
 told_alike n v ids x = told_by n v ids x (Alike x)
-    (λ e. record { dialed = refl; desk = refl; opens = λ q. open_before v ids x.server.desk.id x.server.stream q })
-    (λ ne. record { dialed = refl; desk = refl; opens = λ q. q })
+    (λ e. record { dialed = refl; desk = refl; acked = refl; opens = λ q. open_before v ids x.server.desk.id x.server.stream q })
+    (λ ne. record { dialed = refl; desk = refl; acked = refl; opens = λ q. q })
 
 differ_alike : (x x' y y' : PlainLink) → Alike x x' → Alike y y' → Differ x y → Differ x' y'
 differ_alike x x' y y' a b d = record {
@@ -125,8 +126,8 @@ module _ (w w' : PlainWorld) (r r' : Chronicle) (c c' : Cluster) (n v : ℕ) (vb
     -- at the node
     stand_here : EndsStand fv kn (vb_of w (producer_node x) x.consumer.dialed.vb) (c.nodes (producer_seat x)) g point x.server x.consumer asked said
         → EndsStand fv kn (vb_of w' (producer_node x) x.consumer.dialed.vb) (c'.nodes (producer_seat x)) g point (restreamed x (option_map (ended_in v ids x.server.desk.id) x.server.stream)).server x.consumer asked said
-    stand_here (EndsStand.IsAsking ask y) = EndsStand.IsAsking ask (record { no_stream = ap (option_map (ended_in v ids x.server.desk.id)) y.no_stream; asking = y.asking })
-    stand_here (EndsStand.IsRefusedYet y) = EndsStand.IsRefusedYet (record { no_stream = ap (option_map (ended_in v ids x.server.desk.id)) y.no_stream; refusal = y.refusal })
+    stand_here (EndsStand.IsAsking ask none y) = EndsStand.IsAsking ask none (record { no_stream = ap (option_map (ended_in v ids x.server.desk.id)) y.no_stream; asking = y.asking })
+    stand_here (EndsStand.IsRefusedYet none y) = EndsStand.IsRefusedYet none (record { no_stream = ap (option_map (ended_in v ids x.server.desk.id)) y.no_stream; refusal = y.refusal })
     stand_here (EndsStand.IsStreaming y) =
         let ends : PlainStream → PlainStream = ended_in v ids x.server.desk.id in
         EndsStand.IsStreaming (streaming_again y
@@ -137,8 +138,8 @@ module _ (w w' : PlainWorld) (r r' : Chronicle) (c c' : Cluster) (n v : ℕ) (vb
 
     -- at another node
     stand_there : (producer_node x ≡ n → ⊥) → EndsStand fv kn (vb_of w (producer_node x) x.consumer.dialed.vb) (c.nodes (producer_seat x)) g point x.server x.consumer asked said → EndsStand fv kn (vb_of w' (producer_node x) x.consumer.dialed.vb) (c'.nodes (producer_seat x)) g point x.server x.consumer asked said
-    stand_there away (EndsStand.IsAsking ask y) = EndsStand.IsAsking ask y
-    stand_there away (EndsStand.IsRefusedYet y) = EndsStand.IsRefusedYet y
+    stand_there away (EndsStand.IsAsking ask none y) = EndsStand.IsAsking ask none y
+    stand_there away (EndsStand.IsRefusedYet none y) = EndsStand.IsRefusedYet none y
     stand_there away (EndsStand.IsStreaming y) = EndsStand.IsStreaming
         (streaming_again y
         x.server.stream y.stream (record { vb = refl; opaque = refl; items = refl; next = refl; ended = λ e. e }) y.stream_is (λ e. goes_on x y.granted_is y.feed (λ s vs. away s) (y.streams.opens e)))
@@ -161,15 +162,16 @@ module _ (w w' : PlainWorld) (r r' : Chronicle) (c c' : Cluster) (n v : ℕ) (vb
       let is : vb_of w' (consumer_node x) x.consumer.dialed.vb ≡ Some fv = became.there (consumer_node x) x.consumer.dialed.vb apart ∙ l.follower_is in
       let talk : Talk fv (c'.nodes (consumer_seat x)) (vb_of w' (producer_node x) x.consumer.dialed.vb) (c'.nodes (producer_seat x)) (r'.stream_of (StreamName.Link k) x.consumer.dialed.vb) (r'.point_of k) (link_ended n v ids x) [] [] =
       talk_same same refl refl (streams k x.consumer.dialed.vb) (points k) (talk_told x fv kn (r.stream_of (StreamName.Link k) x.consumer.dialed.vb) (r.point_of k) l.talk) in
-      agrees_at (link_ended n v ids x) (told_alike n v ids x) is l.follows (subst (λ o. DialAgrees o x.server.desk x.consumer.dialed) (sym (dials k)) l.dial) talk
+      agrees_at (link_ended n v ids x) (told_alike n v ids x) is l.follows (subst (λ o. AckedIs o x.consumer.acked) (sym (streams k x.consumer.dialed.vb)) l.acks) (subst (λ o. DialAgrees o x.server.desk x.consumer.dialed) (sym (dials k)) l.dial) talk
     where
       -- in terms of the link as it is then
-      agrees_at : (y : PlainLink) → Alike x y → {fv : Plain} → vb_of w' (consumer_node x) x.consumer.dialed.vb ≡ Some fv → is_follower fv.role ≡ true → DialAgrees (r'.dial_of (link_number x)) x.server.desk x.consumer.dialed
+      agrees_at : (y : PlainLink) → Alike x y → {fv : Plain} → vb_of w' (consumer_node x) x.consumer.dialed.vb ≡ Some fv → is_follower fv.role ≡ true → AckedIs (r'.stream_of (StreamName.Link (link_number x)) x.consumer.dialed.vb) x.consumer.acked → DialAgrees (r'.dial_of (link_number x)) x.server.desk x.consumer.dialed
           → Talk fv (c'.nodes (consumer_seat x)) (vb_of w' (producer_node x) x.consumer.dialed.vb) (c'.nodes (producer_seat x)) (r'.stream_of (StreamName.Link (link_number x)) x.consumer.dialed.vb) (r'.point_of (link_number x)) y [] [] → LinkAgrees w' r' c' y [] []
-      agrees_at y same {fv} is follows dial talk = record {
+      agrees_at y same {fv} is follows acks dial talk = record {
         follower = fv;
         follower_is = ap (λ d. vb_of w' d.node d.vb) same.dialed ∙ is;
         follows = follows;
+        acks = subst (λ d. AckedIs (r'.stream_of (StreamName.Link d.link) d.vb) y.consumer.acked) (sym same.dialed) (subst (λ a. AckedIs (r'.stream_of (StreamName.Link (link_number x)) x.consumer.dialed.vb) a) (sym same.acked) acks);
         dial = subst (λ d. DialAgrees (r'.dial_of d.link) y.server.desk d) (sym same.dialed) (subst (λ d. DialAgrees (r'.dial_of (link_number x)) d x.consumer.dialed) (sym same.desk) dial);
         talk = subst (λ d. Talk fv (c'.nodes (seat d.node d.vb)) (vb_of w' y.server.desk.node d.vb) (c'.nodes (seat y.server.desk.node d.vb)) (r'.stream_of (StreamName.Link d.link) d.vb) (r'.point_of d.link) y [] []) (sym same.dialed)
             (subst (λ k. Talk fv (c'.nodes (consumer_seat x)) (vb_of w' k.node x.consumer.dialed.vb) (c'.nodes (seat k.node x.consumer.dialed.vb)) (r'.stream_of (StreamName.Link (link_number x)) x.consumer.dialed.vb) (r'.point_of (link_number x)) y [] []) (sym same.desk) talk);

@@ -7,7 +7,7 @@ use Rattle.transcript_law.proofs.Words.{place_answered, next_put, stream_put, fr
 use Rattle.transcript_law.proofs.Words.{Begun, Chronicle, is_dial_of, with_item, finished, after_lines, item_of_change, IsNextItem, Readable, inl, ⊎_elim, arith, is_some, not, eq-eqb, ne_eqb}
 use Rattle.transcript_law.proofs.Words.{Position, Snapshot, Covers, fork_of, hist, hist_rises, Rises, ground, Move, SoundCluster, Linked, happens, flight_from, flight_end, start_cases, keeps, VbReply, Stream, Span}
 use Rattle.transcript_law.proofs.Words.{Plain, all_spans, stream_at, end_span, take_to, take_from, with_vb_at, call_at, marker_put, snapshot_of_reply, taken_put, stream_branch, with_begun, IsMarker, LawfulMark}
-use Rattle.transcript_law.proofs.invariant.Agreement.{DownAgrees, vb_of, is_granted, is_refused_ack, spoken, Wants, BegunAgrees, kept_stream, Streaming, consumer_seat, producer_seat, LinkAgrees, is_open, idle, AgreesIn, ChangeFits, wants_of, EndsStand, own_history, VbAgrees, all_rise}
+use Rattle.transcript_law.proofs.invariant.Agreement.{acked_still, DownAgrees, vb_of, is_granted, is_refused_ack, spoken, Wants, BegunAgrees, kept_stream, Streaming, consumer_seat, producer_seat, LinkAgrees, is_open, idle, AgreesIn, ChangeFits, wants_of, EndsStand, own_history, VbAgrees, all_rise}
 use Rattle.transcript_law.proofs.{invariant.Agreement.{AgreesAt, Open, top}, invariant.Tables.{is_dialed, changed_here}, invariant.LinkRows.{found_is_link, put_is_found, put_twice}, invariant.OneLink.{carries_link, carries_producer, carries_same}}
 use Rattle.transcript_law.proofs.{links.Sent.{message_of, all_found, not_found, end_readable, marker_readable}, links.Putting.{next_item_of, item_streaming, end_streaming, item_readable}, links.Marking.{whole_if, items_fit, moved_there}}
 use Rattle.transcript_law.proofs.{links.Marking.{covers_more, moved_vb, sent_member, taken_stream, start_is, reaches, marker_lawful, marker_streaming, SnapshotTaken, taken_is, span_snapshot}, links.PumpWorlds.{pumped_shelves, served_link, pumped, SoFar}}
@@ -18,6 +18,8 @@ use Rattle.{dcp_producer.specs.declared.desk.Desk.{Desk}, mcbp_dcp.specs.declare
 use Rattle.{transcript_law.specs.Chronicles.{with_changed}, transcript_law.specs.Lawfulness.{line_act}, vb_calls.specs.Streams.{is_in_memory, place_reply}, vb_calls.specs.State.{quiet_reply}, vb_calls.specs.declared.calls.VbAnswer.TheVariants.{Placed}, vb_types.specs.declared.stream.Place.TheVariants.{Memory, WaitSaved}, vb_calls.specs.declared.calls.VbCall.TheVariants.{Place, Take}}
 use Rattle.{vb_types.specs.declared.change.Act.TheVariants.{Set}, vb_events.specs.declared.event.StreamName.TheVariants.{Link}}
 use Rattle.vb_events.specs.declared.event.Event.TheVariants as event
+use Rattle.transcript_law.proofs.links.Idling.{active_is, all_put_by, no_more, none_told, put_whole}
+use Rattle.transcript_law.{proofs.Words.{Dial, last_seq}, specs.Undone.{AllPut, HasNoMore}}
 
 -- the snapshot of an item
 begun_of : (o : Option Begun) (stream : PlainStream) (c : Change) → BegunAgrees o stream → slice_get stream.items stream.next ≡ Some c → (b : Begun) × (o ≡ Some b) × IsNextItem b (item_of_change c)
@@ -105,14 +107,15 @@ module _ (w : PlainWorld) (r : Chronicle) (l : ℕ) (link : PlainLink) (node : P
           subst (EndsStand fv kn pv leader granted point served here.consumer la.talk.asked) (sym (spoken_push la.talk.said f heard)) (EndsStand.IsStreaming x)
 
       -- all agrees, where no vBucket changed
-      put_agrees : (change : Granted → Granted) → Readable f → is_refused_ack f ≡ false → NoNewStream here link_with
+      put_agrees : (change : Granted → Granted) → ((g : Granted) → (change g).wrote ≡ g.wrote) → Readable f → is_refused_ack f ≡ false → NoNewStream here link_with
           → Streaming (wants_of la.follower) kn (vb_of now (producer_node here) vb) leader ((with_changed read (Link l) change).stream_of (Link (link_number here)) vb) link_with.server here.consumer la.talk.asked (spoken la.talk.said ++ f ∷ [])
           → AgreesIn idle (pumped w l link node states end_with) (with_changed read (Link l) change) c
-      put_agrees change good heard less x = carries_link idle idle now (pumped w l link node states end_with) read (with_changed read (Link l) change) c l here link_with a found_here
+      put_agrees change same good heard less x = carries_link idle idle now (pumped w l link node states end_with) read (with_changed read (Link l) change) c l here link_with a found_here
           (record { dialed = refl; desk = refl }) (record { powers = λ m. refl; vbs = λ m q. refl; shelves = λ m q. refl; uuids = refl; linked = relinked_twice end_with }) less (told_stream read l change) (λ k ne. refl) (record {
             follower = la.follower;
             follower_is = la.follower_is;
             follows = la.follows;
+            acks = acked_still _ change (read.stream_of (Link (link_number here)) vb) here.consumer.acked same la.acks;
             dial = la.dial;
             talk = record { asked = la.talk.asked; said = la.talk.said ++ f ∷ []; stands = stands_with heard x; ups = la.talk.ups; downs = downs_with good };
           })
@@ -128,7 +131,7 @@ module _ (w : PlainWorld) (r : Chronicle) (l : ℕ) (link : PlainLink) (node : P
         (ap (λ (n : StreamName). event.Item n item.seq (act_sent item.act) item.key) named ∙ ap (λ a. event.Item (Link l) item.seq a item.key) (sent_is_told item.act)) tt
         (t.granted_is, b, (vb, dialed, told), opens, last, next) g.desk (
           c,
-          put_agrees (Some (past_item item.seq t.stream)) f (with_item (item_of_change item)) (item_readable t item m f e is la.small.1 (frame_is m)) (message_spoken m t.stream.opaque t.stream.vb) (λ q. ap is_open kept ∙ q)
+          put_agrees (Some (past_item item.seq t.stream)) f (with_item (item_of_change item)) (λ g. refl) (item_readable t item m f e is la.small.1 (frame_is m)) (message_spoken m t.stream.opaque t.stream.vb) (λ q. ap is_open kept ∙ q)
               (item_streaming t item m f opens e is (frame_is m) (given (with_item (item_of_change item)))),
         ))
 
@@ -140,7 +143,7 @@ module _ (w : PlainWorld) (r : Chronicle) (l : ℕ) (link : PlainLink) (node : P
         let ended : SoFar w r l link node states (end_put s t.stream) = so_far_more w r l link node states states s (end_with None f).end (s.out ++ spelling f) (s.count + 1)
         (event.Finished s.end.desk.stream STATE_CHANGED) (event.Finished (Link l) STATE_CHANGED) g (ap (λ (n : StreamName). event.Finished n STATE_CHANGED) named) tt
         (t.granted_is, (vb, dialed, told), opens, whole_if t.stream t.granted_is.last t.streams.last whole, λ no_takeover no_end. refl) g.desk
-        (c, put_agrees None f finished (subst Readable (sym f_is) (end_readable here.consumer.asked vb t.consumer.small la.small.1)) (message_spoken (StreamEnd STATE_CHANGED) t.stream.opaque t.stream.vb) (λ q. let z : false ≡ true = q in cc) (end_streaming t f opens over whole f_is (given finished))) in
+        (c, put_agrees None f finished (λ g. refl) (subst Readable (sym f_is) (end_readable here.consumer.asked vb t.consumer.small la.small.1)) (message_spoken (StreamEnd STATE_CHANGED) t.stream.opaque t.stream.vb) (λ q. let z : false ≡ true = q in cc) (end_streaming t f opens over whole f_is (given finished))) in
         subst (λ b. Goal (after (if b then Done (More (end_put s t.stream)) else Call t.stream.vb (Place s.end.desk.id) (λ x. place_answered s t.stream x)) states)) (sym over) ended
 
     consumer_agrees : VbAgrees read (consumer_node here) vb kn la.follower
@@ -291,6 +294,7 @@ module _ (w : PlainWorld) (r : Chronicle) (l : ℕ) (link : PlainLink) (node : P
                     follower = la.follower;
                     follower_is = became.there (consumer_node here) vb (λ q e. t.apart (sym q)) ∙ la.follower_is;
                     follows = la.follows;
+                    acks = acked_still _ (with_begun read.tree snapshot.start end) (read.stream_of (Link (link_number here)) vb) here.consumer.acked (λ g. refl) la.acks;
                     dial = la.dial;
                     talk = talk_same member_after refl (others_after (producer_seat here) (λ q. t.apart (seat_one (producer_node here) vb (consumer_node here) vb q).0)) refl refl (record {
                       asked = la.talk.asked;
@@ -361,6 +365,19 @@ module _ (w : PlainWorld) (r : Chronicle) (l : ℕ) (link : PlainLink) (node : P
           ∙ ap (λ x. taken_turn (take_from x p)) opened
           ∙ ap (λ b. taken_turn (take_to (if b then end_span o (all_spans p.spans) p.held else None) o p)) near
 
+      -- the vBucket gives nothing: it holds no more for the stream
+      idle_now : (o : Stream) → stream_at s.end.desk.id p.streams ≡ Some o → o.ask ≡ t.granted_is.ask → o.sync ≡ true → o.place ≡ t.granted_is.place → o.taken ≡ is_some t.granted_is.last → is_in_memory p.floor o ≡ true
+          → end_span o (all_spans p.spans) p.held ≡ None → length t.stream.items ≤ t.stream.next → AllPut read l
+      idle_now o opened asked sync placed before near ends whole =
+          all_put_by read l (record { producer = producer_node here; node = consumer_node here; vb = vb }) (Some t.granted_is) (ap read.dial_of (sym numbered) ∙ la.dialed) told (λ g same goes.
+          let one : t.granted_is ≡ g = cc in
+          subst (HasNoMore read (producer_node here) vb) one (record {
+            whole = put_whole t.granted_is.last t.stream t.streams.last whole;
+            active = producer_agrees.role ∙ ap (λ x. Some (Some x)) (active_is p.role at.active);
+            none = none_told t.granted_is o (last_seq 0 (read.held (producer_node here) vb)) p.position.at asked placed before (ap (last_seq 0) producer_agrees.held ∙ producer_agrees.high)
+                (no_more p o producer_agrees.sound sync near ends);
+          }))
+
       -- a turn behind the items of the snapshot that was taken last
       marker_turn : TakesSnapshots → length t.stream.items ≤ t.stream.next → Goal (after (next_put s t.stream None) states)
       marker_turn takes whole =
@@ -369,7 +386,7 @@ module _ (w : PlainWorld) (r : Chronicle) (l : ℕ) (link : PlainLink) (node : P
         where
           by : (o : Stream) → stream_at s.end.desk.id p.streams ≡ Some o → o.ask ≡ t.granted_is.ask → o.sync ≡ true → o.place ≡ t.granted_is.place → o.taken ≡ is_some t.granted_is.last
               → is_in_memory p.floor o ≡ true → (x : Option Span) → end_span o (all_spans p.spans) p.held ≡ x → Goal (taken_turn (take_to x o p))
-          by o opened asked sync placed before near None ends = same_so_far
+          by o opened asked sync placed before near None ends = (same_so_far, λ e. idle_now o opened asked sync placed before near ends whole)
           by o opened asked sync placed before near (Some win) ends =
               let snapshot : Snapshot = span_snapshot p o win in
               let taken : SnapshotTaken p s.end.desk.id o snapshot (take_to (Some win) o p).0 = taken_is takes p s.end.desk.id o win producer_agrees.sound opened sync near ends in
@@ -379,7 +396,7 @@ module _ (w : PlainWorld) (r : Chronicle) (l : ℕ) (link : PlainLink) (node : P
 
           in_memory : (b : Bool) (o : Stream) → stream_at s.end.desk.id p.streams ≡ Some o → o.ask ≡ t.granted_is.ask → o.sync ≡ true → o.place ≡ t.granted_is.place → o.taken ≡ is_some t.granted_is.last
               → is_in_memory p.floor o ≡ b → Goal (after (next_put s t.stream None) states)
-          in_memory false o opened asked sync placed before far = subst Goal (sym (waited_turn o opened far)) waiting_so_far
+          in_memory false o opened asked sync placed before far = subst Goal (sym (waited_turn o opened far)) (waiting_so_far, λ e. cc)
           in_memory true o opened asked sync placed before near = subst Goal (sym (asked_turn o opened near)) (by o opened asked sync placed before near (end_span o (all_spans p.spans) p.held) refl)
 
     -- a turn behind the items: the stream's end, or the next marker
@@ -395,16 +412,31 @@ module _ (w : PlainWorld) (r : Chronicle) (l : ℕ) (link : PlainLink) (node : P
         by None e = more_turn takes (not_found t.stream.items t.stream.next e) t.stream.ended refl
         by (Some item) e = item_turn item e
 
+  -- the link as it was dialed
+  abbrev own_dial : Dial
+  own_dial = record { producer = producer_node here; node = consumer_node here; vb = vb }
+
+  dial_told : (c : Cluster) → LinkAgrees now read c here [] [] → read.dial_of l ≡ Some own_dial
+  dial_told c la = ap read.dial_of (sym numbered) ∙ la.dialed
+
+  -- a link of which no stream is told, and one whose stream is over, have no more to put
+  untold_put : (c : Cluster) → LinkAgrees now read c here [] [] → read.stream_of (Link (link_number here)) vb ≡ None → AllPut read l
+  untold_put c la none = all_put_by read l own_dial None (dial_told c la) (ap (λ k. read.stream_of (Link k) vb) (sym numbered) ∙ none) (λ g is over. cc)
+
+  over_put : (c : Cluster) → LinkAgrees now read c here [] [] → (g : Granted) → read.stream_of (Link (link_number here)) vb ≡ Some g → g.over ≡ true → AllPut read l
+  over_put c la g is over = all_put_by read l own_dial (Some g) (dial_told c la) (ap (λ k. read.stream_of (Link k) vb) (sym numbered) ∙ is)
+      (λ g' same goes. let one : g ≡ g' = cc in let z : true ≡ false = sym over ∙ ap (λ (x : Granted). x.over) one ∙ goes in cc)
+
   -- where the connection has no stream, nothing is put
-  none_turn : s.end.stream ≡ None → Goal (after (stream_put s s.end.stream) states)
-  none_turn none = subst (λ o. Goal (after (stream_put s o) states)) (sym none) g
+  none_turn : AllPut read l → s.end.stream ≡ None → Goal (after (stream_put s s.end.stream) states)
+  none_turn put none = subst (λ o. Goal (after (stream_put s o) states)) (sym none) (g, λ e. put)
 
   talk_turn : (c : Cluster) → AgreesIn idle now read c → (la : LinkAgrees now read c here [] []) → TakesSnapshots
       → EndsStand (wants_of la.follower) (c.nodes (consumer_seat here)) (vb_of now (producer_node here) vb) (c.nodes (producer_seat here)) (read.stream_of (Link (link_number here)) vb) (read.point_of (link_number here)) here.server here.consumer
       la.talk.asked (spoken la.talk.said) → Goal (after (stream_put s s.end.stream) states)
-  talk_turn c a la takes (EndsStand.IsAsking ask t) = none_turn t.no_stream
-  talk_turn c a la takes (EndsStand.IsRefusedYet t) = none_turn t.no_stream
-  talk_turn c a la takes (EndsStand.IsStreaming t) = ⊎_elim (λ e. none_turn (t.stream_is ∙ ap (λ q. kept_stream q t.stream) e))
+  talk_turn c a la takes (EndsStand.IsAsking ask none t) = none_turn (untold_put c la none) t.no_stream
+  talk_turn c a la takes (EndsStand.IsRefusedYet none t) = none_turn (untold_put c la none) t.no_stream
+  talk_turn c a la takes (EndsStand.IsStreaming t) = ⊎_elim (λ e. none_turn (over_put c la t.granted_is t.told e) (t.stream_is ∙ ap (λ q. kept_stream q t.stream) e))
       (λ e. stream_turn c a la t (t.stream_is ∙ ap (λ q. kept_stream q t.stream) e) takes) (cases_Bool t.granted_is.over)
 
   -- one turn, while the window is open
@@ -423,4 +455,4 @@ module _ (w : PlainWorld) (r : Chronicle) (l : ℕ) (link : PlainLink) (node : P
       by : (b : Bool) → Goal (after (if b then program else Done (Stop (s, Halt.Full))) states)
       by true = subst Goal (sym (after_bind (stream_put s s.end.stream) (λ x. Done (in_window (length s.out) x)) states))
           (windowed_turn w r l link node found (after (stream_put s s.end.stream) states).0 (length s.out) (after (stream_put s s.end.stream) states).1 (open_turn takes))
-      by false = g
+      by false = (g, λ e. cc)

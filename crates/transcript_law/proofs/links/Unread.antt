@@ -60,6 +60,7 @@ module _ (w w' : PlainWorld) (r : Chronicle) (c : Cluster) (l : ℕ) (link : Pla
         follower = la.follower;
         follower_is = same.vbs (consumer_node link) link.consumer.dialed.vb ∙ la.follower_is;
         follows = la.follows;
+        acks = la.acks;
         dial = la.dial;
         talk = talk_same refl (same.vbs (producer_node link) link.consumer.dialed.vb) refl refl refl (unread_talk link fs la.talk);
       })
@@ -73,6 +74,7 @@ module _ (w w' : PlainWorld) (r : Chronicle) (c : Cluster) (l : ℕ) (link : Pla
         follower = la.follower;
         follower_is = same.vbs (consumer_node link) link.consumer.dialed.vb ∙ la.follower_is;
         follows = la.follows;
+        acks = la.acks;
         dial = la.dial;
         talk = talk_same refl (same.vbs (producer_node link) link.consumer.dialed.vb) refl refl refl (reread_talk link fs readable none left la.talk);
       }))

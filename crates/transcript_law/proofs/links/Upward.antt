@@ -8,7 +8,7 @@ use Rattle.transcript_law.proofs.Words.{Frame, spelling, left_of, dcp_frame, Ask
 use Rattle.transcript_law.proofs.Words.{Member, Cluster, Move, happens, May, keeps, answered, Handshake, PlainProducer, Served, begun, frame_answered, refuse, is_active, stream_at, open_refusal, new_stream}
 use Rattle.transcript_law.proofs.Words.{PeerResult, peer_result, PlainLink, link_number, producer_node, consumer_node, PlainNode, PlainWorld, with_states, with_node_at, with_links, with_up, vb_in, Granted, granted, Chronicle, after_ask, after_line, after_lines}
 use Rattle.transcript_law.proofs.Words.{LawfulAsk, LawfulLine, LawfulVerdict, IsDialed, with_stream, DcpMsg, Event, StreamName}
-use Rattle.transcript_law.proofs.invariant.Agreement.{vb_of, shelf_of, answer_frame, spoken, Asking, IsRefused, PointAgrees, Talk, consumer_seat, producer_seat, LinkAgrees, is_open, AgreesIn, wants_of, DialAgrees, VbAgrees, AgreesAt, top}
+use Rattle.transcript_law.proofs.invariant.Agreement.{AckedIs, vb_of, shelf_of, answer_frame, spoken, Asking, IsRefused, PointAgrees, Talk, consumer_seat, producer_seat, LinkAgrees, is_open, AgreesIn, wants_of, DialAgrees, VbAgrees, AgreesAt, top}
 use Rattle.transcript_law.proofs.{disks.Absent.{nothing_here}, invariant.Carried.{told_of_same, one_here, one_but, no_writer, talk_same}, invariant.Carrying.{Became, FeedChanged, SamePowers, ToldOf}, invariant.LinkRows.{found_is_link, put_is_found, put_twice}}
 use Rattle.transcript_law.proofs.{verbs.NodeLines.{powers_again, shelves_again}, invariant.OneLink.{mine, carries_link, put_here, put_there, carries_producer, disk_here, disk_there}, invariant.Ranged.{NodeRanged}, invariant.Seats.{seat}}
 use Rattle.transcript_law.proofs.{links.Spoken.{message_spoken}, invariant.Tables.{id_here, id_there, stream_here, stream_there}, lines.Telling.{LawfulBefore, before_more, none_before, told_more, one_before}}
@@ -16,6 +16,12 @@ use Rattle.transcript_law.proofs.{links.Firsts.{ServedAt, Succeeds, asks_from, f
 use Rattle.transcript_law.proofs.links.Answered.{told_line, refused_told, StatesAre, granted_lines, absent_asked, refused_asked, rolled_asked, granted_asked, refused_talk, asked_opened, granted_talk, streams_opened}
 use Rattle.transcript_law.specs.Lawfulness.{GrantsAs}
 use Rattle.transcript_law.proofs.links.Verdicts.{active_vb_lines, asks_in_range, roll_low, refusal_named, opens_active, opens_free, absent_lawful, own_lawful, ruled_there, go_lawful, roll_lawful}
+
+-- an answer that grants nothing tells of no stream
+unasked : (r : Chronicle) (l v q : ℕ) (ask : StreamAsk) (log : List LogEntry) (said : AskAnswer) → IsRefused said → (after_ask r l v ask log said).stream_of (StreamName.Link l) q ≡ r.stream_of (StreamName.Link l) q
+unasked r l v q ask log AskAnswer.Go refused = absurd refused
+unasked r l v q ask log (AskAnswer.Roll to) refused = refl
+unasked r l v q ask log (AskAnswer.Refuse code) refused = refl
 
 -- an answer that grants nothing tells of the link's point at most, and that it is the one that it says
 refused_told_of : (l v : ℕ) (r : Chronicle) (ask : StreamAsk) (log : List LogEntry) (said : AskAnswer) → IsRefused said
@@ -100,7 +106,7 @@ module _ (w0 : PlainWorld) (r0 : Chronicle) (n : ℕ) (link0 : PlainLink) (found
   -- a step after which each vBucket is as it was, and that tells of no stream
   module _ (fs gs : List Frame) (x : PlainNode × PeerResult) (now : Now fs x) (st : States) (same : (q : ℕ) → st q ≡ x.0.vbs q) (end : PlainProducer) (lines : List Event) (out : List ℕ) (desk : end.desk ≡ x.1.peer.producer.desk)
       (no_stream : is_open end.stream ≡ true → is_open x.1.peer.producer.stream ≡ true) (lawful : LawfulBefore (after_lines r0 x.1.events) lines) (r' : Chronicle) (told : after_lines (after_lines r0 x.1.events) lines ≡ r')
-      (known_of : ToldOf l (after_lines r0 x.1.events) r') (dial : r'.dial_of l ≡ (after_lines r0 x.1.events).dial_of l) where
+      (known_of : ToldOf l (after_lines r0 x.1.events) r') (dial : r'.dial_of l ≡ (after_lines r0 x.1.events).dial_of l) (stream : r'.stream_of (StreamName.Link l) v ≡ (after_lines r0 x.1.events).stream_of (StreamName.Link l) v) where
     abbrev y : PlainNode × PeerResult
     y = answered_at x st end lines out
 
@@ -113,6 +119,7 @@ module _ (w0 : PlainWorld) (r0 : Chronicle) (n : ℕ) (link0 : PlainLink) (found
           follower = la.follower;
           follower_is = same_vbs x y same (consumer_node link0) v ∙ la.follower_is;
           follows = la.follows;
+          acks = subst (λ o. AckedIs o link0.consumer.acked) (sym stream) la.acks;
           dial = subst (λ o. DialAgrees o end.desk link0.consumer.dialed) (sym dial) (subst (λ d. DialAgrees ((after_lines r0 x.1.events).dial_of l) d link0.consumer.dialed) (sym desk) la.dial);
           talk = talk;
         } in
@@ -130,8 +137,8 @@ module _ (w0 : PlainWorld) (r0 : Chronicle) (n : ℕ) (link0 : PlainLink) (found
         }
 
     -- where the link's ends stand so whatever the vBuckets at them are
-    pub quiet : ((kn : Member) (pv : Option Plain) (leader : Member) (g : Option Granted) → Talk (link_now fs x now).follower kn pv leader g (r'.point_of l) (served_at y.1) gs []) → Now gs y
-    quiet talk = quiet_at (talk (now.cluster.nodes (consumer_seat link0)) (vb_of (world_at y) end.desk.node v) (now.cluster.nodes (producer_seat (served_at y.1))) (r'.stream_of (StreamName.Link l) v))
+    pub quiet : ((kn : Member) (pv : Option Plain) (leader : Member) (g : Option Granted) → g ≡ r'.stream_of (StreamName.Link l) v → Talk (link_now fs x now).follower kn pv leader g (r'.point_of l) (served_at y.1) gs []) → Now gs y
+    quiet talk = quiet_at (talk (now.cluster.nodes (consumer_seat link0)) (vb_of (world_at y) end.desk.node v) (now.cluster.nodes (producer_seat (served_at y.1))) (r'.stream_of (StreamName.Link l) v) refl)
 
   -- what the frame makes of the node and the connection, by the program that answers it
   abbrev pub came_of : PlainNode × PeerResult → States × Served → PlainNode × PeerResult
@@ -149,7 +156,7 @@ module _ (w0 : PlainWorld) (r0 : Chronicle) (n : ℕ) (link0 : PlainLink) (found
   AskingNow f fs x now ask = let la = link_now (f ∷ fs) x now in Asking (wants_of la.follower) ask (served_at x.1).server (served_at x.1).consumer la.talk.asked (spoken la.talk.said)
 
   -- what is answered with success
-  module _ (f : Frame) (fs : List Frame) (x : PlainNode × PeerResult) (now : Now (f ∷ fs) x) (ask : StreamAsk) (t : AskingNow f fs x now ask) where
+  module _ (f : Frame) (fs : List Frame) (x : PlainNode × PeerResult) (now : Now (f ∷ fs) x) (ask : StreamAsk) (none : (after_lines r0 x.1.events).stream_of (StreamName.Link l) v ≡ None) (t : AskingNow f fs x now ask) where
     -- the producer as it begins to answer
     abbrev s : Served
     s = begun x.1.peer.producer
@@ -183,8 +190,8 @@ module _ (w0 : PlainWorld) (r0 : Chronicle) (n : ℕ) (link0 : PlainLink) (found
         let r = after_lines r0 x.1.events in
         subst (Now fs) (sym (frame_came f x ∙ ap (λ h. came_of x (after (frame_answered h s) x.0.vbs)) (sym same) ∙ ap (λ p. came_of x (after p x.0.vbs)) came.came))
         (quiet (f ∷ fs) fs x now x.0.vbs (λ q. refl) came.end [] (spelling a) came.desk (λ has. subst (λ o. is_open o ≡ true) came.stream has) (none_before r) r refl
-        (told_of_same l r) refl
-        (λ kn pv leader g'. next_asking (served_at x.1) came.end (link0.down ++ (x.1.out ++ spelling a)) a la.follower kn pv leader g' (r.point_of l) ask f g fs talk_now.asked talk_now.said k t
+        (told_of_same l r) refl refl
+        (λ kn pv leader g' told. next_asking (served_at x.1) came.end (link0.down ++ (x.1.out ++ spelling a)) a la.follower kn pv leader g' (told ∙ none) (r.point_of l) ask f g fs talk_now.asked talk_now.said k t
         talk_now.ups talk_now.downs (sym (append_assoc link0.down x.1.out (spelling a))) came.stream at.served.says (message_spoken at.row.answer (suc k) 0) is few (came.set_is ∙ sym at.set)
         (at.asked.0 ++ request, here) at.said))
 
@@ -199,8 +206,8 @@ module _ (w0 : PlainWorld) (r0 : Chronicle) (n : ℕ) (link0 : PlainLink) (found
         (λ behind. subst (λ nm. LawfulLine r (Event.Asked nm s.end.desk.node v ask high log said) behind) (sym la.named) lawful))
         (after_ask r l v ask log said)
         (ap (λ nm. after_line r (Event.Asked nm s.end.desk.node v ask high log said)) la.named)
-        known_of.0 known_of.1
-        (λ kn pv leader g. refused_talk la.follower ask (served_at x.1) (link0.down ++ (x.1.out ++ spelling (answer_frame link0.consumer.asked [] said))) f fs talk_now.asked talk_now.said t is talk_now.ups talk_now.downs kn pv leader g said refused
+        known_of.0 known_of.1 (unasked r l v v ask log said refused)
+        (λ kn pv leader g told. refused_talk la.follower ask (served_at x.1) (link0.down ++ (x.1.out ++ spelling (answer_frame link0.consumer.asked [] said))) f fs talk_now.asked talk_now.said t is talk_now.ups talk_now.downs kn pv leader g (told ∙ unasked r l v v ask log said refused ∙ none) said refused
         ((after_ask r l v ask log said).point_of l) known_of.2 (sym (append_assoc link0.down x.1.out (spelling (answer_frame link0.consumer.asked [] said)))))
 
     -- the request for a stream, which the producer's vBucket decides
@@ -354,6 +361,7 @@ module _ (w0 : PlainWorld) (r0 : Chronicle) (n : ℕ) (link0 : PlainLink) (found
                 follower = fv;
                 follower_is = vb_there came nn v nodes_apart ∙ sym (vb_there x nn v nodes_apart) ∙ la.follower_is;
                 follows = la.follows;
+                acks = subst (λ o. AckedIs o link0.consumer.acked) (sym (stream_here r l v (Some (granted ask pv.log)))) (subst (λ o. AckedIs o link0.consumer.acked) none la.acks);
                 dial = la.dial;
                 talk = talk;
               }
@@ -449,6 +457,6 @@ module _ (w0 : PlainWorld) (r0 : Chronicle) (n : ℕ) (link0 : PlainLink) (found
       request_decided = by_vb (x.0.vbs v) refl
 
   -- a frame that a consumer sent as it dialed, or its request for a stream
-  pub asking_next : (f : Frame) (fs : List Frame) (x : PlainNode × PeerResult) (now : Now (f ∷ fs) x) (ask : StreamAsk) → AskingNow f fs x now ask → Now fs (frame_up f x)
-  asking_next f fs x now ask t =
-      ⊎_elim (λ few. success f fs x now ask t t.answered refl few) (λ all. request_decided f fs x now ask t (let most : t.answered ≤ first_count link0.consumer.dialed = t.some_left in omega arith)) (cases_lt t.answered (first_count link0.consumer.dialed))
+  pub asking_next : (f : Frame) (fs : List Frame) (x : PlainNode × PeerResult) (now : Now (f ∷ fs) x) (ask : StreamAsk) → (after_lines r0 x.1.events).stream_of (StreamName.Link l) v ≡ None → AskingNow f fs x now ask → Now fs (frame_up f x)
+  asking_next f fs x now ask none t =
+      ⊎_elim (λ few. success f fs x now ask none t t.answered refl few) (λ all. request_decided f fs x now ask none t (let most : t.answered ≤ first_count link0.consumer.dialed = t.some_left in omega arith)) (cases_lt t.answered (first_count link0.consumer.dialed))

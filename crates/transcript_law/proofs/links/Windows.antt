@@ -38,7 +38,7 @@ module _ {fv : Wants} {kn : Member} {pv : Option Plain} {leader : Member} {g : O
 
   -- and so wherever the two ends stand
   pub stands_served : {point : Option ℕ} → EndsStand fv kn pv leader g point served asker up put → (end : PlainProducer) → SameBut served end → EndsStand fv kn pv leader g point end asker up put
-  stands_served (EndsStand.IsAsking ask t) end same = EndsStand.IsAsking ask (record {
+  stands_served (EndsStand.IsAsking ask none t) end same = EndsStand.IsAsking ask none (record {
     no_stream = same.stream ∙ t.no_stream;
     asking = record {
       answered = t.answered;
@@ -52,7 +52,7 @@ module _ {fv : Wants} {kn : Member} {pv : Option Plain} {leader : Member} {g : O
       said_is = t.said_is;
     };
   })
-  stands_served (EndsStand.IsRefusedYet t) end same = EndsStand.IsRefusedYet (record {
+  stands_served (EndsStand.IsRefusedYet none t) end same = EndsStand.IsRefusedYet none (record {
     no_stream = same.stream ∙ t.no_stream;
     refusal = record {
       said = t.said;
@@ -88,6 +88,7 @@ module _ (w : PlainWorld) (r : Chronicle) (l : ℕ) (link : PlainLink) (node : P
                 follower = la.follower;
                 follower_is = la.follower_is;
                 follows = la.follows;
+                acks = la.acks;
                 dial = la.dial;
                 talk = record {
                   asked = la.talk.asked;

@@ -10,10 +10,10 @@ use Rattle.vb_types.specs.declared.change.Level.{Level}
 use Rattle.vb_types.specs.declared.change.Level.TheVariants.{Majority}
 
 -- the prepare that waits
-abbrev waits : Level → Pend
+abbrev pub waits : Level → Pend
 waits how = record { seq = 1; level = how; doc = first_doc 1 (6 ∷ []); deleted = false }
 
-waits_there : (how : Level) → get (image_of (prepare_of how ∷ [])).pending (9 ∷ []) ≡ Some (waits how)
+pub waits_there : (how : Level) → get (image_of (prepare_of how ∷ [])).pending (9 ∷ []) ≡ Some (waits how)
 waits_there how = get-insert_same nothing.pending (9 ∷ []) (waits how)
 
 named_so : (how : Level) (number : ℕ) (doc : Doc) (deleted : Bool) → the_commit.act ≡ Act.Commit number doc deleted → ((waits how).seq ≡ number) × ((waits how).doc ≡ doc) × ((waits how).deleted ≡ deleted)

@@ -4,13 +4,14 @@ use Rattle.transcript_law.proofs.Words.{ℕ, List, [], length, map, take, drop, 
 use Rattle.transcript_law.proofs.Words.{nat_list_cmp_total, key_cmp, Change, Pend, Event, LogEntry, Continue, Roll, Rises, IsIn, Picture, image_of, is_older, last_seq, StandsAs, IsOf, front, uuid_of, Covers, Branch}
 use Rattle.transcript_law.proofs.Words.{Role, rises_in, document_line, prepare_line, image_lines, ItemLine, Begun, Granted, Dial, Chronicle, granted, is_dial_of, empty_chronicle, after_lines, item_of_change}
 use Rattle.transcript_law.proofs.Words.{IsMarker, IsNextItem, LawfulAsk, LawfulMark, LawfulItem, LawfulFrom, Lawful, frames_in_lines, first_doc, one_change, two_followed, next_change, log_of, ask_within}
-use Rattle.transcript_law.proofs.{Words.{granted_inside, after_both, made_from, marker_line, first_item_line, both_sent_lines}, rows.Transcripts.{no_entries, docs}, rows.AskedTests.{is_asked_so}, rows.Groups.{AreFired, AreTold, both, is_answered_so}, rows.NextRows.{first_next, second_next}, verbs.Tellings.{all_pass}}
+use Rattle.transcript_law.proofs.{Words.{granted_inside, after_both, made_from, marker_line, first_item_line, both_sent_lines}, rows.Transcripts.{no_entries, docs}, rows.AskedTests.{is_asked_so}, rows.Groups.{AreFired, AreTold, both_left, is_answered_so}, rows.NextRows.{first_next, second_next}, verbs.Tellings.{all_pass}}
 use Rattle.{std.specs.List.{list_any}, branch_model.proofs.Lists.{last_in}, std.proofs.Common.{◌⊎◌}, std.specs.Prelude.{Bool, true, false}, transcript_law.specs.Followers.{ask_above, ask_lines, other_ask_lines, late_ask_lines, granted_lines}}
 use Rattle.transcript_law.specs.Followers.{adopted_lines, stranger_lines, ended_lines, both_got, again_got, followed_groups, dialed_elsewhere, made_dead, replica_ask_lines, made_ask_lines, set_item_line, next_item_line}
 use Rattle.{transcript_law.specs.Asked.{is_of_down, is_of_pump, is_of_up}, transcript_law.specs.Tellings.{are_all}, transcript_law.specs.LineAnswers.{IsCarriedOut}, transcript_law.specs.Followers.{show_answer, replica_shown, two_docs, third_doc, ask_groups, answered_so, adopted_so, sent_so, got_so, shown_so}, transcript_law.specs.Chronicles.{is_rollback}, transcript_law.specs.Lawfulness.{IsFrontOf, IsStream}, transcript_law.specs.Prefixes.{known_after}}
 use Rattle.{transcript_law.specs.Bound.{IsAnswered, IsBound, bound_by, if_down, if_over, is_told_down}, transcript_law.specs.LineAnswers.{LawfulAnswer}, script_text.specs.declared.verb.Verb.{Verb}, vb_types.specs.Histories.{Slot, touches}, vb_types.specs.Images.{settled}, vb_events.specs.declared.event.Answer.{Answer}, vb_events.specs.declared.event.Group.{Group}}
 use Rattle.{vb_events.specs.declared.event.ItemAct.TheVariants.{Set}, vb_events.specs.declared.event.StreamName.TheVariants.{Link}}
 use Rattle.std.specs.FinMap as finite
+use Rattle.transcript_law.specs.Undone.{AllAcknowledged, IsDue, LeavesNone, is_taking}
 use Rattle.vb_types.specs.declared.stream.AskAnswer.TheVariants as ask_answer
 use Rattle.vb_events.specs.declared.event.Answer.TheVariants as answer
 use Rattle.vb_events.specs.declared.event.Why.TheVariants as why
@@ -58,7 +59,7 @@ key_as x c stands = ⊎_elim (λ e. ap (λ (y : Change). y.key) e) (λ e. ap (λ
 
 -- whole snapshots of them
 
-both_cover : Covers changes changes 0 2
+pub both_cover : Covers changes changes 0 2
 both_cover = record {
   goes_on = omega arith;
   remains = record { rises = (omega arith, (omega arith, omega arith)); of = λ x i. (x, i, inl refl); has = λ s c e a b. (c, (last_in (touches s) changes c e).0, inl refl) };
@@ -83,7 +84,7 @@ next_covers = record {
   reaches = refl;
 }
 
-abbrev own_stream : Granted
+abbrev pub own_stream : Granted
 own_stream = granted (ask_above 0 0) (log_of 5)
 
 abbrev tree : List Branch
@@ -136,23 +137,36 @@ shows_so : (shown : List Event) → is_answered_so shown (show_answer shown) ≡
 shows_so [] = refl
 shows_so (line ∷ lines) = refl
 
+-- of a vBucket that holds no prepare nothing is due
+none_due : (read : Chronicle) → read.dial_of 1 ≡ Some own_dial → finite.entries (image_of (read.held 1 0)).pending ≡ [] → AllAcknowledged read 1
+none_due read dialed none dial g is told e owed =
+    let one : Some own_dial ≡ Some dial = sym dialed ∙ is in let same : own_dial ≡ dial = cc in
+    let mine : IsDue read 1 0 e = subst (λ (d : Dial). IsDue read d.node d.vb e) (sym same) owed in
+    let z : None ≡ Some e = sym (finite.get-entries (image_of (read.held 1 0)).pending mine.waits.0 ∙ ap (finite.find key_cmp mine.waits.0) none) ∙ mine.waits.1 in cc
+
+shows_left : (read : Chronicle) (shown : List Event) → LeavesNone read (verb.AtVb 1 0 vb_verb.Show) shown (show_answer shown)
+shows_left read [] = tt
+shows_left read (line ∷ lines) = tt
+
 from_asked : (asked adopted sent got shown : List Event) → frames_in_lines sent < 9 → (list_any is_rollback adopted ≡ true → ⊥) → (list_any is_rollback got ≡ true → ⊥) → StaysSo (followed_groups asked adopted sent got shown) → AskedSo asked adopted sent got shown → AreTold before_asked (drop 8 two_followed) (drop 8 (followed_groups asked adopted sent got shown))
-    → AreFired before_asked (drop 8 two_followed) (drop 8 (followed_groups asked adopted sent got shown)) → Lawful two_followed (followed_groups asked adopted sent got shown)
-from_asked asked adopted sent got shown few straight sound so told_so l f = let told = followed_groups asked adopted sent got shown in both empty_chronicle two_followed (followed_groups asked adopted sent got shown)
+    → AreFired before_asked (drop 8 two_followed) (drop 8 (followed_groups asked adopted sent got shown)) → (let told = followed_groups asked adopted sent got shown in
+    (list_any is_taking adopted ≡ true → AllAcknowledged (after_lines (behind 9 told) adopted) 1) × (list_any is_taking got ≡ true → AllAcknowledged (after_lines (behind 11 told) got) 1)) → Lawful two_followed (followed_groups asked adopted sent got shown)
+from_asked asked adopted sent got shown few straight sound so told_so l f acks = let told = followed_groups asked adopted sent got shown in both_left empty_chronicle two_followed (followed_groups asked adopted sent got shown)
     (λ i. all_pass asked i && (told_so.0 i && (all_pass adopted i && ((ap (λ o. are_all (is_of_down o 1) adopted) so.0 ∙ told_so.1) i && (all_pass sent i && (told_so.2 i && (all_pass got i && ((ap (λ o. are_all (is_of_down o 1) got) so.2 ∙ told_so.3) i && (shows_so shown i && (all_pass shown i && (told_so.4 i && true)))))))))))
     (tt ▹ tt ▹ tt ▹ (record { new = tt; newest = refl; last = refl; leaves = refl } ▹ record { another = λ e. cc; anew = λ e. refl } ▹ tt) ▹ (record { another = λ e. cc; anew = λ e. cc } ▹ tt) ▹ (search (arith, first_next) ▹ tt) ▹ (search (arith, second_next) ▹ tt) ▹ tt ▹ l)
-    (tt ▹ tt ▹ refl ▹ (refl ▹ tt) ▹ (refl ▹ tt) ▹ refl ▹ refl ▹ tt ▹ omega arith ▹ unbound (behind 9 told) (verb.AtLink 1 (link_verb.Down 1000)) adopted (answer.Number 100) (ap if_over so.0) (omega arith, λ e. absurd (straight e)) ▹ unbound (behind 10 told) (verb.AtLink 1 (link_verb.Pump 9)) sent (answer.Pulled (frames_in_lines sent) why.Idle) (ap if_over so.1) (record { told = refl; most = omega (arith, few); all = λ e. cc; only = λ e. absurd (omega (arith, few, e)) }) ▹ unbound (behind 11 told) (verb.AtLink 1 (link_verb.Down 1000)) got (answer.Number 100) (ap if_over so.2) (omega arith, λ e. absurd (sound e)) ▹ unbound (behind 12 told) (verb.AtVb 1 0 vb_verb.Show) shown (show_answer shown) (ap if_down so.3) (carried shown) ▹ tt)
+    (tt ▹ tt ▹ refl ▹ (refl ▹ tt) ▹ (refl ▹ tt) ▹ refl ▹ refl ▹ tt ▹ omega arith ▹ unbound (behind 9 told) (verb.AtLink 1 (link_verb.Down 1000)) adopted (answer.Number 100) (ap if_over so.0) (omega arith, λ e. absurd (straight e)) ▹ unbound (behind 10 told) (verb.AtLink 1 (link_verb.Pump 9)) sent (answer.Pulled (frames_in_lines sent) why.Full) (ap if_over so.1) (record { told = refl; most = omega (arith, few); all = λ e. cc; only = λ e. absurd (omega (arith, few, e)) }) ▹ unbound (behind 11 told) (verb.AtLink 1 (link_verb.Down 1000)) got (answer.Number 100) (ap if_over so.2) (omega arith, λ e. absurd (sound e)) ▹ unbound (behind 12 told) (verb.AtVb 1 0 vb_verb.Show) shown (show_answer shown) (ap if_down so.3) (carried shown) ▹ tt)
     (refl ▹ refl ▹ refl ▹ refl ▹ refl ▹ refl ▹ refl ▹ refl ▹ f)
+    (tt ▹ tt ▹ tt ▹ tt ▹ tt ▹ tt ▹ tt ▹ tt ▹ (λ z. tt, λ t. tt) ▹ (λ z. tt, acks.0) ▹ tt ▹ (λ z. tt, acks.1) ▹ shows_left (behind 12 told) shown ▹ tt)
 
 -- the request of the empty replica is granted, and the log is taken over
 own_request : LawfulAsk before_asked 1 0 0 (ask_above 0 0) 2 (log_of 5) ask_answer.Go
 own_request = record { dialed = (1, refl); own_log = refl; own_high = refl; verdict = (refl, λ z. absurd (omega arith)); active = refl }
 
 pub asks : Lawful two_followed (ask_groups granted_lines)
-asks = from_asked granted_lines [] [] [] [] (omega arith) (λ e. cc) (λ e. cc) (refl, refl, refl, refl) (refl, refl, refl, refl, refl) ((own_request, tt), (tt, (tt, (tt, (tt, tt))))) (refl ▹ refl ▹ refl ▹ refl ▹ refl ▹ tt)
+asks = from_asked granted_lines [] [] [] [] (omega arith) (λ e. cc) (λ e. cc) (refl, refl, refl, refl) (refl, refl, refl, refl, refl) ((own_request, tt), (tt, (tt, (tt, (tt, tt))))) (refl ▹ refl ▹ refl ▹ refl ▹ refl ▹ tt) (λ t. cc, λ t. cc)
 
 pub adopts : Lawful two_followed (adopted_so 5)
-adopts = from_asked granted_lines (adopted_lines 5) [] [] [] (omega arith) (λ e. cc) (λ e. cc) (refl, refl, refl, refl) (refl, refl, refl, refl, refl) ((own_request, tt), (((1, 0, own_stream, refl, refl, refl), tt), (tt, (tt, (tt, tt))))) (refl ▹ refl ▹ refl ▹ refl ▹ refl ▹ tt)
+adopts = from_asked granted_lines (adopted_lines 5) [] [] [] (omega arith) (λ e. cc) (λ e. cc) (refl, refl, refl, refl) (refl, refl, refl, refl, refl) ((own_request, tt), (((1, 0, own_stream, refl, refl, refl), tt), (tt, (tt, (tt, tt))))) (refl ▹ refl ▹ refl ▹ refl ▹ refl ▹ tt) (λ t. none_due _ refl (no_entries Pend), λ t. cc)
 
 -- both changes in one snapshot
 
@@ -165,7 +179,7 @@ both_sent = (own_stream, (0, refl, refl), record { opens = refl; starts = refl; 
     ▹ (streamed (begun 0 2 (first_item ∷ [])), begun 0 2 (first_item ∷ []), (0, refl, refl), refl, refl, ([], record { whole = changes; covers = both_cover; front = refl }, λ e. refl)) ▹ tt
 
 pub whole : Lawful two_followed (sent_so both_sent_lines)
-whole = from_asked granted_lines (adopted_lines 5) both_sent_lines [] [] (omega arith) (λ e. cc) (λ e. cc) (refl, refl, refl, refl) (refl, refl, refl, refl, refl) ((own_request, tt), (((1, 0, own_stream, refl, refl, refl), tt), (both_sent, (tt, (tt, tt))))) (refl ▹ refl ▹ refl ▹ refl ▹ refl ▹ tt)
+whole = from_asked granted_lines (adopted_lines 5) both_sent_lines [] [] (omega arith) (λ e. cc) (λ e. cc) (refl, refl, refl, refl) (refl, refl, refl, refl, refl) ((own_request, tt), (((1, 0, own_stream, refl, refl, refl), tt), (both_sent, (tt, (tt, tt))))) (refl ▹ refl ▹ refl ▹ refl ▹ refl ▹ tt) (λ t. none_due _ refl (no_entries Pend), λ t. cc)
 
 pub right : Lawful two_followed (shown_so (replica_shown 2 two_docs))
 right = from_asked granted_lines (adopted_lines 5) both_sent_lines both_got (replica_shown 2 two_docs) (omega arith) (λ e. cc) (λ e. cc) (refl, refl, refl, refl) (refl, refl, refl, refl, refl)
@@ -174,7 +188,7 @@ right = from_asked granted_lines (adopted_lines 5) both_sent_lines both_got (rep
     ▹ record { above = omega arith; put = (_, (0, refl, refl, refl), (one_change, inl refl, inl refl), (next_item ∷ [], refl)) }
     ▹ record { above = omega arith; put = (_, (0, refl, refl, refl), (next_change, inr (inl refl), inl refl), ([], refl)) } ▹ tt)
     ▹ (record { role = refl; newest = refl; at = refl; snapshot = refl; left = sym image_told; docs_left = sym (ap length both_docs); preps_left = sym (ap length no_pending); complete = λ _. record { lines = sym image_told; docs_shown = sym (ap length both_docs); preps_shown = sym (ap length no_pending); shared = λ _. refl; active = λ e. cc } }
-    ▹ tt ▹ tt ▹ tt) ▹ tt) (refl ▹ refl ▹ refl ▹ refl ▹ refl ▹ tt)
+    ▹ tt ▹ tt ▹ tt) ▹ tt) (refl ▹ refl ▹ refl ▹ refl ▹ refl ▹ tt) (λ t. none_due _ refl (no_entries Pend), λ t. none_due _ refl no_pending)
 
 -- each change in a snapshot of its own
 pub parts : Lawful two_followed (sent_so (marker_line 0 1 ∷ first_item_line ∷ marker_line 1 2 ∷ next_item_line ∷ []))
@@ -184,7 +198,7 @@ parts = from_asked granted_lines (adopted_lines 5) (marker_line 0 1 ∷ first_it
     ▹ (streamed (begun 0 1 []), begun 0 1 [], (0, refl, refl), refl, refl, ([], record { whole = one_change ∷ []; covers = first_covers; front = refl }, λ e. refl))
     ▹ (streamed (begun 0 1 (first_item ∷ [])), (0, refl, refl), record { opens = refl; starts = refl; behind = record { whole = one_change ∷ []; covers = first_covers; front = refl }; reaches = omega arith; whole = (next_change ∷ [], next_covers) }, refl)
     ▹ (_, begun 1 2 [], (0, refl, refl), refl, refl, ([], record { whole = next_change ∷ []; covers = next_covers; front = refl }, λ e. refl)) ▹ tt)
-    ▹ tt ▹ tt ▹ tt) (refl ▹ refl ▹ refl ▹ refl ▹ refl ▹ tt)
+    ▹ tt ▹ tt ▹ tt) (refl ▹ refl ▹ refl ▹ refl ▹ refl ▹ tt) (λ t. none_due _ refl (no_entries Pend), λ t. cc)
 
 -- answers to the request that are not lawful
 

@@ -1,7 +1,11 @@
 -- the groups of a transcript that is judged by hand: their lines, then their answers, and then what they say of arms
 use Rattle.std.specs.Prelude.{◌≡◌, ◌∷◌, ◌==◌, ◌&&◌}
-use Rattle.transcript_law.proofs.Words.{Bool, true, false, List, [], refl, sym, subst, and_parts, eqb-true, Answer, Cause, Event, ScriptLine, Chronicle, IsAnswered, LawfulGroups, Group}
-use Rattle.transcript_law.specs.{Chronicles.{after_group, ahead}, Firings.{FiresInLine}, Lawfulness.{LinesFrom}, Standing.{IsStanding, TellsIfBegun}, Tellings.{are_all, may_tell as may_tell_of}}
+use Rattle.transcript_law.proofs.Words.{Bool, not, true, false, List, [], refl, ap, sym, ◌∙◌, subst, list_any, and_parts, eqb-true, Answer, Cause, Event, ScriptLine, Verb, Chronicle, IsAnswered, LawfulGroups, Group}
+use Rattle.transcript_law.specs.{Chronicles.{after_group, ahead}, Firings.{FiresInLine}, Lawfulness.{LinesFrom}, Standing.{IsStanding, TellsIfBegun}, Tellings.{are_all, may_tell as may_tell_of}, Undone.{LeavesNone, NoneToAcknowledge, NoneToPut, NoneToTake, is_taking}, LinesTold.{after_lines}}
+use Rattle.vb_events.specs.declared.event.Why.TheVariants as why
+use Rattle.script_text.specs.declared.verb.Verb.TheVariants as verb
+use Rattle.script_text.specs.declared.verb.VbVerb.TheVariants as vb_verb
+use Rattle.script_text.specs.declared.verb.LinkVerb.TheVariants as link_verb
 use Rattle.transcript_law.proofs.rows.AskedTests.{asked_so, is_asked_so}
 use Rattle.vb_events.specs.declared.event.Answer.TheVariants as answer
 use Rattle.vb_events.specs.declared.event.Cause.TheVariants as cause
@@ -29,6 +33,34 @@ AreFired chronicle [] (group ∷ groups) = ⊥
 AreFired chronicle (line ∷ lines) (group ∷ groups) =
     FiresInLine chronicle line.verb group.events group.answer × AreFired (after_group chronicle line.verb group.events group.answer) lines groups
 
+-- whether a take takes changes, a down takes nothing, and no pump is idle
+abbrev pub takes_some : Answer → Bool
+takes_some (answer.Number n) = not (n == 0)
+takes_some other = true
+
+abbrev pub is_done : Verb → List Event → Answer → Bool
+is_done (verb.AtVb n v vb_verb.Take) lines said = takes_some said
+is_done (verb.AtLink l (link_verb.Down wanted)) lines said = not (list_any is_taking lines)
+is_done other lines (answer.Pulled n why.Idle) = false
+is_done other lines said = true
+
+done_so : (chronicle : Chronicle) (asked : Verb) (lines : List Event) (said : Answer) → is_done asked lines said ≡ true → LeavesNone chronicle asked lines said
+done_so chronicle asked lines (answer.Number n) e = (λ z. by asked (subst (λ k. is_done asked lines (answer.Number k) ≡ true) z e), λ t. taken asked e t)
+  where
+    by : (asked : Verb) → is_done asked lines (answer.Number 0) ≡ true → NoneToTake chronicle asked
+    by (verb.AtVb n v vb_verb.Take) f = cc
+    by other f = tt
+
+    taken : (asked : Verb) → is_done asked lines (answer.Number n) ≡ true → list_any is_taking lines ≡ true → NoneToAcknowledge (after_lines chronicle lines) asked
+    taken (verb.AtLink l (link_verb.Down wanted)) f t = let z : false ≡ true = ap not (sym t) ∙ f in cc
+    taken other f t = tt
+done_so chronicle asked lines (answer.Pulled n why.Idle) e = idle asked e
+  where
+    idle : (asked : Verb) → is_done asked lines (answer.Pulled n why.Idle) ≡ true → NoneToPut (after_lines chronicle lines) asked
+    idle (verb.AtLink l (link_verb.Pump wanted)) f = cc
+    idle other f = tt
+done_so chronicle asked lines other e = tt
+
 -- whether each has its line's number, tells of nothing where it was refused before its line was begun, of nothing else than its line may, and what its line asked for
 abbrev pub may_tell : List Event → Cause → Bool
 may_tell [] why = true
@@ -42,13 +74,20 @@ abbrev pub is_answered_so : List Event → Answer → Bool
 is_answered_so lines (answer.No why) = may_tell lines why
 is_answered_so lines other = true
 
-abbrev pub in_order : Chronicle → List ScriptLine → List Group → Bool
-in_order chronicle [] [] = true
-in_order chronicle (line ∷ lines) [] = false
-in_order chronicle [] (group ∷ groups) = false
-in_order chronicle (line ∷ lines) (group ∷ groups) =
+abbrev pub in_line : Chronicle → List ScriptLine → List Group → Bool
+in_line chronicle [] [] = true
+in_line chronicle (line ∷ lines) [] = false
+in_line chronicle [] (group ∷ groups) = false
+in_line chronicle (line ∷ lines) (group ∷ groups) =
     group.line == line.line
-    && (is_answered_so group.events group.answer && (are_all (may_tell_of line.verb) group.events && (is_asked_so chronicle line.verb group.events group.answer && in_order (after_group chronicle line.verb group.events group.answer) lines groups)))
+    && (is_answered_so group.events group.answer && (are_all (may_tell_of line.verb) group.events && (is_asked_so chronicle line.verb group.events group.answer && in_line (after_group chronicle line.verb group.events group.answer) lines groups)))
+-- and leaves nothing undone, by its line alone
+abbrev pub all_done : List ScriptLine → List Group → Bool
+all_done (line ∷ lines) (group ∷ groups) = is_done line.verb group.events group.answer && all_done lines groups
+all_done lines groups = true
+
+abbrev pub in_order : Chronicle → List ScriptLine → List Group → Bool
+in_order chronicle script told = in_line chronicle script told && all_done script told
 
 tells_so : (lines : List Event) (said : Answer) → is_answered_so lines said ≡ true → TellsIfBegun lines said
 tells_so lines (answer.No c) e why said standing = let same : c ≡ why = cc in by lines c e (subst IsStanding (sym same) standing)
@@ -71,24 +110,41 @@ AreParts chronicle (line ∷ lines) (group ∷ groups) =
     (LinesFrom (ahead chronicle line.verb group.answer) chronicle.conn_at group.events × IsAnswered chronicle line.verb group.events group.answer × FiresInLine chronicle line.verb group.events group.answer)
     × AreParts (after_group chronicle line.verb group.events group.answer) lines groups
 
+-- what they leave undone
+abbrev pub AreLeft : Chronicle → List ScriptLine → List Group → Type 0
+AreLeft chronicle (line ∷ lines) (group ∷ groups) = LeavesNone chronicle line.verb group.events group.answer × AreLeft (after_group chronicle line.verb group.events group.answer) lines groups
+AreLeft chronicle lines groups = Unit {0}
+
+all_left : (chronicle : Chronicle) (script : List ScriptLine) (told : List Group) → all_done script told ≡ true → AreLeft chronicle script told
+all_left chronicle (line ∷ lines) (group ∷ groups) o =
+    let one = and_parts (is_done line.verb group.events group.answer) (all_done lines groups) o in (done_so chronicle line.verb group.events group.answer one.0, all_left (after_group chronicle line.verb group.events group.answer) lines groups one.1)
+all_left chronicle [] groups o = tt
+all_left chronicle (line ∷ lines) [] o = tt
+
 -- and all of it
-pub whole : (chronicle : Chronicle) (script : List ScriptLine) (told : List Group) → in_order chronicle script told ≡ true → AreParts chronicle script told → LawfulGroups chronicle script told
-whole chronicle [] [] o p = tt
-whole chronicle (line ∷ lines) [] o p = absurd p
-whole chronicle [] (group ∷ groups) o p = absurd p
-whole chronicle (line ∷ lines) (group ∷ groups) o p =
+pub whole_left : (chronicle : Chronicle) (script : List ScriptLine) (told : List Group) → in_line chronicle script told ≡ true → AreParts chronicle script told → AreLeft chronicle script told → LawfulGroups chronicle script told
+whole_left chronicle [] [] o p d = tt
+whole_left chronicle (line ∷ lines) [] o p d = absurd p
+whole_left chronicle [] (group ∷ groups) o p d = absurd p
+whole_left chronicle (line ∷ lines) (group ∷ groups) o p d =
     let next : Chronicle = after_group chronicle line.verb group.events group.answer in
     let one = and_parts (group.line == line.line) _ o in
     let two = and_parts (is_answered_so group.events group.answer) _ one.1 in
     let three = and_parts (are_all (may_tell_of line.verb) group.events) _ two.1 in
-    let four = and_parts (is_asked_so chronicle line.verb group.events group.answer) (in_order next lines groups) three.1 in
-    ((p.0.0, p.0.1, p.0.2, eqb-true group.line line.line one.0, tells_so group.events group.answer two.0, three.0, asked_so chronicle line.verb group.events group.answer four.0), whole next lines groups four.1 p.1)
+    let four = and_parts (is_asked_so chronicle line.verb group.events group.answer) (in_line next lines groups) three.1 in
+    ((p.0.0, p.0.1, p.0.2, eqb-true group.line line.line one.0, tells_so group.events group.answer two.0, three.0, asked_so chronicle line.verb group.events group.answer four.0, d.0), whole_left next lines groups four.1 p.1 d.1)
+pub whole : (chronicle : Chronicle) (script : List ScriptLine) (told : List Group) → in_order chronicle script told ≡ true → AreParts chronicle script told → LawfulGroups chronicle script told
+whole chronicle script told o p = let two = and_parts (in_line chronicle script told) (all_done script told) o in whole_left chronicle script told two.0 p (all_left chronicle script told two.1)
+
+-- the parts, each by itself
+pub parts : (chronicle : Chronicle) (script : List ScriptLine) (told : List Group) → AreTold chronicle script told → AreAnswered chronicle script told → AreFired chronicle script told → AreParts chronicle script told
+parts chronicle [] [] t a f = tt
+parts chronicle (line ∷ lines) [] t a f = absurd t
+parts chronicle [] (group ∷ groups) t a f = absurd t
+parts chronicle (line ∷ lines) (group ∷ groups) t a f = ((t.0, a.0, f.0), parts (after_group chronicle line.verb group.events group.answer) lines groups t.1 a.1 f.1)
+
+pub both_left : (chronicle : Chronicle) (script : List ScriptLine) (told : List Group) → in_line chronicle script told ≡ true → AreTold chronicle script told → AreAnswered chronicle script told → AreFired chronicle script told → AreLeft chronicle script told → LawfulGroups chronicle script told
+both_left chronicle script told o t a f d = whole_left chronicle script told o (parts chronicle script told t a f) d
 
 pub both : (chronicle : Chronicle) (script : List ScriptLine) (told : List Group) → in_order chronicle script told ≡ true → AreTold chronicle script told → AreAnswered chronicle script told → AreFired chronicle script told → LawfulGroups chronicle script told
 both chronicle script told o t a f = whole chronicle script told o (parts chronicle script told t a f)
-  where
-    parts : (chronicle : Chronicle) (script : List ScriptLine) (told : List Group) → AreTold chronicle script told → AreAnswered chronicle script told → AreFired chronicle script told → AreParts chronicle script told
-    parts chronicle [] [] t a f = tt
-    parts chronicle (line ∷ lines) [] t a f = absurd t
-    parts chronicle [] (group ∷ groups) t a f = absurd t
-    parts chronicle (line ∷ lines) (group ∷ groups) t a f = ((t.0, a.0, f.0), parts (after_group chronicle line.verb group.events group.answer) lines groups t.1 a.1 f.1)

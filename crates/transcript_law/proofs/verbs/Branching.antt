@@ -92,6 +92,7 @@ new_disk n role uuid = record {
   closed = refl;
   flush = (refl, (λ e. refl), omega arith);
   saved = refl;
+  taken = refl;
   spots = no_spots 0 [];
   floor = omega arith;
   cas = omega arith;
@@ -106,7 +107,7 @@ blank_there told d (Some s) x = (x.2, x.0)
 -- where no record stands, there is nothing at all
 away_blank : (told : DiskKnown) (d : Disk) → d.book ≡ [] → AwayAgrees told d → (record told { there = true } ≡ record blank_disk { there = true }) × (d ≡ blank)
 away_blank told d none x = (
-  ap (λ (t : DiskKnown). record t { there = true }) x.told_is ∙ ap (λ js. record blank_disk { book = map bare_record js; saved = (place_of js).at; there = true }) none,
+  ap (λ (t : DiskKnown). record t { there = true }) x.told_is ∙ ap (λ js. record blank_disk { book = map bare_record js; saved = (place_of js).at; taken = (place_of js).at; there = true }) none,
   x.disk ∙ ap opened none,
 )
 

@@ -7,7 +7,7 @@ use Rattle.transcript_law.proofs.Words.{consumer_node, feeds, PlainWorld, Outcom
 use Rattle.transcript_law.proofs.Words.{DcpMsg, Verb, VbAnswer, Status, Answer, requests, is_taken, ask_of, new_link, link_step, StreamName}
 use Rattle.transcript_law.proofs.invariant.Tables.{ended_there, id_here, id_there, never, none_hold}
 use Rattle.transcript_law.proofs.invariant.Seats.{seat}
-use Rattle.transcript_law.proofs.invariant.Agreement.{vb_of, VbAgrees, AgreesAt, Talk, producer_seat, LinkAgrees, IsLink, idle, AgreesIn, Agrees, GoesOn, EndsStand, consumer_seat}
+use Rattle.transcript_law.proofs.invariant.Agreement.{vb_of, VbAgrees, AgreesAt, Talk, AckedIs, producer_seat, LinkAgrees, IsLink, idle, AgreesIn, Agrees, GoesOn, EndsStand, consumer_seat}
 use Rattle.transcript_law.proofs.invariant.LinkRows.{is_link_more, differ_more}
 use Rattle.transcript_law.proofs.invariant.Carried.{fed_same, kept_same, agrees_carried, stays_same, link_carried}
 use Rattle.{node_world.specs.Worlds.{is_off}, transcript_law.proofs.{invariant.Agreement.{EndsUp}, invariant.Resting.{off_as_power}}}
@@ -65,7 +65,7 @@ module _ (w : PlainWorld) (r : Chronicle) (line l m n v buffer : ℕ) (small : (
       record {
         asked = request_frames new.consumer.asked new.consumer.dialed ask;
         said = [];
-        stands = EndsStand.IsAsking ask (record {
+        stands = EndsStand.IsAsking ask (ap (λ b. if b then None else r.stream_of (StreamName.Link l) v) (eq-eqb l l refl)) (record {
           no_stream = refl;
           asking = record {
             answered = 0;
@@ -93,6 +93,7 @@ module _ (w : PlainWorld) (r : Chronicle) (line l m n v buffer : ℕ) (small : (
     follower = fv;
     follower_is = known;
     follows = (asks_as fv ask asked).0;
+    acks = subst (λ o. AckedIs o 0) (sym (ap (λ b. if b then None else r.stream_of (StreamName.Link l) v) (eq-eqb l l refl))) refl;
     dial = record { dialed = id_here r.dial_of l (Some (record { producer = m; node = n; vb = v })); named = refl; small = small };
     talk = asking;
   }

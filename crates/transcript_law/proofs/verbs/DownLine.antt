@@ -1,8 +1,12 @@
 -- the line `down`, from what agrees before it to what agrees after it
 use Rattle.std.specs.Prelude.{◌≡◌, ◌∷◌, ◌++◌}
+use Rattle.transcript_law.proofs.links.Downing.{Met}
+use Rattle.transcript_law.proofs.links.Downing.{answered_streams}
+use Rattle.transcript_law.proofs.{invariant.Tables.{id_here}, links.Owing.{all_acked}}
+use Rattle.transcript_law.specs.Undone.{AllAcknowledged, is_taking}
 use Rattle.transcript_law.proofs.Words.{List, [], refl, ap, sym, subst, Option, Some, None, Frame, EndReason, Event, StaysSound, Ended, after_job, after_job_fold, job_stepped, DialResult, frame_taken}
 use Rattle.transcript_law.proofs.Words.{frames_taken, after_lines, ℕ, drop, take, ◌∙◌, append-nil, All, frames_in, left_of, Readable, pieces_of_frames, Member, Plain, row_at, after_job_bind, over_why}
-use Rattle.transcript_law.proofs.Words.{dial_bytes, PlainLink, link_number, producer_node, consumer_node, dial_of, moved_len, down_result, PlainWorld, Outcome, with_node_at, with_link, Chronicle, Dial}
+use Rattle.transcript_law.proofs.Words.{dial_bytes, PlainLink, link_number, producer_node, consumer_node, dial_of, moved_len, down_result, StreamName, PlainWorld, Outcome, with_node_at, with_link, Chronicle, Dial}
 use Rattle.transcript_law.proofs.{Words.{Granted, PlainProducer, PlainConsumer}, links.Downing.{RolledAt, broken_answer, lifted_at, StandsAt, StandsWith, Asker, past, Line, so_far, link_now, now, Going, Stage, Reached, linked, counted, ended, asking_next, RefusedNext}}
 use Rattle.transcript_law.proofs.{links.Downing.{refused_next, next_downs, busy_at}, invariant.Agreement.{LinkAgrees, EndsStand, is_refused_ack, spoken, wants_of, UpIs, DownAgrees, idle, Agrees, GoesOn, Wants}, links.Deliveries.{bytes_reached, taken_counts}, links.Requests.{waits_open}, links.Spoken.{spoken_dropped, spoken_front}, links.Taken.{dropped_taken, over_taken}}
 use Rattle.transcript_law.proofs.{links.Breaking.{back_reached}, links.Streaming.{streaming_next}, invariant.LinkRows.{found_is_link}, invariant.OneLink.{carries_link, carries_same}, lines.Lines.{after_more, lawful_more}, invariant.Carried.{told_of_same, one_here}}
@@ -34,7 +38,7 @@ use Rattle.vb_types.specs.declared.journal.Record.{Record}
 module _ (stays : StaysSound) (line : Line) where
   open line use {w, r, link}
 
-  module _ (f : Frame) (rest : List Frame) (states : Kept) (at : Asker) (events : List Event) (g : Going line (f ∷ rest) states at events) where
+  module _ (f : Frame) (rest : List Frame) (states : Kept) (at : Asker) (events : List Event) (g : Going line (f ∷ rest) states at events) (met : Met line states at events) where
     abbrev at_frame : LinkAgrees (now line states at) (after_lines r events) g.cluster (link_now line at) [] (f ∷ rest)
     at_frame = linked line (f ∷ rest) states at events g
 
@@ -46,19 +50,20 @@ module _ (stays : StaysSound) (line : Line) where
     more = rest ++ at_frame.talk.downs.behind
 
     counted_on : frame_taken f (so_far line at None events) ≡ Ended (so_far line (past line.link.consumer.dialed.buffer at) None events) → StandsAt line (f ∷ rest) states at events g (past line.link.consumer.dialed.buffer at) more → Reached line rest frame_came
-    counted_on e t = counted line f rest states at (waited_for line.link.consumer.dialed.buffer at.waiting) events g e t
+    counted_on e t = counted line f rest states at (waited_for line.link.consumer.dialed.buffer at.waiting) events g met (answered_streams line.link.consumer.dialed.buffer at.waiting) e t
 
     -- a frame of a link that was refused or sent back
-    refused_on : RefusedNext line f at events ((after_lines r events).point_of link.consumer.dialed.link) at_frame.talk.asked (spoken more) → Reached line rest frame_came
-    refused_on (RefusedNext.IsCounted e t) = counted_on e (EndsStand.IsRefusedYet t)
-    refused_on (RefusedNext.IsOver e) = ended line stays f rest states states at at events Refused frame_came g refl (ap (λ p. after_job p states.0 states.1) e) (λ m q. refl) refl
-    refused_on (RefusedNext.IsBack to point e asks server no_stream none_asked none_said) =
+    refused_on : (after_lines r events).stream_of (StreamName.Link link.consumer.dialed.link) link.consumer.dialed.vb ≡ None → RefusedNext line f at events ((after_lines r events).point_of link.consumer.dialed.link) at_frame.talk.asked (spoken more) → Reached line rest frame_came
+    refused_on none (RefusedNext.IsCounted e t) = counted_on e (EndsStand.IsRefusedYet none t)
+    refused_on none (RefusedNext.IsOver e) = ended line stays f rest states states at at events Refused frame_came g refl (ap (λ p. after_job p states.0 states.1) e) (λ m q. refl) refl
+    refused_on none (RefusedNext.IsBack to point e asks server no_stream none_asked none_said) =
         subst (λ p. Reached line rest (after_job p states.0 states.1)) (sym e) (back_reached line (record {
-          before = record { stays = stays; f = f; rest = rest; states = states; at = at; events = events; going = g };
+          before = record { stays = stays; f = f; rest = rest; states = states; at = at; events = events; going = g; met = met };
           named = to;
           point = point;
           asks = asks;
           server = server;
+          untold = none;
           no_stream = no_stream;
           ups = subst (UpIs (link_now line at) []) none_asked at_frame.talk.ups;
           said = more;
@@ -68,24 +73,24 @@ module _ (stays : StaysSound) (line : Line) where
 
     -- a frame that comes while the link is open, and that is not dropped
     stands_next : spoken at_frame.talk.said ≡ f ∷ spoken more → StandsAt line (f ∷ rest) states at events g at at_frame.talk.said → Reached line rest frame_came
-    stands_next heard (EndsStand.IsAsking ask x) =
+    stands_next heard (EndsStand.IsAsking ask none x) =
         let y = asking_next line (wants_of at_frame.follower) ask f at events at_frame.talk.asked (spoken at_frame.talk.said) (spoken more) heard x in
-        counted_on y.0 (EndsStand.IsAsking ask y.1)
-    stands_next heard (EndsStand.IsRefusedYet x) =
-        refused_on (refused_next line f at events ((after_lines r events).point_of link.consumer.dialed.link) at_frame.talk.asked (spoken at_frame.talk.said) (spoken more) heard x)
+        counted_on y.0 (EndsStand.IsAsking ask none y.1)
+    stands_next heard (EndsStand.IsRefusedYet none x) =
+        refused_on none (refused_next line f at events ((after_lines r events).point_of link.consumer.dialed.link) at_frame.talk.asked (spoken at_frame.talk.said) (spoken more) heard x)
     stands_next heard (EndsStand.IsStreaming x) =
-        streaming_next line (record { before = record { stays = stays; f = f; rest = rest; states = states; at = at; events = events; going = g }; heard = heard; streaming = x })
+        streaming_next line (record { before = record { stays = stays; f = f; rest = rest; states = states; at = at; events = events; going = g; met = met }; heard = heard; streaming = x })
 
     -- the answer to an acknowledgement that was refused is dropped
     heard_next : (b : Bool) → is_refused_ack f ≡ b → Reached line rest frame_came
-    heard_next true e = counted line f rest states at at.waiting events g (dropped_taken f (so_far line at None events) e)
+    heard_next true e = counted line f rest states at at.waiting events g met (λ streams. streams) (dropped_taken f (so_far line at None events) e)
         (subst (StandsWith line (f ∷ rest) states at events g at) (ap spoken at_frame.talk.downs.joined ∙ spoken_dropped f more e) at_frame.talk.stands)
     heard_next false e = stands_next (ap spoken at_frame.talk.downs.joined ∙ spoken_front f more e) at_frame.talk.stands
 
   -- a frame; once the link is over, the rest changes nothing, and behind a rollback there is none that is not dropped
   one : (f : Frame) (rest : List Frame) (states : Kept) (at : Asker) (over : Option EndReason) (events : List Event) (rolled : Bool) → Stage line rolled (f ∷ rest) states at over events
       → Reached line rest (after_job (frame_taken f (so_far line at over events)) states.0 states.1)
-  one f rest states at None events false g = heard_next f rest states at events g (is_refused_ack f) refl
+  one f rest states at None events false g = heard_next f rest states at events g.0 g.1 (is_refused_ack f) refl
   one f rest states at (Some why) events false g =
       record { states = states; at = at; over = Some why; events = events; same = ap (λ p. after_job p states.0 states.1) (over_taken f (so_far line at (Some why) events) why refl); rolled = false; stage = g }
   one f rest states at over events true g = by (is_refused_ack f) refl
@@ -115,8 +120,8 @@ module _ (stays : StaysSound) (line : Line) where
 -- a link is not over while an answer or its stream is waited for
 open_of : {fv : Wants} {kn : Member} {pv : Option Plain} {leader : Member} {g : Option Granted} {point : Option ℕ} {served : PlainProducer} {asker : PlainConsumer} {asked said : List Frame} → EndsStand fv kn pv leader g point served asker asked said
     → over_why asker.handshake ≡ None
-open_of {asker = asker} (EndsStand.IsAsking ask x) = ap over_why x.consumer.waits ∙ waits_open asker.dialed x.seen
-open_of {asker = asker} (EndsStand.IsRefusedYet x) = ap over_why x.consumer.waits ∙ waits_open asker.dialed x.seen
+open_of {asker = asker} (EndsStand.IsAsking ask none x) = ap over_why x.consumer.waits ∙ waits_open asker.dialed x.seen
+open_of {asker = asker} (EndsStand.IsRefusedYet none x) = ap over_why x.consumer.waits ∙ waits_open asker.dialed x.seen
 open_of {asker = asker} (EndsStand.IsStreaming x) = ap over_why x.consumer.waits ∙ waits_open asker.dialed x.seen
 
 -- lines of a line `down` and of its link's end, which tell of a rollback, or of none
@@ -142,9 +147,14 @@ told_of_one : (x : Chronicle) (rolls : Option (ℕ × (ℕ × Record))) (n v : �
     → after_rollback x rolls lines (answer.Number moved) ≡ after_calls calls_of_append n x
 told_of_one x rolls n v what lines moved e f = ap (λ o. after_rollback x o lines (answer.Number moved)) e ∙ ap (λ b. if b then after_calls calls_of_append n x else x) f
 
+-- where its lines tell that something was taken, all was acknowledged that is due, unless it is refused
+abbrev pub Acknowledges : Chronicle → ℕ → List Event → Answer → Type 0
+Acknowledges r l lines (answer.Number n) = list_any is_taking lines ≡ true → AllAcknowledged (after_lines r lines) l
+Acknowledges r l lines other = Unit {0}
+
 -- a line `down` for the link l
 abbrev DownGoes : Chronicle → ℕ → ℕ → Bool → Fuse → Outcome → Type 0
-DownGoes r l wanted closed f x = GoesOn r (λ told. after_verb r told (verb.AtLink l (link_verb.Down wanted)) x.1.events x.1.answer) x × IsTakenDown wanted (back_of r l) closed f x.1.events x.1.answer
+DownGoes r l wanted closed f x = GoesOn r (λ told. after_verb r told (verb.AtLink l (link_verb.Down wanted)) x.1.events x.1.answer) x × IsTakenDown wanted (back_of r l) closed f x.1.events x.1.answer × Acknowledges r l x.1.events x.1.answer
 
 -- one that is refused
 refused_closed : (x : Chronicle) (rolls : Option (ℕ × (ℕ × Record))) → after_rollback x rolls [] (answer.No cause.LinkClosed) ≡ x
@@ -229,6 +239,7 @@ module _ (stays : StaysSound) (w : PlainWorld) (r : Chronicle) (link : PlainLink
     follower = mine.follower;
     follower_is = begins.vbs (consumer_node link) link.consumer.dialed.vb ∙ mine.follower_is;
     follows = mine.follows;
+    acks = mine.acks;
     dial = mine.dial;
     talk = talk_same refl (begins.vbs (producer_node link) link.consumer.dialed.vb) refl refl refl (record {
       asked = t.asked;
@@ -247,7 +258,7 @@ module _ (stays : StaysSound) (w : PlainWorld) (r : Chronicle) (link : PlainLink
     events = [];
     same = refl;
     rolled = false;
-    stage = record {
+    stage = (record {
       lawful = tt;
       quiet = tt;
       onward = record { arm = ap (option_map (λ (s : Shelf). s.fuse)) armed_here; lines = tt };
@@ -255,7 +266,7 @@ module _ (stays : StaysSound) (w : PlainWorld) (r : Chronicle) (link : PlainLink
       agrees = carries_link idle (busy_at line (frames_in bytes)) w (now line armed at) r r a.0 l link start a.1 found (record { dialed = refl; desk = refl })
           (record { powers = begins.powers; vbs = begins.vbs; shelves = begins.shelves; uuids = refl; linked = refl }) (λ s. s) (told_of_same l r) (one_idle l ([], frames_in bytes))
           (subst (λ b. LinkAgrees (now line armed at) r a.0 start b.0 b.1) (sym (one_here l ([], frames_in bytes))) start_agrees);
-    };
+    }, λ t. cc);
   }
 
   abbrev taken : Kept × DialResult
@@ -300,15 +311,21 @@ module _ (stays : StaysSound) (w : PlainWorld) (r : Chronicle) (link : PlainLink
       open_of there.talk.stands
 
   -- the link is open at the end
-  open_goes : (states : Kept) (at' : Asker) (events : List Event) → over_why at'.waiting ≡ None → LawfulFrom r events → (list_any is_rollback events ≡ true → GoesBack (back_of r l) events × IsNoted closed fuse answer.Ok)
+  open_goes : (states : Kept) (at' : Asker) (events : List Event) → over_why at'.waiting ≡ None → LawfulFrom r events → (list_any is_rollback events ≡ true → GoesBack (back_of r l) events × IsNoted closed fuse answer.Ok) → Acknowledges r l events (answer.Number moved)
       → Agrees (with_links (lifted_at line states) (row_put link_number l (link_now line at') w.links)) (after_rollback (after_lines r events) (back_of r l) events (answer.Number moved)) → Goes (states, known_of at' None events)
-  open_goes states at' events still lawful passes agrees =
+  open_goes states at' events still lawful passes acks agrees =
       subst (λ o. Goes (states, with_end_line o (so_far line at' None events))) (sym still)
-      (subst (λ o. DownGoes r l wanted closed fuse (with_broken n l w (with_link link (lifted_at line states, (left_unless o (link_now line at'), record { events = events; answer = down_answer moved o }))))) (sym still) ((lawful, agrees), (moved_few wanted link.down, passes)))
+      (subst (λ o. DownGoes r l wanted closed fuse (with_broken n l w (with_link link (lifted_at line states, (left_unless o (link_now line at'), record { events = events; answer = down_answer moved o }))))) (sym still) ((lawful, agrees), (moved_few wanted link.down, passes), acks))
 
   -- its dial is told as before
   open_still : (events : List Event) → (after_lines r events).dial_of ≡ r.dial_of → IsOpen (after_lines r events) l
   open_still events dials = (_, ap (λ (f : ℕ → Option Dial). f l) dials ∙ (a.1.links link (found_is_link l w.links link found).0).dialed)
+
+  -- of a link that is over nothing is due
+  over_acked : (events : List Event) (why : EndReason) → AllAcknowledged (after_lines r (events ++ event.Ended l why ∷ [])) l
+  over_acked events why dial g dialed is e owed =
+      let none : (after_lines r (events ++ event.Ended l why ∷ [])).dial_of l ≡ None = ap (λ (x : Chronicle). x.dial_of l) (after_more r events (event.Ended l why ∷ [])) ∙ id_here (after_lines r events).dial_of l None in
+      let z : None ≡ Some dial = sym none ∙ dialed in cc
 
   -- it is over, not because of the disk
   over_goes : (states : Kept) (at' : Asker) (why : EndReason) (events : List Event) → is_broken (Some why) ≡ false → LawfulFrom r events → AreQuiet events → (after_lines r events).dial_of ≡ r.dial_of → (list_any is_rollback (events ++ event.Ended l why ∷ []) ≡ true → GoesBack (back_of r l) (events ++ event.Ended l why ∷ []) × IsNoted closed fuse answer.Ok)
@@ -322,6 +339,7 @@ module _ (stays : StaysSound) (w : PlainWorld) (r : Chronicle) (link : PlainLink
           subst (λ x. Agrees (unlinked link (lifted_at line states)) (after_rollback x (back_of r l) (events ++ event.Ended l why ∷ []) (answer.Number moved))) (sym (after_more r events (event.Ended l why ∷ []))) agrees,
         ),
         (moved_few wanted link.down, passes),
+        λ takes. over_acked events why,
       ))
 
   -- no link of its number is left
@@ -361,24 +379,29 @@ module _ (stays : StaysSound) (w : PlainWorld) (r : Chronicle) (link : PlainLink
     answered fired.Failed i = (i, (_, x.rolls), behind_none events (event.CallFailed n ∷ disk_end l) x.came.2 refl)
     answered fired.Stopped i = (i, (_, x.rolls), behind_none events (event.NodeStopped n ∷ down_lines n (Some l) left) x.came.2 (ends_none (down_lines n (Some l) left) (down_ends n (Some l) left)))
 
+    refused : (f : Fired) → Acknowledges r l (out f).1.events (out f).1.answer
+    refused fired.No = tt
+    refused fired.Failed = tt
+    refused fired.Stopped = tt
+
     broken_goes : Goes (states, known_of at' (Some Disk) events)
     broken_goes =
         let g = breaks stays n noting (this_noting n v (appending x.what)) w left r events l (λ q. refl) (none_left states) (open_still events x.dials) a x.lawful x.quiet broken_came in
-        ((g.0, subst (Agrees (out how).0) (told_is how (after_lines r (out how).1.events)) g.1), answered how (subst (λ (g : Arm). FiredIn (fired_by g.fuse (arm_in (left.nodes n)).fuse) closed fuse) (sym (ap arm_in known)) x.came.1))
+        ((g.0, subst (Agrees (out how).0) (told_is how (after_lines r (out how).1.events)) g.1), answered how (subst (λ (g : Arm). FiredIn (fired_by g.fuse (arm_in (left.nodes n)).fuse) closed fuse) (sym (ap arm_in known)) x.came.1), refused how)
 
   -- no line tells of a rollback
   none_back : (lines : List Event) → list_any is_rollback lines ≡ false → list_any is_rollback lines ≡ true → GoesBack (back_of r l) lines × IsNoted closed fuse answer.Ok
   none_back lines none e = let z : true ≡ false = sym e ∙ none in cc
 
   end_goes : (states : Kept) (at' : Asker) (over : Option EndReason) (events : List Event) (rolled : Bool) → Stage line rolled [] states at' over events → Goes (states, known_of at' over events)
-  end_goes states at' None events false x = open_goes states at' events (still_open states at' events x) x.lawful (none_back events (onward_none events x.onward.lines))
-      (subst (Agrees (with_links (lifted_at line states) (row_put link_number l (link_now line at') w.links))) (sym (told_of_none (after_lines r events) (back_of r l) events moved (onward_none events x.onward.lines)))
-      (subst (λ y. Agrees (with_links (with_node_at w n y) (row_put link_number l (link_now line at') w.links)) (after_lines r events)) (arm_stays states x.onward.arm)
-      (x.cluster, carries_same (busy_at line []) idle (now line states at') (now line states at') (after_lines r events) x.cluster x.agrees (record { powers = λ m. refl; vbs = λ m q. refl; shelves = λ m q. refl; uuids = refl; linked = refl }) (one_none l))))
+  end_goes states at' None events false x = open_goes states at' events (still_open states at' events x.0) x.0.lawful (none_back events (onward_none events x.0.onward.lines)) (all_acked line states at' events x.0 x.1)
+      (subst (Agrees (with_links (lifted_at line states) (row_put link_number l (link_now line at') w.links))) (sym (told_of_none (after_lines r events) (back_of r l) events moved (onward_none events x.0.onward.lines)))
+      (subst (λ y. Agrees (with_links (with_node_at w n y) (row_put link_number l (link_now line at') w.links)) (after_lines r events)) (arm_stays states x.0.onward.arm)
+      (x.0.cluster, carries_same (busy_at line []) idle (now line states at') (now line states at') (after_lines r events) x.0.cluster x.0.agrees (record { powers = λ m. refl; vbs = λ m q. refl; shelves = λ m q. refl; uuids = refl; linked = refl }) (one_none l))))
   end_goes states at' (Some why) events false x = over_goes states at' why events x.not_disk x.lawful x.quiet (onward_all r events x.onward.lines).dials (none_back (events ++ event.Ended l why ∷ []) (ended_tells events l why false (onward_none events x.onward.lines)))
       (subst (Agrees (unlinked link (lifted_at line states))) (sym (told_of_none (after_end (after_lines r events) l) (back_of r l) (events ++ event.Ended l why ∷ []) moved (ended_tells events l why false (onward_none events x.onward.lines))))
       (subst (λ y. Agrees (unlinked link (with_node_at w n y)) (after_end (after_lines r events) l)) (arm_stays states x.onward.arm) (x.cluster, x.agrees)))
-  end_goes states at' None events true x = open_goes states at' events x.1.came.0 x.1.lawful (λ e. ((_, x.1.rolls, x.1.came.4), x.1.came.3))
+  end_goes states at' None events true x = open_goes states at' events x.1.came.0 x.1.lawful (λ e. ((_, x.1.rolls, x.1.came.4), x.1.came.3)) (λ takes. let z : true ≡ false = sym takes ∙ x.1.none_taken in cc)
       (subst (Agrees (with_links (lifted_at line states) (row_put link_number l (link_now line at') w.links))) (sym (told_of_one (after_lines r events) (back_of r l) n v x.1.what events moved x.1.rolls x.1.came.1)) x.1.came.2)
   end_goes states at' (Some Disk) events true x = broken_goes states at' events x.1
   end_goes states at' (Some why) events true x = over_goes states at' why events refl x.1.lawful x.1.quiet x.1.dials (λ e. ((_, x.1.rolls, ended_back events l why ∙ x.1.came.3), x.1.came.2))
@@ -401,6 +424,7 @@ down_came stays w r l wanted a = by (row_at link_number l w.links) refl
                 (agrees_same w w' r a (record { powers = λ n. refl; vbs = λ n v. refl; shelves = λ n v. refl; uuids = refl; linked = put_same (link_number link) w.links link found })),
           ),
           (tt, tt, refl),
+          tt,
         )
     at_node link found (Some node) e =
         let dialed = (a.1.links link (found_is_link (link_number link) w.links link found).0).dialed in
@@ -409,7 +433,7 @@ down_came stays w r l wanted a = by (row_at link_number l w.links) refl
         (λ i. (sym (ap (closed_of_dial r) dialed) i, sym (ap (arm_of_dial r) dialed ∙ armed.fuse) i)) (node_goes stays w r link node wanted found e a)
 
     by : (o : Option PlainLink) → row_at link_number l w.links ≡ o → DownGoes r l wanted (closed_of_dial r (r.dial_of l)) (arm_of_dial r (r.dial_of l)) (down_outcome w l o (link_outcome w l consumer_node (down_in wanted) o))
-    by None e = ((tt, subst (Agrees w) (sym (refused_closed r (back_of r l))) a), (tt, tt, refl))
+    by None e = ((tt, subst (Agrees w) (sym (refused_closed r (back_of r l))) a), (tt, tt, refl), tt)
     by (Some link) e =
         let is = (found_is_link l w.links link e).1 in
         subst (λ j. DownGoes r j wanted (closed_of_dial r (r.dial_of j)) (arm_of_dial r (r.dial_of j)) (with_broken (consumer_node link) j w (at_end w (consumer_node link) link (down_in wanted link)))) is
@@ -420,3 +444,6 @@ down_goes stays w r l wanted a = (down_came stays w r l wanted a).0
 
 pub down_answered : (stays : StaysSound) (w : PlainWorld) (r : Chronicle) (l wanted : ℕ) → Agrees w r → IsTakenDown wanted (back_of r l) (closed_of_dial r (r.dial_of l)) (arm_of_dial r (r.dial_of l)) (down_step w l wanted).1.events (down_step w l wanted).1.answer
 down_answered stays w r l wanted a = (down_came stays w r l wanted a).1
+
+pub down_leaves : (stays : StaysSound) (w : PlainWorld) (r : Chronicle) (l wanted n : ℕ) → Agrees w r → (let x = down_step w l wanted in x.1.answer ≡ answer.Number n → list_any is_taking x.1.events ≡ true → AllAcknowledged (after_lines r x.1.events) l)
+down_leaves stays w r l wanted n a e takes = let x : Outcome = down_step w l wanted in subst (Acknowledges r l x.1.events) e (down_came stays w r l wanted a).2 takes

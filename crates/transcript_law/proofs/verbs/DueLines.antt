@@ -67,8 +67,8 @@ module _ (w : PlainWorld) (r : Chronicle) (n v : ℕ) (told : Told) (quiet : Are
     node_goes = by (due_came node.vbs mine.follower s known mine.follows sound)
       where
         by : DueCame node.vbs mine.follower s (after (due_requested s) node.vbs) → GoesOn r as_told (with_acknowledged n link node w told (after (due_requested s) node.vbs))
-        by (DueCame.IsSilent e) = subst (λ y. GoesOn r as_told (with_acknowledged n link node w told y)) (sym e) silent
-        by (DueCame.IsAcked seq granted low shared thirds e) = subst (λ y. GoesOn r as_told (with_acknowledged n link node w told y)) (sym e) (acked seq granted low shared thirds)
+        by (DueCame.IsSilent low e) = subst (λ y. GoesOn r as_told (with_acknowledged n link node w told y)) (sym e) silent
+        by (DueCame.IsAcked seq is granted low shared thirds e) = subst (λ y. GoesOn r as_told (with_acknowledged n link node w told y)) (sym e) (acked seq granted low shared thirds)
 
   at_node : (link : PlainLink) → IsLink link w.links → consumer_node link ≡ n → (o : Option PlainNode) → w.nodes n ≡ o → GoesOn r as_told (due_at n link w told o)
   at_node link own here None e = g

@@ -1,13 +1,13 @@
 -- the lines `take`, `done` and `stat`
 use Rattle.std.specs.Prelude.{◌≡◌, ◌+◌, ◌<◌, ◌≤◌, ◌∷◌, ◌++◌, ◌&&◌, if◌then◌else◌}
 use Rattle.transcript_law.proofs.Words.{ℕ, Bool, true, false, List, [], length, refl, ap, sym, ◌∙◌, subst, arith, inl, Option, Some, None, eq-eqb, ne_eqb, Answer, Cause, Event, Plain, States, with_vb_at, VbCall, Span, after_job, PlainNode, PlainWorld}
-use Rattle.transcript_law.proofs.Words.{with_node_at, vb_in, shelf_in, Chronicle, Cluster, Move, happens, keeps, Sound, StaysSound, Position, Change, last_seq, Covers, IsIn, Rises, on_node, admin_line, AdminCall, call_at, Outcome, ground, map, rises_in, rises_le, upto, above, Own, Received}
+use Rattle.transcript_law.proofs.Words.{with_node_at, vb_in, shelf_in, Chronicle, Cluster, Move, happens, keeps, Sound, StaysSound, Position, Change, last_seq, Covers, IsIn, Rises, on_node, admin_line, AdminCall, call_at, Outcome, ground, rises_in, rises_le, upto, above, Own, Received}
 use Rattle.transcript_law.proofs.Words.{VbAnswer, VbReply, newest_branch, quiet_reply, flat_map, is_some, length-append, list_any, with_states}
-use Rattle.transcript_law.proofs.{invariant.Agreement.{AgreesAt, AgreesIn, Agrees, DiskIsIf, GoesOn, VbAgrees, all_rise, idle, shelf_of, top, vb_of}, disks.Appending.{Rewritten, row_there, told_disk, unwritten}, disks.Disks.{FlushIs, ShelfIs, bare, parts_of}, disks.Flushed.{flush_came}}
+use Rattle.transcript_law.proofs.{invariant.Agreement.{AgreesAt, AgreesIn, Agrees, DiskIsIf, GoesOn, VbAgrees, all_rise, idle, shelf_of, top, vb_of}, disks.Appending.{Rewritten, row_there, told_disk, unwritten}, disks.Disks.{FlushIs, ShelfIs, parts_of}, disks.Flushed.{flush_came}}
 use Rattle.transcript_law.proofs.{invariant.JobSteps.{ask_on, call_on, put_found, put_over, same_shelf, shelf_found}, links.Marking.{covers_more}, verbs.NodeLines.{admin_by, agrees_same, as_told, node_changed, node_grown, shelves_again, on_node_by, put_same, refused_on, node_of_same_vbs, written_agrees, written_rests}}
 use Rattle.transcript_law.proofs.{invariant.OneLink.{disk_here, disk_there}, invariant.Seats.{seat, seats_apart}, invariant.Tables.{at_here, at_there}, links.Turning.{put_itself}, invariant.Wholes.{IsSpanIn}}
-use Rattle.{branch_model.specs.Journals.{batches, place_of, points}, cluster_model.specs.Clusters.{Disk, Fits, IsSpot}, node_core.specs.Flushing.{FlushResult, flush_if, flush_result}, node_world.specs.Nodes.{flush_line, with_kept, with_posts, written}}
-use Rattle.{transcript_law.specs.Chronicles.{DiskKnown, Flushing, after_batch, after_done, known_log, stood, known_batch, with_disk}, transcript_law.specs.Lawfulness.{LawfulBatch, stood_end}, std.specs.Prelude.{max, nat_le, nat_lt}, std.specs.Str.{bytes_eq}}
+use Rattle.{branch_model.specs.Journals.{place_of}, cluster_model.specs.Clusters.{Disk, Fits, IsSpot}, node_core.specs.Flushing.{FlushResult, flush_if, flush_result}, node_world.specs.Nodes.{flush_line, with_kept, with_posts, written}}
+use Rattle.{transcript_law.specs.Chronicles.{DiskKnown, Flushing, after_batch, after_done, known_log, known_batch, with_disk}, transcript_law.specs.Lawfulness.{LawfulBatch}, std.specs.Prelude.{max, nat_le, nat_lt}, std.specs.Str.{bytes_eq}}
 use Rattle.node_core.specs.Calls.{own_lines}
 use Rattle.transcript_law.proofs.{links.Behind.{nothing_beside, posts_behind}, invariant.Ranged.{IsRanged, NodeRanged, NodeRangedIf}, verbs.Settling.{SettlesOn, Steady, changes_quiet, changes_told, settled_told, settles}}
 use Rattle.vb_calls.specs.Settling.{Resolving, also_resolved, settled, unresolved}
@@ -22,7 +22,7 @@ use Rattle.vb_types.specs.declared.journal.FlushPart.TheVariants as part
 use Rattle.vbucket.specs.{Laws.{AllSpans, Follow}, Wholes.{BatchesAreWhole}}
 use Rattle.branch_model.proofs.{Images.{plain_stands}, Lasts.{kept_in_filter, rises_filter}}
 use Rattle.std.proofs.lemmas.Bool.{and_from, le-leb, lt-ltb}
-use Rattle.transcript_law.proofs.{disks.Batches.{at_end, bare_points, fewer, saved_sound, some_items, span_found, stood_is}, invariant.Bounded.{weighs_upto}}
+use Rattle.transcript_law.proofs.{disks.Batches.{at_end, fewer, saved_sound, some_items, span_found}, invariant.Bounded.{weighs_upto}}
 
 -- a vBucket that is there, at a node that is running, and its journal
 pub record There (w : PlainWorld) (r : Chronicle) (n v : ℕ) : Type 0 where
@@ -48,10 +48,10 @@ module _ (w : PlainWorld) (r : Chronicle) (n v : ℕ) (there : There w r n v) wh
   pub shelf_is : shelf_of w n v ≡ Some shelf
   shelf_is = ap (λ o. shelf_in o v) at ∙ kept
 
-  mine : VbAgrees r n v (c.nodes k) vb
+  pub mine : VbAgrees r n v (c.nodes k) vb
   mine = subst (AgreesAt r n v (c.nodes k)) vb_is (a.vbs n v)
 
-  disk : ShelfIs (r.disk_at n v) (c.disks k) shelf (parts_of vb)
+  pub disk : ShelfIs (r.disk_at n v) (c.disks k) shelf (parts_of vb)
   disk = subst (λ s. DiskIsIf (r.disk_at n v) (c.disks k) s (Some vb)) shelf_is (subst (DiskIsIf (r.disk_at n v) (c.disks k) (shelf_of w n v)) vb_is (a.disks n v))
 
   -- the vBucket with this taken and saved
@@ -181,7 +181,7 @@ module _ (stays : StaysSound) (steady : Steady) (wholes : BatchesAreWhole) (w : 
         }
 
     abbrev taken_told : DiskKnown
-    taken_told = record (r.disk_at n v) { flushing = Flushing.Taken (known_batch b.position b.log) }
+    taken_told = record (r.disk_at n v) { flushing = Flushing.Taken (known_batch b.position b.log); taken = b.position.at }
 
     taken_shelf : ShelfIs taken_told (record (c.disks at_k) { batch = taken_batch.batch }) shelf' (parts_of (moved w r n v there x.last vb.saved))
     taken_shelf = record {
@@ -195,6 +195,7 @@ module _ (stays : StaysSound) (steady : Steady) (wholes : BatchesAreWhole) (w : 
       closed = before.closed;
       flush = (refl, taken_batch.is, sym ends, (let l : vb.flushed < b.position.at = covers.goes_on in let k = low in omega arith), m.sound.last_cas);
       saved = before.saved;
+      taken = ends;
       spots = before.spots;
       floor = before.floor;
       cas = before.cas;
@@ -202,7 +203,7 @@ module _ (stays : StaysSound) (steady : Steady) (wholes : BatchesAreWhole) (w : 
     }
 
     agrees : Agrees (with_node_at w n (with_kept node (states', with_shelf_at sh0 v shelf'))) (after_batch r n v b.position)
-    agrees = subst (λ l. Agrees (with_node_at w n (with_kept node (states', with_shelf_at sh0 v shelf'))) (with_disk r n v (record (r.disk_at n v) { flushing = Flushing.Taken (known_batch b.position (known_log l)) }))) (sym m.log) (
+    agrees = subst (λ l. Agrees (with_node_at w n (with_kept node (states', with_shelf_at sh0 v shelf'))) (with_disk r n v (record (r.disk_at n v) { flushing = Flushing.Taken (known_batch b.position (known_log l)); taken = b.position.at }))) (sym m.log) (
       taken_batch.cluster.now,
       step_agrees w r n v there states' (with_shelf_at sh0 v shelf') x.last vb.saved taken_told (record {
         vbs = λ q. ap (λ s. s q) (put_over node.vbs v vb (moved w r n v there x.last vb.saved));
@@ -219,22 +220,19 @@ module _ (stays : StaysSound) (steady : Steady) (wholes : BatchesAreWhole) (w : 
     fits : Fits (ground c) (c.nodes at_k).br (c.nodes at_k).held (c.nodes at_k).position (c.nodes at_k).points b.position
     fits = (a.sound.kept at_k).stood b.position spot
 
-    some : 0 < length b.items
+    pub some : 0 < length b.items
     some = some_items vb.flushed b.position.at b.items covers.goes_on covers.reaches
 
-    -- where the last batch that stands ended, as the lines tell it
+    -- where the last batch that was taken ended, as the lines tell it
     abbrev last : ℕ
-    last = stood_end (stood (r.disk_at n v))
-
-    last_end : last ≡ place
-    last_end = ap (λ js. stood_end (points js)) (before.told_book ∙ ap (map bare) (sym before.book)) ∙ ap stood_end (bare_points (c.disks at_k).book) ∙ stood_is (batches (c.disks at_k).book) ∙ sym (a.sound.kept at_k).book.ends
+    last = (r.disk_at n v).taken
 
     -- its changes are among those that the vBucket holds there
     among : (y : Change) → IsIn y b.items → (z : Change) × IsIn z (stretch last b.position.at (r.held n v)) × (y.seq ≡ z.seq)
     among y i =
         let (z, there_z, as_) = covers.remains.of y i in let level : y.seq ≡ z.seq = ap (λ (q : Change). q.seq) (plain_stands y z as_) in
         let within = rises_in vb.flushed b.position.at b.items y covers.remains.rises i in
-        let above_is : vb.flushed < y.seq = within.0 in let high : y.seq ≤ b.position.at = within.1 in let e = last_end in let l = low in (
+        let above_is : vb.flushed < y.seq = within.0 in let high : y.seq ≤ b.position.at = within.1 in let e : last ≡ vb.flushed = before.taken in (
           z,
           kept_in_filter (λ q. nat_lt last q.seq && nat_le q.seq b.position.at) z (r.held n v) (subst (IsIn z) (sym m.held) there_z)
               (and_from (nat_lt last z.seq) (nat_le z.seq b.position.at) (lt-ltb last z.seq (omega arith)) (le-leb z.seq b.position.at (omega arith))),
@@ -244,7 +242,7 @@ module _ (stays : StaysSound) (steady : Steady) (wholes : BatchesAreWhole) (w : 
     lawful : LawfulBatch r n v b.position (length b.items)
     lawful = record {
       idle = flush_now.0;
-      goes_on = let e = last_end in let k = low in let l : vb.flushed < b.position.at = covers.goes_on in omega arith;
+      goes_on = let e : last ≡ vb.flushed = before.taken in let l : vb.flushed < b.position.at = covers.goes_on in omega arith;
       held = let l : b.position.at ≤ (c.nodes at_k).position.at = fits.reached in let e : (c.nodes at_k).position.at ≡ vb.position.at = ap (λ (p : Position). p.at) m.member.position in
           let h : last_seq 0 (r.held n v) ≡ vb.position.at = ap (last_seq 0) m.held ∙ m.high in omega arith;
       starts = rises_le b.position.ss b.position.at (above (upto (c.nodes at_k).held b.position.at) b.position.ss) fits.follows.rises;
@@ -342,6 +340,7 @@ module _ (stays : StaysSound) (steady : Steady) (wholes : BatchesAreWhole) (w : 
           closed = finishing.closed;
           flush = (refl, written_is.1, written_is.2);
           saved = refl;
+          taken = finishing.taken;
           spots = finishing.spots;
           floor = finishing.floor;
           cas = finishing.cas;

@@ -274,7 +274,7 @@ more_used w r more (c, a) = (
     vbs = a.vbs;
     disks = a.disks;
     branches = branches_again refl refl (λ u e. used_before u w.uuids more e) a.branches;
-    links = λ x i. let l = a.links x i in record { follower = l.follower; follower_is = l.follower_is; follows = l.follows; dial = l.dial; talk = l.talk };
+    links = λ x i. let l = a.links x i in record { follower = l.follower; follower_is = l.follower_is; follows = l.follows; acks = l.acks; dial = l.dial; talk = l.talk };
     differ = a.differ;
     rests = record { powers = a.powers; aways = a.aways; downs = a.downs; ends = λ x i. let e = a.ends x i in record { producer = e.producer; consumer = e.consumer; number = e.number }; small = a.small };
   },

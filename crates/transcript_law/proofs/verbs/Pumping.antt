@@ -2,10 +2,11 @@
 use Rattle.std.specs.Prelude.{◌≡◌}
 use Rattle.transcript_law.proofs.Words.{ℕ, zero, suc, refl, ap, sym, ◌∙◌, subst, append-nil, Some, TakesSnapshots, Done, Turn, More, Stop, go_on, repeated, after, row_at, row_put, States}
 use Rattle.transcript_law.proofs.Words.{after_bind, frame_put, frames_put, pulled, Halt, Served, begun, pull_result, PlainLink, link_number, producer_node, peer_of, pump_result, pump_at, PlainNode}
-use Rattle.transcript_law.proofs.Words.{PlainWorld, with_states, with_node_at, with_link, on_link, Chronicle, PullResult, peer_pulled}
+use Rattle.transcript_law.proofs.Words.{PlainWorld, with_states, with_node_at, with_link, on_link, Chronicle, PullResult, peer_pulled, after_lines, link_outcome, node_outcome, refusal, why_of, Answer, Cause, Option, None, Outcome, PlainLink, Why}
+use Rattle.transcript_law.specs.Undone.{AllPut}
 use Rattle.transcript_law.proofs.invariant.Agreement.{idle, Agrees, GoesOn}
 use Rattle.transcript_law.proofs.{invariant.Carrying.{Relinked}, invariant.OneLink.{carries_same}}
-use Rattle.transcript_law.proofs.invariant.LinkRows.{put_same}
+use Rattle.transcript_law.proofs.invariant.LinkRows.{found_is_link, put_same}
 use Rattle.transcript_law.proofs.links.PumpWorlds.{pumped, SoFar, TurnSoFar, TurnsSoFar}
 use Rattle.transcript_law.proofs.links.Turns.{turn}
 use Rattle.transcript_law.proofs.verbs.NodeLines.{as_told, on_link_goes, node_of_same_vbs}
@@ -34,7 +35,15 @@ module _ (takes : TakesSnapshots) where
 
     ended : (states : States) (x : Turn Served (Served × Halt)) → TurnSoFar w r l link node states x → Gone (known_of (after (pulled x) states))
     ended states (More s) g = (g.lawful, g.agrees)
-    ended states (Stop stopped) g = (g.lawful, g.agrees)
+    ended states (Stop stopped) g = (g.0.lawful, g.0.agrees)
+
+    -- and where there was no more to put, all was put
+    abbrev Idles : States × PullResult → Type 0
+    Idles y = (n : ℕ) → y.1.answer ≡ Answer.Pulled n Why.Idle → AllPut (after_lines r y.1.events) l
+
+    idles : (states : States) (x : Turn Served (Served × Halt)) → TurnSoFar w r l link node states x → Idles (known_of (after (pulled x) states))
+    idles states (More s) g n e = cc
+    idles states (Stop stopped) g n e = let idle : why_of stopped.1 ≡ Why.Idle = cc in g.1 idle
 
     module _ (a : Agrees w r) (known : w.nodes (producer_node link) ≡ Some node) where
       abbrev first : Served
@@ -63,6 +72,33 @@ module _ (takes : TakesSnapshots) where
           (sym (after_bind (frames_put frames first) (λ put. Done (pull_result link.up_heard put)) node.vbs ∙ ap known_of (after_bind (repeated frames frame_put first) pulled node.vbs)))
           (ended x.0 x.1 (turns frames node.vbs first first_so_far))
 
+      node_idles : (frames : ℕ) → Idles (after (peer_pulled frames (peer_of link)) node.vbs)
+      unfolding frames_put
+      node_idles frames =
+          let x = after (repeated frames frame_put first) node.vbs in
+          subst Idles
+          (sym (after_bind (frames_put frames first) (λ put. Done (pull_result link.up_heard put)) node.vbs ∙ ap known_of (after_bind (repeated frames frame_put first) pulled node.vbs)))
+          (idles x.0 x.1 (turns frames node.vbs first first_so_far))
+
   -- a line `pump`
   pub pump_goes : (w : PlainWorld) (r : Chronicle) (l frames : ℕ) → Agrees w r → GoesOn r as_told (on_link w l producer_node (pump_at frames))
   pump_goes w r l frames a = on_link_goes w r l producer_node (pump_at frames) a (λ link node found known. node_goes w r link node found a known frames)
+
+  -- one that is idle left nothing to put
+  pub pump_leaves : (w : PlainWorld) (r : Chronicle) (l frames n : ℕ) → Agrees w r → (let x = on_link w l producer_node (pump_at frames) in x.1.answer ≡ Answer.Pulled n Why.Idle → AllPut (after_lines r x.1.events) l)
+  pump_leaves w r l frames n a = by (row_at link_number l w.links) refl
+    where
+      Leaves : Outcome → Type 0
+      Leaves x = x.1.answer ≡ Answer.Pulled n Why.Idle → AllPut (after_lines r x.1.events) l
+
+      at_node : (link : PlainLink) → row_at link_number l w.links ≡ Some link → (o : Option PlainNode) → w.nodes (producer_node link) ≡ o
+          → Leaves (with_link link (node_outcome w (producer_node link) (Some link, refusal Cause.UnknownNode) o (pump_at frames link)))
+      at_node link e None none = λ z. cc
+      at_node link e (Some node) known =
+          let number : link_number link ≡ l = (found_is_link l w.links link e).1 in
+          let y = after (peer_pulled frames (peer_of link)) node.vbs in
+          subst (λ k. y.1.answer ≡ Answer.Pulled n Why.Idle → AllPut (after_lines r y.1.events) k) number (node_idles w r link node (subst (λ k. row_at link_number k w.links ≡ Some link) (sym number) e) a known frames n)
+
+      by : (o : Option PlainLink) → row_at link_number l w.links ≡ o → Leaves (link_outcome w l producer_node (pump_at frames) o)
+      by None e = λ z. cc
+      by (Some link) e = at_node link e (w.nodes (producer_node link)) refl

@@ -25,8 +25,8 @@ module _ (stays : StaysSound) (steady : Steady) (w : PlainWorld) (r : Chronicle)
       by : EndsStand (wants_of la.follower) (now.cluster.nodes (consumer_seat link)) (vb_of (world_at w r n link found x) (producer_node (served_at w r n link found x.1)) link.consumer.dialed.vb)
           (now.cluster.nodes (producer_seat (served_at w r n link found x.1))) ((after_lines r x.1.events).stream_of (StreamName.Link l) link.consumer.dialed.vb) ((after_lines r x.1.events).point_of l) x.1.peer.producer link.consumer la.talk.asked (spoken la.talk.said)
           → Now w r n link found fs (frame_up f x)
-      by (EndsStand.IsAsking ask t) = asking_next w r n link found f fs x now ask t
-      by (EndsStand.IsRefusedYet t) = no_frames f (fs ++ la.talk.ups.behind) (sym t.asked_is ∙ la.talk.ups.joined)
+      by (EndsStand.IsAsking ask none t) = asking_next w r n link found f fs x now ask none t
+      by (EndsStand.IsRefusedYet none t) = no_frames f (fs ++ la.talk.ups.behind) (sym t.asked_is ∙ la.talk.ups.joined)
       by (EndsStand.IsStreaming t) = ack_next stays steady w r n link found f fs x now t
 
   -- all frames are answered
@@ -55,6 +55,7 @@ module _ (stays : StaysSound) (steady : Steady) (w : PlainWorld) (r : Chronicle)
           follower = la.follower;
           follower_is = same_vbs (consumer_node link) link.consumer.dialed.vb ∙ la.follower_is;
           follows = la.follows;
+          acks = la.acks;
           dial = la.dial;
           talk = talk_same refl (same_vbs (producer_node link) link.consumer.dialed.vb) refl refl refl
               (subst (λ x. Talk la.follower (c.nodes (consumer_seat link)) (vb_of w (producer_node link) link.consumer.dialed.vb) (c.nodes (producer_seat link)) (r.stream_of (StreamName.Link l) link.consumer.dialed.vb) (r.point_of l)

@@ -1,0 +1,87 @@
+-- no line leaves undone what it is for: a `take` takes no change only where each was taken, behind a `down` all was acknowledged that is due, and a `pump` is idle only where all was put
+use Rattle.std.specs.Prelude.{◌≡◌, ◌<◌, ◌≤◌, ◌∷◌}
+use Rattle.transcript_law.proofs.Words.{ℕ, Bool, true, false, List, [], length, refl, ap, sym, ◌∙◌, subst, arith, nat_tests, Option, Some, None, cond, is_some, Answer, Cause, Chronicle, Event, LinkVerb, Plain, PlainNode, PlainWorld, Span, States, Verb, VbCall, VbVerb, Why}
+use Rattle.transcript_law.proofs.Words.{after_job, after_lines, call_at, list_any, on_node, rises_in, take_snapshots, verb_step, with_vb_at, IsIn, stays, wholes}
+use Rattle.transcript_law.proofs.{disks.Flushed.{flush_came}, invariant.Agreement.{Agrees, VbAgrees, all_rise}, invariant.JobSteps.{call_on, put_found}, invariant.Ranged.{IsRanged, NodeRanged, NodeRangedIf}, invariant.Seats.{seat}}
+use Rattle.transcript_law.proofs.{verbs.FlushLines.{There, disk, mine, some, there_at_vb}, verbs.NodeLines.{on_node_by}, verbs.DownLine.{down_leaves}, verbs.Pumping.{pump_leaves}, verbs.Settling.{steady}}
+use Rattle.transcript_law.specs.Undone.{AllTaken, LeavesNone, NoneToAcknowledge, NoneToPut, NoneToTake, is_taking}
+use Rattle.{node_core.specs.Flushing.{flush_if, flush_result}, node_world.specs.Nodes.{flush_line}, std.specs.List.{find}, std.specs.Prelude.{nat_lt}}
+use Rattle.vb_calls.specs.{Flushes.{batch_of_reply, take_job, taken_job, took}, Flushing.{batch_of, flush_from, unflushed_span}, Jobs.{Ended}, Shelves.{Flush, Idle, Out, Written, Shelves, with_shelf_at}, Spans.{all_spans}}
+use Rattle.vb_types.specs.declared.journal.FlushPart.TheVariants as part
+use Rattle.vbucket.specs.Laws.{Follow}
+
+-- where no span goes on above a seqno, none of what they hold lies above it
+none_above : (low high n : ℕ) (ws : List Span) → Follow low ws high → low ≤ n → find (λ (y : Span). nat_lt n y.last) ws ≡ None → high ≤ n
+none_above low high n [] f l e = let same : low ≡ high = f in omega arith
+none_above low high n (x ∷ xs) f l e = by (nat_lt n x.last) refl e (none_above x.last high n xs f.2)
+  where
+    by : (b : Bool) → nat_lt n x.last ≡ b → cond b (Some x) (find (λ (y : Span). nat_lt n y.last) xs) ≡ None → (x.last ≤ n → find (λ (y : Span). nat_lt n y.last) xs ≡ None → high ≤ n) → high ≤ n
+    by true t q rest = cc
+    by false t q rest = rest (grind (arith, nat_tests, t)) q
+
+-- so each change was taken
+taken_all : (w : PlainWorld) (r : Chronicle) (n v : ℕ) (there : There w r n v) → unflushed_span there.vb ≡ None → AllTaken r n v
+taken_all w r n v there none d i =
+    let m : VbAgrees r n v (there.c.nodes (seat n v)) there.vb = mine w r n v there in
+    let up : there.vb.position.at ≤ there.vb.flushed = none_above there.vb.floor there.vb.position.at there.vb.flushed (all_spans there.vb.spans) m.sound.spans m.sound.flushed.0 none in
+    let low : d.seq ≤ there.vb.position.at = (rises_in 0 there.vb.position.at (there.c.nodes (seat n v)).held d (all_rise m.kept) (subst (IsIn d) m.held i)).1 in
+    let told : (r.disk_at n v).taken ≡ there.vb.flushed = (disk w r n v there).taken in omega arith
+
+-- by the batch that is on its way
+module _ (w : PlainWorld) (r : Chronicle) (n v : ℕ) (there : There w r n v) (ranged : NodeRanged n there.node) where
+  open there use {node, vb, shelf}
+
+  abbrev st0 : States
+  st0 = with_vb_at node.vbs v vb
+
+  abbrev sh0 : Shelves
+  sh0 = with_shelf_at node.shelves v shelf
+
+  -- how a take is answered that finds this span
+  abbrev said : Option Span → Answer
+  said o = (flush_result n v (after_job (taken_job v (λ batch. Ended (took batch)) (batch_of_reply (Some (flush_from o vb).1))) (with_vb_at st0 v (flush_from o vb).0) sh0).1).answer
+
+  came_none : (flush : Flush) → shelf.flush ≡ flush → (flush_result n v (after_job (take_job v flush) st0 sh0).1).answer ≡ Answer.Number 0 → AllTaken r n v
+  came_none (Out b) e z = cc
+  came_none (Written seq) e z = cc
+  came_none Idle e z = by (unflushed_span vb) refl
+    where
+      same : said (unflushed_span vb) ≡ Answer.Number 0
+      same = sym (ap (λ y. (flush_result n v y.1).answer) (call_on st0 sh0 v VbCall.FlushTake (λ reply. taken_job v (λ batch. Ended (took batch)) (batch_of_reply reply)) vb (flush_from (unflushed_span vb) vb).0 (flush_from (unflushed_span vb) vb).1 (put_found node.vbs v vb) refl)) ∙ z
+
+      by : (o : Option Span) → unflushed_span vb ≡ o → AllTaken r n v
+      by None q = taken_all w r n v there q
+      by (Some x) q =
+          let z : Answer.Number (length (batch_of vb x).items) ≡ Answer.Number 0 = ap said (sym q) ∙ same in let none : length (batch_of vb x).items ≡ 0 = cc in
+          let has : 0 < length (batch_of vb x).items = some stays steady wholes w r n v there ranged x e q in absurd (omega arith)
+
+take_leaves : (w : PlainWorld) (r : Chronicle) (n v : ℕ) → IsRanged w → Agrees w r → (on_node w n (flush_line n v part.Take)).1.answer ≡ Answer.Number 0 → AllTaken r n v
+take_leaves w r n v ranged a = on_node_by (λ x. x.1.answer ≡ Answer.Number 0 → AllTaken r n v) w n (flush_line n v part.Take) (λ z. cc) (λ node at z. cc) (λ node at runs. by node at runs (node.vbs v) refl)
+  where
+    by : (node : PlainNode) → w.nodes n ≡ Some node → is_some node.off ≡ false → (o : Option Plain) → node.vbs v ≡ o → (flush_line n v part.Take node).1.answer ≡ Answer.Number 0 → AllTaken r n v
+    by node at runs None e z =
+        let none : (flush_line n v part.Take node).1.answer ≡ Answer.No Cause.UnknownVb = ap (λ o. let y = call_at node.vbs v VbCall.Log o in (after_job (flush_if n v part.Take (is_some y.1)) y.0 node.shelves).1.answer) e in cc
+    by node at runs (Some vb) e z =
+        let t : There w r n v = there_at_vb w r n v a node at runs vb e in
+        came_none w r n v t (subst (NodeRangedIf n) t.at (ranged n)) t.shelf.flush refl (sym (ap (λ y. y.1.answer) (flush_came n v part.Take node.vbs node.shelves vb (Some t.shelf) e t.kept)) ∙ z)
+
+-- of each line
+by_answer : (r : Chronicle) (line : Verb) (lines : List Event) (said : Answer) → (said ≡ Answer.Number 0 → NoneToTake r line) → ((n : ℕ) → said ≡ Answer.Number n → list_any is_taking lines ≡ true → NoneToAcknowledge (after_lines r lines) line) → ((n : ℕ) → said ≡ Answer.Pulled n Why.Idle → NoneToPut (after_lines r lines) line) → LeavesNone r line lines said
+by_answer r line lines (Answer.Number n) taken acked put = (λ z. taken (ap Answer.Number z), acked n refl)
+by_answer r line lines (Answer.Pulled n Why.Idle) taken acked put = put n refl
+by_answer r line lines other taken acked put = tt
+
+none_to_take : (w : PlainWorld) (number : ℕ) (line : Verb) (r : Chronicle) → IsRanged w → Agrees w r → (verb_step w number line).1.answer ≡ Answer.Number 0 → NoneToTake r line
+none_to_take w number (Verb.AtVb n v VbVerb.Take) r ranged a z = take_leaves w r n v ranged a z
+none_to_take w number other r ranged a z = tt
+
+none_to_acknowledge : (w : PlainWorld) (number : ℕ) (line : Verb) (r : Chronicle) → Agrees w r → (n : ℕ) → (let x = verb_step w number line in x.1.answer ≡ Answer.Number n → list_any is_taking x.1.events ≡ true → NoneToAcknowledge (after_lines r x.1.events) line)
+none_to_acknowledge w number (Verb.AtLink l (LinkVerb.Down wanted)) r a n z takes = down_leaves stays w r l wanted n a z takes
+none_to_acknowledge w number other r a n z takes = tt
+
+none_to_put : (w : PlainWorld) (number : ℕ) (line : Verb) (r : Chronicle) → Agrees w r → (n : ℕ) → (let x = verb_step w number line in x.1.answer ≡ Answer.Pulled n Why.Idle → NoneToPut (after_lines r x.1.events) line)
+none_to_put w number (Verb.AtLink l (LinkVerb.Pump frames)) r a n z = pump_leaves take_snapshots w r l frames n a z
+none_to_put w number other r a n z = tt
+
+pub leaves_none : (w : PlainWorld) (number : ℕ) (line : Verb) (r : Chronicle) → IsRanged w → Agrees w r → (let x = verb_step w number line in LeavesNone r line x.1.events x.1.answer)
+leaves_none w number line r ranged a = let x = verb_step w number line in by_answer r line x.1.events x.1.answer (none_to_take w number line r ranged a) (none_to_acknowledge w number line r a) (none_to_put w number line r a)
