@@ -9,6 +9,7 @@ use Rattle.vb_events.specs.declared.event.Answer.TheVariants as answer
 use Rattle.vb_events.specs.declared.event.Cause.TheVariants as cause
 use Rattle.vb_events.specs.declared.event.Event.{Event}
 use Rattle.vb_events.specs.declared.event.Event.TheVariants as event
+use Rattle.vb_events.specs.declared.event.ItemAct.TheVariants as item_act
 use Rattle.vb_events.specs.declared.event.StreamName.TheVariants as name
 use Rattle.vb_types.specs.declared.role.Role.{Role}
 use Rattle.vb_types.specs.declared.role.Role.TheVariants as role
@@ -88,6 +89,18 @@ counts_of l = event.Counted (name.Link l) 0 0 1 2
 -- where the link 1 was dialed for the vBucket 0 of the node 1, its bytes do not tell of this first, however they are answered
 abbrev pub NotTaken : Event → Type 0
 NotTaken wrong = (lines : List Event) (said : Answer) → LawfulHere one_dialed down_one (wrong ∷ lines, said) → ⊥
+
+-- an item of the link l
+abbrev pub item_of : ℕ → Event
+item_of l = event.Item (name.Link l) 2 item_act.Set (9 ∷ [])
+
+-- the vBucket v of the node n takes a log over
+abbrev pub adopts_by : ℕ → ℕ → Event
+adopts_by n v = event.Adopted n v (log_of 5)
+
+-- a call of the node 0 failed
+abbrev pub fails_here : Event
+fails_here = event.CallFailed 0
 
 -- the log of a vBucket that is on the branch 5
 abbrev pub logged_here : Event

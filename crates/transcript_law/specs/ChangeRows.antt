@@ -1,5 +1,5 @@
 -- changes that a vBucket makes of its own, to be judged, by what was read before them
-use Rattle.std.specs.Prelude.{ℕ, ◌-◌, ◌^◌, Bool, List, [], ◌∷◌}
+use Rattle.std.specs.Prelude.{ℕ, ◌-◌, ◌^◌, Bool, true, List, [], ◌∷◌}
 use Rattle.vb_events.specs.declared.event.Event.{Event}
 use Rattle.vb_events.specs.declared.event.Event.TheVariants as event
 use Rattle.vb_types.specs.declared.change.Act.{Act}
@@ -34,6 +34,14 @@ removed_known = after_lines set_known (own_lines 2 7 (act.Remove 2 2))
 -- when it prepared the key 9 instead, with the CAS 1 and the seqno 1
 abbrev pub waiting_known : Chronicle
 waiting_known = prepared_known level.Majority
+
+-- and when it gave that prepare up
+abbrev pub aborted_known : Chronicle
+aborted_known = after_lines waiting_known (own_lines 2 9 (act.Abort 1))
+
+-- when it prepared the removal of the key 7 behind the set, with the CAS 2 and the seqno 2
+abbrev pub removing_known : Chronicle
+removing_known = after_lines set_known (own_lines 2 7 (act.Prepare level.Majority (stamped 2 2) true))
 
 -- the greatest number of 64 bits
 abbrev pub greatest : ℕ

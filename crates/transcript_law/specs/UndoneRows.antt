@@ -92,7 +92,7 @@ puts_end = (event.Finished (name.Link 1) 2 ∷ [], answer.Pulled 1 why.Idle)
 abbrev pub prepare_sent : Level → ℕ → Chronicle
 prepare_sent how end =
     after_lines (after_dial empty_chronicle 1 0 1 0 answer.Ok)
-        (active_vb_lines 0 5 ++ event.Changed 0 0 5 (prepare_of how) ∷ granted_lines ++ adopted_lines 5 ++ marker_line 0 end ∷ event.Item (name.Link 1) 1 item_act.Prepare (9 ∷ []) ∷ [])
+    (active_vb_lines 0 5 ++ event.Changed 0 0 5 (prepare_of how) ∷ granted_lines ++ adopted_lines 5 ++ marker_line 0 end ∷ event.Item (name.Link 1) 1 item_act.Prepare (9 ∷ []) ∷ [])
 
 -- the replica takes it
 abbrev pub prepare_got : Level → ℕ → List Event

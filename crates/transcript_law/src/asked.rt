@@ -6,10 +6,13 @@ ghost use Rattle.script_text.specs.declared.verb.VbVerb.TheVariants as vb_verb;
 ghost use Rattle.script_text.specs.declared.verb.NodeVerb.TheVariants as node_verb;
 ghost use Rattle.vb_events.specs.declared.event.Answer.TheVariants as answer;
 ghost use Rattle.vb_events.specs.declared.event.Event.{Event};
+ghost use Rattle.vb_events.specs.declared.event.Event.TheVariants as event;
+ghost use Rattle.vb_events.specs.declared.event.Cause.TheVariants as cause;
+ghost use Rattle.transcript_law.specs.Chronicles.{Chronicle};
 ghost use Rattle.vb_types.specs.declared.role.Role.TheVariants as role;
 ghost use Rattle.vb_types.specs.declared.stream.StreamAsk.{StreamAsk};
 ghost use Rattle.transcript_law.specs.Asked.{AreAmong};
-ghost use Rattle.transcript_law.specs.AskedRows.{NotDone, NotFailed, NotRefused, NotTaken, acks_at, asks_of, counts_of, finishes, gets_by, here, in_role, logged_here, made_at, marks_of, one_active, pump_one, ranges_at, shown_at, up_one};
+ghost use Rattle.transcript_law.specs.AskedRows.{item_of, adopts_by, fails_here, NotDone, NotFailed, NotRefused, NotTaken, acks_at, asks_of, counts_of, finishes, gets_by, here, in_role, logged_here, made_at, marks_of, one_active, pump_one, ranges_at, shown_at, up_one};
 ghost use Rattle.transcript_law.specs.BoundRows.{LawfulHere};
 ghost use Rattle.transcript_law.specs.Chronicles.{empty_chronicle};
 ghost use Rattle.transcript_law.specs.Contrary.{promoted_groups, promotes_dead, risen_lines};
@@ -63,6 +66,10 @@ pub fn judged_turns()
     ensures promoted { LawfulGroups after_dead promotes_dead (promoted_groups 1 risen_lines answer.Ok) }
     ensures promoted_no_branch { NotDone (here (vb_verb.Promote 7)) (in_role 0 0 role.Active ∷ []) }
     ensures promoted_other_id { NotDone (here (vb_verb.Promote 7)) (made_at 0 0 6 ∷ in_role 0 0 role.Active ∷ []) }
+    ensures promoted_round { NotDone (here (vb_verb.Promote 7)) (in_role 0 0 role.Active ∷ made_at 0 0 7 ∷ []) }
+    ensures promoted_failed { NotFailed (here (vb_verb.Promote 7)) (fails_here ∷ []) }
+    ensures dead_untold { NotFailed (here vb_verb.Dead) (fails_here ∷ []) }
+    ensures dead_closed { (chronicle : Chronicle) → LawfulHere chronicle (here vb_verb.Dead) ([], answer.No cause.Closed) → ⊥ }
     ensures promoted_no_role { NotDone (here (vb_verb.Promote 7)) (made_at 0 0 7 ∷ []) }
     ensures replica { LawfulHere empty_chronicle (here vb_verb.MakeReplica) (in_role 0 0 role.Replica ∷ [], answer.Ok) }
     ensures replica_none { NotDone (here vb_verb.MakeReplica) [] }
@@ -84,6 +91,7 @@ pub fn judged_start_ids()
     ensures both { AreAmong (7 ∷ 8 ∷ []) (7 ∷ 8 ∷ []) }
     ensures later { AreAmong (8 ∷ []) (7 ∷ 8 ∷ []) }
     ensures other { NotDone (verb.AtNode 0 (node_verb.Start (7 ∷ 8 ∷ []))) (made_at 0 0 9 ∷ []) }
+    ensures failed { NotFailed (verb.AtNode 0 (node_verb.Start (7 ∷ 8 ∷ []))) (made_at 0 0 9 ∷ fails_here ∷ []) }
     ensures order { NotDone (verb.AtNode 0 (node_verb.Start (7 ∷ 8 ∷ []))) (made_at 0 0 8 ∷ made_at 0 1 7 ∷ []) }
     ensures twice { NotDone (verb.AtNode 0 (node_verb.Start (7 ∷ 8 ∷ []))) (made_at 0 0 7 ∷ made_at 0 1 7 ∷ []) }
 {}
@@ -102,6 +110,14 @@ pub fn judged_link_ends()
     ensures up_stop { MayNotTell up_one (stops_at 0) }
     ensures pump_other { MayNotTell pump_one (marks_of 2) }
     ensures pump_finish { MayNotTell pump_one (finishes 2) }
+    ensures up_item { MayNotTell up_one (item_of 1) }
+    ensures up_got { MayNotTell up_one (gets_by 1 1 0) }
+    ensures pump_item { MayNotTell pump_one (item_of 2) }
+    ensures pump_range { MayNotTell pump_one (ranges_at 1 0) }
+    ensures down_item { NotTaken (item_of 1) }
+    ensures adopt_other_vb { NotTaken (adopts_by 1 1) }
+    ensures adopt_elsewhere { NotTaken (adopts_by 0 0) }
+    ensures roll_other_vb { NotTaken (event.Rolled 1 1 0 0) }
     ensures pump_ask { (ask : StreamAsk) → MayNotTell pump_one (asks_of 1 ask) }
     ensures pump_got { MayNotTell pump_one (gets_by 1 1 0) }
     ensures pump_change { MayNotTell pump_one changes_here }

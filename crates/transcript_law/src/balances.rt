@@ -1,9 +1,11 @@
 //! What is outstanding at a link's producer.
 
-ghost use Rattle.std.specs.Prelude.{◌++◌, List, []};
+ghost use Rattle.std.specs.Prelude.{◌≡◌, ◌++◌, List, []};
+ghost use Rattle.mcbp_frame.specs.Frames.{frame_len};
+ghost use Rattle.mcbp_frame.specs.declared.frame.Frame.{Frame as FrameData};
 ghost use Rattle.script_text.specs.Fitting.{ScriptFits};
 ghost use Rattle.script_text.specs.declared.verb.ScriptLine.{ScriptLine};
-ghost use Rattle.transcript_law.specs.Balance.{AreBalanced, MeansOutstanding, answer_row, bytes_row, end_row, marker_row, seqno_row};
+ghost use Rattle.transcript_law.specs.Balance.{AreBalanced, MeansOutstanding, answer_row, acknowledged_by, bytes_row, end_row, longest, marker_row, seqno_row, stream_len};
 ghost use Rattle.transcript_law.specs.Prefixes.{world_of};
 
 /// After every line of a script, what is outstanding at the producer of a link with a buffer is the length
@@ -21,5 +23,8 @@ pub fn balances_in_numbers()
     ensures nothing { MeansOutstanding [] [] 0 }
     ensures marker { MeansOutstanding (answer_row ++ marker_row) [] 44 }
     ensures acked { MeansOutstanding [] (seqno_row ++ bytes_row 44) 44 }
+    ensures answers { (f : FrameData) → f.magic ≡ 0x81 → (stream_len f ≡ 0) × (acknowledged_by f ≡ 0) }
+    ensures states { (f : FrameData) → f.magic ≡ 0x80 → f.opcode ≡ 0x5b → stream_len f ≡ frame_len f }
+    ensures limit { longest ≡ 22020120 }
     ensures both { MeansOutstanding (marker_row ++ end_row) (bytes_row 44 ++ bytes_row 28) 144 }
 {}

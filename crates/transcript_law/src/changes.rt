@@ -1,7 +1,7 @@
 //! Which changes a vBucket may make of its own next, by what the lines before them tell.
 
 ghost use Rattle.std.specs.Prelude.{true, false, [], ◌∷◌, ◌+◌};
-ghost use Rattle.transcript_law.specs.ChangeRows.{greatest, greatest_known, own_lines, prepares, removed_known, set_known, stamped, waiting_known};
+ghost use Rattle.transcript_law.specs.ChangeRows.{aborted_known, greatest, greatest_known, own_lines, prepares, removed_known, removing_known, set_known, stamped, waiting_known};
 ghost use Rattle.transcript_law.specs.Lawfulness.{LawfulFrom};
 ghost use Rattle.transcript_law.specs.Transcripts.{first_doc};
 ghost use Rattle.vb_types.specs.declared.change.Act.TheVariants.{Abort, Commit, Remove, Set};
@@ -17,6 +17,7 @@ pub fn judged_next_changes()
     ensures set { LawfulFrom waiting_known (own_lines 2 9 (Set (stamped 2 1))) → ⊥ }
     ensures removed { LawfulFrom waiting_known (own_lines 2 9 (Remove 2 1)) → ⊥ }
     ensures prepared { LawfulFrom waiting_known (own_lines 2 9 (prepares 2 1 false)) → ⊥ }
+    ensures over_removal { LawfulFrom removing_known (own_lines 3 7 (Set (stamped 3 2))) → ⊥ }
     ensures commits { LawfulFrom waiting_known (own_lines 2 9 (Commit 1 (first_doc 1 (6 ∷ [])) false)) }
     ensures commits_other { LawfulFrom waiting_known (own_lines 2 9 (Commit 2 (first_doc 1 (6 ∷ [])) false)) → ⊥ }
     ensures commits_none { LawfulFrom waiting_known (own_lines 2 7 (Commit 1 (first_doc 1 (6 ∷ [])) false)) → ⊥ }
@@ -38,6 +39,8 @@ pub fn judged_casses()
     ensures waiting { LawfulFrom waiting_known (own_lines 2 7 (Set (stamped 1 1))) → ⊥ }
     ensures removal { LawfulFrom set_known (own_lines 2 7 (Remove 1 2)) → ⊥ }
     ensures prepare { LawfulFrom set_known (own_lines 2 7 (prepares 1 2 false)) → ⊥ }
+    ensures prepare_removal { LawfulFrom set_known (own_lines 2 7 (prepares 1 2 true)) → ⊥ }
+    ensures behind_abort { LawfulFrom aborted_known (own_lines 3 7 (Set (stamped 1 1))) → ⊥ }
     ensures removed { LawfulFrom removed_known (own_lines 3 7 (Set (stamped 2 1))) → ⊥ }
     ensures greatest { LawfulFrom greatest_known (own_lines 2 9 (Set (stamped greatest 1))) }
     ensures too_great { LawfulFrom greatest_known (own_lines 2 9 (Set (stamped (greatest + 1) 1))) → ⊥ }
@@ -52,6 +55,7 @@ pub fn judged_revisions()
     ensures jumps { LawfulFrom set_known (own_lines 2 7 (Set (stamped 2 3))) → ⊥ }
     ensures removal_jumps { LawfulFrom set_known (own_lines 2 7 (Remove 2 3)) → ⊥ }
     ensures prepare_jumps { LawfulFrom set_known (own_lines 2 7 (prepares 2 3 false)) → ⊥ }
+    ensures removal_prepare_jumps { LawfulFrom set_known (own_lines 2 7 (prepares 2 3 true)) → ⊥ }
     ensures first { LawfulFrom set_known (own_lines 2 9 (prepares 2 1 false)) }
     ensures other_first { LawfulFrom set_known (own_lines 2 9 (Set (stamped 2 2))) → ⊥ }
     ensures anew { LawfulFrom removed_known (own_lines 3 7 (Set (stamped 3 1))) }

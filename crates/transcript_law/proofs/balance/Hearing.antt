@@ -145,9 +145,11 @@ always_dued : (dial : PlainDial) → Always AnyCall (Dued dial) (dial_due dial)
 unfolding due_requested
 always_dued dial =
     let s : DialResult = untold dial in
-    either_dued dial (is_streaming dial.consumer.handshake) (Call dial.consumer.dialed.vb call.Due (λ reply. due_met s (due_of_reply reply))) (Done s)
-    (tt, λ reply any. either_dued dial (may_acknowledge (due_of_reply reply) dial.consumer) (Call dial.consumer.dialed.vb call.Stat (λ more. Done (acknowledged_result (due_of_reply reply) s (saved_of_reply more)))) (Done s)
-    (tt, λ more any. inr (due_of_reply reply, saved_of_reply more, refl)) (inl refl))
+    either_dued dial (is_streaming dial.consumer.handshake) (Call dial.consumer.dialed.vb call.Due (λ reply. due_met s (due_of_reply reply))) (Done s) (
+      tt,
+      λ reply any. either_dued dial (may_acknowledge (due_of_reply reply) dial.consumer) (Call dial.consumer.dialed.vb call.Stat (λ more. Done (acknowledged_result (due_of_reply reply) s (saved_of_reply more)))) (Done s)
+          (tt, λ more any. inr (due_of_reply reply, saved_of_reply more, refl)) (inl refl),
+    )
     (inl refl)
 
 pub dued : (dial : PlainDial) (states : States) → Dued dial (after (dial_due dial) states).1

@@ -57,8 +57,11 @@ module _ (q : Event → Bool) (d : Dialed) (acks : (seq saved : ℕ) → q (Even
       (gets : (c : Change) → q (Event.Got d.node d.vb (StreamName.Link d.link) c) ≡ true) (rolls : (named to : ℕ) → q (Event.Rolled d.node d.vb named to) ≡ true) (ends : (l : ℕ) (why : EndReason) → q (Event.Ended l why) ≡ true) where
     adopted_so : (log : List LogEntry) (s : DialResult) → Dial s → Always AnyCall Dial (go_on_with log s)
     unfolding go_on_with
-    adopted_so log s c = (tt, λ reply any. asks_so (adopt_result log s reply) (either Dial (is_done reply) (granted_with log s) (over_for EndReason.Protocol s)
-        (line_more s.events (λ (k : Dialed). Event.Adopted k.node k.vb log) s.dial.consumer.dialed c.0 c.1 (adopts log), c.1) c))
+    adopted_so log s c = (
+      tt,
+      λ reply any. asks_so (adopt_result log s reply) (either Dial (is_done reply) (granted_with log s) (over_for EndReason.Protocol s)
+          (line_more s.events (λ (k : Dialed). Event.Adopted k.node k.vb log) s.dial.consumer.dialed c.0 c.1 (adopts log), c.1) c),
+    )
 
     again_so : (s : DialResult) → Dial s → Always AnyCall Dial (requested_once_more s)
     again_so s c = (tt, λ reply any. by (follower_ask reply))
@@ -85,8 +88,11 @@ module _ (q : Event → Bool) (d : Dialed) (acks : (seq saved : ℕ) → q (Even
       where
         taken : (reply : VbReply) (a : VbAnswer) → Dial (taken_as reply s a)
         taken reply (answer.Range ss se) = (line_more s.events (λ (k : Dialed). Event.Ranged k.node k.vb ss se) s.dial.consumer.dialed c.0 c.1 (ranges ss se), c.1)
-        taken reply answer.Done = (are_more q s.events (map (got_line s.dial.consumer.dialed) reply.changes) c.0
-            (are_map q (got_line s.dial.consumer.dialed) reply.changes (λ y. subst (λ (k : Dialed). q (got_line k y) ≡ true) (sym c.1) (gets y))), c.1)
+        taken reply answer.Done = (
+          are_more q s.events (map (got_line s.dial.consumer.dialed) reply.changes) c.0
+              (are_map q (got_line s.dial.consumer.dialed) reply.changes (λ y. subst (λ (k : Dialed). q (got_line k y) ≡ true) (sym c.1) (gets y))),
+          c.1,
+        )
         taken reply other = c
 
         by : (reply : Option VbReply) → Dial (message_result s reply)

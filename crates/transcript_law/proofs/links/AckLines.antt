@@ -59,16 +59,19 @@ module _ (line : Line) (rest : List Frame) (states : Kept) (at : Asker) (events 
         events = events ++ tell ∷ [];
         same = came_is (states.0, acknowledged_result seq s saved) e;
         rolled = false;
-        stage = (record {
-          lawful = lawful_more r events (tell ∷ []) g.quiet g.lawful (ack_lawful (busy_at line rest) (now line states at) told g.cluster g.agrees (link_now line at) [] rest mine seq granted shared thirds, tt);
-          quiet = quiet_more events (tell ∷ []) g.quiet (tt, tt);
-          onward = record { arm = g.onward.arm; lines = onward_more events tell g.onward.lines tt };
-          cluster = g.cluster;
-          agrees = subst (λ x. AgreesIn (busy_at line rest) (now line states at') x g.cluster) (sym (after_more r events (tell ∷ [])))
-              (acked_agrees (link_now line at) seq (link_now line at').up (sym (append_assoc link.up at.out bytes)) granted low (busy_at line rest) (now line states at) (now line states at') told g.cluster
-              g.agrees (found_now line states at)
-              (record { powers = λ m. refl; vbs = λ m q. refl; shelves = λ m q. refl; uuids = refl; linked = sym (put_twice l w.links (link_now line at) (link_now line at') refl) }));
-        }, λ t. (granted, met_by seq (omega (arith, is))));
+        stage = (
+          record {
+            lawful = lawful_more r events (tell ∷ []) g.quiet g.lawful (ack_lawful (busy_at line rest) (now line states at) told g.cluster g.agrees (link_now line at) [] rest mine seq granted shared thirds, tt);
+            quiet = quiet_more events (tell ∷ []) g.quiet (tt, tt);
+            onward = record { arm = g.onward.arm; lines = onward_more events tell g.onward.lines tt };
+            cluster = g.cluster;
+            agrees = subst (λ x. AgreesIn (busy_at line rest) (now line states at') x g.cluster) (sym (after_more r events (tell ∷ [])))
+                (acked_agrees (link_now line at) seq (link_now line at').up (sym (append_assoc link.up at.out bytes)) granted low (busy_at line rest) (now line states at) (now line states at') told g.cluster
+                g.agrees (found_now line states at)
+                (record { powers = λ m. refl; vbs = λ m q. refl; shelves = λ m q. refl; uuids = refl; linked = sym (put_twice l w.links (link_now line at) (link_now line at') refl) }));
+          },
+          λ t. (granted, met_by seq (omega (arith, is))),
+        );
       }
 
   pub due_going : Reached line rest came

@@ -226,24 +226,27 @@ module _ (line : Line) where
     events = events;
     same = ap (λ p. after_job p states.0 states.1) e;
     rolled = false;
-    stage = (record {
-      lawful = g.lawful;
-      quiet = g.quiet;
-      onward = g.onward;
-      cluster = g.cluster;
-      agrees = carries_link (busy_at (f ∷ rest)) (busy_at rest) (now states at) (now states at') (after_lines r events) (after_lines r events) g.cluster l (link_now at) (link_now at')
-          g.agrees (found_now states at) (record { dialed = refl; desk = refl })
-          (record { powers = λ m. refl; vbs = λ m q. refl; shelves = λ m q. refl; uuids = refl; linked = sym (put_twice l w.links (link_now at) (link_now at') refl) })
-          (λ s. s) (told_of_same l (after_lines r events)) (one_but l ([], f ∷ rest) ([], rest))
-          (subst (λ b. LinkAgrees (now states at') (after_lines r events) g.cluster (link_now at') b.0 b.1) (sym (one_here l ([], rest))) (record {
-            follower = m.follower;
-            follower_is = m.follower_is;
-            follows = m.follows;
-            acks = m.acks;
-            dial = m.dial;
-            talk = record { asked = m.talk.asked; said = rest ++ m.talk.downs.behind; stands = stands; ups = m.talk.ups; downs = next_downs at at' f rest m.talk.said m.talk.downs };
-          }));
-    }, λ t. (still (met t).0, (met t).1));
+    stage = (
+      record {
+        lawful = g.lawful;
+        quiet = g.quiet;
+        onward = g.onward;
+        cluster = g.cluster;
+        agrees = carries_link (busy_at (f ∷ rest)) (busy_at rest) (now states at) (now states at') (after_lines r events) (after_lines r events) g.cluster l (link_now at) (link_now at')
+            g.agrees (found_now states at) (record { dialed = refl; desk = refl })
+            (record { powers = λ m. refl; vbs = λ m q. refl; shelves = λ m q. refl; uuids = refl; linked = sym (put_twice l w.links (link_now at) (link_now at') refl) })
+            (λ s. s) (told_of_same l (after_lines r events)) (one_but l ([], f ∷ rest) ([], rest))
+            (subst (λ b. LinkAgrees (now states at') (after_lines r events) g.cluster (link_now at') b.0 b.1) (sym (one_here l ([], rest))) (record {
+              follower = m.follower;
+              follower_is = m.follower_is;
+              follows = m.follows;
+              acks = m.acks;
+              dial = m.dial;
+              talk = record { asked = m.talk.asked; said = rest ++ m.talk.downs.behind; stands = stands; ups = m.talk.ups; downs = next_downs at at' f rest m.talk.said m.talk.downs };
+            }));
+      },
+      λ t. (still (met t).0, (met t).1),
+    );
   }
 
   -- the arms are as they were

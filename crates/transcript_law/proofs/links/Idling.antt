@@ -66,8 +66,8 @@ module _ (s : Stream) (sync : s.sync ≡ true) (h : List Change) (floor high : �
       let inside : IsIn c part = kept_in_filter (λ d. nat_lt w.above d.seq && nat_le d.seq w.last) c h there (and_from (nat_lt w.above c.seq) (nat_le c.seq w.last) (lt-ltb w.above c.seq (omega arith)) (le-leb c.seq w.last (omega arith))) in
       let final : IsFinal c part = final_is floor high part c (rises_filter (λ d. nat_lt w.above d.seq && nat_le d.seq w.last) floor high h rises) inside (λ d i. low c at d (in_filter (λ e. nat_lt w.above e.seq && nat_le e.seq w.last) d h i).1) in
       any_sent (sent_as (is_plain_next s)) (filter (λ d. nat_lt s.place d.seq && is_seen s.sync d.act) (live_in w h)) c
-          (kept_in_filter (λ d. nat_lt s.place d.seq && is_seen s.sync d.act) c (live_in w h) (final_live w.origin part c final)
-          (and_from (nat_lt s.place c.seq) (is_seen s.sync c.act) (lt-ltb s.place c.seq (omega arith)) (ap (λ b. b || is_visible c.act) sync)))
+      (kept_in_filter (λ d. nat_lt s.place d.seq && is_seen s.sync d.act) c (live_in w h) (final_live w.origin part c final)
+      (and_from (nat_lt s.place c.seq) (is_seen s.sync c.act) (lt-ltb s.place c.seq (omega arith)) (ap (λ b. b || is_visible c.act) sync)))
     where
       low : (c : Change) → c.seq ≡ w.last → (d : Change) → (nat_lt w.above d.seq && nat_le d.seq w.last) ≡ true → d.seq ≤ c.seq
       low c at d t = let l : nat_le d.seq w.last ≡ true = (and_parts (nat_lt w.above d.seq) (nat_le d.seq w.last) t).1 in let m : d.seq ≤ w.last = grind (arith, nat_tests, l) in omega arith

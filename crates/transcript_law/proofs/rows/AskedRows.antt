@@ -57,6 +57,12 @@ module _ (Own : List Event → Type 0) (lines : List Event) where
   done_once : TellsOnce Own lines Answer.Ok → Own lines
   done_once t = ⊎_elim (λ r. let z : Answer.Ok ≡ Answer.No r.0 = r.1 in cc) (λ o. o) t
 
+  closed_once : TellsOnce Own lines (Answer.No Cause.Closed) → Own lines
+  closed_once t = ⊎_elim (λ r. let same : Cause.Closed ≡ r.0 = cause_of Cause.Closed r.0 r.1 in absurd (subst IsStanding (sym same) r.2)) (λ o. o) t
+    where
+      cause_of : (a b : Cause) → Answer.No a ≡ Answer.No b → a ≡ b
+      cause_of a b e = cc
+
   failed_once : TellsOnce Own lines (Answer.No Cause.Disk) → Own lines
   failed_once t = ⊎_elim (λ r. let same : Cause.Disk ≡ r.0 = cause_of Cause.Disk r.0 r.1 in absurd (subst IsStanding (sym same) r.2)) (λ o. o) t
     where
@@ -100,6 +106,12 @@ module _ (lines : List Event) where
 
   pub not_promoted : (is_pair 7 (turns_in lines) && have_pair lines) ≡ false → NotDone (here (VbVerb.Promote 7)) lines
   not_promoted fails chronicle l = not_risen 7 lines refl fails (done_once (RisesOn 0 0 7) lines (asked_of chronicle (here (VbVerb.Promote 7)) lines Answer.Ok l))
+
+  pub not_promoted_failed : (is_pair 7 (turns_in lines) && have_pair lines) ≡ false → NotFailed (here (VbVerb.Promote 7)) lines
+  not_promoted_failed fails chronicle l = not_risen 7 lines refl fails (failed_once (RisesOn 0 0 7) lines (asked_of chronicle (here (VbVerb.Promote 7)) lines (Answer.No Cause.Disk) l))
+
+  pub not_dead_closed : is_one_turn 0 0 Role.Dead (turns_in lines) ≡ false → (chronicle : Chronicle) → LawfulHere chronicle (here VbVerb.Dead) (lines, Answer.No Cause.Closed) → ⊥
+  not_dead_closed fails chronicle l = not_turned Role.Dead lines refl fails (closed_once (TurnsTo 0 0 Role.Dead) lines (asked_of chronicle (here VbVerb.Dead) lines (Answer.No Cause.Closed) l))
 
   pub no_replica : is_one_turn 0 0 Role.Replica (turns_in lines) ≡ false → NotDone (here VbVerb.MakeReplica) lines
   no_replica fails chronicle l = not_turned Role.Replica lines refl fails (done_once (TurnsTo 0 0 Role.Replica) lines (asked_of chronicle (here VbVerb.MakeReplica) lines Answer.Ok l))

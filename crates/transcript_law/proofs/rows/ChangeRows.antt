@@ -3,11 +3,11 @@ use Rattle.std.specs.Prelude.{◌≡◌, ◌+◌, ◌^◌, ◌<◌, ◌∷◌, i
 use Rattle.std.specs.FinMap.{get, get-empty, remove}
 use Rattle.transcript_law.proofs.Words.{ℕ, Bool, true, false, List, [], refl, ap, sym, ◌∙◌, inl, ⊎_elim, arith, Option, Some, None, option_map, Act, Change, Doc, Pend, first_doc, image_of, is_older, key_cmp, nothing, one_change, LawfulFrom}
 use Rattle.transcript_law.proofs.rows.NextRows.{above_two, keys_differ, nine_none, resolving_next, seven, seven_pending, seven_there, write_next}
-use Rattle.transcript_law.specs.{ChangeRows.{greatest, greatest_known, own_change, own_lines, removed_known, set_known, stamped, waiting_known}, Commits.{prepare_of}, OwnChanges.{IsCasAbove, IsNextChange, given_rev, is_removal, resolved_seq, rev_behind}}
+use Rattle.transcript_law.specs.{ChangeRows.{greatest, greatest_known, own_change, own_lines, removed_known, removing_known, set_known, stamped, waiting_known}, Commits.{prepare_of}, OwnChanges.{IsCasAbove, IsNextChange, given_rev, is_removal, resolved_seq, rev_behind}}
 use Rattle.vb_calls.specs.Following.{cas_of}
 use Rattle.vb_types.proofs.Laws.{get-insert_other, get-insert_same, get-remove_same}
 use Rattle.vb_types.specs.Histories.{IsIn}
-use Rattle.vb_types.specs.declared.change.Act.TheVariants.{Abort, Commit, Remove, Set}
+use Rattle.vb_types.specs.declared.change.Act.TheVariants.{Abort, Commit, Remove, Set, Prepare}
 use Rattle.vb_types.specs.declared.change.Level.TheVariants.{Majority}
 
 -- an act that commits nothing
@@ -105,6 +105,13 @@ rev_of_greatest a n is l = l.0.made.rev n is ∙ ap rev_behind (seven_there full
 -- a removal of the key 9 takes nothing
 pub takes_none : (a : Act) → is_removal a ≡ true → LawfulFrom set_known (own_lines 2 9 a) → ⊥
 takes_none a is l = let x = l.0.made.taken is in let e : None ≡ Some x.0 = sym (nine_none (first_doc 1 (8 ∷ []))) ∙ x.1 in cc
+
+-- the removal of the key 7 waits
+pub removing_waits : get (image_of (one_change ∷ own_change 2 7 (Prepare Majority (stamped 2 2) true) ∷ [])).pending (7 ∷ []) ≡ Some (record { seq = 2; level = Majority; doc = stamped 2 2; deleted = true })
+removing_waits = get-insert_same (image_of (one_change ∷ [])).pending (7 ∷ []) (record { seq = 2; level = Majority; doc = stamped 2 2; deleted = true })
+
+pub must_remove : (a : Act) → LawfulFrom removing_known (own_lines 3 7 a) → resolved_seq a ≡ Some 2
+must_remove a l = l.0.made.waits ∙ ap (option_map (λ (p : Pend). p.seq)) removing_waits
 
 -- the key 7 was removed
 

@@ -81,6 +81,7 @@ in_line chronicle [] (group ∷ groups) = false
 in_line chronicle (line ∷ lines) (group ∷ groups) =
     group.line == line.line
     && (is_answered_so group.events group.answer && (are_all (may_tell_of line.verb) group.events && (is_asked_so chronicle line.verb group.events group.answer && in_line (after_group chronicle line.verb group.events group.answer) lines groups)))
+
 -- and leaves nothing undone, by its line alone
 abbrev pub all_done : List ScriptLine → List Group → Bool
 all_done (line ∷ lines) (group ∷ groups) = is_done line.verb group.events group.answer && all_done lines groups
@@ -133,6 +134,7 @@ whole_left chronicle (line ∷ lines) (group ∷ groups) o p d =
     let three = and_parts (are_all (may_tell_of line.verb) group.events) _ two.1 in
     let four = and_parts (is_asked_so chronicle line.verb group.events group.answer) (in_line next lines groups) three.1 in
     ((p.0.0, p.0.1, p.0.2, eqb-true group.line line.line one.0, tells_so group.events group.answer two.0, three.0, asked_so chronicle line.verb group.events group.answer four.0, d.0), whole_left next lines groups four.1 p.1 d.1)
+
 pub whole : (chronicle : Chronicle) (script : List ScriptLine) (told : List Group) → in_order chronicle script told ≡ true → AreParts chronicle script told → LawfulGroups chronicle script told
 whole chronicle script told o p = let two = and_parts (in_line chronicle script told) (all_done script told) o in whole_left chronicle script told two.0 p (all_left chronicle script told two.1)
 

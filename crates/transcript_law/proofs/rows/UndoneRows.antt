@@ -51,8 +51,8 @@ pub all_put : LawfulPump granted_both (both_sent_lines, answer.Pulled 3 why.Idle
 all_put = (
   (
     (own_stream, (0, refl, refl), record { opens = refl; starts = refl; behind = tt; reaches = omega arith; whole = (changes, both_cover) }, refl)
-    ▹ (streamed (begun 0 2 []), begun 0 2 [], (0, refl, refl), refl, refl, (next_change ∷ [], record { whole = changes; covers = both_cover; front = refl }, λ e. absurd (omega arith)))
-    ▹ (streamed (begun 0 2 (first_item ∷ [])), begun 0 2 (first_item ∷ []), (0, refl, refl), refl, refl, ([], record { whole = changes; covers = both_cover; front = refl }, λ e. refl)) ▹ tt,
+        ▹ (streamed (begun 0 2 []), begun 0 2 [], (0, refl, refl), refl, refl, (next_change ∷ [], record { whole = changes; covers = both_cover; front = refl }, λ e. absurd (omega arith)))
+        ▹ (streamed (begun 0 2 (first_item ∷ [])), begun 0 2 (first_item ∷ []), (0, refl, refl), refl, refl, ([], record { whole = changes; covers = both_cover; front = refl }, λ e. refl)) ▹ tt,
     pumped_right,
     refl,
     refl,
@@ -66,8 +66,17 @@ all_put = (
 
 pub put_before : LawfulPump after_both puts_none
 put_before = (
-  (tt, none_put_told, refl, refl, λ w no standing. refl, refl, refl, all_put_by after_both 1 own_dial (after_both.stream_of (name.Link 1) 0) refl refl (λ g is over.
-  let one : _ ≡ g = some_one is in subst (HasNoMore after_both 0 0) one (record { whole = (first_item ∷ [], next_item, refl, refl); active = refl; none = inl (omega arith) }))),
+  (
+    tt,
+    none_put_told,
+    refl,
+    refl,
+    λ w no standing. refl,
+    refl,
+    refl,
+    all_put_by after_both 1 own_dial (after_both.stream_of (name.Link 1) 0) refl refl (λ g is over.
+        let one : _ ≡ g = some_one is in subst (HasNoMore after_both 0 0) one (record { whole = (first_item ∷ [], next_item, refl, refl); active = refl; none = inl (omega arith) })),
+  ),
   tt,
 )
   where

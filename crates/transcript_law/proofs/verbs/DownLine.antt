@@ -258,15 +258,18 @@ module _ (stays : StaysSound) (w : PlainWorld) (r : Chronicle) (link : PlainLink
     events = [];
     same = refl;
     rolled = false;
-    stage = (record {
-      lawful = tt;
-      quiet = tt;
-      onward = record { arm = ap (option_map (λ (s : Shelf). s.fuse)) armed_here; lines = tt };
-      cluster = a.0;
-      agrees = carries_link idle (busy_at line (frames_in bytes)) w (now line armed at) r r a.0 l link start a.1 found (record { dialed = refl; desk = refl })
-          (record { powers = begins.powers; vbs = begins.vbs; shelves = begins.shelves; uuids = refl; linked = refl }) (λ s. s) (told_of_same l r) (one_idle l ([], frames_in bytes))
-          (subst (λ b. LinkAgrees (now line armed at) r a.0 start b.0 b.1) (sym (one_here l ([], frames_in bytes))) start_agrees);
-    }, λ t. cc);
+    stage = (
+      record {
+        lawful = tt;
+        quiet = tt;
+        onward = record { arm = ap (option_map (λ (s : Shelf). s.fuse)) armed_here; lines = tt };
+        cluster = a.0;
+        agrees = carries_link idle (busy_at line (frames_in bytes)) w (now line armed at) r r a.0 l link start a.1 found (record { dialed = refl; desk = refl })
+            (record { powers = begins.powers; vbs = begins.vbs; shelves = begins.shelves; uuids = refl; linked = refl }) (λ s. s) (told_of_same l r) (one_idle l ([], frames_in bytes))
+            (subst (λ b. LinkAgrees (now line armed at) r a.0 start b.0 b.1) (sym (one_here l ([], frames_in bytes))) start_agrees);
+      },
+      λ t. cc,
+    );
   }
 
   abbrev taken : Kept × DialResult

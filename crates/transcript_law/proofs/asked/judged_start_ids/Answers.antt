@@ -8,6 +8,7 @@ returns c = record {
   both = inl (refl, inl (refl, tt));
   later = inr (inl (refl, tt));
   other = λ chronicle l. ids_other l.0.6;
+  failed = λ chronicle l. ids_other l.0.6;
   order = λ chronicle l. ids_order l.0.6;
   twice = λ chronicle l. ids_twice l.0.6;
 }

@@ -1,8 +1,8 @@
 use Rattle.std.specs.Prelude.{◌∷◌}
 use Rattle.transcript_law.proofs.Words.{[], refl, arith, after_dead, Role}
-use Rattle.transcript_law.proofs.rows.{AskedRows.{no_replica, not_dead, not_dead_failed, not_failed, not_following, not_made, not_promoted, right_made, right_replica}, ClosedRows.{stands}, Groups.{whole}}
+use Rattle.transcript_law.proofs.rows.{AskedRows.{no_replica, not_dead, not_dead_failed, not_failed, not_following, not_made, not_promoted, not_promoted_failed, not_dead_closed, right_made, right_replica}, ClosedRows.{stands}, Groups.{whole}}
 use Rattle.transcript_law.proofs.asked.judged_turns.Goals as goal
-use Rattle.transcript_law.specs.AskedRows.{in_role, made_at}
+use Rattle.transcript_law.specs.AskedRows.{fails_here, in_role, made_at}
 use Rattle.transcript_law.specs.Contrary.{promoted_groups, promotes_dead, risen_lines}
 use Rattle.transcript_law.specs.TellingRows.{ends_at}
 use Rattle.transcript_law.specs.Transcripts.{active_vb_lines}
@@ -26,6 +26,10 @@ returns c = record {
       (((record { new = (λ e. omega arith, tt); newest = refl; last = refl; leaves = refl }, (record { another = λ e. cc; anew = λ e. refl }, tt)), (refl, tt), refl), tt);
   promoted_no_branch = not_promoted (in_role 0 0 Role.Active ∷ []) refl;
   promoted_other_id = not_promoted (made_at 0 0 6 ∷ in_role 0 0 Role.Active ∷ []) refl;
+  promoted_round = not_promoted (in_role 0 0 Role.Active ∷ made_at 0 0 7 ∷ []) refl;
+  promoted_failed = not_promoted_failed (fails_here ∷ []) refl;
+  dead_untold = not_dead_failed (fails_here ∷ []) refl;
+  dead_closed = not_dead_closed [] refl;
   promoted_no_role = not_promoted (made_at 0 0 7 ∷ []) refl;
   replica = right_replica;
   replica_none = no_replica [] refl;

@@ -1,6 +1,6 @@
 use Rattle.std.specs.Prelude.{◌≡◌, ◌∷◌}
 use Rattle.transcript_law.proofs.Words.{ℕ, [], false, refl, arith, Option, Some, None, first_doc}
-use Rattle.transcript_law.proofs.rows.{ChangeRows.{aborted, after_set, after_waiting, must_resolve, none_beside, resolves_none, resolves_nothing}, CommitRows.{may}, NextRows.{above_one, none_stored, seven_next, write_next}}
+use Rattle.transcript_law.proofs.rows.{ChangeRows.{aborted, after_set, after_waiting, must_remove, must_resolve, none_beside, resolves_none, resolves_nothing}, CommitRows.{may}, NextRows.{above_one, none_stored, seven_next, write_next}}
 use Rattle.transcript_law.specs.{ChangeRows.{own_change, prepares, stamped}, Commits.{prepare_of}}
 use Rattle.vb_types.specs.declared.change.Act.TheVariants.{Abort, Commit, Remove, Set}
 use Rattle.vb_types.specs.declared.change.Level.TheVariants.{Majority}
@@ -15,6 +15,7 @@ returns c = record {
   set = λ l. let e = must_resolve (Set (stamped 2 1)) l in cc;
   removed = λ l. let e = must_resolve (Remove 2 1) l in cc;
   prepared = λ l. let e = must_resolve (prepares 2 1 false) l in cc;
+  over_removal = λ l. let e = must_remove (Set (stamped 3 2)) l in cc;
   commits = (may Majority _ _ (record { members = []; differ = tt; each = tt; most = omega arith; saved_for = λ w. absurd w }), tt);
   commits_other = λ l. let e : ◌≡◌ {A = Option ℕ} (Some 2) (Some 1) = must_resolve (Commit 2 (first_doc 1 (6 ∷ [])) false) l in let n : ◌≡◌ {A = ℕ} 2 1 = cc in omega arith;
   commits_none = λ l. let e = resolves_none (Commit 1 (first_doc 1 (6 ∷ [])) false) l in cc;

@@ -12,6 +12,7 @@ returns c = record {
   jumps = λ l. let e : 3 ≡ 2 = rev_of_seven (Set (stamped 2 3)) 3 refl l in omega arith;
   removal_jumps = λ l. let e : 3 ≡ 2 = rev_of_seven (Remove 2 3) 3 refl l in omega arith;
   prepare_jumps = λ l. let e : 3 ≡ 2 = rev_of_seven (prepares 2 3 false) 3 refl l in omega arith;
+  removal_prepare_jumps = λ l. let e : 3 ≡ 2 = rev_of_seven (prepares 2 3 true) 3 refl l in omega arith;
   first = after_set (prepares 2 1 false) 9 (λ prepared doc deleted e. cc) (nine_next (prepares 2 1 false) 2 (omega arith) (omega arith) refl refl refl refl);
   other_first = λ l. let e : 2 ≡ 1 = rev_of_nine (Set (stamped 2 2)) 2 refl l in omega arith;
   anew = after_removed;
