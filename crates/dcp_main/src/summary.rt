@@ -1,10 +1,11 @@
 //! Runs a script that is made, and tells of it in few lines.
 ghost use Rattle.std.specs.Prelude.{◌≡◌, ◌+◌, ◌*◌, ◌^◌, ◌<◌, ◌≤◌, ◌++◌, length, IfOk, OnOk, string_bytes};
 ghost use Rattle.dcp_main.specs.{Sums.{kept, none_kept, kept_of, shown_in, text_of}, Summaries.{shown_line, shown_lines, summary_text}};
-ghost use Rattle.{node_world.specs.World.{groups}, script_gen.specs.Scripts.{gen_script}, script_text.specs.Transcript.{role_text}};
+ghost use Rattle.{node_world.specs.Rests.{Rests}, node_world.specs.Stands.{WorldStands}, node_world.specs.World.{PlainWorld, groups, world_step}, script_gen.specs.Scripts.{gen_script}, script_text.specs.Transcript.{role_text}};
 
 use node_world::World;
 use script_gen::Generator;
+use script_text::ScriptLine;
 use std::alloc::{AllocError, Global};
 use vb_events::{Event, Group};
 use vb_types::Role;
@@ -34,6 +35,21 @@ impl Tally {
     }
 }
 
+/// Carries out a line, and keeps its group.
+fn play(world: &mut World, summary: &mut Tally, line: ScriptLine) -> Result<(), AllocError>
+    requires lines { summary.old.script + 1 < 2 ^ 64 }
+    requires told { summary.old.transcript + 2 ^ 65 < 2 ^ 128 }
+    ensures lines { OnOk result (summary.new.transcript ≤ summary.old.transcript + 2 ^ 65) }
+    ensures played { OnOk result ((w : PlainWorld) → WorldStands world.old w → Rests w →
+        WorldStands world.new (world_step w line).0 × Rests (world_step w line).0
+        × (summary.new ≡ kept summary.old (world_step w line).1)) }
+{
+    let stepped = world.step(&line);
+    drop(line);
+    summary.keep(stepped?);
+    Ok(())
+}
+
 /// Carries out the lines of the script of a seed and so many writes, one after the other.
 fn run_made(alloc: Global, seed: u64, count: u32) -> Result<Tally, AllocError>
     ensures { IfOk result (λ summary. summary ≡ kept_of none_kept (groups (gen_script seed count))) }
@@ -47,8 +63,7 @@ fn run_made(alloc: Global, seed: u64, count: u32) -> Result<Tally, AllocError>
         last: None,
     };
     while let Some(line) = script.next()? {
-        let group = world.step(&line)?;
-        summary.keep(group);
+        play(&mut world, &mut summary, line)?;
     }
     Ok(summary)
 }

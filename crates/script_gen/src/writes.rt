@@ -1,6 +1,6 @@
 //! The writes of a generated script.
 ghost use Rattle.std.specs.Prelude.{◌≡◌, ◌≤◌, length, decimal, IfOk};
-ghost use Rattle.mcbp_frame.specs.Spelling.{Fits};
+ghost use Rattle.mcbp_frame.specs.Spelling.{Fits, spelling};
 ghost use Rattle.script_gen.specs.Writes.{stepped, is_removal, key_of_word, write_request, write_verb};
 
 use bytes::{Bytes, BytesMut};
@@ -71,19 +71,28 @@ fn request(alloc: Global, i: u32, word: u64) -> Result<Frame, AllocError>
     })
 }
 
+/// The bytes of a frame, which is let go.
+fn spelled(alloc: Global, frame: Frame) -> Result<Bytes, AllocError>
+    requires { Fits frame }
+    ensures { IfOk result (λ bytes. bytes ≡ spelling frame) }
+{
+    let mut out = BytesMut::new(alloc);
+    let written = write_frame(&frame, &mut out);
+    drop(frame);
+    written?;
+    Ok(out.freeze()?)
+}
+
 /// The verb of write i, of this word.
 #[tactic(auto, unfolding(crate::specs::Writes::write_verb))]
 pub fn write(alloc: Global, i: u32, word: u64) -> Result<Verb, AllocError>
     ensures { IfOk result (λ verb. verb ≡ write_verb i word) }
 {
     let frame = request(alloc, i, word)?;
-    let mut out = BytesMut::new(alloc);
-    write_frame(&frame, &mut out)?;
+    let bytes = spelled(alloc, frame)?;
     Ok(Verb::AtClient {
         node: 0,
         client: 1,
-        what: ClientVerb::Bytes {
-            bytes: out.freeze()?,
-        },
+        what: ClientVerb::Bytes { bytes },
     })
 }
