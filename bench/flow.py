@@ -107,23 +107,17 @@ def frame_cost(program: str, way: Way, buf: int, n: int) -> Cost:
     return by_each(cost(program, whole), cost(program, before), frames_of(n))
 
 
-def programs() -> list[tuple[str, str]]:
-    """What the program is called in the table, and where it is; the one before first."""
-    given = sys.argv[1:] or [PROGRAM]
-    return list(zip(["before", "now"] if len(given) > 1 else ["now"], reversed(given)))
-
-
 def cells(one: Cost, first: Cost) -> str:
     return f"{one.instructions:,.0f} | {one.instructions / first.instructions:.3f} | {one.calls:.2f} | {one.taken:,.0f}"
 
 
-def frames() -> Iterator[str]:
+def frames(programs: list[tuple[str, str]]) -> Iterator[str]:
     yield "| Lines | N | Program | BUF | Instructions a frame | To the first | Calls that take memory | Bytes that they take | To half of N |"
     yield "|---|---|---|---|---|---|---|---|---|"
     for name, way in WAYS.items():
         last: dict[tuple[str, int], float] = {}
         for n in SIZES:
-            runs = [(when, program, 0) for when, program in programs()]
+            runs = [(when, program, 0) for when, program in programs]
             first = None
             for when, program, buf in [*runs, (*runs[-1][:2], way.buf)]:
                 one = frame_cost(program, way, buf, n)
@@ -134,17 +128,25 @@ def frames() -> Iterator[str]:
                 yield f"| {name} | {n:,} | {when} | {buf} | {cells(one, first)} | {ratio} |"
 
 
-def lines() -> Iterator[str]:
+def lines(programs: list[tuple[str, str]]) -> Iterator[str]:
     yield "| What | Program | Instructions | To the first | Calls that take memory | Bytes that they take |"
     yield "|---|---|---|---|---|---|"
     for what, script in PLAIN.items():
         first = None
-        for name, program in programs():
+        for name, program in programs:
             one = by_each(cost(program, script(SIZES[1])), cost(program, script(SIZES[0])), SIZES[1] - SIZES[0])
             first = first or one
             yield f"| {what} | {name} | {cells(one, first)} |"
 
 
-if __name__ == "__main__":
-    for row in chain(frames(), [""], lines()):
+def main(words: list[str]) -> None:
+    if words[:1] == ["--help"]:
+        print(__doc__, end="")
+        return
+    programs = list(zip(["now", "before"], words or [PROGRAM]))[::-1]
+    for row in chain(frames(programs), [""], lines(programs)):
         print(row, flush=True)
+
+
+if __name__ == "__main__":
+    main(sys.argv[1:])

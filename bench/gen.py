@@ -30,8 +30,11 @@ def complaint(n: int, told: str) -> str:
     return "" if whole else f"gen {SEED} {n} tells something else:\n{told}"
 
 
-def main() -> None:
-    program = sys.argv[1] if len(sys.argv) > 1 else PROGRAM
+def main(words: list[str]) -> None:
+    if words[:1] == ["--help"]:
+        print(__doc__, end="")
+        return
+    program = words[0] if words else PROGRAM
     resource.setrlimit(resource.RLIMIT_CORE, (0, 0))
     results: dict[int, list[tuple[float, int, str]]] = {n: [] for n in SIZES}
     for _ in range(RUNS):
@@ -52,4 +55,4 @@ def main() -> None:
 
 
 if __name__ == "__main__":
-    main()
+    main(sys.argv[1:])
