@@ -29,11 +29,10 @@ pub fn taken(list: &mut CkptList, id: u64, need: u64) -> Result<(usize, u64), Fa
 }
 
 /// The first change that a cursor is not given alone, right after it is queued.
-fn first_not_alone(alloc: Global, count: u64) -> Result<Option<u64>, Fail> {
-    let mut list = CkptList::new(alloc, 0)?;
+fn first_not_alone(list: &mut CkptList, alloc: Global, count: u64) -> Result<Option<u64>, Fail> {
     for n in 0..count {
-        let seq = put(&mut list, alloc, n)?;
-        if taken(&mut list, 0, 0)? != (1, seq) {
+        let seq = put(list, alloc, n)?;
+        if taken(list, 0, 0)? != (1, seq) {
             return Ok(Some(n));
         }
     }
@@ -42,7 +41,10 @@ fn first_not_alone(alloc: Global, count: u64) -> Result<Option<u64>, Fail> {
 
 #[test]
 fn a_cursor_is_given_each_change_alone(rt: HostRuntime) -> Result<(), Fail> {
-    assert_eq!(rt; first_not_alone(rt.alloc(), 400_000)?, None);
+    let mut list = CkptList::new(rt.alloc(), 0)?;
+    let other = first_not_alone(&mut list, rt.alloc(), 400_000);
+    drop(list);
+    assert_eq!(rt; other?, None);
     Ok(())
 }
 
@@ -57,15 +59,14 @@ fn first_astray(list: &mut CkptList, seq: u64) -> Result<Option<u64>, Fail> {
     Ok(None)
 }
 
-/// The same over a list of 5,000 changes.
-fn first_astray_of(alloc: Global) -> Result<Option<u64>, Fail> {
-    let mut list = CkptList::new(alloc, 0)?;
+/// The same over 5,000 changes, with the cursors at the start.
+fn first_astray_of(list: &mut CkptList, alloc: Global) -> Result<Option<u64>, Fail> {
     for id in 1..101u64 {
         list.place_cursor(id, 0)?;
     }
     for n in 0..5_000u64 {
-        let seq = put(&mut list, alloc, n)?;
-        let astray = first_astray(&mut list, seq)?;
+        let seq = put(list, alloc, n)?;
+        let astray = first_astray(list, seq)?;
         if astray.is_some() {
             return Ok(astray);
         }
@@ -75,7 +76,10 @@ fn first_astray_of(alloc: Global) -> Result<Option<u64>, Fail> {
 
 #[test]
 fn cursors_go_in_their_own_steps(rt: HostRuntime) -> Result<(), Fail> {
-    assert_eq!(rt; first_astray_of(rt.alloc())?, None);
+    let mut list = CkptList::new(rt.alloc(), 0)?;
+    let astray = first_astray_of(&mut list, rt.alloc());
+    drop(list);
+    assert_eq!(rt; astray?, None);
     Ok(())
 }
 

@@ -37,9 +37,15 @@ fn outline_asked(asked: &Result<KvRequest, Status>) -> Option<Outline> {
     }
 }
 
+/// What a test compares of what a frame asks, if it is a write.
+fn outline_of(alloc: Global, frame: Frame) -> Result<Option<Outline>, AllocError> {
+    let asked = asked(alloc, frame)?;
+    Ok(outline_asked(&asked))
+}
+
 fn write_outline(alloc: Global, bytes: &[u8]) -> Result<Outline, Fail> {
-    let asked = asked(alloc, frame_of(alloc, bytes)?)?;
-    Ok(outline_asked(&asked).ok_or("no write")?)
+    let frame = frame_of(alloc, bytes)?;
+    Ok(outline_of(alloc, frame)?.ok_or("no write")?)
 }
 
 // Flags 0xdeadbeef, expiration 3600, key `hello`, value `world`, CAS 9.
@@ -107,8 +113,8 @@ const DURABLE: [DurableRow; 8] = [
 
 /// What a DELETE with these framing extras requires; `None` where it is refused.
 fn required(alloc: Global, framing: &[u8]) -> Result<Option<Option<(Level, u16)>>, AllocError> {
-    let asked = asked(alloc, bare_request(alloc, 0x04, 0, framing, b"k")?)?;
-    Ok(outline_asked(&asked).map(|outline| outline.1))
+    let frame = bare_request(alloc, 0x04, 0, framing, b"k")?;
+    Ok(outline_of(alloc, frame)?.map(|outline| outline.1))
 }
 
 /// The place of the first of these requirements that a DELETE does not have.
@@ -194,10 +200,15 @@ fn features_asked(asked: &Result<KvRequest, Status>) -> Option<&[Feature]> {
 }
 
 /// The features that a HELLO is answered with.
-fn features_set(alloc: Global, bytes: &[u8]) -> Result<Bytes, Fail> {
-    let asked = asked(alloc, frame_of(alloc, bytes)?)?;
-    let features = features_asked(&asked).ok_or("no hello")?;
+fn features_answered(alloc: Global, asked: &Result<KvRequest, Status>) -> Result<Bytes, Fail> {
+    let features = features_asked(asked).ok_or("no hello")?;
     Ok(hello_value(alloc, features)?)
+}
+
+fn features_set(alloc: Global, bytes: &[u8]) -> Result<Bytes, Fail> {
+    let frame = frame_of(alloc, bytes)?;
+    let asked = asked(alloc, frame)?;
+    features_answered(alloc, &asked)
 }
 
 // Synchronous replication, a feature that there is not, mutation seqnos, and the first once more.

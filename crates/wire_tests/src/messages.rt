@@ -157,6 +157,18 @@ fn outline(message: &DcpMsg) -> Outline<'_> {
         ),
         DcpMsg::Control { key, value } => ("control", [0; 8], key.as_slice(), value.as_slice()),
         DcpMsg::StreamRequest { ask } => outline_request(ask),
+        DcpMsg::CloseStream => ("close", [0; 8], b"", b""),
+        DcpMsg::GetFailoverLog => ("log request", [0; 8], b"", b""),
+        DcpMsg::Noop => ("noop", [0; 8], b"", b""),
+        DcpMsg::BufferAcknowledgement { bytes } => outline_number("taken", *bytes as u64),
+        DcpMsg::SeqnoAcknowledged { seq } => outline_number("acknowledged", *seq),
+        other => outline_sent(other),
+    }
+}
+
+/// The same of a message of a stream, or of an answer.
+fn outline_sent(message: &DcpMsg) -> Outline<'_> {
+    match message {
         DcpMsg::StreamEnd { reason } => outline_number("end", *reason as u64),
         DcpMsg::SnapshotMarker { start, end, flags } => (
             "marker",
@@ -174,17 +186,20 @@ fn outline(message: &DcpMsg) -> Outline<'_> {
         DcpMsg::Prepare { change } => outline_prepare(change),
         DcpMsg::Commit { change } => outline_resolution("commit", change),
         DcpMsg::Abort { change } => outline_resolution("abort", change),
-        DcpMsg::SeqnoAcknowledged { seq } => outline_number("acknowledged", *seq),
-        DcpMsg::CloseStream => ("close", [0; 8], b"", b""),
-        DcpMsg::GetFailoverLog => ("log request", [0; 8], b"", b""),
-        DcpMsg::Noop => ("noop", [0; 8], b"", b""),
-        DcpMsg::BufferAcknowledgement { bytes } => outline_number("taken", *bytes as u64),
+        answer => outline_answer(answer),
+    }
+}
+
+/// The same of an answer.
+fn outline_answer(message: &DcpMsg) -> Outline<'_> {
+    match message {
         DcpMsg::OpenAnswer { status } => outline_number("opened", *status as u64),
         DcpMsg::ControlAnswer { status } => outline_number("controlled", *status as u64),
         DcpMsg::StreamAnswer { told } => outline_told(told),
         DcpMsg::CloseAnswer { status } => outline_number("closed", *status as u64),
         DcpMsg::NoopAnswer { status } => outline_number("alive", *status as u64),
-        DcpMsg::LogAnswer { status, log } => outline_answer(*status, log.as_slice()),
+        DcpMsg::LogAnswer { status, log } => outline_log_answer(*status, log.as_slice()),
+        _ => ("no answer", [0; 8], b"", b""),
     }
 }
 
@@ -256,7 +271,7 @@ fn outline_log(name: &'static str, log: &[LogEntry]) -> Outline<'static> {
 }
 
 /// The same of an answer to a request for a log.
-fn outline_answer(status: u16, log: &[LogEntry]) -> Outline<'static> {
+fn outline_log_answer(status: u16, log: &[LogEntry]) -> Outline<'static> {
     if status == 0 {
         outline_log("log", log)
     } else {
@@ -325,6 +340,11 @@ fn read(alloc: Global, frame: Frame) -> Result<Read, AllocError> {
     read_dcp(alloc, &frame)
 }
 
+fn read_bytes(alloc: Global, bytes: &[u8]) -> Result<Read, Fail> {
+    let frame = frame_of(alloc, bytes)?;
+    Ok(read(alloc, frame)?)
+}
+
 /// Whether what is read is the message that a row says.
 fn is_said(read: &Read, row: &Row) -> bool {
     let (_, name, numbers, key, value) = *row;
@@ -342,11 +362,18 @@ fn written_again(alloc: Global, read: &Read) -> Result<BytesMut, Fail> {
     }
 }
 
+/// Whether what is read is the message that a row says, and what is written of it.
+fn compared(alloc: Global, read: Read, row: &Row) -> Result<(bool, BytesMut), Fail> {
+    let is_said = is_said(&read, row);
+    let out = written_again(alloc, &read);
+    drop(read);
+    Ok((is_said, out?))
+}
+
 /// Whether the bytes of a row are read as the message that it says, and what is written of that.
 fn taken(alloc: Global, row: &Row) -> Result<(bool, BytesMut), Fail> {
-    let read = read(alloc, frame_of(alloc, row.0)?)?;
-    let out = written_again(alloc, &read)?;
-    Ok((is_said(&read, row), out))
+    let read = read_bytes(alloc, row.0)?;
+    compared(alloc, read, row)
 }
 
 // A message's numbers, key and value are all that it has: so what is written of the one that is read
@@ -459,9 +486,16 @@ fn some_fields_are_ignored(rt: HostRuntime) -> Result<(), Fail> {
     Ok(())
 }
 
+/// Whether what is read is no message, for its value.
+fn is_wrong_value(read: &Read) -> bool {
+    matches!(read, Some(Err(DcpFault::WrongValue)))
+}
+
 #[test]
 fn removals_have_no_value(rt: HostRuntime) -> Result<(), Fail> {
-    let read = read(rt.alloc(), frame_of(rt.alloc(), FULL_REMOVAL)?)?;
-    assert!(rt; matches!(read, Some(Err(DcpFault::WrongValue))));
+    let read = read_bytes(rt.alloc(), FULL_REMOVAL)?;
+    let is_wrong = is_wrong_value(&read);
+    drop(read);
+    assert!(rt; is_wrong);
     Ok(())
 }

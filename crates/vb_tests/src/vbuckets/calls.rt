@@ -415,15 +415,20 @@ fn begun(alloc: Global, at: At) -> Result<VBucket, AllocError> {
     }
 }
 
-/// The place of the first call that is told something else than the table says.
-pub fn first_other(alloc: Global, at: At, steps: &[Step]) -> Result<Option<usize>, Fail> {
-    let mut vb = begun(alloc, at)?;
+/// The place of the first call of a vBucket that is told something else than the table says.
+fn first_other_at(alloc: Global, vb: &mut VBucket, steps: &[Step]) -> Result<Option<usize>, Fail> {
     for (place, (what, want)) in steps.iter().enumerate() {
-        if answered(alloc, &mut vb, *what)? != *want {
+        if answered(alloc, vb, *what)? != *want {
             return Ok(Some(place));
         }
     }
     Ok(None)
+}
+
+/// The same of one that begins there.
+pub fn first_other(alloc: Global, at: At, steps: &[Step]) -> Result<Option<usize>, Fail> {
+    let mut vb = begun(alloc, at)?;
+    first_other_at(alloc, &mut vb, steps)
 }
 
 /// Calls of one vBucket.
