@@ -112,6 +112,29 @@ def program() -> str:
     raise AssertionError("there is no program to compare with, and ./dcp --unproved run builds none")
 
 
+def below(crate: str) -> set[str]:
+    """A crate and all of the repository's that it stands on."""
+    lines = content("crates.txt").decode().split("\n")
+    stands_on = {line.split(":")[0]: line.split(":")[1].split() for line in lines if ":" in line}
+    found, more = set(), {crate}
+    while more:
+        found |= more
+        more = {name for it in more for name in stands_on[it] if name in stands_on} - found
+    return found
+
+
+@functools.cache
+def reader() -> str:
+    """transcript_back as it stands: where a source is newer than what is built, rt run proves and builds it first."""
+    built = path("crates/transcript_back/out/transcript_back")
+    parts = [path("crates", crate, part) for crate in below("transcript_back") for part in ("src", "specs", "proofs")]
+    newer = ["find", *filter(os.path.exists, parts), "-type", "f", "-newer", built]
+    if not os.path.exists(built) or subprocess.run(newer, capture_output=True, check=True).stdout:
+        words = {"stdin": subprocess.DEVNULL, "stdout": subprocess.DEVNULL}
+        subprocess.run(["rt", "run"], cwd=path("crates/transcript_back"), check=True, **words)
+    return built
+
+
 def pair(lines: list[str], groups: list[str]) -> tuple[transcript.Transcript, script.Script]:
     """A transcript and its script, whose line 1 gives the first group."""
     told = transcript.read(io.BytesIO("".join(f"#{i}\n{it}\n" for i, it in enumerate(groups, 1)).encode()))

@@ -1,3 +1,6 @@
 pub mod Counts
 pub mod Moves
 pub mod Memory
+pub mod Reads
+pub mod Statuses
+pub mod Writes

@@ -1,5 +1,6 @@
 //! What a program reads its input from and writes its output to: sources and sinks that count
-//! their faults. There are sources and sinks in memory, and over std's readers and writers.
+//! their faults. There are sources and sinks in memory, and over std's readers and writers. And how
+//! a program reads an input to its end, writes a text, and ends.
 #![tactic(auto)]
 
 ghost use Rattle.std.specs.Prelude.{◌≡◌, ◌<◌, length};
@@ -7,16 +8,22 @@ ghost use Rattle.dcp_io.specs.Moves.{Intake, Outlet, Takes, Puts};
 
 mod adapters;
 mod counts;
+mod input;
 mod laws;
 mod mem_sink;
 mod mem_source;
 mod memory;
+mod output;
+mod status;
 
 pub use adapters::{Reading, Writing};
-pub use laws::counts_in_numbers;
+pub use input::read_all;
+pub use laws::{bad_lines_in_letters, counts_in_numbers, statuses_in_numbers};
 pub use mem_sink::MemSink;
 pub use mem_source::MemSource;
 pub use memory::{SliceSource, VecSink};
+pub use output::{put_bad_line, put_text};
+pub use status::{Status, exit_of};
 
 /// What a take gave.
 #[derive(Clone, Copy)]

@@ -1,13 +1,13 @@
 -- what each status tells, seen from what was asked
-use Rattle.std.proofs.Common.{◌≡◌, ◌+◌, ◌⊎◌, ℕ, Err, refl, ap, sym, ◌∙◌, inl, inr, arith, length}
-use Rattle.std.specs.Prelude.{◌==◌, if◌then◌else◌}
+use Rattle.std.proofs.Common.{◌≡◌, ◌+◌, ◌⊎◌, ℕ, Err, refl, inl, inr, arith, length}
 use Rattle.dcp_io.specs.Moves.{Intake, Outlet}
+use Rattle.dcp_io.specs.Reads.{Read, ReadSome}
+use Rattle.dcp_io.specs.Statuses.{exit_code}
 use Rattle.dcp_io.proofs.Counted.{raised_monotone}
-use Rattle.dcp_main.specs.declared.input.TheConstants.{MAX_SCRIPT}
-use Rattle.dcp_main.specs.declared.status.Status.{Status}
-use Rattle.dcp_main.specs.declared.status.Status.TheVariants as status
-use Rattle.dcp_main.specs.Exits.{exit_code, TellsMade, TellsRun, TellsUsage, WritesFront}
-use Rattle.dcp_main.specs.Reads.{Read, ReadSome}
+use Rattle.dcp_io.specs.declared.input.TheConstants.{MAX_INPUT}
+use Rattle.dcp_io.specs.declared.status.Status.{Status}
+use Rattle.dcp_io.specs.declared.status.Status.TheVariants as status
+use Rattle.dcp_main.specs.Exits.{TellsMade, TellsRun, TellsUsage, WritesFront}
 use Rattle.dcp_main.specs.Runs.{Ran, Complete, Broken, GenRan, UsageTold}
 
 -- where the script was not read, nothing was written
@@ -21,36 +21,13 @@ unread old new before other read = absurd read
 pub completes : (old new : Intake) (before after : Outlet) (answer : Status) → Ran old new before after answer → Complete old new before after answer
 completes old new before after status.Ok ran = λ reads writes within grammar. inl refl
 completes old new before after status.NoMemory ran = λ reads writes within grammar. inr refl
-completes old new before after status.BadScript ran = λ reads writes within grammar. absurd (grammar ran.bytes ran.line ran.read.drew.left ran.bad)
+completes old new before after status.BadLine ran = λ reads writes within grammar. absurd (grammar ran.bytes ran.line ran.read.drew.left ran.bad)
 completes old new before after status.ReadFault ran = λ reads writes within grammar. absurd (reads ran.0.rose)
 completes old new before after status.WriteFault ran = λ reads writes within grammar. absurd (writes ran.1)
 completes old new before after status.InputTooLong ran = λ reads writes within grammar.
-    let more = raised_monotone old.taken old.taken (MAX_SCRIPT + 1) (length ran.0.bytes) (omega arith) (omega (arith, ran.0.above)) in
+    let more = raised_monotone old.taken old.taken (MAX_INPUT + 1) (length ran.0.bytes) (omega arith) (omega (arith, ran.0.above)) in
     absurd (omega (arith, within, ran.0.drew.taken, more))
 completes old new before after status.Usage ran = absurd ran
-
--- the status of a number
-abbrev status_of : ℕ → Status
-status_of number =
-    if number == 0 then status.Ok
-    else if number == 2 then status.Usage
-    else if number == 3 then status.BadScript
-    else if number == 4 then status.ReadFault
-    else if number == 5 then status.WriteFault
-    else if number == 6 then status.NoMemory
-    else status.InputTooLong
-
-status_back : (answer : Status) → status_of (exit_code answer) ≡ answer
-status_back status.Ok = refl
-status_back status.Usage = refl
-status_back status.BadScript = refl
-status_back status.ReadFault = refl
-status_back status.WriteFault = refl
-status_back status.NoMemory = refl
-status_back status.InputTooLong = refl
-
-pub codes_differ : (one other : Status) → exit_code one ≡ exit_code other → one ≡ other
-codes_differ one other h = sym (status_back one) ∙ ap status_of h ∙ status_back other
 
 some_read : (old new : Intake) (before after : Outlet) → ((ReadSome old new × (after ≡ before)) ⊎ Broken old new before after) → new.faults ≡ old.faults
 some_read old new before after (inl some) = some.0.faults
@@ -66,7 +43,7 @@ some_written old new before after (inr broken) = inr (front old new before after
 
 pub tells_run : (old new : Intake) (before after : Outlet) (answer : Status) → Ran old new before after answer → TellsRun (exit_code answer) old new before after
 tells_run old new before after status.Ok ran = inl (refl, ran)
-tells_run old new before after status.BadScript ran = inr (inl (refl, ran))
+tells_run old new before after status.BadLine ran = inr (inl (refl, ran))
 tells_run old new before after status.ReadFault ran = inr (inr (inl (refl, ran.0.rose, ran.1)))
 tells_run old new before after status.WriteFault ran = inr (inr (inr (inl (refl, ran.0.read.faults, ran.1, front old new before after ran.0))))
 tells_run old new before after status.NoMemory ran = inr (inr (inr (inr (inl (refl, some_read old new before after ran.1, ran.0, some_written old new before after ran.1)))))

@@ -1,4 +1,5 @@
 pub mod Endings
+pub mod Generated
 pub mod Groups
 pub mod Keeping
 pub mod Letters

@@ -16,6 +16,7 @@ use Rattle.vb_events.specs.declared.event.Event.{Event}
 use Rattle.vb_events.specs.declared.event.Event.TheVariants as event
 use Rattle.vb_events.specs.declared.event.Group.{Group}
 use Rattle.vb_types.specs.Images.{Picture}
+use Rattle.vb_types.specs.declared.role.Role.{Role}
 use Rattle.dcp_main.specs.Summaries.{shown_line, summary_of}
 use Rattle.dcp_main.specs.Showing.{FewTold, ShowsIfThere, ShowsNone, ShowsOne, ThreeTold}
 
@@ -37,10 +38,11 @@ module _ (number n v : ℕ) where
   abbrev Shows : Group → Type 0
   Shows g = ShowsOne n v g ⊎ ShowsNone g
 
-  by_answer : (reply : VbReply) (a : VbAnswer) → Shows (group_with number (call_told (admin_replied n v AdminCall.Show (record reply { answer = a }))))
-  by_answer reply (VbAnswer.Shown role uuid ss se at image) =
+  pub shown_one : (reply : VbReply) (role : Role) (uuid ss se at : ℕ) (image : Picture)
+      → ShowsOne n v (group_with number (call_told (admin_replied n v AdminCall.Show (record reply { answer = VbAnswer.Shown role uuid ss se at image }))))
+  shown_one reply role uuid ss se at image =
       let line = ended (event_text (event.Shown n v role uuid at ss se _ _)) in
-      inl (record {
+      record {
         role = role;
         uuid = uuid;
         at = at;
@@ -50,7 +52,10 @@ module _ (number n v : ℕ) where
         preps = _;
         answer = refl;
         one = ap (λ text. line ++ text) (image_none image) ∙ append-nil line;
-      })
+      }
+
+  by_answer : (reply : VbReply) (a : VbAnswer) → Shows (group_with number (call_told (admin_replied n v AdminCall.Show (record reply { answer = a }))))
+  by_answer reply (VbAnswer.Shown role uuid ss se at image) = inl (shown_one reply role uuid ss se at image)
   by_answer reply other = inr (cause.WrongRole, refl, refl)
 
   by_reply : (o : Option VbReply) → Shows (group_with number (call_told (admin_result n v AdminCall.Show o)))

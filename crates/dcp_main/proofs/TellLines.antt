@@ -73,11 +73,14 @@ answer_plain (answer.No cause) = words_plain (codes "no" ∷ text.cause_text cau
 one_line : (line : List ℕ) → newlines line ≡ 0 → newlines (ended line) ≡ 1
 one_line line h = newlines_both line (10 ∷ []) ∙ ap (λ n. n + 1) h
 
+pub event_line : (e : Event) → newlines (ended (text.event_text e)) ≡ 1
+event_line e = one_line (text.event_text e) (event_plain e)
+
 events_lines : (events : List Event) → newlines (flat_map (λ e. ended (text.event_text e)) events) ≡ length events
 events_lines [] = refl
 events_lines (e ∷ events) =
     let rest = flat_map (λ e. ended (text.event_text e)) events in
-    omega (arith, newlines_both (ended (text.event_text e)) rest, one_line (text.event_text e) (event_plain e), events_lines events)
+    omega (arith, newlines_both (ended (text.event_text e)) rest, event_line e, events_lines events)
 
 pub group_told : (g : Group) → newlines (text.group_text g) ≡ group_lines g
 unfolding text.group_text

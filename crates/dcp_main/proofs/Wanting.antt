@@ -4,8 +4,8 @@ use Rattle.std.specs.IoError.{error_kind}
 use Rattle.std.specs.declared.io.Error.{Error}
 use Rattle.std.specs.declared.io.ErrorKind.TheVariants as kind
 use Rattle.dcp_main.specs.Words.{AcceptedWords, Answered}
-use Rattle.dcp_main.specs.declared.status.Status.{Status}
-use Rattle.dcp_main.specs.declared.status.Status.TheVariants as status
+use Rattle.dcp_io.specs.declared.status.Status.{Status}
+use Rattle.dcp_io.specs.declared.status.Status.TheVariants as status
 
 pub short : (fault : Error) (answer : Answered) → error_kind fault ≡ kind.OutOfMemory → AcceptedWords (Err fault) answer → answer ≡ Err status.NoMemory
 short fault (Ok words) is accepted = absurd (accepted.0 is)

@@ -10,18 +10,6 @@ use Rattle.script_text.specs.Transcript.{print_of}
 use Rattle.script_text.specs.declared.verb.ScriptLine.{ScriptLine}
 use Rattle.dcp_main.specs.Runs.{Completed, BadLineTold, Made}
 use Rattle.dcp_main.specs.Summaries.{summary_text}
-use Rattle.dcp_main.specs.declared.status.Status.{Status}
-use Rattle.dcp_main.specs.declared.status.Status.TheVariants as status
-
--- the number that the process ends with, by the status of its run
-abbrev pub exit_code : Status → ℕ
-exit_code status.Ok = 0
-exit_code status.Usage = 2
-exit_code status.BadScript = 3
-exit_code status.ReadFault = 4
-exit_code status.WriteFault = 5
-exit_code status.NoMemory = 6
-exit_code status.InputTooLong = 11
 
 -- the whole input was read, and a front part was written of what it asks for: of the print of its script's groups, or, where a
 -- line is outside the grammar, of the message on the first such line

@@ -1,8 +1,11 @@
 -- what a run read and wrote, by the status that it answers
-use Rattle.std.specs.Prelude.{◌≡◌, ℕ, ◌+◌, ◌<◌, ◌⊎◌, List, ◌++◌, codes, decimal}
+use Rattle.std.specs.Prelude.{◌≡◌, ℕ, ◌+◌, ◌<◌, ◌⊎◌, List, codes}
 use Rattle.std.specs.Io.KnownBytes.{Consumes}
 use Rattle.dcp_io.specs.Counts.{raised, Rose}
 use Rattle.dcp_io.specs.Moves.{Intake, Outlet, WrotePart}
+use Rattle.dcp_io.specs.Reads.{ReadAll, ReadFailed, ReadMore, ReadSome}
+use Rattle.dcp_io.specs.Statuses.{bad_text}
+use Rattle.dcp_io.specs.Writes.{WroteAll, Stopped}
 use Rattle.node_world.specs.World.{groups}
 use Rattle.script_gen.specs.Scripts.{gen_script}
 use Rattle.transcript_law.specs.Lawfulness.{Lawful}
@@ -10,16 +13,10 @@ use Rattle.transcript_law.specs.Prefixes.{AreFollowed, known_of, world_of}
 use Rattle.script_text.specs.Scripts.{IsScript, FirstBad}
 use Rattle.script_text.specs.Transcript.{print_of}
 use Rattle.script_text.specs.declared.verb.ScriptLine.{ScriptLine}
-use Rattle.dcp_main.specs.declared.input.TheConstants.{MAX_SCRIPT}
-use Rattle.dcp_main.specs.declared.status.Status.{Status}
-use Rattle.dcp_main.specs.declared.status.Status.TheVariants as status
-use Rattle.dcp_main.specs.Reads.{ReadAll, ReadFailed, ReadMore, ReadSome}
+use Rattle.dcp_io.specs.declared.input.TheConstants.{MAX_INPUT}
+use Rattle.dcp_io.specs.declared.status.Status.{Status}
+use Rattle.dcp_io.specs.declared.status.Status.TheVariants as status
 use Rattle.dcp_main.specs.Summaries.{summary_text}
-use Rattle.dcp_main.specs.Writes.{WroteAll, Stopped}
-
--- the message on a script whose first bad line has this number
-abbrev pub bad_text : ℕ → List ℕ
-bad_text line = codes "bad line " ++ (decimal line ++ codes "\n")
 
 -- the whole script was read, each line is in the grammar, and the print of its groups, which are lawful, was written; what the script leaves is what they tell, and each vBucket follows its branch
 pub record Completed (old new : Intake) (before after : Outlet) : Type 0 where
@@ -56,7 +53,7 @@ pub record Broken (old new : Intake) (before after : Outlet) : Type 0 where
 -- what a run did, by the status that it answers: what it read of the source, what it wrote to the sink, and which of the two failed
 abbrev pub Ran : Intake → Intake → Outlet → Outlet → Status → Type 0
 Ran old new before after status.Ok = Completed old new before after
-Ran old new before after status.BadScript = BadLineTold old new before after
+Ran old new before after status.BadLine = BadLineTold old new before after
 Ran old new before after status.ReadFault = ReadFailed old new × (after ≡ before)
 Ran old new before after status.InputTooLong = ReadMore old new × (after ≡ before)
 Ran old new before after status.WriteFault = Broken old new before after × Rose before.faults after.faults
@@ -68,7 +65,7 @@ Ran old new before after status.Usage = ⊥
 -- the script was run, or memory was short
 abbrev pub Complete : Intake → Intake → Outlet → Outlet → Status → Type 0
 Complete old new before after answer =
-    ¬ Rose old.faults new.faults → ¬ Rose before.faults after.faults → new.taken < raised old.taken (MAX_SCRIPT + 1)
+    ¬ Rose old.faults new.faults → ¬ Rose before.faults after.faults → new.taken < raised old.taken (MAX_INPUT + 1)
     → ((bytes : List ℕ) (line : ℕ) → Consumes old.left new.left bytes → ¬ FirstBad bytes line)
     → (answer ≡ status.Ok) ⊎ (answer ≡ status.NoMemory)
 
@@ -85,7 +82,7 @@ GenTold seed count before after status.Ok = Made seed count before after
 GenTold seed count before after status.WriteFault = Stopped before after (summary_text (gen_script seed count)) status.WriteFault
 GenTold seed count before after status.NoMemory = Stopped before after (summary_text (gen_script seed count)) status.NoMemory
 GenTold seed count before after status.Usage = ⊥
-GenTold seed count before after status.BadScript = ⊥
+GenTold seed count before after status.BadLine = ⊥
 GenTold seed count before after status.ReadFault = ⊥
 GenTold seed count before after status.InputTooLong = ⊥
 
@@ -103,6 +100,6 @@ UsageTold old new before after status.Usage = (new ≡ old) × WroteAll before a
 UsageTold old new before after status.WriteFault = (new ≡ old) × Stopped before after usage_text status.WriteFault
 UsageTold old new before after status.NoMemory = (new ≡ old) × Stopped before after usage_text status.NoMemory
 UsageTold old new before after status.Ok = ⊥
-UsageTold old new before after status.BadScript = ⊥
+UsageTold old new before after status.BadLine = ⊥
 UsageTold old new before after status.ReadFault = ⊥
 UsageTold old new before after status.InputTooLong = ⊥

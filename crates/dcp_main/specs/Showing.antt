@@ -1,8 +1,9 @@
 -- the lines that show vBuckets, and what is told of a script that was made, in letters
 use Rattle.std.specs.Prelude.{◌≡◌, ◌⊎◌, ℕ, List, [], ◌∷◌, codes}
-use Rattle.node_world.specs.World.{PlainWorld, world_step}
+use Rattle.node_world.specs.World.{PlainWorld, groups, world_step}
 use Rattle.script_text.specs.Lines.{ended}
 use Rattle.script_text.specs.Transcript.{event_text}
+use Rattle.script_text.specs.declared.verb.ScriptLine.{ScriptLine}
 use Rattle.script_text.specs.declared.verb.Verb.TheVariants as verb
 use Rattle.script_text.specs.declared.verb.VbVerb.TheVariants as vb_verb
 use Rattle.vb_events.specs.declared.event.Answer.TheVariants as answer
@@ -13,7 +14,7 @@ use Rattle.vb_events.specs.declared.event.Group.{Group}
 use Rattle.vb_types.specs.declared.change.Level.TheVariants.{Majority}
 use Rattle.vb_types.specs.declared.role.Role.{Role}
 use Rattle.vb_types.specs.declared.role.Role.TheVariants as role
-use Rattle.dcp_main.specs.Summaries.{shown_lines, summary_of}
+use Rattle.dcp_main.specs.Summaries.{last_two, shown_lines, summary_of}
 
 -- the line was carried out, and has one `shown` line, which is of the vBucket v of the node n
 pub record ShowsOne (n v : ℕ) (g : Group) : Type 0 where
@@ -35,6 +36,14 @@ ShowsNone g = (why : Cause) × (g.answer ≡ answer.No why) × (shown_lines g �
 abbrev pub ShowsIfThere : PlainWorld → ℕ → ℕ → ℕ → Type 0
 ShowsIfThere w number n v =
     let g = (world_step w (record { line = number; verb = verb.AtVb n v vb_verb.Show })).1 in ShowsOne n v g ⊎ ShowsNone g
+
+-- the last two lines of a script were carried out, and show the vBucket 0 of the node 0, and that of the node 1
+pub record BothShown (script : List ScriptLine) : Type 0 where
+  pub first : Group
+  pub second : Group
+  pub last : last_two (groups script) ≡ first ∷ second ∷ []
+  pub active : ShowsOne 0 0 first
+  pub replica : ShowsOne 1 0 second
 
 -- a group of this line, which was carried out and told this
 abbrev pub told_at : ℕ → List Event → Group

@@ -7,8 +7,8 @@ use Rattle.std.specs.declared.io.Error.{Error}
 use Rattle.std.specs.declared.io.ErrorKind.TheVariants as kind
 use Rattle.script_text.specs.Numbers.{number_of}
 use Rattle.dcp_main.specs.declared.words.TheConstants.{MAX_COUNT}
-use Rattle.dcp_main.specs.declared.status.Status.{Status}
-use Rattle.dcp_main.specs.declared.status.Status.TheVariants as status
+use Rattle.dcp_io.specs.declared.status.Status.{Status}
+use Rattle.dcp_io.specs.declared.status.Status.TheVariants as status
 
 -- the words are the one word `run`
 abbrev pub says_run : List (List ℕ) → Bool

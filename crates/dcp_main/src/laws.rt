@@ -1,20 +1,17 @@
 //! What the process's number means.
-ghost use Rattle.std.specs.Prelude.{◌≡◌, ◌≢◌, ◌↔◌, ◌++◌, ◌<◌, ◌≤◌, ◌+◌, length, ℕ, List, [], ◌∷◌, decimal, true, Some, None, Err};
+ghost use Rattle.std.specs.Prelude.{◌≡◌, ◌≢◌, ◌↔◌, ◌<◌, ◌≤◌, ◌+◌, length, ℕ, List, [], ◌∷◌, decimal, true, Some, None, Err};
 ghost use Rattle.std.specs.IoError.{error_kind};
 ghost use Rattle.std.specs.declared.io.Error.{Error as Fault};
 ghost use Rattle.std.specs.declared.io.ErrorKind.TheVariants as kind;
-ghost use Rattle.{dcp_io.specs.Moves.{Intake, Outlet}, dcp_main.specs.Exits.{exit_code, TellsMade, TellsRun, TellsUsage}, dcp_main.specs.Runs.{GenRan, Ran, UsageTold, bad_text}, dcp_main.specs.Words.{AcceptedWords, Answered, gen_words, says_run}};
+ghost use Rattle.{dcp_io.specs.Moves.{Intake, Outlet}, dcp_io.specs.Statuses.{exit_code}, dcp_main.specs.Exits.{TellsMade, TellsRun, TellsUsage}, dcp_main.specs.Runs.{GenRan, Ran, UsageTold}, dcp_main.specs.Words.{AcceptedWords, Answered, gen_words, says_run}};
 ghost use Rattle.{node_world.specs.World.{PlainWorld}, script_text.specs.Transcript.{group_text, print_of}, vb_events.specs.declared.event.Group.{Group}};
-ghost use Rattle.dcp_main.specs.{Showing.{FewTold, ShowsIfThere, ThreeTold}, Summaries.{newlines}, Sums.{transcript_lines}};
-ghost use Rattle.dcp_main.specs.declared.status.Status.{Status};
-ghost use Rattle.dcp_main.specs.declared.status.Status.TheVariants as status;
+ghost use Rattle.script_gen.specs.Scripts.{gen_script};
+ghost use Rattle.dcp_main.specs.{Showing.{BothShown, FewTold, ShowsIfThere, ThreeTold}, Summaries.{newlines, summary_text}, Sums.{transcript_lines}};
+ghost use Rattle.dcp_io.specs.declared.status.Status.{Status};
+ghost use Rattle.dcp_io.specs.declared.status.Status.TheVariants as status;
 
-/// Each status is a number of its own, and the number tells what a run read and wrote.
+/// The number of a status tells what a run read and wrote.
 pub fn exits_in_numbers()
-    ensures good { (exit_code status.Ok ≡ 0) × (exit_code status.Usage ≡ 2) × (exit_code status.BadScript ≡ 3) }
-    ensures faults { (exit_code status.ReadFault ≡ 4) × (exit_code status.WriteFault ≡ 5) }
-    ensures limits { (exit_code status.NoMemory ≡ 6) × (exit_code status.InputTooLong ≡ 11) }
-    ensures distinct { (one other : Status) → exit_code one ≡ exit_code other → one ≡ other }
     ensures run { (old new : Intake) (before after : Outlet) (answer : Status)
         → Ran old new before after answer → TellsRun (exit_code answer) old new before after }
     ensures made { (seed count : ℕ) (old new : Intake) (before after : Outlet) (answer : Status)
@@ -31,11 +28,6 @@ pub fn words_in_letters()
     ensures made { (words : List (List ℕ)) (seed count : ℕ) → (gen_words words ≡ Some (seed, count))
         ↔ ((words ≡ (103 ∷ 101 ∷ 110 ∷ []) ∷ decimal seed ∷ decimal count ∷ []) × (seed < 18446744073709551616) × (1 ≤ count) × (count ≤ 100000)) }
     ensures one { (words : List (List ℕ)) → says_run words ≡ true → gen_words words ≡ None }
-{}
-
-/// What is written of a bad line, letter by letter: its words, its number and a newline.
-pub fn bad_lines_in_letters()
-    ensures { (line : ℕ) → bad_text line ≡ 98 ∷ 97 ∷ 100 ∷ 32 ∷ 108 ∷ 105 ∷ 110 ∷ 101 ∷ 32 ∷ (decimal line ++ 10 ∷ []) }
 {}
 
 /// Where the words cannot be fetched for want of memory, the process ends as for that, and where they are
@@ -56,6 +48,13 @@ pub fn transcripts_in_lines()
 /// none, whatever the world is.
 pub fn shows_have_one_line()
     ensures { (w : PlainWorld) (number n v : ℕ) → ShowsIfThere w number n v }
+{}
+
+/// The two lines that show a vBucket at the end of a script that is made are never refused, whatever its seed and its
+/// count: so four lines tell of it.
+pub fn generated_shows_are_shown()
+    ensures shown { (seed count : ℕ) → BothShown (gen_script seed count) }
+    ensures four { (seed count : ℕ) → newlines (summary_text (gen_script seed count)) ≡ 4 }
 {}
 
 /// What is told of a script that was made, in letters: of three groups, of fewer, and of two that show

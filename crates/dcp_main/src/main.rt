@@ -2,16 +2,13 @@
 //! on that of a script that is made.
 #![tactic(auto)]
 
-mod input;
 mod laws;
 mod output;
-mod status;
 mod summary;
 mod top;
 mod words;
 
-use dcp_io::{Reading, Writing};
-use status::{Status, exit_of};
+use dcp_io::{Reading, Status, Writing, exit_of};
 use std::alloc::Global;
 use std::process::ExitCode;
 use std::rt::Env;

@@ -1,25 +1,14 @@
 //! Runs a script line by line, and writes each line's group.
-ghost use Rattle.{dcp_main.specs.Writes.{Wrote, LineWrote}, node_world.specs.Rests.{Rests}, node_world.specs.Stands.{WorldStands}, node_world.specs.World.{PlainWorld, groups}, script_text.specs.Transcript.{print_of}};
+ghost use Rattle.{dcp_io.specs.Writes.{Wrote}, dcp_main.specs.Writes.{LineWrote}, node_world.specs.Rests.{Rests}, node_world.specs.Stands.{WorldStands}, node_world.specs.World.{PlainWorld, groups}, script_text.specs.Transcript.{print_of}};
 
-use crate::status::Status;
 use bytes::BytesMut;
-use dcp_io::{Put, Sink};
+use dcp_io::{Sink, Status, put_text};
 use node_world::World;
 use script_text::{ScriptLine, print};
 use std::alloc::Global;
 
-/// Writes a text. An `Err` is how the command ends, here and below.
-pub fn put<O: Sink>(output: &mut O, text: &[u8]) -> Result<(), Status>
-    ensures { Wrote (O.outlet output.old) (O.outlet output.new) text.now result }
-{
-    match output.put(text) {
-        Put::Done => Ok(()),
-        Put::NoMemory => Err(Status::NoMemory),
-        Put::Failed => Err(Status::WriteFault),
-    }
-}
-
-/// Carries out a line and writes its group, through a buffer that is used again.
+/// Carries out a line and writes its group, through a buffer that is used again. An `Err` is how the
+/// command ends, here and below.
 fn run_line<O: Sink>(
     alloc: Global,
     world: &mut World,
@@ -36,7 +25,7 @@ fn run_line<O: Sink>(
     let Ok(()) = print(alloc, &group, text) else {
         return Err(Status::NoMemory);
     };
-    put(output, text.as_slice())
+    put_text(output, text.as_slice())
 }
 
 /// Carries out the lines of a script one after the other, and writes the group of each.

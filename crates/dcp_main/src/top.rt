@@ -1,26 +1,14 @@
 //! The top calls.
 ghost use Rattle.std.specs.Prelude.{◌≡◌, ◌+◌, ◌<◌, ◌≤◌, ◌^◌, ℕ, IsTrue, Some, None, false, map, string_bytes};
-ghost use Rattle.{dcp_main.specs.Runs.{Ran, Complete, GenRan, GenTold, UsageTold, bad_text}, dcp_main.specs.Words.{gen_words, says_run}, dcp_main.specs.Writes.{Wrote}};
-ghost use Rattle.dcp_main.specs.declared.input.TheConstants.{MAX_SCRIPT};
+ghost use Rattle.{dcp_main.specs.Runs.{Ran, Complete, GenRan, GenTold, UsageTold}, dcp_main.specs.Words.{gen_words, says_run}};
+ghost use Rattle.dcp_io.specs.declared.input.TheConstants.{MAX_INPUT};
 
-use crate::input::read_all;
-use crate::output::{put, run_script};
-use crate::status::Status;
+use crate::output::run_script;
 use crate::summary::summarize;
 use crate::words::{gen_words, is_run};
-use dcp_io::{Sink, Source};
+use dcp_io::{Sink, Source, Status, put_bad_line, put_text, read_all};
 use script_text::parse;
 use std::alloc::Global;
-
-/// Writes the message on a script's first bad line.
-fn put_bad_line<O: Sink>(alloc: Global, line: u64, output: &mut O) -> Result<(), Status>
-    ensures { Wrote (O.outlet output.old) (O.outlet output.new) (bad_text line) result }
-{
-    let Ok(text) = format!(in alloc; "bad line {line}\n") else {
-        return Err(Status::NoMemory);
-    };
-    put(output, text.as_bytes())
-}
 
 /// Runs the script that the source gives, and writes its transcript, a group a line.
 ///
@@ -28,7 +16,7 @@ fn put_bad_line<O: Sink>(alloc: Global, line: u64, output: &mut O) -> Result<(),
 /// says, of a source and a sink that tell their bytes:
 /// - `Ok`: each line is in the grammar, and the whole transcript was written, which is lawful; each
 ///   vBucket that the script leaves follows its branch.
-/// - `BadScript`: line I is the first outside the grammar, and `bad line I` was written.
+/// - `BadLine`: line I is the first outside the grammar, and `bad line I` was written.
 /// - `ReadFault`: the source's count of faults rose, and nothing was written.
 /// - `InputTooLong`: more than 268,435,456 bytes were taken, and nothing was written. Where more
 ///   were taken it is that or `NoMemory`.
@@ -40,8 +28,8 @@ fn put_bad_line<O: Sink>(alloc: Global, line: u64, output: &mut O) -> Result<(),
 pub fn script_main<I: Source, O: Sink>(alloc: Global, input: &mut I, output: &mut O) -> Status
     ensures ran { Ran (I.intake input.old) (I.intake input.new) (O.outlet output.old) (O.outlet output.new) result }
     ensures complete { Complete (I.intake input.old) (I.intake input.new) (O.outlet output.old) (O.outlet output.new) result }
-    ensures turns { (I.intake input.new).turns ≤ (I.intake input.old).turns + MAX_SCRIPT + 1 }
-    ensures limit { MAX_SCRIPT ≡ 268435456 }
+    ensures turns { (I.intake input.new).turns ≤ (I.intake input.old).turns + MAX_INPUT + 1 }
+    ensures limit { MAX_INPUT ≡ 268435456 }
 {
     let bytes = match read_all(alloc, input) {
         Ok(bytes) => bytes,
@@ -53,7 +41,7 @@ pub fn script_main<I: Source, O: Sink>(alloc: Global, input: &mut I, output: &mu
             .unwrap_or(Status::Ok),
         Ok(Err(bad)) => put_bad_line(alloc, bad.line, output)
             .err()
-            .unwrap_or(Status::BadScript),
+            .unwrap_or(Status::BadLine),
         Err(_) => Status::NoMemory,
     }
 }
@@ -73,7 +61,9 @@ pub fn gen_main<O: Sink>(alloc: Global, seed: u64, count: u32, output: &mut O) -
     let Ok(text) = summarize(alloc, seed, count) else {
         return Status::NoMemory;
     };
-    put(output, text.as_bytes()).err().unwrap_or(Status::Ok)
+    put_text(output, text.as_bytes())
+        .err()
+        .unwrap_or(Status::Ok)
 }
 
 /// Does what the command line asks for: `run` is [`script_main`], and `gen SEED COUNT` is
@@ -93,7 +83,7 @@ pub fn dcp_main<I: Source, O: Sink>(
         → GenRan seed count (I.intake input.old) (I.intake input.new) (O.outlet output.old) (O.outlet output.new) result }
     ensures other { says_run (map string_bytes words.now) ≡ false → gen_words (map string_bytes words.now) ≡ None
         → UsageTold (I.intake input.old) (I.intake input.new) (O.outlet output.old) (O.outlet output.new) result }
-    ensures turns { (I.intake input.new).turns ≤ (I.intake input.old).turns + MAX_SCRIPT + 1 }
+    ensures turns { (I.intake input.new).turns ≤ (I.intake input.old).turns + MAX_INPUT + 1 }
 {
     if is_run(words) {
         return script_main(alloc, input, output);
@@ -101,7 +91,7 @@ pub fn dcp_main<I: Source, O: Sink>(
     if let Some((seed, count)) = gen_words(words) {
         return gen_main(alloc, seed, count, output);
     }
-    put(output, b"usage: dcp_main run | gen SEED COUNT\n")
+    put_text(output, b"usage: dcp_main run | gen SEED COUNT\n")
         .err()
         .unwrap_or(Status::Usage)
 }

@@ -3,7 +3,7 @@ ghost use Rattle.std.specs.Prelude.{◌≡◌, map, string_bytes};
 ghost use Rattle.script_text.specs.Numbers.{digit_step, number_of};
 ghost use Rattle.dcp_main.specs.Words.{AcceptedWords, gen_words, if_count, says_run};
 
-use crate::status::Status;
+use dcp_io::Status;
 use std::alloc::Global;
 use std::io;
 

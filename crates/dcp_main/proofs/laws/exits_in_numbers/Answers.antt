@@ -1,8 +1,5 @@
-use Rattle.dcp_main.proofs.Endings.{codes_differ, tells_made, tells_run, tells_usage}
+use Rattle.dcp_main.proofs.Endings.{tells_made, tells_run, tells_usage}
 use Rattle.dcp_main.proofs.laws.exits_in_numbers.Goals as goal
-
-pub returns-clause-distinct : goal.returns-clause-distinct
-returns-clause-distinct c = codes_differ
 
 pub returns-clause-run : goal.returns-clause-run
 returns-clause-run c = tells_run

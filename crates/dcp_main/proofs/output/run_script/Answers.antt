@@ -3,7 +3,8 @@ use Rattle.std.proofs.KnownBytes.{Appends-nil, Appends-trans}
 use Rattle.node_world.specs.World.{empty_world, world_step}
 use Rattle.node_world.proofs.WorldRests.{empty_rests}
 use Rattle.script_text.specs.Transcript.{group_text}
-use Rattle.dcp_main.proofs.Groups.{print_at, stopped_after, wrote_stop}
+use Rattle.dcp_io.proofs.Stopping.{stopped_after, wrote_stop}
+use Rattle.dcp_main.proofs.Groups.{print_at}
 use Rattle.dcp_main.proofs.output.run_script.Goals as goal
 
 pub loop-line-init : goal.loop-line-init

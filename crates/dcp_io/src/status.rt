@@ -1,6 +1,6 @@
 //! How a command ends.
 ghost use Rattle.std.specs.Prelude.{◌≡◌};
-ghost use Rattle.{std.specs.Process.{exit_status}, dcp_main.specs.Exits.{exit_code}};
+ghost use Rattle.{std.specs.Process.{exit_status}, dcp_io.specs.Statuses.{exit_code}};
 
 use std::process::ExitCode;
 
@@ -11,15 +11,15 @@ pub enum Status {
     Ok = 0,
     /// The words of the command line are none that the program has.
     Usage = 2,
-    /// A line of the script is outside the grammar.
-    BadScript = 3,
+    /// A line of the input is outside the grammar.
+    BadLine = 3,
     /// The input could not be read.
     ReadFault = 4,
     /// The output could not be written.
     WriteFault = 5,
     /// Memory was short.
     NoMemory = 6,
-    /// The script is longer than a script may be.
+    /// The input is longer than an input may be.
     InputTooLong = 11,
 }
 

@@ -1,6 +1,6 @@
 use Rattle.std.proofs.Common.{rules, arith, ◌∙◌, length, ap}
 use Rattle.dcp_io.proofs.Drawn.{drew_none, drew_more, drew_end, drew_failed, drew_within, take_rose, length_taken}
-use Rattle.dcp_main.proofs.input.read_all.Goals as goal
+use Rattle.dcp_io.proofs.input.read_all.Goals as goal
 
 pub loop-turn-init : goal.loop-turn-init
 loop-turn-init g c = rw c.new-bytes.ensures.items (drew_none _, search rules, search rules, search rules)
