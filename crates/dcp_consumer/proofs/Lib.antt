@@ -8,5 +8,6 @@ mod Storing
 mod Acknowledging
 mod FirstRequests
 pub mod Counted
+pub mod Noops
 mod Ordered
 mod DialBytes

@@ -67,7 +67,7 @@ by_frame buffer h n f reason.Protocol s (inl e) p =
     let q : Comes buffer h n f (step.Over reason.Protocol) = subst (Comes buffer h n f) e p in
     inl (q.0, is_answer buffer h n f (subst (λ k. Awaits buffer k n f) (sym q.0) q.1), q.2, q.3)
 by_frame buffer h n f reason.Protocol s (inr e) p =
-    let q : Comes buffer h n f (step.Passive passive.Protocol) = subst (Comes buffer h n f) e p in inr (q.0.0, q.1)
+    let q : Comes buffer h n f (step.Passive passive.Protocol) = subst (Comes buffer h n f) e p in inr (q.0.0, q.1, q.2)
 by_frame buffer h n f reason.Done s e p =
     let q : Comes buffer h n f (step.Passive (passive.End reason.Done)) = subst (Comes buffer h n f) e p in (q.0.0, q.1, q.2)
 by_frame buffer h n f reason.State s e p =
@@ -83,7 +83,7 @@ ends_by_frame c f reason.Refused live p = moved_so c f (step.Over reason.Refused
 ends_by_frame c f reason.Protocol live (inl p) =
     let a : Awaits c.dialed.buffer handshake.Asking c.asked f = subst (λ k. Awaits c.dialed.buffer k c.asked f) p.0 (awaits c.dialed.buffer c.handshake c.asked f p.1) in
     moved_so c f (step.Over reason.Protocol) (p.0, a, p.2, p.3)
-ends_by_frame c f reason.Protocol live (inr p) = moved_so c f (step.Passive passive.Protocol) ((p.0, live), p.1)
+ends_by_frame c f reason.Protocol live (inr p) = moved_so c f (step.Passive passive.Protocol) ((p.0, live), p.1, p.2)
 ends_by_frame c f reason.Done live p = moved_so c f (step.Passive (passive.End reason.Done)) ((p.0, live), p.1, p.2)
 ends_by_frame c f reason.State live p = moved_so c f (step.Passive (passive.End reason.State)) ((p.0, live), p.1, p.2)
 

@@ -1,5 +1,5 @@
 -- which frame comes to which step
-use Rattle.std.proofs.Common.{◌≡◌, ◌≢◌, ℕ, Bool, true, false, refl, sym, ap, ◌∙◌, subst, inl, inr, Option, Some, None, Result, Ok, Err}
+use Rattle.std.proofs.Common.{◌≡◌, ◌≢◌, ℕ, Bool, true, false, refl, sym, ap, ◌∙◌, subst, inl, inr, ⊎_elim, Option, Some, None, Result, Ok, Err}
 use Rattle.std.specs.Prelude.{◌⊎◌, ◌==◌, if◌then◌else◌, is_some}
 use Rattle.std.proofs.lemmas.Bool.{eq-eqb, ne_eqb}
 use Rattle.std.proofs.lemmas.Bool.Decides.{eqb_tells}
@@ -17,7 +17,7 @@ use Rattle.vb_events.specs.declared.event.EndReason.TheVariants as reason
 use Rattle.vb_calls.specs.declared.calls.VbCall.{VbCall}
 use Rattle.dcp_consumer.specs.PassiveStreams.{call_of_message, called, passive_of, passive_read}
 use Rattle.dcp_consumer.specs.Conduct.{Awaits, IsMessage, Reads, IsOfStream, Comes}
-use Rattle.dcp_consumer.specs.Machine.{PlainConsumer, over_why, is_awaited, status_step, answered_with, stream_step, answer_step, response_step, message_step, frame_step}
+use Rattle.dcp_consumer.specs.Machine.{PlainConsumer, over_why, is_awaited, status_step, answered_with, stream_step, answer_step, response_step, is_noop, passive_step, message_step, frame_step}
 use Rattle.dcp_consumer.specs.declared.handshake.Handshake.{Handshake}
 use Rattle.dcp_consumer.specs.declared.handshake.Handshake.TheVariants as handshake
 use Rattle.dcp_consumer.specs.declared.handshake.ConsumerStep.{ConsumerStep}
@@ -92,8 +92,23 @@ asking_step c f asks a = awaited_step c f (subst (λ h. Awaits c.dialed.buffer h
 
 -- ---- messages
 
-streaming_step : (c : PlainConsumer) (f : Frame) → IsMessage c.handshake f → c.handshake ≡ handshake.Streaming → frame_step c f ≡ step.Passive (passive_read (read_of f))
-streaming_step c f m streams = message_met c f m ∙ ap (λ h. message_step h f) streams
+noop_step : (c : PlainConsumer) (f : Frame) → IsMessage c.handshake f → Reads f msg.Noop → frame_step c f ≡ step.Noop f.opaque
+noop_step c f m r = message_met c f m ∙ ap (λ x. if is_noop x then step.Noop f.opaque else passive_step c.handshake x) r
+
+other_step : (c : PlainConsumer) (f : Frame) → IsMessage c.handshake f → is_noop (read_of f) ≡ false → frame_step c f ≡ passive_step c.handshake (read_of f)
+other_step c f m other = message_met c f m ∙ ap (λ b. if b then step.Noop f.opaque else passive_step c.handshake (read_of f)) other
+
+streaming_step : (c : PlainConsumer) (f : Frame) → IsMessage c.handshake f → is_noop (read_of f) ≡ false → c.handshake ≡ handshake.Streaming → frame_step c f ≡ step.Passive (passive_read (read_of f))
+streaming_step c f m other streams = other_step c f m other ∙ ap (λ h. passive_step h (read_of f)) streams
+
+no_noop : (read : Option (Result DcpMsg DcpFault)) → (read ≡ Some (Ok msg.Noop) → ⊥) → is_noop read ≡ false
+no_noop (Some (Ok msg.Noop)) never = absurd (never refl)
+no_noop other never = refl
+
+called_other : (m : DcpMsg) (call : VbCall) → call_of_message m ≡ Some call → is_noop (Some (Ok m)) ≡ false
+unfolding call_of_message
+called_other msg.Noop call e = cc
+called_other m call e = refl
 
 called_so : (m : DcpMsg) (call : VbCall) → call_of_message m ≡ Some call → passive_of m ≡ passive.Call call
 unfolding call_of_message
@@ -113,7 +128,7 @@ strange_read None never = refl
 strange_read (Some (Err fault)) never = refl
 strange_read (Some (Ok m)) never = strange_of m (never m refl)
 
-strange_at : (h : Handshake) (f : Frame) → (h ≡ handshake.Streaming → (m : DcpMsg) → Reads f m → IsOfStream m → ⊥) → message_step h f ≡ step.Passive passive.Protocol
+strange_at : (h : Handshake) (f : Frame) → (h ≡ handshake.Streaming → (m : DcpMsg) → Reads f m → IsOfStream m → ⊥) → passive_step h (read_of f) ≡ step.Passive passive.Protocol
 strange_at handshake.Streaming f never = ap step.Passive (strange_read (read_of f) (never refl))
 strange_at other f never = refl
 
@@ -131,13 +146,14 @@ comes_so c f (step.Over reason.Refused) p = awaited_step c f p.0 ∙ refused_at 
 comes_so c f (step.Over reason.Protocol) p = asking_step c f p.0 p.1 ∙ misread_by f p.2 p.3 (read_case f.vb_or_status (read_of f))
 comes_so c f (step.Over other) p = absurd p
 comes_so c f (step.Passive (passive.Call call)) p =
-    streaming_step c f p.0 p.1 ∙ ap (λ r. step.Passive (passive_read r)) p.2.1 ∙ ap step.Passive (called_so p.2.0 call p.2.2)
-comes_so c f (step.Passive (passive.End reason.Done)) p = streaming_step c f p.0 p.1 ∙ ap (λ r. step.Passive (passive_read r)) p.2
+    streaming_step c f p.0 (ap is_noop p.2.1 ∙ called_other p.2.0 call p.2.2) p.1 ∙ ap (λ r. step.Passive (passive_read r)) p.2.1 ∙ ap step.Passive (called_so p.2.0 call p.2.2)
+comes_so c f (step.Passive (passive.End reason.Done)) p = streaming_step c f p.0 (ap is_noop p.2) p.1 ∙ ap (λ r. step.Passive (passive_read r)) p.2
 comes_so c f (step.Passive (passive.End reason.State)) p =
-    streaming_step c f p.0 p.1 ∙ ap (λ r. step.Passive (passive_read r)) p.2.2
+    streaming_step c f p.0 (ap is_noop p.2.2) p.1 ∙ ap (λ r. step.Passive (passive_read r)) p.2.2
     ∙ ap (λ b. step.Passive (passive.End (if b then reason.Done else reason.State))) (ne_eqb p.2.0 0 p.2.1)
 comes_so c f (step.Passive (passive.End other)) p = absurd p
-comes_so c f (step.Passive passive.Protocol) p = message_met c f p.0 ∙ strange_at c.handshake f p.1
+comes_so c f (step.Passive passive.Protocol) p = other_step c f p.0 (no_noop (read_of f) p.1) ∙ strange_at c.handshake f p.2
+comes_so c f (step.Noop opaque) p = noop_step c f p.0 p.1 ∙ ap step.Noop p.2
 comes_so c f step.Dropped p = dropped_so c f p
 
 -- ---- and each frame comes to one of them
@@ -184,24 +200,35 @@ end_comes buffer n f why m r (inr more) = (step.Passive (passive.End reason.Stat
 same_read : (f : Frame) (m k : DcpMsg) → Reads f m → Reads f k → m ≡ k
 same_read f m k first second = cc
 
-call_comes : (buffer : ℕ) (n : ℕ) (f : Frame) (m : DcpMsg) → IsMessage handshake.Streaming f → Reads f m → (IsOfStream m → call_of_message m ≢ None) → (o : Option VbCall) → call_of_message m ≡ o
-    → Coming buffer handshake.Streaming n f
-call_comes buffer n f m is r makes (Some call) e = (step.Passive (passive.Call call), (is, refl, (m, r, e)))
-call_comes buffer n f m is r makes None e = (step.Passive passive.Protocol, (is, λ streams k read of. makes (subst IsOfStream (same_read f k m read r) of) e))
+module _ (buffer n : ℕ) (f : Frame) (never : Reads f msg.Noop → ⊥) where
+  call_comes : (m : DcpMsg) → IsMessage handshake.Streaming f → Reads f m → (IsOfStream m → call_of_message m ≢ None) → (o : Option VbCall) → call_of_message m ≡ o
+      → Coming buffer handshake.Streaming n f
+  call_comes m is r makes (Some call) e = (step.Passive (passive.Call call), (is, refl, (m, r, e)))
+  call_comes m is r makes None e = (step.Passive passive.Protocol, (is, never, λ streams k read of. makes (subst IsOfStream (same_read f k m read r) of) e))
 
-message_comes : (buffer : ℕ) (n : ℕ) (f : Frame) (m : DcpMsg) → IsMessage handshake.Streaming f → Reads f m → Coming buffer handshake.Streaming n f
-message_comes buffer n f (msg.StreamEnd why) is r = end_comes buffer n f why is r (eqb_tells why 0)
-message_comes buffer n f m is r = call_comes buffer n f m is r (λ makes. makes) (call_of_message m) refl
+  message_comes : (m : DcpMsg) → IsMessage handshake.Streaming f → Reads f m → Coming buffer handshake.Streaming n f
+  message_comes (msg.StreamEnd why) is r = end_comes buffer n f why is r (eqb_tells why 0)
+  message_comes m is r = call_comes m is r (λ makes. makes) (call_of_message m) refl
 
-read_comes : (buffer : ℕ) (n : ℕ) (f : Frame) → IsMessage handshake.Streaming f → (read : Option (Result DcpMsg DcpFault)) → read_of f ≡ read → Coming buffer handshake.Streaming n f
-read_comes buffer n f is (Some (Ok m)) r = message_comes buffer n f m is r
-read_comes buffer n f is None r = (step.Passive passive.Protocol, (is, λ streams m read of. cc))
-read_comes buffer n f is (Some (Err fault)) r = (step.Passive passive.Protocol, (is, λ streams m read of. cc))
+  read_comes : IsMessage handshake.Streaming f → (read : Option (Result DcpMsg DcpFault)) → read_of f ≡ read → Coming buffer handshake.Streaming n f
+  read_comes is (Some (Ok m)) r = message_comes m is r
+  read_comes is None r = (step.Passive passive.Protocol, (is, never, λ streams m read of. cc))
+  read_comes is (Some (Err fault)) r = (step.Passive passive.Protocol, (is, never, λ streams m read of. cc))
+
+  other_comes : (h : Handshake) → IsMessage h f → Coming buffer h n f
+  other_comes handshake.Streaming is = read_comes is (read_of f) refl
+  other_comes h is = (step.Passive passive.Protocol, (is, never, λ streams. cc))
+
+noop_or : (read : Option (Result DcpMsg DcpFault)) → (read ≡ Some (Ok msg.Noop)) ⊎ (read ≡ Some (Ok msg.Noop) → ⊥)
+noop_or (Some (Ok msg.Noop)) = inl refl
+noop_or other = inr (λ e. cc)
+
+live_comes : (buffer : ℕ) (h : Handshake) (n : ℕ) (f : Frame) → IsMessage h f → Coming buffer h n f
+live_comes buffer h n f is = ⊎_elim (λ r. (step.Noop f.opaque, (is, r, refl))) (λ never. other_comes buffer n f never h is) (noop_or (read_of f))
 
 sent_comes : (buffer : ℕ) (h : Handshake) (n : ℕ) (f : Frame) → f.magic ≢ 0x81 → Coming buffer h n f
-sent_comes buffer handshake.Streaming n f magic = read_comes buffer n f (magic, refl) (read_of f) refl
 sent_comes buffer (handshake.Over why) n f magic = (step.Dropped, inl (λ e. cc))
-sent_comes buffer h n f magic = (step.Passive passive.Protocol, ((magic, refl), λ streams. cc))
+sent_comes buffer h n f magic = live_comes buffer h n f (magic, refl)
 
 awaited_comes : (buffer : ℕ) (h : Handshake) (n : ℕ) (f : Frame) → f.magic ≡ 0x81 → (b : Bool) → is_awaited buffer h n f ≡ b → Coming buffer h n f
 awaited_comes buffer h n f magic true e = answer_comes buffer h n f (awaited_back buffer h n f magic e)

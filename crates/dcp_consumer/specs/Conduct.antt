@@ -80,7 +80,9 @@ Comes buffer h asked f (step.Passive (passive.End reason.Done)) = IsMessage h f 
 Comes buffer h asked f (step.Passive (passive.End reason.State)) =
     IsMessage h f × (h ≡ handshake.Streaming) × ((why : ℕ) × (why ≢ 0) × Reads f (msg.StreamEnd why))
 Comes buffer h asked f (step.Passive (passive.End other)) = ⊥
-Comes buffer h asked f (step.Passive passive.Protocol) = IsMessage h f × (h ≡ handshake.Streaming → (m : DcpMsg) → Reads f m → IsOfStream m → ⊥)
+Comes buffer h asked f (step.Passive passive.Protocol) =
+    IsMessage h f × (Reads f msg.Noop → ⊥) × (h ≡ handshake.Streaming → (m : DcpMsg) → Reads f m → IsOfStream m → ⊥)
+Comes buffer h asked f (step.Noop opaque) = IsMessage h f × Reads f msg.Noop × (f.opaque ≡ opaque)
 Comes buffer h asked f step.Dropped = (over_why h ≢ None) ⊎ ((f.magic ≡ 0x81) × (Awaits buffer h asked f → ⊥))
 
 -- OPEN is asked first, then the CONTROLs, and then the stream; the buffer is asked for exactly where it is not 0
@@ -102,13 +104,13 @@ Ends reason.State s = s ≡ step.Passive (passive.End reason.State)
 Ends reason.Disk s = ⊥
 
 -- For which frames a link ends, and why. A status but 0 refuses; 0x23, Rollback, does not refuse a stream. A log or a point that cannot be read, and a message that no stream has or before one is granted,
--- is none of the protocol's. The stream's end tells with 0 that all was sent, and with any other number that the producer's vBucket changed.
+-- is none of the protocol's, but that a NOOP may come at any time. The stream's end tells with 0 that all was sent, and with any other number that the producer's vBucket changed.
 abbrev pub EndsBy : EndReason → ℕ → Handshake → ℕ → Frame → Type 0
 EndsBy reason.Cut buffer h asked f = ⊥
 EndsBy reason.Refused buffer h asked f = IsAnswer buffer h asked f × (f.vb_or_status ≢ 0) × (h ≡ handshake.Asking → f.vb_or_status ≢ 0x23)
 EndsBy reason.Protocol buffer h asked f =
     ((h ≡ handshake.Asking) × IsAnswer buffer h asked f × ((f.vb_or_status ≡ 0) ⊎ (f.vb_or_status ≡ 0x23)) × ((t : StreamVerdict) → Reads f (msg.StreamAnswer t) → ⊥))
-    ⊎ ((f.magic ≢ 0x81) × (h ≡ handshake.Streaming → (m : DcpMsg) → Reads f m → IsOfStream m → ⊥))
+    ⊎ ((f.magic ≢ 0x81) × (Reads f msg.Noop → ⊥) × (h ≡ handshake.Streaming → (m : DcpMsg) → Reads f m → IsOfStream m → ⊥))
 EndsBy reason.Done buffer h asked f = (f.magic ≢ 0x81) × (h ≡ handshake.Streaming) × Reads f (msg.StreamEnd 0)
 EndsBy reason.State buffer h asked f = (f.magic ≢ 0x81) × (h ≡ handshake.Streaming) × ((why : ℕ) × (why ≢ 0) × Reads f (msg.StreamEnd why))
 EndsBy reason.Disk buffer h asked f = ⊥

@@ -4,3 +4,4 @@ pub mod Dialing
 pub mod Machine
 pub mod Conduct
 pub mod Counting
+pub mod Noops

@@ -99,10 +99,19 @@ answer_step other f = status_step f.vb_or_status
 abbrev pub response_step : ℕ → Handshake → ℕ → Frame → ConsumerStep
 response_step buffer h asked f = if is_awaited buffer h asked f then answer_step h f else step.Dropped
 
--- a message; there is none before the stream was granted
+-- a NOOP was read
+abbrev pub is_noop : Option (Result DcpMsg DcpFault) → Bool
+is_noop (Some (Ok msg.Noop)) = true
+is_noop other = false
+
+-- a message that is no NOOP, by what was read of it; there is none before the stream was granted
+abbrev pub passive_step : Handshake → Option (Result DcpMsg DcpFault) → ConsumerStep
+passive_step handshake.Streaming read = step.Passive (passive_read read)
+passive_step other read = step.Passive passive.Protocol
+
+-- a message; a NOOP is to be answered with its opaque, whatever is waited for
 abbrev pub message_step : Handshake → Frame → ConsumerStep
-message_step handshake.Streaming f = step.Passive (passive_read (read_of f))
-message_step other f = step.Passive passive.Protocol
+message_step h f = if is_noop (read_of f) then step.Noop f.opaque else passive_step h (read_of f)
 
 -- what a frame comes to; once the link is over, nothing is taken
 unfoldable pub frame_step : PlainConsumer → Frame → ConsumerStep

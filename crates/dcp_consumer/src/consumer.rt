@@ -1,19 +1,19 @@
 //! A consumer, a machine that makes no call.
 ghost use Rattle.std.specs.Prelude.{◌≡◌, ◌++◌, ◌+◌, ◌<◌, ◌^◌, false, true, IfOk, OnOk, OnErr};
 ghost use Rattle.{dcp_consumer.specs.Dialing.{requests}, dcp_consumer.specs.Machine.{dialed_consumer, ended_for, over_why, frame_step, consumer_step, granted, request_again, again, is_streaming, may_acknowledge, acknowledged}};
-ghost use Rattle.dcp_consumer.specs.Counting.{bytes_acknowledged};
+ghost use Rattle.dcp_consumer.specs.{Counting.{bytes_acknowledged}, Noops.{noop_answered}};
 
 use crate::answers::response_step;
-use crate::passive_stream::message;
+use crate::messages::message_step;
 use crate::requests::{send, stream_opaque, write_requests};
-use crate::{Alloc, ConsumerStep, Dialed, Handshake, Passive};
+use crate::{Alloc, ConsumerStep, Dialed, Handshake};
 use bytes::BytesMut;
 use mcbp_dcp::DcpMsg;
 use mcbp_frame::{Frame, RESPONSE};
 use std::alloc::{AllocError, Global};
 use std::marker::Model;
 use vb_events::EndReason;
-use vb_types::StreamAsk;
+use vb_types::{Status, StreamAsk};
 
 /// A consumer of a link. After want of memory it is spent: it takes no frame, and asks nothing.
 #[derive(Drop)]
@@ -76,7 +76,7 @@ impl Consumer {
         Ok(())
     }
 
-    /// What a frame comes to: nothing once the link is over, and no message before the grant.
+    /// What a frame comes to: nothing once the link is over.
     #[tactic(auto, unfolding(crate::specs::Machine::frame_step))]
     fn step_of(&self, frame: &Frame) -> Alloc<ConsumerStep>
         ensures { IfOk result (λ step. step ≡ frame_step self.now.plain frame.now) }
@@ -88,14 +88,11 @@ impl Consumer {
             let buffer = self.dialed.buffer;
             return response_step(self.alloc, buffer, self.handshake, self.asked, frame);
         }
-        match self.handshake {
-            Handshake::Streaming => Ok(ConsumerStep::Passive(message(self.alloc, frame)?)),
-            _ => Ok(ConsumerStep::Passive(Passive::Protocol)),
-        }
+        message_step(self.alloc, self.handshake, frame)
     }
 
     /// Takes a frame, and says what it comes to. One that asks for a log to be taken over, or for a
-    /// rollback, is followed by `granted` or `roll_done`, or by `end`.
+    /// rollback, is followed by `granted` or `roll_done`, or by `end`, and a NOOP by `answer_noop`.
     pub fn feed(&mut self, frame: &Frame) -> Alloc<ConsumerStep>
         ensures step { IfOk result (λ step. step ≡ (consumer_step self.old.plain frame.now).1) }
         ensures ok { OnOk result (self.new ≡ record self.old { plain = (consumer_step self.old.plain frame.now).0 }) }
@@ -189,6 +186,20 @@ impl Consumer {
         self.begin()?;
         let message = DcpMsg::BufferAcknowledgement { bytes };
         send(message, self.asked, 0, out)?;
+        self.spent = false;
+        Ok(())
+    }
+
+    /// Answers the NOOP with this opaque: appends Success, with the same opaque.
+    pub fn answer_noop(&mut self, opaque: u32, out: &mut BytesMut) -> Alloc<()>
+        ensures ok { OnOk result (self.new ≡ self.old) }
+        ensures answer { OnOk result (out.new.items ≡ out.old.items ++ noop_answered opaque) }
+        ensures whole { OnOk result (self.old.spent ≡ false) }
+        ensures err { OnErr result (self.new ≡ record self.old { spent = true }) }
+    {
+        self.begin()?;
+        let status = Status::Success.code();
+        send(DcpMsg::NoopAnswer { status }, opaque, 0, out)?;
         self.spent = false;
         Ok(())
     }

@@ -47,6 +47,8 @@ pub enum ConsumerStep {
     Roll(u64),
     /// A message of the stream, or one that no stream has.
     Passive(Passive),
+    /// A NOOP, which `answer_noop` answers with this opaque.
+    Noop(u32),
     /// An answer ended the link.
     Over(EndReason),
     /// Nothing waits for such an answer, or the link was over.

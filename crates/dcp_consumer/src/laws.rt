@@ -2,20 +2,21 @@
 ghost use Rattle.std.specs.Prelude.{◌≡◌, ◌≢◌, ◌↔◌, ◌⊎◌, ◌+◌, ◌++◌, ◌^◌, ◌<◌, ◌≤◌, ◌∷◌, ℕ, List, true, false, [], None, Some, IsTrue, IsFalse, length, map, min};
 ghost use Rattle.{std.specs.List.{All, concat}, mcbp_dcp.specs.DcpFrames.{dcp_frame}, mcbp_frame.specs.Spelling.{spelling}};
 ghost use Rattle.{dcp_consumer.specs.PassiveStreams.{passive_of}, dcp_consumer.specs.Receiving.{BytesCome, IsPrepared, IsRemoved, IsResolved, IsStored, IsUnfit, committed, durable_call, durable_doc, typed_bytes, typed_call}};
-ghost use Rattle.{dcp_consumer.specs.declared.passive_stream.Passive.TheVariants.{Call, End, Protocol as Strange}, mcbp_dcp.specs.DurableRows.{no_cas, no_times, prepare_bytes, resolution_bytes, some_value}};
+ghost use Rattle.{dcp_consumer.specs.declared.passive_stream.Passive.TheVariants.{Call, End, Protocol as Strange}, mcbp_dcp.specs.DurableRows.{no_cas, no_times, prepare_bytes, resolution_bytes, some_cas, some_value}};
 ghost use Rattle.mcbp_dcp.specs.declared.message.DcpMsg.{DcpMsg as MessageData};
 ghost use Rattle.{mcbp_dcp.specs.declared.message.Deletion.{Deletion as RemovalData}, mcbp_dcp.specs.declared.message.Mutation.{Mutation as PutData}};
 ghost use Rattle.{mcbp_dcp.specs.declared.message.Prepare.{Prepare as PreparedData}, mcbp_dcp.specs.declared.message.Resolution.{Resolution as ResolvedData}};
 ghost use Rattle.mcbp_dcp.specs.declared.message.DcpMsg.TheVariants as msg;
-ghost use Rattle.mcbp_dcp.specs.MessageRows.{deletion_bytes, end_bytes, four_bytes, marker_bytes, mutation_bytes, no_four};
+ghost use Rattle.mcbp_dcp.specs.MessageRows.{answer_head, bare_bytes, deletion_bytes, end_bytes, four_bytes, marker_bytes, mutation_bytes, no_four};
 ghost use Rattle.{vb_calls.specs.declared.calls.VbCall.TheVariants.{Marker, Receive}, vb_types.specs.Limits.{IsKey, IsValue}};
 ghost use Rattle.{vb_types.specs.declared.change.Act.TheVariants.{Abort, Prepare, Remove, Set}, vb_types.specs.declared.change.Change.{Change as ChangeData}};
 ghost use Rattle.vb_types.specs.declared.change.Level.TheVariants.{MajorityPersistActive, PersistMajority};
 ghost use Rattle.dcp_consumer.specs.Conduct.{Awaits, awaited, answer_numbers, Comes, IsNext, Ends, EndsBy, IsRequest, Acknowledges, IsAcknowledgement, HasAcknowledged, LeavesAcknowledged, acknowledgement_bytes};
 ghost use Rattle.dcp_consumer.specs.Counting.{is_counted, counted_bytes, bytes_acknowledged, Counts, CountsAsMessage, IsBufferAcknowledgement, buffer_acknowledgement_bytes};
+ghost use Rattle.dcp_consumer.specs.Noops.{noop_answered, IsNoop, IsNoopAnswer, BytesAreAnswered};
 ghost use Rattle.dcp_consumer.specs.Dialing.{member_name, first_requests, numbered, requests, ask_row, dialed_row, open_bytes, buffer_bytes, sync_bytes, name_bytes, request_bytes};
 ghost use Rattle.dcp_consumer.specs.Machine.{PlainConsumer, dialed_consumer, over_why, consumer_step, IsDue, granted, again, ended_for, is_streaming, may_acknowledge, acknowledged};
-ghost use Rattle.{dcp_consumer.specs.declared.handshake.ConsumerStep.{ConsumerStep as StepData}, dcp_consumer.specs.declared.handshake.ConsumerStep.TheVariants.{Dropped}};
+ghost use Rattle.{dcp_consumer.specs.declared.handshake.ConsumerStep.{ConsumerStep as StepData}, dcp_consumer.specs.declared.handshake.ConsumerStep.TheVariants.{Dropped, Noop, Passive}};
 ghost use Rattle.{dcp_consumer.specs.declared.handshake.Dialed.{Dialed as DialedData}, dcp_consumer.specs.declared.handshake.Handshake.{Handshake as HandshakeData}};
 ghost use Rattle.{dcp_consumer.specs.declared.handshake.Handshake.TheVariants.{Opening, Buffering, SyncWrites, Naming, Asking, Streaming, Over}, mcbp_frame.specs.declared.frame.Frame.{Frame as FrameData}};
 ghost use Rattle.{vb_events.specs.declared.event.EndReason.{EndReason as ReasonData}, vb_events.specs.declared.event.EndReason.TheVariants.{Done, Protocol, State}};
@@ -164,6 +165,20 @@ pub fn bytes_are_acknowledged()
     ensures once { (c : PlainConsumer) (n : ℕ) → bytes_acknowledged (min n 4294967295) c ≡ bytes_acknowledged n c }
     ensures bytes { (c : PlainConsumer) → c.asked ≡ 5 → bytes_acknowledged 0x11121314 c ≡ buffer_acknowledgement_bytes (0x11 ∷ 0x12 ∷ 0x13 ∷ 0x14 ∷ []) }
     ensures more { (c : PlainConsumer) → c.asked ≡ 5 → bytes_acknowledged 4294967296 c ≡ buffer_acknowledgement_bytes (0xff ∷ 0xff ∷ 0xff ∷ 0xff ∷ []) }
+{}
+
+/// A NOOP is a header alone. It is answered whatever is waited for, until the link is over: with
+/// Success and its opaque, once, and nothing of the consumer changes; its bytes do not count. What
+/// has its opcode and is more than a header ends the link. Datatype, vBucket and CAS are not read.
+pub fn noops_are_answered()
+    ensures answered { (c : PlainConsumer) (f : FrameData) → over_why c.handshake ≡ None → IsNoop f → consumer_step c f ≡ (c, Noop f.opaque) }
+    ensures only { (c : PlainConsumer) (f : FrameData) (opaque : ℕ) → (consumer_step c f).1 ≡ Noop opaque → (over_why c.handshake ≡ None) × IsNoop f × (f.opaque ≡ opaque) }
+    ensures strange { (c : PlainConsumer) (f : FrameData) → over_why c.handshake ≡ None → f.magic ≢ 0x81 → f.opcode ≡ 0x5c → (IsNoop f → ⊥)
+        → consumer_step c f ≡ (ended_for Protocol c, Passive Strange) }
+    ensures uncounted { (f : FrameData) → IsNoop f → counted_bytes (f ∷ []) ≡ 0 }
+    ensures written { (opaque : ℕ) → IsNoopAnswer opaque (noop_answered opaque) }
+    ensures bytes { BytesAreAnswered (bare_bytes 0x5c 0 no_cas) (answer_head 0x5c 0x00 0x00 0x00) }
+    ensures heads { BytesAreAnswered (bare_bytes 0x5c 1 some_cas) (answer_head 0x5c 0x00 0x00 0x00) }
 {}
 
 /// Under which name a node acknowledges: an `n` and its number, with no zero in front.

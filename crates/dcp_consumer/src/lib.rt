@@ -7,6 +7,7 @@ mod consumer;
 mod counting;
 mod handshake;
 mod laws;
+mod messages;
 mod passive_stream;
 mod requests;
 
@@ -17,7 +18,7 @@ pub use laws::{
     acknowledgements_rise, answers_are_awaited, asks_again_once_back, bytes_are_acknowledged,
     bytes_are_counted, changes_are_taken, changes_from_bytes, dials_in_bytes,
     durable_writes_are_taken, durable_writes_from_bytes, frames_come_to_steps, handshakes_move_on,
-    links_end, names_in_letters, reasons_are_told, requests_are_answered,
+    links_end, names_in_letters, noops_are_answered, reasons_are_told, requests_are_answered,
 };
 pub use passive_stream::Passive;
 

@@ -1,14 +1,13 @@
 //! What a stream's messages ask of the vBucket that follows.
 ghost use Rattle.std.specs.Prelude.{◌≡◌, IfOk};
 ghost use Rattle.{std.specs.Option.{option_map}, dcp_consumer.specs.PassiveStreams.{set_change, remove_change, flag_of, prepare_change, no_doc, commit_act, resolved_change, end_reason, called, passive_of, passive_read}};
-ghost use Rattle.{vb_types.specs.Levels.{level_of}, mcbp_dcp.specs.Messages.{read_of}};
+ghost use Rattle.vb_types.specs.Levels.{level_of};
 ghost use Rattle.vb_types.specs.Limits.{key_of, value_of};
 ghost use Rattle.vb_calls.specs.declared.calls.VbCall.TheVariants as the_call;
 
 use crate::Alloc;
 use bytes::Bytes;
-use mcbp_dcp::{DcpFault, DcpMsg, Deletion, Mutation, Prepare, Resolution, read_dcp};
-use mcbp_frame::Frame;
+use mcbp_dcp::{DcpFault, DcpMsg, Deletion, Mutation, Prepare, Resolution};
 use std::alloc::Global;
 use vb_calls::VbCall;
 use vb_events::EndReason;
@@ -198,21 +197,11 @@ fn passive_of(alloc: Global, m: &DcpMsg) -> Alloc<Passive>
 }
 
 /// What was read of a frame comes to.
-fn passive_read(alloc: Global, read: Option<Result<DcpMsg, DcpFault>>) -> Alloc<Passive>
-    ensures { IfOk result (λ passive. passive ≡ passive_read read) }
+pub fn passive_read(alloc: Global, read: &Option<Result<DcpMsg, DcpFault>>) -> Alloc<Passive>
+    ensures { IfOk result (λ passive. passive ≡ passive_read read.now) }
 {
-    let passive = match &read {
+    match read {
         Some(Ok(m)) => passive_of(alloc, m),
         _ => Ok(Passive::Protocol),
-    };
-    drop(read);
-    passive
-}
-
-/// What the message of a frame comes to.
-pub fn message(alloc: Global, frame: &Frame) -> Alloc<Passive>
-    ensures { IfOk result (λ passive. passive ≡ passive_read (read_of frame.now)) }
-{
-    let read = read_dcp(alloc, frame)?;
-    passive_read(alloc, read)
+    }
 }
