@@ -1,8 +1,7 @@
 -- how acknowledgements are weighed and counted
-use Rattle.std.proofs.Common.{◌≡◌, ◌<◌, ◌≤◌, ℕ, Bool, true, false, List, [], ◌∷◌, refl, sym, ap, ◌∙◌, subst, ◌⊎◌, inl, inr, arith, Option, Some, None, Ok, Err}
-use Rattle.std.proofs.lemmas.Bool.{and_parts, false_from_ne_true, eqb-true}
+use Rattle.std.proofs.Common.{◌≡◌, ◌<◌, ◌≤◌, ℕ, Bool, true, false, List, [], ◌∷◌, refl, sym, ap, ◌∙◌, subst, inl, inr, arith, Option, Some, None, Ok, Err}
 use Rattle.std.proofs.lemmas.Bool.Decides.{nat_tests}
-use Rattle.std.specs.Prelude.{if◌then◌else◌, ◌==◌, ◌&&◌, not, nat_lt}
+use Rattle.std.specs.Prelude.{if◌then◌else◌, nat_lt}
 use Rattle.mcbp_frame.specs.declared.frame.Frame.{Frame}
 use Rattle.mcbp_dcp.specs.declared.message.DcpMsg.TheVariants as msg
 use Rattle.vb_types.specs.declared.status.Status.{Status}
@@ -16,38 +15,43 @@ use Rattle.dcp_producer.specs.declared.desk.Handshake.{Handshake}
 use Rattle.dcp_producer.specs.declared.desk.Handshake.TheVariants as handshake
 use Rattle.dcp_producer.specs.declared.desk.Named.{Named}
 use Rattle.dcp_producer.specs.declared.desk.Named.TheVariants as named
-use Rattle.dcp_producer.specs.Producers.{PlainStream, Served, member_named, member_of}
-use Rattle.dcp_producer.specs.Serving.{stream_of, weighed, counted_with, counted_by, count_answered, count_requested, acknowledged, message_answered}
+use Rattle.dcp_producer.specs.Producers.{PlainStream, Served, is_open, member_named, member_of, stream_at}
+use Rattle.dcp_producer.specs.Serving.{status_sent, fed_stream, weighed, counted_with, counted_by, count_answered, count_requested, acknowledged, message_answered}
 use Rattle.dcp_producer.specs.Handshaking.{Gets}
+use Rattle.dcp_producer.specs.Having.{IsOpened}
 use Rattle.dcp_producer.specs.Counting.{IsUnfed, IsFed, IsNoMember, IsMember, IsCounted, CountsAs, OneCount, IsCountable}
+use Rattle.dcp_producer.proofs.Finding.{none_at, found_at, found_back}
 use Rattle.dcp_producer.proofs.Weighing.{same_gets}
+use Rattle.dcp_producer.proofs.Closing.{early, fresh_so, open_so}
 
--- a stream that does not feed the vBucket counts as none
-module _ (v : ℕ) (stream : PlainStream) where
-  taken_out : (a : Bool) → (if a && false then Some stream else None) ≡ None
-  taken_out true = refl
-  taken_out false = refl
+-- a stream that a change of role ended counts as none
+not_fed : (stream : PlainStream) → stream.ended ≡ true → fed_stream (Some stream) ≡ None
+not_fed stream ended = ap (λ b. if b then None else Some stream) ended
 
-  unfed_stream : (stream.vb ≡ v → ⊥) ⊎ (stream.ended ≡ true) → stream_of v (Some stream) ≡ None
-  unfed_stream (inl other) = ap (λ b. if b && not stream.ended then Some stream else None) (false_from_ne_true (stream.vb == v) (λ t. other (eqb-true stream.vb v t)))
-  unfed_stream (inr ended) = ap (λ b. if stream.vb == v && not b then Some stream else None) ended ∙ taken_out (stream.vb == v)
+no_stream : (v : ℕ) (s : Served) → IsUnfed v s → fed_stream (stream_at v s.end.streams) ≡ None
+no_stream v s (inl none) = ap fed_stream (none_at v s.end.streams none)
+no_stream v s (inr (stream, there, ended)) = ap fed_stream (found_at v stream s.end.streams there) ∙ not_fed stream ended
 
-  fed_stream : stream.vb ≡ v → stream.ended ≡ false → stream_of v (Some stream) ≡ Some stream
-  fed_stream here alive =
-      let e : (stream.vb == v) ≡ true = grind (arith, nat_tests) in
-      ap (λ b. if stream.vb == v && not b then Some stream else None) alive ∙ ap (λ b. if b && true then Some stream else None) e
-
-no_stream : (v : ℕ) (s : Served) → IsUnfed v s → stream_of v s.end.stream ≡ None
-no_stream v s (inl none) = ap (stream_of v) none
-no_stream v s (inr (stream, there, why)) = ap (stream_of v) there ∙ unfed_stream v stream why
-
-its_stream : (v : ℕ) (stream : PlainStream) (s : Served) → IsFed v stream s → stream_of v s.end.stream ≡ Some stream
-its_stream v stream s (there, here, alive) = ap (stream_of v) there ∙ fed_stream v stream here alive
+its_stream : (v : ℕ) (stream : PlainStream) (s : Served) → IsFed v stream s → fed_stream (stream_at v s.end.streams) ≡ Some stream
+its_stream v stream s (there, alive) = ap fed_stream (found_at v stream s.end.streams there) ∙ ap (λ b. if b then None else Some stream) alive
 
 no_member : (h : Handshake) → IsNoMember h → member_of h ≡ None
-no_member h (inl fresh) = ap member_of fresh
-no_member h (inr (sync, inl nobody)) = ap member_of nobody
-no_member h (inr (sync, inr stranger)) = ap member_of stranger
+no_member h (sync, inl nobody) = ap member_of nobody
+no_member h (sync, inr stranger) = ap member_of stranger
+
+-- who gave a name, or none, did so behind OPEN
+not_fresh : (sync : Bool) (name : Named) → handshake.Open sync name ≡ handshake.Fresh → ⊥
+not_fresh sync name is = absurd (cc is)
+
+said_open : (h : Handshake) (sync : Bool) (name : Named) → h ≡ handshake.Open sync name → h ≡ handshake.Fresh → ⊥
+said_open h sync name is fresh = not_fresh sync name (sym is ∙ fresh)
+
+stranger_open : (h : Handshake) → IsNoMember h → h ≡ handshake.Fresh → ⊥
+stranger_open h (sync, inl nobody) = said_open h sync named.Nobody nobody
+stranger_open h (sync, inr stranger) = said_open h sync named.Stranger stranger
+
+member_open : (member : ℕ) (h : Handshake) → IsMember member h → h ≡ handshake.Fresh → ⊥
+member_open member h (sync, is) = said_open h sync (named.Member member) is
 
 its_member : (member : ℕ) (h : Handshake) → IsMember member h → member_of h ≡ Some member
 its_member member h (sync, is) = ap member_of is
@@ -74,24 +78,36 @@ one_call f member seq s (m ∷ []) s' (at, asked, is) =
 one_call f member seq s (m ∷ n ∷ made) s' (at, asked, more) = absurd more
 
 module _ (f : Frame) (seq : ℕ) (s : Served) where
-  -- an acknowledgement is what it is weighed as
-  weighed_as : (o : Option PlainStream) (m : Option ℕ) → stream_of f.vb_or_status s.end.stream ≡ o → member_of s.end.handshake ≡ m → acknowledged f seq s ≡ count_requested f seq s (weighed seq o m)
+  -- an acknowledgement on an open connection is what it is weighed as
+  weighed_as : IsOpened s → (o : Option PlainStream) (m : Option ℕ) → fed_stream (stream_at f.vb_or_status s.end.streams) ≡ o → member_of s.end.handshake ≡ m
+      → acknowledged f seq s ≡ count_requested f seq s (weighed seq o m)
   unfolding acknowledged
-  weighed_as o m stream member = λ i. count_requested f seq s (weighed seq (stream i) (member i))
+  weighed_as opened o m stream member =
+      open_so f s (count_requested f seq s (weighed seq (fed_stream (stream_at f.vb_or_status s.end.streams)) (member_of s.end.handshake))) opened
+      ∙ (λ i. count_requested f seq s (weighed seq (stream i) (member i)))
 
-  pub unfed_first : IsUnfed f.vb_or_status s → Gets 0x83 s.end.handshake f s (message_answered f (msg.SeqnoAcknowledged seq) s)
-  unfed_first unfed =
-      same_gets f status.NotSupported s (acknowledged f seq s) (weighed_as None (member_of s.end.handshake) (no_stream f.vb_or_status s unfed) refl)
+  pub early_count : s.end.handshake ≡ handshake.Fresh → acknowledged f seq s ≡ Done (status_sent f status.Einval s)
+  unfolding acknowledged
+  early_count fresh = fresh_so f s (count_requested f seq s (weighed seq (fed_stream (stream_at f.vb_or_status s.end.streams)) (member_of s.end.handshake))) fresh
+
+  pub counted_early : s.end.handshake ≡ handshake.Fresh → Gets 4 handshake.Fresh f s (message_answered f (msg.SeqnoAcknowledged seq) s)
+  unfolding acknowledged
+  counted_early fresh = early f s (count_requested f seq s (weighed seq (fed_stream (stream_at f.vb_or_status s.end.streams)) (member_of s.end.handshake))) fresh
+
+  pub unfed_first : IsOpened s → IsUnfed f.vb_or_status s → Gets 0x83 s.end.handshake f s (message_answered f (msg.SeqnoAcknowledged seq) s)
+  unfed_first opened unfed =
+      same_gets f status.NotSupported s (acknowledged f seq s) (weighed_as opened None (member_of s.end.handshake) (no_stream f.vb_or_status s unfed) refl)
 
   module _ (stream : PlainStream) (fed : IsFed f.vb_or_status stream s) where
     pub stranger_next : IsNoMember s.end.handshake → Gets 4 s.end.handshake f s (message_answered f (msg.SeqnoAcknowledged seq) s)
     stranger_next other =
-        same_gets f status.Einval s (acknowledged f seq s) (weighed_as (Some stream) None (its_stream f.vb_or_status stream s fed) (no_member s.end.handshake other))
+        same_gets f status.Einval s (acknowledged f seq s)
+        (weighed_as (stranger_open s.end.handshake other) (Some stream) None (its_stream f.vb_or_status stream s fed) (no_member s.end.handshake other))
 
     module _ (member : ℕ) (named : IsMember member s.end.handshake) where
       its_weight : (b : Bool) → nat_lt stream.reached seq ≡ b → acknowledged f seq s ≡ count_requested f seq s (if b then Err status.Erange else Ok member)
       its_weight b is =
-          weighed_as (Some stream) (Some member) (its_stream f.vb_or_status stream s fed) (its_member member s.end.handshake named)
+          weighed_as (member_open member s.end.handshake named) (Some stream) (Some member) (its_stream f.vb_or_status stream s fed) (its_member member s.end.handshake named)
           ∙ ap (λ t. count_requested f seq s (if t then Err status.Erange else Ok member)) is
 
       pub above_then : stream.reached < seq → Gets 0x22 s.end.handshake f s (message_answered f (msg.SeqnoAcknowledged seq) s)
@@ -103,21 +119,16 @@ module _ (f : Frame) (seq : ℕ) (s : Served) where
           one_call f member seq s made s' (subst (λ p. Told p made s') (its_weight false e) told)
 
 -- where a stream feeds the vBucket, it is the connection's
-kept : (b : Bool) (t stream : PlainStream) → (if b then Some t else None) ≡ Some stream → (b ≡ true) × (t ≡ stream)
-kept true t stream is = (refl, cc is)
-kept false t stream is = absurd (cc is)
-
-alive : (b : Bool) → not b ≡ true → b ≡ false
-alive true is = absurd (cc is)
-alive false is = refl
+kept : (b : Bool) (t stream : PlainStream) → (if b then None else Some t) ≡ Some stream → (b ≡ false) × (t ≡ stream)
+kept true t stream is = absurd (cc is)
+kept false t stream is = (refl, cc is)
 
 module _ (v : ℕ) (stream : PlainStream) (s : Served) where
-  fed_back : (o : Option PlainStream) → s.end.stream ≡ o → stream_of v o ≡ Some stream → IsFed v stream s
+  fed_back : (o : Option PlainStream) → stream_at v s.end.streams ≡ o → fed_stream o ≡ Some stream → IsFed v stream s
   fed_back None there is = absurd (cc is)
   fed_back (Some t) there is =
-      let (test, same) = kept (t.vb == v && not t.ended) t stream is in
-      let (here, on) = and_parts (t.vb == v) (not t.ended) test in
-      (there ∙ ap Some same, sym (ap (λ (x : PlainStream). x.vb) same) ∙ eqb-true t.vb v here, sym (ap (λ (x : PlainStream). x.ended) same) ∙ alive t.ended on)
+      let (on, same) = kept t.ended t stream is in
+      (found_back v stream s.end.streams (there ∙ ap Some same), sym (ap (λ (x : PlainStream). x.ended) same) ∙ on)
 
 -- where a name is a member's, it is this member's
 name_back : (sync : Bool) (name : Named) (member : ℕ) → member_named name ≡ Some member → IsMember member (handshake.Open sync name)
@@ -135,18 +146,22 @@ module _ (f : Frame) (seq : ℕ) (s s' : Served) (first : Made) (more : List Mad
   asked_only stream member true is told = absurd told
   asked_only stream member false is told = grind (arith, nat_tests)
 
-  weighed_only : (o : Option PlainStream) (m : Option ℕ) → stream_of f.vb_or_status s.end.stream ≡ o → member_of s.end.handshake ≡ m
+  weighed_only : (o : Option PlainStream) (m : Option ℕ) → fed_stream (stream_at f.vb_or_status s.end.streams) ≡ o → member_of s.end.handshake ≡ m
       → Told (count_requested f seq s (weighed seq o m)) (first ∷ more) s' → IsCountable f seq s
   weighed_only None m fed is told = absurd told
   weighed_only (Some stream) None fed is told = absurd told
   weighed_only (Some stream) (Some member) fed is told = record {
     stream = stream;
-    fed = fed_back f.vb_or_status stream s s.end.stream refl fed;
+    fed = fed_back f.vb_or_status stream s (stream_at f.vb_or_status s.end.streams) refl fed;
     member = member;
     named = member_back s.end.handshake member is;
     within = asked_only stream member (nat_lt stream.reached seq) refl told;
   }
 
+  by_open : (b : Bool) → Told (if b then count_requested f seq s (weighed seq (fed_stream (stream_at f.vb_or_status s.end.streams)) (member_of s.end.handshake)) else Done (status_sent f status.Einval s)) (first ∷ more) s' → IsCountable f seq s
+  by_open true told = weighed_only (fed_stream (stream_at f.vb_or_status s.end.streams)) (member_of s.end.handshake) refl refl told
+  by_open false told = absurd told
+
   pub counted_only : Told (message_answered f (msg.SeqnoAcknowledged seq) s) (first ∷ more) s' → IsCountable f seq s
   unfolding acknowledged
-  counted_only told = weighed_only (stream_of f.vb_or_status s.end.stream) (member_of s.end.handshake) refl refl told
+  counted_only told = by_open (is_open s.end.handshake) told

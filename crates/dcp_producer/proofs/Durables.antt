@@ -1,5 +1,5 @@
 -- what is put of changes, and of durable writes
-use Rattle.std.proofs.Common.{◌≡◌, ℕ, Bool, true, false, List, [], ◌∷◌, ◌++◌, Some, refl, ap, ◌∙◌}
+use Rattle.std.proofs.Common.{◌≡◌, ℕ, Bool, true, false, List, [], ◌∷◌, ◌++◌, refl, ap, ◌∙◌}
 use Rattle.mcbp_frame.specs.Spelling.{spelling}
 use Rattle.mcbp_dcp.specs.declared.message.DcpMsg.{DcpMsg}
 use Rattle.mcbp_dcp.specs.declared.message.DcpMsg.TheVariants as msg
@@ -12,42 +12,53 @@ use Rattle.vb_types.specs.declared.change.Level.TheVariants as level
 use Rattle.vb_types.specs.declared.doc.Doc.{Doc}
 use Rattle.vb_events.specs.declared.event.Event.TheVariants as event
 use Rattle.vb_types.specs.declared.stream.Snapshot.{Snapshot}
-use Rattle.vb_calls.specs.Programs.{Done}
+use Rattle.vb_calls.specs.Programs.{Done, Stop, bind}
 use Rattle.mcbp_dcp.specs.MessageRows.{deletion_bytes, end_bytes, marker_bytes, mutation_bytes, no_four}
-use Rattle.dcp_producer.specs.Producers.{PlainStream, Served}
-use Rattle.dcp_producer.specs.Pulling.{STATE_CHANGED, act_message, act_sent, end_put, item_line, item_put, marker_flags, marker_put, past_item, put}
-use Rattle.dcp_producer.specs.Conduct.{EndsBytes, MarksBytes, Puts, PutsDurables, PutsPlain, PutsBytes, durable_row, durable_doc}
+use Rattle.dcp_producer.specs.Producers.{Served}
+use Rattle.dcp_producer.specs.Frames.{act_message, act_sent, item_line, marker_flags, next_by, next_frame, past_item}
+use Rattle.dcp_producer.specs.Pulling.{came, frame_put, stream_asked, stream_went, pull_of}
+use Rattle.dcp_producer.specs.Items.{Asking, IsNext, EndsBytes, MarksBytes, Puts, PutsDurables, PutsPlain, PutsBytes, durable_row, durable_doc}
 
-module _ (s : Served) (stream : PlainStream) (c : Change) where
+module _ (a : Asking) (c : Change) (next : IsNext a.stream c) where
+  -- the stream behind its item, with this message
+  item_served : DcpMsg → Served
+  item_served m = frame_put (dcp_frame m a.stream.opaque a.stream.vb) (item_line a.served.end.desk.stream c) (stream_went (past_item c.seq a.stream) a.served)
+
+  item_turn : stream_asked a.served a.quiet a.stream ≡ Done (Stop (pull_of (item_served (act_message c c.act)) a.quiet))
+  unfolding next_frame item_served
+  item_turn = ap (λ o. bind (next_by a.served.end.desk.stream a.stream o) (λ n. Done (came a.served a.quiet n))) next
+
   -- an item with this act and this message is put
-  puts : (a : Act) (m : DcpMsg) → c.act ≡ a → act_message c a ≡ Some m → Puts s stream c (act_sent a) m
-  puts a m is said = record {
-    then = put s (past_item c.seq stream) m (item_line s.end.desk c);
-    goes_on = ap (λ o. Done (item_put s stream c o)) (ap (act_message c) is ∙ said);
-    line = ap (λ sent. s.events ++ event.Item s.end.desk.stream c.seq sent c.key ∷ []) (ap act_sent is);
+  puts : (x : Act) (m : DcpMsg) → c.act ≡ x → act_message c x ≡ m → Puts a c (act_sent x) m
+  unfolding item_served
+  puts x m is said = record {
+    then = item_served m;
+    goes_on = item_turn ∙ ap (λ o. Done (Stop (pull_of (item_served o) a.quiet))) (ap (act_message c) is ∙ said);
+    line = ap (λ sent. a.served.events ++ event.Item a.served.end.desk.stream c.seq sent c.key ∷ []) (ap act_sent is);
     frame = refl;
   }
 
-pub durables : (s : Served) (stream : PlainStream) (c : Change) → PutsDurables s stream c
-durables s stream c = record {
-  prepare = λ level doc is. puts s stream c (act.Prepare level doc false) _ is refl;
-  removal = λ level doc is. puts s stream c (act.Prepare level doc true) _ is refl;
-  commit = λ prepared doc deleted is. puts s stream c (act.Commit prepared doc deleted) _ is refl;
-  abort = λ prepared is. puts s stream c (act.Abort prepared) _ is refl;
-}
+  pub durables : PutsDurables a c
+  durables = record {
+    prepare = λ level doc is. puts (act.Prepare level doc false) _ is refl;
+    removal = λ level doc is. puts (act.Prepare level doc true) _ is refl;
+    commit = λ prepared doc deleted is. puts (act.Commit prepared doc deleted) _ is refl;
+    abort = λ prepared is. puts (act.Abort prepared) _ is refl;
+  }
 
-pub plain_ones : (s : Served) (stream : PlainStream) (c : Change) → PutsPlain s stream c
-plain_ones s stream c = record {
-  stored = λ doc is. puts s stream c (act.Set doc) _ is refl;
-  removed = λ cas rev is. puts s stream c (act.Remove cas rev) _ is refl;
-}
+  pub plain_ones : PutsPlain a c
+  plain_ones = record {
+    stored = λ doc is. puts (act.Set doc) _ is refl;
+    removed = λ cas rev is. puts (act.Remove cas rev) _ is refl;
+  }
 
 -- the bytes of the message are put
-bytes_put : (c : Change) (m : DcpMsg) (bytes : List ℕ) → act_message c c.act ≡ Some m → spelling (dcp_frame m 0x0a0b0c0d 0x0102) ≡ bytes → PutsBytes c bytes
-bytes_put c m bytes said spelled s stream opaque vb = (
-  put s (past_item c.seq stream) m (item_line s.end.desk c),
-  ap (λ o. Done (item_put s stream c o)) said,
-  (λ i. s.out ++ spelling (dcp_frame m (opaque i) (vb i))) ∙ ap (λ b. s.out ++ b) spelled,
+bytes_put : (c : Change) (m : DcpMsg) (bytes : List ℕ) → act_message c c.act ≡ m → spelling (dcp_frame m 0x0a0b0c0d 0x0102) ≡ bytes → PutsBytes c bytes
+unfolding item_served
+bytes_put c m bytes said spelled a next opaque vb = (
+  item_served a c next m,
+  item_turn a c next ∙ ap (λ o. Done (Stop (pull_of (item_served a c next o) a.quiet))) said,
+  (λ i. a.served.out ++ spelling (dcp_frame m (opaque i) (vb i))) ∙ ap (λ b. a.served.out ++ b) spelled,
 )
 
 pub prepare_bytes_put : PutsBytes (durable_row 0x1112131415161718 (act.Prepare level.MajorityPersistActive (durable_doc some_value) false)) (prepare_bytes 0x27 no_times 0 2 some_value)
@@ -77,9 +88,11 @@ remove_bytes_put = bytes_put (durable_row 0x1112131415161718 (act.Remove 0x31323
 -- the bytes of a marker's message, and of an end's
 marked : (snapshot : Snapshot) (bytes : List ℕ) → spelling (dcp_frame (msg.SnapshotMarker snapshot.start snapshot.end (marker_flags snapshot.disk)) 0x0a0b0c0d 0x0102) ≡ bytes
     → MarksBytes snapshot bytes
-unfolding marker_put
-marked snapshot bytes spelled s stream opaque vb =
-    (λ i. s.out ++ spelling (dcp_frame (msg.SnapshotMarker snapshot.start snapshot.end (marker_flags snapshot.disk)) (opaque i) (vb i))) ∙ ap (λ b. s.out ++ b) spelled
+marked snapshot bytes spelled a opaque vb = (
+  _,
+  refl,
+  (λ i. a.served.out ++ spelling (dcp_frame (msg.SnapshotMarker snapshot.start snapshot.end (marker_flags snapshot.disk)) (opaque i) (vb i))) ∙ ap (λ b. a.served.out ++ b) spelled,
+)
 
 pub memory_bytes_put : (items : List Change)
     → MarksBytes (record { start = 0x1112131415161718; end = 0x2122232425262728; disk = false; items = items }) (marker_bytes (0x00 ∷ 0x00 ∷ 0x00 ∷ 0x01 ∷ []))
@@ -91,6 +104,17 @@ pub disk_bytes_put : (items : List Change)
 unfolding spelling dcp_frame
 disk_bytes_put items = marked (record { start = 0x1112131415161718; end = 0x2122232425262728; disk = true; items = items }) _ refl
 
-pub over_bytes_put : EndsBytes (end_bytes (0x00 ∷ 0x00 ∷ 0x00 ∷ 0x02 ∷ []))
-unfolding spelling dcp_frame end_put
-over_bytes_put s stream opaque vb = λ i. s.out ++ spelling (dcp_frame (msg.StreamEnd STATE_CHANGED) (opaque i) (vb i))
+ended : (reason : ℕ) (bytes : List ℕ) → spelling (dcp_frame (msg.StreamEnd reason) 0x0a0b0c0d 0x0102) ≡ bytes → EndsBytes reason bytes
+ended reason bytes spelled a opaque vb = (
+  _,
+  refl,
+  (λ i. a.served.out ++ spelling (dcp_frame (msg.StreamEnd reason) (opaque i) (vb i))) ∙ ap (λ b. a.served.out ++ b) spelled,
+)
+
+pub over_bytes_put : EndsBytes 2 (end_bytes (0x00 ∷ 0x00 ∷ 0x00 ∷ 0x02 ∷ []))
+unfolding spelling dcp_frame
+over_bytes_put = ended 2 _ refl
+
+pub sent_bytes_put : EndsBytes 0 (end_bytes (0x00 ∷ 0x00 ∷ 0x00 ∷ 0x00 ∷ []))
+unfolding spelling dcp_frame
+sent_bytes_put = ended 0 _ refl

@@ -17,10 +17,10 @@ use Rattle.dcp_producer.specs.declared.desk.Handshake.TheVariants as handshake
 use Rattle.dcp_producer.specs.declared.desk.Named.{Named}
 use Rattle.dcp_producer.specs.declared.desk.Named.TheVariants as named
 use Rattle.dcp_producer.specs.Producers.{Served}
-use Rattle.dcp_producer.specs.Serving.{status_frame, status_sent, with_handshake, set_answered, opened, open_refusal, opened_unless, is_name, named_by, set_by, controlled, controlled_as, sized, sized_as, with_window_size, control_answered, message_answered}
+use Rattle.dcp_producer.specs.Serving.{status_frame, status_sent, with_handshake, set_answered, opened, open_refusal, opened_unless, is_name, named_by, as_before, flag_of, set_by, controlled, controlled_as, sized, sized_as, with_window_size, control_answered, message_answered}
 use Rattle.dcp_producer.specs.Sizes.{size_of}
-use Rattle.dcp_producer.specs.Conduct.{IsOpened}
-use Rattle.dcp_producer.specs.Handshaking.{Gets, Sizes, IsName, IsKnown}
+use Rattle.dcp_producer.specs.Having.{IsOpened}
+use Rattle.dcp_producer.specs.Handshaking.{Gets, Sizes, IsName, IsFlag, IsKnown, IsSize}
 use Rattle.dcp_producer.proofs.Decimals.{sizes}
 
 -- OPEN and CONTROL are answered by what they set
@@ -82,17 +82,6 @@ module _ (f : Frame) (number : ℕ) (name : List ℕ) (s : Served) where
       gets_so 0 (handshake.Open false named.Nobody) f s (opened_unless (open_refusal s.end.handshake 1) f s) (status_sent f status.Success (with_handshake s (handshake.Open false named.Nobody)))
       (ap (λ h. opened_unless (open_refusal h 1) f s) fresh) (gets_set f status.Success s (handshake.Open false named.Nobody))
 
--- CONTROL of a key and value that are not known
-set_none : (sync : Bool) (name to : Named) (a b c d e : Bool) → (a ≡ true → c ≡ true → ⊥) → (a ≡ true → d ≡ true → ⊥) → (b ≡ true → e ≡ true → ⊥)
-    → (if a then option_map (λ flag. handshake.Open flag name) (if c then Some true else if d then Some false else None)
-    else if b then (if e then Some (handshake.Open sync to) else None) else None) ≡ None
-set_none sync name to true b true d e no_on no_off no_name = absurd (no_on refl refl)
-set_none sync name to true b false true e no_on no_off no_name = absurd (no_off refl refl)
-set_none sync name to true b false false e no_on no_off no_name = refl
-set_none sync name to false true c d true no_on no_off no_name = absurd (no_name refl refl)
-set_none sync name to false true c d false no_on no_off no_name = refl
-set_none sync name to false false c d e no_on no_off no_name = refl
-
 -- equal bytes
 same_bytes : (xs ys : List ℕ) → bytes_eq xs ys ≡ true → xs ≡ ys
 same_bytes xs ys is = (bytes_eq-Decides xs ys).0 is
@@ -100,12 +89,38 @@ same_bytes xs ys is = (bytes_eq-Decides xs ys).0 is
 is_named : (value : List ℕ) → is_name value ≡ true → IsName value
 is_named value is = let (some, few) = and_parts (nat_le 1 (length value)) (nat_le (length value) 250) is in (grind (arith, nat_tests), grind (arith, nat_tests))
 
-set_unknown : (sync : Bool) (name : Named) (key value : List ℕ) → (IsKnown key value → ⊥) → set_by sync name key value ≡ None
-set_unknown sync name key value unknown =
-    set_none sync name (named_by value) (bytes_eq key (codes "enable_sync_writes")) (bytes_eq key (codes "consumer_name")) (bytes_eq value (codes "true")) (bytes_eq value (codes "false")) (is_name value)
-    (λ k v. unknown (inr (inl (same_bytes key (codes "enable_sync_writes") k, inl (same_bytes value (codes "true") v)))))
-    (λ k v. unknown (inr (inl (same_bytes key (codes "enable_sync_writes") k, inr (same_bytes value (codes "false") v)))))
-    (λ k v. unknown (inl (same_bytes key (codes "consumer_name") k, is_named value v)))
+-- a value that is no flag, and one that is no size
+no_flag : (value : List ℕ) → (IsFlag value → ⊥) → flag_of value ≡ None
+no_flag value none = by (bytes_eq value (codes "true")) (bytes_eq value (codes "false")) refl refl
+  where
+    by : (a b : Bool) → bytes_eq value (codes "true") ≡ a → bytes_eq value (codes "false") ≡ b → (if a then Some true else if b then Some false else None) ≡ None
+    by true b on off = absurd (none (inl (same_bytes value (codes "true") on)))
+    by false true on off = absurd (none (inr (same_bytes value (codes "false") off)))
+    by false false on off = refl
+
+no_size : (value : List ℕ) (o : Option ℕ) → size_of value ≡ o → (IsSize value → ⊥) → o ≡ None
+no_size value None is none = refl
+no_size value (Some n) is none = let (says, fits) = (sizes value n).0 is in absurd (none (n, fits, says))
+
+module _ (sync : Bool) (name : Named) (key value : List ℕ) (unknown : IsKnown key value → ⊥) where
+  set_unknown : set_by sync name key value ≡ None
+  set_unknown = by (bytes_eq key (codes "enable_sync_writes")) (bytes_eq key (codes "consumer_name")) (bytes_eq key (codes "enable_noop")) (bytes_eq key (codes "set_noop_interval")) refl refl refl refl
+    where
+      named : (b : Bool) → is_name value ≡ b → bytes_eq key (codes "consumer_name") ≡ true → (if b then Some (handshake.Open sync (named_by value)) else None) ≡ None
+      named true is key_is = absurd (unknown (inl (same_bytes key (codes "consumer_name") key_is, is_named value is)))
+      named false is key_is = refl
+
+      by : (a b c d : Bool) → bytes_eq key (codes "enable_sync_writes") ≡ a → bytes_eq key (codes "consumer_name") ≡ b → bytes_eq key (codes "enable_noop") ≡ c → bytes_eq key (codes "set_noop_interval") ≡ d
+          → (if a then option_map (λ flag. handshake.Open flag name) (flag_of value)
+          else if b then (if is_name value then Some (handshake.Open sync (named_by value)) else None)
+          else if c then as_before (handshake.Open sync name) (flag_of value)
+          else if d then as_before (handshake.Open sync name) (size_of value)
+          else None) ≡ None
+      by true b c d is_a is_b is_c is_d = ap (option_map (λ flag. handshake.Open flag name)) (no_flag value (λ flag. unknown (inr (inl (same_bytes key (codes "enable_sync_writes") is_a, flag)))))
+      by false true c d is_a is_b is_c is_d = named (is_name value) refl is_b
+      by false false true d is_a is_b is_c is_d = ap (as_before (handshake.Open sync name)) (no_flag value (λ flag. unknown (inr (inr (inr (inl (same_bytes key (codes "enable_noop") is_c, flag)))))))
+      by false false false true is_a is_b is_c is_d = ap (as_before (handshake.Open sync name)) (no_size value (size_of value) refl (λ size. unknown (inr (inr (inr (inr (same_bytes key (codes "set_noop_interval") is_d, size)))))))
+      by false false false false is_a is_b is_c is_d = refl
 
 -- OPEN came
 not_fresh : (sync : Bool) (name : Named) → handshake.Open sync name ≡ handshake.Fresh → ⊥
@@ -121,21 +136,17 @@ controlled_unknown (handshake.Open sync name) key value (inl fresh) = absurd (no
 controlled_unknown (handshake.Open sync name) key value (inr unknown) = set_unknown sync name key value unknown
 
 -- CONTROL of the window with a value that is no size
-no_size : (value : List ℕ) (o : Option ℕ) → size_of value ≡ o → ((n : ℕ) → n < 2 ^ 32 → value ≡ decimal n → ⊥) → o ≡ None
-no_size value None is none = refl
-no_size value (Some n) is none = let (says, fits) = (sizes value n).0 is in absurd (none n fits says)
-
-sized_unknown : (h : Handshake) (value : List ℕ) → (h ≡ handshake.Fresh) ⊎ ((n : ℕ) → n < 2 ^ 32 → value ≡ decimal n → ⊥) → sized h value ≡ None
+sized_unknown : (h : Handshake) (value : List ℕ) → (h ≡ handshake.Fresh) ⊎ (IsSize value → ⊥) → sized h value ≡ None
 sized_unknown handshake.Fresh value either = refl
 sized_unknown (handshake.Open sync name) value (inl fresh) = absurd (not_fresh sync name fresh)
 sized_unknown (handshake.Open sync name) value (inr none) = no_size value (size_of value) refl none
 
 -- the same of one with a key of the handshake, or with that of the window
-none_known : (h : Handshake) (key value : List ℕ) → (h ≡ handshake.Fresh) ⊎ (IsKnown key value → ⊥) → key ≡ codes "connection_buffer_size" → (h ≡ handshake.Fresh) ⊎ ((n : ℕ) → n < 2 ^ 32 → value ≡ decimal n → ⊥)
+none_known : (h : Handshake) (key value : List ℕ) → (h ≡ handshake.Fresh) ⊎ (IsKnown key value → ⊥) → key ≡ codes "connection_buffer_size" → (h ≡ handshake.Fresh) ⊎ (IsSize value → ⊥)
 none_known h key value (inl fresh) is = inl fresh
-none_known h key value (inr unknown) is = inr (λ n fits says. unknown (inr (inr (is, (n, fits, says)))))
+none_known h key value (inr unknown) is = inr (λ size. unknown (inr (inr (inl (is, size)))))
 
-control_refused : (f : Frame) (s : Served) (key value : List ℕ) → (s.end.handshake ≡ handshake.Fresh) ⊎ (IsKnown key value → ⊥) → control_answered f key value s ≡ status_sent f status.Einval s
+pub control_refused : (f : Frame) (s : Served) (key value : List ℕ) → (s.end.handshake ≡ handshake.Fresh) ⊎ (IsKnown key value → ⊥) → control_answered f key value s ≡ status_sent f status.Einval s
 control_refused f s key value either = by (bytes_eq key (codes "connection_buffer_size")) refl
   where
     by : (b : Bool) → bytes_eq key (codes "connection_buffer_size") ≡ b
@@ -187,3 +198,16 @@ module _ (f : Frame) (s : Served) where
         let is : sized s.end.handshake (decimal n) ≡ Some n = ap (λ h. sized h (decimal n)) opened ∙ (sizes (decimal n) n).1 (refl, fits) in
         let set = size_set n in
         record { frame = set.frame; is = set.is; answered = ap (λ o. Done (sized_as o f s)) is ∙ set.answered }
+
+    -- a control of a key that changes nothing
+    kept : (key value : List ℕ) → bytes_eq key (codes "connection_buffer_size") ≡ false → set_by sync name key value ≡ Some (handshake.Open sync name) → Gets 0 s.end.handshake f s (message_answered f (msg.Control key value) s)
+    kept key value other is =
+        subst (λ h. Gets 0 h f s (message_answered f (msg.Control key value) s)) (sym opened)
+        (set_so key value (handshake.Open sync name) other (ap (λ h. controlled h key value) opened ∙ is))
+
+    pub controls_noop : (value : List ℕ) → IsFlag value → Gets 0 s.end.handshake f s (message_answered f (msg.Control (codes "enable_noop") value) s)
+    controls_noop value (inl on) = kept (codes "enable_noop") value refl (ap (λ v. as_before (handshake.Open sync name) (flag_of v)) on)
+    controls_noop value (inr off) = kept (codes "enable_noop") value refl (ap (λ v. as_before (handshake.Open sync name) (flag_of v)) off)
+
+    pub controls_interval : (n : ℕ) → n < 2 ^ 32 → Gets 0 s.end.handshake f s (message_answered f (msg.Control (codes "set_noop_interval") (decimal n)) s)
+    controls_interval n fits = kept (codes "set_noop_interval") (decimal n) refl (ap (as_before (handshake.Open sync name)) ((sizes (decimal n) n).1 (refl, fits)))

@@ -1,21 +1,31 @@
-pub mod Acknowledging
-mod Calling
-pub mod Counting
-pub mod Decimals
-mod Durables
-pub mod EndedStreams
+pub mod OneStream
+pub mod Framing
 pub mod Handshaking
-mod Losing
-pub mod Holding
-pub mod Naming
-pub mod Placing
-pub mod Rising
-pub mod Reaching
-pub mod Releasing
-pub mod Requests
-mod Tellings
-pub mod Through
-pub mod Uncounted
-mod Waiting
-pub mod Wanting
 pub mod Weighing
+pub mod Releasing
+pub mod Durables
+pub mod Naming
+pub mod Decimals
+mod Calling
+pub mod Finding
+pub mod Requests
+pub mod Acknowledging
+pub mod Early
+pub mod Kept
+pub mod Closing
+pub mod Walking
+pub mod Turning
+pub mod Endings
+pub mod Awake
+pub mod Story
+pub mod Pulling
+pub mod Orders
+pub mod Answering
+pub mod Sound
+pub mod Apart
+pub mod Going
+pub mod Ends
+pub mod Staying
+pub mod Turns
+pub mod Uncounted
+pub mod Wanting

@@ -10,7 +10,7 @@ use Rattle.dcp_producer.specs.declared.desk.Handshake.{Handshake}
 use Rattle.dcp_producer.specs.declared.desk.Handshake.TheVariants as handshake
 use Rattle.dcp_producer.specs.Producers.{Served, is_open}
 use Rattle.dcp_producer.specs.Serving.{status_sent, message_answered}
-use Rattle.dcp_producer.specs.Conduct.{IsOpened}
+use Rattle.dcp_producer.specs.Having.{IsOpened}
 use Rattle.dcp_producer.specs.Handshaking.{Gets}
 use Rattle.dcp_producer.specs.Holding.{LetsGo}
 use Rattle.dcp_producer.proofs.Weighing.{same_gets}

@@ -27,7 +27,7 @@ use Rattle.dcp_producer.specs.Handshaking.{Gets, Asks, IsOther, opcodes}
 use Rattle.dcp_producer.proofs.Handshaking.{refused_alone}
 
 -- a frame that asks is answered by its opcode
-asked_so : (f : Frame) (s : Served) (known : Bool) → Asks f known → frame_answered f s ≡ (if known then read_answered f (read_of f) s else Done (status_sent f status.UnknownCommand s))
+pub asked_so : (f : Frame) (s : Served) (known : Bool) → Asks f known → frame_answered f s ≡ (if known then read_answered f (read_of f) s else Done (status_sent f status.UnknownCommand s))
 unfolding frame_answered
 asked_so f s known (asks, is) =
     ap (λ b. if b then Done s else if list_any (λ o. o == f.opcode) opcodes then read_answered f (read_of f) s else Done (status_sent f status.UnknownCommand s))
@@ -56,31 +56,31 @@ dropped f s is =
     ap (λ n. if n == RESPONSE then Done s else if list_any (λ o. o == f.opcode) opcodes then read_answered f (read_of f) s else Done (status_sent f status.UnknownCommand s)) is
 
 module _ (f : Frame) (s : Served) where
-  abbrev Einval : Prog Served
+  abbrev pub Einval : Prog Served
   Einval = Done (status_sent f status.Einval s)
 
   -- whatever a row that a producer does not take is read as
-  by_fault : (fault : Option DcpFault) (m : DcpMsg) → message_answered f m s ≡ Einval → (b : Bool) → (if b then row_answered f (unless_fault fault m) s else Einval) ≡ Einval
+  pub by_fault : (fault : Option DcpFault) (m : DcpMsg) → message_answered f m s ≡ Einval → (b : Bool) → (if b then row_answered f (unless_fault fault m) s else Einval) ≡ Einval
   by_fault None m e true = e
   by_fault (Some fault) m e true = refl
   by_fault fault m e false = refl
 
   by_opcode : (o : Option Opcode) → opcode_of f.opcode ≡ o → IsOther f.opcode → read_answered f (option_map (read_as f) (row_by_opcode o false)) s ≡ Einval
   by_opcode None e n = refl
-  by_opcode (Some op.Open) e n = absurd (n.0 (number_of f.opcode op.Open e))
-  by_opcode (Some op.CloseStream) e n = by_fault (shape_fault row.CloseStream f) (message_in row.CloseStream f) refl (f.datatype == 0)
-  by_opcode (Some op.StreamRequest) e n = absurd (n.1 (number_of f.opcode op.StreamRequest e))
-  by_opcode (Some op.GetFailoverLog) e n = by_fault (shape_fault row.GetFailoverLog f) (message_in row.GetFailoverLog f) refl (f.datatype == 0)
+  by_opcode (Some op.Open) e n = absurd (n.opens (number_of f.opcode op.Open e))
+  by_opcode (Some op.CloseStream) e n = absurd (n.closes (number_of f.opcode op.CloseStream e))
+  by_opcode (Some op.StreamRequest) e n = absurd (n.asks (number_of f.opcode op.StreamRequest e))
+  by_opcode (Some op.GetFailoverLog) e n = absurd (n.log (number_of f.opcode op.GetFailoverLog e))
   by_opcode (Some op.StreamEnd) e n = by_fault (shape_fault row.StreamEnd f) (message_in row.StreamEnd f) refl (f.datatype == 0)
   by_opcode (Some op.SnapshotMarker) e n = by_fault (shape_fault row.SnapshotMarker f) (message_in row.SnapshotMarker f) refl (f.datatype == 0)
   by_opcode (Some op.Mutation) e n = by_fault (shape_fault row.Mutation f) (message_in row.Mutation f) refl (f.datatype == 0)
   by_opcode (Some op.Deletion) e n = by_fault (shape_fault row.Deletion f) (message_in row.Deletion f) refl (f.datatype == 0)
   by_opcode (Some op.SetVbucketState) e n = refl
-  by_opcode (Some op.Noop) e n = by_fault (shape_fault row.Noop f) (message_in row.Noop f) refl (f.datatype == 0)
-  by_opcode (Some op.BufferAcknowledgement) e n = absurd (n.2 (number_of f.opcode op.BufferAcknowledgement e))
-  by_opcode (Some op.Control) e n = absurd (n.3 (number_of f.opcode op.Control e))
+  by_opcode (Some op.Noop) e n = absurd (n.noop (number_of f.opcode op.Noop e))
+  by_opcode (Some op.BufferAcknowledgement) e n = absurd (n.bytes (number_of f.opcode op.BufferAcknowledgement e))
+  by_opcode (Some op.Control) e n = absurd (n.control (number_of f.opcode op.Control e))
   by_opcode (Some op.Prepare) e n = by_fault (shape_fault row.Prepare f) (message_in row.Prepare f) refl (f.datatype == 0)
-  by_opcode (Some op.SeqnoAcknowledged) e n = absurd (n.4 (number_of f.opcode op.SeqnoAcknowledged e))
+  by_opcode (Some op.SeqnoAcknowledged) e n = absurd (n.seqno (number_of f.opcode op.SeqnoAcknowledged e))
   by_opcode (Some op.Commit) e n = by_fault (shape_fault row.Commit f) (message_in row.Commit f) refl (f.datatype == 0)
   by_opcode (Some op.Abort) e n = by_fault (shape_fault row.Abort f) (message_in row.Abort f) refl (f.datatype == 0)
 

@@ -1,43 +1,33 @@
 -- how acknowledgements are counted, in words beside the definitions
-use Rattle.std.specs.Prelude.{ℕ, ◌≤◌, ◌<◌, ◌≡◌, ◌≢◌, ◌⊎◌, Bool, true, false, List, [], ◌∷◌, ◌++◌, map, max, Option, Some, None, Ok}
-use Rattle.std.specs.List.{fold}
+use Rattle.std.specs.Prelude.{ℕ, ◌≤◌, ◌≡◌, ◌⊎◌, Bool, true, false, List, [], ◌∷◌, ◌++◌, map, Option, Some, None}
 use Rattle.mcbp_frame.specs.declared.frame.Frame.{Frame}
 use Rattle.mcbp_dcp.specs.declared.message.DcpMsg.TheVariants as msg
-use Rattle.vb_types.specs.declared.change.Change.{Change}
-use Rattle.vb_types.specs.declared.stream.AskAnswer.TheVariants as ask_answer
-use Rattle.vb_events.specs.declared.event.Event.{Event}
 use Rattle.vb_events.specs.declared.event.Event.TheVariants as event
-use Rattle.vb_types.specs.declared.role.LogEntry.{LogEntry}
 use Rattle.vb_types.specs.declared.status.Status.{Status}
-use Rattle.vb_types.specs.declared.stream.Snapshot.{Snapshot}
-use Rattle.vb_types.specs.declared.stream.StreamAsk.{StreamAsk}
 use Rattle.vb_types.specs.Statuses.{status_code}
 use Rattle.vb_calls.specs.declared.calls.VbCall.TheVariants as call
 use Rattle.vb_calls.specs.declared.calls.VbAnswer.TheVariants as answer
 use Rattle.vb_calls.specs.declared.calls.VbReply.{VbReply}
-use Rattle.vb_calls.specs.Programs.{Done, Made, Told, More}
+use Rattle.vb_calls.specs.Programs.{Done, Made, Told}
 use Rattle.dcp_producer.specs.declared.desk.Handshake.{Handshake}
 use Rattle.dcp_producer.specs.declared.desk.Handshake.TheVariants as handshake
 use Rattle.dcp_producer.specs.declared.desk.Named.TheVariants as named
-use Rattle.dcp_producer.specs.declared.halt.Halt.{Halt}
-use Rattle.dcp_producer.specs.Producers.{PlainStream, PlainProducer, Served}
-use Rattle.dcp_producer.specs.Pulling.{taken_put, next_put}
-use Rattle.dcp_producer.specs.Serving.{stream_answered, message_answered}
-use Rattle.dcp_producer.specs.Ending.{ended_by}
+use Rattle.dcp_producer.specs.Producers.{PlainStream, Served}
+use Rattle.dcp_producer.specs.Having.{NoneOf, IsStreamOf}
+use Rattle.dcp_producer.specs.Serving.{message_answered}
 use Rattle.dcp_producer.specs.Handshaking.{Gets}
 
--- nothing is fed of the vBucket v: the connection has no stream, or one of another vBucket, or one that a change of role ended
+-- nothing is fed of the vBucket v: the connection has no stream of it, or one that a change of role ended
 abbrev pub IsUnfed : ℕ → Served → Type 0
-IsUnfed v s = (s.end.stream ≡ None) ⊎ ((stream : PlainStream) × (s.end.stream ≡ Some stream) × ((stream.vb ≢ v) ⊎ (stream.ended ≡ true)))
+IsUnfed v s = NoneOf v s.end.streams ⊎ ((stream : PlainStream) × IsStreamOf v stream s.end.streams × (stream.ended ≡ true))
 
--- the connection has this stream, of the vBucket v, and no change of role ended it
+-- the connection has this stream of the vBucket v, and no change of role ended it
 abbrev pub IsFed : ℕ → PlainStream → Served → Type 0
-IsFed v stream s = (s.end.stream ≡ Some stream) × (stream.vb ≡ v) × (stream.ended ≡ false)
+IsFed v stream s = IsStreamOf v stream s.end.streams × (stream.ended ≡ false)
 
--- the consumer is no member: OPEN did not come, or it gave no name, or a stranger's
+-- the connection is open, and its consumer is no member: it gave no name, or a stranger's
 abbrev pub IsNoMember : Handshake → Type 0
-IsNoMember shaken =
-    (shaken ≡ handshake.Fresh) ⊎ ((sync : Bool) × ((shaken ≡ handshake.Open sync named.Nobody) ⊎ (shaken ≡ handshake.Open sync named.Stranger)))
+IsNoMember shaken = (sync : Bool) × ((shaken ≡ handshake.Open sync named.Nobody) ⊎ (shaken ≡ handshake.Open sync named.Stranger))
 
 -- the consumer gave this member's name
 abbrev pub IsMember : ℕ → Handshake → Type 0
@@ -72,44 +62,3 @@ pub record IsCountable (f : Frame) (seq : ℕ) (s : Served) : Type 0 where
   pub member : ℕ
   pub named : IsMember member s.end.handshake
   pub within : seq ≤ stream.reached
-
--- n is the larger of both
-abbrev pub IsLarger : ℕ → ℕ → ℕ → Type 0
-IsLarger a b n = ((b ≤ a) × (n ≡ a)) ⊎ ((a < b) × (n ≡ b))
-
--- the connection's stream reaches such a seqno
-abbrev pub Reaches : (ℕ → Type 0) → PlainProducer → Type 0
-Reaches Up end = (stream : PlainStream) × (end.stream ≡ Some stream) × Up stream.reached
-
--- behind a request that is let continue
-abbrev pub ReachesStart : Frame → StreamAsk → Served → Type 0
-ReachesStart f ask s = (log : List LogEntry) (high : ℕ) → Reaches (λ n. n ≡ ask.start) (stream_answered f ask s log high ask_answer.Go).end
-
--- behind an item that is put
-abbrev pub ReachesItem : Served → PlainStream → Change → Type 0
-ReachesItem s stream c = (then : Served) × (next_put s stream (Some c) ≡ Done (More then)) × Reaches (IsLarger stream.reached c.seq) then.end
-
--- behind a marker
-abbrev pub ReachesSame : Served → PlainStream → Snapshot → Type 0
-ReachesSame s stream snapshot = (then : Served) × (taken_put s stream (Ok snapshot) ≡ More then) × Reaches (λ n. n ≡ stream.reached) then.end
-
--- behind a change of role
-abbrev pub ReachesStill : ℕ → List ℕ → PlainProducer → PlainStream → Type 0
-ReachesStill v ids end stream = end.stream ≡ Some stream → Reaches (λ n. n ≡ stream.reached) (ended_by v ids end)
-
--- the seqno of the item that a line tells of
-abbrev pub item_seq : Event → ℕ
-item_seq (event.Item stream seq kind key) = seq
-item_seq other = 0
-
--- the greatest of n and the seqnos of the items that these lines tell of
-abbrev pub greatest_item : ℕ → List Event → ℕ
-greatest_item n lines = fold max n (map item_seq lines)
-
--- lines were told, and a stream that there is then reaches the greatest seqno of their items, or n
-abbrev pub TellsUp : ℕ → Served → Served → Type 0
-TellsUp n s s' = (lines : List Event) × (s'.events ≡ s.events ++ lines) × ((stream : PlainStream) → s'.end.stream ≡ Some stream → stream.reached ≡ greatest_item n lines)
-
--- behind a pull of a connection with this stream
-abbrev pub ReachesItems : Served → PlainStream → Served × Halt → Type 0
-ReachesItems s stream (s', halted) = TellsUp stream.reached s s'

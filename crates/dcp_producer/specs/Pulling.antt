@@ -1,254 +1,146 @@
--- how a producer puts the frames of a stream, as programs over its node's vBuckets
-use Rattle.std.specs.Prelude.{ℕ, ◌+◌, ◌-◌, max, Bool, true, false, if◌then◌else◌, [], ◌∷◌, ◌++◌, length, slice_get, Option, Some, None, Result, Ok, Err}
-use Rattle.mcbp_dcp.specs.declared.message.DcpMsg.{DcpMsg}
+-- how a producer puts the frames of its streams, in turn and through its window, as programs over its node's vBuckets
+use Rattle.std.specs.Prelude.{ℕ, ◌≡◌, ◌+◌, ◌==◌, ◌||◌, Bool, true, false, if◌then◌else◌, List, [], ◌∷◌, ◌++◌, length, Option, Some, None}
+use Rattle.std.specs.List.{list_any}
 use Rattle.mcbp_dcp.specs.declared.message.DcpMsg.TheVariants as msg
-use Rattle.mcbp_dcp.specs.declared.message.Resolution.{Resolution}
+use Rattle.mcbp_frame.specs.declared.frame.Frame.{Frame}
 use Rattle.mcbp_frame.specs.Spelling.{spelling}
 use Rattle.mcbp_dcp.specs.DcpFrames.{dcp_frame}
-use Rattle.vb_types.specs.Levels.{level_number}
-use Rattle.vb_types.specs.declared.change.Act.{Act}
-use Rattle.vb_types.specs.declared.change.Act.TheVariants as act
-use Rattle.vb_types.specs.declared.change.Change.{Change}
-use Rattle.vb_types.specs.declared.change.Level.{Level}
-use Rattle.vb_types.specs.declared.doc.Doc.{Doc}
 use Rattle.vb_events.specs.declared.event.Event.{Event}
 use Rattle.vb_events.specs.declared.event.Event.TheVariants as event
-use Rattle.vb_events.specs.declared.event.ItemAct.{ItemAct}
-use Rattle.vb_events.specs.declared.event.ItemAct.TheVariants as item_act
 use Rattle.vb_events.specs.declared.event.Why.{Why}
 use Rattle.vb_events.specs.declared.event.Why.TheVariants as why
-use Rattle.vb_types.specs.declared.stream.Place.TheVariants as place
-use Rattle.vb_types.specs.declared.stream.Snapshot.{Snapshot}
-use Rattle.vb_calls.specs.declared.calls.VbCall.TheVariants as call
-use Rattle.vb_calls.specs.declared.calls.VbAnswer.{VbAnswer}
-use Rattle.vb_calls.specs.declared.calls.VbAnswer.TheVariants as answer
-use Rattle.vb_calls.specs.declared.calls.VbReply.{VbReply}
-use Rattle.vb_calls.specs.Programs.{Prog, Done, Call, bind, Turn, More, Stop, repeated}
+use Rattle.vb_calls.specs.Programs.{Prog, Done, bind, Turn, More, Stop, repeated}
 use Rattle.flow_control.specs.Windows.{is_open, with_put}
-use Rattle.dcp_producer.specs.declared.desk.Desk.{Desk}
 use Rattle.dcp_producer.specs.declared.halt.Halt.{Halt}
 use Rattle.dcp_producer.specs.declared.halt.Halt.TheVariants as halt
-use Rattle.dcp_producer.specs.declared.halt.NoSnapshot.{NoSnapshot}
-use Rattle.dcp_producer.specs.declared.halt.NoSnapshot.TheVariants as no_snapshot
-use Rattle.dcp_producer.specs.declared.halt.Turned.{Turned}
-use Rattle.dcp_producer.specs.declared.halt.Turned.TheVariants as turned
-use Rattle.dcp_producer.specs.Producers.{PlainStream, Served}
+use Rattle.dcp_producer.specs.declared.next_frame.NextFrame.{NextFrame}
+use Rattle.dcp_producer.specs.declared.next_frame.NextFrame.TheVariants as next
+use Rattle.dcp_producer.specs.Producers.{PlainStream, PlainProducer, Served, ring_of, stream_of_id, with_stream, with_turn, without_stream}
+use Rattle.dcp_producer.specs.Frames.{Next, next_frame}
+use Rattle.flow_control.specs.Rings.{next_id}
 
--- why no more was put, as the line says it: that all were that were asked for, that there was no more, that the window is shut, or that the stream waits
+-- why no more was put, as the line says it: that all were that were asked for, that there was no more, that the window is shut, or that a stream waits
 abbrev pub why_of : Halt → Why
 why_of halt.All = why.All
 why_of halt.Idle = why.Idle
-why_of halt.Unput = why.Idle
 why_of halt.Full = why.Full
 why_of halt.WaitSaved = why.WaitSaved
 
--- the connection, with this stream
-abbrev pub with_stream_back : Served → PlainStream → Served
-with_stream_back s stream = record s { end = record s.end { stream = Some stream } }
-
--- one more frame is counted
-abbrev pub counted : Served → Served
-counted s = record s { count = s.count + 1 }
-
--- what a turn comes to, with what is left of the stream
-abbrev pub came_to : Turned → Served → PlainStream → Turn Served (Served × Halt)
-came_to turned.Put s stream = More (counted (with_stream_back s stream))
-came_to turned.Ended s stream = More (counted s)
-came_to (turned.Halted halted) s stream = Stop (with_stream_back s stream, halted)
-
--- so it is counted, or the turns stop
-abbrev pub counted_unless : Option Halt → Served → Turn Served (Served × Halt)
-counted_unless None s = More (counted s)
-counted_unless (Some halted) s = Stop (s, halted)
-
--- a flag as a number
-abbrev pub flag_number : Bool → ℕ
-flag_number false = 0
-flag_number true = 1
-
--- the message of a document that is stored
-abbrev pub mutation_message : Change → Doc → DcpMsg
-mutation_message c doc = msg.Mutation (record { seq = c.seq; rev = doc.rev; cas = doc.cas; flags = doc.flags; expiry = doc.expiry; datatype = doc.datatype; key = c.key; value = doc.value })
-
--- of a removal, with its own CAS and revision
-abbrev pub deletion_message : Change → ℕ → ℕ → DcpMsg
-deletion_message c cas rev = msg.Deletion (record { seq = c.seq; rev = rev; cas = cas; key = c.key })
-
--- of a prepare; one of a removal is sent without a value
-abbrev pub prepare_message : Change → Level → Doc → Bool → DcpMsg
-prepare_message c level doc deleted = msg.Prepare (record {
-  seq = c.seq;
-  rev = doc.rev;
-  cas = doc.cas;
-  flags = doc.flags;
-  expiry = doc.expiry;
-  datatype = doc.datatype;
-  deleted = flag_number deleted;
-  level = level_number level;
-  key = c.key;
-  value = if deleted then [] else doc.value;
-})
-
--- what a commit or an abort says: the seqno of the prepare, and its own
-abbrev pub resolution_of : Change → ℕ → Resolution
-resolution_of c prepared = record { prepared = prepared; seq = c.seq; key = c.key }
-
--- the message of a change: each act has one
-abbrev pub act_message : Change → Act → Option DcpMsg
-act_message c (act.Set doc) = Some (mutation_message c doc)
-act_message c (act.Remove cas rev) = Some (deletion_message c cas rev)
-act_message c (act.Prepare level doc deleted) = Some (prepare_message c level doc deleted)
-act_message c (act.Commit prepared doc deleted) = Some (msg.Commit (resolution_of c prepared))
-act_message c (act.Abort prepared) = Some (msg.Abort (resolution_of c prepared))
-
--- the act as it is sent
-abbrev pub act_sent : Act → ItemAct
-act_sent (act.Set doc) = item_act.Set
-act_sent (act.Remove cas rev) = item_act.Remove
-act_sent (act.Prepare level doc deleted) = item_act.Prepare
-act_sent (act.Commit prepared doc deleted) = item_act.Commit
-act_sent (act.Abort prepared) = item_act.Abort
-
--- a frame of the stream is on its way, and a line tells of it
-abbrev pub with_line : Served → PlainStream → DcpMsg → Event → Served
-with_line s stream m line = record s { events = s.events ++ line ∷ []; out = s.out ++ spelling (dcp_frame m stream.opaque stream.vb) }
-
--- one more frame of the stream is on its way, and a line tells of it
-abbrev pub put : Served → PlainStream → DcpMsg → Event → Served
-put s stream m line = record {
-  end = record s.end { stream = Some stream };
+-- a frame is on its way, with the line that tells of it: it is counted, and its whole length is outstanding then
+abbrev pub frame_put : Frame → Event → Served → Served
+frame_put f line s = record {
+  end = record s.end { window = with_put (length (spelling f)) s.end.window };
   events = s.events ++ line ∷ [];
-  out = s.out ++ spelling (dcp_frame m stream.opaque stream.vb);
+  out = s.out ++ spelling f;
   count = s.count + 1;
   resolved = s.resolved;
 }
 
--- the stream behind one more item, of this seqno
-abbrev pub past_item : ℕ → PlainStream → PlainStream
-past_item seq stream = record stream { next = stream.next + 1; reached = max stream.reached seq }
-
--- the stream at the front of a snapshot
-abbrev pub with_snapshot : PlainStream → Snapshot → PlainStream
-with_snapshot stream snapshot = record stream { items = snapshot.items; next = 0 }
-
--- the line of an item
-abbrev pub item_line : Desk → Change → Event
-item_line desk c = event.Item desk.stream c.seq (act_sent c.act) c.key
-
--- the next change of the snapshot that was taken, with its message
-abbrev pub item_put : Served → PlainStream → Change → Option DcpMsg → Turn Served (Served × Halt)
-item_put s stream c None = Stop (s, halt.Unput)
-item_put s stream c (Some m) = More (put s (past_item c.seq stream) m (item_line s.end.desk c))
-
--- a marker's flag: 1 from memory, 2 from disk
-abbrev pub marker_flags : Bool → ℕ
-marker_flags false = 1
-marker_flags true = 2
-
--- the marker of a snapshot, with the flag that says whether it is from memory or from disk
-unfoldable pub marker_put : Served → PlainStream → Snapshot → Served
-marker_put s stream snapshot =
-    put s (with_snapshot stream snapshot) (msg.SnapshotMarker snapshot.start snapshot.end (marker_flags snapshot.disk)) (event.Marked s.end.desk.stream snapshot.start snapshot.end (marker_flags snapshot.disk))
-
--- the reason of a stream's end: its vBucket changed its role, or is gone
-abbrev pub STATE_CHANGED : ℕ
-STATE_CHANGED = 2
+-- a stream goes on so
+abbrev pub stream_went : PlainStream → Served → Served
+stream_went stream s = record s { end = with_stream stream s.end }
 
 -- the end of a stream, which the connection has no more then
-unfoldable pub end_put : Served → PlainStream → Served
-end_put s stream = record {
-  end = record s.end { stream = None };
-  events = s.events ++ event.Finished s.end.desk.stream STATE_CHANGED ∷ [];
-  out = s.out ++ spelling (dcp_frame (msg.StreamEnd STATE_CHANGED) stream.opaque stream.vb);
-  count = s.count + 1;
-  resolved = s.resolved;
-}
+abbrev pub end_put : PlainStream → ℕ → Served → Served
+end_put stream reason s =
+    frame_put (dcp_frame (msg.StreamEnd reason) stream.opaque stream.vb) (event.Finished s.end.desk.stream reason) (record s { end = without_stream stream.id s.end })
 
--- the snapshot of an answer, or why there is none: that there is none yet, or that the vBucket knows nothing of the stream
-abbrev pub snapshot_of_answer : VbAnswer → Result Snapshot NoSnapshot
-snapshot_of_answer (answer.Taken snapshot) = Ok snapshot
-snapshot_of_answer answer.Nothing = Err (no_snapshot.Halted halt.Idle)
-snapshot_of_answer other = Err no_snapshot.Lost
+-- the streams that put nothing when they were asked in a pull, and whether one of them waits for what is to be saved
+pub record QuietOnes : Type 0 where
+  pub ids : List ℕ
+  pub waits : Bool
 
--- the snapshot that the vBucket gave, or why it gave none
-abbrev pub snapshot_of_reply : Option VbReply → Result Snapshot NoSnapshot
-snapshot_of_reply None = Err no_snapshot.Lost
-snapshot_of_reply (Some reply) = snapshot_of_answer reply.answer
+-- none
+abbrev pub none_quiet : QuietOnes
+none_quiet = record { ids = []; waits = false }
 
--- a stream that its vBucket lost ends as one that a change of role ended; one that is given no snapshot now puts nothing
-abbrev pub halted_put : Served → PlainStream → NoSnapshot → Turn Served (Served × Halt)
-halted_put s stream no_snapshot.Lost = More (end_put s stream)
-halted_put s stream (no_snapshot.Halted halted) = Stop (s, halted)
+-- one more
+abbrev pub with_quiet : ℕ → Bool → QuietOnes → QuietOnes
+with_quiet id waits q = record { ids = q.ids ++ id ∷ []; waits = q.waits || waits }
 
--- the marker of a snapshot, if there is one
-abbrev pub taken_put : Served → PlainStream → Result Snapshot NoSnapshot → Turn Served (Served × Halt)
-taken_put s stream (Err none) = halted_put s stream none
-taken_put s stream (Ok snapshot) = More (marker_put s stream snapshot)
+-- a stream was quiet before
+abbrev pub is_quiet : ℕ → QuietOnes → Bool
+is_quiet id q = list_any (λ other. other == id) q.ids
 
--- the vBucket is asked for the next snapshot
-abbrev pub take_next : Served → PlainStream → Prog (Turn Served (Served × Halt))
-take_next s stream = Call stream.vb (call.Take s.end.desk.id) (λ reply. Done (taken_put s stream (snapshot_of_reply reply)))
+-- why no more is put where no stream puts a frame
+abbrev pub quiet_halt : QuietOnes → Halt
+quiet_halt q = if q.waits then halt.WaitSaved else halt.Idle
 
--- why no snapshot is taken now, if the vBucket told that the next changes are not all in memory, or that it knows nothing of the stream
-abbrev pub halt_at : VbAnswer → Option NoSnapshot
-halt_at (answer.Placed place.Memory) = None
-halt_at (answer.Placed place.WaitSaved) = Some (no_snapshot.Halted halt.WaitSaved)
-halt_at other = Some no_snapshot.Lost
+-- a pull so far: the connection, and the streams that are quiet till it ends
+pub record Pulling : Type 0 where
+  pub served : Served
+  pub quiet : QuietOnes
 
--- the same of a reply
-abbrev pub place_halt : Option VbReply → Option NoSnapshot
-place_halt None = Some no_snapshot.Lost
-place_halt (Some reply) = halt_at reply.answer
+-- a pull so far, of this connection with these quiet ones
+abbrev pub pull_of : Served → QuietOnes → Pulling
+pull_of s q = record { served = s; quiet = q }
 
--- the next snapshot is taken, unless there is a reason not to
-abbrev pub take_unless : Served → PlainStream → Option NoSnapshot → Prog (Turn Served (Served × Halt))
-take_unless s stream None = take_next s stream
-take_unless s stream (Some none) = Done (halted_put s stream none)
+-- the next stream has its turn
+abbrev pub past_turn : Served → Served
+past_turn s = record s { end = with_turn s.end }
 
--- where the stream's next changes come from is known
-abbrev pub place_answered : Served → PlainStream → Option VbReply → Prog (Turn Served (Served × Halt))
-place_answered s stream reply = take_unless s stream (place_halt reply)
+-- the stream of a number, if there is a number
+abbrev pub stream_in : Option ℕ → List PlainStream → Option PlainStream
+stream_in None streams = None
+stream_in (Some id) streams = stream_of_id id streams
 
--- the vBucket is asked where the stream's next changes come from
-abbrev pub place_requested : Served → PlainStream → Prog (Turn Served (Served × Halt))
-place_requested s stream = Call stream.vb (call.Place s.end.desk.id) (λ reply. place_answered s stream reply)
+-- the stream whose turn it is
+abbrev pub stream_in_turn : PlainProducer → Option PlainStream
+stream_in_turn end = stream_in (next_id (ring_of end)) end.streams
 
--- the end of a stream that a change of role ended, or the marker of the next snapshot
-abbrev pub more_put : Served → PlainStream → Prog (Turn Served (Served × Halt))
-more_put s stream = if stream.ended then Done (More (end_put s stream)) else place_requested s stream
+-- what a turn comes to: a frame was put, and no other stream is asked for it; or none was
+abbrev pub turn_of : Bool → Pulling → Turn Pulling Pulling
+turn_of put p = if put then Stop p else More p
 
--- the next frame: the next item of the snapshot that was taken; behind the last one the stream's end, if a change of role ended it, or else the marker of the next snapshot
-abbrev pub next_put : Served → PlainStream → Option Change → Prog (Turn Served (Served × Halt))
-next_put s stream (Some c) = Done (item_put s stream c (act_message c c.act))
-next_put s stream None = more_put s stream
+-- a turn that puts a frame counts one, and one that puts none leaves the count and the window; what became of durable writes is left by both
+abbrev pub Counts : Bool → Served → Served → Type 0
+Counts true old new = (new.count ≡ old.count + 1) × (new.resolved ≡ old.resolved)
+Counts false old new = (new.count ≡ old.count) × (new.end.window ≡ old.end.window) × (new.resolved ≡ old.resolved)
 
--- the next frame of the connection's stream, if it has one
-abbrev pub stream_put : Served → Option PlainStream → Prog (Turn Served (Served × Halt))
-stream_put s None = Done (Stop (s, halt.Idle))
-stream_put s (Some stream) = next_put s stream (slice_get stream.items stream.next)
+-- the stream puts its next frame, or its end, or it is quiet till the pull ends
+abbrev pub came_as : Served → QuietOnes → PlainStream → NextFrame → Turn Pulling Pulling
+came_as s q stream (next.Put m line) = Stop (pull_of (frame_put (dcp_frame m stream.opaque stream.vb) line s) q)
+came_as s q stream (next.End reason) = Stop (pull_of (end_put stream reason s) q)
+came_as s q stream (next.Quiet waits) = More (pull_of s (with_quiet stream.id waits q))
 
--- the connection, with what was put since so many bytes were out counted in its window
-abbrev pub with_window : ℕ → Served → Served
-with_window before s = record s { end = record s.end { window = with_put (length s.out - before) s.end.window } }
+-- so its turn comes to this, and it goes on
+abbrev pub came : Served → QuietOnes → Next → Turn Pulling Pulling
+came s q (next, stream) = came_as (stream_went stream s) q stream next
 
--- what a turn put is counted in the window
-abbrev pub in_window : ℕ → Turn Served (Served × Halt) → Turn Served (Served × Halt)
-in_window before (More s) = More (with_window before s)
-in_window before (Stop stopped) = Stop stopped
+-- a stream is asked for its next frame
+abbrev pub stream_asked : Served → QuietOnes → PlainStream → Prog (Turn Pulling Pulling)
+stream_asked s q stream = bind (next_frame s.end.desk.stream stream) (λ next. Done (came s q next))
 
--- so is what a program puts
-abbrev pub counted_in_window : ℕ → Prog (Turn Served (Served × Halt)) → Prog (Turn Served (Served × Halt))
-counted_in_window before prog = bind prog (λ turn. Done (in_window before turn))
+-- a stream has its turn: it is asked, unless it was quiet before in this pull
+abbrev pub turn_had : Served → QuietOnes → Option PlainStream → Prog (Turn Pulling Pulling)
+turn_had s q None = Done (More (pull_of s q))
+turn_had s q (Some stream) = if is_quiet stream.id q then Done (More (pull_of s q)) else stream_asked s q stream
 
--- one frame of the stream, if there is one to put; none goes through a window that is shut, whatever stream there is
-unfoldable pub frame_put : Served → Prog (Turn Served (Served × Halt))
-frame_put s = if is_open s.end.window then counted_in_window (length s.out) (stream_put s s.end.stream) else Done (Stop (s, halt.Full))
+-- the stream whose turn it is has it; one that was quiet before in this pull is passed over, and has had its turn with that
+unfoldable pub one_turn : Pulling → Prog (Turn Pulling Pulling)
+one_turn p = turn_had (past_turn p.served) p.quiet (stream_in_turn p.served.end)
 
--- what is left after so many turns, and why no more was put
-abbrev pub pulled : Turn Served (Served × Halt) → Prog (Served × Halt)
-pulled (More s) = Done (s, halt.All)
+-- a frame was put in one of the turns, or every stream had its turn and none put one
+abbrev pub turns_came : Turn Pulling Pulling → Turn Pulling (Served × Halt)
+turns_came (Stop p) = More p
+turns_came (More p) = Stop (p.served, quiet_halt p.quiet)
+
+-- a frame was put, or why none was
+abbrev pub frame_of : Option Halt → Pulling → Turn Pulling (Served × Halt)
+frame_of None p = More p
+frame_of (Some halted) p = Stop (p.served, halted)
+
+-- one frame of the connection, of the first stream in turn that has one: each has one turn. None goes through a window that is shut, whatever streams there are
+unfoldable pub one_frame : Pulling → Prog (Turn Pulling (Served × Halt))
+one_frame p =
+    if is_open p.served.end.window then bind (repeated (length p.served.end.streams) one_turn p) (λ turns. Done (turns_came turns))
+    else Done (Stop (p.served, halt.Full))
+
+-- what is left after so many frames, and why no more was put
+abbrev pub pulled : Turn Pulling (Served × Halt) → Prog (Served × Halt)
+pulled (More p) = Done (p.served, halt.All)
 pulled (Stop stopped) = Done stopped
 
 -- at most so many frames
 unfoldable pub frames_put : ℕ → Served → Prog (Served × Halt)
-frames_put k s = bind (repeated k frame_put s) pulled
+frames_put k s = bind (repeated k one_frame (pull_of s none_quiet)) pulled

@@ -1,11 +1,13 @@
--- a stream of two items, worked by hand
-use Rattle.std.specs.Prelude.{◌≡◌, ℕ, Bool, true, false, List, [], ◌∷◌, Option, None, Some}
+-- streams of a few items each, worked by hand
+use Rattle.std.specs.Prelude.{◌≡◌, ℕ, Bool, true, false, List, [], ◌∷◌, map, None, Some}
 use Rattle.vb_types.specs.declared.change.Act.TheVariants as act
 use Rattle.vb_types.specs.declared.change.Change.{Change}
 use Rattle.vb_events.specs.declared.event.Event.{Event}
 use Rattle.vb_events.specs.declared.event.Event.TheVariants as event
 use Rattle.vb_events.specs.declared.event.ItemAct.TheVariants as item_act
-use Rattle.vb_events.specs.declared.event.StreamName.TheVariants as stream
+use Rattle.vb_events.specs.declared.event.StreamName.TheVariants as name
+use Rattle.vb_calls.specs.declared.calls.VbCall.{VbCall}
+use Rattle.vb_calls.specs.declared.calls.VbCall.TheVariants as call
 use Rattle.vb_calls.specs.Programs.{Prog, Done, Call}
 use Rattle.flow_control.specs.Windows.{new_window}
 use Rattle.dcp_producer.specs.declared.desk.Desk.{Desk}
@@ -13,13 +15,40 @@ use Rattle.dcp_producer.specs.declared.desk.Handshake.TheVariants as handshake
 use Rattle.dcp_producer.specs.declared.desk.Named.TheVariants as named
 use Rattle.dcp_producer.specs.declared.halt.Halt.{Halt}
 use Rattle.dcp_producer.specs.declared.halt.Halt.TheVariants as halt
-use Rattle.dcp_producer.specs.Ending.{ended_by}
-use Rattle.dcp_producer.specs.Producers.{PlainProducer, PlainStream, Served, begun}
+use Rattle.dcp_producer.specs.Producers.{PlainProducer, PlainStream, Served, begun, with_opened, without_stream}
 use Rattle.dcp_producer.specs.Pulling.{frames_put}
 
--- the connection of the link 1 at the node 2, whose streams have the number 7
+-- the connection of the link 1 at the node 2, with these streams and this turn
 abbrev pub some_desk : Desk
-some_desk = record { stream = stream.Link 1; node = 2; id = 7 }
+some_desk = record { stream = name.Link 1; node = 2; base = 7 }
+
+abbrev pub with_streams : List PlainStream → ℕ → PlainProducer
+with_streams streams turn = record { desk = some_desk; handshake = handshake.Open true (named.Member 4); asked = 9; streams = streams; turn = turn; window = new_window 0 }
+
+-- what a program comes to where each call is answered with nothing, as by vBuckets that are absent; and the calls that it makes
+abbrev pub alone : {A : Type 0} → Prog A → A
+alone (Done a) = a
+alone (Call v call next) = alone (next None)
+
+abbrev pub asked_in : {A : Type 0} → Prog A → List (ℕ × VbCall)
+asked_in (Done a) = []
+asked_in (Call v call next) = (v, call) ∷ asked_in (next None)
+
+-- a pull of so many frames
+abbrev pub pull : ℕ → PlainProducer → Prog (Served × Halt)
+pull frames end = frames_put frames (begun end)
+
+-- what it told, how many frames it counted, why it put no more, and the connection then
+abbrev pub lines_in : Prog (Served × Halt) → List Event
+lines_in prog = (alone prog).0.events
+
+abbrev pub count_in : Prog (Served × Halt) → ℕ × Halt
+count_in prog = ((alone prog).0.count, (alone prog).1)
+
+abbrev pub end_in : Prog (Served × Halt) → PlainProducer
+end_in prog = (alone prog).0.end
+
+-- ---- one stream of two items
 
 -- a removal of a key, and a later one of another key
 abbrev pub earlier : Change
@@ -30,75 +59,103 @@ later = record { seq = 8; key = 98 ∷ []; act = act.Abort 4 }
 
 -- a stream of the vBucket 3 with both, of which so many were put, and which a change of role ended or did not end
 abbrev pub some_stream : ℕ → ℕ → Bool → PlainStream
-some_stream next reached ended = record { vb = 3; opaque = 9; items = earlier ∷ later ∷ []; next = next; reached = reached; ended = ended }
+some_stream next reached ended = record { id = 7; vb = 3; opaque = 9; until = 99; items = earlier ∷ later ∷ []; next = next; marked = Some 8; reached = reached; ended = ended }
 
--- that connection, with such a stream or with none
-abbrev pub with_streams : Option PlainStream → PlainProducer
-with_streams s = record { desk = some_desk; handshake = handshake.Open true (named.Member 4); stream = s; window = new_window 0 }
+-- a pull of so many frames of it alone, which has its turn first or last
+abbrev pub pull_of_it : ℕ → PlainStream → Prog (Served × Halt)
+pull_of_it frames stream = pull frames (with_streams (stream ∷ []) 0)
 
--- what a pull told, counted, left and stopped for, where it needs no call
-abbrev pub lines_in : Prog (Served × Halt) → Option (List Event)
-lines_in (Done (s, halted)) = Some s.events
-lines_in (Call v call next) = None
-
-abbrev pub count_in : Prog (Served × Halt) → Option (ℕ × Halt)
-count_in (Done (s, halted)) = Some (s.count, halted)
-count_in (Call v call next) = None
-
-abbrev pub stream_in : Prog (Served × Halt) → Option (Option PlainStream)
-stream_in (Done (s, halted)) = Some s.end.stream
-stream_in (Call v call next) = None
-
--- a pull of so many frames of an ended stream
-abbrev pub pull : ℕ → Option PlainStream → Prog (Served × Halt)
-pull frames s = frames_put frames (begun (with_streams s))
+abbrev pub streams_in : Prog (Served × Halt) → List PlainStream
+streams_in prog = (end_in prog).streams
 
 -- their lines, and that of the end
 abbrev pub first_line : Event
-first_line = event.Item (stream.Link 1) 5 item_act.Remove (97 ∷ [])
+first_line = event.Item (name.Link 1) 5 item_act.Remove (97 ∷ [])
 
 abbrev pub second_line : Event
-second_line = event.Item (stream.Link 1) 8 item_act.Abort (98 ∷ [])
+second_line = event.Item (name.Link 1) 8 item_act.Abort (98 ∷ [])
 
-abbrev pub end_line : Event
-end_line = event.Finished (stream.Link 1) 2
+abbrev pub end_line : ℕ → Event
+end_line reason = event.Finished (name.Link 1) reason
 
--- Each frame is the next item, in the order of the snapshot, and behind the last one an ended stream's end; then the connection has none, and nothing more is put.
+-- Each frame is the next item, in the order of the snapshot, and behind the last one an ended stream's end; then the connection has none, and nothing more is put. Nothing is asked for it.
 pub record PutInTurn : Type 0 where
-  pub none : (lines_in (pull 0 (Some (some_stream 0 4 true))) ≡ Some []) × (count_in (pull 0 (Some (some_stream 0 4 true))) ≡ Some (0, halt.All))
-  pub one : (lines_in (pull 1 (Some (some_stream 0 4 true))) ≡ Some (first_line ∷ [])) × (stream_in (pull 1 (Some (some_stream 0 4 true))) ≡ Some (Some (some_stream 1 5 true)))
-  pub two : (lines_in (pull 2 (Some (some_stream 0 4 true))) ≡ Some (first_line ∷ second_line ∷ [])) × (stream_in (pull 2 (Some (some_stream 0 4 true))) ≡ Some (Some (some_stream 2 8 true)))
-  pub open_two : (lines_in (pull 2 (Some (some_stream 0 4 false))) ≡ Some (first_line ∷ second_line ∷ [])) × (stream_in (pull 2 (Some (some_stream 0 4 false))) ≡ Some (Some (some_stream 2 8 false)))
-  pub rest : lines_in (pull 1 (Some (some_stream 1 5 true))) ≡ Some (second_line ∷ [])
-  pub three : (lines_in (pull 3 (Some (some_stream 0 4 true))) ≡ Some (first_line ∷ second_line ∷ end_line ∷ [])) × (count_in (pull 3 (Some (some_stream 0 4 true))) ≡ Some (3, halt.All)) × (stream_in (pull 3 (Some (some_stream 0 4 true))) ≡ Some None)
-  pub more : (lines_in (pull 9 (Some (some_stream 0 4 true))) ≡ Some (first_line ∷ second_line ∷ end_line ∷ [])) × (count_in (pull 9 (Some (some_stream 0 4 true))) ≡ Some (3, halt.Idle))
-  pub no_stream : (lines_in (pull 5 None) ≡ Some []) × (count_in (pull 5 None) ≡ Some (0, halt.Idle))
-
--- A change of role at a vBucket ends the stream of this connection exactly where it is that vBucket's and has one of the numbers that are named; all else of any connection stays.
-pub record EndsByNumber : Type 0 where
-  pub named : ended_by 3 (5 ∷ 7 ∷ []) (with_streams (Some (some_stream 1 5 false))) ≡ with_streams (Some (some_stream 1 5 true))
-  pub first : ended_by 3 (7 ∷ 5 ∷ []) (with_streams (Some (some_stream 1 5 false))) ≡ with_streams (Some (some_stream 1 5 true))
-  pub other : ended_by 3 (5 ∷ 8 ∷ []) (with_streams (Some (some_stream 1 5 false))) ≡ with_streams (Some (some_stream 1 5 false))
-  pub no_number : ended_by 3 [] (with_streams (Some (some_stream 1 5 false))) ≡ with_streams (Some (some_stream 1 5 false))
-  pub elsewhere : ended_by 4 (7 ∷ []) (with_streams (Some (some_stream 1 5 false))) ≡ with_streams (Some (some_stream 1 5 false))
-  pub again : ended_by 4 [] (with_streams (Some (some_stream 1 5 true))) ≡ with_streams (Some (some_stream 1 5 true))
-  pub no_stream : ended_by 3 (7 ∷ []) (with_streams None) ≡ with_streams None
-  pub rest : (v : ℕ) (ids : List ℕ) (end : PlainProducer) → ended_by v ids end ≡ record end { stream = (ended_by v ids end).stream }
+  pub none : (lines_in (pull_of_it 0 (some_stream 0 4 true)) ≡ []) × (count_in (pull_of_it 0 (some_stream 0 4 true)) ≡ (0, halt.All))
+  pub one : (lines_in (pull_of_it 1 (some_stream 0 4 true)) ≡ first_line ∷ []) × (streams_in (pull_of_it 1 (some_stream 0 4 true)) ≡ some_stream 1 5 true ∷ [])
+  pub two : (lines_in (pull_of_it 2 (some_stream 0 4 true)) ≡ first_line ∷ second_line ∷ []) × (streams_in (pull_of_it 2 (some_stream 0 4 true)) ≡ some_stream 2 8 true ∷ [])
+  pub open_two : (lines_in (pull_of_it 2 (some_stream 0 4 false)) ≡ first_line ∷ second_line ∷ []) × (streams_in (pull_of_it 2 (some_stream 0 4 false)) ≡ some_stream 2 8 false ∷ [])
+  pub rest : lines_in (pull_of_it 1 (some_stream 1 5 true)) ≡ second_line ∷ []
+  pub three : (lines_in (pull_of_it 3 (some_stream 0 4 true)) ≡ first_line ∷ second_line ∷ end_line 2 ∷ []) × (count_in (pull_of_it 3 (some_stream 0 4 true)) ≡ (3, halt.All)) × (streams_in (pull_of_it 3 (some_stream 0 4 true)) ≡ [])
+  pub more : (lines_in (pull_of_it 9 (some_stream 0 4 true)) ≡ first_line ∷ second_line ∷ end_line 2 ∷ []) × (count_in (pull_of_it 9 (some_stream 0 4 true)) ≡ (3, halt.Idle)) × (asked_in (pull_of_it 9 (some_stream 0 4 true)) ≡ [])
+  pub no_stream : (lines_in (pull 5 (with_streams [] 0)) ≡ []) × (count_in (pull 5 (with_streams [] 0)) ≡ (0, halt.Idle))
 
 -- a pull of so many frames of that ended stream, through a window of this size
 abbrev pub pull_through : ℕ → ℕ → Prog (Served × Halt)
-pull_through frames size = frames_put frames (begun (record (with_streams (Some (some_stream 0 4 true))) { window = new_window size }))
+pull_through frames size = pull frames (record (with_streams (some_stream 0 4 true ∷ []) 0) { window = new_window size })
 
 -- what is outstanding then
-abbrev pub outstanding_in : Prog (Served × Halt) → Option ℕ
-outstanding_in (Done (s, halted)) = Some s.end.window.outstanding
-outstanding_in (Call v call next) = None
+abbrev pub outstanding_in : Prog (Served × Halt) → ℕ
+outstanding_in prog = (end_in prog).window.outstanding
 
 -- The frames of that stream have 43, 41 and 28 bytes. The window is asked for each: the last one that goes passes over the size, and behind all that were asked for it is not asked.
 pub record HeldAtEdge : Type 0 where
-  pub first : (count_in (pull_through 9 43) ≡ Some (1, halt.Full)) × (outstanding_in (pull_through 9 43) ≡ Some 43)
-  pub both : (count_in (pull_through 9 44) ≡ Some (2, halt.Full)) × (outstanding_in (pull_through 9 44) ≡ Some 84)
-  pub last : (count_in (pull_through 9 84) ≡ Some (2, halt.Full)) × (count_in (pull_through 9 85) ≡ Some (3, halt.Full))
-  pub more : (count_in (pull_through 9 112) ≡ Some (3, halt.Full)) × (count_in (pull_through 9 113) ≡ Some (3, halt.Idle))
-  pub asked : (count_in (pull_through 1 1) ≡ Some (1, halt.All)) × (count_in (pull_through 2 1) ≡ Some (1, halt.Full))
-  pub free : (count_in (pull_through 9 0) ≡ Some (3, halt.Idle)) × (outstanding_in (pull_through 9 0) ≡ Some 0)
+  pub first : (count_in (pull_through 9 43) ≡ (1, halt.Full)) × (outstanding_in (pull_through 9 43) ≡ 43)
+  pub both : (count_in (pull_through 9 44) ≡ (2, halt.Full)) × (outstanding_in (pull_through 9 44) ≡ 84)
+  pub last : (count_in (pull_through 9 84) ≡ (2, halt.Full)) × (count_in (pull_through 9 85) ≡ (3, halt.Full))
+  pub more : (count_in (pull_through 9 112) ≡ (3, halt.Full)) × (count_in (pull_through 9 113) ≡ (3, halt.Idle))
+  pub asked : (count_in (pull_through 1 1) ≡ (1, halt.All)) × (count_in (pull_through 2 1) ≡ (1, halt.Full))
+  pub free : (count_in (pull_through 9 0) ≡ (3, halt.Idle)) × (outstanding_in (pull_through 9 0) ≡ 0)
+
+-- ---- streams that take turns
+
+-- a stream of this number, of a vBucket of its own, with removals of these seqnos to put, of a snapshot that ends at this seqno, where this end was asked for
+abbrev pub removal : ℕ → Change
+removal seq = record { seq = seq; key = 97 ∷ []; act = act.Remove 50 1 }
+
+abbrev pub stream_of : ℕ → ℕ → ℕ → List ℕ → PlainStream
+stream_of id until end seqs = record { id = id; vb = id; opaque = 9; until = until; items = map removal seqs; next = 0; marked = Some end; reached = 0; ended = false }
+
+-- the removals of these seqnos were put, in this order
+abbrev pub item_of : ℕ → Event
+item_of seq = event.Item (name.Link 1) seq item_act.Remove (97 ∷ [])
+
+abbrev pub items_of : List ℕ → List Event
+items_of seqs = map item_of seqs
+
+-- a stream A, and another one B that is opened when A had the last turn
+abbrev pub a_alone : PlainProducer
+a_alone = with_streams (stream_of 1 99 12 (11 ∷ 12 ∷ []) ∷ []) 0
+
+abbrev pub b_opened : PlainProducer
+b_opened = with_opened (stream_of 2 99 22 (21 ∷ 22 ∷ [])) (end_in (pull 1 a_alone))
+
+-- three streams; behind four turns the first one is closed, and it is opened anew when the second had the last turn
+abbrev pub three_open : PlainProducer
+three_open = with_streams (stream_of 1 99 12 (11 ∷ 12 ∷ 13 ∷ []) ∷ stream_of 2 99 24 (21 ∷ 22 ∷ 23 ∷ 24 ∷ []) ∷ stream_of 3 99 34 (31 ∷ 32 ∷ 33 ∷ 34 ∷ []) ∷ []) 0
+
+abbrev pub first_closed : PlainProducer
+first_closed = without_stream 1 (end_in (pull 4 three_open))
+
+abbrev pub opened_anew : PlainProducer
+opened_anew = with_opened (stream_of 4 99 41 (41 ∷ [])) (end_in (pull 3 first_closed))
+
+-- The stream that was opened next after the one that had the last turn comes next, and behind the newest the oldest; one that is opened when the newest had the last turn comes before the oldest.
+pub record TurnsInOrder : Type 0 where
+  pub before : lines_in (pull 1 a_alone) ≡ items_of (11 ∷ [])
+  pub opened : lines_in (pull 3 b_opened) ≡ items_of (21 ∷ 12 ∷ 22 ∷ [])
+  pub round : lines_in (pull 4 three_open) ≡ items_of (11 ∷ 21 ∷ 31 ∷ 12 ∷ [])
+  pub closed : lines_in (pull 3 first_closed) ≡ items_of (22 ∷ 32 ∷ 23 ∷ [])
+  pub anew : lines_in (pull 4 opened_anew) ≡ items_of (33 ∷ 41 ∷ 24 ∷ 34 ∷ [])
+
+-- ---- a requested end
+
+-- a stream for which the end 2 was asked, with a snapshot that ends at 3, and one for which the end 4 was
+abbrev pub ends_at : ℕ → PlainProducer
+ends_at until = with_streams (stream_of 5 until 3 (1 ∷ 2 ∷ 3 ∷ []) ∷ []) 0
+
+-- The snapshot that reaches the end is put whole, also above it, and behind its last item the stream is closed at its vBucket, once, and is over with reason 0; one whose snapshot does not reach it is not, and its vBucket is asked on.
+pub record EndsBehindItems : Type 0 where
+  pub items : (lines_in (pull 3 (ends_at 2)) ≡ items_of (1 ∷ 2 ∷ 3 ∷ [])) × (asked_in (pull 3 (ends_at 2)) ≡ [])
+  pub over : (lines_in (pull 9 (ends_at 2)) ≡ item_of 1 ∷ item_of 2 ∷ item_of 3 ∷ end_line 0 ∷ []) × (asked_in (pull 9 (ends_at 2)) ≡ (5, call.CloseStream 5) ∷ []) × (count_in (pull 9 (ends_at 2)) ≡ (4, halt.Idle))
+  pub edge : (lines_in (pull 9 (ends_at 3)) ≡ item_of 1 ∷ item_of 2 ∷ item_of 3 ∷ end_line 0 ∷ []) × (asked_in (pull 9 (ends_at 3)) ≡ (5, call.CloseStream 5) ∷ [])
+  pub above : (asked_in (pull 9 (ends_at 4)) ≡ (5, call.Place 5) ∷ []) × (lines_in (pull 9 (ends_at 4)) ≡ item_of 1 ∷ item_of 2 ∷ item_of 3 ∷ end_line 2 ∷ [])

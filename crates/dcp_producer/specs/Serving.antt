@@ -1,5 +1,5 @@
 -- how a producer answers the frames of a connection, as programs over its node's vBuckets
-use Rattle.std.specs.Prelude.{ℕ, ◌+◌, ◌-◌, ◌==◌, ◌&&◌, ◌||◌, not, Bool, true, false, nat_lt, nat_le, if◌then◌else◌, List, [], ◌∷◌, ◌++◌, length, map, Option, Some, None, Result, Ok, Err, codes, is_some}
+use Rattle.std.specs.Prelude.{ℕ, ◌+◌, ◌*◌, ◌^◌, ◌-◌, ◌==◌, ◌&&◌, not, Bool, true, false, nat_lt, nat_le, if◌then◌else◌, List, [], ◌∷◌, ◌++◌, length, map, Option, Some, None, Result, Ok, Err, codes, is_some}
 use Rattle.std.specs.List.{list_any}
 use Rattle.std.specs.Option.{option_map}
 use Rattle.std.specs.Str.{bytes_eq}
@@ -14,7 +14,7 @@ use Rattle.mcbp_dcp.specs.declared.message.StreamVerdict.{StreamVerdict}
 use Rattle.mcbp_dcp.specs.declared.message.StreamVerdict.TheVariants as told
 use Rattle.mcbp_dcp.specs.declared.shape.TheConstants.{MAX_NAME}
 use Rattle.mcbp_dcp.specs.Rows.{dcp_opcodes}
-use Rattle.mcbp_dcp.specs.DcpFrames.{dcp_frame}
+use Rattle.mcbp_dcp.specs.DcpFrames.{dcp_frame, IsSpelledLog}
 use Rattle.mcbp_dcp.specs.Messages.{read_of}
 use Rattle.vb_events.specs.declared.event.Event.{Event}
 use Rattle.vb_events.specs.declared.event.Event.TheVariants as event
@@ -36,7 +36,7 @@ use Rattle.dcp_producer.specs.declared.desk.Handshake.TheVariants as handshake
 use Rattle.dcp_producer.specs.declared.desk.Named.{Named}
 use Rattle.dcp_producer.specs.declared.desk.Named.TheVariants as named
 use Rattle.flow_control.specs.Windows.{with_acked, with_size}
-use Rattle.dcp_producer.specs.Producers.{PlainStream, PlainProducer, Served, is_open, is_sync, member_of}
+use Rattle.dcp_producer.specs.Producers.{PlainStream, PlainProducer, Served, is_open, is_sync, member_of, stream_at, with_opened, without_stream}
 use Rattle.dcp_producer.specs.Sizes.{size_of}
 
 -- the connection after one more frame was put on its way
@@ -90,11 +90,17 @@ named_by (n ∷ d ∷ []) = if n == 110 && is_digit 9 d then named.Member (d - 4
 named_by (n ∷ one ∷ d ∷ []) = if (n == 110 && one == 49) && is_digit 5 d then named.Member (10 + (d - 48)) else named.Stranger
 named_by other = named.Stranger
 
--- CONTROL of an open connection: the keys of the handshake, `enable_sync_writes` and `consumer_name`, each with its values; None for any other
+-- a value that is known changes nothing
+abbrev pub as_before : {T : Type 0} → Handshake → Option T → Option Handshake
+as_before shaken said = option_map (λ value. shaken) said
+
+-- CONTROL of an open connection: `enable_sync_writes` and `consumer_name` set the handshake, `enable_noop` and `set_noop_interval` change nothing, each with its values; None for any other
 abbrev pub set_by : Bool → Named → List ℕ → List ℕ → Option Handshake
 set_by sync_writes name key value =
     if bytes_eq key (codes "enable_sync_writes") then option_map (λ flag. handshake.Open flag name) (flag_of value)
     else if bytes_eq key (codes "consumer_name") then (if is_name value then Some (handshake.Open sync_writes (named_by value)) else None)
+    else if bytes_eq key (codes "enable_noop") then as_before (handshake.Open sync_writes name) (flag_of value)
+    else if bytes_eq key (codes "set_noop_interval") then as_before (handshake.Open sync_writes name) (size_of value)
     else None
 
 -- CONTROL: nothing is set before OPEN
@@ -171,17 +177,30 @@ abbrev pub ask_verdict : Option VbReply → AskAnswer
 ask_verdict None = refuse status.NotMyVbucket
 ask_verdict (Some reply) = verdict_of reply.answer
 
--- why the producer itself refuses a request for a stream: Einval before OPEN and for flags that are not known, NotSupported for a takeover
-abbrev pub request_refusal : Handshake → StreamAsk → Option Status
-request_refusal shaken ask =
-    if not (is_open shaken) then Some status.Einval
+-- how many streams one connection may ask vBuckets to open
+abbrev pub MOST_STREAMS : ℕ
+MOST_STREAMS = 2 ^ 32 - 1
+
+-- why the producer itself refuses a request for a stream: Einval before OPEN and for flags that are not known, NotSupported for a takeover, Etmpfail where it asked for so many streams that no number is left
+abbrev pub request_refusal : PlainProducer → StreamAsk → Option Status
+request_refusal end ask =
+    if not (is_open end.handshake) then Some status.Einval
     else if nat_lt 1 ask.flags then Some status.Einval
     else if ask.flags == 1 then Some status.NotSupported
+    else if nat_le MOST_STREAMS end.asked then Some status.Etmpfail
     else None
 
--- the number under which the vBucket is asked to open the stream: 0, under which it opens none, where the producer refuses by itself or has a stream
-abbrev pub opening_id : PlainProducer → StreamAsk → ℕ
-opening_id end ask = if is_some (request_refusal end.handshake ask) || is_some end.stream then 0 else end.desk.id
+-- a vBucket is asked to open a stream: nothing here refuses the request, and the connection has no stream of this vBucket
+abbrev pub opens : PlainProducer → ℕ → StreamAsk → Bool
+opens end v ask = not (is_some (request_refusal end ask)) && not (is_some (stream_at v end.streams))
+
+-- the number of the next stream: no other stream of a node has it
+abbrev pub next_stream : PlainProducer → ℕ
+next_stream end = end.desk.base * 2 ^ 32 + (end.asked + 1)
+
+-- one more stream was asked for
+abbrev pub with_asked : PlainProducer → PlainProducer
+with_asked end = record end { asked = end.asked + 1 }
 
 -- the producer's own refusal stands before what the vBucket said
 abbrev pub verdict_with : Option Status → AskAnswer → AskAnswer
@@ -195,14 +214,20 @@ stream_verdict log (ask_answer.Roll to) = told.Roll to
 stream_verdict log (ask_answer.Refuse code) = told.Refused code
 
 -- a stream begins with no snapshot taken, and its consumer has all up to the start that it asked for
-abbrev pub new_stream : Frame → StreamAsk → PlainStream
-new_stream f ask = record { vb = f.vb_or_status; opaque = f.opaque; items = []; next = 0; reached = ask.start; ended = false }
+abbrev pub new_stream : ℕ → Frame → StreamAsk → PlainStream
+new_stream id f ask = record { id = id; vb = f.vb_or_status; opaque = f.opaque; until = ask.end; items = []; next = 0; marked = None; reached = ask.start; ended = false }
 
--- a request that is let continue makes the connection's stream
-abbrev pub with_stream : PlainProducer → Frame → StreamAsk → AskAnswer → PlainProducer
-with_stream end f ask ask_answer.Go = record end { stream = Some (new_stream f ask) }
-with_stream end f ask (ask_answer.Roll to) = end
-with_stream end f ask (ask_answer.Refuse code) = end
+-- a request that is let continue makes a stream of this number
+abbrev pub with_granted : PlainProducer → ℕ → Frame → StreamAsk → AskAnswer → PlainProducer
+with_granted end id f ask ask_answer.Go = with_opened (new_stream id f ask) end
+with_granted end id f ask (ask_answer.Roll to) = end
+with_granted end id f ask (ask_answer.Refuse code) = end
+
+-- a stream that was listed is one of the connection only where the vBucket lets it continue
+abbrev pub kept_listed : AskAnswer → ℕ → PlainProducer → PlainProducer
+kept_listed ask_answer.Go id end = end
+kept_listed (ask_answer.Roll to) id end = without_stream id end
+kept_listed (ask_answer.Refuse code) id end = without_stream id end
 
 -- the line of an answer to a request for a stream: the last seqno and the failover log are the producer's own
 abbrev pub ask_line : Desk → Frame → StreamAsk → List LogEntry → ℕ → AskAnswer → Event
@@ -211,25 +236,82 @@ ask_line desk f ask log high verdict = event.Asked desk.stream desk.node f.vb_or
 -- the answer to a request for a stream goes out, and a line tells of it
 unfoldable pub stream_answered : Frame → StreamAsk → Served → List LogEntry → ℕ → AskAnswer → Served
 stream_answered f ask s log high verdict = record {
-  end = with_stream s.end f ask verdict;
+  end = s.end;
   events = s.events ++ ask_line s.end.desk f ask log high verdict ∷ [];
   out = s.out ++ spelling (dcp_frame (msg.StreamAnswer (stream_verdict log verdict)) f.opaque 0);
   count = s.count;
   resolved = s.resolved;
 }
 
--- the answer to a request for a stream, by the vBucket's one reply
-abbrev pub request_answered : Frame → StreamAsk → Served → Option VbReply → Served
-request_answered f ask s reply = stream_answered f ask s (log_of_reply reply) (high_of_reply reply) (verdict_with (request_refusal s.end.handshake ask) (ask_verdict reply))
+-- the vBucket's answer to a request under a number of its own
+abbrev pub opened_answered : Frame → StreamAsk → Served → Option VbReply → Served
+opened_answered f ask s reply =
+    stream_answered f ask (record s { end = with_granted (with_asked s.end) (next_stream s.end) f ask (ask_verdict reply) })
+    (log_of_reply reply) (high_of_reply reply) (ask_verdict reply)
+
+-- the vBucket is asked to open a stream, under a number of its own
+abbrev pub opening_requested : Frame → StreamAsk → Served → Prog Served
+opening_requested f ask s = Call f.vb_or_status (call.OpenStream (next_stream s.end) ask (is_sync s.end.handshake)) (λ reply. Done (opened_answered f ask s reply))
+
+-- the vBucket's answer to a request under no number; the producer's own refusal stands before it
+abbrev pub refused_answered : Frame → StreamAsk → Served → Option VbReply → Served
+refused_answered f ask s reply = stream_answered f ask s (log_of_reply reply) (high_of_reply reply) (verdict_with (request_refusal s.end ask) (ask_verdict reply))
+
+-- the vBucket is asked under the number 0, under which it opens none: it tells its failover log and its last seqno, and what stands first against the request
+abbrev pub refusal_requested : Frame → StreamAsk → Served → Prog Served
+refusal_requested f ask s = Call f.vb_or_status (call.OpenStream 0 ask (is_sync s.end.handshake)) (λ reply. Done (refused_answered f ask s reply))
 
 -- STREAM_REQUEST: the vBucket is asked once, and tells its failover log and its last seqno whatever it says
 unfoldable pub stream_request : Frame → StreamAsk → Served → Prog Served
-stream_request f ask s = Call f.vb_or_status (call.OpenStream (opening_id s.end ask) ask (is_sync s.end.handshake)) (λ reply. Done (request_answered f ask s reply))
+stream_request f ask s = if opens s.end f.vb_or_status ask then opening_requested f ask s else refusal_requested f ask s
 
--- the connection's stream, where it is one of the vBucket v; one that a change of role ended counts as none, also before its end is put
-abbrev pub stream_of : ℕ → Option PlainStream → Option PlainStream
-stream_of v None = None
-stream_of v (Some stream) = if stream.vb == v && not stream.ended then Some stream else None
+-- an open connection's request is answered so, and before OPEN it is Einval
+abbrev pub once_open : Frame → Served → Prog Served → Prog Served
+once_open f s prog = if is_open s.end.handshake then prog else Done (status_sent f status.Einval s)
+
+-- the stream of a number is no more, and its consumer is told so
+abbrev pub closed_sent : Frame → ℕ → Served → Served
+closed_sent f id s = status_sent f status.Success (record s { end = without_stream id s.end })
+
+-- CLOSE_STREAM, by the connection's stream of that vBucket: it is closed there, unless a change of role ended it; then the vBucket may know another stream by its number. Of what was taken nothing more is put
+abbrev pub stream_closed : Frame → Served → Option PlainStream → Prog Served
+stream_closed f s None = Done (status_sent f status.KeyEnoent s)
+stream_closed f s (Some stream) =
+    if stream.ended then Done (closed_sent f stream.id s)
+    else Call stream.vb (call.CloseStream stream.id) (λ reply. Done (closed_sent f stream.id s))
+
+-- CLOSE_STREAM: KeyEnoent where the connection has no stream of the vBucket; one whose end is not put counts as one
+abbrev pub close_requested : Frame → Served → Prog Served
+close_requested f s = once_open f s (stream_closed f s (stream_at f.vb_or_status s.end.streams))
+
+-- the failover log, as an answer that has it tells it
+abbrev pub log_given : VbAnswer → Option (List LogEntry)
+log_given (answer.Logged log) = Some log
+log_given other = None
+
+-- a log that was given can be sent
+abbrev pub IsSendable : Option (List LogEntry) → Type 0
+IsSendable None = Unit {0}
+IsSendable (Some log) = IsSpelledLog (status_code status.Success) log
+
+-- GET_FAILOVER_LOG, by the vBucket's log; a vBucket gives no other answer
+abbrev pub log_sent : Frame → Served → Option (List LogEntry) → Served
+log_sent f s None = status_sent f status.Einval s
+log_sent f s (Some log) = with_frame s (dcp_frame (msg.LogAnswer (status_code status.Success) log) f.opaque 0)
+
+-- NotMyVbucket where there is no such vBucket
+abbrev pub log_answered : Frame → Served → Option VbReply → Served
+log_answered f s None = status_sent f status.NotMyVbucket s
+log_answered f s (Some reply) = log_sent f s (log_given reply.answer)
+
+-- GET_FAILOVER_LOG: the failover log of a vBucket, whatever its role
+abbrev pub log_requested : Frame → Served → Prog Served
+log_requested f s = once_open f s (Call f.vb_or_status call.Log (λ reply. Done (log_answered f s reply)))
+
+-- a stream that is fed; one that a change of role ended counts as none, also before its end is put
+abbrev pub fed_stream : Option PlainStream → Option PlainStream
+fed_stream None = None
+fed_stream (Some stream) = if stream.ended then None else Some stream
 
 -- whose acknowledgement of all up to a seqno it is, or why the producer refuses it: NotSupported where there is no such stream, next Einval where the consumer's name is no member's, and Erange above what the consumer may have
 abbrev pub weighed : ℕ → Option PlainStream → Option ℕ → Result ℕ Status
@@ -263,9 +345,13 @@ abbrev pub count_requested : Frame → ℕ → Served → Result ℕ Status → 
 count_requested f seq s (Err st) = Done (status_sent f st s)
 count_requested f seq s (Ok member) = Call f.vb_or_status (call.Ack member seq) (λ reply. Done (count_answered f member seq s reply))
 
--- SEQNO_ACKNOWLEDGED: the consumer has all up to this seqno
+-- SEQNO_ACKNOWLEDGED: the consumer has all up to this seqno; Einval before OPEN, as all requests are
 unfoldable pub acknowledged : Frame → ℕ → Served → Prog Served
-acknowledged f seq s = count_requested f seq s (weighed seq (stream_of f.vb_or_status s.end.stream) (member_of s.end.handshake))
+acknowledged f seq s = once_open f s (count_requested f seq s (weighed seq (fed_stream (stream_at f.vb_or_status s.end.streams)) (member_of s.end.handshake)))
+
+-- NOOP
+abbrev pub noop_answered : Frame → Served → Served
+noop_answered f s = status_sent f (if is_open s.end.handshake then status.Success else status.Einval) s
 
 -- BUFFER_ACKNOWLEDGEMENT: so many bytes are outstanding no more; there is no answer, unless it comes before OPEN
 abbrev pub bytes_acknowledged : Frame → ℕ → Served → Served
@@ -280,6 +366,9 @@ message_answered f (msg.Control key value) s = Done (control_answered f key valu
 message_answered f (msg.StreamRequest ask) s = stream_request f ask s
 message_answered f (msg.SeqnoAcknowledged seq) s = acknowledged f seq s
 message_answered f (msg.BufferAcknowledgement bytes) s = Done (bytes_acknowledged f bytes s)
+message_answered f msg.CloseStream s = close_requested f s
+message_answered f msg.GetFailoverLog s = log_requested f s
+message_answered f msg.Noop s = Done (noop_answered f s)
 message_answered f other s = Done (status_sent f status.Einval s)
 
 -- a message that was read, or Einval where a part is not the row's

@@ -1,6 +1,5 @@
 -- what is left of a producer where memory was wanting in a call
-use Rattle.std.specs.Prelude.{ℕ, ◌≡◌, ◌⊎◌, Bool, Option, Result, Ok, Err}
-use Rattle.std.specs.Option.{option_map}
+use Rattle.std.specs.Prelude.{ℕ, ◌≡◌, ◌⊎◌, Bool, List, [], ◌∷◌, map, Option, Result, Ok, Err}
 use Rattle.vb_calls.specs.declared.calls.VbCall.{VbCall}
 use Rattle.vb_calls.specs.declared.calls.VbReply.{VbReply}
 use Rattle.vb_calls.specs.Programs.{Prog, Done, Call}
@@ -16,19 +15,24 @@ abbrev pub Left : {W : Type 0} → (W → ℕ → VbCall → Option VbReply → 
 Left step (Done s) old end new = (end ≡ s.end) × (new ≡ old)
 Left step (Call v call next) old end new = (reply : Option VbReply) × (mid : _) × step old v call reply mid × Left step (next reply) mid end new
 
+-- a connection as before, but for how many streams it asked for
+abbrev pub Stood : PlainProducer → PlainProducer → Type 0
+Stood before end = end ≡ record before { asked = end.asked }
+
 -- nothing was done to the connection and the vBuckets, or all
 abbrev pub Cut : {W : Type 0} → (W → ℕ → VbCall → Option VbReply → W → Type 0) → Prog Served → PlainProducer → W → PlainProducer → W → Type 0
-Cut step prog before old end new = ((end ≡ before) × (new ≡ old)) ⊎ Left step prog old end new
+Cut step prog before old end new = (Stood before end × (new ≡ old)) ⊎ Left step prog old end new
 
 -- a stream as its vBucket and its consumer know it
-abbrev pub standing : PlainStream → ℕ × ℕ × Bool
-standing stream = (stream.vb, stream.opaque, stream.ended)
+abbrev pub standing : PlainStream → ℕ × ℕ × ℕ × Bool
+standing stream = (stream.id, stream.vb, stream.opaque, stream.ended)
 
--- the connection has the same stream, or none as before, and the same desk and handshake; of its window nothing is said
+-- the second list is the first one, less some
+abbrev pub IsPart : {X : Type 0} → List X → List X → Type 0
+IsPart [] part = part ≡ []
+IsPart (x ∷ all) [] = Unit {0}
+IsPart (x ∷ all) (y ∷ part) = ((x ≡ y) × IsPart all part) ⊎ IsPart all (y ∷ part)
+
+-- the connection is the same one with the same streams, less those that ended; of its window and of whose turn it is nothing is said
 abbrev pub Stays : PlainProducer → PlainProducer → Type 0
-Stays old new = (new.desk ≡ old.desk) × (new.handshake ≡ old.handshake) × (option_map standing new.stream ≡ option_map standing old.stream)
-
--- a turn at a stream leaves it the same stream of the same connection, with the same window
-abbrev pub SameThere : Served → PlainStream → Served → PlainStream → Type 0
-SameThere s stream s' stream' =
-    (s'.end.desk ≡ s.end.desk) × (s'.end.handshake ≡ s.end.handshake) × (s'.end.window ≡ s.end.window) × (standing stream' ≡ standing stream)
+Stays old new = (new.desk ≡ old.desk) × (new.handshake ≡ old.handshake) × (new.asked ≡ old.asked) × IsPart (map standing old.streams) (map standing new.streams)

@@ -1,7 +1,7 @@
 //! How a producer counts what its consumer acknowledges: changes, and bytes.
 ghost use Rattle.std.specs.Prelude.{◌≡◌, ◌++◌, ◌∷◌, map, OnOk, OnErr};
-ghost use Rattle.dcp_producer.specs.Serving.{stream_of, weighed, with_event, counted_line, counted_with, counted_by, count_answered, acknowledged, bytes_acknowledged};
-ghost use Rattle.{dcp_producer.specs.Producers.{member_of}, dcp_producer.specs.Wanting.{Cut, Sent}, vb_calls.specs.Programs.{Ran}};
+ghost use Rattle.dcp_producer.specs.Serving.{fed_stream, weighed, with_event, counted_line, counted_with, counted_by, count_answered, acknowledged, bytes_acknowledged};
+ghost use Rattle.{dcp_producer.specs.Producers.{member_of, stream_at}, dcp_producer.specs.Wanting.{Cut, Sent}, vb_calls.specs.Programs.{Ran}};
 ghost use Rattle.vb_events.specs.declared.event.Event.TheVariants.{Changed};
 
 use crate::{Alloc, Connection};
@@ -23,10 +23,11 @@ fn resolved_of(alloc: Global, mut reply: VbReply) -> Listed<Resolved>
 impl Connection {
     /// Whose acknowledgement of all up to a seqno of the vBucket `vb` it is, or why it is refused.
     fn weigh(&self, vb: u16, seq: u64) -> Result<u8, Status>
-        ensures { result ≡ weighed seq (stream_of vb self.now.end.stream) (member_of self.now.end.handshake) }
+        ensures { result ≡ weighed seq (fed_stream (stream_at vb self.now.end.streams)) (member_of self.now.end.handshake) }
     {
-        let Some(stream) = self.stream.as_ref().filter(|stream| stream.feeds(vb)) else {
-            return Err(Status::NotSupported);
+        let stream = match self.stream_at(vb) {
+            Some(stream) if !stream.is_ended() => stream,
+            _ => return Err(Status::NotSupported),
         };
         let Some(member) = self.handshake.member() else {
             return Err(Status::Einval);
@@ -50,7 +51,8 @@ impl Connection {
         })
     }
 
-    /// Tells of an acknowledgement that was counted, and of each change that the vBucket made with it.
+    /// Tells of an acknowledgement that was counted, and of each change that the vBucket made with
+    /// it.
     fn tell_lines(&mut self, f: &Frame, member: u8, seq: u64, reply: &VbReply) -> Alloc<()>
         ensures { Sent result self.new (record self.old {
           events = self.old.events ++ counted_line self.old.end.desk f.now member seq ∷ map (Changed self.old.end.desk.node f.now.vb_or_status reply.now.branch) reply.now.changes;
@@ -108,6 +110,9 @@ impl Connection {
         ensures ok { OnOk result (Ran A.step (acknowledged f.now seq self.old) vbs.old self.new vbs.new) }
         ensures err { OnErr result (Cut A.step (acknowledged f.now seq self.old) self.old.end vbs.old self.new.end vbs.new) }
     {
+        if !self.handshake.is_open() {
+            return self.send_status(f, Status::Einval);
+        }
         let vb = f.vb_or_status;
         let member = match self.weigh(vb, seq) {
             Ok(member) => member,
@@ -117,8 +122,8 @@ impl Connection {
         self.answer_if(f, member, seq, reply)
     }
 
-    /// Takes bytes out of the window that the consumer acknowledged. There is no answer, unless OPEN did
-    /// not come.
+    /// Takes bytes out of the window that the consumer acknowledged. There is no answer, unless
+    /// OPEN did not come.
     pub fn acknowledge_bytes(&mut self, f: &Frame, bytes: u32) -> Alloc<()>
         ensures { Sent result self.new (bytes_acknowledged f.now bytes self.old) }
     {

@@ -1,6 +1,6 @@
-//! The frames of a stream, out of the snapshots that it is given.
-ghost use Rattle.std.specs.Prelude.{◌≡◌, ◌&&◌, ◌==◌, not, if◌then◌else◌, ◌+◌, ◌^◌, ◌<◌, slice_get, IsSome};
-ghost use Rattle.{std.specs.Option.{option_copied}, dcp_producer.specs.Ending.{ended_in}, dcp_producer.specs.Pulling.{past_item, with_snapshot}, dcp_producer.specs.Serving.{new_stream}};
+//! A stream: the snapshot that it was given last, and how far it was put.
+ghost use Rattle.std.specs.Prelude.{◌≡◌, ◌&&◌, ◌==◌, ◌+◌, ◌^◌, ◌<◌, slice_get, IsSome};
+ghost use Rattle.{std.specs.Option.{option_copied}, dcp_producer.specs.Ending.{ended_in}, dcp_producer.specs.Frames.{past_item, reaches_end, with_snapshot}, dcp_producer.specs.Serving.{new_stream}};
 
 use mcbp_frame::Frame;
 use std::alloc::Global;
@@ -16,15 +16,19 @@ pub enum StreamState {
     Ended,
 }
 
-/// A stream that was opened: of which vBucket, and with which opaque its frames go. Of the snapshot
-/// that was taken last, the items before `next` have been put. Its consumer may have all up to
-/// `reached`: the start that it asked for, or the last item that was put.
+/// A stream that was opened: under which number, of which vBucket, and with which opaque its frames
+/// go. Of the snapshot that was taken last, the items before `next` have been put; `marked` is the
+/// END of its marker. Its consumer asked for all up to `until`, and may have all up to `reached`:
+/// the start that it asked for, or the last item that was put.
 #[derive(Drop)]
 pub struct ActiveStream {
+    pub id: u64,
     pub vb: u16,
     pub opaque: u32,
+    until: u64,
     items: Listed<Change>,
     next: usize,
+    marked: Option<u64>,
     reached: u64,
     state: StreamState,
 }
@@ -34,22 +38,32 @@ impl Model for ActiveStream {
 
     ghost Value = { PlainStream };
 
-    ghost view = { λ s. record { vb = s.vb; opaque = s.opaque; items = s.items; next = s.next; reached = s.reached; ended = is_ended s.state } };
+    ghost view = { λ s. record { id = s.id; vb = s.vb; opaque = s.opaque; until = s.until; items = s.items; next = s.next; marked = s.marked; reached = s.reached; ended = is_ended s.state } };
 }
 
 impl ActiveStream {
-    /// The stream that this request asks for.
-    pub fn new(alloc: Global, request: &Frame, ask: &StreamAsk) -> ActiveStream
-        ensures { result ≡ new_stream request.now ask.now }
+    /// The stream of this number that this request asks for.
+    pub fn new(alloc: Global, id: u64, request: &Frame, ask: &StreamAsk) -> ActiveStream
+        ensures { result ≡ new_stream id request.now ask.now }
     {
         ActiveStream {
+            id,
             vb: request.vb_or_status,
             opaque: request.opaque,
+            until: ask.end,
             items: Listed::new(alloc),
             next: 0,
+            marked: None,
             reached: ask.start,
             state: StreamState::Memory,
         }
+    }
+
+    /// Its number, and with which opaque and for which vBucket its frames go.
+    pub fn names(&self) -> (u64, u32, u16)
+        ensures { result ≡ (self.now.id, self.now.opaque, self.now.vb) }
+    {
+        (self.id, self.opaque, self.vb)
     }
 
     /// The next item of the snapshot that was taken last.
@@ -67,11 +81,14 @@ impl ActiveStream {
         matches!(self.state, StreamState::Ended)
     }
 
-    /// Whether it is of this vBucket, and no change of role ended it.
-    pub fn feeds(&self, vb: u16) -> bool
-        ensures { result ≡ (self.now.vb == vb && not self.now.ended) }
+    /// Whether the end that its consumer asked for was reached by a marker that was sent.
+    pub fn reaches_end(&self) -> bool
+        ensures { result ≡ reaches_end self.now.until self.now.marked }
     {
-        self.vb == vb && !self.is_ended()
+        match self.marked {
+            Some(end) => self.until <= end,
+            None => false,
+        }
     }
 
     /// The last seqno that its consumer may have.
@@ -90,19 +107,20 @@ impl ActiveStream {
         self.reached = self.reached.max(seq);
     }
 
-    /// Goes to the front of the next snapshot.
+    /// Goes to the front of the next snapshot, behind its marker.
     pub fn give(&mut self, snapshot: Snapshot)
         ensures { self.new ≡ with_snapshot self.old snapshot }
     {
+        self.marked = Some(snapshot.end);
         self.items = snapshot.items;
         self.next = 0;
     }
 
-    /// Ends the stream, if it is of this vBucket and opened under one of these numbers.
-    pub fn end_if(&mut self, vb: u16, ids: &[u64], id: u64)
-        ensures { self.new ≡ ended_in vb ids.now id self.old }
+    /// Ends the stream, if it is of this vBucket and has one of these numbers.
+    pub fn end_if(&mut self, vb: u16, ids: &[u64])
+        ensures { self.new ≡ ended_in vb ids.now self.old }
     {
-        if self.vb == vb && ids.contains(&id) {
+        if self.vb == vb && ids.contains(&self.id) {
             self.state = StreamState::Ended;
         }
     }

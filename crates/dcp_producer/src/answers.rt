@@ -1,14 +1,14 @@
 //! How a producer answers the requests of a connection.
-ghost use Rattle.std.specs.Prelude.{◌≡◌, OnOk, OnErr};
-ghost use Rattle.dcp_producer.specs.Serving.{with_frame, set_answered, sized_as, control_answered, opening_id, stream_verdict, stream_answered, stream_request, message_answered, read_answered, frame_answered};
-ghost use Rattle.{dcp_producer.specs.Wanting.{Cut, Sent}, mcbp_dcp.specs.DcpFrames.{dcp_frame, IsVerdict}, mcbp_dcp.specs.declared.message.DcpMsg.TheVariants.{StreamAnswer}};
+ghost use Rattle.std.specs.Prelude.{◌≡◌, ◌<◌, ◌-◌, ◌^◌, IfOk, OnOk, OnErr};
+ghost use Rattle.dcp_producer.specs.Serving.{with_frame, ask_verdict, high_of_reply, kept_listed, log_of_reply, set_answered, sized_as, control_answered, close_requested, log_requested, log_sent, IsSendable, new_stream, next_stream, noop_answered, opening_requested, refusal_requested, request_refusal, stream_verdict, stream_answered, stream_request, with_asked, message_answered, read_answered, frame_answered};
+ghost use Rattle.{dcp_producer.specs.Producers.{with_opened, without_stream}, dcp_producer.specs.Wanting.{Cut, Sent}, mcbp_dcp.specs.DcpFrames.{dcp_frame, IsVerdict}, mcbp_dcp.specs.declared.message.DcpMsg.TheVariants.{StreamAnswer}};
 ghost use Rattle.{mcbp_dcp.specs.declared.message.StreamVerdict.TheVariants.{Go, Roll}, vb_calls.specs.Programs.{Ran}};
 
-use crate::replies::{Standing, standing_of};
-use crate::{ActiveStream, Alloc, Connection, Handshake};
+use crate::replies::{Standing, log_of, standing_of};
+use crate::{ActiveStream, Alloc, Connection, Handshake, close_stream};
 use mcbp_dcp::{DcpFault, DcpMsg, StreamVerdict, is_built, is_dcp, read_dcp};
 use mcbp_frame::{Frame, RESPONSE};
-use vb_calls::{VbAccess, VbCall};
+use vb_calls::{VbAccess, VbCall, VbReply};
 use vb_events::Event;
 use vb_types::{AskAnswer, Listed, LogEntry, Status, StreamAsk};
 
@@ -82,15 +82,12 @@ impl Connection {
         }
     }
 
-    /// Answers a request for a stream, and tells of it.
+    /// Puts the answer to a request for a stream on its way, and tells of it.
     #[tactic(auto, unfolding(crate::specs::Serving::stream_answered))]
     fn answer_stream(&mut self, f: &Frame, ask: &StreamAsk, standing: Standing) -> Alloc<()>
         requires { IsVerdict (Go standing.log) }
         ensures { Sent result self.new (stream_answered f.now ask.now self.old standing.log standing.high standing.said) }
     {
-        if standing.said == AskAnswer::Go {
-            self.stream = Some(ActiveStream::new(self.alloc, f, ask));
-        }
         self.send_verdict(f, &standing)?;
         self.events.push(Event::Asked {
             stream: self.desk.stream,
@@ -103,15 +100,95 @@ impl Connection {
         })
     }
 
-    /// The number under which the vBucket is asked to open a stream; 0, under which it opens none,
-    /// where the request is refused here or the connection has a stream.
-    fn opening_id(&self, ask: &StreamAsk) -> u64
-        ensures { result ≡ opening_id self.now.end ask.now }
+    /// Why the producer itself refuses a request for a stream.
+    fn request_refusal(&self, ask: &StreamAsk) -> Option<Status>
+        ensures { result ≡ request_refusal self.now.end ask.now }
     {
-        if self.handshake.request_refusal(ask).is_some() || self.stream.is_some() {
-            0
+        if !self.handshake.is_open() || ask.flags > 1 {
+            Some(Status::Einval)
+        } else if ask.flags == 1 {
+            Some(Status::NotSupported)
+        } else if self.asked == u32::MAX {
+            Some(Status::Etmpfail)
         } else {
-            self.desk.id
+            None
+        }
+    }
+
+    /// Asks the vBucket what it says to a request that opens no stream, and answers so.
+    fn refuse_request<A: VbAccess>(&mut self, vbs: &mut A, f: &Frame, ask: &StreamAsk) -> Alloc<()>
+        ensures ok { OnOk result (Ran A.step (refusal_requested f.now ask.now self.old) vbs.old self.new vbs.new) }
+        ensures err { OnErr result (Cut A.step (refusal_requested f.now ask.now self.old) self.old.end vbs.old self.new.end vbs.new) }
+    {
+        let call = VbCall::OpenStream {
+            id: 0,
+            ask: *ask,
+            sync: self.handshake.is_sync(),
+        };
+        let reply = vbs.call(f.vb_or_status, call)?;
+        let own = self.request_refusal(ask);
+        self.answer_stream(f, ask, standing_of(self.alloc, own, reply))
+    }
+
+    /// Lists the stream that a request asks for, and gives its number. An `Err` changes nothing but
+    /// how many streams were asked for.
+    fn begin_stream(&mut self, f: &Frame, ask: &StreamAsk) -> Alloc<u64>
+        requires { self.old.end.asked < 2 ^ 32 - 1 }
+        ensures id { IfOk result (λ id. id ≡ next_stream self.old.end) }
+        ensures ok { OnOk result (self.new ≡ record self.old { end = with_opened (new_stream (next_stream self.old.end) f.now ask.now) (with_asked self.old.end) }) }
+        ensures err { OnErr result (self.new ≡ record self.old { end = with_asked self.old.end }) }
+        ensures back { without_stream (next_stream self.old.end) (with_opened (new_stream (next_stream self.old.end) f.now ask.now) (with_asked self.old.end)) ≡ with_asked self.old.end }
+    {
+        let id = u64::from(self.desk.base) * 4_294_967_296 + (u64::from(self.asked) + 1);
+        self.asked += 1;
+        self.list_stream(ActiveStream::new(self.alloc, id, f, ask))?;
+        Ok(id)
+    }
+
+    /// Has the stream that was listed under a number no more, unless it begins.
+    fn keep_listed(&mut self, id: u64, said: AskAnswer)
+        ensures { self.new ≡ record self.old { end = kept_listed said id self.old.end } }
+    {
+        if said != AskAnswer::Go {
+            self.drop_stream(id);
+        }
+    }
+
+    /// Answers the request that asked for the stream of a number, by the vBucket's reply.
+    fn answer_opened(
+        &mut self,
+        f: &Frame,
+        ask: &StreamAsk,
+        id: u64,
+        reply: Option<VbReply>,
+    ) -> Alloc<()>
+        requires { IsVerdict (Go (log_of_reply reply)) }
+        ensures { Sent result self.new (stream_answered f.now ask.now (record self.old { end = kept_listed (ask_verdict reply) id self.old.end }) (log_of_reply reply) (high_of_reply reply) (ask_verdict reply)) }
+    {
+        let standing = standing_of(self.alloc, None, reply);
+        self.keep_listed(id, standing.said);
+        self.answer_stream(f, ask, standing)
+    }
+
+    /// Asks the vBucket to open a stream, which is listed first, so that none is opened that the
+    /// connection does not know; it is listed no more where it does not begin.
+    fn open_stream<A: VbAccess>(&mut self, vbs: &mut A, f: &Frame, ask: &StreamAsk) -> Alloc<()>
+        requires { self.old.end.asked < 2 ^ 32 - 1 }
+        ensures ok { OnOk result (Ran A.step (opening_requested f.now ask.now self.old) vbs.old self.new vbs.new) }
+        ensures err { OnErr result (Cut A.step (opening_requested f.now ask.now self.old) self.old.end vbs.old self.new.end vbs.new) }
+    {
+        let id = self.begin_stream(f, ask)?;
+        let call = VbCall::OpenStream {
+            id,
+            ask: *ask,
+            sync: self.handshake.is_sync(),
+        };
+        match vbs.call(f.vb_or_status, call) {
+            Ok(reply) => self.answer_opened(f, ask, id, reply),
+            Err(stop) => {
+                self.drop_stream(id);
+                Err(stop)
+            }
         }
     }
 
@@ -121,14 +198,70 @@ impl Connection {
         ensures ok { OnOk result (Ran A.step (stream_request f.now ask.now self.old) vbs.old self.new vbs.new) }
         ensures err { OnErr result (Cut A.step (stream_request f.now ask.now self.old) self.old.end vbs.old self.new.end vbs.new) }
     {
-        let call = VbCall::OpenStream {
-            id: self.opening_id(ask),
-            ask: *ask,
-            sync: self.handshake.is_sync(),
+        if self.request_refusal(ask).is_none() && self.stream_at(f.vb_or_status).is_none() {
+            self.open_stream(vbs, f, ask)
+        } else {
+            self.refuse_request(vbs, f, ask)
+        }
+    }
+
+    /// Answers CLOSE_STREAM.
+    fn answer_close<A: VbAccess>(&mut self, vbs: &mut A, f: &Frame) -> Alloc<()>
+        ensures ok { OnOk result (Ran A.step (close_requested f.now self.old) vbs.old self.new vbs.new) }
+        ensures err { OnErr result (Cut A.step (close_requested f.now self.old) self.old.end vbs.old self.new.end vbs.new) }
+    {
+        if !self.handshake.is_open() {
+            return self.send_status(f, Status::Einval);
+        }
+        let Some(stream) = self.stream_at(f.vb_or_status) else {
+            return self.send_status(f, Status::KeyEnoent);
         };
-        let reply = vbs.call(f.vb_or_status, call)?;
-        let own = self.handshake.request_refusal(ask);
-        self.answer_stream(f, ask, standing_of(self.alloc, own, reply))
+        let id = stream.id;
+        if !stream.is_ended() {
+            close_stream(vbs, stream.vb, id);
+        }
+        self.drop_stream(id);
+        self.send_status(f, Status::Success)
+    }
+
+    /// Answers GET_FAILOVER_LOG, by the log that the vBucket gave.
+    fn answer_log(&mut self, f: &Frame, log: Option<Listed<LogEntry>>) -> Alloc<()>
+        requires { IsSendable log }
+        ensures { Sent result self.new (log_sent f.now self.old log) }
+    {
+        match log {
+            Some(log) => {
+                let status = Status::Success.code();
+                self.send(DcpMsg::LogAnswer { status, log }, f.opaque, 0)
+            }
+            None => self.send_status(f, Status::Einval),
+        }
+    }
+
+    /// Answers GET_FAILOVER_LOG.
+    fn request_log<A: VbAccess>(&mut self, vbs: &mut A, f: &Frame) -> Alloc<()>
+        ensures ok { OnOk result (Ran A.step (log_requested f.now self.old) vbs.old self.new vbs.new) }
+        ensures err { OnErr result (Cut A.step (log_requested f.now self.old) self.old.end vbs.old self.new.end vbs.new) }
+    {
+        if !self.handshake.is_open() {
+            return self.send_status(f, Status::Einval);
+        }
+        match vbs.call(f.vb_or_status, VbCall::Log)? {
+            Some(reply) => self.answer_log(f, log_of(reply)),
+            None => self.send_status(f, Status::NotMyVbucket),
+        }
+    }
+
+    /// Answers NOOP.
+    fn answer_noop(&mut self, f: &Frame) -> Alloc<()>
+        ensures { Sent result self.new (noop_answered f.now self.old) }
+    {
+        let status = if self.handshake.is_open() {
+            Status::Success
+        } else {
+            Status::Einval
+        };
+        self.send_status(f, status)
     }
 
     /// Answers a message.
@@ -145,6 +278,9 @@ impl Connection {
             DcpMsg::StreamRequest { ask } => self.answer_request(vbs, f, ask),
             DcpMsg::SeqnoAcknowledged { seq } => self.acknowledge(vbs, f, *seq),
             DcpMsg::BufferAcknowledgement { bytes } => self.acknowledge_bytes(f, *bytes),
+            DcpMsg::CloseStream => self.answer_close(vbs, f),
+            DcpMsg::GetFailoverLog => self.request_log(vbs, f),
+            DcpMsg::Noop => self.answer_noop(f),
             _ => self.send_status(f, Status::Einval),
         }
     }

@@ -1,19 +1,20 @@
 //! What a producer knows of its connection, what OPEN and CONTROL set, and what is refused by it.
 ghost use Rattle.std.specs.Prelude.{◌≡◌};
-ghost use Rattle.{dcp_producer.specs.Producers.{is_open, is_named, is_sync, member_named, member_of}, dcp_producer.specs.Serving.{opened, open_refusal, flag_of, named_by, controlled, sized, request_refusal}};
+ghost use Rattle.{dcp_producer.specs.Producers.{is_open, is_named, is_sync, member_named, member_of}, dcp_producer.specs.Serving.{opened, open_refusal, flag_of, named_by, controlled, sized}};
 
 use crate::sizes::size_of;
 use mcbp_dcp::MAX_NAME;
 use vb_events::StreamName;
-use vb_types::{Status, StreamAsk};
+use vb_types::Status;
 
-/// Which connection this is: its name in the transcript, its node, and the number, above 0, under
-/// which its stream is opened at the vBucket.
+/// Which connection this is: its name in the transcript, its node, and its base, which no other
+/// connection of the node has: the upper half of the numbers of its streams, of which the lower
+/// half counts from 1.
 #[derive(Clone, Copy)]
 pub struct Desk {
     pub stream: StreamName,
     pub node: u8,
-    pub id: u64,
+    pub base: u32,
 }
 
 /// Who the consumer said that it is.
@@ -138,7 +139,9 @@ impl Handshake {
             let name = Named::from_value(value);
             return Some(Handshake::Open { sync_writes, name });
         }
-        None
+        let known = (key == b"enable_noop".as_slice() && flag_in(value).is_some())
+            || (key == b"set_noop_interval".as_slice() && size_of(value).is_some());
+        if known { Some(self) } else { None }
     }
 
     /// The size that a control gives the window; none before OPEN, and where its value is no size.
@@ -146,18 +149,5 @@ impl Handshake {
         ensures { result ≡ sized self value.now }
     {
         if self.is_open() { size_of(value) } else { None }
-    }
-
-    /// Why the producer itself refuses a request for a stream.
-    pub fn request_refusal(self, ask: &StreamAsk) -> Option<Status>
-        ensures { result ≡ request_refusal self ask.now }
-    {
-        if !self.is_open() || ask.flags > 1 {
-            Some(Status::Einval)
-        } else if ask.flags == 1 {
-            Some(Status::NotSupported)
-        } else {
-            None
-        }
     }
 }

@@ -1,5 +1,5 @@
-//! A producer: it answers the requests of a connection, puts the frames of its stream and its end,
-//! over any access to its node's vBuckets.
+//! A producer: it answers the requests of a connection, puts the frames of its streams and their
+//! ends, over any access to its node's vBuckets.
 #![tactic(auto)]
 
 mod acknowledgements;
@@ -7,13 +7,18 @@ mod active_stream;
 mod answers;
 mod connection;
 mod desk;
+mod frames;
 mod halt;
 mod laws;
 mod messages;
+mod next_frame;
 mod producer;
+mod pull_laws;
 mod pulls;
 mod replies;
+mod row_laws;
 mod sizes;
+mod stream_laws;
 mod turn_laws;
 mod window_laws;
 
@@ -22,19 +27,28 @@ use connection::Connection;
 pub use desk::{Desk, Handshake, Named};
 pub use halt::Halt;
 pub use laws::{
-    acknowledgements_are_weighed, controls_are_known, durable_writes_are_put,
-    durable_writes_in_bytes, ended_streams_ask_nothing, frames_are_weighed, lost_streams_end,
-    markers_tell_their_source, members_are_named, opens_are_answered, others_are_einval,
-    pulls_count_frames, requests_are_one_call, requests_are_refused_in_order,
-    streams_reach_what_was_put, streams_take_their_own, waiting_streams_put_nothing,
+    acknowledgements_are_weighed, changes_are_put, changes_in_bytes, controls_are_known,
+    durable_writes_are_put, durable_writes_in_bytes, frames_are_weighed, markers_tell_their_source,
+    members_are_named, opens_are_answered, others_are_einval, requests_are_one_call,
+    requests_are_refused_in_order, requests_before_open,
 };
+use next_frame::NextFrame;
+use producer::close_stream;
 pub use producer::{Asked, Producer, Pulled};
+pub use pull_laws::{
+    connections_stay_sound, lines_tell_their_frames, pulls_ask_little, pulls_take_turns,
+    streams_take_turns, windows_hold_back,
+};
+pub use row_laws::{
+    ends_come_behind_items, items_are_put_in_turn, turns_in_order, windows_hold_at_their_edge,
+};
+pub use stream_laws::{closed_streams_are_silent, logs_are_answered, noops_are_answered};
 pub use turn_laws::{
-    connections_end_their_stream, items_are_put_in_turn, snapshots_follow, streams_end_by_number,
+    connections_end_their_streams, ended_streams_ask_nothing, quiet_exactly, snapshots_follow,
+    streams_are_apart, streams_end, streams_end_by_number, streams_reach_what_was_put,
+    streams_take_their_own,
 };
-pub use window_laws::{
-    bytes_are_acknowledged, sizes_are_decimals, windows_hold_at_their_edge, windows_hold_back,
-};
+pub use window_laws::{bytes_are_acknowledged, sizes_are_decimals};
 
 /// What a call gives that needs memory, or that memory was short.
 type Alloc<T> = Result<T, std::alloc::AllocError>;

@@ -1,6 +1,6 @@
 //! The messages of changes, as a stream puts them.
-ghost use Rattle.std.specs.Prelude.{◌≡◌, ◌<◌, ◌^◌, length, IfOk, Some};
-ghost use Rattle.{dcp_producer.specs.Pulling.{mutation_message, deletion_message, prepare_message, resolution_of, act_message}, mcbp_dcp.specs.DcpFrames.{IsSpelled}};
+ghost use Rattle.std.specs.Prelude.{◌≡◌, ◌<◌, ◌^◌, length, IfOk};
+ghost use Rattle.{dcp_producer.specs.Frames.{mutation_message, deletion_message, prepare_message, resolution_of, act_message}, mcbp_dcp.specs.DcpFrames.{IsSpelled}};
 
 use crate::Alloc;
 use bytes::Bytes;
@@ -85,7 +85,7 @@ fn resolution_of(alloc: Global, change: &Change, prepared: u64) -> Alloc<Resolut
 
 /// The message of a change.
 pub fn message_of(alloc: Global, change: &Change) -> Alloc<DcpMsg>
-    ensures message { IfOk result (λ message. act_message change.now change.now.act ≡ Some message) }
+    ensures message { IfOk result (λ message. message ≡ act_message change.now change.now.act) }
     ensures spelled { IfOk result IsSpelled }
 {
     match &change.act {

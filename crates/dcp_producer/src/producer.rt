@@ -4,9 +4,9 @@ ghost use Rattle.{dcp_producer.specs.Ending.{ended_by, end_closed}, dcp_producer
 ghost use Rattle.{dcp_producer.specs.Serving.{frame_answered}, dcp_producer.specs.Wanting.{Cut, Stays}, vb_calls.specs.Programs.{Ran, Began, Call, Done}};
 ghost use Rattle.vb_calls.specs.declared.calls.VbCall.TheVariants.{CloseStream};
 
-use crate::{Alloc, Connection, Desk, Halt, Handshake};
+use crate::pulls::Quiet;
+use crate::{Alloc, Connection, Desk, Halt};
 use bytes::BytesMut;
-use flow_control::Window;
 use mcbp_frame::Frame;
 use std::alloc::{AllocError, Global};
 use std::marker::Model;
@@ -33,10 +33,11 @@ pub struct Pulled {
     pub out: BytesMut,
 }
 
-/// The producer of a connection. After want of memory it only ends and closes its stream.
+/// The producer of a connection. After want of memory it only ends and closes its streams.
 #[derive(Drop)]
 pub struct Producer {
     connection: Connection,
+    quiet: Quiet,
     spent: bool,
 }
 
@@ -52,7 +53,7 @@ impl Model for Producer {
 }
 
 /// Closes the stream of this number at a vBucket.
-fn close_stream<A: VbAccess>(vbs: &mut A, vb: u16, id: u64)
+pub fn close_stream<A: VbAccess>(vbs: &mut A, vb: u16, id: u64)
     ensures { Ran A.step (Call vb (CloseStream id) (λ reply. Done (tt {0}))) vbs.old tt vbs.new }
 {
     match vbs.call(vb, VbCall::CloseStream { id }) {
@@ -67,17 +68,8 @@ impl Producer {
         ensures { result ≡ record { plain = new_end desk; spent = false } }
     {
         Producer {
-            connection: Connection {
-                alloc,
-                desk,
-                handshake: Handshake::Fresh,
-                stream: None,
-                window: Window::new(0),
-                events: Listed::new(alloc),
-                out: BytesMut::new(alloc),
-                count: 0,
-                resolved: Listed::new(alloc),
-            },
+            connection: Connection::new(alloc, desk),
+            quiet: Quiet::new(alloc),
             spent: false,
         }
     }
@@ -104,7 +96,7 @@ impl Producer {
         Ok(asked)
     }
 
-    /// Puts at most so many frames of the stream.
+    /// Puts at most so many frames of the streams, which take turns frame by frame.
     #[tactic(auto, using(vb_calls::proofs::Runs::runs))]
     pub fn pull<A: VbAccess>(&mut self, vbs: &mut A, frames: u32) -> Alloc<Pulled>
         ensures ok { IfOk result (λ pulled. Ran A.step (frames_put frames (begun self.old.plain)) vbs.old (record { end = self.new.plain; events = pulled.events; out = pulled.out.items; count = pulled.count; resolved = [] }, pulled.halt) vbs.new) }
@@ -119,7 +111,10 @@ impl Producer {
         if self.spent {
             return Err(AllocError);
         }
-        let halted = self.connection.pull(vbs, frames);
+        let none = Quiet::new(self.connection.alloc);
+        let mut quiet = std::mem::replace(&mut self.quiet, none);
+        let halted = self.connection.pull(vbs, &mut quiet, frames);
+        self.quiet = quiet;
         let count = self.connection.count;
         let Asked { events, out, .. } = self.connection.told();
         self.spent = halted.is_err();
@@ -132,27 +127,21 @@ impl Producer {
         })
     }
 
-    /// Ends the stream, where a change of role at `vb` did. Its end is put behind the items taken.
+    /// Ends the streams of `vb` that a change of role there ended. The end of each is put behind
+    /// the items that were taken.
     pub fn ended(&mut self, vb: u16, ids: &[u64])
         ensures plain { self.new.plain ≡ ended_by vb ids.now self.old.plain }
         ensures spent { self.new.spent ≡ self.old.spent }
     {
-        let id = self.connection.desk.id;
-        if let Some(stream) = &mut self.connection.stream {
-            stream.end_if(vb, ids, id);
-        }
+        self.connection.end_streams(vb, ids);
     }
 
-    /// Closes the stream at its vBucket. One that a change of role ended is closed already.
+    /// Closes the streams at their vBuckets, in the order in which they were opened. One that a
+    /// change of role ended is closed already.
     #[tactic(auto, unfolding(crate::specs::Ending::end_closed))]
     pub fn close<A: VbAccess>(&self, vbs: &mut A)
         ensures { Ran A.step (end_closed self.now.plain) vbs.old tt vbs.new }
     {
-        match &self.connection.stream {
-            Some(stream) if !stream.is_ended() => {
-                close_stream(vbs, stream.vb, self.connection.desk.id);
-            }
-            _ => (),
-        }
+        self.connection.close_streams(vbs);
     }
 }

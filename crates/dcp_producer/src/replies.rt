@@ -1,12 +1,11 @@
 //! What the replies of a vBucket say to a producer.
 ghost use Rattle.std.specs.Prelude.{◌≡◌};
-ghost use Rattle.{std.specs.Option.{option_map}, dcp_producer.specs.Pulling.{halt_at, place_halt, snapshot_of_reply}, dcp_producer.specs.Serving.{log_of_reply, high_of_reply, ask_verdict, refuse, verdict_with}};
+ghost use Rattle.{std.specs.Option.{option_map}, dcp_producer.specs.Frames.{place_said}, dcp_producer.specs.Serving.{log_given, IsSendable, log_of_reply, high_of_reply, ask_verdict, refuse, verdict_with}};
+ghost use Rattle.{vb_calls.specs.Forms.{HasForm}, vb_calls.specs.declared.calls.VbCall.TheVariants.{Log}};
 
-use crate::Halt;
-use crate::halt::NoSnapshot;
 use std::alloc::Global;
 use vb_calls::{VbAnswer, VbReply};
-use vb_types::{AskAnswer, Listed, LogEntry, Place, Snapshot, Status};
+use vb_types::{AskAnswer, Listed, LogEntry, Place, Status};
 
 /// A vBucket's one reply to a request for a stream: its answer, failover log and last seqno.
 #[derive(Drop)]
@@ -17,10 +16,26 @@ pub struct Standing {
 }
 
 /// The answer of a reply, where there is such a vBucket.
-fn answer_of(reply: Option<VbReply>) -> Option<VbAnswer>
+pub fn answer_of(reply: Option<VbReply>) -> Option<VbAnswer>
     ensures { result ≡ option_map (λ r. r.answer) reply }
 {
     Some(reply?.answer)
+}
+
+/// The failover log of a vBucket, if it told it.
+pub fn log_of(reply: VbReply) -> Option<Listed<LogEntry>>
+    requires { HasForm Log reply.answer }
+    ensures log { result ≡ log_given reply.answer }
+    ensures sendable { IsSendable result }
+{
+    let VbReply { answer, .. } = reply;
+    match answer {
+        VbAnswer::Logged { log } => Some(log),
+        other => {
+            drop(other);
+            None
+        }
+    }
 }
 
 /// That a request is refused, with this status.
@@ -52,39 +67,15 @@ pub fn standing_of(alloc: Global, own: Option<Status>, reply: Option<VbReply>) -
     Standing { said, log, high }
 }
 
-/// Why no snapshot is taken now, by the answer that tells where the stream's next changes come from.
-fn halt_at(answer: &VbAnswer) -> Option<NoSnapshot>
-    ensures { result ≡ halt_at answer.now }
-{
-    match answer {
-        VbAnswer::Placed(Place::Memory) => None,
-        VbAnswer::Placed(Place::WaitSaved) => Some(NoSnapshot::Halted(Halt::WaitSaved)),
-        _ => Some(NoSnapshot::Lost),
-    }
-}
-
-/// The same of a reply.
-pub fn place_halt(reply: Option<VbReply>) -> Option<NoSnapshot>
-    ensures { result ≡ place_halt reply }
-{
-    let halt = match &reply {
-        Some(told) => halt_at(&told.answer),
-        None => Some(NoSnapshot::Lost),
-    };
-    drop(reply);
-    halt
-}
-
-/// The snapshot that was given, or why none was.
-pub fn snapshot_of(reply: Option<VbReply>) -> Result<Snapshot, NoSnapshot>
-    ensures { result ≡ snapshot_of_reply reply }
+/// Where a stream's next changes come from, if the vBucket says so.
+pub fn place_said(reply: Option<VbReply>) -> Option<Place>
+    ensures { result ≡ place_said reply }
 {
     match answer_of(reply) {
-        Some(VbAnswer::Taken(snapshot)) => Ok(snapshot),
-        Some(VbAnswer::Nothing) => Err(NoSnapshot::Halted(Halt::Idle)),
+        Some(VbAnswer::Placed(place)) => Some(place),
         other => {
             drop(other);
-            Err(NoSnapshot::Lost)
+            None
         }
     }
 }

@@ -1,31 +1,11 @@
-//! What the window of a connection holds back, and what acknowledgements let go; each law as the contract
-//! of a function that does nothing.
+//! What acknowledgements of bytes let go, and what a window's size is; each law as the contract of a
+//! function that does nothing.
 ghost use Rattle.std.specs.Prelude.{◌≡◌, ◌<◌, ◌^◌, ◌↔◌, ℕ, List, [], None, Some, codes, decimal};
-ghost use Rattle.dcp_producer.specs.{Conduct.{IsOpened}, Handshaking.{Gets}, Holding.{IsShut, LetsGo, PullHoldsBack}};
-ghost use Rattle.dcp_producer.specs.{Producers.{Served}, Pulling.{frames_put, why_of}, Serving.{message_answered}, Sizes.{size_of}};
-ghost use Rattle.dcp_producer.specs.Rows.{HeldAtEdge};
+ghost use Rattle.dcp_producer.specs.{Handshaking.{Gets}, Having.{IsOpened}, Holding.{LetsGo}};
+ghost use Rattle.dcp_producer.specs.{Producers.{Served}, Serving.{message_answered}, Sizes.{size_of}};
 ghost use Rattle.dcp_producer.specs.declared.desk.Handshake.TheVariants.{Fresh};
-ghost use Rattle.dcp_producer.specs.declared.halt.{Halt.{Halt}, Halt.TheVariants.{Full}};
-ghost use Rattle.vb_events.specs.declared.event.Why.TheVariants.{Full as FullLine};
 ghost use Rattle.mcbp_dcp.specs.declared.message.DcpMsg.TheVariants.{BufferAcknowledgement};
 ghost use Rattle.mcbp_frame.specs.declared.frame.Frame.{Frame as FrameData};
-ghost use Rattle.vb_calls.specs.Programs.{AnyCall, Always, Done};
-
-/// Each frame that a pull puts goes through an open window, and its whole length is outstanding then. A
-/// pull says that the window is shut exactly where it puts fewer than were asked for and leaves the window
-/// shut, whatever stream there is, also none, and so does its line; one that begins so asks nothing.
-pub fn windows_hold_back()
-    ensures pull { (frames : ℕ) (s : Served) → Always AnyCall (PullHoldsBack frames s) (frames_put frames s) }
-    ensures shut { (frames : ℕ) (s : Served) → 0 < frames → IsShut s.end.window → frames_put frames s ≡ Done (s, Full) }
-    ensures line { (halted : Halt) → (why_of halted ≡ FullLine) ↔ (halted ≡ Full) }
-{}
-
-/// With a deletion of 43 bytes, an abort of 41 and an end of 28 to put: of a window of 43 the first goes,
-/// of 44 two, of 85 all three, and of 113 too, which then is not shut.
-#[tactic(auto, unfolding(crate::specs::Pulling::frame_put, crate::specs::Pulling::frames_put, crate::specs::Pulling::end_put, mcbp_dcp::specs::DcpFrames::dcp_frame, mcbp_frame::specs::Spelling::spelling))]
-pub fn windows_hold_at_their_edge()
-    ensures { HeldAtEdge }
-{}
 
 /// An acknowledgement of bytes on an open connection takes them out of the window, or all where there are
 /// fewer; there is no answer, no line and no call. Before OPEN it is Einval.

@@ -1,5 +1,8 @@
-use Rattle.dcp_producer.proofs.Acknowledging.{unfed_first, stranger_next, above_then, counted_last, counted_only}
+use Rattle.dcp_producer.proofs.Acknowledging.{counted_early, unfed_first, stranger_next, above_then, counted_last, counted_only}
 use Rattle.dcp_producer.proofs.laws.acknowledgements_are_weighed.Goals as goal
+
+pub returns-clause-early : goal.returns-clause-early
+returns-clause-early c = counted_early
 
 pub returns-clause-unsupported : goal.returns-clause-unsupported
 returns-clause-unsupported c = unfed_first

@@ -2,4 +2,4 @@ use Rattle.dcp_producer.proofs.Durables.{plain_ones}
 use Rattle.dcp_producer.proofs.laws.changes_are_put.Goals as goal
 
 pub returns : goal.returns
-returns c = plain_ones
+returns c a change next = plain_ones a change next

@@ -1,4 +1,4 @@
-use Rattle.dcp_producer.proofs.Durables.{set_bytes_put, remove_bytes_put, memory_bytes_put, disk_bytes_put, over_bytes_put}
+use Rattle.dcp_producer.proofs.Durables.{set_bytes_put, remove_bytes_put, memory_bytes_put, disk_bytes_put, over_bytes_put, sent_bytes_put}
 use Rattle.dcp_producer.proofs.laws.changes_in_bytes.Goals as goal
 
 pub returns-clause-stored : goal.returns-clause-stored
@@ -15,3 +15,6 @@ returns-clause-disk c = disk_bytes_put
 
 pub returns-clause-over : goal.returns-clause-over
 returns-clause-over c = over_bytes_put
+
+pub returns-clause-sent : goal.returns-clause-sent
+returns-clause-sent c = sent_bytes_put

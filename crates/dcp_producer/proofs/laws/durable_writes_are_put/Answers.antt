@@ -2,4 +2,4 @@ use Rattle.dcp_producer.proofs.Durables.{durables}
 use Rattle.dcp_producer.proofs.laws.durable_writes_are_put.Goals as goal
 
 pub returns : goal.returns
-returns c = durables
+returns c a change next = durables a change next

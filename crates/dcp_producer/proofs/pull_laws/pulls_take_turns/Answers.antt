@@ -1,0 +1,8 @@
+use Rattle.dcp_producer.proofs.Pulling.{pulls_in_turn, saved_line}
+use Rattle.dcp_producer.proofs.pull_laws.pulls_take_turns.Goals as goal
+
+pub returns-clause-pull : goal.returns-clause-pull
+returns-clause-pull c frames s left made halted sound told = pulls_in_turn s frames made left halted sound told
+
+pub returns-clause-line : goal.returns-clause-line
+returns-clause-line c = saved_line

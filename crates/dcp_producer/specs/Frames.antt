@@ -1,0 +1,193 @@
+-- the next frame of a stream, as a program over its node's vBuckets
+use Rattle.std.specs.Prelude.{ℕ, ◌+◌, max, Bool, true, false, if◌then◌else◌, nat_le, [], slice_get, Option, Some, None}
+use Rattle.mcbp_dcp.specs.declared.message.DcpMsg.{DcpMsg}
+use Rattle.mcbp_dcp.specs.declared.message.DcpMsg.TheVariants as msg
+use Rattle.mcbp_dcp.specs.declared.message.Resolution.{Resolution}
+use Rattle.mcbp_dcp.specs.DcpFrames.{IsSpelled}
+use Rattle.vb_types.specs.Levels.{level_number}
+use Rattle.vb_types.specs.declared.change.Act.{Act}
+use Rattle.vb_types.specs.declared.change.Act.TheVariants as act
+use Rattle.vb_types.specs.declared.change.Change.{Change}
+use Rattle.vb_types.specs.declared.change.Level.{Level}
+use Rattle.vb_types.specs.declared.doc.Doc.{Doc}
+use Rattle.vb_events.specs.declared.event.Event.{Event}
+use Rattle.vb_events.specs.declared.event.Event.TheVariants as event
+use Rattle.vb_events.specs.declared.event.ItemAct.{ItemAct}
+use Rattle.vb_events.specs.declared.event.ItemAct.TheVariants as item_act
+use Rattle.vb_events.specs.declared.event.StreamName.{StreamName}
+use Rattle.vb_types.specs.declared.stream.Place.{Place}
+use Rattle.vb_types.specs.declared.stream.Place.TheVariants as place
+use Rattle.vb_types.specs.declared.stream.Snapshot.{Snapshot}
+use Rattle.vb_calls.specs.declared.calls.VbCall.TheVariants as call
+use Rattle.vb_calls.specs.declared.calls.VbAnswer.{VbAnswer}
+use Rattle.vb_calls.specs.declared.calls.VbAnswer.TheVariants as answer
+use Rattle.vb_calls.specs.declared.calls.VbReply.{VbReply}
+use Rattle.vb_calls.specs.Programs.{Prog, Done, Call}
+use Rattle.dcp_producer.specs.declared.next_frame.NextFrame.{NextFrame}
+use Rattle.dcp_producer.specs.declared.next_frame.NextFrame.TheVariants as next
+use Rattle.dcp_producer.specs.Producers.{PlainStream}
+
+-- a flag as a number
+abbrev pub flag_number : Bool → ℕ
+flag_number false = 0
+flag_number true = 1
+
+-- the message of a document that is stored
+abbrev pub mutation_message : Change → Doc → DcpMsg
+mutation_message c doc = msg.Mutation (record { seq = c.seq; rev = doc.rev; cas = doc.cas; flags = doc.flags; expiry = doc.expiry; datatype = doc.datatype; key = c.key; value = doc.value })
+
+-- of a removal, with its own CAS and revision
+abbrev pub deletion_message : Change → ℕ → ℕ → DcpMsg
+deletion_message c cas rev = msg.Deletion (record { seq = c.seq; rev = rev; cas = cas; key = c.key })
+
+-- of a prepare; one of a removal is sent without a value
+abbrev pub prepare_message : Change → Level → Doc → Bool → DcpMsg
+prepare_message c level doc deleted = msg.Prepare (record {
+  seq = c.seq;
+  rev = doc.rev;
+  cas = doc.cas;
+  flags = doc.flags;
+  expiry = doc.expiry;
+  datatype = doc.datatype;
+  deleted = flag_number deleted;
+  level = level_number level;
+  key = c.key;
+  value = if deleted then [] else doc.value;
+})
+
+-- what a commit or an abort says: the seqno of the prepare, and its own
+abbrev pub resolution_of : Change → ℕ → Resolution
+resolution_of c prepared = record { prepared = prepared; seq = c.seq; key = c.key }
+
+-- the message of a change
+abbrev pub act_message : Change → Act → DcpMsg
+act_message c (act.Set doc) = mutation_message c doc
+act_message c (act.Remove cas rev) = deletion_message c cas rev
+act_message c (act.Prepare level doc deleted) = prepare_message c level doc deleted
+act_message c (act.Commit prepared doc deleted) = msg.Commit (resolution_of c prepared)
+act_message c (act.Abort prepared) = msg.Abort (resolution_of c prepared)
+
+-- the act as it is sent
+abbrev pub act_sent : Act → ItemAct
+act_sent (act.Set doc) = item_act.Set
+act_sent (act.Remove cas rev) = item_act.Remove
+act_sent (act.Prepare level doc deleted) = item_act.Prepare
+act_sent (act.Commit prepared doc deleted) = item_act.Commit
+act_sent (act.Abort prepared) = item_act.Abort
+
+-- what a turn of a stream comes to: its next frame, and the stream then
+abbrev pub Next : Type 0
+Next = NextFrame × PlainStream
+
+-- the stream behind one more item, of this seqno
+abbrev pub past_item : ℕ → PlainStream → PlainStream
+past_item seq stream = record stream { next = stream.next + 1; reached = max stream.reached seq }
+
+-- the stream at the front of a snapshot, behind its marker
+abbrev pub with_snapshot : PlainStream → Snapshot → PlainStream
+with_snapshot stream snapshot = record stream { items = snapshot.items; next = 0; marked = Some snapshot.end }
+
+-- the line of an item
+abbrev pub item_line : StreamName → Change → Event
+item_line name c = event.Item name c.seq (act_sent c.act) c.key
+
+-- the frame of an item
+abbrev pub item_frame : StreamName → Change → NextFrame
+item_frame name c = next.Put (act_message c c.act) (item_line name c)
+
+-- the next change of the snapshot that was taken last
+abbrev pub item_next : StreamName → PlainStream → Change → Next
+item_next name stream c = (item_frame name c, past_item c.seq stream)
+
+-- a marker's flag: 1 from memory, 2 from disk
+abbrev pub marker_flags : Bool → ℕ
+marker_flags false = 1
+marker_flags true = 2
+
+-- the marker of a snapshot, with the flag that says whether it is from memory or from disk
+abbrev pub marker_next : StreamName → PlainStream → Snapshot → Next
+marker_next name stream snapshot = (
+  next.Put (msg.SnapshotMarker snapshot.start snapshot.end (marker_flags snapshot.disk)) (event.Marked name snapshot.start snapshot.end (marker_flags snapshot.disk)),
+  with_snapshot stream snapshot,
+)
+
+-- the reason of a stream's end: all up to the end that its consumer asked for was sent
+abbrev pub ALL_SENT : ℕ
+ALL_SENT = 0
+
+-- its vBucket changed its role, or is gone
+abbrev pub STATE_CHANGED : ℕ
+STATE_CHANGED = 2
+
+-- the stream is over, for this reason
+abbrev pub over : ℕ → PlainStream → Next
+over reason stream = (next.End reason, stream)
+
+-- there is nothing to put now; `waits` where the next changes are to be saved first
+abbrev pub quiet : Bool → PlainStream → Next
+quiet waits stream = (next.Quiet waits, stream)
+
+-- the snapshot of an answer; none where there is none yet. A vBucket that knows nothing of the stream ends it
+abbrev pub taken_next : StreamName → PlainStream → VbAnswer → Next
+taken_next name stream (answer.Taken snapshot) = marker_next name stream snapshot
+taken_next name stream answer.Nothing = quiet false stream
+taken_next name stream other = over STATE_CHANGED stream
+
+-- what a reply to a take comes to
+abbrev pub take_answered : StreamName → PlainStream → Option VbReply → Next
+take_answered name stream None = over STATE_CHANGED stream
+take_answered name stream (Some reply) = taken_next name stream reply.answer
+
+-- the vBucket is asked for the next snapshot
+abbrev pub take_requested : StreamName → PlainStream → Prog Next
+take_requested name stream = Call stream.vb (call.Take stream.id) (λ reply. Done (take_answered name stream reply))
+
+-- where the stream's next changes come from, by an answer; a vBucket that knows nothing of the stream does not say
+abbrev pub place_told : VbAnswer → Option Place
+place_told (answer.Placed from) = Some from
+place_told other = None
+
+-- the same of a reply
+abbrev pub place_said : Option VbReply → Option Place
+place_said None = None
+place_said (Some reply) = place_told reply.answer
+
+-- by that place: the next snapshot is taken, or the changes are to be saved first; a stream that its vBucket lost is over
+abbrev pub placed_next : StreamName → PlainStream → Option Place → Prog Next
+placed_next name stream (Some place.Memory) = take_requested name stream
+placed_next name stream (Some place.WaitSaved) = Done (quiet true stream)
+placed_next name stream None = Done (over STATE_CHANGED stream)
+
+-- the vBucket is asked where the stream's next changes come from
+abbrev pub place_requested : StreamName → PlainStream → Prog Next
+place_requested name stream = Call stream.vb (call.Place stream.id) (λ reply. placed_next name stream (place_said reply))
+
+-- the END of a marker that was sent reaches the end that was asked for
+abbrev pub reaches_end : ℕ → Option ℕ → Bool
+reaches_end until None = false
+reaches_end until (Some end) = nat_le until end
+
+-- the stream is closed at its vBucket, and over: all that was asked for was sent
+abbrev pub close_sent : PlainStream → Prog Next
+close_sent stream = Call stream.vb (call.CloseStream stream.id) (λ reply. Done (over ALL_SENT stream))
+
+-- behind the items: the end of a stream that a change of role ended, or that reached the end that was asked for, and else the next snapshot's marker
+abbrev pub more_next : StreamName → PlainStream → Prog Next
+more_next name stream =
+    if stream.ended then Done (over STATE_CHANGED stream)
+    else if reaches_end stream.until stream.marked then close_sent stream
+    else place_requested name stream
+
+-- the next item of the snapshot that was taken last, and what comes behind the last one
+abbrev pub next_by : StreamName → PlainStream → Option Change → Prog Next
+next_by name stream (Some c) = Done (item_next name stream c)
+next_by name stream None = more_next name stream
+
+-- the next frame of a stream
+unfoldable pub next_frame : StreamName → PlainStream → Prog Next
+next_frame name stream = next_by name stream (slice_get stream.items stream.next)
+
+-- what is put can be written
+abbrev pub IsPuttable : NextFrame → Type 0
+IsPuttable (next.Put m line) = IsSpelled m
+IsPuttable other = Unit {0}

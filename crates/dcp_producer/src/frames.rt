@@ -1,0 +1,188 @@
+//! The next frame of a stream, out of the snapshots that its vBucket gives.
+ghost use Rattle.std.specs.Prelude.{◌≡◌, IfOk, OnErr};
+ghost use Rattle.dcp_producer.specs.Frames.{act_sent, item_line, item_frame, marker_flags, marker_next, take_answered, take_requested, placed_next, place_requested, more_next, next_frame, IsPuttable};
+ghost use Rattle.{dcp_producer.specs.Wanting.{standing}, vb_calls.specs.Programs.{Ran, Began}};
+
+use crate::messages::message_of;
+use crate::replies::{answer_of, place_said};
+use crate::{ActiveStream, Alloc, NextFrame, close_stream};
+use mcbp_dcp::DcpMsg;
+use std::alloc::Global;
+use vb_calls::{VbAccess, VbAnswer, VbCall, VbReply};
+use vb_events::{Event, ItemAct, StreamName};
+use vb_types::{Act, Change, Place, Snapshot};
+
+/// The reason of a stream's end, on the wire: all that was asked for was sent.
+const ALL_SENT: u32 = 0;
+
+/// The same: its vBucket changed its role, or is gone.
+const STATE_CHANGED: u32 = 2;
+
+/// The act as it is sent.
+fn item_act_of(act: &Act) -> ItemAct
+    ensures { result ≡ act_sent act.now }
+{
+    match act {
+        Act::Set(_) => ItemAct::Set,
+        Act::Remove { .. } => ItemAct::Remove,
+        Act::Prepare { .. } => ItemAct::Prepare,
+        Act::Commit { .. } => ItemAct::Commit,
+        Act::Abort { .. } => ItemAct::Abort,
+    }
+}
+
+/// The line of a change that is put.
+fn line_of(name: StreamName, change: &Change) -> Alloc<Event>
+    ensures { IfOk result (λ line. line ≡ item_line name change.now) }
+{
+    Ok(Event::Item {
+        stream: name,
+        seq: change.seq,
+        act: item_act_of(&change.act),
+        key: change.key.clone()?,
+    })
+}
+
+/// The flag of a marker: where its snapshot was read.
+fn flags_of(disk: bool) -> u32
+    ensures { result ≡ marker_flags disk }
+{
+    if disk { 2 } else { 1 }
+}
+
+/// An item of a stream, and the line that tells of it.
+fn item_frame(alloc: Global, name: StreamName, change: &Change) -> Alloc<NextFrame>
+    ensures ok { IfOk result (λ next. next ≡ item_frame name change.now) }
+    ensures spelled { IfOk result IsPuttable }
+{
+    Ok(NextFrame::Put {
+        line: line_of(name, change)?,
+        message: message_of(alloc, change)?,
+    })
+}
+
+impl ActiveStream {
+    /// Goes to a snapshot, by its marker.
+    fn mark(&mut self, name: StreamName, snapshot: Snapshot) -> NextFrame
+        ensures next { (result, self.new) ≡ marker_next name self.old snapshot }
+        ensures spelled { IsPuttable result }
+    {
+        let (start, end) = (snapshot.start, snapshot.end);
+        let flags = flags_of(snapshot.disk);
+        self.give(snapshot);
+        NextFrame::Put {
+            message: DcpMsg::SnapshotMarker { start, end, flags },
+            line: Event::Marked {
+                stream: name,
+                start,
+                end,
+                flags,
+            },
+        }
+    }
+
+    /// Goes to the snapshot that was taken, if one was; a stream that its vBucket lost is over.
+    fn answer_take(&mut self, name: StreamName, reply: Option<VbReply>) -> NextFrame
+        ensures next { (result, self.new) ≡ take_answered name self.old reply }
+        ensures spelled { IsPuttable result }
+    {
+        match answer_of(reply) {
+            Some(VbAnswer::Taken(snapshot)) => self.mark(name, snapshot),
+            Some(VbAnswer::Nothing) => NextFrame::Quiet { waits: false },
+            other => {
+                drop(other);
+                NextFrame::End {
+                    reason: STATE_CHANGED,
+                }
+            }
+        }
+    }
+
+    /// Takes the next snapshot of the vBucket, if there is one.
+    fn take_snapshot<A: VbAccess>(&mut self, vbs: &mut A, name: StreamName) -> Alloc<NextFrame>
+        ensures ok { IfOk result (λ next. Ran A.step (take_requested name self.old) vbs.old (next, self.new) vbs.new) }
+        ensures err { OnErr result (Began A.step (take_requested name self.old) vbs.old vbs.new) }
+        ensures same { standing self.new ≡ standing self.old }
+        ensures spelled { IfOk result IsPuttable }
+    {
+        let reply = vbs.call(self.vb, VbCall::Take { id: self.id })?;
+        Ok(self.answer_take(name, reply))
+    }
+
+    /// Takes the next snapshot where the next changes are in memory; a stream that its vBucket lost
+    /// is over.
+    fn go_on<A: VbAccess>(
+        &mut self,
+        vbs: &mut A,
+        name: StreamName,
+        from: Option<Place>,
+    ) -> Alloc<NextFrame>
+        ensures ok { IfOk result (λ next. Ran A.step (placed_next name self.old from) vbs.old (next, self.new) vbs.new) }
+        ensures err { OnErr result (Began A.step (placed_next name self.old from) vbs.old vbs.new) }
+        ensures same { standing self.new ≡ standing self.old }
+        ensures spelled { IfOk result IsPuttable }
+    {
+        match from {
+            Some(Place::Memory) => self.take_snapshot(vbs, name),
+            Some(Place::WaitSaved) => Ok(NextFrame::Quiet { waits: true }),
+            None => Ok(NextFrame::End {
+                reason: STATE_CHANGED,
+            }),
+        }
+    }
+
+    /// Asks where the next changes come from, and takes the next snapshot where they are in memory.
+    fn place<A: VbAccess>(&mut self, vbs: &mut A, name: StreamName) -> Alloc<NextFrame>
+        ensures ok { IfOk result (λ next. Ran A.step (place_requested name self.old) vbs.old (next, self.new) vbs.new) }
+        ensures err { OnErr result (Began A.step (place_requested name self.old) vbs.old vbs.new) }
+        ensures same { standing self.new ≡ standing self.old }
+        ensures spelled { IfOk result IsPuttable }
+    {
+        let reply = vbs.call(self.vb, VbCall::Place { id: self.id })?;
+        self.go_on(vbs, name, place_said(reply))
+    }
+
+    /// What comes behind the items of the snapshot: the stream's end, where a change of role ended
+    /// it or all that was asked for was sent, and else the next snapshot.
+    #[tactic(auto, using(vb_calls::proofs::Runs::runs))]
+    fn next_marker<A: VbAccess>(&mut self, vbs: &mut A, name: StreamName) -> Alloc<NextFrame>
+        ensures ok { IfOk result (λ next. Ran A.step (more_next name self.old) vbs.old (next, self.new) vbs.new) }
+        ensures err { OnErr result (Began A.step (more_next name self.old) vbs.old vbs.new) }
+        ensures same { standing self.new ≡ standing self.old }
+        ensures spelled { IfOk result IsPuttable }
+    {
+        if self.is_ended() {
+            return Ok(NextFrame::End {
+                reason: STATE_CHANGED,
+            });
+        }
+        if self.reaches_end() {
+            close_stream(vbs, self.vb, self.id);
+            return Ok(NextFrame::End { reason: ALL_SENT });
+        }
+        self.place(vbs, name)
+    }
+
+    /// The next frame of the stream: the next item of the snapshot that was taken last, and behind
+    /// the last one the stream's end or the next marker.
+    #[tactic(auto, using(vb_calls::proofs::Runs::runs), unfolding(crate::specs::Frames::next_frame))]
+    pub fn next_frame<A: VbAccess>(
+        &mut self,
+        alloc: Global,
+        vbs: &mut A,
+        name: StreamName,
+    ) -> Alloc<NextFrame>
+        ensures ok { IfOk result (λ next. Ran A.step (next_frame name self.old) vbs.old (next, self.new) vbs.new) }
+        ensures err { OnErr result (Began A.step (next_frame name self.old) vbs.old vbs.new) }
+        ensures same { standing self.new ≡ standing self.old }
+        ensures spelled { IfOk result IsPuttable }
+    {
+        let Some(change) = self.item() else {
+            return self.next_marker(vbs, name);
+        };
+        let seq = change.seq;
+        let next = item_frame(alloc, name, change)?;
+        self.pass(seq);
+        Ok(next)
+    }
+}

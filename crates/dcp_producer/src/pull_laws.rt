@@ -1,0 +1,64 @@
+//! What a pull puts, in turn and through the window, and why it puts no more; each law as the contract of a
+//! function that does nothing.
+ghost use Rattle.std.specs.Prelude.{◌≡◌, ◌<◌, ◌↔◌, ℕ, List};
+ghost use Rattle.dcp_producer.specs.{Ending.{ended_by}, Going.{LinesTell}, Having.{AnswersSound, IsSound, PullsSound}, Holding.{IsShut, PullHoldsBack}, Producers.{PlainProducer, Served, new_end}, Serving.{frame_answered}, Pulling.{frames_put, why_of}, Pulls.{AsksLittle, PullsInTurn, TurnsTaken}};
+ghost use Rattle.{dcp_producer.specs.declared.desk.Desk.{Desk as DeskData}, mcbp_frame.specs.declared.frame.Frame.{Frame as FrameData}};
+ghost use Rattle.dcp_producer.specs.declared.halt.{Halt.{Halt}, Halt.TheVariants.{Full, WaitSaved}};
+ghost use Rattle.vb_events.specs.declared.event.Why.TheVariants.{Full as FullLine, WaitSaved as SavedLine};
+ghost use Rattle.vb_calls.specs.Programs.{AnyCall, Always, Done, Made, Told};
+
+/// The streams of a connection are always of different vBuckets, their numbers rise in the order in which
+/// they were opened and none is above the last one that was asked for, and the turn's place is one of theirs
+/// or their end: so it is of a new connection, and each answer, each pull and each change of role keeps it.
+pub fn connections_stay_sound()
+    ensures fresh { (desk : DeskData) → IsSound (new_end desk) }
+    ensures answers { (f : FrameData) (s : Served) → IsSound s.end → Always AnyCall AnswersSound (frame_answered f s) }
+    ensures pulls { (frames : ℕ) (s : Served) → IsSound s.end → Always AnyCall PullsSound (frames_put frames s) }
+    ensures roles { (v : ℕ) (ids : List ℕ) (end : PlainProducer) → IsSound end → IsSound (ended_by v ids end) }
+{}
+
+/// Each frame that a pull puts goes through an open window, and its whole length is outstanding then. A
+/// pull says that the window is shut exactly where it puts fewer than were asked for and leaves the window
+/// shut, whatever streams there are, also none, and so does its line; one that begins so asks nothing.
+pub fn windows_hold_back()
+    ensures pull { (frames : ℕ) (s : Served) → IsSound s.end → Always AnyCall (PullHoldsBack frames s) (frames_put frames s) }
+    ensures shut { (frames : ℕ) (s : Served) → 0 < frames → IsShut s.end.window → frames_put frames s ≡ Done (s, Full) }
+    ensures line { (halted : Halt) → (why_of halted ≡ FullLine) ↔ (halted ≡ Full) }
+{}
+
+/// A pull asks the streams for their frames one after the other, always the first of those that wait for
+/// their turns: the one behind the one that had the last turn, in the order in which they were opened. Who
+/// puts a frame comes last, and who is over, or quiet, waits no more in this pull. Behind a frame the turn
+/// is behind its stream, and where no stream puts one each has had a turn, so the order is the same again.
+/// Each frame has its line, and is counted. All that were asked for are put exactly where the pull says so;
+/// else it is first the window that is shut, or next no stream waits any more, of which one said that it
+/// waits for what is to be saved, or none.
+pub fn pulls_take_turns()
+    ensures pull { (frames : ℕ) (s left : Served) (made : List Made) (halted : Halt) → IsSound s.end → Told (frames_put frames s) made (left, halted)
+        → PullsInTurn frames s made left halted }
+    ensures line { (halted : Halt) → (why_of halted ≡ SavedLine) ↔ (halted ≡ WaitSaved) }
+{}
+
+/// Streams take turns: between a turn in which one put a frame and its next one, just the streams are asked
+/// that waited then, each once and in their order, and as they stood. Who was quiet, or is over, is asked
+/// no more in that pull.
+pub fn streams_take_turns()
+    ensures { (frames : ℕ) (s left : Served) (made : List Made) (halted : Halt) → IsSound s.end → Told (frames_put frames s) made (left, halted)
+        → TurnsTaken frames s made left halted }
+{}
+
+/// Each frame that a pull puts has its line, which says what the frame is: a marker, a stored document, a
+/// removal, a prepare, a commit, an abort, or the stream's end. It goes with the opaque of the stream that
+/// had the turn, and for its vBucket.
+pub fn lines_tell_their_frames()
+    ensures { (frames : ℕ) (s left : Served) (made : List Made) (halted : Halt) → IsSound s.end → Told (frames_put frames s) made (left, halted)
+        → LinesTell frames s made left halted }
+{}
+
+/// A pull makes at most two calls for each marker that it puts and for each stream that is quiet, and one
+/// for each end of reason 0. The end of a stream that a change of role ended needs none, and that of one that
+/// its vBucket lost two at most.
+pub fn pulls_ask_little()
+    ensures { (frames : ℕ) (s left : Served) (made : List Made) (halted : Halt) → IsSound s.end → Told (frames_put frames s) made (left, halted)
+        → AsksLittle frames s made left halted }
+{}

@@ -1,0 +1,32 @@
+//! Streams of a few items each, worked by hand: what pulls put of them; each law as the contract of a
+//! function that does nothing.
+ghost use Rattle.dcp_producer.specs.Rows.{EndsBehindItems, HeldAtEdge, PutInTurn, TurnsInOrder};
+
+/// The items of a snapshot are put in their order, each once, also of a stream that a change of role
+/// ended; behind the last one that stream's end is put, and then nothing.
+#[tactic(auto, unfolding(crate::specs::Pulling::frames_put, crate::specs::Pulling::one_frame, crate::specs::Pulling::one_turn, crate::specs::Frames::next_frame))]
+pub fn items_are_put_in_turn()
+    ensures { PutInTurn }
+{}
+
+/// With a deletion of 43 bytes, an abort of 41 and an end of 28 to put: of a window of 43 the first goes,
+/// of 44 two, of 85 all three, and of 113 too, which then is not shut.
+#[tactic(auto, unfolding(crate::specs::Pulling::frames_put, crate::specs::Pulling::one_frame, crate::specs::Pulling::one_turn, crate::specs::Frames::next_frame, mcbp_dcp::specs::DcpFrames::dcp_frame, mcbp_frame::specs::Spelling::spelling))]
+pub fn windows_hold_at_their_edge()
+    ensures { HeldAtEdge }
+{}
+
+/// With two streams, of which the second is opened behind the first one's turn: its item, then one of
+/// each. With three, of which the first is closed behind its second turn and opened anew behind another
+/// turn of the second: the third, the new one, the second.
+#[tactic(auto, unfolding(crate::specs::Pulling::frames_put, crate::specs::Pulling::one_frame, crate::specs::Pulling::one_turn, crate::specs::Frames::next_frame))]
+pub fn turns_in_order()
+    ensures { TurnsInOrder }
+{}
+
+/// With the end 2 asked for and a snapshot of the seqnos 1 to 3: all three are put, and then the end, for
+/// which the stream is closed; with the end 4 it is not.
+#[tactic(auto, unfolding(crate::specs::Pulling::frames_put, crate::specs::Pulling::one_frame, crate::specs::Pulling::one_turn, crate::specs::Frames::next_frame))]
+pub fn ends_come_behind_items()
+    ensures { EndsBehindItems }
+{}
