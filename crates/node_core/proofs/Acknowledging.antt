@@ -1,6 +1,6 @@
 -- what a dial acknowledges, whatever its vBucket replies
-use Rattle.std.proofs.Common.{◌≡◌, ◌<◌, ℕ, Bool, true, false, List, [], ◌∷◌, ◌++◌, map, refl, sym, subst, ap, ◌∙◌, arith, append-nil, Option, Some, None}
-use Rattle.std.specs.Prelude.{◌&&◌, ◌-◌, ◌^◌, nat_lt, if◌then◌else◌}
+use Rattle.std.proofs.Common.{◌≡◌, ◌<◌, ℕ, Bool, true, false, List, [], ◌∷◌, ◌++◌, map, refl, sym, subst, ap, ◌∙◌, arith, append_assoc, append-nil, inl, inr, Option, Some, None}
+use Rattle.std.specs.Prelude.{◌&&◌, ◌-◌, ◌^◌, nat_lt, if◌then◌else◌, is_some}
 use Rattle.std.specs.List.{fold, All, filter_map}
 use Rattle.std.proofs.lemmas.Bool.{false_from_ne_true, ltb-true}
 use Rattle.std.proofs.lemmas.List.{map-append}
@@ -34,10 +34,12 @@ use Rattle.dcp_consumer.specs.declared.handshake.Handshake.{Handshake}
 use Rattle.dcp_consumer.specs.declared.handshake.Handshake.TheVariants as handshake
 use Rattle.dcp_consumer.specs.declared.handshake.Dialed.{Dialed}
 use Rattle.dcp_consumer.specs.declared.passive_stream.Passive.TheVariants as passive
-use Rattle.dcp_consumer.specs.Machine.{PlainConsumer, with_handshake, moved_by, frame_step, granted, streaming, ended_for, request_again, again_by, is_streaming, may_acknowledge, acknowledged}
-use Rattle.node_core.specs.Conduct.{Asks, Acknowledges, bytes_written, IsOfDial, KeepsLink, AnyOther, DueNext, StatNext, Dues, said, log_behind, message_behind, due_behind, stat_behind, behind, CallsAs, seqno_written, seqnos_of_line, Acknowledged, begins}
-use Rattle.node_core.specs.Dials.{PlainDial, DialResult, untold, is_over, with_consumer, with_line, with_left, over_for, adopted_line, granted_with, is_done_answer, adopt_result, acknowledged_line, acknowledged_result, saved_in, saved_of_reply, due_in, due_of_reply, due_met, due_requested, dial_due, go_on_with, follower_ask, again_with, again_result, requested_once_more, rolled_line, rolled_back, roll_back, got_line, taken_as, message_result, call_made, step_made, frame_taken, frames_taken, fault_met}
-use Rattle.node_core.proofs.Conduct.{either, FollowsIf, Follows, IsMessage, step_follows, over_keeps, lines_keep, wrote_keeps, silent_keeps, one_own, got_own}
+use Rattle.dcp_consumer.specs.Machine.{PlainConsumer, with_handshake, over_why, moved_by, frame_step, granted, streaming, ended_for, request_again, again_by, is_streaming, may_acknowledge, acknowledged}
+use Rattle.dcp_consumer.specs.Noops.{noop_answered, IsNoop}
+use Rattle.dcp_consumer.proofs.Noops.{answered as noop_answers, only as noop_only}
+use Rattle.node_core.specs.Conduct.{Asks, Acknowledges, AnswersNoop, AnswersNoops, AreNoopsOf, noop_written, bytes_written, IsOfDial, KeepsLink, AnyOther, DueNext, StatNext, Dues, said, log_behind, message_behind, due_behind, stat_behind, behind, CallsAs, seqno_written, seqnos_of_line, Acknowledged, begins}
+use Rattle.node_core.specs.Dials.{PlainDial, DialResult, untold, is_over, with_consumer, with_line, with_left, over_for, adopted_line, granted_with, is_done_answer, adopt_result, acknowledged_line, acknowledged_result, saved_in, saved_of_reply, due_in, due_of_reply, due_met, due_requested, dial_due, go_on_with, follower_ask, again_with, again_result, requested_once_more, rolled_line, rolled_back, roll_back, got_line, taken_as, message_result, call_made, noop_met, step_made, frame_taken, frames_taken, fault_met}
+use Rattle.node_core.proofs.Conduct.{skipped, either, FollowsIf, Follows, IsMessage, step_follows, over_keeps, lines_keep, wrote_keeps, silent_keeps, one_own, got_own}
 
 -- one job after the other
 pub calls_bind : {A B : Type 0} (between : Dues → A → Type 0) (ends : Dues → B → Type 0) (d : Dues) (job : Job A) (k : A → Job B)
@@ -47,19 +49,38 @@ calls_bind between ends d (Call v call next) k first second =
     (first.0, λ reply. calls_bind between ends (behind d call (said reply)) (next reply) k (first.1 reply) second)
 calls_bind between ends d (Request v ask next) k first second = λ got. calls_bind between ends d (next got) k (first got) second
 
--- a job for each of a list
-calls_each : {X A : Type 0} (ends : Dues → A → Type 0) (f : X → A → Job A) → ((x : X) (d : Dues) (a : A) → ends d a → CallsAs ends d (f x a))
-    → (d : Dues) (xs : List X) (job : Job A) → CallsAs ends d job → CallsAs ends d (fold (next_job f) job xs)
-calls_each ends f keep d [] job before = before
-calls_each ends f keep d (x ∷ xs) job before = calls_each ends f keep d xs (bind_job job (f x)) (calls_bind ends ends d job (f x) before (keep x))
+-- what holds at the end of a job, in other words
+calls_map : {A : Type 0} (holds ends : Dues → A → Type 0) (d : Dues) (job : Job A) → ((e : Dues) (a : A) → holds e a → ends e a) → CallsAs holds d job → CallsAs ends d job
+calls_map holds ends d (Ended a) turn calls = turn d a calls
+calls_map holds ends d (Call v call next) turn calls = (calls.0, λ reply. calls_map holds ends (behind d call (said reply)) (next reply) turn (calls.1 reply))
+calls_map holds ends d (Request v ask next) turn calls = λ got. calls_map holds ends d (next got) turn (calls got)
+
+-- a job for each of a list, with what holds behind those before
+calls_each : {X A : Type 0} (ends : List X → Dues → A → Type 0) (f : X → A → Job A)
+    → ((before : List X) (x : X) (d : Dues) (a : A) → ends before d a → CallsAs (ends (before ++ x ∷ [])) d (f x a))
+    → (d : Dues) (before xs : List X) (job : Job A) → CallsAs (ends before) d job → CallsAs (ends (before ++ xs)) d (fold (next_job f) job xs)
+calls_each ends f keep d before [] job there = subst (λ l. CallsAs (ends l) d job) (sym (append-nil before)) there
+calls_each ends f keep d before (x ∷ xs) job there =
+    subst (λ l. CallsAs (ends l) d (fold (next_job f) (bind_job job (f x)) xs)) (append_assoc before (x ∷ []) xs)
+    (calls_each ends f keep d (before ++ x ∷ []) xs (bind_job job (f x)) (calls_bind (ends before) (ends (before ++ x ∷ [])) d job (f x) there (keep before x)))
+
+-- with the opaque of a NOOP, where the step answers one
+abbrev with_noop : ConsumerStep → List ℕ → List ℕ
+with_noop (step.Noop opaque) noops = noops ++ opaque ∷ []
+with_noop other noops = noops
+
+-- no reason
+pub not_some : {A : Type 0} (o : Option A) → is_some o ≡ false → o ≡ None
+not_some None e = refl
+not_some (Some a) e = cc
 
 -- neither Due nor Stat is left to come
 abbrev free : ℕ → List (ℕ × ℕ) → Dues
 free last met = record { next = AnyOther; last = last; met = met }
 
 -- with lines that tell of no acknowledgement
-unfoldable pub lines_told : {bytes : List ℕ} (old s : DialResult) (d : Dues) (events : List Event) → All (IsOfDial s.dial.consumer.dialed) events → filter_map seqnos_of_line events ≡ []
-    → Acknowledged bytes old d s → Acknowledged bytes old d (record s { events = s.events ++ events })
+unfoldable pub lines_told : {bytes noops : List ℕ} (old s : DialResult) (d : Dues) (events : List Event) → All (IsOfDial s.dial.consumer.dialed) events → filter_map seqnos_of_line events ≡ []
+    → Acknowledged bytes noops old d s → Acknowledged bytes noops old d (record s { events = s.events ++ events })
 lines_told old s d events own none m = record {
   next = m.next;
   last = m.last;
@@ -67,13 +88,14 @@ lines_told old s d events own none m = record {
   written = m.written;
   told = filter_map-append seqnos_of_line m.link.lines.0 events ∙ (λ i. m.told i ++ none i) ∙ append-nil d.met;
   counted = m.counted;
+  answered = m.answered;
   heard = m.heard;
 }
 
-over_told : (old s : DialResult) (d : Dues) (why : EndReason) → Acknowledged [] old d s → Acknowledged [] old d (over_for why s)
-over_told old s d why m = record { next = m.next; last = m.last; link = over_keeps old s why m.link; written = m.written; told = m.told; counted = m.counted; heard = m.heard }
+over_told : {noops : List ℕ} (old s : DialResult) (d : Dues) (why : EndReason) → Acknowledged [] noops old d s → Acknowledged [] noops old d (over_for why s)
+over_told old s d why m = record { next = m.next; last = m.last; link = over_keeps old s why m.link; written = m.written; told = m.told; counted = m.counted; answered = m.answered; heard = m.heard }
 
-moved_told : (old s : DialResult) (d : Dues) (h : Handshake) → Acknowledged [] old d s → Acknowledged [] old d (with_consumer s (with_handshake s.dial.consumer h))
+moved_told : {noops : List ℕ} (old s : DialResult) (d : Dues) (h : Handshake) → Acknowledged [] noops old d s → Acknowledged [] noops old d (with_consumer s (with_handshake s.dial.consumer h))
 moved_told old s d h m = record {
   next = m.next;
   last = m.last;
@@ -81,11 +103,12 @@ moved_told old s d h m = record {
   written = m.written;
   told = m.told;
   counted = m.counted;
+  answered = m.answered;
   heard = m.heard;
 }
 
 -- with one more request
-asked_told : (old s : DialResult) (d : Dues) (ask : StreamAsk) → Acknowledged [] old d s → Acknowledged [] old d (again_with s (request_again ask s.dial.consumer))
+asked_told : {noops : List ℕ} (old s : DialResult) (d : Dues) (ask : StreamAsk) → Acknowledged [] noops old d s → Acknowledged [] noops old d (again_with s (request_again ask s.dial.consumer))
 asked_told old s d ask m =
     let c = s.dial.consumer in
     record {
@@ -95,11 +118,12 @@ asked_told old s d ask m =
       written = filter_map-append seqno_written m.link.writes.0 (Asks ask ∷ []) ∙ append-nil (filter_map seqno_written m.link.writes.0) ∙ m.written;
       told = m.told;
       counted = filter_map-append bytes_written m.link.writes.0 (Asks ask ∷ []) ∙ append-nil (filter_map bytes_written m.link.writes.0) ∙ m.counted;
+      answered = filter_map-append noop_written m.link.writes.0 (Asks ask ∷ []) ∙ append-nil (filter_map noop_written m.link.writes.0) ∙ m.answered;
       heard = m.heard;
     }
 
-silent_told : (old s : DialResult) (d : Dues) (c : PlainConsumer) → c.dialed ≡ s.dial.consumer.dialed → c.asked ≡ s.dial.consumer.asked → s.dial.consumer.acked ≡ c.acked
-    → Acknowledged [] old d s → Acknowledged [] old d (again_with s (c, []))
+silent_told : {noops : List ℕ} (old s : DialResult) (d : Dues) (c : PlainConsumer) → c.dialed ≡ s.dial.consumer.dialed → c.asked ≡ s.dial.consumer.asked → s.dial.consumer.acked ≡ c.acked
+    → Acknowledged [] noops old d s → Acknowledged [] noops old d (again_with s (c, []))
 silent_told old s d c dialed asked acked m = record {
   next = m.next;
   last = m.last ∙ acked;
@@ -107,12 +131,13 @@ silent_told old s d c dialed asked acked m = record {
   written = m.written;
   told = m.told;
   counted = m.counted;
+  answered = m.answered;
   heard = m.heard;
 }
 
 -- with one more acknowledgement
-met_told : (old s : DialResult) (last : ℕ) (met : List (ℕ × ℕ)) (seq saved : ℕ) → Acknowledged [] old (free last met) s
-    → Acknowledged [] old (free seq (met ++ (seq, saved) ∷ [])) (acknowledged_result seq s saved)
+met_told : {noops : List ℕ} (old s : DialResult) (last : ℕ) (met : List (ℕ × ℕ)) (seq saved : ℕ) → Acknowledged [] noops old (free last met) s
+    → Acknowledged [] noops old (free seq (met ++ (seq, saved) ∷ [])) (acknowledged_result seq s saved)
 met_told old s last met seq saved m =
     let c = s.dial.consumer in
     let wrote : List ℕ = (acknowledged seq c).1 in
@@ -126,22 +151,36 @@ met_told old s last met seq saved m =
           ∙ sym (map-append (λ (p : ℕ × ℕ). p.0) met ((seq, saved) ∷ []));
       told = filter_map-append seqnos_of_line m.link.lines.0 (line ∷ []) ∙ ap (λ l. l ++ (seq, saved) ∷ []) m.told;
       counted = filter_map-append bytes_written m.link.writes.0 (Acknowledges seq ∷ []) ∙ append-nil (filter_map bytes_written m.link.writes.0) ∙ m.counted;
+      answered = filter_map-append noop_written m.link.writes.0 (Acknowledges seq ∷ []) ∙ append-nil (filter_map noop_written m.link.writes.0) ∙ m.answered;
       heard = m.heard;
     }
 
+-- with one more answer to a NOOP
+noop_told : {noops : List ℕ} (old s : DialResult) (d : Dues) (opaque : ℕ) → Acknowledged [] noops old d s → Acknowledged [] (noops ++ opaque ∷ []) old d (noop_met opaque s)
+noop_told old s d opaque m = record {
+  next = m.next;
+  last = m.last;
+  link = wrote_keeps old s s.dial.consumer (AnswersNoop opaque) (noop_answered opaque) refl (omega arith) (sym (append-nil (noop_answered opaque))) m.link;
+  written = filter_map-append seqno_written m.link.writes.0 (AnswersNoop opaque ∷ []) ∙ append-nil (filter_map seqno_written m.link.writes.0) ∙ m.written;
+  told = m.told;
+  counted = filter_map-append bytes_written m.link.writes.0 (AnswersNoop opaque ∷ []) ∙ append-nil (filter_map bytes_written m.link.writes.0) ∙ m.counted;
+  answered = filter_map-append noop_written m.link.writes.0 (AnswersNoop opaque ∷ []) ∙ ap (λ l. l ++ opaque ∷ []) m.answered;
+  heard = m.heard;
+}
+
 -- what Stat says
-module _ (old s : DialResult) (last : ℕ) (met : List (ℕ × ℕ)) (m : Acknowledged [] old (free last met) s) where
-  stat_said : (seq : ℕ) (a : VbAnswer) → Acknowledged [] old (stat_behind (record { next = StatNext seq; last = last; met = met }) (StatNext seq) a) (acknowledged_result seq s (saved_in a))
+module _ {noops : List ℕ} (old s : DialResult) (last : ℕ) (met : List (ℕ × ℕ)) (m : Acknowledged [] noops old (free last met) s) where
+  stat_said : (seq : ℕ) (a : VbAnswer) → Acknowledged [] noops old (stat_behind (record { next = StatNext seq; last = last; met = met }) (StatNext seq) a) (acknowledged_result seq s (saved_in a))
   stat_said seq (answer.Stat spans items cursors saved high) = met_told old s last met seq saved m
   stat_said seq other = met_told old s last met seq 0 m
 
   stat_replied : (seq : ℕ) (reply : Option VbReply)
-      → Acknowledged [] old (stat_behind (record { next = StatNext seq; last = last; met = met }) (StatNext seq) (said reply)) (acknowledged_result seq s (saved_of_reply reply))
+      → Acknowledged [] noops old (stat_behind (record { next = StatNext seq; last = last; met = met }) (StatNext seq) (said reply)) (acknowledged_result seq s (saved_of_reply reply))
   stat_replied seq None = met_told old s last met seq 0 m
   stat_replied seq (Some r) = stat_said seq r.answer
 
   -- what is due is met
-  meets : (seq : ℕ) (b : Bool) → CallsAs (Acknowledged [] old) (record { next = if b then StatNext seq else AnyOther; last = last; met = met })
+  meets : (seq : ℕ) (b : Bool) → CallsAs (Acknowledged [] noops old) (record { next = if b then StatNext seq else AnyOther; last = last; met = met })
       (lift (if b then prog.Call s.dial.consumer.dialed.vb call.Stat (λ reply. Done (acknowledged_result seq s (saved_of_reply reply))) else Done s))
   meets seq true = (tt, λ reply. stat_replied seq reply)
   meets seq false = m
@@ -151,34 +190,34 @@ module _ (old s : DialResult) (last : ℕ) (met : List (ℕ × ℕ)) (m : Acknow
   none_above false n = refl
 
   -- nothing is due
-  meets_none : CallsAs (Acknowledged [] old) (free last met) (lift (due_met s 0))
+  meets_none : CallsAs (Acknowledged [] noops old) (free last met) (lift (due_met s 0))
   meets_none =
-      subst (λ b. CallsAs (Acknowledged [] old) (free last met) (lift (if b then prog.Call s.dial.consumer.dialed.vb call.Stat (λ reply. Done (acknowledged_result 0 s (saved_of_reply reply))) else Done s)))
+      subst (λ b. CallsAs (Acknowledged [] noops old) (free last met) (lift (if b then prog.Call s.dial.consumer.dialed.vb call.Stat (λ reply. Done (acknowledged_result 0 s (saved_of_reply reply))) else Done s)))
       (sym (none_above (is_streaming s.dial.consumer.handshake) s.dial.consumer.acked)) m
 
   module _ (streams : s.dial.consumer.handshake ≡ handshake.Streaming) where
-    due_said : (a : VbAnswer) → CallsAs (Acknowledged [] old) (due_behind (record { next = DueNext; last = last; met = met }) a) (lift (due_met s (due_in a)))
+    due_said : (a : VbAnswer) → CallsAs (Acknowledged [] noops old) (due_behind (record { next = DueNext; last = last; met = met }) a) (lift (due_met s (due_in a)))
     due_said (answer.Num seq) =
         let may : nat_lt last seq ≡ may_acknowledge seq s.dial.consumer = λ i. is_streaming (sym streams i) && nat_lt (m.last i) seq in
-        subst (λ b. CallsAs (Acknowledged [] old) (record { next = if nat_lt last seq then StatNext seq else AnyOther; last = last; met = met })
+        subst (λ b. CallsAs (Acknowledged [] noops old) (record { next = if nat_lt last seq then StatNext seq else AnyOther; last = last; met = met })
         (lift (if b then prog.Call s.dial.consumer.dialed.vb call.Stat (λ reply. Done (acknowledged_result seq s (saved_of_reply reply))) else Done s)))
         may (meets seq (nat_lt last seq))
     due_said other = meets_none
 
-    due_replied : (reply : Option VbReply) → CallsAs (Acknowledged [] old) (due_behind (record { next = DueNext; last = last; met = met }) (said reply)) (lift (due_met s (due_of_reply reply)))
+    due_replied : (reply : Option VbReply) → CallsAs (Acknowledged [] noops old) (due_behind (record { next = DueNext; last = last; met = met }) (said reply)) (lift (due_met s (due_of_reply reply)))
     due_replied None = meets_none
     due_replied (Some r) = due_said r.answer
 
     -- what is due is asked
-    pub asks_due : CallsAs (Acknowledged [] old) (record { next = DueNext; last = last; met = met }) (lift (due_requested s))
+    pub asks_due : CallsAs (Acknowledged [] noops old) (record { next = DueNext; last = last; met = met }) (lift (due_requested s))
     unfolding due_requested
     asks_due =
-        subst (λ b. CallsAs (Acknowledged [] old) (record { next = DueNext; last = last; met = met })
+        subst (λ b. CallsAs (Acknowledged [] noops old) (record { next = DueNext; last = last; met = met })
         (lift (if b then prog.Call s.dial.consumer.dialed.vb call.Due (λ reply. due_met s (due_of_reply reply)) else Done s)))
         (ap is_streaming (sym streams)) (tt, λ reply. due_replied reply)
 
 -- a link that is over asks nothing
-over_asks : (old s : DialResult) (d : Dues) (why : EndReason) → Acknowledged [] old d s → CallsAs (Acknowledged [] old) d (lift (due_requested (over_for why s)))
+over_asks : {noops : List ℕ} (old s : DialResult) (d : Dues) (why : EndReason) → Acknowledged [] noops old d s → CallsAs (Acknowledged [] noops old) d (lift (due_requested (over_for why s)))
 unfolding due_requested
 over_asks old s d why m = over_told old s d why m
 
@@ -187,9 +226,9 @@ none_told : (dialed : Dialed) (changes : List Change) → filter_map seqnos_of_l
 none_told dialed [] = refl
 none_told dialed (c ∷ changes) = none_told dialed changes
 
-module _ (old s : DialResult) (last : ℕ) (met : List (ℕ × ℕ)) (m : Acknowledged [] old (free last met) s) where
+module _ {noops : List ℕ} (old s : DialResult) (last : ℕ) (met : List (ℕ × ℕ)) (m : Acknowledged [] noops old (free last met) s) where
   message_said : s.dial.consumer.handshake ≡ handshake.Streaming → (r : VbReply) (a : VbAnswer)
-      → CallsAs (Acknowledged [] old) (message_behind (free last met) a) (lift (due_requested (taken_as r s a)))
+      → CallsAs (Acknowledged [] noops old) (message_behind (free last met) a) (lift (due_requested (taken_as r s a)))
   message_said streams r (answer.Range ss se) =
       let line : Event = event.Ranged s.dial.consumer.dialed.node s.dial.consumer.dialed.vb ss se in
       asks_due old (with_line s line) last met (lines_told old s (free last met) (line ∷ []) (one_own s.dial.consumer.dialed line (refl, refl)) refl m) streams
@@ -200,11 +239,11 @@ module _ (old s : DialResult) (last : ℕ) (met : List (ℕ × ℕ)) (m : Acknow
   message_said streams r other = over_asks old s (free last met) reason.Protocol m
 
   message_replied : s.dial.consumer.handshake ≡ handshake.Streaming → (reply : Option VbReply)
-      → CallsAs (Acknowledged [] old) (message_behind (free last met) (said reply)) (lift (due_requested (message_result s reply)))
+      → CallsAs (Acknowledged [] noops old) (message_behind (free last met) (said reply)) (lift (due_requested (message_result s reply)))
   message_replied streams None = over_asks old s (free last met) reason.Protocol m
   message_replied streams (Some r) = message_said streams r r.answer
 
-  message_calls : s.dial.consumer.handshake ≡ handshake.Streaming → (c : VbCall) → IsMessage c → CallsAs (Acknowledged [] old) (free last met) (lift (call_made c s))
+  message_calls : s.dial.consumer.handshake ≡ handshake.Streaming → (c : VbCall) → IsMessage c → CallsAs (Acknowledged [] noops old) (free last met) (lift (call_made c s))
   unfolding call_made
   message_calls streams (call.Marker start end) message = (tt, λ reply. message_replied streams reply)
   message_calls streams (call.Receive change) message = (tt, λ reply. message_replied streams reply)
@@ -212,7 +251,7 @@ module _ (old s : DialResult) (last : ℕ) (met : List (ℕ × ℕ)) (m : Acknow
 
   -- a log
   granted_asks : s.dial.consumer.handshake ≡ handshake.Asking → (log : List LogEntry)
-      → CallsAs (Acknowledged [] old) (record { next = DueNext; last = last; met = met }) (lift (due_requested (granted_with log s)))
+      → CallsAs (Acknowledged [] noops old) (record { next = DueNext; last = last; met = met }) (lift (due_requested (granted_with log s)))
   granted_asks asks log =
       let c = s.dial.consumer in
       let given : DialResult = with_consumer s (granted c) in
@@ -221,32 +260,32 @@ module _ (old s : DialResult) (last : ℕ) (met : List (ℕ × ℕ)) (m : Acknow
       (lines_told old given (free last met) (line ∷ []) (one_own c.dialed line (refl, refl)) refl (moved_told old s (free last met) (streaming c.handshake) m)) (ap streaming asks)
 
   log_said : s.dial.consumer.handshake ≡ handshake.Asking → (log : List LogEntry) (a : VbAnswer)
-      → CallsAs (Acknowledged [] old) (log_behind (free last met) a) (lift (due_requested (if is_done_answer a then granted_with log s else over_for reason.Protocol s)))
+      → CallsAs (Acknowledged [] noops old) (log_behind (free last met) a) (lift (due_requested (if is_done_answer a then granted_with log s else over_for reason.Protocol s)))
   log_said asks log answer.Done = granted_asks asks log
   log_said asks log other = over_asks old s (free last met) reason.Protocol m
 
   log_replied : s.dial.consumer.handshake ≡ handshake.Asking → (log : List LogEntry) (reply : Option VbReply)
-      → CallsAs (Acknowledged [] old) (log_behind (free last met) (said reply)) (lift (due_requested (adopt_result log s reply)))
+      → CallsAs (Acknowledged [] noops old) (log_behind (free last met) (said reply)) (lift (due_requested (adopt_result log s reply)))
   log_replied asks log None = over_asks old s (free last met) reason.Protocol m
   log_replied asks log (Some r) = log_said asks log r.answer
 
-  log_calls : s.dial.consumer.handshake ≡ handshake.Asking → (log : List LogEntry) → CallsAs (Acknowledged [] old) (free last met) (lift (go_on_with log s))
+  log_calls : s.dial.consumer.handshake ≡ handshake.Asking → (log : List LogEntry) → CallsAs (Acknowledged [] noops old) (free last met) (lift (go_on_with log s))
   unfolding go_on_with
   log_calls asks log = (tt, λ reply. log_replied asks log reply)
 
   -- a request once the vBucket went back
-  again_result_so : (ask : StreamAsk) (h : Handshake) → Acknowledged [] old (free last met) (again_with s (again_by h ask s.dial.consumer))
+  again_result_so : (ask : StreamAsk) (h : Handshake) → Acknowledged [] noops old (free last met) (again_with s (again_by h ask s.dial.consumer))
   again_result_so ask handshake.Asking =
       let c = s.dial.consumer in
-      either (λ a. Acknowledged [] old (free last met) (again_with s a)) (nat_lt c.asked (2 ^ 32 - 1)) (request_again ask c) (ended_for reason.Protocol c, [])
+      either (λ a. Acknowledged [] noops old (free last met) (again_with s a)) (nat_lt c.asked (2 ^ 32 - 1)) (request_again ask c) (ended_for reason.Protocol c, [])
       (asked_told old s (free last met) ask m) (silent_told old s (free last met) (ended_for reason.Protocol c) refl refl refl m)
   again_result_so ask other = silent_told old s (free last met) s.dial.consumer refl refl refl m
 
-  again_if_told : (ask : Option StreamAsk) → Acknowledged [] old (free last met) (again_result s ask)
+  again_if_told : (ask : Option StreamAsk) → Acknowledged [] noops old (free last met) (again_result s ask)
   again_if_told None = over_told old s (free last met) reason.Protocol m
   again_if_told (Some ask) = again_result_so ask s.dial.consumer.handshake
 
-  once_more_calls : CallsAs (Acknowledged [] old) (free last met) (lift (requested_once_more s))
+  once_more_calls : CallsAs (Acknowledged [] noops old) (free last met) (lift (requested_once_more s))
   once_more_calls = (tt, λ reply. again_if_told (follower_ask reply))
 
 -- a rollback leaves where the calls stand
@@ -285,8 +324,8 @@ module _ (v last : ℕ) (met : List (ℕ × ℕ)) where
   unfolding Rolls roll_job
   rolls named = (tt, λ reply. goes_back named reply)
 
-module _ (old s : DialResult) (last : ℕ) (met : List (ℕ × ℕ)) (m : Acknowledged [] old (free last met) s) where
-  rolled_calls : (point : ℕ) (came : Rolled) → CallsAs (Acknowledged [] old) (free last met) (lift (rolled_back point s came))
+module _ {noops : List ℕ} (old s : DialResult) (last : ℕ) (met : List (ℕ × ℕ)) (m : Acknowledged [] noops old (free last met) s) where
+  rolled_calls : (point : ℕ) (came : Rolled) → CallsAs (Acknowledged [] noops old) (free last met) (lift (rolled_back point s came))
   rolled_calls point (rolled.To to) =
       let line : Event = rolled_line s.dial.consumer.dialed point to in
       once_more_calls old (with_line s line) last met (lines_told old s (free last met) (line ∷ []) (one_own s.dial.consumer.dialed line (refl, refl)) refl m)
@@ -295,51 +334,92 @@ module _ (old s : DialResult) (last : ℕ) (met : List (ℕ × ℕ)) (m : Acknow
   rolled_calls point rolled.DiskFailed = over_told old s (free last met) reason.Disk m
   rolled_calls point (rolled.Damaged place) = over_told old s (free last met) reason.Disk m
 
-  roll_calls : (point : ℕ) → CallsAs (Acknowledged [] old) (free last met) (roll_back point s)
+  roll_calls : (point : ℕ) → CallsAs (Acknowledged [] noops old) (free last met) (roll_back point s)
   unfolding roll_back Rolls Stays
   roll_calls point =
-      calls_bind (Stays (free last met)) (Acknowledged [] old) (free last met) (roll_job s.dial.consumer.dialed.vb point) (λ came. lift (rolled_back point s came))
+      calls_bind (Stays (free last met)) (Acknowledged [] noops old) (free last met) (roll_job s.dial.consumer.dialed.vb point) (λ came. lift (rolled_back point s came))
       (rolls s.dial.consumer.dialed.vb last met point)
-      (λ e came same. subst (λ d. CallsAs (Acknowledged [] old) d (lift (rolled_back point s came))) (sym same) (rolled_calls point came))
+      (λ e came same. subst (λ d. CallsAs (Acknowledged [] noops old) d (lift (rolled_back point s came))) (sym same) (rolled_calls point came))
 
   -- a frame
   step_calls : (t : ConsumerStep) → Follows s.dial.consumer.handshake t
-      → CallsAs (Acknowledged [] old) (free last met) (step_made t (with_consumer s (with_handshake s.dial.consumer (moved_by s.dial.consumer.dialed.buffer t s.dial.consumer.handshake))))
+      → CallsAs (Acknowledged [] (with_noop t noops) old) (free last met) (step_made t (with_consumer s (with_handshake s.dial.consumer (moved_by s.dial.consumer.dialed.buffer t s.dial.consumer.handshake))))
   unfolding Follows FollowsIf
   step_calls (step.Adopt log) asks = log_calls old s last met m asks log
   step_calls (step.Roll point) follows = roll_calls point
   step_calls (step.Passive (passive.Call c)) follows = message_calls old s last met m follows.0 c follows.1
   step_calls (step.Passive p) follows = moved_told old s (free last met) (moved_by s.dial.consumer.dialed.buffer (step.Passive p) s.dial.consumer.handshake) m
+  step_calls (step.Noop opaque) follows = noop_told old s (free last met) opaque m
   step_calls t follows = moved_told old s (free last met) (moved_by s.dial.consumer.dialed.buffer t s.dial.consumer.handshake) m
 
-frame_calls : (old : DialResult) (f : Frame) (d : Dues) (s : DialResult) → Acknowledged [] old d s → CallsAs (Acknowledged [] old) d (frame_taken f s)
+-- a frame of a link that is not over
+going_calls : (old : DialResult) (noops : List ℕ) (f : Frame) (d : Dues) (s : DialResult) → Acknowledged [] noops old d s
+    → CallsAs (Acknowledged [] (with_noop (frame_step s.dial.consumer f) noops) old) d (frame_taken f s)
 unfolding frame_taken
-frame_calls old f d s m =
+going_calls old noops f d s m =
     let free_there : free d.last d.met ≡ d = λ i. record { next = sym m.next i; last = d.last; met = d.met } in
     let c = s.dial.consumer in
-    subst (λ e. CallsAs (Acknowledged [] old) e (step_made (frame_step c f) (with_consumer s (with_handshake c (moved_by c.dialed.buffer (frame_step c f) c.handshake))))) free_there
-    (step_calls old s d.last d.met (subst (λ e. Acknowledged [] old e s) (sym free_there) m) (frame_step c f) (step_follows c f))
+    subst (λ e. CallsAs (Acknowledged [] (with_noop (frame_step c f) noops) old) e (step_made (frame_step c f) (with_consumer s (with_handshake c (moved_by c.dialed.buffer (frame_step c f) c.handshake))))) free_there
+    (step_calls old s d.last d.met (subst (λ e. Acknowledged [] noops old e s) (sym free_there) m) (frame_step c f) (step_follows c f))
 
-pub fault_told : (old s : DialResult) (d : Dues) (fault : Option FrameFault) → Acknowledged [] old d s → Acknowledged [] old d (fault_met fault s)
+-- ---- which NOOPs are answered
+
+-- the opaques of the NOOPs of some frames, and of one more
+noop_behind : (before : List Frame) (noops : List ℕ) (f : Frame) (opaque : ℕ) → IsNoop f → f.opaque ≡ opaque → AreNoopsOf before noops → AreNoopsOf (before ++ f ∷ []) (noops ++ opaque ∷ [])
+noop_behind [] noops f opaque is same are = inl (is, ([], (λ i. are i ++ sym same i ∷ []), refl))
+noop_behind (g ∷ before) noops f opaque is same (inl (noop, (more, first, are))) =
+    inl (noop, (more ++ opaque ∷ [], ap (λ l. l ++ opaque ∷ []) first, noop_behind before more f opaque is same are))
+noop_behind (g ∷ before) noops f opaque is same (inr (none, are)) = inr (none, noop_behind before noops f opaque is same are)
+
+other_behind : (before : List Frame) (noops : List ℕ) (f : Frame) → (IsNoop f → ⊥) → AreNoopsOf before noops → AreNoopsOf (before ++ f ∷ []) noops
+other_behind [] noops f none are = inr (none, are)
+other_behind (g ∷ before) noops f none (inl (noop, (more, first, are))) = inl (noop, (more, first, other_behind before more f none are))
+other_behind (g ∷ before) noops f none (inr (never, are)) = inr (never, other_behind before noops f none are)
+
+-- the calls of frames, of which these were taken
+abbrev pub Taken : List Frame → DialResult → Dues → DialResult → Type 0
+Taken frames old d s = (noops : List ℕ) × Acknowledged [] noops old d s × AnswersNoops frames s.dial noops
+
+module _ (old : DialResult) (before : List Frame) (f : Frame) (s : DialResult) where
+  -- a step answers a NOOP exactly where the frame is one
+  noops_by : over_why s.dial.consumer.handshake ≡ None → (noops : List ℕ) → AreNoopsOf before noops → (t : ConsumerStep) → frame_step s.dial.consumer f ≡ t → AreNoopsOf (before ++ f ∷ []) (with_noop t noops)
+  noops_by going noops are (step.Noop opaque) came = let is = noop_only s.dial.consumer f opaque came in noop_behind before noops f opaque is.1 is.2 are
+  noops_by going noops are other came = other_behind before noops f (λ is. let noop : other ≡ step.Noop f.opaque = sym came ∙ ap (λ x. x.1) (noop_answers s.dial.consumer f going is) in cc) are
+
+  taken_by : (d : Dues) (b : Bool) → is_over s.dial ≡ b → Taken before old d s → CallsAs (Taken (before ++ f ∷ []) old) d (frame_taken f s)
+  taken_by d true over (noops, m, (taken, behind, are, own, all)) =
+      subst (λ job. CallsAs (Taken (before ++ f ∷ []) old) d job) (sym (skipped f s over))
+      (noops, m, (taken, behind ++ f ∷ [], ap (λ l. l ++ f ∷ []) are ∙ append_assoc taken behind (f ∷ []), own, λ none. let never : false ≡ true = sym (ap is_some none) ∙ over in cc))
+  taken_by d false going (noops, m, (taken, behind, are, own, all)) =
+      let c = s.dial.consumer in
+      let none : over_why c.handshake ≡ None = not_some (over_why c.handshake) going in
+      let whole : taken ≡ before = sym (append-nil taken) ∙ ap (λ l. taken ++ l) (sym (all none)) ∙ sym are in
+      let now : List ℕ = with_noop (frame_step c f) noops in
+      let noops_are : AreNoopsOf (before ++ f ∷ []) now = noops_by none noops (subst (λ l. AreNoopsOf l noops) whole own) (frame_step c f) refl in
+      calls_map (Acknowledged [] now old) (Taken (before ++ f ∷ []) old) d (frame_taken f s) (λ e t told. (now, told, (before ++ f ∷ [], [], sym (append-nil (before ++ f ∷ [])), noops_are, λ any. refl)))
+      (going_calls old noops f d s m)
+
+pub fault_told : {noops : List ℕ} (old s : DialResult) (d : Dues) (fault : Option FrameFault) → Acknowledged [] noops old d s → Acknowledged [] noops old d (fault_met fault s)
 fault_told old s d None m = m
-fault_told old s d (Some fault) m = either (Acknowledged [] old d) (is_over s.dial) s (over_for reason.Protocol s) m (over_told old s d reason.Protocol m)
+fault_told {noops = noops} old s d (Some fault) m = either (Acknowledged [] noops old d) (is_over s.dial) s (over_for reason.Protocol s) m (over_told old s d reason.Protocol m)
 
--- the frames of a delivery, and bytes that begin none
+-- the frames of a delivery
 pub frames_acknowledge : (bytes : List ℕ) (dial : PlainDial)
-    → CallsAs (Acknowledged [] (with_left (untold dial) bytes)) (begins AnyOther dial) (frames_taken (frames_in bytes) (with_left (untold dial) bytes))
+    → CallsAs (Taken (frames_in bytes) (with_left (untold dial) bytes)) (begins AnyOther dial) (frames_taken (frames_in bytes) (with_left (untold dial) bytes))
 unfolding frames_taken
 frames_acknowledge bytes dial =
     let old : DialResult = with_left (untold dial) bytes in
     let link : KeepsLink old old = record { dialed = refl; writes = ([], refl, omega arith); lines = ([], refl, All-nil (IsOfDial dial.consumer.dialed)) } in
-    let start : Acknowledged [] old (begins AnyOther dial) old = record { next = refl; last = refl; link = link; written = refl; told = refl; counted = refl; heard = refl } in
-    calls_each (Acknowledged [] old) frame_taken (frame_calls old) (begins AnyOther dial) (frames_in bytes) (Ended old) start
+    let start : Acknowledged [] [] old (begins AnyOther dial) old = record { next = refl; last = refl; link = link; written = refl; told = refl; counted = refl; answered = refl; heard = refl } in
+    calls_each (λ before. Taken before old) frame_taken (λ before f d s taken. taken_by old before f s d (is_over s.dial) refl taken) (begins AnyOther dial) [] (frames_in bytes) (Ended old)
+    ([], start, ([], [], refl, refl, λ any. refl))
 
 -- more is written down
-pub due_acknowledges : (dial : PlainDial) → dial.consumer.handshake ≡ handshake.Streaming → CallsAs (Acknowledged [] (untold dial)) (begins DueNext dial) (lift (dial_due dial))
+pub due_acknowledges : (dial : PlainDial) → dial.consumer.handshake ≡ handshake.Streaming → CallsAs (Acknowledged [] [] (untold dial)) (begins DueNext dial) (lift (dial_due dial))
 due_acknowledges dial streams =
     let old : DialResult = untold dial in
     let link : KeepsLink old old = record { dialed = refl; writes = ([], refl, omega arith); lines = ([], refl, All-nil (IsOfDial dial.consumer.dialed)) } in
-    asks_due old old dial.consumer.acked [] (record { next = refl; last = refl; link = link; written = refl; told = refl; counted = refl; heard = refl }) streams
+    asks_due old old dial.consumer.acked [] (record { next = refl; last = refl; link = link; written = refl; told = refl; counted = refl; answered = refl; heard = refl }) streams
 
 not_streaming : (h : Handshake) → (h ≡ handshake.Streaming → ⊥) → is_streaming h ≡ false
 not_streaming handshake.Streaming idle = elim (idle refl) [ ]

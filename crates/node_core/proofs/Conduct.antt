@@ -49,9 +49,10 @@ use Rattle.dcp_consumer.specs.declared.passive_stream.Passive.{Passive}
 use Rattle.dcp_consumer.specs.declared.passive_stream.Passive.TheVariants as passive
 use Rattle.dcp_consumer.specs.PassiveStreams.{set_change, remove_change, prepare_change, resolved_change, commit_act, flag_of, call_of_message, called, passive_of, passive_read}
 use Rattle.dcp_consumer.specs.Counting.{counted_bytes, bytes_acknowledged}
-use Rattle.dcp_consumer.specs.Machine.{PlainConsumer, over_why, is_awaited, status_step, verdict_step, answered_with, stream_step, answer_step, response_step, message_step, frame_step, with_handshake, moved_by, consumer_step, granted, ended_for, request_again, again_by, is_streaming, may_acknowledge, acknowledged}
+use Rattle.dcp_consumer.specs.Noops.{noop_answered}
+use Rattle.dcp_consumer.specs.Machine.{PlainConsumer, over_why, is_awaited, status_step, verdict_step, answered_with, stream_step, answer_step, response_step, is_noop, passive_step, message_step, frame_step, with_handshake, moved_by, consumer_step, granted, ended_for, request_again, again_by, is_streaming, may_acknowledge, acknowledged}
 use Rattle.dcp_consumer.specs.declared.handshake.Dialed.{Dialed}
-use Rattle.node_core.specs.Conduct.{IsFollowing, FollowsAt, RollsAt, Writes, Asks, Acknowledges, AcknowledgesBytes, asks_in, writes_past, IsOfDial, KeepsLink}
+use Rattle.node_core.specs.Conduct.{IsFollowing, FollowsAt, RollsAt, Writes, Asks, Acknowledges, AcknowledgesBytes, AnswersNoop, asks_in, writes_past, IsOfDial, KeepsLink}
 use Rattle.node_core.specs.Dials.{PlainDial, DialResult, untold, is_broken, is_over, with_consumer, with_line, with_left, over_for, adopted_line, granted_with, is_done, adopt_result, acknowledged_line, acknowledged_result, saved_of_reply, due_of_reply, due_met, due_requested, go_on_with, follower_ask, again_with, again_result, requested_once_more, rolled_line, rolled_back, roll_back, got_line, taken_as, message_result, call_made, passive_made, step_made, frame_taken, frames_taken, fault_met, bytes_counted, with_end_line, with_last_line, rest_met, bytes_taken, dial_bytes}
 
 -- one of two
@@ -107,10 +108,14 @@ unfolding Follows
 streaming_follows (passive.Call c) message = (refl, message)
 streaming_follows other message = tt
 
+passive_step_follows : (h : Handshake) (read : Option (Result DcpMsg DcpFault)) → Follows h (passive_step h read)
+unfolding Follows
+passive_step_follows handshake.Streaming read = streaming_follows (passive_read read) (read_follows read)
+passive_step_follows other read = tt
+
 message_step_follows : (h : Handshake) (f : Frame) → Follows h (message_step h f)
 unfolding Follows
-message_step_follows handshake.Streaming f = streaming_follows (passive_read (read_of f)) (read_follows (read_of f))
-message_step_follows other f = tt
+message_step_follows h f = either (Follows h) (is_noop (read_of f)) (step.Noop f.opaque) (passive_step h (read_of f)) tt (passive_step_follows h (read_of f))
 
 told_follows : (t : StreamVerdict) → Follows handshake.Asking (verdict_step t)
 unfolding Follows
@@ -160,14 +165,18 @@ writes_append vb asked (Acknowledges seq ∷ more) rest =
 writes_append vb asked (AcknowledgesBytes bytes ∷ more) rest =
     let first : List ℕ = spelling (dcp_frame (msg.BufferAcknowledgement bytes) asked 0) in
     ap (λ l. first ++ l) (writes_append vb asked more rest) ∙ sym (append_assoc first (writes_past vb asked more) (writes_past vb (asked + asks_in more) rest))
+writes_append vb asked (AnswersNoop opaque ∷ more) rest =
+    let first : List ℕ = noop_answered opaque in
+    ap (λ l. first ++ l) (writes_append vb asked more rest) ∙ sym (append_assoc first (writes_past vb asked more) (writes_past vb (asked + asks_in more) rest))
 
 pub asks_append : (more rest : List Writes) → asks_in (more ++ rest) ≡ asks_in more + asks_in rest
 asks_append [] rest = omega arith
 asks_append (Asks ask ∷ more) rest = omega (arith, asks_append more rest)
 asks_append (Acknowledges seq ∷ more) rest = asks_append more rest
 asks_append (AcknowledgesBytes bytes ∷ more) rest = asks_append more rest
+asks_append (AnswersNoop opaque ∷ more) rest = asks_append more rest
 
--- one more request or acknowledgement
+-- one more request, acknowledgement or answer
 abbrev pub wrote_keeps : (old s : DialResult) (c : PlainConsumer) (w : Writes) (bytes : List ℕ) → c.dialed ≡ s.dial.consumer.dialed → c.asked ≡ s.dial.consumer.asked + asks_in (w ∷ [])
     → bytes ≡ writes_past s.dial.consumer.dialed.vb s.dial.consumer.asked (w ∷ []) → KeepsLink old s → KeepsLink old (again_with s (c, bytes))
 wrote_keeps old s c w bytes dialed asked are kept =
@@ -365,6 +374,8 @@ step_keeps old s h (step.Adopt log) follows kept =
     always_lift AnyReply (FollowsAt vb) (RollsAt vb) (KeepsLink old) (go_on_with log s) (log_follows old s log kept)
 step_keeps old s h (step.Roll point) follows kept = roll_follows old s point kept
 step_keeps old s h (step.Passive (passive.Call c)) follows kept = passive_step_keeps old s (passive.Call c) follows.1 kept
+step_keeps old s h (step.Noop opaque) follows kept =
+    wrote_keeps old s s.dial.consumer (AnswersNoop opaque) (noop_answered opaque) refl (omega arith) (sym (append-nil (noop_answered opaque))) kept
 step_keeps old s h other follows kept = kept
 
 -- a frame
@@ -417,7 +428,7 @@ dropped : (c : PlainConsumer) (f : Frame) → is_some (over_why c.handshake) ≡
 unfolding frame_step
 dropped c f over = ap (λ b. if b then step.Dropped else if f.magic == RESPONSE then response_step c.dialed.buffer c.handshake c.asked f else message_step c.handshake f) over
 
-skipped : (f : Frame) (s : DialResult) → is_over s.dial ≡ true → frame_taken f s ≡ Ended s
+pub skipped : (f : Frame) (s : DialResult) → is_over s.dial ≡ true → frame_taken f s ≡ Ended s
 unfolding frame_taken
 skipped f s over =
     let c = s.dial.consumer in

@@ -7,17 +7,19 @@ use Rattle.std.proofs.lemmas.Bool.Decides.{nat_tests}
 use Rattle.std.proofs.lemmas.List.Elements.{filter_map-append}
 use Rattle.std.proofs.lemmas.List.Sums.{sum_by-append, sum_by-cons}
 use Rattle.mcbp_frame.specs.declared.frame.Frame.{Frame}
+use Rattle.mcbp_frame.specs.declared.frame.FrameFault.{FrameFault}
 use Rattle.mcbp_frame.specs.Cutting.{front_fault, frames_in, left_of}
 use Rattle.mcbp_frame.specs.Spelling.{spelling}
 use Rattle.mcbp_frame.proofs.Cases.{length-spelling}
 use Rattle.vb_events.specs.declared.event.Event.{Event}
 use Rattle.vb_events.specs.declared.event.Event.TheVariants as event
 use Rattle.vb_events.specs.declared.event.EndReason.{EndReason}
+use Rattle.vb_events.specs.declared.event.EndReason.TheVariants as reason
 use Rattle.dcp_consumer.specs.Counting.{counted_bytes, counted_len, is_counted, bytes_acknowledged}
 use Rattle.dcp_consumer.specs.Machine.{over_why}
-use Rattle.node_core.specs.Conduct.{Writes, AcknowledgesBytes, AnyOther, Dues, CallsAs, bytes_written, seqno_written, Acknowledged, SomeCounts, OwesBytes, Delivers, begins}
-use Rattle.node_core.specs.Dials.{PlainDial, DialResult, untold, is_broken, is_over, with_left, with_line, fault_met, bytes_counted, with_end_line, rest_met, bytes_taken, dial_bytes, frames_taken}
-use Rattle.node_core.proofs.Acknowledging.{calls_bind, fault_told, frames_acknowledge, lines_told}
+use Rattle.node_core.specs.Conduct.{Writes, AcknowledgesBytes, noop_written, AnyOther, Dues, CallsAs, bytes_written, seqno_written, Acknowledged, SomeCounts, OwesBytes, Delivers, begins}
+use Rattle.node_core.specs.Dials.{PlainDial, DialResult, untold, is_broken, is_over, over_for, with_left, with_line, fault_met, bytes_counted, with_end_line, rest_met, bytes_taken, dial_bytes, frames_taken}
+use Rattle.node_core.proofs.Acknowledging.{Taken, calls_bind, fault_told, frames_acknowledge, lines_told}
 use Rattle.node_core.proofs.Conduct.{either, one_own, wrote_keeps}
 
 -- ---- whether a frame counts
@@ -27,7 +29,7 @@ one_more : (f : Frame) (more : List Frame) → counted_bytes (f ∷ more) ≡ co
 unfolding counted_bytes
 one_more f more = sum_by-cons counted_len f more
 
-some_more : (before more : List Frame) → counted_bytes (before ++ more) ≡ counted_bytes before + counted_bytes more
+pub some_more : (before more : List Frame) → counted_bytes (before ++ more) ≡ counted_bytes before + counted_bytes more
 unfolding counted_bytes
 some_more before more = sum_by-append counted_len before more
 
@@ -87,17 +89,17 @@ module _ (frames : List Frame) (dial : PlainDial) where
 -- ---- what is written
 
 -- these bytes are the last that was acknowledged
-abbrev Last : List ℕ → DialResult → Dues → DialResult → Type 0
-Last bytes old d new = (m : Acknowledged bytes old d new) × ((before : List Writes) × (m.link.writes.0 ≡ before ++ map AcknowledgesBytes bytes))
+abbrev Last : List ℕ → List ℕ → DialResult → Dues → DialResult → Type 0
+Last bytes noops old d new = (m : Acknowledged bytes noops old d new) × ((before : List Writes) × (m.link.writes.0 ≡ before ++ map AcknowledgesBytes bytes))
 
-module _ (old s : DialResult) (d : Dues) (frames : List Frame) (m : Acknowledged [] old d s) where
+module _ {noops : List ℕ} (old s : DialResult) (d : Dues) (frames : List Frame) (m : Acknowledged [] noops old d s) where
   abbrev wrote : List ℕ
   wrote = bytes_acknowledged (counted_bytes frames) s.dial.consumer
 
   abbrev most : ℕ
   most = min (counted_bytes frames) 4294967295
 
-  last_by : (b : Bool) → Last (if b then [] else most ∷ []) old d (if b then s else record s { out = s.out ++ wrote })
+  last_by : (b : Bool) → Last (if b then [] else most ∷ []) noops old d (if b then s else record s { out = s.out ++ wrote })
   last_by true = (m, (m.link.writes.0, sym (append-nil m.link.writes.0)))
   last_by false = (
     record {
@@ -107,22 +109,23 @@ module _ (old s : DialResult) (d : Dues) (frames : List Frame) (m : Acknowledged
       written = filter_map-append seqno_written m.link.writes.0 (AcknowledgesBytes most ∷ []) ∙ append-nil (filter_map seqno_written m.link.writes.0) ∙ m.written;
       told = m.told;
       counted = filter_map-append bytes_written m.link.writes.0 (AcknowledgesBytes most ∷ []) ∙ ap (λ l. l ++ most ∷ []) m.counted;
+      answered = filter_map-append noop_written m.link.writes.0 (AcknowledgesBytes most ∷ []) ∙ append-nil (filter_map noop_written m.link.writes.0) ∙ m.answered;
       heard = m.heard;
     },
     (m.link.writes.0, refl),
   )
 
-  counted_last : Last (owed_bytes frames s.dial) old d (bytes_counted frames s)
+  counted_last : Last (owed_bytes frames s.dial) noops old d (bytes_counted frames s)
   unfolding bytes_counted
   counted_last = last_by (none_owed frames s.dial)
 
 -- the last line writes nothing
-end_last : (bytes : List ℕ) (old s : DialResult) (d : Dues) (why : Option EndReason) → Last bytes old d s → Last bytes old d (with_end_line why s)
+end_last : {noops : List ℕ} (bytes : List ℕ) (old s : DialResult) (d : Dues) (why : Option EndReason) → Last bytes noops old d s → Last bytes noops old d (with_end_line why s)
 unfolding lines_told
 end_last bytes old s d None m = m
-end_last bytes old s d (Some why) m =
+end_last {noops = noops} bytes old s d (Some why) m =
     let line : Event = event.Ended s.dial.consumer.dialed.link why in
-    either (Last bytes old d) (is_broken (Some why)) s (with_line s line) m (lines_told old s d (line ∷ []) (one_own s.dial.consumer.dialed line refl) refl m.0, m.1)
+    either (Last bytes noops old d) (is_broken (Some why)) s (with_line s line) m (lines_told old s d (line ∷ []) (one_own s.dial.consumer.dialed line refl) refl m.0, m.1)
 
 -- the dial stays as it is
 same_dial : (frames : List Frame) (s : DialResult) → (bytes_counted frames s).dial ≡ s.dial
@@ -133,19 +136,31 @@ ended_dial : (why : Option EndReason) (s : DialResult) → (with_end_line why s)
 ended_dial None s = refl
 ended_dial (Some why) s = either (λ (t : DialResult). t.dial ≡ s.dial) (is_broken (Some why)) s (with_line s (event.Ended s.dial.consumer.dialed.link why)) refl refl
 
+-- bytes that begin no frame end no link but one that went on
+fault_open : (fault : Option FrameFault) (s : DialResult) → over_why (fault_met fault s).dial.consumer.handshake ≡ None → over_why s.dial.consumer.handshake ≡ None
+fault_open None s goes = goes
+fault_open (Some fault) s goes = by (is_over s.dial) goes
+  where
+    by : (b : Bool) → over_why (if b then s else over_for reason.Protocol s).dial.consumer.handshake ≡ None → over_why s.dial.consumer.handshake ≡ None
+    by true goes = goes
+    by false goes = cc
+
 -- behind its frames
-rest_delivers : (frames : List Frame) (bytes : List ℕ) (dial : PlainDial) (d : Dues) (t : DialResult) → Acknowledged [] (with_left (untold dial) bytes) d t
+rest_delivers : (frames : List Frame) (bytes : List ℕ) (dial : PlainDial) (d : Dues) (t : DialResult) → Taken frames (with_left (untold dial) bytes) d t
     → CallsAs (Delivers frames (left_of bytes) (untold dial)) d (rest_met frames t)
-rest_delivers frames bytes dial d t m =
+rest_delivers frames bytes dial d t (noops, m, (taken, behind, are, own, all)) =
     let old : DialResult = with_left (untold dial) bytes in
     let met : DialResult = fault_met (front_fault t.dial.heard) t in
     let s : DialResult = bytes_counted frames met in
     let why : Option EndReason = over_why s.dial.consumer.handshake in
-    let came : Last (owed_bytes frames met.dial) old d (with_end_line why s) =
+    let same : (with_end_line why s).dial ≡ met.dial = ended_dial why s ∙ same_dial frames met in
+    let came : Last (owed_bytes frames met.dial) noops old d (with_end_line why s) =
     end_last (owed_bytes frames met.dial) old s d why (counted_last old met d frames (fault_told old t d (front_fault t.dial.heard) m)) in
     record {
       bytes = owed_bytes frames met.dial;
-      owes = subst (λ dial. OwesBytes frames dial (owed_bytes frames met.dial)) (sym (ended_dial why s ∙ same_dial frames met)) (owes frames met.dial);
+      owes = subst (λ dial. OwesBytes frames dial (owed_bytes frames met.dial)) (sym same) (owes frames met.dial);
+      noops = noops;
+      answers = (taken, behind, are, own, λ goes. all (fault_open (front_fault t.dial.heard) t (ap (λ (p : PlainDial). over_why p.consumer.handshake) (sym same) ∙ goes)));
       acknowledged = came.0;
       last = came.1;
     }
@@ -157,5 +172,5 @@ unfolding bytes_taken
 bytes_acknowledge piece dial =
     let bytes : List ℕ = dial.heard ++ piece in
     let old : DialResult = with_left (untold dial) bytes in
-    calls_bind (Acknowledged [] old) (Delivers (frames_in bytes) (left_of bytes) (untold dial)) (begins AnyOther dial) (frames_taken (frames_in bytes) old) (rest_met (frames_in bytes))
+    calls_bind (Taken (frames_in bytes) old) (Delivers (frames_in bytes) (left_of bytes) (untold dial)) (begins AnyOther dial) (frames_taken (frames_in bytes) old) (rest_met (frames_in bytes))
     (frames_acknowledge bytes dial) (rest_delivers (frames_in bytes) bytes dial)

@@ -5,6 +5,7 @@ pub mod Began
 pub mod Conduct
 pub mod Counted
 pub mod Deliveries
+pub mod Noops
 pub mod FirstRecord
 mod LoadNumbers
 pub mod LoadSteps

@@ -1,5 +1,5 @@
 -- what a dial may do, whatever its vBucket replies and its journal answers
-use Rattle.std.specs.Prelude.{◌≡◌, ◌<◌, ℕ, ◌+◌, nat_lt, min, if◌then◌else◌, List, [], ◌∷◌, ◌++◌, map, Option, Some, None, IsTrue}
+use Rattle.std.specs.Prelude.{◌≡◌, ◌<◌, ◌⊎◌, ℕ, ◌+◌, nat_lt, min, if◌then◌else◌, List, [], ◌∷◌, ◌++◌, map, Option, Some, None, IsTrue}
 use Rattle.std.specs.List.{All, filter_map}
 use Rattle.mcbp_frame.specs.Spelling.{spelling}
 use Rattle.mcbp_frame.specs.declared.frame.Frame.{Frame}
@@ -20,6 +20,7 @@ use Rattle.vb_calls.specs.Shelves.{Ask, Got, Append, Read, Keep, Idle}
 use Rattle.vb_types.specs.declared.journal.Record.TheVariants as noted
 use Rattle.dcp_consumer.specs.Counting.{counted_bytes, is_counted}
 use Rattle.dcp_consumer.specs.Machine.{over_why}
+use Rattle.dcp_consumer.specs.Noops.{noop_answered, IsNoop}
 use Rattle.dcp_consumer.specs.declared.handshake.Dialed.{Dialed}
 use Rattle.node_core.specs.Dials.{PlainDial, DialResult}
 
@@ -49,11 +50,12 @@ IsOfRoll other = ⊥
 abbrev pub RollsAt : ℕ → ℕ → Ask → Type 0
 RollsAt vb v ask = (v ≡ vb) × IsOfRoll ask
 
--- what a dial writes to its producer behind its first requests: a request for a stream, an acknowledgement of all up to a seqno, or one of so many bytes
+-- what a dial writes to its producer behind its first requests: a request for a stream, an acknowledgement of all up to a seqno, one of so many bytes, or the answer to the NOOP of an opaque
 pub data Writes : Type 0 where
   Asks : StreamAsk → Writes
   Acknowledges : ℕ → Writes
   AcknowledgesBytes : ℕ → Writes
+  AnswersNoop : ℕ → Writes
 
 -- how many of these are requests for a stream
 abbrev pub asks_in : List Writes → ℕ
@@ -61,13 +63,15 @@ asks_in [] = 0
 asks_in (Asks ask ∷ more) = 1 + asks_in more
 asks_in (Acknowledges seq ∷ more) = asks_in more
 asks_in (AcknowledgesBytes bytes ∷ more) = asks_in more
+asks_in (AnswersNoop opaque ∷ more) = asks_in more
 
--- requests for a stream of the vBucket vb and acknowledgements as bytes: each request with the opaque that follows that of the one before, the first with the one that follows `asked`, and each acknowledgement with that of the last request; one of bytes is of the connection, and names the vBucket 0
+-- requests for a stream of the vBucket vb, acknowledgements and answers as bytes: each request with the opaque that follows that of the one before, the first with the one that follows `asked`, and each acknowledgement with that of the last request; one of bytes is of the connection, and names the vBucket 0. An answer has the opaque of its NOOP
 abbrev pub writes_past : ℕ → ℕ → List Writes → List ℕ
 writes_past vb asked [] = []
 writes_past vb asked (Asks ask ∷ more) = spelling (dcp_frame (msg.StreamRequest ask) (asked + 1) vb) ++ writes_past vb (asked + 1) more
 writes_past vb asked (Acknowledges seq ∷ more) = spelling (dcp_frame (msg.SeqnoAcknowledged seq) asked vb) ++ writes_past vb asked more
 writes_past vb asked (AcknowledgesBytes bytes ∷ more) = spelling (dcp_frame (msg.BufferAcknowledgement bytes) asked 0) ++ writes_past vb asked more
+writes_past vb asked (AnswersNoop opaque ∷ more) = noop_answered opaque ++ writes_past vb asked more
 
 -- a line of a dial names its vBucket and node, or its link: a log that was taken over, a rollback, a snapshot that begins, a change that was taken, what was acknowledged, or the link's end
 abbrev pub IsOfDial : Dialed → Event → Type 0
@@ -79,7 +83,7 @@ IsOfDial dialed (event.Acknowledged stream n v seq saved) = (n ≡ dialed.node) 
 IsOfDial dialed (event.Ended link why) = link ≡ dialed.link
 IsOfDial dialed other = ⊥
 
--- the same link, for the producer nothing new but requests for a stream, each with the next opaque, and acknowledgements, and behind the earlier lines only such as are the dial's own
+-- the same link, for the producer nothing new but requests for a stream, each with the next opaque, acknowledgements, and answers to NOOPs, and behind the earlier lines only such as are the dial's own
 pub record KeepsLink (old new : DialResult) : Type 0 where
   pub dialed : new.dial.consumer.dialed ≡ old.dial.consumer.dialed
   pub writes : (more : List Writes) × (new.out ≡ old.out ++ writes_past old.dial.consumer.dialed.vb old.dial.consumer.asked more) × (new.dial.consumer.asked ≡ old.dial.consumer.asked + asks_in more)
@@ -157,26 +161,36 @@ abbrev pub seqno_written : Writes → Option ℕ
 seqno_written (Asks ask) = None
 seqno_written (Acknowledges seq) = Some seq
 seqno_written (AcknowledgesBytes bytes) = None
+seqno_written (AnswersNoop opaque) = None
 
 -- the number of an acknowledgement of bytes that is written
 abbrev pub bytes_written : Writes → Option ℕ
 bytes_written (Asks ask) = None
 bytes_written (Acknowledges seq) = None
 bytes_written (AcknowledgesBytes bytes) = Some bytes
+bytes_written (AnswersNoop opaque) = None
+
+-- the opaque of an answer to a NOOP that is written
+abbrev pub noop_written : Writes → Option ℕ
+noop_written (Asks ask) = None
+noop_written (Acknowledges seq) = None
+noop_written (AcknowledgesBytes bytes) = None
+noop_written (AnswersNoop opaque) = Some opaque
 
 -- the two seqnos of a line that tells of one
 abbrev pub seqnos_of_line : Event → Option (ℕ × ℕ)
 seqnos_of_line (event.Acknowledged stream n v seq saved) = Some (seq, saved)
 seqnos_of_line other = None
 
--- Neither Due nor Stat is left to come; what was written and told as acknowledged is what was to be acknowledged, and these numbers of bytes; and the bytes that came and are no whole frame yet stay as they were.
-pub record Acknowledged (bytes : List ℕ) (old : DialResult) (d : Dues) (new : DialResult) : Type 0 where
+-- Neither Due nor Stat is left to come; what was written and told as acknowledged is what was to be acknowledged, and these numbers of bytes; the NOOPs of these opaques were answered; and the bytes that came and are no whole frame yet stay as they were.
+pub record Acknowledged (bytes noops : List ℕ) (old : DialResult) (d : Dues) (new : DialResult) : Type 0 where
   pub next : d.next ≡ AnyOther
   pub last : d.last ≡ new.dial.consumer.acked
   pub link : KeepsLink old new
   pub written : filter_map seqno_written link.writes.0 ≡ map (λ (m : ℕ × ℕ). m.0) d.met
   pub told : filter_map seqnos_of_line link.lines.0 ≡ d.met
   pub counted : filter_map bytes_written link.writes.0 ≡ bytes
+  pub answered : filter_map noop_written link.writes.0 ≡ noops
   pub heard : new.dial.heard ≡ old.dial.heard
 
 -- one of these frames counts
@@ -190,15 +204,27 @@ pub record OwesBytes (frames : List Frame) (dial : PlainDial) (bytes : List ℕ)
   pub unbuffered : dial.consumer.dialed.buffer ≡ 0 → bytes ≡ []
   pub uncounted : (SomeCounts frames → ⊥) → bytes ≡ []
 
+-- these are the opaques of those frames that are NOOPs, in their order
+abbrev pub AreNoopsOf : List Frame → List ℕ → Type 0
+AreNoopsOf [] noops = noops ≡ []
+AreNoopsOf (f ∷ frames) noops = (IsNoop f × ((more : List ℕ) × (noops ≡ f.opaque ∷ more) × AreNoopsOf frames more)) ⊎ ((IsNoop f → ⊥) × AreNoopsOf frames noops)
+
+-- The NOOPs that a dial answers of a delivery of these frames, by their opaques: those of the first frames, which are all where the link goes on.
+abbrev pub AnswersNoops : List Frame → PlainDial → List ℕ → Type 0
+AnswersNoops frames dial noops =
+    (taken : List Frame) × (behind : List Frame) × (frames ≡ taken ++ behind) × AreNoopsOf taken noops × (over_why dial.consumer.handshake ≡ None → behind ≡ [])
+
 -- with these bytes heard, which are no whole frame yet
 abbrev pub with_heard : DialResult → List ℕ → DialResult
 with_heard s left = record s { dial = record s.dial { heard = left } }
 
--- A delivery of these frames, behind which these bytes are left: they are kept, what was to be acknowledged is, and behind all else that is written, what is acknowledged by bytes.
+-- A delivery of these frames, behind which these bytes are left: they are kept, what was to be acknowledged is, the NOOPs are answered, and behind all else that is written, what is acknowledged by bytes.
 pub record Delivers (frames : List Frame) (left : List ℕ) (old : DialResult) (d : Dues) (new : DialResult) : Type 0 where
   pub bytes : List ℕ
   pub owes : OwesBytes frames new.dial bytes
-  pub acknowledged : Acknowledged bytes (with_heard old left) d new
+  pub noops : List ℕ
+  pub answers : AnswersNoops frames new.dial noops
+  pub acknowledged : Acknowledged bytes noops (with_heard old left) d new
   pub last : (before : List Writes) × (acknowledged.link.writes.0 ≡ before ++ map AcknowledgesBytes bytes)
 
 -- a dial of which nothing is acknowledged yet, where this call comes next

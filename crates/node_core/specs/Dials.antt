@@ -27,6 +27,7 @@ use Rattle.dcp_consumer.specs.declared.handshake.Dialed.{Dialed}
 use Rattle.dcp_consumer.specs.declared.passive_stream.Passive.{Passive}
 use Rattle.dcp_consumer.specs.declared.passive_stream.Passive.TheVariants as passive
 use Rattle.dcp_consumer.specs.Counting.{counted_bytes, bytes_acknowledged}
+use Rattle.dcp_consumer.specs.Noops.{noop_answered}
 use Rattle.dcp_consumer.specs.Machine.{PlainConsumer, dialed_consumer, over_why, ended_for, granted, again, consumer_step, is_streaming, may_acknowledge, acknowledged}
 use Rattle.node_core.specs.Calls.{named_ask}
 
@@ -196,11 +197,16 @@ abbrev pub passive_made : Passive → DialResult → Prog DialResult
 passive_made (passive.Call c) s = call_made c s
 passive_made other s = Done s
 
+-- the producer's NOOP was answered, of which no line tells
+abbrev pub noop_met : ℕ → DialResult → DialResult
+noop_met opaque s = record s { out = s.out ++ noop_answered opaque }
+
 -- what a step asks for
 abbrev pub step_made : ConsumerStep → DialResult → Job DialResult
 step_made (step.Adopt log) s = lift (go_on_with log s)
 step_made (step.Roll point) s = roll_back point s
 step_made (step.Passive p) s = lift (passive_made p s)
+step_made (step.Noop opaque) s = Ended (noop_met opaque s)
 step_made other s = Ended s
 
 -- a frame: the consumer's step, and then what the step asks for

@@ -77,7 +77,7 @@ LeftOf kept left = ⊥
 -- a new connection of the node n
 abbrev pub new_conn : ℕ → ConnKind → Conn
 new_conn n (kind.Client client base) = client_conn (new_session (record { node = n; client = client; base = base }))
-new_conn n (kind.Peer stream id) = peer_conn (new_peer (record { stream = stream; node = n; id = id }))
+new_conn n (kind.Peer stream base) = peer_conn (new_peer (record { stream = stream; node = n; base = base }))
 
 -- a connection, where a change of role at the vBucket v ended the streams of these numbers, if there was one
 abbrev pub conn_ended : ℕ → Option (List ℕ) → Conn → Conn
@@ -181,13 +181,13 @@ module _ {W : Type 0} (step : W → ℕ → VbCall → Option VbReply → W → 
   ConnUnanswered f (conn.Peer kept) old new = (kept.spent ≡ true → new ≡ old) × Began step (peer_answered f kept.plain) old new
   ConnUnanswered f (conn.Client kept) old new = ⊥
 
-  -- a peer's connection was asked for frames of its stream
+  -- a peer's connection was asked for frames of its streams
   abbrev pub PeerPulled : ℕ → KeptPeer → W → NodeOut → KeptPeer → W → Type 0
   PeerPulled frames kept old out left new =
       (kept.spent ≡ false) × (left.spent ≡ false)
       × ((told : PullResult) × Ran step (peer_pulled frames kept.plain) old told new × (out ≡ pull_out told) × (left.plain ≡ told.peer))
 
-  -- a connection was asked for frames of its stream
+  -- a connection was asked for frames of its streams
   abbrev pub ConnPulled : ℕ → Conn → W → NodeOut → Conn → W → Type 0
   ConnPulled frames (conn.Client kept) old out left new = (kept.spent ≡ false) × (new ≡ old) × (out ≡ idle_out) × (left ≡ conn.Client kept)
   ConnPulled frames (conn.Peer kept) old out (conn.Peer left) new = PeerPulled frames kept old out left new
@@ -198,7 +198,7 @@ module _ {W : Type 0} (step : W → ℕ → VbCall → Option VbReply → W → 
   ConnHalted frames (conn.Client kept) old new = (kept.spent ≡ true) × (new ≡ old)
   ConnHalted frames (conn.Peer kept) old new = (kept.spent ≡ true → new ≡ old) × Began step (peer_pulled frames kept.plain) old new
 
-  -- a connection was let go: a peer's stream is closed at its vBucket
+  -- a connection was let go: a peer's streams are closed at their vBuckets
   abbrev pub ConnShut : Conn → W → W → Type 0
   ConnShut (conn.Client kept) old new = new ≡ old
   ConnShut (conn.Peer kept) old new = Ran step (end_closed kept.plain.producer) old tt new

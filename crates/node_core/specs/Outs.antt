@@ -64,7 +64,7 @@ peer_out told = record (done_out told.events told.out) { resolved = told.resolve
 abbrev pub peer_result_by : PlainPeer → NodeOut → PeerResult
 peer_result_by peer out = record { peer = peer; events = out.events; out = out.out; resolved = out.resolved }
 
--- what frames of a peer's stream hand out
+-- what frames of a peer's streams hand out
 abbrev pub pull_out : PullResult → NodeOut
 pull_out told = record { events = told.events; out = told.out; answer = told.answer; closed = false; resolved = [] }
 
@@ -72,7 +72,7 @@ pull_out told = record { events = told.events; out = told.out; answer = told.ans
 abbrev pub pulled_by : PlainPeer → NodeOut → PullResult
 pulled_by peer out = record { peer = peer; events = out.events; out = out.out; answer = out.answer }
 
--- a client's connection has no stream
+-- a client's connection has no streams
 abbrev pub idle_out : NodeOut
 idle_out = record { events = []; out = []; answer = answer.Pulled 0 why.Idle; closed = false; resolved = [] }
 

@@ -14,7 +14,7 @@ use Rattle.dcp_producer.specs.Serving.{frame_answered}
 use Rattle.dcp_producer.specs.Pulling.{frames_put, why_of}
 use Rattle.dcp_producer.specs.Ending.{ended_by}
 
--- a peer's connection: the bytes that came and are no whole frame yet, and the producer of its stream
+-- a peer's connection: the bytes that came and are no whole frame yet, and the producer of its streams
 pub record PlainPeer : Type 0 where
   pub heard : List ℕ
   pub producer : PlainProducer
@@ -51,7 +51,7 @@ peer_frames piece peer = frames_in (peer.heard ++ piece)
 abbrev pub peer_answered : Frame → PlainPeer → Prog PeerResult
 peer_answered f peer = bind (frame_answered f (begun peer.producer)) (λ s. Done (peer_result peer.heard s))
 
--- what frames of a stream come to: how many were put and why no more, beside what bytes come to
+-- what frames of streams come to: how many were put and why no more, beside what bytes come to
 pub record PullResult : Type 0 where
   pub peer : PlainPeer
   pub events : List Event
@@ -62,7 +62,7 @@ pub record PullResult : Type 0 where
 abbrev pub pull_result : List ℕ → Served × Halt → PullResult
 pull_result heard (s, halt) = record { peer = record { heard = heard; producer = s.end }; events = s.events; out = s.out; answer = Pulled s.count (why_of halt) }
 
--- at most so many frames of a peer's stream
+-- at most so many frames of a peer's streams
 abbrev pub peer_pulled : ℕ → PlainPeer → Prog PullResult
 peer_pulled frames peer = bind (frames_put frames (begun peer.producer)) (λ put. Done (pull_result peer.heard put))
 

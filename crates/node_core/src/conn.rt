@@ -13,7 +13,7 @@ use std::alloc::{AllocError, Global};
 use vb_calls::{Resolved, VbAccess};
 use vb_events::{Answer, Cause, StreamName, Why};
 
-/// A connection: a client's, or a peer's, which a stream feeds.
+/// A connection: a client's, or a peer's, which streams feed.
 #[derive(Drop)]
 pub enum Conn {
     Client(Session),
@@ -26,8 +26,9 @@ pub enum ConnKind {
     /// The client of this number; and the number, of no other connection of a run, by which its waits
     /// for durable writes are numbered.
     Client { client: u32, base: u32 },
-    /// A peer: its stream's name, and the number, above 0, under which a vBucket opens it.
-    Peer { stream: StreamName, id: u64 },
+    /// A peer: its name in the transcript; and the number, of no other connection of a run, by which
+    /// its streams are numbered.
+    Peer { stream: StreamName, base: u32 },
 }
 
 impl Conn {
@@ -40,8 +41,9 @@ impl Conn {
                 let who = Who { node, client, base };
                 Ok(Conn::Client(Session::new(alloc, who)?))
             }
-            ConnKind::Peer { stream, id } => {
-                Ok(Conn::Peer(Peer::new(alloc, Desk { stream, node, id })?))
+            ConnKind::Peer { stream, base } => {
+                let desk = Desk { stream, node, base };
+                Ok(Conn::Peer(Peer::new(alloc, desk)?))
             }
         }
     }
@@ -136,7 +138,7 @@ impl Conn {
         }
     }
 
-    /// Puts at most so many frames of its stream; a client's connection has none.
+    /// Puts at most so many frames of its streams; a client's connection has none.
     pub fn pull<A: VbAccess>(&mut self, alloc: Global, vbs: &mut A, frames: u32) -> Alloc<NodeOut>
         ensures ok { IfOk result (λ out. ConnPulled A.step frames self.old vbs.old out self.new vbs.new) }
         ensures err { OnErr result (ConnHalted A.step frames self.old vbs.old vbs.new) }
@@ -152,7 +154,7 @@ impl Conn {
         }
     }
 
-    /// Ends its stream, where it is among those that a change of role at the vBucket `vb` ended.
+    /// Ends those of its streams that a change of role at the vBucket `vb` ended.
     pub fn ended(&mut self, vb: u16, ids: &[u64])
         ensures { self.new ≡ conn_ended vb (Some ids.now) self.old }
     {
@@ -161,7 +163,7 @@ impl Conn {
         }
     }
 
-    /// Closes its stream, since the connection ends.
+    /// Closes its streams, since the connection ends.
     pub fn close<A: VbAccess>(&self, vbs: &mut A)
         ensures { ConnShut A.step self.now vbs.old vbs.new }
     {

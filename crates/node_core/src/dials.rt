@@ -1,7 +1,7 @@
 //! The dial of a vBucket: its consumer, and the calls that the consumer's steps ask for.
 ghost use Rattle.std.specs.Prelude.{◌≡◌, ◌++◌, map, [], false, true, IfOk, OnOk, OnErr, IsOk};
 ghost use Rattle.dcp_consumer.specs.{Dialing.{requests}, Machine.{over_why}};
-ghost use Rattle.node_core.specs.Dials.{DialResult, new_dial, is_over, untold, over_for, adopt_result, go_on_with, requested_once_more, rolled_back, roll_back, got_line, acknowledged_line, acknowledged_result, due_met, due_requested, dial_due, taken_as, message_result, call_made, step_made, frame_taken, frames_taken, dial_bytes};
+ghost use Rattle.node_core.specs.Dials.{DialResult, new_dial, is_over, untold, over_for, adopt_result, go_on_with, requested_once_more, rolled_back, roll_back, got_line, acknowledged_line, acknowledged_result, noop_met, due_met, due_requested, dial_due, taken_as, message_result, call_made, step_made, frame_taken, frames_taken, dial_bytes};
 ghost use Rattle.{node_core.specs.Outs.{cut_line, dial_answer, dial_out, done_out}, vb_calls.specs.Jobs.{RanJob, BeganJob}, vb_calls.specs.Programs.{Ran, Began}};
 ghost use Rattle.vb_events.specs.declared.event.Event.TheVariants.{Ended};
 
@@ -107,6 +107,14 @@ impl DialTurn {
             seq,
             saved,
         })
+    }
+
+    /// Answers the producer's NOOP of this opaque; no line tells of it.
+    fn answer_noop(&mut self, opaque: u32) -> Alloc<()>
+        ensures ok { OnOk result (self.new ≡ noop_met opaque self.old) }
+        ensures link { self.new.dial.consumer.dialed ≡ self.old.dial.consumer.dialed }
+    {
+        self.consumer.answer_noop(opaque, &mut self.out)
     }
 
     /// Acknowledges what is due, where it is above the last one that was acknowledged.
@@ -306,6 +314,7 @@ impl DialTurn {
             ConsumerStep::Adopt(log) => self.go_on_with(vbs, log),
             ConsumerStep::Roll(point) => self.roll_back(vbs, disks, point),
             ConsumerStep::Passive(Passive::Call(call)) => self.make_call(vbs, call),
+            ConsumerStep::Noop(opaque) => self.answer_noop(opaque),
             _ => Ok(()),
         }
     }

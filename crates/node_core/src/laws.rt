@@ -1,5 +1,6 @@
 //! What holds of every node. Each law is a function with no work to do, and its clauses are the law.
-ghost use Rattle.std.specs.Prelude.{◌≡◌, ◌≢◌, ◌++◌, ◌∷◌, [], ℕ, List, map, None, Some, false, true};
+ghost use Rattle.std.specs.Prelude.{◌≡◌, ◌≢◌, ◌++◌, ◌∷◌, [], ℕ, List, map, None, Some, false, true, if◌then◌else◌};
+ghost use Rattle.std.specs.List.{All, flat_map};
 ghost use Rattle.{node_core.specs.Conduct.{FollowsAt, RollsAt, KeepsLink}, node_core.specs.Dials.{PlainDial, untold, is_over, with_left, with_last_line, dial_bytes}};
 ghost use Rattle.{node_core.specs.declared.node.TheConstants.{MAX_VBS}, vb_calls.specs.Jobs.{Ended, AlwaysJob, RanJob, after_job}, vb_calls.specs.Programs.{AnyReply, Ran}};
 ghost use Rattle.{durability.specs.Chains.{Links}, node_core.specs.Resolving.{DoneHandsOver, RoleHandsOver, Settled, StepHandsOver}, vb_calls.specs.Shelves.{Shelves}, vb_calls.specs.States.{States}};
@@ -8,6 +9,7 @@ ghost use Rattle.{node_core.specs.declared.admin.AdminCall.{AdminCall as TheCall
 ghost use Rattle.{node_core.specs.Calls.{branch_lines}, node_core.specs.Loading.{start_result}, vb_calls.specs.declared.calls.Resolved.{Resolved as Outcome}, vb_types.specs.declared.change.Change.{Change}};
 ghost use Rattle.{mcbp_frame.specs.Cutting.{frames_in, left_of}, node_core.specs.Conduct.{AnyOther, DueNext, CallsAs, Acknowledged, Delivers, begins}, node_core.specs.Dials.{dial_due}, vb_calls.specs.Jobs.{lift}, vb_calls.specs.Programs.{Done}};
 ghost use Rattle.{dcp_producer.specs.Producers.{Served as Put}, node_core.specs.Peers.{pull_result}};
+ghost use Rattle.{dcp_consumer.specs.{Machine.{over_why}, Noops.{noop_answered, IsNoop}}, mcbp_frame.specs.{Cutting.{front_fault}, declared.frame.Frame.{Frame as FrameData}}, node_core.specs.Dials.{DialResult, frames_taken}, vb_calls.specs.Jobs.{bind_job}};
 ghost use Rattle.dcp_consumer.specs.declared.handshake.Handshake.TheVariants as handshake;
 ghost use Rattle.dcp_producer.specs.declared.halt.Halt.TheVariants as halt;
 ghost use Rattle.node_core.specs.declared.admin.AdminCall.TheVariants as admin;
@@ -31,9 +33,9 @@ pub fn node_limits()
 {}
 
 /// A dial calls its own vBucket alone, and only as a follower, and asks its own journal alone, and only
-/// to roll back. It hands out nothing but requests for a stream, each with the next opaque, and
-/// acknowledgements of seqnos and of bytes, tells lines of its own vBucket and link alone, and stays
-/// that of its link.
+/// to roll back. It hands out nothing but requests for a stream, each with the next opaque,
+/// acknowledgements of seqnos and of bytes, and answers to NOOPs, tells lines of its own vBucket and
+/// link alone, and stays that of its link.
 pub fn dials_follow()
     ensures { (piece : List ℕ) (dial : PlainDial)
         → AlwaysJob AnyReply (FollowsAt dial.consumer.dialed.vb) (RollsAt dial.consumer.dialed.vb) (KeepsLink (untold dial)) (dial_bytes piece dial) }
@@ -47,12 +49,24 @@ pub fn dials_follow()
 ///
 /// Last of all that it writes of a delivery, it acknowledges by one number how long the frames that
 /// count and were whole in it are together: exactly where there is one, its link has a buffer, and goes
-/// on. After more was written down it acknowledges no bytes. What is left of the bytes behind the frames
-/// that were whole is kept, whatever became of these, and also after more was written down.
+/// on. Of a delivery it answers the NOOPs up to the frame that ends its link, each once, in their order,
+/// and nothing but a NOOP. After more was written down it acknowledges no bytes, and answers none. What is
+/// left of the bytes behind the frames that were whole is kept, whatever became of these, and also after
+/// more was written down.
 pub fn dials_acknowledge()
     ensures bytes { (piece : List ℕ) (dial : PlainDial) → CallsAs (Delivers (frames_in (dial.heard ++ piece)) (left_of (dial.heard ++ piece)) (untold dial)) (begins AnyOther dial) (dial_bytes piece dial) }
-    ensures saved { (dial : PlainDial) → dial.consumer.handshake ≡ handshake.Streaming → CallsAs (Acknowledged [] (untold dial)) (begins DueNext dial) (lift (dial_due dial)) }
+    ensures saved { (dial : PlainDial) → dial.consumer.handshake ≡ handshake.Streaming → CallsAs (Acknowledged [] [] (untold dial)) (begins DueNext dial) (lift (dial_due dial)) }
     ensures idle { (dial : PlainDial) → dial.consumer.handshake ≢ handshake.Streaming → dial_due dial ≡ Done (untold dial) }
+{}
+
+/// A NOOP of the producer is answered in its place among the frames of a delivery, whatever is waited
+/// for, unless the link is over by then; and nothing else comes of it, neither a call nor a line. A
+/// delivery of nothing but NOOPs makes the dial write their answers alone, in their order.
+pub fn noops_are_answered()
+    ensures place { (f : FrameData) → IsNoop f → (before behind : List FrameData) (s : DialResult)
+        → frames_taken (before ++ f ∷ behind) s ≡ bind_job (frames_taken before s) (λ t. frames_taken behind (if is_over t.dial then t else record t { out = t.out ++ noop_answered f.opaque })) }
+    ensures alone { (piece : List ℕ) (dial : PlainDial) → over_why dial.consumer.handshake ≡ None → All IsNoop (frames_in (dial.heard ++ piece)) → front_fault (left_of (dial.heard ++ piece)) ≡ None
+        → dial_bytes piece dial ≡ Ended (record { dial = record dial { heard = left_of (dial.heard ++ piece) }; events = []; out = flat_map (λ (f : FrameData). noop_answered f.opaque) (frames_in (dial.heard ++ piece)) }) }
 {}
 
 /// Over plain vBuckets and journals that is so: all but its own stay as they are, and its link is

@@ -253,7 +253,7 @@ impl<A: VbAccess, J: Journals> Node<A, J> {
         answered
     }
 
-    /// Has a connection put at most so many frames of its stream. It is refused exactly where no
+    /// Has a connection put at most so many frames of its streams. It is refused exactly where no
     /// connection has that key. After an `Err` the connection is spent.
     #[tactic(auto, using(crate::proofs::Keys::updates_again))]
     pub fn pull(&mut self, key: usize, frames: u32) -> Alloc<NodeOut>
@@ -268,7 +268,7 @@ impl<A: VbAccess, J: Journals> Node<A, J> {
         put
     }
 
-    /// Lets a connection go, spent or not, and closes its stream. It is refused where none is.
+    /// Lets a connection go, spent or not, and closes its streams. It is refused where none is.
     pub fn shut(&mut self, key: usize) -> NodeOut
         ensures { ShutAt A.step key (get self.old.conns key) self.old result self.new }
     {

@@ -13,7 +13,7 @@ use vb_calls::VbAccess;
 use vb_events::Answer;
 
 /// A peer's connection: the bytes that came and are no whole frame yet, and the producer of its
-/// stream. After want of memory it is spent: it does nothing any more but close its stream.
+/// streams. After want of memory it is spent: it does nothing any more but close its streams.
 #[derive(Drop)]
 pub struct Peer {
     reader: FrameReader,
@@ -85,7 +85,7 @@ impl Peer {
         Ok(NodeOut::done(alloc, asked.events, out).resolving(asked.resolved))
     }
 
-    /// Puts at most so many frames of the stream.
+    /// Puts at most so many frames of the streams.
     #[tactic(auto, using(vb_calls::proofs::Runs::runs))]
     pub fn pull<A: VbAccess>(&mut self, alloc: Global, vbs: &mut A, frames: u32) -> Alloc<NodeOut>
         ensures ok { IfOk result (λ out. Ran A.step (peer_pulled frames self.old.plain) vbs.old (pulled_by self.new.plain out) vbs.new) }
@@ -107,14 +107,14 @@ impl Peer {
         Ok(NodeOut::told(alloc, pulled.events, out, answer))
     }
 
-    /// Ends the stream, where it is among those that a change of role at the vBucket `vb` ended.
+    /// Ends the streams that a change of role at the vBucket `vb` ended.
     pub fn ended(&mut self, vb: u16, ids: &[u64])
         ensures { self.new ≡ record self.old { plain = peer_ended vb ids.now self.old.plain } }
     {
         self.producer.ended(vb, ids);
     }
 
-    /// Closes the stream at its vBucket, since the connection ends.
+    /// Closes the streams at their vBuckets, since the connection ends.
     pub fn close<A: VbAccess>(&self, vbs: &mut A)
         ensures { Ran A.step (end_closed self.now.plain.producer) vbs.old tt vbs.new }
     {

@@ -25,7 +25,7 @@ pub enum Do {
     Replicate,
     /// Opens a connection for this client. Its key is the answer.
     Client(u32),
-    /// Opens the connection of link 1, whose stream has the number 1. Its key is the answer.
+    /// Opens the connection of link 1, whose streams have the base 1. Its key is the answer.
     Peer,
     /// Gives the client's connection under this key these bytes.
     Feed(usize, &'static [u8]),
@@ -104,7 +104,7 @@ impl Bench {
 
     fn open_peer(&mut self) -> Result<NodeOut, AllocError> {
         let stream = StreamName::Link(1);
-        self.open(ConnKind::Peer { stream, id: 1 })
+        self.open(ConnKind::Peer { stream, base: 1 })
     }
 
     /// Has a frame answered, keeps the lines, and appends the bytes.

@@ -1,9 +1,9 @@
 //! The dial of a vBucket at work.
 use crate::bench::{Do, Step, Talk, first_other, first_other_of};
 use crate::frames::{
-    ANSWERS, ASK_AGAIN, ASK_FROM_ONE, BACK, CONTROLLED, DELETION, DIAL, DIAL_ABOVE, GRANT,
-    GRANT_AGAIN, MARKER, MARKER_OF_TWO, MUTATION, OPENED, OTHER_OPCODE, REACHED, ROLE_CHANGED,
-    UNSUPPORTED_OPEN,
+    ANSWERS, ASK_AGAIN, ASK_FROM_ONE, BACK, CONTROLLED, DCP_NOOP, DCP_NOOP_ANSWER, DELETION, DIAL,
+    DIAL_ABOVE, GRANT, GRANT_AGAIN, MARKER, MARKER_OF_TWO, MUTATION, NOOPS_AND_END, OPENED,
+    OTHER_OPCODE, REACHED, ROLE_CHANGED, UNSUPPORTED_OPEN,
 };
 use crate::lines::Told;
 use node_core::AdminCall;
@@ -213,6 +213,21 @@ const STATE_LINES: [Told; 3] = [
     Told::Ended(EndReason::State),
 ];
 
+// A NOOP is answered before the stream is granted and behind it, and not behind the end.
+const NOOPS: [Step; 5] = [
+    (Do::Replicate, b"", Answer::Ok),
+    (Do::Dial, DIAL, Answer::Ok),
+    (Do::Down(DCP_NOOP), DCP_NOOP_ANSWER, Answer::Ok),
+    (Do::Down(ANSWERS), b"", Answer::Ok),
+    (Do::Down(NOOPS_AND_END), DCP_NOOP_ANSWER, Answer::Ok),
+];
+
+const NOOPS_LINES: [Told; 3] = [
+    Told::Role(Role::Replica),
+    Told::Adopted,
+    Told::Ended(EndReason::State),
+];
+
 // A change of role cuts the vBucket's own dial, and one that is refused does not.
 const PROMOTED: [Step; 6] = [
     (Do::Replicate, b"", Answer::Ok),
@@ -238,7 +253,7 @@ const PROMOTED_LINES: [Told; 4] = [
     Told::Role(Role::Active),
 ];
 
-const TALKS: [Talk; 8] = [
+const TALKS: [Talk; 9] = [
     (1, &TAKEN, &TAKEN_LINES),
     (1, &SENT_BACK, &SENT_BACK_LINES),
     (1, &BACK_TO_POINT, &BACK_TO_POINT_LINES),
@@ -246,6 +261,7 @@ const TALKS: [Talk; 8] = [
     (1, &REFUSED, &REFUSED_LINES),
     (1, &REACHED_END, &REACHED_END_LINES),
     (1, &STATE, &STATE_LINES),
+    (1, &NOOPS, &NOOPS_LINES),
     (1, &PROMOTED, &PROMOTED_LINES),
 ];
 

@@ -103,6 +103,16 @@ pub const REACHED: &[u8] = b"\x80\x55\0\0\x04\0\0\x03\0\0\0\x04\0\0\0\x04\0\0\0\
 pub const ROLE_CHANGED: &[u8] =
     b"\x80\x55\0\0\x04\0\0\x03\0\0\0\x04\0\0\0\x04\0\0\0\0\0\0\0\0\0\0\0\x02";
 
+// A producer's NOOP with opaque 11, and its answer.
+pub const DCP_NOOP: &[u8] = b"\x80\x5c\0\0\0\0\0\0\0\0\0\0\0\0\0\x0b\0\0\0\0\0\0\0\0";
+
+pub const DCP_NOOP_ANSWER: &[u8] = b"\x81\x5c\0\0\0\0\0\0\0\0\0\0\0\0\0\x0b\0\0\0\0\0\0\0\0";
+
+// The same NOOP, the end of the stream, since the role changed, and the NOOP once more.
+pub const NOOPS_AND_END: &[u8] = b"\x80\x5c\0\0\0\0\0\0\0\0\0\0\0\0\0\x0b\0\0\0\0\0\0\0\0\
+    \x80\x55\0\0\x04\0\0\x03\0\0\0\x04\0\0\0\x04\0\0\0\0\0\0\0\0\0\0\0\x02\
+    \x80\x5c\0\0\0\0\0\0\0\0\0\0\0\0\0\x0b\0\0\0\0\0\0\0\0";
+
 // A client's GET, and the answer of a connection to which it is no message of DCP.
 pub const GET: &[u8] = b"\x80\0\0\x01\0\0\0\0\0\0\0\x01\0\0\0\x09\0\0\0\0\0\0\0\0k";
 

@@ -59,8 +59,8 @@ const ENDED_LINES: [Told; 9] = [
     Told::Finished(2),
 ];
 
-// A connection has one stream. The next one's has the same number, and is opened where the first one
-// was closed with its connection.
+// A connection has one stream of a vBucket. The next one's has the same number, and is opened where
+// the first one was closed with its connection.
 const CLOSED: [Step; 9] = [
     (Do::Lead, b"", Answer::Ok),
     (Do::Peer, b"", Answer::Number(0)),

@@ -28,7 +28,7 @@ use Rattle.node_world.specs.declared.link.Link.{Link}
 use Rattle.node_world.specs.declared.script_node.ScriptNode.{ScriptNode}
 use Rattle.node_world.specs.Ends.{dial_under, PutsPeer, PutsDial, OpensPeer, DialCame, DialsFor, KeepsOthers}
 use Rattle.node_world.specs.Lines.{out_told}
-use Rattle.node_world.specs.Links.{PlainLink, is_taken, ask_of, new_link}
+use Rattle.node_world.specs.Links.{PlainLink, base_of, is_taken, ask_of, new_link}
 use Rattle.node_world.specs.Nodes.{PlainNode, done, refusal, first_cause, refused_or}
 use Rattle.node_world.specs.Pairing.{Pairs, Each}
 use Rattle.node_world.specs.Stands.{NodeMatch, node_number, NodesStand, Ends, ends_of, LinkStands, LinksStand, live_peer, Kept, WorldStands}
@@ -282,7 +282,7 @@ module _ (kept : Kept) (w : PlainWorld) (line l m n v buffer at m_at : ℕ) (old
         )
 
     -- it dials, and the connection of its producer is opened
-    module _ (asks : StreamAsk) (e : said ≡ Ok asks) (m_old m_new : ScriptNode) (key : ℕ) (m_old_is : m_old ≡ get_or nodes' m_at m_old) (opens : OpensPeer l line m_old key m_new) (up : List ℕ) (up_is : up ≡ out.out) where
+    module _ (asks : StreamAsk) (e : said ≡ Ok asks) (m_old m_new : ScriptNode) (key : ℕ) (m_old_is : m_old ≡ get_or nodes' m_at m_old) (opens : OpensPeer l (base_of line) m_old key m_new) (up : List ℕ) (up_is : up ≡ out.out) where
       handed : out ≡ done_out [] (requests named_dial asks)
       handed = (subst (λ r. DialCame named_dial r old out new) e came).0
 
@@ -298,7 +298,7 @@ module _ (kept : Kept) (w : PlainWorld) (line l m n v buffer at m_at : ℕ) (old
       m_placed' : position (λ node. node_number node == m) nodes' ≡ Some m_at
       m_placed' = position_set (λ (node : ScriptNode). node_number node == m) kept.nodes at old new first.0 (ap (λ k. k == m) puts.number ∙ ap (λ (node : ScriptNode). node_number node == m) is) ∙ m_placed
 
-      m_puts : PutsPeer m_old m_new key (Some (live_peer (new_peer (record { stream = name.Link l; node = node_number m_old; id = line }))))
+      m_puts : PutsPeer m_old m_new key (Some (live_peer (new_peer (record { stream = name.Link l; node = node_number m_old; base = base_of line }))))
       m_puts = opens.2
 
       between : NodesStand nodes' w
@@ -357,7 +357,7 @@ module _ (kept : Kept) (w : PlainWorld) (line l m n v buffer at m_at : ℕ) (old
         producer = refl;
         node = refl;
         vb = refl;
-        server = peer_put nodes' m m_at m_old m_new m_placed' m_old_is m_puts.number key _ m_puts ∙ ap (λ k. Some (live_peer (new_peer (record { stream = name.Link l; node = k; id = line })))) m_number;
+        server = peer_put nodes' m m_at m_old m_new m_placed' m_old_is m_puts.number key _ m_puts ∙ ap (λ k. Some (live_peer (new_peer (record { stream = name.Link l; node = k; base = base_of line })))) m_number;
         consumer = dials_after n v ∙ dial_put kept.nodes n at old new placed is puts.number v _ puts ∙ ap (λ k. Some (live_dial (new_dial (record { link = l; node = k; vb = v; buffer = buffer })))) n_number;
         up = up_is ∙ ap (λ (x : NodeOut). x.out) handed ∙ ap (λ k. requests (record { link = l; node = k; vb = v; buffer = buffer }) asks) n_number;
         down = refl;
@@ -379,7 +379,7 @@ module _ (kept : Kept) (w : PlainWorld) (line l m n v buffer at m_at : ℕ) (old
     by_refusal (Err why) e not_ok = refused why e
     by_refusal (Ok asks) e not_ok = absurd (not_ok (ap (λ (x : NodeOut). x.answer) (subst (λ r. DialCame named_dial r old out new) e came).0))
 
-    by_answer : (r : Result StreamAsk Cause) → said ≡ r → out.answer ≡ answer.Ok → (m_old m_new : ScriptNode) (key : ℕ) → m_old ≡ get_or nodes' m_at m_old → OpensPeer l line m_old key m_new → (up : List ℕ) → up ≡ out.out
+    by_answer : (r : Result StreamAsk Cause) → said ≡ r → out.answer ≡ answer.Ok → (m_old m_new : ScriptNode) (key : ℕ) → m_old ≡ get_or nodes' m_at m_old → OpensPeer l (base_of line) m_old key m_new → (up : List ℕ) → up ≡ out.out
         → WorldStands (record { nodes = set nodes' m_at m_new; ids = kept.ids; links = kept.links ++ record { number = l; producer = m; conn = key; node = n; vb = v; up = up; down = [] } ∷ [] }) (link_step w line l m n v buffer).0
         × (out_told out ≡ (link_step w line l m n v buffer).1)
     by_answer (Err why) e is_ok m_old m_new key m_old_is opens up up_is = let other : answer.No why ≡ answer.Ok = sym (ap (λ (x : NodeOut). x.answer) (subst (λ r. DialCame named_dial r old out new) e came).0) ∙ is_ok in cc
@@ -392,7 +392,7 @@ module _ (kept : Kept) (w : PlainWorld) (line l m n v buffer at m_at : ℕ) (old
       by_refusal plain there alike (after (dial_requested v free) plain.vbs).1 refl not_ok
 
   -- the link is there
-  pub dialed_link : out.answer ≡ answer.Ok → (m_old m_new : ScriptNode) (key : ℕ) → m_old ≡ get_or nodes' m_at m_old → OpensPeer l line m_old key m_new → (up : List ℕ) → up ≡ out.out
+  pub dialed_link : out.answer ≡ answer.Ok → (m_old m_new : ScriptNode) (key : ℕ) → m_old ≡ get_or nodes' m_at m_old → OpensPeer l (base_of line) m_old key m_new → (up : List ℕ) → up ≡ out.out
       → WorldStands (record { nodes = set nodes' m_at m_new; ids = kept.ids; links = kept.links ++ record { number = l; producer = m; conn = key; node = n; vb = v; up = up; down = [] } ∷ [] }) (link_step w line l m n v buffer).0
       × (out_told out ≡ (link_step w line l m n v buffer).1)
   dialed_link is_ok m_old m_new key m_old_is opens up up_is =

@@ -1,6 +1,6 @@
 -- a producer keeps its place, and a consumer what it dialed
 use Rattle.std.proofs.Common.{◌≡◌, ℕ, zero, suc, Bool, true, false, List, [], ◌∷◌, ◌++◌, length, refl, ◌∙◌, Option, Some, None}
-use Rattle.std.specs.Prelude.{◌==◌, ◌||◌, codes, if◌then◌else◌, nat_lt, slice_get, Result, Ok, Err, ◌^◌, ◌-◌}
+use Rattle.std.specs.Prelude.{◌==◌, ◌||◌, codes, if◌then◌else◌, nat_lt, Result, Ok, Err, ◌^◌, ◌-◌}
 use Rattle.std.specs.Str.{bytes_eq}
 use Rattle.std.specs.List.{list_any}
 use Rattle.mcbp_frame.specs.declared.frame.Frame.{Frame}
@@ -12,7 +12,6 @@ use Rattle.mcbp_dcp.specs.declared.message.DcpMsg.TheVariants as msg
 use Rattle.mcbp_dcp.specs.declared.message.DcpFault.{DcpFault}
 use Rattle.mcbp_dcp.specs.Messages.{read_of}
 use Rattle.mcbp_dcp.specs.Rows.{dcp_opcodes}
-use Rattle.vb_types.specs.declared.change.Change.{Change}
 use Rattle.vb_types.specs.declared.stream.AskAnswer.{AskAnswer}
 use Rattle.vb_types.specs.declared.stream.AskAnswer.TheVariants as ask_answer
 use Rattle.vb_events.specs.declared.event.EndReason.{EndReason}
@@ -21,7 +20,6 @@ use Rattle.vb_events.specs.declared.event.Event.TheVariants as event
 use Rattle.vb_types.specs.declared.role.LogEntry.{LogEntry}
 use Rattle.vb_types.specs.declared.status.Status.{Status}
 use Rattle.vb_types.specs.declared.status.Status.TheVariants as status
-use Rattle.vb_types.specs.declared.stream.Snapshot.{Snapshot}
 use Rattle.vb_types.specs.declared.stream.StreamAsk.{StreamAsk}
 use Rattle.vb_calls.specs.declared.calls.VbAnswer.{VbAnswer}
 use Rattle.vb_calls.specs.declared.calls.VbAnswer.TheVariants as answer
@@ -35,18 +33,18 @@ use Rattle.vb_calls.specs.Jobs.{Job, Ended, Request, lift, after_job, AlwaysJob}
 use Rattle.vb_calls.specs.Jobs.{Call as JobCall}
 use Rattle.vb_calls.specs.Shelves.{Ask, Shelves}
 use Rattle.vb_calls.proofs.JobConduct.{always_bind_job, always_each_job, always_lift, after_job_always}
-use Rattle.vb_calls.specs.Programs.{Prog, Done, Call, Turn, More, Stop, repeated, go_on, after, Always, AnyReply, AnyCall}
+use Rattle.vb_calls.specs.Programs.{Prog, Done, Call, bind, Turn, More, Stop, repeated, go_on, after, Always, AnyReply, AnyCall}
 use Rattle.vb_calls.specs.States.{States}
 use Rattle.vb_calls.proofs.Conduct.{always_bind, after_always}
 use Rattle.dcp_producer.specs.declared.desk.Desk.{Desk}
 use Rattle.dcp_producer.specs.declared.desk.Handshake.{Handshake}
 use Rattle.dcp_producer.specs.declared.halt.Halt.{Halt}
 use Rattle.dcp_producer.specs.declared.halt.Halt.TheVariants as halt
-use Rattle.dcp_producer.specs.declared.halt.NoSnapshot.{NoSnapshot}
-use Rattle.dcp_producer.specs.declared.halt.NoSnapshot.TheVariants as no_snapshot
-use Rattle.dcp_producer.specs.Producers.{PlainStream, Served, begun, is_open}
-use Rattle.dcp_producer.specs.Serving.{bytes_acknowledged as bytes_taken_back, status_sent, open_refusal, opened_unless, control_answered, controlled, controlled_as, sized, sized_as, stream_answered, stream_request, message_answered, row_answered, read_answered, frame_answered, counted_by, count_answered, count_requested, acknowledged}
-use Rattle.dcp_producer.specs.Pulling.{item_put, marker_put, halted_put, taken_put, place_requested, end_put, next_put, stream_put, frame_put, pulled, frames_put, in_window, counted_in_window, place_halt, take_unless, snapshot_of_reply, act_message}
+use Rattle.dcp_producer.specs.declared.next_frame.NextFrame.TheVariants as next
+use Rattle.dcp_producer.specs.Frames.{Next, next_frame}
+use Rattle.dcp_producer.specs.Producers.{PlainStream, Served, begun, is_open, stream_at, without_stream}
+use Rattle.dcp_producer.specs.Serving.{bytes_acknowledged as bytes_taken_back, status_sent, open_refusal, opened_unless, control_answered, controlled, controlled_as, sized, sized_as, ask_verdict, next_stream, opens, with_asked, with_granted, stream_answered, opening_requested, refusal_requested, stream_request, once_open, closed_sent, stream_closed, log_given, log_sent, log_answered, log_requested, message_answered, row_answered, read_answered, frame_answered, counted_by, count_answered, count_requested, acknowledged}
+use Rattle.dcp_producer.specs.Pulling.{QuietOnes, Pulling, pull_of, none_quiet, is_quiet, past_turn, stream_in_turn, came, stream_asked, turn_had, one_turn, turns_came, one_frame, pulled, frames_put}
 use Rattle.dcp_consumer.specs.declared.handshake.ConsumerStep.{ConsumerStep}
 use Rattle.dcp_consumer.specs.declared.handshake.ConsumerStep.TheVariants as step
 use Rattle.dcp_consumer.specs.declared.handshake.Dialed.{Dialed}
@@ -61,6 +59,25 @@ use Rattle.node_core.specs.Peers.{PlainPeer, PeerResult, PullResult, peer_result
 use Rattle.node_world.specs.Links.{frame_up, frames_up, peer_given, untold_peer}
 use Rattle.node_world.specs.Nodes.{PlainNode}
 
+-- nothing at all is asked of a program
+any_prog : {A : Type 0} (prog : Prog A) → Always AnyCall (λ (a : A). Unit {0}) prog
+any_prog (Done a) = tt
+any_prog (Call v call next) = (tt, λ reply formed. any_prog (next reply))
+
+-- turns that go on, or stop
+abbrev TurnHolds : {A R : Type 0} → (A → Type 0) → (R → Type 0) → Turn A R → Type 0
+TurnHolds goes stops (More a) = goes a
+TurnHolds goes stops (Stop r) = stops r
+
+module _ {A R : Type 0} (goes : A → Type 0) (stops : R → Type 0) (f : A → Prog (Turn A R)) (keep : (a : A) → goes a → Always AnyCall (TurnHolds goes stops) (f a)) where
+  go_keeps : (t : Turn A R) → TurnHolds goes stops t → Always AnyCall (TurnHolds goes stops) (go_on f t)
+  go_keeps (More a) e = keep a e
+  go_keeps (Stop r) e = e
+
+  turns_keep : (n : ℕ) (a : A) → goes a → Always AnyCall (TurnHolds goes stops) (repeated n f a)
+  turns_keep zero a e = e
+  turns_keep (suc n) a e = always_bind AnyReply AnyCall (TurnHolds goes stops) (TurnHolds goes stops) (repeated n f a) (go_on f) (turns_keep n a e) go_keeps
+
 -- a producer's place
 module _ (desk : Desk) where
   abbrev At : Served → Type 0
@@ -73,11 +90,10 @@ module _ (desk : Desk) where
   unfolding status_sent
   status_at f st s e = e
 
-  asked_at : (f : Frame) (ask : StreamAsk) (s : Served) (log : List LogEntry) (high : ℕ) (said : AskAnswer) → At s → At (stream_answered f ask s log high said)
-  unfolding stream_answered
-  asked_at f ask s log high ask_answer.Go e = e
-  asked_at f ask s log high (ask_answer.Roll to) e = e
-  asked_at f ask s log high (ask_answer.Refuse code) e = e
+  granted_at : (f : Frame) (ask : StreamAsk) (s : Served) (id : ℕ) (said : AskAnswer) → At s → At (record s { end = with_granted (with_asked s.end) id f ask said })
+  granted_at f ask s id ask_answer.Go e = e
+  granted_at f ask s id (ask_answer.Roll to) e = e
+  granted_at f ask s id (ask_answer.Refuse code) e = e
 
   open_at : (o : Option Status) (f : Frame) (s : Served) → At s → At (opened_unless o f s)
   unfolding status_sent
@@ -110,8 +126,42 @@ module _ (desk : Desk) where
       by false x here = e
 
   request_keeps : (f : Frame) (ask : StreamAsk) (s : Served) → At s → Keeps (stream_request f ask s)
-  unfolding stream_request
-  request_keeps f ask s e = (tt, λ reply formed. asked_at f ask s _ _ _ e)
+  unfolding stream_request stream_answered
+  request_keeps f ask s e = by (opens s.end f.vb_or_status ask)
+    where
+      by : (b : Bool) → Keeps (if b then opening_requested f ask s else refusal_requested f ask s)
+      by true = (tt, λ reply formed. granted_at f ask s (next_stream s.end) (ask_verdict reply) e)
+      by false = (tt, λ reply formed. e)
+
+  -- what is answered once the connection is open
+  once_keeps : (f : Frame) (s : Served) (prog : Prog Served) → At s → Keeps prog → Keeps (once_open f s prog)
+  once_keeps f s prog e keeps = by (is_open s.end.handshake)
+    where
+      by : (b : Bool) → Keeps (if b then prog else Done (status_sent f status.Einval s))
+      by true = keeps
+      by false = status_at f status.Einval s e
+
+  closed_keeps : (f : Frame) (s : Served) (o : Option PlainStream) → At s → Keeps (stream_closed f s o)
+  closed_keeps f s None e = status_at f _ s e
+  closed_keeps f s (Some stream) e = by stream.ended
+    where
+      gone : At (closed_sent f stream.id s)
+      gone = status_at f _ (record s { end = without_stream stream.id s.end }) e
+
+      by : (b : Bool) → Keeps (if b then Done (closed_sent f stream.id s) else Call stream.vb (call.CloseStream stream.id) (λ reply. Done (closed_sent f stream.id s)))
+      by true = gone
+      by false = (tt, λ reply formed. gone)
+
+  log_at : (f : Frame) (s : Served) (o : Option (List LogEntry)) → At s → At (log_sent f s o)
+  log_at f s None e = status_at f _ s e
+  log_at f s (Some log) e = e
+
+  logged_at : (f : Frame) (s : Served) (reply : Option VbReply) → At s → At (log_answered f s reply)
+  logged_at f s None e = status_at f _ s e
+  logged_at f s (Some reply) e = log_at f s (log_given reply.answer) e
+
+  log_keeps : (f : Frame) (s : Served) → At s → Keeps (log_requested f s)
+  log_keeps f s e = once_keeps f s _ e (tt, λ reply formed. logged_at f s reply e)
 
   counted_at : (f : Frame) (member seq : ℕ) (reply : VbReply) (a : VbAnswer) (s : Served) → At s → At (counted_by f member seq reply a s)
   unfolding status_sent
@@ -128,7 +178,7 @@ module _ (desk : Desk) where
 
   acknowledged_keeps : (f : Frame) (seq : ℕ) (s : Served) → At s → Keeps (acknowledged f seq s)
   unfolding acknowledged
-  acknowledged_keeps f seq s e = count_keeps f seq s _ e
+  acknowledged_keeps f seq s e = once_keeps f s _ e (count_keeps f seq s _ e)
 
   message_keeps : (f : Frame) (m : DcpMsg) (s : Served) → At s → Keeps (message_answered f m s)
   message_keeps f (msg.Open number flags name) s e = open_at (open_refusal s.end.handshake flags) f s e
@@ -136,6 +186,9 @@ module _ (desk : Desk) where
   message_keeps f (msg.StreamRequest ask) s e = request_keeps f ask s e
   message_keeps f (msg.SeqnoAcknowledged seq) s e = acknowledged_keeps f seq s e
   message_keeps f (msg.BufferAcknowledgement bytes) s e = bytes_at f bytes s e
+  message_keeps f msg.CloseStream s e = once_keeps f s _ e (closed_keeps f s (stream_at f.vb_or_status s.end.streams) e)
+  message_keeps f msg.GetFailoverLog s e = log_keeps f s e
+  message_keeps f msg.Noop s e = status_at f _ s e
   message_keeps f other s e = status_at f _ s e
 
   read_keeps : (f : Frame) (o : Option (Result DcpMsg DcpFault)) (s : Served) → At s → Keeps (read_answered f o s)
@@ -156,73 +209,62 @@ module _ (desk : Desk) where
       by false true = read_keeps f (read_of f) s e
       by false false = status_at f _ s e
 
-  -- frames of its stream
+  -- frames of its streams
+  abbrev Pulls : Pulling → Type 0
+  Pulls p = At p.served
+
+  abbrev Turned : Turn Pulling Pulling → Type 0
+  Turned turn = TurnHolds Pulls Pulls turn
+
   abbrev Halted : Served × Halt → Type 0
   Halted put = At put.0
 
-  abbrev Turned : Turn Served (Served × Halt) → Type 0
-  Turned (More s) = At s
-  Turned (Stop put) = Halted put
+  abbrev Framed : Turn Pulling (Served × Halt) → Type 0
+  Framed turn = TurnHolds Pulls Halted turn
 
-  item_keeps : (s : Served) (stream : PlainStream) (c : Change) (m : Option DcpMsg) → At s → Turned (item_put s stream c m)
-  item_keeps s stream c None e = e
-  item_keeps s stream c (Some m) e = e
+  came_at : (s : Served) (q : QuietOnes) (next : Next) → At s → Turned (came s q next)
+  came_at s q (next.Put m line, stream) e = e
+  came_at s q (next.End reason, stream) e = e
+  came_at s q (next.Quiet waits, stream) e = e
 
-  halted_keeps : (s : Served) (stream : PlainStream) (none : NoSnapshot) → At s → Turned (halted_put s stream none)
-  unfolding end_put
-  halted_keeps s stream no_snapshot.Lost e = e
-  halted_keeps s stream (no_snapshot.Halted halted) e = e
-
-  taken_keeps : (s : Served) (stream : PlainStream) (o : Result Snapshot NoSnapshot) → At s → Turned (taken_put s stream o)
-  unfolding marker_put
-  taken_keeps s stream (Err none) e = halted_keeps s stream none e
-  taken_keeps s stream (Ok snapshot) e = e
-
-  place_keeps : (s : Served) (stream : PlainStream) (o : Option NoSnapshot) → At s → Always AnyCall Turned (take_unless s stream o)
-  place_keeps s stream None e = (tt, λ reply formed. taken_keeps s stream (snapshot_of_reply reply) e)
-  place_keeps s stream (Some none) e = halted_keeps s stream none e
-
-  more_keeps : (s : Served) (stream : PlainStream) (b : Bool) → At s → Always AnyCall Turned (if b then Done (More (end_put s stream)) else place_requested s stream)
-  unfolding end_put
-  more_keeps s stream true e = e
-  more_keeps s stream false e = (tt, λ reply formed. place_keeps s stream (place_halt reply) e)
-
-  next_keeps : (s : Served) (stream : PlainStream) (o : Option Change) → At s → Always AnyCall Turned (next_put s stream o)
-  next_keeps s stream (Some c) e = item_keeps s stream c (act_message c c.act) e
-  next_keeps s stream None e = more_keeps s stream stream.ended e
-
-  stream_keeps : (s : Served) (o : Option PlainStream) → At s → Always AnyCall Turned (stream_put s o)
-  stream_keeps s None e = e
-  stream_keeps s (Some stream) e = next_keeps s stream (slice_get stream.items stream.next) e
-
-  -- what a turn put is counted in the window
-  window_keeps : (before : ℕ) (t : Turn Served (Served × Halt)) → Turned t → Always AnyCall Turned (Done (in_window before t))
-  window_keeps before (More s) e = e
-  window_keeps before (Stop put) e = e
-
-  put_keeps : (s : Served) → At s → Always AnyCall Turned (frame_put s)
-  unfolding frame_put
-  put_keeps s e = by _
+  had_keeps : (s : Served) (q : QuietOnes) (o : Option PlainStream) → At s → Always AnyCall Turned (turn_had s q o)
+  had_keeps s q None e = e
+  had_keeps s q (Some stream) e = by (is_quiet stream.id q)
     where
-      by : (b : Bool) → Always AnyCall Turned (if b then counted_in_window (length s.out) (stream_put s s.end.stream) else Done (Stop (s, halt.Full)))
-      by true = always_bind AnyReply AnyCall Turned Turned (stream_put s s.end.stream) (λ turn. Done (in_window (length s.out) turn)) (stream_keeps s s.end.stream e) (window_keeps (length s.out))
+      by : (b : Bool) → Always AnyCall Turned (if b then Done (More (pull_of s q)) else stream_asked s q stream)
+      by true = e
+      by false =
+          always_bind AnyReply AnyCall (λ (next : Next). Unit {0}) Turned (next_frame s.end.desk.stream stream) (λ next. Done (came s q next)) (any_prog (next_frame s.end.desk.stream stream))
+          (λ next any. came_at s q next e)
+
+  turn_keeps : (p : Pulling) → Pulls p → Always AnyCall Turned (one_turn p)
+  unfolding one_turn
+  turn_keeps p e = had_keeps (past_turn p.served) p.quiet (stream_in_turn p.served.end) e
+
+  turns_at : (turns : Turn Pulling Pulling) → Turned turns → Framed (turns_came turns)
+  turns_at (More p) e = e
+  turns_at (Stop p) e = e
+
+  put_keeps : (p : Pulling) → Pulls p → Always AnyCall Framed (one_frame p)
+  unfolding one_frame
+  put_keeps p e = by _
+    where
+      turns : Prog (Turn Pulling Pulling)
+      turns = repeated (length p.served.end.streams) one_turn p
+
+      by : (b : Bool) → Always AnyCall Framed (if b then bind turns (λ turns. Done (turns_came turns)) else Done (Stop (p.served, halt.Full)))
+      by true =
+          always_bind AnyReply AnyCall Turned Framed turns (λ turns. Done (turns_came turns)) (turns_keep Pulls Pulls one_turn turn_keeps (length p.served.end.streams) p e) turns_at
       by false = e
 
-  go_keeps : (t : Turn Served (Served × Halt)) → Turned t → Always AnyCall Turned (go_on frame_put t)
-  go_keeps (More s) e = put_keeps s e
-  go_keeps (Stop put) e = e
-
-  turns_keep : (n : ℕ) (s : Served) → At s → Always AnyCall Turned (repeated n frame_put s)
-  turns_keep zero s e = e
-  turns_keep (suc n) s e = always_bind AnyReply AnyCall Turned Turned (repeated n frame_put s) (go_on frame_put) (turns_keep n s e) go_keeps
-
-  ends_keep : (t : Turn Served (Served × Halt)) → Turned t → Always AnyCall Halted (pulled t)
-  ends_keep (More s) e = e
+  ends_keep : (t : Turn Pulling (Served × Halt)) → Framed t → Always AnyCall Halted (pulled t)
+  ends_keep (More p) e = e
   ends_keep (Stop put) e = e
 
   all_keep : (n : ℕ) (s : Served) → At s → Always AnyCall Halted (frames_put n s)
   unfolding frames_put
-  all_keep n s e = always_bind AnyReply AnyCall Turned Halted (repeated n frame_put s) pulled (turns_keep n s e) ends_keep
+  all_keep n s e =
+      always_bind AnyReply AnyCall Framed Halted (repeated n one_frame (pull_of s none_quiet)) pulled (turns_keep Pulls Halted one_frame put_keeps n (pull_of s none_quiet) e) ends_keep
 
 -- so it is after a frame was answered, and after frames were put
 pub answered_desk : (f : Frame) (peer : PlainPeer) (states : States) → (after (peer_answered f peer) states).1.peer.producer.desk ≡ peer.producer.desk

@@ -46,7 +46,7 @@ came_links (link_verb.Down wanted) w plain = outcome_links w (consumer_node plai
 came_links (link_verb.Pump frames) w plain = outcome_links w (producer_node plain) (Some plain, refusal cause.UnknownNode) (w.nodes (producer_node plain)) (pump_at frames plain)
 came_links link_verb.Cut w plain = refl
 
--- so does the end of its stream
+-- so does the end of its streams
 pub closed_uuids : (plain : PlainLink) (w : PlainWorld) → (closed_in plain w).uuids ≡ w.uuids
 closed_uuids plain w = by (w.nodes (producer_node plain))
   where

@@ -44,8 +44,8 @@ module _ (old : ScriptNode) (key : ℕ) (slot : Option Conn) (node : MemNode) (u
   }
 
 -- a peer's connection is opened
-module _ (old : ScriptNode) (link id key : ℕ) (node : MemNode) (opened : Opened (kind.Peer (name.Link link) id) old.node key node) where
-  pub opens_peer : OpensPeer link id old key (inside old node)
+module _ (old : ScriptNode) (link base key : ℕ) (node : MemNode) (opened : Opened (kind.Peer (name.Link link) base) old.node key node) where
+  pub opens_peer : OpensPeer link base old key (inside old node)
   opens_peer = (
     λ plain stands up.
         with_slots old node plain plain.vbs (subst (λ vbs. SlotsStand vbs plain.vbs) (sym (ap (λ (x : MemNode). x.vbs) opened.rest)) stands.slots)
@@ -97,7 +97,7 @@ module _ (old : ScriptNode) (key : ℕ) (out : NodeOut) (node : MemNode) where
         subst (PutsPeer old (inside old node) key) (ap (λ c. peer_part (Some c)) left ∙ ap (λ (t : PeerResult). Some (live_peer t.peer)) known.0) put,
       )
 
-  -- puts frames of its stream
+  -- puts frames of its streams
   pub pulls_peer : (frames : ℕ) → PulledAt (alone_step SlotsStand) frames key (get old.node.conns key) old.node out node → PullsPeer key frames old out (inside old node)
   pulls_peer frames went plain peer stands has =
       let is = is_peer peer has in

@@ -16,10 +16,11 @@ use Rattle.vb_events.specs.declared.event.Answer.TheVariants as answer
 use Rattle.vb_events.specs.declared.event.Cause.{Cause}
 use Rattle.vb_events.specs.declared.event.Cause.TheVariants as cause
 use Rattle.vb_events.specs.declared.event.Event.{Event}
+use Rattle.dcp_producer.specs.Producers.{PlainProducer}
 use Rattle.node_world.proofs.WhoAwaits.{goes}
 use Rattle.node_world.specs.declared.told.Told.{Told}
 use Rattle.node_world.specs.Nodes.{PlainNode, client_at, clock_at, done, if_up, posted, refusal, with_client}
-use Rattle.node_world.specs.Numberings.{BasesAreApart, OpensApart, WaitsAreApart}
+use Rattle.node_world.specs.Numberings.{BasesAreApart, OpensApart, StreamsAreApart, WaitsAreApart}
 use Rattle.node_world.specs.Plumbing.{ClocksAreSet, FiresOnce, GroupsAreLines, TellsInOrder}
 use Rattle.node_world.specs.World.{base_of, verb_step, world_step}
 use Rattle.node_world.specs.Worlds.{Outcome, PlainWorld, node_outcome, with_node_at}
@@ -30,6 +31,13 @@ pub waits : (s t : PlainSession) → WaitsAreApart s t
 waits s t = record {
   someone = omega arith;
   fits = λ base used. omega arith;
+  apart = λ few many same. (omega (arith, same), omega (arith, same));
+}
+
+pub streams : (p q : PlainProducer) → StreamsAreApart p q
+streams p q = record {
+  someone = omega arith;
+  fits = λ base asked. omega arith;
   apart = λ few many same. (omega (arith, same), omega (arith, same));
 }
 

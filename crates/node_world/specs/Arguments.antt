@@ -63,10 +63,10 @@ pub record PassesVbs (w : PlainWorld) (n : ℕ) (node : PlainNode) : Type 0 wher
       → (now : PlainNode) × MakesVb n v role.Active uuid node now (verb_step w number (verb.AtVb n v (vb_verb.MakeActive uuid)))
   pub replica : (number v : ℕ) → node.vbs v ≡ None → node.made < 64 → Notes node (shelf_or_blank (node.shelves v)) → (now : PlainNode) × MakesVb n v role.Replica 0 node now (verb_step w number (verb.AtVb n v vb_verb.MakeReplica))
 
--- a link that is dialed has both its ends as its line says: a consumer of the vBucket v of the node n, which asks for a window of this size, and a producer at the node m under the line's number; and what that vBucket asks for goes up
+-- a link that is dialed has both its ends as its line says: a consumer of the vBucket v of the node n, which asks for a window of this size, and a producer at the node m, whose streams are numbered by the line's number; and what that vBucket asks for goes up
 pub record DialsAs (number l m n v buffer : ℕ) (ask : StreamAsk) (link : PlainLink) : Type 0 where
   pub consumer : link.consumer.dialed ≡ record { link = l; node = n; vb = v; buffer = buffer }
-  pub producer : link.server.desk ≡ record { stream = name.Link l; node = m; id = number }
+  pub producer : link.server.desk ≡ record { stream = name.Link l; node = m; base = number % 4294967296 }
   pub up : link.up ≡ requests (record { link = l; node = n; vb = v; buffer = buffer }) ask
   pub down : link.down ≡ []
 

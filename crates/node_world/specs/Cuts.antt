@@ -12,15 +12,15 @@ use Rattle.node_world.specs.Nodes.{PlainNode, with_states}
 use Rattle.node_world.specs.Links.{link_number, producer_node, feeds}
 use Rattle.node_world.specs.Worlds.{PlainWorld, with_links, with_node_if}
 
--- the producer's node after a link ended: the link's stream is closed at its vBucket
+-- the producer's node after a link ended: the link's streams are closed at their vBuckets
 abbrev pub closed_at : PlainLink → PlainNode → PlainNode
 closed_at link node = with_states node (after (end_closed link.server) node.vbs).0
 
--- the world after a link ended, which is still there: its stream is closed
+-- the world after a link ended, which is still there: its streams are closed
 abbrev pub closed_in : PlainLink → PlainWorld → PlainWorld
 closed_in link w = with_node_if (producer_node link) (closed_at link) w
 
--- the world without a link, whose stream is closed at its producer
+-- the world without a link, whose streams are closed at its producer
 abbrev pub unlinked : PlainLink → PlainWorld → PlainWorld
 unlinked link w = with_links (closed_in link w) (row_out link_number (link_number link) w.links)
 

@@ -6,6 +6,7 @@ use Rattle.node_world.specs.declared.told.Told.{Told}
 use Rattle.node_world.specs.declared.world.LinkAsk.{LinkAsk}
 use Rattle.node_world.specs.Ends.{OpensPeer}
 use Rattle.node_world.specs.Lines.{out_told}
+use Rattle.node_world.specs.Links.{base_of}
 use Rattle.node_world.specs.Stands.{Kept}
 
 -- a link is open: its producer's connection at the node of this place, and it stands behind the others, with what the dial handed out on its way up
@@ -14,7 +15,7 @@ pub record OpensLink (asked : LinkAsk) (serving : ℕ) (old : Kept) (out : NodeO
   pub found : server ≡ get_or old.nodes serving server
   pub conn : ℕ
   pub peer : ScriptNode
-  pub opens : OpensPeer asked.link asked.line server conn peer
+  pub opens : OpensPeer asked.link (base_of asked.line) server conn peer
   pub after : new ≡ record old {
     nodes = set old.nodes serving peer;
     links = old.links ++ record { number = asked.link; producer = asked.producer; conn = conn; node = asked.node; vb = asked.vb; up = out.out; down = [] } ∷ [];

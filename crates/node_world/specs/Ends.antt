@@ -106,9 +106,9 @@ SetsRole v asked old out new = (plain : PlainNode) → NodeMatch old plain →
 
 -- the connection of a link's producer is opened, at a node that is running
 abbrev pub OpensPeer : ℕ → ℕ → ScriptNode → ℕ → ScriptNode → Type 0
-OpensPeer link id old key new =
+OpensPeer link base old key new =
     ((plain : PlainNode) → NodeMatch old plain → plain.off ≡ None → NodeMatch new plain) × (peer_under old key ≡ None)
-    × PutsPeer old new key (Some (live_peer (new_peer (record { stream = name.Link link; node = node_number old; id = id }))))
+    × PutsPeer old new key (Some (live_peer (new_peer (record { stream = name.Link link; node = node_number old; base = base }))))
 
 -- the producer under a key is given bytes
 abbrev pub FeedsPeer : ℕ → List ℕ → ScriptNode → NodeOut → ScriptNode → Type 0
@@ -116,7 +116,7 @@ FeedsPeer key piece old out new = (plain : PlainNode) (peer : PlainPeer) → Nod
     let (node, told) = peer_given piece peer plain in
     NodeMatch new node × (out ≡ done_out told.events told.out) × PutsPeer old new key (Some (live_peer told.peer))
 
--- the producer under a key puts frames of its stream
+-- the producer under a key puts frames of its streams
 abbrev pub PullsPeer : ℕ → ℕ → ScriptNode → NodeOut → ScriptNode → Type 0
 PullsPeer key frames old out new = (plain : PlainNode) (peer : PlainPeer) → NodeMatch old plain → peer_under old key ≡ Some (live_peer peer) →
     let (states, told) = after (peer_pulled frames peer) plain.vbs in

@@ -1,5 +1,5 @@
 -- links between nodes: a consumer's end at one, the producer's end at another, and the bytes between them
-use Rattle.std.specs.Prelude.{ℕ, ◌==◌, ◌&&◌, ◌||◌, if◌then◌else◌, Bool, min, List, [], ◌∷◌, ◌++◌, length, take, drop, Option, Some, None}
+use Rattle.std.specs.Prelude.{ℕ, ◌%◌, ◌^◌, ◌==◌, ◌&&◌, ◌||◌, if◌then◌else◌, Bool, min, List, [], ◌∷◌, ◌++◌, length, take, drop, Option, Some, None}
 use Rattle.std.specs.List.{list_any}
 use Rattle.vb_events.specs.declared.event.Event.{Event}
 use Rattle.vb_events.specs.declared.event.StreamName.TheVariants as name
@@ -65,10 +65,14 @@ is_taken links l n v = list_any (λ link. link_number link == l || feeds n v lin
 abbrev pub ask_of : Plain → Option StreamAsk
 ask_of vb = named_ask (ask_row vb).answer
 
--- the link l from the vBucket v of the node n to the node m, whose consumer asks for a window of this size; its stream is opened under a number that no other has, that of the script's line
+-- the number by which the waits or the streams of a connection are numbered that the line of this number opens: no other connection of a script has it, whose lines are fewer
+abbrev pub base_of : ℕ → ℕ
+base_of line = line % 2 ^ 32
+
+-- the link l from the vBucket v of the node n to the node m, whose consumer asks for a window of this size; the streams of its producer are numbered by the script's line
 abbrev pub new_link : ℕ → ℕ → ℕ → ℕ → ℕ → ℕ → StreamAsk → PlainLink
 new_link line l m n v buffer ask = record {
-  server = new_end (record { stream = name.Link l; node = m; id = line });
+  server = new_end (record { stream = name.Link l; node = m; base = base_of line });
   consumer = dialed_consumer (record { link = l; node = n; vb = v; buffer = buffer });
   up_heard = [];
   up = requests (record { link = l; node = n; vb = v; buffer = buffer }) ask;

@@ -1,6 +1,8 @@
 -- numbers that keep waits, streams and connections apart
-use Rattle.std.specs.Prelude.{◌≡◌, ◌≢◌, ◌<◌, ◌%◌, ℕ, Some, None}
+use Rattle.std.specs.Prelude.{◌≡◌, ◌≢◌, ◌<◌, ◌+◌, ◌*◌, ◌%◌, ℕ, [], Some, None}
 use Rattle.client_session.specs.Serving.{PlainSession, next_waiter}
+use Rattle.dcp_producer.specs.Producers.{PlainProducer}
+use Rattle.dcp_producer.specs.Serving.{next_stream}
 use Rattle.script_text.specs.declared.verb.Verb.TheVariants as verb
 use Rattle.script_text.specs.declared.verb.ClientVerb.TheVariants as client_verb
 use Rattle.vb_events.specs.declared.event.Answer.TheVariants as answer
@@ -16,6 +18,12 @@ pub record WaitsAreApart (s t : PlainSession) : Type 0 where
   pub fits : s.who.base < 4294967296 → s.used < 4294967295 → next_waiter s < 18446744073709551616
   pub apart : s.used < 4294967295 → t.used < 4294967295 → next_waiter s ≡ next_waiter t → (s.who.base ≡ t.who.base) × (s.used ≡ t.used)
 
+-- so it is with the next streams of producers: 0 is no stream's, and a producer asks for at most 4294967295
+pub record StreamsAreApart (p q : PlainProducer) : Type 0 where
+  pub someone : 0 < next_stream p
+  pub fits : p.desk.base < 4294967296 → p.asked < 4294967295 → next_stream p < 18446744073709551616
+  pub apart : p.asked < 4294967295 → q.asked < 4294967295 → next_stream p ≡ next_stream q → (p.desk.base ≡ q.desk.base) × (p.asked ≡ q.asked)
+
 -- the bases of connections that two lines open are one where the lines are, among as many lines as a script can have
 pub record BasesAreApart (line other : ℕ) : Type 0 where
   pub fits : base_of line < 4294967296
@@ -26,10 +34,11 @@ pub record OpensApart (w : PlainWorld) (line n c : ℕ) : Type 0 where
   pub opened : (verb_step w line (verb.AtClient n c client_verb.Open)).1.answer ≡ answer.Ok → (node : PlainNode) × (session : PlainSession) × ((verb_step w line (verb.AtClient n c client_verb.Open)).0.nodes n ≡ Some node) × (node.clients c ≡ Some session)
       × (session.who.base ≡ line % 4294967296) × (session.used ≡ 0) × (session.awaited ≡ None)
 
--- a new link has its own number and its line's, under which its stream is to be opened; it has no stream yet, and its first request for one has the opaque 4, or 5 where it asks for a window
+-- a new link has its own number; its producer has the base of the line, no stream yet, and a number for the first one; and its consumer's first request for one has the opaque 4, or 5 where it asks for a window
 pub record LinksAreApart (line l m n v buffer : ℕ) (ask : StreamAsk) : Type 0 where
   pub number : link_number (new_link line l m n v buffer ask) ≡ l
-  pub under : (new_link line l m n v buffer ask).server.desk.id ≡ line
-  pub stream : (new_link line l m n v buffer ask).server.stream ≡ None
+  pub base : (new_link line l m n v buffer ask).server.desk.base ≡ line % 4294967296
+  pub streams : ((new_link line l m n v buffer ask).server.streams ≡ []) × ((new_link line l m n v buffer ask).server.asked ≡ 0)
+  pub first : next_stream (new_link line l m n v buffer ask).server ≡ line % 4294967296 * 4294967296 + 1
   pub opaque : buffer ≡ 0 → (new_link line l m n v buffer ask).consumer.asked ≡ 4
   pub later : buffer ≢ 0 → (new_link line l m n v buffer ask).consumer.asked ≡ 5

@@ -32,6 +32,7 @@ pub use Rattle.node_world.specs.Worlds.{PlainWorld, empty_world, with_node_at, w
 use Rattle.node_world.specs.Cuts.{unlinked}
 use Rattle.node_world.specs.Dues.{done_step}
 use Rattle.node_world.specs.Turns.{promote_step, turn_step, admin_line}
+pub use Rattle.node_world.specs.Links.{base_of}
 use Rattle.node_world.specs.Links.{PlainLink, LinkResult, link_number, producer_node, consumer_node, is_taken, ask_of, new_link, up_at, down_at, pump_at}
 
 -- `node N`: the causes to refuse it, in their order
@@ -66,7 +67,7 @@ abbrev pub link_step : PlainWorld → ℕ → ℕ → ℕ → ℕ → ℕ → �
 link_step w line l m n v buffer =
     refused_or (first_cause (link_causes w l m n v)) w (with_links w (with_dialed line l m n v buffer w.links (ask_in w n v)), done [])
 
--- the world after a line for a link: it goes on as it is then, or it is over, and its stream is closed
+-- the world after a line for a link: it goes on as it is then, or it is over, and its streams are closed
 abbrev pub relinked : PlainLink → Option PlainLink → PlainWorld → PlainWorld
 relinked before None w = unlinked before w
 relinked before (Some link) w = with_links w (row_put link_number (link_number before) link w.links)
@@ -108,10 +109,6 @@ cut_outcome w (Some link) = (unlinked link w, done (event.Ended (link_number lin
 -- `cut L`
 abbrev pub cut_step : PlainWorld → ℕ → Outcome
 cut_step w l = cut_outcome w (row_at link_number l w.links)
-
--- the number by which the waits of a connection are numbered that the line of this number opens: no other connection of a script has it, whose lines are fewer
-abbrev pub base_of : ℕ → ℕ
-base_of line = line % 2 ^ 32
 
 -- a line for the node n
 abbrev pub node_verb_step : PlainWorld → ℕ → NodeVerb → Outcome

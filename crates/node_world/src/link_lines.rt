@@ -64,7 +64,7 @@ fn down(alloc: Global, nodes: &mut [ScriptNode], link: &mut Link, wanted: u64) -
     })
 }
 
-/// Has the producer of a link put frames of its stream.
+/// Has the producer of a link put frames of its streams.
 fn pump(alloc: Global, nodes: &mut [ScriptNode], link: &mut Link, frames: u32) -> Alloc<LinkCame>
     ensures { IfOk result (λ came. LinkStep (Pump frames) nodes.old link.old came.told came.over nodes.new link.new) }
 {

@@ -2,10 +2,11 @@
 //! function with no work to do.
 ghost use Rattle.std.specs.Prelude.{ℕ};
 ghost use Rattle.client_session.specs.Serving.{PlainSession};
+ghost use Rattle.dcp_producer.specs.Producers.{PlainProducer};
 ghost use Rattle.node_world.specs.Buffers.{BuffersBecomeWindows, BuffersInNumbers};
 ghost use Rattle.node_world.specs.declared.told.Told.{Told as ToldData};
 ghost use Rattle.node_world.specs.Nodes.{PlainNode};
-ghost use Rattle.node_world.specs.Numberings.{BasesAreApart, LinksAreApart, OpensApart, WaitsAreApart};
+ghost use Rattle.node_world.specs.Numberings.{BasesAreApart, LinksAreApart, OpensApart, StreamsAreApart, WaitsAreApart};
 ghost use Rattle.node_world.specs.OpenEnds.{EndsAreLinks};
 ghost use Rattle.node_world.specs.Plumbing.{ClocksAreSet, FailuresAreTold, FiresOnce, GroupsAreLines, OpeningsAreTold, TellsInOrder};
 ghost use Rattle.node_world.specs.Stands.{Kept, WorldStands};
@@ -19,10 +20,12 @@ ghost use Rattle.vb_types.specs.declared.stream.StreamAsk.{StreamAsk};
 /// Two waits have one number only where their connections have one base and asked for as many durable
 /// writes before: a wait has the base in its upper 32 bits, and that count, from 1 on, in the lower ones.
 /// Bases of different lines differ, and a connection begins with its line's base and no wait; that the
-/// count rises with each write and never falls is `waits_have_numbers` of client_session. A link's stream
-/// is opened under its line's number.
+/// count rises with each write and never falls is `waits_have_numbers` of client_session. The streams of
+/// producers are numbered just so, by how many each asked for, and a link's producer has the base of its
+/// line.
 pub fn numberings_are_apart()
     ensures waits { (s t : PlainSession) → WaitsAreApart s t }
+    ensures streams { (p q : PlainProducer) → StreamsAreApart p q }
     ensures bases { (line other : ℕ) → BasesAreApart line other }
     ensures opened { (w : PlainWorld) (line n c : ℕ) → OpensApart w line n c }
     ensures links { (line l m n v buffer : ℕ) (ask : StreamAsk) → LinksAreApart line l m n v buffer ask }

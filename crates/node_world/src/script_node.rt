@@ -390,12 +390,12 @@ impl ScriptNode {
     }
 
     /// Opens the connection of a link's producer, and gives its key.
-    pub fn open_peer(&mut self, link: u32, id: u64) -> Alloc<usize>
-        ensures { IfOk result (λ key. OpensPeer link id self.old key self.new) }
+    pub fn open_peer(&mut self, link: u32, base: u32) -> Alloc<usize>
+        ensures { IfOk result (λ key. OpensPeer link base self.old key self.new) }
     {
         self.node.open(ConnKind::Peer {
             stream: StreamName::Link(link),
-            id,
+            base,
         })
     }
 
@@ -425,7 +425,7 @@ impl ScriptNode {
         Ok(NodeOut::done(alloc, events, answers))
     }
 
-    /// Has a link's producer put frames of its stream.
+    /// Has a link's producer put frames of its streams.
     pub fn pull(&mut self, key: usize, frames: u32) -> Alloc<NodeOut>
         ensures { IfOk result (λ out. PullsPeer key frames self.old out self.new) }
     {

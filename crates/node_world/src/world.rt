@@ -76,7 +76,8 @@ fn send_on(mut told: Told, out: NodeOut, up: &mut ByteQueue) -> Alloc<Told>
     Ok(told)
 }
 
-/// The number by which the waits of a connection are numbered that the line of this number opens.
+/// The number by which the waits or the streams of a connection are numbered that the line of this
+/// number opens.
 fn base_of(line: u64) -> u32
     ensures { result ≡ base_of line }
 {
@@ -233,7 +234,7 @@ impl World {
         let mut up = ByteQueue::new(self.alloc);
         up.push(out.out.as_slice())?;
         let told = Told::of(out);
-        let conn = self.nodes[serving].open_peer(asked.link, asked.line)?;
+        let conn = self.nodes[serving].open_peer(asked.link, base_of(asked.line))?;
         self.links.push(Link {
             number: asked.link,
             producer: asked.producer,

@@ -18,15 +18,15 @@ pub use Rattle.dcp_consumer.specs.Dialing.{name_request, open_request, sync_requ
 unfoldable pub use Rattle.dcp_consumer.specs.Dialing.{requests}
 pub use Rattle.dcp_consumer.specs.Machine.{PlainConsumer, over_why, with_handshake}
 unfoldable pub use Rattle.dcp_producer.specs.Ending.{end_closed}
-pub use Rattle.dcp_producer.specs.Ending.{ended_in, ended_by, stream_closed}
+pub use Rattle.dcp_producer.specs.Ending.{ended_in, ended_by, streams_closed}
 pub use Rattle.dcp_producer.specs.Producers.{PlainProducer, PlainStream, Served, begun, is_sync}
-pub use Rattle.dcp_producer.specs.Pulling.{STATE_CHANGED, act_message, halted_put, item_line, item_put, next_put, past_item, place_answered, pulled, snapshot_of_reply, stream_put, taken_put, take_unless, why_of, place_halt}
-unfoldable pub use Rattle.dcp_producer.specs.Pulling.{end_put, frame_put, frames_put, marker_put}
+pub use Rattle.dcp_producer.specs.Frames.{STATE_CHANGED, act_message, item_line, past_item}
+pub use Rattle.dcp_producer.specs.Pulling.{pulled, why_of}
+unfoldable pub use Rattle.dcp_producer.specs.Pulling.{frames_put}
 unfoldable pub use Rattle.dcp_producer.specs.Serving.{frame_answered, stream_request, status_sent, stream_answered}
-pub use Rattle.dcp_producer.specs.Serving.{refuse, stream_verdict, with_frame, ask_verdict, opening_id, controlled, controlled_as, high_of_reply, is_name, opened_unless, read_answered, request_refusal, verdict_with}
+pub use Rattle.dcp_producer.specs.Serving.{refuse, stream_verdict, with_frame, ask_verdict, controlled, controlled_as, high_of_reply, is_name, opened_unless, read_answered, request_refusal, verdict_with}
 pub use Rattle.dcp_producer.specs.declared.desk.Handshake.{Handshake}
 pub use Rattle.dcp_producer.specs.declared.halt.Halt.{Halt}
-pub use Rattle.dcp_producer.specs.declared.halt.NoSnapshot.{NoSnapshot}
 pub use Rattle.mcbp_dcp.proofs.DcpBack.{message_back}
 pub use Rattle.mcbp_dcp.proofs.DcpLens.{length_dcp}
 pub use Rattle.mcbp_dcp.specs.DcpFrames.{IsSpelled, IsVerdict, verdict_frame}

@@ -29,10 +29,12 @@ pub mod Feeding
 pub mod Linked
 pub mod Numbered
 pub mod Openings
+pub mod OpenStreams
 pub mod Quiets
 pub mod Unopened
 pub mod Waiting
 pub mod Settled
+pub mod Staying
 pub mod OwnClients
 pub mod Clients
 pub mod ClientNodes

@@ -1,6 +1,8 @@
 pub mod Lines
 pub mod Refusals
 pub mod Telling
+pub mod Answering
+pub mod Pulling
 pub mod Calm
 pub mod Changes
 pub mod ClientLines

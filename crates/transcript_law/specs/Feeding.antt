@@ -23,22 +23,25 @@ HasIn (Some vb) id = Has vb.streams id
 abbrev pub HasStream : PlainWorld → ℕ → ℕ → ℕ → Type 0
 HasStream w n v id = HasIn (vb_in (w.nodes n) v) id
 
--- a stream of the vBucket v that no change of role ended
-abbrev pub IsOpenAt : ℕ → Option PlainStream → Type 0
-IsOpenAt v None = ⊥
-IsOpenAt v (Some stream) = (stream.vb ≡ v) × (stream.ended ≡ false)
+-- a stream of the vBucket v under this number, which no change of role ended
+abbrev pub IsOpenAt : ℕ → ℕ → PlainStream → Type 0
+IsOpenAt v id stream = (stream.vb ≡ v) × (stream.id ≡ id) × (stream.ended ≡ false)
 
--- the producer of a link is at the node n, and has a stream of the vBucket v there under this number
+-- one of these streams is such a one
+abbrev pub HasOpen : ℕ → ℕ → List PlainStream → Type 0
+HasOpen v id [] = ⊥
+HasOpen v id (stream ∷ more) = IsOpenAt v id stream ⊎ HasOpen v id more
+
+-- the producer of a link is at the node n, and one of its streams is of the vBucket v there, under this number
 pub record IsOf (n v id : ℕ) (link : PlainLink) : Type 0 where
   pub producer : producer_node link ≡ n
-  pub stream : IsOpenAt v link.server.stream
-  pub under : link.server.desk.id ≡ id
+  pub stream : HasOpen v id link.server.streams
 
 -- the link l is open
 abbrev pub IsLinked : PlainWorld → ℕ → PlainLink → Type 0
 IsLinked w l link = row_at link_number l w.links ≡ Some link
 
--- each stream of a vBucket is that of an open link whose producer's node and vBucket it is; each open link whose producer says that it has a stream has it there, at the vBucket that the link feeds; and no two links have one stream
+-- each stream of a vBucket is one that the producer of an open link says that it has, at its node and vBucket; each that such a producer says that it has is there, at the vBucket that the link feeds; and no two links have one stream
 pub record StreamsAreLinks (w : PlainWorld) : Type 0 where
   pub linked : (n v id : ℕ) → HasStream w n v id → (l : ℕ) × (link : PlainLink) × IsLinked w l link × IsOf n v id link
   pub opened : (l n v id : ℕ) (link : PlainLink) → IsLinked w l link → IsOf n v id link → HasStream w n v id × (link.consumer.dialed.vb ≡ v)

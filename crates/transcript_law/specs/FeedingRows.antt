@@ -40,7 +40,11 @@ has_streams streams = record empty_node { vbs = λ v. if v == 0 then Some (recor
 
 -- the link l, whose producer has this stream
 abbrev pub streaming : ℕ → StreamAsk → PlainStream → PlainLink
-streaming l ask stream = record (feeding l ask) { server = record (feeding l ask).server { stream = Some stream } }
+streaming l ask stream = record (feeding l ask) { server = record (feeding l ask).server { streams = stream ∷ [] } }
+
+-- the same link, whose producer has another stream before that one
+abbrev pub streaming_both : ℕ → StreamAsk → PlainStream → PlainStream → PlainLink
+streaming_both l ask first stream = record (feeding l ask) { server = record (feeding l ask).server { streams = first ∷ stream ∷ [] } }
 
 -- the stream is of the vBucket 0, and no change of role ended it
 abbrev pub GoesOn : PlainStream → Type 0

@@ -31,7 +31,7 @@ use Rattle.vb_calls.specs.declared.calls.VbAnswer.{VbAnswer}
 use Rattle.vb_calls.specs.declared.calls.VbAnswer.TheVariants as answer
 use Rattle.vb_calls.specs.declared.calls.VbCall.TheVariants as call
 use Rattle.vb_calls.specs.declared.calls.VbReply.{VbReply}
-use Rattle.vb_calls.specs.Programs.{Prog, Done, AnyCall, Always, after}
+use Rattle.vb_calls.specs.Programs.{Prog, Done, Call, AnyCall, Always, after}
 use Rattle.vb_calls.specs.State.{Plain}
 use Rattle.vb_calls.specs.States.{States, call_at}
 use Rattle.vb_calls.specs.Streams.{open_outcome, open_refusal, judged_open}
@@ -43,8 +43,8 @@ use Rattle.transcript_law.proofs.balance.Rooms.{Room, room_acked, room_of, room_
 use Rattle.dcp_producer.specs.declared.desk.Handshake.{Handshake}
 use Rattle.dcp_producer.specs.declared.desk.Handshake.TheVariants as shaken
 use Rattle.dcp_producer.proofs.Decimals.{sizes}
-use Rattle.dcp_producer.specs.Producers.{PlainProducer, Served, is_open, is_sync, member_of}
-use Rattle.dcp_producer.specs.Serving.{status_frame, status_sent, open_refusal as shaken_refusal, opened_unless, controlled, controlled_as, sized, sized_as, log_of_reply, ask_verdict, request_refusal, opening_id, verdict_with, stream_verdict, with_stream, stream_answered, request_answered, stream_request, stream_of, weighed, counted_by, count_answered, count_requested, acknowledged, message_answered, row_answered, read_answered, frame_answered}
+use Rattle.dcp_producer.specs.Producers.{PlainProducer, PlainStream, Served, is_open, is_sync, member_of, stream_at, without_stream}
+use Rattle.dcp_producer.specs.Serving.{status_frame, status_sent, open_refusal as shaken_refusal, opened_unless, controlled, controlled_as, sized, sized_as, log_of_reply, high_of_reply, ask_verdict, request_refusal, opens, next_stream, with_asked, verdict_with, stream_verdict, with_granted, stream_answered, opened_answered, opening_requested, refused_answered, refusal_requested, stream_request, closed_sent, stream_closed, close_requested, log_sent, log_answered, log_requested, fed_stream, weighed, counted_by, count_answered, count_requested, acknowledged, message_answered, row_answered, read_answered, frame_answered}
 
 -- one more answer, or none, behind these bytes
 abbrev pub Answers : List ℕ → List ℕ → Type 0
@@ -138,7 +138,54 @@ module _ (f : Frame) (small : f.opaque < 2 ^ 32) where
 
   acknowledged_served : (seq : ℕ) (s : Served) → Always AnyCall (ServedAs (room_of s.end) s) (acknowledged f seq s)
   unfolding acknowledged
-  acknowledged_served seq s = weighed_served seq s (weighed seq (stream_of f.vb_or_status s.end.stream) (member_of s.end.handshake))
+  acknowledged_served seq s = by (is_open s.end.handshake)
+    where
+      weight : Result ℕ Status
+      weight = weighed seq (fed_stream (stream_at f.vb_or_status s.end.streams)) (member_of s.end.handshake)
+
+      by : (b : Bool) → Always AnyCall (ServedAs (room_of s.end) s) (if b then count_requested f seq s weight else Done (status_sent f status.Einval s))
+      by true = weighed_served seq s weight
+      by false = refused status.Einval s
+
+  -- a stream that its consumer closes
+  closed_served : (id : ℕ) (s : Served) → ServedAs (room_of s.end) s (closed_sent f id s)
+  closed_served id s = sent status.Success s (record s { end = without_stream id s.end }) refl
+
+  close_served : (s : Served) → Always AnyCall (ServedAs (room_of s.end) s) (close_requested f s)
+  close_served s = by (is_open s.end.handshake)
+    where
+      at : (stream : PlainStream) (b : Bool) → Always AnyCall (ServedAs (room_of s.end) s) (if b then Done (closed_sent f stream.id s) else Call stream.vb (call.CloseStream stream.id) (λ reply. Done (closed_sent f stream.id s)))
+      at stream true = closed_served stream.id s
+      at stream false = (tt, λ reply any. closed_served stream.id s)
+
+      found : (o : Option PlainStream) → Always AnyCall (ServedAs (room_of s.end) s) (stream_closed f s o)
+      found None = refused status.KeyEnoent s
+      found (Some stream) = at stream stream.ended
+
+      by : (b : Bool) → Always AnyCall (ServedAs (room_of s.end) s) (if b then stream_closed f s (stream_at f.vb_or_status s.end.streams) else Done (status_sent f status.Einval s))
+      by true = found (stream_at f.vb_or_status s.end.streams)
+      by false = refused status.Einval s
+
+  -- the failover log of a vBucket
+  log_readable : (log : List LogEntry) → length log ≤ 25 → Readable (dcp_frame (msg.LogAnswer 0 log) f.opaque 0) × ((dcp_frame (msg.LogAnswer 0 log) f.opaque 0).magic ≡ RESPONSE)
+  unfolding dcp_frame
+  log_readable log short =
+      let len = length_dcp (msg.LogAnswer 0 log) f.opaque 0 in
+      (record { fits = record { framing = omega arith; extras = omega arith; key = omega arith; body = omega (arith, len) }; magic = refl; limit = omega (arith, len); vb_or_status = omega arith; opaque = small; cas = omega arith }, refl)
+
+  logged : (s : Served) (log : List LogEntry) → length log ≤ 25 → ServedAs (room_of s.end) s (log_sent f s (Some log))
+  logged s log short = let good = log_readable log short in (refl, inr (dcp_frame (msg.LogAnswer 0 log) f.opaque 0, good.0, good.1, refl))
+
+  log_served : (s : Served) (states : States) → ((vb : Plain) → states f.vb_or_status ≡ Some vb → length vb.log ≤ 25) → ServedAs (room_of s.end) s (after (log_requested f s) states).1
+  log_served s states short = by (is_open s.end.handshake)
+    where
+      there : (o : Option Plain) → states f.vb_or_status ≡ o → ServedAs (room_of s.end) s (log_answered f s (call_at states f.vb_or_status call.Log o).1)
+      there None e = refused status.NotMyVbucket s
+      there (Some vb) e = logged s vb.log (short vb e)
+
+      by : (b : Bool) → ServedAs (room_of s.end) s (after (if b then Call f.vb_or_status call.Log (λ reply. Done (log_answered f s reply)) else Done (status_sent f status.Einval s)) states).1
+      by true = there (states f.vb_or_status) refl
+      by false = refused status.Einval s
 
   bytes_served : (bytes : ℕ) (s : Served) (free : Bool)
       → ServedAs (if free then room_acked bytes (room_of s.end) else (room_of s.end)) s (if free then record s { end = record s.end { window = record s.end.window { outstanding = s.end.window.outstanding - bytes } } } else status_sent f status.Einval s)
@@ -187,24 +234,34 @@ call_fits : (states : States) (v id : ℕ) (ask : StreamAsk) (sync : Bool) (ther
 call_fits states v id ask sync None short = (omega arith, omega arith)
 call_fits states v id ask sync (Some vb) short = outcome_fits (open_refusal vb id ask) vb id ask sync (short vb refl)
 
-stream_room : (end : PlainProducer) (f : Frame) (ask : StreamAsk) (said : AskAnswer) → room_of (with_stream end f ask said) ≡ room_of end
-stream_room end f ask ask_answer.Go = refl
-stream_room end f ask (ask_answer.Roll to) = refl
-stream_room end f ask (ask_answer.Refuse code) = refl
+stream_room : (end : PlainProducer) (id : ℕ) (f : Frame) (ask : StreamAsk) (said : AskAnswer) → room_of (with_granted end id f ask said) ≡ room_of end
+stream_room end id f ask ask_answer.Go = refl
+stream_room end id f ask (ask_answer.Roll to) = refl
+stream_room end id f ask (ask_answer.Refuse code) = refl
 
 module _ (f : Frame) (small : f.opaque < 2 ^ 32) where
-  request_served : (ask : StreamAsk) (s : Served) (reply : Option VbReply) → ReplyFits reply → ServedAs (room_of s.end) s (request_answered f ask s reply)
+  told_served : (ask : StreamAsk) (s : Served) (end : PlainProducer) (log : List LogEntry) (high : ℕ) (said : AskAnswer) → room_of end ≡ room_of s.end → length log ≤ 25 → CodeFits said
+      → ServedAs (room_of s.end) s (stream_answered f ask (record s { end = end }) log high said)
   unfolding stream_answered
-  request_served ask s reply fits =
-      let said : AskAnswer = verdict_with (request_refusal s.end.handshake ask) (ask_verdict reply) in
-      let good = told_readable f.opaque (log_of_reply reply) said small fits.0 (verdict_fits (request_refusal s.end.handshake ask) (ask_verdict reply) fits.1) in
-      (stream_room s.end f ask said, inr (told_frame f.opaque (log_of_reply reply) said, good.0, good.1, refl))
+  told_served ask s end log high said same short fits = let good = told_readable f.opaque log said small short fits in (same, inr (told_frame f.opaque log said, good.0, good.1, refl))
+
+  opened_served : (ask : StreamAsk) (s : Served) (reply : Option VbReply) → ReplyFits reply → ServedAs (room_of s.end) s (opened_answered f ask s reply)
+  opened_served ask s reply fits =
+      told_served ask s _ (log_of_reply reply) (high_of_reply reply) (ask_verdict reply) (stream_room (with_asked s.end) (next_stream s.end) f ask (ask_verdict reply)) fits.0 fits.1
+
+  refused_served : (ask : StreamAsk) (s : Served) (reply : Option VbReply) → ReplyFits reply → ServedAs (room_of s.end) s (refused_answered f ask s reply)
+  refused_served ask s reply fits =
+      told_served ask s s.end (log_of_reply reply) (high_of_reply reply) (verdict_with (request_refusal s.end ask) (ask_verdict reply)) refl fits.0 (verdict_fits (request_refusal s.end ask) (ask_verdict reply) fits.1)
 
   asked_served : (ask : StreamAsk) (s : Served) (states : States) → ((vb : Plain) → states f.vb_or_status ≡ Some vb → length vb.log ≤ 25) → ServedAs (room_of s.end) s (after (stream_request f ask s) states).1
   unfolding stream_request
-  asked_served ask s states short =
-      request_served ask s (call_at states f.vb_or_status (call.OpenStream (opening_id s.end ask) ask (is_sync s.end.handshake)) (states f.vb_or_status)).1
-      (call_fits states f.vb_or_status (opening_id s.end ask) ask (is_sync s.end.handshake) (states f.vb_or_status) short)
+  asked_served ask s states short = by (opens s.end f.vb_or_status ask)
+    where
+      by : (b : Bool) → ServedAs (room_of s.end) s (after (if b then opening_requested f ask s else refusal_requested f ask s) states).1
+      by true = opened_served ask s (call_at states f.vb_or_status (call.OpenStream (next_stream s.end) ask (is_sync s.end.handshake)) (states f.vb_or_status)).1
+          (call_fits states f.vb_or_status (next_stream s.end) ask (is_sync s.end.handshake) (states f.vb_or_status) short)
+      by false = refused_served ask s (call_at states f.vb_or_status (call.OpenStream 0 ask (is_sync s.end.handshake)) (states f.vb_or_status)).1
+          (call_fits states f.vb_or_status 0 ask (is_sync s.end.handshake) (states f.vb_or_status) short)
 
   -- ---- a frame
 
@@ -224,9 +281,9 @@ module _ (f : Frame) (small : f.opaque < 2 ^ 32) where
     message_served (msg.Commit change) s = refused f small status.Einval s
     message_served (msg.Abort change) s = refused f small status.Einval s
     message_served (msg.SeqnoAcknowledged seq) s = after_always AnyCall (ServedAs (room_of s.end) s) (acknowledged f seq s) states (acknowledged_served f small seq s)
-    message_served msg.CloseStream s = refused f small status.Einval s
-    message_served msg.GetFailoverLog s = refused f small status.Einval s
-    message_served msg.Noop s = refused f small status.Einval s
+    message_served msg.CloseStream s = after_always AnyCall (ServedAs (room_of s.end) s) (close_requested f s) states (close_served f small s)
+    message_served msg.GetFailoverLog s = log_served f small s states short
+    message_served msg.Noop s = refused f small _ s
     message_served (msg.BufferAcknowledgement bytes) s = bytes_served f small bytes s (is_open s.end.handshake)
     message_served (msg.OpenAnswer st) s = refused f small status.Einval s
     message_served (msg.ControlAnswer st) s = refused f small status.Einval s

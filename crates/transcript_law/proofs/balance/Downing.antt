@@ -5,6 +5,8 @@ use Rattle.std.proofs.lemmas.List.{take-append-drop}
 use Rattle.std.proofs.lemmas.List.Sums.{sum_by-append}
 use Rattle.transcript_law.proofs.Words.{ap, sym, ◌∙◌, subst, inl, inr, ⊎_elim, arith, append-nil, append_assoc, Option, None, All, All-cons, All-nil, Frame, Readable, DcpMsg, dcp_frame, spelling, frames_in, left_of, States, after_job, over_why, DialResult, dial_bytes, PlainLink, PlainProducer, PlainConsumer, PlainWorld, dial_of, Chronicle, Cluster, Member, Plain, Granted}
 use Rattle.vb_calls.specs.Shelves.{Shelves}
+use Rattle.mcbp_frame.proofs.Pieces.{frames-append}
+use Rattle.transcript_law.proofs.links.Unread.{front_readable}
 use Rattle.dcp_consumer.specs.Counting.{counted_bytes}
 use Rattle.dcp_consumer.specs.declared.handshake.Dialed.{Dialed}
 use Rattle.node_world.specs.{Dues.{with_due}, Links.{with_down}}
@@ -15,11 +17,14 @@ use Rattle.transcript_law.proofs.balance.Writing.{Delivered, delivered, seqno_re
 use Rattle.transcript_law.proofs.balance.Stepping.{seqno_none}
 use Rattle.transcript_law.proofs.invariant.Agreement.{EndsStand, LinkAgrees, Wants}
 
--- what a consumer wrote are whole frames, and so will be what it writes
+-- what a consumer wrote are whole frames, and so will be what it writes, and what it has heard and is to hear are whole frames
 pub record Writing (link : PlainLink) : Type 0 where
   pub asked : List Frame
   pub readable : All Readable asked
   pub wrote : link.up_heard ++ link.up ≡ spelled asked
+  pub said : List Frame
+  pub told : All Readable said
+  pub heard : link.down_heard ++ link.down ≡ spelled said
   pub opaque : link.consumer.asked < 2 ^ 32
   pub vb : link.consumer.dialed.vb < 2 ^ 16
 
@@ -33,6 +38,9 @@ writing_of w r c link la = record {
   asked = la.talk.asked;
   readable = la.talk.ups.readable;
   wrote = la.talk.ups.bytes ∙ ap spelled (sym la.talk.ups.joined);
+  said = la.talk.said;
+  told = la.talk.downs.readable;
+  heard = la.talk.downs.bytes ∙ ap spelled (sym la.talk.downs.joined);
   opaque = small_opaque la.talk.stands;
   vb = let few = la.small.1 in omega arith;
 }
@@ -67,11 +75,20 @@ module _ (link : PlainLink) (n : ℕ) (states : States) (shelves : Shelves) wher
   d : Delivered frames (dial_of link) told
   d = delivered piece (dial_of link) states shelves
 
+  -- a part of the bytes comes
+  joined : link.down_heard ++ link.down ≡ (link.down_heard ++ piece) ++ drop n link.down
+  joined = ap (λ b. link.down_heard ++ b) (sym (take-append-drop n link.down)) ∙ sym (append_assoc link.down_heard piece (drop n link.down))
+
+  -- the frames that came are the first of those that are on their way
+  came_readable : Writing link → All Readable frames
+  came_readable writes =
+      let all : frames_in (link.down_heard ++ link.down) ≡ writes.said = ap frames_in writes.heard ∙ frames_back writes.said writes.told in
+      let parts : frames_in (link.down_heard ++ link.down) ≡ frames ++ frames_in rest = ap frames_in joined ∙ frames-append (link.down_heard ++ piece) (drop n link.down) in
+      front_readable frames (frames_in rest) (subst (All Readable) (sym all ∙ parts) writes.told)
+
   -- what counts on the way down is what came and what is to come
   parted : over stream_len (link.down_heard ++ link.down) ≡ sum_by stream_len frames + over stream_len rest
-  parted =
-      ap (over stream_len) (ap (λ b. link.down_heard ++ b) (sym (take-append-drop n link.down)) ∙ sym (append_assoc link.down_heard piece (drop n link.down)))
-      ∙ over_parts stream_len (link.down_heard ++ piece) (drop n link.down)
+  parted = ap (over stream_len) joined ∙ over_parts stream_len (link.down_heard ++ piece) (drop n link.down)
 
   module _ (buffered : Buffered link.consumer.dialed.buffer) (writes : Writing link) (goes : over_why told.dial.consumer.handshake ≡ None) (small : told.dial.consumer.asked < 2 ^ 32)
       (x : Holds link.consumer.dialed.buffer (room_of link.server) (over stream_len (link.down_heard ++ link.down)) (frames_in (link.up_heard ++ link.up))) where
@@ -79,7 +96,7 @@ module _ (link : PlainLink) (n : ℕ) (states : States) (shelves : Shelves) wher
     more = written link.consumer.dialed.vb link.consumer.asked d.more
 
     good : All Readable more
-    good = let o = d.asked in written_readable link.consumer.dialed.vb link.consumer.asked d.more writes.vb (omega arith)
+    good = let o = d.asked in written_readable link.consumer.dialed.vb link.consumer.asked d.more writes.vb (omega arith) (d.noops (came_readable writes))
 
     -- so many bytes came that count
     low : counted_bytes frames < 2 ^ 32

@@ -1,25 +1,25 @@
 -- the line `pump`: the balance of its link, turn by turn
-use Rattle.std.specs.Prelude.{◌≡◌, ℕ, ◌+◌, ◌<◌, ◌^◌, ◌++◌, List, [], length}
-use Rattle.transcript_law.proofs.Words.{zero, suc, Bool, true, false, refl, ap, sym, ◌∙◌, subst, inl, ⊎_elim, arith, append-nil, append_assoc, Option, Some, None, All, Frame, Readable, spelling, frames_in, States, Done, Turn, More, Stop, go_on, repeated, after, after_bind, frame_put, frames_put, pulled, Halt, PlainStream, Served, begun, TakesSnapshots}
+use Rattle.std.specs.Prelude.{◌≡◌, ◌⊎◌, ◌∷◌, ℕ, ◌+◌, ◌<◌, ◌^◌, ◌++◌, List, [], length}
+use Rattle.transcript_law.proofs.Words.{zero, suc, Bool, true, false, refl, ap, sym, ◌∙◌, subst, inl, inr, ⊎_elim, arith, append-nil, append_assoc, Option, Some, All, Frame, Readable, spelling, frames_in, States, Done, Turn, More, Stop, go_on, repeated, after, after_bind, frames_put, pulled, Halt, PlainStream, Served, begun, TakesSnapshots}
 use Rattle.transcript_law.proofs.Words.{row_at, row_put, PlainLink, PlainConsumer, PlainProducer, link_number, producer_node, PlainNode, PlainWorld, pull_result, PullResult, peer_pulled, peer_of, with_states, with_node_at, Chronicle, after_lines, Member, Plain, Granted}
 use Rattle.mcbp_frame.proofs.Cases.{length-spelling}
-use Rattle.dcp_producer.specs.Holding.{Passes}
+use Rattle.dcp_producer.specs.Pulling.{Pulling, none_quiet, one_frame, pull_of}
 use Rattle.transcript_law.proofs.balance.Rooms.{room_of}
 use Rattle.transcript_law.specs.Balance.{is_of_stream, stream_len}
-use Rattle.transcript_law.proofs.balance.{Levels.{Buffered, Holds, Level, WindowIs}, Measures.{over, over_more, over_one, spelled}, Putting.{StreamFits, Went, put_len, turn_went}, Stepping.{sized_if}, Upping.{later_frames}}
+use Rattle.transcript_law.proofs.balance.{Levels.{Buffered, Holds, Level, WindowIs}, Measures.{over, over_more, over_one, spelled}, Putting.{HasStream, Passes, StreamFits, Went, none_went, one_went, put_len}, Stepping.{sized_if}, Upping.{later_frames}}
 use Rattle.transcript_law.proofs.invariant.{Agreement.{Agrees, ChangeFits, EndsStand, LinkAgrees, Wants, idle, kept_stream}, LinkRows.{found_is_link, put_is_found, put_same}, OneLink.{carries_same}, Carrying.{Relinked}}
 use Rattle.transcript_law.proofs.links.{PumpWorlds.{SoFar, TurnSoFar, TurnsSoFar, pumped, served_link}, Sent.{all_found, change_readable}, Turns.{turn}}
 use Rattle.transcript_law.proofs.verbs.NodeLines.{node_of_same_vbs}
 
-no_stream : {A : Type 0} (o : Option PlainStream) (stream : PlainStream) → o ≡ Some stream → o ≡ None → A
-no_stream o stream e f = let z : Some stream ≡ None = sym e ∙ f in cc
+-- a producer has no stream, or one, of which what it may put fits
+abbrev OneFits : List PlainStream → Type 0
+OneFits streams = (streams ≡ []) ⊎ ((stream : PlainStream) × (streams ≡ stream ∷ []) × StreamFits stream)
 
--- what a producer may put of its stream fits
 module _ {fv : Wants} {kn : Member} {pv : Option Plain} {leader : Member} {g : Option Granted} {point : Option ℕ} {served : PlainProducer} {asker : PlainConsumer} {asked said : List Frame} where
-  pub stream_fits : asker.dialed.vb < 1024 → EndsStand fv kn pv leader g point served asker asked said → (stream : PlainStream) → served.stream ≡ Some stream → StreamFits stream
-  stream_fits few (EndsStand.IsAsking ask none x) stream e = no_stream served.stream stream e x.no_stream
-  stream_fits few (EndsStand.IsRefusedYet none x) stream e = no_stream served.stream stream e x.no_stream
-  stream_fits few (EndsStand.IsStreaming x) stream e = by x.granted_is.over (x.stream_is)
+  stream_fits : asker.dialed.vb < 1024 → EndsStand fv kn pv leader g point served asker asked said → OneFits served.streams
+  stream_fits few (EndsStand.IsAsking ask none x) = inl x.no_stream
+  stream_fits few (EndsStand.IsRefusedYet none x) = inl x.no_stream
+  stream_fits few (EndsStand.IsStreaming x) = by x.granted_is.over x.stream_is
     where
       own : StreamFits x.stream
       own =
@@ -29,12 +29,12 @@ module _ {fv : Wants} {kn : Member} {pv : Option Plain} {leader : Member} {g : O
           record {
             opaque = omega arith;
             vb = omega arith;
-            item = λ c m here says. change_readable c x.stream.opaque x.stream.vb m (all_found ChangeFits x.stream.items x.stream.next c x.streams.put.fits here) (omega arith) (omega arith) says;
+            item = λ c here. change_readable c x.stream.opaque x.stream.vb (all_found ChangeFits x.stream.items x.stream.next c x.streams.put.fits here) (omega arith) (omega arith);
           }
 
-      by : (over : Bool) → served.stream ≡ kept_stream over x.stream → StreamFits stream
-      by true kept = no_stream served.stream stream e kept
-      by false kept = let same : Some stream ≡ Some x.stream = sym e ∙ kept in let is : stream ≡ x.stream = cc in subst StreamFits (sym is) own
+      by : (over : Bool) → served.streams ≡ kept_stream over x.stream → OneFits served.streams
+      by true kept = inl kept
+      by false kept = inr (x.stream, kept, own)
 
 module _ (takes : TakesSnapshots) (w : PlainWorld) (r : Chronicle) (link : PlainLink) (node : PlainNode) (found : row_at link_number (link_number link) w.links ≡ Some link) (buffered : Buffered link.consumer.dialed.buffer) where
   abbrev buffer : ℕ
@@ -53,9 +53,9 @@ module _ (takes : TakesSnapshots) (w : PlainWorld) (r : Chronicle) (link : Plain
   abbrev PutHolds : Served → Type 0
   PutHolds s = Holds buffer (room_of s.end) (over stream_len (down_at s.out)) asked
 
-  -- the same behind a turn
-  abbrev TurnPuts : Turn Served (Served × Halt) → Type 0
-  TurnPuts (More t) = PutHolds t
+  -- the same behind a frame, or where none was put
+  abbrev TurnPuts : Turn Pulling (Served × Halt) → Type 0
+  TurnPuts (More p) = PutHolds p.served
   TurnPuts (Stop stopped) = PutHolds stopped.0
 
   -- and of what a pull comes to
@@ -78,14 +78,11 @@ module _ (takes : TakesSnapshots) (w : PlainWorld) (r : Chronicle) (link : Plain
     asked_are : asked ≡ la.talk.asked
     asked_are = later_frames link.up_heard link.up [] la.talk.ups.behind la.talk.ups.bytes (subst (All Readable) la.talk.ups.joined la.talk.ups.readable) ∙ sym la.talk.ups.joined
 
-    fits : (stream : PlainStream) → s.end.stream ≡ Some stream → StreamFits stream
-    fits = stream_fits la.small.1 la.talk.stands
-
-    sized : (s.end.stream ≡ None → ⊥) → s.end.window.size ≡ buffer
+    sized : HasStream s → s.end.window.size ≡ buffer
     sized some = sized_if la.talk.stands some (subst (WindowIs buffer (room_of s.end)) asked_are holds.window)
 
     -- a frame was put
-    more_holds : (t : Served) (f : Frame) → Readable f → is_of_stream f ≡ true → (s.end.stream ≡ None → ⊥) → t.out ≡ s.out ++ spelling f → Passes (length (spelling f)) s.end.window t.end.window → PutHolds t
+    more_holds : (t : Served) (f : Frame) → Readable f → is_of_stream f ≡ true → HasStream s → t.out ≡ s.out ++ spelling f → Passes (length (spelling f)) (room_of s.end) (room_of t.end) → PutHolds t
     more_holds t f readable counts some out (same, passed) =
         let size : s.end.window.size ≡ buffer = sized some in
         let some_buffer = buffered.some in
@@ -102,31 +99,32 @@ module _ (takes : TakesSnapshots) (w : PlainWorld) (r : Chronicle) (link : Plain
         let before = holds.balance in
         record { balance = omega arith; window = inl (same ∙ size); below = omega arith }
 
-    after_turn : (t : Turn Served (Served × Halt)) → Went s t → TurnPuts t
-    after_turn (More t) (f, is, some, out, passed) = more_holds t f is.0 is.1 some out passed
-    after_turn (Stop (t, h)) same = subst PutHolds (sym same) holds
+    after_turn : (t : Turn Pulling (Served × Halt)) → Went s t → TurnPuts t
+    after_turn (More p) (f, is, some, out, passed) = more_holds p.served f is.0 is.1 some out passed
+    after_turn (Stop (t, h)) same = subst (λ w. Holds buffer w (over stream_len (down_at t.out)) asked) (sym same.0) (subst (λ out. Holds buffer (room_of s.end) (over stream_len (down_at out)) asked) (sym same.1) holds)
 
-    one_turn : TurnPuts (after (frame_put s) states).1
-    one_turn = after_turn (after (frame_put s) states).1 (turn_went s states fits)
+    one_turn : TurnPuts (after (one_frame (pull_of s none_quiet)) states).1
+    one_turn = after_turn (after (one_frame (pull_of s none_quiet)) states).1 (⊎_elim (λ none. none_went s states none) (λ one. one_went s states one.0 one.1 one.2) (stream_fits la.small.1 la.talk.stands))
 
-  -- so many turns
-  abbrev Both : States × Turn Served (Served × Halt) → Type 0
+  -- so many frames
+  abbrev Both : States × Turn Pulling (Served × Halt) → Type 0
   Both x = TurnsSoFar w r l link node x × TurnPuts x.1
 
-  next_turn : (states : States) (x : Turn Served (Served × Halt)) → TurnSoFar w r l link node states x → TurnPuts x → Both (after (go_on frame_put x) states)
-  next_turn states (More s) g holds = (turn w r l link node found states s g takes, one_turn states s g holds)
+  next_turn : (states : States) (x : Turn Pulling (Served × Halt)) → TurnSoFar w r l link node states x → TurnPuts x → Both (after (go_on one_frame x) states)
+  next_turn states (More p) g holds =
+      subst (λ q. Both (after (one_frame (pull_of p.served q)) states)) (sym g.1) (turn w r l link node found states p.served g.0 takes, one_turn states p.served g.0 holds)
   next_turn states (Stop stopped) g holds = (g, holds)
 
-  turns : (k : ℕ) (states : States) (s : Served) → SoFar w r l link node states s → PutHolds s → Both (after (repeated k frame_put s) states)
-  turns zero states s g holds = (g, holds)
+  turns : (k : ℕ) (states : States) (s : Served) → SoFar w r l link node states s → PutHolds s → Both (after (repeated k one_frame (pull_of s none_quiet)) states)
+  turns zero states s g holds = ((g, refl), holds)
   turns (suc k) states s g holds =
-      let x = after (repeated k frame_put s) states in
+      let x = after (repeated k one_frame (pull_of s none_quiet)) states in
       let before = turns k states s g holds in
-      subst Both (sym (after_bind (repeated k frame_put s) (go_on frame_put) states)) (next_turn x.0 x.1 before.0 before.1)
+      subst Both (sym (after_bind (repeated k one_frame (pull_of s none_quiet)) (go_on one_frame) states)) (next_turn x.0 x.1 before.0 before.1)
 
-  -- what is left of the turns
-  left_holds : (states : States) (x : Turn Served (Served × Halt)) → TurnPuts x → PutHolds (after (pulled x) states).1.0
-  left_holds states (More s) holds = holds
+  -- what is left of them
+  left_holds : (states : States) (x : Turn Pulling (Served × Halt)) → TurnPuts x → PutHolds (after (pulled x) states).1.0
+  left_holds states (More p) holds = holds
   left_holds states (Stop stopped) holds = holds
 
   module _ (a : Agrees w r) (known : w.nodes (producer_node link) ≡ Some node) where
@@ -154,7 +152,7 @@ module _ (takes : TakesSnapshots) (w : PlainWorld) (r : Chronicle) (link : Plain
     pub pump_holds : (frames : ℕ) → Level link → PutEnds (after (peer_pulled frames (peer_of link)) node.vbs).1
     unfolding frames_put
     pump_holds frames level =
-        let x = after (repeated frames frame_put first) node.vbs in
+        let x = after (repeated frames one_frame (pull_of first none_quiet)) node.vbs in
         subst PutEnds
-        (sym (ap (λ y. y.1) (after_bind (frames_put frames first) (λ put. Done (pull_result link.up_heard put)) node.vbs) ∙ ap (λ y. pull_result link.up_heard y.1) (after_bind (repeated frames frame_put first) pulled node.vbs)))
+        (sym (ap (λ y. y.1) (after_bind (frames_put frames first) (λ put. Done (pull_result link.up_heard put)) node.vbs) ∙ ap (λ y. pull_result link.up_heard y.1) (after_bind (repeated frames one_frame (pull_of first none_quiet)) pulled node.vbs)))
         (left_holds x.0 x.1 (turns frames node.vbs first first_so_far (first_holds level)).1)

@@ -1,36 +1,44 @@
 -- a frame that is put counts as a whole, and goes through the window
-use Rattle.std.proofs.Common.{◌≡◌, ◌+◌, ◌-◌, ◌<◌, ℕ, Bool, true, false, ◌++◌, length, refl, sym, ap, ◌∙◌, subst, inl, inr, arith, Option, Some, None, Result, Ok, Err}
-use Rattle.std.specs.Prelude.{if◌then◌else◌, ◌==◌, ◌||◌, nat_lt, ◌^◌, slice_get}
+use Rattle.std.proofs.Common.{◌≡◌, ◌+◌, ◌<◌, ℕ, Bool, true, false, List, [], ◌∷◌, ◌++◌, length, refl, sym, ap, ◌∙◌, subst, inl, inr, arith, ◌⊎◌, Option, Some, None}
+use Rattle.std.specs.Prelude.{if◌then◌else◌, ◌==◌, ◌^◌, slice_get}
 use Rattle.std.proofs.lemmas.Bool.Decides.{nat_tests}
 use Rattle.mcbp_frame.specs.declared.frame.Frame.{Frame}
 use Rattle.mcbp_frame.specs.Spelling.{spelling, Readable}
 use Rattle.mcbp_frame.proofs.Cases.{length-spelling}
-use Rattle.mcbp_dcp.specs.declared.message.DcpMsg.{DcpMsg}
 use Rattle.mcbp_dcp.specs.declared.message.DcpMsg.TheVariants as msg
 use Rattle.mcbp_dcp.specs.DcpFrames.{dcp_frame}
 use Rattle.vb_types.specs.declared.change.Act.{Act}
 use Rattle.vb_types.specs.declared.change.Act.TheVariants as act
 use Rattle.vb_types.specs.declared.change.Change.{Change}
+use Rattle.vb_types.specs.declared.stream.Place.{Place}
+use Rattle.vb_types.specs.declared.stream.Place.TheVariants as place
 use Rattle.vb_types.specs.declared.stream.Snapshot.{Snapshot}
-use Rattle.vb_calls.specs.Programs.{Done, Turn, More, Stop, AnyCall, Always, after}
+use Rattle.vb_events.specs.declared.event.Event.{Event}
+use Rattle.vb_events.specs.declared.event.Event.TheVariants as event
+use Rattle.vb_events.specs.declared.event.StreamName.{StreamName}
+use Rattle.vb_calls.specs.declared.calls.VbAnswer.{VbAnswer}
+use Rattle.vb_calls.specs.declared.calls.VbAnswer.TheVariants as answer
+use Rattle.vb_calls.specs.declared.calls.VbReply.{VbReply}
+use Rattle.vb_calls.specs.Programs.{Done, Prog, Turn, More, Stop, AnyCall, AnyReply, Always, after}
 use Rattle.vb_calls.specs.States.{States}
-use Rattle.vb_calls.proofs.Conduct.{after_always}
+use Rattle.vb_calls.proofs.Conduct.{after_always, always_bind}
 use Rattle.dcp_consumer.specs.Counting.{CountsAsMessage}
 use Rattle.dcp_consumer.proofs.Counted.{messages}
+use Rattle.dcp_producer.proofs.OneStream.{no_frame_of, one_came, one_frame_of, shut_frame_of}
 use Rattle.dcp_producer.specs.declared.halt.Halt.{Halt}
-use Rattle.dcp_producer.specs.declared.halt.NoSnapshot.{NoSnapshot}
-use Rattle.dcp_producer.specs.declared.halt.NoSnapshot.TheVariants as no_snapshot
+use Rattle.dcp_producer.specs.declared.next_frame.NextFrame.TheVariants as next
+use Rattle.dcp_producer.specs.Frames.{Next, STATE_CHANGED, act_message, close_sent, marker_flags, next_by, next_frame, over, place_requested, place_said, placed_next, reaches_end, take_answered, taken_next}
 use Rattle.dcp_producer.specs.Producers.{PlainStream, Served}
-use Rattle.dcp_producer.specs.Pulling.{act_message, item_put, marker_put, marker_flags, STATE_CHANGED, end_put, snapshot_of_reply, taken_put, take_unless, place_halt, place_requested, next_put, stream_put, in_window, with_window, frame_put}
-use Rattle.dcp_producer.specs.Holding.{Passes}
-use Rattle.dcp_producer.proofs.Through.{length_behind, through_counted}
+use Rattle.dcp_producer.specs.Pulling.{Pulling, frame_put, none_quiet, one_frame, pull_of}
+use Rattle.transcript_law.proofs.balance.Rooms.{Room, room_of}
+use Rattle.transcript_law.proofs.lines.Pulling.{lets_through}
 use Rattle.transcript_law.specs.Balance.{is_of_stream, stream_len}
 
 -- readers take what may be put of a stream next
 pub record StreamFits (stream : PlainStream) : Type 0 where
   pub opaque : stream.opaque < 2 ^ 32
   pub vb : stream.vb < 2 ^ 16
-  pub item : (c : Change) (m : DcpMsg) → slice_get stream.items stream.next ≡ Some c → act_message c c.act ≡ Some m → Readable (dcp_frame m stream.opaque stream.vb)
+  pub item : (c : Change) → slice_get stream.items stream.next ≡ Some c → Readable (dcp_frame (act_message c c.act) stream.opaque stream.vb)
 
 -- a frame that a reader takes, and that counts as a whole
 abbrev pub IsPut : Frame → Type 0
@@ -41,91 +49,122 @@ put_len f is = ap (λ b. if b then 24 + (length f.framing + length f.extras + le
 
 -- there is a stream
 abbrev pub HasStream : Served → Type 0
-HasStream s = s.end.stream ≡ None → ⊥
+HasStream s = s.end.streams ≡ [] → ⊥
 
--- a turn of the stream puts such a frame and leaves the window, or does nothing
-Sent : Served → Turn Served (Served × Halt) → Type 0
-Sent s (More t) = (f : Frame) × IsPut f × HasStream s × (t.out ≡ s.out ++ spelling f) × (t.end.window ≡ s.end.window)
-Sent s (Stop (t, h)) = t ≡ s
+-- so many bytes went through a window: at size 0 nothing changes, and else less than its size was outstanding, and so many more are then
+abbrev pub Passes : ℕ → Room → Room → Type 0
+Passes len w after = (after.size ≡ w.size) × (((w.size ≡ 0) × (after.outstanding ≡ w.outstanding)) ⊎ ((w.outstanding < w.size) × (after.outstanding ≡ w.outstanding + len)))
 
-the_message : {x y : DcpMsg} → Some x ≡ Some y → x ≡ y
-the_message e = cc
+-- ---- the next frame of a stream
 
-act_counts : (c : Change) (a : Act) (m : DcpMsg) → act_message c a ≡ Some m → CountsAsMessage m
-act_counts c (act.Set doc) m e = subst CountsAsMessage (the_message e) tt
-act_counts c (act.Remove cas rev) m e = subst CountsAsMessage (the_message e) tt
-act_counts c (act.Prepare level doc deleted) m e = subst CountsAsMessage (the_message e) tt
-act_counts c (act.Commit prepared doc deleted) m e = subst CountsAsMessage (the_message e) tt
-act_counts c (act.Abort prepared) m e = subst CountsAsMessage (the_message e) tt
+act_counts : (c : Change) (a : Act) → CountsAsMessage (act_message c a)
+act_counts c (act.Set doc) = tt
+act_counts c (act.Remove cas rev) = tt
+act_counts c (act.Prepare level doc deleted) = tt
+act_counts c (act.Commit prepared doc deleted) = tt
+act_counts c (act.Abort prepared) = tt
 
-module _ (s : Served) (stream : PlainStream) (fits : StreamFits stream) (some : HasStream s) where
-  item_sent : (c : Change) → slice_get stream.items stream.next ≡ Some c → (m : Option DcpMsg) → act_message c c.act ≡ m → Sent s (item_put s stream c m)
-  unfolding Sent
-  item_sent c here None is = refl
-  item_sent c here (Some m) is =
-      (dcp_frame m stream.opaque stream.vb, (fits.item c m here is, (messages m stream.opaque stream.vb).1 (act_counts c c.act m is)), some, refl, refl)
+-- it is such a frame, or there is none
+abbrev NextIs : Next → Type 0
+NextIs (next.Put m line, left) = IsPut (dcp_frame m left.opaque left.vb)
+NextIs (next.End reason, left) = IsPut (dcp_frame (msg.StreamEnd reason) left.opaque left.vb)
+NextIs (next.Quiet waits, left) = Unit {0}
 
-  end_readable : Readable (dcp_frame (msg.StreamEnd STATE_CHANGED) stream.opaque stream.vb)
+abbrev Nexts : Prog Next → Type 0
+Nexts prog = Always AnyCall NextIs prog
+
+module _ (name : StreamName) (stream : PlainStream) (fits : StreamFits stream) where
+  end_readable : (reason : ℕ) → Readable (dcp_frame (msg.StreamEnd reason) stream.opaque stream.vb)
   unfolding dcp_frame
-  end_readable = let o = fits.opaque in let v = fits.vb in search arith
+  end_readable reason = let o = fits.opaque in let v = fits.vb in search arith
 
   marker_readable : (start end flags : ℕ) → Readable (dcp_frame (msg.SnapshotMarker start end flags) stream.opaque stream.vb)
   unfolding dcp_frame
   marker_readable start end flags = let o = fits.opaque in let v = fits.vb in search arith
 
-  end_sent : Sent s (More (end_put s stream))
-  unfolding Sent end_put
-  end_sent = (dcp_frame (msg.StreamEnd STATE_CHANGED) stream.opaque stream.vb, (end_readable, (messages (msg.StreamEnd STATE_CHANGED) stream.opaque stream.vb).1 tt), some, refl, refl)
+  end_is : (reason : ℕ) → NextIs (over reason stream)
+  end_is reason = (end_readable reason, (messages (msg.StreamEnd reason) stream.opaque stream.vb).1 tt)
 
-  taken_sent : (taken : Result Snapshot NoSnapshot) → Sent s (taken_put s stream taken)
-  unfolding Sent marker_put
-  taken_sent (Err no_snapshot.Lost) = end_sent
-  taken_sent (Err (no_snapshot.Halted h)) = refl
-  taken_sent (Ok x) =
-      let m : DcpMsg = msg.SnapshotMarker x.start x.end (marker_flags x.disk) in
-      (dcp_frame m stream.opaque stream.vb, (marker_readable x.start x.end (marker_flags x.disk), (messages m stream.opaque stream.vb).1 tt), some, refl, refl)
+  marker_is : (x : Snapshot) → NextIs (taken_next name stream (answer.Taken x))
+  marker_is x = (marker_readable x.start x.end (marker_flags x.disk), (messages (msg.SnapshotMarker x.start x.end (marker_flags x.disk)) stream.opaque stream.vb).1 tt)
 
-  place_sent : (o : Option NoSnapshot) → Always AnyCall (Sent s) (take_unless s stream o)
-  unfolding Sent
-  place_sent None = (tt, λ more any. taken_sent (snapshot_of_reply more))
-  place_sent (Some no_snapshot.Lost) = end_sent
-  place_sent (Some (no_snapshot.Halted h)) = refl
+  take_is : (reply : Option VbReply) → NextIs (take_answered name stream reply)
+  take_is None = end_is STATE_CHANGED
+  take_is (Some reply) = by reply.answer
+    where
+      by : (a : VbAnswer) → NextIs (taken_next name stream a)
+      by (answer.Taken snapshot) = marker_is snapshot
+      by answer.Nothing = tt
+      by other = end_is STATE_CHANGED
 
-  more_sent : (ended : Bool) → Always AnyCall (Sent s) (if ended then Done (More (end_put s stream)) else place_requested s stream)
-  more_sent true = end_sent
-  more_sent false = (tt, λ reply any. place_sent (place_halt reply))
+  place_is : (from : Option Place) → Nexts (placed_next name stream from)
+  place_is (Some place.Memory) = (tt, λ reply any. take_is reply)
+  place_is (Some place.WaitSaved) = tt
+  place_is None = end_is STATE_CHANGED
 
-  next_sent : (item : Option Change) → slice_get stream.items stream.next ≡ item → Always AnyCall (Sent s) (next_put s stream item)
-  next_sent None here = more_sent stream.ended
-  next_sent (Some c) here = item_sent c here (act_message c c.act) refl
+  reached_is : (b : Bool) → Nexts (if b then close_sent stream else place_requested name stream)
+  reached_is true = (tt, λ reply any. end_is 0)
+  reached_is false = (tt, λ reply any. place_is (place_said reply))
 
-stream_sent : (s : Served) (o : Option PlainStream) → s.end.stream ≡ o → ((stream : PlainStream) → o ≡ Some stream → StreamFits stream) → Always AnyCall (Sent s) (stream_put s o)
-unfolding Sent
-stream_sent s None is fits = refl
-stream_sent s (Some stream) is fits =
-    next_sent s stream (fits stream refl) (λ none. let z : None ≡ Some stream = sym none ∙ is in cc) (slice_get stream.items stream.next) refl
+  more_is : (b : Bool) → Nexts (if b then Done (over STATE_CHANGED stream) else if reaches_end stream.until stream.marked then close_sent stream else place_requested name stream)
+  more_is true = end_is STATE_CHANGED
+  more_is false = reached_is (reaches_end stream.until stream.marked)
 
--- a turn puts such a frame through the window, or does nothing
-abbrev pub Went : Served → Turn Served (Served × Halt) → Type 0
-Went s (More t) = (f : Frame) × IsPut f × HasStream s × (t.out ≡ s.out ++ spelling f) × Passes (length (spelling f)) s.end.window t.end.window
-Went s (Stop (t, h)) = t ≡ s
+  next_is : Nexts (next_frame name stream)
+  unfolding next_frame
+  next_is = by (slice_get stream.items stream.next) refl
+    where
+      by : (o : Option Change) → slice_get stream.items stream.next ≡ o → Nexts (next_by name stream o)
+      by None here = more_is stream.ended
+      by (Some c) here = (fits.item c here, (messages (act_message c c.act) stream.opaque stream.vb).1 (act_counts c c.act))
 
--- what was put since so many bytes were goes through a window that is open
-passes : (t : Served) (before : ℕ) (b : Bool) → (t.end.window.size == 0) ≡ b → (t.end.window.size == 0 || nat_lt t.end.window.outstanding t.end.window.size) ≡ true
-    → Passes (length t.out - before) t.end.window (if b then t.end.window else record t.end.window { outstanding = t.end.window.outstanding + (length t.out - before) })
-passes t before true none free = (refl, inl (grind (arith, nat_tests), refl))
-passes t before false some free = (refl, inr (grind (arith, nat_tests), refl))
+-- ---- a frame of a connection with one stream
 
-went : (s : Served) (t : Turn Served (Served × Halt)) → (s.end.window.size == 0 || nat_lt s.end.window.outstanding s.end.window.size) ≡ true → Sent s t → Went s (in_window (length s.out) t)
-unfolding Sent
-went s (More t) free (f, is, some, out, same) =
-    let len : length t.out - length s.out ≡ length (spelling f) = ap (λ o. length o - length s.out) out ∙ length_behind s.out (spelling f) in
-    let open_yet : (t.end.window.size == 0 || nat_lt t.end.window.outstanding t.end.window.size) ≡ true = ap (λ w. w.size == 0 || nat_lt w.outstanding w.size) same ∙ free in
-    let passed : Passes (length t.out - length s.out) t.end.window (with_window (length s.out) t).end.window = passes t (length s.out) (t.end.window.size == 0) refl open_yet in
-    (f, is, some, out, subst (λ n. Passes n s.end.window (with_window (length s.out) t).end.window) len (subst (λ w. Passes (length t.out - length s.out) w (with_window (length s.out) t).end.window) same passed))
-went s (Stop (t, h)) free same = same
+-- such a frame is put through the window, or nothing is done
+abbrev pub Went : Served → Turn Pulling (Served × Halt) → Type 0
+Went s (More p) = (f : Frame) × IsPut f × HasStream s × (p.served.out ≡ s.out ++ spelling f) × Passes (length (spelling f)) (room_of s.end) (room_of p.served.end)
+Went s (Stop stopped) = (room_of stopped.0.end ≡ room_of s.end) × (stopped.0.out ≡ s.out)
 
--- one frame, if there is one to put
-pub turn_went : (s : Served) (states : States) → ((stream : PlainStream) → s.end.stream ≡ Some stream → StreamFits stream) → Went s (after (frame_put s) states).1
-turn_went s states fits =
-    after_always AnyCall (Went s) (frame_put s) states (through_counted AnyCall (Sent s) (Went s) s (λ t free. went s t free) (λ shut. refl) (λ free. stream_sent s s.end.stream refl fits))
+-- what is put goes through a window that is open
+passes : (s : Served) (f : Frame) (line : Event) (streams : List PlainStream) (turn : ℕ) → lets_through s.end ≡ true
+    → Passes (length (spelling f)) (room_of s.end) (room_of (frame_put f line (record s { end = record s.end { streams = streams; turn = turn } })).end)
+passes s f line streams turn free = by (s.end.window.size == 0) refl
+  where
+    by : (b : Bool) → (s.end.window.size == 0) ≡ b
+        → Passes (length (spelling f)) (room_of s.end) (room_of (record s.end { window = if b then s.end.window else record s.end.window { outstanding = s.end.window.outstanding + length (spelling f) } }))
+    by true none = (refl, inl (grind (arith, nat_tests), refl))
+    by false some = (refl, inr (grind (arith, nat_tests, free, some), refl))
+
+module _ (s : Served) (states : States) where
+  abbrev Goes : Type 0
+  Goes = Went s (after (one_frame (pull_of s none_quiet)) states).1
+
+  shut_went : lets_through s.end ≡ false → Goes
+  shut_went shut = subst (λ prog. Went s (after prog states).1) (sym (shut_frame_of s none_quiet shut)) (refl, refl)
+
+  -- there is none
+  pub none_went : s.end.streams ≡ [] → Goes
+  none_went none = by (lets_through s.end) refl
+    where
+      by : (b : Bool) → lets_through s.end ≡ b → Goes
+      by true free = subst (λ prog. Went s (after prog states).1) (sym (no_frame_of s none free)) (refl, refl)
+      by false shut = shut_went shut
+
+  -- the one that there is
+  pub one_went : (stream : PlainStream) → s.end.streams ≡ stream ∷ [] → StreamFits stream → Goes
+  one_went stream one fits = by (lets_through s.end) refl
+    where
+      some : HasStream s
+      some none = let z : [] ≡ stream ∷ [] = sym none ∙ one in cc
+
+      came : lets_through s.end ≡ true → (x : Next) → NextIs x → Went s (one_came s x)
+      came free (next.Put m line, left) is = (dcp_frame m left.opaque left.vb, is, some, refl, passes s (dcp_frame m left.opaque left.vb) line (left ∷ []) 1 free)
+      came free (next.End reason, left) is =
+          (dcp_frame (msg.StreamEnd reason) left.opaque left.vb, is, some, refl, passes s (dcp_frame (msg.StreamEnd reason) left.opaque left.vb) (event.Finished s.end.desk.stream reason) [] 0 free)
+      came free (next.Quiet waits, left) is = (refl, refl)
+
+      by : (b : Bool) → lets_through s.end ≡ b → Goes
+      by true free = subst (λ prog. Went s (after prog states).1) (sym (one_frame_of s stream one free))
+          (after_always AnyCall (Went s) _ states
+          (always_bind AnyReply AnyCall NextIs (Went s) (next_frame s.end.desk.stream stream) (λ next. Done (one_came s next)) (next_is s.end.desk.stream stream fits) (came free)))
+      by false shut = shut_went shut

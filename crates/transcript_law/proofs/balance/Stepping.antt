@@ -3,7 +3,7 @@ use Rattle.std.specs.Prelude.{◌≡◌, ℕ, ◌<◌, ◌^◌, ◌==◌, ◌++�
 use Rattle.std.specs.List.{sum_by}
 use Rattle.std.proofs.lemmas.Bool.Decides.{nat_tests}
 use Rattle.std.proofs.lemmas.List.Sums.{sum_by-cons}
-use Rattle.transcript_law.proofs.Words.{zero, suc, true, false, drop, drop-nil, refl, ap, sym, ◌∙◌, inl, inr, ⊎_elim, arith, Option, None, All, All-head, All-tail, Frame, DcpMsg, dcp_frame, StreamAsk, Member, Plain, PlainProducer, PlainConsumer, Granted, open_request, sync_request, name_request, codes, decimal, member_name}
+use Rattle.transcript_law.proofs.Words.{zero, suc, true, false, drop, drop-nil, refl, ap, sym, ◌∙◌, inl, inr, ⊎_elim, arith, Option, All, All-head, All-tail, Frame, DcpMsg, dcp_frame, StreamAsk, Member, Plain, PlainProducer, PlainConsumer, Granted, open_request, sync_request, name_request, codes, decimal, member_name}
 use Rattle.mcbp_dcp.specs.declared.message.DcpMsg.TheVariants as msg
 use Rattle.dcp_consumer.specs.declared.handshake.Dialed.{Dialed}
 use Rattle.dcp_producer.specs.Producers.{is_open}
@@ -167,7 +167,7 @@ module _ (served : PlainProducer) (asker : PlainConsumer) (counted : ℕ) (f : F
 
 module _ {fv : Wants} {kn : Member} {pv : Option Plain} {leader : Member} {g : Option Granted} {point : Option ℕ} {served : PlainProducer} {asker : PlainConsumer} {said : List Frame} where
   -- a producer with a stream has a window of the size that was asked for
-  pub sized_if : {asked : List Frame} → EndsStand fv kn pv leader g point served asker asked said → (served.stream ≡ None → ⊥) → WindowIs asker.dialed.buffer (room_of served) asked → (room_of served).size ≡ asker.dialed.buffer
+  pub sized_if : {asked : List Frame} → EndsStand fv kn pv leader g point served asker asked said → (served.streams ≡ [] → ⊥) → WindowIs asker.dialed.buffer (room_of served) asked → (room_of served).size ≡ asker.dialed.buffer
   sized_if (EndsStand.IsAsking ask none x) some is = absurd (some x.no_stream)
   sized_if (EndsStand.IsRefusedYet none x) some is = absurd (some x.no_stream)
   sized_if {asked} (EndsStand.IsStreaming x) some is = ⊎_elim (λ s. s) (λ y. absurd (acks_other x.granted_is.wrote asker.asked asker.dialed.vb asker.dialed.buffer asked x.acks y.1)) is

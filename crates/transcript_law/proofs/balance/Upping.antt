@@ -149,7 +149,7 @@ module _ (stays : StaysSound) (steady : Steady) (w : PlainWorld) (r : Chronicle)
           cluster = c;
           lawful = none_before r;
           agrees = carries_link idle (answering l (frames_in bytes)) w (world_at w r n link found first) r r c l link (served_at w r n link found first.1) a found
-              (record { dialed = refl; desk = refl }) (record { powers = same.powers; vbs = same_vbs; shelves = same.shelves; uuids = refl; linked = refl }) (λ has. has) (told_of_same l r) (one_idle l (frames_in bytes, []))
+              (record { dialed = refl; desk = refl }) (record { powers = same.powers; vbs = same_vbs; shelves = same.shelves; uuids = refl; linked = refl }) (λ v id has. has) (told_of_same l r) (one_idle l (frames_in bytes, []))
               (subst (λ p. LinkAgrees (world_at w r n link found first) r c (served_at w r n link found first.1) p.0 p.1) (sym (one_here l (frames_in bytes, []))) lb);
           desk = refl;
           heard = refl;

@@ -18,11 +18,14 @@ use Rattle.vb_calls.specs.Shelves.{Shelves, shelves_step}
 use Rattle.vb_calls.specs.States.{States, states_step}
 use Rattle.dcp_consumer.specs.Counting.{counted_bytes, is_counted, counted_len}
 use Rattle.dcp_consumer.specs.Machine.{over_why}
-use Rattle.node_core.specs.Conduct.{Writes, Asks, Acknowledges, AcknowledgesBytes, asks_in, writes_past, Dues, CallsAs, AnyOther, behind, bytes_written, SomeCounts, OwesBytes, Delivers, begins, said}
+use Rattle.dcp_consumer.specs.Noops.{noop_answered}
+use Rattle.mcbp_dcp.specs.declared.shape.TheConstants.{SUCCESS}
+use Rattle.node_core.specs.Conduct.{Writes, Asks, Acknowledges, AcknowledgesBytes, AnswersNoop, AnswersNoops, AreNoopsOf, asks_in, writes_past, Dues, CallsAs, AnyOther, behind, bytes_written, noop_written, SomeCounts, OwesBytes, Delivers, begins, said}
 use Rattle.node_core.specs.Dials.{PlainDial, DialResult, untold, dial_bytes}
 use Rattle.node_core.proofs.Deliveries.{bytes_acknowledge}
 use Rattle.transcript_law.specs.Balance.{acknowledged_by}
 use Rattle.transcript_law.proofs.balance.Measures.{spelled}
+use Rattle.transcript_law.proofs.links.Unread.{front_readable}
 
 -- the frames of what was written
 abbrev pub written : ℕ → ℕ → List Writes → List Frame
@@ -30,12 +33,14 @@ written vb asked [] = []
 written vb asked (Asks ask ∷ more) = dcp_frame (msg.StreamRequest ask) (asked + 1) vb ∷ written vb (asked + 1) more
 written vb asked (Acknowledges seq ∷ more) = dcp_frame (msg.SeqnoAcknowledged seq) asked vb ∷ written vb asked more
 written vb asked (AcknowledgesBytes bytes ∷ more) = dcp_frame (msg.BufferAcknowledgement bytes) asked 0 ∷ written vb asked more
+written vb asked (AnswersNoop opaque ∷ more) = dcp_frame (msg.NoopAnswer SUCCESS) opaque 0 ∷ written vb asked more
 
 pub written_is : (vb asked : ℕ) (more : List Writes) → writes_past vb asked more ≡ spelled (written vb asked more)
 written_is vb asked [] = refl
 written_is vb asked (Asks ask ∷ more) = ap (λ l. spelling (dcp_frame (msg.StreamRequest ask) (asked + 1) vb) ++ l) (written_is vb (asked + 1) more)
 written_is vb asked (Acknowledges seq ∷ more) = ap (λ l. spelling (dcp_frame (msg.SeqnoAcknowledged seq) asked vb) ++ l) (written_is vb asked more)
 written_is vb asked (AcknowledgesBytes bytes ∷ more) = ap (λ l. spelling (dcp_frame (msg.BufferAcknowledgement bytes) asked 0) ++ l) (written_is vb asked more)
+written_is vb asked (AnswersNoop opaque ∷ more) = ap (λ l. noop_answered opaque ++ l) (written_is vb asked more)
 
 module _ (vb : ℕ) (few : vb < 2 ^ 16) where
   pub ask_readable : (o : ℕ) (ask : StreamAsk) → o < 2 ^ 32 → Readable (dcp_frame (msg.StreamRequest ask) o vb)
@@ -50,14 +55,25 @@ bytes_readable : (o bytes : ℕ) → o < 2 ^ 32 → Readable (dcp_frame (msg.Buf
 unfolding dcp_frame
 bytes_readable o bytes low = search arith
 
-pub written_readable : (vb asked : ℕ) (more : List Writes) → vb < 2 ^ 16 → asked + asks_in more < 2 ^ 32 → All Readable (written vb asked more)
-written_readable vb asked [] few low = All-nil Readable
-written_readable vb asked (Asks ask ∷ more) few low =
-    All-cons Readable (dcp_frame (msg.StreamRequest ask) (asked + 1) vb) (written vb (asked + 1) more) (ask_readable vb few (asked + 1) ask (omega arith)) (written_readable vb (asked + 1) more few (omega arith))
-written_readable vb asked (Acknowledges seq ∷ more) few low =
-    All-cons Readable (dcp_frame (msg.SeqnoAcknowledged seq) asked vb) (written vb asked more) (seqno_readable vb few asked seq (omega arith)) (written_readable vb asked more few low)
-written_readable vb asked (AcknowledgesBytes bytes ∷ more) few low =
-    All-cons Readable (dcp_frame (msg.BufferAcknowledgement bytes) asked 0) (written vb asked more) (bytes_readable asked bytes (omega arith)) (written_readable vb asked more few low)
+noop_readable : (o : ℕ) → o < 2 ^ 32 → Readable (dcp_frame (msg.NoopAnswer SUCCESS) o 0)
+unfolding dcp_frame
+noop_readable o low = search arith
+
+-- numbers that fit where an opaque stands
+abbrev pub Opaques : List ℕ → Type 0
+Opaques ns = All (λ n. n < 2 ^ 32) ns
+
+pub written_readable : (vb asked : ℕ) (more : List Writes) → vb < 2 ^ 16 → asked + asks_in more < 2 ^ 32 → Opaques (filter_map noop_written more) → All Readable (written vb asked more)
+written_readable vb asked [] few low noops = All-nil Readable
+written_readable vb asked (Asks ask ∷ more) few low noops =
+    All-cons Readable (dcp_frame (msg.StreamRequest ask) (asked + 1) vb) (written vb (asked + 1) more) (ask_readable vb few (asked + 1) ask (omega arith)) (written_readable vb (asked + 1) more few (omega arith) noops)
+written_readable vb asked (Acknowledges seq ∷ more) few low noops =
+    All-cons Readable (dcp_frame (msg.SeqnoAcknowledged seq) asked vb) (written vb asked more) (seqno_readable vb few asked seq (omega arith)) (written_readable vb asked more few low noops)
+written_readable vb asked (AcknowledgesBytes bytes ∷ more) few low noops =
+    All-cons Readable (dcp_frame (msg.BufferAcknowledgement bytes) asked 0) (written vb asked more) (bytes_readable asked bytes (omega arith)) (written_readable vb asked more few low noops)
+written_readable vb asked (AnswersNoop opaque ∷ more) few low noops =
+    All-cons Readable (dcp_frame (msg.NoopAnswer SUCCESS) opaque 0) (written vb asked more) (noop_readable opaque (All-head (λ n. n < 2 ^ 32) opaque (filter_map noop_written more) noops))
+    (written_readable vb asked more few low (All-tail (λ n. n < 2 ^ 32) opaque (filter_map noop_written more) noops))
 
 -- ---- how many bytes each of them acknowledges
 
@@ -73,6 +89,10 @@ seqno_names : (o vb seq : ℕ) → acknowledged_by (dcp_frame (msg.SeqnoAcknowle
 unfolding dcp_frame
 seqno_names o vb seq = refl
 
+noop_names : (o : ℕ) → acknowledged_by (dcp_frame (msg.NoopAnswer SUCCESS) o 0) ≡ 0
+unfolding dcp_frame
+noop_names o = refl
+
 pub bytes_names : (o bytes : ℕ) → bytes < 2 ^ 32 → acknowledged_by (dcp_frame (msg.BufferAcknowledgement bytes) o 0) ≡ bytes
 unfolding dcp_frame
 bytes_names o bytes low = from_be_bytes-to_be_bytes_4 bytes low
@@ -86,6 +106,18 @@ written_names vb asked (AcknowledgesBytes bytes ∷ more) low =
     ∙ (let e = bytes_names asked bytes (All-head (λ n. n < 2 ^ 32) bytes (filter_map bytes_written more) low) in
     let rest = written_names vb asked more (All-tail (λ n. n < 2 ^ 32) bytes (filter_map bytes_written more) low) in
     omega (arith, sum_by-cons (λ n. n) bytes (filter_map bytes_written more)))
+written_names vb asked (AnswersNoop opaque ∷ more) low = sum_by-cons acknowledged_by (dcp_frame (msg.NoopAnswer SUCCESS) opaque 0) (written vb asked more) ∙ (let e = noop_names opaque in let rest = written_names vb asked more low in omega arith)
+
+-- ---- the opaques of the NOOPs among frames
+
+noops_low : (frames : List Frame) (noops : List ℕ) → AreNoopsOf frames noops → All Readable frames → Opaques noops
+noops_low [] noops are good = subst Opaques (sym are) (All-nil (λ n. n < 2 ^ 32))
+noops_low (f ∷ frames) noops (inl (is, (more, first, rest))) good =
+    subst Opaques (sym first) (All-cons (λ n. n < 2 ^ 32) f.opaque more (All-head Readable f frames good).opaque (noops_low frames more rest (All-tail Readable f frames good)))
+noops_low (f ∷ frames) noops (inr (never, rest)) good = noops_low frames noops rest (All-tail Readable f frames good)
+
+answers_low : (frames : List Frame) (dial : PlainDial) (noops : List ℕ) → AnswersNoops frames dial noops → All Readable frames → Opaques noops
+answers_low frames dial noops (taken, behind, parted, are, all) good = noops_low taken noops are (front_readable taken behind (subst (All Readable) parted good))
 
 -- ---- a delivery
 
@@ -135,6 +167,7 @@ pub record Delivered (frames : List Frame) (dial : PlainDial) (told : DialResult
   pub asked : told.dial.consumer.asked ≡ dial.consumer.asked + asks_in more
   pub dialed : told.dial.consumer.dialed ≡ dial.consumer.dialed
   pub counts : over_why told.dial.consumer.handshake ≡ None → 0 < dial.consumer.dialed.buffer → counted_bytes frames < 2 ^ 32 → Names (counted_bytes frames) (filter_map bytes_written more)
+  pub noops : All Readable frames → Opaques (filter_map noop_written more)
 
 whole : (n : ℕ) → n < 2 ^ 32 → min n 4294967295 ≡ n
 whole n low = grind (arith, low)
@@ -162,4 +195,5 @@ delivered piece dial states shelves =
       dialed = link.dialed;
       counts = λ goes buffered low. subst (Names (counted_bytes frames)) (sym is.acknowledged.counted)
           (owed_by frames told.dial is.bytes is.owes goes (subst (λ (d : Dialed). 0 < d.buffer) (sym link.dialed) buffered) low (some_or_none frames));
+      noops = λ good. subst Opaques (sym is.acknowledged.answered) (answers_low frames told.dial is.noops is.answers good);
     }

@@ -240,7 +240,7 @@ module _ (busy : Busy) (w w' : PlainWorld) (r : Chronicle) (arms : ℕ → ArmKn
     disks = disks;
     branches = branches_again kept.tree refl (ids_same same.uuids) a.branches;
     links = λ x i. link_carried w w' r r' c kept.now x (busy (link_number x)).0 (busy (link_number x)).1 (λ fv e. (fv, same.vbs (consumer_node x) x.consumer.dialed.vb ∙ e, kept_same fv)) refl refl refl
-        (kept.nodes (consumer_seat x)) (λ p s e active opened has. (p, same.vbs (producer_node x) x.consumer.dialed.vb ∙ e, active, opened, ap (λ (m : Member). m.br) (kept.nodes (producer_seat x))))
+        (kept.nodes (consumer_seat x)) (λ p k s e active opened has. (p, same.vbs (producer_node x) x.consumer.dialed.vb ∙ e, active, opened, ap (λ (m : Member). m.br) (kept.nodes (producer_seat x))))
         (a.links x (subst (IsLink x) same.linked i));
     differ = subst LinksDiffer (sym same.linked) a.differ;
     rests = rests;

@@ -220,7 +220,7 @@ module _ (p : PlainLink → Bool) where
 
 -- the nodes have the arms that they had, and none stopped or started
 same_powers : (w w' : PlainWorld) (link : PlainLink) → BecameOver w w' link → SamePowers w w'
-same_powers w w' link over = ⊎_elim (λ same. same.powers) (λ closed. closed.5.powers) over
+same_powers w w' link over = ⊎_elim (λ same. same.powers) (λ closed. closed.6.powers) over
 
 -- after these links were cut, with what was read before
 pub record LinksCut (xs : List PlainLink) (w : PlainWorld) (r : Chronicle) : Type 0 where

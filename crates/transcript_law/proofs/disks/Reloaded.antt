@@ -120,7 +120,7 @@ module _ (w : PlainWorld) (r : Chronicle) (c : Cluster) (n : ℕ) (node : PlainN
 
     linked : (x : PlainLink) → IsLink x w.links → LinkAgrees w' r' c x [] []
     linked x i = let p = apart x i in link_carried w w' r r' c c x [] [] (λ fv e. (fv, vb_there (consumer_node x) x.consumer.dialed.vb p.1 ∙ e, kept_same fv)) refl refl refl refl
-        (λ q s e active opened has. (q, vb_there (producer_node x) x.consumer.dialed.vb p.0 ∙ e, active, opened, refl)) (a.links x i)
+        (λ q k s e active opened has. (q, vb_there (producer_node x) x.consumer.dialed.vb p.0 ∙ e, active, opened, refl)) (a.links x i)
 
     abbrev burnt : ArmKnown
     burnt = record (r.arm_at n) { fuse = spent count (r.arm_at n).fuse }

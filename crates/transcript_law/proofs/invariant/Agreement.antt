@@ -1,12 +1,12 @@
 -- what is read of the lines agrees with the plain world, and both with a cluster in which what happened may happen
-use Rattle.std.specs.Prelude.{◌≡◌, ◌<◌, ◌≤◌, ◌∷◌, ◌++◌, ◌⊎◌, ◌^◌, ◌&&◌, ◌==◌, if◌then◌else◌}
-use Rattle.transcript_law.proofs.Words.{ℕ, suc, Bool, true, false, List, [], length, map, drop, take, Option, Some, None, not, nat_lt, is_some, All, concat, filter, flat_map, ap, sym, ◌∙◌, option_map}
-use Rattle.transcript_law.proofs.Words.{Frame, RESPONSE, spelling, Readable, DcpMsg, dcp_frame, Change, AskAnswer, Position, LogEntry, StreamAsk, last_seq, request_of, fork_of, Covers, Branch, hist, branch, IsNew, Feed}
+use Rattle.std.specs.Prelude.{◌≡◌, ◌<◌, ◌≤◌, ◌+◌, ◌*◌, ◌∷◌, ◌++◌, ◌⊎◌, ◌^◌, ◌&&◌, ◌==◌, if◌then◌else◌}
+use Rattle.transcript_law.proofs.Words.{ℕ, suc, Bool, true, false, List, [], length, map, drop, take, Option, Some, None, not, nat_lt, is_some, All, concat, filter, ap, sym, ◌∙◌, option_map}
+use Rattle.transcript_law.proofs.Words.{Frame, RESPONSE, spelling, Readable, dcp_frame, Change, AskAnswer, Position, LogEntry, StreamAsk, last_seq, request_of, fork_of, Covers, Branch, hist, branch, IsNew, Feed}
 use Rattle.transcript_law.proofs.Words.{Member, Cluster, SoundCluster, flight_from, flight_end, Stream, Plain, is_active, is_follower, stream_at, Handshake, PlainStream, stream_verdict, act_message, STATE_CHANGED}
 use Rattle.transcript_law.proofs.Words.{PlainLink, link_number, producer_node, consumer_node, PlainWorld, Outcome, is_one_of, with_branches, ItemLine, Begun, Granted}
 use Rattle.transcript_law.proofs.{Words.{Chronicle, after_lines, item_of_change, LawfulFrom, PlainProducer, PlainConsumer, uuid_of, front, Dial}, invariant.Seats.{seat}, invariant.Trees.{AreTold, IdsFit}}
 use Rattle.{dcp_consumer.specs.declared.handshake.Dialed.{Dialed}, dcp_producer.specs.declared.desk.Desk.{Desk}, transcript_law.proofs.links.Firsts.{request_frames, first_answers, first_count, set_after, waits_after}}
-use Rattle.transcript_law.specs.Undone.{newest}
+use Rattle.transcript_law.specs.{Feeding.{HasOpen}, Undone.{newest}}
 use Rattle.vb_events.specs.declared.event.StreamName.TheVariants.{Link}
 use Rattle.{branch_model.specs.Journals.{log_of, place_of}, cluster_model.specs.Clusters.{Disk}, disk_journals.specs.Books.{Book, listed}, durability.specs.Laws.{HasOne}, vb_calls.specs.Shelves.{Shelf}}
 use Rattle.{transcript_law.specs.Chronicles.{ArmKnown, DiskKnown, no_arm, resting}, vb_disk.specs.declared.fuse.Fuse.{Fuse}, vb_types.specs.declared.role.Role.{Role}}
@@ -21,13 +21,12 @@ abbrev pub answer_frame : ℕ → List LogEntry → AskAnswer → Frame
 answer_frame o log said = dcp_frame (msg.StreamAnswer (stream_verdict log said)) o 0
 
 -- the frame of a change of a stream; the opaque o and the vBucket are the stream's
-abbrev pub change_frames : ℕ → ℕ → Option DcpMsg → List Frame
-change_frames o vb None = []
-change_frames o vb (Some m) = dcp_frame m o vb ∷ []
+abbrev pub change_frame : ℕ → ℕ → Change → Frame
+change_frame o vb c = dcp_frame (act_message c c.act) o vb
 
 -- the frames of changes
 abbrev pub items_frames : ℕ → ℕ → List Change → List Frame
-items_frames o vb xs = flat_map (λ c. change_frames o vb (act_message c c.act)) xs
+items_frames o vb xs = map (change_frame o vb) xs
 
 -- the frame of a stream's end, where that was put
 abbrev pub end_frames : ℕ → ℕ → Bool → List Frame
@@ -80,20 +79,36 @@ BegunAgrees None stream = stream.items ≡ []
 BegunAgrees (Some b) stream = Covers stream.items b.history b.from b.end × (b.items ≡ map item_of_change (take stream.next stream.items))
 
 -- a stream that no change of role ended is open at its producer's vBucket, which is active on the stream's branch u
-pub record OpenAt (link_id : ℕ) (ask : StreamAsk) (place : ℕ) (begun : Bool) (pv : Option Plain) (leader : Member) (u : ℕ) : Type 0 where
+pub record OpenAt (id : ℕ) (ask : StreamAsk) (place : ℕ) (begun : Bool) (pv : Option Plain) (leader : Member) (u : ℕ) : Type 0 where
   pub producer : Plain
   pub producer_is : pv ≡ Some producer
   pub active : is_active producer.role ≡ true
   pub leads : leader.br ≡ u
-  pub opened : (s : Stream) × (stream_at link_id producer.streams ≡ Some s) × (s.ask ≡ ask) × (s.sync ≡ true) × (s.place ≡ place) × (s.taken ≡ begun)
+  pub opened : (s : Stream) × (stream_at id producer.streams ≡ Some s) × (s.ask ≡ ask) × (s.sync ≡ true) × (s.place ≡ place) × (s.taken ≡ begun)
 
+-- so it is of one that was granted, under its number
 abbrev pub Open : ℕ → Granted → Option Plain → Member → Feed → Type 0
-Open link_id g pv leader feed = OpenAt link_id g.ask g.place (is_some g.last) pv leader feed.u
+Open id g pv leader feed = OpenAt id g.ask g.place (is_some g.last) pv leader feed.u
+
+-- the greatest seqno
+abbrev pub top : ℕ
+top = 2 ^ 48
+
+-- no marker that was sent ends above the greatest seqno
+abbrev pub IsLow : Option ℕ → Type 0
+IsLow None = Unit {0}
+IsLow (Some end) = end ≤ top
+
+-- a stream was asked for with an end that no seqno reaches
+pub record IsEndless (stream : PlainStream) : Type 0 where
+  pub until : top < stream.until
+  pub marked : IsLow stream.marked
 
 -- a stream of the vBucket vb as its producer keeps it: it is the one that the lines tell, and of the branch that its consumer's member is fed with
 pub record PutAgrees (o vb : ℕ) (log : List LogEntry) (begun : Option Begun) (stream : PlainStream) (u : ℕ) (fed : List LogEntry) : Type 0 where
   pub vb_is : stream.vb ≡ vb
   pub opaque_is : stream.opaque ≡ o
+  pub no_end : IsEndless stream
   pub fits : All ChangeFits stream.items
   pub next_in : stream.next ≤ length stream.items
   pub last : BegunAgrees begun stream
@@ -111,10 +126,10 @@ pub record WayIs (place : ℕ) (told : List (ℕ × ℕ)) (begun : Bool) (flight
   pub in_flight : in_one ≡ false → flight ≡ [] → begun ≡ false
 
 -- a stream that was let continue: what the lines tell of it, what its producer keeps of it, and what its consumer has of it
-pub record StreamAgrees (o vb link_id : ℕ) (g : Granted) (stream : PlainStream) (pv : Option Plain) (leader : Member) (feed : Feed) (kn : Member) (in_one : Bool) : Type 0 where
+pub record StreamAgrees (o vb : ℕ) (g : Granted) (stream : PlainStream) (pv : Option Plain) (leader : Member) (feed : Feed) (kn : Member) (in_one : Bool) : Type 0 where
   pub put : PutAgrees o vb g.log g.last stream feed.u feed.log
   pub open put use *
-  pub opens : stream.ended ≡ false → Open link_id g pv leader feed
+  pub opens : stream.ended ≡ false → Open stream.id g pv leader feed
   pub over_ended : g.over ≡ true → stream.ended ≡ true
   pub coming : ComingIs g.coming stream feed.flight kn.coming
   pub way : WayIs g.place g.marks (is_some g.last) feed.flight kn in_one
@@ -164,8 +179,10 @@ pub record AskingAt (fv : Wants) (ask : StreamAsk) (set : Handshake) (asker : Pl
   pub asked_is : up ≡ drop answered (request_frames asker.asked asker.dialed ask)
   pub said_is : down ≡ drop seen (take answered (first_answers asker.dialed))
 
+-- so it is with the two ends; the producer has no stream, and asked its vBuckets for fewer than the consumer sent requests
 pub record Asking (fv : Wants) (ask : StreamAsk) (served : PlainProducer) (asker : PlainConsumer) (up down : List Frame) : Type 0 where
-  pub no_stream : served.stream ≡ None
+  pub no_stream : served.streams ≡ []
+  pub fewer : served.asked < asker.asked
   pub asking : AskingAt fv ask served.handshake asker up down
   pub open asking use *
 
@@ -193,15 +210,17 @@ pub record RefusedAt (point : Option ℕ) (set : Handshake) (asker : PlainConsum
   pub asked_is : up ≡ []
   pub said_is : down ≡ drop seen (first_answers asker.dialed) ++ answer_frame asker.asked [] said ∷ []
 
+-- so it is with the two ends
 pub record RefusedYet (point : Option ℕ) (served : PlainProducer) (asker : PlainConsumer) (up down : List Frame) : Type 0 where
-  pub no_stream : served.stream ≡ None
+  pub no_stream : served.streams ≡ []
+  pub fewer : served.asked ≤ asker.asked
   pub refusal : RefusedAt point served.handshake asker up down
   pub open refusal use *
 
--- the stream that the producer keeps, until its end was put
-abbrev pub kept_stream : Bool → PlainStream → Option PlainStream
-kept_stream false stream = Some stream
-kept_stream true stream = None
+-- the streams that the producer keeps: this one, until its end was put
+abbrev pub kept_stream : Bool → PlainStream → List PlainStream
+kept_stream false stream = stream ∷ []
+kept_stream true stream = []
 
 -- an acknowledgement of a stream with the opaque o, of the vBucket vb, on its way to the producer: of a number of which the lines told before
 abbrev pub IsSeqnoAcknowledgement : List ℕ → ℕ → ℕ → Frame → Type 0
@@ -225,7 +244,8 @@ spoken frames = filter (λ f. not (is_refused_ack f)) frames
 -- the producer's end of a granted stream, which has answered all requests but acknowledgements; and the frames of items that it is to put
 pub record Serving (served : PlainProducer) (o : ℕ) (d : Dialed) (over : Bool) (wrote : List ℕ) (up : List Frame) : Type 0 where
   pub stream : PlainStream
-  pub stream_is : served.stream ≡ kept_stream over stream
+  pub stream_is : served.streams ≡ kept_stream over stream
+  pub numbered : stream.id ≤ served.desk.base * 2 ^ 32 + served.asked
   pub apart : served.desk.node ≡ d.node → ⊥
   pub server : ServerIs served d (first_count d)
   pub acks : All (IsAcknowledgement wrote o d.vb) up
@@ -262,7 +282,7 @@ pub record Streaming (fv : Wants) (kn : Member) (pv : Option Plain) (leader : Me
   pub seen : ℕ
   pub taking : Taking fv kn.coming asker granted_is.ask seen
   pub open taking use *
-  pub streams : StreamAgrees asker.asked asker.dialed.vb served.desk.id granted_is serving.stream pv leader feed kn (is_granted asker.dialed seen && not fv.first)
+  pub streams : StreamAgrees asker.asked asker.dialed.vb granted_is serving.stream pv leader feed kn (is_granted asker.dialed seen && not fv.first)
   pub all : drop seen (first_answers asker.dialed ++ answer_frame asker.asked feed.log ask_answer.Go ∷ [])
       ++ stream_frames asker.asked asker.dialed.vb granted_is.over (is_granted asker.dialed seen && not fv.first) kn.position kn.coming feed.flight ≡ put ++ serving.unput
 
@@ -319,17 +339,11 @@ abbrev pub IsLink : PlainLink → List PlainLink → Type 0
 IsLink x [] = ⊥
 IsLink x (y ∷ ys) = (x ≡ y) ⊎ IsLink x ys
 
--- a stream that is open at its producer's vBucket
-abbrev pub is_open : Option PlainStream → Bool
-is_open None = false
-is_open (Some stream) = not stream.ended
-
--- the links differ in their numbers and in the vBuckets that they feed, and those with an open stream in what their streams are opened under
+-- the links differ in their numbers and in the vBuckets that they feed, and no two at one producer's node have one stream open
 pub record Differ (x y : PlainLink) : Type 0 where
   pub number : link_number x ≡ link_number y → ⊥
   pub follower : consumer_node x ≡ consumer_node y → x.consumer.dialed.vb ≡ y.consumer.dialed.vb → ⊥
-  pub stream : is_open x.server.stream ≡ true → is_open y.server.stream ≡ true → producer_node x ≡ producer_node y → x.consumer.dialed.vb ≡ y.consumer.dialed.vb
-      → x.server.desk.id ≡ y.server.desk.id → ⊥
+  pub stream : (v id : ℕ) → HasOpen v id x.server.streams → HasOpen v id y.server.streams → producer_node x ≡ producer_node y → ⊥
 
 abbrev pub DifferFrom : PlainLink → List PlainLink → Type 0
 DifferFrom x [] = Unit {0}
@@ -338,10 +352,6 @@ DifferFrom x (y ∷ ys) = Differ x y × DifferFrom x ys
 abbrev pub LinksDiffer : List PlainLink → Type 0
 LinksDiffer [] = Unit {0}
 LinksDiffer (x ∷ xs) = DifferFrom x xs × LinksDiffer xs
-
--- the greatest seqno
-abbrev pub top : ℕ
-top = 2 ^ 48
 
 -- the frames that are about to be answered or taken, by the number of the link
 abbrev pub Busy : Type 0

@@ -1,14 +1,14 @@
 -- what is left alone by a step at one link agrees as before
-use Rattle.std.specs.Prelude.{◌≡◌, ◌⊎◌, ◌==◌}
-use Rattle.transcript_law.proofs.Words.{ℕ, Bool, true, false, List, refl, ap, sym, ◌∙◌, subst, inl, inr, ⊎_elim, Option, Some, None, not, All, Frame, Role, Member, Cluster, SoundCluster, Stream}
+use Rattle.std.specs.Prelude.{◌≡◌, ◌⊎◌, ◌<◌, ◌≤◌, ◌+◌, ◌*◌, ◌^◌, ◌==◌}
+use Rattle.transcript_law.proofs.Words.{ℕ, Bool, true, false, List, refl, ap, sym, ◌∙◌, subst, inl, inr, ⊎_elim, Option, Some, None, All, All-cons, All-nil, Frame, Role, Member, Cluster, SoundCluster, Stream, arith}
 use Rattle.transcript_law.proofs.Words.{Plain, is_active, is_follower, stream_at, Sound, row_at, row_put, PlainStream, PlainLink, link_number, producer_node, consumer_node, PlainWorld, is_one_of, Granted, Chronicle}
 use Rattle.transcript_law.proofs.{Words.{Branch, Covers, PlainProducer, PlainConsumer, Begun, item_of_change, map, drop, take, after_end, if◌then◌else◌, eq-eqb, ne_eqb, []}, invariant.Seats.{seat, seat_one}, invariant.Trees.{IsTold}}
 use Rattle.transcript_law.proofs.Words.{HoldsAt}
 use Rattle.transcript_law.proofs.invariant.Wholes.{WholeTo}
-use Rattle.transcript_law.proofs.invariant.Agreement.{AckedIs, Keeps, VbTold, own_history, vb_of, ChangeFits, BranchAgrees, CountsIf, WritesIf, VbAgrees, IsAway, AgreesAt, RestsIn, kept_stream, spoken, Streaming, Talk, is_open, consumer_seat, producer_seat, LinkAgrees, IsLink, Differ, LinksDiffer}
+use Rattle.transcript_law.proofs.invariant.Agreement.{AckedIs, Keeps, VbTold, own_history, vb_of, ChangeFits, BranchAgrees, CountsIf, WritesIf, VbAgrees, IsAway, AgreesAt, RestsIn, IsLow, kept_stream, spoken, Streaming, Talk, consumer_seat, producer_seat, LinkAgrees, IsLink, Differ, LinksDiffer}
 use Rattle.transcript_law.proofs.{invariant.Agreement.{DiskIsIf, shelf_of, top, Busy, AgreesIn, BranchesAgree, Wants, wants_of, EndsStand, Open, BegunAgrees, items_frames, VbRow, vb_row, vb_contents, VbHeld, idle, DialAgrees}, invariant.Carrying.{SameEnds}}
 use Rattle.transcript_law.proofs.{invariant.Carrying.{ToldOf, TakenOf, FedMember, FeedChanged, BusyBut, StreamsChanged}, invariant.LinkRows.{found_is_link, links_apart, put_links, differ_put}, invariant.Tables.{id_there, ended_there}}
-use Rattle.{std.proofs.lemmas.Bool.{false_from_ne_true}, vb_events.specs.declared.event.StreamName.TheVariants.{Link}, vb_types.specs.declared.role.Role.TheVariants.{Active}}
+use Rattle.{dcp_producer.specs.Producers.{Rising}, transcript_law.proofs.invariant.OpenStreams.{AreKept}, transcript_law.specs.Feeding.{HasOpen, IsOpenAt}, vb_events.specs.declared.event.StreamName.TheVariants.{Link}, vb_types.specs.declared.role.Role.TheVariants.{Active}}
 pub use Rattle.std.proofs.lemmas.Bool.{cases_eq as numbers}
 
 -- one place or another
@@ -158,30 +158,45 @@ sound_streams vb streams s = record { spanned = s.spanned; placed = s.placed; st
 
 -- what stays of a producer's vBucket and member for a link with an open stream
 abbrev pub StaysProducer : Option Plain → Option Plain → Member → Member → PlainLink → Type 0
-StaysProducer pv pv' leader leader' link = (p : Plain) (s : Stream) → pv ≡ Some p → is_active p.role ≡ true → stream_at link.server.desk.id p.streams ≡ Some s → is_open link.server.stream ≡ true
-    → (p' : Plain) × (pv' ≡ Some p') × (is_active p'.role ≡ true) × (stream_at link.server.desk.id p'.streams ≡ Some s) × (leader'.br ≡ leader.br)
+StaysProducer pv pv' leader leader' link = (p : Plain) (id : ℕ) (s : Stream) → pv ≡ Some p → is_active p.role ≡ true → stream_at id p.streams ≡ Some s → HasOpen link.consumer.dialed.vb id link.server.streams
+    → (p' : Plain) × (pv' ≡ Some p') × (is_active p'.role ≡ true) × (stream_at id p'.streams ≡ Some s) × (leader'.br ≡ leader.br)
 
 pub stays_same : (pv : Option Plain) (leader : Member) (link : PlainLink) → StaysProducer pv pv leader leader link
-stays_same pv leader link p s e a o i = (p, e, a, o, refl)
+stays_same pv leader link p id s e a o i = (p, e, a, o, refl)
 
 -- a stream that the producer keeps and that has not ended is open
-pub kept_open : (over : Bool) (stream : PlainStream) (o : Option PlainStream) → o ≡ kept_stream over stream → (over ≡ true → stream.ended ≡ true) → stream.ended ≡ false → is_open o ≡ true
-kept_open true stream o e ends ended = let z : true ≡ false = sym (ends refl) ∙ ended in cc
-kept_open false stream o e ends ended = ap is_open e ∙ ap not ended
+pub kept_open : (over : Bool) (stream : PlainStream) (streams : List PlainStream) → streams ≡ kept_stream over stream → (over ≡ true → stream.ended ≡ true) → stream.ended ≡ false → HasOpen stream.vb stream.id streams
+kept_open true stream streams e ends ended = let z : true ≡ false = sym (ends refl) ∙ ended in cc
+kept_open false stream streams e ends ended = subst (HasOpen stream.vb stream.id) (sym e) (inl (refl, refl, ended))
+
+-- and it is the only one
+pub open_kept : (over : Bool) (stream : PlainStream) (streams : List PlainStream) → streams ≡ kept_stream over stream → (v id : ℕ) → HasOpen v id streams → IsOpenAt v id stream
+open_kept true stream streams e v id has = absurd (subst (HasOpen v id) e has)
+open_kept false stream streams e v id has = ⊎_elim (λ o. o) (λ none. absurd none) (subst (HasOpen v id) e has)
+
+-- where there is none, none is open
+pub none_open : {A : Type 0} (streams : List PlainStream) → streams ≡ [] → (v id : ℕ) → HasOpen v id streams → A
+none_open streams e v id has = absurd (subst (HasOpen v id) e has)
 
 -- streams that differ in whether they ended at most
 pub record SameStream (x y : PlainStream) : Type 0 where
+  pub id : y.id ≡ x.id
+  pub until : y.until ≡ x.until
+  pub marked : y.marked ≡ x.marked
   pub vb : y.vb ≡ x.vb
   pub opaque : y.opaque ≡ x.opaque
   pub items : y.items ≡ x.items
   pub next : y.next ≡ x.next
   pub ended : x.ended ≡ true → y.ended ≡ true
 
+pub stream_same : {x : PlainStream} → SameStream x x
+stream_same = record { id = refl; until = refl; marked = refl; vb = refl; opaque = refl; items = refl; next = refl; ended = λ e. e }
+
 -- a stream goes on, or has ended now
 pub streaming_again : {fv : Wants} {kn : Member} {pv pv' : Option Plain} {leader leader' : Member} {g : Option Granted} {served : PlainProducer} {asker : PlainConsumer} {up down : List Frame} (a : Streaming fv kn pv leader g served asker up down)
-    (o : Option PlainStream) (stream : PlainStream) → SameStream a.stream stream → o ≡ kept_stream a.granted_is.over stream → (stream.ended ≡ false → Open served.desk.id a.granted_is pv' leader' a.feed)
-    → Streaming fv kn pv' leader' g (record served { stream = o }) asker up down
-streaming_again {asker = asker} a o stream same is opens =
+    (streams : List PlainStream) (stream : PlainStream) → SameStream a.stream stream → streams ≡ kept_stream a.granted_is.over stream → (stream.ended ≡ false → Open stream.id a.granted_is pv' leader' a.feed)
+    → Streaming fv kn pv' leader' g (record served { streams = streams }) asker up down
+streaming_again {served = served} {asker} a streams stream same is opens =
     let x = a.streams in
     record {
       granted_is = a.granted_is;
@@ -189,6 +204,7 @@ streaming_again {asker = asker} a o stream same is opens =
       serving = record {
         stream = stream;
         stream_is = is;
+        numbered = subst (λ n. n ≤ served.desk.base * 2 ^ 32 + served.asked) (sym same.id) a.numbered;
         apart = a.apart;
         server = a.server;
         acks = a.acks;
@@ -205,6 +221,7 @@ streaming_again {asker = asker} a o stream same is opens =
         put = record {
           vb_is = same.vb ∙ x.vb_is;
           opaque_is = same.opaque ∙ x.opaque_is;
+          no_end = record { until = subst (λ n. top < n) (sym same.until) x.no_end.until; marked = subst IsLow (sym same.marked) x.no_end.marked };
           fits = subst (All ChangeFits) (sym same.items) x.fits;
           next_in = rw same.next (rw same.items x.next_in);
           last = by a.granted_is.last x.last;
@@ -228,9 +245,10 @@ module _ (kn : Member) (pv pv' : Option Plain) (leader leader' : Member) (g : Op
   stands_carried (EndsStand.IsAsking ask none a) = EndsStand.IsAsking ask none a
   stands_carried (EndsStand.IsRefusedYet none a) = EndsStand.IsRefusedYet none a
   stands_carried (EndsStand.IsStreaming a) = EndsStand.IsStreaming
-      (streaming_again a link.server.stream a.stream (record { vb = refl; opaque = refl; items = refl; next = refl; ended = λ e. e }) a.stream_is (λ e.
+      (streaming_again a link.server.streams a.stream stream_same a.stream_is (λ e.
       let o = a.streams.opens e in
-      let (p', is, active, opened, lead) = stays o.producer o.opened.0 o.producer_is o.active o.opened.1 (kept_open a.granted_is.over a.stream link.server.stream a.stream_is a.streams.over_ended e) in
+      let (p', is, active, opened, lead) = stays o.producer a.stream.id o.opened.0 o.producer_is o.active o.opened.1
+      (subst (λ v. HasOpen v a.stream.id link.server.streams) a.streams.vb_is (kept_open a.granted_is.over a.stream link.server.streams a.stream_is a.streams.over_ended e)) in
       record { producer = p'; producer_is = is; active = active; leads = lead ∙ o.leads; opened = (o.opened.0, opened, o.opened.2, o.opened.3, o.opened.4, o.opened.5) }))
 
   pub talk_carried : (fv fv' : Plain) (up down : List Frame) → wants_of fv' ≡ wants_of fv → Talk fv kn pv leader g point link up down → Talk fv' kn pv' leader' g point link up down
@@ -271,37 +289,50 @@ link_carried w w' r r' c c' link up down follower dial stream point member stays
           (r.stream_of (Link (link_number link)) link.consumer.dialed.vb) (r.point_of (link_number link)) link stays a.follower fv' up down kept.wants a.talk);
     }
 
--- a link with an open stream has it open at its producer's vBucket, which is the one that it feeds
-pub stream_opened : (w : PlainWorld) (r : Chronicle) (c : Cluster) (link : PlainLink) (up down : List Frame) → LinkAgrees w r c link up down → (stream : PlainStream) → link.server.stream ≡ Some stream → stream.ended ≡ false
-    → (p : Plain) × (vb_of w (producer_node link) link.consumer.dialed.vb ≡ Some p) × (is_active p.role ≡ true) × (s : Stream) × (stream_at link.server.desk.id p.streams ≡ Some s) × (stream.vb ≡ link.consumer.dialed.vb)
-stream_opened w r c link up down a stream has ended = by a.talk.stands
+-- an open stream of a link is open at its producer's vBucket, which is the one that the link feeds
+pub stream_opened : (w : PlainWorld) (r : Chronicle) (c : Cluster) (link : PlainLink) (up down : List Frame) → LinkAgrees w r c link up down → (v id : ℕ) → HasOpen v id link.server.streams
+    → (p : Plain) × (vb_of w (producer_node link) link.consumer.dialed.vb ≡ Some p) × (is_active p.role ≡ true) × (s : Stream) × (stream_at id p.streams ≡ Some s) × (link.consumer.dialed.vb ≡ v)
+stream_opened w r c link up down a v id has = by a.talk.stands
   where
-    one : (over : Bool) (x : PlainStream) → link.server.stream ≡ kept_stream over x → x ≡ stream
-    one true x e = let z : None ≡ Some stream = sym e ∙ has in cc
-    one false x e = let z : Some x ≡ Some stream = sym e ∙ has in cc
-
     by : {fv : Wants} {kn : Member} {pv : Option Plain} {leader : Member} {g : Option Granted} {point : Option ℕ} {asked said : List Frame} → EndsStand fv kn pv leader g point link.server link.consumer asked said
-        → (p : Plain) × (pv ≡ Some p) × (is_active p.role ≡ true) × (s : Stream) × (stream_at link.server.desk.id p.streams ≡ Some s) × (stream.vb ≡ link.consumer.dialed.vb)
-    by (EndsStand.IsAsking ask none t) = let z : None ≡ Some stream = sym t.no_stream ∙ has in cc
-    by (EndsStand.IsRefusedYet none t) = let z : None ≡ Some stream = sym t.no_stream ∙ has in cc
+        → (p : Plain) × (pv ≡ Some p) × (is_active p.role ≡ true) × (s : Stream) × (stream_at id p.streams ≡ Some s) × (link.consumer.dialed.vb ≡ v)
+    by (EndsStand.IsAsking ask none t) = none_open link.server.streams t.no_stream v id has
+    by (EndsStand.IsRefusedYet none t) = none_open link.server.streams t.no_stream v id has
     by (EndsStand.IsStreaming t) =
-        let same : t.stream ≡ stream = one t.granted_is.over t.stream t.stream_is in
-        let o = t.streams.opens (ap (λ (x : PlainStream). x.ended) same ∙ ended) in
-        (o.producer, o.producer_is, o.active, o.opened.0, o.opened.1, ap (λ (x : PlainStream). x.vb) (sym same) ∙ t.streams.vb_is)
+        let is = open_kept t.granted_is.over t.stream link.server.streams t.stream_is v id has in
+        let o = t.streams.opens is.2 in
+        (o.producer, o.producer_is, o.active, o.opened.0, subst (λ k. stream_at k o.producer.streams ≡ Some o.opened.0) is.1 o.opened.1, sym t.streams.vb_is ∙ is.0)
 
--- an open stream is one that has not ended
-pub open_stream : (o : Option PlainStream) → is_open o ≡ true → (stream : PlainStream) × (o ≡ Some stream) × (stream.ended ≡ false)
-open_stream None e = cc
-open_stream (Some stream) e = (stream, refl, false_from_ne_true stream.ended (λ q. let z : false ≡ true = sym (ap not q) ∙ e in cc))
+-- its producer's streams have numbers that rise, none above the last that it asked for
+pub link_kept : (w : PlainWorld) (r : Chronicle) (c : Cluster) (link : PlainLink) (up down : List Frame) → LinkAgrees w r c link up down → AreKept link.server
+link_kept w r c link up down a = by a.talk.stands
+  where
+    none : link.server.streams ≡ [] → AreKept link.server
+    none e = record { ids = refl; rise = subst Rising (sym e) tt; numbered = subst (All (λ s. s.id ≤ link.server.desk.base * 2 ^ 32 + link.server.asked)) (sym e) (All-nil (λ s. s.id ≤ link.server.desk.base * 2 ^ 32 + link.server.asked)); turn = omega arith }
+
+    one : (stream : PlainStream) → stream.id ≤ link.server.desk.base * 2 ^ 32 + link.server.asked → (over : Bool) → link.server.streams ≡ kept_stream over stream → AreKept link.server
+    one stream low true e = none e
+    one stream low false e = record {
+      ids = refl;
+      rise = subst Rising (sym e) (All-nil (λ s. stream.id < s.id), tt);
+      numbered = subst (All (λ s. s.id ≤ link.server.desk.base * 2 ^ 32 + link.server.asked)) (sym e)
+          (All-cons (λ s. s.id ≤ link.server.desk.base * 2 ^ 32 + link.server.asked) stream [] low (All-nil (λ s. s.id ≤ link.server.desk.base * 2 ^ 32 + link.server.asked)));
+      turn = omega arith;
+    }
+
+    by : {fv : Wants} {kn : Member} {pv : Option Plain} {leader : Member} {g : Option Granted} {point : Option ℕ} {asked said : List Frame} → EndsStand fv kn pv leader g point link.server link.consumer asked said → AreKept link.server
+    by (EndsStand.IsAsking ask is t) = none t.no_stream
+    by (EndsStand.IsRefusedYet is t) = none t.no_stream
+    by (EndsStand.IsStreaming t) = one t.stream t.numbered t.granted_is.over t.stream_is
 
 -- a link between the same ends differs from what it differed from
 pub differ_ends : (link link' y : PlainLink) → SameEnds link link' → Differ link y
-    → (is_open link'.server.stream ≡ true → is_open y.server.stream ≡ true → producer_node link ≡ producer_node y → link.consumer.dialed.vb ≡ y.consumer.dialed.vb → link.server.desk.id ≡ y.server.desk.id → ⊥)
+    → ((v id : ℕ) → HasOpen v id link'.server.streams → HasOpen v id y.server.streams → producer_node link ≡ producer_node y → ⊥)
     → Differ link' y
 differ_ends link link' y same d streams = record {
   number = λ e. d.number (ap (λ x. x.link) (sym same.dialed) ∙ e);
   follower = λ e f. d.follower (ap (λ x. x.node) (sym same.dialed) ∙ e) (ap (λ x. x.vb) (sym same.dialed) ∙ f);
-  stream = λ a b e f g. streams a b (ap (λ x. x.node) (sym same.desk) ∙ e) (ap (λ x. x.vb) (sym same.dialed) ∙ f) (ap (λ x. x.id) (sym same.desk) ∙ g);
+  stream = λ v id a b e. streams v id a b (ap (λ x. x.node) (sym same.desk) ∙ e);
 }
 
 -- the parts of a step that changes one link
@@ -311,8 +342,7 @@ pub carried : (busy busy' : Busy) (w w' : PlainWorld) (r r' : Chronicle) (c c' :
     → c'.tree ≡ c.tree → r'.tree ≡ r.tree → w'.uuids ≡ w.uuids → w'.links ≡ row_put link_number l link' w.links
     → SoundCluster top c' → BusyBut l busy busy'
     → ((x : PlainLink) → IsLink x w.links → Differ link x → LinkAgrees w' r' c' x (busy (link_number x)).0 (busy (link_number x)).1)
-    → ((y : PlainLink) → IsLink y w.links → Differ link y → is_open link'.server.stream ≡ true → is_open y.server.stream ≡ true → producer_node link ≡ producer_node y → link.consumer.dialed.vb ≡ y.consumer.dialed.vb
-    → link.server.desk.id ≡ y.server.desk.id → ⊥)
+    → ((y : PlainLink) → IsLink y w.links → Differ link y → (v id : ℕ) → HasOpen v id link'.server.streams → HasOpen v id y.server.streams → producer_node link ≡ producer_node y → ⊥)
     → RestsIn w' r' c' → LinkAgrees w' r' c' link' (busy' l).0 (busy' l).1 → AgreesIn busy' w' r' c'
 carried busy busy' w w' r r' c c' l link link' a found same vbs disks ctree rtree uuids links sound but others streams rests agrees = record {
   sound = sound;
@@ -322,7 +352,7 @@ carried busy busy' w w' r r' c c' l link link' a found same vbs disks ctree rtre
   branches = branches_again ctree rtree (ids_same uuids) a.branches;
   links = λ x i. each x (subst (IsLink x) links i);
   differ = subst LinksDiffer (sym links)
-      (differ_put l w.links link link' number a.differ (λ y i ne. let d = apart y i ne in differ_ends link link' y same d (λ s. streams y i d s)) found);
+      (differ_put l w.links link link' number a.differ (λ y i ne. let d = apart y i ne in differ_ends link link' y same d (streams y i d)) found);
 }
   where
     is_link : IsLink link w.links × (link_number link ≡ l)

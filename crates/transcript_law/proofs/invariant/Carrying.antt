@@ -1,8 +1,9 @@
 -- what a step at one link changes, and that all else agrees as before
 use Rattle.std.specs.Prelude.{◌≡◌, ◌⊎◌}
-use Rattle.transcript_law.proofs.Words.{ℕ, true, List, Option, Some, None, Plain, stream_at, Sound, row_at, row_put, row_out, Member, Cluster, PlainLink, link_number, producer_node, PlainWorld, Dial}
+use Rattle.transcript_law.proofs.Words.{ℕ, List, Option, Some, None, Plain, stream_at, Sound, row_at, row_put, row_out, Member, Cluster, PlainLink, link_number, producer_node, PlainWorld, Dial}
 use Rattle.{disk_journals.specs.Books.{Book}, node_world.specs.declared.arm.Arm.{Arm}, std.specs.Prelude.{option_map}}
-use Rattle.transcript_law.proofs.{Words.{Chronicle}, invariant.Agreement.{Power, vb_of, power_of, shelf_of, IsLink, is_open, LinksDiffer, Busy, vb_row}}
+use Rattle.transcript_law.proofs.{Words.{Chronicle}, invariant.Agreement.{Power, vb_of, power_of, shelf_of, IsLink, LinksDiffer, Busy, vb_row}}
+use Rattle.transcript_law.specs.Feeding.{HasOpen}
 use Rattle.vb_events.specs.declared.event.StreamName.TheVariants.{Link}
 
 -- a link is between the ends that it was between
@@ -107,13 +108,13 @@ pub record FeedChanged (k : ℕ) (c c' : Cluster) : Type 0 where
 abbrev pub BusyBut : ℕ → Busy → Busy → Type 0
 BusyBut l busy busy' = (k : ℕ) → (k ≡ l → ⊥) → busy' k ≡ busy k
 
--- a link has an open stream only where it had one
+-- a link has no open stream that it had not
 abbrev pub NoNewStream : PlainLink → PlainLink → Type 0
-NoNewStream link link' = is_open link'.server.stream ≡ true → is_open link.server.stream ≡ true
+NoNewStream link link' = (v id : ℕ) → HasOpen v id link'.server.streams → HasOpen v id link.server.streams
 
 -- the world without a link: each vBucket as it was, or an open stream of the link is closed at its producer's
 abbrev pub Closed : PlainWorld → PlainWorld → PlainLink → Type 0
-Closed w w' link = (pv pv' : Plain) × (is_open link.server.stream ≡ true) × (vb_of w (producer_node link) link.consumer.dialed.vb ≡ Some pv) × StreamsChanged link.server.desk.id pv pv'
+Closed w w' link = (id : ℕ) × (pv pv' : Plain) × HasOpen link.consumer.dialed.vb id link.server.streams × (vb_of w (producer_node link) link.consumer.dialed.vb ≡ Some pv) × StreamsChanged id pv pv'
     × Changed w w' (producer_node link) link.consumer.dialed.vb pv' (row_out link_number (link_number link) w.links) × (shelf_of w' (producer_node link) link.consumer.dialed.vb ≡ shelf_of w (producer_node link) link.consumer.dialed.vb)
 
 abbrev pub BecameOver : PlainWorld → PlainWorld → PlainLink → Type 0

@@ -3,7 +3,7 @@ use Rattle.std.specs.Prelude.{◌≡◌, ◌∷◌, ◌++◌}
 use Rattle.transcript_law.proofs.Words.{ℕ, List, [], refl, ap, inl, inr, ⊎_elim, fold, length, take, Option, Some, None, is_some, row_at, States, after, after_job, Cause, EndReason, Role, Plain}
 use Rattle.transcript_law.proofs.Words.{PlainLink, link_number, producer_node, consumer_node, PlainNode, PlainWorld, Told, Outcome, DialResult, with_node_at, with_links, with_states, node_outcome, own_link, moved_len, peer_of, dial_of, dial_bytes, over_why, up_at, pump_at, refusal, refused_or, first_cause, done}
 use Rattle.transcript_law.proofs.Words.{PlainSession, new_session, bytes_at, bytes_if, client_at, hang_at, cut_outcome, with_client, with_dialed, link_outcome, on_link, with_link, StreamAsk, new_link, new_vb, peer_pulled, with_vb_at}
-use Rattle.transcript_law.proofs.{invariant.Agreement.{IsLink}, invariant.FedNodes.{pump_owned, up_owned}, invariant.Feeding.{AllFed, Fine, broken_fine, quiet_fine, served_fed, swapped, unlinked_fine}, invariant.LinkRows.{found_is_link}, verbs.Leaving.{own_found}}
+use Rattle.transcript_law.proofs.{invariant.Agreement.{IsLink}, invariant.FedNodes.{pump_held, up_held}, invariant.Feeding.{AllFed, AllKept, Fine, broken_fine, quiet_fine, served_fed, swapped, unlinked_fine}, invariant.LinkRows.{found_is_link}, verbs.Leaving.{own_found}}
 use Rattle.transcript_law.proofs.{invariant.Quiets.{bytes_quiet, due_quiet, fed_quiet, flush_quiet, posts_quiet, start_quiet}, invariant.Unopened.{NoNew, either, none_new, put_new, step_new}}
 use Rattle.transcript_law.specs.Feeding.{HasIn}
 use Rattle.journal_points.specs.Points.{saved}
@@ -118,8 +118,8 @@ module _ (w : PlainWorld) (fine : Fine w) where
   same_fine : (link : PlainLink) → IsLink link w.links → Fine (relinked link (Some link) w)
   same_fine link is = swapped w link link fine is refl refl
 
-  pub up_fed : (l wanted : ℕ) → AllFed (on_link w l producer_node (up_at wanted)).0
-  up_fed l wanted = by (row_at link_number l w.links) refl
+  pub up_fed : AllKept w → (l wanted : ℕ) → AllFed (on_link w l producer_node (up_at wanted)).0
+  up_fed kept l wanted = by (row_at link_number l w.links) refl
     where
       at : (link : PlainLink) → IsLink link w.links → (o : Option PlainNode) → w.nodes (producer_node link) ≡ o
           → AllFed (with_link link (node_outcome w (producer_node link) (Some link, refusal Cause.UnknownNode) o (up_at wanted link))).0
@@ -128,14 +128,14 @@ module _ (w : PlainWorld) (fine : Fine w) where
           let piece : List ℕ = take (moved_len wanted link.up) link.up in
           let x = frames_up (peer_frames piece (peer_of link)) (node, untold_peer (peer_heard piece (peer_of link))) in
           served_fed w link (with_up link (moved_len wanted link.up) x.1) fine is (producer_node link) node x.0 refl e
-          (given_desk piece (peer_of link) node) (λ others owned. up_owned others wanted link node owned)
+          (given_desk piece (peer_of link) node) (λ others owned. (up_held others wanted link node (owned, kept link is)).0)
 
       by : (o : Option PlainLink) → row_at link_number l w.links ≡ o → AllFed (link_outcome w l producer_node (up_at wanted) o).0
       by None e = fine.fed
       by (Some link) e = at link (found_is_link l w.links link e).0 (w.nodes (producer_node link)) refl
 
-  pub pump_fed : (l frames : ℕ) → AllFed (on_link w l producer_node (pump_at frames)).0
-  pump_fed l frames = by (row_at link_number l w.links) refl
+  pub pump_fed : AllKept w → (l frames : ℕ) → AllFed (on_link w l producer_node (pump_at frames)).0
+  pump_fed kept l frames = by (row_at link_number l w.links) refl
     where
       at : (link : PlainLink) → IsLink link w.links → (o : Option PlainNode) → w.nodes (producer_node link) ≡ o
           → AllFed (with_link link (node_outcome w (producer_node link) (Some link, refusal Cause.UnknownNode) o (pump_at frames link))).0
@@ -143,7 +143,7 @@ module _ (w : PlainWorld) (fine : Fine w) where
       at link is (Some node) e =
           let x = after (peer_pulled frames (peer_of link)) node.vbs in
           served_fed w link (with_server link x.1.peer x.1.out) fine is (producer_node link) node (with_states node x.0) refl e
-          (pulled_desk frames (peer_of link) node.vbs) (λ others owned. pump_owned others frames link node owned)
+          (pulled_desk frames (peer_of link) node.vbs) (λ others owned. (pump_held others frames link node (owned, kept link is)).0)
 
       by : (o : Option PlainLink) → row_at link_number l w.links ≡ o → AllFed (link_outcome w l producer_node (pump_at frames) o).0
       by None e = fine.fed

@@ -1,19 +1,20 @@
 -- each stream of a vBucket is that of an open link, also after each line
 use Rattle.std.specs.Prelude.{◌≡◌, ◌∷◌, ◌⊎◌, ◌==◌, if◌then◌else◌}
-use Rattle.transcript_law.proofs.Words.{ℕ, Bool, true, false, List, [], refl, ap, sym, ◌∙◌, subst, inl, inr, ⊎_elim, filter, list_any, ◌&&◌, Option, Some, None, is_some, option_map, eqb-true, eqb-false, row_put, States, after, Cause}
-use Rattle.transcript_law.proofs.Words.{PlainLink, link_number, producer_node, PlainNode, PlainWorld, PlainStream, Told, Outcome, AdminCall, AdminResult, vb_in, with_node_at, with_links, node_outcome, node_if, on_node, unlinked, own_link, cut_off, link_ended, ended_by, ended_in, end_closed, Plain, close_row}
-use Rattle.transcript_law.proofs.Words.{stream_closed, refusal, called_at, no_node, turned_after, turned_if, with_ended, role_outcome}
+use Rattle.transcript_law.proofs.Words.{ℕ, Bool, true, false, List, [], refl, ap, sym, ◌∙◌, subst, inl, inr, ⊎_elim, filter, list_any, map, ◌&&◌, Option, Some, None, is_some, eqb-true, eqb-false, row_put, States, after, Cause}
+use Rattle.transcript_law.proofs.Words.{PlainLink, link_number, producer_node, PlainNode, PlainWorld, PlainStream, Told, Outcome, AdminCall, AdminResult, vb_in, with_node_at, with_links, node_outcome, node_if, on_node, unlinked, own_link, cut_off, link_ended, ended_by, ended_in, end_closed}
+use Rattle.transcript_law.proofs.Words.{refusal, called_at, no_node, turned_after, turned_if, with_ended, role_outcome}
 use Rattle.transcript_law.proofs.{invariant.Agreement.{IsLink}, invariant.Carried.{numbers}, verbs.Leaving.{own_found}, invariant.Numbered.{Numbers, numbers_out, numbers_passed, numbers_put, numbers_told, one_of_number, out_other, passed, put_in, put_other, told_there}}
-use Rattle.transcript_law.proofs.{invariant.Openings.{AreOwned}, invariant.Quiets.{Ends, found_at_own, posts_quiet}, invariant.Unopened.{NoNew, closed_has, either, step_new}}
-use Rattle.transcript_law.specs.Feeding.{HasIn, HasStream, IsOf, IsOpenAt}
+use Rattle.transcript_law.proofs.{invariant.OpenStreams.{AreKept}, invariant.Openings.{AreOwned}, invariant.Quiets.{Ends, posts_quiet}, invariant.Unopened.{NoNew, closed_here, either, step_new}}
+use Rattle.transcript_law.specs.Feeding.{HasIn, HasOpen, HasStream, IsOf, IsOpenAt}
 use Rattle.node_core.specs.Admin.{admin_refused}
 use Rattle.node_world.specs.{Arms.{fired_by, placed, under_arm}, Cuts.{closed_at}, Nodes.{all_posted, if_up}, Worlds.{arm_in, on_made}}
 use Rattle.node_world.specs.Power.{after_broken, after_fire, all_cut, all_unlinked, dropped, is_broken_answer, stopped_node, touches, with_arm, with_broken}
 use Rattle.node_world.specs.Turns.{posted_at, posted_in, role_called, turned}
 use Rattle.node_world.specs.declared.arm.Fired.{Fired}
 use Rattle.node_world.specs.declared.arm.Fired.TheVariants as fired
-use Rattle.vb_calls.specs.Programs.{Prog, Done, Call}
-use Rattle.vb_calls.specs.States.{call_at, states_step}
+use Rattle.vb_calls.specs.Programs.{Call}
+use Rattle.vb_calls.specs.States.{states_step}
+use Rattle.dcp_producer.specs.Ending.{streams_closed}
 use Rattle.vb_calls.specs.declared.calls.Resolved.{Resolved}
 use Rattle.vb_calls.specs.declared.calls.VbCall.TheVariants as call
 use Rattle.vb_disk.specs.declared.made.Outcome.{Outcome as Left}
@@ -24,6 +25,10 @@ Fed links n v id = (link : PlainLink) × IsLink link links × IsOf n v id link
 
 abbrev pub AllFed : PlainWorld → Type 0
 AllFed w = (n v id : ℕ) → HasStream w n v id → Fed w.links n v id
+
+-- the streams of each link's producer are kept
+abbrev pub AllKept : PlainWorld → Type 0
+AllKept w = (link : PlainLink) → IsLink link w.links → AreKept link.server
 
 -- and no two links have one number
 pub record Fine (w : PlainWorld) : Type 0 where
@@ -74,13 +79,13 @@ module _ (w : PlainWorld) (link link' : PlainLink) (fine : Fine w) (is : IsLink 
 
   -- its producer did something at its node
   module _ (n : ℕ) (node node' : PlainNode) (at : producer_node link ≡ n) (known : w.nodes n ≡ Some node) (desk : link'.server.desk ≡ link.server.desk)
-      (owned : (others : ℕ → ℕ → Type 0) → AreOwned others link.server.desk.id node.vbs link.server.stream → AreOwned others link.server.desk.id node'.vbs link'.server.stream) where
-    before : AreOwned (Others n) link.server.desk.id node.vbs link.server.stream
-    before v id h = ⊎_elim (λ o. inl o) (λ of. inr (sym of.under, of.stream)) (split n v id (fine.fed n v id (subst (λ o. HasIn (vb_in o v) id) (sym known) h)))
+      (owned : (others : ℕ → ℕ → Type 0) → AreOwned others node.vbs link.server.streams → AreOwned others node'.vbs link'.server.streams) where
+    before : AreOwned (Others n) node.vbs link.server.streams
+    before v id h = ⊎_elim (λ o. inl o) (λ of. inr of.stream) (split n v id (fine.fed n v id (subst (λ o. HasIn (vb_in o v) id) (sym known) h)))
 
     here : (v id : ℕ) → HasIn (node'.vbs v) id → Fed put_links n v id
     here v id h = ⊎_elim (λ o. others_put n v id o)
-        (λ own. (link', put_in (link_number link) link' w.links link is refl, record { producer = ap (λ d. d.node) desk ∙ at; stream = own.1; under = ap (λ d. d.id) desk ∙ sym own.0 }))
+        (λ own. (link', put_in (link_number link) link' w.links link is refl, record { producer = ap (λ d. d.node) desk ∙ at; stream = own }))
         (owned (Others n) before v id h)
 
     there : (m v id : ℕ) → (m == n) ≡ false → HasStream w m v id → Fed put_links m v id
@@ -98,48 +103,36 @@ module _ (w : PlainWorld) (link link' : PlainLink) (fine : Fine w) (is : IsLink 
   swapped server number = record {
     numbers = numbers_put (link_number link) link' w.links number fine.numbers;
     fed = λ n v id h. ⊎_elim (λ o. others_put n v id o)
-        (λ of. (link', put_in (link_number link) link' w.links link is refl, record { producer = ap (λ s. s.desk.node) server ∙ of.producer; stream = subst (IsOpenAt v) (sym (ap (λ s. s.stream) server)) of.stream; under = ap (λ s. s.desk.id) server ∙ of.under }))
+        (λ of. (link', put_in (link_number link) link' w.links link is refl, record { producer = ap (λ s. s.desk.node) server ∙ of.producer; stream = subst (HasOpen v id) (sym (ap (λ s. s.streams) server)) of.stream }))
         (split n v id (fine.fed n v id h));
   }
 
 -- ---- a link that is over
 
--- its stream is closed
-closed_here : (states : States) (q i : ℕ) → HasIn ((states_step states q (call.CloseStream i)).0 q) i → ⊥
-closed_here states q i = by (states q) refl
+-- its open streams are closed
+closed_none : (streams : List PlainStream) (states : States) (v id : ℕ) → HasIn ((after (streams_closed streams) states).0 v) id → HasIn (states v) id × (HasOpen v id streams → ⊥)
+closed_none [] states v id = λ h. (h, λ o. o)
+closed_none (stream ∷ more) states v id = by (λ st. closed_none more st v id) stream.ended refl
   where
-    by : (o : Option Plain) → states q ≡ o → HasIn ((call_at states q (call.CloseStream i) o).0 q) i → ⊥
-    by None e h = subst (λ o. HasIn o i) e h
-    by (Some vb) e h = (closed_has i i vb.streams (subst (λ o. HasIn o i) (found_at_own states q (close_row vb i).0) h)).1 refl
-
-abbrev closing : ℕ → PlainStream → Bool → Prog (Unit {0})
-closing id stream ended = if ended then Done tt else Call stream.vb (call.CloseStream id) (λ reply. Done tt)
-
-closed_none : (link : PlainLink) (states : States) (v id : ℕ) → HasIn ((after (end_closed link.server) states).0 v) id → HasIn (states v) id × (id ≡ link.server.desk.id → IsOpenAt v link.server.stream → ⊥)
-unfolding end_closed
-closed_none link states v id h = by link.server.stream h
-  where
-    at : (stream : PlainStream) (b : Bool) → stream.ended ≡ b → HasIn ((after (closing link.server.desk.id stream b) states).0 v) id → HasIn (states v) id × (id ≡ link.server.desk.id → IsOpenAt v (Some stream) → ⊥)
-    at stream true e h = (h, λ q o. let z : true ≡ false = sym e ∙ o.1 in cc)
-    at stream false e h = (
-      step_new states stream.vb (call.CloseStream link.server.desk.id) tt v id h,
-      λ q o. closed_here states stream.vb link.server.desk.id
-          (subst (λ k. HasIn ((states_step states stream.vb (call.CloseStream link.server.desk.id)).0 stream.vb) k) q (subst (λ u. HasIn ((states_step states stream.vb (call.CloseStream link.server.desk.id)).0 u) id) (sym o.0) h)),
-    )
-
-    by : (o : Option PlainStream) → HasIn ((after (stream_closed link.server.desk.id o) states).0 v) id → HasIn (states v) id × (id ≡ link.server.desk.id → IsOpenAt v o → ⊥)
-    by None h = (h, λ q o. o)
-    by (Some stream) h = at stream stream.ended refl h
+    by : ((st : States) → HasIn ((after (streams_closed more) st).0 v) id → HasIn (st v) id × (HasOpen v id more → ⊥)) → (b : Bool) → stream.ended ≡ b → HasIn ((after (if b then streams_closed more else Call stream.vb (call.CloseStream stream.id) (λ reply. streams_closed more)) states).0 v) id
+        → HasIn (states v) id × (HasOpen v id (stream ∷ more) → ⊥)
+    by rest true e h = let p = rest states h in (p.0, λ o. ⊎_elim (λ q. let z : true ≡ false = sym e ∙ q.2 in cc) p.1 o)
+    by rest false e h =
+        let mid : States = (states_step states stream.vb (call.CloseStream stream.id)).0 in let p = rest mid h in (
+          step_new states stream.vb (call.CloseStream stream.id) tt v id p.0,
+          λ o. ⊎_elim (λ q. closed_here states stream.vb stream.id (subst (HasIn (mid stream.vb)) (sym q.1) (subst (λ u. HasIn (mid u) id) (sym q.0) p.0))) p.1 o,
+        )
 
 module _ (w : PlainWorld) (link : PlainLink) where
   -- all other streams are left
   left : (m v id : ℕ) → HasStream (unlinked link w) m v id → HasStream w m v id × (IsOf m v id link → ⊥)
+  unfolding end_closed
   left m v id h = by (w.nodes (producer_node link)) refl h
     where
       at : (node : PlainNode) → w.nodes (producer_node link) ≡ Some node → (b : Bool) → (m == producer_node link) ≡ b → HasIn (vb_in (if b then Some (closed_at link node) else w.nodes m) v) id → HasStream w m v id × (IsOf m v id link → ⊥)
       at node e true t h =
-          let p = closed_none link node.vbs v id h in
-          (subst (λ o. HasIn (vb_in o v) id) (sym (ap w.nodes (eqb-true m (producer_node link) t) ∙ e)) p.0, λ of. p.1 (sym of.under) of.stream)
+          let p = closed_none link.server.streams node.vbs v id h in
+          (subst (λ o. HasIn (vb_in o v) id) (sym (ap w.nodes (eqb-true m (producer_node link) t) ∙ e)) p.0, λ of. p.1 of.stream)
       at node e false t h = (h, λ of. eqb-false m (producer_node link) t (sym of.producer))
 
       by : (o : Option PlainNode) → w.nodes (producer_node link) ≡ o → HasIn (vb_in ((node_if (producer_node link) (closed_at link) w o).nodes m) v) id → HasStream w m v id × (IsOf m v id link → ⊥)
@@ -198,16 +191,16 @@ posts_in_fine n rs o fine = by (o.0.nodes n) refl
 known_of : (n v : ℕ) (ids : List ℕ) (m q id : ℕ) (x : PlainLink) → (m ≡ n → q ≡ v → ⊥) → IsOf m q id x → IsOf m q id (link_ended n v ids x)
 known_of n v ids m q id x apart of = by (producer_node x == n) refl
   where
-    goes_on : m ≡ n → (o : Option PlainStream) → IsOpenAt q o → IsOpenAt q (option_map (ended_in v ids x.server.desk.id) o)
-    goes_on same None h = absurd h
-    goes_on same (Some s) h = at (s.vb == v) refl
+    goes_on : m ≡ n → (streams : List PlainStream) → HasOpen q id streams → HasOpen q id (map (ended_in v ids) streams)
+    goes_on same [] h = absurd h
+    goes_on same (s ∷ more) h = ⊎_elim (λ o. inl (at o (s.vb == v) refl)) (λ j. inr (goes_on same more j)) h
       where
-        at : (b : Bool) → (s.vb == v) ≡ b → IsOpenAt q (Some (if b && list_any (λ i. i == x.server.desk.id) ids then record s { ended = true } else s))
-        at true e = absurd (apart same (sym h.0 ∙ eqb-true s.vb v e))
-        at false e = h
+        at : IsOpenAt q id s → (b : Bool) → (s.vb == v) ≡ b → IsOpenAt q id (if b && list_any (λ i. i == s.id) ids then record s { ended = true } else s)
+        at o true e = absurd (apart same (sym o.0 ∙ eqb-true s.vb v e))
+        at o false e = o
 
     by : (b : Bool) → (producer_node x == n) ≡ b → IsOf m q id (if b then record x { server = ended_by v ids x.server } else x)
-    by true e = record { producer = of.producer; under = of.under; stream = goes_on (sym of.producer ∙ eqb-true (producer_node x) n e) x.server.stream of.stream }
+    by true e = record { producer = of.producer; stream = goes_on (sym of.producer ∙ eqb-true (producer_node x) n e) x.server.streams of.stream }
     by false e = of
 
 module _ (w : PlainWorld) (n v : ℕ) (node node' : PlainNode) (ids : List ℕ) (fine : Fine w) (known : w.nodes n ≡ Some node) (ends : Ends node.vbs node'.vbs v) where

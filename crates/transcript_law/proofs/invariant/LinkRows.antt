@@ -34,7 +34,7 @@ pub differ_sym : (x y : PlainLink) → Differ x y → Differ y x
 differ_sym x y d = record {
   number = λ e. d.number (sym e);
   follower = λ e f. d.follower (sym e) (sym f);
-  stream = λ a b e f g. d.stream b a (sym e) (sym f) (sym g);
+  stream = λ v id a b e. d.stream v id b a (sym e);
 }
 
 -- two links of one number are one

@@ -1,10 +1,10 @@
 -- the streams of vBuckets are those of open links, and the other way round, after every script
 use Rattle.std.specs.Prelude.{◌≡◌, ◌∷◌, ◌⊎◌, ◌==◌, if◌then◌else◌}
 use Rattle.transcript_law.proofs.Words.{ℕ, true, false, List, [], refl, ap, sym, ◌∙◌, subst, inl, inr, ⊎_elim, Option, Some, None, not, eqb-true, All-head, All-tail, ScriptLine, VerbFits, ScriptFits, Stream, Plain, stream_at}
-use Rattle.transcript_law.proofs.Words.{Cluster, PlainNode, PlainWorld, PlainLink, PlainStream, link_number, producer_node, consumer_node, vb_in, with_branches, verb_step, world_step, empty_world, Chronicle, empty_chronicle, world_of}
-use Rattle.transcript_law.proofs.{invariant.Agreement.{Agrees, AgreesIn, IsLink, idle, is_down, is_open, vb_of}, invariant.Carried.{numbers, stream_opened}, disks.Disks.{power_in}, invariant.Feeding.{AllFed}, invariant.LinkRows.{found_is_link, links_apart}, invariant.Numbered.{numbered, numbers_of}}
+use Rattle.transcript_law.proofs.Words.{Cluster, PlainNode, PlainWorld, PlainLink, link_number, producer_node, consumer_node, vb_in, with_branches, verb_step, world_step, empty_world, Chronicle, empty_chronicle, world_of}
+use Rattle.transcript_law.proofs.{invariant.Agreement.{Agrees, AgreesIn, IsLink, idle, is_down, vb_of}, invariant.Carried.{link_kept, numbers, stream_opened}, disks.Disks.{power_in}, invariant.Feeding.{AllFed, AllKept}, invariant.LinkRows.{found_is_link, links_apart}, invariant.Numbered.{numbered, numbers_of}}
 use Rattle.transcript_law.proofs.{invariant.Ranged.{IsRanged, start_ranged}, Runs.{group_agrees, row_of, start}, verbs.Rows.{Row}}
-use Rattle.transcript_law.specs.Feeding.{Has, HasIn, HasStream, IsOf, IsOpenAt, LinksAreFed, StreamsAreLinks}
+use Rattle.transcript_law.specs.Feeding.{Has, HasIn, HasStream, IsOf, LinksAreFed, StreamsAreLinks}
 use Rattle.transcript_law.specs.Chronicles.{after_group}
 use Rattle.transcript_law.specs.Prefixes.{world_after}
 use Rattle.node_world.specs.Worlds.{is_off, is_up}
@@ -13,10 +13,6 @@ found_has : (id : ℕ) (ss : List Stream) (s : Stream) → stream_at id ss ≡ S
 found_has id [] s e = cc
 found_has id (x ∷ xs) s e = elim (x.id == id) as (λ b. (x.id == id) ≡ b → (if b then Some x else stream_at id xs) ≡ Some s → (x.id ≡ id) ⊎ Has xs id)
     [ true ↦ λ t q. inl (eqb-true x.id id t) | false ↦ λ t q. inr (found_has id xs s q) ] refl e
-
-open_at : (v : ℕ) (o : Option PlainStream) → IsOpenAt v o → is_open o ≡ true
-open_at v None h = absurd h
-open_at v (Some stream) h = ap not h.1
 
 -- nodes that are not down
 not_down : (o : Option PlainNode) → is_down (power_in o) ≡ false → is_off o ≡ false
@@ -30,17 +26,15 @@ up_of (Some node) v vb there e = ap not e
 module _ (w : PlainWorld) (r : Chronicle) (c : Cluster) (a : AgreesIn idle w r c) where
   -- an open link's stream is there
   there : (link : PlainLink) → IsLink link w.links → (n v id : ℕ) → IsOf n v id link → HasStream w n v id × (link.consumer.dialed.vb ≡ v)
-  there link i n v id of = by link.server.stream refl of.stream
-    where
-      by : (o : Option PlainStream) → link.server.stream ≡ o → IsOpenAt v o → HasStream w n v id × (link.consumer.dialed.vb ≡ v)
-      by None e h = absurd h
-      by (Some stream) e h =
-          let (p, is, active, s, opened, on) = stream_opened w r c link [] [] (a.links link i) stream e h.1 in
-          let own : link.consumer.dialed.vb ≡ v = sym on ∙ h.0 in (
-            subst (λ m. HasIn (vb_of w m v) id) of.producer
-                (subst (λ q. HasIn (vb_of w (producer_node link) q) id) own (subst (λ x. HasIn x id) (sym is) (subst (Has p.streams) of.under (found_has link.server.desk.id p.streams s opened)))),
-            own,
-          )
+  there link i n v id of =
+      let (p, is, active, s, opened, own) = stream_opened w r c link [] [] (a.links link i) v id of.stream in (
+        subst (λ m. HasIn (vb_of w m v) id) of.producer (subst (λ q. HasIn (vb_of w (producer_node link) q) id) own (subst (λ x. HasIn x id) (sym is) (found_has id p.streams s opened))),
+        own,
+      )
+
+  -- the numbers of the streams of links
+  pub all_kept : AllKept w
+  all_kept link i = link_kept w r c link [] [] (a.links link i)
 
   pub streams_are_links : AllFed w → StreamsAreLinks w
   streams_are_links fed = record {
@@ -48,8 +42,7 @@ module _ (w : PlainWorld) (r : Chronicle) (c : Cluster) (a : AgreesIn idle w r c
     opened = λ l n v id link is of. there link (found_is_link l w.links link is).0 n v id of;
     apart = λ l k n v id link other is has of by.
         let p = found_is_link l w.links link is in let q = found_is_link k w.links other has in
-        ⊎_elim (λ e. e) (λ ne. absurd ((links_apart link other w.links a.differ p.0 q.0 (λ e. ne (sym p.1 ∙ e ∙ q.1))).stream (open_at v link.server.stream of.stream) (open_at v other.server.stream by.stream)
-        (of.producer ∙ sym by.producer) ((there link p.0 n v id of).1 ∙ sym (there other q.0 n v id by).1) (of.under ∙ sym by.under))) (numbers l k);
+        ⊎_elim (λ e. e) (λ ne. absurd ((links_apart link other w.links a.differ p.0 q.0 (λ e. ne (sym p.1 ∙ e ∙ q.1))).stream v id of.stream by.stream (of.producer ∙ sym by.producer))) (numbers l k);
   }
 
   pub links_are_fed : LinksAreFed w
@@ -72,7 +65,7 @@ linked_from w r (line ∷ lines) fits ranged a fed =
     let fit = All-head (λ (x : ScriptLine). VerbFits x.verb) line lines fits in let outcome = verb_step w line.line line.verb in let row : Row w line.verb outcome = row_of w line.line line.verb in
     linked_from (with_branches outcome.1.events outcome.0) (after_group r line.verb outcome.1.events outcome.1.answer) lines (All-tail (λ (x : ScriptLine). VerbFits x.verb) line lines fits)
     (row.ranged fit ranged) (group_agrees w r line.line line.verb fit ranged a)
-    (row.fed (record { numbers = numbers_of w.links a.1.differ; fed = fed }))
+    (row.fed (record { numbers = numbers_of w.links a.1.differ; fed = fed }) (all_kept w r a.0 a.1))
 
 -- after a script
 pub streams_linked : (script : List ScriptLine) → ScriptFits script → StreamsAreLinks (world_of script) × LinksAreFed (world_of script)

@@ -3,13 +3,13 @@ use Rattle.std.specs.Prelude.{◌≡◌, ◌⊎◌, if◌then◌else◌}
 use Rattle.transcript_law.proofs.Words.{ℕ, true, false, List, refl, ap, sym, ◌∙◌, subst, inl, ⊎_elim, Some, None, Member, Cluster, Move, SoundCluster, happens, put, keeps, eq-eqb, ne_eqb}
 use Rattle.transcript_law.proofs.Words.{Stream, Plain, Frame, is_active, is_follower, stream_at, row_at, row_put, row_out, PlainLink, link_number, producer_node, consumer_node, PlainWorld, Chronicle}
 use Rattle.transcript_law.proofs.invariant.Carrying.{SameEnds, Became, NoNewStream, BecameOver, Relinked, BusyBut, Changed, Closed, IsApart, ToldOf, TakenOf, StreamsChanged, MemberChanged, FedMember, FeedChanged}
-use Rattle.transcript_law.proofs.{invariant.Seats.{seat, seats_apart}, invariant.Agreement.{vb_of, VbAgrees, AgreesAt, consumer_seat, producer_seat, LinkAgrees, IsLink, is_open, Differ, LinksDiffer, top, Busy, AgreesIn}}
+use Rattle.transcript_law.proofs.{invariant.Seats.{seat, seats_apart}, invariant.Agreement.{vb_of, VbAgrees, AgreesAt, consumer_seat, producer_seat, LinkAgrees, IsLink, Differ, LinksDiffer, top, Busy, AgreesIn}}
 use Rattle.transcript_law.proofs.{invariant.LinkRows.{found_is_link, links_apart, out_links, differ_out}, invariant.Carried.{places, not_both, fed_same, fed_all, disks_all, KeptVb, kept_same, told_at, taken_at, vb_carried, agrees_carried}}
-use Rattle.transcript_law.proofs.invariant.Carried.{StaysProducer, link_carried, stream_opened, open_stream, carried, consumer_made, consumers_apart, branches_again, ids_same, kept_streams, no_writer, all_vbs}
+use Rattle.transcript_law.proofs.invariant.Carried.{StaysProducer, link_carried, stream_opened, carried, consumer_made, consumers_apart, branches_again, ids_same, kept_streams, no_writer, all_vbs}
 use Rattle.cluster_model.specs.Clusters.{Disk, cut}
 use Rattle.transcript_law.proofs.{invariant.Agreement.{DiskIsIf, EndsUp, RestsIn, VbRow, power_of, shelf_of}, disks.Disks.{SameParts, disk_same, parts_of, same_parts}}
 use Rattle.transcript_law.proofs.{invariant.Agreement.{IsArm, Power, PowerIs, PowerIsIf}, invariant.Carrying.{Rearmed, SameOffs, SamePowers, off_of}, invariant.LinkRows.{put_links}, invariant.Resting.{StillAt, ends_again, ends_off, ends_same, rests_by, rests_with}, invariant.Tables.{id_here, id_there}}
-use Rattle.{node_world.specs.declared.arm.Arm.{Arm}, transcript_law.proofs.invariant.Carried.{numbers}, transcript_law.proofs.Words.{with_id}, transcript_law.specs.Chronicles.{ArmKnown}}
+use Rattle.{node_world.specs.declared.arm.Arm.{Arm}, transcript_law.specs.Feeding.{HasOpen}, transcript_law.proofs.invariant.Carried.{numbers}, transcript_law.proofs.Words.{with_id}, transcript_law.specs.Chronicles.{ArmKnown}}
 
 -- the cluster with another member at k
 
@@ -74,15 +74,15 @@ module _ (busy : Busy) (w : PlainWorld) (r r' : Chronicle) (c c' : Cluster) (l :
     quiet_link w' same x i d = link_carried w w' r r' c c' x (busy (link_number x)).0 (busy (link_number x)).1
         (λ fv e. (fv, same (consumer_node x) x.consumer.dialed.vb ∙ e, kept_same fv))
         (told.dials (link_number x) (other_number x d)) (told.streams (link_number x) x.consumer.dialed.vb (other_number x d)) (told.points (link_number x) (other_number x d)) (fed.changed.others (consumer_seat x) (consumers_apart link x d))
-        (λ p s e active opened has. (p, same (producer_node x) x.consumer.dialed.vb ∙ e, active, opened, (fed_all (consumer_seat link) c c' fed (producer_seat x)).br))
+        (λ p id s e active opened has. (p, same (producer_node x) x.consumer.dialed.vb ∙ e, active, opened, (fed_all (consumer_seat link) c c' fed (producer_seat x)).br))
         (a.links x i)
 
-    module _ (w' : PlainWorld) (links : List PlainLink) (pv pv' : Plain) (known : vb_of w (producer_node link) link.consumer.dialed.vb ≡ Some pv) (changed : StreamsChanged link.server.desk.id pv pv')
-        (became : Changed w w' (producer_node link) link.consumer.dialed.vb pv' links) (free : (is_open link.server.stream ≡ true) ⊎ (stream_at link.server.desk.id pv.streams ≡ None)) where
+    module _ (w' : PlainWorld) (links : List PlainLink) (id : ℕ) (pv pv' : Plain) (known : vb_of w (producer_node link) link.consumer.dialed.vb ≡ Some pv) (changed : StreamsChanged id pv pv')
+        (became : Changed w w' (producer_node link) link.consumer.dialed.vb pv' links) (free : HasOpen link.consumer.dialed.vb id link.server.streams ⊎ (stream_at id pv.streams ≡ None)) where
       producer_vbs : (n v : ℕ) → AgreesAt r' n v (c'.nodes (seat n v)) (vb_of w' n v)
       producer_vbs = all_vbs w w' (producer_node link) link.consumer.dialed.vb pv' (λ n v o. AgreesAt r' n v (c'.nodes (seat n v)) o) became.here became.there
           (vb_carried r r' (producer_node link) link.consumer.dialed.vb (c.nodes (producer_seat link)) (c'.nodes (producer_seat link)) (told_at l r r' (producer_node link) link.consumer.dialed.vb told)
-          (fed_all (consumer_seat link) c c' fed (producer_seat link)) link.server.desk.id pv pv' changed
+          (fed_all (consumer_seat link) c c' fed (producer_seat link)) id pv pv' changed
           (subst (AgreesAt r (producer_node link) link.consumer.dialed.vb (c.nodes (producer_seat link))) known (a.vbs (producer_node link) link.consumer.dialed.vb))) (λ n v o. quiet_vb n v)
 
       producer_disks : (shelf_of w' (producer_node link) link.consumer.dialed.vb ≡ shelf_of w (producer_node link) link.consumer.dialed.vb) → (n v : ℕ) → DiskIsIf (r'.disk_at n v) (c'.disks (seat n v)) (shelf_of w' n v) (vb_of w' n v)
@@ -109,38 +109,35 @@ module _ (busy : Busy) (w : PlainWorld) (r r' : Chronicle) (c c' : Cluster) (l :
           there_told ends
 
       -- no other link's stream is open there under its number
-      clash : (y : PlainLink) (s : Stream) → Differ link y → producer_node y ≡ producer_node link → y.consumer.dialed.vb ≡ link.consumer.dialed.vb → stream_at y.server.desk.id pv.streams ≡ Some s
-          → is_open y.server.stream ≡ true → y.server.desk.id ≡ link.server.desk.id → ⊥
-      clash y s d e f opened has id = ⊎_elim (λ had. d.stream had has (sym e) (sym f) (sym id))
-          (λ none. let z : stream_at y.server.desk.id pv.streams ≡ None = ap (λ k. stream_at k pv.streams) id ∙ none in cc) free
+      clash : (y : PlainLink) (k : ℕ) (s : Stream) → Differ link y → producer_node y ≡ producer_node link → stream_at k pv.streams ≡ Some s → HasOpen link.consumer.dialed.vb k y.server.streams → k ≡ id → ⊥
+      clash y k s d e opened has q = ⊎_elim (λ had. d.stream link.consumer.dialed.vb k (subst (λ j. HasOpen link.consumer.dialed.vb j link.server.streams) (sym q) had) has (sym e))
+          (λ none. let z : stream_at k pv.streams ≡ None = ap (λ j. stream_at j pv.streams) q ∙ none in cc) free
 
-      producer_streams : (y : PlainLink) → IsLink y w.links → Differ link y → is_open y.server.stream ≡ true → producer_node link ≡ producer_node y → link.consumer.dialed.vb ≡ y.consumer.dialed.vb
-          → link.server.desk.id ≡ y.server.desk.id → ⊥
-      producer_streams y i d has e f id =
-          let (stream, kept, ended) = open_stream y.server.stream has in
-          let (p, is, active, s, opened, at) = stream_opened w r c y (busy (link_number y)).0 (busy (link_number y)).1 (a.links y i) stream kept ended in
-          let same : p ≡ pv = one_vb w (producer_node y) y.consumer.dialed.vb p pv is (moved_vb w (producer_node link) link.consumer.dialed.vb (producer_node y) y.consumer.dialed.vb pv known (sym e) (sym f)) in
-          clash y s d (sym e) (sym f) (subst (λ (k : Plain). stream_at y.server.desk.id k.streams ≡ Some s) same opened) has (sym id)
+      producer_streams : (y : PlainLink) → IsLink y w.links → Differ link y → HasOpen link.consumer.dialed.vb id y.server.streams → producer_node link ≡ producer_node y → ⊥
+      producer_streams y i d has e =
+          let (p, is, active, s, opened, at) = stream_opened w r c y (busy (link_number y)).0 (busy (link_number y)).1 (a.links y i) link.consumer.dialed.vb id has in
+          let same : p ≡ pv = one_vb w (producer_node y) y.consumer.dialed.vb p pv is (moved_vb w (producer_node link) link.consumer.dialed.vb (producer_node y) y.consumer.dialed.vb pv known (sym e) at) in
+          clash y id s d (sym e) (subst (λ (k : Plain). stream_at id k.streams ≡ Some s) same opened) has refl
 
       producer_follower : (x : PlainLink) (fv : Plain) → vb_of w (consumer_node x) x.consumer.dialed.vb ≡ Some fv → (fv' : Plain) × (vb_of w' (consumer_node x) x.consumer.dialed.vb ≡ Some fv') × KeptVb fv fv'
       producer_follower x fv e = ⊎_elim
           (λ s. let same : fv ≡ pv = one_vb w (consumer_node x) x.consumer.dialed.vb fv pv e (moved_vb w (producer_node link) link.consumer.dialed.vb (consumer_node x) x.consumer.dialed.vb pv known s.0 s.1) in (
             pv',
             moved_vb w' (producer_node link) link.consumer.dialed.vb (consumer_node x) x.consumer.dialed.vb pv' became.here s.0 s.1,
-            subst (λ k. KeptVb k pv') (sym same) (kept_streams link.server.desk.id pv pv' changed),
+            subst (λ k. KeptVb k pv') (sym same) (kept_streams id pv pv' changed),
           ))
           (λ o. (fv, became.there (consumer_node x) x.consumer.dialed.vb o ∙ e, kept_same fv))
           (places (producer_node link) link.consumer.dialed.vb (consumer_node x) x.consumer.dialed.vb)
 
       producer_stays : (x : PlainLink) → Differ link x
           → StaysProducer (vb_of w (producer_node x) x.consumer.dialed.vb) (vb_of w' (producer_node x) x.consumer.dialed.vb) (c.nodes (producer_seat x)) (c'.nodes (producer_seat x)) x
-      producer_stays x d p s e active opened has = ⊎_elim
+      producer_stays x d p k s e active opened has = ⊎_elim
           (λ t. let same : p ≡ pv = one_vb w (producer_node x) x.consumer.dialed.vb p pv e (moved_vb w (producer_node link) link.consumer.dialed.vb (producer_node x) x.consumer.dialed.vb pv known t.0 t.1) in
-          let there : stream_at x.server.desk.id pv.streams ≡ Some s = subst (λ (k : Plain). stream_at x.server.desk.id k.streams ≡ Some s) same opened in (
+          let there : stream_at k pv.streams ≡ Some s = subst (λ (q : Plain). stream_at k q.streams ≡ Some s) same opened in (
             pv',
             moved_vb w' (producer_node link) link.consumer.dialed.vb (producer_node x) x.consumer.dialed.vb pv' became.here t.0 t.1,
-            ap (λ (k : Plain). is_active k.role) changed.alone ∙ subst (λ (k : Plain). is_active k.role ≡ true) same active,
-            changed.others x.server.desk.id (clash x s d t.0 t.1 there has) ∙ there,
+            ap (λ (q : Plain). is_active q.role) changed.alone ∙ subst (λ (q : Plain). is_active q.role ≡ true) same active,
+            changed.others k (clash x k s d t.0 there (subst (λ v. HasOpen v k x.server.streams) t.1 has)) ∙ there,
             (fed_all (consumer_seat link) c c' fed (producer_seat x)).br,
           ))
           (λ o. (p, became.there (producer_node x) x.consumer.dialed.vb o ∙ e, active, opened, (fed_all (consumer_seat link) c c' fed (producer_seat x)).br))
@@ -167,22 +164,24 @@ out_ends busy w w' r c l link a found powers linked x i =
     ends_again w w' x powers (a.ends x (out_links l w.links link x a.differ found (subst (IsLink x) (linked ∙ ap (λ k. row_out link_number k w.links) is.1) i)).0)
 
 -- a step at a link's producer, and at its consumer's member of the cluster how it is fed
-pub carries_producer : (busy busy' : Busy) (w w' : PlainWorld) (r r' : Chronicle) (c c' : Cluster) (l : ℕ) (link link' : PlainLink) (pv pv' : Plain)
+pub carries_producer : (busy busy' : Busy) (w w' : PlainWorld) (r r' : Chronicle) (c c' : Cluster) (l : ℕ) (link link' : PlainLink) (id : ℕ) (pv pv' : Plain)
     → AgreesIn busy w r c → row_at link_number l w.links ≡ Some link → SameEnds link link'
-    → vb_of w (producer_node link) link.consumer.dialed.vb ≡ Some pv → StreamsChanged link.server.desk.id pv pv'
+    → vb_of w (producer_node link) link.consumer.dialed.vb ≡ Some pv → StreamsChanged id pv pv'
     → Became w w' (producer_node link) link.consumer.dialed.vb pv' l link'
     → (shelf_of w' (producer_node link) link.consumer.dialed.vb ≡ shelf_of w (producer_node link) link.consumer.dialed.vb)
-    → (is_open link.server.stream ≡ true) ⊎ (stream_at link.server.desk.id pv.streams ≡ None)
+    → HasOpen link.consumer.dialed.vb id link.server.streams ⊎ (stream_at id pv.streams ≡ None) → ((v k : ℕ) → HasOpen v k link'.server.streams → (v ≡ link.consumer.dialed.vb) × (k ≡ id))
     → ToldOf l r r' → FeedChanged (consumer_seat link) c c' → SoundCluster top c' → BusyBut l busy busy'
     → LinkAgrees w' r' c' link' (busy' l).0 (busy' l).1 → AgreesIn busy' w' r' c'
-carries_producer busy busy' w w' r r' c c' l link link' pv pv' a found same known changed became shelf free told fed sound but agrees =
+carries_producer busy busy' w w' r r' c c' l link link' id pv pv' a found same known changed became shelf free only told fed sound but agrees =
     carried busy busy' w w' r r' c c' l link link' a found same
-    (producer_vbs busy w r r' c c' l link a found told fed w' (row_put link_number l link' w.links) pv pv' known changed became free)
-    (producer_disks busy w r r' c c' l link a found told fed w' (row_put link_number l link' w.links) pv pv' known changed became free shelf)
+    (producer_vbs busy w r r' c c' l link a found told fed w' (row_put link_number l link' w.links) id pv pv' known changed became free)
+    (producer_disks busy w r r' c c' l link a found told fed w' (row_put link_number l link' w.links) id pv pv' known changed became free shelf)
     fed.changed.tree told.tree became.uuids became.linked sound but
-    (producer_other busy w r r' c c' l link a found told fed w' (row_put link_number l link' w.links) pv pv' known changed became free)
-    (λ y i d s. producer_streams busy w r r' c c' l link a found told fed w' (row_put link_number l link' w.links) pv pv' known changed became free y i d)
-    (producer_rests busy w r r' c c' l link a found told fed w' (row_put link_number l link' w.links) pv pv' known changed became free (put_ends busy w w' r c l link link' a found same became.powers became.linked))
+    (producer_other busy w r r' c c' l link a found told fed w' (row_put link_number l link' w.links) id pv pv' known changed became free)
+    (λ y i d v k s t e. let is = only v k s in
+    producer_streams busy w r r' c c' l link a found told fed w' (row_put link_number l link' w.links) id pv pv' known changed became free y i d
+    (subst (λ q. HasOpen q id y.server.streams) is.0 (subst (λ j. HasOpen v j y.server.streams) is.1 t)) e)
+    (producer_rests busy w r r' c c' l link a found told fed w' (row_put link_number l link' w.links) id pv pv' known changed became free (put_ends busy w w' r c l link link' a found same became.powers became.linked))
     agrees
 
 fed_none : (k : ℕ) (c : Cluster) → FeedChanged k c c
@@ -199,7 +198,7 @@ carries_link busy busy' w w' r r' c l link link' a found same became less told b
     (quiet_disk busy w r r' c c l link a found told (fed_none (consumer_seat link) c) w' became.vbs became.shelves)
     refl told.tree became.uuids became.linked a.sound but
     (quiet_link busy w r r' c c l link a found told (fed_none (consumer_seat link) c) w' became.vbs)
-    (λ y i d s. d.stream (less s))
+    (λ y i d v id s. d.stream v id (less v id s))
     (quiet_rests busy w r r' c c l link a found told (fed_none (consumer_seat link) c) w' became.powers became.vbs became.shelves (put_ends busy w w' r c l link link' a found same became.powers became.linked))
     agrees
 
@@ -263,11 +262,11 @@ module _ (busy busy' : Busy) (w w' : PlainWorld) (r r' : Chronicle) (c : Cluster
 
   -- the link's stream was closed
   closed_over : Closed w w' link → AgreesIn busy' w' r' gone
-  closed_over (pv, pv', opens, known, changed, became, shelf) = left_out busy busy' w w' r r' c gone l link a found told.tree refl sound but
-      (producer_vbs busy w r r' c gone l link a found told fed w' links pv pv' known changed became (inl opens))
-      (producer_disks busy w r r' c gone l link a found told fed w' links pv pv' known changed became (inl opens) shelf) became.uuids became.linked
-      (producer_other busy w r r' c gone l link a found told fed w' links pv pv' known changed became (inl opens))
-      (producer_rests busy w r r' c gone l link a found told fed w' links pv pv' known changed became (inl opens) (out_ends busy w w' r c l link a found became.powers became.linked))
+  closed_over (id, pv, pv', opens, known, changed, became, shelf) = left_out busy busy' w w' r r' c gone l link a found told.tree refl sound but
+      (producer_vbs busy w r r' c gone l link a found told fed w' links id pv pv' known changed became (inl opens))
+      (producer_disks busy w r r' c gone l link a found told fed w' links id pv pv' known changed became (inl opens) shelf) became.uuids became.linked
+      (producer_other busy w r r' c gone l link a found told fed w' links id pv pv' known changed became (inl opens))
+      (producer_rests busy w r r' c gone l link a found told fed w' links id pv pv' known changed became (inl opens) (out_ends busy w w' r c l link a found became.powers became.linked))
 
 -- a link is over: its consumer is cut off
 pub carries_over : (busy busy' : Busy) (w w' : PlainWorld) (r r' : Chronicle) (c : Cluster) (l : ℕ) (link : PlainLink)
@@ -287,7 +286,7 @@ carries_rests busy busy' w w' r arms c a vbs shelves uuids linked rests but = re
   branches = branches_again refl refl (ids_same uuids) a.branches;
   links = λ x i. subst (λ b. LinkAgrees w' (record r { arm_at = arms }) c x b.0 b.1) (sym (but (link_number x)))
       (link_carried w w' r (record r { arm_at = arms }) c c x (busy (link_number x)).0 (busy (link_number x)).1 (λ fv e. (fv, vbs (consumer_node x) x.consumer.dialed.vb ∙ e, kept_same fv)) refl refl refl refl
-      (λ p s e active opened has. (p, vbs (producer_node x) x.consumer.dialed.vb ∙ e, active, opened, refl)) (a.links x (subst (IsLink x) linked i)));
+      (λ p id s e active opened has. (p, vbs (producer_node x) x.consumer.dialed.vb ∙ e, active, opened, refl)) (a.links x (subst (IsLink x) linked i)));
   differ = subst LinksDiffer (sym linked) a.differ;
   rests = rests;
 }
@@ -379,7 +378,7 @@ module _ (busy : Busy) (w w' : PlainWorld) (r r' : Chronicle) (c c' : Cluster) (
       ends
 
   consumer_stays : (x : PlainLink) → StaysProducer (vb_of w (producer_node x) x.consumer.dialed.vb) (vb_of w' (producer_node x) x.consumer.dialed.vb) (c.nodes (producer_seat x)) (c'.nodes (producer_seat x)) x
-  consumer_stays x p s e active opened has = ⊎_elim
+  consumer_stays x p id s e active opened has = ⊎_elim
       (λ t. let same : p ≡ fv = one_vb w (producer_node x) x.consumer.dialed.vb p fv e (moved_vb w (consumer_node link) link.consumer.dialed.vb (producer_node x) x.consumer.dialed.vb fv known t.0 t.1) in
       absurd (not_both fv.role (subst (λ (k : Plain). is_active k.role ≡ true) same active) follows))
       (λ o. (p, became.there (producer_node x) x.consumer.dialed.vb o ∙ e, active, opened, ap (λ (m : Member). m.br) (changed.others (producer_seat x) (other_seat (producer_node x) x.consumer.dialed.vb o))))
@@ -410,7 +409,7 @@ carries_consumer busy busy' w w' r r' c c' l link link' fv fv' a found same know
     (consumer_disks busy w w' r r' c c' l link fv fv' (row_put link_number l link' w.links) a found known role_is streams_are became taken changed vb disk)
     changed.tree taken.tree became.uuids became.linked sound but
     (consumer_other busy w w' r r' c c' l link fv fv' (row_put link_number l link' w.links) a found known role_is streams_are became taken changed vb disk)
-    (λ y i d s. d.stream (less s))
+    (λ y i d v id s. d.stream v id (less v id s))
     rests
     agrees
 

@@ -1,18 +1,25 @@
 -- a producer's frames: each stream that a vBucket has more is the connection's own, which it keeps until that is over
-use Rattle.std.specs.Prelude.{◌≡◌, ◌∷◌, ◌++◌, ◌⊎◌, ◌==◌, ◌||◌, if◌then◌else◌, cond}
-use Rattle.transcript_law.proofs.Words.{ℕ, zero, suc, codes, length, Bool, true, false, List, [], refl, ap, sym, ◌∙◌, subst, inl, inr, ⊎_elim, Option, Some, None, Result, Ok, Err, is_some, slice_get, list_any, is_active, eqb-true, eqb-false, Frame, RESPONSE, Status, Change, Plain, VbReply, Span, Stream, States, StreamAsk, Verdict, Continue, Roll}
-use Rattle.transcript_law.proofs.Words.{after, after_bind, Done, Prog, Turn, More, Stop, repeated, go_on, Halt, NoSnapshot, Handshake, DcpMsg, PlainProducer, PlainStream, Served, AskAnswer, rule, open_refusal, open_outcome, judged_open, id_refusal, first_reason, is_ranged, new_stream, stream_at, with_vb_at, call_at}
-use Rattle.transcript_law.proofs.Words.{frame_answered, read_answered, stream_request, stream_answered, status_sent, opened_unless, controlled, controlled_as, request_refusal, opening_id, verdict_with, ask_verdict, act_message, item_put, next_put, stream_put, halted_put, taken_put, take_unless, snapshot_of_reply, place_halt, pulled, frame_put, frames_put, end_put, marker_put}
-use Rattle.transcript_law.proofs.invariant.Unopened.{NoNew, put_new, step_new}
-use Rattle.transcript_law.specs.Feeding.{Has, HasIn, IsOpenAt}
-use Rattle.dcp_producer.specs.Producers.{member_of, is_sync}
-use Rattle.dcp_producer.specs.Pulling.{counted_in_window, halt_at, in_window, place_requested, snapshot_of_answer}
-use Rattle.dcp_producer.specs.Serving.{acknowledged, count_answered, count_requested, counted_by, message_answered, open_refusal as opening_refusal, row_answered, sized, sized_as, stream_of, weighed, with_stream}
+use Rattle.std.specs.Prelude.{◌≡◌, ◌∷◌, ◌++◌, ◌⊎◌, ◌==◌, if◌then◌else◌, cond}
+use Rattle.transcript_law.proofs.Words.{ℕ, zero, suc, codes, length, Bool, true, false, List, [], refl, ap, sym, ◌∙◌, subst, inl, inr, ⊎_elim, Option, Some, None, Result, Ok, Err, slice_get, list_any, is_active, eqb-true, eqb-false, Frame, RESPONSE, Status, Change, Plain, VbReply, Span, Stream, States, StreamAsk, Verdict, Continue, Roll}
+use Rattle.transcript_law.proofs.Words.{after, after_bind, Done, Prog, Turn, More, Stop, repeated, go_on, Halt, Handshake, DcpMsg, PlainProducer, PlainStream, Served, StreamName, LogEntry, AskAnswer, rule, open_refusal, open_outcome, judged_open, id_refusal, first_reason, is_ranged, new_stream, stream_at, with_vb_at, call_at, bind, Call, VbCall}
+use Rattle.transcript_law.proofs.invariant.OpenStreams.{AreKept, Among, at_among, id_among, kept_asked, kept_opened, kept_over, kept_went, only_open, opened_has, replaced_has, replaced_ids, without_has}
+use Rattle.transcript_law.proofs.invariant.Unopened.{NoNew, OpensNone, closed_here, none_new, put_new, step_new}
+use Rattle.transcript_law.specs.Feeding.{Has, HasIn, HasOpen, IsOpenAt}
+use Rattle.dcp_producer.proofs.Framing.{GoesOn, Same, frame_same}
+use Rattle.dcp_producer.specs.Frames.{Next, close_sent, next_by, next_frame, over, place_requested, place_said, place_told, placed_next, reaches_end, STATE_CHANGED, take_answered, taken_next}
+use Rattle.dcp_producer.specs.Producers.{is_open as is_shaken, is_sync, member_of, replaced, stream_at as stream_of_vb, with_stream, without_stream}
+use Rattle.dcp_producer.specs.Pulling.{Pulling, QuietOnes, came, frames_put, is_quiet, none_quiet, one_frame, one_turn, past_turn, pull_of, pulled, stream_asked, stream_in, stream_in_turn, turn_had, turns_came}
+use Rattle.dcp_producer.specs.Serving.{acknowledged, ask_verdict, close_requested, closed_sent, controlled, controlled_as, count_answered, count_requested, counted_by, fed_stream, frame_answered, log_answered, log_given, log_requested, log_sent, message_answered, next_stream, open_refusal as opening_refusal, opened_unless, opening_requested, opens, read_answered, refusal_requested, new_stream as stream_of, row_answered, sized, sized_as, status_sent, stream_answered, stream_closed, stream_request, weighed, with_asked, with_granted}
+use Rattle.dcp_producer.specs.declared.next_frame.NextFrame.{NextFrame}
+use Rattle.dcp_producer.specs.declared.next_frame.NextFrame.TheVariants as next
+use Rattle.transcript_law.proofs.lines.Pulling.{lets_through}
 use Rattle.std.specs.Str.{bytes_eq}
 use Rattle.mcbp_dcp.specs.Messages.{read_of}
 use Rattle.mcbp_dcp.specs.Rows.{dcp_opcodes}
 use Rattle.mcbp_dcp.specs.declared.message.DcpFault.{DcpFault}
 use Rattle.mcbp_dcp.specs.declared.message.DcpMsg.TheVariants as msg
+use Rattle.vb_calls.proofs.Conduct.{after_always}
+use Rattle.vb_calls.specs.Programs.{AnyCall}
 use Rattle.vb_calls.specs.States.{states_step}
 use Rattle.vb_calls.specs.Spans.{all_spans}
 use Rattle.vb_calls.specs.Streams.{end_span, is_in_memory, place_reply, take_from, take_to}
@@ -20,12 +27,12 @@ use Rattle.vb_calls.specs.declared.calls.VbAnswer.{VbAnswer}
 use Rattle.vb_calls.specs.declared.calls.VbAnswer.TheVariants as answer
 use Rattle.vb_calls.specs.declared.calls.VbCall.TheVariants as call
 use Rattle.vb_types.specs.Statuses.{status_code}
-use Rattle.vb_types.specs.declared.stream.Place.TheVariants.{Memory, WaitSaved}
-use Rattle.vb_types.specs.declared.stream.Snapshot.{Snapshot}
+use Rattle.vb_types.specs.declared.stream.Place.{Place}
+use Rattle.vb_types.specs.declared.stream.Place.TheVariants as place
 
 -- all streams of vBuckets are others', or this connection's own
-abbrev pub AreOwned : (ℕ → ℕ → Type 0) → ℕ → States → Option PlainStream → Type 0
-AreOwned others id states stream = (v k : ℕ) → HasIn (states v) k → others v k ⊎ ((k ≡ id) × IsOpenAt v stream)
+abbrev pub AreOwned : (ℕ → ℕ → Type 0) → States → List PlainStream → Type 0
+AreOwned others states streams = (v k : ℕ) → HasIn (states v) k → others v k ⊎ HasOpen v k streams
 
 -- one more stream, at the end
 has_more : (new : Stream) (k : ℕ) (ss : List Stream) → Has (ss ++ new ∷ []) k → Has ss k ⊎ (new.id ≡ k)
@@ -41,97 +48,149 @@ has_none i (s ∷ ss) none k h e = by (has_none i ss) (s.id == i) refl
     by rest true f = let z : Some s ≡ None = sym (ap (λ b. cond b (Some s) (stream_at i ss)) f) ∙ none in cc
     by rest false f = ⊎_elim (λ q. eqb-false s.id i f (q ∙ e)) (λ r. rest (sym (ap (λ b. cond b (Some s) (stream_at i ss)) f) ∙ none) k r e) h
 
+-- a stream is over
+abbrev IsOver : NextFrame → Type 0
+IsOver (next.End reason) = Unit {0}
+IsOver other = ⊥
+
 -- a vBucket that knows nothing of a stream, or is absent, has none of its number
 module _ (states : States) (v i : ℕ) where
-  pub unplaced_none : place_halt (states_step states v (call.Place i)).1 ≡ Some NoSnapshot.Lost → (k : ℕ) → HasIn (states v) k → k ≡ i → ⊥
+  unplaced_none : place_said (states_step states v (call.Place i)).1 ≡ None → (k : ℕ) → HasIn (states v) k → k ≡ i → ⊥
   unplaced_none = by (states v)
     where
-      told : (s : Stream) (b : Bool) → halt_at (answer.Placed (if b then Memory else WaitSaved)) ≡ Some NoSnapshot.Lost → Some s ≡ None
-      told s true is = cc
-      told s false is = cc
-
-      placed : (floor : ℕ) (o : Option Stream) → halt_at (place_reply floor o).answer ≡ Some NoSnapshot.Lost → o ≡ None
+      placed : (floor : ℕ) (o : Option Stream) → place_told (place_reply floor o).answer ≡ None → o ≡ None
       placed floor None is = refl
-      placed floor (Some s) is = told s (is_in_memory floor s) is
+      placed floor (Some s) is = cc
 
-      by : (o : Option Plain) → place_halt (call_at states v (call.Place i) o).1 ≡ Some NoSnapshot.Lost → (k : ℕ) → HasIn o k → k ≡ i → ⊥
+      by : (o : Option Plain) → place_said (call_at states v (call.Place i) o).1 ≡ None → (k : ℕ) → HasIn o k → k ≡ i → ⊥
       by None lost k h e = absurd h
       by (Some vb) lost k h e = has_none i vb.streams (placed vb.floor (stream_at i vb.streams) lost) k h e
 
-  pub untaken_none : snapshot_of_reply (states_step states v (call.Take i)).1 ≡ Err NoSnapshot.Lost → (k : ℕ) → HasIn (states v) k → k ≡ i → ⊥
-  untaken_none = by (states v)
+  untaken_none : (name : StreamName) (stream : PlainStream) → IsOver (take_answered name stream (states_step states v (call.Take i)).1).0 → (k : ℕ) → HasIn (states v) k → k ≡ i → ⊥
+  untaken_none name stream = by (states v)
     where
-      given : (vb : Plain) (s : Stream) (w : Option Span) → snapshot_of_answer (take_to w s vb).1.answer ≡ Err NoSnapshot.Lost → Some s ≡ None
-      given vb s None is = cc
-      given vb s (Some w) is = cc
+      given : (vb : Plain) (s : Stream) (w : Option Span) → IsOver (taken_next name stream (take_to w s vb).1.answer).0 → Some s ≡ None
+      given vb s None is = absurd is
+      given vb s (Some w) is = absurd is
 
-      taken : (vb : Plain) (o : Option Stream) → snapshot_of_answer (take_from o vb).1.answer ≡ Err NoSnapshot.Lost → o ≡ None
+      taken : (vb : Plain) (o : Option Stream) → IsOver (taken_next name stream (take_from o vb).1.answer).0 → o ≡ None
       taken vb None is = refl
       taken vb (Some s) is = given vb s (if is_in_memory vb.floor s then end_span s (all_spans vb.spans) vb.held else None) is
 
-      by : (o : Option Plain) → snapshot_of_reply (call_at states v (call.Take i) o).1 ≡ Err NoSnapshot.Lost → (k : ℕ) → HasIn o k → k ≡ i → ⊥
+      by : (o : Option Plain) → IsOver (take_answered name stream (call_at states v (call.Take i) o).1).0 → (k : ℕ) → HasIn o k → k ≡ i → ⊥
       by None lost k h e = absurd h
       by (Some vb) lost k h e = has_none i vb.streams (taken vb (stream_at i vb.streams) lost) k h e
 
-module _ (others : ℕ → ℕ → Type 0) (id : ℕ) where
-  abbrev Owned : States → Option PlainStream → Type 0
-  Owned = AreOwned others id
+module _ (others : ℕ → ℕ → Type 0) where
+  abbrev Owned : States → List PlainStream → Type 0
+  Owned = AreOwned others
 
-  pub fewer : (states states' : States) (stream : Option PlainStream) → NoNew states states' → Owned states stream → Owned states' stream
-  fewer states states' stream less owned v k h = owned v k (less v k h)
+  pub fewer : (states states' : States) (streams : List PlainStream) → NoNew states states' → Owned states streams → Owned states' streams
+  fewer states states' streams less owned v k h = owned v k (less v k h)
+
+  -- so it is with a connection
+  abbrev pub Holds : States → PlainProducer → Type 0
+  Holds states end = Owned states end.streams × AreKept end
 
   -- ---- a frame is answered
 
   abbrev Keeps : Prog Served → States → Type 0
-  Keeps prog states = let x = after prog states in (x.1.end.desk.id ≡ id) × Owned x.0 x.1.end.stream
+  Keeps prog states = let x = after prog states in Holds x.0 x.1.end
 
-  module _ (f : Frame) (s : Served) (states : States) (mine : s.end.desk.id ≡ id) (owned : Owned states s.end.stream) where
+  module _ (f : Frame) (s : Served) (states : States) (held : Holds states s.end) where
     either_keeps : (b : Bool) (x y : Prog Served) → Keeps x states → Keeps y states → Keeps (if b then x else y) states
     either_keeps true x y p q = p
     either_keeps false x y p q = q
 
     status_keeps : (st : Status) → Keeps (Done (status_sent f st s)) states
     unfolding status_sent
-    status_keeps st = (mine, owned)
+    status_keeps st = held
 
     open_keeps : (o : Option Status) → Keeps (Done (opened_unless o f s)) states
     unfolding status_sent
-    open_keeps None = (mine, owned)
-    open_keeps (Some st) = (mine, owned)
+    open_keeps None = held
+    open_keeps (Some st) = held
 
     control_keeps : (o : Option Handshake) → Keeps (Done (controlled_as o f s)) states
     unfolding status_sent
-    control_keeps None = (mine, owned)
-    control_keeps (Some set) = (mine, owned)
+    control_keeps None = held
+    control_keeps (Some set) = held
 
     size_keeps : (o : Option ℕ) → Keeps (Done (sized_as o f s)) states
     unfolding status_sent
-    size_keeps None = (mine, owned)
-    size_keeps (Some size) = (mine, owned)
+    size_keeps None = held
+    size_keeps (Some size) = held
 
-    bytes_keep : (b : Bool) (end : PlainProducer) → end.desk ≡ s.end.desk → end.stream ≡ s.end.stream → Keeps (Done (if b then record s { end = end } else status_sent f Status.Einval s)) states
-    bytes_keep true end desk stream = (ap (λ d. d.id) desk ∙ mine, subst (Owned states) (sym stream) owned)
-    bytes_keep false end desk stream = status_keeps Status.Einval
+    bytes_keep : (b : Bool) (end : PlainProducer) → Holds states end → Keeps (Done (if b then record s { end = end } else status_sent f Status.Einval s)) states
+    bytes_keep true end same = same
+    bytes_keep false end same = status_keeps Status.Einval
 
-    counted_keeps : (member seq : ℕ) (reply : Option VbReply) → let t = count_answered f member seq s reply in (t.end.desk.id ≡ s.end.desk.id) × (t.end.stream ≡ s.end.stream)
+    -- a call that opens no stream, after which the connection is as before
+    called_keeps : (v : ℕ) (c : VbCall) → OpensNone v c → (t : Served) → t.end ≡ s.end → Holds (states_step states v c).0 t.end
+    called_keeps v c none t same = subst (Holds (states_step states v c).0) (sym same) (fewer states (states_step states v c).0 s.end.streams (step_new states v c none) held.0, held.1)
+
+    counted_keeps : (member seq : ℕ) (reply : Option VbReply) → (count_answered f member seq s reply).end ≡ s.end
     unfolding status_sent
-    counted_keeps member seq None = (refl, refl)
+    counted_keeps member seq None = refl
     counted_keeps member seq (Some reply) = by reply.answer
       where
-        by : (a : VbAnswer) → let t = counted_by f member seq reply a s in (t.end.desk.id ≡ s.end.desk.id) × (t.end.stream ≡ s.end.stream)
-        by (answer.Status st) = (refl, refl)
-        by other = (refl, refl)
+        by : (a : VbAnswer) → (counted_by f member seq reply a s).end ≡ s.end
+        by (answer.Status st) = refl
+        by other = refl
 
     count_keeps : (seq : ℕ) (o : Result ℕ Status) → Keeps (count_requested f seq s o) states
     count_keeps seq (Err st) = status_keeps st
     count_keeps seq (Ok member) =
         let step = states_step states f.vb_or_status (call.Ack member seq) in
-        let t = counted_keeps member seq step.1 in
-        (t.0 ∙ mine, subst (Owned step.0) (sym t.1) (fewer states step.0 s.end.stream (step_new states f.vb_or_status (call.Ack member seq) tt) owned))
+        called_keeps f.vb_or_status (call.Ack member seq) tt (count_answered f member seq s step.1) (counted_keeps member seq step.1)
 
     ack_keeps : (seq : ℕ) → Keeps (acknowledged f seq s) states
     unfolding acknowledged
-    ack_keeps seq = count_keeps seq (weighed seq (stream_of f.vb_or_status s.end.stream) (member_of s.end.handshake))
+    ack_keeps seq =
+        let weight : Result ℕ Status = weighed seq (fed_stream (stream_of_vb f.vb_or_status s.end.streams)) (member_of s.end.handshake) in
+        either_keeps (is_shaken s.end.handshake) (count_requested f seq s weight) (Done (status_sent f Status.Einval s)) (count_keeps seq weight) (status_keeps Status.Einval)
+
+    -- a failover log
+    log_keeps : Keeps (log_requested f s) states
+    unfolding status_sent
+    log_keeps =
+        let step = states_step states f.vb_or_status call.Log in
+        either_keeps (is_shaken s.end.handshake) (Call f.vb_or_status call.Log (λ reply. Done (log_answered f s reply))) (Done (status_sent f Status.Einval s))
+        (called_keeps f.vb_or_status call.Log tt (log_answered f s step.1) (by step.1)) held
+      where
+        sent : (o : Option (List LogEntry)) → (log_sent f s o).end ≡ s.end
+        sent None = refl
+        sent (Some log) = refl
+
+        by : (reply : Option VbReply) → (log_answered f s reply).end ≡ s.end
+        by None = refl
+        by (Some reply) = sent (log_given reply.answer)
+
+    -- one of its streams is closed at its vBucket, and no more its own
+    module _ (t : PlainStream) (there : Among t s.end.streams) where
+      left_out : (states' : States) → NoNew states states' → ((v k : ℕ) → HasIn (states' v) k → k ≡ t.id → IsOpenAt v k t → ⊥) → Keeps (Done (closed_sent f t.id s)) states'
+      unfolding status_sent
+      left_out states' less gone = (
+        λ v k h. ⊎_elim (λ o. inl o) (λ own. inr (without_has v k t.id s.end.streams (λ e. gone v k h e (only_open v k s.end.streams t held.1.rise there own e)) own)) (held.0 v k (less v k h)),
+        kept_over s.end t.id held.1,
+      )
+
+      close_keeps : Keeps (stream_closed f s (Some t)) states
+      close_keeps = by t.ended refl
+        where
+          by : (b : Bool) → t.ended ≡ b → Keeps (if b then Done (closed_sent f t.id s) else Call t.vb (call.CloseStream t.id) (λ reply. Done (closed_sent f t.id s))) states
+          by true e = left_out states (λ v k h. h) (λ v k h q o. let z : true ≡ false = sym e ∙ o.2 in cc)
+          by false e =
+              let after_close : States = (states_step states t.vb (call.CloseStream t.id)).0 in
+              left_out after_close (step_new states t.vb (call.CloseStream t.id) tt)
+              (λ v k h q o. closed_here states t.vb t.id (subst (λ u. HasIn (after_close u) t.id) (sym o.0) (subst (HasIn (after_close v)) q h)))
+
+    closing_keeps : Keeps (close_requested f s) states
+    closing_keeps = either_keeps (is_shaken s.end.handshake) (stream_closed f s (stream_of_vb f.vb_or_status s.end.streams)) (Done (status_sent f Status.Einval s)) (by (stream_of_vb f.vb_or_status s.end.streams) refl) (status_keeps Status.Einval)
+      where
+        by : (o : Option PlainStream) → stream_of_vb f.vb_or_status s.end.streams ≡ o → Keeps (stream_closed f s o) states
+        by None e = status_keeps Status.KeyEnoent
+        by (Some t) e = close_keeps t (at_among f.vb_or_status s.end.streams t e)
 
     -- a request for a stream, by what the vBucket made of it
     module _ (ask : StreamAsk) where
@@ -139,10 +198,10 @@ module _ (others : ℕ → ℕ → Type 0) (id : ℕ) where
       v = f.vb_or_status
 
       abbrev i : ℕ
-      i = opening_id s.end ask
+      i = next_stream s.end
 
-      abbrev Came : Option Status → States × Option VbReply → Type 0
-      Came o x = let end = with_stream s.end f ask (verdict_with o (ask_verdict x.1)) in (end.desk.id ≡ id) × Owned x.0 end.stream
+      abbrev sync : Bool
+      sync = is_sync s.end.handshake
 
       -- under 0 none is opened
       zero_refused : (pv : Plain) → open_refusal pv 0 ask ≡ None → ⊥
@@ -153,67 +212,66 @@ module _ (others : ℕ → ℕ → Type 0) (id : ℕ) where
           by true None e = cc
           by true (Some t) e = cc
 
-      -- so it is asked for the connection's number only where it has no stream, and refuses nothing itself
-      pub record Free : Type 0 where
-        pub refuses : request_refusal s.end.handshake ask ≡ None
-        pub stream : s.end.stream ≡ None
-        pub number : i ≡ s.end.desk.id
+      -- the vBucket as it was
+      as_was : (pv : Plain) → states v ≡ Some pv → NoNew states (with_vb_at states v pv)
+      as_was pv there = put_new states v pv (λ k h. subst (λ o. HasIn o k) (sym there) h)
 
-      free : (pv : Plain) → open_refusal pv i ask ≡ None → Free
-      free pv e = by (request_refusal s.end.handshake ask) s.end.stream refl refl
+      refused_new : NoNew states (states_step states v (call.OpenStream 0 ask sync)).0
+      refused_new = by (states v) refl
         where
-          at_zero : i ≡ 0 → ⊥
-          at_zero z = zero_refused pv (ap (λ k. open_refusal pv k ask) (sym z) ∙ e)
+          refused : (pv : Plain) → states v ≡ Some pv → (o : Option Status) → open_refusal pv 0 ask ≡ o → NoNew states (with_vb_at states v (open_outcome o pv 0 ask sync).0)
+          refused pv there (Some st) e = as_was pv there
+          refused pv there None e = absurd (zero_refused pv e)
 
-          by : (o : Option Status) (t : Option PlainStream) → request_refusal s.end.handshake ask ≡ o → s.end.stream ≡ t → Free
-          by (Some st) t q u = absurd (at_zero (ap (λ x. if is_some x || is_some s.end.stream then 0 else s.end.desk.id) q))
-          by None (Some t) q u = absurd (at_zero ((λ j. if is_some (q j) || is_some (u j) then 0 else s.end.desk.id)))
-          by None None q u = record { refuses = q; stream = u; number = (λ j. if is_some (q j) || is_some (u j) then 0 else s.end.desk.id) }
+          by : (o : Option Plain) → states v ≡ o → NoNew states (call_at states v (call.OpenStream 0 ask sync) o).0
+          by None e = λ w k h. h
+          by (Some pv) e = refused pv e (open_refusal pv 0 ask) refl
+
+      -- what it says makes this of the connection
+      abbrev Came : States × Option VbReply → Type 0
+      Came x = Holds x.0 (with_granted (with_asked s.end) i f ask (ask_verdict x.1))
 
       -- what grants nothing
-      denied : (o : Option Status) (said : AskAnswer) (states' : States) → (said ≡ AskAnswer.Go → ⊥) → NoNew states states' → let end = with_stream s.end f ask (verdict_with o said) in (end.desk.id ≡ id) × Owned states' end.stream
-      denied o AskAnswer.Go states' none less = absurd (none refl)
-      denied None (AskAnswer.Roll to) states' none less = (mine, fewer states states' s.end.stream less owned)
-      denied None (AskAnswer.Refuse code) states' none less = (mine, fewer states states' s.end.stream less owned)
-      denied (Some st) (AskAnswer.Roll to) states' none less = (mine, fewer states states' s.end.stream less owned)
-      denied (Some st) (AskAnswer.Refuse code) states' none less = (mine, fewer states states' s.end.stream less owned)
+      denied : (said : AskAnswer) (states' : States) → (said ≡ AskAnswer.Go → ⊥) → NoNew states states' → Holds states' (with_granted (with_asked s.end) i f ask said)
+      denied AskAnswer.Go states' none less = absurd (none refl)
+      denied (AskAnswer.Roll to) states' none less = (fewer states states' s.end.streams less held.0, kept_asked s.end held.1)
+      denied (AskAnswer.Refuse code) states' none less = (fewer states states' s.end.streams less held.0, kept_asked s.end held.1)
 
       module _ (pv : Plain) (there : states v ≡ Some pv) where
-        -- the vBucket as it was, or with the new stream
-        as_was : NoNew states (with_vb_at states v pv)
-        as_was = put_new states v pv (λ k h. subst (λ o. HasIn o k) (sym there) h)
-
         abbrev more : Plain
-        more = (judged_open Continue pv i ask (is_sync s.end.handshake)).0
+        more = (judged_open Continue pv i ask sync).0
 
-        own_new : Free → (w k : ℕ) → HasIn (with_vb_at states v more w) k → others w k ⊎ ((k ≡ id) × ((v ≡ w) × (false ≡ false)))
-        own_new fr w k = by (w == v) refl
+        abbrev own : PlainStream
+        own = stream_of i f ask
+
+        own_new : Owned (with_vb_at states v more) (s.end.streams ++ own ∷ [])
+        own_new w k = by (w == v) refl
           where
-            old : HasIn (states w) k → others w k ⊎ ((k ≡ id) × ((v ≡ w) × (false ≡ false)))
-            old h = ⊎_elim (λ o. inl o) (λ own. absurd (subst (IsOpenAt w) fr.stream own.1)) (owned w k h)
+            old : HasIn (states w) k → others w k ⊎ HasOpen w k (s.end.streams ++ own ∷ [])
+            old h = ⊎_elim (λ o. inl o) (λ mine. inr (opened_has w k own s.end.streams (inl mine))) (held.0 w k h)
 
-            by : (b : Bool) → (w == v) ≡ b → HasIn (if b then Some more else states w) k → others w k ⊎ ((k ≡ id) × ((v ≡ w) × (false ≡ false)))
+            by : (b : Bool) → (w == v) ≡ b → HasIn (if b then Some more else states w) k → others w k ⊎ HasOpen w k (s.end.streams ++ own ∷ [])
             by false e h = old h
             by true e h =
                 let same : w ≡ v = eqb-true w v e in
-                ⊎_elim (λ j. old (subst (λ u. HasIn (states u) k) (sym same) (subst (λ o. HasIn o k) (sym there) j))) (λ q. inr (sym q ∙ fr.number ∙ mine, (sym same, refl))) (has_more (new_stream i ask (is_sync s.end.handshake)) k pv.streams h)
+                ⊎_elim (λ j. old (subst (λ u. HasIn (states u) k) (sym same) (subst (λ o. HasIn o k) (sym there) j))) (λ q. inr (opened_has w k own s.end.streams (inr (sym same, q, refl)))) (has_more (new_stream i ask sync) k pv.streams h)
 
-        by_rule : Free → (r : Verdict) → Came (request_refusal s.end.handshake ask) (with_vb_at states v (judged_open r pv i ask (is_sync s.end.handshake)).0, Some (judged_open r pv i ask (is_sync s.end.handshake)).1)
-        by_rule fr Continue = subst (λ o. Came o (with_vb_at states v more, Some (judged_open Continue pv i ask (is_sync s.end.handshake)).1)) (sym fr.refuses) (mine, own_new fr)
-        by_rule fr (Roll to) = denied (request_refusal s.end.handshake ask) (AskAnswer.Roll to) (with_vb_at states v pv) (λ e. cc) as_was
+        by_rule : (r : Verdict) → Came (with_vb_at states v (judged_open r pv i ask sync).0, Some (judged_open r pv i ask sync).1)
+        by_rule Continue = (own_new, kept_opened s.end own refl held.1)
+        by_rule (Roll to) = denied (AskAnswer.Roll to) (with_vb_at states v pv) (λ e. cc) (as_was pv there)
 
-        by_refusal : (o : Option Status) → open_refusal pv i ask ≡ o
-            → Came (request_refusal s.end.handshake ask) (with_vb_at states v (open_outcome o pv i ask (is_sync s.end.handshake)).0, Some (open_outcome o pv i ask (is_sync s.end.handshake)).1)
-        by_refusal (Some st) e = denied (request_refusal s.end.handshake ask) (AskAnswer.Refuse (status_code st)) (with_vb_at states v pv) (λ q. cc) as_was
-        by_refusal None e = by_rule (free pv e) (rule pv.log pv.position.at ask)
+        by_refusal : (o : Option Status) → Came (with_vb_at states v (open_outcome o pv i ask sync).0, Some (open_outcome o pv i ask sync).1)
+        by_refusal (Some st) = denied (AskAnswer.Refuse (status_code st)) (with_vb_at states v pv) (λ q. cc) (as_was pv there)
+        by_refusal None = by_rule (rule pv.log pv.position.at ask)
 
-      by_vb : (o : Option Plain) → states v ≡ o → Came (request_refusal s.end.handshake ask) (call_at states v (call.OpenStream i ask (is_sync s.end.handshake)) o)
-      by_vb None e = denied (request_refusal s.end.handshake ask) (AskAnswer.Refuse (status_code Status.NotMyVbucket)) states (λ q. cc) (λ w k h. h)
-      by_vb (Some pv) e = by_refusal pv e (open_refusal pv i ask) refl
+      by_vb : (o : Option Plain) → states v ≡ o → Came (call_at states v (call.OpenStream i ask sync) o)
+      by_vb None e = denied (AskAnswer.Refuse (status_code Status.NotMyVbucket)) states (λ q. cc) (λ w k h. h)
+      by_vb (Some pv) e = by_refusal pv e (open_refusal pv i ask)
 
       request_keeps : Keeps (stream_request f ask s) states
       unfolding stream_request stream_answered
-      request_keeps = by_vb (states v) refl
+      request_keeps = either_keeps (opens s.end v ask) (opening_requested f ask s) (refusal_requested f ask s) (by_vb (states v) refl)
+          (fewer states (states_step states v (call.OpenStream 0 ask sync)).0 s.end.streams refused_new held.0, held.1)
 
     message_keeps : (m : DcpMsg) → Keeps (message_answered f m s) states
     message_keeps (msg.Open number flags name) = open_keeps (opening_refusal s.end.handshake flags)
@@ -222,9 +280,12 @@ module _ (others : ℕ → ℕ → Type 0) (id : ℕ) where
         control_by : (b : Bool) → Keeps (Done (if b then sized_as (sized s.end.handshake value) f s else controlled_as (controlled s.end.handshake key value) f s)) states
         control_by true = size_keeps (sized s.end.handshake value)
         control_by false = control_keeps (controlled s.end.handshake key value)
-    message_keeps (msg.BufferAcknowledgement bytes) = bytes_keep _ _ refl refl
+    message_keeps (msg.BufferAcknowledgement bytes) = bytes_keep _ _ held
     message_keeps (msg.StreamRequest ask) = request_keeps ask
     message_keeps (msg.SeqnoAcknowledged seq) = ack_keeps seq
+    message_keeps msg.CloseStream = closing_keeps
+    message_keeps msg.GetFailoverLog = log_keeps
+    message_keeps msg.Noop = status_keeps _
     message_keeps other = status_keeps Status.Einval
 
     read_keeps : (o : Option (Result DcpMsg DcpFault)) → Keeps (read_answered f o s) states
@@ -237,99 +298,161 @@ module _ (others : ℕ → ℕ → Type 0) (id : ℕ) where
 
     pub frame_keeps : Keeps (frame_answered f s) states
     unfolding frame_answered
-    frame_keeps = either_keeps (f.magic == RESPONSE) (Done s) (if list_any (λ o. o == f.opcode) dcp_opcodes then read_answered f (read_of f) s else Done (status_sent f Status.UnknownCommand s)) (mine, owned)
+    frame_keeps = either_keeps (f.magic == RESPONSE) (Done s) (if list_any (λ o. o == f.opcode) dcp_opcodes then read_answered f (read_of f) s else Done (status_sent f Status.UnknownCommand s)) held
         (either_keeps (list_any (λ o. o == f.opcode) dcp_opcodes) (read_answered f (read_of f) s) (Done (status_sent f Status.UnknownCommand s)) (read_keeps (read_of f)) (status_keeps Status.UnknownCommand))
+
+  -- ---- the next frame of a stream
+
+  module _ (name : StreamName) (t : PlainStream) where
+    -- the stream's vBucket has none of its number
+    abbrev IsGone : States → Type 0
+    IsGone states = (k : ℕ) → HasIn (states t.vb) k → k ≡ t.id → ⊥
+
+    -- no vBucket has a new stream; and where this one is over, it was ended, or its vBucket has it no more
+    abbrev Comes : States → States × Next → Type 0
+    Comes states x = NoNew states x.0 × (IsOver x.1.0 → (t.ended ≡ true) ⊎ IsGone x.0)
+
+    placed_comes : (old states : States) (o : Option Place) → NoNew old states → (o ≡ None → IsGone states) → Comes old (after (placed_next name t o) states)
+    placed_comes old states (Some place.Memory) less gone =
+        let taken : States = (states_step states t.vb (call.Take t.id)).0 in
+        let fresh : NoNew states taken = step_new states t.vb (call.Take t.id) tt in
+        (none_new old states taken less fresh, λ over. inr (λ k h e. untaken_none states t.vb t.id name t over k (fresh t.vb k h) e))
+    placed_comes old states (Some place.WaitSaved) less gone = (less, λ over. absurd over)
+    placed_comes old states None less gone = (less, λ over. inr (gone refl))
+
+    reached_comes : (states : States) (b : Bool) → Comes states (after (if b then close_sent t else place_requested name t) states)
+    reached_comes states true = (
+      step_new states t.vb (call.CloseStream t.id) tt,
+      λ over. inr (λ k h e. closed_here states t.vb t.id (subst (HasIn ((states_step states t.vb (call.CloseStream t.id)).0 t.vb)) e h)),
+    )
+    reached_comes states false =
+        let step = states_step states t.vb (call.Place t.id) in
+        let less : NoNew states step.0 = step_new states t.vb (call.Place t.id) tt in
+        placed_comes states step.0 (place_said step.1) less (λ lost k h e. unplaced_none states t.vb t.id lost k (less t.vb k h) e)
+
+    next_comes : (states : States) → Comes states (after (next_frame name t) states)
+    unfolding next_frame
+    next_comes states = by (slice_get t.items t.next)
+      where
+        more : (b : Bool) → t.ended ≡ b → Comes states (after (if b then Done (over STATE_CHANGED t) else if reaches_end t.until t.marked then close_sent t else place_requested name t) states)
+        more true e = (λ v k h. h, λ over. inl e)
+        more false e = reached_comes states (reaches_end t.until t.marked)
+
+        by : (o : Option Change) → Comes states (after (next_by name t o) states)
+        by (Some c) = (λ v k h. h, λ over. absurd over)
+        by None = more t.ended refl
 
   -- ---- frames are put
 
   -- the connection after a turn
-  abbrev end_of : Turn Served (Served × Halt) → PlainProducer
-  end_of (More s) = s.end
-  end_of (Stop put) = put.0.end
+  abbrev served_of : Turn Pulling Pulling → Served
+  served_of (More p) = p.served
+  served_of (Stop p) = p.served
 
-  abbrev Turned : States × Turn Served (Served × Halt) → Type 0
-  Turned x = ((end_of x.1).desk.id ≡ id) × Owned x.0 (end_of x.1).stream
+  module _ (s : Served) (q : QuietOnes) (t : PlainStream) (among : Among t s.end.streams) (states : States) (held : Holds states s.end) where
+    module _ (states' : States) (left : PlainStream) (same : Same t left) where
+      stands : (v k : ℕ) → IsOpenAt v k t → IsOpenAt v k left
+      stands v k o = (same.vb ∙ o.0, same.id ∙ o.1, same.ended ∙ o.2)
 
-  module _ (s : Served) (mine : s.end.desk.id ≡ id) where
-    item_turns : (stream : PlainStream) (c : Change) (m : Option DcpMsg) (states : States) → s.end.stream ≡ Some stream → Owned states (Some stream) → Turned (states, item_put s stream c m)
-    item_turns stream c None states e owned = (mine, subst (Owned states) (sym e) owned)
-    item_turns stream c (Some m) states e owned = (mine, owned)
+      went : (v k : ℕ) → HasOpen v k s.end.streams → HasOpen v k (replaced left s.end.streams)
+      went v k own = replaced_has v k left s.end.streams (λ e. stands v k (only_open v k s.end.streams t held.1.rise among own (e ∙ same.id))) own
 
-    -- the stream's vBucket has none of the connection's number
-    abbrev IsGone : PlainStream → States → Type 0
-    IsGone stream states = (k : ℕ) → HasIn (states stream.vb) k → k ≡ id → ⊥
+      kept : AreKept (with_stream left s.end)
+      kept = kept_went s.end (replaced left s.end.streams) (replaced_ids left s.end.streams) held.1
 
-    halted_turns : (stream : PlainStream) (none : NoSnapshot) (states : States) → s.end.stream ≡ Some stream → Owned states (Some stream) → (none ≡ NoSnapshot.Lost → IsGone stream states) → Turned (states, halted_put s stream none)
-    unfolding end_put
-    halted_turns stream NoSnapshot.Lost states e owned gone =
-        (mine, λ v k h. ⊎_elim (λ o. inl o) (λ own. absurd (gone refl k (subst (λ w. HasIn (states w) k) (sym own.1.0) h) own.0)) (owned v k h))
-    halted_turns stream (NoSnapshot.Halted halted) states e owned gone = (mine, subst (Owned states) (sym e) owned)
+      goes_on : NoNew states states' → Holds states' (with_stream left s.end)
+      goes_on less = (λ v k h. ⊎_elim (λ o. inl o) (λ own. inr (went v k own)) (held.0 v k (less v k h)), kept)
 
-    taken_turns : (stream : PlainStream) (o : Result Snapshot NoSnapshot) (states : States) → s.end.stream ≡ Some stream → Owned states (Some stream) → (o ≡ Err NoSnapshot.Lost → IsGone stream states) → Turned (states, taken_put s stream o)
-    unfolding marker_put
-    taken_turns stream (Err none) states e owned gone = halted_turns stream none states e owned (λ is. gone (λ i. Err (is i)))
-    taken_turns stream (Ok snapshot) states e owned gone = (mine, owned)
+      ends : NoNew states states' → (t.ended ≡ true) ⊎ IsGone s.end.desk.stream t states' → Holds states' (without_stream left.id (with_stream left s.end))
+      ends less over = (
+        λ v k h. ⊎_elim (λ o. inl o)
+            (λ own. inr (without_has v k left.id (replaced left s.end.streams) (λ e. never v k h (e ∙ same.id) (only_open v k s.end.streams t held.1.rise among own (e ∙ same.id))) (went v k own))) (held.0 v k (less v k h)),
+        kept_over (with_stream left s.end) left.id kept,
+      )
+        where
+          never : (v k : ℕ) → HasIn (states' v) k → k ≡ t.id → IsOpenAt v k t → ⊥
+          never v k h e o = ⊎_elim (λ ended. let z : true ≡ false = sym ended ∙ o.2 in cc) (λ gone. gone k (subst (λ u. HasIn (states' u) k) (sym o.0) h) e) over
 
-    take_turns : (stream : PlainStream) (o : Option NoSnapshot) (states : States) → s.end.stream ≡ Some stream → Owned states (Some stream) → (o ≡ Some NoSnapshot.Lost → IsGone stream states) → Turned (after (take_unless s stream o) states)
-    take_turns stream (Some none) states e owned gone = halted_turns stream none states e owned (λ is. gone (ap Some is))
-    take_turns stream None states e owned gone =
-        let step = states_step states stream.vb (call.Take s.end.desk.id) in
-        let less = step_new states stream.vb (call.Take s.end.desk.id) tt in
-        taken_turns stream (snapshot_of_reply step.1) step.0 e (fewer states step.0 (Some stream) less owned)
-        (λ lost k h own. untaken_none states stream.vb s.end.desk.id lost k (less stream.vb k h) (own ∙ sym mine))
+    came_holds : (x : States × Next) → Same t x.1.1 → Comes s.end.desk.stream t states x → Holds x.0 (served_of (came s q x.1)).end
+    came_holds (states', (next.Put m line, left)) same c = goes_on states' left same c.0
+    came_holds (states', (next.End reason, left)) same c = ends states' left same c.0 (c.1 tt)
+    came_holds (states', (next.Quiet waits, left)) same c = goes_on states' left same c.0
 
-    next_turns : (stream : PlainStream) (o : Option Change) (states : States) → s.end.stream ≡ Some stream → Owned states (Some stream) → Turned (after (next_put s stream o) states)
-    unfolding end_put
-    next_turns stream (Some c) states e owned = item_turns stream c (act_message c c.act) states e owned
-    next_turns stream None states e owned = by stream.ended refl
-      where
-        by : (b : Bool) → stream.ended ≡ b → Turned (after (if b then Done (More (end_put s stream)) else place_requested s stream) states)
-        by true over = (mine, λ v k h. ⊎_elim (λ o. inl o) (λ own. let z : true ≡ false = sym over ∙ own.1.1 in cc) (owned v k h))
-        by false over =
-            let step = states_step states stream.vb (call.Place s.end.desk.id) in
-            let less = step_new states stream.vb (call.Place s.end.desk.id) tt in
-            take_turns stream (place_halt step.1) step.0 e (fewer states step.0 (Some stream) less owned)
-            (λ lost k h own. unplaced_none states stream.vb s.end.desk.id lost k (less stream.vb k h) (own ∙ sym mine))
+    asked_holds : let x = after (stream_asked s q t) states in Holds x.0 (served_of x.1).end
+    asked_holds =
+        let name : StreamName = s.end.desk.stream in
+        subst (λ (x : States × Turn Pulling Pulling). Holds x.0 (served_of x.1).end) (sym (after_bind (next_frame name t) (λ x. Done (came s q x)) states))
+        (came_holds (after (next_frame name t) states) (after_always AnyCall (GoesOn t) (next_frame name t) states (frame_same name t)) (next_comes name t states))
 
-    stream_turns : (o : Option PlainStream) (states : States) → s.end.stream ≡ o → Owned states o → Turned (after (stream_put s o) states)
-    stream_turns None states e owned = (mine, subst (Owned states) (sym e) owned)
-    stream_turns (Some stream) states e owned = next_turns stream (slice_get stream.items stream.next) states e owned
+  abbrev Turned : States × Turn Pulling Pulling → Type 0
+  Turned x = Holds x.0 (served_of x.1).end
 
-    turn : (states : States) → Owned states s.end.stream → Turned (after (frame_put s) states)
-    unfolding frame_put
-    turn states owned = by _
-      where
-        program : Prog (Turn Served (Served × Halt))
-        program = counted_in_window (length s.out) (stream_put s s.end.stream)
-
-        counts : (t : Turn Served (Served × Halt)) (st : States) → Turned (st, t) → Turned (st, in_window (length s.out) t)
-        counts (More t) st x = x
-        counts (Stop put) st x = x
-
-        goes : Turned (after program states)
-        goes = subst Turned (sym (after_bind (stream_put s s.end.stream) (λ t. Done (in_window (length s.out) t)) states))
-            (counts (after (stream_put s s.end.stream) states).1 (after (stream_put s s.end.stream) states).0 (stream_turns s.end.stream states refl owned))
-
-        by : (b : Bool) → Turned (after (if b then program else Done (Stop (s, Halt.Full))) states)
-        by true = goes
-        by false = (mine, owned)
-
-  go_turns : (t : Turn Served (Served × Halt)) (states : States) → Turned (states, t) → Turned (after (go_on frame_put t) states)
-  go_turns (More s) states x = turn s x.0 states x.1
-  go_turns (Stop put) states x = x
-
-  turns : (n : ℕ) (s : Served) (states : States) → s.end.desk.id ≡ id → Owned states s.end.stream → Turned (after (repeated n frame_put s) states)
-  turns zero s states mine owned = (mine, owned)
-  turns (suc n) s states mine owned =
-      subst Turned (sym (after_bind (repeated n frame_put s) (go_on frame_put) states))
-      (go_turns (after (repeated n frame_put s) states).1 (after (repeated n frame_put s) states).0 (turns n s states mine owned))
-
-  pub puts_keep : (n : ℕ) (s : Served) (states : States) → s.end.desk.id ≡ id → Owned states s.end.stream → let x = after (frames_put n s) states in (x.1.0.end.desk.id ≡ id) × Owned x.0 x.1.0.end.stream
-  unfolding frames_put
-  puts_keep n s states mine owned =
-      subst (λ (x : States × (Served × Halt)). (x.1.0.end.desk.id ≡ id) × Owned x.0 x.1.0.end.stream) (sym (after_bind (repeated n frame_put s) pulled states))
-      (by (after (repeated n frame_put s) states).1 (after (repeated n frame_put s) states).0 (turns n s states mine owned))
+  turn : (p : Pulling) (states : States) → Holds states p.served.end → Turned (after (one_turn p) states)
+  unfolding one_turn
+  turn p states held = by (stream_in_turn p.served.end) (λ t e. in_turn t _ e)
     where
-      by : (t : Turn Served (Served × Halt)) (st : States) → Turned (st, t) → let x = after (pulled t) st in (x.1.0.end.desk.id ≡ id) × Owned x.0 x.1.0.end.stream
-      by (More u) st x = x
-      by (Stop put) st x = x
+      in_turn : (t : PlainStream) (o : Option ℕ) → stream_in o p.served.end.streams ≡ Some t → Among t p.served.end.streams
+      in_turn t None e = cc
+      in_turn t (Some id) e = id_among id p.served.end.streams t e
+
+      whether : (t : PlainStream) → Among t p.served.end.streams → (b : Bool) → Turned (after (if b then Done (More (pull_of (past_turn p.served) p.quiet)) else stream_asked (past_turn p.served) p.quiet t) states)
+      whether t among true = held
+      whether t among false = asked_holds (past_turn p.served) p.quiet t among states held
+
+      by : (o : Option PlainStream) → ((t : PlainStream) → o ≡ Some t → Among t p.served.end.streams) → Turned (after (turn_had (past_turn p.served) p.quiet o) states)
+      by None among = held
+      by (Some t) among = whether t (among t refl) (is_quiet t.id p.quiet)
+
+  turns : (n : ℕ) (p : Pulling) (states : States) → Holds states p.served.end → Turned (after (repeated n one_turn p) states)
+  turns zero p states held = held
+  turns (suc n) p states held =
+      subst Turned (sym (after_bind (repeated n one_turn p) (go_on one_turn) states))
+      (goes (after (repeated n one_turn p) states).1 (after (repeated n one_turn p) states).0 (turns n p states held))
+    where
+      goes : (t : Turn Pulling Pulling) (states : States) → Turned (states, t) → Turned (after (go_on one_turn t) states)
+      goes (More p) states x = turn p states x
+      goes (Stop p) states x = x
+
+  -- the connection after a frame, or where none was put
+  abbrev framed_of : Turn Pulling (Served × Halt) → Served
+  framed_of (More p) = p.served
+  framed_of (Stop stopped) = stopped.0
+
+  abbrev Framed : States × Turn Pulling (Served × Halt) → Type 0
+  Framed x = Holds x.0 (framed_of x.1).end
+
+  frame : (p : Pulling) (states : States) → Holds states p.served.end → Framed (after (one_frame p) states)
+  unfolding one_frame
+  frame p states held = by (lets_through p.served.end)
+    where
+      all : Prog (Turn Pulling Pulling)
+      all = repeated (length p.served.end.streams) one_turn p
+
+      comes : (t : Turn Pulling Pulling) (states : States) → Turned (states, t) → Framed (states, turns_came t)
+      comes (Stop q) states x = x
+      comes (More q) states x = x
+
+      by : (b : Bool) → Framed (after (if b then bind all (λ turns. Done (turns_came turns)) else Done (Stop (p.served, Halt.Full))) states)
+      by true = subst Framed (sym (after_bind all (λ turns. Done (turns_came turns)) states)) (comes (after all states).1 (after all states).0 (turns (length p.served.end.streams) p states held))
+      by false = held
+
+  frames : (n : ℕ) (p : Pulling) (states : States) → Holds states p.served.end → Framed (after (repeated n one_frame p) states)
+  frames zero p states held = held
+  frames (suc n) p states held =
+      subst Framed (sym (after_bind (repeated n one_frame p) (go_on one_frame) states))
+      (goes (after (repeated n one_frame p) states).1 (after (repeated n one_frame p) states).0 (frames n p states held))
+    where
+      goes : (t : Turn Pulling (Served × Halt)) (states : States) → Framed (states, t) → Framed (after (go_on one_frame t) states)
+      goes (More p) states x = frame p states x
+      goes (Stop stopped) states x = x
+
+  pub puts_keep : (n : ℕ) (s : Served) (states : States) → Holds states s.end → let x = after (frames_put n s) states in Holds x.0 x.1.0.end
+  unfolding frames_put
+  puts_keep n s states held =
+      let first : Pulling = pull_of s none_quiet in
+      subst (λ (x : States × (Served × Halt)). Holds x.0 x.1.0.end) (sym (after_bind (repeated n one_frame first) pulled states))
+      (by (after (repeated n one_frame first) states).1 (after (repeated n one_frame first) states).0 (frames n first states held))
+    where
+      by : (t : Turn Pulling (Served × Halt)) (st : States) → Framed (st, t) → let x = after (pulled t) st in Holds x.0 x.1.0.end
+      by (More p) st x = x
+      by (Stop stopped) st x = x

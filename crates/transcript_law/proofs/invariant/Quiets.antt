@@ -1,8 +1,8 @@
 -- what a node does for its clients, for an operator and for its dials opens no stream
-use Rattle.std.specs.Prelude.{◌≡◌, ◌∷◌, ◌==◌, if◌then◌else◌}
-use Rattle.transcript_law.proofs.Words.{ℕ, Bool, true, false, List, [], refl, ap, sym, ◌∙◌, subst, Option, Some, None, Result, Ok, Err, is_some, nat_le, eq-eqb, Frame, RESPONSE, Status, KvRequest, Plain, PlainSession, VbCall, VbReply, States}
-use Rattle.transcript_law.proofs.Words.{after, after_job, bind_job, Done, Job, Ended, frame_handled, request_handled, bytes_handled, PlainNode, plain_step, with_vb_at, admin_call, admin_replied, admin_result, AdminCall, AdminResult, dial_bytes, promoted, promote_refusal, is_role, role_result, turn_row, in_role, ending_reply, refusal_reply, VbAnswer, Role}
-use Rattle.transcript_law.proofs.{lines.Calm.{AnyAsk}, invariant.Unopened.{NoNew, OpensNone, after_job_new, after_new, either, led_none, none_new, step_new}}
+use Rattle.std.specs.Prelude.{◌≡◌, ◌∷◌, ◌==◌}
+use Rattle.transcript_law.proofs.Words.{ℕ, Bool, true, false, List, [], refl, ap, sym, ◌∙◌, subst, Option, Some, None, Result, Ok, Err, is_some, nat_le, Frame, RESPONSE, Status, KvRequest, Plain, PlainSession, VbCall, VbReply, States}
+use Rattle.transcript_law.proofs.Words.{after, after_job, bind_job, Done, Job, Ended, frame_handled, request_handled, bytes_handled, PlainNode, plain_step, admin_call, admin_replied, admin_result, AdminCall, AdminResult, dial_bytes, promoted, promote_refusal, is_role, role_result, turn_row, in_role, ending_reply, refusal_reply, VbAnswer, Role}
+use Rattle.transcript_law.proofs.{lines.Calm.{AnyAsk}, invariant.Unopened.{NoNew, OpensNone, after_job_new, after_new, either, found_at_own, led_none, none_new, step_new}}
 use Rattle.transcript_law.specs.Feeding.{Has, HasIn}
 use Rattle.client_session.proofs.Keeping.{bytes_keep, front_of, outcome_keeps}
 use Rattle.client_session.specs.Serving.{MOST_DURABLE, Served, deadline_of, durable_called, next_waiter, outcome_handled, refused, served}
@@ -137,8 +137,6 @@ due_quiet dial states = after_new OpensNone same_call (λ a. Unit {0}) (dial_due
 -- ---- roles
 
 -- a vBucket at its number
-pub found_at_own : (states : States) (v : ℕ) (vb : Plain) → with_vb_at states v vb v ≡ Some vb
-found_at_own states v vb = ap (λ b. if b then Some vb else states v) (eq-eqb v v refl)
 
 -- no vBucket has a new stream, and the vBucket v none
 pub record Ends (states states' : States) (v : ℕ) : Type 0 where

@@ -1,18 +1,11 @@
 -- the calls of clients, of a producer, of an operator and of writing down are such that a vBucket stays sound at them, whatever is replied
-use Rattle.std.specs.Prelude.{◌≡◌, ◌<◌, ◌^◌, ◌==◌, if◌then◌else◌, nat_le, slice_get}
-use Rattle.std.specs.List.{list_any}
-use Rattle.transcript_law.proofs.Words.{ℕ, zero, suc, length, Bool, true, false, Option, Some, None, is_some, Result, Ok, Err, Frame, KvRequest, RESPONSE, Status, Change, DcpMsg, Halt, NoSnapshot, PlainStream, PlainProducer, AdminCall, VbCall, VbReply, DialResult, Prog, Call, Done, Turn, More, Stop, repeated, go_on, bind, Job, Ended, bind_job}
-use Rattle.transcript_law.proofs.Words.{request_handled, frame_handled, frame_answered, stream_request, read_answered, take_unless, place_halt, next_put, stream_put, end_put, frame_put, frames_put, pulled, end_closed, stream_closed, peer_pulled}
+use Rattle.std.specs.Prelude.{◌≡◌, ◌<◌, ◌^◌, ◌==◌, nat_le}
+use Rattle.transcript_law.proofs.Words.{ℕ, Bool, true, false, Option, Some, None, is_some, Result, Ok, Err, Frame, KvRequest, RESPONSE, Status, PlainStream, PlainProducer, AdminCall, VbCall, VbReply, DialResult, Prog, Call, Done, bind, Job, Ended, bind_job}
+use Rattle.transcript_law.proofs.Words.{request_handled, frame_handled, frame_answered, frames_put, end_closed, streams_closed, peer_pulled}
 use Rattle.client_session.proofs.Conduct.{either}
 use Rattle.client_session.specs.Serving.{MOST_DURABLE, Served as Session, deadline_of, durable_called, next_waiter, refused}
-use Rattle.dcp_producer.specs.Producers.{Served, begun, member_of}
-use Rattle.dcp_producer.specs.Pulling.{counted_in_window, in_window, place_requested}
-use Rattle.dcp_producer.specs.Serving.{acknowledged, count_requested, message_answered, row_answered, status_sent, stream_of, weighed}
+use Rattle.dcp_producer.specs.Producers.{Served, begun}
 use Rattle.durability.specs.Chains.{is_chain, Links}
-use Rattle.mcbp_dcp.specs.Messages.{read_of}
-use Rattle.mcbp_dcp.specs.Rows.{dcp_opcodes}
-use Rattle.mcbp_dcp.specs.declared.message.DcpFault.{DcpFault}
-use Rattle.mcbp_dcp.specs.declared.message.DcpMsg.TheVariants as msg
 use Rattle.mcbp_kv.specs.Requests.{request_of}
 use Rattle.mcbp_kv.specs.declared.request.KvRequest.TheVariants as request
 use Rattle.node_core.specs.Admin.{admin_job, role_noted}
@@ -22,7 +15,7 @@ use Rattle.node_core.specs.Loading.{start_job, start_result}
 use Rattle.node_core.specs.Peers.{PlainPeer, peer_answered, peer_result, pull_result}
 use Rattle.node_core.specs.declared.admin.AdminCall.TheVariants as admin
 use Rattle.dcp_consumer.specs.Machine.{is_streaming, may_acknowledge}
-use Rattle.vb_calls.proofs.{Conduct.{always_bind}, JobConduct.{always_bind_job}}
+use Rattle.vb_calls.proofs.{Conduct.{always_bind, always_so}, JobConduct.{always_bind_job}}
 use Rattle.vb_calls.specs.Flushes.{append_job, appended_job, batch_of_reply, done_job, flush_job, is_refusal, note_role_job, part_job, role_of_call, role_job, role_told_job, save_all_job, taken_job, took}
 use Rattle.vb_calls.specs.Jobs.{AlwaysJob}
 use Rattle.vb_calls.specs.Jobs as job
@@ -37,6 +30,8 @@ use Rattle.vb_types.specs.declared.journal.Batch.{Batch}
 use Rattle.vb_types.specs.declared.journal.FlushPart.{FlushPart}
 use Rattle.vb_types.specs.declared.journal.FlushPart.TheVariants as part
 use Rattle.vbucket.specs.Laws.{IsTimely}
+use Rattle.transcript_law.proofs.Words.{List, [], refl, ◌∷◌, Event, StreamName}
+use Rattle.transcript_law.proofs.lines.{Answering.{Asks, Producer, Tells, frame_so}, Pulling.{Lines, Puts, Takes, pull_so}}
 
 -- whatever a program or a job is answered, each of its calls is of a kind
 abbrev pub Makes : {A : Type 0} → (VbCall → Type 0) → Prog A → Type 0
@@ -58,15 +53,15 @@ tame_bind prog k first second = always_bind AnyReply (λ v made. IsTimely made) 
 tame_bind_job : {A B : Type 0} (first : Job A) (k : A → Job B) → TameJob first → ((a : A) → TameJob (k a)) → TameJob (bind_job first k)
 tame_bind_job first k tame second = always_bind_job AnyReply (λ v made. IsTimely made) (λ v ask. Unit {0}) (λ a. Unit {0}) (λ b. Unit {0}) first k tame (λ a any. second a)
 
--- ---- a stream that is closed
+-- ---- streams that are closed
 
 pub closed_makes : (kind : VbCall → Type 0) → ((id : ℕ) → kind (call.CloseStream id)) → (end : PlainProducer) → Makes kind (end_closed end)
 unfolding end_closed
-closed_makes kind closes end = by end.stream
+closed_makes kind closes end = by end.streams
   where
-    by : (o : Option PlainStream) → Makes kind (stream_closed end.desk.id o)
-    by None = tt
-    by (Some stream) = either (λ (p : Prog (Unit {0})). Makes kind p) stream.ended (Done tt) (Call stream.vb (call.CloseStream end.desk.id) (λ reply. Done tt)) tt (closes end.desk.id, λ reply any. tt)
+    by : (streams : List PlainStream) → Makes kind (streams_closed streams)
+    by [] = tt
+    by (stream ∷ more) = either (λ (p : Prog (Unit {0})). Makes kind p) stream.ended (streams_closed more) (Call stream.vb (call.CloseStream stream.id) (λ reply. streams_closed more)) (by more) (closes stream.id, λ reply any. by more)
 
 -- ---- a client, while the clock shows a number of 64 bits
 
@@ -87,74 +82,30 @@ served_tame clock small f s = either (λ (p : Prog Session). Tame p) (f.magic ==
 
 -- ---- a producer that answers
 
-weighed_tame : (f : Frame) (seq : ℕ) (s : Served) (weight : Result ℕ Status) → Tame (count_requested f seq s weight)
-weighed_tame f seq s (Err st) = tt
-weighed_tame f seq s (Ok member) = (tt, λ reply any. tt)
+-- any lines
+abbrev AnyLines : List Event → Type 0
+AnyLines lines = Unit {0}
 
-message_tame : (f : Frame) (m : DcpMsg) (s : Served) → Tame (message_answered f m s)
-unfolding stream_request acknowledged
-message_tame f (msg.StreamRequest ask) s = (tt, λ reply any. tt)
-message_tame f (msg.SeqnoAcknowledged seq) s = weighed_tame f seq s (weighed seq (stream_of f.vb_or_status s.end.stream) (member_of s.end.handshake))
-message_tame f other s = tt
-
-row_tame : (f : Frame) (read : Result DcpMsg DcpFault) (s : Served) → Tame (row_answered f read s)
-row_tame f (Ok m) s = message_tame f m s
-row_tame f (Err fault) s = tt
-
-read_tame : (f : Frame) (read : Option (Result DcpMsg DcpFault)) (s : Served) → Tame (read_answered f read s)
-read_tame f None s = tt
-read_tame f (Some read) s = either (λ (p : Prog Served). Tame p) (f.datatype == 0) (row_answered f read s) (Done (status_sent f Status.Einval s)) (row_tame f read s) tt
+abbrev AnyLine : StreamName → Event → Type 0
+AnyLine name line = Unit {0}
 
 answered_tame : (f : Frame) (s : Served) → Tame (frame_answered f s)
-unfolding frame_answered
 answered_tame f s =
-    either (λ (p : Prog Served). Tame p) (f.magic == RESPONSE) (Done s) (if list_any (λ o. o == f.opcode) dcp_opcodes then read_answered f (read_of f) s else Done (status_sent f Status.UnknownCommand s)) tt
-    (either (λ (p : Prog Served). Tame p) (list_any (λ o. o == f.opcode) dcp_opcodes) (read_answered f (read_of f) s) (Done (status_sent f Status.UnknownCommand s)) (read_tame f (read_of f) s) tt)
+    let asks : Asks IsTimely = record { opens = λ id ask sync. tt; closes = λ id. tt; counts = λ member seq. tt; logs = tt } in
+    let tells : Tells AnyLines s.end.desk = record { more = λ lines more a b. tt; asked = λ v ask high log said. tt; counted = λ v member seq uuid changes. tt } in
+    always_so AnyReply (λ v made. IsTimely made) (Producer IsTimely AnyLines s.end.desk asks tells) (λ a. Unit {0}) (frame_answered f s) (λ t c. tt) (frame_so IsTimely AnyLines s.end.desk asks tells f s (tt, refl))
 
 pub peer_tame : (f : Frame) (peer : PlainPeer) → Tame (peer_answered f peer)
 peer_tame f peer = tame_bind (frame_answered f (begun peer.producer)) (λ s. Done (peer_result peer.heard s)) (answered_tame f (begun peer.producer)) (λ s. tt)
 
 -- ---- a producer that puts frames
 
-module _ (s : Served) (stream : PlainStream) where
-  place_tame : (o : Option NoSnapshot) → Tame (take_unless s stream o)
-  place_tame None = (tt, λ reply any. tt)
-  place_tame (Some none) = tt
-
-  next_tame : (item : Option Change) → Tame (next_put s stream item)
-  next_tame (Some c) = tt
-  next_tame None = either (λ (p : Prog (Turn Served (Served × Halt))). Tame p) stream.ended (Done (More (end_put s stream))) (place_requested s stream) tt (tt, λ reply any. place_tame (place_halt reply))
-
-stream_tame : (s : Served) (o : Option PlainStream) → Tame (stream_put s o)
-stream_tame s None = tt
-stream_tame s (Some stream) = next_tame s stream (slice_get stream.items stream.next)
-
-turn_tame : (s : Served) → Tame (frame_put s)
-unfolding frame_put
-turn_tame s = by _
-  where
-    program : Prog (Turn Served (Served × Halt))
-    program = counted_in_window (length s.out) (stream_put s s.end.stream)
-
-    by : (b : Bool) → Tame (if b then program else Done (Stop (s, Halt.Full)))
-    by true = tame_bind (stream_put s s.end.stream) (λ t. Done (in_window (length s.out) t)) (stream_tame s s.end.stream) (λ t. tt)
-    by false = tt
-
-on_tame : (t : Turn Served (Served × Halt)) → Tame (go_on frame_put t)
-on_tame (More s) = turn_tame s
-on_tame (Stop stopped) = tt
-
-turns_tame : (k : ℕ) (s : Served) → Tame (repeated k frame_put s)
-turns_tame zero s = tt
-turns_tame (suc k) s = tame_bind (repeated k frame_put s) (go_on frame_put) (turns_tame k s) on_tame
-
-over_tame : (t : Turn Served (Served × Halt)) → Tame (pulled t)
-over_tame (More s) = tt
-over_tame (Stop stopped) = tt
-
 puts_tame : (k : ℕ) (s : Served) → Tame (frames_put k s)
-unfolding frames_put
-puts_tame k s = tame_bind (repeated k frame_put s) pulled (turns_tame k s) over_tame
+puts_tame k s =
+    let takes : Takes IsTimely = record { places = λ id. tt; takes = λ id. tt; closes = λ id. tt } in
+    let lines : Lines AnyLine = record { items = λ name c. tt; markers = λ name start end flags. tt; ends = λ name reason. tt } in
+    always_so AnyReply (λ v made. IsTimely made) (Puts IsTimely AnyLine takes lines (λ n t. Unit {0}) (λ n t end same c. tt) (λ n t f line is c. tt) k) (λ a. Unit {0}) (frames_put k s) (λ t c. tt)
+    (pull_so IsTimely AnyLine takes lines (λ n t. Unit {0}) (λ n t end same c. tt) (λ n t f line is c. tt) k s tt)
 
 pub pulled_tame : (k : ℕ) (peer : PlainPeer) → Tame (peer_pulled k peer)
 pulled_tame k peer = tame_bind (frames_put k (begun peer.producer)) (λ put. Done (pull_result peer.heard put)) (puts_tame k (begun peer.producer)) (λ put. tt)

@@ -1,6 +1,6 @@
 -- calls that open no stream leave no vBucket with a new one, and so do programs of such calls
-use Rattle.std.specs.Prelude.{◌≡◌, ◌∷◌, ◌+◌, ◌⊎◌, ◌==◌, if◌then◌else◌, cond}
-use Rattle.transcript_law.proofs.Words.{ℕ, Bool, true, false, List, [], refl, sym, ◌∙◌, subst, inl, inr, ⊎_elim, map, fold, not, Option, Some, None, eqb-true, eqb-false}
+use Rattle.std.specs.Prelude.{◌≡◌, ◌∷◌, ◌+◌, ◌==◌, if◌then◌else◌, cond}
+use Rattle.transcript_law.proofs.Words.{ℕ, Bool, true, false, List, [], refl, ap, sym, ◌∙◌, subst, inl, inr, ⊎_elim, map, fold, not, Option, Some, None, eqb-true, eqb-false, eq-eqb, close_row}
 use Rattle.transcript_law.proofs.Words.{Act, Plain, plain_step, VbAnswer, VbCall, VbReply, Stream, States, with_vb_at, without_stream, is_active, led, Prog, Done, Call, after, Job, Ended, after_job, newest_branch}
 use Rattle.transcript_law.specs.Feeding.{Has, HasIn}
 use Rattle.durability.specs.declared.waiting.Waiting.{Waiting}
@@ -123,6 +123,18 @@ step_new states v c q = by (states v) refl
     by : (o : Option Plain) → states v ≡ o → NoNew states (call_at states v c o).0
     by None e = λ w id h. h
     by (Some vb) e = put_new states v (plain_step vb c).0 (λ id h. subst (λ o. HasIn o id) (sym e) (call_leaves vb c v q id h))
+
+-- the vBucket that was put at v
+pub found_at_own : (states : States) (v : ℕ) (vb : Plain) → with_vb_at states v vb v ≡ Some vb
+found_at_own states v vb = ap (λ b. if b then Some vb else states v) (eq-eqb v v refl)
+
+-- a stream that was closed is no more
+pub closed_here : (states : States) (v i : ℕ) → HasIn ((states_step states v (call.CloseStream i)).0 v) i → ⊥
+closed_here states v i = by (states v) refl
+  where
+    by : (o : Option Plain) → states v ≡ o → HasIn ((call_at states v (call.CloseStream i) o).0 v) i → ⊥
+    by None e h = subst (λ o. HasIn o i) e h
+    by (Some vb) e h = (closed_has i i vb.streams (subst (λ o. HasIn o i) (found_at_own states v (close_row vb i).0) h)).1 refl
 
 -- programs and jobs of such calls
 

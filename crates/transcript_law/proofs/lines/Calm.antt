@@ -1,16 +1,8 @@
 -- lines that tell of no arm, and of no rollback but where a link's bytes are taken: those of connections, links and streams, whatever the replies of vBuckets and journals
-use Rattle.std.specs.Prelude.{◌≡◌, ◌∷◌, ◌++◌, ◌==◌, if◌then◌else◌}
-use Rattle.transcript_law.proofs.Words.{ℕ, Bool, true, false, List, [], refl, ap, ◌∙◌, zero, suc, length, take, map, Told, Answer, Cause, flat_map, filter-append, list_any, Option, Some, None, slice_get, Result, Ok, Err, Event, EndReason, Status, Change, Frame, FrameFault, RESPONSE, States, after, front_fault, frames_in, with_states, LogEntry, StreamAsk, VbAnswer, VbReply, PlainLink, PlainNode}
-use Rattle.transcript_law.proofs.Words.{Done, Turn, More, Stop, repeated, go_on, Handshake, Halt, NoSnapshot, DcpMsg, PlainProducer, PlainStream, Served, begun, peer_pulled, peer_of, dial_of, moved_len, up_at, pump_at, bytes_at, bytes_if, PlainSession}
-use Rattle.transcript_law.proofs.Words.{stream_put, next_put, item_put, halted_put, take_unless, taken_put, snapshot_of_reply, pulled, act_message, place_halt, read_answered, opened_unless, controlled, controlled_as, codes, Prog}
-use Rattle.dcp_producer.specs.Pulling.{counted_in_window, end_put, frame_put, frames_put, in_window, marker_put, take_next}
+use Rattle.std.specs.Prelude.{◌≡◌, ◌∷◌, ◌++◌, if◌then◌else◌}
+use Rattle.transcript_law.proofs.Words.{ℕ, Bool, true, false, List, [], refl, ap, ◌∙◌, take, map, Told, Answer, Cause, flat_map, filter-append, Option, Some, None, Event, EndReason, VbCall, Frame, FrameFault, States, after, front_fault, frames_in, with_states, LogEntry, StreamAsk, VbAnswer, VbReply, PlainLink, PlainNode}
+use Rattle.transcript_law.proofs.Words.{Done, peer_of, dial_of, moved_len, up_at, pump_at, bytes_at, bytes_if, PlainSession}
 use Rattle.dcp_consumer.specs.declared.handshake.Dialed.{Dialed}
-use Rattle.dcp_producer.specs.Producers.{member_of}
-use Rattle.dcp_producer.specs.Serving.{acknowledged, count_answered, count_requested, counted_by, frame_answered, message_answered, row_answered, sized, sized_as, status_sent, stream_answered, stream_of, stream_request, weighed}
-use Rattle.std.specs.Str.{bytes_eq}
-use Rattle.mcbp_dcp.specs.declared.message.DcpFault.{DcpFault}
-use Rattle.mcbp_dcp.specs.declared.message.DcpMsg.TheVariants as msg
-use Rattle.mcbp_dcp.specs.Rows.{dcp_opcodes}
 use Rattle.node_core.specs.Flushing.{FlushResult}
 use Rattle.node_core.specs.Peers.{PeerResult, PlainPeer, peer_answered, peer_frames, peer_heard}
 use Rattle.node_core.specs.Dials.{DialResult, PlainDial, acknowledged_line, adopt_result, again_result, bytes_counted, with_last_line, requested_once_more, bytes_taken, call_made, dial_due, dial_bytes, due_requested, due_met, due_of_reply, with_end_line, fault_met, follower_ask, frame_taken, frames_taken, go_on_with, got_line, granted_with, is_broken, is_done, is_over, message_result, over_for, passive_made, rest_met as dial_met, roll_back, rolled_back, saved_of_reply, step_made, taken_as, untold, with_consumer}
@@ -31,8 +23,10 @@ use Rattle.vb_calls.specs.Flushes.{roll_job}
 use Rattle.vb_calls.specs.Jobs.{AlwaysJob, Job, Ended, Call as AsksCall, Request, each_job, lift}
 use Rattle.vb_calls.specs.Programs.{Always, AnyCall, AnyReply}
 use Rattle.vb_calls.specs.Shelves.{Ask}
-use Rattle.vb_calls.proofs.{Conduct.{after_always, always_bind}, JobConduct.{after_job_always, always_bind_job, always_each_job, always_lift}}
+use Rattle.vb_calls.proofs.{Conduct.{after_always}, JobConduct.{after_job_always, always_bind_job, always_each_job, always_lift}}
 use Rattle.transcript_law.specs.Firings.{FiresAsSaid, beside_rollbacks, is_mishap, is_other, mishaps}
+use Rattle.transcript_law.proofs.lines.{Answering.{Asks, Tells, peer_so}, Pulling.{Takes as TakesFrames, pulled_so}}
+use Rattle.dcp_producer.specs.declared.desk.Desk.{Desk}
 
 -- no line tells of an arm, or of a rollback
 abbrev pub Calm : List Event → Type 0
@@ -128,74 +122,25 @@ posts_spared told node s = by told.answer s
 
 -- ---- a producer
 
-abbrev Producer : Served → Type 0
-Producer s = Calm s.events
+-- any call
+abbrev pub AnyKind : VbCall → Type 0
+AnyKind call = Unit {0}
 
-stream_calm : (f : Frame) (ask : StreamAsk) (s : Served) → Producer s → Always AnyCall Producer (stream_request f ask s)
-unfolding stream_request stream_answered
-stream_calm f ask s c = (tt, λ reply any. calm_more s.events _ c refl)
+-- whatever it asks for as it answers, and for the next frame of a stream
+pub asks_any : Asks AnyKind
+asks_any = record { opens = λ id ask sync. tt; closes = λ id. tt; counts = λ member seq. tt; logs = tt }
 
-counted_calm : (f : Frame) (member seq : ℕ) (s : Served) (reply : Option VbReply) → Producer s → Producer (count_answered f member seq s reply)
-unfolding status_sent
-counted_calm f member seq s None c = c
-counted_calm f member seq s (Some reply) c = by reply.answer
-  where
-    by : (a : VbAnswer) → Producer (counted_by f member seq reply a s)
-    by (answer.Status st) = c
-    by other = calm_more s.events _ c (calm_map (Event.Changed s.end.desk.node f.vb_or_status reply.branch) reply.changes (λ x. refl))
+pub takes_any : TakesFrames AnyKind
+takes_any = record { places = λ id. tt; takes = λ id. tt; closes = λ id. tt }
 
-ack_calm : (f : Frame) (seq : ℕ) (s : Served) → Producer s → Always AnyCall Producer (acknowledged f seq s)
-unfolding acknowledged status_sent
-ack_calm f seq s c = by (weighed seq (stream_of f.vb_or_status s.end.stream) (member_of s.end.handshake))
-  where
-    by : (o : Result ℕ Status) → Always AnyCall Producer (count_requested f seq s o)
-    by (Err st) = c
-    by (Ok member) = (tt, λ reply any. counted_calm f member seq s reply c)
-
-message_calm : (f : Frame) (m : DcpMsg) (s : Served) → Producer s → Always AnyCall Producer (message_answered f m s)
-unfolding status_sent
-message_calm f (msg.Open number flags name) s c = by _
-  where
-    by : (o : Option Status) → Producer (opened_unless o f s)
-    by None = c
-    by (Some st) = c
-message_calm f (msg.Control key value) s c = either Producer (bytes_eq key (codes "connection_buffer_size")) (sized_as (sized s.end.handshake value) f s) (controlled_as (controlled s.end.handshake key value) f s) (sizes _) (by _)
-  where
-    sizes : (o : Option ℕ) → Producer (sized_as o f s)
-    sizes None = c
-    sizes (Some size) = c
-
-    by : (o : Option Handshake) → Producer (controlled_as o f s)
-    by None = c
-    by (Some set) = c
-message_calm f (msg.StreamRequest ask) s c = stream_calm f ask s c
-message_calm f (msg.SeqnoAcknowledged seq) s c = ack_calm f seq s c
-message_calm f (msg.BufferAcknowledgement bytes) s c = passes _ _
-  where
-    passes : (b : Bool) (end : PlainProducer) → Producer (if b then record s { end = end } else status_sent f Status.Einval s)
-    passes true end = c
-    passes false end = c
-message_calm f other s c = c
-
-answered_calm : (f : Frame) (s : Served) → Producer s → Always AnyCall Producer (frame_answered f s)
-unfolding frame_answered status_sent
-answered_calm f s c = either (Always AnyCall Producer) (f.magic == RESPONSE) (Done s) _ c (either (Always AnyCall Producer) (list_any (λ o. o == f.opcode) dcp_opcodes) (read_answered f _ s) _ (read_calm _) c)
-  where
-    row_calm : (read : Result DcpMsg DcpFault) → Always AnyCall Producer (row_answered f read s)
-    row_calm (Err fault) = c
-    row_calm (Ok m) = message_calm f m s c
-
-    read_calm : (o : Option (Result DcpMsg DcpFault)) → Always AnyCall Producer (read_answered f o s)
-    read_calm None = c
-    read_calm (Some read) = either (Always AnyCall Producer) (f.datatype == 0) (row_answered f read s) _ (row_calm read) c
+tells_calm : (d : Desk) → Tells Calm d
+tells_calm d = record { more = calm_more; asked = λ v ask high log said. refl; counted = λ v member seq uuid changes. calm_map (Event.Changed d.node v uuid) changes (λ x. refl) }
 
 -- one frame, and the outcomes that are posted with it
 asked_calm : (f : Frame) (peer : PlainPeer) (node : PlainNode) → Calm (frame_posted f peer node).1.events
 asked_calm f peer node =
     let x = after (peer_answered f peer) node.vbs in
-    calm_more x.1.events (all_posted x.1.resolved (with_states node x.0)).1
-    (after_always AnyCall (λ t. Calm t.events) (peer_answered f peer) node.vbs
-    (always_bind AnyReply AnyCall Producer (λ t. Calm t.events) (frame_answered f (begun peer.producer)) _ (answered_calm f (begun peer.producer) refl) (λ s c. c)))
+    calm_more x.1.events (all_posted x.1.resolved (with_states node x.0)).1 (peer_so AnyKind Calm peer.producer.desk asks_any (tells_calm peer.producer.desk) f peer node.vbs refl refl).0
     (all_posts_calm x.1.resolved (with_states node x.0))
 
 frames_calm : (fs : List Frame) (came : PlainNode × PeerResult) → Calm came.1.events → Calm (frames_up fs came).1.events
@@ -209,74 +154,9 @@ up_calm wanted link node =
 
 -- ---- what it puts
 
-abbrev Turned : Turn Served (Served × Halt) → Type 0
-Turned (More s) = Producer s
-Turned (Stop stopped) = Producer stopped.0
-
-module _ (s : Served) (c : Producer s) where
-  halted_calm : (stream : PlainStream) (none : NoSnapshot) → Turned (halted_put s stream none)
-  unfolding end_put
-  halted_calm stream NoSnapshot.Lost = calm_more s.events _ c refl
-  halted_calm stream (NoSnapshot.Halted halted) = c
-
-  take_calm : (stream : PlainStream) → Always AnyCall Turned (take_next s stream)
-  unfolding marker_put
-  take_calm stream = (tt, λ reply any. by (snapshot_of_reply reply))
-    where
-      by : (o : Result _ NoSnapshot) → Turned (taken_put s stream o)
-      by (Err none) = halted_calm stream none
-      by (Ok snapshot) = calm_more s.events _ c refl
-
-  next_calm : (stream : PlainStream) (o : Option Change) → Always AnyCall Turned (next_put s stream o)
-  unfolding end_put
-  next_calm stream (Some x) = by (act_message x x.act)
-    where
-      by : (o : Option DcpMsg) → Turned (item_put s stream x o)
-      by None = c
-      by (Some m) = calm_more s.events _ c refl
-  next_calm stream None = either (Always AnyCall Turned) stream.ended (Done (More (end_put s stream))) _ (calm_more s.events _ c refl) (tt, λ reply any. by (place_halt reply))
-    where
-      by : (o : Option NoSnapshot) → Always AnyCall Turned (take_unless s stream o)
-      by None = take_calm stream
-      by (Some none) = halted_calm stream none
-
-  turn_calm : Always AnyCall Turned (frame_put s)
-  unfolding frame_put
-  turn_calm = whether _
-    where
-      program : Prog (Turn Served (Served × Halt))
-      program = counted_in_window (length s.out) (stream_put s s.end.stream)
-
-      counts : (t : Turn Served (Served × Halt)) → Turned t → Turned (in_window (length s.out) t)
-      counts (More t) d = d
-      counts (Stop stopped) d = d
-
-      by : (o : Option PlainStream) → Always AnyCall Turned (stream_put s o)
-      by None = c
-      by (Some stream) = next_calm stream (slice_get stream.items stream.next)
-
-      whether : (b : Bool) → Always AnyCall Turned (if b then program else Done (Stop (s, Halt.Full)))
-      whether true = always_bind AnyReply AnyCall Turned Turned (stream_put s s.end.stream) (λ t. Done (in_window (length s.out) t)) (by s.end.stream) counts
-      whether false = c
-
-turns_calm : (k : ℕ) (s : Served) → Producer s → Always AnyCall Turned (repeated k frame_put s)
-turns_calm zero s c = c
-turns_calm (suc k) s c = always_bind AnyReply AnyCall Turned Turned (repeated k frame_put s) (go_on frame_put) (turns_calm k s c) goes
-  where
-    goes : (t : Turn Served (Served × Halt)) → Turned t → Always AnyCall Turned (go_on frame_put t)
-    goes (More t) d = turn_calm t d
-    goes (Stop stopped) d = d
-
 pub pump_calm : (frames : ℕ) (link : PlainLink) (node : PlainNode) → Spared (pump_at frames link node).1.1
-unfolding frames_put
-pump_calm frames link node =
-    after_always AnyCall (λ t. FiresAsSaid None t.events t.answer) (peer_pulled frames (peer_of link)) node.vbs
-    (always_bind AnyReply AnyCall (λ put. Producer put.0) (λ t. FiresAsSaid None t.events t.answer) (frames_put frames (begun link.server)) _
-    (always_bind AnyReply AnyCall Turned (λ put. Producer put.0) (repeated frames frame_put (begun link.server)) pulled (turns_calm frames (begun link.server) refl) ends) (λ put c. c))
-  where
-    ends : (t : Turn Served (Served × Halt)) → Turned t → Always AnyCall (λ put. Producer put.0) (pulled t)
-    ends (More t) d = d
-    ends (Stop stopped) d = d
+pump_calm frames link node = pulled_so AnyKind (λ name line. Calm (line ∷ [])) takes_any (record { items = λ name c. refl; markers = λ name start end flags. refl; ends = λ name reason. refl })
+    Calm link.server.desk (λ lines line is c. calm_more lines (line ∷ []) c is) (λ t. FiresAsSaid None t.events t.answer) (λ heard put c. c) frames (peer_of link) node.vbs refl refl
 
 -- ---- a consumer
 

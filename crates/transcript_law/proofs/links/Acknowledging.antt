@@ -93,6 +93,7 @@ module _ (link : PlainLink) (seq : ℕ) (up : List ℕ) (wrote : up ≡ link.up 
       serving = record {
         stream = x.stream;
         stream_is = x.stream_is;
+        numbered = x.numbered;
         apart = x.apart;
         server = x.server;
         acks = All-push (IsAcknowledgement (seq ∷ x.granted_is.wrote) link.consumer.asked link.consumer.dialed.vb) asked frame (acks_more seq link.consumer.asked link.consumer.dialed.vb x.granted_is.wrote asked x.acks) (inl (seq, refl, low, inl refl));
@@ -150,7 +151,7 @@ module _ (link : PlainLink) (seq : ℕ) (up : List ℕ) (wrote : up ≡ link.up 
   pub acked_agrees : (busy : Busy) (w w' : PlainWorld) (r : Chronicle) (c : Cluster) → AgreesIn busy w r c → row_at link_number (link_number link) w.links ≡ Some link → Relinked w w' (row_put link_number (link_number link) after_ack w.links) → AgreesIn busy w' (read_acked r) c
   acked_agrees busy w w' r c a found became =
       let l : ℕ = link_number link in
-      carries_link busy busy w w' r (read_acked r) c l link after_ack a found (record { dialed = refl; desk = refl }) became (λ s. s) (told_stream r l (acknowledging seq)) (λ k ne. refl)
+      carries_link busy busy w w' r (read_acked r) c l link after_ack a found (record { dialed = refl; desk = refl }) became (λ q id has. has) (told_stream r l (acknowledging seq)) (λ k ne. refl)
       (link_acked w w' r c (busy l).0 (busy l).1 became.vbs (mine busy w r r c c l link a found))
 
 -- a role that is known, or one that takes no part

@@ -1,20 +1,20 @@
 -- how a request for a stream is answered, over the plain vBuckets of a node, and where the two ends of its link stand then
-use Rattle.std.specs.Prelude.{◌≡◌, ◌<◌, ◌≤◌, ◌∷◌, ◌++◌, ◌==◌, ◌&&◌, ◌^◌, if◌then◌else◌, ◌||◌}
+use Rattle.std.specs.Prelude.{◌≡◌, ◌<◌, ◌≤◌, ◌∷◌, ◌++◌, ◌==◌, ◌&&◌, ◌^◌, ◌+◌, ◌-◌, if◌then◌else◌, nat_le}
 use Rattle.transcript_law.proofs.Words.{answered, ℕ, true, false, List, [], length, take, drop, refl, ap, sym, ◌∙◌, subst, arith, Option, Some, None, not}
 use Rattle.transcript_law.proofs.Words.{All, eq-eqb, ne_eqb, nat_tests, drop-append-le, All-nil, Frame, spelling, Readable, dcp_frame, EntryInRange, AskAnswer, Position}
 use Rattle.transcript_law.proofs.Words.{LogEntry, StreamAsk, front, uuid_of, IsFront, Member, Stream, Plain, is_active, stream_at, new_stream, Sound, stream_verdict, PlainProducer, granted, PlainLink}
 use Rattle.transcript_law.proofs.Words.{producer_node, consumer_node, Granted, Feed, option_or, All-weaker, find-append, DcpMsg, Handshake, is_some, nat_lt, AskInRange, Event, Status, Verdict}
 use Rattle.transcript_law.proofs.Words.{Continue, Roll, rule, open_refusal, after, States, with_vb_at, call_at, with_frame, refuse, stream_request, frame_answered, PlainStream, Served, VbCall}
-use Rattle.transcript_law.proofs.Words.{judged_open, open_outcome, verdict_with, ask_verdict, opening_id, high_of_reply, request_refusal, stream_answered, is_sync, told}
+use Rattle.transcript_law.proofs.Words.{VbReply, judged_open, open_outcome, ask_verdict, high_of_reply, request_refusal, stream_answered, is_sync, told}
 use Rattle.std.proofs.lemmas.List.{take_all}
 use Rattle.dcp_consumer.specs.declared.handshake.Dialed.{Dialed}
 use Rattle.dcp_producer.specs.declared.desk.Named.{Named}
-use Rattle.transcript_law.proofs.invariant.Agreement.{EntryFits, IsAcknowledgement, spoken, answer_frame, is_granted, StreamAgrees, UpIs, DownAgrees, Asking, IsRefused, PointAgrees, wants_of, EndsStand, Talk}
+use Rattle.transcript_law.proofs.invariant.Agreement.{EntryFits, IsAcknowledgement, spoken, answer_frame, is_granted, StreamAgrees, UpIs, DownAgrees, Asking, IsRefused, PointAgrees, wants_of, EndsStand, Talk, top}
 use Rattle.transcript_law.proofs.invariant.Carrying.{StreamsChanged}
 use Rattle.transcript_law.proofs.{links.Frames.{readable}, links.Spoken.{answer_spoken, spoken_push}}
 use Rattle.transcript_law.proofs.links.Talks.{served_link, next_up, more_down}
 use Rattle.transcript_law.proofs.invariant.Carried.{sound_streams}
-use Rattle.dcp_producer.specs.Serving.{log_of_reply}
+use Rattle.dcp_producer.specs.{Producers.{stream_at as stream_of_vb}, Serving.{log_of_reply, next_stream, opening_requested, opens, refusal_requested, with_asked, with_granted}}
 use Rattle.transcript_law.proofs.links.Firsts.{first_answers, first_count, request_frames, set_after}
 use Rattle.transcript_law.proofs.links.Requests.{all_set, answers_count, request_answered, request_last}
 
@@ -27,18 +27,22 @@ pub record StatesAre (st : States) (v : ℕ) (vb : Plain) (st' : States) : Type 
 abbrev pub told_line : Served → ℕ → StreamAsk → List LogEntry → ℕ → AskAnswer → Event
 told_line s vb ask log high said = Event.Asked s.end.desk.stream s.end.desk.node vb ask high log said
 
--- a request with the opaque o was answered with a refusal
+-- a request with the opaque o was answered with a refusal: one more was asked for
 abbrev pub refused_told : Served → ℕ → ℕ → StreamAsk → List LogEntry → ℕ → AskAnswer → Served
-refused_told s o vb ask log high said = with_frame (record s { events = s.events ++ told_line s vb ask log high said ∷ [] }) (answer_frame o [] said)
+refused_told s o vb ask log high said = with_frame (record s { end = with_asked s.end; events = s.events ++ told_line s vb ask log high said ∷ [] }) (answer_frame o [] said)
 
--- the stream that begins; its consumer has all up to there
-abbrev pub begun_stream : ℕ → ℕ → ℕ → PlainStream
-begun_stream o vb start = record { vb = vb; opaque = o; items = []; next = 0; reached = start; ended = false }
+-- the stream of the number id that begins; its consumer has all up to the start that it asked for
+abbrev pub begun_stream : ℕ → ℕ → ℕ → StreamAsk → PlainStream
+begun_stream id o vb ask = record { id = id; vb = vb; opaque = o; until = ask.end; items = []; next = 0; marked = None; reached = ask.start; ended = false }
+
+-- the producer then
+abbrev pub granted_end : PlainProducer → ℕ → ℕ → StreamAsk → PlainProducer
+granted_end end o vb ask = record end { asked = end.asked + 1; streams = begun_stream (next_stream end) o vb ask ∷ [] }
 
 -- a request was let continue
 abbrev pub granted_lines : Served → ℕ → ℕ → StreamAsk → List LogEntry → ℕ → Served
 granted_lines s o vb ask log high = record {
-  end = record s.end { stream = Some (begun_stream o vb ask.start) };
+  end = granted_end s.end o vb ask;
   events = s.events ++ told_line s vb ask log high AskAnswer.Go ∷ [];
   out = s.out ++ spelling (answer_frame o log AskAnswer.Go);
   count = s.count;
@@ -52,34 +56,35 @@ asked_frame o vb ask = dcp_frame (DcpMsg.StreamRequest ask) o vb
 called_once : (st : States) (v : ℕ) (a : Plain) → StatesAre st v a (with_vb_at st v a)
 called_once st v a = record { here = ap (λ b. if b then Some a else st v) (eq-eqb v v refl); there = λ q ne. ap (λ b. if b then Some a else st q) (ne_eqb q v ne) }
 
-module _ (o vb node : ℕ) (ask : StreamAsk) (s : Served) (range : AskInRange ask) (opened : s.end.handshake ≡ Handshake.Open true (Named.Member node)) (plainly : ask.flags ≡ 0) (none_yet : s.end.stream ≡ None) where
+module _ (o vb node : ℕ) (ask : StreamAsk) (s : Served) (range : AskInRange ask) (shaken : s.end.handshake ≡ Handshake.Open true (Named.Member node)) (plainly : ask.flags ≡ 0) (none_yet : s.end.streams ≡ []) (few : s.end.asked + 1 < 2 ^ 32) where
   abbrev id : ℕ
-  id = s.end.desk.id
+  id = next_stream s.end
 
   -- an open connection with no stream refuses nothing by itself
-  refusal_is : request_refusal s.end.handshake ask ≡ None
+  refusal_is : request_refusal s.end ask ≡ None
   refusal_is =
-      ap (λ h. request_refusal h ask) opened
-      ∙ ap (λ n. if nat_lt 1 n then Some Status.Einval else if n == 1 then Some Status.NotSupported else None) plainly
+      ap (λ h. request_refusal (record s.end { handshake = h }) ask) shaken
+      ∙ ap (λ n. if nat_lt 1 n then Some Status.Einval else if n == 1 then Some Status.NotSupported else if nat_le (2 ^ 32 - 1) s.end.asked then Some Status.Etmpfail else None) plainly
+      ∙ (let left : nat_le (2 ^ 32 - 1) s.end.asked ≡ false = grind (arith, nat_tests, few) in ap (λ b. if b then Some Status.Etmpfail else None) left)
 
-  id_is : opening_id s.end ask ≡ id
-  id_is = ap (λ r. if is_some r || is_some s.end.stream then 0 else id) refusal_is ∙ ap (λ (y : Option PlainStream). if is_some y then 0 else id) none_yet
+  opens_one : opens s.end vb ask ≡ true
+  opens_one = ap (λ r. not (is_some r) && not (is_some (stream_of_vb vb s.end.streams))) refusal_is ∙ ap (λ streams. not (is_some (stream_of_vb vb streams))) none_yet
+
+  -- what comes of the vBucket's answer
+  abbrev told_of : AskAnswer → List LogEntry → ℕ → Served
+  told_of said log high = stream_answered (asked_frame o vb ask) ask (record s { end = with_granted (with_asked s.end) id (asked_frame o vb ask) ask said }) log high said
+
+  abbrev told_as : States × Option VbReply → States × Served
+  told_as p = (p.0, told_of (ask_verdict p.1) (log_of_reply p.1) (high_of_reply p.1))
 
   -- it is answered by what the vBucket says
-  asked_there : (st : States) (there : Option Plain) → st vb ≡ there → after (frame_answered (asked_frame o vb ask) s) st
-      ≡ let p = call_at st vb (VbCall.OpenStream id ask true) there in
-      (p.0, stream_answered (asked_frame o vb ask) ask s (log_of_reply p.1) (high_of_reply p.1) (verdict_with None (ask_verdict p.1)))
+  asked_there : (st : States) (there : Option Plain) → st vb ≡ there → after (frame_answered (asked_frame o vb ask) s) st ≡ told_as (call_at st vb (VbCall.OpenStream id ask true) there)
   unfolding stream_request dcp_frame
   asked_there st there known =
       ap (λ p. after p st) (request_answered o vb ask s range)
-      ∙ ap (λ r. let p = call_at st vb (VbCall.OpenStream (opening_id s.end ask) ask (is_sync s.end.handshake)) (st vb) in
-      (p.0, stream_answered (asked_frame o vb ask) ask s (log_of_reply p.1) (high_of_reply p.1) (verdict_with r (ask_verdict p.1)))) refusal_is
-      ∙ ap (λ i. let p = call_at st vb (VbCall.OpenStream i ask (is_sync s.end.handshake)) (st vb) in
-      (p.0, stream_answered (asked_frame o vb ask) ask s (log_of_reply p.1) (high_of_reply p.1) (verdict_with None (ask_verdict p.1)))) id_is
-      ∙ ap (λ h. let p = call_at st vb (VbCall.OpenStream id ask (is_sync h)) (st vb) in
-      (p.0, stream_answered (asked_frame o vb ask) ask s (log_of_reply p.1) (high_of_reply p.1) (verdict_with None (ask_verdict p.1)))) opened
-      ∙ ap (λ y. let p = call_at st vb (VbCall.OpenStream id ask true) y in
-      (p.0, stream_answered (asked_frame o vb ask) ask s (log_of_reply p.1) (high_of_reply p.1) (verdict_with None (ask_verdict p.1)))) known
+      ∙ ap (λ b. after (if b then opening_requested (asked_frame o vb ask) ask s else refusal_requested (asked_frame o vb ask) ask s) st) opens_one
+      ∙ ap (λ h. told_as (call_at st vb (VbCall.OpenStream id ask (is_sync h)) (st vb))) shaken
+      ∙ ap (λ y. told_as (call_at st vb (VbCall.OpenStream id ask true) y)) known
 
   -- no such vBucket
   pub absent_asked : (st : States) → st vb ≡ None → after (frame_answered (asked_frame o vb ask) s) st ≡ (st, refused_told s o vb ask [] 0 (AskAnswer.Refuse 7))
@@ -87,14 +92,12 @@ module _ (o vb node : ℕ) (ask : StreamAsk) (s : Served) (range : AskInRange as
   absent_asked st none = asked_there st None none
 
   module _ (st : States) (pv : Plain) (known : st vb ≡ Some pv) where
-    asked_then : (why : Option Status) → open_refusal pv id ask ≡ why
-        → after (frame_answered (asked_frame o vb ask) s) st
-        ≡ let p = open_outcome why pv id ask true in
-        (with_vb_at st vb p.0, stream_answered (asked_frame o vb ask) ask s (log_of_reply (Some p.1)) (high_of_reply (Some p.1)) (verdict_with None (ask_verdict (Some p.1))))
-    asked_then why because =
-        asked_there st (Some pv) known
-        ∙ ap (λ y. let p = open_outcome y pv id ask true in
-        (with_vb_at st vb p.0, stream_answered (asked_frame o vb ask) ask s (log_of_reply (Some p.1)) (high_of_reply (Some p.1)) (verdict_with None (ask_verdict (Some p.1))))) because
+    -- what the vBucket makes of it
+    abbrev came_as : Plain × VbReply → States × Served
+    came_as p = told_as (with_vb_at st vb p.0, Some p.1)
+
+    asked_then : (why : Option Status) → open_refusal pv id ask ≡ why → after (frame_answered (asked_frame o vb ask) s) st ≡ came_as (open_outcome why pv id ask true)
+    asked_then why because = asked_there st (Some pv) known ∙ ap (λ y. came_as (open_outcome y pv id ask true)) because
 
     -- one that refuses
     pub refused_asked : (why : Status) → open_refusal pv id ask ≡ Some why
@@ -102,14 +105,8 @@ module _ (o vb node : ℕ) (ask : StreamAsk) (s : Served) (range : AskInRange as
     unfolding stream_answered dcp_frame
     refused_asked why because = (with_vb_at st vb pv, called_once st vb pv, asked_then (Some why) because)
 
-    judged_asked : (said : Verdict) → open_refusal pv id ask ≡ None → rule pv.log pv.position.at ask ≡ said
-        → after (frame_answered (asked_frame o vb ask) s) st
-        ≡ let p = judged_open said pv id ask true in
-        (with_vb_at st vb p.0, stream_answered (asked_frame o vb ask) ask s (log_of_reply (Some p.1)) (high_of_reply (Some p.1)) (verdict_with None (ask_verdict (Some p.1))))
-    judged_asked said because ruled =
-        asked_then None because
-        ∙ ap (λ v. let p = judged_open v pv id ask true in
-        (with_vb_at st vb p.0, stream_answered (asked_frame o vb ask) ask s (log_of_reply (Some p.1)) (high_of_reply (Some p.1)) (verdict_with None (ask_verdict (Some p.1))))) ruled
+    judged_asked : (said : Verdict) → open_refusal pv id ask ≡ None → rule pv.log pv.position.at ask ≡ said → after (frame_answered (asked_frame o vb ask) s) st ≡ came_as (judged_open said pv id ask true)
+    judged_asked said because ruled = asked_then None because ∙ ap (λ v. came_as (judged_open v pv id ask true)) ruled
 
     -- one that sends it back
     pub rolled_asked : (to : ℕ) → open_refusal pv id ask ≡ None → rule pv.log pv.position.at ask ≡ Roll to
@@ -117,14 +114,19 @@ module _ (o vb node : ℕ) (ask : StreamAsk) (s : Served) (range : AskInRange as
     unfolding stream_answered dcp_frame
     rolled_asked to because ruled = (with_vb_at st vb pv, called_once st vb pv, judged_asked (Roll to) because ruled)
 
-    -- one that opens the stream
+    -- one that opens the stream, which is the only one then
     pub granted_asked : open_refusal pv id ask ≡ None → rule pv.log pv.position.at ask ≡ Continue
         → (st' : States) × StatesAre st vb (record pv { streams = pv.streams ++ new_stream id ask true ∷ [] }) st'
         × (after (frame_answered (asked_frame o vb ask) s) st ≡ (st', granted_lines s o vb ask pv.log pv.position.at))
     unfolding stream_answered dcp_frame
     granted_asked because ruled =
         let pv' : Plain = record pv { streams = pv.streams ++ new_stream id ask true ∷ [] } in
-        (with_vb_at st vb pv', called_once st vb pv', judged_asked Continue because ruled)
+        let states' : States = with_vb_at st vb pv' in (
+          states',
+          called_once st vb pv',
+          judged_asked Continue because ruled
+              ∙ ap (λ streams. (states', record (granted_lines s o vb ask pv.log pv.position.at) { end = record (granted_end s.end o vb ask) { streams = streams ++ begun_stream id o vb ask ∷ [] } })) none_yet,
+        )
 
 refused_readable : (o : ℕ) (said : AskAnswer) → o < 2 ^ 32 → IsRefused said → Readable (answer_frame o [] said)
 refused_readable o AskAnswer.Go few refused = absurd refused
@@ -167,12 +169,13 @@ module _ (fv : Plain) (ask : StreamAsk) (link : PlainLink) (down : List ℕ) (f 
   asked_opened = all_answered ∙ all_set dialed
 
   pub refused_talk : (kn : Member) (pv : Option Plain) (leader : Member) (g : Option Granted) → g ≡ None → (answer : AskAnswer) → IsRefused answer → (point : Option ℕ) → PointAgrees answer point → down ≡ link.down ++ spelling (answer_frame o [] answer)
-      → Talk fv kn pv leader g point (served_link link link.server down) fs []
+      → Talk fv kn pv leader g point (served_link link (with_asked link.server) down) fs []
   refused_talk kn pv leader g none answer refused point told wrote = record {
     asked = [];
     said = said ++ answer_frame o [] answer ∷ [];
     stands = EndsStand.IsRefusedYet none (record {
       no_stream = t.no_stream;
+      fewer = let below = t.fewer in omega (arith, below);
       refusal = record {
         said = answer;
         refused = refused;
@@ -185,29 +188,38 @@ module _ (fv : Plain) (ask : StreamAsk) (link : PlainLink) (down : List ℕ) (f 
         said_is = spoken_push said (answer_frame o [] answer) (answer_spoken o [] answer) ∙ ap (λ x. x ++ answer_frame o [] answer ∷ []) answers_said;
       };
     });
-    ups = last_up link.server (answer_frame o [] answer);
-    downs = last_down link.server (answer_frame o [] answer) wrote (refused_readable o answer t.consumer.small refused);
+    ups = last_up (with_asked link.server) (answer_frame o [] answer);
+    downs = last_down (with_asked link.server) (answer_frame o [] answer) wrote (refused_readable o answer t.consumer.small refused);
   }
 
   -- the producer's vBucket lets it continue
   module _ (pv : Plain) (kn pn : Member) (at : kn.position ≡ fv.position) (logs : pn.log ≡ pv.log) (in_front : IsFront pn.log pn.br) (short : length pn.log ≤ 25)
-      (fits : All EntryFits pv.log) (active : is_active pv.role ≡ true) (free : stream_at link.server.desk.id pv.streams ≡ None) (apart : producer_node link ≡ consumer_node link → ⊥)
+      (fits : All EntryFits pv.log) (active : is_active pv.role ≡ true) (free : stream_at (next_stream link.server) pv.streams ≡ None) (apart : producer_node link ≡ consumer_node link → ⊥)
       (wrote : down ≡ link.down ++ spelling (answer_frame link.consumer.asked pv.log AskAnswer.Go)) where
+    abbrev number : ℕ
+    number = next_stream link.server
+
     abbrev new : Stream
-    new = new_stream link.server.desk.id ask true
+    new = new_stream number ask true
+
+    -- the producer's end, and its stream
+    abbrev begun : PlainStream
+    begun = begun_stream number o link.consumer.dialed.vb ask
+
+    abbrev end : PlainProducer
+    end = granted_end link.server o link.consumer.dialed.vb ask
 
     abbrev pub opened_vb : Plain
     opened_vb = record pv { streams = pv.streams ++ new ∷ [] }
 
     abbrev pub granted_link : PlainLink
-    granted_link = served_link link (record link.server { stream = Some (begun_stream o link.consumer.dialed.vb ask.start) }) down
+    granted_link = served_link link end down
 
-    opened_here : stream_at link.server.desk.id (pv.streams ++ new ∷ []) ≡ Some new
+    opened_here : stream_at number (pv.streams ++ new ∷ []) ≡ Some new
     opened_here =
-        let id = link.server.desk.id in
-        find-append (λ (s : Stream). s.id == id) pv.streams (new ∷ [])
-        ∙ ap (λ y. option_or y (if id == id then Some new else None)) free
-        ∙ ap (λ b. if b then Some new else None) (eq-eqb id id refl)
+        find-append (λ (s : Stream). s.id == number) pv.streams (new ∷ [])
+        ∙ ap (λ y. option_or y (if number == number then Some new else None)) free
+        ∙ ap (λ b. if b then Some new else None) (eq-eqb number number refl)
 
     front_uuid : (log : List LogEntry) (br : ℕ) → IsFront log br → uuid_of (front log) ≡ br
     front_uuid [] br e = absurd e
@@ -216,12 +228,13 @@ module _ (fv : Plain) (ask : StreamAsk) (link : PlainLink) (down : List ℕ) (f 
     low : is_granted dialed t.seen ≡ false
     low = let most = seen_most in grind (arith, nat_tests, most)
 
-    marked_stream_begun : StreamAgrees o link.consumer.dialed.vb link.server.desk.id (granted ask pv.log) (begun_stream o link.consumer.dialed.vb ask.start) (Some opened_vb) pn
+    marked_stream_begun : StreamAgrees o link.consumer.dialed.vb (granted ask pv.log) begun (Some opened_vb) pn
         (record { u = pn.br; log = pn.log; flight = []; given = None }) (answered kn pn) false
     marked_stream_begun = record {
       put = record {
         vb_is = refl;
         opaque_is = refl;
+        no_end = record { until = subst (λ (a : StreamAsk). top < a.end) (sym t.asks) (omega arith); marked = tt };
         fits = All-nil _;
         next_in = omega arith;
         last = refl;
@@ -257,8 +270,9 @@ module _ (fv : Plain) (ask : StreamAsk) (link : PlainLink) (down : List ℕ) (f 
         granted_is = granted ask pv.log;
         told = refl;
         serving = record {
-          stream = begun_stream o link.consumer.dialed.vb ask.start;
+          stream = begun;
           stream_is = refl;
+          numbered = omega arith;
           apart = apart;
           server = all_answered;
           acks = All-nil (IsAcknowledgement [] o link.consumer.dialed.vb);
@@ -276,21 +290,21 @@ module _ (fv : Plain) (ask : StreamAsk) (link : PlainLink) (down : List ℕ) (f 
           adopted = sym low;
           asks = λ e. (ap (λ (a : StreamAsk). a.start) t.asks, ap (λ (a : StreamAsk). a.ss) t.asks, ap (λ (a : StreamAsk). a.se) t.asks);
         };
-        streams = subst (λ b. StreamAgrees o link.consumer.dialed.vb link.server.desk.id (granted ask pv.log) (begun_stream o link.consumer.dialed.vb ask.start) (Some opened_vb) pn new_feed (answered kn pn) (b && not fv.first)) (sym low) marked_stream_begun;
+        streams = subst (λ b. StreamAgrees o link.consumer.dialed.vb (granted ask pv.log) begun (Some opened_vb) pn new_feed (answered kn pn) (b && not fv.first)) (sym low) marked_stream_begun;
         all = ap (λ l. drop t.seen (first_answers dialed ++ answer_frame o l AskAnswer.Go ∷ []) ++ []) logs ∙ ap (λ x. x ++ []) (sym all_said);
       });
-      ups = last_up (record link.server { stream = Some (begun_stream o link.consumer.dialed.vb ask.start) }) (answer_frame o pv.log AskAnswer.Go);
-      downs = last_down (record link.server { stream = Some (begun_stream o link.consumer.dialed.vb ask.start) }) (answer_frame o pv.log AskAnswer.Go) wrote
+      ups = last_up end (answer_frame o pv.log AskAnswer.Go);
+      downs = last_down end (answer_frame o pv.log AskAnswer.Go) wrote
           (granted_readable o pv.log t.consumer.small (subst (λ l. length l ≤ 25) logs short) fits);
     }
 
     -- only the link's own stream was opened
-    pub streams_opened : Sound pv → StreamsChanged link.server.desk.id pv opened_vb
+    pub streams_opened : Sound pv → StreamsChanged number pv opened_vb
     streams_opened sound = record {
       sound = sound_streams pv opened_vb.streams sound;
       alone = refl;
       others = λ x ne.
           find-append (λ (s : Stream). s.id == x) pv.streams (new ∷ [])
-          ∙ ap (λ b. option_or (stream_at x pv.streams) (if b then Some new else None)) (ne_eqb link.server.desk.id x (λ e. ne (sym e)))
+          ∙ ap (λ b. option_or (stream_at x pv.streams) (if b then Some new else None)) (ne_eqb number x (λ e. ne (sym e)))
           ∙ elim (stream_at x pv.streams) as (λ o. option_or o None ≡ o) [ None ↦ refl | Some s ↦ refl ];
     }

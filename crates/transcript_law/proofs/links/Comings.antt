@@ -1,9 +1,9 @@
 -- what is to come for a consumer, and which of it was put
 use Rattle.std.specs.Prelude.{◌≡◌, ◌+◌, ◌≤◌, ◌∷◌, ◌++◌}
-use Rattle.transcript_law.proofs.Words.{ℕ, Bool, true, false, List, [], length, map, drop, refl, ap, sym, ◌∙◌, arith, append-nil, append_assoc, Option, Some, None, slice_get, All}
-use Rattle.transcript_law.proofs.{Words.{length-append, map-append, All-tail, Frame, Change, flight_end, act_message, past_item, PlainStream, ItemLine, item_of_change}, invariant.Agreement.{ChangeFits, change_frames}}
-use Rattle.transcript_law.proofs.{invariant.Agreement.{items_frames, flight_frames, coming_items, flight_items, flight_marks, LastAgrees, ComingIs}, links.Sent.{drop_found, drop_whole, message_of}}
-use Rattle.{std.proofs.lemmas.List.{length-drop, length-map}, std.proofs.lemmas.List.Elements.{All-drop}}
+use Rattle.transcript_law.proofs.Words.{ℕ, Bool, true, false, List, [], length, map, drop, refl, ap, sym, ◌∙◌, arith, append-nil, append_assoc, Option, Some, slice_get}
+use Rattle.transcript_law.proofs.{Words.{length-append, map-append, Frame, Change, flight_end, past_item, PlainStream, ItemLine, item_of_change}, invariant.Agreement.{change_frame}}
+use Rattle.transcript_law.proofs.{invariant.Agreement.{items_frames, flight_frames, coming_items, flight_items, flight_marks, LastAgrees, ComingIs}, links.Sent.{drop_found, drop_whole}}
+use Rattle.std.proofs.lemmas.List.{length-drop, length-map}
 
 -- the last snapshot on its way
 
@@ -55,30 +55,18 @@ marker_comes told stream x more s = record { all = s.all; last = elim more as (�
 
 -- frames of changes
 
-items_most : (o v : ℕ) (xs : List Change) → length (items_frames o v xs) ≤ length xs
-items_most o v [] = omega arith
-items_most o v (c ∷ xs) =
-    let first : length (change_frames o v (act_message c c.act)) ≤ 1 = elim (act_message c c.act) as (λ m. length (change_frames o v m) ≤ 1) [ None ↦ omega arith | Some m ↦ omega arith ] in
-    let rest : length (items_frames o v xs) ≤ length xs = items_most o v xs in
-    let all = length-append (change_frames o v (act_message c c.act)) (items_frames o v xs) in omega (arith, first, rest, all)
-
-items_all : (o v : ℕ) (xs : List Change) → All ChangeFits xs → length (items_frames o v xs) ≡ length xs
-items_all o v [] fits = refl
-items_all o v (c ∷ xs) fits =
-    let (m, is) = message_of c c.act in
-    let rest : length (items_frames o v xs) ≡ length xs = items_all o v xs (All-tail ChangeFits c xs fits) in
-    let one : length (change_frames o v (act_message c c.act)) ≡ 1 = ap (λ x. length (change_frames o v x)) is in
-    let all = length-append (change_frames o v (act_message c c.act)) (items_frames o v xs) in omega (arith, rest, one, all)
+items_all : (o v : ℕ) (xs : List Change) → length (items_frames o v xs) ≡ length xs
+items_all o v xs = length-map xs (change_frame o v)
 
 -- the frame of a change comes: its item was put
 
-module _ (o v start : ℕ) (over : Bool) (stream : PlainStream) (c : Change) (later : List Change) (more unput : List Frame) (fits : All ChangeFits stream.items)
+module _ (o v start : ℕ) (over : Bool) (stream : PlainStream) (c : Change) (later : List Change) (more unput : List Frame)
     (unput_is : unput ≡ items_frames o v (drop stream.next stream.items)) (all_put : over ≡ true → unput ≡ []) where
   abbrev left : List Change
   left = drop stream.next stream.items
 
   unput_len : length unput ≡ length left
-  unput_len = ap (λ (fs : List Frame). length fs) unput_is ∙ items_all o v left (All-drop ChangeFits stream.next stream.items fits)
+  unput_len = ap (λ (fs : List Frame). length fs) unput_is ∙ items_all o v left
 
   -- where no item that was put is to come, more are left than there are
   none_put : (flight : List (ℕ × List Change)) → LastAgrees stream.items flight → length left ≡ 1 + (length later + length (flight_items flight)) → (b : Bool) → over ≡ b
@@ -86,7 +74,7 @@ module _ (o v start : ℕ) (over : Bool) (stream : PlainStream) (c : Change) (la
   none_put [] l e true q frames =
       let none : length unput ≡ 0 = ap (λ (fs : List Frame). length fs) (all_put q) in let same = unput_len in omega (arith, none, same, e)
   none_put [] l e false q frames =
-      let most : length (items_frames o v later) ≤ length later = items_most o v later in
+      let most : length (items_frames o v later) ≡ length later = items_all o v later in
       let lens : length (items_frames o v later ++ []) ≡ length (more ++ unput) = ap (λ (fs : List Frame). length fs) frames in
       let before = length-append (items_frames o v later) [] in let after = length-append more unput in let same = unput_len in
       omega (arith, most, lens, before, after, same, e)

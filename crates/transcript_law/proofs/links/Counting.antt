@@ -1,6 +1,6 @@
 -- an acknowledgement is counted at a producer, or refused: all lines are lawful, and after them all agrees
-use Rattle.std.specs.Prelude.{◌≡◌, ◌<◌, ◌≤◌, ◌∷◌, ◌++◌, ◌==◌, ◌&&◌, ◌^◌, if◌then◌else◌, nat_lt, not, Result, Ok, Err}
-use Rattle.dcp_producer.specs.{Producers.{member_of}, declared.desk.Named.{Named}, Serving.{acknowledged, count_answered, count_requested, counted_by, counted_line, status_frame, stream_of, weighed}}
+use Rattle.std.specs.Prelude.{◌≡◌, ◌<◌, ◌≤◌, ◌∷◌, ◌++◌, ◌==◌, ◌^◌, if◌then◌else◌, nat_lt, Result, Ok, Err}
+use Rattle.dcp_producer.specs.{Producers.{is_open, member_of, stream_at as stream_of_vb}, declared.desk.Named.{Named}, Serving.{acknowledged, count_answered, count_requested, counted_by, counted_line, fed_stream, status_frame, status_sent, weighed}}
 use Rattle.durability.specs.Outstanding.{with_ack}
 use Rattle.mcbp_frame.proofs.Pieces.{frames-left, left-left}
 use Rattle.node_core.specs.Calls.{own_lines}
@@ -42,7 +42,7 @@ pub acks_left : {fv : Wants} {kn : Member} {pv : Option Plain} {leader : Member}
 acks_left t rest acks = record {
   granted_is = t.granted_is;
   told = t.told;
-  serving = record { stream = t.stream; stream_is = t.stream_is; apart = t.apart; server = t.server; acks = acks; unput = t.unput; unput_is = t.unput_is; all_put = t.all_put };
+  serving = record { stream = t.stream; stream_is = t.stream_is; numbered = t.numbered; apart = t.apart; server = t.server; acks = acks; unput = t.unput; unput_is = t.unput_is; all_put = t.all_put };
   feed = t.feed;
   fed = t.fed;
   log_fits = t.log_fits;
@@ -112,24 +112,34 @@ module _ (stays : StaysSound) (steady : Steady) (w0 : PlainWorld) (r0 : Chronicl
     weighs (Some stream) None member e = cc
     weighs (Some stream) (Some k) member e = (refl, elim (nat_lt stream.reached seq) as (λ b. (if b then Err Status.Erange else Ok k) ≡ Ok member → Some k ≡ Some member) [ true ↦ λ e'. cc | false ↦ λ e'. cc ] e)
 
-    kept_live : (over : Bool) (stream : PlainStream) → is_some (stream_of f.vb_or_status (kept_stream over stream)) ≡ true → (over ≡ false) × (stream.ended ≡ false)
-    kept_live true stream e = cc
-    kept_live false stream e = (refl, by (stream.vb == f.vb_or_status) stream.ended e)
-      where
-        by : (own ended : Bool) → is_some (if own && not ended then Some stream else None) ≡ true → ended ≡ false
-        by own false e = refl
-        by true true e = cc
-        by false true e = cc
+    -- the stream that is fed, and how the acknowledgement is weighed
+    abbrev fed_of : List PlainStream → Option PlainStream
+    fed_of streams = fed_stream (stream_of_vb f.vb_or_status streams)
 
-    member_is : (member : ℕ) → weighed seq (stream_of f.vb_or_status s.end.stream) (member_of s.end.handshake) ≡ Ok member → link0.consumer.dialed.node ≡ member
+    abbrev weight : Result ℕ Status
+    weight = weighed seq (fed_of s.end.streams) (member_of s.end.handshake)
+
+    kept_live : (over : Bool) (stream : PlainStream) → is_some (fed_of (kept_stream over stream)) ≡ true → (over ≡ false) × (stream.ended ≡ false)
+    kept_live true stream e = cc
+    kept_live false stream e = (refl, by (stream.vb == f.vb_or_status) e)
+      where
+        fed : (ended : Bool) → is_some (if ended then None else Some stream) ≡ true → ended ≡ false
+        fed true e = cc
+        fed false e = refl
+
+        by : (own : Bool) → is_some (fed_stream (if own then Some stream else None)) ≡ true → stream.ended ≡ false
+        by true e = fed stream.ended e
+        by false e = cc
+
+    member_is : (member : ℕ) → weight ≡ Ok member → link0.consumer.dialed.node ≡ member
     member_is member e =
         let named : member_of s.end.handshake ≡ Some link0.consumer.dialed.node = ap member_of (t.server ∙ all_set link0.consumer.dialed) in
-        let counted_as : member_of s.end.handshake ≡ Some member = (weighs (stream_of f.vb_or_status s.end.stream) (member_of s.end.handshake) member e).1 in
+        let counted_as : member_of s.end.handshake ≡ Some member = (weighs (fed_of s.end.streams) (member_of s.end.handshake) member e).1 in
         cc
 
-    is_live : (member : ℕ) → weighed seq (stream_of f.vb_or_status s.end.stream) (member_of s.end.handshake) ≡ Ok member → (t.granted_is.over ≡ false) × (t.stream.ended ≡ false)
+    is_live : (member : ℕ) → weight ≡ Ok member → (t.granted_is.over ≡ false) × (t.stream.ended ≡ false)
     is_live member e = kept_live t.granted_is.over t.stream
-        (ap (λ o. is_some (stream_of f.vb_or_status o)) (sym t.stream_is) ∙ (weighs (stream_of f.vb_or_status s.end.stream) (member_of s.end.handshake) member e).0)
+        (ap (λ streams. is_some (fed_of streams)) (sym t.stream_is) ∙ (weighs (fed_of s.end.streams) (member_of s.end.handshake) member e).0)
 
     vb_is : f.vb_or_status ≡ v
     unfolding dcp_frame
@@ -161,7 +171,7 @@ module _ (stays : StaysSound) (steady : Steady) (w0 : PlainWorld) (r0 : Chronicl
         → DownAgrees (served_at w0 r0 n link0 found (answered_at w0 r0 n link0 found x st end lines out).1) [] said → So fs (answered_at w0 r0 n link0 found x st end lines out)
     left_on st same lines lawful told out said spoke downs =
         let y = answered_at w0 r0 n link0 found x st end lines out in
-        quiet_at w0 r0 n link0 found (f ∷ fs) fs x now st same end lines out refl (λ has. has) lawful r told (told_of_same l r) refl refl
+        quiet_at w0 r0 n link0 found (f ∷ fs) fs x now st same end lines out refl (λ v id has. has) lawful r told (told_of_same l r) refl refl
         (talk_same refl (same_vbs w0 r0 n link0 found x y same end.desk.node v) refl refl refl (talk_left out said spoke downs))
 
     -- it is refused
@@ -384,14 +394,14 @@ module _ (stays : StaysSound) (steady : Steady) (w0 : PlainWorld) (r0 : Chronicl
     abbrev weighed_came : Result ℕ Status → States × Served
     weighed_came x' = after (count_requested f seq s x') x.0.vbs
 
-    counts : (member : ℕ) → weighed seq (stream_of f.vb_or_status s.end.stream) (member_of s.end.handshake) ≡ Ok member → So fs (came_of w0 r0 n link0 found x (weighed_came (Ok member)))
-    counts member weight = subst (λ k. So fs (came_of w0 r0 n link0 found x (let z = call_at x.0.vbs k (VbCall.Ack member seq) (x.0.vbs k) in (z.0, count_answered f member seq s z.1)))) (sym vb_is) (by (x.0.vbs v) refl)
+    counts : (member : ℕ) → weight ≡ Ok member → So fs (came_of w0 r0 n link0 found x (weighed_came (Ok member)))
+    counts member is = subst (λ k. So fs (came_of w0 r0 n link0 found x (let z = call_at x.0.vbs k (VbCall.Ack member seq) (x.0.vbs k) in (z.0, count_answered f member seq s z.1)))) (sym vb_is) (by (x.0.vbs v) refl)
       where
         by : (there : Option Plain) → x.0.vbs v ≡ there → So fs (came_of w0 r0 n link0 found x (let z = call_at x.0.vbs v (VbCall.Ack member seq) there in (z.0, count_answered f member seq s z.1)))
         by None none = refused_now Status.NotMyVbucket x.0.vbs (λ q. refl)
-        by (Some pv) known = by_row member (member_is member weight) (is_live member weight) pv known (is_active pv.role) (nat_lt pv.position.at seq) refl refl
+        by (Some pv) known = by_row member (member_is member is) (is_live member is) pv known (is_active pv.role) (nat_lt pv.position.at seq) refl refl
 
-    by_weight : (o' : Result ℕ Status) → weighed seq (stream_of f.vb_or_status s.end.stream) (member_of s.end.handshake) ≡ o' → So fs (came_of w0 r0 n link0 found x (weighed_came o'))
+    by_weight : (o' : Result ℕ Status) → weight ≡ o' → So fs (came_of w0 r0 n link0 found x (weighed_came o'))
     by_weight (Err st) e = refused_now st x.0.vbs (λ q. refl)
     by_weight (Ok member) e = counts member e
 
@@ -401,7 +411,10 @@ module _ (stays : StaysSound) (steady : Steady) (w0 : PlainWorld) (r0 : Chronicl
     -- the acknowledgement is answered
     seqno_next : So fs (frame_up f x)
     unfolding acknowledged
-    seqno_next = subst (So fs) (sym (frame_came w0 r0 n link0 found f x ∙ ap (λ p. came_of w0 r0 n link0 found x (after p x.0.vbs)) answered_is)) (by_weight (weighed seq (stream_of f.vb_or_status s.end.stream) (member_of s.end.handshake)) refl)
+    seqno_next =
+        let shaken : is_open s.end.handshake ≡ true = ap is_open (t.server ∙ all_set link0.consumer.dialed) in
+        subst (So fs) (sym (frame_came w0 r0 n link0 found f x ∙ ap (λ p. came_of w0 r0 n link0 found x (after p x.0.vbs)) answered_is
+        ∙ ap (λ b. came_of w0 r0 n link0 found x (after (if b then count_requested f seq s weight else Done (status_sent f Status.Einval s)) x.0.vbs)) shaken)) (by_weight weight refl)
 
   -- it is one of bytes: the producer has another window, and else all is as it was
   bytes_next : (f : Frame) (fs : List Frame) (x : PlainNode × PeerResult) (now : So (f ∷ fs) x) (t : StreamingNow f fs x now) → IsBytesAcknowledgement o f → So fs (frame_up f x)
@@ -416,11 +429,11 @@ module _ (stays : StaysSound) (steady : Steady) (w0 : PlainWorld) (r0 : Chronicl
       let y : PlainNode × PeerResult = answered_at w0 r0 n link0 found x x.0.vbs end [] [] in
       let came : frame_answered f s ≡ Done (record s { end = end }) = ap (λ g. frame_answered g s) is ∙ bytes_answered o bytes s true named low opened in
       subst (So fs) (sym (frame_came w0 r0 n link0 found f x ∙ ap (λ p. came_of w0 r0 n link0 found x (after p x.0.vbs)) came))
-      (quiet_at w0 r0 n link0 found (f ∷ fs) fs x now x.0.vbs (λ q. refl) end [] [] refl (λ has. has) (none_before r) r refl (told_of_same l r) refl refl
+      (quiet_at w0 r0 n link0 found (f ∷ fs) fs x now x.0.vbs (λ q. refl) end [] [] refl (λ v id has. has) (none_before r) r refl (told_of_same l r) refl refl
       (talk_same refl (same_vbs w0 r0 n link0 found x y (λ q. refl) end.desk.node v) refl refl refl (record {
         asked = rest;
         said = la.talk.said;
-        stands = EndsStand.IsStreaming (streaming_served (acks_left t rest (All-tail (IsAcknowledgement t.granted_is.wrote o v) f rest (all_acks f fs x now t))) end (record { desk = refl; handshake = sym opened; stream = refl }));
+        stands = EndsStand.IsStreaming (streaming_served (acks_left t rest (All-tail (IsAcknowledgement t.granted_is.wrote o v) f rest (all_acks f fs x now t))) end (record { desk = refl; handshake = sym opened; asked = refl; streams = refl }));
         ups = next_up here end (link0.down ++ (x.1.out ++ [])) f f f fs rest (subst (UpIs here (f ∷ fs)) la.talk.ups.joined la.talk.ups);
         downs = subst (λ out. DownAgrees (record here { server = end; down = link0.down ++ out }) [] la.talk.said) (sym (append-nil x.1.out)) (record { behind = la.talk.downs.behind; joined = la.talk.downs.joined; bytes = la.talk.downs.bytes; readable = la.talk.downs.readable });
       })))

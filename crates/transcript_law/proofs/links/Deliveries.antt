@@ -1,16 +1,19 @@
 -- what a consumer acknowledges by bytes behind a delivery
 use Rattle.std.specs.Prelude.{◌≡◌, ◌+◌, ◌<◌, ◌≤◌, ◌∷◌, ◌++◌, ◌==◌, ◌&&◌, ◌||◌, ◌-◌, ◌^◌, min, if◌then◌else◌}
-use Rattle.transcript_law.proofs.Words.{ℕ, Bool, true, false, List, [], fold, length, refl, ap, sym, ◌∙◌, subst, arith, inr, append_assoc, is_some, not, Option, Some, None, All-push, Frame, RESPONSE, spelling, Readable, DcpMsg, dcp_frame, EndReason, Event, Member, Plain, PlainConsumer}
+use Rattle.transcript_law.proofs.Words.{ℕ, Bool, true, false, List, [], fold, length, refl, ap, sym, ◌∙◌, subst, arith, inr, append_assoc, is_some, not, Option, Some, None, Ok, Result, All-push, Frame, RESPONSE, spelling, Readable, DcpMsg, dcp_frame, EndReason, Event, Member, Plain, PlainConsumer}
 use Rattle.transcript_law.proofs.Words.{PlainLink, PlainWorld, Granted, Chronicle, Cluster, after_lines, link_number, consumer_node, producer_node, row_at, row_put, DialResult, with_consumer, frame_taken, frames_taken, call_made, job_stepped, after_job, after_job_fold, States, Job, Ended, Prog, Call, Done, VbReply, VbAnswer, over_why, with_links}
 use Rattle.transcript_law.proofs.Words.{eqb-false, with_handshake}
 use Rattle.std.proofs.lemmas.Bool.{false_from_ne_true}
 use Rattle.mcbp_dcp.specs.Messages.{read_of}
+use Rattle.mcbp_dcp.specs.declared.message.DcpFault.{DcpFault}
+use Rattle.mcbp_dcp.specs.declared.message.DcpMsg.TheVariants as msg
 use Rattle.transcript_law.specs.Chronicles.{after_calls, calls_of_append}
 use Rattle.transcript_law.proofs.invariant.Agreement.{AgreesIn, Busy, EndsStand, IsAcknowledgement, LinkAgrees, UpIs, Wants, idle, vb_of}
 use Rattle.transcript_law.proofs.{invariant.Carried.{talk_same, told_of_same}, invariant.Carrying.{Relinked}, invariant.LinkRows.{put_is_found, put_twice}, invariant.OneLink.{carries_link, mine}, lines.Calm.{AnyAsk}, links.Acknowledging.{not_before}, links.Counting.{acks_left}}
 use Rattle.transcript_law.proofs.{links.Downing.{Asker, Going, Line, Reached, RolledAt, Stage, busy_at, end_of, found_now, lifted_at, link_now, now, so_far}, links.Firsts.{first_count}, links.Frames.{readable, spelled_more}, links.Onward.{Kept}, links.Taken.{as_step, over_taken}}
 use Rattle.dcp_consumer.specs.Counting.{bytes_acknowledged, counted_bytes, counted_len, is_stream_opcode}
-use Rattle.dcp_consumer.specs.Machine.{frame_step, is_streaming, message_step, moved_by, response_step}
+use Rattle.dcp_consumer.specs.Machine.{frame_step, is_noop, is_streaming, message_step, moved_by, passive_step, response_step}
+use Rattle.dcp_consumer.proofs.Noops.{read_is, uncounted}
 use Rattle.dcp_consumer.specs.declared.handshake.ConsumerStep.{ConsumerStep}
 use Rattle.dcp_consumer.specs.declared.handshake.Handshake.{Handshake as Waiting}
 use Rattle.dcp_consumer.specs.declared.passive_stream.Passive.{Passive}
@@ -86,6 +89,18 @@ weaker : {A : Type 0} (P Q : A → Type 0) → ((a : A) → P a → Q a) → (pr
 weaker P Q so (Done a) always = so a always
 weaker P Q so (Call v made next) always = (always.0, λ reply any. weaker P Q so (next reply) (always.1 reply any))
 
+-- a NOOP counts nothing
+noop_read : (read : Option (Result DcpMsg DcpFault)) → is_noop read ≡ true → read ≡ Some (Ok msg.Noop)
+noop_read (Some (Ok msg.Noop)) e = refl
+noop_read other e = cc
+
+one_len : (f : Frame) → counted_bytes (f ∷ []) ≡ counted_len f
+unfolding counted_bytes
+one_len f = omega arith
+
+noop_counts : (f : Frame) → is_noop (read_of f) ≡ true → counted_len f ≡ 0
+noop_counts f e = sym (one_len f) ∙ uncounted f (read_is f (noop_read (read_of f) e))
+
 -- what a step makes of the dial
 abbrev stepped : DialResult → ConsumerStep → Job DialResult
 stepped s x = step_made x (with_consumer s (with_handshake s.dial.consumer (moved_by s.dial.consumer.dialed.buffer x s.dial.consumer.handshake)))
@@ -114,16 +129,30 @@ module _ (f : Frame) (s : DialResult) (n : ℕ) (before : Counts n s) where
   none_counts : f.magic == RESPONSE ≡ true → counted_len f ≡ 0
   none_counts e = ap (λ b. if not b && is_stream_opcode f.opcode then length (spelling f) else 0) e
 
-  asking_goes : (h : Waiting) → c.handshake ≡ h → is_asking h ≡ true → message_step h f ≡ step.Passive passive.Protocol → over_why h ≡ None → Goes (frame_taken f s)
+  -- a message
+  message_at : (h : Waiting) → c.handshake ≡ h → over_why h ≡ None → f.magic == RESPONSE ≡ false → frame_step c f ≡ message_step h f
+  message_at h e still is =
+      step_at h e
+      ∙ ap (λ o. if is_some o then step.Dropped else if f.magic == RESPONSE then response_step c.dialed.buffer h c.asked f else message_step h f) still
+      ∙ ap (λ b. if b then response_step c.dialed.buffer h c.asked f else message_step h f) is
+
+  -- a NOOP leaves what was waited for as it was
+  noop_goes : (h : Waiting) → c.handshake ≡ h → over_why h ≡ None → f.magic == RESPONSE ≡ false → is_noop (read_of f) ≡ true → Goes (frame_taken f s)
+  noop_goes h e still is noop = goes_by (step.Noop f.opaque) (message_at h e still is ∙ ap (λ b. if b then step.Noop f.opaque else passive_step h (read_of f)) noop)
+      (λ asks. let none_before : n ≡ 0 = before asks in let none_now : counted_len f ≡ 0 = noop_counts f noop in omega (arith, none_before, none_now))
+
+  asking_goes : (h : Waiting) → c.handshake ≡ h → is_asking h ≡ true → passive_step h (read_of f) ≡ step.Passive passive.Protocol → over_why h ≡ None → Goes (frame_taken f s)
   asking_goes h e asks none still = by (f.magic == RESPONSE) refl
     where
       by : (b : Bool) → (f.magic == RESPONSE) ≡ b → Goes (frame_taken f s)
       by true is =
           let none_before : n ≡ 0 = before (ap is_asking e ∙ asks) in let none_now : counted_len f ≡ 0 = none_counts is in
           all_answers (Counts (n + counted_len f)) (λ t asks. omega (arith, none_before, none_now)) (frame_taken f s)
-      by false is = goes_by (step.Passive passive.Protocol)
-          (step_at h e ∙ ap (λ o. if is_some o then step.Dropped else if f.magic == RESPONSE then response_step c.dialed.buffer h c.asked f else message_step h f) still ∙ ap (λ b. if b then response_step c.dialed.buffer h c.asked f else message_step h f) is ∙ none)
-          (λ asks. cc)
+      by false is = told (is_noop (read_of f)) refl
+        where
+          told : (b : Bool) → is_noop (read_of f) ≡ b → Goes (frame_taken f s)
+          told true noop = noop_goes h e still is noop
+          told false noop = goes_by (step.Passive passive.Protocol) (message_at h e still is ∙ ap (λ b. if b then step.Noop f.opaque else passive_step h (read_of f)) noop ∙ none) (λ asks. cc)
 
   streaming_goes : c.handshake ≡ waiting.Streaming → Goes (frame_taken f s)
   streaming_goes e = by (f.magic == RESPONSE) refl
@@ -131,8 +160,12 @@ module _ (f : Frame) (s : DialResult) (n : ℕ) (before : Counts n s) where
       by : (b : Bool) → (f.magic == RESPONSE) ≡ b → Goes (frame_taken f s)
       by true is = goes_by step.Dropped (step_at waiting.Streaming e ∙ ap (λ b. if b then response_step c.dialed.buffer waiting.Streaming c.asked f else message_step waiting.Streaming f) is)
           (past_counts (n + counted_len f) (with_consumer s (with_handshake c c.handshake)) (ap is_asking e))
-      by false is = goes_by (step.Passive (passive_read (read_of f))) (step_at waiting.Streaming e ∙ ap (λ b. if b then response_step c.dialed.buffer waiting.Streaming c.asked f else message_step waiting.Streaming f) is)
-          (passes (passive_read (read_of f)) (ap is_asking e))
+      by false is = told (is_noop (read_of f)) refl
+        where
+          told : (b : Bool) → is_noop (read_of f) ≡ b → Goes (frame_taken f s)
+          told true noop = noop_goes waiting.Streaming e refl is noop
+          told false noop = goes_by (step.Passive (passive_read (read_of f))) (message_at waiting.Streaming e refl is ∙ ap (λ b. if b then step.Noop f.opaque else passive_step waiting.Streaming (read_of f)) noop)
+              (passes (passive_read (read_of f)) (ap is_asking e))
 
   -- one frame
   pub frame_counts : Goes (frame_taken f s)
@@ -211,7 +244,7 @@ module _ (link : PlainLink) (n : ℕ) (up : List ℕ) (wrote : up ≡ link.up ++
   pub acked_agrees : (busy : Busy) (w w' : PlainWorld) (r : Chronicle) (c : Cluster) → AgreesIn busy w r c → row_at link_number (link_number link) w.links ≡ Some link → Relinked w w' (row_put link_number (link_number link) after_ack w.links) → AgreesIn busy w' r c
   acked_agrees busy w w' r c a found became =
       let l : ℕ = link_number link in
-      carries_link busy busy w w' r r c l link after_ack a found (record { dialed = refl; desk = refl }) became (λ has. has) (told_of_same l r) (λ k ne. refl)
+      carries_link busy busy w w' r r c l link after_ack a found (record { dialed = refl; desk = refl }) became (λ v id has. has) (told_of_same l r) (λ k ne. refl)
       (link_acked w w' r c (busy l).0 (busy l).1 became.vbs (mine busy w r r c c l link a found))
 
 -- ---- in a line `down`, behind its frames

@@ -235,7 +235,7 @@ module _ (line : Line) where
         agrees = carries_link (busy_at (f ∷ rest)) (busy_at rest) (now states at) (now states at') (after_lines r events) (after_lines r events) g.cluster l (link_now at) (link_now at')
             g.agrees (found_now states at) (record { dialed = refl; desk = refl })
             (record { powers = λ m. refl; vbs = λ m q. refl; shelves = λ m q. refl; uuids = refl; linked = sym (put_twice l w.links (link_now at) (link_now at') refl) })
-            (λ s. s) (told_of_same l (after_lines r events)) (one_but l ([], f ∷ rest) ([], rest))
+            (λ q id has. has) (told_of_same l (after_lines r events)) (one_but l ([], f ∷ rest) ([], rest))
             (subst (λ b. LinkAgrees (now states at') (after_lines r events) g.cluster (link_now at') b.0 b.1) (sym (one_here l ([], rest))) (record {
               follower = m.follower;
               follower_is = m.follower_is;
@@ -260,8 +260,8 @@ module _ (line : Line) where
       ⊎_elim
       (λ same. inl (record { powers = λ m. same.powers m ∙ same_powers states states' m; vbs = λ m q. same.vbs m q ∙ vbs m q; shelves = λ m q. same.shelves m q ∙ shelves m q; uuids = same.uuids; linked = same.linked ∙ out }))
       (λ closed.
-      let (pv, pv', opens, known, changed, one, shelf) = closed in
-      inr (pv, pv', opens, sym (vbs link.server.desk.node v) ∙ known, changed, record { powers = λ m. one.powers m ∙ same_powers states states' m; here = one.here; there = λ m q o. one.there m q o ∙ vbs m q; shelves = λ m q o. one.shelves m q o ∙ shelves m q; uuids = one.uuids; linked = one.linked ∙ out }, shelf ∙ shelves link.server.desk.node v))
+      let (id, pv, pv', opens, known, changed, one, shelf) = closed in
+      inr (id, pv, pv', opens, sym (vbs link.server.desk.node v) ∙ known, changed, record { powers = λ m. one.powers m ∙ same_powers states states' m; here = one.here; there = λ m q o. one.there m q o ∙ vbs m q; shelves = λ m q o. one.shelves m q o ∙ shelves m q; uuids = one.uuids; linked = one.linked ∙ out }, shelf ∙ shelves link.server.desk.node v))
       became
 
   -- the journals of the node are the same
@@ -273,9 +273,9 @@ module _ (line : Line) where
       → ((m q : ℕ) → vb_of (there states') m q ≡ vb_of (now states at) m q) → states'.1 ≡ states.1 → ToldOf l (after_lines r events) r' → AgreesIn idle (gone states') r' (happens g.cluster (Move.Cut k))
   ended_agrees stays busy states states' at events r' g vbs shelves ends =
       let told : Chronicle = after_lines r events in let la = linked busy states at events g in
-      let can : IsClosable (there states') link = λ stream has opens.
-      let (on, pv, is, sound) = closable (busy_at busy) (now states at) told g.cluster (link_now at) [] busy g.agrees la stream has opens in
-      (on, pv, vbs link.server.desk.node v ∙ is, sound) in
+      let can : IsClosable (there states') link = ⊎_elim (λ none. inl none)
+      (λ one. inr (one.0, one.1, λ opens. let (on, pv, is, sound) = one.2 opens in (on, pv, vbs link.server.desk.node v ∙ is, sound)))
+      (closable (busy_at busy) (now states at) told g.cluster (link_now at) [] busy g.agrees la) in
       carries_over (busy_at busy) idle (now states at) (gone states') told r' g.cluster l (link_now at) g.agrees (found_now states at)
       (left_out states states' at vbs (same_shelves states' states shelves) (unlinking stays (there states') link can)) ends
       (λ x ne. sym (one_idle l ([], busy) x ne))
@@ -360,7 +360,7 @@ module _ (line : Line) where
     pub moved_agrees : (left : List Frame) → LinkAgrees (now states' at') (after_line before told) c' (link_now at') [] left → AgreesIn (busy_at left) (now states' at') (after_lines r (events ++ told ∷ [])) c'
     moved_agrees left a = subst (λ x. AgreesIn (busy_at left) (now states' at') x c') (sym (after_more r events (told ∷ [])))
         (carries_consumer (busy_at (f ∷ rest)) (busy_at left) (now states at) (now states' at') before (after_line before told) g.cluster c' l (link_now at) (link_now at') fv fv'
-        g.agrees (found_now states at) (record { dialed = refl; desk = refl }) known role streams changed (λ s. s) taken member sound (one_but l ([], f ∷ rest) ([], left)) vb disk rests
+        g.agrees (found_now states at) (record { dialed = refl; desk = refl }) known role streams changed (λ q id has. has) taken member sound (one_but l ([], f ∷ rest) ([], left)) vb disk rests
         (subst (λ b. LinkAgrees (now states' at') (after_line before told) c' (link_now at') b.0 b.1) (sym (one_here l ([], left))) a))
 
   -- the vBucket made a call, of which one line tells
@@ -404,6 +404,7 @@ module _ (line : Line) where
         first_taken x.seen f i.1 (so_far at None events) i.2 x.consumer.waits,
         record {
           no_stream = x.no_stream;
+          fewer = x.fewer;
           asking = record {
             answered = x.answered;
             seen = suc x.seen;
@@ -423,7 +424,7 @@ module _ (line : Line) where
     IsCounted : frame_taken f (so_far at None events) ≡ Ended (so_far (past dialed.buffer at) None events) → RefusedYet point link.server (end_of (past dialed.buffer at) None) up more → RefusedNext f at events point up more
     IsOver : frame_taken f (so_far at None events) ≡ Ended (so_far at (Some Refused) events) → RefusedNext f at events point up more
     IsBack : (to : ℕ) → point ≡ Some to → frame_taken f (so_far at None events) ≡ roll_back to (so_far at None events) → at.waiting ≡ waiting.Asking
-        → ServerIs link.server dialed (first_count dialed) → link.server.stream ≡ None → up ≡ [] → more ≡ [] → RefusedNext f at events point up more
+        → ServerIs link.server dialed (first_count dialed) → link.server.streams ≡ [] → link.server.asked ≤ at.asked → up ≡ [] → more ≡ [] → RefusedNext f at events point up more
 
   pub refused_next : (f : Frame) (at : Asker) (events : List Event) (point : Option ℕ) (up down more : List Frame) → down ≡ f ∷ more → RefusedYet point link.server (end_of at None) up down → RefusedNext f at events point up more
   refused_next f at events point up down more d x = by (next_answer (first_answers dialed) (first_count dialed) last f [] more x.seen (answers_count dialed) (let y : x.seen ≤ first_count dialed = x.not_more in omega arith) (sym (refused_all dialed last x.seen x.not_more) ∙ sym x.said_is ∙ d))
@@ -439,7 +440,7 @@ module _ (line : Line) where
       by_said ask_answer.Go refused told all h e = absurd refused
       by_said (ask_answer.Roll to) refused told all h e = RefusedNext.IsBack to told
           (subst (λ y. frame_taken y s ≡ roll_back to s) h (rolled_taken to s refused (waits_last at x.seen all x.consumer)))
-          (waits_last at x.seen all x.consumer) x.server x.no_stream x.asked_is (sym e)
+          (waits_last at x.seen all x.consumer) x.server x.no_stream x.fewer x.asked_is (sym e)
       by_said (ask_answer.Refuse code) refused told all h e = RefusedNext.IsOver (subst (λ y. frame_taken y s ≡ Ended (so_far at (Some Refused) events)) h
           (refused_taken code s refused (waits_last at x.seen all x.consumer)))
 
@@ -448,6 +449,7 @@ module _ (line : Line) where
           let few : x.seen < first_count dialed = few_first dialed x.seen f others h in
           RefusedNext.IsCounted (first_taken x.seen f others s h x.consumer.waits) (record {
             no_stream = x.no_stream;
+            fewer = x.fewer;
             refusal = record {
               said = x.said;
               refused = x.refused;

@@ -88,7 +88,8 @@ pub record Succeeds (s : Served) (f answer : Frame) (set : Handshake) : Type 0 w
   pub came : frame_answered f s ≡ Done (with_frame (record s { end = end }) answer)
   pub set_is : end.handshake ≡ set
   pub desk : end.desk ≡ s.end.desk
-  pub stream : end.stream ≡ s.end.stream
+  pub asked : end.asked ≡ s.end.asked
+  pub streams : end.streams ≡ s.end.streams
 
 -- the request with the number n is answered so where this was set before, and readers take it and its answer
 pub record IsServed (n : ℕ) (before : Handshake) (x : First) : Type 0 where

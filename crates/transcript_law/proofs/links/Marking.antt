@@ -4,7 +4,7 @@ use Rattle.transcript_law.proofs.Words.{length-append, ℕ, true, false, refl, a
 use Rattle.transcript_law.proofs.Words.{stream_at, need_of, start_of, end_span, take_to, take_from, Sound, TakesSnapshots, Bool, cond, List, [], length, map, drop, ⊎_elim, append_assoc, append-nil}
 use Rattle.transcript_law.proofs.Words.{Option, None, is_some, not, All, eqb-true, ne_eqb, Frame, dcp_frame, Change, Position, StreamAsk, last_seq, effective_ss, effective_se, fork_of, Branch}
 use Rattle.transcript_law.proofs.Words.{hist, Feed, Member, flight_from, flight_end, member_reach, Flight, PlainStream, Begun, Granted, stream_branch, with_begun, item_of_change, IsWholeIf, IsMarker, PlainProducer}
-use Rattle.transcript_law.proofs.{Words.{PlainConsumer}, links.Sent.{fits_of, all_by_each, drop_whole, flight_frames_push, flight_end_push}, invariant.Agreement.{ChangeFits, BegunAgrees, Open, StreamAgrees, kept_stream, Streaming}}
+use Rattle.transcript_law.proofs.{Words.{PlainConsumer}, links.Sent.{fits_of, all_by_each, drop_whole, flight_frames_push, flight_end_push}, invariant.Agreement.{ChangeFits, BegunAgrees, Open, StreamAgrees, kept_stream, Streaming, top}}
 use Rattle.transcript_law.proofs.{invariant.Agreement.{coming_items, flight_marks, marker_start, items_frames, flight_frames, stream_frames, answer_frame, is_granted, Wants}, links.Firsts.{first_answers}, links.Comings.{marks_push, snapshot_comes}}
 use Rattle.transcript_law.proofs.invariant.Tables.{never}
 use Rattle.branch_model.proofs.Lists.{in_right, from_upto, last_in, rises_in, upto-append}
@@ -67,7 +67,7 @@ whole_if stream (Some b) begun l = record {
   front = sym (append-nil b.items ∙ begun.1 ∙ ap (map item_of_change) (take_all stream.next stream.items l));
 }
 
-module _ {o vb id : ℕ} {g : Granted} {stream : PlainStream} {pv : Option Plain} {leader : Member} {feed : Feed} {kn : Member} {in_one : Bool} (si : StreamAgrees o vb id g stream pv leader feed kn in_one) where
+module _ {o vb : ℕ} {g : Granted} {stream : PlainStream} {pv : Option Plain} {leader : Member} {feed : Feed} {kn : Member} {in_one : Bool} (si : StreamAgrees o vb g stream pv leader feed kn in_one) where
   -- a consumer of which a snapshot is on its way, or that is in one
   in_one_if : (b : Begun) → g.last ≡ Some b → feed.flight ≡ [] → in_one ≡ true
   in_one_if b e f = true_from_ne_false in_one (λ t. never (sym (ap is_some e) ∙ si.in_flight t f))
@@ -144,21 +144,21 @@ sent_member kn feed items end = record kn { link = Some (record { u = feed.u; lo
 abbrev pub moved_vb : Plain → ℕ → ℕ → Plain
 moved_vb pv id end = record pv { streams = map (moved_on id end) pv.streams }
 
--- the stream behind its marker
-abbrev pub taken_stream : PlainStream → List Change → PlainStream
-taken_stream stream items = record { vb = stream.vb; opaque = stream.opaque; items = items; next = 0; reached = stream.reached; ended = stream.ended }
+-- the stream behind its marker, which ends there
+abbrev pub taken_stream : PlainStream → List Change → ℕ → PlainStream
+taken_stream stream items end = record stream { items = items; next = 0; marked = Some end }
 
 -- what the lines and the producer tell of the stream, after its marker
-marked_stream_begun : {o vb id : ℕ} {g : Granted} {stream : PlainStream} {pv : Option Plain} {leader : Member} {feed : Feed} {kn : Member} {in_one : Bool} (tree : List Branch) (items : List Change) (start end : ℕ) (x : Open id g pv leader feed)
-    → StreamAgrees o vb id g stream pv leader feed kn in_one → flight_end (marker_start in_one kn.position) feed.flight ≡ start → length stream.items ≤ stream.next → All ChangeFits items → Covers items (hist tree (stream_branch g)) g.place end
-    → StreamAgrees o vb id (with_begun tree start end g) (taken_stream stream items) (Some (moved_vb x.producer id end)) leader (record { u = feed.u; log = feed.log; flight = feed.flight ++ (end, items) ∷ []; given = feed.given }) (sent_member kn feed items end) in_one
-marked_stream_begun {id = id} {g} {stream} {feed = feed} {kn} {in_one} tree items start end x s starts whole fits covers =
+marked_stream_begun : {o vb : ℕ} {g : Granted} {stream : PlainStream} {pv : Option Plain} {leader : Member} {feed : Feed} {kn : Member} {in_one : Bool} (tree : List Branch) (items : List Change) (start end : ℕ) (x : Open stream.id g pv leader feed)
+    → StreamAgrees o vb g stream pv leader feed kn in_one → end ≤ top → flight_end (marker_start in_one kn.position) feed.flight ≡ start → length stream.items ≤ stream.next → All ChangeFits items → Covers items (hist tree (stream_branch g)) g.place end
+    → StreamAgrees o vb (with_begun tree start end g) (taken_stream stream items end) (Some (moved_vb x.producer stream.id end)) leader (record { u = feed.u; log = feed.log; flight = feed.flight ++ (end, items) ∷ []; given = feed.given }) (sent_member kn feed items end) in_one
+marked_stream_begun {g = g} {stream} {feed = feed} {kn} {in_one} tree items start end x s low starts whole fits covers =
     let (y, found, ask, sync, place, taken) = x.opened in
     record {
-      put = record { vb_is = s.vb_is; opaque_is = s.opaque_is; fits = fits; next_in = omega arith; last = (covers, refl); log_lines = s.log_lines; front_is = s.front_is };
-      opens = λ q. record { producer = moved_vb x.producer id end; producer_is = refl; active = x.active; leads = x.leads; opened = (moved_stream y end, moved_here id end x.producer.streams y found, ask, sync, refl, refl) };
+      put = record { vb_is = s.vb_is; opaque_is = s.opaque_is; no_end = record { until = s.no_end.until; marked = low }; fits = fits; next_in = omega arith; last = (covers, refl); log_lines = s.log_lines; front_is = s.front_is };
+      opens = λ q. record { producer = moved_vb x.producer stream.id end; producer_is = refl; active = x.active; leads = x.leads; opened = (moved_stream y end, moved_here stream.id end x.producer.streams y found, ask, sync, refl, refl) };
       over_ended = s.over_ended;
-      coming = snapshot_comes g.coming stream (taken_stream stream items) feed.flight kn.coming end whole refl s.coming;
+      coming = snapshot_comes g.coming stream (taken_stream stream items end) feed.flight kn.coming end whole refl s.coming;
       way = record {
         place_is = sym (flight_end_push (flight_from (sent_member kn feed items end) kn.coming) end items feed.flight);
         marks = ap (λ ms. ms ++ (start, end) ∷ []) s.marks ∙ ap (λ k. flight_marks (marker_start in_one kn.position) feed.flight ++ (k, end) ∷ []) (sym starts)
@@ -187,12 +187,12 @@ frames_more o vb in_one p coming flight items start end front put f starts is ol
 
 -- one more snapshot is on its way, of which the marker was put
 pub marker_streaming : {fv : Wants} {kn : Member} {pv pv' : Option Plain} {leader : Member} {g g' : Option Granted} {served : PlainProducer} {asker : PlainConsumer} {up put : List Frame} (t : Streaming fv kn pv leader g served asker up put)
-    (tree : List Branch) (items : List Change) (start end : ℕ) (f : Frame) (x : Open served.desk.id t.granted_is pv leader t.feed) → t.granted_is.over ≡ false
+    (tree : List Branch) (items : List Change) (start end : ℕ) (f : Frame) (x : Open t.stream.id t.granted_is pv leader t.feed) → t.granted_is.over ≡ false → end ≤ top
     → length t.stream.items ≤ t.stream.next → All ChangeFits items → Covers items (hist tree (stream_branch t.granted_is)) t.granted_is.place end
     → flight_end (marker_start (is_granted asker.dialed t.seen && not fv.first) kn.position) t.feed.flight ≡ start
-    → f ≡ dcp_frame (SnapshotMarker start end 1) asker.asked asker.dialed.vb → pv' ≡ Some (moved_vb x.producer served.desk.id end) → g' ≡ Some (with_begun tree start end t.granted_is)
-    → Streaming fv (sent_member kn t.feed items end) pv' leader g' (record served { stream = Some (taken_stream t.stream items) }) asker up (put ++ f ∷ [])
-marker_streaming {fv} {kn} {pv} {leader = leader} {served = served} {asker} {put = put} t tree items start end f x opens whole fits covers starts frame moved given =
+    → f ≡ dcp_frame (SnapshotMarker start end 1) asker.asked asker.dialed.vb → pv' ≡ Some (moved_vb x.producer t.stream.id end) → g' ≡ Some (with_begun tree start end t.granted_is)
+    → Streaming fv (sent_member kn t.feed items end) pv' leader g' (record served { streams = taken_stream t.stream items end ∷ [] }) asker up (put ++ f ∷ [])
+marker_streaming {fv} {kn} {pv} {leader = leader} {asker = asker} {put = put} t tree items start end f x opens low whole fits covers starts frame moved given =
     let o : ℕ = asker.asked in let vb : ℕ = asker.dialed.vb in let in_one : Bool = is_granted asker.dialed t.seen && not fv.first in
     let feed : Feed = record { u = t.feed.u; log = t.feed.log; flight = t.feed.flight ++ (end, items) ∷ []; given = t.feed.given } in
     let front : List Frame = drop t.seen (first_answers asker.dialed ++ answer_frame o t.feed.log Go ∷ []) in
@@ -203,8 +203,9 @@ marker_streaming {fv} {kn} {pv} {leader = leader} {served = served} {asker} {put
       granted_is = with_begun tree start end t.granted_is;
       told = given;
       serving = record {
-        stream = taken_stream t.stream items;
-        stream_is = ap (λ b. kept_stream b (taken_stream t.stream items)) (sym opens);
+        stream = taken_stream t.stream items end;
+        stream_is = ap (λ b. kept_stream b (taken_stream t.stream items end)) (sym opens);
+        numbered = t.numbered;
         apart = t.apart;
         server = t.server;
         acks = t.acks;
@@ -217,8 +218,8 @@ marker_streaming {fv} {kn} {pv} {leader = leader} {served = served} {asker} {put
       log_fits = t.log_fits;
       seen = t.seen;
       taking = t.taking;
-      streams = subst (λ y. StreamAgrees o vb served.desk.id (with_begun tree start end t.granted_is) (taken_stream t.stream items) y leader feed (sent_member kn t.feed items end) in_one) (sym moved)
-          (marked_stream_begun tree items start end x t.streams starts whole fits covers);
+      streams = subst (λ y. StreamAgrees o vb (with_begun tree start end t.granted_is) (taken_stream t.stream items end) y leader feed (sent_member kn t.feed items end) in_one) (sym moved)
+          (marked_stream_begun tree items start end x t.streams low starts whole fits covers);
       all = ap (λ b. front ++ stream_frames o vb b in_one kn.position kn.coming (t.feed.flight ++ (end, items) ∷ [])) opens
           ∙ frames_more o vb in_one kn.position kn.coming t.feed.flight items start end front put f starts frame old;
     }

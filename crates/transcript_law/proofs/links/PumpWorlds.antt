@@ -7,7 +7,7 @@ use Rattle.transcript_law.proofs.Words.{after_line, after_lines, Granted, with_c
 use Rattle.transcript_law.proofs.invariant.Agreement.{vb_of, Agrees}
 use Rattle.transcript_law.proofs.lines.Lines.{IsQuiet, AreQuiet, after_more, lawful_more, quiet_more}
 use Rattle.transcript_law.proofs.invariant.Tables.{changed_there}
-use Rattle.transcript_law.specs.Undone.{AllPut}
+use Rattle.{dcp_producer.specs.Pulling.{Pulling, none_quiet}, transcript_law.specs.Undone.{AllPut}}
 use Rattle.transcript_law.proofs.invariant.Carrying.{SamePowers, ToldOf}
 
 -- the link with this end at its producer, and with what that wrote
@@ -25,13 +25,13 @@ pub record SoFar (w : PlainWorld) (r : Chronicle) (l : ℕ) (link : PlainLink) (
   pub desk : s.end.desk ≡ link.server.desk
   pub agrees : Agrees (pumped w l link node states s) (after_lines r s.events)
 
--- the same after one turn; where there is no more to put, all was put that the lines so far let the stream have
-abbrev pub TurnSoFar : PlainWorld → Chronicle → ℕ → PlainLink → PlainNode → States → Turn Served (Served × Halt) → Type 0
-TurnSoFar w r l link node states (More s) = SoFar w r l link node states s
+-- the same after one frame, behind which no stream is quiet, or where none was put; where there is no more to put, all was put that the lines so far let the stream have
+abbrev pub TurnSoFar : PlainWorld → Chronicle → ℕ → PlainLink → PlainNode → States → Turn Pulling (Served × Halt) → Type 0
+TurnSoFar w r l link node states (More p) = SoFar w r l link node states p.served × (p.quiet ≡ none_quiet)
 TurnSoFar w r l link node states (Stop stopped) = SoFar w r l link node states stopped.0 × (why_of stopped.1 ≡ Why.Idle → AllPut (after_lines r stopped.0.events) l)
 
--- of the states and the turn that a program came to
-abbrev pub TurnsSoFar : PlainWorld → Chronicle → ℕ → PlainLink → PlainNode → States × Turn Served (Served × Halt) → Type 0
+-- of the states and what a program came to
+abbrev pub TurnsSoFar : PlainWorld → Chronicle → ℕ → PlainLink → PlainNode → States × Turn Pulling (Served × Halt) → Type 0
 TurnsSoFar w r l link node x = TurnSoFar w r l link node x.0 x.1
 
 module _ (w : PlainWorld) (l : ℕ) (link : PlainLink) (node : PlainNode) where

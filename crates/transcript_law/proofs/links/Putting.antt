@@ -2,16 +2,12 @@
 use Rattle.std.specs.Prelude.{◌≡◌, ◌+◌, ◌<◌, ◌≤◌, ◌∷◌, ◌++◌, ◌&&◌}
 use Rattle.transcript_law.proofs.Words.{ℕ, zero, suc, Bool, true, false, List, [], length, map, drop, take, refl, ap, sym, ◌∙◌, subst, arith, append-nil, append_assoc}
 use Rattle.transcript_law.proofs.Words.{Option, Some, None, slice_get, is_some, not, option_map, map-append, Frame, Readable, DcpMsg, dcp_frame, Change, Rises, Member, Plain}
-use Rattle.transcript_law.proofs.Words.{act_message, past_item, STATE_CHANGED, PlainStream, PlainLink, Begun, Granted, with_item, finished, item_of_change, IsNextItem, PlainProducer, PlainConsumer}
+use Rattle.transcript_law.proofs.Words.{past_item, STATE_CHANGED, PlainStream, Begun, Granted, with_item, finished, item_of_change, IsNextItem, PlainProducer, PlainConsumer}
 use Rattle.transcript_law.proofs.Words.{take-append-drop, AskAnswer, rises_le, more_items}
-use Rattle.transcript_law.proofs.invariant.Agreement.{ChangeFits, BegunAgrees, kept_stream, Streaming, answer_frame, is_granted, items_frames, flight_frames, coming_items, marker_start, OpenAt, WayIs, Wants}
+use Rattle.transcript_law.proofs.invariant.Agreement.{ChangeFits, BegunAgrees, kept_stream, Streaming, answer_frame, is_granted, change_frame, items_frames, flight_frames, coming_items, marker_start, OpenAt, WayIs, Wants}
 use Rattle.transcript_law.proofs.links.Firsts.{first_answers}
 use Rattle.transcript_law.proofs.links.Comings.{item_comes}
-use Rattle.transcript_law.proofs.links.Sent.{found_below, drop_found, take_found, items_frames_cons, flight_frames_end, change_readable, all_found, drop_whole}
-
--- the link with this stream, and this on its way to the consumer
-abbrev pub put_link : PlainLink → PlainStream → List ℕ → PlainLink
-put_link link stream down = record link { server = record link.server { stream = Some stream }; down = down }
+use Rattle.transcript_law.proofs.links.Sent.{found_below, drop_found, take_found, flight_frames_end, change_readable, all_found, drop_whole}
 
 -- what items of a snapshot say, and one more
 more_is_told : (b : Begun) (stream : PlainStream) (c : Change) → BegunAgrees (Some b) stream → slice_get stream.items stream.next ≡ Some c
@@ -56,9 +52,9 @@ some_mapped f (Some x) = refl
 
 -- the snapshots on their way are as they were, of which one more frame was put
 pub item_streaming : {fv : Wants} {kn : Member} {pv : Option Plain} {leader : Member} {g g' : Option Granted} {served : PlainProducer} {asker : PlainConsumer} {up put : List Frame} (t : Streaming fv kn pv leader g served asker up put) (c : Change)
-    (m : DcpMsg) (f : Frame) → t.granted_is.over ≡ false → slice_get t.stream.items t.stream.next ≡ Some c → act_message c c.act ≡ Some m → f ≡ dcp_frame m asker.asked asker.dialed.vb
-    → g' ≡ Some (with_item (item_of_change c) t.granted_is) → Streaming fv kn pv leader g' (record served { stream = Some (past_item c.seq t.stream) }) asker up (put ++ f ∷ [])
-item_streaming {fv} {kn} {pv} {leader} {served = served} {asker} {put = put} t c m f opens e told is given =
+    (f : Frame) → t.granted_is.over ≡ false → slice_get t.stream.items t.stream.next ≡ Some c → f ≡ change_frame asker.asked asker.dialed.vb c
+    → g' ≡ Some (with_item (item_of_change c) t.granted_is) → Streaming fv kn pv leader g' (record served { streams = past_item c.seq t.stream ∷ [] }) asker up (put ++ f ∷ [])
+item_streaming {fv} {kn} {pv} {leader} {asker = asker} {put = put} t c f opens e is given =
     let o : ℕ = asker.asked in
     let vb : ℕ = asker.dialed.vb in
     let rest : List Change = drop (t.stream.next + 1) t.stream.items in
@@ -70,6 +66,7 @@ item_streaming {fv} {kn} {pv} {leader} {served = served} {asker} {put = put} t c
       serving = record {
         stream = past_item c.seq t.stream;
         stream_is = ap (λ b. kept_stream b (past_item c.seq t.stream)) (sym opens);
+        numbered = t.numbered;
         apart = t.apart;
         server = t.server;
         acks = t.acks;
@@ -86,38 +83,34 @@ item_streaming {fv} {kn} {pv} {leader} {served = served} {asker} {put = put} t c
         put = record {
           vb_is = t.streams.vb_is;
           opaque_is = t.streams.opaque_is;
+          no_end = record { until = t.streams.no_end.until; marked = t.streams.no_end.marked };
           fits = t.streams.fits;
           next_in = let l = found_below t.stream.items t.stream.next c e in omega arith;
           last = begun_more g.last t.stream c t.streams.last e;
           log_lines = t.streams.log_lines;
           front_is = t.streams.front_is;
         };
-        opens = λ q. subst (λ b. OpenAt served.desk.id g.ask g.place b pv leader t.feed.u) (sym same) (t.streams.opens q);
+        opens = λ q. subst (λ b. OpenAt t.stream.id g.ask g.place b pv leader t.feed.u) (sym same) (t.streams.opens q);
         over_ended = t.streams.over_ended;
         coming = item_comes g.coming t.stream t.feed.flight kn.coming c e t.streams.coming;
         way = subst (λ b. WayIs g.place g.marks b t.feed.flight kn (is_granted asker.dialed t.seen && not fv.first)) (sym same) t.streams.way;
       };
       all = t.all ∙ ap (λ fs. put ++ fs) (t.unput_is ∙ ap (items_frames o vb) (drop_found t.stream.items t.stream.next c e)
-          ∙ items_frames_cons o vb c rest m told
           ∙ ap (λ x. x ∷ items_frames o vb rest) (sym is))
           ∙ sym (append_assoc put (f ∷ []) (items_frames o vb rest));
     }
 
 -- the frame of an item is readable
-pub item_readable : {fv : Wants} {kn : Member} {pv : Option Plain} {leader : Member} {g : Option Granted} {served : PlainProducer} {asker : PlainConsumer} {up put : List Frame} (t : Streaming fv kn pv leader g served asker up put) (c : Change) (m : DcpMsg)
-    (f : Frame) → slice_get t.stream.items t.stream.next ≡ Some c → act_message c c.act ≡ Some m → asker.dialed.vb < 1024 → f ≡ dcp_frame m asker.asked asker.dialed.vb → Readable f
-item_readable {asker = asker} t c m f e told small is =
-    subst Readable (sym is) (change_readable c asker.asked asker.dialed.vb m (all_found ChangeFits t.stream.items t.stream.next c t.streams.fits e) t.consumer.small small told)
-
--- a link whose producer put its stream's end, and keeps the stream no more
-abbrev pub ended_link : PlainLink → List ℕ → PlainLink
-ended_link link down = record link { server = record link.server { stream = None }; down = down }
+pub item_readable : {fv : Wants} {kn : Member} {pv : Option Plain} {leader : Member} {g : Option Granted} {served : PlainProducer} {asker : PlainConsumer} {up put : List Frame} (t : Streaming fv kn pv leader g served asker up put) (c : Change)
+    (f : Frame) → slice_get t.stream.items t.stream.next ≡ Some c → asker.dialed.vb < 1024 → f ≡ change_frame asker.asked asker.dialed.vb c → Readable f
+item_readable {asker = asker} t c f e small is =
+    subst Readable (sym is) (change_readable c asker.asked asker.dialed.vb (all_found ChangeFits t.stream.items t.stream.next c t.streams.fits e) t.consumer.small small)
 
 -- behind the last item of a stream that a change of role ended, its end is on its way
 pub end_streaming : {fv : Wants} {kn : Member} {pv : Option Plain} {leader : Member} {g g' : Option Granted} {served : PlainProducer} {asker : PlainConsumer} {up put : List Frame} (t : Streaming fv kn pv leader g served asker up put) (f : Frame)
     → t.granted_is.over ≡ false → t.stream.ended ≡ true → length t.stream.items ≤ t.stream.next → f ≡ dcp_frame (DcpMsg.StreamEnd STATE_CHANGED) asker.asked asker.dialed.vb
-    → g' ≡ Some (finished t.granted_is) → Streaming fv kn pv leader g' (record served { stream = None }) asker up (put ++ f ∷ [])
-end_streaming {fv} {kn} {pv} {leader} {served = served} {asker} {put = put} t f opens ended whole is given =
+    → g' ≡ Some (finished t.granted_is) → Streaming fv kn pv leader g' (record served { streams = [] }) asker up (put ++ f ∷ [])
+end_streaming {fv} {kn} {pv} {leader} {asker = asker} {put = put} t f opens ended whole is given =
     let o : ℕ = asker.asked in
     let vb : ℕ = asker.dialed.vb in
     let in_one : Bool = is_granted asker.dialed t.seen && not fv.first in
@@ -131,6 +124,7 @@ end_streaming {fv} {kn} {pv} {leader} {served = served} {asker} {put = put} t f 
       serving = record {
         stream = t.stream;
         stream_is = refl;
+        numbered = t.numbered;
         apart = t.apart;
         server = t.server;
         acks = t.acks;

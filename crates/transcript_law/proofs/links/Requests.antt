@@ -94,7 +94,7 @@ name_answered n node s small opened =
 
 -- it is set, and nothing else is changed
 set_at : (s : Served) (f answer : Frame) (set : Handshake) → frame_answered f s ≡ Done (with_frame (with_handshake s set) answer) → Succeeds s f answer set
-set_at s f answer set e = record { end = record s.end { handshake = set }; came = e; set_is = refl; desk = refl; stream = refl }
+set_at s f answer set e = record { end = record s.end { handshake = set }; came = e; set_is = refl; desk = refl; asked = refl; streams = refl }
 
 open_served : (n node : ℕ) → n < 2 ^ 32 → node < 16 → IsServed n Handshake.Fresh (open_first node)
 open_served n node few small = record {
@@ -108,7 +108,7 @@ buffer_served : (n buffer : ℕ) → n < 2 ^ 32 → buffer < 2 ^ 32 → IsServed
 buffer_served n buffer few low = record {
   asks = buffer_readable n buffer few low;
   says = control_readable n few;
-  succeeds = λ s e. record { end = (with_window_size buffer s).end; came = buffer_answered n buffer s low e; set_is = e; desk = refl; stream = refl };
+  succeeds = λ s e. record { end = (with_window_size buffer s).end; came = buffer_answered n buffer s low e; set_is = e; desk = refl; asked = refl; streams = refl };
 }
 
 sync_served : (n : ℕ) → n < 2 ^ 32 → IsServed n (Handshake.Open false Named.Nobody) sync_first
@@ -254,6 +254,9 @@ first_asked d = elim (d.buffer == 0) as (λ b. (open_request d.node ∷ ((if b t
 -- the opaque of the first request for a stream has room in its field
 pub opaque_small : (buffer : ℕ) → stream_opaque buffer < 2 ^ 32
 opaque_small buffer = elim (buffer == 0) as (λ b. (if b then 4 else 5) < 2 ^ 32) [ true ↦ omega arith | false ↦ omega arith ]
+
+pub opaque_some : (buffer : ℕ) → 0 < stream_opaque buffer
+opaque_some buffer = elim (buffer == 0) as (λ b. 0 < (if b then 4 else 5)) [ true ↦ omega arith | false ↦ omega arith ]
 
 -- a reader takes all of them, and the request for a stream behind them
 asks_readable : (n : ℕ) (before : Handshake) (rows : List First) (behind : List Frame) → AreServed n before rows → All Readable behind → All Readable (asks_from n rows ++ behind)

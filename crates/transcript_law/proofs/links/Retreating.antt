@@ -11,10 +11,10 @@ use Rattle.transcript_law.proofs.Words.{nat_lt, concat, eq-eqb, ne_eqb, nat_test
 use Rattle.transcript_law.proofs.Words.{StreamAsk, request_of, Cluster, Move, SoundCluster, happens, keeps, Plain, quiet_reply, refusal_reply, after_job, after_job_bind, after_job_lift, lift, Position}
 use Rattle.transcript_law.proofs.Words.{with_vb_at, call_at, row_out, row_put, DialResult, with_line, roll_back, named_ask, link_number, PlainLink, StreamName, PlainWorld, with_links, unlinked}
 use Rattle.transcript_law.proofs.{Words.{Chronicle, after_end, after_lines, LawfulLine}, invariant.Tables.{at_here}, invariant.Agreement.{shelf_of, DiskIsIf, IsArm, PowerIs, PowerIsIf, Power, power_of}}
-use Rattle.transcript_law.proofs.invariant.Agreement.{AgreesAt, Agrees, VbAgrees, UpIs, DownAgrees, ServerIs, LinkAgrees, is_open, is_refused_ack, spoken, top, consumer_seat, AgreesIn, Busy, idle, EndsStand}
-use Rattle.transcript_law.proofs.{invariant.LinkRows.{put_out}, invariant.Carrying.{MemberChanged, Changed, BecameOver, Rearmed, Relinked}, links.Cutting.{IsClosable, unlinking}, invariant.OneLink.{put_here, put_there, disk_here, disk_there, consumer_quiet, carries_armed, carries_left, carries_same, consumer_rests, out_ends}}
+use Rattle.transcript_law.proofs.invariant.Agreement.{AgreesAt, Agrees, VbAgrees, UpIs, DownAgrees, ServerIs, LinkAgrees, is_refused_ack, spoken, top, consumer_seat, AgreesIn, Busy, idle, EndsStand}
+use Rattle.transcript_law.proofs.{invariant.LinkRows.{put_out}, invariant.Carrying.{MemberChanged, Changed, BecameOver, Rearmed, Relinked}, links.Cutting.{unlinking}, invariant.OneLink.{put_here, put_there, disk_here, disk_there, consumer_quiet, carries_armed, carries_left, carries_same, consumer_rests, out_ends}}
 use Rattle.transcript_law.proofs.{lines.Lines.{lawful_more, quiet_more, after_more}, links.Verdicts.{asks_in_range}, links.Frames.{spelled_more}, links.Firsts.{first_count}, links.Requests.{answers_past, ask_readable, request_last, waits_asking}, links.Downing.{Asker, Line, put_kept, so_far, link_now}}
-use Rattle.transcript_law.proofs.{links.Downing.{there, now, gone, lifted_at, busy_at, Before, Reached, linked, moved_agrees, same_powers, shelf_now, shelves_but, found_now, vb_here, vb_put, vb_others}, invariant.Carried.{one_idle, one_none}, disks.Disks.{ShelfIs, disk_same, parts_of, power_in}}
+use Rattle.transcript_law.proofs.{links.Downing.{there, now, gone, lifted_at, busy_at, Before, Reached, linked, moved_agrees, same_powers, shelf_now, shelves_but, found_now, vb_here, vb_put, vb_others}, invariant.Carried.{none_open, one_idle, one_none}, disks.Disks.{ShelfIs, disk_same, parts_of, power_in}}
 use Rattle.transcript_law.proofs.{links.Onward.{Kept, one_back, onward_all, rolled_last, unarmed}, links.Rolling.{bare_point, farthest, roll_end_of, roll_taken_of, rolled_agrees, rolled_disk, rolled_shelf, stood_came}, disks.Burning.{stands_under}}
 use Rattle.branch_model.proofs.{Journaling.{ends_below, rolls_to}}
 use Rattle.branch_model.specs.Journals.{Covered, IsPoint, batches, cas_of_last, complete_points, end_of, image_at, place_of, roll_point}
@@ -43,7 +43,8 @@ pub record Back (line : Line) : Type 0 where
   pub asks : at.waiting ≡ waiting.Asking
   pub server : ServerIs line.link.server line.link.consumer.dialed (first_count line.link.consumer.dialed)
   pub untold : (after_lines line.r events).stream_of (StreamName.Link line.link.consumer.dialed.link) line.link.consumer.dialed.vb ≡ None
-  pub no_stream : line.link.server.stream ≡ None
+  pub no_stream : line.link.server.streams ≡ []
+  pub fewer : line.link.server.asked ≤ at.asked
   pub ups : UpIs (link_now line at) [] []
   pub said : List Frame
   pub downs : DownAgrees (link_now line at) rest said
@@ -121,10 +122,10 @@ module _ (line : Line) (back : Back line) where
   -- the link is taken out: nothing is closed, since there is no stream
   same_over : (x : PlainWorld) → BecameOver x (unlinked link x) link → Relinked x (unlinked link x) (row_out link_number (link_number link) x.links)
   same_over x (inl same) = same
-  same_over x (inr (pv, pv', opens, is, changed, one, shelf)) = let z : false ≡ true = sym (ap is_open back.no_stream) ∙ opens in cc
+  same_over x (inr (id, pv, pv', opens, is, changed, one, shelf)) = none_open link.server.streams back.no_stream link.consumer.dialed.vb id opens
 
   pub unlinks : (x : PlainWorld) → Relinked x (unlinked link x) (row_out link_number (link_number link) x.links)
-  unlinks x = let can : IsClosable x link = λ stream has ended. let z : Some stream ≡ None = sym has ∙ back.no_stream in cc in same_over x (unlinking stays x link can)
+  unlinks x = same_over x (unlinking stays x link (inl back.no_stream))
 
   pub over_lifts : (states : Kept) → Rearmed (gone line states) (unlinked link (lifted_at line states)) n power (lifted v (with_kept node states)).arm
   over_lifts states =
@@ -321,6 +322,7 @@ module _ (line : Line) (back : Back line) where
         said = back.downs.behind;
         stands = EndsStand.IsAsking ask back.untold (record {
           no_stream = back.no_stream;
+          fewer = let most = back.fewer in omega (arith, most);
           asking = record {
             answered = first_count link.consumer.dialed;
             seen = first_count link.consumer.dialed;

@@ -1,13 +1,13 @@
 -- frames of a stream that are put on their way
 use Rattle.std.specs.Prelude.{◌≡◌, ◌+◌, ◌<◌, ◌≤◌, ◌∷◌, ◌++◌}
 use Rattle.transcript_law.proofs.Words.{IsOf, ℕ, zero, suc, List, [], length, drop, take, refl, ap, sym, ◌∙◌, subst, inl, inr, ⊎_elim, arith, append-nil, append_assoc, Some, None}
-use Rattle.transcript_law.proofs.{Words.{slice_get, ◌^◌, All, Readable, DcpMsg, dcp_frame, Act, Change, Doc, IsIn, plain_act, flight_end, act_message, STATE_CHANGED}, invariant.Agreement.{DocFits, ChangeFits, ActFits}}
-use Rattle.transcript_law.proofs.invariant.Agreement.{change_frames, items_frames, flight_frames}
+use Rattle.transcript_law.proofs.{Words.{slice_get, ◌^◌, All, Readable, dcp_frame, Act, Change, Doc, IsIn, plain_act, flight_end, act_message, STATE_CHANGED}, invariant.Agreement.{DocFits, ChangeFits, ActFits}}
+use Rattle.transcript_law.proofs.invariant.Agreement.{change_frame, items_frames, flight_frames}
 use Rattle.{std.proofs.lemmas.List.{drop_all}, std.specs.Prelude.{Bool, true, false}, vb_types.specs.Histories.{plain}, vb_types.specs.declared.change.Act.TheVariants.{Abort, Commit, Prepare, Remove, Set}}
 use Rattle.mcbp_dcp.specs.declared.message.DcpMsg.TheVariants as msg
 pub use Rattle.std.proofs.lemmas.Option.{slice_get_within as found_below}
 use Rattle.dcp_consumer.specs.PassiveStreams.{commit_act}
-use Rattle.dcp_producer.specs.Pulling.{prepare_message}
+use Rattle.dcp_producer.specs.Frames.{prepare_message}
 use Rattle.vb_types.specs.declared.change.Level.{Level}
 
 -- what is found in a list
@@ -49,14 +49,7 @@ take_found xs i x e = let on : i + 1 ≡ suc i = omega arith in ap (λ n. take n
 pub drop_whole : {X : Type 0} (xs : List X) (i : ℕ) → length xs ≤ i → drop i xs ≡ []
 drop_whole xs i l = drop_all i xs l
 
--- the message of a change, and its frame
-
-pub message_of : (c : Change) (a : Act) → (m : DcpMsg) × (act_message c a ≡ Some m)
-message_of c (Set doc) = (_, refl)
-message_of c (Remove cas rev) = (_, refl)
-message_of c (Prepare level doc deleted) = (_, refl)
-message_of c (Commit prepared doc deleted) = (_, refl)
-message_of c (Abort prepared) = (_, refl)
+-- the frame of a change
 
 -- what a message tells of an act: of a commit the prepare that it names, and no document
 abbrev pub act_told : Act → Act
@@ -109,19 +102,16 @@ abort_readable : (c : Change) (prepared o v : ℕ) → ChangeFits c → o < 2 ^ 
 unfolding dcp_frame
 abort_readable c prepared o v f few l = search (arith, f.key)
 
-the_message : {x y : DcpMsg} → Some x ≡ Some y → x ≡ y
-the_message q = cc
-
-told_readable : (c : Change) (a : Act) (o v : ℕ) (m : DcpMsg) → ChangeFits c → ActFits a → o < 2 ^ 32 → v < 1024 → act_message c a ≡ Some m → Readable (dcp_frame m o v)
-told_readable c (Set doc) o v m f g few l e = subst (λ x. Readable (dcp_frame x o v)) (the_message e) (set_readable c doc o v f g few l)
-told_readable c (Remove cas rev) o v m f g few l e = subst (λ x. Readable (dcp_frame x o v)) (the_message e) (remove_readable c cas rev o v f g few l)
-told_readable c (Prepare level doc deleted) o v m f g few l e = subst (λ x. Readable (dcp_frame x o v)) (the_message e) (prepare_readable c level doc deleted o v f g.0 few l)
-told_readable c (Commit prepared doc deleted) o v m f g few l e = subst (λ x. Readable (dcp_frame x o v)) (the_message e) (commit_readable c prepared o v f few l)
-told_readable c (Abort prepared) o v m f g few l e = subst (λ x. Readable (dcp_frame x o v)) (the_message e) (abort_readable c prepared o v f few l)
+told_readable : (c : Change) (a : Act) (o v : ℕ) → ChangeFits c → ActFits a → o < 2 ^ 32 → v < 1024 → Readable (dcp_frame (act_message c a) o v)
+told_readable c (Set doc) o v f g few l = set_readable c doc o v f g few l
+told_readable c (Remove cas rev) o v f g few l = remove_readable c cas rev o v f g few l
+told_readable c (Prepare level doc deleted) o v f g few l = prepare_readable c level doc deleted o v f g.0 few l
+told_readable c (Commit prepared doc deleted) o v f g few l = commit_readable c prepared o v f few l
+told_readable c (Abort prepared) o v f g few l = abort_readable c prepared o v f few l
 
 -- the frame of a change that fits is readable
-pub change_readable : (c : Change) (o v : ℕ) (m : DcpMsg) → ChangeFits c → o < 2 ^ 32 → v < 1024 → act_message c c.act ≡ Some m → Readable (dcp_frame m o v)
-change_readable c o v m f few l e = told_readable c c.act o v m f f.act few l e
+pub change_readable : (c : Change) (o v : ℕ) → ChangeFits c → o < 2 ^ 32 → v < 1024 → Readable (change_frame o v c)
+change_readable c o v f few l = told_readable c c.act o v f f.act few l
 
 -- and so are those of a marker and of a stream's end
 
@@ -134,9 +124,6 @@ unfolding dcp_frame
 end_readable o v few l = search arith
 
 -- frames of lists of changes and of snapshots
-
-pub items_frames_cons : (o v : ℕ) (c : Change) (xs : List Change) (m : DcpMsg) → act_message c c.act ≡ Some m → items_frames o v (c ∷ xs) ≡ dcp_frame m o v ∷ items_frames o v xs
-items_frames_cons o v c xs m e = ap (λ x. change_frames o v x ++ items_frames o v xs) e
 
 pub flight_frames_push : (o v start end : ℕ) (items : List Change) (flight : List (ℕ × List Change))
     → flight_frames o v false start (flight ++ (end, items) ∷ []) ≡ flight_frames o v false start flight ++ (dcp_frame (msg.SnapshotMarker (flight_end start flight) end 1) o v ∷ items_frames o v items)

@@ -6,8 +6,8 @@ use Rattle.transcript_law.proofs.Words.{ℕ, Bool, true, false, List, [], map, d
 use Rattle.transcript_law.proofs.Words.{nat_tests, Frame, dcp_frame, Change, EndReason, Event, front, uuid_of, Position, Rises, last_seq, IsOf, HasLast, Covers, hist_rises, hist, Shared, image_of, ground, Linked}
 use Rattle.transcript_law.proofs.Words.{stream_branch, above, member_reach, flight_from, Member, Move, SoundCluster, adopted, marked_by, received, keeps, kin_shared, VbCall, VbReply, Plain, plain_step, is_follower, is_answerable}
 use Rattle.transcript_law.proofs.Words.{marker_fits, marked_vb, is_next, with_received_change, Call, Ended, lift, after_job, after_job_lift, STATE_CHANGED, with_handshake, DialResult, with_consumer, with_line, over_for}
-use Rattle.transcript_law.proofs.{Words.{go_on_with, call_made, frame_taken, ItemLine, Chronicle, with_at, held_more, past_next, past_mark, after_line, after_lines, item_of_change, LawfulLine}, links.Sent.{act_told, change_line, message_of}}
-use Rattle.transcript_law.proofs.{links.Sent.{items_frames_cons}, lines.Lines.{IsQuiet}, invariant.Seats.{seat, seat_one}, invariant.Agreement.{vb_of, ChangeFits, image_is, AgreesAt, own_history, VbAgrees, ConsumerIs, Streaming, LinkAgrees}}
+use Rattle.transcript_law.proofs.{Words.{go_on_with, call_made, frame_taken, ItemLine, Chronicle, with_at, held_more, past_next, past_mark, after_line, after_lines, item_of_change, LawfulLine}, links.Sent.{act_told, change_line}}
+use Rattle.transcript_law.proofs.{invariant.Agreement.{change_frame}, lines.Lines.{IsQuiet}, invariant.Seats.{seat, seat_one}, invariant.Agreement.{vb_of, ChangeFits, image_is, AgreesAt, own_history, VbAgrees, ConsumerIs, Streaming, LinkAgrees}}
 use Rattle.transcript_law.proofs.{links.Firsts.{Next, first_answers, first_count, next_answer, waits_after}, links.Requests.{answers_count, few_first, waits_streaming}}
 use Rattle.transcript_law.proofs.invariant.Agreement.{AckedIs, acked_still, StreamAgrees, is_granted, coming_items, flight_items, ComingIs, items_frames, end_frames, flight_frames, marker_start, spoken, stream_frames, top, consumer_seat}
 use Rattle.transcript_law.proofs.{invariant.Agreement.{wants_of, EndsStand, UpIs, vb_row, vb_contents, DialAgrees}, invariant.Carrying.{TakenOf}, invariant.OneLink.{put_here, put_there, consumer_quiet}, links.Comings.{next_item_line}, links.Rolling.{not_for}}
@@ -113,7 +113,7 @@ module _ (line : Line) (course : Course line) where
           adopted = streaming.adopted ∙ same;
           asks = λ q. streaming.asks (ap (λ b. b && not fv.first) before);
         };
-        streams = subst (λ b. StreamAgrees o v link.server.desk.id streaming.granted_is streaming.stream (vb_of (now line states at) p v) (c.nodes (seat p v)) feed kn (b && not fv.first)) same streaming.streams;
+        streams = subst (λ b. StreamAgrees o v streaming.granted_is streaming.stream (vb_of (now line states at) p v) (c.nodes (seat p v)) feed kn (b && not fv.first)) same streaming.streams;
         all = ap (λ b. drop (suc streaming.seen) (all_answers dial (go_frame o feed)) ++ stream_frames o v over (b && not fv.first) kn.position kn.coming feed.flight) (sym same) ∙ e;
       }))
 
@@ -217,8 +217,8 @@ module _ (line : Line) (course : Course line) where
           adopted = sym granted_last;
           asks = λ q. streaming.asks start;
         };
-        streams = subst (λ b. StreamAgrees o v link.server.desk.id streaming.granted_is streaming.stream (vb_of (now line states at) p v) (c.nodes (seat p v)) feed kn' b) (sym (ap (λ b. b && not fv'.first) granted_last)) (stream_adopted none
-            (subst (λ b. StreamAgrees o v link.server.desk.id streaming.granted_is streaming.stream (vb_of (now line states at) p v) (c.nodes (seat p v)) feed kn b) start streaming.streams));
+        streams = subst (λ b. StreamAgrees o v streaming.granted_is streaming.stream (vb_of (now line states at) p v) (c.nodes (seat p v)) feed kn' b) (sym (ap (λ b. b && not fv'.first) granted_last)) (stream_adopted none
+            (subst (λ b. StreamAgrees o v streaming.granted_is streaming.stream (vb_of (now line states at) p v) (c.nodes (seat p v)) feed kn b) start streaming.streams));
         all = (λ i. none_behind i ++ stream_frames o v over (granted_last i && not fv'.first) kn.position (Some []) feed.flight)
             ∙ sym (ap (λ y. stream_frames o v over in_one kn.position y feed.flight) none ∙ ap (λ b. stream_frames o v over b kn.position None feed.flight) start) ∙ e;
       })
@@ -284,7 +284,7 @@ module _ (line : Line) (course : Course line) where
         log_fits = streaming.log_fits;
         seen = last;
         taking = record { not_more = omega arith; consumer = consumer_now all; adopted = sym granted_last; asks = λ q. never (sym inside ∙ q) };
-        streams = subst (λ b. StreamAgrees o v link.server.desk.id (past_mark streaming.granted_is) streaming.stream (vb_of (now line states at) p v) (c.nodes (seat p v)) (record feed { flight = later }) kn' b) (sym inside)
+        streams = subst (λ b. StreamAgrees o v (past_mark streaming.granted_is) streaming.stream (vb_of (now line states at) p v) (c.nodes (seat p v)) (record feed { flight = later }) kn' b) (sym inside)
             (stream_marked x later in_one none flight above ends streaming.streams);
         all = (λ i. none_behind i ++ stream_frames o v over (inside i) kn'.position kn'.coming later) ∙ e;
       })
@@ -330,7 +330,7 @@ module _ (line : Line) (course : Course line) where
       let up : fv.position.at < x.seq = grind (arith, nat_tests, a) in
       let inside : in_one ≡ true = true_from_ne_false in_one (λ q. let none : x ∷ later ≡ [] = sym (ap coming_items coming) ∙ streaming.streams.not_in_one q in cc) in
       let begun : (is_granted dial last && not fv.first) ≡ true = ap (λ b. b && not fv.first) granted_last ∙ (and_parts (is_granted dial streaming.seen) (not fv.first) inside).1 in
-      let next : NextTold x later = next_item_line o v start over streaming.stream x later more streaming.unput streaming.streams.fits streaming.unput_is streaming.all_put feed.flight streaming.granted_is.coming
+      let next : NextTold x later = next_item_line o v start over streaming.stream x later more streaming.unput streaming.unput_is streaming.all_put feed.flight streaming.granted_is.coming
       (subst (ComingIs streaming.granted_is.coming streaming.stream feed.flight) coming streaming.streams.coming) e in
       let told' : Chronicle = record told { held = held_more told n v x; open_at = with_at told.open_at n v true } in
       let disk : Disk = spanned_by (c.disks k) kn (Some (x ∷ later)) in
@@ -360,9 +360,9 @@ module _ (line : Line) (course : Course line) where
         log_fits = streaming.log_fits;
         seen = last;
         taking = record { not_more = omega arith; consumer = consumer_now all; adopted = sym granted_last; asks = λ q. never (sym begun ∙ q) };
-        streams = subst (λ b. StreamAgrees o v link.server.desk.id (past_next streaming.granted_is) streaming.stream (vb_of (now line states at) p v) (c.nodes (seat p v)) feed kn' b) (sym begun)
+        streams = subst (λ b. StreamAgrees o v (past_next streaming.granted_is) streaming.stream (vb_of (now line states at) p v) (c.nodes (seat p v)) feed kn' b) (sym begun)
             (stream_received x later coming next
-            (subst (λ b. StreamAgrees o v link.server.desk.id streaming.granted_is streaming.stream (vb_of (now line states at) p v) (c.nodes (seat p v)) feed kn b) inside streaming.streams));
+            (subst (λ b. StreamAgrees o v streaming.granted_is streaming.stream (vb_of (now line states at) p v) (c.nodes (seat p v)) feed kn b) inside streaming.streams));
         all = (λ i. none_behind i ++ (items_frames o v later ++ flight_frames o v over (marker_start (begun i) kn'.position) feed.flight))
             ∙ sym (ap (λ b. items_frames o v later ++ flight_frames o v over (marker_start b kn.position) feed.flight) inside) ∙ e;
       })
@@ -371,11 +371,10 @@ module _ (line : Line) (course : Course line) where
       → Reached line rest (after_job (frame_taken f s) states.0 states.1)
   receive_next x later all coming e =
       let fits : ChangeFits x = next_fits (busy_at line (f ∷ rest)) (now line states at) told c k feed going.agrees streaming.fed x later coming in
-      let (m, is) = message_of x x.act in
-      let frames : dcp_frame m o v ∷ (items_frames o v later ++ flight_frames o v over start feed.flight) ≡ f ∷ (more ++ streaming.unput) = sym (ap (λ y. y ++ flight_frames o v over start feed.flight) (items_frames_cons o v x later m is)) ∙ e in
-      let same : dcp_frame m o v ≡ f = cc in
+      let frames : change_frame o v x ∷ (items_frames o v later ++ flight_frames o v over start feed.flight) ≡ f ∷ (more ++ streaming.unput) = e in
+      let same : change_frame o v x ≡ f = cc in
       subst (λ y. Reached line rest (after_job (frame_taken y s) states.0 states.1)) same
-      (subst (λ y. Reached line rest (after_job y states.0 states.1)) (sym (change_taken x x.act m o v s fits refl is (granted_now all)))
+      (subst (λ y. Reached line rest (after_job y states.0 states.1)) (sym (change_taken x x.act o v s fits refl (granted_now all)))
       (receive_on x later all coming fits (ap (drop 1) frames) (is_next fv.position x.seq) refl (completed_act (pending_of fv x.key) (act_told x.act)) refl))
 
   -- the stream's end: the link is over

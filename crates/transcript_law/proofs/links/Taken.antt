@@ -1,14 +1,14 @@
 -- what a consumer makes of the frames that a producer writes, what stays of a stream when it takes one, and that what is on its way fits the frames that tell it
 use Rattle.std.specs.Prelude.{◌≡◌, ◌<◌, ◌≤◌, ◌∷◌, ◌==◌, ◌&&◌, ◌-◌, ◌^◌, if◌then◌else◌, ◌++◌}
-use Rattle.transcript_law.proofs.Words.{ℕ, true, false, List, [], length, drop, refl, ap, sym, ◌∙◌, subst, arith, Some, None, nat_le, is_some, All}
+use Rattle.transcript_law.proofs.Words.{ℕ, true, false, List, [], length, drop, refl, ap, sym, ◌∙◌, subst, arith, Some, None, Ok, nat_le, is_some, All}
 use Rattle.transcript_law.proofs.Words.{Frame, RESPONSE, DcpMsg, StreamVerdict, dcp_frame, IsVerdict, IsSpelled, EntryInRange, VerdictInRange, InRange, option_map, and_parts, eq-eqb, eqb-true, nat_tests, message_back, Act, Change}
 use Rattle.transcript_law.proofs.Words.{EndReason, LogEntry, IsKey, IsValue, Ended, lift, act_message, STATE_CHANGED, PlainConsumer, with_handshake, over_why, DialResult, with_consumer, over_for, go_on_with, roll_back}
 use Rattle.transcript_law.proofs.Words.{call_made, frame_taken, min, ⊎_elim, inl, inr, IsIn, last_seq, IsOf, Covers, hist, hist_rises, rises_in, Feed, Cluster, ground, Linked, Flight, flight_from, PlainWorld}
 use Rattle.transcript_law.proofs.Words.{ItemLine, Granted, Chronicle, stream_branch, item_of_change, stream_history, LawfulRange, LawfulGot, Bool, map, Option, Member, adopted, marked_by, received, flight_end}
 use Rattle.transcript_law.proofs.{Words.{Plain, PlainStream, past_next, past_mark}, invariant.Agreement.{answer_frame, DocFits, ActFits, ChangeFits, EntryFits, IsRefused, is_refused_ack, flight_marks, top, Busy}, links.Firsts.{first_answers, waits_after}, links.Requests.{first_counted}}
 use Rattle.transcript_law.proofs.{invariant.Agreement.{AgreesIn, coming_items, flight_items, marker_start, ComingIs, StreamAgrees}, links.Sent.{act_told, fits_of}, links.Comings.{marker_comes, taken_comes}}
-use Rattle.{branch_model.proofs.Images.{plain_stands}, cluster_model.specs.Clusters.{Comes}, dcp_consumer.specs.Machine.{verdict_step, answered_with, stream_step, is_awaited, answer_step, response_step, message_step, frame_step}}
-use Rattle.{dcp_consumer.specs.Dialing.{stream_opaque}, dcp_consumer.specs.Machine.{answered, moved_by}, dcp_consumer.specs.PassiveStreams.{set_change, remove_change, prepare_change, resolved_change, commit_act, call_of_message, called, passive_of, passive_read}}
+use Rattle.{branch_model.proofs.Images.{plain_stands}, cluster_model.specs.Clusters.{Comes}, dcp_consumer.specs.Machine.{verdict_step, answered_with, stream_step, is_awaited, answer_step, response_step, message_step, passive_step, is_noop, frame_step}}
+use Rattle.{dcp_consumer.specs.Dialing.{stream_opaque}, dcp_consumer.specs.Machine.{answered, moved_by}, dcp_consumer.specs.PassiveStreams.{set_change, remove_change, prepare_change, resolved_change, commit_act, call_of_message, called, passive_of}}
 use Rattle.{dcp_consumer.specs.declared.handshake.ConsumerStep.{ConsumerStep}, dcp_consumer.specs.declared.handshake.Handshake.{Handshake as Waiting}, dcp_consumer.specs.declared.passive_stream.Passive.{Passive}}
 use Rattle.{dcp_consumer.specs.declared.passive_stream.Passive.TheVariants.{Call, End}, mcbp_dcp.specs.declared.message.Deletion.{Deletion}, mcbp_dcp.specs.declared.message.Mutation.{Mutation}}
 use Rattle.{node_core.specs.Dials.{step_made}, std.proofs.Math.Bool.{and-false}, std.proofs.lemmas.Bool.{true_from_ne_false}, vb_calls.specs.declared.calls.VbCall.TheVariants.{Marker, Receive}, vb_types.specs.Limits.{key_of, value_of}}
@@ -19,7 +19,7 @@ use Rattle.mcbp_dcp.specs.declared.message.StreamVerdict.TheVariants as told
 use Rattle.vb_types.specs.declared.stream.AskAnswer.TheVariants as ask_answer
 use Rattle.dcp_consumer.specs.declared.handshake.Handshake.TheVariants as waiting
 use Rattle.dcp_consumer.specs.declared.handshake.ConsumerStep.TheVariants as step
-use Rattle.dcp_producer.specs.Pulling.{flag_number, prepare_message}
+use Rattle.dcp_producer.specs.Frames.{flag_number, prepare_message}
 use Rattle.vb_types.specs.Levels.{level_number, level_of}
 use Rattle.vb_types.proofs.Levels.{level_back}
 use Rattle.mcbp_dcp.specs.declared.message.Prepare.{Prepare as Prepared}
@@ -107,26 +107,27 @@ pub refused_taken : (code : ℕ) (s : DialResult) → IsRefused (ask_answer.Refu
 refused_taken code s r w = answered_taken (told.Refused code) s (r.0, r.1) r.2 w
 
 -- a message of a stream that was granted
-message_read : (m : DcpMsg) (p : Passive) (n v : ℕ) (s : DialResult) → IsSpelled m → InRange m → s.dial.consumer.handshake ≡ waiting.Streaming → ((dcp_frame m n v).magic == RESPONSE) ≡ false → passive_of m ≡ p
+message_read : (m : DcpMsg) (p : Passive) (n v : ℕ) (s : DialResult) → IsSpelled m → InRange m → s.dial.consumer.handshake ≡ waiting.Streaming → ((dcp_frame m n v).magic == RESPONSE) ≡ false → is_noop (Some (Ok m)) ≡ false → passive_of m ≡ p
     → frame_taken (dcp_frame m n v) s ≡ step_made (step.Passive p) (with_consumer s (with_handshake s.dial.consumer (moved_by s.dial.consumer.dialed.buffer (step.Passive p) s.dial.consumer.handshake)))
 unfolding frame_step
-message_read m p n v s i r w q e =
+message_read m p n v s i r w q none e =
     let f : Frame = dcp_frame m n v in let c : PlainConsumer = s.dial.consumer in
     as_step f s (step.Passive p)
     (ap (λ h. if is_some (over_why h) then step.Dropped else if f.magic == RESPONSE then response_step c.dialed.buffer h c.asked f else message_step h f) w
     ∙ ap (λ b. if b then response_step c.dialed.buffer waiting.Streaming c.asked f else message_step waiting.Streaming f) q
-    ∙ ap (λ x. step.Passive (passive_read x)) (message_back m n v i r)
+    ∙ ap (λ x. if is_noop x then step.Noop f.opaque else passive_step waiting.Streaming x) (message_back m n v i r)
+    ∙ ap (λ b. if b then step.Noop f.opaque else step.Passive (passive_of m)) none
     ∙ ap step.Passive e)
 
 pub marker_taken : (start end n v : ℕ) (s : DialResult) → start < 2 ^ 64 → end < 2 ^ 64 → s.dial.consumer.handshake ≡ waiting.Streaming
     → frame_taken (dcp_frame (msg.SnapshotMarker start end 1) n v) s ≡ lift (call_made (Marker start end) s)
 unfolding dcp_frame call_of_message
-marker_taken start end n v s a b w = message_read (msg.SnapshotMarker start end 1) (Call (Marker start end)) n v s tt (a, b, omega arith) w refl refl
+marker_taken start end n v s a b w = message_read (msg.SnapshotMarker start end 1) (Call (Marker start end)) n v s tt (a, b, omega arith) w refl refl refl
 
 -- the end of the stream, which a change of role at its producer's vBucket ended
 pub end_taken : (n v : ℕ) (s : DialResult) → s.dial.consumer.handshake ≡ waiting.Streaming → frame_taken (dcp_frame (msg.StreamEnd STATE_CHANGED) n v) s ≡ Ended (over_for State s)
 unfolding dcp_frame
-end_taken n v s w = message_read (msg.StreamEnd STATE_CHANGED) (End State) n v s tt (omega arith) w refl refl
+end_taken n v s w = message_read (msg.StreamEnd STATE_CHANGED) (End State) n v s tt (omega arith) w refl refl refl
 
 key_fits : (key : List ℕ) → IsKey key → key_of key ≡ Some key
 key_fits key k = let b : (nat_le 1 (length key) && nat_le (length key) 250) ≡ true = grind (arith, nat_tests) in ap (λ x. if x then Some key else None) b
@@ -167,51 +168,44 @@ prepare_spelled c level doc true k v = let key : length c.key ≤ 250 = k.1 in (
 prepare_spelled c level doc false k v = let key : length c.key ≤ 250 = k.1 in let value : length doc.value ≤ 20971520 = v in (omega arith, omega arith, λ e. let z : 0 ≡ 1 = e in cc)
 
 -- the change that a message tells
-pub change_taken : (c : Change) (a : Act) (m : DcpMsg) (n v : ℕ) (s : DialResult) → ChangeFits c → c.act ≡ a → act_message c a ≡ Some m → s.dial.consumer.handshake ≡ waiting.Streaming
-    → frame_taken (dcp_frame m n v) s ≡ lift (call_made (Receive (record { seq = c.seq; key = c.key; act = act_told a })) s)
+pub change_taken : (c : Change) (a : Act) (n v : ℕ) (s : DialResult) → ChangeFits c → c.act ≡ a → s.dial.consumer.handshake ≡ waiting.Streaming
+    → frame_taken (dcp_frame (act_message c a) n v) s ≡ lift (call_made (Receive (record { seq = c.seq; key = c.key; act = act_told a })) s)
 unfolding dcp_frame call_of_message
-change_taken c (Set doc) m n v s fits e q w =
+change_taken c (Set doc) n v s fits e w =
     let f : DocFits doc = subst ActFits e fits.act in
     let t : Mutation = record { seq = c.seq; rev = doc.rev; cas = doc.cas; flags = doc.flags; expiry = doc.expiry; datatype = doc.datatype; key = c.key; value = doc.value } in
-    let same : msg.Mutation t ≡ m = cc in
     let told : Change = record { seq = c.seq; key = c.key; act = Set doc } in
     let is : call_of_message (msg.Mutation t) ≡ Some (Receive told) =
     ap (λ x. option_map Receive (set_change t x (value_of doc.value))) (key_fits c.key fits.key)
     ∙ ap (λ x. option_map Receive (set_change t (Some c.key) x)) (value_fits doc.value f.value) in
     let key : length c.key ≤ 250 = fits.key.1 in let value : length doc.value ≤ 20971520 = f.value in
-    subst (λ x. frame_taken (dcp_frame x n v) s ≡ lift (call_made (Receive told) s)) same
-    (message_read (msg.Mutation t) (Call (Receive told)) n v s (omega arith, omega arith) (record { seq = fits.seq; rev = f.rev; cas = f.cas; flags = f.flags; expiry = f.expiry }) w refl (ap called is))
-change_taken c (Remove cas rev) m n v s fits e q w =
+    message_read (msg.Mutation t) (Call (Receive told)) n v s (omega arith, omega arith) (record { seq = fits.seq; rev = f.rev; cas = f.cas; flags = f.flags; expiry = f.expiry }) w refl refl (ap called is)
+change_taken c (Remove cas rev) n v s fits e w =
     let f : (cas < 2 ^ 64) × (rev < 2 ^ 64) = subst ActFits e fits.act in
-    let t : Deletion = record { seq = c.seq; rev = rev; cas = cas; key = c.key } in let same : msg.Deletion t ≡ m = cc in
+    let t : Deletion = record { seq = c.seq; rev = rev; cas = cas; key = c.key } in
     let told : Change = record { seq = c.seq; key = c.key; act = Remove cas rev } in
     let is : call_of_message (msg.Deletion t) ≡ Some (Receive told) = ap (λ x. option_map Receive (option_map (remove_change t) x)) (key_fits c.key fits.key) in
     let key : length c.key ≤ 250 = fits.key.1 in
-    subst (λ x. frame_taken (dcp_frame x n v) s ≡ lift (call_made (Receive told) s)) same
-    (message_read (msg.Deletion t) (Call (Receive told)) n v s (omega arith) (record { seq = fits.seq; rev = f.1; cas = f.0 }) w refl (ap called is))
-change_taken c (Prepare level doc deleted) m n v s fits e q w =
+    message_read (msg.Deletion t) (Call (Receive told)) n v s (omega arith) (record { seq = fits.seq; rev = f.1; cas = f.0 }) w refl refl (ap called is)
+change_taken c (Prepare level doc deleted) n v s fits e w =
     let f : ActFits (Prepare level doc deleted) = subst ActFits e fits.act in
-    let same : prepare_message c level doc deleted ≡ m = cc in
     let told : Change = record { seq = c.seq; key = c.key; act = Prepare level doc deleted } in
-    subst (λ x. frame_taken (dcp_frame x n v) s ≡ lift (call_made (Receive told) s)) same
-    (message_read (prepare_message c level doc deleted) (Call (Receive told)) n v s (prepare_spelled c level doc deleted fits.key f.0.value)
-    (record { seq = fits.seq; rev = f.0.rev; cas = f.0.cas; flags = f.0.flags; expiry = f.0.expiry }) w refl (ap called (prepare_read c level doc deleted fits.key f.0.value f.1)))
-change_taken c (Commit prepared doc deleted) m n v s fits e q w =
+    message_read (prepare_message c level doc deleted) (Call (Receive told)) n v s (prepare_spelled c level doc deleted fits.key f.0.value)
+    (record { seq = fits.seq; rev = f.0.rev; cas = f.0.cas; flags = f.0.flags; expiry = f.0.expiry }) w refl refl (ap called (prepare_read c level doc deleted fits.key f.0.value f.1))
+change_taken c (Commit prepared doc deleted) n v s fits e w =
     let f : ActFits (Commit prepared doc deleted) = subst ActFits e fits.act in
-    let t : Resolution = record { prepared = prepared; seq = c.seq; key = c.key } in let same : msg.Commit t ≡ m = cc in
+    let t : Resolution = record { prepared = prepared; seq = c.seq; key = c.key } in
     let told : Change = record { seq = c.seq; key = c.key; act = commit_act prepared } in
     let is : call_of_message (msg.Commit t) ≡ Some (Receive told) = ap (λ x. option_map Receive (option_map (resolved_change t (commit_act prepared)) x)) (key_fits c.key fits.key) in
     let key : length c.key ≤ 250 = fits.key.1 in
-    subst (λ x. frame_taken (dcp_frame x n v) s ≡ lift (call_made (Receive told) s)) same
-    (message_read (msg.Commit t) (Call (Receive told)) n v s (omega arith) (record { prepared = f.0; seq = fits.seq }) w refl (ap called is))
-change_taken c (Abort prepared) m n v s fits e q w =
+    message_read (msg.Commit t) (Call (Receive told)) n v s (omega arith) (record { prepared = f.0; seq = fits.seq }) w refl refl (ap called is)
+change_taken c (Abort prepared) n v s fits e w =
     let f : prepared < 2 ^ 64 = subst ActFits e fits.act in
-    let t : Resolution = record { prepared = prepared; seq = c.seq; key = c.key } in let same : msg.Abort t ≡ m = cc in
+    let t : Resolution = record { prepared = prepared; seq = c.seq; key = c.key } in
     let told : Change = record { seq = c.seq; key = c.key; act = Abort prepared } in
     let is : call_of_message (msg.Abort t) ≡ Some (Receive told) = ap (λ x. option_map Receive (option_map (resolved_change t (Abort prepared)) x)) (key_fits c.key fits.key) in
     let key : length c.key ≤ 250 = fits.key.1 in
-    subst (λ x. frame_taken (dcp_frame x n v) s ≡ lift (call_made (Receive told) s)) same
-    (message_read (msg.Abort t) (Call (Receive told)) n v s (omega arith) (record { prepared = f; seq = fits.seq }) w refl (ap called is))
+    message_read (msg.Abort t) (Call (Receive told)) n v s (omega arith) (record { prepared = f; seq = fits.seq }) w refl refl (ap called is)
 
 -- the frame that grants a stream
 abbrev pub go_frame : ℕ → Feed → Frame
@@ -221,9 +215,9 @@ pub is_none : {A : Type 0} (o : Option A) → is_some o ≡ false → o ≡ None
 is_none None e = refl
 is_none (Some x) e = cc
 
-module _ {o vb id : ℕ} {g : Granted} {stream : PlainStream} {pv : Option Plain} {leader : Member} {feed : Feed} {kn : Member} where
+module _ {o vb : ℕ} {g : Granted} {stream : PlainStream} {pv : Option Plain} {leader : Member} {feed : Feed} {kn : Member} where
   -- a log that is taken over
-  pub stream_adopted : kn.coming ≡ None → StreamAgrees o vb id g stream pv leader feed kn false → StreamAgrees o vb id g stream pv leader feed (adopted kn (Some feed)) false
+  pub stream_adopted : kn.coming ≡ None → StreamAgrees o vb g stream pv leader feed kn false → StreamAgrees o vb g stream pv leader feed (adopted kn (Some feed)) false
   stream_adopted e s = record {
     put = s.put;
     opens = s.opens;
@@ -242,7 +236,7 @@ module _ {o vb id : ℕ} {g : Granted} {stream : PlainStream} {pv : Option Plain
 
   -- the first snapshot on its way that begins
   pub stream_marked : (x : ℕ × List Change) (more : List (ℕ × List Change)) (in_one : Bool) → kn.coming ≡ Some [] → feed.flight ≡ x ∷ more → kn.position.at < x.0 → last_seq kn.position.at x.1 ≡ x.0
-      → StreamAgrees o vb id g stream pv leader feed kn in_one → StreamAgrees o vb id (past_mark g) stream pv leader (record feed { flight = more }) (marked_by kn feed (x ∷ more)) true
+      → StreamAgrees o vb g stream pv leader feed kn in_one → StreamAgrees o vb (past_mark g) stream pv leader (record feed { flight = more }) (marked_by kn feed (x ∷ more)) true
   stream_marked x more in_one e f above ends s = record {
     put = s.put;
     opens = s.opens;
@@ -265,7 +259,7 @@ module _ {o vb id : ℕ} {g : Granted} {stream : PlainStream} {pv : Option Plain
 
   -- the next change
   pub stream_received : (c : Change) (later : List Change) → kn.coming ≡ Some (c ∷ later) → ((rest : List ItemLine) × (g.coming ≡ item_of_change c ∷ rest) × (map item_of_change (later ++ flight_items feed.flight) ≡ rest ++ map item_of_change (drop stream.next stream.items)))
-      → StreamAgrees o vb id g stream pv leader feed kn true → StreamAgrees o vb id (past_next g) stream pv leader feed (received kn (Some (c ∷ later))) true
+      → StreamAgrees o vb g stream pv leader feed kn true → StreamAgrees o vb (past_next g) stream pv leader feed (received kn (Some (c ∷ later))) true
   stream_received c later e next s =
       let ends : last_seq c.seq later ≡ kn.position.se = sym (ap (λ o. last_seq kn.position.at (coming_items o)) e) ∙ s.in_one_last refl in
       record {

@@ -56,11 +56,11 @@ module _ (link : PlainLink) (end : PlainProducer) (down : List ℕ) (a : Frame) 
   -- one of the first requests was answered
   pub next_asking : (fv : Plain) (kn : Member) (pv : Option Plain) (leader : Member) (granted : Option Granted) → granted ≡ None → (point : Option ℕ) (ask : StreamAsk) (f g : Frame) (fs asked said : List Frame) (k : ℕ)
       (t : Asking (wants_of fv) ask link.server link.consumer asked (spoken said)) → UpIs link (f ∷ fs) asked → DownAgrees link [] said
-      → down ≡ link.down ++ spelling a → end.stream ≡ link.server.stream → Readable a → is_refused_ack a ≡ false
+      → down ≡ link.down ++ spelling a → end.streams ≡ link.server.streams → end.asked ≡ link.server.asked → Readable a → is_refused_ack a ≡ false
       → t.answered ≡ k → k < first_count link.consumer.dialed → ServerIs end link.consumer.dialed (suc k)
       → Begin (drop k (request_frames link.consumer.asked link.consumer.dialed ask)) g → Begin (drop k (first_answers link.consumer.dialed)) a
       → Talk fv kn pv leader granted point answered_link fs []
-  next_asking fv kn pv leader granted none point ask f g fs asked said k t ups downs wrote same_stream good no_ack is few server (rest, here) (others, says) =
+  next_asking fv kn pv leader granted none point ask f g fs asked said k t ups downs wrote same_streams same_asked good no_ack is few server (rest, here) (others, says) =
       let frames : List Frame = request_frames link.consumer.asked link.consumer.dialed ask in
       let answers : List Frame = first_answers link.consumer.dialed in
       let short : k < length answers = goes_on_short k answers a others says in
@@ -69,7 +69,8 @@ module _ (link : PlainLink) (end : PlainProducer) (down : List ℕ) (a : Frame) 
         asked = rest;
         said = said ++ a ∷ [];
         stands = EndsStand.IsAsking ask none (record {
-          no_stream = same_stream ∙ t.no_stream;
+          no_stream = same_streams ∙ t.no_stream;
+          fewer = subst (λ n. n < link.consumer.asked) (sym same_asked) t.fewer;
           asking = record {
             answered = suc k;
             seen = t.seen;

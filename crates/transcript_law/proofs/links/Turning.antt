@@ -2,29 +2,30 @@
 use Rattle.std.specs.Prelude.{◌≡◌, ◌∷◌, ◌==◌, ◌&&◌, ◌||◌, if◌then◌else◌}
 use Rattle.transcript_law.proofs.{disks.Disks.{disk_same, parts_of, same_parts, sealed_disk}, Words.{eqb-true, put, with_seal}, invariant.Carried.{all_vbs}}
 use Rattle.transcript_law.proofs.{invariant.Agreement.{DiskIsIf, shelf_of}}
-use Rattle.transcript_law.proofs.Words.{ℕ, Bool, true, false, List, refl, ap, sym, ◌∙◌, subst, inl, inr, ⊎_elim, Option, Some, None, not, option_map}
+use Rattle.transcript_law.proofs.Words.{ℕ, Bool, true, false, List, refl, ap, sym, ◌∙◌, subst, inl, inr, ⊎_elim, map, Option, Some, None}
 use Rattle.transcript_law.proofs.Words.{eqb-true, eqb-false, Frame, Feed, Member, Cluster, SoundCluster, Stream, Plain, is_follower, stream_ids, stream_at, ended_in, PlainStream, PlainLink}
 use Rattle.transcript_law.proofs.Words.{link_number, producer_node, consumer_node, PlainWorld, link_ended, links_ended, Granted, Chronicle, [], list_any, StreamName, ended_by}
 use Rattle.transcript_law.proofs.invariant.Seats.{seat, seats_apart}
-use Rattle.transcript_law.proofs.invariant.Agreement.{AckedIs, vb_of, AgreesAt, Open, kept_stream, Talk, consumer_seat, producer_seat, LinkAgrees, IsLink, is_open, Differ, DifferFrom, LinksDiffer, top, idle, AgreesIn, BranchesAgree, Wants, EndsStand, DialAgrees}
-use Rattle.transcript_law.proofs.invariant.Carried.{SameStream, places, streaming_again, talk_same}
-use Rattle.transcript_law.proofs.{invariant.Agreement.{EndsUp, RestsIn, VbRow, vb_row}, invariant.Carrying.{SamePowers}, invariant.Resting.{ends_same, rests_by}}
+use Rattle.transcript_law.specs.Feeding.{HasOpen}
+use Rattle.transcript_law.proofs.invariant.Agreement.{AckedIs, vb_of, AgreesAt, Open, kept_stream, Talk, consumer_seat, producer_seat, LinkAgrees, IsLink, Differ, DifferFrom, LinksDiffer, top, idle, AgreesIn, BranchesAgree, Wants, EndsStand, DialAgrees}
+use Rattle.transcript_law.proofs.invariant.Carried.{SameStream, places, stream_same, streaming_again, talk_same}
+use Rattle.transcript_law.proofs.{invariant.Agreement.{EndsUp, RestsIn, VbRow, vb_row}, invariant.Carrying.{NoNewStream, SamePowers}, invariant.Resting.{ends_same, rests_by}}
 
--- a link whose producer keeps another stream
-abbrev pub restreamed : PlainLink → Option PlainStream → PlainLink
-restreamed link o = record link { server = record link.server { stream = o } }
+-- a link whose producer keeps other streams
+abbrev pub restreamed : PlainLink → List PlainStream → PlainLink
+restreamed link streams = record link { server = record link.server { streams = streams } }
 
 -- what a change of role at the vBucket v makes of a connection's stream
-ended_same : (v : ℕ) (ids : List ℕ) (id : ℕ) (stream : PlainStream) → SameStream stream (ended_in v ids id stream)
-ended_same v ids id stream = elim (stream.vb == v && list_any (λ i. i == id) ids) as (λ b. SameStream stream (if b then record stream { ended = true } else stream))
-    [ true ↦ record { vb = refl; opaque = refl; items = refl; next = refl; ended = λ e. refl } | false ↦ record { vb = refl; opaque = refl; items = refl; next = refl; ended = λ e. e } ]
+ended_same : (v : ℕ) (ids : List ℕ) (stream : PlainStream) → SameStream stream (ended_in v ids stream)
+ended_same v ids stream = elim (stream.vb == v && list_any (λ i. i == stream.id) ids) as (λ b. SameStream stream (if b then record stream { ended = true } else stream))
+    [ true ↦ record { id = refl; until = refl; marked = refl; vb = refl; opaque = refl; items = refl; next = refl; ended = λ e. refl } | false ↦ stream_same ]
 
 -- a stream that is not ended by it is not one of these
-pub not_ended : (v : ℕ) (ids : List ℕ) (id : ℕ) (stream : PlainStream) → (ended_in v ids id stream).ended ≡ false → (stream.ended ≡ false) × (stream.vb ≡ v → list_any (λ i. i == id) ids ≡ true → ⊥)
-not_ended v ids id stream = by (stream.vb == v) (list_any (λ i. i == id) ids) refl refl
+pub not_ended : (v : ℕ) (ids : List ℕ) (stream : PlainStream) → (ended_in v ids stream).ended ≡ false → (stream.ended ≡ false) × (stream.vb ≡ v → list_any (λ i. i == stream.id) ids ≡ true → ⊥)
+not_ended v ids stream = by (stream.vb == v) (list_any (λ i. i == stream.id) ids) refl refl
   where
-    by : (a b : Bool) → (stream.vb == v) ≡ a → list_any (λ i. i == id) ids ≡ b → (if a && b then record stream { ended = true } else stream).ended ≡ false
-        → (stream.ended ≡ false) × (stream.vb ≡ v → list_any (λ i. i == id) ids ≡ true → ⊥)
+    by : (a b : Bool) → (stream.vb == v) ≡ a → list_any (λ i. i == stream.id) ids ≡ b → (if a && b then record stream { ended = true } else stream).ended ≡ false
+        → (stream.ended ≡ false) × (stream.vb ≡ v → list_any (λ i. i == stream.id) ids ≡ true → ⊥)
     by true true e f q = let z : true ≡ false = q in cc
     by true false e f q = (q, λ s t. let z : false ≡ true = sym f ∙ t in cc)
     by false b e f q = (q, λ s t. eqb-false stream.vb v e s)
@@ -41,33 +42,33 @@ told_is_link n v ids [] y i = absurd i
 told_is_link n v ids (x ∷ xs) y i = ⊎_elim (λ e. (x, inl refl, e)) (λ j. let k = told_is_link n v ids xs y j in (k.0, inr k.1, k.2)) i
 
 -- a link after it, in its two forms
-pub told_by : (n v : ℕ) (ids : List ℕ) (x : PlainLink) (P : PlainLink → Type 0) → (producer_node x ≡ n → P (restreamed x (option_map (ended_in v ids x.server.desk.id) x.server.stream))) → ((producer_node x ≡ n → ⊥) → P x) → P (link_ended n v ids x)
+pub told_by : (n v : ℕ) (ids : List ℕ) (x : PlainLink) (P : PlainLink → Type 0) → (producer_node x ≡ n → P (restreamed x (map (ended_in v ids) x.server.streams))) → ((producer_node x ≡ n → ⊥) → P x) → P (link_ended n v ids x)
 told_by n v ids x P here there = elim (producer_node x == n) as (λ b. (producer_node x == n) ≡ b → P (if b then record x { server = ended_by v ids x.server } else x))
     [ true ↦ λ e. here (eqb-true (producer_node x) n e) | false ↦ λ e. there (eqb-false (producer_node x) n e) ] refl
 
--- its number, its ends and what its stream is opened under are as they were, and a stream that is open was open
+-- its number and its ends are as they were, and a stream that is open was open
 pub record Alike (x y : PlainLink) : Type 0 where
   pub dialed : y.consumer.dialed ≡ x.consumer.dialed
   pub desk : y.server.desk ≡ x.server.desk
   pub acked : y.consumer.acked ≡ x.consumer.acked
-  pub opens : is_open y.server.stream ≡ true → is_open x.server.stream ≡ true
+  pub opens : NoNewStream x y
 
-pub open_before : (v : ℕ) (ids : List ℕ) (id : ℕ) (o : Option PlainStream) → is_open (option_map (ended_in v ids id) o) ≡ true → is_open o ≡ true
-open_before v ids id None e = e
-open_before v ids id (Some stream) e =
-    ap not (not_ended v ids id stream (elim (ended_in v ids id stream).ended as (λ b. not b ≡ true → b ≡ false) [ true ↦ λ q. cc | false ↦ λ q. refl ] e)).0
+open_before : (v : ℕ) (ids : List ℕ) (streams : List PlainStream) (q id : ℕ) → HasOpen q id (map (ended_in v ids) streams) → HasOpen q id streams
+open_before v ids [] q id has = absurd has
+open_before v ids (stream ∷ more) q id has = ⊎_elim
+    (λ o. let same = ended_same v ids stream in inl (sym same.vb ∙ o.0, sym same.id ∙ o.1, (not_ended v ids stream o.2).0))
+    (λ j. inr (open_before v ids more q id j)) has
 
 pub told_alike : (n v : ℕ) (ids : List ℕ) (x : PlainLink) → Alike x (link_ended n v ids x)
 told_alike n v ids x = told_by n v ids x (Alike x)
-    (λ e. record { dialed = refl; desk = refl; acked = refl; opens = λ q. open_before v ids x.server.desk.id x.server.stream q })
-    (λ ne. record { dialed = refl; desk = refl; acked = refl; opens = λ q. q })
+    (λ e. record { dialed = refl; desk = refl; acked = refl; opens = open_before v ids x.server.streams })
+    (λ ne. record { dialed = refl; desk = refl; acked = refl; opens = λ q id has. has })
 
 differ_alike : (x x' y y' : PlainLink) → Alike x x' → Alike y y' → Differ x y → Differ x' y'
 differ_alike x x' y y' a b d = record {
   number = λ e. d.number (ap (λ k. k.link) (sym a.dialed) ∙ e ∙ ap (λ k. k.link) b.dialed);
   follower = λ e f. d.follower (ap (λ k. k.node) (sym a.dialed) ∙ e ∙ ap (λ k. k.node) b.dialed) (ap (λ k. k.vb) (sym a.dialed) ∙ f ∙ ap (λ k. k.vb) b.dialed);
-  stream = λ s t e f g. d.stream (a.opens s) (b.opens t) (ap (λ k. k.node) (sym a.desk) ∙ e ∙ ap (λ k. k.node) b.desk) (ap (λ k. k.vb) (sym a.dialed) ∙ f ∙ ap (λ k. k.vb) b.dialed)
-      (ap (λ k. k.id) (sym a.desk) ∙ g ∙ ap (λ k. k.id) b.desk);
+  stream = λ v id s t e. d.stream v id (a.opens v id s) (b.opens v id t) (ap (λ k. k.node) (sym a.desk) ∙ e ∙ ap (λ k. k.node) b.desk);
 }
 
 pub differ_told : (n v : ℕ) (ids : List ℕ) (links : List PlainLink) → LinksDiffer links → LinksDiffer (links_ended n v ids links)
@@ -99,9 +100,9 @@ module _ (w w' : PlainWorld) (r r' : Chronicle) (c c' : Cluster) (n v : ℕ) (vb
   ids = stream_ids vb.streams
 
   -- an open stream at another vBucket goes on
-  goes_on : (x : PlainLink) (g : Granted) (feed : Feed) → (producer_node x ≡ n → x.consumer.dialed.vb ≡ v → ⊥) → Open x.server.desk.id g (vb_of w (producer_node x) x.consumer.dialed.vb) (c.nodes (producer_seat x)) feed
-      → Open x.server.desk.id g (vb_of w' (producer_node x) x.consumer.dialed.vb) (c'.nodes (producer_seat x)) feed
-  goes_on x g feed other o = record {
+  goes_on : (x : PlainLink) (id : ℕ) (g : Granted) (feed : Feed) → (producer_node x ≡ n → x.consumer.dialed.vb ≡ v → ⊥) → Open id g (vb_of w (producer_node x) x.consumer.dialed.vb) (c.nodes (producer_seat x)) feed
+      → Open id g (vb_of w' (producer_node x) x.consumer.dialed.vb) (c'.nodes (producer_seat x)) feed
+  goes_on x id g feed other o = record {
     producer = o.producer;
     producer_is = became.there (producer_node x) x.consumer.dialed.vb other ∙ o.producer_is;
     active = o.active;
@@ -110,39 +111,39 @@ module _ (w w' : PlainWorld) (r r' : Chronicle) (c c' : Cluster) (n v : ℕ) (vb
   }
 
   -- one at this vBucket is one of those that end
-  listed : (x : PlainLink) (g : Granted) (feed : Feed) → producer_node x ≡ n → x.consumer.dialed.vb ≡ v → Open x.server.desk.id g (vb_of w (producer_node x) x.consumer.dialed.vb) (c.nodes (producer_seat x)) feed
-      → list_any (λ i. i == x.server.desk.id) ids ≡ true
-  listed x g feed e f o =
+  listed : (x : PlainLink) (id : ℕ) (g : Granted) (feed : Feed) → producer_node x ≡ n → x.consumer.dialed.vb ≡ v → Open id g (vb_of w (producer_node x) x.consumer.dialed.vb) (c.nodes (producer_seat x)) feed
+      → list_any (λ i. i == id) ids ≡ true
+  listed x id g feed e f o =
       let is : Some vb ≡ Some o.producer = sym known ∙ ap (λ k. vb_of w k v) (sym e) ∙ ap (vb_of w (producer_node x)) (sym f) ∙ o.producer_is in
       let same : vb ≡ o.producer = cc in
-      id_listed x.server.desk.id vb.streams o.opened.0 (subst (λ (p : Plain). stream_at x.server.desk.id p.streams ≡ Some o.opened.0) (sym same) o.opened.1)
+      id_listed id vb.streams o.opened.0 (subst (λ (p : Plain). stream_at id p.streams ≡ Some o.opened.0) (sym same) o.opened.1)
 
-  kept_map : (over : Bool) (f : PlainStream → PlainStream) (o : Option PlainStream) (stream : PlainStream) → o ≡ kept_stream over stream → option_map f o ≡ kept_stream over (f stream)
-  kept_map true f o stream e = ap (option_map f) e
-  kept_map false f o stream e = ap (option_map f) e
+  kept_map : (over : Bool) (f : PlainStream → PlainStream) (streams : List PlainStream) (stream : PlainStream) → streams ≡ kept_stream over stream → map f streams ≡ kept_stream over (f stream)
+  kept_map true f streams stream e = ap (map f) e
+  kept_map false f streams stream e = ap (map f) e
 
   -- the two ends of a link stand as they did
   module _ (x : PlainLink) {fv : Wants} {kn : Member} {g : Option Granted} {point : Option ℕ} {asked said : List Frame} where
     -- at the node
     stand_here : EndsStand fv kn (vb_of w (producer_node x) x.consumer.dialed.vb) (c.nodes (producer_seat x)) g point x.server x.consumer asked said
-        → EndsStand fv kn (vb_of w' (producer_node x) x.consumer.dialed.vb) (c'.nodes (producer_seat x)) g point (restreamed x (option_map (ended_in v ids x.server.desk.id) x.server.stream)).server x.consumer asked said
-    stand_here (EndsStand.IsAsking ask none y) = EndsStand.IsAsking ask none (record { no_stream = ap (option_map (ended_in v ids x.server.desk.id)) y.no_stream; asking = y.asking })
-    stand_here (EndsStand.IsRefusedYet none y) = EndsStand.IsRefusedYet none (record { no_stream = ap (option_map (ended_in v ids x.server.desk.id)) y.no_stream; refusal = y.refusal })
+        → EndsStand fv kn (vb_of w' (producer_node x) x.consumer.dialed.vb) (c'.nodes (producer_seat x)) g point (restreamed x (map (ended_in v ids) x.server.streams)).server x.consumer asked said
+    stand_here (EndsStand.IsAsking ask none y) = EndsStand.IsAsking ask none (record { no_stream = ap (map (ended_in v ids)) y.no_stream; fewer = y.fewer; asking = y.asking })
+    stand_here (EndsStand.IsRefusedYet none y) = EndsStand.IsRefusedYet none (record { no_stream = ap (map (ended_in v ids)) y.no_stream; fewer = y.fewer; refusal = y.refusal })
     stand_here (EndsStand.IsStreaming y) =
-        let ends : PlainStream → PlainStream = ended_in v ids x.server.desk.id in
+        let ends : PlainStream → PlainStream = ended_in v ids in let same = ended_same v ids y.stream in
         EndsStand.IsStreaming (streaming_again y
-        (option_map ends x.server.stream) (ends y.stream) (ended_same v ids x.server.desk.id y.stream) (kept_map y.granted_is.over ends x.server.stream y.stream y.stream_is) (λ e.
-        let q = not_ended v ids x.server.desk.id y.stream e in
+        (map ends x.server.streams) (ends y.stream) same (kept_map y.granted_is.over ends x.server.streams y.stream y.stream_is) (λ e.
+        let q = not_ended v ids y.stream e in
         let opens = y.streams.opens q.0 in
-        goes_on x y.granted_is y.feed (λ s vs. q.1 (y.streams.vb_is ∙ vs) (listed x y.granted_is y.feed s vs opens)) opens))
+        subst (λ id. Open id y.granted_is (vb_of w' (producer_node x) x.consumer.dialed.vb) (c'.nodes (producer_seat x)) y.feed) (sym same.id)
+        (goes_on x y.stream.id y.granted_is y.feed (λ s vs. q.1 (y.streams.vb_is ∙ vs) (listed x y.stream.id y.granted_is y.feed s vs opens)) opens)))
 
     -- at another node
     stand_there : (producer_node x ≡ n → ⊥) → EndsStand fv kn (vb_of w (producer_node x) x.consumer.dialed.vb) (c.nodes (producer_seat x)) g point x.server x.consumer asked said → EndsStand fv kn (vb_of w' (producer_node x) x.consumer.dialed.vb) (c'.nodes (producer_seat x)) g point x.server x.consumer asked said
     stand_there away (EndsStand.IsAsking ask none y) = EndsStand.IsAsking ask none y
     stand_there away (EndsStand.IsRefusedYet none y) = EndsStand.IsRefusedYet none y
     stand_there away (EndsStand.IsStreaming y) = EndsStand.IsStreaming
-        (streaming_again y
-        x.server.stream y.stream (record { vb = refl; opaque = refl; items = refl; next = refl; ended = λ e. e }) y.stream_is (λ e. goes_on x y.granted_is y.feed (λ s vs. away s) (y.streams.opens e)))
+        (streaming_again y x.server.streams y.stream stream_same y.stream_is (λ e. goes_on x y.stream.id y.granted_is y.feed (λ s vs. away s) (y.streams.opens e)))
 
   talk_told : (x : PlainLink) (fv : Plain) (kn : Member) (g : Option Granted) (point : Option ℕ)
       → Talk fv kn (vb_of w (producer_node x) x.consumer.dialed.vb) (c.nodes (producer_seat x)) g point x [] []

@@ -15,7 +15,7 @@ abbrev pub heard_link : PlainLink → List Frame → PlainLink
 heard_link link fs = record link { up_heard = concat (map spelling fs) ++ link.up_heard }
 
 -- front frames of readable ones are readable
-front_readable : (fs behind : List Frame) → All Readable (fs ++ behind) → All Readable fs
+pub front_readable : (fs behind : List Frame) → All Readable (fs ++ behind) → All Readable fs
 front_readable [] behind r = All-nil Readable
 front_readable (f ∷ fs) behind r = All-cons Readable f fs (All-head Readable f (fs ++ behind) r) (front_readable fs behind (All-tail Readable f (fs ++ behind) r))
 
@@ -56,7 +56,7 @@ module _ (w w' : PlainWorld) (r : Chronicle) (c : Cluster) (l : ℕ) (link : Pla
   pub unread : AgreesIn (answering l fs) w r c → row_at link_number l w.links ≡ Some link → Relinked w w' (row_put link_number l (heard_link link fs) w.links) → AgreesIn idle w' r c
   unread a found same =
       let la : LinkAgrees w r c link fs [] = subst (λ p. LinkAgrees w r c link p.0 p.1) (one_here l (fs, [])) (mine (answering l fs) w r r c c l link a found) in
-      carries_link (answering l fs) idle w w' r r c l link (heard_link link fs) a found (record { dialed = refl; desk = refl }) same (λ has. has) (told_of_same l r) (λ k ne. sym (one_idle l (fs, []) k ne)) (record {
+      carries_link (answering l fs) idle w w' r r c l link (heard_link link fs) a found (record { dialed = refl; desk = refl }) same (λ v id has. has) (told_of_same l r) (λ k ne. sym (one_idle l (fs, []) k ne)) (record {
         follower = la.follower;
         follower_is = same.vbs (consumer_node link) link.consumer.dialed.vb ∙ la.follower_is;
         follows = la.follows;
@@ -69,7 +69,7 @@ module _ (w w' : PlainWorld) (r : Chronicle) (c : Cluster) (l : ℕ) (link : Pla
       → AgreesIn idle w r c → row_at link_number l w.links ≡ Some (heard_link link fs) → Relinked w w' (row_put link_number l link w.links) → AgreesIn (answering l fs) w' r c
   reread readable none left a found same =
       let la : LinkAgrees w r c (heard_link link fs) [] [] = mine idle w r r c c l (heard_link link fs) a found in
-      carries_link idle (answering l fs) w w' r r c l (heard_link link fs) link a found (record { dialed = refl; desk = refl }) same (λ has. has) (told_of_same l r) (one_idle l (fs, []))
+      carries_link idle (answering l fs) w w' r r c l (heard_link link fs) link a found (record { dialed = refl; desk = refl }) same (λ v id has. has) (told_of_same l r) (one_idle l (fs, []))
       (subst (λ p. LinkAgrees w' r c link p.0 p.1) (sym (one_here l (fs, []))) (record {
         follower = la.follower;
         follower_is = same.vbs (consumer_node link) link.consumer.dialed.vb ∙ la.follower_is;

@@ -1,6 +1,6 @@
 -- lines that move a consumer's bytes to its producer, which answers the frames that came whole
-use Rattle.std.specs.Prelude.{◌≡◌, ◌<◌, ◌≤◌, ◌∷◌, ◌++◌, ◌==◌, if◌then◌else◌}
-use Rattle.{dcp_consumer.specs.declared.handshake.Dialed.{Dialed}, dcp_producer.specs.declared.desk.Named.{Named}}
+use Rattle.std.specs.Prelude.{◌≡◌, ◌<◌, ◌≤◌, ◌+◌, ◌^◌, ◌∷◌, ◌++◌, ◌==◌, if◌then◌else◌}
+use Rattle.{dcp_consumer.specs.declared.handshake.Dialed.{Dialed}, dcp_producer.specs.declared.desk.Named.{Named}, dcp_producer.specs.Serving.{next_stream, with_asked}, transcript_law.specs.Feeding.{HasOpen}}
 use Rattle.node_world.specs.Links.{frame_up, result_behind, peer_posted as node_told}
 use Rattle.transcript_law.proofs.disks.Disks.{power_in}
 use Rattle.transcript_law.proofs.Words.{ℕ, suc, Bool, true, false, List, [], drop, refl, ap, sym, ◌∙◌, subst, arith, append_assoc, cases_lt, inr, ⊎_elim, Option, Some, None, eq-eqb, ne_eqb, eqb-true, eqb-false}
@@ -8,7 +8,7 @@ use Rattle.transcript_law.proofs.Words.{Frame, spelling, left_of, dcp_frame, Ask
 use Rattle.transcript_law.proofs.Words.{Member, Cluster, Move, happens, May, keeps, answered, Handshake, PlainProducer, Served, begun, frame_answered, refuse, is_active, stream_at, open_refusal, new_stream}
 use Rattle.transcript_law.proofs.Words.{PeerResult, peer_result, PlainLink, link_number, producer_node, consumer_node, PlainNode, PlainWorld, with_states, with_node_at, with_links, with_up, vb_in, Granted, granted, Chronicle, after_ask, after_line, after_lines}
 use Rattle.transcript_law.proofs.Words.{LawfulAsk, LawfulLine, LawfulVerdict, IsDialed, with_stream, DcpMsg, Event, StreamName}
-use Rattle.transcript_law.proofs.invariant.Agreement.{AckedIs, vb_of, shelf_of, answer_frame, spoken, Asking, IsRefused, PointAgrees, Talk, consumer_seat, producer_seat, LinkAgrees, is_open, AgreesIn, wants_of, DialAgrees, VbAgrees, AgreesAt, top}
+use Rattle.transcript_law.proofs.invariant.Agreement.{AckedIs, vb_of, shelf_of, answer_frame, spoken, Asking, IsRefused, PointAgrees, Talk, consumer_seat, producer_seat, LinkAgrees, AgreesIn, wants_of, DialAgrees, VbAgrees, AgreesAt, top}
 use Rattle.transcript_law.proofs.{disks.Absent.{nothing_here}, invariant.Carried.{told_of_same, one_here, one_but, no_writer, talk_same}, invariant.Carrying.{Became, FeedChanged, SamePowers, ToldOf}, invariant.LinkRows.{found_is_link, put_is_found, put_twice}}
 use Rattle.transcript_law.proofs.{verbs.NodeLines.{powers_again, shelves_again}, invariant.OneLink.{mine, carries_link, put_here, put_there, carries_producer, disk_here, disk_there}, invariant.Ranged.{NodeRanged}, invariant.Seats.{seat}}
 use Rattle.transcript_law.proofs.{links.Spoken.{message_spoken}, invariant.Tables.{id_here, id_there, stream_here, stream_there}, lines.Telling.{LawfulBefore, before_more, none_before, told_more, one_before}}
@@ -105,7 +105,7 @@ module _ (w0 : PlainWorld) (r0 : Chronicle) (n : ℕ) (link0 : PlainLink) (found
 
   -- a step after which each vBucket is as it was, and that tells of no stream
   module _ (fs gs : List Frame) (x : PlainNode × PeerResult) (now : Now fs x) (st : States) (same : (q : ℕ) → st q ≡ x.0.vbs q) (end : PlainProducer) (lines : List Event) (out : List ℕ) (desk : end.desk ≡ x.1.peer.producer.desk)
-      (no_stream : is_open end.stream ≡ true → is_open x.1.peer.producer.stream ≡ true) (lawful : LawfulBefore (after_lines r0 x.1.events) lines) (r' : Chronicle) (told : after_lines (after_lines r0 x.1.events) lines ≡ r')
+      (no_stream : (q id : ℕ) → HasOpen q id end.streams → HasOpen q id x.1.peer.producer.streams) (lawful : LawfulBefore (after_lines r0 x.1.events) lines) (r' : Chronicle) (told : after_lines (after_lines r0 x.1.events) lines ≡ r')
       (known_of : ToldOf l (after_lines r0 x.1.events) r') (dial : r'.dial_of l ≡ (after_lines r0 x.1.events).dial_of l) (stream : r'.stream_of (StreamName.Link l) v ≡ (after_lines r0 x.1.events).stream_of (StreamName.Link l) v) where
     abbrev y : PlainNode × PeerResult
     y = answered_at x st end lines out
@@ -189,10 +189,10 @@ module _ (w0 : PlainWorld) (r0 : Chronicle) (n : ℕ) (link0 : PlainLink) (found
         let same : g ≡ f = cc in
         let r = after_lines r0 x.1.events in
         subst (Now fs) (sym (frame_came f x ∙ ap (λ h. came_of x (after (frame_answered h s) x.0.vbs)) (sym same) ∙ ap (λ p. came_of x (after p x.0.vbs)) came.came))
-        (quiet (f ∷ fs) fs x now x.0.vbs (λ q. refl) came.end [] (spelling a) came.desk (λ has. subst (λ o. is_open o ≡ true) came.stream has) (none_before r) r refl
+        (quiet (f ∷ fs) fs x now x.0.vbs (λ q. refl) came.end [] (spelling a) came.desk (λ q id has. subst (HasOpen q id) came.streams has) (none_before r) r refl
         (told_of_same l r) refl refl
         (λ kn pv leader g' told. next_asking (served_at x.1) came.end (link0.down ++ (x.1.out ++ spelling a)) a la.follower kn pv leader g' (told ∙ none) (r.point_of l) ask f g fs talk_now.asked talk_now.said k t
-        talk_now.ups talk_now.downs (sym (append_assoc link0.down x.1.out (spelling a))) came.stream at.served.says (message_spoken at.row.answer (suc k) 0) is few (came.set_is ∙ sym at.set)
+        talk_now.ups talk_now.downs (sym (append_assoc link0.down x.1.out (spelling a))) came.streams came.asked at.served.says (message_spoken at.row.answer (suc k) 0) is few (came.set_is ∙ sym at.set)
         (at.asked.0 ++ request, here) at.said))
 
     -- the request for a stream, refused
@@ -201,7 +201,7 @@ module _ (w0 : PlainWorld) (r0 : Chronicle) (n : ℕ) (link0 : PlainLink) (found
     refuse_last is st same log high said refused lawful =
         let r = after_lines r0 x.1.events in
         let known_of = refused_told_of l v r ask log said refused in
-        quiet (f ∷ fs) fs x now st same s.end (told_line s v ask log high said ∷ []) (spelling (answer_frame link0.consumer.asked [] said)) refl (λ has. has)
+        quiet (f ∷ fs) fs x now st same (with_asked s.end) (told_line s v ask log high said ∷ []) (spelling (answer_frame link0.consumer.asked [] said)) refl (λ v id has. has)
         (one_before r [] (told_line s v ask log high said) (none_before r)
         (λ behind. subst (λ nm. LawfulLine r (Event.Asked nm s.end.desk.node v ask high log said) behind) (sym la.named) lawful))
         (after_ask r l v ask log said)
@@ -257,8 +257,8 @@ module _ (w0 : PlainWorld) (r0 : Chronicle) (n : ℕ) (link0 : PlainLink) (found
         producer : VbAgrees r mp v (c.nodes p) pv
         producer = subst (AgreesAt r mp v (c.nodes p)) (known_there (Some pv) known) (now.agrees.vbs mp v)
 
-        module _ (active : is_active pv.role ≡ true) (free : stream_at s.end.desk.id pv.streams ≡ None) (ruled : rule pv.log pv.position.at ask ≡ Continue)
-            (st : States) (are : StatesAre x.0.vbs v (record pv { streams = pv.streams ++ new_stream s.end.desk.id ask true ∷ [] }) st) where
+        module _ (active : is_active pv.role ≡ true) (free : stream_at (next_stream s.end) pv.streams ≡ None) (ruled : rule pv.log pv.position.at ask ≡ Continue)
+            (st : States) (are : StatesAre x.0.vbs v (record pv { streams = pv.streams ++ new_stream (next_stream s.end) ask true ∷ [] }) st) where
           abbrev fv : Plain
           fv = la.follower
 
@@ -269,7 +269,7 @@ module _ (w0 : PlainWorld) (r0 : Chronicle) (n : ℕ) (link0 : PlainLink) (found
           pn = c.nodes p
 
           abbrev opened : Plain
-          opened = record pv { streams = pv.streams ++ new_stream s.end.desk.id ask true ∷ [] }
+          opened = record pv { streams = pv.streams ++ new_stream (next_stream s.end) ask true ∷ [] }
 
           abbrev s' : Served
           s' = granted_lines s o v ask pv.log pv.position.at
@@ -383,9 +383,9 @@ module _ (w0 : PlainWorld) (r0 : Chronicle) (n : ℕ) (link0 : PlainLink) (found
             cluster = c';
             lawful = one_before r0 x.1.events (told_line s v ask pv.log pv.position.at AskAnswer.Go) now.lawful line_lawful;
             agrees = subst (λ q. AgreesIn (answering l fs) (world_at came) q c') (sym told)
-                (carries_producer (answering l (f ∷ fs)) (answering l fs) (world_at x) (world_at came) r r' c c' l link link' pv opened now.agrees (found_at x)
+                (carries_producer (answering l (f ∷ fs)) (answering l fs) (world_at x) (world_at came) r r' c c' l link link' (next_stream s.end) pv opened now.agrees (found_at x)
                 (record { dialed = refl; desk = refl }) (known_there (Some pv) known) (streams_opened fv ask link (link0.down ++ (x.1.out ++ spelling (answer_frame o pv.log AskAnswer.Go))) f fs talk_now.asked talk_now.said t last talk_now.ups talk_now.downs pv kn pn follower.member.position producer.member.log (now.agrees.sound.leads p leads).front
-                (now.agrees.sound.stands p).ancestry.short producer.entries active free ends_apart wrote producer.sound) became (same_shelves x came node_of_same_vbs mp v) (inr free) known_of fed (keeps top c (Move.Grant k p) now.agrees.sound may)
+                (now.agrees.sound.stands p).ancestry.short producer.entries active free ends_apart wrote producer.sound) became (same_shelves x came node_of_same_vbs mp v) (inr free) (λ q k has. ⊎_elim (λ o. (sym o.0, sym o.1)) (λ none. absurd none) has) known_of fed (keeps top c (Move.Grant k p) now.agrees.sound may)
                 (one_but l (f ∷ fs, []) (fs, [])) (subst (λ q. LinkAgrees (world_at came) r' c' link' q.0 q.1) (sym (one_here l (fs, []))) lb));
             desk = now.desk;
             heard = now.heard;
@@ -401,6 +401,10 @@ module _ (w0 : PlainWorld) (r0 : Chronicle) (n : ℕ) (link0 : PlainLink) (found
       asked_open : s.end.handshake ≡ Handshake.Open true (Named.Member nn)
       asked_open = asked_opened la.follower ask link [] f fs talk_now.asked talk_now.said t last talk_now.ups talk_now.downs
 
+      -- a number is left for its stream
+      numbers_left : s.end.asked + 1 < 2 ^ 32
+      numbers_left = let below = t.fewer in let small : link0.consumer.asked < 2 ^ 32 = t.consumer.small in omega (arith, below, small)
+
       no_flags : ask.flags ≡ 0
       no_flags = ap (λ (a : StreamAsk). a.flags) t.asks
 
@@ -408,7 +412,7 @@ module _ (w0 : PlainWorld) (r0 : Chronicle) (n : ℕ) (link0 : PlainLink) (found
       absent : x.0.vbs v ≡ None → Now fs (frame_up f x)
       absent none =
           let nothing = nothing_here (world_at x) r c mp v now.agrees (known_there None none) (now.agrees.ends link (found_is_link l (world_at x).links link (found_at x)).0).producer in
-          answered_as (x.0.vbs, refused_told s o v ask [] 0 (AskAnswer.Refuse 7)) (absent_asked o v nn ask s in_range asked_open no_flags t.no_stream x.0.vbs none)
+          answered_as (x.0.vbs, refused_told s o v ask [] 0 (AskAnswer.Refuse 7)) (absent_asked o v nn ask s in_range asked_open no_flags t.no_stream numbers_left x.0.vbs none)
           (refuse_last last x.0.vbs (λ q. refl) [] 0 (AskAnswer.Refuse 7) (λ e. omega arith, λ e. omega arith, omega arith)
           (absent_lawful r l mp v ask dialed_there nothing.log nothing.held))
 
@@ -428,29 +432,29 @@ module _ (w0 : PlainWorld) (r0 : Chronicle) (n : ℕ) (link0 : PlainLink) (found
             (refuse_last last st (same_states st are) pv.log pv.position.at said refused
             (own_lawful r c now.agrees.sound now.agrees.hists mp v p pv (producer pv known) ask l dialed_there said verdict grants))
 
-        refuses : (why : Status) → open_refusal pv s.end.desk.id ask ≡ Some why → Now fs (frame_up f x)
+        refuses : (why : Status) → open_refusal pv (next_stream s.end) ask ≡ Some why → Now fs (frame_up f x)
         refuses why because =
-            let a = refused_asked o v nn ask s in_range asked_open no_flags t.no_stream x.0.vbs pv known why because in
-            let named = refusal_named pv s.end.desk.id ask why because in
+            let a = refused_asked o v nn ask s in_range asked_open no_flags t.no_stream numbers_left x.0.vbs pv known why because in
+            let named = refusal_named pv (next_stream s.end) ask why because in
             refused_now a.0 a.1 (refuse why) named named.0 tt a.2
 
         module _ (active : is_active pv.role ≡ true) where
-          judges : open_refusal pv s.end.desk.id ask ≡ None → (said : Verdict) → rule pv.log pv.position.at ask ≡ said → Now fs (frame_up f x)
+          judges : open_refusal pv (next_stream s.end) ask ≡ None → (said : Verdict) → rule pv.log pv.position.at ask ≡ said → Now fs (frame_up f x)
           judges opens Continue ruled =
-              let a = granted_asked o v nn ask s in_range asked_open no_flags t.no_stream x.0.vbs pv known opens ruled in
-              answered_as (a.0, granted_lines s o v ask pv.log pv.position.at) a.2 (granted_now pv known active (opens_free pv s.end.desk.id ask active opens) ruled a.0 a.1)
+              let a = granted_asked o v nn ask s in_range asked_open no_flags t.no_stream numbers_left x.0.vbs pv known opens ruled in
+              answered_as (a.0, granted_lines s o v ask pv.log pv.position.at) a.2 (granted_now pv known active (opens_free pv (next_stream s.end) ask active opens) ruled a.0 a.1)
           judges opens (Roll to) ruled =
-              let a = rolled_asked o v nn ask s in_range asked_open no_flags t.no_stream x.0.vbs pv known to opens ruled in
+              let a = rolled_asked o v nn ask s in_range asked_open no_flags t.no_stream numbers_left x.0.vbs pv known to opens ruled in
               refused_now a.0 a.1 (AskAnswer.Roll to) (roll_low pv.log pv.position.at ask to in_range ruled)
               (roll_lawful r c now.agrees.sound now.agrees.hists mp v p pv (producer pv known) ask active to ruled) (active_vb_lines r c now.agrees.sound now.agrees.hists mp v p pv (producer pv known) ask active) a.2
 
-        decides : (why : Option Status) → open_refusal pv s.end.desk.id ask ≡ why → Now fs (frame_up f x)
-        decides None opens = judges (opens_active pv s.end.desk.id ask opens) opens (rule pv.log pv.position.at ask) refl
+        decides : (why : Option Status) → open_refusal pv (next_stream s.end) ask ≡ why → Now fs (frame_up f x)
+        decides None opens = judges (opens_active pv (next_stream s.end) ask opens) opens (rule pv.log pv.position.at ask) refl
         decides (Some why) because = refuses why because
 
       by_vb : (o : Option Plain) → x.0.vbs v ≡ o → Now fs (frame_up f x)
       by_vb None none = absent none
-      by_vb (Some pv) known = decides pv known (open_refusal pv s.end.desk.id ask) refl
+      by_vb (Some pv) known = decides pv known (open_refusal pv (next_stream s.end) ask) refl
 
       -- the request for the stream is answered
       pub request_decided : Now fs (frame_up f x)

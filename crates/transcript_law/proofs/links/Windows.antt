@@ -1,15 +1,16 @@
--- a producer's window: nothing else that agrees speaks of it
-use Rattle.std.specs.Prelude.{◌≡◌, ◌&&◌}
-use Rattle.transcript_law.proofs.Words.{ℕ, List, [], refl, ap, sym, ◌∙◌, subst, Option, Some, not, Frame, Member, Plain, PlainConsumer, PlainProducer, Granted, Halt, Served, Turn, More, Stop, States, row_at, PlainLink, link_number, PlainNode, PlainWorld, Chronicle, after_lines}
-use Rattle.transcript_law.proofs.invariant.Agreement.{EndsStand, LinkAgrees, StreamAgrees, Streaming, Wants, idle, is_granted}
-use Rattle.transcript_law.proofs.{invariant.Carried.{told_of_same}, invariant.LinkRows.{found_is_link, put_is_found, put_twice}, invariant.OneLink.{carries_link}, links.PumpWorlds.{SoFar, TurnSoFar, pumped, served_link}}
-use Rattle.dcp_producer.specs.{Pulling.{in_window, with_window}, declared.desk.Desk.{Desk}}
+-- a producer's window, and whose turn it is: nothing else that agrees speaks of them
+use Rattle.std.specs.Prelude.{◌≡◌, ◌<◌, ◌≤◌, ◌+◌, ◌*◌, ◌^◌}
+use Rattle.transcript_law.proofs.Words.{ℕ, List, [], refl, ap, sym, ◌∙◌, subst, Option, Some, Frame, Member, Plain, PlainConsumer, PlainProducer, PlainStream, Granted, Served, States, row_at, PlainLink, link_number, PlainNode, PlainWorld, Chronicle, after_lines}
+use Rattle.transcript_law.proofs.invariant.Agreement.{EndsStand, LinkAgrees, Streaming, Wants, idle}
+use Rattle.transcript_law.proofs.{invariant.Carried.{told_of_same}, invariant.LinkRows.{found_is_link, put_is_found, put_twice}, invariant.OneLink.{carries_link}, links.PumpWorlds.{SoFar, pumped, served_link}}
+use Rattle.{dcp_producer.specs.declared.desk.Desk.{Desk}, transcript_law.specs.Feeding.{HasOpen}}
 
--- ends that differ in their windows at most
+-- ends that differ in their windows and turns at most
 pub record SameBut (x y : PlainProducer) : Type 0 where
   pub desk : y.desk ≡ x.desk
   pub handshake : y.handshake ≡ x.handshake
-  pub stream : y.stream ≡ x.stream
+  pub asked : y.asked ≡ x.asked
+  pub streams : y.streams ≡ x.streams
 
 module _ {fv : Wants} {kn : Member} {pv : Option Plain} {leader : Member} {g : Option Granted} {served : PlainProducer} {asker : PlainConsumer} {up put : List Frame} where
   -- a stream that was granted
@@ -19,7 +20,8 @@ module _ {fv : Wants} {kn : Member} {pv : Option Plain} {leader : Member} {g : O
     told = t.told;
     serving = record {
       stream = t.stream;
-      stream_is = same.stream ∙ t.stream_is;
+      stream_is = same.streams ∙ t.stream_is;
+      numbered = subst (λ (d : Desk). t.stream.id ≤ d.base * 2 ^ 32 + end.asked) (sym same.desk) (subst (λ n. t.stream.id ≤ served.desk.base * 2 ^ 32 + n) (sym same.asked) t.numbered);
       apart = λ e. t.apart (ap (λ d. d.node) (sym same.desk) ∙ e);
       server = same.handshake ∙ t.server;
       acks = t.acks;
@@ -32,14 +34,15 @@ module _ {fv : Wants} {kn : Member} {pv : Option Plain} {leader : Member} {g : O
     log_fits = t.log_fits;
     seen = t.seen;
     taking = t.taking;
-    streams = subst (λ (d : Desk). StreamAgrees asker.asked asker.dialed.vb d.id t.granted_is t.stream pv leader t.feed kn (is_granted asker.dialed t.seen && not fv.first)) (sym same.desk) t.streams;
+    streams = t.streams;
     all = t.all;
   }
 
   -- and so wherever the two ends stand
   pub stands_served : {point : Option ℕ} → EndsStand fv kn pv leader g point served asker up put → (end : PlainProducer) → SameBut served end → EndsStand fv kn pv leader g point end asker up put
   stands_served (EndsStand.IsAsking ask none t) end same = EndsStand.IsAsking ask none (record {
-    no_stream = same.stream ∙ t.no_stream;
+    no_stream = same.streams ∙ t.no_stream;
+    fewer = subst (λ n. n < asker.asked) (sym same.asked) t.fewer;
     asking = record {
       answered = t.answered;
       seen = t.seen;
@@ -53,7 +56,8 @@ module _ {fv : Wants} {kn : Member} {pv : Option Plain} {leader : Member} {g : O
     };
   })
   stands_served (EndsStand.IsRefusedYet none t) end same = EndsStand.IsRefusedYet none (record {
-    no_stream = same.stream ∙ t.no_stream;
+    no_stream = same.streams ∙ t.no_stream;
+    fewer = subst (λ n. n ≤ asker.asked) (sym same.asked) t.fewer;
     refusal = record {
       said = t.said;
       refused = t.refused;
@@ -68,11 +72,12 @@ module _ {fv : Wants} {kn : Member} {pv : Option Plain} {leader : Member} {g : O
   })
   stands_served (EndsStand.IsStreaming t) end same = EndsStand.IsStreaming (streaming_served t end same)
 
--- the world while a producer puts frames, after its window changed
-module _ (w : PlainWorld) (r : Chronicle) (l : ℕ) (link : PlainLink) (node : PlainNode) (found : row_at link_number l w.links ≡ Some link) (states : States) (before : ℕ) where
-  pub so_far_windowed : (s : Served) → SoFar w r l link node states s → SoFar w r l link node states (with_window before s)
-  so_far_windowed s g =
-      let now : PlainWorld = pumped w l link node states s in let s' : Served = with_window before s in let now' : PlainWorld = pumped w l link node states s' in
+-- the world while a producer puts frames, after a turn in which none was put
+module _ (w : PlainWorld) (r : Chronicle) (l : ℕ) (link : PlainLink) (node : PlainNode) (found : row_at link_number l w.links ≡ Some link) (states : States) where
+  pub so_far_turned : (s : Served) (streams : List PlainStream) (turn : ℕ) → s.end.streams ≡ streams → SoFar w r l link node states s → SoFar w r l link node states (record s { end = record s.end { streams = streams; turn = turn } })
+  so_far_turned s streams turn same g =
+      let s' : Served = record s { end = record s.end { streams = streams; turn = turn } } in
+      let now : PlainWorld = pumped w l link node states s in let now' : PlainWorld = pumped w l link node states s' in
       let here : PlainLink = served_link link s in let here' : PlainLink = served_link link s' in let (c, a) = g.agrees in
       let numbered : link_number here ≡ l = (found_is_link l w.links link found).1 in
       let there = put_is_found l w.links link here found numbered in
@@ -84,7 +89,7 @@ module _ (w : PlainWorld) (r : Chronicle) (l : ℕ) (link : PlainLink) (node : P
         agrees = (
           c,
           carries_link idle idle now now' (after_lines r s.events) (after_lines r s.events) c l here here' a there (record { dialed = refl; desk = refl })
-              (record { powers = λ m. refl; vbs = λ m q. refl; shelves = λ m q. refl; uuids = refl; linked = sym (put_twice l w.links here here' numbered) }) (λ has. has) (told_of_same l (after_lines r s.events)) (λ k ne. refl) (record {
+              (record { powers = λ m. refl; vbs = λ m q. refl; shelves = λ m q. refl; uuids = refl; linked = sym (put_twice l w.links here here' numbered) }) (λ v id has. subst (HasOpen v id) (sym same) has) (told_of_same l (after_lines r s.events)) (λ k ne. refl) (record {
                 follower = la.follower;
                 follower_is = la.follower_is;
                 follows = la.follows;
@@ -93,15 +98,10 @@ module _ (w : PlainWorld) (r : Chronicle) (l : ℕ) (link : PlainLink) (node : P
                 talk = record {
                   asked = la.talk.asked;
                   said = la.talk.said;
-                  stands = stands_served la.talk.stands s'.end (record { desk = refl; handshake = refl; stream = refl });
+                  stands = stands_served la.talk.stands s'.end (record { desk = refl; handshake = refl; asked = refl; streams = sym same });
                   ups = record { behind = la.talk.ups.behind; joined = la.talk.ups.joined; bytes = la.talk.ups.bytes; readable = la.talk.ups.readable };
                   downs = record { behind = la.talk.downs.behind; joined = la.talk.downs.joined; bytes = la.talk.downs.bytes; readable = la.talk.downs.readable };
                 };
               }),
         );
       }
-
-  -- after a turn, what it put is counted
-  pub windowed_turn : (x : Turn Served (Served × Halt)) → TurnSoFar w r l link node states x → TurnSoFar w r l link node states (in_window before x)
-  windowed_turn (More s) g = so_far_windowed s g
-  windowed_turn (Stop stopped) g = g

@@ -1,11 +1,11 @@
 -- worlds of two nodes, judged by hand
 use Rattle.std.specs.Prelude.{◌≡◌, ◌∷◌, ◌==◌, if◌then◌else◌}
-use Rattle.transcript_law.proofs.Words.{ℕ, Bool, true, false, [], refl, sym, ap, ◌∙◌, subst, inl, eqb-true, arith, Some, None, Role, Plain, PlainLink, PlainNode, link_number, producer_node, consumer_node, vb_in}
+use Rattle.transcript_law.proofs.Words.{ℕ, Bool, true, false, [], refl, sym, ap, ◌∙◌, subst, inl, inr, eqb-true, arith, Some, None, Role, Plain, PlainLink, PlainNode, link_number, producer_node, consumer_node, vb_in}
 use Rattle.vb_types.specs.declared.stream.StreamAsk.{StreamAsk}
 use Rattle.dcp_producer.specs.Producers.{PlainStream}
 use Rattle.vb_calls.specs.declared.stream.Stream.{Stream}
 use Rattle.transcript_law.specs.Feeding.{IsLinked, IsOf, LinksAreFed, StreamsAreLinks}
-use Rattle.transcript_law.specs.FeedingRows.{GoesOn, down, feeding, has_one, has_streams, streaming, two_nodes, up}
+use Rattle.transcript_law.specs.FeedingRows.{GoesOn, down, feeding, has_one, has_streams, streaming, streaming_both, two_nodes, up}
 use Rattle.node_world.specs.Worlds.{is_off, is_up}
 use Rattle.vb_calls.specs.Following.{is_follower}
 use Rattle.vb_calls.specs.State.{new_vb}
@@ -66,11 +66,14 @@ unlinked s f = let x = f.linked 0 0 s.id (inl refl) in let e : None ≡ Some x.1
 
 module _ (ask : StreamAsk) (stream : PlainStream) (on : GoesOn stream) where
   -- the link has it
-  of_link : (l : ℕ) → IsOf 0 0 9 (streaming l ask stream)
-  of_link l = record { producer = refl; stream = on; under = refl }
+  of_link : (l : ℕ) → IsOf 0 0 stream.id (streaming l ask stream)
+  of_link l = record { producer = refl; stream = inl (on.0, refl, on.1) }
 
   pub unopened : StreamsAreLinks (two_nodes (has_streams []) (has_one Role.Replica) (streaming 1 ask stream ∷ [])) → ⊥
-  unopened f = (f.opened 1 0 0 9 (streaming 1 ask stream) refl (of_link 1)).0
+  unopened f = (f.opened 1 0 0 stream.id (streaming 1 ask stream) refl (of_link 1)).0
+
+  pub second : (first : PlainStream) → StreamsAreLinks (two_nodes (has_streams []) (has_one Role.Replica) (streaming_both 1 ask first stream ∷ [])) → ⊥
+  second first f = (f.opened 1 0 0 stream.id (streaming_both 1 ask first stream) refl (record { producer = refl; stream = inr (inl (on.0, refl, on.1)) })).0
 
   pub shared : (s : Stream) → StreamsAreLinks (two_nodes (has_streams (s ∷ [])) (has_one Role.Replica) (streaming 1 ask stream ∷ streaming 2 ask stream ∷ [])) → ⊥
-  shared s f = let e : ◌≡◌ {A = ℕ} 1 2 = f.apart 1 2 0 0 9 (streaming 1 ask stream) (streaming 2 ask stream) refl refl (of_link 1) (of_link 2) in omega arith
+  shared s f = let e : ◌≡◌ {A = ℕ} 1 2 = f.apart 1 2 0 0 stream.id (streaming 1 ask stream) (streaming 2 ask stream) refl refl (of_link 1) (of_link 2) in omega arith

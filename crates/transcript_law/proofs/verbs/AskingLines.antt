@@ -3,7 +3,7 @@ use Rattle.std.specs.Prelude.{if◌then◌else◌, ◌≡◌, ◌∷◌, ◌==�
 use Rattle.transcript_law.proofs.Words.{ℕ, Bool, true, refl, ap, sym, ◌∙◌, subst, eq-eqb, Option, Some, None, Event, StreamName, Verb, NodeVerb, LinkVerb, Chronicle, PlainLink, PlainNode, PlainWorld, Outcome, LinkResult, consumer_node, link_number, on_link, producer_node, pump_at, row_at, up_at, verb_step, with_link, node_outcome, link_outcome, refusal, Cause}
 use Rattle.dcp_consumer.specs.declared.handshake.Dialed.{Dialed}
 use Rattle.dcp_producer.specs.declared.desk.Desk.{Desk}
-use Rattle.dcp_producer.specs.Pulling.{act_sent}
+use Rattle.dcp_producer.specs.Frames.{act_sent}
 use Rattle.node_world.specs.{Arms.{fired_by}, Power.{after_broken, disk_end, down_lines, is_broken_answer, with_broken}, World.{down_in, down_outcome, down_step, link_verb_step}, Worlds.{arm_in}}
 use Rattle.node_world.specs.declared.arm.Fired.{Fired}
 use Rattle.node_world.specs.declared.arm.Fired.TheVariants as fired

@@ -271,7 +271,7 @@ module _ (w : PlainWorld) (r : Chronicle) (c : Cluster) (n : ℕ) (node : PlainN
       let away : is_dial_at n (r.dial_of (link_number x)) ≡ false = ap (is_dial_at n) (a.links x i).dialed ∙ apart x i in
       link_carried w w' r r' c c' x [] [] (λ f e. (f, ap (λ o. vb_in o x.consumer.dialed.vb) (there (consumer_node x) ne.1) ∙ e, kept_same f))
       (ap (λ b. if b then None else r.dial_of (link_number x)) away) (ap (λ b. if b then None else r.stream_of (StreamName.Link (link_number x)) x.consumer.dialed.vb) away) (ap (λ b. if b then None else r.point_of (link_number x)) away) (others (consumer_node x) x.consumer.dialed.vb ne.1).0
-      (λ p s e active opens has. (p, ap (λ o. vb_in o x.consumer.dialed.vb) (there (producer_node x) ne.0) ∙ e, active, opens, ap (λ (m : Member). m.br) (others (producer_node x) x.consumer.dialed.vb ne.0).0)) (a.links x i)
+      (λ p k s e active opens has. (p, ap (λ o. vb_in o x.consumer.dialed.vb) (there (producer_node x) ne.0) ∙ e, active, opens, ap (λ (m : Member). m.br) (others (producer_node x) x.consumer.dialed.vb ne.0).0)) (a.links x i)
 
   powers_are : (m : ℕ) → PowerIsIf (r'.arm_at m) (power_of w' m)
   powers_are = by_node (λ m. PowerIsIf (r'.arm_at m) (power_of w' m)) n

@@ -12,7 +12,7 @@ use Rattle.transcript_law.proofs.invariant.LinkRows.{is_link_more, differ_more}
 use Rattle.transcript_law.proofs.invariant.Carried.{fed_same, kept_same, agrees_carried, stays_same, link_carried}
 use Rattle.{node_world.specs.Worlds.{is_off}, transcript_law.proofs.{invariant.Agreement.{EndsUp}, invariant.Resting.{off_as_power}}}
 use Rattle.{dcp_consumer.specs.Dialing.{numbered, stream_opaque}, dcp_consumer.specs.declared.handshake.Dialed.{Dialed}, transcript_law.proofs.links.Firsts.{asks_from, firsts, request_frames}}
-use Rattle.transcript_law.proofs.links.Requests.{dials_waiting, first_asked, opaque_small, requests_readable}
+use Rattle.transcript_law.proofs.links.Requests.{dials_waiting, first_asked, opaque_small, opaque_some, requests_readable}
 use Rattle.transcript_law.proofs.links.Verdicts.{asks_in_range}
 
 -- what a consumer writes is the spelling of its requests
@@ -67,6 +67,7 @@ module _ (w : PlainWorld) (r : Chronicle) (line l m n v buffer : ℕ) (small : (
         said = [];
         stands = EndsStand.IsAsking ask (ap (λ b. if b then None else r.stream_of (StreamName.Link l) v) (eq-eqb l l refl)) (record {
           no_stream = refl;
+          fewer = opaque_some buffer;
           asking = record {
             answered = 0;
             seen = 0;
@@ -126,7 +127,7 @@ module _ (w : PlainWorld) (r : Chronicle) (line l m n v buffer : ℕ) (small : (
     differ = differ_more new w.links a.differ (λ x i. record {
       number = (free_links w.links l n v free x i).0;
       follower = (free_links w.links l n v free x i).1;
-      stream = λ e f p q z. cc;
+      stream = λ q id e f z. absurd f;
     });
   }
 

@@ -56,7 +56,7 @@ module _ (stays : StaysSound) (line : Line) where
     refused_on : (after_lines r events).stream_of (StreamName.Link link.consumer.dialed.link) link.consumer.dialed.vb ≡ None → RefusedNext line f at events ((after_lines r events).point_of link.consumer.dialed.link) at_frame.talk.asked (spoken more) → Reached line rest frame_came
     refused_on none (RefusedNext.IsCounted e t) = counted_on e (EndsStand.IsRefusedYet none t)
     refused_on none (RefusedNext.IsOver e) = ended line stays f rest states states at at events Refused frame_came g refl (ap (λ p. after_job p states.0 states.1) e) (λ m q. refl) refl
-    refused_on none (RefusedNext.IsBack to point e asks server no_stream none_asked none_said) =
+    refused_on none (RefusedNext.IsBack to point e asks server no_stream fewer none_asked none_said) =
         subst (λ p. Reached line rest (after_job p states.0 states.1)) (sym e) (back_reached line (record {
           before = record { stays = stays; f = f; rest = rest; states = states; at = at; events = events; going = g; met = met };
           named = to;
@@ -65,6 +65,7 @@ module _ (stays : StaysSound) (line : Line) where
           server = server;
           untold = none;
           no_stream = no_stream;
+          fewer = fewer;
           ups = subst (UpIs (link_now line at) []) none_asked at_frame.talk.ups;
           said = more;
           downs = next_downs line at at f rest at_frame.talk.said at_frame.talk.downs;
@@ -265,7 +266,7 @@ module _ (stays : StaysSound) (w : PlainWorld) (r : Chronicle) (link : PlainLink
         onward = record { arm = ap (option_map (λ (s : Shelf). s.fuse)) armed_here; lines = tt };
         cluster = a.0;
         agrees = carries_link idle (busy_at line (frames_in bytes)) w (now line armed at) r r a.0 l link start a.1 found (record { dialed = refl; desk = refl })
-            (record { powers = begins.powers; vbs = begins.vbs; shelves = begins.shelves; uuids = refl; linked = refl }) (λ s. s) (told_of_same l r) (one_idle l ([], frames_in bytes))
+            (record { powers = begins.powers; vbs = begins.vbs; shelves = begins.shelves; uuids = refl; linked = refl }) (λ q id has. has) (told_of_same l r) (one_idle l ([], frames_in bytes))
             (subst (λ b. LinkAgrees (now line armed at) r a.0 start b.0 b.1) (sym (one_here l ([], frames_in bytes))) start_agrees);
       },
       λ t. cc,

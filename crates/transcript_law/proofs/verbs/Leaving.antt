@@ -1,14 +1,14 @@
 -- a link that is cut, and a vBucket's own link, which is over once the vBucket has another role
 use Rattle.std.specs.Prelude.{◌≡◌, ◌∷◌, ◌++◌, ◌==◌, ◌&&◌, if◌then◌else◌}
-use Rattle.transcript_law.proofs.Words.{ℕ, Bool, true, false, List, refl, ap, sym, ◌∙◌, subst, inl, inr, ⊎_elim, Option, Some, None, option_map, eq-eqb, eqb-true, ne_eqb}
+use Rattle.transcript_law.proofs.Words.{ℕ, Bool, true, false, List, map, refl, ap, sym, ◌∙◌, subst, inl, inr, ⊎_elim, Option, Some, None, option_map, eq-eqb, eqb-true, ne_eqb}
 use Rattle.transcript_law.proofs.Words.{and_parts, Event, Cluster, Move, happens, Plain, is_active, is_follower, with_vb_at, StaysSound, row_at, row_out, ended_in, PlainStream, PlainLink, link_number, producer_node}
 use Rattle.transcript_law.proofs.Words.{consumer_node, feeds, PlainNode, PlainWorld, with_node_at, with_links, cut_outcome, unlinked, own_link, link_ended, links_ended, Chronicle, after_end, after_lines}
-use Rattle.transcript_law.proofs.{Words.{LawfulFrom, []}, invariant.Seats.{seat}, invariant.Agreement.{vb_of, VbAgrees, AgreesAt, IsLink, is_open, LinksDiffer, consumer_seat, idle, AgreesIn, Agrees, GoesOn}, invariant.Carrying.{Changed}}
+use Rattle.transcript_law.proofs.{Words.{LawfulFrom, []}, invariant.Seats.{seat}, invariant.Agreement.{vb_of, VbAgrees, AgreesAt, IsLink, LinksDiffer, consumer_seat, idle, AgreesIn, Agrees, GoesOn}, invariant.Carrying.{Changed}}
 use Rattle.transcript_law.proofs.{invariant.Carrying.{StreamsChanged}, invariant.Carried.{not_both, fed_same, vb_carried, stream_opened, kept_streams, stream_end_lines}, invariant.LinkRows.{found_is_link, differ_in, links_apart, out_links}}
 use Rattle.transcript_law.proofs.{invariant.Agreement.{shelf_of}, disks.Disks.{disk_same, parts_of}, Words.{vb_in}}
 use Rattle.transcript_law.proofs.{invariant.OneLink.{carries_over, carries_same}, links.Cutting.{IsClosable, closable, unlinking}, verbs.NodeLines.{as_told, at_node, changed_agrees}, links.Turning.{NoneFeeds, not_ended, told_by}}
 use Rattle.transcript_law.proofs.links.Turning.{told_alike, differ_told}
-use Rattle.{node_world.specs.World.{cut_step}, vb_events.specs.declared.event.EndReason.TheVariants.{Cut}, vb_events.specs.declared.event.Event.TheVariants.{Ended}}
+use Rattle.{node_world.specs.World.{cut_step}, transcript_law.specs.Feeding.{HasOpen}, vb_events.specs.declared.event.EndReason.TheVariants.{Cut}, vb_events.specs.declared.event.Event.TheVariants.{Ended}}
 
 -- a link is cut
 
@@ -98,14 +98,14 @@ cut_off_goes w r n v a (Some link) e =
 -- a vBucket of which the streams alone changed, and none that a link has
 
 module _ (w w' : PlainWorld) (r : Chronicle) (c : Cluster) (n v id : ℕ) (pv pv' : Plain) (a : AgreesIn idle w r c) (known : vb_of w n v ≡ Some pv) (changed : StreamsChanged id pv pv') (became : Changed w w' n v pv' w.links) (shelf : shelf_of w' n v ≡ shelf_of w n v)
-    (apart : (x : PlainLink) → IsLink x w.links → is_open x.server.stream ≡ true → producer_node x ≡ n → x.consumer.dialed.vb ≡ v → x.server.desk.id ≡ id → ⊥) where
+    (apart : (x : PlainLink) → IsLink x w.links → HasOpen v id x.server.streams → producer_node x ≡ n → ⊥) where
   here : VbAgrees r n v (c.nodes (seat n v)) pv'
   here = vb_carried r r n v (c.nodes (seat n v)) (c.nodes (seat n v)) (record { tree = refl; writer_of = λ u. refl; row = refl }) (fed_same (c.nodes (seat n v))) id pv pv'
       changed (subst (AgreesAt r n v (c.nodes (seat n v))) known (a.vbs n v))
 
   pub streams_agree : AgreesIn idle w' r c
   streams_agree = changed_agrees w w' r r c n v pv pv' a known became (kept_streams id pv pv' changed) refl (λ k. refl) (λ k q. refl) (λ k. refl)
-      (λ x i has s t. changed.others x.server.desk.id (apart x i has s t)) here (λ m q other. a.vbs m q) (λ m q. refl) shelf
+      (λ x i k has s. changed.others k (λ e. apart x i (subst (λ j. HasOpen v j x.server.streams) e has) s)) here (λ m q other. a.vbs m q) (λ m q. refl) shelf
       (disk_same (Some pv) (Some pv') refl refl refl (ap parts_of changed.alone)) (λ m. refl) (λ m q other. refl)
 
 -- links that are told which streams ended, without one of them
@@ -152,24 +152,24 @@ module _ (stays : StaysSound) (w : PlainWorld) (r : Chronicle) (c : Cluster) (n 
       (λ q other. vbs_are q ∙ ap (λ b. if b then Some vb' else node.vbs q) (ne_eqb q v (λ e. other refl e)) ∙ sym (ap (λ o. vb_in o q) at)) (λ m q ne other. refl)
 
   -- its stream is not one of its own vBucket
-  no_own : (stream : PlainStream) → link.server.stream ≡ Some stream → stream.ended ≡ false → producer_node link ≡ n → ⊥
+  no_own : (stream : PlainStream) → link.server.streams ≡ stream ∷ [] → stream.ended ≡ false → producer_node link ≡ n → ⊥
   no_own stream has going e =
-      let la = a.links link own.0 in let (pv, is, active, s, opened, on) = stream_opened w r c link [] [] la stream has going in
+      let la = a.links link own.0 in
+      let (pv, is, active, s, opened, on) = stream_opened w r c link [] [] la stream.vb stream.id (subst (HasOpen stream.vb stream.id) (sym has) (inl (refl, refl, going))) in
       let here : Some pv ≡ Some vb = sym is ∙ ap (λ k. vb_of w k link.consumer.dialed.vb) e ∙ ap (vb_of w n) own.2 ∙ known in
       let there : Some la.follower ≡ Some vb = sym la.follower_is ∙ ap (λ k. vb_of w k link.consumer.dialed.vb) own.1 ∙ ap (vb_of w n) own.2 ∙ known in
       let one : pv ≡ vb = cc in let two : la.follower ≡ vb = cc in
       not_both vb.role (subst (λ (p : Plain). is_active p.role ≡ true) one active) (subst (λ (p : Plain). is_follower p.role ≡ true) two la.follows)
 
   can : IsClosable ended link'
-  can = told_by n v ids link (IsClosable ended) (λ e stream has going. absurd (by e link.server.stream refl stream has going)) (λ away stream has going.
-      let (on, pv, is, sound) = closable idle w r c link [] [] a (a.links link own.0) stream has going in
-      (on, pv, others (producer_node link) link.consumer.dialed.vb (λ s t. away s) ∙ is, sound))
+  can = told_by n v ids link (IsClosable ended)
+      (λ e. ⊎_elim (λ none. inl (ap (map (ended_in v ids)) none))
+      (λ one. inr (ended_in v ids one.0, ap (map (ended_in v ids)) one.1, λ going. absurd (no_own one.0 one.1 (not_ended v ids one.0 going).0 e))) was)
+      (λ away. ⊎_elim (λ none. inl none)
+      (λ one. inr (one.0, one.1, λ going. let (on, pv, is, sound) = one.2 going in (on, pv, others (producer_node link) link.consumer.dialed.vb (λ s t. away s) ∙ is, sound))) was)
     where
-      by : producer_node link ≡ n → (o : Option PlainStream) → link.server.stream ≡ o → (stream : PlainStream) → option_map (ended_in v ids link.server.desk.id) o ≡ Some stream → stream.ended ≡ false → ⊥
-      by e None has stream is going = let z : None ≡ Some stream = is in cc
-      by e (Some before) has stream is going =
-          let same : ended_in v ids link.server.desk.id before ≡ stream = cc in
-          no_own before has (not_ended v ids link.server.desk.id before (ap (λ (s : PlainStream). s.ended) same ∙ going)).0 e
+      was : IsClosable w link
+      was = closable idle w r c link [] [] a (a.links link own.0)
 
   -- what agrees without the link, agrees once it is taken out
   module _ (r' : Chronicle) (c' : Cluster) (more : List ℕ) where
@@ -182,19 +182,18 @@ module _ (stays : StaysSound) (w : PlainWorld) (r : Chronicle) (c : Cluster) (n 
     rest_is : row_out link_number (link_number link') (links_ended n v ids w.links) ≡ without.links
     rest_is = ap (λ k. row_out link_number k (links_ended n v ids w.links)) same_number ∙ out_told n v ids (link_number link) w.links
 
-    not_apart : (x : PlainLink) → IsLink x without.links → is_open link'.server.stream ≡ true → is_open x.server.stream ≡ true → producer_node x ≡ producer_node link' → x.consumer.dialed.vb ≡ link'.consumer.dialed.vb
-        → x.server.desk.id ≡ link'.server.desk.id → ⊥
-    not_apart x i opens has e f id =
+    not_apart : (x : PlainLink) → IsLink x without.links → (id : ℕ) → HasOpen link'.consumer.dialed.vb id link'.server.streams → HasOpen link'.consumer.dialed.vb id x.server.streams → producer_node x ≡ producer_node link' → ⊥
+    not_apart x i id opens has e =
         let differ : LinksDiffer (links_ended n v ids w.links) = differ_told n v ids w.links a.differ in
         let there : IsLink link' (links_ended n v ids w.links) = told_in n v ids link w.links own.0 in
         let p = out_links (link_number link') (links_ended n v ids w.links) link' x differ (row_found (links_ended n v ids w.links) link' differ there) (subst (IsLink x) (sym rest_is) i) in
-        (links_apart link' x (links_ended n v ids w.links) differ there p.0 (λ q. p.1 (sym q))).stream opens has (sym e) (sym f) (sym id)
+        (links_apart link' x (links_ended n v ids w.links) differ there p.0 (λ q. p.1 (sym q))).stream link'.consumer.dialed.vb id opens has (sym e)
 
     pub over_agrees : AgreesIn idle without r' c' → AgreesIn idle over r' c'
     over_agrees b = ⊎_elim
         (λ same. carries_same idle idle without over r' c' b (record { powers = same.powers; vbs = same.vbs; shelves = same.shelves; uuids = ap (λ us. us ++ more) same.uuids; linked = same.linked ∙ rest_is }) (λ k. refl))
         (λ closed.
-        let (pv, pv', opens, is, changed, one, shelf) = closed in
-        streams_agree without over r' c' (producer_node link') link'.consumer.dialed.vb link'.server.desk.id pv pv' b is changed
-        (record { powers = one.powers; here = one.here; there = one.there; shelves = one.shelves; uuids = ap (λ us. us ++ more) one.uuids; linked = one.linked ∙ rest_is }) shelf (λ x i has e f id. not_apart x i opens has e f id))
+        let (id, pv, pv', opens, is, changed, one, shelf) = closed in
+        streams_agree without over r' c' (producer_node link') link'.consumer.dialed.vb id pv pv' b is changed
+        (record { powers = one.powers; here = one.here; there = one.there; shelves = one.shelves; uuids = ap (λ us. us ++ more) one.uuids; linked = one.linked ∙ rest_is }) shelf (λ x i has e. not_apart x i id opens has e))
         (unlinking stays ended link' can)

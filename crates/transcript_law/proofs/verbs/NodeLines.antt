@@ -10,7 +10,8 @@ use Rattle.transcript_law.specs.Lawfulness.{LawfulBranch, fork_in, newest_of}
 use Rattle.transcript_law.proofs.invariant.Wholes.{WholeTo}
 use Rattle.transcript_law.proofs.links.Followed.{fork_low}
 use Rattle.transcript_law.proofs.invariant.Seats.{seat, seats_apart}
-use Rattle.transcript_law.proofs.invariant.Agreement.{all_rise, CountsAre, CountsIf, counts_if, vb_of, Writes, WritesIf, own_history, VbHeld, VbHolds, VbAgrees, AgreesAt, consumer_seat, producer_seat, LinkAgrees, Agrees, GoesOn, LineGoes, idle, vb_contents, vb_row, VbRow, VbTold, VbIsIf, BranchAgrees, IsLink, is_open, LinksDiffer, AgreesIn}
+use Rattle.transcript_law.proofs.invariant.Agreement.{all_rise, CountsAre, CountsIf, counts_if, vb_of, Writes, WritesIf, own_history, VbHeld, VbHolds, VbAgrees, AgreesAt, consumer_seat, producer_seat, LinkAgrees, Agrees, GoesOn, LineGoes, idle, vb_contents, vb_row, VbRow, VbTold, VbIsIf, BranchAgrees, IsLink, LinksDiffer, AgreesIn}
+use Rattle.transcript_law.specs.Feeding.{HasOpen}
 use Rattle.transcript_law.proofs.invariant.Carrying.{Relinked, Changed}
 use Rattle.transcript_law.proofs.invariant.Carried.{kept_same, link_carried, consumer_made, branches_again, KeptVb, places, all_vbs, ids_same}
 use Rattle.transcript_law.proofs.invariant.LinkRows.{found_is_link, put_same as put_link_same}
@@ -297,7 +298,7 @@ pub new_links : (w w' : PlainWorld) (r r' : Chronicle) (c c' : Cluster) (n v : �
 new_links w w' r r' c c' n v x up down none there dials streams points members a = link_carried w w' r r' c c' x up down
     (λ fv e. (fv, there (consumer_node x) x.consumer.dialed.vb (absent (consumer_node x) x.consumer.dialed.vb fv e) ∙ e, kept_same fv))
     (dials (link_number x)) (streams (link_number x) x.consumer.dialed.vb) (points (link_number x)) (members (consumer_seat x) (λ e. consumer_made w r c x up down a n v none (sym e)))
-    (λ p s e active opened has.
+    (λ p k s e active opened has.
     let other = absent (producer_node x) x.consumer.dialed.vb p e in (
       p,
       there (producer_node x) x.consumer.dialed.vb other ∙ e,
@@ -380,7 +381,7 @@ role_here r n v role m vb is sealed leads a = record {
 -- a vBucket that changed at links that are as they were: it keeps what its links speak of, and the streams that they have open
 module _ (w w' : PlainWorld) (r r' : Chronicle) (c c' : Cluster) (n v : ℕ) (vb vb' : Plain) (a : AgreesIn idle w r c) (known : vb_of w n v ≡ Some vb) (became : Changed w w' n v vb' w.links) (kept : KeptVb vb vb')
     (nodes : (j : ℕ) → c'.nodes j ≡ c.nodes j) (tree : r'.tree ≡ r.tree) (dials : (k : ℕ) → r'.dial_of k ≡ r.dial_of k) (streams : (k q : ℕ) → r'.stream_of (StreamName.Link k) q ≡ r.stream_of (StreamName.Link k) q) (points : (k : ℕ) → r'.point_of k ≡ r.point_of k)
-    (opens : (x : PlainLink) → IsLink x w.links → is_open x.server.stream ≡ true → producer_node x ≡ n → x.consumer.dialed.vb ≡ v → stream_at x.server.desk.id vb'.streams ≡ stream_at x.server.desk.id vb.streams) where
+    (opens : (x : PlainLink) → IsLink x w.links → (k : ℕ) → HasOpen v k x.server.streams → producer_node x ≡ n → stream_at k vb'.streams ≡ stream_at k vb.streams) where
   one_of : (m q : ℕ) (x : Plain) → vb_of w m q ≡ Some x → m ≡ n → q ≡ v → x ≡ vb
   one_of m q x e s t = let z : Some x ≡ Some vb = sym e ∙ ap (λ k. vb_of w k q) s ∙ ap (vb_of w n) t ∙ known in cc
 
@@ -394,13 +395,13 @@ module _ (w w' : PlainWorld) (r r' : Chronicle) (c c' : Cluster) (n v : ℕ) (vb
       (λ o. (fv, became.there (consumer_node x) x.consumer.dialed.vb o ∙ e, kept_same fv))
       (places n v (consumer_node x) x.consumer.dialed.vb))
       (dials (link_number x)) (streams (link_number x) x.consumer.dialed.vb) (points (link_number x)) (nodes (consumer_seat x))
-      (λ p s e active opened has. ⊎_elim
+      (λ p k s e active opened has. ⊎_elim
       (λ t.
       let same = one_of x.server.desk.node x.consumer.dialed.vb p e t.0 t.1 in (
         vb',
         put_is x.server.desk.node x.consumer.dialed.vb t.0 t.1,
         ap is_active kept.role ∙ subst (λ (y : Plain). is_active y.role ≡ true) same active,
-        opens x i has t.0 t.1 ∙ subst (λ (y : Plain). stream_at x.server.desk.id y.streams ≡ Some s) same opened,
+        opens x i k (subst (λ q. HasOpen q k x.server.streams) t.1 has) t.0 ∙ subst (λ (y : Plain). stream_at k y.streams ≡ Some s) same opened,
         ap (λ (m : Member). m.br) (nodes (producer_seat x)),
       ))
       (λ o. (p, became.there x.server.desk.node x.consumer.dialed.vb o ∙ e, active, opened, ap (λ (m : Member). m.br) (nodes (producer_seat x))))
@@ -434,7 +435,7 @@ module _ (w w' : PlainWorld) (r r' : Chronicle) (c c' : Cluster) (n v : ℕ) (vb
 -- the same, where the cluster is as it was, and nothing was written down
 pub changed_agrees : (w w' : PlainWorld) (r r' : Chronicle) (c : Cluster) (n v : ℕ) (vb vb' : Plain) (a : AgreesIn idle w r c) → vb_of w n v ≡ Some vb → (became : Changed w w' n v vb' w.links) → KeptVb vb vb'
     → r'.tree ≡ r.tree → ((k : ℕ) → r'.dial_of k ≡ r.dial_of k) → ((k q : ℕ) → r'.stream_of (StreamName.Link k) q ≡ r.stream_of (StreamName.Link k) q) → ((k : ℕ) → r'.point_of k ≡ r.point_of k)
-    → ((x : PlainLink) → IsLink x w.links → is_open x.server.stream ≡ true → producer_node x ≡ n → x.consumer.dialed.vb ≡ v → stream_at x.server.desk.id vb'.streams ≡ stream_at x.server.desk.id vb.streams)
+    → ((x : PlainLink) → IsLink x w.links → (k : ℕ) → HasOpen v k x.server.streams → producer_node x ≡ n → stream_at k vb'.streams ≡ stream_at k vb.streams)
     → VbAgrees r' n v (c.nodes (seat n v)) vb' → ((m q : ℕ) → (m ≡ n → q ≡ v → ⊥) → AgreesAt r' m q (c.nodes (seat m q)) (vb_of w m q))
     → ((m q : ℕ) → r'.disk_at m q ≡ r.disk_at m q) → shelf_of w' n v ≡ shelf_of w n v → (DiskIsIf (r.disk_at n v) (c.disks (seat n v)) (shelf_of w n v) (Some vb) → DiskIsIf (r.disk_at n v) (c.disks (seat n v)) (shelf_of w n v) (Some vb')) → ((m : ℕ) → r'.arm_at m ≡ r.arm_at m)
     → ((m q : ℕ) → (m ≡ n → q ≡ v → ⊥) → vb_row r' m q ≡ vb_row r m q) → AgreesIn idle w' r' c

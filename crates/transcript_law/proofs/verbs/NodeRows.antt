@@ -21,7 +21,7 @@ node_row w n =
     let says : Says IsOk (Same w) (node_step w n) = refused_says IsOk (Same w) w x why no_ok (unchanged w) (tt, λ why e s. cc) in record {
       ranged = λ fits r. unless_ranged w x why r (with_node w n empty_node r (record { clock = omega arith; clients = λ c. tt }));
       rests = λ r here a all. weaker (node_step w n).0 (unless_all Still IsTimely still_steps (λ id. tt) w x why all (still_put w n empty_node all (none_at Still IsTimely still_steps (λ id. tt))));
-      fed = λ fine. unless_fed w x why fine.fed (fed_node w n empty_node fine.fed (λ v id h. absurd h));
+      fed = λ fine kept. unless_fed w x why fine.fed (fed_node w n empty_node fine.fed (λ v id h. absurd h));
       keeps = λ rests. says.1;
       tells = are_unless is_none why w x refl;
       told = λ r fits t. (says.0, rows_fire (node_causes w n) w x (tt, tt) refl);
@@ -40,7 +40,7 @@ arm_row w n what arm bound told entered goes =
     let says : Says IsOk (Same w) came = on_made_by (Says IsOk (Same w)) w n f (tt, λ why e s. (unchanged w, refl)) (λ node known. (tt, λ why e s. cc)) in record {
       ranged = λ fits r. on_made_ranged w n f r (λ node here. kept_ranged n node (f node).0 refl (λ c. refl) here);
       rests = λ r here a all. weaker came.0 (on_made_all Still IsTimely still_steps (λ id. tt) w n f all (λ node e there. there));
-      fed = λ fine. (made_fine w n f fine none_less).fed;
+      fed = λ fine kept. (made_fine w n f fine none_less).fed;
       keeps = λ rests. says.1;
       bound = λ r a rule. bound r rule;
       tells = on_made_by (λ o. TellsOf (Verb.AtNode n what) o.1.events) w n f refl (λ node known. refl);
@@ -60,7 +60,7 @@ node_row_of w n (NodeVerb.Crash out) =
     let says : Says IsOk (Same w) came = refused_says IsOk (Same w) w x why no_ok (unchanged w) (tt, λ why e s. cc) in record {
       ranged = λ fits r. unless_ranged w x why r (dropped_ranged n out w r);
       rests = λ r here a all. weaker came.0 (unless_all Still IsTimely still_steps (λ id. tt) w x why all (dropped_all Still IsTimely still_steps (λ id. tt) n out w all));
-      fed = λ fine. unless_fed w x why fine.fed (dropped_fine n out w fine).fed;
+      fed = λ fine kept. unless_fed w x why fine.fed (dropped_fine n out w fine).fed;
       keeps = λ rests. says.1;
       tells = crash_tells w n out;
       told = λ r fits t. (crash_answered r.conn_at w 0 t.conns n out, rows_fire (crash_causes w n) w x (tt, (tt, tt)) (ends_calm n None w));
@@ -71,7 +71,7 @@ node_row_of w n (NodeVerb.Crash out) =
 node_row_of w n (NodeVerb.Start uuids) = let x : Outcome = on_made w n (start_at n uuids) in let why : Option Cause = first_cause (start_causes w n uuids) in let told : Told = (start_step w n uuids).1 in record {
   ranged = λ fits r. unless_ranged w x why r (on_made_ranged w n (start_at n uuids) r (λ node here. start_at_ranged n uuids node here));
   rests = λ r here a all. weaker (start_step w n uuids).0 (start_still w r n uuids a all);
-  fed = λ fine. unless_fed w x why fine.fed (made_fine w n (start_at n uuids) fine (start_less n uuids)).fed;
+  fed = λ fine kept. unless_fed w x why fine.fed (made_fine w n (start_at n uuids) fine (start_less n uuids)).fed;
   keeps = λ rests. (start_says w n uuids).1;
   bound = λ r a rule. bound_down (is_told_down r n) Cause.NodeUp (Cause.UnknownNode ∷ []) _ told rule (λ e. start_refused w (w.nodes n) (drop 2 (start_causes w n uuids)) x (sym (off_as_power w r a n) ∙ e));
   tells = start_tells w n uuids;
@@ -118,7 +118,7 @@ link_row w number l m n v buffer =
     let says : Says IsOk (Same w) came = refused_says IsOk (Same w) w x why no_ok (unchanged w) (tt, λ why e s. cc) in record {
       ranged = λ fits r. unless_ranged w x why r r;
       rests = λ r here a all. weaker came.0 (unless_all Still IsTimely still_steps (λ id. tt) w x why all all);
-      fed = λ fine. unless_fed w x why fine.fed (dialed_fed w fine number l m n v buffer (ask_in w n v));
+      fed = λ fine kept. unless_fed w x why fine.fed (dialed_fed w fine number l m n v buffer (ask_in w n v));
       keeps = λ rests. says.1;
       tells = are_unless is_none why w x refl;
       told = λ r fits t. (says.0, rows_fire (link_causes w l m n v) w x (tt, (tt, (tt, (tt, (tt, tt))))) refl);
@@ -132,7 +132,7 @@ pub link_row_of : (w : PlainWorld) (l : ℕ) (what : LinkVerb) → Row w (Verb.A
 link_row_of w l (LinkVerb.Up wanted) = let f = up_at wanted in let came : Outcome = on_link w l producer_node f in
     let says : Says (λ told. IsMoved wanted told.answer) (Same w) came = on_link_says (λ told. IsMoved wanted told.answer) w l producer_node f (λ why. tt) (λ link node. (moved_few wanted link.up, λ why e s. cc)) in record {
       ranged = λ fits r. on_link_ranged w l producer_node f r (λ link n node here. up_ranged n wanted link node here);
-      fed = λ fine. up_fed w fine l wanted;
+      fed = λ fine kept. up_fed w fine kept l wanted;
       rests = λ r here a all. weaker came.0 (link_still w here all l producer_node f (λ link node at there. up_still (producer_node link) wanted link node at there));
       keeps = λ rests. says.1;
       bound = λ r a rule. over w r l _ came.1 a rule (closed_link_refused w l producer_node f);
@@ -144,7 +144,7 @@ link_row_of w l (LinkVerb.Up wanted) = let f = up_at wanted in let came : Outcom
 link_row_of w l (LinkVerb.Down wanted) = let o : Outcome = on_link w l consumer_node (down_in wanted) in let came : Outcome = down_step w l wanted in let found : Option PlainLink = row_at link_number l w.links in record {
   ranged = λ fits r. down_ranged w l found o (on_link_ranged w l consumer_node (down_in wanted) r (λ link n node here. kept_ranged n node (down_in wanted link node).0 refl (λ c. refl) here));
   rests = λ r here a all. down_rests w l wanted (weaker w all);
-  fed = λ fine. (broken_line w l found o (down_fine w fine l wanted)).fed;
+  fed = λ fine kept. (broken_line w l found o (down_fine w fine l wanted)).fed;
   keeps = λ rests. (down_line_says w l wanted).1;
   tells = all_pass came.1.events;
   told = λ r fits t. (down_answered stays w r l wanted t.agrees, down_fires w r l wanted t.dials);
@@ -155,7 +155,7 @@ link_row_of w l (LinkVerb.Down wanted) = let o : Outcome = on_link w l consumer_
 link_row_of w l (LinkVerb.Pump frames) = let f = pump_at frames in let came : Outcome = on_link w l producer_node f in
     let says : Says (λ told. IsPumped frames told.events told.answer) (Same w) came = on_link_says (λ told. IsPumped frames told.events told.answer) w l producer_node f (λ why. tt) (pump_says frames) in record {
       ranged = λ fits r. on_link_ranged w l producer_node f r (λ link n node here. same_ranged n node (f link node).0.vbs node.made here);
-      fed = λ fine. pump_fed w fine l frames;
+      fed = λ fine kept. pump_fed w fine kept l frames;
       rests = λ r here a all. weaker came.0 (link_still w here all l producer_node f (λ link node at there. still_ran (peer_pulled frames (peer_of link)) node.vbs (pulled_tame frames (peer_of link)) there));
       keeps = λ rests. says.1;
       bound = λ r a rule. over w r l _ came.1 a rule (closed_link_refused w l producer_node f);
@@ -167,7 +167,7 @@ link_row_of w l (LinkVerb.Pump frames) = let f = pump_at frames in let came : Ou
 link_row_of w l LinkVerb.Cut = let found : Option PlainLink = row_at link_number l w.links in
     let says : Says IsOk (Same w) (cut_outcome w found) = elim found as (λ o. Says IsOk (Same w) (cut_outcome w o)) [ None ↦ (tt, λ why e s. (unchanged w, refl)) | Some link ↦ (tt, λ why e s. cc) ] in record {
       ranged = λ fits r. elim found as (λ o. IsRanged (cut_outcome w o).0) [ None ↦ r | Some link ↦ unlinked_ranged w link r ];
-      fed = λ fine. (cut_fine w fine l).fed;
+      fed = λ fine kept. (cut_fine w fine l).fed;
       rests = λ r here a all. elim found as (λ o. InWorld RestsIf (cut_outcome w o).0) [ None ↦ weaker w all | Some link ↦ weaker (unlinked link w) (unlinked_all Still IsTimely still_steps (λ id. tt) w link all) ];
       keeps = λ rests. says.1;
       bound = λ r a rule. over w r l _ (cut_step w l).1 a rule (λ none. ap (λ o. (cut_outcome w o).1) none);

@@ -1,9 +1,9 @@
 -- a line that has a producer put frames
 use Rattle.std.specs.Prelude.{◌≡◌}
 use Rattle.transcript_law.proofs.Words.{ℕ, zero, suc, refl, ap, sym, ◌∙◌, subst, append-nil, Some, TakesSnapshots, Done, Turn, More, Stop, go_on, repeated, after, row_at, row_put, States}
-use Rattle.transcript_law.proofs.Words.{after_bind, frame_put, frames_put, pulled, Halt, Served, begun, pull_result, PlainLink, link_number, producer_node, peer_of, pump_result, pump_at, PlainNode}
+use Rattle.transcript_law.proofs.Words.{after_bind, frames_put, pulled, Halt, Served, begun, pull_result, PlainLink, link_number, producer_node, peer_of, pump_result, pump_at, PlainNode}
 use Rattle.transcript_law.proofs.Words.{PlainWorld, with_states, with_node_at, with_link, on_link, Chronicle, PullResult, peer_pulled, after_lines, link_outcome, node_outcome, refusal, why_of, Answer, Cause, Option, None, Outcome, PlainLink, Why}
-use Rattle.transcript_law.specs.Undone.{AllPut}
+use Rattle.{dcp_producer.specs.Pulling.{Pulling, none_quiet, one_frame, pull_of}, transcript_law.specs.Undone.{AllPut}}
 use Rattle.transcript_law.proofs.invariant.Agreement.{idle, Agrees, GoesOn}
 use Rattle.transcript_law.proofs.{invariant.Carrying.{Relinked}, invariant.OneLink.{carries_same}}
 use Rattle.transcript_law.proofs.invariant.LinkRows.{found_is_link, put_same}
@@ -16,15 +16,16 @@ module _ (takes : TakesSnapshots) where
     abbrev l : ℕ
     l = link_number link
 
-    next_turn : (states : States) (x : Turn Served (Served × Halt)) → TurnSoFar w r l link node states x → TurnsSoFar w r l link node (after (go_on frame_put x) states)
-    next_turn states (More s) g = turn w r l link node found states s g takes
+    next_turn : (states : States) (x : Turn Pulling (Served × Halt)) → TurnSoFar w r l link node states x → TurnsSoFar w r l link node (after (go_on one_frame x) states)
+    next_turn states (More p) g = subst (λ q. TurnsSoFar w r l link node (after (one_frame (pull_of p.served q)) states)) (sym g.1) (turn w r l link node found states p.served g.0 takes)
     next_turn states (Stop stopped) g = g
 
-    turns : (k : ℕ) (states : States) (s : Served) → SoFar w r l link node states s → TurnsSoFar w r l link node (after (repeated k frame_put s) states)
-    turns zero states s g = g
+    turns : (k : ℕ) (states : States) (s : Served) → SoFar w r l link node states s → TurnsSoFar w r l link node (after (repeated k one_frame (pull_of s none_quiet)) states)
+    turns zero states s g = (g, refl)
     turns (suc k) states s g =
-        subst (TurnsSoFar w r l link node) (sym (after_bind (repeated k frame_put s) (go_on frame_put) states))
-        (next_turn (after (repeated k frame_put s) states).0 (after (repeated k frame_put s) states).1 (turns k states s g))
+        let p : Pulling = pull_of s none_quiet in
+        subst (TurnsSoFar w r l link node) (sym (after_bind (repeated k one_frame p) (go_on one_frame) states))
+        (next_turn (after (repeated k one_frame p) states).0 (after (repeated k one_frame p) states).1 (turns k states s g))
 
     abbrev Gone : States × PullResult → Type 0
     Gone y = GoesOn r (λ x. x) (with_link link (with_node_at w (producer_node link) (pump_result link node y).0, (pump_result link node y).1))
@@ -33,16 +34,16 @@ module _ (takes : TakesSnapshots) where
     abbrev known_of : States × (Served × Halt) → States × PullResult
     known_of x = (x.0, pull_result link.up_heard x.1)
 
-    ended : (states : States) (x : Turn Served (Served × Halt)) → TurnSoFar w r l link node states x → Gone (known_of (after (pulled x) states))
-    ended states (More s) g = (g.lawful, g.agrees)
+    ended : (states : States) (x : Turn Pulling (Served × Halt)) → TurnSoFar w r l link node states x → Gone (known_of (after (pulled x) states))
+    ended states (More p) g = (g.0.lawful, g.0.agrees)
     ended states (Stop stopped) g = (g.0.lawful, g.0.agrees)
 
     -- and where there was no more to put, all was put
     abbrev Idles : States × PullResult → Type 0
     Idles y = (n : ℕ) → y.1.answer ≡ Answer.Pulled n Why.Idle → AllPut (after_lines r y.1.events) l
 
-    idles : (states : States) (x : Turn Served (Served × Halt)) → TurnSoFar w r l link node states x → Idles (known_of (after (pulled x) states))
-    idles states (More s) g n e = cc
+    idles : (states : States) (x : Turn Pulling (Served × Halt)) → TurnSoFar w r l link node states x → Idles (known_of (after (pulled x) states))
+    idles states (More p) g n e = cc
     idles states (Stop stopped) g n e = let idle : why_of stopped.1 ≡ Why.Idle = cc in g.1 idle
 
     module _ (a : Agrees w r) (known : w.nodes (producer_node link) ≡ Some node) where
@@ -67,17 +68,17 @@ module _ (takes : TakesSnapshots) where
       node_goes : (frames : ℕ) → Gone (after (peer_pulled frames (peer_of link)) node.vbs)
       unfolding frames_put
       node_goes frames =
-          let x = after (repeated frames frame_put first) node.vbs in
+          let x = after (repeated frames one_frame (pull_of first none_quiet)) node.vbs in
           subst Gone
-          (sym (after_bind (frames_put frames first) (λ put. Done (pull_result link.up_heard put)) node.vbs ∙ ap known_of (after_bind (repeated frames frame_put first) pulled node.vbs)))
+          (sym (after_bind (frames_put frames first) (λ put. Done (pull_result link.up_heard put)) node.vbs ∙ ap known_of (after_bind (repeated frames one_frame (pull_of first none_quiet)) pulled node.vbs)))
           (ended x.0 x.1 (turns frames node.vbs first first_so_far))
 
       node_idles : (frames : ℕ) → Idles (after (peer_pulled frames (peer_of link)) node.vbs)
       unfolding frames_put
       node_idles frames =
-          let x = after (repeated frames frame_put first) node.vbs in
+          let x = after (repeated frames one_frame (pull_of first none_quiet)) node.vbs in
           subst Idles
-          (sym (after_bind (frames_put frames first) (λ put. Done (pull_result link.up_heard put)) node.vbs ∙ ap known_of (after_bind (repeated frames frame_put first) pulled node.vbs)))
+          (sym (after_bind (frames_put frames first) (λ put. Done (pull_result link.up_heard put)) node.vbs ∙ ap known_of (after_bind (repeated frames one_frame (pull_of first none_quiet)) pulled node.vbs)))
           (idles x.0 x.1 (turns frames node.vbs first first_so_far))
 
   -- a line `pump`

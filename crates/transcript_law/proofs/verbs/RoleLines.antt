@@ -416,7 +416,7 @@ module _ (stays : StaysSound) (w w' : PlainWorld) (r : Chronicle) (c : Cluster) 
       (record { tree = refl; writer_of = λ u. refl; row = elsewhere_row m q other }) (fed_same (c.nodes (seat m q))) (vb_of w m q) (λ none. refl) (a.vbs m q)
 
   pub seal_agrees : AgreesIn idle w' sealed c
-  seal_agrees = changed_agrees w w' r sealed c n v vb vb' a known became (record { role = refl; wants = refl }) refl (λ k. refl) (λ k q. refl) (λ k. refl) (λ x i has s t. refl) here elsewhere (λ m q. refl) shelf
+  seal_agrees = changed_agrees w w' r sealed c n v vb vb' a known became (record { role = refl; wants = refl }) refl (λ k. refl) (λ k q. refl) (λ k. refl) (λ x i k has s. refl) here elsewhere (λ m q. refl) shelf
       (sealed_disk (r.disk_at n v) (c.disks (seat n v)) (shelf_of w n v) vb vb' refl) (λ m. refl) elsewhere_row
 
 node_sealed : StaysSound → (w : PlainWorld) (r : Chronicle) (n v : ℕ) (node : PlainNode) → Agrees w r → w.nodes n ≡ Some node

@@ -2,7 +2,7 @@
 use Rattle.std.specs.Prelude.{◌≡◌}
 use Rattle.transcript_law.proofs.Words.{ℕ, List, [], refl, sym, subst, Answer, Cause, Event, Chronicle, Verb, VerbFits, PlainNode, PlainWorld, Outcome, Told, LawfulAnswer, IsAnswered, after_verb, on_node}
 use Rattle.node_world.specs.Rests.{Rests}
-use Rattle.transcript_law.proofs.invariant.{Agreement.{Agrees, GoesOn, LineGoes}, AtRest.{RestsIf, Still, node_still, weaker}, CallsKept.{AllAt, InWorld}, ClientWorlds.{ConnsAre}, Entering.{Entered}, Feeding.{AllFed, Fine, node_fine}, Ranged.{IsRanged, NodeRanged, on_node_ranged}, Unopened.{NoNew}}
+use Rattle.transcript_law.proofs.invariant.{Agreement.{Agrees, GoesOn, LineGoes}, AtRest.{RestsIf, Still, node_still, weaker}, CallsKept.{AllAt, InWorld}, ClientWorlds.{ConnsAre}, Entering.{Entered}, Feeding.{AllFed, AllKept, Fine, node_fine}, Ranged.{IsRanged, NodeRanged, on_node_ranged}, Unopened.{NoNew}}
 use Rattle.transcript_law.proofs.lines.{Calm.{Spared}, Refusals.{Same, Says}}
 use Rattle.transcript_law.proofs.verbs.{BoundAnswers.{bound_plain}, FiredLines.{DialsTold}, LineAnswers.{AllTold, ArmKnown, ShutTold, opens_of, told_of_opens}, NodeLines.{line_goes_on, on_node_by}}
 use Rattle.transcript_law.specs.{Bound.{IsBound, bound_by, if_down, is_told_down}, Chronicles.{ahead}, Firings.{FiresInLine}, Plainness.{IsStanding}, Tellings.{TellsOf}}
@@ -22,7 +22,7 @@ pub record Row (w : PlainWorld) (line : Verb) (came : Outcome) : Type 0 where
   -- clocks and connections are in their limits, nothing more may be committed where a vBucket is active, and each stream is that of an open link
   pub ranged : VerbFits line → IsRanged w → IsRanged came.0
   pub rests : (r : Chronicle) → IsRanged w → Agrees w r → InWorld Still w → InWorld RestsIf came.0
-  pub fed : Fine w → AllFed came.0
+  pub fed : Fine w → AllKept w → AllFed came.0
   -- one that is refused changes nothing, and it is refused where it is bound to be
   pub keeps : Rests w → (why : Cause) → came.1.answer ≡ Answer.No why → IsStanding why → Same w came.0 × (came.1.events ≡ [])
   pub bound : (r : Chronicle) → Agrees w r → LawfulAnswer r line came.1.events came.1.answer → IsAnswered r line came.1.events came.1.answer
@@ -56,7 +56,7 @@ pub answered_row : (answered : Chronicle → Told → Type 0) (w : PlainWorld) (
 answered_row answered w line n f quiet entered ranged still less spared tells says judged goes = let x : Told = (on_node w n f).1 in record {
   ranged = λ fits all. on_node_ranged w n f all (ranged fits);
   rests = λ r here a all. weaker (on_node w n f).0 (node_still w here all n f still);
-  fed = λ fine. (node_fine w n f fine less).fed;
+  fed = λ fine kept. (node_fine w n f fine less).fed;
   keeps = λ rests. (says (opens_of w) (told_of_opens w)).1;
   bound = λ r a rule. let ruled : Type 0 = LawfulAnswer r line x.events x.answer in subst (λ whys. IsBound whys ruled x.events x.answer) (sym (quiet r).0) (bound_plain w r a n f ruled rule);
   tells = on_node_by (λ o. TellsOf line o.1.events) w n f refl (λ node known. refl) (λ node known up. tells node);

@@ -41,7 +41,7 @@ module _ (w : PlainWorld) (n v : ℕ) where
     make_row what notes came entered goes tells = let o : Outcome = on_node w n make in let x : Told = (with_arm n w o).1 in record {
       ranged = λ fits here. armed_ranged n w o (on_node_ranged w n make here (λ node r. kept_or n node (vb_made n v role uuid node) (first_cause (rows node)) r (kept_ranged n node (vb_made n v role uuid node).0 refl (λ c. refl) r)));
       rests = λ r here a all. made_rests w n v make role uuid (λ node. first_cause (rows node)) (λ node. refl) (weaker w all);
-      fed = λ fine. (armed_fine n w o (node_fine w n make fine (λ node. refused_less node (vb_made n v role uuid node) (first_cause (rows node)) (made_less n v role uuid node)))).fed;
+      fed = λ fine kept. (armed_fine n w o (node_fine w n make fine (λ node. refused_less node (vb_made n v role uuid node) (first_cause (rows node)) (made_less n v role uuid node)))).fed;
       keeps = λ rests. came_keeps NoLines (new_shut_at w n v) w n o.0 o.1 (came (new_shut_at w n v) (λ none. refl));
       bound = λ r a rule. bound_armed w r a n make _ rule;
       told = λ r fits t. noted_told what notes x r (armed_answered NoLines (r.disk_at n v).closed w r n o (t.arms n) (came (r.disk_at n v).closed (t.shut n v).1))
@@ -65,7 +65,7 @@ module _ (w : PlainWorld) (n v : ℕ) where
     role_row what notes job ends Lines came entered goes tells = let y : Outcome = role_outcome n v asked w in let why : Option Cause = first_cause rows in let x : Told = (with_arm n w turn).1 in record {
       ranged = λ fits here. armed_ranged n w turn (unless_ranged w y why here (role_ranged w n v asked here));
       rests = λ r here a all. weaker (with_arm n w turn).0 (armed_all Still IsTimely still_steps (λ id. tt) n w turn (unless_all Still IsTimely still_steps (λ id. tt) w y why all (role_still w n v asked here all)));
-      fed = λ fine. (armed_fine n w turn (unless_fine w y why fine (role_fine w n v asked ends fine))).fed;
+      fed = λ fine kept. (armed_fine n w turn (unless_fine w y why fine (role_fine w n v asked ends fine))).fed;
       keeps = λ rests. came_keeps Lines (shut_at w n v) w n turn.0 turn.1 (came (shut_at w n v) (λ vb e. refl));
       bound = λ r a rule. bound_at w r a n _ x rule (role_refused w n v asked rest);
       told = λ r fits t. noted_told what notes x r (armed_answered Lines (r.disk_at n v).closed w r n turn (t.arms n) (came (r.disk_at n v).closed (t.shut n v).0))
@@ -114,7 +114,7 @@ module _ (w : PlainWorld) (n v : ℕ) where
   vb_row_of VbVerb.Save = let o : Outcome = on_node w n (save_line n v) in let x : Told = (with_arm n w o).1 in record {
     ranged = λ fits here. armed_ranged n w o (on_node_ranged w n (save_line n v) here (save_ranged n v));
     rests = λ r here a all. weaker (with_arm n w o).0 (armed_all Still IsTimely still_steps (λ id. tt) n w o (node_still w here all n (save_line n v) (λ node at there. flush_still n v part.Save (placed v node) (kept_ranged n node (placed v node) refl (λ c. refl) at) there)));
-    fed = λ fine. (armed_fine n w o (node_fine w n (save_line n v) fine (λ node. flush_less n v part.Save (placed v node)))).fed;
+    fed = λ fine kept. (armed_fine n w o (node_fine w n (save_line n v) fine (λ node. flush_less n v part.Save (placed v node)))).fed;
     keeps = λ rests. came_keeps NoLines (shut_at w n v) w n o.0 o.1 (save_line_came (shut_at w n v) w n v rests (λ vb e. refl));
     bound = λ r a rule. bound_armed w r a n (save_line n v) _ rule;
     told = λ r fits t. let came = save_line_came (r.disk_at n v).closed w n v t.rests (t.shut n v).0 in (
@@ -128,7 +128,7 @@ module _ (w : PlainWorld) (n v : ℕ) where
   vb_row_of VbVerb.Done = let o : Outcome = on_node w n (flush_line n v part.Done) in record {
     ranged = λ fits here. due_ranged n v o (on_node_ranged w n (flush_line n v part.Done) here (flush_ranged n v part.Done));
     rests = λ r here a all. weaker (done_step w n v).0 (due_still n v o (node_still w here all n (flush_line n v part.Done) (flush_still n v part.Done)));
-    fed = λ fine. (due_fine n v o (node_fine w n (flush_line n v part.Done) fine (flush_less n v part.Done))).fed;
+    fed = λ fine kept. (due_fine n v o (node_fine w n (flush_line n v part.Done) fine (flush_less n v part.Done))).fed;
     keeps = λ rests. (done_line_says w (opens_of w) n v (told_of_opens w)).1;
     bound = λ r a rule. bound_at w r a n _ (done_step w n v).1 rule (done_refused w n v);
     told = λ r fits t. ((done_line_says w r n v t.disks).0, due_fires n v o (node_spared w n (flush_line n v part.Done) (flush_spared n v part.Done (done_taken v))));

@@ -326,12 +326,12 @@ module _ (w : PlainWorld) (r : Chronicle) (cl : Cluster) (n v : ℕ) (node : Pla
           not_both vb.role active (subst (λ (k : Plain). is_follower k.role ≡ true) same l.follows)
 
       stays : (x : PlainLink) → StaysProducer (vb_of w (producer_node x) x.consumer.dialed.vb) (vb_of w' (producer_node x) x.consumer.dialed.vb) (cl.nodes (producer_seat x)) (later.nodes (producer_seat x)) x
-      stays x p s e act opened stream = ⊎_elim
+      stays x p k s e act opened stream = ⊎_elim
           (λ t. let same : p ≡ vb = one_of (producer_node x) x.consumer.dialed.vb p e t.0 t.1 in (
             grown,
             ap (λ k. vb_of w' k x.consumer.dialed.vb) t.0 ∙ ap (vb_of w' n) t.1 ∙ changed.here,
             active,
-            subst (λ (k : Plain). stream_at x.server.desk.id k.streams ≡ Some s) same opened,
+            subst (λ (y : Plain). stream_at k y.streams ≡ Some s) same opened,
             same_br (producer_seat x),
           ))
           (λ o. (p, changed.there (producer_node x) x.consumer.dialed.vb o ∙ e, act, opened, same_br (producer_seat x)))

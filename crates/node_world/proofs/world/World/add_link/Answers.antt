@@ -1,4 +1,5 @@
 use Rattle.std.proofs.Common.{◌≡◌, ◌∙◌, ◌++◌, ◌∷◌, [], get_or, set, subst}
+use Rattle.node_world.specs.Ends.{OpensPeer}
 use Rattle.node_world.specs.Stands.{Kept}
 use Rattle.node_world.proofs.world.World.add_link.Goals as goal
 
@@ -16,7 +17,7 @@ returns c =
       found = subst (λ (k : Kept). server ≡ get_or k.nodes c.args.serving server) c.self.view_is c.index_mut.ensures.value;
       conn = c.in_ok-conn.conn;
       peer = peer;
-      opens = c.in_ok-conn.ensures;
+      opens = subst (λ base. OpensPeer asked.link base server c.in_ok-conn.conn peer) c.base_of.ensures c.in_ok-conn.ensures;
       after = (λ i. record { nodes = set c.self.inside.nodes.items c.args.serving peer; ids = c.self.inside.ids; links = grown i })
           ∙ (λ i. record (c.self.view_is i) {
             nodes = set (c.self.view_is i).nodes c.args.serving peer;
