@@ -143,8 +143,7 @@ const X: u64 = 0x01020304;
 
 const Y: u64 = 0x05060708;
 
-/// What a test compares of a message: its name, its numbers in the order of its fields, and its key
-/// and value.
+/// What a test compares of a message: its name, its numbers by its fields, its key and its value.
 type Outline<'a> = (&'static str, [u64; 8], &'a [u8], &'a [u8]);
 
 fn outline(message: &DcpMsg) -> Outline<'_> {
