@@ -20,7 +20,7 @@ use Rattle.vb_types.specs.declared.stream.AskAnswer.{AskAnswer}
 use Rattle.vb_types.specs.declared.stream.AskAnswer.TheVariants as asked
 use Rattle.script_text.specs.Numbers.{number_of}
 use Rattle.script_text.specs.Ranges.{IsWide, IsDocRanged, IsActRanged, IsEntryRanged, IsStreamRanged, IsAskRanged, IsVerdictRanged, IsParentRanged}
-use Rattle.script_text.specs.Transcript.{hex_text, place_text, link_text, stream_text, extent_text, parent_text, flag_text, level_text, doc_text, act_text, entry_text, log_text, ask_text, verdict_text, request_text}
+use Rattle.script_text.specs.Transcript.{hex_text, place_text, link_text, client_text, stream_text, extent_text, parent_text, flag_text, level_text, doc_text, act_text, entry_text, log_text, ask_text, verdict_text, request_text}
 use Rattle.script_text.proofs.Decimals.{number_of-decimal}
 use Rattle.script_text.proofs.KindWords.{level_of, level_back, flag_of, flag_back}
 use Rattle.script_text.proofs.Words.{upto, past, upto_at, past_at, ends, clean, clean_both, clean_all, no_end, digit_no_end, decimal_clean, reading, read_word, spaced_in_row}
@@ -106,14 +106,43 @@ link_text_back l h = number_of-decimal l h
 pub link_back : {X : Type 0} (l : ℕ) (s : ℕ) (rest : List ℕ) (k : ℕ → List ℕ → Option X) → IsWide l → ends s ≡ true → reading link_of (link_text l ++ s ∷ rest) k ≡ k l rest
 link_back l s rest k h e = read_word link_of (link_text l) l s rest k (link_clean l h) e (link_text_back l h)
 
+-- ---- streams: of a link, and of a client's connection
+
+abbrev pub dot : ℕ → Bool
+dot b = b == 46
+
+pub digit_no_dot : (b : ℕ) → (nat_le 48 b && nat_le b 57) ≡ true → dot b ≡ false
+digit_no_dot b h = grind (arith)
+
+abbrev client_of : List ℕ → Option StreamName
+client_of word = option_and_then (λ node. option_map (stream.Client node) (number_of (past dot word))) (number_of (upto dot word))
+
+client_is : (node client : ℕ) → IsWide node → IsWide client → client_of (decimal node ++ 46 ∷ decimal client) ≡ Some (stream.Client node client)
+client_is node client h k =
+    let clean = decimal_clean dot digit_no_dot node h in
+    let behind = past dot (decimal node ++ 46 ∷ decimal client) in
+    ap (λ w. option_and_then (λ node. option_map (stream.Client node) (number_of behind)) (number_of w)) (upto_at dot (decimal node) 46 (decimal client) clean refl)
+    ∙ ap (option_and_then (λ node. option_map (stream.Client node) (number_of behind))) (number_of-decimal node h)
+    ∙ ap (λ w. option_map (stream.Client node) (number_of w)) (past_at dot (decimal node) 46 (decimal client) clean refl)
+    ∙ ap (option_map (stream.Client node)) (number_of-decimal client k)
+
 abbrev pub stream_of : List ℕ → Option StreamName
-stream_of word = option_map stream.Link (link_of word)
+stream_of [] = None
+stream_of (b ∷ word) = if b == 67 then client_of word else option_map stream.Link (number_of word)
+
+pub client_clean : (node client : ℕ) → IsWide node → IsWide client → clean ends (client_text node client) ≡ true
+unfolding client_text
+client_clean node client h k =
+    clean_both ends (decimal node) (46 ∷ decimal client) (decimal_clean ends digit_no_end node h) (decimal_clean ends digit_no_end client k)
 
 pub stream_clean : (n : StreamName) → IsStreamRanged n → clean ends (stream_text n) ≡ true
 stream_clean (stream.Link l) h = link_clean l h
+stream_clean (stream.Client node client) h = client_clean node client h.0 h.1
 
 stream_is : (n : StreamName) → IsStreamRanged n → stream_of (stream_text n) ≡ Some n
-stream_is (stream.Link l) h = ap (option_map stream.Link) (link_text_back l h)
+unfolding link_text client_text
+stream_is (stream.Link l) h = ap (option_map stream.Link) (number_of-decimal l h)
+stream_is (stream.Client node client) h = client_is node client h.0 h.1
 
 pub stream_back : {X : Type 0} (n : StreamName) (s : ℕ) (rest : List ℕ) (k : StreamName → List ℕ → Option X) → IsStreamRanged n → ends s ≡ true → reading stream_of (stream_text n ++ s ∷ rest) k ≡ k n rest
 stream_back n s rest k h e = read_word stream_of (stream_text n) n s rest k (stream_clean n h) e (stream_is n h)

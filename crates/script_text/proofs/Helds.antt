@@ -1,6 +1,6 @@
 -- what a line is taken for is within the ranges of the code's types
-use Rattle.std.proofs.Common.{◌≡◌, ℕ, ◌+◌, ◌^◌, ◌<◌, Bool, true, false, List, [], ◌∷◌, length, take, Option, Some, None, Result, Ok, Err, refl, arith, map, mod-lt}
-use Rattle.std.specs.Prelude.{◌==◌, ◌&&◌, if◌then◌else◌, nat_le, codes, IfSome}
+use Rattle.std.proofs.Common.{◌≡◌, ℕ, ◌+◌, ◌^◌, ◌<◌, Bool, true, false, List, [], ◌∷◌, length, take, drop, Option, Some, None, Result, Ok, Err, refl, arith, map, mod-lt}
+use Rattle.std.specs.Prelude.{◌==◌, ◌&&◌, if◌then◌else◌, nat_le, position, codes, IfSome}
 use Rattle.std.specs.List.{slice_split}
 use Rattle.std.specs.Option.{option_map, unwrap_or}
 use Rattle.std.specs.Str.{bytes_eq}
@@ -14,13 +14,14 @@ use Rattle.vb_types.specs.declared.change.Act.{Act}
 use Rattle.vb_types.specs.declared.change.Act.TheVariants as act
 use Rattle.vb_types.specs.declared.role.LogEntry.{LogEntry}
 use Rattle.vb_types.specs.declared.stream.AskAnswer.TheVariants as asked
+use Rattle.vb_events.specs.declared.event.StreamName.TheVariants as stream
 use Rattle.vb_events.specs.declared.event.Why.{Why}
 use Rattle.vb_events.specs.declared.event.Answer.TheVariants as answer
 use Rattle.script_text.specs.Numbers.{number_of}
 use Rattle.script_text.specs.Grammar.{if_decoded, hex_bytes_of}
-use Rattle.script_text.specs.Held.{IsKeyHeld, IsDocHeld, IsActHeld, IsChangeHeld, IsEntryHeld, IsLogHeld, IsVerdictHeld, IsParentHeld, IsEventHeld, IsAnswerHeld}
+use Rattle.script_text.specs.Held.{IsKeyHeld, IsDocHeld, IsActHeld, IsChangeHeld, IsEntryHeld, IsLogHeld, IsStreamHeld, IsVerdictHeld, IsParentHeld, IsEventHeld, IsAnswerHeld}
 use Rattle.script_text.specs.Lines.{words_of}
-use Rattle.script_text.specs.Taken.{word_at, as_long, as_int, as_short, as_byte, as_link, as_bytes, as_entry, as_log, doc_with, as_doc, as_prepare, as_commit, as_act, change_with, as_change, as_verdict}
+use Rattle.script_text.specs.Taken.{word_at, as_long, as_int, as_short, as_byte, as_link, client_with, as_client, as_stream, as_bytes, as_entry, as_log, doc_with, as_doc, as_prepare, as_commit, as_act, change_with, as_change, as_verdict}
 use Rattle.script_text.specs.TakenLines.{as_armed, as_counted, document_with, as_shown, as_acknowledged, as_follower, as_streamed, as_event, as_worded, line_taken}
 use Rattle.script_text.specs.declared.line.TheConstants.{WORDS_READ}
 use Rattle.script_text.specs.declared.read_lines.Line.{Line}
@@ -48,6 +49,19 @@ byte_held word = mod-lt (as_long word) (omega arith)
 link_held : (word : List ℕ) → as_link word < 2 ^ 32
 link_held [] = omega arith
 link_held (b ∷ word) = int_held word
+
+client_held : (text : List ℕ) (at : Option ℕ) → IsStreamHeld (client_with text at)
+client_held text None = (omega arith, omega arith)
+client_held text (Some at) = (byte_held (take at text), int_held (drop (at + 1) text))
+
+-- a stream's connection, by whether it is a client's
+stream_by : (t : Bool) (text : List ℕ) (link : ℕ) → link < 2 ^ 32 → IsStreamHeld (if t then as_client text else stream.Link link)
+stream_by true text link h = client_held text (position (λ b. b == 46) text)
+stream_by false text link h = h
+
+stream_held : (word : List ℕ) → IsStreamHeld (as_stream word)
+stream_held [] = omega arith
+stream_held (b ∷ word) = stream_by (b == 67) word (as_int word) (int_held word)
 
 by_number : (o : Option ℕ) → ((n : ℕ) → o ≡ Some n → n < 2 ^ 64) → IsParentHeld o
 by_number None h = tt
@@ -189,8 +203,8 @@ shown_held words =
 acknowledged_held : (words : List (List ℕ)) → IfSome (as_acknowledged words) IsEventHeld
 acknowledged_held words =
     let at = word_at words in
-    either_some IsEventHeld (bytes_eq (word_at words 0) (codes "ack")) _ _ (link_held (at 1), (byte_held (at 2), short_held (at 3)), long_held (at 4), long_held (at 5))
-    (either_some IsEventHeld (bytes_eq (word_at words 0) (codes "acked")) _ _ (link_held (at 1), (byte_held (at 2), short_held (at 3)), byte_held (at 4), long_held (at 5))
+    either_some IsEventHeld (bytes_eq (word_at words 0) (codes "ack")) _ _ (stream_held (at 1), (byte_held (at 2), short_held (at 3)), long_held (at 4), long_held (at 5))
+    (either_some IsEventHeld (bytes_eq (word_at words 0) (codes "acked")) _ _ (stream_held (at 1), (byte_held (at 2), short_held (at 3)), byte_held (at 4), long_held (at 5))
     (shown_held words))
 
 follower_held : (words : List (List ℕ)) → IfSome (as_follower words) IsEventHeld
@@ -198,7 +212,7 @@ follower_held words =
     let at = word_at words in
     either_some IsEventHeld (bytes_eq (word_at words 0) (codes "adopt")) _ _ ((byte_held (at 1), short_held (at 2)), log_held (at 3))
     (either_some IsEventHeld (bytes_eq (word_at words 0) (codes "range")) _ _ ((byte_held (at 1), short_held (at 2)), long_held (at 3), long_held (at 4))
-    (either_some IsEventHeld (bytes_eq (word_at words 0) (codes "got")) _ _ (some_map IsChangeHeld IsEventHeld _ (as_change words 4) (change_held words 4) (λ change h. ((byte_held (at 1), short_held (at 2)), link_held (at 3), h)))
+    (either_some IsEventHeld (bytes_eq (word_at words 0) (codes "got")) _ _ (some_map IsChangeHeld IsEventHeld _ (as_change words 4) (change_held words 4) (λ change h. ((byte_held (at 1), short_held (at 2)), stream_held (at 3), h)))
     (either_some IsEventHeld (bytes_eq (word_at words 0) (codes "rolled")) _ _ ((byte_held (at 1), short_held (at 2)), long_held (at 3), long_held (at 4))
     (either_some IsEventHeld (bytes_eq (word_at words 0) (codes "end")) _ _ (link_held (at 1))
     (acknowledged_held words)))))
@@ -206,10 +220,10 @@ follower_held words =
 streamed_held : (words : List (List ℕ)) → IfSome (as_streamed words) IsEventHeld
 streamed_held words =
     let at = word_at words in
-    either_some IsEventHeld (bytes_eq (word_at words 0) (codes "ask")) _ _ (link_held (at 1), (byte_held (at 2), short_held (at 3)), (long_held (at 4), long_held (at 5), long_held (at 6), long_held (at 7), long_held (at 8), int_held (at 9)), long_held (at 10), log_held (at 11), verdict_held words 12)
-    (either_some IsEventHeld (bytes_eq (word_at words 0) (codes "mark")) _ _ (link_held (at 1), long_held (at 2), long_held (at 3), int_held (at 4))
-    (either_some IsEventHeld (bytes_eq (word_at words 0) (codes "item")) _ _ (some_map IsKeyHeld IsEventHeld _ (key_of (as_bytes (at 4))) (key_held (at 4)) (λ key h. (link_held (at 1), long_held (at 2), h)))
-    (either_some IsEventHeld (bytes_eq (word_at words 0) (codes "fin")) _ _ (link_held (at 1), int_held (at 2))
+    either_some IsEventHeld (bytes_eq (word_at words 0) (codes "ask")) _ _ (stream_held (at 1), (byte_held (at 2), short_held (at 3)), (long_held (at 4), long_held (at 5), long_held (at 6), long_held (at 7), long_held (at 8), int_held (at 9)), long_held (at 10), log_held (at 11), verdict_held words 12)
+    (either_some IsEventHeld (bytes_eq (word_at words 0) (codes "mark")) _ _ (stream_held (at 1), long_held (at 2), long_held (at 3), int_held (at 4))
+    (either_some IsEventHeld (bytes_eq (word_at words 0) (codes "item")) _ _ (some_map IsKeyHeld IsEventHeld _ (key_of (as_bytes (at 4))) (key_held (at 4)) (λ key h. (stream_held (at 1), long_held (at 2), h)))
+    (either_some IsEventHeld (bytes_eq (word_at words 0) (codes "fin")) _ _ (stream_held (at 1), int_held (at 2))
     (follower_held words))))
 
 event_held : (words : List (List ℕ)) → IfSome (as_event words) IsEventHeld

@@ -7,8 +7,8 @@ use Rattle.vb_events.specs.declared.event.EndReason.TheVariants as reason
 use Rattle.vb_events.specs.declared.event.ItemAct.TheVariants as sent
 use Rattle.vb_events.specs.declared.event.Why.TheVariants as why
 use Rattle.vb_types.specs.declared.role.Role.TheVariants as role
-use Rattle.script_text.specs.Transcript.{act_text, ask_text, request_text, doc_text, entry_text, event_text, group_text, hex_text, link_text, place_text, reason_text, role_text, sent_text, why_text}
-use Rattle.script_text.specs.Letters.{ChangesInLetters, GroupsInLetters, StreamsInLetters, WordsInLetters}
+use Rattle.script_text.specs.Transcript.{act_text, ask_text, request_text, doc_text, entry_text, event_text, group_text, hex_text, link_text, client_text, place_text, reason_text, role_text, sent_text, why_text}
+use Rattle.script_text.specs.Letters.{ChangesInLetters, ClientsInLetters, GroupsInLetters, StreamsInLetters, WordsInLetters}
 use Rattle.script_text.proofs.KindWords.{reason_of, reason_is, role_of, role_is, sent_of, sent_is, why_of, why_is}
 use Rattle.script_text.proofs.Wordings.{word_of}
 
@@ -19,6 +19,10 @@ changes = record { set = refl; removed = refl; prepared = refl; committed = refl
 pub streams : StreamsInLetters
 unfolding event_text place_text link_text ask_text request_text entry_text hex_text encode_with digits
 streams = record { go = refl; roll = refl; refuse = refl; adopted = refl; logged = refl; no_log = refl; replied = refl; ended = refl }
+
+pub clients : ClientsInLetters
+unfolding event_text place_text client_text ask_text request_text entry_text hex_text encode_with digits
+clients = record { asked = refl; marked = refl; item = refl; finished = refl; wide = refl }
 
 pub words : WordsInLetters
 words = record {

@@ -1,5 +1,6 @@
 pub mod Lines
 pub mod Decimals
+pub mod Dots
 pub mod Joined
 pub mod Outcomes
 pub mod Spelling

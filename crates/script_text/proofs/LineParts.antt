@@ -1,5 +1,5 @@
 -- the parts of a transcript's lines: their words, and what those are taken for
-use Rattle.std.proofs.Common.{◌≡◌, ℕ, ◌+◌, ◌%◌, ◌^◌, ◌<◌, Bool, true, false, List, [], ◌∷◌, ◌++◌, length, take, Option, Some, None, refl, ap, ◌∙◌, append_assoc, arith, mod-eq_of_lt}
+use Rattle.std.proofs.Common.{◌≡◌, ℕ, ◌+◌, ◌%◌, ◌^◌, ◌<◌, Bool, true, false, List, [], ◌∷◌, ◌++◌, length, take, drop, Option, Some, None, refl, ap, ◌∙◌, append_assoc, arith, mod-eq_of_lt}
 use Rattle.std.specs.Prelude.{◌==◌, ◌&&◌, if◌then◌else◌, nat_le, nat_eq, map, codes, decimal}
 use Rattle.std.specs.List.{join_with_byte, slice_split}
 use Rattle.std.specs.Option.{option_map, unwrap_or}
@@ -25,13 +25,14 @@ use Rattle.vb_events.specs.declared.event.StreamName.{StreamName}
 use Rattle.vb_events.specs.declared.event.StreamName.TheVariants as stream
 use Rattle.script_text.specs.Numbers.{number_of}
 use Rattle.script_text.specs.Grammar.{if_decoded, hex_bytes_of}
-use Rattle.script_text.specs.Transcript.{hex_text, place_text, link_text, stream_text, extent_text, parent_text, flag_text, role_text, level_text, doc_text, act_text, entry_text, log_text, ask_text}
+use Rattle.script_text.specs.Transcript.{hex_text, place_text, link_text, client_text, stream_text, extent_text, parent_text, flag_text, role_text, level_text, doc_text, act_text, entry_text, log_text, ask_text}
 use Rattle.script_text.specs.Held.{IsPlace, IsKeyHeld, IsDocHeld, IsActHeld, IsChangeHeld, IsEntryHeld, IsLogHeld, IsStreamHeld, IsAskHeld, IsParentHeld}
-use Rattle.script_text.specs.Taken.{word_at, as_long, as_int, as_short, as_byte, as_link, as_stream, as_bytes, as_flag, as_role, as_level, as_entry, as_log, doc_with, as_doc, as_act, as_change, as_ask, change_with}
+use Rattle.script_text.specs.Taken.{word_at, as_long, as_int, as_short, as_byte, as_link, client_with, as_client, as_stream, as_bytes, as_flag, as_role, as_level, as_entry, as_log, doc_with, as_doc, as_act, as_change, as_ask, change_with}
 use Rattle.script_text.proofs.Decimals.{own, number_of-decimal}
 use Rattle.script_text.proofs.Words.{decimal_clean, clean_all}
 use Rattle.script_text.proofs.KindWords.{level_clean, flag_clean}
-use Rattle.script_text.proofs.Fields.{some_hex, hex_clean, link_clean, log_clean, cut_again, digit_no_colon}
+use Rattle.script_text.proofs.Fields.{some_hex, hex_clean, link_clean, client_clean, dot, digit_no_dot, log_clean, cut_again, digit_no_colon}
+use Rattle.script_text.proofs.Dots.{position_at, taken, dropped}
 use Rattle.script_text.proofs.Rows.{Part, Row, word_part, number_part, none, ◌⟫◌, row_part}
 
 -- ---- numbers
@@ -73,11 +74,25 @@ link_is l h = int_is l h
 pub link_part : (l : ℕ) → l < 2 ^ 32 → Part (link_text l) (link_text l ∷ [])
 link_part l h = word_part (link_text l) (link_clean l (omega arith))
 
+client_is : (node client : ℕ) → node < 2 ^ 8 → client < 2 ^ 32 → as_client (decimal node ++ 46 ∷ decimal client) ≡ stream.Client node client
+client_is node client h k =
+    let text = decimal node ++ 46 ∷ decimal client in
+    ap (client_with text) (position_at dot (decimal node) 46 (decimal client) (decimal_clean dot digit_no_dot node (omega (arith, h))) refl)
+    ∙ ap (λ word. stream.Client (as_byte word) (as_int (drop (length (decimal node) + 1) text))) (taken (decimal node) (46 ∷ decimal client))
+    ∙ ap (λ word. stream.Client (as_byte (decimal node)) (as_int word)) (dropped (decimal node) 46 (decimal client))
+    ∙ (λ i. stream.Client (byte_is node h i) (int_is client k i))
+
 pub stream_is : (n : StreamName) → IsStreamHeld n → as_stream (stream_text n) ≡ n
-stream_is (stream.Link l) h = ap stream.Link (link_is l h)
+unfolding link_text client_text
+stream_is (stream.Link l) h = ap stream.Link (int_is l h)
+stream_is (stream.Client node client) h = client_is node client h.0 h.1
+
+client_part : (node client : ℕ) → node < 2 ^ 8 → client < 2 ^ 32 → Part (client_text node client) (client_text node client ∷ [])
+client_part node client h k = word_part (client_text node client) (client_clean node client (omega (arith, h)) (omega (arith, k)))
 
 pub stream_part : (n : StreamName) → IsStreamHeld n → Part (stream_text n) (stream_text n ∷ [])
 stream_part (stream.Link l) h = link_part l h
+stream_part (stream.Client node client) h = client_part node client h.0 h.1
 
 pub parent_is : (p : Option ℕ) → IsParentHeld p → number_of (parent_text p) ≡ p
 unfolding number_of

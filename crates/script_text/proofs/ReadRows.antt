@@ -4,11 +4,11 @@ use Rattle.std.specs.Fmt.{digits}
 use Rattle.hex.specs.Hex.{encode_with, decode_pairs}
 use Rattle.script_text.specs.Numbers.{number_of}
 use Rattle.script_text.specs.Grammar.{hex_bytes_of}
-use Rattle.script_text.specs.Transcript.{hex_text, place_text, event_text}
-use Rattle.script_text.specs.Taken.{as_bytes}
+use Rattle.script_text.specs.Transcript.{hex_text, place_text, link_text, client_text, ask_text, request_text, entry_text, event_text}
+use Rattle.script_text.specs.Taken.{as_bytes, as_log}
 use Rattle.script_text.specs.TakenLines.{line_taken}
 use Rattle.script_text.specs.ReadBack.{line_text, line_of, transcript_of}
-use Rattle.script_text.specs.ReadRows.{ReadInLetters, BreaksInLetters}
+use Rattle.script_text.specs.ReadRows.{ReadInLetters, ClientsReadInLetters, BreaksInLetters, ClientsBreakInLetters}
 use Rattle.script_text.proofs.ReadLaws.{found, broken}
 
 pub read : ReadInLetters
@@ -40,4 +40,34 @@ breaks = record {
   no_line = broken _ _ refl;
   other_case = broken _ _ refl;
   unknown = broken _ _ refl;
+}
+
+pub clients : ClientsReadInLetters
+unfolding transcript_of line_of line_taken line_text event_text place_text client_text ask_text request_text entry_text hex_text as_log as_bytes hex_bytes_of number_of digits encode_with decode_pairs
+clients = record {
+  asked = found _ _ refl;
+  marked = found _ _ refl;
+  item = found _ _ refl;
+  finished = found _ _ refl;
+  wide = found _ _ refl;
+}
+
+pub clients_break : ClientsBreakInLetters
+unfolding transcript_of line_of line_taken line_text event_text place_text link_text client_text ask_text request_text hex_text as_log as_bytes hex_bytes_of number_of digits encode_with decode_pairs
+clients_break = record {
+  node_zeros = broken _ _ refl;
+  client_zeros = broken _ _ refl;
+  no_dot = broken _ _ refl;
+  two_dots = broken _ _ refl;
+  no_node = broken _ _ refl;
+  no_client = broken _ _ refl;
+  no_number = broken _ _ refl;
+  node = broken _ _ refl;
+  client = broken _ _ refl;
+  other_case = broken _ _ refl;
+  link = broken _ _ refl;
+  sign = broken _ _ refl;
+  asked = broken _ _ refl;
+  marked = broken _ _ refl;
+  item = broken _ _ refl;
 }

@@ -10,7 +10,7 @@ use Rattle.std.proofs.lemmas.List.Elements.{All-weaker, All-from_get_or}
 use Rattle.std.proofs.lemmas.List.Splits.{join_with_byte-slice_split}
 use Rattle.hex.specs.Hex.{decode_of, is_hex_digit}
 use Rattle.hex.proofs.HexLemmas.{decode_of-ok, decode_of-digits}
-use Rattle.script_text.specs.{Numbers.{number_of, node_of, vbucket_of, connection_of, moved_of, if_frames, frames_of, buffer_of}, Lines.{words_of}, Grammar.{if_decoded, hex_bytes_of, node_line, cut_line, two_words, clock_line, client_line, hang_line, up_line, down_line, pump_line, verb_of_vb, replica_line, vbucket_words, three_words, bytes_line, promote_line, vbucket_of_four, plain_of_four, four_words, five_words, vb_line, is_link, linked, link_line, counted_verb, kept_of, filled_of, stop_line, fail_line, crash_line, start_line, branches_of, chain_words, verb_of}, Fitting.{AreBytes, VbFits, ClientFits}, Sayings.{IsHex, IsHexOf, Says, vb_word, vb_tail, client_word, ClientTail, link_words}, declared.numbers.TheConstants.{NODES, VBUCKETS, CONNECTIONS, FRAMES, BUFFERS}}
+use Rattle.script_text.specs.{Numbers.{number_of, node_of, vbucket_of, connection_of, moved_of, if_frames, frames_of, buffer_of}, Lines.{words_of}, Grammar.{if_decoded, hex_bytes_of, node_line, cut_line, two_words, clock_line, client_line, hang_line, up_line, down_line, pump_line, verb_of_vb, replica_line, vbucket_words, three_words, bytes_line, pull_line, promote_line, vbucket_of_four, plain_of_four, four_words, five_words, vb_line, is_link, linked, link_line, counted_verb, kept_of, filled_of, stop_line, fail_line, crash_line, start_line, branches_of, chain_words, verb_of}, Fitting.{AreBytes, VbFits, ClientFits}, Sayings.{IsHex, IsHexOf, Says, vb_word, vb_tail, client_word, ClientTail, link_words}, declared.numbers.TheConstants.{NODES, VBUCKETS, CONNECTIONS, FRAMES, BUFFERS}}
 use Rattle.script_text.specs.declared.verb.{Verb.{Verb}, VbVerb.{VbVerb}, NodeVerb.{NodeVerb}, LinkVerb.{LinkVerb}, ClientVerb.{ClientVerb}}
 use Rattle.script_text.specs.declared.verb.Verb.TheVariants as verb
 use Rattle.script_text.specs.declared.verb.VbVerb.TheVariants as vb_verb
@@ -122,6 +122,11 @@ bytes_spelled a b text v h =
     at_client (codes "bytes") a b (32 ∷ text) client_verb.Bytes (hex_bytes_of text) v
     (λ bytes e. let is = hex_spelled text bytes e in (refl, (text, is, refl), decoded_bytes text bytes is.digits)) h
 
+pull_spelled : (a b frames : List ℕ) (v : Verb) → pull_line a b frames ≡ Some v → Says (codes "pull" ++ 32 ∷ (a ++ 32 ∷ (b ++ 32 ∷ frames))) v
+pull_spelled a b frames v h =
+    at_client (codes "pull") a b (32 ∷ frames) client_verb.Pull (frames_of frames) v
+    (λ k e. let is = number_framed k frames e in (refl, ap (λ t. 32 ∷ t) is.0, (is.1, is.2))) h
+
 -- both tests hold
 both : (s t : Bool) → (s && t) ≡ true → (s ≡ true) × (t ≡ true)
 both true t h = (refl, h)
@@ -147,8 +152,9 @@ plain_of_four_spelled : (word a b c : List ℕ) (v : Verb) → plain_of_four wor
 plain_of_four_spelled word a b c v h =
     let rest = a ++ 32 ∷ (b ++ 32 ∷ c) in
     by_word word (codes "stop") rest (stop_line a b (kept_of c)) _ v (stop_spelled a b c (kept_of c) v (kept_spelled c))
-    (by_word word (codes "crash") rest (crash_line a (filled_of b c)) (vbucket_of_four word a b c) v
-    (crash_spelled a (b ++ 32 ∷ c) (filled_of b c) v (filled_spelled b c)) (vbucket_of_four_spelled word a b c v))
+    (by_word word (codes "crash") rest (crash_line a (filled_of b c)) _ v
+    (crash_spelled a (b ++ 32 ∷ c) (filled_of b c) v (filled_spelled b c))
+    (by_word word (codes "pull") rest (pull_line a b c) (vbucket_of_four word a b c) v (pull_spelled a b c v) (vbucket_of_four_spelled word a b c v)))
     h
 
 four_spelled : (word a b c : List ℕ) (v : Verb) → four_words word a b c ≡ Some v → Says (word ++ 32 ∷ (a ++ 32 ∷ (b ++ 32 ∷ c))) v
@@ -290,6 +296,11 @@ client_read line n c (client_verb.Bytes bytes) h =
     client_row line n c (client_verb.Bytes bytes) (text ∷ []) h (λ rest. refl, λ rest. refl)
     (subst (λ t. IsTail t (text ∷ [])) (sym h.1.1.2) (refl, one text (hex_word text bytes hex.digits)))
     (λ a b. ap (λ o. option_and_then (λ n. option_and_then (λ c. option_map (λ x. verb.AtClient n c (client_verb.Bytes x)) o) (connection_of b)) (node_of a)) (hex_read text bytes hex))
+client_read line n c (client_verb.Pull k) h =
+    let low : k < 2 ^ 64 = omega (arith, h.0.2.1) in
+    client_row line n c (client_verb.Pull k) (decimal k ∷ []) h (λ rest. refl, λ rest. refl)
+    (subst (λ t. IsTail t (decimal k ∷ [])) (sym h.1.1) (number_tail k low))
+    (λ a b. ap (λ o. option_and_then (λ n. option_and_then (λ c. option_map (λ x. verb.AtClient n c (client_verb.Pull x)) o) (connection_of b)) (node_of a)) (in_frames k h.0.2.0 h.0.2.1 low))
 
 -- a line for a link, with a number behind the link's
 counted_read : (line : List ℕ) (l k : ℕ) (make : ℕ → LinkVerb) (o : Option ℕ) → k < 2 ^ 64 → (link_words (make k)).1 ≡ 32 ∷ decimal k → o ≡ Some k → IsName (link_words (make k)).0

@@ -9,7 +9,7 @@ use Rattle.vb_events.specs.declared.event.Why.TheVariants as why
 use Rattle.vb_types.specs.declared.role.Role.TheVariants as role
 use Rattle.script_text.specs.Numbers.{number_of}
 use Rattle.script_text.specs.Transcript.{act_text, cause_text, event_text, flag_text, level_text, link_text, place_text, reason_text, role_text, sent_text, spaced, why_text}
-use Rattle.script_text.specs.Wordings.{IsWordOf, LevelsInWords, ActsInWords, DurableWords, ChainsInWords, ChainsAreRead, ChainsAreRefused, AcknowledgementWords, SavingInWords, SavingWords, StopsInWords, StopWords, StopsAreRead, StopsAreRefused, WindowWords, LinksAreRead, LinksAreRefused}
+use Rattle.script_text.specs.Wordings.{IsWordOf, LevelsInWords, ActsInWords, DurableWords, ChainsInWords, ChainsAreRead, ChainsAreRefused, AcknowledgementWords, SavingInWords, SavingWords, StopsInWords, StopWords, StopsAreRead, StopsAreRefused, WindowWords, LinksAreRead, LinksAreRefused, PullsAreRead, PullsAreRefused}
 use Rattle.script_text.proofs.KindWords.{level_of, level_is, sent_of, sent_is, flag_of, flag_is, role_of, role_is, cause_of, cause_is, reason_of, reason_is, why_of, why_is}
 
 -- what is read back is the one thing of its word
@@ -169,4 +169,27 @@ links_refused = record {
   producer = refl;
   node = refl;
   vb = refl;
+}
+
+pub pulls_read : PullsAreRead
+unfolding number_of
+pulls_read = record { pull = refl; least = refl; most = refl; pump = refl; pump_least = refl; pump_most = refl }
+
+pub pulls_refused : PullsAreRefused
+unfolding number_of
+pulls_refused = record {
+  none = refl;
+  too_many = refl;
+  zeros = refl;
+  empty = refl;
+  no_count = refl;
+  no_client = refl;
+  two_counts = refl;
+  node = refl;
+  client = refl;
+  dotted = refl;
+  other_word = refl;
+  pump_none = refl;
+  pump_too_many = refl;
+  pump_client = refl;
 }

@@ -28,7 +28,7 @@ abbrev pub clean : (ℕ → Bool) → List ℕ → Bool
 clean p [] = true
 clean p (b ∷ text) = if p b then false else clean p text
 
-unless : (t u : Bool) → (if t then false else u) ≡ true → (t ≡ false) × (u ≡ true)
+pub unless : (t u : Bool) → (if t then false else u) ≡ true → (t ≡ false) × (u ≡ true)
 unless true u h = absurd (cc h)
 unless false u h = (refl, h)
 

@@ -34,6 +34,10 @@ AreBytes bytes = All (λ b. b < 256) bytes
 abbrev pub IsCall : ℕ → Type 0
 IsCall k = k ≤ 1000000000
 
+-- how many stream frames a line asks for
+abbrev pub AreFrames : ℕ → Type 0
+AreFrames frames = (1 ≤ frames) × (frames ≤ 1000000)
+
 -- the byte that a crash leaves is one
 abbrev pub IsOutcome : Outcome → Type 0
 IsOutcome outcome.Old = Unit {0}
@@ -63,13 +67,14 @@ VbFits other = Unit {0}
 -- and of a client's connection
 abbrev pub ClientFits : ClientVerb → Type 0
 ClientFits (client_verb.Bytes bytes) = AreBytes bytes
+ClientFits (client_verb.Pull frames) = AreFrames frames
 ClientFits other = Unit {0}
 
--- and of a link: a line moves at most so many bytes, and asks for so many stream frames
+-- and of a link: a line moves at most so many bytes
 abbrev pub LinkFits : LinkVerb → Type 0
 LinkFits (link_verb.Up bytes) = bytes ≤ 1000000000
 LinkFits (link_verb.Down bytes) = bytes ≤ 1000000000
-LinkFits (link_verb.Pump frames) = (1 ≤ frames) × (frames ≤ 1000000)
+LinkFits (link_verb.Pump frames) = AreFrames frames
 LinkFits link_verb.Cut = Unit {0}
 
 -- The numbers of a line are those of its grammar. The limits are written out: a wrong constant in

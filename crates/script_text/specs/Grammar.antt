@@ -149,6 +149,11 @@ three_words word a b =
 abbrev pub bytes_line : List ℕ → List ℕ → Option (List ℕ) → Option Verb
 bytes_line node client bytes = option_and_then (λ n. option_and_then (λ c. option_map (λ x. verb.AtClient n c (client_verb.Bytes x)) bytes) (connection_of client)) (node_of node)
 
+-- `pull N C K`
+abbrev pub pull_line : List ℕ → List ℕ → List ℕ → Option Verb
+pull_line node client frames =
+    option_and_then (λ n. option_and_then (λ c. option_map (λ x. verb.AtClient n c (client_verb.Pull x)) (frames_of frames)) (connection_of client)) (node_of node)
+
 -- `promote N V U`
 abbrev pub promote_line : List ℕ → List ℕ → List ℕ → Option Verb
 promote_line node vb uuid =
@@ -170,6 +175,7 @@ abbrev pub plain_of_four : List ℕ → List ℕ → List ℕ → List ℕ → O
 plain_of_four word a b c =
     if bytes_eq word (codes "stop") then stop_line a b (kept_of c)
     else if bytes_eq word (codes "crash") then crash_line a (filled_of b c)
+    else if bytes_eq word (codes "pull") then pull_line a b c
     else vbucket_of_four word a b c
 
 -- a line of four words, by its first

@@ -63,6 +63,7 @@ IsLogHeld log = All IsEntryHeld log
 -- a stream's connection
 abbrev pub IsStreamHeld : StreamName → Type 0
 IsStreamHeld (stream.Link link) = IsInt link
+IsStreamHeld (stream.Client node client) = (node < 2 ^ 8) × IsInt client
 
 -- a stream request
 abbrev pub IsAskHeld : StreamAsk → Type 0

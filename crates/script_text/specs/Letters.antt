@@ -64,6 +64,14 @@ pub record StreamsInLetters : Type 0 where
   pub replied : event_text (event.Reply 1 2 (0x81 ∷ 0x0f ∷ [])) ≡ codes "reply 1 2 810f"
   pub ended : event_text (event.Ended 1 reason.Cut) ≡ codes "end L1 cut"
 
+-- lines of a stream of a client's connection: the node and its number there
+pub record ClientsInLetters : Type 0 where
+  pub asked : event_text (event.Asked (stream.Client 0 1) 2 3 some_ask 4 some_log asked.Go) ≡ codes "ask C0.1 2 3 5 6 7 8 9 10 4 11:12,13:14 go"
+  pub marked : event_text (event.Marked (stream.Client 0 1) 2 3 4) ≡ codes "mark C0.1 2 3 4"
+  pub item : event_text (event.Item (stream.Client 0 1) 2 sent.Set (0x6b ∷ [])) ≡ codes "item C0.1 2 set 6b"
+  pub finished : event_text (event.Finished (stream.Client 0 1) 2) ≡ codes "fin C0.1 2"
+  pub wide : event_text (event.Finished (stream.Client 255 4294967295) 2) ≡ codes "fin C255.4294967295 2"
+
 -- the words of roles, of acts and of ends, each of one alone
 pub record WordsInLetters : Type 0 where
   pub active : IsWordOf Role role_text role.Active (codes "active")

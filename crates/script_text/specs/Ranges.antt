@@ -46,6 +46,7 @@ IsEntryRanged entry = IsWide entry.uuid × IsWide entry.seq
 -- a stream's connection in range
 abbrev pub IsStreamRanged : StreamName → Type 0
 IsStreamRanged (stream.Link link) = IsWide link
+IsStreamRanged (stream.Client node client) = IsWide node × IsWide client
 
 -- a stream request in range
 abbrev pub IsAskRanged : StreamAsk → Type 0

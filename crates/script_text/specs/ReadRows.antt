@@ -5,6 +5,10 @@ use Rattle.vb_events.specs.declared.event.Answer.TheVariants as answer
 use Rattle.vb_events.specs.declared.event.Event.{Event}
 use Rattle.vb_events.specs.declared.event.Event.TheVariants as event
 use Rattle.vb_events.specs.declared.event.Group.{Group}
+use Rattle.vb_events.specs.declared.event.ItemAct.TheVariants as sent
+use Rattle.vb_events.specs.declared.event.StreamName.TheVariants as stream
+use Rattle.vb_types.specs.declared.stream.AskAnswer.TheVariants as asked
+use Rattle.script_text.specs.Letters.{some_ask, some_log}
 use Rattle.script_text.specs.ReadBack.{IsTranscript, BreaksAt}
 
 -- a group of this script line that was carried out, and of these events
@@ -17,6 +21,15 @@ pub record ReadInLetters : Type 0 where
   pub one : IsTranscript (codes "#1\nok\n") (carried_out 1 [] ∷ [])
   pub two : IsTranscript (codes "#2\nclosed 0 0\nok\n#1\nok\n") (carried_out 2 (event.Closed 0 0 ∷ []) ∷ carried_out 1 [] ∷ [])
   pub wide : IsTranscript (codes "#1\nrole 255 65535 dead\nok\n") (carried_out 1 (event.Role 255 65535 role.Dead ∷ []) ∷ [])
+
+-- lines of a stream of a client's connection, and the widest numbers of one
+pub record ClientsReadInLetters : Type 0 where
+  pub asked : IsTranscript (codes "#1\nask C0.1 2 3 5 6 7 8 9 10 4 11:12,13:14 go\nok\n")
+      (carried_out 1 (event.Asked (stream.Client 0 1) 2 3 some_ask 4 some_log asked.Go ∷ []) ∷ [])
+  pub marked : IsTranscript (codes "#1\nmark C0.1 2 3 4\nok\n") (carried_out 1 (event.Marked (stream.Client 0 1) 2 3 4 ∷ []) ∷ [])
+  pub item : IsTranscript (codes "#1\nitem C0.1 2 set 6b\nok\n") (carried_out 1 (event.Item (stream.Client 0 1) 2 sent.Set (0x6b ∷ []) ∷ []) ∷ [])
+  pub finished : IsTranscript (codes "#1\nfin C0.1 2\nok\n") (carried_out 1 (event.Finished (stream.Client 0 1) 2 ∷ []) ∷ [])
+  pub wide : IsTranscript (codes "#1\nfin C255.4294967295 2\nok\n") (carried_out 1 (event.Finished (stream.Client 255 4294967295) 2 ∷ []) ∷ [])
 
 -- Lines out of place; a last line with no newline; an end inside a group; and lines that are none: zeros in front, a number that
 -- is too wide, a word too few and too many, two spaces, no word, an empty line, digits of the other case, and an unknown word.
@@ -38,3 +51,22 @@ pub record BreaksInLetters : Type 0 where
   pub no_line : BreaksAt (codes "#1\n\nok\n") 2
   pub other_case : BreaksAt (codes "#1\nreply 0 1 AB\nok\n") 2
   pub unknown : BreaksAt (codes "#1\nclose 0 1\nok\n") 2
+
+-- Other spellings of a client's connection: zeros in front; no dot, and two; no number in front of the dot, behind it, and at
+-- all; a number that is too wide; a letter of the other case, and a link's; and a sign.
+pub record ClientsBreakInLetters : Type 0 where
+  pub node_zeros : BreaksAt (codes "#1\nfin C00.1 2\nok\n") 2
+  pub client_zeros : BreaksAt (codes "#1\nfin C0.01 2\nok\n") 2
+  pub no_dot : BreaksAt (codes "#1\nfin C0 2\nok\n") 2
+  pub two_dots : BreaksAt (codes "#1\nfin C0.1.2 2\nok\n") 2
+  pub no_node : BreaksAt (codes "#1\nfin C.1 2\nok\n") 2
+  pub no_client : BreaksAt (codes "#1\nfin C0. 2\nok\n") 2
+  pub no_number : BreaksAt (codes "#1\nfin C 2\nok\n") 2
+  pub node : BreaksAt (codes "#1\nfin C256.1 2\nok\n") 2
+  pub client : BreaksAt (codes "#1\nfin C0.4294967296 2\nok\n") 2
+  pub other_case : BreaksAt (codes "#1\nfin c0.1 2\nok\n") 2
+  pub link : BreaksAt (codes "#1\nfin L0.1 2\nok\n") 2
+  pub sign : BreaksAt (codes "#1\nfin C0.+1 2\nok\n") 2
+  pub asked : BreaksAt (codes "#1\nask C00.1 2 3 5 6 7 8 9 10 4 - go\nok\n") 2
+  pub marked : BreaksAt (codes "#1\nmark C0 2 3 4\nok\n") 2
+  pub item : BreaksAt (codes "#1\nitem C0.01 2 set 6b\nok\n") 2

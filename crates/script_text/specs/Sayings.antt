@@ -74,11 +74,13 @@ vb_tail other = []
 abbrev pub client_word : ClientVerb → List ℕ
 client_word client_verb.Open = codes "client"
 client_word (client_verb.Bytes bytes) = codes "bytes"
+client_word (client_verb.Pull frames) = codes "pull"
 client_word client_verb.Hang = codes "hang"
 
 -- the text stands behind the numbers of the node and the connection: bytes have many spellings
 abbrev pub ClientTail : List ℕ → ClientVerb → Type 0
 ClientTail tail (client_verb.Bytes bytes) = (text : List ℕ) × IsHexOf text bytes × (tail ≡ codes " " ⧺ text)
+ClientTail tail (client_verb.Pull frames) = tail ≡ codes " " ⧺ decimal frames
 ClientTail tail other = tail ≡ []
 
 -- the word that a line begins with which asks this of a link, and the words behind the link's number

@@ -1,6 +1,6 @@
 -- What the words of a transcript's line are taken for. Where a line is one that is printed, each word says what it is taken
 -- for; any other line is taken for some value too, and its text then differs from the line.
-use Rattle.std.specs.Prelude.{ℕ, ◌+◌, ◌%◌, ◌^◌, ◌==◌, Bool, if◌then◌else◌, List, [], ◌∷◌, get_or, Option, Some, None, map, codes}
+use Rattle.std.specs.Prelude.{ℕ, ◌+◌, ◌%◌, ◌^◌, ◌==◌, Bool, if◌then◌else◌, List, [], ◌∷◌, get_or, take, drop, position, Option, Some, None, map, codes}
 use Rattle.std.specs.List.{slice_split}
 use Rattle.std.specs.Option.{option_map, unwrap_or}
 use Rattle.std.specs.Str.{bytes_eq}
@@ -57,9 +57,19 @@ abbrev pub as_link : List ℕ → ℕ
 as_link [] = 0
 as_link (b ∷ word) = as_int word
 
+-- a client's connection, by where the dot stands between the node's number and the connection's
+abbrev pub client_with : List ℕ → Option ℕ → StreamName
+client_with text None = stream.Client 0 0
+client_with text (Some at) = stream.Client (as_byte (take at text)) (as_int (drop (at + 1) text))
+
+-- a client's connection, behind its `C`
+abbrev pub as_client : List ℕ → StreamName
+as_client text = client_with text (position (λ b. b == 46) text)
+
 -- a stream's connection
 abbrev pub as_stream : List ℕ → StreamName
-as_stream word = stream.Link (as_link word)
+as_stream [] = stream.Link 0
+as_stream (b ∷ word) = if b == 67 then as_client word else stream.Link (as_int word)
 
 -- bytes in hexadecimal digits, and none where the word is a dash
 unfoldable pub as_bytes : List ℕ → List ℕ

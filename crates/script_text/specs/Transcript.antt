@@ -46,9 +46,14 @@ place_text node vb = spaced (decimal node ∷ decimal vb ∷ [])
 unfoldable pub link_text : ℕ → List ℕ
 link_text link = codes "L" ++ decimal link
 
+-- a client's connection of a node: `C`, the node's number, a dot, and the connection's
+unfoldable pub client_text : ℕ → ℕ → List ℕ
+client_text node client = codes "C" ++ decimal node ++ 46 ∷ decimal client
+
 -- the connection of a stream
 abbrev pub stream_text : StreamName → List ℕ
 stream_text (stream.Link link) = link_text link
+stream_text (stream.Client node client) = client_text node client
 
 -- how far a history goes and how much is shown of it: `AT SS SE DOCS PREPS`
 unfoldable pub extent_text : ℕ → ℕ → ℕ → ℕ → ℕ → List ℕ

@@ -22,6 +22,8 @@ use Rattle.script_text.specs.declared.verb.Verb.{Verb}
 use Rattle.script_text.specs.declared.verb.Verb.TheVariants as verb
 use Rattle.script_text.specs.declared.verb.VbVerb.TheVariants as vb_verb
 use Rattle.script_text.specs.declared.verb.NodeVerb.TheVariants as node_verb
+use Rattle.script_text.specs.declared.verb.LinkVerb.TheVariants as link_verb
+use Rattle.script_text.specs.declared.verb.ClientVerb.TheVariants as client_verb
 use Rattle.script_text.specs.Grammar.{verb_of}
 use Rattle.script_text.specs.Lines.{words_of}
 use Rattle.script_text.specs.Transcript.{act_text, answer_text, cause_text, doc_text, event_text, flag_text, hex_text, level_text, reason_text, role_text, sent_text, spaced, why_text}
@@ -180,3 +182,29 @@ pub record LinksAreRefused : Type 0 where
   pub producer : verb_by_letters (codes "link 1 16 3 4 0 follow") ≡ None
   pub node : verb_by_letters (codes "link 1 2 16 4 0 follow") ≡ None
   pub vb : verb_by_letters (codes "link 1 2 3 1024 0 follow") ≡ None
+
+-- lines that ask for stream frames, of a client's connection and of a link, at their limits
+pub record PullsAreRead : Type 0 where
+  pub pull : verb_by_letters (codes "pull 0 1 5") ≡ Some (verb.AtClient 0 1 (client_verb.Pull 5))
+  pub least : verb_by_letters (codes "pull 0 0 1") ≡ Some (verb.AtClient 0 0 (client_verb.Pull 1))
+  pub most : verb_by_letters (codes "pull 15 999 1000000") ≡ Some (verb.AtClient 15 999 (client_verb.Pull 1000000))
+  pub pump : verb_by_letters (codes "pump 1 5") ≡ Some (verb.AtLink 1 (link_verb.Pump 5))
+  pub pump_least : verb_by_letters (codes "pump 0 1") ≡ Some (verb.AtLink 0 (link_verb.Pump 1))
+  pub pump_most : verb_by_letters (codes "pump 999 1000000") ≡ Some (verb.AtLink 999 (link_verb.Pump 1000000))
+
+-- lines beside them that say nothing
+pub record PullsAreRefused : Type 0 where
+  pub none : verb_by_letters (codes "pull 0 1 0") ≡ None
+  pub too_many : verb_by_letters (codes "pull 0 1 1000001") ≡ None
+  pub zeros : verb_by_letters (codes "pull 0 1 05") ≡ None
+  pub empty : verb_by_letters (codes "pull 0 1 ") ≡ None
+  pub no_count : verb_by_letters (codes "pull 0 1") ≡ None
+  pub no_client : verb_by_letters (codes "pull 5") ≡ None
+  pub two_counts : verb_by_letters (codes "pull 0 1 5 5") ≡ None
+  pub node : verb_by_letters (codes "pull 16 1 5") ≡ None
+  pub client : verb_by_letters (codes "pull 0 1000 5") ≡ None
+  pub dotted : verb_by_letters (codes "pull 0.1 5") ≡ None
+  pub other_word : verb_by_letters (codes "pulls 0 1 5") ≡ None
+  pub pump_none : verb_by_letters (codes "pump 1 0") ≡ None
+  pub pump_too_many : verb_by_letters (codes "pump 1 1000001") ≡ None
+  pub pump_client : verb_by_letters (codes "pump 0 1 5") ≡ None

@@ -11,8 +11,8 @@ ghost use Rattle.script_text.specs.Ranges.{IsGroupRanged};
 ghost use Rattle.script_text.specs.Transcript.{hex_text, print_of};
 ghost use Rattle.vb_events.specs.declared.event.Group.{Group};
 ghost use Rattle.script_text.specs.Scripts.{line_said, IsScript, FirstBad};
-ghost use Rattle.script_text.specs.Wordings.{LevelsInWords, ActsInWords, DurableWords, ChainsInWords, ChainsAreRead, ChainsAreRefused, AcknowledgementWords, SavingInWords, SavingWords, StopsInWords, StopWords, StopsAreRead, StopsAreRefused, WindowWords, LinksAreRead, LinksAreRefused};
-ghost use Rattle.script_text.specs.Letters.{ChangesInLetters, GroupsInLetters, StreamsInLetters, WordsInLetters};
+ghost use Rattle.script_text.specs.Wordings.{LevelsInWords, ActsInWords, DurableWords, ChainsInWords, ChainsAreRead, ChainsAreRefused, AcknowledgementWords, SavingInWords, SavingWords, StopsInWords, StopWords, StopsAreRead, StopsAreRefused, WindowWords, LinksAreRead, LinksAreRefused, PullsAreRead, PullsAreRefused};
+ghost use Rattle.script_text.specs.Letters.{ChangesInLetters, ClientsInLetters, GroupsInLetters, StreamsInLetters, WordsInLetters};
 ghost use Rattle.script_text.specs.Printed.{CausesInLetters, LinesInLetters};
 ghost use Rattle.script_text.specs.declared.script.Said.TheVariants as said;
 ghost use Rattle.script_text.specs.declared.verb.Verb.{Verb};
@@ -116,6 +116,13 @@ pub fn windows_in_words()
     ensures refused { LinksAreRefused }
 {}
 
+/// Stream frames are asked for by `pull`, of a client's connection, and by `pump`, of a link. These lines
+/// say what they say by literal text, from one frame up to their limit, and nothing past it.
+pub fn pulls_in_words()
+    ensures read { PullsAreRead }
+    ensures refused { PullsAreRefused }
+{}
+
 /// Lists of groups that print the same text are the same.
 pub fn print_tells()
     ensures { (groups others : List Group) → All IsGroupRanged groups → All IsGroupRanged others
@@ -128,11 +135,12 @@ pub fn transcripts_in_letters()
     ensures lines { LinesInLetters }
 {}
 
-/// Lines of changes, of requests for streams, of logs and of answers to clients, and the words of roles,
-/// acts and ends, letter by letter.
+/// Lines of changes, of requests for streams, of logs and of answers to clients, lines of the streams of
+/// clients, and the words of roles, acts and ends, letter by letter.
 pub fn streams_in_letters()
     ensures changes { ChangesInLetters }
     ensures streams { StreamsInLetters }
+    ensures clients { ClientsInLetters }
     ensures words { WordsInLetters }
 {}
 

@@ -19,7 +19,7 @@ mod verb;
 pub use laws::{
     bytes_are_digits, chains_in_words, durable_writes_in_words, groups_in_letters,
     lines_are_spellings, lines_fit, lines_make_the_script, numbers_are_decimals, print_tells,
-    savings_in_words, script_or_bad_line, stops_in_words, streams_in_letters,
+    pulls_in_words, savings_in_words, script_or_bad_line, stops_in_words, streams_in_letters,
     transcripts_in_letters, windows_in_words, words_make_the_line,
 };
 pub use read_laws::{

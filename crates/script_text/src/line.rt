@@ -1,6 +1,6 @@
 //! Reads a script line.
 ghost use Rattle.std.specs.Prelude.{◌≡◌, ◌==◌, map, take, IfOk};
-ghost use Rattle.script_text.specs.Grammar.{hex_bytes_of, two_words, three_words, clock_line, client_line, hang_line, up_line, down_line, pump_line, fail_line, crash_line, stop_line, verb_of_vb, vbucket_words, kept_of, filled_of, start_line, branches_of, member_of, members_of, others_of, chain_line, chain_words, bytes_line, four_words, plain_of_four, vbucket_of_four, five_words, vb_line, is_link, linked, counted_verb, verb_of};
+ghost use Rattle.script_text.specs.Grammar.{hex_bytes_of, two_words, three_words, clock_line, client_line, hang_line, up_line, down_line, pump_line, fail_line, crash_line, stop_line, verb_of_vb, vbucket_words, kept_of, filled_of, start_line, branches_of, member_of, members_of, others_of, chain_line, chain_words, bytes_line, pull_line, four_words, plain_of_four, vbucket_of_four, five_words, vb_line, is_link, linked, counted_verb, verb_of};
 ghost use Rattle.{std.specs.Str.{bytes_eq}, script_text.specs.Lines.{words_of}};
 ghost use Rattle.script_text.specs.Numbers.{numbers_of};
 
@@ -233,6 +233,14 @@ fn bytes_verb(n: &[u8], c: &[u8], bytes: Option<Bytes>) -> Option<Verb>
     Some(Verb::AtClient { node, client, what })
 }
 
+fn pull_verb(n: &[u8], c: &[u8], k: &[u8]) -> Option<Verb>
+    ensures { result ≡ pull_line n.now c.now k.now }
+{
+    let (node, client, frames) = (node(n)?, connection(c)?, frames(k)?);
+    let what = ClientVerb::Pull { frames };
+    Some(Verb::AtClient { node, client, what })
+}
+
 /// What a line of four words says.
 fn verb_of_four(
     alloc: Global,
@@ -258,6 +266,8 @@ fn plain_verb_of_four(word: &[u8], a: &[u8], b: &[u8], c: &[u8]) -> Option<Verb>
         stop_verb(a, b, kept(c))
     } else if says(word, b"crash") {
         crash_verb(a, filled(b, c))
+    } else if says(word, b"pull") {
+        pull_verb(a, b, c)
     } else {
         vbucket_verb_of_four(word, a, b, c)
     }

@@ -81,10 +81,11 @@ impl fmt::Display for Named {
 
     ghost output = { λ n. Some (stream_text n.0) };
 
-    #[tactic(auto, unfolding(crate::specs::Transcript::link_text))]
+    #[tactic(auto, unfolding(crate::specs::Transcript::link_text, crate::specs::Transcript::client_text))]
     fn fmt<W: fmt::Write>(&self, f: &mut fmt::Formatter<W>) -> fmt::Result {
         match self.0 {
             StreamName::Link(link) => write!(f, "L{link}"),
+            StreamName::Client(node, client) => write!(f, "C{node}.{client}"),
         }
     }
 }

@@ -1,10 +1,10 @@
 //! The words of a transcript's line, each taken for what it would say. No word is refused here: the
 //! reader of a line spells what it took, and compares.
-ghost use Rattle.std.specs.Prelude.{◌≡◌, ◌==◌, ◌≤◌, IfOk, map};
+ghost use Rattle.std.specs.Prelude.{◌≡◌, ◌==◌, ◌≤◌, IfOk, map, position};
 ghost use Rattle.std.specs.List.{slice_split};
 ghost use Rattle.vb_types.specs.Limits.{key_of};
 ghost use Rattle.script_text.specs.Numbers.{number_of};
-ghost use Rattle.script_text.specs.Taken.{word_at, as_long, as_int, as_short, as_byte, as_link, as_stream, as_bytes, as_flag, as_role, as_level, as_sent, as_reason, as_why, as_cause, as_later_cause, as_entry, as_log, as_doc, as_prepare, as_commit, as_act, as_change, as_ask, as_verdict};
+ghost use Rattle.script_text.specs.Taken.{word_at, as_long, as_int, as_short, as_byte, as_link, as_client, as_stream, as_bytes, as_flag, as_role, as_level, as_sent, as_reason, as_why, as_cause, as_later_cause, as_entry, as_log, as_doc, as_prepare, as_commit, as_act, as_change, as_ask, as_verdict};
 
 use crate::line::{hex_bytes, says};
 use crate::numbers::number;
@@ -61,11 +61,31 @@ pub fn link(word: &[u8]) -> u32
     }
 }
 
+/// Where the first dot stands.
+fn dot(text: &[u8]) -> Option<usize>
+    ensures { result ≡ position (λ b. b == 46) text.now }
+{
+    text.iter().position(|b| *b == b'.')
+}
+
+/// A client's connection, behind its `C`: the node's number, a dot, and the connection's.
+fn client(text: &[u8]) -> StreamName
+    ensures { result ≡ as_client text.now }
+{
+    match dot(text) {
+        Some(at) => StreamName::Client(byte(&text[..at]), int(&text[at + 1..])),
+        None => StreamName::Client(0, 0),
+    }
+}
+
 /// A stream's connection.
 pub fn stream(word: &[u8]) -> StreamName
     ensures { result ≡ as_stream word.now }
 {
-    StreamName::Link(link(word))
+    match word {
+        [b'C', rest @ ..] => client(rest),
+        _ => StreamName::Link(link(word)),
+    }
 }
 
 /// Bytes in hexadecimal digits.

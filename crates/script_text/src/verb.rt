@@ -101,6 +101,8 @@ pub enum ClientVerb {
     Open,
     /// `bytes N C HEX`: the client sends these bytes, of which there is at least one.
     Bytes { bytes: Bytes },
+    /// `pull N C K`: asks for K frames of its streams.
+    Pull { frames: u32 },
     /// `hang N C`: the client closes it.
     Hang,
 }

@@ -183,6 +183,8 @@ pub enum Event {
 pub enum StreamName {
     /// The link of this number.
     Link(u32),
+    /// A client's: of this node, under this number there.
+    Client(u8, u32),
 }
 
 /// What a change that is sent does to its key.

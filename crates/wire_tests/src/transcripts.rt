@@ -1,10 +1,10 @@
-//! Printed lines that no script shows: ends of links that a sound node does not bring about, and the greatest
-//! number of a line.
+//! Printed lines that no script shows: ends of links that a sound node does not bring about, the greatest
+//! numbers of a line and of a client's connection, and other spellings of one.
 use bytes::BytesMut;
-use script_text::print;
-use std::alloc::Global;
+use script_text::{parse_transcript, print};
+use std::alloc::{AllocError, Global};
 use std::test::Fail;
-use vb_events::{Answer, EndReason, Event, Group};
+use vb_events::{Answer, EndReason, Event, Group, StreamName};
 use vb_types::Listed;
 
 /// The text of a group.
@@ -55,5 +55,66 @@ fn a_group_has_its_lines_in_order(rt: HostRuntime) -> Result<(), Fail> {
     let out = printed(rt.alloc(), &group)?;
     let text = b"#18446744073709551615\nclosed 0 9\nclosed 0 8\nok 191\n".as_slice();
     assert_eq!(rt; out.as_slice(), text);
+    Ok(())
+}
+
+/// A group in which a stream of the client's connection ends that has the greatest numbers.
+fn widest_client(alloc: Global) -> Result<Group, Fail> {
+    let stream = StreamName::Client(u8::MAX, u32::MAX);
+    let ended = Event::Finished { stream, reason: 5 };
+    Ok(Group {
+        line: 10,
+        events: Listed::one(alloc, ended)?,
+        answer: Answer::Ok,
+    })
+}
+
+const WIDEST_CLIENT: &[u8] = b"#10\nfin C255.4294967295 5\nok\n";
+
+#[test]
+fn the_widest_client_is_printed(rt: HostRuntime) -> Result<(), Fail> {
+    let group = widest_client(rt.alloc())?;
+    let out = printed(rt.alloc(), &group)?;
+    assert_eq!(rt; out.as_slice(), WIDEST_CLIENT);
+    Ok(())
+}
+
+/// The number of the first bad line of a transcript, if it has one.
+fn bad_line(alloc: Global, text: &[u8]) -> Result<Option<u64>, AllocError> {
+    Ok(parse_transcript(alloc, text)?.err().map(|bad| bad.line))
+}
+
+#[test]
+fn the_widest_client_is_read(rt: HostRuntime) -> Result<(), Fail> {
+    assert_eq!(rt; bad_line(rt.alloc(), WIDEST_CLIENT)?, None);
+    Ok(())
+}
+
+// Transcripts that break off at their second line.
+const OTHER_CLIENTS: [&[u8]; 9] = [
+    b"#10\nfin C00.1 5\nok\n",
+    b"#10\nfin C0.01 5\nok\n",
+    b"#10\nfin C0 5\nok\n",
+    b"#10\nfin C0.1.2 5\nok\n",
+    b"#10\nfin C.1 5\nok\n",
+    b"#10\nfin C0. 5\nok\n",
+    b"#10\nfin c0.1 5\nok\n",
+    b"#10\nfin C256.1 5\nok\n",
+    b"#10\nfin C0.4294967296 5\nok\n",
+];
+
+/// The place of the first of these transcripts that does not break off at its second line.
+fn first_read(alloc: Global, texts: &[&[u8]]) -> Result<Option<usize>, AllocError> {
+    for (at, text) in texts.iter().enumerate() {
+        if bad_line(alloc, *text)? != Some(2) {
+            return Ok(Some(at));
+        }
+    }
+    Ok(None)
+}
+
+#[test]
+fn other_spellings_of_a_client_are_bad(rt: HostRuntime) -> Result<(), Fail> {
+    assert_eq!(rt; first_read(rt.alloc(), &OTHER_CLIENTS)?, None);
     Ok(())
 }

@@ -1,4 +1,4 @@
-use Rattle.script_text.proofs.ReadRows.{read, breaks}
+use Rattle.script_text.proofs.ReadRows.{read, breaks, clients, clients_break}
 use Rattle.script_text.proofs.read_laws.read_in_letters.Goals as goal
 
 pub returns-clause-read : goal.returns-clause-read
@@ -6,3 +6,9 @@ returns-clause-read c = read
 
 pub returns-clause-breaks : goal.returns-clause-breaks
 returns-clause-breaks c = breaks
+
+pub returns-clause-clients : goal.returns-clause-clients
+returns-clause-clients c = clients
+
+pub returns-clause-clients_break : goal.returns-clause-clients_break
+returns-clause-clients_break c = clients_break
