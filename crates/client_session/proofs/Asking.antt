@@ -1,5 +1,5 @@
 -- which call a request makes
-use Rattle.std.proofs.Common.{◌≡◌, ◌<◌, ℕ, refl, sym, ap, subst, Some, None, Ok}
+use Rattle.std.proofs.Common.{◌<◌, ℕ, refl, sym, ap, subst, Some, None, Ok}
 use Rattle.std.specs.Prelude.{if◌then◌else◌, List}
 use Rattle.mcbp_frame.specs.declared.frame.Frame.{Frame}
 use Rattle.mcbp_kv.specs.declared.durable.Durability.{Durability}

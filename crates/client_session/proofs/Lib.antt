@@ -4,6 +4,9 @@ pub mod Keeping
 pub mod Chunks
 pub mod Taking
 pub mod Histories
+pub mod Own
 pub mod Rows
+pub mod Handing
 pub mod Outcomes
 pub mod Asking
+pub mod Numbers

@@ -31,10 +31,10 @@ use Rattle.vb_calls.specs.States.{States, call_at, stepped_at}
 use Rattle.client_session.specs.declared.session.Awaited.{Awaited}
 use Rattle.client_session.specs.declared.session.Settings.{Settings}
 use Rattle.client_session.specs.Answers.{status_reply, reply_line}
-use Rattle.client_session.specs.Serving.{PlainSession, Served, served, with_lines, with_bytes, with_used, refused, told, MOST_DURABLE, next_waiter, deadline_of, awaits, outcome_of, outcome_reply, outcome_answered, outcome_by, outcome_handled, answered_or_awaited, awaited_by, durable_replied, durable_called, request_handled, frame_handled, turns_handled, bytes_handled}
+use Rattle.client_session.specs.Serving.{PlainSession, Served, with_lines, with_bytes, with_used, refused, told, MOST_DURABLE, next_waiter, deadline_of, awaits, outcome_of, outcome_reply, outcome_answered, outcome_by, outcome_handled, answered_or_awaited, awaited_by, durable_replied, durable_called, request_handled, frame_answered, is_dcp, handed, frame_handled, turns_handled, bytes_handled}
 use Rattle.client_session.specs.Conduct.{IsClients, sent}
 use Rattle.client_session.proofs.Conduct.{either, lines_twice, durable_session}
-use Rattle.client_session.proofs.Rows.{status_told, asks_so, inactive, set_same}
+use Rattle.client_session.proofs.Rows.{status_told, asks_read, inactive, set_same}
 use Rattle.client_session.proofs.Keeping.{front_of, bytes_keep, outcome_keeps}
 use Rattle.client_session.proofs.Turns.{is_opened}
 use Rattle.client_session.specs.Rows.{Gets, GetsAtOnce, Settles, WaitsAs, NotMyVb, IsOutcome, IsNotServing}
@@ -97,7 +97,7 @@ durable_absent waiter f s = status_told f status.NotMyVbucket s
 
 pub durable_awaited : (waiter : ℕ) (f : Frame) (s : Served) (seq cas : ℕ) (resolved : List Resolved) (ended : List ℕ) (branch : ℕ) (changes : List Change) → outcome_of waiter resolved ≡ None
     → durable_replied waiter f s (Some (record { answer = answer.Prepared seq cas; resolved = resolved; ended = ended; branch = branch; changes = changes }))
-    ≡ served (record s.session { awaited = Some (record { waiter = waiter; opcode = f.opcode; opaque = f.opaque }) }) (s.events ++ map (event.Changed s.session.who.node f.vb_or_status branch) changes)
+    ≡ record s { session = record s.session { awaited = Some (record { waiter = waiter; opcode = f.opcode; opaque = f.opaque }) }; events = s.events ++ map (event.Changed s.session.who.node f.vb_or_status branch) changes }
 unfolding durable_replied
 durable_awaited waiter f s seq cas resolved ended branch changes none =
     ap (λ how. answered_or_awaited (awaited_by waiter f) how (with_lines s (map (event.Changed s.session.who.node f.vb_or_status branch) changes))) none
@@ -112,7 +112,7 @@ durable_at_once waiter f s seq cas how resolved ended branch changes none known 
       frame = reply_frame (outcome_reply s.session.settings (awaited_by waiter f) how);
       is = is_outcome s.session.settings (awaited_by waiter f) how;
       told = ap (λ o. answered_or_awaited (awaited_by waiter f) o (with_lines s lines)) known
-          ∙ (λ i. served (record s.session { awaited = sym none i }) (append_assoc s.events lines (sent s.session.who (reply_frame (outcome_reply s.session.settings (awaited_by waiter f) how)) ∷ []) i));
+          ∙ (λ i. record s { session = record s.session { awaited = sym none i }; events = append_assoc s.events lines (sent s.session.who (reply_frame (outcome_reply s.session.settings (awaited_by waiter f) how)) ∷ []) i });
     }
 
 -- ---- what is asked for a durable write
@@ -170,7 +170,7 @@ durable_not_served clock f write wish s states asks e room idle =
     let c : VbCall = call.Durable write clock wish.level (deadline_of clock wish.timeout) (next_waiter s.session) in
     let both = durable_refuses (next_waiter s.session) f (with_used s) states c clock (states f.vb_or_status) refl refl idle in
     subst (λ p. NotMyVb f (with_used s) states (after p states))
-    (sym (asks_so clock f s (Ok (request.Write write (Some wish))) asks e
+    (sym (asks_read clock f s (request.Write write (Some wish)) asks e
     ∙ ap (λ b. if b then Done (refused f status.Etmpfail s) else durable_called f c s) (room_at s.session.used room)))
     (record { answered = both.answered; unchanged = both.unchanged })
 
@@ -195,8 +195,8 @@ request_used n clock f (Ok (request.Write write (Some wish))) s h =
 frame_used : (n clock : ℕ) (f : Frame) (s : Served) → n ≤ s.session.used → Always AnyCall (Used n) (frame_handled clock f s)
 unfolding frame_handled Used
 frame_used n clock f s h =
-    either (Always AnyCall (Used n)) (f.magic == RESPONSE) (Done s) (request_handled clock f (request_of s.session.settings.json f) s) h
-    (request_used n clock f (request_of s.session.settings.json f) s h)
+    either (Always AnyCall (Used n)) (f.magic == RESPONSE) (Done s) (if is_dcp f.opcode then Done (handed f s) else frame_answered clock f s) h
+    (either (Always AnyCall (Used n)) (is_dcp f.opcode) (Done (handed f s)) (frame_answered clock f s) h (request_used n clock f (request_of s.session.settings.json f) s h))
 
 pub bytes_rise : (clock : ℕ) (piece : List ℕ) (s : Served) → Always AnyCall (λ t. s.session.used ≤ t.session.used) (bytes_handled clock piece s)
 unfolding Used

@@ -37,9 +37,10 @@ use Rattle.vb_calls.specs.States.{States, call_at, stepped_at}
 use Rattle.vb_calls.specs.Durable.{Wish, durable_outcome}
 use Rattle.vb_calls.specs.Writes.{key_refusal, lacks_seqnos, store_outcome, new_cas}
 use Rattle.client_session.specs.Answers.{status_reply, value_reply, found_reply, stored_reply, reply_line}
-use Rattle.client_session.specs.Serving.{PlainSession, Served, with_used, refused, greeted, told, MOST_DURABLE, next_waiter, deadline_of, durable_called, request_handled, frame_handled}
+use Rattle.client_session.specs.Serving.{PlainSession, Served, with_used, refused, greeted, told, MOST_DURABLE, next_waiter, deadline_of, durable_called, request_handled, frame_answered, is_dcp, handed, frame_handled}
 use Rattle.client_session.specs.Conduct.{IsClients}
 use Rattle.client_session.proofs.Conduct.{either, durable_session}
+use Rattle.client_session.proofs.Own.{read_own}
 use Rattle.client_session.specs.Rows.{Gets, GetsAtOnce, NotMyVb, Greets, IsNoGreeting, IsForDocument, IsNotServing, seqno_part}
 
 -- ---- a vBucket's replies
@@ -97,17 +98,25 @@ pub absent_told : (f : Frame) (s : Served) → Gets (λ g. IsBare g f.opcode 0x0
 unfolding told
 absent_told f s = status_told f status.NotMyVbucket s
 
--- a frame that asks is served by what is read of it
-pub asks_so : (clock : ℕ) (f : Frame) (s : Served) (r : Result KvRequest Status) → f.magic ≢ RESPONSE → request_of s.session.settings.json f ≡ r → frame_handled clock f s ≡ request_handled clock f r s
+pub not_response : (f : Frame) → f.magic ≢ RESPONSE → (f.magic == RESPONSE) ≡ false
+not_response f asks = false_from_ne_true (f.magic == RESPONSE) (λ t. asks (eqb-true f.magic RESPONSE t))
+
+-- a frame that asks, and is none of DCP's, is served by what is read of it
+pub asks_so : (clock : ℕ) (f : Frame) (s : Served) (r : Result KvRequest Status) → f.magic ≢ RESPONSE → is_dcp f.opcode ≡ false → request_of s.session.settings.json f ≡ r
+    → frame_handled clock f s ≡ request_handled clock f r s
 unfolding frame_handled
-asks_so clock f s r asks e =
-    ap (λ b. if b then Done s else request_handled clock f (request_of s.session.settings.json f) s) (false_from_ne_true (f.magic == RESPONSE) (λ t. asks (eqb-true f.magic RESPONSE t)))
+asks_so clock f s r asks own e =
+    (λ i. if not_response f asks i then Done s else if own i then Done (handed f s) else frame_answered clock f s)
     ∙ ap (λ q. request_handled clock f q s) e
 
-pub refused_at_once : (clock : ℕ) (f : Frame) (st : Status) (s : Served) → f.magic ≢ RESPONSE → request_of s.session.settings.json f ≡ Err st
+-- and what is read as a command is none of DCP's
+pub asks_read : (clock : ℕ) (f : Frame) (s : Served) (r : KvRequest) → f.magic ≢ RESPONSE → request_of s.session.settings.json f ≡ Ok r → frame_handled clock f s ≡ request_handled clock f (Ok r) s
+asks_read clock f s r asks e = asks_so clock f s (Ok r) asks (read_own s.session.settings.json f r e) e
+
+pub refused_at_once : (clock : ℕ) (f : Frame) (st : Status) (s : Served) → f.magic ≢ RESPONSE → is_dcp f.opcode ≡ false → request_of s.session.settings.json f ≡ Err st
     → GetsAtOnce (λ g. IsBare g f.opcode (status_code st) f.opaque) s (frame_handled clock f s)
 unfolding request_handled
-refused_at_once clock f st s asks e = (refused f st s, asks_so clock f s (Err st) asks e, status_told f st s)
+refused_at_once clock f st s asks own e = (refused f st s, asks_so clock f s (Err st) asks own e, status_told f st s)
 
 known : (f : Frame) → (f.magic ≡ REQUEST) ⊎ (f.magic ≡ FRAMED_REQUEST) → f.magic ≢ RESPONSE
 known f (inl e) response = omega arith
@@ -117,7 +126,7 @@ pub noop_at_once : (clock : ℕ) (f : Frame) (s : Served) → IsNoop s.session.s
 unfolding request_handled
 noop_at_once clock f s noop = (
   refused f status.Success s,
-  asks_so clock f s (Ok request.Noop) (known f noop.header.magic) (spelled_is_read s.session.settings.json f request.Noop noop),
+  asks_read clock f s request.Noop (known f noop.header.magic) (spelled_is_read s.session.settings.json f request.Noop noop),
   subst (λ code. Gets (λ g. IsBare g code 0 f.opaque) [] s (refused f status.Success s)) noop.header.opcode (status_told f status.Success s),
 )
 
@@ -168,7 +177,7 @@ request_refused clock f other s states doc idle = absurd doc
 pub not_served : (clock : ℕ) (f : Frame) (r : KvRequest) (s : Served) (states : States) → f.magic ≢ RESPONSE → request_of s.session.settings.json f ≡ Ok r → IsForDocument r
     → IsNotServing (states f.vb_or_status) → NotMyVb f s states (after (frame_handled clock f s) states)
 not_served clock f r s states asks e doc idle =
-    subst (λ p. NotMyVb f s states (after p states)) (sym (asks_so clock f s (Ok r) asks e)) (request_refused clock f r s states doc idle)
+    subst (λ p. NotMyVb f s states (after p states)) (sym (asks_read clock f s r asks e)) (request_refused clock f r s states doc idle)
 
 -- ---- HELLO
 
@@ -199,7 +208,7 @@ unfolding request_handled
 hello_greets clock f features s hello =
     let those : AreThose hello.codes features = subst (AreThose hello.codes) (sym (hello.accepts ∙ ap accepted hello.value)) (accepts_those hello.codes hello.numbers) in (
       greeted f features s,
-      asks_so clock f s (Ok (request.Hello features)) (known f hello.header.magic) (spelled_is_read s.session.settings.json f (request.Hello features) hello),
+      asks_read clock f s (request.Hello features) (known f hello.header.magic) (spelled_is_read s.session.settings.json f (request.Hello features) hello),
       greets hello.codes f features s hello.header.opcode those,
     )
 

@@ -1,6 +1,6 @@
 -- the frames of the kept bytes, one a turn
 use Rattle.std.proofs.Common.{◌≡◌, ◌<◌, ◌≤◌, ℕ, zero, suc, ◌+◌, Bool, true, false, List, ◌++◌, length, drop, arith, refl, sym, ap, ◌∙◌, subst, Option, Some, None, Result, Ok, Err}
-use Rattle.std.specs.Prelude.{OnErr, if◌then◌else◌}
+use Rattle.std.specs.Prelude.{OnErr, ◌||◌, if◌then◌else◌, is_some}
 use Rattle.std.proofs.lemmas.List.{length-drop}
 use Rattle.mcbp_frame.specs.Cutting.{frame_in}
 use Rattle.mcbp_frame.specs.Frames.{first_frame, frame_len}
@@ -13,7 +13,7 @@ use Rattle.vb_calls.specs.Programs.{Prog, Done, Call, bind, Turn, More, Stop, go
 use Rattle.vb_calls.proofs.Binds.{bind_done, bind_assoc, bind_same}
 use Rattle.vb_calls.proofs.Conduct.{always_bind, always_so}
 use Rattle.vb_calls.proofs.Runs.{began_bind, began_none, repeated_next, repeated_began, repeated_ended}
-use Rattle.client_session.specs.Serving.{Served, frame_handled, ended_at, bytes_handled, with_bytes, is_waiting, turn_by, turn_handled, come_to, turns_handled}
+use Rattle.client_session.specs.Serving.{Served, frame_handled, ended_at, bytes_handled, with_bytes, is_waiting, is_held, turn_by, turn_handled, come_to, turns_handled}
 use Rattle.client_session.proofs.Conduct.{Stays, frame_stays}
 
 -- ---- turns, the first one first
@@ -43,7 +43,7 @@ first_turn {A = A} {R = R} f (suc n) a =
 
 -- ---- the bytes behind a frame are fewer
 
-behind_fewer : (bytes : List ℕ) (f : Frame) → first_frame bytes ≡ Some (Ok f) → length (drop (frame_len f) bytes) < length bytes
+pub behind_fewer : (bytes : List ℕ) (f : Frame) → first_frame bytes ≡ Some (Ok f) → length (drop (frame_len f) bytes) < length bytes
 behind_fewer bytes f e = omega (arith, length-drop (frame_len f) bytes, front_within bytes f (ap frame_in e))
 
 -- a turn that goes on leaves fewer bytes
@@ -61,19 +61,19 @@ turn_fewer_by clock s (Some (Ok f)) e =
     (λ t stays. subst (λ r. length r < length s.session.reader) (sym stays.reader) (behind_fewer s.session.reader f e))
 
 -- what holds of every answer of a program holds of the one that it came to
-ran_always : {W A : Type 0} (step : W → ℕ → VbCall → Option VbReply → W → Type 0) (answers : A → Type 0) (prog : Prog A) (old : W) (a : A) (new : W)
+pub ran_always : {W A : Type 0} (step : W → ℕ → VbCall → Option VbReply → W → Type 0) (answers : A → Type 0) (prog : Prog A) (old : W) (a : A) (new : W)
     → Always AnyCall answers prog → Ran step prog old a new → answers a
 ran_always step answers (Done x) old a new always ran = subst answers (sym ran.0) always
 ran_always step answers (Call v call next) old a new always ran = ran_always step answers (next ran.0) ran.1 a new (always.1 ran.0 tt) ran.3
 
-turn_fewer_if : (clock : ℕ) (s : Served) (waiting : Bool) → Always AnyCall (Fewer s) (if waiting then Done (Stop s) else turn_by clock s (first_frame s.session.reader))
+turn_fewer_if : (clock : ℕ) (s : Served) (held : Bool) → Always AnyCall (Fewer s) (if held then Done (Stop s) else turn_by clock s (first_frame s.session.reader))
 unfolding Fewer
 turn_fewer_if clock s true = tt
 turn_fewer_if clock s false = turn_fewer_by clock s (first_frame s.session.reader) refl
 
 turn_leaves : (clock : ℕ) (s : Served) → Always AnyCall (Fewer s) (turn_handled clock s)
 unfolding turn_handled
-turn_leaves clock s = turn_fewer_if clock s (is_waiting s.session)
+turn_leaves clock s = turn_fewer_if clock s (is_held s)
 
 pub turn_fewer : {W : Type 0} (step : W → ℕ → VbCall → Option VbReply → W → Type 0) (clock : ℕ) (s : Served) (old : W) (t : Served) (new : W)
     → Ran step (turn_handled clock s) old (More t) new → length t.session.reader < length s.session.reader
@@ -122,57 +122,75 @@ first_of_turns clock s =
     by (More u) fewer = same_turns clock (length s.session.reader) (suc (length u.session.reader)) u fewer (omega arith)
     by (Stop u) fewer = refl
 
+-- ---- what holds a connection
+
+-- an outcome that is awaited
+pub waiting_holds : (s : Served) → is_waiting s.session ≡ true → is_held s ≡ true
+waiting_holds s w = by s.dcp
+  where
+    by : (d : Option Frame) → (is_some d || is_waiting s.session) ≡ true
+    by None = w
+    by (Some f) = refl
+
+-- a frame that was handed up
+pub handed_holds : (s : Served) (f : Frame) → s.dcp ≡ Some f → is_held s ≡ true
+handed_holds s f e = ap (λ d. is_some d || is_waiting s.session) e
+
+-- and nothing else
+pub not_held : (s : Served) → s.session.awaited ≡ None → s.dcp ≡ None → is_held s ≡ false
+not_held s a d = λ i. is_some (d i) || is_some (a i)
+
 -- ---- what turns do, by what the kept bytes begin with
 
-turns_if : (clock : ℕ) (s : Served) (waiting : Bool) → is_waiting s.session ≡ waiting
-    → turns_handled clock s ≡ bind (if waiting then Done (Stop s) else turn_by clock s (first_frame s.session.reader)) (onward (turns_handled clock))
+turns_if : (clock : ℕ) (s : Served) (held : Bool) → is_held s ≡ held
+    → turns_handled clock s ≡ bind (if held then Done (Stop s) else turn_by clock s (first_frame s.session.reader)) (onward (turns_handled clock))
 unfolding turn_handled
-turns_if clock s waiting e =
+turns_if clock s held e =
     first_of_turns clock s ∙ ap (λ b. bind (if b then Done (Stop s) else turn_by clock s (first_frame s.session.reader)) (onward (turns_handled clock))) e
 
-turns_by_first : (clock : ℕ) (s : Served) (first : Option (Result Frame FrameFault)) → is_waiting s.session ≡ false → first_frame s.session.reader ≡ first
+turns_by_first : (clock : ℕ) (s : Served) (first : Option (Result Frame FrameFault)) → is_held s ≡ false → first_frame s.session.reader ≡ first
     → turns_handled clock s ≡ bind (turn_by clock s first) (onward (turns_handled clock))
 turns_by_first clock s first e f = turns_if clock s false e ∙ ap (λ x. bind (turn_by clock s x) (onward (turns_handled clock))) f
 
--- while an outcome is awaited no turn does anything
-pub turns_waiting : (clock : ℕ) (s : Served) → is_waiting s.session ≡ true → turns_handled clock s ≡ Done s
+-- while the connection is held no turn does anything
+pub turns_waiting : (clock : ℕ) (s : Served) → is_held s ≡ true → turns_handled clock s ≡ Done s
 unfolding onward
 turns_waiting clock s e = turns_if clock s true e
 
 -- nor with less than a frame
-pub turns_none : (clock : ℕ) (s : Served) → is_waiting s.session ≡ false → first_frame s.session.reader ≡ None → turns_handled clock s ≡ Done s
+pub turns_none : (clock : ℕ) (s : Served) → is_held s ≡ false → first_frame s.session.reader ≡ None → turns_handled clock s ≡ Done s
 unfolding onward
 turns_none clock s e f = turns_by_first clock s None e f
 
-pub turns_fault : (clock : ℕ) (s : Served) (fault : FrameFault) → is_waiting s.session ≡ false → first_frame s.session.reader ≡ Some (Err fault)
+pub turns_fault : (clock : ℕ) (s : Served) (fault : FrameFault) → is_held s ≡ false → first_frame s.session.reader ≡ Some (Err fault)
     → turns_handled clock s ≡ Done (ended_at (Some fault) s)
 unfolding onward
 turns_fault clock s fault e f = turns_by_first clock s (Some (Err fault)) e f
 
-pub turns_frame : (clock : ℕ) (s : Served) (f : Frame) → is_waiting s.session ≡ false → first_frame s.session.reader ≡ Some (Ok f)
+pub turns_frame : (clock : ℕ) (s : Served) (f : Frame) → is_held s ≡ false → first_frame s.session.reader ≡ Some (Ok f)
     → turns_handled clock s ≡ bind (frame_handled clock f (with_bytes (drop (frame_len f) s.session.reader) s)) (turns_handled clock)
 unfolding onward
 turns_frame clock s f e first =
     turns_by_first clock s (Some (Ok f)) e first
     ∙ bind_assoc (frame_handled clock f (with_bytes (drop (frame_len f) s.session.reader) s)) (λ t. Done (More t)) (onward (turns_handled clock))
 
--- what holds of a connection that waits, or has less than a frame, or a fault, and of one that has a frame if it holds behind it
+-- what holds of a connection that is held, or has less than a frame, or a fault, and of one that has a frame if it holds behind it
 pub by_turns : (P : Served → Type 0)
-    → ((s : Served) → is_waiting s.session ≡ true → P s)
-    → ((s : Served) → is_waiting s.session ≡ false → first_frame s.session.reader ≡ None → P s)
-    → ((s : Served) (fault : FrameFault) → is_waiting s.session ≡ false → first_frame s.session.reader ≡ Some (Err fault) → P s)
-    → ((s : Served) (f : Frame) → is_waiting s.session ≡ false → first_frame s.session.reader ≡ Some (Ok f) → ((t : Served) → t.session.reader ≡ drop (frame_len f) s.session.reader → P t) → P s)
+    → ((s : Served) → is_held s ≡ true → P s)
+    → ((s : Served) → is_held s ≡ false → first_frame s.session.reader ≡ None → P s)
+    → ((s : Served) (fault : FrameFault) → is_held s ≡ false → first_frame s.session.reader ≡ Some (Err fault) → P s)
+    → ((s : Served) (f : Frame) → is_held s ≡ false → first_frame s.session.reader ≡ Some (Ok f) → ((t : Served) → t.session.reader ≡ drop (frame_len f) s.session.reader → P t) → P s)
     → (s : Served) → P s
-by_turns P waiting none faulty framed s = so (suc (length s.session.reader)) s (is_waiting s.session) (first_frame s.session.reader) (omega arith) refl refl
+by_turns P held none faulty framed s = so (suc (length s.session.reader)) s (is_held s) (first_frame s.session.reader) (omega arith) refl refl
   where
-    so : (n : ℕ) (t : Served) (w : Bool) (first : Option (Result Frame FrameFault)) → length t.session.reader < n → is_waiting t.session ≡ w → first_frame t.session.reader ≡ first → P t
+    so : (n : ℕ) (t : Served) (w : Bool) (first : Option (Result Frame FrameFault)) → length t.session.reader < n → is_held t ≡ w → first_frame t.session.reader ≡ first → P t
     so zero t w first below e f = absurd (omega (arith, below))
-    so (suc n) t true first below e f = waiting t e
+    so (suc n) t true first below e f = held t e
     so (suc n) t false None below e f = none t e f
     so (suc n) t false (Some (Err fault)) below e f = faulty t fault e f
     so (suc n) t false (Some (Ok g)) below e f =
         framed t g e f
-        (λ u r. so n u (is_waiting u.session) (first_frame u.session.reader) (omega (arith, ap length r, behind_fewer t.session.reader g f, below)) refl refl)
+        (λ u r. so n u (is_held u) (first_frame u.session.reader) (omega (arith, ap length r, behind_fewer t.session.reader g f, below)) refl refl)
 
 -- ---- bytes
 

@@ -3,3 +3,4 @@ pub mod Serving
 pub mod Conduct
 pub mod Rows
 pub mod Asking
+pub mod Numbers

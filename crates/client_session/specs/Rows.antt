@@ -18,7 +18,7 @@ use Rattle.vb_calls.specs.State.{is_active}
 use Rattle.vb_calls.specs.States.{States}
 use Rattle.client_session.specs.declared.session.Settings.{Settings}
 use Rattle.client_session.specs.Conduct.{sent}
-use Rattle.client_session.specs.Serving.{Served, served, with_lines, bytes_handled}
+use Rattle.client_session.specs.Serving.{Served, with_lines, bytes_handled}
 
 -- nothing changes but that these lines of changes come, and then the line of an answer of this kind
 pub record Gets (Is : Frame → Type 0) (changes : List Event) (old new : Served) : Type 0 where
@@ -74,7 +74,7 @@ pub record Settles (Is : Frame → Type 0) (clock : ℕ) (old : Served) (prog : 
   pub is : Is frame
   pub told : prog
       ≡ bytes_handled clock old.session.reader
-      (served (record old.session { awaited = None; reader = [] }) (old.events ++ sent old.session.who frame ∷ []))
+      (record old { session = record old.session { awaited = None; reader = [] }; events = old.events ++ sent old.session.who frame ∷ [] })
 
 -- a durable write whose outcome this waiter waits for, and which is given up at this number of the clock
 abbrev pub WaitsAs : ℕ → ℕ → VbCall → Type 0

@@ -1,6 +1,7 @@
 -- what a client's connection does with the bytes that come, as programs over its node's vBuckets
-use Rattle.std.specs.Prelude.{ℕ, suc, ◌+◌, ◌-◌, ◌*◌, ◌^◌, ◌==◌, nat_le, min, Bool, true, false, if◌then◌else◌, List, [], ◌∷◌, ◌++◌, length, drop, map, Option, Some, None, is_some, option_map, Result, Ok, Err}
-use Rattle.std.specs.List.{find}
+use Rattle.std.specs.Prelude.{ℕ, suc, ◌+◌, ◌-◌, ◌*◌, ◌^◌, ◌==◌, ◌||◌, nat_le, min, Bool, true, false, if◌then◌else◌, List, [], ◌∷◌, ◌++◌, length, drop, map, Option, Some, None, is_some, option_map, Result, Ok, Err}
+use Rattle.std.specs.List.{find, list_any}
+use Rattle.mcbp_dcp.specs.Rows.{dcp_opcodes}
 use Rattle.mcbp_frame.specs.Frames.{faulty_head, first_frame, frame_len}
 use Rattle.mcbp_frame.specs.declared.frame.Frame.{Frame}
 use Rattle.mcbp_frame.specs.declared.frame.FrameFault.{FrameFault}
@@ -47,14 +48,15 @@ pub record KeptSession : Type 0 where
   pub plain : PlainSession
   pub spent : Bool
 
--- a connection in a call, and the lines that tell what happened
+-- a connection in a call, the lines that tell what happened, and the request of DCP that it handed up, if it did: no frame is served before its node answered that
 pub record Served : Type 0 where
   pub session : PlainSession
   pub events : List Event
+  pub dcp : Option Frame
 
--- a connection, and these lines
+-- a connection that handed nothing up, and these lines
 abbrev pub served : PlainSession → List Event → Served
-served session events = record { session = session; events = events }
+served session events = record { session = session; events = events; dcp = None }
 
 -- nothing was asked for by HELLO
 abbrev pub no_settings : Settings
@@ -66,7 +68,7 @@ new_session who = record { who = who; reader = []; settings = no_settings; close
 
 -- with more lines
 abbrev pub with_lines : Served → List Event → Served
-with_lines s lines = record { session = s.session; events = s.events ++ lines }
+with_lines s lines = record s { events = s.events ++ lines }
 
 -- a request is answered with a status alone
 abbrev pub refused : Frame → Status → Served → Served
@@ -78,7 +80,7 @@ settings_of features = record { json = has_feature feature.Json features; seqnos
 
 -- HELLO answers the features that it accepts
 abbrev pub greeted : Frame → List Feature → Served → Served
-greeted f features s = record {
+greeted f features s = record s {
   session = record s.session { settings = settings_of features };
   events = s.events ++ reply_line s.session.who.node s.session.who.client (value_reply f (feature_bytes features)) ∷ [];
 }
@@ -101,7 +103,7 @@ deadline_of clock timeout = min (clock + timeout * 1000000) (2 ^ 64 - 1)
 
 -- the connection asked for one more durable write
 abbrev pub with_used : Served → Served
-with_used s = record { session = record s.session { used = s.session.used + 1 }; events = s.events }
+with_used s = record s { session = record s.session { used = s.session.used + 1 } }
 
 -- the answer to a durable write, by what became of it
 abbrev pub outcome_reply : Settings → Awaited → Resolution → KvReply
@@ -110,7 +112,7 @@ outcome_reply settings a resolution.Ambiguous = bare_answer a.opcode status.Sync
 
 -- a durable write is answered, and awaited no more
 abbrev pub outcome_answered : Awaited → Resolution → Served → Served
-outcome_answered a how s = record {
+outcome_answered a how s = record s {
   session = record s.session { awaited = None };
   events = s.events ++ reply_line s.session.who.node s.session.who.client (outcome_reply s.session.settings a how) ∷ [];
 }
@@ -122,7 +124,7 @@ outcome_of waiter resolved = option_map (λ r. r.how) (find (λ r. r.waiter == w
 -- a durable write was prepared: its outcome is told at once where it is known, and awaited elsewhere
 abbrev pub answered_or_awaited : Awaited → Option Resolution → Served → Served
 answered_or_awaited a (Some how) s = outcome_answered a how s
-answered_or_awaited a None s = record { session = record s.session { awaited = Some a }; events = s.events }
+answered_or_awaited a None s = record s { session = record s.session { awaited = Some a } }
 
 -- who waits for a frame's durable write
 abbrev pub awaited_by : ℕ → Frame → Awaited
@@ -164,13 +166,28 @@ request_handled clock f (Ok (request.Get key)) s = asked f (call.Get key) s
 request_handled clock f (Ok (request.Write write None)) s = asked f (call.Store write clock) s
 request_handled clock f (Ok (request.Write write (Some wish))) s = durable_requested clock f write wish s
 
--- a request is answered; a response, which answers nothing that was waited for, is dropped
+-- a request is answered by what is read of it
+abbrev pub frame_answered : ℕ → Frame → Served → Prog Served
+frame_answered clock f s = request_handled clock f (request_of s.session.settings.json f) s
+
+-- an opcode that DCP has
+abbrev pub is_dcp : ℕ → Bool
+is_dcp opcode = list_any (λ o. o == opcode) dcp_opcodes
+
+-- a request of DCP is handed up
+abbrev pub handed : Frame → Served → Served
+handed f s = record s { dcp = Some f }
+
+-- a request is answered, or handed up where it is DCP's; a response, which answers nothing that was waited for, is dropped
 unfoldable pub frame_handled : ℕ → Frame → Served → Prog Served
-frame_handled clock f s = if f.magic == RESPONSE then Done s else request_handled clock f (request_of s.session.settings.json f) s
+frame_handled clock f s =
+    if f.magic == RESPONSE then Done s
+    else if is_dcp f.opcode then Done (handed f s)
+    else frame_answered clock f s
 
 -- a closed session keeps no bytes
 abbrev pub closed_with : Served → List Event → Served
-closed_with s lines = record { session = record s.session { reader = []; closed = true }; events = s.events ++ lines }
+closed_with s lines = record s { session = record s.session { reader = []; closed = true }; events = s.events ++ lines }
 
 -- a frame that breaks the rules of its header ends the session
 abbrev pub ended_at : Option FrameFault → Served → Served
@@ -179,7 +196,7 @@ ended_at (Some fault) s = closed_with s (fault_lines s.session.who.node s.sessio
 
 -- the same connection, with these bytes kept
 abbrev pub with_bytes : List ℕ → Served → Served
-with_bytes bytes s = record { session = record s.session { reader = bytes }; events = s.events }
+with_bytes bytes s = record s { session = record s.session { reader = bytes } }
 
 -- whether the turns go on
 abbrev pub turn : Bool → Served → Turn Served Served
@@ -189,26 +206,30 @@ turn more s = if more then More s else Stop s
 abbrev pub is_waiting : PlainSession → Bool
 is_waiting session = is_some session.awaited
 
+-- a frame that was handed up is not answered yet, or an outcome is awaited: no frame is served
+abbrev pub is_held : Served → Bool
+is_held s = is_some s.dcp || is_waiting s.session
+
 -- one turn, by what the kept bytes begin with: a frame is cut off and served; a fault ends the session
 abbrev pub turn_by : ℕ → Served → Option (Result Frame FrameFault) → Prog (Turn Served Served)
 turn_by clock s None = Done (Stop s)
 turn_by clock s (Some (Err fault)) = Done (Stop (ended_at (Some fault) s))
 turn_by clock s (Some (Ok f)) = bind (frame_handled clock f (with_bytes (drop (frame_len f) s.session.reader) s)) (λ t. Done (More t))
 
--- one frame of the kept bytes; none while an outcome is awaited
+-- one frame of the kept bytes; none while the connection is held
 unfoldable pub turn_handled : ℕ → Served → Prog (Turn Served Served)
-turn_handled clock s = if is_waiting s.session then Done (Stop s) else turn_by clock s (first_frame s.session.reader)
+turn_handled clock s = if is_held s then Done (Stop s) else turn_by clock s (first_frame s.session.reader)
 
 -- where the turns came to
 abbrev pub come_to : Turn Served Served → Prog Served
 come_to (More s) = Done s
 come_to (Stop s) = Done s
 
--- turn after turn, one frame each, until an outcome is awaited, less than a frame is left, or a fault; a turn takes a byte at least
+-- turn after turn, one frame each, until a frame is handed up, an outcome is awaited, less than a frame is left, or a fault; a turn takes a byte at least
 unfoldable pub turns_handled : ℕ → Served → Prog Served
 turns_handled clock s = bind (repeated (suc (length s.session.reader)) (turn_handled clock) s) come_to
 
--- the next bytes from the client: the frames that are whole now are served, in order, up to one whose outcome is awaited, and a fault behind them ends the session; a closed one serves nothing any more
+-- the next bytes from the client: the frames that are whole now are served, in order, up to one that is handed up or whose outcome is awaited, and a fault behind them ends the session; a closed one serves nothing any more
 unfoldable pub bytes_handled : ℕ → List ℕ → Served → Prog Served
 bytes_handled clock piece s =
     if s.session.closed then Done s else turns_handled clock (with_bytes (s.session.reader ++ piece) s)

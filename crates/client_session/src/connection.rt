@@ -2,8 +2,8 @@
 ghost use Rattle.std.specs.Prelude.{◌≡◌, [], OnOk, OnErr};
 ghost use Rattle.{client_session.specs.Serving.{served, bytes_handled, outcome_handled}, vb_calls.specs.Programs.{Ran, Began}};
 
-use crate::{Alloc, Awaited, Settings, Who};
-use mcbp_frame::FrameReader;
+use crate::{Alloc, Awaited, SessionStep, Settings, Who};
+use mcbp_frame::{Frame, FrameReader};
 use std::alloc::Global;
 use std::marker::Model;
 use vb_calls::{Resolved, VbAccess};
@@ -11,8 +11,8 @@ use vb_events::Event;
 use vb_types::Listed;
 
 /// A connection: the bytes that came and were not served yet, what HELLO set, whether it is closed,
-/// how many durable writes it asked for, the one whose outcome it awaits, and the lines that tell
-/// what happened in this call.
+/// how many durable writes it asked for, the one whose outcome it awaits, the lines that tell what
+/// happened in this call, and the request of DCP that it handed up, if it did.
 #[derive(Drop)]
 pub struct Connection {
     pub alloc: Global,
@@ -23,6 +23,7 @@ pub struct Connection {
     pub used: u32,
     pub awaited: Option<Awaited>,
     pub events: Listed<Event>,
+    pub dcp: Option<Frame>,
 }
 
 impl Model for Connection {
@@ -33,21 +34,28 @@ impl Model for Connection {
     ghost view = { λ c. record {
       session = record { who = c.who; reader = c.reader; settings = c.settings; closed = c.closed; used = c.used; awaited = c.awaited };
       events = c.events;
+      dcp = c.dcp;
     } };
 }
 
 impl Connection {
-    /// Takes the lines of this call out.
-    pub fn take_events(&mut self) -> Listed<Event>
-        ensures events { result ≡ self.old.events }
+    /// Takes out what this call did.
+    pub fn take_step(&mut self) -> SessionStep
+        ensures events { result.events ≡ self.old.events }
+        ensures dcp { result.dcp ≡ self.old.dcp }
+        ensures closed { result.closed ≡ self.old.session.closed }
         ensures none { self.new ≡ served self.old.session [] }
     {
         let none = Listed::new(self.alloc);
-        std::mem::replace(&mut self.events, none)
+        SessionStep {
+            events: std::mem::replace(&mut self.events, none),
+            dcp: self.dcp.take(),
+            closed: self.closed,
+        }
     }
 
     /// Takes the next bytes from the client: serves the frames that are whole now, one a turn, up to
-    /// one whose outcome is awaited.
+    /// one that is handed up or whose outcome is awaited.
     #[tactic(auto, using(crate::proofs::Turns::taken))]
     pub fn take<A: VbAccess>(&mut self, vbs: &mut A, clock: u64, piece: &[u8]) -> Alloc<()>
         ensures ok { OnOk result (Ran A.step (bytes_handled clock piece.now self.old) vbs.old self.new vbs.new) }

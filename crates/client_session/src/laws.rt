@@ -1,8 +1,8 @@
 //! What a client's connection does, each law as the contract of a function; nothing here runs.
 ghost use Rattle.std.specs.Prelude.{◌≡◌, ◌≢◌, ◌<◌, ◌≤◌, ◌+◌, ◌-◌, ◌*◌, ◌^◌, ◌++◌, ◌∷◌, [], ℕ, Bool, true, false, List, map, Option, None, Some, Result, IsTrue, IsFalse};
-ghost use Rattle.{std.specs.Int.{w64, to_be_bytes}, std.specs.List.{concat, flat_map}, client_session.specs.Conduct.{IsClients, IsAnyClients, Took, Waits, Came, came_handled, bytes_of}};
+ghost use Rattle.{std.specs.Int.{w64, to_be_bytes}, std.specs.List.{concat, flat_map}, client_session.specs.Conduct.{IsClients, IsAnyClients, Answered, Replied, Took, Waits, Came, Passed, came_handled, bytes_of}};
 ghost use Rattle.client_session.specs.Rows.{Gets, GetsAtOnce, IsOutcome, Settles, WaitsAs, Greets, IsNoGreeting, IsForDocument, IsNotServing, NotMyVb, seqno_part};
-ghost use Rattle.client_session.specs.Serving.{PlainSession, Served, served, new_session, is_waiting, awaits, told, outcome_of, durable_replied, with_used, next_waiter, deadline_of};
+ghost use Rattle.client_session.specs.Serving.{PlainSession, Served, served, new_session, is_dcp, is_held, is_waiting, awaits, told, outcome_of, durable_replied, with_used, next_waiter, deadline_of};
 ghost use Rattle.client_session.specs.Serving.{request_handled, frame_handled, bytes_handled, outcome_handled, with_bytes};
 ghost use Rattle.{client_session.specs.declared.session.Awaited.{Awaited as Wait}, client_session.specs.declared.session.Settings.{Settings as Features}, client_session.specs.declared.session.Who.{Who as Named}, mcbp_frame.specs.Frames.{first_frame}, mcbp_frame.specs.declared.frame.Frame.{Frame as Framed}};
 ghost use Rattle.{mcbp_frame.specs.declared.frame.TheConstants.{RESPONSE}, mcbp_kv.specs.Answers.{IsFound, IsStored, IsBare, datatype_for}, mcbp_kv.specs.Commands.{IsNoop, IsHello}};
@@ -16,48 +16,54 @@ ghost use Rattle.mcbp_kv.specs.declared.feature.Feature.TheVariants as chosen;
 ghost use Rattle.mcbp_kv.specs.declared.request.KvRequest.TheVariants as asks;
 ghost use Rattle.vb_calls.specs.declared.calls.VbCall.TheVariants as calls;
 ghost use Rattle.{vb_types.specs.Statuses.{status_code}, vb_types.specs.declared.change.Change.{Change as ChangeData}, vb_types.specs.declared.write.Write.{Write as WriteData}};
-ghost use Rattle.{vb_types.specs.declared.doc.Doc.{Doc as DocData}, vb_events.specs.declared.event.Event.TheVariants.{Changed, Closed}, vb_types.specs.declared.status.Status.{Status as Said}};
+ghost use Rattle.{vb_types.specs.declared.doc.Doc.{Doc as DocData}, vb_events.specs.declared.event.Event.{Event as Line}, vb_events.specs.declared.event.Event.TheVariants.{Changed, Closed}, vb_types.specs.declared.status.Status.{Status as Said}};
 
 /// Whatever replies of the right form come, each frame that asks gets one answer, in order, which
 /// repeats its opcode and opaque; behind these a fault closes the connection. The frames are served
-/// up to a durable write whose outcome is awaited, and the bytes behind that are kept. A client's
-/// calls read and write documents alone.
+/// up to a durable write whose outcome is awaited, or a request of DCP, which is handed up and not
+/// answered here; the bytes behind that are kept. A client's calls read and write documents alone.
 pub fn requests_are_answered()
-    ensures { (clock : ℕ) (piece : List ℕ) (s : Served) → IsFalse s.session.closed → s.session.awaited ≡ None
-        → AlwaysFormed (IsClients clock) (λ t. Took (s.session.reader ++ piece) t.session.awaited s t) (bytes_handled clock piece s) }
+    ensures { (clock : ℕ) (piece : List ℕ) (s : Served) → IsFalse s.session.closed → s.session.awaited ≡ None → s.dcp ≡ None
+        → AlwaysFormed (IsClients clock) (λ t. Took Answered (s.session.reader ++ piece) t.session.awaited t.dcp s t) (bytes_handled clock piece s) }
 {}
 
-/// Whatever comes to a new connection, pieces of bytes and outcomes, in whatever order: of all the
-/// bytes that came each frame that asks has one answer, in order, up to a durable write whose outcome
-/// is awaited; and the bytes behind that are kept as they came.
+/// Whatever comes to a new connection, pieces of bytes, outcomes, and its node's answers to the
+/// requests of DCP that it handed up, in whatever order: of all the bytes that came each frame that
+/// asks has one answer, in order, or was handed up once, in order, and has the lines that its node
+/// answered it by; up to a durable write whose outcome is awaited, or a request of DCP that was handed
+/// up and is not answered yet; and the bytes behind that are kept as they came.
 pub fn histories_are_answered()
-    ensures { (who : Named) (came : List Came)
-        → AlwaysFormed IsAnyClients (λ t. Took (flat_map bytes_of came) t.session.awaited (served (new_session who) []) t)
-        (each came_handled came (served (new_session who) [])) }
+    ensures { (node_lines : Framed → List Line) (who : Named) (came : List Came)
+        → AlwaysFormed IsAnyClients (λ t. Took (Replied node_lines) (flat_map bytes_of came) t.session.awaited t.dcp (served (new_session who) []) t)
+        (each (came_handled node_lines) came (served (new_session who) [])) }
 {}
 
 /// The pieces in which bytes come change nothing. Between them less than a frame is kept, unless an
-/// outcome is awaited.
+/// outcome is awaited, or the answer to a frame that was handed up.
 pub fn pieces_do_not_matter()
     ensures two { (clock : ℕ) (a b : List ℕ) (s : Served)
         → bytes_handled clock (a ++ b) s ≡ bind (bytes_handled clock a s) (bytes_handled clock b) }
-    ensures all { (clock : ℕ) (pieces : List (List ℕ)) (s : Served) → Waits s.session
+    ensures all { (clock : ℕ) (pieces : List (List ℕ)) (s : Served) → Waits s
         → each (bytes_handled clock) pieces s ≡ bytes_handled clock (concat pieces) s }
-    ensures new { (who : Named) → Waits (new_session who) }
+    ensures new { (who : Named) → Waits (served (new_session who) []) }
     ensures kept { (clock : ℕ) (piece : List ℕ) (s : Served)
-        → Always AnyCall (λ t. Waits t.session) (bytes_handled clock piece s) }
-    ensures settled { (clock : ℕ) (r : Outcome) (s : Served) → Waits s.session
-        → Always AnyCall (λ t. Waits t.session) (outcome_handled clock r s) }
+        → Always AnyCall Waits (bytes_handled clock piece s) }
+    ensures settled { (clock : ℕ) (r : Outcome) (s : Served) → Waits s
+        → Always AnyCall Waits (outcome_handled clock r s) }
 {}
 
-/// While an outcome is awaited all bytes that come are kept, whatever they are: neither a fault nor
-/// a HELLO among them is met before. Bytes that came before the outcome are served after it exactly
+/// While an outcome is awaited, or the answer to a request of DCP that was handed up, all bytes that
+/// come are kept, whatever they are: neither a fault nor a HELLO nor a further request of DCP among
+/// them is met before. Bytes that came before the outcome, or the answer, are served after it exactly
 /// as if they had come then.
 pub fn frames_wait_behind()
-    ensures kept { (clock : ℕ) (piece : List ℕ) (s : Served) → IsFalse s.session.closed → IsTrue (is_waiting s.session)
+    ensures kept { (clock : ℕ) (piece : List ℕ) (s : Served) → IsFalse s.session.closed → IsTrue (is_held s)
         → bytes_handled clock piece s ≡ Done (with_bytes (s.session.reader ++ piece) s) }
     ensures later { (clock after : ℕ) (r : Outcome) (piece : List ℕ) (s : Served) → IsFalse s.session.closed → IsTrue (is_waiting s.session)
         → bind (bytes_handled clock piece s) (outcome_handled after r) ≡ bind (outcome_handled after r s) (bytes_handled after piece) }
+    ensures passed { (clock after : ℕ) (node_lines : Framed → List Line) (f : Framed) (piece : List ℕ) (s : Served) → IsFalse s.session.closed → s.dcp ≡ Some f
+        → bind (bytes_handled clock piece s) (came_handled node_lines (Passed after))
+        ≡ bind (came_handled node_lines (Passed after) s) (bytes_handled after piece) }
 {}
 
 /// The outcome that is awaited is the answer, and then the bytes behind are served. Any other outcome
@@ -80,8 +86,10 @@ pub fn durable_writes_are_told()
     ensures awaited { (waiter : ℕ) (f : Framed) (s : Served) (seq cas : ℕ) (resolved : List Outcome) (ended : List ℕ) (branch : ℕ) (changes : List ChangeData)
         → outcome_of waiter resolved ≡ None
         → durable_replied waiter f s (Some (record { answer = Prepared seq cas; resolved = resolved; ended = ended; branch = branch; changes = changes }))
-        ≡ served (record s.session { awaited = Some (record { waiter = waiter; opcode = f.opcode; opaque = f.opaque }) })
-        (s.events ++ map (Changed s.session.who.node f.vb_or_status branch) changes) }
+        ≡ record s {
+          session = record s.session { awaited = Some (record { waiter = waiter; opcode = f.opcode; opaque = f.opaque }) };
+          events = s.events ++ map (Changed s.session.who.node f.vb_or_status branch) changes;
+        } }
     ensures at_once { (waiter : ℕ) (f : Framed) (s : Served) (seq cas : ℕ) (how : What) (resolved : List Outcome) (ended : List ℕ) (branch : ℕ) (changes : List ChangeData)
         → s.session.awaited ≡ None → outcome_of waiter resolved ≡ Some how
         → Gets (IsOutcome s.session.settings f.opcode f.opaque how) (map (Changed s.session.who.node f.vb_or_status branch) changes) s
@@ -169,11 +177,11 @@ pub fn writes_are_told()
         ≡ to_be_bytes w64 uuid ++ to_be_bytes w64 seq }
 {}
 
-/// A refusal has an empty body: at once where the frame itself is refused, by the vBucket's reply
-/// elsewhere. It is NotMyVbucket where there is no such vBucket, or it is not active. A NOOP gets a
-/// Success with an empty body.
+/// A refusal has an empty body: at once where the frame itself is refused and is none of DCP, by the
+/// vBucket's reply elsewhere. It is NotMyVbucket where there is no such vBucket, or it is not active.
+/// A NOOP gets a Success with an empty body.
 pub fn refusals_are_told()
-    ensures at_once { (clock : ℕ) (f : Framed) (st : Said) (s : Served) → f.magic ≢ RESPONSE
+    ensures at_once { (clock : ℕ) (f : Framed) (st : Said) (s : Served) → f.magic ≢ RESPONSE → IsFalse (is_dcp f.opcode)
         → request_of s.session.settings.json f ≡ Err st
         → GetsAtOnce (λ g. IsBare g f.opcode (status_code st) f.opaque) s (frame_handled clock f s) }
     ensures by_reply { (f : Framed) (st : Said) (s : Served) (resolved : List Outcome) (ended : List ℕ) (branch : ℕ) (changes : List ChangeData)

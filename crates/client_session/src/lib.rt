@@ -3,12 +3,14 @@
 
 mod answers;
 mod connection;
+mod dcp_laws;
 mod laws;
 mod lines;
 mod requests;
 mod session;
 
 use connection::Connection;
+pub use dcp_laws::{dcp_is_handed_up, handed_up_in_numbers};
 pub use laws::{
     closed_connections_are_silent, connections_begin_bare, cut_frames_are_not_answered,
     deadlines_in_numbers, durable_writes_are_told, faults_close, frames_wait_behind,

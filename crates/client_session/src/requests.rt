@@ -1,10 +1,11 @@
 //! How a connection serves the frames that come, one a turn.
-ghost use Rattle.std.specs.Prelude.{◌≡◌, ◌≤◌, ◌<◌, length, IfOk, OnOk, OnErr, Some};
-ghost use Rattle.{client_session.specs.Serving.{MOST_DURABLE, deadline_of, next_waiter, greeted, asked, durable_called, durable_requested, request_handled, frame_handled, ended_at, turn, turn_handled, turns_handled}, mcbp_kv.specs.Features.{has_feature}};
-ghost use Rattle.{mcbp_frame.specs.Cutting.{front_fault}, mcbp_kv.specs.Fitting.{AsksFew}, vb_calls.specs.Programs.{Ran, Began}};
+ghost use Rattle.std.specs.Prelude.{◌≡◌, ◌⊎◌, ◌≤◌, ◌<◌, ◌==◌, true, false, length, IfOk, OnOk, OnErr, Some};
+ghost use Rattle.{client_session.specs.Serving.{MOST_DURABLE, deadline_of, next_waiter, greeted, asked, durable_called, durable_requested, request_handled, is_dcp, frame_handled, ended_at, turn, turn_handled, turns_handled}, mcbp_kv.specs.Features.{has_feature}};
+ghost use Rattle.{mcbp_frame.specs.Cutting.{front_fault}, mcbp_frame.specs.declared.frame.TheConstants.{RESPONSE}, mcbp_kv.specs.Fitting.{AsksFew}, vb_calls.specs.Programs.{Ran, Began}};
 
 use crate::answers::status_reply;
 use crate::{Alloc, Connection, Settings};
+use mcbp_dcp::is_dcp;
 use mcbp_frame::{Frame, FrameFault, RESPONSE};
 use mcbp_kv::{Durability, Feature, KvReply, KvRequest, hello_value, read_request};
 use vb_calls::{VbAccess, VbCall};
@@ -124,9 +125,10 @@ impl Connection {
         }
     }
 
-    /// Serves a frame; a response is dropped.
+    /// Answers a request that is not DCP's by what is read of it; a response is dropped.
     #[tactic(auto, using(vb_calls::proofs::Runs::runs), unfolding(crate::specs::Serving::frame_handled))]
-    fn serve_frame<A: VbAccess>(&mut self, vbs: &mut A, clock: u64, f: &Frame) -> Alloc<()>
+    fn answer_frame<A: VbAccess>(&mut self, vbs: &mut A, clock: u64, f: &Frame) -> Alloc<()>
+        requires { (f.now.magic == RESPONSE ≡ true) ⊎ (is_dcp f.now.opcode ≡ false) }
         ensures ok { OnOk result (Ran A.step (frame_handled clock f.now self.old) vbs.old self.new vbs.new) }
         ensures err { OnErr result (Began A.step (frame_handled clock f.now self.old) vbs.old vbs.new) }
     {
@@ -137,14 +139,19 @@ impl Connection {
         self.serve_request(vbs, clock, f, request)
     }
 
-    /// The same, and lets the frame go.
-    fn serve_next<A: VbAccess>(&mut self, vbs: &mut A, clock: u64, f: Frame) -> Alloc<()>
+    /// Serves a frame: answers it, or hands it up where it is DCP's; a response is dropped.
+    #[tactic(auto, using(vb_calls::proofs::Runs::runs), unfolding(crate::specs::Serving::frame_handled))]
+    fn serve_frame<A: VbAccess>(&mut self, vbs: &mut A, clock: u64, f: Frame) -> Alloc<()>
         ensures ok { OnOk result (Ran A.step (frame_handled clock f self.old) vbs.old self.new vbs.new) }
         ensures err { OnErr result (Began A.step (frame_handled clock f self.old) vbs.old vbs.new) }
     {
-        let served = self.serve_frame(vbs, clock, &f);
+        if f.magic != RESPONSE && is_dcp(f.opcode) {
+            self.dcp = Some(f);
+            return Ok(());
+        }
+        let answered = self.answer_frame(vbs, clock, &f);
         drop(f);
-        served
+        answered
     }
 
     /// Closes the connection at a header that breaks the rules, and tells of it.
@@ -158,14 +165,14 @@ impl Connection {
         self.tell_fault(head)
     }
 
-    /// Serves the first frame of the kept bytes, and says whether the turns go on behind it. While an
-    /// outcome is awaited no frame is served.
+    /// Serves the first frame of the kept bytes, and says whether the turns go on behind it. While a
+    /// frame that was handed up is not answered, or an outcome is awaited, no frame is served.
     #[tactic(auto, using(vb_calls::proofs::Runs::runs), unfolding(crate::specs::Serving::turn_handled))]
     fn serve_turn<A: VbAccess>(&mut self, vbs: &mut A, clock: u64) -> Alloc<bool>
         ensures ok { IfOk result (λ more. Ran A.step (turn_handled clock self.old) vbs.old (turn more self.new) vbs.new) }
         ensures err { OnErr result (Began A.step (turn_handled clock self.old) vbs.old vbs.new) }
     {
-        if self.awaited.is_some() {
+        if self.dcp.is_some() || self.awaited.is_some() {
             return Ok(false);
         }
         match self.reader.next()? {
@@ -175,14 +182,14 @@ impl Connection {
                 Ok(false)
             }
             Some(Ok(frame)) => {
-                self.serve_next(vbs, clock, frame)?;
+                self.serve_frame(vbs, clock, frame)?;
                 Ok(true)
             }
         }
     }
 
-    /// Serves the frames that are whole now, one a turn, up to one whose outcome is awaited, and
-    /// closes at a fault behind them.
+    /// Serves the frames that are whole now, one a turn, up to one that is handed up or whose outcome
+    /// is awaited, and closes at a fault behind them.
     pub fn serve_turns<A: VbAccess>(&mut self, vbs: &mut A, clock: u64) -> Alloc<()>
         ensures ok { OnOk result (Ran A.step (turns_handled clock self.old) vbs.old self.new vbs.new) }
         ensures err { OnErr result (Began A.step (turns_handled clock self.old) vbs.old vbs.new) }

@@ -3,7 +3,7 @@ ghost use Rattle.std.specs.Prelude.{◌≡◌, false, true, [], IfOk, OnOk, OnEr
 ghost use Rattle.{client_session.specs.Serving.{new_session, served, bytes_handled, awaits, outcome_handled}, vb_calls.specs.Programs.{Ran, Began}};
 
 use crate::{Alloc, Connection};
-use mcbp_frame::FrameReader;
+use mcbp_frame::{Frame, FrameReader};
 use std::alloc::{AllocError, Global};
 use std::marker::Model;
 use vb_calls::{Resolved, VbAccess};
@@ -36,10 +36,13 @@ pub struct Settings {
     pub seqnos: bool,
 }
 
-/// What a connection did with bytes: the lines that tell of it, and whether it is closed now.
+/// What a connection did with bytes: the lines that tell of it, the request of DCP that it handed up,
+/// if it did, and whether it is closed now. The next `feed`, of an empty piece too, goes on behind a
+/// request that was handed up, so that one is to be answered before.
 #[derive(Drop)]
 pub struct SessionStep {
     pub events: Listed<Event>,
+    pub dcp: Option<Frame>,
     pub closed: bool,
 }
 
@@ -51,14 +54,14 @@ pub struct Session {
 }
 
 impl Model for Session {
-    ghost use Rattle.std.specs.Prelude.{◌≡◌, []};
+    ghost use Rattle.std.specs.Prelude.{◌≡◌, [], None};
     ghost use Rattle.client_session.specs.Serving.{KeptSession};
 
     ghost Value = { KeptSession };
 
     ghost view = { λ s. record { plain = s.connection.session; spent = s.spent } };
 
-    ghost invariant = { λ s. s.connection.events ≡ [] };
+    ghost invariant = { λ s. (s.connection.events ≡ []) × (s.connection.dcp ≡ None) };
 }
 
 impl Session {
@@ -76,9 +79,17 @@ impl Session {
                 used: 0,
                 awaited: None,
                 events: Listed::new(alloc),
+                dcp: None,
             },
             spent: false,
         })
+    }
+
+    /// Which connection it is.
+    pub fn who(&self) -> Who
+        ensures { result ≡ self.now.plain.who }
+    {
+        self.connection.who
     }
 
     /// Whether memory was short for it.
@@ -89,14 +100,14 @@ impl Session {
     }
 
     /// Takes the next bytes from the client, while the node's clock shows `clock` nanoseconds:
-    /// answers the frames that are whole now, up to one whose outcome is awaited, and tells what
-    /// happened. After an `Err` the connection is spent, and every later call answers `Err` and does
-    /// nothing.
+    /// answers the frames that are whole now, up to one that is handed up or whose outcome is awaited,
+    /// and tells what happened. After an `Err` the connection is spent, and every later call answers
+    /// `Err` and does nothing.
     #[tactic(auto, using(vb_calls::proofs::Runs::runs))]
     pub fn feed<A: VbAccess>(&mut self, vbs: &mut A, clock: u64, piece: &[u8]) -> Alloc<SessionStep>
         ensures fresh { OnOk result (self.old.spent ≡ false) }
         ensures stays { OnOk result (self.new.spent ≡ false) }
-        ensures ok { IfOk result (λ step. Ran A.step (bytes_handled clock piece.now (served self.old.plain [])) vbs.old (served self.new.plain step.events) vbs.new) }
+        ensures ok { IfOk result (λ step. Ran A.step (bytes_handled clock piece.now (served self.old.plain [])) vbs.old (record { session = self.new.plain; events = step.events; dcp = step.dcp }) vbs.new) }
         ensures closed { IfOk result (λ step. step.closed ≡ self.new.plain.closed) }
         ensures spent { OnErr result (self.new.spent ≡ true) }
         ensures silent { OnErr result (self.old.spent ≡ true → vbs.new ≡ vbs.old) }
@@ -107,13 +118,15 @@ impl Session {
             return Err(AllocError);
         }
         let taken = self.connection.take(vbs, clock, piece);
-        let events = self.connection.take_events();
+        let step = self.connection.take_step();
         self.spent = taken.is_err();
-        taken?;
-        Ok(SessionStep {
-            events,
-            closed: self.connection.closed,
-        })
+        match taken {
+            Ok(()) => Ok(step),
+            Err(short) => {
+                drop(step);
+                Err(short)
+            }
+        }
     }
 
     /// Whether the outcome for this waiter is awaited.
@@ -138,7 +151,7 @@ impl Session {
     ) -> Alloc<SessionStep>
         ensures fresh { OnOk result (self.old.spent ≡ false) }
         ensures stays { OnOk result (self.new.spent ≡ false) }
-        ensures ok { IfOk result (λ step. Ran A.step (outcome_handled clock outcome (served self.old.plain [])) vbs.old (served self.new.plain step.events) vbs.new) }
+        ensures ok { IfOk result (λ step. Ran A.step (outcome_handled clock outcome (served self.old.plain [])) vbs.old (record { session = self.new.plain; events = step.events; dcp = step.dcp }) vbs.new) }
         ensures closed { IfOk result (λ step. step.closed ≡ self.new.plain.closed) }
         ensures spent { OnErr result (self.new.spent ≡ true) }
         ensures silent { OnErr result (self.old.spent ≡ true → vbs.new ≡ vbs.old) }
@@ -149,12 +162,14 @@ impl Session {
             return Err(AllocError);
         }
         let taken = self.connection.resolve(vbs, clock, outcome);
-        let events = self.connection.take_events();
+        let step = self.connection.take_step();
         self.spent = taken.is_err();
-        taken?;
-        Ok(SessionStep {
-            events,
-            closed: self.connection.closed,
-        })
+        match taken {
+            Ok(()) => Ok(step),
+            Err(short) => {
+                drop(step);
+                Err(short)
+            }
+        }
     }
 }

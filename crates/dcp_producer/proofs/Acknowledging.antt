@@ -1,9 +1,11 @@
 -- how acknowledgements are weighed and counted
 use Rattle.std.proofs.Common.{◌≡◌, ◌<◌, ◌≤◌, ℕ, Bool, true, false, List, [], ◌∷◌, refl, sym, ap, ◌∙◌, subst, inl, inr, arith, Option, Some, None, Ok, Err}
 use Rattle.std.proofs.lemmas.Bool.Decides.{nat_tests}
-use Rattle.std.specs.Prelude.{if◌then◌else◌, nat_lt}
+use Rattle.std.specs.Prelude.{if◌then◌else◌, ◌||◌, nat_lt}
 use Rattle.mcbp_frame.specs.declared.frame.Frame.{Frame}
 use Rattle.mcbp_dcp.specs.declared.message.DcpMsg.TheVariants as msg
+use Rattle.vb_events.specs.declared.event.StreamName.{StreamName}
+use Rattle.vb_events.specs.declared.event.StreamName.TheVariants as name
 use Rattle.vb_types.specs.declared.status.Status.{Status}
 use Rattle.vb_types.specs.declared.status.Status.TheVariants as status
 use Rattle.vb_calls.specs.declared.calls.VbCall.TheVariants as call
@@ -15,7 +17,7 @@ use Rattle.dcp_producer.specs.declared.desk.Handshake.{Handshake}
 use Rattle.dcp_producer.specs.declared.desk.Handshake.TheVariants as handshake
 use Rattle.dcp_producer.specs.declared.desk.Named.{Named}
 use Rattle.dcp_producer.specs.declared.desk.Named.TheVariants as named
-use Rattle.dcp_producer.specs.Producers.{PlainStream, Served, is_open, member_named, member_of, stream_at}
+use Rattle.dcp_producer.specs.Producers.{PlainStream, Served, is_client, is_open, member_named, member_of, stream_at}
 use Rattle.dcp_producer.specs.Serving.{status_sent, fed_stream, weighed, counted_with, counted_by, count_answered, count_requested, acknowledged, message_answered}
 use Rattle.dcp_producer.specs.Handshaking.{Gets}
 use Rattle.dcp_producer.specs.Having.{IsOpened}
@@ -25,15 +27,23 @@ use Rattle.dcp_producer.proofs.Weighing.{same_gets}
 use Rattle.dcp_producer.proofs.Closing.{early, fresh_so, open_so}
 
 -- a stream that a change of role ended counts as none
-not_fed : (stream : PlainStream) → stream.ended ≡ true → fed_stream (Some stream) ≡ None
-not_fed stream ended = ap (λ b. if b then None else Some stream) ended
+not_fed : (n : StreamName) (stream : PlainStream) → stream.ended ≡ true → fed_stream n (Some stream) ≡ None
+not_fed (name.Link number) stream ended = ap (λ b. if b then None else Some stream) ended
+not_fed (name.Client node client) stream ended = refl
 
-no_stream : (v : ℕ) (s : Served) → IsUnfed v s → fed_stream (stream_at v s.end.streams) ≡ None
-no_stream v s (inl none) = ap fed_stream (none_at v s.end.streams none)
-no_stream v s (inr (stream, there, ended)) = ap fed_stream (found_at v stream s.end.streams there) ∙ not_fed stream ended
+-- of a client's connection none is
+none_fed : (node client : ℕ) (stream : Option PlainStream) → fed_stream (name.Client node client) stream ≡ None
+none_fed node client None = refl
+none_fed node client (Some stream) = refl
 
-its_stream : (v : ℕ) (stream : PlainStream) (s : Served) → IsFed v stream s → fed_stream (stream_at v s.end.streams) ≡ Some stream
-its_stream v stream s (there, alive) = ap fed_stream (found_at v stream s.end.streams there) ∙ ap (λ b. if b then None else Some stream) alive
+no_stream : (v : ℕ) (s : Served) → IsUnfed v s → fed_stream s.end.desk.stream (stream_at v s.end.streams) ≡ None
+no_stream v s (inl (node, client, is)) = ap (λ n. fed_stream n (stream_at v s.end.streams)) is ∙ none_fed node client (stream_at v s.end.streams)
+no_stream v s (inr (inl none)) = ap (fed_stream s.end.desk.stream) (none_at v s.end.streams none)
+no_stream v s (inr (inr (stream, there, ended))) = ap (fed_stream s.end.desk.stream) (found_at v stream s.end.streams there) ∙ not_fed s.end.desk.stream stream ended
+
+its_stream : (v : ℕ) (stream : PlainStream) (s : Served) → IsFed v stream s → fed_stream s.end.desk.stream (stream_at v s.end.streams) ≡ Some stream
+its_stream v stream s ((number, link), there, alive) =
+    ap (fed_stream s.end.desk.stream) (found_at v stream s.end.streams there) ∙ (λ i. if is_client (link i) || alive i then None else Some stream)
 
 no_member : (h : Handshake) → IsNoMember h → member_of h ≡ None
 no_member h (sync, inl nobody) = ap member_of nobody
@@ -79,20 +89,20 @@ one_call f member seq s (m ∷ n ∷ made) s' (at, asked, more) = absurd more
 
 module _ (f : Frame) (seq : ℕ) (s : Served) where
   -- an acknowledgement on an open connection is what it is weighed as
-  weighed_as : IsOpened s → (o : Option PlainStream) (m : Option ℕ) → fed_stream (stream_at f.vb_or_status s.end.streams) ≡ o → member_of s.end.handshake ≡ m
+  weighed_as : IsOpened s → (o : Option PlainStream) (m : Option ℕ) → fed_stream s.end.desk.stream (stream_at f.vb_or_status s.end.streams) ≡ o → member_of s.end.handshake ≡ m
       → acknowledged f seq s ≡ count_requested f seq s (weighed seq o m)
   unfolding acknowledged
   weighed_as opened o m stream member =
-      open_so f s (count_requested f seq s (weighed seq (fed_stream (stream_at f.vb_or_status s.end.streams)) (member_of s.end.handshake))) opened
+      open_so f s (count_requested f seq s (weighed seq (fed_stream s.end.desk.stream (stream_at f.vb_or_status s.end.streams)) (member_of s.end.handshake))) opened
       ∙ (λ i. count_requested f seq s (weighed seq (stream i) (member i)))
 
   pub early_count : s.end.handshake ≡ handshake.Fresh → acknowledged f seq s ≡ Done (status_sent f status.Einval s)
   unfolding acknowledged
-  early_count fresh = fresh_so f s (count_requested f seq s (weighed seq (fed_stream (stream_at f.vb_or_status s.end.streams)) (member_of s.end.handshake))) fresh
+  early_count fresh = fresh_so f s (count_requested f seq s (weighed seq (fed_stream s.end.desk.stream (stream_at f.vb_or_status s.end.streams)) (member_of s.end.handshake))) fresh
 
   pub counted_early : s.end.handshake ≡ handshake.Fresh → Gets 4 handshake.Fresh f s (message_answered f (msg.SeqnoAcknowledged seq) s)
   unfolding acknowledged
-  counted_early fresh = early f s (count_requested f seq s (weighed seq (fed_stream (stream_at f.vb_or_status s.end.streams)) (member_of s.end.handshake))) fresh
+  counted_early fresh = early f s (count_requested f seq s (weighed seq (fed_stream s.end.desk.stream (stream_at f.vb_or_status s.end.streams)) (member_of s.end.handshake))) fresh
 
   pub unfed_first : IsOpened s → IsUnfed f.vb_or_status s → Gets 0x83 s.end.handshake f s (message_answered f (msg.SeqnoAcknowledged seq) s)
   unfed_first opened unfed =
@@ -124,11 +134,12 @@ kept true t stream is = absurd (cc is)
 kept false t stream is = (refl, cc is)
 
 module _ (v : ℕ) (stream : PlainStream) (s : Served) where
-  fed_back : (o : Option PlainStream) → stream_at v s.end.streams ≡ o → fed_stream o ≡ Some stream → IsFed v stream s
-  fed_back None there is = absurd (cc is)
-  fed_back (Some t) there is =
+  fed_back : (n : StreamName) (o : Option PlainStream) → s.end.desk.stream ≡ n → stream_at v s.end.streams ≡ o → fed_stream n o ≡ Some stream → IsFed v stream s
+  fed_back n None named there is = absurd (cc is)
+  fed_back (name.Client node client) (Some t) named there is = absurd (cc is)
+  fed_back (name.Link number) (Some t) named there is =
       let (on, same) = kept t.ended t stream is in
-      (found_back v stream s.end.streams (there ∙ ap Some same), sym (ap (λ (x : PlainStream). x.ended) same) ∙ on)
+      ((number, named), found_back v stream s.end.streams (there ∙ ap Some same), sym (ap (λ (x : PlainStream). x.ended) same) ∙ on)
 
 -- where a name is a member's, it is this member's
 name_back : (sync : Bool) (name : Named) (member : ℕ) → member_named name ≡ Some member → IsMember member (handshake.Open sync name)
@@ -146,20 +157,20 @@ module _ (f : Frame) (seq : ℕ) (s s' : Served) (first : Made) (more : List Mad
   asked_only stream member true is told = absurd told
   asked_only stream member false is told = grind (arith, nat_tests)
 
-  weighed_only : (o : Option PlainStream) (m : Option ℕ) → fed_stream (stream_at f.vb_or_status s.end.streams) ≡ o → member_of s.end.handshake ≡ m
+  weighed_only : (o : Option PlainStream) (m : Option ℕ) → fed_stream s.end.desk.stream (stream_at f.vb_or_status s.end.streams) ≡ o → member_of s.end.handshake ≡ m
       → Told (count_requested f seq s (weighed seq o m)) (first ∷ more) s' → IsCountable f seq s
   weighed_only None m fed is told = absurd told
   weighed_only (Some stream) None fed is told = absurd told
   weighed_only (Some stream) (Some member) fed is told = record {
     stream = stream;
-    fed = fed_back f.vb_or_status stream s (stream_at f.vb_or_status s.end.streams) refl fed;
+    fed = fed_back f.vb_or_status stream s s.end.desk.stream (stream_at f.vb_or_status s.end.streams) refl refl fed;
     member = member;
     named = member_back s.end.handshake member is;
     within = asked_only stream member (nat_lt stream.reached seq) refl told;
   }
 
-  by_open : (b : Bool) → Told (if b then count_requested f seq s (weighed seq (fed_stream (stream_at f.vb_or_status s.end.streams)) (member_of s.end.handshake)) else Done (status_sent f status.Einval s)) (first ∷ more) s' → IsCountable f seq s
-  by_open true told = weighed_only (fed_stream (stream_at f.vb_or_status s.end.streams)) (member_of s.end.handshake) refl refl told
+  by_open : (b : Bool) → Told (if b then count_requested f seq s (weighed seq (fed_stream s.end.desk.stream (stream_at f.vb_or_status s.end.streams)) (member_of s.end.handshake)) else Done (status_sent f status.Einval s)) (first ∷ more) s' → IsCountable f seq s
+  by_open true told = weighed_only (fed_stream s.end.desk.stream (stream_at f.vb_or_status s.end.streams)) (member_of s.end.handshake) refl refl told
   by_open false told = absurd told
 
   pub counted_only : Told (message_answered f (msg.SeqnoAcknowledged seq) s) (first ∷ more) s' → IsCountable f seq s

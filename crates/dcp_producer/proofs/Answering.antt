@@ -132,8 +132,8 @@ module _ (P : PlainProducer → Type 0) (f : Frame) (s : Served) (stays : Stays 
   acknowledged_so : (seq : ℕ) → Answers (acknowledged f seq s)
   unfolding acknowledged
   acknowledged_so seq =
-      once_so (count_requested f seq s (weighed seq (fed_stream (stream_at f.vb_or_status s.end.streams)) (member_of s.end.handshake)))
-      (weighed_so seq (weighed seq (fed_stream (stream_at f.vb_or_status s.end.streams)) (member_of s.end.handshake))) (is_open s.end.handshake)
+      once_so (count_requested f seq s (weighed seq (fed_stream s.end.desk.stream (stream_at f.vb_or_status s.end.streams)) (member_of s.end.handshake)))
+      (weighed_so seq (weighed seq (fed_stream s.end.desk.stream (stream_at f.vb_or_status s.end.streams)) (member_of s.end.handshake))) (is_open s.end.handshake)
 
   bytes_so : (bytes : ℕ) (b : Bool) → P (if b then record s { end = record s.end { window = with_acked bytes s.end.window } } else status_sent f status.Einval s).end
   bytes_so bytes true = stays.window (with_acked bytes s.end.window)

@@ -29,3 +29,12 @@ pub mod Staying
 pub mod Turns
 pub mod Uncounted
 pub mod Wanting
+pub mod Outcomes
+pub mod ClientAnswers
+pub mod Headers
+pub mod Putting
+pub mod Pairs
+pub mod Telling
+pub mod PullLines
+pub mod Desks
+pub mod Replying

@@ -3,6 +3,7 @@ use Rattle.std.specs.Prelude.{ℕ, ◌≤◌, ◌≡◌, ◌⊎◌, Bool, true, 
 use Rattle.mcbp_frame.specs.declared.frame.Frame.{Frame}
 use Rattle.mcbp_dcp.specs.declared.message.DcpMsg.TheVariants as msg
 use Rattle.vb_events.specs.declared.event.Event.TheVariants as event
+use Rattle.vb_events.specs.declared.event.StreamName.TheVariants as name
 use Rattle.vb_types.specs.declared.status.Status.{Status}
 use Rattle.vb_types.specs.Statuses.{status_code}
 use Rattle.vb_calls.specs.declared.calls.VbCall.TheVariants as call
@@ -17,13 +18,21 @@ use Rattle.dcp_producer.specs.Having.{NoneOf, IsStreamOf}
 use Rattle.dcp_producer.specs.Serving.{message_answered}
 use Rattle.dcp_producer.specs.Handshaking.{Gets}
 
--- nothing is fed of the vBucket v: the connection has no stream of it, or one that a change of role ended
-abbrev pub IsUnfed : ℕ → Served → Type 0
-IsUnfed v s = NoneOf v s.end.streams ⊎ ((stream : PlainStream) × IsStreamOf v stream s.end.streams × (stream.ended ≡ true))
+-- the connection is a client's
+abbrev pub IsClients : Served → Type 0
+IsClients s = (node client : ℕ) × (s.end.desk.stream ≡ name.Client node client)
 
--- the connection has this stream of the vBucket v, and no change of role ended it
+-- the connection is a link's
+abbrev pub IsLinks : Served → Type 0
+IsLinks s = (number : ℕ) × (s.end.desk.stream ≡ name.Link number)
+
+-- nothing is fed of the vBucket v: the connection is a client's, or has no stream of it, or one that a change of role ended
+abbrev pub IsUnfed : ℕ → Served → Type 0
+IsUnfed v s = IsClients s ⊎ NoneOf v s.end.streams ⊎ ((stream : PlainStream) × IsStreamOf v stream s.end.streams × (stream.ended ≡ true))
+
+-- the connection is a link's and has this stream of the vBucket v, and no change of role ended it
 abbrev pub IsFed : ℕ → PlainStream → Served → Type 0
-IsFed v stream s = IsStreamOf v stream s.end.streams × (stream.ended ≡ false)
+IsFed v stream s = IsLinks s × IsStreamOf v stream s.end.streams × (stream.ended ≡ false)
 
 -- the connection is open, and its consumer is no member: it gave no name, or a stranger's
 abbrev pub IsNoMember : Handshake → Type 0

@@ -21,3 +21,6 @@ pub mod Going
 pub mod Apart
 pub mod Orders
 pub mod Rows
+pub mod Clients
+pub mod Cuts
+pub mod Pairs

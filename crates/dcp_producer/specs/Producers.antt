@@ -3,6 +3,8 @@ use Rattle.std.specs.Prelude.{ℕ, ◌+◌, ◌*◌, ◌^◌, ◌<◌, ◌≤◌
 use Rattle.std.specs.List.{All, find, position, remove}
 use Rattle.vb_types.specs.declared.change.Change.{Change}
 use Rattle.vb_events.specs.declared.event.Event.{Event}
+use Rattle.vb_events.specs.declared.event.StreamName.{StreamName}
+use Rattle.vb_events.specs.declared.event.StreamName.TheVariants as name
 use Rattle.dcp_producer.specs.declared.active_stream.StreamState.{StreamState}
 use Rattle.dcp_producer.specs.declared.active_stream.StreamState.TheVariants as state
 use Rattle.dcp_producer.specs.declared.desk.Desk.{Desk}
@@ -102,6 +104,11 @@ without_stream id end = record end { streams = without_id id end.streams; turn =
 -- the next stream has its turn
 abbrev pub with_turn : PlainProducer → PlainProducer
 with_turn end = record end { turn = (turned (ring_of end)).turn }
+
+-- the connection of this name is a client's
+abbrev pub is_client : StreamName → Bool
+is_client (name.Link number) = false
+is_client (name.Client node client) = true
 
 -- OPEN came
 abbrev pub is_open : Handshake → Bool

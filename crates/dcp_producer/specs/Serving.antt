@@ -1,5 +1,5 @@
 -- how a producer answers the frames of a connection, as programs over its node's vBuckets
-use Rattle.std.specs.Prelude.{ℕ, ◌+◌, ◌*◌, ◌^◌, ◌-◌, ◌==◌, ◌&&◌, not, Bool, true, false, nat_lt, nat_le, if◌then◌else◌, List, [], ◌∷◌, ◌++◌, length, map, Option, Some, None, Result, Ok, Err, codes, is_some}
+use Rattle.std.specs.Prelude.{ℕ, ◌+◌, ◌*◌, ◌^◌, ◌-◌, ◌==◌, ◌&&◌, ◌||◌, not, Bool, true, false, nat_lt, nat_le, if◌then◌else◌, List, [], ◌∷◌, ◌++◌, length, map, Option, Some, None, Result, Ok, Err, codes, is_some}
 use Rattle.std.specs.List.{list_any}
 use Rattle.std.specs.Option.{option_map}
 use Rattle.std.specs.Str.{bytes_eq}
@@ -18,6 +18,7 @@ use Rattle.mcbp_dcp.specs.DcpFrames.{dcp_frame, IsSpelledLog}
 use Rattle.mcbp_dcp.specs.Messages.{read_of}
 use Rattle.vb_events.specs.declared.event.Event.{Event}
 use Rattle.vb_events.specs.declared.event.Event.TheVariants as event
+use Rattle.vb_events.specs.declared.event.StreamName.{StreamName}
 use Rattle.vb_types.specs.declared.stream.AskAnswer.{AskAnswer}
 use Rattle.vb_types.specs.declared.stream.AskAnswer.TheVariants as ask_answer
 use Rattle.vb_types.specs.declared.role.LogEntry.{LogEntry}
@@ -36,7 +37,7 @@ use Rattle.dcp_producer.specs.declared.desk.Handshake.TheVariants as handshake
 use Rattle.dcp_producer.specs.declared.desk.Named.{Named}
 use Rattle.dcp_producer.specs.declared.desk.Named.TheVariants as named
 use Rattle.flow_control.specs.Windows.{with_acked, with_size}
-use Rattle.dcp_producer.specs.Producers.{PlainStream, PlainProducer, Served, is_open, is_sync, member_of, stream_at, with_opened, without_stream}
+use Rattle.dcp_producer.specs.Producers.{PlainStream, PlainProducer, Served, is_client, is_open, is_sync, member_of, stream_at, with_opened, without_stream}
 use Rattle.dcp_producer.specs.Sizes.{size_of}
 
 -- the connection after one more frame was put on its way
@@ -308,12 +309,12 @@ log_answered f s (Some reply) = log_sent f s (log_given reply.answer)
 abbrev pub log_requested : Frame → Served → Prog Served
 log_requested f s = once_open f s (Call f.vb_or_status call.Log (λ reply. Done (log_answered f s reply)))
 
--- a stream that is fed; one that a change of role ended counts as none, also before its end is put
-abbrev pub fed_stream : Option PlainStream → Option PlainStream
-fed_stream None = None
-fed_stream (Some stream) = if stream.ended then None else Some stream
+-- a stream that is fed: of a link's connection, whose consumer may be a member of a chain, and of no client's; one that a change of role ended counts as none, also before its end is put
+abbrev pub fed_stream : StreamName → Option PlainStream → Option PlainStream
+fed_stream name None = None
+fed_stream name (Some stream) = if is_client name || stream.ended then None else Some stream
 
--- whose acknowledgement of all up to a seqno it is, or why the producer refuses it: NotSupported where there is no such stream, next Einval where the consumer's name is no member's, and Erange above what the consumer may have
+-- whose acknowledgement of all up to a seqno it is, or why the producer refuses it: NotSupported where no such stream is fed, next Einval where the consumer's name is no member's, and Erange above what the consumer may have
 abbrev pub weighed : ℕ → Option PlainStream → Option ℕ → Result ℕ Status
 weighed seq None member = Err status.NotSupported
 weighed seq (Some stream) None = Err status.Einval
@@ -347,7 +348,7 @@ count_requested f seq s (Ok member) = Call f.vb_or_status (call.Ack member seq) 
 
 -- SEQNO_ACKNOWLEDGED: the consumer has all up to this seqno; Einval before OPEN, as all requests are
 unfoldable pub acknowledged : Frame → ℕ → Served → Prog Served
-acknowledged f seq s = once_open f s (count_requested f seq s (weighed seq (fed_stream (stream_at f.vb_or_status s.end.streams)) (member_of s.end.handshake)))
+acknowledged f seq s = once_open f s (count_requested f seq s (weighed seq (fed_stream s.end.desk.stream (stream_at f.vb_or_status s.end.streams)) (member_of s.end.handshake)))
 
 -- NOOP
 abbrev pub noop_answered : Frame → Served → Served

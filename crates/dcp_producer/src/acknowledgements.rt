@@ -23,10 +23,10 @@ fn resolved_of(alloc: Global, mut reply: VbReply) -> Listed<Resolved>
 impl Connection {
     /// Whose acknowledgement of all up to a seqno of the vBucket `vb` it is, or why it is refused.
     fn weigh(&self, vb: u16, seq: u64) -> Result<u8, Status>
-        ensures { result ≡ weighed seq (fed_stream (stream_at vb self.now.end.streams)) (member_of self.now.end.handshake) }
+        ensures { result ≡ weighed seq (fed_stream self.now.end.desk.stream (stream_at vb self.now.end.streams)) (member_of self.now.end.handshake) }
     {
         let stream = match self.stream_at(vb) {
-            Some(stream) if !stream.is_ended() => stream,
+            Some(stream) if !self.desk.is_client() && !stream.is_ended() => stream,
             _ => return Err(Status::NotSupported),
         };
         let Some(member) = self.handshake.member() else {

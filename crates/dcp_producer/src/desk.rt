@@ -1,6 +1,6 @@
 //! What a producer knows of its connection, what OPEN and CONTROL set, and what is refused by it.
 ghost use Rattle.std.specs.Prelude.{◌≡◌};
-ghost use Rattle.{dcp_producer.specs.Producers.{is_open, is_named, is_sync, member_named, member_of}, dcp_producer.specs.Serving.{opened, open_refusal, flag_of, named_by, controlled, sized}};
+ghost use Rattle.{dcp_producer.specs.Producers.{is_client, is_open, is_named, is_sync, member_named, member_of}, dcp_producer.specs.Serving.{opened, open_refusal, flag_of, named_by, controlled, sized}};
 
 use crate::sizes::size_of;
 use mcbp_dcp::MAX_NAME;
@@ -15,6 +15,15 @@ pub struct Desk {
     pub stream: StreamName,
     pub node: u8,
     pub base: u32,
+}
+
+impl Desk {
+    /// Whether the connection is a client's.
+    pub fn is_client(self) -> bool
+        ensures { result ≡ is_client self.stream }
+    {
+        matches!(self.stream, StreamName::Client(..))
+    }
 }
 
 /// Who the consumer said that it is.

@@ -124,10 +124,10 @@ pub fn controls_are_known()
 {}
 
 /// SEQNO_ACKNOWLEDGED is refused with Einval before OPEN, next with NotSupported where the connection
-/// feeds nothing of the vBucket that it names, next with Einval where its consumer gave no member's name,
-/// and next with Erange above the seqno that the stream of that vBucket reached. Else, and only then, it
-/// is one call, and is answered only where the vBucket is absent or says a status: what is counted is
-/// told by lines.
+/// is a client's or feeds nothing of the vBucket that it names, next with Einval where its consumer gave
+/// no member's name, and next with Erange above the seqno that the stream of that vBucket reached. Else,
+/// and only then, it is one call, and is answered only where the vBucket is absent or says a status: what
+/// is counted is told by lines.
 pub fn acknowledgements_are_weighed()
     ensures early { (f : FrameData) (seq : ℕ) (s : Served) → s.end.handshake ≡ Fresh
         → Gets 4 Fresh f s (message_answered f (SeqnoAcknowledged seq) s) }

@@ -5,6 +5,7 @@
 mod acknowledgements;
 mod active_stream;
 mod answers;
+mod client_laws;
 mod connection;
 mod desk;
 mod frames;
@@ -23,6 +24,10 @@ mod turn_laws;
 mod window_laws;
 
 use active_stream::ActiveStream;
+pub use client_laws::{
+    clients_acknowledge_nothing, clients_resolve_nothing, frames_have_their_lines,
+    headers_cut_frames,
+};
 use connection::Connection;
 pub use desk::{Desk, Handshake, Named};
 pub use halt::Halt;

@@ -3,7 +3,7 @@ mod Asks
 mod Closing
 mod Counting
 mod Covering
-mod Ending
+pub mod Ending
 mod Feeding
 mod Filling
 mod Growing

@@ -1,0 +1,218 @@
+-- what a connection comes to as it puts the frames of its streams in turn, and which calls it makes, by what vBuckets may reply
+use Rattle.std.proofs.Common.{◌≡◌, ◌<◌, ℕ, zero, suc, Bool, true, false, List, [], ◌∷◌, length, take, drop, refl, subst, arith, Option, Some, None}
+use Rattle.std.specs.Prelude.{◌==◌, if◌then◌else◌, slice_get}
+use Rattle.std.specs.List.{All, find, position}
+use Rattle.std.proofs.lemmas.List.Elements.{All-append, All-drop, All-head, All-map, All-tail, All-take, All-weaker}
+use Rattle.mcbp_frame.specs.declared.frame.Frame.{Frame}
+use Rattle.mcbp_dcp.specs.DcpFrames.{dcp_frame}
+use Rattle.mcbp_dcp.specs.declared.message.DcpMsg.TheVariants as msg
+use Rattle.vb_types.specs.declared.change.Change.{Change}
+use Rattle.vb_types.specs.declared.stream.Place.{Place}
+use Rattle.vb_types.specs.declared.stream.Place.TheVariants as place
+use Rattle.vb_types.specs.declared.stream.Snapshot.{Snapshot}
+use Rattle.vb_events.specs.declared.event.Event.{Event}
+use Rattle.vb_events.specs.declared.event.Event.TheVariants as event
+use Rattle.vb_events.specs.declared.event.StreamName.{StreamName}
+use Rattle.vb_calls.specs.declared.calls.VbAnswer.{VbAnswer}
+use Rattle.vb_calls.specs.declared.calls.VbAnswer.TheVariants as answer
+use Rattle.vb_calls.specs.declared.calls.VbCall.{VbCall}
+use Rattle.vb_calls.specs.declared.calls.VbCall.TheVariants as call
+use Rattle.vb_calls.specs.declared.calls.VbReply.{VbReply}
+use Rattle.vb_calls.specs.Programs.{AlwaysWith, Done, More, Prog, Stop, Turn, bind, go_on, repeated}
+use Rattle.vb_calls.proofs.Conduct.{always_bind}
+use Rattle.flow_control.specs.Windows.{is_open}
+use Rattle.dcp_producer.specs.declared.halt.Halt.{Halt}
+use Rattle.dcp_producer.specs.declared.halt.Halt.TheVariants as halt
+use Rattle.dcp_producer.specs.declared.next_frame.NextFrame.TheVariants as next
+use Rattle.dcp_producer.specs.Frames.{Next, STATE_CHANGED, act_message, close_sent, item_line, marker_flags, next_by, next_frame, over, past_item, place_requested, place_said, placed_next, reaches_end, take_answered, taken_next, with_snapshot}
+use Rattle.dcp_producer.specs.Pairs.{PutFew}
+use Rattle.dcp_producer.specs.Producers.{PlainProducer, PlainStream, Served, replaced, with_stream, without_id, without_place, without_stream}
+use Rattle.dcp_producer.specs.Pulling.{Pulling, QuietOnes, came, frame_put, frames_put, is_quiet, none_quiet, one_frame, one_turn, past_turn, pull_of, pulled, quiet_halt, stream_asked, stream_in, stream_in_turn, stream_went, turn_had, turns_came}
+
+-- the calls that a stream makes for its next frame, and what holds of it as it goes on
+pub record Takes (replies : VbCall → Option VbReply → Type 0) (calls : ℕ → VbCall → Type 0) (G : PlainStream → Type 0) : Type 0 where
+  pub places : (stream : PlainStream) → G stream → calls stream.vb (call.Place stream.id)
+  pub takes : (stream : PlainStream) → G stream → calls stream.vb (call.Take stream.id)
+  pub closes : (stream : PlainStream) → G stream → calls stream.vb (call.CloseStream stream.id)
+  pub passed : (stream : PlainStream) (c : Change) → slice_get stream.items stream.next ≡ Some c → G stream → G (past_item c.seq stream)
+  pub marked : (stream : PlainStream) (reply : VbReply) (snapshot : Snapshot) → replies (call.Take stream.id) (Some reply) → reply.answer ≡ answer.Taken snapshot → G stream → G (with_snapshot stream snapshot)
+
+-- so it is with its frames and their lines
+pub record Lines (replies : VbCall → Option VbReply → Type 0) (G : PlainStream → Type 0) (L : StreamName → Frame → Event → Type 0) : Type 0 where
+  pub items : (name : StreamName) (stream : PlainStream) (c : Change) → slice_get stream.items stream.next ≡ Some c → G stream → L name (dcp_frame (act_message c c.act) stream.opaque stream.vb) (item_line name c)
+  pub markers : (name : StreamName) (stream : PlainStream) (reply : VbReply) (snapshot : Snapshot) → replies (call.Take stream.id) (Some reply) → reply.answer ≡ answer.Taken snapshot → G stream
+      → L name (dcp_frame (msg.SnapshotMarker snapshot.start snapshot.end (marker_flags snapshot.disk)) stream.opaque stream.vb) (event.Marked name snapshot.start snapshot.end (marker_flags snapshot.disk))
+  pub ends : (name : StreamName) (stream : PlainStream) (reason : ℕ) → G stream → L name (dcp_frame (msg.StreamEnd reason) stream.opaque stream.vb) (event.Finished name reason)
+
+-- ---- streams among others
+
+module _ (G : PlainStream → Type 0) where
+  either_stream : (b : Bool) (x y : PlainStream) → G x → G y → G (if b then x else y)
+  either_stream true x y p q = p
+  either_stream false x y p q = q
+
+  pub all_replaced : (left : PlainStream) (xs : List PlainStream) → G left → All G xs → All G (replaced left xs)
+  all_replaced left xs one all =
+      All-map G (λ (other : PlainStream). if other.id == left.id then left else other) xs
+      (All-weaker G (λ (other : PlainStream). G (if other.id == left.id then left else other)) (λ other g. either_stream (other.id == left.id) left other one g) xs all)
+
+  all_place : (at : Option ℕ) (xs : List PlainStream) → All G xs → All G (without_place at xs)
+  all_place None xs all = all
+  all_place (Some at) xs all = All-append G (take at xs) (drop (suc at) xs) (All-take G at xs all) (All-drop G (suc at) xs all)
+
+  pub all_without : (id : ℕ) (xs : List PlainStream) → All G xs → All G (without_id id xs)
+  all_without id xs all = all_place (position (λ stream. stream.id == id) xs) xs all
+
+  found_by : (y x : PlainStream) (more : Option PlainStream) (b : Bool) → (if b then Some y else more) ≡ Some x → G y → (more ≡ Some x → G x) → G x
+  found_by y x more true here one later = let same : y ≡ x = cc here in subst G same one
+  found_by y x more false there one later = later there
+
+  found_so : (test : PlainStream → Bool) (xs : List PlainStream) (x : PlainStream) → find test xs ≡ Some x → All G xs → G x
+  found_so test [] x is all = absurd (cc is)
+  found_so test (y ∷ xs) x is all = found_by y x (find test xs) (test y) is (All-head G y xs all) (λ there. found_so test xs x there (All-tail G y xs all))
+
+  turn_so : (o : Option ℕ) (xs : List PlainStream) (x : PlainStream) → stream_in o xs ≡ Some x → All G xs → G x
+  turn_so None xs x is all = absurd (cc is)
+  turn_so (Some id) xs x is all = found_so (λ stream. stream.id == id) xs x is all
+
+quiet_short : (q : QuietOnes) → quiet_halt q ≡ halt.All → ⊥
+quiet_short q = by q.waits
+  where
+    by : (b : Bool) → (if b then halt.WaitSaved else halt.Idle) ≡ halt.All → ⊥
+    by true e = absurd (cc e)
+    by false e = absurd (cc e)
+
+few_put : (k n : ℕ) (h : Halt) → n < k → (h ≡ halt.All → ⊥) → PutFew k n h
+few_put k n halt.All few short = absurd (short refl)
+few_put k n halt.Idle few short = few
+few_put k n halt.Full few short = few
+few_put k n halt.WaitSaved few short = few
+
+module _ (replies : VbCall → Option VbReply → Type 0) (calls : ℕ → VbCall → Type 0) (G : PlainStream → Type 0) (L : StreamName → Frame → Event → Type 0) (takes : Takes replies calls G) (lines : Lines replies G L) where
+  -- ---- the next frame of a stream
+
+  module _ (name : StreamName) where
+    abbrev pub IsLine : Next → Type 0
+    IsLine (next.Put m line, left) = G left × L name (dcp_frame m left.opaque left.vb) line
+    IsLine (next.End reason, left) = G left × L name (dcp_frame (msg.StreamEnd reason) left.opaque left.vb) (event.Finished name reason)
+    IsLine (next.Quiet waits, left) = G left
+
+    abbrev Nexts : Prog Next → Type 0
+    Nexts prog = AlwaysWith replies calls IsLine prog
+
+    module _ (stream : PlainStream) (g : G stream) where
+      end_next : (reason : ℕ) → IsLine (over reason stream)
+      end_next reason = (g, lines.ends name stream reason g)
+
+      take_next : (reply : Option VbReply) → replies (call.Take stream.id) reply → IsLine (take_answered name stream reply)
+      take_next None may = end_next STATE_CHANGED
+      take_next (Some reply) may = by reply.answer refl
+        where
+          by : (a : VbAnswer) → reply.answer ≡ a → IsLine (taken_next name stream a)
+          by (answer.Taken snapshot) is = (takes.marked stream reply snapshot may is g, lines.markers name stream reply snapshot may is g)
+          by answer.Nothing is = g
+          by other is = end_next STATE_CHANGED
+
+      place_next : (o : Option Place) → Nexts (placed_next name stream o)
+      place_next (Some place.Memory) = (takes.takes stream g, λ reply may. take_next reply may)
+      place_next (Some place.WaitSaved) = g
+      place_next None = end_next STATE_CHANGED
+
+      either_next : (b : Bool) (x y : Prog Next) → Nexts x → Nexts y → Nexts (if b then x else y)
+      either_next true x y p q = p
+      either_next false x y p q = q
+
+      any_next : (o : Option Change) → slice_get stream.items stream.next ≡ o → Nexts (next_by name stream o)
+      any_next (Some c) is = (takes.passed stream c is g, lines.items name stream c is g)
+      any_next None is =
+          either_next stream.ended (Done (over STATE_CHANGED stream)) (if reaches_end stream.until stream.marked then close_sent stream else place_requested name stream) (end_next STATE_CHANGED)
+          (either_next (reaches_end stream.until stream.marked) (close_sent stream) (place_requested name stream) (takes.closes stream g, λ reply may. end_next 0) (takes.places stream g, λ reply may. place_next (place_said reply)))
+
+      pub next_so : Nexts (next_frame name stream)
+      unfolding next_frame
+      next_so = any_next (slice_get stream.items stream.next) refl
+
+  -- ---- what holds of a connection after so many frames
+
+  module _ (Q : ℕ → Served → Type 0) (keeps : (n : ℕ) (s : Served) (end : PlainProducer) → end.desk ≡ s.end.desk → Q n s → Q n (record s { end = end }))
+      (puts : (n : ℕ) (s : Served) (f : Frame) (line : Event) → L s.end.desk.stream f line → Q n s → Q (suc n) (frame_put f line s)) where
+    -- and of its streams
+    abbrev Both : ℕ → Served → Type 0
+    Both n s = Q n s × All G s.end.streams
+
+    -- a stream's turn
+    abbrev Turned : ℕ → Turn Pulling Pulling → Type 0
+    Turned n (More p) = Both n p.served
+    Turned n (Stop p) = Both (suc n) p.served
+
+    came_so : (n : ℕ) (s : Served) (q : QuietOnes) → Both n s → (x : Next) → IsLine s.end.desk.stream x → Turned n (came s q x)
+    came_so n s q c (next.Put m line, left) is = (
+      puts n (stream_went left s) (dcp_frame m left.opaque left.vb) line is.1 (keeps n s (with_stream left s.end) refl c.0),
+      all_replaced G left s.end.streams is.0 c.1,
+    )
+    came_so n s q c (next.End reason, left) is = (
+      puts n (record s { end = without_stream left.id (with_stream left s.end) }) (dcp_frame (msg.StreamEnd reason) left.opaque left.vb) (event.Finished s.end.desk.stream reason) is.1
+          (keeps n s (without_stream left.id (with_stream left s.end)) refl c.0),
+      all_without G left.id (replaced left s.end.streams) (all_replaced G left s.end.streams is.0 c.1),
+    )
+    came_so n s q c (next.Quiet waits, left) is = (keeps n s (with_stream left s.end) refl c.0, all_replaced G left s.end.streams is c.1)
+
+    asked_so : (n : ℕ) (s : Served) (q : QuietOnes) (stream : PlainStream) → G stream → Both n s → AlwaysWith replies calls (Turned n) (stream_asked s q stream)
+    asked_so n s q stream g c = always_bind replies calls (IsLine s.end.desk.stream) (Turned n) (next_frame s.end.desk.stream stream) (λ x. Done (came s q x)) (next_so s.end.desk.stream stream g) (came_so n s q c)
+
+    had_so : (n : ℕ) (s : Served) (q : QuietOnes) (o : Option PlainStream) → ((stream : PlainStream) → o ≡ Some stream → G stream) → Both n s → AlwaysWith replies calls (Turned n) (turn_had s q o)
+    had_so n s q None one c = c
+    had_so n s q (Some stream) one c = by (is_quiet stream.id q)
+      where
+        by : (b : Bool) → AlwaysWith replies calls (Turned n) (if b then Done (More (pull_of s q)) else stream_asked s q stream)
+        by true = c
+        by false = asked_so n s q stream (one stream refl) c
+
+    one_so : (n : ℕ) (p : Pulling) → Both n p.served → AlwaysWith replies calls (Turned n) (one_turn p)
+    unfolding one_turn
+    one_so n p c = had_so n (past_turn p.served) p.quiet (stream_in_turn p.served.end) (λ stream is. turn_so G _ p.served.end.streams stream is c.1) (keeps n p.served _ refl c.0, c.1)
+
+    turns_so : (n k : ℕ) (p : Pulling) → Both n p.served → AlwaysWith replies calls (Turned n) (repeated k one_turn p)
+    turns_so n zero p c = c
+    turns_so n (suc k) p c = always_bind replies calls (Turned n) (Turned n) (repeated k one_turn p) (go_on one_turn) (turns_so n k p c) goes
+      where
+        goes : (t : Turn Pulling Pulling) → Turned n t → AlwaysWith replies calls (Turned n) (go_on one_turn t)
+        goes (More q) d = one_so n q d
+        goes (Stop q) d = d
+
+    -- a frame of the connection
+    abbrev Framed : ℕ → Turn Pulling (Served × Halt) → Type 0
+    Framed k (More p) = Both k p.served
+    Framed k (Stop stopped) = (n : ℕ) × Both n stopped.0 × (n < k) × (stopped.1 ≡ halt.All → ⊥)
+
+    framed_so : (n : ℕ) (p : Pulling) → Both n p.served → AlwaysWith replies calls (Framed (suc n)) (one_frame p)
+    unfolding one_frame
+    framed_so n p c = by (is_open p.served.end.window)
+      where
+        comes : (t : Turn Pulling Pulling) → Turned n t → Framed (suc n) (turns_came t)
+        comes (Stop q) d = d
+        comes (More q) d = (n, d, omega arith, quiet_short q.quiet)
+
+        by : (b : Bool) → AlwaysWith replies calls (Framed (suc n)) (if b then bind (repeated (length p.served.end.streams) one_turn p) (λ turns. Done (turns_came turns)) else Done (Stop (p.served, halt.Full)))
+        by true = always_bind replies calls (Turned n) (Framed (suc n)) (repeated (length p.served.end.streams) one_turn p) (λ turns. Done (turns_came turns)) (turns_so n (length p.served.end.streams) p c) comes
+        by false = (n, c, omega arith, λ e. absurd (cc e))
+
+    frames_so : (k : ℕ) (p : Pulling) → Both 0 p.served → AlwaysWith replies calls (Framed k) (repeated k one_frame p)
+    frames_so zero p c = c
+    frames_so (suc k) p c = always_bind replies calls (Framed k) (Framed (suc k)) (repeated k one_frame p) (go_on one_frame) (frames_so k p c) goes
+      where
+        goes : (t : Turn Pulling (Served × Halt)) → Framed k t → AlwaysWith replies calls (Framed (suc k)) (go_on one_frame t)
+        goes (More q) d = framed_so k q d
+        goes (Stop stopped) d = let few = d.2 in (d.0, d.1, omega (arith, few), d.3)
+
+    -- what a pull comes to
+    abbrev pub Puts : ℕ → Served × Halt → Type 0
+    Puts k put = (n : ℕ) × Q n put.0 × All G put.0.end.streams × PutFew k n put.1
+
+    pub frames_come : (k : ℕ) (s : Served) → Q 0 s → All G s.end.streams → AlwaysWith replies calls (Puts k) (frames_put k s)
+    unfolding frames_put
+    frames_come k s c all = always_bind replies calls (Framed k) (Puts k) (repeated k one_frame (pull_of s none_quiet)) pulled (frames_so k (pull_of s none_quiet) (c, all)) comes
+      where
+        comes : (t : Turn Pulling (Served × Halt)) → Framed k t → AlwaysWith replies calls (Puts k) (pulled t)
+        comes (More p) d = (k, d.0, d.1, refl)
+        comes (Stop stopped) d = (d.0, d.1.0, d.1.1, few_put k d.0 stopped.1 d.2 d.3)
