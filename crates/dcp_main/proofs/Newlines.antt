@@ -120,8 +120,14 @@ pub link_plain : (link : ℕ) → newlines (text.link_text link) ≡ 0
 unfolding text.link_text
 link_plain link = omega (arith, newlines_both (codes "L") (decimal link), decimal_plain link)
 
+pub client_plain : (node client : ℕ) → newlines (text.client_text node client) ≡ 0
+unfolding text.client_text
+client_plain node client =
+    omega (arith, newlines_both (codes "C") (decimal node ++ 46 ∷ decimal client), newlines_both (decimal node) (46 ∷ decimal client), decimal_plain node, decimal_plain client)
+
 pub stream_plain : (name : StreamName) → newlines (text.stream_text name) ≡ 0
 stream_plain (stream.Link link) = link_plain link
+stream_plain (stream.Client node client) = client_plain node client
 
 pub extent_plain : (at ss se docs preps : ℕ) → newlines (text.extent_text at ss se docs preps) ≡ 0
 unfolding text.extent_text

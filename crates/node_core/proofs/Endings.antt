@@ -4,7 +4,6 @@ use Rattle.std.specs.Prelude.{if◌then◌else◌, is_some, nat_lt, ◌≤◌}
 use Rattle.std.proofs.lemmas.Bool.{lt-ltb}
 use Rattle.std.proofs.lemmas.Bool.Decides.{nat_tests}
 use Rattle.slab.specs.Slab.{get, Updates}
-use Rattle.client_session.specs.Serving.{PlainSession}
 use Rattle.mcbp_frame.specs.declared.frame.FrameFault.{FrameFault}
 use Rattle.vb_events.specs.declared.event.EndReason.{EndReason}
 use Rattle.vb_events.specs.declared.event.EndReason.TheVariants as reason
@@ -24,6 +23,7 @@ use Rattle.node_core.specs.declared.conn.Conn.{Conn}
 use Rattle.node_core.specs.declared.conn.Conn.TheVariants as conn
 use Rattle.node_core.specs.declared.node.Node.{Node}
 use Rattle.node_core.specs.declared.out.NodeOut.{NodeOut}
+use Rattle.node_core.specs.Clients.{PlainClient}
 use Rattle.node_core.specs.Dials.{DialResult, adopt_result, again_result, with_last_line, with_end_line, fault_met, is_done, is_done_answer, message_result, over_for, rolled_back, taken_as, granted_with}
 use Rattle.node_core.specs.EndingLaws.{IsClosed, KeepsOpen, LetsClosedGo, LeavesOpenAlone, IsOverFor, IsMade, IsTaken, IsOfDisk, OverByRefusals, LastLines}
 use Rattle.node_core.specs.Outcomes.{ConnFed, ConnPosted, kept_unless}
@@ -52,13 +52,13 @@ module _ {W J : Type 0} (key : ℕ) (old : Node W J) (out : NodeOut) (new : Node
 module _ {W : Type 0} (step : W → ℕ → VbCall → Option VbReply → W → Type 0) where
   fed_says : (clock : ℕ) (piece : List ℕ) (found : Conn) (old : W) (out : NodeOut) (left : Conn) (new : W) → ConnFed step clock piece found old out left new → IsClosed left → out.closed ≡ true
   fed_says clock piece (conn.Client kept) old out (conn.Client left) new fed is_closed =
-      let by = fed.2 in ap (λ (o : NodeOut). o.closed) by.2 ∙ ap (λ (s : PlainSession). s.closed) (sym by.3) ∙ is_closed
+      let by = fed.2 in ap (λ (o : NodeOut). o.closed) by.2 ∙ ap (λ (c : PlainClient). c.session.closed) (sym by.3) ∙ is_closed
   fed_says clock piece (conn.Client kept) old out (conn.Peer left) new fed is_closed = absurd fed
   fed_says clock piece (conn.Peer kept) old out left new fed is_closed = absurd (subst IsClosed fed.2 is_closed tt)
 
   posted_says : (clock : ℕ) (outcome : Resolved) (found : Conn) (old : W) (out : NodeOut) (left : Conn) (new : W) → ConnPosted step clock outcome found old out left new → IsClosed left → out.closed ≡ true
   posted_says clock outcome (conn.Client kept) old out (conn.Client left) new posted is_closed =
-      let by = posted.2 in ap (λ (o : NodeOut). o.closed) by.2 ∙ ap (λ (s : PlainSession). s.closed) (sym by.3) ∙ is_closed
+      let by = posted.2 in ap (λ (o : NodeOut). o.closed) by.2 ∙ ap (λ (c : PlainClient). c.session.closed) (sym by.3) ∙ is_closed
   posted_says clock outcome (conn.Client kept) old out (conn.Peer left) new posted is_closed = absurd posted
   posted_says clock outcome (conn.Peer kept) old out left new posted is_closed = absurd (subst IsClosed posted.2 is_closed tt)
 
@@ -70,8 +70,8 @@ lets_closed_go W J step = record {
 
 pub leaves_open_alone : LeavesOpenAlone
 leaves_open_alone = record {
-  is_closed = λ session is. ap (λ b. if b then None else Some session) is;
-  still_open = λ session is. ap (λ b. if b then None else Some session) is;
+  is_closed = λ client is. ap (λ b. if b then None else Some client) is;
+  still_open = λ client is. ap (λ b. if b then None else Some client) is;
   let_go = λ c. refl;
   kept = λ c. refl;
 }

@@ -14,3 +14,9 @@ pub mod Resolving
 pub mod Endings
 pub mod Pieces
 pub mod Refusing
+pub mod Turning
+pub mod ClientTurns
+pub mod ClientFrames
+pub mod ProducerLines
+pub mod ClientLaws
+pub mod Handlings

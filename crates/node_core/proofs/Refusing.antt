@@ -10,7 +10,6 @@ refuses_others step = record {
   bytes = λ clock piece kept old out left new fed. (fed.1, fed.2, fed.0);
   outcomes = λ clock outcome kept old out left new posted. (posted.1, posted.2, posted.0);
   frames = λ f kept old out left new answered. (answered.1, answered.2, answered.0);
-  pulls = λ frames kept old out left new pulled. (pulled.2, pulled.3, pulled.1);
   hears = λ piece kept frames left heard. heard;
 }
 

@@ -1,11 +1,9 @@
 -- what a connection and a dial refuse, and which calls an operator's are, in other words
 use Rattle.std.specs.Prelude.{◌≡◌, ℕ, false, List, [], Option, Some, None}
 use Rattle.mcbp_frame.specs.declared.frame.Frame.{Frame}
-use Rattle.client_session.specs.Serving.{KeptSession}
 use Rattle.vb_events.specs.declared.event.Answer.{Answer}
 use Rattle.vb_events.specs.declared.event.Answer.TheVariants as line
 use Rattle.vb_events.specs.declared.event.Cause.TheVariants as cause
-use Rattle.vb_events.specs.declared.event.Why.TheVariants as why
 use Rattle.vb_calls.specs.declared.calls.Resolved.{Resolved}
 use Rattle.vb_calls.specs.declared.calls.VbCall.{VbCall}
 use Rattle.vb_calls.specs.declared.calls.VbReply.{VbReply}
@@ -13,7 +11,8 @@ use Rattle.node_core.specs.declared.conn.Conn.{Conn}
 use Rattle.node_core.specs.declared.conn.Conn.TheVariants as conn
 use Rattle.node_core.specs.declared.node.Node.{Node}
 use Rattle.node_core.specs.declared.out.NodeOut.{NodeOut}
-use Rattle.node_core.specs.Outcomes.{ConnAnswered, ConnFed, ConnHeard, ConnPosted, ConnPulled, DialDueAt, DialFedAt, DialShutAt, FedAt, PostedAt, AnsweredAt, PulledAt, ShutAt}
+use Rattle.node_core.specs.Clients.{KeptClient}
+use Rattle.node_core.specs.Outcomes.{ConnAnswered, ConnFed, ConnHeard, ConnPosted, DialDueAt, DialFedAt, DialShutAt, FedAt, PostedAt, AnsweredAt, PulledAt, ShutAt}
 use Rattle.node_core.specs.Peers.{KeptPeer}
 use Rattle.vb_calls.specs.Shelves.{Ask, Got}
 
@@ -22,17 +21,15 @@ abbrev pub SaysAlone : Answer → NodeOut → Type 0
 SaysAlone said out = out ≡ record { events = []; out = []; answer = said; closed = false; resolved = [] }
 
 module _ {W : Type 0} (step : W → ℕ → VbCall → Option VbReply → W → Type 0) where
-  -- a peer's connection takes no bytes and no outcome as a client's does, and a client's has no frames: each is as before, and no vBucket is called
+  -- a peer's connection takes no bytes and no outcome as a client's does, and a client's answers no frames as a peer's does, and gives none: each is as before, and no vBucket is called
   pub record RefusesOthers : Type 0 where
     pub bytes : (clock : ℕ) (piece : List ℕ) (kept : KeptPeer) (old : W) (out : NodeOut) (left : Conn) (new : W) → ConnFed step clock piece (conn.Peer kept) old out left new
         → SaysAlone (line.No cause.LinkClosed) out × (left ≡ conn.Peer kept) × (new ≡ old)
     pub outcomes : (clock : ℕ) (outcome : Resolved) (kept : KeptPeer) (old : W) (out : NodeOut) (left : Conn) (new : W) → ConnPosted step clock outcome (conn.Peer kept) old out left new
         → SaysAlone (line.No cause.LinkClosed) out × (left ≡ conn.Peer kept) × (new ≡ old)
-    pub frames : (f : Frame) (kept : KeptSession) (old : W) (out : NodeOut) (left : Conn) (new : W) → ConnAnswered step f (conn.Client kept) old out left new
+    pub frames : (f : Frame) (kept : KeptClient) (old : W) (out : NodeOut) (left : Conn) (new : W) → ConnAnswered step f (conn.Client kept) old out left new
         → SaysAlone (line.No cause.LinkClosed) out × (left ≡ conn.Client kept) × (new ≡ old)
-    pub pulls : (frames : ℕ) (kept : KeptSession) (old : W) (out : NodeOut) (left : Conn) (new : W) → ConnPulled step frames (conn.Client kept) old out left new
-        → SaysAlone (line.Pulled 0 why.Idle) out × (left ≡ conn.Client kept) × (new ≡ old)
-    pub hears : (piece : List ℕ) (kept : KeptSession) (frames : List Frame) (left : Option Conn) → ConnHeard piece (Some (conn.Client kept)) frames left → (frames ≡ []) × (left ≡ Some (conn.Client kept))
+    pub hears : (piece : List ℕ) (kept : KeptClient) (frames : List Frame) (left : Option Conn) → ConnHeard piece (Some (conn.Client kept)) frames left → (frames ≡ []) × (left ≡ Some (conn.Client kept))
 
 -- where a key has no connection, or a vBucket did not dial, what is asked of it is refused, and the node is as before; only that nothing is due is no refusal
 pub record RefusesNobody (W J : Type 0) (step : W → ℕ → VbCall → Option VbReply → W → Type 0) (asks : J → ℕ → (ask : Ask) → Got ask → J → Type 0) : Type 0 where

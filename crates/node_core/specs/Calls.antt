@@ -1,6 +1,5 @@
 -- how a node makes a vBucket, and what a vBucket asks for when its node dials
 use Rattle.std.specs.Prelude.{ℕ, Bool, if◌then◌else◌, List, [], ◌∷◌, map, Option, Some, None, Result, Ok, Err}
-use Rattle.client_session.specs.Serving.{PlainSession}
 use Rattle.vb_events.specs.declared.event.Cause.{Cause}
 use Rattle.vb_events.specs.declared.event.Cause.TheVariants as cause
 use Rattle.vb_events.specs.declared.event.Event.{Event}
@@ -13,6 +12,7 @@ use Rattle.vb_calls.specs.declared.calls.VbCall.TheVariants as call
 use Rattle.vb_calls.specs.declared.calls.VbAnswer.{VbAnswer}
 use Rattle.vb_calls.specs.declared.calls.VbAnswer.TheVariants as answer
 use Rattle.vb_calls.specs.declared.calls.VbReply.{VbReply}
+use Rattle.node_core.specs.Clients.{PlainClient}
 
 -- a vBucket that is made active is on a branch of its own, which has no parent
 abbrev pub branch_lines : ℕ → ℕ → Role → ℕ → List Event
@@ -53,5 +53,5 @@ own_lines_if n v None = []
 own_lines_if n v (Some reply) = own_lines n v reply
 
 -- a session that is closed is let go
-abbrev pub left_open : PlainSession → Option PlainSession
-left_open session = if session.closed then None else Some session
+abbrev pub left_open : PlainClient → Option PlainClient
+left_open client = if client.session.closed then None else Some client

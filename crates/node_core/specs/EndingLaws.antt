@@ -1,7 +1,7 @@
 -- how a client's connection and a dial end, in other words
 use Rattle.std.specs.Prelude.{◌≡◌, ℕ, ◌<◌, ◌≤◌, true, false, List, [], ◌∷◌, ◌++◌, ◌⊎◌, Option, Some, None}
 use Rattle.slab.specs.Slab.{get}
-use Rattle.client_session.specs.Serving.{PlainSession}
+use Rattle.node_core.specs.Clients.{PlainClient}
 use Rattle.mcbp_frame.specs.declared.frame.FrameFault.{FrameFault}
 use Rattle.vb_events.specs.declared.event.EndReason.{EndReason}
 use Rattle.vb_events.specs.declared.event.EndReason.TheVariants as reason
@@ -29,7 +29,7 @@ use Rattle.node_core.specs.Outs.{cut_line}
 
 -- a connection is a client's whose session is closed
 abbrev pub IsClosed : Conn → Type 0
-IsClosed (conn.Client kept) = kept.plain.closed ≡ true
+IsClosed (conn.Client kept) = kept.plain.session.closed ≡ true
 IsClosed (conn.Peer kept) = Unit {0} → ⊥
 
 -- after a call on the connection of a key that handed this out: no connection is kept there that is closed; there is none where it is said to be closed, and else there is one
@@ -45,8 +45,8 @@ pub record LetsClosedGo (W J : Type 0) (step : W → ℕ → VbCall → Option V
 
 -- a session that is closed is no client's any more, and one that is open stays that of its client; so does a connection
 pub record LeavesOpenAlone : Type 0 where
-  pub is_closed : (session : PlainSession) → session.closed ≡ true → left_open session ≡ None
-  pub still_open : (session : PlainSession) → session.closed ≡ false → left_open session ≡ Some session
+  pub is_closed : (client : PlainClient) → client.session.closed ≡ true → left_open client ≡ None
+  pub still_open : (client : PlainClient) → client.session.closed ≡ false → left_open client ≡ Some client
   pub let_go : (c : Conn) → kept_unless true c ≡ None
   pub kept : (c : Conn) → kept_unless false c ≡ Some c
 

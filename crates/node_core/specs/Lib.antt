@@ -2,11 +2,13 @@ pub mod Shown
 pub mod Calls
 pub mod Admin
 pub mod Peers
+pub mod Clients
 pub mod Dials
 pub mod Flushing
 pub mod EndingLaws
 pub mod PieceLaws
 pub mod CallLaws
+pub mod ClientLaws
 pub mod Handing
 pub mod Conduct
 pub mod Outs

@@ -5,7 +5,7 @@ use Rattle.std.specs.BTreeMap.{is_at}
 use Rattle.std.specs.Map.{lookup}
 use Rattle.std.specs.Ordering.{nat_cmp}
 use Rattle.slab.specs.Slab.{get, Updates}
-use Rattle.client_session.specs.Serving.{PlainSession, KeptSession, Served, served, new_session, bytes_handled, outcome_handled, awaits}
+use Rattle.client_session.specs.Serving.{awaits}
 use Rattle.dcp_producer.specs.Ending.{end_closed}
 use Rattle.dcp_consumer.specs.Dialing.{requests}
 use Rattle.dcp_consumer.specs.declared.handshake.Dialed.{Dialed as Link}
@@ -31,9 +31,10 @@ use Rattle.node_core.specs.declared.node.Node.{Node}
 use Rattle.node_core.specs.declared.out.NodeOut.{NodeOut}
 use Rattle.node_core.specs.Admin.{AdminResult, admin_job}
 use Rattle.node_core.specs.Calls.{dial_requested}
+use Rattle.node_core.specs.Clients.{PlainClient, KeptClient, ClientPulled, Handling, new_client, client_fed, client_posted, client_pulled, client_ended}
 use Rattle.node_core.specs.Dials.{PlainDial, KeptDial, DialResult, new_dial, is_over, dial_bytes, dial_due}
 use Rattle.node_core.specs.Flushing.{FlushResult, flush_at}
-use Rattle.node_core.specs.Outs.{flush_out, refused_out, done_out, made_out, client_out, peer_out, pull_out, idle_out, dial_out, cut_out, dial_ended, admin_out}
+use Rattle.node_core.specs.Outs.{flush_out, refused_out, done_out, made_out, client_out, client_pull_out, peer_out, pull_out, dial_out, cut_out, dial_ended, admin_out}
 use Rattle.node_core.specs.Peers.{PlainPeer, KeptPeer, PeerResult, PullResult, new_peer, peer_heard, peer_frames, peer_answered, peer_pulled, peer_ended}
 use Rattle.mcbp_frame.specs.declared.frame.Frame.{Frame}
 use Rattle.vb_calls.specs.declared.calls.Resolved.{Resolved}
@@ -52,8 +53,8 @@ pub record Renumbered {T : Type 0} (old new : List (ℕ × T)) (number : ℕ) (v
   pub others : (other : ℕ) → other ≢ number → value_at new other ≡ value_at old other
 
 -- a client's connection for which memory was never short
-abbrev pub client_conn : PlainSession → Conn
-client_conn session = conn.Client (record { plain = session; spent = false })
+abbrev pub client_conn : PlainClient → Conn
+client_conn client = conn.Client (record { plain = client; spent = false })
 
 -- a peer's connection for which memory was never short
 abbrev pub peer_conn : PlainPeer → Conn
@@ -68,26 +69,26 @@ abbrev pub is_spent : Conn → Bool
 is_spent (conn.Client kept) = kept.spent
 is_spent (conn.Peer kept) = kept.spent
 
--- what is left of a connection where memory was short: a client's or a peer's as before, a peer's at its desk, and one that was spent before stays as it is
+-- what is left of a connection where memory was short: a client's or a peer's as before, at its desk, and one that was spent before stays as it is
 abbrev pub LeftOf : Conn → Conn → Type 0
-LeftOf (conn.Client kept) (conn.Client left) = kept.spent ≡ true → left ≡ kept
+LeftOf (conn.Client kept) (conn.Client left) = (left.plain.producer.desk ≡ kept.plain.producer.desk) × (kept.spent ≡ true → left ≡ kept)
 LeftOf (conn.Peer kept) (conn.Peer left) = (left.plain.producer.desk ≡ kept.plain.producer.desk) × (kept.spent ≡ true → left ≡ kept)
 LeftOf kept left = ⊥
 
 -- a new connection of the node n
 abbrev pub new_conn : ℕ → ConnKind → Conn
-new_conn n (kind.Client client base) = client_conn (new_session (record { node = n; client = client; base = base }))
+new_conn n (kind.Client client base) = client_conn (new_client (record { node = n; client = client; base = base }))
 new_conn n (kind.Peer stream base) = peer_conn (new_peer (record { stream = stream; node = n; base = base }))
 
 -- a connection, where a change of role at the vBucket v ended the streams of these numbers, if there was one
 abbrev pub conn_ended : ℕ → Option (List ℕ) → Conn → Conn
 conn_ended v None c = c
-conn_ended v (Some ids) (conn.Client kept) = conn.Client kept
+conn_ended v (Some ids) (conn.Client kept) = conn.Client (record kept { plain = client_ended v ids kept.plain })
 conn_ended v (Some ids) (conn.Peer kept) = conn.Peer (record kept { plain = peer_ended v ids kept.plain })
 
 -- the outcome of the durable write of this waiter is awaited at a connection
 abbrev pub conn_awaits : ℕ → Option Conn → Bool
-conn_awaits waiter (Some (conn.Client kept)) = awaits waiter kept.plain.awaited
+conn_awaits waiter (Some (conn.Client kept)) = awaits waiter kept.plain.session.awaited
 conn_awaits waiter other = false
 
 -- a connection was given bytes, and these are the frames that are whole now: it is a peer's and was not spent. There are none for any other connection
@@ -126,17 +127,17 @@ abbrev pub dial_left : PlainDial → Option KeptDial
 dial_left dial = if is_over dial then None else Some (live_dial dial)
 
 module _ {W : Type 0} (step : W → ℕ → VbCall → Option VbReply → W → Type 0) where
-  -- a client's connection was given bytes: it was not spent, and its session went through them
-  abbrev pub ClientFed : ℕ → List ℕ → KeptSession → W → NodeOut → KeptSession → W → Type 0
+  -- a client's connection was given bytes: it was not spent, and went through them
+  abbrev pub ClientFed : ℕ → List ℕ → KeptClient → W → NodeOut → KeptClient → W → Type 0
   ClientFed clock piece kept old out left new =
       (kept.spent ≡ false) × (left.spent ≡ false)
-      × ((s : Served) × Ran step (bytes_handled clock piece (served kept.plain [])) old s new × (out ≡ client_out s) × (left.plain ≡ s.session))
+      × ((h : Handling) × Ran step (client_fed clock piece kept.plain) old h new × (out ≡ client_out h) × (left.plain ≡ h.client))
 
-  -- a client's connection was told what became of a durable write: it was not spent, and its session went on
-  abbrev pub ClientPosted : ℕ → Resolved → KeptSession → W → NodeOut → KeptSession → W → Type 0
+  -- a client's connection was told what became of a durable write: it was not spent, and went on
+  abbrev pub ClientPosted : ℕ → Resolved → KeptClient → W → NodeOut → KeptClient → W → Type 0
   ClientPosted clock outcome kept old out left new =
       (kept.spent ≡ false) × (left.spent ≡ false)
-      × ((s : Served) × Ran step (outcome_handled clock outcome (served kept.plain [])) old s new × (out ≡ client_out s) × (left.plain ≡ s.session))
+      × ((h : Handling) × Ran step (client_posted clock outcome kept.plain) old h new × (out ≡ client_out h) × (left.plain ≡ h.client))
 
   -- a peer's frame was answered
   abbrev pub PeerAnswered : Frame → KeptPeer → W → NodeOut → KeptPeer → W → Type 0
@@ -162,9 +163,9 @@ module _ {W : Type 0} (step : W → ℕ → VbCall → Option VbReply → W → 
   ConnAnswered f (conn.Peer kept) old out (conn.Client left) new = ⊥
   ConnAnswered f (conn.Client kept) old out left new = (new ≡ old) × (out ≡ refused_out cause.LinkClosed) × (left ≡ conn.Client kept)
 
-  -- memory was short while a client's connection was given bytes: its session began them, unless it was spent already
-  abbrev pub ClientStopped : ℕ → List ℕ → KeptSession → W → W → Type 0
-  ClientStopped clock piece kept old new = (kept.spent ≡ true → new ≡ old) × Began step (bytes_handled clock piece (served kept.plain [])) old new
+  -- memory was short while a client's connection was given bytes: it began them, unless it was spent already
+  abbrev pub ClientStopped : ℕ → List ℕ → KeptClient → W → W → Type 0
+  ClientStopped clock piece kept old new = (kept.spent ≡ true → new ≡ old) × Began step (client_fed clock piece kept.plain) old new
 
   -- memory was short while a client's connection was given bytes
   abbrev pub ConnStopped : ℕ → List ℕ → Conn → W → W → Type 0
@@ -173,7 +174,7 @@ module _ {W : Type 0} (step : W → ℕ → VbCall → Option VbReply → W → 
 
   -- memory was short while a client's connection was told what became of a durable write
   abbrev pub ConnUnposted : ℕ → Resolved → Conn → W → W → Type 0
-  ConnUnposted clock outcome (conn.Client kept) old new = (kept.spent ≡ true → new ≡ old) × Began step (outcome_handled clock outcome (served kept.plain [])) old new
+  ConnUnposted clock outcome (conn.Client kept) old new = (kept.spent ≡ true → new ≡ old) × Began step (client_posted clock outcome kept.plain) old new
   ConnUnposted clock outcome (conn.Peer kept) old new = ⊥
 
   -- memory was short while a peer's connection answered a frame
@@ -187,20 +188,27 @@ module _ {W : Type 0} (step : W → ℕ → VbCall → Option VbReply → W → 
       (kept.spent ≡ false) × (left.spent ≡ false)
       × ((told : PullResult) × Ran step (peer_pulled frames kept.plain) old told new × (out ≡ pull_out told) × (left.plain ≡ told.peer))
 
+  -- a client's connection was asked for frames of its streams
+  abbrev pub ClientWasPulled : ℕ → KeptClient → W → NodeOut → KeptClient → W → Type 0
+  ClientWasPulled frames kept old out left new =
+      (kept.spent ≡ false) × (left.spent ≡ false)
+      × ((told : ClientPulled) × Ran step (client_pulled frames kept.plain) old told new × (out ≡ client_pull_out told) × (left.plain ≡ told.client))
+
   -- a connection was asked for frames of its streams
   abbrev pub ConnPulled : ℕ → Conn → W → NodeOut → Conn → W → Type 0
-  ConnPulled frames (conn.Client kept) old out left new = (kept.spent ≡ false) × (new ≡ old) × (out ≡ idle_out) × (left ≡ conn.Client kept)
+  ConnPulled frames (conn.Client kept) old out (conn.Client left) new = ClientWasPulled frames kept old out left new
+  ConnPulled frames (conn.Client kept) old out (conn.Peer left) new = ⊥
   ConnPulled frames (conn.Peer kept) old out (conn.Peer left) new = PeerPulled frames kept old out left new
   ConnPulled frames (conn.Peer kept) old out (conn.Client left) new = ⊥
 
-  -- memory was short while a connection was asked for frames; a client's connection makes no call
+  -- memory was short while a connection was asked for frames
   abbrev pub ConnHalted : ℕ → Conn → W → W → Type 0
-  ConnHalted frames (conn.Client kept) old new = (kept.spent ≡ true) × (new ≡ old)
+  ConnHalted frames (conn.Client kept) old new = (kept.spent ≡ true → new ≡ old) × Began step (client_pulled frames kept.plain) old new
   ConnHalted frames (conn.Peer kept) old new = (kept.spent ≡ true → new ≡ old) × Began step (peer_pulled frames kept.plain) old new
 
-  -- a connection was let go: a peer's streams are closed at their vBuckets
+  -- a connection was let go: its streams are closed at their vBuckets
   abbrev pub ConnShut : Conn → W → W → Type 0
-  ConnShut (conn.Client kept) old new = new ≡ old
+  ConnShut (conn.Client kept) old new = Ran step (end_closed kept.plain.producer) old tt new
   ConnShut (conn.Peer kept) old new = Ran step (end_closed kept.plain.producer) old tt new
 
 module _ {W J : Type 0} (step : W → ℕ → VbCall → Option VbReply → W → Type 0) where

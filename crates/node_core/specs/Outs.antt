@@ -1,6 +1,5 @@
 -- what a call of a node hands out
 use Rattle.std.specs.Prelude.{◌≡◌, ℕ, Bool, true, false, List, [], ◌∷◌, Option, Some, None, Result, Ok, Err, if◌then◌else◌}
-use Rattle.client_session.specs.Serving.{Served}
 use Rattle.vb_events.specs.declared.event.Answer.{Answer}
 use Rattle.vb_events.specs.declared.event.Answer.TheVariants as answer
 use Rattle.dcp_consumer.specs.Machine.{over_why}
@@ -10,7 +9,6 @@ use Rattle.vb_events.specs.declared.event.EndReason.{EndReason}
 use Rattle.vb_events.specs.declared.event.EndReason.TheVariants as reason
 use Rattle.vb_events.specs.declared.event.Event.{Event}
 use Rattle.vb_events.specs.declared.event.Event.TheVariants as event
-use Rattle.vb_events.specs.declared.event.Why.TheVariants as why
 use Rattle.vb_types.specs.declared.role.Role.{Role}
 use Rattle.node_core.specs.declared.out.NodeOut.{NodeOut}
 use Rattle.node_core.specs.declared.roles.AdminResult.{AdminResult as Lines}
@@ -21,6 +19,7 @@ use Rattle.vb_calls.specs.declared.journals.Wrote.{Wrote}
 use Rattle.node_core.specs.Calls.{branch_lines}
 use Rattle.node_core.specs.Flushing.{FlushResult}
 use Rattle.node_core.specs.Dials.{PlainDial, KeptDial, DialResult, is_broken, is_over}
+use Rattle.node_core.specs.Clients.{PlainClient, Handling, ClientPulled}
 use Rattle.node_core.specs.Peers.{PlainPeer, PeerResult, PullResult}
 
 -- the call was refused, and nothing happened
@@ -52,9 +51,21 @@ flush_by out = record { events = out.events; answer = out.answer; resolved = out
 abbrev pub start_by : Started → FlushResult
 start_by told = record { events = told.lines.items; answer = told.answer; resolved = [] }
 
--- what a client's bytes hand out
-abbrev pub client_out : Served → NodeOut
-client_out s = record { events = s.events; out = []; answer = answer.Ok; closed = s.session.closed; resolved = [] }
+-- what a client's bytes hand out, or an outcome
+abbrev pub client_out : Handling → NodeOut
+client_out h = record { events = h.events; out = []; answer = answer.Ok; closed = h.client.session.closed; resolved = [] }
+
+-- what came of a client's connection, by what it handed out and the connection after it: no frame is left to be answered
+abbrev pub handling_by : PlainClient → NodeOut → Handling
+handling_by client out = record { client = client; events = out.events; dcp = None }
+
+-- what frames of a client's streams hand out
+abbrev pub client_pull_out : ClientPulled → NodeOut
+client_pull_out told = record { events = told.events; out = []; answer = told.answer; closed = false; resolved = [] }
+
+-- what was told of them, by what they handed out and the connection after them
+abbrev pub client_pulled_by : PlainClient → NodeOut → ClientPulled
+client_pulled_by client out = record { client = client; events = out.events; answer = out.answer }
 
 -- what a peer's frame hands out
 abbrev pub peer_out : PeerResult → NodeOut
@@ -71,10 +82,6 @@ pull_out told = record { events = told.events; out = told.out; answer = told.ans
 -- what was told of frames, by what they handed out and the connection after them
 abbrev pub pulled_by : PlainPeer → NodeOut → PullResult
 pulled_by peer out = record { peer = peer; events = out.events; out = out.out; answer = out.answer }
-
--- a client's connection has no streams
-abbrev pub idle_out : NodeOut
-idle_out = record { events = []; out = []; answer = answer.Pulled 0 why.Idle; closed = false; resolved = [] }
 
 -- the answer to bytes for a dial: a rollback could not be written down, or they were taken
 abbrev pub dial_answer : Option EndReason → Answer

@@ -13,8 +13,8 @@ pub fn operators_call_by_name()
     ensures rest { (admin_call admin.Seal ≡ call.Seal) × (admin_call admin.Stat ≡ call.Stat) × (admin_call admin.Show ≡ call.Show) × (admin_call admin.Log ≡ call.Log) }
 {}
 
-/// A connection refuses what is for one of the other kind, and a client's has no frames of streams.
-/// Where there is no connection, or no dial, all that is asked of it is refused, and nothing changes.
+/// A connection refuses what is for one of the other kind. Where there is no connection, or no dial, all
+/// that is asked of it is refused, and nothing changes.
 pub fn others_are_refused<A: VbAccess, J: Journals>()
     ensures kinds { RefusesOthers A.step }
     ensures nobody { RefusesNobody A J A.step J.asks }

@@ -3,20 +3,19 @@ ghost use Rattle.std.specs.Prelude.{◌≡◌, ◌<◌, ℕ, true, IfOk, OnErr, 
 ghost use Rattle.{std.specs.Option.{option_map}, node_core.specs.Outcomes.{new_conn, is_spent, LeftOf, conn_ended, conn_awaits, kept_unless, ConnFed, ConnHeard, ConnStopped, ConnPosted, ConnUnposted, ConnAnswered, ConnUnanswered, ConnPulled, ConnHalted, ConnShut}};
 ghost use Rattle.slab.specs.Slab.{get, HasRoomFor, Updates};
 
-use crate::{Alloc, NodeOut, Peer};
-use bytes::Bytes;
-use client_session::{Session, Who};
+use crate::{Alloc, Client, NodeOut, Peer};
+use client_session::Who;
 use dcp_producer::Desk;
 use mcbp_frame::Frame;
 use slab::Slab;
-use std::alloc::{AllocError, Global};
+use std::alloc::Global;
 use vb_calls::{Resolved, VbAccess};
-use vb_events::{Answer, Cause, StreamName, Why};
+use vb_events::{Cause, StreamName};
 
-/// A connection: a client's, or a peer's, which streams feed.
+/// A connection: a client's, or a peer's. Streams may feed either.
 #[derive(Drop)]
 pub enum Conn {
-    Client(Session),
+    Client(Client),
     Peer(Peer),
 }
 
@@ -24,7 +23,7 @@ pub enum Conn {
 #[derive(Clone, Copy)]
 pub enum ConnKind {
     /// The client of this number; and the number, of no other connection of a run, by which its waits
-    /// for durable writes are numbered.
+    /// for durable writes and its streams are numbered.
     Client { client: u32, base: u32 },
     /// A peer: its name in the transcript; and the number, of no other connection of a run, by which
     /// its streams are numbered.
@@ -39,7 +38,7 @@ impl Conn {
         match kind {
             ConnKind::Client { client, base } => {
                 let who = Who { node, client, base };
-                Ok(Conn::Client(Session::new(alloc, who)?))
+                Ok(Conn::Client(Client::new(alloc, who)?))
             }
             ConnKind::Peer { stream, base } => {
                 let desk = Desk { stream, node, base };
@@ -64,10 +63,7 @@ impl Conn {
         ensures left { OnErr result (LeftOf self.old self.new) }
     {
         match self {
-            Conn::Client(session) => {
-                let step = session.feed(vbs, clock, piece)?;
-                Ok(NodeOut::done(alloc, step.events, Bytes::new()).closed_if(step.closed))
-            }
+            Conn::Client(client) => client.feed(vbs, clock, piece),
             Conn::Peer(_) => Ok(NodeOut::refused(alloc, Cause::LinkClosed)),
         }
     }
@@ -77,7 +73,7 @@ impl Conn {
         ensures { result ≡ conn_awaits waiter (Some self.now) }
     {
         match self {
-            Conn::Client(session) => session.awaits(waiter),
+            Conn::Client(client) => client.awaits(waiter),
             Conn::Peer(_) => false,
         }
     }
@@ -98,10 +94,7 @@ impl Conn {
         ensures left { OnErr result (LeftOf self.old self.new) }
     {
         match self {
-            Conn::Client(session) => {
-                let step = session.resolved(vbs, clock, outcome)?;
-                Ok(NodeOut::done(alloc, step.events, Bytes::new()).closed_if(step.closed))
-            }
+            Conn::Client(client) => client.post(vbs, clock, outcome),
             Conn::Peer(_) => Ok(NodeOut::refused(alloc, Cause::LinkClosed)),
         }
     }
@@ -138,7 +131,7 @@ impl Conn {
         }
     }
 
-    /// Puts at most so many frames of its streams; a client's connection has none.
+    /// Puts at most so many frames of its streams.
     pub fn pull<A: VbAccess>(&mut self, alloc: Global, vbs: &mut A, frames: u32) -> Alloc<NodeOut>
         ensures ok { IfOk result (λ out. ConnPulled A.step frames self.old vbs.old out self.new vbs.new) }
         ensures err { OnErr result (ConnHalted A.step frames self.old vbs.old vbs.new) }
@@ -146,10 +139,7 @@ impl Conn {
         ensures left { OnErr result (LeftOf self.old self.new) }
     {
         match self {
-            Conn::Client(session) if !session.is_spent() => {
-                Ok(NodeOut::answered(alloc, Answer::Pulled(0, Why::Idle)))
-            }
-            Conn::Client(_) => Err(AllocError),
+            Conn::Client(client) => client.pull(vbs, frames),
             Conn::Peer(peer) => peer.pull(alloc, vbs, frames),
         }
     }
@@ -158,8 +148,9 @@ impl Conn {
     pub fn ended(&mut self, vb: u16, ids: &[u64])
         ensures { self.new ≡ conn_ended vb (Some ids.now) self.old }
     {
-        if let Conn::Peer(peer) = self {
-            peer.ended(vb, ids);
+        match self {
+            Conn::Client(client) => client.ended(vb, ids),
+            Conn::Peer(peer) => peer.ended(vb, ids),
         }
     }
 
@@ -167,8 +158,9 @@ impl Conn {
     pub fn close<A: VbAccess>(&self, vbs: &mut A)
         ensures { ConnShut A.step self.now vbs.old vbs.new }
     {
-        if let Conn::Peer(peer) = self {
-            peer.close(vbs);
+        match self {
+            Conn::Client(client) => client.close(vbs),
+            Conn::Peer(peer) => peer.close(vbs),
         }
     }
 }

@@ -5,7 +5,10 @@
 mod admin;
 mod call_laws;
 mod changes;
+mod client;
+mod client_laws;
 mod conn;
+mod copies;
 mod dials;
 mod ending_laws;
 mod laws;
@@ -21,6 +24,11 @@ mod show;
 
 pub use admin::AdminCall;
 pub use call_laws::{operators_call_by_name, others_are_refused};
+pub use client::Client;
+pub use client_laws::{
+    clients_get_their_frames, closed_clients_close_streams, dcp_is_passed_on,
+    roles_end_clients_streams,
+};
 pub use conn::{Conn, ConnKind};
 pub use dials::Dial;
 pub use ending_laws::{closed_sessions_are_let_go, refusals_end_dials};

@@ -13,11 +13,12 @@ use vb_calls::VbAccess;
 use vb_events::Answer;
 
 /// A peer's connection: the bytes that came and are no whole frame yet, and the producer of its
-/// streams. After want of memory it is spent: it does nothing any more but close its streams.
+/// streams, in a box, as each call takes the connection out of its node's table and puts it back.
+/// After want of memory it is spent: it does nothing any more but close its streams.
 #[derive(Drop)]
 pub struct Peer {
     reader: FrameReader,
-    producer: Producer,
+    producer: Box<Producer>,
     spent: bool,
 }
 
@@ -26,7 +27,7 @@ impl Model for Peer {
 
     ghost Value = { KeptPeer };
 
-    ghost view = { λ p. record { plain = record { heard = p.reader; producer = p.producer.plain }; spent = p.spent } };
+    ghost view = { λ p. record { plain = record { heard = p.reader; producer = p.producer.value.plain }; spent = p.spent } };
 }
 
 impl Peer {
@@ -36,7 +37,7 @@ impl Peer {
     {
         Ok(Peer {
             reader: FrameReader::new(alloc)?,
-            producer: Producer::new(alloc, desk),
+            producer: Box::new(alloc, Producer::new(alloc, desk))?,
             spent: false,
         })
     }

@@ -2,8 +2,8 @@
 use Rattle.std.proofs.Common.{◌≡◌, ℕ, Bool, true, false, List, [], ◌∷◌, append-nil, refl, ap, sym, ◌∙◌, Option, Some, None}
 use Rattle.std.specs.Prelude.{◌==◌, if◌then◌else◌}
 use Rattle.std.proofs.lemmas.Bool.{eqb-true, eq-eqb}
-use Rattle.client_session.specs.Serving.{PlainSession}
 use Rattle.vb_calls.specs.declared.calls.Resolved.{Resolved}
+use Rattle.node_core.specs.Clients.{PlainClient}
 use Rattle.node_world.specs.declared.told.Told.{Told}
 use Rattle.node_world.specs.declared.script_node.TheConstants.{MAX_CLIENTS}
 use Rattle.node_world.specs.Arms.{PlainNode}
@@ -15,9 +15,9 @@ use Rattle.node_world.specs.Worlds.{PlainWorld, arm_in}
 abbrev pub with_parts : PlainNode → PlainNode → PlainNode
 with_parts node other = record node { vbs = other.vbs; clients = other.clients }
 
-if_leaves : (c : ℕ) (r : Resolved) (node : PlainNode) (o : Option PlainSession) → (posted_if c r node o).0 ≡ with_parts node (posted_if c r node o).0
+if_leaves : (c : ℕ) (r : Resolved) (node : PlainNode) (o : Option PlainClient) → (posted_if c r node o).0 ≡ with_parts node (posted_if c r node o).0
 if_leaves c r node None = refl
-if_leaves c r node (Some session) = refl
+if_leaves c r node (Some client) = refl
 
 to_leaves : (r : Resolved) (node : PlainNode) (o : Option ℕ) → (posted_to r node o).0 ≡ with_parts node (posted_to r node o).0
 to_leaves r node None = refl

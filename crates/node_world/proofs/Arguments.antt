@@ -2,7 +2,6 @@
 use Rattle.std.proofs.Common.{◌≡◌, ℕ, [], ◌∷◌, ◌++◌, refl, ap, ◌∙◌, Option, Some, None, is_some}
 use Rattle.std.specs.Prelude.{option_and_then, if◌then◌else◌}
 use Rattle.std.proofs.lemmas.Bool.{eq-eqb, lt-leb, ne_eqb}
-use Rattle.client_session.specs.Serving.{PlainSession, new_session}
 use Rattle.disk_journals.specs.Arms.{fuse_at, under}
 use Rattle.vb_disk.specs.declared.fuse.Fuse.{Fuse}
 use Rattle.vb_disk.specs.declared.fuse.Fuse.TheVariants as fuse
@@ -17,6 +16,10 @@ use Rattle.vb_calls.specs.Shelves.{Append, Shelf, Shelves, shelves_step}
 use Rattle.vb_calls.specs.State.{Plain, first_log, new_vb}
 use Rattle.vbucket.specs.Rows.{row_at}
 use Rattle.node_core.specs.Calls.{named_ask}
+use Rattle.node_core.specs.Clients.{PlainClient, client_pulled, new_client}
+use Rattle.dcp_producer.specs.Ending.{end_closed}
+use Rattle.vb_calls.specs.Programs.{after}
+use Rattle.vb_calls.specs.States.{States}
 use Rattle.node_world.specs.declared.arm.Arm.{Arm}
 use Rattle.node_world.specs.declared.arm.Fired.TheVariants as fired
 use Rattle.node_world.specs.declared.told.Told.{Told}
@@ -24,11 +27,11 @@ use Rattle.node_world.specs.Arguments.{DialsAs, LeavesClient, MakesVb, PassesArm
 use Rattle.node_world.specs.Arms.{fail_arm, fired_by, no_arm, placed, stop_arm}
 use Rattle.node_world.specs.Causes.{Notes}
 use Rattle.node_world.specs.Links.{PlainLink, ask_of, link_number, new_link, producer_node, pump_at}
-use Rattle.node_world.specs.Nodes.{PlainNode, arm_at, client_at, done, first_cause, hang_at, refusal, refused_or, replica_at, shelf_or_blank, vb_at, vb_made, with_client, with_disk}
+use Rattle.node_world.specs.Nodes.{PlainNode, arm_at, client_at, done, first_cause, hang_at, refusal, refused_or, replica_at, shelf_or_blank, vb_at, vb_made, with_client, with_disk, hung_if, pull_at, pull_if, with_states}
 use Rattle.node_world.specs.Power.{after_fire, with_arm}
 use Rattle.node_world.specs.World.{ask_in, base_of, link_causes, link_outcome, with_dialed, with_link}
 use Rattle.node_world.specs.Worlds.{PlainWorld, Outcome, arm_in, node_outcome, on_made, on_node, vb_in, with_links}
-use Rattle.node_world.proofs.CallsMade.{leaves_so}
+use Rattle.node_world.proofs.CallsMade.{leaves_so, line_is}
 use Rattle.node_world.proofs.NodeCauses.{vb_row}
 use Rattle.node_world.proofs.Shelved.{shelf_here}
 use Rattle.node_world.proofs.Unfired.{append_burns, left_burnt, made_as, over_is, stood_passed}
@@ -36,31 +39,41 @@ use Rattle.node_world.proofs.Unfired.{append_burns, left_burnt, made_as, over_is
 -- ---- connections
 
 module _ (w : PlainWorld) (n : ℕ) (node : PlainNode) (there : w.nodes n ≡ Some node) (up : node.off ≡ None) where
-  left_client : (c : ℕ) (session : Option PlainSession) (told : Told) (f : PlainNode → PlainNode × Told) → f node ≡ (with_client node c session, told) → LeavesClient n c node (with_client node c session) (on_node w n f)
-  left_client c session told f is = record {
-    is = (leaves_so w n node there up f (with_client node c session, told) is).is;
-    others = λ d ne. ap (λ b. if b then session else node.clients d) (ne_eqb d c ne);
+  -- the node with these vBuckets, and this at the connection
+  abbrev left : States → ℕ → Option PlainClient → PlainNode
+  left states c client = with_client (with_states node states) c client
+
+  left_client : (c : ℕ) (states : States) (client : Option PlainClient) (told : Told) (f : PlainNode → PlainNode × Told) → f node ≡ (left states c client, told) → LeavesClient n c node (left states c client) states (on_node w n f)
+  left_client c states client told f is = record {
+    is = (leaves_so w n node there up f (left states c client, told) is).is;
+    others = λ d ne. ap (λ b. if b then client else node.clients d) (ne_eqb d c ne);
     vbs = refl;
   }
 
-  put_client : (c : ℕ) (session : Option PlainSession) → (with_client node c session).clients c ≡ session
-  put_client c session = ap (λ b. if b then session else node.clients c) (eq-eqb c c refl)
+  put_client : (c : ℕ) (client : Option PlainClient) → (with_client node c client).clients c ≡ client
+  put_client c client = ap (λ b. if b then client else node.clients c) (eq-eqb c c refl)
 
   pub clients : PassesClients w n node
   clients = record {
     opens = λ number c none.
-        let session : PlainSession = new_session (record { node = n; client = c; base = base_of number }) in (
-          with_client node c (Some session),
-          session,
-          left_client c (Some session) (done []) (client_at n (base_of number) c) (ap (λ o. if is_some o then (node, refusal cause.LinkOpen) else (with_client node c (Some session), done [])) none),
-          put_client c (Some session),
+        let client : PlainClient = new_client (record { node = n; client = c; base = base_of number }) in (
+          with_client node c (Some client),
+          client,
+          left_client c node.vbs (Some client) (done []) (client_at n (base_of number) c) (ap (λ o. if is_some o then (node, refusal cause.LinkOpen) else (with_client node c (Some client), done [])) none),
+          put_client c (Some client),
+          refl,
           refl,
         );
-    hangs = λ number c session is. (
-      with_client node c None,
-      left_client c None (done []) (hang_at c) (ap (λ o. if is_some o then (with_client node c None, done []) else (node, refusal cause.LinkClosed)) is),
-      put_client c None,
-    );
+    hangs = λ number c client is. let states = (after (end_closed client.producer) node.vbs).0 in (left states c None, left_client c states None (done []) (hang_at c) (ap (hung_if c node) is), put_client c None);
+    pulls = λ number c frames client is.
+        let put = after (client_pulled frames client) node.vbs in
+        let told : Told = record { events = put.1.events; answer = put.1.answer } in
+        let goes : pull_at c frames node ≡ (left put.0 c (Some put.1.client), told) = ap (pull_if c frames node) is in (
+          left put.0 c (Some put.1.client),
+          left_client c put.0 (Some put.1.client) told (pull_at c frames) goes,
+          put_client c (Some put.1.client),
+          ap (λ (o : Outcome). o.1) (line_is w n node there up (pull_at c frames)) ∙ ap (λ (x : PlainNode × Told). x.1) goes,
+        );
   }
 
 -- ---- arms

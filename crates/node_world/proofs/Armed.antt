@@ -18,7 +18,7 @@ use Rattle.node_world.specs.declared.arm.Arm.{Arm}
 use Rattle.node_world.specs.declared.script_node.ScriptNode.{ScriptNode}
 use Rattle.node_world.specs.declared.told.Told.{Told}
 use Rattle.node_world.specs.Arms.{PlainNode, fuse_or, placed, under_arm}
-use Rattle.node_world.specs.Ends.{Carries, FeedsDial, KeepsEnds, LiftsArm, PlacesArm, PutsDial, SetsRole, TellsEnds, dial_given, dial_under, kept_peer_ended}
+use Rattle.node_world.specs.Ends.{Carries, FeedsDial, KeepsEnds, LiftsArm, PlacesArm, PutsDial, SetsRole, TellsEnds, dial_given, dial_under, kept_peer_ended, with_clients_told}
 use Rattle.node_world.specs.Nodes.{save_line, flush_line}
 use Rattle.node_world.specs.Stands.{NodeMatch, node_number}
 use Rattle.node_world.specs.Turns.{called_at}
@@ -100,9 +100,9 @@ module _ (v : ℕ) (asked : AdminCall) (old ready mid new : ScriptNode) (out : N
   pub turns_under : SetsRole v asked old out new
   turns_under plain stands =
       let x : PlainNode × AdminResult = called_at (node_number old) v asked (placed v plain) in
-      let came : NodeMatch mid x.0 × (out ≡ admin_out (dial_ended x.1.ended (dial_under ready v)) x.1) × TellsEnds ready mid v x.1.ended =
+      let came : NodeMatch mid (with_clients_told v x.1.ended x.0) × (out ≡ admin_out (dial_ended x.1.ended (dial_under ready v)) x.1) × TellsEnds ready mid v x.1.ended =
       subst (Came plain) placing.1.number (went (placed v plain) (placing.0 plain stands)) in (
-        lifting.0 x.0 came.0,
+        lifting.0 (with_clients_told v x.1.ended x.0) came.0,
         came.1 ∙ ap (λ d. admin_out (dial_ended x.1.ended d) x.1) (placing.1.dials v),
         record {
           number = lifting.1.number ∙ came.2.number ∙ placing.1.number;
@@ -114,7 +114,7 @@ module _ (v : ℕ) (asked : AdminCall) (old ready mid new : ScriptNode) (out : N
       Came : PlainNode → ℕ → Type 0
       Came plain n =
           let x : PlainNode × AdminResult = called_at n v asked (placed v plain) in
-          NodeMatch mid x.0 × (out ≡ admin_out (dial_ended x.1.ended (dial_under ready v)) x.1) × TellsEnds ready mid v x.1.ended
+          NodeMatch mid (with_clients_told v x.1.ended x.0) × (out ≡ admin_out (dial_ended x.1.ended (dial_under ready v)) x.1) × TellsEnds ready mid v x.1.ended
 
 -- bytes for the dial of a vBucket under the arm
 module _ (v : ℕ) (piece : List ℕ) (old ready mid new : ScriptNode) (out : NodeOut) (placing : PlacesArm v old ready) (went : FedDial v piece ready out mid) (lifting : LiftsArm v mid new) where

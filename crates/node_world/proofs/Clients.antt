@@ -1,4 +1,4 @@
--- client connections: opened, given bytes, and closed
+-- client connections: opened, given bytes, asked for frames, and closed
 use Rattle.std.proofs.Common.{◌≡◌, ◌≢◌, ℕ, Bool, true, false, List, [], refl, sym, ap, ◌∙◌, subst, Option, Some, None, is_some}
 use Rattle.std.specs.Prelude.{◌==◌, if◌then◌else◌}
 use Rattle.std.specs.Borrow.{Bor}
@@ -6,11 +6,11 @@ use Rattle.std.specs.Option.{option_map, option_copied}
 use Rattle.std.proofs.lemmas.Bool.{eqb-true, eqb-false}
 use Rattle.slab.specs.Slab.{Slab, get}
 use Rattle.slab.specs.Slab as slab
-use Rattle.client_session.specs.Serving.{PlainSession, Served, served, new_session, bytes_handled, outcome_handled}
 use Rattle.vb_events.specs.declared.event.Cause.TheVariants as cause
 use Rattle.vb_calls.specs.Programs.{Prog, after, alone_step}
 use Rattle.vb_calls.specs.declared.calls.Resolved.{Resolved}
 use Rattle.vb_events.specs.declared.event.Event.{Event}
+use Rattle.dcp_producer.specs.Ending.{end_closed}
 use Rattle.vb_calls.specs.States.{States}
 use Rattle.vb_calls.proofs.Readings.{alone_after}
 use Rattle.vbucket.specs.Stands.{SlotsStand}
@@ -18,37 +18,38 @@ use Rattle.node_core.specs.declared.conn.Conn.{Conn}
 use Rattle.node_core.specs.declared.conn.ConnKind.TheVariants as kind
 use Rattle.node_core.specs.declared.out.NodeOut.{NodeOut}
 use Rattle.node_core.specs.Calls.{left_open}
-use Rattle.node_core.specs.Outcomes.{value_at, Renumbered, client_conn, kept_unless, Opened, Fed, FedAt, Posted, PostedAt, ShutAt, Shut}
-use Rattle.node_core.specs.Outs.{client_out}
+use Rattle.node_core.specs.Outcomes.{value_at, Renumbered, client_conn, kept_unless, Opened, Fed, FedAt, Posted, PostedAt, Pulled, PulledAt, ShutAt, Shut}
+use Rattle.node_core.specs.Outs.{client_out, client_pull_out}
+use Rattle.node_core.specs.Clients.{PlainClient, ClientPulled, Handling, new_client, client_fed, client_posted, client_pulled}
 use Rattle.node_world.specs.declared.script_node.ScriptNode.{ScriptNode}
 use Rattle.node_world.specs.declared.told.Told.{Told}
 use Rattle.node_world.specs.Ends.{KeepsEnds, Carries, PostsTo}
 use Rattle.node_world.specs.Lines.{out_told}
-use Rattle.node_world.specs.Nodes.{PlainNode, done, refusal, with_client, with_states, client_at, bytes_if, bytes_at, hang_at, posted_if}
-use Rattle.node_world.specs.Stands.{MemNode, client_part, peer_part, live_session, SessionStands, ClientsStand, NodeMatch, node_number}
+use Rattle.node_world.specs.Nodes.{PlainNode, done, refusal, with_client, with_states, client_at, bytes_if, bytes_at, hung_if, hang_at, pull_if, pull_at, posted_if}
+use Rattle.node_world.specs.Stands.{MemNode, client_part, peer_part, live_client, ClientStands, ClientsStand, NodeMatch, node_number}
 use Rattle.node_world.proofs.Nodes.{off_kept}
 use Rattle.node_world.proofs.Shelved.{same_shelves}
-use Rattle.node_world.proofs.Conns.{ClientLeft, client_left, post_left, client_got, clients_set, key_if}
+use Rattle.node_world.proofs.Conns.{ClientLeft, client_left, client_pull_left, post_left, client_got, clients_set, key_if}
 
--- a number has a key exactly where it has a session
+-- a number has a key exactly where it has a connection
 pub keyed : (seat : ScriptNode) (plain : PlainNode) (c : ℕ) → NodeMatch seat plain → is_some (plain.clients c) ≡ is_some (value_at seat.clients c)
 keyed seat plain c stands = by (value_at seat.clients c) (plain.clients c) (stands.clients.each c)
   where
-    by : (o : Option ℕ) (s : Option PlainSession) → SessionStands seat.node.conns o s → is_some s ≡ is_some o
+    by : (o : Option ℕ) (s : Option PlainClient) → ClientStands seat.node.conns o s → is_some s ≡ is_some o
     by None None h = refl
     by None (Some s) h = absurd h
     by (Some key) None h = absurd h
     by (Some key) (Some s) h = refl
 
--- the session of a key
+-- the client of a key
 pub found : (seat : ScriptNode) (plain : PlainNode) (c key : ℕ) → value_at seat.clients c ≡ Some key → NodeMatch seat plain
-    → (session : PlainSession) × (plain.clients c ≡ Some session) × (client_part (get seat.node.conns key) ≡ Some (live_session session))
-found seat plain c key has stands = by (plain.clients c) refl (subst (λ o. SessionStands seat.node.conns o (plain.clients c)) has (stands.clients.each c))
+    → (client : PlainClient) × (plain.clients c ≡ Some client) × (client_part (get seat.node.conns key) ≡ Some (live_client client))
+found seat plain c key has stands = by (plain.clients c) refl (subst (λ o. ClientStands seat.node.conns o (plain.clients c)) has (stands.clients.each c))
   where
-    by : (s : Option PlainSession) → plain.clients c ≡ s → SessionStands seat.node.conns (Some key) s
-        → (session : PlainSession) × (s ≡ Some session) × (client_part (get seat.node.conns key) ≡ Some (live_session session))
+    by : (s : Option PlainClient) → plain.clients c ≡ s → ClientStands seat.node.conns (Some key) s
+        → (client : PlainClient) × (s ≡ Some client) × (client_part (get seat.node.conns key) ≡ Some (live_client client))
     by None e h = absurd h
-    by (Some session) e h = (session, refl, h)
+    by (Some client) e h = (client, refl, h)
 
 -- the value behind a reference is there where the reference is
 pub some_copied : {T : Type 0} (o : Option (Bor T)) → is_some (option_copied o) ≡ is_some o
@@ -64,19 +65,25 @@ refused_by old told f same plain stands =
 -- a connection is open already
 pub open_already : (old : ScriptNode) (base c : ℕ) → is_some (value_at old.clients c) ≡ true → Carries (client_at (node_number old) base c) old (refusal cause.LinkOpen) old
 open_already old base c has = refused_by old (refusal cause.LinkOpen) (client_at (node_number old) base c) (λ plain stands.
-    ap (λ b. if b then (plain, refusal cause.LinkOpen) else (with_client plain c (Some (new_session (record { node = node_number old; client = c; base = base }))), done [])) (keyed old plain c stands ∙ has))
+    ap (λ b. if b then (plain, refusal cause.LinkOpen) else (with_client plain c (Some (new_client (record { node = node_number old; client = c; base = base }))), done [])) (keyed old plain c stands ∙ has))
 
 -- or it is not open
-pub not_fed : (old : ScriptNode) (c : ℕ) (piece : List ℕ) → value_at old.clients c ≡ None → Carries (bytes_at c piece) old (refusal cause.LinkClosed) old
-not_fed old c piece none = refused_by old (refusal cause.LinkClosed) (bytes_at c piece) (λ plain stands. ap (bytes_if c piece plain) (gone (plain.clients c) (keyed old plain c stands ∙ ap is_some none)))
+no_client : (old : ScriptNode) (plain : PlainNode) (c : ℕ) → value_at old.clients c ≡ None → NodeMatch old plain → plain.clients c ≡ None
+no_client old plain c none stands = gone (plain.clients c) (keyed old plain c stands ∙ ap is_some none)
   where
-    gone : (s : Option PlainSession) → is_some s ≡ false → s ≡ None
+    gone : (s : Option PlainClient) → is_some s ≡ false → s ≡ None
     gone None e = refl
     gone (Some s) e = cc
 
+pub not_fed : (old : ScriptNode) (c : ℕ) (piece : List ℕ) → value_at old.clients c ≡ None → Carries (bytes_at c piece) old (refusal cause.LinkClosed) old
+not_fed old c piece none = refused_by old (refusal cause.LinkClosed) (bytes_at c piece) (λ plain stands. ap (bytes_if c piece plain) (no_client old plain c none stands))
+
+pub not_pulled : (old : ScriptNode) (c frames : ℕ) → value_at old.clients c ≡ None → Carries (pull_at c frames) old (refusal cause.LinkClosed) old
+not_pulled old c frames none = refused_by old (refusal cause.LinkClosed) (pull_at c frames) (λ plain stands. ap (pull_if c frames plain) (no_client old plain c none stands))
+
 pub not_hung : (old : ScriptNode) (keys : List (ℕ × ℕ)) (c : ℕ) → value_at old.clients c ≡ None → Renumbered old.clients keys c None → Carries (hang_at c) old (refusal cause.LinkClosed) (record old { clients = keys })
 not_hung old keys c none rekeyed plain stands =
-    let e : hang_at c plain ≡ (plain, refusal cause.LinkClosed) = ap (λ b. if b then (with_client plain c None, done []) else (plain, refusal cause.LinkClosed)) (keyed old plain c stands ∙ ap is_some none) in (
+    let e : hang_at c plain ≡ (plain, refusal cause.LinkClosed) = ap (hung_if c plain) (no_client old plain c none stands) in (
       subst (NodeMatch (record old { clients = keys })) (sym (ap (λ (x : PlainNode × Told). x.0) e)) (record { slots = stands.slots; shelves = stands.shelves; made = stands.made; clock = stands.clock; clients = clients_rekeyed; arm = stands.arm; off = off_kept old (record old { clients = keys }) plain.off refl (record { number = refl; peers = λ key. refl; dials = λ v. refl }) stands.off }),
       sym (ap (λ (x : PlainNode × Told). x.1) e),
       record { number = refl; peers = λ key. refl; dials = λ v. refl },
@@ -91,7 +98,7 @@ not_hung old keys c none rekeyed plain stands =
 
     clients_rekeyed : ClientsStand keys old.node.conns plain.clients
     clients_rekeyed = record {
-      each = λ d. subst (λ o. SessionStands old.node.conns o (plain.clients d)) (sym (same d)) (stands.clients.each d);
+      each = λ d. subst (λ o. ClientStands old.node.conns o (plain.clients d)) (sym (same d)) (stands.clients.each d);
       apart = λ d e key has also. stands.clients.apart d e key (sym (same d) ∙ has) (sym (same e) ∙ also);
       owned = λ key has. let (d, at) = stands.clients.owned key has in (d, same d ∙ at);
     }
@@ -120,18 +127,18 @@ reseated old node keys = record old { node = node; clients = keys }
 -- a connection is opened
 module _ (old : ScriptNode) (base c key : ℕ) (node : MemNode) (keys : List (ℕ × ℕ)) (unused : is_some (value_at old.clients c) ≡ false) (opened : Opened (kind.Client c base) old.node key node)
     (rekeyed : Renumbered old.clients keys c (Some key)) where
-  abbrev session : PlainSession
-  session = new_session (record { node = node_number old; client = c; base = base })
+  abbrev client : PlainClient
+  client = new_client (record { node = node_number old; client = c; base = base })
 
   pub opens : Carries (client_at (node_number old) base c) old (done []) (reseated old node keys)
   opens plain stands =
-      let e : client_at (node_number old) base c plain ≡ (with_client plain c (Some session), done []) = ap (λ b. if b then (plain, refusal cause.LinkOpen) else (with_client plain c (Some session), done [])) (keyed old plain c stands ∙ unused) in (
+      let e : client_at (node_number old) base c plain ≡ (with_client plain c (Some client), done []) = ap (λ b. if b then (plain, refusal cause.LinkOpen) else (with_client plain c (Some client), done [])) (keyed old plain c stands ∙ unused) in (
         subst (NodeMatch (reseated old node keys)) (sym (ap (λ (x : PlainNode × Told). x.0) e)) (record {
           slots = subst (λ vbs. SlotsStand vbs plain.vbs) (sym (ap (λ (x : MemNode). x.vbs) opened.rest)) stands.slots;
           shelves = same_shelves node old.node plain.shelves (ap (λ (x : MemNode). x.disks) opened.rest) stands.shelves;
           made = stands.made;
           clock = stands.clock;
-          clients = clients_set old.clients keys old.node.conns node.conns plain.clients c key (Some session) (alone plain stands) mine rekeyed (part_at client_part old.node.conns node.conns key _ opened.conns)
+          clients = clients_set old.clients keys old.node.conns node.conns plain.clients c key (Some client) (alone plain stands) mine rekeyed (part_at client_part old.node.conns node.conns key _ opened.conns)
               (part_but client_part old.node.conns node.conns key _ opened.conns) stands.clients;
           arm = stands.arm;
           off = off_kept old (reseated old node keys) plain.off refl keeps stands.off;
@@ -150,7 +157,7 @@ module _ (old : ScriptNode) (base c key : ℕ) (node : MemNode) (keys : List (�
       alone : (plain : PlainNode) → NodeMatch old plain → (d : ℕ) → value_at old.clients d ≡ Some key → d ≡ c
       alone plain stands d has =
           let (s, there, got) = found old plain d key has stands in
-          let no : None ≡ Some (live_session s) = sym (ap client_part opened.free) ∙ got in
+          let no : None ≡ Some (live_client s) = sym (ap client_part opened.free) ∙ got in
           cc
 
       mine : (k : ℕ) → value_at old.clients c ≡ Some k → k ≡ key
@@ -164,87 +171,94 @@ module _ (old : ScriptNode) (c key : ℕ) (node : MemNode) (keys : List (ℕ × 
   is_client : (plain : PlainNode) → (stands : NodeMatch old plain) → get old.node.conns key ≡ Some (client_conn (found old plain c key has stands).0)
   is_client plain stands = client_got (get old.node.conns key) _ (found old plain c key has stands).2
 
-  -- its session goes on, through what this says of the clock and the session
-  module _ (goes : ℕ → PlainSession → Prog Served) (out : NodeOut) (left : Conn) (updates : slab.Updates old.node.conns node.conns key (kept_unless out.closed left))
-      (rest : node ≡ record old.node { vbs = node.vbs; conns = node.conns }) (rekeyed : Renumbered old.clients keys c (if out.closed then None else value_at old.clients c)) where
-    -- what becomes of a plain node
-    abbrev pub WentOn : PlainNode → States × Served → Type 0
-    WentOn plain came = NodeMatch (reseated old node keys) (with_client (with_states plain came.0) c (left_open came.1.session)) × (out ≡ client_out came.1) × KeepsEnds old (reseated old node keys)
-
-    pub went_on : (plain : PlainNode) (stands : NodeMatch old plain) → ClientLeft (alone_step SlotsStand) old.node.vbs node.vbs out (goes old.clock (found old plain c key has stands).0) left
-        → WentOn plain (after (goes plain.clock (found old plain c key has stands).0) plain.vbs)
-    went_on plain stands left_by = (
+  -- it is left as this, or not at all, under the key
+  module _ (slot : Option Conn) (updates : slab.Updates old.node.conns node.conns key slot) (rest : node ≡ record old.node { vbs = node.vbs; conns = node.conns }) where
+    pub leaves_client : (plain : PlainNode) (stands : NodeMatch old plain) (states : States) (left : Option PlainClient) → SlotsStand node.vbs states → client_part slot ≡ option_map live_client left → peer_part slot ≡ None
+        → Renumbered old.clients keys c (key_if key left) → NodeMatch (reseated old node keys) (with_client (with_states plain states) c left) × KeepsEnds old (reseated old node keys)
+    leaves_client plain stands states left slots part peer rekeyed = (
       record {
-        slots = known.1;
+        slots = slots;
         shelves = same_shelves node old.node plain.shelves (ap (λ (x : MemNode). x.disks) rest) stands.shelves;
         made = stands.made;
         clock = stands.clock;
-        clients = clients_set old.clients keys old.node.conns node.conns plain.clients c key (left_open came.1.session) (λ d also. stands.clients.apart d c key also has) mine rekeyed_as
-            (part_at client_part old.node.conns node.conns key slot updates ∙ left_is) (part_but client_part old.node.conns node.conns key slot updates) stands.clients;
+        clients = clients_set old.clients keys old.node.conns node.conns plain.clients c key left (λ d also. stands.clients.apart d c key also has) mine rekeyed
+            (part_at client_part old.node.conns node.conns key slot updates ∙ part) (part_but client_part old.node.conns node.conns key slot updates) stands.clients;
         arm = stands.arm;
         off = off_kept old (reseated old node keys) plain.off refl keeps stands.off;
       },
-      said ∙ ap client_out known.0,
       keeps,
     )
       where
-        session : PlainSession
-        session = (found old plain c key has stands).0
+        keeps : KeepsEnds old (reseated old node keys)
+        keeps = record {
+          number = ap (λ (x : MemNode). x.number) rest;
+          peers = part_stays peer_part old.node.conns node.conns key slot updates (peer ∙ sym (ap peer_part (is_client plain stands)));
+          dials = λ v. ap (λ (x : MemNode). value_at x.dials v) rest;
+        }
+
+  -- it goes on, through what this says of the clock and the client
+  module _ (goes : ℕ → PlainClient → Prog Handling) (out : NodeOut) (left : Conn) (updates : slab.Updates old.node.conns node.conns key (kept_unless out.closed left))
+      (rest : node ≡ record old.node { vbs = node.vbs; conns = node.conns }) (rekeyed : Renumbered old.clients keys c (if out.closed then None else value_at old.clients c)) where
+    -- what becomes of a plain node
+    abbrev pub WentOn : PlainNode → States × Handling → Type 0
+    WentOn plain came = NodeMatch (reseated old node keys) (with_client (with_states plain came.0) c (left_open came.1.client)) × (out ≡ client_out came.1) × KeepsEnds old (reseated old node keys)
+
+    pub went_on : (plain : PlainNode) (stands : NodeMatch old plain) → ClientLeft (alone_step SlotsStand) old.node.vbs node.vbs out (goes old.clock (found old plain c key has stands).0) left
+        → WentOn plain (after (goes plain.clock (found old plain c key has stands).0) plain.vbs)
+    went_on plain stands left_by =
+        let (alike, keeps) = leaves_client slot updates rest plain stands came.0 (left_open came.1.client) known.1 left_is (no_peer handling.client.session.closed left_by.3) rekeyed_as in
+        (alike, said ∙ ap client_out known.0, keeps)
+      where
+        client : PlainClient
+        client = (found old plain c key has stands).0
 
         slot : Option Conn
         slot = kept_unless out.closed left
 
-        served_as : Served
-        served_as = left_by.0
+        handling : Handling
+        handling = left_by.0
 
-        said : out ≡ client_out served_as
+        said : out ≡ client_out handling
         said = left_by.2
 
-        came : States × Served
-        came = after (goes plain.clock session) plain.vbs
+        came : States × Handling
+        came = after (goes plain.clock client) plain.vbs
 
-        known : (served_as ≡ came.1) × SlotsStand node.vbs came.0
+        known : (handling ≡ came.1) × SlotsStand node.vbs came.0
         known =
-            subst (λ t. (served_as ≡ (after (goes t session) plain.vbs).1) × SlotsStand node.vbs (after (goes t session) plain.vbs).0) stands.clock
-            (alone_after SlotsStand (goes old.clock session) old.node.vbs served_as node.vbs left_by.1 plain.vbs stands.slots)
+            subst (λ t. (handling ≡ (after (goes t client) plain.vbs).1) × SlotsStand node.vbs (after (goes t client) plain.vbs).0) stands.clock
+            (alone_after SlotsStand (goes old.clock client) old.node.vbs handling node.vbs left_by.1 plain.vbs stands.slots)
 
-        key_left : (b : Bool) (s : PlainSession) → (if b then None else Some key) ≡ key_if key (if b then None else Some s)
+        key_left : (b : Bool) (s : PlainClient) → (if b then None else Some key) ≡ key_if key (if b then None else Some s)
         key_left true s = refl
         key_left false s = refl
 
-        rekeyed_as : Renumbered old.clients keys c (key_if key (left_open came.1.session))
+        rekeyed_as : Renumbered old.clients keys c (key_if key (left_open came.1.client))
         rekeyed_as = record {
-          changed = rekeyed.changed ∙ ap (λ (x : NodeOut). if x.closed then None else value_at old.clients c) said ∙ ap (λ o. if served_as.session.closed then None else o) has
-              ∙ key_left served_as.session.closed served_as.session ∙ ap (λ (s : Served). key_if key (left_open s.session)) known.0;
+          changed = rekeyed.changed ∙ ap (λ (x : NodeOut). if x.closed then None else value_at old.clients c) said ∙ ap (λ o. if handling.client.session.closed then None else o) has
+              ∙ key_left handling.client.session.closed handling.client ∙ ap (λ (h : Handling). key_if key (left_open h.client)) known.0;
           others = rekeyed.others;
         }
 
-        part_left : (b : Bool) (s : PlainSession) → client_part (if b then None else Some (client_conn s)) ≡ option_map live_session (if b then None else Some s)
+        part_left : (b : Bool) (s : PlainClient) → client_part (if b then None else Some (client_conn s)) ≡ option_map live_client (if b then None else Some s)
         part_left true s = refl
         part_left false s = refl
 
-        left_is : client_part slot ≡ option_map live_session (left_open came.1.session)
-        left_is = ap client_part left_by.3 ∙ part_left served_as.session.closed served_as.session ∙ ap (λ (s : Served). option_map live_session (left_open s.session)) known.0
+        left_is : client_part slot ≡ option_map live_client (left_open came.1.client)
+        left_is = ap client_part left_by.3 ∙ part_left handling.client.session.closed handling.client ∙ ap (λ (h : Handling). option_map live_client (left_open h.client)) known.0
 
-        no_peer : (b : Bool) → slot ≡ (if b then None else Some (client_conn served_as.session)) → peer_part slot ≡ None
+        no_peer : (b : Bool) → slot ≡ (if b then None else Some (client_conn handling.client)) → peer_part slot ≡ None
         no_peer true e = ap peer_part e
         no_peer false e = ap peer_part e
-
-        keeps : KeepsEnds old (reseated old node keys)
-        keeps = record {
-          number = ap (λ (x : MemNode). x.number) rest;
-          peers = part_stays peer_part old.node.conns node.conns key slot updates (no_peer served_as.session.closed left_by.3 ∙ sym (ap peer_part (is_client plain stands)));
-          dials = λ v. ap (λ (x : MemNode). value_at x.dials v) rest;
-        }
 
   -- it is given bytes
   module _ (piece : List ℕ) (out : NodeOut) (went : FedAt (alone_step SlotsStand) old.clock key piece (get old.node.conns key) old.node out node)
       (rekeyed : Renumbered old.clients keys c (if out.closed then None else value_at old.clients c)) where
     pub feeds : Carries (bytes_at c piece) old (out_told out) (reseated old node keys)
     feeds plain stands =
-        let (session, there, live) = found old plain c key has stands in
-        let fed : Fed (alone_step SlotsStand) old.clock key piece (client_conn session) old.node out node = subst (λ o. FedAt (alone_step SlotsStand) old.clock key piece o old.node out node) (is_client plain stands) went in
-        let on = went_on (λ clock s. bytes_handled clock piece (served s [])) out fed.left fed.conns fed.rest rekeyed plain stands (client_left (alone_step SlotsStand) old.node.vbs node.vbs out old.clock piece session fed.left fed.fed) in
+        let (client, there, live) = found old plain c key has stands in
+        let fed : Fed (alone_step SlotsStand) old.clock key piece (client_conn client) old.node out node = subst (λ o. FedAt (alone_step SlotsStand) old.clock key piece o old.node out node) (is_client plain stands) went in
+        let on = went_on (λ clock s. client_fed clock piece s) out fed.left fed.conns fed.rest rekeyed plain stands (client_left (alone_step SlotsStand) old.node.vbs node.vbs out old.clock piece client fed.left fed.fed) in
         subst (λ (x : PlainNode × Told). NodeMatch (reseated old node keys) x.0 × (out_told out ≡ x.1) × KeepsEnds old (reseated old node keys)) (sym (ap (bytes_if c piece plain) there))
         (on.0, ap out_told on.1, on.2)
 
@@ -253,42 +267,33 @@ module _ (old : ScriptNode) (c key : ℕ) (node : MemNode) (keys : List (ℕ × 
       (rekeyed : Renumbered old.clients keys c (if out.closed then None else value_at old.clients c)) where
     pub posts : PostsTo c outcome old out.events (reseated old node keys)
     posts plain stands =
-        let (session, there, live) = found old plain c key has stands in
-        let post : Posted (alone_step SlotsStand) old.clock key outcome (client_conn session) old.node out node = subst (λ o. PostedAt (alone_step SlotsStand) old.clock key outcome o old.node out node) (is_client plain stands) went in
-        let on = went_on (λ clock s. outcome_handled clock outcome (served s [])) out post.left post.conns post.rest rekeyed plain stands (post_left (alone_step SlotsStand) old.node.vbs node.vbs out old.clock outcome session post.left post.posted) in
+        let (client, there, live) = found old plain c key has stands in
+        let post : Posted (alone_step SlotsStand) old.clock key outcome (client_conn client) old.node out node = subst (λ o. PostedAt (alone_step SlotsStand) old.clock key outcome o old.node out node) (is_client plain stands) went in
+        let on = went_on (λ clock s. client_posted clock outcome s) out post.left post.conns post.rest rekeyed plain stands (post_left (alone_step SlotsStand) old.node.vbs node.vbs out old.clock outcome client post.left post.posted) in
         subst (λ (x : PlainNode × List Event). NodeMatch (reseated old node keys) x.0 × (out.events ≡ x.1) × KeepsEnds old (reseated old node keys)) (sym (ap (posted_if c outcome plain) there))
         (on.0, ap (λ (o : NodeOut). o.events) on.1, on.2)
 
   -- its client hangs up
   module _ (out : NodeOut) (went : ShutAt (alone_step SlotsStand) key (get old.node.conns key) old.node out node) (rekeyed : Renumbered old.clients keys c None) where
     pub hangs : Carries (hang_at c) old (done []) (reseated old node keys)
-    hangs plain stands = subst Outcome (sym e) (
-      record {
-        slots = subst (λ vbs. SlotsStand vbs plain.vbs) (sym shut.closed) stands.slots;
-        shelves = same_shelves node old.node plain.shelves (ap (λ (x : MemNode). x.disks) shut.rest) stands.shelves;
-        made = stands.made;
-        clock = stands.clock;
-        clients = clients_set old.clients keys old.node.conns node.conns plain.clients c key None (λ d also. stands.clients.apart d c key also has) mine rekeyed
-            (part_at client_part old.node.conns node.conns key None shut.conns) (part_but client_part old.node.conns node.conns key None shut.conns) stands.clients;
-        arm = stands.arm;
-        off = off_kept old (reseated old node keys) plain.off refl keeps stands.off;
-      },
-      refl,
-      keeps,
-    )
-      where
-        Outcome : PlainNode × Told → Type 0
-        Outcome x = NodeMatch (reseated old node keys) x.0 × (done [] ≡ x.1) × KeepsEnds old (reseated old node keys)
+    hangs plain stands =
+        let (client, there, live) = found old plain c key has stands in
+        let shut : Shut (alone_step SlotsStand) key (client_conn client) old.node out node = subst (λ o. ShutAt (alone_step SlotsStand) key o old.node out node) (is_client plain stands) went in
+        let known = alone_after SlotsStand (end_closed client.producer) old.node.vbs tt node.vbs shut.closed plain.vbs stands.slots in
+        let (alike, keeps) = leaves_client None shut.conns shut.rest plain stands (after (end_closed client.producer) plain.vbs).0 None known.1 refl refl rekeyed in
+        subst (λ (x : PlainNode × Told). NodeMatch (reseated old node keys) x.0 × (done [] ≡ x.1) × KeepsEnds old (reseated old node keys)) (sym (ap (hung_if c plain) there)) (alike, refl, keeps)
 
-        e : hang_at c plain ≡ (with_client plain c None, done [])
-        e = ap (λ b. if b then (with_client plain c None, done []) else (plain, refusal cause.LinkClosed)) (keyed old plain c stands ∙ ap is_some has)
-
-        shut : Shut (alone_step SlotsStand) key (client_conn (found old plain c key has stands).0) old.node out node
-        shut = subst (λ o. ShutAt (alone_step SlotsStand) key o old.node out node) (is_client plain stands) went
-
-        keeps : KeepsEnds old (reseated old node keys)
-        keeps = record {
-          number = ap (λ (x : MemNode). x.number) shut.rest;
-          peers = part_stays peer_part old.node.conns node.conns key None shut.conns (sym (ap peer_part (is_client plain stands)));
-          dials = λ v. ap (λ (x : MemNode). value_at x.dials v) shut.rest;
-        }
+-- a connection of this key puts frames of its streams
+module _ (old : ScriptNode) (c key frames : ℕ) (out : NodeOut) (node : MemNode) (has : value_at old.clients c ≡ Some key) (went : PulledAt (alone_step SlotsStand) frames key (get old.node.conns key) old.node out node) where
+  pub pulls : Carries (pull_at c frames) old (out_told out) (reseated old node old.clients)
+  pulls plain stands =
+      let (client, there, live) = found old plain c key has stands in
+      let pulled : Pulled (alone_step SlotsStand) frames key (client_conn client) old.node out node =
+      subst (λ o. PulledAt (alone_step SlotsStand) frames key o old.node out node) (is_client old c key node old.clients has plain stands) went in
+      let (told, ran, said, left) = client_pull_left (alone_step SlotsStand) old.node.vbs node.vbs out frames client pulled.left pulled.pulled in
+      let came : States × ClientPulled = after (client_pulled frames client) plain.vbs in
+      let known = alone_after SlotsStand (client_pulled frames client) old.node.vbs told node.vbs ran plain.vbs stands.slots in
+      let (alike, keeps) = leaves_client old c key node old.clients has (Some pulled.left) pulled.conns pulled.rest plain stands came.0 (Some came.1.client) known.1
+      (ap (λ x. client_part (Some x)) left ∙ ap (λ (t : ClientPulled). Some (live_client t.client)) known.0) (ap (λ x. peer_part (Some x)) left) (record { changed = has; others = λ other ne. refl }) in
+      subst (λ (x : PlainNode × Told). NodeMatch (reseated old node old.clients) x.0 × (out_told out ≡ x.1) × KeepsEnds old (reseated old node old.clients)) (sym (ap (pull_if c frames plain) there))
+      (alike, ap out_told (said ∙ ap client_pull_out known.0), keeps)

@@ -5,12 +5,12 @@ use Rattle.std.specs.List.{filter, flat_map, list_any, position}
 use Rattle.std.proofs.lemmas.Bool.{eqb-true}
 use Rattle.std.proofs.lemmas.Grind.{flat_map-append}
 use Rattle.std.proofs.lemmas.List.Quantifiers.{position-Some}
-use Rattle.client_session.specs.Serving.{PlainSession}
 use Rattle.disk_journals.specs.Books.{Book, below}
 use Rattle.slab.specs.Slab.{Slab}
 use Rattle.vb_events.specs.declared.event.Event.{Event}
 use Rattle.node_core.specs.declared.conn.Conn.{Conn}
 use Rattle.node_core.specs.Outcomes.{value_at}
+use Rattle.node_core.specs.Clients.{PlainClient}
 use Rattle.node_world.specs.Arms.{no_arm}
 use Rattle.vbucket.specs.Rows.{row_at}
 use Rattle.node_world.specs.declared.link.Link.{Link}
@@ -25,7 +25,7 @@ use Rattle.node_world.specs.Ends.{Carries}
 use Rattle.node_world.specs.Nodes.{PlainNode, arm_at, done}
 use Rattle.node_world.specs.Pairing.{Pairs}
 use Rattle.node_world.specs.Power.{all_cut, all_numbers, all_unlinked, has_client, is_touched, numbers, touches}
-use Rattle.node_world.specs.Stands.{Ends, ends_of, IdsStand, LinkStands, LinksStand, Kept, NodeMatch, OffStands, SessionStands, WorldStands, node_number}
+use Rattle.node_world.specs.Stands.{Ends, ends_of, IdsStand, LinkStands, LinksStand, Kept, NodeMatch, OffStands, ClientStands, WorldStands, node_number}
 use Rattle.node_world.specs.Starts.{Cutting, IsBare}
 use Rattle.node_world.specs.Worlds.{PlainWorld, arm_in, node_if, with_node_if}
 use Rattle.node_world.proofs.Finding.{first_at, position_any}
@@ -189,10 +189,10 @@ client_is_open kept w n at c old placed is stands =
     let (plain, there, alike) = plain_at kept.nodes n at old old placed is w stands.nodes in
     by old.node.conns (value_at old.clients c) (plain.clients c) (alike.clients.each c) ∙ sym (ap (has_client c) there)
   where
-    by : (conns : Slab Conn) (key : Option ℕ) (session : Option PlainSession) → SessionStands conns key session → is_some key ≡ is_some session
+    by : (conns : Slab Conn) (key : Option ℕ) (client : Option PlainClient) → ClientStands conns key client → is_some key ≡ is_some client
     by conns None None h = refl
-    by conns (Some key) (Some session) h = refl
-    by conns None (Some session) h = absurd h
+    by conns (Some key) (Some client) h = refl
+    by conns None (Some client) h = absurd h
     by conns (Some key) None h = absurd h
 
 pub client_none : (kept : Kept) (w : PlainWorld) (n c : ℕ) → position (λ node. node_number node == n) kept.nodes ≡ None → WorldStands kept w → false ≡ has_client c (w.nodes n)

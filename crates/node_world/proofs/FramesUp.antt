@@ -3,8 +3,7 @@ use Rattle.std.proofs.Common.{◌≡◌, ℕ, List, [], ◌∷◌, ◌++◌, app
 use Rattle.std.specs.Prelude.{if◌then◌else◌}
 use Rattle.std.proofs.lemmas.Bool.{eq-eqb}
 use Rattle.client_session.specs.declared.session.Awaited.{Awaited}
-use Rattle.client_session.specs.Serving.{PlainSession, Served, frame_handled, outcome_by, outcome_handled, outcome_answered, request_handled, served, told, turns_handled, with_bytes}
-use Rattle.client_session.proofs.Rows.{asks_so}
+use Rattle.client_session.specs.Serving.{Served, frame_handled, outcome_by, outcome_handled, outcome_answered, request_handled, served, told, turns_handled, with_bytes}
 use Rattle.client_session.proofs.Turns.{turns_frame}
 use Rattle.mcbp_frame.proofs.Pieces.{fault_stays}
 use Rattle.mcbp_frame.specs.Cutting.{front_fault}
@@ -21,19 +20,20 @@ use Rattle.vb_calls.specs.declared.calls.VbCall.{VbCall}
 use Rattle.vb_calls.specs.declared.calls.VbCall.TheVariants as call
 use Rattle.vb_calls.specs.declared.calls.VbReply.{VbReply}
 use Rattle.vb_calls.specs.Plain.{plain_step}
-use Rattle.vb_calls.specs.Programs.{Call, Done, Prog, after, bind}
+use Rattle.vb_calls.specs.Programs.{Call, Done, after, bind}
 use Rattle.vb_calls.specs.State.{Plain}
 use Rattle.vb_calls.specs.States.{States, call_at}
-use Rattle.vb_calls.proofs.Readings.{after_bind}
 use Rattle.vbucket.specs.Rows.{row_at}
 use Rattle.node_core.specs.Peers.{PeerResult, PlainPeer, peer_answered, peer_frames, peer_heard}
+use Rattle.node_core.specs.Clients.{PlainClient, client_posted, handled_on}
+use Rattle.client_session.proofs.Rows.{asks_read}
 use Rattle.node_world.specs.FramesUp.{HoldsOne, PassesFaults, PostsBetween, ServesBehind, piece_up}
 use Rattle.node_world.specs.Links.{PlainLink, frame_up, frames_up, link_number, peer_of, producer_node, untold_peer, up_at}
 use Rattle.node_world.specs.Nodes.{PlainNode, all_posted, posted, refusal, with_states}
 use Rattle.node_world.specs.Posting.{AwaitsAlone}
 use Rattle.node_world.specs.World.{link_outcome, on_link, with_link}
 use Rattle.node_world.specs.Worlds.{PlainWorld, Outcome, node_outcome, with_node_at}
-use Rattle.node_world.proofs.Clocked.{still}
+use Rattle.node_world.proofs.Clocked.{one_call}
 use Rattle.node_world.proofs.OutcomesTold.{frames_grow}
 use Rattle.node_world.proofs.WhoAwaits.{told_is}
 
@@ -112,8 +112,8 @@ passes_faults w l link producer add_link from = record {
 
 -- ---- a request behind an outcome
 
-module _ (r : Resolved) (c : ℕ) (session : PlainSession) (a : Awaited) (node : PlainNode) (f : Frame) (vb : Plain) (write : Write) (alone : AwaitsAlone r.waiter c session a node) (holds : HoldsOne session f)
-    (is : request_of session.settings.json f ≡ Ok (asks.Write write None)) (here : node.vbs f.vb_or_status ≡ Some vb) where
+module _ (r : Resolved) (c : ℕ) (client : PlainClient) (a : Awaited) (node : PlainNode) (f : Frame) (vb : Plain) (write : Write) (alone : AwaitsAlone r.waiter c client a node) (holds : HoldsOne client.session f)
+    (is : request_of client.session.settings.json f ≡ Ok (asks.Write write None)) (here : node.vbs f.vb_or_status ≡ Some vb) where
   abbrev clock : ℕ
   clock = node.clock
 
@@ -124,20 +124,20 @@ module _ (r : Resolved) (c : ℕ) (session : PlainSession) (a : Awaited) (node :
   made = call.Store write clock
 
   -- the connection once it was told the outcome, and behind its frame
+  abbrev start : Served
+  start = served client.session []
+
   abbrev front : Served
-  front = outcome_answered a r.how (served session [])
+  front = outcome_answered a r.how start
 
   abbrev past : Served
   past = with_bytes (drop (frame_len f) front.session.reader) front
 
-  abbrev came : States × Option VbReply
-  came = call_at node.vbs v made (Some vb)
-
-  whole : outcome_handled clock r (served session []) ≡ bind (frame_handled clock f past) (turns_handled clock)
+  whole : outcome_handled clock r start ≡ bind (frame_handled clock f past) (turns_handled clock)
   unfolding outcome_handled
   whole =
-      ap (outcome_by clock r (served session [])) alone.awaited
-      ∙ ap (λ b. if b then turns_handled clock front else Done (served session [])) (eq-eqb a.waiter r.waiter alone.mine) ∙ turns_frame clock front f refl holds.whole
+      ap (outcome_by clock r start) alone.awaited
+      ∙ ap (λ b. if b then turns_handled clock front else Done start) (eq-eqb a.waiter r.waiter alone.mine) ∙ turns_frame clock front f refl holds.whole
 
   stores : request_handled clock f (Ok (asks.Write write None)) past ≡ Call v made (λ reply. Done (told f past reply))
   unfolding request_handled
@@ -147,18 +147,24 @@ module _ (r : Resolved) (c : ℕ) (session : PlainSession) (a : Awaited) (node :
   unfolding told
   told_reads reply = refl
 
-  run : (after (outcome_handled clock r (served session [])) node.vbs).0 ≡ came.0
+  told_unhanded : (reply : Option VbReply) → (told f past reply).dcp ≡ None
+  unfolding told
+  told_unhanded reply = refl
+
+  told_live : (reply : Option VbReply) → (told f past reply).session.closed ≡ client.session.closed
+  unfolding told
+  told_live reply = refl
+
+  run : (after (client_posted clock r client) node.vbs).0 ≡ (call_at node.vbs v made (Some vb)).0
+  unfolding client_posted
   run =
-      let prog : Prog Served = frame_handled clock f past in
-      let one_call : after prog node.vbs ≡ (came.0, told f past came.1) =
-      ap (λ p. after p node.vbs) (asks_so clock f past (Ok (asks.Write write None)) holds.asks is ∙ stores) ∙ ap (λ o. let x = call_at node.vbs v made o in (x.0, told f past x.1)) here in
-      ap (λ p. (after p node.vbs).0) whole ∙ ap (λ (x : States × Served). x.0) (after_bind prog (turns_handled clock) node.vbs)
-      ∙ ap (λ (x : States × Served). (after (turns_handled clock x.1) x.0).0) one_call ∙ still clock (told f past came.1) came.0 (told_reads came.1 ∙ holds.alone)
+      ap (λ prog. (after (bind prog (handled_on clock client.producer)) node.vbs).0) (whole ∙ ap (λ prog. bind prog (turns_handled clock)) (asks_read clock f past (asks.Write write None) holds.asks is ∙ stores))
+      ∙ one_call clock client.producer v made (told f past) node.vbs vb here (λ reply. told_reads reply ∙ holds.alone) told_unhanded (λ reply. told_live reply ∙ holds.live)
 
   served_so : (posted r node).0.vbs v ≡ Some (plain_step vb made).0
   served_so =
-      ap (λ (x : PlainNode × List Event). x.0.vbs v) (told_is r node c session a alone)
+      ap (λ (x : PlainNode × List Event). x.0.vbs v) (told_is r node c client a alone)
       ∙ ap (λ (s : States). s v) run ∙ ap (λ b. if b then Some (plain_step vb made).0 else node.vbs v) (eq-eqb v v refl)
 
-pub serves_behind : (r : Resolved) (c : ℕ) (session : PlainSession) (a : Awaited) (node : PlainNode) → ServesBehind r c session a node
-serves_behind r c session a node f vb write alone holds is here = served_so r c session a node f vb write alone holds is here
+pub serves_behind : (r : Resolved) (c : ℕ) (client : PlainClient) (a : Awaited) (node : PlainNode) → ServesBehind r c client a node
+serves_behind r c client a node f vb write alone holds is here = served_so r c client a node f vb write alone holds is here

@@ -38,6 +38,7 @@ use Rattle.node_world.specs.Power.{after_broken, after_fire, all_cut, all_unlink
 use Rattle.node_world.specs.Turns.{admin_line, no_node, posted_at, posted_in, promote_causes, role_called, role_outcome, turn_causes, turned, turned_if, with_ended}
 use Rattle.node_world.specs.World.{ask_in, branch_of_line, client_verb_at, cut_outcome, down_in, down_outcome, link_causes, link_outcome, link_verb_step, node_causes, node_verb_step, on_link, relinked, vb_verb_step, verb_step, with_branches, with_dialed, world_step}
 use Rattle.node_world.specs.Worlds.{PlainWorld, Outcome, arm_in, node_if, node_outcome, on_made, on_node, with_links, with_node_at}
+use Rattle.node_world.proofs.ClientsTold.{told_uuids}
 use Rattle.node_world.proofs.OnLinks.{closed_uuids}
 use Rattle.node_world.proofs.OnNodes.{outcome_uuids}
 
@@ -101,7 +102,7 @@ role_ids w n v asked = by x.1.ended
 
     by : (o : Option (List ℕ)) → (turned_if n v w o x).0.uuids ≡ w.uuids
     by None = refl
-    by (Some ids) = post_ids n x.1.resolved (turned n v x.1 (with_ended n v ids x.0)) ∙ cut_ids (own_link n v (with_ended n v ids x.0).links) (with_ended n v ids x.0) ∙ outcome_uuids w n no_node (w.nodes n) (role_called n v asked)
+    by (Some ids) = post_ids n x.1.resolved (turned n v x.1 (with_ended n v ids x.0)) ∙ cut_ids (own_link n v (with_ended n v ids x.0).links) (with_ended n v ids x.0) ∙ told_uuids n v ids x.0 ∙ outcome_uuids w n no_node (w.nodes n) (role_called n v asked)
 
 turn_ids : (w : PlainWorld) (n v : ℕ) (why : Option Cause) (asked : AdminCall) → (with_arm n w (refused_or why w (role_outcome n v asked w))).0.uuids ≡ w.uuids
 turn_ids w n v why asked = armed_ids n w (refused_or why w (role_outcome n v asked w)) (unless why w (role_outcome n v asked w) (role_ids w n v asked))

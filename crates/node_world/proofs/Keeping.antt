@@ -200,7 +200,7 @@ module _ (desk : Desk) where
       by true (Ok m) = message_keeps f m s e
       by false read = status_at f _ s e
 
-  frame_keeps : (f : Frame) (s : Served) → At s → Keeps (frame_answered f s)
+  pub frame_keeps : (f : Frame) (s : Served) → At s → Keeps (frame_answered f s)
   unfolding frame_answered
   frame_keeps f s e = by (f.magic == RESPONSE) (list_any (λ o. o == f.opcode) dcp_opcodes)
     where
@@ -261,7 +261,7 @@ module _ (desk : Desk) where
   ends_keep (More p) e = e
   ends_keep (Stop put) e = e
 
-  all_keep : (n : ℕ) (s : Served) → At s → Always AnyCall Halted (frames_put n s)
+  pub all_keep : (n : ℕ) (s : Served) → At s → Always AnyCall Halted (frames_put n s)
   unfolding frames_put
   all_keep n s e =
       always_bind AnyReply AnyCall Framed Halted (repeated n one_frame (pull_of s none_quiet)) pulled (turns_keep Pulls Halted one_frame put_keeps n (pull_of s none_quiet) e) ends_keep

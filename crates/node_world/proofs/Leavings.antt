@@ -2,25 +2,30 @@
 use Rattle.std.proofs.Common.{◌≡◌, ℕ, Bool, true, false, List, [], ◌∷◌, filter, refl, ap, sym, ◌∙◌, subst, Option, Some, None, is_some}
 use Rattle.std.specs.Prelude.{◌≢◌, ◌==◌, if◌then◌else◌}
 use Rattle.std.proofs.lemmas.Bool.{eq-eqb, eqb-true, ne_eqb}
-use Rattle.client_session.specs.Serving.{PlainSession, bytes_handled, new_session, outcome_handled, served}
 use Rattle.script_text.specs.declared.verb.ClientVerb.{ClientVerb}
 use Rattle.script_text.specs.declared.verb.ClientVerb.TheVariants as client_verb
 use Rattle.vb_disk.specs.declared.made.Outcome.{Outcome as Left}
 use Rattle.vb_events.specs.declared.event.Cause.{Cause}
 use Rattle.vb_events.specs.declared.event.Cause.TheVariants as cause
 use Rattle.vb_events.specs.declared.event.EndReason.{EndReason}
-use Rattle.vb_calls.specs.Programs.{after}
+use Rattle.vb_calls.specs.Programs.{after, Done}
 use Rattle.vb_calls.specs.declared.calls.Resolved.{Resolved}
 use Rattle.vbucket.specs.Rows.{row_at, row_out, row_put}
 use Rattle.dcp_consumer.specs.Machine.{over_why}
 use Rattle.node_core.specs.Calls.{left_open}
+use Rattle.node_core.specs.Clients.{PlainClient, ClientPulled, client_fed, client_posted, client_pull, client_pulled, new_client}
+use Rattle.client_session.specs.Serving.{PlainSession}
+use Rattle.dcp_producer.specs.Producers.{begun}
+use Rattle.dcp_producer.specs.Pulling.{frames_put}
+use Rattle.vb_calls.specs.States.{States}
+use Rattle.vb_calls.proofs.Readings.{after_bind}
 use Rattle.node_world.specs.declared.script_node.TheConstants.{MAX_CLIENTS}
 use Rattle.node_world.specs.declared.told.Told.{Told}
 use Rattle.node_world.specs.BytesMoved.{given_down}
 use Rattle.node_world.specs.Cuts.{closed_at, unlinked}
 use Rattle.node_world.specs.Leavings.{CrashesOne, CutsOne, DialsQuietly, EndsOnceOver, KeepsBut, LetsClosedGo, NoneIsClosed, PutsDown}
 use Rattle.node_world.specs.Links.{PlainLink, consumer_node, left_unless, link_number, moved_len, producer_node, pump_at, with_down}
-use Rattle.node_world.specs.Nodes.{PlainNode, all_posted, awaiting, done, bytes_if, first_cause, posted, posted_if, posted_to, refusal, refused_or, with_client}
+use Rattle.node_world.specs.Nodes.{PlainNode, all_posted, awaiting, done, bytes_if, first_cause, posted, posted_if, posted_to, refusal, refused_or, with_client, hung_if, pull_if}
 use Rattle.node_world.specs.Power.{all_cut, all_unlinked, crash_causes, down_lines, dropped, stopped_node, touches}
 use Rattle.node_world.specs.World.{ask_in, base_of, client_verb_at, cut_outcome, down_in, link_causes, link_outcome, relinked, with_dialed, with_link}
 use Rattle.node_world.specs.Worlds.{PlainWorld, Outcome, node_if, node_outcome, with_links, with_node_at}
@@ -88,51 +93,65 @@ dials_quietly w l m n v buffer = record { silent = λ number. lines number (firs
 
 -- ---- connections
 
--- a session that is left is not closed
-left_is : (s t : PlainSession) → left_open s ≡ Some t → t.closed ≡ false
-left_is s t e = by s.closed refl e
+-- a connection that is left is not closed
+left_is : (s t : PlainClient) → left_open s ≡ Some t → t.session.closed ≡ false
+left_is s t e = by s.session.closed refl e
   where
-    by : (b : Bool) → s.closed ≡ b → (if b then None else Some s) ≡ Some t → t.closed ≡ false
+    by : (b : Bool) → s.session.closed ≡ b → (if b then None else Some s) ≡ Some t → t.session.closed ≡ false
     by true is e = cc
-    by false is e = let same : s ≡ t = cc in ap (λ (x : PlainSession). x.closed) (sym same) ∙ is
+    by false is e = let same : s ≡ t = cc in ap (λ (x : PlainClient). x.session.closed) (sym same) ∙ is
 
-put_open : (node : PlainNode) (c : ℕ) (o : Option PlainSession) → NoneIsClosed node → ((s : PlainSession) → o ≡ Some s → s.closed ≡ false) → NoneIsClosed (with_client node c o)
-put_open node c o none fine d session = by (d == c)
+put_open : (node : PlainNode) (c : ℕ) (o : Option PlainClient) → NoneIsClosed node → ((s : PlainClient) → o ≡ Some s → s.session.closed ≡ false) → NoneIsClosed (with_client node c o)
+put_open node c o none fine d client = by (d == c)
   where
-    by : (b : Bool) → (if b then o else node.clients d) ≡ Some session → session.closed ≡ false
-    by true e = fine session e
-    by false e = none d session e
+    by : (b : Bool) → (if b then o else node.clients d) ≡ Some client → client.session.closed ≡ false
+    by true e = fine client e
+    by false e = none d client e
 
 -- one of two
 either_open : (b : Bool) (x y : PlainNode × Told) → NoneIsClosed x.0 → NoneIsClosed y.0 → NoneIsClosed (if b then x else y).0
 either_open true x y left right = left
 either_open false x y left right = right
 
-none_there : (s : PlainSession) → None ≡ Some s → s.closed ≡ false
+none_there : (s : PlainClient) → None ≡ Some s → s.session.closed ≡ false
 none_there s e = cc
 
-new_is : (t s : PlainSession) → t.closed ≡ false → Some t ≡ Some s → s.closed ≡ false
-new_is t s live e = let same : t ≡ s = cc in ap (λ (x : PlainSession). x.closed) (sym same) ∙ live
+new_is : (t s : PlainClient) → t.session.closed ≡ false → Some t ≡ Some s → s.session.closed ≡ false
+new_is t s live e = let same : t ≡ s = cc in ap (λ (x : PlainClient). x.session.closed) (sym same) ∙ live
+
+-- frames that are put leave the session
+pulled_session : (frames : ℕ) (client : PlainClient) (states : States) → (after (client_pulled frames client) states).1.client.session ≡ client.session
+pulled_session frames client states = ap (λ (x : States × ClientPulled). x.1.client.session) (after_bind (frames_put frames (begun client.producer)) (λ put. Done (client_pull client.session put)) states)
 
 client_is_open : (n number c : ℕ) (what : ClientVerb) (node : PlainNode) → NoneIsClosed node → NoneIsClosed (client_verb_at n number c what node).0
 client_is_open n number c client_verb.Open node none =
-    let t : PlainSession = new_session (record { node = n; client = c; base = base_of number }) in
+    let t : PlainClient = new_client (record { node = n; client = c; base = base_of number }) in
     either_open (is_some (node.clients c)) (node, refusal cause.LinkOpen) (with_client node c (Some t), done []) none (put_open node c (Some t) none (λ s e. new_is t s refl e))
 client_is_open n number c (client_verb.Bytes bytes) node none = by (node.clients c)
   where
-    by : (o : Option PlainSession) → NoneIsClosed (bytes_if c bytes node o).0
+    by : (o : Option PlainClient) → NoneIsClosed (bytes_if c bytes node o).0
     by None = none
-    by (Some session) = let s = (after (bytes_handled node.clock bytes (served session [])) node.vbs).1 in put_open node c (left_open s.session) none (λ t e. left_is s.session t e)
-client_is_open n number c client_verb.Hang node none =
-    either_open (is_some (node.clients c)) (with_client node c None, done []) (node, refusal cause.LinkClosed) (put_open node c None none none_there) none
+    by (Some client) = let h = (after (client_fed node.clock bytes client) node.vbs).1 in put_open node c (left_open h.client) none (λ t e. left_is h.client t e)
+client_is_open n number c client_verb.Hang node none = by (node.clients c)
+  where
+    by : (o : Option PlainClient) → NoneIsClosed (hung_if c node o).0
+    by None = none
+    by (Some client) = put_open node c None none none_there
+client_is_open n number c (client_verb.Pull frames) node none = by (node.clients c) refl
+  where
+    by : (o : Option PlainClient) → node.clients c ≡ o → NoneIsClosed (pull_if c frames node o).0
+    by None e = none
+    by (Some client) e =
+        let left : PlainClient = (after (client_pulled frames client) node.vbs).1.client in
+        put_open node c (Some left) none (λ s is. new_is left s (ap (λ (x : PlainSession). x.closed) (pulled_session frames client node.vbs) ∙ none c client e) is)
 
 posts_open : (rs : List Resolved) (node : PlainNode) → NoneIsClosed node → NoneIsClosed (all_posted rs node).0
 posts_open [] node none = none
 posts_open (r ∷ rs) node none = posts_open rs (posted r node).0 (to (awaiting node.clients r.waiter MAX_CLIENTS))
   where
-    at : (c : ℕ) (o : Option PlainSession) → NoneIsClosed (posted_if c r node o).0
+    at : (c : ℕ) (o : Option PlainClient) → NoneIsClosed (posted_if c r node o).0
     at c None = none
-    at c (Some session) = let s = (after (outcome_handled node.clock r (served session [])) node.vbs).1 in put_open node c (left_open s.session) none (λ t e. left_is s.session t e)
+    at c (Some client) = let h = (after (client_posted node.clock r client) node.vbs).1 in put_open node c (left_open h.client) none (λ t e. left_is h.client t e)
 
     to : (o : Option ℕ) → NoneIsClosed (posted_to r node o).0
     to None = none

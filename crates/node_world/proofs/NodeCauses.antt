@@ -2,7 +2,6 @@
 use Rattle.std.proofs.Common.{◌≡◌, ℕ, Bool, true, false, List, [], ◌∷◌, ◌++◌, refl, ap, ◌∙◌, Option, Some, None, is_some, option_map, sym}
 use Rattle.std.specs.Prelude.{◌≢◌, ◌==◌, not, nat_le, if◌then◌else◌}
 use Rattle.std.proofs.lemmas.Bool.{eq-eqb, eqb-true, le-leb, lt-leb, ne_eqb}
-use Rattle.client_session.specs.Serving.{PlainSession, new_session}
 use Rattle.disk_journals.specs.Arms.{fuse_at, under}
 use Rattle.disk_journals.specs.Books.{Book}
 use Rattle.durability.specs.Chains.{Members}
@@ -29,6 +28,12 @@ use Rattle.vb_disk.specs.declared.fuse.Fuse.{Fuse}
 use Rattle.node_core.specs.declared.admin.AdminCall.{AdminCall}
 use Rattle.node_core.specs.declared.admin.AdminCall.TheVariants as admin
 use Rattle.node_core.specs.Admin.{AdminResult, admin_call, admin_job, admin_refused, admin_result, noted_answer}
+use Rattle.node_core.specs.Clients.{PlainClient, ClientPulled, client_pull, client_pulled, new_client}
+use Rattle.dcp_producer.specs.Producers.{begun}
+use Rattle.dcp_producer.specs.Pulling.{frames_put, why_of}
+use Rattle.vb_calls.specs.Programs.{Done, after}
+use Rattle.vb_calls.proofs.Readings.{after_bind}
+use Rattle.node_world.proofs.ClientsTold.{told_world}
 use Rattle.node_world.specs.declared.arm.Fired.TheVariants as fired
 use Rattle.node_world.specs.declared.told.Told.{Told}
 use Rattle.node_world.specs.Arms.{fail_arm, fired_by, fuse_or, placed, stop_arm, under_arm}
@@ -36,7 +41,7 @@ use Rattle.node_world.specs.Causes.{AtMade, NoNode, NoVb, Notes, AtNode, AtVb, A
 use Rattle.node_world.specs.Cuts.{closed_at, cut_off, own_link, unlinked}
 use Rattle.node_world.specs.Links.{PlainLink, producer_node}
 use Rattle.node_world.specs.Lines.{ChangesRole}
-use Rattle.node_world.specs.Nodes.{PlainNode, arm_at, empty_node, done, if_up, refusal, first_cause, refused_or, is_one_of, shelf_or_blank, uuid_causes, vb_made, vb_at, replica_at, save_line, with_client, with_disk, client_at, bytes_if, bytes_at, hang_at, clock_at, flush_line, chain_line, tick_line}
+use Rattle.node_world.specs.Nodes.{PlainNode, arm_at, empty_node, done, if_up, refusal, first_cause, refused_or, is_one_of, shelf_or_blank, uuid_causes, vb_made, vb_at, replica_at, save_line, with_client, with_disk, client_at, bytes_if, bytes_at, hang_at, clock_at, flush_line, chain_line, tick_line, hung_if, pull_at, pull_if, with_clients_ended}
 use Rattle.node_world.specs.Power.{any_used, down_lines, dropped, start_at, with_arm}
 use Rattle.node_world.specs.Turns.{KeepsRole, admin_line, called_at, no_node, role_called, role_causes, role_outcome, turned, turned_after, turned_if, with_ended}
 use Rattle.node_world.specs.World.{base_of}
@@ -173,28 +178,27 @@ module _ (w : PlainWorld) (n : ℕ) (node : PlainNode) (there : w.nodes n ≡ So
     show = λ number. asked_by v admin.Show tt None e;
   }
 
-  abbrev hung_if : ℕ → Option PlainSession → PlainNode × Told
-  hung_if c o = if is_some o then (with_client node c None, done []) else (node, refusal cause.LinkClosed)
+  hung : (c : ℕ) (o : Option PlainClient) → node.clients c ≡ o → (on_node w n (hang_at c)).1.answer ≡ (hung_if c node o).1.answer
+  hung c o e = running w n node there up (hang_at c) ∙ ap (λ x. (hung_if c node x).1.answer) e
 
-  hung : (c : ℕ) (o : Option PlainSession) → node.clients c ≡ o → (on_node w n (hang_at c)).1.answer ≡ (if is_some o then answer.Ok else answer.No cause.LinkClosed)
-  hung c o e = running w n node there up (hang_at c) ∙ ap (λ x. (hung_if c x).1.answer) e ∙ same o
-    where
-      same : (o : Option PlainSession) → (hung_if c o).1.answer ≡ (if is_some o then answer.Ok else answer.No cause.LinkClosed)
-      same None = refl
-      same (Some x) = refl
+  pulled_frames : (c frames : ℕ) (o : Option PlainClient) → node.clients c ≡ o → (on_node w n (pull_at c frames)).1.answer ≡ (pull_if c frames node o).1.answer
+  pulled_frames c frames o e = running w n node there up (pull_at c frames) ∙ ap (λ x. (pull_if c frames node x).1.answer) e
 
-  abbrev called_if : ℕ → ℕ → Option PlainSession → PlainNode × Told
-  called_if base c o = if is_some o then (node, refusal cause.LinkOpen) else (with_client node c (Some (new_session (record { node = n; client = c; base = base }))), done [])
+  abbrev called_if : ℕ → ℕ → Option PlainClient → PlainNode × Told
+  called_if base c o = if is_some o then (node, refusal cause.LinkOpen) else (with_client node c (Some (new_client (record { node = n; client = c; base = base }))), done [])
 
-  called : (base c : ℕ) (o : Option PlainSession) → node.clients c ≡ o → (on_node w n (client_at n base c)).1.answer ≡ (if is_some o then answer.No cause.LinkOpen else answer.Ok)
+  called : (base c : ℕ) (o : Option PlainClient) → node.clients c ≡ o → (on_node w n (client_at n base c)).1.answer ≡ (if is_some o then answer.No cause.LinkOpen else answer.Ok)
   called base c o e = running w n node there up (client_at n base c) ∙ ap (λ x. (called_if base c x).1.answer) e ∙ same o
     where
-      same : (o : Option PlainSession) → (called_if base c o).1.answer ≡ (if is_some o then answer.No cause.LinkOpen else answer.Ok)
+      same : (o : Option PlainClient) → (called_if base c o).1.answer ≡ (if is_some o then answer.No cause.LinkOpen else answer.Ok)
       same None = refl
       same (Some x) = refl
 
-  fed_bytes : (c : ℕ) (bytes : List ℕ) (o : Option PlainSession) → node.clients c ≡ o → (on_node w n (bytes_at c bytes)).1.answer ≡ (bytes_if c bytes node o).1.answer
+  fed_bytes : (c : ℕ) (bytes : List ℕ) (o : Option PlainClient) → node.clients c ≡ o → (on_node w n (bytes_at c bytes)).1.answer ≡ (bytes_if c bytes node o).1.answer
   fed_bytes c bytes o e = running w n node there up (bytes_at c bytes) ∙ ap (λ x. (bytes_if c bytes node x).1.answer) e
+
+  counted : (frames : ℕ) (client : PlainClient) → let put = (after (frames_put frames (begun client.producer)) node.vbs).1 in (after (client_pulled frames client) node.vbs).1.answer ≡ answer.Pulled put.0.count (why_of put.1)
+  counted frames client = ap (λ (x : States × ClientPulled). x.1.answer) (after_bind (frames_put frames (begun client.producer)) (λ put. Done (client_pull client.session put)) node.vbs)
 
   pub at_node : AtNode w n node
   at_node = record {
@@ -220,11 +224,12 @@ module _ (w : PlainWorld) (n : ℕ) (node : PlainNode) (there : w.nodes n ≡ So
     replica = λ v e room notes number. made_well v role.Replica 0 (replica_at n v) (λ i. vb_row (is_some (e i)) (lt-leb 64 node.made room i) [] (vb_made n v role.Replica 0 node)) notes;
     clock = λ nanos number. running w n node there up (clock_at nanos);
     no_vb = absent;
-    no_client = λ c bytes e. (λ number. fed_bytes c bytes None e, λ number. hung c None e);
+    no_client = λ c bytes e. (λ number. fed_bytes c bytes None e, λ number. hung c None e, λ frames number. pulled_frames c frames None e);
     client = λ c e number. called (base_of number) c None e;
-    client_is_open = λ c session e number. called (base_of number) c (Some session) e;
-    bytes = λ c bytes session e number. fed_bytes c bytes (Some session) e;
-    hang = λ c session e number. hung c (Some session) e;
+    client_is_open = λ c client e number. called (base_of number) c (Some client) e;
+    bytes = λ c bytes client e number. fed_bytes c bytes (Some client) e;
+    hang = λ c client e number. hung c (Some client) e;
+    pull = λ c frames client e. let put = (after (frames_put frames (begun client.producer)) node.vbs).1 in (put.0.count, why_of put.1, λ number. pulled_frames c frames (Some client) e ∙ counted frames client);
   }
 
 -- which roles are not this one
@@ -353,7 +358,7 @@ module _ (w : PlainWorld) (n v : ℕ) (node : PlainNode) (vb : Plain) (there : w
       quiet_if (Some ids) =
           (let came = turned n v y.1 (w1 ids) in λ i. fired_by (arm_in (w.nodes n)).fuse (posted_arm n y.1.resolved came.0 came.1 i).fuse)
           ∙ (λ i. fired_by (arm_in (there i)).fuse (cut_arm ids (own_link n v (w1 ids).links) i).fuse)
-          ∙ (λ i. fired_by G (arm_in (if eq-eqb n n refl i then Some y.0 else w.nodes n)).fuse) ∙ quiet
+          ∙ ap (λ (x : PlainWorld). fired_by G (arm_in (x.nodes n)).fuse) (told_world w n v ids y.0) ∙ (λ i. fired_by G (arm_in (if eq-eqb n n refl i then Some (with_clients_ended v ids y.0) else w.nodes n)).fuse) ∙ quiet
 
       turned_well : (with_arm n w (role_outcome n v asked w)).1.answer ≡ (admin_result n v asked (Some x.1)).answer
       turned_well =

@@ -36,12 +36,12 @@ use Rattle.node_core.specs.Outcomes.{Administered, Settles, Wrote, value_at}
 use Rattle.node_core.specs.Outs.{admin_out, dial_ended, flush_by}
 use Rattle.node_world.specs.declared.script_node.ScriptNode.{ScriptNode}
 use Rattle.node_world.specs.declared.told.Told.{Told}
-use Rattle.node_world.specs.Ends.{peer_under, dial_under, KeepsEnds, kept_peer_ended, TellsEnds, Carries, IsThere}
+use Rattle.node_world.specs.Ends.{peer_under, dial_under, KeepsEnds, kept_client_ended, kept_peer_ended, with_clients_told, TellsEnds, Carries, IsThere}
 use Rattle.node_world.specs.Lines.{out_told, was_there}
 use Rattle.node_world.specs.Nodes.{PlainNode, with_kept, with_states}
 use Rattle.node_world.specs.Stands.{MemNode, client_part, peer_part, NodeMatch, OffStands, node_number}
 use Rattle.node_world.specs.Turns.{KeepsRole, called_at, admin_line}
-use Rattle.node_world.proofs.Conns.{told_clients, told_peers, untold_peers, clients_again}
+use Rattle.node_world.proofs.Conns.{told_clients, told_peers, untold_clients, untold_peers, clients_told}
 
 -- the node with another inside
 abbrev pub inside : ScriptNode → MemNode → ScriptNode
@@ -95,18 +95,25 @@ unchanged slots states v vb there stands = λ u. by u (u == v) refl (stands u)
     by u true e s = subst (SlotStands (row_at slot_number u slots)) (sym there ∙ ap states (sym (eqb-true u v e))) s
     by u false e s = s
 
--- a node whose vBuckets and journals stand for these now, and whose sessions are as before
-pub with_both : (old : ScriptNode) (node : MemNode) (plain : PlainNode) (states : States) (held : Shelves) → SlotsStand node.vbs states → ShelvesStand fuse_device node.disks held → ((key : ℕ) → client_part (get node.conns key) ≡ client_part (get old.node.conns key))
-    → OffStands (inside old node) plain.off → NodeMatch old plain → NodeMatch (inside old node) (with_kept plain (states, held))
-with_both old node plain states held slots shelves same off stands = record {
+-- a node whose vBuckets and journals stand for these now, and whose clients were told
+pub with_told : (v : ℕ) (ended : Option (List ℕ)) (old : ScriptNode) (node : MemNode) (plain : PlainNode) (states : States) (held : Shelves) → SlotsStand node.vbs states → ShelvesStand fuse_device node.disks held
+    → ((key : ℕ) → client_part (get node.conns key) ≡ option_map (kept_client_ended v ended) (client_part (get old.node.conns key)))
+    → OffStands (inside old node) plain.off → NodeMatch old plain → NodeMatch (inside old node) (with_clients_told v ended (with_kept plain (states, held)))
+with_told v ended old node plain states held slots shelves told off stands = record {
   slots = slots;
   shelves = shelves;
   made = stands.made;
   clock = stands.clock;
-  clients = clients_again old.clients old.node.conns node.conns plain.clients same stands.clients;
+  clients = clients_told v ended old.clients old.node.conns node.conns plain.clients told stands.clients;
   arm = stands.arm;
   off = off;
 }
+
+-- whose clients are as before
+pub with_both : (old : ScriptNode) (node : MemNode) (plain : PlainNode) (states : States) (held : Shelves) → SlotsStand node.vbs states → ShelvesStand fuse_device node.disks held → ((key : ℕ) → client_part (get node.conns key) ≡ client_part (get old.node.conns key))
+    → OffStands (inside old node) plain.off → NodeMatch old plain → NodeMatch (inside old node) (with_kept plain (states, held))
+with_both old node plain states held slots shelves same off stands =
+    with_told 0 None old node plain states held slots shelves (λ key. same key ∙ sym (untold_clients 0 (client_part (get old.node.conns key)))) off stands
 
 -- the journals are as before
 pub with_slots : (old : ScriptNode) (node : MemNode) (plain : PlainNode) (states : States) → SlotsStand node.vbs states → node.disks ≡ old.node.disks → ((key : ℕ) → client_part (get node.conns key) ≡ client_part (get old.node.conns key))
@@ -117,7 +124,7 @@ with_slots old node plain states slots disks same off stands = with_both old nod
 abbrev pub Turned : ℕ → AdminCall → ScriptNode → NodeOut → ScriptNode → Type 0
 Turned v asked old out new = (plain : PlainNode) → NodeMatch old plain →
     let (node, told) = called_at (node_number old) v asked plain in
-    NodeMatch new node × (out ≡ admin_out (dial_ended told.ended (dial_under old v)) told) × TellsEnds old new v told.ended
+    NodeMatch new (with_clients_told v told.ended node) × (out ≡ admin_out (dial_ended told.ended (dial_under old v)) told) × TellsEnds old new v told.ended
 
 module _ (old : ScriptNode) (v : ℕ) (asked : AdminCall) (out : NodeOut) (node : MemNode) (went : Administered (alone_step SlotsStand) MemAsks v asked old.node out node) where
   abbrev n : ℕ
@@ -130,8 +137,8 @@ module _ (old : ScriptNode) (v : ℕ) (asked : AdminCall) (out : NodeOut) (node 
     dials = went.dials;
   }
 
-  clients_stay : (key : ℕ) → client_part (get node.conns key) ≡ client_part (get old.node.conns key)
-  clients_stay key = ap client_part (went.conns key) ∙ told_clients v went.told.ended (get old.node.conns key)
+  clients_hear : (key : ℕ) → client_part (get node.conns key) ≡ option_map (kept_client_ended v went.told.ended) (client_part (get old.node.conns key))
+  clients_hear key = ap client_part (went.conns key) ∙ told_clients v went.told.ended (get old.node.conns key)
 
   module _ (plain : PlainNode) (stands : NodeMatch old plain) where
     abbrev came : (States × Shelves) × AdminResult
@@ -140,8 +147,8 @@ module _ (old : ScriptNode) (v : ℕ) (asked : AdminCall) (out : NodeOut) (node 
     ran : ComesTo SlotsStand (ShelvesStand fuse_device) went.told node.vbs node.disks came
     ran = known_job (admin_job n v asked) old.node went.told node went.ran plain.vbs stands.slots plain.shelves stands.shelves
 
-    after_call : NodeMatch (inside old node) (called_at n v asked plain).0
-    after_call = with_both old node plain came.0.0 came.0.1 ran.1 ran.2 clients_stay off stands
+    after_call : NodeMatch (inside old node) (with_clients_told v came.1.ended (called_at n v asked plain).0)
+    after_call = subst (λ (t : AdminResult). NodeMatch (inside old node) (with_clients_told v t.ended (called_at n v asked plain).0)) ran.0 (with_told v went.told.ended old node plain came.0.0 came.0.1 ran.1 ran.2 clients_hear off stands)
       where
         gone : (b : Bool) (d : Option KeptDial) → d ≡ None → (if b then None else d) ≡ None
         gone true d e = refl
@@ -199,7 +206,7 @@ module _ (old : ScriptNode) (v : ℕ) (asked : AdminCall) (out : NodeOut) (node 
   carries_call plain stands =
       let (alike, said, tells) = turns old v asked out node went plain stands in
       let none = ap (λ (x : PlainNode × AdminResult). x.1.ended) (called_quiet (node_number old) v asked plain keeps) ∙ quiet (node_number old) v asked keeps (states_step plain.vbs v (admin_call asked)).1 in (
-        alike,
+        subst (λ e. NodeMatch (inside old node) (with_clients_told v e (called_at (node_number old) v asked plain).0)) none alike,
         ap out_told said ∙ ap (λ e. out_told (admin_out (dial_ended e (dial_under old v)) (called_at (node_number old) v asked plain).1)) none,
         untold old (inside old node) v (called_at (node_number old) v asked plain).1.ended none tells,
       )

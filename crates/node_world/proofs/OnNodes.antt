@@ -20,7 +20,7 @@ use Rattle.node_world.specs.declared.told.Told.{Told}
 use Rattle.node_world.specs.Arms.{no_arm}
 use Rattle.node_world.specs.Ends.{Carries, KeepsEnds}
 use Rattle.node_world.specs.Nodes.{PlainNode, empty_node, done, if_up, refusal, refused_or}
-use Rattle.node_world.specs.Stands.{client_part, peer_part, SessionStands, NodeMatch, NodeStands, node_number, NodesStand, peer_in, dial_in, ends_of, IdsStand, LinksStand, Kept, OffStands, WorldStands, IsNodeIf}
+use Rattle.node_world.specs.Stands.{client_part, peer_part, ClientStands, NodeMatch, NodeStands, node_number, NodesStand, peer_in, dial_in, ends_of, IdsStand, LinksStand, Kept, OffStands, WorldStands, IsNodeIf}
 use Rattle.node_world.specs.World.{PlainWorld, on_node, node_step}
 use Rattle.node_world.specs.Worlds.{Outcome, is_off, is_up, node_outcome, on_made, with_node_at}
 use Rattle.node_world.proofs.Held.{same_ends}
@@ -200,7 +200,7 @@ module _ (node : ScriptNode) (vbs : node.node.vbs ≡ []) (disks : node.node.dis
     made = made;
     clock = clock;
     clients = record {
-      each = λ c. subst (λ o. SessionStands node.node.conns o None) (sym (no_key c)) tt;
+      each = λ c. subst (λ o. ClientStands node.node.conns o None) (sym (no_key c)) tt;
       apart = λ c d key has also. let no : None ≡ Some key = sym (no_key c) ∙ has in cc;
       owned = λ key has. let no : false ≡ true = sym (ap (λ o. is_some (client_part o)) (no_conn key)) ∙ has in cc;
     };

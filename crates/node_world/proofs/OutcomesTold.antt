@@ -1,10 +1,7 @@
 -- lines that may settle durable writes tell the clients that wait
-use Rattle.std.proofs.Common.{◌≡◌, inl, inr, ℕ, Bool, true, false, List, [], ◌∷◌, ◌++◌, map, append-nil, append_assoc, refl, ap, sym, ◌∙◌, Option, Some, None, is_some}
+use Rattle.std.proofs.Common.{◌≡◌, inl, inr, ℕ, Bool, true, false, List, [], ◌∷◌, ◌++◌, map, append-nil, append_assoc, refl, ap, sym, ◌∙◌, Option, Some, None, is_some, subst}
 use Rattle.std.specs.Prelude.{◌≢◌, ◌==◌, filter, min, length, take, if◌then◌else◌}
 use Rattle.std.proofs.lemmas.Bool.{eq-eqb, eqb-true, ne_eqb}
-use Rattle.client_session.specs.declared.session.Awaited.{Awaited}
-use Rattle.client_session.specs.Conduct.{sent}
-use Rattle.client_session.specs.Serving.{PlainSession}
 use Rattle.disk_journals.specs.Books.{Book}
 use Rattle.mcbp_frame.specs.declared.frame.Frame.{Frame}
 use Rattle.vb_events.specs.declared.event.Answer.TheVariants as line
@@ -36,6 +33,11 @@ use Rattle.node_core.specs.declared.admin.AdminCall.{AdminCall}
 use Rattle.node_core.specs.declared.admin.AdminCall.TheVariants as admin
 use Rattle.node_core.specs.Flushing.{FlushResult, flush_result}
 use Rattle.node_core.specs.Peers.{PeerResult, peer_answered, peer_frames, peer_heard}
+use Rattle.node_core.specs.Clients.{PlainClient, client_ended}
+use Rattle.dcp_producer.proofs.Endings.{are_ended}
+use Rattle.std.specs.Option.{option_map}
+use Rattle.node_world.specs.Indexers.{ClientsTurn, IsTurned, TurnsClients}
+use Rattle.node_world.proofs.ClientsTold.{session_in, told_sessions, told_world}
 use Rattle.node_world.specs.declared.arm.Fired.{Fired}
 use Rattle.node_world.specs.declared.arm.Fired.TheVariants as fired
 use Rattle.node_world.specs.declared.told.Told.{Told}
@@ -46,9 +48,8 @@ use Rattle.node_world.specs.Cuts.{closed_at, cut_off, own_link, link_ended, unli
 use Rattle.node_world.specs.Dues.{due_at, due_in, due_of, is_counted}
 use Rattle.node_world.specs.Lines.{ChangesRole}
 use Rattle.node_world.specs.Links.{PlainLink, feeds, frame_up, frames_up, link_number, frame_posted, peer_of, producer_node, untold_peer, up_at}
-use Rattle.node_world.specs.Nodes.{PlainNode, all_posted, awaits_in, first_cause, flush_line, posted, refusal, refused_or, uuid_causes, with_kept, with_states, written}
-use Rattle.node_world.specs.OutcomesTold.{EndsTold, IsCut, OutcomesTold, TellsBehind, TellsOutcomes, TellsReply, TellsTurn, TurnsAs, RolesTold, UpsTell, changes_of, with_streams_ended}
-use Rattle.node_world.specs.Posting.{AwaitsAlone}
+use Rattle.node_world.specs.Nodes.{PlainNode, all_posted, first_cause, flush_line, refusal, refused_or, uuid_causes, with_kept, with_states, written, with_clients_ended}
+use Rattle.node_world.specs.OutcomesTold.{EndsTold, IsCut, OutcomesTold, TellsOutcomes, TellsReply, TellsTurn, TurnsAs, RolesTold, UpsTell, changes_of, with_streams_ended}
 use Rattle.node_world.specs.Power.{after_fire, down_lines, with_arm}
 use Rattle.node_world.specs.Turns.{called_at, no_node, posted_at, posted_in, promote_step, role_called, role_outcome, after_cuts, turn_step, turned_after, turned_if, with_ended}
 use Rattle.node_world.specs.World.{link_outcome, on_link, with_link}
@@ -59,45 +60,7 @@ use Rattle.node_world.proofs.NodeCauses.{not_active, not_dead, not_replica, turn
 use Rattle.node_world.proofs.OwnLinks.{found_none, mapped, same_fed}
 use Rattle.node_world.proofs.Promoting.{active_is}
 use Rattle.node_world.proofs.RoleJobs.{came_if, came_to, noted_by, turn_by, turn_is}
-use Rattle.node_world.proofs.WhoAwaits.{goes}
-
--- ---- one outcome
-
-module _ (r : Resolved) (session : PlainSession) (a : Awaited) where
-  -- at a node with the same connections it is awaited too
-  alone_in : (c : ℕ) (node other : PlainNode) → other.clients ≡ node.clients → AwaitsAlone r.waiter c session a node → AwaitsAlone r.waiter c session a other
-  alone_in c node other same alone = record {
-    within = alone.within;
-    there = ap (λ f. f c) same ∙ alone.there;
-    awaited = alone.awaited;
-    mine = alone.mine;
-    others = λ d lt ne. ap (λ f. awaits_in r.waiter (f d)) same ∙ alone.others d lt ne;
-  }
-
-  posts_tell : (later : List Resolved) (c : ℕ) (node : PlainNode) → AwaitsAlone r.waiter c session a node → TellsBehind r session a [] (all_posted (r ∷ later) node).1
-  posts_tell later c node alone =
-      let first = (goes r node).one c session a alone in
-      let more = (all_posted later (posted r node).0).1 in record { frame = first.frame; is = first.is; rest = first.rest ++ more; told = ap (λ xs. xs ++ more) first.told }
-
-  behind : (before lines events : List Event) → TellsBehind r session a [] lines → events ≡ before ++ lines → TellsBehind r session a before events
-  behind before lines events tells e = record { frame = tells.frame; is = tells.is; rest = tells.rest; told = e ∙ ap (λ xs. before ++ xs) tells.told }
-
-  grown : (before events more all : List Event) → TellsBehind r session a before events → all ≡ events ++ more → TellsBehind r session a before all
-  grown before events more all tells e = record {
-    frame = tells.frame;
-    is = tells.is;
-    rest = tells.rest ++ more;
-    told = e ∙ ap (λ xs. xs ++ more) tells.told ∙ append_assoc before (sent session.who tells.frame ∷ tells.rest) more;
-  }
-
--- the outcomes that a node with these connections was told stand behind these lines
-tells_if : (node other : PlainNode) (resolved : List Resolved) (before events : List Event) → other.clients ≡ node.clients → events ≡ before ++ (all_posted resolved other).1 → TellsOutcomes node resolved before events
-tells_if node other resolved before events same told r later c session a first alone =
-    behind r session a before (all_posted (r ∷ later) other).1 events (posts_tell r session a later c other (alone_in r session a c node other same alone)) (told ∙ ap (λ rs. before ++ (all_posted rs other).1) first)
-
--- and so they do where lines are told behind them
-tells_more : (node : PlainNode) (resolved : List Resolved) (before events more all : List Event) → TellsOutcomes node resolved before events → all ≡ events ++ more → TellsOutcomes node resolved before all
-tells_more node resolved before events more all tells e r later c session a first alone = grown r session a before events more all (tells r later c session a first alone) e
+use Rattle.node_world.proofs.OutcomesBehind.{SameSessions, tells_if, tells_more}
 
 -- ---- a batch that is done
 
@@ -148,6 +111,11 @@ module _ (n v : ℕ) (node : PlainNode) (vb : Plain) (here : node.vbs v ≡ Some
 
 -- ---- a change of role
 
+-- a client that is told which streams ended
+each_turned : (v : ℕ) (ids : List ℕ) (o : Option PlainClient) → IsTurned v ids o (option_map (client_ended v ids) o)
+each_turned v ids None = tt
+each_turned v ids (Some client) = (refl, are_ended v ids client.producer.streams, refl)
+
 -- what befalls a line stands behind
 armed_grows : (n : ℕ) (w : PlainWorld) (came : Outcome) → (more : List Event) × ((with_arm n w came).1.events ≡ came.1.events ++ more)
 armed_grows n w came = by (fired_by (arm_in (w.nodes n)).fuse (arm_in (came.0.nodes n)).fuse)
@@ -158,26 +126,26 @@ armed_grows n w came = by (fired_by (arm_in (w.nodes n)).fuse (arm_in (came.0.no
     by fired.Stopped = (event.NodeStopped n ∷ down_lines n None came.0, refl)
 
 -- a node of which the clients are those
-abbrev Keeps : PlainNode → Option PlainNode → Type 0
-Keeps node o = (now : PlainNode) × (o ≡ Some now) × (now.clients ≡ node.clients)
+abbrev Keeps : (ℕ → Option PlainClient) → Option PlainNode → Type 0
+Keeps clients o = (now : PlainNode) × (o ≡ Some now) × (now.clients ≡ clients)
 
 -- where a link ends, the clients of each node stay
-unlinked_keeps : (link : PlainLink) (w : PlainWorld) (n : ℕ) (node now : PlainNode) → w.nodes n ≡ Some now → now.clients ≡ node.clients → Keeps node ((unlinked link w).nodes n)
-unlinked_keeps link w n node now there same = by (w.nodes (producer_node link)) refl
+unlinked_keeps : (link : PlainLink) (w : PlainWorld) (n : ℕ) (clients : ℕ → Option PlainClient) (now : PlainNode) → w.nodes n ≡ Some now → now.clients ≡ clients → Keeps clients ((unlinked link w).nodes n)
+unlinked_keeps link w n clients now there same = by (w.nodes (producer_node link)) refl
   where
-    at : (x : PlainNode) → w.nodes (producer_node link) ≡ Some x → (b : Bool) → (n == producer_node link) ≡ b → Keeps node (if b then Some (closed_at link x) else w.nodes n)
+    at : (x : PlainNode) → w.nodes (producer_node link) ≡ Some x → (b : Bool) → (n == producer_node link) ≡ b → Keeps clients (if b then Some (closed_at link x) else w.nodes n)
     at x e true at_end =
         let one : Some x ≡ Some now = sym e ∙ ap w.nodes (sym (eqb-true n (producer_node link) at_end)) ∙ there in
         let is : x ≡ now = cc in (closed_at link x, refl, ap (λ (y : PlainNode). y.clients) is ∙ same)
     at x e false other = (now, there, same)
 
-    by : (o : Option PlainNode) → w.nodes (producer_node link) ≡ o → Keeps node ((node_if (producer_node link) (closed_at link) w o).nodes n)
+    by : (o : Option PlainNode) → w.nodes (producer_node link) ≡ o → Keeps clients ((node_if (producer_node link) (closed_at link) w o).nodes n)
     by None e = (now, there, same)
     by (Some x) e = at x e (n == producer_node link) refl
 
-cut_keeps : (w : PlainWorld) (n : ℕ) (node now : PlainNode) → w.nodes n ≡ Some now → now.clients ≡ node.clients → (o : Option PlainLink) → Keeps node ((cut_off o w).0.nodes n)
-cut_keeps w n node now there same None = (now, there, same)
-cut_keeps w n node now there same (Some link) = unlinked_keeps link w n node now there same
+cut_keeps : (w : PlainWorld) (n : ℕ) (clients : ℕ → Option PlainClient) (now : PlainNode) → w.nodes n ≡ Some now → now.clients ≡ clients → (o : Option PlainLink) → Keeps clients ((cut_off o w).0.nodes n)
+cut_keeps w n clients now there same None = (now, there, same)
+cut_keeps w n clients now there same (Some link) = unlinked_keeps link w n clients now there same
 
 no_ok : (why : Cause) → line.No why ≡ line.Ok → ⊥
 no_ok why e = cc
@@ -223,8 +191,23 @@ module _ (w : PlainWorld) (n : ℕ) (node : PlainNode) (there : w.nodes n ≡ So
         ∙ ap (λ (o : Option (List Book)). let z : PlainNode × AdminResult = if is_some o then (node, admin_refused cause.NodeDown) else y in turned_after n v w (with_node_at w n z.0, z.1)) up
         ∙ ap (λ o. turned_if n v w o (with_node_at w n y.0, y.1)) (ap (λ (t : AdminResult). t.ended) y_is ∙ ends)
 
-    kept : Keeps node (cut.0.nodes n)
-    kept = cut_keeps w2 n node y.0 (ap (λ b. if b then Some y.0 else w.nodes n) (eq-eqb n n refl)) refl (own_link n v w2.links)
+    -- the clients of the node, once they were told
+    abbrev told_clients : ℕ → Option PlainClient
+    told_clients c = option_map (client_ended v ids) (node.clients c)
+
+    kept : Keeps told_clients (cut.0.nodes n)
+    kept =
+        cut_keeps w2 n told_clients (with_clients_ended v ids y.0) (ap (λ (x : PlainWorld). x.nodes n) (told_world w n v ids y.0) ∙ ap (λ b. if b then Some (with_clients_ended v ids y.0) else w.nodes n) (eq-eqb n n refl))
+        refl (own_link n v w2.links)
+
+    same_sessions : SameSessions node.clients kept.0.clients
+    same_sessions c = ap (λ f. session_in (f c)) kept.2 ∙ told_sessions v ids (node.clients c)
+
+    -- those of another node
+    kept_other : (m : ℕ) (other : PlainNode) → m ≢ n → w.nodes m ≡ Some other → Keeps other.clients (cut.0.nodes m)
+    kept_other m other ne here =
+        cut_keeps w2 m other.clients other (ap (λ (x : PlainWorld). x.nodes m) (told_world w n v ids y.0) ∙ ap (λ b. if b then Some (with_clients_ended v ids y.0) else w.nodes m) (ne_eqb m n ne) ∙ here)
+        refl (own_link n v w2.links)
 
     events_are : (role_outcome n v asked w).1.events ≡ (cut.1 ++ noted.1.events) ++ (all_posted noted.1.resolved kept.0).1
     events_are =
@@ -249,8 +232,34 @@ module _ (w : PlainWorld) (n : ℕ) (node : PlainNode) (there : w.nodes n ≡ So
           let (more, grows) = armed_grows n w came in (
             cut.1,
             one_cut w2 (own_link n v w2.links),
-            tells_more node reply.resolved (cut.1 ++ lines) came.1.events more (with_arm n w came).1.events (tells_if node kept.0 reply.resolved (cut.1 ++ lines) came.1.events kept.2 came_events) grows,
+            tells_more node reply.resolved (cut.1 ++ lines) came.1.events more (with_arm n w came).1.events (tells_if node kept.0 reply.resolved (cut.1 ++ lines) came.1.events same_sessions came_events) grows,
           )
+
+      -- what is left of the clients
+      turned_clients : TurnsClients w n v node ids reply.resolved came
+      turned_clients = record {
+        mid = kept.0;
+        each = λ c. subst (λ (f : ℕ → Option PlainClient). IsTurned v ids (node.clients c) (f c)) (sym kept.2) (each_turned v ids (node.clients c));
+        now = (all_posted y.1.resolved kept.0).0;
+        is = ap (λ (o : Outcome). o.0.nodes n) (at ∙ turned_as) ∙ ap (λ o. (posted_at n y.1.resolved cut.0 (after_cuts y.1 cut).1 o).0.nodes n) kept.1
+            ∙ ap (λ b. if b then Some (all_posted y.1.resolved kept.0).0 else cut.0.nodes n) (eq-eqb n n refl);
+        posted = ap (λ rs. (all_posted rs kept.0).0.clients) (ap (λ (t : AdminResult). t.resolved) y_is ∙ hands ∙ ap (λ (z : Plain × VbReply). z.1.resolved) (sym is));
+        others = λ m other ne here.
+            let still = kept_other m other ne here in (
+              still.0,
+              ap (λ (o : Outcome). o.0.nodes m) (at ∙ turned_as) ∙ ap (λ o. (posted_at n y.1.resolved cut.0 (after_cuts y.1 cut).1 o).0.nodes m) kept.1
+                  ∙ ap (λ b. if b then Some (all_posted y.1.resolved kept.0).0 else cut.0.nodes m) (ne_eqb m n ne) ∙ still.1,
+              still.2,
+            );
+      }
+
+      clients_turn : (with_arm n w came).1.answer ≡ line.Ok → TurnsClients w n v node ids reply.resolved (with_arm n w came)
+      clients_turn ok = by (fired_by (arm_in (w.nodes n)).fuse (arm_in (came.0.nodes n)).fuse) ok
+        where
+          by : (f : Fired) → (after_fire n (arm_in (w.nodes n)).out f came).1.answer ≡ line.Ok → TurnsClients w n v node ids reply.resolved (after_fire n (arm_in (w.nodes n)).out f came)
+          by fired.No ok = turned_clients
+          by fired.Failed ok = let t = turned_clients in record { mid = t.mid; each = t.each; now = t.now; is = t.is; posted = t.posted; others = t.others }
+          by fired.Stopped ok = absurd (no_ok cause.Stopped ok)
 
       turn_is_told : TurnsAs lines (with_arm n w came).1.events
       turn_is_told = let (more, grows) = armed_grows n w came in (cut.1, posts ++ more, one_cut w2 (own_link n v w2.links), grows ∙ ap (λ xs. xs ++ more) came_events ∙ append_assoc (cut.1 ++ lines) posts more)
@@ -352,9 +361,21 @@ module _ (w : PlainWorld) (n : ℕ) (node : PlainNode) (there : w.nodes n ≡ So
         ends_are_told admin.Dead tt (turned_x role.Dead) (ap (λ b. turn_by b vb role.Dead) other) refl _ refl _ refl refl (turn_step w n v role.Dead admin.Dead) (turns role.Dead admin.Dead other) unfed ok;
   }
 
+  pub clients_told : ClientsTurn w n v node vb
+  clients_told = record {
+    promote = λ number uuid ne some free lacks ok.
+        clients_turn (admin.Promote uuid) tt (promoted_x uuid ne some free lacks) (leads uuid ne some free lacks) refl _ refl _ refl refl (promote_step w n v uuid) (at_once uuid ne some free lacks) ok;
+    follow = λ number ne ok.
+        let other = not_replica vb.role ne in
+        clients_turn admin.Follow tt (turned_x role.Replica) (ap (λ b. turn_by b vb role.Replica) other) refl _ refl _ refl refl (turn_step w n v role.Replica admin.Follow) (turns role.Replica admin.Follow other) ok;
+    dead = λ number ne ok.
+        let other = not_dead vb.role ne in
+        clients_turn admin.Dead tt (turned_x role.Dead) (ap (λ b. turn_by b vb role.Dead) other) refl _ refl _ refl refl (turn_step w n v role.Dead admin.Dead) (turns role.Dead admin.Dead other) ok;
+  }
+
   -- a line that is one call of the vBucket
   settles : (asked : VbCall) (events : List Event) → events ≡ changes_of n v (reply_of vb asked) ++ (all_posted (reply_of vb asked).resolved (node_after v vb asked node)).1 → TellsReply n v node (reply_of vb asked) events
-  settles asked events told = tells_if node (node_after v vb asked node) (reply_of vb asked).resolved (changes_of n v (reply_of vb asked)) events refl told
+  settles asked events told = tells_if node (node_after v vb asked node) (reply_of vb asked).resolved (changes_of n v (reply_of vb asked)) events (λ c. refl) told
 
   dones : (seq : ℕ) (shelf : Shelf) → node.shelves v ≡ Some shelf → shelf.flush ≡ Written seq → TellsReply n v node (reply_of vb (call.FlushDone seq)) (due_in n v (on_node w n (flush_line n v part.Done))).1.events
   dones seq shelf kept is =
@@ -362,7 +383,7 @@ module _ (w : PlainWorld) (n : ℕ) (node : PlainNode) (there : w.nodes n ≡ So
       let reply : VbReply = reply_of vb (call.FlushDone seq) in
       let (more, grows) = due_grows n v came in
       tells_more node reply.resolved (changes_of n v reply) came.1.events more (due_in n v came).1.events
-      (tells_if node (with_kept node (finished n v node vb here shelf kept seq is (Some vb)).0) reply.resolved (changes_of n v reply) came.1.events refl
+      (tells_if node (with_kept node (finished n v node vb here shelf kept seq is (Some vb)).0) reply.resolved (changes_of n v reply) came.1.events (λ c. refl)
       (ap (λ (o : Outcome). o.1.events) (line_is w n node there up (flush_line n v part.Done)) ∙ ap (λ (x : PlainNode × Told). x.1.events) (done_is n v node vb here shelf kept seq is))) grows
 
   pub outcomes : OutcomesTold w n v node vb
@@ -401,6 +422,6 @@ module _ (w : PlainWorld) (l : ℕ) (link : PlainLink) (producer : PlainNode) (a
           let begun : PlainNode × PeerResult = (producer, untold_peer peer) in
           let (later, grows) = frames_grow more (frame_up f begun) in
           tells_more producer answered.1.resolved answered.1.events (answered.1.events ++ (all_posted answered.1.resolved (with_states producer answered.0)).1) later (on_link w l producer_node (up_at wanted)).1.events
-          (tells_if producer (with_states producer answered.0) answered.1.resolved answered.1.events (answered.1.events ++ (all_posted answered.1.resolved (with_states producer answered.0)).1) refl refl)
+          (tells_if producer (with_states producer answered.0) answered.1.resolved answered.1.events (answered.1.events ++ (all_posted answered.1.resolved (with_states producer answered.0)).1) (λ c. refl) refl)
           (ap (λ (t : Told). t.events) (up_is wanted)
           ∙ ap (λ fs. (frames_up fs begun).1.events) frames ∙ grows ∙ ap (λ (x : States × PeerResult). (x.1.events ++ (all_posted x.1.resolved (with_states producer x.0)).1) ++ later) is)

@@ -3,7 +3,7 @@ use Rattle.std.proofs.Common.{◌≡◌, ◌≢◌, ℕ, Bool, true, false, List
 use Rattle.std.proofs.lemmas.Bool.{eq-eqb, ne_eqb}
 use Rattle.std.proofs.Math.Nat.{mod-eq_of_lt, mod-lt}
 use Rattle.std.specs.Prelude.{◌%◌, if◌then◌else◌, is_some}
-use Rattle.client_session.specs.Serving.{PlainSession, new_session}
+use Rattle.client_session.specs.Serving.{PlainSession}
 use Rattle.dcp_consumer.specs.Dialing.{stream_opaque}
 use Rattle.disk_journals.specs.Books.{Book}
 use Rattle.script_text.specs.declared.verb.ScriptLine.{ScriptLine}
@@ -17,6 +17,7 @@ use Rattle.vb_events.specs.declared.event.Cause.{Cause}
 use Rattle.vb_events.specs.declared.event.Cause.TheVariants as cause
 use Rattle.vb_events.specs.declared.event.Event.{Event}
 use Rattle.dcp_producer.specs.Producers.{PlainProducer}
+use Rattle.node_core.specs.Clients.{PlainClient, new_client}
 use Rattle.node_world.proofs.WhoAwaits.{goes}
 use Rattle.node_world.specs.declared.told.Told.{Told}
 use Rattle.node_world.specs.Nodes.{PlainNode, client_at, clock_at, done, if_up, posted, refusal, with_client}
@@ -52,21 +53,24 @@ no_ok why e = cc
 
 -- what a line that opens a connection comes to
 abbrev Opens : PlainWorld → ℕ → ℕ → ℕ → Outcome → Type 0
-Opens w line n c came = came.1.answer ≡ answer.Ok → (node : PlainNode) × (session : PlainSession) × (came.0.nodes n ≡ Some node) × (node.clients c ≡ Some session)
-    × (session.who.base ≡ line % 4294967296) × (session.used ≡ 0) × (session.awaited ≡ None)
+Opens w line n c came = came.1.answer ≡ answer.Ok → (node : PlainNode) × (client : PlainClient) × (came.0.nodes n ≡ Some node) × (node.clients c ≡ Some client)
+    × (client.session.who.base ≡ line % 4294967296) × (client.session.used ≡ 0) × (client.session.awaited ≡ None) × (client.producer.desk.base ≡ line % 4294967296) × (client.producer.streams ≡ []) × (client.producer.asked ≡ 0)
 
 pub opens : (w : PlainWorld) (line n c : ℕ) → OpensApart w line n c
 opens w line n c = record { opened = by (w.nodes n) }
   where
     pick : (node : PlainNode) (down taken : Bool)
-        → Opens w line n c (let x : PlainNode × Told = if down then (node, refusal cause.NodeDown) else if taken then (node, refusal cause.LinkOpen) else (with_client node c (Some (new_session (record { node = n; client = c; base = base_of line }))), done []) in (with_node_at w n x.0, x.1))
+        → Opens w line n c (let x : PlainNode × Told = if down then (node, refusal cause.NodeDown) else if taken then (node, refusal cause.LinkOpen) else (with_client node c (Some (new_client (record { node = n; client = c; base = base_of line }))), done []) in (with_node_at w n x.0, x.1))
     pick node true taken e = absurd (no_ok cause.NodeDown e)
     pick node false true e = absurd (no_ok cause.LinkOpen e)
     pick node false false e = (
-      with_client node c (Some (new_session (record { node = n; client = c; base = base_of line }))),
-      new_session (record { node = n; client = c; base = base_of line }),
-      ap (λ b. if b then Some (with_client node c (Some (new_session (record { node = n; client = c; base = base_of line })))) else w.nodes n) (eq-eqb n n refl),
-      ap (λ b. if b then Some (new_session (record { node = n; client = c; base = base_of line })) else node.clients c) (eq-eqb c c refl),
+      with_client node c (Some (new_client (record { node = n; client = c; base = base_of line }))),
+      new_client (record { node = n; client = c; base = base_of line }),
+      ap (λ b. if b then Some (with_client node c (Some (new_client (record { node = n; client = c; base = base_of line })))) else w.nodes n) (eq-eqb n n refl),
+      ap (λ b. if b then Some (new_client (record { node = n; client = c; base = base_of line })) else node.clients c) (eq-eqb c c refl),
+      refl,
+      refl,
+      refl,
       refl,
       refl,
       refl,

@@ -3,7 +3,6 @@ use Rattle.std.proofs.Common.{◌≡◌, ℕ, zero, suc, ◌+◌, ◌<◌, Bool,
 use Rattle.std.specs.Prelude.{if◌then◌else◌}
 use Rattle.std.proofs.lemmas.List.{drop_more}
 use Rattle.slab.specs.Slab.{get}
-use Rattle.client_session.specs.Serving.{PlainSession}
 use Rattle.vb_calls.specs.declared.calls.Resolved.{Resolved}
 use Rattle.vb_events.specs.declared.event.Event.{Event}
 use Rattle.node_core.specs.declared.out.NodeOut.{NodeOut}
@@ -13,6 +12,7 @@ use Rattle.vb_types.specs.declared.journal.FlushPart.{FlushPart}
 use Rattle.node_core.specs.Flushing.{FlushResult, flush_at}
 use Rattle.node_core.specs.Outcomes.{conn_awaits, value_at}
 use Rattle.node_core.specs.Outs.{flush_by}
+use Rattle.node_core.specs.Clients.{PlainClient}
 use Rattle.node_world.specs.declared.script_node.ScriptNode.{ScriptNode}
 use Rattle.node_world.specs.declared.script_node.TheConstants.{MAX_CLIENTS}
 use Rattle.node_world.specs.declared.told.Told.{Told}
@@ -26,21 +26,21 @@ use Rattle.node_world.proofs.Nodes.{Flushes, SettlesBy}
 
 -- ---- who awaits an outcome
 
--- a number with no key has no session
-no_session : (s : Option PlainSession) → is_some s ≡ false → s ≡ None
-no_session None e = refl
-no_session (Some s) e = cc
+-- a number with no key has no connection
+no_client : (s : Option PlainClient) → is_some s ≡ false → s ≡ None
+no_client None e = refl
+no_client (Some s) e = cc
 
 pub unkeyed : (seat : ScriptNode) (plain : PlainNode) (c : ℕ) → value_at seat.clients c ≡ None → NodeMatch seat plain → plain.clients c ≡ None
-unkeyed seat plain c none stands = no_session (plain.clients c) (keyed seat plain c stands ∙ ap is_some none)
+unkeyed seat plain c none stands = no_client (plain.clients c) (keyed seat plain c stands ∙ ap is_some none)
 
--- a session awaits what its connection awaits
+-- a client awaits what its connection awaits
 pub awaits_as : (seat : ScriptNode) (plain : PlainNode) (waiter c key : ℕ) → value_at seat.clients c ≡ Some key → NodeMatch seat plain → awaits_in waiter (plain.clients c) ≡ conn_awaits waiter (get seat.node.conns key)
 awaits_as seat plain waiter c key has stands =
-    let (session, there, live) = found seat plain c key has stands in
+    let (client, there, live) = found seat plain c key has stands in
     ap (awaits_in waiter) there ∙ sym (ap (conn_awaits waiter) (client_got (get seat.node.conns key) _ live))
 
-module _ (clients : ℕ → Option PlainSession) (waiter : ℕ) where
+module _ (clients : ℕ → Option PlainClient) (waiter : ℕ) where
   -- none below 0
   pub none_awaits : awaiting clients waiter 0 ≡ None
   unfolding awaiting
@@ -193,9 +193,9 @@ rest_of_both old mid new first second = record {
   off = second.off ∙ first.off;
 }
 
-rest_at : (r : Resolved) (node : PlainNode) (c : ℕ) (s : Option PlainSession) → SameRest node (posted_if c r node s).0
+rest_at : (r : Resolved) (node : PlainNode) (c : ℕ) (s : Option PlainClient) → SameRest node (posted_if c r node s).0
 rest_at r node c None = rest_again node
-rest_at r node c (Some session) = record { shelves = refl; made = refl; clock = refl; arm = refl; off = refl }
+rest_at r node c (Some client) = record { shelves = refl; made = refl; clock = refl; arm = refl; off = refl }
 
 rest_to : (r : Resolved) (node : PlainNode) (o : Option ℕ) → SameRest node (posted_to r node o).0
 rest_to r node None = rest_again node

@@ -25,7 +25,7 @@ use Rattle.node_world.specs.Ends.{KeepsEnds, LiftsArm, PlacesArm}
 use Rattle.node_world.specs.Nodes.{with_kept}
 use Rattle.node_world.specs.Power.{start_call}
 use Rattle.node_world.specs.Starts.{StartsOne, Stops}
-use Rattle.node_world.specs.Stands.{MemNode, NodeMatch, SessionStands, client_part, node_number, peer_part}
+use Rattle.node_world.specs.Stands.{MemNode, NodeMatch, ClientStands, client_part, node_number, peer_part}
 use Rattle.node_world.proofs.Armed.{both_keep}
 use Rattle.node_world.proofs.Nodes.{inside, off_kept, with_both}
 use Rattle.node_world.proofs.Shelved.{MemAsks, known_job}
@@ -54,7 +54,7 @@ module _ (old new : ScriptNode) (out : Outcome) (number : node_number new ≡ no
       made = made;
       clock = clock;
       clients = record {
-        each = λ c. subst (λ o. SessionStands new.node.conns o None) (sym (no_key c)) tt;
+        each = λ c. subst (λ o. ClientStands new.node.conns o None) (sym (no_key c)) tt;
         apart = λ c d key has also. let no : None ≡ Some key = sym (no_key c) ∙ has in cc;
         owned = λ key has. let no : false ≡ true = sym (ap (λ o. is_some (client_part o)) (no_conn key)) ∙ has in cc;
       };

@@ -2,7 +2,6 @@
 use Rattle.std.proofs.Common.{◌≡◌, ℕ, zero, suc, ◌<◌, Bool, true, false, cond, ◌||◌, List, [], ◌∷◌, ◌++◌, Option, Some, None, filter, flat_map, map, length, refl, ap, sym, ◌∙◌, subst, ◌⊎◌, inl, inr, arith, is_some}
 use Rattle.std.specs.Prelude.{◌↔◌, ◌==◌, if◌then◌else◌}
 use Rattle.std.specs.List.{AllByRecursion}
-use Rattle.client_session.specs.Serving.{PlainSession}
 use Rattle.std.proofs.lemmas.Bool.{eqb-true, eq-eqb}
 use Rattle.std.proofs.lemmas.Bool.Decides.{nat_tests}
 use Rattle.disk_journals.specs.Arms.{opens_all}
@@ -17,6 +16,7 @@ use Rattle.vb_events.specs.declared.event.EndReason.TheVariants as reason
 use Rattle.vb_events.specs.declared.event.Event.{Event}
 use Rattle.vb_events.specs.declared.event.Event.TheVariants as event
 use Rattle.vbucket.specs.Rows.{row_at}
+use Rattle.node_core.specs.Clients.{PlainClient}
 use Rattle.node_world.specs.declared.arm.Arm.{Arm}
 use Rattle.node_world.specs.declared.arm.Fired.{Fired}
 use Rattle.node_world.specs.declared.arm.Fired.TheVariants as fired
@@ -175,9 +175,9 @@ open_is n c w (Some node) at = (
   λ h. let same : node ≡ h.0 = cc (sym at ∙ h.1) in ap (λ x. is_some (x.clients c)) same ∙ ap is_some h.3,
 )
   where
-    by : (o : Option PlainSession) → node.clients c ≡ o → is_some o ≡ true → IsOpen n w c
+    by : (o : Option PlainClient) → node.clients c ≡ o → is_some o ≡ true → IsOpen n w c
     by None e t = let no : false ≡ true = t in absurd (cc no)
-    by (Some session) e t = (node, at, session, e)
+    by (Some client) e t = (node, at, client, e)
 
 -- of the numbers that pass a test
 passed_is : (P : ℕ → Type 0) (test : ℕ → Bool) → ((k : ℕ) → (test k ≡ true) ↔ P k) → (k : ℕ) → Has (filter test all_numbers) k ↔ ((k < 1000) × P k)

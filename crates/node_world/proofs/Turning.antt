@@ -19,7 +19,7 @@ use Rattle.node_world.specs.declared.link.Link.{Link}
 use Rattle.node_world.specs.declared.script_node.ScriptNode.{ScriptNode}
 use Rattle.node_world.specs.Arms.{lifted, placed as under_it, under_arm}
 use Rattle.node_world.specs.Cuts.{unlinked, own_link, cut_off}
-use Rattle.node_world.specs.Ends.{Carries, dial_under, kept_peer_ended, TellsEnds, SetsRole, KeepsOthers, Unlinked, LeavesLink, LeavesOwn}
+use Rattle.node_world.specs.Ends.{Carries, dial_under, kept_peer_ended, TellsEnds, SetsRole, KeepsOthers, Unlinked, LeavesLink, LeavesOwn, with_clients_told}
 use Rattle.node_world.specs.Lines.{ChangesRole, out_told}
 use Rattle.node_world.specs.Links.{PlainLink, feeds, dial_of}
 use Rattle.node_world.specs.Nodes.{PlainNode, refusal, with_posts}
@@ -28,6 +28,7 @@ use Rattle.node_world.specs.Stands.{NodeMatch, NodeStands, node_number, NodesSta
 use Rattle.node_world.specs.declared.told.Told.{Told}
 use Rattle.node_world.specs.Turns.{called_at, call_told, posted_at, posted_in, role_called, after_cuts, with_ended, turned, turned_if, turned_after, no_node, role_outcome}
 use Rattle.node_world.specs.Worlds.{PlainWorld, Outcome, with_node_at, node_outcome, on_made}
+use Rattle.node_world.proofs.ClientsTold.{told_uuids, told_world}
 use Rattle.node_world.proofs.AfterPosts.{none_posted}
 use Rattle.node_world.proofs.Finding.{position_any, find_at}
 use Rattle.node_world.proofs.Held.{both_same, is_same, same_ends, out_stand, told_stand}
@@ -91,10 +92,10 @@ module _ (kept : Kept) (w : PlainWorld) (n v at : ℕ) (asked : AdminCall) (old 
   abbrev ends : Ends
   ends = ends_of kept.nodes
 
-  turns_here : (plain : PlainNode) → NodeMatch old plain → NodeMatch new (armed n v asked plain).0
+  turns_here : (plain : PlainNode) → NodeMatch old plain → NodeMatch new (with_clients_told v (armed n v asked plain).1.ended (armed n v asked plain).0)
       × (out ≡ admin_out (dial_ended (armed n v asked plain).1.ended (dial_under old v)) (armed n v asked plain).1) × TellsEnds old new v (armed n v asked plain).1.ended
   turns_here plain alike =
-      subst (λ m. NodeMatch new (armed m v asked plain).0 × (out ≡ admin_out (dial_ended (armed m v asked plain).1.ended (dial_under old v)) (armed m v asked plain).1) × TellsEnds old new v (armed m v asked plain).1.ended)
+      subst (λ m. NodeMatch new (with_clients_told v (armed m v asked plain).1.ended (armed m v asked plain).0) × (out ≡ admin_out (dial_ended (armed m v asked plain).1.ended (dial_under old v)) (armed m v asked plain).1) × TellsEnds old new v (armed m v asked plain).1.ended)
       (numbered kept.nodes n at old new placed is) (turns plain alike)
 
   module _ (plain : PlainNode) (there : w.nodes n ≡ Some plain) (alike : NodeMatch old plain) where
@@ -107,11 +108,15 @@ module _ (kept : Kept) (w : PlainWorld) (n v at : ℕ) (asked : AdminCall) (old 
     tells : TellsEnds old new v said.ended
     tells = (turns_here plain alike).2
 
-    known : NodesStand nodes' w1
+    -- the node with its clients told
+    abbrev heard : PlainNode → PlainNode
+    heard x = with_clients_told v (armed n v asked x).1.ended (armed n v asked x).0
+
+    known : NodesStand nodes' (with_node_at w n (heard plain))
     known =
         let none : List ℕ = [] in
-        subst (λ o. NodesStand nodes' (node_outcome w n none o (λ x. ((armed n v asked x).0, none))).0) there
-        (step_stands kept.nodes n at old new placed is tells.number w none (λ x. ((armed n v asked x).0, none)) (λ t. List ℕ) stands.nodes (λ x same. ((turns_here x same).0, none))).0
+        subst (λ o. NodesStand nodes' (node_outcome w n none o (λ x. (heard x, none))).0) there
+        (step_stands kept.nodes n at old new placed is tells.number w none (λ x. (heard x, none)) (λ t. List ℕ) stands.nodes (λ x same. ((turns_here x same).0, none))).0
 
     abbrev Comes : Kept → Outcome → Type 0
     Comes after o = WorldStands after o.0 × (out_told out ≡ o.1)
@@ -133,8 +138,8 @@ module _ (kept : Kept) (w : PlainWorld) (n v at : ℕ) (asked : AdminCall) (old 
         out_is : out ≡ admin_out None said
         out_is = (turns_here plain alike).1 ∙ ap (λ e. admin_out (dial_ended e (dial_under old v)) said) none
 
-        back : (k : ℕ) (b : Bool) → (k == n) ≡ b → (r : Option ScriptNode) → NodeStands r (if b then Some (armed n v asked plain).0 else w.nodes k) → NodeStands r (w.nodes k)
-        back k true e r h = subst (NodeStands r) (ap Some (stays none) ∙ sym there ∙ ap w.nodes (sym (eqb-true k n e))) h
+        back : (k : ℕ) (b : Bool) → (k == n) ≡ b → (r : Option ScriptNode) → NodeStands r (if b then Some (heard plain) else w.nodes k) → NodeStands r (w.nodes k)
+        back k true e r h = subst (NodeStands r) (ap (λ o. Some (with_clients_told v o (armed n v asked plain).0)) none ∙ ap Some (stays none) ∙ sym there ∙ ap w.nodes (sym (eqb-true k n e))) h
         back k false e r h = h
 
         peers : (m key : ℕ) → (ends_of nodes').peers m key ≡ ends.peers m key
@@ -157,6 +162,9 @@ module _ (kept : Kept) (w : PlainWorld) (n v at : ℕ) (asked : AdminCall) (old 
     module _ (ids : List ℕ) (ended : said.ended ≡ Some ids) where
       abbrev w2 : PlainWorld
       w2 = with_ended n v ids w1
+
+      known_told : NodesStand nodes' w2
+      known_told = subst (NodesStand nodes') (sym (told_world w n v ids (armed n v asked plain).0)) (subst (λ o. NodesStand nodes' (with_node_at w n (with_clients_told v o (armed n v asked plain).0))) ended known)
 
       -- the producers are told, and the dial is still there
       abbrev told : Ends
@@ -186,8 +194,8 @@ module _ (kept : Kept) (w : PlainWorld) (n v at : ℕ) (asked : AdminCall) (old 
           let here : own_link n v w2.links ≡ None = none_feeds told n v kept.links w2.links (dial_is ∙ none) told_links.each in
           subst (λ o. Comes after (after_cuts said (cut_off o w2))) (sym here) (
             subst (λ k. WorldStands k w2) (sym (subst (λ b. LeavesOwn n v b (with_nodes kept nodes') after) (ap (λ (x : NodeOut). x.closed) (closed_is None none)) leaves)) (record {
-              nodes = known;
-              ids = stands.ids;
+              nodes = known_told;
+              ids = subst (IdsStand kept.ids) (sym (told_uuids n v ids w1)) stands.ids;
               links = same_ends told (ends_of nodes') kept.links w2.links (λ m key. refl) dials told_links;
             }),
             ap out_told (closed_is None none),
@@ -241,7 +249,7 @@ module _ (kept : Kept) (w : PlainWorld) (n v at : ℕ) (asked : AdminCall) (old 
 
           module _ (after : Kept) (leaves : LeavesLink i true (with_nodes kept nodes') after) where
             gone : Unlinked link p w2 nodes' after.nodes
-            gone = leaves.0 link (get_or_default kept.links i d link lt) w2 p known p_stands.producer p_stands.server
+            gone = leaves.0 link (get_or_default kept.links i d link lt) w2 p known_told p_stands.producer p_stands.server
 
             others : KeepsOthers link told (ends_of after.nodes)
             others = record {
@@ -263,7 +271,7 @@ module _ (kept : Kept) (w : PlainWorld) (n v at : ℕ) (asked : AdminCall) (old 
             cut = subst (λ o. Comes after (after_cuts said (cut_off o w2))) (sym own) (
               record {
                 nodes = gone.stands;
-                ids = subst (λ xs. IdsStand xs (unlinked p w2).uuids) (sym leaves.2) (subst (IdsStand kept.ids) (sym (closed_uuids p w2)) stands.ids);
+                ids = subst (λ xs. IdsStand xs (unlinked p w2).uuids) (sym leaves.2) (subst (IdsStand kept.ids) (sym (closed_uuids p w2 ∙ told_uuids n v ids w1)) stands.ids);
                 links = subst (λ xs. LinksStand (ends_of after.nodes) xs (unlinked p w2).links) (sym leaves.1)
                     (subst (LinksStand (ends_of after.nodes) (remove kept.links i)) (out_is told kept.links w2.links i d lt told_links)
                     (out_stand told (ends_of after.nodes) kept.links w2.links i d lt others told_links gone.gone no_dial));

@@ -1,5 +1,5 @@
 -- what became of a durable write is told to the connection that awaits it
-use Rattle.std.proofs.Common.{◌≡◌, ℕ, zero, suc, ◌<◌, arith, Bool, true, false, List, [], ◌∷◌, ◌++◌, map, refl, ap, sym, ◌∙◌, subst, Option, Some, None, Result, Ok, Err}
+use Rattle.std.proofs.Common.{◌≡◌, ℕ, zero, suc, ◌<◌, arith, Bool, true, false, List, [], ◌∷◌, ◌++◌, map, refl, ap, sym, ◌∙◌, subst, Option, Some, None, Result, Ok, Err, append_assoc}
 use Rattle.std.specs.Prelude.{◌≢◌, ◌==◌, nat_le, if◌then◌else◌}
 use Rattle.std.proofs.lemmas.Bool.{eq-eqb, eqb-true, eqb-false, ne_eqb}
 use Rattle.mcbp_frame.specs.declared.frame.Frame.{Frame}
@@ -27,17 +27,24 @@ use Rattle.client_session.specs.declared.session.Settings.{Settings}
 use Rattle.client_session.specs.Answers.{reply_line}
 use Rattle.client_session.specs.Conduct.{sent}
 use Rattle.client_session.specs.Rows.{IsOutcome}
-use Rattle.client_session.specs.Serving.{PlainSession, Served, MOST_DURABLE, asked, awaited_by, awaits, deadline_of, durable_answered, durable_called, durable_replied, ended_at, frame_handled, greeted, next_waiter, outcome_by, outcome_of, outcome_reply, outcome_handled, outcome_answered, answered_or_awaited, refused, request_handled, served, told, turns_handled, with_lines, with_used}
+use Rattle.client_session.specs.Serving.{Served, MOST_DURABLE, asked, awaited_by, awaits, deadline_of, durable_answered, durable_called, durable_replied, ended_at, frame_handled, greeted, next_waiter, outcome_by, outcome_of, outcome_reply, outcome_handled, outcome_answered, answered_or_awaited, refused, request_handled, served, told, turns_handled, with_lines, with_used, handed, is_dcp}
 use Rattle.client_session.proofs.Conduct.{either}
 use Rattle.client_session.proofs.Keeping.{front_of, turns_go}
 use Rattle.node_core.specs.Calls.{left_open}
+use Rattle.node_core.specs.Clients.{PlainClient, Handling, client_posted, delivered, handled_on, closed_if, frames_passed}
+use Rattle.dcp_producer.specs.Serving.{frame_answered as dcp_answered}
+use Rattle.node_core.proofs.Handlings.{answered, on_goes, passes_go}
+use Rattle.dcp_producer.specs.Producers.{PlainProducer, begun}
+use Rattle.vb_calls.proofs.Readings.{after_bind}
+use Rattle.mcbp_frame.specs.declared.frame.FrameFault.{FrameFault}
+use Rattle.dcp_producer.specs.Ending.{end_closed}
 use Rattle.node_world.specs.declared.script_node.TheConstants.{MAX_CLIENTS}
 use Rattle.node_world.specs.Nodes.{PlainNode, awaiting, awaiting_at, awaits_in, first_of, posted, posted_if, posted_to}
 use Rattle.node_world.specs.Posting.{AwaitsAlone, GoesToWhoAwaits, NobodyAwaits, TellsFirst}
 
 -- ---- who awaits
 
-module _ (clients : ℕ → Option PlainSession) (waiter : ℕ) where
+module _ (clients : ℕ → Option PlainClient) (waiter : ℕ) where
   at_none : (c : ℕ) → awaits_in waiter (clients c) ≡ false → awaiting_at clients waiter c ≡ None
   at_none c e = ap (λ b. if b then Some c else None) e
 
@@ -63,13 +70,14 @@ module _ (clients : ℕ → Option PlainSession) (waiter : ℕ) where
 
 -- ---- lines are told behind those before
 
-module _ (line : Event) where
-  -- this line is the first
-  abbrev Begins : Served → Type 0
-  Begins s = (rest : List Event) × (s.events ≡ line ∷ rest)
+-- the lines in front, and those of the session
+module _ (before first : List Event) where
+  -- all that is told begins so
+  abbrev pub Begins : Served → Type 0
+  Begins s = (rest : List Event) × (before ++ s.events ≡ first ++ rest)
 
   grows : (s t : Served) (lines : List Event) → t.events ≡ s.events ++ lines → Begins s → Begins t
-  grows s t lines told (rest, is) = (rest ++ lines, told ∙ ap (λ xs. xs ++ lines) is)
+  grows s t lines told (rest, is) = (rest ++ lines, ap (λ xs. before ++ xs) told ∙ sym (append_assoc before s.events lines) ∙ ap (λ xs. xs ++ lines) is ∙ append_assoc first rest lines)
 
   more : (s : Served) (lines : List Event) → Begins s → Begins (with_lines s lines)
   more s lines begins = grows s (with_lines s lines) lines refl begins
@@ -111,11 +119,38 @@ module _ (line : Event) where
   frame_begins : (states : States) (clock : ℕ) (f : Frame) (s : Served) → Begins s → Goes states (frame_handled clock f s)
   unfolding frame_handled
   frame_begins states clock f s begins =
-      either (Goes states) (f.magic == RESPONSE) (Done s) (request_handled clock f (request_of s.session.settings.json f) s) begins (request_begins states clock f (request_of s.session.settings.json f) s begins)
+      let answers : Prog Served = request_handled clock f (request_of s.session.settings.json f) s in
+      either (Goes states) (f.magic == RESPONSE) (Done s) (if is_dcp f.opcode then Done (handed f s) else answers) begins
+      (either (Goes states) (is_dcp f.opcode) (Done (handed f s)) answers begins (request_begins states clock f (request_of s.session.settings.json f) s begins))
+
+  ended_begins : (fault : FrameFault) (s : Served) → Begins s → Begins (ended_at (Some fault) s)
+  ended_begins fault s begins = grows s (ended_at (Some fault) s) _ refl begins
 
   turns_begin : (clock : ℕ) (states : States) (s : Served) → Begins s → Goes states (turns_handled clock s)
-  turns_begin clock states s begins =
-      turns_go (λ x. Begins x.1) clock (λ f states s first begins. frame_begins states clock f (front_of f s) begins) (λ fault states s first begins. grows s (ended_at (Some fault) s) _ refl begins) s states begins
+  turns_begin clock states s begins = turns_go (λ x. Begins x.1) clock (λ f states s first begins. frame_begins states clock f (front_of f s) begins) (λ fault states s first begins. ended_begins fault s begins) s states begins
+
+-- so it is with all that a connection goes on with
+abbrev pub Opens : List Event → States × Handling → Type 0
+Opens first x = (rest : List Event) × (x.1.events ≡ first ++ rest)
+
+module _ (first : List Event) (clock : ℕ) where
+  answers_open : (f : Frame) (states : States) (h : Handling) → Opens first (states, h) → let x = after (dcp_answered f (begun h.client.producer)) states in Opens first (x.0, answered h x.1)
+  answers_open f states h (rest, is) =
+      let lines : List Event = delivered h.client.session.who (after (dcp_answered f (begun h.client.producer)) states).1 in (rest ++ lines, ap (λ xs. xs ++ lines) is ∙ append_assoc first rest lines)
+
+  pub handling_opens : (producer : PlainProducer) (s : Served) (states : States) → Begins [] first s → Opens first (after (handled_on clock producer s) states)
+  handling_opens producer s states begins =
+      on_goes (Opens first) clock (λ before producer f states s whole p. frame_begins before first states clock f (front_of f s) p) (λ before producer fault states s whole p. ended_begins before first fault s p)
+      (λ f states h e p. answers_open f states h p) (λ states h e p. p) producer s states begins
+
+  pub passes_open : (h : Handling) (states : States) → Opens first (states, h) → Opens first (after (frames_passed clock h) states)
+  passes_open h states opens =
+      passes_go (Opens first) clock (λ before producer f states s whole p. frame_begins before first states clock f (front_of f s) p) (λ before producer fault states s whole p. ended_begins before first fault s p)
+      (λ f states h e p. answers_open f states h p) h states opens
+
+  pub closes_open : (h : Handling) (states : States) (closed : Bool) → Opens first (states, h) → Opens first (after (closed_if closed h) states)
+  closes_open h states true opens = subst (Opens first) (sym (after_bind (end_closed h.client.producer) (λ none. Done h) states)) opens
+  closes_open h states false opens = opens
 
 -- ---- the answer
 
@@ -137,33 +172,43 @@ module _ (r : Resolved) (node : PlainNode) where
   nobody_told : NobodyAwaits r.waiter node → posted r node ≡ (node, [])
   nobody_told none = ap (posted_to r node) (none_awaits node.clients r.waiter MAX_CLIENTS none)
 
-  module _ (c : ℕ) (session : PlainSession) (a : Awaited) (alone : AwaitsAlone r.waiter c session a node) where
+  module _ (c : ℕ) (client : PlainClient) (a : Awaited) (alone : AwaitsAlone r.waiter c client a node) where
     abbrev frame : Frame
-    frame = reply_frame (outcome_reply session.settings a r.how)
+    frame = reply_frame (outcome_reply client.session.settings a r.how)
+
+    abbrev line : List Event
+    line = sent client.session.who frame ∷ []
 
     abbrev started : Served
-    started = served session []
+    started = served client.session []
 
     waits : awaits_in r.waiter (node.clients c) ≡ true
     waits = ap (awaits_in r.waiter) alone.there ∙ ap (awaits r.waiter) alone.awaited ∙ eq-eqb a.waiter r.waiter alone.mine
 
-    pub told_is : posted r node ≡ posted_if c r node (Some session)
+    pub told_is : posted r node ≡ posted_if c r node (Some client)
     told_is = ap (posted_to r node) (one_awaits node.clients r.waiter c waits MAX_CLIENTS alone.within alone.others) ∙ ap (posted_if c r node) alone.there
 
-    begins : Begins (sent session.who frame) (after (outcome_handled node.clock r started) node.vbs).1
+    begins : Begins [] line (after (outcome_handled node.clock r started) node.vbs).1
     unfolding outcome_handled reply_line
     begins =
-        subst (λ (prog : Prog Served). Begins (sent session.who frame) (after prog node.vbs).1)
+        subst (λ (prog : Prog Served). Begins [] line (after prog node.vbs).1)
         (sym (ap (outcome_by node.clock r started) alone.awaited ∙ ap (λ b. if b then turns_handled node.clock (outcome_answered a r.how started) else Done started) (eq-eqb a.waiter r.waiter alone.mine)))
-        (turns_begin (sent session.who frame) node.clock node.vbs (outcome_answered a r.how started) ([], refl))
+        (turns_begin [] line node.clock node.vbs (outcome_answered a r.how started) ([], refl))
 
-    one_told : TellsFirst r c session a node
+    opens : Opens line (after (client_posted node.clock r client) node.vbs)
+    unfolding client_posted
+    opens =
+        let run : Prog Served = outcome_handled node.clock r started in
+        let x : States × Served = after run node.vbs in
+        subst (Opens line) (sym (after_bind run (handled_on node.clock client.producer) node.vbs)) (handling_opens line node.clock client.producer x.1 x.0 begins)
+
+    one_told : TellsFirst r c client a node
     one_told = record {
       frame = frame;
-      is = is_outcome session.settings a r.how;
-      rest = begins.0;
-      told = ap (λ (x : PlainNode × List Event). x.1) told_is ∙ begins.1;
-      others = λ d ne. ap (λ (x : PlainNode × List Event). x.0.clients d) told_is ∙ ap (λ b. if b then left_open (after (outcome_handled node.clock r started) node.vbs).1.session else node.clients d) (ne_eqb d c ne);
+      is = is_outcome client.session.settings a r.how;
+      rest = opens.0;
+      told = ap (λ (x : PlainNode × List Event). x.1) told_is ∙ opens.1;
+      others = λ d ne. ap (λ (x : PlainNode × List Event). x.0.clients d) told_is ∙ ap (λ b. if b then left_open (after (client_posted node.clock r client) node.vbs).1.client else node.clients d) (ne_eqb d c ne);
     }
 
   pub goes : GoesToWhoAwaits r node

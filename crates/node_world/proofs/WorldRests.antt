@@ -2,7 +2,6 @@
 use Rattle.std.specs.Prelude.{◌==◌, if◌then◌else◌}
 use Rattle.std.proofs.Common.{◌≡◌, ℕ, Bool, true, false, List, [], ◌∷◌, ◌++◌, filter, flat_map, length, take, refl, ap, sym, subst, Option, Some, None, is_some, find, option_map}
 use Rattle.std.proofs.lemmas.Bool.{eqb-true}
-use Rattle.client_session.specs.Serving.{PlainSession}
 use Rattle.disk_journals.specs.Arms.{opens_all}
 use Rattle.disk_journals.specs.Books.{Book, opened_shelf}
 use Rattle.durability.specs.Chains.{Members}
@@ -35,11 +34,12 @@ use Rattle.node_core.specs.Peers.{PeerResult, peer_answered, peer_frames, peer_h
 use Rattle.node_core.specs.Loading.{are_short, start_job, starts_of}
 use Rattle.node_core.specs.declared.admin.AdminCall.{AdminCall}
 use Rattle.node_core.specs.declared.admin.AdminCall.TheVariants as admin
+use Rattle.node_core.specs.Clients.{PlainClient}
 use Rattle.node_world.specs.Arms.{fail_arm, fired_by, stop_arm, under_arm}
-use Rattle.node_world.specs.Cuts.{closed_at, cut_off, own_link, unlinked}
+use Rattle.node_world.specs.Cuts.{closed_at, cut_off, links_ended, own_link, unlinked}
 use Rattle.node_world.specs.Dues.{due_at, due_in, due_of, is_counted}
 use Rattle.node_world.specs.Links.{PlainLink, LinkResult, dial_of, frame_up, frames_up, link_number, moved_len, peer_of, producer_node, consumer_node, down_at, pump_at, untold_peer, up_at}
-use Rattle.node_world.specs.Nodes.{PlainNode, all_posted, arm_at, bytes_at, chain_causes, chain_line, chain_made, client_at, clock_at, done, empty_node, bytes_if, first_cause, flush_line, hang_at, if_up, refusal, refused_or, replica_at, replica_causes, save_line, shelf_or_blank, tick_line, vb_at, vb_causes, vb_made, vb_noted, with_disk, with_kept, with_states}
+use Rattle.node_world.specs.Nodes.{PlainNode, all_posted, arm_at, bytes_at, chain_causes, chain_line, chain_made, client_at, clock_at, done, empty_node, bytes_if, first_cause, flush_line, hang_at, hung_if, if_up, pull_at, pull_if, refusal, refused_or, replica_at, replica_causes, save_line, shelf_or_blank, tick_line, vb_at, vb_causes, vb_made, vb_noted, with_clients_ended, with_disk, with_kept, with_states}
 use Rattle.node_world.specs.Power.{after_broken, after_fire, all_cut, all_unlinked, burnt_arm, crash_causes, down_lines, dropped, is_broken_answer, loaded_node, not_opened, opened_at, start_at, start_call, start_causes, start_if, start_one, started_by, starts_from, stopped_node, touches, with_arm, with_broken}
 use Rattle.node_world.specs.Rests.{Rests, RestsIf}
 use Rattle.node_world.specs.Stands.{IdsStand, Kept, LinksStand, NodesStand, WorldStands, ends_of}
@@ -112,16 +112,23 @@ client_keeps n base c v node h = by (is_some (node.clients c)) _ h
 bytes_keeps : (c : ℕ) (bytes : List ℕ) → Keeps (bytes_at c bytes)
 bytes_keeps c bytes v node h = by (node.clients c)
   where
-    by : (o : Option PlainSession) → At v (bytes_if c bytes node o).0
+    by : (o : Option PlainClient) → At v (bytes_if c bytes node o).0
     by None = h
-    by (Some session) = h
+    by (Some client) = h
 
 hang_keeps : (c : ℕ) → Keeps (hang_at c)
-hang_keeps c v node h = by (is_some (node.clients c)) _ h
+hang_keeps c v node h = by (node.clients c)
   where
-    by : (b : Bool) (x : PlainNode × Told) → At v x.0 → At v (if b then x else (node, refusal cause.LinkClosed)).0
-    by true x g = g
-    by false x g = h
+    by : (o : Option PlainClient) → At v (hung_if c node o).0
+    by None = h
+    by (Some client) = h
+
+pull_keeps : (c frames : ℕ) → Keeps (pull_at c frames)
+pull_keeps c frames v node h = by (node.clients c)
+  where
+    by : (o : Option PlainClient) → At v (pull_if c frames node o).0
+    by None = h
+    by (Some client) = h
 
 admin_keeps : (n u : ℕ) (asked : AdminCall) → Keeps (admin_line n u asked)
 admin_keeps n u asked v node h = job_rests (admin_job n u asked) node.vbs node.shelves v h
@@ -301,13 +308,20 @@ role_rests w n v asked rests = by came.1.ended
     known : Rests came.0
     known = made_rests w n no_node (role_called n v asked) rests (role_keeps n v asked)
 
+    told : (ids : List ℕ) → Rests (with_ended n v ids came.0)
+    told ids = at (came.0.nodes n) refl
+      where
+        at : (o : Option PlainNode) → came.0.nodes n ≡ o → Rests (with_links (node_if n (with_clients_ended v ids) came.0 o) (links_ended n v ids came.0.links))
+        at None there = known
+        at (Some node) there = node_rests came.0 n (with_clients_ended v ids node) known (λ u. subst (λ o. RestsIf (shelf_in o u)) there (known n u))
+
     own : (w' : PlainWorld) → Rests w' → (o : Option PlainLink) → Rests (cut_off o w').0
     own w' h None = h
     own w' h (Some link) = unlinked_rests link w' h
 
     by : (o : Option (List ℕ)) → Rests (turned_if n v w o came).0
     by None = rests
-    by (Some ids) = let w' = with_ended n v ids came.0 in posted_rests n came.1.resolved (turned n v came.1 w') (own w' known (own_link n v w'.links))
+    by (Some ids) = let w' = with_ended n v ids came.0 in posted_rests n came.1.resolved (turned n v came.1 w') (own w' (told ids) (own_link n v w'.links))
 
 -- what its own link acknowledges
 due_rests : (n v : ℕ) (came : Outcome) → Rests came.0 → Rests (due_in n v came).0
@@ -335,6 +349,7 @@ verb_rests w line (verb.AtVb n v (vb_verb.Chain others)) rests = line_rests w n 
 verb_rests w line (verb.AtClient n c client_verb.Open) rests = line_rests w n (client_at n (base_of line) c) rests (client_keeps n (base_of line) c)
 verb_rests w line (verb.AtClient n c (client_verb.Bytes bytes)) rests = line_rests w n (bytes_at c bytes) rests (bytes_keeps c bytes)
 verb_rests w line (verb.AtClient n c client_verb.Hang) rests = line_rests w n (hang_at c) rests (hang_keeps c)
+verb_rests w line (verb.AtClient n c (client_verb.Pull frames)) rests = line_rests w n (pull_at c frames) rests (pull_keeps c frames)
 verb_rests w line (verb.AtNode n (node_verb.Clock nanos)) rests = line_rests w n (clock_at nanos) rests (λ v node h. h)
 verb_rests w line (verb.Link l m n v buffer) rests = refused_rests (first_cause (link_causes w l m n v)) w (with_links w (with_dialed line l m n v buffer w.links (ask_in w n v)), done []) rests rests
 verb_rests w line (verb.AtLink l (link_verb.Up wanted)) rests = link_rests w l producer_node (up_at wanted) rests (moved_keeps wanted)

@@ -1,6 +1,7 @@
 -- what lines that make, open, dial and arm make of their arguments
 use Rattle.std.specs.Prelude.{◌≡◌, ◌≢◌, ◌<◌, ◌+◌, ◌%◌, ℕ, [], ◌∷◌, ◌++◌, Some, None}
-use Rattle.client_session.specs.Serving.{PlainSession}
+use Rattle.dcp_producer.specs.Ending.{end_closed}
+use Rattle.node_core.specs.Clients.{PlainClient, client_pulled}
 use Rattle.dcp_consumer.specs.Dialing.{requests}
 use Rattle.script_text.specs.declared.verb.Verb.TheVariants as verb
 use Rattle.script_text.specs.declared.verb.VbVerb.TheVariants as vb_verb
@@ -19,6 +20,7 @@ use Rattle.vb_calls.specs.declared.calls.VbAnswer.TheVariants as answer
 use Rattle.vb_calls.specs.declared.calls.VbCall.TheVariants as call
 use Rattle.vb_calls.specs.Programs.{after}
 use Rattle.vb_calls.specs.State.{Plain, new_vb}
+use Rattle.vb_calls.specs.States.{States}
 use Rattle.node_core.specs.Peers.{peer_pulled}
 use Rattle.node_world.specs.CallsMade.{reply_of}
 use Rattle.node_world.specs.Causes.{IsFree, Notes}
@@ -27,17 +29,20 @@ use Rattle.node_world.specs.Nodes.{PlainNode, shelf_or_blank}
 use Rattle.node_world.specs.World.{verb_step}
 use Rattle.node_world.specs.Worlds.{PlainWorld, Outcome}
 
--- the connection c of the node n is as this now, and the others are as they were
-pub record LeavesClient (n c : ℕ) (node now : PlainNode) (came : Outcome) : Type 0 where
+-- the connection c of the node n is as this now, with these vBuckets, and the others are as they were
+pub record LeavesClient (n c : ℕ) (node now : PlainNode) (left : States) (came : Outcome) : Type 0 where
   pub is : came.0.nodes n ≡ Some now
   pub others : (d : ℕ) → d ≢ c → now.clients d ≡ node.clients d
-  pub vbs : now.vbs ≡ node.vbs
+  pub vbs : now.vbs ≡ left
 
--- a connection is opened under the numbers of its line, and one that is hung up is gone
+-- a connection is opened under the numbers of its line, one that is hung up is gone, with its streams at their vBuckets, and one that is pulled puts so many frames at most
 pub record PassesClients (w : PlainWorld) (n : ℕ) (node : PlainNode) : Type 0 where
-  pub opens : (number c : ℕ) → node.clients c ≡ None → (now : PlainNode) × (session : PlainSession) × LeavesClient n c node now (verb_step w number (verb.AtClient n c client_verb.Open)) × (now.clients c ≡ Some session)
-      × (session.who ≡ record { node = n; client = c; base = number % 4294967296 })
-  pub hangs : (number c : ℕ) (session : PlainSession) → node.clients c ≡ Some session → (now : PlainNode) × LeavesClient n c node now (verb_step w number (verb.AtClient n c client_verb.Hang)) × (now.clients c ≡ None)
+  pub opens : (number c : ℕ) → node.clients c ≡ None → (now : PlainNode) × (client : PlainClient) × LeavesClient n c node now node.vbs (verb_step w number (verb.AtClient n c client_verb.Open)) × (now.clients c ≡ Some client)
+      × (client.session.who ≡ record { node = n; client = c; base = number % 4294967296 }) × (client.producer.desk ≡ record { stream = name.Client n c; node = n; base = number % 4294967296 })
+  pub hangs : (number c : ℕ) (client : PlainClient) → node.clients c ≡ Some client → (now : PlainNode) × LeavesClient n c node now (after (end_closed client.producer) node.vbs).0 (verb_step w number (verb.AtClient n c client_verb.Hang)) × (now.clients c ≡ None)
+  pub pulls : (number c frames : ℕ) (client : PlainClient) → node.clients c ≡ Some client
+      → let put = after (client_pulled frames client) node.vbs in (now : PlainNode) × LeavesClient n c node now put.0 (verb_step w number (verb.AtClient n c (client_verb.Pull frames))) × (now.clients c ≡ Some put.1.client)
+      × ((verb_step w number (verb.AtClient n c (client_verb.Pull frames))).1 ≡ record { events = put.1.events; answer = put.1.answer })
 
 -- the arm of the node n is this now
 abbrev pub Arms : ℕ → PlainNode → Fuse → Left → Outcome → Type 0

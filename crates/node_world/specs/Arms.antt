@@ -1,6 +1,5 @@
 -- nodes, and the arms under which their disks are called
 use Rattle.std.specs.Prelude.{ℕ, ◌==◌, if◌then◌else◌, List, Option, None, Some}
-use Rattle.client_session.specs.Serving.{PlainSession}
 use Rattle.disk_journals.specs.Arms.{arm_over, fuse_at}
 use Rattle.disk_journals.specs.Books.{Book}
 use Rattle.vb_calls.specs.Shelves.{Shelves}
@@ -12,6 +11,7 @@ use Rattle.vb_disk.specs.declared.made.Outcome.TheVariants.{Old}
 use Rattle.node_world.specs.declared.arm.Arm.{Arm}
 use Rattle.node_world.specs.declared.arm.Fired.{Fired}
 use Rattle.node_world.specs.declared.arm.Fired.TheVariants as fired
+use Rattle.node_core.specs.Clients.{PlainClient}
 
 -- a node: its vBuckets and their journals, how many it made, what its clock shows in nanoseconds, and its open client connections by their numbers; its arm; and, where it is not running, the records that stand on its disks, by rising numbers, each journal's last record first
 pub record PlainNode : Type 0 where
@@ -19,7 +19,7 @@ pub record PlainNode : Type 0 where
   pub shelves : Shelves
   pub made : ℕ
   pub clock : ℕ
-  pub clients : ℕ → Option PlainSession
+  pub clients : ℕ → Option PlainClient
   pub arm : Arm
   pub off : Option (List Book)
 

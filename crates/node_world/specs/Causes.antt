@@ -1,7 +1,7 @@
 -- why lines are refused, in the words of the world, the earlier causes denied
 use Rattle.std.specs.Prelude.{◌≡◌, ◌≢◌, ◌≤◌, ◌<◌, ◌+◌, ◌*◌, ℕ, ◌==◌, true, false, List, ◌∷◌, ◌++◌, length, Some, None, is_some}
 use Rattle.std.specs.List.{list_any}
-use Rattle.client_session.specs.Serving.{PlainSession}
+use Rattle.node_core.specs.Clients.{PlainClient}
 use Rattle.disk_journals.specs.Arms.{opens_all, under}
 use Rattle.durability.specs.Chains.{Members, named}
 use Rattle.disk_journals.specs.Books.{Book}
@@ -15,6 +15,7 @@ use Rattle.script_text.specs.declared.verb.ClientVerb.TheVariants as client_verb
 use Rattle.vb_events.specs.declared.event.Answer.{Answer}
 use Rattle.vb_events.specs.declared.event.Answer.TheVariants as answer
 use Rattle.vb_events.specs.declared.event.Cause.{Cause}
+use Rattle.vb_events.specs.declared.event.Why.{Why}
 use Rattle.vb_events.specs.declared.event.Cause.TheVariants as cause
 use Rattle.vb_types.specs.declared.journal.Batch.{Batch}
 use Rattle.vb_types.specs.declared.role.Role.TheVariants as role
@@ -165,11 +166,12 @@ pub record AtNode (w : PlainWorld) (n : ℕ) (node : PlainNode) : Type 0 where
   pub replica : (v : ℕ) → node.vbs v ≡ None → node.made < 64 → Notes node (shelf_or_blank (node.shelves v)) → AnsweredAs w answer.Ok (verb.AtVb n v vb_verb.MakeReplica)
   pub clock : (nanos : ℕ) → AnsweredAs w answer.Ok (verb.AtNode n (node_verb.Clock nanos))
   pub no_vb : (v : ℕ) → node.vbs v ≡ None → NoVb w n v
-  pub no_client : (c : ℕ) (bytes : List ℕ) → node.clients c ≡ None → RefusedFor w cause.LinkClosed (verb.AtClient n c (client_verb.Bytes bytes)) × RefusedFor w cause.LinkClosed (verb.AtClient n c client_verb.Hang)
+  pub no_client : (c : ℕ) (bytes : List ℕ) → node.clients c ≡ None → RefusedFor w cause.LinkClosed (verb.AtClient n c (client_verb.Bytes bytes)) × RefusedFor w cause.LinkClosed (verb.AtClient n c client_verb.Hang) × ((frames : ℕ) → RefusedFor w cause.LinkClosed (verb.AtClient n c (client_verb.Pull frames)))
   pub client : (c : ℕ) → node.clients c ≡ None → AnsweredAs w answer.Ok (verb.AtClient n c client_verb.Open)
-  pub client_is_open : (c : ℕ) (session : PlainSession) → node.clients c ≡ Some session → RefusedFor w cause.LinkOpen (verb.AtClient n c client_verb.Open)
-  pub bytes : (c : ℕ) (bytes : List ℕ) (session : PlainSession) → node.clients c ≡ Some session → AnsweredAs w answer.Ok (verb.AtClient n c (client_verb.Bytes bytes))
-  pub hang : (c : ℕ) (session : PlainSession) → node.clients c ≡ Some session → AnsweredAs w answer.Ok (verb.AtClient n c client_verb.Hang)
+  pub client_is_open : (c : ℕ) (client : PlainClient) → node.clients c ≡ Some client → RefusedFor w cause.LinkOpen (verb.AtClient n c client_verb.Open)
+  pub bytes : (c : ℕ) (bytes : List ℕ) (client : PlainClient) → node.clients c ≡ Some client → AnsweredAs w answer.Ok (verb.AtClient n c (client_verb.Bytes bytes))
+  pub hang : (c : ℕ) (client : PlainClient) → node.clients c ≡ Some client → AnsweredAs w answer.Ok (verb.AtClient n c client_verb.Hang)
+  pub pull : (c frames : ℕ) (client : PlainClient) → node.clients c ≡ Some client → (count : ℕ) × (said : Why) × AnsweredAs w (answer.Pulled count said) (verb.AtClient n c (client_verb.Pull frames))
 
 -- the other members that a chain of the node n may have: up to three, and of those that are set none is n and no two are the same
 pub record MayJoin (n : ℕ) (others : Members) : Type 0 where

@@ -14,6 +14,7 @@ use Rattle.dcp_producer.specs.Ending.{end_closed}
 use Rattle.node_core.specs.declared.admin.AdminCall.{AdminCall}
 use Rattle.node_core.specs.declared.out.NodeOut.{NodeOut}
 use Rattle.node_core.specs.Calls.{dial_requested}
+use Rattle.node_core.specs.Clients.{PlainClient, KeptClient, client_ended}
 use Rattle.node_core.specs.Dials.{PlainDial, KeptDial, DialResult, new_dial, dial_bytes, dial_due}
 use Rattle.node_core.specs.Outcomes.{value_at, live_dial, dial_left}
 use Rattle.node_core.specs.Outs.{refused_out, done_out, pull_out, dial_out, cut_out, dial_ended, admin_out}
@@ -67,6 +68,20 @@ abbrev pub kept_peer_ended : ℕ → Option (List ℕ) → KeptPeer → KeptPeer
 kept_peer_ended v None kept = kept
 kept_peer_ended v (Some ids) kept = record kept { plain = peer_ended v ids kept.plain }
 
+-- a client, where a change of role at the vBucket v ended the streams of these numbers, if there was one
+abbrev pub kept_client_ended : ℕ → Option (List ℕ) → KeptClient → KeptClient
+kept_client_ended v None kept = kept
+kept_client_ended v (Some ids) kept = record kept { plain = client_ended v ids kept.plain }
+
+-- so are clients by their numbers
+abbrev pub clients_ended : ℕ → Option (List ℕ) → (ℕ → Option PlainClient) → ℕ → Option PlainClient
+clients_ended v None clients = clients
+clients_ended v (Some ids) clients = λ c. option_map (client_ended v ids) (clients c)
+
+-- the node with its clients told so
+abbrev pub with_clients_told : ℕ → Option (List ℕ) → PlainNode → PlainNode
+with_clients_told v ended node = record node { clients = clients_ended v ended node.clients }
+
 -- each peer is told which streams a change of role at the vBucket v ended, and the vBucket's dial is let go, if there was one
 pub record TellsEnds (old new : ScriptNode) (v : ℕ) (ended : Option (List ℕ)) : Type 0 where
   pub number : node_number new ≡ node_number old
@@ -102,7 +117,7 @@ LiftsArm v old new = Becomes (lifted v) old new
 abbrev pub SetsRole : ℕ → AdminCall → ScriptNode → NodeOut → ScriptNode → Type 0
 SetsRole v asked old out new = (plain : PlainNode) → NodeMatch old plain →
     let (node, told) = under_arm v (called_at (node_number old) v asked) plain in
-    NodeMatch new node × (out ≡ admin_out (dial_ended told.ended (dial_under old v)) told) × TellsEnds old new v told.ended
+    NodeMatch new (with_clients_told v told.ended node) × (out ≡ admin_out (dial_ended told.ended (dial_under old v)) told) × TellsEnds old new v told.ended
 
 -- the connection of a link's producer is opened, at a node that is running
 abbrev pub OpensPeer : ℕ → ℕ → ScriptNode → ℕ → ScriptNode → Type 0

@@ -1,7 +1,8 @@
 -- frames that go up one after the other, and bytes that begin none
-use Rattle.std.specs.Prelude.{◌≡◌, ◌≢◌, ℕ, List, [], ◌∷◌, ◌++◌, drop, length, min, take, None, Ok, Some}
+use Rattle.std.specs.Prelude.{◌≡◌, ◌≢◌, ℕ, List, [], ◌∷◌, ◌++◌, drop, false, length, min, take, None, Ok, Some}
 use Rattle.client_session.specs.declared.session.Awaited.{Awaited}
 use Rattle.client_session.specs.Serving.{PlainSession}
+use Rattle.node_core.specs.Clients.{PlainClient}
 use Rattle.mcbp_frame.specs.Cutting.{front_fault}
 use Rattle.mcbp_frame.specs.Frames.{first_frame, frame_len}
 use Rattle.mcbp_frame.specs.declared.frame.Frame.{Frame}
@@ -46,13 +47,14 @@ pub record PassesFaults (w : PlainWorld) (l : ℕ) (link : PlainLink) (producer 
   pub down : (number wanted : ℕ) (fault : FrameFault) → front_fault link.up_heard ≡ Some fault
       → (now : PlainLink) × ((verb_step w number (verb.AtLink l (link_verb.Up wanted))).0.links ≡ row_put link_number (link_number link) now w.links) × (now.down ≡ link.down)
 
--- a connection awaits an outcome, and its one request behind that is whole
+-- a connection, which is open, awaits an outcome, and its one request behind that is whole
 pub record HoldsOne (session : PlainSession) (f : Frame) : Type 0 where
+  pub live : session.closed ≡ false
   pub whole : first_frame session.reader ≡ Some (Ok f)
   pub alone : drop (frame_len f) session.reader ≡ []
   pub asks : f.magic ≢ RESPONSE
 
 -- where that is a write, it is made when the outcome is posted, at the node's clock
-abbrev pub ServesBehind : Resolved → ℕ → PlainSession → Awaited → PlainNode → Type 0
-ServesBehind r c session a node = (f : Frame) (vb : Plain) (write : Write) → AwaitsAlone r.waiter c session a node → HoldsOne session f → request_of session.settings.json f ≡ Ok (asks.Write write None)
+abbrev pub ServesBehind : Resolved → ℕ → PlainClient → Awaited → PlainNode → Type 0
+ServesBehind r c client a node = (f : Frame) (vb : Plain) (write : Write) → AwaitsAlone r.waiter c client a node → HoldsOne client.session f → request_of client.session.settings.json f ≡ Ok (asks.Write write None)
     → node.vbs f.vb_or_status ≡ Some vb → (posted r node).0.vbs f.vb_or_status ≡ Some (plain_step vb (call.Store write node.clock)).0

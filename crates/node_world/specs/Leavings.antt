@@ -1,6 +1,6 @@
 -- what a line leaves of links, of connections, and of other nodes
 use Rattle.std.specs.Prelude.{◌≡◌, ◌≢◌, ℕ, List, [], ◌∷◌, ◌++◌, false, None, Some}
-use Rattle.client_session.specs.Serving.{PlainSession}
+use Rattle.node_core.specs.Clients.{PlainClient}
 use Rattle.script_text.specs.declared.verb.Verb.TheVariants as verb
 use Rattle.script_text.specs.declared.verb.ClientVerb.{ClientVerb}
 use Rattle.script_text.specs.declared.verb.LinkVerb.TheVariants as link_verb
@@ -50,7 +50,7 @@ pub record DialsQuietly (w : PlainWorld) (l m n v buffer : ℕ) : Type 0 where
 
 -- no connection of a node is closed
 abbrev pub NoneIsClosed : PlainNode → Type 0
-NoneIsClosed node = (c : ℕ) (session : PlainSession) → node.clients c ≡ Some session → session.closed ≡ false
+NoneIsClosed node = (c : ℕ) (client : PlainClient) → node.clients c ≡ Some client → client.session.closed ≡ false
 
 -- so it stays behind each line for a client of the node n, and behind outcomes: a connection that closed by either is none any more
 pub record LetsClosedGo (w : PlainWorld) (n : ℕ) (node : PlainNode) : Type 0 where

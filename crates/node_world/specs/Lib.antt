@@ -35,3 +35,4 @@ pub mod MadeOnes
 pub mod FramesUp
 pub mod Leavings
 pub mod Buffers
+pub mod Indexers

@@ -18,7 +18,7 @@ use Rattle.node_world.specs.declared.script_node.NodeLine.{NodeLine}
 use Rattle.node_world.specs.declared.script_node.NodeLine.TheVariants as node_line
 use Rattle.node_world.specs.declared.told.Told.{Told}
 use Rattle.node_world.specs.Links.{PlainLink, LinkResult, link_number, producer_node, consumer_node, up_at, pump_at}
-use Rattle.node_world.specs.Nodes.{PlainNode, done, refusal, refused_or, is_one_of, vb_made, vb_at, save_line, replica_at, client_at, bytes_at, hang_at, clock_at, flush_line, chain_line, tick_line}
+use Rattle.node_world.specs.Nodes.{PlainNode, done, refusal, refused_or, is_one_of, vb_made, vb_at, save_line, replica_at, client_at, bytes_at, hang_at, pull_at, clock_at, flush_line, chain_line, tick_line}
 use Rattle.node_world.specs.Turns.{admin_line}
 use Rattle.node_world.specs.World.{down_in, with_link}
 use Rattle.node_world.specs.Worlds.{PlainWorld, Outcome, node_outcome}
@@ -59,6 +59,7 @@ at_node uuids n (node_line.Chain v others) = chain_line n v others.now
 at_node uuids n (node_line.Client c base) = client_at n base c
 at_node uuids n (node_line.Bytes c bytes) = bytes_at c bytes.now
 at_node uuids n (node_line.Hang c) = hang_at c
+at_node uuids n (node_line.Pull c frames) = pull_at c frames
 at_node uuids n (node_line.Clock nanos) = clock_at nanos
 at_node uuids n (node_line.Seal v) = admin_line n v admin.Seal
 at_node uuids n (node_line.Take v) = flush_line n v part.Take

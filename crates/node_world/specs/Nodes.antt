@@ -1,7 +1,9 @@
 -- one node: its vBuckets and connections, and what a line of a script makes of them
 use Rattle.std.specs.Prelude.{ℕ, zero, suc, ◌+◌, ◌==◌, nat_le, not, Bool, false, true, if◌then◌else◌, List, [], ◌∷◌, ◌++◌, Option, Some, None, is_some}
 use Rattle.std.specs.List.{list_any}
-use Rattle.client_session.specs.Serving.{PlainSession, Served, served, new_session, bytes_handled, outcome_handled, awaits}
+use Rattle.std.specs.Option.{option_map}
+use Rattle.client_session.specs.Serving.{awaits}
+use Rattle.dcp_producer.specs.Ending.{end_closed}
 use Rattle.durability.specs.Chains.{Members, is_chain}
 use Rattle.vb_events.specs.declared.event.Event.{Event}
 use Rattle.vb_events.specs.declared.event.Cause.{Cause}
@@ -22,6 +24,7 @@ use Rattle.vb_calls.specs.States.{States, with_vb_at}
 use Rattle.node_core.specs.declared.node.TheConstants.{MAX_VBS}
 use Rattle.node_core.specs.Admin.{noted_answer}
 use Rattle.node_core.specs.Calls.{branch_lines, left_open}
+use Rattle.node_core.specs.Clients.{PlainClient, Handling, ClientPulled, new_client, client_fed, client_posted, client_pulled, client_ended}
 use Rattle.node_core.specs.Flushing.{FlushResult, flush_at, chain_changed, ticked}
 pub use Rattle.node_world.specs.Arms.{PlainNode, empty_node}
 use Rattle.node_world.specs.Arms.{under_arm}
@@ -103,18 +106,18 @@ abbrev pub replica_at : ℕ → ℕ → PlainNode → PlainNode × Told
 replica_at n v node = refused_or (first_cause (replica_causes node v)) node (vb_made n v role.Replica 0 node)
 
 -- the connections with this at the number c
-abbrev pub with_session : (ℕ → Option PlainSession) → ℕ → Option PlainSession → ℕ → Option PlainSession
-with_session clients c session = λ d. if d == c then session else clients d
+abbrev pub with_conn : (ℕ → Option PlainClient) → ℕ → Option PlainClient → ℕ → Option PlainClient
+with_conn clients c client = λ d. if d == c then client else clients d
 
 -- the node with this at its client connection c
-abbrev pub with_client : PlainNode → ℕ → Option PlainSession → PlainNode
-with_client node c session = record node { clients = with_session node.clients c session }
+abbrev pub with_client : PlainNode → ℕ → Option PlainClient → PlainNode
+with_client node c client = record node { clients = with_conn node.clients c client }
 
--- `client N C` at the node N: a connection is opened, unless there is an open one of that number. Its waits are numbered by `base`
+-- `client N C` at the node N: a connection is opened, unless there is an open one of that number. Its waits and its streams are numbered by `base`
 abbrev pub client_at : ℕ → ℕ → ℕ → PlainNode → PlainNode × Told
 client_at n base c node =
     if is_some (node.clients c) then (node, refusal cause.LinkOpen)
-    else (with_client node c (Some (new_session (record { node = n; client = c; base = base }))), done [])
+    else (with_client node c (Some (new_client (record { node = n; client = c; base = base }))), done [])
 
 -- the node with these vBuckets
 abbrev pub with_states : PlainNode → States → PlainNode
@@ -124,34 +127,56 @@ with_states node states = record node { vbs = states }
 abbrev pub with_kept : PlainNode → States × Shelves → PlainNode
 with_kept node (states, shelves) = record node { vbs = states; shelves = shelves }
 
--- the node after bytes of its connection c, which made this of the vBuckets and of the session
-abbrev pub fed : ℕ → PlainNode → States × Served → PlainNode × Told
-fed c node (states, s) = (with_client (with_states node states) c (left_open s.session), done s.events)
+-- the node after bytes of its connection c, which made this of the vBuckets and of the connection
+abbrev pub fed : ℕ → PlainNode → States × Handling → PlainNode × Told
+fed c node (states, h) = (with_client (with_states node states) c (left_open h.client), done h.events)
 
--- bytes for a session, where there is one
-abbrev pub bytes_if : ℕ → List ℕ → PlainNode → Option PlainSession → PlainNode × Told
+-- bytes for a connection, where there is one
+abbrev pub bytes_if : ℕ → List ℕ → PlainNode → Option PlainClient → PlainNode × Told
 bytes_if c bytes node None = (node, refusal cause.LinkClosed)
-bytes_if c bytes node (Some session) = fed c node (after (bytes_handled node.clock bytes (served session [])) node.vbs)
+bytes_if c bytes node (Some client) = fed c node (after (client_fed node.clock bytes client) node.vbs)
 
 -- `bytes N C HEX` at the node N: the connection, which must be open, is given the bytes
 abbrev pub bytes_at : ℕ → List ℕ → PlainNode → PlainNode × Told
 bytes_at c bytes node = bytes_if c bytes node (node.clients c)
 
+-- the node after a connection ended, by what it was: its streams are closed at their vBuckets
+abbrev pub hung_if : ℕ → PlainNode → Option PlainClient → PlainNode × Told
+hung_if c node None = (node, refusal cause.LinkClosed)
+hung_if c node (Some client) = (with_client (with_states node (after (end_closed client.producer) node.vbs).0) c None, done [])
+
 -- `hang N C` at the node N: the client closes the connection, which must be open
 abbrev pub hang_at : ℕ → PlainNode → PlainNode × Told
-hang_at c node = if is_some (node.clients c) then (with_client node c None, done []) else (node, refusal cause.LinkClosed)
+hang_at c node = hung_if c node (node.clients c)
+
+-- the node after frames of its connection c, which made this of the vBuckets and of the connection
+abbrev pub pulled : ℕ → PlainNode → States × ClientPulled → PlainNode × Told
+pulled c node (states, told) = (with_client (with_states node states) c (Some told.client), record { events = told.events; answer = told.answer })
+
+-- frames of a connection, where there is one
+abbrev pub pull_if : ℕ → ℕ → PlainNode → Option PlainClient → PlainNode × Told
+pull_if c frames node None = (node, refusal cause.LinkClosed)
+pull_if c frames node (Some client) = pulled c node (after (client_pulled frames client) node.vbs)
+
+-- `pull N C K` at the node N: the connection, which must be open, puts at most so many frames of its streams
+abbrev pub pull_at : ℕ → ℕ → PlainNode → PlainNode × Told
+pull_at c frames node = pull_if c frames node (node.clients c)
+
+-- the node, where a change of role at its vBucket v ended the streams of these numbers
+abbrev pub with_clients_ended : ℕ → List ℕ → PlainNode → PlainNode
+with_clients_ended v ids node = record node { clients = λ c. option_map (client_ended v ids) (node.clients c) }
 
 -- `clock N T` at the node N: its clock shows so many nanoseconds
 abbrev pub clock_at : ℕ → PlainNode → PlainNode × Told
 clock_at nanos node = (record node { clock = nanos }, done [])
 
 -- the outcome of the durable write of this waiter is awaited at a connection, if there is one
-abbrev pub awaits_in : ℕ → Option PlainSession → Bool
+abbrev pub awaits_in : ℕ → Option PlainClient → Bool
 awaits_in waiter None = false
-awaits_in waiter (Some session) = awaits waiter session.awaited
+awaits_in waiter (Some client) = awaits waiter client.session.awaited
 
 -- the number of a connection, where it awaits the outcome
-abbrev pub awaiting_at : (ℕ → Option PlainSession) → ℕ → ℕ → Option ℕ
+abbrev pub awaiting_at : (ℕ → Option PlainClient) → ℕ → ℕ → Option ℕ
 awaiting_at clients waiter c = if awaits_in waiter (clients c) then Some c else None
 
 -- the first of two that are there
@@ -160,18 +185,18 @@ first_of None later = later
 first_of (Some c) later = Some c
 
 -- the first connection below a number that awaits the outcome of the durable write of this waiter
-unfoldable pub awaiting : (ℕ → Option PlainSession) → ℕ → ℕ → Option ℕ
+unfoldable pub awaiting : (ℕ → Option PlainClient) → ℕ → ℕ → Option ℕ
 awaiting clients waiter zero = None
 awaiting clients waiter (suc c) = first_of (awaiting clients waiter c) (awaiting_at clients waiter c)
 
--- the node after its connection c was told an outcome, which made this of the vBuckets and of the session
-abbrev pub outcome_posted : ℕ → PlainNode → States × Served → PlainNode × List Event
-outcome_posted c node (states, s) = (with_client (with_states node states) c (left_open s.session), s.events)
+-- the node after its connection c was told an outcome, which made this of the vBuckets and of the connection
+abbrev pub outcome_posted : ℕ → PlainNode → States × Handling → PlainNode × List Event
+outcome_posted c node (states, h) = (with_client (with_states node states) c (left_open h.client), h.events)
 
--- an outcome for a session, where there is one
-abbrev pub posted_if : ℕ → Resolved → PlainNode → Option PlainSession → PlainNode × List Event
+-- an outcome for a connection, where there is one
+abbrev pub posted_if : ℕ → Resolved → PlainNode → Option PlainClient → PlainNode × List Event
 posted_if c r node None = (node, [])
-posted_if c r node (Some session) = outcome_posted c node (after (outcome_handled node.clock r (served session [])) node.vbs)
+posted_if c r node (Some client) = outcome_posted c node (after (client_posted node.clock r client) node.vbs)
 
 -- an outcome for the connection of a number, if there is one that awaits it
 abbrev pub posted_to : Resolved → PlainNode → Option ℕ → PlainNode × List Event

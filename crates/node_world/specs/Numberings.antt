@@ -1,6 +1,7 @@
 -- numbers that keep waits, streams and connections apart
 use Rattle.std.specs.Prelude.{◌≡◌, ◌≢◌, ◌<◌, ◌+◌, ◌*◌, ◌%◌, ℕ, [], Some, None}
 use Rattle.client_session.specs.Serving.{PlainSession, next_waiter}
+use Rattle.node_core.specs.Clients.{PlainClient}
 use Rattle.dcp_producer.specs.Producers.{PlainProducer}
 use Rattle.dcp_producer.specs.Serving.{next_stream}
 use Rattle.script_text.specs.declared.verb.Verb.TheVariants as verb
@@ -29,10 +30,10 @@ pub record BasesAreApart (line other : ℕ) : Type 0 where
   pub fits : base_of line < 4294967296
   pub apart : line < 4294967296 → other < 4294967296 → base_of line ≡ base_of other → line ≡ other
 
--- a line that opens a connection gives it the line's own base, and no wait
+-- a line that opens a connection gives it the line's own base, for its waits and for its streams, and none of either
 pub record OpensApart (w : PlainWorld) (line n c : ℕ) : Type 0 where
-  pub opened : (verb_step w line (verb.AtClient n c client_verb.Open)).1.answer ≡ answer.Ok → (node : PlainNode) × (session : PlainSession) × ((verb_step w line (verb.AtClient n c client_verb.Open)).0.nodes n ≡ Some node) × (node.clients c ≡ Some session)
-      × (session.who.base ≡ line % 4294967296) × (session.used ≡ 0) × (session.awaited ≡ None)
+  pub opened : (verb_step w line (verb.AtClient n c client_verb.Open)).1.answer ≡ answer.Ok → (node : PlainNode) × (client : PlainClient) × ((verb_step w line (verb.AtClient n c client_verb.Open)).0.nodes n ≡ Some node) × (node.clients c ≡ Some client)
+      × (client.session.who.base ≡ line % 4294967296) × (client.session.used ≡ 0) × (client.session.awaited ≡ None) × (client.producer.desk.base ≡ line % 4294967296) × (client.producer.streams ≡ []) × (client.producer.asked ≡ 0)
 
 -- a new link has its own number; its producer has the base of the line, no stream yet, and a number for the first one; and its consumer's first request for one has the opaque 4, or 5 where it asks for a window
 pub record LinksAreApart (line l m n v buffer : ℕ) (ask : StreamAsk) : Type 0 where

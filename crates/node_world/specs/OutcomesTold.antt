@@ -3,7 +3,7 @@ use Rattle.std.specs.Prelude.{◌≡◌, ◌≢◌, ◌⊎◌, ◌==◌, if◌th
 use Rattle.client_session.specs.declared.session.Awaited.{Awaited}
 use Rattle.client_session.specs.Conduct.{sent}
 use Rattle.client_session.specs.Rows.{IsOutcome}
-use Rattle.client_session.specs.Serving.{PlainSession}
+use Rattle.node_core.specs.Clients.{PlainClient}
 use Rattle.dcp_producer.specs.Ending.{ended_by}
 use Rattle.durability.specs.Chains.{Members}
 use Rattle.mcbp_frame.specs.declared.frame.Frame.{Frame}
@@ -34,15 +34,15 @@ use Rattle.node_world.specs.World.{verb_step}
 use Rattle.node_world.specs.Worlds.{PlainWorld}
 
 -- behind these lines an outcome is told by an answer to the request that awaits it
-pub record TellsBehind (r : Resolved) (session : PlainSession) (a : Awaited) (before events : List Event) : Type 0 where
+pub record TellsBehind (r : Resolved) (client : PlainClient) (a : Awaited) (before events : List Event) : Type 0 where
   pub frame : Frame
-  pub is : IsOutcome session.settings a.opcode a.opaque r.how frame
+  pub is : IsOutcome client.session.settings a.opcode a.opaque r.how frame
   pub rest : List Event
-  pub told : events ≡ before ++ sent session.who frame ∷ rest
+  pub told : events ≡ before ++ sent client.session.who frame ∷ rest
 
 -- behind the lines of its changes a line tells the first of these outcomes to the client of the node that awaits it, whichever that is
 abbrev pub TellsOutcomes : PlainNode → List Resolved → List Event → List Event → Type 0
-TellsOutcomes node resolved before events = (r : Resolved) (later : List Resolved) (c : ℕ) (session : PlainSession) (a : Awaited) → resolved ≡ r ∷ later → AwaitsAlone r.waiter c session a node → TellsBehind r session a before events
+TellsOutcomes node resolved before events = (r : Resolved) (later : List Resolved) (c : ℕ) (client : PlainClient) (a : Awaited) → resolved ≡ r ∷ later → AwaitsAlone r.waiter c client a node → TellsBehind r client a before events
 
 -- the lines of the changes that a vBucket's reply names
 abbrev pub changes_of : ℕ → ℕ → VbReply → List Event

@@ -6,7 +6,7 @@ use Rattle.vb_calls.specs.declared.calls.Resolved.{Resolved}
 use Rattle.client_session.specs.declared.session.Awaited.{Awaited}
 use Rattle.client_session.specs.Conduct.{sent}
 use Rattle.client_session.specs.Rows.{IsOutcome}
-use Rattle.client_session.specs.Serving.{PlainSession}
+use Rattle.node_core.specs.Clients.{PlainClient}
 use Rattle.node_world.specs.declared.script_node.TheConstants.{MAX_CLIENTS}
 use Rattle.node_world.specs.Nodes.{PlainNode, awaits_in, posted}
 
@@ -15,22 +15,22 @@ abbrev pub NobodyAwaits : ℕ → PlainNode → Type 0
 NobodyAwaits waiter node = (c : ℕ) → c < MAX_CLIENTS → IsFalse (awaits_in waiter (node.clients c))
 
 -- the connection c awaits it, for the durable write of a request of this opcode and opaque, and no other does
-pub record AwaitsAlone (waiter c : ℕ) (session : PlainSession) (a : Awaited) (node : PlainNode) : Type 0 where
+pub record AwaitsAlone (waiter c : ℕ) (client : PlainClient) (a : Awaited) (node : PlainNode) : Type 0 where
   pub within : c < MAX_CLIENTS
-  pub there : node.clients c ≡ Some session
-  pub awaited : session.awaited ≡ Some a
+  pub there : node.clients c ≡ Some client
+  pub awaited : client.session.awaited ≡ Some a
   pub mine : a.waiter ≡ waiter
   pub others : (d : ℕ) → d < MAX_CLIENTS → d ≢ c → IsFalse (awaits_in waiter (node.clients d))
 
 -- it is told the outcome first, by the answer to that request; all other connections stay
-pub record TellsFirst (r : Resolved) (c : ℕ) (session : PlainSession) (a : Awaited) (node : PlainNode) : Type 0 where
+pub record TellsFirst (r : Resolved) (c : ℕ) (client : PlainClient) (a : Awaited) (node : PlainNode) : Type 0 where
   pub frame : Frame
-  pub is : IsOutcome session.settings a.opcode a.opaque r.how frame
+  pub is : IsOutcome client.session.settings a.opcode a.opaque r.how frame
   pub rest : List Event
-  pub told : (posted r node).1 ≡ sent session.who frame ∷ rest
+  pub told : (posted r node).1 ≡ sent client.session.who frame ∷ rest
   pub others : (d : ℕ) → d ≢ c → (posted r node).0.clients d ≡ node.clients d
 
 -- what became of a durable write at a node
 pub record GoesToWhoAwaits (r : Resolved) (node : PlainNode) : Type 0 where
   pub nobody : NobodyAwaits r.waiter node → posted r node ≡ (node, [])
-  pub one : (c : ℕ) (session : PlainSession) (a : Awaited) → AwaitsAlone r.waiter c session a node → TellsFirst r c session a node
+  pub one : (c : ℕ) (client : PlainClient) (a : Awaited) → AwaitsAlone r.waiter c client a node → TellsFirst r c client a node

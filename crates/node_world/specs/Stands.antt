@@ -9,7 +9,7 @@ use Rattle.slab.specs.Slab.{Slab, get}
 use Rattle.disk_journals.specs.Books.{AreBooks, Book}
 use Rattle.disk_journals.specs.Devices.{fuse_device}
 use Rattle.vb_disk.specs.Fused.{FuseStorage}
-use Rattle.client_session.specs.Serving.{PlainSession, KeptSession}
+use Rattle.node_core.specs.Clients.{PlainClient, KeptClient}
 use Rattle.vbucket.specs.declared.vb_map.VbSlot.{VbSlot}
 use Rattle.vbucket.specs.Rows.{row_at}
 use Rattle.vbucket.specs.Stands.{SlotsStand}
@@ -26,8 +26,8 @@ use Rattle.node_world.specs.Nodes.{PlainNode, is_one_of}
 use Rattle.node_world.specs.Pairing.{Pairs, Differ}
 use Rattle.node_world.specs.Worlds.{PlainWorld}
 
--- the session of a client's connection
-abbrev pub client_part : Option Conn → Option KeptSession
+-- the client of a client's connection
+abbrev pub client_part : Option Conn → Option KeptClient
 client_part (Some (conn.Client kept)) = Some kept
 client_part other = None
 
@@ -36,24 +36,24 @@ abbrev pub peer_part : Option Conn → Option KeptPeer
 peer_part (Some (conn.Peer kept)) = Some kept
 peer_part other = None
 
--- a session for which memory was never short
-abbrev pub live_session : PlainSession → KeptSession
-live_session session = record { plain = session; spent = false }
+-- a client for which memory was never short
+abbrev pub live_client : PlainClient → KeptClient
+live_client client = record { plain = client; spent = false }
 
 -- a peer for which memory was never short
 abbrev pub live_peer : PlainPeer → KeptPeer
 live_peer peer = record { plain = peer; spent = false }
 
--- a connection's session, by the key that its number has, stands for the plain one
-abbrev pub SessionStands : Slab Conn → Option ℕ → Option PlainSession → Type 0
-SessionStands conns None None = Unit {0}
-SessionStands conns (Some key) (Some session) = client_part (get conns key) ≡ Some (live_session session)
-SessionStands conns None (Some session) = ⊥
-SessionStands conns (Some key) None = ⊥
+-- a connection, by the key that its number has, stands for the plain one
+abbrev pub ClientStands : Slab Conn → Option ℕ → Option PlainClient → Type 0
+ClientStands conns None None = Unit {0}
+ClientStands conns (Some key) (Some client) = client_part (get conns key) ≡ Some (live_client client)
+ClientStands conns None (Some client) = ⊥
+ClientStands conns (Some key) None = ⊥
 
--- the sessions under their keys, and the keys by the connections' numbers, stand for the connections: no two numbers have one key, and each session has a number
-pub record ClientsStand (keys : List (ℕ × ℕ)) (conns : Slab Conn) (clients : ℕ → Option PlainSession) : Type 0 where
-  pub each : (c : ℕ) → SessionStands conns (value_at keys c) (clients c)
+-- the clients under their keys, and the keys by the connections' numbers, stand for the connections: no two numbers have one key, and each client has a number
+pub record ClientsStand (keys : List (ℕ × ℕ)) (conns : Slab Conn) (clients : ℕ → Option PlainClient) : Type 0 where
+  pub each : (c : ℕ) → ClientStands conns (value_at keys c) (clients c)
   pub apart : (c d key : ℕ) → value_at keys c ≡ Some key → value_at keys d ≡ Some key → c ≡ d
   pub owned : (key : ℕ) → is_some (client_part (get conns key)) ≡ true → (c : ℕ) × (value_at keys c ≡ Some key)
 

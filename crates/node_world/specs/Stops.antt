@@ -1,7 +1,7 @@
 -- what a node that stops tells, and what is left of it
 use Rattle.std.specs.Prelude.{◌≡◌, ◌↔◌, ◌⊎◌, ◌<◌, ℕ, List, [], ◌∷◌, ◌++◌, map, Option, Some, None}
 use Rattle.std.specs.List.{AllByRecursion}
-use Rattle.client_session.specs.Serving.{PlainSession}
+use Rattle.node_core.specs.Clients.{PlainClient}
 use Rattle.vb_disk.specs.declared.made.Outcome.{Outcome}
 use Rattle.vb_events.specs.declared.event.Answer.TheVariants as answer
 use Rattle.vb_events.specs.declared.event.EndReason.TheVariants as reason
@@ -31,7 +31,7 @@ HasEnd n w l = (link : PlainLink) × (row_at link_number l w.links ≡ Some link
 
 -- the client connection c of the node n is open
 abbrev pub IsOpen : ℕ → PlainWorld → ℕ → Type 0
-IsOpen n w c = (node : PlainNode) × (w.nodes n ≡ Some node) × (session : PlainSession) × (node.clients c ≡ Some session)
+IsOpen n w c = (node : PlainNode) × (w.nodes n ≡ Some node) × (client : PlainClient) × (node.clients c ≡ Some client)
 
 -- first the ends of links, by rising numbers: of those with an end at the node n, and of this one more; then those of the node's client connections, by rising numbers
 pub record EndsInOrder (n : ℕ) (also : Option ℕ) (w : PlainWorld) (events : List Event) : Type 0 where

@@ -16,8 +16,8 @@ use Rattle.node_core.specs.declared.admin.AdminCall.{AdminCall}
 use Rattle.node_core.specs.declared.admin.AdminCall.TheVariants as admin
 use Rattle.node_world.specs.declared.told.Told.{Told}
 use Rattle.node_world.specs.Arms.{under_arm}
-use Rattle.node_world.specs.Nodes.{PlainNode, all_posted, first_cause, refused_or, uuid_causes, with_kept}
-use Rattle.node_world.specs.Worlds.{PlainWorld, Outcome, is_off, node_outcome, with_links, with_node_at, vb_in}
+use Rattle.node_world.specs.Nodes.{PlainNode, all_posted, first_cause, refused_or, uuid_causes, with_clients_ended, with_kept}
+use Rattle.node_world.specs.Worlds.{PlainWorld, Outcome, is_off, node_outcome, with_links, with_node_at, with_node_if, vb_in}
 use Rattle.vb_calls.specs.declared.calls.Resolved.{Resolved}
 use Rattle.node_world.specs.Cuts.{own_link, cut_off, links_ended}
 
@@ -62,9 +62,9 @@ is_in_role role (Some vb) = is_role vb.role role
 abbrev pub after_cuts : AdminResult → PlainWorld × List Event → Outcome
 after_cuts told (w, cuts) = (w, record { events = cuts ++ told.events; answer = told.answer })
 
--- the world in which the producers at the node n are told which streams a change of role at its vBucket v ended
+-- the world in which the producers at the node n, of links and of clients, are told which streams a change of role at its vBucket v ended
 abbrev pub with_ended : ℕ → ℕ → List ℕ → PlainWorld → PlainWorld
-with_ended n v ids w = with_links w (links_ended n v ids w.links)
+with_ended n v ids w = with_links (with_node_if n (with_clients_ended v ids) w) (links_ended n v ids w.links)
 
 -- the world after a change of role: the vBucket's own link, if it has one, is cut
 abbrev pub turned : ℕ → ℕ → AdminResult → PlainWorld → Outcome

@@ -1,5 +1,5 @@
 -- the plain world: nodes, and the links between them, and what each line of a script makes of it
-use Rattle.std.specs.Prelude.{ℕ, ◌%◌, ◌^◌, ◌&&◌, ◌||◌, Bool, not, List, [], ◌∷◌, ◌++◌, Option, Some, None, is_some, option_and_then}
+use Rattle.std.specs.Prelude.{ℕ, ◌&&◌, ◌||◌, Bool, not, List, [], ◌∷◌, ◌++◌, Option, Some, None, is_some, option_and_then}
 use Rattle.std.specs.List.{flat_map}
 use Rattle.script_text.specs.declared.verb.Verb.{Verb}
 use Rattle.script_text.specs.declared.verb.Verb.TheVariants as verb
@@ -24,7 +24,7 @@ use Rattle.vb_types.specs.declared.stream.StreamAsk.{StreamAsk}
 use Rattle.node_core.specs.declared.admin.AdminCall.TheVariants as admin
 use Rattle.vbucket.specs.Rows.{row_at, row_put}
 use Rattle.node_world.specs.declared.told.Told.{Told}
-pub use Rattle.node_world.specs.Nodes.{PlainNode, empty_node, done, refusal, first_cause, refused_or, is_one_of, vb_causes, with_vb, vb_at, replica_causes, replica_at, with_session, with_client, client_at, with_states, fed, bytes_if, bytes_at, hang_at, clock_at, flush_line, save_line, chain_line, tick_line}
+pub use Rattle.node_world.specs.Nodes.{PlainNode, empty_node, done, refusal, first_cause, refused_or, is_one_of, vb_causes, with_vb, vb_at, replica_causes, replica_at, with_conn, with_client, client_at, with_states, fed, bytes_if, bytes_at, hang_at, pull_at, clock_at, flush_line, save_line, chain_line, tick_line}
 use Rattle.node_world.specs.Nodes.{arm_at}
 use Rattle.node_world.specs.Arms.{fail_arm, stop_arm, under_arm}
 use Rattle.node_world.specs.Power.{crash_step, start_step, with_arm, with_broken}
@@ -140,6 +140,7 @@ abbrev pub client_verb_at : ℕ → ℕ → ℕ → ClientVerb → PlainNode →
 client_verb_at n line c client_verb.Open = client_at n (base_of line) c
 client_verb_at n line c (client_verb.Bytes bytes) = bytes_at c bytes
 client_verb_at n line c client_verb.Hang = hang_at c
+client_verb_at n line c (client_verb.Pull frames) = pull_at c frames
 
 -- a line for the link l
 abbrev pub link_verb_step : PlainWorld → ℕ → LinkVerb → Outcome

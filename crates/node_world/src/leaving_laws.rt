@@ -2,7 +2,7 @@
 //! no work to do.
 ghost use Rattle.std.specs.Prelude.{◌≡◌, ℕ, List, None, Some};
 ghost use Rattle.client_session.specs.declared.session.Awaited.{Awaited as AwaitedData};
-ghost use Rattle.client_session.specs.Serving.{PlainSession};
+ghost use Rattle.node_core.specs.Clients.{PlainClient};
 ghost use Rattle.disk_journals.specs.Books.{Book as BookData};
 ghost use Rattle.node_world.specs.FramesUp.{PassesFaults, PostsBetween, ServesBehind};
 ghost use Rattle.node_world.specs.GivenIds.{GivesByLines, GivesNone};
@@ -40,7 +40,7 @@ pub fn made_ones_are_there()
 /// that stood behind the one that was awaited is made then, at the node's clock.
 pub fn outcomes_come_first()
     ensures ups { (w : PlainWorld) (l : ℕ) (link : PlainLink) (producer : PlainNode) → row_at link_number l w.links ≡ Some link → w.nodes (producer_node link) ≡ Some producer → PostsBetween w l link producer }
-    ensures clock { (r : Outcome) (c : ℕ) (session : PlainSession) (a : AwaitedData) (node : PlainNode) → ServesBehind r c session a node }
+    ensures clock { (r : Outcome) (c : ℕ) (client : PlainClient) (a : AwaitedData) (node : PlainNode) → ServesBehind r c client a node }
 {}
 
 /// Behind bytes that begin no frame a producer answers nothing: nothing is told, its node stays as it

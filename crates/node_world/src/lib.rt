@@ -4,6 +4,7 @@
 mod arm;
 mod crashes;
 mod ids;
+mod indexer_laws;
 mod laws;
 mod leaving_laws;
 mod link;
@@ -18,6 +19,7 @@ mod world;
 
 pub use arm::{Arm, Fired};
 use ids::Ids;
+pub use indexer_laws::clients_are_served;
 pub use laws::{
     causes_in_order, outcomes_go_to_who_awaits, roles_cut_links, stops_are_told_in_order,
     world_limits,

@@ -1,7 +1,7 @@
 //! What a line owes, and which call with which arguments it is. Each law is a function with no work
 //! to do.
 ghost use Rattle.std.specs.Prelude.{◌≡◌, ℕ, List, None, Some};
-ghost use Rattle.client_session.specs.Serving.{PlainSession};
+ghost use Rattle.node_core.specs.Clients.{PlainClient};
 ghost use Rattle.disk_journals.specs.Books.{Book as BookData};
 ghost use Rattle.mcbp_frame.specs.declared.frame.Frame.{Frame as Framed};
 ghost use Rattle.node_world.specs.Arguments.{PassesArms, PassesClients, PassesDials, PassesFrames, PassesVbs};
@@ -71,8 +71,8 @@ pub fn bytes_move_as_asked()
 
 /// A write of a client is made at its node's clock, and a durable one is given up by it.
 pub fn writes_are_clocked()
-    ensures { (w : PlainWorld) (n c : ℕ) (node : PlainNode) (session : PlainSession) (bytes : List ℕ) (f : Framed) (vb : Plain) → w.nodes n ≡ Some node → node.off ≡ None → node.clients c ≡ Some session → IsOne session bytes f
-        → node.vbs f.vb_or_status ≡ Some vb → Clocked w n c node session bytes f vb }
+    ensures { (w : PlainWorld) (n c : ℕ) (node : PlainNode) (client : PlainClient) (bytes : List ℕ) (f : Framed) (vb : Plain) → w.nodes n ≡ Some node → node.off ≡ None → node.clients c ≡ Some client → IsOne client.session bytes f
+        → node.vbs f.vb_or_status ≡ Some vb → Clocked w n c node client bytes f vb }
 {}
 
 /// A node that started counts the vBuckets that there are: those of which a record stands. Of these the

@@ -4,7 +4,7 @@ ghost use Rattle.{node_core.specs.Outcomes.{value_at, Renumbered}, node_core.spe
 ghost use Rattle.node_world.specs.Arms.{no_arm};
 ghost use Rattle.node_world.specs.Ends.{Carries, IsThere, AddsShelf, LiftsArm, PlacesArm, OpensPeer, FeedsPeer, AnswersPeer, RefusesChain, PullsPeer, ShutsPeer, DialsFor, FeedsDial, DuesDial, CutsDial, SetsRole};
 ghost use Rattle.node_world.specs.Lines.{was_there, counted, made_unless, at_node};
-ghost use Rattle.{node_world.specs.Nodes.{PlainNode, bad_chain_cause, first_cause, limit_causes, uuid_causes, client_at, bytes_at, hang_at, clock_at, flush_line, save_line, chain_line, tick_line}, node_world.specs.Stands.{IdsStand, NodeMatch}};
+ghost use Rattle.{node_world.specs.Nodes.{PlainNode, bad_chain_cause, first_cause, limit_causes, uuid_causes, client_at, bytes_at, hang_at, pull_at, clock_at, flush_line, save_line, chain_line, tick_line}, node_world.specs.Stands.{IdsStand, NodeMatch}};
 ghost use Rattle.{node_world.specs.Turns.{KeepsRole, admin_line}, vb_types.specs.declared.role.Role.TheVariants.{Active, Pending}};
 
 use crate::{Alloc, Arm, Ids, Told};
@@ -41,12 +41,14 @@ pub enum NodeLine<'a> {
     VbReplica(u16),
     /// A vBucket's chain is this node and these.
     Chain(u16, &'a [Option<u8>]),
-    /// A client's connection is opened, and its waits are numbered by this.
+    /// A client's connection is opened, and its waits and its streams are numbered by this.
     Client(u32, u32),
     /// A client's connection is given bytes.
     Bytes(u32, &'a [u8]),
     /// A client closes its connection.
     Hang(u32),
+    /// A client's connection is asked for so many frames of its streams.
+    Pull(u32, u32),
     /// The clock shows so many nanoseconds.
     Clock(u64),
     /// A vBucket's open span is sealed.
@@ -273,6 +275,17 @@ impl ScriptNode {
         Ok(Told::of(out))
     }
 
+    /// Has a client's connection put at most so many frames of its streams.
+    fn pull_client(&mut self, alloc: Global, c: u32, frames: u32) -> Alloc<Told>
+        ensures { IfOk result (λ told. Carries (pull_at c frames) self.old told self.new) }
+    {
+        let Some(key) = self.clients.get(c).copied() else {
+            return Ok(Told::refusal(alloc, Cause::LinkClosed));
+        };
+        let out = self.node.pull(key, frames)?;
+        Ok(Told::of(out))
+    }
+
     /// Closes a client's connection, as its client did.
     fn hang(&mut self, alloc: Global, c: u32) -> Told
         ensures { Carries (hang_at c) self.old result self.new }
@@ -366,6 +379,7 @@ impl ScriptNode {
             NodeLine::Client(c, base) => self.open_client(alloc, c, base),
             NodeLine::Bytes(c, bytes) => self.feed(alloc, c, bytes),
             NodeLine::Hang(c) => Ok(self.hang(alloc, c)),
+            NodeLine::Pull(c, frames) => self.pull_client(alloc, c, frames),
             NodeLine::Clock(nanos) => Ok(self.set_clock(alloc, nanos)),
             NodeLine::Seal(vb) => self.ask(vb, AdminCall::Seal),
             NodeLine::Take(vb) => self.write_down(alloc, vb, FlushPart::Take),

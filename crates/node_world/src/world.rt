@@ -404,6 +404,7 @@ impl World {
             ClientVerb::Open => self.on_node(n, NodeLine::Client(c, base_of(line))),
             ClientVerb::Bytes { bytes } => self.on_node(n, NodeLine::Bytes(c, bytes.as_slice())),
             ClientVerb::Hang => self.on_node(n, NodeLine::Hang(c)),
+            ClientVerb::Pull { frames } => self.on_node(n, NodeLine::Pull(c, *frames)),
         }
     }
 

@@ -1,7 +1,7 @@
-use Rattle.std.proofs.Common.{◌+◌, ◌∙◌, ◌++◌, ap, arith, subst, sym}
+use Rattle.std.proofs.Common.{◌+◌, ◌∙◌, [], ◌++◌, ap, arith, subst, sym}
 use Rattle.std.proofs.lemmas.List.{drop_all}
 use Rattle.node_core.specs.Outcomes.{Heard}
-use Rattle.node_core.specs.Outs.{done_out, idle_out}
+use Rattle.node_core.specs.Outs.{done_out}
 use Rattle.node_world.specs.Ends.{AnswersPeer}
 use Rattle.node_world.proofs.Frames.{FramesSoFar, all_up, none_up, one_up}
 use Rattle.node_world.proofs.Nodes.{inside}
@@ -14,7 +14,7 @@ loop-frame-init c =
     let frames = c.deref-frame-items.result.now in
     let heard : Heard c.args.key c.args.piece.now old.node frames c.hear.new.self = subst (λ fs. Heard c.args.key c.args.piece.now old.node fs c.hear.new.self) (sym c.deref-frame-items.ensures.value) c.in_ok-frames.ensures.ok in
     none_up frames c.args.key c.args.piece.now old (inside old c.hear.new.self) c.new-events.result c.new-bytes.result.items
-    (hears_peer old c.args.key idle_out c.hear.new.self c.args.piece.now frames heard) c.new-events.ensures c.new-bytes.ensures.items
+    (hears_peer old c.args.key (done_out [] []) c.hear.new.self c.args.piece.now frames heard) c.new-events.ensures c.new-bytes.ensures.items
 
 pub loop-frame-preserved : goal.loop-frame-preserved
 loop-frame-preserved c =
