@@ -3,7 +3,7 @@ use Rattle.std.specs.Prelude.{◌≡◌, ◌∷◌, ◌++◌, ◌==◌, if◌the
 use Rattle.{branch_model.specs.Journals.{place_of}, transcript_law.specs.Chronicles.{Conns, Dial, DiskKnown, Flushing, after_group, after_lines, ahead, conns_lines, conns_verb}, vb_calls.specs.Shelves.{Flush, Idle, Out, Written, Shelf}, vb_types.specs.declared.journal.Batch.{Batch}}
 use Rattle.node_world.specs.{Nodes.{shelf_or_blank}, Rests.{Rests, RestsIf}, Worlds.{arm_in}}
 use Rattle.transcript_law.proofs.{invariant.Agreement.{DiskIsIf, IsArm, PowerIsIf, shelf_of, vb_of}, disks.ArmedSteps.{shut_in}, disks.Disks.{FlushIs, ShelfIs, parts_of, power_in}, disks.Flushed.{told_flush}, verbs.LineAnswers.{AllTold, ArmKnown, DisksTold, ShutTold}}
-use Rattle.transcript_law.proofs.Words.{ℕ, Bool, true, false, List, [], refl, ap, sym, ◌∙◌, subst, arith, Option, Some, None, ne_eqb, All-nil, All-head, All-tail, ScriptLine, Verb}
+use Rattle.transcript_law.proofs.Words.{ℕ, Bool, true, false, List, [], refl, ap, sym, ◌∙◌, subst, inl, arith, Option, Some, None, ne_eqb, All-nil, All-head, All-tail, ScriptLine, Verb}
 use Rattle.transcript_law.proofs.Words.{VerbFits, ScriptFits, Change, Plain, PlainNode, hist, PlainWorld, empty_world}
 use Rattle.transcript_law.proofs.Words.{with_branches, verb_step, world_step, groups_from, groups, Chronicle, empty_chronicle, after_verb, LawfulGroups, Lawful, RefusedLinesKeep, start_sound}
 use Rattle.transcript_law.proofs.Words.{consumer_node, option_map}
@@ -11,12 +11,18 @@ use Rattle.transcript_law.proofs.{invariant.Seats.{seat}}
 use Rattle.transcript_law.proofs.invariant.Agreement.{ChangeFits, EntryFits, AgreesAt, top, Agrees}
 use Rattle.transcript_law.proofs.{verbs.FiredLines.{DialsTold}, verbs.NodeRows.{client_row_of, link_row, link_row_of, node_row, node_row_of}, verbs.AskingLines.{line_asked}, verbs.Undone.{leaves_none}, verbs.Rows.{AsTold, Row}, verbs.VbRows.{vb_row_of}, invariant.LinkRows.{found_is_link}}
 use Rattle.transcript_law.proofs.invariant.Ranged.{IsRanged, start_ranged}
+use Rattle.transcript_law.proofs.Words.{StreamName}
+use Rattle.transcript_law.specs.Feeding.{HasFed}
 use Rattle.transcript_law.proofs.{invariant.ClientWorlds.{ConnsAre, start_conns}, invariant.Clients.{line_heard}, lines.Heard.{lines_heard}}
+use Rattle.transcript_law.proofs.invariant.{Agreement.{idle}, Carried.{all_there}, ClientsKept.{all_kept, clients_kept}}
 use Rattle.cluster_model.specs.Clusters as cluster
 
 -- before the first line
 start_hist : (u : ℕ) → hist cluster.start.tree u ≡ []
 start_hist u = elim (0 == u) as (λ b. (if b then ◌++◌ {A = Change} [] [] else []) ≡ []) [ true ↦ refl | false ↦ refl ]
+
+none_fed : (n c v id : ℕ) → HasFed empty_world (StreamName.Client n c) n v id → ⊥
+none_fed n c v id has = let e = has.1.1 in cc
 
 pub start : Agrees empty_world empty_chronicle
 start = (
@@ -44,6 +50,7 @@ start = (
     };
     links = λ x i. absurd i;
     differ = tt;
+    clients = record { each = λ n c client e. cc; apart = λ n c v id who has other. let (client, is, opens) = has.1 in cc };
     rests = record {
       powers = λ n. refl;
       aways = λ n v none. record { position = refl; log = refl; role = refl; book = (refl, refl) };
@@ -65,6 +72,7 @@ conns_beside w r conns (c, a) = (
     branches = a.branches;
     links = λ x i. let l = a.links x i in record { follower = l.follower; follower_is = l.follower_is; follows = l.follows; acks = l.acks; dial = l.dial; talk = l.talk };
     differ = a.differ;
+    clients = clients_kept w w r (record r { conn_at = conns }) 0 a.clients (all_there idle w r c a) (all_kept w w r (record r { conn_at = conns }) (λ m d. refl) (λ m d. refl) refl (λ n v. refl) (λ n v. refl)) (λ l n v id has. inl has);
     rests = record { powers = a.powers; aways = a.aways; downs = a.downs; ends = a.ends; small = a.small };
   },
 )
@@ -117,8 +125,8 @@ opens_told w r (c, a) = (λ n v vb known. (subst (AgreesAt r n v (c.nodes (seat 
         (flush_told_is shelf.is_closed shelf.flush (r.disk_at n v).flushing (c.disks (seat n v)).batch vb.flushed (place_of (c.disks (seat n v)).book).at x.flush, x.saved)
 
 -- all that is told
-as_told_of : (w : PlainWorld) (r : Chronicle) → ConnsAre w r.conn_at → Agrees w r → AsTold w r
-as_told_of w r are a = record { agrees = a; conns = are; rests = rests_told w r a; disks = opens_told w r a; shut = shut_told w r a; arms = arms_told w r a; dials = dials_told w r a }
+as_told_of : (w : PlainWorld) (r : Chronicle) → ConnsAre w r.conn_at → IsRanged w → Agrees w r → AsTold w r
+as_told_of w r are ranged a = record { agrees = a; conns = are; ranged = ranged; rests = rests_told w r a; disks = opens_told w r a; shut = shut_told w r a; arms = arms_told w r a; dials = dials_told w r a }
 
 -- what the law needs of each line, by what it names
 pub row_of : (w : PlainWorld) (number : ℕ) (line : Verb) → Row w line (verb_step w number line)
@@ -147,7 +155,7 @@ lawful_from w r (line ∷ lines) fits ranged are a =
     let fit = All-head (λ (x : ScriptLine). VerbFits x.verb) line lines fits in
     let outcome = verb_step w line.line line.verb in
     let row : Row w line.verb outcome = row_of w line.line line.verb in
-    let told : AsTold w r = as_told_of w r are a in
+    let told : AsTold w r = as_told_of w r are ranged a in
     let went = row.goes r fit ranged a in let heard = line_heard r.conn_at w line.line are line.verb fit in (
       (
         lines_heard (ahead r line.verb outcome.1.answer) r.conn_at outcome.1.events went.0 heard.0,
@@ -155,8 +163,8 @@ lawful_from w r (line ∷ lines) fits ranged are a =
         (row.told r fit told).1,
         refl,
         λ why said standing. (row.keeps told.rests why said standing).1,
-        row.tells,
-        line_asked w r line.line line.verb a,
+        row.tells ranged,
+        line_asked w r line.line line.verb ranged a,
         leaves_none w line.line line.verb r ranged a,
       ),
       lawful_from (with_branches outcome.1.events outcome.0) (after_group r line.verb outcome.1.events outcome.1.answer) lines (All-tail (λ (x : ScriptLine). VerbFits x.verb) line lines fits)

@@ -1,5 +1,11 @@
 pub mod Wholes
 pub mod Holdings
+pub mod OpenStreams
+pub mod ClientsTold
+pub mod ClientsKept
+pub mod ClientsWritten
+pub mod ClientsTurned
+pub mod Clientless
 pub mod Agreement
 pub mod AtRest
 pub mod CallsKept
@@ -8,6 +14,7 @@ pub mod Carrying
 pub mod Entering
 pub mod JobSteps
 pub mod Known
+pub mod LinkFeeds
 pub mod LinkRows
 pub mod OneLink
 pub mod Prefixes
@@ -23,13 +30,13 @@ pub mod Bounded
 pub mod Bounding
 pub mod Majorities
 pub mod Counts
+pub mod FedClients
 pub mod FedLines
 pub mod FedNodes
 pub mod Feeding
 pub mod Linked
 pub mod Numbered
 pub mod Openings
-pub mod OpenStreams
 pub mod Quiets
 pub mod Unopened
 pub mod Waiting

@@ -2,6 +2,7 @@ pub mod Lines
 pub mod Refusals
 pub mod Telling
 pub mod Answering
+pub mod PullTold
 pub mod Pulling
 pub mod Calm
 pub mod Changes

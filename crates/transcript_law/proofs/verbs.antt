@@ -1,6 +1,9 @@
 pub mod ArmLines
 pub mod BoundAnswers
+pub mod Branched
 pub mod Branching
+pub mod ClientTellings
+pub mod ClientsEnded
 pub mod Crashing
 pub mod Dials
 pub mod DownLine

@@ -1,5 +1,5 @@
 -- that each line of a script tells what it was asked for
-use Rattle.std.specs.Prelude.{◌≡◌, ◌⊎◌, ℕ, ◌==◌, ◌&&◌, Bool, true, false, List, [], ◌∷◌, ◌++◌, Option, Some, None}
+use Rattle.std.specs.Prelude.{◌≡◌, ◌⊎◌, ℕ, ◌*◌, ◌==◌, ◌&&◌, Bool, true, false, List, [], ◌∷◌, ◌++◌, length, Option, Some, None}
 use Rattle.std.specs.List.{filter, flat_map}
 use Rattle.script_text.specs.declared.verb.Verb.{Verb}
 use Rattle.script_text.specs.declared.verb.Verb.TheVariants as verb
@@ -9,6 +9,8 @@ use Rattle.script_text.specs.declared.verb.NodeVerb.{NodeVerb}
 use Rattle.script_text.specs.declared.verb.NodeVerb.TheVariants as node_verb
 use Rattle.script_text.specs.declared.verb.LinkVerb.{LinkVerb}
 use Rattle.script_text.specs.declared.verb.LinkVerb.TheVariants as link_verb
+use Rattle.script_text.specs.declared.verb.ClientVerb.{ClientVerb}
+use Rattle.script_text.specs.declared.verb.ClientVerb.TheVariants as client_verb
 use Rattle.vb_events.specs.declared.event.Answer.{Answer}
 use Rattle.vb_events.specs.declared.event.Answer.TheVariants as answer
 use Rattle.vb_events.specs.declared.event.Cause.{Cause}
@@ -19,6 +21,7 @@ use Rattle.vb_types.specs.declared.role.LogEntry.{LogEntry}
 use Rattle.vb_types.specs.declared.role.Role.{Role}
 use Rattle.vb_types.specs.declared.role.Role.TheVariants as role
 use Rattle.transcript_law.specs.Chronicles.{Chronicle, Dial}
+use Rattle.transcript_law.specs.Pulls.{frames_in_lines}
 use Rattle.transcript_law.specs.Standing.{IsStanding}
 use Rattle.transcript_law.specs.Tellings.{are_all}
 
@@ -118,9 +121,10 @@ abbrev pub is_dialed_by : Option Dial → ℕ → Bool
 is_dialed_by None n = false
 is_dialed_by (Some dial) n = dial.node == n
 
--- what comes up the link l: a request that is answered, an acknowledgement that is counted, and what clients are told then
+-- what comes up the link l: a request that is answered, an acknowledgement that is counted, and what clients ask and are told then
 abbrev pub is_of_up : ℕ → Event → Bool
 is_of_up l (event.Asked (name.Link k) n v ask high log said) = k == l
+is_of_up l (event.Asked (name.Client m c) n v ask high log said) = true
 is_of_up l (event.Counted (name.Link k) n v member seq) = k == l
 is_of_up l (event.Changed n v uuid change) = true
 is_of_up l (event.Reply n c bytes) = true
@@ -147,6 +151,20 @@ is_of_down dial l (event.Closed n c) = is_dialed_by dial n
 is_of_down dial l (event.Ended k reason) = true
 is_of_down dial l other = false
 
+-- ---- what a client is sent
+
+-- frames of a stream of the client c of the node n, and what it is sent
+abbrev pub is_of_pull : ℕ → ℕ → Event → Bool
+is_of_pull n c (event.Marked (name.Client m d) start end flags) = m == n && d == c
+is_of_pull n c (event.Item (name.Client m d) seq act key) = m == n && d == c
+is_of_pull n c (event.Finished (name.Client m d) reason) = m == n && d == c
+is_of_pull n c (event.Reply m d bytes) = m == n && d == c
+is_of_pull n c other = false
+
+-- each frame of a stream has its line and its reply, and nothing else is sent
+abbrev pub ArePairs : List Event → Type 0
+ArePairs lines = length lines ≡ 2 * frames_in_lines lines
+
 -- ---- by the line of the script
 
 abbrev pub AskedOfNode : NodeVerb → List Event → Type 0
@@ -172,17 +190,23 @@ AskedOfVb n v vb_verb.Stat lines said = TellsIfDone (IsStatLine n v) lines said
 AskedOfVb n v vb_verb.Log lines said = TellsIfDone (IsLogLine n v) lines said
 AskedOfVb n v vb_verb.Show lines said = TellsIfDone (IsShowLine n v) lines said
 
+abbrev pub AskedOfClient : ℕ → ℕ → ClientVerb → List Event → Type 0
+AskedOfClient n c client_verb.Open lines = Unit {0}
+AskedOfClient n c (client_verb.Bytes bytes) lines = Unit {0}
+AskedOfClient n c (client_verb.Pull wanted) lines = (are_all (is_of_pull n c) lines ≡ true) × ArePairs lines
+AskedOfClient n c client_verb.Hang lines = Unit {0}
+
 abbrev pub AskedOfLink : Option Dial → ℕ → LinkVerb → List Event → Type 0
 AskedOfLink dial l (link_verb.Up wanted) lines = are_all (is_of_up l) lines ≡ true
 AskedOfLink dial l (link_verb.Down wanted) lines = are_all (is_of_down dial l) lines ≡ true
 AskedOfLink dial l (link_verb.Pump frames) lines = are_all (is_of_pump l) lines ≡ true
 AskedOfLink dial l link_verb.Cut lines = Unit {0}
 
--- a line tells what it was asked for, and of the vBucket, the ids and the link that it names
+-- a line tells what it was asked for, and of the vBucket, the ids, the client and the link that it names
 abbrev pub TellsAsAsked : Chronicle → Verb → List Event → Answer → Type 0
 TellsAsAsked chronicle (verb.Node n) lines said = Unit {0}
 TellsAsAsked chronicle (verb.Link l m n v buffer) lines said = Unit {0}
 TellsAsAsked chronicle (verb.AtNode n what) lines said = AskedOfNode what lines
 TellsAsAsked chronicle (verb.AtVb n v what) lines said = AskedOfVb n v what lines said
-TellsAsAsked chronicle (verb.AtClient n c what) lines said = Unit {0}
+TellsAsAsked chronicle (verb.AtClient n c what) lines said = AskedOfClient n c what lines
 TellsAsAsked chronicle (verb.AtLink l what) lines said = AskedOfLink (chronicle.dial_of l) l what lines

@@ -6,6 +6,7 @@ use Rattle.script_text.specs.declared.verb.Verb.TheVariants as verb
 use Rattle.script_text.specs.declared.verb.VbVerb.TheVariants as vb_verb
 use Rattle.script_text.specs.declared.verb.NodeVerb.TheVariants as node_verb
 use Rattle.script_text.specs.declared.verb.LinkVerb.TheVariants as link_verb
+use Rattle.script_text.specs.declared.verb.ClientVerb.TheVariants as client_verb
 use Rattle.vb_events.specs.declared.event.Answer.{Answer}
 use Rattle.vb_events.specs.declared.event.Answer.TheVariants as answer
 use Rattle.vb_events.specs.declared.event.Event.{Event}
@@ -26,6 +27,8 @@ use Rattle.durability.specs.Chains.{Members}
 use Rattle.branch_model.specs.Journals.{found, last_log, log_of, place_of, role_of, roll_point}
 pub use Rattle.transcript_law.specs.LinesTold.{ItemLine, Begun, Granted, Dial, CountsKnown, alone, Flushing, Idle, Taken, Written, DiskKnown, blank_disk, stood, known_batch, ArmKnown, Conns, no_arm, known_down}
 pub use Rattle.transcript_law.specs.Clients.{conns_line, conns_lines, conns_verb}
+use Rattle.transcript_law.specs.ClientStreams.{with_client, with_sent_bytes}
+pub use Rattle.transcript_law.specs.ClientStreams.{ClientsKnown, blank_client, clients_line}
 pub use Rattle.transcript_law.specs.LinesTold.{Chronicle, empty_chronicle, with_at, with_id, parent_branch, changes_between, uncounted, after_branch, snap_in_role, after_role, held_more, after_change, is_name, with_stream, is_dial_of, is_stream_of, with_changed}
 pub use Rattle.transcript_law.specs.LinesTold.{with_point, is_dial_at, is_stream_at, after_end, granted, after_ask, stream_branch, with_begun, more_items, with_item, finished, past_next, past_mark, acknowledging, after_take, after_adopt}
 pub use Rattle.transcript_law.specs.LinesTold.{is_dial_for, is_feed_of, after_range, spent, calls_of_append, after_calls, late_record, finds, disk_back, after_roll, with_disk, known_log, after_batch, after_count, after_line, after_lines}
@@ -264,13 +267,24 @@ abbrev pub after_chain : Chronicle → ℕ → ℕ → Members → Answer → Ch
 after_chain chronicle n v others answer.Ok = record chronicle { counts_at = with_at chronicle.counts_at n v (record (chronicle.counts_at n v) { chain = others }) }
 after_chain chronicle n v others other = chronicle
 
--- what a line of the script tells by its answer, before the lines of its group are read, which rest on it: who is a vBucket's chain, and what counts as saved
+-- a client sent these bytes, unless the line was refused
+abbrev pub after_bytes : Chronicle → ℕ → ℕ → List ℕ → Answer → Chronicle
+after_bytes chronicle n c bytes answer.Ok = record chronicle { clients_at = with_client chronicle.clients_at n c (with_sent_bytes bytes (chronicle.clients_at n c)) }
+after_bytes chronicle n c bytes other = chronicle
+
+-- a connection of a client opens, or its client closes it, unless the line was refused: it sent nothing, and has no stream
+abbrev pub after_blank : Chronicle → ℕ → ℕ → Answer → Chronicle
+after_blank chronicle n c answer.Ok = record chronicle { clients_at = with_client chronicle.clients_at n c blank_client }
+after_blank chronicle n c other = chronicle
+
+-- what a line of the script tells by its answer, before the lines of its group are read, which rest on it: who is a vBucket's chain, what counts as saved, and what a client sent
 abbrev pub ahead : Chronicle → Verb → Answer → Chronicle
 ahead chronicle (verb.AtVb n v (vb_verb.Chain others)) said = after_chain chronicle n v others said
 ahead chronicle (verb.AtVb n v vb_verb.Done) said = after_done chronicle n v said
+ahead chronicle (verb.AtClient n c (client_verb.Bytes bytes)) said = after_bytes chronicle n c bytes said
 ahead chronicle other said = chronicle
 
--- what a line of the script tells, by the lines of its group and its answer, behind those lines: who dials, who is sealed, what was written down, what is to befall a node, and who stops and starts. What was read before the line comes first
+-- what a line of the script tells, by the lines of its group and its answer, behind those lines: who dials, which connections of clients begin anew, who is sealed, what was written down, what is to befall a node, and who stops and starts. What was read before the line comes first
 abbrev pub after_verb : Chronicle → Chronicle → Verb → List Event → Answer → Chronicle
 after_verb before chronicle (verb.AtVb n v (vb_verb.MakeActive uuid)) lines said = after_made chronicle n v role.Active said
 after_verb before chronicle (verb.AtVb n v vb_verb.MakeReplica) lines said = after_made chronicle n v role.Replica said
@@ -285,9 +299,11 @@ after_verb before chronicle (verb.AtNode n (node_verb.Stop call out)) lines said
 after_verb before chronicle (verb.AtNode n (node_verb.Fail call)) lines said = after_armed chronicle n (known_fail call) said
 after_verb before chronicle (verb.AtNode n (node_verb.Crash out)) lines said = after_crashed chronicle n out said
 after_verb before chronicle (verb.AtNode n (node_verb.Start uuids)) lines said = after_start chronicle n lines said
+after_verb before chronicle (verb.AtClient n c client_verb.Open) lines said = after_blank chronicle n c said
+after_verb before chronicle (verb.AtClient n c client_verb.Hang) lines said = after_blank chronicle n c said
 after_verb before chronicle other lines said = chronicle
 
--- what is read with a whole group of a line; of the connections of clients its lines tell, and then the line
+-- what is read with a whole group of a line; of the connections of clients and their streams its lines tell, and then the line
 abbrev pub after_group : Chronicle → Verb → List Event → Answer → Chronicle
 after_group chronicle line lines said = record (after_verb chronicle (after_lines (ahead chronicle line said) lines) line lines said) {
   conn_at = conns_verb (conns_lines chronicle.conn_at lines) line said;

@@ -10,6 +10,7 @@ use Rattle.vb_events.specs.declared.event.Cause.TheVariants as cause
 use Rattle.vb_events.specs.declared.event.Event.{Event}
 use Rattle.vb_events.specs.declared.event.Event.TheVariants as event
 use Rattle.transcript_law.specs.LinesTold.{Conns, with_at}
+use Rattle.transcript_law.specs.Pulls.{PutsAsTold}
 
 -- the open ones with one more line
 abbrev pub conns_line : Conns → Event → Conns
@@ -58,11 +59,22 @@ IsReached opened (answer.No cause.UnknownNode) = opened ≡ false
 IsReached opened (answer.No cause.NodeDown) = opened ≡ false
 IsReached opened (answer.No why) = ⊥
 
--- each line of a client
-abbrev pub ClientAnswer : Bool → ClientVerb → Answer → Type 0
-ClientAnswer opened client_verb.Open said = IsOpened opened said
-ClientAnswer opened (client_verb.Bytes bytes) said = IsReached opened said
-ClientAnswer opened client_verb.Hang said = IsReached opened said
+-- so is a pull, which puts frames of streams as the lines of its group tell
+abbrev pub IsPulled : Bool → ℕ → List Event → Answer → Type 0
+IsPulled opened wanted lines answer.Ok = ⊥
+IsPulled opened wanted lines (answer.Number n) = ⊥
+IsPulled opened wanted lines (answer.Pulled n said) = (opened ≡ true) × PutsAsTold wanted lines n said
+IsPulled opened wanted lines (answer.No cause.LinkClosed) = opened ≡ false
+IsPulled opened wanted lines (answer.No cause.UnknownNode) = opened ≡ false
+IsPulled opened wanted lines (answer.No cause.NodeDown) = opened ≡ false
+IsPulled opened wanted lines (answer.No why) = ⊥
+
+-- each line of a client, by the lines of its group
+abbrev pub ClientAnswer : Bool → ClientVerb → List Event → Answer → Type 0
+ClientAnswer opened client_verb.Open lines said = IsOpened opened said
+ClientAnswer opened (client_verb.Bytes bytes) lines said = IsReached opened said
+ClientAnswer opened (client_verb.Pull wanted) lines said = IsPulled opened wanted lines said
+ClientAnswer opened client_verb.Hang lines said = IsReached opened said
 
 -- a node that crashed has none left behind the lines that tell so
 abbrev pub IsCrashed : Conns → ℕ → Answer → Type 0

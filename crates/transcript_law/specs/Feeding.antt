@@ -1,9 +1,13 @@
--- the streams of vBuckets, and the links that they are of
+-- the streams of vBuckets, and the links and clients that they are of
 use Rattle.std.specs.Prelude.{◌≡◌, ◌⊎◌, ℕ, true, false, List, [], ◌∷◌, Option, Some, None}
 use Rattle.dcp_producer.specs.Producers.{PlainStream}
+use Rattle.node_core.specs.Clients.{PlainClient}
 use Rattle.node_world.specs.Links.{PlainLink, link_number, producer_node, consumer_node}
+use Rattle.node_world.specs.Nodes.{PlainNode}
 use Rattle.node_world.specs.World.{PlainWorld, vb_in}
 use Rattle.node_world.specs.Worlds.{is_off, is_up}
+use Rattle.vb_events.specs.declared.event.StreamName.{StreamName}
+use Rattle.vb_events.specs.declared.event.StreamName.TheVariants as name
 use Rattle.vb_calls.specs.Following.{is_follower}
 use Rattle.vb_calls.specs.Plain.{Plain}
 use Rattle.vb_calls.specs.declared.stream.Stream.{Stream}
@@ -41,11 +45,26 @@ pub record IsOf (n v id : ℕ) (link : PlainLink) : Type 0 where
 abbrev pub IsLinked : PlainWorld → ℕ → PlainLink → Type 0
 IsLinked w l link = row_at link_number l w.links ≡ Some link
 
--- each stream of a vBucket is one that the producer of an open link says that it has, at its node and vBucket; each that such a producer says that it has is there, at the vBucket that the link feeds; and no two links have one stream
-pub record StreamsAreLinks (w : PlainWorld) : Type 0 where
-  pub linked : (n v id : ℕ) → HasStream w n v id → (l : ℕ) × (link : PlainLink) × IsLinked w l link × IsOf n v id link
-  pub opened : (l n v id : ℕ) (link : PlainLink) → IsLinked w l link → IsOf n v id link → HasStream w n v id × (link.consumer.dialed.vb ≡ v)
-  pub apart : (l k n v id : ℕ) (link other : PlainLink) → IsLinked w l link → IsLinked w k other → IsOf n v id link → IsOf n v id other → l ≡ k
+-- the open connection of a client of a node, where there are both
+abbrev pub client_in : Option PlainNode → ℕ → Option PlainClient
+client_in None c = None
+client_in (Some node) c = node.clients c
+
+-- an open client's connection at the node n is of this number there, and one of its producer's streams is of the vBucket v, under this number
+abbrev pub IsOfClient : PlainWorld → ℕ → ℕ → ℕ → ℕ → Type 0
+IsOfClient w n c v id = (client : PlainClient) × (client_in (w.nodes n) c ≡ Some client) × HasOpen v id client.producer.streams
+
+-- who is of this name, an open link or an open client's connection, has the producer's end at the node n, and one of its streams is of the vBucket v there, under this number
+abbrev pub HasFed : PlainWorld → StreamName → ℕ → ℕ → ℕ → Type 0
+HasFed w (name.Link l) n v id = (link : PlainLink) × IsLinked w l link × IsOf n v id link
+HasFed w (name.Client m c) n v id = (m ≡ n) × IsOfClient w n c v id
+
+-- each stream of a vBucket is one that the producer of an open link or of an open client's connection says that it has, at its node and vBucket; each that such a producer says that it has is there, a link's at the vBucket that the link feeds; and no two of them have one stream
+pub record StreamsAreFed (w : PlainWorld) : Type 0 where
+  pub fed : (n v id : ℕ) → HasStream w n v id → (who : StreamName) × HasFed w who n v id
+  pub opened : (who : StreamName) (n v id : ℕ) → HasFed w who n v id → HasStream w n v id
+  pub dialed : (l n v id : ℕ) (link : PlainLink) → IsLinked w l link → IsOf n v id link → link.consumer.dialed.vb ≡ v
+  pub apart : (who other : StreamName) (n v id : ℕ) → HasFed w who n v id → HasFed w other n v id → who ≡ other
 
 -- each open link has its number, and feeds a vBucket that is there and follows, at a node that runs; the node at its other end is not down; and no two links feed one vBucket
 pub record LinksAreFed (w : PlainWorld) : Type 0 where

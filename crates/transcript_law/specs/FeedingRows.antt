@@ -7,6 +7,7 @@ use Rattle.vb_types.specs.declared.role.Role.TheVariants as role
 use Rattle.vb_types.specs.declared.stream.StreamAsk.{StreamAsk}
 use Rattle.vb_calls.specs.State.{new_vb}
 use Rattle.vb_calls.specs.States.{States}
+use Rattle.node_core.specs.Clients.{PlainClient, new_client}
 use Rattle.node_world.specs.Arms.{PlainNode, empty_node}
 use Rattle.node_world.specs.Links.{PlainLink, new_link}
 use Rattle.node_world.specs.Worlds.{PlainWorld}
@@ -49,3 +50,10 @@ streaming_both l ask first stream = record (feeding l ask) { server = record (fe
 -- the stream is of the vBucket 0, and no change of role ended it
 abbrev pub GoesOn : PlainStream → Type 0
 GoesOn stream = (stream.vb ≡ 0) × (stream.ended ≡ false)
+
+-- a node that runs, whose vBucket 0 is active and has these streams, and two connections of whose clients, 1 and 2, have these
+abbrev pub has_clients : List Stream → List PlainStream → List PlainStream → PlainNode
+has_clients streams first second = record (has_streams streams) { clients = λ c. if c == 1 then Some (connected 1 first) else if c == 2 then Some (connected 2 second) else None }
+  where
+    connected : ℕ → List PlainStream → PlainClient
+    connected c streams = record (new_client (record { node = 0; client = c; base = c })) { producer = record (new_client (record { node = 0; client = c; base = c })).producer { streams = streams } }

@@ -1,6 +1,6 @@
 -- a script of a replica that follows, and transcripts of it to be judged by hand
 use Rattle.std.specs.Prelude.{ℕ, ◌^◌, ◌-◌, ◌==◌, if◌then◌else◌, List, [], ◌∷◌, ◌++◌, take, drop, Some, None}
-use Rattle.client_session.specs.Serving.{new_session}
+use Rattle.node_core.specs.Clients.{new_client}
 use Rattle.durability.specs.Chains.{Members}
 use Rattle.script_text.specs.declared.verb.ScriptLine.{ScriptLine}
 use Rattle.script_text.specs.declared.verb.Verb.TheVariants as verb
@@ -230,4 +230,4 @@ prepared_in others = prepared_vb (record (new_vb 0 role.Active 5) { others = oth
 
 -- the node 0 without a vBucket, whose connection 1 is told as one of this node
 abbrev pub client_world : ℕ → PlainWorld
-client_world n = with_node_at empty_world 0 (record empty_node { clients = λ c. if c == 1 then Some (new_session (record { node = n; client = 1; base = 0 })) else None })
+client_world n = with_node_at empty_world 0 (record empty_node { clients = λ c. if c == 1 then Some (new_client (record { node = n; client = 1; base = 0 })) else None })

@@ -2,7 +2,6 @@
 use Rattle.std.specs.Prelude.{◌≡◌, ◌≢◌, ℕ, ◌<◌, ◌≤◌, ◌⊎◌, ◌^◌, ◌-◌, min, Bool, true, false, List, [], ◌∷◌, ◌++◌, length, map, Option, Some, None}
 use Rattle.std.specs.FinMap as finite
 use Rattle.std.specs.Option.{option_map}
-use Rattle.vb_types.specs.declared.change.Act.{Act}
 use Rattle.vb_types.specs.declared.change.Act.TheVariants as act
 use Rattle.vb_types.specs.declared.change.Change.{Change}
 use Rattle.vb_types.specs.declared.change.Level.TheVariants.{PersistMajority}
@@ -11,10 +10,7 @@ use Rattle.vb_types.specs.declared.doc.Doc.{Doc}
 use Rattle.vb_events.specs.declared.event.Event.{Event}
 use Rattle.vb_events.specs.declared.event.Event.TheVariants as event
 use Rattle.vb_events.specs.declared.event.Group.{Group}
-use Rattle.vb_events.specs.declared.event.ItemAct.{ItemAct}
-use Rattle.vb_events.specs.declared.event.ItemAct.TheVariants as item_act
 use Rattle.vb_types.specs.declared.stream.AskAnswer.{AskAnswer}
-use Rattle.vb_types.specs.declared.stream.AskAnswer.TheVariants as ask_answer
 use Rattle.vb_events.specs.declared.event.StreamName.{StreamName}
 use Rattle.vb_events.specs.declared.event.StreamName.TheVariants as name
 use Rattle.vb_disk.specs.declared.fuse.Fuse.{Fuse}
@@ -27,10 +23,9 @@ use Rattle.vb_types.specs.Histories.{upto, IsIn}
 use Rattle.vb_types.specs.Images.{Picture, image_of}
 use Rattle.branch_model.specs.Histories.{last_seq, IsOf}
 use Rattle.vb_types.specs.declared.stream.StreamAsk.{StreamAsk}
-use Rattle.vb_types.specs.declared.stream.Verdict.TheVariants.{Continue, Roll}
 use Rattle.vb_calls.specs.{Following.{is_follower}, Spans.{stretch}}
 use Rattle.branch_model.specs.Logs.{front, uuid_of}
-use Rattle.branch_model.specs.Requests.{rule, effective_ss, effective_se, fork_of}
+use Rattle.branch_model.specs.Requests.{fork_of}
 use Rattle.branch_model.specs.Snapshots.{Covers, Follows}
 use Rattle.cluster_model.specs.Clusters.{above}
 use Rattle.branch_model.specs.Trees.{Branch, hist, Shared, IsNew, ForksBelow}
@@ -40,6 +35,8 @@ use Rattle.transcript_law.specs.Standing.{TellsIfBegun}
 use Rattle.transcript_law.specs.Tellings.{TellsOf}
 use Rattle.transcript_law.specs.Asked.{TellsAsAsked}
 use Rattle.transcript_law.specs.Undone.{LeavesNone}
+use Rattle.transcript_law.specs.LawfulClients.{IsAnswer, LawfulClientAsk, LawfulClientEnd, LawfulClientItem, LawfulClientMark}
+pub use Rattle.transcript_law.specs.StreamLaws.{FROM_MEMORY, GrantsAs, IsFrontOf, IsIfKnown, IsNextItem, IsWholeIf, LawfulSaid, LawfulVerdict, SharesFront, item_of_change, line_act, meant_end, meant_start}
 use Rattle.transcript_law.specs.Bound.{IsAnswered}
 use Rattle.transcript_law.specs.Clients.{Heard}
 use Rattle.durability.specs.Laws.{HasOne}
@@ -56,11 +53,6 @@ known_history tree (Some uuid) = hist tree uuid
 abbrev pub SharesWith : List Branch → ℕ → Option ℕ → ℕ → Type 0
 SharesWith tree uuid None n = ⊥
 SharesWith tree uuid (Some known) n = Shared tree uuid known n
-
--- where it is known, it is this
-abbrev pub IsIfKnown : {A : Type 0} → Option A → A → Type 0
-IsIfKnown None this = Unit {0}
-IsIfKnown (Some known) this = known ≡ this
 
 -- of each vBucket the role, the failover log and the snapshot are known
 pub record AllKnown (chronicle : Chronicle) : Type 0 where
@@ -162,42 +154,14 @@ pub record LawfulRole (chronicle : Chronicle) (n v : ℕ) (role : Role) : Type 0
   pub another : chronicle.role_at n v ≢ Some (Some role)
   pub anew : role ≡ Active → chronicle.counts_at n v ≡ alone
 
--- a log has a newest branch, and that shares with `uuid` up to n
-abbrev pub SharesFront : List Branch → ℕ → List LogEntry → ℕ → Type 0
-SharesFront tree uuid [] n = ⊥
-SharesFront tree uuid (e ∷ older) n = Shared tree uuid e.uuid n
-
--- the end that a request means
-abbrev pub meant_end : StreamAsk → ℕ
-meant_end ask = effective_se ask.start ask.ss ask.se
-
--- the start that a request means
-abbrev pub meant_start : StreamAsk → ℕ
-meant_start ask = effective_ss ask.start ask.ss ask.se
-
--- an answer to a request is what the failover rule says of it: it continues on a shared prefix, or is sent to a shared point; a refusal has a name
-abbrev pub LawfulVerdict : List Branch → List LogEntry → ℕ → StreamAsk → AskAnswer → Type 0
-LawfulVerdict tree log high ask ask_answer.Go = (rule log high ask ≡ Continue) × (0 < meant_end ask → SharesFront tree ask.uuid log (meant_end ask))
-LawfulVerdict tree log high ask (ask_answer.Roll to) = (rule log high ask ≡ Roll to) × (0 < to → SharesFront tree ask.uuid log to)
-LawfulVerdict tree log high ask (ask_answer.Refuse code) = code ≢ 0
-
 -- the link l was dialed to the node n for the vBucket v, and for no other
 abbrev pub IsDialed : Chronicle → ℕ → ℕ → ℕ → Type 0
 IsDialed chronicle l n v = (node : ℕ) × (chronicle.dial_of l ≡ Some (record { producer = n; node = node; vb = v }))
 
--- a request is let continue, or is sent back, where the vBucket is active alone
-abbrev pub GrantsAs : Option (Option Role) → AskAnswer → Type 0
-GrantsAs role ask_answer.Go = role ≡ Some (Some Active)
-GrantsAs role (ask_answer.Roll to) = role ≡ Some (Some Active)
-GrantsAs role (ask_answer.Refuse code) = Unit {0}
-
--- a request comes over a link that was dialed for it, and is answered by the vBucket's own failover log, where that is known, and its own last seqno; and one that is not refused, by one that is active
+-- a request of a link comes over one that was dialed for it, and is answered as each is
 pub record LawfulAsk (chronicle : Chronicle) (l n v : ℕ) (ask : StreamAsk) (high : ℕ) (log : List LogEntry) (said : AskAnswer) : Type 0 where
   pub dialed : IsDialed chronicle l n v
-  pub own_log : IsIfKnown (chronicle.log_at n v) log
-  pub own_high : high ≡ last_seq 0 (chronicle.held n v)
-  pub verdict : LawfulVerdict chronicle.tree log high ask said
-  pub active : GrantsAs (chronicle.role_at n v) said
+  pub answered : LawfulSaid chronicle n v ask high log said
 
 -- the vBucket that dialed a link takes over the log that the link's stream was granted with
 abbrev pub LawfulAdopt : Chronicle → ℕ → ℕ → List LogEntry → Type 0
@@ -261,18 +225,6 @@ pub record LawfulRange (chronicle : Chronicle) (n v ss se : ℕ) : Type 0 where
   pub put : (l : ℕ) × (g : Granted) × IsFed chronicle l n v g × ((start : ℕ) × (later : List (ℕ × ℕ)) × (g.marks ≡ (start, se) ∷ later) × (ss ≡ min start (last_seq 0 (chronicle.held n v))))
       × ((c : Change) × IsIn c (stream_history chronicle g) × (c.seq ≡ se))
 
--- what an item line calls an act: a set, a removal, a prepare, a commit or an abort
-abbrev pub line_act : Act → ItemAct
-line_act (act.Set doc) = item_act.Set
-line_act (act.Remove cas rev) = item_act.Remove
-line_act (act.Prepare level doc deleted) = item_act.Prepare
-line_act (act.Commit prepared doc deleted) = item_act.Commit
-line_act (act.Abort prepared) = item_act.Abort
-
--- what an item line says of a change
-abbrev pub item_of_change : Change → ItemLine
-item_of_change c = record { seq = c.seq; act = line_act c.act; key = c.key }
-
 -- a change that is got comes above all that the vBucket holds; it is the next item of its link's stream that was put and not got, and a change of the stream's branch
 pub record LawfulGot (chronicle : Chronicle) (n v l : ℕ) (change : Change) : Type 0 where
   pub above : last_seq 0 (chronicle.held n v) < change.seq
@@ -305,17 +257,6 @@ pub record LawfulCounted (chronicle : Chronicle) (l n v member seq : ℕ) : Type
   pub held : seq ≤ last_seq 0 (chronicle.held n v)
   pub another : member ≢ n
 
--- these items are a front of a whole snapshot, after which `more` are to come
-pub record IsFrontOf (b : Begun) (items : List ItemLine) (more : List Change) : Type 0 where
-  pub whole : List Change
-  pub covers : Covers whole b.history b.from b.end
-  pub front : map item_of_change whole ≡ items ++ map item_of_change more
-
--- a snapshot that was begun was put whole
-abbrev pub IsWholeIf : Option Begun → Type 0
-IsWholeIf None = Unit {0}
-IsWholeIf (Some b) = IsFrontOf b b.items []
-
 -- the start that a marker names behind this one: of the first one the request's, of a later one the place before it
 abbrev pub next_marker_start : Option Begun → Granted → ℕ
 next_marker_start None g = meant_start g.ask
@@ -338,17 +279,9 @@ pub record IsMarker (tree : List Branch) (g : Granted) (start end : ℕ) : Type 
 abbrev pub IsStream : Chronicle → StreamName → Granted → Type 0
 IsStream chronicle stream g = (v : ℕ) × (is_stream_of chronicle stream v ≡ true) × (chronicle.stream_of stream v ≡ Some g)
 
--- a marker's flag where its snapshot was taken from memory
-abbrev pub FROM_MEMORY : ℕ
-FROM_MEMORY = 1
-
 -- a marker of a stream, which tells where its snapshot was taken from: so far each from memory
 abbrev pub LawfulMark : Chronicle → StreamName → ℕ → ℕ → ℕ → Type 0
 LawfulMark chronicle stream start end flags = (g : Granted) × IsStream chronicle stream g × IsMarker chronicle.tree g start end × (flags ≡ FROM_MEMORY)
-
--- an item goes on with the snapshot that was begun last, and is its last one where it has the snapshot's end
-abbrev pub IsNextItem : Begun → ItemLine → Type 0
-IsNextItem b item = (more : List Change) × IsFrontOf b (b.items ++ item ∷ []) more × (item.seq ≡ b.end → more ≡ [])
 
 -- an item of a stream, before the stream's end
 abbrev pub LawfulItem : Chronicle → StreamName → ItemLine → Type 0
@@ -376,23 +309,30 @@ abbrev pub IsToStop : Fuse → Type 0
 IsToStop (Stop k) = 0 < k
 IsToStop other = ⊥
 
--- a line, after what was read, and in front of those behind it in its group; one for a client is judged by its connection alone
+-- a line, after what was read, and in front of those behind it in its group; one for a client is judged by its connection, and one of a client's stream by what is known of that; what a client is sent is an answer, or the frame of the line before. No vBucket follows a client's stream
 abbrev pub LawfulLine : Chronicle → Event → List Event → Type 0
 LawfulLine chronicle (event.Branch n v uuid parent fork high) behind = LawfulBranch chronicle n v uuid parent fork high
 LawfulLine chronicle (event.Role n v role) behind = LawfulRole chronicle n v role
 LawfulLine chronicle (event.Changed n v uuid change) behind = LawfulChange chronicle n v uuid change
-LawfulLine chronicle (event.Reply n c bytes) behind = Unit {0}
+LawfulLine chronicle (event.Reply n c bytes) behind = (chronicle.clients_at n c).told ≡ None → IsAnswer bytes
 LawfulLine chronicle (event.Closed n c) behind = Unit {0}
 LawfulLine chronicle (event.Asked (name.Link l) n v ask high log said) behind = LawfulAsk chronicle l n v ask high log said
-LawfulLine chronicle (event.Marked stream start end flags) behind = LawfulMark chronicle stream start end flags
-LawfulLine chronicle (event.Item stream seq act key) behind = LawfulItem chronicle stream (record { seq = seq; act = act; key = key })
-LawfulLine chronicle (event.Finished stream reason) behind = LawfulFinish chronicle stream reason
+LawfulLine chronicle (event.Asked (name.Client n c) m v ask high log said) behind = LawfulClientAsk chronicle (chronicle.clients_at n c) n c m v ask high log said behind
+LawfulLine chronicle (event.Marked (name.Link l) start end flags) behind = LawfulMark chronicle (name.Link l) start end flags
+LawfulLine chronicle (event.Marked (name.Client n c) start end flags) behind = LawfulClientMark chronicle (chronicle.clients_at n c) n c start end flags behind
+LawfulLine chronicle (event.Item (name.Link l) seq act key) behind = LawfulItem chronicle (name.Link l) (record { seq = seq; act = act; key = key })
+LawfulLine chronicle (event.Item (name.Client n c) seq act key) behind = LawfulClientItem chronicle (chronicle.clients_at n c) n c (record { seq = seq; act = act; key = key }) behind
+LawfulLine chronicle (event.Finished (name.Link l) reason) behind = LawfulFinish chronicle (name.Link l) reason
+LawfulLine chronicle (event.Finished (name.Client n c) reason) behind = LawfulClientEnd (chronicle.clients_at n c) n c reason behind
 LawfulLine chronicle (event.Adopted n v log) behind = LawfulAdopt chronicle n v log
 LawfulLine chronicle (event.Ranged n v ss se) behind = LawfulRange chronicle n v ss se
 LawfulLine chronicle (event.Got n v (name.Link l) change) behind = LawfulGot chronicle n v l change
+LawfulLine chronicle (event.Got n v (name.Client m c) change) behind = ⊥
 LawfulLine chronicle (event.Rolled n v named to) behind = LawfulRoll chronicle n v named to
 LawfulLine chronicle (event.Acknowledged (name.Link l) n v seq saved) behind = LawfulAcknowledged chronicle l n v seq saved
+LawfulLine chronicle (event.Acknowledged (name.Client m c) n v seq saved) behind = ⊥
 LawfulLine chronicle (event.Counted (name.Link l) n v member seq) behind = LawfulCounted chronicle l n v member seq
+LawfulLine chronicle (event.Counted (name.Client m c) n v member seq) behind = ⊥
 LawfulLine chronicle (event.Batch n v ss se at count) behind = LawfulBatch chronicle n v (record { ss = ss; se = se; at = at }) count
 LawfulLine chronicle (event.Stat n v windows items cursors saved high) behind = LawfulStat chronicle n v windows items cursors saved high
 LawfulLine chronicle (event.CallFailed n) behind = IsToFail (chronicle.arm_at n).fuse

@@ -2,6 +2,14 @@ pub mod Bound
 pub mod Chronicles
 pub mod ChangeRows
 pub mod Clients
+pub mod ClientFrames
+pub mod ClientStreams
+pub mod ClientStreamRows
+pub mod ClientAskRows
+pub mod LawfulClients
+pub mod Pulls
+pub mod StreamLaws
+pub mod StreamsTold
 pub mod ClientRows
 pub mod ClosedJournals
 pub mod Contrary

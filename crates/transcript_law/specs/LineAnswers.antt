@@ -11,8 +11,6 @@ use Rattle.vb_events.specs.declared.event.Answer.{Answer}
 use Rattle.vb_events.specs.declared.event.Answer.TheVariants as answer
 use Rattle.vb_events.specs.declared.event.Event.{Event}
 use Rattle.vb_events.specs.declared.event.Event.TheVariants as event
-use Rattle.vb_events.specs.declared.event.Why.{Why}
-use Rattle.vb_events.specs.declared.event.Why.TheVariants as why
 use Rattle.vb_events.specs.declared.event.Cause.TheVariants as cause
 use Rattle.branch_model.specs.Journals.{role_of}
 use Rattle.vb_types.specs.declared.journal.{Batch.{Batch}, Record.{Record}}
@@ -23,18 +21,8 @@ use Rattle.disk_journals.specs.Books.{below}
 use Rattle.vb_disk.specs.declared.fuse.Fuse.{Fuse}
 use Rattle.vb_disk.specs.declared.fuse.Fuse.TheVariants.{Off, Stop, Fail}
 use Rattle.transcript_law.specs.Clients.{ClientAnswer, IsCrashed}
+pub use Rattle.transcript_law.specs.Pulls.{PutsAsTold, frames_in_lines, is_frame}
 use Rattle.transcript_law.specs.Chronicles.{Chronicle, Dial, DiskKnown, Taken, Written, calls_of_append, conns_lines, disks_of, is_rollback, rollback_of, vb_numbers}
-
--- a line tells of a frame of a stream that was put: a marker, an item, or the stream's end
-abbrev pub is_frame : Event → Bool
-is_frame (event.Marked stream start end flags) = true
-is_frame (event.Item stream seq act key) = true
-is_frame (event.Finished stream reason) = true
-is_frame other = false
-
--- of so many frames of streams these lines tell
-abbrev pub frames_in_lines : List Event → ℕ
-frames_in_lines lines = length (filter is_frame lines)
 
 -- it was carried out, with nothing to count
 abbrev pub IsCarriedOut : Answer → Type 0
@@ -49,13 +37,6 @@ IsMoved wanted answer.Ok = ⊥
 IsMoved wanted (answer.Number n) = n ≤ wanted
 IsMoved wanted (answer.Pulled n said) = ⊥
 IsMoved wanted (answer.No cause) = Unit {0}
-
--- so many frames of streams were put as the group's lines tell, at most as many as were asked for; `all` is said where it is as many, and only there
-pub record PutsAsTold (wanted : ℕ) (lines : List Event) (n : ℕ) (said : Why) : Type 0 where
-  pub told : n ≡ frames_in_lines lines
-  pub most : n ≤ wanted
-  pub all : said ≡ why.All → n ≡ wanted
-  pub only : n ≡ wanted → said ≡ why.All
 
 -- frames of streams were put
 abbrev pub IsPumped : ℕ → List Event → Answer → Type 0
@@ -277,7 +258,7 @@ LawfulAnswer chronicle (verb.AtNode n (node_verb.Fail call)) lines said = IsCarr
 LawfulAnswer chronicle (verb.AtNode n (node_verb.Crash out)) lines said = IsCrashed (conns_lines chronicle.conn_at lines) n said
 LawfulAnswer chronicle (verb.AtNode n (node_verb.Start uuids)) lines said = IsStarted chronicle n uuids lines said
 LawfulAnswer chronicle (verb.AtVb n v what) lines said = KindAnswer chronicle n v (vb_kind what) lines said
-LawfulAnswer chronicle (verb.AtClient n c what) lines said = ClientAnswer (chronicle.conn_at n c) what said
+LawfulAnswer chronicle (verb.AtClient n c what) lines said = ClientAnswer (chronicle.conn_at n c) what lines said
 LawfulAnswer chronicle (verb.AtLink l (link_verb.Up wanted)) lines said = IsMoved wanted said
 LawfulAnswer chronicle (verb.AtLink l (link_verb.Down wanted)) lines said = IsTakenDown wanted (back_of chronicle l) (closed_of_dial chronicle (chronicle.dial_of l)) (arm_of_dial chronicle (chronicle.dial_of l)) lines said
 LawfulAnswer chronicle (verb.AtLink l (link_verb.Pump wanted)) lines said = IsPumped wanted lines said

@@ -7,7 +7,6 @@ use Rattle.vb_types.specs.declared.stream.AskAnswer.{AskAnswer}
 use Rattle.vb_types.specs.declared.stream.AskAnswer.TheVariants as ask_answer
 use Rattle.vb_events.specs.declared.event.Event.{Event}
 use Rattle.vb_events.specs.declared.event.Event.TheVariants as event
-use Rattle.vb_events.specs.declared.event.ItemAct.{ItemAct}
 use Rattle.vb_events.specs.declared.event.StreamName.{StreamName}
 use Rattle.vb_events.specs.declared.event.StreamName.TheVariants as name
 use Rattle.vb_types.specs.declared.position.Position.{Position}
@@ -28,19 +27,8 @@ use Rattle.branch_model.specs.Journals.{points}
 use Rattle.durability.specs.Chains.{Members}
 use Rattle.branch_model.specs.Logs.{front, uuid_of, with_entry, kept_to}
 use Rattle.branch_model.specs.Trees.{Branch, grow, hist}
-
--- what an `item` line says of a change
-pub record ItemLine : Type 0 where
-  pub seq : ℕ
-  pub act : ItemAct
-  pub key : List ℕ
-
--- a snapshot that a marker began: its branch's history then, the places that it goes from and to, and the items behind the marker so far
-pub record Begun : Type 0 where
-  pub history : List Change
-  pub from : ℕ
-  pub end : ℕ
-  pub items : List ItemLine
+pub use Rattle.transcript_law.specs.StreamsTold.{Begun, ClientsKnown, ItemLine, blank_client, more_items, with_at, with_id}
+use Rattle.transcript_law.specs.ClientStreams.{clients_line, past_turn, with_clients_of}
 
 -- a stream that was let continue: the request, the producer's failover log, the place up to which snapshots were begun, the last one of them, whether its
 -- end was put, what was put and its consumer did not take yet: the starts and ends of markers, and the items; and up to where its consumer acknowledged, each time
@@ -119,8 +107,8 @@ known_down = record { fuse = Off; out = Old; down = true }
 -- branch that it is on, and its failover log, where that is known; for each branch id, the node and the vBucket that made the branch or took it over
 -- last; for each link that is not over, its dial; for each stream's name and vBucket, the stream; and for each link the point that its last request was
 -- sent back to, until its consumer went back; whether a vBucket changed since it was sealed last, took a marker, got a role or went back;
--- the start and end of the snapshot that it is in, where that is known; what it wrote down; and what counts where it commits; and the connections of
--- clients that are open
+-- the start and end of the snapshot that it is in, where that is known; what it wrote down; and what counts where it commits; the connections of
+-- clients that are open; and what is known of each of them and of its streams
 pub record Chronicle : Type 0 where
   pub tree : List Branch
   pub role_at : ℕ → ℕ → Option (Option Role)
@@ -137,6 +125,7 @@ pub record Chronicle : Type 0 where
   pub counts_at : ℕ → ℕ → CountsKnown
   pub arm_at : ℕ → ArmKnown
   pub conn_at : Conns
+  pub clients_at : ClientsKnown
 
 -- before the first line it is known that there is no vBucket
 abbrev pub empty_chronicle : Chronicle
@@ -156,15 +145,8 @@ empty_chronicle = record {
   counts_at = λ n v. alone;
   arm_at = λ n. no_arm;
   conn_at = λ n c. false;
+  clients_at = λ n c. blank_client;
 }
-
--- a table by nodes and vBuckets, with x for the vBucket v of the node n
-abbrev pub with_at : {A : Type 0} → (ℕ → ℕ → A) → ℕ → ℕ → A → ℕ → ℕ → A
-with_at table n v x = λ m w. if m == n && w == v then x else table m w
-
--- a table by numbers, with x for the number k
-abbrev pub with_id : {A : Type 0} → (ℕ → A) → ℕ → A → ℕ → A
-with_id table k x = λ u. if u == k then x else table u
 
 -- the branch that a new one was made from: the one named, or, where none is and the new one begins above 0, the one that
 -- its vBucket was on
@@ -208,6 +190,7 @@ after_role chronicle n v role = record (uncounted chronicle n v) {
   role_at = with_at chronicle.role_at n v (Some (Some role));
   open_at = with_at chronicle.open_at n v false;
   snap_at = with_at chronicle.snap_at n v (snap_in_role role (chronicle.held n v) (chronicle.snap_at n v));
+  clients_at = with_clients_of chronicle.clients_at n (past_turn v);
 }
 
 -- the changes that a vBucket holds, with one more
@@ -221,6 +204,9 @@ after_change chronicle n v uuid change = record chronicle { tree = grow chronicl
 -- two streams have the same name
 abbrev pub is_name : StreamName → StreamName → Bool
 is_name (name.Link k) (name.Link l) = k == l
+is_name (name.Link k) (name.Client n c) = false
+is_name (name.Client m d) (name.Link l) = false
+is_name (name.Client m d) (name.Client n c) = m == n && d == c
 
 -- the stream of this name at the vBucket v is as this from now on
 abbrev pub with_stream : Chronicle → StreamName → ℕ → Option Granted → Chronicle
@@ -231,9 +217,10 @@ abbrev pub is_dial_of : ℕ → Option Dial → Bool
 is_dial_of v None = false
 is_dial_of v (Some dial) = dial.vb == v
 
--- a line of a stream names no vBucket: that of a link is the one that the link was dialed for
+-- a line of a stream names no vBucket: that of a link is the one that the link was dialed for. Of clients' streams nothing is told here
 abbrev pub is_stream_of : Chronicle → StreamName → ℕ → Bool
 is_stream_of chronicle (name.Link l) v = is_dial_of v (chronicle.dial_of l)
+is_stream_of chronicle (name.Client n c) v = false
 
 -- the stream of this name is changed so
 abbrev pub with_changed : Chronicle → StreamName → (Granted → Granted) → Chronicle
@@ -253,6 +240,7 @@ is_dial_at n (Some dial) = dial.producer == n || dial.node == n
 -- a stream is of a link that has one
 abbrev pub is_stream_at : Chronicle → ℕ → StreamName → Bool
 is_stream_at chronicle n (name.Link l) = is_dial_at n (chronicle.dial_of l)
+is_stream_at chronicle n (name.Client m c) = false
 
 -- a link that ended is between nobody, has no stream, and sends nobody back
 abbrev pub after_end : Chronicle → ℕ → Chronicle
@@ -288,10 +276,6 @@ with_begun tree start end g = record {
   coming = g.coming;
   wrote = g.wrote;
 }
-
--- the snapshot with one more item
-abbrev pub more_items : ItemLine → Begun → Begun
-more_items item b = record { history = b.history; from = b.from; end = b.end; items = b.items ++ item ∷ [] }
 
 -- the stream with one more item of its last snapshot
 abbrev pub with_item : ItemLine → Granted → Granted
@@ -332,6 +316,7 @@ is_dial_for n v (Some dial) = dial.node == n && dial.vb == v
 -- a stream feeds the vBucket v of the node n
 abbrev pub is_feed_of : Chronicle → ℕ → ℕ → StreamName → Bool
 is_feed_of chronicle n v (name.Link l) = is_dial_for n v (chronicle.dial_of l)
+is_feed_of chronicle n v (name.Client m c) = false
 
 -- a vBucket that takes a marker is in its snapshot, and takes the next one of the stream that feeds it
 abbrev pub after_range : Chronicle → ℕ → ℕ → ℕ → ℕ → Chronicle
@@ -406,17 +391,25 @@ abbrev pub roles_from : Bool → (ℕ → ℕ → Option (Option Role)) → ℕ 
 roles_from true roles n v = with_at roles n v (Some (Some Active))
 roles_from false roles n v = roles
 
--- what is told with one more line; a line of another kind tells nothing of branches and streams
+-- a line that tells of clients alone: of their streams, or of a frame for one
+abbrev pub after_client_line : Chronicle → Event → Chronicle
+after_client_line chronicle line = record chronicle { clients_at = clients_line chronicle.tree chronicle.clients_at line }
+
+-- what is told with one more line; a line of another kind tells nothing of branches and of links' streams
 abbrev pub after_line : Chronicle → Event → Chronicle
 after_line chronicle (event.Branch n v uuid parent fork high) = record (after_branch chronicle n v uuid parent fork high) { role_at = roles_from (chronicle.arm_at n).down chronicle.role_at n v }
 after_line chronicle (event.Role n v role) = after_role chronicle n v role
 after_line chronicle (event.Changed n v uuid change) = after_change chronicle n v uuid change
-after_line chronicle (event.Reply n c bytes) = chronicle
-after_line chronicle (event.Closed n c) = chronicle
+after_line chronicle (event.Reply n c bytes) = after_client_line chronicle (event.Reply n c bytes)
+after_line chronicle (event.Closed n c) = after_client_line chronicle (event.Closed n c)
 after_line chronicle (event.Asked (name.Link l) n v ask high log said) = after_ask chronicle l v ask log said
-after_line chronicle (event.Marked stream start end flags) = with_changed chronicle stream (with_begun chronicle.tree start end)
-after_line chronicle (event.Item stream seq act key) = with_changed chronicle stream (with_item (record { seq = seq; act = act; key = key }))
-after_line chronicle (event.Finished stream reason) = with_changed chronicle stream finished
+after_line chronicle (event.Asked (name.Client m c) n v ask high log said) = after_client_line chronicle (event.Asked (name.Client m c) n v ask high log said)
+after_line chronicle (event.Marked (name.Link l) start end flags) = with_changed chronicle (name.Link l) (with_begun chronicle.tree start end)
+after_line chronicle (event.Marked (name.Client m c) start end flags) = after_client_line chronicle (event.Marked (name.Client m c) start end flags)
+after_line chronicle (event.Item (name.Link l) seq act key) = with_changed chronicle (name.Link l) (with_item (record { seq = seq; act = act; key = key }))
+after_line chronicle (event.Item (name.Client m c) seq act key) = after_client_line chronicle (event.Item (name.Client m c) seq act key)
+after_line chronicle (event.Finished (name.Link l) reason) = with_changed chronicle (name.Link l) finished
+after_line chronicle (event.Finished (name.Client m c) reason) = after_client_line chronicle (event.Finished (name.Client m c) reason)
 after_line chronicle (event.Adopted n v log) = after_adopt chronicle n v log
 after_line chronicle (event.Ranged n v ss se) = after_range chronicle n v ss se
 after_line chronicle (event.Got n v stream change) = after_take chronicle n v stream change

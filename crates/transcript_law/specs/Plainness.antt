@@ -1,7 +1,7 @@
 -- what holds of every line of the plain world
-use Rattle.std.specs.Prelude.{◌≡◌, ℕ, Bool, List, [], ◌∷◌, ◌++◌, map, Option, Some, None}
+use Rattle.std.specs.Prelude.{◌≡◌, ℕ, Bool, false, List, [], ◌∷◌, ◌++◌, map, Option, Some, None}
 use Rattle.std.specs.List.{All}
-use Rattle.client_session.specs.Serving.{PlainSession}
+use Rattle.node_core.specs.Clients.{PlainClient}
 use Rattle.script_text.specs.declared.verb.Verb.{Verb}
 use Rattle.script_text.specs.declared.verb.Verb.TheVariants as verb
 use Rattle.script_text.specs.declared.verb.VbVerb.TheVariants as vb_verb
@@ -10,6 +10,7 @@ use Rattle.vb_events.specs.declared.event.Cause.{Cause}
 use Rattle.vb_types.specs.Images.{Picture}
 use Rattle.vb_events.specs.declared.event.Event.{Event}
 use Rattle.vb_events.specs.declared.event.Event.TheVariants as event
+use Rattle.vb_events.specs.declared.event.StreamName.TheVariants as name
 use Rattle.vb_types.specs.declared.change.Act.TheVariants as act
 use Rattle.vb_types.specs.declared.change.Change.{Change}
 use Rattle.vb_types.specs.declared.doc.Doc.{Doc}
@@ -53,9 +54,10 @@ IsTurn n v said lines = lines ≡ event.Role n v said ∷ []
 abbrev pub IsLogged : ℕ → ℕ → List Event → Type 0
 IsLogged n v lines = (log : List LogEntry) × (lines ≡ event.Logged n v log ∷ [])
 
--- a line of a client of the node n: of a change that it made, of an answer to it, or of its connection that closed
+-- a line of a client of the node n: of a change that it made, of a request of it for a stream, of an answer to it, or of its connection that closed
 abbrev pub IsOfClient : ℕ → Event → Type 0
 IsOfClient n (event.Changed m v uuid change) = m ≡ n
+IsOfClient n (event.Asked (name.Client m c) k v ask high log said) = (m ≡ n) × (k ≡ n)
 IsOfClient n (event.Reply m c bytes) = m ≡ n
 IsOfClient n (event.Closed m c) = m ≡ n
 IsOfClient n other = ⊥
@@ -64,14 +66,14 @@ IsOfClient n other = ⊥
 abbrev pub AndClients : ℕ → (List Event → Type 0) → List Event → Type 0
 AndClients n Own lines = (own clients : List Event) × (lines ≡ own ++ clients) × Own own × All (IsOfClient n) clients
 
--- each connection of a node is told as one of its own
-abbrev pub IsOwnIf : ℕ → Option PlainSession → Type 0
-IsOwnIf n None = Unit {0}
-IsOwnIf n (Some session) = session.who.node ≡ n
+-- each connection of a node is told as the one that it is, by its session and by its producer, and is open
+abbrev pub IsOwnIf : ℕ → ℕ → Option PlainClient → Type 0
+IsOwnIf n c None = Unit {0}
+IsOwnIf n c (Some client) = (client.session.who.node ≡ n) × (client.session.who.client ≡ c) × (client.producer.desk.node ≡ n) × (client.producer.desk.stream ≡ name.Client n c) × (client.session.closed ≡ false)
 
 abbrev pub AreOwnIf : ℕ → Option PlainNode → Type 0
 AreOwnIf n None = Unit {0}
-AreOwnIf n (Some node) = (c : ℕ) → IsOwnIf n (node.clients c)
+AreOwnIf n (Some node) = (c : ℕ) → IsOwnIf n c (node.clients c)
 
 -- where a line is answered `ok`, its own lines end so
 abbrev pub IsToldAs : (List Event → Type 0) → Verb → Type 0

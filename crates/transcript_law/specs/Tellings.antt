@@ -12,6 +12,7 @@ use Rattle.script_text.specs.declared.verb.ClientVerb.{ClientVerb}
 use Rattle.script_text.specs.declared.verb.ClientVerb.TheVariants as client_verb
 use Rattle.vb_events.specs.declared.event.Event.{Event}
 use Rattle.vb_events.specs.declared.event.Event.TheVariants as event
+use Rattle.vb_events.specs.declared.event.StreamName.TheVariants as name
 
 -- ---- lines by what they tell of
 
@@ -23,12 +24,21 @@ is_none line = false
 abbrev pub is_any : Event → Bool
 is_any line = true
 
--- clients: a change that they make, an answer to one, or one that is let go
+-- clients: a change that they make, a request of one for a stream, an answer to one, or one that is let go
 abbrev pub is_of_clients : Event → Bool
 is_of_clients (event.Changed n v uuid change) = true
+is_of_clients (event.Asked (name.Client n c) m v ask high log said) = true
 is_of_clients (event.Reply n c bytes) = true
 is_of_clients (event.Closed n c) = true
 is_of_clients other = false
+
+-- a frame of a client's stream that is put: a marker, an item, or the stream's end, and the frame itself
+abbrev pub is_of_pulls : Event → Bool
+is_of_pulls (event.Marked (name.Client n c) start end flags) = true
+is_of_pulls (event.Item (name.Client n c) seq act key) = true
+is_of_pulls (event.Finished (name.Client n c) reason) = true
+is_of_pulls (event.Reply n c bytes) = true
+is_of_pulls other = false
 
 -- the node n went down: a link ended, or one of its clients was let go
 abbrev pub is_of_end : ℕ → Event → Bool
@@ -105,6 +115,7 @@ at_vb n v vb_verb.Show line = is_any line
 
 abbrev pub at_client : ClientVerb → Event → Bool
 at_client (client_verb.Bytes bytes) line = is_of_clients line
+at_client (client_verb.Pull wanted) line = is_of_pulls line
 at_client other line = is_none line
 
 -- bytes and frames of a link tell of what its two ends do, which the law of each such line judges

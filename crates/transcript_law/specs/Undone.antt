@@ -1,9 +1,10 @@
 -- what no line of a script may leave undone
 use Rattle.std.specs.FinMap as finite
 use Rattle.std.specs.List.{list_any}
-use Rattle.std.specs.Prelude.{◌≡◌, ◌≢◌, ℕ, ◌≤◌, ◌<◌, ◌⊎◌, Bool, true, false, List, [], ◌∷◌, ◌++◌, Option, Some, None}
+use Rattle.std.specs.Prelude.{◌≡◌, ◌≢◌, ℕ, ◌≤◌, ◌<◌, ◌⊎◌, Bool, true, false, List, [], ◌∷◌, Some, None}
 use Rattle.script_text.specs.declared.verb.Verb.{Verb}
 use Rattle.script_text.specs.declared.verb.Verb.TheVariants as verb
+use Rattle.script_text.specs.declared.verb.ClientVerb.TheVariants as client_verb
 use Rattle.script_text.specs.declared.verb.LinkVerb.TheVariants as link_verb
 use Rattle.script_text.specs.declared.verb.VbVerb.TheVariants as vb_verb
 use Rattle.vb_events.specs.declared.event.Answer.{Answer}
@@ -20,7 +21,9 @@ use Rattle.vb_types.specs.Histories.{IsIn}
 use Rattle.vb_types.specs.Images.{image_of}
 use Rattle.branch_model.specs.Histories.{last_seq}
 use Rattle.branch_model.specs.Requests.{effective_se}
-use Rattle.transcript_law.specs.LinesTold.{Begun, Chronicle, Dial, Granted, ItemLine, after_lines}
+use Rattle.transcript_law.specs.LinesTold.{Chronicle, Dial, Granted, after_lines}
+use Rattle.transcript_law.specs.LawfulClients.{AllQuiet}
+pub use Rattle.transcript_law.specs.StreamLaws.{EndsThere, IsPutWhole}
 
 -- ---- what is to be written down
 
@@ -34,15 +37,6 @@ NoneToTake chronicle (verb.AtVb n v vb_verb.Take) = AllTaken chronicle n v
 NoneToTake chronicle other = Unit {0}
 
 -- ---- what is to be put on a stream
-
--- the last item that was put of a snapshot is the one at its end
-abbrev pub EndsThere : Begun → Type 0
-EndsThere b = (before : List ItemLine) × (item : ItemLine) × (b.items ≡ before ++ item ∷ []) × (item.seq ≡ b.end)
-
--- of the last snapshot of a stream, if one was begun
-abbrev pub IsPutWhole : Option Begun → Type 0
-IsPutWhole None = Unit {0}
-IsPutWhole (Some b) = EndsThere b
 
 -- no snapshot was begun yet, and a vBucket with this last seqno does not reach the end that the request means
 abbrev pub FallsShort : Granted → ℕ → Type 0
@@ -58,9 +52,10 @@ pub record HasNoMore (chronicle : Chronicle) (n v : ℕ) (g : Granted) : Type 0 
 abbrev pub AllPut : Chronicle → ℕ → Type 0
 AllPut chronicle l = (dial : Dial) (g : Granted) → chronicle.dial_of l ≡ Some dial → chronicle.stream_of (name.Link l) dial.vb ≡ Some g → g.over ≡ false → HasNoMore chronicle dial.producer dial.vb g
 
--- a `pump` that has nothing to put
+-- a `pump` or a `pull` that has nothing to put
 abbrev pub NoneToPut : Chronicle → Verb → Type 0
 NoneToPut chronicle (verb.AtLink l (link_verb.Pump wanted)) = AllPut chronicle l
+NoneToPut chronicle (verb.AtClient n c (client_verb.Pull wanted)) = AllQuiet chronicle n (chronicle.clients_at n c)
 NoneToPut chronicle other = Unit {0}
 
 -- ---- what is to be acknowledged
@@ -94,7 +89,7 @@ is_taking other = false
 
 -- ---- by the answer
 
--- a line with these lines that is answered so, after what was read before it, leaves nothing undone of what it is for: a `take` takes no change only where each was taken; behind a `down` by which a vBucket took something all was acknowledged that is due; and a `pump` is idle only where its stream has no more to put
+-- a line with these lines that is answered so, after what was read before it, leaves nothing undone of what it is for: a `take` takes no change only where each was taken; behind a `down` by which a vBucket took something all was acknowledged that is due; and a `pump` or a `pull` is idle only where its streams have no more to put
 abbrev pub LeavesNone : Chronicle → Verb → List Event → Answer → Type 0
 LeavesNone chronicle asked lines (answer.Number n) = (n ≡ 0 → NoneToTake chronicle asked) × (list_any is_taking lines ≡ true → NoneToAcknowledge (after_lines chronicle lines) asked)
 LeavesNone chronicle asked lines (answer.Pulled n why.Idle) = NoneToPut (after_lines chronicle lines) asked

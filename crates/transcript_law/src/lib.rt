@@ -9,6 +9,7 @@ mod balances;
 mod bound;
 mod branches;
 mod changes;
+mod client_streams;
 mod clients;
 mod closed;
 mod commits;
@@ -31,6 +32,13 @@ pub use balances::{balances_in_numbers, windows_balance};
 pub use bound::{judged_closed_links, judged_down_lines};
 pub use branches::branches_are_followed;
 pub use changes::{judged_casses, judged_next_changes, judged_revisions};
+pub use client_streams::{
+    judged_client_asks, judged_client_ends, judged_client_frames, judged_client_items,
+    judged_client_markers, judged_client_pulls, judged_client_refusals, judged_client_setups,
+    judged_client_spellings, judged_client_statuses, judged_client_stories, judged_client_tellings,
+    judged_client_verdicts, judged_durable_items, judged_fed_clients, judged_plain_markers,
+    judged_untold_frames,
+};
 pub use clients::{judged_client_answers, judged_client_lines, judged_client_stops};
 pub use closed::judged_closed;
 pub use commits::judged_commits;
@@ -47,7 +55,7 @@ pub use judged::{
 pub use kinds::{judged_firing_lines, judged_journal_lines, judged_kinds};
 pub use lawful::{groups_are_lawful, lines_are_known, set_lines_ask};
 pub use steps::plain_lines;
-pub use streams::streams_are_links;
+pub use streams::streams_are_fed;
 pub use tellings::{judged_fed_links, judged_linked_streams, judged_other_lines, judged_own_lines};
 pub use undone::{judged_dues, judged_idle_pumps, judged_lost_batches, judged_takes};
 pub use untold::{judged_mishaps, judged_next_markers, judged_refusals};

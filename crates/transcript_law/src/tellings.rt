@@ -8,7 +8,7 @@ ghost use Rattle.script_text.specs.declared.verb.NodeVerb.TheVariants as node_ve
 ghost use Rattle.script_text.specs.declared.verb.LinkVerb.TheVariants as link_verb;
 ghost use Rattle.script_text.specs.declared.verb.ClientVerb.TheVariants as client_verb;
 ghost use Rattle.transcript_law.specs.ClientRows.{closes};
-ghost use Rattle.transcript_law.specs.Feeding.{LinksAreFed, StreamsAreLinks};
+ghost use Rattle.transcript_law.specs.Feeding.{LinksAreFed, StreamsAreFed};
 ghost use Rattle.transcript_law.specs.FeedingRows.{GoesOn, down, feeding, has_one, has_streams, streaming, streaming_both, two_nodes, up};
 ghost use Rattle.transcript_law.specs.TellingRows.{MayNotTell, batch_at, branches_at, changes_here, ends_at, log_at, replies, stat_at, stops_at, turns_at};
 ghost use Rattle.dcp_producer.specs.Producers.{PlainStream};
@@ -81,11 +81,12 @@ pub fn judged_fed_links()
     ensures twice { (ask : StreamAsk) → LinksAreFed (two_nodes up (has_one role.Replica) (feeding 1 ask ∷ feeding 2 ask ∷ [])) → ⊥ }
 {}
 
-/// The streams of vBuckets are those of links: not of a vBucket's stream that no link has, of a link's that
-/// its vBucket lacks, be it the first that its producer has or the second, and of two links that have one.
+/// The streams of vBuckets are those of links and of clients: not of a vBucket's stream that neither has,
+/// of a link's that its vBucket lacks, be it the first that its producer has or the second, and of two
+/// links that have one.
 pub fn judged_linked_streams()
-    ensures unlinked { (s : Stream) → StreamsAreLinks (two_nodes (has_streams (s ∷ [])) up []) → ⊥ }
-    ensures unopened { (ask : StreamAsk) (stream : PlainStream) → GoesOn stream → StreamsAreLinks (two_nodes (has_streams []) (has_one role.Replica) (streaming 1 ask stream ∷ [])) → ⊥ }
-    ensures second { (ask : StreamAsk) (first stream : PlainStream) → GoesOn stream → StreamsAreLinks (two_nodes (has_streams []) (has_one role.Replica) (streaming_both 1 ask first stream ∷ [])) → ⊥ }
-    ensures shared { (ask : StreamAsk) (stream : PlainStream) → GoesOn stream → (s : Stream) → StreamsAreLinks (two_nodes (has_streams (s ∷ [])) (has_one role.Replica) (streaming 1 ask stream ∷ streaming 2 ask stream ∷ [])) → ⊥ }
+    ensures unlinked { (s : Stream) → StreamsAreFed (two_nodes (has_streams (s ∷ [])) up []) → ⊥ }
+    ensures unopened { (ask : StreamAsk) (stream : PlainStream) → GoesOn stream → StreamsAreFed (two_nodes (has_streams []) (has_one role.Replica) (streaming 1 ask stream ∷ [])) → ⊥ }
+    ensures second { (ask : StreamAsk) (first stream : PlainStream) → GoesOn stream → StreamsAreFed (two_nodes (has_streams []) (has_one role.Replica) (streaming_both 1 ask first stream ∷ [])) → ⊥ }
+    ensures shared { (ask : StreamAsk) (stream : PlainStream) → GoesOn stream → (s : Stream) → StreamsAreFed (two_nodes (has_streams (s ∷ [])) (has_one role.Replica) (streaming 1 ask stream ∷ streaming 2 ask stream ∷ [])) → ⊥ }
 {}

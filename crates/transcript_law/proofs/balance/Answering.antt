@@ -141,7 +141,7 @@ module _ (f : Frame) (small : f.opaque < 2 ^ 32) where
   acknowledged_served seq s = by (is_open s.end.handshake)
     where
       weight : Result ℕ Status
-      weight = weighed seq (fed_stream (stream_at f.vb_or_status s.end.streams)) (member_of s.end.handshake)
+      weight = weighed seq (fed_stream s.end.desk.stream (stream_at f.vb_or_status s.end.streams)) (member_of s.end.handshake)
 
       by : (b : Bool) → Always AnyCall (ServedAs (room_of s.end) s) (if b then count_requested f seq s weight else Done (status_sent f status.Einval s))
       by true = weighed_served seq s weight

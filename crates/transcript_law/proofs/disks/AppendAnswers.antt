@@ -7,7 +7,9 @@ use Rattle.node_core.specs.Admin.{admin_job, admin_refused, noted_answer, promot
 use Rattle.node_world.specs.Arms.{fired_by, fuse_or, lifted, placed, under_arm}
 use Rattle.node_world.specs.Cuts.{closed_at}
 use Rattle.node_world.specs.Power.{after_fire, with_arm}
-use Rattle.node_world.specs.Nodes.{all_posted}
+use Rattle.node_core.specs.Clients.{PlainClient, client_ended}
+use Rattle.node_world.specs.Nodes.{all_posted, with_clients_ended}
+use Rattle.std.specs.Option.{option_map}
 use Rattle.node_world.specs.Turns.{posted_at, posted_in, role_called}
 use Rattle.node_world.specs.World.{Outcome as Came}
 use Rattle.node_world.specs.Worlds.{arm_in}
@@ -179,6 +181,10 @@ abbrev RoleCame : (List Event → Type 0) → Bool → Fuse → (States × Shelv
 RoleCame Tail closed f x v = (((why : Cause) × (x.1.answer ≡ Answer.No why) × IsStanding why) × (x.1.ended ≡ None) × (x.1.events ≡ []))
     ⊎ ((said : Wrote) × NotedBy closed f (fuse_or f (fuse_at x.0.1 v)) said × (said ≡ wrote.NotAsked → ⊥) × (x.1.answer ≡ noted_answer said Answer.Ok) × Tail x.1.events × ((ids : List ℕ) × (x.1.ended ≡ Some ids)))
 
+-- a node with these clients, of which a change of role may have ended streams of the vBucket v
+abbrev pub HasEnded : ℕ → PlainNode → PlainNode → Type 0
+HasEnded v node x = (ids : List ℕ) × ((c : ℕ) → x.clients c ≡ option_map (client_ended v ids) (node.clients c))
+
 module _ (Tail : List Event → Type 0) (closed : Bool) (n v : ℕ) (asked : AdminCall) (job : admin_job n v asked ≡ role_at n v asked) (says : (vb : Plain) → Turns Tail (plain_step vb (admin_call asked)).1 (admin_replied n v asked (plain_step vb (admin_call asked)).1)) where
   -- its role is written down, or could not be
   appended : (f : Fuse) (shelves : Shelves) (reply : VbReply) (states : States) (r : Record) → shut_in (shelves v) ≡ closed → (let told = admin_replied n v asked reply in (told.answer ≡ Answer.Ok) → Tail told.events → ((ids : List ℕ) × (told.ended ≡ Some ids))
@@ -223,10 +229,22 @@ module _ (Tail : List Event → Type 0) (closed : Bool) (n v : ℕ) (asked : Adm
   cut_fuse None w = refl
   cut_fuse (Some link) w = unlinked_fuse link w
 
-  -- nor does it leave another connection of a client
+  -- nor does a change of role, which ends streams of clients too
+  ended_fuse : (ids : List ℕ) (w : PlainWorld) → fuse_in (with_ended n v ids w) n ≡ fuse_in w n
+  ended_fuse ids w = by (w.nodes n) refl
+    where
+      by : (o : Option PlainNode) → w.nodes n ≡ o → (arm_in ((node_if n (with_clients_ended v ids) w o).nodes n)).fuse ≡ fuse_in w n
+      by None e = refl
+      by (Some x) e = ap (λ b. (arm_in (if b then Some (with_clients_ended v ids x) else w.nodes n)).fuse) (eq-eqb n n refl) ∙ ap (λ o. (arm_in o).fuse) (sym e)
+
+  -- nor does the end of a link leave another connection of a client
   abbrev HasClients : PlainNode → Option PlainNode → Type 0
   HasClients node None = Unit {0}
-  HasClients node (Some x) = (c : ℕ) → x.clients c ≡ node.clients c
+  HasClients node (Some x) = HasEnded v node x
+
+  ended_clients : (ids : List ℕ) (node : PlainNode) (w : PlainWorld) (x : PlainNode) → w.nodes n ≡ Some x → ((c : ℕ) → x.clients c ≡ node.clients c) → HasClients node ((with_ended n v ids w).nodes n)
+  ended_clients ids node w x at same = subst (λ o. HasClients node ((node_if n (with_clients_ended v ids) w o).nodes n)) (sym at)
+      (subst (λ b. HasClients node (if b then Some (with_clients_ended v ids x) else w.nodes n)) (sym (eq-eqb n n refl)) (ids, λ c. ap (option_map (client_ended v ids)) (same c)))
 
   unlinked_clients : (node : PlainNode) (link : PlainLink) (w : PlainWorld) → HasClients node (w.nodes n) → HasClients node ((unlinked link w).nodes n)
   unlinked_clients node link w has = by (w.nodes (producer_node link)) refl
@@ -245,7 +263,7 @@ module _ (Tail : List Event → Type 0) (closed : Bool) (n v : ℕ) (asked : Adm
   Ends Posts lines = EndsWith (AndPosts Posts Tail) lines
 
   -- outcomes that are posted behind a line leave the arm
-  posted_came : (Posts : List Event → Type 0) → Posts [] → (w w1 : PlainWorld) (node : PlainNode) → ((rs : List Resolved) (x : PlainNode) → ((c : ℕ) → x.clients c ≡ node.clients c) → Posts (all_posted rs x).1)
+  posted_came : (Posts : List Event → Type 0) → Posts [] → (w w1 : PlainWorld) (node : PlainNode) → ((rs : List Resolved) (x : PlainNode) → HasEnded v node x → Posts (all_posted rs x).1)
       → HasClients node (w1.nodes n) → (cuts lines : List Event) (said : Wrote) (answer : Answer) (rs : List Resolved) → NotedBy closed (fuse_in w n) (fuse_in w1 n) said → (said ≡ wrote.NotAsked → ⊥) → answer ≡ noted_answer said Answer.Ok
       → Tail lines → AppendCame (Ends Posts) closed w n (posted_in n rs (w1, record { events = cuts ++ lines; answer = answer }))
   posted_came Posts none w w1 node posts has cuts lines said answer rs noted asked is tail = by (w1.nodes n) refl
@@ -257,21 +275,21 @@ module _ (Tail : List Event → Type 0) (closed : Bool) (n v : ℕ) (asked : Adm
           let same : fuse_in (with_node_at w1 n x') n ≡ fuse_in w1 n = fuse_here w1 n x' ∙ ap (λ a. a.fuse) (posts_keep rs x).arm ∙ ap (λ o. (arm_in o).fuse) (sym e) in
           inr (said, subst (λ f. NotedBy closed (fuse_in w n) f said) (sym same) noted, asked, is, (cuts, lines ++ told, append_assoc cuts lines told, (lines, told, refl, tail, posts rs x (subst (HasClients node) e has))))
 
-  pub turn_came : (Posts : List Event → Type 0) → Posts [] → (w : PlainWorld) → ((node : PlainNode) → w.nodes n ≡ Some node → (rs : List Resolved) (x : PlainNode) → ((c : ℕ) → x.clients c ≡ node.clients c) → Posts (all_posted rs x).1)
+  pub turn_came : (Posts : List Event → Type 0) → Posts [] → (w : PlainWorld) → ((node : PlainNode) → w.nodes n ≡ Some node → (rs : List Resolved) (x : PlainNode) → HasEnded v node x → Posts (all_posted rs x).1)
       → ShutAgrees closed w n v → AppendCame (Ends Posts) closed w n (role_outcome n v asked w)
   turn_came Posts none w posts shut = by_node (w.nodes n) refl
     where
       Out : PlainWorld × AdminResult → Type 0
       Out x = AppendCame (Ends Posts) closed w n (turned_after n v w x)
 
-      by_ended : (node : PlainNode) → w.nodes n ≡ Some node → (w1 : PlainWorld) → HasClients node (w1.nodes n) → (told : AdminResult) (ended : Option (List ℕ)) → (((why : Cause) × (told.answer ≡ Answer.No why) × IsStanding why) × (ended ≡ None) × (told.events ≡ []))
+      by_ended : (node : PlainNode) → w.nodes n ≡ Some node → (w1 : PlainWorld) (x : PlainNode) → w1.nodes n ≡ Some x → ((c : ℕ) → x.clients c ≡ node.clients c) → (told : AdminResult) (ended : Option (List ℕ)) → (((why : Cause) × (told.answer ≡ Answer.No why) × IsStanding why) × (ended ≡ None) × (told.events ≡ []))
           ⊎ ((said : Wrote) × NotedBy closed (fuse_in w n) (fuse_in w1 n) said × (said ≡ wrote.NotAsked → ⊥) × (told.answer ≡ noted_answer said Answer.Ok) × Tail told.events × ((ids : List ℕ) × (ended ≡ Some ids)))
           → AppendCame (Ends Posts) closed w n (turned_if n v w ended (w1, told))
-      by_ended node known w1 has told None c = ⊎_elim (λ r. inl (r.0.0, r.0.1, r.0.2, unchanged w, r.2)) (λ m. let z = m.5.1 in cc) c
-      by_ended node known w1 has told (Some ids) c = ⊎_elim (λ r. let z = r.1 in cc)
+      by_ended node known w1 x at has told None c = ⊎_elim (λ r. inl (r.0.0, r.0.1, r.0.2, unchanged w, r.2)) (λ m. let z = m.5.1 in cc) c
+      by_ended node known w1 x at has told (Some ids) c = ⊎_elim (λ r. let z = r.1 in cc)
           (λ m. let w2 : PlainWorld = with_ended n v ids w1 in let own = own_link n v w2.links in
-          posted_came Posts none w (cut_off own w2).0 node (posts node known) (cut_clients node own w2 has) (cut_off own w2).1 told.events m.0 told.answer told.resolved
-          (subst (λ f. NotedBy closed (fuse_in w n) f m.0) (sym (cut_fuse own w2)) m.1) m.2 m.3 m.4) c
+          posted_came Posts none w (cut_off own w2).0 node (posts node known) (cut_clients node own w2 (ended_clients ids node w1 x at has)) (cut_off own w2).1 told.events m.0 told.answer told.resolved
+          (subst (λ f. NotedBy closed (fuse_in w n) f m.0) (sym (cut_fuse own w2 ∙ ended_fuse ids w1)) m.1) m.2 m.3 m.4) c
 
       by_off : (node : PlainNode) → w.nodes n ≡ Some node → (b : Bool)
           → (let x : PlainNode × AdminResult = if b then (node, admin_refused Cause.NodeDown) else under_arm v (called_at n v asked) node in Out (with_node_at w n x.0, x.1))
@@ -280,7 +298,7 @@ module _ (Tail : List Event → Type 0) (closed : Bool) (n v : ℕ) (asked : Adm
           let f : Fuse = node.arm.fuse in let x = after_job (admin_job n v asked) node.vbs (arm_over node.shelves v f) in
           let before : fuse_in w n ≡ f = ap (λ o. (arm_in o).fuse) known in
           let node' : PlainNode = lifted v (called (placed v node) x).0 in
-          by_ended node known (with_node_at w n node') (subst (HasClients node) (sym (ap (λ b. if b then Some node' else w.nodes n) (eq-eqb n n refl))) (λ c. refl)) x.1 x.1.ended
+          by_ended node known (with_node_at w n node') node' (ap (λ b. if b then Some node' else w.nodes n) (eq-eqb n n refl)) (λ c. refl) x.1 x.1.ended
           (⊎_elim (λ r. inl r) (λ m. inr (m.0, subst (λ g. NotedBy closed g (fuse_in (with_node_at w n node') n) m.0) (sym before) (subst (λ g. NotedBy closed f g m.0) (sym (fuse_here w n node')) m.1), m.2, m.3, m.4, m.5)) (role_came f node.vbs node.shelves (λ vb e. sym (ap (λ o. shut_in (shelf_in o v)) known) ∙ shut vb (ap (λ o. vb_in o v) known ∙ e))))
 
       by_node : (o : Option PlainNode) → w.nodes n ≡ o → Out (node_outcome w n no_node o (role_called n v asked))

@@ -8,7 +8,7 @@ use Rattle.node_world.specs.{Arms.{fired_by, fuse_or, lifted, placed}, Nodes.{al
 use Rattle.node_world.specs.Power.{burnt_arm, first_no, loaded_node, not_opened, opened_at, opening_told, start_at, start_call, start_causes, start_if, start_one, start_step, started_by, starts_from}
 use Rattle.node_world.specs.declared.arm.Fired.{Fired}
 use Rattle.node_world.specs.declared.arm.Fired.TheVariants as fired
-use Rattle.transcript_law.proofs.disks.AppendAnswers.{AllStand, AndPosts, AppendCame, ShutAgrees, Turns, append_stands_not, fuse_here, fuse_in, not_asked, promotion_turns, refused_came, rest_turns, turn_came, unless_refused_came}
+use Rattle.transcript_law.proofs.disks.AppendAnswers.{AllStand, AndPosts, AppendCame, HasEnded, ShutAgrees, Turns, append_stands_not, fuse_here, fuse_in, not_asked, promotion_turns, refused_came, rest_turns, turn_came, unless_refused_came}
 use Rattle.transcript_law.proofs.{disks.ArmedSteps.{NotedBy, shut_in, step_noted}, disks.Flushed.{flush_came, looked, refused_tells}, invariant.JobSteps.{same_shelf, shelf_found}, verbs.NodeLines.{on_made_by, on_node_by, put_same as put_states}}
 use Rattle.transcript_law.proofs.lines.Refusals.{Anything, IsMade, Same, Says, lifted_same, node_same, refused_says, unchanged}
 use Rattle.transcript_law.specs.Plainness.{IsStanding}
@@ -147,7 +147,7 @@ abbrev pub AnyPosts : List Event → Type 0
 AnyPosts lines = Unit {0}
 
 module _ (Posts : List Event → Type 0) (none : Posts []) (closed : Bool) (w : PlainWorld) (n v : ℕ)
-    (posts : (node : PlainNode) → w.nodes n ≡ Some node → (rs : List Resolved) (x : PlainNode) → ((c : ℕ) → x.clients c ≡ node.clients c) → Posts (all_posted rs x).1) (shut : ShutAgrees closed w n v) where
+    (posts : (node : PlainNode) → w.nodes n ≡ Some node → (rs : List Resolved) (x : PlainNode) → HasEnded v node x → Posts (all_posted rs x).1) (shut : ShutAgrees closed w n v) where
   abbrev Ends : (List Event → Type 0) → List Event → Type 0
   Ends Tail lines = EndsWith (AndPosts Posts Tail) lines
 

@@ -1,8 +1,9 @@
 -- a journal that is kept, after one more append under its node's arm
 use Rattle.std.specs.Prelude.{◌≡◌, ◌<◌, ◌≤◌, ◌^◌, ◌∷◌, if◌then◌else◌}
-use Rattle.transcript_law.proofs.Words.{ℕ, Bool, true, false, List, refl, ap, sym, ◌∙◌, subst, arith, ⊎_elim, Option, Some, None, Answer, Cause, Chronicle, Cluster, Move, Plain, PlainNode, PlainWorld, Role, LogEntry, SoundCluster, with_id}
+use Rattle.transcript_law.proofs.Words.{ℕ, Bool, true, false, List, refl, ap, sym, ◌∙◌, subst, arith, inl, ⊎_elim, Option, Some, None, Answer, Cause, Chronicle, Cluster, Move, Plain, PlainNode, PlainWorld, Role, LogEntry, SoundCluster, with_id}
 use Rattle.transcript_law.proofs.Words.{Member, consumer_node, eq-eqb, eqb-true, happens, is_some, keeps, link_number, ne_eqb, not, producer_node, shelf_in, vb_in, with_node_at}
 use Rattle.std.specs.Prelude.{◌==◌}
+use Rattle.transcript_law.proofs.{invariant.{Carried.{all_there}, Carrying.{SameClients}, ClientsKept.{ConnsKept, Every, clients_kept, goes_same, spot_at}, LinkFeeds.{feeds_same}}, verbs.NodeLines.{clients_again}}
 use Rattle.transcript_law.proofs.{invariant.Agreement.{AgreesAt, AgreesIn, Agrees, Busy, DiskIsIf, IsArm, IsLink, LinksDiffer, Power, PowerIs, PowerIsIf, RestsIn, VbAgrees, VbIsIf, consumer_seat, idle, power_of, producer_seat, shelf_of, top, vb_of, vb_row}, disks.ArmedLines.{ArmedCame}}
 use Rattle.transcript_law.proofs.{disks.Burning.{BreaksUnder, breaks_under, late_bare, quiet_same, stands_under}, invariant.Carried.{branches_again, ids_same, kept_same, link_carried, numbers, places}, invariant.Carrying.{SameOffs, off_of}}
 use Rattle.transcript_law.proofs.{disks.Disks.{FlushIs, Parts, SameParts, ShelfIs, bare, disk_same, parts_of, power_in, same_parts}, invariant.OneLink.{disk_here, disk_there}, invariant.Resting.{ends_off, rests_with}, invariant.Seats.{seat, seats_apart}, invariant.Tables.{at_here, at_there, id_here, id_there}, links.Turning.{put_itself}}
@@ -184,6 +185,7 @@ told_disk r n v told m q k (Some y) apart x = record { kept = x.kept; role = x.r
 -- the journal of the vBucket v of the node n is another, and all else as it was, but for arms
 pub record Renoted (w w' : PlainWorld) (n v : ℕ) (shelf : Shelf) : Type 0 where
   pub offs : SameOffs w w'
+  pub clients : SameClients w w'
   pub vbs : (m q : ℕ) → vb_of w' m q ≡ vb_of w m q
   pub stands : shelf_of w' n v ≡ Some shelf
   pub shelves : (m q : ℕ) → (m ≡ n → q ≡ v → ⊥) → shelf_of w' m q ≡ shelf_of w m q
@@ -232,6 +234,14 @@ module _ (busy : Busy) (w w' : PlainWorld) (r : Chronicle) (arms : ℕ → ArmKn
       (λ m q e. ⊎_elim (λ s. ap (λ k. (r.disk_at k q).there) s.0 ∙ ap (λ k. (r.disk_at n k).there) s.1 ∙ there) (λ o. ap (λ (t : DiskKnown). t.there) (sym (at_there r.disk_at n v told m q o)) ∙ e) (places n v m q))
       (λ x i. ends_off w w' x x same.offs (record { dialed = refl; desk = refl }) (a.ends x (subst (IsLink x) same.linked i)))
 
+  -- clients speak of none of it
+  conns : ConnsKept Every w w' r r'
+  conns = record {
+    conns = λ m d left. same.clients m d;
+    known = λ m d left. refl;
+    opens = λ m d q id left has. goes_same (spot_at w r m q) (spot_at w' r' m q) id (λ i. record { tree = r.tree; on = r.branch_at m q; held = r.held m q; pv = same.vbs m q i });
+  }
+
   -- all agrees, once it is written down
   pub noted_agrees : AgreesIn busy w' r' kept.now
   noted_agrees = record {
@@ -243,6 +253,7 @@ module _ (busy : Busy) (w w' : PlainWorld) (r : Chronicle) (arms : ℕ → ArmKn
         (kept.nodes (consumer_seat x)) (λ p k s e active opened has. (p, same.vbs (producer_node x) x.consumer.dialed.vb ∙ e, active, opened, ap (λ (m : Member). m.br) (kept.nodes (producer_seat x))))
         (a.links x (subst (IsLink x) same.linked i));
     differ = subst LinksDiffer (sym same.linked) a.differ;
+    clients = clients_kept w w' r r' 0 a.clients (all_there busy w r c a) conns (λ l m q id has. inl (feeds_same w w' same.linked l m q id has));
     rests = rests;
   }
 
@@ -253,6 +264,7 @@ pub record Noted (w w' : PlainWorld) (n v : ℕ) (power : Power) (shelf : Shelf)
   pub before : power_of w n ≡ Some power
   pub after : power_of w' n ≡ Some (record power { arm = record power.arm { fuse = left } })
   pub others : (m : ℕ) → (m ≡ n → ⊥) → power_of w' m ≡ power_of w m
+  pub clients : SameClients w w'
   pub vbs : (m q : ℕ) → vb_of w' m q ≡ vb_of w m q
   pub stands : shelf_of w' n v ≡ Some shelf
   pub shelves : (m q : ℕ) → (m ≡ n → q ≡ v → ⊥) → shelf_of w' m q ≡ shelf_of w m q
@@ -314,7 +326,7 @@ module _ (w w' : PlainWorld) (r : Chronicle) (n v : ℕ) (power : Power) (vb : P
       offs m = ⊎_elim (λ e. ap (λ j. off_of (power_of w' j)) e ∙ ap off_of noted.after ∙ ap off_of (sym noted.before) ∙ ap (λ j. off_of (power_of w j)) (sym e)) (λ ne. ap off_of (noted.others m ne)) (numbers m n)
 
       same : Renoted w w' n v shelf'
-      same = record { offs = offs; vbs = noted.vbs; stands = noted.stands; shelves = noted.shelves; uuids = noted.uuids; linked = noted.linked }
+      same = record { offs = offs; clients = noted.clients; vbs = noted.vbs; stands = noted.stands; shelves = noted.shelves; uuids = noted.uuids; linked = noted.linked }
 
       was : PowerIs (r.arm_at n) power
       was = subst (PowerIsIf (r.arm_at n)) noted.before (a.powers n)
@@ -425,6 +437,7 @@ noted_node w n v node shelf left known = record {
   before = ap power_in known;
   after = ap (λ b. power_in (if b then Some node' else w.nodes n)) (eq-eqb n n refl);
   others = λ m ne. ap (λ b. power_in (if b then Some node' else w.nodes m)) (ne_eqb m n ne);
+  clients = clients_again w n node node' known (λ c. refl);
   vbs = λ m q. elim (m == n) as (λ b. (m == n) ≡ b → vb_in (if b then Some node' else w.nodes m) q ≡ vb_in (w.nodes m) q) [ true ↦ λ e. ap (λ o. vb_in o q) (sym (ap w.nodes (eqb-true m n e) ∙ known)) | false ↦ λ e. refl ] refl;
   stands = ap (λ b. shelf_in (if b then Some node' else w.nodes n) v) (eq-eqb n n refl) ∙ ap (λ b. if b then Some shelf else node.shelves v) (eq-eqb v v refl);
   shelves = λ m q o. elim (m == n) as (λ b. (m == n) ≡ b → shelf_in (if b then Some node' else w.nodes m) q ≡ shelf_in (w.nodes m) q) [

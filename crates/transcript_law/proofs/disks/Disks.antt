@@ -2,6 +2,7 @@
 use Rattle.std.specs.Prelude.{◌≡◌, ◌<◌, ◌≤◌, ◌^◌, ◌∷◌, []}
 use Rattle.transcript_law.proofs.Words.{ℕ, Bool, true, false, map, PlainNode, List, Option, Some, None, refl, sym, ap, ◌∙◌, subst, inl, inr, ⊎_elim, Position, Plain, PlainWorld, Spans, all_spans, with_seal, with_change, no_spans, Span, Grown, shelf_in}
 use Rattle.{branch_model.specs.Journals.{cas_of_last, place_of}, cluster_model.specs.Clusters.{Disk, IsSpot, opened}, std.specs.Prelude.{option_map, option_to_list}, vb_calls.specs.Shelves.{Flush, Idle, Out, Written, Shelf, blank_shelf}}
+use Rattle.{node_core.specs.Clients.{PlainClient}, std.specs.Prelude.{option_and_then}, transcript_law.specs.Feeding.{client_in}}
 use Rattle.{disk_journals.specs.Books.{Book}, node_world.specs.declared.arm.Arm.{Arm}, vb_disk.specs.declared.fuse.Fuse.TheVariants.{Off}, vb_types.specs.declared.journal.Record.{Record}}
 use Rattle.vb_types.specs.declared.journal.Record.TheVariants as noted
 use Rattle.{transcript_law.specs.Chronicles.{DiskKnown, Flushing, known_batch}, vb_calls.specs.Spans.{span_position}, vb_calls.specs.declared.span.Origin.{Origin}, vb_types.specs.declared.journal.Batch.{Batch}}
@@ -23,6 +24,35 @@ power_in (Some node) = Some (record { arm = node.arm; off = node.off })
 
 abbrev pub power_of : PlainWorld → ℕ → Option Power
 power_of w n = power_in (w.nodes n)
+
+-- what a node has beside its vBuckets and their journals: that, and its clients' open connections
+pub record Beside : Type 0 where
+  pub power : Power
+  pub clients : ℕ → Option PlainClient
+
+abbrev pub beside_in : Option PlainNode → Option Beside
+beside_in None = None
+beside_in (Some node) = Some (record { power = record { arm = node.arm; off = node.off }; clients = node.clients })
+
+pub beside_power : (o o' : Option PlainNode) → beside_in o' ≡ beside_in o → power_in o' ≡ power_in o
+beside_power None None e = refl
+beside_power None (Some node) e = cc
+beside_power (Some node) None e = cc
+beside_power (Some node) (Some node') e = ap (option_map (λ (b : Beside). b.power)) e
+
+pub beside_by : (o o' : Option PlainNode) → power_in o' ≡ power_in o → ((c : ℕ) → client_in o' c ≡ client_in o c) → beside_in o' ≡ beside_in o
+beside_by None None e clients = refl
+beside_by None (Some node) e clients = let p : Power = record { arm = node.arm; off = node.off } in let z : Some p ≡ None = e in cc
+beside_by (Some node) None e clients = let p : Power = record { arm = node.arm; off = node.off } in let z : None ≡ Some p = e in cc
+beside_by (Some node) (Some node') e clients =
+    let p : Power = record { arm = node.arm; off = node.off } in let q : Power = record { arm = node'.arm; off = node'.off } in let z : Some q ≡ Some p = e in let same : q ≡ p = cc in
+    λ i. Some (record { power = same i; clients = λ c. clients c i })
+
+pub beside_clients : (o o' : Option PlainNode) → beside_in o' ≡ beside_in o → (c : ℕ) → client_in o' c ≡ client_in o c
+beside_clients None None e c = refl
+beside_clients None (Some node) e c = cc
+beside_clients (Some node) None e c = cc
+beside_clients (Some node) (Some node') e c = let own : Option Beside → Option PlainClient = λ o. option_and_then (λ (b : Beside). b.clients c) o in ap own e
 
 -- what of a vBucket its journal speaks of
 pub record Parts : Type 0 where

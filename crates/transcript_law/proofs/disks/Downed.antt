@@ -1,11 +1,12 @@
 -- the links of a node that stops are cut, and what is told of that changes nothing else
 use Rattle.std.specs.Prelude.{◌≡◌, ◌<◌, ◌≤◌, ◌∷◌, ◌++◌, ◌==◌, ◌||◌, if◌then◌else◌, cond}
-use Rattle.transcript_law.proofs.Words.{ℕ, zero, suc, arith, with_id, Bool, true, false, List, [], refl, ap, sym, ◌∙◌, subst, inl, inr, ⊎_elim, Option, Some, None, filter, flat_map, eqb-true, eq-eqb, ne_eqb, Event, StreamName, EndReason}
-use Rattle.transcript_law.proofs.Words.{Cluster, Move, happens, StaysSound, row_at, row_out, PlainLink, link_number, producer_node, PlainNode, PlainWorld, unlinked, Dial, Granted, Chronicle, after_end, after_lines, LawfulFrom}
+use Rattle.transcript_law.proofs.Words.{ℕ, zero, suc, arith, with_id, Bool, true, false, List, [], refl, ap, sym, ◌∙◌, subst, inl, inr, ⊎_elim, Option, Some, None, filter, flat_map, eqb-true, ne_eqb, Event, StreamName, EndReason}
+use Rattle.transcript_law.proofs.Words.{Cluster, Move, happens, StaysSound, row_at, row_out, PlainLink, link_number, producer_node, PlainNode, PlainWorld, unlinked, Dial, Granted, Chronicle, after_end, after_line, after_lines, LawfulFrom}
 use Rattle.node_world.specs.Power.{all_cut, all_unlinked, closed_line, closed_lines, down_lines, end_line, end_lines, has_client, is_this_number, is_touched, touches, all_numbers}
 use Rattle.transcript_law.proofs.{invariant.Agreement.{Agrees, AgreesIn, Busy, DifferFrom, IsLink, LinksDiffer, consumer_seat, idle, producer_seat, vb_of}, disks.ArmedLines.{AreEnds}, lines.Lines.{AreQuiet}}
-use Rattle.transcript_law.proofs.{invariant.Carrying.{BecameOver, SamePowers}, invariant.Carried.{kept_same, link_carried, stays_same, told_of_same}, links.Cutting.{closable, unlinking}, invariant.LinkRows.{differ_in, found_is_link, out_links}, invariant.OneLink.{carries_over}}
-use Rattle.transcript_law.proofs.invariant.Tables.{id_there, ended_there}
+use Rattle.transcript_law.proofs.{invariant.Carrying.{BecameOver, SamePowers}, invariant.Carried.{kept_same, link_carried, stays_same, told_of_same}, links.Cutting.{closable, unlinking}, invariant.LinkRows.{differ_in, found_is_link, out_links, row_found}, invariant.OneLink.{carries_over}}
+use Rattle.transcript_law.proofs.invariant.{Carried.{all_there}, ClientsKept.{all_kept, clients_kept}, Tables.{at_there, id_there, ended_there}}
+use Rattle.transcript_law.specs.StreamsTold.{ClientsKnown, blank_client}
 use Rattle.{disk_journals.specs.Books.{below}, node_world.specs.Power.{numbers}, std.proofs.lemmas.Grind.{flat_map-append}}
 
 -- lines that tell of what ends
@@ -26,11 +27,15 @@ ends_quiet (other ∷ lines) a = absurd a
 abbrev pub with_ends : Chronicle → (ℕ → Option Dial) → (StreamName → ℕ → Option Granted) → (ℕ → Option ℕ) → Chronicle
 with_ends r dials streams points = record r { dial_of = dials; stream_of = streams; point_of = points }
 
--- and tell of dials, streams and points alone
-pub ends_told : (r : Chronicle) (lines : List Event) → AreEnds lines → after_lines r lines ≡ with_ends r (after_lines r lines).dial_of (after_lines r lines).stream_of (after_lines r lines).point_of
+-- and of other clients
+abbrev pub with_known : Chronicle → ClientsKnown → Chronicle
+with_known r clients = record r { clients_at = clients }
+
+-- and tell of dials, streams and points alone, and of clients
+pub ends_told : (r : Chronicle) (lines : List Event) → AreEnds lines → after_lines r lines ≡ with_known (with_ends r (after_lines r lines).dial_of (after_lines r lines).stream_of (after_lines r lines).point_of) (after_lines r lines).clients_at
 ends_told r [] a = refl
 ends_told r (Event.Ended l reason ∷ lines) a = ends_told (after_end r l) lines a
-ends_told r (Event.Closed n c ∷ lines) a = ends_told r lines a
+ends_told r (Event.Closed n c ∷ lines) a = ends_told (after_line r (Event.Closed n c)) lines a
 ends_told r (other ∷ lines) a = absurd a
 
 -- none of them tells of the link k
@@ -62,7 +67,7 @@ past_end dials l (other ∷ lines) a s d = absurd a
 pub ends_lawful : (r : Chronicle) (lines : List Event) → AreEnds lines → AreDialed r.dial_of lines → LawfulFrom r lines
 ends_lawful r [] a d = tt
 ends_lawful r (Event.Ended l reason ∷ lines) a d = (d.0, ends_lawful (after_end r l) lines a (past_end r.dial_of l lines a d.1 d.2))
-ends_lawful r (Event.Closed n c ∷ lines) a d = (tt, ends_lawful r lines a d)
+ends_lawful r (Event.Closed n c ∷ lines) a d = (tt, ends_lawful (after_line r (Event.Closed n c)) lines a d)
 ends_lawful r (other ∷ lines) a d = absurd a
 
 -- all links that they tell of have numbers below this one
@@ -98,8 +103,27 @@ spared k r (Event.Ended l reason ∷ lines) a s =
       stream = λ q. x.stream q ∙ ended_there r l k q s.0;
       point = x.point ∙ id_there r.point_of l None k (λ e. s.0 (sym e));
     }
-spared k r (Event.Closed n c ∷ lines) a s = spared k r lines a s
+spared k r (Event.Closed n c ∷ lines) a s = let x = spared k (after_line r (Event.Closed n c)) lines a s in record { dial = x.dial; stream = x.stream; point = x.point }
 spared k r (other ∷ lines) a s = absurd a
+
+-- only clients of the node n are told closed
+abbrev pub ClosesAt : ℕ → List Event → Type 0
+ClosesAt n [] = Unit {0}
+ClosesAt n (Event.Closed m c ∷ lines) = (m ≡ n) × ClosesAt n lines
+ClosesAt n (other ∷ lines) = ClosesAt n lines
+
+closes_more : (n : ℕ) (lines more : List Event) → AreEnds lines → ClosesAt n lines → ClosesAt n more → ClosesAt n (lines ++ more)
+closes_more n [] more a c d = d
+closes_more n (Event.Ended l reason ∷ lines) more a c d = closes_more n lines more a c d
+closes_more n (Event.Closed m k ∷ lines) more a c d = (c.0, closes_more n lines more a c.1 d)
+closes_more n (other ∷ lines) more a c d = absurd a
+
+-- so nothing is told of those of other nodes
+pub closed_there : (n : ℕ) (r : Chronicle) (lines : List Event) → AreEnds lines → ClosesAt n lines → (m c : ℕ) → (m ≡ n → ⊥) → (after_lines r lines).clients_at m c ≡ r.clients_at m c
+closed_there n r [] a s m c ne = refl
+closed_there n r (Event.Ended l reason ∷ lines) a s m c ne = closed_there n (after_end r l) lines a s m c ne
+closed_there n r (Event.Closed k d ∷ lines) a s m c ne = closed_there n (after_line r (Event.Closed k d)) lines a s.1 m c ne ∙ at_there r.clients_at k d blank_client m c (λ e f. ne (e ∙ s.0))
+closed_there n r (other ∷ lines) a s m c ne = absurd a
 
 -- what is told of a node that stops
 
@@ -112,6 +136,10 @@ flat_spare : (k : ℕ) (f : ℕ → List Event) → ((l : ℕ) → AreEnds (f l)
 flat_spare k f h s [] = tt
 flat_spare k f h s (l ∷ ls) = spare_more k (f l) (flat_map f ls) (h l) (s l) (flat_spare k f h s ls)
 
+flat_closes : (n : ℕ) (f : ℕ → List Event) → ((l : ℕ) → AreEnds (f l)) → ((l : ℕ) → ClosesAt n (f l)) → (ls : List ℕ) → ClosesAt n (flat_map f ls)
+flat_closes n f h s [] = tt
+flat_closes n f h s (l ∷ ls) = closes_more n (f l) (flat_map f ls) (h l) (s l) (flat_closes n f h s ls)
+
 one_end : (n : ℕ) (also : Option ℕ) (links : List PlainLink) (l : ℕ) → AreEnds (end_line n also links l)
 one_end n also links l = elim (is_this_number l also || is_touched n (row_at link_number l links)) as (λ b. AreEnds (if b then Event.Ended l EndReason.Cut ∷ [] else [])) [ true ↦ tt | false ↦ tt ]
 
@@ -120,6 +148,12 @@ one_closed n node c = elim (has_client c node) as (λ b. AreEnds (if b then Even
 
 pub down_ends : (n : ℕ) (also : Option ℕ) (w : PlainWorld) → AreEnds (down_lines n also w)
 down_ends n also w = ends_more (end_lines n also w.links) (closed_lines n (w.nodes n)) (flat_ends (end_line n also w.links) (one_end n also w.links) all_numbers) (flat_ends (closed_line n (w.nodes n)) (one_closed n (w.nodes n)) all_numbers)
+
+-- its own clients are told closed
+pub down_closes : (n : ℕ) (also : Option ℕ) (w : PlainWorld) → ClosesAt n (down_lines n also w)
+down_closes n also w = closes_more n (end_lines n also w.links) (closed_lines n (w.nodes n)) (flat_ends (end_line n also w.links) (one_end n also w.links) all_numbers)
+    (flat_closes n (end_line n also w.links) (one_end n also w.links) (λ l. elim (is_this_number l also || is_touched n (row_at link_number l w.links)) as (λ b. ClosesAt n (if b then Event.Ended l EndReason.Cut ∷ [] else [])) [ true ↦ tt | false ↦ tt ]) all_numbers)
+    (flat_closes n (closed_line n (w.nodes n)) (one_closed n (w.nodes n)) (λ c. elim (has_client c (w.nodes n)) as (λ b. ClosesAt n (if b then Event.Closed n c ∷ [] else [])) [ true ↦ (refl, tt) | false ↦ tt ]) all_numbers)
 
 -- the links of these numbers are dialed, of which an end is told
 module _ (dials : ℕ → Option Dial) (n : ℕ) (also : Option ℕ) (links : List PlainLink) (node : Option PlainNode)
@@ -178,14 +212,6 @@ pub some_free : (l : ℕ) (links : List PlainLink) → ((x : PlainLink) → IsLi
 some_free l links other x i = ne_eqb (link_number x) l (other x i)
 
 -- links by their numbers
-
--- a link of the list is found by its number
-pub row_found : (links : List PlainLink) (link : PlainLink) → LinksDiffer links → IsLink link links → row_at link_number (link_number link) links ≡ Some link
-row_found [] link d i = absurd i
-row_found (x ∷ xs) link d i = ⊎_elim
-    (λ e. ap (λ b. if b then Some x else row_at link_number (link_number link) xs) (eq-eqb (link_number x) (link_number link) (ap link_number (sym e))) ∙ ap Some (sym e))
-    (λ j. ap (λ b. if b then Some x else row_at link_number (link_number link) xs) (ne_eqb (link_number x) (link_number link) (differ_in x link xs d.0 j).number) ∙ row_found xs link d.1 j)
-    i
 
 -- it stays where one of another number is taken out
 out_in : (l : ℕ) (links : List PlainLink) (x : PlainLink) → IsLink x links → (link_number x ≡ l → ⊥) → IsLink x (row_out link_number l links)
@@ -262,13 +288,16 @@ retold w r c dials streams points a still = record {
       link_carried w w r (with_ends r dials streams points) c c x [] [] (λ f e. (f, e, kept_same f)) s.dial (s.stream x.consumer.dialed.vb) s.point refl
       (stays_same (vb_of w (producer_node x) x.consumer.dialed.vb) (c.nodes (producer_seat x)) x) (a.links x i);
   differ = a.differ;
+  clients = clients_kept w w r (with_ends r dials streams points) 0 a.clients (all_there idle w r c a)
+      (all_kept w w r (with_ends r dials streams points) (λ m d. refl) (λ m d. refl) refl (λ n v. refl) (λ n v. refl)) (λ l n v id has. inl has);
   rests = record { powers = a.powers; aways = a.aways; downs = a.downs; ends = a.ends; small = a.small };
 }
 
--- the world in which no link has an end at the node n any more, with what was told of those that had
-pub record Downed (w : PlainWorld) (r' : Chronicle) (n : ℕ) : Type 0 where
+-- the world in which no link has an end at the node n any more, with what was told of those that had; its clients are told closed later
+pub record Downed (w : PlainWorld) (r r' : Chronicle) (n : ℕ) : Type 0 where
   pub cluster : Cluster
-  pub agrees : AgreesIn idle (all_cut n w) r' cluster
+  pub agrees : AgreesIn idle (all_cut n w) (with_known r' r.clients_at) cluster
+  pub others : (m c : ℕ) → (m ≡ n → ⊥) → r'.clients_at m c ≡ r.clients_at m c
   pub apart : (x : PlainLink) → IsLink x (all_cut n w).links → touches n x ≡ false
   pub powers : SamePowers w (all_cut n w)
 
@@ -312,15 +341,16 @@ module _ (stays : StaysSound) (w : PlainWorld) (r : Chronicle) (c : Cluster) (n 
       closed : (l : ℕ) → Spare (link_number x) (closed_line n (w.nodes n) l)
       closed l = elim (has_client l (w.nodes n)) as (λ b. Spare (link_number x) (if b then Event.Closed n l ∷ [] else [])) [ true ↦ tt | false ↦ tt ]
 
-  pub downed : Downed w (after_lines r lines) n
+  pub downed : Downed w r (after_lines r lines) n
   downed =
       let ends : AreEnds lines = down_ends n also w in
       let same = ends_told r lines ends in
       record {
         cluster = were_cut.cluster;
-        agrees = subst (λ q. AgreesIn idle (all_cut n w) q were_cut.cluster) (sym same)
+        agrees = subst (λ q. AgreesIn idle (all_cut n w) q were_cut.cluster) (sym (ap (λ q. with_known q r.clients_at) same))
             (retold (all_cut n w) r were_cut.cluster (after_lines r lines).dial_of (after_lines r lines).stream_of (after_lines r lines).point_of were_cut.agrees
             (λ x i. let s = spared (link_number x) r lines ends (spares x i) in record { dial = s.dial; stream = s.stream; point = s.point }));
+        others = closed_there n r lines ends (down_closes n also w);
         apart = untouched;
         powers = were_cut.powers;
       }

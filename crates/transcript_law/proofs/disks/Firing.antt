@@ -24,9 +24,13 @@ line_arms r (Event.Changed n v uuid change) = refl
 line_arms r (Event.Asked (StreamName.Link l) n v ask high log ask_answer.Go) = refl
 line_arms r (Event.Asked (StreamName.Link l) n v ask high log (ask_answer.Roll to)) = refl
 line_arms r (Event.Asked (StreamName.Link l) n v ask high log (ask_answer.Refuse code)) = refl
-line_arms r (Event.Marked stream start end flags) = refl
-line_arms r (Event.Item stream seq act key) = refl
-line_arms r (Event.Finished stream reason) = refl
+line_arms r (Event.Asked (StreamName.Client m c) n v ask high log said) = refl
+line_arms r (Event.Marked (StreamName.Link l) start end flags) = refl
+line_arms r (Event.Marked (StreamName.Client m c) start end flags) = refl
+line_arms r (Event.Item (StreamName.Link l) seq act key) = refl
+line_arms r (Event.Item (StreamName.Client m c) seq act key) = refl
+line_arms r (Event.Finished (StreamName.Link l) reason) = refl
+line_arms r (Event.Finished (StreamName.Client m c) reason) = refl
 line_arms r (Event.Adopted n v log) = refl
 line_arms r (Event.Ranged n v ss se) = refl
 line_arms r (Event.Got n v stream change) = refl
@@ -206,39 +210,41 @@ rearmed r n arm out = λ i. record (after_crash r n out) { arm_at = λ m. by m (
     by m false = refl
 
 -- what is told of an append, and of what ends
-apart_by : (f : Chronicle → Chronicle) → ((r : Chronicle) (l : ℕ) → f (after_end r l) ≡ after_end (f r) l) → (r : Chronicle) (lines : List Event) → AreEnds lines → f (after_lines r lines) ≡ after_lines (f r) lines
-apart_by f h r [] a = refl
-apart_by f h r (Event.Ended l reason ∷ lines) a = apart_by f h (after_end r l) lines a ∙ ap (λ q. after_lines q lines) (h r l)
-apart_by f h r (Event.Closed n c ∷ lines) a = apart_by f h r lines a
-apart_by f h r (other ∷ lines) a = absurd a
+apart_by : (f : Chronicle → Chronicle) → ((r : Chronicle) (l : ℕ) → f (after_end r l) ≡ after_end (f r) l) → ((r : Chronicle) (n c : ℕ) → f (after_line r (Event.Closed n c)) ≡ after_line (f r) (Event.Closed n c))
+    → (r : Chronicle) (lines : List Event) → AreEnds lines → f (after_lines r lines) ≡ after_lines (f r) lines
+apart_by f h g r [] a = refl
+apart_by f h g r (Event.Ended l reason ∷ lines) a = apart_by f h g (after_end r l) lines a ∙ ap (λ q. after_lines q lines) (h r l)
+apart_by f h g r (Event.Closed n c ∷ lines) a = apart_by f h g (after_line r (Event.Closed n c)) lines a ∙ ap (λ q. after_lines q lines) (g r n c)
+apart_by f h g r (other ∷ lines) a = absurd a
 
 -- of an append of what lines tell that do not tell of what ends
-pub append_noting : (n v : ℕ) (a : Chronicle → Appending) → ((r : Chronicle) (l : ℕ) → a (after_end r l) ≡ a r) → IsNoting n (λ said r. after_append r n v (a r) said)
-append_noting n v a same = record {
+pub append_noting : (n v : ℕ) (a : Chronicle → Appending) → ((r : Chronicle) (l : ℕ) → a (after_end r l) ≡ a r) → ((r : Chronicle) (m c : ℕ) → a (after_line r (Event.Closed m c)) ≡ a r) → IsNoting n (λ said r. after_append r n v (a r) said)
+append_noting n v a same closed = record {
   stops = λ r.
       let d : DiskKnown = broken_by (r.arm_at n).fuse (a r).what ((a r).fails (r.disk_at n v)) in
       sym (rearmed (with_disk r n v d) n (record (r.arm_at n) { fuse = spent calls_of_append (r.arm_at n).fuse }) (r.arm_at n).out);
-  apart = apart_by (λ r. after_append r n v (a r) (answer.No cause.Disk)) (λ r l. ap (λ x. after_append (after_end r l) n v x (answer.No cause.Disk)) (same r l));
+  apart = apart_by (λ r. after_append r n v (a r) (answer.No cause.Disk)) (λ r l. ap (λ x. after_append (after_end r l) n v x (answer.No cause.Disk)) (same r l))
+      (λ r m c. ap (λ x. after_append (after_line r (Event.Closed m c)) n v x (answer.No cause.Disk)) (closed r m c));
   dials = λ r. refl;
 }
 
 -- of this one
 pub this_noting : (n v : ℕ) (a : Appending) → IsNoting n (λ said r. after_append r n v a said)
-this_noting n v a = append_noting n v (λ r. a) (λ r l. refl)
+this_noting n v a = append_noting n v (λ r. a) (λ r l. refl) (λ r m c. refl)
 
 -- of a role
 pub role_noting : (n v : ℕ) (role : Role) → IsNoting n (λ said r. after_noted r n v role said)
-role_noting n v role = append_noting n v (λ r. appending (state_of r n v role)) (λ r l. refl)
+role_noting n v role = append_noting n v (λ r. appending (state_of r n v role)) (λ r l. refl) (λ r m c. refl)
 
 -- of the batch that was taken
 pub save_noting : (n v : ℕ) → IsNoting n (λ said r. after_append r n v (saving (r.disk_at n v)) said)
-save_noting n v = append_noting n v (λ r. saving (r.disk_at n v)) (λ r l. refl)
+save_noting n v = append_noting n v (λ r. saving (r.disk_at n v)) (λ r l. refl) (λ r m c. refl)
 
 -- of a vBucket that is made
 pub made_noting : (n v : ℕ) (role : Role) → IsNoting n (λ said r. after_made r n v role said)
 made_noting n v role = record {
   stops = λ r. (role_noting n v role).stops (with_disk_there r n v (answer.No cause.Disk));
-  apart = apart_by (λ r. after_made r n v role (answer.No cause.Disk)) (λ r l. refl);
+  apart = apart_by (λ r. after_made r n v role (answer.No cause.Disk)) (λ r l. refl) (λ r m c. refl);
   dials = λ r. refl;
 }
 

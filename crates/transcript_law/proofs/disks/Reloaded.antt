@@ -12,6 +12,8 @@ use Rattle.node_world.specs.declared.arm.Arm.{Arm}
 use Rattle.transcript_law.specs.Chronicles.{ArmKnown, after_calls, after_up, disks_of, spent}
 use Rattle.vb_calls.specs.Shelves.{Shelf, blank_shelf, open_shelf}
 use Rattle.vb_types.specs.declared.journal.Record.{Record}
+use Rattle.transcript_law.proofs.invariant.{Carried.{all_there as all_fed}, ClientsKept.{ConnsKept, OfOthers, clients_gone, goes_same, spot_at, spot_same}}
+use Rattle.transcript_law.specs.Feeding.{client_in}
 
 module _ (w : PlainWorld) (r : Chronicle) (c : Cluster) (n : ℕ) (node : PlainNode) (books : List Book) (a : AgreesIn idle w r c) (known : w.nodes n ≡ Some node) (down : node.off ≡ Some books) where
   abbrev count : ℕ
@@ -154,6 +156,14 @@ module _ (w : PlainWorld) (r : Chronicle) (c : Cluster) (n : ℕ) (node : PlainN
       small = a.small;
     }
 
+    -- it has no clients
+    conns : ConnsKept (OfOthers n) w w' r r'
+    conns = record {
+      conns = λ m d ne. ap (λ o. client_in o d) (there m ne);
+      known = λ m d ne. refl;
+      opens = λ m d v id ne has. goes_same (spot_at w r m v) (spot_at w' r' m v) id (spot_same w w' r r' m v refl refl (vb_there m v ne));
+    }
+
     -- the node runs again, and no link has an end at it
     pub reloaded : AgreesIn idle w' r' c
     reloaded = record {
@@ -163,6 +173,7 @@ module _ (w : PlainWorld) (r : Chronicle) (c : Cluster) (n : ℕ) (node : PlainN
       branches = a.branches;
       links = linked;
       differ = a.differ;
+      clients = clients_gone w w' r r' n a.clients (all_fed idle w r c a) conns (λ d. ap (λ o. client_in o d) here) (λ l m v id has. has);
       rests = rests;
     }
 

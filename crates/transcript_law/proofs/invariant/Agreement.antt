@@ -14,6 +14,7 @@ use Rattle.vb_disk.specs.declared.fuse.Fuse.TheVariants.{Off, Stop, Fail}
 use Rattle.mcbp_dcp.specs.declared.message.DcpMsg.TheVariants as msg
 use Rattle.vb_types.specs.declared.stream.AskAnswer.TheVariants as ask_answer
 pub use Rattle.transcript_law.proofs.disks.Disks.{DiskIsIf, Power, book_in, power_of, shelf_of}
+pub use Rattle.transcript_law.proofs.invariant.ClientsTold.{ClientAgrees, ClientsApart, ClientsTold}
 pub use Rattle.transcript_law.proofs.invariant.Holdings.{vb_of, DocFits, ActFits, ChangeFits, MemberAgrees, BranchAgrees, IsWriter, IsWriterIf, Writes, WritesIf, EntryFits, own_history, VbContents, vb_contents, VbRow, vb_row, Keeps, VbTold, VbHeld, VbHolds, VbRowIs, VbAgrees, CountsAre, CountsIf, no_counts, active_counts, counts_if, IsAway, VbIsIf, AgreesAt, all_rise, image_is}
 
 -- the frame of the answer to a request for a stream
@@ -438,6 +439,7 @@ pub record AgreesIn (busy : Busy) (w : PlainWorld) (r : Chronicle) (c : Cluster)
   pub open branches use *
   pub links : (link : PlainLink) → IsLink link w.links → LinkAgrees w r c link (busy (link_number link)).0 (busy (link_number link)).1
   pub differ : LinksDiffer w.links
+  pub clients : ClientsTold w r
   pub rests : RestsIn w r c
   pub open rests use *
 

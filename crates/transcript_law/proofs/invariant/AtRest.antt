@@ -1,28 +1,27 @@
 -- no line leaves a vBucket more to commit
-use Rattle.std.specs.Prelude.{◌≡◌, ◌<◌, ◌∷◌, ◌^◌, if◌then◌else◌}
-use Rattle.transcript_law.proofs.Words.{Outcome, ℕ, List, [], subst, sym, ap, ◌∙◌, refl, Frame, Bool, true, false, not, Option, Some, None, is_some, Cause, Role, Act, Change, Plain, VbCall, VbReply, plain_step, after, after_job, Prog, Done, Job, frame_handled, min}
-use Rattle.transcript_law.proofs.Words.{States, row_at, PlainSession, Told, PlainLink, LinkResult, link_number, consumer_node, up_at, AdminCall, AdminResult, own_link, cut_off, links_ended, called_at, admin_line, with_ended, turned_if, no_node, turned_after}
+use Rattle.std.specs.Prelude.{◌≡◌, ◌∷◌, if◌then◌else◌}
+use Rattle.transcript_law.proofs.Words.{Outcome, ℕ, List, [], subst, sym, ap, ◌∙◌, refl, Frame, Bool, true, false, not, Option, Some, None, is_some, Cause, Role, Act, Change, Plain, VbCall, VbReply, plain_step, after, after_job, Prog, Job, min}
+use Rattle.transcript_law.proofs.Words.{States, row_at, end_closed, Told, PlainLink, LinkResult, link_number, consumer_node, up_at, AdminCall, AdminResult, own_link, cut_off, links_ended, called_at, admin_line, with_ended, turned_if, no_node, turned_after}
 use Rattle.transcript_law.proofs.Words.{role_outcome, PlainNode, PlainWorld, with_node_at, done, refusal, first_cause, refused_or, node_outcome, on_node, with_states}
 use Rattle.transcript_law.proofs.Words.{bytes_if, bytes_at, on_link, vb_in, is_active, is_follower, is_answerable, marker_fits, marked_vb, is_next, quiet_reply, refusal_reply, new_vb, Sound, Chronicle, take}
 use Rattle.transcript_law.proofs.invariant.Agreement.{Agrees, AgreesAt, book_in}
-use Rattle.transcript_law.proofs.invariant.CallsKept.{AllAt, AllIn, InWorld, put_all, ran, ran_job, put_node, on_made_all, on_node_all, unlinked_all, on_link_all, none_at, armed_all, broken_all, unless_all, kept_or}
-use Rattle.transcript_law.proofs.invariant.Ranged.{IsRanged, NodeRanged, NodeRangedIf, kept_ranged, posted_ranged, told_stays_ranged, unlinked_ranged, with_node}
+use Rattle.transcript_law.proofs.invariant.CallsKept.{AllAt, AllIn, InWorld, put_all, ran, ran_job, put_node, on_made_all, on_node_all, unlinked_all, on_link_all, none_at, ended_all, armed_all, broken_all, unless_all, kept_or}
+use Rattle.transcript_law.proofs.invariant.Ranged.{IsRanged, NodeRanged, NodeRangedIf, kept_ranged, posted_ranged, told_stays_ranged, unlinked_ranged, with_ended_ranged, with_node}
 use Rattle.transcript_law.proofs.{disks.Reloaded.{reloaded, so}, invariant.Seats.{seat}, disks.Shelving.{loaded_at, loaded_of}}
-use Rattle.transcript_law.proofs.invariant.TimelyCalls.{Makes, MakesJob, admin_tame, chain_tame, due_tame, flush_tame, peer_tame, served_tame, start_tame, tick_tame}
-use Rattle.client_session.proofs.Keeping.{bytes_go, front_of, outcome_goes}
-use Rattle.client_session.specs.Serving.{Served, bytes_handled, outcome_handled, served}
+use Rattle.transcript_law.proofs.invariant.TimelyCalls.{Makes, MakesJob, admin_tame, chain_tame, closed_makes, due_tame, fed_tame, flush_tame, peer_tame, posted_tame, pull_tame, start_tame, tick_tame}
 use Rattle.disk_journals.specs.{Arms.{opens_all}, Books.{Book}}
 use Rattle.durability.specs.Chains.{Links, Members, is_chain}
 use Rattle.journal_points.specs.Points.{saved}
 use Rattle.node_core.proofs.Conduct.{bytes_follow}
 use Rattle.node_core.specs.Admin.{admin_job, admin_refused}
+use Rattle.node_core.specs.Clients.{PlainClient, client_fed, client_posted, client_pulled}
 use Rattle.node_core.specs.Conduct.{FollowsAt, IsFollowing, KeepsLink, RollsAt}
 use Rattle.node_core.specs.Dials.{dial_due, dial_bytes, untold}
 use Rattle.node_core.specs.Flushing.{chain_changed, flush_at, ticked}
 use Rattle.node_core.specs.Loading.{are_short, loaded_by, start_job, starts_of}
 use Rattle.node_core.specs.Peers.{PeerResult, peer_answered, peer_frames, peer_heard}
 use Rattle.node_world.specs.{Arms.{fired_by, placed, under_arm}, Dues.{due_at, due_in, due_of, is_counted}, Links.{dial_of, frame_up, frames_up, moved_len, peer_of, untold_peer}, Turns.{posted_at, posted_in, role_called, turned}}
-use Rattle.node_world.specs.Nodes.{all_posted, awaiting, chain_line, chain_made, flush_line, is_active_one, posted_if, posted_to, tick_line, vb_made, with_kept}
+use Rattle.node_world.specs.Nodes.{all_posted, awaiting, chain_line, chain_made, flush_line, hang_at, hung_if, is_active_one, posted_if, posted_to, pull_at, pull_if, tick_line, vb_made, with_kept}
 use Rattle.node_world.specs.Power.{burnt_arm, loaded_node, not_opened, start_at, start_causes, start_if, start_one, start_step, started_by, starts_from, with_arm}
 use Rattle.node_world.specs.World.{down_in, down_outcome}
 use Rattle.node_world.specs.Worlds.{on_made}
@@ -32,7 +31,7 @@ use Rattle.node_world.specs.declared.arm.Fired.TheVariants as fired
 use Rattle.node_world.specs.declared.script_node.TheConstants.{MAX_CLIENTS}
 use Rattle.transcript_law.proofs.Words.{eq-eqb, length}
 use Rattle.vb_calls.specs.Following.{completed_act, receive_as, rolled_vb}
-use Rattle.vb_calls.specs.Shelves.{Ask, Shelves}
+use Rattle.vb_calls.specs.Shelves.{Shelves}
 use Rattle.vb_calls.specs.State.{pending_of}
 use Rattle.vb_calls.specs.declared.calls.Resolved.{Resolved}
 use Rattle.vb_calls.specs.declared.calls.VbAnswer.TheVariants as answer
@@ -148,26 +147,34 @@ still_job : {A : Type 0} (one : Job A) (states : States) (shelves : Shelves) →
 still_job one states shelves makes all = ran_job Still IsTimely still_steps (λ id. tt) (λ v made. IsTimely made) (λ v ask. Unit {0}) (λ a. Unit {0}) (λ v made k. k) one states shelves makes all
 
 -- clients
-served_still : (clock : ℕ) → clock < 2 ^ 64 → (piece : List ℕ) (s : Served) (states : States) → AllAt Still states → AllAt Still (after (bytes_handled clock piece s) states).0
-served_still clock small piece s states all = bytes_go (λ (x : States × Served). AllAt Still x.0) clock (λ f states t e p. still_ran (frame_handled clock f (front_of f t)) states (served_tame clock small f (front_of f t)) p) (λ fault states t e p. p) piece s states all all
-
-outcome_still : (clock : ℕ) → clock < 2 ^ 64 → (r : Resolved) (s : Served) (states : States) → AllAt Still states → AllAt Still (after (outcome_handled clock r s) states).0
-outcome_still clock small r s states all = outcome_goes (λ (x : States × Served). AllAt Still x.0) clock (λ f states t e p. still_ran (frame_handled clock f (front_of f t)) states (served_tame clock small f (front_of f t)) p) (λ fault states t e p. p) r s states all (λ a e. all)
-
 pub bytes_still : (n c : ℕ) (bytes : List ℕ) (node : PlainNode) → NodeRanged n node → AllAt Still node.vbs → AllAt Still (bytes_at c bytes node).0.vbs
 bytes_still n c bytes node ranged all = by (node.clients c)
   where
-    by : (o : Option PlainSession) → AllAt Still (bytes_if c bytes node o).0.vbs
+    by : (o : Option PlainClient) → AllAt Still (bytes_if c bytes node o).0.vbs
     by None = all
-    by (Some session) = served_still node.clock ranged.clock bytes (served session []) node.vbs all
+    by (Some client) = still_ran (client_fed node.clock bytes client) node.vbs (fed_tame node.clock ranged.clock bytes client) all
+
+pub pull_still : (n c frames : ℕ) (node : PlainNode) → NodeRanged n node → AllAt Still node.vbs → AllAt Still (pull_at c frames node).0.vbs
+pull_still n c frames node ranged all = by (node.clients c)
+  where
+    by : (o : Option PlainClient) → AllAt Still (pull_if c frames node o).0.vbs
+    by None = all
+    by (Some client) = still_ran (client_pulled frames client) node.vbs (pull_tame frames client) all
+
+pub hang_still : (n c : ℕ) (node : PlainNode) → NodeRanged n node → AllAt Still node.vbs → AllAt Still (hang_at c node).0.vbs
+hang_still n c node ranged all = by (node.clients c)
+  where
+    by : (o : Option PlainClient) → AllAt Still (hung_if c node o).0.vbs
+    by None = all
+    by (Some client) = still_ran (end_closed client.producer) node.vbs (closed_makes IsTimely (λ id. tt) client.producer) all
 
 posted_still : (n : ℕ) (r : Resolved) (node : PlainNode) (o : Option ℕ) → NodeRanged n node → AllAt Still node.vbs → AllAt Still (posted_to r node o).0.vbs
 posted_still n r node None ranged all = all
 posted_still n r node (Some c) ranged all = by (node.clients c)
   where
-    by : (o : Option PlainSession) → AllAt Still (posted_if c r node o).0.vbs
+    by : (o : Option PlainClient) → AllAt Still (posted_if c r node o).0.vbs
     by None = all
-    by (Some session) = outcome_still node.clock ranged.clock r (served session []) node.vbs all
+    by (Some client) = still_ran (client_posted node.clock r client) node.vbs (posted_tame node.clock ranged.clock r client) all
 
 posts_still : (n : ℕ) (rs : List Resolved) (node : PlainNode) → NodeRanged n node → AllAt Still node.vbs → AllAt Still (all_posted rs node).0.vbs
 posts_still n [] node ranged all = all
@@ -175,14 +182,14 @@ posts_still n (r ∷ rs) node ranged all =
     let o : Option ℕ = awaiting node.clients r.waiter MAX_CLIENTS in posts_still n rs (posted_to r node o).0 (posted_ranged n r node o ranged) (posted_still n r node o ranged all)
 
 -- those of a call that left the clock and the connections
-told_still : (n : ℕ) (rs : List Resolved) (node node' : PlainNode) → node'.clock ≡ node.clock → ((c : ℕ) → node'.clients c ≡ node.clients c) → NodeRanged n node → AllAt Still node'.vbs → AllAt Still (all_posted rs node').0.vbs
-told_still n rs node node' clock clients ranged all = posts_still n rs node' (kept_ranged n node node' clock clients ranged) all
+told_still : (n : ℕ) (rs : List Resolved) (node node' : PlainNode) → node'.clock ≡ node.clock → ((c : ℕ) → node'.clients c ≡ node.clients c) → node'.off ≡ node.off → NodeRanged n node → AllAt Still node'.vbs → AllAt Still (all_posted rs node').0.vbs
+told_still n rs node node' clock clients off ranged all = posts_still n rs node' (kept_ranged n node node' clock clients off ranged) all
 
 -- a node's own lines
 pub flush_still : (n v : ℕ) (p : FlushPart) (node : PlainNode) → NodeRanged n node → AllAt Still node.vbs → AllAt Still (flush_line n v p node).0.vbs
 flush_still n v p node ranged all =
     let x = after_job (flush_at n v p) node.vbs node.shelves in
-    told_still n x.1.resolved node (with_kept node x.0) refl (λ c. refl) ranged (still_job (flush_at n v p) node.vbs node.shelves (flush_tame n v p) all)
+    told_still n x.1.resolved node (with_kept node x.0) refl (λ c. refl) refl ranged (still_job (flush_at n v p) node.vbs node.shelves (flush_tame n v p) all)
 
 pub chain_still : (n v : ℕ) (others : Members) (node : PlainNode) → NodeRanged n node → AllAt Still node.vbs → AllAt Still (chain_line n v others node).0.vbs
 chain_still n v others node ranged all = by (not (is_some (node.vbs v))) (not (is_active_one (node.vbs v))) (is_chain n others) refl
@@ -191,7 +198,7 @@ chain_still n v others node ranged all = by (not (is_some (node.vbs v))) (not (i
     made e =
         let links : Links = record { active = n; others = others } in
         let x = after (chain_changed n v links) node.vbs in
-        told_still n x.1.resolved node (with_states node x.0) refl (λ c. refl) ranged (still_ran (chain_changed n v links) node.vbs (chain_tame n v links e) all)
+        told_still n x.1.resolved node (with_states node x.0) refl (λ c. refl) refl ranged (still_ran (chain_changed n v links) node.vbs (chain_tame n v links e) all)
 
     by : (a b c : Bool) → is_chain n others ≡ c → AllAt Still (refused_or (first_cause ((a, cause.UnknownVb) ∷ (b, cause.WrongRole) ∷ (not c, cause.ChainBad) ∷ [])) node (chain_made n v others node)).0.vbs
     by true b c e = all
@@ -201,7 +208,7 @@ chain_still n v others node ranged all = by (not (is_some (node.vbs v))) (not (i
 
 pub tick_still : (n v : ℕ) (node : PlainNode) → NodeRanged n node → AllAt Still node.vbs → AllAt Still (tick_line n v node).0.vbs
 tick_still n v node ranged all =
-    let x = after (ticked n v node.clock) node.vbs in told_still n x.1.resolved node (with_states node x.0) refl (λ c. refl) ranged (still_ran (ticked n v node.clock) node.vbs (tick_tame n v node.clock) all)
+    let x = after (ticked n v node.clock) node.vbs in told_still n x.1.resolved node (with_states node x.0) refl (λ c. refl) refl ranged (still_ran (ticked n v node.clock) node.vbs (tick_tame n v node.clock) all)
 
 pub admin_still : (n v : ℕ) (asked : AdminCall) (node : PlainNode) → AllAt Still node.vbs → AllAt Still (admin_line n v asked node).0.vbs
 admin_still n v asked node all = still_job (admin_job n v asked) node.vbs node.shelves (admin_tame n v asked) all
@@ -211,7 +218,7 @@ frames_still : (n : ℕ) (frames : List Frame) (came : PlainNode × PeerResult) 
 frames_still n [] came ranged all = all
 frames_still n (f ∷ frames) came ranged all =
     let x = after (peer_answered f came.1.peer) came.0.vbs in let states : PlainNode = with_states came.0 x.0 in
-    frames_still n frames (frame_up f came) (told_stays_ranged n x.1.resolved came.0 states refl (λ c. refl) ranged) (told_still n x.1.resolved came.0 states refl (λ c. refl) ranged (still_ran (peer_answered f came.1.peer) came.0.vbs (peer_tame f came.1.peer) all))
+    frames_still n frames (frame_up f came) (told_stays_ranged n x.1.resolved came.0 states refl (λ c. refl) refl ranged) (told_still n x.1.resolved came.0 states refl (λ c. refl) refl ranged (still_ran (peer_answered f came.1.peer) came.0.vbs (peer_tame f came.1.peer) all))
 
 pub up_still : (n wanted : ℕ) (link : PlainLink) (node : PlainNode) → NodeRanged n node → AllAt Still node.vbs → AllAt Still (up_at wanted link node).0.vbs
 up_still n wanted link node ranged all =
@@ -237,13 +244,13 @@ cut_still (Some link) w ranged all = (unlinked_ranged w link ranged, unlinked_al
 turned_still : (n v : ℕ) (before w : PlainWorld) (told : AdminResult) (ended : Option (List ℕ)) → InWorld Still before → IsRanged w → InWorld Still w → InWorld Still (turned_if n v before ended (w, told)).0
 turned_still n v before w told None all ranged now = all
 turned_still n v before w told (Some ids) all ranged now =
-    let cut = cut_still (own_link n v (links_ended n v ids w.links)) (with_ended n v ids w) ranged now in posts_in_still n told.resolved (turned n v told (with_ended n v ids w)) cut.0 cut.1
+    let cut = cut_still (own_link n v (links_ended n v ids w.links)) (with_ended n v ids w) (with_ended_ranged n v ids w ranged) (ended_all Still IsTimely still_steps (λ id. tt) w n v ids now) in posts_in_still n told.resolved (turned n v told (with_ended n v ids w)) cut.0 cut.1
 
 pub role_still : (w : PlainWorld) (n v : ℕ) (asked : AdminCall) → IsRanged w → InWorld Still w → InWorld Still (role_outcome n v asked w).0
 role_still w n v asked ranged all = by (w.nodes n) (ranged n) (all n)
   where
     kept : (node : PlainNode) → NodeRanged n node → NodeRanged n (role_called n v asked node).0
-    kept node r = elim (is_some node.off) as (λ b. let x : PlainNode × AdminResult = if b then (node, admin_refused cause.NodeDown) else under_arm v (called_at n v asked) node in NodeRanged n x.0) [ true ↦ r | false ↦ kept_ranged n node (under_arm v (called_at n v asked) node).0 refl (λ c. refl) r ]
+    kept node r = elim (is_some node.off) as (λ b. let x : PlainNode × AdminResult = if b then (node, admin_refused cause.NodeDown) else under_arm v (called_at n v asked) node in NodeRanged n x.0) [ true ↦ r | false ↦ kept_ranged n node (under_arm v (called_at n v asked) node).0 refl (λ c. refl) refl r ]
 
     still : (node : PlainNode) → AllAt Still node.vbs → AllAt Still (role_called n v asked node).0.vbs
     still node there = elim (is_some node.off) as (λ b. let x : PlainNode × AdminResult = if b then (node, admin_refused cause.NodeDown) else under_arm v (called_at n v asked) node in AllAt Still x.0.vbs)

@@ -1,12 +1,12 @@
 -- what each call of a kind keeps of a vBucket holds of all of a world, through what makes no other call
 use Rattle.std.specs.Prelude.{◌≡◌, ◌∷◌, ◌==◌, if◌then◌else◌}
 use Rattle.transcript_law.proofs.Words.{Outcome, ℕ, List, [], subst, refl, Bool, true, false, Option, Some, None, is_some, Cause, Plain, VbCall, VbReply, plain_step, after, after_job, Prog, Call, Done, Job, Ended, end_closed}
-use Rattle.transcript_law.proofs.Words.{States, with_vb_at, call_at, row_at, Told, PlainLink, LinkResult, link_number, producer_node, node_if, unlinked}
+use Rattle.transcript_law.proofs.Words.{States, with_vb_at, call_at, row_at, Told, PlainLink, LinkResult, link_number, producer_node, node_if, unlinked, with_ended}
 use Rattle.transcript_law.proofs.Words.{PlainNode, PlainWorld, with_node_at, refusal, refused_or, node_outcome, on_node}
 use Rattle.transcript_law.proofs.Words.{with_link, link_outcome, on_link}
 use Rattle.transcript_law.proofs.invariant.TimelyCalls.{Makes, closed_makes}
 use Rattle.node_world.specs.{Arms.{fired_by}, Cuts.{closed_at}}
-use Rattle.node_world.specs.Nodes.{if_up}
+use Rattle.node_world.specs.Nodes.{if_up, with_clients_ended}
 use Rattle.node_world.specs.Power.{after_broken, after_fire, all_cut, all_unlinked, dropped, is_broken_answer, stopped_node, touches, with_arm, with_broken}
 use Rattle.node_world.specs.World.{relinked}
 use Rattle.node_world.specs.Worlds.{arm_in, on_made}
@@ -102,6 +102,10 @@ module _ (P : Plain → Type 0) (kind : VbCall → Type 0) (keeps : (vb : Plain)
       by : (o : Option PlainLink) → InWorld P (link_outcome w l end f o).0
       by None = all
       by (Some link) = at link (w.nodes (end link)) refl (all (end link))
+
+  -- connections whose streams a change of role ended
+  pub ended_all : (w : PlainWorld) (n v : ℕ) (ids : List ℕ) → InWorld P w → InWorld P (with_ended n v ids w)
+  ended_all w n v ids all = elim (w.nodes n) as (λ o. AllIn P o → InWorld P (node_if n (with_clients_ended v ids) w o)) [ None ↦ (λ there. all) | Some node ↦ (λ there. put_node w n (with_clients_ended v ids node) all there) ] (all n)
 
   -- nodes that stop
   pub all_unlinked_all : (links : List PlainLink) (w : PlainWorld) → InWorld P w → InWorld P (all_unlinked links w)

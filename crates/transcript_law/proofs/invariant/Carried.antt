@@ -8,7 +8,7 @@ use Rattle.transcript_law.proofs.invariant.Wholes.{WholeTo}
 use Rattle.transcript_law.proofs.invariant.Agreement.{AckedIs, Keeps, VbTold, own_history, vb_of, ChangeFits, BranchAgrees, CountsIf, WritesIf, VbAgrees, IsAway, AgreesAt, RestsIn, IsLow, kept_stream, spoken, Streaming, Talk, consumer_seat, producer_seat, LinkAgrees, IsLink, Differ, LinksDiffer}
 use Rattle.transcript_law.proofs.{invariant.Agreement.{DiskIsIf, shelf_of, top, Busy, AgreesIn, BranchesAgree, Wants, wants_of, EndsStand, Open, BegunAgrees, items_frames, VbRow, vb_row, vb_contents, VbHeld, idle, DialAgrees}, invariant.Carrying.{SameEnds}}
 use Rattle.transcript_law.proofs.{invariant.Carrying.{ToldOf, TakenOf, FedMember, FeedChanged, BusyBut, StreamsChanged}, invariant.LinkRows.{found_is_link, links_apart, put_links, differ_put}, invariant.Tables.{id_there, ended_there}}
-use Rattle.{dcp_producer.specs.Producers.{Rising}, transcript_law.proofs.invariant.OpenStreams.{AreKept}, transcript_law.specs.Feeding.{HasOpen, IsOpenAt}, vb_events.specs.declared.event.StreamName.TheVariants.{Link}, vb_types.specs.declared.role.Role.TheVariants.{Active}}
+use Rattle.{dcp_producer.specs.Producers.{Rising}, transcript_law.proofs.invariant.OpenStreams.{AreKept}, transcript_law.proofs.invariant.ClientsKept.{ConnsKept, Every, FedAreThere, IsFree, clients_kept, fed_there}, transcript_law.proofs.invariant.LinkFeeds.{feeds_put}, transcript_law.specs.Feeding.{HasFed, HasOpen, IsOpenAt}, vb_events.specs.declared.event.StreamName.TheVariants.{Link}, vb_types.specs.declared.role.Role.TheVariants.{Active}}
 pub use Rattle.std.proofs.lemmas.Bool.{cases_eq as numbers}
 
 -- one place or another
@@ -34,7 +34,7 @@ branches_again {known} {told' = told'} {ids' = ids'} same same_told free a = sub
 
 -- lines that tell nothing of what all agrees on
 pub told_of_same : (l : ℕ) (r : Chronicle) → ToldOf l r r
-told_of_same l r = record { tree = refl; writer_of = λ u. refl; rows = λ n v. refl; arms = λ n. refl; dials = λ j ne. refl; streams = λ k q ne. refl; points = λ k ne. refl }
+told_of_same l r = record { tree = refl; writer_of = λ u. refl; rows = λ n v. refl; arms = λ n. refl; clients = λ n c. refl; dials = λ j ne. refl; streams = λ k q ne. refl; points = λ k ne. refl }
 
 -- the end of a link tells of that link
 pub stream_end_lines : (r : Chronicle) (l : ℕ) → ToldOf l r (after_end r l)
@@ -43,6 +43,7 @@ stream_end_lines r l = record {
   writer_of = λ u. refl;
   rows = λ n v. refl;
   arms = λ n. refl;
+  clients = λ n c. refl;
   dials = λ j ne. id_there r.dial_of l None j (λ e. ne (sym e));
   streams = λ j q ne. ended_there r l j q ne;
   points = λ j ne. id_there r.point_of l None j (λ e. ne (sym e));
@@ -303,6 +304,18 @@ stream_opened w r c link up down a v id has = by a.talk.stands
         let o = t.streams.opens is.2 in
         (o.producer, o.producer_is, o.active, o.opened.0, subst (λ k. stream_at k o.producer.streams ≡ Some o.opened.0) is.1 o.opened.1, sym t.streams.vb_is ∙ is.0)
 
+-- each stream that somebody has open is open at its vBucket
+links_there : (busy : Busy) (w : PlainWorld) (r : Chronicle) (c : Cluster) → AgreesIn busy w r c → (l n v id : ℕ) → HasFed w (Link l) n v id → IsFree id (vb_of w n v) → ⊥
+links_there busy w r c a l n v id (link, is, of) free =
+    let i = (found_is_link l w.links link is).0 in
+    let (p, there, active, s, opened, at) = stream_opened w r c link (busy (link_number link)).0 (busy (link_number link)).1 (a.links link i) v id of.stream in
+    let has : vb_of w n v ≡ Some p = ap (λ k. vb_of w k v) (sym of.producer) ∙ ap (vb_of w (producer_node link)) (sym at) ∙ there in
+    let none : stream_at id p.streams ≡ None = subst (IsFree id) has free in
+    let z : Some s ≡ None = sym opened ∙ none in cc
+
+pub all_there : (busy : Busy) (w : PlainWorld) (r : Chronicle) (c : Cluster) → AgreesIn busy w r c → FedAreThere w
+all_there busy w r c a = fed_there w r a.clients (links_there busy w r c a)
+
 -- its producer's streams have numbers that rise, none above the last that it asked for
 pub link_kept : (w : PlainWorld) (r : Chronicle) (c : Cluster) (link : PlainLink) (up down : List Frame) → LinkAgrees w r c link up down → AreKept link.server
 link_kept w r c link up down a = by a.talk.stands
@@ -343,8 +356,9 @@ pub carried : (busy busy' : Busy) (w w' : PlainWorld) (r r' : Chronicle) (c c' :
     → SoundCluster top c' → BusyBut l busy busy'
     → ((x : PlainLink) → IsLink x w.links → Differ link x → LinkAgrees w' r' c' x (busy (link_number x)).0 (busy (link_number x)).1)
     → ((y : PlainLink) → IsLink y w.links → Differ link y → (v id : ℕ) → HasOpen v id link'.server.streams → HasOpen v id y.server.streams → producer_node link ≡ producer_node y → ⊥)
+    → ConnsKept Every w w' r r' → ((v id : ℕ) → HasOpen v id link'.server.streams → HasOpen v id link.server.streams ⊎ IsFree id (vb_of w (producer_node link) v))
     → RestsIn w' r' c' → LinkAgrees w' r' c' link' (busy' l).0 (busy' l).1 → AgreesIn busy' w' r' c'
-carried busy busy' w w' r r' c c' l link link' a found same vbs disks ctree rtree uuids links sound but others streams rests agrees = record {
+carried busy busy' w w' r r' c c' l link link' a found same vbs disks ctree rtree uuids links sound but others streams conns few rests agrees = record {
   sound = sound;
   vbs = vbs;
   disks = disks;
@@ -353,6 +367,7 @@ carried busy busy' w w' r r' c c' l link link' a found same vbs disks ctree rtre
   links = λ x i. each x (subst (IsLink x) links i);
   differ = subst LinksDiffer (sym links)
       (differ_put l w.links link link' number a.differ (λ y i ne. let d = apart y i ne in differ_ends link link' y same d (streams y i d)) found);
+  clients = clients_kept w w' r r' l a.clients (all_there busy w r c a) conns (feeds_put w w' l link link' a.differ found same links few);
 }
   where
     is_link : IsLink link w.links × (link_number link ≡ l)

@@ -3,7 +3,8 @@ use Rattle.std.specs.Prelude.{◌≡◌, ◌⊎◌}
 use Rattle.transcript_law.proofs.Words.{ℕ, List, Option, Some, None, Plain, stream_at, Sound, row_at, row_put, row_out, Member, Cluster, PlainLink, link_number, producer_node, PlainWorld, Dial}
 use Rattle.{disk_journals.specs.Books.{Book}, node_world.specs.declared.arm.Arm.{Arm}, std.specs.Prelude.{option_map}}
 use Rattle.transcript_law.proofs.{Words.{Chronicle}, invariant.Agreement.{Power, vb_of, power_of, shelf_of, IsLink, LinksDiffer, Busy, vb_row}}
-use Rattle.transcript_law.specs.Feeding.{HasOpen}
+use Rattle.transcript_law.proofs.disks.Disks.{beside_clients, beside_in, beside_power}
+use Rattle.transcript_law.specs.Feeding.{HasOpen, client_in}
 use Rattle.vb_events.specs.declared.event.StreamName.TheVariants.{Link}
 
 -- a link is between the ends that it was between
@@ -12,8 +13,21 @@ pub record SameEnds (before after : PlainLink) : Type 0 where
   pub desk : after.server.desk ≡ before.server.desk
 
 -- the nodes have the arms that they had, and are running or down as they were
+abbrev pub SameArms : PlainWorld → PlainWorld → Type 0
+SameArms w w' = (m : ℕ) → power_of w' m ≡ power_of w m
+
+-- and their clients are as they were too
 abbrev pub SamePowers : PlainWorld → PlainWorld → Type 0
-SamePowers w w' = (m : ℕ) → power_of w' m ≡ power_of w m
+SamePowers w w' = (m : ℕ) → beside_in (w'.nodes m) ≡ beside_in (w.nodes m)
+
+abbrev pub SameClients : PlainWorld → PlainWorld → Type 0
+SameClients w w' = (m c : ℕ) → client_in (w'.nodes m) c ≡ client_in (w.nodes m) c
+
+pub same_arms : (w w' : PlainWorld) → SamePowers w w' → SameArms w w'
+same_arms w w' same m = beside_power (w.nodes m) (w'.nodes m) (same m)
+
+pub same_clients : (w w' : PlainWorld) → SamePowers w w' → SameClients w w'
+same_clients w w' same m = beside_clients (w.nodes m) (w'.nodes m) (same m)
 
 -- whether a node is made, and what is on its disks where it is down
 abbrev pub off_of : Option Power → Option (Option (List Book))
@@ -30,6 +44,7 @@ pub record Rearmed (w w' : PlainWorld) (n : ℕ) (power : Power) (arm : Arm) : T
   pub others : (m : ℕ) → (m ≡ n → ⊥) → power_of w' m ≡ power_of w m
   pub vbs : (m v : ℕ) → vb_of w' m v ≡ vb_of w m v
   pub shelves : (m v : ℕ) → shelf_of w' m v ≡ shelf_of w m v
+  pub clients : SameClients w w'
   pub uuids : w'.uuids ≡ w.uuids
   pub linked : w'.links ≡ w.links
 
@@ -50,6 +65,23 @@ pub record Changed (w w' : PlainWorld) (n v : ℕ) (vb : Plain) (links : List Pl
   pub uuids : w'.uuids ≡ w.uuids
   pub linked : w'.links ≡ links
 
+-- the world with other clients' connections, and all else as it was
+pub record Reconnected (w w' : PlainWorld) : Type 0 where
+  pub powers : SameArms w w'
+  pub vbs : (n v : ℕ) → vb_of w' n v ≡ vb_of w n v
+  pub shelves : (n v : ℕ) → shelf_of w' n v ≡ shelf_of w n v
+  pub uuids : w'.uuids ≡ w.uuids
+  pub linked : w'.links ≡ w.links
+
+-- and with another vBucket v at the node n
+pub record ReconnectedAt (w w' : PlainWorld) (n v : ℕ) (vb : Plain) : Type 0 where
+  pub powers : SameArms w w'
+  pub here : vb_of w' n v ≡ Some vb
+  pub there : (m q : ℕ) → (m ≡ n → q ≡ v → ⊥) → vb_of w' m q ≡ vb_of w m q
+  pub shelves : (m q : ℕ) → (m ≡ n → q ≡ v → ⊥) → shelf_of w' m q ≡ shelf_of w m q
+  pub uuids : w'.uuids ≡ w.uuids
+  pub linked : w'.links ≡ w.links
+
 -- the world with another vBucket v at the node n, and another link of the number l
 abbrev pub Became : PlainWorld → PlainWorld → ℕ → ℕ → Plain → ℕ → PlainLink → Type 0
 Became w w' n v vb l link = Changed w w' n v vb (row_put link_number l link w.links)
@@ -60,6 +92,7 @@ pub record ToldOf (l : ℕ) (r r' : Chronicle) : Type 0 where
   pub writer_of : (u : ℕ) → r'.writer_of u ≡ r.writer_of u
   pub rows : (n v : ℕ) → vb_row r' n v ≡ vb_row r n v
   pub arms : (n : ℕ) → r'.arm_at n ≡ r.arm_at n
+  pub clients : (n c : ℕ) → r'.clients_at n c ≡ r.clients_at n c
   pub dials : (k : ℕ) → (k ≡ l → ⊥) → r'.dial_of k ≡ r.dial_of k
   pub streams : (k q : ℕ) → (k ≡ l → ⊥) → r'.stream_of (Link k) q ≡ r.stream_of (Link k) q
   pub points : (k : ℕ) → (k ≡ l → ⊥) → r'.point_of k ≡ r.point_of k
@@ -74,6 +107,7 @@ pub record TakenOf (l n v : ℕ) (r r' : Chronicle) : Type 0 where
   pub tree : r'.tree ≡ r.tree
   pub writer_of : (u : ℕ) → r'.writer_of u ≡ r.writer_of u
   pub rows : (m q : ℕ) → (m ≡ n → q ≡ v → ⊥) → vb_row r' m q ≡ vb_row r m q
+  pub clients : (m c : ℕ) → r'.clients_at m c ≡ r.clients_at m c
   pub dials : (k : ℕ) → (k ≡ l → ⊥) → r'.dial_of k ≡ r.dial_of k
   pub streams : (k q : ℕ) → (k ≡ l → ⊥) → IsApart n v (r.dial_of k) → r'.stream_of (Link k) q ≡ r.stream_of (Link k) q
   pub points : (k : ℕ) → (k ≡ l → ⊥) → IsApart n v (r.dial_of k) → r'.point_of k ≡ r.point_of k

@@ -2,12 +2,14 @@
 use Rattle.std.specs.Prelude.{◌≡◌, ◌<◌, ◌≤◌, ◌∷◌, ◌++◌, ◌==◌, ◌||◌, if◌then◌else◌}
 use Rattle.transcript_law.proofs.Words.{ℕ, zero, suc, Bool, true, false, List, [], refl, ap, sym, ◌∙◌, subst, ⊎_elim, arith, filter, flat_map, take, eqb-true, eqb-false, cases_lt, Option, Some, None, is_some, Cause, Event, after, after_job}
 use Rattle.transcript_law.proofs.Words.{AdminCall, AdminResult, Frame, LinkResult, PlainLink, PlainNode, PlainWorld, Outcome, Told, VbCall, call_at, called_at, consumer_node, cut_off, done, empty_world, link_number, moved_len}
-use Rattle.transcript_law.proofs.Words.{no_node, node_if, node_outcome, on_link, on_node, own_link, peer_of, producer_node, refused_or, role_outcome, row_at, turned_after, turned_if, unlinked, up_at, with_ended, with_node_at, with_states}
+use Rattle.transcript_law.proofs.Words.{no_node, node_if, node_outcome, on_link, on_node, own_link, peer_of, producer_node, refused_or, role_outcome, row_at, turned_after, turned_if, unlinked, up_at, links_ended, with_ended, with_links, with_node_at, with_states}
 use Rattle.disk_journals.specs.{Books.{below}}
 use Rattle.node_core.specs.{Admin.{admin_job, admin_refused, role_at}, Flushing.{flush_at, settled_result}, Peers.{PeerResult, peer_answered, peer_frames, peer_heard}}
+use Rattle.node_core.specs.Clients.{PlainClient, client_ended}
+use Rattle.std.specs.Option.{option_map}
 use Rattle.node_world.specs.Arms.{fired_by, placed, under_arm}
 use Rattle.node_world.specs.{Cuts.{closed_at}, Links.{frame_up, frames_up, frame_posted, untold_peer}, Turns.{posted_at, posted_in, role_called, turned}, World.{down_outcome, relinked}, Worlds.{arm_in, on_made}}
-use Rattle.node_world.specs.Nodes.{all_posted, flush_line, save_line, with_kept, with_posts}
+use Rattle.node_world.specs.Nodes.{all_posted, flush_line, save_line, with_clients_ended, with_kept, with_posts}
 use Rattle.node_world.specs.Power.{after_broken, after_fire, all_cut, all_numbers, all_unlinked, closed_line, closed_lines, disk_end, down_lines, dropped, end_line, end_lines, has_client, is_broken_answer, is_this_number, is_touched, numbers, stopped_node, touches, with_arm, with_broken}
 use Rattle.node_world.specs.declared.arm.Fired.{Fired}
 use Rattle.node_world.specs.declared.arm.Fired.TheVariants as fired
@@ -15,7 +17,7 @@ use Rattle.std.proofs.lemmas.Grind.{flat_map-append}
 use Rattle.transcript_law.proofs.invariant.ClientNodes.{NodeGoes, NodeTold, goes_more, mute_goes, none_told, same_told, told_goes}
 use Rattle.transcript_law.proofs.invariant.Tables.{at_here, at_there}
 use Rattle.transcript_law.proofs.lines.Heard.{AllSay, AreMute, HeardFrom, all_heard, conns_more, mute_each, mute_same, mute_say, row_there, say_heard, say_more}
-use Rattle.transcript_law.proofs.lines.{Calm.{either}, LinkLines.{peer_mute}}
+use Rattle.transcript_law.proofs.lines.{Calm.{either}, LinkLines.{peer_mute}, SessionLines.{IsKept}}
 use Rattle.transcript_law.proofs.verbs.AdminLines.{flush_mute, role_mute, settled_mute}
 use Rattle.transcript_law.proofs.verbs.NodeLines.{on_link_by, on_made_by, on_node_by}
 use Rattle.transcript_law.specs.Chronicles.{Conns, conns_lines, with_at}
@@ -157,6 +159,19 @@ posts_in_go conns n rs o mute are = by (o.0.nodes n) refl
         let g = told_goes conns n rs node o.1.events mute (told_at o.0 conns n node e are) in
         (g.says, put_goes o.0 conns n (all_posted rs node).0 (o.1.events ++ (all_posted rs node).1) are g)
 
+-- connections whose streams a change of role ended are those that they were
+ended_are : (conns : Conns) (w : PlainWorld) (n v : ℕ) (ids : List ℕ) → ConnsAre w conns → ConnsAre (with_ended n v ids w) conns
+ended_are conns w n v ids are = by (w.nodes n) (are n)
+  where
+    one : (c : ℕ) (o : Option PlainClient) → IsKept n c o → (is_some (option_map (client_ended v ids) o) ≡ is_some o) × IsKept n c (option_map (client_ended v ids) o)
+    one c None k = (refl, tt)
+    one c (Some client) k = (refl, (record { node = k.0.node; number = k.0.number; stream = k.0.stream; desk = k.0.desk }, k.1))
+
+    by : (o : Option PlainNode) → NodeToldIf (conns n) n o → ConnsAre (with_links (node_if n (with_clients_ended v ids) w o) (links_ended n v ids w.links)) conns
+    by None t = are
+    by (Some node) t = put_same w conns n (with_clients_ended v ids node) are
+        (record { told = λ c. t.told c ∙ sym (one c (node.clients c) (t.kept c)).0; kept = λ c. (one c (node.clients c) (t.kept c)).1; small = t.small; down = t.down })
+
 pub role_goes : (conns : Conns) (w : PlainWorld) (n v : ℕ) (asked : AdminCall) → admin_job n v asked ≡ role_at n v asked → ConnsAre w conns → Goes conns (role_outcome n v asked w)
 role_goes conns w n v asked job are = by (w.nodes n) refl
   where
@@ -167,9 +182,12 @@ role_goes conns w n v asked job are = by (w.nodes n) refl
         w2 : PlainWorld
         w2 = with_ended n v ids w1
 
+        still : ConnsAre w2 conns
+        still = ended_are conns w1 n v ids now
+
         cut : (o : Option PlainLink) → AreMute ((cut_off o w2).1 ++ told.events) × ConnsAre (cut_off o w2).0 conns
-        cut None = (mute, now)
-        cut (Some link) = ((tt, mute), unlinked_are w2 conns link now)
+        cut None = (mute, still)
+        cut (Some link) = ((tt, mute), unlinked_are w2 conns link still)
 
     called : (node : PlainNode) → NodeTold (conns n) n node → AreMute (role_called n v asked node).1.events × NodeTold (conns n) n (role_called n v asked node).0
     called node t = elim (is_some node.off) as (λ b. let x : PlainNode × AdminResult = if b then (node, admin_refused Cause.NodeDown) else under_arm v (called_at n v asked) node in AreMute x.1.events × NodeTold (conns n) n x.0) [

@@ -1,26 +1,26 @@
 -- after each line the connections of clients that the lines tell open are those of the nodes, and each line of a client is of one of them
-use Rattle.std.specs.Prelude.{◌≡◌, ◌<◌, ◌∷◌, if◌then◌else◌}
-use Rattle.transcript_law.proofs.Words.{ℕ, Bool, true, false, List, [], refl, ap, sym, ◌∙◌, subst, Option, Some, None, is_some, Answer, Cause, Event, Role, Verb, VbVerb, NodeVerb, LinkVerb, ClientVerb, VerbFits, after}
-use Rattle.transcript_law.proofs.Words.{AdminCall, PlainLink, PlainNode, PlainSession, PlainWorld, Outcome, Told, VbCall, admin_line, ask_in, bytes_at, called_at, client_at, clock_at, consumer_node, cut_outcome, done, empty_node, bytes_if, first_cause, hang_at, link_causes, link_number, new_session}
+use Rattle.std.specs.Prelude.{◌≡◌, ◌<◌, ◌∷◌, ◌==◌, if◌then◌else◌}
+use Rattle.transcript_law.proofs.Words.{ℕ, Bool, true, false, List, [], refl, ap, sym, ◌∙◌, subst, Option, Some, None, is_some, Cause, Event, Role, Verb, VbVerb, NodeVerb, LinkVerb, ClientVerb, VerbFits, after}
+use Rattle.transcript_law.proofs.Words.{AdminCall, PlainLink, PlainNode, PlainWorld, States, Outcome, Told, VbCall, admin_line, ask_in, bytes_at, called_at, client_at, clock_at, consumer_node, cut_outcome, done, empty_node, bytes_if, first_cause, hang_at, link_causes, link_number}
 use Rattle.transcript_law.proofs.Words.{node_causes, node_outcome, on_link, on_node, own_link, producer_node, promote_causes, promote_step, pump_at, refusal, refused_or, replica_at, replica_causes, role_outcome, row_at, turn_causes, turn_step, up_at, vb_at, vb_causes, verb_step, with_client, with_dialed, with_links, with_node_at, with_states}
-use Rattle.client_session.specs.Serving.{served}
+use Rattle.dcp_producer.specs.Ending.{end_closed}
+use Rattle.node_core.specs.Clients.{ClientPulled, PlainClient, client_fed, client_pulled, new_client}
 use Rattle.node_core.specs.{Admin.{admin_job, role_at}, Dials.{dial_due}}
 use Rattle.node_world.specs.Arms.{fail_arm, stop_arm}
 use Rattle.node_world.specs.{Dues.{due_at, due_in, due_of, is_counted}, Links.{dial_of}, World.{base_of, client_verb_at, down_in}, Worlds.{on_made}}
-use Rattle.node_world.specs.Nodes.{arm_at, chain_causes, chain_line, chain_made, flush_line, if_up, save_line, tick_line, vb_made}
+use Rattle.node_world.specs.Nodes.{arm_at, chain_causes, chain_line, chain_made, flush_line, hung_if, if_up, pull_at, pull_if, save_line, tick_line, vb_made}
 use Rattle.node_world.specs.Power.{crash_causes, down_lines, dropped, start_at, start_causes}
-use Rattle.transcript_law.proofs.invariant.ClientNodes.{IsKept, NodeGoes, NodeTold, mute_goes, none_told, put_told, runs_with, same_told, session_goes}
-use Rattle.transcript_law.proofs.lines.Heard.{AreMute, HeardFrom, conns_more, mute_same, mute_say, row_here, row_there, say_more}
-use Rattle.transcript_law.proofs.lines.{LinkLines.{down_mute, due_mute, pump_mute}, SessionLines.{served_at}}
+use Rattle.transcript_law.proofs.invariant.ClientNodes.{NodeGoes, NodeTold, mute_goes, none_told, put_goes_on, put_told, runs_with, same_told, session_goes}
+use Rattle.transcript_law.proofs.lines.Heard.{AreMute, HeardFrom, conns_more, mute_same, mute_say, put_same as row_same, row_here, row_there, say_more}
+use Rattle.transcript_law.proofs.lines.{LinkLines.{down_mute, due_mute, pump_mute}, PullTold.{PullTold, pull_told}, SessionLines.{IsKept, fed_at}}
 use Rattle.transcript_law.proofs.verbs.AdminLines.{branch_mute, kept_mute}
 use Rattle.transcript_law.proofs.verbs.NodeLines.{on_node_by}
 use Rattle.transcript_law.specs.Chronicles.{Conns, conns_lines, conns_verb, with_at}
 use Rattle.transcript_law.specs.Clients.{ClientAnswer, IsCrashed}
 use Rattle.vb_disk.specs.declared.made.Outcome.{Outcome as Left}
 use Rattle.vb_types.specs.declared.journal.FlushPart.TheVariants as part
-use Rattle.transcript_law.proofs.Words.{bytes_handled}
 use Rattle.transcript_law.proofs.invariant.ClientWorlds.{Came, ConnsAre, Goes, NodeToldIf, armed, came, crash_came, down_came, down_say, flush_goes, made, on, over, put_node, put_same, role_goes, save_goes, settled_goes, stays, told_at, unless, unless_node, unlinked_are, up_goes}
-use Rattle.transcript_law.proofs.invariant.ClientStarts.{start_came}
+use Rattle.transcript_law.proofs.invariant.{ClientStarts.{start_came}, Ranged.{pull_kept}}
 
 unless_came : (conns : Conns) (w : PlainWorld) (o : Outcome) (why : Option Cause) → ConnsAre w conns → Came conns o → Came conns (refused_or why w o)
 unless_came conns w o None are g = g
@@ -57,18 +57,48 @@ due_goes conns n v o g = by (is_counted o.1.answer)
 bytes_go : (conns : Conns) (n c : ℕ) (bytes : List ℕ) (node : PlainNode) → NodeTold (conns n) n node → NodeGoes conns n (bytes_at c bytes node).0 (bytes_at c bytes node).1.events
 bytes_go conns n c bytes node t = by (node.clients c) refl
   where
-    by : (o : Option PlainSession) → node.clients c ≡ o → NodeGoes conns n (bytes_if c bytes node o).0 (bytes_if c bytes node o).1.events
+    by : (o : Option PlainClient) → node.clients c ≡ o → NodeGoes conns n (bytes_if c bytes node o).0 (bytes_if c bytes node o).1.events
     by None e = mute_goes conns n node [] tt t
-    by (Some session) e =
-        let kept : IsKept n c (Some session) = subst (IsKept n c) e (t.kept c) in
-        session_goes conns n c node session (after (bytes_handled node.clock bytes (served session [])) node.vbs) e (runs_with (conns n) n c node session e t) t (served_at n c node.clock session node.vbs kept.0 kept.1 kept.2 bytes)
+    by (Some client) e =
+        let kept : IsKept n c (Some client) = subst (IsKept n c) e (t.kept c) in
+        session_goes conns n c node client (after (client_fed node.clock bytes client) node.vbs) e (runs_with (conns n) n c node client e t) t (fed_at n c node.clock client node.vbs kept bytes)
+
+-- frames of its streams
+pull_goes : (conns : Conns) (n c frames : ℕ) (node : PlainNode) → NodeTold (conns n) n node → NodeGoes conns n (pull_at c frames node).0 (pull_at c frames node).1.events
+pull_goes conns n c frames node t = by (node.clients c) refl
+  where
+    by : (o : Option PlainClient) → node.clients c ≡ o → NodeGoes conns n (pull_if c frames node o).0 (pull_if c frames node o).1.events
+    by None e = mute_goes conns n node [] tt t
+    by (Some client) e = put_goes_on conns n c node' x.1.events opened put.0 (subst (λ (u : ℕ → Bool). NodeTold u n node') here
+        (put_told (conns n) n c true (Some x.1.client) (with_states node x.0) refl now (λ z. t.small c opened) (runs_with (conns n) n c node client e t) (same_told (conns n) n node (with_states node x.0) (λ d. refl) refl t)))
+      where
+        kept : IsKept n c (Some client)
+        kept = subst (IsKept n c) e (t.kept c)
+
+        x : States × ClientPulled
+        x = after (client_pulled frames client) node.vbs
+
+        node' : PlainNode
+        node' = with_client (with_states node x.0) c (Some x.1.client)
+
+        opened : conns n c ≡ true
+        opened = t.told c ∙ ap is_some e
+
+        put : PullTold n c frames (record { events = x.1.events; answer = x.1.answer })
+        put = pull_told n c frames client node.vbs kept
+
+        now : IsKept n c (Some x.1.client)
+        now = pull_kept n c frames client node.vbs kept
+
+        here : (λ d. if d == c then true else conns n d) ≡ conns n
+        here = sym (row_here conns n c true) ∙ ap (λ (u : Conns). u n) (row_same conns n c true opened)
 
 -- what a line tells behind its lines counts here
 abbrev CameTo : Conns → Verb → Outcome → Type 0
 CameTo conns line o = HeardFrom conns o.1.events × ConnsAre o.0 (conns_verb (conns_lines conns o.1.events) line o.1.answer)
 
 -- a connection is put, and told so by the line
-put_came : (conns : Conns) (w : PlainWorld) (n c : ℕ) (b : Bool) (o : Option PlainSession) (node : PlainNode) → b ≡ is_some o → IsKept n c o → (b ≡ true → c < 1000) → is_some node.off ≡ false → ConnsAre w conns → NodeTold (conns n) n node
+put_came : (conns : Conns) (w : PlainWorld) (n c : ℕ) (b : Bool) (o : Option PlainClient) (node : PlainNode) → b ≡ is_some o → IsKept n c o → (b ≡ true → c < 1000) → is_some node.off ≡ false → ConnsAre w conns → NodeTold (conns n) n node
     → ConnsAre (with_node_at w n (with_client node c o)) (with_at conns n c b)
 put_came conns w n c b o node is kept low up are t = put_node w conns (with_at conns n c b) n (with_client node c o) are
     (subst (λ (u : ℕ → Bool). NodeTold u n (with_client node c o)) (sym (row_here conns n c b)) (put_told (conns n) n c b o node is kept low up t)) (λ m ne. row_there conns n c b m ne)
@@ -79,22 +109,24 @@ open_came conns w n base c low are = on_node_by (CameTo conns line) w n (client_
     line : Verb
     line = Verb.AtClient n c ClientVerb.Open
 
-    fresh : PlainSession
-    fresh = new_session (record { node = n; client = c; base = base })
+    fresh : PlainClient
+    fresh = new_client (record { node = n; client = c; base = base })
 
     by : (node : PlainNode) → w.nodes n ≡ Some node → is_some node.off ≡ false → (b : Bool) → (let x : PlainNode × Told = if b then (node, refusal Cause.LinkOpen) else (with_client node c (Some fresh), done []) in CameTo conns line (with_node_at w n x.0, x.1))
     by node e up true = (tt, put_same w conns n node are (told_at w conns n node e are))
-    by node e up false = (tt, put_came conns w n c true (Some fresh) node refl (refl, refl, refl) (λ z. low) up are (told_at w conns n node e are))
+    by node e up false = (tt, put_came conns w n c true (Some fresh) node refl (record { node = refl; number = refl; stream = refl; desk = refl }, refl) (λ z. low) up are (told_at w conns n node e are))
 
 hang_came : (conns : Conns) (w : PlainWorld) (n c : ℕ) → ConnsAre w conns → CameTo conns (Verb.AtClient n c ClientVerb.Hang) (on_node w n (hang_at c))
-hang_came conns w n c are = on_node_by (CameTo conns line) w n (hang_at c) (tt, are) (λ node e. (tt, put_same w conns n node are (told_at w conns n node e are))) (λ node e up. by node e up (is_some (node.clients c)))
+hang_came conns w n c are = on_node_by (CameTo conns line) w n (hang_at c) (tt, are) (λ node e. (tt, put_same w conns n node are (told_at w conns n node e are))) (λ node e up. by node e up (node.clients c))
   where
     line : Verb
     line = Verb.AtClient n c ClientVerb.Hang
 
-    by : (node : PlainNode) → w.nodes n ≡ Some node → is_some node.off ≡ false → (b : Bool) → (let x : PlainNode × Told = if b then (with_client node c None, done []) else (node, refusal Cause.LinkClosed) in CameTo conns line (with_node_at w n x.0, x.1))
-    by node e up true = (tt, put_came conns w n c false None node refl tt (λ z. cc) up are (told_at w conns n node e are))
-    by node e up false = (tt, put_same w conns n node are (told_at w conns n node e are))
+    by : (node : PlainNode) → w.nodes n ≡ Some node → is_some node.off ≡ false → (o : Option PlainClient) → (let x : PlainNode × Told = hung_if c node o in CameTo conns line (with_node_at w n x.0, x.1))
+    by node e up None = (tt, put_same w conns n node are (told_at w conns n node e are))
+    by node e up (Some client) =
+        let closed : PlainNode = with_states node (after (end_closed client.producer) node.vbs).0 in
+        (tt, put_came conns w n c false None closed refl tt (λ z. cc) up are (same_told (conns n) n node closed (λ d. refl) refl (told_at w conns n node e are)))
 
 -- ---- each line of a script
 
@@ -124,6 +156,7 @@ module _ (conns : Conns) (w : PlainWorld) (number : ℕ) (are : ConnsAre w conns
       unless_node conns n node (chain_made n v others node) (first_cause (chain_causes n v others node)) t (settled_goes conns n v (VbCall.Chain (record { active = n; others = others })) node t)))
   line_heard (Verb.AtClient n c ClientVerb.Open) fits = open_came conns w n (base_of number) c fits.1 are
   line_heard (Verb.AtClient n c (ClientVerb.Bytes bytes)) fits = came conns (verb_step w number (Verb.AtClient n c (ClientVerb.Bytes bytes))) (on conns w n (bytes_at c bytes) are (λ node t. bytes_go conns n c bytes node t))
+  line_heard (Verb.AtClient n c (ClientVerb.Pull frames)) fits = came conns (verb_step w number (Verb.AtClient n c (ClientVerb.Pull frames))) (on conns w n (pull_at c frames) are (λ node t. pull_goes conns n c frames node t))
   line_heard (Verb.AtClient n c ClientVerb.Hang) fits = hang_came conns w n c are
   line_heard (Verb.AtNode n (NodeVerb.Clock nanos)) fits = came conns (verb_step w number (Verb.AtNode n (NodeVerb.Clock nanos))) (on conns w n (clock_at nanos) are (λ node t. stays conns n node (clock_at nanos node).0 [] tt (λ c. refl) refl t))
   line_heard (Verb.Link l m n v buffer) fits = came conns (verb_step w number (Verb.Link l m n v buffer)) (unless conns w (with_links w (with_dialed number l m n v buffer w.links (ask_in w n v)), done []) (first_cause (link_causes w l m n v)) are (tt, are))
@@ -151,39 +184,53 @@ module _ (conns : Conns) (w : PlainWorld) (number : ℕ) (are : ConnsAre w conns
 
   -- ---- how lines of clients are answered
 
-  reached : (n c : ℕ) (what : ClientVerb) (o : Option PlainNode) → NodeToldIf (conns n) n o → ClientAnswer (conns n c) what (node_outcome w n (refusal Cause.UnknownNode) o (if_up (client_verb_at n number c what))).1.answer
+  abbrev Answered : ℕ → ℕ → ClientVerb → PlainNode × Told → Type 0
+  Answered n c what x = ClientAnswer (conns n c) what x.1.events x.1.answer
+
+  reached : (n c : ℕ) (what : ClientVerb) (o : Option PlainNode) → NodeToldIf (conns n) n o → (let x = (node_outcome w n (refusal Cause.UnknownNode) o (if_up (client_verb_at n number c what))).1 in ClientAnswer (conns n c) what x.events x.answer)
   reached n c ClientVerb.Open None t = t c
   reached n c (ClientVerb.Bytes bytes) None t = t c
+  reached n c (ClientVerb.Pull frames) None t = t c
   reached n c ClientVerb.Hang None t = t c
   reached n c what (Some node) t = by (is_some node.off) refl
     where
-      opens : (b : Bool) → is_some (node.clients c) ≡ b → ClientAnswer (conns n c) ClientVerb.Open (let x : PlainNode × Told = if b then (node, refusal Cause.LinkOpen) else (with_client node c (Some (new_session (record { node = n; client = c; base = base_of number }))), done []) in x.1.answer)
+      opens : (b : Bool) → is_some (node.clients c) ≡ b → Answered n c ClientVerb.Open (if b then (node, refusal Cause.LinkOpen) else (with_client node c (Some (new_client (record { node = n; client = c; base = base_of number }))), done []))
       opens true e = t.told c ∙ e
       opens false e = t.told c ∙ e
 
-      bytes_say : (bytes : List ℕ) (k : Option PlainSession) → node.clients c ≡ k → ClientAnswer (conns n c) (ClientVerb.Bytes bytes) (bytes_if c bytes node k).1.answer
+      bytes_say : (bytes : List ℕ) (k : Option PlainClient) → node.clients c ≡ k → Answered n c (ClientVerb.Bytes bytes) (bytes_if c bytes node k)
       bytes_say bytes None e = t.told c ∙ ap is_some e
-      bytes_say bytes (Some session) e = t.told c ∙ ap is_some e
+      bytes_say bytes (Some client) e = t.told c ∙ ap is_some e
 
-      hang : (b : Bool) → is_some (node.clients c) ≡ b → ClientAnswer (conns n c) ClientVerb.Hang (let x : PlainNode × Told = if b then (with_client node c None, done []) else (node, refusal Cause.LinkClosed) in x.1.answer)
-      hang true e = t.told c ∙ e
-      hang false e = t.told c ∙ e
+      -- as many frames were put as its lines tell
+      pulls : (frames : ℕ) (k : Option PlainClient) → node.clients c ≡ k → Answered n c (ClientVerb.Pull frames) (pull_if c frames node k)
+      pulls frames None e = t.told c ∙ ap is_some e
+      pulls frames (Some client) e =
+          let x = (after (client_pulled frames client) node.vbs).1 in
+          let put : PullTold n c frames (record { events = x.events; answer = x.answer }) = pull_told n c frames client node.vbs (subst (IsKept n c) e (t.kept c)) in
+          subst (λ answer. ClientAnswer (conns n c) (ClientVerb.Pull frames) x.events answer) (sym put.1.2) (t.told c ∙ ap is_some e, put.1.3)
 
-      down : (what : ClientVerb) → is_some node.off ≡ true → ClientAnswer (conns n c) what (Answer.No Cause.NodeDown)
+      hang : (k : Option PlainClient) → node.clients c ≡ k → Answered n c ClientVerb.Hang (hung_if c node k)
+      hang None e = t.told c ∙ ap is_some e
+      hang (Some client) e = t.told c ∙ ap is_some e
+
+      down : (what : ClientVerb) → is_some node.off ≡ true → Answered n c what (node, refusal Cause.NodeDown)
       down ClientVerb.Open e = t.down e c
       down (ClientVerb.Bytes bytes) e = t.down e c
+      down (ClientVerb.Pull frames) e = t.down e c
       down ClientVerb.Hang e = t.down e c
 
-      runs : (what : ClientVerb) → ClientAnswer (conns n c) what (client_verb_at n number c what node).1.answer
+      runs : (what : ClientVerb) → Answered n c what (client_verb_at n number c what node)
       runs ClientVerb.Open = opens (is_some (node.clients c)) refl
       runs (ClientVerb.Bytes bytes) = bytes_say bytes (node.clients c) refl
-      runs ClientVerb.Hang = hang (is_some (node.clients c)) refl
+      runs (ClientVerb.Pull frames) = pulls frames (node.clients c) refl
+      runs ClientVerb.Hang = hang (node.clients c) refl
 
-      by : (b : Bool) → is_some node.off ≡ b → ClientAnswer (conns n c) what (let x : PlainNode × Told = if b then (node, refusal Cause.NodeDown) else client_verb_at n number c what node in x.1.answer)
+      by : (b : Bool) → is_some node.off ≡ b → Answered n c what (if b then (node, refusal Cause.NodeDown) else client_verb_at n number c what node)
       by true e = down what e
       by false e = runs what
 
-  pub client_answered : (n c : ℕ) (what : ClientVerb) → ClientAnswer (conns n c) what (verb_step w number (Verb.AtClient n c what)).1.answer
+  pub client_answered : (n c : ℕ) (what : ClientVerb) → (let x = (verb_step w number (Verb.AtClient n c what)).1 in ClientAnswer (conns n c) what x.events x.answer)
   client_answered n c what = reached n c what (w.nodes n) (are n)
 
   -- and a crash

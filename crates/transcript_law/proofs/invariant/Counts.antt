@@ -41,4 +41,4 @@ module _ (w w' : PlainWorld) (r : Chronicle) (c : Cluster) (n v : ℕ) (vb : Pla
 
   pub counts_agree : AgreesIn idle w' counted c
   counts_agree = changed_agrees w w' r counted c n v vb counting a known became (record { role = refl; wants = refl }) refl (λ k. refl) (λ k q. refl) (λ k. refl) (λ x i k has s. refl) here elsewhere (λ m q. refl) shelf
-      (disk_same (Some vb) (Some counting) refl refl refl refl) (λ m. refl) rows
+      (disk_same (Some vb) (Some counting) refl refl refl refl) (λ m. refl) rows (λ m d. refl) (λ d k has. refl)

@@ -4,11 +4,12 @@ use Rattle.std.specs.List.{list_any}
 use Rattle.branch_model.proofs.Entries.{forks_kept, forks_take}
 use Rattle.branch_model.specs.Journals.{found, log_of, roll_point}
 use Rattle.script_text.specs.declared.verb.Verb.TheVariants as verb
+use Rattle.script_text.specs.declared.verb.ClientVerb.TheVariants as client_verb
 use Rattle.script_text.specs.declared.verb.VbVerb.TheVariants as vb_verb
 use Rattle.transcript_law.proofs.Words.{ℕ, Bool, true, false, List, [], refl, ap, sym, ◌∙◌, subst, Option, Some, None, LogEntry, Branch, eq-eqb, ne_eqb, Verb, Change, AskAnswer, Event, StreamName, StreamAsk, Role, Answer, AtForks, kept_to, with_entry, IsNew, branch, grow, longer, branch_grow, Granted, Chronicle, empty_chronicle, after_lines}
 use Rattle.transcript_law.proofs.Words.{with_at, with_changed, granted, parent_branch, changes_between, after_branch, with_begun, with_item, finished, after_line, held_more, past_next, past_mark, IsIfKnown, LawfulLine, LawfulFrom, LawfulAsk}
 use Rattle.transcript_law.proofs.{invariant.Tables.{pick}, invariant.Trees.{IsTold, new_untold}}
-use Rattle.transcript_law.specs.Chronicles.{Appending, ArmKnown, after_armed, after_crashed, after_dial, after_seal, ahead, Dial, DiskKnown, Flushing, Idle, Taken, Written, after_append, after_calls, after_crash, after_made, after_noted, after_openings, after_restart, after_restarts, after_rollback, after_start, after_starts, after_up, appending, batch_record, batch_stands, broken_by, calls_of_append, crashed_disk, disk_back}
+use Rattle.transcript_law.specs.Chronicles.{Appending, ArmKnown, after_armed, after_blank, after_crashed, after_dial, after_seal, ahead, Dial, DiskKnown, Flushing, Idle, Taken, Written, after_append, after_calls, after_crash, after_made, after_noted, after_openings, after_restart, after_restarts, after_rollback, after_start, after_starts, after_up, appending, batch_record, batch_stands, broken_by, calls_of_append, crashed_disk, disk_back}
 use Rattle.transcript_law.specs.Chronicles.{acknowledging, disks_of, finds, is_feed_of, is_made, is_name, is_off, is_rollback, is_stream_at, is_stream_of, known_log, late_record, rollback_of, saving, spent, state_of, known_batch, with_disk, with_disk_there, with_record, with_row}
 use Rattle.transcript_law.specs.Lawfulness.{LawfulAdopt}
 use Rattle.vb_disk.specs.declared.fuse.Fuse.{Fuse}
@@ -176,7 +177,7 @@ asked_entered : (r : Chronicle) (l n v : ℕ) (ask : StreamAsk) (high : ℕ) (lo
 asked_entered r l n v ask high log Go old lawful = record {
   disks = old.disks;
   logs = old.logs;
-  streams = λ s q. either r.tree (is_name s (name.Link l) && q == v) (Some (granted ask log)) (r.stream_of s q) (one_stream r.tree (granted ask log) (known_entered r.tree (r.log_at n v) log lawful.own_log (old.logs n v))) (old.streams s q);
+  streams = λ s q. either r.tree (is_name s (name.Link l) && q == v) (Some (granted ask log)) (r.stream_of s q) (one_stream r.tree (granted ask log) (known_entered r.tree (r.log_at n v) log lawful.answered.own_log (old.logs n v))) (old.streams s q);
 }
 asked_entered r l n v ask high log other old lawful = record { disks = old.disks; logs = old.logs; streams = old.streams }
 
@@ -201,9 +202,15 @@ line_entered r (event.Changed n v uuid change) behind old lawful = record {
   streams = λ s q g e. forks_grow r.tree g.log uuid change (old.streams s q g e);
 }
 line_entered r (event.Asked (name.Link l) n v ask high log said) behind old lawful = asked_entered r l n v ask high log said old lawful
-line_entered r (event.Marked stream start end flags) behind old lawful = going_entered r stream (with_begun r.tree start end) (λ g. refl) old
-line_entered r (event.Item stream seq act key) behind old lawful = going_entered r stream (with_item (record { seq = seq; act = act; key = key })) (λ g. refl) old
-line_entered r (event.Finished stream reason) behind old lawful = going_entered r stream finished (λ g. refl) old
+line_entered r (event.Asked (name.Client m c) n v ask high log said) behind old lawful = record { disks = old.disks; logs = old.logs; streams = old.streams }
+line_entered r (event.Marked (name.Link l) start end flags) behind old lawful = going_entered r (name.Link l) (with_begun r.tree start end) (λ g. refl) old
+line_entered r (event.Marked (name.Client m c) start end flags) behind old lawful = record { disks = old.disks; logs = old.logs; streams = old.streams }
+line_entered r (event.Item (name.Link l) seq act key) behind old lawful = going_entered r (name.Link l) (with_item (record { seq = seq; act = act; key = key })) (λ g. refl) old
+line_entered r (event.Item (name.Client m c) seq act key) behind old lawful = record { disks = old.disks; logs = old.logs; streams = old.streams }
+line_entered r (event.Finished (name.Link l) reason) behind old lawful = going_entered r (name.Link l) finished (λ g. refl) old
+line_entered r (event.Finished (name.Client m c) reason) behind old lawful = record { disks = old.disks; logs = old.logs; streams = old.streams }
+line_entered r (event.Reply n c bytes) behind old lawful = record { disks = old.disks; logs = old.logs; streams = old.streams }
+line_entered r (event.Closed n c) behind old lawful = record { disks = old.disks; logs = old.logs; streams = old.streams }
 line_entered r (event.Adopted n v log) behind old lawful = adopted_entered r n v log old lawful
 line_entered r (event.Ranged n v ss se) behind old lawful = record {
   disks = old.disks;
@@ -377,7 +384,12 @@ start_line_entered r n lines said old = by said
 pub ahead_entered : (r : Chronicle) (line : Verb) (said : Answer) → Entered r → Entered (ahead r line said)
 ahead_entered r (verb.AtVb n v (vb_verb.Chain others)) answer.Ok old = record { disks = old.disks; logs = old.logs; streams = old.streams }
 ahead_entered r (verb.AtVb n v vb_verb.Done) (answer.Number saved) old = disk_entered r n v (record (r.disk_at n v) { flushing = Idle; saved = saved }) old (record { book = (old.disks n v).book; late = (old.disks n v).late; flushing = tt })
+ahead_entered r (verb.AtClient n c (client_verb.Bytes bytes)) answer.Ok old = record { disks = old.disks; logs = old.logs; streams = old.streams }
 ahead_entered r other said old = old
+
+pub blank_entered : (r : Chronicle) (n c : ℕ) (said : Answer) → Entered r → Entered (after_blank r n c said)
+blank_entered r n c answer.Ok old = record { disks = old.disks; logs = old.logs; streams = old.streams }
+blank_entered r n c other old = old
 
 pub dial_entered : (r : Chronicle) (l m n v : ℕ) (said : Answer) → Entered r → Entered (after_dial r l m n v said)
 dial_entered r l m n v answer.Ok old =

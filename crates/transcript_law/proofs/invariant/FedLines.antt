@@ -1,13 +1,13 @@
--- after each line each stream of a vBucket is that of an open link
+-- after each line each stream of a vBucket is that of an open link or of a client's connection
 use Rattle.std.specs.Prelude.{◌≡◌, ◌∷◌, ◌++◌}
 use Rattle.transcript_law.proofs.Words.{ℕ, List, [], refl, ap, inl, inr, ⊎_elim, fold, length, take, Option, Some, None, is_some, row_at, States, after, after_job, Cause, EndReason, Role, Plain}
 use Rattle.transcript_law.proofs.Words.{PlainLink, link_number, producer_node, consumer_node, PlainNode, PlainWorld, Told, Outcome, DialResult, with_node_at, with_links, with_states, node_outcome, own_link, moved_len, peer_of, dial_of, dial_bytes, over_why, up_at, pump_at, refusal, refused_or, first_cause, done}
-use Rattle.transcript_law.proofs.Words.{PlainSession, new_session, bytes_at, bytes_if, client_at, hang_at, cut_outcome, with_client, with_dialed, link_outcome, on_link, with_link, StreamAsk, new_link, new_vb, peer_pulled, with_vb_at}
-use Rattle.transcript_law.proofs.{invariant.Agreement.{IsLink}, invariant.FedNodes.{pump_held, up_held}, invariant.Feeding.{AllFed, AllKept, Fine, broken_fine, quiet_fine, served_fed, swapped, unlinked_fine}, invariant.LinkRows.{found_is_link}, verbs.Leaving.{own_found}}
-use Rattle.transcript_law.proofs.{invariant.Quiets.{bytes_quiet, due_quiet, fed_quiet, flush_quiet, posts_quiet, start_quiet}, invariant.Unopened.{NoNew, either, none_new, put_new, step_new}}
+use Rattle.transcript_law.proofs.Words.{cut_outcome, with_dialed, link_outcome, on_link, with_link, StreamAsk, new_link, new_vb, peer_pulled, with_vb_at}
+use Rattle.transcript_law.proofs.{invariant.Agreement.{IsLink}, invariant.FedClients.{Keeps, NodeFed, keeps_all, less_keeps, none_fed, posts_keep}, invariant.FedNodes.{pump_held, up_held}, invariant.Feeding.{AllFed, AllKept, Fed, Fine, broken_fine, kept_fine, relinked_fed, served_fed, swapped, unlinked_fine}, invariant.LinkRows.{found_is_link}, verbs.Leaving.{own_found}}
+use Rattle.transcript_law.proofs.{invariant.Quiets.{due_quiet, fed_quiet, flush_quiet, start_quiet}, invariant.Unopened.{NoNew, either, put_new, step_new}}
 use Rattle.transcript_law.specs.Feeding.{HasIn}
 use Rattle.journal_points.specs.Points.{saved}
-use Rattle.client_session.specs.Serving.{served}
+use Rattle.vb_calls.specs.declared.calls.Resolved.{Resolved}
 use Rattle.disk_journals.specs.{Arms.{opens_all}, Books.{Book}}
 use Rattle.durability.specs.Chains.{Members}
 use Rattle.node_core.specs.{Dials.{dial_due}, Flushing.{chain_changed, flush_at, ticked}, Loading.{are_short, loaded_by, no_states, starts_of, with_loaded}, Peers.{peer_frames, peer_heard}}
@@ -27,45 +27,33 @@ use Rattle.vb_calls.specs.declared.calls.VbCall.TheVariants as call
 
 -- ---- lines of one node
 
-pub none_less : (node : PlainNode) → NoNew node.vbs node.vbs
-none_less node = λ v id h. h
+-- a step that keeps the node's vBuckets without a stream more, and its connections, and the outcomes behind it
+pub less_posts : (node mid : PlainNode) (rs : List Resolved) → NoNew node.vbs mid.vbs → ((c : ℕ) → mid.clients c ≡ node.clients c) → Keeps node (all_posted rs mid).0
+less_posts node mid rs less same = keeps_all node mid (all_posted rs mid).0 (less_keeps node mid less same) (posts_keep rs mid)
 
-pub bytes_less : (c : ℕ) (bytes : List ℕ) (node : PlainNode) → NoNew node.vbs (bytes_at c bytes node).0.vbs
-bytes_less c bytes node = by (node.clients c)
-  where
-    by : (o : Option PlainSession) → NoNew node.vbs (bytes_if c bytes node o).0.vbs
-    by None = none_less node
-    by (Some session) = bytes_quiet node.clock bytes (served session []) node.vbs
+pub same_keeps : (node : PlainNode) → Keeps node node
+same_keeps node others fed = fed
 
-pub flush_less : (n v : ℕ) (p : FlushPart) (node : PlainNode) → NoNew node.vbs (flush_line n v p node).0.vbs
-flush_less n v p node =
-    let x = after_job (flush_at n v p) node.vbs node.shelves in
-    none_new node.vbs x.0.0 (all_posted x.1.resolved (with_kept node x.0)).0.vbs (flush_quiet n v p node.vbs node.shelves) (posts_quiet x.1.resolved (with_kept node x.0))
+pub flush_keeps : (n v : ℕ) (p : FlushPart) (node : PlainNode) → Keeps node (flush_line n v p node).0
+flush_keeps n v p node = let x = after_job (flush_at n v p) node.vbs node.shelves in less_posts node (with_kept node x.0) x.1.resolved (flush_quiet n v p node.vbs node.shelves) (λ c. refl)
 
-pub refused_less : (node : PlainNode) (x : PlainNode × Told) (why : Option Cause) → NoNew node.vbs x.0.vbs → NoNew node.vbs (refused_or why node x).0.vbs
-refused_less node x None less = less
-refused_less node x (Some why) less = none_less node
+pub refused_keeps : (node : PlainNode) (x : PlainNode × Told) (why : Option Cause) → Keeps node x.0 → Keeps node (refused_or why node x).0
+refused_keeps node x None keeps = keeps
+refused_keeps node x (Some why) keeps = same_keeps node
 
-pub chain_less : (n v : ℕ) (others : Members) (node : PlainNode) → NoNew node.vbs (chain_line n v others node).0.vbs
-chain_less n v others node =
+pub chain_keeps : (n v : ℕ) (others : Members) (node : PlainNode) → Keeps node (chain_line n v others node).0
+chain_keeps n v others node =
     let x = after (chain_changed n v (record { active = n; others = others })) node.vbs in
-    refused_less node (chain_made n v others node) (first_cause (chain_causes n v others node))
-    (none_new node.vbs x.0 (all_posted x.1.resolved (with_states node x.0)).0.vbs (step_new node.vbs v (call.Chain (record { active = n; others = others })) tt) (posts_quiet x.1.resolved (with_states node x.0)))
+    refused_keeps node (chain_made n v others node) (first_cause (chain_causes n v others node)) (less_posts node (with_states node x.0) x.1.resolved (step_new node.vbs v (call.Chain (record { active = n; others = others })) tt) (λ c. refl))
 
-pub tick_less : (n v : ℕ) (node : PlainNode) → NoNew node.vbs (tick_line n v node).0.vbs
-tick_less n v node =
-    let x = after (ticked n v node.clock) node.vbs in
-    none_new node.vbs x.0 (all_posted x.1.resolved (with_states node x.0)).0.vbs (step_new node.vbs v (call.Tick node.clock) tt) (posts_quiet x.1.resolved (with_states node x.0))
+pub tick_keeps : (n v : ℕ) (node : PlainNode) → Keeps node (tick_line n v node).0
+tick_keeps n v node = let x = after (ticked n v node.clock) node.vbs in less_posts node (with_states node x.0) x.1.resolved (step_new node.vbs v (call.Tick node.clock) tt) (λ c. refl)
 
 pub made_less : (n v : ℕ) (role : Role) (uuid : ℕ) (node : PlainNode) → NoNew node.vbs (vb_made n v role uuid node).0.vbs
 made_less n v role uuid node = put_new node.vbs v (new_vb n role uuid) (λ id h. absurd h)
 
-pub client_less : (n base c : ℕ) (node : PlainNode) → NoNew node.vbs (client_at n base c node).0.vbs
-client_less n base c node = either (λ (x : PlainNode × Told). NoNew node.vbs x.0.vbs) (is_some (node.clients c)) (node, refusal Cause.LinkOpen)
-    (with_client node c (Some (new_session (record { node = n; client = c; base = base }))), done []) (none_less node) (none_less node)
-
-pub hang_less : (c : ℕ) (node : PlainNode) → NoNew node.vbs (hang_at c node).0.vbs
-hang_less c node = either (λ (x : PlainNode × Told). NoNew node.vbs x.0.vbs) (is_some (node.clients c)) (with_client node c None, done []) (node, refusal Cause.LinkClosed) (none_less node) (none_less node)
+pub made_keeps : (n v : ℕ) (role : Role) (uuid : ℕ) (node : PlainNode) → Keeps node (vb_made n v role uuid node).0
+made_keeps n v role uuid node = less_keeps node (vb_made n v role uuid node).0 (made_less n v role uuid node) (λ c. refl)
 
 -- ---- a node that starts
 
@@ -97,18 +85,32 @@ starts_none n (start ∷ starts) node told none = by (λ t. starts_none n starts
     by rest fired.Failed = rest _
     by rest fired.Stopped = λ v id h. h
 
-pub start_less : (n : ℕ) (uuids : List ℕ) (node : PlainNode) → NoNew node.vbs (start_at n uuids node).0.vbs
-start_less n uuids node = by node.off
+-- nor a connection
+starts_alone : (n : ℕ) (starts : List (ℕ × ℕ)) (node : PlainNode) (told : Told) → ((c : ℕ) → node.clients c ≡ None) → (c : ℕ) → (starts_from n starts (node, told)).0.clients c ≡ None
+starts_alone n [] node told alone = alone
+starts_alone n (start ∷ starts) node told alone = by (λ t. starts_alone n starts (start_one n start node).0 t alone) (fired_by node.arm.fuse (start_one n start node).0.arm.fuse)
   where
-    opened : (books : List Book) → NoNew node.vbs (start_books n uuids books node).0.vbs
-    opened books = either (λ (x : PlainNode × Told). NoNew node.vbs x.0.vbs) (opens_all node.arm.fuse (length books)) (opened_at n uuids books node) (not_opened n node)
-        (either (λ (x : PlainNode × Told). NoNew node.vbs x.0.vbs) (are_short books uuids) (record node { arm = burnt_arm (length books) node.arm }, refusal Cause.IdsShort)
-        (starts_from n (starts_of books uuids) (loaded_node n books (burnt_arm (length books) node.arm), done [])) (none_less node)
-        (λ v id h. absurd (starts_none n (starts_of books uuids) (loaded_node n books (burnt_arm (length books) node.arm)) (done []) (loaded_none n books no_states (λ v id h. h)) v id h)))
-        (none_less node)
+    by : ((t : Told) (c : ℕ) → (starts_from n starts ((start_one n start node).0, t)).0.clients c ≡ None) → (f : Fired) → (c : ℕ) → (started_by n node.arm f (start_one n start node).1 told (start_one n start node).0 (starts_from n starts)).0.clients c ≡ None
+    by rest fired.No = rest _
+    by rest fired.Failed = rest _
+    by rest fired.Stopped = λ c. refl
 
-    by : (o : Option (List Book)) → NoNew node.vbs (start_if n uuids node o).0.vbs
-    by None = none_less node
+abbrev FedAt : (ℕ → ℕ → Type 0) → PlainNode × Told → Type 0
+FedAt others x = NodeFed others x.0.vbs x.0.clients
+
+pub start_keeps : (n : ℕ) (uuids : List ℕ) (node : PlainNode) → Keeps node (start_at n uuids node).0
+start_keeps n uuids node others fed = by node.off
+  where
+    opened : (books : List Book) → FedAt others (start_books n uuids books node)
+    opened books = either (FedAt others) (opens_all node.arm.fuse (length books)) (opened_at n uuids books node) (not_opened n node)
+        (either (FedAt others) (are_short books uuids) (record node { arm = burnt_arm (length books) node.arm }, refusal Cause.IdsShort)
+        (starts_from n (starts_of books uuids) (loaded_node n books (burnt_arm (length books) node.arm), done [])) fed
+        (let x = starts_from n (starts_of books uuids) (loaded_node n books (burnt_arm (length books) node.arm), done []) in none_fed others x.0.vbs x.0.clients
+        (starts_none n (starts_of books uuids) (loaded_node n books (burnt_arm (length books) node.arm)) (done []) (loaded_none n books no_states (λ v id h. h)))
+        (starts_alone n (starts_of books uuids) (loaded_node n books (burnt_arm (length books) node.arm)) (done []) (λ c. refl)))) fed
+
+    by : (o : Option (List Book)) → FedAt others (start_if n uuids node o)
+    by None = fed
     by (Some books) = opened books
 
 -- ---- lines of links
@@ -128,7 +130,7 @@ module _ (w : PlainWorld) (fine : Fine w) where
           let piece : List ℕ = take (moved_len wanted link.up) link.up in
           let x = frames_up (peer_frames piece (peer_of link)) (node, untold_peer (peer_heard piece (peer_of link))) in
           served_fed w link (with_up link (moved_len wanted link.up) x.1) fine is (producer_node link) node x.0 refl e
-          (given_desk piece (peer_of link) node) (λ others owned. (up_held others wanted link node (owned, kept link is)).0)
+          (given_desk piece (peer_of link) node) (λ others fed. up_held others wanted link node fed (kept link is))
 
       by : (o : Option PlainLink) → row_at link_number l w.links ≡ o → AllFed (link_outcome w l producer_node (up_at wanted) o).0
       by None e = fine.fed
@@ -143,7 +145,7 @@ module _ (w : PlainWorld) (fine : Fine w) where
       at link is (Some node) e =
           let x = after (peer_pulled frames (peer_of link)) node.vbs in
           served_fed w link (with_server link x.1.peer x.1.out) fine is (producer_node link) node (with_states node x.0) refl e
-          (pulled_desk frames (peer_of link) node.vbs) (λ others owned. (pump_held others frames link node (owned, kept link is)).0)
+          (pulled_desk frames (peer_of link) node.vbs) (λ others fed. pump_held others frames link node fed (kept link is))
 
       by : (o : Option PlainLink) → row_at link_number l w.links ≡ o → AllFed (link_outcome w l producer_node (pump_at frames) o).0
       by None e = fine.fed
@@ -164,7 +166,7 @@ module _ (w : PlainWorld) (fine : Fine w) where
     given = (after_job (dial_bytes piece (dial_of link)) at.vbs at.shelves).1
 
     given_stays : Fine (with_node_at w (consumer_node link) left)
-    given_stays = quiet_fine w (consumer_node link) node left fine known (fed_quiet piece (dial_of link) at.vbs at.shelves)
+    given_stays = kept_fine w (consumer_node link) node left fine known (less_keeps node left (fed_quiet piece (dial_of link) at.vbs at.shelves) (λ c. refl))
 
     given_over : (why : Option EndReason) → Fine (relinked link (left_unless why (with_down link (moved_len wanted link.down) given)) (with_node_at w (consumer_node link) left))
     given_over None = swapped (with_node_at w (consumer_node link) left) link (with_down link (moved_len wanted link.down) given) given_stays is refl (ap (λ d. d.link) (fed_dialed piece (dial_of link) at.vbs at.shelves))
@@ -196,7 +198,7 @@ module _ (w : PlainWorld) (fine : Fine w) where
 
   pub dialed_fed : (line l m n v buffer : ℕ) (o : Option StreamAsk) → AllFed (with_links w (with_dialed line l m n v buffer w.links o))
   dialed_fed line l m n v buffer None = fine.fed
-  dialed_fed line l m n v buffer (Some ask) = λ k q id h. let (x, i, of) = fine.fed k q id h in (x, more_in x (new_link line l m n v buffer ask) w.links i, of)
+  dialed_fed line l m n v buffer (Some ask) = λ k node is. relinked_fed (Fed w.links k) (Fed (w.links ++ new_link line l m n v buffer ask ∷ []) k) node.vbs node.clients (λ q id (x, i, of). (x, more_in x (new_link line l m n v buffer ask) w.links i, of)) (fine.fed k node is)
 
 -- what is due behind a batch
 pub due_fine : (n v : ℕ) (o : Outcome) → Fine o.0 → Fine (due_in n v o).0
@@ -206,7 +208,7 @@ due_fine n v o fine = either (λ (x : Outcome). Fine x.0) (is_counted o.1.answer
     at link is None e = fine
     at link is (Some node) e =
         let x = after (dial_due (dial_of link)) node.vbs in
-        swapped (with_node_at o.0 n (with_states node x.0)) link (with_due link x.1) (quiet_fine o.0 n node (with_states node x.0) fine e (due_quiet (dial_of link) node.vbs)) is refl
+        swapped (with_node_at o.0 n (with_states node x.0)) link (with_due link x.1) (kept_fine o.0 n node (with_states node x.0) fine e (less_keeps node (with_states node x.0) (due_quiet (dial_of link) node.vbs) (λ c. refl))) is refl
         (ap (λ d. d.link) (due_dialed (dial_of link) node.vbs))
 
     by : (l : Option PlainLink) → own_link n v o.0.links ≡ l → Fine (due_of n o.0 o.1 l).0

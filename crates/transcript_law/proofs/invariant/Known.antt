@@ -82,4 +82,8 @@ line_known told (Event.Asked stream n v ask high log said) k = asked stream said
     asked (name.Link l) ask_answer.Go = record { role = k.role; log = k.log; snap = k.snap }
     asked (name.Link l) (ask_answer.Roll to) = record { role = k.role; log = k.log; snap = k.snap }
     asked (name.Link l) (ask_answer.Refuse code) = k
+    asked (name.Client m c) said = record { role = k.role; log = k.log; snap = k.snap }
+line_known told (Event.Marked (name.Client m c) start end flags) k = record { role = k.role; log = k.log; snap = k.snap }
+line_known told (Event.Item (name.Client m c) seq act key) k = record { role = k.role; log = k.log; snap = k.snap }
+line_known told (Event.Finished (name.Client m c) reason) k = record { role = k.role; log = k.log; snap = k.snap }
 line_known told other k = record { role = k.role; log = k.log; snap = k.snap }

@@ -1,6 +1,6 @@
 -- the list of links by their numbers
 use Rattle.std.specs.Prelude.{◌≡◌, ◌∷◌, ◌++◌, ◌⊎◌, ◌==◌, if◌then◌else◌}
-use Rattle.transcript_law.proofs.Words.{ℕ, true, false, List, [], refl, ap, sym, ◌∙◌, subst, inl, inr, ⊎_elim, Some, eqb-true, eqb-false, eq-eqb, row_at}
+use Rattle.transcript_law.proofs.Words.{ℕ, true, false, List, [], refl, ap, sym, ◌∙◌, subst, inl, inr, ⊎_elim, Some, eqb-true, eqb-false, eq-eqb, ne_eqb, row_at}
 use Rattle.transcript_law.proofs.Words.{row_put, row_out, PlainLink, link_number}
 use Rattle.transcript_law.proofs.invariant.Agreement.{IsLink, Differ, DifferFrom, LinksDiffer}
 use Rattle.transcript_law.proofs.invariant.Carrying.{FoundIsLink, PutIsFound, PutLinks, OutLinks, PutTwice, PutOut, PutSame}
@@ -114,3 +114,11 @@ put_same l [] link f = refl
 put_same l (x ∷ xs) link f = elim (link_number x == l)
     as (λ b. (if b then Some x else row_at link_number l xs) ≡ Some link → (if b then link ∷ xs else x ∷ row_put link_number l link xs) ≡ x ∷ xs)
     [ true ↦ λ g. let same : x ≡ link = cc in ap (λ k. k ∷ xs) (sym same) | false ↦ λ g. ap (λ ys. x ∷ ys) (put_same l xs link g) ] f
+
+-- a link of the list is found by its number
+pub row_found : (links : List PlainLink) (link : PlainLink) → LinksDiffer links → IsLink link links → row_at link_number (link_number link) links ≡ Some link
+row_found [] link d i = absurd i
+row_found (x ∷ xs) link d i = ⊎_elim
+    (λ e. ap (λ b. if b then Some x else row_at link_number (link_number link) xs) (eq-eqb (link_number x) (link_number link) (ap link_number (sym e))) ∙ ap Some (sym e))
+    (λ j. ap (λ b. if b then Some x else row_at link_number (link_number link) xs) (ne_eqb (link_number x) (link_number link) (differ_in x link xs d.0 j).number) ∙ row_found xs link d.1 j)
+    i

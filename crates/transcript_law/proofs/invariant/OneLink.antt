@@ -1,6 +1,6 @@
 -- a step at one link carries the agreement
 use Rattle.std.specs.Prelude.{◌≡◌, ◌⊎◌, if◌then◌else◌}
-use Rattle.transcript_law.proofs.Words.{ℕ, true, false, List, refl, ap, sym, ◌∙◌, subst, inl, ⊎_elim, Some, None, Member, Cluster, Move, SoundCluster, happens, put, keeps, eq-eqb, ne_eqb}
+use Rattle.transcript_law.proofs.Words.{ℕ, true, false, List, refl, ap, sym, ◌∙◌, subst, inl, inr, ⊎_elim, Some, None, Member, Cluster, Move, SoundCluster, happens, put, keeps, eq-eqb, ne_eqb}
 use Rattle.transcript_law.proofs.Words.{Stream, Plain, Frame, is_active, is_follower, stream_at, row_at, row_put, row_out, PlainLink, link_number, producer_node, consumer_node, PlainWorld, Chronicle}
 use Rattle.transcript_law.proofs.invariant.Carrying.{SameEnds, Became, NoNewStream, BecameOver, Relinked, BusyBut, Changed, Closed, IsApart, ToldOf, TakenOf, StreamsChanged, MemberChanged, FedMember, FeedChanged}
 use Rattle.transcript_law.proofs.{invariant.Seats.{seat, seats_apart}, invariant.Agreement.{vb_of, VbAgrees, AgreesAt, consumer_seat, producer_seat, LinkAgrees, IsLink, Differ, LinksDiffer, top, Busy, AgreesIn}}
@@ -9,6 +9,7 @@ use Rattle.transcript_law.proofs.invariant.Carried.{StaysProducer, link_carried,
 use Rattle.cluster_model.specs.Clusters.{Disk, cut}
 use Rattle.transcript_law.proofs.{invariant.Agreement.{DiskIsIf, EndsUp, RestsIn, VbRow, power_of, shelf_of}, disks.Disks.{SameParts, disk_same, parts_of, same_parts}}
 use Rattle.transcript_law.proofs.{invariant.Agreement.{IsArm, Power, PowerIs, PowerIsIf}, invariant.Carrying.{Rearmed, SameOffs, SamePowers, off_of}, invariant.LinkRows.{put_links}, invariant.Resting.{StillAt, ends_again, ends_off, ends_same, rests_by, rests_with}, invariant.Tables.{id_here, id_there}}
+use Rattle.transcript_law.proofs.invariant.{Carried.{all_there}, Carrying.{SameClients, same_clients}, ClientsKept.{ConnsKept, Every, IsFree, all_kept, changed_only, clients_kept, free_none, goes_follower, link_none, only_kept, spot_at, streams_kept}, LinkFeeds.{feeds_out, feeds_same, link_feeds}}
 use Rattle.{node_world.specs.declared.arm.Arm.{Arm}, transcript_law.specs.Feeding.{HasOpen}, transcript_law.proofs.invariant.Carried.{numbers}, transcript_law.proofs.Words.{with_id}, transcript_law.specs.Chronicles.{ArmKnown}}
 
 -- the cluster with another member at k
@@ -69,6 +70,9 @@ module _ (busy : Busy) (w : PlainWorld) (r r' : Chronicle) (c c' : Cluster) (l :
         (λ n v down. (same n v ∙ (a.downs n v).vb_none down, shelves n v ∙ (a.downs n v).shelf_none down))
         there_told ends
 
+    quiet_conns : (w' : PlainWorld) → SamePowers w w' → ((n v : ℕ) → vb_of w' n v ≡ vb_of w n v) → ConnsKept Every w w' r r'
+    quiet_conns w' powers same = all_kept w w' r r' (same_clients w w' powers) told.clients told.tree told.rows same
+
     quiet_link : (w' : PlainWorld) → ((n v : ℕ) → vb_of w' n v ≡ vb_of w n v) → (x : PlainLink) → IsLink x w.links → Differ link x
         → LinkAgrees w' r' c' x (busy (link_number x)).0 (busy (link_number x)).1
     quiet_link w' same x i d = link_carried w w' r r' c c' x (busy (link_number x)).0 (busy (link_number x)).1
@@ -107,6 +111,15 @@ module _ (busy : Busy) (w : PlainWorld) (r r' : Chronicle) (c c' : Cluster) (l :
           (λ n v down. ⊎_elim (λ s. let z : Some pv ≡ None = sym (moved_vb w (producer_node link) link.consumer.dialed.vb n v pv known s.0 s.1) ∙ (a.downs n v).vb_none down in cc)
           (λ o. (became.there n v o ∙ (a.downs n v).vb_none down, became.shelves n v o ∙ (a.downs n v).shelf_none down)) (places (producer_node link) link.consumer.dialed.vb n v))
           there_told ends
+
+      -- it is no client's, and clients' streams stand there
+      producer_conns : ConnsKept Every w w' r r'
+      producer_conns = streams_kept Every w w' r r' (producer_node link) link.consumer.dialed.vb id pv pv'
+          (changed_only w w' r r' (producer_node link) link.consumer.dialed.vb pv' links became told.clients told.tree (λ m q o. told.rows m q)) known became.here changed (told.rows (producer_node link) link.consumer.dialed.vb)
+          (λ d left. ⊎_elim
+          (λ opens. let is = found_is_link l w.links link found in link_none w a.clients.apart l (producer_node link) link.consumer.dialed.vb id (link_feeds w a.differ l (producer_node link) link.consumer.dialed.vb id link is.0 is.1 refl opens) d)
+          (λ none. free_none w (all_there busy w r c a) (producer_node link) link.consumer.dialed.vb id (subst (IsFree id) (sym known) none) d)
+          free)
 
       -- no other link's stream is open there under its number
       clash : (y : PlainLink) (k : ℕ) (s : Stream) → Differ link y → producer_node y ≡ producer_node link → stream_at k pv.streams ≡ Some s → HasOpen link.consumer.dialed.vb k y.server.streams → k ≡ id → ⊥
@@ -181,6 +194,10 @@ carries_producer busy busy' w w' r r' c c' l link link' id pv pv' a found same k
     (λ y i d v k s t e. let is = only v k s in
     producer_streams busy w r r' c c' l link a found told fed w' (row_put link_number l link' w.links) id pv pv' known changed became free y i d
     (subst (λ q. HasOpen q id y.server.streams) is.0 (subst (λ j. HasOpen v j y.server.streams) is.1 t)) e)
+    (producer_conns busy w r r' c c' l link a found told fed w' (row_put link_number l link' w.links) id pv pv' known changed became free)
+    (λ v k s. let is = only v k s in
+    subst (λ q. HasOpen q k link.server.streams ⊎ IsFree k (vb_of w (producer_node link) q)) (sym is.0) (subst (λ j. HasOpen link.consumer.dialed.vb j link.server.streams ⊎ IsFree j (vb_of w (producer_node link) link.consumer.dialed.vb)) (sym is.1)
+    (⊎_elim (λ opens. inl opens) (λ none. inr (subst (IsFree id) (sym known) none)) free)))
     (producer_rests busy w r r' c c' l link a found told fed w' (row_put link_number l link' w.links) id pv pv' known changed became free (put_ends busy w w' r c l link link' a found same became.powers became.linked))
     agrees
 
@@ -199,6 +216,7 @@ carries_link busy busy' w w' r r' c l link link' a found same became less told b
     refl told.tree became.uuids became.linked a.sound but
     (quiet_link busy w r r' c c l link a found told (fed_none (consumer_seat link) c) w' became.vbs)
     (λ y i d v id s. d.stream v id (less v id s))
+    (quiet_conns busy w r r' c c l link a found told (fed_none (consumer_seat link) c) w' became.powers became.vbs) (λ v id s. inl (less v id s))
     (quiet_rests busy w r r' c c l link a found told (fed_none (consumer_seat link) c) w' became.powers became.vbs became.shelves (put_ends busy w w' r c l link link' a found same became.powers became.linked))
     agrees
 
@@ -224,8 +242,8 @@ module _ (busy busy' : Busy) (w w' : PlainWorld) (r r' : Chronicle) (c c' : Clus
   left_is = found_is_link l w.links link found
 
   pub left_out : ((n v : ℕ) → AgreesAt r' n v (c'.nodes (seat n v)) (vb_of w' n v)) → ((n v : ℕ) → DiskIsIf (r'.disk_at n v) (c'.disks (seat n v)) (shelf_of w' n v) (vb_of w' n v)) → w'.uuids ≡ w.uuids → w'.links ≡ row_out link_number (link_number link) w.links
-      → ((x : PlainLink) → IsLink x w.links → Differ link x → LinkAgrees w' r' c' x (busy (link_number x)).0 (busy (link_number x)).1) → RestsIn w' r' c' → AgreesIn busy' w' r' c'
-  left_out vbs disks uuids linked others rests =
+      → ((x : PlainLink) → IsLink x w.links → Differ link x → LinkAgrees w' r' c' x (busy (link_number x)).0 (busy (link_number x)).1) → ConnsKept Every w w' r r' → RestsIn w' r' c' → AgreesIn busy' w' r' c'
+  left_out vbs disks uuids linked others conns rests =
       let links : w'.links ≡ row_out link_number l w.links = linked ∙ ap (λ k. row_out link_number k w.links) left_is.1 in
       record {
         sound = sound;
@@ -237,6 +255,7 @@ module _ (busy busy' : Busy) (w w' : PlainWorld) (r r' : Chronicle) (c c' : Clus
             let p = out_links l w.links link x a.differ found (subst (IsLink x) links i) in
             subst (λ b. LinkAgrees w' r' c' x b.0 b.1) (sym (but (link_number x) p.1)) (others x p.0 (links_apart link x w.links a.differ left_is.0 p.0 (λ e. p.1 (sym e ∙ left_is.1))));
         differ = subst LinksDiffer (sym links) (differ_out l w.links link a.differ found);
+        clients = clients_kept w w' r r' l a.clients (all_there busy w r c a) conns (λ k n v id has. inl (feeds_out w w' l link a.differ found links k n v id has));
       }
 
 module _ (busy busy' : Busy) (w w' : PlainWorld) (r r' : Chronicle) (c : Cluster) (l : ℕ) (link : PlainLink) (a : AgreesIn busy w r c) (found : row_at link_number l w.links ≡ Some link)
@@ -258,6 +277,7 @@ module _ (busy busy' : Busy) (w w' : PlainWorld) (r r' : Chronicle) (c : Cluster
   same_over became = left_out busy busy' w w' r r' c gone l link a found told.tree refl sound but
       (λ n v. subst (AgreesAt r' n v (gone.nodes (seat n v))) (sym (became.vbs n v)) (quiet_vb busy w r r' c gone l link a found told fed n v)) (quiet_disk busy w r r' c gone l link a found told fed w' became.vbs became.shelves) became.uuids became.linked
       (quiet_link busy w r r' c gone l link a found told fed w' became.vbs)
+      (quiet_conns busy w r r' c gone l link a found told fed w' became.powers became.vbs)
       (quiet_rests busy w r r' c gone l link a found told fed w' became.powers became.vbs became.shelves (out_ends busy w w' r c l link a found became.powers became.linked))
 
   -- the link's stream was closed
@@ -266,6 +286,7 @@ module _ (busy busy' : Busy) (w w' : PlainWorld) (r r' : Chronicle) (c : Cluster
       (producer_vbs busy w r r' c gone l link a found told fed w' links id pv pv' known changed became (inl opens))
       (producer_disks busy w r r' c gone l link a found told fed w' links id pv pv' known changed became (inl opens) shelf) became.uuids became.linked
       (producer_other busy w r r' c gone l link a found told fed w' links id pv pv' known changed became (inl opens))
+      (producer_conns busy w r r' c gone l link a found told fed w' links id pv pv' known changed became (inl opens))
       (producer_rests busy w r r' c gone l link a found told fed w' links id pv pv' known changed became (inl opens) (out_ends busy w w' r c l link a found became.powers became.linked))
 
 -- a link is over: its consumer is cut off
@@ -277,9 +298,9 @@ carries_over busy busy' w w' r r' c l link a found became told but =
 
 -- a world that is the same everywhere, but for its nodes' arms
 pub carries_rests : (busy busy' : Busy) (w w' : PlainWorld) (r : Chronicle) (arms : ℕ → ArmKnown) (c : Cluster)
-    → AgreesIn busy w r c → ((n v : ℕ) → vb_of w' n v ≡ vb_of w n v) → ((n v : ℕ) → shelf_of w' n v ≡ shelf_of w n v) → w'.uuids ≡ w.uuids → w'.links ≡ w.links
+    → AgreesIn busy w r c → SameClients w w' → ((n v : ℕ) → vb_of w' n v ≡ vb_of w n v) → ((n v : ℕ) → shelf_of w' n v ≡ shelf_of w n v) → w'.uuids ≡ w.uuids → w'.links ≡ w.links
     → RestsIn w' (record r { arm_at = arms }) c → ((k : ℕ) → busy' k ≡ busy k) → AgreesIn busy' w' (record r { arm_at = arms }) c
-carries_rests busy busy' w w' r arms c a vbs shelves uuids linked rests but = record {
+carries_rests busy busy' w w' r arms c a conns vbs shelves uuids linked rests but = record {
   sound = a.sound;
   vbs = λ n v. subst (AgreesAt r n v (c.nodes (seat n v))) (sym (vbs n v)) (a.vbs n v);
   disks = λ n v. disk_same (vb_of w n v) (vb_of w' n v) refl refl (shelves n v) (subst (SameParts (vb_of w n v)) (sym (vbs n v)) (same_parts (vb_of w n v))) (a.disks n v);
@@ -288,13 +309,15 @@ carries_rests busy busy' w w' r arms c a vbs shelves uuids linked rests but = re
       (link_carried w w' r (record r { arm_at = arms }) c c x (busy (link_number x)).0 (busy (link_number x)).1 (λ fv e. (fv, vbs (consumer_node x) x.consumer.dialed.vb ∙ e, kept_same fv)) refl refl refl refl
       (λ p id s e active opened has. (p, vbs (producer_node x) x.consumer.dialed.vb ∙ e, active, opened, refl)) (a.links x (subst (IsLink x) linked i)));
   differ = subst LinksDiffer (sym linked) a.differ;
+  clients = clients_kept w w' r (record r { arm_at = arms }) 0 a.clients (all_there busy w r c a) (all_kept w w' r (record r { arm_at = arms }) conns (λ m d. refl) refl (λ n v. refl) vbs)
+      (λ k n v id has. inl (feeds_same w w' linked k n v id has));
   rests = rests;
 }
 
 -- and for nothing
 pub carries_same : (busy busy' : Busy) (w w' : PlainWorld) (r : Chronicle) (c : Cluster)
     → AgreesIn busy w r c → Relinked w w' w.links → ((k : ℕ) → busy' k ≡ busy k) → AgreesIn busy' w' r c
-carries_same busy busy' w w' r c a same but = carries_rests busy busy' w w' r r.arm_at c a same.vbs same.shelves same.uuids same.linked
+carries_same busy busy' w w' r c a same but = carries_rests busy busy' w w' r r.arm_at c a (same_clients w w' same.powers) same.vbs same.shelves same.uuids same.linked
     (rests_by w w' r r c c a.rests same.powers (λ n. refl)
     (λ n v none. record { vb = sym (same.vbs n v) ∙ none; shelf = same.shelves n v; row = refl; member = refl; disk = refl })
     (λ n v down. (same.vbs n v ∙ (a.downs n v).vb_none down, same.shelves n v ∙ (a.downs n v).shelf_none down))
@@ -304,7 +327,7 @@ carries_same busy busy' w w' r c a same but = carries_rests busy busy' w w' r r.
 pub carries_armed : (busy : Busy) (w w' : PlainWorld) (r : Chronicle) (c : Cluster) (n : ℕ) (power : Power) (arm : Arm)
     → AgreesIn busy w r c → Rearmed w w' n power arm → IsArm arm.fuse → AgreesIn busy w' (record r { arm_at = with_id r.arm_at n (record { fuse = arm.fuse; out = arm.out; down = (r.arm_at n).down }) }) c
 carries_armed busy w w' r c n power arm a same fires =
-    carries_rests busy busy w w' r arms c a same.vbs same.shelves same.uuids same.linked
+    carries_rests busy busy w w' r arms c a same.clients same.vbs same.shelves same.uuids same.linked
     (rests_with w w' r r' c c a.rests offs powers
     (λ m v none. record { vb = sym (same.vbs m v) ∙ none; shelf = same.shelves m v; row = refl; member = refl; disk = refl })
     (λ m v down. (same.vbs m v ∙ (a.downs m v).vb_none down, same.shelves m v ∙ (a.downs m v).shelf_none down))
@@ -384,6 +407,12 @@ module _ (busy : Busy) (w w' : PlainWorld) (r r' : Chronicle) (c c' : Cluster) (
       (λ o. (p, became.there (producer_node x) x.consumer.dialed.vb o ∙ e, active, opened, ap (λ (m : Member). m.br) (changed.others (producer_seat x) (other_seat (producer_node x) x.consumer.dialed.vb o))))
       (places (consumer_node link) link.consumer.dialed.vb (producer_node x) x.consumer.dialed.vb)
 
+  -- a vBucket that follows has no stream of a client
+  consumer_conns : ConnsKept Every w w' r r'
+  consumer_conns = only_kept Every w w' r r' (consumer_node link) link.consumer.dialed.vb
+      (changed_only w w' r r' (consumer_node link) link.consumer.dialed.vb fv' links became taken.clients taken.tree taken.rows)
+      (λ d id left has. goes_follower (spot_at w r (consumer_node link) link.consumer.dialed.vb) (spot_at w' r' (consumer_node link) link.consumer.dialed.vb) id fv known (no_writer fv.role follows))
+
   apart_dial : (x : PlainLink) → IsLink x w.links → Differ link x → IsApart (consumer_node link) link.consumer.dialed.vb (r.dial_of (link_number x))
   apart_dial x i d = subst (IsApart (consumer_node link) link.consumer.dialed.vb) (sym (a.links x i).dialed) (λ s t. d.follower (sym s) (sym t))
 
@@ -410,6 +439,7 @@ carries_consumer busy busy' w w' r r' c c' l link link' fv fv' a found same know
     changed.tree taken.tree became.uuids became.linked sound but
     (consumer_other busy w w' r r' c c' l link fv fv' (row_put link_number l link' w.links) a found known role_is streams_are became taken changed vb disk)
     (λ y i d v id s. d.stream v id (less v id s))
+    (consumer_conns busy w w' r r' c c' l link fv fv' (row_put link_number l link' w.links) a found known role_is streams_are became taken changed vb disk) (λ v id s. inl (less v id s))
     rests
     agrees
 
@@ -425,4 +455,5 @@ carries_left busy busy' w w' r r' c c' l link fv fv' a found known role_is strea
     left_out busy busy' w w' r r' c c' l link a found taken.tree changed.tree sound but
     (consumer_vbs busy w w' r r' c c' l link fv fv' links a found known role_is streams_are became taken changed vb disk)
     (consumer_disks busy w w' r r' c c' l link fv fv' links a found known role_is streams_are became taken changed vb disk) became.uuids became.linked
-    (consumer_other busy w w' r r' c c' l link fv fv' links a found known role_is streams_are became taken changed vb disk) rests
+    (consumer_other busy w w' r r' c c' l link fv fv' links a found known role_is streams_are became taken changed vb disk)
+    (consumer_conns busy w w' r r' c c' l link fv fv' links a found known role_is streams_are became taken changed vb disk) rests

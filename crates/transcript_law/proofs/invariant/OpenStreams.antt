@@ -33,7 +33,7 @@ pub id_among : (id : ℕ) (streams : List PlainStream) (t : PlainStream) → str
 id_among id streams t e = found_among (λ s. s.id == id) streams t e
 
 -- what holds of all holds of one
-all_among : (P : PlainStream → Type 0) (streams : List PlainStream) (t : PlainStream) → All P streams → Among t streams → P t
+pub all_among : (P : PlainStream → Type 0) (streams : List PlainStream) (t : PlainStream) → All P streams → Among t streams → P t
 all_among P [] t all i = absurd i
 all_among P (s ∷ more) t all i = ⊎_elim (λ e. subst P (sym e) (All-head P s more all)) (λ j. all_among P more t (All-tail P s more all) j) i
 
@@ -73,7 +73,7 @@ replaced_ids left (s ∷ more) = λ i. by (s.id == left.id) refl i ∷ replaced_
 
 -- ---- a stream that is over
 
-without_cons : (id : ℕ) (s : PlainStream) (more : List PlainStream) → without_id id (s ∷ more) ≡ (if s.id == id then more else s ∷ without_id id more)
+pub without_cons : (id : ℕ) (s : PlainStream) (more : List PlainStream) → without_id id (s ∷ more) ≡ (if s.id == id then more else s ∷ without_id id more)
 without_cons id s more = by (s.id == id)
   where
     test : PlainStream → Bool

@@ -147,7 +147,7 @@ module _ (others : ℕ → ℕ → Type 0) where
     ack_keeps : (seq : ℕ) → Keeps (acknowledged f seq s) states
     unfolding acknowledged
     ack_keeps seq =
-        let weight : Result ℕ Status = weighed seq (fed_stream (stream_of_vb f.vb_or_status s.end.streams)) (member_of s.end.handshake) in
+        let weight : Result ℕ Status = weighed seq (fed_stream s.end.desk.stream (stream_of_vb f.vb_or_status s.end.streams)) (member_of s.end.handshake) in
         either_keeps (is_shaken s.end.handshake) (count_requested f seq s weight) (Done (status_sent f Status.Einval s)) (count_keeps seq weight) (status_keeps Status.Einval)
 
     -- a failover log

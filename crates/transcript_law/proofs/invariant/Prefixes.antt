@@ -4,6 +4,7 @@ use Rattle.std.specs.Prelude.{◌≡◌, ◌+◌, ◌<◌, ◌≤◌, ◌∷◌,
 use Rattle.{branch_model.specs.Journals.{IsPoint, complete_points, image_at}, cluster_model.proofs.Runs.{point_shown}, vb_calls.specs.Shelves.{Shelf}, transcript_law.specs.Prefixes.{PointsAreBranch}}
 use Rattle.{vbucket.specs.{Settles.{IsSettled}}}
 use Rattle.disk_journals.specs.Books.{Book}
+use Rattle.node_core.specs.Clients.{PlainClient}
 use Rattle.transcript_law.proofs.{invariant.Agreement.{BookBy, BookAgrees, book_in, is_down}, disks.Disks.{power_in}, invariant.Entering.{Entered, ahead_entered, lines_entered, log_entered, start_entered}}
 use Rattle.transcript_law.specs.{Chronicles.{after_group}, Plainness.{AreOwnIf, IsOwnIf}, Prefixes.{off_of_node}}
 use Rattle.vb_types.specs.declared.journal.Record.{Record}
@@ -11,23 +12,23 @@ use Rattle.transcript_law.proofs.{invariant.Agreement.{AgreesAt, DiskIsIf, shelf
 use Rattle.transcript_law.proofs.Words.{ℕ, true, List, [], refl, ap, sym, ◌∙◌, subst, ⊎_elim, arith, Option, Some, None, All-head, All-tail, ScriptLine, VerbFits, ScriptFits, LogEntry, upto}
 use Rattle.transcript_law.proofs.Words.{image_of, Ancestry, Traces, IsFront, reach_of, Branch, hist, Shared, ForksBelow, Member, Cluster, above, tells, Plain, is_active}
 use Rattle.transcript_law.proofs.Words.{PlainWorld, empty_world, with_branches, verb_step, world_step, groups_from, Chronicle, empty_chronicle, after_lines, known_history}
-use Rattle.transcript_law.proofs.Words.{PlainNode, PlainSession, is_some, world_of, known_of, FollowsBranch, AreFollowed, Bool, false}
+use Rattle.transcript_law.proofs.Words.{PlainNode, is_some, world_of, known_of, FollowsBranch, AreFollowed, Bool, false}
 use Rattle.transcript_law.proofs.Words.{branch}
 use Rattle.transcript_law.proofs.{invariant.Agreement.{vb_of, BranchAgrees, Writes, WritesIf, VbAgrees, AgreesAt, top}}
-use Rattle.transcript_law.proofs.{invariant.Agreement.{idle, AgreesIn, Agrees}, invariant.AtRest.{AreAtRest, line_rests, start_rests}, invariant.Ranged.{IsRanged, NodeRangedIf, SessionRangedIf, start_ranged}, Runs.{group_agrees, row_of, start}, verbs.Rows.{Row}, invariant.Seats.{seat}, invariant.Agreement.{image_is}, verbs.Showing.{history_by, same_image}}
+use Rattle.transcript_law.proofs.{invariant.Agreement.{idle, AgreesIn, Agrees}, invariant.AtRest.{AreAtRest, line_rests, start_rests}, invariant.Ranged.{IsRanged, NodeRangedIf, start_ranged}, lines.SessionLines.{IsKept}, Runs.{group_agrees, row_of, start}, verbs.Rows.{Row}, invariant.Seats.{seat}, invariant.Agreement.{image_is}, verbs.Showing.{history_by, same_image}}
 use Rattle.transcript_law.proofs.{invariant.Tables.{if_known}, invariant.Trees.{told_below}, verbs.Writing.{forks_below}}
 use Rattle.{branch_model.specs.Snapshots.{Follows}, cluster_model.specs.Clusters.{IsBranch}}
 use Rattle.{transcript_law.specs.Lawfulness.{IsWriter}, transcript_law.specs.Prefixes.{world_after}}
 use Rattle.{transcript_law.specs.Prefixes.{known_after, ComesFrom, IsActiveOn}}
 
--- a session of a node is told as one of its own
+-- a connection of a node is told as the one that it is
 own_at : (n : ℕ) (o : Option PlainNode) → NodeRangedIf n o → AreOwnIf n o
 own_at n None ranged = tt
-own_at n (Some node) ranged = λ c. by (node.clients c) (ranged.clients c)
+own_at n (Some node) ranged = λ c. by c (node.clients c) (ranged.own c)
   where
-    by : (o : Option PlainSession) → SessionRangedIf n o → IsOwnIf n o
-    by None there = tt
-    by (Some session) there = there.node
+    by : (c : ℕ) (o : Option PlainClient) → IsKept n c o → IsOwnIf n c o
+    by c None there = tt
+    by c (Some client) there = (there.0.node, there.0.number, there.0.desk, there.0.stream, there.1)
 
 module _ (w : PlainWorld) (r : Chronicle) (c : Cluster) (a : AgreesIn idle w r c) (entered : Entered r) where
   -- the lines' tree has the histories of the cluster's

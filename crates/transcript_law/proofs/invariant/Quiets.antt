@@ -1,11 +1,10 @@
--- what a node does for its clients, for an operator and for its dials opens no stream
-use Rattle.std.specs.Prelude.{◌≡◌, ◌∷◌, ◌==◌}
-use Rattle.transcript_law.proofs.Words.{ℕ, Bool, true, false, List, [], refl, ap, sym, ◌∙◌, subst, Option, Some, None, Result, Ok, Err, is_some, nat_le, Frame, RESPONSE, Status, KvRequest, Plain, PlainSession, VbCall, VbReply, States}
-use Rattle.transcript_law.proofs.Words.{after, after_job, bind_job, Done, Job, Ended, frame_handled, request_handled, bytes_handled, PlainNode, plain_step, admin_call, admin_replied, admin_result, AdminCall, AdminResult, dial_bytes, promoted, promote_refusal, is_role, role_result, turn_row, in_role, ending_reply, refusal_reply, VbAnswer, Role}
+-- what a node does for the commands of its clients, for an operator and for its dials opens no stream
+use Rattle.std.specs.Prelude.{◌≡◌, ◌∷◌, ◌==◌, if◌then◌else◌}
+use Rattle.transcript_law.proofs.Words.{ℕ, Bool, true, false, List, [], refl, ap, sym, ◌∙◌, subst, Option, Some, None, Result, Ok, Err, is_some, nat_le, Frame, RESPONSE, Status, KvRequest, Plain, VbCall, VbReply, States}
+use Rattle.transcript_law.proofs.Words.{after, after_job, bind_job, Done, Job, Ended, frame_handled, request_handled, PlainNode, plain_step, admin_call, admin_replied, admin_result, AdminCall, AdminResult, dial_bytes, promoted, promote_refusal, is_role, role_result, turn_row, in_role, ending_reply, refusal_reply, VbAnswer, Role}
 use Rattle.transcript_law.proofs.{lines.Calm.{AnyAsk}, invariant.Unopened.{NoNew, OpensNone, after_job_new, after_new, either, found_at_own, led_none, none_new, step_new}}
 use Rattle.transcript_law.specs.Feeding.{Has, HasIn}
-use Rattle.client_session.proofs.Keeping.{bytes_keep, front_of, outcome_keeps}
-use Rattle.client_session.specs.Serving.{MOST_DURABLE, Served, deadline_of, durable_called, next_waiter, outcome_handled, refused, served}
+use Rattle.client_session.specs.Serving.{MOST_DURABLE, Served, deadline_of, durable_called, frame_answered, handed, is_dcp, next_waiter, refused}
 use Rattle.mcbp_kv.specs.Requests.{request_of}
 use Rattle.mcbp_kv.specs.declared.request.KvRequest.TheVariants as request
 use Rattle.node_core.proofs.Conduct.{bytes_follow}
@@ -14,15 +13,12 @@ use Rattle.node_core.specs.Conduct.{FollowsAt, KeepsLink, RollsAt}
 use Rattle.node_core.specs.Dials.{PlainDial, acknowledged_result, dial_due, due_requested, due_met, due_of_reply, saved_of_reply, untold}
 use Rattle.node_core.specs.Flushing.{flush_at, flush_if, flush_result}
 use Rattle.node_core.specs.Loading.{start_job, start_result}
-use Rattle.node_world.specs.Nodes.{all_posted, awaiting, posted_if, posted_to}
-use Rattle.node_world.specs.declared.script_node.TheConstants.{MAX_CLIENTS}
 use Rattle.vb_calls.proofs.JobConduct.{after_job_always, always_bind_job}
 use Rattle.vb_calls.specs.Flushes.{append_job, appended_job, batch_of_reply, done_job, flush_job, is_refusal, note_role_job, part_job, role_of_call, role_job, role_told_job, save_all_job, taken_job, took}
 use Rattle.vb_calls.specs.Jobs.{AlwaysJob, Call as AsksCall}
 use Rattle.vb_calls.specs.Programs.{Always, AnyReply, Call as ProgCall}
 use Rattle.vb_calls.specs.Shelves.{DiskFailed, Fate, Flush, Idle, Out, Shelves, Stood, WasClosed, Written}
 use Rattle.vb_calls.specs.States.{call_at, states_step}
-use Rattle.vb_calls.specs.declared.calls.Resolved.{Resolved}
 use Rattle.vb_calls.specs.declared.calls.VbCall.TheVariants as call
 use Rattle.vb_calls.specs.declared.journals.Flushed.{Flushed}
 use Rattle.vb_calls.specs.declared.journals.Wrote.TheVariants as wrote
@@ -32,7 +28,7 @@ use Rattle.vb_types.specs.declared.journal.FlushPart.TheVariants as part
 use Rattle.dcp_consumer.specs.Machine.{is_streaming, may_acknowledge}
 use Rattle.node_core.specs.declared.admin.AdminCall.TheVariants as admin
 
-same_call : (v : ℕ) (c : VbCall) → OpensNone v c → OpensNone v c
+pub same_call : (v : ℕ) (c : VbCall) → OpensNone v c → OpensNone v c
 same_call v c q = q
 
 -- ---- clients
@@ -48,32 +44,13 @@ request_quiet clock f (Ok (request.Write write (Some wish))) s =
     either (Always OpensNone (λ a. Unit {0})) (nat_le MOST_DURABLE s.session.used) (Done (refused f Status.Etmpfail s))
     (durable_called f (call.Durable write clock wish.level (deadline_of clock wish.timeout) (next_waiter s.session)) s) tt (tt, λ reply any. tt)
 
-frame_quiet : (clock : ℕ) (f : Frame) (s : Served) → Always OpensNone (λ a. Unit {0}) (frame_handled clock f s)
+answered_quiet : (clock : ℕ) (f : Frame) (s : Served) → Always OpensNone (λ a. Unit {0}) (frame_answered clock f s)
+answered_quiet clock f s = request_quiet clock f (request_of s.session.settings.json f) s
+
+pub frame_quiet : (clock : ℕ) (f : Frame) (s : Served) → Always OpensNone (λ a. Unit {0}) (frame_handled clock f s)
 unfolding frame_handled
-frame_quiet clock f s = either (Always OpensNone (λ a. Unit {0})) (f.magic == RESPONSE) (Done s) (request_handled clock f (request_of s.session.settings.json f) s) tt (request_quiet clock f (request_of s.session.settings.json f) s)
-
-pub bytes_quiet : (clock : ℕ) (piece : List ℕ) (s : Served) (states : States) → NoNew states (after (bytes_handled clock piece s) states).0
-bytes_quiet clock piece s states = after_new OpensNone same_call (λ a. Unit {0}) (bytes_handled clock piece s) states
-    (bytes_keep AnyReply OpensNone (λ a. Unit {0}) clock (λ f t e p. frame_quiet clock f (front_of f t)) (λ fault t e p. tt) piece s tt tt)
-
-outcome_quiet : (clock : ℕ) (r : Resolved) (s : Served) (states : States) → NoNew states (after (outcome_handled clock r s) states).0
-outcome_quiet clock r s states = after_new OpensNone same_call (λ a. Unit {0}) (outcome_handled clock r s) states
-    (outcome_keeps AnyReply OpensNone (λ a. Unit {0}) clock (λ f t e p. frame_quiet clock f (front_of f t)) (λ fault t e p. tt) r s tt (λ a e. tt))
-
--- outcomes that are posted
-posted_quiet : (r : Resolved) (node : PlainNode) (o : Option ℕ) → NoNew node.vbs (posted_to r node o).0.vbs
-posted_quiet r node None = λ v id h. h
-posted_quiet r node (Some c) = by (node.clients c)
-  where
-    by : (o : Option PlainSession) → NoNew node.vbs (posted_if c r node o).0.vbs
-    by None = λ v id h. h
-    by (Some session) = outcome_quiet node.clock r (served session []) node.vbs
-
-pub posts_quiet : (rs : List Resolved) (node : PlainNode) → NoNew node.vbs (all_posted rs node).0.vbs
-posts_quiet [] node = λ v id h. h
-posts_quiet (r ∷ rs) node =
-    let o : Option ℕ = awaiting node.clients r.waiter MAX_CLIENTS in
-    none_new node.vbs (posted_to r node o).0.vbs (all_posted rs (posted_to r node o).0).0.vbs (posted_quiet r node o) (posts_quiet rs (posted_to r node o).0)
+frame_quiet clock f s = either (Always OpensNone (λ a. Unit {0})) (f.magic == RESPONSE) (Done s) (if is_dcp f.opcode then Done (handed f s) else frame_answered clock f s) tt
+    (either (Always OpensNone (λ a. Unit {0})) (is_dcp f.opcode) (Done (handed f s)) (frame_answered clock f s) tt (answered_quiet clock f s))
 
 -- ---- steps of writing down
 

@@ -2,7 +2,7 @@
 use Rattle.std.specs.Prelude.{◌≡◌, ◌<◌}
 use Rattle.transcript_law.proofs.Words.{ℕ, true, List, refl, sym, ap, ◌∙◌, subst, Option, Some, None, Member, Cluster, Chronicle, PlainLink, PlainWorld, producer_node, consumer_node}
 use Rattle.{branch_model.specs.Journals.{log_of, place_of}, cluster_model.specs.Clusters.{Disk}, vb_calls.specs.Shelves.{Shelf}, transcript_law.specs.Chronicles.{DiskKnown, resting}}
-use Rattle.transcript_law.proofs.{invariant.Agreement.{AwayAt, BookBy, BookAgrees, EndsUp, IsLink, Power, PowerIsIf, RestsIn, is_down, power_of, shelf_of, vb_of, vb_row, VbRow}, invariant.Carrying.{SameEnds, SameOffs, SamePowers, off_of}, invariant.Seats.{seat}}
+use Rattle.transcript_law.proofs.{invariant.Agreement.{AwayAt, BookBy, BookAgrees, EndsUp, IsLink, Power, PowerIsIf, RestsIn, is_down, power_of, shelf_of, vb_of, vb_row, VbRow}, invariant.Carrying.{SameArms, SameEnds, SameOffs, SamePowers, off_of, same_arms}, invariant.Seats.{seat}}
 use Rattle.{disk_journals.specs.Books.{Book}, node_world.specs.Worlds.{is_off}, transcript_law.proofs.{disks.Disks.{power_in}, Words.{PlainNode, is_some}}}
 
 -- a place at which no vBucket is, and at which nothing changed
@@ -28,7 +28,10 @@ down_by (Some p) (Some q) e = let z : Some q.off ≡ Some p.off = e in let same 
 
 -- arms and all that they were
 pub offs_same : (w w' : PlainWorld) → SamePowers w w' → SameOffs w w'
-offs_same w w' powers m = ap off_of (powers m)
+offs_same w w' powers m = ap off_of (same_arms w w' powers m)
+
+pub offs_arms : (w w' : PlainWorld) → SameArms w w' → SameOffs w w'
+offs_arms w w' powers m = ap off_of (powers m)
 
 pub down_same : (w w' : PlainWorld) → SameOffs w w' → (n : ℕ) → is_down (power_of w' n) ≡ is_down (power_of w n)
 down_same w w' offs n = down_by (power_of w n) (power_of w' n) (offs n)
@@ -60,10 +63,16 @@ module _ (w w' : PlainWorld) (r r' : Chronicle) (c c' : Cluster) (a : RestsIn w 
       }
 
   -- and where arms are as they were
+  pub rests_arms : SameArms w w' → ((n : ℕ) → r'.arm_at n ≡ r.arm_at n) → ((n v : ℕ) → vb_of w' n v ≡ None → StillAt w w' r r' c c' n v)
+      → ((n v : ℕ) → is_down (power_of w n) ≡ true → (vb_of w' n v ≡ None) × (shelf_of w' n v ≡ None)) → ((n v : ℕ) → (r'.disk_at n v).there ≡ true → (r.disk_at n v).there ≡ true)
+      → ((link : PlainLink) → IsLink link w'.links → EndsUp w' link) → RestsIn w' r' c'
+  rests_arms powers arms = rests_with (offs_arms w w' powers) (λ n. subst (PowerIsIf (r'.arm_at n)) (sym (powers n)) (subst (λ t. PowerIsIf t (power_of w n)) (sym (arms n)) (a.powers n)))
+
+  -- and clients are too
   pub rests_by : SamePowers w w' → ((n : ℕ) → r'.arm_at n ≡ r.arm_at n) → ((n v : ℕ) → vb_of w' n v ≡ None → StillAt w w' r r' c c' n v)
       → ((n v : ℕ) → is_down (power_of w n) ≡ true → (vb_of w' n v ≡ None) × (shelf_of w' n v ≡ None)) → ((n v : ℕ) → (r'.disk_at n v).there ≡ true → (r.disk_at n v).there ≡ true)
       → ((link : PlainLink) → IsLink link w'.links → EndsUp w' link) → RestsIn w' r' c'
-  rests_by powers arms = rests_with (offs_same w w' powers) (λ n. subst (PowerIsIf (r'.arm_at n)) (sym (powers n)) (subst (λ t. PowerIsIf t (power_of w n)) (sym (arms n)) (a.powers n)))
+  rests_by powers arms = rests_arms (same_arms w w' powers) arms
 
 -- a node is down exactly where it is off
 pub off_as_power : (o : Option PlainNode) → is_down (power_in o) ≡ is_off o
@@ -85,3 +94,7 @@ ends_same w w' x y powers = ends_off w w' x y (offs_same w w' powers)
 
 pub ends_again : (w w' : PlainWorld) (x : PlainLink) → SamePowers w w' → EndsUp w x → EndsUp w' x
 ends_again w w' x powers e = ends_same w w' x x powers (record { dialed = refl; desk = refl }) e
+
+-- whatever becomes of clients
+pub ends_arms : (w w' : PlainWorld) (x : PlainLink) → SameArms w w' → EndsUp w x → EndsUp w' x
+ends_arms w w' x powers e = ends_off w w' x x (offs_arms w w' powers) (record { dialed = refl; desk = refl }) e

@@ -2,9 +2,10 @@
 use Rattle.std.specs.Prelude.{◌≡◌, ◌<◌, ◌++◌, ◌∷◌}
 use Rattle.std.proofs.lemmas.List.Elements.{All-drop}
 use Rattle.transcript_law.proofs.Words.{ℕ, List, [], refl, sym, ap, ◌∙◌, subst, drop, All-nil, All-cons, All-head, All-tail, All-append, Some, Ok}
-use Rattle.transcript_law.proofs.Words.{Frame, FrameFault, AreBytes, Readable, spelling, after, States, PlainSession, ended_at, frame_handled, bytes_handled}
-use Rattle.client_session.proofs.{Conduct.{Stays, frame_stays}, Keeping.{bytes_go, front_of, outcome_goes}}
-use Rattle.client_session.specs.Serving.{Served, outcome_handled}
+use Rattle.transcript_law.proofs.Words.{Frame, FrameFault, AreBytes, Readable, spelling, after, States, PlainSession, ended_at, frame_handled}
+use Rattle.client_session.proofs.{Conduct.{Stays, frame_stays}, Keeping.{front_of}}
+use Rattle.node_core.{proofs.Handlings.{fed_goes, posted_goes}, specs.Clients.{Handling, PlainClient, client_fed, client_posted}}
+use Rattle.client_session.specs.Serving.{Served}
 use Rattle.mcbp_frame.{proofs.Cases.{front}, specs.Frames.{first_frame, frame_len}, specs.Spelling.{header_spelling}}
 use Rattle.vb_calls.{proofs.Conduct.{after_always}, specs.Programs.{AnyCall}, specs.declared.calls.Resolved.{Resolved}}
 
@@ -50,7 +51,7 @@ pub more_ranged : (n : ℕ) (piece : List ℕ) (session : PlainSession) → AreB
 more_ranged n piece session h r = record { node = r.node; bytes = All-append (λ b. b < 256) session.reader piece r.bytes h }
 
 -- whatever a frame asks
-pub frame_ranged : (n clock : ℕ) (f : Frame) (states : States) (s : Served) → SessionRanged n s.session → SessionRanged n (after (frame_handled clock f (front_of f s)) states).1.session
+frame_ranged : (n clock : ℕ) (f : Frame) (states : States) (s : Served) → SessionRanged n s.session → SessionRanged n (after (frame_handled clock f (front_of f s)) states).1.session
 frame_ranged n clock f states s r =
     let x = front_ranged n f s r in
     let stays : Stays (front_of f s) (after (frame_handled clock f (front_of f s)) states).1 = after_always AnyCall (Stays (front_of f s)) (frame_handled clock f (front_of f s)) states
@@ -58,11 +59,13 @@ frame_ranged n clock f states s r =
     record { node = ap (λ who. who.node) stays.who ∙ x.node; bytes = subst AreBytes (sym stays.reader) x.bytes }
 
 module _ (n clock : ℕ) where
-  abbrev At : States × Served → Type 0
-  At x = SessionRanged n x.1.session
+  abbrev At : States × Handling → Type 0
+  At x = SessionRanged n x.1.client.session
 
-  pub served_ranged : (piece : List ℕ) (s : Served) (states : States) → AreBytes piece → SessionRanged n s.session → SessionRanged n (after (bytes_handled clock piece s) states).1.session
-  served_ranged piece s states h r = bytes_go At clock (λ f states t e p. frame_ranged n clock f states t p) (λ fault states t e p. fault_ranged n fault t p) piece s states r (more_ranged n piece s.session h r)
+  pub fed_ranged : (piece : List ℕ) (client : PlainClient) (states : States) → AreBytes piece → SessionRanged n client.session → SessionRanged n (after (client_fed clock piece client) states).1.client.session
+  fed_ranged piece client states h r = fed_goes At clock (λ before producer f states s e p. frame_ranged n clock f states s p) (λ before producer fault states s e p. fault_ranged n fault s p) (λ f states h e p. p) (λ states h e p. p) piece client states r
+      (more_ranged n piece client.session h r)
 
-  pub outcome_ranged : (r : Resolved) (s : Served) (states : States) → SessionRanged n s.session → SessionRanged n (after (outcome_handled clock r s) states).1.session
-  outcome_ranged r s states p = outcome_goes At clock (λ f states t e p. frame_ranged n clock f states t p) (λ fault states t e p. fault_ranged n fault t p) r s states p (λ a e. record { node = p.node; bytes = p.bytes })
+  pub outcome_ranged : (r : Resolved) (client : PlainClient) (states : States) → SessionRanged n client.session → SessionRanged n (after (client_posted clock r client) states).1.client.session
+  outcome_ranged r client states p = posted_goes At clock (λ before producer f states s e p. frame_ranged n clock f states s p) (λ before producer fault states s e p. fault_ranged n fault s p) (λ f states h e p. p) (λ states h e p. p) r client states p
+      (λ a e. record { node = p.node; bytes = p.bytes })

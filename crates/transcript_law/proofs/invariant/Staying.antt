@@ -2,11 +2,11 @@
 use Rattle.std.specs.Prelude.{◌==◌, if◌then◌else◌}
 use Rattle.std.proofs.Common.{◌≡◌, ℕ, Bool, true, false, List, [], ◌∷◌, take, refl, ap, sym, ◌∙◌, subst, Option, Some, None, is_some, option_map}
 use Rattle.std.proofs.lemmas.Bool.{eqb-true}
-use Rattle.client_session.specs.Serving.{PlainSession, bytes_handled, new_session, outcome_handled, served}
 use Rattle.dcp_producer.specs.Ending.{end_closed}
 use Rattle.disk_journals.specs.Arms.{arm_over, armed_at, under}
 use Rattle.mcbp_frame.specs.declared.frame.Frame.{Frame}
 use Rattle.node_core.specs.Admin.{admin_job}
+use Rattle.node_core.specs.Clients.{PlainClient, client_fed, client_posted, new_client}
 use Rattle.node_core.specs.Dials.{dial_bytes, dial_due}
 use Rattle.node_core.specs.Flushing.{flush_at}
 use Rattle.node_core.specs.Peers.{PeerResult, peer_answered, peer_frames, peer_heard, peer_pulled}
@@ -111,9 +111,9 @@ job_stays one node = record {
 }
 
 -- outcomes are told
-if_keeps : (c : ℕ) (r : Resolved) (node : PlainNode) (o : Option PlainSession) → Kept node.vbs (posted_if c r node o).0.vbs
+if_keeps : (c : ℕ) (r : Resolved) (node : PlainNode) (o : Option PlainClient) → Kept node.vbs (posted_if c r node o).0.vbs
 if_keeps c r node None u here = here
-if_keeps c r node (Some session) u here = ran_keeps (outcome_handled node.clock r (served session [])) node.vbs u here
+if_keeps c r node (Some client) u here = ran_keeps (client_posted node.clock r client) node.vbs u here
 
 to_keeps : (r : Resolved) (node : PlainNode) (o : Option ℕ) → Kept node.vbs (posted_to r node o).0.vbs
 to_keeps r node None u here = here
@@ -130,7 +130,7 @@ posts_stay rs node =
 -- lines of a node
 pub client_stays : (n base c : ℕ) (node : PlainNode) → Stays node (client_at n base c node).0
 client_stays n base c node =
-    let x : PlainNode × Told = (with_client node c (Some (new_session (record { node = n; client = c; base = base }))), done []) in
+    let x : PlainNode × Told = (with_client node c (Some (new_client (record { node = n; client = c; base = base }))), done []) in
     by (is_some (node.clients c)) x (vbs_stay node x.0 refl refl refl (λ u here. here))
   where
     by : (b : Bool) (x : PlainNode × Told) → Stays node x.0 → Stays node (if b then (node, refusal cause.LinkOpen) else x).0
@@ -140,9 +140,9 @@ client_stays n base c node =
 pub bytes_stay : (c : ℕ) (bytes : List ℕ) (node : PlainNode) → Stays node (bytes_at c bytes node).0
 bytes_stay c bytes node = by (node.clients c)
   where
-    by : (o : Option PlainSession) → Stays node (bytes_if c bytes node o).0
+    by : (o : Option PlainClient) → Stays node (bytes_if c bytes node o).0
     by None = same node
-    by (Some session) = vbs_stay node (bytes_if c bytes node (Some session)).0 refl refl refl (ran_keeps (bytes_handled node.clock bytes (served session [])) node.vbs)
+    by (Some client) = vbs_stay node (bytes_if c bytes node (Some client)).0 refl refl refl (ran_keeps (client_fed node.clock bytes client) node.vbs)
 
 pub admin_stays : (n v : ℕ) (asked : AdminCall) (node : PlainNode) → Stays node (admin_line n v asked node).0
 admin_stays n v asked node = job_stays (admin_job n v asked) node

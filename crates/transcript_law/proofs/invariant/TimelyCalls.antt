@@ -1,14 +1,16 @@
 -- the calls of clients, of a producer, of an operator and of writing down are such that a vBucket stays sound at them, whatever is replied
-use Rattle.std.specs.Prelude.{◌≡◌, ◌<◌, ◌^◌, ◌==◌, nat_le}
+use Rattle.std.specs.Prelude.{◌≡◌, ◌<◌, ◌^◌, ◌==◌, if◌then◌else◌, nat_le}
 use Rattle.transcript_law.proofs.Words.{ℕ, Bool, true, false, Option, Some, None, is_some, Result, Ok, Err, Frame, KvRequest, RESPONSE, Status, PlainStream, PlainProducer, AdminCall, VbCall, VbReply, DialResult, Prog, Call, Done, bind, Job, Ended, bind_job}
 use Rattle.transcript_law.proofs.Words.{request_handled, frame_handled, frame_answered, frames_put, end_closed, streams_closed, peer_pulled}
-use Rattle.client_session.proofs.Conduct.{either}
-use Rattle.client_session.specs.Serving.{MOST_DURABLE, Served as Session, deadline_of, durable_called, next_waiter, refused}
+use Rattle.client_session.proofs.{Conduct.{either}, Keeping.{front_of}}
+use Rattle.client_session.specs.Serving.{MOST_DURABLE, Served as Session, deadline_of, durable_called, frame_answered as served_by, handed, is_dcp, next_waiter, refused}
 use Rattle.dcp_producer.specs.Producers.{Served, begun}
 use Rattle.durability.specs.Chains.{is_chain, Links}
 use Rattle.mcbp_kv.specs.Requests.{request_of}
 use Rattle.mcbp_kv.specs.declared.request.KvRequest.TheVariants as request
+use Rattle.node_core.proofs.Handlings.{fed_keeps, posted_keeps}
 use Rattle.node_core.specs.Admin.{admin_job, role_noted}
+use Rattle.node_core.specs.Clients.{Handling, PlainClient, client_fed, client_posted, client_pull, client_pulled}
 use Rattle.node_core.specs.Dials.{PlainDial, acknowledged_result, dial_due, due_requested, due_met, due_of_reply, saved_of_reply, untold}
 use Rattle.node_core.specs.Flushing.{chain_changed, flush_at, flush_if, flush_result, ticked}
 use Rattle.node_core.specs.Loading.{start_job, start_result}
@@ -21,6 +23,7 @@ use Rattle.vb_calls.specs.Jobs.{AlwaysJob}
 use Rattle.vb_calls.specs.Jobs as job
 use Rattle.vb_calls.specs.Programs.{Always, AnyReply}
 use Rattle.vb_calls.specs.Shelves.{Ask, DiskFailed, Fate, Flush, Idle, Out, Stood, WasClosed, Written}
+use Rattle.vb_calls.specs.declared.calls.Resolved.{Resolved}
 use Rattle.vb_calls.specs.declared.calls.VbCall.TheVariants as call
 use Rattle.vb_calls.specs.declared.journals.Flushed.{Flushed}
 use Rattle.vb_calls.specs.declared.journals.Flushed.TheVariants as flushed
@@ -31,7 +34,8 @@ use Rattle.vb_types.specs.declared.journal.FlushPart.{FlushPart}
 use Rattle.vb_types.specs.declared.journal.FlushPart.TheVariants as part
 use Rattle.vbucket.specs.Laws.{IsTimely}
 use Rattle.transcript_law.proofs.Words.{List, [], refl, ◌∷◌, Event, StreamName}
-use Rattle.transcript_law.proofs.lines.{Answering.{Asks, Producer, Tells, frame_so}, Pulling.{Lines, Puts, Takes, pull_so}}
+use Rattle.transcript_law.proofs.lines.{Answering.{Asks, Producer, Tells}, Pulling.{Lines, Puts, Takes, pull_so}}
+use Rattle.dcp_producer.proofs.Telling.{frame_so}
 
 -- whatever a program or a job is answered, each of its calls is of a kind
 abbrev pub Makes : {A : Type 0} → (VbCall → Type 0) → Prog A → Type 0
@@ -78,7 +82,8 @@ request_tame clock small f (Ok (request.Write write (Some wish))) s =
 
 pub served_tame : (clock : ℕ) → clock < 2 ^ 64 → (f : Frame) (s : Session) → Tame (frame_handled clock f s)
 unfolding frame_handled
-served_tame clock small f s = either (λ (p : Prog Session). Tame p) (f.magic == RESPONSE) (Done s) (request_handled clock f (request_of s.session.settings.json f) s) tt (request_tame clock small f (request_of s.session.settings.json f) s)
+served_tame clock small f s = either (λ (p : Prog Session). Tame p) (f.magic == RESPONSE) (Done s) (if is_dcp f.opcode then Done (handed f s) else served_by clock f s) tt
+    (either (λ (p : Prog Session). Tame p) (is_dcp f.opcode) (Done (handed f s)) (served_by clock f s) tt (request_tame clock small f (request_of s.session.settings.json f) s))
 
 -- ---- a producer that answers
 
@@ -92,7 +97,7 @@ AnyLine name line = Unit {0}
 answered_tame : (f : Frame) (s : Served) → Tame (frame_answered f s)
 answered_tame f s =
     let asks : Asks IsTimely = record { opens = λ id ask sync. tt; closes = λ id. tt; counts = λ member seq. tt; logs = tt } in
-    let tells : Tells AnyLines s.end.desk = record { more = λ lines more a b. tt; asked = λ v ask high log said. tt; counted = λ v member seq uuid changes. tt } in
+    let tells : Tells AnyLines s.end.desk = record { more = λ lines more a b. tt; asked = λ v ask high log said. tt; counted = λ link v member seq uuid changes. tt } in
     always_so AnyReply (λ v made. IsTimely made) (Producer IsTimely AnyLines s.end.desk asks tells) (λ a. Unit {0}) (frame_answered f s) (λ t c. tt) (frame_so IsTimely AnyLines s.end.desk asks tells f s (tt, refl))
 
 pub peer_tame : (f : Frame) (peer : PlainPeer) → Tame (peer_answered f peer)
@@ -109,6 +114,23 @@ puts_tame k s =
 
 pub pulled_tame : (k : ℕ) (peer : PlainPeer) → Tame (peer_pulled k peer)
 pulled_tame k peer = tame_bind (frames_put k (begun peer.producer)) (λ put. Done (pull_result peer.heard put)) (puts_tame k (begun peer.producer)) (λ put. tt)
+
+-- ---- a client's connection: what it sends, what it is told of a durable write, and the frames of its streams
+
+module _ (clock : ℕ) (small : clock < 2 ^ 64) where
+  abbrev AnyHandling : Handling → Type 0
+  AnyHandling h = Unit {0}
+
+  pub fed_tame : (piece : List ℕ) (client : PlainClient) → Tame (client_fed clock piece client)
+  fed_tame piece client = fed_keeps AnyReply (λ v made. IsTimely made) AnyHandling clock (λ before producer f s e p. served_tame clock small f (front_of f s)) (λ before producer fault s e p. tt) (λ f h e p. answered_tame f (begun h.client.producer))
+      (λ h e p. closed_makes IsTimely (λ id. tt) h.client.producer) piece client tt tt
+
+  pub posted_tame : (r : Resolved) (client : PlainClient) → Tame (client_posted clock r client)
+  posted_tame r client = posted_keeps AnyReply (λ v made. IsTimely made) AnyHandling clock (λ before producer f s e p. served_tame clock small f (front_of f s)) (λ before producer fault s e p. tt) (λ f h e p. answered_tame f (begun h.client.producer))
+      (λ h e p. closed_makes IsTimely (λ id. tt) h.client.producer) r client tt (λ a e. tt)
+
+pub pull_tame : (k : ℕ) (client : PlainClient) → Tame (client_pulled k client)
+pull_tame k client = tame_bind (frames_put k (begun client.producer)) (λ put. Done (client_pull client.session put)) (puts_tame k (begun client.producer)) (λ put. tt)
 
 -- ---- a dial whose vBucket has more written down
 

@@ -1,7 +1,7 @@
 -- lines that tell of no arm, and of no rollback but where a link's bytes are taken: those of connections, links and streams, whatever the replies of vBuckets and journals
 use Rattle.std.specs.Prelude.{◌≡◌, ◌∷◌, ◌++◌, if◌then◌else◌}
 use Rattle.transcript_law.proofs.Words.{ℕ, Bool, true, false, List, [], refl, ap, ◌∙◌, take, map, Told, Answer, Cause, flat_map, filter-append, Option, Some, None, Event, EndReason, VbCall, Frame, FrameFault, States, after, front_fault, frames_in, with_states, LogEntry, StreamAsk, VbAnswer, VbReply, PlainLink, PlainNode}
-use Rattle.transcript_law.proofs.Words.{Done, peer_of, dial_of, moved_len, up_at, pump_at, bytes_at, bytes_if, PlainSession}
+use Rattle.transcript_law.proofs.Words.{Done, peer_of, dial_of, moved_len, up_at, pump_at, bytes_at, bytes_if, StreamName}
 use Rattle.dcp_consumer.specs.declared.handshake.Dialed.{Dialed}
 use Rattle.node_core.specs.Flushing.{FlushResult}
 use Rattle.node_core.specs.Peers.{PeerResult, PlainPeer, peer_answered, peer_frames, peer_heard}
@@ -14,7 +14,8 @@ use Rattle.dcp_consumer.specs.declared.handshake.ConsumerStep.TheVariants as ste
 use Rattle.dcp_consumer.specs.declared.passive_stream.Passive.{Passive}
 use Rattle.dcp_consumer.specs.declared.passive_stream.Passive.TheVariants as passive
 use Rattle.node_world.specs.{Arms.{placed}, Links.{frame_up, frames_up, frame_posted, untold_peer}, Nodes.{all_posted, with_posts}, World.{down_in}}
-use Rattle.transcript_law.proofs.lines.ClientLines.{AreOfClients, bytes_of_clients, posts_of_clients}
+use Rattle.transcript_law.proofs.lines.ClientLines.{AllKept, AreOfClients, bytes_of_clients, posts_kept, posts_of_clients}
+use Rattle.node_core.specs.Clients.{PlainClient}
 use Rattle.vb_calls.specs.declared.calls.Resolved.{Resolved}
 use Rattle.vb_calls.specs.declared.calls.VbAnswer.TheVariants as answer
 use Rattle.vb_calls.specs.declared.journals.Rolled.{Rolled}
@@ -96,29 +97,30 @@ clients_calm [] c = refl
 clients_calm (Event.Changed n v uuid change ∷ lines) c = clients_calm lines c.1
 clients_calm (Event.Reply n k bytes ∷ lines) c = clients_calm lines c.1
 clients_calm (Event.Closed n k ∷ lines) c = clients_calm lines c.1
+clients_calm (Event.Asked (StreamName.Client m k) n v ask high log said ∷ lines) c = clients_calm lines c.1
 clients_calm (other ∷ lines) c = absurd c.0
 
-pub bytes_calm : (c : ℕ) (bytes : List ℕ) (node : PlainNode) → Spared (bytes_at c bytes node).1
-bytes_calm c bytes node = by (node.clients c) (bytes_of_clients c bytes node)
+pub bytes_calm : (n c : ℕ) (bytes : List ℕ) (node : PlainNode) → AllKept n node → Spared (bytes_at c bytes node).1
+bytes_calm n c bytes node kept = by (node.clients c) (bytes_of_clients n c bytes node kept)
   where
-    by : (o : Option PlainSession) → AreOfClients (bytes_if c bytes node o).1.events → Spared (bytes_if c bytes node o).1
+    by : (o : Option PlainClient) → AreOfClients (bytes_if c bytes node o).1.events → Spared (bytes_if c bytes node o).1
     by None a = refl
-    by (Some session) a = clients_calm (bytes_if c bytes node (Some session)).1.events a
+    by (Some client) a = clients_calm (bytes_if c bytes node (Some client)).1.events a
 
 -- nor do those of outcomes that are posted
-pub all_posts_calm : (rs : List Resolved) (node : PlainNode) → Calm (all_posted rs node).1
-all_posts_calm rs node = clients_calm (all_posted rs node).1 (posts_of_clients rs node)
+pub all_posts_calm : (n : ℕ) (rs : List Resolved) (node : PlainNode) → AllKept n node → Calm (all_posted rs node).1
+all_posts_calm n rs node kept = clients_calm (all_posted rs node).1 (posts_of_clients n rs node kept)
 
-pub posts_calm : (told : FlushResult) (node : PlainNode) → Calm told.events → Calm (with_posts told node).1.events
-posts_calm told node c = calm_more told.events (all_posted told.resolved node).1 c (all_posts_calm told.resolved node)
+pub posts_calm : (n : ℕ) (told : FlushResult) (node : PlainNode) → AllKept n node → Calm told.events → Calm (with_posts told node).1.events
+posts_calm n told node kept c = calm_more told.events (all_posted told.resolved node).1 c (all_posts_calm n told.resolved node kept)
 
-pub posts_spared : (told : FlushResult) (node : PlainNode) → FiresAsSaid None told.events told.answer → Spared (with_posts told node).1
-posts_spared told node s = by told.answer s
+pub posts_spared : (n : ℕ) (told : FlushResult) (node : PlainNode) → AllKept n node → FiresAsSaid None told.events told.answer → Spared (with_posts told node).1
+posts_spared n told node kept s = by told.answer s
   where
     by : (said : Answer) → FiresAsSaid None told.events said → FiresAsSaid None (told.events ++ (all_posted told.resolved node).1) said
     by (Answer.No Cause.Disk) x = absurd x
     by (Answer.No Cause.Stopped) x = absurd x
-    by other x = posts_calm told node x
+    by other x = posts_calm n told node kept x
 
 -- ---- a producer
 
@@ -134,23 +136,25 @@ pub takes_any : TakesFrames AnyKind
 takes_any = record { places = λ id. tt; takes = λ id. tt; closes = λ id. tt }
 
 tells_calm : (d : Desk) → Tells Calm d
-tells_calm d = record { more = calm_more; asked = λ v ask high log said. refl; counted = λ v member seq uuid changes. calm_map (Event.Changed d.node v uuid) changes (λ x. refl) }
+tells_calm d = record { more = calm_more; asked = λ v ask high log said. refl; counted = λ link v member seq uuid changes. calm_map (Event.Changed d.node v uuid) changes (λ x. refl) }
 
 -- one frame, and the outcomes that are posted with it
-asked_calm : (f : Frame) (peer : PlainPeer) (node : PlainNode) → Calm (frame_posted f peer node).1.events
-asked_calm f peer node =
+asked_calm : (n : ℕ) (f : Frame) (peer : PlainPeer) (node : PlainNode) → AllKept n node → Calm (frame_posted f peer node).1.events
+asked_calm n f peer node kept =
     let x = after (peer_answered f peer) node.vbs in
     calm_more x.1.events (all_posted x.1.resolved (with_states node x.0)).1 (peer_so AnyKind Calm peer.producer.desk asks_any (tells_calm peer.producer.desk) f peer node.vbs refl refl).0
-    (all_posts_calm x.1.resolved (with_states node x.0))
+    (all_posts_calm n x.1.resolved (with_states node x.0) kept)
 
-frames_calm : (fs : List Frame) (came : PlainNode × PeerResult) → Calm came.1.events → Calm (frames_up fs came).1.events
-frames_calm [] came c = c
-frames_calm (f ∷ fs) came c = frames_calm fs (frame_up f came) (calm_more came.1.events (frame_posted f came.1.peer came.0).1.events c (asked_calm f came.1.peer came.0))
+frames_calm : (n : ℕ) (fs : List Frame) (came : PlainNode × PeerResult) → AllKept n came.0 → Calm came.1.events → Calm (frames_up fs came).1.events
+frames_calm n [] came kept c = c
+frames_calm n (f ∷ fs) came kept c =
+    let x = after (peer_answered f came.1.peer) came.0.vbs in
+    frames_calm n fs (frame_up f came) (posts_kept n x.1.resolved (with_states came.0 x.0) kept) (calm_more came.1.events (frame_posted f came.1.peer came.0).1.events c (asked_calm n f came.1.peer came.0 kept))
 
-pub up_calm : (wanted : ℕ) (link : PlainLink) (node : PlainNode) → Spared (up_at wanted link node).1.1
-up_calm wanted link node =
+pub up_calm : (n wanted : ℕ) (link : PlainLink) (node : PlainNode) → AllKept n node → Spared (up_at wanted link node).1.1
+up_calm n wanted link node kept =
     let piece : List ℕ = take (moved_len wanted link.up) link.up in
-    frames_calm (peer_frames piece (peer_of link)) (node, untold_peer (peer_heard piece (peer_of link))) refl
+    frames_calm n (peer_frames piece (peer_of link)) (node, untold_peer (peer_heard piece (peer_of link))) kept refl
 
 -- ---- what it puts
 

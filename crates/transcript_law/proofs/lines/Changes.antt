@@ -4,6 +4,12 @@ use Rattle.transcript_law.proofs.Words.{ℕ, Bool, true, false, not, List, [], r
 use Rattle.transcript_law.proofs.{invariant.Carried.{places}, invariant.Tables.{at_here, at_there}}
 use Rattle.transcript_law.specs.Chronicles.{CountsKnown, DiskKnown, after_calls, after_restart, broken_by, calls_of_append, is_off, spent, state_of, with_disk, with_record}
 use Rattle.{vb_disk.specs.declared.fuse.Fuse.{Fuse}, vb_types.specs.declared.journal.Record.{Record}}
+use Rattle.transcript_law.specs.{ClientFrames.{setup_after}, ClientStreams.{clients_line, unclosed}}
+use Rattle.transcript_law.specs.LawfulClients.{LawfulClientAsk, RefusesBy}
+use Rattle.transcript_law.specs.LinesTold.{after_client_line}
+use Rattle.transcript_law.specs.StreamLaws.{GrantsAs, LawfulSaid, LawfulVerdict}
+use Rattle.transcript_law.specs.StreamsTold.{ClientsKnown}
+use Rattle.vb_types.specs.declared.stream.{AskAnswer.{AskAnswer}, StreamAsk.{StreamAsk}}
 use Rattle.transcript_law.specs.{Lawfulness.{Fulfils, IsHeldIfCommitted, LawfulBranch, fork_in, newest_of}, OwnChanges.{IsNextChange}}
 use Rattle.vb_types.specs.declared.role.Role.TheVariants.{Active}
 
@@ -18,9 +24,10 @@ pub record Reads (q r : Chronicle) : Type 0 where
   pub log : r.log_at ≡ q.log_at
   pub snap : r.snap_at ≡ q.snap_at
   pub saved : (n v : ℕ) → (r.disk_at n v).saved ≡ (q.disk_at n v).saved
+  pub clients : r.clients_at ≡ q.clients_at
 
 pub reads_same : (r : Chronicle) → Reads r r
-reads_same r = record { tree = refl; branch = refl; held = refl; writer = refl; role = refl; counts = refl; log = refl; snap = refl; saved = λ n v. refl }
+reads_same r = record { tree = refl; branch = refl; held = refl; writer = refl; role = refl; counts = refl; log = refl; snap = refl; saved = λ n v. refl; clients = refl }
 
 -- it reads of a disk what counts as saved alone
 pub saved_at : (disks : ℕ → ℕ → DiskKnown) (n v : ℕ) (d : DiskKnown) → d.saved ≡ (disks n v).saved → (m q : ℕ) → (with_at disks n v d m q).saved ≡ (disks m q).saved
@@ -30,11 +37,11 @@ saved_at disks n v d same m q = ⊎_elim
     (places n v m q)
 
 pub disk_reads : (r : Chronicle) (n v : ℕ) (d : DiskKnown) → d.saved ≡ (r.disk_at n v).saved → Reads r (with_disk r n v d)
-disk_reads r n v d same = record { tree = refl; branch = refl; held = refl; writer = refl; role = refl; counts = refl; log = refl; snap = refl; saved = saved_at r.disk_at n v d same }
+disk_reads r n v d same = record { tree = refl; branch = refl; held = refl; writer = refl; role = refl; counts = refl; log = refl; snap = refl; saved = saved_at r.disk_at n v d same; clients = refl }
 
 -- and nothing of device calls
 pub calls_read : {q r : Chronicle} (calls n : ℕ) → Reads q r → Reads q (after_calls calls n r)
-calls_read calls n s = record { tree = s.tree; branch = s.branch; held = s.held; writer = s.writer; role = s.role; counts = s.counts; log = s.log; snap = s.snap; saved = s.saved }
+calls_read calls n s = record { tree = s.tree; branch = s.branch; held = s.held; writer = s.writer; role = s.role; counts = s.counts; log = s.log; snap = s.snap; saved = s.saved; clients = s.clients }
 
 pub reads_change : (q r : Chronicle) (n v uuid : ℕ) (change : Change) → Reads q r → Reads (after_change q n v uuid change) (after_change r n v uuid change)
 reads_change q r n v uuid change s = record {
@@ -47,6 +54,7 @@ reads_change q r n v uuid change s = record {
   log = s.log;
   snap = ap (λ (t : ℕ → ℕ → Option (ℕ × ℕ)). with_at t n v (Some (change.seq, change.seq))) s.snap;
   saved = s.saved;
+  clients = s.clients;
 }
 
 pub change_read : (q r : Chronicle) (n v uuid : ℕ) (change : Change) → Reads q r → LawfulChange r n v uuid change → LawfulChange q n v uuid change
@@ -60,6 +68,36 @@ change_read q r n v uuid change s l = record {
   backed = subst (λ (f : ℕ → ℕ → CountsKnown). IsHeldIfCommitted (f n v) (q.disk_at n v).saved (image_of (q.held n v)) change) s.counts
       (subst (λ k. IsHeldIfCommitted (r.counts_at n v) k (image_of (q.held n v)) change) (s.saved n v) (subst (λ (h : ℕ → ℕ → List Change). IsHeldIfCommitted (r.counts_at n v) (r.disk_at n v).saved (image_of (h n v)) change) s.held l.backed));
 }
+
+-- a line that tells of clients alone reads the branches and what is known of clients
+pub reads_client : (q r : Chronicle) (line : Event) → Reads q r → Reads (after_client_line q line) (after_client_line r line)
+reads_client q r line s = record {
+  tree = s.tree;
+  branch = s.branch;
+  held = s.held;
+  writer = s.writer;
+  role = s.role;
+  counts = s.counts;
+  log = s.log;
+  snap = s.snap;
+  saved = s.saved;
+  clients = λ i. clients_line (s.tree i) (s.clients i) line;
+}
+
+-- an answer to a request
+said_read : (q r : Chronicle) (n v : ℕ) (ask : StreamAsk) (high : ℕ) (log : List LogEntry) (said : AskAnswer) → Reads q r → LawfulSaid r n v ask high log said → LawfulSaid q n v ask high log said
+said_read q r n v ask high log said s l = record {
+  own_log = subst (λ (f : ℕ → ℕ → Option (List LogEntry)). IsIfKnown (f n v) log) s.log l.own_log;
+  own_high = subst (λ (h : ℕ → ℕ → List Change). high ≡ last_seq 0 (h n v)) s.held l.own_high;
+  verdict = subst (λ t. LawfulVerdict t log high ask said) s.tree l.verdict;
+  active = subst (λ (f : ℕ → ℕ → Option (Option Role)). GrantsAs (f n v) said) s.role l.active;
+}
+
+pub asked_read : (q r : Chronicle) (n c m v : ℕ) (ask : StreamAsk) (high : ℕ) (log : List LogEntry) (said : AskAnswer) (behind : List Event) → Reads q r
+    → LawfulClientAsk r (r.clients_at n c) n c m v ask high log said behind → LawfulClientAsk q (q.clients_at n c) n c m v ask high log said behind
+asked_read q r n c m v ask high log said behind s l =
+    let x : LawfulClientAsk r (q.clients_at n c) n c m v ask high log said behind = subst (λ (k : ClientsKnown). LawfulClientAsk r (k n c) n c m v ask high log said behind) s.clients l in
+    record { own_node = x.own_node; request = x.request; next = x.next; numbers = x.numbers; vb = x.vb; answered = said_read q r n v ask high log said s x.answered; own = x.own; reason = subst (λ (f : ℕ → ℕ → Option (Option Role)). RefusesBy (setup_after (q.clients_at n c).setup x.request.before) (f n v) (unclosed x.request.before (q.clients_at n c).streams v) ask said) s.role x.reason; frame = x.frame }
 
 pub branch_read : (q r : Chronicle) (n v uuid : ℕ) (parent : Option ℕ) (fork high : ℕ) → Reads q r → LawfulBranch r n v uuid parent fork high → LawfulBranch q n v uuid parent fork high
 branch_read q r n v uuid parent fork high s l = record {

@@ -47,8 +47,8 @@ all_heard conns (other ∷ lines) s = (tt, all_heard conns lines s.1)
 -- with what else was read they are lawful
 pub lines_heard : (r : Chronicle) (conns : Conns) (lines : List Event) → LawfulFrom r lines → HeardFrom conns lines → LinesFrom r conns lines
 lines_heard r conns [] l h = tt
-lines_heard r conns (Event.Reply n c bytes ∷ lines) l h = (h.0, lines_heard r conns lines l.1 h.1)
-lines_heard r conns (Event.Closed n c ∷ lines) l h = (h.0, lines_heard r (with_at conns n c false) lines l.1 h.1)
+lines_heard r conns (Event.Reply n c bytes ∷ lines) l h = (h.0, lines_heard (after_line r (Event.Reply n c bytes)) conns lines l.1 h.1)
+lines_heard r conns (Event.Closed n c ∷ lines) l h = (h.0, lines_heard (after_line r (Event.Closed n c)) (with_at conns n c false) lines l.1 h.1)
 lines_heard r conns (Event.NodeStopped n ∷ lines) l h = ((l.0, h.0.1), lines_heard r conns lines l.1 h.1)
 lines_heard r conns (other ∷ lines) l h = (l.0, lines_heard (after_line r other) conns lines l.1 h.1)
 

@@ -27,7 +27,7 @@ use Rattle.dcp_producer.specs.declared.desk.Desk.{Desk}
 -- ---- a producer
 
 tells_mute : (d : Desk) → Tells AreMute d
-tells_mute d = record { more = mute_more; asked = λ v ask high log said. (tt, tt); counted = λ v member seq uuid changes. (tt, mute_map (Event.Changed d.node v uuid) changes (λ x. tt)) }
+tells_mute d = record { more = mute_more; asked = λ v ask high log said. (tt, tt); counted = λ link v member seq uuid changes. (tt, mute_map (Event.Changed d.node v uuid) changes (λ x. tt)) }
 
 -- one frame, without the outcomes that are posted with it
 pub peer_mute : (f : Frame) (peer : PlainPeer) (states : States) → AreMute (after (peer_answered f peer) states).1.events

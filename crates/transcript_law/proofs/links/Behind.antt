@@ -7,25 +7,27 @@ use Rattle.node_core.specs.Flushing.{FlushResult}
 use Rattle.node_world.specs.{Arms.{fired_by}, Nodes.{all_posted, with_posts}, Turns.{posted_at, posted_in}, Worlds.{arm_in, is_up}}
 use Rattle.node_world.specs.declared.{arm.Fired.{Fired}}
 use Rattle.node_world.specs.declared.arm.Fired.TheVariants as fired
+use Rattle.transcript_law.specs.LinesTold.{after_client_line}
 use Rattle.transcript_law.specs.Chronicles.{after_noted, broken_by, calls_of_append, state_of, with_record}
 use Rattle.vb_calls.specs.declared.calls.Resolved.{Resolved}
 use Rattle.vb_types.specs.declared.role.Role.{Role}
 
--- what a line tells beside its lines: changes read the same before it and behind it
+-- what a line tells beside its lines: changes, and lines that tell of clients alone, read the same before it and behind it
 pub record IsBeside (told : Chronicle → Chronicle) : Type 0 where
   pub reads : (r : Chronicle) → Reads r (told r)
   pub past : (r : Chronicle) (n v uuid : ℕ) (change : Change) → told (after_change r n v uuid change) ≡ after_change (told r) n v uuid change
+  pub client : (r : Chronicle) (line : Event) → told (after_client_line r line) ≡ after_client_line (told r) line
 
 -- a line that tells nothing beside them
 pub nothing_beside : IsBeside (λ r. r)
-nothing_beside = record { reads = λ r. reads_same r; past = λ r n v uuid change. refl }
+nothing_beside = record { reads = λ r. reads_same r; past = λ r n v uuid change. refl; client = λ r line. refl }
 
 -- a line that gave a vBucket a role, and did not stop its node yet
 pub noted_beside : (n v : ℕ) (role : Role) (said : Answer) → (said ≡ Answer.No Cause.Stopped → ⊥) → IsBeside (λ r. after_noted r n v role said)
 noted_beside n v role (Answer.No Cause.Stopped) runs = absurd (runs refl)
-noted_beside n v role (Answer.No Cause.Closed) runs = record { reads = λ r. disk_reads r n v (r.disk_at n v) refl; past = λ r m q uuid change. refl }
-noted_beside n v role (Answer.No Cause.Disk) runs = record { reads = λ r. calls_read calls_of_append n (disk_reads r n v (broken_by (r.arm_at n).fuse (Some (state_of r n v role)) (r.disk_at n v)) refl); past = λ r m q uuid change. refl }
-noted_beside n v role Answer.Ok runs = record { reads = λ r. calls_read calls_of_append n (disk_reads r n v (with_record (state_of r n v role) (r.disk_at n v)) refl); past = λ r m q uuid change. refl }
+noted_beside n v role (Answer.No Cause.Closed) runs = record { reads = λ r. disk_reads r n v (r.disk_at n v) refl; past = λ r m q uuid change. refl; client = λ r line. refl }
+noted_beside n v role (Answer.No Cause.Disk) runs = record { reads = λ r. calls_read calls_of_append n (disk_reads r n v (broken_by (r.arm_at n).fuse (Some (state_of r n v role)) (r.disk_at n v)) refl); past = λ r m q uuid change. refl; client = λ r line. refl }
+noted_beside n v role Answer.Ok runs = record { reads = λ r. calls_read calls_of_append n (disk_reads r n v (with_record (state_of r n v role) (r.disk_at n v)) refl); past = λ r m q uuid change. refl; client = λ r line. refl }
 noted_beside n v role other runs = nothing_beside
 
 -- a line that appends a record at the node n, under the arm that it has in the world w: its lines are lawful, none shows a vBucket, and it has come to what they tell
@@ -40,10 +42,10 @@ module _ (stays : StaysSound) (steady : Steady) where
       → GoesOn r beside (with_node_at w n node, record { events = told.events; answer = told.answer })
       → GoesOn r beside (with_node_at w n (with_posts told node).0, (with_posts told node).1)
   posts_behind w r n node told beside b ranged quiet g =
-      let r1 : Chronicle = after_lines r told.events in let lines : List Event = (all_posted told.resolved node).1 in let clients : AreOfClients lines = posts_of_clients told.resolved node in
+      let r1 : Chronicle = after_lines r told.events in let lines : List Event = (all_posted told.resolved node).1 in let clients : AreOfClients lines = posts_of_clients n told.resolved node ranged.own in
       let p = posts_go stays steady w (beside r1) n node told.resolved ranged g.1 in (
         lawful_more r told.events lines quiet g.0 (clients_read r1 (beside r1) lines clients (b.reads r1) p.0),
-        subst (Agrees (with_node_at w n (all_posted told.resolved node).0)) (sym (ap beside (after_more r told.events lines) ∙ read_beside beside b.past r1 lines clients)) p.1,
+        subst (Agrees (with_node_at w n (all_posted told.resolved node).0)) (sym (ap beside (after_more r told.events lines) ∙ read_beside beside b.past b.client r1 lines clients)) p.1,
       )
 
   -- and so it does where an arm may have fired, which is asked later
@@ -67,16 +69,16 @@ module _ (stays : StaysSound) (steady : Steady) where
 
       posts_at : (node : PlainNode) → o.0.nodes n ≡ Some node → NotingGoes n told before r (posted_at n rs o.0 o.1 (Some node))
       posts_at node at =
-          let node' : PlainNode = (all_posted rs node).0 in let lines : List Event = (all_posted rs node).1 in let clients : AreOfClients lines = posts_of_clients rs node in let kept : SameBeside node node' = posts_keep rs node in
-          let w1 : PlainWorld = with_branches o.1.events o.0 in let w2 : PlainWorld = with_node_at o.0 n node' in
           let here : NodeRanged n node = subst (NodeRangedIf n) at (ranged n) in
+          let node' : PlainNode = (all_posted rs node).0 in let lines : List Event = (all_posted rs node).1 in let clients : AreOfClients lines = posts_of_clients n rs node here.own in let kept : SameBeside node node' = posts_keep rs node in
+          let w1 : PlainWorld = with_branches o.1.events o.0 in let w2 : PlainWorld = with_node_at o.0 n node' in
           let go = posts_go stays steady w1 (told o.1.answer r1) n node rs here in
           let arms : fired_by (arm_in (before.nodes n)).fuse (arm_in (w2.nodes n)).fuse ≡ fired_by (arm_in (before.nodes n)).fuse (arm_in (o.0.nodes n)).fuse =
           (λ i. fired_by (arm_in (before.nodes n)).fuse (arm_in (if eq-eqb n n refl i then Some node' else o.0.nodes n)).fuse) ∙ (λ i. fired_by (arm_in (before.nodes n)).fuse (kept.arm i).fuse)
           ∙ (λ i. fired_by (arm_in (before.nodes n)).fuse (arm_in (sym at i)).fuse) in
           let up : is_up (w2.nodes n) ≡ is_up (w1.nodes n) = (λ i. is_up (if eq-eqb n n refl i then Some node' else o.0.nodes n)) ∙ ap (λ k. not (is_some k)) kept.off ∙ ap is_up (sym at) in
           let same : flat_map branch_of_line (o.1.events ++ lines) ≡ flat_map branch_of_line o.1.events = same_told o.1.events lines (clients_branched lines clients) in
-          let read : told o.1.answer (after_lines r (o.1.events ++ lines)) ≡ after_lines (told o.1.answer r1) lines = ap (told o.1.answer) (after_more r o.1.events lines) ∙ read_beside (told o.1.answer) b.past r1 lines clients in
+          let read : told o.1.answer (after_lines r (o.1.events ++ lines)) ≡ after_lines (told o.1.answer r1) lines = ap (told o.1.answer) (after_more r o.1.events lines) ∙ read_beside (told o.1.answer) b.past b.client r1 lines clients in
           record {
             lawful = lawful_more r o.1.events lines so.quiet so.lawful (clients_read r1 (told o.1.answer r1) lines clients (b.reads r1) (go (put_agrees w1 (told o.1.answer r1) n node at (came_lawful (fired_by (arm_in (before.nodes n)).fuse (arm_in (o.0.nodes n)).fuse) r1 w1 o.1.answer so.came))).0);
             quiet = quiet_more o.1.events lines so.quiet (clients_quiet lines clients);

@@ -3,6 +3,7 @@ use Rattle.std.specs.Prelude.{◌≡◌, ◌∷◌, ◌==◌, if◌then◌else�
 use Rattle.transcript_law.proofs.links.Retreating.{none_yet}
 use Rattle.transcript_law.proofs.Words.{ℕ, true, false, List, [], refl, ap, sym, ◌∙◌, subst, ⊎_elim, is_some, not, PlainNode, Option, Some, None, vb_in}
 use Rattle.transcript_law.proofs.Words.{ne_eqb}
+use Rattle.transcript_law.proofs.{disks.Disks.{beside_by}, invariant.Carrying.{SamePowers, same_arms, same_clients}, invariant.Resting.{offs_same}}
 use Rattle.transcript_law.proofs.Words.{Cluster, Move, happens, after_job, after_job_bind, lift}
 use Rattle.transcript_law.proofs.Words.{DialResult, roll_back, unlinked}
 use Rattle.transcript_law.proofs.{Words.{Chronicle, after_lines}, invariant.Agreement.{vb_of, IsArm, PowerIsIf, Power, power_of}}
@@ -89,11 +90,15 @@ module _ (line : Line) (back : Back line) where
   asked_known : vb_of (gone line asked_kept) n v ≡ Some fv
   asked_known = gone_vb asked_kept n v ∙ vb_put line states states.1 at fv
 
+  same_beside : (x : Shelf) → SamePowers (gone line asked_kept) (gone line (shut_kept x))
+  same_beside x m = (unlinks line back (there line (shut_kept x))).powers m ∙ same_powers line asked_kept (shut_kept x) m ∙ sym ((unlinks line back (there line asked_kept)).powers m)
+
   same_kept : (x : Shelf) → Renoted (gone line asked_kept) (gone line (shut_kept x)) n v (under Off x)
   same_kept x =
       let a = unlinks line back (there line asked_kept) in let b = unlinks line back (there line (shut_kept x)) in
       record {
-        offs = λ m. ap off_of (b.powers m ∙ same_powers line asked_kept (shut_kept x) m ∙ sym (a.powers m));
+        offs = offs_same (gone line asked_kept) (gone line (shut_kept x)) (same_beside x);
+        clients = same_clients (gone line asked_kept) (gone line (shut_kept x)) (same_beside x);
         vbs = λ m q. b.vbs m q ∙ elim (m == n) as (λ t. vb_in (if t then Some (with_kept node (unarmed v (shut_kept x))) else w.nodes m) q ≡ vb_in (if t then Some (with_kept node (unarmed v asked_kept)) else w.nodes m) q) [ true ↦ refl | false ↦ refl ] ∙ sym (a.vbs m q);
         stands = b.shelves n v ∙ shelf_now line (shut_kept x) x (shelf_found states.1 v x);
         shelves = λ m q o. b.shelves m q ∙ shelves_but line asked_kept (shut_kept x) (λ p ne. ap (λ t. if t then Some x else states.1 p) (ne_eqb p v ne)) m q o ∙ sym (a.shelves m q);
@@ -102,8 +107,7 @@ module _ (line : Line) (back : Back line) where
       }
 
   powers_kept : (x : Shelf) (m : ℕ) → PowerIsIf (told.arm_at m) (power_of (gone line (shut_kept x)) m)
-  powers_kept x m = subst (PowerIsIf (told.arm_at m))
-      (sym ((unlinks line back (there line (shut_kept x))).powers m ∙ same_powers line asked_kept (shut_kept x) m ∙ sym ((unlinks line back (there line asked_kept)).powers m))) (cut_agrees.powers m)
+  powers_kept x m = subst (PowerIsIf (told.arm_at m)) (sym (same_arms (gone line asked_kept) (gone line (shut_kept x)) (same_beside x) m)) (cut_agrees.powers m)
 
   -- its journal, where the link was cut
   cut_disk : cut_off.disks k ≡ c.disks k
@@ -155,10 +159,10 @@ module _ (line : Line) (back : Back line) where
           carries_same idle idle (gone line (shut_kept shelf)) (unlinked link (lifted_at line (shut_kept shelf))) (with_disk told n v (told.disk_at n v)) (unwritten cut_off k cut_agrees.sound).now
               (shut_agrees shelf (told.disk_at n v) (cut_off.disks k) (unwritten cut_off k cut_agrees.sound) cut_written)
               (record {
-                powers = λ m. ⊎_elim
+                powers = λ m. beside_by ((gone line (shut_kept shelf)).nodes m) ((unlinked link (lifted_at line (shut_kept shelf))).nodes m) (⊎_elim
                     (λ e. ap (λ j. power_of (unlinked link (lifted_at line (shut_kept shelf))) j) e ∙ x.armed ∙ ap (λ g. Some (record power { arm = record power.arm { fuse = g } })) same ∙ sym x.before ∙ ap (λ j. power_of (gone line (shut_kept shelf)) j) (sym e))
                     (λ ne. x.others m ne)
-                    (numbers m n);
+                    (numbers m n)) (x.clients m);
                 vbs = x.vbs;
                 shelves = x.shelves;
                 uuids = x.uuids;

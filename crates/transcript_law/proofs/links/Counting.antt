@@ -1,6 +1,6 @@
 -- an acknowledgement is counted at a producer, or refused: all lines are lawful, and after them all agrees
-use Rattle.std.specs.Prelude.{◌≡◌, ◌<◌, ◌≤◌, ◌∷◌, ◌++◌, ◌==◌, ◌^◌, if◌then◌else◌, nat_lt, Result, Ok, Err}
-use Rattle.dcp_producer.specs.{Producers.{is_open, member_of, stream_at as stream_of_vb}, declared.desk.Named.{Named}, Serving.{acknowledged, count_answered, count_requested, counted_by, counted_line, fed_stream, status_frame, status_sent, weighed}}
+use Rattle.std.specs.Prelude.{◌||◌, ◌≡◌, ◌<◌, ◌≤◌, ◌∷◌, ◌++◌, ◌==◌, ◌^◌, if◌then◌else◌, nat_lt, Result, Ok, Err}
+use Rattle.dcp_producer.specs.{Producers.{is_client, is_open, member_of, stream_at as stream_of_vb}, declared.desk.Named.{Named}, Serving.{acknowledged, count_answered, count_requested, counted_by, counted_line, fed_stream, status_frame, status_sent, weighed}}
 use Rattle.durability.specs.Outstanding.{with_ack}
 use Rattle.mcbp_frame.proofs.Pieces.{frames-left, left-left}
 use Rattle.node_core.specs.Calls.{own_lines}
@@ -11,7 +11,7 @@ use Rattle.transcript_law.proofs.Words.{DcpMsg, Done, Handshake, ⊎_elim, Plain
 use Rattle.transcript_law.proofs.invariant.Agreement.{active_counts, Agrees, AgreesAt, AgreesIn, EndsStand, IsAcknowledgement, IsBytesAcknowledgement, IsSeqnoAcknowledgement, IsWriter, IsWriterIf, LinkAgrees, kept_stream, Streaming, Talk, VbAgrees, Wants, consumer_seat, idle, is_refused_ack, producer_seat, spoken, vb_of, wants_of, DownAgrees, UpIs}
 use Rattle.transcript_law.proofs.{invariant.Counts.{counts_agree}, invariant.Majorities.{counts_more}}
 use Rattle.transcript_law.specs.Chronicles.{after_count}
-use Rattle.transcript_law.proofs.{invariant.Carried.{talk_same, told_of_same}, lines.ClientLines.{clients_quiet}, disks.Disks.{power_in}, invariant.JobSteps.{put_over}, invariant.LinkRows.{put_is_found, put_twice}, lines.Lines.{AreQuiet, after_more, lawful_more, quiet_more}}
+use Rattle.transcript_law.proofs.{invariant.Carried.{talk_same, told_of_same}, lines.ClientLines.{clients_quiet}, disks.Disks.{beside_in}, invariant.JobSteps.{put_over}, invariant.LinkRows.{put_is_found, put_twice}, lines.Lines.{AreQuiet, after_more, lawful_more, quiet_more}}
 use Rattle.transcript_law.proofs.{verbs.NodeLines.{node_changed, node_grown, put_same, shelves_again, shelves_put}, links.Posting.{posts_go, posts_of_clients, posts_ranged}, invariant.Ranged.{NodeRanged}, links.Requests.{ack_answered, all_set, bytes_answered, passed_end}, links.Windows.{streaming_served}, invariant.Seats.{seat}}
 use Rattle.transcript_law.proofs.verbs.Settling.{SettlesOn, Steady, changes_quiet, changes_told, settled_told, settles}
 use Rattle.transcript_law.proofs.{links.Spoken.{spoken_pushed}, invariant.Tables.{if_known}, links.Talks.{come, more_down, next_up}, lines.Telling.{LawfulBefore, before_more, none_before, told_more}, links.Unread.{answering, heard_link, readable_up, reread, unread}}
@@ -114,7 +114,7 @@ module _ (stays : StaysSound) (steady : Steady) (w0 : PlainWorld) (r0 : Chronicl
 
     -- the stream that is fed, and how the acknowledgement is weighed
     abbrev fed_of : List PlainStream → Option PlainStream
-    fed_of streams = fed_stream (stream_of_vb f.vb_or_status streams)
+    fed_of streams = fed_stream s.end.desk.stream (stream_of_vb f.vb_or_status streams)
 
     abbrev weight : Result ℕ Status
     weight = weighed seq (fed_of s.end.streams) (member_of s.end.handshake)
@@ -123,12 +123,13 @@ module _ (stays : StaysSound) (steady : Steady) (w0 : PlainWorld) (r0 : Chronicl
     kept_live true stream e = cc
     kept_live false stream e = (refl, by (stream.vb == f.vb_or_status) e)
       where
-        fed : (ended : Bool) → is_some (if ended then None else Some stream) ≡ true → ended ≡ false
-        fed true e = cc
-        fed false e = refl
+        fed : (other ended : Bool) → is_some (if other || ended then None else Some stream) ≡ true → ended ≡ false
+        fed true ended e = cc
+        fed false true e = cc
+        fed false false e = refl
 
-        by : (own : Bool) → is_some (fed_stream (if own then Some stream else None)) ≡ true → stream.ended ≡ false
-        by true e = fed stream.ended e
+        by : (own : Bool) → is_some (fed_stream s.end.desk.stream (if own then Some stream else None)) ≡ true → stream.ended ≡ false
+        by true e = fed (is_client s.end.desk.stream) stream.ended e
         by false e = cc
 
     member_is : (member : ℕ) → weight ≡ Ok member → link0.consumer.dialed.node ≡ member
@@ -314,7 +315,7 @@ module _ (stays : StaysSound) (steady : Steady) (w0 : PlainWorld) (r0 : Chronicl
         reply = (also_resolved (quiet_reply VbAnswer.Done) (settled acked_vb)).1
 
         ranged4 : NodeRanged m last_node
-        ranged4 = record { clock = now.ranged.clock; clients = now.ranged.clients }
+        ranged4 = record { clock = now.ranged.clock; clients = now.ranged.clients; own = now.ranged.own; runs = now.ranged.runs }
 
         abbrev posts : PlainNode × List Event
         posts = all_posted reply.resolved last_node
@@ -323,7 +324,7 @@ module _ (stays : StaysSound) (steady : Steady) (w0 : PlainWorld) (r0 : Chronicl
         went = posts_go stays steady w2 r4 m last_node reply.resolved ranged4 agrees4
 
         posts_quiet : AreQuiet posts.1
-        posts_quiet = clients_quiet posts.1 (posts_of_clients reply.resolved last_node)
+        posts_quiet = clients_quiet posts.1 (posts_of_clients m reply.resolved last_node ranged4.own)
 
         -- all that is told of the frame
         abbrev lines : List Event
@@ -353,7 +354,7 @@ module _ (stays : StaysSound) (steady : Steady) (w0 : PlainWorld) (r0 : Chronicl
         agrees6 : AgreesIn (answering l fs) w6 (after_lines r4 posts.1) went.1.0
         agrees6 = reread w5 w6 (after_lines r4 posts.1) went.1.0 l there fs readable (ap frames_in now.heard ∙ frames-left (come link0 n)) (ap left_of now.heard ∙ left-left (come link0 n) ∙ sym now.heard)
             went.1.1 (put_is_found l w1.links there heard (found_at w0 r0 n link0 found told_x) refl) (record {
-              powers = λ k. ap power_in (nodes_same k);
+              powers = λ k. ap beside_in (nodes_same k);
               vbs = λ k q. ap (λ z. vb_in z q) (nodes_same k);
               shelves = λ k q. ap (λ z. shelf_in z q) (nodes_same k);
               uuids = refl;

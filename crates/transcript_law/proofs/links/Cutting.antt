@@ -12,7 +12,7 @@ use Rattle.transcript_law.specs.Feeding.{HasOpen}
 use Rattle.transcript_law.proofs.verbs.NodeLines.{shelves_again, shelves_put, node_of_same_vbs, node_changed}
 
 -- streams of other numbers stay
-closed_others : (id x : ℕ) (streams : List Stream) → (x ≡ id → ⊥) → stream_at x (without_stream id streams) ≡ stream_at x streams
+pub closed_others : (id x : ℕ) (streams : List Stream) → (x ≡ id → ⊥) → stream_at x (without_stream id streams) ≡ stream_at x streams
 closed_others id x [] ne = refl
 closed_others id x (s ∷ ss) ne = by (closed_others id x ss ne) (s.id == id) refl
   where

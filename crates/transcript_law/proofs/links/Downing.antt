@@ -24,7 +24,7 @@ use Rattle.vb_disk.specs.declared.fuse.Fuse.TheVariants.{Off}
 use Rattle.{transcript_law.specs.Chronicles.{ArmKnown, DiskKnown, after_append, after_calls, appending, calls_of_append, is_rollback, rollback_of}, vb_events.specs.declared.event.Answer.{Answer}, vb_types.specs.declared.journal.Record.{Record}}
 use Rattle.vb_events.specs.declared.event.Answer.TheVariants as answer
 use Rattle.vb_events.specs.declared.event.Cause.TheVariants as cause
-use Rattle.transcript_law.proofs.{disks.ArmedLines.{ArmedCame}, invariant.Agreement.{Agrees, RestsIn, power_of}, invariant.Carrying.{Changed}, disks.Disks.{power_in}, verbs.NodeLines.{shelves_again, shelves_there}, invariant.OneLink.{consumer_rests, put_ends}}
+use Rattle.transcript_law.proofs.{disks.ArmedLines.{ArmedCame}, invariant.Agreement.{Agrees, RestsIn}, invariant.Carrying.{Changed, SamePowers}, disks.Disks.{beside_in}, verbs.NodeLines.{shelves_again, shelves_there}, invariant.OneLink.{consumer_rests, put_ends}}
 use Rattle.transcript_law.proofs.links.Onward.{AreOnward, IsOnward, Kept, onward_more, onward_same, over_apart, over_here, unarmed}
 use Rattle.{node_world.specs.Nodes.{PlainNode, with_kept}, vb_events.specs.declared.event.EndReason.TheVariants.{Disk, Refused}, vb_events.specs.declared.event.StreamName.TheVariants.{Link}}
 use Rattle.vb_types.specs.declared.stream.AskAnswer.TheVariants as ask_answer
@@ -249,9 +249,9 @@ module _ (line : Line) where
     );
   }
 
-  -- the arms are as they were
-  pub same_powers : (states states' : Kept) (m : ℕ) → power_of (there states') m ≡ power_of (there states) m
-  same_powers states states' m = elim (m == n) as (λ b. power_in (if b then Some (with_kept node (unarmed v states')) else w.nodes m) ≡ power_in (if b then Some (with_kept node (unarmed v states)) else w.nodes m)) [ true ↦ refl | false ↦ refl ]
+  -- the arms and the clients are as they were
+  pub same_powers : (states states' : Kept) → SamePowers (there states) (there states')
+  same_powers states states' m = elim (m == n) as (λ b. beside_in (if b then Some (with_kept node (unarmed v states')) else w.nodes m) ≡ beside_in (if b then Some (with_kept node (unarmed v states)) else w.nodes m)) [ true ↦ refl | false ↦ refl ]
 
   -- the world in which the link is taken out, beside the one in the course of the line
   left_out : (states states' : Kept) (at : Asker) → ((m q : ℕ) → vb_of (there states') m q ≡ vb_of (now states at) m q) → ((m q : ℕ) → shelf_of (there states') m q ≡ shelf_of (now states at) m q) → BecameOver (there states') (gone states') link → BecameOver (now states at) (gone states') (link_now at)

@@ -1,8 +1,8 @@
 -- outcomes that are posted to the clients of a node: all lines are lawful, and after them all agrees
 use Rattle.std.specs.Prelude.{◌≡◌, ◌∷◌}
-use Rattle.transcript_law.proofs.Words.{ℕ, List, [], refl, sym, subst, Option, Some, None, Event, StaysSound, after, left_open, PlainSession, PlainNode, PlainWorld, with_node_at, with_client, with_states, Chronicle, after_lines, LawfulFrom}
-use Rattle.transcript_law.proofs.{invariant.Agreement.{Agrees}, verbs.NodeLines.{agrees_same, node_again, node_of_same_vbs}, invariant.Ranged.{NodeRanged, SessionRangedIf, posted_ranged}, verbs.Requesting.{resolved_goes}, verbs.Settling.{Steady}, lines.Telling.{LawfulBefore, before_all, before_more, none_before, told_more}}
-use Rattle.client_session.specs.Serving.{outcome_handled, served}
+use Rattle.transcript_law.proofs.Words.{ℕ, List, [], refl, sym, subst, Option, Some, None, Event, StaysSound, PlainNode, PlainWorld, with_node_at, Chronicle, after_lines, LawfulFrom}
+use Rattle.transcript_law.proofs.{invariant.Agreement.{Agrees}, verbs.NodeLines.{agrees_same, node_of_same_vbs}, indexers.Worlds.{world_with}, invariant.Ranged.{NodeRanged, SessionRangedIf, posted_ranged}, verbs.Requesting.{client_again, posted_comes, runs_with}, verbs.Settling.{Steady}, lines.Telling.{LawfulBefore, before_all, before_more, none_before, told_more}}
+use Rattle.node_core.specs.Clients.{PlainClient}
 use Rattle.node_world.specs.Nodes.{all_posted, awaiting, posted_if, posted_to}
 use Rattle.node_world.specs.declared.script_node.TheConstants.{MAX_CLIENTS}
 use Rattle.vb_calls.specs.declared.calls.Resolved.{Resolved}
@@ -21,18 +21,14 @@ module _ (stays : StaysSound) (steady : Steady) (w : PlainWorld) (n : ℕ) where
   -- one outcome
   posted_goes : (r : Chronicle) (node : PlainNode) (o : Resolved) (c : Option ℕ) → NodeRanged n node → Agrees (with_node_at w n node) r → Goes r (posted_to o node c)
   posted_goes r node o None ranged a = (none_before r, a)
-  posted_goes r node o (Some c) ranged a = by (node.clients c) (ranged.clients c)
+  posted_goes r node o (Some c) ranged a = by (node.clients c) refl (ranged.clients c)
     where
-      by : (k : Option PlainSession) → SessionRangedIf n k → Goes r (posted_if c o node k)
-      by None there = (none_before r, a)
-      by (Some session) there =
-          let y = after (outcome_handled node.clock o (served session [])) node.vbs in
-          let begun = agrees_same (with_node_at w n node) (with_node_at w n (with_states node node.vbs)) r a (node_again w n node (with_states node node.vbs) (λ q. refl) (λ q. refl) refl) in
-          let now = resolved_goes stays steady w r n node.clock node ranged.clock o (served session []) node.vbs (none_before r, begun, there) in
-          let left : PlainNode = with_client (with_states node y.0) c (left_open y.1.session) in (
-            now.0,
-            agrees_same (with_node_at w n (with_states node y.0)) (with_node_at w n left) (after_lines r y.1.events) now.1 (node_again w n (with_states node y.0) left (λ q. refl) (λ q. refl) refl),
-          )
+      by : (k : Option PlainClient) → node.clients c ≡ k → SessionRangedIf n k → Goes r (posted_if c o node k)
+      by None none there = (none_before r, a)
+      by (Some client) is there =
+          let here : Agrees (world_with w n c node node.vbs (Some client)) r = client_again w r n c node client is a in
+          let came = posted_comes stays steady w n c node ranged.clock (runs_with n c node client is ranged) r client o (record { lawful = none_before r; agrees = here; bytes = there.bytes }) in
+          (came.lawful, came.agrees)
 
   -- one after the other
   all_go : (r : Chronicle) (node : PlainNode) (rs : List Resolved) → NodeRanged n node → Agrees (with_node_at w n node) r → Goes r (all_posted rs node)

@@ -23,19 +23,19 @@ told_more lines line is =
     ∙ ap (λ b. frames_in_lines lines + length (if b then line ∷ [] else [])) is
 
 -- so many frames were put, and told of
-abbrev Counted : ℕ → Served → Type 0
+abbrev pub Counted : ℕ → Served → Type 0
 Counted n s = (s.count ≡ n) × (frames_in_lines s.events ≡ n)
 
 -- a line of a frame
 abbrev IsFrame : StreamName → Event → Type 0
 IsFrame name line = is_frame line ≡ true
 
-one_more : (n : ℕ) (s : Served) (f : Frame) (line : Event) → is_frame line ≡ true → Counted n s → Counted (suc n) (frame_put f line s)
+pub one_more : (n : ℕ) (s : Served) (f : Frame) (line : Event) → is_frame line ≡ true → Counted n s → Counted (suc n) (frame_put f line s)
 one_more n s f line is (counts, tells) =
     let t : frames_in_lines (s.events ++ line ∷ []) ≡ frames_in_lines s.events + 1 = told_more s.events line is in (omega (arith, counts), t ∙ ap (λ k. k + 1) tells ∙ omega arith)
 
 -- the answer by how many were put, and why no more
-put_says : (k n : ℕ) (s : Served) (halted : Halt) → Counted n s → PutFew k n halted → PutsAsTold k s.events s.count (why_of halted)
+pub put_says : (k n : ℕ) (s : Served) (halted : Halt) → Counted n s → PutFew k n halted → PutsAsTold k s.events s.count (why_of halted)
 put_says k n s Halt.All c e = record { told = c.0 ∙ sym c.1; most = let same = c.0 in omega (arith, same, e); all = λ q. c.0 ∙ e; only = λ q. refl }
 put_says k n s Halt.Idle c few = record { told = c.0 ∙ sym c.1; most = let same = c.0 in omega (arith, same, few); all = λ q. cc; only = λ q. let same = c.0 in absurd (omega (arith, same, few, q)) }
 put_says k n s Halt.Full c few = record { told = c.0 ∙ sym c.1; most = let same = c.0 in omega (arith, same, few); all = λ q. cc; only = λ q. let same = c.0 in absurd (omega (arith, same, few, q)) }

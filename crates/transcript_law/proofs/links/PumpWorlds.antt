@@ -88,6 +88,7 @@ told_stream r l f = record {
   writer_of = λ u. refl;
   rows = λ m q. refl;
   arms = λ m. refl;
+  clients = λ m c. refl;
   dials = λ j ne. refl;
   streams = λ k q ne. changed_there r l f k q ne;
   points = λ k ne. refl;

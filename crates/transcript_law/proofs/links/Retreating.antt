@@ -33,6 +33,7 @@ use Rattle.vb_types.specs.declared.journal.Record.TheVariants as noted
 use Rattle.dcp_consumer.specs.declared.handshake.Handshake.TheVariants as waiting
 use Rattle.transcript_law.proofs.invariant.Bounded.{Weighs, rolled_reads}
 use Rattle.transcript_law.proofs.Words.{upto}
+use Rattle.transcript_law.{proofs.invariant.Carrying.{same_arms, same_clients}, specs.Feeding.{client_in}}
 
 -- an answer that sends the consumer of the line back to `named`
 pub record Back (line : Line) : Type 0 where
@@ -115,6 +116,7 @@ module _ (line : Line) (back : Back line) where
     others = λ m ne. ap (λ b. power_in (if b then Some (lifted v (with_kept node states)) else w.nodes m)) (ne_eqb m n ne) ∙ sym (ap (λ b. power_in (if b then Some (with_kept node (unarmed v states)) else w.nodes m)) (ne_eqb m n ne));
     vbs = λ m q. elim (m == n) as (λ b. vb_in (if b then Some (lifted v (with_kept node states)) else w.nodes m) q ≡ vb_in (if b then Some (with_kept node (unarmed v states)) else w.nodes m) q) [ true ↦ refl | false ↦ refl ];
     shelves = λ m q. elim (m == n) as (λ b. shelf_in (if b then Some (lifted v (with_kept node states)) else w.nodes m) q ≡ shelf_in (if b then Some (with_kept node (unarmed v states)) else w.nodes m) q) [ true ↦ refl | false ↦ refl ];
+    clients = λ m c. elim (m == n) as (λ b. client_in (if b then Some (lifted v (with_kept node states)) else w.nodes m) c ≡ client_in (if b then Some (with_kept node (unarmed v states)) else w.nodes m) c) [ true ↦ refl | false ↦ refl ];
     uuids = refl;
     linked = refl;
   }
@@ -130,10 +132,12 @@ module _ (line : Line) (back : Back line) where
   pub over_lifts : (states : Kept) → Rearmed (gone line states) (unlinked link (lifted_at line states)) n power (lifted v (with_kept node states)).arm
   over_lifts states =
       let x = unlinks (there line states) in let y = unlinks (lifted_at line states) in let z = lifts states w.links in
+      let arms_there = same_arms (there line states) (gone line states) x.powers in let arms_lifted = same_arms (lifted_at line states) (unlinked link (lifted_at line states)) y.powers in
       record {
-        before = x.powers n ∙ z.before;
-        armed = y.powers n ∙ z.armed;
-        others = λ m ne. y.powers m ∙ z.others m ne ∙ sym (x.powers m);
+        before = arms_there n ∙ z.before;
+        armed = arms_lifted n ∙ z.armed;
+        others = λ m ne. arms_lifted m ∙ z.others m ne ∙ sym (arms_there m);
+        clients = λ m c. same_clients (lifted_at line states) (unlinked link (lifted_at line states)) y.powers m c ∙ z.clients m c ∙ sym (same_clients (there line states) (gone line states) x.powers m c);
         vbs = λ m q. y.vbs m q ∙ z.vbs m q ∙ sym (x.vbs m q);
         shelves = λ m q. y.shelves m q ∙ z.shelves m q ∙ sym (x.shelves m q);
         uuids = y.uuids ∙ sym x.uuids;

@@ -160,6 +160,7 @@ roll_taken_of l n v to r = record {
     };
     disk = at_there r.disk_at n v (disk_back to (r.disk_at n v)) m q ne i;
   };
+  clients = λ m c. refl;
   dials = λ j ne. refl;
   streams = λ j q ne apart. refl;
   points = λ j ne apart. ap (λ b. if b then None else r.point_of j) (not_for n v (r.dial_of j) apart);
@@ -173,6 +174,7 @@ roll_end_of l n v to r =
       tree = refl;
       writer_of = t.writer_of;
       rows = t.rows;
+      clients = t.clients;
       dials = λ j ne. id_there x.dial_of l None j (λ i. ne (sym i));
       streams = λ j q ne apart. ended_there x l j q ne;
       points = λ j ne apart. id_there x.point_of l None j (λ i. ne (sym i)) ∙ t.points j ne apart;

@@ -193,6 +193,7 @@ module _ (line : Line) (course : Course line) where
       (record {
         tree = refl;
         writer_of = λ u. refl;
+        clients = λ m c. refl;
         rows = λ m q ne i. record (vb_row told m q) { contents = record (vb_contents told m q) { branch = at_there told.branch_at n v (option_map (λ y. y.uuid) (front feed.log)) m q ne i; log = at_there told.log_at n v (Some feed.log) m q ne i } };
         dials = λ j ne. refl;
         streams = λ j q ne other. refl;
@@ -268,7 +269,7 @@ module _ (line : Line) (course : Course line) where
       (came_on (call.Marker start x.0) (message_result s) fv' _ (marker_is fv start x.0 true mine.follows a)) tt tt
       (range_is_lawful (busy_at line (f ∷ rest)) (now line states at) told c k feed going.agrees streaming.fed n v l p fv.position.at streaming.granted_is mine.dialed streaming.told streaming.streams.front_is
       (ap (last_seq 0) vb.held ∙ vb.high) (on_it (ap is_some none)) start x later streaming.streams.marks flight (subst (λ (q : Position). q.at < x.0) vb.member.position above))
-      (record { tree = refl; writer_of = λ u. refl; rows = λ m q ne i. record (vb_row told m q) { opened = at_there told.open_at n v false m q ne i; contents = record (vb_contents told m q) { snap = at_there told.snap_at n v (Some (min start fv.position.at, x.0)) m q ne i } }; dials = λ j ne. refl; streams = λ j q ne other. range_there told n v (min start fv.position.at) x.0 j q (not_for n v (told.dial_of j) other); points = λ j ne other. refl })
+      (record { tree = refl; writer_of = λ u. refl; clients = λ m c. refl; rows = λ m q ne i. record (vb_row told m q) { opened = at_there told.open_at n v false m q ne i; contents = record (vb_contents told m q) { snap = at_there told.snap_at n v (Some (min start fv.position.at, x.0)) m q ne i } }; dials = λ j ne. refl; streams = λ j q ne other. range_there told n v (min start fv.position.at) x.0 j q (not_for n v (told.dial_of j) other); points = λ j ne other. refl })
       (c.disks k)
       (subst (λ xs. SoundCluster top (set_node c k (marked_by kn feed xs) (c.disks k))) flight
       (subst (λ y. SoundCluster top (set_node c k (marked_member kn y) (c.disks k))) streaming.fed (keeps top c (Move.Marker k) going.agrees.sound (quiet, none))))
@@ -345,7 +346,7 @@ module _ (line : Line) (course : Course line) where
       (came_on (call.Receive (change_line x)) (message_result s) fv' _ (receive_is fv x true (Some x.act) mine.follows a done)) tt tt
       (got_is_lawful (busy_at line (f ∷ rest)) (now line states at) told c k feed going.agrees streaming.fed n v l p fv.position.at streaming.granted_is mine.dialed streaming.told streaming.streams.front_is
       (ap (last_seq 0) vb.held ∙ vb.high) (on_it (ap is_some coming)) x later coming up next.0 next.1)
-      (record { tree = refl; writer_of = λ u. refl; rows = λ m q ne i. record (vb_row told m q) { opened = at_there told.open_at n v true m q ne i; contents = record (vb_contents told m q) { held = at_there told.held n v (told.held n v ++ x ∷ []) m q ne i } }; dials = λ j ne. refl; streams = λ j q ne other. changed_there told' l past_next j q ne; points = λ j ne other. refl })
+      (record { tree = refl; writer_of = λ u. refl; clients = λ m c. refl; rows = λ m q ne i. record (vb_row told m q) { opened = at_there told.open_at n v true m q ne i; contents = record (vb_contents told m q) { held = at_there told.held n v (told.held n v ++ x ∷ []) m q ne i } }; dials = λ j ne. refl; streams = λ j q ne other. changed_there told' l past_next j q ne; points = λ j ne other. refl })
       disk
       kept
       (received_agrees stays told n v kn fv x later vb mine.follows a fits done points_of_branch (subst (Rises 0 top) own (hist_rises top c.tree kn.br going.agrees.sound.grows)) followed)

@@ -1,24 +1,21 @@
 -- a vBucket in another role: its streams are ended, at all links
-use Rattle.std.specs.Prelude.{◌≡◌, ◌∷◌, ◌==◌, ◌&&◌, ◌||◌, if◌then◌else◌}
-use Rattle.transcript_law.proofs.{disks.Disks.{disk_same, parts_of, same_parts, sealed_disk}, Words.{eqb-true, put, with_seal}, invariant.Carried.{all_vbs}}
+use Rattle.std.specs.Prelude.{◌≡◌, ◌∷◌, ◌==◌, ◌&&◌, if◌then◌else◌}
+use Rattle.transcript_law.proofs.{disks.Disks.{disk_same, parts_of, same_parts, sealed_disk}, Words.{IsIn, eq-eqb, eqb-true, hist, ne_eqb, option_map, put, with_seal}, invariant.Carried.{all_vbs}}
 use Rattle.transcript_law.proofs.{invariant.Agreement.{DiskIsIf, shelf_of}}
 use Rattle.transcript_law.proofs.Words.{ℕ, Bool, true, false, List, refl, ap, sym, ◌∙◌, subst, inl, inr, ⊎_elim, map, Option, Some, None}
-use Rattle.transcript_law.proofs.Words.{eqb-true, eqb-false, Frame, Feed, Member, Cluster, SoundCluster, Stream, Plain, is_follower, stream_ids, stream_at, ended_in, PlainStream, PlainLink}
+use Rattle.transcript_law.proofs.Words.{eqb-true, eqb-false, Frame, Feed, Member, Cluster, SoundCluster, Plain, is_follower, stream_ids, stream_at, ended_in, PlainStream, PlainLink}
 use Rattle.transcript_law.proofs.Words.{link_number, producer_node, consumer_node, PlainWorld, link_ended, links_ended, Granted, Chronicle, [], list_any, StreamName, ended_by}
 use Rattle.transcript_law.proofs.invariant.Seats.{seat, seats_apart}
-use Rattle.transcript_law.specs.Feeding.{HasOpen}
+use Rattle.transcript_law.specs.Feeding.{HasFed, HasOpen, client_in}
 use Rattle.transcript_law.proofs.invariant.Agreement.{AckedIs, vb_of, AgreesAt, Open, kept_stream, Talk, consumer_seat, producer_seat, LinkAgrees, IsLink, Differ, DifferFrom, LinksDiffer, top, idle, AgreesIn, BranchesAgree, Wants, EndsStand, DialAgrees}
-use Rattle.transcript_law.proofs.invariant.Carried.{SameStream, places, stream_same, streaming_again, talk_same}
-use Rattle.transcript_law.proofs.{invariant.Agreement.{EndsUp, RestsIn, VbRow, vb_row}, invariant.Carrying.{NoNewStream, SamePowers}, invariant.Resting.{ends_same, rests_by}}
+use Rattle.transcript_law.proofs.invariant.Carried.{places, stream_same, streaming_again, talk_same}
+use Rattle.transcript_law.proofs.{invariant.Agreement.{EndsUp, RestsIn, VbRow, vb_row}, invariant.Carrying.{NoNewStream, SameArms}, invariant.Resting.{ends_off, offs_arms, rests_arms}}
+use Rattle.transcript_law.proofs.invariant.{Carried.{all_there}, ClientsKept.{goes_agreed_at}, ClientsTurned.{RoleTold, StreamsEnded, all_ended, clients_turned, ended_same, id_listed}, LinkFeeds.{link_feeds}, LinkRows.{found_is_link}, Trees.{IsTold}}
+use Rattle.{node_core.specs.Clients.{PlainClient, client_ended}, transcript_law.specs.ClientStreams.{past_turn, with_clients_of}}
 
 -- a link whose producer keeps other streams
 abbrev pub restreamed : PlainLink → List PlainStream → PlainLink
 restreamed link streams = record link { server = record link.server { streams = streams } }
-
--- what a change of role at the vBucket v makes of a connection's stream
-ended_same : (v : ℕ) (ids : List ℕ) (stream : PlainStream) → SameStream stream (ended_in v ids stream)
-ended_same v ids stream = elim (stream.vb == v && list_any (λ i. i == stream.id) ids) as (λ b. SameStream stream (if b then record stream { ended = true } else stream))
-    [ true ↦ record { id = refl; until = refl; marked = refl; vb = refl; opaque = refl; items = refl; next = refl; ended = λ e. refl } | false ↦ stream_same ]
 
 -- a stream that is not ended by it is not one of these
 pub not_ended : (v : ℕ) (ids : List ℕ) (stream : PlainStream) → (ended_in v ids stream).ended ≡ false → (stream.ended ≡ false) × (stream.vb ≡ v → list_any (λ i. i == stream.id) ids ≡ true → ⊥)
@@ -29,12 +26,6 @@ not_ended v ids stream = by (stream.vb == v) (list_any (λ i. i == stream.id) id
     by true true e f q = let z : true ≡ false = q in cc
     by true false e f q = (q, λ s t. let z : false ≡ true = sym f ∙ t in cc)
     by false b e f q = (q, λ s t. eqb-false stream.vb v e s)
-
--- an open stream's number is one of those that end
-id_listed : (id : ℕ) (ss : List Stream) (s : Stream) → stream_at id ss ≡ Some s → list_any (λ i. i == id) (stream_ids ss) ≡ true
-id_listed id [] s e = cc
-id_listed id (x ∷ xs) s e = elim (x.id == id) as (λ b. (if b then Some x else stream_at id xs) ≡ Some s → (b || list_any (λ i. i == id) (stream_ids xs)) ≡ true)
-    [ true ↦ λ q. refl | false ↦ id_listed id xs s ] e
 
 -- links after a change of role
 pub told_is_link : (n v : ℕ) (ids : List ℕ) (links : List PlainLink) (y : PlainLink) → IsLink y (links_ended n v ids links) → (x : PlainLink) × IsLink x links × (y ≡ link_ended n v ids x)
@@ -53,7 +44,7 @@ pub record Alike (x y : PlainLink) : Type 0 where
   pub acked : y.consumer.acked ≡ x.consumer.acked
   pub opens : NoNewStream x y
 
-open_before : (v : ℕ) (ids : List ℕ) (streams : List PlainStream) (q id : ℕ) → HasOpen q id (map (ended_in v ids) streams) → HasOpen q id streams
+pub open_before : (v : ℕ) (ids : List ℕ) (streams : List PlainStream) (q id : ℕ) → HasOpen q id (map (ended_in v ids) streams) → HasOpen q id streams
 open_before v ids [] q id has = absurd has
 open_before v ids (stream ∷ more) q id has = ⊎_elim
     (λ o. let same = ended_same v ids stream in inl (sym same.vb ∙ o.0, sym same.id ∙ o.1, (not_ended v ids stream o.2).0))
@@ -83,17 +74,22 @@ differ_told n v ids (x ∷ xs) d = (each xs d.0, differ_told n v ids xs d.1)
 abbrev pub NoneFeeds : ℕ → ℕ → List PlainLink → Type 0
 NoneFeeds n v links = (x : PlainLink) → IsLink x links → consumer_node x ≡ n → x.consumer.dialed.vb ≡ v → ⊥
 
--- the world with another vBucket v at the node n, and other links
-pub record Turned (w w' : PlainWorld) (n v : ℕ) (vb : Plain) (links : List PlainLink) : Type 0 where
-  pub powers : SamePowers w w'
+-- the clients of a node after a change of role at its vBucket v, which ended the streams of these numbers; all others are as they were
+abbrev pub conn_after : ℕ → ℕ → List ℕ → ℕ → Option PlainClient → Option PlainClient
+conn_after n v ids m o = if m == n then option_map (client_ended v ids) o else o
+
+-- the world with another vBucket v at the node n, where the streams of these numbers are ended at the producers of links and of clients
+pub record Turned (w w' : PlainWorld) (n v : ℕ) (vb : Plain) (ids : List ℕ) : Type 0 where
+  pub powers : SameArms w w'
+  pub clients : (m c : ℕ) → client_in (w'.nodes m) c ≡ conn_after n v ids m (client_in (w.nodes m) c)
   pub here : vb_of w' n v ≡ Some vb
   pub there : (m q : ℕ) → (m ≡ n → q ≡ v → ⊥) → vb_of w' m q ≡ vb_of w m q
   pub shelves : (m q : ℕ) → shelf_of w' m q ≡ shelf_of w m q
-  pub linked : w'.links ≡ links
+  pub linked : w'.links ≡ links_ended n v ids w.links
 
 -- a vBucket that no link feeds is another one, with no stream: what agreed before agrees
 module _ (w w' : PlainWorld) (r r' : Chronicle) (c c' : Cluster) (n v : ℕ) (vb vb' : Plain) (a : AgreesIn idle w r c) (known : vb_of w n v ≡ Some vb) (free : NoneFeeds n v w.links)
-    (became : Turned w w' n v vb' (links_ended n v (stream_ids vb.streams) w.links))
+    (became : Turned w w' n v vb' (stream_ids vb.streams))
     (members : (j : ℕ) → (j ≡ seat n v → ⊥) → c'.nodes j ≡ c.nodes j)
     (dials : (k : ℕ) → r'.dial_of k ≡ r.dial_of k) (streams : (k q : ℕ) → r'.stream_of (StreamName.Link k) q ≡ r.stream_of (StreamName.Link k) q) (points : (k : ℕ) → r'.point_of k ≡ r.point_of k) where
   abbrev ids : List ℕ
@@ -182,11 +178,11 @@ module _ (w w' : PlainWorld) (r r' : Chronicle) (c c' : Cluster) (n v : ℕ) (vb
   turned_ends : (y : PlainLink) → IsLink y w'.links → EndsUp w' y
   turned_ends y i =
       let (x, j, is) = told_is_link n v ids w.links y (subst (IsLink y) became.linked i) in let same = told_alike n v ids x in
-      subst (EndsUp w') (sym is) (ends_same w w' x (link_ended n v ids x) became.powers (record { dialed = same.dialed; desk = same.desk }) (a.ends x j))
+      subst (EndsUp w') (sym is) (ends_off w w' x (link_ended n v ids x) (offs_arms w w' became.powers) (record { dialed = same.dialed; desk = same.desk }) (a.ends x j))
 
   -- what rests beside it
   pub turned_rests : ((m : ℕ) → r'.arm_at m ≡ r.arm_at m) → (r'.disk_at n v).there ≡ (r.disk_at n v).there → ((m q : ℕ) → (m ≡ n → q ≡ v → ⊥) → vb_row r' m q ≡ vb_row r m q) → ((j : ℕ) → (j ≡ seat n v → ⊥) → c'.disks j ≡ c.disks j) → RestsIn w' r' c'
-  turned_rests arms same rows disks = rests_by w w' r r' c c' a.rests became.powers arms
+  turned_rests arms same rows disks = rests_arms w w' r r' c c' a.rests became.powers arms
       (λ m q none. ⊎_elim (λ s. let z : Some vb' ≡ None = sym (ap (λ k. vb_of w' k q) s.0 ∙ ap (vb_of w' n) s.1 ∙ became.here) ∙ none in cc)
       (λ o. let apart = seats_apart m q n v o in record { vb = sym (became.there m q o) ∙ none; shelf = became.shelves m q; row = rows m q o; member = members (seat m q) apart; disk = disks (seat m q) apart }) (places n v m q))
       (λ m q down. ⊎_elim (λ s. let z : Some vb ≡ None = sym (ap (λ k. vb_of w k q) s.0 ∙ ap (vb_of w n) s.1 ∙ known) ∙ (a.downs m q).vb_none down in cc)
@@ -195,10 +191,38 @@ module _ (w w' : PlainWorld) (r r' : Chronicle) (c c' : Cluster) (n v : ℕ) (vb
       (λ o. ap (λ (t : VbRow). t.disk.there) (sym (rows m q o)) ∙ e) (places n v m q))
       turned_ends
 
+  -- a link's open stream was its own
+  turned_feeds : (l m q id : ℕ) → HasFed w' (StreamName.Link l) m q id → HasFed w (StreamName.Link l) m q id
+  turned_feeds l m q id (y, is, of) =
+      let at = found_is_link l w'.links y is in let (x, j, same) = told_is_link n v ids w.links y (subst (IsLink y) became.linked at.0) in
+      let like = told_alike n v ids x in
+      link_feeds w a.differ l m q id x j (ap (λ d. d.link) (sym like.dialed) ∙ ap link_number (sym same) ∙ at.1) (ap (λ d. d.node) (sym like.desk) ∙ ap producer_node (sym same) ∙ of.producer)
+      (like.opens q id (subst (λ (k : PlainLink). HasOpen q id k.server.streams) same of.stream))
+
+  -- clients' streams of the vBucket are ended
+  ended_here : (d : ℕ) (client' : PlainClient) → client_in (w'.nodes n) d ≡ Some client' → (client : PlainClient) × (client_in (w.nodes n) d ≡ Some client) × StreamsEnded v client client'
+  ended_here d client' is = by (client_in (w.nodes n) d) refl (sym (became.clients n d ∙ ap (λ b. if b then option_map (client_ended v ids) (client_in (w.nodes n) d) else client_in (w.nodes n) d) (eq-eqb n n refl)) ∙ is)
+    where
+      by : (o : Option PlainClient) → client_in (w.nodes n) d ≡ o → option_map (client_ended v ids) o ≡ Some client' → (client : PlainClient) × (client_in (w.nodes n) d ≡ Some client) × StreamsEnded v client client'
+      by None e z = cc
+      by (Some client) e z = let same : client_ended v ids client ≡ client' = cc in (client, e, subst (StreamsEnded v client) same (all_ended w r n v d vb client known (a.clients.each n d client e)))
+
+  turned_told : ((m d : ℕ) → r'.clients_at m d ≡ with_clients_of r.clients_at n (past_turn v) m d) → ((m q : ℕ) → AgreesAt r' m q (c'.nodes (seat m q)) (vb_of w' m q)) → ((u : ℕ) → IsTold r.tree u → hist r'.tree u ≡ hist r.tree u)
+      → RoleTold w w' r r' n v
+  turned_told clients vbs same = record {
+    here = ended_here;
+    there = λ m d ne. became.clients m d ∙ ap (λ b. if b then option_map (client_ended v ids) (client_in (w.nodes m) d) else client_in (w.nodes m) d) (ne_eqb m n ne);
+    known = clients;
+    goes = λ m q o d id has.
+        let member = members (seat m q) (seats_apart m q n v o) in
+        goes_agreed_at w w' r r' m q id (c.nodes (seat m q)) (c'.nodes (seat m q)) (vb_of w m q) refl (became.there m q o) (a.vbs m q) (subst (AgreesAt r' m q (c'.nodes (seat m q))) (became.there m q o) (vbs m q))
+        (ap (λ (x : Member). x.br) member) (λ x i. subst (λ (y : Member). IsIn x y.held) (sym member) i) (λ x. same (c.nodes (seat m q)).br x.is_told);
+  }
+
   -- what is left of the agreement is the vBuckets, the branches and what rests
   pub turned_agrees : SoundCluster top c' → ((m q : ℕ) → AgreesAt r' m q (c'.nodes (seat m q)) (vb_of w' m q)) → ((m q : ℕ) → DiskIsIf (r'.disk_at m q) (c'.disks (seat m q)) (shelf_of w' m q) (vb_of w' m q)) → BranchesAgree c'.tree r'.tree w'.uuids
-      → RestsIn w' r' c' → AgreesIn idle w' r' c'
-  turned_agrees sound vbs disks branches rests = record {
+      → RestsIn w' r' c' → ((m d : ℕ) → r'.clients_at m d ≡ with_clients_of r.clients_at n (past_turn v) m d) → ((u : ℕ) → IsTold r.tree u → hist r'.tree u ≡ hist r.tree u) → AgreesIn idle w' r' c'
+  turned_agrees sound vbs disks branches rests clients same = record {
     sound = sound;
     vbs = vbs;
     disks = disks;
@@ -206,6 +230,7 @@ module _ (w w' : PlainWorld) (r r' : Chronicle) (c c' : Cluster) (n v : ℕ) (vb
     rests = rests;
     links = λ y i. let (x, j, is) = told_is_link n v ids w.links y (subst (IsLink y) became.linked i) in subst (λ k. LinkAgrees w' r' c' k [] []) (sym is) (link_told x j);
     differ = subst LinksDiffer (sym became.linked) (differ_told n v ids w.links a.differ);
+    clients = clients_turned w w' r r' n v a.clients (turned_told clients vbs same) (all_there idle w r c a) turned_feeds;
   }
 
 -- a family with what it has at k is the same
@@ -213,10 +238,10 @@ pub put_itself : {A : Type 0} (xs : ℕ → A) (k j : ℕ) → put xs k (xs k) j
 put_itself xs k j = elim (j == k) as (λ b. (j == k) ≡ b → (if b then xs k else xs j) ≡ xs j) [ true ↦ λ e. ap xs (sym (eqb-true j k e)) | false ↦ λ e. refl ] refl
 
 -- what was written down of it and of the others, before its new role is
-pub turned_disks : (w w' : PlainWorld) (r r' : Chronicle) (c c' : Cluster) (n v : ℕ) (vb vb' : Plain) (links : List PlainLink) → AgreesIn idle w r c → vb_of w n v ≡ Some vb → Turned w w' n v vb' links
+pub turned_disks : (w w' : PlainWorld) (r r' : Chronicle) (c c' : Cluster) (n v : ℕ) (vb vb' : Plain) (over : List ℕ) → AgreesIn idle w r c → vb_of w n v ≡ Some vb → Turned w w' n v vb' over
     → ((m q : ℕ) → r'.disk_at m q ≡ r.disk_at m q) → ((j : ℕ) → c'.disks j ≡ c.disks j) → parts_of vb' ≡ record (parts_of vb) { spans = with_seal vb.spans }
     → (m q : ℕ) → DiskIsIf (r'.disk_at m q) (c'.disks (seat m q)) (shelf_of w' m q) (vb_of w' m q)
-turned_disks w w' r r' c c' n v vb vb' links a known became told disks parts = all_vbs w w' n v vb' (λ m q o. DiskIsIf (r'.disk_at m q) (c'.disks (seat m q)) (shelf_of w' m q) o) became.here became.there
+turned_disks w w' r r' c c' n v vb vb' over a known became told disks parts = all_vbs w w' n v vb' (λ m q o. DiskIsIf (r'.disk_at m q) (c'.disks (seat m q)) (shelf_of w' m q) o) became.here became.there
     (disk_same (Some vb') (Some vb') (told n v) (disks (seat n v)) (became.shelves n v) refl
     (sealed_disk (r.disk_at n v) (c.disks (seat n v)) (shelf_of w n v) vb vb' parts (subst (DiskIsIf (r.disk_at n v) (c.disks (seat n v)) (shelf_of w n v)) known (a.disks n v))))
     (λ m q o. disk_same (vb_of w m q) (vb_of w m q) (told m q) (disks (seat m q)) (became.shelves m q) (same_parts (vb_of w m q)) (a.disks m q))

@@ -2,7 +2,7 @@
 use Rattle.std.specs.Prelude.{◌≡◌, ◌<◌, ◌≤◌, ◌+◌, ◌^◌, ◌∷◌, ◌++◌, ◌==◌, if◌then◌else◌}
 use Rattle.{dcp_consumer.specs.declared.handshake.Dialed.{Dialed}, dcp_producer.specs.declared.desk.Named.{Named}, dcp_producer.specs.Serving.{next_stream, with_asked}, transcript_law.specs.Feeding.{HasOpen}}
 use Rattle.node_world.specs.Links.{frame_up, result_behind, peer_posted as node_told}
-use Rattle.transcript_law.proofs.disks.Disks.{power_in}
+use Rattle.transcript_law.proofs.disks.Disks.{beside_in}
 use Rattle.transcript_law.proofs.Words.{ℕ, suc, Bool, true, false, List, [], drop, refl, ap, sym, ◌∙◌, subst, arith, append_assoc, cases_lt, inr, ⊎_elim, Option, Some, None, eq-eqb, ne_eqb, eqb-true, eqb-false}
 use Rattle.transcript_law.proofs.Words.{Frame, spelling, left_of, dcp_frame, AskAnswer, AskInRange, LogEntry, StreamAsk, Status, Verdict, Continue, Roll, rule, request_of, Plain, Done, after, after_bind, row_at, row_put, States}
 use Rattle.transcript_law.proofs.Words.{Member, Cluster, Move, happens, May, keeps, answered, Handshake, PlainProducer, Served, begun, frame_answered, refuse, is_active, stream_at, open_refusal, new_stream}
@@ -28,16 +28,16 @@ refused_told_of : (l v : ℕ) (r : Chronicle) (ask : StreamAsk) (log : List LogE
     → (let r' = after_ask r l v ask log said in ToldOf l r r' × (r'.dial_of l ≡ r.dial_of l) × PointAgrees said (r'.point_of l))
 refused_told_of l v r ask log AskAnswer.Go refused = absurd refused
 refused_told_of l v r ask log (AskAnswer.Roll to) refused = (
-  record { tree = refl; writer_of = λ u. refl; rows = λ m q. refl; arms = λ m. refl; dials = λ j ne. refl; streams = λ k q ne. refl; points = λ k ne. id_there r.point_of l (Some to) k (λ e. ne (sym e)) },
+  record { tree = refl; writer_of = λ u. refl; rows = λ m q. refl; arms = λ m. refl; clients = λ m c. refl; dials = λ j ne. refl; streams = λ k q ne. refl; points = λ k ne. id_there r.point_of l (Some to) k (λ e. ne (sym e)) },
   refl,
   id_here r.point_of l (Some to),
 )
 refused_told_of l v r ask log (AskAnswer.Refuse code) refused = (told_of_same l r, refl, tt)
 
--- nodes that differ in their vBuckets and their clients at most
+-- nodes that differ in their vBuckets at most
 pub record SameNode (node node' : PlainNode) : Type 0 where
   pub shelves : (q : ℕ) → node'.shelves q ≡ node.shelves q
-  pub power : power_in (Some node') ≡ power_in (Some node)
+  pub power : beside_in (Some node') ≡ beside_in (Some node)
 
 module _ (w0 : PlainWorld) (r0 : Chronicle) (n : ℕ) (link0 : PlainLink) (found : row_at link_number (link_number link0) w0.links ≡ Some link0) where
   -- the link's number, its producer's node and its vBucket
@@ -133,7 +133,7 @@ module _ (w0 : PlainWorld) (r0 : Chronicle) (n : ℕ) (link0 : PlainLink) (found
           agrees = subst (λ z. AgreesIn (answering l gs) (world_at y) z c) (sym (told_more r0 x.1.events lines ∙ told)) agrees;
           desk = desk ∙ now.desk;
           heard = now.heard;
-          ranged = record { clock = now.ranged.clock; clients = now.ranged.clients };
+          ranged = record { clock = now.ranged.clock; clients = now.ranged.clients; own = now.ranged.own; runs = now.ranged.runs };
         }
 
     -- where the link's ends stand so whatever the vBuckets at them are
@@ -333,7 +333,7 @@ module _ (w0 : PlainWorld) (r0 : Chronicle) (n : ℕ) (link0 : PlainLink) (found
           }
 
           known_of : ToldOf l r r'
-          known_of = record { tree = refl; writer_of = λ u. refl; rows = λ m q. refl; arms = λ m. refl; dials = λ j ne. refl; streams = λ j q ne. stream_there r l v (Some (granted ask pv.log)) j q ne; points = λ j ne. refl }
+          known_of = record { tree = refl; writer_of = λ u. refl; rows = λ m q. refl; arms = λ m. refl; clients = λ m c. refl; dials = λ j ne. refl; streams = λ j q ne. stream_there r l v (Some (granted ask pv.log)) j q ne; points = λ j ne. refl }
 
           vb_opened : vb_of (world_at came) mp v ≡ Some opened
           vb_opened = ap (λ d. vb_of (world_at came) d.node v) now.desk ∙ vb_here came v ∙ are.here
@@ -389,7 +389,7 @@ module _ (w0 : PlainWorld) (r0 : Chronicle) (n : ℕ) (link0 : PlainLink) (found
                 (one_but l (f ∷ fs, []) (fs, [])) (subst (λ q. LinkAgrees (world_at came) r' c' link' q.0 q.1) (sym (one_here l (fs, []))) lb));
             desk = now.desk;
             heard = now.heard;
-            ranged = record { clock = now.ranged.clock; clients = now.ranged.clients };
+            ranged = record { clock = now.ranged.clock; clients = now.ranged.clients; own = now.ranged.own; runs = now.ranged.runs };
           }
 
       answered_as : (y : States × Served) → after (frame_answered (dcp_frame (DcpMsg.StreamRequest ask) o v) s) x.0.vbs ≡ y → Now fs (came_of x y) → Now fs (frame_up f x)

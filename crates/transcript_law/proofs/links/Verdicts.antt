@@ -5,7 +5,7 @@ use Rattle.transcript_law.proofs.Words.{eqb-false, All-head, All-tail, AskInRang
 use Rattle.transcript_law.proofs.Words.{effective_ss, effective_se, rule, request_of, reach_of, Branch, hist, Shared, Cluster, SoundCluster, Stream, Plain, is_active, open_refusal, stream_at, Sound}
 use Rattle.transcript_law.proofs.Words.{refuse, Chronicle, IsIfKnown, LawfulVerdict, IsDialed, LawfulAsk, entry_for, upper, judged, continues, rolls, is_ranged, id_refusal, first_reason}
 use Rattle.transcript_law.proofs.Words.{meant_end, Role, SharesFront}
-use Rattle.transcript_law.specs.Lawfulness.{GrantsAs}
+use Rattle.transcript_law.specs.StreamLaws.{GrantsAs, LawfulSaid}
 use Rattle.transcript_law.proofs.invariant.Agreement.{EntryFits, IsRefused, VbAgrees, top}
 
 -- the numbers of a request
@@ -84,8 +84,11 @@ opens_free vb id ask active e =
     (sym (ap (λ b. if b then first_reason (id_refusal id (stream_at id vb.streams)) (if is_ranged ask then None else Some Status.Erange) else Some Status.NotMyVbucket) active) ∙ e)
 
 -- a request of an absent vBucket
+pub absent_said : (r : Chronicle) (n v : ℕ) (ask : StreamAsk) → r.log_at n v ≡ Some [] → r.held n v ≡ [] → LawfulSaid r n v ask 0 [] (AskAnswer.Refuse 7)
+absent_said r n v ask log held = record { own_log = subst (λ o. IsIfKnown o []) (sym log) refl; own_high = sym (ap (last_seq 0) held); verdict = λ e. omega arith; active = tt }
+
 pub absent_lawful : (r : Chronicle) (l n v : ℕ) (ask : StreamAsk) → IsDialed r l n v → r.log_at n v ≡ Some [] → r.held n v ≡ [] → LawfulAsk r l n v ask 0 [] (AskAnswer.Refuse 7)
-absent_lawful r l n v ask dialed log held = record { dialed = dialed; own_log = subst (λ o. IsIfKnown o []) (sym log) refl; own_high = sym (ap (last_seq 0) held); verdict = λ e. omega arith; active = tt }
+absent_lawful r l n v ask dialed log held = record { dialed = dialed; answered = absent_said r n v ask log held }
 
 -- the branch in front of a log, in another tree with the same histories
 shares_front : (a b : List Branch) → ((u : ℕ) → hist a u ≡ hist b u) → (log : List LogEntry) (uuid br n : ℕ) → IsFront log br → Shared a uuid br n → SharesFront b uuid log n
@@ -95,8 +98,11 @@ shares_front a b same (e ∷ older) uuid br n f s =
 
 module _ (r : Chronicle) (c : Cluster) (sound : SoundCluster top c) (same : (u : ℕ) → hist c.tree u ≡ hist r.tree u) (n v p : ℕ) (pv : Plain) (agrees : VbAgrees r n v (c.nodes p) pv) (ask : StreamAsk) where
   -- a request that is answered by the vBucket's own log and seqno
+  pub own_said : (said : AskAnswer) → LawfulVerdict r.tree pv.log pv.position.at ask said → GrantsAs (r.role_at n v) said → LawfulSaid r n v ask pv.position.at pv.log said
+  own_said said verdict active = record { own_log = subst (λ o. IsIfKnown o pv.log) (sym agrees.log) refl; own_high = sym (ap (last_seq 0) agrees.held ∙ agrees.high); verdict = verdict; active = active }
+
   pub own_lawful : (l : ℕ) → IsDialed r l n v → (said : AskAnswer) → LawfulVerdict r.tree pv.log pv.position.at ask said → GrantsAs (r.role_at n v) said → LawfulAsk r l n v ask pv.position.at pv.log said
-  own_lawful l dialed said verdict active = record { dialed = dialed; own_log = subst (λ o. IsIfKnown o pv.log) (sym agrees.log) refl; own_high = sym (ap (last_seq 0) agrees.held ∙ agrees.high); verdict = verdict; active = active }
+  own_lawful l dialed said verdict active = record { dialed = dialed; answered = own_said said verdict active }
 
   module _ (active : is_active pv.role ≡ true) where
     leads : (c.nodes p).active ≡ true

@@ -1,8 +1,8 @@
 -- what lines tell that were asked for it, by tests that can be read off
-use Rattle.std.specs.Prelude.{◌≡◌, ◌∷◌, ◌==◌, ◌&&◌, ◌||◌, ◌⊎◌, if◌then◌else◌}
-use Rattle.transcript_law.proofs.Words.{ℕ, Bool, true, false, List, [], refl, ap, ◌∙◌, inl, inr, not, Option, and_parts, eqb-true, Answer, Cause, Event, Role, Verb, VbVerb, NodeVerb, LinkVerb, Chronicle}
+use Rattle.std.specs.Prelude.{◌≡◌, ◌*◌, ◌∷◌, ◌==◌, ◌&&◌, ◌||◌, ◌⊎◌, if◌then◌else◌, length}
+use Rattle.transcript_law.proofs.Words.{ℕ, Bool, true, false, List, [], frames_in_lines, refl, ap, ◌∙◌, inl, inr, not, Option, and_parts, eqb-true, Answer, Cause, Event, Role, Verb, VbVerb, NodeVerb, LinkVerb, ClientVerb, Chronicle}
 use Rattle.transcript_law.proofs.verbs.Tellings.{Are}
-use Rattle.transcript_law.specs.Asked.{AreAmong, AskedOfLink, AskedOfNode, AskedOfVb, IsLogLine, IsRefused, IsShowLine, IsStatLine, RisesOn, TellsAsAsked, TellsIfDone, ids_in, is_ack_of, is_of_down, is_of_image, is_of_pump, is_of_up, is_turn, turns_in}
+use Rattle.transcript_law.specs.Asked.{AreAmong, AskedOfClient, AskedOfLink, AskedOfNode, AskedOfVb, IsLogLine, IsRefused, IsShowLine, IsStatLine, RisesOn, TellsAsAsked, TellsIfDone, ids_in, is_ack_of, is_of_down, is_of_image, is_of_pull, is_of_pump, is_of_up, is_turn, turns_in}
 use Rattle.transcript_law.specs.Chronicles.{Dial}
 use Rattle.transcript_law.specs.Standing.{IsStanding}
 use Rattle.transcript_law.specs.Tellings.{are_all}
@@ -76,9 +76,14 @@ at_link dial l (LinkVerb.Down wanted) lines = are_all (is_of_down dial l) lines
 at_link dial l (LinkVerb.Pump frames) lines = are_all (is_of_pump l) lines
 at_link dial l LinkVerb.Cut lines = true
 
+abbrev at_client : ℕ → ℕ → ClientVerb → List Event → Bool
+at_client n c (ClientVerb.Pull wanted) lines = are_all (is_of_pull n c) lines && length lines == 2 * frames_in_lines lines
+at_client n c other lines = true
+
 abbrev pub is_asked_so : Chronicle → Verb → List Event → Answer → Bool
 is_asked_so chronicle (Verb.AtNode n what) lines said = at_node what lines
 is_asked_so chronicle (Verb.AtVb n v what) lines said = at_vb n v what lines said
+is_asked_so chronicle (Verb.AtClient n c what) lines said = at_client n c what lines
 is_asked_so chronicle (Verb.AtLink l what) lines said = at_link (chronicle.dial_of l) l what lines
 is_asked_so chronicle other lines said = true
 
@@ -199,12 +204,18 @@ link_so dial l (LinkVerb.Down wanted) lines e = e
 link_so dial l (LinkVerb.Pump frames) lines e = e
 link_so dial l LinkVerb.Cut lines e = tt
 
+client_so : (n c : ℕ) (what : ClientVerb) (lines : List Event) → at_client n c what lines ≡ true → AskedOfClient n c what lines
+client_so n c ClientVerb.Open lines e = tt
+client_so n c (ClientVerb.Bytes bytes) lines e = tt
+client_so n c (ClientVerb.Pull wanted) lines e = let both = and_parts (are_all (is_of_pull n c) lines) (length lines == 2 * frames_in_lines lines) e in (both.0, eqb-true (length lines) (2 * frames_in_lines lines) both.1)
+client_so n c ClientVerb.Hang lines e = tt
+
 pub asked_so : (chronicle : Chronicle) (line : Verb) (lines : List Event) (said : Answer) → is_asked_so chronicle line lines said ≡ true → TellsAsAsked chronicle line lines said
 asked_so chronicle (Verb.Node n) lines said e = tt
 asked_so chronicle (Verb.Link l m n v buffer) lines said e = tt
 asked_so chronicle (Verb.AtNode n what) lines said e = node_so what lines e
 asked_so chronicle (Verb.AtVb n v what) lines said e = vb_so n v what lines said e
-asked_so chronicle (Verb.AtClient n c what) lines said e = tt
+asked_so chronicle (Verb.AtClient n c what) lines said e = client_so n c what lines e
 asked_so chronicle (Verb.AtLink l what) lines said e = link_so (chronicle.dial_of l) l what lines e
 
 -- a line that was refused where it stood was asked for nothing more
@@ -237,10 +248,16 @@ refused_link dial l (LinkVerb.Down wanted) = refl
 refused_link dial l (LinkVerb.Pump frames) = refl
 refused_link dial l LinkVerb.Cut = tt
 
+refused_client : (n c : ℕ) (what : ClientVerb) → AskedOfClient n c what []
+refused_client n c ClientVerb.Open = tt
+refused_client n c (ClientVerb.Bytes bytes) = tt
+refused_client n c (ClientVerb.Pull wanted) = (refl, refl)
+refused_client n c ClientVerb.Hang = tt
+
 pub refused_asked : (chronicle : Chronicle) (line : Verb) (why : Cause) → IsStanding why → TellsAsAsked chronicle line [] (answer.No why)
 refused_asked chronicle (Verb.Node n) why s = tt
 refused_asked chronicle (Verb.Link l m n v buffer) why s = tt
 refused_asked chronicle (Verb.AtNode n what) why s = refused_node what
 refused_asked chronicle (Verb.AtVb n v what) why s = refused_vb n v what why s
-refused_asked chronicle (Verb.AtClient n c what) why s = tt
+refused_asked chronicle (Verb.AtClient n c what) why s = refused_client n c what
 refused_asked chronicle (Verb.AtLink l what) why s = refused_link (chronicle.dial_of l) l what

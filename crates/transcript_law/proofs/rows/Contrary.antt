@@ -101,7 +101,7 @@ newest es = uuid_of (front es)
 
 pub asked_otherwise : LawfulFrom after_both (refused_ask_lines (log_of 6)) → ⊥
 unfolding newest
-asked_otherwise l = let e : ◌≡◌ {A = ℕ} 5 6 = ap newest l.0.own_log in omega arith
+asked_otherwise l = let e : ◌≡◌ {A = ℕ} 5 6 = ap newest l.0.answered.own_log in omega arith
 
 pub kept_log : LawfulFrom after_back (taken_log (log_of 5))
 kept_log = (refl, tt)

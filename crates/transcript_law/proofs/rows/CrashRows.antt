@@ -35,7 +35,7 @@ read = known_after empty_chronicle (one_made []) (one_made_groups [])
 -- a transcript is lawful that is so from there on
 pub lawful_from_made : (more : List Verb) (told : List Said) → in_order read (numbered 5 more) (groups_from_number 5 told) ≡ true → AreParts read (numbered 5 more) (groups_from_number 5 told) → LawfulAfter more told
 lawful_from_made more told o l = whole empty_chronicle (one_made more) (one_made_groups told) o
-    ((tt, tt, refl), ((tt, refl, refl), (((record { new = tt; newest = refl; last = refl; leaves = refl }, (record { another = λ e. cc; anew = λ e. refl }, tt)), (refl, tt), refl), (((first_change _ _ _, tt), refl, refl), l))))
+    ((tt, tt, refl), ((tt, refl, refl), (((record { new = tt; newest = refl; last = refl; leaves = refl }, (record { another = λ e. cc; anew = λ e. refl }, tt)), (refl, tt), refl), (((first_change _ _ _ _, tt), refl, refl), l))))
 
 -- the one connection of a client is told closed
 pub one_closed : AllClosed (conns_lines read.conn_at (event.Closed 0 1 ∷ [])) 0

@@ -4,11 +4,13 @@ use Rattle.transcript_law.proofs.Words.{ℕ, Bool, true, false, [], refl, sym, a
 use Rattle.vb_types.specs.declared.stream.StreamAsk.{StreamAsk}
 use Rattle.dcp_producer.specs.Producers.{PlainStream}
 use Rattle.vb_calls.specs.declared.stream.Stream.{Stream}
-use Rattle.transcript_law.specs.Feeding.{IsLinked, IsOf, LinksAreFed, StreamsAreLinks}
+use Rattle.transcript_law.specs.Feeding.{HasFed, IsLinked, IsOf, LinksAreFed, StreamsAreFed}
 use Rattle.transcript_law.specs.FeedingRows.{GoesOn, down, feeding, has_one, has_streams, streaming, streaming_both, two_nodes, up}
 use Rattle.node_world.specs.Worlds.{is_off, is_up}
 use Rattle.vb_calls.specs.Following.{is_follower}
 use Rattle.vb_calls.specs.State.{new_vb}
+use Rattle.vb_events.specs.declared.event.StreamName.{StreamName}
+use Rattle.vb_events.specs.declared.event.StreamName.TheVariants.{Client, Link}
 
 module _ (ask : StreamAsk) where
   abbrev link : PlainLink
@@ -61,19 +63,29 @@ module _ (ask : StreamAsk) where
 
 -- ---- streams
 
-pub unlinked : (s : Stream) → StreamsAreLinks (two_nodes (has_streams (s ∷ [])) up []) → ⊥
-unlinked s f = let x = f.linked 0 0 s.id (inl refl) in let e : None ≡ Some x.1 = x.2 in cc
+-- there is no link, and no client
+nobody : (s : Stream) (who : StreamName) → HasFed (two_nodes (has_streams (s ∷ [])) up []) who 0 0 s.id → ⊥
+nobody s (Link l) (x, is, of) = let e : None ≡ Some x = is in absurd (cc e)
+nobody s (Client m c) (own, (client, is, has)) = let e : None ≡ Some client = is in absurd (cc e)
+
+pub unlinked : (s : Stream) → StreamsAreFed (two_nodes (has_streams (s ∷ [])) up []) → ⊥
+unlinked s f = let x = f.fed 0 0 s.id (inl refl) in nobody s x.0 x.1
+
+-- the number of a link
+abbrev link_of : StreamName → ℕ
+link_of (Link l) = l
+link_of (Client n c) = 0
 
 module _ (ask : StreamAsk) (stream : PlainStream) (on : GoesOn stream) where
   -- the link has it
   of_link : (l : ℕ) → IsOf 0 0 stream.id (streaming l ask stream)
   of_link l = record { producer = refl; stream = inl (on.0, refl, on.1) }
 
-  pub unopened : StreamsAreLinks (two_nodes (has_streams []) (has_one Role.Replica) (streaming 1 ask stream ∷ [])) → ⊥
-  unopened f = (f.opened 1 0 0 stream.id (streaming 1 ask stream) refl (of_link 1)).0
+  pub unopened : StreamsAreFed (two_nodes (has_streams []) (has_one Role.Replica) (streaming 1 ask stream ∷ [])) → ⊥
+  unopened f = f.opened (Link 1) 0 0 stream.id (streaming 1 ask stream, refl, of_link 1)
 
-  pub second : (first : PlainStream) → StreamsAreLinks (two_nodes (has_streams []) (has_one Role.Replica) (streaming_both 1 ask first stream ∷ [])) → ⊥
-  second first f = (f.opened 1 0 0 stream.id (streaming_both 1 ask first stream) refl (record { producer = refl; stream = inr (inl (on.0, refl, on.1)) })).0
+  pub second : (first : PlainStream) → StreamsAreFed (two_nodes (has_streams []) (has_one Role.Replica) (streaming_both 1 ask first stream ∷ [])) → ⊥
+  second first f = f.opened (Link 1) 0 0 stream.id (streaming_both 1 ask first stream, refl, record { producer = refl; stream = inr (inl (on.0, refl, on.1)) })
 
-  pub shared : (s : Stream) → StreamsAreLinks (two_nodes (has_streams (s ∷ [])) (has_one Role.Replica) (streaming 1 ask stream ∷ streaming 2 ask stream ∷ [])) → ⊥
-  shared s f = let e : ◌≡◌ {A = ℕ} 1 2 = f.apart 1 2 0 0 stream.id (streaming 1 ask stream) (streaming 2 ask stream) refl refl (of_link 1) (of_link 2) in omega arith
+  pub shared : (s : Stream) → StreamsAreFed (two_nodes (has_streams (s ∷ [])) (has_one Role.Replica) (streaming 1 ask stream ∷ streaming 2 ask stream ∷ [])) → ⊥
+  shared s f = let e : ◌≡◌ {A = ℕ} 1 2 = ap link_of (f.apart (Link 1) (Link 2) 0 0 stream.id (streaming 1 ask stream, refl, of_link 1) (streaming 2 ask stream, refl, of_link 2)) in omega arith

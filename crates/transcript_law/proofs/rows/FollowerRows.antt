@@ -1,6 +1,8 @@
 -- vBuckets and connections as they are told or are not, judged by hand
-use Rattle.std.specs.Prelude.{◌≡◌, ◌<◌, ◌∷◌, ◌==◌, if◌then◌else◌}
-use Rattle.transcript_law.proofs.Words.{ℕ, Bool, true, false, List, [], refl, ap, sym, ◌∙◌, subst, arith, eqb-true, Option, Some, None, Change, Plain, PlainNode, PlainSession, PlainWorld, Role, Chronicle, empty_chronicle, nothing, new_vb, new_session, one_change, empty_in, based, empty_node, with_node_at, empty_world, after_got}
+use Rattle.std.specs.Prelude.{◌≡◌, ◌∷◌, ◌==◌, if◌then◌else◌}
+use Rattle.node_core.specs.Clients.{PlainClient, new_client}
+use Rattle.vb_events.specs.declared.event.StreamName.TheVariants.{Client}
+use Rattle.transcript_law.proofs.Words.{ℕ, true, false, List, [], refl, ap, sym, ◌∙◌, subst, arith, eqb-true, Option, Some, None, Change, Plain, PlainNode, Role, empty_chronicle, nothing, new_vb, one_change, empty_in, based, empty_node, after_got}
 use Rattle.transcript_law.proofs.Words.{Sound, FollowsBranch, AreFollowed, starts, stays, vb_in, shelf_in}
 use Rattle.std.specs.FinMap.{get-empty}
 use Rattle.disk_journals.specs.Books.{Book}
@@ -18,8 +20,7 @@ use Rattle.vb_types.specs.declared.change.Act.TheVariants as act
 use Rattle.vb_types.specs.declared.doc.Doc.{Doc}
 use Rattle.vb_types.specs.declared.write.Op.TheVariants as op
 use Rattle.vb_types.specs.declared.change.Level.TheVariants.{Majority}
-use Rattle.vbucket.proofs.{Committing.{none_rests}, Pending.{pends_fold, pends_nothing}, Prepares.{image_differ, image_seqs}, Preparing.{prepared_sound}}
-use Rattle.vbucket.specs.Settles.{IsSettled}
+use Rattle.vbucket.proofs.{Pending.{pends_fold, pends_nothing}, Prepares.{image_differ, image_seqs}, Preparing.{prepared_sound}}
 
 -- a replica without a change, inside the snapshot of the first one
 pub inside_sound : Sound (empty_in 0 1)
@@ -93,11 +94,11 @@ uncommitted f = let e : true ≡ false = sym suffices ∙ f.at_rest waiting [] r
 
 -- a connection is its own node's
 
-abbrev session_of : ℕ → PlainSession
-session_of m = new_session (record { node = m; client = 1; base = 0 })
+abbrev client_of : ℕ → PlainClient
+client_of m = new_client (record { node = m; client = 1; base = 0 })
 
 abbrev holder : ℕ → PlainNode
-holder m = record empty_node { clients = λ c. if c == 1 then Some (session_of m) else None }
+holder m = record empty_node { clients = λ c. if c == 1 then Some (client_of m) else None }
 
 no_vb : (n m v : ℕ) (vb : Plain) → vb_in ((client_world m).nodes n) v ≡ Some vb → ⊥
 no_vb n m v vb = elim (n == 0) as (λ b. vb_in (if b then Some (holder m) else None) v ≡ Some vb → ⊥) [ true ↦ λ e. cc | false ↦ λ e. cc ]
@@ -110,7 +111,8 @@ no_books n m books = elim (n == 0) as (λ b. off_of_node (if b then Some (holder
 
 own_at : (n : ℕ) → AreOwnIf n ((client_world 0).nodes n)
 own_at n = elim (n == 0) as (λ b. (n == 0) ≡ b → AreOwnIf n (if b then Some (holder 0) else None)) [
-  | true ↦ λ e c. elim (c == 1) as (λ b. IsOwnIf n (if b then Some (session_of 0) else None)) [ true ↦ sym (eqb-true n 0 e) | false ↦ tt ]
+  | true ↦ λ e c. let at : 0 ≡ n = sym (eqb-true n 0 e) in elim (c == 1) as (λ b. (c == 1) ≡ b → IsOwnIf n c (if b then Some (client_of 0) else None))
+      [ true ↦ (λ q. let number : 1 ≡ c = sym (eqb-true c 1 q) in (at, number, at, (λ i. Client (at i) (number i)), refl)) | false ↦ (λ q. tt) ] refl
   | false ↦ λ e. tt
 ] refl
 
@@ -125,4 +127,4 @@ own_client = record {
 }
 
 pub strange_client : AreFollowed empty_chronicle (client_world 1) → ⊥
-strange_client f = let e : ◌≡◌ {A = ℕ} 1 0 = f.own 0 1 in omega (arith, e)
+strange_client f = let e : ◌≡◌ {A = ℕ} 1 0 = (f.own 0 1).0 in omega (arith, e)

@@ -160,7 +160,7 @@ from_asked asked adopted sent got shown few straight sound so told_so l f acks =
 
 -- the request of the empty replica is granted, and the log is taken over
 own_request : LawfulAsk before_asked 1 0 0 (ask_above 0 0) 2 (log_of 5) ask_answer.Go
-own_request = record { dialed = (1, refl); own_log = refl; own_high = refl; verdict = (refl, λ z. absurd (omega arith)); active = refl }
+own_request = record { dialed = (1, refl); answered = record { own_log = refl; own_high = refl; verdict = (refl, λ z. absurd (omega arith)); active = refl } }
 
 pub asks : Lawful two_followed (ask_groups granted_lines)
 asks = from_asked granted_lines [] [] [] [] (omega arith) (λ e. cc) (λ e. cc) (refl, refl, refl, refl) (refl, refl, refl, refl, refl) ((own_request, tt), (tt, (tt, (tt, (tt, tt))))) (refl ▹ refl ▹ refl ▹ refl ▹ refl ▹ tt) (λ t. cc, λ t. cc)
@@ -207,19 +207,19 @@ dialed_vb None = 0
 dialed_vb (Some d) = d.vb
 
 pub log : Lawful two_followed (ask_groups (ask_lines (ask_above 0 0) 2 (log_of 6) ask_answer.Go)) → ⊥
-log l = let e : ◌≡◌ {A = ℕ} 5 6 = ap (λ es. uuid_of (front es)) l.1.1.1.1.1.1.1.1.0.0.0.own_log in omega arith
+log l = let e : ◌≡◌ {A = ℕ} 5 6 = ap (λ es. uuid_of (front es)) l.1.1.1.1.1.1.1.1.0.0.0.answered.own_log in omega arith
 
 pub high : Lawful two_followed (ask_groups (ask_lines (ask_above 0 0) 3 (log_of 5) ask_answer.Go)) → ⊥
-high l = let e : ◌≡◌ {A = ℕ} 3 2 = l.1.1.1.1.1.1.1.1.0.0.0.own_high in omega arith
+high l = let e : ◌≡◌ {A = ℕ} 3 2 = l.1.1.1.1.1.1.1.1.0.0.0.answered.own_high in omega arith
 
 pub unknown : Lawful two_followed (ask_groups (ask_lines (ask_above 1 9) 2 (log_of 5) ask_answer.Go)) → ⊥
-unknown l = let e : Roll 0 ≡ Continue = l.1.1.1.1.1.1.1.1.0.0.0.verdict.0 in cc
+unknown l = let e : Roll 0 ≡ Continue = l.1.1.1.1.1.1.1.1.0.0.0.answered.verdict.0 in cc
 
 pub ahead : Lawful two_followed (ask_groups (ask_lines (ask_above 3 5) 2 (log_of 5) ask_answer.Go)) → ⊥
-ahead l = let e : Roll 2 ≡ Continue = l.1.1.1.1.1.1.1.1.0.0.0.verdict.0 in cc
+ahead l = let e : Roll 2 ≡ Continue = l.1.1.1.1.1.1.1.1.0.0.0.answered.verdict.0 in cc
 
 pub back : Lawful two_followed (ask_groups (ask_lines (ask_above 0 0) 2 (log_of 5) (ask_answer.Roll 0))) → ⊥
-back l = let e : Continue ≡ Roll 0 = l.1.1.1.1.1.1.1.1.0.0.0.verdict.0 in cc
+back l = let e : Continue ≡ Roll 0 = l.1.1.1.1.1.1.1.1.0.0.0.answered.verdict.0 in cc
 
 pub other : Lawful two_followed (ask_groups other_ask_lines) → ⊥
 unfolding dialed_vb
@@ -229,7 +229,7 @@ pub late : Lawful two_followed (ask_groups late_ask_lines) → ⊥
 late l = let e = l.1.1.1.1.1.1.1.1.0.0.1.0.dialed.1 in cc
 
 pub nameless : Lawful two_followed (ask_groups (ask_lines (ask_above 0 0) 2 (log_of 5) (ask_answer.Refuse 0))) → ⊥
-nameless l = l.1.1.1.1.1.1.1.1.0.0.0.verdict refl
+nameless l = l.1.1.1.1.1.1.1.1.0.0.0.answered.verdict refl
 
 -- the log that the link's producer told is the one to take over
 
@@ -390,34 +390,34 @@ elsewhere l =
 -- a vBucket that was put on a branch made from its own, or from another
 
 pub continues : LawfulFrom (made_from 5) (made_ask_lines 1 ask_answer.Go)
-continues = (record { dialed = (1, refl); own_log = refl; own_high = refl; verdict = (refl, λ z. refl); active = refl }, tt)
+continues = (record { dialed = (1, refl); answered = record { own_log = refl; own_high = refl; verdict = (refl, λ z. refl); active = refl } }, tt)
 
 pub rolls : LawfulFrom (made_from 5) (made_ask_lines 2 (ask_answer.Roll 1))
-rolls = (record { dialed = (1, refl); own_log = refl; own_high = refl; verdict = (refl, λ z. refl); active = refl }, tt)
+rolls = (record { dialed = (1, refl); answered = record { own_log = refl; own_high = refl; verdict = (refl, λ z. refl); active = refl } }, tt)
 
 -- a vBucket that is dead does neither
 dead_grants : ◌≡◌ {A = Option (Option Role)} (Some (Some Role.Dead)) (Some (Some Role.Active)) → ⊥
 dead_grants e = let same : Role.Dead ≡ Role.Active = cc in cc
 
 pub dead_continues : LawfulFrom made_dead (made_ask_lines 1 ask_answer.Go) → ⊥
-dead_continues l = dead_grants l.0.active
+dead_continues l = dead_grants l.0.answered.active
 
 pub dead_rolls : LawfulFrom made_dead (made_ask_lines 2 (ask_answer.Roll 1)) → ⊥
-dead_rolls l = dead_grants l.0.active
+dead_rolls l = dead_grants l.0.answered.active
 
 pub dead_refuses : LawfulFrom made_dead (made_ask_lines 1 (ask_answer.Refuse 7))
-dead_refuses = (record { dialed = (1, refl); own_log = refl; own_high = refl; verdict = λ e. absurd (omega arith); active = tt }, tt)
+dead_refuses = (record { dialed = (1, refl); answered = record { own_log = refl; own_high = refl; verdict = λ e. absurd (omega arith); active = tt } }, tt)
 
 pub stranger : LawfulFrom (made_from 6) (made_ask_lines 1 ask_answer.Go) → ⊥
-stranger l = let e : ◌≡◌ {A = List Change} (one_change ∷ []) [] = l.0.verdict.1 (omega arith) in cc
+stranger l = let e : ◌≡◌ {A = List Change} (one_change ∷ []) [] = l.0.answered.verdict.1 (omega arith) in cc
 
 pub rolls_stranger : LawfulFrom (made_from 6) (made_ask_lines 2 (ask_answer.Roll 1)) → ⊥
-rolls_stranger l = let e : ◌≡◌ {A = List Change} (one_change ∷ []) [] = l.0.verdict.1 (omega arith) in cc
+rolls_stranger l = let e : ◌≡◌ {A = List Change} (one_change ∷ []) [] = l.0.answered.verdict.1 (omega arith) in cc
 
 -- a replica that is asked itself
 
 pub onward : LawfulFrom after_both (replica_ask_lines 2)
-onward = (record { dialed = (2, refl); own_log = refl; own_high = refl; verdict = λ e. absurd (omega arith); active = tt }, tt)
+onward = (record { dialed = (2, refl); answered = record { own_log = refl; own_high = refl; verdict = λ e. absurd (omega arith); active = tt } }, tt)
 
 pub onward_none : LawfulFrom after_both (replica_ask_lines 0) → ⊥
-onward_none l = let e : ◌≡◌ {A = ℕ} 0 2 = l.0.own_high in omega arith
+onward_none l = let e : ◌≡◌ {A = ℕ} 0 2 = l.0.answered.own_high in omega arith

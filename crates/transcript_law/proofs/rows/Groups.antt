@@ -5,6 +5,7 @@ use Rattle.transcript_law.specs.{Chronicles.{after_group, ahead}, Firings.{Fires
 use Rattle.vb_events.specs.declared.event.Why.TheVariants as why
 use Rattle.script_text.specs.declared.verb.Verb.TheVariants as verb
 use Rattle.script_text.specs.declared.verb.VbVerb.TheVariants as vb_verb
+use Rattle.script_text.specs.declared.verb.ClientVerb.TheVariants as client_verb
 use Rattle.script_text.specs.declared.verb.LinkVerb.TheVariants as link_verb
 use Rattle.transcript_law.proofs.rows.AskedTests.{asked_so, is_asked_so}
 use Rattle.vb_events.specs.declared.event.Answer.TheVariants as answer
@@ -33,7 +34,7 @@ AreFired chronicle [] (group ∷ groups) = ⊥
 AreFired chronicle (line ∷ lines) (group ∷ groups) =
     FiresInLine chronicle line.verb group.events group.answer × AreFired (after_group chronicle line.verb group.events group.answer) lines groups
 
--- whether a take takes changes, a down takes nothing, and no pump is idle
+-- whether a take takes changes, a down takes nothing, and no pump or pull is idle
 abbrev pub takes_some : Answer → Bool
 takes_some (answer.Number n) = not (n == 0)
 takes_some other = true
@@ -58,6 +59,7 @@ done_so chronicle asked lines (answer.Pulled n why.Idle) e = idle asked e
   where
     idle : (asked : Verb) → is_done asked lines (answer.Pulled n why.Idle) ≡ true → NoneToPut (after_lines chronicle lines) asked
     idle (verb.AtLink l (link_verb.Pump wanted)) f = cc
+    idle (verb.AtClient n c (client_verb.Pull wanted)) f = cc
     idle other f = tt
 done_so chronicle asked lines other e = tt
 

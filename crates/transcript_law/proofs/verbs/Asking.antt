@@ -1,6 +1,6 @@
 -- each line for a vBucket tells what it was asked for
 use Rattle.std.specs.Prelude.{◌≡◌, ◌≤◌, ◌+◌, ◌∷◌, ◌++◌, ◌⊎◌, if◌then◌else◌}
-use Rattle.transcript_law.proofs.Words.{ℕ, Bool, true, false, List, [], length, map, refl, ap, sym, ◌∙◌, subst, append-nil, arith, inl, inr, ⊎_elim, append_assoc, filter-append, length-append, and_parts, not, Option, Some, None, is_some, Answer, Cause, Event, Role, VbVerb, AdminCall, AdminResult, PlainLink, PlainNode, PlainWorld, Outcome, Told, VbAnswer, VbCall, VbReply, Picture}
+use Rattle.transcript_law.proofs.Words.{ℕ, Bool, true, false, List, [], length, map, refl, ap, sym, ◌∙◌, subst, append-nil, arith, inl, inr, ⊎_elim, append_assoc, filter-append, length-append, and_parts, not, Option, Some, None, is_some, Answer, Cause, Event, Role, VbVerb, AdminCall, AdminResult, PlainLink, PlainNode, PlainWorld, Outcome, Told, StreamName, VbAnswer, VbCall, VbReply, Picture}
 use Rattle.transcript_law.proofs.Words.{admin_call, admin_line, admin_result, after_job, branch_lines, call_at, called_at, cut_off, document_line, first_cause, image_lines, no_node, node_outcome, on_node, own_link, prepare_line, promote_causes, refused_or, role_outcome, turned_after, turned_if, turn_causes, with_ended, with_node_at, IsPromotion, IsTurn, EndsWith, replica_causes, vb_causes}
 use Rattle.node_core.specs.{Admin.{admin_job, admin_refused, noted_answer, promote_result, role_at, role_noted, role_result}, Calls.{own_lines}}
 use Rattle.node_world.specs.{Arms.{fired_by, placed, under_arm}, Nodes.{all_posted, vb_made}, Power.{after_fire, down_lines, with_arm}, Turns.{posted_at, posted_in, role_called}, World.{vb_verb_step}, Worlds.{arm_in}}
@@ -8,8 +8,8 @@ use Rattle.node_world.specs.declared.arm.Fired.{Fired}
 use Rattle.node_world.specs.declared.arm.Fired.TheVariants as fired
 use Rattle.std.specs.FinMap as finite
 use Rattle.transcript_law.proofs.disks.{AppendAnswers.{AllStand, AndPosts, AppendCame, append_stands_not, fuse_in, fuse_same, unless_refused_came}, AppendLines.{AnyPosts, NoLines, dead_came, follow_came, promote_came, replica_came, vb_came}}
-use Rattle.transcript_law.proofs.disks.Burning.{quiet_same}
-use Rattle.transcript_law.proofs.lines.{Calm.{AnyAsk, any_job}, ClientLines.{IsOfClients, posts_of_clients}, Refusals.{Same}}
+use Rattle.transcript_law.proofs.{disks.Burning.{quiet_same}, invariant.Ranged.{IsRanged, NodeRangedIf, called_world, cut_ended_ranged}}
+use Rattle.transcript_law.proofs.lines.{Calm.{AnyAsk, any_job}, ClientLines.{AllKept, IsOfClients, posts_of_clients}, Refusals.{Same}}
 use Rattle.transcript_law.proofs.verbs.{LineAnswers.{new_shut_at, shut_at}, NodeLines.{on_node_by}, Tellings.{Are, are_clients, are_down, are_map, are_more}}
 use Rattle.transcript_law.specs.Asked.{AskedOfVb, IsLogLine, IsRefused, IsShowLine, IsStatLine, RisesOn, TellsIfDone, TellsOnce, TurnsTo, is_ack_of, is_of_image, is_turn, turns_in}
 use Rattle.vb_calls.proofs.JobConduct.{after_job_always, always_bind_job}
@@ -96,10 +96,11 @@ clients_calm : (line : Event) → IsOfClients line → is_calm line ≡ true
 clients_calm (Event.Changed m u uuid change) c = refl
 clients_calm (Event.Reply m k bytes) c = refl
 clients_calm (Event.Closed m k) c = refl
+clients_calm (Event.Asked (StreamName.Client m k) u v ask high log said) c = refl
 clients_calm other c = absurd c
 
-posts_calm : (rs : List Resolved) (node : PlainNode) → Calm (all_posted rs node).1
-posts_calm rs node = calm_of (all_posted rs node).1 (are_clients is_calm clients_calm (all_posted rs node).1 (posts_of_clients rs node))
+posts_calm : (n : ℕ) (rs : List Resolved) (node : PlainNode) → AllKept n node → Calm (all_posted rs node).1
+posts_calm n rs node kept = calm_of (all_posted rs node).1 (are_clients is_calm clients_calm (all_posted rs node).1 (posts_of_clients n rs node kept))
 
 changes_calm : (n v : ℕ) (reply : VbReply) → Calm (own_lines n v reply)
 changes_calm n v reply = calm_of (own_lines n v reply) (are_map is_calm (Event.Changed n v reply.branch) reply.changes (λ c. refl))
@@ -167,18 +168,18 @@ module _ (n v : ℕ) (w : PlainWorld) (asked : AdminCall) (k : ℕ) (job : admin
   cut_calm None w1 = refl
   cut_calm (Some link) w1 = refl
 
-  posted : (w3 : PlainWorld) (t : Told) (rs : List Resolved) → Few k t.events → Few k (posted_in n rs (w3, t)).1.events
-  posted w3 t rs f = by (w3.nodes n)
+  posted : (w3 : PlainWorld) (t : Told) (rs : List Resolved) → IsRanged w3 → Few k t.events → Few k (posted_in n rs (w3, t)).1.events
+  posted w3 t rs all f = by (w3.nodes n) (all n)
     where
-      by : (o : Option PlainNode) → Few k (posted_at n rs w3 t o).1.events
-      by None = f
-      by (Some node) = few_more k t.events (all_posted rs node).1 f (posts_calm rs node)
+      by : (o : Option PlainNode) → NodeRangedIf n o → Few k (posted_at n rs w3 t o).1.events
+      by None r = f
+      by (Some node) r = few_more k t.events (all_posted rs node).1 f (posts_calm n rs node r.own)
 
-  by_ended : (o : Option (List ℕ)) (w1 : PlainWorld) (told : AdminResult) → Few k told.events → Few k (turned_if n v w o (w1, told)).1.events
-  by_ended None w1 told f = f
-  by_ended (Some ids) w1 told f =
+  by_ended : (o : Option (List ℕ)) (w1 : PlainWorld) (told : AdminResult) → IsRanged w1 → Few k told.events → Few k (turned_if n v w o (w1, told)).1.events
+  by_ended None w1 told all f = f
+  by_ended (Some ids) w1 told all f =
       let w2 : PlainWorld = with_ended n v ids w1 in let own = own_link n v w2.links in
-      posted (cut_off own w2).0 (record { events = (cut_off own w2).1 ++ told.events; answer = told.answer }) told.resolved (few_front k (cut_off own w2).1 told.events (cut_calm own w2) f)
+      posted (cut_off own w2).0 (record { events = (cut_off own w2).1 ++ told.events; answer = told.answer }) told.resolved (cut_ended_ranged n v ids w1 all) (few_front k (cut_off own w2).1 told.events (cut_calm own w2) f)
 
   role_few : (node : PlainNode) → Few k (role_called n v asked node).1.events
   role_few node = by (is_some node.off)
@@ -187,16 +188,16 @@ module _ (n v : ℕ) (w : PlainWorld) (asked : AdminCall) (k : ℕ) (job : admin
       by true = omega arith
       by false = called_few (placed v node)
 
-  outcome_few : Few k (role_outcome n v asked w).1.events
-  outcome_few = by (w.nodes n)
+  outcome_few : IsRanged w → Few k (role_outcome n v asked w).1.events
+  outcome_few ranged = by (w.nodes n) refl
     where
-      by : (o : Option PlainNode) → Few k (turned_after n v w (node_outcome w n no_node o (role_called n v asked))).1.events
-      by None = omega arith
-      by (Some node) = let x = role_called n v asked node in by_ended x.1.ended (with_node_at w n x.0) x.1 (role_few node)
+      by : (o : Option PlainNode) → w.nodes n ≡ o → Few k (turned_after n v w (node_outcome w n no_node o (role_called n v asked))).1.events
+      by None e = omega arith
+      by (Some node) e = let x = role_called n v asked node in by_ended x.1.ended (with_node_at w n x.0) x.1 (called_world w n v asked node e ranged) (role_few node)
 
-  turn_few : (why : Option Cause) → Few k (refused_or why w (role_outcome n v asked w)).1.events
-  turn_few None = outcome_few
-  turn_few (Some why) = omega arith
+  turn_few : (why : Option Cause) → IsRanged w → Few k (refused_or why w (role_outcome n v asked w)).1.events
+  turn_few None ranged = outcome_few ranged
+  turn_few (Some why) ranged = omega arith
 
 -- what is between is all that there is
 none_beside : (k : ℕ) (front own behind : List Event) → Few k (front ++ (own ++ behind)) → length (turns_in own) ≡ k → Calm front × Calm behind
@@ -255,39 +256,39 @@ role_dies n v None = omega arith
 role_dies n v (Some reply) = role_turns n v Role.Dead reply reply.answer
 
 module _ (w : PlainWorld) (n v : ℕ) where
-  promotes : (uuid : ℕ) → (let x = (vb_verb_step w n v (VbVerb.Promote uuid)).1 in TellsOnce (RisesOn n v uuid) x.events x.answer)
-  promotes uuid =
+  promotes : IsRanged w → (uuid : ℕ) → (let x = (vb_verb_step w n v (VbVerb.Promote uuid)).1 in TellsOnce (RisesOn n v uuid) x.events x.answer)
+  promotes ranged uuid =
       let o = refused_or (first_cause (promote_causes w n v uuid)) w (role_outcome n v (AdminCall.Promote uuid) w) in
       armed_once (EndsWith (AndPosts AnyPosts (IsPromotion n v uuid))) (RisesOn n v uuid) (shut_at w n v) n w o (promote_came AnyPosts tt (shut_at w n v) w n v (λ node e rs x same. tt) (λ vb e. refl) uuid) (λ wrote e lines behind c.
       let (front, tail, is, (own, posts, tail_is, (parent, fork, high, commits, all, own_is), any)) = lines in
       rises n v uuid parent fork high (o.1.events ++ behind) front (map (Event.Changed n v uuid) commits ++ (posts ++ behind))
       (beside o.1.events front tail own posts behind is tail_is ∙ ap (λ ls. front ++ (ls ++ (posts ++ behind))) own_is)
-      (few_more 2 o.1.events behind (turn_few n v w (AdminCall.Promote uuid) 2 refl (role_rises n v uuid) (first_cause (promote_causes w n v uuid))) c))
+      (few_more 2 o.1.events behind (turn_few n v w (AdminCall.Promote uuid) 2 refl (role_rises n v uuid) (first_cause (promote_causes w n v uuid)) ranged) c))
 
-  turned : (role : Role) (asked : AdminCall) → admin_job n v asked ≡ role_at n v asked → ((o : Option VbReply) → Few 1 (admin_result n v asked o).events)
+  turned : IsRanged w → (role : Role) (asked : AdminCall) → admin_job n v asked ≡ role_at n v asked → ((o : Option VbReply) → Few 1 (admin_result n v asked o).events)
       → (let o = refused_or (first_cause (turn_causes w n v role)) w (role_outcome n v asked w) in AppendCame (EndsWith (AndPosts AnyPosts (IsTurn n v role))) (shut_at w n v) w n o
       → TellsOnce (TurnsTo n v role) (with_arm n w o).1.events (with_arm n w o).1.answer)
-  turned role asked job few came =
+  turned ranged role asked job few came =
       let o = refused_or (first_cause (turn_causes w n v role)) w (role_outcome n v asked w) in
       armed_once (EndsWith (AndPosts AnyPosts (IsTurn n v role))) (TurnsTo n v role) (shut_at w n v) n w o came (λ wrote e lines behind c.
       let (front, tail, is, (own, posts, tail_is, own_is, any)) = lines in
       turns n v role (o.1.events ++ behind) front (posts ++ behind)
       (beside o.1.events front tail own posts behind is tail_is ∙ ap (λ ls. front ++ (ls ++ (posts ++ behind))) own_is)
-      (few_more 1 o.1.events behind (turn_few n v w asked 1 job few (first_cause (turn_causes w n v role))) c))
+      (few_more 1 o.1.events behind (turn_few n v w asked 1 job few (first_cause (turn_causes w n v role)) ranged) c))
 
   -- each verb
-  pub vb_asked : Are (is_ack_of n v) (vb_verb_step w n v VbVerb.Done).1.events → (what : VbVerb) → (let x = (vb_verb_step w n v what).1 in AskedOfVb n v what x.events x.answer)
-  vb_asked acks (VbVerb.MakeActive uuid) = makes_active w n v uuid
-  vb_asked acks VbVerb.MakeReplica = makes_replica w n v
-  vb_asked acks (VbVerb.Chain others) = tt
-  vb_asked acks (VbVerb.Promote uuid) = promotes uuid
-  vb_asked acks VbVerb.Follow = turned Role.Replica AdminCall.Follow refl (role_follows n v) (follow_came AnyPosts tt (shut_at w n v) w n v (λ node e rs x same. tt) (λ vb e. refl))
-  vb_asked acks VbVerb.Dead = turned Role.Dead AdminCall.Dead refl (role_dies n v) (dead_came AnyPosts tt (shut_at w n v) w n v (λ node e rs x same. tt) (λ vb e. refl))
-  vb_asked acks VbVerb.Tick = tt
-  vb_asked acks VbVerb.Seal = tt
-  vb_asked acks VbVerb.Take = tt
-  vb_asked acks VbVerb.Save = tt
-  vb_asked acks VbVerb.Done = acks
-  vb_asked acks VbVerb.Stat = shows n v w AdminCall.Stat (IsStatLine n v) (λ node. stat_shows n v (call_at node.vbs v VbCall.Stat (node.vbs v)).1)
-  vb_asked acks VbVerb.Log = shows n v w AdminCall.Log (IsLogLine n v) (λ node. log_shows n v (call_at node.vbs v VbCall.Log (node.vbs v)).1)
-  vb_asked acks VbVerb.Show = shows n v w AdminCall.Show (IsShowLine n v) (λ node. show_shows n v (call_at node.vbs v VbCall.Show (node.vbs v)).1)
+  pub vb_asked : IsRanged w → Are (is_ack_of n v) (vb_verb_step w n v VbVerb.Done).1.events → (what : VbVerb) → (let x = (vb_verb_step w n v what).1 in AskedOfVb n v what x.events x.answer)
+  vb_asked ranged acks (VbVerb.MakeActive uuid) = makes_active w n v uuid
+  vb_asked ranged acks VbVerb.MakeReplica = makes_replica w n v
+  vb_asked ranged acks (VbVerb.Chain others) = tt
+  vb_asked ranged acks (VbVerb.Promote uuid) = promotes ranged uuid
+  vb_asked ranged acks VbVerb.Follow = turned ranged Role.Replica AdminCall.Follow refl (role_follows n v) (follow_came AnyPosts tt (shut_at w n v) w n v (λ node e rs x same. tt) (λ vb e. refl))
+  vb_asked ranged acks VbVerb.Dead = turned ranged Role.Dead AdminCall.Dead refl (role_dies n v) (dead_came AnyPosts tt (shut_at w n v) w n v (λ node e rs x same. tt) (λ vb e. refl))
+  vb_asked ranged acks VbVerb.Tick = tt
+  vb_asked ranged acks VbVerb.Seal = tt
+  vb_asked ranged acks VbVerb.Take = tt
+  vb_asked ranged acks VbVerb.Save = tt
+  vb_asked ranged acks VbVerb.Done = acks
+  vb_asked ranged acks VbVerb.Stat = shows n v w AdminCall.Stat (IsStatLine n v) (λ node. stat_shows n v (call_at node.vbs v VbCall.Stat (node.vbs v)).1)
+  vb_asked ranged acks VbVerb.Log = shows n v w AdminCall.Log (IsLogLine n v) (λ node. log_shows n v (call_at node.vbs v VbCall.Log (node.vbs v)).1)
+  vb_asked ranged acks VbVerb.Show = shows n v w AdminCall.Show (IsShowLine n v) (λ node. show_shows n v (call_at node.vbs v VbCall.Show (node.vbs v)).1)

@@ -1,36 +1,40 @@
 -- each line of a script tells what it was asked for
 use Rattle.std.specs.Prelude.{if◌then◌else◌, ◌≡◌, ◌∷◌, ◌==◌, ◌&&◌}
-use Rattle.transcript_law.proofs.Words.{ℕ, Bool, true, refl, ap, sym, ◌∙◌, subst, eq-eqb, Option, Some, None, Event, StreamName, Verb, NodeVerb, LinkVerb, Chronicle, PlainLink, PlainNode, PlainWorld, Outcome, LinkResult, consumer_node, link_number, on_link, producer_node, pump_at, row_at, up_at, verb_step, with_link, node_outcome, link_outcome, refusal, Cause}
+use Rattle.transcript_law.proofs.Words.{ℕ, Bool, true, refl, ap, sym, ◌∙◌, subst, eq-eqb, Option, Some, None, Event, StreamName, Verb, NodeVerb, LinkVerb, Chronicle, PlainLink, PlainNode, PlainWorld, Outcome, LinkResult, consumer_node, link_number, on_link, producer_node, pump_at, row_at, take_snapshots, up_at, verb_step, with_link, node_outcome, link_outcome, refusal, Cause}
 use Rattle.dcp_consumer.specs.declared.handshake.Dialed.{Dialed}
 use Rattle.dcp_producer.specs.declared.desk.Desk.{Desk}
 use Rattle.dcp_producer.specs.Frames.{act_sent}
 use Rattle.node_world.specs.{Arms.{fired_by}, Power.{after_broken, disk_end, down_lines, is_broken_answer, with_broken}, World.{down_in, down_outcome, down_step, link_verb_step}, Worlds.{arm_in}}
 use Rattle.node_world.specs.declared.arm.Fired.{Fired}
 use Rattle.node_world.specs.declared.arm.Fired.TheVariants as fired
+use Rattle.transcript_law.proofs.indexers.Pulled.{pull_pairs}
 use Rattle.transcript_law.proofs.invariant.{Agreement.{Agrees, DialAgrees, IsLink}, LinkRows.{found_is_link}}
 use Rattle.transcript_law.proofs.lines.{Calm.{either}, ClientLines.{IsOfClients}, DialTold.{down_so, due_so}, LinkTold.{pump_so, up_so}}
-use Rattle.transcript_law.proofs.verbs.{Asking.{vb_asked}, AskingStarts.{start_asked}, Leaving.{own_found}, Tellings.{Are, EndsSo, are_cons, are_down, are_more, are_node, are_own, are_posted, changes, done_steps, flush_steps, same_place}}
-use Rattle.transcript_law.specs.{Asked.{AskedOfLink, AskedOfNode, TellsAsAsked, is_ack_of, is_of_down, is_of_pump, is_of_up}, Chronicles.{Dial}}
-use Rattle.node_world.specs.World.{node_verb_step}
-use Rattle.transcript_law.proofs.Words.{after, after_job, false, on_node, own_link}
+use Rattle.transcript_law.proofs.verbs.{Asking.{vb_asked}, AskingStarts.{start_asked}, Leaving.{own_found}, Tellings.{Are, EndsSo, are_cons, are_down, are_more, are_own, are_posted, are_ranged, changes, done_steps, flush_steps, same_place}}
+use Rattle.transcript_law.specs.{Asked.{AskedOfClient, AskedOfLink, AskedOfNode, TellsAsAsked, is_ack_of, is_of_down, is_of_pull, is_of_pump, is_of_up}, Chronicles.{Dial}}
+use Rattle.node_core.specs.Clients.{PlainClient}
+use Rattle.node_world.specs.{Nodes.{pull_at, pull_if}, World.{client_verb_at, node_verb_step}}
+use Rattle.transcript_law.proofs.{invariant.Ranged.{IsRanged, NodeRanged, NodeRangedIf}, lines.{PullTold.{ArePut, pull_told}, SessionLines.{IsKept}}}
+use Rattle.transcript_law.proofs.Words.{List, [], ClientVerb, after, after_job, false, on_node, own_link}
 use Rattle.node_core.specs.{Dials.{dial_due}, Flushing.{flush_at, flush_result}}
 use Rattle.node_world.specs.{Dues.{done_step, due_at, due_in, due_of, is_counted}, Links.{dial_of}, Nodes.{flush_line, with_kept}}
 use Rattle.vb_calls.specs.declared.journals.Flushed.{Flushed}
 use Rattle.vb_calls.specs.declared.journals.Flushed.TheVariants as flushed
 use Rattle.vb_types.specs.declared.journal.FlushPart.TheVariants as part
+use Rattle.vbucket.proofs.Ending.{takes_exactly}
 
 -- a line for a link that is open
 on_open : (q : Event → Bool) (w : PlainWorld) (l : ℕ) (end : PlainLink → ℕ) (f : PlainLink → PlainNode → PlainNode × LinkResult)
-    → ((link : PlainLink) → IsLink link w.links → link_number link ≡ l → (node : PlainNode) → Are q (f link node).1.1.events) → Are q (on_link w l end f).1.events
+    → ((link : PlainLink) → IsLink link w.links → link_number link ≡ l → (node : PlainNode) → w.nodes (end link) ≡ Some node → Are q (f link node).1.1.events) → Are q (on_link w l end f).1.events
 on_open q w l end f each = by (row_at link_number l w.links) refl
   where
-    at_node : (link : PlainLink) → IsLink link w.links × (link_number link ≡ l) → (o : Option PlainNode) → Are q (with_link link (node_outcome w (end link) (Some link, refusal Cause.UnknownNode) o (f link))).1.events
-    at_node link is None = refl
-    at_node link is (Some node) = each link is.0 is.1 node
+    at_node : (link : PlainLink) → IsLink link w.links × (link_number link ≡ l) → (o : Option PlainNode) → w.nodes (end link) ≡ o → Are q (with_link link (node_outcome w (end link) (Some link, refusal Cause.UnknownNode) o (f link))).1.events
+    at_node link is None at = refl
+    at_node link is (Some node) at = each link is.0 is.1 node at
 
     by : (o : Option PlainLink) → row_at link_number l w.links ≡ o → Are q (link_outcome w l end f o).1.events
     by None e = refl
-    by (Some link) e = at_node link (found_is_link l w.links link e) (w.nodes (end link))
+    by (Some link) e = at_node link (found_is_link l w.links link e) (w.nodes (end link)) refl
 
 module _ (w : PlainWorld) (r : Chronicle) (a : Agrees w r) (l : ℕ) where
   -- its ends, as they were dialed
@@ -48,15 +52,16 @@ module _ (w : PlainWorld) (r : Chronicle) (a : Agrees w r) (l : ℕ) where
   up_clients (Event.Changed m u uuid change) c = refl
   up_clients (Event.Reply m k bytes) c = refl
   up_clients (Event.Closed m k) c = refl
+  up_clients (Event.Asked (StreamName.Client m k) u v ask high log said) c = refl
   up_clients other c = absurd c
 
-  up_asked : (wanted : ℕ) → Are (is_of_up l) (on_link w l producer_node (up_at wanted)).1.events
-  up_asked wanted = on_open (is_of_up l) w l producer_node (up_at wanted) (λ link is e node. let d : Desk = link.server.desk in
+  up_asked : IsRanged w → (wanted : ℕ) → Are (is_of_up l) (on_link w l producer_node (up_at wanted)).1.events
+  up_asked ranged wanted = on_open (is_of_up l) w l producer_node (up_at wanted) (λ link is e node at. let here : NodeRanged (producer_node link) node = subst (NodeRangedIf (producer_node link)) at (ranged (producer_node link)) in let d : Desk = link.server.desk in
       up_so (is_of_up l) d (λ v ask high log said. passes link is e (λ s. is_of_up l (Event.Asked s d.node v ask high log said)) (eq-eqb l l refl))
-      (λ v member seq. passes link is e (λ s. is_of_up l (Event.Counted s d.node v member seq)) (eq-eqb l l refl)) up_clients wanted link node refl)
+      (λ v member seq. passes link is e (λ s. is_of_up l (Event.Counted s d.node v member seq)) (eq-eqb l l refl)) up_clients (producer_node link) wanted link node here.own refl)
 
   pump_asked : (frames : ℕ) → Are (is_of_pump l) (on_link w l producer_node (pump_at frames)).1.events
-  pump_asked frames = on_open (is_of_pump l) w l producer_node (pump_at frames) (λ link is e node.
+  pump_asked frames = on_open (is_of_pump l) w l producer_node (pump_at frames) (λ link is e node at.
       pump_so (is_of_pump l) link.server.desk (λ start end flags. passes link is e (λ s. is_of_pump l (Event.Marked s start end flags)) (eq-eqb l l refl))
       (λ c. passes link is e (λ s. is_of_pump l (Event.Item s c.seq (act_sent c.act) c.key)) (eq-eqb l l refl)) (λ reason. passes link is e (λ s. is_of_pump l (Event.Finished s reason)) (eq-eqb l l refl)) frames link node refl)
 
@@ -101,11 +106,11 @@ module _ (w : PlainWorld) (r : Chronicle) (a : Agrees w r) (l : ℕ) where
           subst (λ (o : Option Dial). Are (is_of_down o l) (with_broken (consumer_node link) l w came).1.events) (sym (ap r.dial_of (sym is.1) ∙ (dial_at link is.0).dialed))
           (broken_asked link is.1 came (at_node link is.1 (w.nodes (consumer_node link))))
 
-  link_asked : (what : LinkVerb) → AskedOfLink (r.dial_of l) l what (link_verb_step w l what).1.events
-  link_asked (LinkVerb.Up wanted) = up_asked wanted
-  link_asked (LinkVerb.Down wanted) = down_asked wanted
-  link_asked (LinkVerb.Pump frames) = pump_asked frames
-  link_asked LinkVerb.Cut = tt
+  link_asked : IsRanged w → (what : LinkVerb) → AskedOfLink (r.dial_of l) l what (link_verb_step w l what).1.events
+  link_asked ranged (LinkVerb.Up wanted) = up_asked ranged wanted
+  link_asked ranged (LinkVerb.Down wanted) = down_asked wanted
+  link_asked ranged (LinkVerb.Pump frames) = pump_asked frames
+  link_asked ranged LinkVerb.Cut = tt
 
 node_asked : (w : PlainWorld) (n : ℕ) (what : NodeVerb) → AskedOfNode what (node_verb_step w n what).1.events
 node_asked w n (NodeVerb.Clock nanos) = tt
@@ -123,11 +128,12 @@ module _ (w : PlainWorld) (n v : ℕ) where
   clients_own (Event.Changed m u uuid change) c = refl
   clients_own (Event.Reply m k bytes) c = refl
   clients_own (Event.Closed m k) c = refl
+  clients_own (Event.Asked (StreamName.Client m k) u q ask high log said) c = refl
   clients_own other c = absurd c
 
-  saved_own : (node : PlainNode) → Are own (flush_line n v part.Done node).1.events
-  saved_own node = let y = after_job (flush_at n v part.Done) node.vbs node.shelves in
-      are_posted own clients_own y.1 (with_kept node y.0) (flush_steps (λ told. Are own told.events) EndsSo n v part.Done node refl by (done_steps v))
+  saved_own : (node : PlainNode) → NodeRanged n node → Are own (flush_line n v part.Done node).1.events
+  saved_own node ranged = let y = after_job (flush_at n v part.Done) node.vbs node.shelves in
+      are_posted own clients_own n y.1 (with_kept node y.0) ranged.own (flush_steps (λ told. Are own told.events) EndsSo n v part.Done node refl by (done_steps v))
     where
       by : (came : Flushed) → EndsSo came → Are own (flush_result n v came).events
       by (flushed.Done reply) s = are_own own n v (λ uuid reply. changes own clients_own n v uuid reply) reply
@@ -150,14 +156,43 @@ module _ (w : PlainWorld) (n v : ℕ) where
       by true = of (own_link n v came.0.links) refl
       by false = b
 
-  done_asked : Are own (done_step w n v).1.events
-  done_asked = due_own (on_node w n (flush_line n v part.Done)) (are_node own w n (flush_line n v part.Done) saved_own)
+  done_asked : IsRanged w → Are own (done_step w n v).1.events
+  done_asked ranged = due_own (on_node w n (flush_line n v part.Done)) (are_ranged own w n (flush_line n v part.Done) ranged saved_own)
+
+-- a pull tells of the streams of its own client
+module _ (n c : ℕ) where
+  named : (line : StreamName → Event) (s : StreamName) → s ≡ StreamName.Client n c → is_of_pull n c (line (StreamName.Client n c)) ≡ true → is_of_pull n c (line s) ≡ true
+  named line s e is = subst (λ x. is_of_pull n c (line x) ≡ true) (sym e) is
+
+  pull_own : (lines : List Event) → ArePut n c lines → Are (is_of_pull n c) lines
+  pull_own [] a = refl
+  pull_own (Event.Marked (StreamName.Client m d) start end flags ∷ lines) a = are_cons (is_of_pull n c) (Event.Marked (StreamName.Client m d) start end flags) lines (named (λ s. Event.Marked s start end flags) (StreamName.Client m d) a.0 (same_place n c)) (pull_own lines a.1)
+  pull_own (Event.Item (StreamName.Client m d) seq act key ∷ lines) a = are_cons (is_of_pull n c) (Event.Item (StreamName.Client m d) seq act key) lines (named (λ s. Event.Item s seq act key) (StreamName.Client m d) a.0 (same_place n c)) (pull_own lines a.1)
+  pull_own (Event.Finished (StreamName.Client m d) reason ∷ lines) a = are_cons (is_of_pull n c) (Event.Finished (StreamName.Client m d) reason) lines (named (λ s. Event.Finished s reason) (StreamName.Client m d) a.0 (same_place n c)) (pull_own lines a.1)
+  pull_own (Event.Reply m d bytes ∷ lines) a = are_cons (is_of_pull n c) (Event.Reply m d bytes) lines (λ i. eq-eqb m n a.0.0 i && eq-eqb d c a.0.1 i) (pull_own lines a.1)
+  pull_own (Event.Marked (StreamName.Link l) start end flags ∷ lines) a = let e = a.0 in cc
+  pull_own (Event.Item (StreamName.Link l) seq act key ∷ lines) a = let e = a.0 in cc
+  pull_own (Event.Finished (StreamName.Link l) reason ∷ lines) a = let e = a.0 in cc
+  pull_own (other ∷ lines) a = absurd a.0
+
+  pull_asked : (w : PlainWorld) (wanted : ℕ) → IsRanged w → Are (is_of_pull n c) (on_node w n (pull_at c wanted)).1.events
+  pull_asked w wanted ranged = are_ranged (is_of_pull n c) w n (pull_at c wanted) ranged (λ node r. by node (node.clients c) (r.own c))
+    where
+      by : (node : PlainNode) (o : Option PlainClient) → IsKept n c o → Are (is_of_pull n c) (pull_if c wanted node o).1.events
+      by node None k = refl
+      by node (Some client) k = pull_own _ (pull_told n c wanted client node.vbs k).0
+
+client_asked : (w : PlainWorld) (r : Chronicle) (number n c : ℕ) (what : ClientVerb) → IsRanged w → Agrees w r → AskedOfClient n c what (on_node w n (client_verb_at n number c what)).1.events
+client_asked w r number n c ClientVerb.Open ranged a = tt
+client_asked w r number n c (ClientVerb.Bytes bytes) ranged a = tt
+client_asked w r number n c (ClientVerb.Pull wanted) ranged a = (pull_asked n c w wanted ranged, pull_pairs take_snapshots takes_exactly w r n c wanted a)
+client_asked w r number n c ClientVerb.Hang ranged a = tt
 
 -- each line, by what it names
-pub line_asked : (w : PlainWorld) (r : Chronicle) (number : ℕ) (line : Verb) → Agrees w r → (let x = (verb_step w number line).1 in TellsAsAsked r line x.events x.answer)
-line_asked w r number (Verb.Node n) a = tt
-line_asked w r number (Verb.Link l m n v buffer) a = tt
-line_asked w r number (Verb.AtNode n what) a = node_asked w n what
-line_asked w r number (Verb.AtVb n v what) a = vb_asked w n v (done_asked w n v) what
-line_asked w r number (Verb.AtClient n c what) a = tt
-line_asked w r number (Verb.AtLink l what) a = link_asked w r a l what
+pub line_asked : (w : PlainWorld) (r : Chronicle) (number : ℕ) (line : Verb) → IsRanged w → Agrees w r → (let x = (verb_step w number line).1 in TellsAsAsked r line x.events x.answer)
+line_asked w r number (Verb.Node n) ranged a = tt
+line_asked w r number (Verb.Link l m n v buffer) ranged a = tt
+line_asked w r number (Verb.AtNode n what) ranged a = node_asked w n what
+line_asked w r number (Verb.AtVb n v what) ranged a = vb_asked w n v ranged (done_asked w n v ranged) what
+line_asked w r number (Verb.AtClient n c what) ranged a = client_asked w r number n c what ranged a
+line_asked w r number (Verb.AtLink l what) ranged a = link_asked w r a l ranged what

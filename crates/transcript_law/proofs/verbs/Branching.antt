@@ -1,16 +1,18 @@
 -- lines that make a vBucket
 use Rattle.std.specs.Prelude.{◌≡◌, ◌<◌, ◌≤◌, ◌∷◌, ◌++◌, ◌==◌, ◌^◌, if◌then◌else◌}
 use Rattle.transcript_law.proofs.Words.{ℕ, Bool, true, false, List, [], refl, ap, sym, ◌∙◌, subst, arith, ⊎_elim, Option, Some, None, All, option_map, is_some, eqb-true, eqb-false, eq-eqb, ne_eqb, All-nil, All-cons, Answer, Cause, Event, Role, upto}
-use Rattle.transcript_law.proofs.Words.{IsNew, with_entry, fork_of, last_seq, map, Position, Branch, branch, hist, hist_here, hist_there, HoldsAt, complete_position, no_spans, Cluster, Member, Move, SoundCluster, happens, made, above, keeps, StartsSound, Plain, new_vb, branch_lines}
+use Rattle.transcript_law.proofs.Words.{IsIn, IsNew, with_entry, fork_of, last_seq, map, Position, Branch, branch, hist, hist_here, hist_there, HoldsAt, complete_position, no_spans, Cluster, Member, Move, SoundCluster, happens, made, above, keeps, StartsSound, Plain, new_vb, branch_lines}
 use Rattle.transcript_law.proofs.Words.{Outcome, PlainLink, PlainNode, PlainWorld, with_node_at, on_node, first_cause, refused_or, is_one_of, vb_causes, with_vb, vb_at, replica_causes, replica_at, vb_in, shelf_in, with_branches}
-use Rattle.transcript_law.proofs.Words.{Chronicle, parent_branch, changes_between, after_branch, after_lines, after_role, known_history, LawfulFrom, LawfulRole, StaysSound, StreamName, upto_none, vb_step}
+use Rattle.transcript_law.proofs.Words.{Chronicle, changes_between, after_branch, after_lines, after_role, LawfulFrom, LawfulRole, StaysSound, StreamName, upto_none, vb_step}
 use Rattle.transcript_law.proofs.{disks.Absent.{NothingHere, nothing_here}, disks.Appending.{noted_node, state_came, told_disk}, disks.ArmedLines.{ArmedCame}, invariant.JobSteps.{put_found, shelf_found, shelf_over}, lines.Lines.{AreQuiet}, disks.Firing.{made_noting}, disks.Noting.{LineCame, came_as, came_goes, caused, kept_came, refused_came}}
-use Rattle.transcript_law.proofs.invariant.Agreement.{AgreesAt, AgreesIn, Agrees, AwayAt, BranchAgrees, LinkAgrees, ChangeFits, DiskIsIf, EntryFits, IsLink, LineGoes, PowerIsIf, RestsIn, VbAgrees, VbHolds, Writes, WritesIf, idle, is_down, own_history, power_of, shelf_of, top, vb_contents, vb_of, vb_row}
+use Rattle.transcript_law.proofs.invariant.Agreement.{AgreesAt, AgreesIn, Agrees, AwayAt, BranchAgrees, LinkAgrees, ChangeFits, DiskIsIf, EntryFits, IsLink, LineGoes, PowerIsIf, RestsIn, VbAgrees, VbHolds, Writes, idle, is_down, own_history, power_of, shelf_of, top, vb_of, vb_row}
 use Rattle.transcript_law.proofs.{invariant.Carried.{all_vbs, places}, invariant.Carrying.{Changed}, disks.Disks.{AwayAgrees, ShelfIs, bare as bare_record, disk_same, no_spots, parts_of, power_in, same_parts}, invariant.OneLink.{put_here, put_there}, invariant.Resting.{ends_again, rests_by}, invariant.Seats.{seat, seats_apart}, links.Turning.{put_itself}}
+use Rattle.transcript_law.proofs.invariant.{Agreement.{ClientsTold}, Carried.{all_there}, Carrying.{same_clients}, ClientsKept.{goes_agreed_at}, ClientsTurned.{RoleTold, clients_turned, none_opened}}
+use Rattle.transcript_law.specs.{ClientStreams.{past_turn, with_clients_of}, Feeding.{client_in}}
 use Rattle.transcript_law.proofs.lines.Telling.{branch_line}
-use Rattle.transcript_law.proofs.{invariant.Majorities.{alone_counts}, verbs.NodeLines.{node_changed, on_node_by, more_used, new_links, vb_told, role_row, role_there, role_here}}
+use Rattle.transcript_law.proofs.{invariant.Majorities.{alone_counts}, verbs.NodeLines.{node_changed, on_node_by, more_used, new_links, role_row, role_there, role_here}}
 use Rattle.transcript_law.specs.{Chronicles.{alone}, Lawfulness.{LawfulBranch, fork_in, newest_of}}
-use Rattle.transcript_law.proofs.{invariant.Tables.{at_here, at_there, if_known, id_here, id_there, unused, none_there, none_hold}, invariant.Trees.{IsTold, is_told_here, is_told_there, new_untold}, invariant.Wholes.{WholeTo, spanned_none}}
+use Rattle.transcript_law.proofs.{invariant.Tables.{at_here, at_there, if_known, id_here, unused, none_there, none_hold}, invariant.Trees.{IsTold, is_told_here, new_untold}, invariant.Wholes.{WholeTo, spanned_none}}
 use Rattle.{branch_model.proofs.Holding.{holds_none}, branch_model.specs.Journals.{place_of}, cluster_model.specs.Clusters.{Disk, blank, front_or, member_fork, opened, promoted}, disk_journals.specs.Arms.{armed_at, under}, node_core.specs.Admin.{noted_answer}}
 use Rattle.node_world.specs.{Arms.{fired_by, fuse_or, lifted, under_arm}, Nodes.{shelf_or_blank, vb_made, vb_noted}, Power.{with_arm}, Worlds.{arm_in}}
 use Rattle.{vb_calls.specs.Flushes.{wrote_of}, vb_calls.specs.State.{first_log}, vb_disk.specs.declared.fuse.Fuse.TheVariants.{Off}, vb_types.specs.declared.journal.Record.{Record}}
@@ -20,58 +22,7 @@ use Rattle.transcript_law.specs.Chronicles.{with_disk as told_disk_at}
 use Rattle.vb_calls.specs.Shelves.{Append, DiskFailed, Fate, Shelf, Stood, WasClosed, ask_at, shelf_step, blank_shelf, with_shelf_at}
 use Rattle.vb_types.specs.declared.journal.Record.TheVariants as noted
 use Rattle.transcript_law.proofs.invariant.Bounded.{Weighs}
-
--- changes of all branches fit, where those of a new one do
-pub new_fits : (b : Branch) (tree : List Branch) (u : ℕ) → ((x : ℕ) → All ChangeFits (hist tree x)) → All ChangeFits (hist (b ∷ tree) b.id) → (k : Bool) → (b.id == u) ≡ k → All ChangeFits (hist (b ∷ tree) u)
-new_fits b tree u old new true e = subst (λ x. All ChangeFits (hist (b ∷ tree) x)) (eqb-true b.id u e) new
-new_fits b tree u old new false e = subst (All ChangeFits) (sym (hist_there b tree u (eqb-false b.id u e))) (old u)
-
--- another vBucket agrees as before, after a branch was made
-module _ (w : PlainWorld) (r : Chronicle) (c : Cluster) (n v uuid : ℕ) (parent : Option ℕ) (fork high : ℕ) (a : AgreesIn idle w r c) (unused_yet : is_one_of uuid w.uuids ≡ false) (named : uuid ≡ 0 → ⊥) where
-  abbrev branching : Chronicle
-  branching = after_branch r n v uuid parent fork high
-
-  abbrev new_one : Branch
-  new_one = record { id = uuid; parent = parent_branch parent fork (r.branch_at n v); fork = fork; own = changes_between fork high (r.held n v) }
-
-  -- no member is on the new branch
-  off_branch : (k : ℕ) → uuid ≡ (c.nodes k).br → ⊥
-  off_branch k e =
-      let there = (a.sound.stands k).settled.0 in
-      let z : None ≡ Some there.0 = sym (a.used uuid unused_yet named) ∙ ap (branch c.tree) e ∙ there.1 in
-      cc
-
-  branch_writes : (m q br : ℕ) → (m ≡ n → q ≡ v → ⊥) → (b : Bool) → WritesIf b r m q br → WritesIf b branching m q br
-  branch_writes m q br other false x = tt
-  branch_writes m q br other true x =
-      let apart : uuid ≡ br → ⊥ = λ e. new_untold uuid r.tree (a.fresh uuid unused_yet) (subst (IsTold r.tree) (sym e) x.is_told) in
-      record {
-        branch = at_there r.branch_at n v (Some uuid) m q other ∙ x.branch;
-        is_told = is_told_there new_one r.tree br apart x.is_told;
-        writer = id_there r.writer_of uuid (Some (n, v)) br apart ∙ x.writer;
-        named = x.named;
-      }
-
-  branch_history : (m q : ℕ) → (m ≡ n → q ≡ v → ⊥) → BranchAgrees (r.branch_at m q) (c.nodes (seat m q)).br → own_history r m q ≡ own_history branching m q
-  branch_history m q other is =
-      elim (r.branch_at m q) as (λ o. BranchAgrees o (c.nodes (seat m q)).br → known_history r.tree o ≡ known_history branching.tree o)
-      [ None ↦ λ e. refl | Some u ↦ λ e. sym (hist_there new_one r.tree u (λ k. off_branch (seat m q) (k ∙ sym e))) ] is
-      ∙ ap (known_history branching.tree) (sym (at_there r.branch_at n v (Some uuid) m q other))
-
-  pub branch_row : (m q : ℕ) → (m ≡ n → q ≡ v → ⊥) → vb_row branching m q ≡ vb_row r m q
-  branch_row m q other i = record (vb_row r m q) {
-    contents = record (vb_contents r m q) {
-      branch = at_there r.branch_at n v (Some uuid) m q other i;
-      log = at_there r.log_at n v (option_map (with_entry uuid fork) (r.log_at n v)) m q other i;
-      snap = at_there r.snap_at n v (Some (high, high)) m q other i;
-    };
-    counts = at_there r.counts_at n v alone m q other i;
-  }
-
-  pub branch_there : (m q : ℕ) (o : Option Plain) → (m ≡ n → q ≡ v → ⊥) → AgreesAt r m q (c.nodes (seat m q)) o → AgreesAt branching m q (c.nodes (seat m q)) o
-  branch_there m q o other x =
-      vb_told r branching m q (c.nodes (seat m q)) o (branch_row m q other)
-      (branch_writes m q (c.nodes (seat m q)).br other) (λ vb y. ap (λ h. upto h vb.position.at) (branch_history m q other y.branch)) x
+pub use Rattle.transcript_law.proofs.verbs.Branched.{branch_row, branch_there, new_fits}
 
 -- ---- a vBucket that was just made, before its role is written down
 
@@ -189,6 +140,24 @@ module _ (w : PlainWorld) (r : Chronicle) (c : Cluster) (n v uuid : ℕ) (role :
         → (x : PlainLink) → IsLink x w.links → LinkAgrees world told c' x [] []
     made_links dials streams points x i = new_links w world r told c c' n v x [] [] not_made changed.there dials streams points nodes (a.links x i)
 
+    -- clients have no open stream of it
+    made_clients : ((m d : ℕ) → q.clients_at m d ≡ with_clients_of r.clients_at n (past_turn v) m d) → ((m p : ℕ) → (m ≡ n → p ≡ v → ⊥) → AgreesAt q m p (c'.nodes (seat m p)) (vb_of w m p)) → ((u : ℕ) → IsTold r.tree u → hist q.tree u ≡ hist r.tree u)
+        → ClientsTold world told
+    made_clients clients there same = clients_turned w world r told n v a.clients turned (all_there idle w r c a) (λ l m p id has. has)
+      where
+        turned : RoleTold w world r told n v
+        turned = record {
+          here = λ d client is.
+              let was : client_in (w.nodes n) d ≡ Some client = sym (same_clients w world changed.powers n d) ∙ is in
+              (client, was, none_opened w r n v d client (λ x e. let z : Some x ≡ None = sym e ∙ not_made in cc) (a.clients.each n d client was));
+          there = λ m d ne. same_clients w world changed.powers m d;
+          known = clients;
+          goes = λ m p o d id has.
+              let member = nodes (seat m p) (seats_apart m p n v o) in
+              goes_agreed_at w world r told m p id (c.nodes (seat m p)) (c'.nodes (seat m p)) (vb_of w m p) refl (changed.there m p o) (a.vbs m p) (told_disk q n v there_now m p (c'.nodes (seat m p)) (vb_of w m p) (λ e. o) (there m p o))
+              (ap (λ (x : Member). x.br) member) (λ x i. subst (λ (y : Member). IsIn x y.held) (sym member) i) (λ x. same (c.nodes (seat m p)).br x.is_told);
+        }
+
 -- ---- its role is written down, under the node's arm
 
 module _ (n v uuid : ℕ) (role : Role) (node : PlainNode) where
@@ -285,6 +254,8 @@ module _ (starts : StartsSound) (w : PlainWorld) (r : Chronicle) (c : Cluster) (
         branches = a.branches;
         links = made_links w r c n v 0 Role.Replica node a known runs none small w.uuids q c (λ m p. refl) (λ m. refl) rows (λ j ne. refl) (λ j. refl) (λ k. refl) (λ k p. refl) (λ k. refl);
         differ = a.differ;
+        clients = made_clients w r c n v 0 Role.Replica node a known runs none small w.uuids q c (λ m p. refl) (λ m. refl) rows (λ j ne. refl) (λ j. refl) (λ m d. refl)
+            (λ m p o. role_there r n v Role.Replica m p (c.nodes (seat m p)) (vb_of w m p) o (a.vbs m p)) (λ u t. refl);
         rests = new_rests w r c n v 0 Role.Replica node a known runs none small w.uuids q c (λ m p. refl) (λ m. refl) rows (λ j ne. refl) (λ j. refl);
       }
 
@@ -397,13 +368,16 @@ module _ (starts : StartsSound) (w : PlainWorld) (r : Chronicle) (c : Cluster) (
   abbrev active_world : PlainWorld
   active_world = record { nodes = (with_node_at w n (bare node n v Role.Active uuid)).nodes; uuids = uuids; links = w.links }
 
+  active_there : (j p : ℕ) → (j ≡ n → p ≡ v → ⊥) → AgreesAt after j p (risen.nodes (seat j p)) (vb_of w j p)
+  active_there j p o = subst (λ x. AgreesAt after j p x (vb_of w j p)) (sym (others (seat j p) (seats_apart j p n v o)))
+      (role_there branched n v Role.Active j p (c.nodes (seat j p)) (vb_of w j p) o (branch_there w r c n v uuid None 0 0 a unused_yet named j p (vb_of w j p) o (a.vbs j p)))
+
   active_bare : AgreesIn idle active_world (told_disk_at after n v (record (r.disk_at n v) { there = true })) risen
   active_bare = record {
     sound = is_sound;
     vbs = made_vbs w r c n v uuid Role.Active node a known runs none small uuids after risen (λ j p. refl) (λ j. refl) rows others same_disks
         (subst (λ x. VbAgrees after n v x (new_vb n Role.Active uuid)) (sym promoted_is) (role_here branched n v Role.Active (promoted m uuid) (new_vb n Role.Active uuid) refl refl (λ e. (writes_here, alone_counts branched n v, refl)) active_holds))
-        (λ j p o. subst (λ x. AgreesAt after j p x (vb_of w j p)) (sym (others (seat j p) (seats_apart j p n v o)))
-        (role_there branched n v Role.Active j p (c.nodes (seat j p)) (vb_of w j p) o (branch_there w r c n v uuid None 0 0 a unused_yet named j p (vb_of w j p) o (a.vbs j p))));
+        active_there;
     disks = new_disks w r c n v uuid Role.Active node a known runs none small uuids after risen (λ j p. refl) (λ j. refl) rows others same_disks;
     branches = record {
       hists = λ u. same_hist u (uuid == u) refl;
@@ -416,6 +390,8 @@ module _ (starts : StartsSound) (w : PlainWorld) (r : Chronicle) (c : Cluster) (
     };
     links = made_links w r c n v uuid Role.Active node a known runs none small uuids after risen (λ j p. refl) (λ j. refl) rows others same_disks (λ j. refl) (λ j p. refl) (λ j. refl);
     differ = a.differ;
+    clients = made_clients w r c n v uuid Role.Active node a known runs none small uuids after risen (λ j p. refl) (λ j. refl) rows others same_disks (λ j p. refl) active_there
+        (λ u t. hist_there told_branch r.tree u (λ e. new_untold uuid r.tree (a.fresh uuid unused_yet) (subst (IsTold r.tree) (sym e) t)));
     rests = new_rests w r c n v uuid Role.Active node a known runs none small uuids after risen (λ j p. refl) (λ j. refl) rows others same_disks;
   }
 

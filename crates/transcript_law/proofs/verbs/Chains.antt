@@ -32,7 +32,7 @@ module _ (stays : StaysSound) (steady : Steady) (w : PlainWorld) (r : Chronicle)
 
   settled_goes : GoesOn r as_told (with_node_at w n (settling (own_lines n v reply)).0, (settling (own_lines n v reply)).1)
   settled_goes = subst (λ (ls : List Event). GoesOn r as_told (with_node_at w n (settling ls).0, (settling ls).1)) (sym told)
-      (posts_behind stays steady w r n last (record { events = lines; answer = Answer.Ok; resolved = reply.resolved }) as_told nothing_beside (record { clock = ranged.clock; clients = ranged.clients })
+      (posts_behind stays steady w r n last (record { events = lines; answer = Answer.Ok; resolved = reply.resolved }) as_told nothing_beside (record { clock = ranged.clock; clients = ranged.clients; own = ranged.own; runs = ranged.runs })
       (changes_quiet n v (newest_branch start.log) s.cs) (s.lawful, agrees))
 
 -- `chain`

@@ -11,7 +11,9 @@ use Rattle.{vb_calls.specs.Shelves.{Shelf, left_book}, vb_disk.specs.declared.ma
 use Rattle.transcript_law.specs.Chronicles.{after_crash, after_crashed, alone, crashed_disk, known_down, finds, is_dial_at, newest_or, resting}
 use Rattle.transcript_law.proofs.{invariant.Agreement.{Agrees, AgreesAt, AgreesIn, AwayAt, BookAgrees, DiskIsIf, DownHolds, GoesOn, IsAway, IsLink, LinkAgrees, Power, PowerIsIf, VbIsIf, VbRow, book_in, idle, is_down, power_of, shelf_of, top, vb_contents, vb_of, vb_row}, disks.ArmedLines.{AreEnds}}
 use Rattle.transcript_law.proofs.{invariant.Carried.{branches_again, kept_same, link_carried, numbers}, disks.Crashed.{Loads, UnmadeIf, Written, are_written, away_late, crash_all, crash_here, crash_sound, crash_there, crash_tree, crashed_away, crashed_disk_is, crashed_rests, crashed_row, logs_fit, stood_end}}
-use Rattle.transcript_law.proofs.{disks.Disks.{AwayAgrees, power_in}, disks.Downed.{AreDialed, Downed, IsFree, down_dialed, down_ends, downed, ends_lawful, none_free}, invariant.Seats.{seat, seat_one}, invariant.Tables.{id_here, id_there, none_hold}, invariant.Trees.{IdsFit}}
+use Rattle.transcript_law.proofs.{disks.Disks.{AwayAgrees, power_in}, disks.Downed.{AreDialed, Downed, IsFree, down_dialed, down_ends, downed, ends_lawful, none_free, with_known}, invariant.Seats.{seat, seat_one}, invariant.Tables.{id_here, id_there, none_hold}, invariant.Trees.{IdsFit}}
+use Rattle.transcript_law.proofs.invariant.{Carried.{all_there}, Carrying.{same_arms}, ClientsKept.{ConnsKept, OfOthers, clients_gone, goes_same, spot_at, spot_same}}
+use Rattle.transcript_law.specs.{Feeding.{client_in}, StreamsTold.{ClientsKnown}}
 
 -- the books that a crash leaves
 
@@ -78,9 +80,11 @@ row_there r n out m v ne =
 by_node : (P : ℕ → Type 0) (n : ℕ) → P n → ((m : ℕ) → (m ≡ n → ⊥) → P m) → (m : ℕ) → P m
 by_node P n here there m = ⊎_elim (λ e. subst P (sym e) here) (λ ne. there m ne) (numbers m n)
 
-module _ (w : PlainWorld) (r : Chronicle) (c : Cluster) (n : ℕ) (node : PlainNode) (out : Outcome) (a : AgreesIn idle w r c) (at : w.nodes n ≡ Some node) (on : node.off ≡ None) (apart : (x : PlainLink) → IsLink x w.links → touches n x ≡ false) where
+module _ (w : PlainWorld) (r : Chronicle) (c : Cluster) (n : ℕ) (node : PlainNode) (out : Outcome) (a : AgreesIn idle w r c) (at : w.nodes n ≡ Some node) (on : node.off ≡ None) (apart : (x : PlainLink) → IsLink x w.links → touches n x ≡ false)
+    (known : ClientsKnown) (known_there : (m d : ℕ) → (m ≡ n → ⊥) → known m d ≡ r.clients_at m d) where
+  -- its clients are told closed before
   abbrev r' : Chronicle
-  r' = after_crash r n out
+  r' = after_crash (with_known r known) n out
 
   abbrev c' : Cluster
   c' = crash_all n (finds out) 1024 c
@@ -298,6 +302,14 @@ module _ (w : PlainWorld) (r : Chronicle) (c : Cluster) (n : ℕ) (node : PlainN
       (λ v e. a.small n v (ap (λ (t : VbRow). t.disk.there) (sym (row_here r n out v)) ∙ e))
       (λ m ne v e. a.small m v (ap (λ (t : VbRow). t.disk.there) (sym (row_there r n out m v ne)) ∙ e))
 
+  -- it has no clients any more
+  conns : ConnsKept (OfOthers n) w w' r r'
+  conns = record {
+    conns = λ m d ne. ap (λ o. client_in o d) (there m ne);
+    known = known_there;
+    opens = λ m d v id ne has. goes_same (spot_at w r m v) (spot_at w' r' m v) id (spot_same w w' r r' m v refl (row_there r n out m v ne) (ap (λ o. vb_in o v) (there m ne)));
+  }
+
   pub stopped_agrees : AgreesIn idle w' r' c'
   stopped_agrees = record {
     sound = sound;
@@ -306,6 +318,7 @@ module _ (w : PlainWorld) (r : Chronicle) (c : Cluster) (n : ℕ) (node : PlainN
     branches = branches_again (crash_tree n (finds out) 1024 c) refl (λ u e. e) a.branches;
     links = links_are;
     differ = a.differ;
+    clients = clients_gone w w' r r' n a.clients (all_there idle w r c a) conns (λ d. ap (λ o. client_in o d) here) (λ l m v id has. has);
     rests = record {
       powers = powers_are;
       aways = aways_are;
@@ -345,8 +358,8 @@ pub record Drops (w : PlainWorld) (r : Chronicle) (n : ℕ) (out : Outcome) (als
 
 pub drops : StaysSound → (w : PlainWorld) (r : Chronicle) (n : ℕ) (out : Outcome) (also : Option ℕ) → Agrees w r → is_up (w.nodes n) ≡ true → IsFree also w.links → ((l : ℕ) → is_this_number l also ≡ true → (dial : Dial) × (r.dial_of l ≡ Some dial)) → Drops w r n out also
 drops stays w r n out also (c, a) up free besides =
-    let d : Downed w (after_lines r (down_lines n also w)) n = downed stays w r c n also a free in
-    let still : is_up ((all_cut n w).nodes n) ≡ true = up_is ((all_cut n w).nodes n) ∙ ap is_on (d.powers n) ∙ sym (up_is (w.nodes n)) ∙ up in
+    let d : Downed w r (after_lines r (down_lines n also w)) n = downed stays w r c n also a free in
+    let still : is_up ((all_cut n w).nodes n) ≡ true = up_is ((all_cut n w).nodes n) ∙ ap is_on (same_arms w (all_cut n w) d.powers n) ∙ sym (up_is (w.nodes n)) ∙ up in
     let (node, at, on) = running ((all_cut n w).nodes n) still in
     record {
       ends = down_ends n also w;
@@ -354,7 +367,7 @@ drops stays w r n out also (c, a) up free besides =
       agrees = (
         crash_all n (finds out) 1024 d.cluster,
         subst (λ x. AgreesIn idle x (after_crash (after_lines r (down_lines n also w)) n out) (crash_all n (finds out) 1024 d.cluster)) (sym (ap (node_if n (stopped_node out) (all_cut n w)) at))
-            (stopped_agrees (all_cut n w) (after_lines r (down_lines n also w)) d.cluster n node out d.agrees at on d.apart),
+            (stopped_agrees (all_cut n w) (with_known (after_lines r (down_lines n also w)) r.clients_at) d.cluster n node out d.agrees at on d.apart (after_lines r (down_lines n also w)).clients_at d.others),
       );
     }
 

@@ -1,6 +1,6 @@
 -- lines that open a link
 use Rattle.std.specs.Prelude.{◌≡◌, ◌<◌, ◌∷◌, ◌++◌, ◌==◌, ◌&&◌, ◌||◌, ◌^◌, if◌then◌else◌}
-use Rattle.transcript_law.proofs.Words.{ℕ, Bool, true, false, List, [], map, refl, ap, sym, ◌∙◌, subst, arith, append-nil, ⊎_elim, Option, Some, None}
+use Rattle.transcript_law.proofs.Words.{ℕ, Bool, true, false, List, [], map, refl, ap, sym, ◌∙◌, subst, inl, arith, append-nil, ⊎_elim, Option, Some, None}
 use Rattle.transcript_law.proofs.Words.{not, is_some, concat, concat-append, eqb-false, eq-eqb, All-nil, Frame, map-append, spelling, Readable, dcp_frame, AskInRange, VerbFits, Cause, StreamAsk, request_of}
 use Rattle.transcript_law.proofs.Words.{Cluster, Plain, is_follower, quiet_reply, refusal_reply, named_ask, PlainLink, link_number, producer_node}
 use Rattle.transcript_law.proofs.Words.{consumer_node, feeds, PlainWorld, Outcome, with_links, ask_in, first_cause, link_causes, refused_or, with_dialed, done, Chronicle, after_dial, option_and_then}
@@ -14,6 +14,8 @@ use Rattle.{node_world.specs.Worlds.{is_off}, transcript_law.proofs.{invariant.A
 use Rattle.{dcp_consumer.specs.Dialing.{numbered, stream_opaque}, dcp_consumer.specs.declared.handshake.Dialed.{Dialed}, transcript_law.proofs.links.Firsts.{asks_from, firsts, request_frames}}
 use Rattle.transcript_law.proofs.links.Requests.{dials_waiting, first_asked, opaque_small, opaque_some, requests_readable}
 use Rattle.transcript_law.proofs.links.Verdicts.{asks_in_range}
+use Rattle.transcript_law.proofs.invariant.{Carried.{all_there}, ClientsKept.{all_kept, clients_kept}, LinkFeeds.{link_feeds}, LinkRows.{found_is_link}}
+use Rattle.transcript_law.specs.Feeding.{HasFed, HasOpen}
 
 -- what a consumer writes is the spelling of its requests
 requests_spelled : (d : Dialed) (ask : StreamAsk) → requests d ask ≡ concat (map spelling (request_frames (stream_opaque d.buffer) d ask))
@@ -106,6 +108,12 @@ module _ (w : PlainWorld) (r : Chronicle) (line l m n v buffer : ℕ) (small : (
       (id_there r.point_of l None (link_number x) (λ e. (free_links w.links l n v free x i).0 (sym e))) refl
       (stays_same (vb_of w (producer_node x) x.consumer.dialed.vb) (c.nodes (producer_seat x)) x) (a.links x i)
 
+  -- the new link has no stream
+  dialed_feeds : (k j q id : ℕ) → HasFed dialed (StreamName.Link k) j q id → HasFed w (StreamName.Link k) j q id
+  dialed_feeds k j q id (x, is, of) =
+      let at = found_is_link k dialed.links x is in
+      ⊎_elim (λ e. absurd (subst (λ (y : PlainLink). HasOpen q id y.server.streams) e of.stream)) (λ i. link_feeds w a.differ k j q id x i at.1 of.producer of.stream) (is_link_more x new w.links at.0)
+
   dialed_agrees : AgreesIn idle dialed r' c
   dialed_agrees = record {
     sound = a.sound;
@@ -129,6 +137,7 @@ module _ (w : PlainWorld) (r : Chronicle) (line l m n v buffer : ℕ) (small : (
       follower = (free_links w.links l n v free x i).1;
       stream = λ q id e f z. absurd f;
     });
+    clients = clients_kept w dialed r r' 0 a.clients (all_there idle w r c a) (all_kept w dialed r r' (λ i d. refl) (λ i d. refl) refl (λ i q. refl) (λ i q. refl)) (λ k j q id has. inl (dialed_feeds k j q id has));
   }
 
 no_ask : {A : Type 0} (ask : StreamAsk) → None ≡ Some ask → A

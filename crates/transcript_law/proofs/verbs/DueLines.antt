@@ -3,7 +3,7 @@ use Rattle.std.specs.Prelude.{◌≡◌, ◌<◌, ◌≤◌, ◌∷◌, ◌++◌
 use Rattle.transcript_law.proofs.Words.{ℕ, true, false, List, [], refl, ap, sym, ◌∙◌, subst, append-nil, Option, Some, None, spelling, Event, Sound, after}
 use Rattle.transcript_law.proofs.Words.{DialResult, PlainLink, PlainNode, PlainWorld, link_number, consumer_node, dial_of, row_at, row_put, vb_in, own_link, with_links, with_node_at, with_states, Told, Chronicle, after_lines, LawfulFrom, fork_of, image_in}
 use Rattle.transcript_law.proofs.invariant.Agreement.{vb_of, AgreesAt, VbAgrees, LinkAgrees, IsLink, consumer_seat, idle, AgreesIn, GoesOn}
-use Rattle.transcript_law.proofs.{links.Acknowledging.{DueCame, ack_frame, acked_agrees, ack_lawful, due_came}, invariant.Carrying.{Relinked}, disks.Downed.{row_found}, verbs.Leaving.{own_found}, invariant.LinkRows.{put_same}, verbs.NodeLines.{as_told, node_of_same_vbs}, invariant.OneLink.{carries_same}}
+use Rattle.transcript_law.proofs.{links.Acknowledging.{DueCame, ack_frame, acked_agrees, ack_lawful, due_came}, invariant.Carrying.{Relinked}, verbs.Leaving.{own_found}, invariant.LinkRows.{put_same, row_found}, verbs.NodeLines.{as_told, node_of_same_vbs}, invariant.OneLink.{carries_same}}
 use Rattle.transcript_law.proofs.lines.Lines.{AreQuiet, after_more, lawful_more}
 use Rattle.transcript_law.specs.Lawfulness.{SavesThirds}
 use Rattle.{dcp_consumer.specs.Machine.{is_streaming}, node_core.specs.Dials.{acknowledged_line, acknowledged_result, due_requested, untold}}

@@ -8,7 +8,7 @@ use Rattle.node_world.specs.{Arms.{placed, under_arm}, Dues.{due_at, due_in, due
 use Rattle.std.specs.FinMap as finite
 use Rattle.script_text.specs.declared.verb.Verb.TheVariants as verb
 use Rattle.script_text.specs.declared.verb.LinkVerb.TheVariants as link_verb
-use Rattle.transcript_law.proofs.{disks.AppendAnswers.{AllStand, unless_refused_came}}
+use Rattle.transcript_law.proofs.{disks.AppendAnswers.{AllStand, unless_refused_came}, invariant.Ranged.{IsRanged, NodeRanged, NodeRangedIf, called_world, cut_ended_ranged}, lines.ClientLines.{AllKept}}
 use Rattle.transcript_law.proofs.{lines.Calm.{AnyAsk, Calm, Spared, Still, all_posts_calm, any_job, calm_map, calm_more, dial_due_calm, down_calm, either, posts_calm, posts_spared, spared_calm}, disks.Fired.{broken_fires, standing_fires}, verbs.NodeLines.{on_node_by}}
 use Rattle.transcript_law.specs.{Chronicles.{Dial}, Firings.{FiresAsSaid, FiresInLine, beside_rollbacks}}
 use Rattle.vb_calls.proofs.JobConduct.{after_job_always, always_bind_job}
@@ -74,25 +74,25 @@ admin_spared n v asked job node = subst (λ j. Spared (call_told (after_job j no
 call_calm : (n v : ℕ) (asked : AdminCall) (o : Option VbReply) → Calm (admin_result n v asked o).events
 call_calm n v asked o = spared_calm (call_told (admin_result n v asked o)) (call_spared n v asked o)
 
-pub role_calm : (w : PlainWorld) (n v : ℕ) (asked : AdminCall) → admin_job n v asked ≡ role_at n v asked → Calm (role_outcome n v asked w).1.events
-role_calm w n v asked job = by_node (w.nodes n)
+pub role_calm : (w : PlainWorld) (n v : ℕ) (asked : AdminCall) → admin_job n v asked ≡ role_at n v asked → IsRanged w → Calm (role_outcome n v asked w).1.events
+role_calm w n v asked job ranged = by_node (w.nodes n) refl
   where
     cuts : (o : Option PlainLink) (w1 : PlainWorld) → Calm (cut_off o w1).1
     cuts None w1 = refl
     cuts (Some link) w1 = refl
 
-    by_ended : (o : Option (List ℕ)) (w1 : PlainWorld) (told : AdminResult) → Calm told.events → Calm (turned_if n v w o (w1, told)).1.events
-    by_ended None w1 told c = c
-    by_ended (Some ids) w1 told c =
+    by_ended : (o : Option (List ℕ)) (w1 : PlainWorld) (told : AdminResult) → IsRanged w1 → Calm told.events → Calm (turned_if n v w o (w1, told)).1.events
+    by_ended None w1 told all c = c
+    by_ended (Some ids) w1 told all c =
         let w2 : PlainWorld = with_ended n v ids w1 in let own = own_link n v w2.links in
-        posted (cut_off own w2).0 (record { events = (cut_off own w2).1 ++ told.events; answer = told.answer }) told.resolved (calm_more (cut_off own w2).1 told.events (cuts own w2) c)
+        posted (cut_off own w2).0 (record { events = (cut_off own w2).1 ++ told.events; answer = told.answer }) told.resolved (cut_ended_ranged n v ids w1 all) (calm_more (cut_off own w2).1 told.events (cuts own w2) c)
       where
-        posted : (w3 : PlainWorld) (t : Told) (rs : List Resolved) → Calm t.events → Calm (posted_in n rs (w3, t)).1.events
-        posted w3 t rs c = by (w3.nodes n)
+        posted : (w3 : PlainWorld) (t : Told) (rs : List Resolved) → IsRanged w3 → Calm t.events → Calm (posted_in n rs (w3, t)).1.events
+        posted w3 t rs all c = by (w3.nodes n) (all n)
           where
-            by : (o : Option PlainNode) → Calm (posted_at n rs w3 t o).1.events
-            by None = c
-            by (Some node) = calm_more t.events (all_posted rs node).1 c (all_posts_calm rs node)
+            by : (o : Option PlainNode) → NodeRangedIf n o → Calm (posted_at n rs w3 t o).1.events
+            by None r = c
+            by (Some node) r = calm_more t.events (all_posted rs node).1 c (all_posts_calm n rs node r.own)
 
     called_calm : (node : PlainNode) → Calm (called_at n v asked node).1.events
     called_calm node = subst (λ (j : Job AdminResult). Calm (after_job j node.vbs node.shelves).1.events) (sym job)
@@ -106,9 +106,9 @@ role_calm w n v asked job = by_node (w.nodes n)
         by true = refl
         by false = called_calm (placed v node)
 
-    by_node : (o : Option PlainNode) → Calm (turned_after n v w (node_outcome w n no_node o (role_called n v asked))).1.events
-    by_node None = refl
-    by_node (Some node) = let x = role_called n v asked node in by_ended x.1.ended (with_node_at w n x.0) x.1 (node_calm node)
+    by_node : (o : Option PlainNode) → w.nodes n ≡ o → Calm (turned_after n v w (node_outcome w n no_node o (role_called n v asked))).1.events
+    by_node None e = refl
+    by_node (Some node) e = let x = role_called n v asked node in by_ended x.1.ended (with_node_at w n x.0) x.1 (called_world w n v asked node e ranged) (node_calm node)
 
 pub refused_calm : {A : Type 0} (o : Option Cause) (before : A) (x : A × Told) → Calm x.1.events → Calm (refused_or o before x).1.events
 refused_calm None before x c = c
@@ -159,10 +159,10 @@ flush_steps P Q n v p node none some steps = after_job_always AnyCall AnyAsk P (
     by true = always_bind_job AnyReply AnyCall AnyAsk Q P (flush_job v p) (λ came. Ended (flush_result n v came)) (tt, steps) some
     by false = none
 
-pub flush_spared : (n v : ℕ) (p : FlushPart) → ((flush : Flush) → Steps Taken (part_job v p flush)) → (node : PlainNode) → Spared (flush_line n v p node).1
-flush_spared n v p steps node =
+pub flush_spared : (n v : ℕ) (p : FlushPart) → ((flush : Flush) → Steps Taken (part_job v p flush)) → (node : PlainNode) → AllKept n node → Spared (flush_line n v p node).1
+flush_spared n v p steps node kept =
     let y = after_job (flush_at n v p) node.vbs node.shelves in
-    posts_spared y.1 (with_kept node y.0) (flush_steps (λ told. FiresAsSaid None told.events told.answer) Taken n v p node refl (taken_spared n v) steps)
+    posts_spared n y.1 (with_kept node y.0) kept (flush_steps (λ told. FiresAsSaid None told.events told.answer) Taken n v p node refl (taken_spared n v) steps)
 
 -- nor does what is acknowledged behind `done`
 pub due_fires : (n v : ℕ) (o : Outcome) → Spared o.1 → Spared (due_in n v o).1
@@ -194,14 +194,14 @@ settled_spared n v (Some reply) = by reply.answer
     by answer.Done = own_calm n v reply
     by other = refl
 
-pub settled_fires : (n v : ℕ) (c : VbCall) (node : PlainNode) → (let x = call_at node.vbs v c (node.vbs v) in Spared (with_posts (settled_result n v x.1) (with_states node x.0)).1)
-settled_fires n v c node = let x = call_at node.vbs v c (node.vbs v) in posts_spared (settled_result n v x.1) (with_states node x.0) (settled_spared n v x.1)
+pub settled_fires : (n v : ℕ) (c : VbCall) (node : PlainNode) → AllKept n node → (let x = call_at node.vbs v c (node.vbs v) in Spared (with_posts (settled_result n v x.1) (with_states node x.0)).1)
+settled_fires n v c node kept = let x = call_at node.vbs v c (node.vbs v) in posts_spared n (settled_result n v x.1) (with_states node x.0) kept (settled_spared n v x.1)
 
-pub save_calm : (w : PlainWorld) (n v : ℕ) → Calm (on_node w n (save_line n v)).1.events
-save_calm w n v = on_node_by (λ o. Calm o.1.events) w n (save_line n v) refl (λ node known. refl)
+pub save_calm : (w : PlainWorld) (n v : ℕ) → IsRanged w → Calm (on_node w n (save_line n v)).1.events
+save_calm w n v ranged = on_node_by (λ o. Calm o.1.events) w n (save_line n v) refl (λ node known. refl)
     (λ node known up.
     let at : PlainNode = placed v node in let y = after_job (flush_at n v part.Save) at.vbs at.shelves in
-    posts_calm y.1 (with_kept at y.0) (flush_steps (λ told. Calm told.events) (λ came. Unit {0}) n v part.Save at refl (λ came any. flushed_calm n v came) (λ flush. any_job (part_job v part.Save flush))))
+    let here : NodeRanged n node = subst (NodeRangedIf n) known (ranged n) in posts_calm n y.1 (with_kept at y.0) here.own (flush_steps (λ told. Calm told.events) (λ came. Unit {0}) n v part.Save at refl (λ came any. flushed_calm n v came) (λ flush. any_job (part_job v part.Save flush))))
 
 -- ---- vBuckets that are made
 

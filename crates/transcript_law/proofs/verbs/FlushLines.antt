@@ -87,6 +87,7 @@ module _ (w : PlainWorld) (r : Chronicle) (n v : ℕ) (there : There w r n v) wh
       (λ m q o. (at_there r.disk_at n v d m q o, s.cluster.there (seat m q) (seats_apart m q n v o)))
       (written_rests w w' r r' c now n v vb vb' a vb_is became (record { role = refl; wants = refl }) s.cluster.nodes refl (λ j. refl) (λ j q. refl) (λ j. refl) (λ x i k has s. refl) (λ j. refl)
       (ap (λ (t : DiskKnown). t.there) (at_here r.disk_at n v d) ∙ s.written.there ∙ sym disk.there) (λ m q o. (row_there r n v d m q o, s.cluster.there (seat m q) (seats_apart m q n v o))))
+      (λ m d. refl) (λ d k has. refl)
 
 module _ (stays : StaysSound) (steady : Steady) (wholes : BatchesAreWhole) (w : PlainWorld) (r : Chronicle) (n v : ℕ) (there : There w r n v) (ranged : NodeRanged n there.node) where
   open there use {c, a, node, at, vb, known, shelf, kept}
@@ -381,7 +382,7 @@ module _ (stays : StaysSound) (steady : Steady) (wholes : BatchesAreWhole) (w : 
 
     done_agrees : GoesOn saved_as_known as_told (outcome ((last_states, with_shelf_at sh0 v done_shelf), Flushed.Done (Some done_reply)))
     done_agrees = subst (λ (lines : List Event). let x = with_posts (done_lines lines) last_node in GoesOn saved_as_known as_told (with_node_at w n x.0, x.1)) (sym told_is)
-        (posts_behind stays steady w saved_as_known n last_node (done_lines (changes_told n v branch_is settles_on.cs)) as_told nothing_beside (record { clock = ranged.clock; clients = ranged.clients })
+        (posts_behind stays steady w saved_as_known n last_node (done_lines (changes_told n v branch_is settles_on.cs)) as_told nothing_beside (record { clock = ranged.clock; clients = ranged.clients; own = ranged.own; runs = ranged.runs })
         (changes_quiet n v branch_is settles_on.cs) done_goes_on)
 
   done_by : (flush : Flush) → shelf.flush ≡ flush → (let y = outcome (after_job (finish_job v flush) st0 sh0) in GoesOn (done_from y.1.answer) as_told y)

@@ -7,8 +7,8 @@ use Rattle.transcript_law.proofs.{Words.{LawfulFrom, []}, invariant.Seats.{seat}
 use Rattle.transcript_law.proofs.{invariant.Carrying.{StreamsChanged}, invariant.Carried.{not_both, fed_same, vb_carried, stream_opened, kept_streams, stream_end_lines}, invariant.LinkRows.{found_is_link, differ_in, links_apart, out_links}}
 use Rattle.transcript_law.proofs.{invariant.Agreement.{shelf_of}, disks.Disks.{disk_same, parts_of}, Words.{vb_in}}
 use Rattle.transcript_law.proofs.{invariant.OneLink.{carries_over, carries_same}, links.Cutting.{IsClosable, closable, unlinking}, verbs.NodeLines.{as_told, at_node, changed_agrees}, links.Turning.{NoneFeeds, not_ended, told_by}}
-use Rattle.transcript_law.proofs.links.Turning.{told_alike, differ_told}
-use Rattle.{node_world.specs.World.{cut_step}, transcript_law.specs.Feeding.{HasOpen}, vb_events.specs.declared.event.EndReason.TheVariants.{Cut}, vb_events.specs.declared.event.Event.TheVariants.{Ended}}
+use Rattle.transcript_law.proofs.{invariant.{ClientsKept.{link_none}, LinkFeeds.{link_feeds}}, links.Turning.{told_alike, differ_told}}
+use Rattle.{node_world.specs.World.{cut_step}, transcript_law.specs.Feeding.{HasOpen, IsOfClient}, vb_events.specs.declared.event.EndReason.TheVariants.{Cut}, vb_events.specs.declared.event.Event.TheVariants.{Ended}}
 
 -- a link is cut
 
@@ -95,10 +95,10 @@ cut_off_goes w r n v a (Some link) e =
       free = subst (λ i. NoneFeeds i v rest) p.1 (subst (λ q. NoneFeeds (consumer_node link) q rest) p.2 (none_left w.links link a.1.differ p.0));
     }
 
--- a vBucket of which the streams alone changed, and none that a link has
+-- a vBucket of which the streams alone changed, and none that a link or a client has
 
 module _ (w w' : PlainWorld) (r : Chronicle) (c : Cluster) (n v id : ℕ) (pv pv' : Plain) (a : AgreesIn idle w r c) (known : vb_of w n v ≡ Some pv) (changed : StreamsChanged id pv pv') (became : Changed w w' n v pv' w.links) (shelf : shelf_of w' n v ≡ shelf_of w n v)
-    (apart : (x : PlainLink) → IsLink x w.links → HasOpen v id x.server.streams → producer_node x ≡ n → ⊥) where
+    (apart : (x : PlainLink) → IsLink x w.links → HasOpen v id x.server.streams → producer_node x ≡ n → ⊥) (alone : (d : ℕ) → IsOfClient w n d v id → ⊥) where
   here : VbAgrees r n v (c.nodes (seat n v)) pv'
   here = vb_carried r r n v (c.nodes (seat n v)) (c.nodes (seat n v)) (record { tree = refl; writer_of = λ u. refl; row = refl }) (fed_same (c.nodes (seat n v))) id pv pv'
       changed (subst (AgreesAt r n v (c.nodes (seat n v))) known (a.vbs n v))
@@ -107,6 +107,7 @@ module _ (w w' : PlainWorld) (r : Chronicle) (c : Cluster) (n v id : ℕ) (pv pv
   streams_agree = changed_agrees w w' r r c n v pv pv' a known became (kept_streams id pv pv' changed) refl (λ k. refl) (λ k q. refl) (λ k. refl)
       (λ x i k has s. changed.others k (λ e. apart x i (subst (λ j. HasOpen v j x.server.streams) e has) s)) here (λ m q other. a.vbs m q) (λ m q. refl) shelf
       (disk_same (Some pv) (Some pv') refl refl refl (ap parts_of changed.alone)) (λ m. refl) (λ m q other. refl)
+      (λ m d. refl) (λ d k has. changed.others k (λ e. alone d (subst (IsOfClient w n d v) e has)))
 
 -- links that are told which streams ended, without one of them
 out_told : (n v : ℕ) (ids : List ℕ) (k : ℕ) (links : List PlainLink) → row_out link_number k (links_ended n v ids links) ≡ links_ended n v ids (row_out link_number k links)
@@ -130,7 +131,7 @@ told_in n v ids x (y ∷ ys) i = ⊎_elim (λ e. inl (ap (link_ended n v ids) e)
 -- the own link of a vBucket that was given another role: it feeds that vBucket, and is taken out
 module _ (stays : StaysSound) (w : PlainWorld) (r : Chronicle) (c : Cluster) (n v : ℕ) (ids : List ℕ) (node node' : PlainNode) (vb vb' : Plain) (vbs_are : (q : ℕ) → node'.vbs q ≡ with_vb_at node.vbs v vb' q) (shelves_are : (q : ℕ) → (q ≡ v → ⊥) → node'.shelves q ≡ node.shelves q)
     (link : PlainLink) (a : AgreesIn idle w r c) (at : w.nodes n ≡ Some node)
-    (known : vb_of w n v ≡ Some vb) (is_own : own_link n v w.links ≡ Some link) where
+    (known : vb_of w n v ≡ Some vb) (is_own : own_link n v w.links ≡ Some link) (fewer : (m d q id : ℕ) → IsOfClient (with_node_at w n node') m d q id → IsOfClient w m d q id) where
   -- the world after the call, and its links when they were told
   abbrev called : PlainWorld
   called = with_node_at w n node'
@@ -189,11 +190,17 @@ module _ (stays : StaysSound) (w : PlainWorld) (r : Chronicle) (c : Cluster) (n 
         let p = out_links (link_number link') (links_ended n v ids w.links) link' x differ (row_found (links_ended n v ids w.links) link' differ there) (subst (IsLink x) (sym rest_is) i) in
         (links_apart link' x (links_ended n v ids w.links) differ there p.0 (λ q. p.1 (sym q))).stream link'.consumer.dialed.vb id opens has (sym e)
 
+    -- nor does a client have it
+    alone : (id : ℕ) → HasOpen link'.consumer.dialed.vb id link'.server.streams → (d : ℕ) → IsOfClient without (producer_node link') d link'.consumer.dialed.vb id → ⊥
+    alone id opens d has =
+        let m : ℕ = producer_node link' in let q : ℕ = link'.consumer.dialed.vb in let like = told_alike n v ids link in
+        link_none w a.clients.apart (link_number link) m q id (link_feeds w a.differ (link_number link) m q id link own.0 refl (sym (ap (λ d. d.node) like.desk)) (like.opens q id opens)) d (fewer m d q id has)
+
     pub over_agrees : AgreesIn idle without r' c' → AgreesIn idle over r' c'
     over_agrees b = ⊎_elim
         (λ same. carries_same idle idle without over r' c' b (record { powers = same.powers; vbs = same.vbs; shelves = same.shelves; uuids = ap (λ us. us ++ more) same.uuids; linked = same.linked ∙ rest_is }) (λ k. refl))
         (λ closed.
         let (id, pv, pv', opens, is, changed, one, shelf) = closed in
         streams_agree without over r' c' (producer_node link') link'.consumer.dialed.vb id pv pv' b is changed
-        (record { powers = one.powers; here = one.here; there = one.there; shelves = one.shelves; uuids = ap (λ us. us ++ more) one.uuids; linked = one.linked ∙ rest_is }) shelf (λ x i has e. not_apart x i id opens has e))
+        (record { powers = one.powers; here = one.here; there = one.there; shelves = one.shelves; uuids = ap (λ us. us ++ more) one.uuids; linked = one.linked ∙ rest_is }) shelf (λ x i has e. not_apart x i id opens has e) (λ d has. alone id opens d has))
         (unlinking stays ended link' can)

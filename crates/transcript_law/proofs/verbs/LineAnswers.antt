@@ -11,12 +11,15 @@ use Rattle.node_world.specs.{Arms.{fired_by, placed}, Dues.{done_step, due_at, d
 use Rattle.node_world.specs.Power.{after_fire, with_arm}
 use Rattle.node_world.specs.declared.arm.Fired.{Fired}
 use Rattle.node_world.specs.declared.arm.Fired.TheVariants as fired
-use Rattle.transcript_law.proofs.disks.AppendAnswers.{AppendCame, ShutAgrees, Tells, came_noted, came_tells, fuse_in, fuse_same}
+use Rattle.transcript_law.proofs.disks.AppendAnswers.{AppendCame, HasEnded, ShutAgrees, Tells, came_noted, came_tells, fuse_in, fuse_same}
 use Rattle.transcript_law.proofs.disks.AppendLines.{NewShutIs, NoLines, dead_came, follow_came, promote_came}
 use Rattle.transcript_law.proofs.{invariant.Agreement.{IsArm}, disks.ArmedSteps.{shut_in}, disks.Burning.{quiet_same}, disks.Flushed.{StepSays, done_says, flush_came, looked, refused_tells, save_says, take_says, told_flush}, invariant.JobSteps.{put_found, same_shelf, shelf_found}, verbs.NodeLines.{on_node_by, put_same as put_states}}
 use Rattle.transcript_law.proofs.lines.Refusals.{Anything, CarriesOut, IsMade, Refuses, Same, Says, on_link_says, on_node_says, with_broken_keeps}
-use Rattle.transcript_law.specs.{Chronicles.{DiskKnown, blank_disk}, LineAnswers.{IsAppended, IsNoted, IsOut, IsSaved, IsTaken, TakesAsTold, batches_in_lines}, Plainness.{AndClients, IsOfClient, IsStanding}}
-use Rattle.transcript_law.proofs.{lines.ClientLines.{AreOfClients, posts_of_clients}, invariant.OwnClients.{posts_own}}
+use Rattle.transcript_law.specs.{Chronicles.{DiskKnown, blank_disk}, LineAnswers.{IsAppended, IsNoted, IsOut, IsSaved, IsTaken, TakesAsTold, batches_in_lines}, Plainness.{AndClients, AreOwnIf, IsOfClient, IsOwnIf, IsStanding}}
+use Rattle.transcript_law.proofs.{lines.ClientLines.{AllKept, AreOfClients, posts_of_clients}, invariant.{OwnClients.{posts_own}, Ranged.{IsRanged, NodeRanged, NodeRangedIf}}}
+use Rattle.vb_calls.specs.declared.calls.Resolved.{Resolved}
+use Rattle.node_core.specs.Clients.{PlainClient, client_ended}
+use Rattle.transcript_law.proofs.{Words.{StreamName, option_map}, lines.SessionLines.{IsKept}}
 use Rattle.vb_calls.specs.declared.journals.Flushed.{Flushed}
 use Rattle.vb_calls.specs.Flushes.{finish_job, part_job, save_job}
 use Rattle.vb_calls.specs.Shelves.{Idle, Shelf, Shelves, with_shelf_at}
@@ -50,9 +53,16 @@ AllTold w r = OpensTold w r × DisksTold w r
 abbrev Writes : (List Event → Answer → Type 0) → PlainNode → (States × Shelves) × FlushResult → Type 0
 Writes P node y = Says (λ told. P told.events told.answer) (λ k. k ≡ node) (written_node node y)
 
--- what is said of lines is said with those of clients behind them
-abbrev Grows : (List Event → Answer → Type 0) → Type 0
-Grows P = (lines more : List Event) (said : Answer) → AreOfClients more → P lines said → P (lines ++ more) said
+-- what is said of lines is said with those behind them of what the node posts
+abbrev Grows : (List Event → Answer → Type 0) → PlainNode → Type 0
+Grows P node = (lines : List Event) (rs : List Resolved) (kept : States × Shelves) (said : Answer) → P lines said → P (lines ++ (all_posted rs (with_kept node kept)).1) said
+
+-- the connections of a node's clients are its own
+abbrev pub KeptIn : PlainWorld → ℕ → Type 0
+KeptIn w n = (node : PlainNode) → w.nodes n ≡ Some node → AllKept n node
+
+pub kept_in : (w : PlainWorld) (n : ℕ) → IsRanged w → KeptIn w n
+kept_in w n ranged node known = let here : NodeRanged n node = subst (NodeRangedIf n) known (ranged n) in here.own
 
 -- lines of clients tell of no batch
 no_batches : (lines : List Event) → AreOfClients lines → batches_in_lines lines ≡ []
@@ -60,6 +70,7 @@ no_batches [] c = refl
 no_batches (Event.Changed n v uuid change ∷ lines) c = no_batches lines c.1
 no_batches (Event.Reply n k bytes ∷ lines) c = no_batches lines c.1
 no_batches (Event.Closed n k ∷ lines) c = no_batches lines c.1
+no_batches (Event.Asked (StreamName.Client m k) n v ask high log said ∷ lines) c = no_batches lines c.1
 no_batches (other ∷ lines) c = absurd c.0
 
 same_batches : (lines more : List Event) → AreOfClients more → batches_in_lines (lines ++ more) ≡ batches_in_lines lines
@@ -67,7 +78,7 @@ same_batches [] more c = no_batches more c
 same_batches (Event.Batch n v ss se at count ∷ lines) more c = ap (λ xs. (n, (v, count)) ∷ xs) (same_batches lines more c)
 same_batches (other ∷ lines) more c = same_batches lines more c
 
-taken_grows : (n v : ℕ) → Grows (IsTaken n v)
+taken_grows : (n v : ℕ) (lines more : List Event) (said : Answer) → AreOfClients more → IsTaken n v lines said → IsTaken n v (lines ++ more) said
 taken_grows n v lines more Answer.Ok c x = x
 taken_grows n v lines more (Answer.Number count) c x = subst (TakesAsTold n v count) (sym (same_batches lines more c)) x
 taken_grows n v lines more (Answer.Pulled count said) c x = x
@@ -79,11 +90,11 @@ refused_resolves n v (Flushed.Done reply) why e = cc
 refused_resolves n v other why e = refl
 
 -- by the vBucket and its journal, where there is one
-flush_node : (P : List Event → Answer → Type 0) → Grows P → (n v : ℕ) (p : FlushPart) (node : PlainNode) → P [] (Answer.No Cause.UnknownVb)
+flush_node : (P : List Event → Answer → Type 0) (n v : ℕ) (p : FlushPart) (node : PlainNode) → Grows P node → P [] (Answer.No Cause.UnknownVb)
     → ((vb : Plain) (o : Option Shelf) → node.vbs v ≡ Some vb → node.shelves v ≡ o
     → (let x = looked node.shelves v o in StepSays n v P (with_vb_at node.vbs v vb) x.0 (after_job (part_job v p x.1) (with_vb_at node.vbs v vb) x.0)))
     → Writes P node (after_job (flush_at n v p) node.vbs node.shelves)
-flush_node P grows n v p node refuses says = by (node.vbs v) refl
+flush_node P n v p node grows refuses says = by (node.vbs v) refl
   where
     unread : (o : Option Shelf) → node.shelves v ≡ o → (looked node.shelves v o).0 ≡ node.shelves
     unread None e = refl
@@ -94,7 +105,7 @@ flush_node P grows n v p node refuses says = by (node.vbs v) refl
         → Writes P node (y.0, flush_result n v y.1)
     posted y says kept =
         let told : FlushResult = flush_result n v y.1 in let now : PlainNode = with_kept node y.0 in (
-          grows told.events (all_posted told.resolved now).1 told.answer (posts_of_clients told.resolved now) says,
+          grows told.events told.resolved y.0 told.answer says,
           λ why f s. (ap (λ rs. (all_posted rs now).0) (refused_resolves n v y.1 why f) ∙ ap (with_kept node) (kept why f s), (λ i. refused_tells n v y.1 why f i ++ (all_posted (refused_resolves n v y.1 why f i) now).1)),
         )
 
@@ -105,11 +116,11 @@ flush_node P grows n v p node refuses says = by (node.vbs v) refl
         subst (Writes P node) (sym (flush_came n v p node.vbs node.shelves vb (node.shelves v) e refl))
         (posted (after_job (part_job v p x.1) (with_vb_at node.vbs v vb) x.0) says.0 (λ why f s. says.1 why f s ∙ (λ i. ((λ q. put_states node.vbs v vb e q i), unread (node.shelves v) refl i))))
 
-flush_says : (P : List Event → Answer → Type 0) → Grows P → (w : PlainWorld) (n v : ℕ) (p : FlushPart) → ((why : Cause) → P [] (Answer.No why))
+flush_says : (P : List Event → Answer → Type 0) (w : PlainWorld) (n v : ℕ) (p : FlushPart) → ((node : PlainNode) → w.nodes n ≡ Some node → Grows P node) → ((why : Cause) → P [] (Answer.No why))
     → ((node : PlainNode) (vb : Plain) (o : Option Shelf) → w.nodes n ≡ Some node → node.vbs v ≡ Some vb → node.shelves v ≡ o
     → (let x = looked node.shelves v o in StepSays n v P (with_vb_at node.vbs v vb) x.0 (after_job (part_job v p x.1) (with_vb_at node.vbs v vb) x.0)))
     → Says (λ told. P told.events told.answer) (Same w) (on_node w n (flush_line n v p))
-flush_says P grows w n v p refuses says = on_node_says (λ told. P told.events told.answer) w n (flush_line n v p) refuses (λ node known. flush_node P grows n v p node (refuses Cause.UnknownVb) (λ vb o e f. says node vb o known e f))
+flush_says P w n v p grows refuses says = on_node_says (λ told. P told.events told.answer) w n (flush_line n v p) refuses (λ node known. flush_node P n v p node (grows node known) (refuses Cause.UnknownVb) (λ vb o e f. says node vb o known e f))
 
 -- a vBucket refuses none of the calls that keep its role
 pub admin_says : (P : Told → Type 0) (w : PlainWorld) (n v : ℕ) (asked : AdminCall) → admin_job n v asked ≡ lift (admin_at n v asked) → Refuses P
@@ -208,12 +219,13 @@ finishes d node n v vb (Some shelf) has told =
 
 pub done_line_says : (w : PlainWorld) (r : Chronicle) (n v : ℕ) → AllTold w r → Says (λ told. IsSaved (r.disk_at n v) told.answer) (Same w) (done_step w n v)
 done_line_says w r n v told = due_says (IsSaved (r.disk_at n v)) w n v (on_node w n (flush_line n v part.Done))
-    (flush_says (λ lines said. IsSaved (r.disk_at n v) said) (λ lines more said c x. x) w n v part.Done (λ why. tt)
+    (flush_says (λ lines said. IsSaved (r.disk_at n v) said) w n v part.Done (λ node known lines rs kept said x. x) (λ why. tt)
     (λ node vb o known has is. finishes (r.disk_at n v) node n v vb o has (λ shelf e. told.1 n v vb shelf (ap (λ k. vb_in k v) known ∙ has) (ap (λ k. shelf_in k v) known ∙ is ∙ e))))
 
-pub take_line_says : (w : PlainWorld) (n v : ℕ) → Says (λ told. IsTaken n v told.events told.answer) (Same w) (on_node w n (flush_line n v part.Take))
-take_line_says w n v = flush_says (IsTaken n v) (taken_grows n v) w n v part.Take (λ why. refl) (λ node vb o known has is.
-    let x = looked node.shelves v o in take_says n v x.1 (with_vb_at node.vbs v vb) x.0 vb (put_found node.vbs v vb))
+pub take_line_says : (w : PlainWorld) (n v : ℕ) → Says (λ told. KeptIn w n → IsTaken n v told.events told.answer) (Same w) (on_node w n (flush_line n v part.Take))
+take_line_says w n v = flush_says (λ lines said. KeptIn w n → IsTaken n v lines said) w n v part.Take
+    (λ node known lines rs kept said x own. taken_grows n v lines (all_posted rs (with_kept node kept)).1 said (posts_of_clients n rs (with_kept node kept) (own node known)) (x own)) (λ why own. refl)
+    (λ node vb o known has is. let x = looked node.shelves v o in let says = take_says n v x.1 (with_vb_at node.vbs v vb) x.0 vb (put_found node.vbs v vb) in (λ own. says.0, says.1))
 
 -- the arm of a node is told as it is, and may fire yet
 abbrev pub ArmKnown : PlainWorld → Chronicle → ℕ → Type 0
@@ -239,7 +251,7 @@ save_is_taken : (w : PlainWorld) (r : Chronicle) (n v : ℕ) → AllTold w r →
 save_is_taken w r n v told = on_node_by (λ x. IsAppended (r.disk_at n v) x.1.answer) w n (save_line n v) tt (λ node known. tt) (λ node known up. (by node known).0)
   where
     by : (node : PlainNode) → w.nodes n ≡ Some node → (let k = placed v node in Writes (λ lines said. IsAppended (r.disk_at n v) said) k (after_job (flush_at n v part.Save) k.vbs k.shelves))
-    by node known = flush_node (λ lines said. IsAppended (r.disk_at n v) said) (λ lines more said c x. x) n v part.Save (placed v node) tt (λ vb o has is.
+    by node known = flush_node (λ lines said. IsAppended (r.disk_at n v) said) n v part.Save (placed v node) (λ lines rs kept said x. x) tt (λ vb o has is.
         let armed : Shelves = arm_over node.shelves v node.arm.fuse in let x = looked armed v o in let st : States = with_vb_at node.vbs v vb in
         let taken = looks_taken (r.disk_at n v) v node.arm.fuse node.shelves (λ shelf e. (told.1 n v vb shelf (ap (λ k. vb_in k v) known ∙ has) (ap (λ k. shelf_in k v) known ∙ e)).0) in
         ⊎_elim (λ t. save_says n v (r.disk_at n v) x.1 st x.0 (t ∙ ap (λ y. told_flush (looked armed v y).1) is))
@@ -292,10 +304,19 @@ told_of_opens w = (λ n v vb e. ap opens_in e, disks_told_of w)
 turn_tells : (Own : List Event → Type 0) (w : PlainWorld) (n v : ℕ) (o : Outcome) → AppendCame (EndsWith (AndClients n Own)) (shut_at w n v) w n o → (with_arm n w o).1.answer ≡ Answer.Ok → EndsWith (AndClients n Own) (with_arm n w o).1.events
 turn_tells Own w n v o c = (came_tells (AndClients n Own) (shut_at w n v) w n o.0 o.1 c).1
 
+-- connections that are told as their node's own, where streams of theirs may have ended
+own_kept : (n c v : ℕ) (ids : List ℕ) (o : Option PlainClient) → IsOwnIf n c o → IsKept n c (option_map (client_ended v ids) o)
+own_kept n c v ids None own = tt
+own_kept n c v ids (Some client) own = (record { node = own.0; number = own.1; stream = own.3; desk = own.2 }, own.4)
+
+own_posts : (n v : ℕ) (w : PlainWorld) → AreOwnIf n (w.nodes n) → (node : PlainNode) → w.nodes n ≡ Some node → (rs : List Resolved) (x : PlainNode) → HasEnded v node x → All (IsOfClient n) (all_posted rs x).1
+own_posts n v w own node known rs x ended =
+    let here : (c : ℕ) → IsOwnIf n c (node.clients c) = subst (AreOwnIf n) known own in posts_own n rs x (λ c. subst (IsKept n c) (sym (ended.1 c)) (own_kept n c v ended.0 (node.clients c) (here c)))
+
 pub turns_told : (n v : ℕ) → TurnsAreTold n v
 turns_told n v = record {
-  promote = λ uuid w number own. turn_tells (IsPromotion n v uuid) w n v (promote_step w n v uuid) (promote_came (All (IsOfClient n)) (All-nil (IsOfClient n)) (shut_at w n v) w n v (posts_own n w own) (λ vb e. refl) uuid);
-  follow = λ w number own. turn_tells (IsTurn n v Role.Replica) w n v (turn_step w n v Role.Replica AdminCall.Follow) (follow_came (All (IsOfClient n)) (All-nil (IsOfClient n)) (shut_at w n v) w n v (posts_own n w own) (λ vb e. refl));
-  dead = λ w number own. turn_tells (IsTurn n v Role.Dead) w n v (turn_step w n v Role.Dead AdminCall.Dead) (dead_came (All (IsOfClient n)) (All-nil (IsOfClient n)) (shut_at w n v) w n v (posts_own n w own) (λ vb e. refl));
+  promote = λ uuid w number own. turn_tells (IsPromotion n v uuid) w n v (promote_step w n v uuid) (promote_came (All (IsOfClient n)) (All-nil (IsOfClient n)) (shut_at w n v) w n v (own_posts n v w own) (λ vb e. refl) uuid);
+  follow = λ w number own. turn_tells (IsTurn n v Role.Replica) w n v (turn_step w n v Role.Replica AdminCall.Follow) (follow_came (All (IsOfClient n)) (All-nil (IsOfClient n)) (shut_at w n v) w n v (own_posts n v w own) (λ vb e. refl));
+  dead = λ w number own. turn_tells (IsTurn n v Role.Dead) w n v (turn_step w n v Role.Dead AdminCall.Dead) (dead_came (All (IsOfClient n)) (All-nil (IsOfClient n)) (shut_at w n v) w n v (own_posts n v w own) (λ vb e. refl));
   log = λ w number. (log_says w n v).0.1;
 }

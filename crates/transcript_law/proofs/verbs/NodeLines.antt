@@ -1,9 +1,9 @@
 -- lines of one node that tell of no branch
 use Rattle.std.specs.Prelude.{◌≡◌, ◌≤◌, ◌∷◌, ◌++◌, ◌==◌, if◌then◌else◌}
-use Rattle.transcript_law.proofs.Words.{ℕ, Bool, true, false, List, refl, ap, sym, ◌∙◌, subst, arith, Option, Some, None, is_some, flat_map, eqb-true}
-use Rattle.transcript_law.proofs.Words.{eqb-false, eq-eqb, ne_eqb, Frame, Cause, new_session, Member, Cluster, VbReply, Plain, is_active, States, with_vb_at, AdminCall, admin_result, Told, PlainLink}
+use Rattle.transcript_law.proofs.Words.{ℕ, Bool, true, false, List, refl, ap, sym, ◌∙◌, subst, inl, arith, IsIn, hist, Option, Some, None, is_some, flat_map, eqb-true}
+use Rattle.transcript_law.proofs.Words.{eqb-false, eq-eqb, ne_eqb, Frame, Cause, Member, Cluster, VbReply, Plain, is_active, States, with_vb_at, AdminCall, admin_result, Told, PlainLink}
 use Rattle.transcript_law.proofs.Words.{link_number, producer_node, consumer_node, PlainNode, PlainWorld, Outcome, with_node_at, with_states, branch_of_line, empty_node, done, refusal, first_cause}
-use Rattle.transcript_law.proofs.Words.{refused_or, node_outcome, on_node, with_client, client_at, hang_at, clock_at, vb_in, Role, Chronicle, after_role, after_lines, upto, fork_of, holds_same, [], IsNew, Position, complete_position, last_seq, option_map, parent_of, with_at}
+use Rattle.transcript_law.proofs.Words.{refused_or, node_outcome, on_node, clock_at, vb_in, Role, Chronicle, after_role, after_lines, upto, fork_of, holds_same, [], IsNew, Position, complete_position, last_seq, option_map, parent_of, with_at}
 use Rattle.transcript_law.proofs.Words.{stream_at, ⊎_elim, row_at, row_put, with_link, on_link, link_outcome, with_links, LinkResult, StreamName, call_told, node_step, front, told}
 use Rattle.transcript_law.proofs.invariant.Tables.{at_here, at_there, if_known, used_before}
 use Rattle.transcript_law.specs.Lawfulness.{LawfulBranch, fork_in, newest_of}
@@ -11,13 +11,14 @@ use Rattle.transcript_law.proofs.invariant.Wholes.{WholeTo}
 use Rattle.transcript_law.proofs.links.Followed.{fork_low}
 use Rattle.transcript_law.proofs.invariant.Seats.{seat, seats_apart}
 use Rattle.transcript_law.proofs.invariant.Agreement.{all_rise, CountsAre, CountsIf, counts_if, vb_of, Writes, WritesIf, own_history, VbHeld, VbHolds, VbAgrees, AgreesAt, consumer_seat, producer_seat, LinkAgrees, Agrees, GoesOn, LineGoes, idle, vb_contents, vb_row, VbRow, VbTold, VbIsIf, BranchAgrees, IsLink, LinksDiffer, AgreesIn}
-use Rattle.transcript_law.specs.Feeding.{HasOpen}
+use Rattle.transcript_law.specs.Feeding.{HasOpen, IsOfClient, client_in}
+use Rattle.transcript_law.proofs.invariant.{Agreement.{Wants}, Carried.{all_there}, ClientsKept.{AllIn, ConnsKept, Every, GoesOver, all_kept, clients_kept, goes_agreed, goes_agreed_at, spot_at}, LinkFeeds.{feeds_same}}
 use Rattle.transcript_law.proofs.invariant.Carrying.{Relinked, Changed}
 use Rattle.transcript_law.proofs.invariant.Carried.{kept_same, link_carried, consumer_made, branches_again, KeptVb, places, all_vbs, ids_same}
 use Rattle.transcript_law.proofs.invariant.LinkRows.{found_is_link, put_same as put_link_same}
 use Rattle.transcript_law.proofs.{invariant.OneLink.{carries_rests, carries_same}, invariant.Resting.{ends_again, rests_by}}
 use Rattle.{node_world.specs.Nodes.{if_up}, node_world.specs.Worlds.{on_made}, node_world.specs.declared.arm.Arm.{Arm}, transcript_law.specs.Chronicles.{DiskKnown, alone, no_arm, snap_in_role}}
-use Rattle.transcript_law.proofs.{invariant.Agreement.{AwayAt, BookAgrees, IsAway, Power, PowerIsIf, RestsIn, is_down, power_of}, invariant.Carrying.{Rearmed, SamePowers}, disks.Disks.{power_in}}
+use Rattle.transcript_law.proofs.{invariant.Agreement.{AwayAt, BookAgrees, IsAway, Power, PowerIsIf, RestsIn, is_down, power_of}, invariant.Carrying.{Rearmed, SameClients, SamePowers, same_clients}, disks.Disks.{beside_in, power_in}}
 use Rattle.transcript_law.proofs.{invariant.Agreement.{DiskIsIf, shelf_of, top}, disks.Disks.{disk_same, same_parts}, Words.{SoundCluster, shelf_in}}
 
 -- a line that tells nothing beside its lines
@@ -53,13 +54,18 @@ shelves_put w n node known m q = elim (m == n) as (λ b. (m == n) ≡ b → shel
     [ true ↦ λ e. ap (λ o. shelf_in o q) (sym known ∙ ap w.nodes (sym (eqb-true m n e))) | false ↦ λ e. refl ] refl
 
 -- arms, and what is down, of a node that is put again
-pub powers_again : (w : PlainWorld) (n : ℕ) (node node' : PlainNode) → power_in (Some node') ≡ power_in (Some node) → SamePowers (with_node_at w n node) (with_node_at w n node')
-powers_again w n node node' same m = elim (m == n) as (λ b. power_in (if b then Some node' else w.nodes m) ≡ power_in (if b then Some node else w.nodes m)) [ true ↦ same | false ↦ refl ]
+pub powers_again : (w : PlainWorld) (n : ℕ) (node node' : PlainNode) → beside_in (Some node') ≡ beside_in (Some node) → SamePowers (with_node_at w n node) (with_node_at w n node')
+powers_again w n node node' same m = elim (m == n) as (λ b. beside_in (if b then Some node' else w.nodes m) ≡ beside_in (if b then Some node else w.nodes m)) [ true ↦ same | false ↦ refl ]
 
 -- and of one that is put as it was
 pub powers_put : (w : PlainWorld) (n : ℕ) (node : PlainNode) → w.nodes n ≡ Some node → SamePowers w (with_node_at w n node)
-powers_put w n node known m = elim (m == n) as (λ b. (m == n) ≡ b → power_in (if b then Some node else w.nodes m) ≡ power_in (w.nodes m))
-    [ true ↦ λ e. ap power_in (sym known ∙ ap w.nodes (sym (eqb-true m n e))) | false ↦ λ e. refl ] refl
+powers_put w n node known m = elim (m == n) as (λ b. (m == n) ≡ b → beside_in (if b then Some node else w.nodes m) ≡ beside_in (w.nodes m))
+    [ true ↦ λ e. ap beside_in (sym known ∙ ap w.nodes (sym (eqb-true m n e))) | false ↦ λ e. refl ] refl
+
+-- the clients of a node that is another one, and has them
+pub clients_again : (w : PlainWorld) (n : ℕ) (node node' : PlainNode) → w.nodes n ≡ Some node → ((c : ℕ) → node'.clients c ≡ node.clients c) → SameClients w (with_node_at w n node')
+clients_again w n node node' known same m c = elim (m == n) as (λ b. (m == n) ≡ b → client_in (if b then Some node' else w.nodes m) c ≡ client_in (w.nodes m) c)
+    [ true ↦ λ e. same c ∙ ap (λ o. client_in o c) (sym known ∙ ap w.nodes (sym (eqb-true m n e))) | false ↦ λ e. refl ] refl
 
 -- and where one journal is another
 pub shelves_there : (w : PlainWorld) (n v : ℕ) (node node' : PlainNode) → ((q : ℕ) → (q ≡ v → ⊥) → node'.shelves q ≡ node.shelves q) → (m q : ℕ) → (m ≡ n → q ≡ v → ⊥) → shelf_of (with_node_at w n node') m q ≡ shelf_of (with_node_at w n node) m q
@@ -67,7 +73,7 @@ shelves_there w n v node node' same m q other = elim (m == n) as (λ b. (m == n)
     [ true ↦ λ e. same q (λ t. other (eqb-true m n e) t) | false ↦ λ e. refl ] refl
 
 -- a node that is put again, with the vBuckets that it had
-pub node_again : (w : PlainWorld) (n : ℕ) (node node' : PlainNode) → ((q : ℕ) → node'.vbs q ≡ node.vbs q) → ((q : ℕ) → node'.shelves q ≡ node.shelves q) → power_in (Some node') ≡ power_in (Some node) → Relinked (with_node_at w n node) (with_node_at w n node') w.links
+pub node_again : (w : PlainWorld) (n : ℕ) (node node' : PlainNode) → ((q : ℕ) → node'.vbs q ≡ node.vbs q) → ((q : ℕ) → node'.shelves q ≡ node.shelves q) → beside_in (Some node') ≡ beside_in (Some node) → Relinked (with_node_at w n node) (with_node_at w n node') w.links
 node_again w n node node' same shelves power = record {
   powers = powers_again w n node node' power;
   shelves = shelves_again w n node node' shelves;
@@ -77,7 +83,7 @@ node_again w n node node' same shelves power = record {
 }
 
 -- a node with the vBuckets that it had
-pub node_of_same_vbs : (w : PlainWorld) (n : ℕ) (node node' : PlainNode) → w.nodes n ≡ Some node → ((q : ℕ) → node'.vbs q ≡ node.vbs q) → ((q : ℕ) → node'.shelves q ≡ node.shelves q) → power_in (Some node') ≡ power_in (Some node)
+pub node_of_same_vbs : (w : PlainWorld) (n : ℕ) (node node' : PlainNode) → w.nodes n ≡ Some node → ((q : ℕ) → node'.vbs q ≡ node.vbs q) → ((q : ℕ) → node'.shelves q ≡ node.shelves q) → beside_in (Some node') ≡ beside_in (Some node)
     → Relinked w (with_node_at w n node') w.links
 node_of_same_vbs w n node node' known same shelves power =
     let again = node_again w n node node' same shelves power in
@@ -97,6 +103,7 @@ rearmed_node w n node arm known = record {
   others = λ m ne. ap (λ b. power_in (if b then Some (record node { arm = arm }) else w.nodes m)) (ne_eqb m n ne);
   vbs = λ m q. at_node w n (record node { arm = arm }) (λ i j o. o ≡ vb_of w i j) (λ j. ap (λ o. vb_in o j) (sym known)) (λ i j ne. refl) m q;
   shelves = λ m q. shelves_again w n node (record node { arm = arm }) (λ j. refl) m q ∙ shelves_put w n node known m q;
+  clients = clients_again w n node (record node { arm = arm }) known (λ c. refl);
   uuids = refl;
   linked = refl;
 }
@@ -107,7 +114,7 @@ put_same states v vb has q = elim (q == v) as (λ b. (q == v) ≡ b → (if b th
     [ true ↦ λ e. sym has ∙ ap states (sym (eqb-true q v e)) | false ↦ λ e. refl ] refl
 
 -- a node that is put again, with another vBucket v
-pub node_grown : (w : PlainWorld) (n v : ℕ) (node node' : PlainNode) (vb : Plain) → ((q : ℕ) → node'.vbs q ≡ with_vb_at node.vbs v vb q) → ((q : ℕ) → (q ≡ v → ⊥) → node'.shelves q ≡ node.shelves q) → power_in (Some node') ≡ power_in (Some node)
+pub node_grown : (w : PlainWorld) (n v : ℕ) (node node' : PlainNode) (vb : Plain) → ((q : ℕ) → node'.vbs q ≡ with_vb_at node.vbs v vb q) → ((q : ℕ) → (q ≡ v → ⊥) → node'.shelves q ≡ node.shelves q) → beside_in (Some node') ≡ beside_in (Some node)
     → Changed (with_node_at w n node) (with_node_at w n node') n v vb w.links
 node_grown w n v node node' vb is shelves power = record {
   powers = powers_again w n node node' power;
@@ -121,7 +128,7 @@ node_grown w n v node node' vb is shelves power = record {
 
 -- a node with another vBucket v
 pub node_changed : (w : PlainWorld) (n v : ℕ) (node node' : PlainNode) (vb : Plain) → w.nodes n ≡ Some node → ((q : ℕ) → node'.vbs q ≡ with_vb_at node.vbs v vb q) → ((q : ℕ) → (q ≡ v → ⊥) → node'.shelves q ≡ node.shelves q)
-    → power_in (Some node') ≡ power_in (Some node) → Changed w (with_node_at w n node') n v vb w.links
+    → beside_in (Some node') ≡ beside_in (Some node) → Changed w (with_node_at w n node') n v vb w.links
 node_changed w n v node node' vb known is shelves power =
     let grown = node_grown w n v node node' vb is shelves power in
     record {
@@ -152,6 +159,10 @@ module _ (w : PlainWorld) (r : Chronicle) (n : ℕ) (c : Cluster) (a : AgreesIn 
   made_shelves : (m q : ℕ) → shelf_of made m q ≡ shelf_of w m q
   made_shelves m q = elim (m == n) as (λ b. (m == n) ≡ b → shelf_in (if b then Some empty_node else w.nodes m) q ≡ shelf_in (w.nodes m) q)
       [ true ↦ λ e. ap (λ o. shelf_in o q) (sym none ∙ ap w.nodes (sym (eqb-true m n e))) | false ↦ λ e. refl ] refl
+
+  made_clients : SameClients w made
+  made_clients m d = elim (m == n) as (λ b. (m == n) ≡ b → client_in (if b then Some empty_node else w.nodes m) d ≡ client_in (w.nodes m) d)
+      [ true ↦ λ e. ap (λ o. client_in o d) (sym none ∙ ap w.nodes (sym (eqb-true m n e))) | false ↦ λ e. refl ] refl
 
   abbrev new_power : Power
   new_power = record { arm = empty_node.arm; off = None }
@@ -186,7 +197,7 @@ module _ (w : PlainWorld) (r : Chronicle) (n : ℕ) (c : Cluster) (a : AgreesIn 
   }
 
   made_agrees : AgreesIn idle made r c
-  made_agrees = carries_rests idle idle w made r r.arm_at c a made_vbs made_shelves refl refl
+  made_agrees = carries_rests idle idle w made r r.arm_at c a made_clients made_vbs made_shelves refl refl
       (record {
         powers = power_by (λ m p. PowerIsIf (r.arm_at m) p) made_power a.powers;
         aways = made_aways;
@@ -205,22 +216,10 @@ node_goes w r n a = elim (w.nodes n) as (λ o. w.nodes n ≡ o → GoesOn r as_t
 
 -- a line of a node that changes no vBucket
 pub kept_on : (w : PlainWorld) (r : Chronicle) (n : ℕ) (node node' : PlainNode) → Agrees w r → w.nodes n ≡ Some node → ((q : ℕ) → node'.vbs q ≡ node.vbs q) → ((q : ℕ) → node'.shelves q ≡ node.shelves q)
-    → power_in (Some node') ≡ power_in (Some node) → GoesOn r as_told (with_node_at w n node', done [])
+    → beside_in (Some node') ≡ beside_in (Some node) → GoesOn r as_told (with_node_at w n node', done [])
 kept_on w r n node node' a known same shelves power = (tt, agrees_same w (with_node_at w n node') r a (node_of_same_vbs w n node node' known same shelves power))
 
--- a connection is opened, unless it is open
-pub client_goes : (w : PlainWorld) (r : Chronicle) (n base c : ℕ) (node : PlainNode) → Agrees w r → w.nodes n ≡ Some node → GoesOn r as_told (with_node_at w n (client_at n base c node).0, (client_at n base c node).1)
-client_goes w r n base c node a known =
-    let opened : PlainNode = with_client node c (Some (new_session (record { node = n; client = c; base = base }))) in
-    elim (is_some (node.clients c)) as (λ b. let x : PlainNode × Told = if b then (node, refusal Cause.LinkOpen) else (opened, done []) in GoesOn r as_told (with_node_at w n x.0, x.1))
-    [ true ↦ refused_on w r n node Cause.LinkOpen a known | false ↦ kept_on w r n node opened a known (λ q. refl) (λ q. refl) refl ]
-
--- it is closed, if it is open
-pub hang_goes : (w : PlainWorld) (r : Chronicle) (n c : ℕ) (node : PlainNode) → Agrees w r → w.nodes n ≡ Some node → GoesOn r as_told (with_node_at w n (hang_at c node).0, (hang_at c node).1)
-hang_goes w r n c node a known =
-    elim (is_some (node.clients c)) as (λ b. let x : PlainNode × Told = if b then (with_client node c None, done []) else (node, refusal Cause.LinkClosed) in GoesOn r as_told (with_node_at w n x.0, x.1))
-    [ true ↦ kept_on w r n node (with_client node c None) a known (λ q. refl) (λ q. refl) refl | false ↦ refused_on w r n node Cause.LinkClosed a known ]
-
+-- its clock shows another time
 pub clock_goes : (w : PlainWorld) (r : Chronicle) (n nanos : ℕ) (node : PlainNode) → Agrees w r → w.nodes n ≡ Some node → GoesOn r as_told (with_node_at w n (clock_at nanos node).0, (clock_at nanos node).1)
 clock_goes w r n nanos node a known = kept_on w r n node (clock_at nanos node).0 a known (λ q. refl) (λ q. refl) refl
 
@@ -277,6 +276,8 @@ more_used w r more (c, a) = (
     branches = branches_again refl refl (λ u e. used_before u w.uuids more e) a.branches;
     links = λ x i. let l = a.links x i in record { follower = l.follower; follower_is = l.follower_is; follows = l.follows; acks = l.acks; dial = l.dial; talk = l.talk };
     differ = a.differ;
+    clients = clients_kept w (record { nodes = w.nodes; uuids = w.uuids ++ more; links = w.links }) r r 0 a.clients (all_there idle w r c a)
+        (all_kept w (record { nodes = w.nodes; uuids = w.uuids ++ more; links = w.links }) r r (λ m d. refl) (λ m d. refl) refl (λ n v. refl) (λ n v. refl)) (λ k n v id has. inl has);
     rests = record { powers = a.powers; aways = a.aways; downs = a.downs; ends = λ x i. let e = a.ends x i in record { producer = e.producer; consumer = e.consumer; number = e.number }; small = a.small };
   },
 )
@@ -419,9 +420,34 @@ module _ (w w' : PlainWorld) (r r' : Chronicle) (c c' : Cluster) (n v : ℕ) (vb
       (λ o. ap (λ (t : VbRow). t.disk.there) (sym (rows m q o).0) ∙ e) (places n v m q))
       (λ x i. ends_again w w' x became.powers (a.ends x (subst (IsLink x) became.linked i)))
 
+  -- clients' streams there stand as they did
+  written_conns : ((m d : ℕ) → r'.clients_at m d ≡ r.clients_at m d) → ((d k : ℕ) → IsOfClient w n d v k → stream_at k vb'.streams ≡ stream_at k vb.streams) → VbAgrees r' n v (c'.nodes (seat n v)) vb'
+      → ((m q : ℕ) → (m ≡ n → q ≡ v → ⊥) → AgreesAt r' m q (c'.nodes (seat m q)) (vb_of w m q)) → ConnsKept Every w w' r r'
+  written_conns clients stands here elsewhere = record {
+    conns = λ m d left. same_clients w w' became.powers m d;
+    known = λ m d left. clients m d;
+    opens = λ m d q k left has. ⊎_elim
+        (λ s. subst (λ j. IsOfClient w j d q k → GoesOver (spot_at w r j q) (spot_at w' r' j q) k) (sym s.0) (subst (λ j. IsOfClient w n d j k → GoesOver (spot_at w r n j) (spot_at w' r' n j) k) (sym s.1) (λ h.
+        let at : vb'.position.at ≡ vb.position.at = ap (λ (x : Wants). x.position.at) kept.wants in
+        goes_agreed w w' r r' n v k (c.nodes (seat n v)) (c'.nodes (seat n v)) vb vb' known became.here (record { active = ap is_active kept.role; stream = stands d k h; at = omega (arith, at) })
+        (subst (AgreesAt r n v (c.nodes (seat n v))) known (a.vbs n v)) here (br n v) (more n v) (λ x. same (c.nodes (seat n v)).br))) has)
+        (λ o. goes_agreed_at w w' r r' m q k (c.nodes (seat m q)) (c'.nodes (seat m q)) (vb_of w m q) refl (became.there m q o) (a.vbs m q) (elsewhere m q o) (br m q) (more m q) (λ x. same (c.nodes (seat m q)).br))
+        (places n v m q);
+  }
+    where
+      br : (m q : ℕ) → (c'.nodes (seat m q)).br ≡ (c.nodes (seat m q)).br
+      br m q = ap (λ (x : Member). x.br) (nodes (seat m q))
+
+      more : (m q : ℕ) → AllIn (c.nodes (seat m q)).held (c'.nodes (seat m q)).held
+      more m q x i = subst (λ (y : Member). IsIn x y.held) (sym (nodes (seat m q))) i
+
+      same : (u : ℕ) → hist r'.tree u ≡ hist r.tree u
+      same u = ap (λ t. hist t u) tree
+
   pub written_agrees : SoundCluster top c' → c'.tree ≡ c.tree → VbAgrees r' n v (c'.nodes (seat n v)) vb' → ((m q : ℕ) → (m ≡ n → q ≡ v → ⊥) → AgreesAt r' m q (c'.nodes (seat m q)) (vb_of w m q))
-      → DiskIsIf (r'.disk_at n v) (c'.disks (seat n v)) (shelf_of w' n v) (Some vb') → ((m q : ℕ) → (m ≡ n → q ≡ v → ⊥) → (r'.disk_at m q ≡ r.disk_at m q) × (c'.disks (seat m q) ≡ c.disks (seat m q))) → RestsIn w' r' c' → AgreesIn idle w' r' c'
-  written_agrees sound ctree here elsewhere disk disks rests = record {
+      → DiskIsIf (r'.disk_at n v) (c'.disks (seat n v)) (shelf_of w' n v) (Some vb') → ((m q : ℕ) → (m ≡ n → q ≡ v → ⊥) → (r'.disk_at m q ≡ r.disk_at m q) × (c'.disks (seat m q) ≡ c.disks (seat m q))) → RestsIn w' r' c'
+      → ((m d : ℕ) → r'.clients_at m d ≡ r.clients_at m d) → ((d k : ℕ) → IsOfClient w n d v k → stream_at k vb'.streams ≡ stream_at k vb.streams) → AgreesIn idle w' r' c'
+  written_agrees sound ctree here elsewhere disk disks rests clients stands = record {
     rests = rests;
     sound = sound;
     vbs = all_vbs w w' n v vb' (λ m q o. AgreesAt r' m q (c'.nodes (seat m q)) o) became.here became.there here elsewhere;
@@ -430,6 +456,7 @@ module _ (w w' : PlainWorld) (r r' : Chronicle) (c c' : Cluster) (n v : ℕ) (vb
     branches = branches_again ctree tree (ids_same became.uuids) a.branches;
     links = λ x i. linked x (subst (IsLink x) became.linked i);
     differ = subst LinksDiffer (sym became.linked) a.differ;
+    clients = clients_kept w w' r r' 0 a.clients (all_there idle w r c a) (written_conns clients stands here elsewhere) (λ k m q id has. inl (feeds_same w w' became.linked k m q id has));
   }
 
 -- the same, where the cluster is as it was, and nothing was written down
@@ -438,9 +465,10 @@ pub changed_agrees : (w w' : PlainWorld) (r r' : Chronicle) (c : Cluster) (n v :
     → ((x : PlainLink) → IsLink x w.links → (k : ℕ) → HasOpen v k x.server.streams → producer_node x ≡ n → stream_at k vb'.streams ≡ stream_at k vb.streams)
     → VbAgrees r' n v (c.nodes (seat n v)) vb' → ((m q : ℕ) → (m ≡ n → q ≡ v → ⊥) → AgreesAt r' m q (c.nodes (seat m q)) (vb_of w m q))
     → ((m q : ℕ) → r'.disk_at m q ≡ r.disk_at m q) → shelf_of w' n v ≡ shelf_of w n v → (DiskIsIf (r.disk_at n v) (c.disks (seat n v)) (shelf_of w n v) (Some vb) → DiskIsIf (r.disk_at n v) (c.disks (seat n v)) (shelf_of w n v) (Some vb')) → ((m : ℕ) → r'.arm_at m ≡ r.arm_at m)
-    → ((m q : ℕ) → (m ≡ n → q ≡ v → ⊥) → vb_row r' m q ≡ vb_row r m q) → AgreesIn idle w' r' c
-changed_agrees w w' r r' c n v vb vb' a known became kept tree dials streams points opens here elsewhere disks shelf parts arms rows =
+    → ((m q : ℕ) → (m ≡ n → q ≡ v → ⊥) → vb_row r' m q ≡ vb_row r m q)
+    → ((m d : ℕ) → r'.clients_at m d ≡ r.clients_at m d) → ((d k : ℕ) → IsOfClient w n d v k → stream_at k vb'.streams ≡ stream_at k vb.streams) → AgreesIn idle w' r' c
+changed_agrees w w' r r' c n v vb vb' a known became kept tree dials streams points opens here elsewhere disks shelf parts arms rows clients stands =
     written_agrees w w' r r' c c n v vb vb' a known became kept (λ j. refl) tree dials streams points opens a.sound refl here elsewhere
     (disk_same (Some vb') (Some vb') (disks n v) refl shelf refl (parts (subst (DiskIsIf (r.disk_at n v) (c.disks (seat n v)) (shelf_of w n v)) known (a.disks n v))))
     (λ m q o. (disks m q, refl))
-    (written_rests w w' r r' c c n v vb vb' a known became kept (λ j. refl) tree dials streams points opens arms (ap (λ (d : DiskKnown). d.there) (disks n v)) (λ m q o. (rows m q o, refl)))
+    (written_rests w w' r r' c c n v vb vb' a known became kept (λ j. refl) tree dials streams points opens arms (ap (λ (d : DiskKnown). d.there) (disks n v)) (λ m q o. (rows m q o, refl))) clients stands

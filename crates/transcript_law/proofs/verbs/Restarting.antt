@@ -4,6 +4,8 @@ use Rattle.transcript_law.proofs.Words.{ℕ, Bool, true, false, List, [], refl, 
 use Rattle.transcript_law.proofs.Words.{VbAnswer, VbCall, ending_reply, plain_step, after_branch, after_role, consumer_node, fork_of, happens, is_active, is_one_of, led, links_ended, parent_of, producer_node, ended_by, shelf_in, last_seq, stream_ids, vb_in, with_at, with_node_at, with_vb_at}
 use Rattle.transcript_law.proofs.{invariant.Agreement.{Agrees, AgreesAt, AgreesIn, IsLink, Power, PowerIs, PowerIsIf, VbAgrees, idle, shelf_of, vb_of}, disks.Appending.{Noted, noted_node, state_came}, disks.ArmedLines.{ArmedCame}, disks.Burning.{BreaksUnder, StandsUnder, breaks_under, stands_under}}
 use Rattle.transcript_law.proofs.{disks.Disks.{power_in}, verbs.NodeLines.{node_grown, shelves_again}, verbs.RestartCalls.{fate, left, node', reply, what}, verbs.Rising.{promote_is, rose}, verbs.RoleCalls.{said_of}, invariant.Seats.{seat}, invariant.Tables.{at_here}, links.Turning.{NoneFeeds, Turned}}
+use Rattle.transcript_law.proofs.invariant.{Carrying.{same_arms}, Clientless.{known_apart}}
+use Rattle.{node_core.specs.Clients.{client_ended}, std.specs.Option.{option_map}, transcript_law.specs.{ClientStreams.{past_turn}, Feeding.{client_in}}}
 use Rattle.disk_journals.specs.Arms.{under}
 use Rattle.node_core.specs.Calls.{own_lines}
 use Rattle.transcript_law.proofs.{invariant.Carrying.{Changed}, lines.Changes.{arms_same, roles_past, roles_same}, invariant.JobSteps.{put_found, put_over}, verbs.Settling.{SettlesOn, Steady, changes_told, settled_told, settles}}
@@ -45,6 +47,10 @@ stops_to calls (Stop k) x = x.0
 stops_to calls (Fail k) x = absurd x
 stops_to calls Off x = absurd x
 
+-- a node that was loaded runs, and has no client
+abbrev pub IsFresh : PlainNode → Type 0
+IsFresh node = (node.off ≡ None) × ((d : ℕ) → node.clients d ≡ None)
+
 module _ (steady : Steady) (w : PlainWorld) (n : ℕ) (free : NoEnds n w.links) where
   -- the world in which the node is this, and these ids are used
   abbrev pub world : PlainNode → List ℕ → PlainWorld
@@ -57,7 +63,7 @@ module _ (steady : Steady) (w : PlainWorld) (n : ℕ) (free : NoEnds n w.links) 
     links = w.links;
   }
 
-  module _ (node : PlainNode) (used : List ℕ) (r : Chronicle) (c : Cluster) (a : AgreesIn idle (world node used) r c) (up : node.off ≡ None) (v uuid : ℕ) (vb : Plain) (there : node.vbs v ≡ Some vb) (rests : is_active vb.role ≡ false)
+  module _ (node : PlainNode) (used : List ℕ) (r : Chronicle) (c : Cluster) (a : AgreesIn idle (world node used) r c) (up : IsFresh node) (v uuid : ℕ) (vb : Plain) (there : node.vbs v ≡ Some vb) (rests : is_active vb.role ≡ false)
       (sealed : vb.spans.current ≡ None) (shelf : Shelf) (kept : node.shelves v ≡ Some shelf) (opens : shelf.is_closed ≡ false) (unused : is_one_of uuid used ≡ false) (named : uuid ≡ 0 → ⊥) (small : uuid < 2 ^ 64) where
     abbrev f : Fuse
     f = node.arm.fuse
@@ -68,9 +74,12 @@ module _ (steady : Steady) (w : PlainWorld) (n : ℕ) (free : NoEnds n w.links) 
     abbrev pub branched : Chronicle
     branched = after_branch r n v uuid (parent_of vb.log) (fork_of vb.position) vb.position.at
 
-    -- what is read with its branch and its role
+    -- what is read with its branch and its role, where no client is told of it
+    abbrev turned_role : Chronicle
+    turned_role = after_role branched n v role.Active
+
     abbrev pub active : Chronicle
-    active = after_role branched n v role.Active
+    active = record turned_role { clients_at = branched.clients_at }
 
     here : (x : PlainNode) → (with_node_at w n x).nodes n ≡ Some x
     here x = ap (λ b. if b then Some x else w.nodes n) (eq-eqb n n refl)
@@ -94,12 +103,20 @@ module _ (steady : Steady) (w : PlainWorld) (n : ℕ) (free : NoEnds n w.links) 
     pub call_is : plain_step vb (VbCall.Promote uuid) ≡ and_settled (led_vb, ending_reply vb (VbAnswer.Branch uuid (parent_of vb.log) (fork_of vb.position) vb.position.at))
     call_is = promote_is steady (world node used) w0 r c n v uuid vb a known none_feeds rests unused named small
 
-    became : Turned (world node used) w0 n v led_vb (links_ended n v (stream_ids vb.streams) w.links)
-    became = let one = node_grown w n v node led_node led_vb (λ q. refl) (λ q o. refl) refl in
-        record { powers = one.powers; here = one.here; there = one.there; shelves = shelves_again w n node led_node (λ q. refl); linked = sym (untold n v (stream_ids vb.streams) w.links free) }
+    became : Turned (world node used) w0 n v led_vb (stream_ids vb.streams)
+    became = let one = node_grown w n v node led_node led_vb (λ q. refl) (λ q o. refl) refl in record {
+      powers = same_arms (world node used) (with_node_at w n led_node) one.powers;
+      clients = λ m d. elim (m == n) as (λ b. client_in (if b then Some led_node else w.nodes m) d ≡ (let o = client_in (if b then Some node else w.nodes m) d in if b then option_map (client_ended v (stream_ids vb.streams)) o else o))
+          [ true ↦ up.1 d ∙ ap (option_map (client_ended v (stream_ids vb.streams))) (sym (up.1 d)) | false ↦ refl ];
+      here = one.here;
+      there = one.there;
+      shelves = shelves_again w n node led_node (λ q. refl);
+      linked = sym (untold n v (stream_ids vb.streams) w.links free);
+    }
 
     led_agrees : AgreesIn idle w0 active (happens c (Move.Promote (seat n v) uuid))
-    led_agrees = rose steady (world node used) w0 r c n v uuid vb a known none_feeds rests unused named small became refl
+    led_agrees = known_apart idle w0 turned_role (happens c (Move.Promote (seat n v) uuid)) n branched.clients_at (rose steady (world node used) w0 r c n v uuid vb a known none_feeds rests unused named small became refl)
+        (λ d. ap (λ o. client_in o d) (here led_node) ∙ up.1 d) (λ m d ne. sym (ap (λ b. if b then past_turn v (branched.clients_at m d) else branched.clients_at m d) (ne_eqb m n ne)))
 
     -- and commits what may be committed
     pub settles_on : SettlesOn w0 active n v (unresolved led_vb) (settled led_vb)
@@ -157,7 +174,7 @@ module _ (steady : Steady) (w : PlainWorld) (n : ℕ) (free : NoEnds n w.links) 
     noted_so = subst (λ y. Noted w1 y n v power (under Off left_shelf) left_shelf.fuse) (twice node1 node2 (used ++ uuid ∷ [])) (noted_node w1 n v node1 (under Off left_shelf) left_shelf.fuse (here node1))
 
     armed_came : ArmedCame n (λ said told. after_noted told n v role.Active said) (fired_by f left_shelf.fuse) active_on w2 (said_of came)
-    armed_came = state_came w1 w2 active_on n v power vb' shelf risen.0 risen.1 known1 kept1 up role.Active noted_so
+    armed_came = state_came w1 w2 active_on n v power vb' shelf risen.0 risen.1 known1 kept1 up.0 role.Active noted_so
 
     -- ---- and so the lines tell
 

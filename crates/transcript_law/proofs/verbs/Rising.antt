@@ -4,8 +4,8 @@ use Rattle.transcript_law.proofs.Words.{ℕ, Bool, true, false, List, refl, ap, 
 use Rattle.transcript_law.proofs.Words.{All, filter, eqb-true, eqb-false, ne_eqb, cases_lt, ltb-false, All-nil, All-cons, All-append, Change, Position, LogEntry, Role, upto, Rises, with_entry}
 use Rattle.transcript_law.proofs.Words.{kept_to, Traces, AtForks, fork_of, Branch, branch, hist, hist_here, hist_there, hist_rises, HoldsAt, holds_fewer, upto_none, upto_down, in_filter, ground, Member, Cluster}
 use Rattle.transcript_law.proofs.Words.{Move, SoundCluster, happens, member_reach, made, at_le, kin_shared, keeps, VbCall, Plain, plain_step, is_active, complete_position, stream_ids, in_role, ending_reply}
-use Rattle.transcript_law.proofs.Words.{parent_of, promoted, led, is_role, with_seal, Sound, StaysSound, PlainWorld, is_one_of, links_ended, Chronicle, parent_branch, changes_between, after_branch, after_role}
-use Rattle.transcript_law.proofs.{Words.{known_history, []}, invariant.Seats.{seat, seats_apart}, invariant.Tables.{at_here, at_there, id_here, unused}, invariant.Trees.{is_told_here}, invariant.Wholes.{WholeTo, whole_fork, whole_sealed}}
+use Rattle.transcript_law.proofs.Words.{parent_of, promoted, led, is_role, with_seal, Sound, StaysSound, PlainWorld, is_one_of, Chronicle, parent_branch, changes_between, after_branch, after_role}
+use Rattle.transcript_law.proofs.{Words.{known_history, []}, invariant.Seats.{seat, seats_apart}, invariant.Tables.{at_here, at_there, id_here, unused}, invariant.Trees.{IsTold, is_told_here, new_untold}, invariant.Wholes.{WholeTo, whole_fork, whole_sealed}}
 use Rattle.transcript_law.proofs.{invariant.Wholes.{spanned_sealed, spanned_active}, invariant.Agreement.{all_rise, vb_of, ChangeFits, EntryFits, BranchAgrees, own_history, VbHolds, VbAgrees, AgreesAt, top, idle, AgreesIn, vb_contents, vb_row}, invariant.OneLink.{put_here}}
 use Rattle.transcript_law.proofs.{invariant.OneLink.{put_there}, links.Sent.{all_in, all_by_each}, links.Followed.{own_is, fork_low}, links.Rolling.{kept_fit}, verbs.NodeLines.{branch_of, role_row, role_there, role_here}, verbs.Branching.{branch_there, new_fits}, invariant.Majorities.{alone_counts}}
 use Rattle.transcript_law.specs.Chronicles.{alone}
@@ -30,7 +30,7 @@ other_role_known r n v m vb new a e told = let s : Some (Some vb.role) ≡ Some 
 
 module _ (stays : StaysSound) (w w' : PlainWorld) (r : Chronicle) (c : Cluster) (n v : ℕ) (vb : Plain) (new : Role) (turn : VbCall) (a : AgreesIn idle w r c) (known : vb_of w n v ≡ Some vb) (free : NoneFeeds n v w.links)
     (rests : is_active new ≡ false) (is : plain_step vb turn ≡ (in_role vb new, ending_reply vb answer.Done)) (timely : Sound vb → Sound (plain_step vb turn).0)
-    (became : Turned w w' n v (in_role vb new) (links_ended n v (stream_ids vb.streams) w.links)) (uuids : w'.uuids ≡ w.uuids) where
+    (became : Turned w w' n v (in_role vb new) (stream_ids vb.streams)) (uuids : w'.uuids ≡ w.uuids) where
   abbrev seated : ℕ
   seated = seat n v
 
@@ -64,10 +64,10 @@ module _ (stays : StaysSound) (w w' : PlainWorld) (r : Chronicle) (c : Cluster) 
   rested = turned_agrees w w' r rest_lines c rest_cluster n v vb (in_role vb new) a known free became (λ j ne. put_there c.nodes seated (yielded (c.nodes seated)) j ne) (λ i. refl) (λ i q. refl) (λ i. refl)
       (keeps top c (Move.Yield seated) a.sound tt)
       (all_vbs w w' n v (in_role vb new) (λ m q o. AgreesAt rest_lines m q (rest_cluster.nodes (seat m q)) o) became.here became.there here rest_there)
-      (turned_disks w w' r rest_lines c rest_cluster n v vb (in_role vb new) (links_ended n v (stream_ids vb.streams) w.links) a known became (λ m q. refl) (put_itself c.disks seated) refl)
+      (turned_disks w w' r rest_lines c rest_cluster n v vb (in_role vb new) (stream_ids vb.streams) a known became (λ m q. refl) (put_itself c.disks seated) refl)
       (branches_again refl refl (ids_same uuids) a.branches)
       (turned_rests w w' r rest_lines c rest_cluster n v vb (in_role vb new) a known free became (λ j ne. put_there c.nodes seated (yielded (c.nodes seated)) j ne) (λ i. refl) (λ i q. refl) (λ i. refl)
-      (λ m. refl) refl (role_row r n v new) (λ j ne. put_itself c.disks seated j))
+      (λ m. refl) refl (role_row r n v new) (λ j ne. put_itself c.disks seated j)) (λ m d. refl) (λ u t. refl)
 
 -- a vBucket that becomes active on a new branch
 
@@ -283,12 +283,12 @@ module _ (steady : Steady) (w w' : PlainWorld) (r : Chronicle) (c : Cluster) (n 
       fits_of (Some u) = a.fits u
 
   -- the vBucket is active on a new branch, and all agrees in a world with one more id
-  pub rose : Turned w w' n v vb' (links_ended n v (stream_ids vb.streams) w.links) → w'.uuids ≡ w.uuids ++ uuid ∷ [] → AgreesIn idle w' r' c'
+  pub rose : Turned w w' n v vb' (stream_ids vb.streams) → w'.uuids ≡ w.uuids ++ uuid ∷ [] → AgreesIn idle w' r' c'
   rose became uuids = turned_agrees w w' r r' c c' n v vb vb' a known free became (λ j ne. put_there c.nodes k (raised m uuid) j ne) (λ i. refl) (λ i q. refl) (λ i. refl) is_sound
       (all_vbs w w' n v vb' (λ i q o. AgreesAt r' i q (c'.nodes (seat i q)) o) became.here became.there
       (subst (λ x. VbAgrees r' n v x vb') (sym (put_here c.nodes k (raised m uuid))) (role_here branched n v Active (raised m uuid) vb' refl refl (λ e.
       (record { branch = branch_here; is_told = is_told_here new r.tree; writer = id_here r.writer_of uuid (Some (n, v)); named = named }, alone_counts branched n v, refl)) holds)) there)
-      (turned_disks w w' r r' c c' n v vb vb' (links_ended n v (stream_ids vb.streams) w.links) a known became (λ m q. refl) (put_itself c.disks k) refl)
+      (turned_disks w w' r r' c c' n v vb vb' (stream_ids vb.streams) a known became (λ m q. refl) (put_itself c.disks k) refl)
       (record {
         hists = λ u. same_hist u (uuid == u) refl;
         are_told = (refl, fork_same, parent_known, a.are_told);
@@ -300,6 +300,7 @@ module _ (steady : Steady) (w w' : PlainWorld) (r : Chronicle) (c : Cluster) (n 
       })
       (turned_rests w w' r r' c c' n v vb vb' a known free became (λ j ne. put_there c.nodes k (raised m uuid) j ne) (λ i. refl) (λ i q. refl) (λ i. refl)
       (λ i. refl) refl (λ i q other. role_row branched n v Active i q other ∙ branch_row i q other) (λ j ne. put_itself c.disks k j))
+      (λ m d. refl) (λ u t. hist_there new r.tree u (λ e. new_untold uuid r.tree (a.fresh uuid unused_yet) (subst (IsTold r.tree) (sym e) t)))
 
   -- its branch is a new one, and leaves where it stands
   pub branch_lawful : LawfulBranch r n v uuid (parent_of vb.log) fork high

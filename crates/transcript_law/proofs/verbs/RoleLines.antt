@@ -1,14 +1,15 @@
 -- the lines `promote`, `follow`, `dead`, `seal` and `log`
 use Rattle.transcript_law.specs.Chronicles.{alone}
+use Rattle.{node_world.specs.Nodes.{with_clients_ended}, transcript_law.specs.Feeding.{IsOfClient, client_in}}
 use Rattle.std.specs.Prelude.{◌≡◌, ◌<◌, ◌∷◌, ◌++◌, ◌==◌, ◌^◌, if◌then◌else◌, not}
 use Rattle.transcript_law.proofs.Words.{ℕ, Bool, true, false, List, refl, ap, sym, ◌∙◌, subst, append-nil, Option, Some, None, is_some, flat_map, option_map, eqb-false, eqb-true, eq-eqb, ne_eqb}
 use Rattle.transcript_law.proofs.Words.{Cause, Event, Role, Cluster, Move, happens, Plain, plain_step, is_active, refusal_reply, with_vb_at, call_at, stream_ids, in_role, ending_reply, parent_of, led}
 use Rattle.transcript_law.proofs.Words.{is_role, with_seal, fork_of, holds_fewer, Sound, StaysSound, AdminCall, AdminResult, admin_call, admin_replied, PlainLink, PlainNode, PlainWorld, Outcome, with_branches}
-use Rattle.transcript_law.proofs.Words.{with_node_at, with_links, with_states, node_outcome, vb_in, first_cause, refused_or, is_one_of, branch_of_line, on_node, own_link, cut_off, link_ended, links_ended, unlinked}
+use Rattle.transcript_law.proofs.Words.{with_node_at, with_links, with_states, node_outcome, vb_in, first_cause, refused_or, is_one_of, branch_of_line, on_node, own_link, cut_off, link_ended, links_ended, unlinked, with_ended}
 use Rattle.transcript_law.proofs.Words.{admin_line, no_node, turned_after, role_outcome, turn_causes, turn_step, Chronicle, after_lines, with_at, LawfulFrom, [], EndReason, VbAnswer, VbReply, producer_node, node_if}
 use Rattle.transcript_law.proofs.Words.{LawfulRole, States, VbCall, after_branch, after_line, after_role, newest_branch, Status, turn_row, seal_row, role_changed, after_cuts, promote_step, after_seal, uuid_causes, role_causes, shelf_in}
 use Rattle.transcript_law.proofs.{invariant.Agreement.{DiskIsIf, PowerIsIf, is_down, power_of, shelf_of}, disks.Appending.{Noted, state_came}, disks.ArmedLines.{ArmedCame}, disks.Burning.{quiet_same}, disks.Disks.{Power, power_in, sealed_disk}, disks.Firing.{line_fires, role_noting}, invariant.JobSteps.{put_found, put_over, shelf_found}, lines.Lines.{AreQuiet}, verbs.NodeLines.{shelves_again, shelves_put, shelves_there}}
-use Rattle.transcript_law.proofs.{links.Behind.{NotingGoes, noted_beside, posts_come}, invariant.Ranged.{IsRanged, NodeRanged, NodeRangedIf, unlinked_ranged, with_node}, verbs.RoleCalls.{changed_told, fate, left, node', not_stopped, role_came, said_of}}
+use Rattle.transcript_law.proofs.{links.Behind.{NotingGoes, noted_beside, posts_come}, invariant.Ranged.{IsRanged, NodeRanged, NodeRangedIf, ended_ranged, kept_ranged, unlinked_ranged, with_node}, verbs.ClientsEnded.{node_turned, open_was, told_world, turned_node}, verbs.RoleCalls.{changed_told, fate, left, node', not_stopped, role_came, said_of}}
 use Rattle.{disk_journals.specs.Arms.{under}, node_core.specs.Admin.{admin_job, role_at}, node_world.specs.Arms.{fired_by}, node_world.specs.Cuts.{closed_at}, node_world.specs.Power.{with_arm}, node_world.specs.Turns.{posted_in, role_called}, node_world.specs.Worlds.{arm_in, is_up}}
 use Rattle.{node_world.specs.declared.arm.Arm.{Arm}, node_world.specs.declared.arm.Fired.{Fired}, transcript_law.specs.Chronicles.{after_noted}, vb_calls.specs.Flushes.{is_refusal, role_of_call}}
 use Rattle.{vb_calls.specs.Shelves.{Fate, Shelf}, vb_disk.specs.declared.fuse.Fuse.TheVariants.{Off}, vb_events.specs.declared.event.Answer.{Answer}}
@@ -43,21 +44,18 @@ node_up w r a n v vb known node at = elim node.off as (λ o. node.off ≡ o → 
 told_up : (w : PlainWorld) (r : Chronicle) (c : Cluster) (n : ℕ) (node : PlainNode) → AgreesIn idle w r c → w.nodes n ≡ Some node → node.off ≡ None → (r.arm_at n).down ≡ false
 told_up w r c n node a at up = (subst (PowerIsIf (r.arm_at n)) (ap power_in at) (a.powers n)).down ∙ ap is_some up
 
--- a world in which the vBucket v of a node is another one, more ids are used, and the links were told
+-- a world in which the vBucket v of a node is another one, more ids are used, and links and clients were told
 abbrev pub turned_at : PlainWorld → ℕ → ℕ → PlainNode → Plain → List ℕ → List PlainLink → List ℕ → PlainWorld
-turned_at w n v node x ids links more = record { nodes = (with_node_at w n (with_states node (with_vb_at node.vbs v x))).nodes; uuids = w.uuids ++ more; links = links_ended n v ids links }
+turned_at w n v node x ids links more = record { nodes = (with_node_at w n (turned_node node v x ids)).nodes; uuids = w.uuids ++ more; links = links_ended n v ids links }
 
-turned_became : (w : PlainWorld) (n v : ℕ) (node : PlainNode) (x : Plain) (ids : List ℕ) (links : List PlainLink) (more : List ℕ) → w.nodes n ≡ Some node → Turned (with_links w links) (turned_at w n v node x ids links more) n v x (links_ended n v ids links)
-turned_became w n v node x ids links more at =
-    let called : PlainNode = with_states node (with_vb_at node.vbs v x) in
-    let one = node_changed w n v node called x at (λ q. refl) (λ q o. refl) refl in
-    record { powers = one.powers; here = one.here; there = one.there; shelves = λ m q. shelves_again w n node called (λ q. refl) m q ∙ shelves_put w n node at m q; linked = refl }
+turned_became : (w : PlainWorld) (n v : ℕ) (node : PlainNode) (x : Plain) (ids : List ℕ) (links : List PlainLink) (more : List ℕ) → w.nodes n ≡ Some node → Turned (with_links w links) (turned_at w n v node x ids links more) n v x ids
+turned_became w n v node x ids links more at = node_turned (with_links w links) (turned_at w n v node x ids links more) n v node x ids at refl refl
 
 -- and once more
 turned_again : (w : PlainWorld) (n v : ℕ) (node : PlainNode) (x y : Plain) (ids : List ℕ) (links : List PlainLink) (more : List ℕ)
     → Changed (turned_at w n v node x ids links more) (turned_at w n v node y ids links more) n v y (links_ended n v ids links) × (shelf_of (turned_at w n v node y ids links more) n v ≡ shelf_of (turned_at w n v node x ids links more) n v)
 turned_again w n v node x y ids links more =
-    let first : PlainNode = with_states node (with_vb_at node.vbs v x) in let next : PlainNode = with_states node (with_vb_at node.vbs v y) in
+    let first : PlainNode = turned_node node v x ids in let next : PlainNode = turned_node node v y ids in
     let one = node_grown w n v first next y (λ q. sym (ap (λ (f : States). f q) (put_over node.vbs v x y))) (λ q o. refl) refl in
     (record { powers = one.powers; here = one.here; there = one.there; shelves = one.shelves; uuids = refl; linked = refl }, shelves_again w n first next (λ q. refl) n v)
 
@@ -127,9 +125,12 @@ module _ (stays : StaysSound) (steady : Steady) (w : PlainWorld) (r : Chronicle)
   abbrev left_shelf : Shelf
   left_shelf = left node n v asked vb vb' shelf (node_of w n v vb known).2 journal.1 up reply is job_is made
 
-  -- the node in the end
+  -- the node behind the call, and in the end, once its clients were told
+  abbrev made_node : PlainNode
+  made_node = node' node n v asked vb vb' shelf (node_of w n v vb known).2 journal.1 up reply is job_is made
+
   abbrev last : PlainNode
-  last = node' node n v asked vb vb' shelf (node_of w n v vb known).2 journal.1 up reply is job_is made
+  last = with_clients_ended v ids made_node
 
   shelves_are : (q : ℕ) → (q ≡ v → ⊥) → last.shelves q ≡ node.shelves q
   shelves_are q o = ap (λ b. if b then Some (under Off left_shelf) else node.shelves q) (ne_eqb q v o)
@@ -150,11 +151,16 @@ module _ (stays : StaysSound) (steady : Steady) (w : PlainWorld) (r : Chronicle)
   outcome_came =
       ap (turned_after n v w) (ap (λ o. node_outcome w n no_node o (role_called n v asked)) at
       ∙ ap (λ x. (with_node_at w n x.0, x.1)) (role_came node n v asked vb vb' shelf (node_of w n v vb known).2 journal.1 up reply is job_is made lines line_is))
-      ∙ ap (λ xs. let links : List PlainLink = links_ended n v xs w.links in posted_in n reply.resolved (after_cuts call_is (cut_off (own_link n v links) (with_links (with_node_at w n last) links)))) ends
+      ∙ ap (λ xs. posted_in n reply.resolved (after_cuts call_is (cut_off (own_link n v (links_ended n v xs w.links)) (with_ended n v xs (with_node_at w n made_node))))) ends
+      ∙ ap (λ x. posted_in n reply.resolved (after_cuts call_is (cut_off (own_link n v (links_ended n v ids w.links)) x))) (told_world w n v ids made_node)
       ∙ ap (λ o. posted_in n reply.resolved (after_cuts call_is (cut_off o ended))) (own_told n v ids w.links)
 
   last_ranged : IsRanged (with_node_at w n last)
-  last_ranged = let here : NodeRanged n node = subst (NodeRangedIf n) at (ranged n) in with_node w n last ranged (record { clock = here.clock; clients = here.clients })
+  last_ranged = let here : NodeRanged n node = subst (NodeRangedIf n) at (ranged n) in with_node w n last ranged (ended_ranged n v ids made_node (kept_ranged n node made_node refl (λ c. refl) refl here))
+
+  -- a client's open streams were open before
+  fewer : (m d q id : ℕ) → IsOfClient (with_node_at w n last) m d q id → IsOfClient w m d q id
+  fewer = open_was w n v ids node last at (λ c. refl)
 
   -- once they are
   posted_goes : (own : Option PlainLink) → NotingGoes n (role_noted_so n v new) w r (came_with own) → NotingGoes n (role_noted_so n v new) w r (posted_in n reply.resolved (came_with own))
@@ -163,12 +169,12 @@ module _ (stays : StaysSound) (steady : Steady) (w : PlainWorld) (r : Chronicle)
 
   -- the world in which these links were told, and nothing was written down
   abbrev called : PlainNode
-  called = with_states node (with_vb_at node.vbs v vb')
+  called = turned_node node v vb' ids
 
   abbrev pub turned_with : List PlainLink → List ℕ → PlainWorld
   turned_with links more = turned_at w n v node vb' ids links more
 
-  pub turn_became : (links : List PlainLink) (more : List ℕ) → Turned (with_links w links) (turned_with links more) n v vb' (links_ended n v ids links)
+  pub turn_became : (links : List PlainLink) (more : List ℕ) → Turned (with_links w links) (turned_with links more) n v vb' ids
   turn_became links more = turned_became w n v node vb' ids links more at
 
   -- the same once the role is written down
@@ -183,6 +189,7 @@ module _ (stays : StaysSound) (steady : Steady) (w : PlainWorld) (r : Chronicle)
     before = ap (λ b. power_in (if b then Some called else w.nodes n)) (eq-eqb n n refl);
     after = ap (λ b. power_in (if b then Some last else w.nodes n)) (eq-eqb n n refl);
     others = λ m ne. ap (λ b. power_in (if b then Some last else w.nodes m)) (ne_eqb m n ne) ∙ sym (ap (λ b. power_in (if b then Some called else w.nodes m)) (ne_eqb m n ne));
+    clients = λ m c. elim (m == n) as (λ b. client_in (if b then Some last else w.nodes m) c ≡ client_in (if b then Some called else w.nodes m) c) [ true ↦ refl | false ↦ refl ];
     vbs = λ m q. elim (m == n) as (λ b. vb_in (if b then Some last else w.nodes m) q ≡ vb_in (if b then Some called else w.nodes m) q) [ true ↦ refl | false ↦ refl ];
     stands = ap (λ b. shelf_in (if b then Some last else w.nodes n) v) (eq-eqb n n refl) ∙ shelf_found node.shelves v (under Off left_shelf);
     shelves = λ m q other. shelves_there w n v called last shelves_are m q other;
@@ -224,11 +231,11 @@ module _ (stays : StaysSound) (steady : Steady) (w : PlainWorld) (r : Chronicle)
       by (Some link) e lawful b =
           let link' : PlainLink = link_ended n v ids link in
           let told : List Event = cut_lines (Some link) ++ lines in
-          subst (λ k. NotingGoes n (role_noted_so n v new) w r (after_cuts call_is (unlinked link' ended, Event.Ended k EndReason.Cut ∷ []))) (sym (same_number stays w r a.0 n v ids node last vb vb' (λ q. refl) shelves_are link a.1 at known e)) (record {
+          subst (λ k. NotingGoes n (role_noted_so n v new) w r (after_cuts call_is (unlinked link' ended, Event.Ended k EndReason.Cut ∷ []))) (sym (same_number stays w r a.0 n v ids node last vb vb' (λ q. refl) shelves_are link a.1 at known e fewer)) (record {
             lawful = ((_, (a.1.links link (own_found n v w.links link e).0).dialed), lawful);
             quiet = (tt, quiet);
             came = came_so (unlinked link' ended) more (links_left (Some link) w.links) (after_lines r told) (unlinked_power link' ended n)
-                (λ y. (y.0, over_agrees stays w r a.0 n v ids node last vb vb' (λ q. refl) shelves_are link a.1 at known e (after_noted (after_lines r told) n v new (said_of fated)) y.0 more y.1)) b;
+                (λ y. (y.0, over_agrees stays w r a.0 n v ids node last vb vb' (λ q. refl) shelves_are link a.1 at known e fewer (after_noted (after_lines r told) n v new (said_of fated)) y.0 more y.1)) b;
           })
 
 -- causes for which nothing is appended
@@ -336,7 +343,7 @@ module _ (stays : StaysSound) (steady : Steady) (r : Chronicle) (n v uuid : ℕ)
       let risen : AgreesIn idle w1 active (happens c1 (Move.Promote (seat n v) uuid)) =
       rose steady w0 w1 r1 c1 n v uuid vb x.agrees known x.free rests unused named small (turned_became w n v node led_vb ids links (uuid ∷ []) at) refl in
       -- and commits what may be committed
-      let called : PlainNode = with_states node (with_vb_at node.vbs v led_vb) in
+      let called : PlainNode = turned_node node v led_vb ids in
       let s = settles steady.commits n v w1 active (happens c1 (Move.Promote (seat n v) uuid)) called led_vb risen (ap (λ b. if b then Some called else w.nodes n) (eq-eqb n n refl)) (put_found node.vbs v led_vb) in
       let made : Resolving = settled led_vb in
       let again = turned_again w n v node led_vb made.vb ids links (uuid ∷ []) in
@@ -417,7 +424,7 @@ module _ (stays : StaysSound) (w w' : PlainWorld) (r : Chronicle) (c : Cluster) 
 
   pub seal_agrees : AgreesIn idle w' sealed c
   seal_agrees = changed_agrees w w' r sealed c n v vb vb' a known became (record { role = refl; wants = refl }) refl (λ k. refl) (λ k q. refl) (λ k. refl) (λ x i k has s. refl) here elsewhere (λ m q. refl) shelf
-      (sealed_disk (r.disk_at n v) (c.disks (seat n v)) (shelf_of w n v) vb vb' refl) (λ m. refl) elsewhere_row
+      (sealed_disk (r.disk_at n v) (c.disks (seat n v)) (shelf_of w n v) vb vb' refl) (λ m. refl) elsewhere_row (λ m d. refl) (λ d k has. refl)
 
 node_sealed : StaysSound → (w : PlainWorld) (r : Chronicle) (n v : ℕ) (node : PlainNode) → Agrees w r → w.nodes n ≡ Some node
     → GoesOn r (λ q. after_seal q n v (admin_line n v AdminCall.Seal node).1.answer) (with_node_at w n (admin_line n v AdminCall.Seal node).0, (admin_line n v AdminCall.Seal node).1)

@@ -1,8 +1,8 @@
 -- all that the law needs of a line, in one record
 use Rattle.std.specs.Prelude.{◌≡◌}
-use Rattle.transcript_law.proofs.Words.{ℕ, List, [], refl, sym, subst, Answer, Cause, Event, Chronicle, Verb, VerbFits, PlainNode, PlainWorld, Outcome, Told, LawfulAnswer, IsAnswered, after_verb, on_node}
+use Rattle.transcript_law.proofs.Words.{ℕ, List, [], refl, sym, subst, false, is_some, Answer, Cause, Event, Chronicle, Verb, VerbFits, PlainNode, PlainWorld, Outcome, Told, LawfulAnswer, IsAnswered, after_verb, on_node}
 use Rattle.node_world.specs.Rests.{Rests}
-use Rattle.transcript_law.proofs.invariant.{Agreement.{Agrees, GoesOn, LineGoes}, AtRest.{RestsIf, Still, node_still, weaker}, CallsKept.{AllAt, InWorld}, ClientWorlds.{ConnsAre}, Entering.{Entered}, Feeding.{AllFed, AllKept, Fine, node_fine}, Ranged.{IsRanged, NodeRanged, on_node_ranged}, Unopened.{NoNew}}
+use Rattle.transcript_law.proofs.invariant.{Agreement.{Agrees, GoesOn, LineGoes}, AtRest.{RestsIf, Still, node_still, weaker}, CallsKept.{AllAt, InWorld}, ClientWorlds.{ConnsAre}, Entering.{Entered}, Feeding.{AllFed, AllKept, Fine, node_fine}, FedClients.{Keeps}, Ranged.{IsRanged, NodeRanged, NodeRangedIf, on_node_ranged}}
 use Rattle.transcript_law.proofs.lines.{Calm.{Spared}, Refusals.{Same, Says}}
 use Rattle.transcript_law.proofs.verbs.{BoundAnswers.{bound_plain}, FiredLines.{DialsTold}, LineAnswers.{AllTold, ArmKnown, ShutTold, opens_of, told_of_opens}, NodeLines.{line_goes_on, on_node_by}}
 use Rattle.transcript_law.specs.{Bound.{IsBound, bound_by, if_down, is_told_down}, Chronicles.{ahead}, Firings.{FiresInLine}, Plainness.{IsStanding}, Tellings.{TellsOf}}
@@ -16,6 +16,7 @@ pub record AsTold (w : PlainWorld) (r : Chronicle) : Type 0 where
   pub arms : (n : ℕ) → ArmKnown w r n
   pub dials : DialsTold w r
   pub conns : ConnsAre w r.conn_at
+  pub ranged : IsRanged w
 
 -- all that the law needs of a line that leaves this world and tells this
 pub record Row (w : PlainWorld) (line : Verb) (came : Outcome) : Type 0 where
@@ -27,7 +28,7 @@ pub record Row (w : PlainWorld) (line : Verb) (came : Outcome) : Type 0 where
   pub keeps : Rests w → (why : Cause) → came.1.answer ≡ Answer.No why → IsStanding why → Same w came.0 × (came.1.events ≡ [])
   pub bound : (r : Chronicle) → Agrees w r → LawfulAnswer r line came.1.events came.1.answer → IsAnswered r line came.1.events came.1.answer
   -- it tells of nothing else than it may
-  pub tells : TellsOf line came.1.events
+  pub tells : IsRanged w → TellsOf line came.1.events
   -- it is answered as it may be, and tells of arms that fired as it is answered
   pub told : (r : Chronicle) → VerbFits line → AsTold w r → LawfulAnswer r line came.1.events came.1.answer × FiresInLine r line came.1.events came.1.answer
   -- the entries of logs stand where lines told that their branches were made; its lines are lawful, and all agrees behind it
@@ -42,14 +43,14 @@ pub told_goes : (line : Verb) (r : Chronicle) (came : Outcome) → Goes line r c
 told_goes line r came goes = line_goes_on (ahead r line came.1.answer) (λ told. after_verb r told line came.1.events came.1.answer) came goes
 
 -- a line that its node carries out alone, and that calls no disk: by what it makes of its node and tells
-pub node_spared : (w : PlainWorld) (n : ℕ) (f : PlainNode → PlainNode × Told) → ((node : PlainNode) → Spared (f node).1) → Spared (on_node w n f).1
-node_spared w n f spared = on_node_by (λ o. Spared o.1) w n f refl (λ node known. refl) (λ node known up. spared node)
+pub node_spared : (w : PlainWorld) (n : ℕ) (f : PlainNode → PlainNode × Told) → IsRanged w → ((node : PlainNode) → NodeRanged n node → Spared (f node).1) → Spared (on_node w n f).1
+node_spared w n f ranged spared = on_node_by (λ o. Spared o.1) w n f refl (λ node known. refl) (λ node known up. spared node (subst (NodeRangedIf n) known (ranged n)))
 
 pub answered_row : (answered : Chronicle → Told → Type 0) (w : PlainWorld) (line : Verb) (n : ℕ) (f : PlainNode → PlainNode × Told)
     → ((r : Chronicle) → (bound_by r line ≡ if_down (is_told_down r n)) × ((told : Told) → Spared told → FiresInLine r line told.events told.answer))
     → ((before r : Chronicle) (lines : List Event) (said : Answer) → Entered r → Entered (after_verb before r line lines said))
-    → (VerbFits line → (node : PlainNode) → NodeRanged n node → NodeRanged n (f node).0) → ((node : PlainNode) → NodeRanged n node → AllAt Still node.vbs → AllAt Still (f node).0.vbs)
-    → ((node : PlainNode) → NoNew node.vbs (f node).0.vbs) → ((node : PlainNode) → Spared (f node).1) → ((node : PlainNode) → TellsOf line (f node).1.events)
+    → (VerbFits line → (node : PlainNode) → is_some node.off ≡ false → NodeRanged n node → NodeRanged n (f node).0) → ((node : PlainNode) → NodeRanged n node → AllAt Still node.vbs → AllAt Still (f node).0.vbs)
+    → ((node : PlainNode) → Keeps node (f node).0) → ((node : PlainNode) → NodeRanged n node → Spared (f node).1) → ((node : PlainNode) → NodeRanged n node → TellsOf line (f node).1.events)
     → ((r : Chronicle) → AllTold w r → Says (answered r) (Same w) (on_node w n f))
     → ((r : Chronicle) → AsTold w r → answered r (on_node w n f).1 → LawfulAnswer r line (on_node w n f).1.events (on_node w n f).1.answer)
     → ((r : Chronicle) → VerbFits line → IsRanged w → Agrees w r → Goes line r (on_node w n f)) → Row w line (on_node w n f)
@@ -59,8 +60,8 @@ answered_row answered w line n f quiet entered ranged still less spared tells sa
   fed = λ fine kept. (node_fine w n f fine less).fed;
   keeps = λ rests. (says (opens_of w) (told_of_opens w)).1;
   bound = λ r a rule. let ruled : Type 0 = LawfulAnswer r line x.events x.answer in subst (λ whys. IsBound whys ruled x.events x.answer) (sym (quiet r).0) (bound_plain w r a n f ruled rule);
-  tells = on_node_by (λ o. TellsOf line o.1.events) w n f refl (λ node known. refl) (λ node known up. tells node);
-  told = λ r fits t. (judged r t (says r t.disks).0, (quiet r).1 x (node_spared w n f spared));
+  tells = λ all. on_node_by (λ o. TellsOf line o.1.events) w n f refl (λ node known. refl) (λ node known up. tells node (subst (NodeRangedIf n) known (all n)));
+  told = λ r fits t. (judged r t (says r t.disks).0, (quiet r).1 x (node_spared w n f t.ranged spared));
   entered = λ before r old. entered before r x.events x.answer old;
   goes = λ r fits here a. told_goes line r (on_node w n f) (goes r fits here a);
 }
@@ -69,8 +70,8 @@ answered_row answered w line n f quiet entered ranged still less spared tells sa
 pub alone_row : (w : PlainWorld) (line : Verb) (n : ℕ) (f : PlainNode → PlainNode × Told)
     → ((r : Chronicle) → (bound_by r line ≡ if_down (is_told_down r n)) × ((told : Told) → Spared told → FiresInLine r line told.events told.answer))
     → ((before r : Chronicle) (lines : List Event) (said : Answer) → Entered r → Entered (after_verb before r line lines said))
-    → (VerbFits line → (node : PlainNode) → NodeRanged n node → NodeRanged n (f node).0) → ((node : PlainNode) → NodeRanged n node → AllAt Still node.vbs → AllAt Still (f node).0.vbs)
-    → ((node : PlainNode) → NoNew node.vbs (f node).0.vbs) → ((node : PlainNode) → Spared (f node).1) → ((node : PlainNode) → TellsOf line (f node).1.events)
+    → (VerbFits line → (node : PlainNode) → is_some node.off ≡ false → NodeRanged n node → NodeRanged n (f node).0) → ((node : PlainNode) → NodeRanged n node → AllAt Still node.vbs → AllAt Still (f node).0.vbs)
+    → ((node : PlainNode) → Keeps node (f node).0) → ((node : PlainNode) → NodeRanged n node → Spared (f node).1) → ((node : PlainNode) → NodeRanged n node → TellsOf line (f node).1.events)
     → ((r : Chronicle) → AllTold w r → Says (λ told. LawfulAnswer r line told.events told.answer) (Same w) (on_node w n f))
     → ((r : Chronicle) → VerbFits line → IsRanged w → Agrees w r → Goes line r (on_node w n f)) → Row w line (on_node w n f)
 alone_row w line n f quiet entered ranged still less spared tells says goes =

@@ -1,8 +1,8 @@
 -- the vBuckets that were active start one after the other
-use Rattle.std.specs.Prelude.{◌≡◌, ◌<◌, ◌∷◌, ◌++◌, ◌^◌, ◌-◌, ◌⊎◌, ◌||◌, if◌then◌else◌, nat_le, ◌+◌, ◌*◌, ◌≤◌}
+use Rattle.std.specs.Prelude.{◌≡◌, ◌<◌, ◌∷◌, ◌++◌, ◌^◌, ◌⊎◌, ◌||◌, if◌then◌else◌, ◌+◌, ◌*◌, ◌≤◌}
 use Rattle.transcript_law.proofs.Words.{ℕ, true, false, List, [], refl, ap, sym, ◌∙◌, subst, arith, inl, inr, ⊎_elim, append-nil, append_assoc, filter-append, flat_map, Some, None, eq-eqb, ne_eqb, Answer, Chronicle, Cluster, Event, Plain, PlainLink, PlainNode, PlainWorld, LawfulFrom, Bool, Change, after_branch, after_lines, option_map, with_entry, with_id, length}
 use Rattle.transcript_law.proofs.Words.{after_line, branch_of_line, consumer_node, fork_of, producer_node, is_active, is_one_of, parent_of, with_node_at, with_at, changes_between, ending_reply, led, parent_branch, plain_step, VbAnswer, VbCall}
-use Rattle.transcript_law.proofs.{invariant.Agreement.{Agrees, AgreesIn, IsLink, PowerIs, idle}, lines.Calm.{Calm, calm_map, calm_more, fires_once}, lines.Changes.{Reads, arms_same, branch_read, changes_read, reads_changes, restart_past, restart_saved, roles_past, roles_same}, lines.Lines.{lawful_more}, verbs.NodeLines.{branch_of}, invariant.Seats.{seat}, verbs.Settling.{Steady, changes_quiet, changes_told}, verbs.RestartCalls.{fate, left, node', start_came}, verbs.RoleCalls.{said_of}, verbs.Restarting.{NoEnds, Restarted, active_as, arm_is, call_is, cs, mine, restarted, settles_on, told_is, twice, world, active, fails_to, stops_to}, verbs.StartTold.{Apart, AreStarts, apart_changes, starts_changes, told_by, told_each_change}, invariant.Tables.{id_here}}
+use Rattle.transcript_law.proofs.{invariant.Agreement.{Agrees, AgreesIn, IsLink, PowerIs, idle}, lines.Calm.{Calm, calm_map, calm_more, fires_once}, lines.Changes.{Reads, arms_same, branch_read, changes_read, reads_changes, restart_past, restart_saved, roles_past, roles_same}, lines.Lines.{lawful_more}, verbs.NodeLines.{branch_of}, invariant.Seats.{seat}, verbs.Settling.{Steady, changes_quiet, changes_told}, verbs.RestartCalls.{fate, left, node', start_came}, verbs.RoleCalls.{said_of}, verbs.Restarting.{IsFresh, NoEnds, Restarted, active_as, arm_is, call_is, cs, mine, restarted, settles_on, told_is, twice, world, fails_to, stops_to}, verbs.StartTold.{Apart, AreStarts, apart_changes, starts_changes, told_by, told_each_change}, invariant.Tables.{id_here}}
 use Rattle.node_world.specs.Power.{Starting, first_no, started_by, starts_from, stopped_node, touches}
 use Rattle.disk_journals.specs.Arms.{under}
 use Rattle.node_core.specs.Flushing.{FlushResult}
@@ -10,14 +10,13 @@ use Rattle.node_world.specs.Arms.{fired_by}
 use Rattle.node_world.specs.declared.arm.Fired.{Fired}
 use Rattle.node_world.specs.declared.told.Told.{Told}
 use Rattle.transcript_law.specs.Chronicles.{ArmKnown, alone, after_crash, after_restart, after_stop, spent, calls_of_append}
-use Rattle.branch_model.specs.Trees.{IsNew}
 use Rattle.transcript_law.proofs.disks.Burning.{fails_more, spent_fails, spent_passes, spent_stops, spent_twice, stops_more}
 use Rattle.transcript_law.specs.Firings.{FiresAsSaid, mishaps, is_mishap}
 use Rattle.transcript_law.specs.Lawfulness.{IsToFail, IsToStop, LawfulBranch}
 use Rattle.transcript_law.specs.LineAnswers.{FailsIn, MakesBranch, PassesIn, StopsIn}
 use Rattle.vb_calls.specs.Shelves.{Shelf}
 use Rattle.vb_disk.specs.declared.fuse.Fuse.{Fuse}
-use Rattle.vb_disk.specs.declared.fuse.Fuse.TheVariants.{Off, Stop, Fail}
+use Rattle.vb_disk.specs.declared.fuse.Fuse.TheVariants.{Off}
 use Rattle.vb_disk.specs.declared.made.Outcome.{Outcome}
 use Rattle.transcript_law.specs.LinesTold.{roles_from}
 use Rattle.vb_calls.specs.Settling.{and_settled, settled}
@@ -144,7 +143,7 @@ module _ (steady : Steady) (crashes : Crashes) (w : PlainWorld) (n : ℕ) (free 
       (record { vb = y.vb; there = e.0 ∙ y.there; rests = y.rests; sealed = y.sealed; shelf = y.shelf; kept = e.1 ∙ y.kept; opens = y.opens }, still_ready node after v starts same other.1 x.1)
 
   -- one start, and what the others come to behind it
-  module _ (node : PlainNode) (used : List ℕ) (before : Told) (calls : ℕ) (q r : Chronicle) (c : Cluster) (a : AgreesIn idle (with_it node used) r c) (up : node.off ≡ None) (v uuid : ℕ) (ready : Ready node v)
+  module _ (node : PlainNode) (used : List ℕ) (before : Told) (calls : ℕ) (q r : Chronicle) (c : Cluster) (a : AgreesIn idle (with_it node used) r c) (up : IsFresh node) (v uuid : ℕ) (ready : Ready node v)
       (unused : is_one_of uuid used ≡ false) (named : uuid ≡ 0 → ⊥) (small : uuid < 2 ^ 64) (alike : Alike n calls q r) (starts : List (ℕ × ℕ)) where
     abbrev vb : Plain
     vb = ready.vb
@@ -215,6 +214,7 @@ module _ (steady : Steady) (crashes : Crashes) (w : PlainWorld) (n : ℕ) (free 
       log = λ i. with_at (alike.reads.log i) n v (option_map (with_entry uuid (fork_of vb.position)) (alike.reads.log i n v));
       snap = ap (λ t. with_at t n v (Some (vb.position.at, vb.position.at))) alike.reads.snap;
       saved = alike.reads.saved;
+      clients = alike.reads.clients;
     }
 
     -- and so are its changes
@@ -223,7 +223,7 @@ module _ (steady : Steady) (crashes : Crashes) (w : PlainWorld) (n : ℕ) (free 
         let there = reads_changes q0 (active_vb_lines r0.open_at) n v uuid (cs steady w n free node used r c a up v uuid vb ready.there ready.rests ready.sealed ready.shelf ready.kept ready.opens unused named small) (reads_branch r0.open_at) in
         let same : after_lines (active_vb_lines r0.open_at) changes ≡ record (after_lines r0 changes) { role_at = with_at r.role_at n v (Some (Some role.Active)) } = roles_past (with_at r.role_at n v (Some (Some role.Active))) r0 n v uuid (cs steady w n free node used r c a up v uuid vb ready.there ready.rests ready.sealed ready.shelf ready.kept ready.opens unused named small) in
         let found : Reads q1 (record (after_lines r0 changes) { role_at = with_at r.role_at n v (Some (Some role.Active)) }) = subst (Reads q1) same there in
-        record { tree = found.tree; branch = found.branch; held = found.held; writer = found.writer; counts = found.counts; log = found.log; snap = found.snap; saved = λ m p. restart_saved (after_lines r0 changes) n v m p ∙ found.saved m p; role = ap (λ t. with_at t n v (Some (Some role.Active))) (roles_same r0 n v uuid (cs steady w n free node used r c a up v uuid vb ready.there ready.rests ready.sealed ready.shelf ready.kept ready.opens unused named small)) ∙ found.role }
+        record { tree = found.tree; branch = found.branch; held = found.held; writer = found.writer; counts = found.counts; log = found.log; snap = found.snap; saved = λ m p. restart_saved (after_lines r0 changes) n v m p ∙ found.saved m p; clients = found.clients; role = ap (λ t. with_at t n v (Some (Some role.Active))) (roles_same r0 n v uuid (cs steady w n free node used r c a up v uuid vb ready.there ready.rests ready.sealed ready.shelf ready.kept ready.opens unused named small)) ∙ found.role }
 
     changes_lawful : LawfulFrom q0 changes
     changes_lawful = changes_read q0 (active_vb_lines (with_at r0.open_at n v false)) n v uuid (cs steady w n free node used r c a up v uuid vb ready.there ready.rests ready.sealed ready.shelf ready.kept ready.opens unused named small) (reads_branch (with_at r0.open_at n v false))
@@ -364,7 +364,7 @@ module _ (steady : Steady) (crashes : Crashes) (w : PlainWorld) (n : ℕ) (free 
           (subst (λ ids. Ended q n (calls_behind (calls + 4) starts) (answer.No cause.Stopped) (with_it stopped.0 ids) r1) (sym (append-nil (used ++ uuid ∷ [])))
           (Ended.Stops refl (stops_more (calls + 4) (calls_behind (calls + 4) starts) (q.arm_at n).fuse (behind_more (calls + 4) starts) (stops_so to_stop)) (subst (λ o. Agrees (with_it (stopped_node node.arm.out after) (used ++ uuid ∷ [])) (after_crash r1 n o)) (sym out_so)
           (subst (λ x. Agrees x (after_crash r1 n node.arm.out)) (twice steady w n free after (stopped_node node.arm.out after) (used ++ uuid ∷ []))
-          (crashes (with_it after (used ++ uuid ∷ [])) r1 n after node.arm.out now (ap (λ b. if b then Some after else w.nodes n) (eq-eqb n n refl)) up
+          (crashes (with_it after (used ++ uuid ∷ [])) r1 n after node.arm.out now (ap (λ b. if b then Some after else w.nodes n) (eq-eqb n n refl)) up.0
           (λ x i. (λ j. (ne_eqb (producer_node x) n (free x i).0 j) || (ne_eqb (consumer_node x) n (free x i).1 j)))))))));
     }
 
@@ -387,7 +387,7 @@ module _ (steady : Steady) (crashes : Crashes) (w : PlainWorld) (n : ℕ) (free 
         by (Restarted.Stops hit broke to_stop now) = subst Came (sym hit) (stops_here so_far to_stop now)
 
   -- all of them
-  pub all_start : (starts : List (ℕ × ℕ)) (node : PlainNode) (used : List ℕ) (before : Told) (calls : ℕ) (q r : Chronicle) → Agrees (with_it node used) r → node.off ≡ None → AllReady node starts → AreApart starts → AreFree used starts
+  pub all_start : (starts : List (ℕ × ℕ)) (node : PlainNode) (used : List ℕ) (before : Told) (calls : ℕ) (q r : Chronicle) → Agrees (with_it node used) r → IsFresh node → AllReady node starts → AreApart starts → AreFree used starts
       → Alike n calls q r → SoFar q r n calls before → Started starts used before calls q r (starts_from n starts (node, before))
   all_start [] node used before calls q r a up ready apart ids alike so_far = none_left node used before calls q r so_far a
   all_start (s ∷ starts) node used before calls q r (c, a) up ready apart ids alike so_far =

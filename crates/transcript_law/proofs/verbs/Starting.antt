@@ -26,7 +26,7 @@ use Rattle.transcript_law.specs.Lawfulness.{IsToFail, IsToStop}
 use Rattle.transcript_law.specs.LineAnswers.{AllBranch, FailsIn, IsStarted, PassesIn, StopsIn, MakesBranch, calls_of_start, is_role_active, was_active, were_active}
 use Rattle.vb_calls.specs.Shelves.{open_shelf}
 use Rattle.vb_disk.specs.declared.fuse.Fuse.{Fuse}
-use Rattle.vb_disk.specs.declared.fuse.Fuse.TheVariants.{Off, Stop, Fail}
+use Rattle.vb_disk.specs.declared.fuse.Fuse.TheVariants.{Off}
 use Rattle.vb_events.specs.declared.event.Answer.TheVariants as answer
 use Rattle.vb_events.specs.declared.event.Cause.TheVariants as cause
 use Rattle.vb_types.specs.declared.journal.Record.{Record}
@@ -275,12 +275,12 @@ module _ (steady : Steady) (crashes : Crashes) (w : PlainWorld) (r : Chronicle) 
           }
 
       started : any_used w.uuids uuids ≡ false → is_one_of 0 uuids ≡ false → Started steady crashes w n (no_ends w r c n node books a known down opens) starts w.uuids (done []) count r (after_up n (after_calls count n r)) (starts_from n starts (loaded, done []))
-      started free nonzero = all_start steady crashes w n (no_ends w r c n node books a known down opens) starts loaded w.uuids (done []) count r (after_up n (after_calls count n r)) (c, reloaded w r c n node books a known down opens) refl
+      started free nonzero = all_start steady crashes w n (no_ends w r c n node books a known down opens) starts loaded w.uuids (done []) count r (after_up n (after_calls count n r)) (c, reloaded w r c n node books a known down opens) (refl, λ d. refl)
           (ready_zip loaded (active_ones books) uuids (subst (λ bs. Each (Ready loaded) (active_ones bs)) (sym books_so) (each_active (book_in books) (Ready loaded) ready)))
           (apart_zip (active_ones books) uuids (subst (λ bs. AllDiffer (active_ones bs)) (sym books_so) (differ_active (book_in books))))
           (free_zip w.uuids (active_ones books) uuids free nonzero small)
           (record {
-            reads = record { tree = refl; branch = refl; held = refl; writer = refl; role = refl; counts = refl; log = refl; snap = refl; saved = λ m q. refl };
+            reads = record { tree = refl; branch = refl; held = refl; writer = refl; role = refl; counts = refl; log = refl; snap = refl; saved = λ m q. refl; clients = refl };
             down = power.down;
             spends = ap (λ (t : ArmKnown). t.fuse) (arm_here w r c n node books a known down opens);
           })
@@ -364,7 +364,7 @@ module _ (steady : Steady) (crashes : Crashes) (w : PlainWorld) (r : Chronicle) 
 
 -- a node at which no link has an end stops
 crashes : Crashes
-crashes w r n node out (c, a) at on apart = (crash_all n (finds out) 1024 c, stopped_agrees w r c n node out a at on apart)
+crashes w r n node out (c, a) at on apart = (crash_all n (finds out) 1024 c, stopped_agrees w r c n node out a at on apart r.clients_at (λ m d ne. refl))
 
 -- what it tells is lawful, and all agrees after it
 pub start_goes : Steady → (w : PlainWorld) (r : Chronicle) (n : ℕ) (uuids : List ℕ) → All (λ u. u < 2 ^ 64) uuids → Agrees w r

@@ -1,6 +1,6 @@
 -- each line of a script tells of nothing else than it may
 use Rattle.std.specs.Prelude.{◌≡◌, ◌∷◌, ◌++◌, ◌==◌, ◌&&◌, ◌||◌, if◌then◌else◌}
-use Rattle.transcript_law.proofs.Words.{ℕ, Bool, true, false, List, [], refl, sym, ◌∙◌, subst, map, flat_map, length, Option, Some, None, is_some, eq-eqb, and_parts, Answer, Cause, Event, EndReason, Role, VbVerb, NodeVerb, LinkVerb, ClientVerb, AdminCall, AdminResult, PlainLink, PlainNode, PlainWorld, Outcome, Told, VbAnswer, VbCall, VbReply, after, after_job, with_states, row_at, link_number}
+use Rattle.transcript_law.proofs.Words.{ℕ, Bool, true, false, List, [], refl, sym, ◌∙◌, subst, map, flat_map, length, Option, Some, None, is_some, eq-eqb, and_parts, Answer, Cause, Event, EndReason, Role, VbVerb, NodeVerb, LinkVerb, ClientVerb, AdminCall, AdminResult, PlainLink, PlainNode, PlainWorld, Outcome, StreamName, Told, VbAnswer, VbCall, VbReply, after, after_job, with_states, row_at, link_number}
 use Rattle.transcript_law.proofs.Words.{admin_call, admin_line, admin_result, branch_lines, bytes_at, call_at, called_at, cut_off, cut_outcome, done, first_cause, no_node, node_outcome, on_node, own_link, refusal, refused_or, role_outcome, turned_after, turned_if, with_ended, with_node_at}
 use Rattle.disk_journals.specs.{Arms.{opens_all}, Books.{Book}}
 use Rattle.node_core.specs.{Calls.{own_lines, own_lines_if}, Admin.{admin_refused, promote_result, role_at, role_noted, role_result}, Dials.{DialResult, acknowledged_line, dial_due, untold}, Flushing.{FlushResult, flush_answered, flush_at, flush_if, flush_result, settled_by, settled_result}, Loading.{are_short, branch_in, start_job, start_result, starts_of}}
@@ -8,7 +8,7 @@ use Rattle.node_world.specs.{Arms.{fired_by, no_arm, placed, under_arm}, Dues.{d
 use Rattle.node_world.specs.{Power.{Starting, after_fire, all_numbers, burnt_arm, closed_line, closed_lines, crash_causes, crash_step, down_lines, dropped, end_line, end_lines, first_no, has_client, is_this_number, is_touched, loaded_node, not_opened, opened_at, opening_told, start_at, start_causes, start_if, start_one, start_step, started_by, starts_from, with_arm}, Turns.{posted_at, posted_in, role_called}, World.{cut_step}, Worlds.{arm_in, on_made}}
 use Rattle.node_world.specs.declared.arm.Fired.{Fired}
 use Rattle.node_world.specs.declared.arm.Fired.TheVariants as fired
-use Rattle.transcript_law.proofs.{invariant.LinkRows.{found_is_link}, lines.Calm.{AnyAsk, any_job, due_keeps, either}, lines.ClientLines.{AreOfClients, IsOfClients, bytes_of_clients, posts_of_clients}, verbs.NodeLines.{on_made_by, on_node_by}}
+use Rattle.transcript_law.proofs.{invariant.LinkRows.{found_is_link}, invariant.Ranged.{IsRanged, NodeRanged, NodeRangedIf, called_world, cut_ended_ranged}, lines.Calm.{AnyAsk, any_job, due_keeps, either}, lines.ClientLines.{AllKept, AreOfClients, IsOfClients, posts_of_clients}, verbs.NodeLines.{on_made_by, on_node_by}}
 use Rattle.transcript_law.specs.Tellings.{are_all, at_client, at_link, at_node, at_vb, is_any, is_none, is_of_start}
 use Rattle.vb_calls.proofs.{Conduct.{after_always}, JobConduct.{after_job_always, always_bind_job}}
 use Rattle.vb_calls.specs.Flushes.{appended_job, batch_of_reply, flush_job, part_job, role_job, taken_job, took}
@@ -62,6 +62,9 @@ module _ (q : Event → Bool) where
   pub are_node : (w : PlainWorld) (n : ℕ) (f : PlainNode → PlainNode × Told) → ((node : PlainNode) → Are (f node).1.events) → Are (on_node w n f).1.events
   are_node w n f each = on_node_by (λ o. Are o.1.events) w n f refl (λ node known. refl) (λ node known up. each node)
 
+  pub are_ranged : (w : PlainWorld) (n : ℕ) (f : PlainNode → PlainNode × Told) → IsRanged w → ((node : PlainNode) → NodeRanged n node → Are (f node).1.events) → Are (on_node w n f).1.events
+  are_ranged w n f ranged each = on_node_by (λ o. Are o.1.events) w n f refl (λ node known. refl) (λ node known up. each node (subst (NodeRangedIf n) known (ranged n)))
+
   -- lines of changes
   pub are_own : (n v : ℕ) → ((uuid : ℕ) (reply : VbReply) → Are (map (Event.Changed n v uuid) reply.changes)) → (o : Option VbReply) → Are (own_lines_if n v o)
   are_own n v each None = refl
@@ -90,11 +93,11 @@ module _ (q : Event → Bool) where
 
   -- what is posted to clients
   module _ (clients : (line : Event) → IsOfClients line → q line ≡ true) where
-    pub are_posts : (rs : List Resolved) (node : PlainNode) → Are (all_posted rs node).1
-    are_posts rs node = are_clients clients (all_posted rs node).1 (posts_of_clients rs node)
+    pub are_posts : (n : ℕ) (rs : List Resolved) (node : PlainNode) → AllKept n node → Are (all_posted rs node).1
+    are_posts n rs node kept = are_clients clients (all_posted rs node).1 (posts_of_clients n rs node kept)
 
-    pub are_posted : (told : FlushResult) (node : PlainNode) → Are told.events → Are (with_posts told node).1.events
-    are_posted told node a = are_more told.events (all_posted told.resolved node).1 a (are_posts told.resolved node)
+    pub are_posted : (n : ℕ) (told : FlushResult) (node : PlainNode) → AllKept n node → Are told.events → Are (with_posts told node).1.events
+    are_posted n told node kept a = are_more told.events (all_posted told.resolved node).1 a (are_posts n told.resolved node kept)
 
     pub changes : (n v uuid : ℕ) (reply : VbReply) → Are (map (Event.Changed n v uuid) reply.changes)
     changes n v uuid reply = are_map (Event.Changed n v uuid) reply.changes (λ c. clients (Event.Changed n v uuid c) tt)
@@ -107,8 +110,8 @@ module _ (q : Event → Bool) where
         by answer.Done = changes n v reply.branch reply
         by other = refl
 
-    settles : (n v : ℕ) (c : VbCall) (node : PlainNode) → (let x = call_at node.vbs v c (node.vbs v) in Are (with_posts (settled_result n v x.1) (with_states node x.0)).1.events)
-    settles n v c node = let x = call_at node.vbs v c (node.vbs v) in are_posted (settled_result n v x.1) (with_states node x.0) (are_settled n v x.1)
+    settles : (n v : ℕ) (c : VbCall) (node : PlainNode) → AllKept n node → (let x = call_at node.vbs v c (node.vbs v) in Are (with_posts (settled_result n v x.1) (with_states node x.0)).1.events)
+    settles n v c node kept = let x = call_at node.vbs v c (node.vbs v) in are_posted n (settled_result n v x.1) (with_states node x.0) kept (are_settled n v x.1)
 
     -- a change of role
     module _ (n v : ℕ) (branch : (uuid : ℕ) (parent : Option ℕ) (fork high : ℕ) → q (Event.Branch n v uuid parent fork high) ≡ true) (turn : (r : Role) → q (Event.Role n v r) ≡ true) (cuts : (l : ℕ) → q (Event.Ended l EndReason.Cut) ≡ true) where
@@ -142,18 +145,18 @@ module _ (q : Event → Bool) where
         are_cut None w1 = refl
         are_cut (Some link) w1 = are_cons (Event.Ended (link_number link) EndReason.Cut) [] (cuts (link_number link)) refl
 
-        posted : (w3 : PlainWorld) (t : Told) (rs : List Resolved) → Are t.events → Are (posted_in n rs (w3, t)).1.events
-        posted w3 t rs a = by (w3.nodes n)
+        posted : (w3 : PlainWorld) (t : Told) (rs : List Resolved) → IsRanged w3 → Are t.events → Are (posted_in n rs (w3, t)).1.events
+        posted w3 t rs ranged a = by (w3.nodes n) (ranged n)
           where
-            by : (o : Option PlainNode) → Are (posted_at n rs w3 t o).1.events
-            by None = a
-            by (Some node) = are_more t.events (all_posted rs node).1 a (are_posts rs node)
+            by : (o : Option PlainNode) → NodeRangedIf n o → Are (posted_at n rs w3 t o).1.events
+            by None r = a
+            by (Some node) r = are_more t.events (all_posted rs node).1 a (are_posts n rs node r.own)
 
-        by_ended : (o : Option (List ℕ)) (w1 : PlainWorld) (told : AdminResult) → Are told.events → Are (turned_if n v w o (w1, told)).1.events
-        by_ended None w1 told a = a
-        by_ended (Some ids) w1 told a =
+        by_ended : (o : Option (List ℕ)) (w1 : PlainWorld) (told : AdminResult) → IsRanged w1 → Are told.events → Are (turned_if n v w o (w1, told)).1.events
+        by_ended None w1 told ranged a = a
+        by_ended (Some ids) w1 told ranged a =
             let w2 : PlainWorld = with_ended n v ids w1 in let own = own_link n v w2.links in
-            posted (cut_off own w2).0 (record { events = (cut_off own w2).1 ++ told.events; answer = told.answer }) told.resolved (are_more (cut_off own w2).1 told.events (are_cut own w2) a)
+            posted (cut_off own w2).0 (record { events = (cut_off own w2).1 ++ told.events; answer = told.answer }) told.resolved (cut_ended_ranged n v ids w1 ranged) (are_more (cut_off own w2).1 told.events (are_cut own w2) a)
 
         module _ (called : (node : PlainNode) → Are (called_at n v asked node).1.events) where
           called_are : (node : PlainNode) → Are (role_called n v asked node).1.events
@@ -163,12 +166,12 @@ module _ (q : Event → Bool) where
               by true = refl
               by false = called (placed v node)
 
-          roles : Are (role_outcome n v asked w).1.events
-          roles = by (w.nodes n)
+          roles : IsRanged w → Are (role_outcome n v asked w).1.events
+          roles ranged = by (w.nodes n) refl
             where
-              by : (o : Option PlainNode) → Are (turned_after n v w (node_outcome w n no_node o (role_called n v asked))).1.events
-              by None = refl
-              by (Some node) = let x = role_called n v asked node in by_ended x.1.ended (with_node_at w n x.0) x.1 (called_are node)
+              by : (o : Option PlainNode) → w.nodes n ≡ o → Are (turned_after n v w (node_outcome w n no_node o (role_called n v asked))).1.events
+              by None e = refl
+              by (Some node) e = let x = role_called n v asked node in by_ended x.1.ended (with_node_at w n x.0) x.1 (called_world w n v asked node e ranged) (called_are node)
 
 -- any line passes
 pub all_pass : (lines : List Event) → Are is_any lines
@@ -323,12 +326,14 @@ module _ (w : PlainWorld) (n v : ℕ) where
   clients_only (Event.Changed m u uuid change) c = refl
   clients_only (Event.Reply m k bytes) c = refl
   clients_only (Event.Closed m k) c = refl
+  clients_only (Event.Asked (StreamName.Client m k) u q ask high log said) c = refl
   clients_only other c = absurd c
 
   clients_done : (line : Event) → IsOfClients line → at_vb n v VbVerb.Done line ≡ true
   clients_done (Event.Changed m u uuid change) c = refl
   clients_done (Event.Reply m k bytes) c = refl
   clients_done (Event.Closed m k) c = refl
+  clients_done (Event.Asked (StreamName.Client m k) u q ask high log said) c = refl
   clients_done other c = absurd c
 
   -- each change of role has one table
@@ -339,6 +344,7 @@ module _ (w : PlainWorld) (n v : ℕ) where
   clients_turn (Event.Changed m u uuid change) c = refl
   clients_turn (Event.Reply m k bytes) c = refl
   clients_turn (Event.Closed m k) c = refl
+  clients_turn (Event.Asked (StreamName.Client m k) u q ask high log said) c = refl
   clients_turn other c = absurd c
 
   turn_disk : OfDisk turns n
@@ -357,10 +363,10 @@ module _ (w : PlainWorld) (n v : ℕ) where
   turn_role r = λ i. same_place n v i || false || false
 
   role_tells : (why : Option Cause) (asked : AdminCall) → ((o : Option VbReply) → Are turns (admin_result n v asked o).events) → ((node : PlainNode) → Are turns (called_at n v asked node).1.events)
-      → Are turns (with_arm n w (refused_or why w (role_outcome n v asked w))).1.events
-  role_tells why asked call_are called =
+      → IsRanged w → Are turns (with_arm n w (refused_or why w (role_outcome n v asked w))).1.events
+  role_tells why asked call_are called ranged =
       are_armed turns n turn_disk w (refused_or why w (role_outcome n v asked w))
-      (are_unless turns why w (role_outcome n v asked w) (roles turns clients_turn n v turn_branch turn_role (λ l. refl) w asked call_are called))
+      (are_unless turns why w (role_outcome n v asked w) (roles turns clients_turn n v turn_branch turn_role (λ l. refl) w asked call_are called ranged))
 
   call_so : (asked : AdminCall) → ((o : Option VbReply) → Are turns (admin_result n v asked o).events) → (node : PlainNode) → Are turns (after_job (role_at n v asked) node.vbs node.shelves).1.events
   call_so asked call_are node = at_once turns clients_turn n v turn_branch turn_role (λ l. refl) w asked call_are node
@@ -413,10 +419,10 @@ module _ (w : PlainWorld) (n v : ℕ) where
       by flushed.DiskFailed s = (refl, refl)
       by other s = absurd s
 
-  done_so : (node : PlainNode) → Are (at_vb n v VbVerb.Done) (flush_line n v part.Done node).1.events
-  done_so node =
+  done_so : (node : PlainNode) → AllKept n node → Are (at_vb n v VbVerb.Done) (flush_line n v part.Done node).1.events
+  done_so node kept =
       let q = at_vb n v VbVerb.Done in let y = after_job (flush_at n v part.Done) node.vbs node.shelves in
-      are_posted q clients_done y.1 (with_kept node y.0) (flush_steps (λ told. Are q told.events) EndsSo n v part.Done node refl by (done_steps v))
+      are_posted q clients_done n y.1 (with_kept node y.0) kept (flush_steps (λ told. Are q told.events) EndsSo n v part.Done node refl by (done_steps v))
     where
       by : (came : Flushed) → EndsSo came → Are (at_vb n v VbVerb.Done) (flush_result n v came).events
       by (flushed.Done reply) s = are_own (at_vb n v VbVerb.Done) n v (λ uuid reply. changes (at_vb n v VbVerb.Done) clients_done n v uuid reply) reply
@@ -450,20 +456,20 @@ module _ (w : PlainWorld) (n v : ℕ) where
   made_tells r uuid rows = let make : PlainNode → PlainNode × Told = λ node. refused_or (first_cause (rows node)) node (vb_made n v r uuid node) in
       are_armed makes n made_disk w (on_node w n make) (are_node makes w n make (λ node. are_unless makes (first_cause (rows node)) node (vb_made n v r uuid node) (branch_are r uuid)))
 
-  pub chain_tells : (others : Members) (node : PlainNode) → Are (at_vb n v VbVerb.Tick) (chain_line n v others node).1.events
-  chain_tells others node = are_unless (at_vb n v VbVerb.Tick) (first_cause (chain_causes n v others node)) node (chain_made n v others node) (settles (at_vb n v VbVerb.Tick) clients_only n v (VbCall.Chain (record { active = n; others = others })) node)
+  pub chain_tells : (others : Members) (node : PlainNode) → AllKept n node → Are (at_vb n v VbVerb.Tick) (chain_line n v others node).1.events
+  chain_tells others node kept = are_unless (at_vb n v VbVerb.Tick) (first_cause (chain_causes n v others node)) node (chain_made n v others node) (settles (at_vb n v VbVerb.Tick) clients_only n v (VbCall.Chain (record { active = n; others = others })) node kept)
 
-  pub promote_tells : (uuid : ℕ) (why : Option Cause) → Are turns (with_arm n w (refused_or why w (role_outcome n v (AdminCall.Promote uuid) w))).1.events
-  promote_tells uuid why = let call = rises turns clients_turn n v turn_branch turn_role (λ l. refl) uuid in role_tells why (AdminCall.Promote uuid) call (call_so (AdminCall.Promote uuid) call)
+  pub promote_tells : (uuid : ℕ) (why : Option Cause) → IsRanged w → Are turns (with_arm n w (refused_or why w (role_outcome n v (AdminCall.Promote uuid) w))).1.events
+  promote_tells uuid why ranged = let call = rises turns clients_turn n v turn_branch turn_role (λ l. refl) uuid in role_tells why (AdminCall.Promote uuid) call (call_so (AdminCall.Promote uuid) call) ranged
 
-  pub follow_tells : (why : Option Cause) → Are turns (with_arm n w (refused_or why w (role_outcome n v AdminCall.Follow w))).1.events
-  follow_tells why = let call = follows turns clients_turn n v turn_branch turn_role (λ l. refl) in role_tells why AdminCall.Follow call (call_so AdminCall.Follow call)
+  pub follow_tells : (why : Option Cause) → IsRanged w → Are turns (with_arm n w (refused_or why w (role_outcome n v AdminCall.Follow w))).1.events
+  follow_tells why ranged = let call = follows turns clients_turn n v turn_branch turn_role (λ l. refl) in role_tells why AdminCall.Follow call (call_so AdminCall.Follow call) ranged
 
-  pub dead_tells : (why : Option Cause) → Are turns (with_arm n w (refused_or why w (role_outcome n v AdminCall.Dead w))).1.events
-  dead_tells why = let call = dies turns clients_turn n v turn_branch turn_role (λ l. refl) in role_tells why AdminCall.Dead call (call_so AdminCall.Dead call)
+  pub dead_tells : (why : Option Cause) → IsRanged w → Are turns (with_arm n w (refused_or why w (role_outcome n v AdminCall.Dead w))).1.events
+  dead_tells why ranged = let call = dies turns clients_turn n v turn_branch turn_role (λ l. refl) in role_tells why AdminCall.Dead call (call_so AdminCall.Dead call) ranged
 
-  pub tick_tells : (node : PlainNode) → Are (at_vb n v VbVerb.Tick) (tick_line n v node).1.events
-  tick_tells node = settles (at_vb n v VbVerb.Tick) clients_only n v (VbCall.Tick node.clock) node
+  pub tick_tells : (node : PlainNode) → AllKept n node → Are (at_vb n v VbVerb.Tick) (tick_line n v node).1.events
+  tick_tells node kept = settles (at_vb n v VbVerb.Tick) clients_only n v (VbCall.Tick node.clock) node kept
 
   pub seal_tells : (node : PlainNode) → Are is_none (admin_line n v AdminCall.Seal node).1.events
   seal_tells node = seal_so (call_at node.vbs v VbCall.Seal (node.vbs v)).1
@@ -471,8 +477,8 @@ module _ (w : PlainWorld) (n v : ℕ) where
   pub save_tells : Are (at_vb n v VbVerb.Save) (with_arm n w (on_node w n (save_line n v))).1.events
   save_tells = are_armed (at_vb n v VbVerb.Save) n save_disk w (on_node w n (save_line n v)) (are_node (at_vb n v VbVerb.Save) w n (save_line n v) save_so)
 
-  pub done_tells : Are (at_vb n v VbVerb.Done) (done_step w n v).1.events
-  done_tells = due_so (on_node w n (flush_line n v part.Done)) (are_node (at_vb n v VbVerb.Done) w n (flush_line n v part.Done) done_so)
+  pub done_tells : IsRanged w → Are (at_vb n v VbVerb.Done) (done_step w n v).1.events
+  done_tells ranged = due_so (on_node w n (flush_line n v part.Done)) (are_ranged (at_vb n v VbVerb.Done) w n (flush_line n v part.Done) ranged (λ node r. done_so node r.own))
 
   pub stat_tells : (node : PlainNode) → Are (at_vb n v VbVerb.Stat) (admin_line n v AdminCall.Stat node).1.events
   stat_tells node = stat_so (call_at node.vbs v VbCall.Stat (node.vbs v)).1
@@ -480,16 +486,7 @@ module _ (w : PlainWorld) (n v : ℕ) where
   pub log_tells : (node : PlainNode) → Are (at_vb n v VbVerb.Log) (admin_line n v AdminCall.Log node).1.events
   log_tells node = log_so (call_at node.vbs v VbCall.Log (node.vbs v)).1
 
--- ---- lines for a client or a link
-
-pub bytes_tells : (c : ℕ) (bytes : List ℕ) (node : PlainNode) → Are (at_client (ClientVerb.Bytes bytes)) (bytes_at c bytes node).1.events
-bytes_tells c bytes node = are_clients (at_client (ClientVerb.Bytes bytes)) by (bytes_at c bytes node).1.events (bytes_of_clients c bytes node)
-  where
-    by : (line : Event) → IsOfClients line → at_client (ClientVerb.Bytes bytes) line ≡ true
-    by (Event.Changed m u uuid change) o = refl
-    by (Event.Reply m k sent) o = refl
-    by (Event.Closed m k) o = refl
-    by other o = absurd o
+-- ---- lines for a link
 
 pub cut_tells : (w : PlainWorld) (l : ℕ) → Are (at_link l LinkVerb.Cut) (cut_step w l).1.events
 cut_tells w l = by (row_at link_number l w.links) refl

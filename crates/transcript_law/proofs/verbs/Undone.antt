@@ -1,6 +1,6 @@
 -- no line leaves undone what it is for: a `take` takes no change only where each was taken, behind a `down` all was acknowledged that is due, and a `pump` is idle only where all was put
 use Rattle.std.specs.Prelude.{◌≡◌, ◌<◌, ◌≤◌, ◌∷◌}
-use Rattle.transcript_law.proofs.Words.{ℕ, Bool, true, false, List, [], length, refl, ap, sym, ◌∙◌, subst, arith, nat_tests, Option, Some, None, cond, is_some, Answer, Cause, Chronicle, Event, LinkVerb, Plain, PlainNode, PlainWorld, Span, States, Verb, VbCall, VbVerb, Why}
+use Rattle.transcript_law.proofs.Words.{ℕ, Bool, true, false, List, [], length, refl, ap, sym, ◌∙◌, subst, arith, nat_tests, Option, Some, None, cond, is_some, Answer, Cause, Chronicle, ClientVerb, Event, LinkVerb, Plain, PlainNode, PlainWorld, Span, States, Verb, VbCall, VbVerb, Why}
 use Rattle.transcript_law.proofs.Words.{after_job, after_lines, call_at, list_any, on_node, rises_in, take_snapshots, verb_step, with_vb_at, IsIn, stays, wholes}
 use Rattle.transcript_law.proofs.{disks.Flushed.{flush_came}, invariant.Agreement.{Agrees, VbAgrees, all_rise}, invariant.JobSteps.{call_on, put_found}, invariant.Ranged.{IsRanged, NodeRanged, NodeRangedIf}, invariant.Seats.{seat}}
 use Rattle.transcript_law.proofs.{verbs.FlushLines.{There, disk, mine, some, there_at_vb}, verbs.NodeLines.{on_node_by}, verbs.DownLine.{down_leaves}, verbs.Pumping.{pump_leaves}, verbs.Settling.{steady}}
@@ -8,6 +8,8 @@ use Rattle.transcript_law.specs.Undone.{AllTaken, LeavesNone, NoneToAcknowledge,
 use Rattle.{node_core.specs.Flushing.{flush_if, flush_result}, node_world.specs.Nodes.{flush_line}, std.specs.List.{find}, std.specs.Prelude.{nat_lt}}
 use Rattle.vb_calls.specs.{Flushes.{batch_of_reply, take_job, taken_job, took}, Flushing.{batch_of, flush_from, unflushed_span}, Jobs.{Ended}, Shelves.{Flush, Idle, Out, Written, Shelves, with_shelf_at}, Spans.{all_spans}}
 use Rattle.vb_types.specs.declared.journal.FlushPart.TheVariants as part
+use Rattle.transcript_law.proofs.indexers.Pulled.{pull_leaves}
+use Rattle.vbucket.proofs.Ending.{takes_exactly}
 use Rattle.vbucket.specs.Laws.{Follow}
 
 -- where no span goes on above a seqno, none of what they hold lies above it
@@ -81,6 +83,7 @@ none_to_acknowledge w number other r a n z takes = tt
 
 none_to_put : (w : PlainWorld) (number : ℕ) (line : Verb) (r : Chronicle) → Agrees w r → (n : ℕ) → (let x = verb_step w number line in x.1.answer ≡ Answer.Pulled n Why.Idle → NoneToPut (after_lines r x.1.events) line)
 none_to_put w number (Verb.AtLink l (LinkVerb.Pump frames)) r a n z = pump_leaves take_snapshots w r l frames n a z
+none_to_put w number (Verb.AtClient n c (ClientVerb.Pull frames)) r a k z = pull_leaves take_snapshots takes_exactly w r n c frames k a z
 none_to_put w number other r a n z = tt
 
 pub leaves_none : (w : PlainWorld) (number : ℕ) (line : Verb) (r : Chronicle) → IsRanged w → Agrees w r → (let x = verb_step w number line in LeavesNone r line x.1.events x.1.answer)

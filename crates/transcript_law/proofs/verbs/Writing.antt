@@ -6,14 +6,14 @@ use Rattle.transcript_law.proofs.Words.{ℕ, Bool, true, false, List, [], refl, 
 use Rattle.transcript_law.proofs.Words.{nat_lt, All, cases_lt, nat_tests, All-push, WriteFits, Change, Doc, MAX_SEQ, LogEntry, Picture, image_of, Role, Status, Write, Position, upto, Rises, last_seq, fork_of, HasLast}
 use Rattle.transcript_law.proofs.Words.{append_assoc, HoldsAt, IsFront, Branch, hist, longer, ForksBelow, branch, branch_grow, ground, Member, Cluster, Move, SoundCluster, Leads, happens, start_cases, Own, Span}
 use Rattle.transcript_law.proofs.Words.{last_at, span_of, keeps, is_follower, stream_at, Sound, Plain, newest_branch, is_active, doc_at, growth, write_change, written_doc, new_cas, new_rev, PlainLink}
-use Rattle.transcript_law.proofs.Words.{producer_node, consumer_node, PlainNode, PlainWorld, vb_in, is_one_of, Chronicle, after_change, known_history, LawfulChange, option_map, Act, Op, holds_push}
+use Rattle.transcript_law.proofs.Words.{producer_node, consumer_node, PlainNode, PlainWorld, vb_in, is_one_of, Chronicle, after_change, known_history, LawfulChange, option_map, Act, IsIn, Op, holds_push}
 use Rattle.transcript_law.proofs.Words.{last_seq_le, grow_below, hist_grow_own, hist_grow_other, Forks, owned, own_joined, own_grown, act_of}
 use Rattle.transcript_law.proofs.invariant.Seats.{seat, seats_apart}
 use Rattle.transcript_law.proofs.invariant.Tables.{at_here, at_there, if_known}
 use Rattle.transcript_law.proofs.invariant.Trees.{ids_grow, told_grow, told_below, told_found, new_grow, is_told_grow}
 use Rattle.transcript_law.proofs.invariant.Wholes.{joined_opens, WholeTo, fork_held, whole_before, spanned_active}
 use Rattle.transcript_law.proofs.invariant.Agreement.{vb_of, DocFits, ActFits, ChangeFits, BranchAgrees, Writes, WritesIf, own_history, VbAgrees, AgreesAt, consumer_seat, producer_seat, LinkAgrees, IsLink, LinksDiffer, top, idle, AgreesIn, vb_row, vb_contents}
-use Rattle.transcript_law.proofs.invariant.Carrying.{Changed}
+use Rattle.transcript_law.proofs.invariant.{Carried.{all_there}, Carrying.{Changed, same_clients}, ClientsKept.{ConnsKept, Every, GoesOver, clients_kept, goes_agreed_at, spot_at}, ClientsWritten.{goes_written}, LinkFeeds.{feeds_same}}
 use Rattle.transcript_law.proofs.invariant.Carried.{places, numbers, not_both, kept_same, link_carried, StaysProducer, all_vbs}
 use Rattle.transcript_law.proofs.invariant.OneLink.{put_here, put_there}
 use Rattle.transcript_law.proofs.{invariant.Agreement.{RestsIn}, verbs.NodeLines.{vb_told}, invariant.Resting.{ends_again, rests_by}}
@@ -363,6 +363,36 @@ module _ (w : PlainWorld) (r : Chronicle) (cl : Cluster) (n v : ℕ) (node : Pla
           (λ m q e. e)
           (λ x i. ends_again w w' x changed.powers (a.ends x (subst (IsLink x) changed.linked i)))
 
+      -- another vBucket's streams of clients are of another branch
+      branch_apart : (m q : ℕ) → (m ≡ n → q ≡ v → ⊥) → Writes r m q (cl.nodes (seat m q)).br → (cl.nodes (seat m q)).br ≡ member.br → ⊥
+      branch_apart m q o x same =
+          let z : Some (m, q) ≡ Some (n, v) = sym x.writer ∙ ap r.writer_of same ∙ writer.writer in
+          o (ap node_in z) (ap vb_named z)
+        where
+          node_in : Option (ℕ × ℕ) → ℕ
+          node_in None = m
+          node_in (Some p) = p.0
+
+          vb_named : Option (ℕ × ℕ) → ℕ
+          vb_named None = q
+          vb_named (Some p) = p.1
+
+      conns : ConnsKept Every w w' r after
+      conns = record {
+        conns = λ m d left. same_clients w w' changed.powers m d;
+        known = λ m d left. refl;
+        opens = λ m d q k left has. ⊎_elim
+            (λ s. subst (λ j. GoesOver (spot_at w r j q) (spot_at w' after j q) k) (sym s.0) (subst (λ j. GoesOver (spot_at w r n j) (spot_at w' after n j) k) (sym s.1)
+            (goes_written w w' r after n v k member.br vb grown change there_is changed.here (record { active = refl; stream = refl; at = omega (arith, next) }) writer.branch refl
+            (at_here r.held n v (r.held n v ++ change ∷ [])) grown_branch (omega (arith, next)))))
+            (λ o.
+            let same = put_there cl.nodes (seat n v) (owned member change) (seat m q) (seats_apart m q n v o) in
+            goes_agreed_at w w' r after m q k (cl.nodes (seat m q)) (later.nodes (seat m q)) (vb_of w m q) refl (changed.there m q o) (a.vbs m q) (there m q o) (same_br (seat m q))
+            (λ x i. subst (λ (y : Member). IsIn x y.held) (sym same) i)
+            (λ x. hist_grow_other r.tree member.br change (cl.nodes (seat m q)).br (branch_apart m q o x) told_below_it))
+            (places n v m q);
+      }
+
       pub written : AgreesIn idle w' after later
       written = record {
         sound = still_sound;
@@ -383,4 +413,5 @@ module _ (w : PlainWorld) (r : Chronicle) (cl : Cluster) (n v : ℕ) (node : Pla
         };
         links = λ x i. linked x (subst (IsLink x) changed.linked i);
         differ = subst LinksDiffer (sym changed.linked) a.differ;
+        clients = clients_kept w w' r after 0 a.clients (all_there idle w r cl a) conns (λ k m q id has. inl (feeds_same w w' changed.linked k m q id has));
       }

@@ -1,0 +1,192 @@
+-- a request for a stream of a client is answered: what is known then, and that its line is lawful
+use Rattle.std.specs.Prelude.{◌≡◌, ◌∷◌, ◌++◌, take, drop}
+use Rattle.transcript_law.proofs.Words.{ℕ, true, false, List, [], refl, sym, ap, ◌∙◌, subst, inl, inr, append-nil, Option, Some, None, Event, Frame, LogEntry, RESPONSE, StreamAsk, AskAnswer, States, PlainNode, PlainWorld, PlainProducer, PlainStream, Chronicle, after_line, after_lines, begun, spelling, with_at}
+use Rattle.dcp_producer.proofs.{ClientAnswers.{ask_short}, Headers.{front_cut, front_left}}
+use Rattle.dcp_producer.specs.{Clients.{IsShortLog}, Cuts.{IsShort}, Producers.{Served, is_open, stream_at as kept_at}, Serving.{ask_line}}
+unfoldable use Rattle.dcp_producer.specs.Serving.{stream_answered}
+unfoldable use Rattle.mcbp_dcp.specs.DcpFrames.{dcp_frame}
+use Rattle.dcp_producer.specs.declared.desk.Desk.{Desk}
+use Rattle.node_core.specs.Clients.{PlainClient, delivered, front_len}
+unfoldable use Rattle.node_core.specs.Clients.{with_replies}
+use Rattle.transcript_law.proofs.indexers.{Hands.{Goes, HandedUp, frame_told, spelled_answer}, Known.{bytes_left, next_request, no_frames}, Passing.{agrees, before, behind, bytes_behind, cluster, own, so_far}}
+use Rattle.transcript_law.proofs.indexers.{Serving.{agrees_as, kept_past}, Steps.{ClientStep}, Streams.{AreOne}, Worlds.{OpensOwn, stepped, world_with}}
+use Rattle.transcript_law.proofs.invariant.{Agreement.{AgreesIn, answer_frame, idle}, ClientsTold.{ClientAgrees, KeptIs, setup_of}, Holdings.{vb_of}, OpenStreams.{Among, AreKept}, Tables.{at_here}}
+use Rattle.transcript_law.proofs.lines.Telling.{LawfulBefore, before_more, told_more}
+use Rattle.transcript_law.specs.{ClientFrames.{Request, ask_of, is_closed_by, request_in}, ClientStreams.{past_asked, past_request, unclosed}}
+use Rattle.transcript_law.specs.{LawfulClients.{RefusesBy, RefusesOwn}, StreamLaws.{LawfulSaid}, StreamsTold.{ClientKnown, ClientStream}}
+use Rattle.vb_events.specs.declared.event.StreamName.TheVariants as name
+
+-- its answer is a response
+answer_response : (opaque : ℕ) (log : List LogEntry) (said : AskAnswer) → (answer_frame opaque log said).magic ≡ RESPONSE
+unfolding dcp_frame
+answer_response opaque log said = by said
+  where
+    by : (said : AskAnswer) → (answer_frame opaque log said).magic ≡ RESPONSE
+    by AskAnswer.Go = refl
+    by (AskAnswer.Roll to) = refl
+    by (AskAnswer.Refuse code) = refl
+
+module _ (w : PlainWorld) (n c : ℕ) (node : PlainNode) (r : Chronicle) (f : Frame) (states : States) (lines : List Event) (client : PlainClient) (up : HandedUp w n c node r f states lines client) (ask : StreamAsk) (asks : ask_of f ≡ Some ask) where
+  abbrev pub p : PlainProducer
+  p = client.producer
+
+  abbrev pub s : Served
+  s = begun p
+
+  abbrev pub v : ℕ
+  v = f.vb_or_status
+
+  abbrev pub was : PlainClient
+  was = before w n c node r f states lines client up
+
+  abbrev pub old : PlainWorld
+  old = world_with w n c node states (Some was)
+
+  abbrev pub told : Chronicle
+  told = so_far w n c node r f states lines client up
+
+  abbrev pub mine : ClientAgrees old told n c was
+  mine = own w n c node r f states lines client up
+
+  -- what is known of the connection, and its next request
+  abbrev pub known : ClientKnown
+  known = told.clients_at n c
+
+  abbrev pub served : List Frame
+  served = mine.heard.served
+
+  abbrev pub request : Request
+  request = record { before = served; frame = f; ask = ask }
+
+  is_next : request_in known.bytes ≡ Some request
+  is_next = next_request known was.session client.session p.handshake p.handshake f up.goes.bytes up.first up.behind ask asks mine.heard
+
+  left_bytes : (past_request request v [] (AskAnswer.Refuse 0) known).bytes ≡ client.session.reader
+  left_bytes = bytes_left known was.session client.session p.handshake p.handshake f up.goes.bytes up.first up.behind ask asks mine.heard
+
+  -- the streams that are known, without those that were closed
+  abbrev pub left : ℕ → Option ClientStream
+  left = unclosed served known.streams
+
+  -- what is kept of a vBucket's stream whatever is answered, where that vBucket did not change
+  pub kept_left : (q : ℕ) → KeptIs told.tree (told.branch_at n q) (told.held n q) (vb_of old n q) false (left q) (kept_at q p.streams)
+  kept_left q = kept_past told.tree (told.branch_at n q) (told.held n q) (vb_of old n q) (is_closed_by served q) (known.streams q) (kept_at q p.streams) (mine.streams q)
+
+  -- none is open that the producer does not have
+  pub none_open : (q : ℕ) → kept_at q p.streams ≡ None → (g : ClientStream) → left q ≡ Some g → g.over ≡ false → ⊥
+  none_open q none g e still = by (left q) (kept_at q p.streams) none e (kept_left q)
+    where
+      by : (known : Option ClientStream) (kept : Option PlainStream) → kept ≡ None → known ≡ Some g → KeptIs told.tree (told.branch_at n q) (told.held n q) (vb_of old n q) false known kept → ⊥
+      by None kept k e x = cc
+      by (Some h) (Some stream) k e x = cc
+      by (Some h) None k e (inl z) = cc
+      by (Some h) None k e (inr over) = let same : h ≡ g = cc in let z : true ≡ false = sym over ∙ ap (λ (x : ClientStream). x.over) same ∙ still in cc
+
+  -- one that the producer has is known
+  pub held_open : (stream : PlainStream) → kept_at v p.streams ≡ Some stream → (g : ClientStream) × (left v ≡ Some g) × (g.over ≡ false)
+  held_open stream e = by (left v) (kept_at v p.streams) e refl (kept_left v)
+    where
+      by : (known : Option ClientStream) (kept : Option PlainStream) → kept ≡ Some stream → left v ≡ known → KeptIs told.tree (told.branch_at n v) (told.held n v) (vb_of old n v) false known kept → (g : ClientStream) × (left v ≡ Some g) × (g.over ≡ false)
+      by (Some g) (Some x) k is (still, s) = (g, is, s.over)
+      by None (Some x) k is none = absurd none
+      by known None k is s = cc
+
+  -- the request was answered so, which made this of the vBuckets and the producer
+  module _ (st : States) (end : PlainProducer) (log : List LogEntry) (high : ℕ) (said : AskAnswer) where
+    abbrev pub answer : Served
+    answer = stream_answered f ask (record s { end = end }) log high said
+
+    abbrev pub now : PlainClient
+    now = record client { producer = end }
+
+    abbrev pub new : PlainWorld
+    new = world_with w n c node st (Some now)
+
+    abbrev pub past : ClientKnown
+    past = past_request request v log said known
+
+    abbrev pub told_then : Chronicle
+    told_then = record told { clients_at = with_at told.clients_at n c past }
+
+    pub record Answers : Type 0 where
+      pub lawful : LawfulSaid told n v ask high log said
+      pub own : RefusesOwn (setup_of p.handshake) (left v) ask said
+      pub reason : RefusesBy (setup_of p.handshake) (told.role_at n v) (left v) ask said
+      pub short : IsShortLog log
+      pub step : ClientStep old new n c
+      pub opens : OpensOwn w n c node states st was now told past (cluster w n c node r f states lines client up) (agrees w n c node r f states lines client up) step
+      pub desk : end.desk ≡ p.desk
+      pub shaken : end.handshake ≡ p.handshake
+      pub kept : AreKept end
+      pub one : AreOne end.streams
+      pub opened : (stream : PlainStream) → Among stream end.streams → is_open p.handshake ≡ true
+      pub streams : (q : ℕ) → KeptIs told.tree (told.branch_at n q) (told.held n q) (vb_of new n q) false (past.streams q) (kept_at q end.streams)
+
+    module _ (a : Answers) where
+      agrees_now : ClientAgrees new told_then n c now
+      agrees_now = agrees_as new told_then n c now past (at_here told.clients_at n c past) (record {
+        conn = record { node = mine.conn.node; number = mine.conn.number; desk = a.desk ∙ mine.conn.desk };
+        alive = mine.alive;
+        kept = a.kept;
+        one = a.one;
+        opened = λ stream i. ap is_open a.shaken ∙ a.opened stream i;
+        silent = refl;
+        heard = record { served = []; front = []; bytes = left_bytes; frames = no_frames; none = refl; sets = mine.heard.sets ∙ ap setup_of (sym a.shaken) };
+        streams = a.streams;
+      })
+
+      -- the line of the request, and its answer directly behind it
+      abbrev line : Event
+      line = Event.Asked (name.Client n c) n v ask high log said
+
+      abbrev bytes : List ℕ
+      bytes = spelling (answer_frame f.opaque log said)
+
+      short : IsShort (answer_frame f.opaque log said)
+      short = ask_short log said f.opaque 0 a.short
+
+      line_told : after_line told line ≡ told_then
+      line_told = ap (λ o. record told { clients_at = with_at told.clients_at n c (past_asked o v log said known) }) is_next
+
+      both_told : after_lines told (line ∷ Event.Reply n c bytes ∷ []) ≡ told_then
+      both_told = ap (λ x. after_line x (Event.Reply n c bytes)) line_told ∙ frame_told n c bytes told_then (ap (λ (k : ClientKnown). k.told) (at_here told.clients_at n c past))
+
+      both_lawful : LawfulBefore told (line ∷ Event.Reply n c bytes ∷ [])
+      both_lawful more rest = (
+        record {
+          own_node = refl;
+          request = request;
+          next = is_next;
+          numbers = refl;
+          vb = refl;
+          answered = a.lawful;
+          own = subst (λ x. RefusesOwn x (left v) ask said) (sym mine.heard.sets) a.own;
+          reason = subst (λ x. RefusesBy x (told.role_at n v) (left v) ask said) (sym mine.heard.sets) a.reason;
+          frame = (more, refl);
+        },
+        (λ z. spelled_answer (answer_frame f.opaque log said) (answer_response f.opaque log said), rest),
+      )
+
+      -- so they are delivered
+      named_at : (d : Desk) → d ≡ record { stream = name.Client n c; node = n; base = d.base } → (x y : ℕ) → x ≡ n → y ≡ c → with_replies x y (ask_line d f ask log high said ∷ []) bytes ≡ line ∷ Event.Reply n c bytes ∷ []
+      unfolding with_replies
+      named_at d at x y s t =
+          (λ i. with_replies (s i) (t i) (ask_line (at i) f ask log high said ∷ []) bytes)
+          ∙ ap (λ b. line ∷ Event.Reply n c (take (front_len bytes) bytes) ∷ with_replies n c [] b) (ap (λ b. drop (front_len b) b) (sym (append-nil bytes)) ∙ front_left (answer_frame f.opaque log said) [] short)
+          ∙ ap (λ b. line ∷ Event.Reply n c b ∷ []) (ap (λ b. take (front_len b) b) (sym (append-nil bytes)) ∙ front_cut (answer_frame f.opaque log said) [] short)
+
+      is_delivered : delivered client.session.who answer ≡ line ∷ Event.Reply n c bytes ∷ []
+      unfolding with_replies stream_answered
+      is_delivered = named_at end.desk (a.desk ∙ mine.conn.desk ∙ (λ i. record { stream = name.Client n c; node = n; base = sym (ap (λ (d : Desk). d.base) (a.desk ∙ mine.conn.desk)) i })) client.session.who.node client.session.who.client mine.conn.node mine.conn.number
+
+      pub asked_goes : Goes w n c node r st (lines ++ delivered client.session.who answer) (behind w n c node r f states lines client up answer)
+      unfolding stream_answered
+      asked_goes = record {
+        lawful = subst (λ es. LawfulBefore r (lines ++ es)) (sym is_delivered) (before_more r lines (line ∷ Event.Reply n c bytes ∷ []) up.goes.lawful both_lawful);
+        agrees = (
+          cluster w n c node r f states lines client up,
+          subst (λ x. AgreesIn idle new x (cluster w n c node r f states lines client up)) (sym (ap (λ es. after_lines r (lines ++ es)) is_delivered ∙ told_more r lines (line ∷ Event.Reply n c bytes ∷ []) ∙ both_told))
+              (stepped w n c node states st was now told past (cluster w n c node r f states lines client up) (agrees w n c node r f states lines client up) a.step a.opens agrees_now),
+        );
+        bytes = bytes_behind w n c node r f states lines client up;
+      }

@@ -1,0 +1,192 @@
+-- a client's stream takes its next snapshot of its vBucket, and puts its marker, or waits
+use Rattle.std.specs.Prelude.{◌≡◌, ◌≤◌, ◌<◌, ◌^◌, ◌++◌, ◌∷◌, ◌==◌, if◌then◌else◌, slice_get}
+use Rattle.transcript_law.proofs.Words.{ℕ, StreamName, Change, Bool, true, false, List, [], length, refl, sym, ap, ◌∙◌, subst, Option, Some, None, eq-eqb, eqb-true, ne_eqb, Chronicle, Cluster, Event, Frame, Plain, PlainNode, PlainStream, PlainWorld, STATE_CHANGED, Served, Snapshot, Span, States, Stream, TakesSnapshots, Done, after, all_spans, end_span, plain_step, spelling, after_lines, stream_at, Sound, take_from, take_to, with_vb_at, VbReply}
+use Rattle.client_session.specs.Serving.{PlainSession}
+unfoldable use Rattle.mcbp_dcp.specs.DcpFrames.{dcp_frame}
+unfoldable use Rattle.dcp_producer.specs.Frames.{next_frame}
+use Rattle.mcbp_dcp.specs.declared.message.DcpMsg.TheVariants as msg
+use Rattle.dcp_producer.specs.Frames.{Next, close_sent, marker_flags, marker_next, next_by, over, place_requested, place_said, placed_next, quiet, reaches_end, take_answered, taken_next, with_snapshot}
+use Rattle.dcp_producer.specs.Pulling.{QuietOnes, frame_put, stream_went}
+use Rattle.dcp_producer.specs.declared.desk.Desk.{Desk}
+use Rattle.dcp_producer.specs.declared.next_frame.NextFrame.{NextFrame}
+use Rattle.dcp_producer.specs.declared.next_frame.NextFrame.TheVariants as next
+use Rattle.node_core.specs.Clients.{PlainClient}
+use Rattle.std.proofs.lemmas.Bool.{leb-true}
+use Rattle.transcript_law.proofs.indexers.{Ends.{Comes, ended_turn, has, known, moved_step, opens, reached_turn, vb_agrees}, Items.{item_turn}, Framed.{IsQuietNow, SoFar, client_of, mine, put_more, read, turned_so_far, went_agrees, world_of}, Marked.{marked_stream, marker_lawful}, Owning.{with_streams}, Stills.{quiet_stream}, Replacing.{others_replaced, replaced_same}, Replied.{header_is, marker_short, marker_vb, put_is}}
+use Rattle.transcript_law.proofs.invariant.{Agreement.{vb_of}, Carried.{sound_streams}, ClientsTold.{IsOpenFor, StreamIs}, OpenStreams.{Among}}
+use Rattle.transcript_law.proofs.links.{Marking.{moved_there, moved_vb, span_snapshot}, Sent.{not_found}}
+use Rattle.transcript_law.specs.{ClientStreams.{with_mark}, LawfulClients.{IsNextMarker, IsQuiet, LawfulClientMark}, StreamLaws.{FROM_MEMORY}, StreamsTold.{ClientKnown, ClientStream, StreamLine}}
+use Rattle.vb_calls.specs.Streams.{is_in_memory, place_reply}
+use Rattle.vb_calls.specs.States.{call_at}
+use Rattle.vb_calls.specs.declared.calls.VbCall.TheVariants.{Place, Take}
+use Rattle.vb_events.specs.declared.event.Event.TheVariants as event
+use Rattle.vb_events.specs.declared.event.StreamName.TheVariants as name
+use Rattle.vb_types.specs.declared.stream.Place.TheVariants.{Memory, WaitSaved}
+use Rattle.vbucket.specs.Takes.{IsSnapshot, TakesExactly}
+
+-- ---- states that are the same
+
+once_same : (states : States) (v : ℕ) (p : Plain) → states v ≡ Some p → with_vb_at states v p ≡ states
+once_same states v p there = λ i q. at q i
+  where
+    at : (q : ℕ) → with_vb_at states v p q ≡ states q
+    at q = elim (q == v) as (λ b. (q == v) ≡ b → (if b then Some p else states q) ≡ states q) [ true ↦ (λ e. sym there ∙ ap states (sym (eqb-true q v e))) | false ↦ (λ e. refl) ] refl
+
+-- ---- the line
+
+pub mark_lawful : (r : Chronicle) (n c : ℕ) (known : ClientKnown) (g : ClientStream) (t : PlainStream) (start end : ℕ) → known.streams t.vb ≡ Some g → t.vb < 2 ^ 16 → t.opaque ≡ g.opaque → IsNextMarker r.tree g start end
+    → (more : List Event) → LawfulClientMark r known n c start end FROM_MEMORY (event.Reply n c (spelling (dcp_frame (msg.SnapshotMarker start end FROM_MEMORY) t.opaque t.vb)) ∷ more)
+mark_lawful r n c known g t start end there small opaque marker more =
+    let (p, is, at) = put_is n c known (msg.SnapshotMarker start end FROM_MEMORY) g t.opaque t.vb more (marker_vb start end FROM_MEMORY t.opaque t.vb) small there opaque in
+    record { put = p; memory = refl; marker = subst (λ (y : ClientStream). IsNextMarker r.tree y start end) (sym is) marker }
+
+-- a marker, by where its snapshot came from
+abbrev marker_by : StreamName → Bool → Snapshot → NextFrame
+marker_by who disk snapshot = next.Put (msg.SnapshotMarker snapshot.start snapshot.end (marker_flags disk)) (event.Marked who snapshot.start snapshot.end (marker_flags disk))
+
+-- a snapshot up to the end of a span
+snapshot_is : TakesSnapshots → (vb : Plain) (id : ℕ) (o : Stream) (win : Span) → Sound vb → stream_at id vb.streams ≡ Some o → is_in_memory vb.floor o ≡ true → end_span o (all_spans vb.spans) vb.held ≡ Some win
+    → (stop : ℕ) × IsSnapshot vb o stop (span_snapshot vb o win) × ((take_to (Some win) o vb).0 ≡ moved_vb vb id stop)
+snapshot_is takes vb id o win sound found near ends =
+    let snapshot : Snapshot = span_snapshot vb o win in
+    let step : plain_step vb (Take id) ≡ take_to (Some win) o vb = ap (λ x. take_from x vb) found ∙ ap (λ b. take_to (if b then end_span o (all_spans vb.spans) vb.held else None) o vb) near ∙ ap (λ x. take_to x o vb) ends in
+    let (o', stop, found', is, after) = takes vb id snapshot sound (ap (λ x. x.1.answer) step) in
+    let both : Some o' ≡ Some o = sym found' ∙ found in let same : o' ≡ o = cc in
+    (stop, subst (λ x. IsSnapshot vb x stop snapshot) same is, sym (ap (λ x. x.0) step) ∙ after)
+
+module _ (w : PlainWorld) (r : Chronicle) (cl : Cluster) (n c : ℕ) (node : PlainNode) (session : PlainSession) (states : States) (s : Served) (g : SoFar w r cl n c node session states s) (q : QuietOnes) (t : PlainStream) (i : Among t s.end.streams) where
+  abbrev here : Chronicle
+  here = read w r cl n c node session states s g
+
+  abbrev now : PlainWorld
+  now = world_of w r cl n c node session states s
+
+  abbrev client : PlainClient
+  client = client_of w r cl n c node session s
+
+  abbrev pub Arrives : States × Next → Type 0
+  Arrives x = Comes w r cl n c node session states s g q t i x
+
+  -- nothing was put
+  quiet_turn : (waits : Bool) (states' : States) → states' ≡ states → (waits ≡ false → IsQuietNow w r cl n c node session here t) → Arrives (states', quiet waits t)
+  quiet_turn waits states' same still =
+      let again = replaced_same s.end.streams t (mine w r cl n c node session states s g).kept.rise i in
+      subst (λ x. Arrives (x, quiet waits t)) (sym same)
+      (let (so, lines) = turned_so_far w r cl n c node session states s g (stream_went t s) refl refl (ap (λ xs. with_streams client xs (stream_went t s).end) again) in record {
+        so = so;
+        read_is = ap (after_lines r) lines;
+        same = ap (λ xs. record s.end { streams = xs }) again;
+        waits = waits;
+        quiet_is = refl;
+        quiet = still;
+      })
+
+  module _ (going : t.ended ≡ false) where
+    abbrev x : IsOpenFor here.tree (here.branch_at n t.vb) (known w r cl n c node session states s g q t i).g t.id (vb_of now n t.vb)
+    x = opens w r cl n c node session states s g q t i going
+
+    there_is : states t.vb ≡ Some x.vb
+    there_is = has w r cl n c node session states s g q t i going
+
+    -- the marker of a snapshot
+    marker_turn : (stop : ℕ) (snapshot : Snapshot) → IsSnapshot x.vb x.stream stop snapshot → x.vb.floor ≤ x.stream.place → snapshot.disk ≡ false → length t.items ≤ t.next → reaches_end t.until t.marked ≡ false
+        → Arrives (with_vb_at (with_vb_at states t.vb x.vb) t.vb (moved_vb x.vb t.id stop), marker_next s.end.desk.stream t snapshot)
+    marker_turn stop snapshot is near disk whole unreached =
+        let k = known w r cl n c node session states s g q t i in
+        let f : Frame = dcp_frame (msg.SnapshotMarker snapshot.start snapshot.end FROM_MEMORY) t.opaque t.vb in
+        let left : PlainStream = with_snapshot t snapshot in
+        let s' : Served = frame_put f (event.Marked s.end.desk.stream snapshot.start snapshot.end FROM_MEMORY) (stream_went left s) in
+        let moved : Plain = moved_vb x.vb t.id stop in
+        let states' : States = with_vb_at (with_vb_at states t.vb x.vb) t.vb moved in
+        let m = mine w r cl n c node session states s g in
+        let named : s.end.desk.stream ≡ name.Client n c = ap (λ (d : Desk). d.stream) m.conn.desk in
+        let told : Event = event.Marked (name.Client n c) snapshot.start snapshot.end FROM_MEMORY in
+        let header = header_is f t.vb (marker_vb snapshot.start snapshot.end FROM_MEMORY t.opaque t.vb) k.is.small in
+        let after_is : states' t.vb ≡ Some moved = ap (λ b. if b then Some moved else with_vb_at states t.vb x.vb t.vb) (eq-eqb t.vb t.vb refl) in
+        let others : (j : ℕ) → (j ≡ t.vb → ⊥) → states' j ≡ states j = λ j ne. ap (λ b. if b then Some moved else (if b then Some x.vb else states j)) (ne_eqb j t.vb ne) in
+        subst (λ flag. Arrives (states', (marker_by s.end.desk.stream flag snapshot, left))) (sym disk) (
+          put_more w r cl n c node session states s g t states' s' told f (StreamLine.Marks snapshot.start snapshot.end) (ap (λ y. s.events ++ event.Marked y snapshot.start snapshot.end FROM_MEMORY ∷ []) named) refl
+              (marker_short snapshot.start snapshot.end FROM_MEMORY t.opaque t.vb) refl header (λ u j ne. others_replaced left s.end.streams u j ne) refl
+              (mark_lawful here n c (here.clients_at n c) k.g t snapshot.start snapshot.end k.known k.is.small k.is.opaque (marker_lawful now here cl g.agrees n t.vb k.g t k.is x stop snapshot is near going whole unreached))
+              (went_agrees w r cl n c node session states s g t left i refl refl (spelling f) (StreamLine.Marks snapshot.start snapshot.end) header states' s'
+              (moved_step w r cl n c node session states s g q t i going moved (Some (client_of w r cl n c node session s')) states'
+              (record { sound = sound_streams x.vb moved.streams (vb_agrees w r cl n c node session states s g q t i going).sound; alone = refl; others = λ y ne. moved_there t.id stop y x.vb.streams ne }) after_is others)
+              others refl refl k
+              (subst (λ o. StreamIs here.tree (here.branch_at n t.vb) (here.held n t.vb) o (with_mark here.tree snapshot.end k.g) left) (sym after_is)
+              (marked_stream now here cl g.agrees n t.vb k.g t k.is x stop snapshot is near))),
+          refl,
+        )
+
+    -- ---- what its vBucket says
+
+    -- the states after a take, and what it comes to
+    abbrev taken_turn : Plain × VbReply → States × Next
+    taken_turn step = (with_vb_at (with_vb_at states t.vb x.vb) t.vb step.0, taken_next s.end.desk.stream t step.1.answer)
+
+    -- the vBucket was asked where the stream's changes come from
+    placed_turn : after (place_requested s.end.desk.stream t) states ≡ after (placed_next s.end.desk.stream t (place_said (Some (place_reply x.vb.floor (Some x.stream))))) (with_vb_at states t.vb x.vb)
+    placed_turn =
+        ap (λ o. after (placed_next s.end.desk.stream t (place_said (call_at states t.vb (Place t.id) o).1)) (call_at states t.vb (Place t.id) o).0) there_is
+        ∙ ap (λ o. after (placed_next s.end.desk.stream t (place_said (Some (place_reply x.vb.floor o)))) (with_vb_at states t.vb x.vb)) x.opened
+
+    -- not all of them are in memory: the stream waits
+    waited_turn : is_in_memory x.vb.floor x.stream ≡ false → after (place_requested s.end.desk.stream t) states ≡ (with_vb_at states t.vb x.vb, quiet true t)
+    waited_turn far = placed_turn ∙ ap (λ b. after (placed_next s.end.desk.stream t (Some (if b then Memory else WaitSaved))) (with_vb_at states t.vb x.vb)) far
+
+    -- all are: it was asked for the next snapshot
+    asked_turn : is_in_memory x.vb.floor x.stream ≡ true → after (place_requested s.end.desk.stream t) states ≡ taken_turn (take_to (end_span x.stream (all_spans x.vb.spans) x.vb.held) x.stream x.vb)
+    asked_turn near =
+        let first : States = with_vb_at states t.vb x.vb in
+        placed_turn
+        ∙ ap (λ b. after (placed_next s.end.desk.stream t (Some (if b then Memory else WaitSaved))) first) near
+        ∙ ap (λ o. ((call_at first t.vb (Take t.id) o).0, take_answered s.end.desk.stream t (call_at first t.vb (Take t.id) o).1)) (ap (λ b. if b then Some x.vb else states t.vb) (eq-eqb t.vb t.vb refl))
+        ∙ ap (λ o. taken_turn (take_from o x.vb)) x.opened
+        ∙ ap (λ b. taken_turn (take_to (if b then end_span x.stream (all_spans x.vb.spans) x.vb.held else None) x.stream x.vb)) near
+
+    once : with_vb_at states t.vb x.vb ≡ states
+    once = once_same states t.vb x.vb there_is
+
+    twice : with_vb_at (with_vb_at states t.vb x.vb) t.vb x.vb ≡ states
+    twice = ap (λ y. with_vb_at y t.vb x.vb) once ∙ once
+
+    -- nothing was given: it has no more to put
+    still_now : TakesExactly → length t.items ≤ t.next → reaches_end t.until t.marked ≡ false → is_in_memory x.vb.floor x.stream ≡ true → end_span x.stream (all_spans x.vb.spans) x.vb.held ≡ None → IsQuietNow w r cl n c node session here t
+    still_now exactly whole unreached near ends y there =
+        let k = known w r cl n c node session states s g q t i in
+        let same : Some k.g ≡ Some y = sym k.known ∙ there in let one : k.g ≡ y = cc in
+        subst (IsQuiet here n t.vb) one (quiet_stream now here cl g.agrees n t.vb k.g t k.is x exactly going whole unreached near ends)
+
+    -- what comes behind the items of the snapshot that was taken last
+    place_turn : TakesSnapshots → TakesExactly → length t.items ≤ t.next → reaches_end t.until t.marked ≡ false → Arrives (after (place_requested s.end.desk.stream t) states)
+    place_turn takes exactly whole unreached = in_memory (is_in_memory x.vb.floor x.stream) refl
+      where
+        by : is_in_memory x.vb.floor x.stream ≡ true → (o : Option Span) → end_span x.stream (all_spans x.vb.spans) x.vb.held ≡ o → Arrives (taken_turn (take_to o x.stream x.vb))
+        by near None ends = quiet_turn false (with_vb_at (with_vb_at states t.vb x.vb) t.vb x.vb) twice (λ e. still_now exactly whole unreached near ends)
+        by near (Some win) ends =
+            let (stop, is, moved) = snapshot_is takes x.vb t.id x.stream win (vb_agrees w r cl n c node session states s g q t i going).sound x.opened near ends in
+            subst (λ vb. Arrives (with_vb_at (with_vb_at states t.vb x.vb) t.vb vb, marker_next s.end.desk.stream t (span_snapshot x.vb x.stream win))) (sym moved)
+            (marker_turn stop (span_snapshot x.vb x.stream win) is (leb-true x.vb.floor x.stream.place near) refl whole unreached)
+
+        in_memory : (b : Bool) → is_in_memory x.vb.floor x.stream ≡ b → Arrives (after (place_requested s.end.desk.stream t) states)
+        in_memory false far = subst Arrives (sym (waited_turn far)) (quiet_turn true (with_vb_at states t.vb x.vb) once (λ e. cc))
+        in_memory true near = subst Arrives (sym (asked_turn near)) (by near (end_span x.stream (all_spans x.vb.spans) x.vb.held) refl)
+
+    -- its end, or the next marker
+    going_turn : TakesSnapshots → TakesExactly → length t.items ≤ t.next → (b : Bool) → reaches_end t.until t.marked ≡ b → Arrives (after (if b then close_sent t else place_requested s.end.desk.stream t) states)
+    going_turn takes exactly whole true reached = reached_turn w r cl n c node session states s g q t i going whole reached
+    going_turn takes exactly whole false unreached = place_turn takes exactly whole unreached
+
+  -- behind the items: the stream's end, or the next marker
+  more_turn : TakesSnapshots → TakesExactly → length t.items ≤ t.next → (b : Bool) → t.ended ≡ b
+      → Arrives (after (if b then Done (over STATE_CHANGED t) else if reaches_end t.until t.marked then close_sent t else place_requested s.end.desk.stream t) states)
+  more_turn takes exactly whole true ended = ended_turn w r cl n c node session states s g q t i ended whole
+  more_turn takes exactly whole false going = going_turn going takes exactly whole (reaches_end t.until t.marked) refl
+
+  -- the next frame of the stream
+  pub next_turn : TakesSnapshots → TakesExactly → Arrives (after (next_frame s.end.desk.stream t) states)
+  unfolding next_frame
+  next_turn takes exactly = by (slice_get t.items t.next) refl
+    where
+      by : (o : Option Change) → slice_get t.items t.next ≡ o → Arrives (after (next_by s.end.desk.stream t o) states)
+      by None e = more_turn takes exactly (not_found t.items t.next e) t.ended refl
+      by (Some item) e = item_turn w r cl n c node session states s g q t i item e
