@@ -78,6 +78,7 @@ def line_entries(stages: list[Stage]) -> Iterator[Entry]:
 
 def link_entries(stages: list[Stage], has_writes: bool) -> Iterator[Entry]:
     asks = {"stroke": GREY, "stroke_width": 1.5, "stroke_dasharray": "4 3", "marker_end": "url(#tip)"}
+    is_client = any(not isinstance(link.number, int) for stage in stages for link, _ in [*stage.asked, *stage.put])
     yield line("a link's request, from a seqno, and the answer", **asks)
     yield line("what arrives over a link", stroke=GREY, stroke_width=1.5, marker_end="url(#tip)")
     if has(stages, "counted"):
@@ -86,7 +87,9 @@ def link_entries(stages: list[Stage], has_writes: bool) -> Iterator[Entry]:
         yield told("a client waits, and is told success", GO)
         yield told("that it is not known", OPEN)
         yield told("no, or nothing", LOST)
-    yield Entry("#5 is line 5 of the script, L1 is link 1, on 11 is on branch 11", 0, lambda picture, x, y: None)
+    client = ", C0.1 is client 1 of node 0" if is_client else ""
+    words = f"#5 is line 5 of the script, L1 is link 1{client}, on 11 is on branch 11"
+    yield Entry(words, 0, lambda picture, x, y: None)
 
 
 def draw(picture: Picture, followed: Followed, top: float) -> float:

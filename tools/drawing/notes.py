@@ -89,7 +89,7 @@ class Notes:
             if (link.producer < link.consumer) == is_above:
                 seqnos = [str(event.seqno) for it, event in stage.acks if it is link]
                 acks = f", acks {' '.join(seqnos)}" if seqnos else ""
-                notes.append(bold(f"L{link.number}{acks}", GO if seqnos else GREY))
+                notes.append(bold(f"{link.name}{acks}", GO if seqnos else GREY))
         return notes
 
     def counting(self, place: Place, stage: Stage, is_above: bool) -> list[Note]:
@@ -109,7 +109,7 @@ class Notes:
         notes += self.sending(place, stage)
         for link, event in (it for it in stage.ended if it[0].consumer == place):
             colour = LOST if event.why in BAD_ENDS else GREY
-            notes.append(bold(f"× L{link.number} ends: {event.why}", colour))
+            notes.append(bold(f"× {link.name} ends: {event.why}", colour))
             if link.underway:
                 notes.append(Note(f"{counted(len(link.underway), 'change', 'changes')} not arrived", colour))
             if link.acks:
@@ -118,7 +118,7 @@ class Notes:
 
     def asking(self, link: Link, event: Event) -> list[Note]:
         branch = f" on {short(event.branch)}" if event.branch else ""
-        asked = Note(f"L{link.number} from {event.start}{branch}", GREY)
+        asked = Note(f"{link.name} from {event.start}{branch}", GREY)
         match event.answer:
             case "go":
                 return [asked, bold("go on", GO)]
@@ -135,5 +135,5 @@ class Notes:
             count = sum(event.kind == "item" for event in events)
             words = [short(" ".join(marks), 18)] if marks else [f"{count} more"] * bool(count)
             words += ["end"] * any(event.kind == "fin" for event in events)
-            notes.append(Note(f"L{link.number} sends {' '.join(words)}", GREY))
+            notes.append(Note(f"{link.name} sends {' '.join(words)}", GREY))
         return notes

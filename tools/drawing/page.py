@@ -1,5 +1,7 @@
 """A whole picture: its title, what shapes mean, and of each vBucket number the branches, durable writes and lanes."""
 
+from itertools import takewhile
+
 from drawing import fates, key
 from drawing.branches import Branches
 from drawing.lanes import Lanes
@@ -42,7 +44,7 @@ text {{ font: 12px sans-serif; fill: {INK}; }}
 
 
 def frame_label(frame: Frame) -> str:
-    words = [it for it in words_of(frame)[:3] if not it.startswith("--")]
+    words = list(takewhile(lambda word: not word.startswith("--"), words_of(frame)[:3]))
     levels = [f"level {it.level}" for it in requirements(frame.framing) if it.level is not None]
     return " ".join(words + levels)
 

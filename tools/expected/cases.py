@@ -44,6 +44,12 @@ BY_HAND = {
     " 00000005 0000000000000006 0000000000000001 0000000000000002 0003 6b",
     "set k v --flags 1 --expiration 2 --vb 4 --datatype 3 --opaque 5 --cas 6 --durability 1,7": "08 01 04 01 08 03 0004"
     " 0000000e 00000005 0000000000000006 13 01 0007 00000001 00000002 6b 76",
+    "close-stream --vb 1 --opaque 2": "80 52 0000 00 00 0001 00000000 00000002 0000000000000000",
+    "get-failover-log --vb 1 --opaque 2": "80 54 0000 00 00 0001 00000000 00000002 0000000000000000",
+    "dcp-noop --opaque 2": "80 5c 0000 00 00 0000 00000000 00000002 0000000000000000",
+    "buffer-acknowledgement --bytes 258 --opaque 2": "80 5d 0000 04 00 0000 00000004 00000002 0000000000000000 00000102",
+    "answer get-failover-log --log 22:2,11:0 --status success --opaque 3": "81 54 0000 00 00 0000 00000020 00000003"
+    " 0000000000000000 0000000000000016 0000000000000002 000000000000000b 0000000000000000",
     "stream-end --reason 2": "80 55 0000 04 00 0000 00000004 00000000 0000000000000000 00000002",
     "answer get v --status success --flags 0": "81 00 0000 04 00 0000 00000005 00000000 0000000000000000 00000000 76",
     "answer get --status key-enoent --opaque 7": "81 00 0000 00 00 0001 00000000 00000007 0000000000000000",
@@ -109,6 +115,8 @@ BAD_WORDS = [
 BAD_GROUPS = [
     "nothing", "role 0 0", "role 0 x active", "role 0 0 active 1", "role 0 0 alive", "reply 0 1 8", "logged 0 0 1",
     "change 0 0 1 1 put 61", "closed 0 \xff", "ask L1 0 7 0 0 9 0 0 0 2 11:0 maybe", "item 1 2 set 61",
+    "item C1 2 set 61", "item C1.2.3 2 set 61", "mark C0.01 0 1 1", "mark c0.1 0 1 1", "fin C.1 2", "end C0.1 cut",
+    "got 0 0 C0.1 1 remove 61 1 1",
     "doc 61 1 1 0 0 0 3G", "ok x", "ok 1 more", "ok 18446744073709551616", "no", "#2", "ok\nok",
 ]
 BAD_TRANSCRIPTS = [

@@ -7,6 +7,7 @@ LINES = {
     "clock 3 170000": "The clock of node 3 is to stand at 170000 ns.",
     "client 3 41": "Client 41 is to connect to node 3.",
     "bytes 3 41 800a": "Client 41 sends to node 3:",
+    "pull 3 41 80": "Client 41 of node 3 is to be sent 80 frames of its streams.",
     "hang 3 41": "Client 41 is to leave node 3.",
     "link 505 3 9 702 0 follow": "Node 9 is to follow vBucket 702 of node 3, over link 505.",
     "link 505 3 9 702 11 follow":
@@ -74,6 +75,7 @@ EVENTS = {
     "change 3 702 1101 25 abort 6b 23":
     'vBucket 702 of node 3 makes change 25 on branch 1101: "k", prepared at 23, is aborted.',
     "reply 3 41 810a": "Node 3 answers client 41:",
+    "reply 3 41 8056": "Node 3 sends client 41:",
     "closed 3 41": "Node 3 closes the connection of client 41.",
     "ask L505 3 702 1101 21 18446744073709551615 20 22 0 29 2202:28,1101:0 go":
     "Link 505 asks vBucket 702 of node 3 for branch 1101 from 21 on, without end, being inside the snapshot "
@@ -83,6 +85,15 @@ EVENTS = {
     "failover log with branch 2202 from 28 on, and is at 29.",
     "ask L505 3 702 1101 21 27 21 21 0 29 2202:28 refuse 34":
     "Link 505 asks vBucket 702 of node 3 for branch 1101 from 21 on, to 27: refused, erange.",
+    "ask C3.41 3 702 1101 21 27 20 22 0 29 2202:28,1101:0 go":
+    "Client 41 asks vBucket 702 of node 3 for branch 1101 from 21 on, to 27, being inside the snapshot 20 to 22: "
+    "granted.",
+    "ask C3.41 3 702 0 0 18446744073709551615 0 0 1 29 2202:28 refuse 131":
+    "Client 41 asks vBucket 702 of node 3 for any branch from 0 on, without end: refused, not-supported.",
+    "mark C3.41 21 27 1": "Client 41 of node 3 is sent a snapshot from 21 to 27.",
+    "item C3.41 21 set 6b": 'Client 41 of node 3 is sent change 21: "k" is set.',
+    "fin C3.41 0": "Client 41 of node 3 is sent a stream's end: its stream reached the end that was asked for.",
+    "fin C3.41 2": "Client 41 of node 3 is sent a stream's end: its vBucket changed its role.",
     "mark L505 21 27 1": "Link 505 carries a snapshot from 21 to 27.",
     "item L505 21 set 6b": 'Link 505 carries change 21: "k" is set.',
     "item L505 22 remove 6b": 'Link 505 carries change 22: "k" is removed.',
@@ -138,6 +149,9 @@ ANSWERS = {
     ("pump 505 80", "ok 2 full"): "2 frames were put, and the window is shut.",
     ("pump 505 80", "ok 1 wait-saved"): "1 frame was put, and what comes next is in the journal alone.",
     ("pump 505 80", "ok 80 -"): "80 frames were put.",
+    ("pull 3 41 80", "ok 6 idle"): "6 frames were put, and there is no more to put now.",
+    ("pull 3 41 80", "ok 0 full"): "0 frames were put, and the window is shut.",
+    ("pull 3 41 80", "ok 80 -"): "80 frames were put.",
     ("node 3", "ok"): "",
 }
 REFUSALS = {
@@ -208,6 +222,9 @@ REFUSALS = {
     "Nothing is done: client 41 is connected to node 3 already. No cause before it holds: node 3 is made and "
     "it is running.",
     ("bytes 3 41 800a", "link-closed"):
+    "Nothing is done: client 41 is not connected to node 3. No cause before it holds: node 3 is made and it "
+    "is running.",
+    ("pull 3 41 80", "link-closed"):
     "Nothing is done: client 41 is not connected to node 3. No cause before it holds: node 3 is made and it "
     "is running.",
     ("hang 3 41", "link-closed"):
@@ -284,6 +301,13 @@ FRAMES = {
     "get k --framing 0x2307 --opaque 4": 'GET: framing extra id 2, 1 of 3 bytes, key "k", opaque 4',
     f"set k 0x80{'ff' * 64}": f'SET: key "k", value 0x80{"ff" * 63}... (65 bytes)',
     "open n1 --number 2 --flags 3 --opaque 4": 'OPEN: number 2, flags 3, name "n1", opaque 4',
+    "close-stream --vb 3 --opaque 4": "CLOSE-STREAM: vBucket 3, opaque 4",
+    "get-failover-log --vb 3 --opaque 4": "GET-FAILOVER-LOG: vBucket 3, opaque 4",
+    "answer get-failover-log --log 22:2,11:1 --status success --opaque 7":
+    "GET-FAILOVER-LOG answered success: log entry branch 22, made at 2, log entry branch 11, made at 1, opaque 7",
+    "answer get-failover-log --status not-my-vbucket --opaque 7": "GET-FAILOVER-LOG answered not-my-vbucket: opaque 7",
+    "dcp-noop --opaque 4": "DCP-NOOP: opaque 4",
+    "buffer-acknowledgement --bytes 5 --opaque 4": "BUFFER-ACKNOWLEDGEMENT: bytes 5, opaque 4",
 }
 # What is said of writes that wait in corpus/durable/numbers-differ, in its order.
 WAITING = [

@@ -57,6 +57,10 @@ FAULTS = {
     " wanted is follow: link L M N V BUF follow",
     b"up 1 1000000001": 'word 3 "1000000001" is above 1000000000;'
     " wanted is a number of bytes from 0 to 1000000000: up L B",
+    b"pull 0 1 0": 'word 4 "0" is below 1; wanted is a number of frames from 1 to 1000000: pull N C K',
+    b"pull 0 1 1000001": 'word 4 "1000001" is above 1000000;'
+    " wanted is a number of frames from 1 to 1000000: pull N C K",
+    b"pull 0 1000 1": 'word 3 "1000" is above 999; wanted is a client from 0 to 999: pull N C K',
     b"pump 1 0": 'word 3 "0" is below 1; wanted is a number of frames from 1 to 1000000: pump L K',
     b"pump 1 1000001": 'word 3 "1000001" is above 1000000; wanted is a number of frames from 1 to 1000000: pump L K',
     b"fail 0 1000000001": 'word 3 "1000000001" is above 1000000000;'
@@ -72,19 +76,63 @@ FAULTS = {
 GOOD = [
     b"node 15", b"vb 15 1023 active 18446744073709551615", b"vb 0 0 active 0", b"chain 0 0", b"chain 15 1023 15 - 0",
     b"clock 0 18446744073709551615", b"client 0 999", b"bytes 0 999 aF", b"link 0 0 0 0 0 follow",
-    b"link 999 15 15 1023 4294967295 follow", b"up 0 1000000000", b"down 999 0", b"pump 999 1000000", b"pump 0 1",
+    b"link 999 15 15 1023 4294967295 follow", b"up 0 1000000000", b"down 999 0", b"pump 999 1000000", b"pump 0 1", b"pull 15 999 1000000", b"pull 0 0 1",
     b"stop 0 1000000000 fill 255", b"stop 0 0 fill 0", b"fail 0 0", b"crash 0 new", b"start 15", b"start 0" + b" 0" * 64,
 ]  # fmt: skip
 
 BEGUN = "node 3\nclient 3 41\n"
+OPENED = f"{BEGUN}@open 3 41 x --flags 1\n"
 # A script with frames in words, and the notes.
 NOTES = {
     "node 3\n@0x99 3 41": "",
     BEGUN + "@get 3 41 a\n@hello 3 41 --features json\n@get 3 41 a --datatype 1\n@noop 3 41": "",
     BEGUN + "@0x99 3 41": "line 3, note: frame 1, opcode 0x99, will be refused, UnknownCommand (0x0081):"
-    " no command of a client has the opcode 0x99",
-    BEGUN + "@stream-request 3 41": "line 3, note: frame 1, STREAM-REQUEST, will be refused, UnknownCommand (0x0081):"
-    " no command of a client has the opcode 0x53",
+    " neither a command of a client nor DCP has the opcode 0x99",
+    # Messages of DCP: behind OPEN, before it, and with what no producer takes.
+    OPENED + "@control 3 41 connection_buffer_size 4294967295\n@control 3 41 set_noop_interval 0\n"
+    "@control 3 41 enable_noop true\n@control 3 41 enable_sync_writes false\n@control 3 41 consumer_name x\n"
+    "@stream-request 3 41\n@close-stream 3 41\n@get-failover-log 3 41\n@dcp-noop 3 41 --magic 0x08\n"
+    "@buffer-acknowledgement 3 41 --bytes 7": "",
+    BEGUN + "@stream-request 3 41\n@open 3 41 x --flags 0\n@dcp-noop 3 41\n@open 3 41 x --flags 1\n@dcp-noop 3 41\n"
+    "hang 3 41\nclient 3 41\n@dcp-noop 3 41": "line 3, note: frame 1, STREAM-REQUEST, will be refused, Einval (0x0004):"
+    " there was no OPEN on the connection\n"
+    "line 4, note: frame 1, OPEN, will be refused, NotSupported (0x0083): the flags of OPEN are 1, and these are 0\n"
+    "line 5, note: frame 1, DCP-NOOP, will be refused, Einval (0x0004): there was no OPEN on the connection\n"
+    "line 10, note: frame 1, DCP-NOOP, will be refused, Einval (0x0004): there was no OPEN on the connection",
+    OPENED + "@open 3 41 y --flags 1": "line 4, note: frame 1, OPEN, will be refused, Einval (0x0004):"
+    " there was an OPEN on the connection",
+    BEGUN + "@open 3 41 x --flags 2": "line 3, note: frame 1, OPEN, will be refused, Einval (0x0004):"
+    " the flags of OPEN are 1, and these are 2",
+    BEGUN + "@open 3 41 --flags 1": "line 3, note: frame 1, OPEN, will be refused, Einval (0x0004):"
+    " a name has 1 to 250 bytes, and this one has 0",
+    OPENED + "@dcp-noop 3 41 --datatype 1": "line 4, note: frame 1, DCP-NOOP, will be refused, Einval (0x0004):"
+    " a client's message of DCP has the datatype 0, and this one has 1",
+    OPENED + "@dcp-noop 3 41 --framing 0x1101": "line 4, note: frame 1, DCP-NOOP, will be refused, Einval (0x0004):"
+    " a message of DCP has no framing extras, and this one has 2 bytes",
+    OPENED + "@buffer-acknowledgement 3 41 --extras 0x01": "line 4, note: frame 1, BUFFER-ACKNOWLEDGEMENT, will be"
+    " refused, Einval (0x0004): BUFFER-ACKNOWLEDGEMENT has extras of 4 bytes, and these have 1 byte",
+    OPENED + "@close-stream 3 41 --key k": "line 4, note: frame 1, CLOSE-STREAM, will be refused, Einval (0x0004):"
+    " CLOSE-STREAM has no key, and this one has 1 byte",
+    OPENED + "@close-stream 3 41 --value vv": "line 4, note: frame 1, CLOSE-STREAM, will be refused, Einval (0x0004):"
+    " CLOSE-STREAM has no value, and this one has 2 bytes",
+    OPENED + "@snapshot-marker 3 41": "line 4, note: frame 1, SNAPSHOT-MARKER, will be refused, Einval (0x0004):"
+    " no producer takes SNAPSHOT-MARKER",
+    OPENED + "@0x5b 3 41": "line 4, note: frame 1, opcode 0x5b, will be refused, Einval (0x0004):"
+    " no producer takes the opcode 0x5b",
+    OPENED + "@control 3 41 marker_version 2": "line 4, note: frame 1, CONTROL, will be refused, Einval (0x0004):"
+    " CONTROL has no such parameter",
+    OPENED + "@control 3 41 connection_buffer_size 007": "line 4, note: frame 1, CONTROL, will be refused,"
+    " Einval (0x0004): CONTROL's parameter connection_buffer_size does not take this value",
+    OPENED + f"@control 3 41 consumer_name {'k' * 251}": "line 4, note: frame 1, CONTROL, will be refused,"
+    " Einval (0x0004): CONTROL's parameter consumer_name does not take this value",
+    OPENED + "@control 3 41 enable_noop yes": "line 4, note: frame 1, CONTROL, will be refused,"
+    " Einval (0x0004): CONTROL's parameter enable_noop does not take this value",
+    OPENED + "@stream-request 3 41 --flags 3": "line 4, note: frame 1, STREAM-REQUEST, will be refused,"
+    " Einval (0x0004): the flags of STREAM-REQUEST are 0, and these are 3",
+    OPENED + "@stream-request 3 41 --flags 1": "line 4, note: frame 1, STREAM-REQUEST, will be refused,"
+    " NotSupported (0x0083): a client does not take a vBucket over, which the flags 1 ask for",
+    OPENED + "@seqno-acknowledged 3 41 --seqno 7": "line 4, note: frame 1, SEQNO-ACKNOWLEDGED, will be refused,"
+    " NotSupported (0x0083): a client acknowledges no seqnos",
     BEGUN + "@get 3 41 a --datatype 2": "line 3, note: frame 1, GET, will be refused, Einval (0x0004):"
     " a datatype is 0 or 1, and this one is 2",
     BEGUN + "@get 3 41 a --datatype 1": "line 3, note: frame 1, GET, will be refused, Einval (0x0004):"
@@ -136,11 +184,11 @@ NOTES = {
     BEGUN + "bytes 3 41 12\nclient 3 41\n@0x99 3 41": "line 3, note: no frame begins here, BadMagic:"
     " the first byte is 0x12; the node will close the connection\n"
     "line 5, note: frame 1, opcode 0x99, will be refused, UnknownCommand (0x0081):"
-    " no command of a client has the opcode 0x99",
+    " neither a command of a client nor DCP has the opcode 0x99",
     # Behind a line that arms the node the connection may be gone, and behind a crash it is.
     BEGUN + "stop 3 5 old\n@0x99 3 41\nclient 3 41\n@0x99 3 41\ncrash 3 old\nclient 3 41\n@0x99 3 41\nstart 3\n"
     "client 3 41\n@0x99 3 41": "line 12, note: frame 1, opcode 0x99, will be refused, UnknownCommand (0x0081):"
-    " no command of a client has the opcode 0x99",
+    " neither a command of a client nor DCP has the opcode 0x99",
     # The first start may have failed.
     BEGUN + "crash 3 old\nstart 3\nclient 3 41\nstart 3\n@0x99 3 41": "",
     # A durable write may hold the fault up, and with it the end of the connection.
@@ -148,5 +196,5 @@ NOTES = {
     "@0x99 3 41": "line 4, note: no frame begins here, BadMagic: the first byte is 0x12;"
     " the node will close the connection\n"
     "line 9, note: frame 1, opcode 0x99, will be refused, UnknownCommand (0x0081):"
-    " no command of a client has the opcode 0x99",
+    " neither a command of a client nor DCP has the opcode 0x99",
 }

@@ -114,6 +114,15 @@ NOTES = {
     ],
 }
 
+# Of corpus/indexer/numbers-differ: what client 52 of node 3 asks vBucket 702 for, and is sent.
+CLIENT_NOTES = [
+    (16, "C3.52 from 0 / go on"),
+    (19, "C3.52 sends 0–2"),
+    (22, "C3.52 sends 1 more"),
+    (26, "C3.52 from 1 on 1101 / go on"),
+    (29, "C3.52 sends 0–2"),
+]
+
 # The bars of waits: the node, the line of the prepare or of a refusal, that of the answer, the row, and the words.
 WAITS = {
     ("waits", 70): [

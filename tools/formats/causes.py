@@ -98,10 +98,10 @@ CAUSES = (
     ),
     Cause(
         "link-closed",
-        ("bytes", "hang", *LINKS),
+        ("bytes", "pull", "hang", *LINKS),
         "link {link} is not open",
         "link {link} is open",
-        {verb: ("client {client} is not connected to node {node}", "") for verb in ("bytes", "hang")},
+        {verb: ("client {client} is not connected to node {node}", "") for verb in ("bytes", "pull", "hang")},
     ),
     Cause("batch-out", ("take",), "a batch was taken or appended before, and is not done"),
     Cause(

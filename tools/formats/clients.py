@@ -4,7 +4,8 @@ from dataclasses import dataclass
 from typing import Iterator
 
 from formats import wire
-from formats.refusals import Refusal, asks_for_json, is_durable, refusal
+from formats.dcp_refusals import Refusal
+from formats.refusals import asks_for_json, is_durable, refusal
 from formats.script import Line
 from formats.wire import Frame
 
@@ -26,6 +27,7 @@ class Inbox:
     held: bytes = b""
     line: int = 0
     has_json: bool = False
+    is_open: bool = False
     is_durable: bool = False
 
     def take(self, held: bytes, line: int) -> list[Sent]:
@@ -36,9 +38,10 @@ class Inbox:
     def sent(self, frame: Frame) -> Sent:
         if frame.is_answer:
             return Sent(frame, None)
-        sent = Sent(frame, refusal(frame, self.has_json))
+        sent = Sent(frame, refusal(frame, self.has_json, self.is_open))
         if sent.refusal is None:
             self.is_durable |= is_durable(frame)
+            self.is_open |= frame.row.name == "open"
             if frame.row.name == "hello":
                 self.has_json = asks_for_json(frame)
         return sent

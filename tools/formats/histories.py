@@ -4,8 +4,8 @@ from dataclasses import dataclass, field, replace
 from functools import cached_property
 
 from formats import Complaint
-from formats.transcript import Event
-from formats.wire import Log
+from formats.transcript import Connection, Event
+from formats.wire import Log, number
 
 LOG_LIMIT = 25
 # A vBucket, and a node that has it.
@@ -85,14 +85,18 @@ class Holding:
 
 @dataclass
 class Link:
-    """A link from its first event to its end. Its ends are unknown until an event tells."""
+    """A link from its first event to its end, whose ends are unknown until an event tells; or a client's stream."""
 
-    number: int
+    number: Connection
     producer: Place = UNKNOWN
     consumer: Place = UNKNOWN
     underway: list[int] = field(default_factory=list)
     acks: list[int] = field(default_factory=list)
     sent_back: int | None = None
+
+    @property
+    def name(self) -> str:
+        return f"L{self.number}" if isinstance(self.number, int) else "C{}.{}".format(*self.number)
 
 
 @dataclass(frozen=True)
@@ -156,6 +160,9 @@ class Histories:
     holdings: dict[Place, Holding] = field(default_factory=dict)
     stages: list[Stage] = field(default_factory=list)
     links: dict[int, Link] = field(default_factory=dict)
+    # Those of clients, by connection and vBucket; and what a client's stream is told to put till its frame comes.
+    streams: dict[tuple[Connection, int], Link] = field(default_factory=dict)
+    told: Event | None = None
 
     def is_kept(self, vb: int, branch: int, seqno: int) -> bool:
         """Whether an active vBucket or a replica has a branch's change at the end, or that of one that took it over."""
@@ -189,6 +196,12 @@ class Histories:
 
     def link(self, number: int) -> Link:
         return self.links.setdefault(number, Link(number))
+
+    def carrier(self, stream: Connection, vb: int) -> Link:
+        """A link, or a client's stream of a vBucket."""
+        if isinstance(stream, int):
+            return self.link(stream)
+        return self.streams.setdefault((stream, vb), Link(stream, (vb, stream[0])))
 
     def take(self, stage: Stage, event: Event) -> None:
         """Follows an event of a stage."""
@@ -235,20 +248,29 @@ class Histories:
         self.moved(stage, place, at=event.seqno, start=event.seqno, end=event.seqno)
 
     def on_ask(self, stage: Stage, event: Event) -> None:
-        link = self.link(event.stream)
+        link = self.carrier(event.stream, event.vb)
         link.producer = event.vb, event.node
         link.sent_back = event.to if event.answer == "roll" else None
         stage.asked.append((link, event))
 
     def on_mark(self, stage: Stage, event: Event) -> None:
-        stage.put.append((self.link(event.stream), event))
+        if isinstance(event.stream, int):
+            stage.put.append((self.link(event.stream), event))
+        else:
+            self.told = event
 
     def on_item(self, stage: Stage, event: Event) -> None:
-        link = self.link(event.stream)
-        link.underway.append(event.seqno)
-        stage.put.append((link, event))
+        if isinstance(event.stream, int):
+            self.link(event.stream).underway.append(event.seqno)
+        self.on_mark(stage, event)
 
     on_fin = on_mark
+
+    def on_reply(self, stage: Stage, event: Event) -> None:
+        """The frame that a client's stream puts names the vBucket."""
+        if self.told:
+            stage.put.append((self.carrier(self.told.stream, number(event.held[6:8])), self.told))
+        self.told = None
 
     def on_adopt(self, stage: Stage, event: Event) -> None:
         place = self.place(event)
@@ -261,7 +283,7 @@ class Histories:
         self.moved(stage, place, start=event.start, end=event.end)
 
     def on_got(self, stage: Stage, event: Event) -> None:
-        place, link = self.place(event), self.link(event.stream)
+        place, link = self.place(event), self.link(event.link)
         link.consumer = place
         link.underway = [seqno for seqno in link.underway if seqno > event.seqno]
         stage.carried += [link] if link not in stage.carried else []
@@ -284,16 +306,16 @@ class Histories:
         self.moved(stage, place, at=event.to, start=event.to, end=event.to)
 
     def on_end(self, stage: Stage, event: Event) -> None:
-        stage.ended.append((self.links.pop(event.stream, Link(event.stream)), event))
+        stage.ended.append((self.links.pop(event.link, Link(event.link)), event))
 
     def on_ack(self, stage: Stage, event: Event) -> None:
-        link = self.link(event.stream)
+        link = self.link(event.link)
         link.consumer = self.place(event)
         link.acks.append(event.seqno)
         stage.acks.append((link, event))
 
     def on_acked(self, stage: Stage, event: Event) -> None:
-        link = self.link(event.stream)
+        link = self.link(event.link)
         link.producer = self.place(event)
         link.acks = link.acks[1:]
         stage.counted.append((link, event))

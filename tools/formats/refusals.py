@@ -2,17 +2,12 @@
 
 from typing import Iterator
 
+from formats.dcp_refusals import Refusal, dcp_refusals, is_dcp, sized
 from formats.wire import BY_OPCODE, DATATYPES, DURABILITY, FEATURES, LEVELS, STATUSES, Frame, requirements
 
 WRITES = ("set", "add", "replace", "delete")
 COMMANDS = (*WRITES, "get", "noop", "hello")
 KEY_LIMIT, VALUE_LIMIT = 250, 20_971_520
-# A status by its name, and what the request has that it should not.
-Refusal = tuple[str, str]
-
-
-def sized(count: int) -> str:
-    return "1 byte" if count == 1 else f"{count:,} bytes"
 
 
 def is_client_command(frame: Frame) -> bool:
@@ -21,7 +16,7 @@ def is_client_command(frame: Frame) -> bool:
 
 def command_faults(frame: Frame) -> Iterator[Refusal]:
     if not is_client_command(frame):
-        yield "unknown-command", f"no command of a client has the opcode {frame.opcode:#04x}"
+        yield "unknown-command", f"neither a command of a client nor DCP has the opcode {frame.opcode:#04x}"
 
 
 def datatype_faults(frame: Frame, has_json: bool) -> Iterator[Refusal]:
@@ -87,9 +82,9 @@ def refusals(frame: Frame, has_json: bool) -> Iterator[Refusal]:
     yield from size_faults(frame)
 
 
-def refusal(frame: Frame, has_json: bool) -> Refusal | None:
+def refusal(frame: Frame, has_json: bool, is_open: bool) -> Refusal | None:
     """Why the request is refused whatever the vBucket is, or None where that depends on the vBucket."""
-    return next(refusals(frame, has_json), None)
+    return next(dcp_refusals(frame, is_open) if is_dcp(frame) else refusals(frame, has_json), None)
 
 
 def status_text(name: str) -> str:

@@ -11,6 +11,7 @@ OPERANDS = {
     "clock": ["node", "time"],
     "client": ["node", "client"],
     "bytes": ["node", "client", "hex"],
+    "pull": ["node", "client", "count"],
     "hang": ["node", "client"],
     "link": ["link", "producer", "consumer", "vb", "buffer", "mode"],
     "up": ["link", "count"],

@@ -3,7 +3,7 @@
 from formats.causes import refused_sentence
 from formats.dissect import shown
 from formats.script import Line
-from formats.transcript import Event
+from formats.transcript import Connection, Event
 from formats.wire import LEVELS, NO_END, REASONS, STATUSES, Log, name_of
 
 LINES = {
@@ -11,6 +11,7 @@ LINES = {
     "clock": "The clock of node {node} is to stand at {time} ns.",
     "client": "Client {client} is to connect to node {node}.",
     "bytes": "Client {client} sends to node {node}:",
+    "pull": "Client {client} of node {node} is to be sent {count} frames of its streams.",
     "hang": "Client {client} is to leave node {node}.",
     "up": "At most {count} bytes of link {link} are to reach its producer.",
     "down": "At most {count} bytes of link {link} are to reach its consumer.",
@@ -165,7 +166,8 @@ def branch_sentence(event: Event, owner: str) -> str:
 def ask_sentence(event: Event, owner: str) -> str:
     end = "without end" if event.end == NO_END else f"to {event.end}"
     branch = f"branch {event.branch}" if event.branch else "any branch"
-    asked = f"Link {event.stream} asks {owner} for {branch} from {event.start} on, {end}"
+    who = f"Link {event.stream}" if isinstance(event.stream, int) else f"Client {event.stream[1]}"
+    asked = f"{who} asks {owner} for {branch} from {event.start} on, {end}"
     if event.snap_start != event.snap_end:
         asked += f", being inside the snapshot {event.snap_start} to {event.snap_end}"
     match event.answer:
@@ -176,16 +178,22 @@ def ask_sentence(event: Event, owner: str) -> str:
     return f"{asked}: refused, {name_of(event.status, STATUSES)}."
 
 
+def carrier(stream: Connection) -> str:
+    """Whom a frame of a stream is for, and that it is sent."""
+    return f"Link {stream} carries" if isinstance(stream, int) else f"Client {stream[1]} of node {stream[0]} is sent"
+
+
 def stream_sentence(event: Event) -> str | None:
     match event.kind:
         case "mark":
-            return f"Link {event.stream} carries a snapshot from {event.start} to {event.end}."
+            return f"{carrier(event.stream)} a snapshot from {event.start} to {event.end}."
         case "item":
-            return f"Link {event.stream} carries change {event.seqno}: {item_phrase(event)}."
+            return f"{carrier(event.stream)} change {event.seqno}: {item_phrase(event)}."
         case "fin":
-            return f"Link {event.stream} carries its stream's end: {REASONS.get(event.reason, event.reason)}."
+            whose = "its" if isinstance(event.stream, int) else "a"
+            return f"{carrier(event.stream)} {whose} stream's end: {REASONS.get(event.reason, event.reason)}."
         case "end":
-            return f"Link {event.stream} ends: {ENDS.get(event.why, event.why)}."
+            return f"Link {event.link} ends: {ENDS.get(event.why, event.why)}."
     return None
 
 
@@ -205,13 +213,13 @@ def vbucket_sentence(event: Event) -> str:
         case "range":
             return f"{owner} enters the snapshot from {event.start} to {event.end}."
         case "got":
-            return f"{owner} takes change {event.seqno} of link {event.stream}: {change_phrase(event)}."
+            return f"{owner} takes change {event.seqno} of link {event.link}: {change_phrase(event)}."
         case "rolled":
             return f"{owner}, sent back to {event.named}, goes back to {event.to}."
         case "ack":
-            return f"{owner} acknowledges {event.seqno} on link {event.stream}; its disk has all up to {event.saved}."
+            return f"{owner} acknowledges {event.seqno} on link {event.link}; its disk has all up to {event.saved}."
         case "acked":
-            return f"{owner} counts that node {event.member} holds all up to {event.seqno}, by link {event.stream}."
+            return f"{owner} counts that node {event.member} holds all up to {event.seqno}, by link {event.link}."
         case "batch":
             return batch_sentence(event, owner)
         case "logged":
@@ -244,7 +252,8 @@ def shown_sentence(event: Event, owner: str) -> str:
 def event_sentence(event: Event) -> str:
     match event.kind:
         case "reply":
-            return f"Node {event.node} answers client {event.client}:"
+            does = "answers" if event.is_answer else "sends"
+            return f"Node {event.node} {does} client {event.client}:"
         case "closed":
             return f"Node {event.node} closes the connection of client {event.client}."
         case "failed":

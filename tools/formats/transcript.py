@@ -6,7 +6,7 @@ from typing import BinaryIO, Iterator
 
 from formats import Complaint
 from formats.script import Script, is_number
-from formats.wire import Log
+from formats.wire import ANSWER, Log
 
 DOCUMENT = "key cas revision flags expiration datatype value"
 ACTS = {
@@ -28,14 +28,14 @@ KINDS = {
     "fin": "stream reason",
     "adopt": "node vb log",
     "range": "node vb start end",
-    "got": "node vb stream CHANGE",
-    "ack": "stream node vb seqno saved",
-    "acked": "stream node vb member seqno",
+    "got": "node vb link CHANGE",
+    "ack": "link node vb seqno saved",
+    "acked": "link node vb member seqno",
     "rolled": "node vb named to",
     "batch": "node vb start end at count",
     "failed": "node",
     "stopped": "node",
-    "end": "stream why",
+    "end": "link why",
     "shown": "node vb role branch at start end docs preps",
     "logged": "node vb log",
     "stat": "node vb checkpoints items cursors saved high",
@@ -46,11 +46,20 @@ ANSWERS = {"go": "", "roll": "to", "refuse": "status"}
 ROLES = ("active", "replica", "pending", "dead")
 
 
+# A stream's connection: a link, or a node and a client of it.
+Connection = int | tuple[int, int]
+
+
 class Event(SimpleNamespace):
     """An event line: its `text`, its `kind`, and the fields of its kind by name."""
 
     text: str
     kind: str
+
+    @property
+    def is_answer(self) -> bool:
+        """Whether a `reply` answers a request; else its frame is a stream's."""
+        return self.held[:1] == bytes([ANSWER])
 
 
 @dataclass
@@ -91,7 +100,12 @@ def value_of(field: str, text: str) -> object:
             return text
         case "parent" if text == "-":
             return None
-        case "stream":
+        case "stream" if text[:1] == "C":
+            node, client = map(int, filter(is_number, text[1:].split(".")))
+            if text != f"C{node}.{client}":
+                raise ValueError
+            return node, client
+        case "stream" | "link":
             if text[:1] != "L":
                 raise ValueError
             text = text[1:]

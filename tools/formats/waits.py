@@ -231,7 +231,7 @@ class Waits:
     def on_ack(self, event: Event) -> list[str]:
         """A replica acknowledges: who waits for that at the link's other end."""
         self.holder(event.vb, event.node).saved = event.saved
-        place = event.vb, self.producers.get(event.stream, -1)
+        place = event.vb, self.producers.get(event.link, -1)
         active = self.holders.get(place)
         if active is None or not active.is_active or event.node not in active.chain:
             return []
@@ -252,6 +252,8 @@ class Waits:
         return [still_text(holder, it) for it in counted]
 
     def on_reply(self, event: Event) -> list[str]:
+        if not event.is_answer:
+            return []
         self.served = event.node, event.client
         place, seqno = self.waiting.pop(self.served, (None, 0))
         if place is None:

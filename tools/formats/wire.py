@@ -48,6 +48,10 @@ ROWS = (
     Row("hello", 0x1F, "name", "features", answer_value="features"),
     Row("open", 0x50, "name", extras=(("number", 4), ("flags", 4))),
     Row("control", 0x5E, "parameter", "value"),
+    Row("close-stream", 0x52),
+    Row("get-failover-log", 0x54, answer_value="log"),
+    Row("dcp-noop", 0x5C),
+    Row("buffer-acknowledgement", 0x5D, extras=(("bytes", 4),)),
     Row("stream-request", 0x53, extras=(("flags", 4), ("reserved", 4), *ASKED), answer_value="log"),
     Row("stream-end", 0x55, extras=(("reason", 4),)),
     Row("snapshot-marker", 0x56, extras=(("start", 8), ("end", 8), ("flags", 4))),
@@ -58,6 +62,8 @@ ROWS = (
     Row("commit", 0x62, "key", extras=SETTLED),
     Row("abort", 0x63, "key", extras=SETTLED),
 )
+# The opcodes of DCP. 0x5b, which sets a vBucket's role, is the one without a row.
+DCP_OPCODES = (0x50, *range(0x52, 0x59), *range(0x5B, 0x5F), *range(0x60, 0x64))
 BY_NAME = {row.name: row for row in ROWS}
 BY_OPCODE = {row.opcode: row for row in ROWS}
 

@@ -50,6 +50,14 @@ class Connection:
     asked: list[tuple[int, Frame]] = field(default_factory=list)
     write: Write | None = None
 
+    def serve(self, answer: Frame | None = None) -> None:
+        """Forgets the acknowledgements of bytes in front, which have no answer, up to one that this one answers."""
+        while self.asked and self.asked[0][1].row.name == "buffer-acknowledgement":
+            frame = self.asked[0][1]
+            if answer and (answer.opcode, answer.opaque) == (frame.opcode, frame.opaque):
+                return
+            self.asked.pop(0)
+
 
 def write_of(frame: Frame, node: int, client: int, group: int) -> Write | None:
     """The durable write that a request is, or None."""
@@ -112,6 +120,7 @@ class Writes:
     def asked_for(self, event: Event) -> Write | None:
         """The write that a connection of the node is served with now."""
         for (node, client), connection in self.connections.items():
+            connection.serve()
             if node == event.node and connection.asked and not connection.write:
                 write = write_of(connection.asked[0][1], node, client, connection.asked[0][0])
                 if write and (write.vb, write.key) == (event.vb, event.key):
@@ -126,13 +135,16 @@ class Writes:
             write.settled.append(Settled(group, event.node, event.branch, event))
 
     def answer(self, group: int, event: Event) -> None:
-        connection = self.connections.get((event.node, event.client))
-        if not connection or not connection.asked:
+        connection, answer = self.connections.get((event.node, event.client)), frame_of(event.held)
+        if not connection or not answer.is_answer:
+            return
+        connection.serve(answer)
+        if not connection.asked:
             return
         asked, frame = connection.asked.pop(0)
         write = connection.write or write_of(frame, event.node, event.client, asked)
         if write:
-            write.answered = group, name_of(frame_of(event.held).place, STATUSES)
+            write.answered = group, name_of(answer.place, STATUSES)
             if not connection.write:
                 write.prepared_in = group
                 self.all.append(write)

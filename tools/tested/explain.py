@@ -168,7 +168,7 @@ class Waiting(unittest.TestCase):
         ambiguous, counts = STATUSES["sync-write-ambiguous"], {True: 0, False: 0}
         for base, _, group, waits in groups():
             for event in group.events:
-                if event.kind == "reply":
+                if event.kind == "reply" and event.is_answer:
                     status = wire.number(event.held[6:8])
                     place, seqno = waits.waiting.get((event.node, event.client), (None, 0))
                     settled = waits.holder(*place).settled.get(seqno) if place else None

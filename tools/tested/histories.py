@@ -42,9 +42,12 @@ class Followed(unittest.TestCase):
         count = 0
         requests.before(line, group)
         for event in group.events:
-            held = requests.connections.get((event.node, event.client)) if event.kind == "reply" else None
+            is_answer = event.kind == "reply" and event.is_answer
+            held = requests.connections.get((event.node, event.client)) if is_answer else None
             if held and held.asked:
-                answer, asked = frame_of(event.held), held.asked.pop(0)[1]
+                answer = frame_of(event.held)
+                held.serve(answer)
+                asked = held.asked.pop(0)[1]
                 self.assertEqual((answer.opcode, answer.opaque), (asked.opcode, asked.opaque), line.text)
                 count += 1
             if event.kind == "closed":

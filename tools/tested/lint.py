@@ -121,6 +121,12 @@ class Notes(unittest.TestCase):
         self.assertGreater(taken, 4000)
 
 
+def has_answer(sent: Sent) -> bool:
+    """A response has none, nor has an acknowledgement of bytes that is counted."""
+    is_counted = sent.frame.row.name == "buffer-acknowledgement" and sent.refusal is None
+    return not sent.frame.is_answer and not is_counted
+
+
 class Answered:
     """The frames of a stored script with their answers, of the connections that lint follows."""
 
@@ -133,7 +139,7 @@ class Answered:
             self.follow(line, group.answer[0] == "ok")
             for event in group.events:
                 waiting = self.waiting.get((event.node, event.client)) if event.kind in ("reply", "closed") else None
-                if event.kind == "reply" and waiting:
+                if event.kind == "reply" and waiting and event.is_answer:
                     self.pairs.append((waiting.pop(0), event))
                 elif event.kind == "closed":
                     self.waiting.pop((event.node, event.client), None)
@@ -146,7 +152,7 @@ class Answered:
             self.waiting.pop(place, None)
         elif line.verb == "bytes":
             is_followed = self.clients.inboxes.get(place) is not None
-            sent = [it for it in self.clients.take(line)[0] if not it.frame.is_answer]
+            sent = [it for it in self.clients.take(line)[0] if has_answer(it)]
             if is_followed and is_done:
                 self.waiting.setdefault(place, []).extend(sent)
 

@@ -27,7 +27,7 @@ HEX = [
 WORDS = [it.encode() for it in grammar.VERBS] + [
     b"active", b"replica", b"pending", b"Active", b"REPLICA", b"follow", b"takeover", b"Follow", b"follo", b"follows",
     b"old", b"new", b"fill", b"OLD", b"fil", b"fill ", b"fill 0", b"fill 255", b"fill 256", b"fill 00", b"nod",
-    b"nodes", b"pull", b"drop", b"trim", b";", b";node", b"#", b"\xff", b"\xc3\xa9", b"\0", b"\r", b"\t", b"\x0b",
+    b"nodes", b"drop", b"trim", b";", b";node", b"#", b"\xff", b"\xc3\xa9", b"\0", b"\r", b"\t", b"\x0b",
     b"\xa0", b" ",
 ]  # fmt: skip
 CHANGES = NUMBERS + NO_NUMBERS + HEX + WORDS

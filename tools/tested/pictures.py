@@ -74,10 +74,13 @@ class Marks(unittest.TestCase):
             ("flushed", 7, {(11, 4), (11, 5)}),
             ("replica", 7, set()),
             ("durable", 0, set()),
+            ("indexer", 7, {(11, 5), (11, 6)}),
+            ("indexer", 8, set()),
             ("crashed", 7, {(11, 3), (22, 3), (33, 3), (55, 4)}),
         ):
             told = followed_by(path("examples", name)).histories
-            changes = {(branch.id, seqno) for branch in told.branches.values() for seqno in branch.changes}
+            branches = [branch for branch in told.branches.values() if branch.vb == vb]
+            changes = {(branch.id, seqno) for branch in branches for seqno in branch.changes}
             self.assertEqual({it for it in changes if not told.is_kept(vb, *it)}, lost, name)
 
 
@@ -93,6 +96,15 @@ class Words(unittest.TestCase):
                         words = " / ".join(note.words for note in held[place][i])
                         found.append((plan.stages[i].number, place[1], side, words))
             self.assertEqual(found, wanted, name)
+
+    def test_clients(self) -> None:
+        """What clients ask for and are sent stands below the lane of the vBucket."""
+        plan, found = plan_of(path("corpus/indexer/numbers-differ"), 702), []
+        for notes, stage in zip(plan.below[702, 3], plan.stages):
+            found += [(stage.number, " / ".join(note.words for note in notes))] if notes else []
+        self.assertEqual(found, shown.CLIENT_NOTES)
+        self.assertIn(", C0.1 is client 1 of node 0,", drawn(path("examples/indexer")))
+        self.assertNotIn("C0.1", drawn(path("examples/durable")))
 
     def test_waits(self) -> None:
         """A bar is from the line of the prepare to the line of the answer, in a row that is free."""
