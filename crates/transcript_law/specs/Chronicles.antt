@@ -25,7 +25,7 @@ use Rattle.vb_disk.specs.declared.made.Outcome.TheVariants.{Old}
 use Rattle.disk_journals.specs.Books.{below}
 use Rattle.durability.specs.Chains.{Members}
 use Rattle.branch_model.specs.Journals.{found, last_log, log_of, place_of, role_of, roll_point}
-pub use Rattle.transcript_law.specs.LinesTold.{ItemLine, Begun, Granted, Dial, CountsKnown, alone, Flushing, Idle, Taken, Written, DiskKnown, blank_disk, stood, known_batch, ArmKnown, Conns, no_arm, known_down}
+pub use Rattle.transcript_law.specs.LinesTold.{ItemLine, Begun, Granted, Dial, OwnChange, CountsKnown, alone, Flushing, Idle, Taken, Written, DiskKnown, blank_disk, stood, known_batch, ArmKnown, Conns, no_arm, known_down}
 pub use Rattle.transcript_law.specs.Clients.{conns_line, conns_lines, conns_verb}
 use Rattle.transcript_law.specs.ClientStreams.{with_client, with_sent_bytes}
 pub use Rattle.transcript_law.specs.ClientStreams.{ClientsKnown, blank_client, clients_line}
@@ -303,8 +303,9 @@ after_verb before chronicle (verb.AtClient n c client_verb.Open) lines said = af
 after_verb before chronicle (verb.AtClient n c client_verb.Hang) lines said = after_blank chronicle n c said
 after_verb before chronicle other lines said = chronicle
 
--- what is read with a whole group of a line; of the connections of clients and their streams its lines tell, and then the line
+-- what is read with a whole group of a line; of the connections of clients and their streams its lines tell, and then the line; and the next group has made no changes yet
 abbrev pub after_group : Chronicle → Verb → List Event → Answer → Chronicle
 after_group chronicle line lines said = record (after_verb chronicle (after_lines (ahead chronicle line said) lines) line lines said) {
   conn_at = conns_verb (conns_lines chronicle.conn_at lines) line said;
+  made = [];
 }

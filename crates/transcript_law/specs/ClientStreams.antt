@@ -14,6 +14,7 @@ use Rattle.branch_model.specs.Logs.{front, uuid_of}
 use Rattle.branch_model.specs.Snapshots.{plain_view}
 use Rattle.branch_model.specs.Trees.{Branch, hist}
 use Rattle.transcript_law.specs.ClientFrames.{Request, bytes_behind, is_closed_by, is_sync, request_in, setup_after}
+use Rattle.transcript_law.specs.Questions.{past_answer}
 use Rattle.transcript_law.specs.StreamsTold.{more_items, with_at, with_id}
 pub use Rattle.transcript_law.specs.StreamsTold.{Begun, ClientKnown, ClientStream, ClientsKnown, ItemLine, Setup, StreamLine, blank_client, no_setup}
 
@@ -73,6 +74,7 @@ past_request r v log said k = record {
   setup = setup_after k.setup r.before;
   streams = granted_if said v (new_stream (setup_after k.setup r.before) r log) (unclosed r.before k.streams);
   told = None;
+  asking = k.asking;
 }
 
 -- where there is one
@@ -98,7 +100,7 @@ past_turn v k = record k { streams = change_at v with_turn k.streams }
 
 -- it sent more bytes
 abbrev pub with_sent_bytes : List ℕ → ClientKnown → ClientKnown
-with_sent_bytes bytes k = record k { bytes = k.bytes ++ bytes }
+with_sent_bytes bytes k = record k { bytes = k.bytes ++ bytes; asking = record k.asking { bytes = k.asking.bytes ++ bytes } }
 
 -- ---- lines
 
@@ -110,9 +112,9 @@ with_client clients n c k = with_at clients n c k
 abbrev pub with_clients_of : ClientsKnown → ℕ → (ClientKnown → ClientKnown) → ClientsKnown
 with_clients_of clients n change = λ m c. if m == n then change (clients m c) else clients m c
 
--- a frame went out to a client: where nothing was told of its streams, it is an answer
+-- a frame went out to a client: where nothing was told of its streams, it answers what was asked next
 abbrev pub clients_frame : List Branch → ClientsKnown → ℕ → ℕ → List ℕ → Option StreamLine → ClientsKnown
-clients_frame tree clients n c bytes None = clients
+clients_frame tree clients n c bytes None = with_client clients n c (past_answer (clients n c))
 clients_frame tree clients n c bytes (Some line) = with_client clients n c (past_frame tree bytes line (clients n c))
 
 -- what is known with one more line, while the branches are these. One that was told closed is blank again

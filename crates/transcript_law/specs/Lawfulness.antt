@@ -35,7 +35,8 @@ use Rattle.transcript_law.specs.Standing.{TellsIfBegun}
 use Rattle.transcript_law.specs.Tellings.{TellsOf}
 use Rattle.transcript_law.specs.Asked.{TellsAsAsked}
 use Rattle.transcript_law.specs.Undone.{LeavesNone}
-use Rattle.transcript_law.specs.LawfulClients.{IsAnswer, LawfulClientAsk, LawfulClientEnd, LawfulClientItem, LawfulClientMark}
+use Rattle.transcript_law.specs.LawfulAnswers.{LawfulReply}
+use Rattle.transcript_law.specs.LawfulClients.{LawfulClientAsk, LawfulClientEnd, LawfulClientItem, LawfulClientMark}
 pub use Rattle.transcript_law.specs.StreamLaws.{FROM_MEMORY, GrantsAs, IsFrontOf, IsIfKnown, IsNextItem, IsWholeIf, LawfulSaid, LawfulVerdict, SharesFront, item_of_change, line_act, meant_end, meant_start}
 use Rattle.transcript_law.specs.Bound.{IsAnswered}
 use Rattle.transcript_law.specs.Clients.{Heard}
@@ -314,7 +315,7 @@ abbrev pub LawfulLine : Chronicle → Event → List Event → Type 0
 LawfulLine chronicle (event.Branch n v uuid parent fork high) behind = LawfulBranch chronicle n v uuid parent fork high
 LawfulLine chronicle (event.Role n v role) behind = LawfulRole chronicle n v role
 LawfulLine chronicle (event.Changed n v uuid change) behind = LawfulChange chronicle n v uuid change
-LawfulLine chronicle (event.Reply n c bytes) behind = (chronicle.clients_at n c).told ≡ None → IsAnswer bytes
+LawfulLine chronicle (event.Reply n c bytes) behind = (chronicle.clients_at n c).told ≡ None → LawfulReply chronicle n c (chronicle.clients_at n c).asking bytes behind
 LawfulLine chronicle (event.Closed n c) behind = Unit {0}
 LawfulLine chronicle (event.Asked (name.Link l) n v ask high log said) behind = LawfulAsk chronicle l n v ask high log said
 LawfulLine chronicle (event.Asked (name.Client n c) m v ask high log said) behind = LawfulClientAsk chronicle (chronicle.clients_at n c) n c m v ask high log said behind

@@ -8,6 +8,8 @@ pub mod ClientStreamRows
 pub mod ClientAskRows
 pub mod LawfulClients
 pub mod Pulls
+pub mod Questions
+pub mod LawfulAnswers
 pub mod StreamLaws
 pub mod StreamsTold
 pub mod ClientRows

@@ -2,6 +2,8 @@
 use Rattle.std.specs.Prelude.{ℕ, ◌==◌, ◌-◌, ◌&&◌, ◌||◌, if◌then◌else◌, nat_le, nat_lt, Bool, true, false, List, [], ◌∷◌, ◌++◌, drop, Option, Some, None}
 use Rattle.std.specs.Option.{option_map}
 use Rattle.std.specs.List.{filter}
+use Rattle.vb_types.specs.declared.change.Act.{Act}
+use Rattle.vb_types.specs.declared.change.Act.TheVariants as act
 use Rattle.vb_types.specs.declared.change.Change.{Change}
 use Rattle.vb_types.specs.declared.stream.AskAnswer.{AskAnswer}
 use Rattle.vb_types.specs.declared.stream.AskAnswer.TheVariants as ask_answer
@@ -91,6 +93,21 @@ pub record ArmKnown : Type 0 where
   pub out : Outcome
   pub down : Bool
 
+-- a change that the vBucket v of the node n made of its own, on its branch
+pub record OwnChange : Type 0 where
+  pub node : ℕ
+  pub vb : ℕ
+  pub branch : ℕ
+  pub change : Change
+
+-- a change of a durable write: its client may be answered behind other answers
+abbrev pub is_durable : Act → Bool
+is_durable (act.Set doc) = false
+is_durable (act.Remove cas rev) = false
+is_durable (act.Prepare level doc deleted) = true
+is_durable (act.Commit prepared doc deleted) = true
+is_durable (act.Abort prepared) = true
+
 -- the connections of clients that are open, by their nodes and their numbers
 abbrev pub Conns : Type 0
 Conns = ℕ → ℕ → Bool
@@ -108,7 +125,7 @@ known_down = record { fuse = Off; out = Old; down = true }
 -- last; for each link that is not over, its dial; for each stream's name and vBucket, the stream; and for each link the point that its last request was
 -- sent back to, until its consumer went back; whether a vBucket changed since it was sealed last, took a marker, got a role or went back;
 -- the start and end of the snapshot that it is in, where that is known; what it wrote down; and what counts where it commits; the connections of
--- clients that are open; and what is known of each of them and of its streams
+-- clients that are open; what is known of each of them and of its streams; and the changes that vBuckets made of their own in this group, the last first, but for sets and removals before its last answer
 pub record Chronicle : Type 0 where
   pub tree : List Branch
   pub role_at : ℕ → ℕ → Option (Option Role)
@@ -126,6 +143,7 @@ pub record Chronicle : Type 0 where
   pub arm_at : ℕ → ArmKnown
   pub conn_at : Conns
   pub clients_at : ClientsKnown
+  pub made : List OwnChange
 
 -- before the first line it is known that there is no vBucket
 abbrev pub empty_chronicle : Chronicle
@@ -146,6 +164,7 @@ empty_chronicle = record {
   arm_at = λ n. no_arm;
   conn_at = λ n c. false;
   clients_at = λ n c. blank_client;
+  made = [];
 }
 
 -- the branch that a new one was made from: the one named, or, where none is and the new one begins above 0, the one that
@@ -199,7 +218,13 @@ held_more chronicle n v change = with_at chronicle.held n v (chronicle.held n v 
 
 -- one more change on a branch, which the vBucket that made it holds
 abbrev pub after_change : Chronicle → ℕ → ℕ → ℕ → Change → Chronicle
-after_change chronicle n v uuid change = record chronicle { tree = grow chronicle.tree uuid change; held = held_more chronicle n v change; open_at = with_at chronicle.open_at n v true; snap_at = with_at chronicle.snap_at n v (Some (change.seq, change.seq)) }
+after_change chronicle n v uuid change = record chronicle {
+  tree = grow chronicle.tree uuid change;
+  held = held_more chronicle n v change;
+  open_at = with_at chronicle.open_at n v true;
+  snap_at = with_at chronicle.snap_at n v (Some (change.seq, change.seq));
+  made = record { node = n; vb = v; branch = uuid; change = change } ∷ chronicle.made;
+}
 
 -- two streams have the same name
 abbrev pub is_name : StreamName → StreamName → Bool
@@ -391,9 +416,14 @@ abbrev pub roles_from : Bool → (ℕ → ℕ → Option (Option Role)) → ℕ 
 roles_from true roles n v = with_at roles n v (Some (Some Active))
 roles_from false roles n v = roles
 
+-- a frame for a client answers the sets and removals before it, if any
+abbrev pub made_line : List OwnChange → Event → List OwnChange
+made_line made (event.Reply n c bytes) = filter (λ m. is_durable m.change.act) made
+made_line made other = made
+
 -- a line that tells of clients alone: of their streams, or of a frame for one
 abbrev pub after_client_line : Chronicle → Event → Chronicle
-after_client_line chronicle line = record chronicle { clients_at = clients_line chronicle.tree chronicle.clients_at line }
+after_client_line chronicle line = record chronicle { clients_at = clients_line chronicle.tree chronicle.clients_at line; made = made_line chronicle.made line }
 
 -- what is told with one more line; a line of another kind tells nothing of branches and of links' streams
 abbrev pub after_line : Chronicle → Event → Chronicle

@@ -3,6 +3,8 @@ use Rattle.std.specs.Prelude.{ℕ, Bool, false, List, [], Option, None, ◌==◌
 use Rattle.vb_types.specs.declared.change.Change.{Change}
 use Rattle.vb_types.specs.declared.stream.StreamAsk.{StreamAsk}
 use Rattle.vb_events.specs.declared.event.ItemAct.{ItemAct}
+use Rattle.client_session.specs.Serving.{no_settings}
+use Rattle.client_session.specs.declared.session.Settings.{Settings}
 
 -- what an `item` line says of a change
 pub record ItemLine : Type 0 where
@@ -40,12 +42,19 @@ pub data StreamLine : Type 0 where
   Sends : (item : ItemLine) → StreamLine
   Ends : StreamLine
 
--- a client's connection: the bytes that it sent behind the last request for a stream that was answered, what the frames before those set, its streams by their vBuckets, and what was told of one whose frame comes next
+-- what a client asked: the bytes that it sent behind the last frame that was answered, and what the frames up to there set, for its streams and for its answers
+pub record Asking : Type 0 where
+  pub bytes : List ℕ
+  pub setup : Setup
+  pub settings : Settings
+
+-- a client's connection: the bytes that it sent behind the last request for a stream that was answered, what the frames before those set, its streams by their vBuckets, what was told of one whose frame comes next, and what it asked
 pub record ClientKnown : Type 0 where
   pub bytes : List ℕ
   pub setup : Setup
   pub streams : ℕ → Option ClientStream
   pub told : Option StreamLine
+  pub asking : Asking
 
 -- the connections of clients, by their nodes and their numbers
 abbrev pub ClientsKnown : Type 0
@@ -56,8 +65,11 @@ abbrev pub no_setup : Setup
 no_setup = record { opened = false; sync = false; named = false }
 
 -- one that has just been opened, or is not open: it sent nothing, and has no stream
+abbrev pub blank_asking : Asking
+blank_asking = record { bytes = []; setup = no_setup; settings = no_settings }
+
 abbrev pub blank_client : ClientKnown
-blank_client = record { bytes = []; setup = no_setup; streams = λ v. None; told = None }
+blank_client = record { bytes = []; setup = no_setup; streams = λ v. None; told = None; asking = blank_asking }
 
 -- a table by nodes and vBuckets, with x for the vBucket v of the node n
 abbrev pub with_at : {A : Type 0} → (ℕ → ℕ → A) → ℕ → ℕ → A → ℕ → ℕ → A

@@ -1,0 +1,143 @@
+-- which answers a client may be sent: each answers the next frame that it asked something by, and says what the lines tell of that
+use Rattle.std.specs.Prelude.{◌≡◌, ◌⊎◌, ℕ, if◌then◌else◌, Bool, false, List, [], ◌∷◌, ◌++◌, Option, Some, None, Result, Ok, Err}
+use Rattle.std.specs.FinMap as finite
+use Rattle.client_session.specs.Rows.{seqno_part}
+use Rattle.client_session.specs.Serving.{is_dcp}
+use Rattle.client_session.specs.declared.session.Settings.{Settings}
+use Rattle.durability.specs.Chains.{Members, is_possible}
+use Rattle.mcbp_frame.specs.Cutting.{front_fault}
+use Rattle.mcbp_frame.specs.Frames.{faulty_head}
+use Rattle.mcbp_frame.specs.Spelling.{spelling}
+use Rattle.mcbp_frame.specs.declared.frame.FaultyHead.{FaultyHead}
+use Rattle.mcbp_frame.specs.declared.frame.Frame.{Frame}
+use Rattle.mcbp_frame.specs.declared.frame.FrameFault.{FrameFault}
+use Rattle.mcbp_frame.specs.declared.frame.TheConstants.{RESPONSE}
+use Rattle.mcbp_kv.specs.Answers.{IsBare, IsFound, IsStored, IsWelcome, bare_answer}
+use Rattle.mcbp_kv.specs.Replies.{reply_frame}
+use Rattle.mcbp_kv.specs.Requests.{request_of}
+use Rattle.mcbp_kv.specs.declared.request.KvRequest.{KvRequest}
+use Rattle.mcbp_kv.specs.declared.request.KvRequest.TheVariants as request
+use Rattle.vb_calls.specs.Writes.{act_of, doc_refusal, written_doc}
+use Rattle.vb_events.specs.declared.event.Event.{Event}
+use Rattle.vb_events.specs.declared.event.Event.TheVariants as event
+use Rattle.vb_types.specs.Images.{Picture, image_of}
+use Rattle.vb_types.specs.Statuses.{status_code}
+use Rattle.vb_types.specs.declared.change.Change.{Change}
+use Rattle.vb_types.specs.declared.change.Pend.{Pend}
+use Rattle.vb_types.specs.declared.doc.Doc.{Doc}
+use Rattle.vb_types.specs.declared.role.Role.{Role}
+use Rattle.vb_types.specs.declared.status.Status.{Status}
+use Rattle.vb_types.specs.declared.status.Status.TheVariants as status
+use Rattle.vb_types.specs.declared.write.Write.{Write}
+use Rattle.transcript_law.specs.LawfulClients.{IsActive}
+use Rattle.transcript_law.specs.LinesTold.{Chronicle, OwnChange}
+use Rattle.transcript_law.specs.Questions.{Question, behind_frames, question_of}
+use Rattle.transcript_law.specs.StreamsTold.{Asking}
+
+-- ---- answers to requests for documents
+
+-- a request is refused with this status, or answered by it alone
+abbrev pub IsStatus : Frame → Frame → Status → Type 0
+IsStatus f g st = IsBare g f.opcode (status_code st) f.opaque
+
+-- a prepare waits at the key
+abbrev pub IsLocked : Picture → List ℕ → Type 0
+IsLocked image key = (p : Pend) × (finite.get image.pending key ≡ Some p)
+
+-- where the prepare is one that a former active node left, nobody knows whether its document stands, and a read may be refused for that
+abbrev pub IsLeftUndone : Picture → List ℕ → Frame → Frame → Type 0
+IsLeftUndone image key f g = IsLocked image key × IsStatus f g status.SyncWriteReCommitInProgress
+
+-- a read is refused where its vBucket is not active, and gets the key's document where there is one
+pub record FitsGet (role : Option (Option Role)) (image : Picture) (json : Bool) (key : List ℕ) (f g : Frame) : Type 0 where
+  pub away : (IsActive role → ⊥) → IsStatus f g status.NotMyVbucket
+  pub found : IsActive role → (doc : Doc) → finite.get image.docs key ≡ Some doc → IsFound json g f.opaque doc ⊎ IsLeftUndone image key f g
+  pub none : IsActive role → finite.get image.docs key ≡ None → IsStatus f g status.KeyEnoent ⊎ IsLeftUndone image key f g
+
+-- why a write is refused: its vBucket is not active; or a prepare waits at its key; or the key's document, or that there is none, does not let it. For what is said of the vBucket it may be refused at any key
+pub record IsWhyRefused (Besides : Status → Type 0) (role : Option (Option Role)) (image : Picture) (write : Write) (st : Status) : Type 0 where
+  pub away : (IsActive role → ⊥) → st ≡ status.NotMyVbucket
+  pub locked : IsActive role → IsLocked image write.key → (st ≡ status.SyncWriteInProgress) ⊎ (st ≡ status.SyncWriteReCommitInProgress) ⊎ Besides st
+  pub unfit : IsActive role → finite.get image.pending write.key ≡ None → (doc_refusal write.op write.cas (finite.get image.docs write.key) ≡ Some st) ⊎ Besides st
+
+abbrev pub IsRefused : (Status → Type 0) → Option (Option Role) → Picture → Write → Frame → Frame → Type 0
+IsRefused Besides role image write f g = (st : Status) × IsStatus f g st × IsWhyRefused Besides role image write st
+
+-- a vBucket that has no seqno left for it refuses a write
+abbrev pub LacksSeqnos : Status → Type 0
+LacksSeqnos st = st ≡ status.Etmpfail
+
+-- and a durable one where its chain can have no majority
+abbrev pub LacksMajority : Members → Status → Type 0
+LacksMajority chain st = LacksSeqnos st ⊎ ((is_possible chain ≡ false) × (st ≡ status.DurabilityImpossible))
+
+-- a write was made: the last change that was told is its own, of what its vBucket held before, which let it; and it is told with its CAS, and its branch and seqno where the client asked for these
+pub record IsMade (n v : ℕ) (held : List Change) (made : List OwnChange) (settings : Settings) (write : Write) (f g : Frame) : Type 0 where
+  pub branch : ℕ
+  pub change : Change
+  pub older : List OwnChange
+  pub last : made ≡ record { node = n; vb = v; branch = branch; change = change } ∷ older
+  pub key : change.key ≡ write.key
+  pub cas : ℕ
+  pub rev : ℕ
+  pub act : change.act ≡ act_of write.op (written_doc write cas rev)
+  pub before : List Change
+  pub behind : held ≡ before ++ change ∷ []
+  pub fits : doc_refusal write.op write.cas (finite.get (image_of before).docs write.key) ≡ None
+  pub told : IsStored g f.opcode f.opaque cas (seqno_part settings branch change.seq)
+
+abbrev pub FitsWrite : Chronicle → ℕ → ℕ → Settings → Write → Frame → Frame → Type 0
+FitsWrite chronicle n v settings write f g =
+    IsRefused LacksSeqnos (chronicle.role_at n v) (image_of (chronicle.held n v)) write f g ⊎ IsMade n v (chronicle.held n v) chronicle.made settings write f g
+
+-- a durable write was committed, with this CAS, and is told so
+pub record IsCommitted (settings : Settings) (f g : Frame) : Type 0 where
+  pub branch : ℕ
+  pub seq : ℕ
+  pub cas : ℕ
+  pub told : IsStored g f.opcode f.opaque cas (seqno_part settings branch seq)
+
+-- it is refused, or its outcome is told: it was committed, or nobody knows
+abbrev pub FitsDurable : Chronicle → ℕ → ℕ → Settings → Write → Frame → Frame → Type 0
+FitsDurable chronicle n v settings write f g =
+    IsRefused (LacksMajority (chronicle.counts_at n v).chain) (chronicle.role_at n v) (image_of (chronicle.held n v)) write f g ⊎ IsCommitted settings f g ⊎ IsStatus f g status.SyncWriteAmbiguous
+
+-- each request, by what its frame asks
+abbrev pub FitsRequest : Chronicle → ℕ → Settings → Frame → Frame → Result KvRequest Status → Type 0
+FitsRequest chronicle n settings f g (Err st) = IsStatus f g st
+FitsRequest chronicle n settings f g (Ok request.Noop) = IsStatus f g status.Success
+FitsRequest chronicle n settings f g (Ok (request.Hello features)) = IsWelcome g f.opaque features
+FitsRequest chronicle n settings f g (Ok (request.Get key)) = FitsGet (chronicle.role_at n f.vb_or_status) (image_of (chronicle.held n f.vb_or_status)) settings.json key f g
+FitsRequest chronicle n settings f g (Ok (request.Write write None)) = FitsWrite chronicle n f.vb_or_status settings write f g
+FitsRequest chronicle n settings f g (Ok (request.Write write (Some wish))) = FitsDurable chronicle n f.vb_or_status settings write f g
+
+-- one of DCP is judged by the lines of its stream
+abbrev pub FitsFrame : Chronicle → ℕ → Settings → Frame → Frame → Type 0
+FitsFrame chronicle n settings f g = if is_dcp f.opcode then Unit {0} else FitsRequest chronicle n settings f g (request_of settings.json f)
+
+-- ---- the answer to the next question
+
+-- these bytes are a response to it, with its opcode and opaque, and fit it
+pub record Answers (chronicle : Chronicle) (n : ℕ) (asking : Asking) (bytes : List ℕ) : Type 0 where
+  pub question : Question
+  pub next : question_of asking ≡ Some question
+  pub answer : Frame
+  pub spelled : bytes ≡ spelling answer
+  pub response : answer.magic ≡ RESPONSE
+  pub opcode : answer.opcode ≡ question.frame.opcode
+  pub opaque : answer.opaque ≡ question.frame.opaque
+  pub fits : FitsFrame chronicle n asking.settings question.frame answer
+
+-- no question is left, a fault stands behind the frames, and the answer to what its header names is that; the connection closes
+pub record AnswersFault (n c : ℕ) (asking : Asking) (bytes : List ℕ) (behind : List Event) : Type 0 where
+  pub none : question_of asking ≡ None
+  pub fault : FrameFault
+  pub stands : front_fault (behind_frames asking.bytes) ≡ Some fault
+  pub head : FaultyHead
+  pub named : faulty_head fault (behind_frames asking.bytes) ≡ Some head
+  pub spelled : bytes ≡ spelling (reply_frame (bare_answer head.opcode status.Einval head.opaque))
+  pub closes : (more : List Event) × (behind ≡ event.Closed n c ∷ more)
+
+-- what a client is sent, but for frames of its streams
+abbrev pub LawfulReply : Chronicle → ℕ → ℕ → Asking → List ℕ → List Event → Type 0
+LawfulReply chronicle n c asking bytes behind = Answers chronicle n asking bytes ⊎ AnswersFault n c asking bytes behind

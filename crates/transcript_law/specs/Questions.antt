@@ -1,0 +1,79 @@
+-- which of a client's frames is to be answered next, by the bytes that it sent
+use Rattle.std.specs.Prelude.{ℕ, ◌+◌, ◌==◌, ◌&&◌, ◌++◌, Bool, true, false, not, if◌then◌else◌, List, [], ◌∷◌, drop, Option, Some, None, Result, Ok, Err}
+use Rattle.std.specs.List.{sum_by}
+use Rattle.std.specs.Option.{option_map}
+use Rattle.mcbp_dcp.specs.declared.message.DcpMsg.{DcpMsg}
+use Rattle.mcbp_dcp.specs.declared.message.DcpMsg.TheVariants as msg
+use Rattle.mcbp_frame.specs.Cutting.{frames_in}
+use Rattle.mcbp_frame.specs.Frames.{frame_len}
+use Rattle.mcbp_frame.specs.declared.frame.Frame.{Frame}
+use Rattle.mcbp_frame.specs.declared.frame.TheConstants.{RESPONSE}
+use Rattle.mcbp_kv.specs.Requests.{request_of}
+use Rattle.mcbp_kv.specs.declared.request.KvRequest.{KvRequest}
+use Rattle.mcbp_kv.specs.declared.request.KvRequest.TheVariants as request
+use Rattle.vb_types.specs.declared.status.Status.{Status}
+use Rattle.client_session.specs.Serving.{is_dcp, settings_of}
+use Rattle.client_session.specs.declared.session.Settings.{Settings}
+use Rattle.transcript_law.specs.ClientFrames.{message_of, set_by, setup_after}
+use Rattle.transcript_law.specs.StreamsTold.{Asking, ClientKnown, Setup}
+
+-- a message acknowledges bytes
+abbrev pub is_acknowledgement : Option DcpMsg → Bool
+is_acknowledgement (Some (msg.BufferAcknowledgement bytes)) = true
+is_acknowledgement other = false
+
+-- a frame wants an answer, behind what was set: each does but a response, and an acknowledgement of bytes over an open connection
+abbrev pub wants_answer : Setup → Frame → Bool
+wants_answer s f = not (f.magic == RESPONSE) && not (s.opened && is_acknowledgement (message_of f))
+
+-- a frame that wants an answer, and those before it, which want none
+pub record Question : Type 0 where
+  pub before : List Frame
+  pub frame : Frame
+
+-- behind one more frame
+abbrev pub behind_other : Frame → Question → Question
+behind_other f q = record { before = f ∷ q.before; frame = q.frame }
+
+-- the first one among frames
+abbrev pub first_question : Setup → List Frame → Option Question
+first_question s [] = None
+first_question s (f ∷ fs) = if wants_answer s f then Some (record { before = []; frame = f }) else option_map (behind_other f) (first_question (set_by (message_of f) s) fs)
+
+-- the one that is to be answered next
+abbrev pub question_of : Asking → Option Question
+question_of k = first_question k.setup (frames_in k.bytes)
+
+-- HELLO sets which features its connection has
+abbrev pub settings_by : Result KvRequest Status → Settings → Settings
+settings_by (Ok (request.Hello features)) settings = settings_of features
+settings_by other settings = settings
+
+-- behind a frame
+abbrev pub settings_after : Settings → Frame → Settings
+settings_after settings f = if is_dcp f.opcode then settings else settings_by (request_of settings.json f) settings
+
+-- so many bytes are all up to the end of its frame
+abbrev pub question_end : Question → ℕ
+question_end q = sum_by frame_len q.before + frame_len q.frame
+
+-- what is asked once it is answered
+abbrev pub past_question : Question → Asking → Asking
+past_question q k = record {
+  bytes = drop (question_end q) k.bytes;
+  setup = setup_after k.setup (q.before ++ q.frame ∷ []);
+  settings = settings_after k.settings q.frame;
+}
+
+-- where there is one
+abbrev pub past_question_if : Option Question → Asking → Asking
+past_question_if None k = k
+past_question_if (Some q) k = past_question q k
+
+-- an answer went out
+abbrev pub past_answer : ClientKnown → ClientKnown
+past_answer k = record k { asking = past_question_if (question_of k.asking) k.asking }
+
+-- the bytes behind all whole frames
+abbrev pub behind_frames : List ℕ → List ℕ
+behind_frames bytes = drop (sum_by frame_len (frames_in bytes)) bytes
