@@ -2,6 +2,7 @@ pub mod Words
 pub mod Runs
 pub mod Laws
 pub mod rows
+pub mod answers
 pub mod indexers
 pub mod invariant
 pub mod links

@@ -14,7 +14,7 @@ use Rattle.transcript_law.proofs.invariant.Ranged.{IsRanged, start_ranged}
 use Rattle.transcript_law.proofs.Words.{StreamName}
 use Rattle.transcript_law.specs.Feeding.{HasFed}
 use Rattle.transcript_law.proofs.{invariant.ClientWorlds.{ConnsAre, start_conns}, invariant.Clients.{line_heard}, lines.Heard.{lines_heard}}
-use Rattle.transcript_law.proofs.invariant.{Agreement.{idle}, Carried.{all_there}, ClientsKept.{all_kept, clients_kept}}
+use Rattle.transcript_law.proofs.indexers.Beside.{beside}
 use Rattle.cluster_model.specs.Clusters as cluster
 
 -- before the first line
@@ -58,22 +58,6 @@ start = (
       ends = λ link i. absurd i;
       small = λ n v e. cc;
     };
-  },
-)
-
--- the connections of clients are no part of it
-conns_beside : (w : PlainWorld) (r : Chronicle) (conns : Conns) → Agrees w r → Agrees w (record r { conn_at = conns })
-conns_beside w r conns (c, a) = (
-  c,
-  record {
-    sound = a.sound;
-    vbs = a.vbs;
-    disks = a.disks;
-    branches = a.branches;
-    links = λ x i. let l = a.links x i in record { follower = l.follower; follower_is = l.follower_is; follows = l.follows; acks = l.acks; dial = l.dial; talk = l.talk };
-    differ = a.differ;
-    clients = clients_kept w w r (record r { conn_at = conns }) 0 a.clients (all_there idle w r c a) (all_kept w w r (record r { conn_at = conns }) (λ m d. refl) (λ m d. refl) refl (λ n v. refl) (λ n v. refl)) (λ l n v id has. inl has);
-    rests = record { powers = a.powers; aways = a.aways; downs = a.downs; ends = a.ends; small = a.small };
   },
 )
 
@@ -142,8 +126,10 @@ pub group_agrees : (w : PlainWorld) (r : Chronicle) (number : ℕ) (line : Verb)
     → (let o = verb_step w number line in Agrees (with_branches o.1.events o.0) (after_group r line o.1.events o.1.answer))
 group_agrees w r number line fits ranged a =
     let o = verb_step w number line in let row : Row w line o = row_of w number line in
-    conns_beside (with_branches o.1.events o.0) (after_verb r (after_lines (ahead r line o.1.answer) o.1.events) line o.1.events o.1.answer)
-    (conns_verb (conns_lines r.conn_at o.1.events) line o.1.answer) (row.goes r fits ranged a).1
+    let went = (row.goes r fits ranged a).1 in (
+      went.0,
+      beside (with_branches o.1.events o.0) (after_verb r (after_lines (ahead r line o.1.answer) o.1.events) line o.1.events o.1.answer) (conns_verb (conns_lines r.conn_at o.1.events) line o.1.answer) [] went.0 went.1,
+    )
 
 pub refused_keep : RefusedLinesKeep
 refused_keep w number line why rests said standing = let x = (row_of w number line).keeps rests why said standing in (x.0.0, x.0.1, x.0.2, x.1)

@@ -1,5 +1,7 @@
 -- what happens in a client's connection that has streams
 pub mod Known
+pub mod Questions
+pub mod Beside
 pub mod Messages
 pub mod Setting
 pub mod Steps

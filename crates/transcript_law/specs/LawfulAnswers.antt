@@ -1,5 +1,5 @@
 -- which answers a client may be sent: each answers the next frame that it asked something by, and says what the lines tell of that
-use Rattle.std.specs.Prelude.{◌≡◌, ◌⊎◌, ℕ, if◌then◌else◌, Bool, false, List, [], ◌∷◌, ◌++◌, Option, Some, None, Result, Ok, Err}
+use Rattle.std.specs.Prelude.{◌≡◌, ◌⊎◌, ℕ, Bool, true, false, List, [], ◌∷◌, ◌++◌, Option, Some, None, Result, Ok, Err}
 use Rattle.std.specs.FinMap as finite
 use Rattle.client_session.specs.Rows.{seqno_part}
 use Rattle.client_session.specs.Serving.{is_dcp}
@@ -97,10 +97,15 @@ pub record IsCommitted (settings : Settings) (f g : Frame) : Type 0 where
   pub cas : ℕ
   pub told : IsStored g f.opcode f.opaque cas (seqno_part settings branch seq)
 
+-- its connection has no number left for a durable write, and its vBucket, whatever that is, is not asked
+abbrev pub LacksNumbers : Frame → Frame → Type 0
+LacksNumbers f g = IsStatus f g status.Etmpfail
+
 -- it is refused, or its outcome is told: it was committed, or nobody knows
 abbrev pub FitsDurable : Chronicle → ℕ → ℕ → Settings → Write → Frame → Frame → Type 0
 FitsDurable chronicle n v settings write f g =
-    IsRefused (LacksMajority (chronicle.counts_at n v).chain) (chronicle.role_at n v) (image_of (chronicle.held n v)) write f g ⊎ IsCommitted settings f g ⊎ IsStatus f g status.SyncWriteAmbiguous
+    LacksNumbers f g ⊎ IsRefused (LacksMajority (chronicle.counts_at n v).chain) (chronicle.role_at n v) (image_of (chronicle.held n v)) write f g ⊎ IsCommitted settings f g
+    ⊎ IsStatus f g status.SyncWriteAmbiguous
 
 -- each request, by what its frame asks
 abbrev pub FitsRequest : Chronicle → ℕ → Settings → Frame → Frame → Result KvRequest Status → Type 0
@@ -112,8 +117,12 @@ FitsRequest chronicle n settings f g (Ok (request.Write write None)) = FitsWrite
 FitsRequest chronicle n settings f g (Ok (request.Write write (Some wish))) = FitsDurable chronicle n f.vb_or_status settings write f g
 
 -- one of DCP is judged by the lines of its stream
+abbrev pub FitsBy : Bool → Chronicle → ℕ → Settings → Frame → Frame → Type 0
+FitsBy true chronicle n settings f g = Unit {0}
+FitsBy false chronicle n settings f g = FitsRequest chronicle n settings f g (request_of settings.json f)
+
 abbrev pub FitsFrame : Chronicle → ℕ → Settings → Frame → Frame → Type 0
-FitsFrame chronicle n settings f g = if is_dcp f.opcode then Unit {0} else FitsRequest chronicle n settings f g (request_of settings.json f)
+FitsFrame chronicle n settings f g = FitsBy (is_dcp f.opcode) chronicle n settings f g
 
 -- ---- the answer to the next question
 

@@ -8,7 +8,7 @@ use Rattle.node_core.specs.Clients.{PlainClient, delivered}
 use Rattle.transcript_law.proofs.indexers.{Asking.{s as asking, answer, asked_goes, held_open, known, kept_left, left, mine, none_open, old, request, served, told, was}, Hands.{Goes, HandedUp}, Passing.{agrees, behind, cluster}}
 use Rattle.transcript_law.proofs.{disks.Absent.{nothing_here}, indexers.Reasons.{away_as, open_reason, own_reason, reason_of, zero_reason}}
 use Rattle.transcript_law.proofs.indexers.Granting.{granted_is, log_short, opened, opened_changes, opens_ranged, ranged_order}
-use Rattle.transcript_law.proofs.indexers.{Quiet.{put_again, put_here, put_there}, Refusals.{is_opened, none_kept, own_grant, own_named, own_refusal, said_away, zero_refused}, Setting.{sync_as}, Streams.{AreOne, at_opened_here, at_opened_there, one_opened, open_opened}}
+use Rattle.transcript_law.proofs.indexers.{Questions.{in_hand}, Quiet.{put_again, put_here, put_there}, Refusals.{is_opened, none_kept, own_grant, own_named, own_refusal, said_away, zero_refused}, Setting.{sync_as}, Streams.{AreOne, at_opened_here, at_opened_there, one_opened, open_opened}}
 use Rattle.transcript_law.proofs.indexers.Worlds.{free_own, step_at, step_quiet, vb_here, world_with}
 use Rattle.transcript_law.proofs.invariant.{Carried.{all_there}, ClientsKept.{IsFree}, Agreement.{idle, AgreesAt, IsRefused, VbAgrees, is_down, power_of}, ClientsTold.{KeptIs, setup_of}, Holdings.{vb_of}, OpenStreams.{Among, AreKept, kept_asked, kept_opened}, Seats.{seat}, Tables.{id_here, id_there}}
 use Rattle.transcript_law.proofs.links.Verdicts.{active_vb_lines, go_lawful, opens_active, opens_free, refusal_named, own_said, roll_lawful}
@@ -88,7 +88,7 @@ module _ (w : PlainWorld) (n c : ℕ) (node : PlainNode) (r : Chronicle) (f : Fr
   quiet : (st : States) → ((q : ℕ) → st q ≡ states q) → (end : PlainProducer) → end.desk ≡ p.desk → end.handshake ≡ p.handshake → end.streams ≡ p.streams → AreKept end → (log : List LogEntry) (high : ℕ) (said : AskAnswer) → IsNoGo said
       → LawfulSaid so_far n v ask high log said → RefusesOwn (setup_of p.handshake) (left_at v) ask said → RefusesBy (setup_of p.handshake) (so_far.role_at n v) (left_at v) ask said → IsShortLog log → Comes (st, answer w n c node r f states lines client up ask asks st end log high said)
   quiet st same end desk shaken streams kept log high said none lawful own reason short =
-      let client' : PlainClient = record client { producer = end } in
+      let client' : PlainClient = record client { session = record client.session { awaited = Some (in_hand f) }; producer = end } in
       let new : PlainWorld = world_with w n c node st (Some client') in
       asked_goes w n c node r f states lines client up ask asks st end log high said (record {
         lawful = lawful;
@@ -205,7 +205,7 @@ module _ (w : PlainWorld) (n c : ℕ) (node : PlainNode) (r : Chronicle) (f : Fr
         end = with_opened stream (with_asked p)
 
         abbrev client' : PlainClient
-        client' = record client { producer = end }
+        client' = record client { session = record client.session { awaited = Some (in_hand f) }; producer = end }
 
         abbrev new : PlainWorld
         new = world_with w n c node st (Some client')

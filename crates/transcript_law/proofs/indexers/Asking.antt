@@ -1,6 +1,6 @@
 -- a request for a stream of a client is answered: what is known then, and that its line is lawful
 use Rattle.std.specs.Prelude.{◌≡◌, ◌∷◌, ◌++◌, take, drop}
-use Rattle.transcript_law.proofs.Words.{ℕ, true, false, List, [], refl, sym, ap, ◌∙◌, subst, inl, inr, append-nil, Option, Some, None, Event, Frame, LogEntry, RESPONSE, StreamAsk, AskAnswer, States, PlainNode, PlainWorld, PlainProducer, PlainStream, Chronicle, after_line, after_lines, begun, spelling, with_at}
+use Rattle.transcript_law.proofs.Words.{ℕ, true, false, List, [], refl, sym, ap, ◌∙◌, subst, inl, inr, append-nil, Option, Some, None, Cluster, Event, Frame, LogEntry, StreamAsk, AskAnswer, States, PlainNode, PlainWorld, PlainProducer, PlainStream, Chronicle, after_line, after_lines, begun, spelling, with_at}
 use Rattle.dcp_producer.proofs.{ClientAnswers.{ask_short}, Headers.{front_cut, front_left}}
 use Rattle.dcp_producer.specs.{Clients.{IsShortLog}, Cuts.{IsShort}, Producers.{Served, is_open, stream_at as kept_at}, Serving.{ask_line}}
 unfoldable use Rattle.dcp_producer.specs.Serving.{stream_answered}
@@ -8,23 +8,16 @@ unfoldable use Rattle.mcbp_dcp.specs.DcpFrames.{dcp_frame}
 use Rattle.dcp_producer.specs.declared.desk.Desk.{Desk}
 use Rattle.node_core.specs.Clients.{PlainClient, delivered, front_len}
 unfoldable use Rattle.node_core.specs.Clients.{with_replies}
-use Rattle.transcript_law.proofs.indexers.{Hands.{Goes, HandedUp, frame_told, spelled_answer}, Known.{bytes_left, next_request, no_frames}, Passing.{agrees, before, behind, bytes_behind, cluster, own, so_far}}
+use Rattle.mcbp_dcp.specs.declared.message.DcpMsg.TheVariants as msg
+use Rattle.transcript_law.proofs.answers.Messages.{IsAnswerTo, asks_stream, stream_answer_to, stream_wants}
+use Rattle.transcript_law.proofs.indexers.{Hands.{Goes, HandedUp, answered_agrees, answered_as, question_told, reply_lawful}, Known.{bytes_left, next_request, no_frames}, Passing.{agrees, before, behind, bytes_behind, cluster, own, same_settings, so_far}}
+use Rattle.transcript_law.proofs.indexers.Questions.{hand_asks, hand_if, in_hand, next_is}
 use Rattle.transcript_law.proofs.indexers.{Serving.{agrees_as, kept_past}, Steps.{ClientStep}, Streams.{AreOne}, Worlds.{OpensOwn, stepped, world_with}}
 use Rattle.transcript_law.proofs.invariant.{Agreement.{AgreesIn, answer_frame, idle}, ClientsTold.{ClientAgrees, KeptIs, setup_of}, Holdings.{vb_of}, OpenStreams.{Among, AreKept}, Tables.{at_here}}
 use Rattle.transcript_law.proofs.lines.Telling.{LawfulBefore, before_more, told_more}
-use Rattle.transcript_law.specs.{ClientFrames.{Request, ask_of, is_closed_by, request_in}, ClientStreams.{past_asked, past_request, unclosed}}
-use Rattle.transcript_law.specs.{LawfulClients.{RefusesBy, RefusesOwn}, StreamLaws.{LawfulSaid}, StreamsTold.{ClientKnown, ClientStream}}
+use Rattle.transcript_law.specs.{ClientFrames.{Request, ask_of, is_closed_by, message_of, request_in, set_by}, ClientStreams.{past_asked, past_request, unclosed}}
+use Rattle.transcript_law.specs.{LawfulAnswers.{FitsBy, LawfulReply}, LawfulClients.{RefusesBy, RefusesOwn}, Questions.{Question, past_question, question_of, wants_answer}, StreamLaws.{LawfulSaid}, StreamsTold.{ClientKnown, ClientStream}}
 use Rattle.vb_events.specs.declared.event.StreamName.TheVariants as name
-
--- its answer is a response
-answer_response : (opaque : ℕ) (log : List LogEntry) (said : AskAnswer) → (answer_frame opaque log said).magic ≡ RESPONSE
-unfolding dcp_frame
-answer_response opaque log said = by said
-  where
-    by : (said : AskAnswer) → (answer_frame opaque log said).magic ≡ RESPONSE
-    by AskAnswer.Go = refl
-    by (AskAnswer.Roll to) = refl
-    by (AskAnswer.Refuse code) = refl
 
 module _ (w : PlainWorld) (n c : ℕ) (node : PlainNode) (r : Chronicle) (f : Frame) (states : States) (lines : List Event) (client : PlainClient) (up : HandedUp w n c node r f states lines client) (ask : StreamAsk) (asks : ask_of f ≡ Some ask) where
   abbrev pub p : PlainProducer
@@ -57,6 +50,19 @@ module _ (w : PlainWorld) (n c : ℕ) (node : PlainNode) (r : Chronicle) (f : Fr
 
   abbrev pub request : Request
   request = record { before = served; frame = f; ask = ask }
+
+  message_is : message_of f ≡ Some (msg.StreamRequest ask)
+  message_is = asks_stream (message_of f) ask asks
+
+  -- it wants an answer
+  wanting : wants_answer (setup_of p.handshake) f ≡ true
+  wanting = stream_wants (setup_of p.handshake) f ask up.asks message_is
+
+  abbrev question : Question
+  question = record { before = mine.asks.served; frame = f }
+
+  abbrev k : Cluster
+  k = cluster w n c node r f states lines client up
 
   is_next : request_in known.bytes ≡ Some request
   is_next = next_request known was.session client.session p.handshake p.handshake f up.goes.bytes up.first up.behind ask asks mine.heard
@@ -97,7 +103,7 @@ module _ (w : PlainWorld) (n c : ℕ) (node : PlainNode) (r : Chronicle) (f : Fr
     answer = stream_answered f ask (record s { end = end }) log high said
 
     abbrev pub now : PlainClient
-    now = record client { producer = end }
+    now = record client { session = record client.session { awaited = Some (in_hand f) }; producer = end }
 
     abbrev pub new : PlainWorld
     new = world_with w n c node st (Some now)
@@ -132,6 +138,8 @@ module _ (w : PlainWorld) (n c : ℕ) (node : PlainNode) (r : Chronicle) (f : Fr
         opened = λ stream i. ap is_open a.shaken ∙ a.opened stream i;
         silent = refl;
         heard = record { served = []; front = []; bytes = left_bytes; frames = no_frames; none = refl; sets = mine.heard.sets ∙ ap setup_of (sym a.shaken) };
+        asks = hand_asks known.asking was.session now.session p.handshake end.handshake f up.goes.bytes up.first mine.asks up.free (ap (λ m. set_by m (setup_of p.handshake)) message_is ∙ ap setup_of (sym a.shaken)) up.behind refl
+            (sym (ap (λ b. hand_if b f) wanting));
         streams = a.streams;
       })
 
@@ -148,8 +156,21 @@ module _ (w : PlainWorld) (n c : ℕ) (node : PlainNode) (r : Chronicle) (f : Fr
       line_told : after_line told line ≡ told_then
       line_told = ap (λ o. record told { clients_at = with_at told.clients_at n c (past_asked o v log said known) }) is_next
 
-      both_told : after_lines told (line ∷ Event.Reply n c bytes ∷ []) ≡ told_then
-      both_told = ap (λ x. after_line x (Event.Reply n c bytes)) line_told ∙ frame_told n c bytes told_then (ap (λ (k : ClientKnown). k.told) (at_here told.clients_at n c past))
+      -- what is known then is what the request left, and it is to be answered next
+      past_here : told_then.clients_at n c ≡ past
+      past_here = at_here told.clients_at n c past
+
+      asked_next : question_of (told_then.clients_at n c).asking ≡ Some question
+      asked_next = ap (λ (k : ClientKnown). question_of k.asking) past_here ∙ next_is known.asking was.session was.session p.handshake p.handshake f up.goes.bytes up.first mine.asks up.free wanting
+
+      abbrev told_both : Chronicle
+      told_both = answered_as told_then n c (record (told_then.clients_at n c) { asking = past_question question (told_then.clients_at n c).asking })
+
+      both_told : after_lines told (line ∷ Event.Reply n c bytes ∷ []) ≡ told_both
+      both_told = ap (λ x. after_line x (Event.Reply n c bytes)) line_told ∙ question_told n c bytes told_then question (ap (λ (k : ClientKnown). k.told) past_here) asked_next
+
+      answer_is : IsAnswerTo f true bytes
+      answer_is = stream_answer_to f ask message_is up.asks log said
 
       both_lawful : LawfulBefore told (line ∷ Event.Reply n c bytes ∷ [])
       both_lawful more rest = (
@@ -164,8 +185,15 @@ module _ (w : PlainWorld) (n c : ℕ) (node : PlainNode) (r : Chronicle) (f : Fr
           reason = subst (λ x. RefusesBy x (told.role_at n v) (left v) ask said) (sym mine.heard.sets) a.reason;
           frame = (more, refl);
         },
-        (λ z. spelled_answer (answer_frame f.opaque log said) (answer_response f.opaque log said), rest),
+        ((λ z. subst (λ x. LawfulReply x n c (x.clients_at n c).asking bytes more) (sym line_told) answer_lawful), rest),
       )
+        where
+          answer_lawful : LawfulReply told_then n c (told_then.clients_at n c).asking bytes more
+          answer_lawful =
+              let (g, out, response, code, number) = answer_is in
+              subst (λ out. LawfulReply told_then n c (told_then.clients_at n c).asking out more) (sym out)
+              (reply_lawful told_then n c question g more asked_next response code number
+              (subst (λ b. FitsBy b told_then n (told_then.clients_at n c).asking.settings f g) (sym up.dcp) tt))
 
       -- so they are delivered
       named_at : (d : Desk) → d ≡ record { stream = name.Client n c; node = n; base = d.base } → (x y : ℕ) → x ≡ n → y ≡ c → with_replies x y (ask_line d f ask log high said ∷ []) bytes ≡ line ∷ Event.Reply n c bytes ∷ []
@@ -184,9 +212,10 @@ module _ (w : PlainWorld) (n c : ℕ) (node : PlainNode) (r : Chronicle) (f : Fr
       asked_goes = record {
         lawful = subst (λ es. LawfulBefore r (lines ++ es)) (sym is_delivered) (before_more r lines (line ∷ Event.Reply n c bytes ∷ []) up.goes.lawful both_lawful);
         agrees = (
-          cluster w n c node r f states lines client up,
-          subst (λ x. AgreesIn idle new x (cluster w n c node r f states lines client up)) (sym (ap (λ es. after_lines r (lines ++ es)) is_delivered ∙ told_more r lines (line ∷ Event.Reply n c bytes ∷ []) ∙ both_told))
-              (stepped w n c node states st was now told past (cluster w n c node r f states lines client up) (agrees w n c node r f states lines client up) a.step a.opens agrees_now),
+          k,
+          subst (λ x. AgreesIn idle (world_with w n c node st (Some (record client { producer = end }))) x k) (sym (ap (λ es. after_lines r (lines ++ es)) is_delivered ∙ told_more r lines (line ∷ Event.Reply n c bytes ∷ []) ∙ both_told))
+              (answered_agrees w n c node st now told_then k (stepped w n c node states st was now told past k (agrees w n c node r f states lines client up) a.step a.opens agrees_now) client.session refl refl refl
+              (in_hand f) refl question asked_next up.free (same_settings w n c node r f states lines client up)),
         );
         bytes = bytes_behind w n c node r f states lines client up;
       }

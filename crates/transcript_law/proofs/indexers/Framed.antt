@@ -6,9 +6,9 @@ use Rattle.dcp_producer.specs.Cuts.{IsShort}
 use Rattle.dcp_producer.specs.Producers.{replaced, stream_at as kept_at, without_id}
 use Rattle.dcp_producer.specs.Pulling.{Pulling, QuietOnes, with_quiet}
 use Rattle.node_core.specs.Clients.{PlainClient}
-use Rattle.transcript_law.proofs.indexers.{Owning.{IsKnown, SameHeard, over_owned, owned, went_owned, with_streams}, Replacing.{open_replaced}, Replied.{LawfulTo, TellsAs, after_more_pair, after_pair, lawful_pair, pairs_more, tells_more, with_frame}, Steps.{ClientStep}, Streams.{open_without}, Worlds.{client_here, step_quiet, stepped, vb_here, world_with}}
+use Rattle.transcript_law.proofs.indexers.{Beside.{beside}, Owning.{IsKnown, SameHeard, over_owned, owned, went_owned, with_streams}, Replacing.{open_replaced}, Replied.{LawfulTo, TellsAs, after_more_pair, after_pair, lawful_pair, pairs_more, known_behind, tells_more, with_frame}, Steps.{ClientStep}, Streams.{open_without}, Worlds.{client_here, step_quiet, stepped, vb_here, world_with}}
 use Rattle.transcript_law.proofs.invariant.{Agreement.{AgreesIn, idle, vb_of}, ClientsKept.{among_open}, ClientsTold.{ClientAgrees, KeptIs, StreamIs}, OpenStreams.{Among}, Tables.{at_here}}
-use Rattle.transcript_law.specs.{Asked.{ArePairs}, ClientFrames.{is_closed_by}, ClientStreams.{past_frame, told_of, vb_in_header, with_told}, LawfulClients.{IsQuiet}, Feeding.{HasOpen}, StreamsTold.{ClientKnown, ClientStream, StreamLine, with_at}}
+use Rattle.transcript_law.specs.{Asked.{ArePairs}, ClientFrames.{is_closed_by}, ClientStreams.{past_frame, told_of, vb_in_header, with_told}, LawfulClients.{IsQuiet}, Feeding.{HasOpen}, LinesTold.{made_line}, StreamsTold.{ClientKnown, ClientStream, StreamLine, with_at}}
 use Rattle.vb_events.specs.declared.event.Event.TheVariants as event
 
 -- a table with what it has
@@ -23,7 +23,7 @@ module _ (r : Chronicle) (n c : ℕ) (bytes : List ℕ) (line : StreamLine) (v :
   k = r.clients_at n c
 
   abbrev after : Chronicle
-  after = with_frame r n c bytes line
+  after = known_behind r n c bytes line
 
   known_is : after.clients_at n c ≡ past_frame r.tree bytes line k
   known_is = at_here r.clients_at n c (past_frame r.tree bytes line k)
@@ -40,7 +40,7 @@ module _ (r : Chronicle) (n c : ℕ) (bytes : List ℕ) (line : StreamLine) (v :
       ∙ ap (λ b. if b then option_map (told_of r.tree line) (k.streams q) else k.streams q) (ne_eqb q (vb_in_header bytes) (λ e. ne (e ∙ header)))
 
   pub framed_heard : (w w' : PlainWorld) (client : PlainClient) (a : ClientAgrees w r n c client) → SameHeard w w' r after n c client a (after.clients_at n c)
-  framed_heard w w' client a = record { bytes = ap (λ (x : ClientKnown). x.bytes) known_is; setup = ap (λ (x : ClientKnown). x.setup) known_is; told = ap (λ (x : ClientKnown). x.told) known_is }
+  framed_heard w w' client a = record { bytes = ap (λ (x : ClientKnown). x.bytes) known_is; setup = ap (λ (x : ClientKnown). x.setup) known_is; told = ap (λ (x : ClientKnown). x.told) known_is; asking = ap (λ (x : ClientKnown). x.asking) known_is }
 
 module _ (w : PlainWorld) (r : Chronicle) (cl : Cluster) (n c : ℕ) (node : PlainNode) (session : PlainSession) where
   -- the connection, and the world, in the middle of a pull
@@ -125,30 +125,37 @@ module _ (w : PlainWorld) (r : Chronicle) (cl : Cluster) (n c : ℕ) (node : Pla
       abbrev new : PlainWorld
       new = world_of states' s'
 
+      -- what is known then, and what is read
       abbrev read' : Chronicle
-      read' = with_frame read n c bytes line
+      read' = known_behind read n c bytes line
+
+      abbrev put' : Chronicle
+      put' = with_frame read n c bytes line
+
+      behind : AgreesIn idle new read' cl → AgreesIn idle new put' cl
+      behind a = beside new read' read'.conn_at (made_line read.made (event.Reply n c bytes)) cl a
 
       others : (q : ℕ) → (q ≡ t.vb → ⊥) → (read'.tree ≡ read.tree) × (read'.branch_at n q ≡ read.branch_at n q) × (read'.held n q ≡ read.held n q) × (vb_of new n q ≡ vb_of now n q) × ((read'.clients_at n c).streams q ≡ (read.clients_at n c).streams q)
       others q ne = (refl, refl, refl, vb_here w n c node states' (Some (client_of s')) q ∙ same q ne ∙ sym (vb_here w n c node states (Some (client_of s)) q), framed_there read n c bytes line t.vb header q ne)
 
       -- its stream goes on
       pub went_agrees : client_of s' ≡ with_streams (client_of s) (replaced left s.end.streams) s'.end → left.ended ≡ t.ended → (x : IsKnown now now read read n c (client_of s) mine t)
-          → StreamIs read.tree (read.branch_at n t.vb) (read.held n t.vb) (states' t.vb) (told_of read.tree line x.g) left → AgreesIn idle new read' cl
-      went_agrees is ended x stands = stepped w n c node states states' (client_of s) (client_of s') read (past_frame read.tree bytes line (read.clients_at n c)) cl g.agrees step
+          → StreamIs read.tree (read.branch_at n t.vb) (read.held n t.vb) (states' t.vb) (told_of read.tree line x.g) left → AgreesIn idle new put' cl
+      went_agrees is ended x stands = behind (stepped w n c node states states' (client_of s) (client_of s') read (past_frame read.tree bytes line (read.clients_at n c)) cl g.agrees step
           (λ v k has. inl (⊎_elim (λ o. had v k o) (λ h. h) (open_replaced left v k s.end.streams (subst (λ (y : PlainClient). HasOpen v k y.producer.streams) is has))))
           (subst (ClientAgrees new read' n c) (sym is)
           (went_owned now new read read' n c (client_of s) mine t left i id vb s'.end (framed_heard read n c bytes line t.vb header now new (client_of s) mine) others (told_of read.tree line x.g) (framed_here read n c bytes line t.vb header x.g x.known) x.unclosed
-          (subst (λ o. StreamIs read.tree (read.branch_at n t.vb) (read.held n t.vb) o (told_of read.tree line x.g) left) (sym (vb_here w n c node states' (Some (client_of s')) t.vb)) stands)))
+          (subst (λ o. StreamIs read.tree (read.branch_at n t.vb) (read.held n t.vb) o (told_of read.tree line x.g) left) (sym (vb_here w n c node states' (Some (client_of s')) t.vb)) stands))))
         where
           had : (v k : ℕ) → (left.vb ≡ v) × (left.id ≡ k) × (left.ended ≡ false) → HasOpen v k s.end.streams
           had v k o = subst (λ q. HasOpen q k s.end.streams) (sym vb ∙ o.0) (subst (λ q. HasOpen t.vb q s.end.streams) (sym id ∙ o.1) (among_open t s.end.streams i (sym ended ∙ o.2)))
 
       -- it is over
-      pub over_agrees : client_of s' ≡ with_streams (client_of s) (without_id t.id s.end.streams) s'.end → (x : IsKnown now now read read n c (client_of s) mine t) → (told_of read.tree line x.g).over ≡ true → AgreesIn idle new read' cl
-      over_agrees is x over = stepped w n c node states states' (client_of s) (client_of s') read (past_frame read.tree bytes line (read.clients_at n c)) cl g.agrees step
+      pub over_agrees : client_of s' ≡ with_streams (client_of s) (without_id t.id s.end.streams) s'.end → (x : IsKnown now now read read n c (client_of s) mine t) → (told_of read.tree line x.g).over ≡ true → AgreesIn idle new put' cl
+      over_agrees is x over = behind (stepped w n c node states states' (client_of s) (client_of s') read (past_frame read.tree bytes line (read.clients_at n c)) cl g.agrees step
           (λ v k has. inl (open_without v k t.id s.end.streams (subst (λ (y : PlainClient). HasOpen v k y.producer.streams) is has)))
           (subst (ClientAgrees new read' n c) (sym is)
-          (over_owned now new read read' n c (client_of s) mine t left i id vb s'.end (framed_heard read n c bytes line t.vb header now new (client_of s) mine) others (told_of read.tree line x.g) (framed_here read n c bytes line t.vb header x.g x.known) over))
+          (over_owned now new read read' n c (client_of s) mine t left i id vb s'.end (framed_heard read n c bytes line t.vb header now new (client_of s) mine) others (told_of read.tree line x.g) (framed_here read n c bytes line t.vb header x.g x.known) over)))
 
     -- ---- nothing was put
 
@@ -165,7 +172,7 @@ module _ (w : PlainWorld) (r : Chronicle) (cl : Cluster) (n c : ℕ) (node : Pla
             (λ v k has. inl (subst (λ (y : PlainClient). HasOpen v k y.producer.streams) is has))
             (subst (λ k. ClientAgrees (world_of states s') k n c (client_of s')) (λ i. record read { clients_at = sym known_again i }) (subst (ClientAgrees (world_of states s') read n c) (sym is)
             (owned now (world_of states s') read read n c (client_of s) mine s.end.streams s'.end (record { ids = refl; rise = mine.kept.rise; numbered = mine.kept.numbered; turn = mine.kept.turn }) mine.one mine.opened
-            (record { bytes = refl; setup = refl; told = mine.silent })
+            (record { bytes = refl; setup = refl; told = mine.silent; asking = refl })
             (λ q. subst (λ o. KeptIs read.tree (read.branch_at n q) (read.held n q) o (is_closed_by mine.heard.served q) ((read.clients_at n c).streams q) (kept_at q s.end.streams))
             (vb_here w n c node states (Some (client_of s)) q ∙ sym (vb_here w n c node states (Some (client_of s')) q)) (mine.streams q))))));
       },

@@ -1,52 +1,72 @@
 -- a client's connection in the middle of a call: it goes on, a frame of it is to be answered, or it is over
 use Rattle.std.specs.Prelude.{◌≡◌, ◌∷◌, ◌++◌, ◌==◌}
-use Rattle.transcript_law.proofs.Words.{ℕ, true, false, List, [], drop, refl, sym, ap, ◌∙◌, subst, Some, None, Ok, Event, Frame, RESPONSE, AreBytes, States, PlainNode, PlainWorld, Chronicle, after_line, after_lines}
-use Rattle.client_session.specs.{Serving.{is_dcp}}
+use Rattle.transcript_law.proofs.Words.{ℕ, true, false, List, [], drop, refl, sym, ap, ◌∙◌, subst, inl, Some, None, Ok, Event, Frame, RESPONSE, AreBytes, States, PlainNode, PlainWorld, Cluster, Chronicle, after_line, after_lines}
+use Rattle.client_session.specs.{Serving.{PlainSession, is_dcp}}
+use Rattle.client_session.specs.declared.session.Awaited.{Awaited}
 use Rattle.mcbp_frame.specs.Frames.{first_frame, frame_len}
-use Rattle.node_core.specs.Clients.{Handling, PlainClient, reply_alone}
-use Rattle.transcript_law.proofs.invariant.{Agreement.{Agrees}, ClientsTold.{ClientAgrees}}
-use Rattle.transcript_law.proofs.{indexers.Worlds.{client_here, world_with}, lines.Telling.{LawfulBefore, before_more, none_before, told_more}}
-unfoldable use Rattle.mcbp_frame.specs.Spelling.{spelling}
-use Rattle.transcript_law.specs.{ClientStreams.{clients_frame}, Feeding.{HasFed, HasOpen}, LawfulClients.{IsAnswer}}
+use Rattle.node_core.specs.Clients.{Handling, PlainClient}
+use Rattle.transcript_law.proofs.invariant.{Agreement.{Agrees, AgreesIn, idle}, ClientsTold.{AskingIs, ClientAgrees}, Tables.{at_here}}
+use Rattle.transcript_law.proofs.indexers.{Beside.{beside}, Questions.{past_asks}, Serving.{session_agrees}, Steps.{ClientStep}, Worlds.{client_here, step_quiet, stepped, stepped_same, vb_here, world_with}}
+use Rattle.transcript_law.proofs.lines.Telling.{LawfulBefore, before_more, told_more}
+use Rattle.mcbp_frame.specs.Spelling.{spelling}
+use Rattle.transcript_law.specs.{ClientStreams.{clients_frame}, Feeding.{HasFed, HasOpen}, LawfulAnswers.{FitsFrame, LawfulReply}, LinesTold.{made_line}, Questions.{Question, past_answer, past_question, past_question_if, question_of, settings_after}, StreamsTold.{ClientKnown, with_at}}
 use Rattle.vb_events.specs.declared.event.StreamName.{StreamName}
 
--- ---- lines that tell nothing
+-- ---- an answer
 
 -- nothing was told of the connection whose frame comes next
 abbrev pub NoneTold : ℕ → ℕ → Chronicle → Type 0
 NoneTold n c r = (r.clients_at n c).told ≡ None
 
--- lines that are lawful, and of which nothing is read, where that is so
-abbrev pub Silent : ℕ → ℕ → List Event → Type 0
-Silent n c lines = (r : Chronicle) → NoneTold n c r → LawfulBefore r lines × (after_lines r lines ≡ r)
+-- what is read once the client c of the node n got an answer, and this is known of it
+abbrev pub answered_as : Chronicle → ℕ → ℕ → ClientKnown → Chronicle
+answered_as r n c known = record r { clients_at = with_at r.clients_at n c known; made = made_line r.made (Event.Reply n c []) }
 
--- an answer
-pub frame_told : (n c : ℕ) (bytes : List ℕ) (r : Chronicle) → NoneTold n c r → after_line r (Event.Reply n c bytes) ≡ r
-frame_told n c bytes r none = ap (λ o. record r { clients_at = clients_frame r.tree r.clients_at n c bytes o }) none
+-- an answer is to what was asked next
+pub frame_told : (n c : ℕ) (bytes : List ℕ) (r : Chronicle) → NoneTold n c r → after_line r (Event.Reply n c bytes) ≡ answered_as r n c (past_answer (r.clients_at n c))
+frame_told n c bytes r none = ap (λ o. record r { clients_at = clients_frame r.tree r.clients_at n c bytes o; made = made_line r.made (Event.Reply n c bytes) }) none
 
-pub reply_silent : (n c : ℕ) (bytes : List ℕ) → IsAnswer bytes → Silent n c (Event.Reply n c bytes ∷ [])
-reply_silent n c bytes is r none = (λ more lawful. (λ z. is, lawful), frame_told n c bytes r none)
+pub question_told : (n c : ℕ) (bytes : List ℕ) (r : Chronicle) (q : Question) → NoneTold n c r → question_of (r.clients_at n c).asking ≡ Some q
+    → after_line r (Event.Reply n c bytes) ≡ answered_as r n c (record (r.clients_at n c) { asking = past_question q (r.clients_at n c).asking })
+question_told n c bytes r q none next =
+    frame_told n c bytes r none ∙ ap (λ o. answered_as r n c (record (r.clients_at n c) { asking = past_question_if o (r.clients_at n c).asking })) next
 
--- a response is one
-pub spelled_answer : (f : Frame) → f.magic ≡ RESPONSE → IsAnswer (spelling f)
-unfolding spelling
-spelled_answer f is = is
+-- the session alone changed, to which what it awaited was answered
+module _ (w : PlainWorld) (n c : ℕ) (node : PlainNode) (states : States) (client : PlainClient) (r : Chronicle) (k : Cluster) (a : AgreesIn idle (world_with w n c node states (Some client)) r k) (session : PlainSession) where
+  abbrev with_session : PlainClient
+  with_session = record client { session = session }
 
--- nothing, or an answer
-abbrev pub IsAnswerIf : List ℕ → Type 0
-IsAnswerIf [] = Unit {0}
-IsAnswerIf (magic ∷ bytes) = magic ≡ RESPONSE
+  abbrev own : ClientAgrees (world_with w n c node states (Some client)) r n c client
+  own = a.clients.each n c client (client_here w n c node states (Some client))
 
-pub spelled_if : (f : Frame) → f.magic ≡ RESPONSE → IsAnswerIf (spelling f)
-unfolding spelling
-spelled_if f is = is
+  abbrev step : ClientStep (world_with w n c node states (Some client)) (world_with w n c node states (Some with_session)) n c
+  step = step_quiet w n c node states states (Some client) (Some with_session) (λ q. refl)
 
-pub none_silent : (n c : ℕ) → Silent n c []
-none_silent n c r none = (none_before r, refl)
+  -- it has the bytes that it had
+  module _ (who : session.who ≡ client.session.who) (closed : session.closed ≡ client.session.closed) (reader : session.reader ≡ client.session.reader) where
+    -- and as much is known of what it asked
+    pub session_kept : AskingIs (r.clients_at n c).asking session client.producer.handshake → AgreesIn idle (world_with w n c node states (Some with_session)) r k
+    session_kept asks =
+        stepped_same w n c node states states client with_session r k a step (λ v id has. inl has)
+        (session_agrees (world_with w n c node states (Some client)) (world_with w n c node states (Some with_session)) r r n c client session own (r.clients_at n c) refl refl (refl, refl) who closed
+        (own.heard.bytes ∙ ap (λ l. own.heard.front ++ l) (sym reader)) asks refl refl refl (λ v. vb_here w n c node states (Some with_session) v ∙ sym (vb_here w n c node states (Some client) v)))
 
-pub alone_silent : (n c : ℕ) (bytes : List ℕ) → IsAnswerIf bytes → Silent n c (reply_alone n c bytes)
-alone_silent n c [] is = none_silent n c
-alone_silent n c (b ∷ bytes) is = reply_silent n c (b ∷ bytes) is
+    -- or what it awaited was answered
+    pub answered_agrees : (o : Awaited) → client.session.awaited ≡ Some o → (q : Question) → question_of (r.clients_at n c).asking ≡ Some q → session.awaited ≡ None → session.settings ≡ settings_after client.session.settings q.frame
+        → AgreesIn idle (world_with w n c node states (Some with_session)) (answered_as r n c (record (r.clients_at n c) { asking = past_question q (r.clients_at n c).asking })) k
+    answered_agrees o waits q next free settings =
+        let known : ClientKnown = record (r.clients_at n c) { asking = past_question q (r.clients_at n c).asking } in
+        let table : Chronicle = record r { clients_at = with_at r.clients_at n c known } in
+        beside (world_with w n c node states (Some with_session)) table table.conn_at (made_line r.made (Event.Reply n c [])) k
+        (stepped w n c node states states client with_session r known k a step (λ v id has. inl has)
+        (session_agrees (world_with w n c node states (Some client)) (world_with w n c node states (Some with_session)) r table n c client session own known (at_here r.clients_at n c known) refl (refl, refl) who closed
+        (own.heard.bytes ∙ ap (λ l. own.heard.front ++ l) (sym reader)) (past_asks (r.clients_at n c).asking client.session session client.producer.handshake own.asks o q waits next reader free settings)
+        refl refl refl (λ v. vb_here w n c node states (Some with_session) v ∙ sym (vb_here w n c node states (Some client) v))))
+
+-- an answer that fits is lawful
+pub reply_lawful : (r : Chronicle) (n c : ℕ) (q : Question) (answer : Frame) (behind : List Event) → question_of (r.clients_at n c).asking ≡ Some q → answer.magic ≡ RESPONSE → answer.opcode ≡ q.frame.opcode → answer.opaque ≡ q.frame.opaque
+    → FitsFrame r n (r.clients_at n c).asking.settings q.frame answer → LawfulReply r n c (r.clients_at n c).asking (spelling answer) behind
+reply_lawful r n c q answer behind next response code number fits = inl (record { question = q; next = next; answer = answer; spelled = refl; response = response; opcode = code; opaque = number; fits = fits })
 
 -- ---- the connection
 
@@ -64,6 +84,7 @@ module _ (w : PlainWorld) (n c : ℕ) (node : PlainNode) (r : Chronicle) where
     pub behind : client.session.reader ≡ drop (frame_len f) reader
     pub asks : (f.magic == RESPONSE) ≡ false
     pub dcp : is_dcp f.opcode ≡ true
+    pub free : client.session.awaited ≡ None
     pub goes : Goes states lines (record client { session = record client.session { reader = reader } })
 
   -- it is over, and told so: it is no connection of the node any more, and nobody else has one of its open streams
@@ -90,13 +111,31 @@ module _ (w : PlainWorld) (n c : ℕ) (node : PlainNode) (r : Chronicle) where
     pub mine : ClientAgrees (world_with w n c node states (Some client)) (after_lines r lines) n c client
     mine = g.agrees.1.clients.each n c client (client_here w n c node states (Some client))
 
-    -- more lines that tell nothing
-    pub lines_quiet : (more : List Event) → Silent n c more → LawfulBefore r (lines ++ more) × (after_lines r (lines ++ more) ≡ after_lines r lines)
-    lines_quiet more silent =
-        let s = silent (after_lines r lines) mine.silent in
-        (before_more r lines more g.lawful s.0, told_more r lines more ∙ s.1)
+    abbrev so_far : Chronicle
+    so_far = after_lines r lines
 
-    pub goes_quiet : (more : List Event) → Silent n c more → Goes states (lines ++ more) client
-    goes_quiet more silent =
-        let q = lines_quiet more silent in
-        record { lawful = q.0; agrees = subst (Agrees (world_with w n c node states (Some client))) (sym q.1) g.agrees; bytes = g.bytes }
+    -- the session alone is another one, that has the bytes that it had
+    module _ (session : PlainSession) (who : session.who ≡ client.session.who) (closed : session.closed ≡ client.session.closed) (reader : session.reader ≡ client.session.reader) where
+      -- while as much is known of what it asked
+      pub session_goes : AskingIs (so_far.clients_at n c).asking session client.producer.handshake → Goes states lines (record client { session = session })
+      session_goes asks = record {
+        lawful = g.lawful;
+        agrees = (g.agrees.0, session_kept w n c node states client so_far g.agrees.0 g.agrees.1 session who closed reader asks);
+        bytes = subst AreBytes (sym reader) g.bytes;
+      }
+
+      -- or what was awaited is answered
+      pub answered_goes : (o : Awaited) → client.session.awaited ≡ Some o → (q : Question) → question_of (so_far.clients_at n c).asking ≡ Some q → session.awaited ≡ None → session.settings ≡ settings_after client.session.settings q.frame
+          → (answer : Frame) → answer.magic ≡ RESPONSE → answer.opcode ≡ q.frame.opcode → answer.opaque ≡ q.frame.opaque → FitsFrame so_far n (so_far.clients_at n c).asking.settings q.frame answer
+          → Goes states (lines ++ Event.Reply n c (spelling answer) ∷ []) (record client { session = session })
+      answered_goes o waits q next free settings answer response code number fits =
+          let line : Event = Event.Reply n c (spelling answer) in
+          record {
+            lawful = before_more r lines (line ∷ []) g.lawful (λ more rest. ((λ none. reply_lawful so_far n c q answer more next response code number fits), rest));
+            agrees = (
+              g.agrees.0,
+              subst (λ x. AgreesIn idle (world_with w n c node states (Some (record client { session = session }))) x g.agrees.0) (sym (told_more r lines (line ∷ []) ∙ question_told n c (spelling answer) so_far q mine.silent next))
+                  (answered_agrees w n c node states client so_far g.agrees.0 g.agrees.1 session who closed reader o waits q next free settings),
+            );
+            bytes = subst AreBytes (sym reader) g.bytes;
+          }

@@ -4,7 +4,7 @@ use Rattle.transcript_law.proofs.Words.{ℕ, true, false, List, refl, sym, ap, �
 use Rattle.dcp_producer.specs.Producers.{is_open, replaced, stream_at as kept_at, without_id}
 use Rattle.node_core.specs.Clients.{PlainClient}
 use Rattle.transcript_law.proofs.indexers.{Replacing.{at_here_replaced, at_there_replaced, one_replaced}, Streams.{AreOne, closed_here, closed_there, one_closed}}
-use Rattle.transcript_law.proofs.invariant.{Agreement.{vb_of}, Carried.{numbers}, ClientsTold.{ClientAgrees, HeardIs, KeptIs, StreamIs}, OpenStreams.{AreKept, Among, kept_over, kept_went, replaced_ids}}
+use Rattle.transcript_law.proofs.invariant.{Agreement.{vb_of}, Carried.{numbers}, ClientsTold.{AskingIs, ClientAgrees, HeardIs, KeptIs, StreamIs}, OpenStreams.{AreKept, Among, kept_over, kept_went, replaced_ids}}
 use Rattle.transcript_law.specs.ClientFrames.{is_closed_by, setup_after}
 use Rattle.transcript_law.specs.StreamsTold.{ClientKnown, ClientStream}
 
@@ -18,6 +18,7 @@ module _ (w w' : PlainWorld) (r r' : Chronicle) (n c : ℕ) (client : PlainClien
     pub bytes : known'.bytes ≡ (r.clients_at n c).bytes
     pub setup : known'.setup ≡ (r.clients_at n c).setup
     pub told : known'.told ≡ None
+    pub asking : known'.asking ≡ (r.clients_at n c).asking
 
   heard : (known' : ClientKnown) → SameHeard known' → HeardIs known' client.session client.producer.handshake
   heard known' same =
@@ -44,6 +45,7 @@ module _ (w w' : PlainWorld) (r r' : Chronicle) (n c : ℕ) (client : PlainClien
     opened = opened;
     silent = same.told;
     heard = heard (r'.clients_at n c) same;
+    asks = subst (λ k. AskingIs k client.session client.producer.handshake) (sym same.asking) a.asks;
     streams = at;
   }
 

@@ -6,6 +6,7 @@ use Rattle.dcp_producer.specs.Serving.{frame_answered, message_answered, status_
 use Rattle.mcbp_dcp.specs.declared.message.DcpMsg.TheVariants as msg
 use Rattle.node_core.proofs.Handlings.{answered}
 use Rattle.node_core.specs.Clients.{Handling, PlainClient, delivered}
+use Rattle.transcript_law.proofs.answers.Messages.{unknown_wants}
 use Rattle.transcript_law.proofs.indexers.{Asked.{passed_ask}, Hands.{Goes, HandedUp, InHand}, Passing.{before, behind, own, passed_quiet}, Quiet.{Quietly, message_so, says, status_so}, Releasing.{passed_close}, Worlds.{world_with}}
 use Rattle.transcript_law.proofs.invariant.{Agreement.{is_down, power_of}, ClientsTold.{setup_of}}
 use Rattle.transcript_law.specs.ClientFrames.{ask_by, is_close, message_of, set_by}
@@ -27,13 +28,13 @@ module _ (w : PlainWorld) (n c : ℕ) (node : PlainNode) (r : Chronicle) (f : Fr
   -- it says nothing that is known
   unknown : message_of f ≡ None → Comes (Done (status_sent f Status.Einval s))
   unknown none = passed_quiet w n c node r f states lines client up (states, status_sent f Status.Einval s) (ap ask_by none) (ap is_close none)
-      (status_so f states p (message_of f) Status.Einval (ap (λ m. set_by m (setup_of p.handshake)) none))
+      (status_so f states p (unknown_wants (setup_of p.handshake) f up.asks none) (message_of f) Status.Einval (ap (λ m. set_by m (setup_of p.handshake)) none))
 
   -- or a message
   quiet : (m : DcpMsg) → message_of f ≡ Some m → ask_by (Some m) ≡ None → is_close (Some m) ≡ false → Comes (message_answered f m s)
   quiet m is none open_still =
       let x : States × Served = after (message_answered f m s) states in
-      passed_quiet w n c node r f states lines client up x (ap ask_by is ∙ none) (ap is_close is ∙ open_still) (subst (λ o. Quietly o states p x) (sym is) (message_so f states p at_client m none open_still))
+      passed_quiet w n c node r f states lines client up x (ap ask_by is ∙ none) (ap is_close is ∙ open_still) (subst (λ o. Quietly f o states p x) (sym is) (message_so f states p up.asks at_client m is none open_still))
 
   message : (m : DcpMsg) → message_of f ≡ Some m → Comes (message_answered f m s)
   message (msg.StreamRequest ask) is = passed_ask w n c node r f states lines client up ask (ap ask_by is) running

@@ -1,20 +1,28 @@
 -- a frame that a client's session handed up is answered, and no line tells of it
-use Rattle.std.specs.Prelude.{◌≡◌, ◌<◌, ◌++◌}
+use Rattle.std.specs.Prelude.{◌≡◌, ◌<◌, ◌++◌, ◌∷◌, if◌then◌else◌}
 use Rattle.std.proofs.lemmas.List.Elements.{All-drop}
-use Rattle.transcript_law.proofs.Words.{ℕ, false, List, [], refl, sym, ◌∙◌, subst, inl, Some, None, Event, Frame, AreBytes, States, PlainNode, PlainWorld, PlainProducer, Cluster, Chronicle, after_lines}
+use Rattle.transcript_law.proofs.Words.{ℕ, Bool, true, false, List, [], refl, sym, ap, ◌∙◌, subst, append-nil, inl, Some, None, Event, Frame, AreBytes, States, PlainNode, PlainWorld, PlainProducer, Cluster, Chronicle, after_lines}
 use Rattle.dcp_producer.specs.Producers.{Served}
 use Rattle.mcbp_frame.specs.Frames.{frame_len}
 use Rattle.node_core.specs.Clients.{PlainClient, delivered, reply_alone}
 unfoldable use Rattle.node_core.specs.Clients.{with_replies}
-use Rattle.transcript_law.proofs.indexers.{Hands.{Goes, HandedUp, IsAnswerIf, Silent, alone_silent, goes_quiet, mine}, Quiet.{Quietly}, Serving.{IsBehind, served_plain}, Steps.{ClientStep}, Worlds.{OpensOwn, step_quiet, stepped_same, vb_here, world_with}}
-use Rattle.transcript_law.proofs.invariant.{Agreement.{AgreesIn, idle}, ClientsTold.{ClientAgrees}, OpenStreams.{AreKept}}
-use Rattle.transcript_law.specs.{ClientFrames.{ask_of, is_close, message_of}, Feeding.{HasOpen}}
+use Rattle.transcript_law.proofs.answers.Messages.{IsAnswerTo}
+use Rattle.transcript_law.proofs.indexers.{Hands.{Goes, HandedUp, answered_goes, mine}, Questions.{hand_asks, hand_if, in_hand, next_is}, Quiet.{Quietly}, Serving.{IsBehind, served_plain}, Steps.{ClientStep}, Worlds.{OpensOwn, step_quiet, stepped_same, vb_here, world_with}}
+use Rattle.transcript_law.proofs.invariant.{Agreement.{AgreesIn, idle}, ClientsTold.{AskingIs, ClientAgrees, setup_of}, OpenStreams.{AreKept}}
+use Rattle.mcbp_frame.specs.Spelling.{spelling}
+use Rattle.mcbp_kv.specs.Requests.{request_of}
+use Rattle.transcript_law.specs.{ClientFrames.{ask_of, is_close, message_of, set_by}, Feeding.{HasOpen}, LawfulAnswers.{FitsBy, FitsFrame}, Questions.{Question, question_of, settings_after, settings_by, wants_answer}}
 
 -- what is kept of a producer hangs on its numbers and its streams
 pub kept_as : (p q : PlainProducer) → q.desk ≡ p.desk → q.asked ≡ p.asked → q.streams ≡ p.streams → AreKept p → AreKept q
 kept_as p q desk asked streams kept =
     subst (λ d. AreKept (record q { desk = d })) (sym desk) (subst (λ k. AreKept (record q { desk = p.desk; asked = k })) (sym asked) (subst (λ ss. AreKept (record q { desk = p.desk; asked = p.asked; streams = ss })) (sym streams)
     (record { ids = refl; rise = kept.rise; numbered = kept.numbered; turn = kept.turn })))
+
+-- what is spelled is no empty answer
+spelled_alone : (n c : ℕ) (answer : Frame) → reply_alone n c (spelling answer) ≡ Event.Reply n c (spelling answer) ∷ []
+unfolding spelling
+spelled_alone n c answer = refl
 
 module _ (w : PlainWorld) (n c : ℕ) (node : PlainNode) (r : Chronicle) (f : Frame) (states : States) (lines : List Event) (client : PlainClient) (up : HandedUp w n c node r f states lines client) where
   -- the connection that has the frame in front
@@ -40,29 +48,60 @@ module _ (w : PlainWorld) (n c : ℕ) (node : PlainNode) (r : Chronicle) (f : Fr
   pub bytes_behind : AreBytes client.session.reader
   bytes_behind = subst AreBytes (sym up.behind) (All-drop (λ b. b < 256) (frame_len f) up.reader up.goes.bytes)
 
-  pub is_behind : (world' : PlainWorld) (s : Served) → s.end.desk ≡ client.producer.desk → IsBehind (world_with w n c node states (Some before)) world' so_far n c before (behind s) f own up.goes.bytes up.first
+  -- it wants an answer
+  abbrev pub wants : Bool
+  wants = wants_answer (setup_of client.producer.handshake) f
+
+  -- the connection while the frame is being answered
+  abbrev pub hand : Served → PlainClient
+  hand s = record client { session = record client.session { awaited = hand_if wants f }; producer = s.end }
+
+  pub is_behind : (world' : PlainWorld) (s : Served) → s.end.desk ≡ client.producer.desk → IsBehind (world_with w n c node states (Some before)) world' so_far n c before (hand s) f own up.goes.bytes up.first
   is_behind world' s desk = record { who = refl; alive = own.alive; reader = up.behind; desk = desk }
 
+  pub asks_in_hand : (s : Served) → set_by (message_of f) (setup_of client.producer.handshake) ≡ setup_of s.end.handshake → AskingIs (so_far.clients_at n c).asking (hand s).session s.end.handshake
+  asks_in_hand s sets = hand_asks (so_far.clients_at n c).asking before.session (hand s).session client.producer.handshake s.end.handshake f up.goes.bytes up.first own.asks up.free sets up.behind refl refl
+
+  -- it is to be answered next
+  abbrev pub question : Question
+  question = record { before = own.asks.served; frame = f }
+
+  pub is_asked : wants ≡ true → question_of (so_far.clients_at n c).asking ≡ Some question
+  is_asked w = next_is (so_far.clients_at n c).asking before.session before.session client.producer.handshake client.producer.handshake f up.goes.bytes up.first own.asks up.free w
+
+  -- a frame of DCP is judged by the lines of its stream, and sets no feature
+  pub fits_dcp : (answer : Frame) → FitsFrame so_far n (so_far.clients_at n c).asking.settings f answer
+  fits_dcp answer = subst (λ b. FitsBy b so_far n (so_far.clients_at n c).asking.settings f answer) (sym up.dcp) tt
+
+  pub same_settings : client.session.settings ≡ settings_after client.session.settings f
+  same_settings = sym (ap (λ b. if b then client.session.settings else settings_by (request_of client.session.settings.json f) client.session.settings) up.dcp)
+
   -- its answer, where no line tells of it
-  pub answer_silent : (s : Served) → s.events ≡ [] → IsAnswerIf s.out → Silent n c (delivered client.session.who s)
+  is_alone : (s : Served) → s.events ≡ [] → delivered client.session.who s ≡ reply_alone n c s.out
   unfolding with_replies
-  answer_silent s none is = subst (λ es. Silent n c (with_replies client.session.who.node client.session.who.client es s.out)) (sym none)
-      (subst (λ x. Silent n c (reply_alone x client.session.who.client s.out)) (sym own.conn.node) (subst (λ y. Silent n c (reply_alone n y s.out)) (sym own.conn.number) (alone_silent n c s.out is)))
+  is_alone s none = ap (λ es. with_replies client.session.who.node client.session.who.client es s.out) none ∙ (λ i. reply_alone (own.conn.node i) (own.conn.number i) s.out)
 
   -- an answer of which no line tells
-  pub passed_step : (x : States × Served) → x.1.events ≡ [] → IsAnswerIf x.1.out → (step : ClientStep (world_with w n c node states (Some before)) (world_with w n c node x.0 (Some (behind x.1))) n c)
-      → OpensOwn w n c node states x.0 before (behind x.1) so_far (so_far.clients_at n c) cluster agrees step → ClientAgrees (world_with w n c node x.0 (Some (behind x.1))) so_far n c (behind x.1)
+  pub passed_step : (x : States × Served) → x.1.events ≡ [] → IsAnswerTo f wants x.1.out → (step : ClientStep (world_with w n c node states (Some before)) (world_with w n c node x.0 (Some (hand x.1))) n c)
+      → OpensOwn w n c node states x.0 before (hand x.1) so_far (so_far.clients_at n c) cluster agrees step → ClientAgrees (world_with w n c node x.0 (Some (hand x.1))) so_far n c (hand x.1)
       → Goes w n c node r x.0 (lines ++ delivered client.session.who x.1) (behind x.1)
   passed_step x none is step opens told =
-      goes_quiet w n c node r
-      (record { lawful = up.goes.lawful; agrees = (cluster, stepped_same w n c node states x.0 before (behind x.1) so_far cluster agrees step opens told); bytes = bytes_behind })
-      (delivered client.session.who x.1) (answer_silent x.1 none is)
+      subst (λ es. Goes w n c node r x.0 (lines ++ es) (behind x.1)) (sym (is_alone x.1 none))
+      (by wants refl is (record { lawful = up.goes.lawful; agrees = (cluster, stepped_same w n c node states x.0 before (hand x.1) so_far cluster agrees step opens told); bytes = bytes_behind }))
+    where
+      by : (b : Bool) → wants ≡ b → IsAnswerTo f b x.1.out → Goes w n c node r x.0 lines (record client { session = record client.session { awaited = hand_if b f }; producer = x.1.end }) → Goes w n c node r x.0 (lines ++ reply_alone n c x.1.out) (behind x.1)
+      by false unasked quiet g =
+          subst (λ es. Goes w n c node r x.0 es (behind x.1)) (sym (ap (λ out. lines ++ reply_alone n c out) quiet ∙ append-nil lines))
+          (subst (λ o. Goes w n c node r x.0 lines (record client { session = record client.session { awaited = o }; producer = x.1.end })) (sym up.free) g)
+      by true asked (answer, out, response, code, number) g =
+          subst (λ es. Goes w n c node r x.0 (lines ++ es) (behind x.1)) (sym (ap (reply_alone n c) out ∙ spelled_alone n c answer))
+          (answered_goes w n c node r g client.session refl refl refl (in_hand f) refl question (is_asked asked) up.free same_settings answer response code number (fits_dcp answer))
 
-  pub passed_quiet : (x : States × Served) → ask_of f ≡ None → is_close (message_of f) ≡ false → Quietly (message_of f) states client.producer x → Goes w n c node r x.0 (lines ++ delivered client.session.who x.1) (behind x.1)
+  pub passed_quiet : (x : States × Served) → ask_of f ≡ None → is_close (message_of f) ≡ false → Quietly f (message_of f) states client.producer x → Goes w n c node r x.0 (lines ++ delivered client.session.who x.1) (behind x.1)
   passed_quiet x none open_still q =
-      let new : PlainWorld = world_with w n c node x.0 (Some (behind x.1)) in
+      let new : PlainWorld = world_with w n c node x.0 (Some (hand x.1)) in
       let old : PlainWorld = world_with w n c node states (Some before) in
-      let told : ClientAgrees new so_far n c (behind x.1) =
-      served_plain old new so_far n c before (behind x.1) f own up.goes.bytes up.first (is_behind new x.1 q.desk) none q.sets open_still (kept_as client.producer x.1.end q.desk q.asked q.streams own.kept) q.streams q.opens
-      (λ v. vb_here w n c node x.0 (Some (behind x.1)) v ∙ q.vbs v ∙ sym (vb_here w n c node states (Some before) v)) in
-      passed_step x q.lines q.answers (step_quiet w n c node states x.0 (Some before) (Some (behind x.1)) q.vbs) (λ v id has. inl (subst (HasOpen v id) q.streams has)) told
+      let told : ClientAgrees new so_far n c (hand x.1) =
+      served_plain old new so_far n c before (hand x.1) f own up.goes.bytes up.first (is_behind new x.1 q.desk) none q.sets (asks_in_hand x.1 q.sets) open_still (kept_as client.producer x.1.end q.desk q.asked q.streams own.kept) q.streams q.opens
+      (λ v. vb_here w n c node x.0 (Some (hand x.1)) v ∙ q.vbs v ∙ sym (vb_here w n c node states (Some before) v)) in
+      passed_step x q.lines q.answers (step_quiet w n c node states x.0 (Some before) (Some (hand x.1)) q.vbs) (λ v id has. inl (subst (HasOpen v id) q.streams has)) told

@@ -9,7 +9,7 @@ use Rattle.dcp_producer.specs.Producers.{stream_at as kept_at}
 use Rattle.dcp_producer.proofs.Awake.{quiet_more}
 use Rattle.transcript_law.proofs.indexers.{Framed.{IsQuietNow, PutSoFar, QuietSoFar, SoFar, TurnSoFar, client_of, framed_there, mine, read, turned_so_far, world_of}, Marks.{next_turn}, Replied.{with_frame}, Streams.{same_number}}
 use Rattle.transcript_law.proofs.invariant.{ClientsTold.{ClientAgrees}, OpenStreams.{Among, id_among}}
-use Rattle.transcript_law.specs.{LawfulClients.{IsQuiet}, StreamsTold.{ClientStream, ClientsKnown}}
+use Rattle.transcript_law.specs.{LawfulClients.{IsQuiet}, LinesTold.{OwnChange}, StreamsTold.{ClientStream, ClientsKnown}}
 use Rattle.vbucket.specs.Takes.{TakesExactly}
 
 or_false : (a b : Bool) → (a || b) ≡ false → (a ≡ false) × (b ≡ false)
@@ -25,9 +25,9 @@ still_more : (a b : Bool) → a ≡ true → (a || b) ≡ true
 still_more true b e = refl
 still_more false b e = cc
 
--- the chronicle with other clients
-quiet_known : (r : Chronicle) (known : ClientsKnown) (n v : ℕ) (y : ClientStream) → IsQuiet r n v y → IsQuiet (record r { clients_at = known }) n v y
-quiet_known r known n v y x = record { whole = x.whole; stays = x.stays; goes_on = x.goes_on; active = x.active; none = x.none }
+-- the chronicle with other clients, and other changes
+quiet_known : (r : Chronicle) (known : ClientsKnown) (made : List OwnChange) (n v : ℕ) (y : ClientStream) → IsQuiet r n v y → IsQuiet (record r { clients_at = known; made = made }) n v y
+quiet_known r known made n v y x = record { whole = x.whole; stays = x.stays; goes_on = x.goes_on; active = x.active; none = x.none }
 
 -- the stream that has its turn is one of the streams
 in_streams : (end : PlainProducer) (t : PlainStream) → stream_in_turn end ≡ Some t → Among t end.streams
@@ -85,7 +85,7 @@ module _ (takes : TakesSnapshots) (exactly : TakesExactly) (w : PlainWorld) (r :
           let there : ((read w r cl n c node session states s g.so).clients_at n c).streams u.vb ≡ Some y =
           sym (framed_there (read w r cl n c node session states s g.so) n c put.bytes put.line t.vb put.header u.vb other) ∙ ap (λ (x : Chronicle). (x.clients_at n c).streams u.vb) (sym put.read_is) ∙ known in
           subst (λ x. IsQuiet x n u.vb y) (sym put.read_is)
-          (quiet_known (read w r cl n c node session states s g.so) (with_frame (read w r cl n c node session states s g.so) n c put.bytes put.line).clients_at n u.vb y
+          (quiet_known (read w r cl n c node session states s g.so) (with_frame (read w r cl n c node session states s g.so) n c put.bytes put.line).clients_at (with_frame (read w r cl n c node session states s g.so) n c put.bytes put.line).made n u.vb y
           (g.still (ap (λ (x : QuietOnes). x.waits) (sym same) ∙ none) u k was y there));
     }
 

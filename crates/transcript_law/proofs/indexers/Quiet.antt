@@ -13,10 +13,11 @@ use Rattle.mcbp_dcp.specs.Messages.{read_of}
 use Rattle.mcbp_dcp.specs.Rows.{dcp_opcodes}
 use Rattle.mcbp_dcp.specs.declared.message.DcpFault.{DcpFault}
 use Rattle.mcbp_dcp.specs.declared.message.DcpMsg.TheVariants as msg
-use Rattle.transcript_law.proofs.{indexers.Hands.{IsAnswerIf, spelled_if}, indexers.Setting.{SIZE, control_sets, kept_or, open_sets, opened_as, size_sets}, invariant.ClientsTold.{setup_of}}
-use Rattle.transcript_law.specs.ClientFrames.{ask_by, is_close, message_of, ok_of, set_by}
+use Rattle.transcript_law.proofs.{answers.Messages.{IsAnswerTo, answer_as, bytes_want, fresh_wants, log_answer_to, message_wants, status_to}, indexers.Setting.{SIZE, control_sets, kept_or, open_as, open_sets, opened_as, size_sets}, invariant.ClientsTold.{setup_of}}
+use Rattle.transcript_law.specs.{ClientFrames.{ask_by, is_close, message_of, ok_of, set_by}, Questions.{is_acknowledgement, wants_answer}}
 use Rattle.dcp_producer.specs.Serving.{status_frame}
-unfoldable use Rattle.mcbp_dcp.specs.DcpFrames.{dcp_frame}
+use Rattle.mcbp_dcp.specs.DcpFrames.{dcp_frame}
+use Rattle.mcbp_frame.specs.Spelling.{spelling}
 use Rattle.vb_calls.specs.declared.calls.VbCall.TheVariants as call
 use Rattle.vb_types.specs.Statuses.{status_code}
 
@@ -46,11 +47,11 @@ says f s asks dcp = by (f.datatype == 0) (read_of f) refl refl
 
 -- ---- quiet answers
 
--- so a producer answered a message
-pub record Quietly (m : Option DcpMsg) (states : States) (p : PlainProducer) (x : States × Served) : Type 0 where
+-- so a producer answered a frame that says this
+pub record Quietly (f : Frame) (m : Option DcpMsg) (states : States) (p : PlainProducer) (x : States × Served) : Type 0 where
   pub vbs : (q : ℕ) → x.0 q ≡ states q
   pub lines : x.1.events ≡ []
-  pub answers : IsAnswerIf x.1.out
+  pub answers : IsAnswerTo f (wants_answer (setup_of p.handshake) f) x.1.out
   pub desk : x.1.end.desk ≡ p.desk
   pub asked : x.1.end.asked ≡ p.asked
   pub streams : x.1.end.streams ≡ p.streams
@@ -100,79 +101,115 @@ module _ (f : Frame) (states : States) (p : PlainProducer) where
   abbrev s : Served
   s = begun p
 
-  -- a status alone, with this handshake
-  set_so : (m : Option DcpMsg) (st : Status) (set : Handshake) → set_by m (setup_of p.handshake) ≡ setup_of set → (is_open p.handshake ≡ true → is_open set ≡ true) → Quietly m states p (states, status_sent f st (with_handshake s set))
-  unfolding status_sent
-  set_so m st set sets opens = record { vbs = λ q. refl; lines = refl; answers = spelled_if (status_frame f st) refl; desk = refl; asked = refl; streams = refl; sets = sets; opens = opens }
+  -- the frame wants an answer
+  abbrev Wants : Type 0
+  Wants = wants_answer (setup_of p.handshake) f ≡ true
 
-  pub status_so : (m : Option DcpMsg) (st : Status) → set_by m (setup_of p.handshake) ≡ setup_of p.handshake → Quietly m states p (states, status_sent f st s)
-  unfolding status_sent
-  status_so m st sets = record { vbs = λ q. refl; lines = refl; answers = spelled_if (status_frame f st) refl; desk = refl; asked = refl; streams = refl; sets = sets; opens = λ e. e }
+  module _ (wants : Wants) where
+    -- which a status alone is
+    status_is : (st : Status) → IsAnswerTo f (wants_answer (setup_of p.handshake) f) (spelling (status_frame f st))
+    status_is st = answer_as f true (wants_answer (setup_of p.handshake) f) (spelling (status_frame f st)) wants (status_to f st)
 
-  -- OPEN
-  open_so : (number flags : ℕ) (text : List ℕ) (o : Option Status) → open_refusal p.handshake flags ≡ o → Quietly (Some (msg.Open number flags text)) states p (states, opened_unless o f s)
-  open_so number flags text None e =
-      set_so (Some (msg.Open number flags text)) Status.Success (opened_as None p.handshake) (open_sets p.handshake number flags text ∙ ap (λ o. setup_of (opened_as o p.handshake)) e) (λ is. refl)
-  open_so number flags text (Some st) e = status_so (Some (msg.Open number flags text)) st (open_sets p.handshake number flags text ∙ ap (λ o. setup_of (opened_as o p.handshake)) e)
+    -- a status alone, with this handshake
+    set_so : (m : Option DcpMsg) (st : Status) (set : Handshake) → set_by m (setup_of p.handshake) ≡ setup_of set → (is_open p.handshake ≡ true → is_open set ≡ true) → Quietly f m states p (states, status_sent f st (with_handshake s set))
+    unfolding status_sent
+    set_so m st set sets opens = record { vbs = λ q. refl; lines = refl; answers = status_is st; desk = refl; asked = refl; streams = refl; sets = sets; opens = opens }
 
-  -- CONTROL
-  set_by_key : (key value : List ℕ) (o : Option Handshake) → controlled p.handshake key value ≡ o → Quietly (Some (msg.Control key value)) states p (states, controlled_as o f s)
-  set_by_key key value None e = status_so (Some (msg.Control key value)) Status.Einval (control_sets p.handshake key value ∙ ap (λ o. setup_of (kept_or o p.handshake)) e)
-  set_by_key key value (Some set) e =
-      set_so (Some (msg.Control key value)) Status.Success set (control_sets p.handshake key value ∙ ap (λ o. setup_of (kept_or o p.handshake)) e) (λ is. still_open p.handshake key value set e)
+    pub status_so : (m : Option DcpMsg) (st : Status) → set_by m (setup_of p.handshake) ≡ setup_of p.handshake → Quietly f m states p (states, status_sent f st s)
+    unfolding status_sent
+    status_so m st sets = record { vbs = λ q. refl; lines = refl; answers = status_is st; desk = refl; asked = refl; streams = refl; sets = sets; opens = λ e. e }
 
-  sized_so : (key value : List ℕ) (o : Option ℕ) → bytes_eq key SIZE ≡ true → Quietly (Some (msg.Control key value)) states p (states, sized_as o f s)
-  unfolding status_sent
-  sized_so key value None e = status_so (Some (msg.Control key value)) Status.Einval (size_sets p.handshake key value e)
-  sized_so key value (Some size) e = record { vbs = λ q. refl; lines = refl; answers = spelled_if (status_frame f Status.Success) refl; desk = refl; asked = refl; streams = refl; sets = size_sets p.handshake key value e; opens = λ o. o }
+    -- OPEN
+    open_so : (number flags : ℕ) (text : List ℕ) (o : Option Status) → open_refusal p.handshake flags ≡ o → Quietly f (Some (msg.Open number flags text)) states p (states, opened_unless o f s)
+    open_so number flags text None e =
+        set_so (Some (msg.Open number flags text)) Status.Success (opened_as None p.handshake) (open_sets p.handshake number flags text ∙ ap (λ o. setup_of (opened_as o p.handshake)) e) (λ is. refl)
+    open_so number flags text (Some st) e = status_so (Some (msg.Open number flags text)) st (open_sets p.handshake number flags text ∙ ap (λ o. setup_of (opened_as o p.handshake)) e)
 
-  control_so : (key value : List ℕ) (b : Bool) → bytes_eq key SIZE ≡ b
-      → Quietly (Some (msg.Control key value)) states p (states, if b then sized_as (sized p.handshake value) f s else controlled_as (controlled p.handshake key value) f s)
-  control_so key value true e = sized_so key value (sized p.handshake value) e
-  control_so key value false e = set_by_key key value (controlled p.handshake key value) refl
+    -- CONTROL
+    set_by_key : (key value : List ℕ) (o : Option Handshake) → controlled p.handshake key value ≡ o → Quietly f (Some (msg.Control key value)) states p (states, controlled_as o f s)
+    set_by_key key value None e = status_so (Some (msg.Control key value)) Status.Einval (control_sets p.handshake key value ∙ ap (λ o. setup_of (kept_or o p.handshake)) e)
+    set_by_key key value (Some set) e =
+        set_so (Some (msg.Control key value)) Status.Success set (control_sets p.handshake key value ∙ ap (λ o. setup_of (kept_or o p.handshake)) e) (λ is. still_open p.handshake key value set e)
 
-  -- an acknowledgement of a seqno is refused at a client's desk
-  fed_none : is_client p.desk.stream ≡ true → (o : Option PlainStream) → fed_stream p.desk.stream o ≡ None
-  fed_none is None = refl
-  fed_none is (Some stream) = ap (λ b. if b || stream.ended then None else Some stream) is
+    sized_so : (key value : List ℕ) (o : Option ℕ) → bytes_eq key SIZE ≡ true → Quietly f (Some (msg.Control key value)) states p (states, sized_as o f s)
+    unfolding status_sent
+    sized_so key value None e = status_so (Some (msg.Control key value)) Status.Einval (size_sets p.handshake key value e)
+    sized_so key value (Some size) e = record { vbs = λ q. refl; lines = refl; answers = status_is Status.Success; desk = refl; asked = refl; streams = refl; sets = size_sets p.handshake key value e; opens = λ o. o }
 
-  either_so : (m : Option DcpMsg) (b : Bool) (x y : Prog Served) → Quietly m states p (after x states) → Quietly m states p (after y states) → Quietly m states p (after (if b then x else y) states)
-  either_so m true x y a c = a
-  either_so m false x y a c = c
+    control_so : (key value : List ℕ) (b : Bool) → bytes_eq key SIZE ≡ b
+        → Quietly f (Some (msg.Control key value)) states p (states, if b then sized_as (sized p.handshake value) f s else controlled_as (controlled p.handshake key value) f s)
+    control_so key value true e = sized_so key value (sized p.handshake value) e
+    control_so key value false e = set_by_key key value (controlled p.handshake key value) refl
 
-  ack_so : is_client p.desk.stream ≡ true → (seq : ℕ) → Quietly (Some (msg.SeqnoAcknowledged seq)) states p (after (acknowledged f seq s) states)
-  unfolding acknowledged
-  ack_so is seq =
-      let it : Quietly (Some (msg.SeqnoAcknowledged seq)) states p (after (count_requested f seq s (weighed seq None (member_of p.handshake))) states) = status_so (Some (msg.SeqnoAcknowledged seq)) Status.NotSupported refl in
-      either_so (Some (msg.SeqnoAcknowledged seq)) (is_open p.handshake) (count_requested f seq s (weighed seq (fed_stream p.desk.stream (kept_at f.vb_or_status p.streams)) (member_of p.handshake))) (Done (status_sent f Status.Einval s))
-      (subst (λ o. Quietly (Some (msg.SeqnoAcknowledged seq)) states p (after (count_requested f seq s (weighed seq o (member_of p.handshake))) states)) (sym (fed_none is (kept_at f.vb_or_status p.streams))) it)
-      (status_so (Some (msg.SeqnoAcknowledged seq)) Status.Einval refl)
+    -- an acknowledgement of a seqno is refused at a client's desk
+    fed_none : is_client p.desk.stream ≡ true → (o : Option PlainStream) → fed_stream p.desk.stream o ≡ None
+    fed_none is None = refl
+    fed_none is (Some stream) = ap (λ b. if b || stream.ended then None else Some stream) is
 
-  -- GET_FAILOVER_LOG
-  log_sent_so : (st : States) → ((q : ℕ) → st q ≡ states q) → (o : Option (List LogEntry)) → Quietly (Some msg.GetFailoverLog) states p (st, log_sent f s o)
-  unfolding status_sent dcp_frame
-  log_sent_so st same None = record { vbs = same; lines = refl; answers = spelled_if (status_frame f Status.Einval) refl; desk = refl; asked = refl; streams = refl; sets = refl; opens = λ o. o }
-  log_sent_so st same (Some log) = record { vbs = same; lines = refl; answers = spelled_if (dcp_frame (msg.LogAnswer (status_code Status.Success) log) f.opaque 0) refl; desk = refl; asked = refl; streams = refl; sets = refl; opens = λ o. o }
+    either_so : (m : Option DcpMsg) (b : Bool) (x y : Prog Served) → Quietly f m states p (after x states) → Quietly f m states p (after y states) → Quietly f m states p (after (if b then x else y) states)
+    either_so m true x y a c = a
+    either_so m false x y a c = c
 
-  log_so : (o : Option Plain) → states f.vb_or_status ≡ o → Quietly (Some msg.GetFailoverLog) states p (let y = call_at states f.vb_or_status call.Log o in (y.0, log_answered f s y.1))
-  log_so None e = status_so (Some msg.GetFailoverLog) Status.NotMyVbucket refl
-  log_so (Some vb) e = log_sent_so (with_vb_at states f.vb_or_status vb) (put_again states f.vb_or_status vb e) (log_given (plain_step vb call.Log).1.answer)
+    ack_so : is_client p.desk.stream ≡ true → (seq : ℕ) → Quietly f (Some (msg.SeqnoAcknowledged seq)) states p (after (acknowledged f seq s) states)
+    unfolding acknowledged
+    ack_so is seq =
+        let it : Quietly f (Some (msg.SeqnoAcknowledged seq)) states p (after (count_requested f seq s (weighed seq None (member_of p.handshake))) states) = status_so (Some (msg.SeqnoAcknowledged seq)) Status.NotSupported refl in
+        either_so (Some (msg.SeqnoAcknowledged seq)) (is_open p.handshake) (count_requested f seq s (weighed seq (fed_stream p.desk.stream (kept_at f.vb_or_status p.streams)) (member_of p.handshake))) (Done (status_sent f Status.Einval s))
+        (subst (λ o. Quietly f (Some (msg.SeqnoAcknowledged seq)) states p (after (count_requested f seq s (weighed seq o (member_of p.handshake))) states)) (sym (fed_none is (kept_at f.vb_or_status p.streams))) it)
+        (status_so (Some (msg.SeqnoAcknowledged seq)) Status.Einval refl)
 
-  -- bytes
-  bytes_so : (bytes : ℕ) (b : Bool) (end : PlainProducer) → end.desk ≡ p.desk → end.asked ≡ p.asked → end.streams ≡ p.streams → end.handshake ≡ p.handshake
-      → Quietly (Some (msg.BufferAcknowledgement bytes)) states p (states, if b then record s { end = end } else status_sent f Status.Einval s)
-  bytes_so bytes true end desk asked streams shaken = record { vbs = λ q. refl; lines = refl; answers = tt; desk = desk; asked = asked; streams = streams; sets = ap setup_of (sym shaken); opens = λ o. ap is_open shaken ∙ o }
-  bytes_so bytes false end desk asked streams shaken = status_so (Some (msg.BufferAcknowledgement bytes)) Status.Einval refl
+    -- GET_FAILOVER_LOG
+    module _ (logs : (log : List LogEntry) → IsAnswerTo f true (spelling (dcp_frame (msg.LogAnswer (status_code Status.Success) log) f.opaque 0))) where
+      log_sent_so : (st : States) → ((q : ℕ) → st q ≡ states q) → (o : Option (List LogEntry)) → Quietly f (Some msg.GetFailoverLog) states p (st, log_sent f s o)
+      unfolding status_sent
+      log_sent_so st same None = record { vbs = same; lines = refl; answers = status_is Status.Einval; desk = refl; asked = refl; streams = refl; sets = refl; opens = λ o. o }
+      log_sent_so st same (Some log) = record {
+        vbs = same;
+        lines = refl;
+        answers = answer_as f true (wants_answer (setup_of p.handshake) f) (spelling (dcp_frame (msg.LogAnswer (status_code Status.Success) log) f.opaque 0)) wants (logs log);
+        desk = refl;
+        asked = refl;
+        streams = refl;
+        sets = refl;
+        opens = λ o. o;
+      }
 
-  -- each message but a request for a stream and CLOSE_STREAM
-  pub message_so : is_client p.desk.stream ≡ true → (m : DcpMsg) → ask_by (Some m) ≡ None → is_close (Some m) ≡ false → Quietly (Some m) states p (after (message_answered f m s) states)
-  message_so is (msg.Open number flags text) none open_still = open_so number flags text (open_refusal p.handshake flags) refl
-  message_so is (msg.Control key value) none open_still = control_so key value (bytes_eq key SIZE) refl
-  message_so is (msg.StreamRequest ask) none open_still = cc
-  message_so is (msg.SeqnoAcknowledged seq) none open_still = ack_so is seq
-  message_so is (msg.BufferAcknowledgement bytes) none open_still = bytes_so bytes (is_open p.handshake) _ refl refl refl refl
-  message_so is msg.CloseStream none open_still = cc
-  message_so is msg.GetFailoverLog none open_still = either_so (Some msg.GetFailoverLog) (is_open p.handshake) (Call f.vb_or_status call.Log (λ reply. Done (log_answered f s reply))) (Done (status_sent f Status.Einval s))
-      (log_so (states f.vb_or_status) refl) (status_so (Some msg.GetFailoverLog) Status.Einval refl)
-  message_so is msg.Noop none open_still = status_so (Some msg.Noop) _ refl
-  message_so is other none open_still = status_so (Some other) Status.Einval refl
+      log_so : (o : Option Plain) → states f.vb_or_status ≡ o → Quietly f (Some msg.GetFailoverLog) states p (let y = call_at states f.vb_or_status call.Log o in (y.0, log_answered f s y.1))
+      log_so None e = status_so (Some msg.GetFailoverLog) Status.NotMyVbucket refl
+      log_so (Some vb) e = log_sent_so (with_vb_at states f.vb_or_status vb) (put_again states f.vb_or_status vb e) (log_given (plain_step vb call.Log).1.answer)
+
+  module _ (asks : (f.magic == RESPONSE) ≡ false) where
+    -- bytes: there is no answer over an open connection
+    bytes_so : (bytes : ℕ) → message_of f ≡ Some (msg.BufferAcknowledgement bytes) → (b : Bool) → is_open p.handshake ≡ b → (end : PlainProducer) → end.desk ≡ p.desk → end.asked ≡ p.asked → end.streams ≡ p.streams → end.handshake ≡ p.handshake
+        → Quietly f (Some (msg.BufferAcknowledgement bytes)) states p (states, if b then record s { end = end } else status_sent f Status.Einval s)
+    bytes_so bytes says true is end desk asked streams shaken = record {
+      vbs = λ q. refl;
+      lines = refl;
+      answers = answer_as f false (wants_answer (setup_of p.handshake) f) [] (bytes_want (setup_of p.handshake) f bytes says (open_as p.handshake ∙ is)) refl;
+      desk = desk;
+      asked = asked;
+      streams = streams;
+      sets = ap setup_of (sym shaken);
+      opens = λ o. ap is_open shaken ∙ o;
+    }
+    bytes_so bytes says false is end desk asked streams shaken = status_so (fresh_wants (setup_of p.handshake) f asks (open_as p.handshake ∙ is)) (Some (msg.BufferAcknowledgement bytes)) Status.Einval refl
+
+    module _ (is : is_client p.desk.stream ≡ true) where
+      -- one that acknowledges no bytes wants an answer
+      wants_so : (m : DcpMsg) → message_of f ≡ Some m → is_acknowledgement (Some m) ≡ false → Wants
+      wants_so m says other = message_wants (setup_of p.handshake) f (Some m) asks says other
+
+      -- each message but a request for a stream and CLOSE_STREAM
+      pub message_so : (m : DcpMsg) → message_of f ≡ Some m → ask_by (Some m) ≡ None → is_close (Some m) ≡ false → Quietly f (Some m) states p (after (message_answered f m s) states)
+      message_so (msg.Open number flags text) says none open_still = open_so (wants_so (msg.Open number flags text) says refl) number flags text (open_refusal p.handshake flags) refl
+      message_so (msg.Control key value) says none open_still = control_so (wants_so (msg.Control key value) says refl) key value (bytes_eq key SIZE) refl
+      message_so (msg.StreamRequest ask) says none open_still = cc
+      message_so (msg.SeqnoAcknowledged seq) says none open_still = ack_so (wants_so (msg.SeqnoAcknowledged seq) says refl) is seq
+      message_so (msg.BufferAcknowledgement bytes) says none open_still = bytes_so bytes says (is_open p.handshake) refl _ refl refl refl refl
+      message_so msg.CloseStream says none open_still = cc
+      message_so msg.GetFailoverLog says none open_still =
+          let wants : Wants = wants_so msg.GetFailoverLog says refl in
+          either_so wants (Some msg.GetFailoverLog) (is_open p.handshake) (Call f.vb_or_status call.Log (λ reply. Done (log_answered f s reply))) (Done (status_sent f Status.Einval s))
+          (log_so wants (λ log. log_answer_to f says asks (status_code Status.Success) log) (states f.vb_or_status) refl) (status_so wants (Some msg.GetFailoverLog) Status.Einval refl)
+      message_so msg.Noop says none open_still = status_so (wants_so msg.Noop says refl) (Some msg.Noop) _ refl
+      message_so other says none open_still = status_so (wants_so other says refl) (Some other) Status.Einval refl

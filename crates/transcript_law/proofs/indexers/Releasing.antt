@@ -6,10 +6,10 @@ use Rattle.dcp_producer.specs.Serving.{close_requested, closed_sent, status_fram
 unfoldable use Rattle.dcp_producer.specs.Serving.{status_sent}
 use Rattle.mcbp_dcp.specs.declared.message.DcpMsg.TheVariants as msg
 use Rattle.node_core.specs.Clients.{PlainClient, delivered}
-use Rattle.transcript_law.proofs.indexers.{Hands.{Goes, HandedUp, spelled_if}, Passing.{agrees, before, behind, cluster, is_behind, kept_as, own, passed_step, so_far}, Quiet.{put_here, put_there}}
+use Rattle.transcript_law.proofs.indexers.{Hands.{Goes, HandedUp}, Passing.{agrees, asks_in_hand, before, behind, cluster, hand, is_behind, kept_as, own, passed_step, so_far}, Quiet.{put_here, put_there}}
 use Rattle.transcript_law.proofs.indexers.{Serving.{served_close}, Steps.{ClientStep}, Streams.{among_without, closed_here, closed_there, found_is, none_at, one_closed, open_without}, Worlds.{client_here, open_own, step_at, step_quiet, vb_here, world_with}}
 use Rattle.transcript_law.proofs.invariant.{Agreement.{AgreesAt, VbAgrees}, Carried.{sound_streams}, Carrying.{StreamsChanged}, ClientsKept.{found_open, open_known}, ClientsTold.{ClientAgrees, setup_of}, OpenStreams.{kept_over}, Seats.{seat}}
-use Rattle.transcript_law.proofs.links.Cutting.{closed_others}
+use Rattle.transcript_law.proofs.{answers.Messages.{close_answer_to}, links.Cutting.{closed_others}}
 use Rattle.transcript_law.specs.{ClientFrames.{ask_by, ask_of, is_close, message_of, set_by}, Feeding.{HasFed, HasOpen}}
 use Rattle.vb_calls.specs.declared.calls.VbCall.TheVariants as call
 use Rattle.vb_events.specs.declared.event.StreamName.TheVariants as name
@@ -48,12 +48,12 @@ module _ (w : PlainWorld) (n c : ℕ) (node : PlainNode) (r : Chronicle) (f : Fr
   unfolding status_sent
   unheld st none =
       let x : States × Served = (states, status_sent f st s) in
-      let client' : PlainClient = behind w n c node r f states lines client up x.1 in
+      let client' : PlainClient = hand w n c node r f states lines client up x.1 in
       let new : PlainWorld = world_with w n c node states (Some client') in
       let told : ClientAgrees new (so_far w n c node r f states lines client up) n c client' =
       served_close old new (so_far w n c node r f states lines client up) n c (before w n c node r f states lines client up) client' f mine up.goes.bytes up.first (is_behind w n c node r f states lines client up new x.1 refl) no_ask sets
-      closing mine.kept mine.one (λ t i. i) refl none (λ q other. (refl, vb_here w n c node states (Some client') q ∙ sym (vb_here w n c node states (Some (before w n c node r f states lines client up)) q))) in
-      passed_step w n c node r f states lines client up x refl (spelled_if (status_frame f st) refl) (step_quiet w n c node states states (Some (before w n c node r f states lines client up)) (Some client') (λ q. refl)) (λ q id has. inl has) told
+      (asks_in_hand w n c node r f states lines client up x.1 sets) closing mine.kept mine.one (λ t i. i) refl none (λ q other. (refl, vb_here w n c node states (Some client') q ∙ sym (vb_here w n c node states (Some (before w n c node r f states lines client up)) q))) in
+      passed_step w n c node r f states lines client up x refl (close_answer_to (setup_of p.handshake) f says up.asks st) (step_quiet w n c node states states (Some (before w n c node r f states lines client up)) (Some client') (λ q. refl)) (λ q id has. inl has) told
 
   -- there is one
   module _ (stream : PlainStream) (found : kept_at v p.streams ≡ Some stream) where
@@ -63,23 +63,23 @@ module _ (w : PlainWorld) (n c : ℕ) (node : PlainNode) (r : Chronicle) (f : Fr
     abbrev client_of : PlainClient
     client_of = record client { producer = (closed_sent f stream.id s).end }
 
-    held : (st : States) → ((q : ℕ) → (q ≡ v → ⊥) → st q ≡ states q) → ClientStep old (world_with w n c node st (Some (behind w n c node r f states lines client up (closed_sent f stream.id s)))) n c → Comes (x_of st)
+    held : (st : States) → ((q : ℕ) → (q ≡ v → ⊥) → st q ≡ states q) → ClientStep old (world_with w n c node st (Some (hand w n c node r f states lines client up (closed_sent f stream.id s)))) n c → Comes (x_of st)
     unfolding status_sent
     held st others step =
         let x : States × Served = x_of st in
-        let client' : PlainClient = behind w n c node r f states lines client up x.1 in
+        let client' : PlainClient = hand w n c node r f states lines client up x.1 in
         let new : PlainWorld = world_with w n c node st (Some client') in
         let told : ClientAgrees new (so_far w n c node r f states lines client up) n c client' =
         served_close old new (so_far w n c node r f states lines client up) n c (before w n c node r f states lines client up) client' f mine up.goes.bytes up.first (is_behind w n c node r f states lines client up new x.1 refl) no_ask sets
-        closing (kept_as (record p { streams = without_id stream.id p.streams }) x.1.end refl refl refl (kept_over p stream.id mine.kept)) (one_closed v stream p.streams mine.kept.rise mine.one found) (λ t i. among_without t stream.id p.streams i) refl
+        (asks_in_hand w n c node r f states lines client up x.1 sets) closing (kept_as (record p { streams = without_id stream.id p.streams }) x.1.end refl refl refl (kept_over p stream.id mine.kept)) (one_closed v stream p.streams mine.kept.rise mine.one found) (λ t i. among_without t stream.id p.streams i) refl
         (closed_here v stream p.streams mine.kept.rise mine.one found)
         (λ q other. (closed_there v stream p.streams mine.kept.rise mine.one found q other, vb_here w n c node st (Some client') q ∙ others q other ∙ sym (vb_here w n c node states (Some (before w n c node r f states lines client up)) q))) in
-        passed_step w n c node r f states lines client up x refl (spelled_if (status_frame f Status.Success) refl) step (λ q id has. inl (open_without q id stream.id p.streams has)) told
+        passed_step w n c node r f states lines client up x refl (close_answer_to (setup_of p.handshake) f says up.asks Status.Success) step (λ q id has. inl (open_without q id stream.id p.streams has)) told
 
     -- a change of role ended it before
     over_before : Comes (x_of states)
     unfolding status_sent
-    over_before = held states (λ q other. refl) (step_quiet w n c node states states (Some (before w n c node r f states lines client up)) (Some (behind w n c node r f states lines client up (closed_sent f stream.id s))) (λ q. refl))
+    over_before = held states (λ q other. refl) (step_quiet w n c node states states (Some (before w n c node r f states lines client up)) (Some (hand w n c node r f states lines client up (closed_sent f stream.id s))) (λ q. refl))
 
     -- it is closed at its vBucket
     closed_there_too : stream.ended ≡ false → Comes (after (Call stream.vb (call.CloseStream stream.id) (λ reply. Done (closed_sent f stream.id s))) states)
@@ -98,7 +98,7 @@ module _ (w : PlainWorld) (n c : ℕ) (node : PlainNode) (r : Chronicle) (f : Fr
         subst Comes {x = (st, closed_sent f stream.id s)} (sym (ap (λ q. after (Call q (call.CloseStream stream.id) (λ reply. Done (closed_sent f stream.id s))) states) at
         ∙ ap (λ o. ((call_at states v (call.CloseStream stream.id) o).0, closed_sent f stream.id s)) there))
         (held st (λ q other. put_there states v pv' q other)
-        (step_at w n c node states st (Some (before w n c node r f states lines client up)) (Some (behind w n c node r f states lines client up (closed_sent f stream.id s))) v stream.id pv pv' there (put_here states v pv') (λ q other. put_there states v pv' q other) changed
+        (step_at w n c node states st (Some (before w n c node r f states lines client up)) (Some (hand w n c node r f states lines client up (closed_sent f stream.id s))) v stream.id pv pv' there (put_here states v pv') (λ q other. put_there states v pv' q other) changed
         (open_own w n c node old (so_far w n c node r f states lines client up) (cluster w n c node r f states lines client up) (agrees w n c node r f states lines client up) v stream.id fed)))
 
     by_ended : (b : Bool) → stream.ended ≡ b → Comes (after (if b then Done (closed_sent f stream.id s) else Call stream.vb (call.CloseStream stream.id) (λ reply. Done (closed_sent f stream.id s))) states)

@@ -11,6 +11,7 @@ use Rattle.transcript_law.proofs.invariant.{Holdings.{ActFits, ChangeFits}, Tabl
 use Rattle.transcript_law.specs.Asked.{ArePairs}
 use Rattle.transcript_law.specs.ClientStreams.{clients_frame, past_frame, vb_in_header, with_told}
 use Rattle.transcript_law.specs.LawfulClients.{IsPut}
+use Rattle.transcript_law.specs.LinesTold.{made_line}
 use Rattle.transcript_law.specs.StreamsTold.{ClientKnown, ClientStream, ClientsKnown, StreamLine, with_at}
 use Rattle.vb_events.specs.declared.event.Event.TheVariants as event
 use Rattle.vb_types.specs.declared.change.Act.TheVariants as act
@@ -81,8 +82,12 @@ pub table_put_twice : {A : Type 0} (table : ℕ → ℕ → A) (n c : ℕ) (x y 
 table_put_twice table n c x y = λ i m d. table_twice table n c x y m d i
 
 -- of the client c of the node n
+abbrev pub known_behind : Chronicle → ℕ → ℕ → List ℕ → StreamLine → Chronicle
+known_behind r n c bytes line = record r { clients_at = with_at r.clients_at n c (past_frame r.tree bytes line (r.clients_at n c)) }
+
+-- and of all
 abbrev pub with_frame : Chronicle → ℕ → ℕ → List ℕ → StreamLine → Chronicle
-with_frame r n c bytes line = record r { clients_at = with_at r.clients_at n c (past_frame r.tree bytes line (r.clients_at n c)) }
+with_frame r n c bytes line = record (known_behind r n c bytes line) { made = made_line r.made (event.Reply n c bytes) }
 
 pub after_pair : (r : Chronicle) (n c : ℕ) (told : Event) (bytes : List ℕ) (line : StreamLine) → after_line r told ≡ record r { clients_at = with_at r.clients_at n c (with_told line (r.clients_at n c)) }
     → after_line (after_line r told) (event.Reply n c bytes) ≡ with_frame r n c bytes line
@@ -90,9 +95,9 @@ after_pair r n c told bytes line is =
     let k : ClientsKnown = with_at r.clients_at n c (with_told line (r.clients_at n c)) in
     let here : k n c ≡ with_told line (r.clients_at n c) = at_here r.clients_at n c (with_told line (r.clients_at n c)) in
     ap (λ r'. after_line r' (event.Reply n c bytes)) is
-    ∙ ap (λ (known : ClientKnown). record r { clients_at = clients_frame r.tree k n c bytes known.told }) here
-    ∙ ap (λ (known : ClientKnown). record r { clients_at = with_at k n c (past_frame r.tree bytes line known) }) here
-    ∙ ap (λ table. record r { clients_at = table }) (table_put_twice r.clients_at n c (with_told line (r.clients_at n c)) (past_frame r.tree bytes line (r.clients_at n c)))
+    ∙ ap (λ (known : ClientKnown). record r { clients_at = clients_frame r.tree k n c bytes known.told; made = made_line r.made (event.Reply n c bytes) }) here
+    ∙ ap (λ (known : ClientKnown). record r { clients_at = with_at k n c (past_frame r.tree bytes line known); made = made_line r.made (event.Reply n c bytes) }) here
+    ∙ ap (λ table. record r { clients_at = table; made = made_line r.made (event.Reply n c bytes) }) (table_put_twice r.clients_at n c (with_told line (r.clients_at n c)) (past_frame r.tree bytes line (r.clients_at n c)))
 
 -- ---- lines with their frames
 

@@ -8,7 +8,7 @@ use Rattle.node_core.specs.Clients.{PlainClient}
 use Rattle.transcript_law.proofs.indexers.{Known.{closed_more}, Streams.{AreOne}}
 unfoldable use Rattle.transcript_law.proofs.indexers.Known.{heard_more}
 use Rattle.vb_events.specs.declared.event.StreamName.TheVariants as name
-use Rattle.transcript_law.proofs.invariant.ClientsTold.{ClientAgrees, HeardIs, IsConn, KeptIs, setup_of}
+use Rattle.transcript_law.proofs.invariant.ClientsTold.{AskingIs, ClientAgrees, HeardIs, IsConn, KeptIs, setup_of}
 use Rattle.transcript_law.proofs.invariant.{Holdings.{vb_of}, OpenStreams.{Among, AreKept}}
 use Rattle.transcript_law.specs.ClientFrames.{ask_of, closes, is_close, is_closed_by, message_of, set_by, setup_after}
 use Rattle.transcript_law.specs.StreamsTold.{ClientKnown, ClientStream}
@@ -22,6 +22,7 @@ pub record AgreesAs (w : PlainWorld) (r : Chronicle) (n c : ℕ) (client : Plain
   pub opened : (stream : PlainStream) → Among stream client.producer.streams → is_open client.producer.handshake ≡ true
   pub silent : known.told ≡ None
   pub heard : HeardIs known client.session client.producer.handshake
+  pub asks : AskingIs known.asking client.session client.producer.handshake
   pub streams : (v : ℕ) → KeptIs r.tree (r.branch_at n v) (r.held n v) (vb_of w n v) (is_closed_by heard.served v) (known.streams v) (kept_at v client.producer.streams)
 
 pub agrees_as : (w : PlainWorld) (r : Chronicle) (n c : ℕ) (client : PlainClient) (known : ClientKnown) → r.clients_at n c ≡ known → AgreesAs w r n c client known → ClientAgrees w r n c client
@@ -40,14 +41,15 @@ agrees_as w r n c client known same a = record {
     none = a.heard.none;
     sets = ap (λ (k : ClientKnown). setup_after k.setup a.heard.served) same ∙ a.heard.sets;
   };
+  asks = subst (λ (k : ClientKnown). AskingIs k.asking client.session client.producer.handshake) (sym same) a.asks;
   streams = λ v. subst (λ (k : ClientKnown). KeptIs r.tree (r.branch_at n v) (r.held n v) (vb_of w n v) (is_closed_by a.heard.served v) (k.streams v) (kept_at v client.producer.streams)) (sym same) (a.streams v);
 }
 
--- the session alone changed, and no frame was served: as much as it keeps is known to have come
+-- the session alone changed, and no frame was served: as much as it keeps is known to have come, and what it asked
 pub session_agrees : (w w' : PlainWorld) (r r' : Chronicle) (n c : ℕ) (client : PlainClient) (session : PlainSession) (a : ClientAgrees w r n c client) (known : ClientKnown) → r'.clients_at n c ≡ known
     → known.streams ≡ (r.clients_at n c).streams → (known.setup ≡ (r.clients_at n c).setup) × (known.told ≡ (r.clients_at n c).told) → session.who ≡ client.session.who → session.closed ≡ client.session.closed → known.bytes ≡ a.heard.front ++ session.reader
-    → r'.tree ≡ r.tree → r'.branch_at ≡ r.branch_at → r'.held ≡ r.held → ((v : ℕ) → vb_of w' n v ≡ vb_of w n v) → ClientAgrees w' r' n c (record client { session = session })
-session_agrees w w' r r' n c client session a known is streams others who closed bytes tree branch held vbs = agrees_as w' r' n c (record client { session = session }) known is (record {
+    → AskingIs known.asking session client.producer.handshake → r'.tree ≡ r.tree → r'.branch_at ≡ r.branch_at → r'.held ≡ r.held → ((v : ℕ) → vb_of w' n v ≡ vb_of w n v) → ClientAgrees w' r' n c (record client { session = session })
+session_agrees w w' r r' n c client session a known is streams others who closed bytes asks tree branch held vbs = agrees_as w' r' n c (record client { session = session }) known is (record {
   conn = record { node = ap (λ x. x.node) who ∙ a.conn.node; number = ap (λ x. x.client) who ∙ a.conn.number; desk = a.conn.desk ∙ ap (λ x. record { stream = name.Client n c; node = n; base = x.base }) (sym who) };
   alive = closed ∙ a.alive;
   kept = a.kept;
@@ -55,6 +57,7 @@ session_agrees w w' r r' n c client session a known is streams others who closed
   opened = a.opened;
   silent = others.1 ∙ a.silent;
   heard = record { served = a.heard.served; front = a.heard.front; bytes = bytes; frames = a.heard.frames; none = a.heard.none; sets = ap (λ x. setup_after x a.heard.served) others.0 ∙ a.heard.sets };
+  asks = asks;
   streams = λ v. subst (λ x. x) (λ i. KeptIs (sym tree i) (sym branch i n v) (sym held i n v) (sym (vbs v) i) (is_closed_by a.heard.served v) (sym streams i v) (kept_at v client.producer.streams)) (a.streams v);
 })
 
@@ -115,7 +118,8 @@ module _ (w w' : PlainWorld) (r : Chronicle) (n c : ℕ) (client client' : Plain
     desk = behind.desk ∙ a.conn.desk ∙ ap (λ x. record { stream = name.Client n c; node = n; base = x.base }) (sym behind.who);
   }
 
-  module _ (behind : IsBehind) (none : ask_of f ≡ None) (sets : set_by (message_of f) (setup_of client.producer.handshake) ≡ setup_of client'.producer.handshake) where
+  module _ (behind : IsBehind) (none : ask_of f ≡ None) (sets : set_by (message_of f) (setup_of client.producer.handshake) ≡ setup_of client'.producer.handshake)
+      (asks : AskingIs (r.clients_at n c).asking client'.session client'.producer.handshake) where
     abbrev heard : HeardIs (r.clients_at n c) client'.session client'.producer.handshake
     heard = heard_more (r.clients_at n c) client.session client'.session client.producer.handshake client'.producer.handshake f bytes first behind.reader none sets a.heard
 
@@ -131,6 +135,7 @@ module _ (w w' : PlainWorld) (r : Chronicle) (n c : ℕ) (client client' : Plain
       opened = λ stream i. opens (a.opened stream (subst (Among stream) same i));
       silent = a.silent;
       heard = heard;
+      asks = asks;
       streams = λ v.
           let closed : is_closed_by heard.served v ≡ is_closed_by a.heard.served v = closed_more a.heard.served f v ∙ ap (λ b. is_closed_by a.heard.served v || b) (closes_none f v open_still) ∙ or_false (is_closed_by a.heard.served v) in
           subst (λ b. KeptIs r.tree (r.branch_at n v) (r.held n v) (vb_of w' n v) b ((r.clients_at n c).streams v) (kept_at v client'.producer.streams)) (sym closed)
@@ -151,6 +156,7 @@ module _ (w w' : PlainWorld) (r : Chronicle) (n c : ℕ) (client client' : Plain
       opened = λ stream i. ap is_open shaken ∙ a.opened stream (fewer stream i);
       silent = a.silent;
       heard = heard;
+      asks = asks;
       streams = λ v. by v (v == f.vb_or_status) refl;
     })
       where

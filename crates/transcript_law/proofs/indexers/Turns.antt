@@ -1,6 +1,6 @@
 -- what holds behind all that a client's connection does with bytes and outcomes, where no frame is served while one that was handed up is to be answered; and none is at the end
 use Rattle.std.specs.Prelude.{◌≡◌, ◌<◌, ◌++◌, ◌==◌, if◌then◌else◌}
-use Rattle.transcript_law.proofs.Words.{ℕ, zero, suc, Bool, true, false, List, [], drop, append-nil, refl, sym, ap, ◌∙◌, subst, arith, Option, Some, None, Ok, Err, Event, Frame, FrameFault, PlainProducer, States, after, after_bind, Prog, Done, Turn, More}
+use Rattle.transcript_law.proofs.Words.{ℕ, zero, suc, Bool, true, false, List, [], drop, append-nil, refl, sym, ap, ◌∙◌, subst, arith, eqb-true, Option, Some, None, Ok, Err, Event, Frame, FrameFault, PlainProducer, States, after, after_bind, Prog, Done, Turn, More}
 use Rattle.client_session.proofs.{Conduct.{Stays, either, frame_stays}, Keeping.{front_of}, Turns.{by_turns, turns_fault, turns_frame, turns_none, turns_waiting}}
 use Rattle.client_session.specs.Serving.{PlainSession, Served, ended_at, is_held, outcome_answered, outcome_by, served, with_bytes}
 unfoldable use Rattle.client_session.specs.Serving.{bytes_handled, frame_handled, outcome_handled, turns_handled}
@@ -146,14 +146,16 @@ module _ (P : States × Handling → Type 0) (clock : ℕ)
       subst AtRest (sym (after_bind run (handled_on clock client.producer) states)) (on_goes client.producer x.1 x.0 (open_go [] client.producer piece (served client.session []) states alive more))
 
   outcome_by_goes : (producer : PlainProducer) (r : Resolved) (s : Served) (states : States) (o : Option Awaited) → s.session.awaited ≡ o → P (states, went_on [] producer s)
-      → ((a : Awaited) → s.session.awaited ≡ Some a → P (states, went_on [] producer (outcome_answered a r.how s))) → let x = after (outcome_by clock r s o) states in P (x.0, went_on [] producer x.1)
+      → ((a : Awaited) → s.session.awaited ≡ Some a → a.waiter ≡ r.waiter → P (states, went_on [] producer (outcome_answered a r.how s))) → let x = after (outcome_by clock r s o) states in P (x.0, went_on [] producer x.1)
   outcome_by_goes producer r s states None e p told = p
-  outcome_by_goes producer r s states (Some a) e p told =
-      either (λ prog. let x = after prog states in P (x.0, went_on [] producer x.1)) (a.waiter == r.waiter) (turns_handled clock (outcome_answered a r.how s)) (Done s)
-      (turns_go [] producer (outcome_answered a r.how s) states (told a e)) p
+  outcome_by_goes producer r s states (Some a) e p told = by (a.waiter == r.waiter) refl
+    where
+      by : (b : Bool) → (a.waiter == r.waiter) ≡ b → let x = after (if b then turns_handled clock (outcome_answered a r.how s) else Done s) states in P (x.0, went_on [] producer x.1)
+      by true same = turns_go [] producer (outcome_answered a r.how s) states (told a e (eqb-true a.waiter r.waiter same))
+      by false other = p
 
   pub posted_goes : (r : Resolved) (client : PlainClient) (states : States) → P (states, started client)
-      → ((a : Awaited) → client.session.awaited ≡ Some a → P (states, went_on [] client.producer (outcome_answered a r.how (served client.session [])))) → AtRest (after (client_posted clock r client) states)
+      → ((a : Awaited) → client.session.awaited ≡ Some a → a.waiter ≡ r.waiter → P (states, went_on [] client.producer (outcome_answered a r.how (served client.session [])))) → AtRest (after (client_posted clock r client) states)
   unfolding client_posted outcome_handled
   posted_goes r client states p told =
       let run : Prog Served = outcome_handled clock r (served client.session []) in

@@ -4,7 +4,7 @@ use Rattle.transcript_law.proofs.Words.{ℕ, Bool, true, false, List, [], refl, 
 use Rattle.transcript_law.proofs.Words.{Plain, is_active, stream_at, eqb-true, arith, PlainLink, PlainStream, PlainWorld, Begun, Chronicle}
 use Rattle.dcp_producer.specs.Producers.{stream_at as kept_at}
 use Rattle.node_core.specs.Clients.{PlainClient}
-use Rattle.transcript_law.proofs.invariant.ClientsTold.{BegunIs, ClientAgrees, ClientsApart, ClientsTold, HeardIs, IsOpenFor, KeptIs, PlaceIs, StreamIs}
+use Rattle.transcript_law.proofs.invariant.ClientsTold.{AskingIs, BegunIs, ClientAgrees, ClientsApart, ClientsTold, HeardIs, IsOpenFor, KeptIs, PlaceIs, StreamIs}
 use Rattle.transcript_law.proofs.invariant.Agreement.{AgreesAt, VbAgrees, VbRow, Writes, WritesIf, vb_of, vb_row}
 use Rattle.transcript_law.proofs.invariant.Carrying.{Changed, SameClients, StreamsChanged, same_clients}
 use Rattle.transcript_law.proofs.invariant.OpenStreams.{Among, at_among}
@@ -117,6 +117,7 @@ agrees_over w w' r r' n c client same goes a = record {
   opened = a.opened;
   silent = ap (λ (k : ClientKnown). k.told) same ∙ a.silent;
   heard = heard_over (r.clients_at n c) (r'.clients_at n c) client same a.heard;
+  asks = subst (λ (k : ClientKnown). AskingIs k.asking client.session client.producer.handshake) (sym same) a.asks;
   streams = λ v.
       let s = spot_at w r n v in let s' = spot_at w' r' n v in let kept = kept_at v client.producer.streams in
       subst (λ (k : ClientKnown). KeptIs s'.tree s'.on s'.held s'.pv (is_closed_by a.heard.served v) (k.streams v) kept) (sym same)

@@ -1,13 +1,19 @@
 -- what is known of a client's connection agrees with its session and its producer, and its streams are those of its node's vBuckets
-use Rattle.std.specs.Prelude.{◌≡◌, ◌≤◌, ◌<◌, ◌^◌, ◌++◌, ◌⊎◌, ℕ, Bool, true, false, List, [], length, map, take, Option, Some, None, is_some, option_map}
+use Rattle.std.specs.Prelude.{◌≡◌, ◌≤◌, ◌<◌, ◌^◌, ◌++◌, ◌⊎◌, ℕ, Bool, true, false, List, [], ◌∷◌, length, map, take, Option, Some, None, Ok, is_some, option_map}
 use Rattle.std.specs.List.{All, sum_by}
-use Rattle.client_session.specs.Serving.{PlainSession}
+use Rattle.client_session.specs.Serving.{PlainSession, is_dcp}
+use Rattle.client_session.specs.declared.session.Awaited.{Awaited}
+use Rattle.client_session.specs.declared.session.Settings.{Settings}
 use Rattle.dcp_producer.specs.Producers.{PlainProducer, PlainStream, is_named, is_open, stream_at as kept_at}
 use Rattle.dcp_producer.specs.declared.desk.Handshake.{Handshake}
 use Rattle.dcp_producer.specs.declared.desk.Handshake.TheVariants as handshake
 use Rattle.mcbp_frame.specs.Cutting.{frames_in}
 use Rattle.mcbp_frame.specs.Frames.{frame_len}
 use Rattle.mcbp_frame.specs.declared.frame.Frame.{Frame}
+use Rattle.mcbp_kv.specs.Requests.{request_of}
+use Rattle.mcbp_kv.specs.declared.durable.Durability.{Durability}
+use Rattle.mcbp_kv.specs.declared.request.KvRequest.TheVariants as request
+use Rattle.vb_types.specs.declared.write.Write.{Write}
 use Rattle.node_core.specs.Clients.{PlainClient}
 use Rattle.node_world.specs.Worlds.{PlainWorld}
 use Rattle.vb_calls.specs.State.{Plain, is_active}
@@ -26,13 +32,21 @@ use Rattle.transcript_law.specs.Feeding.{HasFed, HasStream, client_in}
 use Rattle.transcript_law.specs.LawfulClients.{IsSentOf, NoneWithin}
 use Rattle.transcript_law.specs.LinesTold.{Chronicle}
 use Rattle.transcript_law.specs.StreamLaws.{item_of_change}
-use Rattle.transcript_law.specs.StreamsTold.{Begun, ClientKnown, ClientStream, Setup, no_setup}
+use Rattle.transcript_law.specs.Questions.{Question, first_question}
+use Rattle.transcript_law.specs.StreamsTold.{Asking, Begun, ClientKnown, ClientStream, Setup, no_setup}
 
 -- the client's session and its producer are of this connection
 pub record IsConn (n c : ℕ) (client : PlainClient) : Type 0 where
   pub node : client.session.who.node ≡ n
   pub number : client.session.who.client ≡ c
   pub desk : client.producer.desk ≡ record { stream = name.Client n c; node = n; base = client.session.who.base }
+
+-- a frame asks for a durable write
+pub record IsDurableFrame (settings : Settings) (f : Frame) : Type 0 where
+  pub own : is_dcp f.opcode ≡ false
+  pub write : Write
+  pub wish : Durability
+  pub asks : request_of settings.json f ≡ Ok (request.Write write (Some wish))
 
 -- what is set is what the producer's handshake is
 abbrev pub setup_of : Handshake → Setup
@@ -52,6 +66,30 @@ pub record HeardIs (known : ClientKnown) (session : PlainSession) (set : Handsha
   pub frames : AreFrames front served
   pub none : first_request served ≡ None
   pub sets : setup_after known.setup served ≡ setup_of set
+
+-- what an awaited outcome answers: the last one of these frames, which is the first that wants an answer, by its opcode and opaque. One that a session waits for is a durable write; a frame that is being answered is awaited under no number
+pub record IsOpenQuestion (k : Asking) (served : List Frame) (a : Awaited) : Type 0 where
+  pub question : Question
+  pub next : first_question k.setup served ≡ Some question
+  pub last : served ≡ question.before ++ question.frame ∷ []
+  pub opcode : a.opcode ≡ question.frame.opcode
+  pub opaque : a.opaque ≡ question.frame.opaque
+  pub durable : (a.waiter ≡ 0 → ⊥) → IsDurableFrame k.settings question.frame
+
+-- of these frames none wants an answer, but one that is awaited
+abbrev pub AreAnswered : Option Awaited → Asking → List Frame → Type 0
+AreAnswered None k served = first_question k.setup served ≡ None
+AreAnswered (Some a) k served = IsOpenQuestion k served a
+
+-- of the bytes that came behind the last answer the front was served, and set what the handshake is; behind it stand those that the session keeps; and each frame was answered that wants to be, but one that is awaited
+pub record AskingIs (k : Asking) (session : PlainSession) (set : Handshake) : Type 0 where
+  pub served : List Frame
+  pub front : List ℕ
+  pub bytes : k.bytes ≡ front ++ session.reader
+  pub frames : AreFrames front served
+  pub sets : setup_after k.setup served ≡ setup_of set
+  pub settings : k.settings ≡ session.settings
+  pub answered : AreAnswered session.awaited k served
 
 -- the last snapshot that is known is the one that the producer took last, of which so many items were put
 abbrev pub BegunIs : ClientStream → List Change → Option Begun → PlainStream → Type 0
@@ -113,6 +151,7 @@ pub record ClientAgrees (w : PlainWorld) (r : Chronicle) (n c : ℕ) (client : P
   pub opened : (stream : PlainStream) → Among stream client.producer.streams → is_open client.producer.handshake ≡ true
   pub silent : (r.clients_at n c).told ≡ None
   pub heard : HeardIs (r.clients_at n c) client.session client.producer.handshake
+  pub asks : AskingIs (r.clients_at n c).asking client.session client.producer.handshake
   pub streams : (v : ℕ) → KeptIs r.tree (r.branch_at n v) (r.held n v) (vb_of w n v) (is_closed_by heard.served v) ((r.clients_at n c).streams v) (kept_at v client.producer.streams)
 
 -- no stream of a client is another's too

@@ -7,7 +7,7 @@ use Rattle.node_core.specs.Clients.{PlainClient, client_ended}
 use Rattle.std.proofs.lemmas.Bool.{cases_eq}
 use Rattle.transcript_law.proofs.invariant.Carried.{SameStream, stream_same}
 use Rattle.transcript_law.proofs.invariant.ClientsKept.{FedAreThere, FewNew, GoesOver, Spot, agrees_over, among_open, apart_over, at_vb, found_open, open_known, spot_at, stream_over}
-use Rattle.transcript_law.proofs.invariant.ClientsTold.{BegunIs, ClientAgrees, ClientsTold, KeptIs, StartedAt, StreamIs}
+use Rattle.transcript_law.proofs.invariant.ClientsTold.{AskingIs, BegunIs, ClientAgrees, ClientsTold, KeptIs, StartedAt, StreamIs}
 use Rattle.transcript_law.proofs.invariant.{Holdings.{ChangeFits, vb_of}, OpenStreams.{Among, at_among, kept_went}}
 use Rattle.transcript_law.specs.ClientFrames.{is_closed_by, setup_after}
 use Rattle.transcript_law.specs.ClientStreams.{past_turn, with_clients_of, with_turn}
@@ -132,6 +132,7 @@ module _ (w w' : PlainWorld) (r r' : Chronicle) (n v c : ℕ) (client client' : 
     opened = λ t i. let (s, j, e) = ended_among ended.ends ended.same streams t i in a.opened s j;
     silent = ap (λ (x : ClientKnown). x.told) known ∙ a.silent;
     heard = record { served = a.heard.served; front = a.heard.front; bytes = ap (λ (x : ClientKnown). x.bytes) known ∙ a.heard.bytes; frames = a.heard.frames; none = a.heard.none; sets = ap (λ (x : ClientKnown). setup_after x.setup a.heard.served) known ∙ a.heard.sets };
+    asks = subst (λ (x : ClientKnown). AskingIs x.asking client.session client.producer.handshake) (sym known) a.asks;
     streams = λ q. let s = spot_at w' r' n q in subst (λ (x : ClientKnown). KeptIs s.tree s.on s.held s.pv (is_closed_by a.heard.served q) (x.streams q) (kept_at q later.producer.streams)) (sym known) (kept_then q);
   }
 

@@ -1,13 +1,21 @@
 -- a client's session at its node: it stays there, and its bytes stay bytes, whatever is served
-use Rattle.std.specs.Prelude.{◌≡◌, ◌<◌, ◌++◌, ◌∷◌}
+use Rattle.std.specs.Prelude.{◌≡◌, ◌<◌, ◌++◌, ◌∷◌, ◌==◌, if◌then◌else◌, nat_le}
 use Rattle.std.proofs.lemmas.List.Elements.{All-drop}
-use Rattle.transcript_law.proofs.Words.{ℕ, List, [], refl, sym, ap, ◌∙◌, subst, drop, All-nil, All-cons, All-head, All-tail, All-append, Some, Ok}
-use Rattle.transcript_law.proofs.Words.{Frame, FrameFault, AreBytes, Readable, spelling, after, States, PlainSession, ended_at, frame_handled}
-use Rattle.client_session.proofs.{Conduct.{Stays, frame_stays}, Keeping.{front_of}}
+use Rattle.transcript_law.proofs.Words.{ℕ, List, [], refl, sym, ap, ◌∙◌, subst, arith, map, drop, All-nil, All-cons, All-head, All-tail, All-append, Option, Some, None, Result, Ok, Err}
+use Rattle.transcript_law.proofs.Words.{Frame, FrameFault, KvRequest, RESPONSE, Status, VbCall, VbReply, AreBytes, Readable, spelling, after, Done, States, PlainSession, ended_at, frame_handled, request_handled, told}
+use Rattle.client_session.proofs.{Conduct.{Stays, either, frame_stays}, Keeping.{front_of}}
 use Rattle.node_core.{proofs.Handlings.{fed_goes, posted_goes}, specs.Clients.{Handling, PlainClient, client_fed, client_posted}}
-use Rattle.client_session.specs.Serving.{Served}
+use Rattle.client_session.specs.Serving.{Served, MOST_DURABLE, answered_or_awaited, awaited_by, deadline_of, durable_answered, durable_called, durable_replied, frame_answered, handed, is_dcp, next_waiter, outcome_of, refused, with_lines, with_used}
+use Rattle.client_session.specs.declared.session.Awaited.{Awaited}
+use Rattle.mcbp_kv.specs.Requests.{request_of}
+use Rattle.mcbp_kv.specs.declared.request.KvRequest.TheVariants as request
+use Rattle.vb_events.specs.declared.event.Event.TheVariants as event
+use Rattle.vb_calls.specs.declared.calls.{Resolution.{Resolution}, VbAnswer.{VbAnswer}}
+use Rattle.vb_calls.specs.declared.calls.VbAnswer.TheVariants as answer
+use Rattle.vb_calls.specs.declared.calls.VbCall.TheVariants as call
+use Rattle.vb_types.specs.declared.status.Status.TheVariants.{Etmpfail}
 use Rattle.mcbp_frame.{proofs.Cases.{front}, specs.Frames.{first_frame, frame_len}, specs.Spelling.{header_spelling}}
-use Rattle.vb_calls.{proofs.Conduct.{after_always}, specs.Programs.{AnyCall}, specs.declared.calls.Resolved.{Resolved}}
+use Rattle.vb_calls.{proofs.Conduct.{after_always}, specs.Programs.{Always, AnyCall}, specs.declared.calls.Resolved.{Resolved}}
 
 -- a frame whose numbers are in their fields, and whose extras are bytes
 pub record Received (f : Frame) : Type 0 where
@@ -33,22 +41,70 @@ first_received bytes f h e =
     let is = front bytes f h e in
     record { readable = is.0; extras = extras_are f (parted (spelling f) (drop (frame_len f) bytes) (subst AreBytes is.1 h)).0 }
 
+-- what is awaited is awaited under a number
+abbrev pub IsNumbered : Option Awaited → Type 0
+IsNumbered None = Unit {0}
+IsNumbered (Some a) = a.waiter ≡ 0 → ⊥
+
 -- a session of the node n
 pub record SessionRanged (n : ℕ) (session : PlainSession) : Type 0 where
   pub node : session.who.node ≡ n
   pub bytes : AreBytes session.reader
+  pub numbered : IsNumbered session.awaited
+
+-- one that a session awaits
+pub awaited_numbered : (session : PlainSession) (a : Awaited) → IsNumbered session.awaited → session.awaited ≡ Some a → a.waiter ≡ 0 → ⊥
+awaited_numbered session a numbered waits = subst IsNumbered waits numbered
+
+-- so it is behind whatever a frame asks
+
+abbrev Numbered : Served → Type 0
+Numbered s = IsNumbered s.session.awaited
+
+outcome_numbered : (s : Served) (waiter : ℕ) (f : Frame) → (waiter ≡ 0 → ⊥) → (how : Option Resolution) → Numbered s → Numbered (answered_or_awaited (awaited_by waiter f) how s)
+outcome_numbered s waiter f some None numbered = some
+outcome_numbered s waiter f some (Some how) numbered = tt
+
+durable_numbered : (waiter : ℕ) (f : Frame) → (waiter ≡ 0 → ⊥) → (how : Option Resolution) (a : VbAnswer) (s : Served) → Numbered s → Numbered (durable_answered waiter f how a s)
+durable_numbered waiter f some how (answer.Status st) s numbered = numbered
+durable_numbered waiter f some how (answer.Prepared seq cas) s numbered = outcome_numbered s waiter f some how numbered
+durable_numbered waiter f some how other s numbered = numbered
+
+replied_numbered : (waiter : ℕ) (f : Frame) → (waiter ≡ 0 → ⊥) → (s : Served) (reply : Option VbReply) → Numbered s → Numbered (durable_replied waiter f s reply)
+unfolding durable_replied
+replied_numbered waiter f some s None numbered = numbered
+replied_numbered waiter f some s (Some reply) numbered =
+    durable_numbered waiter f some (outcome_of waiter reply.resolved) reply.answer (with_lines s (map (event.Changed s.session.who.node f.vb_or_status reply.branch) reply.changes)) numbered
+
+request_numbered : (clock : ℕ) (f : Frame) (r : Result KvRequest Status) (s : Served) → Numbered s → Always AnyCall Numbered (request_handled clock f r s)
+unfolding request_handled told
+request_numbered clock f (Err st) s numbered = numbered
+request_numbered clock f (Ok request.Noop) s numbered = numbered
+request_numbered clock f (Ok (request.Hello features)) s numbered = numbered
+request_numbered clock f (Ok (request.Get key)) s numbered = (tt, λ reply any. numbered)
+request_numbered clock f (Ok (request.Write write None)) s numbered = (tt, λ reply any. numbered)
+request_numbered clock f (Ok (request.Write write (Some wish))) s numbered =
+    let c : VbCall = call.Durable write clock wish.level (deadline_of clock wish.timeout) (next_waiter s.session) in
+    either (Always AnyCall Numbered) (nat_le MOST_DURABLE s.session.used) (Done (refused f Etmpfail s)) (durable_called f c s) numbered
+    (tt, λ reply any. replied_numbered (next_waiter s.session) f (λ e. absurd (omega (arith, e))) (with_used s) reply numbered)
+
+frame_numbered : (clock : ℕ) (f : Frame) (s : Served) → Numbered s → Always AnyCall Numbered (frame_handled clock f s)
+unfolding frame_handled
+frame_numbered clock f s numbered =
+    either (Always AnyCall Numbered) (f.magic == RESPONSE) (Done s) (if is_dcp f.opcode then Done (handed f s) else frame_answered clock f s) numbered
+    (either (Always AnyCall Numbered) (is_dcp f.opcode) (Done (handed f s)) (frame_answered clock f s) numbered (request_numbered clock f (request_of s.session.settings.json f) s numbered))
 
 -- the bytes behind a frame
 pub front_ranged : (n : ℕ) (f : Frame) (s : Served) → SessionRanged n s.session → SessionRanged n (front_of f s).session
-front_ranged n f s r = record { node = r.node; bytes = All-drop (λ b. b < 256) (frame_len f) s.session.reader r.bytes }
+front_ranged n f s r = record { node = r.node; bytes = All-drop (λ b. b < 256) (frame_len f) s.session.reader r.bytes; numbered = r.numbered }
 
 -- a fault leaves none
 pub fault_ranged : (n : ℕ) (fault : FrameFault) (s : Served) → SessionRanged n s.session → SessionRanged n (ended_at (Some fault) s).session
-fault_ranged n fault s r = record { node = r.node; bytes = All-nil (λ b. b < 256) }
+fault_ranged n fault s r = record { node = r.node; bytes = All-nil (λ b. b < 256); numbered = r.numbered }
 
 -- more bytes
 pub more_ranged : (n : ℕ) (piece : List ℕ) (session : PlainSession) → AreBytes piece → SessionRanged n session → SessionRanged n (record session { reader = session.reader ++ piece })
-more_ranged n piece session h r = record { node = r.node; bytes = All-append (λ b. b < 256) session.reader piece r.bytes h }
+more_ranged n piece session h r = record { node = r.node; bytes = All-append (λ b. b < 256) session.reader piece r.bytes h; numbered = r.numbered }
 
 -- whatever a frame asks
 frame_ranged : (n clock : ℕ) (f : Frame) (states : States) (s : Served) → SessionRanged n s.session → SessionRanged n (after (frame_handled clock f (front_of f s)) states).1.session
@@ -56,7 +112,11 @@ frame_ranged n clock f states s r =
     let x = front_ranged n f s r in
     let stays : Stays (front_of f s) (after (frame_handled clock f (front_of f s)) states).1 = after_always AnyCall (Stays (front_of f s)) (frame_handled clock f (front_of f s)) states
     (frame_stays (front_of f s) clock f (front_of f s) (record { who = refl; reader = refl; closed = refl })) in
-    record { node = ap (λ who. who.node) stays.who ∙ x.node; bytes = subst AreBytes (sym stays.reader) x.bytes }
+    record {
+      node = ap (λ who. who.node) stays.who ∙ x.node;
+      bytes = subst AreBytes (sym stays.reader) x.bytes;
+      numbered = after_always AnyCall Numbered (frame_handled clock f (front_of f s)) states (frame_numbered clock f (front_of f s) r.numbered);
+    }
 
 module _ (n clock : ℕ) where
   abbrev At : States × Handling → Type 0
@@ -68,4 +128,4 @@ module _ (n clock : ℕ) where
 
   pub outcome_ranged : (r : Resolved) (client : PlainClient) (states : States) → SessionRanged n client.session → SessionRanged n (after (client_posted clock r client) states).1.client.session
   outcome_ranged r client states p = posted_goes At clock (λ before producer f states s e p. frame_ranged n clock f states s p) (λ before producer fault states s e p. fault_ranged n fault s p) (λ f states h e p. p) (λ states h e p. p) r client states p
-      (λ a e. record { node = p.node; bytes = p.bytes })
+      (λ a e. record { node = p.node; bytes = p.bytes; numbered = tt })

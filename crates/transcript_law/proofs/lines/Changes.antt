@@ -1,12 +1,16 @@
 -- lines of changes that a vBucket made of its own, read beside what other lines tell
 use Rattle.std.specs.Prelude.{◌≡◌, ◌<◌, ◌∷◌, ◌++◌, ◌&&◌, if◌then◌else◌}
-use Rattle.transcript_law.proofs.Words.{ℕ, Bool, true, false, not, List, [], refl, image_of, ap, sym, ◌∙◌, subst, ⊎_elim, Option, Some, Change, Event, Chronicle, Role, ForksBelow, IsNew, LogEntry, option_map, after_change, after_lines, grow, hist, last_seq, map, with_at, IsIfKnown, LawfulChange, LawfulFrom}
+use Rattle.transcript_law.proofs.Words.{ℕ, Bool, true, false, not, List, [], refl, image_of, ap, sym, ◌∙◌, subst, inl, inr, ⊎_elim, Option, Some, None, Result, Ok, Err, Frame, KvRequest, Status, Change, Event, Chronicle, Role, ForksBelow, IsNew, LogEntry, option_map, after_change, after_lines, grow, hist, last_seq, map, with_at, IsIfKnown, LawfulChange, LawfulFrom}
 use Rattle.transcript_law.proofs.{invariant.Carried.{places}, invariant.Tables.{at_here, at_there}}
 use Rattle.transcript_law.specs.Chronicles.{CountsKnown, DiskKnown, after_calls, after_restart, broken_by, calls_of_append, is_off, spent, state_of, with_disk, with_record}
 use Rattle.{vb_disk.specs.declared.fuse.Fuse.{Fuse}, vb_types.specs.declared.journal.Record.{Record}}
 use Rattle.transcript_law.specs.{ClientFrames.{setup_after}, ClientStreams.{clients_line, unclosed}}
+use Rattle.client_session.specs.{Serving.{is_dcp}, declared.session.Settings.{Settings}}
+use Rattle.mcbp_kv.specs.Requests.{request_of}
+use Rattle.mcbp_kv.specs.declared.request.KvRequest.TheVariants as request
+use Rattle.transcript_law.specs.LawfulAnswers.{FitsBy, FitsFrame, FitsGet, FitsRequest, IsMade, IsRefused, LacksMajority, LacksSeqnos, LawfulReply}
 use Rattle.transcript_law.specs.LawfulClients.{LawfulClientAsk, RefusesBy}
-use Rattle.transcript_law.specs.LinesTold.{after_client_line}
+use Rattle.transcript_law.specs.LinesTold.{after_client_line, made_line}
 use Rattle.transcript_law.specs.StreamLaws.{GrantsAs, LawfulSaid, LawfulVerdict}
 use Rattle.transcript_law.specs.StreamsTold.{ClientsKnown}
 use Rattle.vb_types.specs.declared.stream.{AskAnswer.{AskAnswer}, StreamAsk.{StreamAsk}}
@@ -25,9 +29,10 @@ pub record Reads (q r : Chronicle) : Type 0 where
   pub snap : r.snap_at ≡ q.snap_at
   pub saved : (n v : ℕ) → (r.disk_at n v).saved ≡ (q.disk_at n v).saved
   pub clients : r.clients_at ≡ q.clients_at
+  pub made : r.made ≡ q.made
 
 pub reads_same : (r : Chronicle) → Reads r r
-reads_same r = record { tree = refl; branch = refl; held = refl; writer = refl; role = refl; counts = refl; log = refl; snap = refl; saved = λ n v. refl; clients = refl }
+reads_same r = record { tree = refl; branch = refl; held = refl; writer = refl; role = refl; counts = refl; log = refl; snap = refl; saved = λ n v. refl; clients = refl; made = refl }
 
 -- it reads of a disk what counts as saved alone
 pub saved_at : (disks : ℕ → ℕ → DiskKnown) (n v : ℕ) (d : DiskKnown) → d.saved ≡ (disks n v).saved → (m q : ℕ) → (with_at disks n v d m q).saved ≡ (disks m q).saved
@@ -37,11 +42,11 @@ saved_at disks n v d same m q = ⊎_elim
     (places n v m q)
 
 pub disk_reads : (r : Chronicle) (n v : ℕ) (d : DiskKnown) → d.saved ≡ (r.disk_at n v).saved → Reads r (with_disk r n v d)
-disk_reads r n v d same = record { tree = refl; branch = refl; held = refl; writer = refl; role = refl; counts = refl; log = refl; snap = refl; saved = saved_at r.disk_at n v d same; clients = refl }
+disk_reads r n v d same = record { tree = refl; branch = refl; held = refl; writer = refl; role = refl; counts = refl; log = refl; snap = refl; saved = saved_at r.disk_at n v d same; clients = refl; made = refl }
 
 -- and nothing of device calls
 pub calls_read : {q r : Chronicle} (calls n : ℕ) → Reads q r → Reads q (after_calls calls n r)
-calls_read calls n s = record { tree = s.tree; branch = s.branch; held = s.held; writer = s.writer; role = s.role; counts = s.counts; log = s.log; snap = s.snap; saved = s.saved; clients = s.clients }
+calls_read calls n s = record { tree = s.tree; branch = s.branch; held = s.held; writer = s.writer; role = s.role; counts = s.counts; log = s.log; snap = s.snap; saved = s.saved; clients = s.clients; made = s.made }
 
 pub reads_change : (q r : Chronicle) (n v uuid : ℕ) (change : Change) → Reads q r → Reads (after_change q n v uuid change) (after_change r n v uuid change)
 reads_change q r n v uuid change s = record {
@@ -55,6 +60,7 @@ reads_change q r n v uuid change s = record {
   snap = ap (λ (t : ℕ → ℕ → Option (ℕ × ℕ)). with_at t n v (Some (change.seq, change.seq))) s.snap;
   saved = s.saved;
   clients = s.clients;
+  made = ap (λ made. record { node = n; vb = v; branch = uuid; change = change } ∷ made) s.made;
 }
 
 pub change_read : (q r : Chronicle) (n v uuid : ℕ) (change : Change) → Reads q r → LawfulChange r n v uuid change → LawfulChange q n v uuid change
@@ -82,6 +88,7 @@ reads_client q r line s = record {
   snap = s.snap;
   saved = s.saved;
   clients = λ i. clients_line (s.tree i) (s.clients i) line;
+  made = ap (λ made. made_line made line) s.made;
 }
 
 -- an answer to a request
@@ -98,6 +105,53 @@ pub asked_read : (q r : Chronicle) (n c m v : ℕ) (ask : StreamAsk) (high : ℕ
 asked_read q r n c m v ask high log said behind s l =
     let x : LawfulClientAsk r (q.clients_at n c) n c m v ask high log said behind = subst (λ (k : ClientsKnown). LawfulClientAsk r (k n c) n c m v ask high log said behind) s.clients l in
     record { own_node = x.own_node; request = x.request; next = x.next; numbers = x.numbers; vb = x.vb; answered = said_read q r n v ask high log said s x.answered; own = x.own; reason = subst (λ (f : ℕ → ℕ → Option (Option Role)). RefusesBy (setup_after (q.clients_at n c).setup x.request.before) (f n v) (unclosed x.request.before (q.clients_at n c).streams v) ask said) s.role x.reason; frame = x.frame }
+
+-- what a client is sent reads what is known of its vBucket, and the changes of the group
+pub reply_read : (q r : Chronicle) (n c : ℕ) (bytes : List ℕ) (behind : List Event) → Reads q r → LawfulReply r n c (r.clients_at n c).asking bytes behind → LawfulReply q n c (q.clients_at n c).asking bytes behind
+reply_read q r n c bytes behind s l = ⊎_elim
+    (λ x. inl (record {
+      question = x.question;
+      next = x.next;
+      answer = x.answer;
+      spelled = x.spelled;
+      response = x.response;
+      opcode = x.opcode;
+      opaque = x.opaque;
+      fits = frame_read x.question.frame x.answer (q.clients_at n c).asking.settings x.fits;
+    }))
+    (λ x. inr x) (subst (λ (k : ClientsKnown). LawfulReply r n c (k n c).asking bytes behind) s.clients l)
+  where
+    -- of a vBucket
+    at : {A : Type 0} {f g : ℕ → ℕ → A} (P : A → Type 0) (v : ℕ) → g ≡ f → P (g n v) → P (f n v)
+    at P v e x = subst (λ t. P (t n v)) e x
+
+    request_read : (f g : Frame) (settings : Settings) (asked : Result KvRequest Status) → FitsRequest r n settings f g asked → FitsRequest q n settings f g asked
+    request_read f g settings (Err st) x = x
+    request_read f g settings (Ok request.Noop) x = x
+    request_read f g settings (Ok (request.Hello features)) x = x
+    request_read f g settings (Ok (request.Get key)) x =
+        at (λ role. FitsGet role (image_of (q.held n f.vb_or_status)) settings.json key f g) f.vb_or_status s.role
+        (at (λ held. FitsGet (r.role_at n f.vb_or_status) (image_of held) settings.json key f g) f.vb_or_status s.held x)
+    request_read f g settings (Ok (request.Write write None)) x = ⊎_elim
+        (λ y. inl (at (λ role. IsRefused LacksSeqnos role (image_of (q.held n f.vb_or_status)) write f g) f.vb_or_status s.role
+        (at (λ held. IsRefused LacksSeqnos (r.role_at n f.vb_or_status) (image_of held) write f g) f.vb_or_status s.held y)))
+        (λ y. inr (subst (λ made. IsMade n f.vb_or_status (q.held n f.vb_or_status) made settings write f g) s.made (at (λ held. IsMade n f.vb_or_status held r.made settings write f g) f.vb_or_status s.held y)))
+        x
+    request_read f g settings (Ok (request.Write write (Some wish))) x = ⊎_elim
+        (λ y. inl y)
+        (⊎_elim
+        (λ y. inr (inl (at (λ (counts : CountsKnown). IsRefused (LacksMajority counts.chain) (q.role_at n f.vb_or_status) (image_of (q.held n f.vb_or_status)) write f g) f.vb_or_status s.counts
+        (at (λ role. IsRefused (LacksMajority (r.counts_at n f.vb_or_status).chain) role (image_of (q.held n f.vb_or_status)) write f g) f.vb_or_status s.role
+        (at (λ held. IsRefused (LacksMajority (r.counts_at n f.vb_or_status).chain) (r.role_at n f.vb_or_status) (image_of held) write f g) f.vb_or_status s.held y)))))
+        (λ y. inr (inr y)))
+        x
+
+    frame_read : (f g : Frame) (settings : Settings) → FitsFrame r n settings f g → FitsFrame q n settings f g
+    frame_read f g settings x = by (is_dcp f.opcode) x
+      where
+        by : (b : Bool) → FitsBy b r n settings f g → FitsBy b q n settings f g
+        by true y = tt
+        by false y = request_read f g settings (request_of settings.json f) y
 
 pub branch_read : (q r : Chronicle) (n v uuid : ℕ) (parent : Option ℕ) (fork high : ℕ) → Reads q r → LawfulBranch r n v uuid parent fork high → LawfulBranch q n v uuid parent fork high
 branch_read q r n v uuid parent fork high s l = record {

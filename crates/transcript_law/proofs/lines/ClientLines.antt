@@ -1,7 +1,7 @@
 -- lines of clients: of changes that they made, of requests for streams and of answers to them, and of their connections that closed
 use Rattle.std.specs.Prelude.{◌≡◌, ◌∷◌, ◌++◌, ◌==◌, if◌then◌else◌}
 use Rattle.transcript_law.proofs.Words.{ℕ, Bool, true, false, List, [], refl, ap, sym, subst, ◌∙◌, map, flat_map, eqb-true, Option, Some, None, Change, Event, StreamName, PlainNode, after, bytes_at, bytes_if, Chronicle, after_change, after_lines, branch_of_line, LawfulFrom}
-use Rattle.transcript_law.proofs.{lines.Changes.{Reads, asked_read, change_read, reads_change, reads_client}, lines.Lines.{AreQuiet}, lines.SessionLines.{AreTo, IsKept, LeftBy, fed_at, kept_left, posted_at}}
+use Rattle.transcript_law.proofs.{lines.Changes.{Reads, asked_read, change_read, reply_read, reads_change, reads_client}, lines.Lines.{AreQuiet}, lines.SessionLines.{AreTo, IsKept, LeftBy, fed_at, kept_left, posted_at}}
 use Rattle.transcript_law.specs.{LinesTold.{after_client_line}, StreamsTold.{ClientsKnown}}
 use Rattle.node_core.specs.Calls.{left_open}
 use Rattle.node_core.specs.Clients.{Handling, PlainClient, client_fed, client_posted}
@@ -76,7 +76,7 @@ clients_read q r [] c s l = tt
 clients_read q r (Event.Changed n v uuid change ∷ lines) c s l =
     (change_read q r n v uuid change s l.0, clients_read (after_change q n v uuid change) (after_change r n v uuid change) lines c.1 (reads_change q r n v uuid change s) l.1)
 clients_read q r (Event.Reply n k bytes ∷ lines) c s l =
-    let line : Event = Event.Reply n k bytes in (λ none. l.0 (ap (λ (f : ClientsKnown). (f n k).told) s.clients ∙ none), clients_read (after_client_line q line) (after_client_line r line) lines c.1 (reads_client q r line s) l.1)
+    let line : Event = Event.Reply n k bytes in (λ none. reply_read q r n k bytes lines s (l.0 (ap (λ (f : ClientsKnown). (f n k).told) s.clients ∙ none)), clients_read (after_client_line q line) (after_client_line r line) lines c.1 (reads_client q r line s) l.1)
 clients_read q r (Event.Closed n k ∷ lines) c s l =
     let line : Event = Event.Closed n k in (tt, clients_read (after_client_line q line) (after_client_line r line) lines c.1 (reads_client q r line s) l.1)
 clients_read q r (Event.Asked (StreamName.Client m k) n v ask high log said ∷ lines) c s l =

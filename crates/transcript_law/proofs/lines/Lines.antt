@@ -1,9 +1,8 @@
 -- lines of a group behind others
 use Rattle.std.specs.Prelude.{◌≡◌, ◌∷◌, ◌++◌}
-use Rattle.transcript_law.proofs.Words.{ℕ, List, [], ap, refl, Event, Chronicle, after_line, after_lines, LawfulLine, LawfulFrom, StreamName}
+use Rattle.transcript_law.proofs.Words.{ℕ, List, [], ap, refl, inl, inr, ⊎_elim, Event, Chronicle, after_line, after_lines, LawfulLine, LawfulFrom, StreamName}
 use Rattle.mcbp_dcp.specs.declared.message.DcpMsg.{DcpMsg}
-use Rattle.transcript_law.specs.LawfulClients.{IsPut, StandsBehind}
-use Rattle.transcript_law.specs.StreamsTold.{ClientKnown}
+use Rattle.transcript_law.specs.{LawfulAnswers.{LawfulReply}, LawfulClients.{IsPut, StandsBehind}, StreamsTold.{Asking, ClientKnown}}
 
 -- a line that stays lawful with more lines at the end of its group: any but that of a vBucket that is shown
 abbrev pub IsQuiet : Event → Type 0
@@ -22,9 +21,25 @@ stands_more n c bytes behind more (rest, is) = (rest ++ more, ap (λ lines. line
 abbrev put_more : (n c : ℕ) (known : ClientKnown) (m : DcpMsg) (behind more : List Event) → IsPut n c known m behind → IsPut n c known m (behind ++ more)
 put_more n c known m behind more put = record { bytes = put.bytes; stands = stands_more n c put.bytes behind more put.stands; stream = put.stream; known_as = put.known_as; spelled = put.spelled }
 
+-- so does what tells that a connection closed, behind the answer to a fault
+reply_more : (r : Chronicle) (n c : ℕ) (asking : Asking) (bytes : List ℕ) (behind more : List Event) → LawfulReply r n c asking bytes behind → LawfulReply r n c asking bytes (behind ++ more)
+reply_more r n c asking bytes behind more l = ⊎_elim
+    (λ x. inl x)
+    (λ x. inr (record {
+      none = x.none;
+      fault = x.fault;
+      stands = x.stands;
+      head = x.head;
+      named = x.named;
+      spelled = x.spelled;
+      closes = (x.closes.0 ++ more, ap (λ lines. lines ++ more) x.closes.1);
+    }))
+    l
+
 -- a quiet line stays lawful with more lines at the end
 pub quiet_lawful : (r : Chronicle) (line : Event) (behind more : List Event) → IsQuiet line → LawfulLine r line behind → LawfulLine r line (behind ++ more)
 quiet_lawful r (Event.Shown n v role uuid at ss se docs preps) behind more q l = absurd q
+quiet_lawful r (Event.Reply n c bytes) behind more q l = λ none. reply_more r n c (r.clients_at n c).asking bytes behind more (l none)
 quiet_lawful r (Event.Asked (StreamName.Link k) n v ask high log said) behind more q l = l
 quiet_lawful r (Event.Asked (StreamName.Client n c) m v ask high log said) behind more q l = record {
   own_node = l.own_node;

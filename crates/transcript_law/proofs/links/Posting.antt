@@ -27,7 +27,7 @@ module _ (stays : StaysSound) (steady : Steady) (w : PlainWorld) (n : ℕ) where
       by None none there = (none_before r, a)
       by (Some client) is there =
           let here : Agrees (world_with w n c node node.vbs (Some client)) r = client_again w r n c node client is a in
-          let came = posted_comes stays steady w n c node ranged.clock (runs_with n c node client is ranged) r client o (record { lawful = none_before r; agrees = here; bytes = there.bytes }) in
+          let came = posted_comes stays steady w n c node ranged.clock (runs_with n c node client is ranged) r client o there.numbered (record { lawful = none_before r; agrees = here; bytes = there.bytes }) in
           (came.lawful, came.agrees)
 
   -- one after the other

@@ -4,8 +4,8 @@ use Rattle.transcript_law.proofs.Words.{ℕ, Bool, true, false, List, [], refl, 
 use Rattle.client_session.specs.Serving.{PlainSession, served}
 use Rattle.node_core.specs.Clients.{Handling, PlainClient, client_fed, client_posted}
 use Rattle.transcript_law.proofs.disks.Disks.{beside_in, power_in}
-use Rattle.transcript_law.proofs.indexers.{Hands.{Goes, InHand, Over, by_hand, mine}, Passed.{passed}, Serving.{session_agrees}, SessionFrames.{faulty, framed, outcome_framed}, Shutting.{over}, Turns.{fed_goes, posted_goes}, Worlds.{client_here, node_with, step_quiet, stepped, vb_here, world_with}}
-use Rattle.transcript_law.proofs.invariant.{Agreement.{Agrees, GoesOn, is_down, power_of}, ClientsTold.{ClientAgrees}, Ranged.{NodeRanged, SessionRangedIf}, Tables.{at_here}}
+use Rattle.transcript_law.proofs.indexers.{Hands.{Goes, InHand, Over, by_hand, mine}, Passed.{passed}, Questions.{more_asks}, Serving.{session_agrees}, SessionFrames.{faulty, framed, outcome_framed}, Shutting.{over}, Turns.{fed_goes, posted_goes}, Worlds.{client_here, node_with, step_quiet, stepped, vb_here, world_with}}
+use Rattle.transcript_law.proofs.invariant.{Agreement.{Agrees, GoesOn, is_down, power_of}, ClientsTold.{ClientAgrees}, Ranged.{NodeRanged, SessionRangedIf}, Sessions.{IsNumbered, awaited_numbered}, Tables.{at_here}}
 use Rattle.transcript_law.proofs.{lines.Telling.{LawfulBefore, before_all, none_before}, verbs.{NodeLines.{agrees_same, as_told, node_again, node_of_same_vbs, refused_on}, Settling.{Steady}}}
 use Rattle.transcript_law.specs.{Chronicles.{after_bytes}, ClientStreams.{with_sent_bytes}, StreamsTold.{ClientKnown}}
 use Rattle.vb_calls.specs.declared.calls.Resolved.{Resolved}
@@ -70,11 +70,11 @@ module _ (stays : StaysSound) (steady : Steady) (w : PlainWorld) (n c : ℕ) (no
         let x = after (client_fed node.clock bytes client) node.vbs in came x.0 x.1 rests.1 rests.0
 
     -- an outcome
-    pub posted_comes : (client : PlainClient) (o : Resolved) → Goes w n c node r node.vbs [] client → Comes (after (client_posted node.clock o client) node.vbs)
-    posted_comes client o g =
+    pub posted_comes : (client : PlainClient) (o : Resolved) → IsNumbered client.session.awaited → Goes w n c node r node.vbs [] client → Comes (after (client_posted node.clock o client) node.vbs)
+    posted_comes client o numbered g =
         let rests = posted_goes P node.clock (λ before producer f states s. framed w n c node r stays steady node.clock small before producer f states s) (λ before producer fault states s. faulty w n c node r before producer fault states s)
         (λ f states h. passed w n c node r running f states h) (λ states h. over w n c node r states h) o client node.vbs (InHand.IsOpen refl g)
-        (λ a e. outcome_framed w n c node r stays steady node.clock small [] client.producer a o.how node.vbs (served client.session []) g refl) in
+        (λ a e same. outcome_framed w n c node r stays steady node.clock small [] client.producer a o.how node.vbs (served client.session []) e (awaited_numbered client.session a numbered e) g refl) in
         let x = after (client_posted node.clock o client) node.vbs in came x.0 x.1 rests.1 rests.0
 
 -- more bytes came, and are known
@@ -89,7 +89,7 @@ more_goes w r n c node client bytes kept more a =
     let step = step_quiet w n c node node.vbs node.vbs (Some client) (Some client') (λ q. refl) in
     let told : ClientAgrees new (after_bytes r n c bytes Answer.Ok) n c client' =
     session_agrees old new r (after_bytes r n c bytes Answer.Ok) n c client session own known (at_here r.clients_at n c known) refl (refl, refl) refl refl
-    (ap (λ l. l ++ bytes) own.heard.bytes ∙ append_assoc own.heard.front client.session.reader bytes) refl refl refl (λ v. vb_here w n c node node.vbs (Some client') v ∙ sym (vb_here w n c node node.vbs (Some client) v)) in
+    (ap (λ l. l ++ bytes) own.heard.bytes ∙ append_assoc own.heard.front client.session.reader bytes) (more_asks (r.clients_at n c).asking client.session client.producer.handshake bytes own.asks) refl refl refl (λ v. vb_here w n c node node.vbs (Some client') v ∙ sym (vb_here w n c node node.vbs (Some client) v)) in
     record {
       lawful = none_before (after_bytes r n c bytes Answer.Ok);
       agrees = (a.0, stepped w n c node node.vbs node.vbs client client' r known a.0 a.1 step (λ v id has. inl has) told);

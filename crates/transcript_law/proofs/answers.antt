@@ -1,0 +1,3 @@
+-- what clients are answered
+pub mod Fits
+pub mod Messages

@@ -1,0 +1,348 @@
+-- what a client's session answers fits what the lines tell of the vBucket that was asked
+use Rattle.std.specs.Prelude.{◌≡◌, ◌∷◌, ◌++◌, ◌⊎◌, if◌then◌else◌, not}
+use Rattle.std.specs.FinMap as finite
+use Rattle.transcript_law.proofs.Words.{ℕ, Bool, true, false, List, [], refl, ap, sym, ◌∙◌, subst, inl, inr, Option, Some, None, Result, Ok, Err, Frame, RESPONSE, KvRequest, Change, Doc, Pend, Picture, Plain, PlainWorld, Role, Status, Op, Write, Chronicle, VbAnswer}
+use Rattle.transcript_law.proofs.Words.{doc_at, image_in, image_of, is_active, new_rev, refusal_reply, write_change}
+use Rattle.transcript_law.proofs.{disks.Absent.{nothing_here}, invariant.Agreement.{Agrees, AgreesAt, VbAgrees, active_counts, image_is, is_down, power_of, vb_of}, invariant.Seats.{seat}}
+use Rattle.transcript_law.specs.{Chronicles.{rested, resting}, LawfulAnswers.{FitsBy, FitsDurable, FitsFrame, FitsGet, FitsRequest, FitsWrite, IsCommitted, IsMade, IsRefused, IsStatus, IsWhyRefused, LacksMajority, LacksSeqnos}, LawfulClients.{IsActive}, LinesTold.{OwnChange}}
+use Rattle.branch_model.specs.Journals.{role_of}
+use Rattle.client_session.specs.Answers.{found_reply, reply_to, status_reply, stored_reply, value_reply}
+use Rattle.client_session.specs.Serving.{is_dcp, outcome_reply}
+use Rattle.client_session.specs.declared.session.{Awaited.{Awaited}, Settings.{Settings}}
+use Rattle.durability.specs.Chains.{Members, is_possible}
+use Rattle.durability.specs.declared.waiting.Waiting.{Waiting}
+use Rattle.mcbp_kv.proofs.{Asked.{passed}, Shapes.{each_code}}
+use Rattle.mcbp_kv.specs.{Answers.{IsFound, IsStored, IsWelcome}, Features.{feature_bytes}, Replies.{reply_frame}, Requests.{request_by, request_of}}
+use Rattle.mcbp_kv.specs.declared.feature.Feature.{Feature}
+use Rattle.mcbp_kv.specs.declared.opcodes.TheConstants.{GET, HELLO}
+use Rattle.mcbp_kv.specs.declared.reply.KvReply.{KvReply}
+use Rattle.mcbp_kv.specs.declared.request.KvRequest.TheVariants as request
+use Rattle.vb_calls.specs.{Durable.{durable_refusal}, State.{get_reply, get_row, is_left, pending_of}}
+use Rattle.vb_calls.specs.Writes.{doc_refusal, key_refusal, lacks_seqnos, or_else, pending_refusal, store_refusal}
+use Rattle.vb_calls.specs.declared.calls.Resolution.{Resolution}
+use Rattle.vb_calls.specs.declared.calls.Resolution.TheVariants as resolution
+use Rattle.vb_types.specs.declared.journal.Record.{Record}
+use Rattle.vbucket.proofs.Storing.{nothing_waits, said_none}
+
+-- ---- a vBucket as the lines tell it
+
+-- its role, what it holds, and, where it may commit, its chain
+pub record KnownAs (r : Chronicle) (n v : ℕ) (vb : Plain) : Type 0 where
+  pub role : r.role_at n v ≡ Some (Some vb.role)
+  pub image : image_of (r.held n v) ≡ image_in vb
+  pub chain : is_active vb.role ≡ true → (r.counts_at n v).chain ≡ vb.others
+
+-- so is each that is there
+pub known_as : (w : PlainWorld) (r : Chronicle) (n v : ℕ) (vb : Plain) → Agrees w r → vb_of w n v ≡ Some vb → KnownAs r n v vb
+known_as w r n v vb (k, a) there =
+    let it : VbAgrees r n v (k.nodes (seat n v)) vb = subst (AgreesAt r n v (k.nodes (seat n v))) there (a.vbs n v) in record {
+      role = it.role;
+      image = ap image_of it.held ∙ sym (image_is it.kept);
+      chain = λ active. (active_counts active it.counts).chain;
+    }
+
+-- one that is not there, at a node that is running
+pub away : (w : PlainWorld) (r : Chronicle) (n v : ℕ) → Agrees w r → vb_of w n v ≡ None → is_down (power_of w n) ≡ false → r.role_at n v ≡ Some None
+away w r n v (k, a) none up = (nothing_here w r k n v a none up).role
+
+-- what rests is not active
+rests : (book : List Record) → IsActive (Some (resting book)) → ⊥
+rests [] active = cc
+rests (last ∷ older) active = by (role_of (last ∷ older)) active
+  where
+    by : (o : Option Role) → IsActive (Some (Some (rested o))) → ⊥
+    by None e = cc
+    by (Some Role.Active) e = cc
+    by (Some Role.Replica) e = cc
+    by (Some Role.Pending) e = cc
+    by (Some Role.Dead) e = cc
+
+-- nor is one that is not there, at any node
+pub not_here : (w : PlainWorld) (r : Chronicle) (n v : ℕ) → Agrees w r → vb_of w n v ≡ None → IsActive (r.role_at n v) → ⊥
+not_here w r n v (k, a) none active = rests (k.disks (seat n v)).book (sym (a.aways n v none).role ∙ active)
+
+-- a role that takes writes, and one that does not
+leads : (x : Role) → is_active x ≡ true → IsActive (Some (Some x))
+leads Role.Active e = refl
+leads other e = cc
+
+follows : (x : Role) → is_active x ≡ false → IsActive (Some (Some x)) → ⊥
+follows Role.Active e active = cc
+follows other e active = cc
+
+-- ---- responses
+
+-- it repeats what it answers
+pub record Repeats (f g : Frame) : Type 0 where
+  pub response : g.magic ≡ RESPONSE
+  pub opcode : g.opcode ≡ f.opcode
+  pub opaque : g.opaque ≡ f.opaque
+
+-- two that are the same one
+same : {A : Type 0} (x y : A) → Some x ≡ Some y → x ≡ y
+same x y e = cc
+
+pub status_repeats : (f : Frame) (st : Status) → Repeats f (reply_frame (status_reply f st))
+status_repeats f st = record { response = refl; opcode = refl; opaque = refl }
+
+pub value_repeats : (f : Frame) (value : List ℕ) → Repeats f (reply_frame (value_reply f value))
+value_repeats f value = record { response = refl; opcode = refl; opaque = refl }
+
+pub stored_repeats : (settings : Settings) (f : Frame) (branch seq cas : ℕ) → Repeats f (reply_frame (stored_reply settings f branch seq cas))
+stored_repeats settings f branch seq cas = record { response = refl; opcode = refl; opaque = refl }
+
+found_repeats : (settings : Settings) (f : Frame) (doc : Doc) → Repeats f (reply_frame (found_reply settings f doc))
+found_repeats settings f doc = record { response = refl; opcode = refl; opaque = refl }
+
+-- whatever a vBucket answers
+pub reply_repeats : (settings : Settings) (f : Frame) (said : VbAnswer) (reply : KvReply) → reply_to settings f said ≡ Some reply → Repeats f (reply_frame reply)
+reply_repeats settings f (VbAnswer.Status st) reply e = subst (λ (y : KvReply). Repeats f (reply_frame y)) (same (status_reply f st) reply e) (status_repeats f st)
+reply_repeats settings f (VbAnswer.Found doc) reply e = subst (λ (y : KvReply). Repeats f (reply_frame y)) (same (found_reply settings f doc) reply e) (found_repeats settings f doc)
+reply_repeats settings f (VbAnswer.Stored branch seq cas) reply e =
+    subst (λ (y : KvReply). Repeats f (reply_frame y)) (same (stored_reply settings f branch seq cas) reply e) (stored_repeats settings f branch seq cas)
+reply_repeats settings f other reply e = cc
+
+-- the outcome of a durable write, of which the frame is awaited
+pub outcome_repeats : (settings : Settings) (f : Frame) (a : Awaited) (how : Resolution) → a.opcode ≡ f.opcode → a.opaque ≡ f.opaque → Repeats f (reply_frame (outcome_reply settings a how))
+outcome_repeats settings f a (resolution.Committed branch seq cas) code number = record { response = refl; opcode = code; opaque = number }
+outcome_repeats settings f a resolution.Ambiguous code number = record { response = refl; opcode = code; opaque = number }
+
+-- ---- answers that no vBucket is asked for
+
+-- a status alone
+pub status_fits : (f : Frame) (st : Status) → IsStatus f (reply_frame (status_reply f st)) st
+status_fits f st = record {
+  header = record { magic = refl; opcode = refl; key = refl; datatype = refl; status = refl; opaque = refl; framing = refl };
+  cas = refl;
+  extras = refl;
+  value = refl;
+}
+
+-- a request that is answered in words of its command has its opcode
+abbrev pub HasOpcode : ℕ → KvRequest → Type 0
+HasOpcode opcode (request.Get key) = opcode ≡ GET
+HasOpcode opcode (request.Hello features) = opcode ≡ HELLO
+HasOpcode opcode other = Unit {0}
+
+pub has_opcode : (json : Bool) (f : Frame) (r : KvRequest) → request_of json f ≡ Ok r → HasOpcode f.opcode r
+has_opcode json f r e =
+    let p = passed json f r e in
+    each_code (λ n. f.opcode ≡ n → request_by n p.durable f ≡ r → HasOpcode f.opcode r)
+    (λ c a. subst (HasOpcode f.opcode) a c)
+    (λ c a. subst (HasOpcode f.opcode) a tt)
+    (λ c a. subst (HasOpcode f.opcode) a tt)
+    (λ c a. subst (HasOpcode f.opcode) a tt)
+    (λ c a. subst (HasOpcode f.opcode) a tt)
+    (λ c a. subst (HasOpcode f.opcode) a tt)
+    (λ c a. subst (HasOpcode f.opcode) a c)
+    f.opcode p.code refl p.asks
+
+-- the features that HELLO gets
+pub welcome_fits : (f : Frame) (features : List Feature) → f.opcode ≡ HELLO → IsWelcome (reply_frame (value_reply f (feature_bytes features))) f.opaque features
+welcome_fits f features code = record {
+  header = record { magic = refl; opcode = code; key = refl; datatype = refl; status = refl; opaque = refl; framing = refl };
+  cas = refl;
+  extras = refl;
+  value = refl;
+}
+
+-- ---- reads
+
+found_fits : (settings : Settings) (f : Frame) (doc : Doc) → f.opcode ≡ GET → IsFound settings.json (reply_frame (found_reply settings f doc)) f.opaque doc
+found_fits settings f doc code = record {
+  header = record { magic = refl; opcode = code; key = refl; datatype = refl; status = refl; opaque = refl; framing = refl };
+  cas = refl;
+  extras = refl;
+  value = refl;
+}
+
+-- one of a vBucket that is not active
+pub get_away : (role : Option (Option Role)) (image : Picture) (json : Bool) (key : List ℕ) (f : Frame) → (IsActive role → ⊥) → FitsGet role image json key f (reply_frame (status_reply f Status.NotMyVbucket))
+get_away role image json key f off = record { away = λ o. status_fits f Status.NotMyVbucket; found = λ on doc has. absurd (off on); none = λ on has. absurd (off on) }
+
+module _ (settings : Settings) (f : Frame) (key : List ℕ) (x : Role) (image : Picture) where
+  -- a frame fits
+  abbrev Fits : KvReply → Type 0
+  Fits reply = FitsGet (Some (Some x)) image settings.json key f (reply_frame reply)
+
+  -- by what the vBucket has at the key
+  read_by : f.opcode ≡ GET → (waiting : List Waiting) (a : Bool) → is_active x ≡ a → (o : Option Pend) → finite.get image.pending key ≡ o → (left : Bool) → is_left waiting o ≡ left
+      → (d : Option Doc) → finite.get image.docs key ≡ d → (reply : KvReply) → reply_to settings f (if a then get_reply left d else refusal_reply Status.NotMyVbucket).answer ≡ Some reply → Fits reply
+  read_by code waiting false off o p left l d has reply e =
+      subst Fits (same (status_reply f Status.NotMyVbucket) reply e) (get_away (Some (Some x)) image settings.json key f (follows x off))
+  read_by code waiting true on None p true l d has reply e = cc
+  read_by code waiting true on (Some pend) p true l d has reply e = subst Fits (same (status_reply f Status.SyncWriteReCommitInProgress) reply e) (record {
+    away = λ off. absurd (off (leads x on));
+    found = λ active doc is. inr ((pend, p), status_fits f Status.SyncWriteReCommitInProgress);
+    none = λ active is. inr ((pend, p), status_fits f Status.SyncWriteReCommitInProgress);
+  })
+  read_by code waiting true on o p false l None has reply e = subst Fits (same (status_reply f Status.KeyEnoent) reply e) (record {
+    away = λ off. absurd (off (leads x on));
+    found = λ active doc is. (let z : None ≡ Some doc = sym has ∙ is in cc);
+    none = λ active is. inl (status_fits f Status.KeyEnoent);
+  })
+  read_by code waiting true on o p false l (Some doc) has reply e = subst Fits (same (found_reply settings f doc) reply e) (record {
+    away = λ off. absurd (off (leads x on));
+    found = λ active other is. inl (subst (IsFound settings.json (reply_frame (found_reply settings f doc)) f.opaque) (same doc other (sym has ∙ is)) (found_fits settings f doc code));
+    none = λ active is. (let z : None ≡ Some doc = sym is ∙ has in cc);
+  })
+
+-- ---- why a write is refused
+
+-- as its vBucket is not active
+why_away : (Besides : Status → Type 0) (role : Option (Option Role)) (image : Picture) (write : Write) (st : Status) → (IsActive role → ⊥) → st ≡ Status.NotMyVbucket → IsWhyRefused Besides role image write st
+why_away Besides role image write st off is = record { away = λ o. is; locked = λ on l. absurd (off on); unfit = λ on free. absurd (off on) }
+
+module _ (Besides : Status → Type 0) (x : Role) (image : Picture) (write : Write) (st : Status) (on : is_active x ≡ true) where
+  abbrev Why : Type 0
+  Why = IsWhyRefused Besides (Some (Some x)) image write st
+
+  -- at any key
+  why_besides : Besides st → Why
+  why_besides b = record { away = λ off. absurd (off (leads x on)); locked = λ active l. inr (inr b); unfit = λ active free. inr b }
+
+  -- by the prepare that waits at its key, or by the key's document
+  why_key : (waiting : List Waiting) (o : Option Pend) → finite.get image.pending write.key ≡ o
+      → or_else (pending_refusal waiting o) (doc_refusal write.op write.cas (finite.get image.docs write.key)) ≡ Some st → Why
+  why_key waiting None none e = record {
+    away = λ off. absurd (off (leads x on));
+    locked = λ active l. (let z : None ≡ Some l.0 = sym none ∙ l.1 in cc);
+    unfit = λ active free. inl e;
+  }
+  why_key waiting (Some p) waits e = record {
+    away = λ off. absurd (off (leads x on));
+    locked = λ active l. by (is_left waiting (Some p)) e;
+    unfit = λ active free. (let z : None ≡ Some p = sym free ∙ waits in cc);
+  }
+    where
+      by : (b : Bool) → Some (if b then Status.SyncWriteReCommitInProgress else Status.SyncWriteInProgress) ≡ Some st
+          → (st ≡ Status.SyncWriteInProgress) ⊎ (st ≡ Status.SyncWriteReCommitInProgress) ⊎ Besides st
+      by true s = inr (inl (sym (same Status.SyncWriteReCommitInProgress st s)))
+      by false s = inl (sym (same Status.SyncWriteInProgress st s))
+
+module _ (vb : Plain) (write : Write) (st : Status) where
+  -- by what its vBucket is
+  why_store : store_refusal vb write ≡ Some st → IsWhyRefused LacksSeqnos (Some (Some vb.role)) (image_in vb) write st
+  why_store e = by (is_active vb.role) refl (lacks_seqnos vb 1) e
+    where
+      by : (a : Bool) → is_active vb.role ≡ a → (full : Bool) → (if a then (if full then Some Status.Etmpfail else key_refusal vb write) else Some Status.NotMyVbucket) ≡ Some st
+          → IsWhyRefused LacksSeqnos (Some (Some vb.role)) (image_in vb) write st
+      by false off full s = why_away LacksSeqnos (Some (Some vb.role)) (image_in vb) write st (follows vb.role off) (sym (same Status.NotMyVbucket st s))
+      by true on true s = why_besides LacksSeqnos vb.role (image_in vb) write st on (sym (same Status.Etmpfail st s))
+      by true on false s = why_key LacksSeqnos vb.role (image_in vb) write st on vb.waiting (pending_of vb write.key) refl s
+
+  -- and by its chain
+  why_durable : (chain : Members) → (is_active vb.role ≡ true → chain ≡ vb.others) → durable_refusal vb write ≡ Some st → IsWhyRefused (LacksMajority chain) (Some (Some vb.role)) (image_in vb) write st
+  why_durable chain is e = by (is_active vb.role) refl (is_possible vb.others) refl (lacks_seqnos vb 2) e
+    where
+      by : (a : Bool) → is_active vb.role ≡ a → (p : Bool) → is_possible vb.others ≡ p → (full : Bool)
+          → (if not a then Some Status.NotMyVbucket else if not p then Some Status.DurabilityImpossible else if full then Some Status.Etmpfail else key_refusal vb write) ≡ Some st
+          → IsWhyRefused (LacksMajority chain) (Some (Some vb.role)) (image_in vb) write st
+      by false off p few full s = why_away (LacksMajority chain) (Some (Some vb.role)) (image_in vb) write st (follows vb.role off) (sym (same Status.NotMyVbucket st s))
+      by true on false few full s = why_besides (LacksMajority chain) vb.role (image_in vb) write st on (inr (ap is_possible (is on) ∙ few, sym (same Status.DurabilityImpossible st s)))
+      by true on true few true s = why_besides (LacksMajority chain) vb.role (image_in vb) write st on (inl (sym (same Status.Etmpfail st s)))
+      by true on true few false s = why_key (LacksMajority chain) vb.role (image_in vb) write st on vb.waiting (pending_of vb write.key) refl s
+
+-- so it is refused where its vBucket is not active
+pub refused_away : (Besides : Status → Type 0) (role : Option (Option Role)) (image : Picture) (write : Write) (f : Frame) → (IsActive role → ⊥) → IsRefused Besides role image write f (reply_frame (status_reply f Status.NotMyVbucket))
+refused_away Besides role image write f off = (Status.NotMyVbucket, status_fits f Status.NotMyVbucket, why_away Besides role image write Status.NotMyVbucket off refl)
+
+-- ---- writes that were made
+
+-- a write that is not refused is let by the document of its key
+let_by_doc : (vb : Plain) (write : Write) → store_refusal vb write ≡ None → doc_refusal write.op write.cas (doc_at vb write.key) ≡ None
+let_by_doc vb write free =
+    (nothing_waits vb.waiting (pending_of vb write.key) (doc_refusal write.op write.cas (doc_at vb write.key)) (said_none vb.role (lacks_seqnos vb 1) (key_refusal vb write) free)).1
+
+pub made_fits : (n v : ℕ) (held : List Change) (made : List OwnChange) (settings : Settings) (f : Frame) (vb : Plain) (write : Write) (cas branch : ℕ) (older : List OwnChange) (before : List Change)
+    → made ≡ record { node = n; vb = v; branch = branch; change = write_change vb write cas } ∷ older → held ≡ before ++ write_change vb write cas ∷ [] → image_of before ≡ image_in vb
+    → store_refusal vb write ≡ None → IsMade n v held made settings write f (reply_frame (stored_reply settings f branch (write_change vb write cas).seq cas))
+made_fits n v held made settings f vb write cas branch older before last behind image free = record {
+  branch = branch;
+  change = write_change vb write cas;
+  older = older;
+  last = last;
+  key = refl;
+  cas = cas;
+  rev = new_rev (doc_at vb write.key);
+  act = refl;
+  before = before;
+  behind = behind;
+  fits = ap (λ (p : Picture). doc_refusal write.op write.cas (finite.get p.docs write.key)) image ∙ let_by_doc vb write free;
+  told = record {
+    header = record { magic = refl; opcode = refl; key = refl; datatype = refl; status = refl; opaque = refl; framing = refl };
+    cas = refl;
+    extras = refl;
+    value = refl;
+  };
+}
+
+-- ---- outcomes of durable writes
+
+module _ (settings : Settings) (f : Frame) (a : Awaited) (code : a.opcode ≡ f.opcode) (number : a.opaque ≡ f.opaque) where
+  pub committed_fits : (branch seq cas : ℕ) → IsCommitted settings f (reply_frame (outcome_reply settings a (resolution.Committed branch seq cas)))
+  committed_fits branch seq cas = record {
+    branch = branch;
+    seq = seq;
+    cas = cas;
+    told = record {
+      header = record { magic = refl; opcode = code; key = refl; datatype = refl; status = refl; opaque = number; framing = refl };
+      cas = refl;
+      extras = refl;
+      value = refl;
+    };
+  }
+
+  pub ambiguous_fits : IsStatus f (reply_frame (outcome_reply settings a resolution.Ambiguous)) Status.SyncWriteAmbiguous
+  ambiguous_fits = record {
+    header = record { magic = refl; opcode = code; key = refl; datatype = refl; status = refl; opaque = number; framing = refl };
+    cas = refl;
+    extras = refl;
+    value = refl;
+  }
+
+-- ---- each by what the lines tell
+
+-- a frame that is none of DCP's fits where its request does
+pub frame_fits : (r : Chronicle) (n : ℕ) (settings : Settings) (f g : Frame) → FitsRequest r n settings f g (request_of settings.json f) → FitsFrame r n settings f g
+frame_fits r n settings f g fits = by (is_dcp f.opcode)
+  where
+    by : (b : Bool) → FitsBy b r n settings f g
+    by true = tt
+    by false = fits
+
+module _ (r : Chronicle) (n v : ℕ) (settings : Settings) (f : Frame) (write : Write) where
+  -- a vBucket that is not active, or is not there, refuses each write
+  pub write_away : (IsActive (r.role_at n v) → ⊥) → FitsWrite r n v settings write f (reply_frame (status_reply f Status.NotMyVbucket))
+  write_away off = inl (refused_away LacksSeqnos (r.role_at n v) (image_of (r.held n v)) write f off)
+
+  pub durable_away : (IsActive (r.role_at n v) → ⊥) → FitsDurable r n v settings write f (reply_frame (status_reply f Status.NotMyVbucket))
+  durable_away off = inr (inl (refused_away (LacksMajority (r.counts_at n v).chain) (r.role_at n v) (image_of (r.held n v)) write f off))
+
+  -- so does a connection that has no number left for a durable one, whatever its vBucket is
+  pub durable_over : FitsDurable r n v settings write f (reply_frame (status_reply f Status.Etmpfail))
+  durable_over = inl (status_fits f Status.Etmpfail)
+
+  -- its outcome
+  pub outcome_fits : (a : Awaited) (how : Resolution) → a.opcode ≡ f.opcode → a.opaque ≡ f.opaque → FitsDurable r n v settings write f (reply_frame (outcome_reply settings a how))
+  outcome_fits a (resolution.Committed branch seq cas) code number = inr (inr (inl (committed_fits settings f a code number branch seq cas)))
+  outcome_fits a resolution.Ambiguous code number = inr (inr (inr (ambiguous_fits settings f a code number)))
+
+module _ (r : Chronicle) (n v : ℕ) (vb : Plain) (known : KnownAs r n v vb) where
+  -- what fits the vBucket fits what is told of it
+  as_told : (P : Option (Option Role) → Picture → Type 0) → P (Some (Some vb.role)) (image_in vb) → P (r.role_at n v) (image_of (r.held n v))
+  as_told P x = subst (λ o. P o (image_of (r.held n v))) (sym known.role) (subst (P (Some (Some vb.role))) (sym known.image) x)
+
+  module _ (settings : Settings) (f : Frame) where
+    pub get_fits : (key : List ℕ) → f.opcode ≡ GET → (reply : KvReply) → reply_to settings f (get_row vb key).answer ≡ Some reply
+        → FitsGet (r.role_at n v) (image_of (r.held n v)) settings.json key f (reply_frame reply)
+    get_fits key code reply e = as_told (λ role image. FitsGet role image settings.json key f (reply_frame reply))
+        (read_by settings f key vb.role (image_in vb) code vb.waiting (is_active vb.role) refl (pending_of vb key) refl (is_left vb.waiting (pending_of vb key)) refl (doc_at vb key) refl reply e)
+
+    pub refused_fits : (write : Write) (st : Status) → store_refusal vb write ≡ Some st → FitsWrite r n v settings write f (reply_frame (status_reply f st))
+    refused_fits write st e = inl (st, status_fits f st, as_told (λ role image. IsWhyRefused LacksSeqnos role image write st) (why_store vb write st e))
+
+    pub durable_refused_fits : (write : Write) (st : Status) → durable_refusal vb write ≡ Some st → FitsDurable r n v settings write f (reply_frame (status_reply f st))
+    durable_refused_fits write st e =
+        let chain : Members = (r.counts_at n v).chain in
+        inr (inl (st, status_fits f st, as_told (λ role image. IsWhyRefused (LacksMajority chain) role image write st) (why_durable vb write st chain known.chain e)))
