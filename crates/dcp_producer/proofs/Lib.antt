@@ -27,6 +27,9 @@ pub mod Going
 pub mod Ends
 pub mod Staying
 pub mod Turns
+pub mod Stills
+pub mod Anew
+pub mod AskingAll
 pub mod Uncounted
 pub mod Wanting
 pub mod Outcomes

@@ -59,7 +59,7 @@ test_waits (t ∷ more) (inr rest) = or_true (says_wait t.next) (list_any (λ (u
     or_true true b is = refl
     or_true false b is = is
 
-all_turns : (n : ℕ) (xs : List PlainStream) → length (drop n xs ++ take n xs) ≡ length xs
+pub all_turns : (n : ℕ) (xs : List PlainStream) → length (drop n xs ++ take n xs) ≡ length xs
 all_turns n xs =
     let one : length (drop n xs ++ take n xs) ≡ length (drop n xs) + length (take n xs) = length-append (drop n xs) (take n xs) in
     let two : length (take n xs ++ drop n xs) ≡ length (take n xs) + length (drop n xs) = length-append (take n xs) (drop n xs) in

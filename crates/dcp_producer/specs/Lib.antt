@@ -13,6 +13,7 @@ pub mod Requesting
 pub mod Counting
 pub mod Closing
 pub mod Turns
+pub mod AskingAll
 pub mod Endings
 pub mod Ends
 pub mod Taking

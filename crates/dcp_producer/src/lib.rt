@@ -42,7 +42,7 @@ use producer::close_stream;
 pub use producer::{Asked, Producer, Pulled};
 pub use pull_laws::{
     connections_stay_sound, lines_tell_their_frames, pulls_ask_little, pulls_take_turns,
-    streams_take_turns, windows_hold_back,
+    quiet_streams_stay_quiet, streams_take_turns, windows_hold_back,
 };
 pub use row_laws::{
     ends_come_behind_items, items_are_put_in_turn, turns_in_order, windows_hold_at_their_edge,

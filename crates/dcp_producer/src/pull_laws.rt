@@ -1,11 +1,12 @@
 //! What a pull puts, in turn and through the window, and why it puts no more; each law as the contract of a
 //! function that does nothing.
 ghost use Rattle.std.specs.Prelude.{◌≡◌, ◌<◌, ◌↔◌, ℕ, List};
-ghost use Rattle.dcp_producer.specs.{Ending.{ended_by}, Going.{LinesTell}, Having.{AnswersSound, IsSound, PullsSound}, Holding.{IsShut, PullHoldsBack}, Producers.{PlainProducer, Served, new_end}, Serving.{frame_answered}, Pulling.{frames_put, why_of}, Pulls.{AsksLittle, PullsInTurn, TurnsTaken}};
+ghost use Rattle.dcp_producer.specs.{AskingAll.{IsAsIfAllAsked, StaysQuiet}, Ending.{ended_by}, Going.{LinesTell}, Having.{AnswersSound, IsSound, PullsSound}, Holding.{IsShut, PullHoldsBack}, Producers.{PlainProducer, PlainStream, Served, new_end}, Serving.{frame_answered}, Pulling.{frames_put, why_of}, Pulls.{AsksLittle, PullsInTurn, TurnsTaken}};
 ghost use Rattle.{dcp_producer.specs.declared.desk.Desk.{Desk as DeskData}, mcbp_frame.specs.declared.frame.Frame.{Frame as FrameData}};
 ghost use Rattle.dcp_producer.specs.declared.halt.{Halt.{Halt}, Halt.TheVariants.{Full, WaitSaved}};
 ghost use Rattle.vb_events.specs.declared.event.Why.TheVariants.{Full as FullLine, WaitSaved as SavedLine};
-ghost use Rattle.vb_calls.specs.Programs.{AnyCall, Always, Done, Made, Told};
+ghost use Rattle.vb_events.specs.declared.event.StreamName.{StreamName as Name};
+ghost use Rattle.vb_calls.specs.{Programs.{AnyCall, Always, Done, Made, Told}, States.{States}};
 
 /// The streams of a connection are always of different vBuckets, their numbers rise in the order in which
 /// they were opened and none is above the last one that was asked for, and the turn's place is one of theirs
@@ -61,4 +62,17 @@ pub fn lines_tell_their_frames()
 pub fn pulls_ask_little()
     ensures { (frames : ℕ) (s left : Served) (made : List Made) (halted : Halt) → IsSound s.end → Told (frames_put frames s) made (left, halted)
         → AsksLittle frames s made left halted }
+{}
+
+/// A stream that was quiet is not asked again before the pull ends, and over plain vBuckets nothing is lost by
+/// that: the pull gives what one gives that asks everybody anew for each frame. For each next frame the window
+/// comes first, and the pull ends where it is shut. Then one stream after the other is asked, from the one
+/// behind that of the last turn, until one puts a frame; where none does the pull ends, and says that it waits
+/// where one of them waits for what is to be saved, else that there is no more. The same frames go out with the
+/// same lines, the same streams, turn, window and vBuckets are left, and it says the same of why no more was
+/// put. For a stream that is quiet changes nothing, and is quiet again while its vBucket stays as it is; and
+/// the others, which are of other vBuckets, leave that one alone.
+pub fn quiet_streams_stay_quiet()
+    ensures pull { (frames : ℕ) (s : Served) (states : States) → IsSound s.end → IsAsIfAllAsked frames s states }
+    ensures again { (name : Name) (stream : PlainStream) (states : States) → StaysQuiet name stream states }
 {}

@@ -1,0 +1,188 @@
+-- a stream that is quiet, over plain vBuckets: it changes nothing, and it is quiet again as long as its own vBucket stays as it is
+use Rattle.std.proofs.Common.{◌≡◌, ℕ, Bool, true, false, refl, sym, ap, ◌∙◌, subst, Option, Some, None}
+use Rattle.std.specs.Prelude.{◌==◌, if◌then◌else◌, slice_get}
+use Rattle.std.proofs.lemmas.Bool.{eqb-true}
+use Rattle.vb_types.specs.declared.change.Change.{Change}
+use Rattle.vb_types.specs.declared.stream.Place.{Place}
+use Rattle.vb_types.specs.declared.stream.Place.TheVariants as place
+use Rattle.vb_events.specs.declared.event.StreamName.{StreamName}
+use Rattle.vb_calls.specs.declared.calls.VbCall.{VbCall}
+use Rattle.vb_calls.specs.declared.calls.VbCall.TheVariants as call
+use Rattle.vb_calls.specs.declared.calls.VbReply.{VbReply}
+use Rattle.vb_calls.specs.declared.span.Span.{Span}
+use Rattle.vb_calls.specs.declared.stream.Stream.{Stream}
+use Rattle.vb_calls.specs.Plain.{Plain, plain_step}
+use Rattle.vb_calls.specs.Spans.{all_spans}
+use Rattle.vb_calls.specs.States.{States, call_at, states_step, with_vb_at}
+use Rattle.vb_calls.specs.Streams.{end_span, is_in_memory, place_row, stream_at, take_from, take_to}
+use Rattle.vb_calls.specs.Programs.{Prog, Done, Call, after, AnyCall, Always}
+use Rattle.vb_calls.proofs.Conduct.{after_always, after_elsewhere}
+use Rattle.dcp_producer.specs.declared.next_frame.NextFrame.TheVariants as next
+use Rattle.dcp_producer.specs.Frames.{Next, STATE_CHANGED, close_sent, next_by, next_frame, over, place_requested, place_said, place_told, placed_next, reaches_end, take_answered, taken_next}
+use Rattle.dcp_producer.specs.AskingAll.{StaysQuiet}
+use Rattle.dcp_producer.specs.Producers.{PlainStream}
+use Rattle.dcp_producer.proofs.Framing.{GoesOn, frame_same}
+
+-- a vBucket that is put where it stands
+with_itself : (states : States) (v : ℕ) (vb : Plain) → states v ≡ Some vb → with_vb_at states v vb ≡ states
+with_itself states v vb is = λ i w. by w (w == v) refl i
+  where
+    by : (w : ℕ) (b : Bool) → (w == v) ≡ b → (if b then Some vb else states w) ≡ states w
+    by w true e = sym is ∙ ap states (sym (eqb-true w v e))
+    by w false e = refl
+
+-- what a stream that is quiet leaves: the vBuckets and itself as they were
+abbrev LeavesAll : States → PlainStream → States × Next → Type 0
+LeavesAll states stream (left, (next.Put m line, s)) = Unit {0}
+LeavesAll states stream (left, (next.End reason, s)) = Unit {0}
+LeavesAll states stream (left, (next.Quiet waits, s)) = (left ≡ states) × (s ≡ stream)
+
+module _ (name : StreamName) (stream : PlainStream) (states : States) where
+  abbrev v : ℕ
+  v = stream.vb
+
+  abbrev id : ℕ
+  id = stream.id
+
+  -- behind a take
+  taken : (o : Option Plain) → states v ≡ o → LeavesAll states stream ((call_at states v (call.Take id) o).0, take_answered name stream (call_at states v (call.Take id) o).1)
+  taken None there = tt
+  taken (Some vb) there = by (stream_at id vb.streams)
+    where
+      given : (s : Stream) (w : Option Span) → LeavesAll states stream (with_vb_at states v (take_to w s vb).0, taken_next name stream (take_to w s vb).1.answer)
+      given s None = (with_itself states v vb there, refl)
+      given s (Some w) = tt
+
+      by : (o : Option Stream) → LeavesAll states stream (with_vb_at states v (take_from o vb).0, taken_next name stream (take_from o vb).1.answer)
+      by None = tt
+      by (Some s) = given s (if is_in_memory vb.floor s then end_span s (all_spans vb.spans) vb.held else None)
+
+  placed : (from : Option Place) → LeavesAll states stream (after (placed_next name stream from) states)
+  placed None = tt
+  placed (Some place.Memory) = taken (states v) refl
+  placed (Some place.WaitSaved) = (refl, refl)
+
+  asked : (o : Option Plain) → states v ≡ o → LeavesAll states stream (after (placed_next name stream (place_said (call_at states v (call.Place id) o).1)) (call_at states v (call.Place id) o).0)
+  asked None there = tt
+  asked (Some vb) there =
+      let from : Option Place = place_told (place_row vb id).answer in
+      subst (λ (left : States). LeavesAll states stream (after (placed_next name stream from) left)) (sym (with_itself states v vb there)) (placed from)
+
+  reached : (b : Bool) → LeavesAll states stream (after (if b then close_sent stream else place_requested name stream) states)
+  reached true = tt
+  reached false = asked (states v) refl
+
+  ended : (b : Bool) → LeavesAll states stream (after (if b then Done (over STATE_CHANGED stream) else if reaches_end stream.until stream.marked then close_sent stream else place_requested name stream) states)
+  ended true = tt
+  ended false = reached (reaches_end stream.until stream.marked)
+
+  items : (item : Option Change) → LeavesAll states stream (after (next_by name stream item) states)
+  items None = ended stream.ended
+  items (Some c) = tt
+
+  leaves_all : LeavesAll states stream (after (next_frame name stream) states)
+  unfolding next_frame
+  leaves_all = items (slice_get stream.items stream.next)
+
+  -- a stream that is quiet changes nothing
+  pub quiet_leaves : (left : States) (waits : Bool) (s : PlainStream) → after (next_frame name stream) states ≡ (left, (next.Quiet waits, s)) → (left ≡ states) × (s ≡ stream)
+  quiet_leaves left waits s is = subst (LeavesAll states stream) is leaves_all
+
+-- ---- a stream calls its own vBucket alone
+
+abbrev AtOnly : ℕ → ℕ → VbCall → Type 0
+AtOnly v w asked = w ≡ v
+
+abbrev Any : Next → Type 0
+Any next = Unit {0}
+
+module _ (name : StreamName) (stream : PlainStream) where
+  abbrev Own : Prog Next → Type 0
+  Own prog = Always (AtOnly stream.vb) Any prog
+
+  placed_own : (from : Option Place) → Own (placed_next name stream from)
+  placed_own None = tt
+  placed_own (Some place.Memory) = (refl, λ reply any. tt)
+  placed_own (Some place.WaitSaved) = tt
+
+  reached_own : (b : Bool) → Own (if b then close_sent stream else place_requested name stream)
+  reached_own true = (refl, λ reply any. tt)
+  reached_own false = (refl, λ reply any. placed_own (place_said reply))
+
+  ended_own : (b : Bool) → Own (if b then Done (over STATE_CHANGED stream) else if reaches_end stream.until stream.marked then close_sent stream else place_requested name stream)
+  ended_own true = tt
+  ended_own false = reached_own (reaches_end stream.until stream.marked)
+
+  items_own : (item : Option Change) → Own (next_by name stream item)
+  items_own None = ended_own stream.ended
+  items_own (Some c) = tt
+
+  own : Own (next_frame name stream)
+  unfolding next_frame
+  own = items_own (slice_get stream.items stream.next)
+
+  -- so it leaves all other vBuckets
+  pub elsewhere : (states : States) (w : ℕ) → (w ≡ stream.vb → ⊥) → (after (next_frame name stream) states).0 w ≡ states w
+  elsewhere states w other = after_elsewhere (AtOnly stream.vb) Any (next_frame name stream) states w (λ asked. other) own
+
+  -- and goes on as the same one
+  pub after_same : (states : States) → GoesOn stream (after (next_frame name stream) states).1
+  after_same states = after_always AnyCall (GoesOn stream) (next_frame name stream) states (frame_same name stream)
+
+-- ---- what a program that calls one vBucket comes to
+
+reply_same : (a b : States) (v w : ℕ) (asked : VbCall) → w ≡ v → a v ≡ b v → (states_step a w asked).1 ≡ (states_step b w asked).1
+reply_same a b v w asked at same = by (a w) ∙ ap (λ o. (call_at b w asked o).1) (ap a at ∙ same ∙ sym (ap b at))
+  where
+    by : (o : Option Plain) → (call_at a w asked o).1 ≡ (call_at b w asked o).1
+    by None = refl
+    by (Some vb) = refl
+
+step_same : (a b : States) (v w : ℕ) (asked : VbCall) → w ≡ v → a v ≡ b v → (states_step a w asked).0 v ≡ (states_step b w asked).0 v
+step_same a b v w asked at same = by (a w) ∙ ap (λ o. (call_at b w asked o).0 v) (ap a at ∙ same ∙ sym (ap b at))
+  where
+    by : (o : Option Plain) → (call_at a w asked o).0 v ≡ (call_at b w asked o).0 v
+    by None = same
+    by (Some vb) = ap (λ o. if v == w then Some (plain_step vb asked).0 else o) same
+
+-- it comes to the same where that one is the same
+after_own : {A : Type 0} (v : ℕ) (answers : A → Type 0) (prog : Prog A) (a b : States) → Always (AtOnly v) answers prog → a v ≡ b v → (after prog a).1 ≡ (after prog b).1
+after_own v answers (Done x) a b always same = refl
+after_own v answers (Call w asked next) a b always same =
+    let x : States × Option VbReply = states_step a w asked in
+    let y : States × Option VbReply = states_step b w asked in
+    after_own v answers (next x.1) x.0 y.0 (always.1 x.1 tt) (step_same a b v w asked always.0 same)
+    ∙ ap (λ reply. (after (next reply) y.0).1) (reply_same a b v w asked always.0 same)
+
+module _ (name : StreamName) (stream : PlainStream) where
+  pub same_next : (a b : States) → a stream.vb ≡ b stream.vb → (after (next_frame name stream) a).1 ≡ (after (next_frame name stream) b).1
+  same_next a b same = after_own stream.vb Any (next_frame name stream) a b (own name stream) same
+
+  -- it is quiet so, and changes nothing
+  abbrev IsStillSo : Bool → States → Type 0
+  IsStillSo waits states = after (next_frame name stream) states ≡ (states, (next.Quiet waits, stream))
+
+  -- and so it is again while its vBucket stays as it is
+  again_so : (a b : States) (waits : Bool) → a stream.vb ≡ b stream.vb → IsStillSo waits a → IsStillSo waits b
+  again_so a b waits same is =
+      let x : States × Next = after (next_frame name stream) b in
+      let comes : x.1 ≡ (next.Quiet waits, stream) = sym (same_next a b same) ∙ ap (λ (y : States × Next). y.1) is in
+      let whole : x ≡ (x.0, (next.Quiet waits, stream)) = λ i. (x.0, comes i) in
+      let left : x.0 ≡ b = (quiet_leaves name stream b x.0 waits stream whole).0 in
+      whole ∙ (λ i. (left i, (next.Quiet waits, stream)))
+
+  -- the same, whether it waits or not
+  abbrev pub IsStill : States → Type 0
+  IsStill states = (waits : Bool) × IsStillSo waits states
+
+  pub still_again : (a b : States) → a stream.vb ≡ b stream.vb → IsStill a → IsStill b
+  still_again a b same (waits, is) = (waits, again_so a b waits same is)
+
+  pub stays_quiet : (states : States) → StaysQuiet name stream states
+  stays_quiet states = record {
+    still = λ waits behind left is. quiet_leaves name stream states behind waits left is;
+    again = λ waits behind left is now same.
+        let (kept, itself) = quiet_leaves name stream states behind waits left is in
+        again_so states now waits (sym same) (is ∙ (λ i. (kept i, (next.Quiet waits, itself i))));
+    apart = elsewhere name stream states;
+  }
