@@ -1,3 +1,6 @@
 -- what clients are answered
 pub mod Fits
 pub mod Messages
+pub mod Awaited
+pub mod Explained
+pub mod Committed

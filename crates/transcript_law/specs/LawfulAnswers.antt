@@ -22,6 +22,7 @@ use Rattle.vb_events.specs.declared.event.Event.{Event}
 use Rattle.vb_events.specs.declared.event.Event.TheVariants as event
 use Rattle.vb_types.specs.Images.{Picture, image_of}
 use Rattle.vb_types.specs.Statuses.{status_code}
+use Rattle.vb_types.specs.declared.change.Act.TheVariants as act
 use Rattle.vb_types.specs.declared.change.Change.{Change}
 use Rattle.vb_types.specs.declared.change.Pend.{Pend}
 use Rattle.vb_types.specs.declared.doc.Doc.{Doc}
@@ -90,12 +91,21 @@ abbrev pub FitsWrite : Chronicle → ℕ → ℕ → Settings → Write → Fram
 FitsWrite chronicle n v settings write f g =
     IsRefused LacksSeqnos (chronicle.role_at n v) (image_of (chronicle.held n v)) write f g ⊎ IsMade n v (chronicle.held n v) chronicle.made settings write f g
 
--- a durable write was committed, with this CAS, and is told so
-pub record IsCommitted (settings : Settings) (f g : Frame) : Type 0 where
-  pub branch : ℕ
-  pub seq : ℕ
-  pub cas : ℕ
-  pub told : IsStored g f.opcode f.opaque cas (seqno_part settings branch seq)
+-- this change is one of these
+abbrev pub IsMadeIn : OwnChange → List OwnChange → Type 0
+IsMadeIn one [] = ⊥
+IsMadeIn one (other ∷ older) = (one ≡ other) ⊎ IsMadeIn one older
+
+-- a durable write was committed: a commit at a vBucket of the node was told before in this group, and the write is told with its CAS, and its branch and seqno where the client asked for these
+pub record IsCommitted (n : ℕ) (made : List OwnChange) (settings : Settings) (f g : Frame) : Type 0 where
+  pub one : OwnChange
+  pub told_before : IsMadeIn one made
+  pub here : one.node ≡ n
+  pub prepared : ℕ
+  pub doc : Doc
+  pub deleted : Bool
+  pub commits : one.change.act ≡ act.Commit prepared doc deleted
+  pub told : IsStored g f.opcode f.opaque doc.cas (seqno_part settings one.branch one.change.seq)
 
 -- its connection has no number left for a durable write, and its vBucket, whatever that is, is not asked
 abbrev pub LacksNumbers : Frame → Frame → Type 0
@@ -104,7 +114,7 @@ LacksNumbers f g = IsStatus f g status.Etmpfail
 -- it is refused, or its outcome is told: it was committed, or nobody knows
 abbrev pub FitsDurable : Chronicle → ℕ → ℕ → Settings → Write → Frame → Frame → Type 0
 FitsDurable chronicle n v settings write f g =
-    LacksNumbers f g ⊎ IsRefused (LacksMajority (chronicle.counts_at n v).chain) (chronicle.role_at n v) (image_of (chronicle.held n v)) write f g ⊎ IsCommitted settings f g
+    LacksNumbers f g ⊎ IsRefused (LacksMajority (chronicle.counts_at n v).chain) (chronicle.role_at n v) (image_of (chronicle.held n v)) write f g ⊎ IsCommitted n chronicle.made settings f g
     ⊎ IsStatus f g status.SyncWriteAmbiguous
 
 -- each request, by what its frame asks

@@ -3,7 +3,8 @@ use Rattle.std.specs.Prelude.{◌≡◌, ◌∷◌, ◌++◌, ◌⊎◌, if◌th
 use Rattle.std.specs.FinMap as finite
 use Rattle.transcript_law.proofs.Words.{ℕ, Bool, true, false, List, [], refl, ap, sym, ◌∙◌, subst, inl, inr, Option, Some, None, Result, Ok, Err, Frame, RESPONSE, KvRequest, Change, Doc, Pend, Picture, Plain, PlainWorld, Role, Status, Op, Write, Chronicle, VbAnswer}
 use Rattle.transcript_law.proofs.Words.{doc_at, image_in, image_of, is_active, new_rev, refusal_reply, write_change}
-use Rattle.transcript_law.proofs.{disks.Absent.{nothing_here}, invariant.Agreement.{Agrees, AgreesAt, VbAgrees, active_counts, image_is, is_down, power_of, vb_of}, invariant.Seats.{seat}}
+use Rattle.client_session.specs.Rows.{seqno_part}
+use Rattle.transcript_law.proofs.{answers.Committed.{CommitTold, HowTold}, disks.Absent.{nothing_here}, invariant.Agreement.{Agrees, AgreesAt, VbAgrees, active_counts, image_is, is_down, power_of, vb_of}, invariant.Seats.{seat}}
 use Rattle.transcript_law.specs.{Chronicles.{rested, resting}, LawfulAnswers.{FitsBy, FitsDurable, FitsFrame, FitsGet, FitsRequest, FitsWrite, IsCommitted, IsMade, IsRefused, IsStatus, IsWhyRefused, LacksMajority, LacksSeqnos}, LawfulClients.{IsActive}, LinesTold.{OwnChange}}
 use Rattle.branch_model.specs.Journals.{role_of}
 use Rattle.client_session.specs.Answers.{found_reply, reply_to, status_reply, stored_reply, value_reply}
@@ -280,15 +281,19 @@ made_fits n v held made settings f vb write cas branch older before last behind 
 -- ---- outcomes of durable writes
 
 module _ (settings : Settings) (f : Frame) (a : Awaited) (code : a.opcode ≡ f.opcode) (number : a.opaque ≡ f.opaque) where
-  pub committed_fits : (branch seq cas : ℕ) → IsCommitted settings f (reply_frame (outcome_reply settings a (resolution.Committed branch seq cas)))
-  committed_fits branch seq cas = record {
-    branch = branch;
-    seq = seq;
-    cas = cas;
+  pub committed_fits : (n : ℕ) (made : List OwnChange) (branch seq cas : ℕ) → CommitTold n made branch seq cas → IsCommitted n made settings f (reply_frame (outcome_reply settings a (resolution.Committed branch seq cas)))
+  committed_fits n made branch seq cas t = record {
+    one = t.one;
+    told_before = t.among;
+    here = t.here;
+    prepared = t.prepared;
+    doc = t.doc;
+    deleted = t.deleted;
+    commits = t.commits;
     told = record {
       header = record { magic = refl; opcode = code; key = refl; datatype = refl; status = refl; opaque = number; framing = refl };
-      cas = refl;
-      extras = refl;
+      cas = sym t.cas_is;
+      extras = (λ i. seqno_part settings (sym t.branch_is i) (sym t.seq_is i));
       value = refl;
     };
   }
@@ -324,9 +329,9 @@ module _ (r : Chronicle) (n v : ℕ) (settings : Settings) (f : Frame) (write : 
   durable_over = inl (status_fits f Status.Etmpfail)
 
   -- its outcome
-  pub outcome_fits : (a : Awaited) (how : Resolution) → a.opcode ≡ f.opcode → a.opaque ≡ f.opaque → FitsDurable r n v settings write f (reply_frame (outcome_reply settings a how))
-  outcome_fits a (resolution.Committed branch seq cas) code number = inr (inr (inl (committed_fits settings f a code number branch seq cas)))
-  outcome_fits a resolution.Ambiguous code number = inr (inr (inr (ambiguous_fits settings f a code number)))
+  pub outcome_fits : (a : Awaited) (how : Resolution) → a.opcode ≡ f.opcode → a.opaque ≡ f.opaque → HowTold n r.made how → FitsDurable r n v settings write f (reply_frame (outcome_reply settings a how))
+  outcome_fits a (resolution.Committed branch seq cas) code number told = inr (inr (inl (committed_fits settings f a code number n r.made branch seq cas (told branch seq cas refl))))
+  outcome_fits a resolution.Ambiguous code number told = inr (inr (inr (ambiguous_fits settings f a code number)))
 
 module _ (r : Chronicle) (n v : ℕ) (vb : Plain) (known : KnownAs r n v vb) where
   -- what fits the vBucket fits what is told of it

@@ -1,9 +1,10 @@
 -- requests of a client for documents: all lines are lawful, each answer fits what the lines tell, and after them all agrees, with the connection as the session left it
 use Rattle.std.specs.Prelude.{◌≡◌, ◌<◌, ◌+◌, ◌∷◌, ◌++◌, ◌==◌, ◌^◌, if◌then◌else◌, nat_le}
-use Rattle.transcript_law.proofs.Words.{ℕ, Bool, true, false, List, [], refl, ap, sym, ◌∙◌, subst, inr, append_assoc, append-nil, AreBytes, Option, Some, None, Result, Ok, Err, length, image_of, eq-eqb, Op, Frame, WriteFits, KvRequest, Change, Doc}
+use Rattle.transcript_law.proofs.Words.{ℕ, Bool, true, false, List, [], refl, ap, sym, ◌∙◌, subst, inr, append_assoc, append-nil, All, AreBytes, Option, Some, None, Result, Ok, Err, length, image_of, eq-eqb, Op, Frame, WriteFits, KvRequest, Change, Doc}
 use Rattle.transcript_law.proofs.Words.{Event, PlainProducer, Status, Write, Member, Move, happens, VbReply, VbCall, Plain, plain_step, Done, after, newest_branch, is_active, doc_at, refusal_reply, States, with_vb_at, call_at, growth, write_change, new_cas}
 use Rattle.transcript_law.proofs.Words.{Sound, StaysSound, PlainSession, request_handled, told, PlainNode, PlainWorld, with_node_at, with_client, with_states, spelling, Chronicle, after_lines, after_change}
 use Rattle.transcript_law.proofs.{Words.{LawfulFrom}, invariant.Seats.{seat}, invariant.Agreement.{Agrees, AgreesIn, idle}, invariant.Carrying.{Changed}, lines.Lines.{lawful_more}, verbs.NodeLines.{agrees_same, node_again, node_grown, put_same, shelves_again}}
+use Rattle.transcript_law.proofs.answers.{Committed.{HowTold, all_told}, Explained.{IsExplained, explained, outcome_in}}
 use Rattle.transcript_law.proofs.answers.Fits.{KnownAs, Repeats, durable_away, durable_over, durable_refused_fits, frame_fits, get_away, get_fits, has_opcode, known_as, made_fits, not_here, outcome_fits, outcome_repeats, refused_fits, reply_repeats, status_fits, status_repeats, stored_repeats, value_repeats, welcome_fits, write_away}
 use Rattle.transcript_law.proofs.{invariant.ClientsTold.{IsDurableFrame}, invariant.Sessions.{Received}, invariant.Tables.{at_here}, indexers.{Hands.{Goes, answered_goes, mine, session_goes}, Questions.{awaited_asks, awaited_next, in_hand}, Worlds.{vb_here}}, verbs.Settling.{SettlesOn, Steady, changes_quiet, changes_told, settles}}
 use Rattle.transcript_law.proofs.{lines.Telling.{LawfulBefore, before_more, told_more}, verbs.Writing.{change_fits, has_room, is_lawful, mine as mine_vb, newest, prepare_fits, prepare_fulfils, prepare_unheld, room_for_two, store_taken, write_fulfils, write_unheld, written}}
@@ -18,7 +19,7 @@ use Rattle.vb_calls.specs.declared.calls.{Resolution.{Resolution}}
 use Rattle.vb_calls.specs.declared.calls.VbCall.TheVariants.{Durable, Get, Store}
 use Rattle.node_core.specs.Clients.{PlainClient}
 use Rattle.mcbp_kv.specs.declared.durable.Durability.{Durability}
-use Rattle.transcript_law.specs.{LawfulAnswers.{FitsFrame, FitsRequest}, LawfulClients.{IsActive}, Questions.{Question, question_of, settings_after, settings_by}, StreamsTold.{ClientsKnown, with_at}}
+use Rattle.transcript_law.specs.{LawfulAnswers.{FitsFrame, FitsRequest}, LawfulClients.{IsActive}, Questions.{Question, question_of, settings_after, settings_by}, LinesTold.{OwnChange}, StreamsTold.{ClientsKnown, with_at}}
 use Rattle.mcbp_kv.specs.Replies.{reply_frame}
 use Rattle.vb_types.specs.declared.status.Status.TheVariants.{Etmpfail, NotMyVbucket, Success}
 use Rattle.mcbp_kv.specs.declared.request.KvRequest.TheVariants as request
@@ -207,11 +208,11 @@ module _ (stays : StaysSound) (steady : Steady) (w : PlainWorld) (r : Chronicle)
 
     -- its outcome is told at once, or awaited
     prepared_goes : (x : States × Served) → Held x → (a : Awaited) → a.opcode ≡ f.opcode → a.opaque ≡ f.opaque → (write : Write) (wish : Durability) → request_of x.1.session.settings.json f ≡ Ok (request.Write write (Some wish)) → (how : Option Resolution)
-        → Ends (x.0, answered_or_awaited a how x.1)
-    prepared_goes x held a code number write wish is None = awaits x held a code number (record { own = own; write = write; wish = wish; asks = is })
-    prepared_goes x held a code number write wish is (Some how) =
+        → ((said : Resolution) → how ≡ Some said → HowTold n (so_far x).made said) → Ends (x.0, answered_or_awaited a how x.1)
+    prepared_goes x held a code number write wish is None told = awaits x held a code number (record { own = own; write = write; wish = wish; asks = is })
+    prepared_goes x held a code number write wish is (Some how) told =
         answered x held x.0 (λ q. refl) (Ok (request.Write write (Some wish))) is (record x.1.session { awaited = None }) refl refl refl refl refl (outcome_reply x.1.session.settings a how) (outcome_repeats x.1.session.settings f a how code number)
-        (outcome_fits (so_far x) n v x.1.session.settings f write a how code number)
+        (outcome_fits (so_far x) n v x.1.session.settings f write a how code number (told how refl))
 
     -- a request that a vBucket was asked
 
@@ -278,6 +279,19 @@ module _ (stays : StaysSound) (steady : Steady) (w : PlainWorld) (r : Chronicle)
         stored write fits is (Some st) e = unchanged (request.Write write None) is refl (refusal_reply st) refl (status_reply f st) refl (refused_fits (so_far x) n v vb known_vb x.1.session.settings f write st e)
         stored write fits is None e = store_goes write fits is e
 
+        -- an outcome that is known at once is told by the changes before it
+        outcome_told : (write : Write) (wish : Wish) (so : List OwnChange) → durable_refusal vb write ≡ None → (let made : Plain = prepared_vb vb write wish cas in let s = settled made in
+            let branch : ℕ = if is_empty s.changes then newest_branch vb.log else newest_branch s.vb.log in
+            so ≡ (after_lines (so_far x) (changes_told n v branch (prepare_change vb write wish.level cas ∷ s.changes))).made → Sound vb → (said : Resolution) → outcome_of (next_waiter x.1.session) s.resolved ≡ Some said → HowTold n so said)
+        outcome_told write wish so free is sound said out =
+            let made : Plain = prepared_vb vb write wish cas in let s = settled made in
+            let branch : ℕ = if is_empty s.changes then newest_branch vb.log else newest_branch s.vb.log in
+            let call : VbCall = Durable write clock wish.level wish.deadline wish.waiter in
+            let all = subst (λ (o : Option Status). All (IsExplained vb call (durable_outcome o vb write wish cas).1.branch (durable_outcome o vb write wish cas).1.changes) (durable_outcome o vb write wish cas).1.resolved) free (explained vb call sound small) in
+            let told = all_told (so_far x) n v branch (prepare_change vb write wish.level cas ∷ s.changes) vb call s.resolved all in
+            let o = outcome_in (λ o. HowTold n (after_lines (so_far x) (changes_told n v branch (prepare_change vb write wish.level cas ∷ s.changes))).made o.how) (next_waiter x.1.session) said s.resolved told out in
+            subst (λ m. HowTold n m said) (sym is) (subst (λ how. HowTold n (after_lines (so_far x) (changes_told n v branch (prepare_change vb write wish.level cas ∷ s.changes))).made how) o.how_is o.is)
+
         -- a durable write is prepared, and what may be committed then is
         durable_goes : (write : Write) (wish : Wish) (asked : Durability) → WriteFits write → (write.op ≡ Op.Delete → write.value ≡ []) → request_of x.1.session.settings.json f ≡ Ok (request.Write write (Some asked)) → durable_refusal vb write ≡ None
             → Ends (durably_by f x.1 (stepped_at x.0 v (durable_outcome None vb write wish cas)))
@@ -310,6 +324,7 @@ module _ (stays : StaysSound) (steady : Steady) (w : PlainWorld) (r : Chronicle)
             prepared_goes (states2, with_lines (with_used x.1) (changes_told x.1.session.who.node v branch (change ∷ (settled made).changes)))
             (changed (x.0, with_used x.1) states2 x.1.session.who.node v branch (change ∷ (settled made).changes) (used x held) told_now)
             (awaited_by (next_waiter x.1.session) f) refl refl write asked is (outcome_of (next_waiter x.1.session) (settled made).resolved)
+            (outcome_told write wish (so_far (states2, with_lines (with_used x.1) (changes_told x.1.session.who.node v branch (change ∷ (settled made).changes)))).made free (ap (λ (k : Chronicle). k.made) (reads (x.0, with_used x.1) states2 (changes_told x.1.session.who.node v branch (change ∷ (settled made).changes))) ∙ ap (λ m. (after_lines (so_far x) (changes_told m v branch (change ∷ (settled made).changes))).made) now.2.0) here.sound)
 
         durably : (write : Write) (wish : Wish) (asked : Durability) → WriteFits write → (write.op ≡ Op.Delete → write.value ≡ []) → request_of x.1.session.settings.json f ≡ Ok (request.Write write (Some asked)) → (said : Option Status) → durable_refusal vb write ≡ said
             → Ends (durably_by f x.1 (stepped_at x.0 v (durable_outcome said vb write wish cas)))
@@ -366,10 +381,10 @@ module _ (stays : StaysSound) (steady : Steady) (w : PlainWorld) (r : Chronicle)
 
 -- what became of a durable write that is awaited under a number is told to its client
 pub outcome_goes : (w : PlainWorld) (n c : ℕ) (base : PlainNode) (r : Chronicle) (a : Awaited) (how : Resolution) (states : States) (before : List Event) (producer : PlainProducer) (s : Served) → s.session.awaited ≡ Some a → (a.waiter ≡ 0 → ⊥)
-    → Goes w n c base r states (before ++ s.events) (record { session = s.session; producer = producer })
+    → HowTold n (after_lines r (before ++ s.events)).made how → Goes w n c base r states (before ++ s.events) (record { session = s.session; producer = producer })
     → Goes w n c base r states (before ++ (outcome_answered a how s).events) (record { session = (outcome_answered a how s).session; producer = producer })
 unfolding reply_line
-outcome_goes w n c base r a how states before producer s waits some g =
+outcome_goes w n c base r a how states before producer s waits some told g =
     let so : Chronicle = after_lines r (before ++ s.events) in
     let own = mine w n c base r g in
     let (o, next) = awaited_next (so.clients_at n c).asking s.session producer.handshake own.asks a waits in
@@ -381,7 +396,7 @@ outcome_goes w n c base r a how states before producer s waits some g =
     let repeats : Repeats f (reply_frame reply) = outcome_repeats s.session.settings f a how o.opcode o.opaque in
     let fits : FitsFrame so n settings f (reply_frame reply) =
     subst (λ x. FitsFrame so n settings f (reply_frame (outcome_reply x a how))) same
-    (frame_fits so n settings f (reply_frame (outcome_reply settings a how)) (subst (FitsRequest so n settings f (reply_frame (outcome_reply settings a how))) (sym durable.asks) (outcome_fits so n f.vb_or_status settings f durable.write a how o.opcode o.opaque))) in
+    (frame_fits so n settings f (reply_frame (outcome_reply settings a how)) (subst (FitsRequest so n settings f (reply_frame (outcome_reply settings a how))) (sym durable.asks) (outcome_fits so n f.vb_or_status settings f durable.write a how o.opcode o.opaque told))) in
     let after : settings_after settings f ≡ settings = (λ i. if durable.own i then settings else settings_by (durable.asks i) settings) in
     subst (λ es. Goes w n c base r states es (record { session = record s.session { awaited = None }; producer = producer }))
     (append_assoc before s.events (Event.Reply n c (spelling (reply_frame reply)) ∷ []) ∙ (λ i. before ++ (s.events ++ Event.Reply (sym own.conn.node i) (sym own.conn.number i) (spelling (reply_frame reply)) ∷ [])))

@@ -16,7 +16,7 @@ use Rattle.mcbp_frame.specs.{Cutting.{fault_in, front_fault}, Spelling.{spelling
 use Rattle.mcbp_kv.specs.{Answers.{bare_answer}, Replies.{reply_frame}}
 use Rattle.transcript_law.proofs.indexers.{Beside.{beside}, Hands.{Goes, InHand, frame_told, mine}, Messages.{IsPlain, other_plain, response_plain}, Questions.{fault_asks, hand_asks, hand_if, in_hand, next_is}, Replied.{table_put_twice}, Shutting.{Shut, gone_shut}, Serving.{served_plain}, Worlds.{step_quiet, stepped_same, vb_here, world_with}}
 use Rattle.transcript_law.proofs.invariant.{Agreement.{Agrees}, ClientsTold.{ClientAgrees, setup_of}, Sessions.{first_received}}
-use Rattle.transcript_law.proofs.{answers.Messages.{message_wants}, lines.Telling.{LawfulBefore, before_more, told_more}, indexers.Documents.{Ends, outcome_goes, request_goes}, verbs.Settling.{Steady}}
+use Rattle.transcript_law.proofs.{answers.Committed.{HowTold}, answers.Messages.{message_wants}, lines.Telling.{LawfulBefore, before_more, told_more}, indexers.Documents.{Ends, outcome_goes, request_goes}, verbs.Settling.{Steady}}
 use Rattle.transcript_law.specs.{ClientFrames.{message_of}, ClientStreams.{blank_client}, LawfulAnswers.{LawfulReply}, LinesTold.{made_line}, Questions.{behind_frames, is_acknowledgement, past_answer, question_of, wants_answer}, StreamsTold.{ClientKnown}}
 use Rattle.vb_types.specs.declared.status.Status.TheVariants.{Einval}
 use Rattle.vb_calls.proofs.Conduct.{after_always}
@@ -114,10 +114,10 @@ module _ (w : PlainWorld) (n c : ℕ) (node : PlainNode) (r : Chronicle) where
     framed f states s free first (InHand.IsOver none over) = absurd (no_first f s.session.reader over.empty first)
 
     -- what became of a durable write, which is awaited under a number
-    pub outcome_framed : (a : Awaited) (how : Resolution) (states : States) (s : Served) → s.session.awaited ≡ Some a → (a.waiter ≡ 0 → ⊥) → Goes w n c node r states (before ++ s.events) (client_of s) → s.dcp ≡ None
+    pub outcome_framed : (a : Awaited) (how : Resolution) (states : States) (s : Served) → s.session.awaited ≡ Some a → (a.waiter ≡ 0 → ⊥) → HowTold n (after_lines r (before ++ s.events)).made how → Goes w n c node r states (before ++ s.events) (client_of s) → s.dcp ≡ None
         → InHand w n c node r states (went_on before producer (outcome_answered a how s))
-    outcome_framed a how states s waits some g unhanded =
-        InHand.IsOpen unhanded (outcome_goes w n c node r a how states before producer s waits some g)
+    outcome_framed a how states s waits some told g unhanded =
+        InHand.IsOpen unhanded (outcome_goes w n c node r a how states before producer s waits some told g)
 
   -- a fault: the connection is over, and told so
   abbrev over_told : List Event → Bool → Chronicle

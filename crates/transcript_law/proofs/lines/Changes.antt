@@ -8,7 +8,7 @@ use Rattle.transcript_law.specs.{ClientFrames.{setup_after}, ClientStreams.{clie
 use Rattle.client_session.specs.{Serving.{is_dcp}, declared.session.Settings.{Settings}}
 use Rattle.mcbp_kv.specs.Requests.{request_of}
 use Rattle.mcbp_kv.specs.declared.request.KvRequest.TheVariants as request
-use Rattle.transcript_law.specs.LawfulAnswers.{FitsBy, FitsFrame, FitsGet, FitsRequest, IsMade, IsRefused, LacksMajority, LacksSeqnos, LawfulReply}
+use Rattle.transcript_law.specs.LawfulAnswers.{FitsBy, FitsFrame, FitsGet, FitsRequest, IsCommitted, IsMade, IsRefused, LacksMajority, LacksSeqnos, LawfulReply}
 use Rattle.transcript_law.specs.LawfulClients.{LawfulClientAsk, RefusesBy}
 use Rattle.transcript_law.specs.LinesTold.{after_client_line, made_line}
 use Rattle.transcript_law.specs.StreamLaws.{GrantsAs, LawfulSaid, LawfulVerdict}
@@ -143,7 +143,7 @@ reply_read q r n c bytes behind s l = ⊎_elim
         (λ y. inr (inl (at (λ (counts : CountsKnown). IsRefused (LacksMajority counts.chain) (q.role_at n f.vb_or_status) (image_of (q.held n f.vb_or_status)) write f g) f.vb_or_status s.counts
         (at (λ role. IsRefused (LacksMajority (r.counts_at n f.vb_or_status).chain) role (image_of (q.held n f.vb_or_status)) write f g) f.vb_or_status s.role
         (at (λ held. IsRefused (LacksMajority (r.counts_at n f.vb_or_status).chain) (r.role_at n f.vb_or_status) (image_of held) write f g) f.vb_or_status s.held y)))))
-        (λ y. inr (inr y)))
+        (⊎_elim (λ y. inr (inr (inl (subst (λ made. IsCommitted n made settings f g) s.made y)))) (λ y. inr (inr (inr y)))))
         x
 
     frame_read : (f g : Frame) (settings : Settings) → FitsFrame r n settings f g → FitsFrame q n settings f g

@@ -1,7 +1,7 @@
 -- outcomes that are posted to clients behind what else is told of a line
 use Rattle.std.specs.Prelude.{◌≡◌, ◌++◌, if◌then◌else◌}
 use Rattle.transcript_law.proofs.Words.{ℕ, List, refl, ap, sym, ◌∙◌, subst, Option, Some, None, is_some, not, eq-eqb, Answer, Cause, Change, Chronicle, Event, StaysSound, after_change, after_lines, flat_map, branch_of_line, with_branches, LawfulFrom, Outcome, PlainNode, PlainWorld, with_node_at}
-use Rattle.transcript_law.proofs.{invariant.Agreement.{Agrees, GoesOn}, disks.ArmedLines.{ArmedCame}, lines.Changes.{Reads, calls_read, disk_reads, reads_same}, lines.ClientLines.{AreOfClients, clients_branched, clients_quiet, clients_read, read_beside}, disks.Firing.{same_told}, lines.Lines.{AreQuiet, after_more, lawful_more, quiet_more}}
+use Rattle.transcript_law.proofs.{answers.Committed.{AllHowTold}, invariant.Agreement.{Agrees, GoesOn}, disks.ArmedLines.{ArmedCame}, lines.Changes.{Reads, calls_read, disk_reads, reads_same}, lines.ClientLines.{AreOfClients, clients_branched, clients_quiet, clients_read, read_beside}, disks.Firing.{same_told}, lines.Lines.{AreQuiet, after_more, lawful_more, quiet_more}}
 use Rattle.transcript_law.proofs.{links.Posting.{SameBeside, posts_go, posts_keep, posts_of_clients, put_agrees}, invariant.Ranged.{IsRanged, NodeRanged, NodeRangedIf}, verbs.Settling.{Steady}}
 use Rattle.node_core.specs.Flushing.{FlushResult}
 use Rattle.node_world.specs.{Arms.{fired_by}, Nodes.{all_posted, with_posts}, Turns.{posted_at, posted_in}, Worlds.{arm_in, is_up}}
@@ -38,12 +38,12 @@ pub record NotingGoes (n : ℕ) (told : Answer → Chronicle → Chronicle) (w :
 
 module _ (stays : StaysSound) (steady : Steady) where
   -- outcomes behind what a line of the node n told: all goes on
-  pub posts_behind : (w : PlainWorld) (r : Chronicle) (n : ℕ) (node : PlainNode) (told : FlushResult) (beside : Chronicle → Chronicle) → IsBeside beside → NodeRanged n node → AreQuiet told.events
+  pub posts_behind : (w : PlainWorld) (r : Chronicle) (n : ℕ) (node : PlainNode) (told : FlushResult) (beside : Chronicle → Chronicle) → IsBeside beside → NodeRanged n node → AllHowTold n (after_lines r told.events).made told.resolved → AreQuiet told.events
       → GoesOn r beside (with_node_at w n node, record { events = told.events; answer = told.answer })
       → GoesOn r beside (with_node_at w n (with_posts told node).0, (with_posts told node).1)
-  posts_behind w r n node told beside b ranged quiet g =
+  posts_behind w r n node told beside b ranged paid quiet g =
       let r1 : Chronicle = after_lines r told.events in let lines : List Event = (all_posted told.resolved node).1 in let clients : AreOfClients lines = posts_of_clients n told.resolved node ranged.own in
-      let p = posts_go stays steady w (beside r1) n node told.resolved ranged g.1 in (
+      let p = posts_go stays steady w (beside r1) n node told.resolved ranged (subst (λ made. AllHowTold n made told.resolved) (sym (b.reads r1).made) paid) g.1 in (
         lawful_more r told.events lines quiet g.0 (clients_read r1 (beside r1) lines clients (b.reads r1) p.0),
         subst (Agrees (with_node_at w n (all_posted told.resolved node).0)) (sym (ap beside (after_more r told.events lines) ∙ read_beside beside b.past b.client r1 lines clients)) p.1,
       )
@@ -63,7 +63,7 @@ module _ (stays : StaysSound) (steady : Steady) where
     came_lawful fired.Failed q w said a = a.1
     came_lawful fired.Stopped q w said a = a.2
 
-    module _ (o : Outcome) (so : NotingGoes n told before r o) (b : IsBeside (told o.1.answer)) (ranged : IsRanged o.0) where
+    module _ (o : Outcome) (so : NotingGoes n told before r o) (b : IsBeside (told o.1.answer)) (ranged : IsRanged o.0) (paid : AllHowTold n (after_lines r o.1.events).made rs) where
       abbrev r1 : Chronicle
       r1 = after_lines r o.1.events
 
@@ -72,7 +72,7 @@ module _ (stays : StaysSound) (steady : Steady) where
           let here : NodeRanged n node = subst (NodeRangedIf n) at (ranged n) in
           let node' : PlainNode = (all_posted rs node).0 in let lines : List Event = (all_posted rs node).1 in let clients : AreOfClients lines = posts_of_clients n rs node here.own in let kept : SameBeside node node' = posts_keep rs node in
           let w1 : PlainWorld = with_branches o.1.events o.0 in let w2 : PlainWorld = with_node_at o.0 n node' in
-          let go = posts_go stays steady w1 (told o.1.answer r1) n node rs here in
+          let go = posts_go stays steady w1 (told o.1.answer r1) n node rs here (subst (λ made. AllHowTold n made rs) (sym (b.reads r1).made) paid) in
           let arms : fired_by (arm_in (before.nodes n)).fuse (arm_in (w2.nodes n)).fuse ≡ fired_by (arm_in (before.nodes n)).fuse (arm_in (o.0.nodes n)).fuse =
           (λ i. fired_by (arm_in (before.nodes n)).fuse (arm_in (if eq-eqb n n refl i then Some node' else o.0.nodes n)).fuse) ∙ (λ i. fired_by (arm_in (before.nodes n)).fuse (kept.arm i).fuse)
           ∙ (λ i. fired_by (arm_in (before.nodes n)).fuse (arm_in (sym at i)).fuse) in

@@ -12,6 +12,7 @@ use Rattle.transcript_law.proofs.invariant.Agreement.{active_counts, Agrees, Agr
 use Rattle.transcript_law.proofs.{invariant.Counts.{counts_agree}, invariant.Majorities.{counts_more}}
 use Rattle.transcript_law.specs.Chronicles.{after_count}
 use Rattle.transcript_law.proofs.{invariant.Carried.{talk_same, told_of_same}, lines.ClientLines.{clients_quiet}, disks.Disks.{beside_in}, invariant.JobSteps.{put_over}, invariant.LinkRows.{put_is_found, put_twice}, lines.Lines.{AreQuiet, after_more, lawful_more, quiet_more}}
+use Rattle.transcript_law.proofs.answers.{Committed.{AllHowTold, all_told}, Explained.{IsExplained, explained}}
 use Rattle.transcript_law.proofs.{verbs.NodeLines.{node_changed, node_grown, put_same, shelves_again, shelves_put}, links.Posting.{posts_go, posts_of_clients, posts_ranged}, invariant.Ranged.{NodeRanged}, links.Requests.{ack_answered, all_set, bytes_answered, passed_end}, links.Windows.{streaming_served}, invariant.Seats.{seat}}
 use Rattle.transcript_law.proofs.verbs.Settling.{SettlesOn, Steady, changes_quiet, changes_told, settled_told, settles}
 use Rattle.transcript_law.proofs.{links.Spoken.{spoken_pushed}, invariant.Tables.{if_known}, links.Talks.{come, more_down, next_up}, lines.Telling.{LawfulBefore, before_more, none_before, told_more}, links.Unread.{answering, heard_link, readable_up, reread, unread}}
@@ -320,8 +321,20 @@ module _ (stays : StaysSound) (steady : Steady) (w0 : PlainWorld) (r0 : Chronicl
         abbrev posts : PlainNode × List Event
         posts = all_posted reply.resolved last_node
 
+        -- each outcome that is a commit was told with it
+        paid : AllHowTold m r4.made reply.resolved
+        paid =
+            let asked : VbCall = VbCall.Ack member seq in
+            let refused : Plain × VbReply = (pv, refusal_reply Status.NotMyVbucket) in
+            let beyond : Plain × VbReply = (pv, refusal_reply Status.Erange) in
+            let settling : Plain × VbReply = also_resolved (quiet_reply VbAnswer.Done) (settled acked_vb) in
+            let is_so : Plain × VbReply → Type 0 = λ x. All (IsExplained pv asked x.1.branch x.1.changes) x.1.resolved in
+            subst (λ ls. AllHowTold m (after_lines r3 ls).made reply.resolved) (settled_told m v (quiet_reply VbAnswer.Done) acked_vb (newest_branch acked_vb.log) settles_on.cs refl settles_on.changes (ap newest_branch settles_on.log))
+            (all_told r3 m v reply.branch reply.changes pv asked reply.resolved
+            (subst (λ b. is_so (if b then beyond else settling)) within (subst (λ b. is_so (if b then (if nat_lt pv.position.at seq then beyond else settling) else refused)) active (explained pv asked before.sound tt))))
+
         went : LawfulFrom r4 posts.1 × Agrees (with_node_at w2 m posts.0) (after_lines r4 posts.1)
-        went = posts_go stays steady w2 r4 m last_node reply.resolved ranged4 agrees4
+        went = posts_go stays steady w2 r4 m last_node reply.resolved ranged4 paid agrees4
 
         posts_quiet : AreQuiet posts.1
         posts_quiet = clients_quiet posts.1 (posts_of_clients m reply.resolved last_node ranged4.own)

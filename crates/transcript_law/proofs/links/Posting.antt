@@ -1,7 +1,7 @@
 -- outcomes that are posted to the clients of a node: all lines are lawful, and after them all agrees
 use Rattle.std.specs.Prelude.{◌≡◌, ◌∷◌}
-use Rattle.transcript_law.proofs.Words.{ℕ, List, [], refl, sym, subst, Option, Some, None, Event, StaysSound, PlainNode, PlainWorld, with_node_at, Chronicle, after_lines, LawfulFrom}
-use Rattle.transcript_law.proofs.{invariant.Agreement.{Agrees}, verbs.NodeLines.{agrees_same, node_of_same_vbs}, indexers.Worlds.{world_with}, invariant.Ranged.{NodeRanged, SessionRangedIf, posted_ranged}, verbs.Requesting.{client_again, posted_comes, runs_with}, verbs.Settling.{Steady}, lines.Telling.{LawfulBefore, before_all, before_more, none_before, told_more}}
+use Rattle.transcript_law.proofs.Words.{ℕ, List, [], refl, sym, subst, All-head, All-tail, Option, Some, None, Event, StaysSound, PlainNode, PlainWorld, with_node_at, Chronicle, after_lines, LawfulFrom}
+use Rattle.transcript_law.proofs.{answers.Committed.{AllHowTold, HowTold, all_on}, invariant.Agreement.{Agrees}, verbs.NodeLines.{agrees_same, node_of_same_vbs}, indexers.Worlds.{world_with}, invariant.Ranged.{NodeRanged, SessionRangedIf, posted_ranged}, verbs.Requesting.{client_again, posted_comes, runs_with}, verbs.Settling.{Steady}, lines.Telling.{LawfulBefore, before_all, before_more, none_before, told_more}}
 use Rattle.node_core.specs.Clients.{PlainClient}
 use Rattle.node_world.specs.Nodes.{all_posted, awaiting, posted_if, posted_to}
 use Rattle.node_world.specs.declared.script_node.TheConstants.{MAX_CLIENTS}
@@ -19,30 +19,30 @@ module _ (stays : StaysSound) (steady : Steady) (w : PlainWorld) (n : ℕ) where
   Goes r came = LawfulBefore r came.1 × Agrees (with_node_at w n came.0) (after_lines r came.1)
 
   -- one outcome
-  posted_goes : (r : Chronicle) (node : PlainNode) (o : Resolved) (c : Option ℕ) → NodeRanged n node → Agrees (with_node_at w n node) r → Goes r (posted_to o node c)
-  posted_goes r node o None ranged a = (none_before r, a)
-  posted_goes r node o (Some c) ranged a = by (node.clients c) refl (ranged.clients c)
+  posted_goes : (r : Chronicle) (node : PlainNode) (o : Resolved) (c : Option ℕ) → NodeRanged n node → HowTold n r.made o.how → Agrees (with_node_at w n node) r → Goes r (posted_to o node c)
+  posted_goes r node o None ranged told a = (none_before r, a)
+  posted_goes r node o (Some c) ranged told a = by (node.clients c) refl (ranged.clients c)
     where
       by : (k : Option PlainClient) → node.clients c ≡ k → SessionRangedIf n k → Goes r (posted_if c o node k)
       by None none there = (none_before r, a)
       by (Some client) is there =
           let here : Agrees (world_with w n c node node.vbs (Some client)) r = client_again w r n c node client is a in
-          let came = posted_comes stays steady w n c node ranged.clock (runs_with n c node client is ranged) r client o there.numbered (record { lawful = none_before r; agrees = here; bytes = there.bytes }) in
+          let came = posted_comes stays steady w n c node ranged.clock (runs_with n c node client is ranged) r client o there.numbered told (record { lawful = none_before r; agrees = here; bytes = there.bytes }) in
           (came.lawful, came.agrees)
 
   -- one after the other
-  all_go : (r : Chronicle) (node : PlainNode) (rs : List Resolved) → NodeRanged n node → Agrees (with_node_at w n node) r → Goes r (all_posted rs node)
-  all_go r node [] ranged a = (none_before r, a)
-  all_go r node (o ∷ rs) ranged a =
+  all_go : (r : Chronicle) (node : PlainNode) (rs : List Resolved) → NodeRanged n node → AllHowTold n r.made rs → Agrees (with_node_at w n node) r → Goes r (all_posted rs node)
+  all_go r node [] ranged told a = (none_before r, a)
+  all_go r node (o ∷ rs) ranged told a =
       let c : Option ℕ = awaiting node.clients o.waiter MAX_CLIENTS in
       let one = posted_to o node c in let more = all_posted rs one.0 in
-      let first = posted_goes r node o c ranged a in
-      let rest = all_go (after_lines r one.1) one.0 rs (posted_ranged n o node c ranged) first.1 in (
+      let first = posted_goes r node o c ranged (All-head (λ (x : Resolved). HowTold n r.made x.how) o rs told) a in
+      let rest = all_go (after_lines r one.1) one.0 rs (posted_ranged n o node c ranged) (all_on r one.1 n rs (All-tail (λ (x : Resolved). HowTold n r.made x.how) o rs told)) first.1 in (
         before_more r one.1 more.1 first.0 rest.0,
         subst (Agrees (with_node_at w n more.0)) (sym (told_more r one.1 more.1)) rest.1,
       )
 
 -- the node was put in the world before they were posted, and is put there again
-pub posts_go : StaysSound → Steady → (w : PlainWorld) (r : Chronicle) (n : ℕ) (node : PlainNode) (rs : List Resolved) → NodeRanged n node → Agrees (with_node_at w n node) r
+pub posts_go : StaysSound → Steady → (w : PlainWorld) (r : Chronicle) (n : ℕ) (node : PlainNode) (rs : List Resolved) → NodeRanged n node → AllHowTold n r.made rs → Agrees (with_node_at w n node) r
     → LawfulFrom r (all_posted rs node).1 × Agrees (with_node_at w n (all_posted rs node).0) (after_lines r (all_posted rs node).1)
-posts_go stays steady w r n node rs ranged a = let g = all_go stays steady w n r node rs ranged a in (before_all r (all_posted rs node).1 g.0, g.1)
+posts_go stays steady w r n node rs ranged told a = let g = all_go stays steady w n r node rs ranged told a in (before_all r (all_posted rs node).1 g.0, g.1)

@@ -1,7 +1,8 @@
 -- the lines `chain` and `tick`
 use Rattle.std.specs.Prelude.{◌≡◌, ◌∷◌, if◌then◌else◌}
-use Rattle.transcript_law.proofs.Words.{ℕ, Bool, true, false, List, [], refl, ap, sym, ◌∙◌, subst, Option, Some, None, not, is_some, eq-eqb, Answer, Cause, Event, Plain, States, Sound, StaysSound, is_active, newest_branch, with_vb_at, call_at, quiet_reply, VbAnswer, VbCall, VbReply, Status, plain_step, refusal_reply}
+use Rattle.transcript_law.proofs.Words.{ℕ, Bool, true, false, List, [], refl, ap, sym, ◌∙◌, subst, All, Option, Some, None, not, is_some, eq-eqb, Answer, Cause, Event, Plain, States, Sound, StaysSound, is_active, newest_branch, with_vb_at, call_at, quiet_reply, VbAnswer, VbCall, VbReply, Status, plain_step, refusal_reply}
 use Rattle.transcript_law.proofs.Words.{Chronicle, PlainNode, PlainWorld, Told, first_cause, on_node, refusal, refused_or, vb_in, with_node_at, with_states, after_lines}
+use Rattle.transcript_law.proofs.answers.{Committed.{AllHowTold, all_told}, Explained.{IsExplained, explained}}
 use Rattle.transcript_law.proofs.{invariant.Agreement.{Agrees, AgreesIn, GoesOn, VbAgrees, active_counts, idle}, links.Behind.{nothing_beside, posts_behind}, invariant.Counts.{counts_agree}, verbs.Expiring.{both, expired_log, expired_told, expires}, invariant.JobSteps.{put_found, put_over}}
 use Rattle.transcript_law.proofs.{verbs.NodeLines.{as_told, node_changed, node_grown, on_node_by, on_node_goes, refused_on, node_of_same_vbs, shelves_again, shelves_put, agrees_same, put_same}, invariant.Ranged.{IsRanged, NodeRanged, NodeRangedIf}, invariant.Seats.{seat}, verbs.Settling.{SettlesOn, Steady, changes_quiet, changes_told, settled_told, settles}, verbs.Writing.{mine}}
 use Rattle.durability.specs.Chains.{Members, is_chain}
@@ -14,7 +15,7 @@ use Rattle.{transcript_law.specs.Chronicles.{after_chain}, vbucket.proofs.Prepar
 
 -- a call that changed the vBucket, as all agrees then, and after which it made changes of its own, which are told
 module _ (stays : StaysSound) (steady : Steady) (w : PlainWorld) (r : Chronicle) (n v : ℕ) (node : PlainNode) (ranged : NodeRanged n node) (start : Plain) (u : Resolving) (reply : VbReply)
-    (s : SettlesOn (with_node_at w n (with_states node (with_vb_at node.vbs v start))) r n v (unresolved start) u) (told : own_lines n v reply ≡ changes_told n v (newest_branch start.log) s.cs) where
+    (s : SettlesOn (with_node_at w n (with_states node (with_vb_at node.vbs v start))) r n v (unresolved start) u) (told : own_lines n v reply ≡ changes_told n v (newest_branch start.log) s.cs) (paid : AllHowTold n (after_lines r (own_lines n v reply)).made reply.resolved) where
   abbrev made : PlainNode
   made = with_states node (with_vb_at node.vbs v start)
 
@@ -33,7 +34,7 @@ module _ (stays : StaysSound) (steady : Steady) (w : PlainWorld) (r : Chronicle)
   settled_goes : GoesOn r as_told (with_node_at w n (settling (own_lines n v reply)).0, (settling (own_lines n v reply)).1)
   settled_goes = subst (λ (ls : List Event). GoesOn r as_told (with_node_at w n (settling ls).0, (settling ls).1)) (sym told)
       (posts_behind stays steady w r n last (record { events = lines; answer = Answer.Ok; resolved = reply.resolved }) as_told nothing_beside (record { clock = ranged.clock; clients = ranged.clients; own = ranged.own; runs = ranged.runs })
-      (changes_quiet n v (newest_branch start.log) s.cs) (s.lawful, agrees))
+      (subst (λ (ls : List Event). AllHowTold n (after_lines r ls).made reply.resolved) told paid) (changes_quiet n v (newest_branch start.log) s.cs) (s.lawful, agrees))
 
 -- `chain`
 module _ (stays : StaysSound) (steady : Steady) (w : PlainWorld) (r : Chronicle) (n v : ℕ) (others : Members) (node : PlainNode) (a : Agrees w r) (known : w.nodes n ≡ Some node) (ranged : NodeRanged n node) where
@@ -71,11 +72,18 @@ module _ (stays : StaysSound) (steady : Steady) (w : PlainWorld) (r : Chronicle)
     told_is : own_lines n v reply ≡ changes_told n v (newest_branch vb.log) settles_on.cs
     told_is = settled_told n v (quiet_reply VbAnswer.Done) chain_vb (newest_branch vb.log) settles_on.cs refl settles_on.changes (ap newest_branch settles_on.log)
 
+    paid : AllHowTold n (after_lines chained (own_lines n v reply)).made reply.resolved
+    paid =
+        let asked : VbCall = VbCall.Chain (record { active = n; others = others }) in
+        all_told chained n v reply.branch reply.changes vb asked reply.resolved
+        (subst (λ b. let x : Plain × VbReply = if b then also_resolved (quiet_reply VbAnswer.Done) (settled chain_vb) else (vb, refusal_reply Status.NotMyVbucket) in All (IsExplained vb asked x.1.branch x.1.changes) x.1.resolved) active
+        (explained vb asked old.sound chain))
+
     made_goes : GoesChained (chain_made n v others node)
     made_goes =
         subst (λ o. GoesChained (settled_node node (let x = call_at node.vbs v (VbCall.Chain (record { active = n; others = others })) o in (x.0, said_of_call n v x.1)))) (sym has)
         (subst (λ b. GoesChained (settled_node node (let x : Plain × VbReply = if b then also_resolved (quiet_reply VbAnswer.Done) (settled chain_vb) else (vb, refusal_reply Status.NotMyVbucket) in (with_vb_at node.vbs v x.0, said_of_call n v (Some x.1))))) (sym active)
-        (settled_goes stays steady w chained n v node ranged chain_vb (settled chain_vb) reply settles_on told_is))
+        (settled_goes stays steady w chained n v node ranged chain_vb (settled chain_vb) reply settles_on told_is paid))
 
   refuses : (why : Cause) → GoesChained (node, refusal why)
   refuses why = refused_on w r n node why a known
@@ -117,7 +125,11 @@ module _ (stays : StaysSound) (steady : Steady) (w : PlainWorld) (r : Chronicle)
         let now : Agrees w1 r = agrees_same w w1 r a (node_of_same_vbs w n node node1 known (put_same node.vbs v vb has) (λ q. refl) refl) in
         let t : Resolving = expired clock vb in let u : Resolving = settled t.vb in
         let s : SettlesOn w1 r n v (unresolved vb) (both t u) = expires n v steady.commits clock w1 r now.0 node1 vb now.1 (ap (λ b. if b then Some node1 else w.nodes n) (eq-eqb n n refl)) (put_found node.vbs v vb) active in
-        settled_goes stays steady w r n v node ranged vb (both t u) (also_resolved (also_resolved (quiet_reply VbAnswer.Done) t).1 u).1 s (expired_told n v t u (newest_branch vb.log) s.cs (ap newest_branch (expired_log clock vb)) (ap newest_branch s.log) s.changes)
+        let reply : VbReply = (also_resolved (also_resolved (quiet_reply VbAnswer.Done) t).1 u).1 in
+        let paid : AllHowTold n (after_lines r (own_lines n v reply)).made reply.resolved = all_told r n v reply.branch reply.changes vb (VbCall.Tick clock) reply.resolved
+        (subst (λ b. let x : Plain × VbReply = if b then then_settled (expired clock vb) else (vb, refusal_reply Status.NotMyVbucket) in All (IsExplained vb (VbCall.Tick clock) x.1.branch x.1.changes) x.1.resolved) active
+        (explained vb (VbCall.Tick clock) (mine w r a.0 n v node vb a.1 known has).sound tt)) in
+        settled_goes stays steady w r n v node ranged vb (both t u) reply s (expired_told n v t u (newest_branch vb.log) s.cs (ap newest_branch (expired_log clock vb)) (ap newest_branch s.log) s.changes) paid
 
     there_goes : Goes (tick_at (plain_step vb (VbCall.Tick clock)))
     there_goes = by (is_active vb.role) refl

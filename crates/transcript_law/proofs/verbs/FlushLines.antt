@@ -1,6 +1,6 @@
 -- the lines `take`, `done` and `stat`
 use Rattle.std.specs.Prelude.{◌≡◌, ◌+◌, ◌<◌, ◌≤◌, ◌∷◌, ◌++◌, ◌&&◌, if◌then◌else◌}
-use Rattle.transcript_law.proofs.Words.{ℕ, Bool, true, false, List, [], length, refl, ap, sym, ◌∙◌, subst, arith, inl, Option, Some, None, eq-eqb, ne_eqb, Answer, Cause, Event, Plain, States, with_vb_at, VbCall, Span, after_job, PlainNode, PlainWorld}
+use Rattle.transcript_law.proofs.Words.{ℕ, after_lines, Bool, true, false, List, [], length, refl, ap, sym, ◌∙◌, subst, arith, inl, Option, Some, None, eq-eqb, ne_eqb, Answer, Cause, Event, Plain, States, with_vb_at, VbCall, Span, after_job, PlainNode, PlainWorld}
 use Rattle.transcript_law.proofs.Words.{with_node_at, vb_in, shelf_in, Chronicle, Cluster, Move, happens, keeps, Sound, StaysSound, Position, Change, last_seq, Covers, IsIn, Rises, on_node, admin_line, AdminCall, call_at, Outcome, ground, rises_in, rises_le, upto, above, Own, Received}
 use Rattle.transcript_law.proofs.Words.{VbAnswer, VbReply, newest_branch, quiet_reply, flat_map, is_some, length-append, list_any, with_states}
 use Rattle.transcript_law.proofs.{invariant.Agreement.{AgreesAt, AgreesIn, Agrees, DiskIsIf, GoesOn, VbAgrees, all_rise, idle, shelf_of, top, vb_of}, disks.Appending.{Rewritten, row_there, told_disk, unwritten}, disks.Disks.{FlushIs, ShelfIs, parts_of}, disks.Flushed.{flush_came}}
@@ -9,6 +9,7 @@ use Rattle.transcript_law.proofs.{invariant.OneLink.{disk_here, disk_there}, inv
 use Rattle.{branch_model.specs.Journals.{place_of}, cluster_model.specs.Clusters.{Disk, Fits, IsSpot}, node_core.specs.Flushing.{FlushResult, flush_if, flush_result}, node_world.specs.Nodes.{flush_line, with_kept, with_posts, written}}
 use Rattle.{transcript_law.specs.Chronicles.{DiskKnown, Flushing, after_batch, after_done, known_log, known_batch, with_disk}, transcript_law.specs.Lawfulness.{LawfulBatch}, std.specs.Prelude.{max, nat_le, nat_lt}, std.specs.Str.{bytes_eq}}
 use Rattle.node_core.specs.Calls.{own_lines}
+use Rattle.transcript_law.proofs.answers.{Committed.{AllHowTold, all_told}, Explained.{explained}}
 use Rattle.transcript_law.proofs.{links.Behind.{nothing_beside, posts_behind}, invariant.Ranged.{IsRanged, NodeRanged, NodeRangedIf}, verbs.Settling.{SettlesOn, Steady, changes_quiet, changes_told, settled_told, settles}}
 use Rattle.vb_calls.specs.Settling.{Resolving, also_resolved, settled, unresolved}
 use Rattle.vb_calls.specs.Flushes.{batch_of_reply, finish_job, take_job, taken_job, took, took_nothing}
@@ -383,6 +384,8 @@ module _ (stays : StaysSound) (steady : Steady) (wholes : BatchesAreWhole) (w : 
     done_agrees : GoesOn saved_as_known as_told (outcome ((last_states, with_shelf_at sh0 v done_shelf), Flushed.Done (Some done_reply)))
     done_agrees = subst (λ (lines : List Event). let x = with_posts (done_lines lines) last_node in GoesOn saved_as_known as_told (with_node_at w n x.0, x.1)) (sym told_is)
         (posts_behind stays steady w saved_as_known n last_node (done_lines (changes_told n v branch_is settles_on.cs)) as_told nothing_beside (record { clock = ranged.clock; clients = ranged.clients; own = ranged.own; runs = ranged.runs })
+        (subst (λ ls. AllHowTold n (after_lines saved_as_known ls).made done_reply.resolved) told_is
+        (all_told saved_as_known n v done_reply.branch done_reply.changes vb (VbCall.FlushDone seq) done_reply.resolved (explained vb (VbCall.FlushDone seq) (mine w r n v there).sound tt)))
         (changes_quiet n v branch_is settles_on.cs) done_goes_on)
 
   done_by : (flush : Flush) → shelf.flush ≡ flush → (let y = outcome (after_job (finish_job v flush) st0 sh0) in GoesOn (done_from y.1.answer) as_told y)

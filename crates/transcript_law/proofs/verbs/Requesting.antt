@@ -4,6 +4,7 @@ use Rattle.transcript_law.proofs.Words.{ℕ, Bool, true, false, List, [], refl, 
 use Rattle.client_session.specs.Serving.{PlainSession, served}
 use Rattle.node_core.specs.Clients.{Handling, PlainClient, client_fed, client_posted}
 use Rattle.transcript_law.proofs.disks.Disks.{beside_in, power_in}
+use Rattle.transcript_law.proofs.answers.Committed.{HowTold}
 use Rattle.transcript_law.proofs.indexers.{Hands.{Goes, InHand, Over, by_hand, mine}, Passed.{passed}, Questions.{more_asks}, Serving.{session_agrees}, SessionFrames.{faulty, framed, outcome_framed}, Shutting.{over}, Turns.{fed_goes, posted_goes}, Worlds.{client_here, node_with, step_quiet, stepped, vb_here, world_with}}
 use Rattle.transcript_law.proofs.invariant.{Agreement.{Agrees, GoesOn, is_down, power_of}, ClientsTold.{ClientAgrees}, Ranged.{NodeRanged, SessionRangedIf}, Sessions.{IsNumbered, awaited_numbered}, Tables.{at_here}}
 use Rattle.transcript_law.proofs.{lines.Telling.{LawfulBefore, before_all, none_before}, verbs.{NodeLines.{agrees_same, as_told, node_again, node_of_same_vbs, refused_on}, Settling.{Steady}}}
@@ -70,11 +71,11 @@ module _ (stays : StaysSound) (steady : Steady) (w : PlainWorld) (n c : ℕ) (no
         let x = after (client_fed node.clock bytes client) node.vbs in came x.0 x.1 rests.1 rests.0
 
     -- an outcome
-    pub posted_comes : (client : PlainClient) (o : Resolved) → IsNumbered client.session.awaited → Goes w n c node r node.vbs [] client → Comes (after (client_posted node.clock o client) node.vbs)
-    posted_comes client o numbered g =
+    pub posted_comes : (client : PlainClient) (o : Resolved) → IsNumbered client.session.awaited → HowTold n r.made o.how → Goes w n c node r node.vbs [] client → Comes (after (client_posted node.clock o client) node.vbs)
+    posted_comes client o numbered told g =
         let rests = posted_goes P node.clock (λ before producer f states s. framed w n c node r stays steady node.clock small before producer f states s) (λ before producer fault states s. faulty w n c node r before producer fault states s)
         (λ f states h. passed w n c node r running f states h) (λ states h. over w n c node r states h) o client node.vbs (InHand.IsOpen refl g)
-        (λ a e same. outcome_framed w n c node r stays steady node.clock small [] client.producer a o.how node.vbs (served client.session []) e (awaited_numbered client.session a numbered e) g refl) in
+        (λ a e same. outcome_framed w n c node r stays steady node.clock small [] client.producer a o.how node.vbs (served client.session []) e (awaited_numbered client.session a numbered e) told g refl) in
         let x = after (client_posted node.clock o client) node.vbs in came x.0 x.1 rests.1 rests.0
 
 -- more bytes came, and are known

@@ -2,13 +2,14 @@
 use Rattle.transcript_law.specs.Chronicles.{alone}
 use Rattle.{node_world.specs.Nodes.{with_clients_ended}, transcript_law.specs.Feeding.{IsOfClient, client_in}}
 use Rattle.std.specs.Prelude.{◌≡◌, ◌<◌, ◌∷◌, ◌++◌, ◌==◌, ◌^◌, if◌then◌else◌, not}
-use Rattle.transcript_law.proofs.Words.{ℕ, Bool, true, false, List, refl, ap, sym, ◌∙◌, subst, append-nil, Option, Some, None, is_some, flat_map, option_map, eqb-false, eqb-true, eq-eqb, ne_eqb}
+use Rattle.transcript_law.proofs.Words.{ℕ, All, Bool, true, false, List, refl, ap, sym, ◌∙◌, subst, append-nil, Option, Some, None, is_some, flat_map, option_map, eqb-false, eqb-true, eq-eqb, ne_eqb}
 use Rattle.transcript_law.proofs.Words.{Cause, Event, Role, Cluster, Move, happens, Plain, plain_step, is_active, refusal_reply, with_vb_at, call_at, stream_ids, in_role, ending_reply, parent_of, led}
 use Rattle.transcript_law.proofs.Words.{is_role, with_seal, fork_of, holds_fewer, Sound, StaysSound, AdminCall, AdminResult, admin_call, admin_replied, PlainLink, PlainNode, PlainWorld, Outcome, with_branches}
 use Rattle.transcript_law.proofs.Words.{with_node_at, with_links, with_states, node_outcome, vb_in, first_cause, refused_or, is_one_of, branch_of_line, on_node, own_link, cut_off, link_ended, links_ended, unlinked, with_ended}
 use Rattle.transcript_law.proofs.Words.{admin_line, no_node, turned_after, role_outcome, turn_causes, turn_step, Chronicle, after_lines, with_at, LawfulFrom, [], EndReason, VbAnswer, VbReply, producer_node, node_if}
 use Rattle.transcript_law.proofs.Words.{LawfulRole, States, VbCall, after_branch, after_line, after_role, newest_branch, Status, turn_row, seal_row, role_changed, after_cuts, promote_step, after_seal, uuid_causes, role_causes, shelf_in}
 use Rattle.transcript_law.proofs.{invariant.Agreement.{DiskIsIf, PowerIsIf, is_down, power_of, shelf_of}, disks.Appending.{Noted, state_came}, disks.ArmedLines.{ArmedCame}, disks.Burning.{quiet_same}, disks.Disks.{Power, power_in, sealed_disk}, disks.Firing.{line_fires, role_noting}, invariant.JobSteps.{put_found, put_over, shelf_found}, lines.Lines.{AreQuiet}, verbs.NodeLines.{shelves_again, shelves_put, shelves_there}}
+use Rattle.transcript_law.proofs.answers.{Committed.{AllHowTold, all_told, lost_told}, Explained.{IsExplained, explained}}
 use Rattle.transcript_law.proofs.{links.Behind.{NotingGoes, noted_beside, posts_come}, invariant.Ranged.{IsRanged, NodeRanged, NodeRangedIf, ended_ranged, kept_ranged, unlinked_ranged, with_node}, verbs.ClientsEnded.{node_turned, open_was, told_world, turned_node}, verbs.RoleCalls.{changed_told, fate, left, node', not_stopped, role_came, said_of}}
 use Rattle.{disk_journals.specs.Arms.{under}, node_core.specs.Admin.{admin_job, role_at}, node_world.specs.Arms.{fired_by}, node_world.specs.Cuts.{closed_at}, node_world.specs.Power.{with_arm}, node_world.specs.Turns.{posted_in, role_called}, node_world.specs.Worlds.{arm_in, is_up}}
 use Rattle.{node_world.specs.declared.arm.Arm.{Arm}, node_world.specs.declared.arm.Fired.{Fired}, transcript_law.specs.Chronicles.{after_noted}, vb_calls.specs.Flushes.{is_refusal, role_of_call}}
@@ -91,7 +92,7 @@ power_arm (Some node) p e = let same : record { arm = node.arm; off = node.off }
 
 module _ (stays : StaysSound) (steady : Steady) (w : PlainWorld) (r : Chronicle) (n v : ℕ) (asked : AdminCall) (vb vb' : Plain) (a : Agrees w r) (known : vb_of w n v ≡ Some vb) (ranged : IsRanged w) (reply : VbReply)
     (is : plain_step vb (admin_call asked) ≡ (vb', reply)) (ends : reply.ended ≡ stream_ids vb.streams) (lines : List Event) (line_is : admin_replied n v asked reply ≡ role_changed reply lines)
-    (job_is : admin_job n v asked ≡ role_at n v asked) (made : is_refusal reply.answer ≡ false) where
+    (job_is : admin_job n v asked ≡ role_at n v asked) (made : is_refusal reply.answer ≡ false) (paid : (q : Chronicle) → AllHowTold n (after_lines q lines).made reply.resolved) where
   abbrev node : PlainNode
   node = (node_of w n v vb known).0
 
@@ -164,8 +165,8 @@ module _ (stays : StaysSound) (steady : Steady) (w : PlainWorld) (r : Chronicle)
 
   -- once they are
   posted_goes : (own : Option PlainLink) → NotingGoes n (role_noted_so n v new) w r (came_with own) → NotingGoes n (role_noted_so n v new) w r (posted_in n reply.resolved (came_with own))
-  posted_goes None so = posts_come stays steady n (role_noted_so n v new) w r reply.resolved (came_with None) so (noted_beside n v new (said_of fated) (not_stopped fated)) last_ranged
-  posted_goes (Some link) so = posts_come stays steady n (role_noted_so n v new) w r reply.resolved (came_with (Some link)) so (noted_beside n v new (said_of fated) (not_stopped fated)) (unlinked_ranged ended (link_ended n v ids link) last_ranged)
+  posted_goes None so = posts_come stays steady n (role_noted_so n v new) w r reply.resolved (came_with None) so (noted_beside n v new (said_of fated) (not_stopped fated)) last_ranged (paid r)
+  posted_goes (Some link) so = posts_come stays steady n (role_noted_so n v new) w r reply.resolved (came_with (Some link)) so (noted_beside n v new (said_of fated) (not_stopped fated)) (unlinked_ranged ended (link_ended n v ids link) last_ranged) (paid (after_lines r (cut_lines (Some (link_ended n v ids link)))))
 
   -- the world in which these links were told, and nothing was written down
   abbrev called : PlainNode
@@ -297,11 +298,11 @@ module _ (stays : StaysSound) (steady : Steady) (r : Chronicle) (n v : ℕ) (new
       let line : List Event = Event.Role n v new ∷ [] in
       let old : VbAgrees r1 n v (x.cluster.nodes (seat n v)) vb = subst (AgreesAt r1 n v (x.cluster.nodes (seat n v))) known (x.agrees.vbs n v) in
       subst (λ k. NotingGoes n (role_noted_so n v k) w r (role_outcome n v asked w)) new_is
-      (role_goes stays steady w r n v asked vb (in_role vb new) a known ranged (ending_reply vb VbAnswer.Done) is refl line (line_is vb) job_is refl own e
+      (role_goes stays steady w r n v asked vb (in_role vb new) a known ranged (ending_reply vb VbAnswer.Done) is refl line (line_is vb) job_is refl (λ q. lost_told n (after_lines q line).made vb.waiting) own e
       (record { another = other_role_known r1 n v (x.cluster.nodes (seat n v)) vb new old other; anew = λ is. let active : is_active new ≡ true = ap is_active is in cc }, tt) (tt, tt) (
         happens x.cluster (Move.Yield (seat n v)),
-        rested stays w0 (turned_with stays steady w r n v asked vb (in_role vb new) a known ranged (ending_reply vb VbAnswer.Done) is refl line (line_is vb) job_is refl links []) r1 x.cluster n v vb new (admin_call asked) x.agrees known x.free rests is (timely vb)
-            (turn_became stays steady w r n v asked vb (in_role vb new) a known ranged (ending_reply vb VbAnswer.Done) is refl line (line_is vb) job_is refl links []) (append-nil w.uuids),
+        rested stays w0 (turned_with stays steady w r n v asked vb (in_role vb new) a known ranged (ending_reply vb VbAnswer.Done) is refl line (line_is vb) job_is refl (λ q. lost_told n (after_lines q line).made vb.waiting) links []) r1 x.cluster n v vb new (admin_call asked) x.agrees known x.free rests is (timely vb)
+            (turn_became stays steady w r n v asked vb (in_role vb new) a known ranged (ending_reply vb VbAnswer.Done) is refl line (line_is vb) job_is refl (λ q. lost_told n (after_lines q line).made vb.waiting) links []) (append-nil w.uuids),
       ))
 
   pub turn_goes : (w : PlainWorld) → IsRanged w → Agrees w r → NotingGoes n (role_noted_so n v new) w r (turn_step w n v new asked)
@@ -357,7 +358,13 @@ module _ (stays : StaysSound) (steady : Steady) (r : Chronicle) (n v uuid : ℕ)
       let read : after_line r1 (Event.Branch n v uuid parent fork high) ≡ branched = branch_line r1 n v uuid parent fork high runs in
       let ids_told : uuid ∷ [] ≡ flat_map branch_of_line line = ap (λ us. uuid ∷ us) (sym (none_branched n v uuid s.cs)) in
       let now : Agrees (turned_at w n v node made.vb ids links (uuid ∷ [])) (after_lines active own_lines_are) = s.agrees (turned_at w n v node made.vb ids links (uuid ∷ [])) again.0 again.1 in
-      role_goes stays steady w r n v (AdminCall.Promote uuid) vb made.vb a known ranged (also_resolved reply made).1 is refl line line_is refl refl own e (
+      let paid : (q : Chronicle) → AllHowTold n (after_lines q line).made (also_resolved reply made).1.resolved = λ q.
+      let q2 : Chronicle = after_lines q (Event.Branch n v uuid parent fork high ∷ Event.Role n v Role.Active ∷ []) in
+      let rep : VbReply = (also_resolved reply made).1 in
+      subst (λ ls. AllHowTold n (after_lines q2 ls).made rep.resolved) (settled_told n v reply led_vb uuid s.cs refl s.changes (ap newest_branch s.log))
+      (all_told q2 n v rep.branch rep.changes vb (VbCall.Promote uuid) rep.resolved
+      (subst (λ (y : Plain × VbReply). All (IsExplained vb (VbCall.Promote uuid) y.1.branch y.1.changes) y.1.resolved) is (explained vb (VbCall.Promote uuid) old.sound tt))) in
+      role_goes stays steady w r n v (AdminCall.Promote uuid) vb made.vb a known ranged (also_resolved reply made).1 is refl line line_is refl refl paid own e (
         branch_lawful steady w0 w0 r1 c1 n v uuid vb x.agrees known x.free rests unused named small,
         subst (λ b. LawfulRole b n v Role.Active × LawfulFrom (after_role b n v Role.Active) own_lines_are) (sym read) (record { another = other_role_known r1 n v (c1.nodes (seat n v)) vb Role.Active old other; anew = λ is. at_here r1.counts_at n v alone }, s.lawful),
       )
