@@ -45,17 +45,17 @@ IsStatus f g st = IsBare g f.opcode (status_code st) f.opaque
 abbrev pub IsLocked : Picture → List ℕ → Type 0
 IsLocked image key = (p : Pend) × (finite.get image.pending key ≡ Some p)
 
--- where the prepare is one that a former active node left, nobody knows whether its document stands, and a read may be refused for that
+-- a read may be refused where a prepare waits at its key: as one that a former active node left, of which nobody knows whether its document stands. The lines do not tell whether it is such a one
 abbrev pub IsLeftUndone : Picture → List ℕ → Frame → Frame → Type 0
 IsLeftUndone image key f g = IsLocked image key × IsStatus f g status.SyncWriteReCommitInProgress
 
--- a read is refused where its vBucket is not active, and gets the key's document where there is one
+-- a read is refused where its vBucket is not active; it gets the key's document where there is one, and else that there is none
 pub record FitsGet (role : Option (Option Role)) (image : Picture) (json : Bool) (key : List ℕ) (f g : Frame) : Type 0 where
   pub away : (IsActive role → ⊥) → IsStatus f g status.NotMyVbucket
   pub found : IsActive role → (doc : Doc) → finite.get image.docs key ≡ Some doc → IsFound json g f.opaque doc ⊎ IsLeftUndone image key f g
   pub none : IsActive role → finite.get image.docs key ≡ None → IsStatus f g status.KeyEnoent ⊎ IsLeftUndone image key f g
 
--- why a write is refused: its vBucket is not active; or a prepare waits at its key; or the key's document, or that there is none, does not let it. For what is said of the vBucket it may be refused at any key
+-- why a write is refused: its vBucket is not active; or a prepare waits at its key; or the key's document, or that there is none, does not let it. A further reason, of its vBucket, may stand before the key's
 pub record IsWhyRefused (Besides : Status → Type 0) (role : Option (Option Role)) (image : Picture) (write : Write) (st : Status) : Type 0 where
   pub away : (IsActive role → ⊥) → st ≡ status.NotMyVbucket
   pub locked : IsActive role → IsLocked image write.key → (st ≡ status.SyncWriteInProgress) ⊎ (st ≡ status.SyncWriteReCommitInProgress) ⊎ Besides st
@@ -64,7 +64,7 @@ pub record IsWhyRefused (Besides : Status → Type 0) (role : Option (Option Rol
 abbrev pub IsRefused : (Status → Type 0) → Option (Option Role) → Picture → Write → Frame → Frame → Type 0
 IsRefused Besides role image write f g = (st : Status) × IsStatus f g st × IsWhyRefused Besides role image write st
 
--- a vBucket that has no seqno left for it refuses a write
+-- a vBucket may have no seqno left for a write. The lines do not tell whether that is so
 abbrev pub LacksSeqnos : Status → Type 0
 LacksSeqnos st = st ≡ status.Etmpfail
 
@@ -96,7 +96,7 @@ abbrev pub IsMadeIn : OwnChange → List OwnChange → Type 0
 IsMadeIn one [] = ⊥
 IsMadeIn one (other ∷ older) = (one ≡ other) ⊎ IsMadeIn one older
 
--- a durable write was committed: a commit at a vBucket of the node was told before in this group, and the write is told with its CAS, and its branch and seqno where the client asked for these
+-- a durable write is told as this commit, which was told before in this group, at a vBucket of the node: with its CAS, and its branch and seqno where the client asked for these
 pub record IsCommitted (n : ℕ) (made : List OwnChange) (settings : Settings) (f g : Frame) : Type 0 where
   pub one : OwnChange
   pub told_before : IsMadeIn one made
@@ -107,14 +107,22 @@ pub record IsCommitted (n : ℕ) (made : List OwnChange) (settings : Settings) (
   pub commits : one.change.act ≡ act.Commit prepared doc deleted
   pub told : IsStored g f.opcode f.opaque doc.cas (seqno_part settings one.branch one.change.seq)
 
--- its connection has no number left for a durable write, and its vBucket, whatever that is, is not asked
+-- its connection may have no number left for a durable write, and then its vBucket, whatever that is, is not asked. The lines do not tell whether that is so
 abbrev pub LacksNumbers : Frame → Frame → Type 0
 LacksNumbers f g = IsStatus f g status.Etmpfail
+
+-- a chain that can have no majority stands before the key's reasons
+abbrev pub IsImpossibleFirst : Option (Option Role) → Members → Status → Type 0
+IsImpossibleFirst role chain st = IsActive role → is_possible chain ≡ false → st ≡ status.DurabilityImpossible
+
+-- a durable write is refused for its first reason
+abbrev pub IsRefusedDurably : Members → Option (Option Role) → Picture → Write → Frame → Frame → Type 0
+IsRefusedDurably chain role image write f g = (st : Status) × IsStatus f g st × IsWhyRefused (LacksMajority chain) role image write st × IsImpossibleFirst role chain st
 
 -- it is refused, or its outcome is told: it was committed, or nobody knows
 abbrev pub FitsDurable : Chronicle → ℕ → ℕ → Settings → Write → Frame → Frame → Type 0
 FitsDurable chronicle n v settings write f g =
-    LacksNumbers f g ⊎ IsRefused (LacksMajority (chronicle.counts_at n v).chain) (chronicle.role_at n v) (image_of (chronicle.held n v)) write f g ⊎ IsCommitted n chronicle.made settings f g
+    LacksNumbers f g ⊎ IsRefusedDurably (chronicle.counts_at n v).chain (chronicle.role_at n v) (image_of (chronicle.held n v)) write f g ⊎ IsCommitted n chronicle.made settings f g
     ⊎ IsStatus f g status.SyncWriteAmbiguous
 
 -- each request, by what its frame asks
@@ -147,7 +155,7 @@ pub record Answers (chronicle : Chronicle) (n : ℕ) (asking : Asking) (bytes : 
   pub opaque : answer.opaque ≡ question.frame.opaque
   pub fits : FitsFrame chronicle n asking.settings question.frame answer
 
--- no question is left, a fault stands behind the frames, and the answer to what its header names is that; the connection closes
+-- no question is left, a fault stands behind the frames, and the answer to what its header names is Einval; the connection closes
 pub record AnswersFault (n c : ℕ) (asking : Asking) (bytes : List ℕ) (behind : List Event) : Type 0 where
   pub none : question_of asking ≡ None
   pub fault : FrameFault

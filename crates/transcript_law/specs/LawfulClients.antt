@@ -5,7 +5,6 @@ use Rattle.mcbp_dcp.specs.declared.message.DcpMsg.{DcpMsg}
 use Rattle.mcbp_dcp.specs.declared.message.DcpMsg.TheVariants as msg
 use Rattle.mcbp_frame.specs.Cutting.{frames_in}
 use Rattle.mcbp_frame.specs.Spelling.{spelling}
-use Rattle.mcbp_frame.specs.declared.frame.TheConstants.{RESPONSE}
 use Rattle.dcp_producer.specs.Frames.{ALL_SENT, STATE_CHANGED, act_message}
 use Rattle.dcp_producer.specs.Serving.{stream_verdict}
 use Rattle.vb_events.specs.declared.event.Event.{Event}
@@ -33,11 +32,6 @@ use Rattle.transcript_law.specs.StreamLaws.{FROM_MEMORY, IsNextItem, IsPutWhole,
 -- directly behind a line of the client c of the node n stands one frame for it, which is these bytes
 abbrev pub StandsBehind : ℕ → ℕ → List ℕ → List Event → Type 0
 StandsBehind n c bytes behind = (more : List Event) × (behind ≡ event.Reply n c bytes ∷ more)
-
--- an answer begins as a response
-abbrev pub IsAnswer : List ℕ → Type 0
-IsAnswer [] = ⊥
-IsAnswer (magic ∷ bytes) = magic ≡ RESPONSE
 
 -- there stands this message, with the opaque of the connection's stream of the vBucket that its header names
 pub record IsPut (n c : ℕ) (known : ClientKnown) (m : DcpMsg) (behind : List Event) : Type 0 where

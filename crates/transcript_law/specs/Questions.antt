@@ -1,5 +1,5 @@
 -- which of a client's frames is to be answered next, by the bytes that it sent
-use Rattle.std.specs.Prelude.{ℕ, ◌+◌, ◌==◌, ◌&&◌, ◌++◌, Bool, true, false, not, if◌then◌else◌, List, [], ◌∷◌, drop, Option, Some, None, Result, Ok, Err}
+use Rattle.std.specs.Prelude.{ℕ, ◌+◌, ◌==◌, ◌&&◌, ◌++◌, Bool, true, false, not, if◌then◌else◌, List, [], ◌∷◌, drop, Option, Some, None, Result, Ok}
 use Rattle.std.specs.List.{sum_by}
 use Rattle.std.specs.Option.{option_map}
 use Rattle.mcbp_dcp.specs.declared.message.DcpMsg.{DcpMsg}
@@ -49,7 +49,7 @@ abbrev pub settings_by : Result KvRequest Status → Settings → Settings
 settings_by (Ok (request.Hello features)) settings = settings_of features
 settings_by other settings = settings
 
--- behind a frame
+-- the settings behind a frame
 abbrev pub settings_after : Settings → Frame → Settings
 settings_after settings f = if is_dcp f.opcode then settings else settings_by (request_of settings.json f) settings
 
@@ -65,7 +65,7 @@ past_question q k = record {
   settings = settings_after k.settings q.frame;
 }
 
--- where there is one
+-- the same, where there is a question
 abbrev pub past_question_if : Option Question → Asking → Asking
 past_question_if None k = k
 past_question_if (Some q) k = past_question q k

@@ -64,10 +64,11 @@ ClientsKnown = ℕ → ℕ → ClientKnown
 abbrev pub no_setup : Setup
 no_setup = record { opened = false; sync = false; named = false }
 
--- one that has just been opened, or is not open: it sent nothing, and has no stream
+-- a client that sent nothing asked nothing
 abbrev pub blank_asking : Asking
 blank_asking = record { bytes = []; setup = no_setup; settings = no_settings }
 
+-- one that has just been opened, or is not open: it sent nothing, and has no stream
 abbrev pub blank_client : ClientKnown
 blank_client = record { bytes = []; setup = no_setup; streams = λ v. None; told = None; asking = blank_asking }
 

@@ -5,7 +5,7 @@ use Rattle.transcript_law.proofs.Words.{ℕ, Bool, true, false, List, [], refl, 
 use Rattle.transcript_law.proofs.Words.{doc_at, image_in, image_of, is_active, new_rev, refusal_reply, write_change}
 use Rattle.client_session.specs.Rows.{seqno_part}
 use Rattle.transcript_law.proofs.{answers.Committed.{CommitTold, HowTold}, disks.Absent.{nothing_here}, invariant.Agreement.{Agrees, AgreesAt, VbAgrees, active_counts, image_is, is_down, power_of, vb_of}, invariant.Seats.{seat}}
-use Rattle.transcript_law.specs.{Chronicles.{rested, resting}, LawfulAnswers.{FitsBy, FitsDurable, FitsFrame, FitsGet, FitsRequest, FitsWrite, IsCommitted, IsMade, IsRefused, IsStatus, IsWhyRefused, LacksMajority, LacksSeqnos}, LawfulClients.{IsActive}, LinesTold.{OwnChange}}
+use Rattle.transcript_law.specs.{Chronicles.{rested, resting}, LawfulAnswers.{IsImpossibleFirst, FitsBy, FitsDurable, FitsFrame, FitsGet, FitsRequest, FitsWrite, IsCommitted, IsMade, IsRefused, IsStatus, IsWhyRefused, LacksMajority, LacksSeqnos}, LawfulClients.{IsActive}, LinesTold.{OwnChange}}
 use Rattle.branch_model.specs.Journals.{role_of}
 use Rattle.client_session.specs.Answers.{found_reply, reply_to, status_reply, stored_reply, value_reply}
 use Rattle.client_session.specs.Serving.{is_dcp, outcome_reply}
@@ -232,6 +232,16 @@ module _ (vb : Plain) (write : Write) (st : Status) where
       by true on true s = why_besides LacksSeqnos vb.role (image_in vb) write st on (sym (same Status.Etmpfail st s))
       by true on false s = why_key LacksSeqnos vb.role (image_in vb) write st on vb.waiting (pending_of vb write.key) refl s
 
+  -- one that can have no majority comes first
+  first_durable : (chain : Members) → (is_active vb.role ≡ true → chain ≡ vb.others) → durable_refusal vb write ≡ Some st → IsImpossibleFirst (Some (Some vb.role)) chain st
+  first_durable chain is e active few = by (is_active vb.role) refl (is_possible vb.others) refl (lacks_seqnos vb 2) e
+    where
+      by : (a : Bool) → is_active vb.role ≡ a → (p : Bool) → is_possible vb.others ≡ p → (full : Bool)
+          → (if not a then Some Status.NotMyVbucket else if not p then Some Status.DurabilityImpossible else if full then Some Status.Etmpfail else key_refusal vb write) ≡ Some st → st ≡ Status.DurabilityImpossible
+      by false off p q full s = absurd (follows vb.role off active)
+      by true on false q full s = sym (same Status.DurabilityImpossible st s)
+      by true on true q full s = let z : true ≡ false = sym q ∙ ap is_possible (sym (is on)) ∙ few in cc
+
   -- and by its chain
   why_durable : (chain : Members) → (is_active vb.role ≡ true → chain ≡ vb.others) → durable_refusal vb write ≡ Some st → IsWhyRefused (LacksMajority chain) (Some (Some vb.role)) (image_in vb) write st
   why_durable chain is e = by (is_active vb.role) refl (is_possible vb.others) refl (lacks_seqnos vb 2) e
@@ -322,7 +332,8 @@ module _ (r : Chronicle) (n v : ℕ) (settings : Settings) (f : Frame) (write : 
   write_away off = inl (refused_away LacksSeqnos (r.role_at n v) (image_of (r.held n v)) write f off)
 
   pub durable_away : (IsActive (r.role_at n v) → ⊥) → FitsDurable r n v settings write f (reply_frame (status_reply f Status.NotMyVbucket))
-  durable_away off = inr (inl (refused_away (LacksMajority (r.counts_at n v).chain) (r.role_at n v) (image_of (r.held n v)) write f off))
+  durable_away off =
+      let x = refused_away (LacksMajority (r.counts_at n v).chain) (r.role_at n v) (image_of (r.held n v)) write f off in inr (inl (x.0, x.1, x.2, λ on few. absurd (off on)))
 
   -- so does a connection that has no number left for a durable one, whatever its vBucket is
   pub durable_over : FitsDurable r n v settings write f (reply_frame (status_reply f Status.Etmpfail))
@@ -350,4 +361,4 @@ module _ (r : Chronicle) (n v : ℕ) (vb : Plain) (known : KnownAs r n v vb) whe
     pub durable_refused_fits : (write : Write) (st : Status) → durable_refusal vb write ≡ Some st → FitsDurable r n v settings write f (reply_frame (status_reply f st))
     durable_refused_fits write st e =
         let chain : Members = (r.counts_at n v).chain in
-        inr (inl (st, status_fits f st, as_told (λ role image. IsWhyRefused (LacksMajority chain) role image write st) (why_durable vb write st chain known.chain e)))
+        inr (inl (st, status_fits f st, as_told (λ role image. IsWhyRefused (LacksMajority chain) role image write st) (why_durable vb write st chain known.chain e), subst (λ o. IsImpossibleFirst o chain st) (sym known.role) (first_durable vb write st chain known.chain e)))

@@ -8,7 +8,7 @@ use Rattle.transcript_law.specs.{ClientFrames.{setup_after}, ClientStreams.{clie
 use Rattle.client_session.specs.{Serving.{is_dcp}, declared.session.Settings.{Settings}}
 use Rattle.mcbp_kv.specs.Requests.{request_of}
 use Rattle.mcbp_kv.specs.declared.request.KvRequest.TheVariants as request
-use Rattle.transcript_law.specs.LawfulAnswers.{FitsBy, FitsFrame, FitsGet, FitsRequest, IsCommitted, IsMade, IsRefused, LacksMajority, LacksSeqnos, LawfulReply}
+use Rattle.transcript_law.specs.LawfulAnswers.{FitsBy, FitsFrame, FitsGet, FitsRequest, IsCommitted, IsMade, IsRefused, IsRefusedDurably, LacksSeqnos, LawfulReply}
 use Rattle.transcript_law.specs.LawfulClients.{LawfulClientAsk, RefusesBy}
 use Rattle.transcript_law.specs.LinesTold.{after_client_line, made_line}
 use Rattle.transcript_law.specs.StreamLaws.{GrantsAs, LawfulSaid, LawfulVerdict}
@@ -140,9 +140,9 @@ reply_read q r n c bytes behind s l = ⊎_elim
     request_read f g settings (Ok (request.Write write (Some wish))) x = ⊎_elim
         (λ y. inl y)
         (⊎_elim
-        (λ y. inr (inl (at (λ (counts : CountsKnown). IsRefused (LacksMajority counts.chain) (q.role_at n f.vb_or_status) (image_of (q.held n f.vb_or_status)) write f g) f.vb_or_status s.counts
-        (at (λ role. IsRefused (LacksMajority (r.counts_at n f.vb_or_status).chain) role (image_of (q.held n f.vb_or_status)) write f g) f.vb_or_status s.role
-        (at (λ held. IsRefused (LacksMajority (r.counts_at n f.vb_or_status).chain) (r.role_at n f.vb_or_status) (image_of held) write f g) f.vb_or_status s.held y)))))
+        (λ y. inr (inl (at (λ (counts : CountsKnown). IsRefusedDurably counts.chain (q.role_at n f.vb_or_status) (image_of (q.held n f.vb_or_status)) write f g) f.vb_or_status s.counts
+        (at (λ role. IsRefusedDurably (r.counts_at n f.vb_or_status).chain role (image_of (q.held n f.vb_or_status)) write f g) f.vb_or_status s.role
+        (at (λ held. IsRefusedDurably (r.counts_at n f.vb_or_status).chain (r.role_at n f.vb_or_status) (image_of held) write f g) f.vb_or_status s.held y)))))
         (⊎_elim (λ y. inr (inr (inl (subst (λ made. IsCommitted n made settings f g) s.made y)))) (λ y. inr (inr (inr y)))))
         x
 
