@@ -2,9 +2,17 @@
 use Rattle.std.specs.Prelude.{◌≡◌, ◌∷◌, ◌==◌, if◌then◌else◌}
 use Rattle.transcript_law.proofs.Words.{ℕ, Bool, true, false, List, [], refl, arith, Answer, Cause, Event, Chronicle, Verb, NodeVerb, empty_chronicle}
 use Rattle.transcript_law.proofs.{rows.CrashRows.{stops}, rows.Groups.{AreParts, in_order, whole}}
-use Rattle.transcript_law.specs.{ClientRows.{LawfulOpened, closes, hangs, opens, refused, replies, sends, waits}, Clients.{AllClosed, IsOpened, IsReached}, Chronicles.{conns_lines}, Prefixes.{known_after}}
+use Rattle.transcript_law.specs.{ClientRows.{LawfulOpened, asks, closes, hangs, nooped, opens, refused, replies, sends, waits}, Clients.{AllClosed, IsOpened, IsReached}, Chronicles.{conns_lines}, Prefixes.{known_after}}
 use Rattle.transcript_law.specs.Crashes.{LawfulAfter, Said, numbered, ok, save_under, save_under_groups, stopped_behind, groups_from_number}
+unfoldable use Rattle.mcbp_dcp.specs.Messages.{read_of}
+unfoldable use Rattle.mcbp_dcp.specs.Rows.{frame_row}
+unfoldable use Rattle.mcbp_frame.specs.Cutting.{frames_in}
+unfoldable use Rattle.mcbp_frame.specs.Frames.{first_frame, frame_of}
+unfoldable use Rattle.mcbp_frame.specs.Spelling.{spelling}
+unfoldable use Rattle.mcbp_kv.specs.Framing.{requirement_of}
+unfoldable use Rattle.mcbp_kv.specs.Requests.{request_of}
 use Rattle.vb_disk.specs.declared.made.Outcome.TheVariants.{Old}
+use Rattle.transcript_law.proofs.rows.Answering.{no_question, noop_answer}
 
 -- what was read when the connection was opened
 abbrev read : Chronicle
@@ -47,30 +55,36 @@ closed_hung l = not_both l.1.1.1.0.0.0
 pub hung_then : LawfulOpened (hangs 1 ∷ waits ∷ []) (ok [] ∷ ok [] ∷ [])
 hung_then = from_opened (hangs 1 ∷ waits ∷ []) (ok [] ∷ ok [] ∷ []) refl ((tt, refl, refl), ((tt, tt, refl), tt))
 
+pub reply : LawfulOpened (asks 1 ∷ []) (ok (replies 0 1 (nooped 9) ∷ closes 0 1 ∷ []) ∷ [])
+unfolding spelling frames_in first_frame frame_of read_of frame_row request_of requirement_of
+reply = from_opened (asks 1 ∷ []) (ok (replies 0 1 (nooped 9) ∷ closes 0 1 ∷ []) ∷ []) refl ((((refl, λ z. noop_answer 9 refl refl refl refl), (refl, tt)), refl, refl), tt)
+
+pub reply_later : LawfulOpened (asks 1 ∷ waits ∷ []) (ok [] ∷ ok (replies 0 1 (nooped 9) ∷ []) ∷ [])
+unfolding spelling frames_in first_frame frame_of read_of frame_row request_of requirement_of
+reply_later = from_opened (asks 1 ∷ waits ∷ []) (ok [] ∷ ok (replies 0 1 (nooped 9) ∷ []) ∷ []) refl ((tt, refl, refl), ((((refl, λ z. noop_answer 9 refl refl refl refl), tt), tt, refl), tt))
+
 module _ (bytes : List ℕ) where
-  pub reply : LawfulOpened (sends 1 ∷ []) (ok (replies 0 1 bytes ∷ closes 0 1 ∷ []) ∷ [])
-  reply = from_opened (sends 1 ∷ []) (ok (replies 0 1 bytes ∷ closes 0 1 ∷ []) ∷ []) refl (((refl, (refl, tt)), refl, refl), tt)
+  pub reply_unasked : LawfulOpened (sends 1 ∷ []) (ok (replies 0 1 bytes ∷ closes 0 1 ∷ []) ∷ []) → ⊥
+  unfolding frames_in first_frame
+  reply_unasked l = no_question (l.1.1.0.0.0.1 refl) refl refl
 
-  pub reply_other : LawfulOpened (sends 1 ∷ []) (ok (replies 0 2 bytes ∷ closes 0 1 ∷ []) ∷ []) → ⊥
-  reply_other l = not_both l.1.1.0.0.0
+  pub reply_other : LawfulOpened (asks 1 ∷ []) (ok (replies 0 2 bytes ∷ closes 0 1 ∷ []) ∷ []) → ⊥
+  reply_other l = not_both l.1.1.0.0.0.0
 
-  pub reply_elsewhere : LawfulOpened (sends 1 ∷ []) (ok (replies 1 1 bytes ∷ closes 0 1 ∷ []) ∷ []) → ⊥
-  reply_elsewhere l = not_both l.1.1.0.0.0
+  pub reply_elsewhere : LawfulOpened (asks 1 ∷ []) (ok (replies 1 1 bytes ∷ closes 0 1 ∷ []) ∷ []) → ⊥
+  reply_elsewhere l = not_both l.1.1.0.0.0.0
 
-  pub reply_behind : LawfulOpened (sends 1 ∷ []) (ok (closes 0 1 ∷ replies 0 1 bytes ∷ []) ∷ []) → ⊥
-  reply_behind l = not_both l.1.1.0.0.1.0
+  pub reply_behind : LawfulOpened (asks 1 ∷ []) (ok (closes 0 1 ∷ replies 0 1 bytes ∷ []) ∷ []) → ⊥
+  reply_behind l = not_both l.1.1.0.0.1.0.0
 
-  pub reply_later : LawfulOpened (sends 1 ∷ waits ∷ []) (ok [] ∷ ok (replies 0 1 bytes ∷ []) ∷ [])
-  reply_later = from_opened (sends 1 ∷ waits ∷ []) (ok [] ∷ ok (replies 0 1 bytes ∷ []) ∷ []) refl ((tt, refl, refl), (((refl, tt), tt, refl), tt))
+  pub reply_closed : LawfulOpened (asks 1 ∷ waits ∷ []) (ok (closes 0 1 ∷ []) ∷ ok (replies 0 1 bytes ∷ []) ∷ []) → ⊥
+  reply_closed l = not_both l.1.1.1.0.0.0.0
 
-  pub reply_closed : LawfulOpened (sends 1 ∷ waits ∷ []) (ok (closes 0 1 ∷ []) ∷ ok (replies 0 1 bytes ∷ []) ∷ []) → ⊥
-  reply_closed l = not_both l.1.1.1.0.0.0
+  pub reply_hung : LawfulOpened (asks 1 ∷ hangs 1 ∷ waits ∷ []) (ok [] ∷ ok [] ∷ ok (replies 0 1 bytes ∷ []) ∷ []) → ⊥
+  reply_hung l = not_both l.1.1.1.1.0.0.0.0
 
-  pub reply_hung : LawfulOpened (hangs 1 ∷ waits ∷ []) (ok [] ∷ ok (replies 0 1 bytes ∷ []) ∷ []) → ⊥
-  reply_hung l = not_both l.1.1.1.0.0.0
-
-  pub reply_down : LawfulOpened (Verb.AtNode 0 (NodeVerb.Crash Old) ∷ Verb.AtNode 0 (NodeVerb.Fail 1) ∷ []) (ok (closes 0 1 ∷ []) ∷ ok (replies 0 1 bytes ∷ []) ∷ []) → ⊥
-  reply_down l = not_both l.1.1.1.0.0.0
+  pub reply_down : LawfulOpened (asks 1 ∷ Verb.AtNode 0 (NodeVerb.Crash Old) ∷ Verb.AtNode 0 (NodeVerb.Fail 1) ∷ []) (ok [] ∷ ok (closes 0 1 ∷ []) ∷ ok (replies 0 1 bytes ∷ []) ∷ []) → ⊥
+  reply_down l = not_both l.1.1.1.1.0.0.0.0
 
 -- ---- answers
 

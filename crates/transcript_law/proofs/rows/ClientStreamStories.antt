@@ -20,7 +20,8 @@ use Rattle.transcript_law.specs.ClientFrames.{is_closed_by}
 use Rattle.transcript_law.specs.ClientStreamRows.{ended, finished, first_item, fresh, inside, marked, next_item, one, sent, snapshot, tree_of, two, up_to, with_streams}
 use Rattle.transcript_law.specs.ClientStreams.{ClientStream, ClientsKnown, ItemLine, StreamLine, blank_client, change_at, told_of, unclosed}
 use Rattle.transcript_law.specs.Followers.{log_of, next_change}
-use Rattle.transcript_law.proofs.rows.ClientStreamAsks.{fair, no_stream}
+use Rattle.transcript_law.proofs.rows.Answering.{dcp_answer}
+use Rattle.transcript_law.proofs.rows.ClientStreamAsks.{answer_of, fair, no_stream}
 use Rattle.transcript_law.specs.LawfulClients.{IsNextMarker, RefusesOwn}
 use Rattle.transcript_law.specs.StreamLaws.{IsFrontOf, LawfulSaid, item_of_change}
 use Rattle.transcript_law.specs.Transcripts.{one_change}
@@ -69,10 +70,10 @@ pub counted : LawfulPulled two (with_streams (one granted)) (puts 4 all_lines)
 unfolding spelling dcp_frame
 counted = (
   (
-    mark_put _ _ 0 0 2 granted _ refl refl refl two_next ▹ refl
-        ▹ item_put _ _ 0 one_change begun (snapshot two 0 2 []) _ refl refl refl refl refl (inl refl) (one_change, inl refl, refl) first_next ▹ refl
-        ▹ item_put _ _ 0 next_change first_put (snapshot two 0 2 (first_item ∷ [])) _ refl refl refl refl refl (inr (inl refl)) (next_change, inr (inl refl), refl) both_next ▹ refl
-        ▹ end_put _ 0 all_put [] refl refl refl both_whole (refl, omega arith) ▹ refl ▹ tt,
+    mark_put _ _ 0 0 2 granted _ refl refl refl two_next ▹ (refl, λ z. cc)
+        ▹ item_put _ _ 0 one_change begun (snapshot two 0 2 []) _ refl refl refl refl refl (inl refl) (one_change, inl refl, refl) first_next ▹ (refl, λ z. cc)
+        ▹ item_put _ _ 0 next_change first_put (snapshot two 0 2 (first_item ∷ [])) _ refl refl refl refl refl (inr (inl refl)) (next_change, inr (inl refl), refl) both_next ▹ (refl, λ z. cc)
+        ▹ end_put _ 0 all_put [] refl refl refl both_whole (refl, omega arith) ▹ (refl, λ z. cc) ▹ tt,
     (refl, record { told = refl; most = omega arith; all = λ e. cc; only = λ e. absurd (omega (arith, e)) }),
     refl,
     refl,
@@ -114,7 +115,10 @@ refuses_none = record { unopened = λ e. cc; unknown = λ e. absurd (omega (arit
 pub story : LawfulStory (indexed all_lines)
 unfolding spelling dcp_frame frames_in first_frame frame_of read_of frame_row shape_fault
 story = (
-  refl ▹ refl ▹ refl ▹ record { own_node = refl; request = _; next = refl; numbers = refl; vb = refl; answered = asked_right _; own = refuses_none; reason = fair (record { opened = true; sync = true; named = true }) None no_stream (up_to 2) (omega arith, omega arith, omega arith); frame = ([], refl) } ▹ refl ▹ tt,
+  (refl, λ z. dcp_answer (dcp_frame (msg.OpenAnswer 0) 1 0) refl refl refl refl refl)
+  ▹ (refl, λ z. dcp_answer (dcp_frame (msg.ControlAnswer 0) 2 0) refl refl refl refl refl)
+  ▹ (refl, λ z. dcp_answer (dcp_frame (msg.ControlAnswer 0) 3 0) refl refl refl refl refl)
+  ▹ record { own_node = refl; request = _; next = refl; numbers = refl; vb = refl; answered = asked_right _; own = refuses_none; reason = fair (record { opened = true; sync = true; named = true }) None no_stream (up_to 2) (omega arith, omega arith, omega arith); frame = ([], refl) } ▹ (refl, λ z. dcp_answer (answer_of ask_answer.Go) refl refl refl refl refl) ▹ tt,
   refl,
   refl,
   refl,
@@ -124,10 +128,10 @@ story = (
   tt,
 )
     ▹ (
-      mark_put _ _ 0 0 2 granted _ refl refl refl two_next ▹ refl
-          ▹ item_put _ _ 0 one_change begun (snapshot two 0 2 []) _ refl refl refl refl refl (inl refl) (one_change, inl refl, refl) first_next ▹ refl
-          ▹ item_put _ _ 0 next_change first_put (snapshot two 0 2 (first_item ∷ [])) _ refl refl refl refl refl (inr (inl refl)) (next_change, inr (inl refl), refl) both_next ▹ refl
-          ▹ end_put _ 0 all_put [] refl refl refl both_whole (refl, omega arith) ▹ refl ▹ tt,
+      mark_put _ _ 0 0 2 granted _ refl refl refl two_next ▹ (refl, λ z. cc)
+          ▹ item_put _ _ 0 one_change begun (snapshot two 0 2 []) _ refl refl refl refl refl (inl refl) (one_change, inl refl, refl) first_next ▹ (refl, λ z. cc)
+          ▹ item_put _ _ 0 next_change first_put (snapshot two 0 2 (first_item ∷ [])) _ refl refl refl refl refl (inr (inl refl)) (next_change, inr (inl refl), refl) both_next ▹ (refl, λ z. cc)
+          ▹ end_put _ 0 all_put [] refl refl refl both_whole (refl, omega arith) ▹ (refl, λ z. cc) ▹ tt,
       (refl, record { told = refl; most = omega arith; all = λ e. cc; only = λ e. absurd (omega (arith, e)) }),
       refl,
       refl,

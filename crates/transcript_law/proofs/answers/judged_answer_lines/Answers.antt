@@ -1,0 +1,17 @@
+use Rattle.transcript_law.proofs.rows.AnswerLines as rows
+use Rattle.transcript_law.proofs.answers.judged_answer_lines.Goals as goal
+
+pub returns : goal.returns
+returns c = record {
+  here = rows.here;
+  unasked = rows.unasked;
+  opaque = rows.opaque;
+  twice = rows.twice;
+  pieces = rows.pieces;
+  waited = rows.waited;
+  each = rows.each;
+  again = rows.again;
+  made = rows.made;
+  made_before = rows.made_before;
+  anew = rows.anew;
+}

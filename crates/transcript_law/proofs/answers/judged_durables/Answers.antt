@@ -1,0 +1,19 @@
+use Rattle.transcript_law.proofs.rows.AnswerDurables as rows
+use Rattle.transcript_law.proofs.answers.judged_durables.Goals as goal
+
+pub returns : goal.returns
+returns c = record {
+  impossible = rows.impossible;
+  possible = rows.possible;
+  plain_impossible = rows.plain_impossible;
+  ambiguous = rows.ambiguous;
+  plain_ambiguous = rows.plain_ambiguous;
+  committed = rows.committed;
+  told = rows.told;
+  plain_committed = rows.plain_committed;
+  away = rows.away;
+  active = rows.active;
+  other = rows.other;
+  no_level = rows.no_level;
+  level = rows.level;
+}
