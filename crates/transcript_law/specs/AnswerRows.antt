@@ -1,5 +1,5 @@
 -- answers to clients, to be judged by hand
-use Rattle.std.specs.Prelude.{ℕ, true, false, List, [], ◌∷◌, Option, Some, None}
+use Rattle.std.specs.Prelude.{ℕ, true, false, List, [], ◌∷◌, Some, None}
 use Rattle.client_session.specs.declared.session.Settings.{Settings}
 use Rattle.durability.specs.Chains.{Members}
 use Rattle.mcbp_dcp.specs.declared.message.DcpMsg.TheVariants as msg
@@ -21,7 +21,6 @@ use Rattle.vb_types.specs.declared.change.Change.{Change}
 use Rattle.vb_types.specs.declared.doc.Doc.{Doc}
 use Rattle.vb_types.specs.declared.status.Status.{Status}
 use Rattle.transcript_law.specs.BoundRows.{LawfulHere}
-use Rattle.transcript_law.specs.Chronicles.{Chronicle}
 use Rattle.transcript_law.specs.ClientAskRows.{bytes_of, resting, serving, that_sent, ticks, unopened}
 use Rattle.transcript_law.specs.ClientRows.{nooped}
 use Rattle.transcript_law.specs.ClientStreams.{ClientKnown}
@@ -186,8 +185,8 @@ LawfulAmong others bytes lines = LawfulFrom (record (serving [] (unopened bytes)
 abbrev pub comes : List ℕ → Verb
 comes bytes = verb.AtClient 0 1 (client_verb.Bytes bytes)
 
-abbrev pub LawfulLine : List ℕ → Verb → Said → Type 0
-LawfulLine bytes line said = LawfulHere (serving [] (unopened bytes)) line said
+abbrev pub LawfulNext : List ℕ → Verb → Said → Type 0
+LawfulNext bytes line said = LawfulHere (serving [] (unopened bytes)) line said
 
 -- so do two lines behind which a wait may be over
 abbrev pub LawfulTicks : List ℕ → List Said → Type 0

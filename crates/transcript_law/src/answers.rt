@@ -7,7 +7,7 @@ ghost use Rattle.mcbp_kv.specs.Replies.{reply_frame};
 ghost use Rattle.mcbp_kv.specs.declared.feature.Feature.TheVariants as feature;
 ghost use Rattle.mcbp_kv.specs.declared.opcodes.TheConstants.{ADD, DELETE, GET, HELLO, NOOP, REPLACE, SET};
 ghost use Rattle.mcbp_frame.specs.declared.frame.TheConstants.{REQUEST};
-ghost use Rattle.transcript_law.specs.AnswerRows.{LawfulAmong, LawfulAway, LawfulBy, LawfulLine, LawfulOver, LawfulTicks, LawfulTo, LawfulUnmade, acknowledges, answers, broken, comes, durably, finds, finds_raw, for_json, for_seqnos, formless, gets, greets, json_doc, json_once, makes, makes_elsewhere, newer, newer_doc, once, over_prepare, removal, removes, responds, says, sends, shuts, shuts_other, stores, strange, unknown, welcomes, writes};
+ghost use Rattle.transcript_law.specs.AnswerRows.{LawfulAmong, LawfulAway, LawfulBy, LawfulNext, LawfulOver, LawfulTicks, LawfulTo, LawfulUnmade, acknowledges, answers, broken, comes, durably, finds, finds_raw, for_json, for_seqnos, formless, gets, greets, json_doc, json_once, makes, makes_elsewhere, newer, newer_doc, once, over_prepare, removal, removes, responds, says, sends, shuts, shuts_other, stores, strange, unknown, welcomes, writes};
 ghost use Rattle.transcript_law.specs.ClientAskRows.{opening, replies as replied, sends_none, ticks};
 ghost use Rattle.transcript_law.specs.ClientRows.{LawfulOpened, asks, hangs, noop, nooped, opens, replies, waits};
 ghost use Rattle.transcript_law.specs.ClientStreamRows.{durable, pending, prepared};
@@ -174,15 +174,15 @@ pub fn judged_faults()
 /// and not without a question; not to what was sent before the connection was opened anew; and a write is
 /// told made by a change of its own group alone.
 pub fn judged_answer_lines()
-    ensures here { LawfulLine [] (comes (noop 9)) (ok (answers 9 ∷ [])) }
-    ensures unasked { LawfulLine [] sends_none (ok (answers 9 ∷ [])) → ⊥ }
-    ensures opaque { LawfulLine [] (comes (noop 9)) (ok (answers 8 ∷ [])) → ⊥ }
-    ensures twice { LawfulLine [] (comes (noop 9)) (ok (answers 9 ∷ answers 9 ∷ [])) → ⊥ }
-    ensures pieces { LawfulLine (take 7 (noop 9)) (comes (drop 7 (noop 9))) (ok (answers 9 ∷ [])) }
-    ensures waited { LawfulLine (noop 9) ticks (ok (answers 9 ∷ [])) }
+    ensures here { LawfulNext [] (comes (noop 9)) (ok (answers 9 ∷ [])) }
+    ensures unasked { LawfulNext [] sends_none (ok (answers 9 ∷ [])) → ⊥ }
+    ensures opaque { LawfulNext [] (comes (noop 9)) (ok (answers 8 ∷ [])) → ⊥ }
+    ensures twice { LawfulNext [] (comes (noop 9)) (ok (answers 9 ∷ answers 9 ∷ [])) → ⊥ }
+    ensures pieces { LawfulNext (take 7 (noop 9)) (comes (drop 7 (noop 9))) (ok (answers 9 ∷ [])) }
+    ensures waited { LawfulNext (noop 9) ticks (ok (answers 9 ∷ [])) }
     ensures each { LawfulTicks (noop 8 ++ noop 9) (ok (answers 8 ∷ []) ∷ ok (answers 9 ∷ []) ∷ []) }
     ensures again { LawfulTicks (noop 9) (ok (answers 9 ∷ []) ∷ ok (answers 9 ∷ []) ∷ []) → ⊥ }
-    ensures made { LawfulLine [] (comes (writes SET 0 7 8)) (ok (makes one_change ∷ stores SET 1 [] ∷ [])) }
+    ensures made { LawfulNext [] (comes (writes SET 0 7 8)) (ok (makes one_change ∷ stores SET 1 [] ∷ [])) }
     ensures made_before { LawfulTicks (writes SET 0 7 8) (ok (makes one_change ∷ []) ∷ ok (stores SET 1 [] ∷ []) ∷ []) → ⊥ }
     ensures anew { LawfulOpened (asks 1 ∷ hangs 1 ∷ opens 1 ∷ waits ∷ []) (ok [] ∷ ok [] ∷ ok [] ∷ ok (replies 0 1 (nooped 9) ∷ []) ∷ []) → ⊥ }
 {}

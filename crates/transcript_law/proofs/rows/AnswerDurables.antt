@@ -48,11 +48,11 @@ committed = (λ z. kv_answer (reply_frame (stored_answer SET 9 2 [])) refl refl 
 
 pub told : LawfulTo durable (durably 1 9 6) (stores SET 2 (seqno_extras 5 3) ∷ []) → ⊥
 unfolding spelling frames_in first_frame frame_of read_of frame_row shape_fault request_of requirement_of
-told l = let (g, s, fits) = asked_so (l.0 refl) refl refl refl in ⊎_elim (λ r. let e : ◌≡◌ {A = ℕ} 2 0 = refused_cas r s in omega (arith, e)) (λ o. ⊎_elim (λ c. let e : ◌≡◌ {A = ℕ} 16 0 = ap (byte_at 11) (stored_bytes c.told s) in omega (arith, e)) (λ a. let e : ◌≡◌ {A = ℕ} 0 163 = ap (byte_at 7) (bare_bytes a s) in omega (arith, e)) o) fits
+told l = let (g, s, fits) = asked_so (l.0 refl) refl refl refl in ⊎_elim (λ r. let e : ◌≡◌ {A = ℕ} 2 0 = refused_cas r.1 s in omega (arith, e)) (λ o. ⊎_elim (λ c. let e : ◌≡◌ {A = ℕ} 16 0 = ap (byte_at 11) (stored_bytes c.told s) in omega (arith, e)) (λ a. let e : ◌≡◌ {A = ℕ} 0 163 = ap (byte_at 7) (bare_bytes a s) in omega (arith, e)) o) fits
 
 pub plain_committed : LawfulTo durable (writes SET 0 9 6) (stores SET 2 [] ∷ []) → ⊥
 unfolding spelling frames_in first_frame frame_of read_of frame_row shape_fault request_of requirement_of
-plain_committed l = let (g, s, fits) = asked_so (l.0 refl) refl refl refl in ⊎_elim (λ r. let e : ◌≡◌ {A = ℕ} 2 0 = refused_cas r s in omega (arith, e)) (λ m. no_made m) fits
+plain_committed l = let (g, s, fits) = asked_so (l.0 refl) refl refl refl in ⊎_elim (λ r. let e : ◌≡◌ {A = ℕ} 2 0 = refused_cas r.1 s in omega (arith, e)) (λ m. no_made m) fits
 
 pub away : LawfulAway [] (durably 1 7 8) (says SET status.NotMyVbucket ∷ [])
 unfolding spelling frames_in first_frame frame_of read_of frame_row shape_fault request_of requirement_of

@@ -1,6 +1,5 @@
 -- groups with answers to clients, judged by hand
 use Rattle.std.proofs.Common.{[], ap, arith, inr, refl, take, drop, ℕ, ⊎_elim, ◌++◌, ◌∷◌, ◌≡◌}
-use Rattle.std.specs.Prelude.{None}
 unfoldable use Rattle.mcbp_dcp.specs.Messages.{read_of}
 unfoldable use Rattle.mcbp_dcp.specs.Rows.{frame_row}
 unfoldable use Rattle.mcbp_dcp.specs.Shapes.{shape_fault}
@@ -14,7 +13,7 @@ use Rattle.mcbp_kv.specs.Replies.{reply_frame}
 use Rattle.mcbp_kv.specs.declared.opcodes.TheConstants.{SET}
 use Rattle.vb_calls.specs.Writes.{doc_refusal}
 use Rattle.vb_types.specs.declared.write.Op.TheVariants as op
-use Rattle.transcript_law.specs.AnswerRows.{LawfulLine, LawfulTicks, answers, comes, makes, stores, writes}
+use Rattle.transcript_law.specs.AnswerRows.{LawfulNext, LawfulTicks, answers, comes, makes, stores, writes}
 use Rattle.transcript_law.specs.ClientAskRows.{sends_none, ticks}
 use Rattle.transcript_law.specs.ClientRows.{LawfulOpened, asks, hangs, noop, nooped, opens, replies, waits}
 use Rattle.transcript_law.specs.Crashes.{ok}
@@ -23,27 +22,27 @@ use Rattle.transcript_law.proofs.rows.AnswerWrites.{makes_one, no_made, refused_
 use Rattle.transcript_law.proofs.rows.Answering.{asked_so, bare_bytes, byte_at, kv_answer, no_question, noop_answer, stored_so}
 use Rattle.transcript_law.proofs.rows.NextRows.{none_stored}
 
-pub here : LawfulLine [] (comes (noop 9)) (ok (answers 9 ∷ []))
+pub here : LawfulNext [] (comes (noop 9)) (ok (answers 9 ∷ []))
 unfolding spelling frames_in first_frame frame_of read_of frame_row shape_fault request_of requirement_of
 here = ((((refl, λ z. noop_answer 9 refl refl refl refl), tt), refl, refl, refl, λ w no standing. cc, refl, tt, tt), tt)
 
-pub unasked : LawfulLine [] sends_none (ok (answers 9 ∷ [])) → ⊥
+pub unasked : LawfulNext [] sends_none (ok (answers 9 ∷ [])) → ⊥
 unfolding spelling frames_in first_frame frame_of read_of frame_row shape_fault request_of requirement_of
 unasked l = no_question (l.0.0.0.1 refl) refl refl
 
-pub opaque : LawfulLine [] (comes (noop 9)) (ok (answers 8 ∷ [])) → ⊥
+pub opaque : LawfulNext [] (comes (noop 9)) (ok (answers 8 ∷ [])) → ⊥
 unfolding spelling frames_in first_frame frame_of read_of frame_row shape_fault request_of requirement_of
 opaque l = let (g, s, fits) = asked_so (l.0.0.0.1 refl) refl refl refl in let e : ◌≡◌ {A = ℕ} 8 9 = ap (byte_at 15) (bare_bytes fits s) in omega (arith, e)
 
-pub twice : LawfulLine [] (comes (noop 9)) (ok (answers 9 ∷ answers 9 ∷ [])) → ⊥
+pub twice : LawfulNext [] (comes (noop 9)) (ok (answers 9 ∷ answers 9 ∷ [])) → ⊥
 unfolding spelling frames_in first_frame frame_of read_of frame_row shape_fault request_of requirement_of
 twice l = no_question (l.0.0.1.0.1 refl) refl refl
 
-pub pieces : LawfulLine (take 7 (noop 9)) (comes (drop 7 (noop 9))) (ok (answers 9 ∷ []))
+pub pieces : LawfulNext (take 7 (noop 9)) (comes (drop 7 (noop 9))) (ok (answers 9 ∷ []))
 unfolding spelling frames_in first_frame frame_of read_of frame_row shape_fault request_of requirement_of
 pieces = ((((refl, λ z. noop_answer 9 refl refl refl refl), tt), refl, refl, refl, λ w no standing. cc, refl, tt, tt), tt)
 
-pub waited : LawfulLine (noop 9) ticks (ok (answers 9 ∷ []))
+pub waited : LawfulNext (noop 9) ticks (ok (answers 9 ∷ []))
 unfolding spelling frames_in first_frame frame_of read_of frame_row shape_fault request_of requirement_of
 waited = ((((refl, λ z. noop_answer 9 refl refl refl refl), tt), tt, refl, refl, λ w no standing. cc, refl, tt, tt), tt)
 
@@ -55,13 +54,13 @@ pub again : LawfulTicks (noop 9) (ok (answers 9 ∷ []) ∷ ok (answers 9 ∷ []
 unfolding spelling frames_in first_frame frame_of read_of frame_row shape_fault request_of requirement_of
 again l = no_question (l.1.0.0.0.1 refl) refl refl
 
-pub made : LawfulLine [] (comes (writes SET 0 7 8)) (ok (makes one_change ∷ stores SET 1 [] ∷ []))
+pub made : LawfulNext [] (comes (writes SET 0 7 8)) (ok (makes one_change ∷ stores SET 1 [] ∷ []))
 unfolding spelling frames_in first_frame frame_of read_of frame_row shape_fault request_of requirement_of
 made = (((makes_one _, ((refl, λ z. kv_answer (reply_frame (stored_answer SET 9 1 ([]))) refl refl refl refl refl refl (inr (record { branch = 5; change = one_change; older = []; last = refl; key = refl; cas = 1; rev = 1; act = refl; before = []; behind = refl; fits = ap (doc_refusal op.Set 0) (none_stored (7 ∷ [])); told = stored_so SET 9 1 ([]) }))), tt)), refl, refl, refl, λ w no standing. cc, refl, tt, tt), tt)
 
 pub made_before : LawfulTicks (writes SET 0 7 8) (ok (makes one_change ∷ []) ∷ ok (stores SET 1 [] ∷ []) ∷ []) → ⊥
 unfolding spelling frames_in first_frame frame_of read_of frame_row shape_fault request_of requirement_of
-made_before l = let (g, s, fits) = asked_so (l.1.0.0.0.1 refl) refl refl refl in ⊎_elim (λ r. let e : ◌≡◌ {A = ℕ} 1 0 = refused_cas r s in omega (arith, e)) (λ m. no_made m) fits
+made_before l = let (g, s, fits) = asked_so (l.1.0.0.0.1 refl) refl refl refl in ⊎_elim (λ r. let e : ◌≡◌ {A = ℕ} 1 0 = refused_cas r.1 s in omega (arith, e)) (λ m. no_made m) fits
 
 pub anew : LawfulOpened (asks 1 ∷ hangs 1 ∷ opens 1 ∷ waits ∷ []) (ok [] ∷ ok [] ∷ ok [] ∷ ok (replies 0 1 (nooped 9) ∷ []) ∷ []) → ⊥
 unfolding spelling frames_in first_frame frame_of read_of frame_row shape_fault request_of requirement_of

@@ -1,5 +1,5 @@
 -- which question an answer answers, judged by hand
-use Rattle.std.proofs.Common.{List, [], ap, arith, refl, take, ℕ, ◌++◌, ◌∙◌, ◌∷◌, ◌≡◌}
+use Rattle.std.proofs.Common.{[], ap, arith, refl, take, ℕ, ◌++◌, ◌∙◌, ◌∷◌, ◌≡◌}
 unfoldable use Rattle.mcbp_dcp.specs.DcpFrames.{dcp_frame}
 use Rattle.mcbp_dcp.specs.declared.message.DcpMsg.TheVariants as msg
 unfoldable use Rattle.mcbp_dcp.specs.Messages.{read_of}

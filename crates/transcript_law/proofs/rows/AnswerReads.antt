@@ -15,7 +15,6 @@ use Rattle.mcbp_kv.specs.Answers.{IsFound, bare_answer, found_answer}
 use Rattle.mcbp_kv.specs.Replies.{reply_frame}
 use Rattle.mcbp_kv.specs.declared.opcodes.TheConstants.{GET}
 use Rattle.vb_types.specs.Images.{Picture, image_of}
-use Rattle.vb_types.specs.declared.change.Pend.{Pend}
 use Rattle.vb_types.specs.declared.doc.Doc.{Doc}
 use Rattle.vb_types.specs.declared.role.Role.{Role}
 use Rattle.vb_types.specs.declared.role.Role.TheVariants.{Active}

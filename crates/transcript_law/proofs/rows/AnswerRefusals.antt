@@ -1,7 +1,7 @@
 -- writes that are refused, judged by hand
 use Rattle.std.proofs.Common.{List, [], ap, arith, inl, inr, refl, sym, ℕ, ⊎_elim, ◌∙◌, ◌∷◌, ◌≡◌}
 use Rattle.std.specs.FinMap.{get}
-use Rattle.std.specs.Prelude.{Option, Some, None}
+use Rattle.std.specs.Prelude.{◌⊎◌, Option, Some, None}
 unfoldable use Rattle.mcbp_dcp.specs.Messages.{read_of}
 unfoldable use Rattle.mcbp_dcp.specs.Rows.{frame_row}
 unfoldable use Rattle.mcbp_dcp.specs.Shapes.{shape_fault}
@@ -17,7 +17,6 @@ use Rattle.mcbp_kv.specs.declared.opcodes.TheConstants.{ADD, DELETE, REPLACE, SE
 use Rattle.vb_calls.specs.Writes.{doc_refusal}
 use Rattle.vb_types.specs.Images.{Picture}
 use Rattle.vb_types.specs.Statuses.{status_code}
-use Rattle.vb_types.specs.declared.change.Pend.{Pend}
 use Rattle.vb_types.specs.declared.doc.Doc.{Doc}
 use Rattle.vb_types.specs.declared.role.Role.{Role}
 use Rattle.vb_types.specs.declared.status.Status.{Status}

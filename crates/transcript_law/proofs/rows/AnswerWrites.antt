@@ -1,5 +1,5 @@
 -- writes that are told made, judged by hand
-use Rattle.std.proofs.Common.{Bool, List, [], ap, arith, inl, inr, refl, subst, sym, true, false, ℕ, ⊎_elim, ◌++◌, ◌∙◌, ◌∷◌, ◌≡◌}
+use Rattle.std.proofs.Common.{List, [], ap, arith, inr, refl, sym, ℕ, ⊎_elim, ◌++◌, ◌∙◌, ◌∷◌, ◌≡◌}
 use Rattle.std.specs.FinMap.{get}
 use Rattle.std.specs.Prelude.{Option, Some, None, option_map}
 unfoldable use Rattle.mcbp_dcp.specs.Messages.{read_of}
@@ -13,7 +13,7 @@ unfoldable use Rattle.mcbp_kv.specs.Requests.{request_of}
 use Rattle.client_session.specs.Rows.{seqno_part}
 use Rattle.client_session.specs.declared.session.Settings.{Settings}
 use Rattle.mcbp_frame.specs.declared.frame.Frame.{Frame}
-use Rattle.mcbp_kv.specs.Answers.{seqno_extras, stored_answer}
+use Rattle.mcbp_kv.specs.Answers.{IsBare, seqno_extras, stored_answer}
 use Rattle.mcbp_kv.specs.Replies.{reply_frame}
 use Rattle.mcbp_kv.specs.declared.opcodes.TheConstants.{ADD, DELETE, REPLACE, SET}
 use Rattle.vb_calls.specs.Following.{cas_of}
@@ -33,9 +33,9 @@ use Rattle.vb_types.specs.declared.write.Write.{Write}
 use Rattle.transcript_law.specs.AnswerRows.{LawfulBy, LawfulTo, for_seqnos, makes, makes_elsewhere, newer, newer_doc, once, over_prepare, removal, removes, stores, writes}
 use Rattle.transcript_law.specs.ClientAskRows.{serving}
 use Rattle.transcript_law.specs.ClientStreamRows.{pending, prepared as prepare_made}
-use Rattle.transcript_law.specs.ClientStreams.{ClientKnown}
+use Rattle.transcript_law.specs.ClientStreams.{ClientsKnown, blank_client}
 use Rattle.transcript_law.specs.Followers.{next_change}
-use Rattle.transcript_law.specs.LawfulAnswers.{IsMade, IsRefused}
+use Rattle.transcript_law.specs.LawfulAnswers.{IsMade}
 use Rattle.transcript_law.specs.Lawfulness.{LawfulChange}
 use Rattle.transcript_law.specs.LinesTold.{OwnChange}
 use Rattle.transcript_law.specs.OwnChanges.{IsNextChange}
@@ -105,9 +105,9 @@ module _ {n v : ℕ} {held : List Change} {own : OwnChange} {older : List OwnCha
       ∙ ap (λ (o : OwnChange). spelling (response_of f.opcode 0 0 f.opaque (cas_of own.change.act) (seqno_part settings o.branch o.change.seq) [])) (sym own_is)
 
 -- one that is refused has no CAS
-pub refused_cas : {Besides : Status → Type 0} {role : Option (Option Role)} {image : Picture} {write : Write} {f g : Frame} {bytes : List ℕ} → IsRefused Besides role image write f g → bytes ≡ spelling g → byte_at 23 bytes ≡ 0
+pub refused_cas : {bytes : List ℕ} {g : Frame} {code said opaque : ℕ} → IsBare g code said opaque → bytes ≡ spelling g → byte_at 23 bytes ≡ 0
 unfolding spelling
-refused_cas r s = ap (byte_at 23) (bare_bytes r.1 s)
+refused_cas b s = ap (byte_at 23) (bare_bytes b s)
 
 -- the value of a document that is put
 value_of : Act → List ℕ
@@ -116,8 +116,8 @@ value_of other = []
 
 -- ---- changes that are made
 
-pub makes_one : (known : ClientKnown) → LawfulChange (serving [] known) 0 0 5 one_change
-makes_one known = record {
+pub makes_one : (clients : ClientsKnown) → LawfulChange (record (serving [] blank_client) { clients_at = clients }) 0 0 5 one_change
+makes_one clients = record {
   active = refl;
   writer = record { made_or_took = refl; on_branch = refl };
   above_branch = omega arith;
@@ -127,8 +127,8 @@ makes_one known = record {
   backed = λ prepared doc deleted e. cc;
 }
 
-makes_more : (known : ClientKnown) (a : Act) → ((prepared : ℕ) (doc : Doc) (deleted : Bool) → a ≡ act.Commit prepared doc deleted → ⊥) → IsNextChange once (record { seq = 2; key = 7 ∷ []; act = a }) → LawfulChange (serving once known) 0 0 5 (record { seq = 2; key = 7 ∷ []; act = a })
-makes_more known a none next = record {
+makes_more : (clients : ClientsKnown) (a : Act) → ((prepared : ℕ) (doc : Doc) (deleted : Bool) → a ≡ act.Commit prepared doc deleted → ⊥) → IsNextChange once (record { seq = 2; key = 7 ∷ []; act = a }) → LawfulChange (record (serving once blank_client) { clients_at = clients }) 0 0 5 (record { seq = 2; key = 7 ∷ []; act = a })
+makes_more clients a none next = record {
   active = refl;
   writer = record { made_or_took = refl; on_branch = refl };
   above_branch = omega arith;
@@ -138,11 +138,11 @@ makes_more known a none next = record {
   backed = λ prepared doc deleted e. absurd (none prepared doc deleted e);
 }
 
-makes_newer : (known : ClientKnown) → LawfulChange (serving once known) 0 0 5 newer
-makes_newer known = makes_more known (act.Set newer_doc) (λ prepared doc deleted e. cc) (seven_next (act.Set newer_doc) refl refl refl)
+makes_newer : (clients : ClientsKnown) → LawfulChange (record (serving once blank_client) { clients_at = clients }) 0 0 5 newer
+makes_newer clients = makes_more clients (act.Set newer_doc) (λ prepared doc deleted e. cc) (seven_next (act.Set newer_doc) refl refl refl)
 
-makes_removal : (known : ClientKnown) → LawfulChange (serving once known) 0 0 5 removal
-makes_removal known = makes_more known (act.Remove 2 2) (λ prepared doc deleted e. cc) (seven_next (act.Remove 2 2) refl refl refl)
+makes_removal : (clients : ClientsKnown) → LawfulChange (record (serving once blank_client) { clients_at = clients }) 0 0 5 removal
+makes_removal clients = makes_more clients (act.Remove 2 2) (λ prepared doc deleted e. cc) (seven_next (act.Remove 2 2) refl refl refl)
 
 -- ---- transcripts
 
@@ -152,27 +152,27 @@ made = makes_one _ ▹ (λ z. kv_answer (reply_frame (stored_answer SET 9 1 ([])
 
 pub unmade : LawfulTo [] (writes SET 0 7 8) (stores SET 1 [] ∷ []) → ⊥
 unfolding spelling frames_in first_frame frame_of read_of frame_row shape_fault request_of requirement_of
-unmade l = let (g, s, fits) = asked_so (l.0 refl) refl refl refl in ⊎_elim (λ r. let e : ◌≡◌ {A = ℕ} 1 0 = refused_cas r s in omega (arith, e)) (λ m. no_made m) fits
+unmade l = let (g, s, fits) = asked_so (l.0 refl) refl refl refl in ⊎_elim (λ r. let e : ◌≡◌ {A = ℕ} 1 0 = refused_cas r.1 s in omega (arith, e)) (λ m. no_made m) fits
 
 pub cas : LawfulTo [] (writes SET 0 7 8) (makes one_change ∷ stores SET 2 [] ∷ []) → ⊥
 unfolding spelling frames_in first_frame frame_of read_of frame_row shape_fault request_of requirement_of
-cas l = let (g, s, fits) = asked_so (l.1.0 refl) refl refl refl in ⊎_elim (λ r. let e : ◌≡◌ {A = ℕ} 2 0 = refused_cas r s in omega (arith, e)) (λ m. let e : ◌≡◌ {A = ℕ} 2 1 = ap (byte_at 23) (told_is m s) in omega (arith, e)) fits
+cas l = let (g, s, fits) = asked_so (l.1.0 refl) refl refl refl in ⊎_elim (λ r. let e : ◌≡◌ {A = ℕ} 2 0 = refused_cas r.1 s in omega (arith, e)) (λ m. let e : ◌≡◌ {A = ℕ} 2 1 = ap (byte_at 23) (told_is m s) in omega (arith, e)) fits
 
 pub key : LawfulTo [] (writes SET 0 9 8) (makes one_change ∷ stores SET 1 [] ∷ []) → ⊥
 unfolding spelling frames_in first_frame frame_of read_of frame_row shape_fault request_of requirement_of
-key l = let (g, s, fits) = asked_so (l.1.0 refl) refl refl refl in ⊎_elim (λ r. let e : ◌≡◌ {A = ℕ} 1 0 = refused_cas r s in omega (arith, e)) (λ m. let e : ◌≡◌ {A = ℕ} 7 9 = ap first_byte (key_is m) in omega (arith, e)) fits
+key l = let (g, s, fits) = asked_so (l.1.0 refl) refl refl refl in ⊎_elim (λ r. let e : ◌≡◌ {A = ℕ} 1 0 = refused_cas r.1 s in omega (arith, e)) (λ m. let e : ◌≡◌ {A = ℕ} 7 9 = ap first_byte (key_is m) in omega (arith, e)) fits
 
 pub value : LawfulTo [] (writes SET 0 7 9) (makes one_change ∷ stores SET 1 [] ∷ []) → ⊥
 unfolding spelling frames_in first_frame frame_of read_of frame_row shape_fault request_of requirement_of value_of
-value l = let (g, s, fits) = asked_so (l.1.0 refl) refl refl refl in ⊎_elim (λ r. let e : ◌≡◌ {A = ℕ} 1 0 = refused_cas r s in omega (arith, e)) (λ m. let e : ◌≡◌ {A = ℕ} 8 9 = ap first_byte (ap value_of (act_is m)) in omega (arith, e)) fits
+value l = let (g, s, fits) = asked_so (l.1.0 refl) refl refl refl in ⊎_elim (λ r. let e : ◌≡◌ {A = ℕ} 1 0 = refused_cas r.1 s in omega (arith, e)) (λ m. let e : ◌≡◌ {A = ℕ} 8 9 = ap first_byte (ap value_of (act_is m)) in omega (arith, e)) fits
 
 pub elsewhere : LawfulTo [] (writes SET 0 7 8) (makes_elsewhere one_change ∷ stores SET 1 [] ∷ []) → ⊥
 unfolding spelling frames_in first_frame frame_of read_of frame_row shape_fault request_of requirement_of
-elsewhere l = let (g, s, fits) = asked_so (l.1.0 refl) refl refl refl in ⊎_elim (λ r. let e : ◌≡◌ {A = ℕ} 1 0 = refused_cas r s in omega (arith, e)) (λ m. let e : ◌≡◌ {A = ℕ} 1 0 = vb_is m in omega (arith, e)) fits
+elsewhere l = let (g, s, fits) = asked_so (l.1.0 refl) refl refl refl in ⊎_elim (λ r. let e : ◌≡◌ {A = ℕ} 1 0 = refused_cas r.1 s in omega (arith, e)) (λ m. let e : ◌≡◌ {A = ℕ} 1 0 = vb_is m in omega (arith, e)) fits
 
 pub twice : LawfulTo [] (writes SET 0 7 8 ++ writes SET 0 7 8) (makes one_change ∷ stores SET 1 [] ∷ stores SET 1 [] ∷ []) → ⊥
 unfolding spelling frames_in first_frame frame_of read_of frame_row shape_fault request_of requirement_of
-twice l = let (g, s, fits) = asked_so (l.1.1.0 refl) refl refl refl in ⊎_elim (λ r. let e : ◌≡◌ {A = ℕ} 1 0 = refused_cas r s in omega (arith, e)) (λ m. no_made m) fits
+twice l = let (g, s, fits) = asked_so (l.1.1.0 refl) refl refl refl in ⊎_elim (λ r. let e : ◌≡◌ {A = ℕ} 1 0 = refused_cas r.1 s in omega (arith, e)) (λ m. no_made m) fits
 
 pub each : LawfulTo [] (writes SET 0 7 8 ++ writes SET 0 9 6) (makes one_change ∷ stores SET 1 [] ∷ makes next_change ∷ stores SET 2 [] ∷ [])
 unfolding spelling frames_in first_frame frame_of read_of frame_row shape_fault request_of requirement_of
@@ -183,7 +183,7 @@ each =
 
 pub late : LawfulTo [] (writes SET 0 7 8 ++ writes SET 0 9 6) (makes one_change ∷ makes next_change ∷ stores SET 1 [] ∷ []) → ⊥
 unfolding spelling frames_in first_frame frame_of read_of frame_row shape_fault request_of requirement_of
-late l = let (g, s, fits) = asked_so (l.1.1.0 refl) refl refl refl in ⊎_elim (λ r. let e : ◌≡◌ {A = ℕ} 1 0 = refused_cas r s in omega (arith, e)) (λ m. let e : ◌≡◌ {A = ℕ} 9 7 = ap first_byte (key_is m) in omega (arith, e)) fits
+late l = let (g, s, fits) = asked_so (l.1.1.0 refl) refl refl refl in ⊎_elim (λ r. let e : ◌≡◌ {A = ℕ} 1 0 = refused_cas r.1 s in omega (arith, e)) (λ m. let e : ◌≡◌ {A = ℕ} 9 7 = ap first_byte (key_is m) in omega (arith, e)) fits
 
 pub seqnos : LawfulBy for_seqnos [] (writes SET 0 7 8) (makes one_change ∷ stores SET 1 (seqno_extras 5 1) ∷ [])
 unfolding spelling frames_in first_frame frame_of read_of frame_row shape_fault request_of requirement_of
@@ -191,19 +191,19 @@ seqnos = makes_one _ ▹ (λ z. kv_answer (reply_frame (stored_answer SET 9 1 (s
 
 pub untold : LawfulBy for_seqnos [] (writes SET 0 7 8) (makes one_change ∷ stores SET 1 [] ∷ []) → ⊥
 unfolding spelling frames_in first_frame frame_of read_of frame_row shape_fault request_of requirement_of
-untold l = let (g, s, fits) = asked_so (l.1.0 refl) refl refl refl in ⊎_elim (λ r. let e : ◌≡◌ {A = ℕ} 1 0 = refused_cas r s in omega (arith, e)) (λ m. let e : ◌≡◌ {A = ℕ} 0 16 = ap (byte_at 11) (told_is m s) in omega (arith, e)) fits
+untold l = let (g, s, fits) = asked_so (l.1.0 refl) refl refl refl in ⊎_elim (λ r. let e : ◌≡◌ {A = ℕ} 1 0 = refused_cas r.1 s in omega (arith, e)) (λ m. let e : ◌≡◌ {A = ℕ} 0 16 = ap (byte_at 11) (told_is m s) in omega (arith, e)) fits
 
 pub branch : LawfulBy for_seqnos [] (writes SET 0 7 8) (makes one_change ∷ stores SET 1 (seqno_extras 6 1) ∷ []) → ⊥
 unfolding spelling frames_in first_frame frame_of read_of frame_row shape_fault request_of requirement_of
-branch l = let (g, s, fits) = asked_so (l.1.0 refl) refl refl refl in ⊎_elim (λ r. let e : ◌≡◌ {A = ℕ} 1 0 = refused_cas r s in omega (arith, e)) (λ m. let e : ◌≡◌ {A = ℕ} 6 5 = ap (byte_at 31) (told_is m s) in omega (arith, e)) fits
+branch l = let (g, s, fits) = asked_so (l.1.0 refl) refl refl refl in ⊎_elim (λ r. let e : ◌≡◌ {A = ℕ} 1 0 = refused_cas r.1 s in omega (arith, e)) (λ m. let e : ◌≡◌ {A = ℕ} 6 5 = ap (byte_at 31) (told_is m s) in omega (arith, e)) fits
 
 pub seqno : LawfulBy for_seqnos [] (writes SET 0 7 8) (makes one_change ∷ stores SET 1 (seqno_extras 5 2) ∷ []) → ⊥
 unfolding spelling frames_in first_frame frame_of read_of frame_row shape_fault request_of requirement_of
-seqno l = let (g, s, fits) = asked_so (l.1.0 refl) refl refl refl in ⊎_elim (λ r. let e : ◌≡◌ {A = ℕ} 1 0 = refused_cas r s in omega (arith, e)) (λ m. let e : ◌≡◌ {A = ℕ} 2 1 = ap (byte_at 39) (told_is m s) in omega (arith, e)) fits
+seqno l = let (g, s, fits) = asked_so (l.1.0 refl) refl refl refl in ⊎_elim (λ r. let e : ◌≡◌ {A = ℕ} 1 0 = refused_cas r.1 s in omega (arith, e)) (λ m. let e : ◌≡◌ {A = ℕ} 2 1 = ap (byte_at 39) (told_is m s) in omega (arith, e)) fits
 
 pub unasked : LawfulTo [] (writes SET 0 7 8) (makes one_change ∷ stores SET 1 (seqno_extras 5 1) ∷ []) → ⊥
 unfolding spelling frames_in first_frame frame_of read_of frame_row shape_fault request_of requirement_of
-unasked l = let (g, s, fits) = asked_so (l.1.0 refl) refl refl refl in ⊎_elim (λ r. let e : ◌≡◌ {A = ℕ} 1 0 = refused_cas r s in omega (arith, e)) (λ m. let e : ◌≡◌ {A = ℕ} 16 0 = ap (byte_at 11) (told_is m s) in omega (arith, e)) fits
+unasked l = let (g, s, fits) = asked_so (l.1.0 refl) refl refl refl in ⊎_elim (λ r. let e : ◌≡◌ {A = ℕ} 1 0 = refused_cas r.1 s in omega (arith, e)) (λ m. let e : ◌≡◌ {A = ℕ} 16 0 = ap (byte_at 11) (told_is m s) in omega (arith, e)) fits
 
 pub fits : LawfulTo once (writes SET 1 7 4) (makes newer ∷ stores SET 2 [] ∷ [])
 unfolding spelling frames_in first_frame frame_of read_of frame_row shape_fault request_of requirement_of
@@ -211,7 +211,7 @@ fits = makes_newer _ ▹ (λ z. kv_answer (reply_frame (stored_answer SET 9 2 ([
 
 pub unfit : LawfulTo once (writes SET 3 7 4) (makes newer ∷ stores SET 2 [] ∷ []) → ⊥
 unfolding spelling frames_in first_frame frame_of read_of frame_row shape_fault request_of requirement_of
-unfit l = let (g, s, fits) = asked_so (l.1.0 refl) refl refl refl in ⊎_elim (λ r. let e : ◌≡◌ {A = ℕ} 2 0 = refused_cas r s in omega (arith, e)) (λ m. let e : Some status.KeyEexists ≡ None = ap (doc_refusal op.Set 3) (sym (seven_there (first_doc 1 (8 ∷ [])))) ∙ fits_is m once refl in cc) fits
+unfit l = let (g, s, fits) = asked_so (l.1.0 refl) refl refl refl in ⊎_elim (λ r. let e : ◌≡◌ {A = ℕ} 2 0 = refused_cas r.1 s in omega (arith, e)) (λ m. let e : Some status.KeyEexists ≡ None = ap (doc_refusal op.Set 3) (sym (seven_there (first_doc 1 (8 ∷ [])))) ∙ fits_is m once refl in cc) fits
 
 pub adds : LawfulTo [] (writes ADD 0 7 8) (makes one_change ∷ stores ADD 1 [] ∷ [])
 unfolding spelling frames_in first_frame frame_of read_of frame_row shape_fault request_of requirement_of
@@ -219,7 +219,7 @@ adds = makes_one _ ▹ (λ z. kv_answer (reply_frame (stored_answer ADD 9 1 ([])
 
 pub adds_again : LawfulTo once (writes ADD 0 7 4) (makes newer ∷ stores ADD 2 [] ∷ []) → ⊥
 unfolding spelling frames_in first_frame frame_of read_of frame_row shape_fault request_of requirement_of
-adds_again l = let (g, s, fits) = asked_so (l.1.0 refl) refl refl refl in ⊎_elim (λ r. let e : ◌≡◌ {A = ℕ} 2 0 = refused_cas r s in omega (arith, e)) (λ m. let e : Some status.KeyEexists ≡ None = ap (doc_refusal op.Add 0) (sym (seven_there (first_doc 1 (8 ∷ [])))) ∙ fits_is m once refl in cc) fits
+adds_again l = let (g, s, fits) = asked_so (l.1.0 refl) refl refl refl in ⊎_elim (λ r. let e : ◌≡◌ {A = ℕ} 2 0 = refused_cas r.1 s in omega (arith, e)) (λ m. let e : Some status.KeyEexists ≡ None = ap (doc_refusal op.Add 0) (sym (seven_there (first_doc 1 (8 ∷ [])))) ∙ fits_is m once refl in cc) fits
 
 pub replaces : LawfulTo once (writes REPLACE 0 7 4) (makes newer ∷ stores REPLACE 2 [] ∷ [])
 unfolding spelling frames_in first_frame frame_of read_of frame_row shape_fault request_of requirement_of
@@ -227,7 +227,7 @@ replaces = makes_newer _ ▹ (λ z. kv_answer (reply_frame (stored_answer REPLAC
 
 pub replaces_none : LawfulTo [] (writes REPLACE 0 7 8) (makes one_change ∷ stores REPLACE 1 [] ∷ []) → ⊥
 unfolding spelling frames_in first_frame frame_of read_of frame_row shape_fault request_of requirement_of
-replaces_none l = let (g, s, fits) = asked_so (l.1.0 refl) refl refl refl in ⊎_elim (λ r. let e : ◌≡◌ {A = ℕ} 1 0 = refused_cas r s in omega (arith, e)) (λ m. let e : Some status.KeyEnoent ≡ None = ap (doc_refusal op.Replace 0) (sym (none_stored (7 ∷ []))) ∙ fits_is m [] refl in cc) fits
+replaces_none l = let (g, s, fits) = asked_so (l.1.0 refl) refl refl refl in ⊎_elim (λ r. let e : ◌≡◌ {A = ℕ} 1 0 = refused_cas r.1 s in omega (arith, e)) (λ m. let e : Some status.KeyEnoent ≡ None = ap (doc_refusal op.Replace 0) (sym (none_stored (7 ∷ []))) ∙ fits_is m [] refl in cc) fits
 
 pub removed : LawfulTo once (removes 7) (makes removal ∷ stores DELETE 2 [] ∷ [])
 unfolding spelling frames_in first_frame frame_of read_of frame_row shape_fault request_of requirement_of
@@ -235,7 +235,7 @@ removed = makes_removal _ ▹ (λ z. kv_answer (reply_frame (stored_answer DELET
 
 pub prepared_only : LawfulTo once (writes SET 0 9 6) (makes prepare_made ∷ stores SET 2 [] ∷ []) → ⊥
 unfolding spelling frames_in first_frame frame_of read_of frame_row shape_fault request_of requirement_of
-prepared_only l = let (g, s, fits) = asked_so (l.1.0 refl) refl refl refl in ⊎_elim (λ r. let e : ◌≡◌ {A = ℕ} 2 0 = refused_cas r s in omega (arith, e)) (λ m. let e : prepare_made.act ≡ act.Set _ = act_is m in cc) fits
+prepared_only l = let (g, s, fits) = asked_so (l.1.0 refl) refl refl refl in ⊎_elim (λ r. let e : ◌≡◌ {A = ℕ} 2 0 = refused_cas r.1 s in omega (arith, e)) (λ m. let e : prepare_made.act ≡ act.Set _ = act_is m in cc) fits
 
 pub locked : LawfulTo pending (writes SET 0 9 4) (makes over_prepare ∷ stores SET 3 [] ∷ []) → ⊥
 unfolding spelling frames_in first_frame frame_of read_of frame_row shape_fault request_of requirement_of

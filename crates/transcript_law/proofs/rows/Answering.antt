@@ -1,5 +1,5 @@
 -- answers to clients, and the questions that they answer
-use Rattle.std.proofs.Common.{Bool, List, [], ap, inl, inr, refl, subst, sym, true, false, ℕ, ⊎_elim, ◌++◌, ◌∙◌, ◌∷◌, ◌≡◌}
+use Rattle.std.proofs.Common.{Bool, List, [], ap, inl, inr, refl, subst, sym, true, false, ℕ, ⊎_elim, ◌∙◌, ◌∷◌, ◌≡◌}
 use Rattle.std.specs.Prelude.{Ok, Result, Some, None, if◌then◌else◌, slice_index}
 use Rattle.client_session.specs.Serving.{is_dcp}
 use Rattle.mcbp_frame.specs.Cutting.{front_fault}

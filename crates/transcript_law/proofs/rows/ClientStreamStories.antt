@@ -116,9 +116,9 @@ pub story : LawfulStory (indexed all_lines)
 unfolding spelling dcp_frame frames_in first_frame frame_of read_of frame_row shape_fault
 story = (
   (refl, λ z. dcp_answer (dcp_frame (msg.OpenAnswer 0) 1 0) refl refl refl refl refl)
-  ▹ (refl, λ z. dcp_answer (dcp_frame (msg.ControlAnswer 0) 2 0) refl refl refl refl refl)
-  ▹ (refl, λ z. dcp_answer (dcp_frame (msg.ControlAnswer 0) 3 0) refl refl refl refl refl)
-  ▹ record { own_node = refl; request = _; next = refl; numbers = refl; vb = refl; answered = asked_right _; own = refuses_none; reason = fair (record { opened = true; sync = true; named = true }) None no_stream (up_to 2) (omega arith, omega arith, omega arith); frame = ([], refl) } ▹ (refl, λ z. dcp_answer (answer_of ask_answer.Go) refl refl refl refl refl) ▹ tt,
+      ▹ (refl, λ z. dcp_answer (dcp_frame (msg.ControlAnswer 0) 2 0) refl refl refl refl refl)
+      ▹ (refl, λ z. dcp_answer (dcp_frame (msg.ControlAnswer 0) 3 0) refl refl refl refl refl)
+      ▹ record { own_node = refl; request = _; next = refl; numbers = refl; vb = refl; answered = asked_right _; own = refuses_none; reason = fair (record { opened = true; sync = true; named = true }) None no_stream (up_to 2) (omega arith, omega arith, omega arith); frame = ([], refl) } ▹ (refl, λ z. dcp_answer (answer_of ask_answer.Go) refl refl refl refl refl) ▹ tt,
   refl,
   refl,
   refl,
