@@ -1,5 +1,5 @@
 -- writes that are told made, judged by hand
-use Rattle.std.proofs.Common.{List, [], ap, arith, inr, refl, sym, ℕ, ⊎_elim, ◌++◌, ◌∙◌, ◌∷◌, ◌≡◌}
+use Rattle.std.proofs.Common.{Bool, List, [], ap, arith, inr, refl, sym, ℕ, ⊎_elim, ◌++◌, ◌∙◌, ◌∷◌, ◌≡◌}
 use Rattle.std.specs.FinMap.{get}
 use Rattle.std.specs.Prelude.{Option, Some, None, option_map}
 unfoldable use Rattle.mcbp_dcp.specs.Messages.{read_of}
