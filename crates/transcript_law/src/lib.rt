@@ -4,7 +4,6 @@
 #![tactic(auto)]
 
 mod alone;
-mod answers;
 mod asked;
 mod balances;
 mod bound;
@@ -21,6 +20,7 @@ mod firings;
 mod judged;
 mod kinds;
 mod lawful;
+mod replies;
 mod steps;
 mod streams;
 mod tellings;
@@ -28,10 +28,6 @@ mod undone;
 mod untold;
 
 pub use alone::{judged_single_changes, judged_single_links, judged_single_streams};
-pub use answers::{
-    judged_answer_lines, judged_durables, judged_faults, judged_greetings, judged_questions,
-    judged_reads, judged_refused_writes, judged_writes,
-};
 pub use asked::{judged_link_ends, judged_start_ids, judged_told_answers, judged_turns};
 pub use balances::{balances_in_numbers, windows_balance};
 pub use bound::{judged_closed_links, judged_down_lines};
@@ -59,6 +55,10 @@ pub use judged::{
 };
 pub use kinds::{judged_firing_lines, judged_journal_lines, judged_kinds};
 pub use lawful::{groups_are_lawful, lines_are_known, set_lines_ask};
+pub use replies::{
+    judged_answer_lines, judged_durables, judged_faults, judged_greetings, judged_questions,
+    judged_reads, judged_refused_writes, judged_writes,
+};
 pub use steps::plain_lines;
 pub use streams::streams_are_fed;
 pub use tellings::{judged_fed_links, judged_linked_streams, judged_other_lines, judged_own_lines};

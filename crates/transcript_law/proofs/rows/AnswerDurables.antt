@@ -18,17 +18,16 @@ use Rattle.transcript_law.specs.ClientStreamRows.{durable}
 use Rattle.transcript_law.proofs.rows.AnswerRefusals.{status_byte, unfit_is, why_away, why_unfit}
 use Rattle.transcript_law.proofs.rows.AnswerWrites.{no_made, refused_cas}
 use Rattle.transcript_law.proofs.rows.Answering.{asked_so, bare_bytes, bare_so, byte_at, kv_answer, stored_bytes, stored_so}
-use Rattle.transcript_law.proofs.rows.ClientStreams.{◌▹◌}
 use Rattle.transcript_law.proofs.rows.ClientStreamVerdicts.{no_active}
 use Rattle.transcript_law.proofs.rows.NextRows.{none_pending, none_stored}
 
 pub impossible : LawfulAmong (None ∷ []) (durably 1 7 8) (says SET status.DurabilityImpossible ∷ [])
 unfolding spelling frames_in first_frame frame_of read_of frame_row shape_fault request_of requirement_of
-impossible = (λ z. kv_answer (reply_frame (bare_answer SET status.DurabilityImpossible 9)) refl refl refl refl refl refl (inl (status.DurabilityImpossible, bare_so SET 9 status.DurabilityImpossible, why_unfit refl (none_pending (7 ∷ [])) (inr (inr (refl, refl)))))) ▹ tt
+impossible = (λ z. inl (record { question = _; next = refl; answer = reply_frame (bare_answer SET status.DurabilityImpossible 9); spelled = refl; response = refl; opcode = refl; opaque = refl; fits = inr (inl (status.DurabilityImpossible, bare_so SET 9 status.DurabilityImpossible, why_unfit refl (none_pending (7 ∷ [])) (inr (inr (refl, refl))))) }), tt)
 
 pub possible : LawfulTo [] (durably 1 7 8) (says SET status.DurabilityImpossible ∷ []) → ⊥
 unfolding spelling frames_in first_frame frame_of read_of frame_row shape_fault request_of requirement_of
-possible l = let (g, s, fits) = asked_so (l.0 refl) refl refl refl in ⊎_elim (λ r. ⊎_elim (λ d. let z : None ≡ Some r.0 = d in cc) (λ b. ⊎_elim (λ full. let e : ◌≡◌ {A = ℕ} 161 134 = status_byte status.Etmpfail r.1 s full in omega (arith, e)) (λ no. let z : true ≡ false = no.0 in cc) b) (unfit_is r.2 refl (none_pending (7 ∷ [])) (none_stored (7 ∷ [])))) (λ o. ⊎_elim (λ c. let e : ◌≡◌ {A = ℕ} 161 0 = ap (byte_at 7) (stored_bytes c.told s) in omega (arith, e)) (λ a. let e : ◌≡◌ {A = ℕ} 161 163 = ap (byte_at 7) (bare_bytes a s) in omega (arith, e)) o) fits
+possible l = let (g, s, fits) = asked_so (l.0 refl) refl refl refl in ⊎_elim (λ a. let e : ◌≡◌ {A = ℕ} 161 134 = ap (byte_at 7) (bare_bytes a s) in omega (arith, e)) (λ x. ⊎_elim (λ r. ⊎_elim (λ d. let z : None ≡ Some r.0 = d in cc) (λ b. ⊎_elim (λ full. let e : ◌≡◌ {A = ℕ} 161 134 = status_byte status.Etmpfail r.1 s full in omega (arith, e)) (λ no. let z : true ≡ false = no.0 in cc) b) (unfit_is r.2 refl (none_pending (7 ∷ [])) (none_stored (7 ∷ [])))) (λ o. ⊎_elim (λ c. let e : ◌≡◌ {A = ℕ} 161 0 = ap (byte_at 7) (stored_bytes c.told s) in omega (arith, e)) (λ a. let e : ◌≡◌ {A = ℕ} 161 163 = ap (byte_at 7) (bare_bytes a s) in omega (arith, e)) o) x) fits
 
 pub plain_impossible : LawfulAmong (None ∷ []) (writes SET 0 7 8) (says SET status.DurabilityImpossible ∷ []) → ⊥
 unfolding spelling frames_in first_frame frame_of read_of frame_row shape_fault request_of requirement_of
@@ -36,7 +35,7 @@ plain_impossible l = let (g, s, fits) = asked_so (l.0 refl) refl refl refl in �
 
 pub ambiguous : LawfulTo [] (durably 1 7 8) (says SET status.SyncWriteAmbiguous ∷ [])
 unfolding spelling frames_in first_frame frame_of read_of frame_row shape_fault request_of requirement_of
-ambiguous = (λ z. kv_answer (reply_frame (bare_answer SET status.SyncWriteAmbiguous 9)) refl refl refl refl refl refl (inr (inr (bare_so SET 9 status.SyncWriteAmbiguous)))) ▹ tt
+ambiguous = (λ z. inl (record { question = _; next = refl; answer = reply_frame (bare_answer SET status.SyncWriteAmbiguous 9); spelled = refl; response = refl; opcode = refl; opaque = refl; fits = inr (inr (inr (bare_so SET 9 status.SyncWriteAmbiguous))) }), tt)
 
 pub plain_ambiguous : LawfulTo [] (writes SET 0 7 8) (says SET status.SyncWriteAmbiguous ∷ []) → ⊥
 unfolding spelling frames_in first_frame frame_of read_of frame_row shape_fault request_of requirement_of
@@ -44,11 +43,11 @@ plain_ambiguous l = let (g, s, fits) = asked_so (l.0 refl) refl refl refl in ⊎
 
 pub committed : LawfulTo durable (durably 1 9 6) (stores SET 2 [] ∷ [])
 unfolding spelling frames_in first_frame frame_of read_of frame_row shape_fault request_of requirement_of
-committed = (λ z. kv_answer (reply_frame (stored_answer SET 9 2 [])) refl refl refl refl refl refl (inr (inl (record { branch = 5; seq = 3; cas = 2; told = stored_so SET 9 2 [] })))) ▹ tt
+committed = (λ z. inl (record { question = _; next = refl; answer = reply_frame (stored_answer SET 9 2 []); spelled = refl; response = refl; opcode = refl; opaque = refl; fits = inr (inr (inl (record { branch = 5; seq = 3; cas = 2; told = stored_so SET 9 2 [] }))) }), tt)
 
 pub told : LawfulTo durable (durably 1 9 6) (stores SET 2 (seqno_extras 5 3) ∷ []) → ⊥
 unfolding spelling frames_in first_frame frame_of read_of frame_row shape_fault request_of requirement_of
-told l = let (g, s, fits) = asked_so (l.0 refl) refl refl refl in ⊎_elim (λ r. let e : ◌≡◌ {A = ℕ} 2 0 = refused_cas r.1 s in omega (arith, e)) (λ o. ⊎_elim (λ c. let e : ◌≡◌ {A = ℕ} 16 0 = ap (byte_at 11) (stored_bytes c.told s) in omega (arith, e)) (λ a. let e : ◌≡◌ {A = ℕ} 0 163 = ap (byte_at 7) (bare_bytes a s) in omega (arith, e)) o) fits
+told l = let (g, s, fits) = asked_so (l.0 refl) refl refl refl in ⊎_elim (λ a. let e : ◌≡◌ {A = ℕ} 2 0 = refused_cas a s in omega (arith, e)) (λ x. ⊎_elim (λ r. let e : ◌≡◌ {A = ℕ} 2 0 = refused_cas r.1 s in omega (arith, e)) (λ o. ⊎_elim (λ c. let e : ◌≡◌ {A = ℕ} 16 0 = ap (byte_at 11) (stored_bytes c.told s) in omega (arith, e)) (λ a. let e : ◌≡◌ {A = ℕ} 0 163 = ap (byte_at 7) (bare_bytes a s) in omega (arith, e)) o) x) fits
 
 pub plain_committed : LawfulTo durable (writes SET 0 9 6) (stores SET 2 [] ∷ []) → ⊥
 unfolding spelling frames_in first_frame frame_of read_of frame_row shape_fault request_of requirement_of
@@ -56,20 +55,28 @@ plain_committed l = let (g, s, fits) = asked_so (l.0 refl) refl refl refl in ⊎
 
 pub away : LawfulAway [] (durably 1 7 8) (says SET status.NotMyVbucket ∷ [])
 unfolding spelling frames_in first_frame frame_of read_of frame_row shape_fault request_of requirement_of
-away = (λ z. kv_answer (reply_frame (bare_answer SET status.NotMyVbucket 9)) refl refl refl refl refl refl (inl (status.NotMyVbucket, bare_so SET 9 status.NotMyVbucket, why_away no_active))) ▹ tt
+away = (λ z. inl (record { question = _; next = refl; answer = reply_frame (bare_answer SET status.NotMyVbucket 9); spelled = refl; response = refl; opcode = refl; opaque = refl; fits = inr (inl (status.NotMyVbucket, bare_so SET 9 status.NotMyVbucket, why_away no_active)) }), tt)
 
 pub active : LawfulTo [] (durably 1 7 8) (says SET status.NotMyVbucket ∷ []) → ⊥
 unfolding spelling frames_in first_frame frame_of read_of frame_row shape_fault request_of requirement_of
-active l = let (g, s, fits) = asked_so (l.0 refl) refl refl refl in ⊎_elim (λ r. ⊎_elim (λ d. let z : None ≡ Some r.0 = d in cc) (λ b. ⊎_elim (λ full. let e : ◌≡◌ {A = ℕ} 7 134 = status_byte status.Etmpfail r.1 s full in omega (arith, e)) (λ no. let z : true ≡ false = no.0 in cc) b) (unfit_is r.2 refl (none_pending (7 ∷ [])) (none_stored (7 ∷ [])))) (λ o. ⊎_elim (λ c. let e : ◌≡◌ {A = ℕ} 7 0 = ap (byte_at 7) (stored_bytes c.told s) in omega (arith, e)) (λ a. let e : ◌≡◌ {A = ℕ} 7 163 = ap (byte_at 7) (bare_bytes a s) in omega (arith, e)) o) fits
+active l = let (g, s, fits) = asked_so (l.0 refl) refl refl refl in ⊎_elim (λ a. let e : ◌≡◌ {A = ℕ} 7 134 = ap (byte_at 7) (bare_bytes a s) in omega (arith, e)) (λ x. ⊎_elim (λ r. ⊎_elim (λ d. let z : None ≡ Some r.0 = d in cc) (λ b. ⊎_elim (λ full. let e : ◌≡◌ {A = ℕ} 7 134 = status_byte status.Etmpfail r.1 s full in omega (arith, e)) (λ no. let z : true ≡ false = no.0 in cc) b) (unfit_is r.2 refl (none_pending (7 ∷ [])) (none_stored (7 ∷ [])))) (λ o. ⊎_elim (λ c. let e : ◌≡◌ {A = ℕ} 7 0 = ap (byte_at 7) (stored_bytes c.told s) in omega (arith, e)) (λ a. let e : ◌≡◌ {A = ℕ} 7 163 = ap (byte_at 7) (bare_bytes a s) in omega (arith, e)) o) x) fits
 
 pub other : LawfulTo [] (durably 1 7 8) (says SET status.KeyEnoent ∷ []) → ⊥
 unfolding spelling frames_in first_frame frame_of read_of frame_row shape_fault request_of requirement_of
-other l = let (g, s, fits) = asked_so (l.0 refl) refl refl refl in ⊎_elim (λ r. ⊎_elim (λ d. let z : None ≡ Some r.0 = d in cc) (λ b. ⊎_elim (λ full. let e : ◌≡◌ {A = ℕ} 1 134 = status_byte status.Etmpfail r.1 s full in omega (arith, e)) (λ no. let z : true ≡ false = no.0 in cc) b) (unfit_is r.2 refl (none_pending (7 ∷ [])) (none_stored (7 ∷ [])))) (λ o. ⊎_elim (λ c. let e : ◌≡◌ {A = ℕ} 1 0 = ap (byte_at 7) (stored_bytes c.told s) in omega (arith, e)) (λ a. let e : ◌≡◌ {A = ℕ} 1 163 = ap (byte_at 7) (bare_bytes a s) in omega (arith, e)) o) fits
+other l = let (g, s, fits) = asked_so (l.0 refl) refl refl refl in ⊎_elim (λ a. let e : ◌≡◌ {A = ℕ} 1 134 = ap (byte_at 7) (bare_bytes a s) in omega (arith, e)) (λ x. ⊎_elim (λ r. ⊎_elim (λ d. let z : None ≡ Some r.0 = d in cc) (λ b. ⊎_elim (λ full. let e : ◌≡◌ {A = ℕ} 1 134 = status_byte status.Etmpfail r.1 s full in omega (arith, e)) (λ no. let z : true ≡ false = no.0 in cc) b) (unfit_is r.2 refl (none_pending (7 ∷ [])) (none_stored (7 ∷ [])))) (λ o. ⊎_elim (λ c. let e : ◌≡◌ {A = ℕ} 1 0 = ap (byte_at 7) (stored_bytes c.told s) in omega (arith, e)) (λ a. let e : ◌≡◌ {A = ℕ} 1 163 = ap (byte_at 7) (bare_bytes a s) in omega (arith, e)) o) x) fits
+
+pub spent : LawfulTo [] (durably 1 7 8) (says SET status.Etmpfail ∷ [])
+unfolding spelling frames_in first_frame frame_of read_of frame_row shape_fault request_of requirement_of
+spent = (λ z. inl (record { question = _; next = refl; answer = reply_frame (bare_answer SET status.Etmpfail 9); spelled = refl; response = refl; opcode = refl; opaque = refl; fits = inl (bare_so SET 9 status.Etmpfail) }), tt)
+
+pub spent_away : LawfulAway [] (durably 1 7 8) (says SET status.Etmpfail ∷ [])
+unfolding spelling frames_in first_frame frame_of read_of frame_row shape_fault request_of requirement_of
+spent_away = (λ z. inl (record { question = _; next = refl; answer = reply_frame (bare_answer SET status.Etmpfail 9); spelled = refl; response = refl; opcode = refl; opaque = refl; fits = inl (bare_so SET 9 status.Etmpfail) }), tt)
 
 pub no_level : LawfulTo [] (durably 4 7 8) (says SET status.DurabilityInvalidLevel ∷ [])
 unfolding spelling frames_in first_frame frame_of read_of frame_row shape_fault request_of requirement_of
-no_level = (λ z. kv_answer (reply_frame (bare_answer SET status.DurabilityInvalidLevel 9)) refl refl refl refl refl refl (bare_so SET 9 status.DurabilityInvalidLevel)) ▹ tt
+no_level = (λ z. kv_answer (reply_frame (bare_answer SET status.DurabilityInvalidLevel 9)) refl refl refl refl refl refl (bare_so SET 9 status.DurabilityInvalidLevel), tt)
 
 pub level : LawfulTo [] (durably 3 7 8) (says SET status.DurabilityInvalidLevel ∷ []) → ⊥
 unfolding spelling frames_in first_frame frame_of read_of frame_row shape_fault request_of requirement_of
-level l = let (g, s, fits) = asked_so (l.0 refl) refl refl refl in ⊎_elim (λ r. ⊎_elim (λ d. let z : None ≡ Some r.0 = d in cc) (λ b. ⊎_elim (λ full. let e : ◌≡◌ {A = ℕ} 160 134 = status_byte status.Etmpfail r.1 s full in omega (arith, e)) (λ no. let z : true ≡ false = no.0 in cc) b) (unfit_is r.2 refl (none_pending (7 ∷ [])) (none_stored (7 ∷ [])))) (λ o. ⊎_elim (λ c. let e : ◌≡◌ {A = ℕ} 160 0 = ap (byte_at 7) (stored_bytes c.told s) in omega (arith, e)) (λ a. let e : ◌≡◌ {A = ℕ} 160 163 = ap (byte_at 7) (bare_bytes a s) in omega (arith, e)) o) fits
+level l = let (g, s, fits) = asked_so (l.0 refl) refl refl refl in ⊎_elim (λ a. let e : ◌≡◌ {A = ℕ} 160 134 = ap (byte_at 7) (bare_bytes a s) in omega (arith, e)) (λ x. ⊎_elim (λ r. ⊎_elim (λ d. let z : None ≡ Some r.0 = d in cc) (λ b. ⊎_elim (λ full. let e : ◌≡◌ {A = ℕ} 160 134 = status_byte status.Etmpfail r.1 s full in omega (arith, e)) (λ no. let z : true ≡ false = no.0 in cc) b) (unfit_is r.2 refl (none_pending (7 ∷ [])) (none_stored (7 ∷ [])))) (λ o. ⊎_elim (λ c. let e : ◌≡◌ {A = ℕ} 160 0 = ap (byte_at 7) (stored_bytes c.told s) in omega (arith, e)) (λ a. let e : ◌≡◌ {A = ℕ} 160 163 = ap (byte_at 7) (bare_bytes a s) in omega (arith, e)) o) x) fits

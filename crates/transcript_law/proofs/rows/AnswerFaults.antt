@@ -18,7 +18,6 @@ use Rattle.vb_types.specs.declared.status.Status.TheVariants as status
 use Rattle.transcript_law.specs.AnswerRows.{LawfulTo, answers, broken, says, sends, shuts, shuts_other, strange}
 use Rattle.transcript_law.specs.ClientRows.{noop}
 use Rattle.transcript_law.proofs.rows.Answering.{asked_so, bare_bytes, byte_at, fault_answer, fault_bytes, faulted, no_question, noop_answer, unnamed_fault}
-use Rattle.transcript_law.proofs.rows.ClientStreams.{◌▹◌}
 
 -- another line stands there than the one that tells of the end
 no_line : (more : List Event) → [] ≡ event.Closed 0 1 ∷ more → ⊥
@@ -29,7 +28,7 @@ no_other rest more e = let n : ◌≡◌ {A = ℕ} 2 1 = cc in omega (arith, n)
 
 pub closes : LawfulTo [] broken (says NOOP status.Einval ∷ shuts ∷ [])
 unfolding spelling frames_in first_frame frame_of read_of frame_row shape_fault request_of requirement_of
-closes = (λ z. fault_answer BadLengths (record { opcode = 10; opaque = 9 }) refl refl refl) ▹ tt ▹ tt
+closes = (λ z. fault_answer BadLengths (record { opcode = 10; opaque = 9 }) refl refl refl, (tt, tt))
 
 pub stays : LawfulTo [] broken (says NOOP status.Einval ∷ []) → ⊥
 unfolding spelling frames_in first_frame frame_of read_of frame_row shape_fault request_of requirement_of
@@ -53,7 +52,7 @@ success l = let e : ◌≡◌ {A = ℕ} 0 4 = ap (byte_at 7) (fault_bytes (fault
 
 pub behind : LawfulTo [] (noop 9 ++ broken) (answers 9 ∷ says NOOP status.Einval ∷ shuts ∷ [])
 unfolding spelling frames_in first_frame frame_of read_of frame_row shape_fault request_of requirement_of
-behind = (λ z. noop_answer 9 refl refl refl refl) ▹ (λ z. fault_answer BadLengths (record { opcode = 10; opaque = 9 }) refl refl refl) ▹ tt ▹ tt
+behind = (λ z. noop_answer 9 refl refl refl refl, (λ z. fault_answer BadLengths (record { opcode = 10; opaque = 9 }) refl refl refl, (tt, tt)))
 
 pub early : LawfulTo [] (noop 9 ++ broken) (says NOOP status.Einval ∷ shuts ∷ []) → ⊥
 unfolding spelling frames_in first_frame frame_of read_of frame_row shape_fault request_of requirement_of

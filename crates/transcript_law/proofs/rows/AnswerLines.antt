@@ -1,5 +1,5 @@
 -- groups with answers to clients, judged by hand
-use Rattle.std.proofs.Common.{[], ap, arith, inr, refl, take, drop, ℕ, ⊎_elim, ◌++◌, ◌∷◌, ◌≡◌}
+use Rattle.std.proofs.Common.{[], ap, arith, inl, inr, refl, take, drop, ℕ, ⊎_elim, ◌++◌, ◌∷◌, ◌≡◌}
 unfoldable use Rattle.mcbp_dcp.specs.Messages.{read_of}
 unfoldable use Rattle.mcbp_dcp.specs.Rows.{frame_row}
 unfoldable use Rattle.mcbp_dcp.specs.Shapes.{shape_fault}
@@ -19,7 +19,7 @@ use Rattle.transcript_law.specs.ClientRows.{LawfulOpened, asks, hangs, noop, noo
 use Rattle.transcript_law.specs.Crashes.{ok}
 use Rattle.transcript_law.specs.Transcripts.{one_change}
 use Rattle.transcript_law.proofs.rows.AnswerWrites.{makes_one, no_made, refused_cas}
-use Rattle.transcript_law.proofs.rows.Answering.{asked_so, bare_bytes, byte_at, kv_answer, no_question, noop_answer, stored_so}
+use Rattle.transcript_law.proofs.rows.Answering.{asked_so, bare_bytes, byte_at, no_question, noop_answer, stored_so}
 use Rattle.transcript_law.proofs.rows.NextRows.{none_stored}
 
 pub here : LawfulNext [] (comes (noop 9)) (ok (answers 9 ∷ []))
@@ -56,7 +56,7 @@ again l = no_question (l.1.0.0.0.1 refl) refl refl
 
 pub made : LawfulNext [] (comes (writes SET 0 7 8)) (ok (makes one_change ∷ stores SET 1 [] ∷ []))
 unfolding spelling frames_in first_frame frame_of read_of frame_row shape_fault request_of requirement_of
-made = (((makes_one _, ((refl, λ z. kv_answer (reply_frame (stored_answer SET 9 1 ([]))) refl refl refl refl refl refl (inr (record { branch = 5; change = one_change; older = []; last = refl; key = refl; cas = 1; rev = 1; act = refl; before = []; behind = refl; fits = ap (doc_refusal op.Set 0) (none_stored (7 ∷ [])); told = stored_so SET 9 1 ([]) }))), tt)), refl, refl, refl, λ w no standing. cc, refl, tt, tt), tt)
+made = (((makes_one _, ((refl, λ z. inl (record { question = _; next = refl; answer = reply_frame (stored_answer SET 9 1 []); spelled = refl; response = refl; opcode = refl; opaque = refl; fits = inr (record { branch = 5; change = one_change; older = []; last = refl; key = refl; cas = 1; rev = 1; act = refl; before = []; behind = refl; fits = ap (doc_refusal op.Set 0) (none_stored (7 ∷ [])); told = stored_so SET 9 1 [] }) })), tt)), refl, refl, refl, λ w no standing. cc, refl, tt, tt), tt)
 
 pub made_before : LawfulTicks (writes SET 0 7 8) (ok (makes one_change ∷ []) ∷ ok (stores SET 1 [] ∷ []) ∷ []) → ⊥
 unfolding spelling frames_in first_frame frame_of read_of frame_row shape_fault request_of requirement_of

@@ -29,8 +29,7 @@ use Rattle.transcript_law.specs.LawfulAnswers.{IsLocked, IsWhyRefused}
 use Rattle.transcript_law.specs.LawfulClients.{IsActive}
 use Rattle.transcript_law.specs.Transcripts.{first_doc}
 use Rattle.transcript_law.proofs.rows.AnswerWrites.{no_made}
-use Rattle.transcript_law.proofs.rows.Answering.{asked_so, bare_bytes, bare_so, byte_at, kv_answer, response_of}
-use Rattle.transcript_law.proofs.rows.ClientStreams.{◌▹◌}
+use Rattle.transcript_law.proofs.rows.Answering.{asked_so, bare_bytes, bare_so, byte_at, response_of}
 use Rattle.transcript_law.proofs.rows.ClientStreamVerdicts.{no_active}
 use Rattle.transcript_law.proofs.rows.NextRows.{none_pending, none_stored, seven_pending, seven_there}
 use Rattle.transcript_law.proofs.rows.WaitingKeys.{nine_waits, seven_free, waits}
@@ -74,7 +73,7 @@ fits l = let (g, s, fits) = asked_so (l.0 refl) refl refl refl in ⊎_elim (λ r
 
 pub unfit : LawfulTo once (writes SET 3 7 4) (says SET status.KeyEexists ∷ [])
 unfolding spelling frames_in first_frame frame_of read_of frame_row shape_fault request_of requirement_of
-unfit = (λ z. kv_answer (reply_frame (bare_answer SET status.KeyEexists 9)) refl refl refl refl refl refl (inl (status.KeyEexists, bare_so SET 9 status.KeyEexists, why_unfit refl (seven_pending (first_doc 1 (8 ∷ [])) (7 ∷ [])) (inl (ap (doc_refusal op.Set 3) (seven_there (first_doc 1 (8 ∷ [])))))))) ▹ tt
+unfit = (λ z. inl (record { question = _; next = refl; answer = reply_frame (bare_answer SET status.KeyEexists 9); spelled = refl; response = refl; opcode = refl; opaque = refl; fits = inl (status.KeyEexists, bare_so SET 9 status.KeyEexists, why_unfit refl (seven_pending (first_doc 1 (8 ∷ [])) (7 ∷ [])) (inl (ap (doc_refusal op.Set 3) (seven_there (first_doc 1 (8 ∷ [])))))) }), tt)
 
 pub unfit_other : LawfulTo once (writes SET 3 7 4) (says SET status.KeyEnoent ∷ []) → ⊥
 unfolding spelling frames_in first_frame frame_of read_of frame_row shape_fault request_of requirement_of
@@ -86,7 +85,7 @@ adds l = let (g, s, fits) = asked_so (l.0 refl) refl refl refl in ⊎_elim (λ r
 
 pub adds_again : LawfulTo once (writes ADD 0 7 4) (says ADD status.KeyEexists ∷ [])
 unfolding spelling frames_in first_frame frame_of read_of frame_row shape_fault request_of requirement_of
-adds_again = (λ z. kv_answer (reply_frame (bare_answer ADD status.KeyEexists 9)) refl refl refl refl refl refl (inl (status.KeyEexists, bare_so ADD 9 status.KeyEexists, why_unfit refl (seven_pending (first_doc 1 (8 ∷ [])) (7 ∷ [])) (inl (ap (doc_refusal op.Add 0) (seven_there (first_doc 1 (8 ∷ [])))))))) ▹ tt
+adds_again = (λ z. inl (record { question = _; next = refl; answer = reply_frame (bare_answer ADD status.KeyEexists 9); spelled = refl; response = refl; opcode = refl; opaque = refl; fits = inl (status.KeyEexists, bare_so ADD 9 status.KeyEexists, why_unfit refl (seven_pending (first_doc 1 (8 ∷ [])) (7 ∷ [])) (inl (ap (doc_refusal op.Add 0) (seven_there (first_doc 1 (8 ∷ [])))))) }), tt)
 
 pub replaces : LawfulTo once (writes REPLACE 0 7 4) (says REPLACE status.KeyEnoent ∷ []) → ⊥
 unfolding spelling frames_in first_frame frame_of read_of frame_row shape_fault request_of requirement_of
@@ -94,11 +93,11 @@ replaces l = let (g, s, fits) = asked_so (l.0 refl) refl refl refl in ⊎_elim (
 
 pub replaces_none : LawfulTo [] (writes REPLACE 0 7 8) (says REPLACE status.KeyEnoent ∷ [])
 unfolding spelling frames_in first_frame frame_of read_of frame_row shape_fault request_of requirement_of
-replaces_none = (λ z. kv_answer (reply_frame (bare_answer REPLACE status.KeyEnoent 9)) refl refl refl refl refl refl (inl (status.KeyEnoent, bare_so REPLACE 9 status.KeyEnoent, why_unfit refl (none_pending (7 ∷ [])) (inl (ap (doc_refusal op.Replace 0) (none_stored (7 ∷ []))))))) ▹ tt
+replaces_none = (λ z. inl (record { question = _; next = refl; answer = reply_frame (bare_answer REPLACE status.KeyEnoent 9); spelled = refl; response = refl; opcode = refl; opaque = refl; fits = inl (status.KeyEnoent, bare_so REPLACE 9 status.KeyEnoent, why_unfit refl (none_pending (7 ∷ [])) (inl (ap (doc_refusal op.Replace 0) (none_stored (7 ∷ []))))) }), tt)
 
 pub removes_none : LawfulTo [] (removes 7) (says DELETE status.KeyEnoent ∷ [])
 unfolding spelling frames_in first_frame frame_of read_of frame_row shape_fault request_of requirement_of
-removes_none = (λ z. kv_answer (reply_frame (bare_answer DELETE status.KeyEnoent 9)) refl refl refl refl refl refl (inl (status.KeyEnoent, bare_so DELETE 9 status.KeyEnoent, why_unfit refl (none_pending (7 ∷ [])) (inl (ap (doc_refusal op.Delete 0) (none_stored (7 ∷ []))))))) ▹ tt
+removes_none = (λ z. inl (record { question = _; next = refl; answer = reply_frame (bare_answer DELETE status.KeyEnoent 9); spelled = refl; response = refl; opcode = refl; opaque = refl; fits = inl (status.KeyEnoent, bare_so DELETE 9 status.KeyEnoent, why_unfit refl (none_pending (7 ∷ [])) (inl (ap (doc_refusal op.Delete 0) (none_stored (7 ∷ []))))) }), tt)
 
 pub other : LawfulTo [] (writes SET 0 7 8) (says SET status.KeyEnoent ∷ []) → ⊥
 unfolding spelling frames_in first_frame frame_of read_of frame_row shape_fault request_of requirement_of
@@ -114,7 +113,7 @@ active l = let (g, s, fits) = asked_so (l.0 refl) refl refl refl in ⊎_elim (λ
 
 pub away : LawfulAway [] (writes SET 0 7 8) (says SET status.NotMyVbucket ∷ [])
 unfolding spelling frames_in first_frame frame_of read_of frame_row shape_fault request_of requirement_of
-away = (λ z. kv_answer (reply_frame (bare_answer SET status.NotMyVbucket 9)) refl refl refl refl refl refl (inl (status.NotMyVbucket, bare_so SET 9 status.NotMyVbucket, why_away no_active))) ▹ tt
+away = (λ z. inl (record { question = _; next = refl; answer = reply_frame (bare_answer SET status.NotMyVbucket 9); spelled = refl; response = refl; opcode = refl; opaque = refl; fits = inl (status.NotMyVbucket, bare_so SET 9 status.NotMyVbucket, why_away no_active) }), tt)
 
 pub away_other : LawfulAway once (writes ADD 0 7 4) (says ADD status.KeyEexists ∷ []) → ⊥
 unfolding spelling frames_in first_frame frame_of read_of frame_row shape_fault request_of requirement_of
@@ -126,7 +125,7 @@ away_full l = let (g, s, fits) = asked_so (l.0 refl) refl refl refl in ⊎_elim 
 
 pub locked : LawfulTo pending (writes SET 0 9 4) (says SET status.SyncWriteInProgress ∷ [])
 unfolding spelling frames_in first_frame frame_of read_of frame_row shape_fault request_of requirement_of
-locked = (λ z. kv_answer (reply_frame (bare_answer SET status.SyncWriteInProgress 9)) refl refl refl refl refl refl (inl (status.SyncWriteInProgress, bare_so SET 9 status.SyncWriteInProgress, why_locked refl (waits, nine_waits)))) ▹ tt
+locked = (λ z. inl (record { question = _; next = refl; answer = reply_frame (bare_answer SET status.SyncWriteInProgress 9); spelled = refl; response = refl; opcode = refl; opaque = refl; fits = inl (status.SyncWriteInProgress, bare_so SET 9 status.SyncWriteInProgress, why_locked refl (waits, nine_waits)) }), tt)
 
 pub locked_other : LawfulTo pending (writes REPLACE 0 9 4) (says REPLACE status.KeyEnoent ∷ []) → ⊥
 unfolding spelling frames_in first_frame frame_of read_of frame_row shape_fault request_of requirement_of
@@ -138,4 +137,4 @@ unlocked l = let (g, s, fits) = asked_so (l.0 refl) refl refl refl in ⊎_elim (
 
 pub full : LawfulTo [] (writes SET 0 7 8) (says SET status.Etmpfail ∷ [])
 unfolding spelling frames_in first_frame frame_of read_of frame_row shape_fault request_of requirement_of
-full = (λ z. kv_answer (reply_frame (bare_answer SET status.Etmpfail 9)) refl refl refl refl refl refl (inl (status.Etmpfail, bare_so SET 9 status.Etmpfail, why_unfit refl (none_pending (7 ∷ [])) (inr refl)))) ▹ tt
+full = (λ z. inl (record { question = _; next = refl; answer = reply_frame (bare_answer SET status.Etmpfail 9); spelled = refl; response = refl; opcode = refl; opaque = refl; fits = inl (status.Etmpfail, bare_so SET 9 status.Etmpfail, why_unfit refl (none_pending (7 ∷ [])) (inr refl)) }), tt)

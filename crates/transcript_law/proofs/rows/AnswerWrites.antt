@@ -1,5 +1,5 @@
 -- writes that are told made, judged by hand
-use Rattle.std.proofs.Common.{Bool, List, [], ap, arith, inr, refl, sym, ℕ, ⊎_elim, ◌++◌, ◌∙◌, ◌∷◌, ◌≡◌}
+use Rattle.std.proofs.Common.{Bool, List, [], ap, arith, inl, inr, refl, sym, ℕ, ⊎_elim, ◌++◌, ◌∙◌, ◌∷◌, ◌≡◌}
 use Rattle.std.specs.FinMap.{get}
 use Rattle.std.specs.Prelude.{Option, Some, None, option_map}
 unfoldable use Rattle.mcbp_dcp.specs.Messages.{read_of}
@@ -40,8 +40,7 @@ use Rattle.transcript_law.specs.Lawfulness.{LawfulChange}
 use Rattle.transcript_law.specs.LinesTold.{OwnChange}
 use Rattle.transcript_law.specs.OwnChanges.{IsNextChange}
 use Rattle.transcript_law.specs.Transcripts.{first_doc, one_change}
-use Rattle.transcript_law.proofs.rows.Answering.{asked_so, bare_bytes, byte_at, first_byte, kv_answer, response_of, stored_bytes, stored_so}
-use Rattle.transcript_law.proofs.rows.ClientStreams.{◌▹◌}
+use Rattle.transcript_law.proofs.rows.Answering.{asked_so, bare_bytes, byte_at, first_byte, response_of, stored_bytes, stored_so}
 use Rattle.transcript_law.proofs.rows.NextRows.{first_next, nine_none, none_stored, second_next, seven_next, seven_there}
 use Rattle.transcript_law.proofs.rows.WaitingKeys.{nine_waits, waits}
 
@@ -148,7 +147,7 @@ makes_removal clients = makes_more clients (act.Remove 2 2) (λ prepared doc del
 
 pub made : LawfulTo [] (writes SET 0 7 8) (makes one_change ∷ stores SET 1 [] ∷ [])
 unfolding spelling frames_in first_frame frame_of read_of frame_row shape_fault request_of requirement_of
-made = makes_one _ ▹ (λ z. kv_answer (reply_frame (stored_answer SET 9 1 ([]))) refl refl refl refl refl refl (inr (record { branch = 5; change = one_change; older = []; last = refl; key = refl; cas = 1; rev = 1; act = refl; before = []; behind = refl; fits = ap (doc_refusal op.Set 0) (none_stored (7 ∷ [])); told = stored_so SET 9 1 ([]) }))) ▹ tt
+made = (makes_one _, (λ z. inl (record { question = _; next = refl; answer = reply_frame (stored_answer SET 9 1 []); spelled = refl; response = refl; opcode = refl; opaque = refl; fits = inr (record { branch = 5; change = one_change; older = []; last = refl; key = refl; cas = 1; rev = 1; act = refl; before = []; behind = refl; fits = ap (doc_refusal op.Set 0) (none_stored (7 ∷ [])); told = stored_so SET 9 1 [] }) }), tt))
 
 pub unmade : LawfulTo [] (writes SET 0 7 8) (stores SET 1 [] ∷ []) → ⊥
 unfolding spelling frames_in first_frame frame_of read_of frame_row shape_fault request_of requirement_of
@@ -176,10 +175,7 @@ twice l = let (g, s, fits) = asked_so (l.1.1.0 refl) refl refl refl in ⊎_elim 
 
 pub each : LawfulTo [] (writes SET 0 7 8 ++ writes SET 0 9 6) (makes one_change ∷ stores SET 1 [] ∷ makes next_change ∷ stores SET 2 [] ∷ [])
 unfolding spelling frames_in first_frame frame_of read_of frame_row shape_fault request_of requirement_of
-each =
-    makes_one _ ▹ (λ z. kv_answer (reply_frame (stored_answer SET 9 1 ([]))) refl refl refl refl refl refl (inr (record { branch = 5; change = one_change; older = []; last = refl; key = refl; cas = 1; rev = 1; act = refl; before = []; behind = refl; fits = ap (doc_refusal op.Set 0) (none_stored (7 ∷ [])); told = stored_so SET 9 1 ([]) })))
-    ▹ record { active = refl; writer = record { made_or_took = refl; on_branch = refl }; above_branch = omega arith; above_forks = (λ e. omega arith, tt); made = second_next; fulfils = λ prepared doc deleted e. cc; backed = λ prepared doc deleted e. cc }
-    ▹ (λ z. kv_answer (reply_frame (stored_answer SET 9 2 ([]))) refl refl refl refl refl refl (inr (record { branch = 5; change = next_change; older = []; last = refl; key = refl; cas = 2; rev = 1; act = refl; before = once; behind = refl; fits = ap (doc_refusal op.Set 0) (nine_none (first_doc 1 (8 ∷ []))); told = stored_so SET 9 2 ([]) }))) ▹ tt
+each = (makes_one _, (λ z. inl (record { question = _; next = refl; answer = reply_frame (stored_answer SET 9 1 []); spelled = refl; response = refl; opcode = refl; opaque = refl; fits = inr (record { branch = 5; change = one_change; older = []; last = refl; key = refl; cas = 1; rev = 1; act = refl; before = []; behind = refl; fits = ap (doc_refusal op.Set 0) (none_stored (7 ∷ [])); told = stored_so SET 9 1 [] }) }), (record { active = refl; writer = record { made_or_took = refl; on_branch = refl }; above_branch = omega arith; above_forks = (λ e. omega arith, tt); made = second_next; fulfils = λ prepared doc deleted e. cc; backed = λ prepared doc deleted e. cc }, (λ z. inl (record { question = _; next = refl; answer = reply_frame (stored_answer SET 9 2 []); spelled = refl; response = refl; opcode = refl; opaque = refl; fits = inr (record { branch = 5; change = next_change; older = []; last = refl; key = refl; cas = 2; rev = 1; act = refl; before = once; behind = refl; fits = ap (doc_refusal op.Set 0) (nine_none (first_doc 1 (8 ∷ []))); told = stored_so SET 9 2 [] }) }), tt))))
 
 pub late : LawfulTo [] (writes SET 0 7 8 ++ writes SET 0 9 6) (makes one_change ∷ makes next_change ∷ stores SET 1 [] ∷ []) → ⊥
 unfolding spelling frames_in first_frame frame_of read_of frame_row shape_fault request_of requirement_of
@@ -187,7 +183,7 @@ late l = let (g, s, fits) = asked_so (l.1.1.0 refl) refl refl refl in ⊎_elim (
 
 pub seqnos : LawfulBy for_seqnos [] (writes SET 0 7 8) (makes one_change ∷ stores SET 1 (seqno_extras 5 1) ∷ [])
 unfolding spelling frames_in first_frame frame_of read_of frame_row shape_fault request_of requirement_of
-seqnos = makes_one _ ▹ (λ z. kv_answer (reply_frame (stored_answer SET 9 1 (seqno_extras 5 1))) refl refl refl refl refl refl (inr (record { branch = 5; change = one_change; older = []; last = refl; key = refl; cas = 1; rev = 1; act = refl; before = []; behind = refl; fits = ap (doc_refusal op.Set 0) (none_stored (7 ∷ [])); told = stored_so SET 9 1 (seqno_extras 5 1) }))) ▹ tt
+seqnos = (makes_one _, (λ z. inl (record { question = _; next = refl; answer = reply_frame (stored_answer SET 9 1 (seqno_extras 5 1)); spelled = refl; response = refl; opcode = refl; opaque = refl; fits = inr (record { branch = 5; change = one_change; older = []; last = refl; key = refl; cas = 1; rev = 1; act = refl; before = []; behind = refl; fits = ap (doc_refusal op.Set 0) (none_stored (7 ∷ [])); told = stored_so SET 9 1 (seqno_extras 5 1) }) }), tt))
 
 pub untold : LawfulBy for_seqnos [] (writes SET 0 7 8) (makes one_change ∷ stores SET 1 [] ∷ []) → ⊥
 unfolding spelling frames_in first_frame frame_of read_of frame_row shape_fault request_of requirement_of
@@ -207,7 +203,7 @@ unasked l = let (g, s, fits) = asked_so (l.1.0 refl) refl refl refl in ⊎_elim 
 
 pub fits : LawfulTo once (writes SET 1 7 4) (makes newer ∷ stores SET 2 [] ∷ [])
 unfolding spelling frames_in first_frame frame_of read_of frame_row shape_fault request_of requirement_of
-fits = makes_newer _ ▹ (λ z. kv_answer (reply_frame (stored_answer SET 9 2 ([]))) refl refl refl refl refl refl (inr (record { branch = 5; change = newer; older = []; last = refl; key = refl; cas = 2; rev = 2; act = refl; before = once; behind = refl; fits = ap (doc_refusal op.Set 1) (seven_there (first_doc 1 (8 ∷ []))); told = stored_so SET 9 2 ([]) }))) ▹ tt
+fits = (makes_newer _, (λ z. inl (record { question = _; next = refl; answer = reply_frame (stored_answer SET 9 2 []); spelled = refl; response = refl; opcode = refl; opaque = refl; fits = inr (record { branch = 5; change = newer; older = []; last = refl; key = refl; cas = 2; rev = 2; act = refl; before = once; behind = refl; fits = ap (doc_refusal op.Set 1) (seven_there (first_doc 1 (8 ∷ []))); told = stored_so SET 9 2 [] }) }), tt))
 
 pub unfit : LawfulTo once (writes SET 3 7 4) (makes newer ∷ stores SET 2 [] ∷ []) → ⊥
 unfolding spelling frames_in first_frame frame_of read_of frame_row shape_fault request_of requirement_of
@@ -215,7 +211,7 @@ unfit l = let (g, s, fits) = asked_so (l.1.0 refl) refl refl refl in ⊎_elim (�
 
 pub adds : LawfulTo [] (writes ADD 0 7 8) (makes one_change ∷ stores ADD 1 [] ∷ [])
 unfolding spelling frames_in first_frame frame_of read_of frame_row shape_fault request_of requirement_of
-adds = makes_one _ ▹ (λ z. kv_answer (reply_frame (stored_answer ADD 9 1 ([]))) refl refl refl refl refl refl (inr (record { branch = 5; change = one_change; older = []; last = refl; key = refl; cas = 1; rev = 1; act = refl; before = []; behind = refl; fits = ap (doc_refusal op.Add 0) (none_stored (7 ∷ [])); told = stored_so ADD 9 1 ([]) }))) ▹ tt
+adds = (makes_one _, (λ z. inl (record { question = _; next = refl; answer = reply_frame (stored_answer ADD 9 1 []); spelled = refl; response = refl; opcode = refl; opaque = refl; fits = inr (record { branch = 5; change = one_change; older = []; last = refl; key = refl; cas = 1; rev = 1; act = refl; before = []; behind = refl; fits = ap (doc_refusal op.Add 0) (none_stored (7 ∷ [])); told = stored_so ADD 9 1 [] }) }), tt))
 
 pub adds_again : LawfulTo once (writes ADD 0 7 4) (makes newer ∷ stores ADD 2 [] ∷ []) → ⊥
 unfolding spelling frames_in first_frame frame_of read_of frame_row shape_fault request_of requirement_of
@@ -223,7 +219,7 @@ adds_again l = let (g, s, fits) = asked_so (l.1.0 refl) refl refl refl in ⊎_el
 
 pub replaces : LawfulTo once (writes REPLACE 0 7 4) (makes newer ∷ stores REPLACE 2 [] ∷ [])
 unfolding spelling frames_in first_frame frame_of read_of frame_row shape_fault request_of requirement_of
-replaces = makes_newer _ ▹ (λ z. kv_answer (reply_frame (stored_answer REPLACE 9 2 ([]))) refl refl refl refl refl refl (inr (record { branch = 5; change = newer; older = []; last = refl; key = refl; cas = 2; rev = 2; act = refl; before = once; behind = refl; fits = ap (doc_refusal op.Replace 0) (seven_there (first_doc 1 (8 ∷ []))); told = stored_so REPLACE 9 2 ([]) }))) ▹ tt
+replaces = (makes_newer _, (λ z. inl (record { question = _; next = refl; answer = reply_frame (stored_answer REPLACE 9 2 []); spelled = refl; response = refl; opcode = refl; opaque = refl; fits = inr (record { branch = 5; change = newer; older = []; last = refl; key = refl; cas = 2; rev = 2; act = refl; before = once; behind = refl; fits = ap (doc_refusal op.Replace 0) (seven_there (first_doc 1 (8 ∷ []))); told = stored_so REPLACE 9 2 [] }) }), tt))
 
 pub replaces_none : LawfulTo [] (writes REPLACE 0 7 8) (makes one_change ∷ stores REPLACE 1 [] ∷ []) → ⊥
 unfolding spelling frames_in first_frame frame_of read_of frame_row shape_fault request_of requirement_of
@@ -231,7 +227,7 @@ replaces_none l = let (g, s, fits) = asked_so (l.1.0 refl) refl refl refl in ⊎
 
 pub removed : LawfulTo once (removes 7) (makes removal ∷ stores DELETE 2 [] ∷ [])
 unfolding spelling frames_in first_frame frame_of read_of frame_row shape_fault request_of requirement_of
-removed = makes_removal _ ▹ (λ z. kv_answer (reply_frame (stored_answer DELETE 9 2 ([]))) refl refl refl refl refl refl (inr (record { branch = 5; change = removal; older = []; last = refl; key = refl; cas = 2; rev = 2; act = refl; before = once; behind = refl; fits = ap (doc_refusal op.Delete 0) (seven_there (first_doc 1 (8 ∷ []))); told = stored_so DELETE 9 2 ([]) }))) ▹ tt
+removed = (makes_removal _, (λ z. inl (record { question = _; next = refl; answer = reply_frame (stored_answer DELETE 9 2 []); spelled = refl; response = refl; opcode = refl; opaque = refl; fits = inr (record { branch = 5; change = removal; older = []; last = refl; key = refl; cas = 2; rev = 2; act = refl; before = once; behind = refl; fits = ap (doc_refusal op.Delete 0) (seven_there (first_doc 1 (8 ∷ []))); told = stored_so DELETE 9 2 [] }) }), tt))
 
 pub prepared_only : LawfulTo once (writes SET 0 9 6) (makes prepare_made ∷ stores SET 2 [] ∷ []) → ⊥
 unfolding spelling frames_in first_frame frame_of read_of frame_row shape_fault request_of requirement_of

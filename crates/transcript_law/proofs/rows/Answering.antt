@@ -1,6 +1,6 @@
 -- answers to clients, and the questions that they answer
 use Rattle.std.proofs.Common.{Bool, List, [], ap, inl, inr, refl, subst, sym, true, false, ℕ, ⊎_elim, ◌∙◌, ◌∷◌, ◌≡◌}
-use Rattle.std.specs.Prelude.{Ok, Result, Some, None, if◌then◌else◌, slice_index}
+use Rattle.std.specs.Prelude.{Ok, Result, Some, None, slice_index}
 use Rattle.client_session.specs.Serving.{is_dcp}
 use Rattle.mcbp_frame.specs.Cutting.{front_fault}
 use Rattle.mcbp_frame.specs.Frames.{faulty_head}
@@ -25,7 +25,7 @@ use Rattle.vb_types.specs.declared.doc.Doc.{Doc}
 use Rattle.vb_types.specs.declared.status.Status.{Status}
 use Rattle.vb_types.specs.declared.status.Status.TheVariants as status
 use Rattle.transcript_law.specs.ClientRows.{nooped}
-use Rattle.transcript_law.specs.LawfulAnswers.{Answers, AnswersFault, FitsFrame, FitsRequest, LawfulReply}
+use Rattle.transcript_law.specs.LawfulAnswers.{Answers, AnswersFault, FitsBy, FitsFrame, FitsRequest, LawfulReply}
 use Rattle.transcript_law.specs.LinesTold.{Chronicle}
 use Rattle.transcript_law.specs.Questions.{Question, behind_frames, question_of}
 use Rattle.transcript_law.specs.StreamsTold.{Asking}
@@ -43,7 +43,7 @@ module _ {chronicle : Chronicle} {asking : Asking} {behind : List Event} {q : Qu
     response = response;
     opcode = opcode;
     opaque = opaque;
-    fits = subst (λ b. if b then Unit {0} else FitsRequest chronicle 0 asking.settings q.frame g (request_of asking.settings.json q.frame)) (sym dcp) tt;
+    fits = subst (λ b. FitsBy b chronicle 0 asking.settings q.frame g) (sym dcp) tt;
   })
 
   -- to any other
@@ -56,7 +56,7 @@ module _ {chronicle : Chronicle} {asking : Asking} {behind : List Event} {q : Qu
     response = response;
     opcode = opcode;
     opaque = opaque;
-    fits = subst (λ b. if b then Unit {0} else FitsRequest chronicle 0 asking.settings q.frame g (request_of asking.settings.json q.frame)) (sym dcp) (subst (FitsRequest chronicle 0 asking.settings q.frame g) (sym asks) fits);
+    fits = subst (λ b. FitsBy b chronicle 0 asking.settings q.frame g) (sym dcp) (subst (FitsRequest chronicle 0 asking.settings q.frame g) (sym asks) fits);
   })
 
 -- a status alone
@@ -117,7 +117,7 @@ answered {chronicle} {asking} {bytes} {behind} {q} l is = ⊎_elim by (λ (f : A
 pub asked_so : {chronicle : Chronicle} {asking : Asking} {bytes : List ℕ} {behind : List Event} {q : Question} {r : Result KvRequest Status} → LawfulReply chronicle 0 1 asking bytes behind → question_of asking ≡ Some q → is_dcp q.frame.opcode ≡ false → request_of asking.settings.json q.frame ≡ r → (g : Frame) × (bytes ≡ spelling g) × FitsRequest chronicle 0 asking.settings q.frame g r
 asked_so {chronicle} {asking} {bytes} {behind} {q} {r} l is dcp asks =
     let told : Told chronicle asking bytes q = answered l is in
-    (told.frame, told.spelled, subst (FitsRequest chronicle 0 asking.settings q.frame told.frame) asks (subst (λ b. if b then Unit {0} else FitsRequest chronicle 0 asking.settings q.frame told.frame (request_of asking.settings.json q.frame)) dcp told.fits))
+    (told.frame, told.spelled, subst (FitsRequest chronicle 0 asking.settings q.frame told.frame) asks (subst (λ b. FitsBy b chronicle 0 asking.settings q.frame told.frame) dcp told.fits))
 
 -- where nothing was asked, it answers a fault
 pub faulted : {chronicle : Chronicle} {asking : Asking} {bytes : List ℕ} {behind : List Event} → LawfulReply chronicle 0 1 asking bytes behind → question_of asking ≡ None → AnswersFault 0 1 asking bytes behind

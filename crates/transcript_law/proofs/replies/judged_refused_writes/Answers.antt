@@ -1,5 +1,5 @@
 use Rattle.transcript_law.proofs.rows.AnswerRefusals as rows
-use Rattle.transcript_law.proofs.answers.judged_refused_writes.Goals as goal
+use Rattle.transcript_law.proofs.replies.judged_refused_writes.Goals as goal
 
 pub returns : goal.returns
 returns c = record {

@@ -1,5 +1,5 @@
 use Rattle.transcript_law.proofs.rows.AnswerGreetings as rows
-use Rattle.transcript_law.proofs.answers.judged_greetings.Goals as goal
+use Rattle.transcript_law.proofs.replies.judged_greetings.Goals as goal
 
 pub returns : goal.returns
 returns c = record {

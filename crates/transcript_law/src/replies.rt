@@ -121,7 +121,8 @@ pub fn judged_refused_writes()
 {}
 
 /// A durable write is refused as impossible where its chain can have no majority, and only there; its
-/// outcome is a commit, or that nobody knows. No other write is answered so.
+/// outcome is a commit, or that nobody knows. No other write is answered so. It may be refused with
+/// Etmpfail at any vBucket, where its connection has no number left for it.
 pub fn judged_durables()
     ensures impossible { LawfulAmong (None ∷ []) (durably 1 7 8) (says SET status.DurabilityImpossible ∷ []) }
     ensures possible { LawfulTo [] (durably 1 7 8) (says SET status.DurabilityImpossible ∷ []) → ⊥ }
@@ -134,6 +135,8 @@ pub fn judged_durables()
     ensures away { LawfulAway [] (durably 1 7 8) (says SET status.NotMyVbucket ∷ []) }
     ensures active { LawfulTo [] (durably 1 7 8) (says SET status.NotMyVbucket ∷ []) → ⊥ }
     ensures other { LawfulTo [] (durably 1 7 8) (says SET status.KeyEnoent ∷ []) → ⊥ }
+    ensures spent { LawfulTo [] (durably 1 7 8) (says SET status.Etmpfail ∷ []) }
+    ensures spent_away { LawfulAway [] (durably 1 7 8) (says SET status.Etmpfail ∷ []) }
     ensures no_level { LawfulTo [] (durably 4 7 8) (says SET status.DurabilityInvalidLevel ∷ []) }
     ensures level { LawfulTo [] (durably 3 7 8) (says SET status.DurabilityInvalidLevel ∷ []) → ⊥ }
 {}

@@ -1,5 +1,5 @@
 use Rattle.transcript_law.proofs.rows.AnswerDurables as rows
-use Rattle.transcript_law.proofs.answers.judged_durables.Goals as goal
+use Rattle.transcript_law.proofs.replies.judged_durables.Goals as goal
 
 pub returns : goal.returns
 returns c = record {
@@ -14,6 +14,8 @@ returns c = record {
   away = rows.away;
   active = rows.active;
   other = rows.other;
+  spent = rows.spent;
+  spent_away = rows.spent_away;
   no_level = rows.no_level;
   level = rows.level;
 }

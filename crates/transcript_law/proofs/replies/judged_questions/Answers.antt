@@ -1,5 +1,5 @@
 use Rattle.transcript_law.proofs.rows.AnswerQuestions as rows
-use Rattle.transcript_law.proofs.answers.judged_questions.Goals as goal
+use Rattle.transcript_law.proofs.replies.judged_questions.Goals as goal
 
 pub returns : goal.returns
 returns c = record {

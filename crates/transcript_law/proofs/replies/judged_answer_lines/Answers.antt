@@ -1,5 +1,5 @@
 use Rattle.transcript_law.proofs.rows.AnswerLines as rows
-use Rattle.transcript_law.proofs.answers.judged_answer_lines.Goals as goal
+use Rattle.transcript_law.proofs.replies.judged_answer_lines.Goals as goal
 
 pub returns : goal.returns
 returns c = record {

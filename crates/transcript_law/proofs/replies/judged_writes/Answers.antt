@@ -1,5 +1,5 @@
 use Rattle.transcript_law.proofs.rows.AnswerWrites as rows
-use Rattle.transcript_law.proofs.answers.judged_writes.Goals as goal
+use Rattle.transcript_law.proofs.replies.judged_writes.Goals as goal
 
 pub returns : goal.returns
 returns c = record {

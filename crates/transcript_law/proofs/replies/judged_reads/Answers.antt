@@ -1,5 +1,5 @@
 use Rattle.transcript_law.proofs.rows.AnswerReads as rows
-use Rattle.transcript_law.proofs.answers.judged_reads.Goals as goal
+use Rattle.transcript_law.proofs.replies.judged_reads.Goals as goal
 
 pub returns : goal.returns
 returns c = record {
