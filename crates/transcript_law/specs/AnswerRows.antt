@@ -10,7 +10,7 @@ use Rattle.mcbp_kv.specs.Answers.{bare_answer, found_answer, stored_answer, welc
 use Rattle.mcbp_kv.specs.Features.{feature_bytes}
 use Rattle.mcbp_kv.specs.Replies.{reply_frame}
 use Rattle.mcbp_kv.specs.declared.feature.Feature.{Feature}
-use Rattle.mcbp_kv.specs.declared.opcodes.TheConstants.{DELETE, GET, HELLO, NOOP, SET}
+use Rattle.mcbp_kv.specs.declared.opcodes.TheConstants.{DELETE, GET, HELLO, NOOP}
 use Rattle.script_text.specs.declared.verb.ClientVerb.TheVariants as client_verb
 use Rattle.script_text.specs.declared.verb.Verb.{Verb}
 use Rattle.script_text.specs.declared.verb.Verb.TheVariants as verb

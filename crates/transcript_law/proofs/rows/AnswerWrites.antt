@@ -1,7 +1,7 @@
 -- writes that are told made, judged by hand
 use Rattle.std.proofs.Common.{Bool, List, [], ap, arith, inl, inr, refl, sym, ℕ, ⊎_elim, ◌++◌, ◌∙◌, ◌∷◌, ◌≡◌}
 use Rattle.std.specs.FinMap.{get}
-use Rattle.std.specs.Prelude.{Option, Some, None, option_map}
+use Rattle.std.specs.Prelude.{Some, None, option_map}
 unfoldable use Rattle.mcbp_dcp.specs.Messages.{read_of}
 unfoldable use Rattle.mcbp_dcp.specs.Rows.{frame_row}
 unfoldable use Rattle.mcbp_dcp.specs.Shapes.{shape_fault}
@@ -18,14 +18,12 @@ use Rattle.mcbp_kv.specs.Replies.{reply_frame}
 use Rattle.mcbp_kv.specs.declared.opcodes.TheConstants.{ADD, DELETE, REPLACE, SET}
 use Rattle.vb_calls.specs.Following.{cas_of}
 use Rattle.vb_calls.specs.Writes.{act_of, doc_refusal, written_doc}
-use Rattle.vb_types.specs.Images.{Picture, image_of}
+use Rattle.vb_types.specs.Images.{image_of}
 use Rattle.vb_types.specs.declared.change.Act.{Act}
 use Rattle.vb_types.specs.declared.change.Act.TheVariants as act
 use Rattle.vb_types.specs.declared.change.Change.{Change}
 use Rattle.vb_types.specs.declared.change.Pend.{Pend}
 use Rattle.vb_types.specs.declared.doc.Doc.{Doc}
-use Rattle.vb_types.specs.declared.role.Role.{Role}
-use Rattle.vb_types.specs.declared.status.Status.{Status}
 use Rattle.vb_types.specs.declared.status.Status.TheVariants as status
 use Rattle.vb_types.specs.declared.write.Op.{Op}
 use Rattle.vb_types.specs.declared.write.Op.TheVariants as op

@@ -4,7 +4,7 @@ use Rattle.transcript_law.proofs.rows.ClientStreamItems.{item_put}
 use Rattle.transcript_law.specs.Crashes.{ok}
 use Rattle.transcript_law.specs.Lawfulness.{LawfulFrom}
 use Rattle.transcript_law.specs.BoundRows.{LawfulHere}
-use Rattle.std.proofs.Common.{List, [], ap, arith, inr, refl, subst, sym, take, true, false, ℕ, ◌++◌, ◌∙◌, ◌∷◌, ◌≡◌, ◌<◌, drop, inl}
+use Rattle.std.proofs.Common.{List, [], ap, arith, inr, refl, subst, sym, take, true, false, ℕ, ◌++◌, ◌∙◌, ◌∷◌, ◌≡◌, ◌<◌, inl}
 use Rattle.std.specs.Prelude.{Option, Some, None}
 unfoldable use Rattle.mcbp_dcp.specs.DcpFrames.{dcp_frame}
 use Rattle.mcbp_dcp.specs.declared.message.DcpMsg.TheVariants as msg
@@ -26,7 +26,7 @@ use Rattle.vb_events.specs.declared.event.Event.TheVariants as event
 use Rattle.transcript_law.specs.Chronicles.{Chronicle}
 use Rattle.transcript_law.specs.ClientAskRows.{LawfulAsked, asked, asked_at, closes_first, closing, none, opening, opens_first, requesting, serving, taking_over, that_sent, unanswered, unopened, asked_forked, forked, forked_log, sends_rest}
 use Rattle.transcript_law.specs.ClientFrames.{Request, request_in, setup_after}
-use Rattle.transcript_law.specs.ClientStreamRows.{all_changes, asks_for, finished, one, put_two, two, up_to, fresh, inside, marked, next_item, open_setup, sent, snapshot}
+use Rattle.transcript_law.specs.ClientStreamRows.{all_changes, asks_for, finished, one, put_two, two, up_to, fresh, inside, marked, open_setup, sent, snapshot}
 use Rattle.transcript_law.specs.ClientStreams.{ClientKnown, ClientStream, Setup, unclosed}
 use Rattle.transcript_law.specs.Followers.{log_of, next_change}
 use Rattle.transcript_law.specs.LawfulClients.{InOrder, IsFree, LawfulClientAsk, RefusesBy, RefusesOwn}

@@ -1,6 +1,6 @@
 -- keys at which prepares wait, or none, where a vBucket made these changes
 use Rattle.std.proofs.Common.{List, [], ap, arith, false, ℕ, ◌∙◌, ◌∷◌, ◌≡◌}
-use Rattle.std.specs.FinMap.{empty, get, get-empty, remove}
+use Rattle.std.specs.FinMap.{get, get-empty, remove}
 use Rattle.std.specs.Prelude.{Option, Some, None, if◌then◌else◌}
 use Rattle.vb_types.proofs.Laws.{get-insert_other, get-insert_same}
 use Rattle.vb_types.specs.Images.{image_of, is_older, nothing, settled}
