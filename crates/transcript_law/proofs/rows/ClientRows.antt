@@ -1,6 +1,6 @@
 -- connections of clients, judged by hand
 use Rattle.std.specs.Prelude.{◌≡◌, ◌∷◌, ◌==◌, if◌then◌else◌}
-use Rattle.transcript_law.proofs.Words.{ℕ, Bool, true, false, List, [], refl, arith, Answer, Cause, Event, Chronicle, Verb, NodeVerb, empty_chronicle}
+use Rattle.transcript_law.proofs.Words.{ℕ, true, false, List, [], refl, arith, Answer, Cause, Event, Chronicle, Verb, NodeVerb, empty_chronicle}
 use Rattle.transcript_law.proofs.{rows.CrashRows.{stops}, rows.Groups.{AreParts, in_order, whole}}
 use Rattle.transcript_law.specs.{ClientRows.{LawfulOpened, asks, closes, hangs, nooped, opens, refused, replies, sends, waits}, Clients.{AllClosed, IsOpened, IsReached}, Chronicles.{conns_lines}, Prefixes.{known_after}}
 use Rattle.transcript_law.specs.Crashes.{LawfulAfter, Said, numbered, ok, save_under, save_under_groups, stopped_behind, groups_from_number}
