@@ -5,6 +5,7 @@ pub mod AnswerReads
 pub mod AnswerWrites
 pub mod AnswerRefusals
 pub mod AnswerDurables
+pub mod AnswerCommits
 pub mod AnswerGreetings
 pub mod AnswerFaults
 pub mod AnswerLines

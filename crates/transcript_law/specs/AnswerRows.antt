@@ -103,12 +103,15 @@ stores opcode cas told = sends (reply_frame (stored_answer opcode 9 cas told))
 abbrev pub welcomes : List Feature → Event
 welcomes features = sends (reply_frame (welcome_answer 9 features))
 
--- the vBucket 0 makes a change on its branch; and so does the vBucket 1
+-- the vBucket 0 makes a change on its branch; and so does the vBucket 1, or one of another node
 abbrev pub makes : Change → Event
 makes change = event.Changed 0 0 5 change
 
 abbrev pub makes_elsewhere : Change → Event
 makes_elsewhere change = event.Changed 0 1 5 change
+
+abbrev pub makes_far : Change → Event
+makes_far change = event.Changed 1 0 5 change
 
 -- the connection closes
 abbrev pub shuts : Event
@@ -181,13 +184,14 @@ LawfulAmong others bytes lines = LawfulFrom (record (serving [] (unopened bytes)
 
 -- ---- whole lines of a script
 
--- these bytes come over the connection that sent those before
+-- these bytes come over the connection
 abbrev pub comes : List ℕ → Verb
 comes bytes = verb.AtClient 0 1 (client_verb.Bytes bytes)
 
-abbrev pub LawfulNext : List ℕ → Verb → Said → Type 0
-LawfulNext bytes line said = LawfulHere (serving [] (unopened bytes)) line said
+-- where each vBucket holds these changes, and the connection sent these bytes before, this line comes, of which this is told
+abbrev pub LawfulNext : List Change → List ℕ → Verb → Said → Type 0
+LawfulNext changes bytes line said = LawfulHere (serving changes (unopened bytes)) line said
 
 -- so do two lines behind which a wait may be over
-abbrev pub LawfulTicks : List ℕ → List Said → Type 0
-LawfulTicks bytes told = LawfulGroups (serving [] (unopened bytes)) (numbered 1 (ticks ∷ ticks ∷ [])) (groups_from_number 1 told)
+abbrev pub LawfulTicks : List Change → List ℕ → List Said → Type 0
+LawfulTicks changes bytes told = LawfulGroups (serving changes (unopened bytes)) (numbered 1 (ticks ∷ ticks ∷ [])) (groups_from_number 1 told)

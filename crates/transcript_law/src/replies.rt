@@ -7,10 +7,10 @@ ghost use Rattle.mcbp_kv.specs.Replies.{reply_frame};
 ghost use Rattle.mcbp_kv.specs.declared.feature.Feature.TheVariants as feature;
 ghost use Rattle.mcbp_kv.specs.declared.opcodes.TheConstants.{ADD, DELETE, GET, HELLO, NOOP, REPLACE, SET};
 ghost use Rattle.mcbp_frame.specs.declared.frame.TheConstants.{REQUEST};
-ghost use Rattle.transcript_law.specs.AnswerRows.{LawfulAmong, LawfulAway, LawfulBy, LawfulNext, LawfulOver, LawfulTicks, LawfulTo, LawfulUnmade, acknowledges, answers, broken, comes, durably, finds, finds_raw, for_json, for_seqnos, formless, gets, greets, json_doc, json_once, makes, makes_elsewhere, newer, newer_doc, once, over_prepare, removal, removes, responds, says, sends, shuts, shuts_other, stores, strange, unknown, welcomes, writes};
+ghost use Rattle.transcript_law.specs.AnswerRows.{LawfulAmong, LawfulAway, LawfulBy, LawfulNext, LawfulOver, LawfulTicks, LawfulTo, LawfulUnmade, acknowledges, answers, broken, comes, durably, finds, finds_raw, for_json, for_seqnos, formless, gets, greets, json_doc, json_once, makes, makes_elsewhere, makes_far, newer, newer_doc, once, over_prepare, removal, removes, responds, says, sends, shuts, shuts_other, stores, strange, unknown, welcomes, writes};
 ghost use Rattle.transcript_law.specs.ClientAskRows.{opening, replies as replied, sends_none, ticks};
 ghost use Rattle.transcript_law.specs.ClientRows.{LawfulOpened, asks, hangs, noop, nooped, opens, replies, waits};
-ghost use Rattle.transcript_law.specs.ClientStreamRows.{durable, pending, prepared};
+ghost use Rattle.transcript_law.specs.ClientStreamRows.{committed, durable, pending, prepared};
 ghost use Rattle.transcript_law.specs.Crashes.{ok};
 ghost use Rattle.transcript_law.specs.Followers.{next_change};
 ghost use Rattle.transcript_law.specs.Transcripts.{first_doc, one_change};
@@ -121,17 +121,14 @@ pub fn judged_refused_writes()
 {}
 
 /// A durable write is refused as impossible where its chain can have no majority, and only there; its
-/// outcome is a commit, or that nobody knows. No other write is answered so. It may be refused with
-/// Etmpfail at any vBucket, where its connection has no number left for it.
+/// outcome may be that nobody knows. No other write is answered so. It may be refused with Etmpfail at
+/// any vBucket, where its connection has no number left for it.
 pub fn judged_durables()
     ensures impossible { LawfulAmong (None ∷ []) (durably 1 7 8) (says SET status.DurabilityImpossible ∷ []) }
     ensures possible { LawfulTo [] (durably 1 7 8) (says SET status.DurabilityImpossible ∷ []) → ⊥ }
     ensures plain_impossible { LawfulAmong (None ∷ []) (writes SET 0 7 8) (says SET status.DurabilityImpossible ∷ []) → ⊥ }
     ensures ambiguous { LawfulTo [] (durably 1 7 8) (says SET status.SyncWriteAmbiguous ∷ []) }
     ensures plain_ambiguous { LawfulTo [] (writes SET 0 7 8) (says SET status.SyncWriteAmbiguous ∷ []) → ⊥ }
-    ensures committed { LawfulTo durable (durably 1 9 6) (stores SET 2 [] ∷ []) }
-    ensures told { LawfulTo durable (durably 1 9 6) (stores SET 2 (seqno_extras 5 3) ∷ []) → ⊥ }
-    ensures plain_committed { LawfulTo durable (writes SET 0 9 6) (stores SET 2 [] ∷ []) → ⊥ }
     ensures away { LawfulAway [] (durably 1 7 8) (says SET status.NotMyVbucket ∷ []) }
     ensures active { LawfulTo [] (durably 1 7 8) (says SET status.NotMyVbucket ∷ []) → ⊥ }
     ensures other { LawfulTo [] (durably 1 7 8) (says SET status.KeyEnoent ∷ []) → ⊥ }
@@ -139,6 +136,25 @@ pub fn judged_durables()
     ensures spent_away { LawfulAway [] (durably 1 7 8) (says SET status.Etmpfail ∷ []) }
     ensures no_level { LawfulTo [] (durably 4 7 8) (says SET status.DurabilityInvalidLevel ∷ []) }
     ensures level { LawfulTo [] (durably 3 7 8) (says SET status.DurabilityInvalidLevel ∷ []) → ⊥ }
+{}
+
+/// A durable write is told stored behind a commit of its node alone, with its CAS, and with its branch and
+/// seqno to a client that asked for these, and to no other; other answers may come in between. Neither a
+/// prepare alone is one, nor is a commit that of a write that is not durable.
+pub fn judged_outcomes()
+    ensures committed { LawfulTo pending (durably 1 9 6) (makes committed ∷ stores SET 2 [] ∷ []) }
+    ensures uncommitted { LawfulTo durable (durably 1 9 6) (stores SET 2 [] ∷ []) → ⊥ }
+    ensures prepared { LawfulTo once (durably 1 9 6) (makes prepared ∷ stores SET 2 [] ∷ []) → ⊥ }
+    ensures cas { LawfulTo pending (durably 1 9 6) (makes committed ∷ stores SET 3 [] ∷ []) → ⊥ }
+    ensures far { LawfulTo pending (durably 1 9 6) (makes_far committed ∷ stores SET 2 [] ∷ []) → ⊥ }
+    ensures later { LawfulTo pending (noop 9 ++ durably 1 9 6) (makes committed ∷ answers 9 ∷ stores SET 2 [] ∷ []) }
+    ensures seqnos { LawfulBy for_seqnos pending (durably 1 9 6) (makes committed ∷ stores SET 2 (seqno_extras 5 3) ∷ []) }
+    ensures untold { LawfulBy for_seqnos pending (durably 1 9 6) (makes committed ∷ stores SET 2 [] ∷ []) → ⊥ }
+    ensures branch { LawfulBy for_seqnos pending (durably 1 9 6) (makes committed ∷ stores SET 2 (seqno_extras 6 3) ∷ []) → ⊥ }
+    ensures seqno { LawfulBy for_seqnos pending (durably 1 9 6) (makes committed ∷ stores SET 2 (seqno_extras 5 2) ∷ []) → ⊥ }
+    ensures unasked { LawfulTo pending (durably 1 9 6) (makes committed ∷ stores SET 2 (seqno_extras 5 3) ∷ []) → ⊥ }
+    ensures plain { LawfulTo pending (writes SET 0 9 6) (makes committed ∷ stores SET 2 [] ∷ []) → ⊥ }
+    ensures plain_uncommitted { LawfulTo durable (writes SET 0 9 6) (stores SET 2 [] ∷ []) → ⊥ }
 {}
 
 /// HELLO is answered with the features that it asks for and no others, and what it sets holds for the
@@ -175,17 +191,19 @@ pub fn judged_faults()
 
 /// So it is in whole groups: an answer comes in the group of the bytes that ask, or behind a later line,
 /// and not without a question; not to what was sent before the connection was opened anew; and a write is
-/// told made by a change of its own group alone.
+/// told made or committed by a change of its own group alone.
 pub fn judged_answer_lines()
-    ensures here { LawfulNext [] (comes (noop 9)) (ok (answers 9 ∷ [])) }
-    ensures unasked { LawfulNext [] sends_none (ok (answers 9 ∷ [])) → ⊥ }
-    ensures opaque { LawfulNext [] (comes (noop 9)) (ok (answers 8 ∷ [])) → ⊥ }
-    ensures twice { LawfulNext [] (comes (noop 9)) (ok (answers 9 ∷ answers 9 ∷ [])) → ⊥ }
-    ensures pieces { LawfulNext (take 7 (noop 9)) (comes (drop 7 (noop 9))) (ok (answers 9 ∷ [])) }
-    ensures waited { LawfulNext (noop 9) ticks (ok (answers 9 ∷ [])) }
-    ensures each { LawfulTicks (noop 8 ++ noop 9) (ok (answers 8 ∷ []) ∷ ok (answers 9 ∷ []) ∷ []) }
-    ensures again { LawfulTicks (noop 9) (ok (answers 9 ∷ []) ∷ ok (answers 9 ∷ []) ∷ []) → ⊥ }
-    ensures made { LawfulNext [] (comes (writes SET 0 7 8)) (ok (makes one_change ∷ stores SET 1 [] ∷ [])) }
-    ensures made_before { LawfulTicks (writes SET 0 7 8) (ok (makes one_change ∷ []) ∷ ok (stores SET 1 [] ∷ []) ∷ []) → ⊥ }
+    ensures here { LawfulNext [] [] (comes (noop 9)) (ok (answers 9 ∷ [])) }
+    ensures unasked { LawfulNext [] [] sends_none (ok (answers 9 ∷ [])) → ⊥ }
+    ensures opaque { LawfulNext [] [] (comes (noop 9)) (ok (answers 8 ∷ [])) → ⊥ }
+    ensures twice { LawfulNext [] [] (comes (noop 9)) (ok (answers 9 ∷ answers 9 ∷ [])) → ⊥ }
+    ensures pieces { LawfulNext [] (take 7 (noop 9)) (comes (drop 7 (noop 9))) (ok (answers 9 ∷ [])) }
+    ensures waited { LawfulNext [] (noop 9) ticks (ok (answers 9 ∷ [])) }
+    ensures each { LawfulTicks [] (noop 8 ++ noop 9) (ok (answers 8 ∷ []) ∷ ok (answers 9 ∷ []) ∷ []) }
+    ensures again { LawfulTicks [] (noop 9) (ok (answers 9 ∷ []) ∷ ok (answers 9 ∷ []) ∷ []) → ⊥ }
+    ensures made { LawfulNext [] [] (comes (writes SET 0 7 8)) (ok (makes one_change ∷ stores SET 1 [] ∷ [])) }
+    ensures made_before { LawfulTicks [] (writes SET 0 7 8) (ok (makes one_change ∷ []) ∷ ok (stores SET 1 [] ∷ []) ∷ []) → ⊥ }
+    ensures committed { LawfulNext pending (durably 1 9 6) ticks (ok (makes committed ∷ stores SET 2 [] ∷ [])) }
+    ensures committed_before { LawfulTicks pending (durably 1 9 6) (ok (makes committed ∷ []) ∷ ok (stores SET 2 [] ∷ []) ∷ []) → ⊥ }
     ensures anew { LawfulOpened (asks 1 ∷ hangs 1 ∷ opens 1 ∷ waits ∷ []) (ok [] ∷ ok [] ∷ ok [] ∷ ok (replies 0 1 (nooped 9) ∷ []) ∷ []) → ⊥ }
 {}

@@ -13,5 +13,7 @@ returns c = record {
   again = rows.again;
   made = rows.made;
   made_before = rows.made_before;
+  committed = rows.committed;
+  committed_before = rows.committed_before;
   anew = rows.anew;
 }
