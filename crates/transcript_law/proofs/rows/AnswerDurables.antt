@@ -9,15 +9,14 @@ unfoldable use Rattle.mcbp_frame.specs.Frames.{first_frame, frame_of}
 unfoldable use Rattle.mcbp_frame.specs.Spelling.{spelling}
 unfoldable use Rattle.mcbp_kv.specs.Framing.{requirement_of}
 unfoldable use Rattle.mcbp_kv.specs.Requests.{request_of}
-use Rattle.mcbp_kv.specs.Answers.{bare_answer, seqno_extras, stored_answer}
+use Rattle.mcbp_kv.specs.Answers.{bare_answer}
 use Rattle.mcbp_kv.specs.Replies.{reply_frame}
 use Rattle.mcbp_kv.specs.declared.opcodes.TheConstants.{SET}
 use Rattle.vb_types.specs.declared.status.Status.TheVariants as status
-use Rattle.transcript_law.specs.AnswerRows.{LawfulAmong, LawfulAway, LawfulTo, durably, says, stores, writes}
-use Rattle.transcript_law.specs.ClientStreamRows.{durable}
+use Rattle.transcript_law.specs.AnswerRows.{LawfulAmong, LawfulAway, LawfulTo, durably, says, writes}
 use Rattle.transcript_law.proofs.rows.AnswerRefusals.{status_byte, unfit_is, why_away, why_unfit}
-use Rattle.transcript_law.proofs.rows.AnswerWrites.{no_made, refused_cas}
-use Rattle.transcript_law.proofs.rows.Answering.{asked_so, bare_bytes, bare_so, byte_at, kv_answer, stored_bytes, stored_so}
+use Rattle.transcript_law.proofs.rows.AnswerWrites.{no_made}
+use Rattle.transcript_law.proofs.rows.Answering.{asked_so, bare_bytes, bare_so, byte_at, kv_answer}
 use Rattle.transcript_law.proofs.rows.ClientStreamVerdicts.{no_active}
 use Rattle.transcript_law.proofs.rows.NextRows.{none_pending, none_stored}
 
