@@ -179,8 +179,8 @@ abbrev pub LawfulUnmade : List ℕ → List Event → Type 0
 LawfulUnmade bytes lines = LawfulFrom (record (serving once (unopened bytes)) { role_at = λ n v. Some None }) lines
 
 -- where the chain of each has these other members
-abbrev pub LawfulAmong : Members → List ℕ → List Event → Type 0
-LawfulAmong others bytes lines = LawfulFrom (record (serving [] (unopened bytes)) { counts_at = λ n v. record { chain = others; acks = [] } }) lines
+abbrev pub LawfulAmong : Members → List Change → List ℕ → List Event → Type 0
+LawfulAmong others changes bytes lines = LawfulFrom (record (serving changes (unopened bytes)) { counts_at = λ n v. record { chain = others; acks = [] } }) lines
 
 -- ---- whole lines of a script
 

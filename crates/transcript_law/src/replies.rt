@@ -120,13 +120,17 @@ pub fn judged_refused_writes()
     ensures full { LawfulTo [] (writes SET 0 7 8) (says SET status.Etmpfail ∷ []) }
 {}
 
-/// A durable write is refused as impossible where its chain can have no majority, and only there; its
-/// outcome may be that nobody knows. No other write is answered so. It may be refused with Etmpfail at
-/// any vBucket, where its connection has no number left for it.
+/// A durable write is refused as impossible where its chain can have no majority, before any reason of
+/// its key, and only there; its outcome may be that nobody knows. No other write is answered so. It may
+/// be refused with Etmpfail at any vBucket, where its connection has no number left for it.
 pub fn judged_durables()
-    ensures impossible { LawfulAmong (None ∷ []) (durably 1 7 8) (says SET status.DurabilityImpossible ∷ []) }
+    ensures impossible { LawfulAmong (None ∷ []) [] (durably 1 7 8) (says SET status.DurabilityImpossible ∷ []) }
     ensures possible { LawfulTo [] (durably 1 7 8) (says SET status.DurabilityImpossible ∷ []) → ⊥ }
-    ensures plain_impossible { LawfulAmong (None ∷ []) (writes SET 0 7 8) (says SET status.DurabilityImpossible ∷ []) → ⊥ }
+    ensures impossible_first { LawfulAmong (None ∷ []) pending (durably 1 9 4) (says SET status.DurabilityImpossible ∷ []) }
+    ensures locked_first { LawfulAmong (None ∷ []) pending (durably 1 9 4) (says SET status.SyncWriteInProgress ∷ []) → ⊥ }
+    ensures locked { LawfulTo pending (durably 1 9 4) (says SET status.SyncWriteInProgress ∷ []) }
+    ensures plain_locked { LawfulAmong (None ∷ []) pending (writes SET 0 9 4) (says SET status.SyncWriteInProgress ∷ []) }
+    ensures plain_impossible { LawfulAmong (None ∷ []) [] (writes SET 0 7 8) (says SET status.DurabilityImpossible ∷ []) → ⊥ }
     ensures ambiguous { LawfulTo [] (durably 1 7 8) (says SET status.SyncWriteAmbiguous ∷ []) }
     ensures plain_ambiguous { LawfulTo [] (writes SET 0 7 8) (says SET status.SyncWriteAmbiguous ∷ []) → ⊥ }
     ensures away { LawfulAway [] (durably 1 7 8) (says SET status.NotMyVbucket ∷ []) }

@@ -40,7 +40,7 @@ use Rattle.transcript_law.proofs.rows.WaitingKeys.{nine_waits, waits}
 -- ---- what a durable write that is told stored is
 
 -- of what may be told of a durable write a commit alone has a CAS
-pub only_stored : {bytes : List ℕ} {g : Frame} {a b c d e x y z : ℕ} {Why : Status → Type 0} {Stored : Type 0} → IsBare g a b c ⊎ ((st : Status) × IsBare g d (status_code st) e × Why st) ⊎ Stored ⊎ IsBare g x y z → bytes ≡ spelling g → 0 < byte_at 23 bytes → Stored
+pub only_stored : {bytes : List ℕ} {g : Frame} {a b c d e x y z : ℕ} {Why First : Status → Type 0} {Stored : Type 0} → IsBare g a b c ⊎ ((st : Status) × IsBare g d (status_code st) e × Why st × First st) ⊎ Stored ⊎ IsBare g x y z → bytes ≡ spelling g → 0 < byte_at 23 bytes → Stored
 only_stored fits s some = ⊎_elim (λ full. let n = refused_cas full s in absurd (omega (arith, n, some))) (λ left. ⊎_elim (λ r. let n = refused_cas r.1 s in absurd (omega (arith, n, some))) (λ told. ⊎_elim (λ c. c) (λ unsure. let n = refused_cas unsure s in absurd (omega (arith, n, some))) told) left) fits
 
 -- of one change that was told

@@ -53,6 +53,10 @@ module _ {Besides : Status → Type 0} {role : Option (Option Role)} {image : Pi
     unfit = λ a none. let e : None ≡ Some waiting.0 = sym none ∙ waiting.1 in cc;
   }
 
+  -- for a further reason
+  pub why_besides : {st : Status} → IsActive role → Besides st → IsWhyRefused Besides role image write st
+  why_besides active b = record { away = λ off. absurd (off active); locked = λ a w. inr (inr b); unfit = λ a e. inr b }
+
   -- for its vBucket
   pub why_away : (IsActive role → ⊥) → IsWhyRefused Besides role image write status.NotMyVbucket
   why_away off = record { away = λ o. refl; locked = λ a w. absurd (off a); unfit = λ a e. absurd (off a) }

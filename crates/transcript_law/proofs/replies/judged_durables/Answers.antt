@@ -5,6 +5,10 @@ pub returns : goal.returns
 returns c = record {
   impossible = rows.impossible;
   possible = rows.possible;
+  impossible_first = rows.impossible_first;
+  locked_first = rows.locked_first;
+  locked = rows.locked;
+  plain_locked = rows.plain_locked;
   plain_impossible = rows.plain_impossible;
   ambiguous = rows.ambiguous;
   plain_ambiguous = rows.plain_ambiguous;
