@@ -68,9 +68,12 @@ acknowledges = bytes_of 9 0 (msg.BufferAcknowledgement 64)
 abbrev pub responds : List ℕ
 responds = nooped 8
 
--- the header of a NOOP with a key that is longer than its body; and a byte that begins no frame
+-- the header of a NOOP with a key that is longer than its body; that of one with a body of 32 MiB; and a byte that begins no frame
 abbrev pub broken : List ℕ
 broken = 128 ∷ 10 ∷ 0 ∷ 1 ∷ 0 ∷ 0 ∷ 0 ∷ 0 ∷ 0 ∷ 0 ∷ 0 ∷ 0 ∷ 0 ∷ 0 ∷ 0 ∷ 9 ∷ 0 ∷ 0 ∷ 0 ∷ 0 ∷ 0 ∷ 0 ∷ 0 ∷ 0 ∷ []
+
+abbrev pub vast : List ℕ
+vast = 128 ∷ 10 ∷ 0 ∷ 0 ∷ 0 ∷ 0 ∷ 0 ∷ 0 ∷ 2 ∷ 0 ∷ 0 ∷ 0 ∷ 0 ∷ 0 ∷ 0 ∷ 9 ∷ 0 ∷ 0 ∷ 0 ∷ 0 ∷ 0 ∷ 0 ∷ 0 ∷ 0 ∷ []
 
 abbrev pub strange : List ℕ
 strange = 1 ∷ []

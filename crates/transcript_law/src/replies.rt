@@ -7,7 +7,7 @@ ghost use Rattle.mcbp_kv.specs.Replies.{reply_frame};
 ghost use Rattle.mcbp_kv.specs.declared.feature.Feature.TheVariants as feature;
 ghost use Rattle.mcbp_kv.specs.declared.opcodes.TheConstants.{ADD, DELETE, GET, HELLO, NOOP, REPLACE, SET};
 ghost use Rattle.mcbp_frame.specs.declared.frame.TheConstants.{REQUEST};
-ghost use Rattle.transcript_law.specs.AnswerRows.{LawfulAmong, LawfulAway, LawfulBy, LawfulNext, LawfulOver, LawfulTicks, LawfulTo, LawfulUnmade, acknowledges, answers, broken, comes, durably, finds, finds_raw, for_json, for_seqnos, formless, gets, greets, json_doc, json_once, makes, makes_elsewhere, makes_far, newer, newer_doc, once, over_prepare, removal, removes, responds, says, sends, shuts, shuts_other, stores, strange, unknown, welcomes, writes};
+ghost use Rattle.transcript_law.specs.AnswerRows.{LawfulAmong, LawfulAway, LawfulBy, LawfulNext, LawfulOver, LawfulTicks, LawfulTo, LawfulUnmade, acknowledges, answers, broken, comes, durably, finds, finds_raw, for_json, for_seqnos, formless, gets, greets, json_doc, json_once, makes, makes_elsewhere, makes_far, newer, newer_doc, once, over_prepare, removal, removes, responds, says, sends, shuts, shuts_other, stores, strange, unknown, vast, welcomes, writes};
 ghost use Rattle.transcript_law.specs.ClientAskRows.{opening, replies as replied, sends_none, ticks};
 ghost use Rattle.transcript_law.specs.ClientRows.{LawfulOpened, asks, hangs, noop, nooped, opens, replies, waits};
 ghost use Rattle.transcript_law.specs.ClientStreamRows.{committed, durable, pending, prepared};
@@ -32,6 +32,7 @@ pub fn judged_questions()
     ensures out_of_turn { LawfulTo [] (noop 8 ++ noop 9) (answers 9 ∷ answers 8 ∷ []) → ⊥ }
     ensures response { LawfulTo [] responds (answers 8 ∷ []) → ⊥ }
     ensures past_response { LawfulTo [] (responds ++ noop 9) (answers 9 ∷ []) }
+    ensures past_both { LawfulTo [] (responds ++ noop 8 ++ noop 9) (answers 8 ∷ answers 9 ∷ []) }
     ensures acknowledged { LawfulOver acknowledges (replied (msg.OpenAnswer 4) 9 ∷ []) → ⊥ }
     ensures past_acknowledged { LawfulOver (acknowledges ++ noop 9) (answers 9 ∷ []) }
     ensures unopened { LawfulTo [] (acknowledges ++ noop 9) (says 93 status.Einval ∷ answers 9 ∷ []) }
@@ -77,6 +78,7 @@ pub fn judged_writes()
     ensures key { LawfulTo [] (writes SET 0 9 8) (makes one_change ∷ stores SET 1 [] ∷ []) → ⊥ }
     ensures value { LawfulTo [] (writes SET 0 7 9) (makes one_change ∷ stores SET 1 [] ∷ []) → ⊥ }
     ensures elsewhere { LawfulTo [] (writes SET 0 7 8) (makes_elsewhere one_change ∷ stores SET 1 [] ∷ []) → ⊥ }
+    ensures far { LawfulTo [] (writes SET 0 7 8) (makes_far one_change ∷ stores SET 1 [] ∷ []) → ⊥ }
     ensures twice { LawfulTo [] (writes SET 0 7 8 ++ writes SET 0 7 8) (makes one_change ∷ stores SET 1 [] ∷ stores SET 1 [] ∷ []) → ⊥ }
     ensures each { LawfulTo [] (writes SET 0 7 8 ++ writes SET 0 9 6) (makes one_change ∷ stores SET 1 [] ∷ makes next_change ∷ stores SET 2 [] ∷ []) }
     ensures late { LawfulTo [] (writes SET 0 7 8 ++ writes SET 0 9 6) (makes one_change ∷ makes next_change ∷ stores SET 1 [] ∷ []) → ⊥ }
@@ -97,7 +99,7 @@ pub fn judged_writes()
 {}
 
 /// A write is refused for its own reason alone: KeyEexists and KeyEnoent where the key's document, or that
-/// there is none, does not let it; SyncWriteInProgress where a prepare waits there; NotMyVbucket, and
+/// there is none, does not let it; SyncWriteInProgress, or as left undone, where a prepare waits there; NotMyVbucket, and
 /// nothing else, where its vBucket is not active; and Etmpfail where it is.
 pub fn judged_refused_writes()
     ensures fits { LawfulTo once (writes SET 1 7 4) (says SET status.KeyEexists ∷ []) → ⊥ }
@@ -115,6 +117,7 @@ pub fn judged_refused_writes()
     ensures away_other { LawfulAway once (writes ADD 0 7 4) (says ADD status.KeyEexists ∷ []) → ⊥ }
     ensures away_full { LawfulAway [] (writes SET 0 7 8) (says SET status.Etmpfail ∷ []) → ⊥ }
     ensures locked { LawfulTo pending (writes SET 0 9 4) (says SET status.SyncWriteInProgress ∷ []) }
+    ensures left_undone { LawfulTo pending (writes SET 0 9 4) (says SET status.SyncWriteReCommitInProgress ∷ []) }
     ensures locked_other { LawfulTo pending (writes REPLACE 0 9 4) (says REPLACE status.KeyEnoent ∷ []) → ⊥ }
     ensures unlocked { LawfulTo pending (writes SET 0 7 4) (says SET status.SyncWriteInProgress ∷ []) → ⊥ }
     ensures full { LawfulTo [] (writes SET 0 7 8) (says SET status.Etmpfail ∷ []) }
@@ -182,6 +185,7 @@ pub fn judged_greetings()
 /// answered, and the connection closes directly behind; where nothing is named there is no answer.
 pub fn judged_faults()
     ensures closes { LawfulTo [] broken (says NOOP status.Einval ∷ shuts ∷ []) }
+    ensures long { LawfulTo [] vast (says NOOP status.Einval ∷ shuts ∷ []) }
     ensures stays { LawfulTo [] broken (says NOOP status.Einval ∷ []) → ⊥ }
     ensures later { LawfulTo [] broken (says NOOP status.Einval ∷ shuts_other ∷ shuts ∷ []) → ⊥ }
     ensures opaque { LawfulTo [] broken (sends (reply_frame (bare_answer NOOP status.Einval 8)) ∷ shuts ∷ []) → ⊥ }

@@ -8,14 +8,14 @@ unfoldable use Rattle.mcbp_frame.specs.Frames.{first_frame, frame_of}
 unfoldable use Rattle.mcbp_frame.specs.Spelling.{spelling}
 unfoldable use Rattle.mcbp_kv.specs.Framing.{requirement_of}
 unfoldable use Rattle.mcbp_kv.specs.Requests.{request_of}
-use Rattle.mcbp_frame.specs.declared.frame.FrameFault.TheVariants.{BadLengths}
+use Rattle.mcbp_frame.specs.declared.frame.FrameFault.TheVariants.{BadLengths, BodyTooLong}
 use Rattle.mcbp_kv.specs.Answers.{bare_answer}
 use Rattle.mcbp_kv.specs.Replies.{reply_frame}
 use Rattle.mcbp_kv.specs.declared.opcodes.TheConstants.{GET, NOOP}
 use Rattle.vb_events.specs.declared.event.Event.{Event}
 use Rattle.vb_events.specs.declared.event.Event.TheVariants as event
 use Rattle.vb_types.specs.declared.status.Status.TheVariants as status
-use Rattle.transcript_law.specs.AnswerRows.{LawfulTo, answers, broken, says, sends, shuts, shuts_other, strange}
+use Rattle.transcript_law.specs.AnswerRows.{LawfulTo, answers, broken, says, sends, shuts, shuts_other, strange, vast}
 use Rattle.transcript_law.specs.ClientRows.{noop}
 use Rattle.transcript_law.proofs.rows.Answering.{asked_so, bare_bytes, byte_at, fault_answer, fault_bytes, faulted, no_question, noop_answer, unnamed_fault}
 
@@ -29,6 +29,10 @@ no_other rest more e = let n : ◌≡◌ {A = ℕ} 2 1 = cc in omega (arith, n)
 pub closes : LawfulTo [] broken (says NOOP status.Einval ∷ shuts ∷ [])
 unfolding spelling frames_in first_frame frame_of read_of frame_row shape_fault request_of requirement_of
 closes = (λ z. fault_answer BadLengths (record { opcode = 10; opaque = 9 }) refl refl refl, (tt, tt))
+
+pub long : LawfulTo [] vast (says NOOP status.Einval ∷ shuts ∷ [])
+unfolding spelling frames_in first_frame frame_of read_of frame_row shape_fault request_of requirement_of
+long = (λ z. fault_answer BodyTooLong (record { opcode = 10; opaque = 9 }) refl refl refl, (tt, tt))
 
 pub stays : LawfulTo [] broken (says NOOP status.Einval ∷ []) → ⊥
 unfolding spelling frames_in first_frame frame_of read_of frame_row shape_fault request_of requirement_of

@@ -64,6 +64,10 @@ pub past_response : LawfulTo [] (responds ++ noop 9) (answers 9 ∷ [])
 unfolding spelling frames_in first_frame frame_of read_of frame_row shape_fault request_of requirement_of
 past_response = (λ z. noop_answer 9 refl refl refl refl, tt)
 
+pub past_both : LawfulTo [] (responds ++ noop 8 ++ noop 9) (answers 8 ∷ answers 9 ∷ [])
+unfolding spelling frames_in first_frame frame_of read_of frame_row shape_fault request_of requirement_of
+past_both = (λ z. noop_answer 8 refl refl refl refl, (λ z. noop_answer 9 refl refl refl refl, tt))
+
 pub acknowledged : LawfulOver acknowledges (replied (msg.OpenAnswer 4) 9 ∷ []) → ⊥
 unfolding spelling frames_in first_frame frame_of read_of frame_row shape_fault request_of requirement_of dcp_frame
 acknowledged l = no_question (l.0 refl) refl refl

@@ -53,6 +53,13 @@ module _ {Besides : Status → Type 0} {role : Option (Option Role)} {image : Pi
     unfit = λ a none. let e : None ≡ Some waiting.0 = sym none ∙ waiting.1 in cc;
   }
 
+  pub why_left : IsActive role → IsLocked image write.key → IsWhyRefused Besides role image write status.SyncWriteReCommitInProgress
+  why_left active waiting = record {
+    away = λ off. absurd (off active);
+    locked = λ a w. inr (inl refl);
+    unfit = λ a none. let e : None ≡ Some waiting.0 = sym none ∙ waiting.1 in cc;
+  }
+
   -- for a further reason
   pub why_besides : {st : Status} → IsActive role → Besides st → IsWhyRefused Besides role image write st
   why_besides active b = record { away = λ off. absurd (off active); locked = λ a w. inr (inr b); unfit = λ a e. inr b }
@@ -130,6 +137,10 @@ away_full l = let (g, s, fits) = asked_so (l.0 refl) refl refl refl in ⊎_elim 
 pub locked : LawfulTo pending (writes SET 0 9 4) (says SET status.SyncWriteInProgress ∷ [])
 unfolding spelling frames_in first_frame frame_of read_of frame_row shape_fault request_of requirement_of
 locked = (λ z. inl (record { question = _; next = refl; answer = reply_frame (bare_answer SET status.SyncWriteInProgress 9); spelled = refl; response = refl; opcode = refl; opaque = refl; fits = inl (status.SyncWriteInProgress, bare_so SET 9 status.SyncWriteInProgress, why_locked refl (waits, nine_waits)) }), tt)
+
+pub left_undone : LawfulTo pending (writes SET 0 9 4) (says SET status.SyncWriteReCommitInProgress ∷ [])
+unfolding spelling frames_in first_frame frame_of read_of frame_row shape_fault request_of requirement_of
+left_undone = (λ z. inl (record { question = _; next = refl; answer = reply_frame (bare_answer SET status.SyncWriteReCommitInProgress 9); spelled = refl; response = refl; opcode = refl; opaque = refl; fits = inl (status.SyncWriteReCommitInProgress, bare_so SET 9 status.SyncWriteReCommitInProgress, why_left refl (waits, nine_waits)) }), tt)
 
 pub locked_other : LawfulTo pending (writes REPLACE 0 9 4) (says REPLACE status.KeyEnoent ∷ []) → ⊥
 unfolding spelling frames_in first_frame frame_of read_of frame_row shape_fault request_of requirement_of

@@ -28,7 +28,7 @@ use Rattle.vb_types.specs.declared.status.Status.TheVariants as status
 use Rattle.vb_types.specs.declared.write.Op.{Op}
 use Rattle.vb_types.specs.declared.write.Op.TheVariants as op
 use Rattle.vb_types.specs.declared.write.Write.{Write}
-use Rattle.transcript_law.specs.AnswerRows.{LawfulBy, LawfulTo, for_seqnos, makes, makes_elsewhere, newer, newer_doc, once, over_prepare, removal, removes, stores, writes}
+use Rattle.transcript_law.specs.AnswerRows.{LawfulBy, LawfulTo, for_seqnos, makes, makes_elsewhere, makes_far, newer, newer_doc, once, over_prepare, removal, removes, stores, writes}
 use Rattle.transcript_law.specs.ClientAskRows.{serving}
 use Rattle.transcript_law.specs.ClientStreamRows.{pending, prepared as prepare_made}
 use Rattle.transcript_law.specs.ClientStreams.{ClientsKnown, blank_client}
@@ -74,6 +74,9 @@ module _ {n v : ℕ} {held : List Change} {own : OwnChange} {older : List OwnCha
 
   own_is : own ≡ its_own
   own_is = let e : own ∷ older ≡ its_own ∷ m.older = m.last in cc
+
+  pub node_is : own.node ≡ n
+  node_is = ap (λ (o : OwnChange). o.node) own_is
 
   pub vb_is : own.vb ≡ v
   vb_is = ap (λ (o : OwnChange). o.vb) own_is
@@ -166,6 +169,10 @@ value l = let (g, s, fits) = asked_so (l.1.0 refl) refl refl refl in ⊎_elim (�
 pub elsewhere : LawfulTo [] (writes SET 0 7 8) (makes_elsewhere one_change ∷ stores SET 1 [] ∷ []) → ⊥
 unfolding spelling frames_in first_frame frame_of read_of frame_row shape_fault request_of requirement_of
 elsewhere l = let (g, s, fits) = asked_so (l.1.0 refl) refl refl refl in ⊎_elim (λ r. let e : ◌≡◌ {A = ℕ} 1 0 = refused_cas r.1 s in omega (arith, e)) (λ m. let e : ◌≡◌ {A = ℕ} 1 0 = vb_is m in omega (arith, e)) fits
+
+pub far : LawfulTo [] (writes SET 0 7 8) (makes_far one_change ∷ stores SET 1 [] ∷ []) → ⊥
+unfolding spelling frames_in first_frame frame_of read_of frame_row shape_fault request_of requirement_of
+far l = let (g, s, fits) = asked_so (l.1.0 refl) refl refl refl in ⊎_elim (λ r. let e : ◌≡◌ {A = ℕ} 1 0 = refused_cas r.1 s in omega (arith, e)) (λ m. let e : ◌≡◌ {A = ℕ} 1 0 = node_is m in omega (arith, e)) fits
 
 pub twice : LawfulTo [] (writes SET 0 7 8 ++ writes SET 0 7 8) (makes one_change ∷ stores SET 1 [] ∷ stores SET 1 [] ∷ []) → ⊥
 unfolding spelling frames_in first_frame frame_of read_of frame_row shape_fault request_of requirement_of

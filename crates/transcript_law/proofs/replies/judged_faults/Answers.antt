@@ -4,6 +4,7 @@ use Rattle.transcript_law.proofs.replies.judged_faults.Goals as goal
 pub returns : goal.returns
 returns c = record {
   closes = rows.closes;
+  long = rows.long;
   stays = rows.stays;
   later = rows.later;
   opaque = rows.opaque;

@@ -14,6 +14,7 @@ returns c = record {
   out_of_turn = rows.out_of_turn;
   response = rows.response;
   past_response = rows.past_response;
+  past_both = rows.past_both;
   acknowledged = rows.acknowledged;
   past_acknowledged = rows.past_acknowledged;
   unopened = rows.unopened;

@@ -9,6 +9,7 @@ returns c = record {
   key = rows.key;
   value = rows.value;
   elsewhere = rows.elsewhere;
+  far = rows.far;
   twice = rows.twice;
   each = rows.each;
   late = rows.late;
