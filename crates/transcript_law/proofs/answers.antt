@@ -1,6 +1,7 @@
 -- what clients are answered
 pub mod Fits
 pub mod Messages
+pub mod Statuses
 pub mod Awaited
 pub mod Explained
 pub mod Committed

@@ -3,6 +3,7 @@ pub mod Known
 pub mod Questions
 pub mod Beside
 pub mod Messages
+pub mod Moments
 pub mod Setting
 pub mod Steps
 pub mod Views

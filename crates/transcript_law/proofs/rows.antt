@@ -31,6 +31,8 @@ pub mod FiredRows
 pub mod AloneRows
 pub mod BoundRows
 pub mod KindRows
+pub mod MessageRows
+pub mod MessageAnswers
 pub mod EffectRows
 pub mod RefusalRows
 pub mod FeedingRows

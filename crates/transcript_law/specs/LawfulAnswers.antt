@@ -13,7 +13,7 @@ use Rattle.mcbp_frame.specs.declared.frame.Frame.{Frame}
 use Rattle.mcbp_frame.specs.declared.frame.FrameFault.{FrameFault}
 use Rattle.mcbp_frame.specs.declared.frame.TheConstants.{RESPONSE}
 use Rattle.mcbp_kv.specs.declared.durable.Durability.{Durability}
-use Rattle.mcbp_kv.specs.Answers.{IsBare, IsFound, IsStored, IsWelcome, bare_answer}
+use Rattle.mcbp_kv.specs.Answers.{IsFound, IsStored, IsWelcome, bare_answer}
 use Rattle.mcbp_kv.specs.Replies.{reply_frame}
 use Rattle.mcbp_kv.specs.Requests.{request_of}
 use Rattle.mcbp_kv.specs.declared.request.KvRequest.{KvRequest}
@@ -32,6 +32,8 @@ use Rattle.vb_types.specs.declared.status.Status.{Status}
 use Rattle.vb_types.specs.declared.status.Status.TheVariants as status
 use Rattle.vb_types.specs.declared.write.Write.{Write}
 use Rattle.transcript_law.specs.LawfulClients.{IsActive}
+use Rattle.transcript_law.specs.LawfulMessages.{FitsDcp, Moment, moment_of}
+pub use Rattle.transcript_law.specs.LawfulMessages.{IsStatus}
 use Rattle.transcript_law.specs.LinesTold.{Chronicle, OwnChange, is_durable}
 use Rattle.transcript_law.specs.Questions.{Question, behind_frames, question_of}
 use Rattle.transcript_law.specs.StreamsTold.{Asking}
@@ -42,10 +44,6 @@ use Rattle.transcript_law.specs.StreamsTold.{Asking}
 abbrev pub AllDurable : List OwnChange → Type 0
 AllDurable [] = Unit {0}
 AllDurable (one ∷ older) = (is_durable one.change.act ≡ true) × AllDurable older
-
--- a request is refused with this status, or answered by it alone
-abbrev pub IsStatus : Frame → Frame → Status → Type 0
-IsStatus f g st = IsBare g f.opcode (status_code st) f.opaque
 
 -- a prepare waits at the key
 abbrev pub IsLocked : Picture → List ℕ → Type 0
@@ -141,13 +139,13 @@ FitsRequest chronicle n settings f g (Ok (request.Get key)) = FitsGet (chronicle
 FitsRequest chronicle n settings f g (Ok (request.Write write None)) = FitsWrite chronicle n f.vb_or_status settings write f g
 FitsRequest chronicle n settings f g (Ok (request.Write write (Some wish))) = FitsDurable chronicle n f.vb_or_status settings write f g
 
--- one of DCP is judged by the lines of its stream
-abbrev pub FitsBy : Bool → Chronicle → ℕ → Settings → Frame → Frame → Type 0
-FitsBy true chronicle n settings f g = Unit {0}
-FitsBy false chronicle n settings f g = FitsRequest chronicle n settings f g (request_of settings.json f)
+-- or, where DCP has its opcode, by what message it is
+abbrev pub FitsBy : Bool → Chronicle → ℕ → Moment → Settings → Frame → Frame → Type 0
+FitsBy true chronicle n at settings f g = FitsDcp chronicle n at f g
+FitsBy false chronicle n at settings f g = FitsRequest chronicle n settings f g (request_of settings.json f)
 
-abbrev pub FitsFrame : Chronicle → ℕ → Settings → Frame → Frame → Type 0
-FitsFrame chronicle n settings f g = FitsBy (is_dcp f.opcode) chronicle n settings f g
+abbrev pub FitsFrame : Chronicle → ℕ → Moment → Settings → Frame → Frame → Type 0
+FitsFrame chronicle n at settings f g = FitsBy (is_dcp f.opcode) chronicle n at settings f g
 
 -- ---- the answer to the next question
 
@@ -157,7 +155,7 @@ IsOutcome settings f g =
     (write : Write) × (durable : Option Durability) × (request_of settings.json f ≡ Ok (request.Write write durable)) × ((g.vb_or_status ≡ status_code status.Success) ⊎ (g.vb_or_status ≡ status_code status.SyncWriteAmbiguous))
 
 -- these bytes are a response to it, with its opcode and opaque, and fit it; and where it is refused, or asked for no write, it changed nothing: no set and no removal waits to be answered
-pub record Answers (chronicle : Chronicle) (n : ℕ) (asking : Asking) (bytes : List ℕ) : Type 0 where
+pub record Answers (chronicle : Chronicle) (n c : ℕ) (asking : Asking) (bytes : List ℕ) : Type 0 where
   pub question : Question
   pub next : question_of asking ≡ Some question
   pub answer : Frame
@@ -165,7 +163,7 @@ pub record Answers (chronicle : Chronicle) (n : ℕ) (asking : Asking) (bytes : 
   pub response : answer.magic ≡ RESPONSE
   pub opcode : answer.opcode ≡ question.frame.opcode
   pub opaque : answer.opaque ≡ question.frame.opaque
-  pub fits : FitsFrame chronicle n asking.settings question.frame answer
+  pub fits : FitsFrame chronicle n (moment_of (chronicle.clients_at n c) asking question) asking.settings question.frame answer
   pub calm : IsOutcome asking.settings question.frame answer ⊎ AllDurable chronicle.made
 
 -- no question is left, a fault stands behind the frames, and the answer to what its header names is Einval, which changed nothing; the connection closes
@@ -181,4 +179,4 @@ pub record AnswersFault (n c : ℕ) (made : List OwnChange) (asking : Asking) (b
 
 -- what a client is sent, but for frames of its streams
 abbrev pub LawfulReply : Chronicle → ℕ → ℕ → Asking → List ℕ → List Event → Type 0
-LawfulReply chronicle n c asking bytes behind = Answers chronicle n asking bytes ⊎ AnswersFault n c chronicle.made asking bytes behind
+LawfulReply chronicle n c asking bytes behind = Answers chronicle n c asking bytes ⊎ AnswersFault n c chronicle.made asking bytes behind

@@ -9,6 +9,7 @@ pub mod ClientAskRows
 pub mod LawfulClients
 pub mod Pulls
 pub mod Questions
+pub mod LawfulMessages
 pub mod LawfulAnswers
 pub mod StreamLaws
 pub mod StreamsTold
@@ -37,6 +38,7 @@ pub mod Feeding
 pub mod Alone
 pub mod BoundRows
 pub mod KindRows
+pub mod MessageRows
 pub mod Effects
 pub mod RefusalRows
 pub mod Tellings

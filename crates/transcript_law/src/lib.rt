@@ -20,6 +20,7 @@ mod firings;
 mod judged;
 mod kinds;
 mod lawful;
+mod messages;
 mod replies;
 mod steps;
 mod streams;
@@ -55,6 +56,10 @@ pub use judged::{
 };
 pub use kinds::{judged_firing_lines, judged_journal_lines, judged_kinds};
 pub use lawful::{groups_are_lawful, lines_are_known, set_lines_ask};
+pub use messages::{
+    judged_closings, judged_controls, judged_logs, judged_messages, judged_openings,
+    judged_told_requests,
+};
 pub use replies::{
     judged_answer_lines, judged_durables, judged_faults, judged_greetings, judged_outcomes,
     judged_questions, judged_reads, judged_refused_writes, judged_writes,

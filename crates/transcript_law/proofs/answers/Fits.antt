@@ -1,11 +1,11 @@
 -- what a client's session answers fits what the lines tell of the vBucket that was asked
 use Rattle.std.specs.Prelude.{◌≡◌, ◌∷◌, ◌++◌, ◌⊎◌, if◌then◌else◌, not}
 use Rattle.std.specs.FinMap as finite
-use Rattle.transcript_law.proofs.Words.{ℕ, Bool, true, false, List, [], refl, ap, sym, ◌∙◌, subst, inl, inr, Option, Some, None, Result, Ok, Err, Frame, RESPONSE, KvRequest, Change, Doc, Pend, Picture, Plain, PlainWorld, Role, Status, Op, Write, Chronicle, VbAnswer}
+use Rattle.transcript_law.proofs.Words.{ℕ, Bool, true, false, List, [], refl, ap, sym, ◌∙◌, subst, inl, inr, Option, Some, None, Ok, Frame, RESPONSE, KvRequest, Change, Doc, Pend, Picture, Plain, PlainWorld, Role, Status, Write, Chronicle, VbAnswer}
 use Rattle.transcript_law.proofs.Words.{doc_at, image_in, image_of, is_active, new_rev, refusal_reply, write_change}
 use Rattle.client_session.specs.Rows.{seqno_part}
 use Rattle.transcript_law.proofs.{answers.Committed.{CommitTold, HowTold}, disks.Absent.{nothing_here}, invariant.Agreement.{Agrees, AgreesAt, VbAgrees, active_counts, image_is, is_down, power_of, vb_of}, invariant.Seats.{seat}}
-use Rattle.transcript_law.specs.{Chronicles.{rested, resting}, LawfulAnswers.{AllDurable, IsImpossibleFirst, IsOutcome, FitsBy, FitsDurable, FitsFrame, FitsGet, FitsRequest, FitsWrite, IsCommitted, IsMade, IsRefused, IsStatus, IsWhyRefused, LacksMajority, LacksSeqnos}, LawfulClients.{IsActive}, LinesTold.{OwnChange}}
+use Rattle.transcript_law.specs.{Chronicles.{rested, resting}, LawfulAnswers.{AllDurable, IsImpossibleFirst, IsOutcome, FitsBy, FitsDurable, FitsFrame, FitsGet, FitsRequest, FitsWrite, IsCommitted, IsMade, IsRefused, IsStatus, IsWhyRefused, LacksMajority, LacksSeqnos}, LawfulClients.{IsActive}, LawfulMessages.{Moment}, LinesTold.{OwnChange}}
 use Rattle.branch_model.specs.Journals.{role_of}
 use Rattle.client_session.specs.Answers.{found_reply, reply_to, status_reply, stored_reply, value_reply}
 use Rattle.client_session.specs.Serving.{is_dcp, outcome_reply}
@@ -13,7 +13,7 @@ use Rattle.client_session.specs.declared.session.{Awaited.{Awaited}, Settings.{S
 use Rattle.durability.specs.Chains.{Members, is_possible}
 use Rattle.durability.specs.declared.waiting.Waiting.{Waiting}
 use Rattle.mcbp_kv.proofs.{Asked.{passed}, Shapes.{each_code}}
-use Rattle.mcbp_kv.specs.{Answers.{IsFound, IsStored, IsWelcome}, Features.{feature_bytes}, Replies.{reply_frame}, Requests.{request_by, request_of}}
+use Rattle.mcbp_kv.specs.{Answers.{IsFound, IsWelcome}, Features.{feature_bytes}, Replies.{reply_frame}, Requests.{request_by, request_of}}
 use Rattle.mcbp_kv.specs.declared.feature.Feature.{Feature}
 use Rattle.mcbp_kv.specs.declared.opcodes.TheConstants.{GET, HELLO}
 use Rattle.mcbp_kv.specs.declared.reply.KvReply.{KvReply}
@@ -321,12 +321,8 @@ module _ (settings : Settings) (f : Frame) (a : Awaited) (code : a.opcode ≡ f.
 -- ---- each by what the lines tell
 
 -- a frame that is none of DCP's fits where its request does
-pub frame_fits : (r : Chronicle) (n : ℕ) (settings : Settings) (f g : Frame) → FitsRequest r n settings f g (request_of settings.json f) → FitsFrame r n settings f g
-frame_fits r n settings f g fits = by (is_dcp f.opcode)
-  where
-    by : (b : Bool) → FitsBy b r n settings f g
-    by true = tt
-    by false = fits
+pub frame_fits : (r : Chronicle) (n : ℕ) (at : Moment) (settings : Settings) (f g : Frame) → is_dcp f.opcode ≡ false → FitsRequest r n settings f g (request_of settings.json f) → FitsFrame r n at settings f g
+frame_fits r n at settings f g own fits = subst (λ b. FitsBy b r n at settings f g) (sym own) fits
 
 module _ (r : Chronicle) (n v : ℕ) (settings : Settings) (f : Frame) (write : Write) where
   -- a vBucket that is not active, or is not there, refuses each write

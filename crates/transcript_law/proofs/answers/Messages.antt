@@ -20,18 +20,23 @@ use Rattle.transcript_law.specs.StreamsTold.{Setup}
 
 -- ---- answers
 
--- the answer to a frame, by whether it wants one: one response with its opcode and its opaque, or none
-abbrev pub IsAnswerTo : Frame → Bool → List ℕ → Type 0
-IsAnswerTo f true out = (g : Frame) × (out ≡ spelling g) × (g.magic ≡ RESPONSE) × (g.opcode ≡ f.opcode) × (g.opaque ≡ f.opaque)
-IsAnswerTo f false out = out ≡ []
+-- the answer to a frame, by whether it wants one: one response with its opcode and its opaque that fits, or none
+abbrev pub IsAnswerTo : (Frame → Type 0) → Frame → Bool → List ℕ → Type 0
+IsAnswerTo Fits f true out = (g : Frame) × (out ≡ spelling g) × (g.magic ≡ RESPONSE) × (g.opcode ≡ f.opcode) × (g.opaque ≡ f.opaque) × Fits g
+IsAnswerTo Fits f false out = out ≡ []
+
+-- it fits so, where it fits otherwise
+pub fits_too : (Fits Fits' : Frame → Type 0) → ((g : Frame) → Fits g → Fits' g) → (f : Frame) (wants : Bool) (out : List ℕ) → IsAnswerTo Fits f wants out → IsAnswerTo Fits' f wants out
+fits_too Fits Fits' also f true out (g, spelled, response, opcode, opaque, fits) = (g, spelled, response, opcode, opaque, also g fits)
+fits_too Fits Fits' also f false out none = none
 
 -- by what is known of whether it wants one
-pub answer_as : (f : Frame) (b wants : Bool) (out : List ℕ) → wants ≡ b → IsAnswerTo f b out → IsAnswerTo f wants out
-answer_as f b wants out is answers = subst (λ t. IsAnswerTo f t out) (sym is) answers
+pub answer_as : (Fits : Frame → Type 0) (f : Frame) (b wants : Bool) (out : List ℕ) → wants ≡ b → IsAnswerTo Fits f b out → IsAnswerTo Fits f wants out
+answer_as Fits f b wants out is answers = subst (λ t. IsAnswerTo Fits f t out) (sym is) answers
 
 -- a status alone is one
-pub status_to : (f : Frame) (st : Status) → IsAnswerTo f true (spelling (status_frame f st))
-status_to f st = (status_frame f st, refl, refl, refl, refl)
+pub status_to : (Fits : Frame → Type 0) (f : Frame) (st : Status) → Fits (status_frame f st) → IsAnswerTo Fits f true (spelling (status_frame f st))
+status_to Fits f st fits = (status_frame f st, refl, refl, refl, refl, fits)
 
 -- ---- which requests want an answer
 
@@ -127,27 +132,26 @@ log_opcode f asks is = let (row, said, number) = said_by f msg.GetFailoverLog as
 
 -- ---- their answers
 
--- what is said of a stream that was asked for
-verdict_to : (f : Frame) → f.opcode ≡ opcode_number op.StreamRequest → (verdict : StreamVerdict) → IsAnswerTo f true (spelling (dcp_frame (msg.StreamAnswer verdict) f.opaque 0))
+-- what is said of a stream that was asked for, which a line tells
+abbrev IsSaid : Frame → Type 0
+IsSaid g = Unit {0}
+
+verdict_to : (f : Frame) → f.opcode ≡ opcode_number op.StreamRequest → (verdict : StreamVerdict) → IsAnswerTo IsSaid f true (spelling (dcp_frame (msg.StreamAnswer verdict) f.opaque 0))
 unfolding dcp_frame
-verdict_to f number (StreamVerdict.Go log) = (dcp_frame (msg.StreamAnswer (StreamVerdict.Go log)) f.opaque 0, refl, refl, sym number, refl)
-verdict_to f number (StreamVerdict.Roll to) = (dcp_frame (msg.StreamAnswer (StreamVerdict.Roll to)) f.opaque 0, refl, refl, sym number, refl)
-verdict_to f number (StreamVerdict.Refused code) = (dcp_frame (msg.StreamAnswer (StreamVerdict.Refused code)) f.opaque 0, refl, refl, sym number, refl)
+verdict_to f number (StreamVerdict.Go log) = (dcp_frame (msg.StreamAnswer (StreamVerdict.Go log)) f.opaque 0, refl, refl, sym number, refl, tt)
+verdict_to f number (StreamVerdict.Roll to) = (dcp_frame (msg.StreamAnswer (StreamVerdict.Roll to)) f.opaque 0, refl, refl, sym number, refl, tt)
+verdict_to f number (StreamVerdict.Refused code) = (dcp_frame (msg.StreamAnswer (StreamVerdict.Refused code)) f.opaque 0, refl, refl, sym number, refl, tt)
 
 pub stream_answer_to : (f : Frame) (ask : StreamAsk) → message_of f ≡ Some (msg.StreamRequest ask) → (f.magic == RESPONSE) ≡ false → (log : List LogEntry) (said : AskAnswer)
-    → IsAnswerTo f true (spelling (dcp_frame (msg.StreamAnswer (stream_verdict log said)) f.opaque 0))
+    → IsAnswerTo IsSaid f true (spelling (dcp_frame (msg.StreamAnswer (stream_verdict log said)) f.opaque 0))
 stream_answer_to f ask is asks log said = verdict_to f (stream_opcode f ask asks is) (stream_verdict log said)
 
-pub stream_answers : (s : Setup) (f : Frame) (ask : StreamAsk) → message_of f ≡ Some (msg.StreamRequest ask) → (f.magic == RESPONSE) ≡ false → (log : List LogEntry) (said : AskAnswer)
-    → IsAnswerTo f (wants_answer s f) (spelling (dcp_frame (msg.StreamAnswer (stream_verdict log said)) f.opaque 0))
-stream_answers s f ask is asks log said =
-    answer_as f true (wants_answer s f) (spelling (dcp_frame (msg.StreamAnswer (stream_verdict log said)) f.opaque 0)) (stream_wants s f ask asks is) (stream_answer_to f ask is asks log said)
-
 -- a failover log
-pub log_answer_to : (f : Frame) → message_of f ≡ Some msg.GetFailoverLog → (f.magic == RESPONSE) ≡ false → (code : ℕ) (log : List LogEntry) → IsAnswerTo f true (spelling (dcp_frame (msg.LogAnswer code log) f.opaque 0))
+pub log_answer_to : (Fits : Frame → Type 0) (f : Frame) → message_of f ≡ Some msg.GetFailoverLog → (f.magic == RESPONSE) ≡ false → (code : ℕ) (log : List LogEntry) → Fits (dcp_frame (msg.LogAnswer code log) f.opaque 0)
+    → IsAnswerTo Fits f true (spelling (dcp_frame (msg.LogAnswer code log) f.opaque 0))
 unfolding dcp_frame
-log_answer_to f is asks code log = (dcp_frame (msg.LogAnswer code log) f.opaque 0, refl, refl, sym (log_opcode f asks is), refl)
+log_answer_to Fits f is asks code log fits = (dcp_frame (msg.LogAnswer code log) f.opaque 0, refl, refl, sym (log_opcode f asks is), refl, fits)
 
 -- and for CLOSE_STREAM a status alone
-pub close_answer_to : (s : Setup) (f : Frame) → message_of f ≡ Some msg.CloseStream → (f.magic == RESPONSE) ≡ false → (st : Status) → IsAnswerTo f (wants_answer s f) (spelling (status_frame f st))
-close_answer_to s f is asks st = answer_as f true (wants_answer s f) (spelling (status_frame f st)) (close_wants s f asks is) (status_to f st)
+pub close_answer_to : (Fits : Frame → Type 0) (s : Setup) (f : Frame) → message_of f ≡ Some msg.CloseStream → (f.magic == RESPONSE) ≡ false → (st : Status) → Fits (status_frame f st) → IsAnswerTo Fits f (wants_answer s f) (spelling (status_frame f st))
+close_answer_to Fits s f is asks st fits = answer_as Fits f true (wants_answer s f) (spelling (status_frame f st)) (close_wants s f asks is) (status_to Fits f st fits)

@@ -10,14 +10,14 @@ use Rattle.node_core.specs.Clients.{PlainClient, delivered, front_len}
 unfoldable use Rattle.node_core.specs.Clients.{with_replies}
 use Rattle.mcbp_dcp.specs.declared.message.DcpMsg.TheVariants as msg
 use Rattle.transcript_law.proofs.answers.Messages.{IsAnswerTo, asks_stream, stream_answer_to, stream_wants}
-use Rattle.transcript_law.proofs.indexers.{Hands.{Goes, HandedUp, answered_agrees, answered_as, question_told, reply_lawful}, Known.{bytes_left, next_request, no_frames}, Passing.{agrees, before, behind, bytes_behind, cluster, own, same_settings, so_far}}
+use Rattle.transcript_law.proofs.indexers.{Hands.{Goes, HandedUp, answered_agrees, answered_as, question_told, reply_lawful}, Known.{bytes_left, next_request, no_frames}, Moments.{told_is}, Passing.{agrees, before, behind, bytes_behind, cluster, own, same_settings, so_far}}
 use Rattle.transcript_law.proofs.indexers.Questions.{hand_asks, hand_if, in_hand, next_is}
 use Rattle.transcript_law.proofs.indexers.{Serving.{agrees_as, kept_past}, Steps.{ClientStep}, Streams.{AreOne}, Worlds.{OpensOwn, stepped, world_with}}
 use Rattle.transcript_law.proofs.invariant.{Agreement.{AgreesIn, answer_frame, idle}, ClientsTold.{ClientAgrees, KeptIs, setup_of}, Holdings.{vb_of}, OpenStreams.{Among, AreKept}, Tables.{at_here}}
 use Rattle.transcript_law.proofs.lines.Telling.{LawfulBefore, before_more, told_more}
 use Rattle.transcript_law.specs.{ClientFrames.{Request, ask_of, is_closed_by, message_of, request_in, set_by}, ClientStreams.{past_asked, past_request, unclosed}}
 use Rattle.transcript_law.proofs.answers.Calm.{durable_left}
-use Rattle.transcript_law.specs.{LawfulAnswers.{AllDurable, FitsBy, LawfulReply}, LawfulClients.{RefusesBy, RefusesOwn}, Questions.{Question, past_question, question_of, wants_answer}, StreamLaws.{LawfulSaid}, StreamsTold.{ClientKnown, ClientStream}}
+use Rattle.transcript_law.specs.{LawfulAnswers.{AllDurable, FitsBy, FitsFrame, LawfulReply}, LawfulClients.{RefusesBy, RefusesOwn}, LawfulMessages.{FitsMessage, Moment, moment_of}, Questions.{Question, past_question, question_of, wants_answer}, StreamLaws.{LawfulSaid}, StreamsTold.{ClientKnown, ClientStream}}
 use Rattle.vb_events.specs.declared.event.StreamName.TheVariants as name
 
 module _ (w : PlainWorld) (n c : ℕ) (node : PlainNode) (r : Chronicle) (f : Frame) (states : States) (lines : List Event) (client : PlainClient) (up : HandedUp w n c node r f states lines client) (ask : StreamAsk) (asks : ask_of f ≡ Some ask) where
@@ -170,7 +170,7 @@ module _ (w : PlainWorld) (n c : ℕ) (node : PlainNode) (r : Chronicle) (f : Fr
       both_told : after_lines told (line ∷ Event.Reply n c bytes ∷ []) ≡ told_both
       both_told = ap (λ x. after_line x (Event.Reply n c bytes)) line_told ∙ question_told n c bytes told_then question (ap (λ (k : ClientKnown). k.told) past_here) asked_next
 
-      answer_is : IsAnswerTo f true bytes
+      answer_is : IsAnswerTo (λ g. Unit {0}) f true bytes
       answer_is = stream_answer_to f ask message_is up.asks log said
 
       both_lawful : LawfulBefore told (line ∷ Event.Reply n c bytes ∷ [])
@@ -189,12 +189,24 @@ module _ (w : PlainWorld) (n c : ℕ) (node : PlainNode) (r : Chronicle) (f : Fr
         ((λ z. subst (λ x. LawfulReply x n c (x.clients_at n c).asking bytes more) (sym line_told) answer_lawful), rest),
       )
         where
+          -- a line told of it
+          at : Moment
+          at = moment_of (told_then.clients_at n c) (told_then.clients_at n c).asking question
+
+          told_by_line : at.told ≡ true
+          told_by_line =
+              ap (λ (k : ClientKnown). (moment_of k k.asking question).told) past_here
+              ∙ told_is known.asking was.session p.handshake mine.asks f past up.goes.bytes up.first (left_bytes ∙ up.behind)
+
+          fits : (g : Frame) → FitsFrame told_then n at (told_then.clients_at n c).asking.settings f g
+          fits g = subst (λ b. FitsBy b told_then n at (told_then.clients_at n c).asking.settings f g) (sym up.dcp) (subst (FitsMessage (told_then.role_at n v) (told_then.log_at n v) at f g) (sym message_is) told_by_line)
+
           answer_lawful : LawfulReply told_then n c (told_then.clients_at n c).asking bytes more
           answer_lawful =
-              let (g, out, response, code, number) = answer_is in
+              let (g, out, response, code, number, said_so) = answer_is in
               subst (λ out. LawfulReply told_then n c (told_then.clients_at n c).asking out more) (sym out)
               (reply_lawful told_then n c question g more asked_next response code number
-              (subst (λ b. FitsBy b told_then n (told_then.clients_at n c).asking.settings f g) (sym up.dcp) tt) (inr up.goes.calm))
+              (fits g) (inr up.goes.calm))
 
       -- so they are delivered
       named_at : (d : Desk) → d ≡ record { stream = name.Client n c; node = n; base = d.base } → (x y : ℕ) → x ≡ n → y ≡ c → with_replies x y (ask_line d f ask log high said ∷ []) bytes ≡ line ∷ Event.Reply n c bytes ∷ []

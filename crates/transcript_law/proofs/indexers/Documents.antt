@@ -19,7 +19,7 @@ use Rattle.vb_calls.specs.declared.calls.{Resolution.{Resolution}}
 use Rattle.vb_calls.specs.declared.calls.VbCall.TheVariants.{Durable, Get, Store}
 use Rattle.node_core.specs.Clients.{PlainClient}
 use Rattle.mcbp_kv.specs.declared.durable.Durability.{Durability}
-use Rattle.transcript_law.specs.{LawfulAnswers.{AllDurable, FitsFrame, FitsRequest, IsOutcome}, LawfulClients.{IsActive}, Questions.{Question, question_of, settings_after, settings_by}, LinesTold.{OwnChange}, StreamsTold.{ClientsKnown, with_at}}
+use Rattle.transcript_law.specs.{LawfulAnswers.{AllDurable, FitsFrame, FitsRequest, IsOutcome}, LawfulClients.{IsActive}, LawfulMessages.{Moment, moment_of}, Questions.{Question, question_of, settings_after, settings_by}, LinesTold.{OwnChange}, StreamsTold.{ClientsKnown, with_at}}
 use Rattle.mcbp_kv.specs.Replies.{reply_frame}
 use Rattle.vb_types.specs.declared.status.Status.TheVariants.{Etmpfail, NotMyVbucket, Success}
 use Rattle.mcbp_kv.specs.declared.request.KvRequest.TheVariants as request
@@ -186,13 +186,14 @@ module _ (stays : StaysSound) (steady : Steady) (w : PlainWorld) (r : Chronicle)
           let g : Standing w n c base r states (before ++ x.1.events) client = goes_of x states same held.now in
           let known = (stands w n c base r g).asks.settings in
           let frame : Frame = reply_frame reply in
-          let at : FitsFrame (so_far x) n settings f frame = frame_fits (so_far x) n settings f frame (subst (FitsRequest (so_far x) n settings f frame) (sym is) fits) in
+          let moment : Moment = moment_of ((so_far x).clients_at n c) ((so_far x).clients_at n c).asking question in
+          let at : FitsFrame (so_far x) n moment settings f frame = frame_fits (so_far x) n moment settings f frame own (subst (FitsRequest (so_far x) n settings f frame) (sym is) fits) in
           let after : settings_after settings f ≡ settings_by asked settings = (λ i. if own i then settings else settings_by (is i) settings) in
           subst (λ es. Goes w n c base r states es (record client { session = session }))
           (append_assoc before x.1.events (Event.Reply n c (spelling frame) ∷ []) ∙ (λ i. before ++ (x.1.events ++ Event.Reply (sym held.now.2.0 i) (sym held.now.2.1 i) (spelling frame) ∷ [])))
           (answered_goes w n c base r g session (who ∙ held.who) (closed ∙ held.closed) (reader ∙ held.reader) (in_hand f) hand question held.next free
           (set ∙ sym after ∙ ap (λ (s : Settings). settings_after s f) held.settings) frame repeats.response repeats.opcode repeats.opaque
-          (subst (λ s. FitsFrame (so_far x) n s f frame) (held.settings ∙ sym known) at) (subst (λ s. IsOutcome s f frame ⊎ AllDurable (so_far x).made) (held.settings ∙ sym known) calm))
+          (subst (λ s. FitsFrame (so_far x) n moment s f frame) (held.settings ∙ sym known) at) (subst (λ s. IsOutcome s f frame ⊎ AllDurable (so_far x).made) (held.settings ∙ sym known) calm))
 
       -- with a status alone
       status_goes : (asked : Result KvRequest Status) (st : Status) → request_of settings.json f ≡ asked → settings ≡ settings_by asked settings → FitsRequest (so_far x) n settings f (reply_frame (status_reply f st)) asked → AllDurable (so_far x).made → Ends (states, refused f st x.1)
@@ -396,9 +397,10 @@ outcome_goes w n c base r a how states before producer s waits some told g =
     let durable : IsDurableFrame settings f = o.durable some in
     let reply : KvReply = outcome_reply s.session.settings a how in
     let repeats : Repeats f (reply_frame reply) = outcome_repeats s.session.settings f a how o.opcode o.opaque in
-    let fits : FitsFrame so n settings f (reply_frame reply) =
-    subst (λ x. FitsFrame so n settings f (reply_frame (outcome_reply x a how))) same
-    (frame_fits so n settings f (reply_frame (outcome_reply settings a how)) (subst (FitsRequest so n settings f (reply_frame (outcome_reply settings a how))) (sym durable.asks) (outcome_fits so n f.vb_or_status settings f durable.write a how o.opcode o.opaque told))) in
+    let moment : Moment = moment_of (so.clients_at n c) (so.clients_at n c).asking o.question in
+    let fits : FitsFrame so n moment settings f (reply_frame reply) =
+    subst (λ x. FitsFrame so n moment settings f (reply_frame (outcome_reply x a how))) same
+    (frame_fits so n moment settings f (reply_frame (outcome_reply settings a how)) durable.own (subst (FitsRequest so n settings f (reply_frame (outcome_reply settings a how))) (sym durable.asks) (outcome_fits so n f.vb_or_status settings f durable.write a how o.opcode o.opaque told))) in
     let after : settings_after settings f ≡ settings = (λ i. if durable.own i then settings else settings_by (durable.asks i) settings) in
     subst (λ es. Goes w n c base r states es (record { session = record s.session { awaited = None }; producer = producer }))
     (append_assoc before s.events (Event.Reply n c (spelling (reply_frame reply)) ∷ []) ∙ (λ i. before ++ (s.events ++ Event.Reply (sym own.conn.node i) (sym own.conn.number i) (spelling (reply_frame reply)) ∷ [])))

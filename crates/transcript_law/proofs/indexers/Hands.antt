@@ -10,7 +10,7 @@ use Rattle.transcript_law.proofs.invariant.{Agreement.{Agrees, AgreesIn, idle}, 
 use Rattle.transcript_law.proofs.indexers.{Beside.{beside}, Questions.{past_asks}, Serving.{session_agrees}, Steps.{ClientStep}, Worlds.{client_here, step_quiet, stepped, stepped_same, vb_here, world_with}}
 use Rattle.transcript_law.proofs.lines.Telling.{LawfulBefore, before_more, told_more}
 use Rattle.mcbp_frame.specs.Spelling.{spelling}
-use Rattle.transcript_law.specs.{ClientStreams.{clients_frame}, Feeding.{HasFed, HasOpen}, LawfulAnswers.{AllDurable, FitsFrame, IsOutcome, LawfulReply}, LinesTold.{made_line}, Questions.{Question, past_answer, past_question, past_question_if, question_of, settings_after}, StreamsTold.{ClientKnown, with_at}}
+use Rattle.transcript_law.specs.{ClientStreams.{clients_frame}, Feeding.{HasFed, HasOpen}, LawfulAnswers.{AllDurable, FitsFrame, IsOutcome, LawfulReply}, LawfulMessages.{moment_of}, LinesTold.{made_line}, Questions.{Question, past_answer, past_question, past_question_if, question_of, settings_after}, StreamsTold.{ClientKnown, with_at}}
 use Rattle.vb_events.specs.declared.event.StreamName.{StreamName}
 
 -- ---- an answer
@@ -66,7 +66,7 @@ module _ (w : PlainWorld) (n c : ℕ) (node : PlainNode) (states : States) (clie
 
 -- an answer that fits, and does not pass over a change, is lawful
 pub reply_lawful : (r : Chronicle) (n c : ℕ) (q : Question) (answer : Frame) (behind : List Event) → question_of (r.clients_at n c).asking ≡ Some q → answer.magic ≡ RESPONSE → answer.opcode ≡ q.frame.opcode → answer.opaque ≡ q.frame.opaque
-    → FitsFrame r n (r.clients_at n c).asking.settings q.frame answer → IsOutcome (r.clients_at n c).asking.settings q.frame answer ⊎ AllDurable r.made → LawfulReply r n c (r.clients_at n c).asking (spelling answer) behind
+    → FitsFrame r n (moment_of (r.clients_at n c) (r.clients_at n c).asking q) (r.clients_at n c).asking.settings q.frame answer → IsOutcome (r.clients_at n c).asking.settings q.frame answer ⊎ AllDurable r.made → LawfulReply r n c (r.clients_at n c).asking (spelling answer) behind
 reply_lawful r n c q answer behind next response code number fits calm = inl (record { question = q; next = next; answer = answer; spelled = refl; response = response; opcode = code; opaque = number; fits = fits; calm = calm })
 
 -- ---- the connection
@@ -143,7 +143,7 @@ module _ (w : PlainWorld) (n c : ℕ) (node : PlainNode) (r : Chronicle) where
 
       -- or what was awaited is answered
       pub answered_goes : (o : Awaited) → client.session.awaited ≡ Some o → (q : Question) → question_of (so_far.clients_at n c).asking ≡ Some q → session.awaited ≡ None → session.settings ≡ settings_after client.session.settings q.frame
-          → (answer : Frame) → answer.magic ≡ RESPONSE → answer.opcode ≡ q.frame.opcode → answer.opaque ≡ q.frame.opaque → FitsFrame so_far n (so_far.clients_at n c).asking.settings q.frame answer
+          → (answer : Frame) → answer.magic ≡ RESPONSE → answer.opcode ≡ q.frame.opcode → answer.opaque ≡ q.frame.opaque → FitsFrame so_far n (moment_of (so_far.clients_at n c) (so_far.clients_at n c).asking q) (so_far.clients_at n c).asking.settings q.frame answer
           → IsOutcome (so_far.clients_at n c).asking.settings q.frame answer ⊎ AllDurable so_far.made → Goes states (lines ++ Event.Reply n c (spelling answer) ∷ []) (record client { session = session })
       answered_goes o waits q next free settings answer response code number fits calm =
           let line : Event = Event.Reply n c (spelling answer) in

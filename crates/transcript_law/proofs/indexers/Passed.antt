@@ -1,15 +1,16 @@
 -- whatever a frame is that a client's session handed up, all agrees behind its answer
 use Rattle.std.specs.Prelude.{◌≡◌, ◌++◌}
-use Rattle.transcript_law.proofs.Words.{ℕ, true, false, List, refl, sym, ap, ◌∙◌, subst, ⊎_elim, Option, Some, None, Status, Event, Frame, DcpMsg, States, PlainNode, PlainWorld, PlainProducer, Chronicle, Prog, Done, after, begun}
+use Rattle.transcript_law.proofs.Words.{ℕ, Bool, true, false, List, refl, sym, ap, ◌∙◌, subst, ⊎_elim, Option, Some, None, Status, Role, LogEntry, Event, Frame, DcpMsg, States, PlainNode, PlainWorld, PlainProducer, Chronicle, Prog, Done, after, begun}
 use Rattle.dcp_producer.specs.Producers.{Served, is_client}
 use Rattle.dcp_producer.specs.Serving.{frame_answered, message_answered, status_sent}
 use Rattle.mcbp_dcp.specs.declared.message.DcpMsg.TheVariants as msg
 use Rattle.node_core.proofs.Handlings.{answered}
 use Rattle.node_core.specs.Clients.{Handling, PlainClient, delivered}
-use Rattle.transcript_law.proofs.answers.Messages.{unknown_wants}
-use Rattle.transcript_law.proofs.indexers.{Asked.{passed_ask}, Hands.{Goes, HandedUp, InHand}, Passing.{before, behind, own, passed_quiet}, Quiet.{Quietly, message_so, says, status_so}, Releasing.{passed_close}, Worlds.{world_with}}
+use Rattle.transcript_law.proofs.answers.{Messages.{unknown_wants}, Statuses.{alone}}
+use Rattle.transcript_law.proofs.indexers.{Asked.{passed_ask}, Hands.{Goes, HandedUp, InHand}, Passing.{FitsNow, before, behind, is_told, own, passed_quiet, so_far, told_here, stream as stream_now}, Quiet.{Quietly, message_so, says, status_so}, Releasing.{passed_close}, Worlds.{world_with}}
 use Rattle.transcript_law.proofs.invariant.{Agreement.{is_down, power_of}, ClientsTold.{setup_of}}
-use Rattle.transcript_law.specs.ClientFrames.{ask_by, is_close, message_of, set_by}
+use Rattle.transcript_law.specs.ClientFrames.{ask_by, is_close, message_of}
+use Rattle.transcript_law.specs.StreamsTold.{ClientStream}
 
 module _ (w : PlainWorld) (n c : ℕ) (node : PlainNode) (r : Chronicle) (f : Frame) (states : States) (lines : List Event) (client : PlainClient) (up : HandedUp w n c node r f states lines client)
     (running : is_down (power_of (world_with w n c node states (Some (before w n c node r f states lines client up))) n) ≡ false) where
@@ -25,16 +26,37 @@ module _ (w : PlainWorld) (n c : ℕ) (node : PlainNode) (r : Chronicle) (f : Fr
   at_client : is_client p.desk.stream ≡ true
   at_client = ap (λ d. is_client d.stream) (own w n c node r f states lines client up).conn.desk
 
+  -- what is known of its vBucket, and of its connection's stream of that
+  abbrev so : Chronicle
+  so = so_far w n c node r f states lines client up
+
+  abbrev role : Option (Option Role)
+  role = so.role_at n f.vb_or_status
+
+  abbrev known : Option (List LogEntry)
+  known = so.log_at n f.vb_or_status
+
+  abbrev stream : Option ClientStream
+  stream = stream_now w n c node r f states lines client up
+
+  abbrev told : Bool
+  told = is_told w n c node r f states lines client up
+
+  abbrev Fits : Option DcpMsg → Frame → Type 0
+  Fits = FitsNow w n c node r f states lines client up
+
   -- it says nothing that is known
   unknown : message_of f ≡ None → Comes (Done (status_sent f Status.Einval s))
   unknown none = passed_quiet w n c node r f states lines client up (states, status_sent f Status.Einval s) (ap ask_by none) (ap is_close none)
-      (status_so f states p (unknown_wants (setup_of p.handshake) f up.asks none) (message_of f) Status.Einval (ap (λ m. set_by m (setup_of p.handshake)) none))
+      (subst (λ m. Quietly Fits f m states p (states, status_sent f Status.Einval s)) (sym none)
+      (status_so role known stream told f states p (unknown_wants (setup_of p.handshake) f up.asks none) None Status.Einval (alone f Status.Einval) refl))
 
   -- or a message
   quiet : (m : DcpMsg) → message_of f ≡ Some m → ask_by (Some m) ≡ None → is_close (Some m) ≡ false → Comes (message_answered f m s)
   quiet m is none open_still =
       let x : States × Served = after (message_answered f m s) states in
-      passed_quiet w n c node r f states lines client up x (ap ask_by is ∙ none) (ap is_close is ∙ open_still) (subst (λ o. Quietly f o states p x) (sym is) (message_so f states p up.asks at_client m is none open_still))
+      passed_quiet w n c node r f states lines client up x (ap ask_by is ∙ none) (ap is_close is ∙ open_still) (subst (λ o. Quietly Fits f o states p x) (sym is)
+      (message_so role known stream told f states p up.asks at_client (told_here w n c node r f states lines client up running) m is none open_still))
 
   message : (m : DcpMsg) → message_of f ≡ Some m → Comes (message_answered f m s)
   message (msg.StreamRequest ask) is = passed_ask w n c node r f states lines client up ask (ap ask_by is) running

@@ -1,17 +1,17 @@
 -- a frame that a client's session handed up is answered, and no line tells of it
 use Rattle.std.specs.Prelude.{◌≡◌, ◌<◌, ◌++◌, ◌∷◌, if◌then◌else◌}
 use Rattle.std.proofs.lemmas.List.Elements.{All-drop}
-use Rattle.transcript_law.proofs.Words.{ℕ, Bool, true, false, List, [], refl, sym, ap, ◌∙◌, subst, append-nil, inl, inr, Some, None, Event, Frame, AreBytes, States, PlainNode, PlainWorld, PlainProducer, Cluster, Chronicle, after_lines}
+use Rattle.transcript_law.proofs.Words.{ℕ, Bool, true, false, List, [], refl, sym, ap, ◌∙◌, subst, append-nil, inl, inr, Option, Some, None, DcpMsg, Event, Frame, AreBytes, States, PlainNode, PlainWorld, PlainProducer, Cluster, Chronicle, after_lines}
 use Rattle.dcp_producer.specs.Producers.{Served}
 use Rattle.mcbp_frame.specs.Frames.{frame_len}
 use Rattle.node_core.specs.Clients.{PlainClient, delivered, reply_alone}
 unfoldable use Rattle.node_core.specs.Clients.{with_replies}
 use Rattle.transcript_law.proofs.answers.Messages.{IsAnswerTo}
-use Rattle.transcript_law.proofs.indexers.{Hands.{Goes, HandedUp, answered_goes, mine, standing}, Questions.{hand_asks, hand_if, in_hand, next_is}, Quiet.{Quietly}, Serving.{IsBehind, served_plain}, Steps.{ClientStep}, Worlds.{OpensOwn, step_quiet, stepped_same, vb_here, world_with}}
-use Rattle.transcript_law.proofs.invariant.{Agreement.{AgreesIn, idle}, ClientsTold.{AskingIs, ClientAgrees, setup_of}, OpenStreams.{AreKept}}
+use Rattle.transcript_law.proofs.indexers.{Hands.{Goes, HandedUp, answered_goes, mine, standing}, Questions.{hand_asks, hand_if, in_hand, next_is}, Quiet.{IsTold, Quietly}, Moments.{moment_is}, Serving.{IsBehind, served_plain}, Steps.{ClientStep}, Worlds.{OpensOwn, step_quiet, stepped_same, vb_here, world_with}}
+use Rattle.transcript_law.proofs.{answers.Fits.{away}, invariant.{Agreement.{AgreesAt, AgreesIn, VbAgrees, idle, is_down, power_of}, ClientsTold.{AskingIs, ClientAgrees, setup_of}, OpenStreams.{AreKept}, Seats.{seat}, Tables.{if_known}}}
 use Rattle.mcbp_frame.specs.Spelling.{spelling}
 use Rattle.mcbp_kv.specs.Requests.{request_of}
-use Rattle.transcript_law.specs.{ClientFrames.{ask_of, is_close, message_of, set_by}, Feeding.{HasOpen}, LawfulAnswers.{FitsBy, FitsFrame}, Questions.{Question, question_of, settings_after, settings_by, wants_answer}}
+use Rattle.transcript_law.specs.{ClientFrames.{ask_of, is_close, message_of, set_by}, ClientStreams.{unclosed}, Feeding.{HasOpen}, LawfulAnswers.{FitsBy, FitsFrame}, LawfulMessages.{FitsDcp, FitsMessage, moment_of}, StreamsTold.{ClientStream}, Questions.{Question, question_of, settings_after, settings_by, wants_answer}}
 
 -- what is kept of a producer hangs on its numbers and its streams
 pub kept_as : (p q : PlainProducer) → q.desk ≡ p.desk → q.asked ≡ p.asked → q.streams ≡ p.streams → AreKept p → AreKept q
@@ -69,9 +69,31 @@ module _ (w : PlainWorld) (n c : ℕ) (node : PlainNode) (r : Chronicle) (f : Fr
   pub is_asked : wants ≡ true → question_of (so_far.clients_at n c).asking ≡ Some question
   is_asked w = next_is (so_far.clients_at n c).asking before.session before.session client.producer.handshake client.producer.handshake f up.goes.bytes up.first own.asks up.free w
 
-  -- a frame of DCP is judged by the lines of its stream, and sets no feature
-  pub fits_dcp : (answer : Frame) → FitsFrame so_far n (so_far.clients_at n c).asking.settings f answer
-  fits_dcp answer = subst (λ b. FitsBy b so_far n (so_far.clients_at n c).asking.settings f answer) (sym up.dcp) tt
+  -- what is known of its connection when it is asked is what the producer has
+  abbrev pub stream : Option ClientStream
+  stream = unclosed own.heard.served (so_far.clients_at n c).streams f.vb_or_status
+
+  -- and whether a line told of it
+  abbrev pub is_told : Bool
+  is_told = (moment_of (so_far.clients_at n c) (so_far.clients_at n c).asking question).told
+
+  -- a frame of DCP is judged by that, and by what is known of its vBucket, and sets no feature
+  abbrev pub FitsNow : Option DcpMsg → Frame → Type 0
+  FitsNow m answer = FitsMessage (so_far.role_at n f.vb_or_status) (so_far.log_at n f.vb_or_status) (record { setup = setup_of client.producer.handshake; stream = stream; told = is_told }) f answer m
+
+  pub fits_dcp : (answer : Frame) → FitsNow (message_of f) answer → FitsFrame so_far n (moment_of (so_far.clients_at n c) (so_far.clients_at n c).asking question) (so_far.clients_at n c).asking.settings f answer
+  fits_dcp answer fits =
+      subst (λ b. FitsBy b so_far n (moment_of (so_far.clients_at n c) (so_far.clients_at n c).asking question) (so_far.clients_at n c).asking.settings f answer) (sym up.dcp)
+      (subst (λ at. FitsDcp so_far n at f answer) (sym (moment_is (so_far.clients_at n c) (so_far.clients_at n c).asking before.session client.producer.handshake own.heard own.asks f)) fits)
+
+  -- what is known of its vBucket is what the node has of it
+  pub told_here : is_down (power_of (world_with w n c node states (Some before)) n) ≡ false → IsTold (so_far.role_at n f.vb_or_status) (so_far.log_at n f.vb_or_status) (states f.vb_or_status)
+  told_here running = record {
+    away = λ e. away (world_with w n c node states (Some before)) so_far n f.vb_or_status (cluster, agrees) (vb_here w n c node states (Some before) f.vb_or_status ∙ e) running;
+    there = λ vb e.
+        let it : VbAgrees so_far n f.vb_or_status (cluster.nodes (seat n f.vb_or_status)) vb = subst (AgreesAt so_far n f.vb_or_status (cluster.nodes (seat n f.vb_or_status))) (vb_here w n c node states (Some before) f.vb_or_status ∙ e) (agrees.vbs n f.vb_or_status) in
+        ((λ off. let z : Some None ≡ Some (Some vb.role) = sym off ∙ it.role in cc), if_known (so_far.log_at n f.vb_or_status) vb.log it.log);
+  }
 
   pub same_settings : client.session.settings ≡ settings_after client.session.settings f
   same_settings = sym (ap (λ b. if b then client.session.settings else settings_by (request_of client.session.settings.json f) client.session.settings) up.dcp)
@@ -82,22 +104,22 @@ module _ (w : PlainWorld) (n c : ℕ) (node : PlainNode) (r : Chronicle) (f : Fr
   is_alone s none = ap (λ es. with_replies client.session.who.node client.session.who.client es s.out) none ∙ (λ i. reply_alone (own.conn.node i) (own.conn.number i) s.out)
 
   -- an answer of which no line tells
-  pub passed_step : (x : States × Served) → x.1.events ≡ [] → IsAnswerTo f wants x.1.out → (step : ClientStep (world_with w n c node states (Some before)) (world_with w n c node x.0 (Some (hand x.1))) n c)
+  pub passed_step : (x : States × Served) → x.1.events ≡ [] → IsAnswerTo (FitsNow (message_of f)) f wants x.1.out → (step : ClientStep (world_with w n c node states (Some before)) (world_with w n c node x.0 (Some (hand x.1))) n c)
       → OpensOwn w n c node states x.0 before (hand x.1) so_far (so_far.clients_at n c) cluster agrees step → ClientAgrees (world_with w n c node x.0 (Some (hand x.1))) so_far n c (hand x.1)
       → Goes w n c node r x.0 (lines ++ delivered client.session.who x.1) (behind x.1)
   passed_step x none is step opens told =
       subst (λ es. Goes w n c node r x.0 (lines ++ es) (behind x.1)) (sym (is_alone x.1 none))
       (by wants refl is (record { lawful = up.goes.lawful; agrees = (cluster, stepped_same w n c node states x.0 before (hand x.1) so_far cluster agrees step opens told); bytes = bytes_behind; calm = up.goes.calm }))
     where
-      by : (b : Bool) → wants ≡ b → IsAnswerTo f b x.1.out → Goes w n c node r x.0 lines (record client { session = record client.session { awaited = hand_if b f }; producer = x.1.end }) → Goes w n c node r x.0 (lines ++ reply_alone n c x.1.out) (behind x.1)
+      by : (b : Bool) → wants ≡ b → IsAnswerTo (FitsNow (message_of f)) f b x.1.out → Goes w n c node r x.0 lines (record client { session = record client.session { awaited = hand_if b f }; producer = x.1.end }) → Goes w n c node r x.0 (lines ++ reply_alone n c x.1.out) (behind x.1)
       by false unasked quiet g =
           subst (λ es. Goes w n c node r x.0 es (behind x.1)) (sym (ap (λ out. lines ++ reply_alone n c out) quiet ∙ append-nil lines))
           (subst (λ o. Goes w n c node r x.0 lines (record client { session = record client.session { awaited = o }; producer = x.1.end })) (sym up.free) g)
-      by true asked (answer, out, response, code, number) g =
+      by true asked (answer, out, response, code, number, fits) g =
           subst (λ es. Goes w n c node r x.0 (lines ++ es) (behind x.1)) (sym (ap (reply_alone n c) out ∙ spelled_alone n c answer))
-          (answered_goes w n c node r (standing w n c node r g) client.session refl refl refl (in_hand f) refl question (is_asked asked) up.free same_settings answer response code number (fits_dcp answer) (inr up.goes.calm))
+          (answered_goes w n c node r (standing w n c node r g) client.session refl refl refl (in_hand f) refl question (is_asked asked) up.free same_settings answer response code number (fits_dcp answer fits) (inr up.goes.calm))
 
-  pub passed_quiet : (x : States × Served) → ask_of f ≡ None → is_close (message_of f) ≡ false → Quietly f (message_of f) states client.producer x → Goes w n c node r x.0 (lines ++ delivered client.session.who x.1) (behind x.1)
+  pub passed_quiet : (x : States × Served) → ask_of f ≡ None → is_close (message_of f) ≡ false → Quietly FitsNow f (message_of f) states client.producer x → Goes w n c node r x.0 (lines ++ delivered client.session.who x.1) (behind x.1)
   passed_quiet x none open_still q =
       let new : PlainWorld = world_with w n c node x.0 (Some (hand x.1)) in
       let old : PlainWorld = world_with w n c node states (Some before) in

@@ -6,11 +6,11 @@ use Rattle.dcp_producer.specs.Serving.{close_requested, closed_sent, status_fram
 unfoldable use Rattle.dcp_producer.specs.Serving.{status_sent}
 use Rattle.mcbp_dcp.specs.declared.message.DcpMsg.TheVariants as msg
 use Rattle.node_core.specs.Clients.{PlainClient, delivered}
-use Rattle.transcript_law.proofs.indexers.{Hands.{Goes, HandedUp}, Passing.{agrees, asks_in_hand, before, behind, cluster, hand, is_behind, kept_as, own, passed_step, so_far}, Quiet.{put_here, put_there}}
+use Rattle.transcript_law.proofs.indexers.{Hands.{Goes, HandedUp}, Moments.{close_none, close_some}, Passing.{FitsNow, agrees, asks_in_hand, before, behind, cluster, hand, is_behind, kept_as, own, passed_step, so_far, stream as stream_now}, Setting.{open_as}, Quiet.{put_here, put_there}}
 use Rattle.transcript_law.proofs.indexers.{Serving.{served_close}, Steps.{ClientStep}, Streams.{among_without, closed_here, closed_there, found_is, none_at, one_closed, open_without}, Worlds.{client_here, open_own, step_at, step_quiet, vb_here, world_with}}
-use Rattle.transcript_law.proofs.invariant.{Agreement.{AgreesAt, VbAgrees}, Carried.{sound_streams}, Carrying.{StreamsChanged}, ClientsKept.{found_open, open_known}, ClientsTold.{ClientAgrees, setup_of}, OpenStreams.{kept_over}, Seats.{seat}}
-use Rattle.transcript_law.proofs.{answers.Messages.{close_answer_to}, links.Cutting.{closed_others}}
-use Rattle.transcript_law.specs.{ClientFrames.{ask_by, ask_of, is_close, message_of, set_by}, Feeding.{HasFed, HasOpen}}
+use Rattle.transcript_law.proofs.invariant.{Agreement.{AgreesAt, VbAgrees}, Carried.{sound_streams}, Carrying.{StreamsChanged}, ClientsKept.{found_open, open_known}, ClientsTold.{ClientAgrees, KeptIs, setup_of}, Holdings.{vb_of}, OpenStreams.{kept_over}, Seats.{seat}}
+use Rattle.transcript_law.proofs.{answers.Messages.{close_answer_to}, answers.Statuses.{alone_as, once_open}, links.Cutting.{closed_others}}
+use Rattle.transcript_law.specs.{ClientFrames.{ask_by, ask_of, is_close, is_closed_by, message_of, set_by}, Feeding.{HasFed, HasOpen}, LawfulMessages.{close_status}, StreamsTold.{ClientStream}}
 use Rattle.vb_calls.specs.declared.calls.VbCall.TheVariants as call
 use Rattle.vb_events.specs.declared.event.StreamName.TheVariants as name
 
@@ -34,6 +34,9 @@ module _ (w : PlainWorld) (n c : ℕ) (node : PlainNode) (r : Chronicle) (f : Fr
   abbrev mine : ClientAgrees old (so_far w n c node r f states lines client up) n c (before w n c node r f states lines client up)
   mine = own w n c node r f states lines client up
 
+  abbrev so : Chronicle
+  so = so_far w n c node r f states lines client up
+
   no_ask : ask_of f ≡ None
   no_ask = ap ask_by says
 
@@ -43,20 +46,40 @@ module _ (w : PlainWorld) (n c : ℕ) (node : PlainNode) (r : Chronicle) (f : Fr
   sets : set_by (message_of f) (setup_of p.handshake) ≡ setup_of p.handshake
   sets = ap (λ m. set_by m (setup_of p.handshake)) says
 
+  -- what is known of the stream is what the producer has
+  abbrev stream_known : Option ClientStream
+  stream_known = stream_now w n c node r f states lines client up
+
+  -- a status alone fits, over an open connection by that
+  abbrev Fits : Frame → Type 0
+  Fits = FitsNow w n c node r f states lines client up (message_of f)
+
+  fits_as : (st : Status) → (is_open p.handshake ≡ true → close_status stream_known ≡ st) → (is_open p.handshake ≡ false → st ≡ Status.Einval) → Fits (status_frame f st)
+  fits_as st over before =
+      subst (λ m. FitsNow w n c node r f states lines client up m (status_frame f st)) (sym says)
+      (once_open (setup_of p.handshake).opened (so.role_at n v) (so.log_at n v) stream_known f (status_frame f st) msg.CloseStream
+      (λ e. alone_as f st (close_status stream_known) (over (sym (open_as p.handshake) ∙ e))) (λ e. alone_as f st Status.Einval (sym (before (sym (open_as p.handshake) ∙ e)))))
+
   -- there is none
-  unheld : (st : Status) → kept_at v p.streams ≡ None → Comes (states, status_sent f st s)
+  unheld : (st : Status) → kept_at v p.streams ≡ None → Fits (status_frame f st) → Comes (states, status_sent f st s)
   unfolding status_sent
-  unheld st none =
+  unheld st none fits =
       let x : States × Served = (states, status_sent f st s) in
       let client' : PlainClient = hand w n c node r f states lines client up x.1 in
       let new : PlainWorld = world_with w n c node states (Some client') in
       let told : ClientAgrees new (so_far w n c node r f states lines client up) n c client' =
       served_close old new (so_far w n c node r f states lines client up) n c (before w n c node r f states lines client up) client' f mine up.goes.bytes up.first (is_behind w n c node r f states lines client up new x.1 refl) no_ask sets
       (asks_in_hand w n c node r f states lines client up x.1 sets) closing mine.kept mine.one (λ t i. i) refl none (λ q other. (refl, vb_here w n c node states (Some client') q ∙ sym (vb_here w n c node states (Some (before w n c node r f states lines client up)) q))) in
-      passed_step w n c node r f states lines client up x refl (close_answer_to (setup_of p.handshake) f says up.asks st) (step_quiet w n c node states states (Some (before w n c node r f states lines client up)) (Some client') (λ q. refl)) (λ q id has. inl has) told
+      passed_step w n c node r f states lines client up x refl (close_answer_to Fits (setup_of p.handshake) f says up.asks st fits) (step_quiet w n c node states states (Some (before w n c node r f states lines client up)) (Some client') (λ q. refl)) (λ q id has. inl has) told
 
   -- there is one
-  module _ (stream : PlainStream) (found : kept_at v p.streams ≡ Some stream) where
+  module _ (over : is_open p.handshake ≡ true) (stream : PlainStream) (found : kept_at v p.streams ≡ Some stream) where
+    fits : Fits (status_frame f Status.Success)
+    fits = fits_as Status.Success
+        (λ e. close_some so.tree (so.branch_at n v) (so.held n v) (vb_of old n v) (is_closed_by mine.heard.served v) ((so.clients_at n c).streams v) stream
+        (subst (KeptIs so.tree (so.branch_at n v) (so.held n v) (vb_of old n v) (is_closed_by mine.heard.served v) ((so.clients_at n c).streams v)) found (mine.streams v)))
+        (λ shut. let z : true ≡ false = sym over ∙ shut in cc)
+
     abbrev x_of : States → States × Served
     x_of st = (st, closed_sent f stream.id s)
 
@@ -74,7 +97,7 @@ module _ (w : PlainWorld) (n c : ℕ) (node : PlainNode) (r : Chronicle) (f : Fr
         (asks_in_hand w n c node r f states lines client up x.1 sets) closing (kept_as (record p { streams = without_id stream.id p.streams }) x.1.end refl refl refl (kept_over p stream.id mine.kept)) (one_closed v stream p.streams mine.kept.rise mine.one found) (λ t i. among_without t stream.id p.streams i) refl
         (closed_here v stream p.streams mine.kept.rise mine.one found)
         (λ q other. (closed_there v stream p.streams mine.kept.rise mine.one found q other, vb_here w n c node st (Some client') q ∙ others q other ∙ sym (vb_here w n c node states (Some (before w n c node r f states lines client up)) q))) in
-        passed_step w n c node r f states lines client up x refl (close_answer_to (setup_of p.handshake) f says up.asks Status.Success) step (λ q id has. inl (open_without q id stream.id p.streams has)) told
+        passed_step w n c node r f states lines client up x refl (close_answer_to Fits (setup_of p.handshake) f says up.asks Status.Success fits) step (λ q id has. inl (open_without q id stream.id p.streams has)) told
 
     -- a change of role ended it before
     over_before : Comes (x_of states)
@@ -105,13 +128,20 @@ module _ (w : PlainWorld) (n c : ℕ) (node : PlainNode) (r : Chronicle) (f : Fr
     by_ended true e = over_before
     by_ended false e = closed_there_too e
 
-  by_stream : (o : Option PlainStream) → kept_at v p.streams ≡ o → Comes (after (stream_closed f s o) states)
-  by_stream None none = unheld Status.KeyEnoent none
-  by_stream (Some stream) found = by_ended stream found stream.ended refl
+  by_stream : is_open p.handshake ≡ true → (o : Option PlainStream) → kept_at v p.streams ≡ o → Comes (after (stream_closed f s o) states)
+  by_stream over None none =
+      unheld Status.KeyEnoent none
+      (fits_as Status.KeyEnoent
+      (λ e. close_none so.tree (so.branch_at n v) (so.held n v) (vb_of old n v) (is_closed_by mine.heard.served v) ((so.clients_at n c).streams v)
+      (subst (KeptIs so.tree (so.branch_at n v) (so.held n v) (vb_of old n v) (is_closed_by mine.heard.served v) ((so.clients_at n c).streams v)) none (mine.streams v)))
+      (λ shut. let z : true ≡ false = sym over ∙ shut in cc))
+  by_stream over (Some stream) found = by_ended over stream found stream.ended refl
 
   by_open : (b : Bool) → is_open p.handshake ≡ b → Comes (after (if b then stream_closed f s (kept_at v p.streams) else Done (status_sent f Status.Einval s)) states)
-  by_open true e = by_stream (kept_at v p.streams) refl
-  by_open false e = unheld Status.Einval (none_at v p.streams (λ t i at. let z : false ≡ true = sym e ∙ mine.opened t i in cc))
+  by_open true e = by_stream e (kept_at v p.streams) refl
+  by_open false e =
+      unheld Status.Einval (none_at v p.streams (λ t i at. let z : false ≡ true = sym e ∙ mine.opened t i in cc))
+      (fits_as Status.Einval (λ over. let z : true ≡ false = sym over ∙ e in cc) (λ shut. refl))
 
   pub passed_close : Comes (after (close_requested f s) states)
   passed_close = by_open (is_open p.handshake) refl

@@ -4,12 +4,13 @@ use Rattle.transcript_law.proofs.Words.{ℕ, Bool, true, false, not, List, [], r
 use Rattle.transcript_law.proofs.{invariant.Carried.{places}, invariant.Tables.{at_here, at_there}}
 use Rattle.transcript_law.specs.Chronicles.{CountsKnown, DiskKnown, after_calls, after_restart, broken_by, calls_of_append, is_off, spent, state_of, with_disk, with_record}
 use Rattle.{vb_disk.specs.declared.fuse.Fuse.{Fuse}, vb_types.specs.declared.journal.Record.{Record}}
-use Rattle.transcript_law.specs.{ClientFrames.{setup_after}, ClientStreams.{clients_line, unclosed}}
+use Rattle.transcript_law.specs.{ClientFrames.{message_of, setup_after}, ClientStreams.{clients_line, unclosed}}
 use Rattle.client_session.specs.{Serving.{is_dcp}, declared.session.Settings.{Settings}}
 use Rattle.mcbp_kv.specs.Requests.{request_of}
 use Rattle.mcbp_kv.specs.declared.request.KvRequest.TheVariants as request
 use Rattle.transcript_law.specs.LawfulAnswers.{AllDurable, AnswersFault, FitsBy, FitsFrame, FitsGet, FitsRequest, IsCommitted, IsMade, IsRefused, IsRefusedDurably, LacksSeqnos, LawfulReply}
 use Rattle.transcript_law.specs.LawfulClients.{LawfulClientAsk, RefusesBy}
+use Rattle.transcript_law.specs.LawfulMessages.{FitsMessage, Moment, moment_of}
 use Rattle.transcript_law.specs.LinesTold.{after_client_line, made_line}
 use Rattle.transcript_law.specs.StreamLaws.{GrantsAs, LawfulSaid, LawfulVerdict}
 use Rattle.transcript_law.specs.StreamsTold.{ClientsKnown}
@@ -117,7 +118,8 @@ reply_read q r n c bytes behind s l = ⊎_elim
       response = x.response;
       opcode = x.opcode;
       opaque = x.opaque;
-      fits = frame_read x.question.frame x.answer (q.clients_at n c).asking.settings x.fits;
+      fits = subst (λ (k : ClientsKnown). FitsFrame q n (moment_of (k n c) (q.clients_at n c).asking x.question) (q.clients_at n c).asking.settings x.question.frame x.answer) s.clients
+          (frame_read x.question.frame x.answer (moment_of (r.clients_at n c) (q.clients_at n c).asking x.question) (q.clients_at n c).asking.settings x.fits);
       calm = ⊎_elim (λ y. inl y) (λ y. inr (subst AllDurable s.made y)) x.calm;
     }))
     (λ x. inr (subst (λ made. AnswersFault n c made (q.clients_at n c).asking bytes behind) s.made x)) (subst (λ (k : ClientsKnown). LawfulReply r n c (k n c).asking bytes behind) s.clients l)
@@ -147,11 +149,13 @@ reply_read q r n c bytes behind s l = ⊎_elim
         (⊎_elim (λ y. inr (inr (inl (subst (λ made. IsCommitted n made settings f g) s.made y)))) (λ y. inr (inr (inr y)))))
         x
 
-    frame_read : (f g : Frame) (settings : Settings) → FitsFrame r n settings f g → FitsFrame q n settings f g
-    frame_read f g settings x = by (is_dcp f.opcode) x
+    frame_read : (f g : Frame) (moment : Moment) (settings : Settings) → FitsFrame r n moment settings f g → FitsFrame q n moment settings f g
+    frame_read f g moment settings x = by (is_dcp f.opcode) x
       where
-        by : (b : Bool) → FitsBy b r n settings f g → FitsBy b q n settings f g
-        by true y = tt
+        by : (b : Bool) → FitsBy b r n moment settings f g → FitsBy b q n moment settings f g
+        by true y =
+            at (λ log. FitsMessage (q.role_at n f.vb_or_status) log moment f g (message_of f)) f.vb_or_status s.log
+            (at (λ role. FitsMessage role (r.log_at n f.vb_or_status) moment f g (message_of f)) f.vb_or_status s.role y)
         by false y = request_read f g settings (request_of settings.json f) y
 
 pub branch_read : (q r : Chronicle) (n v uuid : ℕ) (parent : Option ℕ) (fork high : ℕ) → Reads q r → LawfulBranch r n v uuid parent fork high → LawfulBranch q n v uuid parent fork high
