@@ -14,7 +14,7 @@ use Rattle.transcript_law.proofs.invariant.Ranged.{IsRanged, start_ranged}
 use Rattle.transcript_law.proofs.Words.{StreamName}
 use Rattle.transcript_law.specs.Feeding.{HasFed}
 use Rattle.transcript_law.proofs.{invariant.ClientWorlds.{ConnsAre, start_conns}, invariant.Clients.{line_heard}, lines.Heard.{lines_heard}}
-use Rattle.transcript_law.proofs.indexers.Beside.{beside}
+use Rattle.transcript_law.proofs.{answers.Rests.{all_answered}, indexers.Beside.{beside}}
 use Rattle.cluster_model.specs.Clusters as cluster
 
 -- before the first line
@@ -142,7 +142,11 @@ lawful_from w r (line ∷ lines) fits ranged are a =
     let outcome = verb_step w line.line line.verb in
     let row : Row w line.verb outcome = row_of w line.line line.verb in
     let told : AsTold w r = as_told_of w r are ranged a in
-    let went = row.goes r fit ranged a in let heard = line_heard r.conn_at w line.line are line.verb fit in (
+    let went = row.goes r fit ranged a in let heard = line_heard r.conn_at w line.line are line.verb fit in
+    let later : PlainWorld = with_branches outcome.1.events outcome.0 in
+    let known : Chronicle = after_group r line.verb outcome.1.events outcome.1.answer in
+    let later_ranged : IsRanged later = row.ranged fit ranged in
+    let later_agrees : Agrees later known = group_agrees w r line.line line.verb fit ranged a in (
       (
         lines_heard (ahead r line.verb outcome.1.answer) r.conn_at outcome.1.events went.0 heard.0,
         row.bound r a (row.told r fit told).0,
@@ -152,9 +156,9 @@ lawful_from w r (line ∷ lines) fits ranged are a =
         row.tells ranged,
         line_asked w r line.line line.verb ranged a,
         leaves_none w line.line line.verb r ranged a,
+        all_answered later known later_agrees later_ranged heard.1,
       ),
-      lawful_from (with_branches outcome.1.events outcome.0) (after_group r line.verb outcome.1.events outcome.1.answer) lines (All-tail (λ (x : ScriptLine). VerbFits x.verb) line lines fits)
-          (row.ranged fit ranged) heard.1 (group_agrees w r line.line line.verb fit ranged a),
+      lawful_from later known lines (All-tail (λ (x : ScriptLine). VerbFits x.verb) line lines fits) later_ranged heard.1 later_agrees,
     )
 
 -- the transcript of a script is lawful

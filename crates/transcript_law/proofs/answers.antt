@@ -4,3 +4,4 @@ pub mod Messages
 pub mod Awaited
 pub mod Explained
 pub mod Committed
+pub mod Rests

@@ -39,6 +39,7 @@ pub mod KindRows
 pub mod Effects
 pub mod RefusalRows
 pub mod Tellings
+pub mod Unanswered
 pub mod Undone
 pub mod UndoneRows
 pub mod TellingRows

@@ -6,7 +6,7 @@ use Rattle.transcript_law.proofs.Words.{Sound, StaysSound, PlainSession, request
 use Rattle.transcript_law.proofs.{Words.{LawfulFrom}, invariant.Seats.{seat}, invariant.Agreement.{Agrees, AgreesIn, idle}, invariant.Carrying.{Changed}, lines.Lines.{lawful_more}, verbs.NodeLines.{agrees_same, node_again, node_grown, put_same, shelves_again}}
 use Rattle.transcript_law.proofs.answers.{Committed.{HowTold, all_told}, Explained.{IsExplained, explained, outcome_in}}
 use Rattle.transcript_law.proofs.answers.Fits.{KnownAs, Repeats, durable_away, durable_over, durable_refused_fits, frame_fits, get_away, get_fits, has_opcode, known_as, made_fits, not_here, outcome_fits, outcome_repeats, refused_fits, reply_repeats, status_fits, status_repeats, stored_repeats, value_repeats, welcome_fits, write_away}
-use Rattle.transcript_law.proofs.{invariant.ClientsTold.{IsDurableFrame}, invariant.Sessions.{Received}, invariant.Tables.{at_here}, indexers.{Hands.{Goes, answered_goes, mine, session_goes}, Questions.{awaited_asks, awaited_next, in_hand}, Worlds.{vb_here}}, verbs.Settling.{SettlesOn, Steady, changes_quiet, changes_told, settles}}
+use Rattle.transcript_law.proofs.{invariant.Sessions.{Received}, invariant.Tables.{at_here}, indexers.{Hands.{Goes, answered_goes, mine, session_goes}, Questions.{awaited_asks, awaited_next, in_hand}, Worlds.{vb_here}}, verbs.Settling.{SettlesOn, Steady, changes_quiet, changes_told, settles}}
 use Rattle.transcript_law.proofs.{lines.Telling.{LawfulBefore, before_more, told_more}, verbs.Writing.{change_fits, has_room, is_lawful, mine as mine_vb, newest, prepare_fits, prepare_fulfils, prepare_unheld, room_for_two, store_taken, write_fulfils, write_unheld, written}}
 use Rattle.client_session.specs.Answers.{status_reply, stored_reply, value_reply, reply_to, reply_line, reply_lines, change_lines, request_lines}
 use Rattle.client_session.specs.Serving.{MOST_DURABLE, Served, awaited_by, deadline_of, durable_called, durable_replied, next_waiter, outcome_of, outcome_reply, outcome_answered, answered_or_awaited, refused, served, settings_of, with_lines, with_used}
@@ -19,7 +19,7 @@ use Rattle.vb_calls.specs.declared.calls.{Resolution.{Resolution}}
 use Rattle.vb_calls.specs.declared.calls.VbCall.TheVariants.{Durable, Get, Store}
 use Rattle.node_core.specs.Clients.{PlainClient}
 use Rattle.mcbp_kv.specs.declared.durable.Durability.{Durability}
-use Rattle.transcript_law.specs.{LawfulAnswers.{FitsFrame, FitsRequest}, LawfulClients.{IsActive}, Questions.{Question, question_of, settings_after, settings_by}, LinesTold.{OwnChange}, StreamsTold.{ClientsKnown, with_at}}
+use Rattle.transcript_law.specs.{LawfulAnswers.{FitsFrame, FitsRequest}, LawfulClients.{IsActive}, Questions.{Question, question_of, settings_after, settings_by}, LinesTold.{OwnChange}, StreamsTold.{ClientsKnown, with_at}, Unanswered.{AsksDurably}}
 use Rattle.mcbp_kv.specs.Replies.{reply_frame}
 use Rattle.vb_types.specs.declared.status.Status.TheVariants.{Etmpfail, NotMyVbucket, Success}
 use Rattle.mcbp_kv.specs.declared.request.KvRequest.TheVariants as request
@@ -199,12 +199,12 @@ module _ (stays : StaysSound) (steady : Steady) (w : PlainWorld) (r : Chronicle)
       status_goes asked st is set fits = answered asked is x.1.session refl refl refl held.free set (status_reply f st) (status_repeats f st) fits
 
     -- a durable write is awaited
-    awaits : (x : States × Served) → Held x → (a : Awaited) → a.opcode ≡ f.opcode → a.opaque ≡ f.opaque → IsDurableFrame x.1.session.settings f → Ends (x.0, record x.1 { session = record x.1.session { awaited = Some a } })
+    awaits : (x : States × Served) → Held x → (a : Awaited) → a.opcode ≡ f.opcode → a.opaque ≡ f.opaque → AsksDurably x.1.session.settings f → Ends (x.0, record x.1 { session = record x.1.session { awaited = Some a } })
     awaits x held a code number durable =
         let g : Goes w n c base r x.0 (before ++ x.1.events) client = goes_of x x.0 (λ q. refl) held.now in
         let session : PlainSession = record x.1.session { awaited = Some a } in
         session_goes w n c base r g session held.who held.closed held.reader
-        (awaited_asks ((so_far x).clients_at n c).asking client.session session client.producer.handshake (mine w n c base r g).asks f a ahead hand held.next held.reader held.settings refl code number (subst (λ s. IsDurableFrame s f) held.settings durable))
+        (awaited_asks ((so_far x).clients_at n c).asking client.session session client.producer.handshake (mine w n c base r g).asks f a ahead hand held.next held.reader held.settings refl code number (subst (λ s. AsksDurably s f) held.settings durable))
 
     -- its outcome is told at once, or awaited
     prepared_goes : (x : States × Served) → Held x → (a : Awaited) → a.opcode ≡ f.opcode → a.opaque ≡ f.opaque → (write : Write) (wish : Durability) → request_of x.1.session.settings.json f ≡ Ok (request.Write write (Some wish)) → (how : Option Resolution)
@@ -391,7 +391,7 @@ outcome_goes w n c base r a how states before producer s waits some told g =
     let f : Frame = o.question.frame in
     let settings : Settings = (so.clients_at n c).asking.settings in
     let same : settings ≡ s.session.settings = own.asks.settings in
-    let durable : IsDurableFrame settings f = o.durable some in
+    let durable : AsksDurably settings f = o.durable some in
     let reply : KvReply = outcome_reply s.session.settings a how in
     let repeats : Repeats f (reply_frame reply) = outcome_repeats s.session.settings f a how o.opcode o.opaque in
     let fits : FitsFrame so n settings f (reply_frame reply) =
