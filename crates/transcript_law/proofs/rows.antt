@@ -11,6 +11,8 @@ pub mod FollowerRows
 pub mod Followers
 pub mod AskedTests
 pub mod AskedRows
+pub mod Silent
+pub mod Sets
 pub mod Groups
 pub mod JournalRows
 pub mod Rollbacks
