@@ -1,7 +1,7 @@
 -- connections of clients, judged by hand
-use Rattle.std.specs.Prelude.{◌≡◌, ◌∷◌, ◌==◌, if◌then◌else◌}
-use Rattle.transcript_law.proofs.Words.{ℕ, Bool, true, false, List, [], refl, arith, Answer, Cause, Event, Chronicle, Verb, NodeVerb, empty_chronicle}
-use Rattle.transcript_law.proofs.{rows.CrashRows.{stops}, rows.Groups.{AreParts, in_order, whole}}
+use Rattle.std.specs.Prelude.{◌≡◌, ◌∷◌, ◌==◌, ◌&&◌, if◌then◌else◌}
+use Rattle.transcript_law.proofs.Words.{ℕ, Bool, true, false, List, [], refl, arith, and_parts, Answer, Cause, Event, Chronicle, Verb, NodeVerb, empty_chronicle}
+use Rattle.transcript_law.proofs.{rows.CrashRows.{stops}, rows.Groups.{AreParts, in_order, whole}, rows.Silent.{all_silent, silent_heard, silent_start}}
 use Rattle.transcript_law.specs.{ClientRows.{LawfulOpened, closes, hangs, opens, refused, replies, sends, waits}, Clients.{AllClosed, IsOpened, IsReached}, Chronicles.{conns_lines}, Prefixes.{known_after}}
 use Rattle.transcript_law.specs.Crashes.{LawfulAfter, Said, numbered, ok, save_under, save_under_groups, stopped_behind, groups_from_number}
 use Rattle.vb_disk.specs.declared.made.Outcome.TheVariants.{Old}
@@ -11,8 +11,11 @@ abbrev read : Chronicle
 read = known_after empty_chronicle (numbered 1 (Verb.Node 0 ∷ opens 1 ∷ [])) (groups_from_number 1 (ok [] ∷ ok [] ∷ []))
 
 -- a transcript is lawful that is so from there on
-from_opened : (more : List Verb) (told : List Said) → in_order read (numbered 3 more) (groups_from_number 3 told) ≡ true → AreParts read (numbered 3 more) (groups_from_number 3 told) → LawfulOpened more told
-from_opened more told o l = whole empty_chronicle (numbered 1 (Verb.Node 0 ∷ opens 1 ∷ more)) (groups_from_number 1 (ok [] ∷ ok [] ∷ told)) o ((tt, tt, refl), ((tt, refl, refl), l))
+from_opened : (more : List Verb) (told : List Said) → (in_order read (numbered 3 more) (groups_from_number 3 told) && all_silent (numbered 3 more)) ≡ true → AreParts read (numbered 3 more) (groups_from_number 3 told) → LawfulOpened more told
+from_opened more told o l =
+    let both = and_parts (in_order read (numbered 3 more) (groups_from_number 3 told)) (all_silent (numbered 3 more)) o in
+    whole empty_chronicle (numbered 1 (Verb.Node 0 ∷ opens 1 ∷ more)) (groups_from_number 1 (ok [] ∷ ok [] ∷ told)) both.0 ((tt, tt, refl), ((tt, refl, refl), l))
+    (silent_heard empty_chronicle (numbered 1 (Verb.Node 0 ∷ opens 1 ∷ more)) (groups_from_number 1 (ok [] ∷ ok [] ∷ told)) silent_start both.1)
 
 -- it is one thing or the other
 not_both : {A : Type 0} → false ≡ true → A

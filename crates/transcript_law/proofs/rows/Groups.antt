@@ -7,7 +7,8 @@ use Rattle.script_text.specs.declared.verb.Verb.TheVariants as verb
 use Rattle.script_text.specs.declared.verb.VbVerb.TheVariants as vb_verb
 use Rattle.script_text.specs.declared.verb.ClientVerb.TheVariants as client_verb
 use Rattle.script_text.specs.declared.verb.LinkVerb.TheVariants as link_verb
-use Rattle.transcript_law.proofs.rows.{AskedTests.{asked_so, is_asked_so}, Silent.{AreHeard}}
+use Rattle.transcript_law.proofs.rows.AskedTests.{asked_so, is_asked_so}
+unfoldable use Rattle.transcript_law.proofs.rows.Silent.{AreHeard}
 use Rattle.vb_events.specs.declared.event.Answer.TheVariants as answer
 use Rattle.vb_events.specs.declared.event.Cause.TheVariants as cause
 
@@ -126,6 +127,7 @@ all_left chronicle (line ∷ lines) [] o = tt
 
 -- and all of it
 pub whole_left : (chronicle : Chronicle) (script : List ScriptLine) (told : List Group) → in_line chronicle script told ≡ true → AreParts chronicle script told → AreLeft chronicle script told → AreHeard chronicle script told → LawfulGroups chronicle script told
+unfolding AreHeard
 whole_left chronicle [] [] o p d h = tt
 whole_left chronicle (line ∷ lines) [] o p d h = absurd p
 whole_left chronicle [] (group ∷ groups) o p d h = absurd p

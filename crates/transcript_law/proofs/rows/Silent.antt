@@ -16,7 +16,7 @@ use Rattle.vb_events.specs.declared.event.Event.TheVariants as event
 use Rattle.vb_events.specs.declared.event.StreamName.TheVariants as name
 use Rattle.vb_types.specs.declared.journal.Record.{Record}
 use Rattle.vb_types.specs.declared.stream.AskAnswer.TheVariants as ask_answer
-use Rattle.transcript_law.specs.Chronicles.{Appending, Conns, after_append, after_calls, after_group, after_line, after_lines, after_made, after_openings, after_restart, after_restarts, after_rollback, after_start, after_starts, after_up, after_verb, ahead, appending, calls_of_append, conns_verb, disks_of, is_made, is_off, is_rollback, known_down, rollback_of, saving, state_of, with_disk, with_disk_there, with_id}
+use Rattle.transcript_law.specs.Chronicles.{Appending, Conns, after_append, after_calls, after_group, after_line, after_lines, after_made, after_openings, after_restart, after_restarts, after_rollback, after_start, after_starts, after_up, after_verb, ahead, appending, calls_of_append, conns_lines, conns_verb, disks_of, is_made, is_off, is_rollback, known_down, rollback_of, saving, state_of, with_disk, with_at, with_disk_there, with_id}
 use Rattle.transcript_law.specs.ClientFrames.{Request, request_in}
 use Rattle.transcript_law.specs.ClientStreams.{ClientKnown, ClientsKnown, StreamLine, blank_client, clients_frame, past_asked, past_turn, with_client}
 use Rattle.transcript_law.specs.Questions.{first_question, past_answer, past_question_if, question_of}
@@ -189,7 +189,7 @@ refused_shut r line why shut = shut_answered (after_group r line [] (answer.No w
 -- ---- transcripts
 
 -- behind each group no client is left without an answer
-abbrev pub AreHeard : Chronicle → List ScriptLine → List Group → Type 0
+unfoldable pub AreHeard : Chronicle → List ScriptLine → List Group → Type 0
 AreHeard r (line ∷ lines) (group ∷ groups) = let next : Chronicle = after_group r line.verb group.events group.answer in AllAnswered next × AreHeard next lines groups
 AreHeard r lines groups = Unit {0}
 
@@ -199,6 +199,7 @@ all_silent [] = true
 all_silent (line ∷ lines) = sends_none line.verb && all_silent lines
 
 pub silent_heard : (r : Chronicle) (script : List ScriptLine) (told : List Group) → Silent r.clients_at → all_silent script ≡ true → AreHeard r script told
+unfolding AreHeard
 silent_heard r [] told silent o = tt
 silent_heard r (line ∷ lines) [] silent o = tt
 silent_heard r (line ∷ lines) (group ∷ groups) silent o =
@@ -209,3 +210,32 @@ silent_heard r (line ∷ lines) (group ∷ groups) silent o =
 -- before the first line none has
 pub silent_start : Silent empty_chronicle.clients_at
 silent_start n c = refl
+
+-- nor is one where no connection is open, and none opens
+abbrev pub opens_none : Verb → Bool
+opens_none (verb.AtClient n c client_verb.Open) = false
+opens_none other = true
+
+conns_shut : (conns : Conns) (lines : List Event) → ((n c : ℕ) → conns n c ≡ false) → (n c : ℕ) → conns_lines conns lines n c ≡ false
+conns_shut conns [] shut = shut
+conns_shut conns (event.Closed m d ∷ lines) shut = conns_shut (with_at conns m d false) lines (λ n c. elim (n == m && c == d) as (λ b. (if b then false else conns n c) ≡ false) [ true ↦ refl | false ↦ shut n c ])
+conns_shut conns (line ∷ lines) shut = conns_shut conns lines shut
+
+verb_shut : (conns : Conns) (line : Verb) (said : Answer) → opens_none line ≡ true → ((n c : ℕ) → conns n c ≡ false) → (n c : ℕ) → conns_verb conns line said n c ≡ false
+verb_shut conns (verb.AtClient m d client_verb.Open) said e shut = cc
+verb_shut conns (verb.AtClient m d client_verb.Hang) answer.Ok e shut = λ n c. elim (n == m && c == d) as (λ b. (if b then false else conns n c) ≡ false) [ true ↦ refl | false ↦ shut n c ]
+verb_shut conns (verb.AtClient m d client_verb.Hang) other e shut = shut
+verb_shut conns other said e shut = shut
+
+abbrev pub all_shut : List ScriptLine → Bool
+all_shut [] = true
+all_shut (line ∷ lines) = opens_none line.verb && all_shut lines
+
+pub shut_heard : (r : Chronicle) (script : List ScriptLine) (told : List Group) → ((n c : ℕ) → r.conn_at n c ≡ false) → all_shut script ≡ true → AreHeard r script told
+unfolding AreHeard
+shut_heard r [] told shut o = tt
+shut_heard r (line ∷ lines) [] shut o = tt
+shut_heard r (line ∷ lines) (group ∷ groups) shut o =
+    let one = and_parts (opens_none line.verb) (all_shut lines) o in
+    let next = verb_shut (conns_lines r.conn_at group.events) line.verb group.answer one.0 (conns_shut r.conn_at group.events shut) in
+    (shut_answered (after_group r line.verb group.events group.answer) next, shut_heard (after_group r line.verb group.events group.answer) lines groups next one.1)
