@@ -43,6 +43,7 @@ pub mod Unanswered
 pub mod Undone
 pub mod UndoneRows
 pub mod TellingRows
+pub mod AnsweredRows
 pub mod Asked
 pub mod AskedRows
 pub mod FeedingRows

@@ -1,6 +1,6 @@
 -- that no client is left without an answer, in transcripts that are judged by hand: behind lines by which no client sends anything there is nothing to be answered
 use Rattle.std.specs.Prelude.{◌≡◌, ◌∷◌, ◌++◌, ◌==◌, ◌&&◌, if◌then◌else◌}
-use Rattle.transcript_law.proofs.Words.{ℕ, Bool, not, true, false, List, [], refl, sym, ap, ◌∙◌, and_parts, list_any, Option, Some, None, Answer, Cause, Event, Role, ScriptLine, StreamName, Verb, Chronicle, empty_chronicle, Group}
+use Rattle.transcript_law.proofs.Words.{ℕ, Bool, not, true, false, List, [], refl, sym, ap, ◌∙◌, subst, and_parts, eqb-true, list_any, Option, Some, None, Answer, Cause, Event, Role, ScriptLine, StreamName, Verb, Chronicle, empty_chronicle, Group}
 use Rattle.script_text.specs.declared.verb.Verb.TheVariants as verb
 use Rattle.script_text.specs.declared.verb.ClientVerb.TheVariants as client_verb
 use Rattle.script_text.specs.declared.verb.LinkVerb.TheVariants as link_verb
@@ -206,6 +206,24 @@ silent_heard r (line ∷ lines) (group ∷ groups) silent o =
     let one = and_parts (sends_none line.verb) (all_silent lines) o in
     let next : Silent (after_group r line.verb group.events group.answer).clients_at = group_silent r line.verb group.events group.answer one.0 silent in
     (silent_answered (after_group r line.verb group.events group.answer) next, silent_heard (after_group r line.verb group.events group.answer) lines groups next one.1)
+
+-- and where it is so behind a line and behind those that come then
+pub heard_by : (r : Chronicle) (line : ScriptLine) (lines : List ScriptLine) (group : Group) (groups : List Group) → (let next : Chronicle = after_group r line.verb group.events group.answer in AllAnswered next → AreHeard next lines groups → AreHeard r (line ∷ lines) (group ∷ groups))
+unfolding AreHeard
+heard_by r line lines group groups here more = (here, more)
+
+-- behind the last line there is nothing to be answered
+pub heard_all : (r : Chronicle) → AreHeard r [] []
+unfolding AreHeard
+heard_all r = tt
+
+-- where only the connection 1 of the node 0 has sent bytes
+pub one_answered : (r : Chronicle) → ((n c : ℕ) → (n == 0 && c == 1) ≡ false → (r.clients_at n c).asking.bytes ≡ []) → NoneAsks (r.clients_at 0 1).asking → AllAnswered r
+one_answered r others here n c opens = by (n == 0 && c == 1) refl
+  where
+    by : (b : Bool) → (n == 0 && c == 1) ≡ b → NoneAsks (r.clients_at n c).asking
+    by true e = let both = and_parts (n == 0) (c == 1) e in subst (λ k. NoneAsks (r.clients_at k c).asking) (sym (eqb-true n 0 both.0)) (subst (λ d. NoneAsks (r.clients_at 0 d).asking) (sym (eqb-true c 1 both.1)) here)
+    by false e = none_asks (r.clients_at n c).asking (others n c e)
 
 -- before the first line none has
 pub silent_start : Silent empty_chronicle.clients_at
