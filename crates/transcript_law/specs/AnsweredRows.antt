@@ -5,7 +5,7 @@ use Rattle.mcbp_frame.specs.declared.frame.Frame.{Frame}
 use Rattle.mcbp_frame.specs.declared.frame.TheConstants.{FRAMED_REQUEST, REQUEST, RESPONSE}
 use Rattle.mcbp_kv.specs.Answers.{bare_answer}
 use Rattle.mcbp_kv.specs.Replies.{reply_frame}
-use Rattle.mcbp_kv.specs.declared.opcodes.TheConstants.{NOOP}
+use Rattle.mcbp_kv.specs.declared.opcodes.TheConstants.{NOOP, SET}
 use Rattle.script_text.specs.declared.verb.ClientVerb.TheVariants as client_verb
 use Rattle.script_text.specs.declared.verb.Verb.{Verb}
 use Rattle.script_text.specs.declared.verb.Verb.TheVariants as verb
@@ -46,6 +46,10 @@ brings bytes = verb.AtClient 0 1 (client_verb.Bytes bytes)
 -- NOOP's answer over it
 abbrev pub noop_answered : Event
 noop_answered = event.Reply 0 1 (spelling (reply_frame (bare_answer NOOP status.Success 9)))
+
+-- the durable set's: nobody knows what became of it
+abbrev pub durable_unknown : Event
+durable_unknown = event.Reply 0 1 (spelling (reply_frame (bare_answer SET status.SyncWriteAmbiguous 9)))
 
 -- ---- what was read
 

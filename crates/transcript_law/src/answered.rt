@@ -1,7 +1,7 @@
 //! What makes a transcript lawful or not by whether each client gets its answers.
 
 ghost use Rattle.std.specs.Prelude.{[], ◌∷◌, ◌++◌, take, drop};
-ghost use Rattle.transcript_law.specs.AnsweredRows.{brings, durable_bytes, noop_answered, noop_bytes, response_bytes, sent_alone, sent_shut, set_bytes};
+ghost use Rattle.transcript_law.specs.AnsweredRows.{brings, durable_bytes, durable_unknown, noop_answered, noop_bytes, response_bytes, sent_alone, sent_shut, set_bytes};
 ghost use Rattle.transcript_law.specs.ClientRows.{LawfulOpened, hangs, waits};
 ghost use Rattle.transcript_law.specs.Crashes.{ok};
 ghost use Rattle.transcript_law.specs.Unanswered.{AllAnswered};
@@ -10,8 +10,9 @@ ghost use Rattle.transcript_law.specs.Unanswered.{AllAnswered};
 /// frame, each of its frames once. Not lawful are a line behind which a frame that came whole has no
 /// answer, also where another one before it has, or where the answer comes with a later line. Nothing is
 /// asked by less than a frame, nor by a response, and nobody is left without an answer over a connection
-/// that is not open. Only a durable write may wait, and what was asked behind it waits with it; what was
-/// asked before it does not, nor does a write that is not to be durable.
+/// that is not open. Only a durable write may wait, and is answered with a later line; what was asked
+/// behind it waits with it, and what was asked before it does not, nor does a write that is not to be
+/// durable.
 pub fn judged_unanswered()
     ensures answered { LawfulOpened (brings noop_bytes ∷ []) (ok (noop_answered ∷ []) ∷ []) }
     ensures unanswered { LawfulOpened (brings noop_bytes ∷ []) (ok [] ∷ []) → ⊥ }
@@ -21,6 +22,7 @@ pub fn judged_unanswered()
     ensures pieces { LawfulOpened (brings (take 23 noop_bytes) ∷ brings (drop 23 noop_bytes) ∷ []) (ok [] ∷ ok (noop_answered ∷ []) ∷ []) }
     ensures pieces_unanswered { LawfulOpened (brings (take 23 noop_bytes) ∷ brings (drop 23 noop_bytes) ∷ []) (ok [] ∷ ok [] ∷ []) → ⊥ }
     ensures hung { LawfulOpened (brings (take 23 noop_bytes) ∷ hangs 1 ∷ []) (ok [] ∷ ok [] ∷ []) }
+    ensures durable_later { LawfulOpened (brings durable_bytes ∷ waits ∷ []) (ok [] ∷ ok (durable_unknown ∷ []) ∷ []) }
     ensures none { AllAnswered (sent_alone []) }
     ensures part { AllAnswered (sent_alone (take 23 noop_bytes)) }
     ensures whole { AllAnswered (sent_alone noop_bytes) → ⊥ }

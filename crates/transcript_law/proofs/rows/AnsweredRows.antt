@@ -1,6 +1,6 @@
 -- clients that are answered, and clients that are left without an answer, judged by hand
 use Rattle.std.specs.Prelude.{◌≡◌, ◌∷◌, ◌++◌, ◌==◌, ◌&&◌, Ok}
-use Rattle.transcript_law.proofs.Words.{ℕ, true, false, List, [], refl, sym, subst, inl, ◌∙◌, take, drop, Option, Some, None, Chronicle, Event, Frame, Verb, empty_chronicle}
+use Rattle.transcript_law.proofs.Words.{ℕ, true, false, List, [], refl, sym, subst, inl, inr, ◌∙◌, take, drop, Option, Some, None, Chronicle, Event, Frame, Verb, empty_chronicle}
 unfoldable use Rattle.mcbp_dcp.specs.Messages.{read_of}
 unfoldable use Rattle.mcbp_dcp.specs.Rows.{frame_row}
 unfoldable use Rattle.mcbp_frame.specs.Cutting.{frames_in}
@@ -11,12 +11,12 @@ unfoldable use Rattle.mcbp_kv.specs.Requests.{request_of}
 use Rattle.client_session.specs.Serving.{no_settings}
 use Rattle.mcbp_kv.specs.Answers.{bare_answer}
 use Rattle.mcbp_kv.specs.Replies.{reply_frame}
-use Rattle.mcbp_kv.specs.declared.opcodes.TheConstants.{NOOP}
+use Rattle.mcbp_kv.specs.declared.opcodes.TheConstants.{NOOP, SET}
 use Rattle.vb_types.specs.declared.status.Status.TheVariants as status
 use Rattle.script_text.specs.declared.verb.ClientVerb.TheVariants as client_verb
 use Rattle.script_text.specs.declared.verb.Verb.TheVariants as verb
-use Rattle.transcript_law.proofs.rows.{Groups.{AreParts, in_order, whole as whole_groups}, Sets.{heard_then}, Silent.{AreHeard, heard_all, heard_by, one_answered, shut_answered, silent_start}}
-use Rattle.transcript_law.specs.AnsweredRows.{brings, durable_bytes, durable_frame, noop_answered, noop_bytes, noop_frame, response_bytes, sent_alone, sent_shut, set_bytes}
+use Rattle.transcript_law.proofs.rows.{Groups.{AreParts, in_order, whole as whole_groups}, Sets.{heard_then}, Silent.{AreHeard, heard_all, heard_by, none_next, one_answered, shut_answered, silent_start}}
+use Rattle.transcript_law.specs.AnsweredRows.{brings, durable_bytes, durable_frame, durable_unknown, noop_answered, noop_bytes, noop_frame, response_bytes, sent_alone, sent_shut, set_bytes}
 use Rattle.transcript_law.specs.{ClientRows.{LawfulOpened, hangs, waits}, Crashes.{Said, groups_from_number, numbered, ok}, LawfulAnswers.{FitsFrame, LawfulReply}, Prefixes.{known_after}}
 use Rattle.transcript_law.specs.Questions.{Question, question_of}
 use Rattle.transcript_law.specs.StreamsTold.{Asking}
@@ -38,10 +38,7 @@ may_wait : AsksDurably no_settings durable_frame
 unfolding request_of requirement_of
 may_wait = record { own = refl; write = _; wish = _; asks = refl }
 
--- nothing is asked; or this is asked next
-none_next : (k : Asking) → question_of k ≡ None → NoneAsks k
-none_next k none q is = let z : None ≡ Some q = sym none ∙ is in cc
-
+-- it is asked next
 durable_next : (k : Asking) (before : List Frame) → question_of k ≡ Some (record { before = before; frame = durable_frame }) → k.settings ≡ no_settings → NoneAsks k
 durable_next k before next same q is =
     let both : Some (record { before = before; frame = durable_frame }) ≡ Some q = sym next ∙ is in
@@ -167,3 +164,18 @@ unfolding spelling frames_in first_frame frame_of read_of frame_row
 hung = from_opened (brings (take 23 noop_bytes) ∷ hangs 1 ∷ []) (ok [] ∷ ok [] ∷ []) refl ((tt, refl, refl), ((tt, refl, refl), tt))
     (heard_by _ _ _ _ _ (no_more (brings (take 23 noop_bytes) ∷ []) (ok [] ∷ []) (λ n c e. rw e refl) refl)
     (heard_by _ _ _ _ _ (no_more (brings (take 23 noop_bytes) ∷ hangs 1 ∷ []) (ok [] ∷ ok [] ∷ []) (λ n c e. rw e refl) refl) (heard_all _)))
+
+pub durable_later : LawfulOpened (brings durable_bytes ∷ waits ∷ []) (ok [] ∷ ok (durable_unknown ∷ []) ∷ [])
+unfolding spelling frames_in first_frame frame_of read_of frame_row request_of requirement_of
+durable_later = from_opened (brings durable_bytes ∷ waits ∷ []) (ok [] ∷ ok (durable_unknown ∷ []) ∷ []) refl ((tt, refl, refl), ((((refl, λ z. inl (record {
+  question = record { before = []; frame = durable_frame };
+  next = refl;
+  answer = reply_frame (bare_answer SET status.SyncWriteAmbiguous 9);
+  spelled = refl;
+  response = refl;
+  opcode = refl;
+  opaque = refl;
+  fits = inr (inr (inr (record { header = record { magic = refl; opcode = refl; key = refl; datatype = refl; status = refl; opaque = refl; framing = refl }; cas = refl; extras = refl; value = refl })));
+})), tt), tt, refl), tt))
+    (heard_by _ _ _ _ _ (one_answered (behind (brings durable_bytes ∷ []) (ok [] ∷ [])) (λ n c e. rw e refl) (durable_next ((behind (brings durable_bytes ∷ []) (ok [] ∷ [])).clients_at 0 1).asking [] refl refl))
+    (heard_by _ _ _ _ _ (no_more (brings durable_bytes ∷ waits ∷ []) (ok [] ∷ ok (durable_unknown ∷ []) ∷ []) (λ n c e. rw e refl) refl) (heard_all _)))

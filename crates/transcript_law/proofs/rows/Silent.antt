@@ -29,7 +29,7 @@ use Rattle.transcript_law.specs.Unanswered.{AllAnswered, NoneAsks}
 pub none_of : (k : Asking) → k.bytes ≡ [] → question_of k ≡ None
 none_of k e = ap (λ b. first_question k.setup (frames_in b)) e ∙ ap (first_question k.setup) (frames-none [] (ap frame_in nothing))
 
-pub none_asks : (k : Asking) → k.bytes ≡ [] → NoneAsks k
+none_asks : (k : Asking) → k.bytes ≡ [] → NoneAsks k
 none_asks k e q is = let z : None ≡ Some q = sym (none_of k e) ∙ is in cc
 
 -- no client has sent a byte that is not answered
@@ -224,6 +224,15 @@ one_answered r others here n c opens = by (n == 0 && c == 1) refl
     by : (b : Bool) → (n == 0 && c == 1) ≡ b → NoneAsks (r.clients_at n c).asking
     by true e = let both = and_parts (n == 0) (c == 1) e in subst (λ k. NoneAsks (r.clients_at k c).asking) (sym (eqb-true n 0 both.0)) (subst (λ d. NoneAsks (r.clients_at 0 d).asking) (sym (eqb-true c 1 both.1)) here)
     by false e = none_asks (r.clients_at n c).asking (others n c e)
+
+-- where nothing is asked next
+pub none_next : (k : Asking) → question_of k ≡ None → NoneAsks k
+none_next k none q is = let z : None ≡ Some q = sym none ∙ is in cc
+
+-- so it is behind one line
+pub here_answered : (r : Chronicle) (line : Verb) (lines : List Event) (said : Answer)
+    → (let next : Chronicle = after_group r line lines said in ((n c : ℕ) → (n == 0 && c == 1) ≡ false → (next.clients_at n c).asking.bytes ≡ []) → question_of (next.clients_at 0 1).asking ≡ None → AllAnswered next)
+here_answered r line lines said others none = let next : Chronicle = after_group r line lines said in one_answered next others (none_next (next.clients_at 0 1).asking none)
 
 -- before the first line none has
 pub silent_start : Silent empty_chronicle.clients_at

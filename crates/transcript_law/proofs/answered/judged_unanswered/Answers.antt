@@ -1,4 +1,4 @@
-use Rattle.transcript_law.proofs.rows.AnsweredRows.{answered, before_durable, behind_durable, behind_response, durable, each, hung, later, none, one_only, part, pieces, pieces_unanswered, response, set, shut, unanswered, whole}
+use Rattle.transcript_law.proofs.rows.AnsweredRows.{answered, before_durable, behind_durable, behind_response, durable, durable_later, each, hung, later, none, one_only, part, pieces, pieces_unanswered, response, set, shut, unanswered, whole}
 use Rattle.transcript_law.proofs.answered.judged_unanswered.Goals as goal
 
 pub returns : goal.returns
@@ -11,6 +11,7 @@ returns c = record {
   pieces = pieces;
   pieces_unanswered = pieces_unanswered;
   hung = hung;
+  durable_later = durable_later;
   none = none;
   part = part;
   whole = whole;
