@@ -1,3 +1,14 @@
+pub mod Answering
+pub mod WaitingKeys
+pub mod AnswerQuestions
+pub mod AnswerReads
+pub mod AnswerWrites
+pub mod AnswerRefusals
+pub mod AnswerDurables
+pub mod AnswerCommits
+pub mod AnswerGreetings
+pub mod AnswerFaults
+pub mod AnswerLines
 pub mod Contrary
 pub mod ClosedRows
 pub mod ChangeRows

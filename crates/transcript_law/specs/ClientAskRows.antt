@@ -24,12 +24,13 @@ use Rattle.vb_events.specs.declared.event.Why.TheVariants as why
 use Rattle.transcript_law.specs.BoundRows.{LawfulHere}
 use Rattle.transcript_law.specs.Chronicles.{Chronicle}
 use Rattle.transcript_law.specs.ClientFrames.{Request, is_sync, request_in, setup_after}
-use Rattle.transcript_law.specs.ClientStreamRows.{all_changes, asks_for, ended, holding, knows, marked, sent, two, up_to, with_streams}
+use Rattle.transcript_law.specs.ClientStreamRows.{all_changes, asks_for, ended, holding, knows, marked, open_setup, sent, two, up_to, with_streams}
 use Rattle.transcript_law.specs.ClientStreams.{ClientKnown, ClientStream, blank_client, no_setup}
 use Rattle.transcript_law.specs.Crashes.{Said, groups_from_number, numbered, ok}
 use Rattle.transcript_law.specs.Followers.{log_of, next_change}
 use Rattle.transcript_law.specs.Lawfulness.{LawfulFrom, LawfulGroups}
 use Rattle.transcript_law.specs.Pulls.{frames_in_lines}
+use Rattle.transcript_law.specs.StreamsTold.{blank_asking}
 use Rattle.transcript_law.specs.Transcripts.{one_change}
 
 -- ---- what a client sends
@@ -81,16 +82,37 @@ serving changes known = record (holding changes changes) { role_at = λ n v. Som
 abbrev pub LawfulAsked : ClientKnown → List Event → Type 0
 LawfulAsked known lines = LawfulFrom (serving two known) lines
 
--- an open connection with these streams that sent these bytes, and one that is not open for a producer
+-- an open connection with these streams that sent these bytes, of which none was answered, and one that is not open for a producer
 abbrev pub that_sent : (ℕ → Option ClientStream) → List ℕ → ClientKnown
-that_sent streams bytes = record (with_streams streams) { bytes = bytes }
+that_sent streams bytes = record (with_streams streams) { bytes = bytes; asking = record blank_asking { bytes = bytes; setup = open_setup } }
 
 abbrev pub unopened : List ℕ → ClientKnown
-unopened bytes = record blank_client { bytes = bytes }
+unopened bytes = record blank_client { bytes = bytes; asking = record blank_asking { bytes = bytes } }
+
+-- the first of them, where each of its frames was answered, and none asked for a stream
+abbrev pub that_asked : (ℕ → Option ClientStream) → List ℕ → ClientKnown
+that_asked streams bytes = record (with_streams streams) { bytes = bytes }
 
 -- none
 abbrev pub none : ℕ → Option ClientStream
 none v = None
+
+-- a message is the answer to a frame of this opaque
+abbrev pub replies : DcpMsg → ℕ → Event
+replies m opaque = event.Reply 0 1 (spelling (dcp_frame m opaque 0))
+
+-- OPEN and CLOSE_STREAM are answered, and what has a datatype is refused
+abbrev pub opens_first : Event
+opens_first = replies (msg.OpenAnswer 0) 1
+
+abbrev pub closes_first : Event
+closes_first = replies (msg.CloseAnswer 0) 4
+
+abbrev pub typed_refused : Event
+typed_refused = replies (msg.StreamAnswer (stream_verdict (log_of 5) (ask_answer.Refuse 4))) 8
+
+abbrev pub typed_close_refused : Event
+typed_close_refused = replies (msg.CloseAnswer 4) 4
 
 -- the vBucket v of the node n answers a request, and the answer goes out with this opaque
 abbrev pub asked_at : ℕ → ℕ → ℕ → StreamAsk → AskAnswer → List Event
@@ -157,10 +179,6 @@ other_marked = event.Marked (name.Client 0 2) 0 2 1 ∷ event.Reply 0 2 (spellin
 -- a client opens its connection for a producer, asks for durable writes, gives its name, and asks for the first two changes; and then for nine frames
 abbrev pub indexes : List Verb
 indexes = verb.AtClient 0 1 (client_verb.Bytes (opening 1 ++ syncing (codes "true") ++ naming (codes "x") ++ requesting 0 (up_to 2))) ∷ verb.AtClient 0 1 (client_verb.Pull 9) ∷ []
-
--- an answer with a status alone
-abbrev pub replies : DcpMsg → ℕ → Event
-replies m opaque = event.Reply 0 1 (spelling (dcp_frame m opaque 0))
 
 -- each is answered, and frames are put as these lines tell
 abbrev pub indexed : List Event → List Said

@@ -1,5 +1,10 @@
 -- scripts of connections of clients, and transcripts of them to be judged by hand
 use Rattle.std.specs.Prelude.{ℕ, List, [], ◌∷◌}
+use Rattle.mcbp_frame.specs.Spelling.{spelling}
+use Rattle.mcbp_frame.specs.declared.frame.TheConstants.{REQUEST}
+use Rattle.mcbp_kv.specs.Answers.{bare_answer}
+use Rattle.mcbp_kv.specs.Replies.{reply_frame}
+use Rattle.mcbp_kv.specs.declared.opcodes.TheConstants.{NOOP}
 use Rattle.script_text.specs.declared.verb.Verb.{Verb}
 use Rattle.script_text.specs.declared.verb.Verb.TheVariants as verb
 use Rattle.script_text.specs.declared.verb.VbVerb.TheVariants as vb_verb
@@ -8,6 +13,7 @@ use Rattle.vb_events.specs.declared.event.Answer.TheVariants as answer
 use Rattle.vb_events.specs.declared.event.Cause.{Cause}
 use Rattle.vb_events.specs.declared.event.Event.{Event}
 use Rattle.vb_events.specs.declared.event.Event.TheVariants as event
+use Rattle.vb_types.specs.declared.status.Status.TheVariants as status
 use Rattle.transcript_law.specs.{Crashes.{Said, numbered, ok, groups_from_number}, Lawfulness.{Lawful}}
 
 -- the connection 1 of the node 0 is opened, these lines come, and that is told of them
@@ -20,6 +26,16 @@ opens c = verb.AtClient 0 c client_verb.Open
 
 abbrev pub sends : ℕ → Verb
 sends c = verb.AtClient 0 c (client_verb.Bytes [])
+
+-- NOOP of this opaque, and its answer
+abbrev pub noop : ℕ → List ℕ
+noop opaque = spelling (record { magic = REQUEST; opcode = NOOP; datatype = 0; vb_or_status = 0; opaque = opaque; cas = 0; framing = []; extras = []; key = []; value = [] })
+
+abbrev pub nooped : ℕ → List ℕ
+nooped opaque = spelling (reply_frame (bare_answer NOOP status.Success opaque))
+
+abbrev pub asks : ℕ → Verb
+asks c = verb.AtClient 0 c (client_verb.Bytes (noop 9))
 
 abbrev pub hangs : ℕ → Verb
 hangs c = verb.AtClient 0 c client_verb.Hang

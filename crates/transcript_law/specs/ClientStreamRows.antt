@@ -15,11 +15,12 @@ use Rattle.vb_events.specs.declared.event.Event.TheVariants as event
 use Rattle.vb_events.specs.declared.event.StreamName.TheVariants as name
 use Rattle.branch_model.specs.Trees.{Branch}
 use Rattle.transcript_law.specs.Chronicles.{Chronicle, with_at}
-use Rattle.transcript_law.specs.ClientStreams.{Begun, ClientKnown, ClientStream, ClientsKnown, ItemLine, blank_client, view}
+use Rattle.transcript_law.specs.ClientStreams.{Begun, ClientKnown, ClientStream, ClientsKnown, ItemLine, Setup, blank_client, view}
 use Rattle.transcript_law.specs.Followers.{next_change}
 use Rattle.transcript_law.specs.Lawfulness.{LawfulFrom}
 use Rattle.transcript_law.specs.Rollbacks.{after_active}
 use Rattle.transcript_law.specs.StreamLaws.{item_of_change, line_act}
+use Rattle.transcript_law.specs.StreamsTold.{blank_asking}
 use Rattle.transcript_law.specs.Transcripts.{first_doc, one_change}
 
 -- ---- what was read
@@ -36,9 +37,12 @@ holding held changes = record after_active { tree = tree_of changes; held = λ n
 abbrev pub knows : ClientKnown → ClientsKnown
 knows known = with_at (λ n c. blank_client) 0 1 known
 
--- a connection that is open for a producer, asks for durable writes and gave its name, and has these streams
+-- a connection that is open for a producer, asks for durable writes and gave its name, which was answered, and has these streams
+abbrev pub open_setup : Setup
+open_setup = record { opened = true; sync = true; named = true }
+
 abbrev pub with_streams : (ℕ → Option ClientStream) → ClientKnown
-with_streams streams = record blank_client { setup = record { opened = true; sync = true; named = true }; streams = streams }
+with_streams streams = record blank_client { setup = open_setup; streams = streams; asking = record blank_asking { setup = open_setup } }
 
 -- one of the vBucket 0, or one of the vBucket 0 and one of the vBucket 1
 abbrev pub one : ClientStream → ℕ → Option ClientStream

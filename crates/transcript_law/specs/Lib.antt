@@ -13,6 +13,7 @@ pub mod LawfulAnswers
 pub mod StreamLaws
 pub mod StreamsTold
 pub mod ClientRows
+pub mod AnswerRows
 pub mod ClosedJournals
 pub mod Contrary
 pub mod Crashes

@@ -1,7 +1,7 @@
 //! What a transcript tells of the streams of clients, lawfully or not.
 
 ghost use Rattle.std.specs.Prelude.{ℕ, List, [], ◌∷◌, ◌++◌, codes, take, true, false, replicate};
-ghost use Rattle.transcript_law.specs.ClientAskRows.{AsksSync, LawfulAsked, LawfulPulled, LawfulStory, all_lines, asked, asked_at, asked_by, client_asks, client_counts, client_ends, client_gives, client_hears, client_marks, closing, closing_typed, flagged, goes_as, hangs_up, idle, indexed, moved, naming, none, opening, other_marked, past_both, pulls, puts, requesting, requesting_typed, resting, sends_none, serving, syncing, taking_over, that_sent, ticks, unanswered, unopened, asked_forked, forked, sends_rest};
+ghost use Rattle.transcript_law.specs.ClientAskRows.{AsksSync, LawfulAsked, LawfulPulled, LawfulStory, all_lines, asked, asked_at, asked_by, bytes_of, client_asks, client_counts, client_ends, client_gives, client_hears, client_marks, closes_first, closing, closing_typed, flagged, goes_as, hangs_up, idle, indexed, moved, naming, none, opening, opens_first, other_marked, past_both, pulls, puts, requesting, requesting_typed, resting, sends_none, serving, syncing, taking_over, that_asked, that_sent, ticks, typed_close_refused, typed_refused, unanswered, unopened, asked_forked, forked, sends_rest};
 ghost use Rattle.transcript_law.specs.AskedRows.{marks_of, pump_one, up_one};
 ghost use Rattle.transcript_law.specs.BoundRows.{LawfulHere};
 ghost use Rattle.transcript_law.specs.Chronicles.{Chronicle};
@@ -82,7 +82,7 @@ pub fn judged_plain_markers()
 /// before that what it holds alone.
 pub fn judged_client_items()
     ensures both { LawfulPut two (one (fresh true all_changes)) (marked 0 0 2 ++ sent 0 one_change ++ sent 0 next_change) }
-    ensures answered { LawfulPut two (one (fresh true all_changes)) (marked 0 0 2 ++ sent 0 one_change ++ frame_of 0 (msg.NoopAnswer 0) ∷ sent 0 next_change) }
+    ensures answered { LawfulAsked (that_sent (one (fresh true all_changes)) (bytes_of 9 0 msg.Noop)) (marked 0 0 2 ++ sent 0 one_change ++ frame_of 0 (msg.NoopAnswer 0) ∷ sent 0 next_change) }
     ensures in_turn { LawfulPut two (both (fresh true all_changes) (fresh true all_changes)) (marked 0 0 2 ++ marked 1 0 2 ++ sent 1 one_change ++ sent 0 one_change ++ sent 0 next_change ++ sent 1 next_change) }
     ensures own { LawfulPut two (both (inside true all_changes two 0 2 []) (inside true all_changes two 0 2 (first_item ∷ []))) (sent 0 one_change) }
     ensures header { LawfulPut two (both (inside true all_changes two 0 2 []) (inside true all_changes two 0 2 (first_item ∷ []))) (sent 1 one_change) → ⊥ }
@@ -151,13 +151,13 @@ pub fn judged_client_asks()
     ensures again { LawfulAsked (that_sent none (requesting 0 all_changes)) (asked all_changes (ask_answer.Refuse 2) ++ asked all_changes (ask_answer.Refuse 2)) → ⊥ }
     ensures before_open { LawfulAsked (unopened (requesting 0 all_changes)) (asked all_changes ask_answer.Go) → ⊥ }
     ensures refused_before { LawfulAsked (unopened (requesting 0 all_changes)) (asked all_changes (ask_answer.Refuse 4)) }
-    ensures opened { LawfulAsked (unopened (opening 1 ++ requesting 0 all_changes)) (asked all_changes ask_answer.Go) }
+    ensures opened { LawfulAsked (unopened (opening 1 ++ requesting 0 all_changes)) (opens_first ∷ asked all_changes ask_answer.Go) }
     ensures takeover { LawfulAsked (that_sent none (requesting 0 taking_over)) (asked taking_over ask_answer.Go) → ⊥ }
     ensures refused_takeover { LawfulAsked (that_sent none (requesting 0 taking_over)) (asked taking_over (ask_answer.Refuse 131)) }
     ensures held { LawfulAsked (that_sent (one put_two) (requesting 0 all_changes)) (asked all_changes ask_answer.Go) → ⊥ }
     ensures refused_held { LawfulAsked (that_sent (one put_two) (requesting 0 all_changes)) (asked all_changes (ask_answer.Refuse 2)) }
-    ensures closed { LawfulAsked (that_sent (one put_two) (closing 0 ++ requesting 0 all_changes)) (asked all_changes ask_answer.Go) }
-    ensures other_closed { LawfulAsked (that_sent (one put_two) (closing 1 ++ requesting 0 all_changes)) (asked all_changes ask_answer.Go) → ⊥ }
+    ensures closed { LawfulAsked (that_sent (one put_two) (closing 0 ++ requesting 0 all_changes)) (closes_first ∷ asked all_changes ask_answer.Go) }
+    ensures other_closed { LawfulAsked (that_sent (one put_two) (closing 1 ++ requesting 0 all_changes)) (closes_first ∷ asked all_changes ask_answer.Go) → ⊥ }
     ensures over { LawfulAsked (that_sent (one (finished put_two)) (requesting 0 all_changes)) (asked all_changes ask_answer.Go) }
     ensures resumes { LawfulAsked (that_sent none (requesting 0 (asks_for 0 1 2 9))) (asked (asks_for 0 1 2 9) ask_answer.Go ++ marked 0 0 2 ++ sent 0 next_change) }
     ensures pieces { LawfulHere (serving two (that_sent none (take 30 (requesting 0 all_changes)))) (sends_rest 30 (requesting 0 all_changes)) (ok (asked all_changes ask_answer.Go)) }
@@ -187,14 +187,19 @@ pub fn judged_client_spellings()
     ensures log { LawfulAsked (that_sent none (requesting 0 all_changes)) (goes_as (log_of 6) ask_answer.Go) → ⊥ }
 {}
 
-/// What a client is sent that no line before tells of is an answer: no marker, no item, and no end, on a
-/// stream that is open or on none, and not nothing.
+/// What a client is sent that no line before tells of answers what it asked: it is no marker, no item, and
+/// no end, on a stream that is open or on none, also where it sent such a frame itself, and not nothing.
 pub fn judged_untold_frames()
-    ensures answer { LawfulPut two (one put_two) (frame_of 0 (msg.OpenAnswer 0) ∷ []) }
+    ensures answer { LawfulAsked (that_sent (one put_two) (opening 1)) (opens_first ∷ []) }
+    ensures unasked { LawfulAsked (that_sent (one put_two) []) (opens_first ∷ []) → ⊥ }
     ensures marker { LawfulPut three (one put_two) (frame_of 0 (msg.SnapshotMarker 2 3 1) ∷ []) → ⊥ }
     ensures item { LawfulPut three (one (inside true all_changes three 0 2 (first_item ∷ []))) (frame_of 0 (act_message next_change next_change.act) ∷ []) → ⊥ }
     ensures end { LawfulPut three (one put_two) (frame_of 0 (msg.StreamEnd 0) ∷ []) → ⊥ }
     ensures nothing { LawfulPut two (one put_two) (event.Reply 0 1 [] ∷ []) → ⊥ }
+    ensures marker_back { LawfulAsked (that_sent (one put_two) (bytes_of 9 0 (msg.SnapshotMarker 2 3 1))) (frame_of 0 (msg.SnapshotMarker 2 3 1) ∷ []) → ⊥ }
+    ensures item_back { LawfulAsked (that_sent (one put_two) (bytes_of 9 0 (act_message next_change next_change.act))) (frame_of 0 (act_message next_change next_change.act) ∷ []) → ⊥ }
+    ensures end_back { LawfulAsked (that_sent (one put_two) (bytes_of 9 0 (msg.StreamEnd 0))) (frame_of 0 (msg.StreamEnd 0) ∷ []) → ⊥ }
+    ensures nothing_back { LawfulAsked (that_sent (one put_two) (opening 1)) (event.Reply 0 1 [] ∷ []) → ⊥ }
 {}
 
 /// A client's connection refuses with the status of its reason alone: Einval before OPEN and for flags
@@ -207,9 +212,9 @@ pub fn judged_client_statuses()
     ensures unopened_other { LawfulAsked (unopened (requesting 0 all_changes)) (asked all_changes (ask_answer.Refuse 7)) → ⊥ }
     ensures takeover_other { LawfulAsked (that_sent none (requesting 0 taking_over)) (asked taking_over (ask_answer.Refuse 4)) → ⊥ }
     ensures held_rolls { LawfulAsked (that_sent (one put_two) (requesting 0 past_both)) (asked past_both (ask_answer.Roll 0)) → ⊥ }
-    ensures typed { LawfulAsked (that_sent none (requesting_typed (up_to 3) ++ requesting 0 all_changes)) (asked all_changes ask_answer.Go) }
+    ensures typed { LawfulAsked (that_sent none (requesting_typed (up_to 3) ++ requesting 0 all_changes)) (typed_refused ∷ asked all_changes ask_answer.Go) }
     ensures typed_alone { LawfulAsked (that_sent none (requesting_typed all_changes)) (asked all_changes ask_answer.Go) → ⊥ }
-    ensures typed_close { LawfulAsked (that_sent (one put_two) (closing_typed ++ requesting 0 all_changes)) (asked all_changes ask_answer.Go) → ⊥ }
+    ensures typed_close { LawfulAsked (that_sent (one put_two) (closing_typed ++ requesting 0 all_changes)) (typed_close_refused ∷ asked all_changes ask_answer.Go) → ⊥ }
 {}
 
 /// A vBucket refuses a client's request with the status of its reason, the first of these that it has: it
@@ -289,7 +294,7 @@ pub fn judged_client_pulls()
     ensures turns { LawfulPulled two (with_streams (one (moved (inside true all_changes two 0 2 (first_item ∷ next_item ∷ []))))) idle → ⊥ }
     ensures inactive { LawfulHere (resting two (with_streams (one (inside true all_changes two 0 2 (first_item ∷ next_item ∷ []))))) pulls idle → ⊥ }
     ensures over { LawfulPulled two (with_streams (one (finished (fresh true all_changes)))) idle }
-    ensures closed { LawfulPulled two (that_sent (one (fresh true all_changes)) (closing 0)) idle }
+    ensures closed { LawfulPulled two (that_asked (one (fresh true all_changes)) (closing 0)) idle }
     ensures prepare { LawfulPulled pending (with_streams (one (inside true all_changes pending 0 1 (first_item ∷ [])))) idle → ⊥ }
     ensures plain_prepare { LawfulPulled pending (with_streams (one (inside false all_changes pending 0 1 (first_item ∷ [])))) idle }
 {}

@@ -3,16 +3,17 @@
 ghost use Rattle.std.specs.Prelude.{◌≡◌, ℕ, List, [], ◌∷◌};
 ghost use Rattle.script_text.specs.declared.verb.Verb.TheVariants as verb;
 ghost use Rattle.script_text.specs.declared.verb.NodeVerb.TheVariants as node_verb;
-ghost use Rattle.transcript_law.specs.ClientRows.{LawfulOpened, closes, hangs, opens, refused, replies, sends, waits};
+ghost use Rattle.transcript_law.specs.ClientRows.{LawfulOpened, asks, closes, hangs, nooped, opens, refused, replies, sends, waits};
 ghost use Rattle.transcript_law.specs.Crashes.{LawfulAfter, Said, ok, save_under, save_under_groups, stopped_behind};
 ghost use Rattle.vb_disk.specs.declared.made.Outcome.TheVariants.{Old};
 ghost use Rattle.vb_events.specs.declared.event.Answer.TheVariants as answer;
 ghost use Rattle.vb_events.specs.declared.event.Cause.TheVariants as cause;
 ghost use Rattle.vb_events.specs.declared.event.Event.TheVariants as event;
 
-/// A connection that is open is told closed, or answered. Not lawful is that of one that was never
-/// opened, of one of that number at another node, and of one that is not open any more: it was told
-/// closed before, in the same group or in an earlier one, or its client hung up.
+/// A connection that is open is told closed, or answered what its client asked. Not lawful is that of one
+/// that was never opened, of one of that number at another node, and of one that is not open any more: it
+/// was told closed before, in the same group or in an earlier one, or its client hung up. Nor is an
+/// answer lawful that comes with a later line, as the first one leaves its client without it.
 pub fn judged_client_lines()
     ensures closed { LawfulOpened (sends 1 ∷ []) (ok (closes 0 1 ∷ []) ∷ []) }
     ensures closed_other { LawfulOpened (sends 1 ∷ []) (ok (closes 0 2 ∷ []) ∷ []) → ⊥ }
@@ -22,13 +23,14 @@ pub fn judged_client_lines()
     ensures closed_again { LawfulOpened (sends 1 ∷ waits ∷ []) (ok (closes 0 1 ∷ []) ∷ ok (closes 0 1 ∷ []) ∷ []) → ⊥ }
     ensures closed_hung { LawfulOpened (hangs 1 ∷ waits ∷ []) (ok [] ∷ ok (closes 0 1 ∷ []) ∷ []) → ⊥ }
     ensures hung { LawfulOpened (hangs 1 ∷ waits ∷ []) (ok [] ∷ ok [] ∷ []) }
-    ensures reply { (bytes : List ℕ) → LawfulOpened (sends 1 ∷ []) (ok (replies 0 1 bytes ∷ closes 0 1 ∷ []) ∷ []) }
-    ensures reply_other { (bytes : List ℕ) → LawfulOpened (sends 1 ∷ []) (ok (replies 0 2 bytes ∷ closes 0 1 ∷ []) ∷ []) → ⊥ }
-    ensures reply_elsewhere { (bytes : List ℕ) → LawfulOpened (sends 1 ∷ []) (ok (replies 1 1 bytes ∷ closes 0 1 ∷ []) ∷ []) → ⊥ }
-    ensures reply_behind { (bytes : List ℕ) → LawfulOpened (sends 1 ∷ []) (ok (closes 0 1 ∷ replies 0 1 bytes ∷ []) ∷ []) → ⊥ }
-    ensures reply_later { (bytes : List ℕ) → LawfulOpened (sends 1 ∷ waits ∷ []) (ok [] ∷ ok (replies 0 1 bytes ∷ []) ∷ []) }
-    ensures reply_closed { (bytes : List ℕ) → LawfulOpened (sends 1 ∷ waits ∷ []) (ok (closes 0 1 ∷ []) ∷ ok (replies 0 1 bytes ∷ []) ∷ []) → ⊥ }
-    ensures reply_hung { (bytes : List ℕ) → LawfulOpened (hangs 1 ∷ waits ∷ []) (ok [] ∷ ok (replies 0 1 bytes ∷ []) ∷ []) → ⊥ }
+    ensures reply { LawfulOpened (asks 1 ∷ []) (ok (replies 0 1 (nooped 9) ∷ closes 0 1 ∷ []) ∷ []) }
+    ensures reply_unasked { (bytes : List ℕ) → LawfulOpened (sends 1 ∷ []) (ok (replies 0 1 bytes ∷ closes 0 1 ∷ []) ∷ []) → ⊥ }
+    ensures reply_other { (bytes : List ℕ) → LawfulOpened (asks 1 ∷ []) (ok (replies 0 2 bytes ∷ closes 0 1 ∷ []) ∷ []) → ⊥ }
+    ensures reply_elsewhere { (bytes : List ℕ) → LawfulOpened (asks 1 ∷ []) (ok (replies 1 1 bytes ∷ closes 0 1 ∷ []) ∷ []) → ⊥ }
+    ensures reply_behind { (bytes : List ℕ) → LawfulOpened (asks 1 ∷ []) (ok (closes 0 1 ∷ replies 0 1 bytes ∷ []) ∷ []) → ⊥ }
+    ensures reply_later { LawfulOpened (asks 1 ∷ waits ∷ []) (ok [] ∷ ok (replies 0 1 (nooped 9) ∷ []) ∷ []) → ⊥ }
+    ensures reply_closed { (bytes : List ℕ) → LawfulOpened (asks 1 ∷ waits ∷ []) (ok (closes 0 1 ∷ []) ∷ ok (replies 0 1 bytes ∷ []) ∷ []) → ⊥ }
+    ensures reply_hung { (bytes : List ℕ) → LawfulOpened (asks 1 ∷ hangs 1 ∷ waits ∷ []) (ok [] ∷ ok [] ∷ ok (replies 0 1 bytes ∷ []) ∷ []) → ⊥ }
 {}
 
 /// A connection opens where none of its number is open, and is refused as open where one is, and in no
@@ -64,7 +66,7 @@ pub fn judged_client_stops()
     ensures other { LawfulOpened (verb.AtNode 0 (node_verb.Crash Old) ∷ []) (ok (closes 0 1 ∷ closes 0 2 ∷ []) ∷ []) → ⊥ }
     ensures armed { LawfulOpened (verb.AtNode 0 (node_verb.Crash Old) ∷ verb.AtNode 0 (node_verb.Fail 1) ∷ []) (ok (closes 0 1 ∷ []) ∷ ok [] ∷ []) }
     ensures again { LawfulOpened (verb.AtNode 0 (node_verb.Crash Old) ∷ verb.AtNode 0 (node_verb.Fail 1) ∷ []) (ok (closes 0 1 ∷ []) ∷ ok (closes 0 1 ∷ []) ∷ []) → ⊥ }
-    ensures reply { (bytes : List ℕ) → LawfulOpened (verb.AtNode 0 (node_verb.Crash Old) ∷ verb.AtNode 0 (node_verb.Fail 1) ∷ []) (ok (closes 0 1 ∷ []) ∷ ok (replies 0 1 bytes ∷ []) ∷ []) → ⊥ }
+    ensures reply { (bytes : List ℕ) → LawfulOpened (asks 1 ∷ verb.AtNode 0 (node_verb.Crash Old) ∷ verb.AtNode 0 (node_verb.Fail 1) ∷ []) (ok [] ∷ ok (closes 0 1 ∷ []) ∷ ok (replies 0 1 bytes ∷ []) ∷ []) → ⊥ }
     ensures stopped { LawfulAfter (save_under (verb.AtNode 0 (node_verb.Stop 1 Old))) (save_under_groups (stopped_behind [])) }
     ensures stopped_untold { LawfulAfter (save_under (verb.AtNode 0 (node_verb.Stop 1 Old))) (save_under_groups (event.NodeStopped 0 ∷ [], answer.No cause.Stopped)) → ⊥ }
     ensures stopped_before { LawfulAfter (save_under (verb.AtNode 0 (node_verb.Stop 1 Old))) (save_under_groups (closes 0 1 ∷ event.NodeStopped 0 ∷ closes 0 1 ∷ [], answer.No cause.Stopped)) → ⊥ }

@@ -21,6 +21,7 @@ mod firings;
 mod judged;
 mod kinds;
 mod lawful;
+mod replies;
 mod steps;
 mod streams;
 mod tellings;
@@ -56,6 +57,10 @@ pub use judged::{
 };
 pub use kinds::{judged_firing_lines, judged_journal_lines, judged_kinds};
 pub use lawful::{groups_are_lawful, lines_are_known, set_lines_ask};
+pub use replies::{
+    judged_answer_lines, judged_durables, judged_faults, judged_greetings, judged_outcomes,
+    judged_questions, judged_reads, judged_refused_writes, judged_writes,
+};
 pub use steps::plain_lines;
 pub use streams::streams_are_fed;
 pub use tellings::{judged_fed_links, judged_linked_streams, judged_other_lines, judged_own_lines};

@@ -1,21 +1,33 @@
 -- connections of clients, judged by hand
 use Rattle.std.specs.Prelude.{◌≡◌, ◌∷◌, ◌==◌, ◌&&◌, if◌then◌else◌}
-use Rattle.transcript_law.proofs.Words.{ℕ, Bool, true, false, List, [], refl, arith, and_parts, Answer, Cause, Event, Chronicle, Verb, NodeVerb, empty_chronicle}
-use Rattle.transcript_law.proofs.{rows.CrashRows.{stops}, rows.Groups.{AreParts, in_order, whole}, rows.Silent.{all_silent, silent_heard, silent_start}}
-use Rattle.transcript_law.specs.{ClientRows.{LawfulOpened, closes, hangs, opens, refused, replies, sends, waits}, Clients.{AllClosed, IsOpened, IsReached}, Chronicles.{conns_lines}, Prefixes.{known_after}}
+use Rattle.transcript_law.proofs.Words.{ℕ, true, false, List, [], refl, arith, and_parts, Answer, Cause, Event, Chronicle, Verb, NodeVerb, empty_chronicle}
+use Rattle.transcript_law.proofs.{rows.CrashRows.{stops}, rows.Groups.{AreParts, in_order, whole}, rows.Sets.{heard_then}, rows.Silent.{AreHeard, Silent, all_silent, heard_all, heard_by, here_answered, silent_heard, silent_start}}
+use Rattle.transcript_law.specs.{ClientRows.{LawfulOpened, asks, closes, hangs, nooped, opens, refused, replies, sends, waits}, Clients.{AllClosed, IsOpened, IsReached}, Chronicles.{conns_lines}, Prefixes.{known_after}}
 use Rattle.transcript_law.specs.Crashes.{LawfulAfter, Said, numbered, ok, save_under, save_under_groups, stopped_behind, groups_from_number}
+unfoldable use Rattle.mcbp_dcp.specs.Messages.{read_of}
+unfoldable use Rattle.mcbp_dcp.specs.Rows.{frame_row}
+unfoldable use Rattle.mcbp_frame.specs.Cutting.{frames_in}
+unfoldable use Rattle.mcbp_frame.specs.Frames.{first_frame, frame_of}
+unfoldable use Rattle.mcbp_frame.specs.Spelling.{spelling}
+unfoldable use Rattle.mcbp_kv.specs.Framing.{requirement_of}
+unfoldable use Rattle.mcbp_kv.specs.Requests.{request_of}
 use Rattle.vb_disk.specs.declared.made.Outcome.TheVariants.{Old}
+use Rattle.transcript_law.proofs.rows.Answering.{no_question, noop_answer}
 
 -- what was read when the connection was opened
 abbrev read : Chronicle
 read = known_after empty_chronicle (numbered 1 (Verb.Node 0 ∷ opens 1 ∷ [])) (groups_from_number 1 (ok [] ∷ ok [] ∷ []))
 
 -- a transcript is lawful that is so from there on
+from_heard : (more : List Verb) (told : List Said) → in_order read (numbered 3 more) (groups_from_number 3 told) ≡ true → AreParts read (numbered 3 more) (groups_from_number 3 told) → (Silent read.clients_at → AreHeard read (numbered 3 more) (groups_from_number 3 told)) → LawfulOpened more told
+from_heard more told o l heard =
+    whole empty_chronicle (numbered 1 (Verb.Node 0 ∷ opens 1 ∷ more)) (groups_from_number 1 (ok [] ∷ ok [] ∷ told)) o ((tt, tt, refl), ((tt, refl, refl), l)) (heard_then _ _ _ _ _ refl silent_start (λ s. heard_then _ _ _ _ _ refl s heard))
+
+-- where no client sends anything, none is left without an answer
 from_opened : (more : List Verb) (told : List Said) → (in_order read (numbered 3 more) (groups_from_number 3 told) && all_silent (numbered 3 more)) ≡ true → AreParts read (numbered 3 more) (groups_from_number 3 told) → LawfulOpened more told
 from_opened more told o l =
     let both = and_parts (in_order read (numbered 3 more) (groups_from_number 3 told)) (all_silent (numbered 3 more)) o in
-    whole empty_chronicle (numbered 1 (Verb.Node 0 ∷ opens 1 ∷ more)) (groups_from_number 1 (ok [] ∷ ok [] ∷ told)) both.0 ((tt, tt, refl), ((tt, refl, refl), l))
-    (silent_heard empty_chronicle (numbered 1 (Verb.Node 0 ∷ opens 1 ∷ more)) (groups_from_number 1 (ok [] ∷ ok [] ∷ told)) silent_start both.1)
+    from_heard more told both.0 l (λ s. silent_heard read (numbered 3 more) (groups_from_number 3 told) s both.1)
 
 -- it is one thing or the other
 not_both : {A : Type 0} → false ≡ true → A
@@ -50,30 +62,37 @@ closed_hung l = not_both l.1.1.1.0.0.0
 pub hung_then : LawfulOpened (hangs 1 ∷ waits ∷ []) (ok [] ∷ ok [] ∷ [])
 hung_then = from_opened (hangs 1 ∷ waits ∷ []) (ok [] ∷ ok [] ∷ []) refl ((tt, refl, refl), ((tt, tt, refl), tt))
 
+pub reply : LawfulOpened (asks 1 ∷ []) (ok (replies 0 1 (nooped 9) ∷ closes 0 1 ∷ []) ∷ [])
+unfolding spelling frames_in first_frame frame_of read_of frame_row request_of requirement_of
+reply = from_heard (asks 1 ∷ []) (ok (replies 0 1 (nooped 9) ∷ closes 0 1 ∷ []) ∷ []) refl ((((refl, λ z. noop_answer 9 refl refl refl refl), (refl, tt)), refl, refl), tt)
+    (λ s. heard_by _ _ _ _ _ (here_answered read (asks 1) (replies 0 1 (nooped 9) ∷ closes 0 1 ∷ []) Answer.Ok (λ n c e. rw e refl) refl) (heard_all _))
+
+pub reply_later : LawfulOpened (asks 1 ∷ waits ∷ []) (ok [] ∷ ok (replies 0 1 (nooped 9) ∷ []) ∷ []) → ⊥
+unfolding spelling frames_in first_frame frame_of read_of frame_row request_of requirement_of
+reply_later l = let a = l.1.1.0.8 0 1 refl _ refl in let e = a.asks in cc
+
 module _ (bytes : List ℕ) where
-  pub reply : LawfulOpened (sends 1 ∷ []) (ok (replies 0 1 bytes ∷ closes 0 1 ∷ []) ∷ [])
-  reply = from_opened (sends 1 ∷ []) (ok (replies 0 1 bytes ∷ closes 0 1 ∷ []) ∷ []) refl (((refl, (refl, tt)), refl, refl), tt)
+  pub reply_unasked : LawfulOpened (sends 1 ∷ []) (ok (replies 0 1 bytes ∷ closes 0 1 ∷ []) ∷ []) → ⊥
+  unfolding frames_in first_frame
+  reply_unasked l = no_question (l.1.1.0.0.0.1 refl) refl refl
 
-  pub reply_other : LawfulOpened (sends 1 ∷ []) (ok (replies 0 2 bytes ∷ closes 0 1 ∷ []) ∷ []) → ⊥
-  reply_other l = not_both l.1.1.0.0.0
+  pub reply_other : LawfulOpened (asks 1 ∷ []) (ok (replies 0 2 bytes ∷ closes 0 1 ∷ []) ∷ []) → ⊥
+  reply_other l = not_both l.1.1.0.0.0.0
 
-  pub reply_elsewhere : LawfulOpened (sends 1 ∷ []) (ok (replies 1 1 bytes ∷ closes 0 1 ∷ []) ∷ []) → ⊥
-  reply_elsewhere l = not_both l.1.1.0.0.0
+  pub reply_elsewhere : LawfulOpened (asks 1 ∷ []) (ok (replies 1 1 bytes ∷ closes 0 1 ∷ []) ∷ []) → ⊥
+  reply_elsewhere l = not_both l.1.1.0.0.0.0
 
-  pub reply_behind : LawfulOpened (sends 1 ∷ []) (ok (closes 0 1 ∷ replies 0 1 bytes ∷ []) ∷ []) → ⊥
-  reply_behind l = not_both l.1.1.0.0.1.0
+  pub reply_behind : LawfulOpened (asks 1 ∷ []) (ok (closes 0 1 ∷ replies 0 1 bytes ∷ []) ∷ []) → ⊥
+  reply_behind l = not_both l.1.1.0.0.1.0.0
 
-  pub reply_later : LawfulOpened (sends 1 ∷ waits ∷ []) (ok [] ∷ ok (replies 0 1 bytes ∷ []) ∷ [])
-  reply_later = from_opened (sends 1 ∷ waits ∷ []) (ok [] ∷ ok (replies 0 1 bytes ∷ []) ∷ []) refl ((tt, refl, refl), (((refl, tt), tt, refl), tt))
+  pub reply_closed : LawfulOpened (asks 1 ∷ waits ∷ []) (ok (closes 0 1 ∷ []) ∷ ok (replies 0 1 bytes ∷ []) ∷ []) → ⊥
+  reply_closed l = not_both l.1.1.1.0.0.0.0
 
-  pub reply_closed : LawfulOpened (sends 1 ∷ waits ∷ []) (ok (closes 0 1 ∷ []) ∷ ok (replies 0 1 bytes ∷ []) ∷ []) → ⊥
-  reply_closed l = not_both l.1.1.1.0.0.0
+  pub reply_hung : LawfulOpened (asks 1 ∷ hangs 1 ∷ waits ∷ []) (ok [] ∷ ok [] ∷ ok (replies 0 1 bytes ∷ []) ∷ []) → ⊥
+  reply_hung l = not_both l.1.1.1.1.0.0.0.0
 
-  pub reply_hung : LawfulOpened (hangs 1 ∷ waits ∷ []) (ok [] ∷ ok (replies 0 1 bytes ∷ []) ∷ []) → ⊥
-  reply_hung l = not_both l.1.1.1.0.0.0
-
-  pub reply_down : LawfulOpened (Verb.AtNode 0 (NodeVerb.Crash Old) ∷ Verb.AtNode 0 (NodeVerb.Fail 1) ∷ []) (ok (closes 0 1 ∷ []) ∷ ok (replies 0 1 bytes ∷ []) ∷ []) → ⊥
-  reply_down l = not_both l.1.1.1.0.0.0
+  pub reply_down : LawfulOpened (asks 1 ∷ Verb.AtNode 0 (NodeVerb.Crash Old) ∷ Verb.AtNode 0 (NodeVerb.Fail 1) ∷ []) (ok [] ∷ ok (closes 0 1 ∷ []) ∷ ok (replies 0 1 bytes ∷ []) ∷ []) → ⊥
+  reply_down l = not_both l.1.1.1.1.0.0.0.0
 
 -- ---- answers
 

@@ -4,16 +4,18 @@ use Rattle.transcript_law.proofs.rows.ClientStreamItems.{item_put}
 use Rattle.transcript_law.specs.Crashes.{ok}
 use Rattle.transcript_law.specs.Lawfulness.{LawfulFrom}
 use Rattle.transcript_law.specs.BoundRows.{LawfulHere}
-use Rattle.std.proofs.Common.{List, [], ap, arith, inr, refl, subst, sym, take, true, false, ℕ, ◌++◌, ◌∙◌, ◌∷◌, ◌≡◌, ◌<◌, drop, inl}
+use Rattle.std.proofs.Common.{List, [], ap, arith, inr, refl, subst, sym, take, true, false, ℕ, ◌++◌, ◌∙◌, ◌∷◌, ◌≡◌, ◌<◌, inl}
 use Rattle.std.specs.Prelude.{Option, Some, None}
 unfoldable use Rattle.mcbp_dcp.specs.DcpFrames.{dcp_frame}
 use Rattle.mcbp_dcp.specs.declared.message.DcpMsg.TheVariants as msg
 unfoldable use Rattle.mcbp_dcp.specs.Messages.{read_of}
 unfoldable use Rattle.mcbp_dcp.specs.Rows.{frame_row}
 unfoldable use Rattle.mcbp_dcp.specs.Shapes.{shape_fault}
+use Rattle.transcript_law.proofs.rows.Answering.{dcp_answer}
 unfoldable use Rattle.mcbp_frame.specs.Cutting.{frames_in}
 unfoldable use Rattle.mcbp_frame.specs.Frames.{first_frame, frame_of}
 use Rattle.mcbp_frame.specs.Frames.{big_32_at}
+use Rattle.mcbp_frame.specs.declared.frame.Frame.{Frame}
 unfoldable use Rattle.mcbp_frame.specs.Spelling.{spelling}
 use Rattle.dcp_producer.specs.Serving.{stream_verdict}
 use Rattle.vb_types.specs.declared.stream.AskAnswer.{AskAnswer}
@@ -22,17 +24,23 @@ use Rattle.vb_types.specs.declared.stream.StreamAsk.{StreamAsk}
 use Rattle.vb_events.specs.declared.event.Event.{Event}
 use Rattle.vb_events.specs.declared.event.Event.TheVariants as event
 use Rattle.transcript_law.specs.Chronicles.{Chronicle}
-use Rattle.transcript_law.specs.ClientAskRows.{LawfulAsked, asked, asked_at, closing, none, opening, requesting, serving, taking_over, that_sent, unanswered, unopened, asked_forked, forked, sends_rest}
+use Rattle.transcript_law.specs.ClientAskRows.{LawfulAsked, asked, asked_at, closes_first, closing, none, opening, opens_first, requesting, serving, taking_over, that_sent, unanswered, unopened, asked_forked, forked, forked_log, sends_rest}
 use Rattle.transcript_law.specs.ClientFrames.{Request, request_in, setup_after}
-use Rattle.transcript_law.specs.ClientStreamRows.{all_changes, asks_for, finished, one, put_two, two, up_to, fresh, inside, marked, next_item, sent, snapshot}
+use Rattle.transcript_law.specs.ClientStreamRows.{all_changes, asks_for, finished, one, put_two, two, up_to, fresh, inside, marked, open_setup, sent, snapshot}
 use Rattle.transcript_law.specs.ClientStreams.{ClientKnown, ClientStream, Setup, unclosed}
 use Rattle.transcript_law.specs.Followers.{log_of, next_change}
 use Rattle.transcript_law.specs.LawfulClients.{InOrder, IsFree, LawfulClientAsk, RefusesBy, RefusesOwn}
 use Rattle.vb_types.specs.declared.role.Role.TheVariants.{Active}
 use Rattle.transcript_law.specs.StreamLaws.{LawfulSaid}
 use Rattle.transcript_law.proofs.rows.ClientStreams.{◌▹◌, all_between}
+use Rattle.transcript_law.proofs.rows.Silent.{here_answered}
+use Rattle.vb_events.specs.declared.event.Answer.TheVariants as answer
 
 -- ---- requests that are answered as they are to be
+
+-- the frame of an answer to one
+abbrev pub answer_of : AskAnswer → Frame
+answer_of said = dcp_frame (msg.StreamAnswer (stream_verdict (log_of 5) said)) 9 0
 
 -- the vBucket lets all changes be sent, or refuses
 pub goes : (known : ClientKnown) → LawfulSaid (serving two known) 0 0 all_changes 2 (log_of 5) ask_answer.Go
@@ -42,9 +50,6 @@ pub refuses : (known : ClientKnown) (ask : StreamAsk) (code : ℕ) → 0 < code 
 refuses known ask code some = record { own_log = refl; own_high = refl; verdict = λ e. omega (arith, some, e); active = tt }
 
 -- a connection that has no stream, or has one that is over, has nothing against it
-abbrev pub open_setup : Setup
-open_setup = record { opened = true; sync = true; named = true }
-
 pub free : (setup : Setup) → setup.opened ≡ true → RefusesOwn setup None all_changes ask_answer.Go
 free setup is = record { unopened = λ e. let z : true ≡ false = sym is ∙ e in cc; unknown = λ e. absurd (omega (arith, e)); takeover = λ o e. absurd (omega (arith, e)); held = λ g e o. cc }
 
@@ -60,27 +65,27 @@ all_order = (omega arith, omega arith, omega arith)
 
 pub go : LawfulAsked (that_sent none (requesting 0 all_changes)) (asked all_changes ask_answer.Go)
 unfolding spelling dcp_frame frames_in first_frame frame_of read_of frame_row shape_fault
-go = record { own_node = refl; request = _; next = refl; numbers = refl; vb = refl; answered = goes _; own = free open_setup refl; reason = fair open_setup None no_stream all_changes all_order; frame = ([], refl) } ▹ (λ z. refl) ▹ tt
+go = record { own_node = refl; request = _; next = refl; numbers = refl; vb = refl; answered = goes _; own = free open_setup refl; reason = fair open_setup None no_stream all_changes all_order; frame = ([], refl) } ▹ (λ z. dcp_answer (answer_of ask_answer.Go) refl refl refl refl refl) ▹ tt
 
-pub opened : LawfulAsked (unopened (opening 1 ++ requesting 0 all_changes)) (asked all_changes ask_answer.Go)
+pub opened : LawfulAsked (unopened (opening 1 ++ requesting 0 all_changes)) (opens_first ∷ asked all_changes ask_answer.Go)
 unfolding spelling dcp_frame frames_in first_frame frame_of read_of frame_row shape_fault
-opened = record { own_node = refl; request = _; next = refl; numbers = refl; vb = refl; answered = goes _; own = free (record { opened = true; sync = false; named = false }) refl; reason = fair (record { opened = true; sync = false; named = false }) None no_stream all_changes all_order; frame = ([], refl) } ▹ (λ z. refl) ▹ tt
+opened = (λ z. dcp_answer (dcp_frame (msg.OpenAnswer 0) 1 0) refl refl refl refl refl) ▹ record { own_node = refl; request = _; next = refl; numbers = refl; vb = refl; answered = record { own_log = refl; own_high = refl; verdict = (refl, λ z. absurd (omega (arith, z))); active = refl }; own = free (record { opened = true; sync = false; named = false }) refl; reason = fair (record { opened = true; sync = false; named = false }) None no_stream all_changes all_order; frame = ([], refl) } ▹ (λ z. dcp_answer (answer_of ask_answer.Go) refl refl refl refl refl) ▹ tt
 
 pub refused_before : LawfulAsked (unopened (requesting 0 all_changes)) (asked all_changes (ask_answer.Refuse 4))
 unfolding spelling dcp_frame frames_in first_frame frame_of read_of frame_row shape_fault
-refused_before = record { own_node = refl; request = _; next = refl; numbers = refl; vb = refl; answered = refuses _ all_changes 4 (omega arith); own = record { unopened = λ e. refl; unknown = λ e. refl; takeover = λ o e. absurd (omega (arith, e)); held = λ g e o. cc }; reason = λ o. cc; frame = ([], refl) } ▹ (λ z. refl) ▹ tt
+refused_before = record { own_node = refl; request = _; next = refl; numbers = refl; vb = refl; answered = refuses _ all_changes 4 (omega arith); own = record { unopened = λ e. refl; unknown = λ e. refl; takeover = λ o e. absurd (omega (arith, e)); held = λ g e o. cc }; reason = λ o. cc; frame = ([], refl) } ▹ (λ z. dcp_answer (answer_of (ask_answer.Refuse 4)) refl refl refl refl refl) ▹ tt
 
 pub refused_takeover : LawfulAsked (that_sent none (requesting 0 taking_over)) (asked taking_over (ask_answer.Refuse 131))
 unfolding spelling dcp_frame frames_in first_frame frame_of read_of frame_row shape_fault
-refused_takeover = record { own_node = refl; request = _; next = refl; numbers = refl; vb = refl; answered = refuses _ taking_over 131 (omega arith); own = record { unopened = λ e. cc; unknown = λ e. absurd (omega (arith, e)); takeover = λ o e. refl; held = λ g e o. cc }; reason = λ o z. absurd (omega (arith, z)); frame = ([], refl) } ▹ (λ z. refl) ▹ tt
+refused_takeover = record { own_node = refl; request = _; next = refl; numbers = refl; vb = refl; answered = refuses _ taking_over 131 (omega arith); own = record { unopened = λ e. cc; unknown = λ e. absurd (omega (arith, e)); takeover = λ o e. refl; held = λ g e o. cc }; reason = λ o z. absurd (omega (arith, z)); frame = ([], refl) } ▹ (λ z. dcp_answer (answer_of (ask_answer.Refuse 131)) refl refl refl refl refl) ▹ tt
 
 pub refused_held : LawfulAsked (that_sent (one put_two) (requesting 0 all_changes)) (asked all_changes (ask_answer.Refuse 2))
 unfolding spelling dcp_frame frames_in first_frame frame_of read_of frame_row shape_fault
-refused_held = record { own_node = refl; request = _; next = refl; numbers = refl; vb = refl; answered = refuses _ all_changes 2 (omega arith); own = record { unopened = λ e. cc; unknown = λ e. absurd (omega (arith, e)); takeover = λ o e. absurd (omega (arith, e)); held = λ g e o. (2, refl) }; reason = λ o z. inr (record { away = λ off. absurd (off refl); again = λ a g e x. refl; outside = λ a f wrong. inr refl; granted = λ a f i is. refl }); frame = ([], refl) } ▹ (λ z. refl) ▹ tt
+refused_held = record { own_node = refl; request = _; next = refl; numbers = refl; vb = refl; answered = refuses _ all_changes 2 (omega arith); own = record { unopened = λ e. cc; unknown = λ e. absurd (omega (arith, e)); takeover = λ o e. absurd (omega (arith, e)); held = λ g e o. (2, refl) }; reason = λ o z. inr (record { away = λ off. absurd (off refl); again = λ a g e x. refl; outside = λ a f wrong. inr refl; granted = λ a f i is. refl }); frame = ([], refl) } ▹ (λ z. dcp_answer (answer_of (ask_answer.Refuse 2)) refl refl refl refl refl) ▹ tt
 
-pub closed : LawfulAsked (that_sent (one put_two) (closing 0 ++ requesting 0 all_changes)) (asked all_changes ask_answer.Go)
+pub closed : LawfulAsked (that_sent (one put_two) (closing 0 ++ requesting 0 all_changes)) (closes_first ∷ asked all_changes ask_answer.Go)
 unfolding spelling dcp_frame frames_in first_frame frame_of read_of frame_row shape_fault
-closed = record { own_node = refl; request = _; next = refl; numbers = refl; vb = refl; answered = goes _; own = free open_setup refl; reason = fair open_setup None no_stream all_changes all_order; frame = ([], refl) } ▹ (λ z. refl) ▹ tt
+closed = (λ z. dcp_answer (dcp_frame (msg.CloseAnswer 0) 4 0) refl refl refl refl refl) ▹ record { own_node = refl; request = _; next = refl; numbers = refl; vb = refl; answered = record { own_log = refl; own_high = refl; verdict = (refl, λ z. absurd (omega (arith, z))); active = refl }; own = free open_setup refl; reason = fair open_setup None no_stream all_changes all_order; frame = ([], refl) } ▹ (λ z. dcp_answer (answer_of ask_answer.Go) refl refl refl refl refl) ▹ tt
 
 -- one that is over is none
 over_one : (g : ClientStream) → Some (finished put_two) ≡ Some g → g.over ≡ false → ⊥
@@ -88,7 +93,7 @@ over_one g e o = let same : finished put_two ≡ g = cc in let z : true ≡ fals
 
 pub over : LawfulAsked (that_sent (one (finished put_two)) (requesting 0 all_changes)) (asked all_changes ask_answer.Go)
 unfolding spelling dcp_frame frames_in first_frame frame_of read_of frame_row shape_fault
-over = record { own_node = refl; request = _; next = refl; numbers = refl; vb = refl; answered = goes _; own = record { unopened = λ e. cc; unknown = λ e. absurd (omega (arith, e)); takeover = λ o e. absurd (omega (arith, e)); held = λ g e o. absurd (over_one g e o) }; reason = fair open_setup (Some (finished put_two)) over_one all_changes all_order; frame = ([], refl) } ▹ (λ z. refl) ▹ tt
+over = record { own_node = refl; request = _; next = refl; numbers = refl; vb = refl; answered = goes _; own = record { unopened = λ e. cc; unknown = λ e. absurd (omega (arith, e)); takeover = λ o e. absurd (omega (arith, e)); held = λ g e o. absurd (over_one g e o) }; reason = fair open_setup (Some (finished put_two)) over_one all_changes all_order; frame = ([], refl) } ▹ (λ z. dcp_answer (answer_of ask_answer.Go) refl refl refl refl refl) ▹ tt
 
 -- ---- requests that are not
 
@@ -170,9 +175,9 @@ pub held : LawfulAsked (that_sent (one put_two) (requesting 0 all_changes)) (ask
 unfolding spelling dcp_frame frames_in first_frame frame_of read_of frame_row shape_fault
 held l = let (code, e) = (own_of _ _ _ _ _ _ _ l.0 _ refl).held put_two refl refl in no_refusal code e
 
-pub other_closed : LawfulAsked (that_sent (one put_two) (closing 1 ++ requesting 0 all_changes)) (asked all_changes ask_answer.Go) → ⊥
+pub other_closed : LawfulAsked (that_sent (one put_two) (closing 1 ++ requesting 0 all_changes)) (closes_first ∷ asked all_changes ask_answer.Go) → ⊥
 unfolding spelling dcp_frame frames_in first_frame frame_of read_of frame_row shape_fault
-other_closed l = let (code, e) = (own_of _ _ _ _ _ _ _ l.0 _ refl).held put_two refl refl in no_refusal code e
+other_closed l = let (code, e) = (own_of _ _ _ _ _ _ _ l.1.0 _ refl).held put_two refl refl in no_refusal code e
 
 -- ---- what begins with a request
 
@@ -180,7 +185,7 @@ other_closed l = let (code, e) = (own_of _ _ _ _ _ _ _ l.0 _ refl).held put_two 
 pub resumes : LawfulAsked (that_sent none (requesting 0 (asks_for 0 1 2 9))) (asked (asks_for 0 1 2 9) ask_answer.Go ++ marked 0 0 2 ++ sent 0 next_change)
 unfolding spelling dcp_frame frames_in first_frame frame_of read_of frame_row shape_fault
 resumes =
-    record { own_node = refl; request = _; next = refl; numbers = refl; vb = refl; answered = record { own_log = refl; own_high = refl; verdict = (refl, λ z. refl); active = refl }; own = record { unopened = λ e. cc; unknown = λ e. absurd (omega (arith, e)); takeover = λ o e. absurd (omega (arith, e)); held = λ g e o. cc }; reason = fair open_setup None no_stream (asks_for 0 1 2 9) (omega arith, omega arith, omega arith); frame = (_, refl) } ▹ (λ z. refl)
+    record { own_node = refl; request = _; next = refl; numbers = refl; vb = refl; answered = record { own_log = refl; own_high = refl; verdict = (refl, λ z. refl); active = refl }; own = record { unopened = λ e. cc; unknown = λ e. absurd (omega (arith, e)); takeover = λ o e. absurd (omega (arith, e)); held = λ g e o. cc }; reason = fair open_setup None no_stream (asks_for 0 1 2 9) (omega arith, omega arith, omega arith); frame = (_, refl) } ▹ (λ z. dcp_answer (answer_of ask_answer.Go) refl refl refl refl refl)
     ▹ mark_put _ _ 0 0 2 (fresh true (asks_for 0 1 2 9)) _ refl refl refl (record { opens = refl; stays = refl; goes_on = λ r. r; behind = tt; starts = refl; reaches = omega arith; whole = (next_change ∷ [], all_between two 1 2 (omega arith) (omega arith, omega arith) refl) }) ▹ (λ z. cc)
     ▹ item_put _ _ 0 next_change (inside true (asks_for 0 1 2 9) two 1 2 []) (snapshot two 1 2 []) [] refl refl refl refl refl (inr (inl refl)) (next_change, inr (inl refl), refl) ([], record { whole = next_change ∷ []; covers = all_between two 1 2 (omega arith) (omega arith, omega arith) refl; front = refl }, λ e. refl) ▹ (λ z. cc) ▹ tt
 
@@ -191,7 +196,7 @@ forked_stream = fresh true (asks_for 1 1 1 9)
 pub newest : LawfulFrom (forked (that_sent none (requesting 0 (asks_for 1 1 1 9)))) (asked_forked ++ marked 0 1 2 ++ sent 0 next_change)
 unfolding spelling dcp_frame frames_in first_frame frame_of read_of frame_row shape_fault
 newest =
-    record { own_node = refl; request = _; next = refl; numbers = refl; vb = refl; answered = record { own_log = refl; own_high = refl; verdict = (refl, λ z. refl); active = refl }; own = record { unopened = λ e. cc; unknown = λ e. absurd (omega (arith, e)); takeover = λ o e. absurd (omega (arith, e)); held = λ g e o. cc }; reason = fair open_setup None no_stream (asks_for 1 1 1 9) (omega arith, omega arith, omega arith); frame = (_, refl) } ▹ (λ z. refl)
+    record { own_node = refl; request = _; next = refl; numbers = refl; vb = refl; answered = record { own_log = refl; own_high = refl; verdict = (refl, λ z. refl); active = refl }; own = record { unopened = λ e. cc; unknown = λ e. absurd (omega (arith, e)); takeover = λ o e. absurd (omega (arith, e)); held = λ g e o. cc }; reason = fair open_setup None no_stream (asks_for 1 1 1 9) (omega arith, omega arith, omega arith); frame = (_, refl) } ▹ (λ z. dcp_answer (dcp_frame (msg.StreamAnswer (stream_verdict forked_log ask_answer.Go)) 9 0) refl refl refl refl refl)
     ▹ mark_put _ _ 0 1 2 (record (fresh true (asks_for 1 1 1 9)) { branch = 7 }) _ refl refl refl (record { opens = refl; stays = refl; goes_on = λ r. r; behind = tt; starts = refl; reaches = omega arith; whole = (next_change ∷ [], all_between two 1 2 (omega arith) (omega arith, omega arith) refl) }) ▹ (λ z. cc)
     ▹ item_put _ _ 0 next_change (record (inside true (asks_for 1 1 1 9) two 1 2 []) { branch = 7 }) (snapshot two 1 2 []) [] refl refl refl refl refl (inr (inl refl)) (next_change, inr (inl refl), refl) ([], record { whole = next_change ∷ []; covers = all_between two 1 2 (omega arith) (omega arith, omega arith) refl; front = refl }, λ e. refl) ▹ (λ z. cc) ▹ tt
 
@@ -200,7 +205,7 @@ pub pieces : LawfulHere (serving two (that_sent none (take 30 (requesting 0 all_
 unfolding spelling dcp_frame frames_in first_frame frame_of read_of frame_row shape_fault
 pieces = (
   (
-    (record { own_node = refl; request = _; next = refl; numbers = refl; vb = refl; answered = record { own_log = refl; own_high = refl; verdict = (refl, λ z. absurd (omega (arith, z))); active = refl }; own = free open_setup refl; reason = fair open_setup None no_stream all_changes all_order; frame = ([], refl) }, (refl, tt)),
+    (record { own_node = refl; request = _; next = refl; numbers = refl; vb = refl; answered = record { own_log = refl; own_high = refl; verdict = (refl, λ z. absurd (omega (arith, z))); active = refl }; own = free open_setup refl; reason = fair open_setup None no_stream all_changes all_order; frame = ([], refl) }, ((refl, λ z. dcp_answer (answer_of ask_answer.Go) refl refl refl refl refl), tt)),
     refl,
     refl,
     refl,
@@ -208,6 +213,7 @@ pieces = (
     refl,
     tt,
     tt,
+    here_answered (serving two (that_sent none (take 30 (requesting 0 all_changes)))) (sends_rest 30 (requesting 0 all_changes)) (asked all_changes ask_answer.Go) answer.Ok (λ n c e. rw e refl) refl,
   ),
   tt,
 )

@@ -4,6 +4,11 @@ use Rattle.std.specs.Prelude.{Some, None, slice_index}
 unfoldable use Rattle.mcbp_dcp.specs.DcpFrames.{dcp_frame}
 use Rattle.mcbp_dcp.specs.declared.message.DcpMsg.{DcpMsg}
 use Rattle.mcbp_dcp.specs.declared.message.DcpMsg.TheVariants as msg
+unfoldable use Rattle.mcbp_dcp.specs.Messages.{read_of}
+unfoldable use Rattle.mcbp_dcp.specs.Rows.{frame_row}
+unfoldable use Rattle.mcbp_dcp.specs.Shapes.{shape_fault}
+unfoldable use Rattle.mcbp_frame.specs.Cutting.{frames_in}
+unfoldable use Rattle.mcbp_frame.specs.Frames.{first_frame, frame_of as frame_in_bytes}
 unfoldable use Rattle.mcbp_frame.specs.Spelling.{spelling}
 use Rattle.dcp_producer.specs.Frames.{act_message}
 use Rattle.vb_types.specs.Histories.{IsIn, Rises, Slot, plain}
@@ -13,6 +18,7 @@ use Rattle.vb_events.specs.declared.event.Event.{Event}
 use Rattle.branch_model.proofs.Lists.{rises_in}
 use Rattle.branch_model.specs.Histories.{IsOf}
 use Rattle.transcript_law.specs.Chronicles.{Chronicle}
+use Rattle.transcript_law.specs.ClientAskRows.{LawfulAsked, bytes_of as sent_bytes, that_sent}
 use Rattle.transcript_law.specs.ClientStreamRows.{LawfulHeld, LawfulPut, all_changes, both as and_another, finished, first_item, frame_of, fresh, inside, marked, next_item, one, other_value, sent, sent_with, snapshot, turned, two, with_streams}
 use Rattle.transcript_law.specs.ClientStreams.{Begun, ClientKnown, ClientStream, ItemLine, past_turn, vb_in_header, with_turn}
 use Rattle.transcript_law.specs.Followers.{next_change}
@@ -20,6 +26,7 @@ use Rattle.transcript_law.specs.Lawfulness.{LawfulRole}
 use Rattle.transcript_law.specs.LawfulClients.{IsSentOf, LawfulClientItem}
 use Rattle.transcript_law.specs.StreamLaws.{IsNextItem, item_of_change}
 use Rattle.transcript_law.specs.Transcripts.{one_change}
+use Rattle.transcript_law.proofs.rows.Answering.{dcp_answer}
 use Rattle.transcript_law.proofs.rows.ClientStreams.{◌▹◌, all_between, bytes_are, put_by, spelled_is, stream_is}
 use Rattle.transcript_law.proofs.rows.ClientStreamMarks.{mark_put, two_next}
 
@@ -67,11 +74,11 @@ both =
     ▹ item_put _ _ 0 one_change begun (snapshot two 0 2 []) (sent 0 next_change) refl refl refl refl refl (inl refl) (one_change, inl refl, refl) first_next ▹ (λ z. cc)
     ▹ item_put _ _ 0 next_change first_put (snapshot two 0 2 (first_item ∷ [])) [] refl refl refl refl refl (inr (inl refl)) (next_change, inr (inl refl), refl) both_next ▹ (λ z. cc) ▹ tt
 
-pub answered : LawfulPut two (one (fresh true all_changes)) (marked 0 0 2 ++ sent 0 one_change ++ frame_of 0 (msg.NoopAnswer 0) ∷ sent 0 next_change)
-unfolding spelling dcp_frame
+pub answered : LawfulAsked (that_sent (one (fresh true all_changes)) (sent_bytes 9 0 msg.Noop)) (marked 0 0 2 ++ sent 0 one_change ++ frame_of 0 (msg.NoopAnswer 0) ∷ sent 0 next_change)
+unfolding spelling dcp_frame frames_in first_frame frame_in_bytes read_of frame_row shape_fault
 answered =
-    mark_put _ (with_streams (one (fresh true all_changes))) 0 0 2 (fresh true all_changes) _ refl refl refl two_next ▹ (λ z. cc)
-    ▹ item_put _ _ 0 one_change begun (snapshot two 0 2 []) _ refl refl refl refl refl (inl refl) (one_change, inl refl, refl) first_next ▹ (λ z. cc) ▹ (λ z. refl)
+    mark_put _ _ 0 0 2 (fresh true all_changes) _ refl refl refl two_next ▹ (λ z. cc)
+    ▹ item_put _ _ 0 one_change begun (snapshot two 0 2 []) _ refl refl refl refl refl (inl refl) (one_change, inl refl, refl) first_next ▹ (λ z. cc) ▹ (λ z. dcp_answer (dcp_frame (msg.NoopAnswer 0) 9 0) refl refl refl refl refl)
     ▹ item_put _ _ 0 next_change first_put (snapshot two 0 2 (first_item ∷ [])) [] refl refl refl refl refl (inr (inl refl)) (next_change, inr (inl refl), refl) both_next ▹ (λ z. cc) ▹ tt
 
 pub in_turn : LawfulPut two (and_another (fresh true all_changes) (fresh true all_changes)) (marked 0 0 2 ++ marked 1 0 2 ++ sent 1 one_change ++ sent 0 one_change ++ sent 0 next_change ++ sent 1 next_change)

@@ -19,12 +19,15 @@ use Rattle.transcript_law.specs.BoundRows.{LawfulHere}
 use Rattle.transcript_law.specs.Chronicles.{Chronicle}
 use Rattle.transcript_law.specs.ClientAskRows.{asked, client_asks, client_counts, client_ends, client_gives, client_hears, client_marks, hangs_up, none, pulls, requesting, sends_none, serving, that_sent, ticks}
 use Rattle.transcript_law.specs.ClientRows.{closes}
-use Rattle.transcript_law.specs.ClientStreamRows.{all_changes, two}
+use Rattle.transcript_law.specs.ClientStreamRows.{all_changes, open_setup, two}
 use Rattle.transcript_law.specs.Crashes.{ok}
 use Rattle.transcript_law.specs.Lawfulness.{LawfulFrom}
 use Rattle.transcript_law.specs.TellingRows.{MayNotTell, changes_here}
 use Rattle.transcript_law.specs.Tellings.{are_all, may_tell}
-use Rattle.transcript_law.proofs.rows.ClientStreamAsks.{all_order, fair, free, goes, no_stream, open_setup}
+use Rattle.transcript_law.proofs.rows.Answering.{dcp_answer}
+use Rattle.transcript_law.proofs.rows.ClientStreamAsks.{all_order, answer_of, fair, free, goes, no_stream}
+use Rattle.transcript_law.proofs.rows.Silent.{here_answered}
+use Rattle.vb_events.specs.declared.event.Answer.TheVariants as answer
 
 -- lines that a test lets through have none that it does not
 refused_first : (a b : Bool) → a ≡ false → (a && b) ≡ true → ⊥
@@ -104,7 +107,7 @@ pub tick_ask : LawfulHere (serving two (that_sent none (requesting 0 all_changes
 unfolding spelling dcp_frame frames_in first_frame frame_of read_of frame_row shape_fault
 tick_ask = (
   (
-    (record { own_node = refl; request = _; next = refl; numbers = refl; vb = refl; answered = goes _; own = free open_setup refl; reason = fair open_setup None no_stream all_changes all_order; frame = ([], refl) }, (refl, tt)),
+    (record { own_node = refl; request = _; next = refl; numbers = refl; vb = refl; answered = goes _; own = free open_setup refl; reason = fair open_setup None no_stream all_changes all_order; frame = ([], refl) }, ((refl, λ z. dcp_answer (answer_of ask_answer.Go) refl refl refl refl refl), tt)),
     tt,
     refl,
     refl,
@@ -112,6 +115,7 @@ tick_ask = (
     refl,
     tt,
     tt,
+    here_answered (serving two (that_sent none (requesting 0 all_changes))) ticks (asked all_changes ask_answer.Go) answer.Ok (λ n c e. rw e refl) refl,
   ),
   tt,
 )

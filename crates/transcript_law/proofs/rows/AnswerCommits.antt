@@ -1,0 +1,135 @@
+-- commits of durable writes that are told, judged by hand
+use Rattle.std.proofs.Common.{List, [], ap, arith, inl, inr, false, refl, subst, sym, ℕ, ⊎_elim, ◌++◌, ◌∙◌, ◌∷◌, ◌≡◌, ◌⊎◌, ◌<◌}
+use Rattle.std.specs.Prelude.{Bool, Some}
+unfoldable use Rattle.mcbp_dcp.specs.Messages.{read_of}
+unfoldable use Rattle.mcbp_dcp.specs.Rows.{frame_row}
+unfoldable use Rattle.mcbp_dcp.specs.Shapes.{shape_fault}
+unfoldable use Rattle.mcbp_frame.specs.Cutting.{frames_in}
+unfoldable use Rattle.mcbp_frame.specs.Frames.{first_frame, frame_of}
+unfoldable use Rattle.mcbp_frame.specs.Spelling.{spelling}
+unfoldable use Rattle.mcbp_kv.specs.Framing.{requirement_of}
+unfoldable use Rattle.mcbp_kv.specs.Requests.{request_of}
+use Rattle.client_session.specs.Rows.{seqno_part}
+use Rattle.client_session.specs.declared.session.Settings.{Settings}
+use Rattle.mcbp_frame.specs.declared.frame.Frame.{Frame}
+use Rattle.mcbp_kv.specs.Answers.{IsBare, seqno_extras, stored_answer}
+use Rattle.mcbp_kv.specs.Replies.{reply_frame}
+use Rattle.mcbp_kv.specs.declared.opcodes.TheConstants.{SET}
+use Rattle.vb_calls.specs.Following.{cas_of}
+use Rattle.vb_types.specs.Statuses.{status_code}
+use Rattle.vb_types.specs.declared.change.Act.TheVariants as act
+use Rattle.vb_types.specs.declared.change.Level.TheVariants.{Majority}
+use Rattle.vb_types.specs.declared.change.Pend.{Pend}
+use Rattle.vb_types.specs.declared.doc.Doc.{Doc}
+use Rattle.vb_types.specs.declared.status.Status.{Status}
+use Rattle.transcript_law.specs.AnswerRows.{LawfulBy, LawfulTo, answers, durably, for_seqnos, makes, makes_far, once, stores, writes}
+use Rattle.transcript_law.specs.ClientAskRows.{serving}
+use Rattle.transcript_law.specs.ClientRows.{noop}
+use Rattle.transcript_law.specs.ClientStreamRows.{committed as committed_change, durable, pending, prepared as prepare_made}
+use Rattle.transcript_law.specs.ClientStreams.{ClientsKnown, blank_client}
+use Rattle.transcript_law.specs.LawfulAnswers.{IsCommitted}
+use Rattle.transcript_law.specs.Lawfulness.{LawfulChange}
+use Rattle.transcript_law.specs.LinesTold.{OwnChange}
+use Rattle.transcript_law.specs.Majorities.{IsHeldByMost}
+use Rattle.transcript_law.specs.Transcripts.{first_doc}
+use Rattle.transcript_law.proofs.rows.AnswerWrites.{act_is, no_made, refused_cas}
+use Rattle.transcript_law.proofs.rows.Answering.{asked_so, byte_at, noop_answer, response_of, stored_bytes, stored_so}
+use Rattle.transcript_law.proofs.rows.NextRows.{resolving_next}
+use Rattle.transcript_law.proofs.rows.WaitingKeys.{nine_waits, waits}
+
+-- ---- what a durable write that is told stored is
+
+-- of what may be told of a durable write a commit alone has a CAS
+pub only_stored : {bytes : List ℕ} {g : Frame} {a b c d e x y z : ℕ} {Why First : Status → Type 0} {Stored : Type 0} → IsBare g a b c ⊎ ((st : Status) × IsBare g d (status_code st) e × Why st × First st) ⊎ Stored ⊎ IsBare g x y z → bytes ≡ spelling g → 0 < byte_at 23 bytes → Stored
+only_stored fits s some = ⊎_elim (λ full. let n = refused_cas full s in absurd (omega (arith, n, some))) (λ left. ⊎_elim (λ r. let n = refused_cas r.1 s in absurd (omega (arith, n, some))) (λ told. ⊎_elim (λ c. c) (λ unsure. let n = refused_cas unsure s in absurd (omega (arith, n, some))) told) left) fits
+
+-- of one change that was told
+module _ {n : ℕ} {own : OwnChange} {settings : Settings} {f g : Frame} (c : IsCommitted n (own ∷ []) settings f g) where
+  one_is : c.one ≡ own
+  one_is = ⊎_elim (λ e. e) (λ none. absurd none) c.told_before
+
+  pub node_is : own.node ≡ n
+  node_is = ap (λ (o : OwnChange). o.node) (sym one_is) ∙ c.here
+
+  pub commit_is : own.change.act ≡ act.Commit c.prepared c.doc c.deleted
+  commit_is = ap (λ (o : OwnChange). o.change.act) (sym one_is) ∙ c.commits
+
+  pub commit_bytes : {bytes : List ℕ} → bytes ≡ spelling g → bytes ≡ spelling (response_of f.opcode 0 0 f.opaque (cas_of own.change.act) (seqno_part settings own.branch own.change.seq) [])
+  commit_bytes {bytes} s =
+      stored_bytes c.told s
+      ∙ ap (λ x. spelling (response_of f.opcode 0 0 f.opaque x (seqno_part settings c.one.branch c.one.change.seq) [])) (sym (ap cas_of commit_is))
+      ∙ ap (λ (o : OwnChange). spelling (response_of f.opcode 0 0 f.opaque (cas_of own.change.act) (seqno_part settings o.branch o.change.seq) [])) one_is
+
+-- ---- a commit that is made
+
+-- the node is its chain, so the prepare is held by most
+held_alone : IsHeldByMost ((serving pending blank_client).counts_at 0 0) ((serving pending blank_client).disk_at 0 0).saved 2 Majority
+held_alone = record { members = []; differ = tt; each = tt; most = omega arith; saved_for = λ w. absurd w }
+
+named_so : (number : ℕ) (doc : Doc) (deleted : Bool) → committed_change.act ≡ act.Commit number doc deleted → (waits.seq ≡ number) × (waits.doc ≡ doc) × (waits.deleted ≡ deleted)
+named_so number doc deleted e = (cc, cc, cc)
+
+pub makes_commit : (clients : ClientsKnown) → LawfulChange (record (serving pending blank_client) { clients_at = clients }) 0 0 5 committed_change
+makes_commit clients = record {
+  active = refl;
+  writer = record { made_or_took = refl; on_branch = refl };
+  above_branch = omega arith;
+  above_forks = (λ e. omega arith, tt);
+  made = resolving_next pending committed_change waits refl nine_waits refl refl refl refl;
+  fulfils = λ number doc deleted e. let t = named_so number doc deleted e in (waits, nine_waits, t.0, t.1, t.2);
+  backed = λ number doc deleted e p there. let found : Some waits ≡ Some p = sym nine_waits ∙ there in let same : waits ≡ p = cc in subst (λ (q : Pend). IsHeldByMost ((serving pending blank_client).counts_at 0 0) ((serving pending blank_client).disk_at 0 0).saved q.seq q.level) same held_alone;
+}
+
+-- ---- transcripts
+
+pub committed : LawfulTo pending (durably 1 9 6) (makes committed_change ∷ stores SET 2 [] ∷ [])
+unfolding spelling frames_in first_frame frame_of read_of frame_row shape_fault request_of requirement_of
+committed = (makes_commit _, (λ z. inl (record { question = _; next = refl; answer = reply_frame (stored_answer SET 9 2 []); spelled = refl; response = refl; opcode = refl; opaque = refl; fits = inr (inr (inl (record { one = record { node = 0; vb = 0; branch = 5; change = committed_change }; told_before = inl refl; here = refl; prepared = 2; doc = first_doc 2 (6 ∷ []); deleted = false; commits = refl; told = stored_so SET 9 2 [] }))) }), tt))
+
+pub uncommitted : LawfulTo durable (durably 1 9 6) (stores SET 2 [] ∷ []) → ⊥
+unfolding spelling frames_in first_frame frame_of read_of frame_row shape_fault request_of requirement_of
+uncommitted l = let (g, s, fits) = asked_so (l.0 refl) refl refl refl in let c = only_stored fits s (omega arith) in c.told_before
+
+pub prepared : LawfulTo once (durably 1 9 6) (makes prepare_made ∷ stores SET 2 [] ∷ []) → ⊥
+unfolding spelling frames_in first_frame frame_of read_of frame_row shape_fault request_of requirement_of
+prepared l = let (g, s, fits) = asked_so (l.1.0 refl) refl refl refl in let c = only_stored fits s (omega arith) in let e : prepare_made.act ≡ act.Commit c.prepared c.doc c.deleted = commit_is c in cc
+
+pub cas : LawfulTo pending (durably 1 9 6) (makes committed_change ∷ stores SET 3 [] ∷ []) → ⊥
+unfolding spelling frames_in first_frame frame_of read_of frame_row shape_fault request_of requirement_of
+cas l = let (g, s, fits) = asked_so (l.1.0 refl) refl refl refl in let c = only_stored fits s (omega arith) in let e : ◌≡◌ {A = ℕ} 3 2 = ap (byte_at 23) (commit_bytes c s) in omega (arith, e)
+
+pub far : LawfulTo pending (durably 1 9 6) (makes_far committed_change ∷ stores SET 2 [] ∷ []) → ⊥
+unfolding spelling frames_in first_frame frame_of read_of frame_row shape_fault request_of requirement_of
+far l = let (g, s, fits) = asked_so (l.1.0 refl) refl refl refl in let c = only_stored fits s (omega arith) in let e : ◌≡◌ {A = ℕ} 1 0 = node_is c in omega (arith, e)
+
+pub later : LawfulTo pending (noop 9 ++ durably 1 9 6) (makes committed_change ∷ answers 9 ∷ stores SET 2 [] ∷ [])
+unfolding spelling frames_in first_frame frame_of read_of frame_row shape_fault request_of requirement_of
+later = (makes_commit _, (λ z. noop_answer 9 refl refl refl refl, (λ z. inl (record { question = _; next = refl; answer = reply_frame (stored_answer SET 9 2 []); spelled = refl; response = refl; opcode = refl; opaque = refl; fits = inr (inr (inl (record { one = record { node = 0; vb = 0; branch = 5; change = committed_change }; told_before = inl refl; here = refl; prepared = 2; doc = first_doc 2 (6 ∷ []); deleted = false; commits = refl; told = stored_so SET 9 2 [] }))) }), tt)))
+
+pub seqnos : LawfulBy for_seqnos pending (durably 1 9 6) (makes committed_change ∷ stores SET 2 (seqno_extras 5 3) ∷ [])
+unfolding spelling frames_in first_frame frame_of read_of frame_row shape_fault request_of requirement_of
+seqnos = (makes_commit _, (λ z. inl (record { question = _; next = refl; answer = reply_frame (stored_answer SET 9 2 (seqno_extras 5 3)); spelled = refl; response = refl; opcode = refl; opaque = refl; fits = inr (inr (inl (record { one = record { node = 0; vb = 0; branch = 5; change = committed_change }; told_before = inl refl; here = refl; prepared = 2; doc = first_doc 2 (6 ∷ []); deleted = false; commits = refl; told = stored_so SET 9 2 (seqno_extras 5 3) }))) }), tt))
+
+pub untold : LawfulBy for_seqnos pending (durably 1 9 6) (makes committed_change ∷ stores SET 2 [] ∷ []) → ⊥
+unfolding spelling frames_in first_frame frame_of read_of frame_row shape_fault request_of requirement_of
+untold l = let (g, s, fits) = asked_so (l.1.0 refl) refl refl refl in let c = only_stored fits s (omega arith) in let e : ◌≡◌ {A = ℕ} 0 16 = ap (byte_at 11) (commit_bytes c s) in omega (arith, e)
+
+pub branch : LawfulBy for_seqnos pending (durably 1 9 6) (makes committed_change ∷ stores SET 2 (seqno_extras 6 3) ∷ []) → ⊥
+unfolding spelling frames_in first_frame frame_of read_of frame_row shape_fault request_of requirement_of
+branch l = let (g, s, fits) = asked_so (l.1.0 refl) refl refl refl in let c = only_stored fits s (omega arith) in let e : ◌≡◌ {A = ℕ} 6 5 = ap (byte_at 31) (commit_bytes c s) in omega (arith, e)
+
+pub seqno : LawfulBy for_seqnos pending (durably 1 9 6) (makes committed_change ∷ stores SET 2 (seqno_extras 5 2) ∷ []) → ⊥
+unfolding spelling frames_in first_frame frame_of read_of frame_row shape_fault request_of requirement_of
+seqno l = let (g, s, fits) = asked_so (l.1.0 refl) refl refl refl in let c = only_stored fits s (omega arith) in let e : ◌≡◌ {A = ℕ} 2 3 = ap (byte_at 39) (commit_bytes c s) in omega (arith, e)
+
+pub unasked : LawfulTo pending (durably 1 9 6) (makes committed_change ∷ stores SET 2 (seqno_extras 5 3) ∷ []) → ⊥
+unfolding spelling frames_in first_frame frame_of read_of frame_row shape_fault request_of requirement_of
+unasked l = let (g, s, fits) = asked_so (l.1.0 refl) refl refl refl in let c = only_stored fits s (omega arith) in let e : ◌≡◌ {A = ℕ} 16 0 = ap (byte_at 11) (commit_bytes c s) in omega (arith, e)
+
+pub plain : LawfulTo pending (writes SET 0 9 6) (makes committed_change ∷ stores SET 2 [] ∷ []) → ⊥
+unfolding spelling frames_in first_frame frame_of read_of frame_row shape_fault request_of requirement_of
+plain l = let (g, s, fits) = asked_so (l.1.0 refl) refl refl refl in ⊎_elim (λ r. let e : ◌≡◌ {A = ℕ} 2 0 = refused_cas r.1 s in omega (arith, e)) (λ m. let e : committed_change.act ≡ act.Set _ = act_is m in cc) fits
+
+pub plain_uncommitted : LawfulTo durable (writes SET 0 9 6) (stores SET 2 [] ∷ []) → ⊥
+unfolding spelling frames_in first_frame frame_of read_of frame_row shape_fault request_of requirement_of
+plain_uncommitted l = let (g, s, fits) = asked_so (l.0 refl) refl refl refl in ⊎_elim (λ r. let e : ◌≡◌ {A = ℕ} 2 0 = refused_cas r.1 s in omega (arith, e)) (λ m. no_made m) fits

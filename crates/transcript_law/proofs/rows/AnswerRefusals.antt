@@ -1,0 +1,155 @@
+-- writes that are refused, judged by hand
+use Rattle.std.proofs.Common.{List, [], ap, arith, inl, inr, refl, sym, ℕ, ⊎_elim, ◌∙◌, ◌∷◌, ◌≡◌}
+use Rattle.std.specs.FinMap.{get}
+use Rattle.std.specs.Prelude.{◌⊎◌, Option, Some, None}
+unfoldable use Rattle.mcbp_dcp.specs.Messages.{read_of}
+unfoldable use Rattle.mcbp_dcp.specs.Rows.{frame_row}
+unfoldable use Rattle.mcbp_dcp.specs.Shapes.{shape_fault}
+unfoldable use Rattle.mcbp_frame.specs.Cutting.{frames_in}
+unfoldable use Rattle.mcbp_frame.specs.Frames.{first_frame, frame_of}
+unfoldable use Rattle.mcbp_frame.specs.Spelling.{spelling}
+unfoldable use Rattle.mcbp_kv.specs.Framing.{requirement_of}
+unfoldable use Rattle.mcbp_kv.specs.Requests.{request_of}
+use Rattle.mcbp_frame.specs.declared.frame.Frame.{Frame}
+use Rattle.mcbp_kv.specs.Answers.{IsBare, bare_answer}
+use Rattle.mcbp_kv.specs.Replies.{reply_frame}
+use Rattle.mcbp_kv.specs.declared.opcodes.TheConstants.{ADD, DELETE, REPLACE, SET}
+use Rattle.vb_calls.specs.Writes.{doc_refusal}
+use Rattle.vb_types.specs.Images.{Picture}
+use Rattle.vb_types.specs.Statuses.{status_code}
+use Rattle.vb_types.specs.declared.doc.Doc.{Doc}
+use Rattle.vb_types.specs.declared.role.Role.{Role}
+use Rattle.vb_types.specs.declared.status.Status.{Status}
+use Rattle.vb_types.specs.declared.status.Status.TheVariants as status
+use Rattle.vb_types.specs.declared.write.Op.TheVariants as op
+use Rattle.vb_types.specs.declared.write.Write.{Write}
+use Rattle.transcript_law.specs.AnswerRows.{LawfulAway, LawfulTo, once, removes, says, writes}
+use Rattle.transcript_law.specs.ClientStreamRows.{pending}
+use Rattle.transcript_law.specs.LawfulAnswers.{IsLocked, IsWhyRefused}
+use Rattle.transcript_law.specs.LawfulClients.{IsActive}
+use Rattle.transcript_law.specs.Transcripts.{first_doc}
+use Rattle.transcript_law.proofs.rows.AnswerWrites.{no_made}
+use Rattle.transcript_law.proofs.rows.Answering.{asked_so, bare_bytes, bare_so, byte_at, response_of}
+use Rattle.transcript_law.proofs.rows.ClientStreamVerdicts.{no_active}
+use Rattle.transcript_law.proofs.rows.NextRows.{none_pending, none_stored, seven_pending, seven_there}
+use Rattle.transcript_law.proofs.rows.WaitingKeys.{nine_waits, seven_free, waits}
+
+-- ---- why a write is refused
+
+module _ {Besides : Status → Type 0} {role : Option (Option Role)} {image : Picture} {write : Write} where
+  -- for its key's document, or that there is none
+  pub why_unfit : {st : Status} → IsActive role → get image.pending write.key ≡ None → (doc_refusal write.op write.cas (get image.docs write.key) ≡ Some st) ⊎ Besides st → IsWhyRefused Besides role image write st
+  why_unfit active none x = record {
+    away = λ off. absurd (off active);
+    locked = λ a waiting. let e : None ≡ Some waiting.0 = sym none ∙ waiting.1 in cc;
+    unfit = λ a e. x;
+  }
+
+  -- for a prepare that waits there
+  pub why_locked : IsActive role → IsLocked image write.key → IsWhyRefused Besides role image write status.SyncWriteInProgress
+  why_locked active waiting = record {
+    away = λ off. absurd (off active);
+    locked = λ a w. inl refl;
+    unfit = λ a none. let e : None ≡ Some waiting.0 = sym none ∙ waiting.1 in cc;
+  }
+
+  pub why_left : IsActive role → IsLocked image write.key → IsWhyRefused Besides role image write status.SyncWriteReCommitInProgress
+  why_left active waiting = record {
+    away = λ off. absurd (off active);
+    locked = λ a w. inr (inl refl);
+    unfit = λ a none. let e : None ≡ Some waiting.0 = sym none ∙ waiting.1 in cc;
+  }
+
+  -- for a further reason
+  pub why_besides : {st : Status} → IsActive role → Besides st → IsWhyRefused Besides role image write st
+  why_besides active b = record { away = λ off. absurd (off active); locked = λ a w. inr (inr b); unfit = λ a e. inr b }
+
+  -- for its vBucket
+  pub why_away : (IsActive role → ⊥) → IsWhyRefused Besides role image write status.NotMyVbucket
+  why_away off = record { away = λ o. refl; locked = λ a w. absurd (off a); unfit = λ a e. absurd (off a) }
+
+  -- where no prepare waits
+  pub unfit_is : {st : Status} {there : Option Doc} → IsWhyRefused Besides role image write st → IsActive role → get image.pending write.key ≡ None → get image.docs write.key ≡ there → (doc_refusal write.op write.cas there ≡ Some st) ⊎ Besides st
+  unfit_is w active none at = ⊎_elim (λ e. inl (ap (doc_refusal write.op write.cas) (sym at) ∙ e)) (λ b. inr b) (w.unfit active none)
+
+-- the status of an answer, once it is known
+pub status_byte : {bytes : List ℕ} {g : Frame} {code opaque : ℕ} {st : Status} (known : Status) → IsBare g code (status_code st) opaque → bytes ≡ spelling g → st ≡ known → byte_at 7 bytes ≡ byte_at 7 (spelling (response_of code 0 (status_code known) opaque 0 [] []))
+status_byte {bytes} {g} {code} {opaque} {st} known b s is = ap (byte_at 7) (bare_bytes b s) ∙ ap (λ x. byte_at 7 (spelling (response_of code 0 (status_code x) opaque 0 [] []))) is
+
+-- ---- transcripts
+
+pub fits : LawfulTo once (writes SET 1 7 4) (says SET status.KeyEexists ∷ []) → ⊥
+unfolding spelling frames_in first_frame frame_of read_of frame_row shape_fault request_of requirement_of
+fits l = let (g, s, fits) = asked_so (l.0 refl) refl refl refl in ⊎_elim (λ r. ⊎_elim (λ d. let z : None ≡ Some r.0 = d in cc) (λ full. let e : ◌≡◌ {A = ℕ} 2 134 = status_byte status.Etmpfail r.1 s full in omega (arith, e)) (unfit_is r.2 refl (seven_pending (first_doc 1 (8 ∷ [])) (7 ∷ [])) (seven_there (first_doc 1 (8 ∷ []))))) (λ m. no_made m) fits
+
+pub unfit : LawfulTo once (writes SET 3 7 4) (says SET status.KeyEexists ∷ [])
+unfolding spelling frames_in first_frame frame_of read_of frame_row shape_fault request_of requirement_of
+unfit = (λ z. inl (record { question = _; next = refl; answer = reply_frame (bare_answer SET status.KeyEexists 9); spelled = refl; response = refl; opcode = refl; opaque = refl; fits = inl (status.KeyEexists, bare_so SET 9 status.KeyEexists, why_unfit refl (seven_pending (first_doc 1 (8 ∷ [])) (7 ∷ [])) (inl (ap (doc_refusal op.Set 3) (seven_there (first_doc 1 (8 ∷ [])))))) }), tt)
+
+pub unfit_other : LawfulTo once (writes SET 3 7 4) (says SET status.KeyEnoent ∷ []) → ⊥
+unfolding spelling frames_in first_frame frame_of read_of frame_row shape_fault request_of requirement_of
+unfit_other l = let (g, s, fits) = asked_so (l.0 refl) refl refl refl in ⊎_elim (λ r. ⊎_elim (λ d. let z : Some status.KeyEexists ≡ Some r.0 = d in let is : r.0 ≡ status.KeyEexists = cc in let e : ◌≡◌ {A = ℕ} 1 2 = status_byte status.KeyEexists r.1 s is in omega (arith, e)) (λ full. let e : ◌≡◌ {A = ℕ} 1 134 = status_byte status.Etmpfail r.1 s full in omega (arith, e)) (unfit_is r.2 refl (seven_pending (first_doc 1 (8 ∷ [])) (7 ∷ [])) (seven_there (first_doc 1 (8 ∷ []))))) (λ m. no_made m) fits
+
+pub adds : LawfulTo [] (writes ADD 0 7 8) (says ADD status.KeyEexists ∷ []) → ⊥
+unfolding spelling frames_in first_frame frame_of read_of frame_row shape_fault request_of requirement_of
+adds l = let (g, s, fits) = asked_so (l.0 refl) refl refl refl in ⊎_elim (λ r. ⊎_elim (λ d. let z : None ≡ Some r.0 = d in cc) (λ full. let e : ◌≡◌ {A = ℕ} 2 134 = status_byte status.Etmpfail r.1 s full in omega (arith, e)) (unfit_is r.2 refl (none_pending (7 ∷ [])) (none_stored (7 ∷ [])))) (λ m. no_made m) fits
+
+pub adds_again : LawfulTo once (writes ADD 0 7 4) (says ADD status.KeyEexists ∷ [])
+unfolding spelling frames_in first_frame frame_of read_of frame_row shape_fault request_of requirement_of
+adds_again = (λ z. inl (record { question = _; next = refl; answer = reply_frame (bare_answer ADD status.KeyEexists 9); spelled = refl; response = refl; opcode = refl; opaque = refl; fits = inl (status.KeyEexists, bare_so ADD 9 status.KeyEexists, why_unfit refl (seven_pending (first_doc 1 (8 ∷ [])) (7 ∷ [])) (inl (ap (doc_refusal op.Add 0) (seven_there (first_doc 1 (8 ∷ [])))))) }), tt)
+
+pub replaces : LawfulTo once (writes REPLACE 0 7 4) (says REPLACE status.KeyEnoent ∷ []) → ⊥
+unfolding spelling frames_in first_frame frame_of read_of frame_row shape_fault request_of requirement_of
+replaces l = let (g, s, fits) = asked_so (l.0 refl) refl refl refl in ⊎_elim (λ r. ⊎_elim (λ d. let z : None ≡ Some r.0 = d in cc) (λ full. let e : ◌≡◌ {A = ℕ} 1 134 = status_byte status.Etmpfail r.1 s full in omega (arith, e)) (unfit_is r.2 refl (seven_pending (first_doc 1 (8 ∷ [])) (7 ∷ [])) (seven_there (first_doc 1 (8 ∷ []))))) (λ m. no_made m) fits
+
+pub replaces_none : LawfulTo [] (writes REPLACE 0 7 8) (says REPLACE status.KeyEnoent ∷ [])
+unfolding spelling frames_in first_frame frame_of read_of frame_row shape_fault request_of requirement_of
+replaces_none = (λ z. inl (record { question = _; next = refl; answer = reply_frame (bare_answer REPLACE status.KeyEnoent 9); spelled = refl; response = refl; opcode = refl; opaque = refl; fits = inl (status.KeyEnoent, bare_so REPLACE 9 status.KeyEnoent, why_unfit refl (none_pending (7 ∷ [])) (inl (ap (doc_refusal op.Replace 0) (none_stored (7 ∷ []))))) }), tt)
+
+pub removes_none : LawfulTo [] (removes 7) (says DELETE status.KeyEnoent ∷ [])
+unfolding spelling frames_in first_frame frame_of read_of frame_row shape_fault request_of requirement_of
+removes_none = (λ z. inl (record { question = _; next = refl; answer = reply_frame (bare_answer DELETE status.KeyEnoent 9); spelled = refl; response = refl; opcode = refl; opaque = refl; fits = inl (status.KeyEnoent, bare_so DELETE 9 status.KeyEnoent, why_unfit refl (none_pending (7 ∷ [])) (inl (ap (doc_refusal op.Delete 0) (none_stored (7 ∷ []))))) }), tt)
+
+pub other : LawfulTo [] (writes SET 0 7 8) (says SET status.KeyEnoent ∷ []) → ⊥
+unfolding spelling frames_in first_frame frame_of read_of frame_row shape_fault request_of requirement_of
+other l = let (g, s, fits) = asked_so (l.0 refl) refl refl refl in ⊎_elim (λ r. ⊎_elim (λ d. let z : None ≡ Some r.0 = d in cc) (λ full. let e : ◌≡◌ {A = ℕ} 1 134 = status_byte status.Etmpfail r.1 s full in omega (arith, e)) (unfit_is r.2 refl (none_pending (7 ∷ [])) (none_stored (7 ∷ [])))) (λ m. no_made m) fits
+
+pub success : LawfulTo once (writes ADD 0 7 4) (says ADD status.Success ∷ []) → ⊥
+unfolding spelling frames_in first_frame frame_of read_of frame_row shape_fault request_of requirement_of
+success l = let (g, s, fits) = asked_so (l.0 refl) refl refl refl in ⊎_elim (λ r. ⊎_elim (λ d. let z : Some status.KeyEexists ≡ Some r.0 = d in let is : r.0 ≡ status.KeyEexists = cc in let e : ◌≡◌ {A = ℕ} 0 2 = status_byte status.KeyEexists r.1 s is in omega (arith, e)) (λ full. let e : ◌≡◌ {A = ℕ} 0 134 = status_byte status.Etmpfail r.1 s full in omega (arith, e)) (unfit_is r.2 refl (seven_pending (first_doc 1 (8 ∷ [])) (7 ∷ [])) (seven_there (first_doc 1 (8 ∷ []))))) (λ m. no_made m) fits
+
+pub active : LawfulTo [] (writes SET 0 7 8) (says SET status.NotMyVbucket ∷ []) → ⊥
+unfolding spelling frames_in first_frame frame_of read_of frame_row shape_fault request_of requirement_of
+active l = let (g, s, fits) = asked_so (l.0 refl) refl refl refl in ⊎_elim (λ r. ⊎_elim (λ d. let z : None ≡ Some r.0 = d in cc) (λ full. let e : ◌≡◌ {A = ℕ} 7 134 = status_byte status.Etmpfail r.1 s full in omega (arith, e)) (unfit_is r.2 refl (none_pending (7 ∷ [])) (none_stored (7 ∷ [])))) (λ m. no_made m) fits
+
+pub away : LawfulAway [] (writes SET 0 7 8) (says SET status.NotMyVbucket ∷ [])
+unfolding spelling frames_in first_frame frame_of read_of frame_row shape_fault request_of requirement_of
+away = (λ z. inl (record { question = _; next = refl; answer = reply_frame (bare_answer SET status.NotMyVbucket 9); spelled = refl; response = refl; opcode = refl; opaque = refl; fits = inl (status.NotMyVbucket, bare_so SET 9 status.NotMyVbucket, why_away no_active) }), tt)
+
+pub away_other : LawfulAway once (writes ADD 0 7 4) (says ADD status.KeyEexists ∷ []) → ⊥
+unfolding spelling frames_in first_frame frame_of read_of frame_row shape_fault request_of requirement_of
+away_other l = let (g, s, fits) = asked_so (l.0 refl) refl refl refl in ⊎_elim (λ r. let e : ◌≡◌ {A = ℕ} 2 7 = status_byte status.NotMyVbucket r.1 s (r.2.away no_active) in omega (arith, e)) (λ m. no_made m) fits
+
+pub away_full : LawfulAway [] (writes SET 0 7 8) (says SET status.Etmpfail ∷ []) → ⊥
+unfolding spelling frames_in first_frame frame_of read_of frame_row shape_fault request_of requirement_of
+away_full l = let (g, s, fits) = asked_so (l.0 refl) refl refl refl in ⊎_elim (λ r. let e : ◌≡◌ {A = ℕ} 134 7 = status_byte status.NotMyVbucket r.1 s (r.2.away no_active) in omega (arith, e)) (λ m. no_made m) fits
+
+pub locked : LawfulTo pending (writes SET 0 9 4) (says SET status.SyncWriteInProgress ∷ [])
+unfolding spelling frames_in first_frame frame_of read_of frame_row shape_fault request_of requirement_of
+locked = (λ z. inl (record { question = _; next = refl; answer = reply_frame (bare_answer SET status.SyncWriteInProgress 9); spelled = refl; response = refl; opcode = refl; opaque = refl; fits = inl (status.SyncWriteInProgress, bare_so SET 9 status.SyncWriteInProgress, why_locked refl (waits, nine_waits)) }), tt)
+
+pub left_undone : LawfulTo pending (writes SET 0 9 4) (says SET status.SyncWriteReCommitInProgress ∷ [])
+unfolding spelling frames_in first_frame frame_of read_of frame_row shape_fault request_of requirement_of
+left_undone = (λ z. inl (record { question = _; next = refl; answer = reply_frame (bare_answer SET status.SyncWriteReCommitInProgress 9); spelled = refl; response = refl; opcode = refl; opaque = refl; fits = inl (status.SyncWriteReCommitInProgress, bare_so SET 9 status.SyncWriteReCommitInProgress, why_left refl (waits, nine_waits)) }), tt)
+
+pub locked_other : LawfulTo pending (writes REPLACE 0 9 4) (says REPLACE status.KeyEnoent ∷ []) → ⊥
+unfolding spelling frames_in first_frame frame_of read_of frame_row shape_fault request_of requirement_of
+locked_other l = let (g, s, fits) = asked_so (l.0 refl) refl refl refl in ⊎_elim (λ r. ⊎_elim (λ w. let e : ◌≡◌ {A = ℕ} 1 162 = status_byte status.SyncWriteInProgress r.1 s w in omega (arith, e)) (λ x. ⊎_elim (λ w. let e : ◌≡◌ {A = ℕ} 1 164 = status_byte status.SyncWriteReCommitInProgress r.1 s w in omega (arith, e)) (λ full. let e : ◌≡◌ {A = ℕ} 1 134 = status_byte status.Etmpfail r.1 s full in omega (arith, e)) x) (r.2.locked refl (waits, nine_waits))) (λ m. no_made m) fits
+
+pub unlocked : LawfulTo pending (writes SET 0 7 4) (says SET status.SyncWriteInProgress ∷ []) → ⊥
+unfolding spelling frames_in first_frame frame_of read_of frame_row shape_fault request_of requirement_of
+unlocked l = let (g, s, fits) = asked_so (l.0 refl) refl refl refl in ⊎_elim (λ r. ⊎_elim (λ d. let z : None ≡ Some r.0 = d in cc) (λ full. let e : ◌≡◌ {A = ℕ} 162 134 = status_byte status.Etmpfail r.1 s full in omega (arith, e)) (unfit_is r.2 refl seven_free (seven_there (first_doc 1 (8 ∷ []))))) (λ m. no_made m) fits
+
+pub full : LawfulTo [] (writes SET 0 7 8) (says SET status.Etmpfail ∷ [])
+unfolding spelling frames_in first_frame frame_of read_of frame_row shape_fault request_of requirement_of
+full = (λ z. inl (record { question = _; next = refl; answer = reply_frame (bare_answer SET status.Etmpfail 9); spelled = refl; response = refl; opcode = refl; opaque = refl; fits = inl (status.Etmpfail, bare_so SET 9 status.Etmpfail, why_unfit refl (none_pending (7 ∷ [])) (inr refl)) }), tt)
