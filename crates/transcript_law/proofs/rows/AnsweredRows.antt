@@ -1,6 +1,6 @@
 -- clients that are answered, and clients that are left without an answer, judged by hand
-use Rattle.std.specs.Prelude.{◌≡◌, ◌∷◌, ◌++◌, ◌==◌, ◌&&◌, Ok}
-use Rattle.transcript_law.proofs.Words.{ℕ, true, false, List, [], refl, sym, subst, inl, inr, ◌∙◌, take, drop, Option, Some, None, Chronicle, Event, Frame, Verb, empty_chronicle}
+use Rattle.std.specs.Prelude.{◌≡◌, ◌∷◌, ◌++◌, ◌==◌, ◌&&◌}
+use Rattle.transcript_law.proofs.Words.{ℕ, true, false, List, [], refl, sym, subst, inl, inr, ◌∙◌, take, drop, Some, None, Chronicle, Event, Frame, Verb, empty_chronicle}
 unfoldable use Rattle.mcbp_dcp.specs.Messages.{read_of}
 unfoldable use Rattle.mcbp_dcp.specs.Rows.{frame_row}
 unfoldable use Rattle.mcbp_frame.specs.Cutting.{frames_in}
