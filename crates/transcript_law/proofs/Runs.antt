@@ -1,9 +1,9 @@
 -- each script's transcript is lawful
 use Rattle.std.specs.Prelude.{◌≡◌, ◌∷◌, ◌++◌, ◌==◌, if◌then◌else◌}
-use Rattle.{branch_model.specs.Journals.{place_of}, transcript_law.specs.Chronicles.{Conns, Dial, DiskKnown, Flushing, after_group, after_lines, ahead, conns_lines, conns_verb}, vb_calls.specs.Shelves.{Flush, Idle, Out, Written, Shelf}, vb_types.specs.declared.journal.Batch.{Batch}}
+use Rattle.{branch_model.specs.Journals.{place_of}, transcript_law.specs.Chronicles.{Dial, DiskKnown, Flushing, after_group, after_lines, ahead, conns_lines, conns_verb}, vb_calls.specs.Shelves.{Flush, Idle, Out, Written, Shelf}, vb_types.specs.declared.journal.Batch.{Batch}}
 use Rattle.node_world.specs.{Nodes.{shelf_or_blank}, Rests.{Rests, RestsIf}, Worlds.{arm_in}}
 use Rattle.transcript_law.proofs.{invariant.Agreement.{DiskIsIf, IsArm, PowerIsIf, shelf_of, vb_of}, disks.ArmedSteps.{shut_in}, disks.Disks.{FlushIs, ShelfIs, parts_of, power_in}, disks.Flushed.{told_flush}, verbs.LineAnswers.{AllTold, ArmKnown, DisksTold, ShutTold}}
-use Rattle.transcript_law.proofs.Words.{ℕ, Bool, true, false, List, [], refl, ap, sym, ◌∙◌, subst, inl, arith, Option, Some, None, ne_eqb, All-nil, All-head, All-tail, ScriptLine, Verb}
+use Rattle.transcript_law.proofs.Words.{ℕ, Bool, true, false, List, [], refl, ap, sym, ◌∙◌, subst, arith, Option, Some, None, ne_eqb, All-nil, All-head, All-tail, ScriptLine, Verb}
 use Rattle.transcript_law.proofs.Words.{VerbFits, ScriptFits, Change, Plain, PlainNode, hist, PlainWorld, empty_world}
 use Rattle.transcript_law.proofs.Words.{with_branches, verb_step, world_step, groups_from, groups, Chronicle, empty_chronicle, after_verb, LawfulGroups, Lawful, RefusedLinesKeep, start_sound}
 use Rattle.transcript_law.proofs.Words.{consumer_node, option_map}

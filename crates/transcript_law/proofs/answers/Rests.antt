@@ -1,13 +1,13 @@
 -- behind a line no client is left without an answer, but one that asked for a durable write whose outcome it waits for
 use Rattle.std.specs.Prelude.{◌≡◌, ◌++◌}
-use Rattle.transcript_law.proofs.Words.{ℕ, Bool, true, false, List, refl, sym, ap, ◌∙◌, subst, append-nil, Option, Some, None, is_some, Chronicle, PlainNode, PlainWorld}
+use Rattle.transcript_law.proofs.Words.{ℕ, true, false, refl, sym, ap, ◌∙◌, subst, append-nil, Option, Some, None, is_some, Chronicle, PlainNode, PlainWorld}
 use Rattle.client_session.specs.Serving.{PlainSession}
 use Rattle.client_session.specs.declared.session.Awaited.{Awaited}
 use Rattle.mcbp_frame.proofs.Cutting.{frames-none}
-use Rattle.mcbp_frame.specs.Cutting.{frame_in, frames_in}
+use Rattle.mcbp_frame.specs.Cutting.{frame_in}
 use Rattle.node_core.specs.Clients.{PlainClient}
 use Rattle.transcript_law.proofs.indexers.Questions.{all_frames, awaited_next, none_open}
-use Rattle.transcript_law.proofs.invariant.{Agreement.{Agrees}, ClientWorlds.{ConnsAre, NodeToldIf}, ClientsTold.{AskingIs, ClientAgrees}, Ranged.{IsRanged, NodeRangedIf, SessionRangedIf}, Sessions.{SessionRanged, awaited_numbered}}
+use Rattle.transcript_law.proofs.invariant.{Agreement.{Agrees}, ClientWorlds.{ConnsAre, NodeToldIf}, ClientsTold.{ClientAgrees}, Ranged.{IsRanged, NodeRangedIf, SessionRangedIf}, Sessions.{SessionRanged, awaited_numbered}}
 use Rattle.transcript_law.specs.{Feeding.{client_in}, Questions.{Question, first_question, question_of}, StreamsTold.{Asking}, Unanswered.{AllAnswered, AsksDurably, NoneAsks}}
 
 -- an open connection, by what its session awaits

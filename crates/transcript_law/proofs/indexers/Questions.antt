@@ -12,7 +12,7 @@ use Rattle.dcp_producer.specs.declared.desk.Handshake.{Handshake}
 use Rattle.mcbp_frame.proofs.{Cases.{front, length-spelling}, Pieces.{first-spelling}, Cutting.{frames-none, frames-one}}
 use Rattle.mcbp_frame.specs.{Cutting.{frame_in, frames_in}, Frames.{first_frame, frame_len}}
 use Rattle.transcript_law.proofs.indexers.Known.{frames_more, no_frames, setup_more}
-use Rattle.transcript_law.proofs.invariant.ClientsTold.{AreAnswered, AreFrames, AskingIs, IsOpenQuestion, setup_of}
+use Rattle.transcript_law.proofs.invariant.ClientsTold.{AreAnswered, AskingIs, IsOpenQuestion, setup_of}
 use Rattle.transcript_law.specs.ClientFrames.{message_of, set_by, setup_after}
 use Rattle.transcript_law.specs.Questions.{Question, behind_frames, behind_other, first_question, past_question, question_end, question_of, settings_after, wants_answer}
 use Rattle.transcript_law.specs.StreamsTold.{Asking, Setup}

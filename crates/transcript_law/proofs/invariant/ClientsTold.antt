@@ -1,9 +1,9 @@
 -- what is known of a client's connection agrees with its session and its producer, and its streams are those of its node's vBuckets
-use Rattle.std.specs.Prelude.{◌≡◌, ◌≤◌, ◌<◌, ◌^◌, ◌++◌, ◌⊎◌, ℕ, Bool, true, false, List, [], ◌∷◌, length, map, take, Option, Some, None, is_some, option_map}
+use Rattle.std.specs.Prelude.{◌≡◌, ◌≤◌, ◌<◌, ◌^◌, ◌++◌, ◌⊎◌, ℕ, Bool, true, false, List, [], ◌∷◌, length, map, take, Option, Some, None, is_some}
 use Rattle.std.specs.List.{All, sum_by}
 use Rattle.client_session.specs.Serving.{PlainSession}
 use Rattle.client_session.specs.declared.session.Awaited.{Awaited}
-use Rattle.dcp_producer.specs.Producers.{PlainProducer, PlainStream, is_named, is_open, stream_at as kept_at}
+use Rattle.dcp_producer.specs.Producers.{PlainStream, is_named, is_open, stream_at as kept_at}
 use Rattle.dcp_producer.specs.declared.desk.Handshake.{Handshake}
 use Rattle.dcp_producer.specs.declared.desk.Handshake.TheVariants as handshake
 use Rattle.mcbp_frame.specs.Cutting.{frames_in}
@@ -23,7 +23,7 @@ use Rattle.transcript_law.proofs.invariant.Holdings.{ChangeFits, vb_of}
 use Rattle.transcript_law.proofs.invariant.OpenStreams.{AreKept, Among}
 use Rattle.transcript_law.specs.ClientFrames.{first_request, is_closed_by, setup_after}
 use Rattle.transcript_law.specs.ClientStreams.{stream_view}
-use Rattle.transcript_law.specs.Feeding.{HasFed, HasStream, client_in}
+use Rattle.transcript_law.specs.Feeding.{HasFed, client_in}
 use Rattle.transcript_law.specs.LawfulClients.{IsSentOf, NoneWithin}
 use Rattle.transcript_law.specs.LinesTold.{Chronicle}
 use Rattle.transcript_law.specs.StreamLaws.{item_of_change}

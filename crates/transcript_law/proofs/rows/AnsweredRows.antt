@@ -1,6 +1,6 @@
 -- clients that are answered, and clients that are left without an answer, judged by hand
-use Rattle.std.specs.Prelude.{◌≡◌, ◌∷◌, ◌++◌, ◌==◌, ◌&&◌, Ok}
-use Rattle.transcript_law.proofs.Words.{ℕ, true, false, List, [], refl, sym, subst, inl, inr, ◌∙◌, take, drop, Option, Some, None, Chronicle, Event, Frame, Verb, empty_chronicle}
+use Rattle.std.specs.Prelude.{◌≡◌, ◌∷◌, ◌++◌, ◌==◌, ◌&&◌}
+use Rattle.transcript_law.proofs.Words.{ℕ, true, false, List, [], refl, sym, subst, inl, inr, ◌∙◌, take, drop, Some, None, Chronicle, Event, Frame, Verb, empty_chronicle}
 unfoldable use Rattle.mcbp_dcp.specs.Messages.{read_of}
 unfoldable use Rattle.mcbp_dcp.specs.Rows.{frame_row}
 unfoldable use Rattle.mcbp_frame.specs.Cutting.{frames_in}
@@ -167,15 +167,31 @@ hung = from_opened (brings (take 23 noop_bytes) ∷ hangs 1 ∷ []) (ok [] ∷ o
 
 pub durable_later : LawfulOpened (brings durable_bytes ∷ waits ∷ []) (ok [] ∷ ok (durable_unknown ∷ []) ∷ [])
 unfolding spelling frames_in first_frame frame_of read_of frame_row request_of requirement_of
-durable_later = from_opened (brings durable_bytes ∷ waits ∷ []) (ok [] ∷ ok (durable_unknown ∷ []) ∷ []) refl ((tt, refl, refl), ((((refl, λ z. inl (record {
-  question = record { before = []; frame = durable_frame };
-  next = refl;
-  answer = reply_frame (bare_answer SET status.SyncWriteAmbiguous 9);
-  spelled = refl;
-  response = refl;
-  opcode = refl;
-  opaque = refl;
-  fits = inr (inr (inr (record { header = record { magic = refl; opcode = refl; key = refl; datatype = refl; status = refl; opaque = refl; framing = refl }; cas = refl; extras = refl; value = refl })));
-})), tt), tt, refl), tt))
+durable_later = from_opened (brings durable_bytes ∷ waits ∷ []) (ok [] ∷ ok (durable_unknown ∷ []) ∷ []) refl (
+  (tt, refl, refl),
+  (
+    (
+      (
+        (
+          refl,
+          λ z. inl (record {
+            question = record { before = []; frame = durable_frame };
+            next = refl;
+            answer = reply_frame (bare_answer SET status.SyncWriteAmbiguous 9);
+            spelled = refl;
+            response = refl;
+            opcode = refl;
+            opaque = refl;
+            fits = inr (inr (inr (record { header = record { magic = refl; opcode = refl; key = refl; datatype = refl; status = refl; opaque = refl; framing = refl }; cas = refl; extras = refl; value = refl })));
+          }),
+        ),
+        tt,
+      ),
+      tt,
+      refl,
+    ),
+    tt,
+  ),
+)
     (heard_by _ _ _ _ _ (one_answered (behind (brings durable_bytes ∷ []) (ok [] ∷ [])) (λ n c e. rw e refl) (durable_next ((behind (brings durable_bytes ∷ []) (ok [] ∷ [])).clients_at 0 1).asking [] refl refl))
     (heard_by _ _ _ _ _ (no_more (brings durable_bytes ∷ waits ∷ []) (ok [] ∷ ok (durable_unknown ∷ []) ∷ []) (λ n c e. rw e refl) refl) (heard_all _)))

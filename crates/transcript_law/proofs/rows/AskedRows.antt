@@ -1,5 +1,5 @@
 -- lines that do not tell what was asked for, judged by hand
-use Rattle.std.specs.Prelude.{◌≡◌, ◌∷◌, ◌++◌, ◌==◌, ◌&&◌, ◌||◌, ◌⊎◌}
+use Rattle.std.specs.Prelude.{◌≡◌, ◌∷◌, ◌++◌, ◌==◌, ◌&&◌, ◌||◌}
 use Rattle.transcript_law.proofs.Words.{ℕ, Bool, true, false, List, [], refl, ap, sym, ◌∙◌, subst, arith, ⊎_elim, Option, Answer, Cause, Event, Role, Verb, VbVerb, Chronicle, nothing}
 use Rattle.transcript_law.proofs.rows.{AskedTests.{is_log, is_one_turn, is_show, is_stat}, Groups.{whole}, Silent.{shut_heard}, Transcripts.{as_made, shown}}
 use Rattle.transcript_law.specs.Tellings.{are_all}

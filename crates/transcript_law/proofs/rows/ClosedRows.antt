@@ -46,7 +46,7 @@ again = lawful_from_heard save_again (save_again_groups (found_closed [])) refl 
     ),
   ),
 )
-  (λ s e. heard_then _ _ _ _ _ refl s (λ s. heard_then _ _ _ _ _ refl s (λ s. heard_then _ _ _ _ _ refl s (λ s. nine_then _ 8 8 5 _ next_change _ _ refl e s (λ s e. silent_heard _ _ _ s refl)))))
+    (λ s e. heard_then _ _ _ _ _ refl s (λ s. heard_then _ _ _ _ _ refl s (λ s. heard_then _ _ _ _ _ refl s (λ s. nine_then _ 8 8 5 _ next_change _ _ refl e s (λ s e. silent_heard _ _ _ s refl)))))
 
 pub again_ok : LawfulAfter save_again (save_again_groups (ok [])) → ⊥
 again_ok l = is_shut l.1.1.1.1.1.1.1.1.1.0.1.0.0

@@ -1,5 +1,5 @@
 -- what a group tells of arms that fired and of rollbacks, judged by hand
-use Rattle.std.specs.Prelude.{◌≡◌, ◌<◌, ◌≤◌, ◌∷◌, ◌++◌}
+use Rattle.std.specs.Prelude.{◌≡◌, ◌<◌, ◌≤◌, ◌∷◌}
 use Rattle.transcript_law.proofs.Words.{ℕ, false, List, [], refl, ap, arith, inl, Option, Some, None, Answer, Event, Role}
 use Rattle.transcript_law.proofs.{rows.CrashRows.{fails, first, lawful_from_made, no_role, one_closed, passed, stops}, rows.Groups.{whole}, rows.Silent.{silent_heard}}
 use Rattle.transcript_law.specs.ClosedJournals.{back_line, dialed_for}

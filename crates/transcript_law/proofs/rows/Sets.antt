@@ -8,12 +8,10 @@ unfoldable use Rattle.mcbp_dcp.specs.Rows.{frame_row}
 use Rattle.mcbp_frame.proofs.Cases.{length-spelling}
 use Rattle.mcbp_frame.specs.Spelling.{spelling}
 use Rattle.mcbp_frame.specs.declared.frame.Frame.{Frame}
-use Rattle.mcbp_kv.specs.Answers.{IsBare, IsStored, bare_answer, stored_answer}
+use Rattle.mcbp_kv.specs.Answers.{IsStored, bare_answer, stored_answer}
 use Rattle.mcbp_kv.specs.Replies.{reply_frame}
 use Rattle.mcbp_kv.specs.declared.opcodes.TheConstants.{SET}
 use Rattle.client_session.specs.Serving.{no_settings}
-use Rattle.vb_types.specs.Statuses.{status_code}
-use Rattle.vb_types.specs.declared.status.Status.{Status}
 use Rattle.vb_types.specs.declared.status.Status.TheVariants as status
 use Rattle.vb_calls.specs.Writes.{act_of, doc_refusal, written_doc}
 use Rattle.vb_events.specs.declared.event.Answer.TheVariants as answer
@@ -26,7 +24,7 @@ use Rattle.transcript_law.specs.LawfulAnswers.{FitsFrame, FitsRequest, IsMade, L
 use Rattle.transcript_law.specs.LawfulClients.{IsActive}
 use Rattle.transcript_law.specs.{Chronicles.{after_group}, LinesTold.{OwnChange}}
 use Rattle.transcript_law.specs.Questions.{Question, first_question, past_answer, past_question, past_question_if, question_end, question_of, settings_by}
-use Rattle.transcript_law.specs.StreamsTold.{Asking, StreamLine, blank_asking, no_setup}
+use Rattle.transcript_law.specs.StreamsTold.{Asking, blank_asking, no_setup}
 use Rattle.transcript_law.specs.Transcripts.{group_done, set_frame, set_line, set_write}
 
 -- ---- the question

@@ -1,6 +1,6 @@
 -- that no client is left without an answer, in transcripts that are judged by hand: behind lines by which no client sends anything there is nothing to be answered
 use Rattle.std.specs.Prelude.{◌≡◌, ◌∷◌, ◌++◌, ◌==◌, ◌&&◌, if◌then◌else◌}
-use Rattle.transcript_law.proofs.Words.{ℕ, Bool, not, true, false, List, [], refl, sym, ap, ◌∙◌, subst, and_parts, eqb-true, list_any, Option, Some, None, Answer, Cause, Event, Role, ScriptLine, StreamName, Verb, Chronicle, empty_chronicle, Group}
+use Rattle.transcript_law.proofs.Words.{ℕ, Bool, not, true, false, List, [], refl, sym, ap, ◌∙◌, subst, and_parts, eqb-true, list_any, Option, Some, None, Answer, Cause, Event, Role, ScriptLine, Verb, Chronicle, empty_chronicle, Group}
 use Rattle.script_text.specs.declared.verb.Verb.TheVariants as verb
 use Rattle.script_text.specs.declared.verb.ClientVerb.TheVariants as client_verb
 use Rattle.script_text.specs.declared.verb.LinkVerb.TheVariants as link_verb

@@ -1,5 +1,5 @@
 -- takes and pumps that leave changes, judged by hand
-use Rattle.std.specs.Prelude.{◌≡◌, ◌≤◌, ◌<◌, ◌⊎◌, ◌∷◌}
+use Rattle.std.specs.Prelude.{◌≡◌, ◌≤◌, ◌<◌, ◌∷◌}
 use Rattle.transcript_law.proofs.Words.{ℕ, Bool, true, false, List, [], refl, ap, sym, ◌∙◌, subst, arith, inl, inr, ⊎_elim, Option, Some, None, Begun, Chronicle, Dial, Event, frames_in_lines, Granted, ItemLine, Role, after_lines, both_sent_lines, granted_inside, item_of_change}
 use Rattle.transcript_law.proofs.links.{Idling.{all_put_by}, PumpAnswers.{pumped_right}}
 use Rattle.transcript_law.proofs.rows.Followers.{◌▹◌, begun, both_cover, changes, first_item, next_item, own_dial, own_stream, streamed}
