@@ -13,7 +13,7 @@ use Rattle.vb_events.specs.declared.event.Answer.TheVariants as answer
 use Rattle.vb_events.specs.declared.event.Cause.TheVariants as cause
 use Rattle.vb_types.specs.declared.change.Change.{Change}
 use Rattle.transcript_law.specs.BoundRows.{LawfulHere}
-use Rattle.transcript_law.specs.ClientAskRows.{LawfulPulled, all_lines, closing, idle, moved, none, other_marked, pulls, puts, resting, serving, that_asked, that_sent}
+use Rattle.transcript_law.specs.ClientAskRows.{LawfulPulled, all_lines, closing, idle, moved, none, other_marked, pulls, puts, resting, serving, that_asked}
 use Rattle.transcript_law.specs.ClientFrames.{is_closed_by}
 use Rattle.transcript_law.specs.ClientStreamRows.{all_changes, finished, first_item, fresh, inside, marked, next_item, one, pending, prepared, put_two, snapshot, third_change, three, two, unframed, untold, up_to, with_streams}
 use Rattle.transcript_law.specs.ClientStreams.{Begun, ClientKnown, ClientStream, ItemLine}
