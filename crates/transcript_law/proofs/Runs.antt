@@ -16,6 +16,7 @@ use Rattle.transcript_law.specs.Feeding.{HasFed}
 use Rattle.transcript_law.proofs.{invariant.ClientWorlds.{ConnsAre, start_conns}, invariant.Clients.{line_heard}, lines.Heard.{lines_heard}}
 use Rattle.transcript_law.proofs.{answers.Rests.{all_answered}, indexers.Beside.{beside}}
 use Rattle.cluster_model.specs.Clusters as cluster
+use Rattle.transcript_law.specs.LawfulAnswers.{AllDurable}
 
 -- before the first line
 start_hist : (u : ℕ) → hist cluster.start.tree u ≡ []
@@ -122,11 +123,11 @@ row_of w number (Verb.AtClient n c what) = client_row_of w number n c what
 row_of w number (Verb.AtLink l what) = link_row_of w l what
 
 -- and behind the whole group of a line all agrees
-pub group_agrees : (w : PlainWorld) (r : Chronicle) (number : ℕ) (line : Verb) → VerbFits line → IsRanged w → Agrees w r
+pub group_agrees : (w : PlainWorld) (r : Chronicle) (number : ℕ) (line : Verb) → VerbFits line → IsRanged w → AllDurable r.made → Agrees w r
     → (let o = verb_step w number line in Agrees (with_branches o.1.events o.0) (after_group r line o.1.events o.1.answer))
-group_agrees w r number line fits ranged a =
+group_agrees w r number line fits ranged calm a =
     let o = verb_step w number line in let row : Row w line o = row_of w number line in
-    let went = (row.goes r fits ranged a).1 in (
+    let went = (row.goes r fits ranged calm a).1 in (
       went.0,
       beside (with_branches o.1.events o.0) (after_verb r (after_lines (ahead r line o.1.answer) o.1.events) line o.1.events o.1.answer) (conns_verb (conns_lines r.conn_at o.1.events) line o.1.answer) [] went.0 went.1,
     )
@@ -134,19 +135,19 @@ group_agrees w r number line fits ranged a =
 pub refused_keep : RefusedLinesKeep
 refused_keep w number line why rests said standing = let x = (row_of w number line).keeps rests why said standing in (x.0.0, x.0.1, x.0.2, x.1)
 
-lawful_from : (w : PlainWorld) (r : Chronicle) (script : List ScriptLine) → ScriptFits script → IsRanged w → ConnsAre w r.conn_at → Agrees w r → LawfulGroups r script (groups_from w script)
+lawful_from : (w : PlainWorld) (r : Chronicle) (script : List ScriptLine) → ScriptFits script → IsRanged w → ConnsAre w r.conn_at → AllDurable r.made → Agrees w r → LawfulGroups r script (groups_from w script)
 unfolding world_step
-lawful_from w r [] fits ranged are a = tt
-lawful_from w r (line ∷ lines) fits ranged are a =
+lawful_from w r [] fits ranged are calm a = tt
+lawful_from w r (line ∷ lines) fits ranged are calm a =
     let fit = All-head (λ (x : ScriptLine). VerbFits x.verb) line lines fits in
     let outcome = verb_step w line.line line.verb in
     let row : Row w line.verb outcome = row_of w line.line line.verb in
     let told : AsTold w r = as_told_of w r are ranged a in
-    let went = row.goes r fit ranged a in let heard = line_heard r.conn_at w line.line are line.verb fit in
+    let went = row.goes r fit ranged calm a in let heard = line_heard r.conn_at w line.line are line.verb fit in
     let later : PlainWorld = with_branches outcome.1.events outcome.0 in
     let known : Chronicle = after_group r line.verb outcome.1.events outcome.1.answer in
     let later_ranged : IsRanged later = row.ranged fit ranged in
-    let later_agrees : Agrees later known = group_agrees w r line.line line.verb fit ranged a in (
+    let later_agrees : Agrees later known = group_agrees w r line.line line.verb fit ranged calm a in (
       (
         lines_heard (ahead r line.verb outcome.1.answer) r.conn_at outcome.1.events went.0 heard.0,
         row.bound r a (row.told r fit told).0,
@@ -158,9 +159,9 @@ lawful_from w r (line ∷ lines) fits ranged are a =
         leaves_none w line.line line.verb r ranged a,
         all_answered later known later_agrees later_ranged heard.1,
       ),
-      lawful_from later known lines (All-tail (λ (x : ScriptLine). VerbFits x.verb) line lines fits) later_ranged heard.1 later_agrees,
+      lawful_from later known lines (All-tail (λ (x : ScriptLine). VerbFits x.verb) line lines fits) later_ranged heard.1 tt later_agrees,
     )
 
 -- the transcript of a script is lawful
 pub lawful : (script : List ScriptLine) → ScriptFits script → Lawful script (groups script)
-lawful script fits = lawful_from empty_world empty_chronicle script fits start_ranged start_conns start
+lawful script fits = lawful_from empty_world empty_chronicle script fits start_ranged start_conns tt start

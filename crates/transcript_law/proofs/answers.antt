@@ -5,3 +5,4 @@ pub mod Awaited
 pub mod Explained
 pub mod Committed
 pub mod Rests
+pub mod Calm

@@ -12,6 +12,7 @@ use Rattle.mcbp_frame.specs.declared.frame.FaultyHead.{FaultyHead}
 use Rattle.mcbp_frame.specs.declared.frame.Frame.{Frame}
 use Rattle.mcbp_frame.specs.declared.frame.FrameFault.{FrameFault}
 use Rattle.mcbp_frame.specs.declared.frame.TheConstants.{RESPONSE}
+use Rattle.mcbp_kv.specs.declared.durable.Durability.{Durability}
 use Rattle.mcbp_kv.specs.Answers.{IsBare, IsFound, IsStored, IsWelcome, bare_answer}
 use Rattle.mcbp_kv.specs.Replies.{reply_frame}
 use Rattle.mcbp_kv.specs.Requests.{request_of}
@@ -31,11 +32,16 @@ use Rattle.vb_types.specs.declared.status.Status.{Status}
 use Rattle.vb_types.specs.declared.status.Status.TheVariants as status
 use Rattle.vb_types.specs.declared.write.Write.{Write}
 use Rattle.transcript_law.specs.LawfulClients.{IsActive}
-use Rattle.transcript_law.specs.LinesTold.{Chronicle, OwnChange}
+use Rattle.transcript_law.specs.LinesTold.{Chronicle, OwnChange, is_durable}
 use Rattle.transcript_law.specs.Questions.{Question, behind_frames, question_of}
 use Rattle.transcript_law.specs.StreamsTold.{Asking}
 
 -- ---- answers to requests for documents
+
+-- each of these changes is a durable write's, so no set and no removal waits to be answered
+abbrev pub AllDurable : List OwnChange → Type 0
+AllDurable [] = Unit {0}
+AllDurable (one ∷ older) = (is_durable one.change.act ≡ true) × AllDurable older
 
 -- a request is refused with this status, or answered by it alone
 abbrev pub IsStatus : Frame → Frame → Status → Type 0
@@ -72,12 +78,13 @@ LacksSeqnos st = st ≡ status.Etmpfail
 abbrev pub LacksMajority : Members → Status → Type 0
 LacksMajority chain st = LacksSeqnos st ⊎ ((is_possible chain ≡ false) × (st ≡ status.DurabilityImpossible))
 
--- a write was made: the last change that was told is its own, of what its vBucket held before, which let it; and it is told with its CAS, and its branch and seqno where the client asked for these
+-- a write was made: the last change that was told is its own, of what its vBucket held before, which let it, and no other set or removal waits to be answered; and it is told with its CAS, and its branch and seqno where the client asked for these
 pub record IsMade (n v : ℕ) (held : List Change) (made : List OwnChange) (settings : Settings) (write : Write) (f g : Frame) : Type 0 where
   pub branch : ℕ
   pub change : Change
   pub older : List OwnChange
   pub last : made ≡ record { node = n; vb = v; branch = branch; change = change } ∷ older
+  pub alone : AllDurable older
   pub key : change.key ≡ write.key
   pub cas : ℕ
   pub rev : ℕ
@@ -144,7 +151,12 @@ FitsFrame chronicle n settings f g = FitsBy (is_dcp f.opcode) chronicle n settin
 
 -- ---- the answer to the next question
 
--- these bytes are a response to it, with its opcode and opaque, and fit it
+-- a write's answer that is no refusal: it was made, or nobody knows
+abbrev pub IsOutcome : Settings → Frame → Frame → Type 0
+IsOutcome settings f g =
+    (write : Write) × (durable : Option Durability) × (request_of settings.json f ≡ Ok (request.Write write durable)) × ((g.vb_or_status ≡ status_code status.Success) ⊎ (g.vb_or_status ≡ status_code status.SyncWriteAmbiguous))
+
+-- these bytes are a response to it, with its opcode and opaque, and fit it; and where it is refused, or asked for no write, it changed nothing: no set and no removal waits to be answered
 pub record Answers (chronicle : Chronicle) (n : ℕ) (asking : Asking) (bytes : List ℕ) : Type 0 where
   pub question : Question
   pub next : question_of asking ≡ Some question
@@ -154,9 +166,10 @@ pub record Answers (chronicle : Chronicle) (n : ℕ) (asking : Asking) (bytes : 
   pub opcode : answer.opcode ≡ question.frame.opcode
   pub opaque : answer.opaque ≡ question.frame.opaque
   pub fits : FitsFrame chronicle n asking.settings question.frame answer
+  pub calm : IsOutcome asking.settings question.frame answer ⊎ AllDurable chronicle.made
 
--- no question is left, a fault stands behind the frames, and the answer to what its header names is Einval; the connection closes
-pub record AnswersFault (n c : ℕ) (asking : Asking) (bytes : List ℕ) (behind : List Event) : Type 0 where
+-- no question is left, a fault stands behind the frames, and the answer to what its header names is Einval, which changed nothing; the connection closes
+pub record AnswersFault (n c : ℕ) (made : List OwnChange) (asking : Asking) (bytes : List ℕ) (behind : List Event) : Type 0 where
   pub none : question_of asking ≡ None
   pub fault : FrameFault
   pub stands : front_fault (behind_frames asking.bytes) ≡ Some fault
@@ -164,7 +177,8 @@ pub record AnswersFault (n c : ℕ) (asking : Asking) (bytes : List ℕ) (behind
   pub named : faulty_head fault (behind_frames asking.bytes) ≡ Some head
   pub spelled : bytes ≡ spelling (reply_frame (bare_answer head.opcode status.Einval head.opaque))
   pub closes : (more : List Event) × (behind ≡ event.Closed n c ∷ more)
+  pub calm : AllDurable made
 
 -- what a client is sent, but for frames of its streams
 abbrev pub LawfulReply : Chronicle → ℕ → ℕ → Asking → List ℕ → List Event → Type 0
-LawfulReply chronicle n c asking bytes behind = Answers chronicle n asking bytes ⊎ AnswersFault n c asking bytes behind
+LawfulReply chronicle n c asking bytes behind = Answers chronicle n asking bytes ⊎ AnswersFault n c chronicle.made asking bytes behind

@@ -5,7 +5,7 @@ use Rattle.transcript_law.proofs.Words.{ℕ, Bool, true, false, List, [], refl, 
 use Rattle.transcript_law.proofs.Words.{doc_at, image_in, image_of, is_active, new_rev, refusal_reply, write_change}
 use Rattle.client_session.specs.Rows.{seqno_part}
 use Rattle.transcript_law.proofs.{answers.Committed.{CommitTold, HowTold}, disks.Absent.{nothing_here}, invariant.Agreement.{Agrees, AgreesAt, VbAgrees, active_counts, image_is, is_down, power_of, vb_of}, invariant.Seats.{seat}}
-use Rattle.transcript_law.specs.{Chronicles.{rested, resting}, LawfulAnswers.{IsImpossibleFirst, FitsBy, FitsDurable, FitsFrame, FitsGet, FitsRequest, FitsWrite, IsCommitted, IsMade, IsRefused, IsStatus, IsWhyRefused, LacksMajority, LacksSeqnos}, LawfulClients.{IsActive}, LinesTold.{OwnChange}}
+use Rattle.transcript_law.specs.{Chronicles.{rested, resting}, LawfulAnswers.{AllDurable, IsImpossibleFirst, IsOutcome, FitsBy, FitsDurable, FitsFrame, FitsGet, FitsRequest, FitsWrite, IsCommitted, IsMade, IsRefused, IsStatus, IsWhyRefused, LacksMajority, LacksSeqnos}, LawfulClients.{IsActive}, LinesTold.{OwnChange}}
 use Rattle.branch_model.specs.Journals.{role_of}
 use Rattle.client_session.specs.Answers.{found_reply, reply_to, status_reply, stored_reply, value_reply}
 use Rattle.client_session.specs.Serving.{is_dcp, outcome_reply}
@@ -18,6 +18,7 @@ use Rattle.mcbp_kv.specs.declared.feature.Feature.{Feature}
 use Rattle.mcbp_kv.specs.declared.opcodes.TheConstants.{GET, HELLO}
 use Rattle.mcbp_kv.specs.declared.reply.KvReply.{KvReply}
 use Rattle.mcbp_kv.specs.declared.request.KvRequest.TheVariants as request
+use Rattle.mcbp_kv.specs.declared.durable.Durability.{Durability}
 use Rattle.vb_calls.specs.{Durable.{durable_refusal}, State.{get_reply, get_row, is_left, pending_of}}
 use Rattle.vb_calls.specs.Writes.{doc_refusal, key_refusal, lacks_seqnos, or_else, pending_refusal, store_refusal}
 use Rattle.vb_calls.specs.declared.calls.Resolution.{Resolution}
@@ -266,13 +267,14 @@ let_by_doc vb write free =
     (nothing_waits vb.waiting (pending_of vb write.key) (doc_refusal write.op write.cas (doc_at vb write.key)) (said_none vb.role (lacks_seqnos vb 1) (key_refusal vb write) free)).1
 
 pub made_fits : (n v : ℕ) (held : List Change) (made : List OwnChange) (settings : Settings) (f : Frame) (vb : Plain) (write : Write) (cas branch : ℕ) (older : List OwnChange) (before : List Change)
-    → made ≡ record { node = n; vb = v; branch = branch; change = write_change vb write cas } ∷ older → held ≡ before ++ write_change vb write cas ∷ [] → image_of before ≡ image_in vb
+    → made ≡ record { node = n; vb = v; branch = branch; change = write_change vb write cas } ∷ older → AllDurable older → held ≡ before ++ write_change vb write cas ∷ [] → image_of before ≡ image_in vb
     → store_refusal vb write ≡ None → IsMade n v held made settings write f (reply_frame (stored_reply settings f branch (write_change vb write cas).seq cas))
-made_fits n v held made settings f vb write cas branch older before last behind image free = record {
+made_fits n v held made settings f vb write cas branch older before last alone behind image free = record {
   branch = branch;
   change = write_change vb write cas;
   older = older;
   last = last;
+  alone = alone;
   key = refl;
   cas = cas;
   rev = new_rev (doc_at vb write.key);
@@ -343,6 +345,11 @@ module _ (r : Chronicle) (n v : ℕ) (settings : Settings) (f : Frame) (write : 
   pub outcome_fits : (a : Awaited) (how : Resolution) → a.opcode ≡ f.opcode → a.opaque ≡ f.opaque → HowTold n r.made how → FitsDurable r n v settings write f (reply_frame (outcome_reply settings a how))
   outcome_fits a (resolution.Committed branch seq cas) code number told = inr (inr (inl (committed_fits settings f a code number n r.made branch seq cas (told branch seq cas refl))))
   outcome_fits a resolution.Ambiguous code number told = inr (inr (inr (ambiguous_fits settings f a code number)))
+
+-- an outcome refuses nothing
+pub is_outcome : (settings : Settings) (f : Frame) (a : Awaited) (write : Write) (wish : Durability) → request_of settings.json f ≡ Ok (request.Write write (Some wish)) → (how : Resolution) → IsOutcome settings f (reply_frame (outcome_reply settings a how))
+is_outcome settings f a write wish asks (resolution.Committed branch seq cas) = (write, Some wish, asks, inl refl)
+is_outcome settings f a write wish asks resolution.Ambiguous = (write, Some wish, asks, inr refl)
 
 module _ (r : Chronicle) (n v : ℕ) (vb : Plain) (known : KnownAs r n v vb) where
   -- what fits the vBucket fits what is told of it

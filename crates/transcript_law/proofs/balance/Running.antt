@@ -9,6 +9,7 @@ use Rattle.vb_types.specs.declared.journal.FlushPart.TheVariants as part
 use Rattle.transcript_law.specs.{Balance.{AreBalanced}, Chronicles.{after_group}, Prefixes.{world_after}}
 use Rattle.transcript_law.proofs.{Runs.{group_agrees, row_of, start}, invariant.Agreement.{Agrees, IsLink}, invariant.LinkRows.{found_is_link}, invariant.Ranged.{IsRanged, NodeRangedIf, start_ranged}, verbs.NodeLines.{on_link_by}, verbs.Settling.{steady}, verbs.Rows.{Row}}
 use Rattle.transcript_law.proofs.balance.{Downing.{Writing, down_level, due_level, told, writing_of}, Hearing.{dued}, Leaving.{among_on, arm_on, dropped_among, found_among, made_links, node_links, out_among, put_among, refused_on, role_on, same_on, with_broken_among}, Levels.{AllLevel, FlowOn, Level, level_on}, Measures.{acknowledged_is, counted_is}, Opening.{link_level}, Pumping.{pump_holds}, Upping.{up_holds}}
+use Rattle.transcript_law.specs.LawfulAnswers.{AllDurable}
 
 -- the consumers of links have opaques
 abbrev SmallAfter : List PlainLink → Type 0
@@ -170,16 +171,16 @@ module _ (w : PlainWorld) (r : Chronicle) (ranged : IsRanged w) (a : Agrees w r)
 small_after : (w : PlainWorld) (r : Chronicle) → Agrees w r → SmallAfter w.links
 small_after w r (c, a) x i = (writing_of w r c x (a.links x i)).opaque
 
-levels_from : (w : PlainWorld) (r : Chronicle) (script : List ScriptLine) → ScriptFits script → IsRanged w → Agrees w r → AllLevel w → AllLevel (world_after w script)
+levels_from : (w : PlainWorld) (r : Chronicle) (script : List ScriptLine) → ScriptFits script → IsRanged w → AllDurable r.made → Agrees w r → AllLevel w → AllLevel (world_after w script)
 unfolding world_step
-levels_from w r [] fits ranged a all = all
-levels_from w r (line ∷ lines) fits ranged a all =
+levels_from w r [] fits ranged calm a all = all
+levels_from w r (line ∷ lines) fits ranged calm a all =
     let fit = All-head (λ (x : ScriptLine). VerbFits x.verb) line lines fits in
     let outcome = verb_step w line.line line.verb in
     let row : Row w line.verb outcome = row_of w line.line line.verb in
     let r' : Chronicle = after_group r line.verb outcome.1.events outcome.1.answer in
-    let now = group_agrees w r line.line line.verb fit ranged a in
-    levels_from (with_branches outcome.1.events outcome.0) r' lines (All-tail (λ (x : ScriptLine). VerbFits x.verb) line lines fits) (row.ranged fit ranged) now
+    let now = group_agrees w r line.line line.verb fit ranged calm a in
+    levels_from (with_branches outcome.1.events outcome.0) r' lines (All-tail (λ (x : ScriptLine). VerbFits x.verb) line lines fits) (row.ranged fit ranged) tt now
     (line_goes w r ranged a all line.line line.verb fit (small_after (with_branches outcome.1.events outcome.0) r' now))
 
 balanced : (w : PlainWorld) → AllLevel w → AreBalanced w
@@ -189,4 +190,4 @@ balanced w all l link found some fits =
 
 -- behind all of it
 pub scripts_balance : (script : List ScriptLine) → ScriptFits script → AreBalanced (world_of script)
-scripts_balance script fits = balanced (world_of script) (levels_from empty_world empty_chronicle script fits start_ranged start (λ x i. absurd i))
+scripts_balance script fits = balanced (world_of script) (levels_from empty_world empty_chronicle script fits start_ranged tt start (λ x i. absurd i))

@@ -16,7 +16,8 @@ use Rattle.transcript_law.proofs.indexers.{Serving.{agrees_as, kept_past}, Steps
 use Rattle.transcript_law.proofs.invariant.{Agreement.{AgreesIn, answer_frame, idle}, ClientsTold.{ClientAgrees, KeptIs, setup_of}, Holdings.{vb_of}, OpenStreams.{Among, AreKept}, Tables.{at_here}}
 use Rattle.transcript_law.proofs.lines.Telling.{LawfulBefore, before_more, told_more}
 use Rattle.transcript_law.specs.{ClientFrames.{Request, ask_of, is_closed_by, message_of, request_in, set_by}, ClientStreams.{past_asked, past_request, unclosed}}
-use Rattle.transcript_law.specs.{LawfulAnswers.{FitsBy, LawfulReply}, LawfulClients.{RefusesBy, RefusesOwn}, Questions.{Question, past_question, question_of, wants_answer}, StreamLaws.{LawfulSaid}, StreamsTold.{ClientKnown, ClientStream}}
+use Rattle.transcript_law.proofs.answers.Calm.{durable_left}
+use Rattle.transcript_law.specs.{LawfulAnswers.{AllDurable, FitsBy, LawfulReply}, LawfulClients.{RefusesBy, RefusesOwn}, Questions.{Question, past_question, question_of, wants_answer}, StreamLaws.{LawfulSaid}, StreamsTold.{ClientKnown, ClientStream}}
 use Rattle.vb_events.specs.declared.event.StreamName.TheVariants as name
 
 module _ (w : PlainWorld) (n c : ℕ) (node : PlainNode) (r : Chronicle) (f : Frame) (states : States) (lines : List Event) (client : PlainClient) (up : HandedUp w n c node r f states lines client) (ask : StreamAsk) (asks : ask_of f ≡ Some ask) where
@@ -193,7 +194,7 @@ module _ (w : PlainWorld) (n c : ℕ) (node : PlainNode) (r : Chronicle) (f : Fr
               let (g, out, response, code, number) = answer_is in
               subst (λ out. LawfulReply told_then n c (told_then.clients_at n c).asking out more) (sym out)
               (reply_lawful told_then n c question g more asked_next response code number
-              (subst (λ b. FitsBy b told_then n (told_then.clients_at n c).asking.settings f g) (sym up.dcp) tt))
+              (subst (λ b. FitsBy b told_then n (told_then.clients_at n c).asking.settings f g) (sym up.dcp) tt) (inr up.goes.calm))
 
       -- so they are delivered
       named_at : (d : Desk) → d ≡ record { stream = name.Client n c; node = n; base = d.base } → (x y : ℕ) → x ≡ n → y ≡ c → with_replies x y (ask_line d f ask log high said ∷ []) bytes ≡ line ∷ Event.Reply n c bytes ∷ []
@@ -218,4 +219,5 @@ module _ (w : PlainWorld) (n c : ℕ) (node : PlainNode) (r : Chronicle) (f : Fr
               (in_hand f) refl question asked_next up.free (same_settings w n c node r f states lines client up)),
         );
         bytes = bytes_behind w n c node r f states lines client up;
+        calm = subst (λ (x : Chronicle). AllDurable x.made) (sym (ap (λ es. after_lines r (lines ++ es)) is_delivered ∙ told_more r lines (line ∷ Event.Reply n c bytes ∷ []) ∙ both_told)) (durable_left told_then.made);
       }

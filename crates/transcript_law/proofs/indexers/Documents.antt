@@ -1,12 +1,12 @@
 -- requests of a client for documents: all lines are lawful, each answer fits what the lines tell, and after them all agrees, with the connection as the session left it
-use Rattle.std.specs.Prelude.{◌≡◌, ◌<◌, ◌+◌, ◌∷◌, ◌++◌, ◌==◌, ◌^◌, if◌then◌else◌, nat_le}
-use Rattle.transcript_law.proofs.Words.{ℕ, Bool, true, false, List, [], refl, ap, sym, ◌∙◌, subst, inr, append_assoc, append-nil, All, AreBytes, Option, Some, None, Result, Ok, Err, length, image_of, eq-eqb, Op, Frame, WriteFits, KvRequest, Change, Doc}
+use Rattle.std.specs.Prelude.{◌≡◌, ◌⊎◌, ◌<◌, ◌+◌, ◌∷◌, ◌++◌, ◌==◌, ◌^◌, if◌then◌else◌, nat_le}
+use Rattle.transcript_law.proofs.Words.{ℕ, Bool, true, false, List, [], refl, ap, sym, ◌∙◌, subst, inl, inr, All-cons, append_assoc, append-nil, All, AreBytes, Option, Some, None, Result, Ok, Err, length, image_of, eq-eqb, Op, Frame, WriteFits, KvRequest, Change, Doc}
 use Rattle.transcript_law.proofs.Words.{Event, PlainProducer, Status, Write, Member, Move, happens, VbReply, VbCall, Plain, plain_step, Done, after, newest_branch, is_active, doc_at, refusal_reply, States, with_vb_at, call_at, growth, write_change, new_cas}
 use Rattle.transcript_law.proofs.Words.{Sound, StaysSound, PlainSession, request_handled, told, PlainNode, PlainWorld, with_node_at, with_client, with_states, spelling, Chronicle, after_lines, after_change}
 use Rattle.transcript_law.proofs.{Words.{LawfulFrom}, invariant.Seats.{seat}, invariant.Agreement.{Agrees, AgreesIn, idle}, invariant.Carrying.{Changed}, lines.Lines.{lawful_more}, verbs.NodeLines.{agrees_same, node_again, node_grown, put_same, shelves_again}}
-use Rattle.transcript_law.proofs.answers.{Committed.{HowTold, all_told}, Explained.{IsExplained, explained, outcome_in}}
-use Rattle.transcript_law.proofs.answers.Fits.{KnownAs, Repeats, durable_away, durable_over, durable_refused_fits, frame_fits, get_away, get_fits, has_opcode, known_as, made_fits, not_here, outcome_fits, outcome_repeats, refused_fits, reply_repeats, status_fits, status_repeats, stored_repeats, value_repeats, welcome_fits, write_away}
-use Rattle.transcript_law.proofs.{invariant.Sessions.{Received}, invariant.Tables.{at_here}, indexers.{Hands.{Goes, answered_goes, mine, session_goes}, Questions.{awaited_asks, awaited_next, in_hand}, Worlds.{vb_here}}, verbs.Settling.{SettlesOn, Steady, changes_quiet, changes_told, settles}}
+use Rattle.transcript_law.proofs.answers.{Calm.{OfDurable, durable_settled, durable_told}, Committed.{HowTold, all_told}, Explained.{IsExplained, explained, outcome_in}}
+use Rattle.transcript_law.proofs.answers.Fits.{KnownAs, Repeats, durable_away, durable_over, durable_refused_fits, frame_fits, is_outcome, get_away, get_fits, has_opcode, known_as, made_fits, not_here, outcome_fits, outcome_repeats, refused_fits, reply_repeats, status_fits, status_repeats, stored_repeats, value_repeats, welcome_fits, write_away}
+use Rattle.transcript_law.proofs.{invariant.Sessions.{Received}, invariant.Tables.{at_here}, indexers.{Hands.{Goes, Standing, answered_goes, calmly, session_goes, stands}, Questions.{awaited_asks, awaited_next, in_hand}, Worlds.{vb_here}}, verbs.Settling.{SettlesOn, Steady, changes_quiet, changes_told, settles}}
 use Rattle.transcript_law.proofs.{lines.Telling.{LawfulBefore, before_more, told_more}, verbs.Writing.{change_fits, has_room, is_lawful, mine as mine_vb, newest, prepare_fits, prepare_fulfils, prepare_unheld, room_for_two, store_taken, write_fulfils, write_unheld, written}}
 use Rattle.client_session.specs.Answers.{status_reply, stored_reply, value_reply, reply_to, reply_line, reply_lines, change_lines, request_lines}
 use Rattle.client_session.specs.Serving.{MOST_DURABLE, Served, awaited_by, deadline_of, durable_called, durable_replied, next_waiter, outcome_of, outcome_reply, outcome_answered, answered_or_awaited, refused, served, settings_of, with_lines, with_used}
@@ -19,7 +19,7 @@ use Rattle.vb_calls.specs.declared.calls.{Resolution.{Resolution}}
 use Rattle.vb_calls.specs.declared.calls.VbCall.TheVariants.{Durable, Get, Store}
 use Rattle.node_core.specs.Clients.{PlainClient}
 use Rattle.mcbp_kv.specs.declared.durable.Durability.{Durability}
-use Rattle.transcript_law.specs.{LawfulAnswers.{FitsFrame, FitsRequest}, LawfulClients.{IsActive}, Questions.{Question, question_of, settings_after, settings_by}, LinesTold.{OwnChange}, StreamsTold.{ClientsKnown, with_at}, Unanswered.{AsksDurably}}
+use Rattle.transcript_law.specs.{LawfulAnswers.{AllDurable, FitsFrame, FitsRequest, IsOutcome}, LawfulClients.{IsActive}, Questions.{Question, question_of, settings_after, settings_by}, LinesTold.{OwnChange}, StreamsTold.{ClientsKnown, with_at}, Unanswered.{AsksDurably}}
 use Rattle.mcbp_kv.specs.Replies.{reply_frame}
 use Rattle.vb_types.specs.declared.status.Status.TheVariants.{Etmpfail, NotMyVbucket, Success}
 use Rattle.mcbp_kv.specs.declared.request.KvRequest.TheVariants as request
@@ -166,7 +166,7 @@ module _ (stays : StaysSound) (steady : Steady) (w : PlainWorld) (r : Chronicle)
       settings = held.settings;
     }
 
-    goes_of : (x : States × Served) (states : States) → ((q : ℕ) → states q ≡ x.0 q) → Now x → Goes w n c base r states (before ++ x.1.events) client
+    goes_of : (x : States × Served) (states : States) → ((q : ℕ) → states q ≡ x.0 q) → Now x → Standing w n c base r states (before ++ x.1.events) client
     goes_of x states same now = record {
       lawful = now.0;
       agrees = agrees_same (world_at x.0) (world_at states) (so_far x) now.1 (node_again w n (with_states node x.0) (with_states node states) same (λ q. refl) refl);
@@ -179,12 +179,12 @@ module _ (stays : StaysSound) (steady : Steady) (w : PlainWorld) (r : Chronicle)
       settings = x.1.session.settings
 
       answered : (asked : Result KvRequest Status) → request_of settings.json f ≡ asked → (session : PlainSession) → session.who ≡ x.1.session.who → session.closed ≡ x.1.session.closed → session.reader ≡ x.1.session.reader → session.awaited ≡ None
-          → session.settings ≡ settings_by asked settings → (reply : KvReply) → Repeats f (reply_frame reply) → FitsRequest (so_far x) n settings f (reply_frame reply) asked
+          → session.settings ≡ settings_by asked settings → (reply : KvReply) → Repeats f (reply_frame reply) → FitsRequest (so_far x) n settings f (reply_frame reply) asked → IsOutcome settings f (reply_frame reply) ⊎ AllDurable (so_far x).made
           → Ends (states, served session (x.1.events ++ reply_line x.1.session.who.node x.1.session.who.client reply ∷ []))
       unfolding reply_line
-      answered asked is session who closed reader free set reply repeats fits =
-          let g : Goes w n c base r states (before ++ x.1.events) client = goes_of x states same held.now in
-          let known = (mine w n c base r g).asks.settings in
+      answered asked is session who closed reader free set reply repeats fits calm =
+          let g : Standing w n c base r states (before ++ x.1.events) client = goes_of x states same held.now in
+          let known = (stands w n c base r g).asks.settings in
           let frame : Frame = reply_frame reply in
           let at : FitsFrame (so_far x) n settings f frame = frame_fits (so_far x) n settings f frame (subst (FitsRequest (so_far x) n settings f frame) (sym is) fits) in
           let after : settings_after settings f ≡ settings_by asked settings = (λ i. if own i then settings else settings_by (is i) settings) in
@@ -192,31 +192,31 @@ module _ (stays : StaysSound) (steady : Steady) (w : PlainWorld) (r : Chronicle)
           (append_assoc before x.1.events (Event.Reply n c (spelling frame) ∷ []) ∙ (λ i. before ++ (x.1.events ++ Event.Reply (sym held.now.2.0 i) (sym held.now.2.1 i) (spelling frame) ∷ [])))
           (answered_goes w n c base r g session (who ∙ held.who) (closed ∙ held.closed) (reader ∙ held.reader) (in_hand f) hand question held.next free
           (set ∙ sym after ∙ ap (λ (s : Settings). settings_after s f) held.settings) frame repeats.response repeats.opcode repeats.opaque
-          (subst (λ s. FitsFrame (so_far x) n s f frame) (held.settings ∙ sym known) at))
+          (subst (λ s. FitsFrame (so_far x) n s f frame) (held.settings ∙ sym known) at) (subst (λ s. IsOutcome s f frame ⊎ AllDurable (so_far x).made) (held.settings ∙ sym known) calm))
 
       -- with a status alone
-      status_goes : (asked : Result KvRequest Status) (st : Status) → request_of settings.json f ≡ asked → settings ≡ settings_by asked settings → FitsRequest (so_far x) n settings f (reply_frame (status_reply f st)) asked → Ends (states, refused f st x.1)
-      status_goes asked st is set fits = answered asked is x.1.session refl refl refl held.free set (status_reply f st) (status_repeats f st) fits
+      status_goes : (asked : Result KvRequest Status) (st : Status) → request_of settings.json f ≡ asked → settings ≡ settings_by asked settings → FitsRequest (so_far x) n settings f (reply_frame (status_reply f st)) asked → AllDurable (so_far x).made → Ends (states, refused f st x.1)
+      status_goes asked st is set fits calm = answered asked is x.1.session refl refl refl held.free set (status_reply f st) (status_repeats f st) fits (inr calm)
 
     -- a durable write is awaited
-    awaits : (x : States × Served) → Held x → (a : Awaited) → a.opcode ≡ f.opcode → a.opaque ≡ f.opaque → AsksDurably x.1.session.settings f → Ends (x.0, record x.1 { session = record x.1.session { awaited = Some a } })
-    awaits x held a code number durable =
-        let g : Goes w n c base r x.0 (before ++ x.1.events) client = goes_of x x.0 (λ q. refl) held.now in
+    awaits : (x : States × Served) → Held x → AllDurable (so_far x).made → (a : Awaited) → a.opcode ≡ f.opcode → a.opaque ≡ f.opaque → AsksDurably x.1.session.settings f → Ends (x.0, record x.1 { session = record x.1.session { awaited = Some a } })
+    awaits x held calm a code number durable =
+        let g : Standing w n c base r x.0 (before ++ x.1.events) client = goes_of x x.0 (λ q. refl) held.now in
         let session : PlainSession = record x.1.session { awaited = Some a } in
-        session_goes w n c base r g session held.who held.closed held.reader
-        (awaited_asks ((so_far x).clients_at n c).asking client.session session client.producer.handshake (mine w n c base r g).asks f a ahead hand held.next held.reader held.settings refl code number (subst (λ s. AsksDurably s f) held.settings durable))
+        calmly w n c base r (session_goes w n c base r g session held.who held.closed held.reader
+        (awaited_asks ((so_far x).clients_at n c).asking client.session session client.producer.handshake (stands w n c base r g).asks f a ahead hand held.next held.reader held.settings refl code number (subst (λ s. AsksDurably s f) held.settings durable))) calm
 
     -- its outcome is told at once, or awaited
-    prepared_goes : (x : States × Served) → Held x → (a : Awaited) → a.opcode ≡ f.opcode → a.opaque ≡ f.opaque → (write : Write) (wish : Durability) → request_of x.1.session.settings.json f ≡ Ok (request.Write write (Some wish)) → (how : Option Resolution)
+    prepared_goes : (x : States × Served) → Held x → AllDurable (so_far x).made → (a : Awaited) → a.opcode ≡ f.opcode → a.opaque ≡ f.opaque → (write : Write) (wish : Durability) → request_of x.1.session.settings.json f ≡ Ok (request.Write write (Some wish)) → (how : Option Resolution)
         → ((said : Resolution) → how ≡ Some said → HowTold n (so_far x).made said) → Ends (x.0, answered_or_awaited a how x.1)
-    prepared_goes x held a code number write wish is None told = awaits x held a code number (record { own = own; write = write; wish = wish; asks = is })
-    prepared_goes x held a code number write wish is (Some how) told =
+    prepared_goes x held calm a code number write wish is None told = awaits x held calm a code number (record { own = own; write = write; wish = wish; asks = is })
+    prepared_goes x held calm a code number write wish is (Some how) told =
         answered x held x.0 (λ q. refl) (Ok (request.Write write (Some wish))) is (record x.1.session { awaited = None }) refl refl refl refl refl (outcome_reply x.1.session.settings a how) (outcome_repeats x.1.session.settings f a how code number)
-        (outcome_fits (so_far x) n v x.1.session.settings f write a how code number (told how refl))
+        (outcome_fits (so_far x) n v x.1.session.settings f write a how code number (told how refl)) (inl (is_outcome x.1.session.settings f a write wish is how))
 
     -- a request that a vBucket was asked
 
-    module _ (x : States × Served) (held : Held x) where
+    module _ (x : States × Served) (held : Held x) (calm : AllDurable (so_far x).made) where
       abbrev now : Now x
       now = held.now
 
@@ -225,7 +225,7 @@ module _ (stays : StaysSound) (steady : Steady) (w : PlainWorld) (r : Chronicle)
       off none = not_here (world_at x.0) (so_far x) n v now.1 (vb_here w n c base x.0 (Some client) v ∙ none)
 
       away : (asked : Result KvRequest Status) → request_of x.1.session.settings.json f ≡ asked → x.1.session.settings ≡ settings_by asked x.1.session.settings → FitsRequest (so_far x) n x.1.session.settings f (reply_frame (status_reply f NotMyVbucket)) asked → Ends (answered_by f x.1 (x.0, None))
-      away asked is set fits = status_goes x held x.0 (λ q. refl) asked NotMyVbucket is set fits
+      away asked is set fits = status_goes x held x.0 (λ q. refl) asked NotMyVbucket is set fits calm
 
       module _ (vb : Plain) (has : x.0 v ≡ Some vb) where
         abbrev there0 : PlainNode
@@ -245,7 +245,7 @@ module _ (stays : StaysSound) (steady : Steady) (w : PlainWorld) (r : Chronicle)
             → reply_to x.1.session.settings f reply.answer ≡ Some kv → FitsRequest (so_far x) n x.1.session.settings f (reply_frame kv) (Ok asked) → Ends (answered_by f x.1 (with_vb_at x.0 v vb, Some reply))
         unchanged asked is set reply none kv said fits =
             subst (λ es. Ends (with_vb_at x.0 v vb, with_lines x.1 es)) (sym (λ i. none i ++ reply_lines x.1.session.who.node x.1.session.who.client (said i)))
-            (answered x held (with_vb_at x.0 v vb) (put_same x.0 v vb has) (Ok asked) is x.1.session refl refl refl held.free set kv (reply_repeats x.1.session.settings f reply.answer kv said) fits)
+            (answered x held (with_vb_at x.0 v vb) (put_same x.0 v vb has) (Ok asked) is x.1.session refl refl refl held.free set kv (reply_repeats x.1.session.settings f reply.answer kv said) fits (inr calm))
 
         -- the write is made
         store_goes : (write : Write) → WriteFits write → request_of x.1.session.settings.json f ≡ Ok (request.Write write None) → store_refusal vb write ≡ None → Ends (answered_by f x.1 (stepped_at x.0 v (growth vb (write_change vb write cas) cas)))
@@ -268,12 +268,12 @@ module _ (stays : StaysSound) (steady : Steady) (w : PlainWorld) (r : Chronicle)
             let so : Chronicle = so_far (states, with_lines x.1 lines) in
             let read : so ≡ after_lines (so_far x) lines = reads x states lines in
             let made_is = made_fits n v (so.held n v) so.made settings f vb write cas (newest_branch vb.log) (so_far x).made ((so_far x).held n v)
-            (ap (λ (k : Chronicle). k.made) read ∙ (λ i. record { node = now.2.0 i; vb = v; branch = newest_branch vb.log; change = change } ∷ (so_far x).made))
+            (ap (λ (k : Chronicle). k.made) read ∙ (λ i. record { node = now.2.0 i; vb = v; branch = newest_branch vb.log; change = change } ∷ (so_far x).made)) calm
             (ap (λ (k : Chronicle). k.held n v) read ∙ (λ i. with_at (so_far x).held (now.2.0 i) v ((so_far x).held (now.2.0 i) v ++ change ∷ []) n v) ∙ at_here (so_far x).held n v ((so_far x).held n v ++ change ∷ []))
             known_vb.image free in
             subst (λ es. Ends (states, served x.1.session es)) (append_assoc x.1.events lines (reply_line x.1.session.who.node x.1.session.who.client (stored_reply settings f (newest_branch vb.log) change.seq cas) ∷ []))
             (answered (states, with_lines x.1 lines) then_held states (λ q. refl) (Ok (request.Write write None)) is x.1.session refl refl refl held.free refl (stored_reply settings f (newest_branch vb.log) change.seq cas)
-            (stored_repeats settings f (newest_branch vb.log) change.seq cas) (inr made_is))
+            (stored_repeats settings f (newest_branch vb.log) change.seq cas) (inr made_is) (inl (write, None, is, inl refl)))
 
         stored : (write : Write) → WriteFits write → request_of x.1.session.settings.json f ≡ Ok (request.Write write None) → (said : Option Status) → store_refusal vb write ≡ said → Ends (answered_by f x.1 (stepped_at x.0 v (store_outcome said vb write cas)))
         stored write fits is (Some st) e = unchanged (request.Write write None) is refl (refusal_reply st) refl (status_reply f st) refl (refused_fits (so_far x) n v vb known_vb x.1.session.settings f write st e)
@@ -323,6 +323,8 @@ module _ (stays : StaysSound) (steady : Steady) (w : PlainWorld) (r : Chronicle)
             let told_now = subst (λ cs. Now (states2, with_lines (with_used x.1) (changes_told x.1.session.who.node v branch (change ∷ cs)))) (sym later.changes) gone in
             prepared_goes (states2, with_lines (with_used x.1) (changes_told x.1.session.who.node v branch (change ∷ (settled made).changes)))
             (changed (x.0, with_used x.1) states2 x.1.session.who.node v branch (change ∷ (settled made).changes) (used x held) told_now)
+            (subst (λ (k : Chronicle). AllDurable k.made) (sym (reads (x.0, with_used x.1) states2 (changes_told x.1.session.who.node v branch (change ∷ (settled made).changes))))
+            (durable_told (so_far x) x.1.session.who.node v branch (change ∷ (settled made).changes) (All-cons OfDurable change (settled made).changes refl (durable_settled made)) calm))
             (awaited_by (next_waiter x.1.session) f) refl refl write asked is (outcome_of (next_waiter x.1.session) (settled made).resolved)
             (outcome_told write wish (so_far (states2, with_lines (with_used x.1) (changes_told x.1.session.who.node v branch (change ∷ (settled made).changes)))).made free (ap (λ (k : Chronicle). k.made) (reads (x.0, with_used x.1) states2 (changes_told x.1.session.who.node v branch (change ∷ (settled made).changes))) ∙ ap (λ m. (after_lines (so_far x) (changes_told m v branch (change ∷ (settled made).changes))).made) now.2.0) here.sound)
 
@@ -331,7 +333,7 @@ module _ (stays : StaysSound) (steady : Steady) (w : PlainWorld) (r : Chronicle)
         unfolding durable_replied
         durably write wish asked fits alone is (Some st) e =
             subst (λ es. Ends (with_vb_at x.0 v vb, served (with_used x.1).session (es ++ reply_line x.1.session.who.node x.1.session.who.client (status_reply f st) ∷ []))) (sym (append-nil x.1.events))
-            (status_goes (x.0, with_used x.1) (used x held) (with_vb_at x.0 v vb) (put_same x.0 v vb has) (Ok (request.Write write (Some asked))) st is refl (durable_refused_fits (so_far x) n v vb known_vb x.1.session.settings f write st e))
+            (status_goes (x.0, with_used x.1) (used x held) (with_vb_at x.0 v vb) (put_same x.0 v vb has) (Ok (request.Write write (Some asked))) st is refl (durable_refused_fits (so_far x) n v vb known_vb x.1.session.settings f write st e) calm)
         durably write wish asked fits alone is None e = durable_goes write wish asked fits alone is e
 
       got : (key : List ℕ) → request_of x.1.session.settings.json f ≡ Ok (request.Get key) → (o : Option Plain) → x.0 v ≡ o → Ends (answered_by f x.1 (call_at x.0 v (Get key) o))
@@ -353,24 +355,24 @@ module _ (stays : StaysSound) (steady : Steady) (w : PlainWorld) (r : Chronicle)
           → Ends (durably_by f x.1 (call_at x.0 v (Durable write clock wish.level wish.deadline wish.waiter) o))
       unfolding durable_replied
       prepared write wish asked fits alone is None none =
-          status_goes (x.0, with_used x.1) (used x held) x.0 (λ q. refl) (Ok (request.Write write (Some asked))) NotMyVbucket is refl (durable_away (so_far x) n v x.1.session.settings f write (off none))
+          status_goes (x.0, with_used x.1) (used x held) x.0 (λ q. refl) (Ok (request.Write write (Some asked))) NotMyVbucket is refl (durable_away (so_far x) n v x.1.session.settings f write (off none)) calm
       prepared write wish asked fits alone is (Some vb) has = durably vb has write wish asked fits alone is (durable_refusal vb write) refl
 
       -- a request
       asked_goes : (q : Result KvRequest Status) → request_of x.1.session.settings.json f ≡ q → ((asked : KvRequest) → q ≡ Ok asked → AskedFits asked) → Ends (after (request_handled clock f q x.1) x.0)
       unfolding request_handled told
-      asked_goes (Err st) is fits = status_goes x held x.0 (λ q. refl) (Err st) st is refl (status_fits f st)
-      asked_goes (Ok request.Noop) is fits = status_goes x held x.0 (λ q. refl) (Ok request.Noop) Success is refl (status_fits f Success)
+      asked_goes (Err st) is fits = status_goes x held x.0 (λ q. refl) (Err st) st is refl (status_fits f st) calm
+      asked_goes (Ok request.Noop) is fits = status_goes x held x.0 (λ q. refl) (Ok request.Noop) Success is refl (status_fits f Success) calm
       asked_goes (Ok (request.Hello features)) is fits =
           answered x held x.0 (λ q. refl) (Ok (request.Hello features)) is (record x.1.session { settings = settings_of features }) refl refl refl held.free refl (value_reply f (feature_bytes features)) (value_repeats f (feature_bytes features))
-          (welcome_fits f features (has_opcode x.1.session.settings.json f (request.Hello features) is))
+          (welcome_fits f features (has_opcode x.1.session.settings.json f (request.Hello features) is)) (inr calm)
       asked_goes (Ok (request.Get key)) is fits = got key is (x.0 v) refl
       asked_goes (Ok (request.Write write None)) is fits = wrote write (fits (request.Write write None) refl).0 is (x.0 v) refl
       asked_goes (Ok (request.Write write (Some wish))) is fits =
           let asking : VbCall = Durable write clock wish.level (deadline_of clock wish.timeout) (next_waiter x.1.session) in
           let fit = fits (request.Write write (Some wish)) refl in
           either (λ p. Ends (after p x.0)) (nat_le MOST_DURABLE x.1.session.used) (Done (refused f Etmpfail x.1)) (durable_called f asking x.1)
-          (status_goes x held x.0 (λ q. refl) (Ok (request.Write write (Some wish))) Etmpfail is refl (durable_over (so_far x) n v x.1.session.settings f write))
+          (status_goes x held x.0 (λ q. refl) (Ok (request.Write write (Some wish))) Etmpfail is refl (durable_over (so_far x) n v x.1.session.settings f write) calm)
           (prepared write (record { level = wish.level; deadline = deadline_of clock wish.timeout; waiter = next_waiter x.1.session }) wish fit.0 fit.1 is (x.0 v) refl)
 
       -- so a request goes on
@@ -381,12 +383,12 @@ module _ (stays : StaysSound) (steady : Steady) (w : PlainWorld) (r : Chronicle)
 
 -- what became of a durable write that is awaited under a number is told to its client
 pub outcome_goes : (w : PlainWorld) (n c : ℕ) (base : PlainNode) (r : Chronicle) (a : Awaited) (how : Resolution) (states : States) (before : List Event) (producer : PlainProducer) (s : Served) → s.session.awaited ≡ Some a → (a.waiter ≡ 0 → ⊥)
-    → HowTold n (after_lines r (before ++ s.events)).made how → Goes w n c base r states (before ++ s.events) (record { session = s.session; producer = producer })
+    → HowTold n (after_lines r (before ++ s.events)).made how → Standing w n c base r states (before ++ s.events) (record { session = s.session; producer = producer })
     → Goes w n c base r states (before ++ (outcome_answered a how s).events) (record { session = (outcome_answered a how s).session; producer = producer })
 unfolding reply_line
 outcome_goes w n c base r a how states before producer s waits some told g =
     let so : Chronicle = after_lines r (before ++ s.events) in
-    let own = mine w n c base r g in
+    let own = stands w n c base r g in
     let (o, next) = awaited_next (so.clients_at n c).asking s.session producer.handshake own.asks a waits in
     let f : Frame = o.question.frame in
     let settings : Settings = (so.clients_at n c).asking.settings in
@@ -400,4 +402,5 @@ outcome_goes w n c base r a how states before producer s waits some told g =
     let after : settings_after settings f ≡ settings = (λ i. if durable.own i then settings else settings_by (durable.asks i) settings) in
     subst (λ es. Goes w n c base r states es (record { session = record s.session { awaited = None }; producer = producer }))
     (append_assoc before s.events (Event.Reply n c (spelling (reply_frame reply)) ∷ []) ∙ (λ i. before ++ (s.events ++ Event.Reply (sym own.conn.node i) (sym own.conn.number i) (spelling (reply_frame reply)) ∷ [])))
-    (answered_goes w n c base r g (record s.session { awaited = None }) refl refl refl a waits o.question next refl (sym (subst (λ x. settings_after x f ≡ x) same after)) (reply_frame reply) repeats.response repeats.opcode repeats.opaque fits)
+    (answered_goes w n c base r g (record s.session { awaited = None }) refl refl refl a waits o.question next refl (sym (subst (λ x. settings_after x f ≡ x) same after)) (reply_frame reply) repeats.response repeats.opcode repeats.opaque fits
+    (inl (subst (λ x. IsOutcome settings f (reply_frame (outcome_reply x a how))) same (is_outcome settings f a durable.write durable.wish durable.asks how))))

@@ -1,5 +1,6 @@
 -- a client's connection in the middle of a call: it goes on, a frame of it is to be answered, or it is over
-use Rattle.std.specs.Prelude.{◌≡◌, ◌∷◌, ◌++◌, ◌==◌}
+use Rattle.std.specs.Prelude.{◌≡◌, ◌⊎◌, ◌∷◌, ◌++◌, ◌==◌}
+use Rattle.transcript_law.proofs.answers.Calm.{durable_left}
 use Rattle.transcript_law.proofs.Words.{ℕ, true, false, List, [], drop, refl, sym, ap, ◌∙◌, subst, inl, Some, None, Ok, Event, Frame, RESPONSE, AreBytes, States, PlainNode, PlainWorld, Cluster, Chronicle, after_line, after_lines}
 use Rattle.client_session.specs.{Serving.{PlainSession, is_dcp}}
 use Rattle.client_session.specs.declared.session.Awaited.{Awaited}
@@ -9,7 +10,7 @@ use Rattle.transcript_law.proofs.invariant.{Agreement.{Agrees, AgreesIn, idle}, 
 use Rattle.transcript_law.proofs.indexers.{Beside.{beside}, Questions.{past_asks}, Serving.{session_agrees}, Steps.{ClientStep}, Worlds.{client_here, step_quiet, stepped, stepped_same, vb_here, world_with}}
 use Rattle.transcript_law.proofs.lines.Telling.{LawfulBefore, before_more, told_more}
 use Rattle.mcbp_frame.specs.Spelling.{spelling}
-use Rattle.transcript_law.specs.{ClientStreams.{clients_frame}, Feeding.{HasFed, HasOpen}, LawfulAnswers.{FitsFrame, LawfulReply}, LinesTold.{made_line}, Questions.{Question, past_answer, past_question, past_question_if, question_of, settings_after}, StreamsTold.{ClientKnown, with_at}}
+use Rattle.transcript_law.specs.{ClientStreams.{clients_frame}, Feeding.{HasFed, HasOpen}, LawfulAnswers.{AllDurable, FitsFrame, IsOutcome, LawfulReply}, LinesTold.{made_line}, Questions.{Question, past_answer, past_question, past_question_if, question_of, settings_after}, StreamsTold.{ClientKnown, with_at}}
 use Rattle.vb_events.specs.declared.event.StreamName.{StreamName}
 
 -- ---- an answer
@@ -63,19 +64,32 @@ module _ (w : PlainWorld) (n c : ℕ) (node : PlainNode) (states : States) (clie
         (own.heard.bytes ∙ ap (λ l. own.heard.front ++ l) (sym reader)) (past_asks (r.clients_at n c).asking client.session session client.producer.handshake own.asks o q waits next reader free settings)
         refl refl refl (λ v. vb_here w n c node states (Some with_session) v ∙ sym (vb_here w n c node states (Some client) v))))
 
--- an answer that fits is lawful
+-- an answer that fits, and does not pass over a change, is lawful
 pub reply_lawful : (r : Chronicle) (n c : ℕ) (q : Question) (answer : Frame) (behind : List Event) → question_of (r.clients_at n c).asking ≡ Some q → answer.magic ≡ RESPONSE → answer.opcode ≡ q.frame.opcode → answer.opaque ≡ q.frame.opaque
-    → FitsFrame r n (r.clients_at n c).asking.settings q.frame answer → LawfulReply r n c (r.clients_at n c).asking (spelling answer) behind
-reply_lawful r n c q answer behind next response code number fits = inl (record { question = q; next = next; answer = answer; spelled = refl; response = response; opcode = code; opaque = number; fits = fits })
+    → FitsFrame r n (r.clients_at n c).asking.settings q.frame answer → IsOutcome (r.clients_at n c).asking.settings q.frame answer ⊎ AllDurable r.made → LawfulReply r n c (r.clients_at n c).asking (spelling answer) behind
+reply_lawful r n c q answer behind next response code number fits calm = inl (record { question = q; next = next; answer = answer; spelled = refl; response = response; opcode = code; opaque = number; fits = fits; calm = calm })
 
 -- ---- the connection
 
 module _ (w : PlainWorld) (n c : ℕ) (node : PlainNode) (r : Chronicle) where
-  -- it goes on: all lines so far are lawful, and all agrees with it
+  -- all lines so far are lawful, and all agrees with it
+  pub record Standing (states : States) (lines : List Event) (client : PlainClient) : Type 0 where
+    pub lawful : LawfulBefore r lines
+    pub agrees : Agrees (world_with w n c node states (Some client)) (after_lines r lines)
+    pub bytes : AreBytes client.session.reader
+
+  -- it goes on: so it is, and no set and no removal waits to be answered
   pub record Goes (states : States) (lines : List Event) (client : PlainClient) : Type 0 where
     pub lawful : LawfulBefore r lines
     pub agrees : Agrees (world_with w n c node states (Some client)) (after_lines r lines)
     pub bytes : AreBytes client.session.reader
+    pub calm : AllDurable (after_lines r lines).made
+
+  pub standing : {states : States} {lines : List Event} {client : PlainClient} → Goes states lines client → Standing states lines client
+  standing g = record { lawful = g.lawful; agrees = g.agrees; bytes = g.bytes }
+
+  pub calmly : {states : States} {lines : List Event} {client : PlainClient} → Standing states lines client → AllDurable (after_lines r lines).made → Goes states lines client
+  calmly g calm = record { lawful = g.lawful; agrees = g.agrees; bytes = g.bytes; calm = calm }
 
   -- a request of DCP was handed up, and is not answered yet: all agrees with the connection that has it in front
   pub record HandedUp (f : Frame) (states : States) (lines : List Event) (client : PlainClient) : Type 0 where
@@ -106,10 +120,13 @@ module _ (w : PlainWorld) (n c : ℕ) (node : PlainNode) (r : Chronicle) where
   by_hand (InHand.IsAsked f is up) goes asked over = asked f is
   by_hand (InHand.IsOver none o) goes asked over = over o
 
-  -- what agrees of the connection, where it goes on
-  module _ {states : States} {lines : List Event} {client : PlainClient} (g : Goes states lines client) where
-    pub mine : ClientAgrees (world_with w n c node states (Some client)) (after_lines r lines) n c client
-    mine = g.agrees.1.clients.each n c client (client_here w n c node states (Some client))
+  -- what agrees of the connection
+  pub mine : {states : States} {lines : List Event} {client : PlainClient} → Goes states lines client → ClientAgrees (world_with w n c node states (Some client)) (after_lines r lines) n c client
+  mine {states = states} {client = client} g = g.agrees.1.clients.each n c client (client_here w n c node states (Some client))
+
+  module _ {states : States} {lines : List Event} {client : PlainClient} (g : Standing states lines client) where
+    pub stands : ClientAgrees (world_with w n c node states (Some client)) (after_lines r lines) n c client
+    stands = g.agrees.1.clients.each n c client (client_here w n c node states (Some client))
 
     abbrev so_far : Chronicle
     so_far = after_lines r lines
@@ -117,7 +134,7 @@ module _ (w : PlainWorld) (n c : ℕ) (node : PlainNode) (r : Chronicle) where
     -- the session alone is another one, that has the bytes that it had
     module _ (session : PlainSession) (who : session.who ≡ client.session.who) (closed : session.closed ≡ client.session.closed) (reader : session.reader ≡ client.session.reader) where
       -- while as much is known of what it asked
-      pub session_goes : AskingIs (so_far.clients_at n c).asking session client.producer.handshake → Goes states lines (record client { session = session })
+      pub session_goes : AskingIs (so_far.clients_at n c).asking session client.producer.handshake → Standing states lines (record client { session = session })
       session_goes asks = record {
         lawful = g.lawful;
         agrees = (g.agrees.0, session_kept w n c node states client so_far g.agrees.0 g.agrees.1 session who closed reader asks);
@@ -127,15 +144,17 @@ module _ (w : PlainWorld) (n c : ℕ) (node : PlainNode) (r : Chronicle) where
       -- or what was awaited is answered
       pub answered_goes : (o : Awaited) → client.session.awaited ≡ Some o → (q : Question) → question_of (so_far.clients_at n c).asking ≡ Some q → session.awaited ≡ None → session.settings ≡ settings_after client.session.settings q.frame
           → (answer : Frame) → answer.magic ≡ RESPONSE → answer.opcode ≡ q.frame.opcode → answer.opaque ≡ q.frame.opaque → FitsFrame so_far n (so_far.clients_at n c).asking.settings q.frame answer
-          → Goes states (lines ++ Event.Reply n c (spelling answer) ∷ []) (record client { session = session })
-      answered_goes o waits q next free settings answer response code number fits =
+          → IsOutcome (so_far.clients_at n c).asking.settings q.frame answer ⊎ AllDurable so_far.made → Goes states (lines ++ Event.Reply n c (spelling answer) ∷ []) (record client { session = session })
+      answered_goes o waits q next free settings answer response code number fits calm =
           let line : Event = Event.Reply n c (spelling answer) in
+          let told : after_lines r (lines ++ line ∷ []) ≡ answered_as so_far n c (record (so_far.clients_at n c) { asking = past_question q (so_far.clients_at n c).asking }) = told_more r lines (line ∷ []) ∙ question_told n c (spelling answer) so_far q stands.silent next in
           record {
-            lawful = before_more r lines (line ∷ []) g.lawful (λ more rest. ((λ none. reply_lawful so_far n c q answer more next response code number fits), rest));
+            lawful = before_more r lines (line ∷ []) g.lawful (λ more rest. ((λ none. reply_lawful so_far n c q answer more next response code number fits calm), rest));
             agrees = (
               g.agrees.0,
-              subst (λ x. AgreesIn idle (world_with w n c node states (Some (record client { session = session }))) x g.agrees.0) (sym (told_more r lines (line ∷ []) ∙ question_told n c (spelling answer) so_far q mine.silent next))
+              subst (λ x. AgreesIn idle (world_with w n c node states (Some (record client { session = session }))) x g.agrees.0) (sym told)
                   (answered_agrees w n c node states client so_far g.agrees.0 g.agrees.1 session who closed reader o waits q next free settings),
             );
             bytes = subst AreBytes (sym reader) g.bytes;
+            calm = subst (λ (k : Chronicle). AllDurable k.made) (sym told) (durable_left so_far.made);
           }

@@ -1,13 +1,13 @@
 -- a frame that a client's session handed up is answered, and no line tells of it
 use Rattle.std.specs.Prelude.{◌≡◌, ◌<◌, ◌++◌, ◌∷◌, if◌then◌else◌}
 use Rattle.std.proofs.lemmas.List.Elements.{All-drop}
-use Rattle.transcript_law.proofs.Words.{ℕ, Bool, true, false, List, [], refl, sym, ap, ◌∙◌, subst, append-nil, inl, Some, None, Event, Frame, AreBytes, States, PlainNode, PlainWorld, PlainProducer, Cluster, Chronicle, after_lines}
+use Rattle.transcript_law.proofs.Words.{ℕ, Bool, true, false, List, [], refl, sym, ap, ◌∙◌, subst, append-nil, inl, inr, Some, None, Event, Frame, AreBytes, States, PlainNode, PlainWorld, PlainProducer, Cluster, Chronicle, after_lines}
 use Rattle.dcp_producer.specs.Producers.{Served}
 use Rattle.mcbp_frame.specs.Frames.{frame_len}
 use Rattle.node_core.specs.Clients.{PlainClient, delivered, reply_alone}
 unfoldable use Rattle.node_core.specs.Clients.{with_replies}
 use Rattle.transcript_law.proofs.answers.Messages.{IsAnswerTo}
-use Rattle.transcript_law.proofs.indexers.{Hands.{Goes, HandedUp, answered_goes, mine}, Questions.{hand_asks, hand_if, in_hand, next_is}, Quiet.{Quietly}, Serving.{IsBehind, served_plain}, Steps.{ClientStep}, Worlds.{OpensOwn, step_quiet, stepped_same, vb_here, world_with}}
+use Rattle.transcript_law.proofs.indexers.{Hands.{Goes, HandedUp, answered_goes, mine, standing}, Questions.{hand_asks, hand_if, in_hand, next_is}, Quiet.{Quietly}, Serving.{IsBehind, served_plain}, Steps.{ClientStep}, Worlds.{OpensOwn, step_quiet, stepped_same, vb_here, world_with}}
 use Rattle.transcript_law.proofs.invariant.{Agreement.{AgreesIn, idle}, ClientsTold.{AskingIs, ClientAgrees, setup_of}, OpenStreams.{AreKept}}
 use Rattle.mcbp_frame.specs.Spelling.{spelling}
 use Rattle.mcbp_kv.specs.Requests.{request_of}
@@ -87,7 +87,7 @@ module _ (w : PlainWorld) (n c : ℕ) (node : PlainNode) (r : Chronicle) (f : Fr
       → Goes w n c node r x.0 (lines ++ delivered client.session.who x.1) (behind x.1)
   passed_step x none is step opens told =
       subst (λ es. Goes w n c node r x.0 (lines ++ es) (behind x.1)) (sym (is_alone x.1 none))
-      (by wants refl is (record { lawful = up.goes.lawful; agrees = (cluster, stepped_same w n c node states x.0 before (hand x.1) so_far cluster agrees step opens told); bytes = bytes_behind }))
+      (by wants refl is (record { lawful = up.goes.lawful; agrees = (cluster, stepped_same w n c node states x.0 before (hand x.1) so_far cluster agrees step opens told); bytes = bytes_behind; calm = up.goes.calm }))
     where
       by : (b : Bool) → wants ≡ b → IsAnswerTo f b x.1.out → Goes w n c node r x.0 lines (record client { session = record client.session { awaited = hand_if b f }; producer = x.1.end }) → Goes w n c node r x.0 (lines ++ reply_alone n c x.1.out) (behind x.1)
       by false unasked quiet g =
@@ -95,7 +95,7 @@ module _ (w : PlainWorld) (n c : ℕ) (node : PlainNode) (r : Chronicle) (f : Fr
           (subst (λ o. Goes w n c node r x.0 lines (record client { session = record client.session { awaited = o }; producer = x.1.end })) (sym up.free) g)
       by true asked (answer, out, response, code, number) g =
           subst (λ es. Goes w n c node r x.0 (lines ++ es) (behind x.1)) (sym (ap (reply_alone n c) out ∙ spelled_alone n c answer))
-          (answered_goes w n c node r g client.session refl refl refl (in_hand f) refl question (is_asked asked) up.free same_settings answer response code number (fits_dcp answer))
+          (answered_goes w n c node r (standing w n c node r g) client.session refl refl refl (in_hand f) refl question (is_asked asked) up.free same_settings answer response code number (fits_dcp answer) (inr up.goes.calm))
 
   pub passed_quiet : (x : States × Served) → ask_of f ≡ None → is_close (message_of f) ≡ false → Quietly f (message_of f) states client.producer x → Goes w n c node r x.0 (lines ++ delivered client.session.who x.1) (behind x.1)
   passed_quiet x none open_still q =

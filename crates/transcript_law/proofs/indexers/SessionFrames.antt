@@ -14,10 +14,10 @@ use Rattle.mcbp_frame.specs.declared.frame.FaultyHead.{FaultyHead}
 use Rattle.node_core.specs.Clients.{PlainClient, went_on}
 use Rattle.mcbp_frame.specs.{Cutting.{fault_in, front_fault}, Spelling.{spelling}}
 use Rattle.mcbp_kv.specs.{Answers.{bare_answer}, Replies.{reply_frame}}
-use Rattle.transcript_law.proofs.indexers.{Beside.{beside}, Hands.{Goes, InHand, frame_told, mine}, Messages.{IsPlain, other_plain, response_plain}, Questions.{fault_asks, hand_asks, hand_if, in_hand, next_is}, Replied.{table_put_twice}, Shutting.{Shut, gone_shut}, Serving.{served_plain}, Worlds.{step_quiet, stepped_same, vb_here, world_with}}
+use Rattle.transcript_law.proofs.indexers.{Beside.{beside}, Hands.{Goes, InHand, Standing, frame_told, mine}, Messages.{IsPlain, other_plain, response_plain}, Questions.{fault_asks, hand_asks, hand_if, in_hand, next_is}, Replied.{table_put_twice}, Shutting.{Shut, gone_shut}, Serving.{served_plain}, Worlds.{step_quiet, stepped_same, vb_here, world_with}}
 use Rattle.transcript_law.proofs.invariant.{Agreement.{Agrees}, ClientsTold.{ClientAgrees, setup_of}, Sessions.{first_received}}
 use Rattle.transcript_law.proofs.{answers.Committed.{HowTold}, answers.Messages.{message_wants}, lines.Telling.{LawfulBefore, before_more, told_more}, indexers.Documents.{Ends, outcome_goes, request_goes}, verbs.Settling.{Steady}}
-use Rattle.transcript_law.specs.{ClientFrames.{message_of}, ClientStreams.{blank_client}, LawfulAnswers.{LawfulReply}, LinesTold.{made_line}, Questions.{behind_frames, is_acknowledgement, past_answer, question_of, wants_answer}, StreamsTold.{ClientKnown}}
+use Rattle.transcript_law.specs.{ClientFrames.{message_of}, ClientStreams.{blank_client}, LawfulAnswers.{AllDurable, LawfulReply}, LinesTold.{made_line}, Questions.{behind_frames, is_acknowledgement, past_answer, question_of, wants_answer}, StreamsTold.{ClientKnown}}
 use Rattle.vb_types.specs.declared.status.Status.TheVariants.{Einval}
 use Rattle.vb_calls.proofs.Conduct.{after_always}
 use Rattle.vb_calls.specs.Programs.{AnyCall}
@@ -46,8 +46,8 @@ free_of s = by (is_some s.dcp) s.session.awaited
 
 -- what a fault is answered stands in front of what tells that the connection closed
 fault_lawful : (r : Chronicle) (n c : ℕ) (fault : FrameFault) (head : FaultyHead) (more : List Event) → question_of (r.clients_at n c).asking ≡ None → front_fault (behind_frames (r.clients_at n c).asking.bytes) ≡ Some fault
-    → faulty_head fault (behind_frames (r.clients_at n c).asking.bytes) ≡ Some head → LawfulReply r n c (r.clients_at n c).asking (spelling (reply_frame (bare_answer head.opcode Einval head.opaque))) (Event.Closed n c ∷ more)
-fault_lawful r n c fault head more none stands named = inr (record { none = none; fault = fault; stands = stands; head = head; named = named; spelled = refl; closes = (more, refl) })
+    → faulty_head fault (behind_frames (r.clients_at n c).asking.bytes) ≡ Some head → AllDurable r.made → LawfulReply r n c (r.clients_at n c).asking (spelling (reply_frame (bare_answer head.opcode Einval head.opaque))) (Event.Closed n c ∷ more)
+fault_lawful r n c fault head more none stands named calm = inr (record { none = none; fault = fault; stands = stands; head = head; named = named; spelled = refl; closes = (more, refl); calm = calm })
 
 module _ (w : PlainWorld) (n c : ℕ) (node : PlainNode) (r : Chronicle) where
   -- the session goes on behind a frame that says nothing of streams
@@ -67,6 +67,7 @@ module _ (w : PlainWorld) (n c : ℕ) (node : PlainNode) (r : Chronicle) where
         lawful = g.lawful;
         agrees = (g.agrees.0, stepped_same w n c node states states client client' so_far g.agrees.0 g.agrees.1 (step_quiet w n c node states states (Some client) (Some client') (λ q. refl)) (λ v id has. inl has) told);
         bytes = subst AreBytes (sym reader) (All-drop (λ b. b < 256) (frame_len f) client.session.reader g.bytes);
+        calm = g.calm;
       }
 
   module _ (stays : StaysSound) (steady : Steady) (clock : ℕ) (small : clock < 2 ^ 64) (before : List Event) (producer : PlainProducer) where
@@ -91,7 +92,7 @@ module _ (w : PlainWorld) (n c : ℕ) (node : PlainNode) (r : Chronicle) where
         let ends : Ends stays steady w r n c clock node (record { session = hand; producer = producer }) before small x =
         subst (λ prog. Ends stays steady w r n c clock node (record { session = hand; producer = producer }) before small (after prog states)) (sym is)
         (request_goes stays steady w r n c clock node (record { session = hand; producer = producer }) before small held.bytes f at.asks.served refl other (states, front_of f s)
-        (record { now = (held.lawful, held.agrees, (at.conn.node, at.conn.number)); next = next; who = refl; closed = refl; reader = refl; free = free; settings = refl }) (first_received s.session.reader f g.bytes first)) in
+        (record { now = (held.lawful, held.agrees, (at.conn.node, at.conn.number)); next = next; who = refl; closed = refl; reader = refl; free = free; settings = refl }) held.calm (first_received s.session.reader f g.bytes first)) in
         InHand.IsOpen (unhanded ∙ none) ends
 
     -- by whether it is a response, and whether DCP has its opcode
@@ -114,7 +115,7 @@ module _ (w : PlainWorld) (n c : ℕ) (node : PlainNode) (r : Chronicle) where
     framed f states s free first (InHand.IsOver none over) = absurd (no_first f s.session.reader over.empty first)
 
     -- what became of a durable write, which is awaited under a number
-    pub outcome_framed : (a : Awaited) (how : Resolution) (states : States) (s : Served) → s.session.awaited ≡ Some a → (a.waiter ≡ 0 → ⊥) → HowTold n (after_lines r (before ++ s.events)).made how → Goes w n c node r states (before ++ s.events) (client_of s) → s.dcp ≡ None
+    pub outcome_framed : (a : Awaited) (how : Resolution) (states : States) (s : Served) → s.session.awaited ≡ Some a → (a.waiter ≡ 0 → ⊥) → HowTold n (after_lines r (before ++ s.events)).made how → Standing w n c node r states (before ++ s.events) (client_of s) → s.dcp ≡ None
         → InHand w n c node r states (went_on before producer (outcome_answered a how s))
     outcome_framed a how states s waits some told g unhanded =
         InHand.IsOpen unhanded (outcome_goes w n c node r a how states before producer s waits some told g)
@@ -139,7 +140,7 @@ module _ (w : PlainWorld) (n c : ℕ) (node : PlainNode) (r : Chronicle) where
         let left = fault_asks (so_far.clients_at n c).asking client.session client.producer.handshake own.asks fault free first in
         let known : ClientKnown = past_answer (so_far.clients_at n c) in (
           before_more r lines end g.lawful
-              (λ more rest. ((λ z. fault_lawful so_far n c fault head more left.0 (ap front_fault left.1 ∙ ap fault_in first) (ap (faulty_head fault) left.1 ∙ named)), (tt, rest))),
+              (λ more rest. ((λ z. fault_lawful so_far n c fault head more left.0 (ap front_fault left.1 ∙ ap fault_in first) (ap (faulty_head fault) left.1 ∙ named) g.calm), (tt, rest))),
           told_more r lines end ∙ ap (λ q. after_line q (Event.Closed n c)) (frame_told n c bytes so_far own.silent)
               ∙ ap (λ table. record so_far { clients_at = table; made = made_line so_far.made (Event.Reply n c []) }) (table_put_twice so_far.clients_at n c known blank_client),
         )

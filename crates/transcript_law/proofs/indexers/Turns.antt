@@ -145,20 +145,17 @@ module _ (P : States × Handling → Type 0) (clock : ℕ)
       let x : States × Served = after run states in
       subst AtRest (sym (after_bind run (handled_on clock client.producer) states)) (on_goes client.producer x.1 x.0 (open_go [] client.producer piece (served client.session []) states alive more))
 
-  outcome_by_goes : (producer : PlainProducer) (r : Resolved) (s : Served) (states : States) (o : Option Awaited) → s.session.awaited ≡ o → P (states, went_on [] producer s)
-      → ((a : Awaited) → s.session.awaited ≡ Some a → a.waiter ≡ r.waiter → P (states, went_on [] producer (outcome_answered a r.how s))) → let x = after (outcome_by clock r s o) states in P (x.0, went_on [] producer x.1)
-  outcome_by_goes producer r s states None e p told = p
-  outcome_by_goes producer r s states (Some a) e p told = by (a.waiter == r.waiter) refl
-    where
-      by : (b : Bool) → (a.waiter == r.waiter) ≡ b → let x = after (if b then turns_handled clock (outcome_answered a r.how s) else Done s) states in P (x.0, went_on [] producer x.1)
-      by true same = turns_go [] producer (outcome_answered a r.how s) states (told a e (eqb-true a.waiter r.waiter same))
-      by false other = p
+  outcome_goes : (producer : PlainProducer) (r : Resolved) (s : Served) (states : States) (a : Awaited) → s.session.awaited ≡ Some a → (a.waiter == r.waiter) ≡ true
+      → P (states, went_on [] producer (outcome_answered a r.how s)) → let x = after (outcome_by clock r s s.session.awaited) states in P (x.0, went_on [] producer x.1)
+  outcome_goes producer r s states a waits same told =
+      subst (λ o. let x = after (outcome_by clock r s o) states in P (x.0, went_on [] producer x.1)) (sym waits)
+      (subst (λ b. let x = after (if b then turns_handled clock (outcome_answered a r.how s) else Done s) states in P (x.0, went_on [] producer x.1)) (sym same) (turns_go [] producer (outcome_answered a r.how s) states told))
 
-  pub posted_goes : (r : Resolved) (client : PlainClient) (states : States) → P (states, started client)
-      → ((a : Awaited) → client.session.awaited ≡ Some a → a.waiter ≡ r.waiter → P (states, went_on [] client.producer (outcome_answered a r.how (served client.session [])))) → AtRest (after (client_posted clock r client) states)
+  pub posted_goes : (r : Resolved) (client : PlainClient) (states : States) (a : Awaited) → client.session.awaited ≡ Some a → (a.waiter == r.waiter) ≡ true
+      → P (states, went_on [] client.producer (outcome_answered a r.how (served client.session []))) → AtRest (after (client_posted clock r client) states)
   unfolding client_posted outcome_handled
-  posted_goes r client states p told =
+  posted_goes r client states a waits same told =
       let run : Prog Served = outcome_handled clock r (served client.session []) in
       let x : States × Served = after run states in
       subst AtRest (sym (after_bind run (handled_on clock client.producer) states))
-      (on_goes client.producer x.1 x.0 (outcome_by_goes client.producer r (served client.session []) states client.session.awaited refl p told))
+      (on_goes client.producer x.1 x.0 (outcome_goes client.producer r (served client.session []) states a waits same told))

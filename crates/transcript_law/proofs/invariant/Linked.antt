@@ -15,6 +15,7 @@ use Rattle.vb_events.specs.declared.event.StreamName.TheVariants as name
 use Rattle.transcript_law.specs.Chronicles.{after_group}
 use Rattle.transcript_law.specs.Prefixes.{world_after}
 use Rattle.node_world.specs.Worlds.{is_off, is_up}
+use Rattle.transcript_law.specs.LawfulAnswers.{AllDurable}
 
 found_has : (id : ℕ) (ss : List Stream) (s : Stream) → stream_at id ss ≡ Some s → Has ss id
 found_has id [] s e = cc
@@ -112,15 +113,15 @@ module _ (w : PlainWorld) (r : Chronicle) (c : Cluster) (a : AgreesIn idle w r c
   }
 
 -- after more lines
-linked_from : (w : PlainWorld) (r : Chronicle) (script : List ScriptLine) → ScriptFits script → IsRanged w → Agrees w r → AllFed w → StreamsAreFed (world_after w script) × LinksAreFed (world_after w script)
+linked_from : (w : PlainWorld) (r : Chronicle) (script : List ScriptLine) → ScriptFits script → IsRanged w → AllDurable r.made → Agrees w r → AllFed w → StreamsAreFed (world_after w script) × LinksAreFed (world_after w script)
 unfolding world_step
-linked_from w r [] fits ranged a fed = (streams_are_fed w r a.0 a.1 fed, links_are_fed w r a.0 a.1)
-linked_from w r (line ∷ lines) fits ranged a fed =
+linked_from w r [] fits ranged calm a fed = (streams_are_fed w r a.0 a.1 fed, links_are_fed w r a.0 a.1)
+linked_from w r (line ∷ lines) fits ranged calm a fed =
     let fit = All-head (λ (x : ScriptLine). VerbFits x.verb) line lines fits in let outcome = verb_step w line.line line.verb in let row : Row w line.verb outcome = row_of w line.line line.verb in
     linked_from (with_branches outcome.1.events outcome.0) (after_group r line.verb outcome.1.events outcome.1.answer) lines (All-tail (λ (x : ScriptLine). VerbFits x.verb) line lines fits)
-    (row.ranged fit ranged) (group_agrees w r line.line line.verb fit ranged a)
+    (row.ranged fit ranged) tt (group_agrees w r line.line line.verb fit ranged calm a)
     (row.fed (record { numbers = numbers_of w.links a.1.differ; fed = fed }) (all_kept w r a.0 a.1))
 
 -- after a script
 pub streams_linked : (script : List ScriptLine) → ScriptFits script → StreamsAreFed (world_of script) × LinksAreFed (world_of script)
-streams_linked script fits = linked_from empty_world empty_chronicle script fits start_ranged start (λ n node is. cc)
+streams_linked script fits = linked_from empty_world empty_chronicle script fits start_ranged tt start (λ n node is. cc)

@@ -20,6 +20,7 @@ use Rattle.transcript_law.proofs.{invariant.Tables.{if_known}, invariant.Trees.{
 use Rattle.{branch_model.specs.Snapshots.{Follows}, cluster_model.specs.Clusters.{IsBranch}}
 use Rattle.{transcript_law.specs.Lawfulness.{IsWriter}, transcript_law.specs.Prefixes.{world_after}}
 use Rattle.{transcript_law.specs.Prefixes.{known_after, ComesFrom, IsActiveOn}}
+use Rattle.transcript_law.specs.LawfulAnswers.{AllDurable}
 
 -- a connection of a node is told as the one that it is
 own_at : (n : ℕ) (o : Option PlainNode) → NodeRangedIf n o → AreOwnIf n o
@@ -157,19 +158,19 @@ module _ (w : PlainWorld) (r : Chronicle) (c : Cluster) (a : AgreesIn idle w r c
   }
 
 -- after more lines
-followed_from : (w : PlainWorld) (r : Chronicle) (script : List ScriptLine) → ScriptFits script → IsRanged w → AreAtRest w → Agrees w r → Entered r
+followed_from : (w : PlainWorld) (r : Chronicle) (script : List ScriptLine) → ScriptFits script → IsRanged w → AreAtRest w → AllDurable r.made → Agrees w r → Entered r
     → AreFollowed (known_after r script (groups_from w script)) (world_after w script)
 unfolding world_step
-followed_from w r [] fits ranged rest a entered = are_followed w r a.0 a.1 entered rest ranged
-followed_from w r (line ∷ lines) fits ranged rest a entered =
+followed_from w r [] fits ranged rest calm a entered = are_followed w r a.0 a.1 entered rest ranged
+followed_from w r (line ∷ lines) fits ranged rest calm a entered =
     let fit = All-head (λ (x : ScriptLine). VerbFits x.verb) line lines fits in let outcome = verb_step w line.line line.verb in let row : Row w line.verb outcome = row_of w line.line line.verb in
-    let went = row.goes r fit ranged a in
-    let r' : Chronicle = after_group r line.verb outcome.1.events outcome.1.answer in let now = group_agrees w r line.line line.verb fit ranged a in
+    let went = row.goes r fit ranged calm a in
+    let r' : Chronicle = after_group r line.verb outcome.1.events outcome.1.answer in let now = group_agrees w r line.line line.verb fit ranged calm a in
     let entries = row.entered r (after_lines (ahead r line.verb outcome.1.answer) outcome.1.events) (lines_entered (ahead r line.verb outcome.1.answer) outcome.1.events (ahead_entered r line.verb outcome.1.answer entered) went.0) in
     followed_from (with_branches outcome.1.events outcome.0) r' lines (All-tail (λ (x : ScriptLine). VerbFits x.verb) line lines fits) (row.ranged fit ranged)
-    (line_rests w r outcome (row.rests r ranged a) a rest (with_branches outcome.1.events outcome.0) r' refl now) now
+    (line_rests w r outcome (row.rests r ranged a) a rest (with_branches outcome.1.events outcome.0) r' refl now) tt now
     (record { disks = entries.disks; logs = entries.logs; streams = entries.streams })
 
 -- after a script
 pub branches_followed : (script : List ScriptLine) → ScriptFits script → AreFollowed (known_of script) (world_of script)
-branches_followed script fits = followed_from empty_world empty_chronicle script fits start_ranged (start_rests empty_world (λ n. refl)) start start_entered
+branches_followed script fits = followed_from empty_world empty_chronicle script fits start_ranged (start_rests empty_world (λ n. refl)) tt start start_entered

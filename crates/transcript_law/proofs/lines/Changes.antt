@@ -8,7 +8,7 @@ use Rattle.transcript_law.specs.{ClientFrames.{setup_after}, ClientStreams.{clie
 use Rattle.client_session.specs.{Serving.{is_dcp}, declared.session.Settings.{Settings}}
 use Rattle.mcbp_kv.specs.Requests.{request_of}
 use Rattle.mcbp_kv.specs.declared.request.KvRequest.TheVariants as request
-use Rattle.transcript_law.specs.LawfulAnswers.{FitsBy, FitsFrame, FitsGet, FitsRequest, IsCommitted, IsMade, IsRefused, IsRefusedDurably, LacksSeqnos, LawfulReply}
+use Rattle.transcript_law.specs.LawfulAnswers.{AllDurable, AnswersFault, FitsBy, FitsFrame, FitsGet, FitsRequest, IsCommitted, IsMade, IsRefused, IsRefusedDurably, LacksSeqnos, LawfulReply}
 use Rattle.transcript_law.specs.LawfulClients.{LawfulClientAsk, RefusesBy}
 use Rattle.transcript_law.specs.LinesTold.{after_client_line, made_line}
 use Rattle.transcript_law.specs.StreamLaws.{GrantsAs, LawfulSaid, LawfulVerdict}
@@ -118,8 +118,9 @@ reply_read q r n c bytes behind s l = ⊎_elim
       opcode = x.opcode;
       opaque = x.opaque;
       fits = frame_read x.question.frame x.answer (q.clients_at n c).asking.settings x.fits;
+      calm = ⊎_elim (λ y. inl y) (λ y. inr (subst AllDurable s.made y)) x.calm;
     }))
-    (λ x. inr x) (subst (λ (k : ClientsKnown). LawfulReply r n c (k n c).asking bytes behind) s.clients l)
+    (λ x. inr (subst (λ made. AnswersFault n c made (q.clients_at n c).asking bytes behind) s.made x)) (subst (λ (k : ClientsKnown). LawfulReply r n c (k n c).asking bytes behind) s.clients l)
   where
     -- of a vBucket
     at : {A : Type 0} {f g : ℕ → ℕ → A} (P : A → Type 0) (v : ℕ) → g ≡ f → P (g n v) → P (f n v)

@@ -33,6 +33,7 @@ reply_more r n c asking bytes behind more l = ⊎_elim
       named = x.named;
       spelled = x.spelled;
       closes = (x.closes.0 ++ more, ap (λ lines. lines ++ more) x.closes.1);
+      calm = x.calm;
     }))
     l
 

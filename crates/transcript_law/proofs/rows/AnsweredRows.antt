@@ -17,7 +17,7 @@ use Rattle.script_text.specs.declared.verb.ClientVerb.TheVariants as client_verb
 use Rattle.script_text.specs.declared.verb.Verb.TheVariants as verb
 use Rattle.transcript_law.proofs.rows.{Groups.{AreParts, in_order, whole as whole_groups}, Sets.{heard_then}, Silent.{AreHeard, heard_all, heard_by, none_next, one_answered, shut_answered, silent_start}}
 use Rattle.transcript_law.specs.AnsweredRows.{brings, durable_bytes, durable_frame, durable_unknown, noop_answered, noop_bytes, noop_frame, response_bytes, sent_alone, sent_shut, set_bytes}
-use Rattle.transcript_law.specs.{ClientRows.{LawfulOpened, hangs, waits}, Crashes.{Said, groups_from_number, numbered, ok}, LawfulAnswers.{FitsFrame, LawfulReply}, Prefixes.{known_after}}
+use Rattle.transcript_law.specs.{ClientRows.{LawfulOpened, hangs, waits}, Crashes.{Said, groups_from_number, numbered, ok}, LawfulAnswers.{AllDurable, FitsFrame, LawfulReply}, Prefixes.{known_after}}
 use Rattle.transcript_law.specs.Questions.{Question, question_of}
 use Rattle.transcript_law.specs.StreamsTold.{Asking}
 use Rattle.transcript_law.specs.Transcripts.{set_frame}
@@ -114,9 +114,9 @@ from_opened lines told o parts heard =
     (heard_then _ _ _ _ _ refl silent_start (λ s. heard_then _ _ _ _ _ refl s (λ s. heard)))
 
 -- NOOP is answered so
-noop_lawful : (r : Chronicle) (k : Asking) (more : List Event) → question_of k ≡ Some (record { before = []; frame = noop_frame }) → k.settings ≡ no_settings → LawfulReply r 0 1 k (spelling (reply_frame (bare_answer NOOP status.Success 9))) more
+noop_lawful : (r : Chronicle) (k : Asking) (more : List Event) → question_of k ≡ Some (record { before = []; frame = noop_frame }) → k.settings ≡ no_settings → AllDurable r.made → LawfulReply r 0 1 k (spelling (reply_frame (bare_answer NOOP status.Success 9))) more
 unfolding request_of requirement_of
-noop_lawful r k more next same = inl (record {
+noop_lawful r k more next same calm = inl (record {
   question = record { before = []; frame = noop_frame };
   next = next;
   answer = reply_frame (bare_answer NOOP status.Success 9);
@@ -125,11 +125,12 @@ noop_lawful r k more next same = inl (record {
   opcode = refl;
   opaque = refl;
   fits = subst (λ s. FitsFrame r 0 s noop_frame (reply_frame (bare_answer NOOP status.Success 9))) (sym same) (record { header = record { magic = refl; opcode = refl; key = refl; datatype = refl; status = refl; opaque = refl; framing = refl }; cas = refl; extras = refl; value = refl });
+  calm = inr calm;
 })
 
 pub answered : LawfulOpened (brings noop_bytes ∷ []) (ok (noop_answered ∷ []) ∷ [])
 unfolding spelling frames_in first_frame frame_of read_of frame_row
-answered = from_opened (brings noop_bytes ∷ []) (ok (noop_answered ∷ []) ∷ []) refl ((((refl, λ z. noop_lawful _ _ _ refl refl), tt), refl, refl), tt)
+answered = from_opened (brings noop_bytes ∷ []) (ok (noop_answered ∷ []) ∷ []) refl ((((refl, λ z. noop_lawful _ _ _ refl refl tt), tt), refl, refl), tt)
     (heard_by _ _ _ _ _ (no_more (brings noop_bytes ∷ []) (ok (noop_answered ∷ []) ∷ []) (λ n c e. rw e refl) refl) (heard_all _))
 
 pub unanswered : LawfulOpened (brings noop_bytes ∷ []) (ok [] ∷ []) → ⊥
@@ -142,7 +143,7 @@ later l = no_noop (l.1.1.0.8 0 1 refl (record { before = []; frame = noop_frame 
 
 pub each : LawfulOpened (brings (noop_bytes ++ noop_bytes) ∷ []) (ok (noop_answered ∷ noop_answered ∷ []) ∷ [])
 unfolding spelling frames_in first_frame frame_of read_of frame_row request_of requirement_of
-each = from_opened (brings (noop_bytes ++ noop_bytes) ∷ []) (ok (noop_answered ∷ noop_answered ∷ []) ∷ []) refl ((((refl, λ z. noop_lawful _ _ _ refl refl), ((refl, λ z. noop_lawful _ _ _ refl refl), tt)), refl, refl), tt)
+each = from_opened (brings (noop_bytes ++ noop_bytes) ∷ []) (ok (noop_answered ∷ noop_answered ∷ []) ∷ []) refl ((((refl, λ z. noop_lawful _ _ _ refl refl tt), ((refl, λ z. noop_lawful _ _ _ refl refl tt), tt)), refl, refl), tt)
     (heard_by _ _ _ _ _ (no_more (brings (noop_bytes ++ noop_bytes) ∷ []) (ok (noop_answered ∷ noop_answered ∷ []) ∷ []) (λ n c e. rw e refl) refl) (heard_all _))
 
 pub one_only : LawfulOpened (brings (noop_bytes ++ noop_bytes) ∷ []) (ok (noop_answered ∷ []) ∷ []) → ⊥
@@ -151,7 +152,7 @@ one_only l = no_noop (l.1.1.0.8 0 1 refl (record { before = []; frame = noop_fra
 
 pub pieces : LawfulOpened (brings (take 23 noop_bytes) ∷ brings (drop 23 noop_bytes) ∷ []) (ok [] ∷ ok (noop_answered ∷ []) ∷ [])
 unfolding spelling frames_in first_frame frame_of read_of frame_row
-pieces = from_opened (brings (take 23 noop_bytes) ∷ brings (drop 23 noop_bytes) ∷ []) (ok [] ∷ ok (noop_answered ∷ []) ∷ []) refl ((tt, refl, refl), ((((refl, λ z. noop_lawful _ _ _ refl refl), tt), refl, refl), tt))
+pieces = from_opened (brings (take 23 noop_bytes) ∷ brings (drop 23 noop_bytes) ∷ []) (ok [] ∷ ok (noop_answered ∷ []) ∷ []) refl ((tt, refl, refl), ((((refl, λ z. noop_lawful _ _ _ refl refl tt), tt), refl, refl), tt))
     (heard_by _ _ _ _ _ (no_more (brings (take 23 noop_bytes) ∷ []) (ok [] ∷ []) (λ n c e. rw e refl) refl)
     (heard_by _ _ _ _ _ (no_more (brings (take 23 noop_bytes) ∷ brings (drop 23 noop_bytes) ∷ []) (ok [] ∷ ok (noop_answered ∷ []) ∷ []) (λ n c e. rw e refl) refl) (heard_all _)))
 
@@ -183,6 +184,7 @@ durable_later = from_opened (brings durable_bytes ∷ waits ∷ []) (ok [] ∷ o
             opcode = refl;
             opaque = refl;
             fits = inr (inr (inr (record { header = record { magic = refl; opcode = refl; key = refl; datatype = refl; status = refl; opaque = refl; framing = refl }; cas = refl; extras = refl; value = refl })));
+            calm = inr tt;
           }),
         ),
         tt,

@@ -40,7 +40,7 @@ again = lawful_from_heard save_again (save_again_groups (found_closed [])) refl 
     (
       ((omega arith, tt), ((refl, (omega arith, omega arith)), (_, refl)), refl),
       (
-        ((search (arith, second_next), ((refl, λ z. next_told _ _ _ _ (nine_sent (read.clients_at 0 1) seven_past) refl refl), tt)), refl, refl),
+        ((search (arith, second_next), ((refl, λ z. next_told _ _ _ (nine_sent (read.clients_at 0 1) seven_past) refl refl), tt)), refl, refl),
         (((record { idle = refl; goes_on = omega arith; held = omega arith; starts = omega arith; ends = omega arith; some = omega arith; most = omega arith }, tt), refl, refl), ((tt, (refl, (_, refl)), refl), tt)),
       ),
     ),

@@ -37,7 +37,7 @@ read = known_after empty_chronicle (one_made []) (one_made_groups [])
 pub lawful_from_heard : (more : List Verb) (told : List Said) → in_order read (numbered 5 more) (groups_from_number 5 told) ≡ true → AreParts read (numbered 5 more) (groups_from_number 5 told)
     → (Silent read.clients_at → (read.clients_at 0 1).asking ≡ blank_asking → AreHeard read (numbered 5 more) (groups_from_number 5 told)) → LawfulAfter more told
 lawful_from_heard more told o l heard = whole empty_chronicle (one_made more) (one_made_groups told) o
-    ((tt, tt, refl), ((tt, refl, refl), (((record { new = tt; newest = refl; last = refl; leaves = refl }, (record { another = λ e. cc; anew = λ e. refl }, tt)), (refl, tt), refl), (((first_change _ _ _ _, ((refl, λ z. first_told _ _ _ _ refl refl refl), tt)), refl, refl), l))))
+    ((tt, tt, refl), ((tt, refl, refl), (((record { new = tt; newest = refl; last = refl; leaves = refl }, (record { another = λ e. cc; anew = λ e. refl }, tt)), (refl, tt), refl), (((first_change _ _ _ _, ((refl, λ z. first_told _ _ _ refl refl refl), tt)), refl, refl), l))))
     (heard_then _ _ _ _ _ refl silent_start (λ s. heard_then _ _ _ _ _ refl s (λ s. heard_then _ _ _ _ _ refl s (λ s. seven_then _ 4 4 5 _ one_change _ _ refl refl s heard))))
 
 -- where no client sends more, none is left without an answer
@@ -322,7 +322,7 @@ found_active l = not_active l.1.1.1.1.1.1.1.1.0.0.0.role
 
 pub on_new : LawfulAfter set_restarted (set_restarted_groups 7)
 on_new = lawful_from_heard set_restarted (set_restarted_groups 7) refl
-    (taken, ((tt, ((refl, tt), (_, refl)), refl), (((refl, tt), one_closed, refl), (((record { new = (λ e. omega arith, tt); newest = refl; last = refl; leaves = refl }, tt), ((λ v e. first v (branch_line 0 1 ∷ []) (λ f. no_role Role.Active (rw f at e)) (inl (refl, refl))), tt), refl), ((tt, refl, refl), (((search (arith, second_next), ((refl, λ z. next_told _ _ _ _ refl refl refl), tt)), refl, refl), tt))))))
+    (taken, ((tt, ((refl, tt), (_, refl)), refl), (((refl, tt), one_closed, refl), (((record { new = (λ e. omega arith, tt); newest = refl; last = refl; leaves = refl }, tt), ((λ v e. first v (branch_line 0 1 ∷ []) (λ f. no_role Role.Active (rw f at e)) (inl (refl, refl))), tt), refl), ((tt, refl, refl), (((search (arith, second_next), ((refl, λ z. next_told _ _ _ refl refl refl), tt)), refl, refl), tt))))))
     (λ s e. heard_then _ _ _ _ _ refl s (λ s. heard_then _ _ _ _ _ refl s (λ s. heard_then _ _ _ _ _ refl s (λ s. heard_then _ _ _ _ _ refl s (λ s. heard_then _ _ _ _ _ refl s (λ s. nine_then _ 10 10 7 _ next_change _ _ refl refl s (λ s e. silent_heard _ _ _ s refl)))))))
 
 pub on_old : LawfulAfter set_restarted (set_restarted_groups 5) → ⊥

@@ -1,5 +1,5 @@
 -- what a client is told of a set, in transcripts that are judged by hand
-use Rattle.std.specs.Prelude.{◌≡◌, ◌∷◌, ◌++◌}
+use Rattle.std.specs.Prelude.{◌≡◌, ◌⊎◌, ◌∷◌, ◌++◌}
 use Rattle.std.specs.FinMap.{get}
 use Rattle.std.proofs.Math.Seq.{drop-append_seam}
 use Rattle.transcript_law.proofs.Words.{ℕ, true, List, [], refl, sym, ap, ◌∙◌, subst, inl, inr, arith, append-nil, drop, length, Some, None, Branch, Change, Chronicle, Event, Group, IsKey, IsValue, ScriptLine, first_doc, grow, image_of, next_change, one_change}
@@ -20,9 +20,9 @@ use Rattle.vb_types.specs.declared.write.Op.TheVariants as op
 use Rattle.transcript_law.proofs.rows.{Fitted.{sets_ask}, NextRows.{nine_none, none_stored}, Silent.{Silent, group_silent, sends_none, silent_answered, twice_silent}}
 unfoldable use Rattle.transcript_law.proofs.rows.Silent.{AreHeard}
 use Rattle.transcript_law.specs.ClientStreams.{ClientKnown, ClientsKnown, blank_client, clients_frame, with_client, with_sent_bytes}
-use Rattle.transcript_law.specs.LawfulAnswers.{FitsFrame, FitsRequest, IsMade, LawfulReply}
+use Rattle.transcript_law.specs.LawfulAnswers.{AllDurable, FitsFrame, FitsRequest, IsMade, IsOutcome, LawfulReply}
 use Rattle.transcript_law.specs.LawfulClients.{IsActive}
-use Rattle.transcript_law.specs.{Chronicles.{after_group}, LinesTold.{OwnChange}}
+use Rattle.transcript_law.specs.Chronicles.{after_group}
 use Rattle.transcript_law.specs.Questions.{Question, first_question, past_answer, past_question, past_question_if, question_end, question_of, settings_by}
 use Rattle.transcript_law.specs.StreamsTold.{Asking, blank_asking, no_setup}
 use Rattle.transcript_law.specs.Transcripts.{group_done, set_frame, set_line, set_write}
@@ -73,11 +73,12 @@ module _ (key value : List ℕ) (k : IsKey key) (v : IsValue value) where
           opcode = refl;
           opaque = refl;
           fits = subst (λ (a : Asking). FitsFrame r 0 a.settings (set_frame key value) g) (sym sent) (subst (FitsRequest r 0 no_settings (set_frame key value) g) (sym (sets_ask key value k v).1) (inr made));
+          calm = subst (λ (a : Asking). IsOutcome a.settings (set_frame key value) g ⊎ AllDurable r.made) (sym sent) (inl (set_write key value, None, (sets_ask key value k v).1, inl refl));
         })
 
     -- it was refused for want of seqnos
-    pub set_refused : IsActive (r.role_at 0 0) → LawfulReply r 0 1 (r.clients_at 0 1).asking (spelling (reply_frame (bare_answer SET status.Etmpfail 9))) behind
-    set_refused active =
+    pub set_refused : IsActive (r.role_at 0 0) → AllDurable r.made → LawfulReply r 0 1 (r.clients_at 0 1).asking (spelling (reply_frame (bare_answer SET status.Etmpfail 9))) behind
+    set_refused active calm =
         let g : Frame = reply_frame (bare_answer SET status.Etmpfail 9) in
         inl (record {
           question = asks_set key value;
@@ -92,6 +93,7 @@ module _ (key value : List ℕ) (k : IsKey key) (v : IsValue value) where
             record { header = record { magic = refl; opcode = refl; key = refl; datatype = refl; status = refl; opaque = refl; framing = refl }; cas = refl; extras = refl; value = refl },
             record { away = λ no. absurd (no active); locked = λ on waits. inr (inr refl); unfit = λ on none. inr refl },
           )));
+          calm = inr calm;
         })
 
   -- ---- behind its line
@@ -119,11 +121,11 @@ stored_so : (cas : ℕ) → IsStored (reply_frame (stored_answer SET 9 cas [])) 
 stored_so cas = record { header = record { magic = refl; opcode = refl; key = refl; datatype = refl; status = refl; opaque = refl; framing = refl }; cas = refl; extras = refl; value = refl }
 
 -- the change is its own, of what its vBucket held before
-told_of : (r : Chronicle) (key value : List ℕ) (k : IsKey key) (v : IsValue value) (behind : List Event) (b cas : ℕ) (change : Change) (older : List OwnChange) (before : List Change) → (r.clients_at 0 1).asking ≡ sent_set key value
-    → r.made ≡ record { node = 0; vb = 0; branch = b; change = change } ∷ older → r.held 0 0 ≡ before ++ change ∷ [] → change.key ≡ key → change.act ≡ act_of op.Set (written_doc (set_write key value) cas 1) → doc_refusal op.Set 0 (get (image_of before).docs key) ≡ None
+told_of : (r : Chronicle) (key value : List ℕ) (k : IsKey key) (v : IsValue value) (behind : List Event) (b cas : ℕ) (change : Change) (before : List Change) → (r.clients_at 0 1).asking ≡ sent_set key value
+    → r.made ≡ record { node = 0; vb = 0; branch = b; change = change } ∷ [] → r.held 0 0 ≡ before ++ change ∷ [] → change.key ≡ key → change.act ≡ act_of op.Set (written_doc (set_write key value) cas 1) → doc_refusal op.Set 0 (get (image_of before).docs key) ≡ None
     → LawfulReply r 0 1 (r.clients_at 0 1).asking (spelling (reply_frame (stored_answer SET 9 cas []))) behind
-told_of r key value k v behind b cas change older before sent made held same act free =
-    set_made key value k v r behind sent cas (record { branch = b; change = change; older = older; last = made; key = same; cas = cas; rev = 1; act = act; before = before; behind = held; fits = free; told = stored_so cas })
+told_of r key value k v behind b cas change before sent made held same act free =
+    set_made key value k v r behind sent cas (record { branch = b; change = change; older = []; last = made; alone = tt; key = same; cas = cas; rev = 1; act = act; before = before; behind = held; fits = free; told = stored_so cas })
 
 -- the key 7 is set by a first change, and the key 9 behind that
 seven_key : IsKey (7 ∷ [])
@@ -135,13 +137,13 @@ nine_key = (omega arith, omega arith)
 one_value : (b : ℕ) → IsValue (b ∷ [])
 one_value b = omega arith
 
-pub first_told : (r : Chronicle) (behind : List Event) (b : ℕ) (older : List OwnChange) → (r.clients_at 0 1).asking ≡ sent_set (7 ∷ []) (8 ∷ []) → r.made ≡ record { node = 0; vb = 0; branch = b; change = one_change } ∷ older → r.held 0 0 ≡ one_change ∷ []
+pub first_told : (r : Chronicle) (behind : List Event) (b : ℕ) → (r.clients_at 0 1).asking ≡ sent_set (7 ∷ []) (8 ∷ []) → r.made ≡ record { node = 0; vb = 0; branch = b; change = one_change } ∷ [] → r.held 0 0 ≡ one_change ∷ []
     → LawfulReply r 0 1 (r.clients_at 0 1).asking (spelling (reply_frame (stored_answer SET 9 1 []))) behind
-first_told r behind b older sent made held = told_of r (7 ∷ []) (8 ∷ []) seven_key (one_value 8) behind b 1 one_change older [] sent made held refl refl (ap (doc_refusal op.Set 0) (none_stored (7 ∷ [])))
+first_told r behind b sent made held = told_of r (7 ∷ []) (8 ∷ []) seven_key (one_value 8) behind b 1 one_change [] sent made held refl refl (ap (doc_refusal op.Set 0) (none_stored (7 ∷ [])))
 
-pub next_told : (r : Chronicle) (behind : List Event) (b : ℕ) (older : List OwnChange) → (r.clients_at 0 1).asking ≡ sent_set (9 ∷ []) (6 ∷ []) → r.made ≡ record { node = 0; vb = 0; branch = b; change = next_change } ∷ older → r.held 0 0 ≡ one_change ∷ next_change ∷ []
+pub next_told : (r : Chronicle) (behind : List Event) (b : ℕ) → (r.clients_at 0 1).asking ≡ sent_set (9 ∷ []) (6 ∷ []) → r.made ≡ record { node = 0; vb = 0; branch = b; change = next_change } ∷ [] → r.held 0 0 ≡ one_change ∷ next_change ∷ []
     → LawfulReply r 0 1 (r.clients_at 0 1).asking (spelling (reply_frame (stored_answer SET 9 2 []))) behind
-next_told r behind b older sent made held = told_of r (9 ∷ []) (6 ∷ []) nine_key (one_value 6) behind b 2 next_change older (one_change ∷ []) sent made held refl refl (ap (doc_refusal op.Set 0) (nine_none (first_doc 1 (8 ∷ []))))
+next_told r behind b sent made held = told_of r (9 ∷ []) (6 ∷ []) nine_key (one_value 6) behind b 2 next_change (one_change ∷ []) sent made held refl refl (ap (doc_refusal op.Set 0) (nine_none (first_doc 1 (8 ∷ []))))
 
 -- what is asked behind the first of them, and with the second
 pub seven_past : (past_answer (with_sent_bytes (spelling (set_frame (7 ∷ []) (8 ∷ []))) blank_client)).asking ≡ blank_asking
@@ -151,8 +153,8 @@ pub nine_sent : (known : ClientKnown) → known.asking ≡ blank_asking → (wit
 nine_sent known blank = ap (λ (a : Asking). record a { bytes = a.bytes ++ spelling (set_frame (9 ∷ []) (6 ∷ [])) }) blank
 
 -- the key 7 is to be set, and there is no seqno left for it
-pub first_refused : (r : Chronicle) (behind : List Event) → (r.clients_at 0 1).asking ≡ sent_set (7 ∷ []) (8 ∷ []) → IsActive (r.role_at 0 0) → LawfulReply r 0 1 (r.clients_at 0 1).asking (spelling (reply_frame (bare_answer SET status.Etmpfail 9))) behind
-first_refused r behind sent active = set_refused (7 ∷ []) (8 ∷ []) seven_key (one_value 8) r behind sent active
+pub first_refused : (r : Chronicle) (behind : List Event) → (r.clients_at 0 1).asking ≡ sent_set (7 ∷ []) (8 ∷ []) → IsActive (r.role_at 0 0) → AllDurable r.made → LawfulReply r 0 1 (r.clients_at 0 1).asking (spelling (reply_frame (bare_answer SET status.Etmpfail 9))) behind
+first_refused r behind sent active calm = set_refused (7 ∷ []) (8 ∷ []) seven_key (one_value 8) r behind sent active calm
 
 -- ---- transcripts with sets
 

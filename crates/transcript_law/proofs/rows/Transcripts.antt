@@ -60,7 +60,7 @@ first_change d a k q = record { active = refl; writer = record { made_or_took = 
 
 pub right : Lawful one_set (one_set_groups 1 0 (value_lines (8 ∷ [])))
 right = both empty_chronicle one_set (one_set_groups 1 0 (value_lines (8 ∷ []))) refl
-    (tt, (tt, ((record { new = tt; newest = refl; last = refl; leaves = refl }, (record { another = λ e. cc; anew = λ e. refl }, tt)), ((first_change _ _ _ _, ((refl, λ z. first_told _ _ _ _ refl refl refl), tt)), ((shown _ _ _ refl refl refl refl image refl refl as_set (λ _. refl) (λ _. refl), (tt, tt)), tt)))))
+    (tt, (tt, ((record { new = tt; newest = refl; last = refl; leaves = refl }, (record { another = λ e. cc; anew = λ e. refl }, tt)), ((first_change _ _ _ _, ((refl, λ z. first_told _ _ _ refl refl refl), tt)), ((shown _ _ _ refl refl refl refl image refl refl as_set (λ _. refl) (λ _. refl), (tt, tt)), tt)))))
     (tt, (refl, ((refl, tt), (refl, (tt, tt))))) (refl, (refl, (refl, (refl, (refl, tt)))))
     (heard_then _ _ _ _ _ refl silent_start (λ s. heard_then _ _ _ _ _ refl s (λ s. heard_then _ _ _ _ _ refl s (λ s. seven_then _ 4 4 5 _ one_change _ _ refl refl s (λ s e. silent_heard _ _ _ s refl)))))
 
@@ -111,7 +111,7 @@ from_two : (more : List ScriptLine) (groups : List Group) → (let read : Chroni
 from_two more groups heard = heard_then _ _ _ _ _ refl silent_start (λ s. heard_then _ _ _ _ _ refl s (λ s. heard_then _ _ _ _ _ refl s (λ s. heard_then _ _ _ _ _ refl s heard)))
 
 pub own : Lawful (two_vbs 6 set_one) (two_vbs_groups 6 (sets_groups (change_line 0 ∷ [])))
-own = both empty_chronicle (two_vbs 6 set_one) (two_vbs_groups 6 (sets_groups (change_line 0 ∷ []))) refl (tt, (tt, ((record { new = tt; newest = refl; last = refl; leaves = refl }, (record { another = λ e. cc; anew = λ e. refl }, tt)), (second_new _ _ _ _ refl, ((change_of_two _ _ _ _, ((refl, λ z. first_told _ _ _ _ refl refl refl), tt)), tt))))) (tt, (refl, ((refl, tt), ((refl, tt), (refl, tt))))) (refl, (refl, (refl, (refl, (refl, tt))))) (from_two _ _ (λ s. seven_then _ 5 5 5 _ one_change _ _ refl refl s (λ s e. silent_heard _ _ _ s refl)))
+own = both empty_chronicle (two_vbs 6 set_one) (two_vbs_groups 6 (sets_groups (change_line 0 ∷ []))) refl (tt, (tt, ((record { new = tt; newest = refl; last = refl; leaves = refl }, (record { another = λ e. cc; anew = λ e. refl }, tt)), (second_new _ _ _ _ refl, ((change_of_two _ _ _ _, ((refl, λ z. first_told _ _ _ refl refl refl), tt)), tt))))) (tt, (refl, ((refl, tt), ((refl, tt), (refl, tt))))) (refl, (refl, (refl, (refl, (refl, tt))))) (from_two _ _ (λ s. seven_then _ 5 5 5 _ one_change _ _ refl refl s (λ s e. silent_heard _ _ _ s refl)))
 
 pub writer : Lawful (two_vbs 6 set_one) (two_vbs_groups 6 (sets_groups (change_line 1 ∷ []))) → ⊥
 writer l = two_writers l.1.1.1.1.0.0.0.writer.made_or_took
@@ -130,7 +130,7 @@ at_fork l = let low = l.above_forks.0 refl in omega arith
 
 pub same : Lawful (two_vbs 6 set_dead_and_show) (two_vbs_groups 6 (shown_after_change 5))
 same = both empty_chronicle (two_vbs 6 set_dead_and_show) (two_vbs_groups 6 (shown_after_change 5)) refl
-    (tt, (tt, ((record { new = tt; newest = refl; last = refl; leaves = refl }, (record { another = λ e. cc; anew = λ e. refl }, tt)), (second_new _ _ _ _ refl, ((change_of_two _ _ _ _, ((refl, λ z. first_told _ _ _ _ refl refl refl), tt)), ((record { another = λ e. cc; anew = λ e. cc }, tt), ((shown _ _ _ refl refl refl refl image refl refl as_set (λ _. refl) (λ e. cc), (tt, tt)), tt)))))))
+    (tt, (tt, ((record { new = tt; newest = refl; last = refl; leaves = refl }, (record { another = λ e. cc; anew = λ e. refl }, tt)), (second_new _ _ _ _ refl, ((change_of_two _ _ _ _, ((refl, λ z. first_told _ _ _ refl refl refl), tt)), ((record { another = λ e. cc; anew = λ e. cc }, tt), ((shown _ _ _ refl refl refl refl image refl refl as_set (λ _. refl) (λ e. cc), (tt, tt)), tt)))))))
     (tt, (refl, ((refl, tt), ((refl, tt), (refl, ((refl, tt), (tt, tt))))))) (refl, (refl, (refl, (refl, (refl, (refl, (refl, tt)))))))
     (from_two _ _ (λ s. seven_then _ 5 5 5 _ one_change _ _ refl refl s (λ s e. silent_heard _ _ _ s refl)))
 
@@ -139,7 +139,7 @@ history l = let e : ◌≡◌ {A = List Change} [] (one_change ∷ []) = (l.1.1.
 
 pub dead : Lawful (two_vbs 6 set_dead_and_show) (two_vbs_groups 6 (shown_dead 5))
 dead = both empty_chronicle (two_vbs 6 set_dead_and_show) (two_vbs_groups 6 (shown_dead 5)) refl
-    (tt, (tt, ((record { new = tt; newest = refl; last = refl; leaves = refl }, (record { another = λ e. cc; anew = λ e. refl }, tt)), (second_new _ _ _ _ refl, (((refl, λ z. first_refused _ _ refl refl), tt), ((record { another = λ e. cc; anew = λ e. cc }, tt), ((shown _ _ _ refl refl refl refl nothing refl refl as_made (λ _. refl) (λ e. cc), tt), tt)))))))
+    (tt, (tt, ((record { new = tt; newest = refl; last = refl; leaves = refl }, (record { another = λ e. cc; anew = λ e. refl }, tt)), (second_new _ _ _ _ refl, (((refl, λ z. first_refused _ _ refl refl tt), tt), ((record { another = λ e. cc; anew = λ e. cc }, tt), ((shown _ _ _ refl refl refl refl nothing refl refl as_made (λ _. refl) (λ e. cc), tt), tt)))))))
     (tt, (refl, ((refl, tt), ((refl, tt), (refl, ((refl, tt), (tt, tt))))))) (refl, (refl, (refl, (refl, (refl, (refl, (refl, tt)))))))
     (from_two _ _ (λ s. seven_refused_then _ 5 5 _ _ _ refl refl s (λ s. silent_heard _ _ _ s refl)))
 

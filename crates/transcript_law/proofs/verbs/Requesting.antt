@@ -2,13 +2,14 @@
 use Rattle.std.specs.Prelude.{◌≡◌, ◌<◌, ◌^◌, ◌++◌, ◌==◌, if◌then◌else◌}
 use Rattle.transcript_law.proofs.Words.{ℕ, Bool, true, false, List, [], refl, ap, sym, ◌∙◌, subst, inl, append_assoc, All-append, Option, Some, None, is_some, eq-eqb, eqb-true, Answer, AreBytes, StaysSound, States, after, left_open, PlainNode, PlainWorld, with_node_at, bytes_if, bytes_at, Chronicle, after_lines}
 use Rattle.client_session.specs.Serving.{PlainSession, served}
+use Rattle.client_session.specs.declared.session.Awaited.{Awaited}
 use Rattle.node_core.specs.Clients.{Handling, PlainClient, client_fed, client_posted}
 use Rattle.transcript_law.proofs.disks.Disks.{beside_in, power_in}
 use Rattle.transcript_law.proofs.answers.Committed.{HowTold}
-use Rattle.transcript_law.proofs.indexers.{Hands.{Goes, InHand, Over, by_hand, mine}, Passed.{passed}, Questions.{more_asks}, Serving.{session_agrees}, SessionFrames.{faulty, framed, outcome_framed}, Shutting.{over}, Turns.{fed_goes, posted_goes}, Worlds.{client_here, node_with, step_quiet, stepped, vb_here, world_with}}
+use Rattle.transcript_law.proofs.indexers.{Hands.{Goes, InHand, Standing, Over, by_hand, mine}, Passed.{passed}, Questions.{more_asks}, Serving.{session_agrees}, SessionFrames.{faulty, framed, outcome_framed}, Shutting.{over}, Turns.{fed_goes, posted_goes}, Worlds.{client_here, node_with, step_quiet, stepped, vb_here, world_with}}
 use Rattle.transcript_law.proofs.invariant.{Agreement.{Agrees, GoesOn, is_down, power_of}, ClientsTold.{ClientAgrees}, Ranged.{NodeRanged, SessionRangedIf}, Sessions.{IsNumbered, awaited_numbered}, Tables.{at_here}}
 use Rattle.transcript_law.proofs.{lines.Telling.{LawfulBefore, before_all, none_before}, verbs.{NodeLines.{agrees_same, as_told, node_again, node_of_same_vbs, refused_on}, Settling.{Steady}}}
-use Rattle.transcript_law.specs.{Chronicles.{after_bytes}, ClientStreams.{with_sent_bytes}, StreamsTold.{ClientKnown}}
+use Rattle.transcript_law.specs.{Chronicles.{after_bytes}, LawfulAnswers.{AllDurable}, ClientStreams.{with_sent_bytes}, StreamsTold.{ClientKnown}}
 use Rattle.vb_calls.specs.declared.calls.Resolved.{Resolved}
 use Rattle.vb_events.specs.declared.event.Cause.TheVariants.{LinkClosed}
 
@@ -71,17 +72,17 @@ module _ (stays : StaysSound) (steady : Steady) (w : PlainWorld) (n c : ℕ) (no
         let x = after (client_fed node.clock bytes client) node.vbs in came x.0 x.1 rests.1 rests.0
 
     -- an outcome
-    pub posted_comes : (client : PlainClient) (o : Resolved) → IsNumbered client.session.awaited → HowTold n r.made o.how → Goes w n c node r node.vbs [] client → Comes (after (client_posted node.clock o client) node.vbs)
-    posted_comes client o numbered told g =
+    pub posted_comes : (client : PlainClient) (o : Resolved) (a : Awaited) → client.session.awaited ≡ Some a → (a.waiter == o.waiter) ≡ true → IsNumbered client.session.awaited → HowTold n r.made o.how → Standing w n c node r node.vbs [] client → Comes (after (client_posted node.clock o client) node.vbs)
+    posted_comes client o a waits same numbered told g =
         let rests = posted_goes P node.clock (λ before producer f states s. framed w n c node r stays steady node.clock small before producer f states s) (λ before producer fault states s. faulty w n c node r before producer fault states s)
-        (λ f states h. passed w n c node r running f states h) (λ states h. over w n c node r states h) o client node.vbs (InHand.IsOpen refl g)
-        (λ a e same. outcome_framed w n c node r stays steady node.clock small [] client.producer a o.how node.vbs (served client.session []) e (awaited_numbered client.session a numbered e) told g refl) in
+        (λ f states h. passed w n c node r running f states h) (λ states h. over w n c node r states h) o client node.vbs a waits same
+        (outcome_framed w n c node r stays steady node.clock small [] client.producer a o.how node.vbs (served client.session []) waits (awaited_numbered client.session a numbered waits) told g refl) in
         let x = after (client_posted node.clock o client) node.vbs in came x.0 x.1 rests.1 rests.0
 
 -- more bytes came, and are known
-more_goes : (w : PlainWorld) (r : Chronicle) (n c : ℕ) (node : PlainNode) (client : PlainClient) (bytes : List ℕ) → AreBytes client.session.reader → AreBytes bytes → Agrees (world_with w n c node node.vbs (Some client)) r
+more_goes : (w : PlainWorld) (r : Chronicle) (n c : ℕ) (node : PlainNode) (client : PlainClient) (bytes : List ℕ) → AreBytes client.session.reader → AreBytes bytes → AllDurable r.made → Agrees (world_with w n c node node.vbs (Some client)) r
     → Goes w n c node (after_bytes r n c bytes Answer.Ok) node.vbs [] (record client { session = record client.session { reader = client.session.reader ++ bytes } })
-more_goes w r n c node client bytes kept more a =
+more_goes w r n c node client bytes kept more calm a =
     let session : PlainSession = record client.session { reader = client.session.reader ++ bytes } in
     let client' : PlainClient = record client { session = session } in
     let old : PlainWorld = world_with w n c node node.vbs (Some client) in let new : PlainWorld = world_with w n c node node.vbs (Some client') in
@@ -95,17 +96,18 @@ more_goes w r n c node client bytes kept more a =
       lawful = none_before (after_bytes r n c bytes Answer.Ok);
       agrees = (a.0, stepped w n c node node.vbs node.vbs client client' r known a.0 a.1 step (λ v id has. inl has) told);
       bytes = All-append (λ b. b < 256) client.session.reader bytes kept more;
+      calm = calm;
     }
 
 -- `bytes N C HEX`
-pub bytes_goes : StaysSound → Steady → (w : PlainWorld) (r : Chronicle) (n c : ℕ) (bytes : List ℕ) (node : PlainNode) → AreBytes bytes → NodeRanged n node → Agrees w r → w.nodes n ≡ Some node
+pub bytes_goes : StaysSound → Steady → (w : PlainWorld) (r : Chronicle) (n c : ℕ) (bytes : List ℕ) (node : PlainNode) → AreBytes bytes → NodeRanged n node → AllDurable r.made → Agrees w r → w.nodes n ≡ Some node
     → GoesOn (after_bytes r n c bytes (bytes_at c bytes node).1.answer) as_told (with_node_at w n (bytes_at c bytes node).0, (bytes_at c bytes node).1)
-bytes_goes stays steady w r n c bytes node are ranged a known = by (node.clients c) refl (ranged.clients c)
+bytes_goes stays steady w r n c bytes node are ranged calm a known = by (node.clients c) refl (ranged.clients c)
   where
     by : (o : Option PlainClient) → node.clients c ≡ o → SessionRangedIf n o → (let x = bytes_if c bytes node o in GoesOn (after_bytes r n c bytes x.1.answer) as_told (with_node_at w n x.0, x.1))
     by None none there = refused_on w r n node LinkClosed a known
     by (Some client) is there =
         let here : Agrees (world_with w n c node node.vbs (Some client)) r = put_client w r n c node client known is a in
         let own : ClientAgrees (world_with w n c node node.vbs (Some client)) r n c client = here.1.clients.each n c client (client_here w n c node node.vbs (Some client)) in
-        let came = fed_comes stays steady w n c node ranged.clock (runs_with n c node client is ranged) (after_bytes r n c bytes Answer.Ok) client bytes own.alive (more_goes w r n c node client bytes there.bytes are here) in
+        let came = fed_comes stays steady w n c node ranged.clock (runs_with n c node client is ranged) (after_bytes r n c bytes Answer.Ok) client bytes own.alive (more_goes w r n c node client bytes there.bytes are calm here) in
         (before_all (after_bytes r n c bytes Answer.Ok) (bytes_if c bytes node (Some client)).1.events came.lawful, came.agrees)
