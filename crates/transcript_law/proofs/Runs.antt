@@ -1,9 +1,9 @@
 -- each script's transcript is lawful
 use Rattle.std.specs.Prelude.{◌≡◌, ◌∷◌, ◌++◌, ◌==◌, if◌then◌else◌}
-use Rattle.{branch_model.specs.Journals.{place_of}, transcript_law.specs.Chronicles.{Conns, Dial, DiskKnown, Flushing, after_group, after_lines, ahead, conns_lines, conns_verb}, vb_calls.specs.Shelves.{Flush, Idle, Out, Written, Shelf}, vb_types.specs.declared.journal.Batch.{Batch}}
+use Rattle.{branch_model.specs.Journals.{place_of}, transcript_law.specs.Chronicles.{Dial, DiskKnown, Flushing, after_group, after_lines, ahead, conns_lines, conns_verb}, vb_calls.specs.Shelves.{Flush, Idle, Out, Written, Shelf}, vb_types.specs.declared.journal.Batch.{Batch}}
 use Rattle.node_world.specs.{Nodes.{shelf_or_blank}, Rests.{Rests, RestsIf}, Worlds.{arm_in}}
 use Rattle.transcript_law.proofs.{invariant.Agreement.{DiskIsIf, IsArm, PowerIsIf, shelf_of, vb_of}, disks.ArmedSteps.{shut_in}, disks.Disks.{FlushIs, ShelfIs, parts_of, power_in}, disks.Flushed.{told_flush}, verbs.LineAnswers.{AllTold, ArmKnown, DisksTold, ShutTold}}
-use Rattle.transcript_law.proofs.Words.{ℕ, Bool, true, false, List, [], refl, ap, sym, ◌∙◌, subst, inl, arith, Option, Some, None, ne_eqb, All-nil, All-head, All-tail, ScriptLine, Verb}
+use Rattle.transcript_law.proofs.Words.{ℕ, Bool, true, false, List, [], refl, ap, sym, ◌∙◌, subst, arith, Option, Some, None, ne_eqb, All-nil, All-head, All-tail, ScriptLine, Verb}
 use Rattle.transcript_law.proofs.Words.{VerbFits, ScriptFits, Change, Plain, PlainNode, hist, PlainWorld, empty_world}
 use Rattle.transcript_law.proofs.Words.{with_branches, verb_step, world_step, groups_from, groups, Chronicle, empty_chronicle, after_verb, LawfulGroups, Lawful, RefusedLinesKeep, start_sound}
 use Rattle.transcript_law.proofs.Words.{consumer_node, option_map}
@@ -14,7 +14,7 @@ use Rattle.transcript_law.proofs.invariant.Ranged.{IsRanged, start_ranged}
 use Rattle.transcript_law.proofs.Words.{StreamName}
 use Rattle.transcript_law.specs.Feeding.{HasFed}
 use Rattle.transcript_law.proofs.{invariant.ClientWorlds.{ConnsAre, start_conns}, invariant.Clients.{line_heard}, lines.Heard.{lines_heard}}
-use Rattle.transcript_law.proofs.indexers.Beside.{beside}
+use Rattle.transcript_law.proofs.{answers.Rests.{all_answered}, indexers.Beside.{beside}}
 use Rattle.cluster_model.specs.Clusters as cluster
 use Rattle.transcript_law.specs.LawfulAnswers.{AllDurable}
 
@@ -143,7 +143,11 @@ lawful_from w r (line ∷ lines) fits ranged are calm a =
     let outcome = verb_step w line.line line.verb in
     let row : Row w line.verb outcome = row_of w line.line line.verb in
     let told : AsTold w r = as_told_of w r are ranged a in
-    let went = row.goes r fit ranged calm a in let heard = line_heard r.conn_at w line.line are line.verb fit in (
+    let went = row.goes r fit ranged calm a in let heard = line_heard r.conn_at w line.line are line.verb fit in
+    let later : PlainWorld = with_branches outcome.1.events outcome.0 in
+    let known : Chronicle = after_group r line.verb outcome.1.events outcome.1.answer in
+    let later_ranged : IsRanged later = row.ranged fit ranged in
+    let later_agrees : Agrees later known = group_agrees w r line.line line.verb fit ranged calm a in (
       (
         lines_heard (ahead r line.verb outcome.1.answer) r.conn_at outcome.1.events went.0 heard.0,
         row.bound r a (row.told r fit told).0,
@@ -153,9 +157,9 @@ lawful_from w r (line ∷ lines) fits ranged are calm a =
         row.tells ranged,
         line_asked w r line.line line.verb ranged a,
         leaves_none w line.line line.verb r ranged a,
+        all_answered later known later_agrees later_ranged heard.1,
       ),
-      lawful_from (with_branches outcome.1.events outcome.0) (after_group r line.verb outcome.1.events outcome.1.answer) lines (All-tail (λ (x : ScriptLine). VerbFits x.verb) line lines fits)
-          (row.ranged fit ranged) heard.1 tt (group_agrees w r line.line line.verb fit ranged calm a),
+      lawful_from later known lines (All-tail (λ (x : ScriptLine). VerbFits x.verb) line lines fits) later_ranged heard.1 tt later_agrees,
     )
 
 -- the transcript of a script is lawful

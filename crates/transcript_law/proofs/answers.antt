@@ -5,4 +5,5 @@ pub mod Statuses
 pub mod Awaited
 pub mod Explained
 pub mod Committed
+pub mod Rests
 pub mod Calm

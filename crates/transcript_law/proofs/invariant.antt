@@ -22,6 +22,7 @@ pub mod Ranged
 pub mod Rearming
 pub mod Resting
 pub mod Seats
+pub mod Keeping
 pub mod Sessions
 pub mod Tables
 pub mod Trees

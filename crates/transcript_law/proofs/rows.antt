@@ -22,6 +22,9 @@ pub mod FollowerRows
 pub mod Followers
 pub mod AskedTests
 pub mod AskedRows
+pub mod AnsweredRows
+pub mod Silent
+pub mod Sets
 pub mod Groups
 pub mod JournalRows
 pub mod Rollbacks

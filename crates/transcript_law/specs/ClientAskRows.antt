@@ -89,6 +89,10 @@ that_sent streams bytes = record (with_streams streams) { bytes = bytes; asking 
 abbrev pub unopened : List ℕ → ClientKnown
 unopened bytes = record blank_client { bytes = bytes; asking = record blank_asking { bytes = bytes } }
 
+-- the first of them, where each of its frames was answered, and none asked for a stream
+abbrev pub that_asked : (ℕ → Option ClientStream) → List ℕ → ClientKnown
+that_asked streams bytes = record (with_streams streams) { bytes = bytes }
+
 -- none
 abbrev pub none : ℕ → Option ClientStream
 none v = None

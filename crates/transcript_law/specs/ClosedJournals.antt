@@ -20,7 +20,7 @@ use Rattle.vb_types.specs.declared.role.Role.TheVariants as role
 use Rattle.transcript_law.specs.Chronicles.{Chronicle, after_dial, blank_disk, empty_chronicle, with_point}
 use Rattle.transcript_law.specs.Crashes.{Said, branch_line, crashed, dead_line, failed_behind, numbered, ok, restarted, groups_from_number, took}
 use Rattle.transcript_law.specs.Followers.{next_change}
-use Rattle.transcript_law.specs.Transcripts.{set_frame}
+use Rattle.transcript_law.specs.Transcripts.{set_frame, set_told}
 
 -- these lines, answered that the journal is closed
 abbrev pub found_closed : List Event → Said
@@ -37,7 +37,7 @@ save_again =
 
 abbrev pub save_again_groups : Said → List Said
 save_again_groups last =
-    took ∷ ok [] ∷ failed_behind [] ∷ ok (event.Changed 0 0 5 next_change ∷ []) ∷ (event.Batch 0 0 2 2 2 1 ∷ [], answer.Number 1) ∷ last ∷ []
+    took ∷ ok [] ∷ failed_behind [] ∷ ok (event.Changed 0 0 5 next_change ∷ set_told 2 ∷ []) ∷ (event.Batch 0 0 2 2 2 1 ∷ [], answer.Number 1) ∷ last ∷ []
 
 -- the same batch is taken again, as if it was given up
 abbrev pub save_twice : List Verb

@@ -23,7 +23,7 @@ use Rattle.vb_calls.specs.Plain.{Plain}
 use Rattle.transcript_law.specs.Chronicles.{Chronicle, blank_disk, empty_chronicle, after_lines, after_dial}
 use Rattle.transcript_law.specs.Followers.{after_both, next_change, log_of, ask_above, made_from, made_ask_lines, after_got, based, both_changed, granted_lines, adopted_lines, both_sent_lines}
 use Rattle.transcript_law.specs.Rollbacks.{rolled_lines, made_log, after_active, after_dead}
-use Rattle.transcript_law.specs.Transcripts.{active_vb_lines, first_doc, script_line, set_line, group_done, group_answered, change_line, one_change, value_lines}
+use Rattle.transcript_law.specs.Transcripts.{active_vb_lines, first_doc, script_line, set_line, set_told, group_done, group_answered, change_line, one_change, value_lines}
 
 -- what was read when the active vBucket of the branch 5, which has no change yet, holds a later change than its first one
 abbrev pub later_held : Chronicle
@@ -126,7 +126,7 @@ set_and_sealed =
 -- what is told of that script, with these answers of the seals
 abbrev pub sealed_groups : ℕ → ℕ → List Group
 sealed_groups first next =
-    group_done 1 [] ∷ group_done 2 [] ∷ group_done 3 (active_vb_lines 0 5) ∷ group_done 4 (change_line 0 ∷ [])
+    group_done 1 [] ∷ group_done 2 [] ∷ group_done 3 (active_vb_lines 0 5) ∷ group_done 4 (change_line 0 ∷ set_told 1 ∷ [])
     ∷ group_answered 5 [] (answer.Number first) ∷ group_answered 6 [] (answer.Number next) ∷ []
 
 -- what was read when the vBucket 0 made a change and was dead then

@@ -29,7 +29,7 @@ use Rattle.transcript_law.specs.Followers.{next_change}
 use Rattle.transcript_law.specs.Journals.{within}
 use Rattle.transcript_law.specs.Lawfulness.{Lawful}
 use Rattle.transcript_law.specs.Rollbacks.{made_log}
-use Rattle.transcript_law.specs.Transcripts.{first_doc, script_line, set_frame, set_line, group_answered, group_done, active_vb_lines, change_line, shown_with_change, value_lines}
+use Rattle.transcript_law.specs.Transcripts.{first_doc, script_line, set_frame, set_line, set_told, group_answered, group_done, active_vb_lines, change_line, shown_with_change, value_lines}
 
 -- what is told of a line: its event lines and its answer
 abbrev pub Said : Type 0
@@ -58,7 +58,7 @@ one_made more =
 -- what is told of that script
 abbrev pub one_made_groups : List Said → List Group
 one_made_groups more =
-    group_done 1 [] ∷ group_done 2 [] ∷ group_done 3 (active_vb_lines 0 5) ∷ group_done 4 (change_line 0 ∷ []) ∷ groups_from_number 5 more
+    group_done 1 [] ∷ group_done 2 [] ∷ group_done 3 (active_vb_lines 0 5) ∷ group_done 4 (change_line 0 ∷ set_told 1 ∷ []) ∷ groups_from_number 5 more
 
 -- that transcript is lawful
 abbrev pub LawfulAfter : List Verb → List Said → Type 0
@@ -191,7 +191,7 @@ abbrev pub set_restarted : List Verb
 set_restarted = to_save ++ verb.AtNode 0 (node_verb.Crash Old) ∷ verb.AtNode 0 (node_verb.Start (7 ∷ [])) ∷ verb.AtClient 0 1 client_verb.Open ∷ verb.AtClient 0 1 (client_verb.Bytes (spelling (set_frame (9 ∷ []) (6 ∷ [])))) ∷ []
 
 abbrev pub set_restarted_groups : ℕ → List Said
-set_restarted_groups uuid = saved_groups ++ crashed ∷ restarted 1 ∷ ok [] ∷ ok (event.Changed 0 0 uuid next_change ∷ []) ∷ []
+set_restarted_groups uuid = saved_groups ++ crashed ∷ restarted 1 ∷ ok [] ∷ ok (event.Changed 0 0 uuid next_change ∷ set_told 2 ∷ []) ∷ []
 
 -- the key 9 is prepared, and committed, as a prepare of this seqno
 abbrev pub prepared : Change

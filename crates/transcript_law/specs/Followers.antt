@@ -31,7 +31,7 @@ use Rattle.vb_calls.specs.Plain.{Plain, new_vb}
 use Rattle.node_world.specs.World.{PlainWorld, empty_world, with_node_at, empty_node}
 use Rattle.transcript_law.specs.Chronicles.{Chronicle, empty_chronicle, after_lines, after_dial}
 use Rattle.transcript_law.specs.LineAnswers.{frames_in_lines}
-use Rattle.transcript_law.specs.Transcripts.{script_line, set_line, set_write, group_answered, group_done, active_vb_lines, first_doc, one_change, change_line}
+use Rattle.transcript_law.specs.Transcripts.{script_line, set_line, set_told, set_write, group_answered, group_done, active_vb_lines, first_doc, one_change, change_line}
 
 -- two keys are set on the branch 5, and a replica at the node 1 follows over the link 1, whose window is small, and is shown
 abbrev pub two_followed : List ScriptLine
@@ -135,12 +135,12 @@ abbrev pub show_answer : List Event → Answer
 show_answer [] = answer.No cause.UnknownVb
 show_answer (line ∷ lines) = answer.Ok
 
--- what is told of that script, but for replies and counts of bytes: lines of the request, of the log taken over, of snapshots as sent and as got, and of the replica
+-- what is told of that script, but for counts of bytes: lines of the request, of the log taken over, of snapshots as sent and as got, and of the replica
 abbrev pub followed_groups : List Event → List Event → List Event → List Event → List Event → List Group
 followed_groups asked adopted sent got shown =
     group_done 1 [] ∷ group_done 2 [] ∷ group_done 3 []
     ∷ group_done 4 (active_vb_lines 0 5) ∷ group_done 5 (event.Role 1 0 role.Replica ∷ [])
-    ∷ group_done 6 (take 1 both_changed) ∷ group_done 7 (drop 1 both_changed)
+    ∷ group_done 6 (take 1 both_changed ++ set_told 1 ∷ []) ∷ group_done 7 (drop 1 both_changed ++ set_told 2 ∷ [])
     ∷ group_done 8 [] ∷ group_answered 9 asked (answer.Number 100) ∷ group_answered 10 adopted (answer.Number 100)
     ∷ group_answered 11 sent (answer.Pulled (frames_in_lines sent) why.Full) ∷ group_answered 12 got (answer.Number 100) ∷ group_answered 13 shown (show_answer shown) ∷ []
 

@@ -42,9 +42,11 @@ pub mod MessageRows
 pub mod Effects
 pub mod RefusalRows
 pub mod Tellings
+pub mod Unanswered
 pub mod Undone
 pub mod UndoneRows
 pub mod TellingRows
+pub mod AnsweredRows
 pub mod Asked
 pub mod AskedRows
 pub mod FeedingRows

@@ -5,6 +5,8 @@ use Rattle.mcbp_frame.specs.declared.frame.Frame.{Frame}
 use Rattle.mcbp_frame.specs.declared.frame.TheConstants.{REQUEST}
 use Rattle.mcbp_frame.specs.Cutting.{frames_in}
 use Rattle.mcbp_frame.specs.Spelling.{spelling}
+use Rattle.mcbp_kv.specs.Answers.{bare_answer, stored_answer}
+use Rattle.mcbp_kv.specs.Replies.{reply_frame}
 use Rattle.mcbp_kv.specs.Requests.{request_of}
 use Rattle.mcbp_kv.specs.declared.request.KvRequest.TheVariants as request
 use Rattle.mcbp_kv.specs.declared.opcodes.TheConstants.{SET}
@@ -24,6 +26,7 @@ use Rattle.vb_events.specs.declared.event.Event.TheVariants as event
 use Rattle.vb_events.specs.declared.event.Group.{Group}
 use Rattle.vb_types.specs.declared.role.Role.{Role}
 use Rattle.vb_types.specs.declared.role.Role.TheVariants as role
+use Rattle.vb_types.specs.declared.status.Status.TheVariants as status
 use Rattle.vb_types.specs.declared.write.Op.TheVariants as op
 use Rattle.vb_types.specs.declared.write.Write.{Write}
 use Rattle.transcript_law.specs.Chronicles.{Chronicle, empty_chronicle, after_lines}
@@ -54,6 +57,13 @@ set_frame key value = record {
 -- the line of this number sets a key at the vBucket 0 of the node 0
 abbrev pub set_line : ℕ → List ℕ → List ℕ → ScriptLine
 set_line number key value = script_line number (verb.AtClient 0 1 (client_verb.Bytes (spelling (set_frame key value))))
+
+-- what the client is told of it: that it was made, with this CAS value; or that no seqno is left for it
+abbrev pub set_told : ℕ → Event
+set_told cas = event.Reply 0 1 (spelling (reply_frame (stored_answer SET 9 cas [])))
+
+abbrev pub set_refused : Event
+set_refused = event.Reply 0 1 (spelling (reply_frame (bare_answer SET status.Etmpfail 9)))
 
 -- a frame that sets a key is whole, and asks for that write
 abbrev pub SetLinesAsk : Type 0
@@ -98,11 +108,11 @@ one_set =
     script_line 1 (verb.Node 0) ∷ script_line 2 (verb.AtClient 0 1 client_verb.Open) ∷ script_line 3 (verb.AtVb 0 0 (vb_verb.MakeActive 5))
     ∷ set_line 4 (7 ∷ []) (8 ∷ []) ∷ script_line 5 (verb.AtVb 0 0 vb_verb.Show) ∷ []
 
--- what is told of that script, but for the reply: its `shown` line counts so many documents and prepares, and has these lines behind it
+-- what is told of that script: its `shown` line counts so many documents and prepares, and has these lines behind it
 abbrev pub one_set_groups : ℕ → ℕ → List Event → List Group
 one_set_groups docs preps lines =
     group_done 1 [] ∷ group_done 2 [] ∷ group_done 3 (active_vb_lines 0 5)
-    ∷ group_done 4 (change_line 0 ∷ []) ∷ group_done 5 (shown_with_change role.Active 5 docs preps lines) ∷ []
+    ∷ group_done 4 (change_line 0 ∷ set_told 1 ∷ []) ∷ group_done 5 (shown_with_change role.Active 5 docs preps lines) ∷ []
 
 -- two active vBuckets of the node 0, the second on this branch
 abbrev pub two_vbs : ℕ → List ScriptLine → List ScriptLine
@@ -119,9 +129,9 @@ two_vbs_groups uuid more =
 abbrev pub set_one : List ScriptLine
 set_one = set_line 5 (7 ∷ []) (8 ∷ []) ∷ []
 
--- the line of the set tells these changes
+-- the line of the set tells these changes, and then that it was made
 abbrev pub sets_groups : List Event → List Group
-sets_groups changes = group_done 5 changes ∷ []
+sets_groups changes = group_done 5 (changes ++ set_told 1 ∷ []) ∷ []
 
 -- the key 7 is set there, and the vBucket is shown; or it turns dead before that
 abbrev pub set_and_show : List ScriptLine
@@ -136,15 +146,15 @@ both_on_one = record (after_lines empty_chronicle (active_vb_lines 0 5 ++ active
 
 -- after its change the vBucket 0 is dead, and is shown with this newest branch
 abbrev pub shown_after_change : ℕ → List Group
-shown_after_change uuid = group_done 5 (change_line 0 ∷ []) ∷ group_done 6 (event.Role 0 0 role.Dead ∷ []) ∷ group_done 7 (shown_with_change role.Dead uuid 1 0 (value_lines (8 ∷ []))) ∷ []
+shown_after_change uuid = group_done 5 (change_line 0 ∷ set_told 1 ∷ []) ∷ group_done 6 (event.Role 0 0 role.Dead ∷ []) ∷ group_done 7 (shown_with_change role.Dead uuid 1 0 (value_lines (8 ∷ []))) ∷ []
 
 -- with no change it is dead, and is shown with this newest branch
 abbrev pub shown_dead : ℕ → List Group
-shown_dead uuid = group_done 5 [] ∷ group_done 6 (event.Role 0 0 role.Dead ∷ []) ∷ group_done 7 (event.Shown 0 0 role.Dead uuid 0 0 0 0 0 ∷ []) ∷ []
+shown_dead uuid = group_done 5 (set_refused ∷ []) ∷ group_done 6 (event.Role 0 0 role.Dead ∷ []) ∷ group_done 7 (event.Shown 0 0 role.Dead uuid 0 0 0 0 0 ∷ []) ∷ []
 
 -- with no change it is shown as the active one that it is, with this newest branch
 abbrev pub shown_active : ℕ → List Group
-shown_active uuid = group_done 5 [] ∷ group_done 6 (event.Shown 0 0 role.Active uuid 0 0 0 0 0 ∷ []) ∷ []
+shown_active uuid = group_done 5 (set_refused ∷ []) ∷ group_done 6 (event.Shown 0 0 role.Active uuid 0 0 0 0 0 ∷ []) ∷ []
 
 -- what was read when the vBucket 1 is put on the branch 7, which was made from the branch 5 at this seqno
 abbrev pub forked_at : ℕ → Chronicle

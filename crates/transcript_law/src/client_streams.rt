@@ -1,7 +1,7 @@
 //! What a transcript tells of the streams of clients, lawfully or not.
 
 ghost use Rattle.std.specs.Prelude.{ℕ, List, [], ◌∷◌, ◌++◌, codes, take, true, false, replicate};
-ghost use Rattle.transcript_law.specs.ClientAskRows.{AsksSync, LawfulAsked, LawfulPulled, LawfulStory, all_lines, asked, asked_at, asked_by, bytes_of, client_asks, client_counts, client_ends, client_gives, client_hears, client_marks, closes_first, closing, closing_typed, flagged, goes_as, hangs_up, idle, indexed, moved, naming, none, opening, opens_first, other_marked, past_both, pulls, puts, requesting, requesting_typed, resting, sends_none, serving, syncing, taking_over, that_sent, ticks, typed_close_refused, typed_refused, unanswered, unopened, asked_forked, forked, sends_rest};
+ghost use Rattle.transcript_law.specs.ClientAskRows.{AsksSync, LawfulAsked, LawfulPulled, LawfulStory, all_lines, asked, asked_at, asked_by, bytes_of, client_asks, client_counts, client_ends, client_gives, client_hears, client_marks, closes_first, closing, closing_typed, flagged, goes_as, hangs_up, idle, indexed, moved, naming, none, opening, opens_first, other_marked, past_both, pulls, puts, requesting, requesting_typed, resting, sends_none, serving, syncing, taking_over, that_asked, that_sent, ticks, typed_close_refused, typed_refused, unanswered, unopened, asked_forked, forked, sends_rest};
 ghost use Rattle.transcript_law.specs.AskedRows.{marks_of, pump_one, up_one};
 ghost use Rattle.transcript_law.specs.BoundRows.{LawfulHere};
 ghost use Rattle.transcript_law.specs.Chronicles.{Chronicle};
@@ -294,7 +294,7 @@ pub fn judged_client_pulls()
     ensures turns { LawfulPulled two (with_streams (one (moved (inside true all_changes two 0 2 (first_item ∷ next_item ∷ []))))) idle → ⊥ }
     ensures inactive { LawfulHere (resting two (with_streams (one (inside true all_changes two 0 2 (first_item ∷ next_item ∷ []))))) pulls idle → ⊥ }
     ensures over { LawfulPulled two (with_streams (one (finished (fresh true all_changes)))) idle }
-    ensures closed { LawfulPulled two (that_sent (one (fresh true all_changes)) (closing 0)) idle }
+    ensures closed { LawfulPulled two (that_asked (one (fresh true all_changes)) (closing 0)) idle }
     ensures prepare { LawfulPulled pending (with_streams (one (inside true all_changes pending 0 1 (first_item ∷ [])))) idle → ⊥ }
     ensures plain_prepare { LawfulPulled pending (with_streams (one (inside false all_changes pending 0 1 (first_item ∷ [])))) idle }
 {}

@@ -12,7 +12,8 @@ ghost use Rattle.vb_events.specs.declared.event.Event.TheVariants as event;
 
 /// A connection that is open is told closed, or answered what its client asked. Not lawful is that of one
 /// that was never opened, of one of that number at another node, and of one that is not open any more: it
-/// was told closed before, in the same group or in an earlier one, or its client hung up.
+/// was told closed before, in the same group or in an earlier one, or its client hung up. Nor is an
+/// answer lawful that comes with a later line, as the first one leaves its client without it.
 pub fn judged_client_lines()
     ensures closed { LawfulOpened (sends 1 ∷ []) (ok (closes 0 1 ∷ []) ∷ []) }
     ensures closed_other { LawfulOpened (sends 1 ∷ []) (ok (closes 0 2 ∷ []) ∷ []) → ⊥ }
@@ -27,7 +28,7 @@ pub fn judged_client_lines()
     ensures reply_other { (bytes : List ℕ) → LawfulOpened (asks 1 ∷ []) (ok (replies 0 2 bytes ∷ closes 0 1 ∷ []) ∷ []) → ⊥ }
     ensures reply_elsewhere { (bytes : List ℕ) → LawfulOpened (asks 1 ∷ []) (ok (replies 1 1 bytes ∷ closes 0 1 ∷ []) ∷ []) → ⊥ }
     ensures reply_behind { (bytes : List ℕ) → LawfulOpened (asks 1 ∷ []) (ok (closes 0 1 ∷ replies 0 1 bytes ∷ []) ∷ []) → ⊥ }
-    ensures reply_later { LawfulOpened (asks 1 ∷ waits ∷ []) (ok [] ∷ ok (replies 0 1 (nooped 9) ∷ []) ∷ []) }
+    ensures reply_later { LawfulOpened (asks 1 ∷ waits ∷ []) (ok [] ∷ ok (replies 0 1 (nooped 9) ∷ []) ∷ []) → ⊥ }
     ensures reply_closed { (bytes : List ℕ) → LawfulOpened (asks 1 ∷ waits ∷ []) (ok (closes 0 1 ∷ []) ∷ ok (replies 0 1 bytes ∷ []) ∷ []) → ⊥ }
     ensures reply_hung { (bytes : List ℕ) → LawfulOpened (asks 1 ∷ hangs 1 ∷ waits ∷ []) (ok [] ∷ ok [] ∷ ok (replies 0 1 bytes ∷ []) ∷ []) → ⊥ }
 {}

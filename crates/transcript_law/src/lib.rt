@@ -4,6 +4,7 @@
 #![tactic(auto)]
 
 mod alone;
+mod answered;
 mod asked;
 mod balances;
 mod bound;
@@ -29,6 +30,7 @@ mod undone;
 mod untold;
 
 pub use alone::{judged_single_changes, judged_single_links, judged_single_streams};
+pub use answered::judged_unanswered;
 pub use asked::{judged_link_ends, judged_start_ids, judged_told_answers, judged_turns};
 pub use balances::{balances_in_numbers, windows_balance};
 pub use bound::{judged_closed_links, judged_down_lines};

@@ -197,9 +197,10 @@ pub fn judged_faults()
     ensures part { LawfulTo [] (take 23 broken) (says NOOP status.Einval ∷ shuts ∷ []) → ⊥ }
 {}
 
-/// So it is in whole groups: an answer comes in the group of the bytes that ask, or behind a later line,
-/// and not without a question; not to what was sent before the connection was opened anew; and a write is
-/// told made or committed by a change of its own group alone.
+/// So it is in whole groups: an answer comes in the group of the bytes that ask, or behind a later line
+/// that ends a wait, and then in one group with all others that waited behind it; not without a question,
+/// nor to what was sent before the connection was opened anew; and a write is told made or committed by a
+/// change of its own group alone.
 pub fn judged_answer_lines()
     ensures here { LawfulNext [] [] (comes (noop 9)) (ok (answers 9 ∷ [])) }
     ensures unasked { LawfulNext [] [] sends_none (ok (answers 9 ∷ [])) → ⊥ }
@@ -207,7 +208,7 @@ pub fn judged_answer_lines()
     ensures twice { LawfulNext [] [] (comes (noop 9)) (ok (answers 9 ∷ answers 9 ∷ [])) → ⊥ }
     ensures pieces { LawfulNext [] (take 7 (noop 9)) (comes (drop 7 (noop 9))) (ok (answers 9 ∷ [])) }
     ensures waited { LawfulNext [] (noop 9) ticks (ok (answers 9 ∷ [])) }
-    ensures each { LawfulTicks [] (noop 8 ++ noop 9) (ok (answers 8 ∷ []) ∷ ok (answers 9 ∷ []) ∷ []) }
+    ensures each { LawfulTicks [] (noop 8 ++ noop 9) (ok (answers 8 ∷ []) ∷ ok (answers 9 ∷ []) ∷ []) → ⊥ }
     ensures again { LawfulTicks [] (noop 9) (ok (answers 9 ∷ []) ∷ ok (answers 9 ∷ []) ∷ []) → ⊥ }
     ensures made { LawfulNext [] [] (comes (writes SET 0 7 8)) (ok (makes one_change ∷ stores SET 1 [] ∷ [])) }
     ensures made_before { LawfulTicks [] (writes SET 0 7 8) (ok (makes one_change ∷ []) ∷ ok (stores SET 1 [] ∷ []) ∷ []) → ⊥ }

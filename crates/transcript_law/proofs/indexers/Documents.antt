@@ -6,7 +6,7 @@ use Rattle.transcript_law.proofs.Words.{Sound, StaysSound, PlainSession, request
 use Rattle.transcript_law.proofs.{Words.{LawfulFrom}, invariant.Seats.{seat}, invariant.Agreement.{Agrees, AgreesIn, idle}, invariant.Carrying.{Changed}, lines.Lines.{lawful_more}, verbs.NodeLines.{agrees_same, node_again, node_grown, put_same, shelves_again}}
 use Rattle.transcript_law.proofs.answers.{Calm.{OfDurable, durable_settled, durable_told}, Committed.{HowTold, all_told}, Explained.{IsExplained, explained, outcome_in}}
 use Rattle.transcript_law.proofs.answers.Fits.{KnownAs, Repeats, durable_away, durable_over, durable_refused_fits, frame_fits, is_outcome, get_away, get_fits, has_opcode, known_as, made_fits, not_here, outcome_fits, outcome_repeats, refused_fits, reply_repeats, status_fits, status_repeats, stored_repeats, value_repeats, welcome_fits, write_away}
-use Rattle.transcript_law.proofs.{invariant.ClientsTold.{IsDurableFrame}, invariant.Sessions.{Received}, invariant.Tables.{at_here}, indexers.{Hands.{Goes, Standing, answered_goes, calmly, session_goes, stands}, Questions.{awaited_asks, awaited_next, in_hand}, Worlds.{vb_here}}, verbs.Settling.{SettlesOn, Steady, changes_quiet, changes_told, settles}}
+use Rattle.transcript_law.proofs.{invariant.Sessions.{Received}, invariant.Tables.{at_here}, indexers.{Hands.{Goes, Standing, answered_goes, calmly, session_goes, stands}, Questions.{awaited_asks, awaited_next, in_hand}, Worlds.{vb_here}}, verbs.Settling.{SettlesOn, Steady, changes_quiet, changes_told, settles}}
 use Rattle.transcript_law.proofs.{lines.Telling.{LawfulBefore, before_more, told_more}, verbs.Writing.{change_fits, has_room, is_lawful, mine as mine_vb, newest, prepare_fits, prepare_fulfils, prepare_unheld, room_for_two, store_taken, write_fulfils, write_unheld, written}}
 use Rattle.client_session.specs.Answers.{status_reply, stored_reply, value_reply, reply_to, reply_line, reply_lines, change_lines, request_lines}
 use Rattle.client_session.specs.Serving.{MOST_DURABLE, Served, awaited_by, deadline_of, durable_called, durable_replied, next_waiter, outcome_of, outcome_reply, outcome_answered, answered_or_awaited, refused, served, settings_of, with_lines, with_used}
@@ -19,7 +19,7 @@ use Rattle.vb_calls.specs.declared.calls.{Resolution.{Resolution}}
 use Rattle.vb_calls.specs.declared.calls.VbCall.TheVariants.{Durable, Get, Store}
 use Rattle.node_core.specs.Clients.{PlainClient}
 use Rattle.mcbp_kv.specs.declared.durable.Durability.{Durability}
-use Rattle.transcript_law.specs.{LawfulAnswers.{AllDurable, FitsFrame, FitsRequest, IsOutcome}, LawfulClients.{IsActive}, LawfulMessages.{Moment, moment_of}, Questions.{Question, question_of, settings_after, settings_by}, LinesTold.{OwnChange}, StreamsTold.{ClientsKnown, with_at}}
+use Rattle.transcript_law.specs.{LawfulAnswers.{AllDurable, FitsFrame, FitsRequest, IsOutcome}, LawfulClients.{IsActive}, LawfulMessages.{Moment, moment_of}, Questions.{Question, question_of, settings_after, settings_by}, LinesTold.{OwnChange}, StreamsTold.{ClientsKnown, with_at}, Unanswered.{AsksDurably}}
 use Rattle.mcbp_kv.specs.Replies.{reply_frame}
 use Rattle.vb_types.specs.declared.status.Status.TheVariants.{Etmpfail, NotMyVbucket, Success}
 use Rattle.mcbp_kv.specs.declared.request.KvRequest.TheVariants as request
@@ -200,12 +200,12 @@ module _ (stays : StaysSound) (steady : Steady) (w : PlainWorld) (r : Chronicle)
       status_goes asked st is set fits calm = answered asked is x.1.session refl refl refl held.free set (status_reply f st) (status_repeats f st) fits (inr calm)
 
     -- a durable write is awaited
-    awaits : (x : States × Served) → Held x → AllDurable (so_far x).made → (a : Awaited) → a.opcode ≡ f.opcode → a.opaque ≡ f.opaque → IsDurableFrame x.1.session.settings f → Ends (x.0, record x.1 { session = record x.1.session { awaited = Some a } })
+    awaits : (x : States × Served) → Held x → AllDurable (so_far x).made → (a : Awaited) → a.opcode ≡ f.opcode → a.opaque ≡ f.opaque → AsksDurably x.1.session.settings f → Ends (x.0, record x.1 { session = record x.1.session { awaited = Some a } })
     awaits x held calm a code number durable =
         let g : Standing w n c base r x.0 (before ++ x.1.events) client = goes_of x x.0 (λ q. refl) held.now in
         let session : PlainSession = record x.1.session { awaited = Some a } in
         calmly w n c base r (session_goes w n c base r g session held.who held.closed held.reader
-        (awaited_asks ((so_far x).clients_at n c).asking client.session session client.producer.handshake (stands w n c base r g).asks f a ahead hand held.next held.reader held.settings refl code number (subst (λ s. IsDurableFrame s f) held.settings durable))) calm
+        (awaited_asks ((so_far x).clients_at n c).asking client.session session client.producer.handshake (stands w n c base r g).asks f a ahead hand held.next held.reader held.settings refl code number (subst (λ s. AsksDurably s f) held.settings durable))) calm
 
     -- its outcome is told at once, or awaited
     prepared_goes : (x : States × Served) → Held x → AllDurable (so_far x).made → (a : Awaited) → a.opcode ≡ f.opcode → a.opaque ≡ f.opaque → (write : Write) (wish : Durability) → request_of x.1.session.settings.json f ≡ Ok (request.Write write (Some wish)) → (how : Option Resolution)
@@ -394,7 +394,7 @@ outcome_goes w n c base r a how states before producer s waits some told g =
     let f : Frame = o.question.frame in
     let settings : Settings = (so.clients_at n c).asking.settings in
     let same : settings ≡ s.session.settings = own.asks.settings in
-    let durable : IsDurableFrame settings f = o.durable some in
+    let durable : AsksDurably settings f = o.durable some in
     let reply : KvReply = outcome_reply s.session.settings a how in
     let repeats : Repeats f (reply_frame reply) = outcome_repeats s.session.settings f a how o.opcode o.opaque in
     let moment : Moment = moment_of (so.clients_at n c) (so.clients_at n c).asking o.question in

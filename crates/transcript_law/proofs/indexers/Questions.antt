@@ -12,10 +12,11 @@ use Rattle.dcp_producer.specs.declared.desk.Handshake.{Handshake}
 use Rattle.mcbp_frame.proofs.{Cases.{front, length-spelling}, Pieces.{first-spelling}, Cutting.{frames-none, frames-one}}
 use Rattle.mcbp_frame.specs.{Cutting.{frame_in, frames_in}, Frames.{first_frame, frame_len}}
 use Rattle.transcript_law.proofs.indexers.Known.{frames_more, no_frames, setup_more}
-use Rattle.transcript_law.proofs.invariant.ClientsTold.{AreAnswered, AreFrames, AskingIs, IsDurableFrame, IsOpenQuestion, setup_of}
+use Rattle.transcript_law.proofs.invariant.ClientsTold.{AreAnswered, AskingIs, IsOpenQuestion, setup_of}
 use Rattle.transcript_law.specs.ClientFrames.{message_of, set_by, setup_after}
 use Rattle.transcript_law.specs.Questions.{Question, behind_frames, behind_other, first_question, past_question, question_end, question_of, settings_after, wants_answer}
 use Rattle.transcript_law.specs.StreamsTold.{Asking, Setup}
+use Rattle.transcript_law.specs.Unanswered.{AsksDurably}
 
 -- ---- among frames
 
@@ -77,7 +78,7 @@ pub all_frames : (k : Asking) (session : PlainSession) (set : Handshake) (x : As
 all_frames k session set x = ap frames_in x.bytes ∙ x.frames.cut session.reader
 
 -- nothing is awaited: each one that was served is answered
-none_open : (k : Asking) (session : PlainSession) (set : Handshake) (x : AskingIs k session set) → session.awaited ≡ None → first_question k.setup x.served ≡ None
+pub none_open : (k : Asking) (session : PlainSession) (set : Handshake) (x : AskingIs k session set) → session.awaited ≡ None → first_question k.setup x.served ≡ None
 none_open k session set x free = subst (λ o. AreAnswered o k x.served) free x.answered
 
 -- what is awaited is to be answered next
@@ -159,7 +160,7 @@ more_asks k session set piece x = record {
 
 -- a durable write that was being answered is awaited
 pub awaited_asks : (k : Asking) (session after : PlainSession) (set : Handshake) (x : AskingIs k session set) (f : Frame) (a : Awaited) (before : List Frame) → session.awaited ≡ Some (in_hand f) → question_of k ≡ Some (record { before = before; frame = f })
-    → after.reader ≡ session.reader → after.settings ≡ session.settings → after.awaited ≡ Some a → a.opcode ≡ f.opcode → a.opaque ≡ f.opaque → IsDurableFrame session.settings f → AskingIs k after set
+    → after.reader ≡ session.reader → after.settings ≡ session.settings → after.awaited ≡ Some a → a.opcode ≡ f.opcode → a.opaque ≡ f.opaque → AsksDurably session.settings f → AskingIs k after set
 awaited_asks k session after set x f a before hand next reader settings waits code number durable =
     let (o, is) = awaited_next k session set x (in_hand f) hand in
     let both : Some o.question ≡ Some (record { before = before; frame = f }) = sym is ∙ next in
@@ -177,7 +178,7 @@ awaited_asks k session after set x f a before hand next reader settings waits co
         last = o.last;
         opcode = code ∙ ap (λ (g : Frame). g.opcode) (sym same);
         opaque = number ∙ ap (λ (g : Frame). g.opaque) (sym same);
-        durable = λ some. subst (IsDurableFrame k.settings) (sym same) (subst (λ s. IsDurableFrame s f) (sym x.settings) durable);
+        durable = λ some. subst (AsksDurably k.settings) (sym same) (subst (λ s. AsksDurably s f) (sym x.settings) durable);
       });
     }
 

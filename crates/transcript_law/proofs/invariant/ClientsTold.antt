@@ -1,19 +1,14 @@
 -- what is known of a client's connection agrees with its session and its producer, and its streams are those of its node's vBuckets
-use Rattle.std.specs.Prelude.{◌≡◌, ◌≤◌, ◌<◌, ◌^◌, ◌++◌, ◌⊎◌, ℕ, Bool, true, false, List, [], ◌∷◌, length, map, take, Option, Some, None, Ok, is_some, option_map}
+use Rattle.std.specs.Prelude.{◌≡◌, ◌≤◌, ◌<◌, ◌^◌, ◌++◌, ◌⊎◌, ℕ, Bool, true, false, List, [], ◌∷◌, length, map, take, Option, Some, None, is_some}
 use Rattle.std.specs.List.{All, sum_by}
-use Rattle.client_session.specs.Serving.{PlainSession, is_dcp}
+use Rattle.client_session.specs.Serving.{PlainSession}
 use Rattle.client_session.specs.declared.session.Awaited.{Awaited}
-use Rattle.client_session.specs.declared.session.Settings.{Settings}
-use Rattle.dcp_producer.specs.Producers.{PlainProducer, PlainStream, is_named, is_open, stream_at as kept_at}
+use Rattle.dcp_producer.specs.Producers.{PlainStream, is_named, is_open, stream_at as kept_at}
 use Rattle.dcp_producer.specs.declared.desk.Handshake.{Handshake}
 use Rattle.dcp_producer.specs.declared.desk.Handshake.TheVariants as handshake
 use Rattle.mcbp_frame.specs.Cutting.{frames_in}
 use Rattle.mcbp_frame.specs.Frames.{frame_len}
 use Rattle.mcbp_frame.specs.declared.frame.Frame.{Frame}
-use Rattle.mcbp_kv.specs.Requests.{request_of}
-use Rattle.mcbp_kv.specs.declared.durable.Durability.{Durability}
-use Rattle.mcbp_kv.specs.declared.request.KvRequest.TheVariants as request
-use Rattle.vb_types.specs.declared.write.Write.{Write}
 use Rattle.node_core.specs.Clients.{PlainClient}
 use Rattle.node_world.specs.Worlds.{PlainWorld}
 use Rattle.vb_calls.specs.State.{Plain, is_active}
@@ -28,11 +23,12 @@ use Rattle.transcript_law.proofs.invariant.Holdings.{ChangeFits, vb_of}
 use Rattle.transcript_law.proofs.invariant.OpenStreams.{AreKept, Among}
 use Rattle.transcript_law.specs.ClientFrames.{first_request, is_closed_by, setup_after}
 use Rattle.transcript_law.specs.ClientStreams.{stream_view}
-use Rattle.transcript_law.specs.Feeding.{HasFed, HasStream, client_in}
+use Rattle.transcript_law.specs.Feeding.{HasFed, client_in}
 use Rattle.transcript_law.specs.LawfulClients.{IsSentOf, NoneWithin}
 use Rattle.transcript_law.specs.LinesTold.{Chronicle}
 use Rattle.transcript_law.specs.StreamLaws.{item_of_change}
 use Rattle.transcript_law.specs.Questions.{Question, first_question}
+use Rattle.transcript_law.specs.Unanswered.{AsksDurably}
 use Rattle.transcript_law.specs.StreamsTold.{Asking, Begun, ClientKnown, ClientStream, Setup, no_setup}
 
 -- the client's session and its producer are of this connection
@@ -40,13 +36,6 @@ pub record IsConn (n c : ℕ) (client : PlainClient) : Type 0 where
   pub node : client.session.who.node ≡ n
   pub number : client.session.who.client ≡ c
   pub desk : client.producer.desk ≡ record { stream = name.Client n c; node = n; base = client.session.who.base }
-
--- a frame asks for a durable write
-pub record IsDurableFrame (settings : Settings) (f : Frame) : Type 0 where
-  pub own : is_dcp f.opcode ≡ false
-  pub write : Write
-  pub wish : Durability
-  pub asks : request_of settings.json f ≡ Ok (request.Write write (Some wish))
 
 -- what is set is what the producer's handshake is
 abbrev pub setup_of : Handshake → Setup
@@ -74,7 +63,7 @@ pub record IsOpenQuestion (k : Asking) (served : List Frame) (a : Awaited) : Typ
   pub last : served ≡ question.before ++ question.frame ∷ []
   pub opcode : a.opcode ≡ question.frame.opcode
   pub opaque : a.opaque ≡ question.frame.opaque
-  pub durable : (a.waiter ≡ 0 → ⊥) → IsDurableFrame k.settings question.frame
+  pub durable : (a.waiter ≡ 0 → ⊥) → AsksDurably k.settings question.frame
 
 -- of these frames none wants an answer, but one that is awaited
 abbrev pub AreAnswered : Option Awaited → Asking → List Frame → Type 0

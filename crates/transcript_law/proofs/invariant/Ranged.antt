@@ -9,6 +9,7 @@ use Rattle.transcript_law.proofs.{Words.{with_link, link_outcome, on_link}, inva
 use Rattle.dcp_producer.proofs.Desks.{PutAt, pulled_at}
 use Rattle.dcp_producer.specs.{Ending.{end_closed}, Producers.{Served, begun}, Pulling.{frames_put}}
 use Rattle.dcp_producer.specs.declared.{desk.Desk.{Desk}, halt.Halt.{Halt}}
+use Rattle.client_session.proofs.Chunks.{nothing}
 use Rattle.node_core.specs.Clients.{ClientPulled, Handling, PlainClient, client_ended, client_fed, client_posted, client_pull, client_pulled, new_client}
 use Rattle.std.specs.Option.{option_map}
 use Rattle.vb_calls.proofs.{Conduct.{after_always}, Readings.{after_bind}}
@@ -108,7 +109,7 @@ with_client_ranged n c node o up ranged here kept = record {
 pub client_ranged : (n base c : ℕ) (node : PlainNode) → is_some node.off ≡ false → NodeRanged n node → NodeRanged n (client_at n base c node).0
 client_ranged n base c node up ranged =
     let opened : PlainClient = new_client (record { node = n; client = c; base = base }) in
-    let fresh = with_client_ranged n c node (Some opened) up ranged (record { node = refl; bytes = All-nil (λ b. b < 256); numbered = tt }) (record { node = refl; number = refl; stream = refl; desk = refl }, refl) in
+    let fresh = with_client_ranged n c node (Some opened) up ranged (record { node = refl; bytes = All-nil (λ b. b < 256); numbered = tt; rests = λ live free. nothing }) (record { node = refl; number = refl; stream = refl; desk = refl }, refl) in
     elim (is_some (node.clients c)) as (λ b. let x : PlainNode × Told = if b then (node, refusal cause.LinkOpen) else (with_client node c (Some opened), done []) in NodeRanged n x.0) [ true ↦ ranged | false ↦ fresh ]
 
 -- with its streams closed at their vBuckets

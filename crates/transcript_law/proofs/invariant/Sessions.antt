@@ -15,6 +15,7 @@ use Rattle.vb_calls.specs.declared.calls.VbAnswer.TheVariants as answer
 use Rattle.vb_calls.specs.declared.calls.VbCall.TheVariants as call
 use Rattle.vb_types.specs.declared.status.Status.TheVariants.{Etmpfail}
 use Rattle.mcbp_frame.{proofs.Cases.{front}, specs.Frames.{first_frame, frame_len}, specs.Spelling.{header_spelling}}
+use Rattle.transcript_law.proofs.invariant.Keeping.{Keeps, fed_keeps, outcome_keeps}
 use Rattle.vb_calls.{proofs.Conduct.{after_always}, specs.Programs.{Always, AnyCall}, specs.declared.calls.Resolved.{Resolved}}
 
 -- a frame whose numbers are in their fields, and whose extras are bytes
@@ -46,11 +47,25 @@ abbrev pub IsNumbered : Option Awaited → Type 0
 IsNumbered None = Unit {0}
 IsNumbered (Some a) = a.waiter ≡ 0 → ⊥
 
--- a session of the node n
+-- a session of the node n, in a call
+pub record SessionServed (n : ℕ) (session : PlainSession) : Type 0 where
+  pub node : session.who.node ≡ n
+  pub bytes : AreBytes session.reader
+  pub numbered : IsNumbered session.awaited
+
+-- and between two calls: it keeps less than a frame, but for one that awaits an outcome
 pub record SessionRanged (n : ℕ) (session : PlainSession) : Type 0 where
   pub node : session.who.node ≡ n
   pub bytes : AreBytes session.reader
   pub numbered : IsNumbered session.awaited
+  pub rests : Keeps session
+
+-- so one is when a call begins, and so it is left
+begins_ranged : (n : ℕ) (session : PlainSession) → SessionRanged n session → SessionServed n session
+begins_ranged n session r = record { node = r.node; bytes = r.bytes; numbered = r.numbered }
+
+rests_ranged : (n : ℕ) (session : PlainSession) → SessionServed n session → Keeps session → SessionRanged n session
+rests_ranged n session r rests = record { node = r.node; bytes = r.bytes; numbered = r.numbered; rests = rests }
 
 -- one that a session awaits
 pub awaited_numbered : (session : PlainSession) (a : Awaited) → IsNumbered session.awaited → session.awaited ≡ Some a → a.waiter ≡ 0 → ⊥
@@ -95,19 +110,19 @@ frame_numbered clock f s numbered =
     (either (Always AnyCall Numbered) (is_dcp f.opcode) (Done (handed f s)) (frame_answered clock f s) numbered (request_numbered clock f (request_of s.session.settings.json f) s numbered))
 
 -- the bytes behind a frame
-pub front_ranged : (n : ℕ) (f : Frame) (s : Served) → SessionRanged n s.session → SessionRanged n (front_of f s).session
+pub front_ranged : (n : ℕ) (f : Frame) (s : Served) → SessionServed n s.session → SessionServed n (front_of f s).session
 front_ranged n f s r = record { node = r.node; bytes = All-drop (λ b. b < 256) (frame_len f) s.session.reader r.bytes; numbered = r.numbered }
 
 -- a fault leaves none
-pub fault_ranged : (n : ℕ) (fault : FrameFault) (s : Served) → SessionRanged n s.session → SessionRanged n (ended_at (Some fault) s).session
+pub fault_ranged : (n : ℕ) (fault : FrameFault) (s : Served) → SessionServed n s.session → SessionServed n (ended_at (Some fault) s).session
 fault_ranged n fault s r = record { node = r.node; bytes = All-nil (λ b. b < 256); numbered = r.numbered }
 
 -- more bytes
-pub more_ranged : (n : ℕ) (piece : List ℕ) (session : PlainSession) → AreBytes piece → SessionRanged n session → SessionRanged n (record session { reader = session.reader ++ piece })
+pub more_ranged : (n : ℕ) (piece : List ℕ) (session : PlainSession) → AreBytes piece → SessionServed n session → SessionServed n (record session { reader = session.reader ++ piece })
 more_ranged n piece session h r = record { node = r.node; bytes = All-append (λ b. b < 256) session.reader piece r.bytes h; numbered = r.numbered }
 
 -- whatever a frame asks
-frame_ranged : (n clock : ℕ) (f : Frame) (states : States) (s : Served) → SessionRanged n s.session → SessionRanged n (after (frame_handled clock f (front_of f s)) states).1.session
+frame_ranged : (n clock : ℕ) (f : Frame) (states : States) (s : Served) → SessionServed n s.session → SessionServed n (after (frame_handled clock f (front_of f s)) states).1.session
 frame_ranged n clock f states s r =
     let x = front_ranged n f s r in
     let stays : Stays (front_of f s) (after (frame_handled clock f (front_of f s)) states).1 = after_always AnyCall (Stays (front_of f s)) (frame_handled clock f (front_of f s)) states
@@ -120,12 +135,24 @@ frame_ranged n clock f states s r =
 
 module _ (n clock : ℕ) where
   abbrev At : States × Handling → Type 0
-  At x = SessionRanged n x.1.client.session
+  At x = SessionServed n x.1.client.session
 
-  pub fed_ranged : (piece : List ℕ) (client : PlainClient) (states : States) → AreBytes piece → SessionRanged n client.session → SessionRanged n (after (client_fed clock piece client) states).1.client.session
-  fed_ranged piece client states h r = fed_goes At clock (λ before producer f states s e p. frame_ranged n clock f states s p) (λ before producer fault states s e p. fault_ranged n fault s p) (λ f states h e p. p) (λ states h e p. p) piece client states r
+  fed_served : (piece : List ℕ) (client : PlainClient) (states : States) → AreBytes piece → SessionServed n client.session → SessionServed n (after (client_fed clock piece client) states).1.client.session
+  fed_served piece client states h r = fed_goes At clock (λ before producer f states s e p. frame_ranged n clock f states s p) (λ before producer fault states s e p. fault_ranged n fault s p) (λ f states h e p. p) (λ states h e p. p) piece client states r
       (more_ranged n piece client.session h r)
 
-  pub outcome_ranged : (r : Resolved) (client : PlainClient) (states : States) → SessionRanged n client.session → SessionRanged n (after (client_posted clock r client) states).1.client.session
-  outcome_ranged r client states p = posted_goes At clock (λ before producer f states s e p. frame_ranged n clock f states s p) (λ before producer fault states s e p. fault_ranged n fault s p) (λ f states h e p. p) (λ states h e p. p) r client states p
+  outcome_served : (r : Resolved) (client : PlainClient) (states : States) → SessionServed n client.session → SessionServed n (after (client_posted clock r client) states).1.client.session
+  outcome_served r client states p = posted_goes At clock (λ before producer f states s e p. frame_ranged n clock f states s p) (λ before producer fault states s e p. fault_ranged n fault s p) (λ f states h e p. p) (λ states h e p. p) r client states p
       (λ a e. record { node = p.node; bytes = p.bytes; numbered = tt })
+
+  -- bytes
+  pub fed_ranged : (piece : List ℕ) (client : PlainClient) (states : States) → AreBytes piece → SessionRanged n client.session → SessionRanged n (after (client_fed clock piece client) states).1.client.session
+  fed_ranged piece client states h r =
+      rests_ranged n (after (client_fed clock piece client) states).1.client.session (fed_served piece client states h (begins_ranged n client.session r))
+      (after_always AnyCall (λ (h : Handling). Keeps h.client.session) (client_fed clock piece client) states (fed_keeps clock piece client))
+
+  -- an outcome
+  pub outcome_ranged : (r : Resolved) (client : PlainClient) (states : States) → SessionRanged n client.session → SessionRanged n (after (client_posted clock r client) states).1.client.session
+  outcome_ranged r client states p =
+      rests_ranged n (after (client_posted clock r client) states).1.client.session (outcome_served r client states (begins_ranged n client.session p))
+      (after_always AnyCall (λ (h : Handling). Keeps h.client.session) (client_posted clock r client) states (outcome_keeps clock r client p.rests))

@@ -1,7 +1,7 @@
 -- connections of clients, judged by hand
-use Rattle.std.specs.Prelude.{◌≡◌, ◌∷◌, ◌==◌, if◌then◌else◌}
-use Rattle.transcript_law.proofs.Words.{ℕ, true, false, List, [], refl, arith, Answer, Cause, Event, Chronicle, Verb, NodeVerb, empty_chronicle}
-use Rattle.transcript_law.proofs.{rows.CrashRows.{stops}, rows.Groups.{AreParts, in_order, whole}}
+use Rattle.std.specs.Prelude.{◌≡◌, ◌∷◌, ◌==◌, ◌&&◌, if◌then◌else◌}
+use Rattle.transcript_law.proofs.Words.{ℕ, true, false, List, [], refl, arith, and_parts, Answer, Cause, Event, Chronicle, Verb, NodeVerb, empty_chronicle}
+use Rattle.transcript_law.proofs.{rows.CrashRows.{stops}, rows.Groups.{AreParts, in_order, whole}, rows.Sets.{heard_then}, rows.Silent.{AreHeard, Silent, all_silent, heard_all, heard_by, here_answered, silent_heard, silent_start}}
 use Rattle.transcript_law.specs.{ClientRows.{LawfulOpened, asks, closes, hangs, nooped, opens, refused, replies, sends, waits}, Clients.{AllClosed, IsOpened, IsReached}, Chronicles.{conns_lines}, Prefixes.{known_after}}
 use Rattle.transcript_law.specs.Crashes.{LawfulAfter, Said, numbered, ok, save_under, save_under_groups, stopped_behind, groups_from_number}
 unfoldable use Rattle.mcbp_dcp.specs.Messages.{read_of}
@@ -19,8 +19,15 @@ abbrev read : Chronicle
 read = known_after empty_chronicle (numbered 1 (Verb.Node 0 ∷ opens 1 ∷ [])) (groups_from_number 1 (ok [] ∷ ok [] ∷ []))
 
 -- a transcript is lawful that is so from there on
-from_opened : (more : List Verb) (told : List Said) → in_order read (numbered 3 more) (groups_from_number 3 told) ≡ true → AreParts read (numbered 3 more) (groups_from_number 3 told) → LawfulOpened more told
-from_opened more told o l = whole empty_chronicle (numbered 1 (Verb.Node 0 ∷ opens 1 ∷ more)) (groups_from_number 1 (ok [] ∷ ok [] ∷ told)) o ((tt, tt, refl), ((tt, refl, refl), l))
+from_heard : (more : List Verb) (told : List Said) → in_order read (numbered 3 more) (groups_from_number 3 told) ≡ true → AreParts read (numbered 3 more) (groups_from_number 3 told) → (Silent read.clients_at → AreHeard read (numbered 3 more) (groups_from_number 3 told)) → LawfulOpened more told
+from_heard more told o l heard =
+    whole empty_chronicle (numbered 1 (Verb.Node 0 ∷ opens 1 ∷ more)) (groups_from_number 1 (ok [] ∷ ok [] ∷ told)) o ((tt, tt, refl), ((tt, refl, refl), l)) (heard_then _ _ _ _ _ refl silent_start (λ s. heard_then _ _ _ _ _ refl s heard))
+
+-- where no client sends anything, none is left without an answer
+from_opened : (more : List Verb) (told : List Said) → (in_order read (numbered 3 more) (groups_from_number 3 told) && all_silent (numbered 3 more)) ≡ true → AreParts read (numbered 3 more) (groups_from_number 3 told) → LawfulOpened more told
+from_opened more told o l =
+    let both = and_parts (in_order read (numbered 3 more) (groups_from_number 3 told)) (all_silent (numbered 3 more)) o in
+    from_heard more told both.0 l (λ s. silent_heard read (numbered 3 more) (groups_from_number 3 told) s both.1)
 
 -- it is one thing or the other
 not_both : {A : Type 0} → false ≡ true → A
@@ -57,11 +64,12 @@ hung_then = from_opened (hangs 1 ∷ waits ∷ []) (ok [] ∷ ok [] ∷ []) refl
 
 pub reply : LawfulOpened (asks 1 ∷ []) (ok (replies 0 1 (nooped 9) ∷ closes 0 1 ∷ []) ∷ [])
 unfolding spelling frames_in first_frame frame_of read_of frame_row request_of requirement_of
-reply = from_opened (asks 1 ∷ []) (ok (replies 0 1 (nooped 9) ∷ closes 0 1 ∷ []) ∷ []) refl ((((refl, λ z. noop_answer 9 refl refl refl refl), (refl, tt)), refl, refl), tt)
+reply = from_heard (asks 1 ∷ []) (ok (replies 0 1 (nooped 9) ∷ closes 0 1 ∷ []) ∷ []) refl ((((refl, λ z. noop_answer 9 refl refl refl refl), (refl, tt)), refl, refl), tt)
+    (λ s. heard_by _ _ _ _ _ (here_answered read (asks 1) (replies 0 1 (nooped 9) ∷ closes 0 1 ∷ []) Answer.Ok (λ n c e. rw e refl) refl) (heard_all _))
 
-pub reply_later : LawfulOpened (asks 1 ∷ waits ∷ []) (ok [] ∷ ok (replies 0 1 (nooped 9) ∷ []) ∷ [])
+pub reply_later : LawfulOpened (asks 1 ∷ waits ∷ []) (ok [] ∷ ok (replies 0 1 (nooped 9) ∷ []) ∷ []) → ⊥
 unfolding spelling frames_in first_frame frame_of read_of frame_row request_of requirement_of
-reply_later = from_opened (asks 1 ∷ waits ∷ []) (ok [] ∷ ok (replies 0 1 (nooped 9) ∷ []) ∷ []) refl ((tt, refl, refl), ((((refl, λ z. noop_answer 9 refl refl refl refl), tt), tt, refl), tt))
+reply_later l = let a = l.1.1.0.8 0 1 refl _ refl in let e = a.asks in cc
 
 module _ (bytes : List ℕ) where
   pub reply_unasked : LawfulOpened (sends 1 ∷ []) (ok (replies 0 1 bytes ∷ closes 0 1 ∷ []) ∷ []) → ⊥

@@ -33,6 +33,8 @@ use Rattle.transcript_law.specs.LawfulClients.{InOrder, IsFree, LawfulClientAsk,
 use Rattle.vb_types.specs.declared.role.Role.TheVariants.{Active}
 use Rattle.transcript_law.specs.StreamLaws.{LawfulSaid}
 use Rattle.transcript_law.proofs.rows.ClientStreams.{◌▹◌, all_between}
+use Rattle.transcript_law.proofs.rows.Silent.{here_answered}
+use Rattle.vb_events.specs.declared.event.Answer.TheVariants as answer
 
 -- ---- requests that are answered as they are to be
 
@@ -211,6 +213,7 @@ pieces = (
     refl,
     tt,
     tt,
+    here_answered (serving two (that_sent none (take 30 (requesting 0 all_changes)))) (sends_rest 30 (requesting 0 all_changes)) (asked all_changes ask_answer.Go) answer.Ok (λ n c e. rw e refl) refl,
   ),
   tt,
 )

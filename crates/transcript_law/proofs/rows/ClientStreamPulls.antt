@@ -13,7 +13,7 @@ use Rattle.vb_events.specs.declared.event.Answer.TheVariants as answer
 use Rattle.vb_events.specs.declared.event.Cause.TheVariants as cause
 use Rattle.vb_types.specs.declared.change.Change.{Change}
 use Rattle.transcript_law.specs.BoundRows.{LawfulHere}
-use Rattle.transcript_law.specs.ClientAskRows.{LawfulPulled, all_lines, closing, idle, moved, none, other_marked, pulls, puts, resting, serving, that_sent}
+use Rattle.transcript_law.specs.ClientAskRows.{LawfulPulled, all_lines, closing, idle, moved, none, other_marked, pulls, puts, resting, serving, that_asked}
 use Rattle.transcript_law.specs.ClientFrames.{is_closed_by}
 use Rattle.transcript_law.specs.ClientStreamRows.{all_changes, finished, first_item, fresh, inside, marked, next_item, one, pending, prepared, put_two, snapshot, third_change, three, two, unframed, untold, up_to, with_streams}
 use Rattle.transcript_law.specs.ClientStreams.{Begun, ClientKnown, ClientStream, ItemLine}
@@ -22,12 +22,14 @@ use Rattle.transcript_law.specs.LawfulClients.{AllQuiet, IsQuiet, NoneWithin}
 use Rattle.transcript_law.specs.Undone.{EndsThere}
 use Rattle.transcript_law.specs.Transcripts.{one_change}
 use Rattle.transcript_law.proofs.rows.ClientStreamVerdicts.{no_active}
+use Rattle.transcript_law.proofs.rows.Silent.{here_answered, none_of}
+use Rattle.vb_events.specs.declared.event.Why.TheVariants as why
 
 -- ---- idle pulls
 
 -- an idle pull is lawful where each stream is quiet
-idles : (changes : List Change) (known : ClientKnown) → AllQuiet (serving changes known) 0 known → LawfulPulled changes known idle
-idles changes known quiet = ((tt, (refl, record { told = refl; most = omega arith; all = λ e. cc; only = λ e. absurd (omega (arith, e)) }), refl, refl, (λ w no standing. cc), refl, (refl, refl), quiet), tt)
+idles : (changes : List Change) (known : ClientKnown) → known.asking.bytes ≡ [] → AllQuiet (serving changes known) 0 known → LawfulPulled changes known idle
+idles changes known silent quiet = ((tt, (refl, record { told = refl; most = omega arith; all = λ e. cc; only = λ e. absurd (omega (arith, e)) }), refl, refl, (λ w no standing. cc), refl, (refl, refl), quiet, here_answered (serving changes known) pulls [] (answer.Pulled 0 why.Idle) (λ n c e. rw e refl) (none_of known.asking silent)), tt)
 
 -- of one stream it is enough that this one is
 one_quiet : (changes : List Change) (g : ClientStream) → IsQuiet (serving changes (with_streams (one g))) 0 0 g → AllQuiet (serving changes (with_streams (one g))) 0 (with_streams (one g))
@@ -46,7 +48,7 @@ unfolding frames_in
 is_quiet changes g l opens = l.0.7 0 g refl opens refl
 
 pub no_stream : LawfulPulled two (with_streams none) idle
-no_stream = idles two (with_streams none) (λ v g is. absurd (nobody g is))
+no_stream = idles two (with_streams none) refl (λ v g is. absurd (nobody g is))
   where
     nobody : (g : ClientStream) → None ≡ Some g → ⊥
     nobody g e = cc
@@ -59,7 +61,7 @@ nothing_above : NoneWithin two 2 2
 nothing_above x i over under = omega (arith, over, under)
 
 pub put : LawfulPulled two (with_streams (one all_put)) idle
-put = idles two (with_streams (one all_put)) (one_quiet two all_put (record { whole = (first_item ∷ [], next_item, refl, refl); stays = refl; goes_on = λ r. omega (arith, r); active = refl; none = inl nothing_above }))
+put = idles two (with_streams (one all_put)) refl (one_quiet two all_put (record { whole = (first_item ∷ [], next_item, refl, refl); stays = refl; goes_on = λ r. omega (arith, r); active = refl; none = inl nothing_above }))
 
 pub unput : LawfulPulled two (with_streams (one (fresh true all_changes))) idle → ⊥
 unput l = ⊎_elim (λ n. n next_change (inr (inl refl)) (omega arith) (omega arith)) (λ f. let e : 2 < 0 = f.1 in omega (arith, e)) (is_quiet two (fresh true all_changes) l refl).none
@@ -98,15 +100,15 @@ inactive l = no_active (l.0.7 0 all_put refl refl refl).active
 -- streams that count for nothing
 
 pub over : LawfulPulled two (with_streams (one (finished (fresh true all_changes)))) idle
-over = idles two (with_streams (one (finished (fresh true all_changes)))) (λ v g is opens unclosed. absurd (by g (v == 0) is opens))
+over = idles two (with_streams (one (finished (fresh true all_changes)))) refl (λ v g is opens unclosed. absurd (by g (v == 0) is opens))
   where
     by : (g : ClientStream) (b : Bool) → (if b then Some (finished (fresh true all_changes)) else None) ≡ Some g → g.over ≡ false → ⊥
     by g true is opens = let same : finished (fresh true all_changes) ≡ g = cc in let e : true ≡ false = ap (λ (h : ClientStream). h.over) same ∙ opens in cc
     by g false is opens = cc
 
-pub closed : LawfulPulled two (that_sent (one (fresh true all_changes)) (closing 0)) idle
+pub closed : LawfulPulled two (that_asked (one (fresh true all_changes)) (closing 0)) idle
 unfolding spelling dcp_frame frames_in first_frame frame_of read_of frame_row shape_fault
-closed = idles two (that_sent (one (fresh true all_changes)) (closing 0)) (λ v g is opens unclosed. absurd (by v g (v == 0) refl is unclosed))
+closed = idles two (that_asked (one (fresh true all_changes)) (closing 0)) refl (λ v g is opens unclosed. absurd (by v g (v == 0) refl is unclosed))
   where
     by : (v : ℕ) (g : ClientStream) (b : Bool) → (v == 0) ≡ b → (if v == 0 then Some (fresh true all_changes) else None) ≡ Some g → is_closed_by (frames_in (closing 0)) v ≡ false → ⊥
     by v g true at is unclosed = let zero : v ≡ 0 = eqb-true v 0 at in let e : true ≡ false = ap (is_closed_by (frames_in (closing 0))) (sym zero) ∙ unclosed in cc
@@ -127,7 +129,7 @@ none_shown : NoneWithin (one_change ∷ []) 1 2
 none_shown x i above under = ⊎_elim (λ e. let n : x.seq ≡ 1 = ap (λ (c : Change). c.seq) e in omega (arith, above, n)) (λ k. k) i
 
 pub plain_prepare : LawfulPulled pending (with_streams (one plain_first)) idle
-plain_prepare = idles pending (with_streams (one plain_first)) (one_quiet pending plain_first (record { whole = ([], first_item, refl, refl); stays = refl; goes_on = λ r. omega (arith, r); active = refl; none = inl none_shown }))
+plain_prepare = idles pending (with_streams (one plain_first)) refl (one_quiet pending plain_first (record { whole = ([], first_item, refl, refl); stays = refl; goes_on = λ r. omega (arith, r); active = refl; none = inl none_shown }))
 
 -- ---- answers
 

@@ -15,7 +15,7 @@ use Rattle.vb_types.specs.declared.change.Change.{Change}
 use Rattle.branch_model.specs.Histories.{last_seq}
 use Rattle.vb_types.specs.declared.stream.AskAnswer.TheVariants as ask_answer
 use Rattle.transcript_law.specs.Chronicles.{with_id}
-use Rattle.transcript_law.specs.ClientAskRows.{LawfulPulled, LawfulStory, all_lines, indexed, puts, serving}
+use Rattle.transcript_law.specs.ClientAskRows.{LawfulPulled, LawfulStory, all_lines, asked, indexed, naming, opening, pulls, puts, replies, requesting, serving, syncing}
 use Rattle.transcript_law.specs.ClientFrames.{is_closed_by}
 use Rattle.transcript_law.specs.ClientStreamRows.{ended, finished, first_item, fresh, inside, marked, next_item, one, sent, snapshot, tree_of, two, up_to, with_streams}
 use Rattle.transcript_law.specs.ClientStreams.{ClientStream, ClientsKnown, ItemLine, StreamLine, blank_client, change_at, told_of, unclosed}
@@ -29,6 +29,14 @@ use Rattle.transcript_law.proofs.rows.ClientStreamEnds.{both_whole, end_put, who
 use Rattle.transcript_law.proofs.rows.ClientStreamItems.{both_next, first_next, item_put, next_of, no_twice}
 use Rattle.transcript_law.proofs.rows.ClientStreamMarks.{mark_put}
 use Rattle.transcript_law.proofs.rows.ClientStreams.{◌▹◌, all_between}
+use Rattle.script_text.specs.declared.verb.ClientVerb.TheVariants as client_verb
+use Rattle.script_text.specs.declared.verb.Verb.{Verb}
+use Rattle.script_text.specs.declared.verb.Verb.TheVariants as verb
+use Rattle.vb_events.specs.declared.event.Answer.TheVariants as answer
+use Rattle.vb_events.specs.declared.event.Event.{Event}
+use Rattle.vb_events.specs.declared.event.Why.TheVariants as why
+use Rattle.transcript_law.specs.{Chronicles.{Chronicle, after_group}, StreamsTold.{Asking}}
+use Rattle.transcript_law.proofs.rows.Silent.{here_answered, none_of}
 
 -- ---- a pull
 
@@ -66,6 +74,9 @@ all_over : (g : ClientStream) (b : Bool) → (if b then Some (finished all_put) 
 all_over g true is opens = let same : finished all_put ≡ g = cc in let e : true ≡ false = ap (λ (h : ClientStream). h.over) same ∙ opens in cc
 all_over g false is opens = cc
 
+abbrev blank_now : Asking
+blank_now = (with_streams (one granted)).asking
+
 pub counted : LawfulPulled two (with_streams (one granted)) (puts 4 all_lines)
 unfolding spelling dcp_frame
 counted = (
@@ -81,6 +92,7 @@ counted = (
     refl,
     (refl, refl),
     λ v g is opens stays. absurd (all_over g (v == 0) (sym (streams_behind (one granted) (λ w. refl) v) ∙ is) opens),
+    here_answered (serving two (with_streams (one granted))) pulls all_lines (answer.Pulled 4 why.Idle) (λ n c e. rw e refl) (none_of blank_now refl),
   ),
   tt,
 )
@@ -112,6 +124,15 @@ asked_right clients = record { own_log = refl; own_high = refl; verdict = (refl,
 refuses_none : RefusesOwn (record { opened = true; sync = true; named = true }) None (up_to 2) ask_answer.Go
 refuses_none = record { unopened = λ e. cc; unknown = λ e. absurd (omega (arith, e)); takeover = λ o e. absurd (omega (arith, e)); held = λ g e o. cc }
 
+abbrev asks_first : Verb
+asks_first = verb.AtClient 0 1 (client_verb.Bytes (opening 1 ++ syncing (codes "true") ++ naming (codes "x") ++ requesting 0 (up_to 2)))
+
+abbrev first_lines : List Event
+first_lines = replies (msg.OpenAnswer 0) 1 ∷ replies (msg.ControlAnswer 0) 2 ∷ replies (msg.ControlAnswer 0) 3 ∷ asked (up_to 2) ask_answer.Go
+
+abbrev story_asked : Chronicle
+story_asked = after_group (serving two blank_client) asks_first first_lines answer.Ok
+
 pub story : LawfulStory (indexed all_lines)
 unfolding spelling dcp_frame frames_in first_frame frame_of read_of frame_row shape_fault
 story = (
@@ -126,6 +147,7 @@ story = (
   refl,
   tt,
   tt,
+  here_answered (serving two blank_client) asks_first first_lines answer.Ok (λ n c e. rw e refl) refl,
 )
     ▹ (
       mark_put _ _ 0 0 2 granted _ refl refl refl two_next ▹ (refl, λ z. cc)
@@ -139,6 +161,7 @@ story = (
       refl,
       (refl, refl),
       λ v g is opens stays. absurd (all_over g (v == 0) (sym (streams_behind (with_id (unclosed sent_frames nothing) 0 (Some granted)) (granted_one sent_frames) v) ∙ is) opens),
+      here_answered story_asked pulls all_lines (answer.Pulled 4 why.Idle) (λ n c e. rw e refl) refl,
     )
     ▹ tt
 

@@ -26,6 +26,8 @@ use Rattle.transcript_law.specs.TellingRows.{MayNotTell, changes_here}
 use Rattle.transcript_law.specs.Tellings.{are_all, may_tell}
 use Rattle.transcript_law.proofs.rows.Answering.{dcp_answer}
 use Rattle.transcript_law.proofs.rows.ClientStreamAsks.{all_order, answer_of, fair, free, goes, no_stream}
+use Rattle.transcript_law.proofs.rows.Silent.{here_answered}
+use Rattle.vb_events.specs.declared.event.Answer.TheVariants as answer
 
 -- lines that a test lets through have none that it does not
 refused_first : (a b : Bool) → a ≡ false → (a && b) ≡ true → ⊥
@@ -113,6 +115,7 @@ tick_ask = (
     refl,
     tt,
     tt,
+    here_answered (serving two (that_sent none (requesting 0 all_changes))) ticks (asked all_changes ask_answer.Go) answer.Ok (λ n c e. rw e refl) refl,
   ),
   tt,
 )

@@ -1,7 +1,7 @@
 -- appends that close a journal, judged by hand
 use Rattle.std.specs.Prelude.{◌≡◌, ◌<◌, ◌≤◌, ◌∷◌}
-use Rattle.transcript_law.proofs.Words.{ℕ, Bool, true, false, List, [], refl, sym, arith, inl, Some, None, Cause, Event, Role, Lawful, LawfulAnswer, LawfulGroups}
-use Rattle.transcript_law.proofs.{rows.CrashRows.{first, lawful_from_made, no_role, one_closed, taken}, rows.{Groups.{whole}, NextRows.{second_next}}}
+use Rattle.transcript_law.proofs.Words.{ℕ, Bool, true, false, List, [], refl, sym, arith, inl, Some, None, Cause, Event, Role, Lawful, LawfulAnswer, LawfulGroups, next_change}
+use Rattle.transcript_law.proofs.{rows.CrashRows.{first, lawful_from_heard, lawful_from_made, no_role, one_closed, read, taken}, rows.{Groups.{whole}, NextRows.{second_next}, Sets.{heard_then, next_told, nine_sent, nine_then, seven_past}, Silent.{shut_heard, silent_heard}}}
 use Rattle.transcript_law.specs.ClosedJournals.{back_line, dead_after_start, dead_after_start_groups, dialed_for, down_under, down_under_groups, fails_down, follow_after_crash, follow_after_crash_groups, follow_line, found_closed, save_again, save_again_groups, save_given_up, save_given_up_groups, save_none, save_none_groups, save_twice, save_twice_groups, sent_back_for, sent_back_under}
 use Rattle.transcript_law.specs.Crashes.{LawfulAfter, branch_line, dead_line, dead_under, dead_under_groups, failed_behind, numbered, ok, groups_from_number}
 use Rattle.transcript_law.specs.{Chronicles.{Idle, Taken}, Downs.{refused}, LineAnswers.{Back, IsBack}}
@@ -33,19 +33,20 @@ pub unmade : (lines : List Event) → Lawful (numbered 1 (verb.Node 0 ∷ verb.A
 unmade lines l = is_shut (sym l.1.0.1)
 
 pub again : LawfulAfter save_again (save_again_groups (found_closed []))
-again = lawful_from_made save_again (save_again_groups (found_closed [])) refl (
+again = lawful_from_heard save_again (save_again_groups (found_closed [])) refl (
   taken,
   (
     (tt, tt, refl),
     (
       ((omega arith, tt), ((refl, (omega arith, omega arith)), (_, refl)), refl),
       (
-        ((search (arith, second_next), tt), refl, refl),
+        ((search (arith, second_next), ((refl, λ z. next_told _ _ _ (nine_sent (read.clients_at 0 1) seven_past) refl refl), tt)), refl, refl),
         (((record { idle = refl; goes_on = omega arith; held = omega arith; starts = omega arith; ends = omega arith; some = omega arith; most = omega arith }, tt), refl, refl), ((tt, (refl, (_, refl)), refl), tt)),
       ),
     ),
   ),
 )
+    (λ s e. heard_then _ _ _ _ _ refl s (λ s. heard_then _ _ _ _ _ refl s (λ s. heard_then _ _ _ _ _ refl s (λ s. nine_then _ 8 8 5 _ next_change _ _ refl e s (λ s e. silent_heard _ _ _ s refl)))))
 
 pub again_ok : LawfulAfter save_again (save_again_groups (ok [])) → ⊥
 again_ok l = is_shut l.1.1.1.1.1.1.1.1.1.0.1.0.0
@@ -131,6 +132,7 @@ back_refused closed why l = is_shut l.2
 
 pub back_fails : LawfulGroups (sent_back_for false) (down_under (verb.AtNode 1 (node_verb.Fail 1))) (down_under_groups fails_down)
 back_fails = whole (sent_back_for false) (down_under (verb.AtNode 1 (node_verb.Fail 1))) (down_under_groups fails_down) refl ((tt, tt, refl), (((omega arith, ((_, refl), tt)), ((refl, (omega arith, omega arith)), (_, refl), refl), refl), tt))
+    (shut_heard (sent_back_for false) (down_under (verb.AtNode 1 (node_verb.Fail 1))) (down_under_groups fails_down) (λ n c. refl) refl)
 
 -- where the link was not sent back there is none
 

@@ -1,10 +1,11 @@
 -- arms, crashes and restarts, judged by hand
 use Rattle.transcript_law.specs.{Chronicles.{alone}, Majorities.{IsHeldByMost}}
-use Rattle.std.specs.Prelude.{◌≡◌, ◌<◌, ◌≤◌, ◌∷◌, ◌==◌, if◌then◌else◌}
-use Rattle.transcript_law.proofs.Words.{ℕ, Bool, true, false, List, [], refl, ap, sym, ◌∙◌, subst, arith, inl, ⊎_elim, eqb-true, ne_eqb, Option, Some, None, Event, Answer, Role, front, uuid_of, Chronicle}
-use Rattle.transcript_law.proofs.Words.{empty_chronicle, Lawful, LawfulFrom, LawfulGroups, LawfulAnswer, nothing, image_of, one_change, log_of, made_log}
-use Rattle.transcript_law.proofs.{links.PumpAnswers.{two_numbers}, rows.NextRows.{nine_next, resolving_next, second_next}, rows.Transcripts.{first_change, shown, as_made, as_set}, rows.Groups.{AreParts, in_order, whole}}
+use Rattle.std.specs.Prelude.{◌≡◌, ◌<◌, ◌≤◌, ◌∷◌, ◌==◌, ◌&&◌, if◌then◌else◌}
+use Rattle.transcript_law.proofs.Words.{ℕ, Bool, true, false, List, [], refl, ap, sym, ◌∙◌, subst, arith, inl, ⊎_elim, and_parts, eqb-true, ne_eqb, Option, Some, None, Event, Answer, Role, front, uuid_of, Chronicle}
+use Rattle.transcript_law.proofs.Words.{empty_chronicle, Lawful, LawfulFrom, LawfulGroups, LawfulAnswer, nothing, image_of, one_change, next_change, log_of, made_log}
+use Rattle.transcript_law.proofs.{links.PumpAnswers.{two_numbers}, rows.NextRows.{nine_next, resolving_next, second_next}, rows.Transcripts.{first_change, shown, as_made, as_set}, rows.Groups.{AreParts, in_order, whole}, rows.Sets.{first_told, heard_then, next_told, nine_then, seven_then}, rows.Silent.{AreHeard, Silent, all_silent, shut_heard, silent_heard, silent_start}}
 use Rattle.transcript_law.specs.Firings.{FiresAsSaid}
+use Rattle.transcript_law.specs.StreamsTold.{blank_asking}
 use Rattle.transcript_law.specs.Clients.{AllClosed}
 use Rattle.transcript_law.specs.{Chronicles.{conns_lines, Idle, Taken, Written, no_arm, known_fail, known_stop}, Prefixes.{known_after}, LineAnswers.{MakesBranch, FailsIn, StopsIn}}
 use Rattle.transcript_law.specs.Crashes.{Said, LawfulAfter, ok, numbered, groups_from_number, one_made, one_made_groups, took, stopped_behind, failed_behind, branch_line, restarted, dead_line, none_shown, one_shown, stat_of}
@@ -33,9 +34,17 @@ abbrev pub read : Chronicle
 read = known_after empty_chronicle (one_made []) (one_made_groups [])
 
 -- a transcript is lawful that is so from there on
-pub lawful_from_made : (more : List Verb) (told : List Said) → in_order read (numbered 5 more) (groups_from_number 5 told) ≡ true → AreParts read (numbered 5 more) (groups_from_number 5 told) → LawfulAfter more told
-lawful_from_made more told o l = whole empty_chronicle (one_made more) (one_made_groups told) o
-    ((tt, tt, refl), ((tt, refl, refl), (((record { new = tt; newest = refl; last = refl; leaves = refl }, (record { another = λ e. cc; anew = λ e. refl }, tt)), (refl, tt), refl), (((first_change _ _ _ _, tt), refl, refl), l))))
+pub lawful_from_heard : (more : List Verb) (told : List Said) → in_order read (numbered 5 more) (groups_from_number 5 told) ≡ true → AreParts read (numbered 5 more) (groups_from_number 5 told)
+    → (Silent read.clients_at → (read.clients_at 0 1).asking ≡ blank_asking → AreHeard read (numbered 5 more) (groups_from_number 5 told)) → LawfulAfter more told
+lawful_from_heard more told o l heard = whole empty_chronicle (one_made more) (one_made_groups told) o
+    ((tt, tt, refl), ((tt, refl, refl), (((record { new = tt; newest = refl; last = refl; leaves = refl }, (record { another = λ e. cc; anew = λ e. refl }, tt)), (refl, tt), refl), (((first_change _ _ _ _, ((refl, λ z. first_told _ _ _ refl refl refl), tt)), refl, refl), l))))
+    (heard_then _ _ _ _ _ refl silent_start (λ s. heard_then _ _ _ _ _ refl s (λ s. heard_then _ _ _ _ _ refl s (λ s. seven_then _ 4 4 5 _ one_change _ _ refl refl s heard))))
+
+-- where no client sends more, none is left without an answer
+pub lawful_from_made : (more : List Verb) (told : List Said) → (in_order read (numbered 5 more) (groups_from_number 5 told) && all_silent (numbered 5 more)) ≡ true → AreParts read (numbered 5 more) (groups_from_number 5 told) → LawfulAfter more told
+lawful_from_made more told o l =
+    let both = and_parts (in_order read (numbered 5 more) (groups_from_number 5 told)) (all_silent (numbered 5 more)) o in
+    lawful_from_heard more told both.0 l (λ s e. silent_heard read (numbered 5 more) (groups_from_number 5 told) s both.1)
 
 -- the one connection of a client is told closed
 pub one_closed : AllClosed (conns_lines read.conn_at (event.Closed 0 1 ∷ [])) 0
@@ -257,7 +266,7 @@ replica_active : ◌≡◌ {A = Option Role} (Some Role.Replica) (Some Role.Acti
 replica_active e = cc
 
 pub cut_log : LawfulGroups after_noted_back log_after_crash (log_after_crash_groups (log_of 5))
-cut_log = whole after_noted_back log_after_crash (log_after_crash_groups (log_of 5)) refl ((tt, (λ c. refl), refl), ((tt, ((λ v e. absurd (replica_active e)), tt), refl), (((refl, tt), tt, refl), tt)))
+cut_log = whole after_noted_back log_after_crash (log_after_crash_groups (log_of 5)) refl ((tt, (λ c. refl), refl), ((tt, ((λ v e. absurd (replica_active e)), tt), refl), (((refl, tt), tt, refl), tt))) (shut_heard after_noted_back log_after_crash (log_after_crash_groups (log_of 5)) (λ n c. refl) refl)
 
 pub cut_log_back : LawfulGroups after_noted_back log_after_crash (log_after_crash_groups made_log) → ⊥
 cut_log_back l = let e : ◌≡◌ {A = ℕ} 5 7 = ap (λ es. uuid_of (front es)) l.1.1.0.0.0 in omega arith
@@ -312,8 +321,9 @@ pub found_active : LawfulAfter (dead_unwritten New) (dead_unwritten_groups (ok [
 found_active l = not_active l.1.1.1.1.1.1.1.1.0.0.0.role
 
 pub on_new : LawfulAfter set_restarted (set_restarted_groups 7)
-on_new = lawful_from_made set_restarted (set_restarted_groups 7) refl
-    (taken, ((tt, ((refl, tt), (_, refl)), refl), (((refl, tt), one_closed, refl), (((record { new = (λ e. omega arith, tt); newest = refl; last = refl; leaves = refl }, tt), ((λ v e. first v (branch_line 0 1 ∷ []) (λ f. no_role Role.Active (rw f at e)) (inl (refl, refl))), tt), refl), ((tt, refl, refl), (((search (arith, second_next), tt), refl, refl), tt))))))
+on_new = lawful_from_heard set_restarted (set_restarted_groups 7) refl
+    (taken, ((tt, ((refl, tt), (_, refl)), refl), (((refl, tt), one_closed, refl), (((record { new = (λ e. omega arith, tt); newest = refl; last = refl; leaves = refl }, tt), ((λ v e. first v (branch_line 0 1 ∷ []) (λ f. no_role Role.Active (rw f at e)) (inl (refl, refl))), tt), refl), ((tt, refl, refl), (((search (arith, second_next), ((refl, λ z. next_told _ _ _ refl refl refl), tt)), refl, refl), tt))))))
+    (λ s e. heard_then _ _ _ _ _ refl s (λ s. heard_then _ _ _ _ _ refl s (λ s. heard_then _ _ _ _ _ refl s (λ s. heard_then _ _ _ _ _ refl s (λ s. heard_then _ _ _ _ _ refl s (λ s. nine_then _ 10 10 7 _ next_change _ _ refl refl s (λ s e. silent_heard _ _ _ s refl)))))))
 
 pub on_old : LawfulAfter set_restarted (set_restarted_groups 5) → ⊥
 on_old l = let e : ◌≡◌ {A = Option ℕ} (Some 7) (Some 5) = l.1.1.1.1.1.1.1.1.1.0.0.0.writer.on_branch in cc
@@ -407,13 +417,13 @@ commits_other l =
     two_numbers 1 2 (omega arith) (sym (ap (λ (p : Pend). p.seq) same ∙ x.2))
 
 pub unmade : Lawful (made_under 1 New) (made_under_groups (ok []) ([], answer.No cause.UnknownVb))
-unmade = whole empty_chronicle (made_under 1 New) (made_under_groups (ok []) ([], answer.No cause.UnknownVb)) refl ((tt, tt, refl), ((tt, tt, refl), (((record { new = tt; newest = refl; last = refl; leaves = refl }, (record { another = λ e. cc; anew = λ e. refl }, (omega arith, tt))), (refl, (omega arith, omega arith)), refl), ((tt, (λ c. refl), refl), ((tt, ((λ v e. either_way v (λ t. absurd (no_role Role.Active (rw t at e))) (λ f. absurd (no_role Role.Active (rw f at e)))), tt), refl), ((tt, tt, refl), tt))))))
+unmade = whole empty_chronicle (made_under 1 New) (made_under_groups (ok []) ([], answer.No cause.UnknownVb)) refl ((tt, tt, refl), ((tt, tt, refl), (((record { new = tt; newest = refl; last = refl; leaves = refl }, (record { another = λ e. cc; anew = λ e. refl }, (omega arith, tt))), (refl, (omega arith, omega arith)), refl), ((tt, (λ c. refl), refl), ((tt, ((λ v e. either_way v (λ t. absurd (no_role Role.Active (rw t at e))) (λ f. absurd (no_role Role.Active (rw f at e)))), tt), refl), ((tt, tt, refl), tt)))))) (silent_heard empty_chronicle (made_under 1 New) (made_under_groups (ok []) ([], answer.No cause.UnknownVb)) silent_start refl)
 
 pub unmade_shown : (said : Role) (uuid : ℕ) → Lawful (made_under 1 New) (made_under_groups (ok []) (none_shown said uuid)) → ⊥
 unmade_shown said uuid l = no_role said l.1.1.1.1.1.0.0.0.role
 
 pub late : Lawful (made_under 4 New) (made_under_groups (restarted 0) (none_shown Role.Active 7))
-late = whole empty_chronicle (made_under 4 New) (made_under_groups (restarted 0) (none_shown Role.Active 7)) refl ((tt, tt, refl), ((tt, tt, refl), (((record { new = tt; newest = refl; last = refl; leaves = refl }, (record { another = λ e. cc; anew = λ e. refl }, (omega arith, tt))), (refl, (omega arith, omega arith)), refl), ((tt, (λ c. refl), refl), (((record { new = (λ e. omega arith, tt); newest = refl; last = refl; leaves = refl }, tt), ((λ v e. first v (branch_line 0 0 ∷ []) (λ f. no_role Role.Active (rw f at e)) (inl (refl, refl))), tt), refl), (((shown _ _ _ refl refl refl refl nothing refl refl as_made (λ _. refl) (λ _. refl), tt), tt, refl), tt))))))
+late = whole empty_chronicle (made_under 4 New) (made_under_groups (restarted 0) (none_shown Role.Active 7)) refl ((tt, tt, refl), ((tt, tt, refl), (((record { new = tt; newest = refl; last = refl; leaves = refl }, (record { another = λ e. cc; anew = λ e. refl }, (omega arith, tt))), (refl, (omega arith, omega arith)), refl), ((tt, (λ c. refl), refl), (((record { new = (λ e. omega arith, tt); newest = refl; last = refl; leaves = refl }, tt), ((λ v e. first v (branch_line 0 0 ∷ []) (λ f. no_role Role.Active (rw f at e)) (inl (refl, refl))), tt), refl), (((shown _ _ _ refl refl refl refl nothing refl refl as_made (λ _. refl) (λ _. refl), tt), tt, refl), tt)))))) (silent_heard empty_chronicle (made_under 4 New) (made_under_groups (restarted 0) (none_shown Role.Active 7)) silent_start refl)
 
 pub late_shown : (said : Role) (uuid : ℕ) → Lawful (made_under 4 Old) (made_under_groups (ok []) (none_shown said uuid)) → ⊥
 late_shown said uuid l = no_role said l.1.1.1.1.1.0.0.0.role

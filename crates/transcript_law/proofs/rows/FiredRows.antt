@@ -1,7 +1,7 @@
 -- what a group tells of arms that fired and of rollbacks, judged by hand
-use Rattle.std.specs.Prelude.{◌≡◌, ◌<◌, ◌≤◌, ◌∷◌, ◌++◌}
+use Rattle.std.specs.Prelude.{◌≡◌, ◌<◌, ◌≤◌, ◌∷◌}
 use Rattle.transcript_law.proofs.Words.{ℕ, false, List, [], refl, ap, arith, inl, Option, Some, None, Answer, Event, Role}
-use Rattle.transcript_law.proofs.{rows.CrashRows.{fails, first, lawful_from_made, no_role, one_closed, passed, stops}, rows.Groups.{whole}}
+use Rattle.transcript_law.proofs.{rows.CrashRows.{fails, first, lawful_from_made, no_role, one_closed, passed, stops}, rows.Groups.{whole}, rows.Silent.{silent_heard}}
 use Rattle.transcript_law.specs.ClosedJournals.{back_line, dialed_for}
 use Rattle.transcript_law.specs.Crashes.{LawfulAfter, branch_line, failed_behind, numbered, ok, save_under, save_under_groups, stopped_behind, groups_from_number}
 use Rattle.transcript_law.specs.{FiredArms.{LawfulNext, both_sent_back, other_back, seal_under, seal_under_groups, start_short, start_under, start_under_groups, stopped_starting, two_armed, two_armed_groups}, Firings.{FiresAsSaid, writes_at}, Lawfulness.{LawfulRoll}, LineAnswers.{GoesBack, back_of}}
@@ -153,10 +153,10 @@ roll_other : LawfulRoll both_sent_back 1 1 1 0
 roll_other = ((2, 0, refl, refl), record { saved = refl; below = omega arith; farthest = λ n s most. omega (arith, s) })
 
 pub own : LawfulNext (verb.AtLink 1 (link_verb.Down 10)) (back_line ∷ [], answer.Number 10)
-own = whole both_sent_back (numbered 1 (verb.AtLink 1 (link_verb.Down 10) ∷ [])) (groups_from_number 1 ((back_line ∷ [], answer.Number 10) ∷ [])) refl (((roll_one, tt), (omega arith, λ e. ((_, refl, refl), (refl, tt))), refl), tt)
+own = whole both_sent_back (numbered 1 (verb.AtLink 1 (link_verb.Down 10) ∷ [])) (groups_from_number 1 ((back_line ∷ [], answer.Number 10) ∷ [])) refl (((roll_one, tt), (omega arith, λ e. ((_, refl, refl), (refl, tt))), refl), tt) (silent_heard both_sent_back (numbered 1 (verb.AtLink 1 (link_verb.Down 10) ∷ [])) (groups_from_number 1 ((back_line ∷ [], answer.Number 10) ∷ [])) (λ n c. refl) refl)
 
 pub other_own : LawfulNext (verb.AtLink 2 (link_verb.Down 10)) (other_back ∷ [], answer.Number 10)
-other_own = whole both_sent_back (numbered 1 (verb.AtLink 2 (link_verb.Down 10) ∷ [])) (groups_from_number 1 ((other_back ∷ [], answer.Number 10) ∷ [])) refl (((roll_other, tt), (omega arith, λ e. ((_, refl, refl), (refl, tt))), refl), tt)
+other_own = whole both_sent_back (numbered 1 (verb.AtLink 2 (link_verb.Down 10) ∷ [])) (groups_from_number 1 ((other_back ∷ [], answer.Number 10) ∷ [])) refl (((roll_other, tt), (omega arith, λ e. ((_, refl, refl), (refl, tt))), refl), tt) (silent_heard both_sent_back (numbered 1 (verb.AtLink 2 (link_verb.Down 10) ∷ [])) (groups_from_number 1 ((other_back ∷ [], answer.Number 10) ∷ [])) (λ n c. refl) refl)
 
 -- what is told is what the link waits for
 same_one : (x y what : ℕ × (ℕ × Record)) → Some x ≡ Some what → y ∷ [] ≡ what ∷ [] → x ≡ y

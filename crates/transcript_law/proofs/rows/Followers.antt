@@ -4,7 +4,7 @@ use Rattle.transcript_law.proofs.Words.{ℕ, List, [], length, map, take, drop, 
 use Rattle.transcript_law.proofs.Words.{nat_list_cmp_total, key_cmp, Change, Pend, Event, LogEntry, Continue, Roll, Rises, IsIn, Picture, image_of, is_older, last_seq, StandsAs, IsOf, front, uuid_of, Covers, Branch}
 use Rattle.transcript_law.proofs.Words.{Role, rises_in, document_line, prepare_line, image_lines, ItemLine, Begun, Granted, Dial, Chronicle, granted, is_dial_of, empty_chronicle, after_lines, item_of_change}
 use Rattle.transcript_law.proofs.Words.{IsMarker, IsNextItem, LawfulAsk, LawfulMark, LawfulItem, LawfulFrom, Lawful, frames_in_lines, first_doc, one_change, two_followed, next_change, log_of, ask_within}
-use Rattle.transcript_law.proofs.{Words.{granted_inside, after_both, made_from, marker_line, first_item_line, both_sent_lines}, rows.Transcripts.{no_entries, docs}, rows.AskedTests.{is_asked_so}, rows.Groups.{AreFired, AreTold, both_left, is_answered_so}, rows.NextRows.{first_next, second_next}, verbs.Tellings.{all_pass}}
+use Rattle.transcript_law.proofs.{Words.{granted_inside, after_both, made_from, marker_line, first_item_line, both_sent_lines}, rows.Transcripts.{no_entries, docs}, rows.AskedTests.{is_asked_so}, rows.Groups.{AreFired, AreTold, both_left, is_answered_so}, rows.NextRows.{first_next, second_next}, rows.Sets.{first_told, heard_then, next_told, nine_sent, nine_then, seven_past, seven_then}, rows.Silent.{silent_heard, silent_start}, verbs.Tellings.{all_pass}}
 use Rattle.{std.specs.List.{list_any}, branch_model.proofs.Lists.{last_in}, std.proofs.Common.{◌⊎◌}, std.specs.Prelude.{Bool, true, false}, transcript_law.specs.Followers.{ask_above, ask_lines, other_ask_lines, late_ask_lines, granted_lines}}
 use Rattle.transcript_law.specs.Followers.{adopted_lines, stranger_lines, ended_lines, both_got, again_got, followed_groups, dialed_elsewhere, made_dead, replica_ask_lines, made_ask_lines, set_item_line, next_item_line}
 use Rattle.{transcript_law.specs.Asked.{is_of_down, is_of_pump, is_of_up}, transcript_law.specs.Tellings.{are_all}, transcript_law.specs.LineAnswers.{IsCarriedOut}, transcript_law.specs.Followers.{show_answer, replica_shown, two_docs, third_doc, ask_groups, answered_so, adopted_so, sent_so, got_so, shown_so}, transcript_law.specs.Chronicles.{is_rollback}, transcript_law.specs.Lawfulness.{IsFrontOf, IsStream}, transcript_law.specs.Prefixes.{known_after}}
@@ -123,6 +123,10 @@ StaysSo told = ((behind 9 told).dial_of 1 ≡ Some own_dial) × ((behind 10 told
 unbound : (r : Chronicle) (line : Verb) (lines : List Event) (said : Answer) → bound_by r line ≡ [] → LawfulAnswer r line lines said → IsAnswered r line lines said
 unbound r line lines said e rule = subst (λ whys. IsBound whys (LawfulAnswer r line lines said) lines said) (sym e) rule
 
+-- what was read when the first key was set
+abbrev once_set : Chronicle
+once_set = known_after empty_chronicle (take 6 two_followed) (take 6 (ask_groups []))
+
 -- what each line asked for is told, and nothing else
 abbrev AskedSo : List Event → List Event → List Event → List Event → List Event → Type 0
 AskedSo asked adopted sent got shown = (are_all (is_of_up 1) asked ≡ true) × (are_all (is_of_down (Some own_dial) 1) adopted ≡ true) × (are_all (is_of_pump 1) sent ≡ true) × (are_all (is_of_down (Some own_dial) 1) got ≡ true)
@@ -153,10 +157,11 @@ from_asked : (asked adopted sent got shown : List Event) → frames_in_lines sen
     (list_any is_taking adopted ≡ true → AllAcknowledged (after_lines (behind 9 told) adopted) 1) × (list_any is_taking got ≡ true → AllAcknowledged (after_lines (behind 11 told) got) 1)) → Lawful two_followed (followed_groups asked adopted sent got shown)
 from_asked asked adopted sent got shown few straight sound so told_so l f acks = let told = followed_groups asked adopted sent got shown in both_left empty_chronicle two_followed (followed_groups asked adopted sent got shown)
     (λ i. all_pass asked i && (told_so.0 i && (all_pass adopted i && ((ap (λ o. are_all (is_of_down o 1) adopted) so.0 ∙ told_so.1) i && (all_pass sent i && (told_so.2 i && (all_pass got i && ((ap (λ o. are_all (is_of_down o 1) got) so.2 ∙ told_so.3) i && (shows_so shown i && (all_pass shown i && (told_so.4 i && true)))))))))))
-    (tt ▹ tt ▹ tt ▹ (record { new = tt; newest = refl; last = refl; leaves = refl } ▹ record { another = λ e. cc; anew = λ e. refl } ▹ tt) ▹ (record { another = λ e. cc; anew = λ e. cc } ▹ tt) ▹ (search (arith, first_next) ▹ tt) ▹ (search (arith, second_next) ▹ tt) ▹ tt ▹ l)
+    (tt ▹ tt ▹ tt ▹ (record { new = tt; newest = refl; last = refl; leaves = refl } ▹ record { another = λ e. cc; anew = λ e. refl } ▹ tt) ▹ (record { another = λ e. cc; anew = λ e. cc } ▹ tt) ▹ (search (arith, first_next) ▹ (refl, λ z. first_told _ _ _ refl refl refl) ▹ tt) ▹ (search (arith, second_next) ▹ (refl, λ z. next_told _ _ _ (nine_sent (once_set.clients_at 0 1) seven_past) refl refl) ▹ tt) ▹ tt ▹ l)
     (tt ▹ tt ▹ refl ▹ (refl ▹ tt) ▹ (refl ▹ tt) ▹ refl ▹ refl ▹ tt ▹ omega arith ▹ unbound (behind 9 told) (verb.AtLink 1 (link_verb.Down 1000)) adopted (answer.Number 100) (ap if_over so.0) (omega arith, λ e. absurd (straight e)) ▹ unbound (behind 10 told) (verb.AtLink 1 (link_verb.Pump 9)) sent (answer.Pulled (frames_in_lines sent) why.Full) (ap if_over so.1) (record { told = refl; most = omega (arith, few); all = λ e. cc; only = λ e. absurd (omega (arith, few, e)) }) ▹ unbound (behind 11 told) (verb.AtLink 1 (link_verb.Down 1000)) got (answer.Number 100) (ap if_over so.2) (omega arith, λ e. absurd (sound e)) ▹ unbound (behind 12 told) (verb.AtVb 1 0 vb_verb.Show) shown (show_answer shown) (ap if_down so.3) (carried shown) ▹ tt)
     (refl ▹ refl ▹ refl ▹ refl ▹ refl ▹ refl ▹ refl ▹ refl ▹ f)
     (tt ▹ tt ▹ tt ▹ tt ▹ tt ▹ tt ▹ tt ▹ tt ▹ (λ z. tt, λ t. tt) ▹ (λ z. tt, acks.0) ▹ tt ▹ (λ z. tt, acks.1) ▹ shows_left (behind 12 told) shown ▹ tt)
+    (heard_then _ _ _ _ _ refl silent_start (λ s. heard_then _ _ _ _ _ refl s (λ s. heard_then _ _ _ _ _ refl s (λ s. heard_then _ _ _ _ _ refl s (λ s. heard_then _ _ _ _ _ refl s (λ s. seven_then _ 6 6 5 _ one_change _ _ refl refl s (λ s e. nine_then _ 7 7 5 _ next_change _ _ refl e s (λ s e. silent_heard _ _ _ s refl))))))))
 
 -- the request of the empty replica is granted, and the log is taken over
 own_request : LawfulAsk before_asked 1 0 0 (ask_above 0 0) 2 (log_of 5) ask_answer.Go

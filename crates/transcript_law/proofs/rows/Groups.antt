@@ -8,6 +8,7 @@ use Rattle.script_text.specs.declared.verb.VbVerb.TheVariants as vb_verb
 use Rattle.script_text.specs.declared.verb.ClientVerb.TheVariants as client_verb
 use Rattle.script_text.specs.declared.verb.LinkVerb.TheVariants as link_verb
 use Rattle.transcript_law.proofs.rows.AskedTests.{asked_so, is_asked_so}
+unfoldable use Rattle.transcript_law.proofs.rows.Silent.{AreHeard}
 use Rattle.vb_events.specs.declared.event.Answer.TheVariants as answer
 use Rattle.vb_events.specs.declared.event.Cause.TheVariants as cause
 
@@ -125,20 +126,21 @@ all_left chronicle [] groups o = tt
 all_left chronicle (line ∷ lines) [] o = tt
 
 -- and all of it
-pub whole_left : (chronicle : Chronicle) (script : List ScriptLine) (told : List Group) → in_line chronicle script told ≡ true → AreParts chronicle script told → AreLeft chronicle script told → LawfulGroups chronicle script told
-whole_left chronicle [] [] o p d = tt
-whole_left chronicle (line ∷ lines) [] o p d = absurd p
-whole_left chronicle [] (group ∷ groups) o p d = absurd p
-whole_left chronicle (line ∷ lines) (group ∷ groups) o p d =
+pub whole_left : (chronicle : Chronicle) (script : List ScriptLine) (told : List Group) → in_line chronicle script told ≡ true → AreParts chronicle script told → AreLeft chronicle script told → AreHeard chronicle script told → LawfulGroups chronicle script told
+unfolding AreHeard
+whole_left chronicle [] [] o p d h = tt
+whole_left chronicle (line ∷ lines) [] o p d h = absurd p
+whole_left chronicle [] (group ∷ groups) o p d h = absurd p
+whole_left chronicle (line ∷ lines) (group ∷ groups) o p d h =
     let next : Chronicle = after_group chronicle line.verb group.events group.answer in
     let one = and_parts (group.line == line.line) _ o in
     let two = and_parts (is_answered_so group.events group.answer) _ one.1 in
     let three = and_parts (are_all (may_tell_of line.verb) group.events) _ two.1 in
     let four = and_parts (is_asked_so chronicle line.verb group.events group.answer) (in_line next lines groups) three.1 in
-    ((p.0.0, p.0.1, p.0.2, eqb-true group.line line.line one.0, tells_so group.events group.answer two.0, three.0, asked_so chronicle line.verb group.events group.answer four.0, d.0), whole_left next lines groups four.1 p.1 d.1)
+    ((p.0.0, p.0.1, p.0.2, eqb-true group.line line.line one.0, tells_so group.events group.answer two.0, three.0, asked_so chronicle line.verb group.events group.answer four.0, d.0, h.0), whole_left next lines groups four.1 p.1 d.1 h.1)
 
-pub whole : (chronicle : Chronicle) (script : List ScriptLine) (told : List Group) → in_order chronicle script told ≡ true → AreParts chronicle script told → LawfulGroups chronicle script told
-whole chronicle script told o p = let two = and_parts (in_line chronicle script told) (all_done script told) o in whole_left chronicle script told two.0 p (all_left chronicle script told two.1)
+pub whole : (chronicle : Chronicle) (script : List ScriptLine) (told : List Group) → in_order chronicle script told ≡ true → AreParts chronicle script told → AreHeard chronicle script told → LawfulGroups chronicle script told
+whole chronicle script told o p h = let two = and_parts (in_line chronicle script told) (all_done script told) o in whole_left chronicle script told two.0 p (all_left chronicle script told two.1) h
 
 -- the parts, each by itself
 pub parts : (chronicle : Chronicle) (script : List ScriptLine) (told : List Group) → AreTold chronicle script told → AreAnswered chronicle script told → AreFired chronicle script told → AreParts chronicle script told
@@ -147,8 +149,8 @@ parts chronicle (line ∷ lines) [] t a f = absurd t
 parts chronicle [] (group ∷ groups) t a f = absurd t
 parts chronicle (line ∷ lines) (group ∷ groups) t a f = ((t.0, a.0, f.0), parts (after_group chronicle line.verb group.events group.answer) lines groups t.1 a.1 f.1)
 
-pub both_left : (chronicle : Chronicle) (script : List ScriptLine) (told : List Group) → in_line chronicle script told ≡ true → AreTold chronicle script told → AreAnswered chronicle script told → AreFired chronicle script told → AreLeft chronicle script told → LawfulGroups chronicle script told
-both_left chronicle script told o t a f d = whole_left chronicle script told o (parts chronicle script told t a f) d
+pub both_left : (chronicle : Chronicle) (script : List ScriptLine) (told : List Group) → in_line chronicle script told ≡ true → AreTold chronicle script told → AreAnswered chronicle script told → AreFired chronicle script told → AreLeft chronicle script told → AreHeard chronicle script told → LawfulGroups chronicle script told
+both_left chronicle script told o t a f d h = whole_left chronicle script told o (parts chronicle script told t a f) d h
 
-pub both : (chronicle : Chronicle) (script : List ScriptLine) (told : List Group) → in_order chronicle script told ≡ true → AreTold chronicle script told → AreAnswered chronicle script told → AreFired chronicle script told → LawfulGroups chronicle script told
-both chronicle script told o t a f = whole chronicle script told o (parts chronicle script told t a f)
+pub both : (chronicle : Chronicle) (script : List ScriptLine) (told : List Group) → in_order chronicle script told ≡ true → AreTold chronicle script told → AreAnswered chronicle script told → AreFired chronicle script told → AreHeard chronicle script told → LawfulGroups chronicle script told
+both chronicle script told o t a f h = whole chronicle script told o (parts chronicle script told t a f) h

@@ -4,10 +4,10 @@ use Rattle.transcript_law.proofs.Words.{ℕ, false, None, List, [], length, map,
 use Rattle.transcript_law.proofs.Words.{Picture, image_of, is_older, document_line, prepare_line, image_lines, empty_chronicle, after_lines, LawfulChange, LawfulLine, LawfulFrom, Lawful, active_vb_lines}
 use Rattle.transcript_law.proofs.Words.{first_doc, one_change, change_line, value_lines, one_set, both_on_one, forked_at, Role, one_set_groups, two_vbs, two_vbs_groups, set_and_show, sets_groups}
 use Rattle.transcript_law.proofs.Words.{set_dead_and_show, set_one, shown_active, shown_after_change, shown_dead, last_seq, Chronicle, IsIfKnown, shown_lines, LawfulShow, LawfulShown, SharesWith, ShownLine, nothing, subst}
-use Rattle.transcript_law.proofs.Words.{after_active, after_dead, due_image, inside_dead, option_map}
+use Rattle.transcript_law.proofs.Words.{Group, ScriptLine, after_active, after_dead, due_image, inside_dead, option_map}
 use Rattle.transcript_law.specs.Lawfulness.{newest_shown}
 use Rattle.transcript_law.specs.{Contrary.{after_dead_changed, branch_inside, branch_left, logged_six}, Rollbacks.{empty_uuid}, Transcripts.{shown_with_change}}
-use Rattle.transcript_law.{proofs.rows.{Groups.{both}, NextRows.{first_next}}, specs.{Chronicles.{ArmKnown, ClientsKnown, Conns, DiskKnown}, LinesTold.{roles_from}}}
+use Rattle.transcript_law.{proofs.rows.{Groups.{both}, NextRows.{first_next}, Sets.{first_refused, first_told, heard_then, seven_refused_then, seven_then}, Silent.{AreHeard, Silent, silent_heard, silent_start}}, specs.{Chronicles.{ArmKnown, ClientsKnown, Conns, DiskKnown}, LinesTold.{roles_from}, Prefixes.{known_after}}}
 use Rattle.std.specs.FinMap as finite
 
 none_of : {X : Type 0} (xs : List X) → length xs ≡ 0 → xs ≡ []
@@ -60,8 +60,9 @@ first_change d a k q = record { active = refl; writer = record { made_or_took = 
 
 pub right : Lawful one_set (one_set_groups 1 0 (value_lines (8 ∷ [])))
 right = both empty_chronicle one_set (one_set_groups 1 0 (value_lines (8 ∷ []))) refl
-    (tt, (tt, ((record { new = tt; newest = refl; last = refl; leaves = refl }, (record { another = λ e. cc; anew = λ e. refl }, tt)), ((first_change _ _ _ _, tt), ((shown _ _ _ refl refl refl refl image refl refl as_set (λ _. refl) (λ _. refl), (tt, tt)), tt)))))
+    (tt, (tt, ((record { new = tt; newest = refl; last = refl; leaves = refl }, (record { another = λ e. cc; anew = λ e. refl }, tt)), ((first_change _ _ _ _, ((refl, λ z. first_told _ _ _ refl refl refl), tt)), ((shown _ _ _ refl refl refl refl image refl refl as_set (λ _. refl) (λ _. refl), (tt, tt)), tt)))))
     (tt, (refl, ((refl, tt), (refl, (tt, tt))))) (refl, (refl, (refl, (refl, (refl, tt)))))
+    (heard_then _ _ _ _ _ refl silent_start (λ s. heard_then _ _ _ _ _ refl s (λ s. heard_then _ _ _ _ _ refl s (λ s. seven_then _ 4 4 5 _ one_change _ _ refl refl s (λ s e. silent_heard _ _ _ s refl)))))
 
 -- what the last line of a lawful transcript of this kind has behind it, and how many documents and prepares it tells of
 shown_is : (count preps : ℕ) (behind : List Event) → Lawful one_set (one_set_groups count preps behind) → (behind ≡ value_lines (8 ∷ [])) × (count ≡ 1) × (preps ≡ 0)
@@ -105,8 +106,12 @@ two_writers e =
     let vb : ◌≡◌ {A = ℕ} 0 1 = ap (λ (p : ℕ × ℕ). p.1) pair in
     omega arith
 
+-- behind those that make them no client is left without an answer, if none is from there on
+from_two : (more : List ScriptLine) (groups : List Group) → (let read : Chronicle = known_after empty_chronicle (two_vbs 6 []) (two_vbs_groups 6 []) in (Silent read.clients_at → AreHeard read more groups) → AreHeard empty_chronicle (two_vbs 6 more) (two_vbs_groups 6 groups))
+from_two more groups heard = heard_then _ _ _ _ _ refl silent_start (λ s. heard_then _ _ _ _ _ refl s (λ s. heard_then _ _ _ _ _ refl s (λ s. heard_then _ _ _ _ _ refl s heard)))
+
 pub own : Lawful (two_vbs 6 set_one) (two_vbs_groups 6 (sets_groups (change_line 0 ∷ [])))
-own = both empty_chronicle (two_vbs 6 set_one) (two_vbs_groups 6 (sets_groups (change_line 0 ∷ []))) refl (tt, (tt, ((record { new = tt; newest = refl; last = refl; leaves = refl }, (record { another = λ e. cc; anew = λ e. refl }, tt)), (second_new _ _ _ _ refl, ((change_of_two _ _ _ _, tt), tt))))) (tt, (refl, ((refl, tt), ((refl, tt), (refl, tt))))) (refl, (refl, (refl, (refl, (refl, tt)))))
+own = both empty_chronicle (two_vbs 6 set_one) (two_vbs_groups 6 (sets_groups (change_line 0 ∷ []))) refl (tt, (tt, ((record { new = tt; newest = refl; last = refl; leaves = refl }, (record { another = λ e. cc; anew = λ e. refl }, tt)), (second_new _ _ _ _ refl, ((change_of_two _ _ _ _, ((refl, λ z. first_told _ _ _ refl refl refl), tt)), tt))))) (tt, (refl, ((refl, tt), ((refl, tt), (refl, tt))))) (refl, (refl, (refl, (refl, (refl, tt))))) (from_two _ _ (λ s. seven_then _ 5 5 5 _ one_change _ _ refl refl s (λ s e. silent_heard _ _ _ s refl)))
 
 pub writer : Lawful (two_vbs 6 set_one) (two_vbs_groups 6 (sets_groups (change_line 1 ∷ []))) → ⊥
 writer l = two_writers l.1.1.1.1.0.0.0.writer.made_or_took
@@ -125,16 +130,18 @@ at_fork l = let low = l.above_forks.0 refl in omega arith
 
 pub same : Lawful (two_vbs 6 set_dead_and_show) (two_vbs_groups 6 (shown_after_change 5))
 same = both empty_chronicle (two_vbs 6 set_dead_and_show) (two_vbs_groups 6 (shown_after_change 5)) refl
-    (tt, (tt, ((record { new = tt; newest = refl; last = refl; leaves = refl }, (record { another = λ e. cc; anew = λ e. refl }, tt)), (second_new _ _ _ _ refl, ((change_of_two _ _ _ _, tt), ((record { another = λ e. cc; anew = λ e. cc }, tt), ((shown _ _ _ refl refl refl refl image refl refl as_set (λ _. refl) (λ e. cc), (tt, tt)), tt)))))))
+    (tt, (tt, ((record { new = tt; newest = refl; last = refl; leaves = refl }, (record { another = λ e. cc; anew = λ e. refl }, tt)), (second_new _ _ _ _ refl, ((change_of_two _ _ _ _, ((refl, λ z. first_told _ _ _ refl refl refl), tt)), ((record { another = λ e. cc; anew = λ e. cc }, tt), ((shown _ _ _ refl refl refl refl image refl refl as_set (λ _. refl) (λ e. cc), (tt, tt)), tt)))))))
     (tt, (refl, ((refl, tt), ((refl, tt), (refl, ((refl, tt), (tt, tt))))))) (refl, (refl, (refl, (refl, (refl, (refl, (refl, tt)))))))
+    (from_two _ _ (λ s. seven_then _ 5 5 5 _ one_change _ _ refl refl s (λ s e. silent_heard _ _ _ s refl)))
 
 pub history : Lawful (two_vbs 6 set_dead_and_show) (two_vbs_groups 6 (shown_after_change 6)) → ⊥
 history l = let e : ◌≡◌ {A = List Change} [] (one_change ∷ []) = (l.1.1.1.1.1.1.0.0.0.complete refl).shared (λ z. omega arith) in cc
 
 pub dead : Lawful (two_vbs 6 set_dead_and_show) (two_vbs_groups 6 (shown_dead 5))
 dead = both empty_chronicle (two_vbs 6 set_dead_and_show) (two_vbs_groups 6 (shown_dead 5)) refl
-    (tt, (tt, ((record { new = tt; newest = refl; last = refl; leaves = refl }, (record { another = λ e. cc; anew = λ e. refl }, tt)), (second_new _ _ _ _ refl, (tt, ((record { another = λ e. cc; anew = λ e. cc }, tt), ((shown _ _ _ refl refl refl refl nothing refl refl as_made (λ _. refl) (λ e. cc), tt), tt)))))))
+    (tt, (tt, ((record { new = tt; newest = refl; last = refl; leaves = refl }, (record { another = λ e. cc; anew = λ e. refl }, tt)), (second_new _ _ _ _ refl, (((refl, λ z. first_refused _ _ refl refl tt), tt), ((record { another = λ e. cc; anew = λ e. cc }, tt), ((shown _ _ _ refl refl refl refl nothing refl refl as_made (λ _. refl) (λ e. cc), tt), tt)))))))
     (tt, (refl, ((refl, tt), ((refl, tt), (refl, ((refl, tt), (tt, tt))))))) (refl, (refl, (refl, (refl, (refl, (refl, (refl, tt)))))))
+    (from_two _ _ (λ s. seven_refused_then _ 5 5 _ _ _ refl refl s (λ s. silent_heard _ _ _ s refl)))
 
 pub dead_other : Lawful (two_vbs 6 set_dead_and_show) (two_vbs_groups 6 (shown_dead 6)) → ⊥
 dead_other l = let e : ◌≡◌ {A = ℕ} 5 6 = l.1.1.1.1.1.1.0.0.0.newest in omega arith

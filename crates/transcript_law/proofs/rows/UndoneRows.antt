@@ -1,5 +1,5 @@
 -- takes and pumps that leave changes, judged by hand
-use Rattle.std.specs.Prelude.{◌≡◌, ◌≤◌, ◌<◌, ◌⊎◌, ◌∷◌}
+use Rattle.std.specs.Prelude.{◌≡◌, ◌≤◌, ◌<◌, ◌∷◌}
 use Rattle.transcript_law.proofs.Words.{ℕ, Bool, true, false, List, [], refl, ap, sym, ◌∙◌, subst, arith, inl, inr, ⊎_elim, Option, Some, None, Begun, Chronicle, Dial, Event, frames_in_lines, Granted, ItemLine, Role, after_lines, both_sent_lines, granted_inside, item_of_change}
 use Rattle.transcript_law.proofs.links.{Idling.{all_put_by}, PumpAnswers.{pumped_right}}
 use Rattle.transcript_law.proofs.rows.Followers.{◌▹◌, begun, both_cover, changes, first_item, next_item, own_dial, own_stream, streamed}
@@ -60,6 +60,7 @@ all_put = (
     refl,
     refl,
     put_whole (after_lines granted_both both_sent_lines) (streamed (begun 0 2 (first_item ∷ next_item ∷ []))) refl refl (record { whole = (first_item ∷ [], next_item, refl, refl); active = refl; none = inl (omega arith) }),
+    λ n c opens. cc,
   ),
   tt,
 )
@@ -76,6 +77,7 @@ put_before = (
     refl,
     all_put_by after_both 1 own_dial (after_both.stream_of (name.Link 1) 0) refl refl (λ g is over.
         let one : _ ≡ g = some_one is in subst (HasNoMore after_both 0 0) one (record { whole = (first_item ∷ [], next_item, refl, refl); active = refl; none = inl (omega arith) })),
+    λ n c opens. cc,
   ),
   tt,
 )
@@ -111,6 +113,7 @@ ended = (
     refl,
     refl,
     all_put_by (after_lines (after_both_dead after_both) puts_end.0) 1 own_dial ((after_lines (after_both_dead after_both) puts_end.0).stream_of (name.Link 1) 0) refl refl (λ g is over. absurd (ended_over g is over)),
+    λ n c opens. cc,
   ),
   tt,
 )
