@@ -84,7 +84,7 @@ makes_commit clients = record {
 
 pub committed : LawfulTo pending (durably 1 9 6) (makes committed_change ∷ stores SET 2 [] ∷ [])
 unfolding spelling frames_in first_frame frame_of read_of frame_row shape_fault request_of requirement_of
-committed = (makes_commit _, (λ z. inl (record { question = _; next = refl; answer = reply_frame (stored_answer SET 9 2 []); spelled = refl; response = refl; opcode = refl; opaque = refl; fits = inr (inr (inl (record { one = record { node = 0; vb = 0; branch = 5; change = committed_change }; told_before = inl refl; here = refl; prepared = 2; doc = first_doc 2 (6 ∷ []); deleted = false; commits = refl; told = stored_so SET 9 2 [] }))) }), tt))
+committed = (makes_commit _, (λ z. inl (record { question = _; next = refl; answer = reply_frame (stored_answer SET 9 2 []); spelled = refl; response = refl; opcode = refl; opaque = refl; calm = inl (_, _, refl, inl refl); fits = inr (inr (inl (record { one = record { node = 0; vb = 0; branch = 5; change = committed_change }; told_before = inl refl; here = refl; prepared = 2; doc = first_doc 2 (6 ∷ []); deleted = false; commits = refl; told = stored_so SET 9 2 [] }))) }), tt))
 
 pub uncommitted : LawfulTo durable (durably 1 9 6) (stores SET 2 [] ∷ []) → ⊥
 unfolding spelling frames_in first_frame frame_of read_of frame_row shape_fault request_of requirement_of
@@ -104,11 +104,11 @@ far l = let (g, s, fits) = asked_so (l.1.0 refl) refl refl refl in let c = only_
 
 pub later : LawfulTo pending (noop 9 ++ durably 1 9 6) (makes committed_change ∷ answers 9 ∷ stores SET 2 [] ∷ [])
 unfolding spelling frames_in first_frame frame_of read_of frame_row shape_fault request_of requirement_of
-later = (makes_commit _, (λ z. noop_answer 9 refl refl refl refl, (λ z. inl (record { question = _; next = refl; answer = reply_frame (stored_answer SET 9 2 []); spelled = refl; response = refl; opcode = refl; opaque = refl; fits = inr (inr (inl (record { one = record { node = 0; vb = 0; branch = 5; change = committed_change }; told_before = inl refl; here = refl; prepared = 2; doc = first_doc 2 (6 ∷ []); deleted = false; commits = refl; told = stored_so SET 9 2 [] }))) }), tt)))
+later = (makes_commit _, (λ z. noop_answer 9 refl refl refl refl (refl, tt), (λ z. inl (record { question = _; next = refl; answer = reply_frame (stored_answer SET 9 2 []); spelled = refl; response = refl; opcode = refl; opaque = refl; calm = inl (_, _, refl, inl refl); fits = inr (inr (inl (record { one = record { node = 0; vb = 0; branch = 5; change = committed_change }; told_before = inl refl; here = refl; prepared = 2; doc = first_doc 2 (6 ∷ []); deleted = false; commits = refl; told = stored_so SET 9 2 [] }))) }), tt)))
 
 pub seqnos : LawfulBy for_seqnos pending (durably 1 9 6) (makes committed_change ∷ stores SET 2 (seqno_extras 5 3) ∷ [])
 unfolding spelling frames_in first_frame frame_of read_of frame_row shape_fault request_of requirement_of
-seqnos = (makes_commit _, (λ z. inl (record { question = _; next = refl; answer = reply_frame (stored_answer SET 9 2 (seqno_extras 5 3)); spelled = refl; response = refl; opcode = refl; opaque = refl; fits = inr (inr (inl (record { one = record { node = 0; vb = 0; branch = 5; change = committed_change }; told_before = inl refl; here = refl; prepared = 2; doc = first_doc 2 (6 ∷ []); deleted = false; commits = refl; told = stored_so SET 9 2 (seqno_extras 5 3) }))) }), tt))
+seqnos = (makes_commit _, (λ z. inl (record { question = _; next = refl; answer = reply_frame (stored_answer SET 9 2 (seqno_extras 5 3)); spelled = refl; response = refl; opcode = refl; opaque = refl; calm = inl (_, _, refl, inl refl); fits = inr (inr (inl (record { one = record { node = 0; vb = 0; branch = 5; change = committed_change }; told_before = inl refl; here = refl; prepared = 2; doc = first_doc 2 (6 ∷ []); deleted = false; commits = refl; told = stored_so SET 9 2 (seqno_extras 5 3) }))) }), tt))
 
 pub untold : LawfulBy for_seqnos pending (durably 1 9 6) (makes committed_change ∷ stores SET 2 [] ∷ []) → ⊥
 unfolding spelling frames_in first_frame frame_of read_of frame_row shape_fault request_of requirement_of

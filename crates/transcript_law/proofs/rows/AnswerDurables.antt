@@ -28,7 +28,7 @@ possible_alone e = cc
 
 pub impossible : LawfulAmong (None ∷ []) [] (durably 1 7 8) (says SET status.DurabilityImpossible ∷ [])
 unfolding spelling frames_in first_frame frame_of read_of frame_row shape_fault request_of requirement_of
-impossible = (λ z. inl (record { question = _; next = refl; answer = reply_frame (bare_answer SET status.DurabilityImpossible 9); spelled = refl; response = refl; opcode = refl; opaque = refl; fits = inr (inl (status.DurabilityImpossible, bare_so SET 9 status.DurabilityImpossible, why_besides refl (inr (refl, refl)), λ a e. refl)) }), tt)
+impossible = (λ z. inl (record { question = _; next = refl; answer = reply_frame (bare_answer SET status.DurabilityImpossible 9); spelled = refl; response = refl; opcode = refl; opaque = refl; calm = inr tt; fits = inr (inl (status.DurabilityImpossible, bare_so SET 9 status.DurabilityImpossible, why_besides refl (inr (refl, refl)), λ a e. refl)) }), tt)
 
 pub possible : LawfulTo [] (durably 1 7 8) (says SET status.DurabilityImpossible ∷ []) → ⊥
 unfolding spelling frames_in first_frame frame_of read_of frame_row shape_fault request_of requirement_of
@@ -36,7 +36,7 @@ possible l = let (g, s, fits) = asked_so (l.0 refl) refl refl refl in ⊎_elim (
 
 pub impossible_first : LawfulAmong (None ∷ []) pending (durably 1 9 4) (says SET status.DurabilityImpossible ∷ [])
 unfolding spelling frames_in first_frame frame_of read_of frame_row shape_fault request_of requirement_of
-impossible_first = (λ z. inl (record { question = _; next = refl; answer = reply_frame (bare_answer SET status.DurabilityImpossible 9); spelled = refl; response = refl; opcode = refl; opaque = refl; fits = inr (inl (status.DurabilityImpossible, bare_so SET 9 status.DurabilityImpossible, why_besides refl (inr (refl, refl)), λ a e. refl)) }), tt)
+impossible_first = (λ z. inl (record { question = _; next = refl; answer = reply_frame (bare_answer SET status.DurabilityImpossible 9); spelled = refl; response = refl; opcode = refl; opaque = refl; calm = inr tt; fits = inr (inl (status.DurabilityImpossible, bare_so SET 9 status.DurabilityImpossible, why_besides refl (inr (refl, refl)), λ a e. refl)) }), tt)
 
 pub locked_first : LawfulAmong (None ∷ []) pending (durably 1 9 4) (says SET status.SyncWriteInProgress ∷ []) → ⊥
 unfolding spelling frames_in first_frame frame_of read_of frame_row shape_fault request_of requirement_of
@@ -44,11 +44,11 @@ locked_first l = let (g, s, fits) = asked_so (l.0 refl) refl refl refl in ⊎_el
 
 pub locked : LawfulTo pending (durably 1 9 4) (says SET status.SyncWriteInProgress ∷ [])
 unfolding spelling frames_in first_frame frame_of read_of frame_row shape_fault request_of requirement_of
-locked = (λ z. inl (record { question = _; next = refl; answer = reply_frame (bare_answer SET status.SyncWriteInProgress 9); spelled = refl; response = refl; opcode = refl; opaque = refl; fits = inr (inl (status.SyncWriteInProgress, bare_so SET 9 status.SyncWriteInProgress, why_locked refl (waits, nine_waits), λ a e. possible_alone e)) }), tt)
+locked = (λ z. inl (record { question = _; next = refl; answer = reply_frame (bare_answer SET status.SyncWriteInProgress 9); spelled = refl; response = refl; opcode = refl; opaque = refl; calm = inr tt; fits = inr (inl (status.SyncWriteInProgress, bare_so SET 9 status.SyncWriteInProgress, why_locked refl (waits, nine_waits), λ a e. possible_alone e)) }), tt)
 
 pub plain_locked : LawfulAmong (None ∷ []) pending (writes SET 0 9 4) (says SET status.SyncWriteInProgress ∷ [])
 unfolding spelling frames_in first_frame frame_of read_of frame_row shape_fault request_of requirement_of
-plain_locked = (λ z. inl (record { question = _; next = refl; answer = reply_frame (bare_answer SET status.SyncWriteInProgress 9); spelled = refl; response = refl; opcode = refl; opaque = refl; fits = inl (status.SyncWriteInProgress, bare_so SET 9 status.SyncWriteInProgress, why_locked refl (waits, nine_waits)) }), tt)
+plain_locked = (λ z. inl (record { question = _; next = refl; answer = reply_frame (bare_answer SET status.SyncWriteInProgress 9); spelled = refl; response = refl; opcode = refl; opaque = refl; calm = inr tt; fits = inl (status.SyncWriteInProgress, bare_so SET 9 status.SyncWriteInProgress, why_locked refl (waits, nine_waits)) }), tt)
 
 pub plain_impossible : LawfulAmong (None ∷ []) [] (writes SET 0 7 8) (says SET status.DurabilityImpossible ∷ []) → ⊥
 unfolding spelling frames_in first_frame frame_of read_of frame_row shape_fault request_of requirement_of
@@ -56,7 +56,7 @@ plain_impossible l = let (g, s, fits) = asked_so (l.0 refl) refl refl refl in �
 
 pub ambiguous : LawfulTo [] (durably 1 7 8) (says SET status.SyncWriteAmbiguous ∷ [])
 unfolding spelling frames_in first_frame frame_of read_of frame_row shape_fault request_of requirement_of
-ambiguous = (λ z. inl (record { question = _; next = refl; answer = reply_frame (bare_answer SET status.SyncWriteAmbiguous 9); spelled = refl; response = refl; opcode = refl; opaque = refl; fits = inr (inr (inr (bare_so SET 9 status.SyncWriteAmbiguous))) }), tt)
+ambiguous = (λ z. inl (record { question = _; next = refl; answer = reply_frame (bare_answer SET status.SyncWriteAmbiguous 9); spelled = refl; response = refl; opcode = refl; opaque = refl; calm = inl (_, _, refl, inr refl); fits = inr (inr (inr (bare_so SET 9 status.SyncWriteAmbiguous))) }), tt)
 
 pub plain_ambiguous : LawfulTo [] (writes SET 0 7 8) (says SET status.SyncWriteAmbiguous ∷ []) → ⊥
 unfolding spelling frames_in first_frame frame_of read_of frame_row shape_fault request_of requirement_of
@@ -64,7 +64,7 @@ plain_ambiguous l = let (g, s, fits) = asked_so (l.0 refl) refl refl refl in ⊎
 
 pub away : LawfulAway [] (durably 1 7 8) (says SET status.NotMyVbucket ∷ [])
 unfolding spelling frames_in first_frame frame_of read_of frame_row shape_fault request_of requirement_of
-away = (λ z. inl (record { question = _; next = refl; answer = reply_frame (bare_answer SET status.NotMyVbucket 9); spelled = refl; response = refl; opcode = refl; opaque = refl; fits = inr (inl (status.NotMyVbucket, bare_so SET 9 status.NotMyVbucket, why_away no_active, λ a e. absurd (no_active a))) }), tt)
+away = (λ z. inl (record { question = _; next = refl; answer = reply_frame (bare_answer SET status.NotMyVbucket 9); spelled = refl; response = refl; opcode = refl; opaque = refl; calm = inr tt; fits = inr (inl (status.NotMyVbucket, bare_so SET 9 status.NotMyVbucket, why_away no_active, λ a e. absurd (no_active a))) }), tt)
 
 pub active : LawfulTo [] (durably 1 7 8) (says SET status.NotMyVbucket ∷ []) → ⊥
 unfolding spelling frames_in first_frame frame_of read_of frame_row shape_fault request_of requirement_of
@@ -76,15 +76,15 @@ other l = let (g, s, fits) = asked_so (l.0 refl) refl refl refl in ⊎_elim (λ 
 
 pub spent : LawfulTo [] (durably 1 7 8) (says SET status.Etmpfail ∷ [])
 unfolding spelling frames_in first_frame frame_of read_of frame_row shape_fault request_of requirement_of
-spent = (λ z. inl (record { question = _; next = refl; answer = reply_frame (bare_answer SET status.Etmpfail 9); spelled = refl; response = refl; opcode = refl; opaque = refl; fits = inl (bare_so SET 9 status.Etmpfail) }), tt)
+spent = (λ z. inl (record { question = _; next = refl; answer = reply_frame (bare_answer SET status.Etmpfail 9); spelled = refl; response = refl; opcode = refl; opaque = refl; calm = inr tt; fits = inl (bare_so SET 9 status.Etmpfail) }), tt)
 
 pub spent_away : LawfulAway [] (durably 1 7 8) (says SET status.Etmpfail ∷ [])
 unfolding spelling frames_in first_frame frame_of read_of frame_row shape_fault request_of requirement_of
-spent_away = (λ z. inl (record { question = _; next = refl; answer = reply_frame (bare_answer SET status.Etmpfail 9); spelled = refl; response = refl; opcode = refl; opaque = refl; fits = inl (bare_so SET 9 status.Etmpfail) }), tt)
+spent_away = (λ z. inl (record { question = _; next = refl; answer = reply_frame (bare_answer SET status.Etmpfail 9); spelled = refl; response = refl; opcode = refl; opaque = refl; calm = inr tt; fits = inl (bare_so SET 9 status.Etmpfail) }), tt)
 
 pub no_level : LawfulTo [] (durably 4 7 8) (says SET status.DurabilityInvalidLevel ∷ [])
 unfolding spelling frames_in first_frame frame_of read_of frame_row shape_fault request_of requirement_of
-no_level = (λ z. kv_answer (reply_frame (bare_answer SET status.DurabilityInvalidLevel 9)) refl refl refl refl refl refl (bare_so SET 9 status.DurabilityInvalidLevel), tt)
+no_level = (λ z. kv_answer (reply_frame (bare_answer SET status.DurabilityInvalidLevel 9)) refl refl refl refl refl refl (bare_so SET 9 status.DurabilityInvalidLevel) (inr tt), tt)
 
 pub level : LawfulTo [] (durably 3 7 8) (says SET status.DurabilityInvalidLevel ∷ []) → ⊥
 unfolding spelling frames_in first_frame frame_of read_of frame_row shape_fault request_of requirement_of

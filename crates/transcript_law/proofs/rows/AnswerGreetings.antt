@@ -1,5 +1,5 @@
 -- answers to HELLO and NOOP, and to frames that ask nothing, judged by hand
-use Rattle.std.proofs.Common.{[], ap, arith, refl, true, false, ℕ, ◌++◌, ◌∷◌, ◌≡◌}
+use Rattle.std.proofs.Common.{[], ap, arith, refl, true, false, ℕ, ◌++◌, ◌∷◌, ◌≡◌, inr}
 unfoldable use Rattle.mcbp_dcp.specs.Messages.{read_of}
 unfoldable use Rattle.mcbp_dcp.specs.Rows.{frame_row}
 unfoldable use Rattle.mcbp_dcp.specs.Shapes.{shape_fault}
@@ -22,7 +22,7 @@ use Rattle.transcript_law.proofs.rows.NextRows.{seven_pending, seven_there}
 
 pub hello : LawfulTo [] (greets (feature.Json ∷ [])) (welcomes (feature.Json ∷ []) ∷ [])
 unfolding spelling frames_in first_frame frame_of read_of frame_row shape_fault request_of requirement_of accepted feature_bytes
-hello = (λ z. kv_answer (reply_frame (welcome_answer 9 (feature.Json ∷ []))) refl refl refl refl refl refl (welcome_so 9 (feature.Json ∷ [])), tt)
+hello = (λ z. kv_answer (reply_frame (welcome_answer 9 (feature.Json ∷ []))) refl refl refl refl refl refl (welcome_so 9 (feature.Json ∷ [])) (inr tt), tt)
 
 pub more : LawfulTo [] (greets (feature.Json ∷ [])) (welcomes (feature.Json ∷ feature.MutationSeqnos ∷ []) ∷ []) → ⊥
 unfolding spelling frames_in first_frame frame_of read_of frame_row shape_fault request_of requirement_of accepted feature_bytes
@@ -34,7 +34,7 @@ fewer l = let (g, s, fits) = asked_so (l.0 refl) refl refl refl in let e : ◌�
 
 pub sets : LawfulTo json_once (greets (feature.Json ∷ []) ++ gets 0 7) (welcomes (feature.Json ∷ []) ∷ finds json_doc ∷ [])
 unfolding spelling frames_in first_frame frame_of read_of frame_row shape_fault request_of requirement_of accepted feature_bytes
-sets = (λ z. kv_answer (reply_frame (welcome_answer 9 (feature.Json ∷ []))) refl refl refl refl refl refl (welcome_so 9 (feature.Json ∷ [])), (λ z. kv_answer (reply_frame (found_answer true 9 json_doc)) refl refl refl refl refl refl (get_found json_doc refl (seven_there json_doc) (found_so true 9 json_doc)), tt))
+sets = (λ z. kv_answer (reply_frame (welcome_answer 9 (feature.Json ∷ []))) refl refl refl refl refl refl (welcome_so 9 (feature.Json ∷ [])) (inr tt), (λ z. kv_answer (reply_frame (found_answer true 9 json_doc)) refl refl refl refl refl refl (get_found json_doc refl (seven_there json_doc) (found_so true 9 json_doc)) (inr tt), tt))
 
 pub sets_raw : LawfulTo json_once (greets (feature.Json ∷ []) ++ gets 0 7) (welcomes (feature.Json ∷ []) ∷ finds_raw json_doc ∷ []) → ⊥
 unfolding spelling frames_in first_frame frame_of read_of frame_row shape_fault request_of requirement_of accepted feature_bytes
@@ -42,11 +42,11 @@ sets_raw l = let (g, s, fits) = asked_so (l.1.0 refl) refl refl refl in let e : 
 
 pub sets_back : LawfulBy for_json json_once (greets [] ++ gets 0 7) (welcomes [] ∷ finds_raw json_doc ∷ [])
 unfolding spelling frames_in first_frame frame_of read_of frame_row shape_fault request_of requirement_of accepted feature_bytes
-sets_back = (λ z. kv_answer (reply_frame (welcome_answer 9 ([]))) refl refl refl refl refl refl (welcome_so 9 []), (λ z. kv_answer (reply_frame (found_answer false 9 json_doc)) refl refl refl refl refl refl (get_found json_doc refl (seven_there json_doc) (found_so false 9 json_doc)), tt))
+sets_back = (λ z. kv_answer (reply_frame (welcome_answer 9 ([]))) refl refl refl refl refl refl (welcome_so 9 []) (inr tt), (λ z. kv_answer (reply_frame (found_answer false 9 json_doc)) refl refl refl refl refl refl (get_found json_doc refl (seven_there json_doc) (found_so false 9 json_doc)) (inr tt), tt))
 
 pub nooping : LawfulTo [] (noop 9) (says NOOP status.Success ∷ [])
 unfolding spelling frames_in first_frame frame_of read_of frame_row shape_fault request_of requirement_of
-nooping = (λ z. kv_answer (reply_frame (bare_answer NOOP status.Success 9)) refl refl refl refl refl refl (bare_so NOOP 9 status.Success), tt)
+nooping = (λ z. kv_answer (reply_frame (bare_answer NOOP status.Success 9)) refl refl refl refl refl refl (bare_so NOOP 9 status.Success) (inr tt), tt)
 
 pub noop_refused : LawfulTo [] (noop 9) (says NOOP status.Einval ∷ []) → ⊥
 unfolding spelling frames_in first_frame frame_of read_of frame_row shape_fault request_of requirement_of
@@ -54,7 +54,7 @@ noop_refused l = let (g, s, fits) = asked_so (l.0 refl) refl refl refl in let e 
 
 pub formless_refused : LawfulTo [] formless (says NOOP status.Einval ∷ [])
 unfolding spelling frames_in first_frame frame_of read_of frame_row shape_fault request_of requirement_of
-formless_refused = (λ z. kv_answer (reply_frame (bare_answer NOOP status.Einval 9)) refl refl refl refl refl refl (bare_so NOOP 9 status.Einval), tt)
+formless_refused = (λ z. kv_answer (reply_frame (bare_answer NOOP status.Einval 9)) refl refl refl refl refl refl (bare_so NOOP 9 status.Einval) (inr tt), tt)
 
 pub formless_taken : LawfulTo [] formless (says NOOP status.Success ∷ []) → ⊥
 unfolding spelling frames_in first_frame frame_of read_of frame_row shape_fault request_of requirement_of
@@ -62,7 +62,7 @@ formless_taken l = let (g, s, fits) = asked_so (l.0 refl) refl refl refl in let 
 
 pub unknown_refused : LawfulTo [] unknown (says 200 status.UnknownCommand ∷ [])
 unfolding spelling frames_in first_frame frame_of read_of frame_row shape_fault request_of requirement_of
-unknown_refused = (λ z. kv_answer (reply_frame (bare_answer 200 status.UnknownCommand 9)) refl refl refl refl refl refl (bare_so 200 9 status.UnknownCommand), tt)
+unknown_refused = (λ z. kv_answer (reply_frame (bare_answer 200 status.UnknownCommand 9)) refl refl refl refl refl refl (bare_so 200 9 status.UnknownCommand) (inr tt), tt)
 
 pub unknown_other : LawfulTo [] unknown (says 200 status.Einval ∷ []) → ⊥
 unfolding spelling frames_in first_frame frame_of read_of frame_row shape_fault request_of requirement_of

@@ -79,7 +79,7 @@ newer_there = get-insert_same (image_of once).docs (7 ∷ []) newer_doc
 
 pub found : LawfulTo once (gets 0 7) (finds (first_doc 1 (8 ∷ [])) ∷ [])
 unfolding spelling frames_in first_frame frame_of read_of frame_row shape_fault request_of requirement_of
-found = (λ z. kv_answer (reply_frame (found_answer true 9 (first_doc 1 (8 ∷ [])))) refl refl refl refl refl refl (get_found (first_doc 1 (8 ∷ [])) refl (seven_there (first_doc 1 (8 ∷ []))) (found_so false 9 (first_doc 1 (8 ∷ [])))), tt)
+found = (λ z. kv_answer (reply_frame (found_answer true 9 (first_doc 1 (8 ∷ [])))) refl refl refl refl refl refl (get_found (first_doc 1 (8 ∷ [])) refl (seven_there (first_doc 1 (8 ∷ []))) (found_so false 9 (first_doc 1 (8 ∷ [])))) (inr tt), tt)
 
 pub value : LawfulTo once (gets 0 7) (finds (first_doc 1 (9 ∷ [])) ∷ []) → ⊥
 unfolding spelling frames_in first_frame frame_of read_of frame_row shape_fault request_of requirement_of
@@ -95,7 +95,7 @@ key l = let (g, s, fits) = asked_so (l.0 refl) refl refl refl in let e : ◌≡�
 
 pub newest : LawfulTo (one_change ∷ newer ∷ []) (gets 0 7) (finds newer_doc ∷ [])
 unfolding spelling frames_in first_frame frame_of read_of frame_row shape_fault request_of requirement_of
-newest = (λ z. kv_answer (reply_frame (found_answer true 9 newer_doc)) refl refl refl refl refl refl (get_found newer_doc refl newer_there (found_so false 9 newer_doc)), tt)
+newest = (λ z. kv_answer (reply_frame (found_answer true 9 newer_doc)) refl refl refl refl refl refl (get_found newer_doc refl newer_there (found_so false 9 newer_doc)) (inr tt), tt)
 
 pub older : LawfulTo (one_change ∷ newer ∷ []) (gets 0 7) (finds (first_doc 1 (8 ∷ [])) ∷ []) → ⊥
 unfolding spelling frames_in first_frame frame_of read_of frame_row shape_fault request_of requirement_of
@@ -107,11 +107,11 @@ prepare l = let (g, s, fits) = asked_so (l.0 refl) refl refl refl in ⊎_elim (�
 
 pub beside_prepare : LawfulTo pending (gets 0 9) (says GET status.KeyEnoent ∷ [])
 unfolding spelling frames_in first_frame frame_of read_of frame_row shape_fault request_of requirement_of
-beside_prepare = (λ z. kv_answer (reply_frame (bare_answer GET status.KeyEnoent 9)) refl refl refl refl refl refl (get_none refl (nine_none (first_doc 1 (8 ∷ []))) (bare_so GET 9 status.KeyEnoent)), tt)
+beside_prepare = (λ z. kv_answer (reply_frame (bare_answer GET status.KeyEnoent 9)) refl refl refl refl refl refl (get_none refl (nine_none (first_doc 1 (8 ∷ []))) (bare_so GET 9 status.KeyEnoent)) (inr tt), tt)
 
 pub left_undone : LawfulTo pending (gets 0 9) (says GET status.SyncWriteReCommitInProgress ∷ [])
 unfolding spelling frames_in first_frame frame_of read_of frame_row shape_fault request_of requirement_of
-left_undone = (λ z. kv_answer (reply_frame (bare_answer GET status.SyncWriteReCommitInProgress 9)) refl refl refl refl refl refl (get_left refl (waits, nine_waits) (bare_so GET 9 status.SyncWriteReCommitInProgress)), tt)
+left_undone = (λ z. kv_answer (reply_frame (bare_answer GET status.SyncWriteReCommitInProgress 9)) refl refl refl refl refl refl (get_left refl (waits, nine_waits) (bare_so GET 9 status.SyncWriteReCommitInProgress)) (inr tt), tt)
 
 pub nothing_undone : LawfulTo once (gets 0 7) (says GET status.SyncWriteReCommitInProgress ∷ []) → ⊥
 unfolding spelling frames_in first_frame frame_of read_of frame_row shape_fault request_of requirement_of
@@ -119,7 +119,7 @@ nothing_undone l = let (g, s, fits) = asked_so (l.0 refl) refl refl refl in let 
 
 pub none : LawfulTo once (gets 0 9) (says GET status.KeyEnoent ∷ [])
 unfolding spelling frames_in first_frame frame_of read_of frame_row shape_fault request_of requirement_of
-none = (λ z. kv_answer (reply_frame (bare_answer GET status.KeyEnoent 9)) refl refl refl refl refl refl (get_none refl (nine_none (first_doc 1 (8 ∷ []))) (bare_so GET 9 status.KeyEnoent)), tt)
+none = (λ z. kv_answer (reply_frame (bare_answer GET status.KeyEnoent 9)) refl refl refl refl refl refl (get_none refl (nine_none (first_doc 1 (8 ∷ []))) (bare_so GET 9 status.KeyEnoent)) (inr tt), tt)
 
 pub not_none : LawfulTo once (gets 0 7) (says GET status.KeyEnoent ∷ []) → ⊥
 unfolding spelling frames_in first_frame frame_of read_of frame_row shape_fault request_of requirement_of
@@ -127,7 +127,7 @@ not_none l = let (g, s, fits) = asked_so (l.0 refl) refl refl refl in let e : �
 
 pub away : LawfulAway once (gets 0 7) (says GET status.NotMyVbucket ∷ [])
 unfolding spelling frames_in first_frame frame_of read_of frame_row shape_fault request_of requirement_of
-away = (λ z. kv_answer (reply_frame (bare_answer GET status.NotMyVbucket 9)) refl refl refl refl refl refl (get_away no_active (bare_so GET 9 status.NotMyVbucket)), tt)
+away = (λ z. kv_answer (reply_frame (bare_answer GET status.NotMyVbucket 9)) refl refl refl refl refl refl (get_away no_active (bare_so GET 9 status.NotMyVbucket)) (inr tt), tt)
 
 pub away_found : LawfulAway once (gets 0 7) (finds (first_doc 1 (8 ∷ [])) ∷ []) → ⊥
 unfolding spelling frames_in first_frame frame_of read_of frame_row shape_fault request_of requirement_of
@@ -135,7 +135,7 @@ away_found l = let (g, s, fits) = asked_so (l.0 refl) refl refl refl in let e : 
 
 pub unmade : LawfulUnmade (gets 0 7) (says GET status.NotMyVbucket ∷ [])
 unfolding spelling frames_in first_frame frame_of read_of frame_row shape_fault request_of requirement_of
-unmade = (λ z. kv_answer (reply_frame (bare_answer GET status.NotMyVbucket 9)) refl refl refl refl refl refl (get_away unmade_role (bare_so GET 9 status.NotMyVbucket)), tt)
+unmade = (λ z. kv_answer (reply_frame (bare_answer GET status.NotMyVbucket 9)) refl refl refl refl refl refl (get_away unmade_role (bare_so GET 9 status.NotMyVbucket)) (inr tt), tt)
 
 pub unmade_found : LawfulUnmade (gets 0 7) (finds (first_doc 1 (8 ∷ [])) ∷ []) → ⊥
 unfolding spelling frames_in first_frame frame_of read_of frame_row shape_fault request_of requirement_of
@@ -147,7 +147,7 @@ active l = let (g, s, fits) = asked_so (l.0 refl) refl refl refl in let e : ◌�
 
 pub raw : LawfulTo json_once (gets 0 7) (finds_raw json_doc ∷ [])
 unfolding spelling frames_in first_frame frame_of read_of frame_row shape_fault request_of requirement_of
-raw = (λ z. kv_answer (reply_frame (found_answer false 9 json_doc)) refl refl refl refl refl refl (get_found json_doc refl (seven_there json_doc) (found_so false 9 json_doc)), tt)
+raw = (λ z. kv_answer (reply_frame (found_answer false 9 json_doc)) refl refl refl refl refl refl (get_found json_doc refl (seven_there json_doc) (found_so false 9 json_doc)) (inr tt), tt)
 
 pub raw_json : LawfulTo json_once (gets 0 7) (finds json_doc ∷ []) → ⊥
 unfolding spelling frames_in first_frame frame_of read_of frame_row shape_fault request_of requirement_of
@@ -155,7 +155,7 @@ raw_json l = let (g, s, fits) = asked_so (l.0 refl) refl refl refl in let e : �
 
 pub json : LawfulBy for_json json_once (gets 0 7) (finds json_doc ∷ [])
 unfolding spelling frames_in first_frame frame_of read_of frame_row shape_fault request_of requirement_of
-json = (λ z. kv_answer (reply_frame (found_answer true 9 json_doc)) refl refl refl refl refl refl (get_found json_doc refl (seven_there json_doc) (found_so true 9 json_doc)), tt)
+json = (λ z. kv_answer (reply_frame (found_answer true 9 json_doc)) refl refl refl refl refl refl (get_found json_doc refl (seven_there json_doc) (found_so true 9 json_doc)) (inr tt), tt)
 
 pub json_raw : LawfulBy for_json json_once (gets 0 7) (finds_raw json_doc ∷ []) → ⊥
 unfolding spelling frames_in first_frame frame_of read_of frame_row shape_fault request_of requirement_of

@@ -84,7 +84,7 @@ fits l = let (g, s, fits) = asked_so (l.0 refl) refl refl refl in ⊎_elim (λ r
 
 pub unfit : LawfulTo once (writes SET 3 7 4) (says SET status.KeyEexists ∷ [])
 unfolding spelling frames_in first_frame frame_of read_of frame_row shape_fault request_of requirement_of
-unfit = (λ z. inl (record { question = _; next = refl; answer = reply_frame (bare_answer SET status.KeyEexists 9); spelled = refl; response = refl; opcode = refl; opaque = refl; fits = inl (status.KeyEexists, bare_so SET 9 status.KeyEexists, why_unfit refl (seven_pending (first_doc 1 (8 ∷ [])) (7 ∷ [])) (inl (ap (doc_refusal op.Set 3) (seven_there (first_doc 1 (8 ∷ [])))))) }), tt)
+unfit = (λ z. inl (record { question = _; next = refl; answer = reply_frame (bare_answer SET status.KeyEexists 9); spelled = refl; response = refl; opcode = refl; opaque = refl; calm = inr tt; fits = inl (status.KeyEexists, bare_so SET 9 status.KeyEexists, why_unfit refl (seven_pending (first_doc 1 (8 ∷ [])) (7 ∷ [])) (inl (ap (doc_refusal op.Set 3) (seven_there (first_doc 1 (8 ∷ [])))))) }), tt)
 
 pub unfit_other : LawfulTo once (writes SET 3 7 4) (says SET status.KeyEnoent ∷ []) → ⊥
 unfolding spelling frames_in first_frame frame_of read_of frame_row shape_fault request_of requirement_of
@@ -96,7 +96,7 @@ adds l = let (g, s, fits) = asked_so (l.0 refl) refl refl refl in ⊎_elim (λ r
 
 pub adds_again : LawfulTo once (writes ADD 0 7 4) (says ADD status.KeyEexists ∷ [])
 unfolding spelling frames_in first_frame frame_of read_of frame_row shape_fault request_of requirement_of
-adds_again = (λ z. inl (record { question = _; next = refl; answer = reply_frame (bare_answer ADD status.KeyEexists 9); spelled = refl; response = refl; opcode = refl; opaque = refl; fits = inl (status.KeyEexists, bare_so ADD 9 status.KeyEexists, why_unfit refl (seven_pending (first_doc 1 (8 ∷ [])) (7 ∷ [])) (inl (ap (doc_refusal op.Add 0) (seven_there (first_doc 1 (8 ∷ [])))))) }), tt)
+adds_again = (λ z. inl (record { question = _; next = refl; answer = reply_frame (bare_answer ADD status.KeyEexists 9); spelled = refl; response = refl; opcode = refl; opaque = refl; calm = inr tt; fits = inl (status.KeyEexists, bare_so ADD 9 status.KeyEexists, why_unfit refl (seven_pending (first_doc 1 (8 ∷ [])) (7 ∷ [])) (inl (ap (doc_refusal op.Add 0) (seven_there (first_doc 1 (8 ∷ [])))))) }), tt)
 
 pub replaces : LawfulTo once (writes REPLACE 0 7 4) (says REPLACE status.KeyEnoent ∷ []) → ⊥
 unfolding spelling frames_in first_frame frame_of read_of frame_row shape_fault request_of requirement_of
@@ -104,11 +104,11 @@ replaces l = let (g, s, fits) = asked_so (l.0 refl) refl refl refl in ⊎_elim (
 
 pub replaces_none : LawfulTo [] (writes REPLACE 0 7 8) (says REPLACE status.KeyEnoent ∷ [])
 unfolding spelling frames_in first_frame frame_of read_of frame_row shape_fault request_of requirement_of
-replaces_none = (λ z. inl (record { question = _; next = refl; answer = reply_frame (bare_answer REPLACE status.KeyEnoent 9); spelled = refl; response = refl; opcode = refl; opaque = refl; fits = inl (status.KeyEnoent, bare_so REPLACE 9 status.KeyEnoent, why_unfit refl (none_pending (7 ∷ [])) (inl (ap (doc_refusal op.Replace 0) (none_stored (7 ∷ []))))) }), tt)
+replaces_none = (λ z. inl (record { question = _; next = refl; answer = reply_frame (bare_answer REPLACE status.KeyEnoent 9); spelled = refl; response = refl; opcode = refl; opaque = refl; calm = inr tt; fits = inl (status.KeyEnoent, bare_so REPLACE 9 status.KeyEnoent, why_unfit refl (none_pending (7 ∷ [])) (inl (ap (doc_refusal op.Replace 0) (none_stored (7 ∷ []))))) }), tt)
 
 pub removes_none : LawfulTo [] (removes 7) (says DELETE status.KeyEnoent ∷ [])
 unfolding spelling frames_in first_frame frame_of read_of frame_row shape_fault request_of requirement_of
-removes_none = (λ z. inl (record { question = _; next = refl; answer = reply_frame (bare_answer DELETE status.KeyEnoent 9); spelled = refl; response = refl; opcode = refl; opaque = refl; fits = inl (status.KeyEnoent, bare_so DELETE 9 status.KeyEnoent, why_unfit refl (none_pending (7 ∷ [])) (inl (ap (doc_refusal op.Delete 0) (none_stored (7 ∷ []))))) }), tt)
+removes_none = (λ z. inl (record { question = _; next = refl; answer = reply_frame (bare_answer DELETE status.KeyEnoent 9); spelled = refl; response = refl; opcode = refl; opaque = refl; calm = inr tt; fits = inl (status.KeyEnoent, bare_so DELETE 9 status.KeyEnoent, why_unfit refl (none_pending (7 ∷ [])) (inl (ap (doc_refusal op.Delete 0) (none_stored (7 ∷ []))))) }), tt)
 
 pub other : LawfulTo [] (writes SET 0 7 8) (says SET status.KeyEnoent ∷ []) → ⊥
 unfolding spelling frames_in first_frame frame_of read_of frame_row shape_fault request_of requirement_of
@@ -124,7 +124,7 @@ active l = let (g, s, fits) = asked_so (l.0 refl) refl refl refl in ⊎_elim (λ
 
 pub away : LawfulAway [] (writes SET 0 7 8) (says SET status.NotMyVbucket ∷ [])
 unfolding spelling frames_in first_frame frame_of read_of frame_row shape_fault request_of requirement_of
-away = (λ z. inl (record { question = _; next = refl; answer = reply_frame (bare_answer SET status.NotMyVbucket 9); spelled = refl; response = refl; opcode = refl; opaque = refl; fits = inl (status.NotMyVbucket, bare_so SET 9 status.NotMyVbucket, why_away no_active) }), tt)
+away = (λ z. inl (record { question = _; next = refl; answer = reply_frame (bare_answer SET status.NotMyVbucket 9); spelled = refl; response = refl; opcode = refl; opaque = refl; calm = inr tt; fits = inl (status.NotMyVbucket, bare_so SET 9 status.NotMyVbucket, why_away no_active) }), tt)
 
 pub away_other : LawfulAway once (writes ADD 0 7 4) (says ADD status.KeyEexists ∷ []) → ⊥
 unfolding spelling frames_in first_frame frame_of read_of frame_row shape_fault request_of requirement_of
@@ -136,11 +136,11 @@ away_full l = let (g, s, fits) = asked_so (l.0 refl) refl refl refl in ⊎_elim 
 
 pub locked : LawfulTo pending (writes SET 0 9 4) (says SET status.SyncWriteInProgress ∷ [])
 unfolding spelling frames_in first_frame frame_of read_of frame_row shape_fault request_of requirement_of
-locked = (λ z. inl (record { question = _; next = refl; answer = reply_frame (bare_answer SET status.SyncWriteInProgress 9); spelled = refl; response = refl; opcode = refl; opaque = refl; fits = inl (status.SyncWriteInProgress, bare_so SET 9 status.SyncWriteInProgress, why_locked refl (waits, nine_waits)) }), tt)
+locked = (λ z. inl (record { question = _; next = refl; answer = reply_frame (bare_answer SET status.SyncWriteInProgress 9); spelled = refl; response = refl; opcode = refl; opaque = refl; calm = inr tt; fits = inl (status.SyncWriteInProgress, bare_so SET 9 status.SyncWriteInProgress, why_locked refl (waits, nine_waits)) }), tt)
 
 pub left_undone : LawfulTo pending (writes SET 0 9 4) (says SET status.SyncWriteReCommitInProgress ∷ [])
 unfolding spelling frames_in first_frame frame_of read_of frame_row shape_fault request_of requirement_of
-left_undone = (λ z. inl (record { question = _; next = refl; answer = reply_frame (bare_answer SET status.SyncWriteReCommitInProgress 9); spelled = refl; response = refl; opcode = refl; opaque = refl; fits = inl (status.SyncWriteReCommitInProgress, bare_so SET 9 status.SyncWriteReCommitInProgress, why_left refl (waits, nine_waits)) }), tt)
+left_undone = (λ z. inl (record { question = _; next = refl; answer = reply_frame (bare_answer SET status.SyncWriteReCommitInProgress 9); spelled = refl; response = refl; opcode = refl; opaque = refl; calm = inr tt; fits = inl (status.SyncWriteReCommitInProgress, bare_so SET 9 status.SyncWriteReCommitInProgress, why_left refl (waits, nine_waits)) }), tt)
 
 pub locked_other : LawfulTo pending (writes REPLACE 0 9 4) (says REPLACE status.KeyEnoent ∷ []) → ⊥
 unfolding spelling frames_in first_frame frame_of read_of frame_row shape_fault request_of requirement_of
@@ -152,4 +152,4 @@ unlocked l = let (g, s, fits) = asked_so (l.0 refl) refl refl refl in ⊎_elim (
 
 pub full : LawfulTo [] (writes SET 0 7 8) (says SET status.Etmpfail ∷ [])
 unfolding spelling frames_in first_frame frame_of read_of frame_row shape_fault request_of requirement_of
-full = (λ z. inl (record { question = _; next = refl; answer = reply_frame (bare_answer SET status.Etmpfail 9); spelled = refl; response = refl; opcode = refl; opaque = refl; fits = inl (status.Etmpfail, bare_so SET 9 status.Etmpfail, why_unfit refl (none_pending (7 ∷ [])) (inr refl)) }), tt)
+full = (λ z. inl (record { question = _; next = refl; answer = reply_frame (bare_answer SET status.Etmpfail 9); spelled = refl; response = refl; opcode = refl; opaque = refl; calm = inr tt; fits = inl (status.Etmpfail, bare_so SET 9 status.Etmpfail, why_unfit refl (none_pending (7 ∷ [])) (inr refl)) }), tt)

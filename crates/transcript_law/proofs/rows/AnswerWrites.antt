@@ -148,7 +148,7 @@ makes_removal clients = makes_more clients (act.Remove 2 2) (λ prepared doc del
 
 pub made : LawfulTo [] (writes SET 0 7 8) (makes one_change ∷ stores SET 1 [] ∷ [])
 unfolding spelling frames_in first_frame frame_of read_of frame_row shape_fault request_of requirement_of
-made = (makes_one _, (λ z. inl (record { question = _; next = refl; answer = reply_frame (stored_answer SET 9 1 []); spelled = refl; response = refl; opcode = refl; opaque = refl; fits = inr (record { branch = 5; change = one_change; older = []; last = refl; key = refl; cas = 1; rev = 1; act = refl; before = []; behind = refl; fits = ap (doc_refusal op.Set 0) (none_stored (7 ∷ [])); told = stored_so SET 9 1 [] }) }), tt))
+made = (makes_one _, (λ z. inl (record { question = _; next = refl; answer = reply_frame (stored_answer SET 9 1 []); spelled = refl; response = refl; opcode = refl; opaque = refl; calm = inl (_, _, refl, inl refl); fits = inr (record { branch = 5; change = one_change; older = []; alone = tt; last = refl; key = refl; cas = 1; rev = 1; act = refl; before = []; behind = refl; fits = ap (doc_refusal op.Set 0) (none_stored (7 ∷ [])); told = stored_so SET 9 1 [] }) }), tt))
 
 pub unmade : LawfulTo [] (writes SET 0 7 8) (stores SET 1 [] ∷ []) → ⊥
 unfolding spelling frames_in first_frame frame_of read_of frame_row shape_fault request_of requirement_of
@@ -180,7 +180,7 @@ twice l = let (g, s, fits) = asked_so (l.1.1.0 refl) refl refl refl in ⊎_elim 
 
 pub each : LawfulTo [] (writes SET 0 7 8 ++ writes SET 0 9 6) (makes one_change ∷ stores SET 1 [] ∷ makes next_change ∷ stores SET 2 [] ∷ [])
 unfolding spelling frames_in first_frame frame_of read_of frame_row shape_fault request_of requirement_of
-each = (makes_one _, (λ z. inl (record { question = _; next = refl; answer = reply_frame (stored_answer SET 9 1 []); spelled = refl; response = refl; opcode = refl; opaque = refl; fits = inr (record { branch = 5; change = one_change; older = []; last = refl; key = refl; cas = 1; rev = 1; act = refl; before = []; behind = refl; fits = ap (doc_refusal op.Set 0) (none_stored (7 ∷ [])); told = stored_so SET 9 1 [] }) }), (record { active = refl; writer = record { made_or_took = refl; on_branch = refl }; above_branch = omega arith; above_forks = (λ e. omega arith, tt); made = second_next; fulfils = λ prepared doc deleted e. cc; backed = λ prepared doc deleted e. cc }, (λ z. inl (record { question = _; next = refl; answer = reply_frame (stored_answer SET 9 2 []); spelled = refl; response = refl; opcode = refl; opaque = refl; fits = inr (record { branch = 5; change = next_change; older = []; last = refl; key = refl; cas = 2; rev = 1; act = refl; before = once; behind = refl; fits = ap (doc_refusal op.Set 0) (nine_none (first_doc 1 (8 ∷ []))); told = stored_so SET 9 2 [] }) }), tt))))
+each = (makes_one _, (λ z. inl (record { question = _; next = refl; answer = reply_frame (stored_answer SET 9 1 []); spelled = refl; response = refl; opcode = refl; opaque = refl; calm = inl (_, _, refl, inl refl); fits = inr (record { branch = 5; change = one_change; older = []; alone = tt; last = refl; key = refl; cas = 1; rev = 1; act = refl; before = []; behind = refl; fits = ap (doc_refusal op.Set 0) (none_stored (7 ∷ [])); told = stored_so SET 9 1 [] }) }), (record { active = refl; writer = record { made_or_took = refl; on_branch = refl }; above_branch = omega arith; above_forks = (λ e. omega arith, tt); made = second_next; fulfils = λ prepared doc deleted e. cc; backed = λ prepared doc deleted e. cc }, (λ z. inl (record { question = _; next = refl; answer = reply_frame (stored_answer SET 9 2 []); spelled = refl; response = refl; opcode = refl; opaque = refl; calm = inl (_, _, refl, inl refl); fits = inr (record { branch = 5; change = next_change; older = []; alone = tt; last = refl; key = refl; cas = 2; rev = 1; act = refl; before = once; behind = refl; fits = ap (doc_refusal op.Set 0) (nine_none (first_doc 1 (8 ∷ []))); told = stored_so SET 9 2 [] }) }), tt))))
 
 pub late : LawfulTo [] (writes SET 0 7 8 ++ writes SET 0 9 6) (makes one_change ∷ makes next_change ∷ stores SET 1 [] ∷ []) → ⊥
 unfolding spelling frames_in first_frame frame_of read_of frame_row shape_fault request_of requirement_of
@@ -188,7 +188,7 @@ late l = let (g, s, fits) = asked_so (l.1.1.0 refl) refl refl refl in ⊎_elim (
 
 pub seqnos : LawfulBy for_seqnos [] (writes SET 0 7 8) (makes one_change ∷ stores SET 1 (seqno_extras 5 1) ∷ [])
 unfolding spelling frames_in first_frame frame_of read_of frame_row shape_fault request_of requirement_of
-seqnos = (makes_one _, (λ z. inl (record { question = _; next = refl; answer = reply_frame (stored_answer SET 9 1 (seqno_extras 5 1)); spelled = refl; response = refl; opcode = refl; opaque = refl; fits = inr (record { branch = 5; change = one_change; older = []; last = refl; key = refl; cas = 1; rev = 1; act = refl; before = []; behind = refl; fits = ap (doc_refusal op.Set 0) (none_stored (7 ∷ [])); told = stored_so SET 9 1 (seqno_extras 5 1) }) }), tt))
+seqnos = (makes_one _, (λ z. inl (record { question = _; next = refl; answer = reply_frame (stored_answer SET 9 1 (seqno_extras 5 1)); spelled = refl; response = refl; opcode = refl; opaque = refl; calm = inl (_, _, refl, inl refl); fits = inr (record { branch = 5; change = one_change; older = []; alone = tt; last = refl; key = refl; cas = 1; rev = 1; act = refl; before = []; behind = refl; fits = ap (doc_refusal op.Set 0) (none_stored (7 ∷ [])); told = stored_so SET 9 1 (seqno_extras 5 1) }) }), tt))
 
 pub untold : LawfulBy for_seqnos [] (writes SET 0 7 8) (makes one_change ∷ stores SET 1 [] ∷ []) → ⊥
 unfolding spelling frames_in first_frame frame_of read_of frame_row shape_fault request_of requirement_of
@@ -208,7 +208,7 @@ unasked l = let (g, s, fits) = asked_so (l.1.0 refl) refl refl refl in ⊎_elim 
 
 pub fits : LawfulTo once (writes SET 1 7 4) (makes newer ∷ stores SET 2 [] ∷ [])
 unfolding spelling frames_in first_frame frame_of read_of frame_row shape_fault request_of requirement_of
-fits = (makes_newer _, (λ z. inl (record { question = _; next = refl; answer = reply_frame (stored_answer SET 9 2 []); spelled = refl; response = refl; opcode = refl; opaque = refl; fits = inr (record { branch = 5; change = newer; older = []; last = refl; key = refl; cas = 2; rev = 2; act = refl; before = once; behind = refl; fits = ap (doc_refusal op.Set 1) (seven_there (first_doc 1 (8 ∷ []))); told = stored_so SET 9 2 [] }) }), tt))
+fits = (makes_newer _, (λ z. inl (record { question = _; next = refl; answer = reply_frame (stored_answer SET 9 2 []); spelled = refl; response = refl; opcode = refl; opaque = refl; calm = inl (_, _, refl, inl refl); fits = inr (record { branch = 5; change = newer; older = []; alone = tt; last = refl; key = refl; cas = 2; rev = 2; act = refl; before = once; behind = refl; fits = ap (doc_refusal op.Set 1) (seven_there (first_doc 1 (8 ∷ []))); told = stored_so SET 9 2 [] }) }), tt))
 
 pub unfit : LawfulTo once (writes SET 3 7 4) (makes newer ∷ stores SET 2 [] ∷ []) → ⊥
 unfolding spelling frames_in first_frame frame_of read_of frame_row shape_fault request_of requirement_of
@@ -216,7 +216,7 @@ unfit l = let (g, s, fits) = asked_so (l.1.0 refl) refl refl refl in ⊎_elim (�
 
 pub adds : LawfulTo [] (writes ADD 0 7 8) (makes one_change ∷ stores ADD 1 [] ∷ [])
 unfolding spelling frames_in first_frame frame_of read_of frame_row shape_fault request_of requirement_of
-adds = (makes_one _, (λ z. inl (record { question = _; next = refl; answer = reply_frame (stored_answer ADD 9 1 []); spelled = refl; response = refl; opcode = refl; opaque = refl; fits = inr (record { branch = 5; change = one_change; older = []; last = refl; key = refl; cas = 1; rev = 1; act = refl; before = []; behind = refl; fits = ap (doc_refusal op.Add 0) (none_stored (7 ∷ [])); told = stored_so ADD 9 1 [] }) }), tt))
+adds = (makes_one _, (λ z. inl (record { question = _; next = refl; answer = reply_frame (stored_answer ADD 9 1 []); spelled = refl; response = refl; opcode = refl; opaque = refl; calm = inl (_, _, refl, inl refl); fits = inr (record { branch = 5; change = one_change; older = []; alone = tt; last = refl; key = refl; cas = 1; rev = 1; act = refl; before = []; behind = refl; fits = ap (doc_refusal op.Add 0) (none_stored (7 ∷ [])); told = stored_so ADD 9 1 [] }) }), tt))
 
 pub adds_again : LawfulTo once (writes ADD 0 7 4) (makes newer ∷ stores ADD 2 [] ∷ []) → ⊥
 unfolding spelling frames_in first_frame frame_of read_of frame_row shape_fault request_of requirement_of
@@ -224,7 +224,7 @@ adds_again l = let (g, s, fits) = asked_so (l.1.0 refl) refl refl refl in ⊎_el
 
 pub replaces : LawfulTo once (writes REPLACE 0 7 4) (makes newer ∷ stores REPLACE 2 [] ∷ [])
 unfolding spelling frames_in first_frame frame_of read_of frame_row shape_fault request_of requirement_of
-replaces = (makes_newer _, (λ z. inl (record { question = _; next = refl; answer = reply_frame (stored_answer REPLACE 9 2 []); spelled = refl; response = refl; opcode = refl; opaque = refl; fits = inr (record { branch = 5; change = newer; older = []; last = refl; key = refl; cas = 2; rev = 2; act = refl; before = once; behind = refl; fits = ap (doc_refusal op.Replace 0) (seven_there (first_doc 1 (8 ∷ []))); told = stored_so REPLACE 9 2 [] }) }), tt))
+replaces = (makes_newer _, (λ z. inl (record { question = _; next = refl; answer = reply_frame (stored_answer REPLACE 9 2 []); spelled = refl; response = refl; opcode = refl; opaque = refl; calm = inl (_, _, refl, inl refl); fits = inr (record { branch = 5; change = newer; older = []; alone = tt; last = refl; key = refl; cas = 2; rev = 2; act = refl; before = once; behind = refl; fits = ap (doc_refusal op.Replace 0) (seven_there (first_doc 1 (8 ∷ []))); told = stored_so REPLACE 9 2 [] }) }), tt))
 
 pub replaces_none : LawfulTo [] (writes REPLACE 0 7 8) (makes one_change ∷ stores REPLACE 1 [] ∷ []) → ⊥
 unfolding spelling frames_in first_frame frame_of read_of frame_row shape_fault request_of requirement_of
@@ -232,7 +232,7 @@ replaces_none l = let (g, s, fits) = asked_so (l.1.0 refl) refl refl refl in ⊎
 
 pub removed : LawfulTo once (removes 7) (makes removal ∷ stores DELETE 2 [] ∷ [])
 unfolding spelling frames_in first_frame frame_of read_of frame_row shape_fault request_of requirement_of
-removed = (makes_removal _, (λ z. inl (record { question = _; next = refl; answer = reply_frame (stored_answer DELETE 9 2 []); spelled = refl; response = refl; opcode = refl; opaque = refl; fits = inr (record { branch = 5; change = removal; older = []; last = refl; key = refl; cas = 2; rev = 2; act = refl; before = once; behind = refl; fits = ap (doc_refusal op.Delete 0) (seven_there (first_doc 1 (8 ∷ []))); told = stored_so DELETE 9 2 [] }) }), tt))
+removed = (makes_removal _, (λ z. inl (record { question = _; next = refl; answer = reply_frame (stored_answer DELETE 9 2 []); spelled = refl; response = refl; opcode = refl; opaque = refl; calm = inl (_, _, refl, inl refl); fits = inr (record { branch = 5; change = removal; older = []; alone = tt; last = refl; key = refl; cas = 2; rev = 2; act = refl; before = once; behind = refl; fits = ap (doc_refusal op.Delete 0) (seven_there (first_doc 1 (8 ∷ []))); told = stored_so DELETE 9 2 [] }) }), tt))
 
 pub prepared_only : LawfulTo once (writes SET 0 9 6) (makes prepare_made ∷ stores SET 2 [] ∷ []) → ⊥
 unfolding spelling frames_in first_frame frame_of read_of frame_row shape_fault request_of requirement_of
