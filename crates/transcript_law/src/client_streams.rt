@@ -190,7 +190,7 @@ pub fn judged_client_spellings()
 /// What a client is sent that no line before tells of answers what it asked: it is no marker, no item, and
 /// no end, on a stream that is open or on none, also where it sent such a frame itself, and not nothing.
 pub fn judged_untold_frames()
-    ensures answer { LawfulAsked (that_sent (one put_two) (opening 1)) (opens_first ∷ []) }
+    ensures answer { LawfulAsked (unopened (opening 1)) (opens_first ∷ []) }
     ensures unasked { LawfulAsked (that_sent (one put_two) []) (opens_first ∷ []) → ⊥ }
     ensures marker { LawfulPut three (one put_two) (frame_of 0 (msg.SnapshotMarker 2 3 1) ∷ []) → ⊥ }
     ensures item { LawfulPut three (one (inside true all_changes three 0 2 (first_item ∷ []))) (frame_of 0 (act_message next_change next_change.act) ∷ []) → ⊥ }

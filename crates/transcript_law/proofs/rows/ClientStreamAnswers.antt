@@ -10,15 +10,16 @@ unfoldable use Rattle.mcbp_frame.specs.Cutting.{frames_in}
 unfoldable use Rattle.mcbp_frame.specs.Frames.{first_frame, frame_of as frame_in_bytes}
 unfoldable use Rattle.mcbp_frame.specs.Spelling.{spelling}
 use Rattle.vb_events.specs.declared.event.Event.TheVariants as event
-use Rattle.transcript_law.specs.ClientAskRows.{LawfulAsked, bytes_of, opening, opens_first, that_sent}
+use Rattle.vb_types.specs.declared.status.Status.TheVariants as status
+use Rattle.transcript_law.specs.ClientAskRows.{LawfulAsked, bytes_of, opening, opens_first, that_sent, unopened}
 use Rattle.transcript_law.specs.ClientStreamRows.{LawfulPut, all_changes, first_item, frame_of, inside, one, put_two, three, two}
 use Rattle.transcript_law.specs.Followers.{next_change}
-use Rattle.transcript_law.proofs.rows.Answering.{answered, dcp_answer, first_byte, no_question}
+use Rattle.transcript_law.proofs.rows.Answering.{answered, bare_so, dcp_answer, first_byte, no_question}
 use Rattle.transcript_law.proofs.rows.ClientStreams.{◌▹◌}
 
-pub answer : LawfulAsked (that_sent (one put_two) (opening 1)) (opens_first ∷ [])
+pub answer : LawfulAsked (unopened (opening 1)) (opens_first ∷ [])
 unfolding spelling dcp_frame frames_in first_frame frame_in_bytes read_of frame_row shape_fault
-answer = (λ z. dcp_answer (dcp_frame (msg.OpenAnswer 0) 1 0) refl refl refl refl refl) ▹ tt
+answer = (λ z. dcp_answer (dcp_frame (msg.OpenAnswer 0) 1 0) refl refl refl refl refl (bare_so 80 1 status.Success) tt) ▹ tt
 
 pub unasked : LawfulAsked (that_sent (one put_two) []) (opens_first ∷ []) → ⊥
 unfolding frames_in first_frame

@@ -1,4 +1,5 @@
 -- requests of clients for streams, judged by hand
+use Rattle.vb_types.specs.declared.status.Status.TheVariants as status
 use Rattle.transcript_law.proofs.rows.ClientStreamMarks.{mark_put}
 use Rattle.transcript_law.proofs.rows.ClientStreamItems.{item_put}
 use Rattle.transcript_law.specs.Crashes.{ok}
@@ -11,7 +12,7 @@ use Rattle.mcbp_dcp.specs.declared.message.DcpMsg.TheVariants as msg
 unfoldable use Rattle.mcbp_dcp.specs.Messages.{read_of}
 unfoldable use Rattle.mcbp_dcp.specs.Rows.{frame_row}
 unfoldable use Rattle.mcbp_dcp.specs.Shapes.{shape_fault}
-use Rattle.transcript_law.proofs.rows.Answering.{dcp_answer}
+use Rattle.transcript_law.proofs.rows.Answering.{bare_so, dcp_answer}
 unfoldable use Rattle.mcbp_frame.specs.Cutting.{frames_in}
 unfoldable use Rattle.mcbp_frame.specs.Frames.{first_frame, frame_of}
 use Rattle.mcbp_frame.specs.Frames.{big_32_at}
@@ -65,27 +66,27 @@ all_order = (omega arith, omega arith, omega arith)
 
 pub go : LawfulAsked (that_sent none (requesting 0 all_changes)) (asked all_changes ask_answer.Go)
 unfolding spelling dcp_frame frames_in first_frame frame_of read_of frame_row shape_fault
-go = record { own_node = refl; request = _; next = refl; numbers = refl; vb = refl; answered = goes _; own = free open_setup refl; reason = fair open_setup None no_stream all_changes all_order; frame = ([], refl) } ▹ (λ z. dcp_answer (answer_of ask_answer.Go) refl refl refl refl refl) ▹ tt
+go = record { own_node = refl; request = _; next = refl; numbers = refl; vb = refl; answered = goes _; own = free open_setup refl; reason = fair open_setup None no_stream all_changes all_order; frame = ([], refl) } ▹ (λ z. dcp_answer (answer_of ask_answer.Go) refl refl refl refl refl refl tt) ▹ tt
 
 pub opened : LawfulAsked (unopened (opening 1 ++ requesting 0 all_changes)) (opens_first ∷ asked all_changes ask_answer.Go)
 unfolding spelling dcp_frame frames_in first_frame frame_of read_of frame_row shape_fault
-opened = (λ z. dcp_answer (dcp_frame (msg.OpenAnswer 0) 1 0) refl refl refl refl refl) ▹ record { own_node = refl; request = _; next = refl; numbers = refl; vb = refl; answered = record { own_log = refl; own_high = refl; verdict = (refl, λ z. absurd (omega (arith, z))); active = refl }; own = free (record { opened = true; sync = false; named = false }) refl; reason = fair (record { opened = true; sync = false; named = false }) None no_stream all_changes all_order; frame = ([], refl) } ▹ (λ z. dcp_answer (answer_of ask_answer.Go) refl refl refl refl refl) ▹ tt
+opened = (λ z. dcp_answer (dcp_frame (msg.OpenAnswer 0) 1 0) refl refl refl refl refl (bare_so 80 1 status.Success) tt) ▹ record { own_node = refl; request = _; next = refl; numbers = refl; vb = refl; answered = record { own_log = refl; own_high = refl; verdict = (refl, λ z. absurd (omega (arith, z))); active = refl }; own = free (record { opened = true; sync = false; named = false }) refl; reason = fair (record { opened = true; sync = false; named = false }) None no_stream all_changes all_order; frame = ([], refl) } ▹ (λ z. dcp_answer (answer_of ask_answer.Go) refl refl refl refl refl refl tt) ▹ tt
 
 pub refused_before : LawfulAsked (unopened (requesting 0 all_changes)) (asked all_changes (ask_answer.Refuse 4))
 unfolding spelling dcp_frame frames_in first_frame frame_of read_of frame_row shape_fault
-refused_before = record { own_node = refl; request = _; next = refl; numbers = refl; vb = refl; answered = refuses _ all_changes 4 (omega arith); own = record { unopened = λ e. refl; unknown = λ e. refl; takeover = λ o e. absurd (omega (arith, e)); held = λ g e o. cc }; reason = λ o. cc; frame = ([], refl) } ▹ (λ z. dcp_answer (answer_of (ask_answer.Refuse 4)) refl refl refl refl refl) ▹ tt
+refused_before = record { own_node = refl; request = _; next = refl; numbers = refl; vb = refl; answered = refuses _ all_changes 4 (omega arith); own = record { unopened = λ e. refl; unknown = λ e. refl; takeover = λ o e. absurd (omega (arith, e)); held = λ g e o. cc }; reason = λ o. cc; frame = ([], refl) } ▹ (λ z. dcp_answer (answer_of (ask_answer.Refuse 4)) refl refl refl refl refl refl tt) ▹ tt
 
 pub refused_takeover : LawfulAsked (that_sent none (requesting 0 taking_over)) (asked taking_over (ask_answer.Refuse 131))
 unfolding spelling dcp_frame frames_in first_frame frame_of read_of frame_row shape_fault
-refused_takeover = record { own_node = refl; request = _; next = refl; numbers = refl; vb = refl; answered = refuses _ taking_over 131 (omega arith); own = record { unopened = λ e. cc; unknown = λ e. absurd (omega (arith, e)); takeover = λ o e. refl; held = λ g e o. cc }; reason = λ o z. absurd (omega (arith, z)); frame = ([], refl) } ▹ (λ z. dcp_answer (answer_of (ask_answer.Refuse 131)) refl refl refl refl refl) ▹ tt
+refused_takeover = record { own_node = refl; request = _; next = refl; numbers = refl; vb = refl; answered = refuses _ taking_over 131 (omega arith); own = record { unopened = λ e. cc; unknown = λ e. absurd (omega (arith, e)); takeover = λ o e. refl; held = λ g e o. cc }; reason = λ o z. absurd (omega (arith, z)); frame = ([], refl) } ▹ (λ z. dcp_answer (answer_of (ask_answer.Refuse 131)) refl refl refl refl refl refl tt) ▹ tt
 
 pub refused_held : LawfulAsked (that_sent (one put_two) (requesting 0 all_changes)) (asked all_changes (ask_answer.Refuse 2))
 unfolding spelling dcp_frame frames_in first_frame frame_of read_of frame_row shape_fault
-refused_held = record { own_node = refl; request = _; next = refl; numbers = refl; vb = refl; answered = refuses _ all_changes 2 (omega arith); own = record { unopened = λ e. cc; unknown = λ e. absurd (omega (arith, e)); takeover = λ o e. absurd (omega (arith, e)); held = λ g e o. (2, refl) }; reason = λ o z. inr (record { away = λ off. absurd (off refl); again = λ a g e x. refl; outside = λ a f wrong. inr refl; granted = λ a f i is. refl }); frame = ([], refl) } ▹ (λ z. dcp_answer (answer_of (ask_answer.Refuse 2)) refl refl refl refl refl) ▹ tt
+refused_held = record { own_node = refl; request = _; next = refl; numbers = refl; vb = refl; answered = refuses _ all_changes 2 (omega arith); own = record { unopened = λ e. cc; unknown = λ e. absurd (omega (arith, e)); takeover = λ o e. absurd (omega (arith, e)); held = λ g e o. (2, refl) }; reason = λ o z. inr (record { away = λ off. absurd (off refl); again = λ a g e x. refl; outside = λ a f wrong. inr refl; granted = λ a f i is. refl }); frame = ([], refl) } ▹ (λ z. dcp_answer (answer_of (ask_answer.Refuse 2)) refl refl refl refl refl refl tt) ▹ tt
 
 pub closed : LawfulAsked (that_sent (one put_two) (closing 0 ++ requesting 0 all_changes)) (closes_first ∷ asked all_changes ask_answer.Go)
 unfolding spelling dcp_frame frames_in first_frame frame_of read_of frame_row shape_fault
-closed = (λ z. dcp_answer (dcp_frame (msg.CloseAnswer 0) 4 0) refl refl refl refl refl) ▹ record { own_node = refl; request = _; next = refl; numbers = refl; vb = refl; answered = record { own_log = refl; own_high = refl; verdict = (refl, λ z. absurd (omega (arith, z))); active = refl }; own = free open_setup refl; reason = fair open_setup None no_stream all_changes all_order; frame = ([], refl) } ▹ (λ z. dcp_answer (answer_of ask_answer.Go) refl refl refl refl refl) ▹ tt
+closed = (λ z. dcp_answer (dcp_frame (msg.CloseAnswer 0) 4 0) refl refl refl refl refl (bare_so 82 4 status.Success) tt) ▹ record { own_node = refl; request = _; next = refl; numbers = refl; vb = refl; answered = record { own_log = refl; own_high = refl; verdict = (refl, λ z. absurd (omega (arith, z))); active = refl }; own = free open_setup refl; reason = fair open_setup None no_stream all_changes all_order; frame = ([], refl) } ▹ (λ z. dcp_answer (answer_of ask_answer.Go) refl refl refl refl refl refl tt) ▹ tt
 
 -- one that is over is none
 over_one : (g : ClientStream) → Some (finished put_two) ≡ Some g → g.over ≡ false → ⊥
@@ -93,7 +94,7 @@ over_one g e o = let same : finished put_two ≡ g = cc in let z : true ≡ fals
 
 pub over : LawfulAsked (that_sent (one (finished put_two)) (requesting 0 all_changes)) (asked all_changes ask_answer.Go)
 unfolding spelling dcp_frame frames_in first_frame frame_of read_of frame_row shape_fault
-over = record { own_node = refl; request = _; next = refl; numbers = refl; vb = refl; answered = goes _; own = record { unopened = λ e. cc; unknown = λ e. absurd (omega (arith, e)); takeover = λ o e. absurd (omega (arith, e)); held = λ g e o. absurd (over_one g e o) }; reason = fair open_setup (Some (finished put_two)) over_one all_changes all_order; frame = ([], refl) } ▹ (λ z. dcp_answer (answer_of ask_answer.Go) refl refl refl refl refl) ▹ tt
+over = record { own_node = refl; request = _; next = refl; numbers = refl; vb = refl; answered = goes _; own = record { unopened = λ e. cc; unknown = λ e. absurd (omega (arith, e)); takeover = λ o e. absurd (omega (arith, e)); held = λ g e o. absurd (over_one g e o) }; reason = fair open_setup (Some (finished put_two)) over_one all_changes all_order; frame = ([], refl) } ▹ (λ z. dcp_answer (answer_of ask_answer.Go) refl refl refl refl refl refl tt) ▹ tt
 
 -- ---- requests that are not
 
@@ -185,7 +186,7 @@ other_closed l = let (code, e) = (own_of _ _ _ _ _ _ _ l.1.0 _ refl).held put_tw
 pub resumes : LawfulAsked (that_sent none (requesting 0 (asks_for 0 1 2 9))) (asked (asks_for 0 1 2 9) ask_answer.Go ++ marked 0 0 2 ++ sent 0 next_change)
 unfolding spelling dcp_frame frames_in first_frame frame_of read_of frame_row shape_fault
 resumes =
-    record { own_node = refl; request = _; next = refl; numbers = refl; vb = refl; answered = record { own_log = refl; own_high = refl; verdict = (refl, λ z. refl); active = refl }; own = record { unopened = λ e. cc; unknown = λ e. absurd (omega (arith, e)); takeover = λ o e. absurd (omega (arith, e)); held = λ g e o. cc }; reason = fair open_setup None no_stream (asks_for 0 1 2 9) (omega arith, omega arith, omega arith); frame = (_, refl) } ▹ (λ z. dcp_answer (answer_of ask_answer.Go) refl refl refl refl refl)
+    record { own_node = refl; request = _; next = refl; numbers = refl; vb = refl; answered = record { own_log = refl; own_high = refl; verdict = (refl, λ z. refl); active = refl }; own = record { unopened = λ e. cc; unknown = λ e. absurd (omega (arith, e)); takeover = λ o e. absurd (omega (arith, e)); held = λ g e o. cc }; reason = fair open_setup None no_stream (asks_for 0 1 2 9) (omega arith, omega arith, omega arith); frame = (_, refl) } ▹ (λ z. dcp_answer (answer_of ask_answer.Go) refl refl refl refl refl refl tt)
     ▹ mark_put _ _ 0 0 2 (fresh true (asks_for 0 1 2 9)) _ refl refl refl (record { opens = refl; stays = refl; goes_on = λ r. r; behind = tt; starts = refl; reaches = omega arith; whole = (next_change ∷ [], all_between two 1 2 (omega arith) (omega arith, omega arith) refl) }) ▹ (λ z. cc)
     ▹ item_put _ _ 0 next_change (inside true (asks_for 0 1 2 9) two 1 2 []) (snapshot two 1 2 []) [] refl refl refl refl refl (inr (inl refl)) (next_change, inr (inl refl), refl) ([], record { whole = next_change ∷ []; covers = all_between two 1 2 (omega arith) (omega arith, omega arith) refl; front = refl }, λ e. refl) ▹ (λ z. cc) ▹ tt
 
@@ -196,7 +197,7 @@ forked_stream = fresh true (asks_for 1 1 1 9)
 pub newest : LawfulFrom (forked (that_sent none (requesting 0 (asks_for 1 1 1 9)))) (asked_forked ++ marked 0 1 2 ++ sent 0 next_change)
 unfolding spelling dcp_frame frames_in first_frame frame_of read_of frame_row shape_fault
 newest =
-    record { own_node = refl; request = _; next = refl; numbers = refl; vb = refl; answered = record { own_log = refl; own_high = refl; verdict = (refl, λ z. refl); active = refl }; own = record { unopened = λ e. cc; unknown = λ e. absurd (omega (arith, e)); takeover = λ o e. absurd (omega (arith, e)); held = λ g e o. cc }; reason = fair open_setup None no_stream (asks_for 1 1 1 9) (omega arith, omega arith, omega arith); frame = (_, refl) } ▹ (λ z. dcp_answer (dcp_frame (msg.StreamAnswer (stream_verdict forked_log ask_answer.Go)) 9 0) refl refl refl refl refl)
+    record { own_node = refl; request = _; next = refl; numbers = refl; vb = refl; answered = record { own_log = refl; own_high = refl; verdict = (refl, λ z. refl); active = refl }; own = record { unopened = λ e. cc; unknown = λ e. absurd (omega (arith, e)); takeover = λ o e. absurd (omega (arith, e)); held = λ g e o. cc }; reason = fair open_setup None no_stream (asks_for 1 1 1 9) (omega arith, omega arith, omega arith); frame = (_, refl) } ▹ (λ z. dcp_answer (dcp_frame (msg.StreamAnswer (stream_verdict forked_log ask_answer.Go)) 9 0) refl refl refl refl refl refl tt)
     ▹ mark_put _ _ 0 1 2 (record (fresh true (asks_for 1 1 1 9)) { branch = 7 }) _ refl refl refl (record { opens = refl; stays = refl; goes_on = λ r. r; behind = tt; starts = refl; reaches = omega arith; whole = (next_change ∷ [], all_between two 1 2 (omega arith) (omega arith, omega arith) refl) }) ▹ (λ z. cc)
     ▹ item_put _ _ 0 next_change (record (inside true (asks_for 1 1 1 9) two 1 2 []) { branch = 7 }) (snapshot two 1 2 []) [] refl refl refl refl refl (inr (inl refl)) (next_change, inr (inl refl), refl) ([], record { whole = next_change ∷ []; covers = all_between two 1 2 (omega arith) (omega arith, omega arith) refl; front = refl }, λ e. refl) ▹ (λ z. cc) ▹ tt
 
@@ -205,7 +206,7 @@ pub pieces : LawfulHere (serving two (that_sent none (take 30 (requesting 0 all_
 unfolding spelling dcp_frame frames_in first_frame frame_of read_of frame_row shape_fault
 pieces = (
   (
-    (record { own_node = refl; request = _; next = refl; numbers = refl; vb = refl; answered = record { own_log = refl; own_high = refl; verdict = (refl, λ z. absurd (omega (arith, z))); active = refl }; own = free open_setup refl; reason = fair open_setup None no_stream all_changes all_order; frame = ([], refl) }, ((refl, λ z. dcp_answer (answer_of ask_answer.Go) refl refl refl refl refl), tt)),
+    (record { own_node = refl; request = _; next = refl; numbers = refl; vb = refl; answered = record { own_log = refl; own_high = refl; verdict = (refl, λ z. absurd (omega (arith, z))); active = refl }; own = free open_setup refl; reason = fair open_setup None no_stream all_changes all_order; frame = ([], refl) }, ((refl, λ z. dcp_answer (answer_of ask_answer.Go) refl refl refl refl refl refl tt), tt)),
     refl,
     refl,
     refl,

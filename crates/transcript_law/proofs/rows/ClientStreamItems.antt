@@ -17,6 +17,7 @@ use Rattle.vb_types.specs.declared.role.Role.TheVariants as role
 use Rattle.vb_events.specs.declared.event.Event.{Event}
 use Rattle.branch_model.proofs.Lists.{rises_in}
 use Rattle.branch_model.specs.Histories.{IsOf}
+use Rattle.vb_types.specs.declared.status.Status.TheVariants as status
 use Rattle.transcript_law.specs.Chronicles.{Chronicle}
 use Rattle.transcript_law.specs.ClientAskRows.{LawfulAsked, bytes_of as sent_bytes, that_sent}
 use Rattle.transcript_law.specs.ClientStreamRows.{LawfulHeld, LawfulPut, all_changes, both as and_another, finished, first_item, frame_of, fresh, inside, marked, next_item, one, other_value, sent, sent_with, snapshot, turned, two, with_streams}
@@ -26,7 +27,7 @@ use Rattle.transcript_law.specs.Lawfulness.{LawfulRole}
 use Rattle.transcript_law.specs.LawfulClients.{IsSentOf, LawfulClientItem}
 use Rattle.transcript_law.specs.StreamLaws.{IsNextItem, item_of_change}
 use Rattle.transcript_law.specs.Transcripts.{one_change}
-use Rattle.transcript_law.proofs.rows.Answering.{dcp_answer}
+use Rattle.transcript_law.proofs.rows.Answering.{bare_so, dcp_answer}
 use Rattle.transcript_law.proofs.rows.ClientStreams.{◌▹◌, all_between, bytes_are, put_by, spelled_is, stream_is}
 use Rattle.transcript_law.proofs.rows.ClientStreamMarks.{mark_put, two_next}
 
@@ -78,7 +79,7 @@ pub answered : LawfulAsked (that_sent (one (fresh true all_changes)) (sent_bytes
 unfolding spelling dcp_frame frames_in first_frame frame_in_bytes read_of frame_row shape_fault
 answered =
     mark_put _ _ 0 0 2 (fresh true all_changes) _ refl refl refl two_next ▹ (λ z. cc)
-    ▹ item_put _ _ 0 one_change begun (snapshot two 0 2 []) _ refl refl refl refl refl (inl refl) (one_change, inl refl, refl) first_next ▹ (λ z. cc) ▹ (λ z. dcp_answer (dcp_frame (msg.NoopAnswer 0) 9 0) refl refl refl refl refl)
+    ▹ item_put _ _ 0 one_change begun (snapshot two 0 2 []) _ refl refl refl refl refl (inl refl) (one_change, inl refl, refl) first_next ▹ (λ z. cc) ▹ (λ z. dcp_answer (dcp_frame (msg.NoopAnswer 0) 9 0) refl refl refl refl refl (bare_so 92 9 status.Success) tt)
     ▹ item_put _ _ 0 next_change first_put (snapshot two 0 2 (first_item ∷ [])) [] refl refl refl refl refl (inr (inl refl)) (next_change, inr (inl refl), refl) both_next ▹ (λ z. cc) ▹ tt
 
 pub in_turn : LawfulPut two (and_another (fresh true all_changes) (fresh true all_changes)) (marked 0 0 2 ++ marked 1 0 2 ++ sent 1 one_change ++ sent 0 one_change ++ sent 0 next_change ++ sent 1 next_change)

@@ -65,7 +65,7 @@ away = dead_now refl ▹ record {
   own = no_own all_changes 7 refl;
   reason = λ o z. inr (record { away = λ off. refl; again = λ a g e x. absurd (no_active a); outside = λ a f wrong. absurd (no_active a); granted = λ a f i is. absurd (no_active a) });
   frame = ([], refl);
-} ▹ (λ z. dcp_answer (answer_of (ask_answer.Refuse 7)) refl refl refl refl refl) ▹ tt
+} ▹ (λ z. dcp_answer (answer_of (ask_answer.Refuse 7)) refl refl refl refl refl refl tt) ▹ tt
 
 pub away_held : LawfulAsked (that_sent (one put_two) (requesting 0 all_changes)) (turned role.Dead ∷ asked all_changes (ask_answer.Refuse 2)) → ⊥
 unfolding spelling dcp_frame frames_in first_frame frame_of read_of frame_row shape_fault
@@ -127,7 +127,7 @@ outside = record {
   own = no_own (asks_for 0 2 2 1) 34 refl;
   reason = λ o z. inr (record { away = λ off. absurd (off refl); again = λ a g e x. absurd (no_stream g e x); outside = λ a f wrong. inl refl; granted = λ a f order is. absurd (above_end order) });
   frame = ([], refl);
-} ▹ (λ z. dcp_answer (answer_of (ask_answer.Refuse 34)) refl refl refl refl refl) ▹ tt
+} ▹ (λ z. dcp_answer (answer_of (ask_answer.Refuse 34)) refl refl refl refl refl refl tt) ▹ tt
 
 pub outside_away : LawfulAsked (that_sent none (requesting 0 (asks_for 0 2 2 1))) (asked (asks_for 0 2 2 1) (ask_answer.Refuse 7)) → ⊥
 unfolding spelling dcp_frame frames_in first_frame frame_of read_of frame_row shape_fault
@@ -180,9 +180,9 @@ numbered = record {
   own = no_own all_changes 2 refl;
   reason = λ o z. inr (record { away = λ off. absurd (off refl); again = λ a g e x. refl; outside = λ a f wrong. inr refl; granted = λ a f order is. refl });
   frame = ([], refl);
-} ▹ (λ z. dcp_answer (answer_of (ask_answer.Refuse 2)) refl refl refl refl refl) ▹ tt
+} ▹ (λ z. dcp_answer (answer_of (ask_answer.Refuse 2)) refl refl refl refl refl refl tt) ▹ tt
 
 -- the connection has none left
 pub spent : LawfulAsked (that_sent none (requesting 0 all_changes)) (asked all_changes (ask_answer.Refuse 134))
 unfolding spelling dcp_frame frames_in first_frame frame_of read_of frame_row shape_fault
-spent = record { own_node = refl; request = _; next = refl; numbers = refl; vb = refl; answered = refuses _ all_changes 134 (omega arith); own = no_own all_changes 134 refl; reason = λ o z. inl refl; frame = ([], refl) } ▹ (λ z. dcp_answer (answer_of (ask_answer.Refuse 134)) refl refl refl refl refl) ▹ tt
+spent = record { own_node = refl; request = _; next = refl; numbers = refl; vb = refl; answered = refuses _ all_changes 134 (omega arith); own = no_own all_changes 134 refl; reason = λ o z. inl refl; frame = ([], refl) } ▹ (λ z. dcp_answer (answer_of (ask_answer.Refuse 134)) refl refl refl refl refl refl tt) ▹ tt

@@ -11,12 +11,13 @@ unfoldable use Rattle.mcbp_frame.specs.Frames.{first_frame, frame_of}
 unfoldable use Rattle.mcbp_frame.specs.Spelling.{spelling}
 use Rattle.dcp_producer.specs.Serving.{stream_verdict}
 use Rattle.vb_types.specs.declared.stream.AskAnswer.TheVariants as ask_answer
+use Rattle.vb_types.specs.declared.status.Status.TheVariants as status
 use Rattle.transcript_law.specs.ClientAskRows.{LawfulAsked, asked, closing_typed, flagged, none, past_both, requesting, requesting_typed, taking_over, that_sent, typed_close_refused, typed_refused, unopened}
 use Rattle.transcript_law.specs.ClientFrames.{Request, request_in, setup_after}
 use Rattle.transcript_law.specs.ClientStreamRows.{all_changes, one, open_setup, put_two, up_to}
 use Rattle.transcript_law.specs.ClientStreams.{ClientStream, Setup, no_setup, unclosed}
 use Rattle.transcript_law.specs.Followers.{log_of}
-use Rattle.transcript_law.proofs.rows.Answering.{dcp_answer}
+use Rattle.transcript_law.proofs.rows.Answering.{bare_so, dcp_answer}
 use Rattle.transcript_law.proofs.rows.ClientStreamAsks.{all_order, answer_of, fair, free, no_stream}
 use Rattle.transcript_law.proofs.rows.ClientStreams.{◌▹◌}
 
@@ -65,7 +66,7 @@ held_rolls l = let (code, e) = l.0.own.held put_two (finds (one put_two) l.0.req
 
 pub typed : LawfulAsked (that_sent none (requesting_typed (up_to 3) ++ requesting 0 all_changes)) (typed_refused ∷ asked all_changes ask_answer.Go)
 unfolding spelling dcp_frame frames_in first_frame frame_of read_of frame_row shape_fault
-typed = (λ z. dcp_answer (dcp_frame (msg.StreamAnswer (stream_verdict (log_of 5) (ask_answer.Refuse 4))) 8 0) refl refl refl refl refl) ▹ record { own_node = refl; request = _; next = refl; numbers = refl; vb = refl; answered = record { own_log = refl; own_high = refl; verdict = (refl, λ z. absurd (omega (arith, z))); active = refl }; own = free open_setup refl; reason = fair open_setup None no_stream all_changes all_order; frame = ([], refl) } ▹ (λ z. dcp_answer (answer_of ask_answer.Go) refl refl refl refl refl) ▹ tt
+typed = (λ z. dcp_answer (dcp_frame (msg.StreamAnswer (stream_verdict (log_of 5) (ask_answer.Refuse 4))) 8 0) refl refl refl refl refl (bare_so 83 8 status.Einval) tt) ▹ record { own_node = refl; request = _; next = refl; numbers = refl; vb = refl; answered = record { own_log = refl; own_high = refl; verdict = (refl, λ z. absurd (omega (arith, z))); active = refl }; own = free open_setup refl; reason = fair open_setup None no_stream all_changes all_order; frame = ([], refl) } ▹ (λ z. dcp_answer (answer_of ask_answer.Go) refl refl refl refl refl refl tt) ▹ tt
 
 pub typed_alone : LawfulAsked (that_sent none (requesting_typed all_changes)) (asked all_changes ask_answer.Go) → ⊥
 unfolding spelling dcp_frame frames_in first_frame frame_of read_of frame_row shape_fault

@@ -14,13 +14,14 @@ use Rattle.dcp_producer.specs.Frames.{act_message}
 use Rattle.vb_types.specs.declared.change.Change.{Change}
 use Rattle.branch_model.specs.Histories.{last_seq}
 use Rattle.vb_types.specs.declared.stream.AskAnswer.TheVariants as ask_answer
+use Rattle.vb_types.specs.declared.status.Status.TheVariants as status
 use Rattle.transcript_law.specs.Chronicles.{with_id}
 use Rattle.transcript_law.specs.ClientAskRows.{LawfulPulled, LawfulStory, all_lines, asked, indexed, naming, opening, pulls, puts, replies, requesting, serving, syncing}
 use Rattle.transcript_law.specs.ClientFrames.{is_closed_by}
 use Rattle.transcript_law.specs.ClientStreamRows.{ended, finished, first_item, fresh, inside, marked, next_item, one, sent, snapshot, tree_of, two, up_to, with_streams}
 use Rattle.transcript_law.specs.ClientStreams.{ClientStream, ClientsKnown, ItemLine, StreamLine, blank_client, change_at, told_of, unclosed}
 use Rattle.transcript_law.specs.Followers.{log_of, next_change}
-use Rattle.transcript_law.proofs.rows.Answering.{dcp_answer}
+use Rattle.transcript_law.proofs.rows.Answering.{bare_so, dcp_answer}
 use Rattle.transcript_law.proofs.rows.ClientStreamAsks.{answer_of, fair, no_stream}
 use Rattle.transcript_law.specs.LawfulClients.{IsNextMarker, RefusesOwn}
 use Rattle.transcript_law.specs.StreamLaws.{IsFrontOf, LawfulSaid, item_of_change}
@@ -136,10 +137,10 @@ story_asked = after_group (serving two blank_client) asks_first first_lines answ
 pub story : LawfulStory (indexed all_lines)
 unfolding spelling dcp_frame frames_in first_frame frame_of read_of frame_row shape_fault
 story = (
-  (refl, λ z. dcp_answer (dcp_frame (msg.OpenAnswer 0) 1 0) refl refl refl refl refl)
-      ▹ (refl, λ z. dcp_answer (dcp_frame (msg.ControlAnswer 0) 2 0) refl refl refl refl refl)
-      ▹ (refl, λ z. dcp_answer (dcp_frame (msg.ControlAnswer 0) 3 0) refl refl refl refl refl)
-      ▹ record { own_node = refl; request = _; next = refl; numbers = refl; vb = refl; answered = asked_right _; own = refuses_none; reason = fair (record { opened = true; sync = true; named = true }) None no_stream (up_to 2) (omega arith, omega arith, omega arith); frame = ([], refl) } ▹ (refl, λ z. dcp_answer (answer_of ask_answer.Go) refl refl refl refl refl) ▹ tt,
+  (refl, λ z. dcp_answer (dcp_frame (msg.OpenAnswer 0) 1 0) refl refl refl refl refl (bare_so 80 1 status.Success) tt)
+      ▹ (refl, λ z. dcp_answer (dcp_frame (msg.ControlAnswer 0) 2 0) refl refl refl refl refl (bare_so 94 2 status.Success) tt)
+      ▹ (refl, λ z. dcp_answer (dcp_frame (msg.ControlAnswer 0) 3 0) refl refl refl refl refl (bare_so 94 3 status.Success) tt)
+      ▹ record { own_node = refl; request = _; next = refl; numbers = refl; vb = refl; answered = asked_right _; own = refuses_none; reason = fair (record { opened = true; sync = true; named = true }) None no_stream (up_to 2) (omega arith, omega arith, omega arith); frame = ([], refl) } ▹ (refl, λ z. dcp_answer (answer_of ask_answer.Go) refl refl refl refl refl refl tt) ▹ tt,
   refl,
   refl,
   refl,
