@@ -22,6 +22,7 @@ use Rattle.transcript_law.specs.Questions.{Question, question_of}
 use Rattle.transcript_law.specs.StreamsTold.{Asking}
 use Rattle.transcript_law.specs.Transcripts.{set_frame}
 use Rattle.transcript_law.specs.Unanswered.{AllAnswered, AsksDurably, NoneAsks}
+use Rattle.transcript_law.specs.LawfulMessages.{moment_of}
 
 -- ---- what may wait
 
@@ -124,7 +125,7 @@ noop_lawful r k more next same calm = inl (record {
   response = refl;
   opcode = refl;
   opaque = refl;
-  fits = subst (λ s. FitsFrame r 0 s noop_frame (reply_frame (bare_answer NOOP status.Success 9))) (sym same) (record { header = record { magic = refl; opcode = refl; key = refl; datatype = refl; status = refl; opaque = refl; framing = refl }; cas = refl; extras = refl; value = refl });
+  fits = subst (λ s. FitsFrame r 0 (moment_of (r.clients_at 0 1) k (record { before = []; frame = noop_frame })) s noop_frame (reply_frame (bare_answer NOOP status.Success 9))) (sym same) (record { header = record { magic = refl; opcode = refl; key = refl; datatype = refl; status = refl; opaque = refl; framing = refl }; cas = refl; extras = refl; value = refl });
   calm = inr calm;
 })
 

@@ -26,6 +26,7 @@ use Rattle.transcript_law.specs.Chronicles.{after_group}
 use Rattle.transcript_law.specs.Questions.{Question, first_question, past_answer, past_question, past_question_if, question_end, question_of, settings_by}
 use Rattle.transcript_law.specs.StreamsTold.{Asking, blank_asking, no_setup}
 use Rattle.transcript_law.specs.Transcripts.{group_done, set_frame, set_line, set_write}
+use Rattle.transcript_law.specs.LawfulMessages.{moment_of}
 
 -- ---- the question
 
@@ -72,7 +73,7 @@ module _ (key value : List ℕ) (k : IsKey key) (v : IsValue value) where
           response = refl;
           opcode = refl;
           opaque = refl;
-          fits = subst (λ (a : Asking). FitsFrame r 0 a.settings (set_frame key value) g) (sym sent) (subst (FitsRequest r 0 no_settings (set_frame key value) g) (sym (sets_ask key value k v).1) (inr made));
+          fits = subst (λ (a : Asking). FitsFrame r 0 (moment_of (r.clients_at 0 1) a (asks_set key value)) a.settings (set_frame key value) g) (sym sent) (subst (FitsRequest r 0 no_settings (set_frame key value) g) (sym (sets_ask key value k v).1) (inr made));
           calm = subst (λ (a : Asking). IsOutcome a.settings (set_frame key value) g ⊎ AllDurable r.made) (sym sent) (inl (set_write key value, None, (sets_ask key value k v).1, inl refl));
         })
 
@@ -88,7 +89,7 @@ module _ (key value : List ℕ) (k : IsKey key) (v : IsValue value) where
           response = refl;
           opcode = refl;
           opaque = refl;
-          fits = subst (λ (a : Asking). FitsFrame r 0 a.settings (set_frame key value) g) (sym sent) (subst (FitsRequest r 0 no_settings (set_frame key value) g) (sym (sets_ask key value k v).1) (inl (
+          fits = subst (λ (a : Asking). FitsFrame r 0 (moment_of (r.clients_at 0 1) a (asks_set key value)) a.settings (set_frame key value) g) (sym sent) (subst (FitsRequest r 0 no_settings (set_frame key value) g) (sym (sets_ask key value k v).1) (inl (
             status.Etmpfail,
             record { header = record { magic = refl; opcode = refl; key = refl; datatype = refl; status = refl; opaque = refl; framing = refl }; cas = refl; extras = refl; value = refl },
             record { away = λ no. absurd (no active); locked = λ on waits. inr (inr refl); unfit = λ on none. inr refl },
