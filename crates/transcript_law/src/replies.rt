@@ -43,7 +43,8 @@ pub fn judged_questions()
 /// GET gets the document that its vBucket holds, whole: not another value or CAS, not the document before
 /// the last change, and not that of a prepare. KeyEnoent is for a key without one, and NotMyVbucket for a
 /// vBucket that is not active, and each is for nothing else. A document is told to be JSON to a client that
-/// asked for this, and to no other. At a key whose prepare waits it may be refused as left undone.
+/// asked for this, and to no other. At a key whose prepare waits it may be refused as left undone. None is
+/// answered behind a set that waits for its answer.
 pub fn judged_reads()
     ensures found { LawfulTo once (gets 0 7) (finds (first_doc 1 (8 ∷ [])) ∷ []) }
     ensures value { LawfulTo once (gets 0 7) (finds (first_doc 1 (9 ∷ [])) ∷ []) → ⊥ }
@@ -66,6 +67,7 @@ pub fn judged_reads()
     ensures raw_json { LawfulTo json_once (gets 0 7) (finds json_doc ∷ []) → ⊥ }
     ensures json { LawfulBy for_json json_once (gets 0 7) (finds json_doc ∷ []) }
     ensures json_raw { LawfulBy for_json json_once (gets 0 7) (finds_raw json_doc ∷ []) → ⊥ }
+    ensures behind_set { LawfulTo once (gets 0 7) (makes newer ∷ finds newer_doc ∷ []) → ⊥ }
 {}
 
 /// A write is told made behind its own change alone: the last one that was told, of its vBucket, key and
@@ -100,7 +102,8 @@ pub fn judged_writes()
 
 /// A write is refused for its own reason alone: KeyEexists and KeyEnoent where the key's document, or that
 /// there is none, does not let it; SyncWriteInProgress, or as left undone, where a prepare waits there; NotMyVbucket, and
-/// nothing else, where its vBucket is not active; and Etmpfail where it is.
+/// nothing else, where its vBucket is not active; and Etmpfail where it is. One that is refused made no
+/// change.
 pub fn judged_refused_writes()
     ensures fits { LawfulTo once (writes SET 1 7 4) (says SET status.KeyEexists ∷ []) → ⊥ }
     ensures unfit { LawfulTo once (writes SET 3 7 4) (says SET status.KeyEexists ∷ []) }
@@ -121,6 +124,8 @@ pub fn judged_refused_writes()
     ensures locked_other { LawfulTo pending (writes REPLACE 0 9 4) (says REPLACE status.KeyEnoent ∷ []) → ⊥ }
     ensures unlocked { LawfulTo pending (writes SET 0 7 4) (says SET status.SyncWriteInProgress ∷ []) → ⊥ }
     ensures full { LawfulTo [] (writes SET 0 7 8) (says SET status.Etmpfail ∷ []) }
+    ensures made { LawfulTo [] (writes SET 0 7 8) (makes one_change ∷ says SET status.Etmpfail ∷ []) → ⊥ }
+    ensures removed { LawfulTo once (removes 7) (makes removal ∷ says DELETE status.Etmpfail ∷ []) → ⊥ }
 {}
 
 /// A durable write is refused as impossible where its chain can have no majority, before any reason of

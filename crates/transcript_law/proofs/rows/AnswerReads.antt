@@ -1,7 +1,7 @@
 -- answers to GET, judged by hand
 use Rattle.std.proofs.Common.{Bool, List, [], ap, arith, inl, inr, refl, subst, sym, true, false, ℕ, ⊎_elim, ◌∙◌, ◌∷◌, ◌≡◌}
 use Rattle.std.specs.FinMap.{get}
-use Rattle.std.specs.Prelude.{Option, Some, None}
+use Rattle.std.specs.Prelude.{Ok, Option, Result, Some, None}
 unfoldable use Rattle.mcbp_dcp.specs.Messages.{read_of}
 unfoldable use Rattle.mcbp_dcp.specs.Rows.{frame_row}
 unfoldable use Rattle.mcbp_dcp.specs.Shapes.{shape_fault}
@@ -18,14 +18,17 @@ use Rattle.vb_types.specs.Images.{Picture, image_of}
 use Rattle.vb_types.specs.declared.doc.Doc.{Doc}
 use Rattle.vb_types.specs.declared.role.Role.{Role}
 use Rattle.vb_types.specs.declared.role.Role.TheVariants.{Active}
+use Rattle.vb_types.specs.declared.status.Status.{Status}
 use Rattle.vb_types.specs.declared.status.Status.TheVariants as status
+use Rattle.mcbp_kv.specs.declared.request.KvRequest.{KvRequest}
+use Rattle.mcbp_kv.specs.declared.request.KvRequest.TheVariants as request
 use Rattle.vb_types.proofs.Laws.{get-insert_same}
-use Rattle.transcript_law.specs.AnswerRows.{LawfulAway, LawfulBy, LawfulTo, LawfulUnmade, finds, finds_raw, for_json, gets, json_doc, json_once, newer, newer_doc, once, says}
+use Rattle.transcript_law.specs.AnswerRows.{LawfulAway, LawfulBy, LawfulTo, LawfulUnmade, finds, finds_raw, for_json, gets, json_doc, json_once, makes, newer, newer_doc, once, says}
 use Rattle.transcript_law.specs.ClientStreamRows.{pending}
 use Rattle.transcript_law.specs.LawfulAnswers.{FitsGet, IsLocked, IsStatus}
 use Rattle.transcript_law.specs.LawfulClients.{IsActive}
 use Rattle.transcript_law.specs.Transcripts.{first_doc, one_change}
-use Rattle.transcript_law.proofs.rows.Answering.{asked_so, bare_bytes, bare_so, byte_at, found_bytes, found_so, kv_answer}
+use Rattle.transcript_law.proofs.rows.Answering.{asked_calm, asked_so, bare_bytes, bare_so, byte_at, found_bytes, found_so, kv_answer}
 use Rattle.transcript_law.proofs.rows.ClientStreamVerdicts.{no_active}
 use Rattle.transcript_law.proofs.rows.NextRows.{nine_none, seven_pending, seven_there}
 use Rattle.transcript_law.proofs.rows.WaitingKeys.{nine_waits, twice_pending, waits}
@@ -160,3 +163,9 @@ json = (λ z. kv_answer (reply_frame (found_answer true 9 json_doc)) refl refl r
 pub json_raw : LawfulBy for_json json_once (gets 0 7) (finds_raw json_doc ∷ []) → ⊥
 unfolding spelling frames_in first_frame frame_of read_of frame_row shape_fault request_of requirement_of
 json_raw l = let (g, s, fits) = asked_so (l.0 refl) refl refl refl in let e : ◌≡◌ {A = ℕ} 0 1 = ap (byte_at 5) (found_bytes (is_found fits refl (seven_there json_doc) (seven_pending json_doc (7 ∷ []))) s) in omega (arith, e)
+
+pub behind_set : LawfulTo once (gets 0 7) (makes newer ∷ finds newer_doc ∷ []) → ⊥
+unfolding spelling frames_in first_frame frame_of read_of frame_row shape_fault request_of requirement_of
+behind_set l =
+    let (g, s, fits, calm) = asked_calm (l.1.0 refl) refl refl refl in
+    ⊎_elim (λ o. let z : ◌≡◌ {A = Result KvRequest Status} (Ok (request.Get (7 ∷ []))) (Ok (request.Write o.0 o.1)) = o.2 in cc) (λ d. let z : false ≡ true = d.0 in cc) calm

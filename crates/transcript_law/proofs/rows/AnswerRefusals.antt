@@ -1,5 +1,5 @@
 -- writes that are refused, judged by hand
-use Rattle.std.proofs.Common.{List, [], ap, arith, inl, inr, refl, sym, ℕ, ⊎_elim, ◌∙◌, ◌∷◌, ◌≡◌}
+use Rattle.std.proofs.Common.{true, false, List, [], ap, arith, inl, inr, refl, sym, ℕ, ⊎_elim, ◌∙◌, ◌∷◌, ◌≡◌}
 use Rattle.std.specs.FinMap.{get}
 use Rattle.std.specs.Prelude.{◌⊎◌, Option, Some, None}
 unfoldable use Rattle.mcbp_dcp.specs.Messages.{read_of}
@@ -23,13 +23,13 @@ use Rattle.vb_types.specs.declared.status.Status.{Status}
 use Rattle.vb_types.specs.declared.status.Status.TheVariants as status
 use Rattle.vb_types.specs.declared.write.Op.TheVariants as op
 use Rattle.vb_types.specs.declared.write.Write.{Write}
-use Rattle.transcript_law.specs.AnswerRows.{LawfulAway, LawfulTo, once, removes, says, writes}
+use Rattle.transcript_law.specs.AnswerRows.{LawfulAway, LawfulTo, makes, once, removal, removes, says, writes}
 use Rattle.transcript_law.specs.ClientStreamRows.{pending}
 use Rattle.transcript_law.specs.LawfulAnswers.{IsLocked, IsWhyRefused}
 use Rattle.transcript_law.specs.LawfulClients.{IsActive}
-use Rattle.transcript_law.specs.Transcripts.{first_doc}
+use Rattle.transcript_law.specs.Transcripts.{first_doc, one_change}
 use Rattle.transcript_law.proofs.rows.AnswerWrites.{no_made}
-use Rattle.transcript_law.proofs.rows.Answering.{asked_so, bare_bytes, bare_so, byte_at, response_of}
+use Rattle.transcript_law.proofs.rows.Answering.{asked_calm, asked_so, bare_bytes, bare_so, byte_at, response_of, stored_bytes}
 use Rattle.transcript_law.proofs.rows.ClientStreamVerdicts.{no_active}
 use Rattle.transcript_law.proofs.rows.NextRows.{none_pending, none_stored, seven_pending, seven_there}
 use Rattle.transcript_law.proofs.rows.WaitingKeys.{nine_waits, seven_free, waits}
@@ -153,3 +153,27 @@ unlocked l = let (g, s, fits) = asked_so (l.0 refl) refl refl refl in ⊎_elim (
 pub full : LawfulTo [] (writes SET 0 7 8) (says SET status.Etmpfail ∷ [])
 unfolding spelling frames_in first_frame frame_of read_of frame_row shape_fault request_of requirement_of
 full = (λ z. inl (record { question = _; next = refl; answer = reply_frame (bare_answer SET status.Etmpfail 9); spelled = refl; response = refl; opcode = refl; opaque = refl; calm = inr tt; fits = inl (status.Etmpfail, bare_so SET 9 status.Etmpfail, why_unfit refl (none_pending (7 ∷ [])) (inr refl)) }), tt)
+
+-- a status that is not of an outcome was told, and no write is its own
+no_outcome : {bytes : List ℕ} {g : Frame} {code said opaque other : ℕ} → IsBare g code said opaque → bytes ≡ spelling g → g.vb_or_status ≡ other → bytes ≡ spelling (response_of code 0 other opaque 0 [] [])
+no_outcome {bytes} {g} {code} {said} {opaque} {other} b s e = bare_bytes b s ∙ ap (λ k. spelling (response_of code 0 k opaque 0 [] [])) (sym b.header.status ∙ e)
+
+pub made : LawfulTo [] (writes SET 0 7 8) (makes one_change ∷ says SET status.Etmpfail ∷ []) → ⊥
+unfolding spelling frames_in first_frame frame_of read_of frame_row shape_fault request_of requirement_of
+made l =
+    let (g, s, fits, calm) = asked_calm (l.1.0 refl) refl refl refl in
+    ⊎_elim
+    (λ o. ⊎_elim
+    (λ r. ⊎_elim (λ e. let z : ◌≡◌ {A = ℕ} 134 0 = ap (byte_at 7) (no_outcome r.1 s e) in omega (arith, z)) (λ e. let z : ◌≡◌ {A = ℕ} 134 163 = ap (byte_at 7) (no_outcome r.1 s e) in omega (arith, z)) o.3)
+    (λ m. let z : ◌≡◌ {A = ℕ} 134 0 = ap (byte_at 7) (stored_bytes m.told s) in omega (arith, z)) fits)
+    (λ d. let z : false ≡ true = d.0 in cc) calm
+
+pub removed : LawfulTo once (removes 7) (makes removal ∷ says DELETE status.Etmpfail ∷ []) → ⊥
+unfolding spelling frames_in first_frame frame_of read_of frame_row shape_fault request_of requirement_of
+removed l =
+    let (g, s, fits, calm) = asked_calm (l.1.0 refl) refl refl refl in
+    ⊎_elim
+    (λ o. ⊎_elim
+    (λ r. ⊎_elim (λ e. let z : ◌≡◌ {A = ℕ} 134 0 = ap (byte_at 7) (no_outcome r.1 s e) in omega (arith, z)) (λ e. let z : ◌≡◌ {A = ℕ} 134 163 = ap (byte_at 7) (no_outcome r.1 s e) in omega (arith, z)) o.3)
+    (λ m. let z : ◌≡◌ {A = ℕ} 134 0 = ap (byte_at 7) (stored_bytes m.told s) in omega (arith, z)) fits)
+    (λ d. let z : false ≡ true = d.0 in cc) calm

@@ -102,6 +102,7 @@ pub record Told (chronicle : Chronicle) (asking : Asking) (bytes : List ℕ) (q 
   pub opcode : frame.opcode ≡ q.frame.opcode
   pub opaque : frame.opaque ≡ q.frame.opaque
   pub fits : FitsFrame chronicle 0 (moment_of (chronicle.clients_at 0 1) asking q) asking.settings q.frame frame
+  pub calm : IsOutcome asking.settings q.frame frame ⊎ AllDurable chronicle.made
 
 pub answered : {chronicle : Chronicle} {asking : Asking} {bytes : List ℕ} {behind : List Event} {q : Question} → LawfulReply chronicle 0 1 asking bytes behind → question_of asking ≡ Some q → Told chronicle asking bytes q
 answered {chronicle} {asking} {bytes} {behind} {q} l is = ⊎_elim by (λ (f : AnswersFault 0 1 chronicle.made asking bytes behind). let e : None ≡ Some q = sym f.none ∙ is in cc) l
@@ -116,6 +117,7 @@ answered {chronicle} {asking} {bytes} {behind} {q} l is = ⊎_elim by (λ (f : A
           opcode = a.opcode ∙ ap (λ (p : Question). p.frame.opcode) same;
           opaque = a.opaque ∙ ap (λ (p : Question). p.frame.opaque) same;
           fits = subst (λ (p : Question). FitsFrame chronicle 0 (moment_of (chronicle.clients_at 0 1) asking p) asking.settings p.frame a.answer) same a.fits;
+          calm = subst (λ (p : Question). IsOutcome asking.settings p.frame a.answer ⊎ AllDurable chronicle.made) same a.calm;
         }
 
 -- where it is none of DCP, it fits what was asked
@@ -123,6 +125,13 @@ pub asked_so : {chronicle : Chronicle} {asking : Asking} {bytes : List ℕ} {beh
 asked_so {chronicle} {asking} {bytes} {behind} {q} {r} l is dcp asks =
     let told : Told chronicle asking bytes q = answered l is in
     (told.frame, told.spelled, subst (FitsRequest chronicle 0 asking.settings q.frame told.frame) asks (subst (λ b. FitsBy b chronicle 0 (moment_of (chronicle.clients_at 0 1) asking q) asking.settings q.frame told.frame) dcp told.fits))
+
+-- and it stands behind no set and no removal but its own
+pub asked_calm : {chronicle : Chronicle} {asking : Asking} {bytes : List ℕ} {behind : List Event} {q : Question} {r : Result KvRequest Status} → LawfulReply chronicle 0 1 asking bytes behind → question_of asking ≡ Some q → is_dcp q.frame.opcode ≡ false → request_of asking.settings.json q.frame ≡ r
+    → (g : Frame) × (bytes ≡ spelling g) × FitsRequest chronicle 0 asking.settings q.frame g r × (IsOutcome asking.settings q.frame g ⊎ AllDurable chronicle.made)
+asked_calm {chronicle} {asking} {bytes} {behind} {q} {r} l is dcp asks =
+    let told : Told chronicle asking bytes q = answered l is in
+    (told.frame, told.spelled, subst (FitsRequest chronicle 0 asking.settings q.frame told.frame) asks (subst (λ b. FitsBy b chronicle 0 (moment_of (chronicle.clients_at 0 1) asking q) asking.settings q.frame told.frame) dcp told.fits), told.calm)
 
 -- where nothing was asked, it answers a fault
 pub faulted : {chronicle : Chronicle} {asking : Asking} {bytes : List ℕ} {behind : List Event} → LawfulReply chronicle 0 1 asking bytes behind → question_of asking ≡ None → AnswersFault 0 1 chronicle.made asking bytes behind

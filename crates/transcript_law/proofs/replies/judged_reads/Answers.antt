@@ -24,4 +24,5 @@ returns c = record {
   raw_json = rows.raw_json;
   json = rows.json;
   json_raw = rows.json_raw;
+  behind_set = rows.behind_set;
 }

@@ -22,4 +22,6 @@ returns c = record {
   locked_other = rows.locked_other;
   unlocked = rows.unlocked;
   full = rows.full;
+  made = rows.made;
+  removed = rows.removed;
 }
