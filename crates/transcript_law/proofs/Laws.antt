@@ -1,8 +1,7 @@
 -- what holds of the transcript of a script that was read
-use Rattle.transcript_law.proofs.Words.{ℕ, List, ScriptLine, ScriptFits, starts, stays, take_snapshots, wholes, groups, Lawful, AreFollowed, known_of, world_of, IsScript, lines_fit}
+use Rattle.transcript_law.proofs.Words.{ℕ, List, ScriptLine, ScriptFits, groups, Lawful, AreFollowed, known_of, world_of, IsScript, lines_fit}
 use Rattle.transcript_law.proofs.invariant.Prefixes.{branches_followed}
 use Rattle.transcript_law.proofs.Runs.{lawful}
-use Rattle.transcript_law.proofs.verbs.Settling.{steady}
 
 -- the transcript of a script whose lines are in the grammar's limits
 pub scripts_are_lawful : (script : List ScriptLine) → ScriptFits script → Lawful script (groups script)

@@ -1,13 +1,12 @@
 -- no set and no removal waits to be answered: behind an answer, and behind changes of durable writes
-use Rattle.std.specs.Prelude.{◌≡◌, ◌==◌, ◌∷◌, ◌++◌, if◌then◌else◌}
+use Rattle.std.specs.Prelude.{◌≡◌, ◌==◌, ◌∷◌, if◌then◌else◌}
 use Rattle.std.specs.List.{filter}
-use Rattle.transcript_law.proofs.Words.{ℕ, Bool, true, false, List, [], refl, ap, sym, subst, Act, All, All-append, All-cons, All-head, All-nil, All-tail, Change, Chronicle, Option, Some, None, Plain, after_change, after_lines, is_active}
+use Rattle.transcript_law.proofs.Words.{ℕ, Bool, true, false, List, [], refl, ap, sym, Act, All, All-append, All-cons, All-head, All-nil, All-tail, Change, Chronicle, Option, Some, None, Plain, after_change, after_lines, is_active}
 use Rattle.transcript_law.proofs.verbs.Settling.{changes_told}
 use Rattle.transcript_law.specs.LawfulAnswers.{AllDurable}
 use Rattle.transcript_law.specs.LinesTold.{OwnChange, is_durable}
 use Rattle.durability.specs.declared.waiting.Waiting.{Waiting}
-use Rattle.vb_calls.specs.{Following.{cas_of, committed_act}, Settling.{Resolving, committed_by, may_commit, resolved_by, resolving_change, settled, settled_from, unresolved}, State.{pending_of}}
-use Rattle.vb_calls.specs.declared.calls.Resolution.{Resolution}
+use Rattle.vb_calls.specs.{Following.{committed_act}, Settling.{Resolving, committed_by, may_commit, resolving_change, settled, settled_from, unresolved}, State.{pending_of}}
 use Rattle.vb_types.specs.declared.change.Act.TheVariants as act
 use Rattle.vb_types.specs.declared.change.Pend.{Pend}
 

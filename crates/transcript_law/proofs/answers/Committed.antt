@@ -1,8 +1,8 @@
 -- outcomes of durable writes that were committed by changes that were told before, in the same group
-use Rattle.std.specs.Prelude.{◌≡◌, ◌⊎◌, ◌==◌, ◌∷◌, ◌++◌, if◌then◌else◌}
+use Rattle.std.specs.Prelude.{◌≡◌, ◌⊎◌, ◌==◌, ◌∷◌, if◌then◌else◌}
 use Rattle.std.specs.List.{filter}
-use Rattle.transcript_law.proofs.Words.{ℕ, Bool, true, false, List, [], refl, ap, sym, ◌∙◌, subst, inl, inr, ⊎_elim, All, All-append, All-nil, All-cons, All-weaker, Change, Chronicle, Doc, Event, IsIn, Plain, StreamName, AskAnswer, after_change, after_line, after_lines}
-use Rattle.transcript_law.proofs.{answers.Explained.{HasCommit, IsExplained}, verbs.Settling.{changes_told}}
+use Rattle.transcript_law.proofs.Words.{ℕ, Bool, true, false, List, [], refl, ap, sym, ◌∙◌, inl, inr, All, All-append, All-nil, All-cons, All-weaker, Change, Chronicle, Doc, Event, IsIn, Plain, StreamName, AskAnswer, after_change, after_line, after_lines}
+use Rattle.transcript_law.proofs.{answers.Explained.{IsExplained}, verbs.Settling.{changes_told}}
 use Rattle.transcript_law.specs.LawfulAnswers.{IsMadeIn}
 use Rattle.transcript_law.specs.LinesTold.{OwnChange, is_durable}
 use Rattle.vb_calls.specs.declared.calls.{Resolution.{Resolution}, Resolved.{Resolved}, VbCall.{VbCall}}

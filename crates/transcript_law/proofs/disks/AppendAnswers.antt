@@ -7,7 +7,7 @@ use Rattle.node_core.specs.Admin.{admin_job, admin_refused, noted_answer, promot
 use Rattle.node_world.specs.Arms.{fired_by, fuse_or, lifted, placed, under_arm}
 use Rattle.node_world.specs.Cuts.{closed_at}
 use Rattle.node_world.specs.Power.{after_fire, with_arm}
-use Rattle.node_core.specs.Clients.{PlainClient, client_ended}
+use Rattle.node_core.specs.Clients.{client_ended}
 use Rattle.node_world.specs.Nodes.{all_posted, with_clients_ended}
 use Rattle.std.specs.Option.{option_map}
 use Rattle.node_world.specs.Turns.{posted_at, posted_in, role_called}

@@ -1,7 +1,6 @@
 -- what the connections of clients are, and which changes were made in a group, is no part of what agrees
-use Rattle.std.specs.Prelude.{◌≡◌}
-use Rattle.transcript_law.proofs.Words.{ℕ, List, refl, inl, Chronicle, Cluster, PlainWorld}
-use Rattle.transcript_law.proofs.invariant.{Agreement.{Agrees, AgreesIn, idle}, Carried.{all_there}, ClientsKept.{all_kept, clients_kept}}
+use Rattle.transcript_law.proofs.Words.{List, refl, inl, Chronicle, Cluster, PlainWorld}
+use Rattle.transcript_law.proofs.invariant.{Agreement.{AgreesIn, idle}, Carried.{all_there}, ClientsKept.{all_kept, clients_kept}}
 use Rattle.transcript_law.specs.LinesTold.{Conns, OwnChange}
 
 -- both may be told otherwise

@@ -1,11 +1,10 @@
 -- for what a client's request is refused, by its vBucket and by what its connection has
-use Rattle.std.specs.Prelude.{◌≡◌, ◌≤◌, ◌==◌, ◌⊎◌, ◌&&◌, if◌then◌else◌, nat_lt, nat_le, not}
+use Rattle.std.specs.Prelude.{◌≡◌, ◌==◌, ◌⊎◌, ◌&&◌, if◌then◌else◌, nat_lt, nat_le, not}
 use Rattle.transcript_law.proofs.Words.{ℕ, Bool, true, false, refl, sym, ap, ◌∙◌, subst, arith, nat_tests, and_parts, inl, inr, ⊎_elim, Option, Some, None, Status, StreamAsk, AskAnswer, Plain, Role, is_active, stream_at, Stream, id_refusal, first_reason, is_ranged, open_refusal, PlainProducer, Chronicle, Cluster, refuse, request_refusal, verdict_with}
 use Rattle.dcp_producer.specs.Producers.{is_open}
 use Rattle.dcp_producer.specs.Serving.{MOST_STREAMS}
 use Rattle.transcript_law.proofs.{indexers.Setting.{open_as}, invariant.{Agreement.{VbAgrees}, ClientsTold.{setup_of}}}
 use Rattle.transcript_law.specs.{LawfulClients.{InOrder, IsActive, IsFree, IsRefusal, RefusesAs, RefusesBy}, StreamsTold.{ClientStream}}
-use Rattle.vb_types.specs.Statuses.{status_code}
 
 -- ---- by the connection
 

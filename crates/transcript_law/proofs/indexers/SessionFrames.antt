@@ -2,7 +2,7 @@
 use Rattle.std.specs.Prelude.{◌≡◌, ◌<◌, ◌^◌, ◌∷◌, ◌++◌, ◌==◌, ◌&&◌, ◌||◌, not, if◌then◌else◌}
 use Rattle.std.proofs.lemmas.List.Elements.{All-drop}
 use Rattle.transcript_law.proofs.Words.{ℕ, Bool, true, false, List, [], drop, refl, sym, ap, ◌∙◌, subst, inl, inr, append_assoc, Option, Some, None, is_some, Ok, Err, Event, Frame, FrameFault, RESPONSE, AreBytes, StaysSound, PlainProducer, States, PlainNode, PlainWorld, Chronicle, after_line, after_lines, after, Done, with_at}
-use Rattle.client_session.proofs.{Conduct.{Stays, frame_stays}, Handing.{others_answered}, Keeping.{front_of}, Turns.{handed_holds}}
+use Rattle.client_session.proofs.{Handing.{others_answered}, Keeping.{front_of}, Turns.{handed_holds}}
 use Rattle.client_session.specs.Serving.{PlainSession, Served, ended_at, frame_answered, handed, is_dcp, is_held, outcome_answered}
 unfoldable use Rattle.client_session.specs.Serving.{frame_handled}
 use Rattle.client_session.specs.Answers.{fault_lines}

@@ -1,13 +1,13 @@
 -- what holds behind all that a client's connection does with bytes and outcomes, where no frame is served while one that was handed up is to be answered; and none is at the end
 use Rattle.std.specs.Prelude.{◌≡◌, ◌<◌, ◌++◌, ◌==◌, if◌then◌else◌}
-use Rattle.transcript_law.proofs.Words.{ℕ, zero, suc, Bool, true, false, List, [], drop, append-nil, refl, sym, ap, ◌∙◌, subst, arith, eqb-true, Option, Some, None, Ok, Err, Event, Frame, FrameFault, PlainProducer, States, after, after_bind, Prog, Done, Turn, More}
+use Rattle.transcript_law.proofs.Words.{ℕ, zero, suc, Bool, true, false, List, [], drop, append-nil, refl, sym, ap, ◌∙◌, subst, arith, Option, Some, None, Ok, Err, Event, Frame, FrameFault, PlainProducer, States, after, after_bind, Prog, Done, Turn, More}
 use Rattle.client_session.proofs.{Conduct.{Stays, either, frame_stays}, Keeping.{front_of}, Turns.{by_turns, turns_fault, turns_frame, turns_none, turns_waiting}}
 use Rattle.client_session.specs.Serving.{PlainSession, Served, ended_at, is_held, outcome_answered, outcome_by, served, with_bytes}
 unfoldable use Rattle.client_session.specs.Serving.{bytes_handled, frame_handled, outcome_handled, turns_handled}
 use Rattle.client_session.specs.declared.session.Awaited.{Awaited}
 use Rattle.dcp_producer.specs.{Ending.{end_closed}, Producers.{Served as Answered, begun}, Serving.{frame_answered}}
 use Rattle.mcbp_frame.specs.Frames.{first_frame, frame_len}
-use Rattle.node_core.proofs.{ClientTurns.{first_passed, lessens, to_do}, Handlings.{answered, started}}
+use Rattle.node_core.proofs.{ClientTurns.{first_passed, lessens, to_do}, Handlings.{answered}}
 unfoldable use Rattle.node_core.proofs.Turning.{Fewer, onward}
 use Rattle.node_core.specs.Clients.{Handling, PlainClient, closed_if, delivered, frames_passed, handled_on, passed_by, passed_on, went_on}
 unfoldable use Rattle.node_core.specs.Clients.{client_fed, client_posted, frame_passed}

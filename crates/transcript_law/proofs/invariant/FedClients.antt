@@ -1,16 +1,13 @@
 -- the streams of a node's vBuckets are others' or its clients', also after all that it does for its clients
-use Rattle.std.specs.Prelude.{◌≡◌, ◌≤◌, ◌+◌, ◌*◌, ◌^◌, ◌∷◌, ◌++◌, ◌⊎◌, ◌==◌, if◌then◌else◌, ℕ, Bool, true, false, List, [], Option, Some, None, is_some}
+use Rattle.std.specs.Prelude.{◌≡◌, ◌≤◌, ◌+◌, ◌*◌, ◌^◌, ◌∷◌, ◌⊎◌, ◌==◌, if◌then◌else◌, ℕ, Bool, true, false, List, [], Option, Some, None, is_some}
 use Rattle.transcript_law.proofs.Words.{arith, refl, ap, sym, ◌∙◌, subst, inl, inr, ⊎_elim, eqb-true, eqb-false, All-nil, States, after, after_bind, Done, Frame}
 use Rattle.transcript_law.proofs.invariant.{OpenStreams.{AreKept}, Openings.{AreOwned, Holds, fewer, frame_keeps, puts_keep}, Quiets.{frame_quiet, same_call}, Unopened.{NoNew, OpensNone, after_new, closed_here, step_new}}
 use Rattle.transcript_law.specs.Feeding.{HasIn, HasOpen}
 use Rattle.client_session.proofs.Keeping.{front_of}
-use Rattle.client_session.specs.Serving.{Served, frame_handled, served, with_bytes}
-use Rattle.client_session.specs.declared.session.Awaited.{Awaited}
+use Rattle.client_session.specs.Serving.{Served, frame_handled}
 use Rattle.dcp_producer.specs.Ending.{end_closed, streams_closed}
-use Rattle.dcp_producer.specs.Producers.{PlainProducer, PlainStream, begun, new_end}
+use Rattle.dcp_producer.specs.Producers.{PlainProducer, PlainStream, begun}
 use Rattle.dcp_producer.specs.Pulling.{frames_put}
-use Rattle.dcp_producer.specs.Serving.{frame_answered}
-use Rattle.dcp_producer.specs.declared.desk.Desk.{Desk}
 use Rattle.node_core.proofs.Handlings.{fed_ends, posted_ends}
 use Rattle.node_core.specs.Calls.{left_open}
 use Rattle.node_core.specs.Clients.{ClientPulled, Handling, PlainClient, client_fed, client_posted, client_pull, client_pulled, new_client}

@@ -1,10 +1,10 @@
 -- each stream of a vBucket is that of an open link or of a client's connection, also after each line
 use Rattle.std.specs.Prelude.{◌≡◌, ◌∷◌, ◌⊎◌, ◌==◌, if◌then◌else◌}
-use Rattle.transcript_law.proofs.Words.{ℕ, Bool, true, false, List, [], refl, ap, sym, ◌∙◌, subst, inl, inr, ⊎_elim, filter, list_any, map, ◌&&◌, Option, Some, None, is_some, eqb-true, eqb-false, row_put, States, after, Cause}
-use Rattle.transcript_law.proofs.Words.{PlainLink, link_number, producer_node, PlainNode, PlainWorld, PlainStream, Told, Outcome, AdminCall, AdminResult, vb_in, with_node_at, with_links, node_outcome, node_if, on_node, unlinked, own_link, cut_off, link_ended, ended_by, ended_in, end_closed}
+use Rattle.transcript_law.proofs.Words.{ℕ, Bool, true, false, List, [], refl, ap, sym, ◌∙◌, subst, inl, inr, ⊎_elim, filter, list_any, map, ◌&&◌, Option, Some, None, is_some, eqb-true, eqb-false, row_put, States, Cause}
+use Rattle.transcript_law.proofs.Words.{PlainLink, link_number, producer_node, PlainNode, PlainWorld, PlainStream, Told, Outcome, AdminCall, AdminResult, with_node_at, with_links, node_outcome, node_if, on_node, unlinked, own_link, cut_off, link_ended, ended_by, ended_in, end_closed}
 use Rattle.transcript_law.proofs.Words.{refusal, called_at, no_node, turned_after, turned_if, with_ended, role_outcome}
 use Rattle.transcript_law.proofs.{invariant.Agreement.{IsLink}, invariant.Carried.{numbers}, verbs.Leaving.{own_found}, invariant.Numbered.{Numbers, numbers_out, numbers_passed, numbers_put, numbers_told, one_of_number, out_other, passed, put_in, put_other, told_there}}
-use Rattle.transcript_law.proofs.{invariant.FedClients.{ClientHas, Conns, Keeps, NodeFed, closed_none, none_fed, posts_keep}, invariant.OpenStreams.{AreKept, kept_went}, invariant.Quiets.{Ends}, invariant.Unopened.{either}}
+use Rattle.transcript_law.proofs.{invariant.FedClients.{Conns, Keeps, NodeFed, closed_none, none_fed, posts_keep}, invariant.OpenStreams.{AreKept, kept_went}, invariant.Quiets.{Ends}, invariant.Unopened.{either}}
 use Rattle.transcript_law.specs.Feeding.{HasIn, HasOpen, IsOf, IsOpenAt}
 use Rattle.dcp_producer.proofs.Kept.{ids_of}
 use Rattle.node_core.specs.Clients.{PlainClient, client_ended}

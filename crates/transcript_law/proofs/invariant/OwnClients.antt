@@ -1,5 +1,5 @@
 -- what the clients of a node are told, where its connections are told as its own
-use Rattle.std.specs.Prelude.{◌≡◌, ◌∷◌, ◌++◌}
+use Rattle.std.specs.Prelude.{◌∷◌, ◌++◌}
 use Rattle.std.specs.List.{All}
 use Rattle.transcript_law.proofs.Words.{ℕ, Bool, true, false, List, [], sym, subst, All-nil, All-cons, All-append, refl, Option, Some, None, Event, StreamName, PlainNode, after}
 use Rattle.transcript_law.proofs.lines.{ClientLines.{AllKept, posted_of}, SessionLines.{AreTo, IsKept, LeftBy, posted_at}}

@@ -1,7 +1,7 @@
 -- what a node does for the commands of its clients, for an operator and for its dials opens no stream
-use Rattle.std.specs.Prelude.{◌≡◌, ◌∷◌, ◌==◌, if◌then◌else◌}
-use Rattle.transcript_law.proofs.Words.{ℕ, Bool, true, false, List, [], refl, ap, sym, ◌∙◌, subst, Option, Some, None, Result, Ok, Err, is_some, nat_le, Frame, RESPONSE, Status, KvRequest, Plain, VbCall, VbReply, States}
-use Rattle.transcript_law.proofs.Words.{after, after_job, bind_job, Done, Job, Ended, frame_handled, request_handled, PlainNode, plain_step, admin_call, admin_replied, admin_result, AdminCall, AdminResult, dial_bytes, promoted, promote_refusal, is_role, role_result, turn_row, in_role, ending_reply, refusal_reply, VbAnswer, Role}
+use Rattle.std.specs.Prelude.{◌≡◌, ◌==◌, if◌then◌else◌}
+use Rattle.transcript_law.proofs.Words.{ℕ, Bool, true, false, List, refl, ap, sym, ◌∙◌, subst, Option, Some, None, Result, Ok, Err, is_some, nat_le, Frame, RESPONSE, Status, KvRequest, Plain, VbCall, VbReply, States}
+use Rattle.transcript_law.proofs.Words.{after, after_job, bind_job, Done, Job, Ended, frame_handled, request_handled, plain_step, admin_call, admin_replied, admin_result, AdminCall, AdminResult, dial_bytes, promoted, promote_refusal, is_role, role_result, turn_row, in_role, ending_reply, refusal_reply, VbAnswer, Role}
 use Rattle.transcript_law.proofs.{lines.Calm.{AnyAsk}, invariant.Unopened.{NoNew, OpensNone, after_job_new, after_new, either, found_at_own, led_none, none_new, step_new}}
 use Rattle.transcript_law.specs.Feeding.{Has, HasIn}
 use Rattle.client_session.specs.Serving.{MOST_DURABLE, Served, deadline_of, durable_called, frame_answered, handed, is_dcp, next_waiter, refused}

@@ -7,7 +7,7 @@ use Rattle.dcp_producer.specs.Serving.{frame_answered}
 use Rattle.dcp_producer.specs.declared.desk.Desk.{Desk}
 use Rattle.node_core.specs.Peers.{PeerResult, PlainPeer, peer_answered}
 use Rattle.vb_calls.proofs.Conduct.{after_always, always_bind}
-use Rattle.vb_calls.specs.Programs.{Always, AnyReply}
+use Rattle.vb_calls.specs.Programs.{AnyReply}
 
 module _ (kind : VbCall → Type 0) (P : List Event → Type 0) (d : Desk) (asks : Asks kind) (tells : Tells P d) where
   -- one frame of a peer's connection

@@ -1,11 +1,11 @@
 -- a pull of a client's connection tells of frames of its own streams and of its answers alone, and of as many as it answers, whatever the replies of vBuckets
 use Rattle.std.specs.Prelude.{◌≡◌, ◌∷◌, ◌++◌, if◌then◌else◌}
-use Rattle.transcript_law.proofs.Words.{ℕ, suc, true, List, [], refl, ap, sym, subst, ◌∙◌, drop, take, length, filter, Option, Some, None, Event, Answer, Cause, Frame, Halt, StreamName, PlainNode, PlainProducer, Served, Told, States, after, after_bind, begun, frames_put, frames_in_lines, is_frame, Done, PutsAsTold, why_of}
+use Rattle.transcript_law.proofs.Words.{ℕ, suc, true, List, [], refl, ap, sym, subst, ◌∙◌, drop, length, filter, Option, Some, None, Event, Answer, Frame, Halt, StreamName, PlainNode, PlainProducer, Served, Told, States, after, after_bind, begun, frames_put, frames_in_lines, is_frame, Done, PutsAsTold, why_of}
 use Rattle.dcp_producer.specs.Pulling.{frame_put}
 use Rattle.dcp_producer.specs.declared.desk.Desk.{Desk}
-use Rattle.node_core.specs.Clients.{ClientPulled, PlainClient, client_pull, client_pulled, delivered, front_len, reply_alone, with_replies}
+use Rattle.node_core.specs.Clients.{ClientPulled, PlainClient, client_pull, client_pulled, front_len, with_replies}
 use Rattle.node_world.specs.Nodes.{pull_at, pull_if}
-use Rattle.transcript_law.proofs.lines.{Calm.{AnyKind, Calm, Spared, calm_more, takes_any}, Pulling.{Lines, PutFew, Puts, pull_so}, SessionLines.{IsKept}}
+use Rattle.transcript_law.proofs.lines.{Calm.{AnyKind, Calm, Spared, takes_any}, Pulling.{Lines, PutFew, Puts, pull_so}, SessionLines.{IsKept}}
 use Rattle.transcript_law.proofs.lines.Refusals.{IsMade}
 use Rattle.transcript_law.proofs.links.PumpAnswers.{Counted, one_more, put_says}
 use Rattle.vb_calls.proofs.Conduct.{after_always}

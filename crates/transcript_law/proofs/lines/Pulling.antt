@@ -1,6 +1,6 @@
 -- what a peer's connection comes to as its producer puts the frames of its streams in turn, and which calls it makes, whatever the replies of vBuckets
-use Rattle.std.specs.Prelude.{◌≡◌, ◌<◌, ◌∷◌, ◌++◌, ◌==◌, ◌||◌, nat_lt}
-use Rattle.transcript_law.proofs.Words.{ℕ, suc, Bool, List, [], refl, ◌∙◌, subst, Event, Frame, VbCall, Halt, PlainProducer, Served, States, after, begun, frames_put}
+use Rattle.std.specs.Prelude.{◌≡◌, ◌∷◌, ◌++◌, ◌==◌, ◌||◌, nat_lt}
+use Rattle.transcript_law.proofs.Words.{ℕ, suc, Bool, List, [], ◌∙◌, subst, Event, Frame, VbCall, Halt, PlainProducer, Served, States, after, begun, frames_put}
 pub use Rattle.dcp_producer.proofs.PullLines.{Lines, Puts, Takes, pull_so}
 pub use Rattle.dcp_producer.specs.Pairs.{PutFew}
 use Rattle.dcp_producer.specs.Pulling.{frame_put}
@@ -8,7 +8,7 @@ use Rattle.dcp_producer.specs.declared.desk.Desk.{Desk}
 use Rattle.node_core.specs.Peers.{PlainPeer, PullResult, peer_pulled, pull_result}
 use Rattle.transcript_law.proofs.Words.{StreamName}
 use Rattle.vb_calls.proofs.Conduct.{after_always, always_bind}
-use Rattle.vb_calls.specs.Programs.{Always, AnyReply}
+use Rattle.vb_calls.specs.Programs.{AnyReply}
 
 -- a connection's window lets a frame through
 abbrev pub lets_through : PlainProducer → Bool

@@ -23,7 +23,7 @@ use Rattle.vb_disk.specs.declared.fuse.Fuse.{Fuse}
 use Rattle.vb_disk.specs.declared.fuse.Fuse.TheVariants.{Off}
 use Rattle.transcript_law.proofs.invariant.JobSteps.{shelf_found}
 use Rattle.vb_types.specs.declared.journal.Record.TheVariants as noted
-use Rattle.transcript_law.proofs.{disks.ArmedLines.{ArmedCame}, disks.Appending.{Renoted, Rewritten, breaks, broken, noted_agrees, unwritten}, disks.Burning.{BreaksUnder, breaks_under, quiet_same}, invariant.Carried.{numbers, told_of_same}, invariant.Carrying.{off_of}, links.Downing.{FiredIn, broken_answer, ended_agrees, vb_moved}, invariant.LinkRows.{found_is_link}, invariant.Agreement.{is_down}, links.Rolling.{closed_came, failed_came}}
+use Rattle.transcript_law.proofs.{disks.ArmedLines.{ArmedCame}, disks.Appending.{Renoted, Rewritten, breaks, broken, noted_agrees, unwritten}, disks.Burning.{BreaksUnder, breaks_under, quiet_same}, invariant.Carried.{numbers, told_of_same}, links.Downing.{FiredIn, broken_answer, ended_agrees, vb_moved}, invariant.LinkRows.{found_is_link}, invariant.Agreement.{is_down}, links.Rolling.{closed_came, failed_came}}
 use Rattle.{transcript_law.specs.Chronicles.{after_append, appending, late_record, with_disk}, vb_calls.specs.Shelves.{late_of}, vb_types.specs.declared.journal.Record.{Record}, vb_events.specs.declared.event.EndReason.TheVariants.{Disk}, vb_calls.specs.declared.journals.Rolled.{Rolled as RolledJob}}
 use Rattle.{cluster_model.specs.Clusters.{Disk as DiskOf}, node_world.specs.Arms.{fired_by}, node_world.specs.Worlds.{arm_in, is_up}, node_world.specs.declared.arm.Arm.{Arm}, node_world.specs.declared.arm.Fired.{Fired}, disk_journals.specs.Books.{Book}}
 use Rattle.vb_calls.specs.declared.journals.Rolled.TheVariants as rolled_as

@@ -1,7 +1,6 @@
 -- lines that are refused, judged by hand
 use Rattle.std.specs.Prelude.{◌≡◌, ◌∷◌}
-use Rattle.transcript_law.proofs.Words.{ℕ, List, [], refl, Some, None, Answer, Cause, Event, Chronicle, Verb}
-use Rattle.transcript_law.specs.BoundRows.{LawfulHere}
+use Rattle.transcript_law.proofs.Words.{ℕ, List, [], refl, Some, Answer, Cause, Event, Chronicle, Verb}
 use Rattle.transcript_law.specs.Firings.{FiresAsSaid, FiresInLine}
 use Rattle.transcript_law.specs.RefusalRows.{TellsItsCause, TellsNoRollback, TellsNothing}
 use Rattle.transcript_law.specs.Standing.{IsStanding}

@@ -1,5 +1,5 @@
 -- lines that tell of something that they may not, judged by hand
-use Rattle.std.specs.Prelude.{◌≡◌, ◌∷◌, ◌&&◌}
+use Rattle.std.specs.Prelude.{◌≡◌, ◌&&◌}
 use Rattle.transcript_law.proofs.Words.{Bool, true, false, sym, ap, ◌∙◌, Event, Verb}
 use Rattle.transcript_law.specs.TellingRows.{MayNotTell}
 use Rattle.transcript_law.specs.Tellings.{are_all, may_tell}

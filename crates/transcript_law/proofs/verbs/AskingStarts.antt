@@ -1,5 +1,5 @@
 -- the branches of a node that starts have ids that its line names, in their order
-use Rattle.std.specs.Prelude.{◌≡◌, ◌∷◌, ◌++◌, ◌⊎◌, if◌then◌else◌}
+use Rattle.std.specs.Prelude.{◌≡◌, ◌∷◌, ◌++◌, if◌then◌else◌}
 use Rattle.transcript_law.proofs.Words.{ℕ, Bool, true, false, List, [], length, map, refl, ap, sym, ◌∙◌, subst, inl, inr, ⊎_elim, append-nil, append_assoc, Option, Some, None, Cause, Change, Event, Plain, PlainNode, PlainWorld, States, Status, Told, VbCall, VbReply, plain_step, promoted, promote_refusal}
 use Rattle.transcript_law.proofs.Words.{Ended, after_job, after_job_bind, call_at, done, first_cause, refusal, refused_or}
 use Rattle.disk_journals.specs.{Arms.{opens_all}, Books.{Book}}

@@ -7,7 +7,7 @@ use Rattle.transcript_law.proofs.Words.{None, Option, Some, is_some, Chronicle, 
 use Rattle.transcript_law.proofs.Words.{All, All-nil, VbAnswer, VbReply, Status, is_active, own_link, refusal_reply, with_states, Plain, plain_step, States, call_at, VbCall, Answer, Cause, Event, Role, row_at, after_job, lift, with_vb_at, shelf_in}
 use Rattle.disk_journals.specs.Arms.{arm_over, armed_at, under}
 use Rattle.node_core.specs.{Admin.{admin_at, admin_job, noted_answer}, Flushing.{FlushResult, flush_at, flush_if, flush_result, settled_by, settled_result}}
-use Rattle.node_world.specs.{Arms.{fired_by, placed}, Dues.{done_step, due_at, due_in, due_of, is_counted}, Nodes.{all_posted, arm_at, flush_line, save_line, shelf_or_blank, with_kept, with_posts, written as written_node}, World.{down_in, down_outcome, down_step}, Worlds.{arm_in}}
+use Rattle.node_world.specs.{Arms.{fired_by, placed}, Dues.{done_step, due_at, due_in, due_of, is_counted}, Nodes.{all_posted, flush_line, save_line, shelf_or_blank, with_kept, with_posts, written as written_node}, World.{down_in, down_outcome, down_step}, Worlds.{arm_in}}
 use Rattle.node_world.specs.Power.{after_fire, with_arm}
 use Rattle.node_world.specs.declared.arm.Fired.{Fired}
 use Rattle.node_world.specs.declared.arm.Fired.TheVariants as fired

@@ -1,7 +1,7 @@
 -- each line of a script tells of nothing else than it may
 use Rattle.std.specs.Prelude.{◌≡◌, ◌∷◌, ◌++◌, ◌==◌, ◌&&◌, ◌||◌, if◌then◌else◌}
-use Rattle.transcript_law.proofs.Words.{ℕ, Bool, true, false, List, [], refl, sym, ◌∙◌, subst, map, flat_map, length, Option, Some, None, is_some, eq-eqb, and_parts, Answer, Cause, Event, EndReason, Role, VbVerb, NodeVerb, LinkVerb, ClientVerb, AdminCall, AdminResult, PlainLink, PlainNode, PlainWorld, Outcome, StreamName, Told, VbAnswer, VbCall, VbReply, after, after_job, with_states, row_at, link_number}
-use Rattle.transcript_law.proofs.Words.{admin_call, admin_line, admin_result, branch_lines, bytes_at, call_at, called_at, cut_off, cut_outcome, done, first_cause, no_node, node_outcome, on_node, own_link, refusal, refused_or, role_outcome, turned_after, turned_if, with_ended, with_node_at}
+use Rattle.transcript_law.proofs.Words.{ℕ, Bool, true, false, List, [], refl, sym, subst, map, flat_map, length, Option, Some, None, is_some, eq-eqb, and_parts, Answer, Cause, Event, EndReason, Role, VbVerb, NodeVerb, LinkVerb, AdminCall, AdminResult, PlainLink, PlainNode, PlainWorld, Outcome, StreamName, Told, VbAnswer, VbCall, VbReply, after, after_job, with_states, row_at, link_number}
+use Rattle.transcript_law.proofs.Words.{admin_call, admin_line, admin_result, branch_lines, call_at, called_at, cut_off, cut_outcome, done, first_cause, no_node, node_outcome, on_node, own_link, refusal, refused_or, role_outcome, turned_after, turned_if, with_ended, with_node_at}
 use Rattle.disk_journals.specs.{Arms.{opens_all}, Books.{Book}}
 use Rattle.node_core.specs.{Calls.{own_lines, own_lines_if}, Admin.{admin_refused, promote_result, role_at, role_noted, role_result}, Dials.{DialResult, acknowledged_line, dial_due, untold}, Flushing.{FlushResult, flush_answered, flush_at, flush_if, flush_result, settled_by, settled_result}, Loading.{are_short, branch_in, start_job, start_result, starts_of}}
 use Rattle.node_world.specs.{Arms.{fired_by, no_arm, placed, under_arm}, Dues.{done_step, due_at, due_in, due_of, is_counted}, Links.{dial_of}, Nodes.{all_posted, chain_causes, chain_line, chain_made, flush_line, save_line, tick_line, vb_made, with_kept, with_posts}}
@@ -9,7 +9,7 @@ use Rattle.node_world.specs.{Power.{Starting, after_fire, all_numbers, burnt_arm
 use Rattle.node_world.specs.declared.arm.Fired.{Fired}
 use Rattle.node_world.specs.declared.arm.Fired.TheVariants as fired
 use Rattle.transcript_law.proofs.{invariant.LinkRows.{found_is_link}, invariant.Ranged.{IsRanged, NodeRanged, NodeRangedIf, called_world, cut_ended_ranged}, lines.Calm.{AnyAsk, any_job, due_keeps, either}, lines.ClientLines.{AllKept, AreOfClients, IsOfClients, posts_of_clients}, verbs.NodeLines.{on_made_by, on_node_by}}
-use Rattle.transcript_law.specs.Tellings.{are_all, at_client, at_link, at_node, at_vb, is_any, is_none, is_of_start}
+use Rattle.transcript_law.specs.Tellings.{are_all, at_link, at_node, at_vb, is_any, is_none, is_of_start}
 use Rattle.vb_calls.proofs.{Conduct.{after_always}, JobConduct.{after_job_always, always_bind_job}}
 use Rattle.vb_calls.specs.Flushes.{appended_job, batch_of_reply, flush_job, part_job, role_job, taken_job, took}
 use Rattle.vb_calls.specs.Jobs.{AlwaysJob, Job, Ended}

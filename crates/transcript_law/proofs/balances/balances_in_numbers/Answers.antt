@@ -1,4 +1,3 @@
-use Rattle.std.specs.Prelude.{◌≡◌}
 use Rattle.transcript_law.proofs.Words.{refl, ap, ◌∙◌}
 use Rattle.transcript_law.specs.Balance.{acknowledged_by, stream_len}
 use Rattle.transcript_law.proofs.balance.Numbers.{acked_means, both_mean, marker_means, nothing_means}
