@@ -39,6 +39,10 @@ durable_frame = record (set_frame (7 ∷ []) (8 ∷ [])) { magic = FRAMED_REQUES
 abbrev pub durable_bytes : List ℕ
 durable_bytes = spelling durable_frame
 
+-- a byte that begins no frame
+abbrev pub broken_bytes : List ℕ
+broken_bytes = 1 ∷ []
+
 -- a line that brings these bytes over the connection 1 of the node 0
 abbrev pub brings : List ℕ → Verb
 brings bytes = verb.AtClient 0 1 (client_verb.Bytes bytes)

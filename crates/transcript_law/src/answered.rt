@@ -1,7 +1,7 @@
 //! What makes a transcript lawful or not by whether each client gets its answers.
 
 ghost use Rattle.std.specs.Prelude.{[], ◌∷◌, ◌++◌, take, drop};
-ghost use Rattle.transcript_law.specs.AnsweredRows.{brings, durable_bytes, durable_unknown, noop_answered, noop_bytes, response_bytes, sent_alone, sent_shut, set_bytes};
+ghost use Rattle.transcript_law.specs.AnsweredRows.{brings, broken_bytes, durable_bytes, durable_unknown, noop_answered, noop_bytes, response_bytes, sent_alone, sent_shut, set_bytes};
 ghost use Rattle.transcript_law.specs.ClientRows.{LawfulOpened, hangs, waits};
 ghost use Rattle.transcript_law.specs.Crashes.{ok};
 ghost use Rattle.transcript_law.specs.Unanswered.{AllAnswered};
@@ -12,7 +12,7 @@ ghost use Rattle.transcript_law.specs.Unanswered.{AllAnswered};
 /// asked by less than a frame, nor by a response, and nobody is left without an answer over a connection
 /// that is not open. Only a durable write may wait, and is answered with a later line; what was asked
 /// behind it waits with it, and what was asked before it does not, nor does a write that is not to be
-/// durable.
+/// durable. Bytes that begin no frame close a connection behind the frames before them.
 pub fn judged_unanswered()
     ensures answered { LawfulOpened (brings noop_bytes ∷ []) (ok (noop_answered ∷ []) ∷ []) }
     ensures unanswered { LawfulOpened (brings noop_bytes ∷ []) (ok [] ∷ []) → ⊥ }
@@ -32,5 +32,8 @@ pub fn judged_unanswered()
     ensures set { AllAnswered (sent_alone set_bytes) → ⊥ }
     ensures durable { AllAnswered (sent_alone durable_bytes) }
     ensures behind_durable { AllAnswered (sent_alone (durable_bytes ++ noop_bytes)) }
+    ensures broken { AllAnswered (sent_alone broken_bytes) → ⊥ }
+    ensures broken_behind { AllAnswered (sent_alone (response_bytes ++ broken_bytes)) → ⊥ }
+    ensures broken_waits { AllAnswered (sent_alone (durable_bytes ++ broken_bytes)) }
     ensures before_durable { AllAnswered (sent_alone (noop_bytes ++ durable_bytes)) → ⊥ }
 {}

@@ -182,10 +182,14 @@ awaited_asks k session after set x f a before hand next reader settings waits co
       });
     }
 
--- before a fault each frame is answered, and the session's bytes stand behind them
-pub fault_asks : (k : Asking) (session : PlainSession) (set : Handshake) (x : AskingIs k session set) (fault : FrameFault) → session.awaited ≡ None → first_frame session.reader ≡ Some (Err fault) → (question_of k ≡ None) × (behind_frames k.bytes ≡ session.reader)
-fault_asks k session set x fault free first =
-    let seen : frames_in k.bytes ≡ x.served = all_frames k session set x ∙ ap (λ more. x.served ++ more) (frames-none session.reader (ap frame_in first)) ∙ append-nil x.served in (
+-- where no frame is left each is answered, and the session's bytes stand behind them
+pub rest_asks : (k : Asking) (session : PlainSession) (set : Handshake) (x : AskingIs k session set) → session.awaited ≡ None → frame_in (first_frame session.reader) ≡ None → (question_of k ≡ None) × (behind_frames k.bytes ≡ session.reader)
+rest_asks k session set x free first =
+    let seen : frames_in k.bytes ≡ x.served = all_frames k session set x ∙ ap (λ more. x.served ++ more) (frames-none session.reader first) ∙ append-nil x.served in (
       ap (first_question k.setup) seen ∙ none_open k session set x free,
       ap (λ fs. drop (sum_by frame_len fs) k.bytes) seen ∙ ap (λ n. drop n k.bytes) (sym x.frames.long) ∙ ap (drop (length x.front)) x.bytes ∙ drop-append_seam x.front session.reader,
     )
+
+-- so it is before a fault
+pub fault_asks : (k : Asking) (session : PlainSession) (set : Handshake) (x : AskingIs k session set) (fault : FrameFault) → session.awaited ≡ None → first_frame session.reader ≡ Some (Err fault) → (question_of k ≡ None) × (behind_frames k.bytes ≡ session.reader)
+fault_asks k session set x fault free first = rest_asks k session set x free (ap frame_in first)

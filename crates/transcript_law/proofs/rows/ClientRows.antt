@@ -65,11 +65,11 @@ hung_then = from_opened (hangs 1 ∷ waits ∷ []) (ok [] ∷ ok [] ∷ []) refl
 pub reply : LawfulOpened (asks 1 ∷ []) (ok (replies 0 1 (nooped 9) ∷ closes 0 1 ∷ []) ∷ [])
 unfolding spelling frames_in first_frame frame_of read_of frame_row request_of requirement_of
 reply = from_heard (asks 1 ∷ []) (ok (replies 0 1 (nooped 9) ∷ closes 0 1 ∷ []) ∷ []) refl ((((refl, λ z. noop_answer 9 refl refl refl refl tt), (refl, tt)), refl, refl), tt)
-    (λ s. heard_by _ _ _ _ _ (here_answered read (asks 1) (replies 0 1 (nooped 9) ∷ closes 0 1 ∷ []) Answer.Ok (λ n c e. rw e refl) refl) (heard_all _))
+    (λ s. heard_by _ _ _ _ _ (here_answered read (asks 1) (replies 0 1 (nooped 9) ∷ closes 0 1 ∷ []) Answer.Ok (λ n c e. rw e refl) refl refl) (heard_all _))
 
 pub reply_later : LawfulOpened (asks 1 ∷ waits ∷ []) (ok [] ∷ ok (replies 0 1 (nooped 9) ∷ []) ∷ []) → ⊥
 unfolding spelling frames_in first_frame frame_of read_of frame_row request_of requirement_of
-reply_later l = let a = l.1.1.0.8 0 1 refl _ refl in let e = a.asks in cc
+reply_later l = let a = (l.1.1.0.8 0 1 refl).asks _ refl in let e = a.asks in cc
 
 module _ (bytes : List ℕ) where
   pub reply_unasked : LawfulOpened (sends 1 ∷ []) (ok (replies 0 1 bytes ∷ closes 0 1 ∷ []) ∷ []) → ⊥

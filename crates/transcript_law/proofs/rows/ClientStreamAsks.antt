@@ -214,7 +214,7 @@ pieces = (
     refl,
     tt,
     tt,
-    here_answered (serving two (that_sent none (take 30 (requesting 0 all_changes)))) (sends_rest 30 (requesting 0 all_changes)) (asked all_changes ask_answer.Go) answer.Ok (λ n c e. rw e refl) refl,
+    here_answered (serving two (that_sent none (take 30 (requesting 0 all_changes)))) (sends_rest 30 (requesting 0 all_changes)) (asked all_changes ask_answer.Go) answer.Ok (λ n c e. rw e refl) refl refl,
   ),
   tt,
 )

@@ -22,14 +22,14 @@ use Rattle.transcript_law.specs.LawfulClients.{AllQuiet, IsQuiet, NoneWithin}
 use Rattle.transcript_law.specs.Undone.{EndsThere}
 use Rattle.transcript_law.specs.Transcripts.{one_change}
 use Rattle.transcript_law.proofs.rows.ClientStreamVerdicts.{no_active}
-use Rattle.transcript_law.proofs.rows.Silent.{here_answered, none_of}
+use Rattle.transcript_law.proofs.rows.Silent.{here_answered, none_of, unbroken_of}
 use Rattle.vb_events.specs.declared.event.Why.TheVariants as why
 
 -- ---- idle pulls
 
 -- an idle pull is lawful where each stream is quiet
 idles : (changes : List Change) (known : ClientKnown) → known.asking.bytes ≡ [] → AllQuiet (serving changes known) 0 known → LawfulPulled changes known idle
-idles changes known silent quiet = ((tt, (refl, record { told = refl; most = omega arith; all = λ e. cc; only = λ e. absurd (omega (arith, e)) }), refl, refl, (λ w no standing. cc), refl, (refl, refl), quiet, here_answered (serving changes known) pulls [] (answer.Pulled 0 why.Idle) (λ n c e. rw e refl) (none_of known.asking silent)), tt)
+idles changes known silent quiet = ((tt, (refl, record { told = refl; most = omega arith; all = λ e. cc; only = λ e. absurd (omega (arith, e)) }), refl, refl, (λ w no standing. cc), refl, (refl, refl), quiet, here_answered (serving changes known) pulls [] (answer.Pulled 0 why.Idle) (λ n c e. rw e refl) (none_of known.asking silent) (unbroken_of known.asking silent)), tt)
 
 -- of one stream it is enough that this one is
 one_quiet : (changes : List Change) (g : ClientStream) → IsQuiet (serving changes (with_streams (one g))) 0 0 g → AllQuiet (serving changes (with_streams (one g))) 0 (with_streams (one g))

@@ -37,7 +37,7 @@ use Rattle.vb_events.specs.declared.event.Answer.TheVariants as answer
 use Rattle.vb_events.specs.declared.event.Event.{Event}
 use Rattle.vb_events.specs.declared.event.Why.TheVariants as why
 use Rattle.transcript_law.specs.{Chronicles.{Chronicle, after_group}, StreamsTold.{Asking}}
-use Rattle.transcript_law.proofs.rows.Silent.{here_answered, none_of}
+use Rattle.transcript_law.proofs.rows.Silent.{here_answered, none_of, unbroken_of}
 
 -- ---- a pull
 
@@ -93,7 +93,7 @@ counted = (
     refl,
     (refl, refl),
     λ v g is opens stays. absurd (all_over g (v == 0) (sym (streams_behind (one granted) (λ w. refl) v) ∙ is) opens),
-    here_answered (serving two (with_streams (one granted))) pulls all_lines (answer.Pulled 4 why.Idle) (λ n c e. rw e refl) (none_of blank_now refl),
+    here_answered (serving two (with_streams (one granted))) pulls all_lines (answer.Pulled 4 why.Idle) (λ n c e. rw e refl) (none_of blank_now refl) (unbroken_of blank_now refl),
   ),
   tt,
 )
@@ -148,7 +148,7 @@ story = (
   refl,
   tt,
   tt,
-  here_answered (serving two blank_client) asks_first first_lines answer.Ok (λ n c e. rw e refl) refl,
+  here_answered (serving two blank_client) asks_first first_lines answer.Ok (λ n c e. rw e refl) refl refl,
 )
     ▹ (
       mark_put _ _ 0 0 2 granted _ refl refl refl two_next ▹ (refl, λ z. cc)
@@ -162,7 +162,7 @@ story = (
       refl,
       (refl, refl),
       λ v g is opens stays. absurd (all_over g (v == 0) (sym (streams_behind (with_id (unclosed sent_frames nothing) 0 (Some granted)) (granted_one sent_frames) v) ∙ is) opens),
-      here_answered story_asked pulls all_lines (answer.Pulled 4 why.Idle) (λ n c e. rw e refl) refl,
+      here_answered story_asked pulls all_lines (answer.Pulled 4 why.Idle) (λ n c e. rw e refl) refl refl,
     )
     ▹ tt
 

@@ -115,7 +115,7 @@ tick_ask = (
     refl,
     tt,
     tt,
-    here_answered (serving two (that_sent none (requesting 0 all_changes))) ticks (asked all_changes ask_answer.Go) answer.Ok (λ n c e. rw e refl) refl,
+    here_answered (serving two (that_sent none (requesting 0 all_changes))) ticks (asked all_changes ask_answer.Go) answer.Ok (λ n c e. rw e refl) refl refl,
   ),
   tt,
 )

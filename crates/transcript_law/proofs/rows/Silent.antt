@@ -1,6 +1,6 @@
 -- that no client is left without an answer, in transcripts that are judged by hand: behind lines by which no client sends anything there is nothing to be answered
 use Rattle.std.specs.Prelude.{◌≡◌, ◌∷◌, ◌++◌, ◌==◌, ◌&&◌, if◌then◌else◌}
-use Rattle.transcript_law.proofs.Words.{ℕ, Bool, not, true, false, List, [], refl, sym, ap, ◌∙◌, subst, and_parts, eqb-true, list_any, Option, Some, None, Answer, Cause, Event, Role, ScriptLine, Verb, Chronicle, empty_chronicle, Group}
+use Rattle.transcript_law.proofs.Words.{ℕ, Bool, not, true, false, List, [], refl, sym, ap, ◌∙◌, subst, and_parts, eqb-true, list_any, Option, Some, None, Answer, Cause, Event, Role, ScriptLine, Verb, Chronicle, drop, empty_chronicle, Group}
 use Rattle.script_text.specs.declared.verb.Verb.TheVariants as verb
 use Rattle.script_text.specs.declared.verb.ClientVerb.TheVariants as client_verb
 use Rattle.script_text.specs.declared.verb.LinkVerb.TheVariants as link_verb
@@ -8,7 +8,9 @@ use Rattle.script_text.specs.declared.verb.NodeVerb.TheVariants as node_verb
 use Rattle.script_text.specs.declared.verb.VbVerb.TheVariants as vb_verb
 use Rattle.client_session.proofs.Chunks.{nothing}
 use Rattle.mcbp_frame.proofs.Cutting.{frames-none}
-use Rattle.mcbp_frame.specs.Cutting.{frame_in, frames_in}
+use Rattle.std.specs.List.{sum_by}
+use Rattle.mcbp_frame.specs.Frames.{frame_len}
+use Rattle.mcbp_frame.specs.Cutting.{fault_in, frame_in, frames_in, front_fault}
 use Rattle.vb_disk.specs.declared.fuse.Fuse.{Fuse}
 use Rattle.vb_events.specs.declared.event.Answer.TheVariants as answer
 use Rattle.vb_events.specs.declared.event.Cause.TheVariants as cause
@@ -19,9 +21,13 @@ use Rattle.vb_types.specs.declared.stream.AskAnswer.TheVariants as ask_answer
 use Rattle.transcript_law.specs.Chronicles.{Appending, Conns, after_append, after_calls, after_group, after_line, after_lines, after_made, after_openings, after_restart, after_restarts, after_rollback, after_start, after_starts, after_up, after_verb, ahead, appending, calls_of_append, conns_lines, conns_verb, disks_of, is_made, is_off, is_rollback, known_down, rollback_of, saving, state_of, with_disk, with_at, with_disk_there, with_id}
 use Rattle.transcript_law.specs.ClientFrames.{Request, request_in}
 use Rattle.transcript_law.specs.ClientStreams.{ClientKnown, ClientsKnown, StreamLine, blank_client, clients_frame, past_asked, past_turn, with_client}
-use Rattle.transcript_law.specs.Questions.{first_question, past_answer, past_question_if, question_of}
+use Rattle.transcript_law.specs.Questions.{behind_frames, first_question, past_answer, past_question_if, question_of}
 use Rattle.transcript_law.specs.StreamsTold.{Asking}
-use Rattle.transcript_law.specs.Unanswered.{AllAnswered, NoneAsks}
+use Rattle.transcript_law.specs.Unanswered.{AllAnswered, NoneWaits}
+
+-- nothing is asked, and nothing is broken
+pub none_next : (k : Asking) → question_of k ≡ None → front_fault (behind_frames k.bytes) ≡ None → NoneWaits k
+none_next k none whole = record { asks = λ q is. let z : None ≡ Some q = sym none ∙ is in cc; whole = λ z. whole }
 
 -- ---- nothing was sent
 
@@ -29,15 +35,19 @@ use Rattle.transcript_law.specs.Unanswered.{AllAnswered, NoneAsks}
 pub none_of : (k : Asking) → k.bytes ≡ [] → question_of k ≡ None
 none_of k e = ap (λ b. first_question k.setup (frames_in b)) e ∙ ap (first_question k.setup) (frames-none [] (ap frame_in nothing))
 
-none_asks : (k : Asking) → k.bytes ≡ [] → NoneAsks k
-none_asks k e q is = let z : None ≡ Some q = sym (none_of k e) ∙ is in cc
+-- and breaks nothing
+pub unbroken_of : (k : Asking) → k.bytes ≡ [] → front_fault (behind_frames k.bytes) ≡ None
+unbroken_of k e = ap (λ b. front_fault (behind_frames b)) e ∙ ap (λ fs. front_fault (drop (sum_by frame_len fs) [])) (frames-none [] (ap frame_in nothing)) ∙ ap fault_in nothing
+
+none_waits : (k : Asking) → k.bytes ≡ [] → NoneWaits k
+none_waits k e = none_next k (none_of k e) (unbroken_of k e)
 
 -- no client has sent a byte that is not answered
 abbrev pub Silent : ClientsKnown → Type 0
 Silent clients = (n c : ℕ) → (clients n c).asking.bytes ≡ []
 
 pub silent_answered : (r : Chronicle) → Silent r.clients_at → AllAnswered r
-silent_answered r silent n c opens = none_asks (r.clients_at n c).asking (silent n c)
+silent_answered r silent n c opens = none_waits (r.clients_at n c).asking (silent n c)
 
 -- nor is one left where no connection is open
 pub shut_answered : (r : Chronicle) → ((n c : ℕ) → r.conn_at n c ≡ false) → AllAnswered r
@@ -218,21 +228,17 @@ unfolding AreHeard
 heard_all r = tt
 
 -- where only the connection 1 of the node 0 has sent bytes
-pub one_answered : (r : Chronicle) → ((n c : ℕ) → (n == 0 && c == 1) ≡ false → (r.clients_at n c).asking.bytes ≡ []) → NoneAsks (r.clients_at 0 1).asking → AllAnswered r
+pub one_answered : (r : Chronicle) → ((n c : ℕ) → (n == 0 && c == 1) ≡ false → (r.clients_at n c).asking.bytes ≡ []) → NoneWaits (r.clients_at 0 1).asking → AllAnswered r
 one_answered r others here n c opens = by (n == 0 && c == 1) refl
   where
-    by : (b : Bool) → (n == 0 && c == 1) ≡ b → NoneAsks (r.clients_at n c).asking
-    by true e = let both = and_parts (n == 0) (c == 1) e in subst (λ k. NoneAsks (r.clients_at k c).asking) (sym (eqb-true n 0 both.0)) (subst (λ d. NoneAsks (r.clients_at 0 d).asking) (sym (eqb-true c 1 both.1)) here)
-    by false e = none_asks (r.clients_at n c).asking (others n c e)
-
--- where nothing is asked next
-pub none_next : (k : Asking) → question_of k ≡ None → NoneAsks k
-none_next k none q is = let z : None ≡ Some q = sym none ∙ is in cc
+    by : (b : Bool) → (n == 0 && c == 1) ≡ b → NoneWaits (r.clients_at n c).asking
+    by true e = let both = and_parts (n == 0) (c == 1) e in subst (λ k. NoneWaits (r.clients_at k c).asking) (sym (eqb-true n 0 both.0)) (subst (λ d. NoneWaits (r.clients_at 0 d).asking) (sym (eqb-true c 1 both.1)) here)
+    by false e = none_waits (r.clients_at n c).asking (others n c e)
 
 -- so it is behind one line
 pub here_answered : (r : Chronicle) (line : Verb) (lines : List Event) (said : Answer)
-    → (let next : Chronicle = after_group r line lines said in ((n c : ℕ) → (n == 0 && c == 1) ≡ false → (next.clients_at n c).asking.bytes ≡ []) → question_of (next.clients_at 0 1).asking ≡ None → AllAnswered next)
-here_answered r line lines said others none = let next : Chronicle = after_group r line lines said in one_answered next others (none_next (next.clients_at 0 1).asking none)
+    → (let next : Chronicle = after_group r line lines said in ((n c : ℕ) → (n == 0 && c == 1) ≡ false → (next.clients_at n c).asking.bytes ≡ []) → question_of (next.clients_at 0 1).asking ≡ None → front_fault (behind_frames (next.clients_at 0 1).asking.bytes) ≡ None → AllAnswered next)
+here_answered r line lines said others none whole = let next : Chronicle = after_group r line lines said in one_answered next others (none_next (next.clients_at 0 1).asking none whole)
 
 -- before the first line none has
 pub silent_start : Silent empty_chronicle.clients_at

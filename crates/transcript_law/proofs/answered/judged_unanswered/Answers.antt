@@ -1,4 +1,4 @@
-use Rattle.transcript_law.proofs.rows.AnsweredRows.{answered, before_durable, behind_durable, behind_response, durable, durable_later, each, hung, later, none, one_only, part, pieces, pieces_unanswered, response, set, shut, unanswered, whole}
+use Rattle.transcript_law.proofs.rows.AnsweredRows.{answered, before_durable, behind_durable, broken, broken_behind, broken_waits, behind_response, durable, durable_later, each, hung, later, none, one_only, part, pieces, pieces_unanswered, response, set, shut, unanswered, whole}
 use Rattle.transcript_law.proofs.answered.judged_unanswered.Goals as goal
 
 pub returns : goal.returns
@@ -21,5 +21,8 @@ returns c = record {
   set = set;
   durable = durable;
   behind_durable = behind_durable;
+  broken = broken;
+  broken_behind = broken_behind;
+  broken_waits = broken_waits;
   before_durable = before_durable;
 }
