@@ -1,6 +1,6 @@
 -- behind a line no client is left without an answer, but one that asked for a durable write whose outcome it waits for
-use Rattle.std.specs.Prelude.{◌≡◌, ◌++◌}
-use Rattle.transcript_law.proofs.Words.{ℕ, true, false, refl, sym, ap, ◌∙◌, subst, append-nil, Option, Some, None, is_some, Chronicle, PlainNode, PlainWorld}
+use Rattle.std.specs.Prelude.{◌≡◌}
+use Rattle.transcript_law.proofs.Words.{ℕ, true, false, refl, sym, ap, ◌∙◌, subst, Option, Some, None, is_some, Chronicle, PlainNode, PlainWorld}
 use Rattle.client_session.specs.Serving.{PlainSession}
 use Rattle.client_session.specs.declared.session.Awaited.{Awaited}
 use Rattle.mcbp_frame.specs.Cutting.{fault_in, frame_in, front_fault}
