@@ -1,5 +1,5 @@
 -- what a script leaves: each vBucket follows its branch. A front of a script is a script, so it is so after every line
-use Rattle.std.specs.Prelude.{◌≡◌, ℕ, ◌≤◌, ◌==◌, true, List, [], ◌∷◌, find, Option, Some, None, option_map}
+use Rattle.std.specs.Prelude.{◌≡◌, ℕ, ◌≤◌, ◌<◌, ◌==◌, true, List, [], ◌∷◌, find, Option, Some, None, option_map}
 use Rattle.disk_journals.specs.Books.{Book}
 use Rattle.vb_events.specs.declared.event.Group.{Group}
 use Rattle.vb_types.specs.declared.role.LogEntry.{LogEntry}
@@ -19,7 +19,10 @@ use Rattle.node_world.specs.World.{PlainNode, PlainWorld, empty_world, shelf_in,
 use Rattle.vbucket.specs.{Laws.{Sound}, Settles.{IsSettled}}
 use Rattle.transcript_law.specs.Chronicles.{Chronicle, empty_chronicle, after_group}
 use Rattle.transcript_law.specs.Lawfulness.{IsIfKnown, known_history, branch_image, IsWriter}
+use Rattle.transcript_law.specs.Majorities.{IsHeldByMost}
 use Rattle.transcript_law.specs.Plainness.{AreOwnIf}
+use Rattle.durability.specs.declared.waiting.Waiting.{Waiting}
+use Rattle.vb_types.specs.declared.position.TheConstants.{MAX_SEQ}
 
 -- the world after these lines
 abbrev pub world_after : PlainWorld → List ScriptLine → PlainWorld
@@ -47,10 +50,12 @@ ComesFrom tree log (Some uuid) n = Ancestry tree log uuid n
 -- a vBucket has the role and the log that the lines tell, where they do, and what the changes leave that they tell that it holds; and it is, where it is
 -- active, the writer of its log's newest branch. These changes are those that a consumer of its branch holds at its position; its log tells where the
 -- branch comes from, as far as the position relies on it; and with a complete snapshot it has the branch's image there. One on no branch follows the
--- empty history. Each is sound, which is all that the laws of one vBucket ask of it, and nothing more may be committed there
+-- empty history. Each is sound, which is all that the laws of one vBucket ask of it, and nothing more may be committed there: where it is active and a seqno
+-- is left, no majority holds its lowest prepare by what the lines tell, or it is not saved as its level asks
 pub record FollowsBranch (chronicle : Chronicle) (n v : ℕ) (vb : Plain) : Type 0 where
   pub sound : Sound vb
   pub at_rest : IsSettled vb
+  pub committed : is_active vb.role ≡ true → vb.position.at < MAX_SEQ → (w : Waiting) (more : List Waiting) → vb.waiting ≡ w ∷ more → IsHeldByMost (chronicle.counts_at n v) (chronicle.disk_at n v).saved w.seq w.level → ⊥
   pub role : IsIfKnown (chronicle.role_at n v) (Some vb.role)
   pub held : image_in vb ≡ image_of (chronicle.held n v)
   pub log : IsIfKnown (chronicle.log_at n v) vb.log

@@ -93,10 +93,11 @@ pub record VbRow : Type 0 where
 abbrev pub vb_row : Chronicle → ℕ → ℕ → VbRow
 vb_row r n v = record { role = r.role_at n v; opened = r.open_at n v; contents = vb_contents r n v; disk = r.disk_at n v; counts = r.counts_at n v }
 
--- what counts where a vBucket commits is what the lines tell: its chain, and what each node acknowledged
+-- what counts where a vBucket commits is what the lines tell: its chain, and what each node acknowledged, no more and no less
 pub record CountsAre (told : CountsKnown) (others : Members) (acks : List ℕ) : Type 0 where
   pub chain : told.chain ≡ others
   pub counted : (m p : ℕ) → 0 < p → p ≤ acked acks m → HasAcknowledged told.acks m p
+  pub alone : (m p : ℕ) → HasAcknowledged told.acks m p → p ≤ acked acks m
 
 -- the same where it may commit
 abbrev pub CountsIf : Bool → CountsKnown → Members → List ℕ → Type 0

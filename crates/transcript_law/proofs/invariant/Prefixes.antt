@@ -21,6 +21,8 @@ use Rattle.{branch_model.specs.Snapshots.{Follows}, cluster_model.specs.Clusters
 use Rattle.{transcript_law.specs.Lawfulness.{IsWriter}, transcript_law.specs.Prefixes.{world_after}}
 use Rattle.{transcript_law.specs.Prefixes.{known_after, ComesFrom, IsActiveOn}}
 use Rattle.transcript_law.specs.LawfulAnswers.{AllDurable}
+use Rattle.transcript_law.proofs.{disks.Disks.{saved_so}, invariant.Agreement.{active_counts}, invariant.Majorities.{most_have_it}}
+use Rattle.vbucket.proofs.Committing.{rests}
 
 -- a connection of a node is told as the one that it is
 own_at : (n : ℕ) (o : Option PlainNode) → NodeRangedIf n o → AreOwnIf n o
@@ -69,6 +71,8 @@ module _ (w : PlainWorld) (r : Chronicle) (c : Cluster) (a : AgreesIn idle w r c
     follows_branch rest = record {
       sound = mine.sound;
       at_rest = rest;
+      committed = λ active room first more is held. rests vb rest first more is room (λ wants. subst (λ k. first.seq ≤ k) (sym (saved_so (r.disk_at n v) (c.disks (seat n v)) (shelf_of w n v) vb (subst (DiskIsIf (r.disk_at n v) (c.disks (seat n v)) (shelf_of w n v)) there (a.disks n v)))) (held.saved_for wants))
+          (most_have_it (r.counts_at n v) vb.others vb.acks (r.disk_at n v).saved first.seq first.level (active_counts active mine.counts) held);
       role = if_known (r.role_at n v) (Some vb.role) mine.role;
       held = image_is mine.kept ∙ ap image_of (sym mine.held);
       log = if_known (r.log_at n v) vb.log mine.log;

@@ -279,6 +279,10 @@ module _ (stays : StaysSound) (steady : Steady) (w0 : PlainWorld) (r0 : Chronicl
         abbrev w3 : PlainWorld
         w3 = with_node_at w2 m acked_node
 
+        -- a node's number is that of a member
+        few : member < 256
+        few = let z : link0.consumer.dialed.node < 16 = la.small.0 in subst (λ k. k < 256) own (omega arith)
+
         producer : VbAgrees r m v (told_now.cluster.nodes (seat m v)) pv
         producer = subst (AgreesAt r m v (told_now.cluster.nodes (seat m v))) (vb_here w0 r0 n link0 found told_x v ∙ known) (agrees2.vbs m v)
 
@@ -287,7 +291,7 @@ module _ (stays : StaysSound) (steady : Steady) (w0 : PlainWorld) (r0 : Chronicl
 
         agrees3 : AgreesIn idle w3 r3 told_now.cluster
         agrees3 = counts_agree w2 w3 r told_now.cluster m v pv pv.others (with_ack pv.acks member seq) (record (r.counts_at m v) { acks = (member, seq) ∷ (r.counts_at m v).acks }) agrees2 (ap (λ o. vb_in o v) found2 ∙ known)
-            (ack_sound pv member seq active producer.sound) (counts_more (r.counts_at m v) pv.others pv.acks member seq (active_counts active producer.counts))
+            (ack_sound pv member seq active producer.sound) (counts_more (r.counts_at m v) pv.others pv.acks member seq (subst (λ k. member < k) (sym producer.sound.links.each) few) (active_counts active producer.counts))
             (node_changed w2 m v told_x.0 acked_node acked_vb found2 (λ q. refl) (λ q o. refl) refl) (shelves_again w2 m told_x.0 acked_node (λ q. refl) m v ∙ shelves_put w2 m told_x.0 found2 m v)
 
         -- and commits what it may

@@ -60,7 +60,7 @@ module _ (stays : StaysSound) (steady : Steady) (w : PlainWorld) (r : Chronicle)
 
     agrees1 : AgreesIn idle (with_node_at w n node1) chained a.0
     agrees1 = counts_agree w (with_node_at w n node1) r a.0 n v vb others vb.acks (record (r.counts_at n v) { chain = others }) a.1 (ap (λ o. vb_in o v) known ∙ has) sound
-        (record { chain = refl; counted = (active_counts active old.counts).counted }) (node_changed w n v node node1 chain_vb known (λ q. refl) (λ q o. refl) refl)
+        (record { chain = refl; counted = (active_counts active old.counts).counted; alone = (active_counts active old.counts).alone }) (node_changed w n v node node1 chain_vb known (λ q. refl) (λ q o. refl) refl)
         (shelves_again w n node node1 (λ q. refl) n v ∙ shelves_put w n node known n v)
 
     settles_on : SettlesOn (with_node_at w n node1) chained n v (unresolved chain_vb) (settled chain_vb)
