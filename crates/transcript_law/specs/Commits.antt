@@ -1,5 +1,5 @@
--- a commit to be judged, by what was read before it
-use Rattle.std.specs.Prelude.{ℕ, false, List, [], ◌∷◌, ◌++◌, map, Some}
+-- a commit to be judged, by what was read before it, and one that was left out
+use Rattle.std.specs.Prelude.{◌≡◌, ℕ, true, false, List, [], ◌∷◌, ◌++◌, map, Some, None}
 use Rattle.durability.specs.Chains.{Members}
 use Rattle.script_text.specs.declared.verb.Verb.TheVariants as verb
 use Rattle.script_text.specs.declared.verb.VbVerb.TheVariants as vb_verb
@@ -16,6 +16,8 @@ use Rattle.vb_types.specs.declared.role.Role.TheVariants as role
 use Rattle.vb_disk.specs.declared.made.Outcome.TheVariants.{Old}
 use Rattle.transcript_law.specs.Chronicles.{Chronicle, after_crash, ahead, after_lines, empty_chronicle}
 use Rattle.transcript_law.specs.Lawfulness.{LawfulFrom}
+use Rattle.transcript_law.specs.Prefixes.{FollowsBranch}
+use Rattle.vb_calls.specs.{Plain.{Plain}, State.{is_active}}
 use Rattle.transcript_law.specs.Transcripts.{active_vb_lines, first_doc}
 
 -- the key 9 is prepared, at this level, and committed
@@ -87,3 +89,9 @@ risen_again others = chained_known (after_lines counted_dead active_again) other
 -- what was read when it had a chain, and its node crashed
 abbrev pub crashed_chained : Chronicle
 crashed_chained = after_crash (chained_known (prepared_known level.Majority) (Some 1 ∷ [])) 0 Old
+
+-- the vBucket is active with that prepare as the lowest one that waits, and follows its branch by what was read with this chain, so much counted as saved and these acknowledgements
+abbrev pub Leaves : Level → Members → ℕ → List (ℕ × ℕ) → Type 0
+Leaves how others saved acks =
+    (vb : Plain) × (is_active vb.role ≡ true) × (vb.position.at ≡ 1) × (vb.waiting ≡ record { key = 9 ∷ []; seq = 1; level = how; deadline = None; waiter = 0 } ∷ [])
+    × FollowsBranch (after_lines (saved_known (chained_known (prepared_known how) others) saved) (count_lines acks)) 0 0 vb

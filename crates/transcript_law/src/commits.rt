@@ -1,7 +1,7 @@
 //! Which commits of durable writes are lawful, by what the lines before them tell.
 
 ghost use Rattle.std.specs.Prelude.{[], ◌∷◌, Some, None};
-ghost use Rattle.transcript_law.specs.Commits.{Commits, active_again, chained_later, chained_known, commit_anew, commit_lines, counted_dead, counted_elsewhere, count_lines, crashed_chained, risen_again, risen_anew, started_anew, unchained};
+ghost use Rattle.transcript_law.specs.Commits.{Commits, Leaves, active_again, chained_later, chained_known, commit_anew, commit_lines, counted_dead, counted_elsewhere, count_lines, crashed_chained, risen_again, risen_anew, started_anew, unchained};
 ghost use Rattle.transcript_law.specs.Chronicles.{after_lines};
 ghost use Rattle.transcript_law.specs.Lawfulness.{LawfulFrom};
 ghost use Rattle.vb_types.specs.declared.change.Level.TheVariants.{Majority, MajorityPersistActive, PersistMajority};
@@ -40,4 +40,17 @@ pub fn judged_commits()
     ensures alone_again { LawfulFrom counted_dead active_again }
     ensures chained_active { LawfulFrom (chained_known counted_dead (Some 1 ∷ [])) active_again → ⊥ }
     ensures crashed { LawfulFrom crashed_chained active_again }
+{}
+
+/// A commit that is due is not left out: an active vBucket does not follow its branch where its lowest
+/// prepare waits and has what it needs, by what the lines tell. That is its node alone in a chain of
+/// one, one other in a chain of two, and two in a chain of four; and at the levels 2 and 3 that it is
+/// saved.
+pub fn judged_left_commits()
+    ensures alone { Leaves Majority [] 0 [] → ⊥ }
+    ensures of_two { Leaves Majority (Some 1 ∷ []) 0 ((1, 1) ∷ []) → ⊥ }
+    ensures of_three { Leaves Majority (Some 1 ∷ Some 2 ∷ []) 0 ((2, 5) ∷ []) → ⊥ }
+    ensures of_four { Leaves Majority (Some 1 ∷ Some 2 ∷ Some 3 ∷ []) 0 ((1, 1) ∷ (3, 1) ∷ []) → ⊥ }
+    ensures second { Leaves MajorityPersistActive [] 1 [] → ⊥ }
+    ensures third { Leaves PersistMajority (Some 1 ∷ []) 3 ((1, 2) ∷ []) → ⊥ }
 {}

@@ -4,6 +4,7 @@ ghost use Rattle.std.specs.Prelude.{◌≡◌, ◌<◌, ℕ, [], ◌∷◌, ◌+
 ghost use Rattle.transcript_law.specs.Followers.{two_followed, log_of, ask_above, ask_lines, other_ask_lines, late_ask_lines, granted_lines, stranger_lines, ended_lines, again_got, marker_line, set_item_line, first_item_line, next_item_line, both_sent_lines, next_change, replica_shown, two_docs, third_doc, ask_groups, answered_so, adopted_so, sent_so, got_so, shown_so, granted_inside, dialed_elsewhere, after_both, replica_ask_lines, made_from, made_dead, made_ask_lines, after_adopted, empty_in, changed_in, after_got, based, all_active, client_world, prepared_in, unbounded};
 ghost use Rattle.transcript_law.specs.Chronicles.{Idle, Written, empty_chronicle, after_lines, after_group, stood};
 ghost use Rattle.transcript_law.specs.Journals.{within, taken, with_written, with_stood, batch_lines, stat_lines, point_noted};
+ghost use Rattle.transcript_law.specs.Commits.{chained_known};
 ghost use Rattle.transcript_law.specs.Contrary.{later_held, next_made, link_over, dialed_anew, log_forgotten, strange, inside_got, inside_dead, inside_active, inside_shown, active_shown, set_and_sealed, sealed_groups, after_dead_changed, promotes_dead, promoted_groups, risen_lines, logged_six, inside_newest, unadopted, branch_left, branch_inside, disk_marker, done_lines, sent_known, range_lines, got_lines, strange_change, after_prepare, prepare_shown, prepare_lines, after_back, taken_log, refused_ask_lines, after_follow, after_promote, acknowledged_saved, acknowledged_lines, ungranted_lines, third_held, third_saved, third_below, second_held, first_lost, on_another, after_ack, dialed_itself, dialed_by_another, granted_anew, counted_lines, new_branch_lines, after_both_dead};
 ghost use Rattle.transcript_law.specs.Lawfulness.{Lawful, LawfulFrom, LawfulGroups, LawfulLine};
 ghost use Rattle.transcript_law.specs.Prefixes.{AreFollowed, FollowsBranch, PointsAreBranch};
@@ -409,8 +410,8 @@ pub fn judged_seals()
 /// not with the log of a branch that lacks the change, even where its log is not known any more. No
 /// branch has two active vBuckets, and none was made from it above the last seqno of its active one.
 /// Nor follows a vBucket whose last CAS has more than 64 bits, or at which a prepare waits that its
-/// node alone commits; with another node in its chain it does. Each connection is told as one of its
-/// own node.
+/// node alone commits, also where the lines alone tell of no other node; with another one in its chain
+/// it does. Each connection is told as one of its own node.
 pub fn judged_followers()
     ensures inside { FollowsBranch after_adopted 1 0 (empty_in 0 1) }
     ensures lacking { FollowsBranch after_adopted 1 0 (empty_in 1 1) → ⊥ }
@@ -421,7 +422,8 @@ pub fn judged_followers()
     ensures two { AreFollowed both_on_one all_active → ⊥ }
     ensures above { AreFollowed (forked_at 1) all_active → ⊥ }
     ensures unbounded { FollowsBranch after_got 1 0 unbounded → ⊥ }
-    ensures waits { FollowsBranch after_prepare 0 0 (prepared_in (Some 1 ∷ [])) }
+    ensures waits { FollowsBranch (chained_known after_prepare (Some 1 ∷ [])) 0 0 (prepared_in (Some 1 ∷ [])) }
+    ensures unchained { FollowsBranch after_prepare 0 0 (prepared_in (Some 1 ∷ [])) → ⊥ }
     ensures uncommitted { FollowsBranch after_prepare 0 0 (prepared_in []) → ⊥ }
     ensures own { AreFollowed empty_chronicle (client_world 0) }
     ensures not_own { AreFollowed empty_chronicle (client_world 1) → ⊥ }

@@ -29,45 +29,104 @@ mod tellings;
 mod undone;
 mod untold;
 
-pub use alone::{judged_single_changes, judged_single_links, judged_single_streams};
+pub use alone::judged_single_changes;
+pub use alone::judged_single_links;
+pub use alone::judged_single_streams;
 pub use answered::judged_unanswered;
-pub use asked::{judged_link_ends, judged_start_ids, judged_told_answers, judged_turns};
-pub use balances::{balances_in_numbers, windows_balance};
-pub use bound::{judged_closed_links, judged_down_lines};
+pub use asked::judged_link_ends;
+pub use asked::judged_start_ids;
+pub use asked::judged_told_answers;
+pub use asked::judged_turns;
+pub use balances::balances_in_numbers;
+pub use balances::windows_balance;
+pub use bound::judged_closed_links;
+pub use bound::judged_down_lines;
 pub use branches::branches_are_followed;
-pub use changes::{judged_casses, judged_next_changes, judged_revisions};
-pub use client_streams::{
-    judged_client_asks, judged_client_ends, judged_client_frames, judged_client_items,
-    judged_client_markers, judged_client_pulls, judged_client_refusals, judged_client_setups,
-    judged_client_spellings, judged_client_statuses, judged_client_stories, judged_client_tellings,
-    judged_client_verdicts, judged_durable_items, judged_fed_clients, judged_plain_markers,
-    judged_untold_frames,
-};
-pub use clients::{judged_client_answers, judged_client_lines, judged_client_stops};
+pub use changes::judged_casses;
+pub use changes::judged_next_changes;
+pub use changes::judged_revisions;
+pub use client_streams::judged_client_asks;
+pub use client_streams::judged_client_ends;
+pub use client_streams::judged_client_frames;
+pub use client_streams::judged_client_items;
+pub use client_streams::judged_client_markers;
+pub use client_streams::judged_client_pulls;
+pub use client_streams::judged_client_refusals;
+pub use client_streams::judged_client_setups;
+pub use client_streams::judged_client_spellings;
+pub use client_streams::judged_client_statuses;
+pub use client_streams::judged_client_stories;
+pub use client_streams::judged_client_tellings;
+pub use client_streams::judged_client_verdicts;
+pub use client_streams::judged_durable_items;
+pub use client_streams::judged_fed_clients;
+pub use client_streams::judged_plain_markers;
+pub use client_streams::judged_untold_frames;
+pub use clients::judged_client_answers;
+pub use clients::judged_client_lines;
+pub use clients::judged_client_stops;
 pub use closed::judged_closed;
 pub use commits::judged_commits;
-pub use crashes::{judged_arms, judged_crashes, judged_restarts};
+pub use commits::judged_left_commits;
+pub use crashes::judged_arms;
+pub use crashes::judged_crashes;
+pub use crashes::judged_restarts;
 pub use downs::judged_downs;
-pub use effects::{judged_calls, judged_notes, judged_refused_starts};
-pub use firings::{judged_backs, judged_firings};
-pub use judged::{
-    judged_acknowledgements, judged_answers, judged_branches, judged_ends, judged_followers,
-    judged_groups, judged_items, judged_known, judged_markers, judged_prefixes, judged_prepares,
-    judged_replicas, judged_requests, judged_roles, judged_rollbacks, judged_seals, judged_shows,
-    judged_taken, judged_transcripts,
-};
-pub use kinds::{judged_firing_lines, judged_journal_lines, judged_kinds};
-pub use lawful::{groups_are_lawful, lines_are_known, set_lines_ask};
-pub use messages::{
-    judged_closings, judged_controls, judged_logs, judged_messages, judged_openings,
-    judged_told_requests,
-};
-pub use replies::{
-    judged_answer_lines, judged_durables, judged_faults, judged_greetings, judged_outcomes,
-    judged_questions, judged_reads, judged_refused_writes, judged_writes,
-};
+pub use effects::judged_calls;
+pub use effects::judged_notes;
+pub use effects::judged_refused_starts;
+pub use firings::judged_backs;
+pub use firings::judged_firings;
+pub use judged::judged_acknowledgements;
+pub use judged::judged_answers;
+pub use judged::judged_branches;
+pub use judged::judged_ends;
+pub use judged::judged_followers;
+pub use judged::judged_groups;
+pub use judged::judged_items;
+pub use judged::judged_known;
+pub use judged::judged_markers;
+pub use judged::judged_prefixes;
+pub use judged::judged_prepares;
+pub use judged::judged_replicas;
+pub use judged::judged_requests;
+pub use judged::judged_roles;
+pub use judged::judged_rollbacks;
+pub use judged::judged_seals;
+pub use judged::judged_shows;
+pub use judged::judged_taken;
+pub use judged::judged_transcripts;
+pub use kinds::judged_firing_lines;
+pub use kinds::judged_journal_lines;
+pub use kinds::judged_kinds;
+pub use lawful::groups_are_lawful;
+pub use lawful::lines_are_known;
+pub use lawful::set_lines_ask;
+pub use messages::judged_closings;
+pub use messages::judged_controls;
+pub use messages::judged_logs;
+pub use messages::judged_messages;
+pub use messages::judged_openings;
+pub use messages::judged_told_requests;
+pub use replies::judged_answer_lines;
+pub use replies::judged_durables;
+pub use replies::judged_faults;
+pub use replies::judged_greetings;
+pub use replies::judged_outcomes;
+pub use replies::judged_questions;
+pub use replies::judged_reads;
+pub use replies::judged_refused_writes;
+pub use replies::judged_writes;
 pub use steps::plain_lines;
 pub use streams::streams_are_fed;
-pub use tellings::{judged_fed_links, judged_linked_streams, judged_other_lines, judged_own_lines};
-pub use undone::{judged_dues, judged_idle_pumps, judged_lost_batches, judged_takes};
-pub use untold::{judged_mishaps, judged_next_markers, judged_refusals};
+pub use tellings::judged_fed_links;
+pub use tellings::judged_linked_streams;
+pub use tellings::judged_other_lines;
+pub use tellings::judged_own_lines;
+pub use undone::judged_dues;
+pub use undone::judged_idle_pumps;
+pub use undone::judged_lost_batches;
+pub use undone::judged_takes;
+pub use untold::judged_mishaps;
+pub use untold::judged_next_markers;
+pub use untold::judged_refusals;

@@ -7,7 +7,8 @@ use Rattle.transcript_law.proofs.Words.{Sound, FollowsBranch, AreFollowed, start
 use Rattle.std.specs.FinMap.{get-empty}
 use Rattle.disk_journals.specs.Books.{Book}
 use Rattle.durability.specs.declared.waiting.Waiting.{Waiting}
-use Rattle.transcript_law.specs.{Contrary.{after_prepare}, Followers.{client_world, prepared_in, unbounded}, Plainness.{AreOwnIf, IsOwnIf}, Prefixes.{off_of_node}, Transcripts.{set_write}}
+use Rattle.transcript_law.proofs.rows.CommitRows.{one_at_least}
+use Rattle.transcript_law.specs.{Commits.{chained_known}, Contrary.{after_prepare}, Followers.{client_world, prepared_in, unbounded}, Plainness.{AreOwnIf, IsOwnIf}, Prefixes.{off_of_node}, Transcripts.{set_write}}
 use Rattle.vb_calls.specs.Durable.{durable_refusal, outstanding}
 use Rattle.vb_calls.specs.Settling.{may_commit}
 use Rattle.vb_calls.specs.Shelves.{Shelf}
@@ -76,10 +77,11 @@ prepares o = record { seq = 1; key = 7 ∷ []; act = act.Prepare Majority (writt
 held_so : image_in (prepared_in (Some 1 ∷ [])) ≡ image_of (after_prepare.held 0 0)
 held_so = ap (λ o. image_of (prepares o ∷ [])) unstored
 
-pub waits : FollowsBranch after_prepare 0 0 (prepared_in (Some 1 ∷ []))
+pub waits : FollowsBranch (chained_known after_prepare (Some 1 ∷ [])) 0 0 (prepared_in (Some 1 ∷ []))
 waits = record {
   sound = prepared_sound paired (set_write (7 ∷ []) (8 ∷ [])) 0 (record { level = Majority; deadline = 0; waiter = 0 }) free paired_sound (omega arith);
   at_rest = λ w more e. let same : waiting ≡ w = cc in subst (λ x. may_commit (prepared_in (Some 1 ∷ [])) x ≡ false) same lacks;
+  committed = λ active room first more e held. let x = one_at_least held (omega arith) in absurd x.2;
   role = refl;
   held = held_so;
   log = refl;
@@ -88,6 +90,10 @@ waits = record {
   ancestry = record { short = omega arith; distinct = (tt, tt); falls = tt; at_forks = (refl, tt); traces = (refl, tt) };
   complete = λ e. held_so;
 }
+
+-- by what the lines tell its node alone is the chain
+pub unchained : FollowsBranch after_prepare 0 0 (prepared_in (Some 1 ∷ [])) → ⊥
+unchained f = f.committed refl (omega arith) waiting [] refl (record { members = []; differ = tt; each = tt; most = omega arith; saved_for = λ w. absurd w })
 
 pub uncommitted : FollowsBranch after_prepare 0 0 (prepared_in []) → ⊥
 uncommitted f = let e : true ≡ false = sym suffices ∙ f.at_rest waiting [] refl in cc

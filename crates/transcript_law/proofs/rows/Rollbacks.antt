@@ -185,6 +185,7 @@ pub partly : FollowsBranch after_adopted 1 0 (empty_in 0 1)
 partly = record {
   sound = inside_sound;
   at_rest = none_rests (empty_in 0 1) refl;
+  committed = λ active room first more e held. cc;
   role = refl;
   held = refl;
   log = refl;
@@ -212,6 +213,7 @@ pub left : FollowsBranch after_got 1 0 based
 left = record {
   sound = based_sound;
   at_rest = none_rests based refl;
+  committed = λ active room first more e held. cc;
   role = refl;
   held = refl;
   log = refl;
@@ -223,7 +225,7 @@ left = record {
 
 -- where its log is not known, it is its branch's all the same
 pub unlogged : FollowsBranch log_forgotten 1 0 based
-unlogged = record { sound = based_sound; at_rest = none_rests based refl; role = refl; held = refl; log = tt; writer = λ e. cc; follows = left.follows; ancestry = record { short = omega arith; distinct = (tt, tt); falls = tt; at_forks = (refl, tt); traces = (refl, tt) }; complete = λ e. refl }
+unlogged = record { sound = based_sound; at_rest = none_rests based refl; committed = λ active room first more e held. cc; role = refl; held = refl; log = tt; writer = λ e. cc; follows = left.follows; ancestry = record { short = omega arith; distinct = (tt, tt); falls = tt; at_forks = (refl, tt); traces = (refl, tt) }; complete = λ e. refl }
 
 pub stranger : FollowsBranch log_forgotten 1 0 strange → ⊥
 stranger f = let e : ◌≡◌ {A = List Change} [] (one_change ∷ []) = f.ancestry.traces.0 in cc
