@@ -1,9 +1,9 @@
 //! Answers to a client.
-ghost use Rattle.std.specs.Prelude.{◌≡◌, ◌≤◌, length, IfOk, IfSome};
+ghost use Rattle.std.specs.Prelude.{◌≡◌, ◌≤◌, ◌++◌, length, IfOk, IfSome};
 ghost use Rattle.{client_session.specs.Answers.{status_reply, found_reply, token, reply_to}, client_session.specs.Serving.{outcome_reply, outcome_of}, mcbp_kv.specs.Answers.{bare_answer}, mcbp_kv.specs.Replies.{ReplyFits}};
 
 use crate::{Alloc, Awaited, Settings};
-use bytes::{Bytes, BytesMut};
+use bytes::Bytes;
 use mcbp_frame::Frame;
 use mcbp_kv::KvReply;
 use std::alloc::Global;
@@ -34,17 +34,32 @@ pub fn status_reply(f: &Frame, status: Status) -> KvReply
     bare_reply(f.opcode, f.opaque, status)
 }
 
+/// Bytes and what stands behind them, in a list that never grows.
+fn listed(alloc: Global, front: &[u8], back: &[u8]) -> Alloc<Vec<u8>>
+    ensures { IfOk result (λ bytes. bytes.items ≡ front.now ++ back.now) }
+{
+    let mut out = Vec::with_capacity(alloc, front.len().saturating_add(back.len()))?;
+    out.extend_from_slice(front)?;
+    out.extend_from_slice(back)?;
+    Ok(out)
+}
+
+/// Bytes and what stands behind them, in one block.
+fn joined(alloc: Global, front: &[u8], back: &[u8]) -> Alloc<Bytes>
+    ensures { IfOk result (λ bytes. bytes ≡ front.now ++ back.now) }
+{
+    Ok(Bytes::from_vec(listed(alloc, front, back)?)?)
+}
+
 /// The branch and the seqno of a write, where the client asked for them.
 fn token(alloc: Global, settings: Settings, uuid: u64, seq: u64) -> Alloc<Bytes>
     ensures token { IfOk result (λ bytes. bytes ≡ token settings uuid seq) }
     ensures short { IfOk result (λ bytes. length bytes ≤ 16) }
 {
-    let mut out = BytesMut::new(alloc);
-    if settings.seqnos {
-        out.extend_from_slice(&uuid.to_be_bytes())?;
-        out.extend_from_slice(&seq.to_be_bytes())?;
+    if !settings.seqnos {
+        return Ok(Bytes::new());
     }
-    Ok(out.freeze()?)
+    joined(alloc, &uuid.to_be_bytes(), &seq.to_be_bytes())
 }
 
 /// The answer to a write that was made, with its CAS, and its branch and seqno where they were asked
@@ -59,13 +74,13 @@ fn written(reply: KvReply, cas: u64, token: Bytes) -> KvReply
     }
 }
 
-/// The answer to a GET of this document.
+/// The answer to a GET of this document, whose flags and value are two parts of one block.
 fn found(alloc: Global, settings: Settings, f: &Frame, doc: &Doc) -> Alloc<KvReply>
     ensures reply { IfOk result (λ reply. reply ≡ found_reply settings f.now doc.now) }
     ensures fits { IfOk result ReplyFits }
 {
-    let flags = Bytes::copy_from_slice(alloc, &doc.flags.to_be_bytes())?;
-    let value = Bytes::copy_from_slice(alloc, doc.value.as_slice())?;
+    let mut value = joined(alloc, &doc.flags.to_be_bytes(), doc.value.as_slice())?;
+    let flags = value.split_to(4)?;
     Ok(KvReply {
         cas: doc.cas,
         datatype: if settings.json { doc.datatype } else { 0 },

@@ -9,3 +9,4 @@ pub mod Pieces
 pub mod Faults
 mod Parts
 mod FrameBytes
+pub mod Headers

@@ -1,5 +1,5 @@
 //! Frames as bytes.
-ghost use Rattle.std.specs.Prelude.{◌≡◌, ◌+◌, ◌≤◌, ◌++◌, OnOk, OnErr};
+ghost use Rattle.std.specs.Prelude.{◌≡◌, ◌++◌, OnOk, OnErr};
 ghost use Rattle.{mcbp_frame.specs.Frames.{body_size}, mcbp_frame.specs.Spelling.{lengths, header_spelling, spelling, Fits}};
 
 use crate::frame::{FRAMED_REQUEST, Frame, HEADER_LEN};
@@ -18,21 +18,22 @@ fn lengths_of(f: &Frame) -> [u8; 2]
     }
 }
 
-/// Appends a header, for which there is room.
-fn put_header(f: &Frame, body: usize, out: &mut BytesMut)
+/// The header of a frame with a body of this length.
+fn header_of(f: &Frame, body: usize) -> [u8; HEADER_LEN]
     requires fits { Fits f.now }
     requires body { body ≡ body_size f.now }
-    requires room { HEADER_LEN ≤ out.old.spare }
-    ensures items { out.new.items ≡ out.old.items ++ header_spelling f.now }
-    ensures spare { out.new.spare + HEADER_LEN ≡ out.old.spare }
+    ensures { result ≡ header_spelling f.now }
 {
-    out.extend_reserved(&[f.magic, f.opcode]);
-    out.extend_reserved(&lengths_of(f));
-    out.extend_reserved(&[f.extras.len() as u8, f.datatype]);
-    out.extend_reserved(&f.vb_or_status.to_be_bytes());
-    out.extend_reserved(&(body as u32).to_be_bytes());
-    out.extend_reserved(&f.opaque.to_be_bytes());
-    out.extend_reserved(&f.cas.to_be_bytes());
+    let [l0, l1] = lengths_of(f);
+    let [v0, v1] = f.vb_or_status.to_be_bytes();
+    let [b0, b1, b2, b3] = (body as u32).to_be_bytes();
+    let [o0, o1, o2, o3] = f.opaque.to_be_bytes();
+    let [c0, c1, c2, c3, c4, c5, c6, c7] = f.cas.to_be_bytes();
+    let extras = f.extras.len() as u8;
+    [
+        f.magic, f.opcode, l0, l1, extras, f.datatype, v0, v1, b0, b1, b2, b3, o0, o1, o2, o3, c0,
+        c1, c2, c3, c4, c5, c6, c7,
+    ]
 }
 
 /// Appends a frame. An `Err` appends nothing.
@@ -44,7 +45,7 @@ pub fn write_frame(f: &Frame, out: &mut BytesMut) -> Result<(), AllocError>
 {
     let body = f.framing.len() + f.extras.len() + f.key.len() + f.value.len();
     out.reserve(HEADER_LEN + body)?;
-    put_header(f, body, out);
+    out.extend_reserved(&header_of(f, body));
     out.extend_reserved(f.framing.as_slice());
     out.extend_reserved(f.extras.as_slice());
     out.extend_reserved(f.key.as_slice());

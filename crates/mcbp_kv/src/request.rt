@@ -146,7 +146,9 @@ fn asked(alloc: Global, f: &Frame, called: Called) -> Result<KvRequest, AllocErr
         }),
         Command::Write(op) => {
             let key = Key::new(alloc, f.key.as_slice())?.unwrap();
-            let value = Value::new(alloc, f.value.as_slice())?.unwrap();
+            // The value keeps its frame's copy of the body, in which little else stands: extras and
+            // a key. The key has a block of its own, as a table keeps it longer than a value.
+            let value = Value::from_bytes(f.value.clone()?).unwrap();
             Ok(KvRequest::Write {
                 write: write_of(f, op, key, value),
                 durable: called.durable,
