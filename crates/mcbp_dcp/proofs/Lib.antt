@@ -7,6 +7,7 @@ pub mod DurableBytes
 pub mod ConnectionBytes
 pub mod MessageBytes
 pub mod Opcodes
+mod Puts
 pub mod DcpBack
 pub mod DcpOnce
 pub mod DcpFaults

@@ -6,6 +6,7 @@ use Rattle.vb_types.specs.declared.role.LogEntry.{LogEntry}
 use Rattle.mcbp_frame.specs.declared.frame.Frame.{Frame}
 use Rattle.mcbp_dcp.specs.declared.opcode.Opcode.{Opcode}
 use Rattle.mcbp_dcp.specs.declared.opcode.Opcode.TheVariants as op
+use Rattle.mcbp_dcp.specs.declared.writer.Header.{Header}
 use Rattle.mcbp_dcp.specs.declared.row.DcpRow.{DcpRow}
 use Rattle.mcbp_dcp.specs.declared.row.DcpRow.TheVariants as row
 use Rattle.mcbp_dcp.specs.declared.message.DcpMsg.{DcpMsg}
@@ -22,6 +23,12 @@ use Rattle.mcbp_dcp.specs.Opcodes.{opcode_number}
 use Rattle.mcbp_dcp.specs.Rows.{row_opcode, row_magic}
 use Rattle.mcbp_dcp.specs.Shapes.{extras_size}
 use Rattle.mcbp_dcp.specs.WireLogs.{log_spelling}
+
+-- a header without framing extras: magic, opcode, lengths of key and extras, datatype, vBucket or status, length of the body, opaque, CAS
+abbrev pub header_bytes : Header → List ℕ
+header_bytes h =
+    h.magic ∷ opcode_number h.opcode ∷ [] ++ to_be_bytes w16 h.key ++ h.extras ∷ h.datatype ∷ [] ++ to_be_bytes w16 h.vb_or_status
+    ++ to_be_bytes w32 (h.extras + h.key + h.value) ++ to_be_bytes w32 h.opaque ++ to_be_bytes w64 h.cas
 
 -- a frame of a header alone, without datatype and CAS
 abbrev pub bare_frame : ℕ → Opcode → ℕ → ℕ → Frame

@@ -1,347 +1,407 @@
 //! The one frame of a message, as bytes.
-ghost use Rattle.std.specs.Prelude.{◌≡◌, ◌*◌, ◌^◌, ◌<◌, ◌++◌, [], length, IfOk, OnOk, OnErr};
-ghost use Rattle.std.specs.{Int.{w32, w64, to_be_bytes}, List.{flat_map}};
-ghost use Rattle.mcbp_dcp.specs.DcpFrames.{bare_frame, frame_of_row, request_frame, mutation_frame, deletion_frame, prepare_frame, resolution_frame, verdict_frame, log_frame, dcp_frame, IsVerdict, IsSpelled};
-ghost use Rattle.mcbp_dcp.specs.DcpFrames.{open_extras, stream_end_extras, marker_extras, mutation_extras, prepare_extras};
+ghost use Rattle.std.specs.Prelude.{◌≡◌, ◌+◌, ◌*◌, ◌^◌, ◌<◌, ◌≤◌, ◌++◌, [], length, OnOk, OnErr};
+ghost use Rattle.std.specs.Int.{w32, w64, to_be_bytes};
+ghost use Rattle.mcbp_dcp.specs.DcpFrames.{bare_frame, frame_of_row, header_bytes, request_frame, mutation_frame, deletion_frame, prepare_frame, resolution_frame, verdict_frame, log_frame, dcp_frame, IsVerdict, IsSpelled};
+ghost use Rattle.mcbp_dcp.specs.DcpFrames.{open_extras, marker_extras};
+ghost use Rattle.mcbp_dcp.specs.declared.message.DcpMsg.TheVariants as msg;
 ghost use Rattle.mcbp_dcp.specs.declared.row.DcpRow.TheVariants as row;
 ghost use Rattle.mcbp_dcp.specs.declared.shape.TheConstants.{ENTRY_LEN};
-ghost use Rattle.mcbp_frame.specs.Spelling.{Fits, spelling};
+ghost use Rattle.mcbp_frame.specs.declared.frame.TheConstants.{REQUEST, RESPONSE};
+ghost use Rattle.mcbp_frame.specs.Spelling.{spelling};
 
 use crate::log::log_bytes;
 use crate::shape::{ROLLBACK, SUCCESS};
 use crate::{DcpMsg, Deletion, Mutation, Opcode, Prepare, Resolution, StreamVerdict};
 use bytes::{Bytes, BytesMut};
-use mcbp_frame::{Frame, REQUEST, RESPONSE, write_frame};
-use std::alloc::{AllocError, Global};
+use mcbp_frame::{HEADER_LEN, REQUEST, RESPONSE};
+use std::alloc::AllocError;
 use vb_types::{LogEntry, StreamAsk};
 
-/// A frame without datatype, CAS and body.
-fn bare(magic: u8, opcode: Opcode, vb_or_status: u16, opaque: u32) -> Frame
-    ensures { result ≡ bare_frame magic opcode vb_or_status opaque }
+/// What stands beside a message in its frame.
+#[derive(Clone, Copy)]
+struct Label {
+    opaque: u32,
+    v: u16,
+}
+
+/// What the header of a frame without framing extras says. `extras`, `key` and `value` are lengths.
+#[derive(Clone, Copy)]
+pub struct Header {
+    magic: u8,
+    opcode: Opcode,
+    datatype: u8,
+    vb_or_status: u16,
+    opaque: u32,
+    cas: u64,
+    extras: usize,
+    key: usize,
+    value: usize,
+}
+
+/// The header of a request without datatype, CAS and body.
+fn request(opcode: Opcode, label: Label) -> Header
+    ensures { result ≡ record { magic = REQUEST; opcode = opcode; datatype = 0; vb_or_status = label.v; opaque = label.opaque; cas = 0; extras = 0; key = 0; value = 0 } }
 {
-    Frame {
-        magic,
-        opcode: opcode.number(),
+    Header {
+        magic: REQUEST,
+        opcode,
         datatype: 0,
-        vb_or_status,
-        opaque,
+        vb_or_status: label.v,
+        opaque: label.opaque,
         cas: 0,
-        framing: Bytes::new(),
-        extras: Bytes::new(),
-        key: Bytes::new(),
-        value: Bytes::new(),
+        extras: 0,
+        key: 0,
+        value: 0,
     }
 }
 
-/// Bytes of these parts.
-fn joined(alloc: Global, parts: &[&[u8]]) -> Result<Bytes, AllocError>
-    ensures { IfOk result (λ bytes. bytes ≡ flat_map (λ part. part.now) parts.now) }
+/// Makes room for a frame, and appends its header. An `Err` appends nothing.
+fn put_header(h: Header, out: &mut BytesMut) -> Result<(), AllocError>
+    requires extras { h.extras < 2 ^ 8 }
+    requires key { h.key < 2 ^ 16 }
+    requires body { h.extras + h.key + h.value < 2 ^ 32 }
+    ensures ok { OnOk result (out.new.items ≡ out.old.items ++ header_bytes h) }
+    ensures room { OnOk result (h.extras + h.key + h.value ≤ out.new.spare) }
+    ensures err { OnErr result (out.new.items ≡ out.old.items) }
 {
-    let mut bytes = BytesMut::new(alloc);
-    for part in parts {
-        bytes.extend_from_slice(part)?;
-    }
-    Ok(bytes.freeze()?)
+    let body = h.extras + h.key + h.value;
+    out.reserve(HEADER_LEN + body)?;
+    out.extend_reserved(&[h.magic, h.opcode.number()]);
+    out.extend_reserved(&(h.key as u16).to_be_bytes());
+    out.extend_reserved(&[h.extras as u8, h.datatype]);
+    out.extend_reserved(&h.vb_or_status.to_be_bytes());
+    out.extend_reserved(&(body as u32).to_be_bytes());
+    out.extend_reserved(&h.opaque.to_be_bytes());
+    out.extend_reserved(&h.cas.to_be_bytes());
+    Ok(())
 }
 
-/// Numbers as bytes, one behind another, each in big-endian order.
-macro_rules! numbers {
-    ($alloc:expr; $($number:expr),+) => {
-        joined($alloc, &[$(&$number.to_be_bytes()),+])
+/// Appends numbers, for which there is room, one behind another, each in big-endian order.
+macro_rules! put_numbers {
+    ($out:expr; $($number:expr),+) => {
+        $($out.extend_reserved(&$number.to_be_bytes());)+
     };
 }
 
-/// What stands in a frame behind its header.
-#[derive(Drop)]
-struct Body {
-    extras: Bytes,
-    key: Bytes,
-    value: Bytes,
-}
-
-/// Extras, and nothing behind them.
-fn bare_extras(extras: Bytes) -> Body
-    ensures { result ≡ record { extras = extras; key = []; value = [] } }
+/// A request without a body.
+#[tactic(auto, unfolding(mcbp_frame::specs::Spelling::spelling))]
+fn write_bare(opcode: Opcode, label: Label, out: &mut BytesMut) -> Result<(), AllocError>
+    ensures ok { OnOk result (out.new.items ≡ out.old.items ++ spelling (bare_frame REQUEST opcode label.v label.opaque)) }
+    ensures err { OnErr result (out.new.items ≡ out.old.items) }
 {
-    Body {
-        extras,
-        key: Bytes::new(),
-        value: Bytes::new(),
-    }
+    put_header(request(opcode, label), out)
 }
 
-/// Extras, and a key behind them.
-fn with_key(extras: Bytes, key: &Bytes) -> Result<Body, AllocError>
-    ensures { IfOk result (λ body. body ≡ record { extras = extras; key = key.now; value = [] }) }
+/// A request with a number alone.
+#[tactic(auto, unfolding(mcbp_frame::specs::Spelling::spelling))]
+fn write_number(
+    opcode: Opcode,
+    number: u32,
+    label: Label,
+    out: &mut BytesMut,
+) -> Result<(), AllocError>
+    ensures ok { OnOk result (out.new.items ≡ out.old.items ++ spelling (record (bare_frame REQUEST opcode label.v label.opaque) { extras = to_be_bytes w32 number })) }
+    ensures err { OnErr result (out.new.items ≡ out.old.items) }
 {
-    let key = key.clone()?;
-    Ok(Body {
-        extras,
-        key,
-        value: Bytes::new(),
-    })
+    let header = Header {
+        extras: 4,
+        ..request(opcode, label)
+    };
+    put_header(header, out)?;
+    put_numbers!(out; number);
+    Ok(())
 }
 
-/// Extras, and a key and a value behind them.
-fn with_value(extras: Bytes, key: &Bytes, value: &Bytes) -> Result<Body, AllocError>
-    ensures { IfOk result (λ body. body ≡ record { extras = extras; key = key.now; value = value.now }) }
-{
-    let key = key.clone()?;
-    let value = value.clone()?;
-    Ok(Body { extras, key, value })
-}
-
-/// A request with this body, and neither datatype nor CAS.
-fn request(opcode: Opcode, v: u16, opaque: u32, body: Body) -> Frame
-    ensures { result ≡ record (bare_frame REQUEST opcode v opaque) { extras = body.extras; key = body.key; value = body.value } }
-{
-    Frame {
-        magic: REQUEST,
-        opcode: opcode.number(),
-        datatype: 0,
-        vb_or_status: v,
-        opaque,
-        cas: 0,
-        framing: Bytes::new(),
-        extras: body.extras,
-        key: body.key,
-        value: body.value,
-    }
-}
-
-fn open_as_frame(
-    alloc: Global,
+#[tactic(auto, unfolding(mcbp_frame::specs::Spelling::spelling))]
+fn write_open(
     seqno: u32,
     flags: u32,
     name: &Bytes,
-    opaque: u32,
-    v: u16,
-) -> Result<Frame, AllocError>
-    ensures { IfOk result (λ frame. frame ≡ frame_of_row row.Open v opaque (open_extras seqno flags) name.now []) }
+    label: Label,
+    out: &mut BytesMut,
+) -> Result<(), AllocError>
+    requires { length name.now < 2 ^ 16 }
+    ensures ok { OnOk result (out.new.items ≡ out.old.items ++ spelling (frame_of_row row.Open label.v label.opaque (open_extras seqno flags) name.now [])) }
+    ensures err { OnErr result (out.new.items ≡ out.old.items) }
 {
-    let body = with_key(numbers!(alloc; seqno, flags)?, name)?;
-    Ok(request(Opcode::Open, v, opaque, body))
+    let header = Header {
+        extras: 8,
+        key: name.len(),
+        ..request(Opcode::Open, label)
+    };
+    put_header(header, out)?;
+    put_numbers!(out; seqno, flags);
+    out.extend_reserved(name.as_slice());
+    Ok(())
 }
 
-fn control_as_frame(key: &Bytes, value: &Bytes, opaque: u32, v: u16) -> Result<Frame, AllocError>
-    ensures { IfOk result (λ frame. frame ≡ frame_of_row row.Control v opaque [] key.now value.now) }
+#[tactic(auto, unfolding(mcbp_frame::specs::Spelling::spelling))]
+fn write_control(
+    key: &Bytes,
+    value: &Bytes,
+    label: Label,
+    out: &mut BytesMut,
+) -> Result<(), AllocError>
+    requires key { length key.now < 2 ^ 16 }
+    requires body { length key.now + length value.now < 2 ^ 32 }
+    ensures ok { OnOk result (out.new.items ≡ out.old.items ++ spelling (frame_of_row row.Control label.v label.opaque [] key.now value.now)) }
+    ensures err { OnErr result (out.new.items ≡ out.old.items) }
 {
-    let body = with_value(Bytes::new(), key, value)?;
-    Ok(request(Opcode::Control, v, opaque, body))
+    let header = Header {
+        key: key.len(),
+        value: value.len(),
+        ..request(Opcode::Control, label)
+    };
+    put_header(header, out)?;
+    out.extend_reserved(key.as_slice());
+    out.extend_reserved(value.as_slice());
+    Ok(())
 }
 
 /// A request for a stream. The reserved field is written as 0.
-fn request_as_frame(
-    alloc: Global,
-    ask: &StreamAsk,
-    opaque: u32,
-    v: u16,
-) -> Result<Frame, AllocError>
-    ensures { IfOk result (λ frame. frame ≡ request_frame ask.now opaque v) }
+#[tactic(auto, unfolding(mcbp_frame::specs::Spelling::spelling))]
+fn write_request(ask: &StreamAsk, label: Label, out: &mut BytesMut) -> Result<(), AllocError>
+    ensures ok { OnOk result (out.new.items ≡ out.old.items ++ spelling (request_frame ask.now label.opaque label.v)) }
+    ensures err { OnErr result (out.new.items ≡ out.old.items) }
 {
-    let extras = numbers!(alloc; ask.flags, 0u32, ask.start, ask.end, ask.uuid, ask.ss, ask.se)?;
-    Ok(request(Opcode::StreamRequest, v, opaque, bare_extras(extras)))
+    let header = Header {
+        extras: 48,
+        ..request(Opcode::StreamRequest, label)
+    };
+    put_header(header, out)?;
+    put_numbers!(out; ask.flags, 0u32, ask.start, ask.end, ask.uuid, ask.ss, ask.se);
+    Ok(())
 }
 
-fn end_as_frame(alloc: Global, reason: u32, opaque: u32, v: u16) -> Result<Frame, AllocError>
-    ensures { IfOk result (λ frame. frame ≡ frame_of_row row.StreamEnd v opaque (stream_end_extras reason) [] []) }
-{
-    let extras = numbers!(alloc; reason)?;
-    Ok(request(Opcode::StreamEnd, v, opaque, bare_extras(extras)))
-}
-
-fn marker_as_frame(
-    alloc: Global,
+#[tactic(auto, unfolding(mcbp_frame::specs::Spelling::spelling))]
+fn write_marker(
     start: u64,
     end: u64,
     flags: u32,
-    opaque: u32,
-    v: u16,
-) -> Result<Frame, AllocError>
-    ensures { IfOk result (λ frame. frame ≡ frame_of_row row.SnapshotMarker v opaque (marker_extras start end flags) [] []) }
+    label: Label,
+    out: &mut BytesMut,
+) -> Result<(), AllocError>
+    ensures ok { OnOk result (out.new.items ≡ out.old.items ++ spelling (frame_of_row row.SnapshotMarker label.v label.opaque (marker_extras start end flags) [] [])) }
+    ensures err { OnErr result (out.new.items ≡ out.old.items) }
 {
-    let extras = numbers!(alloc; start, end, flags)?;
-    Ok(request(Opcode::SnapshotMarker, v, opaque, bare_extras(extras)))
+    let header = Header {
+        extras: 20,
+        ..request(Opcode::SnapshotMarker, label)
+    };
+    put_header(header, out)?;
+    put_numbers!(out; start, end, flags);
+    Ok(())
 }
 
-/// The extras of a mutation. Lock time, the length of metadata and nru are written as 0.
-fn mutation_extras(alloc: Global, change: &Mutation) -> Result<Bytes, AllocError>
-    ensures { IfOk result (λ extras. extras ≡ mutation_extras change.now) }
+/// A mutation. Lock time, the length of metadata and nru are written as 0.
+#[tactic(auto, unfolding(mcbp_frame::specs::Spelling::spelling))]
+fn write_mutation(change: &Mutation, label: Label, out: &mut BytesMut) -> Result<(), AllocError>
+    requires { IsSpelled (msg.Mutation change.now) }
+    ensures ok { OnOk result (out.new.items ≡ out.old.items ++ spelling (mutation_frame change.now label.opaque label.v)) }
+    ensures err { OnErr result (out.new.items ≡ out.old.items) }
 {
-    numbers!(alloc; change.seq, change.rev, change.flags, change.expiry, 0u32, 0u16, 0u8)
-}
-
-fn mutation_as_frame(
-    alloc: Global,
-    change: &Mutation,
-    opaque: u32,
-    v: u16,
-) -> Result<Frame, AllocError>
-    ensures { IfOk result (λ frame. frame ≡ mutation_frame change.now opaque v) }
-{
-    let extras = mutation_extras(alloc, change)?;
-    let body = with_value(extras, &change.key, &change.value)?;
-    Ok(Frame {
+    let header = Header {
         datatype: change.datatype,
         cas: change.cas,
-        ..request(Opcode::Mutation, v, opaque, body)
-    })
+        extras: 31,
+        key: change.key.len(),
+        value: change.value.len(),
+        ..request(Opcode::Mutation, label)
+    };
+    put_header(header, out)?;
+    put_numbers!(out; change.seq, change.rev, change.flags, change.expiry, 0u32, 0u16, 0u8);
+    out.extend_reserved(change.key.as_slice());
+    out.extend_reserved(change.value.as_slice());
+    Ok(())
 }
 
 /// A deletion. The length of metadata is written as 0.
-fn deletion_as_frame(
-    alloc: Global,
-    removal: &Deletion,
-    opaque: u32,
-    v: u16,
-) -> Result<Frame, AllocError>
-    ensures { IfOk result (λ frame. frame ≡ deletion_frame removal.now opaque v) }
+#[tactic(auto, unfolding(mcbp_frame::specs::Spelling::spelling))]
+fn write_deletion(removal: &Deletion, label: Label, out: &mut BytesMut) -> Result<(), AllocError>
+    requires { IsSpelled (msg.Deletion removal.now) }
+    ensures ok { OnOk result (out.new.items ≡ out.old.items ++ spelling (deletion_frame removal.now label.opaque label.v)) }
+    ensures err { OnErr result (out.new.items ≡ out.old.items) }
 {
-    let extras = numbers!(alloc; removal.seq, removal.rev, 0u16)?;
-    let body = with_key(extras, &removal.key)?;
-    Ok(Frame {
+    let header = Header {
         cas: removal.cas,
-        ..request(Opcode::Deletion, v, opaque, body)
-    })
+        extras: 18,
+        key: removal.key.len(),
+        ..request(Opcode::Deletion, label)
+    };
+    put_header(header, out)?;
+    put_numbers!(out; removal.seq, removal.rev, 0u16);
+    out.extend_reserved(removal.key.as_slice());
+    Ok(())
 }
 
-/// The extras of a prepare. Lock time and nru are written as 0.
-fn prepare_extras(alloc: Global, change: &Prepare) -> Result<Bytes, AllocError>
-    ensures { IfOk result (λ extras. extras ≡ prepare_extras change.now) }
+/// A prepare. Lock time and nru are written as 0.
+#[tactic(auto, unfolding(mcbp_frame::specs::Spelling::spelling))]
+fn write_prepare(change: &Prepare, label: Label, out: &mut BytesMut) -> Result<(), AllocError>
+    requires { IsSpelled (msg.Prepare change.now) }
+    ensures ok { OnOk result (out.new.items ≡ out.old.items ++ spelling (prepare_frame change.now label.opaque label.v)) }
+    ensures err { OnErr result (out.new.items ≡ out.old.items) }
 {
-    let behind = [0, 0, 0, 0, 0, change.deleted, change.level];
-    let numbers = numbers!(alloc; change.seq, change.rev, change.flags, change.expiry)?;
-    joined(alloc, &[numbers.as_slice(), &behind])
-}
-
-fn prepare_as_frame(
-    alloc: Global,
-    change: &Prepare,
-    opaque: u32,
-    v: u16,
-) -> Result<Frame, AllocError>
-    ensures { IfOk result (λ frame. frame ≡ prepare_frame change.now opaque v) }
-{
-    let extras = prepare_extras(alloc, change)?;
-    let body = with_value(extras, &change.key, &change.value)?;
-    Ok(Frame {
+    let header = Header {
         datatype: change.datatype,
         cas: change.cas,
-        ..request(Opcode::Prepare, v, opaque, body)
-    })
+        extras: 31,
+        key: change.key.len(),
+        value: change.value.len(),
+        ..request(Opcode::Prepare, label)
+    };
+    put_header(header, out)?;
+    put_numbers!(out; change.seq, change.rev, change.flags, change.expiry, 0u32);
+    out.extend_reserved(&[0, change.deleted, change.level]);
+    out.extend_reserved(change.key.as_slice());
+    out.extend_reserved(change.value.as_slice());
+    Ok(())
 }
 
 /// A commit or an abort, by its opcode.
-fn resolution_as_frame(
-    alloc: Global,
+#[tactic(auto, unfolding(mcbp_frame::specs::Spelling::spelling))]
+fn write_resolution(
     opcode: Opcode,
     change: &Resolution,
-    opaque: u32,
-    v: u16,
-) -> Result<Frame, AllocError>
-    ensures { IfOk result (λ frame. frame ≡ resolution_frame opcode change.now opaque v) }
+    label: Label,
+    out: &mut BytesMut,
+) -> Result<(), AllocError>
+    requires { length change.now.key < 2 ^ 16 }
+    ensures ok { OnOk result (out.new.items ≡ out.old.items ++ spelling (resolution_frame opcode change.now label.opaque label.v)) }
+    ensures err { OnErr result (out.new.items ≡ out.old.items) }
 {
-    let extras = numbers!(alloc; change.prepared, change.seq)?;
-    let body = with_key(extras, &change.key)?;
-    Ok(request(opcode, v, opaque, body))
-}
-
-fn of_acknowledged(alloc: Global, seq: u64, opaque: u32, v: u16) -> Result<Frame, AllocError>
-    ensures { IfOk result (λ frame. frame ≡ frame_of_row row.SeqnoAcknowledged v opaque (to_be_bytes w64 seq) [] []) }
-{
-    let extras = numbers!(alloc; seq)?;
-    Ok(request(Opcode::SeqnoAcknowledged, v, opaque, bare_extras(extras)))
-}
-
-fn buffer_as_frame(alloc: Global, bytes: u32, opaque: u32, v: u16) -> Result<Frame, AllocError>
-    ensures { IfOk result (λ frame. frame ≡ frame_of_row row.BufferAcknowledgement v opaque (to_be_bytes w32 bytes) [] []) }
-{
-    let extras = numbers!(alloc; bytes)?;
-    Ok(request(
-        Opcode::BufferAcknowledgement,
-        v,
-        opaque,
-        bare_extras(extras),
-    ))
-}
-
-fn verdict_as_frame(alloc: Global, told: &StreamVerdict, opaque: u32) -> Result<Frame, AllocError>
-    requires { IsVerdict told.now }
-    ensures frame { IfOk result (λ frame. frame ≡ verdict_frame told.now opaque) }
-    ensures fits { IfOk result Fits }
-{
-    let (status, value) = match told {
-        StreamVerdict::Go { log } => (SUCCESS, log_bytes(alloc, log.as_slice())?),
-        StreamVerdict::Roll { point } => (ROLLBACK, numbers!(alloc; point)?),
-        StreamVerdict::Refused { status } => (*status, Bytes::new()),
+    let header = Header {
+        extras: 16,
+        key: change.key.len(),
+        ..request(opcode, label)
     };
-    Ok(Frame {
-        value,
-        ..bare(RESPONSE, Opcode::StreamRequest, status, opaque)
-    })
+    put_header(header, out)?;
+    put_numbers!(out; change.prepared, change.seq);
+    out.extend_reserved(change.key.as_slice());
+    Ok(())
 }
 
-fn log_as_frame(
-    alloc: Global,
+#[tactic(auto, unfolding(mcbp_frame::specs::Spelling::spelling))]
+fn write_acknowledged(seq: u64, label: Label, out: &mut BytesMut) -> Result<(), AllocError>
+    ensures ok { OnOk result (out.new.items ≡ out.old.items ++ spelling (frame_of_row row.SeqnoAcknowledged label.v label.opaque (to_be_bytes w64 seq) [] [])) }
+    ensures err { OnErr result (out.new.items ≡ out.old.items) }
+{
+    let header = Header {
+        extras: 8,
+        ..request(Opcode::SeqnoAcknowledged, label)
+    };
+    put_header(header, out)?;
+    put_numbers!(out; seq);
+    Ok(())
+}
+
+/// An answer: its status, and a value.
+#[tactic(auto, unfolding(mcbp_frame::specs::Spelling::spelling))]
+fn write_answer(
+    opcode: Opcode,
+    status: u16,
+    opaque: u32,
+    value: &[u8],
+    out: &mut BytesMut,
+) -> Result<(), AllocError>
+    requires { length value.now < 2 ^ 32 }
+    ensures ok { OnOk result (out.new.items ≡ out.old.items ++ spelling (record (bare_frame RESPONSE opcode status opaque) { value = value.now })) }
+    ensures err { OnErr result (out.new.items ≡ out.old.items) }
+{
+    let label = Label { opaque, v: status };
+    let header = Header {
+        magic: RESPONSE,
+        value: value.len(),
+        ..request(opcode, label)
+    };
+    put_header(header, out)?;
+    out.extend_reserved(value);
+    Ok(())
+}
+
+fn write_verdict(told: &StreamVerdict, opaque: u32, out: &mut BytesMut) -> Result<(), AllocError>
+    requires { IsVerdict told.now }
+    ensures ok { OnOk result (out.new.items ≡ out.old.items ++ spelling (verdict_frame told.now opaque)) }
+    ensures err { OnErr result (out.new.items ≡ out.old.items) }
+{
+    match told {
+        StreamVerdict::Go { log } => {
+            let value = log_bytes(*out.allocator(), log.as_slice())?;
+            write_answer(
+                Opcode::StreamRequest,
+                SUCCESS,
+                opaque,
+                value.as_slice(),
+                out,
+            )
+        }
+        StreamVerdict::Roll { point } => {
+            let point = point.to_be_bytes();
+            write_answer(Opcode::StreamRequest, ROLLBACK, opaque, &point, out)
+        }
+        StreamVerdict::Refused { status } => {
+            write_answer(Opcode::StreamRequest, *status, opaque, &[], out)
+        }
+    }
+}
+
+fn write_log(
     status: u16,
     log: &[LogEntry],
     opaque: u32,
-) -> Result<Frame, AllocError>
+    out: &mut BytesMut,
+) -> Result<(), AllocError>
     requires { ENTRY_LEN * length log.now < 2 ^ 32 }
-    ensures frame { IfOk result (λ frame. frame ≡ log_frame status log.now opaque) }
-    ensures fits { IfOk result Fits }
+    ensures ok { OnOk result (out.new.items ≡ out.old.items ++ spelling (log_frame status log.now opaque)) }
+    ensures err { OnErr result (out.new.items ≡ out.old.items) }
 {
-    let value = log_bytes(alloc, log)?;
-    Ok(Frame {
-        value,
-        ..bare(RESPONSE, Opcode::GetFailoverLog, status, opaque)
-    })
-}
-
-/// The frame of a message.
-#[tactic(auto, unfolding(crate::specs::DcpFrames::dcp_frame))]
-fn frame_for(alloc: Global, m: &DcpMsg, opaque: u32, v: u16) -> Result<Frame, AllocError>
-    requires { IsSpelled m.now }
-    ensures frame { IfOk result (λ frame. frame ≡ dcp_frame m.now opaque v) }
-    ensures fits { IfOk result Fits }
-{
-    match m {
-        DcpMsg::Open { seqno, flags, name } => open_as_frame(
-            alloc, *seqno, *flags, name, opaque, v,
-        ),
-        DcpMsg::Control { key, value } => control_as_frame(key, value, opaque, v),
-        DcpMsg::StreamRequest { ask } => request_as_frame(alloc, ask, opaque, v),
-        DcpMsg::StreamEnd { reason } => end_as_frame(alloc, *reason, opaque, v),
-        DcpMsg::SnapshotMarker { start, end, flags } => {
-            marker_as_frame(alloc, *start, *end, *flags, opaque, v)
-        }
-        DcpMsg::Mutation { change } => mutation_as_frame(alloc, change, opaque, v),
-        DcpMsg::Deletion { change } => deletion_as_frame(alloc, change, opaque, v),
-        DcpMsg::Prepare { change } => prepare_as_frame(alloc, change, opaque, v),
-        DcpMsg::Commit { change } => resolution_as_frame(alloc, Opcode::Commit, change, opaque, v),
-        DcpMsg::Abort { change } => resolution_as_frame(alloc, Opcode::Abort, change, opaque, v),
-        DcpMsg::SeqnoAcknowledged { seq } => of_acknowledged(alloc, *seq, opaque, v),
-        DcpMsg::CloseStream => Ok(bare(REQUEST, Opcode::CloseStream, v, opaque)),
-        DcpMsg::GetFailoverLog => Ok(bare(REQUEST, Opcode::GetFailoverLog, v, opaque)),
-        DcpMsg::Noop => Ok(bare(REQUEST, Opcode::Noop, v, opaque)),
-        DcpMsg::BufferAcknowledgement { bytes } => buffer_as_frame(alloc, *bytes, opaque, v),
-        DcpMsg::OpenAnswer { status } => Ok(bare(RESPONSE, Opcode::Open, *status, opaque)),
-        DcpMsg::ControlAnswer { status } => Ok(bare(RESPONSE, Opcode::Control, *status, opaque)),
-        DcpMsg::StreamAnswer { told } => verdict_as_frame(alloc, told, opaque),
-        DcpMsg::CloseAnswer { status } => Ok(bare(RESPONSE, Opcode::CloseStream, *status, opaque)),
-        DcpMsg::NoopAnswer { status } => Ok(bare(RESPONSE, Opcode::Noop, *status, opaque)),
-        DcpMsg::LogAnswer { status, log } => log_as_frame(alloc, *status, log.as_slice(), opaque),
-    }
+    let value = log_bytes(*out.allocator(), log)?;
+    write_answer(
+        Opcode::GetFailoverLog,
+        status,
+        opaque,
+        value.as_slice(),
+        out,
+    )
 }
 
 /// Appends a message with an opaque and a vBucket, or an answer with an opaque. An `Err` appends
 /// nothing.
+#[tactic(auto, unfolding(crate::specs::DcpFrames::dcp_frame))]
 pub fn write_dcp(m: &DcpMsg, opaque: u32, v: u16, out: &mut BytesMut) -> Result<(), AllocError>
     requires { IsSpelled m.now }
     ensures ok { OnOk result (out.new.items ≡ out.old.items ++ spelling (dcp_frame m.now opaque v)) }
     ensures err { OnErr result (out.new.items ≡ out.old.items) }
 {
-    let alloc = *out.allocator();
-    let frame = frame_for(alloc, m, opaque, v)?;
-    write_frame(&frame, out)
+    let label = Label { opaque, v };
+    match m {
+        DcpMsg::Open { seqno, flags, name } => write_open(*seqno, *flags, name, label, out),
+        DcpMsg::Control { key, value } => write_control(key, value, label, out),
+        DcpMsg::StreamRequest { ask } => write_request(ask, label, out),
+        DcpMsg::StreamEnd { reason } => write_number(Opcode::StreamEnd, *reason, label, out),
+        DcpMsg::SnapshotMarker { start, end, flags } => {
+            write_marker(*start, *end, *flags, label, out)
+        }
+        DcpMsg::Mutation { change } => write_mutation(change, label, out),
+        DcpMsg::Deletion { change } => write_deletion(change, label, out),
+        DcpMsg::Prepare { change } => write_prepare(change, label, out),
+        DcpMsg::Commit { change } => write_resolution(Opcode::Commit, change, label, out),
+        DcpMsg::Abort { change } => write_resolution(Opcode::Abort, change, label, out),
+        DcpMsg::SeqnoAcknowledged { seq } => write_acknowledged(*seq, label, out),
+        DcpMsg::CloseStream => write_bare(Opcode::CloseStream, label, out),
+        DcpMsg::GetFailoverLog => write_bare(Opcode::GetFailoverLog, label, out),
+        DcpMsg::Noop => write_bare(Opcode::Noop, label, out),
+        DcpMsg::BufferAcknowledgement { bytes } => {
+            write_number(Opcode::BufferAcknowledgement, *bytes, label, out)
+        }
+        DcpMsg::OpenAnswer { status } => write_answer(Opcode::Open, *status, opaque, &[], out),
+        DcpMsg::ControlAnswer { status } => {
+            write_answer(Opcode::Control, *status, opaque, &[], out)
+        }
+        DcpMsg::StreamAnswer { told } => write_verdict(told, opaque, out),
+        DcpMsg::CloseAnswer { status } => {
+            write_answer(Opcode::CloseStream, *status, opaque, &[], out)
+        }
+        DcpMsg::NoopAnswer { status } => write_answer(Opcode::Noop, *status, opaque, &[], out),
+        DcpMsg::LogAnswer { status, log } => write_log(*status, log.as_slice(), opaque, out),
+    }
 }
