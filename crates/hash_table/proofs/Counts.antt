@@ -139,6 +139,11 @@ module _ (test : Pend → Bool) where
         ap (λ (n : finite.FinMap key_cmp Pend). sum_by g (entries n)) (put_over m k v ∙ put_same m k v some),
       )
 
+  -- the same, where it is another map, and told by another word whether it passes
+  pub gone_from : (m n : finite.FinMap key_cmp Pend) (xs ys : List ℕ) (b : Bool) (k : List ℕ) (v : Pend) → b ≡ test v → Some v ≡ get m k → n ≡ remove m k → AreSeqnos test m xs → IsPermutation xs (one_if b v.seq ++ ys) → AreSeqnos test n ys
+  gone_from m n xs ys b k v passes some gone are moved =
+      are_along (sym gone) (refl {a = ys}) (one_less m k v xs ys (sym some) are (subst (λ c. IsPermutation xs (one_if c v.seq ++ ys)) passes moved))
+
   -- one that passes waits at this seqno
   abbrev pub WaitsIf : finite.FinMap key_cmp Pend → ℕ → Type 0
   WaitsIf m q = (key : List ℕ) × (pend : Pend) × (get m key ≡ Some pend) × (test pend ≡ true) × (pend.seq ≡ q)

@@ -39,10 +39,14 @@ impl<V> Hashed<V> {
         }
     }
 
-    /// What is at a key.
+    /// What is at a key. An empty map answers with no hash of the key: mostly no prepare waits, and then
+    /// each write would hash its key for the prepares in vain.
     pub fn get(&self, key: &Key) -> Option<&V>
         ensures { option_copied result ≡ map.get self.now.map key.now }
     {
+        if self.table.is_empty() {
+            return None;
+        }
         self.table.get(key)
     }
 
@@ -82,12 +86,13 @@ impl<V: Drop> Hashed<V> {
         placed.unwrap();
     }
 
-    /// Takes away what is at a key, if anything is.
-    pub fn remove(&mut self, key: &Key)
+    /// Takes away what is at a key, if anything is, and gives it.
+    pub fn remove(&mut self, key: &Key) -> Option<V>
+        ensures was { result ≡ map.get self.old.map key.now }
         ensures map { self.new.map ≡ map.remove self.old.map key.now }
         ensures room { self.old.room ≤ self.new.room }
     {
-        self.table.remove(key);
+        self.table.remove(key)
     }
 }
 

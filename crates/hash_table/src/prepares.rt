@@ -100,11 +100,9 @@ impl Prepares {
         ensures map { self.new.map ≡ map.remove self.old.map key.now }
         ensures room { self.old.room ≤ self.new.room }
     {
-        if let Some(pend) = self.pends.get(key) {
-            let (seq, counts) = (pend.seq, is_third(pend.level));
-            self.seqnos.take_out(seq);
-            self.thirds.take_out_if(counts, seq);
-            self.pends.remove(key);
+        if let Some(pend) = self.pends.remove(key) {
+            self.seqnos.take_out(pend.seq);
+            self.thirds.take_out_if(is_third(pend.level), pend.seq);
         }
     }
 

@@ -1,5 +1,6 @@
 //! One vBucket.
 ghost use Rattle.std.specs.Prelude.{◌≡◌, ◌<◌, ◌≤◌, ◌+◌, ◌&&◌, true, false, None, IfOk, OnOk, OnErr, [], ◌∷◌, length, unwrap_or};
+ghost use Rattle.std.specs.Option.{option_copied};
 ghost use Rattle.branch_model.specs.Logs.{log_limit};
 ghost use Rattle.vb_types.specs.declared.position.TheConstants.{MAX_SEQ as last_seq};
 ghost use Rattle.vb_types.specs.declared.role.Role.TheVariants.{Active as ActiveRole};
@@ -8,7 +9,7 @@ ghost use Rattle.cursor_set.specs.Cursors.{place_of};
 ghost use Rattle.vbucket.specs.Kept.{SameChanges, kept_behind, kept_store, kept_place, kept_take};
 ghost use Rattle.vbucket.specs.Stands.{MayFail, StandsFor};
 ghost use Rattle.vbucket.specs.Stepping.{IsOther};
-ghost use Rattle.vb_calls.specs.State.{complete_position, first_log, is_active, is_left, newest_branch, get_row, log_row, pending_of, quiet_reply, show_row};
+ghost use Rattle.vb_calls.specs.State.{complete_position, doc_at, first_log, is_active, is_left, newest_branch, get_row, log_row, pending_of, quiet_reply, show_row};
 ghost use Rattle.vb_calls.specs.Writes.{key_refusal, lacks_seqnos, store_refusal, write_change};
 ghost use Rattle.vb_calls.specs.Streams.{ask_reply, open_refusal, open_row, stream_at};
 ghost use Rattle.vb_calls.specs.Roles.{parent_of};
@@ -185,8 +186,9 @@ impl VBucket {
         }))
     }
 
-    /// Why a write is refused, the first of its reasons.
-    fn refusal(&self, write: &Write) -> Option<Status>
+    /// Why a write is refused where its key has this document, or none: the first of its reasons.
+    fn refusal(&self, write: &Write, doc: Option<&Doc>) -> Option<Status>
+        requires { option_copied doc ≡ doc_at self.now.rest write.now.key }
         ensures first { result ≡ store_refusal self.now.rest write.now }
         ensures room { result ≡ None → self.now.rest.position.at < last_seq }
         ensures active { result ≡ None → is_active self.now.rest.role ≡ true }
@@ -197,7 +199,7 @@ impl VBucket {
         if self.lacks_seqnos(1) {
             return Some(Status::Etmpfail);
         }
-        self.key_refusal(write)
+        self.key_refusal(write, doc)
     }
 
     /// Whether there are not as many seqnos left, beside one for each outstanding prepare.
@@ -215,11 +217,12 @@ impl VBucket {
     }
 
     /// Why a key is not written, by its prepare that waits and then by its document.
-    fn key_refusal(&self, write: &Write) -> Option<Status>
+    fn key_refusal(&self, write: &Write, doc: Option<&Doc>) -> Option<Status>
+        requires { option_copied doc ≡ doc_at self.now.rest write.now.key }
         ensures { result ≡ key_refusal self.now.rest write.now }
     {
         if self.table.pend(&write.key).is_none() {
-            return refusal_by(write.op, write.cas, self.table.doc(&write.key));
+            return refusal_by(write.op, write.cas, doc);
         }
         if self.is_left(&write.key) {
             Some(Status::SyncWriteReCommitInProgress)
@@ -228,13 +231,14 @@ impl VBucket {
         }
     }
 
-    /// The change that a write makes.
-    fn change_of(&self, write: Write, cas: u64) -> Change
-        requires { self.now.rest.position.at < last_seq }
+    /// The change that a write makes where its key has this document, or none.
+    fn change_of(&self, write: Write, doc: Option<&Doc>, cas: u64) -> Change
+        requires room { self.now.rest.position.at < last_seq }
+        requires doc { option_copied doc ≡ doc_at self.now.rest write.key }
         ensures { result ≡ write_change self.now.rest write cas }
     {
         let key = write.key;
-        let rev = next_rev(self.table.doc(&key));
+        let rev = next_rev(doc);
         let act = match write.op {
             Op::Delete => Act::Remove { cas, rev },
             Op::Set | Op::Add | Op::Replace => Act::Set(Doc {
@@ -278,11 +282,12 @@ impl VBucket {
         ensures form { IfOk result (λ reply. HasForm (Store write clock) reply.answer) }
         ensures err { OnErr result (self.new ≡ self.old) }
     {
-        if let Some(status) = self.refusal(&write) {
+        let doc = self.table.doc(&write.key);
+        if let Some(status) = self.refusal(&write, doc) {
             return Ok(self.told(VbAnswer::Status(status)));
         }
         let cas = next_cas(clock, self.last_cas);
-        let change = self.change_of(write, cas);
+        let change = self.change_of(write, doc, cas);
         let seq = change.seq;
         let changes = self.enter(Origin::Own, complete_at(seq), cas, change)?;
         let uuid = self.branch().unwrap_or(0);

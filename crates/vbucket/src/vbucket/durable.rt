@@ -1,13 +1,14 @@
 //! Durable writes: how they are prepared, what nodes acknowledge, and when they are given up.
 ghost use Rattle.std.specs.Prelude.{◌≡◌, ◌<◌, None, Some, IfOk, OnErr, map as map_list};
 ghost use Rattle.std.specs.FinMap as map;
+ghost use Rattle.std.specs.Option.{option_copied};
 ghost use Rattle.durability.specs.Pending.{due};
 ghost use Rattle.vb_types.specs.declared.change.Act.TheVariants.{Prepare};
 ghost use Rattle.vb_types.specs.declared.position.TheConstants.{MAX_SEQ as last_seq};
 ghost use Rattle.vb_calls.specs.Durable.{due_row, durable_refusal, is_delete};
 ghost use Rattle.vb_calls.specs.Forms.{HasForm};
 ghost use Rattle.vb_calls.specs.State.{doc_at};
-ghost use Rattle.vb_calls.specs.Writes.{new_rev, written_doc};
+ghost use Rattle.vb_calls.specs.Writes.{written_doc};
 ghost use Rattle.vb_calls.specs.declared.calls.VbCall.TheVariants.{Ack, Chain as SetChain, Due, Durable, Tick};
 ghost use Rattle.vb_calls.specs.declared.calls.VbAnswer.TheVariants.{Prepared};
 ghost use Rattle.vbucket.specs.Plans.{IsRising};
@@ -34,8 +35,9 @@ pub(super) struct Wish {
 }
 
 impl VBucket {
-    /// Why a durable write is refused, the first of its reasons.
-    fn durable_refusal(&self, write: &Write) -> Option<Status>
+    /// Why a durable write is refused where its key has this document, or none: the first of its reasons.
+    fn durable_refusal(&self, write: &Write, doc: Option<&Doc>) -> Option<Status>
+        requires { option_copied doc ≡ doc_at self.now.rest write.now.key }
         ensures first { result ≡ durable_refusal self.now.rest write.now }
         ensures room { result ≡ None → self.now.rest.position.at < last_seq }
     {
@@ -48,26 +50,7 @@ impl VBucket {
         if self.lacks_seqnos(2) {
             return Some(Status::Etmpfail);
         }
-        self.key_refusal(write)
-    }
-
-    /// The act that prepares a write.
-    fn prepare_of(&self, write: Write, level: Level, cas: u64) -> Act
-        ensures { result ≡ Prepare level (written_doc write cas (new_rev (doc_at self.now.rest write.key))) (is_delete write.op) }
-    {
-        let rev = next_rev(self.table.doc(&write.key));
-        Act::Prepare {
-            level,
-            doc: Doc {
-                value: write.value,
-                cas,
-                rev,
-                flags: write.flags,
-                expiry: write.expiry,
-                datatype: write.datatype,
-            },
-            deleted: matches!(write.op, Op::Delete),
-        }
+        self.key_refusal(write, doc)
     }
 
     /// A durable write's prepare is outstanding, with this CAS as the last one, and a plan is carried out
@@ -93,15 +76,22 @@ impl VBucket {
         }
     }
 
-    /// The prepare of a write, as the plan of a call.
-    fn plan_of(&self, write: Write, level: Level, cas: u64) -> Result<Plan, AllocError>
-        requires { self.now.rest.position.at < last_seq }
+    /// The prepare of a write whose key has this document, or none, as the plan of a call.
+    fn plan_of(
+        &self,
+        write: Write,
+        doc: Option<&Doc>,
+        level: Level,
+        cas: u64,
+    ) -> Result<Plan, AllocError>
+        requires room { self.now.rest.position.at < last_seq }
+        requires doc { option_copied doc ≡ doc_at self.now.rest write.key }
         ensures plan { IfOk result (λ plan. plan ≡ spec.prepare_plan self.now write level cas) }
         ensures rises { IfOk result (λ plan. IsRising self.now.rest.position.at plan) }
     {
-        let key = write.key.clone()?;
+        let (key, act) = prepare_of(write, level, cas, next_rev(doc));
         let mut plan = Plan::new(self.alloc, self.position.at);
-        plan.add(key, self.prepare_of(write, level, cas))?;
+        plan.add(key, act)?;
         Ok(plan)
     }
 
@@ -116,12 +106,13 @@ impl VBucket {
         ensures form { IfOk result (λ reply. HasForm (Durable write clock wish.level wish.deadline wish.waiter) reply.answer) }
         ensures err { OnErr result (self.new ≡ self.old) }
     {
-        if let Some(status) = self.durable_refusal(&write) {
+        let doc = self.table.doc(&write.key);
+        if let Some(status) = self.durable_refusal(&write, doc) {
             return Ok(self.told(VbAnswer::Status(status)));
         }
         let cas = next_cas(clock, self.last_cas);
         let prepare = waiting_for(&write.key, self.position.at + 1, wish)?;
-        let plan = self.plan_of(write, wish.level, cas)?;
+        let plan = self.plan_of(write, doc, wish.level, cas)?;
         self.settle_with(prepare, cas, plan)
     }
 
@@ -191,6 +182,25 @@ impl VBucket {
         let (complete, _) = effective(at, ss, se);
         self.told(VbAnswer::Num(last_due(&self.table, complete, self.saved)))
     }
+}
+
+/// The key of a write, and the act that prepares it, with this revision.
+fn prepare_of(write: Write, level: Level, cas: u64, rev: u64) -> (Key, Act)
+    ensures { result ≡ (write.key, Prepare level (written_doc write cas rev) (is_delete write.op)) }
+{
+    let act = Act::Prepare {
+        level,
+        doc: Doc {
+            value: write.value,
+            cas,
+            rev,
+            flags: write.flags,
+            expiry: write.expiry,
+            datatype: write.datatype,
+        },
+        deleted: matches!(write.op, Op::Delete),
+    };
+    (write.key, act)
 }
 
 /// A write of this key whose prepare has this seqno, as an outstanding one.

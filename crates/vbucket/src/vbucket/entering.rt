@@ -4,6 +4,7 @@ ghost use Rattle.std.specs.List.{fold};
 ghost use Rattle.vb_types.specs.Images.{applied};
 ghost use Rattle.ckpt_list.specs.Lists.{high_of, queued, sealed_list};
 ghost use Rattle.ckpt_list.specs.Windows.{ArePartsAbove, queued_all};
+ghost use Rattle.vb_calls.specs.declared.span.Origin.TheVariants.{Own};
 
 use ckpt_list::CkptList;
 use hash_table::HashTable;
@@ -78,7 +79,7 @@ pub(super) fn put(
 fn copies(alloc: Global, changes: &[Change]) -> Result<Vec<Change>, AllocError>
     ensures { IfOk result (λ copies. copies.items ≡ changes.now) }
 {
-    let mut copies = Vec::new(alloc);
+    let mut copies = Vec::with_capacity(alloc, changes.len())?;
     for change in changes {
         copies.push(change.copy()?)?;
     }
@@ -133,6 +134,21 @@ fn seal_and_queue_copies(
     list.seal_and_queue_all(copies(alloc, changes)?)
 }
 
+/// Takes a change of the vBucket's own into a table and a list. An `Err` changes nothing.
+fn put_own(table: &mut HashTable, list: &mut CkptList, change: &Change) -> Result<(), AllocError>
+    requires { high_of list.old < change.now.seq }
+    ensures table { OnOk result (table.new.image ≡ applied table.old.image change.now) }
+    ensures list { OnOk result (list.new ≡ queued list.old Own change.now) }
+    ensures same { OnErr result (table.new.image ≡ table.old.image) }
+    ensures err { OnErr result (list.new ≡ list.old) }
+{
+    table.reserve(1)?;
+    let copy = change.copy()?;
+    queue_copy(list, Origin::Own, change)?;
+    table.apply(copy);
+    Ok(())
+}
+
 /// Takes changes of the vBucket's own into a table and a list. An `Err` changes nothing.
 pub(super) fn put_all(
     alloc: Global,
@@ -146,6 +162,10 @@ pub(super) fn put_all(
     ensures same { OnErr result (table.new.image ≡ table.old.image) }
     ensures err { OnErr result (list.new ≡ list.old) }
 {
+    // Mostly there is one, which needs no lists of copies.
+    if let [change] = changes {
+        return put_own(table, list, change);
+    }
     let copies = ready_all(alloc, table, changes)?;
     queue_copies(alloc, list, changes)?;
     apply_all(table, copies);

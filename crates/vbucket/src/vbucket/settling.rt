@@ -253,8 +253,12 @@ impl VBucket {
     ) -> Result<(), AllocError>
         ensures { OnOk result (plan.new ≡ spec.with_commits uuid self.now.rest.base (committed_now (acked outstanding.now.acks) outstanding.now.others self.now.rest.saved outstanding.now.waiting) plan.old) }
     {
-        let mut keys = keys_of(self.alloc, plan.changes.as_slice())?;
         let ready = outstanding.ready(self.saved);
+        // Mostly nothing is, and then no key is noted.
+        if ready == 0 {
+            return Ok(());
+        }
+        let mut keys = keys_of(self.alloc, plan.changes.as_slice())?;
         for prepare in outstanding.waiting().range(..ready) {
             if plan.at >= MAX_SEQ {
                 return Ok(());

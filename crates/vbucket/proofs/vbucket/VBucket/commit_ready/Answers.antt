@@ -1,4 +1,5 @@
-use Rattle.std.proofs.Common.{rules, ◌≡◌, ◌-◌, ℕ, List, length, take, ap, sym, ◌∙◌, arith}
+use Rattle.std.proofs.Common.{rules, ◌≡◌, ◌-◌, ℕ, List, [], length, take, ap, sym, ◌∙◌, arith}
+use Rattle.std.proofs.lemmas.List.{nil_from_length}
 use Rattle.std.specs.VecDeque.Iter.{deque_iter_rest}
 use Rattle.durability.specs.declared.waiting.Waiting.{Waiting}
 use Rattle.durability.specs.Chains.{committed_now}
@@ -7,6 +8,14 @@ use Rattle.vbucket.specs.Kept.{Kept}
 use Rattle.vbucket.specs.Settling.{with_commits}
 use Rattle.vbucket.proofs.Planning.{committed_front}
 use Rattle.vbucket.proofs.vbucket.VBucket.commit_ready.Goals as goal
+
+pub returns-then-ready-eq0 : goal.returns-then-ready-eq0
+returns-then-ready-eq0 c =
+    let o = c.args.outstanding.now in
+    let ready : ℕ → List Waiting = λ saved. committed_now (acked o.acks) o.others saved o.waiting in
+    let none : ready c.args.self.now.rest.saved ≡ [] =
+    ap (λ (k : Kept). ready k.rest.saved) (sym c.self.view_is) ∙ nil_from_length (ready c.self.inside.saved) (omega (arith, c.ready-ready.ensures.count, c.if-ready-eq0.true)) in
+    ap (λ xs. with_commits c.args.uuid c.args.self.now.rest.base xs c.args.plan.now) (sym none)
 
 pub loop-prepare-init : goal.loop-prepare-init
 loop-prepare-init c =
