@@ -16,6 +16,7 @@ use vb_types::{Change, Key, Listed};
 /// A checkpoint that is open: changes by rising seqno, at most one of each key.
 #[derive(Drop)]
 pub struct Checkpoint {
+    alloc: Global,
     above: u64,
     last: u64,
     origin: Origin,
@@ -50,6 +51,7 @@ impl Checkpoint {
         ensures { result ≡ empty_ckpt above origin }
     {
         Checkpoint {
+            alloc,
             above,
             last: above,
             origin,
@@ -179,7 +181,8 @@ impl Checkpoint {
         ensures empty { self.new ≡ empty_ckpt (ckpt_last self.old) self.old.origin }
         ensures light { items_weight self.old.items ≤ MAX_WEIGHT }
     {
-        move_out(&mut self.changes, sealed);
+        let changes = std::mem::replace(&mut self.changes, BTreeMap::new(self.alloc));
+        move_out(changes, sealed);
         self.seqs.clear();
         self.above = self.last;
         self.weight = 0;

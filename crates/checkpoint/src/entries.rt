@@ -145,14 +145,13 @@ fn sees(sync: bool, act: &Act) -> bool
     sync || !matches!(act, Act::Prepare { .. } | Act::Abort { .. })
 }
 
-/// Moves all changes behind others, where there is room for them.
-pub fn move_out(changes: &mut BTreeMap<u64, Change>, into: &mut Vec<Change>)
-    requires { length into.now.items + length changes.now.entries ≤ vec_capacity into.now }
-    ensures items { into.new.items ≡ into.old.items ++ tree.values changes.old }
+/// Moves changes behind others, where there is room for them.
+pub fn move_out(changes: BTreeMap<u64, Change>, into: &mut Vec<Change>)
+    requires { length into.now.items + length changes.entries ≤ vec_capacity into.now }
+    ensures items { into.new.items ≡ into.old.items ++ tree.values changes }
     ensures room { vec_capacity into.old ≤ vec_capacity into.new }
-    ensures empty { changes.new.entries ≡ [] }
 {
-    while let Some((_, change)) = changes.pop_first() {
+    for change in changes.into_values() {
         let pushed: Result<_, _> = into.push(change);
         pushed.unwrap();
     }
