@@ -52,6 +52,7 @@ rearmed old disks arm arm' plain held shelves same stands = record {
   made = stands.made;
   clock = stands.clock;
   clients = stands.clients;
+  bases = stands.bases;
   arm = same;
   off = off_stays old (with_arm_too old disks arm) plain.off refl (λ key none. none) (λ v none. none) stands.off;
 }

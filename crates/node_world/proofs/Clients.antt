@@ -26,7 +26,8 @@ use Rattle.node_world.specs.declared.told.Told.{Told}
 use Rattle.node_world.specs.Ends.{KeepsEnds, Carries, PostsTo}
 use Rattle.node_world.specs.Lines.{out_told}
 use Rattle.node_world.specs.Nodes.{PlainNode, done, refusal, with_client, with_states, client_at, bytes_if, bytes_at, hung_if, hang_at, pull_if, pull_at, posted_if}
-use Rattle.node_world.specs.Stands.{MemNode, client_part, peer_part, live_client, ClientStands, ClientsStand, NodeMatch, node_number}
+use Rattle.node_world.specs.Stands.{MemNode, client_part, peer_part, live_client, ClientStands, ClientsStand, BaseStands, IsOfBase, NodeMatch, node_number}
+use Rattle.node_world.proofs.OfBase.{bases_set, fed_of, free_of, left_of, posted_of, pulled_of, stays_of}
 use Rattle.node_world.proofs.Nodes.{off_kept}
 use Rattle.node_world.proofs.Shelved.{same_shelves}
 use Rattle.node_world.proofs.Conns.{ClientLeft, client_left, client_pull_left, post_left, client_got, clients_set, key_if}
@@ -50,6 +51,10 @@ found seat plain c key has stands = by (plain.clients c) refl (subst (λ o. Clie
         → (client : PlainClient) × (s ≡ Some client) × (client_part (get seat.node.conns key) ≡ Some (live_client client))
     by None e h = absurd h
     by (Some client) e h = (client, refl, h)
+
+-- so is its base
+base_found : (seat : ScriptNode) (plain : PlainNode) (c key : ℕ) (has : value_at seat.clients c ≡ Some key) (stands : NodeMatch seat plain) → BaseStands (Some (found seat plain c key has stands).0) (value_at seat.bases c)
+base_found seat plain c key has stands = subst (λ s. BaseStands s (value_at seat.bases c)) (found seat plain c key has stands).1 (stands.bases c)
 
 -- the value behind a reference is there where the reference is
 pub some_copied : {T : Type 0} (o : Option (Bor T)) → is_some (option_copied o) ≡ is_some o
@@ -84,7 +89,7 @@ not_pulled old c frames none = refused_by old (refusal cause.LinkClosed) (pull_a
 pub not_hung : (old : ScriptNode) (keys : List (ℕ × ℕ)) (c : ℕ) → value_at old.clients c ≡ None → Renumbered old.clients keys c None → Carries (hang_at c) old (refusal cause.LinkClosed) (record old { clients = keys })
 not_hung old keys c none rekeyed plain stands =
     let e : hang_at c plain ≡ (plain, refusal cause.LinkClosed) = ap (hung_if c plain) (no_client old plain c none stands) in (
-      subst (NodeMatch (record old { clients = keys })) (sym (ap (λ (x : PlainNode × Told). x.0) e)) (record { slots = stands.slots; shelves = stands.shelves; made = stands.made; clock = stands.clock; clients = clients_rekeyed; arm = stands.arm; off = off_kept old (record old { clients = keys }) plain.off refl (record { number = refl; peers = λ key. refl; dials = λ v. refl }) stands.off }),
+      subst (NodeMatch (record old { clients = keys })) (sym (ap (λ (x : PlainNode × Told). x.0) e)) (record { slots = stands.slots; shelves = stands.shelves; made = stands.made; clock = stands.clock; clients = clients_rekeyed; bases = stands.bases; arm = stands.arm; off = off_kept old (record old { clients = keys }) plain.off refl (record { number = refl; peers = λ key. refl; dials = λ v. refl }) stands.off }),
       sym (ap (λ (x : PlainNode × Told). x.1) e),
       record { number = refl; peers = λ key. refl; dials = λ v. refl },
     )
@@ -125,29 +130,33 @@ abbrev pub reseated : ScriptNode → MemNode → List (ℕ × ℕ) → ScriptNod
 reseated old node keys = record old { node = node; clients = keys }
 
 -- a connection is opened
-module _ (old : ScriptNode) (base c key : ℕ) (node : MemNode) (keys : List (ℕ × ℕ)) (unused : is_some (value_at old.clients c) ≡ false) (opened : Opened (kind.Client c base) old.node key node)
-    (rekeyed : Renumbered old.clients keys c (Some key)) where
+module _ (old : ScriptNode) (base c key : ℕ) (node : MemNode) (keys bases : List (ℕ × ℕ)) (unused : is_some (value_at old.clients c) ≡ false) (opened : Opened (kind.Client c base) old.node key node)
+    (rekeyed : Renumbered old.clients keys c (Some key)) (rebased : Renumbered old.bases bases c (Some base)) where
+  abbrev new : ScriptNode
+  new = record (reseated old node keys) { bases = bases }
+
   abbrev client : PlainClient
   client = new_client (record { node = node_number old; client = c; base = base })
 
-  pub opens : Carries (client_at (node_number old) base c) old (done []) (reseated old node keys)
+  pub opens : Carries (client_at (node_number old) base c) old (done []) new
   opens plain stands =
       let e : client_at (node_number old) base c plain ≡ (with_client plain c (Some client), done []) = ap (λ b. if b then (plain, refusal cause.LinkOpen) else (with_client plain c (Some client), done [])) (keyed old plain c stands ∙ unused) in (
-        subst (NodeMatch (reseated old node keys)) (sym (ap (λ (x : PlainNode × Told). x.0) e)) (record {
+        subst (NodeMatch new) (sym (ap (λ (x : PlainNode × Told). x.0) e)) (record {
           slots = subst (λ vbs. SlotsStand vbs plain.vbs) (sym (ap (λ (x : MemNode). x.vbs) opened.rest)) stands.slots;
           shelves = same_shelves node old.node plain.shelves (ap (λ (x : MemNode). x.disks) opened.rest) stands.shelves;
           made = stands.made;
           clock = stands.clock;
           clients = clients_set old.clients keys old.node.conns node.conns plain.clients c key (Some client) (alone plain stands) mine rekeyed (part_at client_part old.node.conns node.conns key _ opened.conns)
               (part_but client_part old.node.conns node.conns key _ opened.conns) stands.clients;
+          bases = bases_set old.bases bases plain.clients c (Some client) rebased.others (subst (BaseStands (Some client)) (sym rebased.changed) (free_of base client.session refl refl)) stands.bases;
           arm = stands.arm;
-          off = off_kept old (reseated old node keys) plain.off refl keeps stands.off;
+          off = off_kept old new plain.off refl keeps stands.off;
         }),
         sym (ap (λ (x : PlainNode × Told). x.1) e),
         keeps,
       )
     where
-      keeps : KeepsEnds old (reseated old node keys)
+      keeps : KeepsEnds old new
       keeps = record {
         number = ap (λ (x : MemNode). x.number) opened.rest;
         peers = part_stays peer_part old.node.conns node.conns key _ opened.conns (sym (ap peer_part opened.free));
@@ -174,8 +183,8 @@ module _ (old : ScriptNode) (c key : ℕ) (node : MemNode) (keys : List (ℕ × 
   -- it is left as this, or not at all, under the key
   module _ (slot : Option Conn) (updates : slab.Updates old.node.conns node.conns key slot) (rest : node ≡ record old.node { vbs = node.vbs; conns = node.conns }) where
     pub leaves_client : (plain : PlainNode) (stands : NodeMatch old plain) (states : States) (left : Option PlainClient) → SlotsStand node.vbs states → client_part slot ≡ option_map live_client left → peer_part slot ≡ None
-        → Renumbered old.clients keys c (key_if key left) → NodeMatch (reseated old node keys) (with_client (with_states plain states) c left) × KeepsEnds old (reseated old node keys)
-    leaves_client plain stands states left slots part peer rekeyed = (
+        → BaseStands left (value_at old.bases c) → Renumbered old.clients keys c (key_if key left) → NodeMatch (reseated old node keys) (with_client (with_states plain states) c left) × KeepsEnds old (reseated old node keys)
+    leaves_client plain stands states left slots part peer based rekeyed = (
       record {
         slots = slots;
         shelves = same_shelves node old.node plain.shelves (ap (λ (x : MemNode). x.disks) rest) stands.shelves;
@@ -183,6 +192,7 @@ module _ (old : ScriptNode) (c key : ℕ) (node : MemNode) (keys : List (ℕ × 
         clock = stands.clock;
         clients = clients_set old.clients keys old.node.conns node.conns plain.clients c key left (λ d also. stands.clients.apart d c key also has) mine rekeyed
             (part_at client_part old.node.conns node.conns key slot updates ∙ part) (part_but client_part old.node.conns node.conns key slot updates) stands.clients;
+        bases = bases_set old.bases old.bases plain.clients c left (λ d ne. refl) based stands.bases;
         arm = stands.arm;
         off = off_kept old (reseated old node keys) plain.off refl keeps stands.off;
       },
@@ -197,7 +207,7 @@ module _ (old : ScriptNode) (c key : ℕ) (node : MemNode) (keys : List (ℕ × 
         }
 
   -- it goes on, through what this says of the clock and the client
-  module _ (goes : ℕ → PlainClient → Prog Handling) (out : NodeOut) (left : Conn) (updates : slab.Updates old.node.conns node.conns key (kept_unless out.closed left))
+  module _ (goes : ℕ → PlainClient → Prog Handling) (goes_so : (base clock : ℕ) (s : PlainClient) (states : States) → IsOfBase base s.session → IsOfBase base (after (goes clock s) states).1.client.session) (out : NodeOut) (left : Conn) (updates : slab.Updates old.node.conns node.conns key (kept_unless out.closed left))
       (rest : node ≡ record old.node { vbs = node.vbs; conns = node.conns }) (rekeyed : Renumbered old.clients keys c (if out.closed then None else value_at old.clients c)) where
     -- what becomes of a plain node
     abbrev pub WentOn : PlainNode → States × Handling → Type 0
@@ -206,7 +216,7 @@ module _ (old : ScriptNode) (c key : ℕ) (node : MemNode) (keys : List (ℕ × 
     pub went_on : (plain : PlainNode) (stands : NodeMatch old plain) → ClientLeft (alone_step SlotsStand) old.node.vbs node.vbs out (goes old.clock (found old plain c key has stands).0) left
         → WentOn plain (after (goes plain.clock (found old plain c key has stands).0) plain.vbs)
     went_on plain stands left_by =
-        let (alike, keeps) = leaves_client slot updates rest plain stands came.0 (left_open came.1.client) known.1 left_is (no_peer handling.client.session.closed left_by.3) rekeyed_as in
+        let (alike, keeps) = leaves_client slot updates rest plain stands came.0 (left_open came.1.client) known.1 left_is (no_peer handling.client.session.closed left_by.3) based rekeyed_as in
         (alike, said ∙ ap client_out known.0, keeps)
       where
         client : PlainClient
@@ -223,6 +233,11 @@ module _ (old : ScriptNode) (c key : ℕ) (node : MemNode) (keys : List (ℕ × 
 
         came : States × Handling
         came = after (goes plain.clock client) plain.vbs
+
+        based : BaseStands (left_open came.1.client) (value_at old.bases c)
+        based =
+            left_of came.1.client (value_at old.bases c)
+            (stays_of (value_at old.bases c) client came.1.client (λ base of. goes_so base plain.clock client plain.vbs of) (base_found old plain c key has stands))
 
         known : (handling ≡ came.1) × SlotsStand node.vbs came.0
         known =
@@ -258,7 +273,7 @@ module _ (old : ScriptNode) (c key : ℕ) (node : MemNode) (keys : List (ℕ × 
     feeds plain stands =
         let (client, there, live) = found old plain c key has stands in
         let fed : Fed (alone_step SlotsStand) old.clock key piece (client_conn client) old.node out node = subst (λ o. FedAt (alone_step SlotsStand) old.clock key piece o old.node out node) (is_client plain stands) went in
-        let on = went_on (λ clock s. client_fed clock piece s) out fed.left fed.conns fed.rest rekeyed plain stands (client_left (alone_step SlotsStand) old.node.vbs node.vbs out old.clock piece client fed.left fed.fed) in
+        let on = went_on (λ clock s. client_fed clock piece s) (λ base clock s states of. fed_of base clock piece s states of) out fed.left fed.conns fed.rest rekeyed plain stands (client_left (alone_step SlotsStand) old.node.vbs node.vbs out old.clock piece client fed.left fed.fed) in
         subst (λ (x : PlainNode × Told). NodeMatch (reseated old node keys) x.0 × (out_told out ≡ x.1) × KeepsEnds old (reseated old node keys)) (sym (ap (bytes_if c piece plain) there))
         (on.0, ap out_told on.1, on.2)
 
@@ -269,7 +284,7 @@ module _ (old : ScriptNode) (c key : ℕ) (node : MemNode) (keys : List (ℕ × 
     posts plain stands =
         let (client, there, live) = found old plain c key has stands in
         let post : Posted (alone_step SlotsStand) old.clock key outcome (client_conn client) old.node out node = subst (λ o. PostedAt (alone_step SlotsStand) old.clock key outcome o old.node out node) (is_client plain stands) went in
-        let on = went_on (λ clock s. client_posted clock outcome s) out post.left post.conns post.rest rekeyed plain stands (post_left (alone_step SlotsStand) old.node.vbs node.vbs out old.clock outcome client post.left post.posted) in
+        let on = went_on (λ clock s. client_posted clock outcome s) (λ base clock s states of. posted_of base clock outcome s states of) out post.left post.conns post.rest rekeyed plain stands (post_left (alone_step SlotsStand) old.node.vbs node.vbs out old.clock outcome client post.left post.posted) in
         subst (λ (x : PlainNode × List Event). NodeMatch (reseated old node keys) x.0 × (out.events ≡ x.1) × KeepsEnds old (reseated old node keys)) (sym (ap (posted_if c outcome plain) there))
         (on.0, ap (λ (o : NodeOut). o.events) on.1, on.2)
 
@@ -280,7 +295,7 @@ module _ (old : ScriptNode) (c key : ℕ) (node : MemNode) (keys : List (ℕ × 
         let (client, there, live) = found old plain c key has stands in
         let shut : Shut (alone_step SlotsStand) key (client_conn client) old.node out node = subst (λ o. ShutAt (alone_step SlotsStand) key o old.node out node) (is_client plain stands) went in
         let known = alone_after SlotsStand (end_closed client.producer) old.node.vbs tt node.vbs shut.closed plain.vbs stands.slots in
-        let (alike, keeps) = leaves_client None shut.conns shut.rest plain stands (after (end_closed client.producer) plain.vbs).0 None known.1 refl refl rekeyed in
+        let (alike, keeps) = leaves_client None shut.conns shut.rest plain stands (after (end_closed client.producer) plain.vbs).0 None known.1 refl refl tt rekeyed in
         subst (λ (x : PlainNode × Told). NodeMatch (reseated old node keys) x.0 × (done [] ≡ x.1) × KeepsEnds old (reseated old node keys)) (sym (ap (hung_if c plain) there)) (alike, refl, keeps)
 
 -- a connection of this key puts frames of its streams
@@ -294,6 +309,7 @@ module _ (old : ScriptNode) (c key frames : ℕ) (out : NodeOut) (node : MemNode
       let came : States × ClientPulled = after (client_pulled frames client) plain.vbs in
       let known = alone_after SlotsStand (client_pulled frames client) old.node.vbs told node.vbs ran plain.vbs stands.slots in
       let (alike, keeps) = leaves_client old c key node old.clients has (Some pulled.left) pulled.conns pulled.rest plain stands came.0 (Some came.1.client) known.1
-      (ap (λ x. client_part (Some x)) left ∙ ap (λ (t : ClientPulled). Some (live_client t.client)) known.0) (ap (λ x. peer_part (Some x)) left) (record { changed = has; others = λ other ne. refl }) in
+      (ap (λ x. client_part (Some x)) left ∙ ap (λ (t : ClientPulled). Some (live_client t.client)) known.0) (ap (λ x. peer_part (Some x)) left)
+      (stays_of (value_at old.bases c) client came.1.client (λ base of. pulled_of base frames client plain.vbs of) (base_found old plain c key has stands)) (record { changed = has; others = λ other ne. refl }) in
       subst (λ (x : PlainNode × Told). NodeMatch (reseated old node old.clients) x.0 × (out_told out ≡ x.1) × KeepsEnds old (reseated old node old.clients)) (sym (ap (pull_if c frames plain) there))
       (alike, ap out_told (said ∙ ap client_pull_out known.0), keeps)

@@ -264,7 +264,7 @@ module _ (kept : Kept) (w : PlainWorld) (line l m n v buffer at m_at : ℕ) (old
     still : (x : PlainNode) → NodeMatch old x → NodeMatch new x
     still x same =
         let known = (dials x same (own_up x same)).0 in
-        record { slots = asked_kept v free new.node.vbs x.vbs known.slots; shelves = known.shelves; made = known.made; clock = known.clock; clients = known.clients; arm = known.arm; off = known.off }
+        record { slots = asked_kept v free new.node.vbs x.vbs known.slots; shelves = known.shelves; made = known.made; clock = known.clock; clients = known.clients; bases = known.bases; arm = known.arm; off = known.off }
 
     -- it was refused
     refused : (why : Cause) → said ≡ Err why → WorldStands (record kept { nodes = nodes' }) (link_step w line l m n v buffer).0 × (out_told out ≡ (link_step w line l m n v buffer).1)

@@ -216,6 +216,7 @@ arm_carried old arm plain alike = (
     made = alike.made;
     clock = alike.clock;
     clients = alike.clients;
+    bases = alike.bases;
     arm = refl;
     off = off_still plain.off alike.off;
   },

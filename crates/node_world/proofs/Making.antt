@@ -130,6 +130,7 @@ counted_node node plain m k same stands = record {
   made = same;
   clock = stands.clock;
   clients = stands.clients;
+  bases = stands.bases;
   arm = stands.arm;
   off = off_stays node (record node { made = m }) plain.off refl (λ key none. none) (λ v none. none) stands.off;
 }
@@ -225,6 +226,7 @@ module _ (old mid ready armed left : ScriptNode) (there : Bool) (v : ℕ) (role 
         made = waits.made;
         clock = waits.clock;
         clients = subst (λ (x : MemNode). ClientsStand armed.clients x.conns plain.clients) (sym went.rest) waits.clients;
+        bases = waits.bases;
         arm = waits.arm;
         off = off_kept armed (inside armed node) plain.off refl stays waits.off;
       }

@@ -41,6 +41,7 @@ use Rattle.node_world.specs.Lines.{out_told, was_there}
 use Rattle.node_world.specs.Nodes.{PlainNode, with_kept, with_states}
 use Rattle.node_world.specs.Stands.{MemNode, client_part, peer_part, NodeMatch, OffStands, node_number}
 use Rattle.node_world.specs.Turns.{KeepsRole, called_at, admin_line}
+use Rattle.node_world.proofs.OfBase.{bases_told}
 use Rattle.node_world.proofs.Conns.{told_clients, told_peers, untold_clients, untold_peers, clients_told}
 
 -- the node with another inside
@@ -105,6 +106,7 @@ with_told v ended old node plain states held slots shelves told off stands = rec
   made = stands.made;
   clock = stands.clock;
   clients = clients_told v ended old.clients old.node.conns node.conns plain.clients told stands.clients;
+  bases = bases_told v ended old.bases plain.clients stands.bases;
   arm = stands.arm;
   off = off;
 }
@@ -228,7 +230,7 @@ module _ (old : ScriptNode) (v : ℕ) (out : NodeOut) (node : MemNode) (went : A
       by : (plain : PlainNode) (o : Option Plain) → plain.vbs v ≡ o → NodeMatch (inside old node) (with_states plain (call_at plain.vbs v call.Log o).0)
           → was_there out.answer ≡ was_there (admin_result (node_number old) v admin.Log (call_at plain.vbs v call.Log o).1).answer
           → NodeMatch (inside old node) plain × (was_there out.answer ≡ is_some o)
-      by plain None there alike said = (record { slots = alike.slots; shelves = alike.shelves; made = alike.made; clock = alike.clock; clients = alike.clients; arm = alike.arm; off = alike.off }, said)
+      by plain None there alike said = (record { slots = alike.slots; shelves = alike.shelves; made = alike.made; clock = alike.clock; clients = alike.clients; bases = alike.bases; arm = alike.arm; off = alike.off }, said)
       by plain (Some vb) there alike said = (
         record {
           slots = unchanged node.vbs plain.vbs v vb there alike.slots;
@@ -236,6 +238,7 @@ module _ (old : ScriptNode) (v : ℕ) (out : NodeOut) (node : MemNode) (went : A
           made = alike.made;
           clock = alike.clock;
           clients = alike.clients;
+          bases = alike.bases;
           arm = alike.arm;
           off = alike.off;
         },

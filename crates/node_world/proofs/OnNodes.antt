@@ -204,6 +204,7 @@ module _ (node : ScriptNode) (vbs : node.node.vbs ≡ []) (disks : node.node.dis
       apart = λ c d key has also. let no : None ≡ Some key = sym (no_key c) ∙ has in cc;
       owned = λ key has. let no : false ≡ true = sym (ap (λ o. is_some (client_part o)) (no_conn key)) ∙ has in cc;
     };
+    bases = λ c. tt;
     arm = arm;
     off = off;
   }

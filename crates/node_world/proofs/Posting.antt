@@ -1,5 +1,5 @@
 -- what became of durable writes, told to the clients that await it
-use Rattle.std.proofs.Common.{◌≡◌, ℕ, zero, suc, ◌+◌, ◌<◌, Bool, true, false, List, [], ◌∷◌, ◌++◌, drop, get_or, length, refl, sym, ap, ◌∙◌, subst, Option, Some, None, is_some, arith, append_assoc, append-nil}
+use Rattle.std.proofs.Common.{◌≡◌, ℕ, zero, suc, ◌+◌, ◌-◌, ◌/◌, ◌^◌, ◌<◌, ◌≤◌, Bool, true, false, List, [], ◌∷◌, ◌++◌, drop, get_or, length, refl, sym, ap, ◌∙◌, subst, Option, Some, None, is_some, arith, append_assoc, append-nil}
 use Rattle.std.specs.Prelude.{if◌then◌else◌}
 use Rattle.std.proofs.lemmas.List.{drop_more}
 use Rattle.slab.specs.Slab.{get}
@@ -19,7 +19,9 @@ use Rattle.node_world.specs.declared.told.Told.{Told}
 use Rattle.node_world.specs.Ends.{Carries, KeepsEnds, Posts, PostsAll, PostsSo, PostsTo}
 use Rattle.node_world.specs.Nodes.{PlainNode, all_posted, awaiting, awaiting_at, awaits_in, first_of, flush_line, posted, posted_if, posted_to, settled, with_kept, with_posts, with_states}
 use Rattle.node_world.specs.Stands.{NodeMatch, node_number}
+use Rattle.node_world.specs.Bases.{NoneHas}
 use Rattle.node_world.proofs.Armed.{both_keep}
+use Rattle.node_world.proofs.OfBase.{not_of_base}
 use Rattle.node_world.proofs.Clients.{found, keyed}
 use Rattle.node_world.proofs.Conns.{client_got}
 use Rattle.node_world.proofs.Nodes.{Flushes, SettlesBy}
@@ -65,6 +67,25 @@ module _ (clients : ℕ → Option PlainClient) (waiter : ℕ) where
 
   pub is_first : (c more n : ℕ) → more + suc c ≡ n → awaits_in waiter (clients c) ≡ true → awaiting clients waiter c ≡ None → awaiting clients waiter n ≡ Some c
   is_first c more n same e none = sym (ap (awaiting clients waiter) same) ∙ stay c more (at_next c true e none)
+
+  none_passed : (from more : ℕ) → ((d : ℕ) → from ≤ d → d < more + from → awaits_in waiter (clients d) ≡ false) → awaiting clients waiter from ≡ None → awaiting clients waiter (more + from) ≡ None
+  none_passed from zero others none = let same : 0 + from ≡ from = omega arith in ap (awaiting clients waiter) same ∙ none
+  none_passed from (suc more) others none =
+      let same : suc more + from ≡ suc (more + from) = omega arith in
+      let before = none_passed from more (λ d above below. others d above (omega (arith, below))) none in
+      ap (awaiting clients waiter) same ∙ at_next (more + from) false (others (more + from) (omega arith) (omega arith)) before
+
+  -- numbers that are passed over, none of which awaits it
+  none_between : (from n : ℕ) → from ≤ n → ((d : ℕ) → from ≤ d → d < n → awaits_in waiter (clients d) ≡ false) → awaiting clients waiter from ≡ None → awaiting clients waiter n ≡ None
+  none_between from n le others none =
+      let same : n - from + from ≡ n = omega (arith, le) in
+      subst (λ m. awaiting clients waiter m ≡ None) same (none_passed from (n - from) (λ d above below. others d above (omega (arith, le, below))) none)
+
+-- connections of other bases are passed over
+pub passed_over : (seat : ScriptNode) (plain : PlainNode) (waiter base from n : ℕ) → base ≡ waiter / 2 ^ 32 → from ≤ n → NoneHas base from n seat.bases → NodeMatch seat plain → awaiting plain.clients waiter from ≡ None
+    → awaiting plain.clients waiter n ≡ None
+passed_over seat plain waiter base from n same le others stands none =
+    none_between plain.clients waiter from n le (λ d above below. not_of_base seat plain waiter d (λ is. others d above below (is ∙ ap Some (sym same))) stands) none
 
 -- ---- outcomes, one after the other
 

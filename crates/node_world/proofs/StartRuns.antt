@@ -180,6 +180,7 @@ still_down old new back arm arm' plain books down are same stands bare = subst (
   made = stands.made;
   clock = stands.clock;
   clients = stands.clients;
+  bases = stands.bases;
   arm = same;
   off = record { there = down.there; bear = some_weaker new.off _ _ (λ disks is. subst (λ ds. AreBooks ds books) (sym is) are) down.disks; peers = bare.peers; dials = bare.dials };
 })
@@ -244,6 +245,7 @@ module _ (disks : List (VbDisk FuseStorage)) (ids : List ℕ) (old : ScriptNode)
           made = loads.made ∙ ap (λ bs. length (filter is_there bs)) opens.books_are;
           clock = refl;
           clients = record { each = λ c. tt; apart = λ c d key has also. cc; owned = λ key has. let no : false ≡ true = sym (ap (λ o. is_some (client_part o)) (no_conn key)) ∙ has in cc };
+          bases = λ c. tt;
           arm = arm_left plain books (bears books are) stands.arm;
           off = stands.off;
         }
@@ -300,4 +302,4 @@ starts_up ids old mid new told disks is there taken runs plain stands down = by 
         )
       where
         up : NodeMatch (record old { off = None }) (record plain { off = None })
-        up = record { slots = stands.slots; shelves = stands.shelves; made = stands.made; clock = stands.clock; clients = stands.clients; arm = stands.arm; off = refl }
+        up = record { slots = stands.slots; shelves = stands.shelves; made = stands.made; clock = stands.clock; clients = stands.clients; bases = stands.bases; arm = stands.arm; off = refl }

@@ -58,6 +58,7 @@ module _ (old new : ScriptNode) (out : Outcome) (number : node_number new ≡ no
         apart = λ c d key has also. let no : None ≡ Some key = sym (no_key c) ∙ has in cc;
         owned = λ key has. let no : false ≡ true = sym (ap (λ o. is_some (client_part o)) (no_conn key)) ∙ has in cc;
       };
+      bases = λ c. tt;
       arm = arm;
       off = record { there = there; bear = bear plain.shelves stands.shelves; peers = no_peer; dials = no_dial };
     },

@@ -1,5 +1,6 @@
 pub mod Pairing
 pub mod Arms
+pub mod Bases
 pub mod Nodes
 pub mod Links
 pub mod Worlds

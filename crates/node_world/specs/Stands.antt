@@ -1,5 +1,5 @@
 -- what the world that is kept stands for
-use Rattle.std.specs.Prelude.{◌≡◌, ◌≢◌, ℕ, ◌==◌, ◌&&◌, Bool, true, false, List, Option, Some, None, is_some, IfSome}
+use Rattle.std.specs.Prelude.{◌≡◌, ◌≢◌, ℕ, ◌/◌, ◌^◌, ◌==◌, ◌&&◌, Bool, true, false, List, Option, Some, None, is_some, IfSome}
 use Rattle.std.specs.BTreeMap.{is_at}
 use Rattle.std.specs.List.{list_any}
 use Rattle.std.specs.Ordering.{nat_cmp}
@@ -9,6 +9,7 @@ use Rattle.slab.specs.Slab.{Slab, get}
 use Rattle.disk_journals.specs.Books.{AreBooks, Book}
 use Rattle.disk_journals.specs.Devices.{fuse_device}
 use Rattle.vb_disk.specs.Fused.{FuseStorage}
+use Rattle.client_session.specs.Serving.{PlainSession, awaits}
 use Rattle.node_core.specs.Clients.{PlainClient, KeptClient}
 use Rattle.vbucket.specs.declared.vb_map.VbSlot.{VbSlot}
 use Rattle.vbucket.specs.Rows.{row_at}
@@ -57,6 +58,21 @@ pub record ClientsStand (keys : List (ℕ × ℕ)) (conns : Slab Conn) (clients 
   pub apart : (c d key : ℕ) → value_at keys c ≡ Some key → value_at keys d ≡ Some key → c ≡ d
   pub owned : (key : ℕ) → is_some (client_part (get conns key)) ≡ true → (c : ℕ) × (value_at keys c ≡ Some key)
 
+-- a connection has this base, and awaits no outcome but one for a waiter of this base
+pub record IsOfBase (base : ℕ) (session : PlainSession) : Type 0 where
+  pub own : session.who.base ≡ base
+  pub waits : (waiter : ℕ) → awaits waiter session.awaited ≡ true → waiter / 2 ^ 32 ≡ base
+
+-- the base that is kept for a connection, if there is one, is its own
+abbrev pub BaseStands : Option PlainClient → Option ℕ → Type 0
+BaseStands None base = Unit {0}
+BaseStands (Some client) None = ⊥
+BaseStands (Some client) (Some base) = IsOfBase base client.session
+
+-- the bases by the connections' numbers are those of the connections
+abbrev pub BasesStand : List (ℕ × ℕ) → (ℕ → Option PlainClient) → Type 0
+BasesStand bases clients = (c : ℕ) → BaseStands (clients c) (value_at bases c)
+
 -- a node that keeps its journals on disks in memory, under arms
 abbrev pub MemNode : Type 0
 MemNode = Node (List VbSlot) (List (Seen FuseStorage))
@@ -73,13 +89,14 @@ abbrev pub OffStands : ScriptNode → Option (List Book) → Type 0
 OffStands node None = node.off ≡ None
 OffStands node (Some books) = IsOff node books
 
--- a node stands for a plain one: in its vBuckets and their journals, in how many it made, in its clock, in its client connections, in its arm, and in its disks while it is down
+-- a node stands for a plain one: in its vBuckets and their journals, in how many it made, in its clock, in its client connections and their bases, in its arm, and in its disks while it is down
 pub record NodeMatch (node : ScriptNode) (plain : PlainNode) : Type 0 where
   pub slots : SlotsStand node.node.vbs plain.vbs
   pub shelves : ShelvesStand fuse_device node.node.disks plain.shelves
   pub made : node.made ≡ plain.made
   pub clock : node.clock ≡ plain.clock
   pub clients : ClientsStand node.clients node.node.conns plain.clients
+  pub bases : BasesStand node.bases plain.clients
   pub arm : node.arm ≡ plain.arm
   pub off : OffStands node plain.off
 

@@ -2,6 +2,7 @@
 #![tactic(auto)]
 
 mod arm;
+mod bases;
 mod crashes;
 mod ids;
 mod indexer_laws;
@@ -18,6 +19,7 @@ mod told;
 mod world;
 
 pub use arm::{Arm, Fired};
+pub use bases::Bases;
 use ids::Ids;
 pub use indexer_laws::clients_are_served;
 pub use laws::{

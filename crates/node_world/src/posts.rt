@@ -1,5 +1,5 @@
 //! What became of durable writes, told to the clients that await it.
-ghost use Rattle.std.specs.Prelude.{◌≡◌, IfOk, OnOk};
+ghost use Rattle.std.specs.Prelude.{◌≡◌, ◌/◌, ◌^◌, IfOk, OnOk};
 ghost use Rattle.{node_core.specs.Outs.{flush_by}, node_world.specs.Ends.{Carries, Posts, PostsAll, PostsTo}};
 ghost use Rattle.{node_world.specs.Nodes.{PlainNode, awaiting, awaits_in, with_posts}, node_world.specs.Stands.{NodeMatch}};
 ghost use Rattle.node_world.specs.declared.script_node.TheConstants.{MAX_CLIENTS};
@@ -11,6 +11,13 @@ use std::alloc::Global;
 use vb_calls::Resolved;
 use vb_events::Event;
 use vb_types::Listed;
+
+/// The base of the connection that asked for the durable write of a waiter.
+fn base_of(waiter: u64) -> u32
+    ensures { result ≡ waiter / 2 ^ 32 }
+{
+    (waiter / (1 << 32)) as u32
+}
 
 impl ScriptNode {
     /// Whether the connection of a number, if there is one, awaits the outcome of the durable write of
@@ -24,14 +31,18 @@ impl ScriptNode {
         }
     }
 
-    /// The first connection that awaits the outcome of the durable write of this waiter.
+    /// The first connection that awaits the outcome of the durable write of this waiter. Only those of
+    /// the waiter's base are asked: one, in a script of fewer than 2^32 lines.
     fn awaiting(&self, waiter: u64) -> Option<u32>
         ensures { (plain : PlainNode) → NodeMatch self.now plain → result ≡ awaiting plain.clients waiter MAX_CLIENTS }
     {
-        for client in 0..MAX_CLIENTS {
+        let base = base_of(waiter);
+        let mut from = 0;
+        while let Some(client) = self.bases.next(base, from, MAX_CLIENTS) {
             if self.awaits(client, waiter) {
                 return Some(client);
             }
+            from = client + 1;
         }
         None
     }

@@ -7,7 +7,7 @@ ghost use Rattle.node_world.specs.Lines.{was_there, counted, made_unless, at_nod
 ghost use Rattle.{node_world.specs.Nodes.{PlainNode, bad_chain_cause, first_cause, limit_causes, uuid_causes, client_at, bytes_at, hang_at, pull_at, clock_at, flush_line, save_line, chain_line, tick_line}, node_world.specs.Stands.{IdsStand, NodeMatch}};
 ghost use Rattle.{node_world.specs.Turns.{KeepsRole, admin_line}, vb_types.specs.declared.role.Role.TheVariants.{Active, Pending}};
 
-use crate::{Alloc, Arm, Ids, Told};
+use crate::{Alloc, Arm, Bases, Ids, Told};
 use bytes::{Bytes, BytesMut};
 use disk_journals::{DiskJournals, Disks};
 use durability::Chain;
@@ -19,13 +19,14 @@ use vb_events::{Answer, Cause, Event, StreamName};
 use vb_types::{FlushPart, Listed, Role};
 use vbucket::VbMap;
 
-/// A node whose journals are on disks in memory, and what the script alone knows of it: the keys of
-/// its client connections by their numbers, what its clock shows in nanoseconds, how many vBuckets
-/// it has, its arm, and its disks while it is not running. Its node is an empty one then.
+/// A node whose journals are on disks in memory, and what the script alone knows of it: the keys and
+/// the bases of its client connections by their numbers, what its clock shows in nanoseconds, how many
+/// vBuckets it has, its arm, and its disks while it is not running. Its node is an empty one then.
 #[derive(Drop)]
 pub struct ScriptNode {
     pub node: Node<VbMap, DiskJournals<FuseDisk>>,
     pub clients: Numbered<usize>,
+    pub bases: Bases,
     pub clock: u64,
     pub made: usize,
     pub arm: Arm,
@@ -132,6 +133,7 @@ impl ScriptNode {
         ScriptNode {
             node: Node::over(alloc, number, VbMap::new(alloc), DiskJournals::new(alloc)),
             clients: Numbered::new(alloc),
+            bases: Bases::new(alloc),
             clock: 0,
             made: 0,
             arm: Arm::off(),
@@ -259,6 +261,7 @@ impl ScriptNode {
             return Ok(Told::refusal(alloc, Cause::LinkOpen));
         }
         let key = self.node.open(ConnKind::Client { client, base })?;
+        self.bases.set(client, base)?;
         self.clients.put(client, key)?;
         Ok(Told::done(Listed::new(alloc)))
     }
