@@ -1,7 +1,7 @@
 -- bytes, cut into lines
 use Rattle.std.proofs.Common.{◌≡◌, ℕ, zero, suc, ◌+◌, ◌-◌, ◌<◌, ◌≤◌, true, false, cond, List, [], ◌∷◌, length, take, drop, get_or, Some, None, Err, ap, sym, ◌∙◌, add-one, length-drop, arith}
 use Rattle.std.specs.Prelude.{◌==◌, position}
-use Rattle.std.specs.List.{onto_first, position_or_len}
+use Rattle.std.specs.List.{onto_first, position_or_len, slice_split}
 use Rattle.std.proofs.lemmas.List.{take_all}
 use Rattle.std.proofs.lemmas.List.Elements.{All-from_get_or}
 use Rattle.std.proofs.lemmas.List.Quantifiers.{position-Some}
@@ -11,38 +11,39 @@ use Rattle.script_text.specs.ReadBack.{put_text, or_bad, cut_lines, read_from}
 use Rattle.script_text.specs.declared.read_transcript.Reading.{Reading}
 use Rattle.script_text.proofs.Rows.{First, first_part}
 
--- ---- the first newline
+-- ---- the first byte that parts a text
 
-cut_there : (bytes : List ℕ) (k : ℕ) → k < length bytes → (get_or bytes k 0 == 10) ≡ true → ((j : ℕ) → j < k → (get_or bytes j 0 == 10) ≡ false)
-    → cut_lines bytes ≡ take k bytes ∷ cut_lines (drop (suc k) bytes)
-cut_there [] k h here before = absurd (omega arith)
-cut_there (b ∷ bytes) zero h here before = ap (λ t. cond t ([] ∷ cut_lines bytes) (onto_first b (cut_lines bytes))) here
-cut_there (b ∷ bytes) (suc k) h here before =
-    ap (λ t. cond t ([] ∷ cut_lines bytes) (onto_first b (cut_lines bytes))) (before 0 (omega arith))
-    ∙ ap (onto_first b) (cut_there bytes k (omega arith) here (λ j lt. before (suc j) (omega arith)))
+module _ (c : ℕ) where
+  abbrev parts : List ℕ → List (List ℕ)
+  parts text = slice_split (λ b. b == c) text
 
--- what stands behind the first newline is shorter
-rest_length : (n k : ℕ) → k < n → n - (k + 1) < n
-rest_length n k h = omega arith
+  cut_there : (text : List ℕ) (k : ℕ) → k < length text → (get_or text k 0 == c) ≡ true → ((j : ℕ) → j < k → (get_or text j 0 == c) ≡ false)
+      → parts text ≡ take k text ∷ parts (drop (suc k) text)
+  cut_there [] k h here before = absurd (omega arith)
+  cut_there (b ∷ text) zero h here before = ap (λ t. cond t ([] ∷ parts text) (onto_first b (parts text))) here
+  cut_there (b ∷ text) (suc k) h here before =
+      ap (λ t. cond t ([] ∷ parts text) (onto_first b (parts text))) (before 0 (omega arith))
+      ∙ ap (onto_first b) (cut_there text k (omega arith) here (λ j lt. before (suc j) (omega arith)))
 
-pub cut_first : (bytes : List ℕ) (k : ℕ) → position (λ b. b == 10) bytes ≡ Some k
-    → (let rest = take (length bytes - (k + 1)) (drop (k + 1) bytes) in (cut_lines bytes ≡ take k bytes ∷ cut_lines rest) × (length rest < length bytes))
-cut_first bytes k h =
-    let found = position-Some (λ b. b == 10) bytes k 0 h in
-    let all = take_all (length bytes - (k + 1)) (drop (k + 1) bytes) (omega (arith, length-drop (k + 1) bytes)) in
-    let rest : take (length bytes - (k + 1)) (drop (k + 1) bytes) ≡ drop (suc k) bytes = all ∙ ap (λ n. drop n bytes) (add-one k) in
-    let within = found.0 in (
-      cut_there bytes k found.0 found.1 found.2 ∙ ap (λ more. take k bytes ∷ cut_lines more) (sym rest),
-      rw all (omega (arith, length-drop (k + 1) bytes, within)),
-    )
+  none_before : (text : List ℕ) → position (λ b. b == c) text ≡ None → length text ≤ position_or_len (λ b. b == c) text
+  none_before text h = grind (arith)
 
-none_before : (bytes : List ℕ) → position (λ b. b == 10) bytes ≡ None → length bytes ≤ position_or_len (λ b. b == 10) bytes
-none_before bytes h = grind (arith)
+  -- what stands behind the first one is shorter
+  pub parts_first : (text : List ℕ) (k : ℕ) → position (λ b. b == c) text ≡ Some k
+      → (let rest = take (length text - (k + 1)) (drop (k + 1) text) in (parts text ≡ take k text ∷ parts rest) × (length rest < length text))
+  parts_first text k h =
+      let found = position-Some (λ b. b == c) text k 0 h in
+      let all = take_all (length text - (k + 1)) (drop (k + 1) text) (omega (arith, length-drop (k + 1) text)) in
+      let rest : take (length text - (k + 1)) (drop (k + 1) text) ≡ drop (suc k) text = all ∙ ap (λ n. drop n text) (add-one k) in
+      let within = found.0 in (
+        cut_there text k found.0 found.1 found.2 ∙ ap (λ more. take k text ∷ parts more) (sym rest),
+        rw all (omega (arith, length-drop (k + 1) text, within)),
+      )
 
-pub cut_none : (bytes : List ℕ) → position (λ b. b == 10) bytes ≡ None → cut_lines bytes ≡ bytes ∷ []
-cut_none bytes h =
-    let far = none_before bytes h in
-    slice_split_none (λ b. b == 10) bytes (All-from_get_or (λ b. (b == 10) ≡ false) bytes 0 (λ j lt. fails_before_first (λ b. b == 10) bytes j 0 (omega arith)))
+  pub parts_none : (text : List ℕ) → position (λ b. b == c) text ≡ None → parts text ≡ text ∷ []
+  parts_none text h =
+      let far = none_before text h in
+      slice_split_none (λ b. b == c) text (All-from_get_or (λ b. (b == c) ≡ false) text 0 (λ j lt. fails_before_first (λ b. b == c) text j 0 (omega arith)))
 
 -- ---- one line is read
 

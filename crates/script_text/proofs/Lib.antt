@@ -9,7 +9,9 @@ pub mod Stops
 pub mod Chains
 pub mod Spelled
 pub mod Joins
+mod Signs
 pub mod Steps
+pub mod Sending
 pub mod Readings
 pub mod Words
 pub mod KindWords

@@ -10,6 +10,7 @@ pub mod Wordings
 pub mod Printed
 pub mod Letters
 pub mod Held
+pub mod Sent
 pub mod Taken
 pub mod TakenLines
 pub mod ReadBack

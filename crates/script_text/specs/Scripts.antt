@@ -1,5 +1,5 @@
 -- what the lines of a script say
-use Rattle.std.specs.Prelude.{◌≡◌, ℕ, ◌+◌, ◌==◌, Bool, true, if◌then◌else◌, List, [], ◌∷◌, Option, Some, None}
+use Rattle.std.specs.Prelude.{◌≡◌, ℕ, ◌+◌, ◌==◌, Bool, true, false, not, if◌then◌else◌, List, [], ◌∷◌, Option, Some, None, is_some}
 use Rattle.std.specs.List.{flat_map, slice_get}
 use Rattle.script_text.specs.Lines.{lines_of, words_of}
 use Rattle.script_text.specs.Grammar.{verb_of}
@@ -21,6 +21,10 @@ verb_said number (Some v) = said.Line (record { line = number; verb = v })
 -- what the line of this number says
 unfoldable pub line_said : ℕ → List ℕ → Said
 line_said number text = if is_blank text then said.Nothing else verb_said number (verb_of (words_of text))
+
+-- the line is neither blank nor says a verb
+abbrev pub is_outside : List ℕ → Bool
+is_outside text = if is_blank text then false else not (is_some (verb_of (words_of text)))
 
 -- what each line says, the first of which has this number
 abbrev pub said_from : ℕ → List (List ℕ) → List Said
@@ -46,6 +50,10 @@ bad_line_in (said.Bad number) = number ∷ []
 -- the lines of a script that say a verb
 abbrev pub verb_lines : List ℕ → List ScriptLine
 verb_lines bytes = flat_map verb_line_in (said_of bytes)
+
+-- the lines that say a verb, of those behind the line of this number
+abbrev pub lines_behind : ℕ → List ℕ → List ScriptLine
+lines_behind number bytes = flat_map verb_line_in (said_from (number + 1) (lines_of bytes))
 
 -- the numbers of the lines of a script that are outside the grammar
 abbrev pub bad_lines : List ℕ → List ℕ

@@ -1,5 +1,5 @@
 -- the text of a transcript
-use Rattle.std.specs.Prelude.{ℕ, ◌==◌, Bool, true, false, if◌then◌else◌, List, [], ◌∷◌, ◌++◌, length, Option, Some, None, map, codes, decimal}
+use Rattle.std.specs.Prelude.{ℕ, ◌≡◌, ◌==◌, Bool, true, false, if◌then◌else◌, List, [], ◌∷◌, ◌++◌, length, take, Option, Some, None, map, codes, decimal}
 use Rattle.std.specs.List.{flat_map, join_with_byte}
 use Rattle.hex.specs.Hex.{encode_lower}
 use Rattle.script_text.specs.Lines.{ended}
@@ -29,6 +29,10 @@ use Rattle.vb_events.specs.declared.event.Cause.TheVariants as cause
 use Rattle.vb_events.specs.declared.event.Answer.{Answer}
 use Rattle.vb_events.specs.declared.event.Answer.TheVariants as answer
 use Rattle.vb_events.specs.declared.event.Group.{Group}
+
+-- a text begins with this one
+abbrev pub StartsWith : List ℕ → List ℕ → Type 0
+StartsWith text front = take (length front) text ≡ front
 
 -- words with single spaces between
 abbrev pub spaced : List (List ℕ) → List ℕ

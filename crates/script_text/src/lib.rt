@@ -13,6 +13,7 @@ mod read_lines;
 mod read_transcript;
 mod read_words;
 mod script;
+mod sent;
 mod transcript;
 mod verb;
 
@@ -26,6 +27,6 @@ pub use read_laws::{
     bad_lines_break_off, events_are_lines, read_in_letters, transcripts_read_back,
 };
 pub use read_transcript::{Groups, parse_transcript};
-pub use script::{BadLine, parse};
+pub use script::{BadLine, ScriptLines, check, parse};
 pub use transcript::print;
 pub use verb::{ClientVerb, LinkVerb, NodeVerb, Script, ScriptLine, VbVerb, Verb};

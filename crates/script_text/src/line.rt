@@ -225,7 +225,8 @@ fn filled(word: &[u8], h: &[u8]) -> Option<Outcome>
     }
 }
 
-fn bytes_verb(n: &[u8], c: &[u8], bytes: Option<Bytes>) -> Option<Verb>
+/// What a line says that sends these bytes.
+pub fn bytes_verb(n: &[u8], c: &[u8], bytes: Option<Bytes>) -> Option<Verb>
     ensures { result ≡ bytes_line n.now c.now bytes }
 {
     let (node, client) = (node(n)?, connection(c)?);

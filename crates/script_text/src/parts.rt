@@ -1,133 +1,185 @@
 //! The words of a transcript's lines. What appends words puts a space in front of each, and an
 //! `Err` of it may have appended a part.
-ghost use Rattle.std.specs.Prelude.{◌≡◌, ◌++◌, ◌∷◌, [], OnOk, decimal, string_bytes};
+ghost use Rattle.std.specs.Prelude.{◌≡◌, ◌++◌, ◌∷◌, [], OnOk, OnErr, decimal};
 ghost use Rattle.std.specs.List.{flat_map};
+ghost use Rattle.hex.specs.Hex.{encode_lower};
 ghost use Rattle.vb_types.specs.declared.change.Act.TheVariants as act;
-ghost use Rattle.script_text.specs.Transcript.{spaced, place_text, stream_text, hex_text, parent_text, flag_text, role_text, level_text, doc_text, act_text, log_text, ask_text, verdict_text, sent_text, reason_text, cause_text};
+ghost use Rattle.script_text.specs.Transcript.{StartsWith, spaced, place_text, stream_text, hex_text, parent_text, flag_text, role_text, level_text, doc_text, act_text, entry_text, log_text, ask_text, verdict_text, sent_text, reason_text, cause_text, why_text};
 
+use bytes::{BufMut, BytesMut};
 use std::alloc::AllocError;
-use std::fmt;
-use vb_events::{Cause, EndReason, ItemAct, StreamName};
+use vb_events::{Cause, EndReason, ItemAct, StreamName, Why};
 use vb_types::{Act, AskAnswer, Change, Doc, Level, LogEntry, Role, StreamAsk};
+
+/// A number has at most 20 digits, and a sign in front.
+const SIGNED: usize = 21;
+
+/// A sign, and a number in decimal digits.
+pub fn push_number(text: &mut BytesMut, sign: u8, number: u64) -> Result<(), AllocError>
+    ensures ok { OnOk result (text.new.items ≡ text.old.items ++ sign ∷ decimal number) }
+    ensures err { OnErr result (text.new.items ≡ text.old.items) }
+{
+    let mut room = [sign; SIGNED];
+    let start = itoa::write_digits(number, &mut room, SIGNED);
+    text.extend_from_slice(&room[start - 1..])
+}
+
+/// Bytes in hexadecimal digits.
+fn push_digits(text: &mut BytesMut, bytes: &[u8]) -> Result<(), AllocError>
+    ensures ok { OnOk result (text.new.items ≡ text.old.items ++ encode_lower bytes.now) }
+    ensures err { OnErr result (text.new.items ≡ text.old.items) }
+{
+    let start = text.len();
+    text.put_bytes(0, 2 * bytes.len())?;
+    // The room fits, so this does not fail.
+    let _ = hex::encode_to_slice(bytes, &mut text.as_mut_slice()[start..]);
+    Ok(())
+}
 
 /// Bytes in hexadecimal digits, or a dash for none.
 #[tactic(auto, unfolding(crate::specs::Transcript::hex_text))]
-pub fn push_hex(text: &mut String, bytes: &[u8]) -> Result<(), AllocError>
-    ensures { OnOk result (string_bytes text.new ≡ string_bytes text.old ++ 32 ∷ hex_text bytes.now) }
+pub fn push_hex(text: &mut BytesMut, bytes: &[u8]) -> Result<(), AllocError>
+    ensures ok { OnOk result (text.new.items ≡ text.old.items ++ 32 ∷ hex_text bytes.now) }
+    ensures err { OnErr result (StartsWith text.new.items text.old.items) }
 {
     if bytes.is_empty() {
-        return text.push_str(" -");
+        return text.extend_from_slice(b" -");
     }
-    let digits = hex::encode(*text.allocator(), bytes)?;
-    write!(text, " {digits}")
+    text.extend_from_slice(b" ")?;
+    push_digits(text, bytes)
 }
 
 /// A word, and a key in hexadecimal digits.
-pub fn push_key(text: &mut String, word: &str, key: &[u8]) -> Result<(), AllocError>
-    ensures { OnOk result (string_bytes text.new ≡ string_bytes text.old ++ word.now ++ 32 ∷ hex_text key.now) }
+pub fn push_key(text: &mut BytesMut, word: &[u8], key: &[u8]) -> Result<(), AllocError>
+    ensures ok { OnOk result (text.new.items ≡ text.old.items ++ word.now ++ 32 ∷ hex_text key.now) }
+    ensures err { OnErr result (StartsWith text.new.items text.old.items) }
 {
-    text.push_str(word)?;
+    text.extend_from_slice(word)?;
     push_hex(text, key)
 }
 
 /// A word, and a vBucket of a node.
 #[tactic(auto, unfolding(crate::specs::Transcript::place_text))]
-pub fn push_at(text: &mut String, word: &str, node: u8, vb: u16) -> Result<(), AllocError>
-    ensures { OnOk result (string_bytes text.new ≡ string_bytes text.old ++ word.now ++ 32 ∷ place_text node vb) }
+pub fn push_at(text: &mut BytesMut, word: &[u8], node: u8, vb: u16) -> Result<(), AllocError>
+    ensures ok { OnOk result (text.new.items ≡ text.old.items ++ word.now ++ 32 ∷ place_text node vb) }
+    ensures err { OnErr result (StartsWith text.new.items text.old.items) }
 {
-    text.push_str(word)?;
-    write!(text, " {node} {vb}")
+    text.extend_from_slice(word)?;
+    push_numbers(text, &[u64::from(node), u64::from(vb)])
 }
 
 /// A word.
-pub fn push_word(text: &mut String, word: &str) -> Result<(), AllocError>
-    ensures { OnOk result (string_bytes text.new ≡ string_bytes text.old ++ 32 ∷ word.now) }
+pub fn push_word(text: &mut BytesMut, word: &str) -> Result<(), AllocError>
+    ensures ok { OnOk result (text.new.items ≡ text.old.items ++ 32 ∷ word.now) }
+    ensures err { OnErr result (StartsWith text.new.items text.old.items) }
 {
-    text.push(' ')?;
-    text.push_str(word)
+    text.extend_from_slice(b" ")?;
+    text.extend_from_slice(word.as_bytes())
+}
+
+/// A word, and a number.
+pub fn push_count(text: &mut BytesMut, word: &[u8], number: u64) -> Result<(), AllocError>
+    ensures ok { OnOk result (text.new.items ≡ text.old.items ++ word.now ++ 32 ∷ decimal number) }
+    ensures err { OnErr result (StartsWith text.new.items text.old.items) }
+{
+    text.extend_from_slice(word)?;
+    push_number(text, b' ', number)
 }
 
 /// Numbers.
-pub fn push_numbers(text: &mut String, numbers: &[u64]) -> Result<(), AllocError>
-    ensures { OnOk result (string_bytes text.new ≡ string_bytes text.old ++ flat_map (λ n. 32 ∷ decimal n) numbers.now) }
+pub fn push_numbers(text: &mut BytesMut, numbers: &[u64]) -> Result<(), AllocError>
+    ensures ok { OnOk result (text.new.items ≡ text.old.items ++ flat_map (λ n. 32 ∷ decimal n) numbers.now) }
+    ensures err { OnErr result (StartsWith text.new.items text.old.items) }
 {
     for number in numbers {
-        write!(text, " {number}")?;
+        push_number(text, b' ', *number)?;
     }
     Ok(())
 }
 
 /// A word, a vBucket of a node, and numbers.
 pub fn push_counts(
-    text: &mut String,
-    word: &str,
+    text: &mut BytesMut,
+    word: &[u8],
     node: u8,
     vb: u16,
     numbers: &[u64],
 ) -> Result<(), AllocError>
-    ensures { OnOk result (string_bytes text.new ≡ string_bytes text.old ++ word.now ++ 32 ∷ place_text node vb ++ flat_map (λ n. 32 ∷ decimal n) numbers.now) }
+    ensures ok { OnOk result (text.new.items ≡ text.old.items ++ word.now ++ 32 ∷ place_text node vb ++ flat_map (λ n. 32 ∷ decimal n) numbers.now) }
+    ensures err { OnErr result (StartsWith text.new.items text.old.items) }
 {
     push_at(text, word, node, vb)?;
     push_numbers(text, numbers)
 }
 
-/// A stream's connection, as a line names it.
-#[derive(Clone, Copy)]
-pub struct Named(pub StreamName);
-
-impl fmt::Display for Named {
-    ghost use Rattle.std.specs.Prelude.{Some};
-    ghost use Rattle.script_text.specs.Transcript.{stream_text};
-
-    ghost output = { λ n. Some (stream_text n.0) };
-
-    #[tactic(auto, unfolding(crate::specs::Transcript::link_text, crate::specs::Transcript::client_text))]
-    fn fmt<W: fmt::Write>(&self, f: &mut fmt::Formatter<W>) -> fmt::Result {
-        match self.0 {
-            StreamName::Link(link) => write!(f, "L{link}"),
-            StreamName::Client(node, client) => write!(f, "C{node}.{client}"),
+/// A stream's connection.
+#[tactic(auto, unfolding(crate::specs::Transcript::link_text, crate::specs::Transcript::client_text))]
+pub fn push_name(text: &mut BytesMut, stream: StreamName) -> Result<(), AllocError>
+    ensures ok { OnOk result (text.new.items ≡ text.old.items ++ 32 ∷ stream_text stream) }
+    ensures err { OnErr result (StartsWith text.new.items text.old.items) }
+{
+    text.extend_from_slice(b" ")?;
+    match stream {
+        StreamName::Link(link) => push_number(text, b'L', u64::from(link)),
+        StreamName::Client(node, client) => {
+            push_number(text, b'C', u64::from(node))?;
+            push_number(text, b'.', u64::from(client))
         }
     }
+}
+
+/// A word, and a stream's connection.
+pub fn push_named(text: &mut BytesMut, word: &[u8], stream: StreamName) -> Result<(), AllocError>
+    ensures ok { OnOk result (text.new.items ≡ text.old.items ++ word.now ++ 32 ∷ stream_text stream) }
+    ensures err { OnErr result (StartsWith text.new.items text.old.items) }
+{
+    text.extend_from_slice(word)?;
+    push_name(text, stream)
 }
 
 /// A word, a stream's connection, and a vBucket of a node.
 #[tactic(auto, unfolding(crate::specs::Transcript::place_text))]
 pub fn push_stream(
-    text: &mut String,
-    word: &str,
+    text: &mut BytesMut,
+    word: &[u8],
     stream: StreamName,
     node: u8,
     vb: u16,
 ) -> Result<(), AllocError>
-    ensures { OnOk result (string_bytes text.new ≡ string_bytes text.old ++ word.now ++ 32 ∷ spaced (stream_text stream ∷ place_text node vb ∷ [])) }
+    ensures ok { OnOk result (text.new.items ≡ text.old.items ++ word.now ++ 32 ∷ spaced (stream_text stream ∷ place_text node vb ∷ [])) }
+    ensures err { OnErr result (StartsWith text.new.items text.old.items) }
 {
-    text.push_str(word)?;
-    write!(text, " {} {node} {vb}", Named(stream))
+    push_named(text, word, stream)?;
+    push_numbers(text, &[u64::from(node), u64::from(vb)])
 }
 
 /// The branch that a branch comes from, or a dash for none.
-pub fn push_parent(text: &mut String, parent: Option<u64>) -> Result<(), AllocError>
-    ensures { OnOk result (string_bytes text.new ≡ string_bytes text.old ++ 32 ∷ parent_text parent) }
+pub fn push_parent(text: &mut BytesMut, parent: Option<u64>) -> Result<(), AllocError>
+    ensures ok { OnOk result (text.new.items ≡ text.old.items ++ 32 ∷ parent_text parent) }
+    ensures err { OnErr result (StartsWith text.new.items text.old.items) }
 {
     match parent {
-        None => text.push_str(" -"),
-        Some(uuid) => write!(text, " {uuid}"),
+        None => text.extend_from_slice(b" -"),
+        Some(uuid) => push_number(text, b' ', uuid),
     }
 }
 
 /// A document.
 #[tactic(auto, unfolding(crate::specs::Transcript::doc_text))]
-pub fn push_doc(text: &mut String, doc: &Doc) -> Result<(), AllocError>
-    ensures { OnOk result (string_bytes text.new ≡ string_bytes text.old ++ 32 ∷ doc_text doc.now) }
+pub fn push_doc(text: &mut BytesMut, doc: &Doc) -> Result<(), AllocError>
+    ensures ok { OnOk result (text.new.items ≡ text.old.items ++ 32 ∷ doc_text doc.now) }
+    ensures err { OnErr result (StartsWith text.new.items text.old.items) }
 {
-    let (cas, rev, flags) = (doc.cas, doc.rev, doc.flags);
-    write!(text, " {cas} {rev} {flags} {} {}", doc.expiry, doc.datatype)?;
+    let (flags, expiry) = (u64::from(doc.flags), u64::from(doc.expiry));
+    let datatype = u64::from(doc.datatype);
+    push_numbers(text, &[doc.cas, doc.rev, flags, expiry, datatype])?;
     push_hex(text, doc.value.as_slice())
 }
 
 /// What stands of a change behind its seqno.
-pub fn push_act(text: &mut String, change: &Change) -> Result<(), AllocError>
-    ensures { OnOk result (string_bytes text.new ≡ string_bytes text.old ++ 32 ∷ act_text change.now.key change.now.act) }
+pub fn push_act(text: &mut BytesMut, change: &Change) -> Result<(), AllocError>
+    ensures ok { OnOk result (text.new.items ≡ text.old.items ++ 32 ∷ act_text change.now.key change.now.act) }
+    ensures err { OnErr result (StartsWith text.new.items text.old.items) }
 {
     let key = change.key.as_slice();
     match &change.act {
@@ -148,57 +200,64 @@ pub fn push_act(text: &mut String, change: &Change) -> Result<(), AllocError>
 }
 
 #[tactic(auto, unfolding(crate::specs::Transcript::act_text))]
-fn push_set(text: &mut String, key: &[u8], doc: &Doc) -> Result<(), AllocError>
-    ensures { OnOk result (string_bytes text.new ≡ string_bytes text.old ++ 32 ∷ act_text key.now (act.Set doc.now)) }
+fn push_set(text: &mut BytesMut, key: &[u8], doc: &Doc) -> Result<(), AllocError>
+    ensures ok { OnOk result (text.new.items ≡ text.old.items ++ 32 ∷ act_text key.now (act.Set doc.now)) }
+    ensures err { OnErr result (StartsWith text.new.items text.old.items) }
 {
-    push_key(text, " set", key)?;
+    push_key(text, b" set", key)?;
     push_doc(text, doc)
 }
 
 #[tactic(auto, unfolding(crate::specs::Transcript::act_text))]
-fn push_remove(text: &mut String, key: &[u8], cas: u64, rev: u64) -> Result<(), AllocError>
-    ensures { OnOk result (string_bytes text.new ≡ string_bytes text.old ++ 32 ∷ act_text key.now (act.Remove cas rev)) }
+fn push_remove(text: &mut BytesMut, key: &[u8], cas: u64, rev: u64) -> Result<(), AllocError>
+    ensures ok { OnOk result (text.new.items ≡ text.old.items ++ 32 ∷ act_text key.now (act.Remove cas rev)) }
+    ensures err { OnErr result (StartsWith text.new.items text.old.items) }
 {
-    push_key(text, " remove", key)?;
-    write!(text, " {cas} {rev}")
+    push_key(text, b" remove", key)?;
+    push_numbers(text, &[cas, rev])
 }
 
 #[tactic(auto, unfolding(crate::specs::Transcript::act_text))]
 fn push_prepare(
-    text: &mut String,
+    text: &mut BytesMut,
     key: &[u8],
     level: Level,
     doc: &Doc,
     deleted: bool,
 ) -> Result<(), AllocError>
-    ensures { OnOk result (string_bytes text.new ≡ string_bytes text.old ++ 32 ∷ act_text key.now (act.Prepare level doc.now deleted)) }
+    ensures ok { OnOk result (text.new.items ≡ text.old.items ++ 32 ∷ act_text key.now (act.Prepare level doc.now deleted)) }
+    ensures err { OnErr result (StartsWith text.new.items text.old.items) }
 {
-    push_key(text, " prepare", key)?;
+    push_key(text, b" prepare", key)?;
     push_doc(text, doc)?;
-    write!(text, " {} {}", level_word(level), flag_word(deleted))
+    push_word(text, level_word(level))?;
+    push_word(text, flag_word(deleted))
 }
 
 #[tactic(auto, unfolding(crate::specs::Transcript::act_text))]
 fn push_commit(
-    text: &mut String,
+    text: &mut BytesMut,
     key: &[u8],
     prepared: u64,
     doc: &Doc,
     deleted: bool,
 ) -> Result<(), AllocError>
-    ensures { OnOk result (string_bytes text.new ≡ string_bytes text.old ++ 32 ∷ act_text key.now (act.Commit prepared doc.now deleted)) }
+    ensures ok { OnOk result (text.new.items ≡ text.old.items ++ 32 ∷ act_text key.now (act.Commit prepared doc.now deleted)) }
+    ensures err { OnErr result (StartsWith text.new.items text.old.items) }
 {
-    push_key(text, " commit", key)?;
+    push_key(text, b" commit", key)?;
     push_doc(text, doc)?;
-    write!(text, " {prepared} {}", flag_word(deleted))
+    push_number(text, b' ', prepared)?;
+    push_word(text, flag_word(deleted))
 }
 
 #[tactic(auto, unfolding(crate::specs::Transcript::act_text))]
-fn push_abort(text: &mut String, key: &[u8], prepared: u64) -> Result<(), AllocError>
-    ensures { OnOk result (string_bytes text.new ≡ string_bytes text.old ++ 32 ∷ act_text key.now (act.Abort prepared)) }
+fn push_abort(text: &mut BytesMut, key: &[u8], prepared: u64) -> Result<(), AllocError>
+    ensures ok { OnOk result (text.new.items ≡ text.old.items ++ 32 ∷ act_text key.now (act.Abort prepared)) }
+    ensures err { OnErr result (StartsWith text.new.items text.old.items) }
 {
-    push_key(text, " abort", key)?;
-    write!(text, " {prepared}")
+    push_key(text, b" abort", key)?;
+    push_number(text, b' ', prepared)
 }
 
 pub fn flag_word(flag: bool) -> &'static str
@@ -228,39 +287,50 @@ pub fn level_word(level: Level) -> &'static str
     }
 }
 
-/// A failover log, the newest entry first, or a dash for an empty one.
+/// A sign, and an entry of a failover log.
 #[tactic(auto, unfolding(crate::specs::Transcript::entry_text))]
-pub fn push_log(text: &mut String, log: &[LogEntry]) -> Result<(), AllocError>
-    ensures { OnOk result (string_bytes text.new ≡ string_bytes text.old ++ 32 ∷ log_text log.now) }
+fn push_entry(text: &mut BytesMut, sign: u8, entry: LogEntry) -> Result<(), AllocError>
+    ensures ok { OnOk result (text.new.items ≡ text.old.items ++ sign ∷ entry_text entry) }
+    ensures err { OnErr result (StartsWith text.new.items text.old.items) }
+{
+    push_number(text, sign, entry.uuid)?;
+    push_number(text, b':', entry.seq)
+}
+
+/// A failover log, the newest entry first, or a dash for an empty one.
+pub fn push_log(text: &mut BytesMut, log: &[LogEntry]) -> Result<(), AllocError>
+    ensures ok { OnOk result (text.new.items ≡ text.old.items ++ 32 ∷ log_text log.now) }
+    ensures err { OnErr result (StartsWith text.new.items text.old.items) }
 {
     let Some((newest, older)) = log.split_first() else {
-        return text.push_str(" -");
+        return text.extend_from_slice(b" -");
     };
-    write!(text, " {}:{}", newest.uuid, newest.seq)?;
+    push_entry(text, b' ', *newest)?;
     for entry in older {
-        write!(text, ",{}:{}", entry.uuid, entry.seq)?;
+        push_entry(text, b',', *entry)?;
     }
     Ok(())
 }
 
 /// What a stream request asks for.
 #[tactic(auto, unfolding(crate::specs::Transcript::ask_text))]
-pub fn push_ask(text: &mut String, ask: StreamAsk) -> Result<(), AllocError>
-    ensures { OnOk result (string_bytes text.new ≡ string_bytes text.old ++ 32 ∷ ask_text ask) }
+pub fn push_ask(text: &mut BytesMut, ask: StreamAsk) -> Result<(), AllocError>
+    ensures ok { OnOk result (text.new.items ≡ text.old.items ++ 32 ∷ ask_text ask) }
+    ensures err { OnErr result (StartsWith text.new.items text.old.items) }
 {
-    let (uuid, start, end) = (ask.uuid, ask.start, ask.end);
-    let (ss, se, flags) = (ask.ss, ask.se, ask.flags);
-    write!(text, " {uuid} {start} {end} {ss} {se} {flags}")
+    let flags = u64::from(ask.flags);
+    push_numbers(text, &[ask.uuid, ask.start, ask.end, ask.ss, ask.se, flags])
 }
 
 /// How a stream request was answered.
-pub fn push_verdict(text: &mut String, answer: AskAnswer) -> Result<(), AllocError>
-    ensures { OnOk result (string_bytes text.new ≡ string_bytes text.old ++ 32 ∷ verdict_text answer) }
+pub fn push_verdict(text: &mut BytesMut, answer: AskAnswer) -> Result<(), AllocError>
+    ensures ok { OnOk result (text.new.items ≡ text.old.items ++ 32 ∷ verdict_text answer) }
+    ensures err { OnErr result (StartsWith text.new.items text.old.items) }
 {
     match answer {
-        AskAnswer::Go => text.push_str(" go"),
-        AskAnswer::Roll(seq) => write!(text, " roll {seq}"),
-        AskAnswer::Refuse(status) => write!(text, " refuse {status}"),
+        AskAnswer::Go => text.extend_from_slice(b" go"),
+        AskAnswer::Roll(seq) => push_count(text, b" roll", seq),
+        AskAnswer::Refuse(status) => push_count(text, b" refuse", u64::from(status)),
     }
 }
 
@@ -286,6 +356,17 @@ pub fn reason_word(reason: EndReason) -> &'static str
         EndReason::Done => "done",
         EndReason::State => "state",
         EndReason::Disk => "disk",
+    }
+}
+
+pub fn why_word(why: Why) -> &'static str
+    ensures { result.now ≡ why_text why }
+{
+    match why {
+        Why::All => "-",
+        Why::Idle => "idle",
+        Why::Full => "full",
+        Why::WaitSaved => "wait-saved",
     }
 }
 

@@ -1,14 +1,16 @@
 //! Reads a line of a transcript: takes it for what it would say, and compares its text with the line.
-ghost use Rattle.std.specs.Prelude.{◌≡◌, ◌++◌, IfOk, OnOk, map, string_bytes};
+ghost use Rattle.std.specs.Prelude.{◌≡◌, ◌++◌, IfOk, OnOk, map};
 ghost use Rattle.std.specs.Str.{bytes_eq};
 ghost use Rattle.script_text.specs.TakenLines.{as_ok, as_worded, line_taken};
 ghost use Rattle.script_text.specs.ReadBack.{line_text, line_of};
 
 use crate::events::push_event;
 use crate::line::{says, words};
+use crate::parts::push_number;
 use crate::read_events::event;
 use crate::read_words::{cause, long, why, word_at};
 use crate::transcript::push_answer;
+use bytes::BytesMut;
 use std::alloc::{AllocError, Global};
 use vb_events::{Answer, Event};
 
@@ -67,11 +69,11 @@ fn taken(alloc: Global, text: &[u8]) -> Result<Option<Line>, AllocError>
 
 /// A line, without its newline.
 #[tactic(auto, unfolding(crate::specs::ReadBack::line_text))]
-fn push_line(text: &mut String, line: &Line) -> Result<(), AllocError>
-    ensures { OnOk result (string_bytes text.new ≡ string_bytes text.old ++ line_text line.now) }
+fn push_line(text: &mut BytesMut, line: &Line) -> Result<(), AllocError>
+    ensures { OnOk result (text.new.items ≡ text.old.items ++ line_text line.now) }
 {
     match line {
-        Line::Head(number) => write!(text, "#{number}"),
+        Line::Head(number) => push_number(text, b'#', *number),
         Line::Event(event) => push_event(text, event),
         Line::Answer(answer) => push_answer(text, *answer),
     }
@@ -81,9 +83,9 @@ fn push_line(text: &mut String, line: &Line) -> Result<(), AllocError>
 fn is_text(alloc: Global, line: &Line, text: &[u8]) -> Result<bool, AllocError>
     ensures { IfOk result (λ same. same ≡ bytes_eq (line_text line.now) text.now) }
 {
-    let mut spelled = String::new(alloc);
+    let mut spelled = BytesMut::with_capacity(alloc, text.len())?;
     push_line(&mut spelled, line)?;
-    Ok(spelled.as_bytes() == text)
+    Ok(spelled.as_slice() == text)
 }
 
 /// What a line is, if it is one of a transcript.

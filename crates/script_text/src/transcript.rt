@@ -1,51 +1,57 @@
 //! Prints a transcript.
-ghost use Rattle.std.specs.Prelude.{◌≡◌, ◌++◌, OnOk, OnErr, string_bytes};
-ghost use Rattle.script_text.specs.Transcript.{answer_text, group_text};
+ghost use Rattle.std.specs.Prelude.{◌≡◌, ◌++◌, OnOk, OnErr};
+ghost use Rattle.script_text.specs.Transcript.{StartsWith, answer_text, group_text};
 
 use crate::events::push_event;
-use crate::parts::cause_word;
+use crate::parts::{cause_word, push_count, push_number, push_word, why_word};
 use bytes::BytesMut;
 use std::alloc::{AllocError, Global};
-use vb_events::{Answer, Group, Why};
-
-/// Most groups are no longer than this, so the text of a group mostly takes one allocation.
-const USUAL: usize = 256;
+use vb_events::{Answer, Group};
 
 /// The last line of a group, without its newline.
-pub fn push_answer(text: &mut String, answer: Answer) -> Result<(), AllocError>
-    ensures { OnOk result (string_bytes text.new ≡ string_bytes text.old ++ answer_text answer) }
+pub fn push_answer(text: &mut BytesMut, answer: Answer) -> Result<(), AllocError>
+    ensures ok { OnOk result (text.new.items ≡ text.old.items ++ answer_text answer) }
+    ensures err { OnErr result (StartsWith text.new.items text.old.items) }
 {
     match answer {
-        Answer::Ok => text.push_str("ok"),
-        Answer::Number(number) => write!(text, "ok {number}"),
-        Answer::Pulled(frames, Why::All) => write!(text, "ok {frames} -"),
-        Answer::Pulled(frames, Why::Idle) => write!(text, "ok {frames} idle"),
-        Answer::Pulled(frames, Why::Full) => write!(text, "ok {frames} full"),
-        Answer::Pulled(frames, Why::WaitSaved) => write!(text, "ok {frames} wait-saved"),
-        Answer::No(cause) => write!(text, "no {}", cause_word(cause)),
+        Answer::Ok => text.extend_from_slice(b"ok"),
+        Answer::Number(number) => push_count(text, b"ok", number),
+        Answer::Pulled(frames, why) => {
+            push_count(text, b"ok", frames)?;
+            push_word(text, why_word(why))
+        }
+        Answer::No(cause) => {
+            text.extend_from_slice(b"no")?;
+            push_word(text, cause_word(cause))
+        }
     }
 }
 
 /// Appends the lines of a group. An `Err` may have appended a part of them.
 #[tactic(auto, unfolding(crate::specs::Transcript::group_text))]
-fn push_group(text: &mut String, g: &Group) -> Result<(), AllocError>
-    ensures { OnOk result (string_bytes text.new ≡ string_bytes text.old ++ group_text g.now) }
+fn push_group(text: &mut BytesMut, g: &Group) -> Result<(), AllocError>
+    ensures ok { OnOk result (text.new.items ≡ text.old.items ++ group_text g.now) }
+    ensures err { OnErr result (StartsWith text.new.items text.old.items) }
 {
-    writeln!(text, "#{}", g.line)?;
+    push_number(text, b'#', g.line)?;
+    text.extend_from_slice(b"\n")?;
     for event in g.events.as_slice() {
         push_event(text, event)?;
-        text.push('\n')?;
+        text.extend_from_slice(b"\n")?;
     }
     push_answer(text, g.answer)?;
-    text.push('\n')
+    text.extend_from_slice(b"\n")
 }
 
 /// Appends the text of a group. An `Err` appends nothing.
-pub fn print(alloc: Global, g: &Group, out: &mut BytesMut) -> Result<(), AllocError>
+pub fn print(_alloc: Global, g: &Group, out: &mut BytesMut) -> Result<(), AllocError>
     ensures ok { OnOk result (out.new.items ≡ out.old.items ++ group_text g.now) }
     ensures err { OnErr result (out.new.items ≡ out.old.items) }
 {
-    let mut text = String::with_capacity(alloc, USUAL)?;
-    push_group(&mut text, g)?;
-    out.extend_from_slice(text.as_bytes())
+    let before = out.len();
+    let printed = push_group(out, g);
+    if printed.is_err() {
+        out.truncate(before);
+    }
+    printed
 }

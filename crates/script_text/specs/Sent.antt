@@ -1,0 +1,8 @@
+-- the digits of the bytes that a client sends
+use Rattle.std.specs.Prelude.{ℕ, ◌&&◌, Bool, true, List}
+use Rattle.std.specs.List.{fold}
+use Rattle.hex.specs.Hex.{is_hex_digit}
+
+-- each is a hexadecimal digit, in either case
+abbrev pub are_digits : List ℕ → Bool
+are_digits text = fold (λ digits b. digits && is_hex_digit b) true text
