@@ -1,6 +1,7 @@
 pub mod Words
 pub mod Runs
 pub mod Laws
+pub mod Checking
 pub mod rows
 pub mod answers
 pub mod indexers

@@ -93,7 +93,7 @@ pub use Rattle.transcript_law.specs.LineAnswers.{LawfulAnswer, frames_in_lines, 
 pub use Rattle.transcript_law.specs.Plainness.{EndsWith, IsLogged, IsPromotion, IsTurn, RefusedLinesKeep, ShowsAreShown, TurnsAreTold}
 pub use Rattle.transcript_law.specs.Prefixes.{AreFollowed, FollowsBranch, known_of, world_of}
 pub use Rattle.transcript_law.specs.Rollbacks.{after_dead, empty_shown, log_lines, made_log, after_active, stream_end_lines, forgotten, rest_lines, rolled_lines, sent_back}
-pub use Rattle.transcript_law.specs.Transcripts.{active_vb_lines, both_on_one, change_line, first_doc, forked_at, one_change, one_set, value_lines, one_set_groups, set_and_show, set_dead_and_show, set_one, sets_groups, shown_active, shown_after_change, shown_dead, two_vbs, two_vbs_groups}
+pub use Rattle.transcript_law.specs.Transcripts.{active_vb_lines, both_on_one, change_line, first_doc, forked_at, one_change, one_set, value_lines, one_set_groups, dead_and_show, set_dead_and_show, set_one, sets_groups, show_alone, shown_active, shown_after_change, shown_dead, two_vbs, two_vbs_groups}
 pub use Rattle.vb_calls.proofs.JobReadings.{after_job_bind, after_job_fold, after_job_lift, job_stepped}
 pub use Rattle.vb_calls.proofs.Readings.{after_bind, after_fold, stepped}
 pub use Rattle.vb_calls.specs.Following.{is_answerable, is_follower, is_next, marked_vb, marker_fits, with_received_change}

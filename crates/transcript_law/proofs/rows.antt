@@ -32,6 +32,8 @@ pub mod TakenRows
 pub mod Transcripts
 pub mod FiredRows
 pub mod AloneRows
+pub mod AckRows
+pub mod CheckedRows
 pub mod BoundRows
 pub mod KindRows
 pub mod MessageRows

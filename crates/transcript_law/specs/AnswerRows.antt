@@ -21,6 +21,7 @@ use Rattle.vb_types.specs.declared.change.Change.{Change}
 use Rattle.vb_types.specs.declared.doc.Doc.{Doc}
 use Rattle.vb_types.specs.declared.status.Status.{Status}
 use Rattle.transcript_law.specs.BoundRows.{LawfulHere}
+use Rattle.transcript_law.specs.ClientStreamRows.{prepared}
 use Rattle.transcript_law.specs.ClientAskRows.{bytes_of, resting, serving, that_sent, ticks, unopened}
 use Rattle.transcript_law.specs.ClientRows.{nooped}
 use Rattle.transcript_law.specs.ClientStreams.{ClientKnown}
@@ -129,6 +130,13 @@ shuts_other = event.Closed 0 2
 -- the key 7 is set once, and then to 4; or it is removed then
 abbrev pub once : List Change
 once = one_change ∷ []
+
+-- that set is the change of this number, and so is the prepare that waits at the key 9
+abbrev pub set_at : ℕ → List Change
+set_at seq = record one_change { seq = seq } ∷ []
+
+abbrev pub prepared_at : ℕ → List Change
+prepared_at seq = record prepared { seq = seq } ∷ []
 
 abbrev pub newer_doc : Doc
 newer_doc = record (first_doc 2 (4 ∷ [])) { rev = 2 }

@@ -1,10 +1,13 @@
 -- which answers a client may be sent: each answers the next frame that it asked something by, and says what the lines tell of that
-use Rattle.std.specs.Prelude.{◌≡◌, ◌⊎◌, ℕ, Bool, true, false, List, [], ◌∷◌, ◌++◌, Option, Some, None, Result, Ok, Err}
+use Rattle.std.specs.Prelude.{◌≡◌, ◌<◌, ◌+◌, ◌^◌, ◌⊎◌, ℕ, Bool, length, true, false, List, [], ◌∷◌, ◌++◌, Option, Some, None, Result, Ok, Err}
 use Rattle.std.specs.FinMap as finite
 use Rattle.client_session.specs.Rows.{seqno_part}
 use Rattle.client_session.specs.Serving.{is_dcp}
 use Rattle.client_session.specs.declared.session.Settings.{Settings}
+use Rattle.branch_model.specs.Histories.{last_seq}
 use Rattle.durability.specs.Chains.{Members, is_possible}
+use Rattle.durability.specs.Laws.{Waits}
+use Rattle.durability.specs.declared.waiting.Waiting.{Waiting}
 use Rattle.mcbp_frame.specs.Cutting.{front_fault}
 use Rattle.mcbp_frame.specs.Frames.{faulty_head}
 use Rattle.mcbp_frame.specs.Spelling.{spelling}
@@ -21,6 +24,7 @@ use Rattle.mcbp_kv.specs.declared.request.KvRequest.TheVariants as request
 use Rattle.vb_calls.specs.Writes.{act_of, doc_refusal, written_doc}
 use Rattle.vb_events.specs.declared.event.Event.{Event}
 use Rattle.vb_events.specs.declared.event.Event.TheVariants as event
+use Rattle.vbucket.specs.Laws.{Ascend, IsBacked}
 use Rattle.vb_types.specs.Images.{Picture, image_of}
 use Rattle.vb_types.specs.Statuses.{status_code}
 use Rattle.vb_types.specs.declared.change.Act.TheVariants as act
@@ -68,13 +72,17 @@ pub record IsWhyRefused (Besides : Status → Type 0) (role : Option (Option Rol
 abbrev pub IsRefused : (Status → Type 0) → Option (Option Role) → Picture → Write → Frame → Frame → Type 0
 IsRefused Besides role image write f g = (st : Status) × IsStatus f g st × IsWhyRefused Besides role image write st
 
--- a vBucket may have no seqno left for a write. The lines do not tell whether that is so
-abbrev pub LacksSeqnos : Status → Type 0
-LacksSeqnos st = st ≡ status.Etmpfail
+-- a vBucket that holds these changes has not so many seqnos left, beside one for each prepare that waits, of which there are at least as many as can be listed: a seqno is at most 2^48
+pub record LacksSeqnos (held : List Change) (count : ℕ) (st : Status) : Type 0 where
+  pub waiting : List Waiting
+  pub ascend : Ascend waiting
+  pub backed : (w : Waiting) → Waits w waiting → IsBacked (image_of held) w
+  pub above : 2 ^ 48 < last_seq 0 held + length waiting + count
+  pub said : st ≡ status.Etmpfail
 
--- and a durable one where its chain can have no majority
-abbrev pub LacksMajority : Members → Status → Type 0
-LacksMajority chain st = LacksSeqnos st ⊎ ((is_possible chain ≡ false) × (st ≡ status.DurabilityImpossible))
+-- so a write is refused; and a durable one, with which come two changes, also where its chain can have no majority
+abbrev pub LacksMajority : Members → List Change → Status → Type 0
+LacksMajority chain held st = LacksSeqnos held 2 st ⊎ ((is_possible chain ≡ false) × (st ≡ status.DurabilityImpossible))
 
 -- a write was made: the last change that was told is its own, of what its vBucket held before, which let it, and no other set or removal waits to be answered; and it is told with its CAS, and its branch and seqno where the client asked for these
 pub record IsMade (n v : ℕ) (held : List Change) (made : List OwnChange) (settings : Settings) (write : Write) (f g : Frame) : Type 0 where
@@ -94,7 +102,7 @@ pub record IsMade (n v : ℕ) (held : List Change) (made : List OwnChange) (sett
 
 abbrev pub FitsWrite : Chronicle → ℕ → ℕ → Settings → Write → Frame → Frame → Type 0
 FitsWrite chronicle n v settings write f g =
-    IsRefused LacksSeqnos (chronicle.role_at n v) (image_of (chronicle.held n v)) write f g ⊎ IsMade n v (chronicle.held n v) chronicle.made settings write f g
+    IsRefused (LacksSeqnos (chronicle.held n v) 1) (chronicle.role_at n v) (image_of (chronicle.held n v)) write f g ⊎ IsMade n v (chronicle.held n v) chronicle.made settings write f g
 
 -- this change is one of these
 abbrev pub IsMadeIn : OwnChange → List OwnChange → Type 0
@@ -121,13 +129,13 @@ abbrev pub IsImpossibleFirst : Option (Option Role) → Members → Status → T
 IsImpossibleFirst role chain st = IsActive role → is_possible chain ≡ false → st ≡ status.DurabilityImpossible
 
 -- a durable write is refused for its first reason
-abbrev pub IsRefusedDurably : Members → Option (Option Role) → Picture → Write → Frame → Frame → Type 0
-IsRefusedDurably chain role image write f g = (st : Status) × IsStatus f g st × IsWhyRefused (LacksMajority chain) role image write st × IsImpossibleFirst role chain st
+abbrev pub IsRefusedDurably : Members → Option (Option Role) → List Change → Write → Frame → Frame → Type 0
+IsRefusedDurably chain role held write f g = (st : Status) × IsStatus f g st × IsWhyRefused (LacksMajority chain held) role (image_of held) write st × IsImpossibleFirst role chain st
 
 -- it is refused, or its outcome is told: it was committed, or nobody knows
 abbrev pub FitsDurable : Chronicle → ℕ → ℕ → Settings → Write → Frame → Frame → Type 0
 FitsDurable chronicle n v settings write f g =
-    LacksNumbers f g ⊎ IsRefusedDurably (chronicle.counts_at n v).chain (chronicle.role_at n v) (image_of (chronicle.held n v)) write f g ⊎ IsCommitted n chronicle.made settings f g
+    LacksNumbers f g ⊎ IsRefusedDurably (chronicle.counts_at n v).chain (chronicle.role_at n v) (chronicle.held n v) write f g ⊎ IsCommitted n chronicle.made settings f g
     ⊎ IsStatus f g status.SyncWriteAmbiguous
 
 -- each request, by what its frame asks

@@ -28,6 +28,8 @@ pub mod Majorities
 pub mod OwnChanges
 pub mod Lawfulness
 pub mod Commits
+pub mod Checked
+pub mod CheckedRows
 pub mod LineAnswers
 pub mod Plainness
 pub mod Prefixes

@@ -58,12 +58,9 @@ set_frame key value = record {
 abbrev pub set_line : ℕ → List ℕ → List ℕ → ScriptLine
 set_line number key value = script_line number (verb.AtClient 0 1 (client_verb.Bytes (spelling (set_frame key value))))
 
--- what the client is told of it: that it was made, with this CAS value; or that no seqno is left for it
+-- what the client is told of it: that it was made, with this CAS value
 abbrev pub set_told : ℕ → Event
 set_told cas = event.Reply 0 1 (spelling (reply_frame (stored_answer SET 9 cas [])))
-
-abbrev pub set_refused : Event
-set_refused = event.Reply 0 1 (spelling (reply_frame (bare_answer SET status.Etmpfail 9)))
 
 -- a frame that sets a key is whole, and asks for that write
 abbrev pub SetLinesAsk : Type 0
@@ -133,10 +130,14 @@ set_one = set_line 5 (7 ∷ []) (8 ∷ []) ∷ []
 abbrev pub sets_groups : List Event → List Group
 sets_groups changes = group_done 5 (changes ++ set_told 1 ∷ []) ∷ []
 
--- the key 7 is set there, and the vBucket is shown; or it turns dead before that
-abbrev pub set_and_show : List ScriptLine
-set_and_show = set_line 5 (7 ∷ []) (8 ∷ []) ∷ script_line 6 (verb.AtVb 0 0 vb_verb.Show) ∷ []
+-- nothing is set, and the vBucket 0 turns dead and is shown, or is shown as it is
+abbrev pub dead_and_show : List ScriptLine
+dead_and_show = script_line 5 (verb.AtVb 0 0 vb_verb.Dead) ∷ script_line 6 (verb.AtVb 0 0 vb_verb.Show) ∷ []
 
+abbrev pub show_alone : List ScriptLine
+show_alone = script_line 5 (verb.AtVb 0 0 vb_verb.Show) ∷ []
+
+-- the key 7 is set there, it turns dead, and is shown
 abbrev pub set_dead_and_show : List ScriptLine
 set_dead_and_show = set_line 5 (7 ∷ []) (8 ∷ []) ∷ script_line 6 (verb.AtVb 0 0 vb_verb.Dead) ∷ script_line 7 (verb.AtVb 0 0 vb_verb.Show) ∷ []
 
@@ -150,11 +151,11 @@ shown_after_change uuid = group_done 5 (change_line 0 ∷ set_told 1 ∷ []) ∷
 
 -- with no change it is dead, and is shown with this newest branch
 abbrev pub shown_dead : ℕ → List Group
-shown_dead uuid = group_done 5 (set_refused ∷ []) ∷ group_done 6 (event.Role 0 0 role.Dead ∷ []) ∷ group_done 7 (event.Shown 0 0 role.Dead uuid 0 0 0 0 0 ∷ []) ∷ []
+shown_dead uuid = group_done 5 (event.Role 0 0 role.Dead ∷ []) ∷ group_done 6 (event.Shown 0 0 role.Dead uuid 0 0 0 0 0 ∷ []) ∷ []
 
 -- with no change it is shown as the active one that it is, with this newest branch
 abbrev pub shown_active : ℕ → List Group
-shown_active uuid = group_done 5 (set_refused ∷ []) ∷ group_done 6 (event.Shown 0 0 role.Active uuid 0 0 0 0 0 ∷ []) ∷ []
+shown_active uuid = group_done 5 (event.Shown 0 0 role.Active uuid 0 0 0 0 0 ∷ []) ∷ []
 
 -- what was read when the vBucket 1 is put on the branch 7, which was made from the branch 5 at this seqno
 abbrev pub forked_at : ℕ → Chronicle

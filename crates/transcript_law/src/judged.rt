@@ -10,7 +10,7 @@ ghost use Rattle.transcript_law.specs.Lawfulness.{Lawful, LawfulFrom, LawfulGrou
 ghost use Rattle.transcript_law.specs.Prefixes.{AreFollowed, FollowsBranch, PointsAreBranch};
 ghost use Rattle.transcript_law.specs.Rollbacks.{sent_back, rolled_lines, stream_end_lines, rest_lines, log_lines, made_log, empty_shown, empty_uuid, after_active, after_dead, forgotten};
 ghost use Rattle.transcript_law.specs.LineAnswers.{LawfulAnswer};
-ghost use Rattle.transcript_law.specs.Transcripts.{one_change, one_set, one_set_groups, change_line, shown_with_change, value_lines, two_vbs, two_vbs_groups, set_and_show, set_dead_and_show, set_one, sets_groups, both_on_one, forked_at, shown_after_change, shown_active, shown_dead};
+ghost use Rattle.transcript_law.specs.Transcripts.{one_change, one_set, one_set_groups, change_line, shown_with_change, value_lines, two_vbs, two_vbs_groups, dead_and_show, set_dead_and_show, show_alone, set_one, sets_groups, both_on_one, forked_at, shown_after_change, shown_active, shown_dead};
 ghost use Rattle.vb_types.specs.declared.change.Level.TheVariants as level;
 ghost use Rattle.script_text.specs.declared.verb.Verb.TheVariants as verb;
 ghost use Rattle.script_text.specs.declared.verb.VbVerb.TheVariants as vb_verb;
@@ -56,9 +56,9 @@ pub fn judged_branches()
     ensures left { LawfulFrom (made_from 5) (next_made 5) → ⊥ }
     ensures same { Lawful (two_vbs 6 set_dead_and_show) (two_vbs_groups 6 (shown_after_change 5)) }
     ensures history { Lawful (two_vbs 6 set_dead_and_show) (two_vbs_groups 6 (shown_after_change 6)) → ⊥ }
-    ensures dead { Lawful (two_vbs 6 set_dead_and_show) (two_vbs_groups 6 (shown_dead 5)) }
-    ensures dead_other { Lawful (two_vbs 6 set_dead_and_show) (two_vbs_groups 6 (shown_dead 6)) → ⊥ }
-    ensures active { Lawful (two_vbs 6 set_and_show) (two_vbs_groups 6 (shown_active 6)) → ⊥ }
+    ensures dead { Lawful (two_vbs 6 dead_and_show) (two_vbs_groups 6 (shown_dead 5)) }
+    ensures dead_other { Lawful (two_vbs 6 dead_and_show) (two_vbs_groups 6 (shown_dead 6)) → ⊥ }
+    ensures active { Lawful (two_vbs 6 show_alone) (two_vbs_groups 6 (shown_active 6)) → ⊥ }
     ensures log_shown { LawfulFrom (logged_six after_dead) (empty_uuid role.Dead 6) }
     ensures log_history { LawfulFrom (logged_six after_dead_changed) (shown_with_change role.Dead 6 1 0 (value_lines (8 ∷ []))) → ⊥ }
     ensures log_active { LawfulFrom (logged_six after_active) (empty_uuid role.Active 6) → ⊥ }

@@ -1,13 +1,13 @@
 //! What a transcript tells clients in answer to what they asked, lawfully or not.
 
-ghost use Rattle.std.specs.Prelude.{List, [], ◌∷◌, ◌++◌, take, drop, None};
+ghost use Rattle.std.specs.Prelude.{List, [], ◌∷◌, ◌++◌, ◌^◌, ◌-◌, take, drop, None};
 ghost use Rattle.mcbp_dcp.specs.declared.message.DcpMsg.TheVariants as msg;
 ghost use Rattle.mcbp_kv.specs.Answers.{bare_answer, seqno_extras};
 ghost use Rattle.mcbp_kv.specs.Replies.{reply_frame};
 ghost use Rattle.mcbp_kv.specs.declared.feature.Feature.TheVariants as feature;
 ghost use Rattle.mcbp_kv.specs.declared.opcodes.TheConstants.{ADD, DELETE, GET, HELLO, NOOP, REPLACE, SET};
 ghost use Rattle.mcbp_frame.specs.declared.frame.TheConstants.{REQUEST};
-ghost use Rattle.transcript_law.specs.AnswerRows.{LawfulAmong, LawfulAway, LawfulBy, LawfulNext, LawfulOver, LawfulTicks, LawfulTo, LawfulUnmade, acknowledges, answers, broken, comes, durably, finds, finds_raw, for_json, for_seqnos, formless, gets, greets, json_doc, json_once, makes, makes_elsewhere, makes_far, newer, newer_doc, once, over_prepare, removal, removes, responds, says, sends, shuts, shuts_other, stores, strange, unknown, vast, welcomes, writes};
+ghost use Rattle.transcript_law.specs.AnswerRows.{LawfulAmong, LawfulAway, LawfulBy, LawfulNext, LawfulOver, LawfulTicks, LawfulTo, LawfulUnmade, acknowledges, answers, broken, comes, durably, finds, finds_raw, for_json, for_seqnos, formless, gets, greets, json_doc, json_once, makes, makes_elsewhere, makes_far, newer, newer_doc, once, over_prepare, prepared_at, removal, removes, responds, says, sends, set_at, shuts, shuts_other, stores, strange, unknown, vast, welcomes, writes};
 ghost use Rattle.transcript_law.specs.ClientAskRows.{opening, replies as replied, sends_none, ticks};
 ghost use Rattle.transcript_law.specs.ClientRows.{LawfulOpened, asks, hangs, noop, nooped, opens, replies, waits};
 ghost use Rattle.transcript_law.specs.ClientStreamRows.{committed, durable, pending, prepared};
@@ -102,8 +102,8 @@ pub fn judged_writes()
 
 /// A write is refused for its own reason alone: KeyEexists and KeyEnoent where the key's document, or that
 /// there is none, does not let it; SyncWriteInProgress, or as left undone, where a prepare waits there; NotMyVbucket, and
-/// nothing else, where its vBucket is not active; and Etmpfail where it is. One that is refused made no
-/// change.
+/// nothing else, where its vBucket is not active; and Etmpfail where an active one has no seqno left for it,
+/// beside one for each prepare that waits: the last is 2^48. One that is refused made no change.
 pub fn judged_refused_writes()
     ensures fits { LawfulTo once (writes SET 1 7 4) (says SET status.KeyEexists ∷ []) → ⊥ }
     ensures unfit { LawfulTo once (writes SET 3 7 4) (says SET status.KeyEexists ∷ []) }
@@ -123,7 +123,10 @@ pub fn judged_refused_writes()
     ensures left_undone { LawfulTo pending (writes SET 0 9 4) (says SET status.SyncWriteReCommitInProgress ∷ []) }
     ensures locked_other { LawfulTo pending (writes REPLACE 0 9 4) (says REPLACE status.KeyEnoent ∷ []) → ⊥ }
     ensures unlocked { LawfulTo pending (writes SET 0 7 4) (says SET status.SyncWriteInProgress ∷ []) → ⊥ }
-    ensures full { LawfulTo [] (writes SET 0 7 8) (says SET status.Etmpfail ∷ []) }
+    ensures full { LawfulTo (set_at (2 ^ 48)) (writes SET 0 9 8) (says SET status.Etmpfail ∷ []) }
+    ensures full_beside { LawfulTo (prepared_at (2 ^ 48 - 1)) (writes SET 0 7 4) (says SET status.Etmpfail ∷ []) }
+    ensures full_early { LawfulTo (set_at (2 ^ 48 - 1)) (writes SET 0 9 8) (says SET status.Etmpfail ∷ []) → ⊥ }
+    ensures full_first { LawfulTo [] (writes SET 0 7 8) (says SET status.Etmpfail ∷ []) → ⊥ }
     ensures made { LawfulTo [] (writes SET 0 7 8) (makes one_change ∷ says SET status.Etmpfail ∷ []) → ⊥ }
     ensures removed { LawfulTo once (removes 7) (makes removal ∷ says DELETE status.Etmpfail ∷ []) → ⊥ }
 {}

@@ -1,12 +1,12 @@
 -- what a client's session answers fits what the lines tell of the vBucket that was asked
-use Rattle.std.specs.Prelude.{◌≡◌, ◌∷◌, ◌++◌, ◌⊎◌, if◌then◌else◌, not}
+use Rattle.std.specs.Prelude.{◌≡◌, ◌<◌, ◌+◌, ◌^◌, ◌∷◌, ◌++◌, ◌⊎◌, if◌then◌else◌, length, nat_lt, not}
 use Rattle.std.specs.FinMap as finite
-use Rattle.transcript_law.proofs.Words.{ℕ, Bool, true, false, List, [], refl, ap, sym, ◌∙◌, subst, inl, inr, Option, Some, None, Ok, Frame, RESPONSE, KvRequest, Change, Doc, Pend, Picture, Plain, PlainWorld, Role, Status, Write, Chronicle, VbAnswer}
+use Rattle.transcript_law.proofs.Words.{ℕ, Bool, true, false, List, [], refl, ap, sym, ◌∙◌, subst, inl, inr, arith, nat_tests, Option, Some, None, Ok, Frame, RESPONSE, KvRequest, Change, Doc, Pend, Picture, Plain, PlainWorld, Role, Status, Write, Chronicle, VbAnswer}
 use Rattle.transcript_law.proofs.Words.{doc_at, image_in, image_of, is_active, new_rev, refusal_reply, write_change}
 use Rattle.client_session.specs.Rows.{seqno_part}
 use Rattle.transcript_law.proofs.{answers.Committed.{CommitTold, HowTold}, disks.Absent.{nothing_here}, invariant.Agreement.{Agrees, AgreesAt, VbAgrees, active_counts, image_is, is_down, power_of, vb_of}, invariant.Seats.{seat}}
 use Rattle.transcript_law.specs.{Chronicles.{rested, resting}, LawfulAnswers.{AllDurable, IsImpossibleFirst, IsOutcome, FitsBy, FitsDurable, FitsFrame, FitsGet, FitsRequest, FitsWrite, IsCommitted, IsMade, IsRefused, IsStatus, IsWhyRefused, LacksMajority, LacksSeqnos}, LawfulClients.{IsActive}, LawfulMessages.{Moment}, LinesTold.{OwnChange}}
-use Rattle.branch_model.specs.Journals.{role_of}
+use Rattle.branch_model.specs.{Histories.{last_seq}, Journals.{role_of}}
 use Rattle.client_session.specs.Answers.{found_reply, reply_to, status_reply, stored_reply, value_reply}
 use Rattle.client_session.specs.Serving.{is_dcp, outcome_reply}
 use Rattle.client_session.specs.declared.session.{Awaited.{Awaited}, Settings.{Settings}}
@@ -24,15 +24,18 @@ use Rattle.vb_calls.specs.Writes.{doc_refusal, key_refusal, lacks_seqnos, or_els
 use Rattle.vb_calls.specs.declared.calls.Resolution.{Resolution}
 use Rattle.vb_calls.specs.declared.calls.Resolution.TheVariants as resolution
 use Rattle.vb_types.specs.declared.journal.Record.{Record}
-use Rattle.vbucket.proofs.Storing.{nothing_waits, said_none}
+use Rattle.vb_types.specs.declared.position.TheConstants.{MAX_SEQ}
+use Rattle.vbucket.{proofs.Storing.{nothing_waits, said_none}, specs.Laws.{AreBacked, IsBacked}}
 
 -- ---- a vBucket as the lines tell it
 
--- its role, what it holds, and, where it may commit, its chain
+-- its role, what it holds with the prepares that wait, and, where it may commit, its chain
 pub record KnownAs (r : Chronicle) (n v : ℕ) (vb : Plain) : Type 0 where
   pub role : r.role_at n v ≡ Some (Some vb.role)
   pub image : image_of (r.held n v) ≡ image_in vb
   pub chain : is_active vb.role ≡ true → (r.counts_at n v).chain ≡ vb.others
+  pub high : last_seq 0 (r.held n v) ≡ vb.position.at
+  pub waits : AreBacked vb.role (image_in vb) vb.position.at vb.waiting
 
 -- so is each that is there
 pub known_as : (w : PlainWorld) (r : Chronicle) (n v : ℕ) (vb : Plain) → Agrees w r → vb_of w n v ≡ Some vb → KnownAs r n v vb
@@ -41,6 +44,8 @@ known_as w r n v vb (k, a) there =
       role = it.role;
       image = ap image_of it.held ∙ sym (image_is it.kept);
       chain = λ active. (active_counts active it.counts).chain;
+      high = ap (last_seq 0) it.held ∙ it.kept.high;
+      waits = it.kept.sound.counted.waits;
     }
 
 -- one that is not there, at a node that is running
@@ -224,14 +229,14 @@ module _ (Besides : Status → Type 0) (x : Role) (image : Picture) (write : Wri
 
 module _ (vb : Plain) (write : Write) (st : Status) where
   -- by what its vBucket is
-  why_store : store_refusal vb write ≡ Some st → IsWhyRefused LacksSeqnos (Some (Some vb.role)) (image_in vb) write st
-  why_store e = by (is_active vb.role) refl (lacks_seqnos vb 1) e
+  why_store : (held : List Change) → (lacks_seqnos vb 1 ≡ true → LacksSeqnos held 1 Status.Etmpfail) → store_refusal vb write ≡ Some st → IsWhyRefused (LacksSeqnos held 1) (Some (Some vb.role)) (image_in vb) write st
+  why_store held lacks e = by (is_active vb.role) refl (lacks_seqnos vb 1) refl e
     where
-      by : (a : Bool) → is_active vb.role ≡ a → (full : Bool) → (if a then (if full then Some Status.Etmpfail else key_refusal vb write) else Some Status.NotMyVbucket) ≡ Some st
-          → IsWhyRefused LacksSeqnos (Some (Some vb.role)) (image_in vb) write st
-      by false off full s = why_away LacksSeqnos (Some (Some vb.role)) (image_in vb) write st (follows vb.role off) (sym (same Status.NotMyVbucket st s))
-      by true on true s = why_besides LacksSeqnos vb.role (image_in vb) write st on (sym (same Status.Etmpfail st s))
-      by true on false s = why_key LacksSeqnos vb.role (image_in vb) write st on vb.waiting (pending_of vb write.key) refl s
+      by : (a : Bool) → is_active vb.role ≡ a → (full : Bool) → lacks_seqnos vb 1 ≡ full → (if a then (if full then Some Status.Etmpfail else key_refusal vb write) else Some Status.NotMyVbucket) ≡ Some st
+          → IsWhyRefused (LacksSeqnos held 1) (Some (Some vb.role)) (image_in vb) write st
+      by false off full l s = why_away (LacksSeqnos held 1) (Some (Some vb.role)) (image_in vb) write st (follows vb.role off) (sym (same Status.NotMyVbucket st s))
+      by true on true l s = why_besides (LacksSeqnos held 1) vb.role (image_in vb) write st on (subst (LacksSeqnos held 1) (same Status.Etmpfail st s) (lacks l))
+      by true on false l s = why_key (LacksSeqnos held 1) vb.role (image_in vb) write st on vb.waiting (pending_of vb write.key) refl s
 
   -- one that can have no majority comes first
   first_durable : (chain : Members) → (is_active vb.role ≡ true → chain ≡ vb.others) → durable_refusal vb write ≡ Some st → IsImpossibleFirst (Some (Some vb.role)) chain st
@@ -244,16 +249,17 @@ module _ (vb : Plain) (write : Write) (st : Status) where
       by true on true q full s = let z : true ≡ false = sym q ∙ ap is_possible (sym (is on)) ∙ few in cc
 
   -- and by its chain
-  why_durable : (chain : Members) → (is_active vb.role ≡ true → chain ≡ vb.others) → durable_refusal vb write ≡ Some st → IsWhyRefused (LacksMajority chain) (Some (Some vb.role)) (image_in vb) write st
-  why_durable chain is e = by (is_active vb.role) refl (is_possible vb.others) refl (lacks_seqnos vb 2) e
+  why_durable : (chain : Members) (held : List Change) → (is_active vb.role ≡ true → chain ≡ vb.others) → (lacks_seqnos vb 2 ≡ true → LacksSeqnos held 2 Status.Etmpfail) → durable_refusal vb write ≡ Some st
+      → IsWhyRefused (LacksMajority chain held) (Some (Some vb.role)) (image_in vb) write st
+  why_durable chain held is lacks e = by (is_active vb.role) refl (is_possible vb.others) refl (lacks_seqnos vb 2) refl e
     where
-      by : (a : Bool) → is_active vb.role ≡ a → (p : Bool) → is_possible vb.others ≡ p → (full : Bool)
+      by : (a : Bool) → is_active vb.role ≡ a → (p : Bool) → is_possible vb.others ≡ p → (full : Bool) → lacks_seqnos vb 2 ≡ full
           → (if not a then Some Status.NotMyVbucket else if not p then Some Status.DurabilityImpossible else if full then Some Status.Etmpfail else key_refusal vb write) ≡ Some st
-          → IsWhyRefused (LacksMajority chain) (Some (Some vb.role)) (image_in vb) write st
-      by false off p few full s = why_away (LacksMajority chain) (Some (Some vb.role)) (image_in vb) write st (follows vb.role off) (sym (same Status.NotMyVbucket st s))
-      by true on false few full s = why_besides (LacksMajority chain) vb.role (image_in vb) write st on (inr (ap is_possible (is on) ∙ few, sym (same Status.DurabilityImpossible st s)))
-      by true on true few true s = why_besides (LacksMajority chain) vb.role (image_in vb) write st on (inl (sym (same Status.Etmpfail st s)))
-      by true on true few false s = why_key (LacksMajority chain) vb.role (image_in vb) write st on vb.waiting (pending_of vb write.key) refl s
+          → IsWhyRefused (LacksMajority chain held) (Some (Some vb.role)) (image_in vb) write st
+      by false off p few full l s = why_away (LacksMajority chain held) (Some (Some vb.role)) (image_in vb) write st (follows vb.role off) (sym (same Status.NotMyVbucket st s))
+      by true on false few full l s = why_besides (LacksMajority chain held) vb.role (image_in vb) write st on (inr (ap is_possible (is on) ∙ few, sym (same Status.DurabilityImpossible st s)))
+      by true on true few true l s = why_besides (LacksMajority chain held) vb.role (image_in vb) write st on (inl (subst (LacksSeqnos held 2) (same Status.Etmpfail st s) (lacks l)))
+      by true on true few false l s = why_key (LacksMajority chain held) vb.role (image_in vb) write st on vb.waiting (pending_of vb write.key) refl s
 
 -- so it is refused where its vBucket is not active
 pub refused_away : (Besides : Status → Type 0) (role : Option (Option Role)) (image : Picture) (write : Write) (f : Frame) → (IsActive role → ⊥) → IsRefused Besides role image write f (reply_frame (status_reply f Status.NotMyVbucket))
@@ -327,11 +333,11 @@ frame_fits r n at settings f g own fits = subst (λ b. FitsBy b r n at settings 
 module _ (r : Chronicle) (n v : ℕ) (settings : Settings) (f : Frame) (write : Write) where
   -- a vBucket that is not active, or is not there, refuses each write
   pub write_away : (IsActive (r.role_at n v) → ⊥) → FitsWrite r n v settings write f (reply_frame (status_reply f Status.NotMyVbucket))
-  write_away off = inl (refused_away LacksSeqnos (r.role_at n v) (image_of (r.held n v)) write f off)
+  write_away off = inl (refused_away (LacksSeqnos (r.held n v) 1) (r.role_at n v) (image_of (r.held n v)) write f off)
 
   pub durable_away : (IsActive (r.role_at n v) → ⊥) → FitsDurable r n v settings write f (reply_frame (status_reply f Status.NotMyVbucket))
   durable_away off =
-      let x = refused_away (LacksMajority (r.counts_at n v).chain) (r.role_at n v) (image_of (r.held n v)) write f off in inr (inl (x.0, x.1, x.2, λ on few. absurd (off on)))
+      let x = refused_away (LacksMajority (r.counts_at n v).chain (r.held n v)) (r.role_at n v) (image_of (r.held n v)) write f off in inr (inl (x.0, x.1, x.2, λ on few. absurd (off on)))
 
   -- so does a connection that has no number left for a durable one, whatever its vBucket is
   pub durable_over : FitsDurable r n v settings write f (reply_frame (status_reply f Status.Etmpfail))
@@ -347,10 +353,24 @@ pub is_outcome : (settings : Settings) (f : Frame) (a : Awaited) (write : Write)
 is_outcome settings f a write wish asks (resolution.Committed branch seq cas) = (write, Some wish, asks, inl refl)
 is_outcome settings f a write wish asks resolution.Ambiguous = (write, Some wish, asks, inr refl)
 
+-- beyond the last seqno
+beyond : (n : ℕ) → nat_lt MAX_SEQ n ≡ true → 2 ^ 48 < n
+beyond n e = grind (arith, nat_tests)
+
 module _ (r : Chronicle) (n v : ℕ) (vb : Plain) (known : KnownAs r n v vb) where
   -- what fits the vBucket fits what is told of it
   as_told : (P : Option (Option Role) → Picture → Type 0) → P (Some (Some vb.role)) (image_in vb) → P (r.role_at n v) (image_of (r.held n v))
   as_told P x = subst (λ o. P o (image_of (r.held n v))) (sym known.role) (subst (P (Some (Some vb.role))) (sym known.image) x)
+
+  -- and so it is told where it has not so many seqnos left
+  lacks : (count : ℕ) → lacks_seqnos vb count ≡ true → LacksSeqnos (r.held n v) count Status.Etmpfail
+  lacks count full = record {
+    waiting = vb.waiting;
+    ascend = known.waits.ascend;
+    backed = λ w x. subst (λ image. IsBacked image w) (sym known.image) (known.waits.backed w x);
+    above = subst (λ at. 2 ^ 48 < at + length vb.waiting + count) (sym known.high) (beyond (vb.position.at + length vb.waiting + count) full);
+    said = refl;
+  }
 
   module _ (settings : Settings) (f : Frame) where
     pub get_fits : (key : List ℕ) → f.opcode ≡ GET → (reply : KvReply) → reply_to settings f (get_row vb key).answer ≡ Some reply
@@ -359,9 +379,9 @@ module _ (r : Chronicle) (n v : ℕ) (vb : Plain) (known : KnownAs r n v vb) whe
         (read_by settings f key vb.role (image_in vb) code vb.waiting (is_active vb.role) refl (pending_of vb key) refl (is_left vb.waiting (pending_of vb key)) refl (doc_at vb key) refl reply e)
 
     pub refused_fits : (write : Write) (st : Status) → store_refusal vb write ≡ Some st → FitsWrite r n v settings write f (reply_frame (status_reply f st))
-    refused_fits write st e = inl (st, status_fits f st, as_told (λ role image. IsWhyRefused LacksSeqnos role image write st) (why_store vb write st e))
+    refused_fits write st e = inl (st, status_fits f st, as_told (λ role image. IsWhyRefused (LacksSeqnos (r.held n v) 1) role image write st) (why_store vb write st (r.held n v) (lacks 1) e))
 
     pub durable_refused_fits : (write : Write) (st : Status) → durable_refusal vb write ≡ Some st → FitsDurable r n v settings write f (reply_frame (status_reply f st))
     durable_refused_fits write st e =
         let chain : Members = (r.counts_at n v).chain in
-        inr (inl (st, status_fits f st, as_told (λ role image. IsWhyRefused (LacksMajority chain) role image write st) (why_durable vb write st chain known.chain e), subst (λ o. IsImpossibleFirst o chain st) (sym known.role) (first_durable vb write st chain known.chain e)))
+        inr (inl (st, status_fits f st, as_told (λ role image. IsWhyRefused (LacksMajority chain (r.held n v)) role image write st) (why_durable vb write st chain (r.held n v) known.chain (lacks 2) e), subst (λ o. IsImpossibleFirst o chain st) (sym known.role) (first_durable vb write st chain known.chain e)))

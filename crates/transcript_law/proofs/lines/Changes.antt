@@ -136,16 +136,16 @@ reply_read q r n c bytes behind s l = ⊎_elim
         at (λ role. FitsGet role (image_of (q.held n f.vb_or_status)) settings.json key f g) f.vb_or_status s.role
         (at (λ held. FitsGet (r.role_at n f.vb_or_status) (image_of held) settings.json key f g) f.vb_or_status s.held x)
     request_read f g settings (Ok (request.Write write None)) x = ⊎_elim
-        (λ y. inl (at (λ role. IsRefused LacksSeqnos role (image_of (q.held n f.vb_or_status)) write f g) f.vb_or_status s.role
-        (at (λ held. IsRefused LacksSeqnos (r.role_at n f.vb_or_status) (image_of held) write f g) f.vb_or_status s.held y)))
+        (λ y. inl (at (λ role. IsRefused (LacksSeqnos (q.held n f.vb_or_status) 1) role (image_of (q.held n f.vb_or_status)) write f g) f.vb_or_status s.role
+        (at (λ held. IsRefused (LacksSeqnos held 1) (r.role_at n f.vb_or_status) (image_of held) write f g) f.vb_or_status s.held y)))
         (λ y. inr (subst (λ made. IsMade n f.vb_or_status (q.held n f.vb_or_status) made settings write f g) s.made (at (λ held. IsMade n f.vb_or_status held r.made settings write f g) f.vb_or_status s.held y)))
         x
     request_read f g settings (Ok (request.Write write (Some wish))) x = ⊎_elim
         (λ y. inl y)
         (⊎_elim
-        (λ y. inr (inl (at (λ (counts : CountsKnown). IsRefusedDurably counts.chain (q.role_at n f.vb_or_status) (image_of (q.held n f.vb_or_status)) write f g) f.vb_or_status s.counts
-        (at (λ role. IsRefusedDurably (r.counts_at n f.vb_or_status).chain role (image_of (q.held n f.vb_or_status)) write f g) f.vb_or_status s.role
-        (at (λ held. IsRefusedDurably (r.counts_at n f.vb_or_status).chain (r.role_at n f.vb_or_status) (image_of held) write f g) f.vb_or_status s.held y)))))
+        (λ y. inr (inl (at (λ (counts : CountsKnown). IsRefusedDurably counts.chain (q.role_at n f.vb_or_status) (q.held n f.vb_or_status) write f g) f.vb_or_status s.counts
+        (at (λ role. IsRefusedDurably (r.counts_at n f.vb_or_status).chain role (q.held n f.vb_or_status) write f g) f.vb_or_status s.role
+        (at (λ held. IsRefusedDurably (r.counts_at n f.vb_or_status).chain (r.role_at n f.vb_or_status) held write f g) f.vb_or_status s.held y)))))
         (⊎_elim (λ y. inr (inr (inl (subst (λ made. IsCommitted n made settings f g) s.made y)))) (λ y. inr (inr (inr y)))))
         x
 

@@ -32,7 +32,7 @@ impossible = (λ z. inl (record { question = _; next = refl; answer = reply_fram
 
 pub possible : LawfulTo [] (durably 1 7 8) (says SET status.DurabilityImpossible ∷ []) → ⊥
 unfolding spelling frames_in first_frame frame_of read_of frame_row shape_fault request_of requirement_of
-possible l = let (g, s, fits) = asked_so (l.0 refl) refl refl refl in ⊎_elim (λ a. let e : ◌≡◌ {A = ℕ} 161 134 = ap (byte_at 7) (bare_bytes a s) in omega (arith, e)) (λ x. ⊎_elim (λ r. ⊎_elim (λ d. let z : None ≡ Some r.0 = d in cc) (λ b. ⊎_elim (λ full. let e : ◌≡◌ {A = ℕ} 161 134 = status_byte status.Etmpfail r.1 s full in omega (arith, e)) (λ no. let z : true ≡ false = no.0 in cc) b) (unfit_is r.2 refl (none_pending (7 ∷ [])) (none_stored (7 ∷ [])))) (λ o. ⊎_elim (λ c. absurd c.told_before) (λ a. let e : ◌≡◌ {A = ℕ} 161 163 = ap (byte_at 7) (bare_bytes a s) in omega (arith, e)) o) x) fits
+possible l = let (g, s, fits) = asked_so (l.0 refl) refl refl refl in ⊎_elim (λ a. let e : ◌≡◌ {A = ℕ} 161 134 = ap (byte_at 7) (bare_bytes a s) in omega (arith, e)) (λ x. ⊎_elim (λ r. ⊎_elim (λ d. let z : None ≡ Some r.0 = d in cc) (λ b. ⊎_elim (λ full. let e : ◌≡◌ {A = ℕ} 161 134 = status_byte status.Etmpfail r.1 s full.said in omega (arith, e)) (λ no. let z : true ≡ false = no.0 in cc) b) (unfit_is r.2 refl (none_pending (7 ∷ [])) (none_stored (7 ∷ [])))) (λ o. ⊎_elim (λ c. absurd c.told_before) (λ a. let e : ◌≡◌ {A = ℕ} 161 163 = ap (byte_at 7) (bare_bytes a s) in omega (arith, e)) o) x) fits
 
 pub impossible_first : LawfulAmong (None ∷ []) pending (durably 1 9 4) (says SET status.DurabilityImpossible ∷ [])
 unfolding spelling frames_in first_frame frame_of read_of frame_row shape_fault request_of requirement_of
@@ -52,7 +52,7 @@ plain_locked = (λ z. inl (record { question = _; next = refl; answer = reply_fr
 
 pub plain_impossible : LawfulAmong (None ∷ []) [] (writes SET 0 7 8) (says SET status.DurabilityImpossible ∷ []) → ⊥
 unfolding spelling frames_in first_frame frame_of read_of frame_row shape_fault request_of requirement_of
-plain_impossible l = let (g, s, fits) = asked_so (l.0 refl) refl refl refl in ⊎_elim (λ r. ⊎_elim (λ d. let z : None ≡ Some r.0 = d in cc) (λ full. let e : ◌≡◌ {A = ℕ} 161 134 = status_byte status.Etmpfail r.1 s full in omega (arith, e)) (unfit_is r.2 refl (none_pending (7 ∷ [])) (none_stored (7 ∷ [])))) (λ m. no_made m) fits
+plain_impossible l = let (g, s, fits) = asked_so (l.0 refl) refl refl refl in ⊎_elim (λ r. ⊎_elim (λ d. let z : None ≡ Some r.0 = d in cc) (λ full. let e : ◌≡◌ {A = ℕ} 161 134 = status_byte status.Etmpfail r.1 s full.said in omega (arith, e)) (unfit_is r.2 refl (none_pending (7 ∷ [])) (none_stored (7 ∷ [])))) (λ m. no_made m) fits
 
 pub ambiguous : LawfulTo [] (durably 1 7 8) (says SET status.SyncWriteAmbiguous ∷ [])
 unfolding spelling frames_in first_frame frame_of read_of frame_row shape_fault request_of requirement_of
@@ -60,7 +60,7 @@ ambiguous = (λ z. inl (record { question = _; next = refl; answer = reply_frame
 
 pub plain_ambiguous : LawfulTo [] (writes SET 0 7 8) (says SET status.SyncWriteAmbiguous ∷ []) → ⊥
 unfolding spelling frames_in first_frame frame_of read_of frame_row shape_fault request_of requirement_of
-plain_ambiguous l = let (g, s, fits) = asked_so (l.0 refl) refl refl refl in ⊎_elim (λ r. ⊎_elim (λ d. let z : None ≡ Some r.0 = d in cc) (λ full. let e : ◌≡◌ {A = ℕ} 163 134 = status_byte status.Etmpfail r.1 s full in omega (arith, e)) (unfit_is r.2 refl (none_pending (7 ∷ [])) (none_stored (7 ∷ [])))) (λ m. no_made m) fits
+plain_ambiguous l = let (g, s, fits) = asked_so (l.0 refl) refl refl refl in ⊎_elim (λ r. ⊎_elim (λ d. let z : None ≡ Some r.0 = d in cc) (λ full. let e : ◌≡◌ {A = ℕ} 163 134 = status_byte status.Etmpfail r.1 s full.said in omega (arith, e)) (unfit_is r.2 refl (none_pending (7 ∷ [])) (none_stored (7 ∷ [])))) (λ m. no_made m) fits
 
 pub away : LawfulAway [] (durably 1 7 8) (says SET status.NotMyVbucket ∷ [])
 unfolding spelling frames_in first_frame frame_of read_of frame_row shape_fault request_of requirement_of
@@ -68,11 +68,11 @@ away = (λ z. inl (record { question = _; next = refl; answer = reply_frame (bar
 
 pub active : LawfulTo [] (durably 1 7 8) (says SET status.NotMyVbucket ∷ []) → ⊥
 unfolding spelling frames_in first_frame frame_of read_of frame_row shape_fault request_of requirement_of
-active l = let (g, s, fits) = asked_so (l.0 refl) refl refl refl in ⊎_elim (λ a. let e : ◌≡◌ {A = ℕ} 7 134 = ap (byte_at 7) (bare_bytes a s) in omega (arith, e)) (λ x. ⊎_elim (λ r. ⊎_elim (λ d. let z : None ≡ Some r.0 = d in cc) (λ b. ⊎_elim (λ full. let e : ◌≡◌ {A = ℕ} 7 134 = status_byte status.Etmpfail r.1 s full in omega (arith, e)) (λ no. let z : true ≡ false = no.0 in cc) b) (unfit_is r.2 refl (none_pending (7 ∷ [])) (none_stored (7 ∷ [])))) (λ o. ⊎_elim (λ c. absurd c.told_before) (λ a. let e : ◌≡◌ {A = ℕ} 7 163 = ap (byte_at 7) (bare_bytes a s) in omega (arith, e)) o) x) fits
+active l = let (g, s, fits) = asked_so (l.0 refl) refl refl refl in ⊎_elim (λ a. let e : ◌≡◌ {A = ℕ} 7 134 = ap (byte_at 7) (bare_bytes a s) in omega (arith, e)) (λ x. ⊎_elim (λ r. ⊎_elim (λ d. let z : None ≡ Some r.0 = d in cc) (λ b. ⊎_elim (λ full. let e : ◌≡◌ {A = ℕ} 7 134 = status_byte status.Etmpfail r.1 s full.said in omega (arith, e)) (λ no. let z : true ≡ false = no.0 in cc) b) (unfit_is r.2 refl (none_pending (7 ∷ [])) (none_stored (7 ∷ [])))) (λ o. ⊎_elim (λ c. absurd c.told_before) (λ a. let e : ◌≡◌ {A = ℕ} 7 163 = ap (byte_at 7) (bare_bytes a s) in omega (arith, e)) o) x) fits
 
 pub other : LawfulTo [] (durably 1 7 8) (says SET status.KeyEnoent ∷ []) → ⊥
 unfolding spelling frames_in first_frame frame_of read_of frame_row shape_fault request_of requirement_of
-other l = let (g, s, fits) = asked_so (l.0 refl) refl refl refl in ⊎_elim (λ a. let e : ◌≡◌ {A = ℕ} 1 134 = ap (byte_at 7) (bare_bytes a s) in omega (arith, e)) (λ x. ⊎_elim (λ r. ⊎_elim (λ d. let z : None ≡ Some r.0 = d in cc) (λ b. ⊎_elim (λ full. let e : ◌≡◌ {A = ℕ} 1 134 = status_byte status.Etmpfail r.1 s full in omega (arith, e)) (λ no. let z : true ≡ false = no.0 in cc) b) (unfit_is r.2 refl (none_pending (7 ∷ [])) (none_stored (7 ∷ [])))) (λ o. ⊎_elim (λ c. absurd c.told_before) (λ a. let e : ◌≡◌ {A = ℕ} 1 163 = ap (byte_at 7) (bare_bytes a s) in omega (arith, e)) o) x) fits
+other l = let (g, s, fits) = asked_so (l.0 refl) refl refl refl in ⊎_elim (λ a. let e : ◌≡◌ {A = ℕ} 1 134 = ap (byte_at 7) (bare_bytes a s) in omega (arith, e)) (λ x. ⊎_elim (λ r. ⊎_elim (λ d. let z : None ≡ Some r.0 = d in cc) (λ b. ⊎_elim (λ full. let e : ◌≡◌ {A = ℕ} 1 134 = status_byte status.Etmpfail r.1 s full.said in omega (arith, e)) (λ no. let z : true ≡ false = no.0 in cc) b) (unfit_is r.2 refl (none_pending (7 ∷ [])) (none_stored (7 ∷ [])))) (λ o. ⊎_elim (λ c. absurd c.told_before) (λ a. let e : ◌≡◌ {A = ℕ} 1 163 = ap (byte_at 7) (bare_bytes a s) in omega (arith, e)) o) x) fits
 
 pub spent : LawfulTo [] (durably 1 7 8) (says SET status.Etmpfail ∷ [])
 unfolding spelling frames_in first_frame frame_of read_of frame_row shape_fault request_of requirement_of
@@ -88,4 +88,4 @@ no_level = (λ z. kv_answer (reply_frame (bare_answer SET status.DurabilityInval
 
 pub level : LawfulTo [] (durably 3 7 8) (says SET status.DurabilityInvalidLevel ∷ []) → ⊥
 unfolding spelling frames_in first_frame frame_of read_of frame_row shape_fault request_of requirement_of
-level l = let (g, s, fits) = asked_so (l.0 refl) refl refl refl in ⊎_elim (λ a. let e : ◌≡◌ {A = ℕ} 160 134 = ap (byte_at 7) (bare_bytes a s) in omega (arith, e)) (λ x. ⊎_elim (λ r. ⊎_elim (λ d. let z : None ≡ Some r.0 = d in cc) (λ b. ⊎_elim (λ full. let e : ◌≡◌ {A = ℕ} 160 134 = status_byte status.Etmpfail r.1 s full in omega (arith, e)) (λ no. let z : true ≡ false = no.0 in cc) b) (unfit_is r.2 refl (none_pending (7 ∷ [])) (none_stored (7 ∷ [])))) (λ o. ⊎_elim (λ c. absurd c.told_before) (λ a. let e : ◌≡◌ {A = ℕ} 160 163 = ap (byte_at 7) (bare_bytes a s) in omega (arith, e)) o) x) fits
+level l = let (g, s, fits) = asked_so (l.0 refl) refl refl refl in ⊎_elim (λ a. let e : ◌≡◌ {A = ℕ} 160 134 = ap (byte_at 7) (bare_bytes a s) in omega (arith, e)) (λ x. ⊎_elim (λ r. ⊎_elim (λ d. let z : None ≡ Some r.0 = d in cc) (λ b. ⊎_elim (λ full. let e : ◌≡◌ {A = ℕ} 160 134 = status_byte status.Etmpfail r.1 s full.said in omega (arith, e)) (λ no. let z : true ≡ false = no.0 in cc) b) (unfit_is r.2 refl (none_pending (7 ∷ [])) (none_stored (7 ∷ [])))) (λ o. ⊎_elim (λ c. absurd c.told_before) (λ a. let e : ◌≡◌ {A = ℕ} 160 163 = ap (byte_at 7) (bare_bytes a s) in omega (arith, e)) o) x) fits

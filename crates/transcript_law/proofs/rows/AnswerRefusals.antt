@@ -1,7 +1,7 @@
 -- writes that are refused, judged by hand
-use Rattle.std.proofs.Common.{true, false, List, [], ap, arith, inl, inr, refl, sym, ℕ, ⊎_elim, ◌∙◌, ◌∷◌, ◌≡◌}
+use Rattle.std.proofs.Common.{true, false, List, [], ap, arith, inl, inr, refl, subst, sym, ℕ, ⊎_elim, ◌∙◌, ◌∷◌, ◌≡◌}
 use Rattle.std.specs.FinMap.{get}
-use Rattle.std.specs.Prelude.{◌⊎◌, Option, Some, None}
+use Rattle.std.specs.Prelude.{◌⊎◌, ◌<◌, ◌+◌, ◌^◌, Option, Some, None, length}
 unfoldable use Rattle.mcbp_dcp.specs.Messages.{read_of}
 unfoldable use Rattle.mcbp_dcp.specs.Rows.{frame_row}
 unfoldable use Rattle.mcbp_dcp.specs.Shapes.{shape_fault}
@@ -15,7 +15,14 @@ use Rattle.mcbp_kv.specs.Answers.{IsBare, bare_answer}
 use Rattle.mcbp_kv.specs.Replies.{reply_frame}
 use Rattle.mcbp_kv.specs.declared.opcodes.TheConstants.{ADD, DELETE, REPLACE, SET}
 use Rattle.vb_calls.specs.Writes.{doc_refusal}
-use Rattle.vb_types.specs.Images.{Picture}
+use Rattle.branch_model.specs.Histories.{last_seq}
+use Rattle.durability.specs.Laws.{Waits}
+use Rattle.durability.specs.declared.waiting.Waiting.{Waiting}
+use Rattle.vb_types.proofs.Laws.{get-insert_same}
+use Rattle.vb_types.specs.Images.{Picture, image_of, nothing}
+use Rattle.vb_types.specs.declared.change.Change.{Change}
+use Rattle.vb_types.specs.declared.change.Level.TheVariants.{Majority}
+use Rattle.vbucket.specs.Laws.{IsBacked}
 use Rattle.vb_types.specs.Statuses.{status_code}
 use Rattle.vb_types.specs.declared.doc.Doc.{Doc}
 use Rattle.vb_types.specs.declared.role.Role.{Role}
@@ -23,15 +30,15 @@ use Rattle.vb_types.specs.declared.status.Status.{Status}
 use Rattle.vb_types.specs.declared.status.Status.TheVariants as status
 use Rattle.vb_types.specs.declared.write.Op.TheVariants as op
 use Rattle.vb_types.specs.declared.write.Write.{Write}
-use Rattle.transcript_law.specs.AnswerRows.{LawfulAway, LawfulTo, makes, once, removal, removes, says, writes}
+use Rattle.transcript_law.specs.AnswerRows.{LawfulAway, LawfulTo, makes, once, prepared_at, removal, removes, says, set_at, writes}
 use Rattle.transcript_law.specs.ClientStreamRows.{pending}
-use Rattle.transcript_law.specs.LawfulAnswers.{IsLocked, IsWhyRefused}
+use Rattle.transcript_law.specs.LawfulAnswers.{IsLocked, IsWhyRefused, LacksSeqnos}
 use Rattle.transcript_law.specs.LawfulClients.{IsActive}
 use Rattle.transcript_law.specs.Transcripts.{first_doc, one_change}
 use Rattle.transcript_law.proofs.rows.AnswerWrites.{no_made}
 use Rattle.transcript_law.proofs.rows.Answering.{asked_calm, asked_so, bare_bytes, bare_so, byte_at, response_of, stored_bytes}
 use Rattle.transcript_law.proofs.rows.ClientStreamVerdicts.{no_active}
-use Rattle.transcript_law.proofs.rows.NextRows.{none_pending, none_stored, seven_pending, seven_there}
+use Rattle.transcript_law.proofs.rows.NextRows.{left_none, nine_none, none_pending, none_stored, seven_pending, seven_there}
 use Rattle.transcript_law.proofs.rows.WaitingKeys.{nine_waits, seven_free, waits}
 
 -- ---- why a write is refused
@@ -80,7 +87,7 @@ status_byte {bytes} {g} {code} {opaque} {st} known b s is = ap (byte_at 7) (bare
 
 pub fits : LawfulTo once (writes SET 1 7 4) (says SET status.KeyEexists ∷ []) → ⊥
 unfolding spelling frames_in first_frame frame_of read_of frame_row shape_fault request_of requirement_of
-fits l = let (g, s, fits) = asked_so (l.0 refl) refl refl refl in ⊎_elim (λ r. ⊎_elim (λ d. let z : None ≡ Some r.0 = d in cc) (λ full. let e : ◌≡◌ {A = ℕ} 2 134 = status_byte status.Etmpfail r.1 s full in omega (arith, e)) (unfit_is r.2 refl (seven_pending (first_doc 1 (8 ∷ [])) (7 ∷ [])) (seven_there (first_doc 1 (8 ∷ []))))) (λ m. no_made m) fits
+fits l = let (g, s, fits) = asked_so (l.0 refl) refl refl refl in ⊎_elim (λ r. ⊎_elim (λ d. let z : None ≡ Some r.0 = d in cc) (λ full. let e : ◌≡◌ {A = ℕ} 2 134 = status_byte status.Etmpfail r.1 s full.said in omega (arith, e)) (unfit_is r.2 refl (seven_pending (first_doc 1 (8 ∷ [])) (7 ∷ [])) (seven_there (first_doc 1 (8 ∷ []))))) (λ m. no_made m) fits
 
 pub unfit : LawfulTo once (writes SET 3 7 4) (says SET status.KeyEexists ∷ [])
 unfolding spelling frames_in first_frame frame_of read_of frame_row shape_fault request_of requirement_of
@@ -88,11 +95,11 @@ unfit = (λ z. inl (record { question = _; next = refl; answer = reply_frame (ba
 
 pub unfit_other : LawfulTo once (writes SET 3 7 4) (says SET status.KeyEnoent ∷ []) → ⊥
 unfolding spelling frames_in first_frame frame_of read_of frame_row shape_fault request_of requirement_of
-unfit_other l = let (g, s, fits) = asked_so (l.0 refl) refl refl refl in ⊎_elim (λ r. ⊎_elim (λ d. let z : Some status.KeyEexists ≡ Some r.0 = d in let is : r.0 ≡ status.KeyEexists = cc in let e : ◌≡◌ {A = ℕ} 1 2 = status_byte status.KeyEexists r.1 s is in omega (arith, e)) (λ full. let e : ◌≡◌ {A = ℕ} 1 134 = status_byte status.Etmpfail r.1 s full in omega (arith, e)) (unfit_is r.2 refl (seven_pending (first_doc 1 (8 ∷ [])) (7 ∷ [])) (seven_there (first_doc 1 (8 ∷ []))))) (λ m. no_made m) fits
+unfit_other l = let (g, s, fits) = asked_so (l.0 refl) refl refl refl in ⊎_elim (λ r. ⊎_elim (λ d. let z : Some status.KeyEexists ≡ Some r.0 = d in let is : r.0 ≡ status.KeyEexists = cc in let e : ◌≡◌ {A = ℕ} 1 2 = status_byte status.KeyEexists r.1 s is in omega (arith, e)) (λ full. let e : ◌≡◌ {A = ℕ} 1 134 = status_byte status.Etmpfail r.1 s full.said in omega (arith, e)) (unfit_is r.2 refl (seven_pending (first_doc 1 (8 ∷ [])) (7 ∷ [])) (seven_there (first_doc 1 (8 ∷ []))))) (λ m. no_made m) fits
 
 pub adds : LawfulTo [] (writes ADD 0 7 8) (says ADD status.KeyEexists ∷ []) → ⊥
 unfolding spelling frames_in first_frame frame_of read_of frame_row shape_fault request_of requirement_of
-adds l = let (g, s, fits) = asked_so (l.0 refl) refl refl refl in ⊎_elim (λ r. ⊎_elim (λ d. let z : None ≡ Some r.0 = d in cc) (λ full. let e : ◌≡◌ {A = ℕ} 2 134 = status_byte status.Etmpfail r.1 s full in omega (arith, e)) (unfit_is r.2 refl (none_pending (7 ∷ [])) (none_stored (7 ∷ [])))) (λ m. no_made m) fits
+adds l = let (g, s, fits) = asked_so (l.0 refl) refl refl refl in ⊎_elim (λ r. ⊎_elim (λ d. let z : None ≡ Some r.0 = d in cc) (λ full. let e : ◌≡◌ {A = ℕ} 2 134 = status_byte status.Etmpfail r.1 s full.said in omega (arith, e)) (unfit_is r.2 refl (none_pending (7 ∷ [])) (none_stored (7 ∷ [])))) (λ m. no_made m) fits
 
 pub adds_again : LawfulTo once (writes ADD 0 7 4) (says ADD status.KeyEexists ∷ [])
 unfolding spelling frames_in first_frame frame_of read_of frame_row shape_fault request_of requirement_of
@@ -100,7 +107,7 @@ adds_again = (λ z. inl (record { question = _; next = refl; answer = reply_fram
 
 pub replaces : LawfulTo once (writes REPLACE 0 7 4) (says REPLACE status.KeyEnoent ∷ []) → ⊥
 unfolding spelling frames_in first_frame frame_of read_of frame_row shape_fault request_of requirement_of
-replaces l = let (g, s, fits) = asked_so (l.0 refl) refl refl refl in ⊎_elim (λ r. ⊎_elim (λ d. let z : None ≡ Some r.0 = d in cc) (λ full. let e : ◌≡◌ {A = ℕ} 1 134 = status_byte status.Etmpfail r.1 s full in omega (arith, e)) (unfit_is r.2 refl (seven_pending (first_doc 1 (8 ∷ [])) (7 ∷ [])) (seven_there (first_doc 1 (8 ∷ []))))) (λ m. no_made m) fits
+replaces l = let (g, s, fits) = asked_so (l.0 refl) refl refl refl in ⊎_elim (λ r. ⊎_elim (λ d. let z : None ≡ Some r.0 = d in cc) (λ full. let e : ◌≡◌ {A = ℕ} 1 134 = status_byte status.Etmpfail r.1 s full.said in omega (arith, e)) (unfit_is r.2 refl (seven_pending (first_doc 1 (8 ∷ [])) (7 ∷ [])) (seven_there (first_doc 1 (8 ∷ []))))) (λ m. no_made m) fits
 
 pub replaces_none : LawfulTo [] (writes REPLACE 0 7 8) (says REPLACE status.KeyEnoent ∷ [])
 unfolding spelling frames_in first_frame frame_of read_of frame_row shape_fault request_of requirement_of
@@ -112,15 +119,15 @@ removes_none = (λ z. inl (record { question = _; next = refl; answer = reply_fr
 
 pub other : LawfulTo [] (writes SET 0 7 8) (says SET status.KeyEnoent ∷ []) → ⊥
 unfolding spelling frames_in first_frame frame_of read_of frame_row shape_fault request_of requirement_of
-other l = let (g, s, fits) = asked_so (l.0 refl) refl refl refl in ⊎_elim (λ r. ⊎_elim (λ d. let z : None ≡ Some r.0 = d in cc) (λ full. let e : ◌≡◌ {A = ℕ} 1 134 = status_byte status.Etmpfail r.1 s full in omega (arith, e)) (unfit_is r.2 refl (none_pending (7 ∷ [])) (none_stored (7 ∷ [])))) (λ m. no_made m) fits
+other l = let (g, s, fits) = asked_so (l.0 refl) refl refl refl in ⊎_elim (λ r. ⊎_elim (λ d. let z : None ≡ Some r.0 = d in cc) (λ full. let e : ◌≡◌ {A = ℕ} 1 134 = status_byte status.Etmpfail r.1 s full.said in omega (arith, e)) (unfit_is r.2 refl (none_pending (7 ∷ [])) (none_stored (7 ∷ [])))) (λ m. no_made m) fits
 
 pub success : LawfulTo once (writes ADD 0 7 4) (says ADD status.Success ∷ []) → ⊥
 unfolding spelling frames_in first_frame frame_of read_of frame_row shape_fault request_of requirement_of
-success l = let (g, s, fits) = asked_so (l.0 refl) refl refl refl in ⊎_elim (λ r. ⊎_elim (λ d. let z : Some status.KeyEexists ≡ Some r.0 = d in let is : r.0 ≡ status.KeyEexists = cc in let e : ◌≡◌ {A = ℕ} 0 2 = status_byte status.KeyEexists r.1 s is in omega (arith, e)) (λ full. let e : ◌≡◌ {A = ℕ} 0 134 = status_byte status.Etmpfail r.1 s full in omega (arith, e)) (unfit_is r.2 refl (seven_pending (first_doc 1 (8 ∷ [])) (7 ∷ [])) (seven_there (first_doc 1 (8 ∷ []))))) (λ m. no_made m) fits
+success l = let (g, s, fits) = asked_so (l.0 refl) refl refl refl in ⊎_elim (λ r. ⊎_elim (λ d. let z : Some status.KeyEexists ≡ Some r.0 = d in let is : r.0 ≡ status.KeyEexists = cc in let e : ◌≡◌ {A = ℕ} 0 2 = status_byte status.KeyEexists r.1 s is in omega (arith, e)) (λ full. let e : ◌≡◌ {A = ℕ} 0 134 = status_byte status.Etmpfail r.1 s full.said in omega (arith, e)) (unfit_is r.2 refl (seven_pending (first_doc 1 (8 ∷ [])) (7 ∷ [])) (seven_there (first_doc 1 (8 ∷ []))))) (λ m. no_made m) fits
 
 pub active : LawfulTo [] (writes SET 0 7 8) (says SET status.NotMyVbucket ∷ []) → ⊥
 unfolding spelling frames_in first_frame frame_of read_of frame_row shape_fault request_of requirement_of
-active l = let (g, s, fits) = asked_so (l.0 refl) refl refl refl in ⊎_elim (λ r. ⊎_elim (λ d. let z : None ≡ Some r.0 = d in cc) (λ full. let e : ◌≡◌ {A = ℕ} 7 134 = status_byte status.Etmpfail r.1 s full in omega (arith, e)) (unfit_is r.2 refl (none_pending (7 ∷ [])) (none_stored (7 ∷ [])))) (λ m. no_made m) fits
+active l = let (g, s, fits) = asked_so (l.0 refl) refl refl refl in ⊎_elim (λ r. ⊎_elim (λ d. let z : None ≡ Some r.0 = d in cc) (λ full. let e : ◌≡◌ {A = ℕ} 7 134 = status_byte status.Etmpfail r.1 s full.said in omega (arith, e)) (unfit_is r.2 refl (none_pending (7 ∷ [])) (none_stored (7 ∷ [])))) (λ m. no_made m) fits
 
 pub away : LawfulAway [] (writes SET 0 7 8) (says SET status.NotMyVbucket ∷ [])
 unfolding spelling frames_in first_frame frame_of read_of frame_row shape_fault request_of requirement_of
@@ -144,15 +151,51 @@ left_undone = (λ z. inl (record { question = _; next = refl; answer = reply_fra
 
 pub locked_other : LawfulTo pending (writes REPLACE 0 9 4) (says REPLACE status.KeyEnoent ∷ []) → ⊥
 unfolding spelling frames_in first_frame frame_of read_of frame_row shape_fault request_of requirement_of
-locked_other l = let (g, s, fits) = asked_so (l.0 refl) refl refl refl in ⊎_elim (λ r. ⊎_elim (λ w. let e : ◌≡◌ {A = ℕ} 1 162 = status_byte status.SyncWriteInProgress r.1 s w in omega (arith, e)) (λ x. ⊎_elim (λ w. let e : ◌≡◌ {A = ℕ} 1 164 = status_byte status.SyncWriteReCommitInProgress r.1 s w in omega (arith, e)) (λ full. let e : ◌≡◌ {A = ℕ} 1 134 = status_byte status.Etmpfail r.1 s full in omega (arith, e)) x) (r.2.locked refl (waits, nine_waits))) (λ m. no_made m) fits
+locked_other l = let (g, s, fits) = asked_so (l.0 refl) refl refl refl in ⊎_elim (λ r. ⊎_elim (λ w. let e : ◌≡◌ {A = ℕ} 1 162 = status_byte status.SyncWriteInProgress r.1 s w in omega (arith, e)) (λ x. ⊎_elim (λ w. let e : ◌≡◌ {A = ℕ} 1 164 = status_byte status.SyncWriteReCommitInProgress r.1 s w in omega (arith, e)) (λ full. let e : ◌≡◌ {A = ℕ} 1 134 = status_byte status.Etmpfail r.1 s full.said in omega (arith, e)) x) (r.2.locked refl (waits, nine_waits))) (λ m. no_made m) fits
 
 pub unlocked : LawfulTo pending (writes SET 0 7 4) (says SET status.SyncWriteInProgress ∷ []) → ⊥
 unfolding spelling frames_in first_frame frame_of read_of frame_row shape_fault request_of requirement_of
-unlocked l = let (g, s, fits) = asked_so (l.0 refl) refl refl refl in ⊎_elim (λ r. ⊎_elim (λ d. let z : None ≡ Some r.0 = d in cc) (λ full. let e : ◌≡◌ {A = ℕ} 162 134 = status_byte status.Etmpfail r.1 s full in omega (arith, e)) (unfit_is r.2 refl seven_free (seven_there (first_doc 1 (8 ∷ []))))) (λ m. no_made m) fits
+unlocked l = let (g, s, fits) = asked_so (l.0 refl) refl refl refl in ⊎_elim (λ r. ⊎_elim (λ d. let z : None ≡ Some r.0 = d in cc) (λ full. let e : ◌≡◌ {A = ℕ} 162 134 = status_byte status.Etmpfail r.1 s full.said in omega (arith, e)) (unfit_is r.2 refl seven_free (seven_there (first_doc 1 (8 ∷ []))))) (λ m. no_made m) fits
 
-pub full : LawfulTo [] (writes SET 0 7 8) (says SET status.Etmpfail ∷ [])
+-- where none waits at any key, no more seqnos are lacking than the changes took
+none_waits : (held : List Change) → ((key : List ℕ) → get (image_of held).pending key ≡ None) → (count : ℕ) (st : Status) → LacksSeqnos held count st → 2 ^ 48 < last_seq 0 held + count
+none_waits held none count st l = by l.waiting l.backed l.above
+  where
+    by : (ws : List Waiting) → ((w : Waiting) → Waits w ws → IsBacked (image_of held) w) → 2 ^ 48 < last_seq 0 held + length ws + count → 2 ^ 48 < last_seq 0 held + count
+    by [] backed above = omega (arith, above)
+    by (w ∷ ws) backed above = let p = backed w (inl refl) in let z : None ≡ Some p.0 = sym (none w.key) ∙ p.1 in cc
+
+-- a further change lacks its seqno behind the last one, and behind the one before where a prepare waits
+lacks_last : LacksSeqnos (set_at 281474976710656) 1 status.Etmpfail
+lacks_last = record { waiting = []; ascend = tt; backed = λ w none. absurd none; above = omega arith; said = refl }
+
+pub full : LawfulTo (set_at 281474976710656) (writes SET 0 9 8) (says SET status.Etmpfail ∷ [])
 unfolding spelling frames_in first_frame frame_of read_of frame_row shape_fault request_of requirement_of
-full = (λ z. inl (record { question = _; next = refl; answer = reply_frame (bare_answer SET status.Etmpfail 9); spelled = refl; response = refl; opcode = refl; opaque = refl; calm = inr tt; fits = inl (status.Etmpfail, bare_so SET 9 status.Etmpfail, why_unfit refl (none_pending (7 ∷ [])) (inr refl)) }), tt)
+full = (λ z. inl (record { question = _; next = refl; answer = reply_frame (bare_answer SET status.Etmpfail 9); spelled = refl; response = refl; opcode = refl; opaque = refl; calm = inr tt; fits = inl (status.Etmpfail, bare_so SET 9 status.Etmpfail, why_besides refl lacks_last) }), tt)
+
+abbrev waiting_at : Waiting
+waiting_at = record { key = 9 ∷ []; seq = 281474976710655; level = Majority; deadline = None; waiter = 0 }
+
+lacks_beside : LacksSeqnos (prepared_at 281474976710655) 1 status.Etmpfail
+lacks_beside = record {
+  waiting = waiting_at ∷ [];
+  ascend = (tt, tt);
+  backed = λ w i. ⊎_elim (λ e. subst (IsBacked (image_of (prepared_at 281474976710655))) (sym e) (record waits { seq = 281474976710655 }, get-insert_same nothing.pending (9 ∷ []) (record waits { seq = 281474976710655 }), refl, refl)) (λ none. absurd none) i;
+  above = omega arith;
+  said = refl;
+}
+
+pub full_beside : LawfulTo (prepared_at 281474976710655) (writes SET 0 7 4) (says SET status.Etmpfail ∷ [])
+unfolding spelling frames_in first_frame frame_of read_of frame_row shape_fault request_of requirement_of
+full_beside = (λ z. inl (record { question = _; next = refl; answer = reply_frame (bare_answer SET status.Etmpfail 9); spelled = refl; response = refl; opcode = refl; opaque = refl; calm = inr tt; fits = inl (status.Etmpfail, bare_so SET 9 status.Etmpfail, why_besides refl lacks_beside) }), tt)
+
+pub full_early : LawfulTo (set_at 281474976710655) (writes SET 0 9 8) (says SET status.Etmpfail ∷ []) → ⊥
+unfolding spelling frames_in first_frame frame_of read_of frame_row shape_fault request_of requirement_of
+full_early l = let (g, s, fits) = asked_so (l.0 refl) refl refl refl in ⊎_elim (λ r. ⊎_elim (λ d. let z : None ≡ Some r.0 = d in cc) (λ lacks. let n = none_waits (set_at 281474976710655) (left_none 281474976710655 (7 ∷ [])) 1 r.0 lacks in omega (arith, n)) (unfit_is r.2 refl (left_none 281474976710655 (7 ∷ []) (9 ∷ [])) (nine_none (first_doc 1 (8 ∷ []))))) (λ m. no_made m) fits
+
+pub full_first : LawfulTo [] (writes SET 0 7 8) (says SET status.Etmpfail ∷ []) → ⊥
+unfolding spelling frames_in first_frame frame_of read_of frame_row shape_fault request_of requirement_of
+full_first l = let (g, s, fits) = asked_so (l.0 refl) refl refl refl in ⊎_elim (λ r. ⊎_elim (λ d. let z : None ≡ Some r.0 = d in cc) (λ lacks. let n = none_waits [] none_pending 1 r.0 lacks in omega (arith, n)) (unfit_is r.2 refl (none_pending (7 ∷ [])) (none_stored (7 ∷ [])))) (λ m. no_made m) fits
 
 -- a status that is not of an outcome was told, and no write is its own
 no_outcome : {bytes : List ℕ} {g : Frame} {code said opaque other : ℕ} → IsBare g code said opaque → bytes ≡ spelling g → g.vb_or_status ≡ other → bytes ≡ spelling (response_of code 0 other opaque 0 [] [])

@@ -14,7 +14,7 @@ use Rattle.transcript_law.proofs.rows.ClientStreams.{◌▹◌, all_between, put
 use Rattle.transcript_law.proofs.rows.ClientStreamItems.{dead_now}
 use Rattle.transcript_law.proofs.rows.ClientStreamMarks.{part_put}
 
-header : (reason : ℕ) → vb_in_header (spelling (dcp_frame (msg.StreamEnd reason) 9 0)) ≡ 0
+pub header : (reason : ℕ) → vb_in_header (spelling (dcp_frame (msg.StreamEnd reason) 9 0)) ≡ 0
 unfolding spelling dcp_frame
 header reason = refl
 

@@ -163,7 +163,7 @@ value l =
     let e : ◌≡◌ {A = ℕ} 9 8 = ap value_at b in omega (arith, e)
 
 -- the first change is to come first
-no_skip : IsNextItem (snapshot two 0 2 []) next_item → ⊥
+pub no_skip : IsNextItem (snapshot two 0 2 []) next_item → ⊥
 no_skip n =
     let (y, i, stands) = n.1.covers.remains.has (Slot.Committed (7 ∷ [])) one_change refl (omega arith) (omega arith) in
     let at : y.seq ≡ 1 = ⊎_elim (λ s. ap (λ (z : Change). z.seq) s) (λ s. ap (λ (z : Change). z.seq) s) stands in by n.1.whole (map item_of_change n.0) n.1.front n.1.covers.remains.rises y i at
@@ -174,7 +174,7 @@ no_skip n =
         let head : item_of_change x ≡ next_item = cc in let b : x.seq ≡ 2 = ap (λ (z : ItemLine). z.seq) head in
         ⊎_elim (λ same. let q : y.seq ≡ x.seq = ap (λ (z : Change). z.seq) same in omega (arith, at, b, q)) (λ later. let q : x.seq < y.seq = (rises_in x.seq 2 xs y r.1 later).0 in omega (arith, at, b, q)) i
 
-next_header : vb_in_header (spelling (dcp_frame (act_message next_change next_change.act) 9 0)) ≡ 0
+pub next_header : vb_in_header (spelling (dcp_frame (act_message next_change next_change.act) 9 0)) ≡ 0
 unfolding spelling dcp_frame
 next_header = refl
 

@@ -147,7 +147,7 @@ another l = by l.0.put.bytes l.0.put.stands.0 l.0.put.stands.1
 unknown : (streams : ClientKnown) (m : DcpMsg) (bytes : List ℕ) (more : List Event) → streams.streams (vb_in_header bytes) ≡ None → IsPut 0 1 streams m (event.Reply 0 1 bytes ∷ more) → ⊥
 unknown streams m bytes more none p = let e : None ≡ Some p.stream = sym none ∙ ap (λ b. streams.streams (vb_in_header b)) (sym (bytes_are bytes more streams m p)) ∙ p.known_as in cc
 
-other_header : vb_in_header (spelling (dcp_frame both_marked 9 1)) ≡ 1
+pub other_header : vb_in_header (spelling (dcp_frame both_marked 9 1)) ≡ 1
 unfolding spelling dcp_frame
 other_header = refl
 

@@ -301,7 +301,7 @@ seq_of : (x : Change) → IsOf changes x → x.seq ≤ 2
 seq_of x (c, i, stands) = let s : x.seq ≡ c.seq = seq_as x c stands in
     ⊎_elim (λ one. let n : c.seq ≡ 1 = ap (λ (y : Change). y.seq) one in omega arith) (λ next. let n : c.seq ≡ 2 = ap (λ (y : Change). y.seq) next in omega arith) (one_of c i)
 
-ends_within : (n : ℕ) (xs : List Change) → n ≤ 2 → ((x : Change) → IsIn x xs → IsOf changes x) → last_seq n xs ≤ 2
+pub ends_within : (n : ℕ) (xs : List Change) → n ≤ 2 → ((x : Change) → IsIn x xs → IsOf changes x) → last_seq n xs ≤ 2
 ends_within n [] l of = l
 ends_within n (x ∷ xs) l of = ends_within x.seq xs (seq_of x (of x (inl refl))) (λ y i. of y (inr i))
 
@@ -310,7 +310,7 @@ beyond l =
     let (xs, covers) = (marker_of before_sent own_stream 0 3 refl refl l.1.1.1.1.1.1.1.1.1.1.0.0.0).whole in
     let least : last_seq 0 xs ≤ 2 = ends_within 0 xs (omega arith) covers.remains.of in let e : last_seq 0 xs ≡ 3 = covers.reaches in omega arith
 
-none_put : (xs : List Change) → map item_of_change xs ≡ [] → last_seq 0 xs ≡ 1 → ⊥
+pub none_put : (xs : List Change) → map item_of_change xs ≡ [] → last_seq 0 xs ≡ 1 → ⊥
 none_put [] e r = omega arith
 none_put (x ∷ xs) e r = cc
 
@@ -325,9 +325,8 @@ first_is : (whole : List Change) (item : ItemLine) (rest : List ItemLine) → ma
 first_is [] item rest e = cc
 first_is (x ∷ xs) item rest e = (x, xs, refl, cc)
 
-pub key : Lawful two_followed (sent_so (marker_line 0 2 ∷ set_item_line 1 (9 ∷ []) ∷ [])) → ⊥
-key l =
-    let (more, f, ends) = item_of (after_lines before_sent (marker_line 0 2 ∷ [])) (begun 0 2 []) (record { seq = 1; act = Set; key = 9 ∷ [] }) refl refl l.1.1.1.1.1.1.1.1.1.1.0.0.1.0 in
+pub strange_key : IsNextItem (begun 0 2 []) (record { seq = 1; act = Set; key = 9 ∷ [] }) → ⊥
+strange_key (more, f, ends) =
     let (x, xs, whole, item) = first_is f.whole (record { seq = 1; act = Set; key = 9 ∷ [] }) (map item_of_change more) f.front in
     let (c, i, stands) = f.covers.remains.of x (subst (λ ys. IsIn x ys) (sym whole) (inl refl)) in
     let s : x.seq ≡ c.seq = seq_as x c stands in let k : x.key ≡ c.key = key_as x c stands in
@@ -335,15 +334,20 @@ key l =
     ⊎_elim (λ one. let seven : c.key ≡ 7 ∷ [] = ap (λ (y : Change). y.key) one in let e : ◌≡◌ {A = List ℕ} (9 ∷ []) (7 ∷ []) = sym nine ∙ k ∙ seven in cc)
     (λ next. let two : c.seq ≡ 2 = ap (λ (y : Change). y.seq) next in omega arith) (one_of c i)
 
-pub skipped : Lawful two_followed (sent_so (marker_line 0 2 ∷ next_item_line ∷ [])) → ⊥
-skipped l =
-    let (more, f, ends) = item_of (after_lines before_sent (marker_line 0 2 ∷ [])) (begun 0 2 []) next_item refl refl l.1.1.1.1.1.1.1.1.1.1.0.0.1.0 in
+pub key : Lawful two_followed (sent_so (marker_line 0 2 ∷ set_item_line 1 (9 ∷ []) ∷ [])) → ⊥
+key l = strange_key (item_of (after_lines before_sent (marker_line 0 2 ∷ [])) (begun 0 2 []) (record { seq = 1; act = Set; key = 9 ∷ [] }) refl refl l.1.1.1.1.1.1.1.1.1.1.0.0.1.0)
+
+pub skips : IsNextItem (begun 0 2 []) next_item → ⊥
+skips (more, f, ends) =
     let (x, xs, whole, item) = first_is f.whole next_item (map item_of_change more) f.front in
     let (y, i, stands) = f.covers.remains.has (Slot.Committed (7 ∷ [])) one_change refl (omega arith) (omega arith) in
     let s : y.seq ≡ 1 = seq_as y one_change stands in let n : x.seq ≡ 2 = ap (λ (z : ItemLine). z.seq) item in
     let rises : Rises 0 2 (x ∷ xs) = subst (λ ys. Rises 0 2 ys) whole f.covers.remains.rises in
     let j : IsIn y (x ∷ xs) = subst (λ ys. IsIn y ys) whole i in
     ⊎_elim (λ same. let q : y.seq ≡ x.seq = ap (λ (z : Change). z.seq) same in omega arith) (λ later. let q : x.seq < y.seq = (rises_in x.seq 2 xs y rises.1 later).0 in omega arith) j
+
+pub skipped : Lawful two_followed (sent_so (marker_line 0 2 ∷ next_item_line ∷ [])) → ⊥
+skipped l = skips (item_of (after_lines before_sent (marker_line 0 2 ∷ [])) (begun 0 2 []) next_item refl refl l.1.1.1.1.1.1.1.1.1.1.0.0.1.0)
 
 second_is : (whole : List Change) (a b : ItemLine) (rest : List ItemLine) → map item_of_change whole ≡ a ∷ b ∷ rest → Rises 0 2 whole → a.seq < b.seq
 second_is [] a b rest e r = cc
@@ -352,10 +356,11 @@ second_is (x ∷ y ∷ ys) a b rest e r =
     let first : item_of_change x ≡ a = cc in let next : item_of_change y ≡ b = cc in
     let m : x.seq ≡ a.seq = ap (λ (z : ItemLine). z.seq) first in let n : y.seq ≡ b.seq = ap (λ (z : ItemLine). z.seq) next in let l : x.seq < y.seq = r.1.0 in omega arith
 
+pub repeats : IsNextItem (begun 0 2 (first_item ∷ [])) first_item → ⊥
+repeats (more, f, ends) = let e : ◌<◌ 1 1 = second_is f.whole first_item first_item (map item_of_change more) f.front f.covers.remains.rises in omega arith
+
 pub twice : Lawful two_followed (sent_so (marker_line 0 2 ∷ first_item_line ∷ first_item_line ∷ [])) → ⊥
-twice l =
-    let (more, f, ends) = item_of (after_lines before_sent (marker_line 0 2 ∷ first_item_line ∷ [])) (begun 0 2 (first_item ∷ [])) first_item refl refl l.1.1.1.1.1.1.1.1.1.1.0.0.1.1.0 in
-    let e : ◌<◌ 1 1 = second_is f.whole first_item first_item (map item_of_change more) f.front f.covers.remains.rises in omega arith
+twice l = repeats (item_of (after_lines before_sent (marker_line 0 2 ∷ first_item_line ∷ [])) (begun 0 2 (first_item ∷ [])) first_item refl refl l.1.1.1.1.1.1.1.1.1.1.0.0.1.1.0)
 
 -- what the replica is not to be shown with
 

@@ -20,7 +20,7 @@ use Rattle.transcript_law.specs.Journals.{point_noted}
 use Rattle.vb_events.specs.declared.event.Cause.TheVariants as cause
 
 -- rollbacks
-only_zero : (n : ℕ) → ((n ≡ 1) × (◌≡◌ {A = ℕ} 1 2)) ⊎ (n ≡ 0) → n ≤ 0
+pub only_zero : (n : ℕ) → ((n ≡ 1) × (◌≡◌ {A = ℕ} 1 2)) ⊎ (n ≡ 0) → n ≤ 0
 only_zero n (inl e) = omega (arith, e.1)
 only_zero n (inr e) = omega (arith, e)
 

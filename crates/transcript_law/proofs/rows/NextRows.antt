@@ -8,7 +8,7 @@ use Rattle.vb_types.proofs.Laws.{get-insert_other, get-insert_same}
 use Rattle.vb_types.specs.declared.change.Act.TheVariants.{Set}
 
 -- what a change of one key leaves of the prepares, where none waits
-left_none : (at : ℕ) (key q : List ℕ) → get (if is_older at (get (nothing.pending) key) then remove nothing.pending key else nothing.pending) q ≡ None
+pub left_none : (at : ℕ) (key q : List ℕ) → get (if is_older at (get (nothing.pending) key) then remove nothing.pending key else nothing.pending) q ≡ None
 left_none at key q = ap (λ o. get (if is_older at o then remove nothing.pending key else nothing.pending) q) (get-empty key_cmp key) ∙ get-empty key_cmp q
 
 -- two keys of one byte

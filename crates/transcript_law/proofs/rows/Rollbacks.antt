@@ -58,7 +58,7 @@ ends = (
   ),
 )
 
-none_put : (xs : List Change) → map item_of_change xs ≡ [] → last_seq 1 xs ≡ 2 → ⊥
+pub none_put : (xs : List Change) → map item_of_change xs ≡ [] → last_seq 1 xs ≡ 2 → ⊥
 none_put [] e r = omega arith
 none_put (x ∷ xs) e r = cc
 

@@ -77,26 +77,6 @@ module _ (key value : List ℕ) (k : IsKey key) (v : IsValue value) where
           calm = subst (λ (a : Asking). IsOutcome a.settings (set_frame key value) g ⊎ AllDurable r.made) (sym sent) (inl (set_write key value, None, (sets_ask key value k v).1, inl refl));
         })
 
-    -- it was refused for want of seqnos
-    pub set_refused : IsActive (r.role_at 0 0) → AllDurable r.made → LawfulReply r 0 1 (r.clients_at 0 1).asking (spelling (reply_frame (bare_answer SET status.Etmpfail 9))) behind
-    set_refused active calm =
-        let g : Frame = reply_frame (bare_answer SET status.Etmpfail 9) in
-        inl (record {
-          question = asks_set key value;
-          next = ap question_of sent ∙ set_next;
-          answer = g;
-          spelled = refl;
-          response = refl;
-          opcode = refl;
-          opaque = refl;
-          fits = subst (λ (a : Asking). FitsFrame r 0 (moment_of (r.clients_at 0 1) a (asks_set key value)) a.settings (set_frame key value) g) (sym sent) (subst (FitsRequest r 0 no_settings (set_frame key value) g) (sym (sets_ask key value k v).1) (inl (
-            status.Etmpfail,
-            record { header = record { magic = refl; opcode = refl; key = refl; datatype = refl; status = refl; opaque = refl; framing = refl }; cas = refl; extras = refl; value = refl },
-            record { away = λ no. absurd (no active); locked = λ on waits. inr (inr refl); unfit = λ on none. inr refl },
-          )));
-          calm = inr calm;
-        })
-
   -- ---- behind its line
 
   module _ (tree : List Branch) (clients : ClientsKnown) (bytes : List ℕ) (told : (clients 0 1).told ≡ None) (blank : (clients 0 1).asking ≡ blank_asking) where
@@ -153,10 +133,6 @@ seven_past = set_past (7 ∷ []) (8 ∷ []) seven_key (one_value 8) (with_sent_b
 pub nine_sent : (known : ClientKnown) → known.asking ≡ blank_asking → (with_sent_bytes (spelling (set_frame (9 ∷ []) (6 ∷ []))) known).asking ≡ sent_set (9 ∷ []) (6 ∷ [])
 nine_sent known blank = ap (λ (a : Asking). record a { bytes = a.bytes ++ spelling (set_frame (9 ∷ []) (6 ∷ [])) }) blank
 
--- the key 7 is to be set, and there is no seqno left for it
-pub first_refused : (r : Chronicle) (behind : List Event) → (r.clients_at 0 1).asking ≡ sent_set (7 ∷ []) (8 ∷ []) → IsActive (r.role_at 0 0) → AllDurable r.made → LawfulReply r 0 1 (r.clients_at 0 1).asking (spelling (reply_frame (bare_answer SET status.Etmpfail 9))) behind
-first_refused r behind sent active calm = set_refused (7 ∷ []) (8 ∷ []) seven_key (one_value 8) r behind sent active calm
-
 -- ---- transcripts with sets
 
 -- a line by which nothing is sent, and the groups behind it
@@ -182,29 +158,11 @@ module _ (r : Chronicle) (number count : ℕ) (key value bytes : List ℕ) (line
         let next : Silent behind_made.clients_at = set_silent key value k v (grow r.tree b change) r.clients_at bytes told blank silent in
         (silent_answered behind_made next, more next (set_blank key value k v (grow r.tree b change) r.clients_at bytes told blank))
 
-  -- one that was refused
-  abbrev refused_lines : List Event
-  refused_lines = event.Reply 0 1 bytes ∷ []
-
-  abbrev behind_refused : Chronicle
-  behind_refused = after_group r (set_line number key value).verb refused_lines answer.Ok
-
-  pub refused_then : (Silent behind_refused.clients_at → AreHeard behind_refused lines groups) → AreHeard r (set_line number key value ∷ lines) (group_done count refused_lines ∷ groups)
-  unfolding AreHeard
-  refused_then more =
-      let next : Silent behind_refused.clients_at = set_silent key value k v r.tree r.clients_at bytes told blank silent in
-      (silent_answered behind_refused next, more next)
-
 -- the key 7
 pub seven_then : (r : Chronicle) (number count b : ℕ) (bytes : List ℕ) (change : Change) (lines : List ScriptLine) (groups : List Group) (told : (r.clients_at 0 1).told ≡ None) (blank : (r.clients_at 0 1).asking ≡ blank_asking) → Silent r.clients_at
     → (let next : Chronicle = after_group r (set_line number (7 ∷ []) (8 ∷ [])).verb (event.Changed 0 0 b change ∷ event.Reply 0 1 bytes ∷ []) answer.Ok in (Silent next.clients_at → (next.clients_at 0 1).asking ≡ blank_asking → AreHeard next lines groups)
     → AreHeard r (set_line number (7 ∷ []) (8 ∷ []) ∷ lines) (group_done count (event.Changed 0 0 b change ∷ event.Reply 0 1 bytes ∷ []) ∷ groups))
 seven_then r number count b bytes change lines groups told blank silent more = made_then r number count (7 ∷ []) (8 ∷ []) bytes lines groups seven_key (one_value 8) told blank silent b change more
-
-pub seven_refused_then : (r : Chronicle) (number count : ℕ) (bytes : List ℕ) (lines : List ScriptLine) (groups : List Group) (told : (r.clients_at 0 1).told ≡ None) (blank : (r.clients_at 0 1).asking ≡ blank_asking) → Silent r.clients_at
-    → (let next : Chronicle = after_group r (set_line number (7 ∷ []) (8 ∷ [])).verb (event.Reply 0 1 bytes ∷ []) answer.Ok in (Silent next.clients_at → AreHeard next lines groups)
-    → AreHeard r (set_line number (7 ∷ []) (8 ∷ []) ∷ lines) (group_done count (event.Reply 0 1 bytes ∷ []) ∷ groups))
-seven_refused_then r number count bytes lines groups told blank silent more = refused_then r number count (7 ∷ []) (8 ∷ []) bytes lines groups seven_key (one_value 8) told blank silent more
 
 -- the key 9
 pub nine_then : (r : Chronicle) (number count b : ℕ) (bytes : List ℕ) (change : Change) (lines : List ScriptLine) (groups : List Group) (told : (r.clients_at 0 1).told ≡ None) (blank : (r.clients_at 0 1).asking ≡ blank_asking) → Silent r.clients_at

@@ -2,12 +2,12 @@
 use Rattle.std.specs.Prelude.{◌≡◌, ◌∷◌, ◌++◌, if◌then◌else◌, ◌≢◌}
 use Rattle.transcript_law.proofs.Words.{ℕ, false, None, List, [], length, map, refl, ap, sym, ◌∙◌, arith, Option, Some, nat_list_cmp_total, key_cmp, Change, Pend, Doc, Event}
 use Rattle.transcript_law.proofs.Words.{Picture, image_of, is_older, document_line, prepare_line, image_lines, empty_chronicle, after_lines, LawfulChange, LawfulLine, LawfulFrom, Lawful, active_vb_lines}
-use Rattle.transcript_law.proofs.Words.{first_doc, one_change, change_line, value_lines, one_set, both_on_one, forked_at, Role, one_set_groups, two_vbs, two_vbs_groups, set_and_show, sets_groups}
+use Rattle.transcript_law.proofs.Words.{first_doc, one_change, change_line, value_lines, one_set, both_on_one, forked_at, Role, one_set_groups, two_vbs, two_vbs_groups, dead_and_show, sets_groups, show_alone}
 use Rattle.transcript_law.proofs.Words.{set_dead_and_show, set_one, shown_active, shown_after_change, shown_dead, last_seq, Chronicle, IsIfKnown, shown_lines, LawfulShow, LawfulShown, SharesWith, ShownLine, nothing, subst}
 use Rattle.transcript_law.proofs.Words.{Group, ScriptLine, after_active, after_dead, due_image, inside_dead, option_map}
 use Rattle.transcript_law.specs.Lawfulness.{newest_shown}
 use Rattle.transcript_law.specs.{Contrary.{after_dead_changed, branch_inside, branch_left, logged_six}, Rollbacks.{empty_uuid}, Transcripts.{shown_with_change}}
-use Rattle.transcript_law.{proofs.rows.{Groups.{both}, NextRows.{first_next}, Sets.{first_refused, first_told, heard_then, seven_refused_then, seven_then}, Silent.{AreHeard, Silent, silent_heard, silent_start}}, specs.{Chronicles.{ArmKnown, ClientsKnown, Conns, DiskKnown}, LinesTold.{roles_from}, Prefixes.{known_after}}}
+use Rattle.transcript_law.{proofs.rows.{Groups.{both}, NextRows.{first_next}, Sets.{first_told, heard_then, seven_then}, Silent.{AreHeard, Silent, silent_heard, silent_start}}, specs.{Chronicles.{ArmKnown, ClientsKnown, Conns, DiskKnown}, LinesTold.{roles_from}, Prefixes.{known_after}}}
 use Rattle.std.specs.FinMap as finite
 
 none_of : {X : Type 0} (xs : List X) → length xs ≡ 0 → xs ≡ []
@@ -100,7 +100,7 @@ second_new d a k q up = (
 change_of_two : (d : ℕ → ℕ → DiskKnown) (a : ℕ → ArmKnown) (k : Conns) (q : ClientsKnown) → LawfulChange (record (after_lines empty_chronicle (active_vb_lines 0 5 ++ active_vb_lines 1 6)) { disk_at = d; arm_at = a; conn_at = k; clients_at = q }) 0 0 5 one_change
 change_of_two d a k q = record { active = refl; writer = record { made_or_took = refl; on_branch = refl }; above_branch = omega arith; above_forks = (λ e. omega arith, (λ e. omega arith, tt)); made = first_next; fulfils = λ prepared doc deleted e. cc; backed = λ prepared doc deleted e. cc }
 
-two_writers : ◌≡◌ {A = Option (ℕ × ℕ)} (Some (0, 0)) (Some (0, 1)) → ⊥
+pub two_writers : ◌≡◌ {A = Option (ℕ × ℕ)} (Some (0, 0)) (Some (0, 1)) → ⊥
 two_writers e =
     let pair : ◌≡◌ {A = ℕ × ℕ} (0, 0) (0, 1) = cc in
     let vb : ◌≡◌ {A = ℕ} 0 1 = ap (λ (p : ℕ × ℕ). p.1) pair in
@@ -137,14 +137,14 @@ same = both empty_chronicle (two_vbs 6 set_dead_and_show) (two_vbs_groups 6 (sho
 pub history : Lawful (two_vbs 6 set_dead_and_show) (two_vbs_groups 6 (shown_after_change 6)) → ⊥
 history l = let e : ◌≡◌ {A = List Change} [] (one_change ∷ []) = (l.1.1.1.1.1.1.0.0.0.complete refl).shared (λ z. omega arith) in cc
 
-pub dead : Lawful (two_vbs 6 set_dead_and_show) (two_vbs_groups 6 (shown_dead 5))
-dead = both empty_chronicle (two_vbs 6 set_dead_and_show) (two_vbs_groups 6 (shown_dead 5)) refl
-    (tt, (tt, ((record { new = tt; newest = refl; last = refl; leaves = refl }, (record { another = λ e. cc; anew = λ e. refl }, tt)), (second_new _ _ _ _ refl, (((refl, λ z. first_refused _ _ refl refl tt), tt), ((record { another = λ e. cc; anew = λ e. cc }, tt), ((shown _ _ _ refl refl refl refl nothing refl refl as_made (λ _. refl) (λ e. cc), tt), tt)))))))
-    (tt, (refl, ((refl, tt), ((refl, tt), (refl, ((refl, tt), (tt, tt))))))) (refl, (refl, (refl, (refl, (refl, (refl, (refl, tt)))))))
-    (from_two _ _ (λ s. seven_refused_then _ 5 5 _ _ _ refl refl s (λ s. silent_heard _ _ _ s refl)))
+pub dead : Lawful (two_vbs 6 dead_and_show) (two_vbs_groups 6 (shown_dead 5))
+dead = both empty_chronicle (two_vbs 6 dead_and_show) (two_vbs_groups 6 (shown_dead 5)) refl
+    (tt, (tt, ((record { new = tt; newest = refl; last = refl; leaves = refl }, (record { another = λ e. cc; anew = λ e. refl }, tt)), (second_new _ _ _ _ refl, ((record { another = λ e. cc; anew = λ e. cc }, tt), ((shown _ _ _ refl refl refl refl nothing refl refl as_made (λ _. refl) (λ e. cc), tt), tt))))))
+    (tt, (refl, ((refl, tt), ((refl, tt), ((refl, tt), (tt, tt)))))) (refl, (refl, (refl, (refl, (refl, (refl, tt))))))
+    (from_two _ _ (λ s. silent_heard _ _ _ s refl))
 
-pub dead_other : Lawful (two_vbs 6 set_dead_and_show) (two_vbs_groups 6 (shown_dead 6)) → ⊥
-dead_other l = let e : ◌≡◌ {A = ℕ} 5 6 = l.1.1.1.1.1.1.0.0.0.newest in omega arith
+pub dead_other : Lawful (two_vbs 6 dead_and_show) (two_vbs_groups 6 (shown_dead 6)) → ⊥
+dead_other l = let e : ◌≡◌ {A = ℕ} 5 6 = l.1.1.1.1.1.0.0.0.newest in omega arith
 
 -- as their logs name it
 pub log_shown : LawfulFrom (logged_six after_dead) (empty_uuid Role.Dead 6)
@@ -181,5 +181,5 @@ leaves_inside = (record { new = (λ e. omega arith, tt); newest = refl; last = r
 pub not_inside : LawfulFrom inside_dead (branch_inside 1) → ⊥
 not_inside l = let e : ◌≡◌ {A = ℕ} 0 1 = l.0.leaves in omega arith
 
-pub active : Lawful (two_vbs 6 set_and_show) (two_vbs_groups 6 (shown_active 6)) → ⊥
-active l = let e : ◌≡◌ {A = Option ℕ} (Some 5) (Some 6) = (l.1.1.1.1.1.0.0.0.complete refl).active refl in cc
+pub active : Lawful (two_vbs 6 show_alone) (two_vbs_groups 6 (shown_active 6)) → ⊥
+active l = let e : ◌≡◌ {A = Option ℕ} (Some 5) (Some 6) = (l.1.1.1.1.0.0.0.complete refl).active refl in cc

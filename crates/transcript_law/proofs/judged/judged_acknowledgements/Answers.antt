@@ -1,14 +1,14 @@
 use Rattle.std.specs.Prelude.{◌≡◌, ◌<◌, ◌≤◌, ◌∷◌}
 use Rattle.durability.specs.Laws.{HasOne}
-use Rattle.transcript_law.proofs.Words.{Bool, true, false, ℕ, List, [], inl, refl, ap, sym, ◌∙◌, subst, ⊎_elim, arith, Option, Some, None, Granted, Role, is_follower, stream_branch}
-use Rattle.transcript_law.proofs.{links.Acknowledging.{acked_is_lawful}, rows.Contrary.{below_waits, no_third, none_waits, third, third_waits}, invariant.Waiting.{pends_above}}
-use Rattle.transcript_law.specs.{Chronicles.{Dial}, Contrary.{inside_got, second_held, third_held, third_saved}, Followers.{after_both}}
+use Rattle.transcript_law.proofs.Words.{Bool, true, false, ℕ, [], inl, refl, ap, sym, ◌∙◌, subst, ⊎_elim, arith, Option, Some, None, Granted, Role, is_follower}
+use Rattle.transcript_law.proofs.{links.Acknowledging.{acked_is_lawful}, rows.AckRows.{branch_in, counted, lacks_first, number_in, unmade, whole, wrote_in}, rows.Contrary.{below_waits, no_third, third, third_waits}, invariant.Waiting.{pends_above}}
+use Rattle.transcript_law.specs.{Chronicles.{Dial}, Contrary.{inside_got, second_held, third_held, third_saved}}
 use Rattle.branch_model.proofs.Lists.{last_in}
 use Rattle.branch_model.specs.Snapshots.{Follows}
-use Rattle.transcript_law.proofs.{rows.Followers.{changes, key_as, one_of}, Words.{Change, hist, image_of, next_change, one_change}}
-use Rattle.transcript_law.specs.Contrary.{first_lost, prepared_at}
+use Rattle.transcript_law.proofs.{rows.Followers.{changes, one_of}, Words.{Change, image_of, one_change}}
+use Rattle.transcript_law.specs.Contrary.{prepared_at}
 use Rattle.transcript_law.proofs.judged.judged_acknowledgements.Goals as goal
-use Rattle.vb_types.specs.Histories.{Slot, touches}
+use Rattle.vb_types.specs.Histories.{touches}
 use Rattle.vb_types.specs.declared.change.Level.{Level}
 
 -- the node that dialed
@@ -21,20 +21,6 @@ abbrev over_in : Option Granted → Bool
 over_in None = false
 over_in (Some g) = g.over
 
--- what was acknowledged on a stream
-abbrev wrote_in : Option Granted → List ℕ
-wrote_in None = []
-wrote_in (Some g) = g.wrote
-
--- the branch of a stream, and one that is known
-abbrev branch_in : Option Granted → ℕ
-branch_in None = 0
-branch_in (Some g) = stream_branch g
-
-abbrev number_in : Option ℕ → ℕ
-number_in None = 0
-number_in (Some n) = n
-
 -- a replica follows
 follows : (said : Role) → ◌≡◌ {A = Option (Option Role)} (Some (Some Role.Replica)) (Some (Some said)) → is_follower said ≡ true
 follows Role.Replica e = refl
@@ -42,14 +28,7 @@ follows Role.Pending e = refl
 follows Role.Active e = cc
 follows Role.Dead e = cc
 
--- as one does of which no role is told
-unmade : (said : Role) → ◌≡◌ {A = Option (Option Role)} (Some None) (Some (Some said)) → is_follower said ≡ true
-unmade said e = cc
-
--- it holds what its branch has, all of it, the first change, or one prepare
-both_followed : Follows changes (record { ss = 0; se = 2; at = 2 }) changes (image_of changes)
-both_followed = record { image_is = refl; rises = (omega arith, (omega arith, omega arith)); within = omega arith; of = λ x i. (x, i, inl refl); has = λ s c e a b. (c, (last_in (touches s) changes c e).0, inl refl) }
-
+-- it holds what its branch has, the first change, or one prepare
 one_followed : Follows changes (record { ss = 0; se = 2; at = 1 }) (one_change ∷ []) (image_of (one_change ∷ []))
 one_followed = record {
   image_is = refl;
@@ -62,12 +41,9 @@ one_followed = record {
 all_followed : (how : Level) → Follows (prepared_at how ∷ []) (record { ss = 0; se = 2; at = 2 }) (prepared_at how ∷ []) (image_of (prepared_at how ∷ []))
 all_followed how = record { image_is = refl; rises = (omega arith, omega arith); within = omega arith; of = λ x i. (x, i, inl refl); has = λ s c e a b. (c, (last_in (touches s) (prepared_at how ∷ []) c e).0, inl refl) }
 
-other_key : ◌≡◌ {A = List ℕ} (9 ∷ []) (7 ∷ []) → ⊥
-other_key e = cc
-
 pub returns : goal.returns
 returns c = record {
-  whole = (acked_is_lawful after_both 1 0 1 2 0 0 _ (record { at = 2; ss = 0; se = 2 }) (after_both.held 1 0) refl refl refl unmade refl refl refl (omega arith) (omega arith) refl (λ key e is third low. let z : None ≡ Some e = sym (none_waits key) ∙ is in absurd cc) both_followed, tt);
+  whole = whole;
   above = λ l. let few : 3 ≤ 2 = l.0.held in absurd (omega arith);
   before = (acked_is_lawful inside_got 1 0 1 0 0 0 _ (record { at = 1; ss = 0; se = 2 }) (inside_got.held 1 0) refl refl refl follows refl refl refl (omega arith) (omega arith) refl (λ key e is third low. low) one_followed, tt);
   inside = λ l. let few : 1 ≤ 0 = l.0.complete 0 2 refl (omega arith) in absurd (omega arith);
@@ -77,12 +53,7 @@ returns c = record {
   saved = (acked_is_lawful third_saved 1 0 1 2 2 0 _ (record { at = 2; ss = 0; se = 2 }) (third_held.held 1 0) refl refl refl unmade refl refl refl (omega arith) (omega arith) refl (λ key e is third low. low) (all_followed _), tt);
   missaid = λ l. let same : 3 ≡ 2 = l.0.saved_as_known in absurd (omega (arith, same));
   astray = λ l. let same : ◌≡◌ {A = ℕ} 9 5 = ap number_in l.0.fed.1.3 ∙ sym (ap branch_in l.0.fed.1.2) in absurd (omega (arith, same));
-  lost = λ l.
-      let of_five : ◌≡◌ {A = ℕ} 5 (stream_branch l.0.fed.0) = ap branch_in l.0.fed.1.2 in
-      let follows : Follows changes (record { ss = 0; se = 2; at = 2 }) (next_change ∷ []) (image_of (next_change ∷ [])) =
-      subst (λ u. Follows (hist first_lost.tree u) (record { ss = 0; se = 2; at = 2 }) (next_change ∷ []) (image_of (next_change ∷ []))) (sym of_five) (l.0.follows 0 2 refl) in
-      let (x, i, stands) = follows.has (Slot.Committed (7 ∷ [])) one_change refl (omega arith) (omega arith) in
-      ⊎_elim (λ e. other_key (sym (ap (λ (c : Change). c.key) e) ∙ key_as x one_change stands)) (λ j. absurd j) i;
+  lost = λ l. lacks_first l.0.fed.0 l.0.fed.1.2 (l.0.follows 0 2 refl);
   unsaved_below = λ l. let few : 2 ≤ 0 = l.0.thirds (7 ∷ []) third below_waits refl (omega arith) in absurd (omega arith);
   below_the_unsaved = (
     acked_is_lawful third_held 1 0 1 1 0 0 _ (record { at = 2; ss = 0; se = 2 }) (third_held.held 1 0) refl refl refl unmade refl refl refl (omega arith) (omega arith) refl
@@ -91,10 +62,7 @@ returns c = record {
   );
   second = (acked_is_lawful second_held 1 0 1 2 0 0 _ (record { at = 2; ss = 0; se = 2 }) (second_held.held 1 0) refl refl refl unmade refl refl refl (omega arith) (omega arith) refl (λ key e is third low. absurd (no_third key e is third)) (all_followed _), tt);
   unsaved = λ l. let few : 2 ≤ 0 = l.0.thirds (7 ∷ []) third third_waits refl (omega arith) in absurd (omega arith);
-  counted = (
-    acked_is_lawful after_both 1 0 1 2 0 0 _ (record { at = 2; ss = 0; se = 2 }) (after_both.held 1 0) refl refl refl unmade refl refl refl (omega arith) (omega arith) refl (λ key e is third low. let z : None ≡ Some e = sym (none_waits key) ∙ is in absurd cc) both_followed,
-    (record { active = refl; dialed = refl; granted = (_, refl, refl, inl refl, refl); held = omega arith; another = λ same. absurd (omega (arith, same)) }, tt),
-  );
+  counted = counted;
   unwritten = λ l. let (g, told, live, wrote, on) = l.0.granted in subst (HasOne 2) (sym (ap wrote_in told)) wrote;
   number = λ l. let (g, told, live, wrote, on) = l.1.0.granted in ⊎_elim (λ (same : ◌≡◌ {A = ℕ} 1 2). absurd (omega (arith, same))) (λ none. none) (subst (HasOne 1) (sym (ap wrote_in told)) wrote);
   member = λ l. let same : ◌≡◌ {A = ℕ} 1 2 = ap node_in l.1.0.dialed in absurd (omega (arith, same));

@@ -22,6 +22,9 @@ returns c = record {
   locked_other = rows.locked_other;
   unlocked = rows.unlocked;
   full = rows.full;
+  full_beside = rows.full_beside;
+  full_early = rows.full_early;
+  full_first = rows.full_first;
   made = rows.made;
   removed = rows.removed;
 }
