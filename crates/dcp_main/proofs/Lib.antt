@@ -4,6 +4,7 @@ pub mod Groups
 pub mod Keeping
 pub mod Letters
 pub mod Made
+pub mod Completed
 pub mod Newlines
 pub mod Showing
 pub mod TellLines

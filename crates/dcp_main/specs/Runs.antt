@@ -8,7 +8,7 @@ use Rattle.dcp_io.specs.Statuses.{bad_text}
 use Rattle.dcp_io.specs.Writes.{WroteAll, Stopped}
 use Rattle.node_world.specs.World.{groups}
 use Rattle.script_gen.specs.Scripts.{gen_script}
-use Rattle.transcript_law.specs.Lawfulness.{Lawful}
+use Rattle.transcript_law.specs.{Checked.{Checked}, Lawfulness.{Lawful}}
 use Rattle.transcript_law.specs.Prefixes.{AreFollowed, known_of, world_of}
 use Rattle.script_text.specs.Scripts.{IsScript, FirstBad}
 use Rattle.script_text.specs.Transcript.{print_of}
@@ -18,13 +18,14 @@ use Rattle.dcp_io.specs.declared.status.Status.{Status}
 use Rattle.dcp_io.specs.declared.status.Status.TheVariants as status
 use Rattle.dcp_main.specs.Summaries.{summary_text}
 
--- the whole script was read, each line is in the grammar, and the print of its groups, which are lawful, was written; what the script leaves is what they tell, and each vBucket follows its branch
+-- the whole script was read, each line is in the grammar, and the print of its groups, which are lawful and pass a checker, was written; what the script leaves is what they tell, and each vBucket follows its branch
 pub record Completed (old new : Intake) (before after : Outlet) : Type 0 where
   pub bytes : List ℕ
   pub script : List ScriptLine
   pub read : ReadAll old new bytes
   pub said : IsScript bytes script
   pub lawful : Lawful script (groups script)
+  pub checked : Checked script (groups script)
   pub followed : AreFollowed (known_of script) (world_of script)
   pub wrote : WroteAll before after (print_of (groups script))
 
@@ -69,10 +70,11 @@ Complete old new before after answer =
     → ((bytes : List ℕ) (line : ℕ) → Consumes old.left new.left bytes → ¬ FirstBad bytes line)
     → (answer ≡ status.Ok) ⊎ (answer ≡ status.NoMemory)
 
--- the script of this seed and so many writes was run, and its lines were told: how many it has, how many its transcript has, which is lawful, and how
+-- the script of this seed and so many writes was run, and its lines were told: how many it has, how many its transcript has, which is lawful and passes a checker, and how
 -- its last two groups show both vBuckets; what the script leaves is what its groups tell, and each vBucket follows its branch
 pub record Made (seed count : ℕ) (before after : Outlet) : Type 0 where
   pub lawful : Lawful (gen_script seed count) (groups (gen_script seed count))
+  pub checked : Checked (gen_script seed count) (groups (gen_script seed count))
   pub followed : AreFollowed (known_of (gen_script seed count)) (world_of (gen_script seed count))
   pub wrote : WroteAll before after (summary_text (gen_script seed count))
 

@@ -7,15 +7,15 @@ use crate::output::run_script;
 use crate::summary::summarize;
 use crate::words::{gen_words, is_run};
 use dcp_io::{Sink, Source, Status, put_bad_line, put_text, read_all};
-use script_text::parse;
+use script_text::{ScriptLines, check};
 use std::alloc::Global;
 
 /// Runs the script that the source gives, and writes its transcript, a group a line.
 ///
 /// It reads to the end, in at most 268,435,457 turns, before it writes anything. What the status
 /// says, of a source and a sink that tell their bytes:
-/// - `Ok`: each line is in the grammar, and the whole transcript was written, which is lawful; each
-///   vBucket that the script leaves follows its branch.
+/// - `Ok`: each line is in the grammar, and the whole transcript was written, which is lawful, and
+///   passes a checker that runs nothing; each vBucket that the script leaves follows its branch.
 /// - `BadLine`: line I is the first outside the grammar, and `bad line I` was written.
 /// - `ReadFault`: the source's count of faults rose, and nothing was written.
 /// - `InputTooLong`: more than 268,435,456 bytes were taken, and nothing was written. Where more
@@ -24,7 +24,7 @@ use std::alloc::Global;
 ///   written is a front part of what the script asks for, perhaps nothing.
 ///
 /// A count that stands at `u64::MAX` is taken for one that rose.
-#[tactic(auto, using(transcript_law::proofs::Laws::read_is_lawful, transcript_law::proofs::Laws::read_is_followed))]
+#[tactic(auto, using(crate::proofs::Completed::completed))]
 pub fn script_main<I: Source, O: Sink>(alloc: Global, input: &mut I, output: &mut O) -> Status
     ensures ran { Ran (I.intake input.old) (I.intake input.new) (O.outlet output.old) (O.outlet output.new) result }
     ensures complete { Complete (I.intake input.old) (I.intake input.new) (O.outlet output.old) (O.outlet output.new) result }
@@ -35,8 +35,8 @@ pub fn script_main<I: Source, O: Sink>(alloc: Global, input: &mut I, output: &mu
         Ok(bytes) => bytes,
         Err(status) => return status,
     };
-    match parse(alloc, &bytes) {
-        Ok(Ok(script)) => run_script(alloc, script.as_slice(), output)
+    match check(alloc, &bytes) {
+        Ok(Ok(())) => run_script(alloc, ScriptLines::new(alloc, &bytes), output)
             .err()
             .unwrap_or(Status::Ok),
         Ok(Err(bad)) => put_bad_line(alloc, bad.line, output)
@@ -50,11 +50,11 @@ pub fn script_main<I: Source, O: Sink>(alloc: Global, input: &mut I, output: &mu
 /// its transcript has, and how its last two lines show both vBuckets.
 ///
 /// What the status says, of a sink that tells its bytes:
-/// - `Ok`: exactly these lines were written, and the transcript, of which they tell, is lawful; each
-///   vBucket that the script leaves follows its branch.
+/// - `Ok`: exactly these lines were written, and the transcript, of which they tell, is lawful, and
+///   passes a checker that runs nothing; each vBucket that the script leaves follows its branch.
 /// - `WriteFault`: the sink's count of faults rose; `NoMemory`: it did not. At both, what was written
 ///   is a front part of these lines, perhaps nothing.
-#[tactic(auto, using(crate::proofs::Made::made_is_lawful, crate::proofs::Made::made_is_followed))]
+#[tactic(auto, using(crate::proofs::Made::made_is_lawful, crate::proofs::Made::made_passes, crate::proofs::Made::made_is_followed))]
 pub fn gen_main<O: Sink>(alloc: Global, seed: u64, count: u32, output: &mut O) -> Status
     ensures { GenTold seed count (O.outlet output.old) (O.outlet output.new) result }
 {
