@@ -19,9 +19,7 @@ from functools import cache
 from itertools import chain
 from typing import Iterator, NamedTuple
 
-from durable import written
-from line import CALLGRIND, MEMCHECK, START, all_told, gets, sets
-from live import script as followed
+from line import CALLGRIND, MEMCHECK, PLAIN, all_told, sets
 from measured import PROGRAM
 
 SIZES = [1000, 2000]
@@ -47,12 +45,6 @@ WAYS = {
     "turns of 1": Way(1, [DOWN, UP], [], 1),
     "turns of 2": Way(2, [DOWN, UP], [], 100),
     "turns of 1, one `up`": Way(1, [DOWN], [UP], EVER),
-}
-PLAIN = {
-    "SET": lambda n: START + sets(n),
-    "GET": lambda n: START + gets(n),
-    "SET that a replica follows": lambda n: followed(n, n).splitlines(),
-    "durable write": lambda n: written(n).splitlines(),
 }
 
 

@@ -2,11 +2,12 @@
 """What a machine can check of the documents. It prints what is wrong, a line each, and then ends with 1.
 
 Each crate has a row in docs/ARCHITECTURE.md, and a README with the crates that crates.txt says it stands on. What a
-crate's README cites by name is there, and so is each clause that docs/GUARANTEES.md cites of a judged law, and each law
-and lemma of which a page says where it is. Links lead somewhere. The code that docs/READING.md shows stands in the
-sources, and the transcript that README.md shows is the example's. Stored scripts, planted bugs, crates, laws and lines
-of the crates are as many as is said. Licence and kit are named. docs/DECISIONS.md has each crate in its index. No page
-is longer than it may be; lines have at most 100 characters and cells at most 200 beside backquotes.
+crate's README cites by name is there, and so is each clause that docs/GUARANTEES.md or docs/CHECKER.md cites of a
+judged law, and each law and lemma of which a page says where it is. Links lead somewhere. The code that
+docs/READING.md shows stands in the sources, and the transcript that README.md shows is the example's. Stored scripts,
+planted bugs, crates, laws and lines of the crates are as many as is said. Licence and kit are named. docs/DECISIONS.md
+has each crate in its index. No page is longer than it may be; lines have at most 100 characters and cells at most 200
+beside backquotes.
 """
 
 import glob
@@ -96,12 +97,13 @@ def clauses_of(code: str, function: str) -> set[str]:
 
 def wrong_clauses() -> Iterator[str]:
     code = code_of("transcript_law")
-    rows = (cells(line) for line in text_of("docs/GUARANTEES.md").split("\n") if "`judged_" in line)
-    for cited in (cited for row in rows for cited in row[-1].split(";")):
-        function, *clauses = re.findall(r"`(\w+)`", cited)
-        missing = set(clauses) - clauses_of(code, function)
-        if missing or f"fn {function}" not in code:
-            yield f"docs/GUARANTEES.md: {function} has no clause {' '.join(sorted(missing))}"
+    for path in ["docs/GUARANTEES.md", "docs/CHECKER.md"]:
+        rows = (cells(line) for line in text_of(path).split("\n") if line.startswith("|") and "`judged_" in line)
+        for cited in (cited for row in rows for cited in row[-1].split(";")):
+            function, *clauses = re.findall(r"`(\w+)`", cited)
+            missing = set(clauses) - clauses_of(code, function)
+            if missing or f"fn {function}" not in code:
+                yield f"{path}: {function} has no clause {' '.join(sorted(missing))}"
 
 
 def wrong_refusals() -> Iterator[str]:
@@ -124,7 +126,7 @@ def wrong_refusals() -> Iterator[str]:
 def wrong_laws() -> Iterator[str]:
     """Where a page says `law` of crate, there is one: a function, or a clause that is named behind its function."""
     codes = {crate: code_of(crate) for crate in edges()}
-    for path in ["docs/GUARANTEES.md", "docs/DECISIONS.md"]:
+    for path in ["docs/CHECKER.md", "docs/GUARANTEES.md", "docs/DECISIONS.md"]:
         text = " ".join(text_of(path).split())
         for names, crate in re.findall(r"((?:`[\w:]+`(?:,| and)? )+)of (\w+)", text):
             for name in re.findall(r"`(?:\w+::)?(\w+)`", names) if crate in codes else []:
