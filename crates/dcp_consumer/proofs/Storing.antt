@@ -12,6 +12,7 @@ use Rattle.mcbp_dcp.specs.Shapes.{shape_fault}
 use Rattle.vb_types.specs.Limits.{IsKey, IsValue, key_of, value_of}
 use Rattle.vb_types.specs.declared.change.Act.TheVariants as act
 use Rattle.vb_types.specs.declared.change.Change.{Change}
+use Rattle.vb_types.specs.declared.role.Role.{Role}
 use Rattle.vb_calls.specs.declared.calls.VbCall.TheVariants as call
 use Rattle.dcp_consumer.specs.PassiveStreams.{call_of_message, called, mutation_doc, passive_of, remove_change, set_change}
 use Rattle.dcp_consumer.specs.Receiving.{BytesCome, IsRemoved, IsStored, typed_bytes, typed_call}
@@ -89,6 +90,10 @@ keyless d = (
   λ e. ⊎_elim (λ x. absurd (not_both (removes_at d (key_of d.key)) (remove_change d d.key) x.0 e)) (λ x. x.1) (removal_case d),
   λ none. ⊎_elim (λ x. absurd (none x.1)) (λ x. x.0) (removal_case d),
 )
+
+pub state : (to : Role) → passive_of (msg.SetVbucketState to) ≡ passive.Protocol
+unfolding call_of_message
+state to = refl
 
 -- byte by byte
 pub typed_come : BytesCome (typed_bytes 5) (typed_call 5) × BytesCome (typed_bytes 255) (typed_call 255) × BytesCome (typed_bytes 0) (typed_call 0)

@@ -48,6 +48,7 @@ CountsAsMessage (msg.StreamEnd reason) = Unit {0}
 CountsAsMessage (msg.SnapshotMarker start end flags) = Unit {0}
 CountsAsMessage (msg.Mutation change) = Unit {0}
 CountsAsMessage (msg.Deletion change) = Unit {0}
+CountsAsMessage (msg.SetVbucketState role) = Unit {0}
 CountsAsMessage (msg.Prepare change) = Unit {0}
 CountsAsMessage (msg.Commit change) = Unit {0}
 CountsAsMessage (msg.Abort change) = Unit {0}

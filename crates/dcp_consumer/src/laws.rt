@@ -20,7 +20,7 @@ ghost use Rattle.{dcp_consumer.specs.declared.handshake.ConsumerStep.{ConsumerSt
 ghost use Rattle.{dcp_consumer.specs.declared.handshake.Dialed.{Dialed as DialedData}, dcp_consumer.specs.declared.handshake.Handshake.{Handshake as HandshakeData}};
 ghost use Rattle.{dcp_consumer.specs.declared.handshake.Handshake.TheVariants.{Opening, Buffering, SyncWrites, Naming, Asking, Streaming, Over}, mcbp_frame.specs.declared.frame.Frame.{Frame as FrameData}};
 ghost use Rattle.{vb_events.specs.declared.event.EndReason.{EndReason as ReasonData}, vb_events.specs.declared.event.EndReason.TheVariants.{Done, Protocol, State}};
-ghost use Rattle.vb_types.specs.declared.stream.StreamAsk.{StreamAsk as AskData};
+ghost use Rattle.{vb_types.specs.declared.role.Role.{Role as RoleData}, vb_types.specs.declared.stream.StreamAsk.{StreamAsk as AskData}};
 
 /// What a consumer writes when it dials, byte by byte: it opens under its node's name as a member,
 /// asks for the buffer where there is one, asks for durable writes, says under which name it
@@ -89,12 +89,14 @@ pub fn durable_writes_are_taken()
 {}
 
 /// A MUTATION and a DELETION are taken in as the changes that they are, with all bits of each field, and
-/// as no other: `protocol` exactly where key or value is none that a change can have.
+/// as no other: `protocol` exactly where key or value is none that a change can have. A role is
+/// `protocol` always.
 pub fn changes_are_taken()
     ensures stored { (m : PutData) (c : ChangeData) → (passive_of (msg.Mutation m) ≡ Call (Receive c)) ↔ IsStored m c }
     ensures removed { (d : RemovalData) (c : ChangeData) → (passive_of (msg.Deletion d) ≡ Call (Receive c)) ↔ IsRemoved d c }
     ensures unfit { (m : PutData) → (passive_of (msg.Mutation m) ≡ Strange) ↔ ((IsKey m.key → ⊥) ⊎ (IsValue m.value → ⊥)) }
     ensures keyless { (d : RemovalData) → (passive_of (msg.Deletion d) ≡ Strange) ↔ (IsKey d.key → ⊥) }
+    ensures state { (to : RoleData) → passive_of (msg.SetVbucketState to) ≡ Strange }
     ensures typed { BytesCome (typed_bytes 5) (typed_call 5) × BytesCome (typed_bytes 255) (typed_call 255) × BytesCome (typed_bytes 0) (typed_call 0) }
 {}
 

@@ -48,12 +48,14 @@ module _ (f : Frame) (s : Served) (fresh : s.end.handshake ≡ handshake.Fresh) 
   early_message (msg.Prepare change) no_open no_request = refl
   early_message (msg.Commit change) no_open no_request = refl
   early_message (msg.Abort change) no_open no_request = refl
+  early_message (msg.SetVbucketState role) no_open no_request = refl
   early_message (msg.OpenAnswer code) no_open no_request = refl
   early_message (msg.ControlAnswer code) no_open no_request = refl
   early_message (msg.StreamAnswer told) no_open no_request = refl
   early_message (msg.CloseAnswer code) no_open no_request = refl
   early_message (msg.NoopAnswer code) no_open no_request = refl
   early_message (msg.LogAnswer code log) no_open no_request = refl
+  early_message (msg.StateAnswer code) no_open no_request = refl
 
   pub early_messages : (m : DcpMsg) → IsNoOpen m → IsNoRequest m → Gets 4 handshake.Fresh f s (message_answered f m s)
   early_messages m no_open no_request =
@@ -72,7 +74,7 @@ module _ (f : Frame) (s : Served) (fresh : s.end.handshake ≡ handshake.Fresh) 
   by_opcode (Some op.SnapshotMarker) e opens asks = by_row row.SnapshotMarker (λ n m k is. absurd (cc is)) (λ ask is. absurd (cc is))
   by_opcode (Some op.Mutation) e opens asks = by_row row.Mutation (λ n m k is. absurd (cc is)) (λ ask is. absurd (cc is))
   by_opcode (Some op.Deletion) e opens asks = by_row row.Deletion (λ n m k is. absurd (cc is)) (λ ask is. absurd (cc is))
-  by_opcode (Some op.SetVbucketState) e opens asks = refl
+  by_opcode (Some op.SetVbucketState) e opens asks = by_row row.SetVbucketState (λ n m k is. absurd (cc is)) (λ ask is. absurd (cc is))
   by_opcode (Some op.Noop) e opens asks = by_row row.Noop (λ n m k is. absurd (cc is)) (λ ask is. absurd (cc is))
   by_opcode (Some op.BufferAcknowledgement) e opens asks = by_row row.BufferAcknowledgement (λ n m k is. absurd (cc is)) (λ ask is. absurd (cc is))
   by_opcode (Some op.Control) e opens asks = by_row row.Control (λ n m k is. absurd (cc is)) (λ ask is. absurd (cc is))

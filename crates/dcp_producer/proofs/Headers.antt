@@ -109,6 +109,7 @@ spelled_short m opaque v spelled = let len = length_dcp m opaque v in by m spell
     by msg.GetFailoverLog is len = omega (arith, len)
     by msg.Noop is len = omega (arith, len)
     by (msg.BufferAcknowledgement bytes) is len = omega (arith, len)
+    by (msg.SetVbucketState role) is len = omega (arith, len)
     by (msg.OpenAnswer code) is len = omega (arith, len)
     by (msg.ControlAnswer code) is len = omega (arith, len)
     by (msg.StreamAnswer (told.Go log)) is len = omega (arith, is, len)
@@ -117,6 +118,7 @@ spelled_short m opaque v spelled = let len = length_dcp m opaque v in by m spell
     by (msg.CloseAnswer code) is len = omega (arith, len)
     by (msg.NoopAnswer code) is len = omega (arith, len)
     by (msg.LogAnswer code log) is len = omega (arith, is, len)
+    by (msg.StateAnswer code) is len = omega (arith, len)
 
 -- the answer to a request for a stream that refuses it is one whatever its status, also one that has no spelling as a message
 pub refusal_short : (code opaque v : ℕ) → IsShort (dcp_frame (msg.StreamAnswer (told.Refused code)) opaque v)

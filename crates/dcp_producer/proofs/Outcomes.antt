@@ -220,12 +220,14 @@ module _ (replies : VbCall → Option VbReply → Type 0) (calls : ℕ → VbCal
   message_so (msg.Prepare change) read = status_so (loud_message f s _ read (λ no. no)) status.Einval
   message_so (msg.Commit change) read = status_so (loud_message f s _ read (λ no. no)) status.Einval
   message_so (msg.Abort change) read = status_so (loud_message f s _ read (λ no. no)) status.Einval
+  message_so (msg.SetVbucketState role) read = status_so (loud_message f s _ read (λ no. no)) status.Einval
   message_so (msg.OpenAnswer code) read = status_so (loud_message f s _ read (λ no. no)) status.Einval
   message_so (msg.ControlAnswer code) read = status_so (loud_message f s _ read (λ no. no)) status.Einval
   message_so (msg.StreamAnswer said) read = status_so (loud_message f s _ read (λ no. no)) status.Einval
   message_so (msg.CloseAnswer code) read = status_so (loud_message f s _ read (λ no. no)) status.Einval
   message_so (msg.NoopAnswer code) read = status_so (loud_message f s _ read (λ no. no)) status.Einval
   message_so (msg.LogAnswer code log) read = status_so (loud_message f s _ read (λ no. no)) status.Einval
+  message_so (msg.StateAnswer code) read = status_so (loud_message f s _ read (λ no. no)) status.Einval
 
   -- ---- each frame
 

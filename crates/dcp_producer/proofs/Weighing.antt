@@ -75,7 +75,7 @@ module _ (f : Frame) (s : Served) where
   by_opcode (Some op.SnapshotMarker) e n = by_fault (shape_fault row.SnapshotMarker f) (message_in row.SnapshotMarker f) refl (f.datatype == 0)
   by_opcode (Some op.Mutation) e n = by_fault (shape_fault row.Mutation f) (message_in row.Mutation f) refl (f.datatype == 0)
   by_opcode (Some op.Deletion) e n = by_fault (shape_fault row.Deletion f) (message_in row.Deletion f) refl (f.datatype == 0)
-  by_opcode (Some op.SetVbucketState) e n = refl
+  by_opcode (Some op.SetVbucketState) e n = by_fault (shape_fault row.SetVbucketState f) (message_in row.SetVbucketState f) refl (f.datatype == 0)
   by_opcode (Some op.Noop) e n = absurd (n.noop (number_of f.opcode op.Noop e))
   by_opcode (Some op.BufferAcknowledgement) e n = absurd (n.bytes (number_of f.opcode op.BufferAcknowledgement e))
   by_opcode (Some op.Control) e n = absurd (n.control (number_of f.opcode op.Control e))

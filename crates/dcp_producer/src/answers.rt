@@ -6,7 +6,7 @@ ghost use Rattle.{mcbp_dcp.specs.declared.message.StreamVerdict.TheVariants.{Go,
 
 use crate::replies::{Standing, log_of, standing_of};
 use crate::{ActiveStream, Alloc, Connection, Handshake, close_stream};
-use mcbp_dcp::{DcpFault, DcpMsg, StreamVerdict, is_built, is_dcp, read_dcp};
+use mcbp_dcp::{DcpFault, DcpMsg, StreamVerdict, is_dcp, read_dcp};
 use mcbp_frame::{Frame, RESPONSE};
 use vb_calls::{VbAccess, VbCall, VbReply};
 use vb_events::Event;
@@ -317,7 +317,7 @@ impl Connection {
         if !is_dcp(f.opcode) {
             return self.send_status(f, Status::UnknownCommand);
         }
-        if !is_built(f) || f.datatype != 0 {
+        if f.datatype != 0 {
             return self.send_status(f, Status::Einval);
         }
         let read = read_dcp(self.alloc, f)?;

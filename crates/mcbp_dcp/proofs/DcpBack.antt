@@ -8,6 +8,7 @@ use Rattle.mcbp_frame.specs.Frames.{first_frame, body_size, big_64_at}
 use Rattle.mcbp_frame.specs.Spelling.{spelling, Readable}
 use Rattle.mcbp_frame.proofs.ReadBack.{reads_back}
 use Rattle.vb_types.specs.declared.role.LogEntry.{LogEntry}
+use Rattle.vb_types.specs.declared.role.Role.TheVariants as role
 use Rattle.mcbp_dcp.specs.declared.row.DcpRow.TheVariants as row
 use Rattle.mcbp_dcp.specs.declared.message.DcpMsg.{DcpMsg}
 use Rattle.mcbp_dcp.specs.declared.message.DcpMsg.TheVariants as msg
@@ -118,12 +119,17 @@ message_back msg.CloseStream opaque v s r = refl
 message_back msg.GetFailoverLog opaque v s r = refl
 message_back msg.Noop opaque v s r = refl
 message_back (msg.BufferAcknowledgement bytes) opaque v s r = λ i. Some (Ok (msg.BufferAcknowledgement (from_be_bytes-to_be_bytes_4 bytes r i)))
+message_back (msg.SetVbucketState role.Active) opaque v s r = refl
+message_back (msg.SetVbucketState role.Replica) opaque v s r = refl
+message_back (msg.SetVbucketState role.Pending) opaque v s r = refl
+message_back (msg.SetVbucketState role.Dead) opaque v s r = refl
 message_back (msg.OpenAnswer status) opaque v s r = refl
 message_back (msg.ControlAnswer status) opaque v s r = refl
 message_back (msg.StreamAnswer t) opaque v s r = told_back t opaque s r
 message_back (msg.CloseAnswer status) opaque v s r = refl
 message_back (msg.NoopAnswer status) opaque v s r = refl
 message_back (msg.LogAnswer status log) opaque v s r = answer_back status log opaque s r.1
+message_back (msg.StateAnswer status) opaque v s r = refl
 
 told_readable : (t : StreamVerdict) (opaque : ℕ) → IsVerdict t → VerdictInRange t → opaque < 4294967296 → body_size (verdict_frame t opaque) ≤ 22020096 → Readable (verdict_frame t opaque)
 told_readable (told.Go log) opaque s r o limit =
@@ -165,6 +171,8 @@ message_readable msg.Noop opaque v s r o u limit =
     record { fits = record { framing = omega arith; extras = omega arith; key = omega arith; body = omega arith }; magic = refl; limit = limit; vb_or_status = u; opaque = o; cas = omega arith }
 message_readable (msg.BufferAcknowledgement bytes) opaque v s r o u limit =
     record { fits = record { framing = omega arith; extras = omega arith; key = omega arith; body = omega arith }; magic = refl; limit = limit; vb_or_status = u; opaque = o; cas = omega arith }
+message_readable (msg.SetVbucketState role) opaque v s r o u limit =
+    record { fits = record { framing = omega arith; extras = omega arith; key = omega arith; body = omega arith }; magic = refl; limit = limit; vb_or_status = u; opaque = o; cas = omega arith }
 message_readable (msg.OpenAnswer status) opaque v s r o u limit =
     record { fits = record { framing = omega arith; extras = omega arith; key = omega arith; body = omega arith }; magic = refl; limit = limit; vb_or_status = r; opaque = o; cas = omega arith }
 message_readable (msg.ControlAnswer status) opaque v s r o u limit =
@@ -176,6 +184,8 @@ message_readable (msg.NoopAnswer status) opaque v s r o u limit =
     record { fits = record { framing = omega arith; extras = omega arith; key = omega arith; body = omega arith }; magic = refl; limit = limit; vb_or_status = r; opaque = o; cas = omega arith }
 message_readable (msg.LogAnswer status log) opaque v s r o u limit =
     record { fits = record { framing = omega arith; extras = omega arith; key = omega arith; body = omega arith }; magic = refl; limit = limit; vb_or_status = r.0; opaque = o; cas = omega arith }
+message_readable (msg.StateAnswer status) opaque v s r o u limit =
+    record { fits = record { framing = omega arith; extras = omega arith; key = omega arith; body = omega arith }; magic = refl; limit = limit; vb_or_status = r; opaque = o; cas = omega arith }
 
 -- and so are its bytes
 pub bytes_back : (m : DcpMsg) (opaque v : ℕ) (rest : List ℕ) → IsSpelled m → InRange m → opaque < 4294967296 → v < 65536 → body_size (dcp_frame m opaque v) ≤ 22020096

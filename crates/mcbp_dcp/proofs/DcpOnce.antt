@@ -17,9 +17,11 @@ use Rattle.mcbp_dcp.specs.declared.message.DcpMsg.{DcpMsg}
 use Rattle.mcbp_dcp.specs.declared.message.DcpFault.{DcpFault}
 use Rattle.mcbp_dcp.specs.declared.message.DcpFault.TheVariants.{WrongExtras, WrongKey, WrongValue}
 use Rattle.mcbp_dcp.specs.declared.message.StreamVerdict.TheVariants as told
+use Rattle.vb_types.specs.declared.role.Role.TheVariants as role
 use Rattle.mcbp_dcp.specs.Opcodes.{opcode_number, opcode_of}
 use Rattle.mcbp_dcp.specs.Rows.{row_opcode, row_magic, row_of_opcode, row_by_opcode, frame_row}
-use Rattle.mcbp_dcp.specs.Shapes.{extras_size, lacks_metadata, extras_fit, key_fits, value_fits, shape_fault}
+use Rattle.mcbp_dcp.specs.States.{role_byte, is_role, role_in}
+use Rattle.mcbp_dcp.specs.Shapes.{extras_size, numbers_fit, extras_fit, key_fits, value_fits, shape_fault}
 use Rattle.mcbp_dcp.specs.WireLogs.{log_in}
 use Rattle.mcbp_dcp.specs.Messages.{message_in, unless_fault, read_as, read_of}
 use Rattle.mcbp_dcp.specs.DcpFrames.{dcp_frame, verdict_frame, IsVerdict, IsSpelled, IsSpelledLog, ask_extras}
@@ -58,6 +60,8 @@ row_as op.GetFailoverLog true r h = subst (IsOf 84 129) (let same : row.LogAnswe
 row_as op.Noop false r h = subst (IsOf 92 128) (let same : row.Noop ≡ r = cc in same) (refl, refl)
 row_as op.Noop true r h = subst (IsOf 92 129) (let same : row.NoopAnswer ≡ r = cc in same) (refl, refl)
 row_as op.BufferAcknowledgement false r h = subst (IsOf 93 128) (let same : row.BufferAcknowledgement ≡ r = cc in same) (refl, refl)
+row_as op.SetVbucketState false r h = subst (IsOf 91 128) (let same : row.SetVbucketState ≡ r = cc in same) (refl, refl)
+row_as op.SetVbucketState true r h = subst (IsOf 91 129) (let same : row.StateAnswer ≡ r = cc in same) (refl, refl)
 row_as other answers r h = cc
 
 row_by : (n : ℕ) (r : DcpRow) (answers : Bool) (o : Option Opcode) → opcode_of n ≡ o → row_by_opcode o answers ≡ Some r → IsOf n (magic_of answers) r
@@ -90,9 +94,9 @@ none (b ∷ bytes) e = absurd (omega (arith, e))
 no_bytes : (bytes : List ℕ) → (length bytes == 0) ≡ true → [] ≡ bytes
 no_bytes bytes e = none bytes (grind (arith, nat_tests))
 
-extras_are : (r : DcpRow) (f : Frame) → extras_fit r f ≡ true → ([] ≡ f.framing) × (length f.extras ≡ extras_size r) × (lacks_metadata r f.extras ≡ true)
+extras_are : (r : DcpRow) (f : Frame) → extras_fit r f ≡ true → ([] ≡ f.framing) × (length f.extras ≡ extras_size r) × (numbers_fit r f.extras ≡ true)
 extras_are r f e =
-    let all = both ((length f.framing == 0) && (length f.extras == extras_size r)) (lacks_metadata r f.extras) e in
+    let all = both ((length f.framing == 0) && (length f.extras == extras_size r)) (numbers_fit r f.extras) e in
     let front = both (length f.framing == 0) (length f.extras == extras_size r) all.0 in
     (no_bytes f.framing front.0, grind (arith, nat_tests), all.1)
 
@@ -139,6 +143,18 @@ resolution_once x h len = behind x [] _ _ 0 8 8 (word_64 x 0 h (omega arith)) (w
 
 seqno_once : (x : List ℕ) → AreBytes x → length x ≡ 8 → to_be_bytes w64 (big_64_at x 0) ≡ x
 seqno_once x h len = word_64 x 0 h (omega arith) ∙ take_all 8 x (omega arith)
+
+role_once : (byte : ℕ) (a b c : Bool) → (byte == 1) ≡ a → (byte == 2) ≡ b → (byte == 3) ≡ c → is_role byte ≡ true
+    → role_byte (cond a role.Active (cond b role.Replica (cond c role.Pending role.Dead))) ≡ byte
+role_once byte true b c ta tb tc t = grind (arith, nat_tests)
+role_once byte false true c ta tb tc t = grind (arith, nat_tests)
+role_once byte false false true ta tb tc t = grind (arith, nat_tests)
+role_once byte false false false ta tb tc t = grind (arith, nat_tests)
+
+state_once : (x : List ℕ) → length x ≡ 1 → is_role (slice_index x 0) ≡ true → role_byte (role_in (slice_index x 0)) ∷ [] ≡ x
+state_once [] len t = absurd (omega (arith, len))
+state_once (byte ∷ []) len t = ap (λ b. b ∷ []) (role_once byte (byte == 1) (byte == 2) (byte == 3) refl refl refl t)
+state_once (byte ∷ more ∷ rest) len t = absurd (omega (arith, len))
 
 told_once : (f : Frame) (a b : Bool) → (f.vb_or_status == 0) ≡ a → (f.vb_or_status == 35) ≡ b → cond a (length f.value % 16 == 0) (cond b (length f.value == 8) (length f.value == 0)) ≡ true
     → IsOf f.opcode (cond (f.magic == 129) 129 128) row.StreamAnswer → AreBytes f.value → [] ≡ f.framing → [] ≡ f.extras → [] ≡ f.key
@@ -208,6 +224,9 @@ once_as row.Noop f is hx hv x k v =
 once_as row.BufferAcknowledgement f is hx hv x k v =
     let e = extras_are row.BufferAcknowledgement f x in
     λ i. record { magic = sym is.1 i; opcode = sym is.0 i; datatype = 0; vb_or_status = f.vb_or_status; opaque = f.opaque; cas = 0; framing = e.0 i; extras = end_once f.extras hx e.1 i; key = no_bytes f.key k i; value = no_bytes f.value v i }
+once_as row.SetVbucketState f is hx hv x k v =
+    let e = extras_are row.SetVbucketState f x in
+    λ i. record { magic = sym is.1 i; opcode = sym is.0 i; datatype = 0; vb_or_status = f.vb_or_status; opaque = f.opaque; cas = 0; framing = e.0 i; extras = state_once f.extras e.1 e.2 i; key = no_bytes f.key k i; value = no_bytes f.value v i }
 once_as row.OpenAnswer f is hx hv x k v =
     let e = extras_are row.OpenAnswer f x in
     λ i. record { magic = sym is.1 i; opcode = sym is.0 i; datatype = 0; vb_or_status = f.vb_or_status; opaque = f.opaque; cas = 0; framing = e.0 i; extras = none f.extras e.1 i; key = no_bytes f.key k i; value = no_bytes f.value v i }
@@ -227,6 +246,9 @@ once_as row.LogAnswer f is hx hv x k v =
     let e = extras_are row.LogAnswer f x in
     let log = log_once f.value hv (whole_log (length f.value) (f.vb_or_status == 0) v) in
     λ i. record { magic = sym is.1 i; opcode = sym is.0 i; datatype = 0; vb_or_status = f.vb_or_status; opaque = f.opaque; cas = 0; framing = e.0 i; extras = none f.extras e.1 i; key = no_bytes f.key k i; value = log i }
+once_as row.StateAnswer f is hx hv x k v =
+    let e = extras_are row.StateAnswer f x in
+    λ i. record { magic = sym is.1 i; opcode = sym is.0 i; datatype = 0; vb_or_status = f.vb_or_status; opaque = f.opaque; cas = 0; framing = e.0 i; extras = none f.extras e.1 i; key = no_bytes f.key k i; value = no_bytes f.value v i }
 
 -- where there is a message, there is no fault, and it is the row's
 no_fault : (fault : Option DcpFault) (n m : DcpMsg) → unless_fault fault n ≡ Ok m → (fault ≡ None) × (n ≡ m)
@@ -284,12 +306,14 @@ spelled_as row.CloseStream f fits hv x k v = tt
 spelled_as row.GetFailoverLog f fits hv x k v = tt
 spelled_as row.Noop f fits hv x k v = tt
 spelled_as row.BufferAcknowledgement f fits hv x k v = tt
+spelled_as row.SetVbucketState f fits hv x k v = tt
 spelled_as row.OpenAnswer f fits hv x k v = tt
 spelled_as row.ControlAnswer f fits hv x k v = tt
 spelled_as row.StreamAnswer f fits hv x k v = told_spelled f (f.vb_or_status == 0) (f.vb_or_status == 35) refl refl v hv (omega (arith, fits.body))
 spelled_as row.CloseAnswer f fits hv x k v = tt
 spelled_as row.NoopAnswer f fits hv x k v = tt
 spelled_as row.LogAnswer f fits hv x k v = log_spelled f (f.vb_or_status == 0) refl v hv (omega (arith, fits.body))
+spelled_as row.StateAnswer f fits hv x k v = tt
 
 spelled_by : (f : Frame) (r : Option DcpRow) (m : DcpMsg) → Fits f → AreBytes f.value → option_map (read_as f) r ≡ Some (Ok m) → IsSpelled m
 spelled_by f None m fits hv read = cc

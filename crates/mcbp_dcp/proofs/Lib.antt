@@ -1,6 +1,7 @@
 pub mod WireLogs
 pub mod Words
 mod Metadata
+mod Read
 mod DurableFaults
 mod ConnectionFaults
 pub mod DurableBytes

@@ -21,6 +21,7 @@ use Rattle.mcbp_dcp.specs.declared.shape.TheConstants.{MAX_NAME, ENTRY_LEN, SUCC
 use Rattle.mcbp_frame.specs.declared.frame.TheConstants.{REQUEST}
 use Rattle.mcbp_dcp.specs.Opcodes.{opcode_number}
 use Rattle.mcbp_dcp.specs.Rows.{row_opcode, row_magic}
+use Rattle.mcbp_dcp.specs.States.{role_byte}
 use Rattle.mcbp_dcp.specs.Shapes.{extras_size}
 use Rattle.mcbp_dcp.specs.WireLogs.{log_spelling}
 
@@ -129,12 +130,14 @@ dcp_frame msg.CloseStream opaque v = frame_of_row row.CloseStream v opaque [] []
 dcp_frame msg.GetFailoverLog opaque v = frame_of_row row.GetFailoverLog v opaque [] [] []
 dcp_frame msg.Noop opaque v = frame_of_row row.Noop v opaque [] [] []
 dcp_frame (msg.BufferAcknowledgement bytes) opaque v = frame_of_row row.BufferAcknowledgement v opaque (to_be_bytes w32 bytes) [] []
+dcp_frame (msg.SetVbucketState role) opaque v = frame_of_row row.SetVbucketState v opaque (role_byte role ∷ []) [] []
 dcp_frame (msg.OpenAnswer status) opaque v = frame_of_row row.OpenAnswer status opaque [] [] []
 dcp_frame (msg.ControlAnswer status) opaque v = frame_of_row row.ControlAnswer status opaque [] [] []
 dcp_frame (msg.StreamAnswer told) opaque v = verdict_frame told opaque
 dcp_frame (msg.CloseAnswer status) opaque v = frame_of_row row.CloseAnswer status opaque [] [] []
 dcp_frame (msg.NoopAnswer status) opaque v = frame_of_row row.NoopAnswer status opaque [] [] []
 dcp_frame (msg.LogAnswer status log) opaque v = log_frame status log opaque
+dcp_frame (msg.StateAnswer status) opaque v = frame_of_row row.StateAnswer status opaque [] [] []
 
 -- an answer's parts fit: a log its length field, and a refusal has neither status of the other two
 abbrev pub IsVerdict : StreamVerdict → Type 0
@@ -167,9 +170,11 @@ IsSpelled msg.CloseStream = Unit {0}
 IsSpelled msg.GetFailoverLog = Unit {0}
 IsSpelled msg.Noop = Unit {0}
 IsSpelled (msg.BufferAcknowledgement bytes) = Unit {0}
+IsSpelled (msg.SetVbucketState role) = Unit {0}
 IsSpelled (msg.OpenAnswer status) = Unit {0}
 IsSpelled (msg.ControlAnswer status) = Unit {0}
 IsSpelled (msg.StreamAnswer told) = IsVerdict told
 IsSpelled (msg.CloseAnswer status) = Unit {0}
 IsSpelled (msg.NoopAnswer status) = Unit {0}
 IsSpelled (msg.LogAnswer status log) = IsSpelledLog status log
+IsSpelled (msg.StateAnswer status) = Unit {0}

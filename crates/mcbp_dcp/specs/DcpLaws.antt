@@ -1,5 +1,5 @@
 -- which numbers the fields of a message hold, and what of a frame is not read
-use Rattle.std.specs.Prelude.{◌≡◌, ◌≢◌, ◌↔◌, ◌⊎◌, ℕ, ◌+◌, ◌*◌, ◌%◌, ◌^◌, ◌<◌, ◌==◌, if◌then◌else◌, List, [], ◌∷◌, ◌++◌, length, slice_index, Some, None, Err}
+use Rattle.std.specs.Prelude.{◌≡◌, ◌≢◌, ◌↔◌, ◌⊎◌, ℕ, ◌+◌, ◌*◌, ◌%◌, ◌^◌, ◌<◌, ◌≤◌, ◌==◌, if◌then◌else◌, List, [], ◌∷◌, ◌++◌, length, slice_index, Some, None, Err}
 use Rattle.std.specs.List.{All}
 use Rattle.vb_types.specs.declared.stream.StreamAsk.{StreamAsk}
 use Rattle.vb_types.specs.declared.role.LogEntry.{LogEntry}
@@ -85,12 +85,14 @@ InRange msg.CloseStream = Unit {0}
 InRange msg.GetFailoverLog = Unit {0}
 InRange msg.Noop = Unit {0}
 InRange (msg.BufferAcknowledgement bytes) = bytes < 2 ^ 32
+InRange (msg.SetVbucketState role) = Unit {0}
 InRange (msg.OpenAnswer status) = status < 2 ^ 16
 InRange (msg.ControlAnswer status) = status < 2 ^ 16
 InRange (msg.StreamAnswer told) = VerdictInRange told
 InRange (msg.CloseAnswer status) = status < 2 ^ 16
 InRange (msg.NoopAnswer status) = status < 2 ^ 16
 InRange (msg.LogAnswer status log) = (status < 2 ^ 16) × All EntryInRange log
+InRange (msg.StateAnswer status) = status < 2 ^ 16
 
 -- extras with 0 in the fields that are not read: a request's reserved field, the lock time and nru of a mutation, between which no metadata stand, and those of a prepare
 abbrev pub extras_read : DcpRow → List ℕ → List ℕ
@@ -109,12 +111,14 @@ extras_read row.CloseStream extras = extras
 extras_read row.GetFailoverLog extras = extras
 extras_read row.Noop extras = extras
 extras_read row.BufferAcknowledgement extras = extras
+extras_read row.SetVbucketState extras = extras
 extras_read row.OpenAnswer extras = extras
 extras_read row.ControlAnswer extras = extras
 extras_read row.StreamAnswer extras = extras
 extras_read row.CloseAnswer extras = extras
 extras_read row.NoopAnswer extras = extras
 extras_read row.LogAnswer extras = extras
+extras_read row.StateAnswer extras = extras
 
 -- the datatype of mutations and prepares is read, and that of no other row
 abbrev pub datatype_read : DcpRow → ℕ → ℕ
@@ -133,12 +137,14 @@ datatype_read row.CloseStream datatype = 0
 datatype_read row.GetFailoverLog datatype = 0
 datatype_read row.Noop datatype = 0
 datatype_read row.BufferAcknowledgement datatype = 0
+datatype_read row.SetVbucketState datatype = 0
 datatype_read row.OpenAnswer datatype = 0
 datatype_read row.ControlAnswer datatype = 0
 datatype_read row.StreamAnswer datatype = 0
 datatype_read row.CloseAnswer datatype = 0
 datatype_read row.NoopAnswer datatype = 0
 datatype_read row.LogAnswer datatype = 0
+datatype_read row.StateAnswer datatype = 0
 
 -- the CAS of mutations, deletions and prepares
 abbrev pub cas_read : DcpRow → ℕ → ℕ
@@ -157,12 +163,14 @@ cas_read row.CloseStream cas = 0
 cas_read row.GetFailoverLog cas = 0
 cas_read row.Noop cas = 0
 cas_read row.BufferAcknowledgement cas = 0
+cas_read row.SetVbucketState cas = 0
 cas_read row.OpenAnswer cas = 0
 cas_read row.ControlAnswer cas = 0
 cas_read row.StreamAnswer cas = 0
 cas_read row.CloseAnswer cas = 0
 cas_read row.NoopAnswer cas = 0
 cas_read row.LogAnswer cas = 0
+cas_read row.StateAnswer cas = 0
 
 -- a frame with 0 in all that its row does not use, and a message's magic where it is no answer
 abbrev pub frame_read : DcpRow → Frame → Frame
@@ -213,6 +221,20 @@ abbrev pub RefusesBodies : ℕ → ℕ → Type 0
 RefusesBodies opcode len = (f : Frame) → f.opcode ≡ opcode → f.magic ≢ RESPONSE
     → ((read_of f ≡ Some (Err WrongKey)) ↔ (HasExtras f len × (f.key ≢ []))) × ((read_of f ≡ Some (Err WrongValue)) ↔ (HasExtras f len × (f.key ≡ []) × (f.value ≢ [])))
 
+-- extras that name a role: 1 active, 2 replica, 3 pending, 4 dead
+abbrev pub NamesRole : Frame → Type 0
+NamesRole f = HasExtras f 1 × (1 ≤ slice_index f.extras 0) × (slice_index f.extras 0 ≤ 4)
+
+-- a SET_VBUCKET_STATE is WrongExtras exactly where it has framing extras, or extras of another length than 1, or their byte is 0 or above 4
+abbrev pub RefusesOtherRoles : Type 0
+RefusesOtherRoles = (f : Frame) → f.opcode ≡ 0x5b → f.magic ≢ RESPONSE
+    → (read_of f ≡ Some (Err WrongExtras)) ↔ ((f.framing ≢ []) ⊎ ((length f.extras ≢ 1) ⊎ ((slice_index f.extras 0 ≡ 0) ⊎ (4 < slice_index f.extras 0))))
+
+-- a SET_VBUCKET_STATE that names a role is WrongKey exactly where it has a key, and WrongValue where it has a value and no key
+abbrev pub NamesRoleAlone : Type 0
+NamesRoleAlone = (f : Frame) → f.opcode ≡ 0x5b → f.magic ≢ RESPONSE
+    → ((read_of f ≡ Some (Err WrongKey)) ↔ (NamesRole f × (f.key ≢ []))) × ((read_of f ≡ Some (Err WrongValue)) ↔ (NamesRole f × (f.key ≡ []) × (f.value ≢ [])))
+
 -- the answers of this opcode are WrongExtras exactly where they have framing extras or extras, and WrongKey where they have neither and a key
 abbrev pub RefusesAnswers : ℕ → Type 0
 RefusesAnswers opcode = (f : Frame) → f.opcode ≡ opcode → f.magic ≡ RESPONSE
@@ -259,9 +281,11 @@ dcp_len msg.CloseStream = HEADER_LEN
 dcp_len msg.GetFailoverLog = HEADER_LEN
 dcp_len msg.Noop = HEADER_LEN
 dcp_len (msg.BufferAcknowledgement bytes) = HEADER_LEN + extras_size row.BufferAcknowledgement
+dcp_len (msg.SetVbucketState role) = HEADER_LEN + extras_size row.SetVbucketState
 dcp_len (msg.OpenAnswer status) = HEADER_LEN
 dcp_len (msg.ControlAnswer status) = HEADER_LEN
 dcp_len (msg.StreamAnswer told) = verdict_len told
 dcp_len (msg.CloseAnswer status) = HEADER_LEN
 dcp_len (msg.NoopAnswer status) = HEADER_LEN
 dcp_len (msg.LogAnswer status log) = HEADER_LEN + ENTRY_LEN * length log
+dcp_len (msg.StateAnswer status) = HEADER_LEN

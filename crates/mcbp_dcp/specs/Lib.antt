@@ -1,5 +1,6 @@
 pub mod Opcodes
 pub mod Rows
+pub mod States
 pub mod Shapes
 pub mod WireLogs
 pub mod Messages

@@ -98,6 +98,10 @@ bare_bytes opcode datatype cas = 0x80 ∷ opcode ∷ 0x00 ∷ 0x00 ∷ 0x00 ∷ 
 abbrev pub buffer_bytes : ℕ → List ℕ → List ℕ
 buffer_bytes datatype cas = 0x80 ∷ 0x5d ∷ 0x00 ∷ 0x00 ∷ 0x04 ∷ datatype ∷ middle 0x04 ++ cas ++ four_bytes
 
+-- SET_VBUCKET_STATE, with this datatype and CAS: the byte of a role
+abbrev pub state_bytes : ℕ → List ℕ → ℕ → List ℕ
+state_bytes datatype cas role = 0x80 ∷ 0x5b ∷ 0x00 ∷ 0x00 ∷ 0x01 ∷ datatype ∷ middle 0x01 ++ cas ++ role ∷ []
+
 -- an answer's header: the status stands where a request has its vBucket
 abbrev pub answer_head : ℕ → ℕ → ℕ → ℕ → List ℕ
 answer_head opcode high low body =

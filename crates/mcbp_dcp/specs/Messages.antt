@@ -17,6 +17,7 @@ use Rattle.mcbp_dcp.specs.declared.message.StreamVerdict.{StreamVerdict}
 use Rattle.mcbp_dcp.specs.declared.message.StreamVerdict.TheVariants as told
 use Rattle.mcbp_dcp.specs.declared.shape.TheConstants.{SUCCESS, ROLLBACK}
 use Rattle.mcbp_dcp.specs.Rows.{frame_row}
+use Rattle.mcbp_dcp.specs.States.{role_in}
 use Rattle.mcbp_dcp.specs.Shapes.{shape_fault}
 use Rattle.mcbp_dcp.specs.WireLogs.{log_in}
 
@@ -89,12 +90,14 @@ message_in row.CloseStream f = msg.CloseStream
 message_in row.GetFailoverLog f = msg.GetFailoverLog
 message_in row.Noop f = msg.Noop
 message_in row.BufferAcknowledgement f = msg.BufferAcknowledgement (big_32_at f.extras 0)
+message_in row.SetVbucketState f = msg.SetVbucketState (role_in (slice_index f.extras 0))
 message_in row.OpenAnswer f = msg.OpenAnswer f.vb_or_status
 message_in row.ControlAnswer f = msg.ControlAnswer f.vb_or_status
 message_in row.StreamAnswer f = msg.StreamAnswer (verdict_in f.vb_or_status f.value)
 message_in row.CloseAnswer f = msg.CloseAnswer f.vb_or_status
 message_in row.NoopAnswer f = msg.NoopAnswer f.vb_or_status
 message_in row.LogAnswer f = msg.LogAnswer f.vb_or_status (log_in f.value)
+message_in row.StateAnswer f = msg.StateAnswer f.vb_or_status
 
 -- the fault, or else the message
 abbrev pub unless_fault : Option DcpFault → DcpMsg → Result DcpMsg DcpFault

@@ -29,12 +29,14 @@ row_opcode row.CloseStream = op.CloseStream
 row_opcode row.GetFailoverLog = op.GetFailoverLog
 row_opcode row.Noop = op.Noop
 row_opcode row.BufferAcknowledgement = op.BufferAcknowledgement
+row_opcode row.SetVbucketState = op.SetVbucketState
 row_opcode row.OpenAnswer = op.Open
 row_opcode row.ControlAnswer = op.Control
 row_opcode row.StreamAnswer = op.StreamRequest
 row_opcode row.CloseAnswer = op.CloseStream
 row_opcode row.NoopAnswer = op.Noop
 row_opcode row.LogAnswer = op.GetFailoverLog
+row_opcode row.StateAnswer = op.SetVbucketState
 
 -- the magic that a row is written with
 abbrev pub row_magic : DcpRow → ℕ
@@ -53,12 +55,14 @@ row_magic row.CloseStream = REQUEST
 row_magic row.GetFailoverLog = REQUEST
 row_magic row.Noop = REQUEST
 row_magic row.BufferAcknowledgement = REQUEST
+row_magic row.SetVbucketState = REQUEST
 row_magic row.OpenAnswer = RESPONSE
 row_magic row.ControlAnswer = RESPONSE
 row_magic row.StreamAnswer = RESPONSE
 row_magic row.CloseAnswer = RESPONSE
 row_magic row.NoopAnswer = RESPONSE
 row_magic row.LogAnswer = RESPONSE
+row_magic row.StateAnswer = RESPONSE
 
 -- the row with an opcode: an answer, or a message
 abbrev pub row_of_opcode : Opcode → Bool → Option DcpRow
@@ -83,6 +87,8 @@ row_of_opcode op.GetFailoverLog true = Some row.LogAnswer
 row_of_opcode op.Noop false = Some row.Noop
 row_of_opcode op.Noop true = Some row.NoopAnswer
 row_of_opcode op.BufferAcknowledgement false = Some row.BufferAcknowledgement
+row_of_opcode op.SetVbucketState false = Some row.SetVbucketState
+row_of_opcode op.SetVbucketState true = Some row.StateAnswer
 row_of_opcode other answers = None
 
 -- the row with an opcode, where there is one

@@ -7,6 +7,7 @@ use Rattle.mcbp_dcp.specs.declared.row.DcpRow.TheVariants as row
 use Rattle.mcbp_dcp.specs.declared.message.DcpFault.{DcpFault}
 use Rattle.mcbp_dcp.specs.declared.message.DcpFault.TheVariants.{WrongExtras, WrongKey, WrongValue}
 use Rattle.mcbp_dcp.specs.declared.shape.TheConstants.{MAX_NAME, ENTRY_LEN, SUCCESS, ROLLBACK}
+use Rattle.mcbp_dcp.specs.States.{is_role}
 
 -- how long the extras of a row are
 abbrev pub extras_size : DcpRow → ℕ
@@ -25,40 +26,44 @@ extras_size row.CloseStream = 0
 extras_size row.GetFailoverLog = 0
 extras_size row.Noop = 0
 extras_size row.BufferAcknowledgement = 4
+extras_size row.SetVbucketState = 1
 extras_size row.OpenAnswer = 0
 extras_size row.ControlAnswer = 0
 extras_size row.StreamAnswer = 0
 extras_size row.CloseAnswer = 0
 extras_size row.NoopAnswer = 0
 extras_size row.LogAnswer = 0
+extras_size row.StateAnswer = 0
 
--- where a row has a length of metadata, it is 0
-abbrev pub lacks_metadata : DcpRow → List ℕ → Bool
-lacks_metadata row.Open extras = true
-lacks_metadata row.Control extras = true
-lacks_metadata row.StreamRequest extras = true
-lacks_metadata row.StreamEnd extras = true
-lacks_metadata row.SnapshotMarker extras = true
-lacks_metadata row.Mutation extras = big_16_at extras 28 == 0
-lacks_metadata row.Deletion extras = big_16_at extras 16 == 0
-lacks_metadata row.Prepare extras = true
-lacks_metadata row.Commit extras = true
-lacks_metadata row.Abort extras = true
-lacks_metadata row.SeqnoAcknowledged extras = true
-lacks_metadata row.CloseStream extras = true
-lacks_metadata row.GetFailoverLog extras = true
-lacks_metadata row.Noop extras = true
-lacks_metadata row.BufferAcknowledgement extras = true
-lacks_metadata row.OpenAnswer extras = true
-lacks_metadata row.ControlAnswer extras = true
-lacks_metadata row.StreamAnswer extras = true
-lacks_metadata row.CloseAnswer extras = true
-lacks_metadata row.NoopAnswer extras = true
-lacks_metadata row.LogAnswer extras = true
+-- where a row has a length of metadata, it is 0; and the role is one
+abbrev pub numbers_fit : DcpRow → List ℕ → Bool
+numbers_fit row.Open extras = true
+numbers_fit row.Control extras = true
+numbers_fit row.StreamRequest extras = true
+numbers_fit row.StreamEnd extras = true
+numbers_fit row.SnapshotMarker extras = true
+numbers_fit row.Mutation extras = big_16_at extras 28 == 0
+numbers_fit row.Deletion extras = big_16_at extras 16 == 0
+numbers_fit row.Prepare extras = true
+numbers_fit row.Commit extras = true
+numbers_fit row.Abort extras = true
+numbers_fit row.SeqnoAcknowledged extras = true
+numbers_fit row.CloseStream extras = true
+numbers_fit row.GetFailoverLog extras = true
+numbers_fit row.Noop extras = true
+numbers_fit row.BufferAcknowledgement extras = true
+numbers_fit row.SetVbucketState extras = is_role (slice_index extras 0)
+numbers_fit row.OpenAnswer extras = true
+numbers_fit row.ControlAnswer extras = true
+numbers_fit row.StreamAnswer extras = true
+numbers_fit row.CloseAnswer extras = true
+numbers_fit row.NoopAnswer extras = true
+numbers_fit row.LogAnswer extras = true
+numbers_fit row.StateAnswer extras = true
 
--- no framing extras, and extras of the row's length without metadata
+-- no framing extras, and extras of the row's length, without metadata and with a role where the row has one
 abbrev pub extras_fit : DcpRow → Frame → Bool
-extras_fit row f = ((length f.framing == 0) && (length f.extras == extras_size row)) && lacks_metadata row f.extras
+extras_fit row f = ((length f.framing == 0) && (length f.extras == extras_size row)) && numbers_fit row f.extras
 
 -- a name has 1 to 250 bytes; CONTROL and changes have any key, and all else has none
 abbrev pub key_fits : DcpRow → Frame → Bool
@@ -77,12 +82,14 @@ key_fits row.CloseStream f = length f.key == 0
 key_fits row.GetFailoverLog f = length f.key == 0
 key_fits row.Noop f = length f.key == 0
 key_fits row.BufferAcknowledgement f = length f.key == 0
+key_fits row.SetVbucketState f = length f.key == 0
 key_fits row.OpenAnswer f = length f.key == 0
 key_fits row.ControlAnswer f = length f.key == 0
 key_fits row.StreamAnswer f = length f.key == 0
 key_fits row.CloseAnswer f = length f.key == 0
 key_fits row.NoopAnswer f = length f.key == 0
 key_fits row.LogAnswer f = length f.key == 0
+key_fits row.StateAnswer f = length f.key == 0
 
 -- the value of an answer to a request for a stream: a log, a point to roll back to, or none
 abbrev pub verdict_fits : ℕ → ℕ → Bool
@@ -113,12 +120,14 @@ value_fits row.CloseStream f = length f.value == 0
 value_fits row.GetFailoverLog f = length f.value == 0
 value_fits row.Noop f = length f.value == 0
 value_fits row.BufferAcknowledgement f = length f.value == 0
+value_fits row.SetVbucketState f = length f.value == 0
 value_fits row.OpenAnswer f = length f.value == 0
 value_fits row.ControlAnswer f = length f.value == 0
 value_fits row.StreamAnswer f = verdict_fits f.vb_or_status (length f.value)
 value_fits row.CloseAnswer f = length f.value == 0
 value_fits row.NoopAnswer f = length f.value == 0
 value_fits row.LogAnswer f = log_fits f.vb_or_status (length f.value)
+value_fits row.StateAnswer f = length f.value == 0
 
 -- the first part that is not the row's
 unfoldable pub shape_fault : DcpRow → Frame → Option DcpFault

@@ -1,8 +1,9 @@
 //! What holds of DCP messages and their frames beyond any one call, each law as the contract of a
 //! function.
-ghost use Rattle.std.specs.Prelude.{◌≡◌, ◌≢◌, ◌↔◌, ◌++◌, ◌∷◌, [], ℕ, List, length, ◌≤◌, ◌<◌, ◌^◌, ◌+◌, ◌*◌, true, false, Some, None, Ok, Err, IsTrue, IsFalse};
+ghost use Rattle.std.specs.Prelude.{◌≡◌, ◌≢◌, ◌↔◌, ◌++◌, ◌∷◌, [], ℕ, List, length, ◌≤◌, ◌<◌, ◌^◌, ◌+◌, ◌*◌, true, false, Some, None, Ok, Err, IsTrue, IsFalse, ◌==◌};
+ghost use Rattle.std.specs.{List.{list_any}, Option.{is_some}};
 ghost use Rattle.mcbp_frame.specs.declared.frame.Frame.{Frame as FrameData};
-ghost use Rattle.mcbp_frame.specs.declared.frame.TheConstants.{MAX_BODY_LEN};
+ghost use Rattle.mcbp_frame.specs.declared.frame.TheConstants.{MAX_BODY_LEN, RESPONSE};
 ghost use Rattle.mcbp_frame.specs.Frames.{first_frame, body_size, frame_len};
 ghost use Rattle.mcbp_frame.specs.Spelling.{spelling, Fits};
 ghost use Rattle.mcbp_frame.specs.Streams.{AreBytes};
@@ -17,15 +18,18 @@ ghost use Rattle.mcbp_dcp.specs.declared.message.StreamVerdict.{StreamVerdict as
 ghost use Rattle.mcbp_dcp.specs.declared.message.StreamVerdict.TheVariants as told_as;
 ghost use Rattle.vb_types.specs.declared.stream.StreamAsk.{StreamAsk as AskData};
 ghost use Rattle.vb_types.specs.declared.role.LogEntry.{LogEntry as EntryData};
+ghost use Rattle.vb_types.specs.declared.role.Role.{Role as RoleData};
+ghost use Rattle.vb_types.specs.declared.role.Role.TheVariants as role;
 ghost use Rattle.mcbp_dcp.specs.declared.message.DcpFault.TheVariants.{WrongExtras, WrongKey, WrongValue};
 ghost use Rattle.mcbp_dcp.specs.declared.shape.TheConstants.{MAX_NAME, ENTRY_LEN, SUCCESS, ROLLBACK};
 ghost use Rattle.mcbp_dcp.specs.Rows.{dcp_opcodes, frame_row};
+ghost use Rattle.mcbp_dcp.specs.States.{role_byte, is_role, role_in};
 ghost use Rattle.mcbp_dcp.specs.Shapes.{extras_fit, key_fits, verdict_fits, log_fits, value_fits};
 ghost use Rattle.mcbp_dcp.specs.Messages.{read_of};
 ghost use Rattle.mcbp_dcp.specs.DcpFrames.{dcp_frame, IsSpelled};
-ghost use Rattle.mcbp_dcp.specs.DcpLaws.{InRange, Carries, RefusesExtras, RefusesLengths, RefusesValues, RefusesValuesOfRemovals, AcknowledgesBare, RefusesBodies, RefusesAnswers, RefusesValuesOfAnswers, RefusesOtherLogs, HasNoAnswer, frame_read, dcp_len};
+ghost use Rattle.mcbp_dcp.specs.DcpLaws.{InRange, Carries, RefusesExtras, RefusesLengths, RefusesValues, RefusesValuesOfRemovals, AcknowledgesBare, RefusesBodies, RefusesAnswers, RefusesValuesOfAnswers, RefusesOtherLogs, RefusesOtherRoles, NamesRoleAlone, HasNoAnswer, frame_read, dcp_len};
 ghost use Rattle.mcbp_dcp.specs.DurableRows.{IsReadAs, IsWrittenAs, prepare_row, prepare_bytes, no_times, some_times, no_cas, some_cas, some_value, resolution_row, resolution_bytes, acknowledged_bytes};
-ghost use Rattle.mcbp_dcp.specs.MessageRows.{IsAnsweredAs, open_row, open_bytes, control_row, control_bytes, request_row, request_bytes, end_bytes, marker_row, marker_bytes, mutation_row, mutation_bytes, deletion_row, deletion_bytes, bare_bytes, buffer_bytes, answer_head, some_log, log_told_bytes, log_answer_bytes, point_told_bytes, refused_told_bytes, four_bytes, no_four};
+ghost use Rattle.mcbp_dcp.specs.MessageRows.{IsAnsweredAs, open_row, open_bytes, control_row, control_bytes, request_row, request_bytes, end_bytes, marker_row, marker_bytes, mutation_row, mutation_bytes, deletion_row, deletion_bytes, bare_bytes, buffer_bytes, state_bytes, answer_head, some_log, log_told_bytes, log_answer_bytes, point_told_bytes, refused_told_bytes, four_bytes, no_four};
 
 /// A message that is written is read back, whatever follows it.
 pub fn dcp_reads_back()
@@ -44,6 +48,11 @@ pub fn dcp_one_spelling()
         → dcp_frame m f.opaque f.vb_or_status ≡ frame_read row f }
     ensures spelled { (f : FrameData) (m : MsgData) → Fits f → AreBytes f.value
         → read_of f ≡ Some (Ok m) → IsSpelled m }
+{}
+
+/// A frame that is no answer is read exactly where DCP has a message with its opcode.
+pub fn messages_have_rows()
+    ensures { (f : FrameData) → f.magic ≢ RESPONSE → is_some (read_of f) ≡ list_any (λ o. o == f.opcode) dcp_opcodes }
 {}
 
 /// Each fault is given exactly where its part is the first that is not the row's. A mutation's extras
@@ -74,16 +83,18 @@ pub fn durable_faults()
 {}
 
 /// What of the messages beside handshake and streams is refused, in numbers: extras, but the 4 bytes of an
-/// acknowledgement of bytes, which has no answer; a key; and a value, but the log of an answer that is
-/// Success, 16 bytes an entry.
+/// acknowledgement of bytes, which has no answer, and a role's byte of 1 to 4; a key; and a value, but the
+/// log of an answer that is Success, 16 bytes an entry.
 pub fn connection_faults()
     ensures close { RefusesLengths 0x52 0 × RefusesBodies 0x52 0 }
     ensures ask { RefusesLengths 0x54 0 × RefusesBodies 0x54 0 }
     ensures noop { RefusesLengths 0x5c 0 × RefusesBodies 0x5c 0 }
     ensures acknowledged { RefusesLengths 0x5d 4 × RefusesBodies 0x5d 4 }
+    ensures state { RefusesOtherRoles × NamesRoleAlone }
     ensures closed { RefusesAnswers 0x52 × RefusesValuesOfAnswers 0x52 }
     ensures nooped { RefusesAnswers 0x5c × RefusesValuesOfAnswers 0x5c }
     ensures log { RefusesAnswers 0x54 × RefusesOtherLogs }
+    ensures stated { RefusesAnswers 0x5b × RefusesValuesOfAnswers 0x5b }
     ensures unanswered { HasNoAnswer 0x5d }
 {}
 
@@ -122,19 +133,25 @@ pub fn messages_in_bytes()
 {}
 
 /// The messages beside handshake and streams, byte by byte: the request to close a stream, that for a log,
-/// the question whether the other side is there, and how many bytes were taken; and the answers to the
-/// first three. Datatype and CAS are not read.
+/// the question whether the other side is there, how many bytes were taken, and the role that a vBucket is
+/// to take, each of the four; and the answers to all but the bytes. Datatype and CAS are not read.
 pub fn connection_messages_in_bytes()
     ensures close { IsWrittenAs msg.CloseStream (bare_bytes 0x52 0 no_cas) }
     ensures ask { IsWrittenAs msg.GetFailoverLog (bare_bytes 0x54 0 no_cas) }
     ensures noop { IsWrittenAs msg.Noop (bare_bytes 0x5c 0 no_cas) }
     ensures acknowledged { IsWrittenAs (msg.BufferAcknowledgement 0x01020304) (buffer_bytes 0 no_cas) }
+    ensures active { IsWrittenAs (msg.SetVbucketState role.Active) (state_bytes 0 no_cas 1) }
+    ensures replica { IsWrittenAs (msg.SetVbucketState role.Replica) (state_bytes 0 no_cas 2) }
+    ensures pending { IsWrittenAs (msg.SetVbucketState role.Pending) (state_bytes 0 no_cas 3) }
+    ensures dead { IsWrittenAs (msg.SetVbucketState role.Dead) (state_bytes 0 no_cas 4) }
     ensures closed { IsAnsweredAs (msg.CloseAnswer 0x0304) (answer_head 0x52 0x03 0x04 0x00) }
     ensures nooped { IsAnsweredAs (msg.NoopAnswer 0x0304) (answer_head 0x5c 0x03 0x04 0x00) }
     ensures log { IsAnsweredAs (msg.LogAnswer 0 some_log) log_answer_bytes }
     ensures refused { IsAnsweredAs (msg.LogAnswer 0x0304 []) (answer_head 0x54 0x03 0x04 0x00) }
+    ensures stated { IsAnsweredAs (msg.StateAnswer 0x0304) (answer_head 0x5b 0x03 0x04 0x00) }
     ensures heads { IsReadAs (bare_bytes 0x52 1 some_cas) msg.CloseStream × IsReadAs (bare_bytes 0x54 1 some_cas) msg.GetFailoverLog
-        × IsReadAs (bare_bytes 0x5c 1 some_cas) msg.Noop × IsReadAs (buffer_bytes 1 some_cas) (msg.BufferAcknowledgement 0x01020304) }
+        × IsReadAs (bare_bytes 0x5c 1 some_cas) msg.Noop × IsReadAs (buffer_bytes 1 some_cas) (msg.BufferAcknowledgement 0x01020304)
+        × IsReadAs (state_bytes 1 some_cas 3) (msg.SetVbucketState role.Pending) }
 {}
 
 /// How long a message is as bytes, whatever its opaque and vBucket.
@@ -162,12 +179,14 @@ pub fn dcp_opcodes_in_numbers()
     ensures ask { (opaque v : ℕ) → Carries (dcp_frame msg.GetFailoverLog opaque v) 0x54 0 }
     ensures noop { (opaque v : ℕ) → Carries (dcp_frame msg.Noop opaque v) 0x5c 0 }
     ensures buffer { (bytes opaque v : ℕ) → Carries (dcp_frame (msg.BufferAcknowledgement bytes) opaque v) 0x5d 4 }
+    ensures state { (to : RoleData) (opaque v : ℕ) → Carries (dcp_frame (msg.SetVbucketState to) opaque v) 0x5b 1 }
     ensures opened { (status opaque v : ℕ) → Carries (dcp_frame (msg.OpenAnswer status) opaque v) 0x50 0 }
     ensures controlled { (status opaque v : ℕ) → Carries (dcp_frame (msg.ControlAnswer status) opaque v) 0x5e 0 }
     ensures told { (told : ToldData) (opaque v : ℕ) → Carries (dcp_frame (msg.StreamAnswer told) opaque v) 0x53 0 }
     ensures closed { (status opaque v : ℕ) → Carries (dcp_frame (msg.CloseAnswer status) opaque v) 0x52 0 }
     ensures nooped { (status opaque v : ℕ) → Carries (dcp_frame (msg.NoopAnswer status) opaque v) 0x5c 0 }
     ensures log { (status opaque v : ℕ) (log : List EntryData) → Carries (dcp_frame (msg.LogAnswer status log) opaque v) 0x54 0 }
+    ensures stated { (status opaque v : ℕ) → Carries (dcp_frame (msg.StateAnswer status) opaque v) 0x5b 0 }
 {}
 
 /// The numbers that the protocol fixes for these messages.
@@ -175,6 +194,9 @@ pub fn dcp_numbers()
     ensures name { MAX_NAME ≡ 250 }
     ensures entry { ENTRY_LEN ≡ 16 }
     ensures statuses { (SUCCESS ≡ 0) × (ROLLBACK ≡ 35) }
+    ensures roles { (role_byte role.Active ≡ 1) × (role_byte role.Replica ≡ 2) × (role_byte role.Pending ≡ 3) × (role_byte role.Dead ≡ 4) }
+    ensures bytes { (role_in 1 ≡ role.Active) × (role_in 2 ≡ role.Replica) × (role_in 3 ≡ role.Pending) × (role_in 4 ≡ role.Dead) }
+    ensures others { (is_role 0 ≡ false) × (is_role 5 ≡ false) × (is_role 255 ≡ false) }
 {}
 
 /// The name in an OPEN has 1 to 250 bytes.
@@ -194,6 +216,7 @@ pub fn messages_have_room()
     ensures marker { (start end flags : ℕ) → IsSpelled (msg.SnapshotMarker start end flags) }
     ensures others { (n : ℕ) → IsSpelled (msg.StreamEnd n) × IsSpelled (msg.SeqnoAcknowledged n) × IsSpelled (msg.OpenAnswer n) × IsSpelled (msg.ControlAnswer n) }
     ensures connection { (n : ℕ) → IsSpelled msg.CloseStream × IsSpelled msg.GetFailoverLog × IsSpelled msg.Noop × IsSpelled (msg.BufferAcknowledgement n) × IsSpelled (msg.CloseAnswer n) × IsSpelled (msg.NoopAnswer n) }
+    ensures state { (to : RoleData) (n : ℕ) → IsSpelled (msg.SetVbucketState to) × IsSpelled (msg.StateAnswer n) }
     ensures log { (log : List EntryData) → IsSpelled (msg.LogAnswer 0 log) ↔ (16 * length log < 4294967296) }
     ensures refused { (status : ℕ) (log : List EntryData) → status ≢ 0 → IsSpelled (msg.LogAnswer status log) ↔ (log ≡ []) }
 {}

@@ -1,6 +1,6 @@
 //! DCP messages as values.
 use bytes::Bytes;
-use vb_types::{Listed, LogEntry, StreamAsk};
+use vb_types::{Listed, LogEntry, Role, StreamAsk};
 
 /// A key's new document, with the seqno at which it was stored. Key and value may have any length
 /// here, and the datatype any number.
@@ -94,6 +94,8 @@ pub enum DcpMsg {
     Noop,
     /// The consumer has taken this many bytes more.
     BufferAcknowledgement { bytes: u32 },
+    /// The vBucket is to take this role at the consumer.
+    SetVbucketState { role: Role },
     /// The answer to `Open`, with the status that stands for it on the wire.
     OpenAnswer { status: u16 },
     /// The answer to `Control`.
@@ -106,12 +108,14 @@ pub enum DcpMsg {
     NoopAnswer { status: u16 },
     /// The answer to `GetFailoverLog`: the log, the newest entry first, where the status is Success.
     LogAnswer { status: u16, log: Listed<LogEntry> },
+    /// The answer to `SetVbucketState`.
+    StateAnswer { status: u16 },
 }
 
 /// Which part of a frame is not its row's.
 #[derive(Clone, Copy, Debug, PartialEq, Eq)]
 pub enum DcpFault {
-    /// Framing extras, extras that are not of the row's length, or metadata.
+    /// Framing extras, extras that are not of the row's length, metadata, or a byte that is no role's.
     WrongExtras,
     /// A key where the row has none, or a name that is not of 1 to 250 bytes.
     WrongKey,

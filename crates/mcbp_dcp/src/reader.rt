@@ -7,6 +7,7 @@ ghost use Rattle.{mcbp_dcp.specs.Messages.{ask_in, mutation_in, deletion_in, pre
 use crate::log::log_of;
 use crate::row::{DcpRow, row_of};
 use crate::shape::{ROLLBACK, SUCCESS, fault_of};
+use crate::state::role_of;
 use crate::{DcpFault, DcpMsg, Deletion, Mutation, Prepare, Resolution, StreamVerdict};
 use byteorder::{BigEndian, ByteOrder};
 use mcbp_frame::Frame;
@@ -202,18 +203,22 @@ fn message_of(alloc: Global, f: &Frame, row: DcpRow) -> Result<DcpMsg, AllocErro
         DcpRow::BufferAcknowledgement => Ok(DcpMsg::BufferAcknowledgement {
             bytes: BigEndian::read_u32(&extras[0..4]),
         }),
+        DcpRow::SetVbucketState => Ok(DcpMsg::SetVbucketState {
+            role: role_of(extras[0]),
+        }),
         DcpRow::OpenAnswer => Ok(DcpMsg::OpenAnswer { status }),
         DcpRow::ControlAnswer => Ok(DcpMsg::ControlAnswer { status }),
         DcpRow::StreamAnswer => answer_of(alloc, status, f.value.as_slice()),
         DcpRow::CloseAnswer => Ok(DcpMsg::CloseAnswer { status }),
         DcpRow::NoopAnswer => Ok(DcpMsg::NoopAnswer { status }),
         DcpRow::LogAnswer => log_answer_of(alloc, status, f.value.as_slice()),
+        DcpRow::StateAnswer => Ok(DcpMsg::StateAnswer { status }),
     }
 }
 
-/// The message of a frame whose row is built, or which of its parts is not its row's: the first of
-/// extras, key and value. A framing part that is not empty and metadata are wrong extras. Lock
-/// time, nru, a reserved field and the header's fields that the row does not use are ignored.
+/// The message of a frame that has a row, or which of its parts is not its row's: the first of
+/// extras, key and value. A framing part that is not empty, metadata, and a byte that is no role's are
+/// wrong extras. Lock time, nru, a reserved field and the header's fields that the row does not use are ignored.
 #[tactic(auto, unfolding(crate::specs::Messages::read_of))]
 pub fn read_dcp(alloc: Global, f: &Frame) -> Result<Option<Result<DcpMsg, DcpFault>>, AllocError>
     ensures { IfOk result (λ read. read ≡ read_of f.now) }

@@ -1,6 +1,6 @@
 //! The rows of the table of DCP messages.
 ghost use Rattle.std.specs.Prelude.{◌≡◌, ◌==◌};
-ghost use Rattle.{std.specs.List.{list_any}, std.specs.Option.{is_some}, mcbp_dcp.specs.Rows.{dcp_opcodes, frame_row}};
+ghost use Rattle.{std.specs.List.{list_any}, mcbp_dcp.specs.Rows.{dcp_opcodes, frame_row}};
 
 use crate::opcode::Opcode;
 use mcbp_frame::{Frame, RESPONSE};
@@ -23,12 +23,14 @@ pub enum DcpRow {
     GetFailoverLog,
     Noop,
     BufferAcknowledgement,
+    SetVbucketState,
     OpenAnswer,
     ControlAnswer,
     StreamAnswer,
     CloseAnswer,
     NoopAnswer,
     LogAnswer,
+    StateAnswer,
 }
 
 /// Whether DCP has a message with this opcode.
@@ -65,13 +67,8 @@ pub fn row_of(f: &Frame) -> Option<DcpRow>
         (Opcode::Noop, false) => Some(DcpRow::Noop),
         (Opcode::Noop, true) => Some(DcpRow::NoopAnswer),
         (Opcode::BufferAcknowledgement, false) => Some(DcpRow::BufferAcknowledgement),
+        (Opcode::SetVbucketState, false) => Some(DcpRow::SetVbucketState),
+        (Opcode::SetVbucketState, true) => Some(DcpRow::StateAnswer),
         _ => None,
     }
-}
-
-/// Whether `read_dcp` reads frames of this magic and opcode.
-pub fn is_built(f: &Frame) -> bool
-    ensures { result ≡ is_some (frame_row f.now) }
-{
-    row_of(f).is_some()
 }

@@ -19,8 +19,8 @@ pub const SUCCESS: u16 = 0x00;
 /// The status of a request whose consumer has to roll back.
 pub const ROLLBACK: u16 = 0x23;
 
-/// Whether there are no framing extras, the extras are as long as the row's, and the length of
-/// metadata in them is 0.
+/// Whether there are no framing extras, the extras are as long as the row's, the length of metadata in
+/// them is 0, and their role is one.
 fn have_extras(f: &Frame, row: DcpRow) -> bool
     ensures { result ≡ extras_fit row f.now }
 {
@@ -38,6 +38,7 @@ fn have_extras(f: &Frame, row: DcpRow) -> bool
         DcpRow::Prepare => extras.len() == 31,
         DcpRow::Commit | DcpRow::Abort => extras.len() == 16,
         DcpRow::SeqnoAcknowledged => extras.len() == 8,
+        DcpRow::SetVbucketState => extras.len() == 1 && matches!(extras[0], 1..=4),
         _ => extras.is_empty(),
     }
 }

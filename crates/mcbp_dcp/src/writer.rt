@@ -1,8 +1,9 @@
 //! The one frame of a message, as bytes.
-ghost use Rattle.std.specs.Prelude.{◌≡◌, ◌+◌, ◌*◌, ◌^◌, ◌<◌, ◌≤◌, ◌++◌, [], length, OnOk, OnErr};
+ghost use Rattle.std.specs.Prelude.{◌≡◌, ◌+◌, ◌*◌, ◌^◌, ◌<◌, ◌≤◌, ◌++◌, ◌∷◌, [], length, OnOk, OnErr};
 ghost use Rattle.std.specs.Int.{w32, w64, to_be_bytes};
 ghost use Rattle.mcbp_dcp.specs.DcpFrames.{bare_frame, frame_of_row, header_bytes, request_frame, mutation_frame, deletion_frame, prepare_frame, resolution_frame, verdict_frame, log_frame, dcp_frame, IsVerdict, IsSpelled};
 ghost use Rattle.mcbp_dcp.specs.DcpFrames.{open_extras, marker_extras};
+ghost use Rattle.mcbp_dcp.specs.States.{role_byte};
 ghost use Rattle.mcbp_dcp.specs.declared.message.DcpMsg.TheVariants as msg;
 ghost use Rattle.mcbp_dcp.specs.declared.row.DcpRow.TheVariants as row;
 ghost use Rattle.mcbp_dcp.specs.declared.shape.TheConstants.{ENTRY_LEN};
@@ -11,11 +12,12 @@ ghost use Rattle.mcbp_frame.specs.Spelling.{spelling};
 
 use crate::log::log_bytes;
 use crate::shape::{ROLLBACK, SUCCESS};
+use crate::state::byte_of;
 use crate::{DcpMsg, Deletion, Mutation, Opcode, Prepare, Resolution, StreamVerdict};
 use bytes::{Bytes, BytesMut};
 use mcbp_frame::{HEADER_LEN, REQUEST, RESPONSE};
 use std::alloc::AllocError;
-use vb_types::{LogEntry, StreamAsk};
+use vb_types::{LogEntry, Role, StreamAsk};
 
 /// What stands beside a message in its frame.
 #[derive(Clone, Copy)]
@@ -294,6 +296,20 @@ fn write_acknowledged(seq: u64, label: Label, out: &mut BytesMut) -> Result<(), 
     Ok(())
 }
 
+#[tactic(auto, unfolding(mcbp_frame::specs::Spelling::spelling))]
+fn write_state(role: Role, label: Label, out: &mut BytesMut) -> Result<(), AllocError>
+    ensures ok { OnOk result (out.new.items ≡ out.old.items ++ spelling (frame_of_row row.SetVbucketState label.v label.opaque (role_byte role ∷ []) [] [])) }
+    ensures err { OnErr result (out.new.items ≡ out.old.items) }
+{
+    let header = Header {
+        extras: 1,
+        ..request(Opcode::SetVbucketState, label)
+    };
+    put_header(header, out)?;
+    out.extend_reserved(&[byte_of(role)]);
+    Ok(())
+}
+
 /// An answer: its status, and a value.
 #[tactic(auto, unfolding(mcbp_frame::specs::Spelling::spelling))]
 fn write_answer(
@@ -393,6 +409,7 @@ pub fn write_dcp(m: &DcpMsg, opaque: u32, v: u16, out: &mut BytesMut) -> Result<
         DcpMsg::BufferAcknowledgement { bytes } => {
             write_number(Opcode::BufferAcknowledgement, *bytes, label, out)
         }
+        DcpMsg::SetVbucketState { role } => write_state(*role, label, out),
         DcpMsg::OpenAnswer { status } => write_answer(Opcode::Open, *status, opaque, &[], out),
         DcpMsg::ControlAnswer { status } => {
             write_answer(Opcode::Control, *status, opaque, &[], out)
@@ -403,5 +420,8 @@ pub fn write_dcp(m: &DcpMsg, opaque: u32, v: u16, out: &mut BytesMut) -> Result<
         }
         DcpMsg::NoopAnswer { status } => write_answer(Opcode::Noop, *status, opaque, &[], out),
         DcpMsg::LogAnswer { status, log } => write_log(*status, log.as_slice(), opaque, out),
+        DcpMsg::StateAnswer { status } => {
+            write_answer(Opcode::SetVbucketState, *status, opaque, &[], out)
+        }
     }
 }

@@ -12,6 +12,8 @@ mod messages;
 #[cfg(test)]
 mod reading;
 #[cfg(test)]
+mod roles;
+#[cfg(test)]
 mod streams;
 #[cfg(test)]
 mod transcripts;

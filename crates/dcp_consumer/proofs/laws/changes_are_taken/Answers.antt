@@ -1,4 +1,4 @@
-use Rattle.dcp_consumer.proofs.Storing.{sets, removes, unset, keyless, typed_come}
+use Rattle.dcp_consumer.proofs.Storing.{sets, removes, unset, keyless, state, typed_come}
 use Rattle.dcp_consumer.proofs.laws.changes_are_taken.Goals as goal
 
 pub returns-clause-stored : goal.returns-clause-stored
@@ -12,6 +12,9 @@ returns-clause-unfit c = unset
 
 pub returns-clause-keyless : goal.returns-clause-keyless
 returns-clause-keyless c = keyless
+
+pub returns-clause-state : goal.returns-clause-state
+returns-clause-state c = state
 
 pub returns-clause-typed : goal.returns-clause-typed
 returns-clause-typed c = typed_come

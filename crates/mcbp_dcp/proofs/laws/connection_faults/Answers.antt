@@ -1,4 +1,4 @@
-use Rattle.mcbp_dcp.proofs.ConnectionFaults.{close, ask, noop, acknowledged, closed, nooped, log, unanswered}
+use Rattle.mcbp_dcp.proofs.ConnectionFaults.{close, ask, noop, acknowledged, closed, nooped, log, state, stated, unanswered}
 use Rattle.mcbp_dcp.proofs.laws.connection_faults.Goals as goal
 
 pub returns-clause-close : goal.returns-clause-close
@@ -24,3 +24,9 @@ returns-clause-log c = log
 
 pub returns-clause-unanswered : goal.returns-clause-unanswered
 returns-clause-unanswered c = unanswered
+
+pub returns-clause-state : goal.returns-clause-state
+returns-clause-state c = state
+
+pub returns-clause-stated : goal.returns-clause-stated
+returns-clause-stated c = stated

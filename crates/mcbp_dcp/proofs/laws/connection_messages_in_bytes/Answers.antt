@@ -1,4 +1,4 @@
-use Rattle.mcbp_dcp.proofs.ConnectionBytes.{close, ask, noop, acknowledged, closed, nooped, log, refused, heads}
+use Rattle.mcbp_dcp.proofs.ConnectionBytes.{close, ask, noop, acknowledged, closed, nooped, log, refused, active, replica, pending, dead, stated, heads}
 use Rattle.mcbp_dcp.proofs.laws.connection_messages_in_bytes.Goals as goal
 
 pub returns-clause-close : goal.returns-clause-close
@@ -27,3 +27,18 @@ returns-clause-refused c = refused
 
 pub returns-clause-heads : goal.returns-clause-heads
 returns-clause-heads c = heads
+
+pub returns-clause-active : goal.returns-clause-active
+returns-clause-active c = active
+
+pub returns-clause-replica : goal.returns-clause-replica
+returns-clause-replica c = replica
+
+pub returns-clause-pending : goal.returns-clause-pending
+returns-clause-pending c = pending
+
+pub returns-clause-dead : goal.returns-clause-dead
+returns-clause-dead c = dead
+
+pub returns-clause-stated : goal.returns-clause-stated
+returns-clause-stated c = stated
