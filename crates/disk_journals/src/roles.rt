@@ -18,7 +18,7 @@ pub(crate) fn role_of_call(call: &VbCall) -> Role
     ensures lasting { IsLasting result }
 {
     match call {
-        VbCall::Promote { .. } => Role::Active,
+        VbCall::Promote { .. } | VbCall::Own => Role::Active,
         VbCall::Follow => Role::Replica,
         VbCall::Dead => Role::Dead,
         _ => unreachable!(),

@@ -139,11 +139,14 @@ rollable_job v named (Some reply) = may_roll_job v named reply.answer
 unfoldable pub roll_job : ℕ → ℕ → Job Rolled
 roll_job v named = Call v call.Ask (rollable_job v named)
 
--- The role that a call gives. One that gives none is written down by no job (`IsRoleCall`); each has its row, so that a new call is decided.
+-- The role that a call gives. One that gives none, or none that is written down, is written down by no job (`IsRoleCall`); each has its row, so that a new call is decided.
 abbrev pub role_of_call : VbCall → Role
 role_of_call (call.Promote uuid) = role.Active
 role_of_call call.Follow = role.Replica
 role_of_call call.Dead = role.Dead
+role_of_call call.Pend = role.Pending
+role_of_call call.Own = role.Active
+role_of_call (call.Yield id) = role.Dead
 role_of_call (call.Get key) = role.Dead
 role_of_call (call.Store write clock) = role.Dead
 role_of_call (call.Durable write clock level deadline waiter) = role.Dead
@@ -167,11 +170,12 @@ role_of_call call.Stat = role.Dead
 role_of_call call.Log = role.Dead
 role_of_call call.Show = role.Dead
 
--- a call that changes the role
+-- A call that changes the role for good. While a vBucket is to take over, or is given up, its former role is what is written down.
 abbrev pub IsRoleCall : VbCall → Type 0
 IsRoleCall (call.Promote uuid) = Unit {0}
 IsRoleCall call.Follow = Unit {0}
 IsRoleCall call.Dead = Unit {0}
+IsRoleCall call.Own = Unit {0}
 IsRoleCall other = ⊥
 
 -- a call was refused

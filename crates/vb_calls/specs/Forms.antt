@@ -6,7 +6,7 @@ use Rattle.vb_types.specs.declared.journal.Record.TheVariants.{Rows}
 use Rattle.vb_journal.specs.Payloads.{is_writable}
 use Rattle.branch_model.specs.Logs.{log_limit}
 use Rattle.vb_calls.specs.declared.calls.VbCall.{VbCall}
-use Rattle.vb_calls.specs.declared.calls.VbCall.TheVariants.{Get, Store, Durable, Chain, Ack, Tick, Due, OpenStream, Place, Take, CloseStream, Ask, Adopt, Marker, Receive, RollTo, Promote, Follow, Dead, Seal, FlushTake, FlushDone, Stat, Log, Show}
+use Rattle.vb_calls.specs.declared.calls.VbCall.TheVariants.{Get, Store, Durable, Chain, Ack, Tick, Due, OpenStream, Place, Take, CloseStream, Ask, Adopt, Marker, Receive, RollTo, Promote, Follow, Dead, Pend, Own, Yield, Seal, FlushTake, FlushDone, Stat, Log, Show}
 use Rattle.vb_calls.specs.declared.calls.VbAnswer.{VbAnswer}
 use Rattle.vb_calls.specs.declared.calls.VbAnswer.TheVariants as answer
 
@@ -55,6 +55,13 @@ HasForm Follow answer.Done = Unit {0}
 HasForm Follow (answer.Status st) = Unit {0}
 HasForm Dead answer.Done = Unit {0}
 HasForm Dead (answer.Status st) = Unit {0}
+HasForm Pend answer.Done = Unit {0}
+HasForm Pend (answer.Status st) = Unit {0}
+HasForm Own answer.Done = Unit {0}
+HasForm Own (answer.Status st) = Unit {0}
+HasForm (Yield id) answer.Done = Unit {0}
+HasForm (Yield id) (answer.Status st) = Unit {0}
+HasForm (Yield id) answer.Absent = Unit {0}
 HasForm Seal (answer.Flag sealed) = Unit {0}
 HasForm FlushTake (answer.Rows batch) = is_writable (Rows batch) ≡ true
 HasForm FlushTake answer.Nothing = Unit {0}
@@ -86,6 +93,9 @@ TakesMemory (RollTo at image cas) = Unit {0}
 TakesMemory (Promote uuid) = Unit {0}
 TakesMemory Follow = Unit {0}
 TakesMemory Dead = Unit {0}
+TakesMemory Pend = Unit {0}
+TakesMemory Own = Unit {0}
+TakesMemory (Yield id) = Unit {0}
 TakesMemory Seal = Unit {0}
 TakesMemory FlushTake = Unit {0}
 TakesMemory (FlushDone receipt) = Unit {0}

@@ -113,16 +113,28 @@ pub record RollsInNumbers : Type 0 where
   pub failed : Leaves (roll_job 3 3) followed (record (open_shelf two_batches) { fuse = Fail 4 }) rolled.DiskFailed followed (record (open_shelf two_batches) { is_closed = true; late = Some (noted.Roll 2) })
   pub foreign : Refuses (roll_job 3 3) (record followed { role = role.Active }) (open_shelf two_batches) (rolled.Refused status.NotMyVbucket)
 
--- a role was written down so, where that was asked for, and the journal is this one then
-pub record Notes (asked : VbCall) (shelf : Shelf) (how : Wrote) (left : Shelf) : Type 0 where
-  pub how_is : (at_three (role_job 3 asked) followed shelf).1.1 ≡ how
-  pub shelf_is : (at_three (role_job 3 asked) followed shelf).0.1 3 ≡ Some left
+-- a role of this vBucket was written down so, where that was asked for, and the journal is this one then
+pub record NotesOf (vb : Plain) (asked : VbCall) (shelf : Shelf) (how : Wrote) (left : Shelf) : Type 0 where
+  pub how_is : (at_three (role_job 3 asked) vb shelf).1.1 ≡ how
+  pub shelf_is : (at_three (role_job 3 asked) vb shelf).0.1 3 ≡ Some left
 
--- A role is written down behind the call, with the log. One that is refused is not written down, and one that cannot be was taken all the same.
+abbrev pub Notes : VbCall → Shelf → Wrote → Shelf → Type 0
+Notes = NotesOf followed
+
+-- one without changes that is to take over, inside a snapshot and at its end
+abbrev pub early : Plain
+early = record followed { role = role.Pending; base = nothing; held = []; spans = no_spans }
+
+abbrev pub heir : Plain
+heir = record early { position = record { ss = 2; se = 4; at = 4 } }
+
+-- A role is written down behind the call, with the log, and that of an heir with the log as it was. One that is refused is not written down, and one that cannot be was taken all the same.
 pub record RolesInNumbers : Type 0 where
   pub dead : Notes call.Dead (open_shelf []) wrote.Stood (open_shelf (noted.State role.Dead (entry 9 3 ∷ entry 7 0 ∷ []) ∷ []))
   pub refused : Notes call.Follow (open_shelf []) wrote.NotAsked (open_shelf [])
   pub used : Notes (call.Promote 7) (open_shelf []) wrote.NotAsked (open_shelf [])
+  pub heir : NotesOf heir call.Own (open_shelf []) wrote.Stood (open_shelf (noted.State role.Active (entry 9 3 ∷ entry 7 0 ∷ []) ∷ []))
+  pub early : NotesOf early call.Own (open_shelf []) wrote.NotAsked (open_shelf [])
   pub closed : Notes call.Dead (record (open_shelf []) { is_closed = true }) wrote.Closed (record (open_shelf []) { is_closed = true })
   pub failed : Notes call.Dead (record (open_shelf []) { fuse = Fail 1 }) wrote.DiskFailed (record (open_shelf []) { is_closed = true })
   pub taken : (at_three (role_job 3 call.Dead) followed (record (open_shelf []) { is_closed = true })).0.0 3 ≡ Some (plain_step followed call.Dead).0

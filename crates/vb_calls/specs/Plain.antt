@@ -1,13 +1,13 @@
 -- the plain vBucket: what each call does
 use Rattle.vb_calls.specs.declared.calls.VbCall.{VbCall}
-use Rattle.vb_calls.specs.declared.calls.VbCall.TheVariants.{Get, Store, Durable, Chain, Ack, Tick, Due, OpenStream, Place, Take, CloseStream, Ask, Adopt, Marker, Receive, RollTo, Promote, Follow, Dead, Seal, FlushTake, FlushDone, Stat, Log, Show}
+use Rattle.vb_calls.specs.declared.calls.VbCall.TheVariants.{Get, Store, Durable, Chain, Ack, Tick, Due, OpenStream, Place, Take, CloseStream, Ask, Adopt, Marker, Receive, RollTo, Promote, Follow, Dead, Pend, Own, Yield, Seal, FlushTake, FlushDone, Stat, Log, Show}
 use Rattle.vb_calls.specs.declared.calls.VbReply.{VbReply}
 use Rattle.vb_calls.specs.State.{get_row, log_row, show_row}
 use Rattle.vb_calls.specs.Writes.{store_row}
 use Rattle.vb_calls.specs.Durable.{ack_row, chain_row, due_row, durable_row, tick_row}
 use Rattle.vb_types.specs.declared.role.Role.TheVariants as role
 use Rattle.vb_calls.specs.Streams.{open_row, place_row, take_row, close_row}
-use Rattle.vb_calls.specs.Roles.{promote_row, turn_row, seal_row}
+use Rattle.vb_calls.specs.Roles.{promote_row, turn_row, pend_row, own_row, yield_row, seal_row}
 use Rattle.vb_calls.specs.Flushing.{flush_row, flushed_row, stat_row}
 use Rattle.vb_calls.specs.Following.{ask_row, adopt_row, marker_row, receive_row, roll_row}
 pub use Rattle.vb_calls.specs.State.{Plain, new_vb}
@@ -33,6 +33,9 @@ plain_step plain (RollTo at image cas) = roll_row plain at image cas
 plain_step plain (Promote uuid) = promote_row plain uuid
 plain_step plain Follow = turn_row plain role.Replica
 plain_step plain Dead = turn_row plain role.Dead
+plain_step plain Pend = pend_row plain
+plain_step plain Own = own_row plain
+plain_step plain (Yield id) = yield_row plain id
 plain_step plain Seal = seal_row plain
 plain_step plain FlushTake = flush_row plain
 plain_step plain (FlushDone receipt) = flushed_row plain receipt

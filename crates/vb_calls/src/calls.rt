@@ -94,6 +94,15 @@ pub enum VbCall {
     Follow,
     /// That the vBucket takes neither writes nor changes.
     Dead,
+    /// That the vBucket is to take over from the one that it follows. It takes changes from it still.
+    Pend,
+    /// That the vBucket takes over: it becomes active on the branch that it is on.
+    Own,
+    /// That the vBucket is given up to the one that the stream `id` feeds: it takes neither writes nor
+    /// changes, and goes on to feed this stream alone.
+    Yield {
+        id: u64,
+    },
     /// That no change enters the open span any more.
     Seal,
     /// The next changes that are to be written down: the rest of one span.
