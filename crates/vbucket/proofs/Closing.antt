@@ -22,7 +22,7 @@ at_floor floor place e = grind (arith, nat_tests)
 pub below_floor : (floor place : ℕ) → nat_le floor place ≡ false → place < floor
 below_floor floor place e = grind (arith, nat_tests)
 
-are_others : (id : ℕ) (ss : List Stream) → AreOthers id ss (without_stream id ss)
+pub are_others : (id : ℕ) (ss : List Stream) → AreOthers id ss (without_stream id ss)
 are_others id [] = refl
 are_others id (s ∷ ss) = by (s.id == id) refl (are_others id ss)
   where

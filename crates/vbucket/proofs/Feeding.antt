@@ -1,5 +1,5 @@
 -- the cursors are those of the streams
-use Rattle.std.proofs.Common.{◌≡◌, ℕ, zero, suc, ◌≢◌, ◌<◌, ◌≤◌, Bool, true, false, cond, List, [], ◌∷◌, ◌++◌, map, length, get_or, drop, refl, ap, sym, subst, ◌∙◌, arith}
+use Rattle.std.proofs.Common.{◌≡◌, ℕ, zero, suc, ◌≢◌, ◌<◌, ◌≤◌, Bool, true, false, cond, List, [], ◌∷◌, ◌++◌, map, length, get_or, refl, ap, sym, subst, ◌∙◌, arith}
 use Rattle.std.specs.Prelude.{◌==◌, not, is_some, nat_le, if◌then◌else◌, Option, Some, None}
 use Rattle.std.specs.FinMap as finite
 use Rattle.std.specs.Ordering.{nat_cmp, eq_by_cmp}
@@ -22,10 +22,10 @@ flip x y = by (x == y) (y == x) refl refl
     by false false e f = refl
 
 -- three numbers that are tested for equality
-tied : {A : Type 0} (x y z : ℕ) → (x == y) ≡ true → (x == z) ≡ true → (z == y) ≡ false → A
+pub tied : {A : Type 0} (x y z : ℕ) → (x == y) ≡ true → (x == z) ≡ true → (z == y) ≡ false → A
 tied x y z e f g = absurd (grind (arith, nat_tests, e, f, g))
 
-untied : {A : Type 0} (x y z : ℕ) → (x == y) ≡ false → (x == z) ≡ true → (z == y) ≡ true → A
+pub untied : {A : Type 0} (x y z : ℕ) → (x == y) ≡ false → (x == z) ≡ true → (z == y) ≡ true → A
 untied x y z e f g = absurd (grind (arith, nat_tests, e, f, g))
 
 pub found_none : (floor id : ℕ) (streams : List Stream) → stream_at id streams ≡ None → cursor_in floor id streams ≡ None
@@ -133,7 +133,7 @@ apart_found id (x ∷ xs) s a e = by (x.id == id) refl e (apart_found id xs s a.
     by false f e ih = ih e
 
 -- two different numbers
-differ : (x q : ℕ) (a b : Option Stream) (s : Stream) → cond (x == q) (Some s) a ≡ None → ((x == q) ≡ false) × (a ≡ None)
+pub differ : (x q : ℕ) (a b : Option Stream) (s : Stream) → cond (x == q) (Some s) a ≡ None → ((x == q) ≡ false) × (a ≡ None)
 differ x q a b s e = by (x == q) e
   where
     by : (t : Bool) → cond t (Some s) a ≡ None → (t ≡ false) × (a ≡ None)
@@ -314,25 +314,6 @@ fed_none at floor = record { cursors = λ q. by q (q == 0) refl; apart = tt }
 -- the cursor 0, alone
 pub zero_alone : (at : ℕ) → place_of (finite.insert finite.empty 0 at) 0 ≡ Some at
 zero_alone at = zero_moved finite.empty at
-
--- cursors that are dropped one by one: of a stream that is not among the rest the cursor is gone
-abbrev pub AreGone : Places → List Stream → Type 0
-AreGone places rest = (id : ℕ) → stream_at id rest ≡ None → stream_place places id ≡ None
-
-pub first_stream_gone : (places : Places) (floor : ℕ) (streams : List Stream) → CursorsAreStreams places floor streams → AreGone places streams
-first_stream_gone places floor streams are = λ id none. sym (are.cursors id) ∙ found_none floor id streams none
-
-pub gone_next : (places : Places) (streams : List Stream) (i : ℕ) (d s : Stream) → i < length streams → get_or streams i d ≡ s → AreGone places (drop i streams) → AreGone (finite.remove places s.id) (drop (suc i) streams)
-gone_next places [] i d s l is are = absurd (omega arith)
-gone_next places (x ∷ xs) zero d s l is are = λ q none. fed_remove places s.id q ∙ by q (q == s.id) refl none
-  where
-    by : (q : ℕ) (c : Bool) → (q == s.id) ≡ c → stream_at q xs ≡ None → (if c then None else stream_place places q) ≡ None
-    by q true e none = refl
-    by q false e none = are q (ap (λ b. cond b (Some x) (stream_at q xs)) (ap (λ (y : Stream). y.id == q) is ∙ flip s.id q ∙ e) ∙ none)
-gone_next places (x ∷ xs) (suc i) d s l is are = gone_next places xs i d s (omega arith) is are
-
-pub gone_last : (places : Places) (floor : ℕ) → AreGone places [] → CursorsAreStreams places floor []
-gone_last places floor gone = record { cursors = λ id. sym (gone id refl); apart = tt }
 
 numbered_among : (streams : List Stream) (i : ℕ) (d s : Stream) → AreApart streams → i < length streams → get_or streams i d ≡ s → s.id ≢ 0
 numbered_among [] i d s a l is = absurd (omega arith)

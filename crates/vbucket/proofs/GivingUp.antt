@@ -12,14 +12,16 @@ use Rattle.durability.proofs.Counts.{none_acked}
 use Rattle.vb_types.specs.declared.change.Act.TheVariants as act
 use Rattle.vb_types.specs.declared.change.Change.{Change}
 use Rattle.vb_types.specs.declared.change.Pend.{Pend}
+use Rattle.vb_types.specs.declared.role.LogEntry.{LogEntry}
 use Rattle.vb_types.specs.declared.role.Role.{Role}
 use Rattle.vb_types.specs.declared.role.Role.TheVariants as role
 use Rattle.vb_types.specs.declared.status.Status.TheVariants as status
 use Rattle.vb_calls.specs.declared.calls.Resolution.TheVariants as resolution
 use Rattle.vb_calls.specs.declared.calls.Resolved.{Resolved}
+use Rattle.vb_calls.specs.declared.calls.VbAnswer.{VbAnswer}
 use Rattle.vb_calls.specs.declared.calls.VbAnswer.TheVariants as answer
 use Rattle.vb_calls.specs.Durable.{aborted, expired, then_settled}
-use Rattle.vb_calls.specs.Roles.{ending_reply, in_role, is_role, promoted}
+use Rattle.vb_calls.specs.Roles.{ending_reply, in_role, is_role, led, promoted, risen}
 use Rattle.vb_calls.specs.Settling.{Resolving, also_resolved, and_settled, given_up, is_empty, left_prepare, outcome_for, resolved_by, resolving_change, unresolved}
 use Rattle.vb_calls.specs.State.{Plain, image_in, is_active, newest_branch, pending_of, quiet_reply, refusal_reply}
 use Rattle.vbucket.specs.Committing.{Commits}
@@ -235,7 +237,7 @@ pub all_given : (ws : List Waiting) → AllAmbiguous ws (given_up ws)
 all_given [] = refl
 all_given (w ∷ ws) = (given_up ws, tells w resolution.Ambiguous (given_up ws), all_given ws)
 
-turned : (vb : Plain) (new : Role) → GivesUpAll vb (in_role vb new, ending_reply vb answer.Done)
+pub turned : (vb : Plain) (new : Role) → GivesUpAll vb (in_role vb new, ending_reply vb answer.Done)
 turned vb new = record { told = all_given vb.waiting; none = refl; acks = none_acked 256; others = refl; branch = refl }
 
 other_replica : (r : Role) → r ≢ role.Replica → is_role r role.Replica ≡ false
@@ -257,14 +259,14 @@ by_role vb new false e = turned vb new
 pub turns_give_up : TurnsGiveUp
 turns_give_up vb = (λ n. by_role vb role.Replica (is_role vb.role role.Replica) (other_replica vb.role n), λ n. by_role vb role.Dead (is_role vb.role role.Dead) (other_dead vb.role n))
 
-leaves : (vb : Plain) (uuid : ℕ) → Sound vb → LeavesAll vb (leading vb uuid)
-leaves vb uuid s = record {
+pub leaves : (vb : Plain) (log : List LogEntry) (said : VbAnswer) → Sound vb → LeavesAll vb (record (risen vb) { log = log }, ending_reply vb said)
+leaves vb log said s = record {
   told = all_given vb.waiting;
   waits = λ w. (
     λ i. let k = m.was w i in
         let key : w.key ≡ k.0 = ap (λ (x : Waiting). x.key) k.3 in
         (k.1, ap (λ q. pending_of vb q) key ∙ k.2, k.3 ∙ ap (λ q. left_prepare (q, k.1)) (sym key)),
-    λ p. subst (λ x. Waits x (leading vb uuid).0.waiting) (sym p.2) (m.there w.key p.0 p.1),
+    λ p. subst (λ x. Waits x (risen vb).waiting) (sym p.2) (m.there w.key p.0 p.1),
   );
   ascend = m.ascend;
   acks = none_acked 256;
@@ -272,8 +274,8 @@ leaves vb uuid s = record {
   holds = (refl, refl, refl, refl);
 }
   where
-    m : AreLeft (image_in vb) (leading vb uuid).0.waiting
+    m : AreLeft (image_in vb) (risen vb).waiting
     m = are_left (image_in vb) (differ_at vb s)
 
 pub promotions_leave : PromotionsLeave
-promotions_leave vb uuid s may = (leading vb uuid, leaves vb uuid s, subst (λ why. Commits (leading vb uuid) (promoted why vb uuid)) (sym (free vb uuid may)) (commits (leading vb uuid) (led_sound vb uuid s)))
+promotions_leave vb uuid s may = (leading vb uuid, leaves vb (led vb uuid).log (leading vb uuid).1.answer s, subst (λ why. Commits (leading vb uuid) (promoted why vb uuid)) (sym (free vb uuid may)) (commits (leading vb uuid) (led_sound vb uuid s)))

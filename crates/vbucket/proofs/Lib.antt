@@ -4,6 +4,7 @@ mod Closing
 mod Counting
 mod Covering
 pub mod Ending
+mod Dropping
 mod Feeding
 mod Filling
 mod Growing
@@ -40,6 +41,7 @@ mod Slots
 pub mod Soundness
 pub mod Taking
 mod Tidying
+mod Takeovers
 mod Turns
 mod Writing
 mod Batching

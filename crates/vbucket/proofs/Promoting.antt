@@ -12,12 +12,11 @@ use Rattle.vb_types.specs.Images.{Picture, applied}
 use Rattle.vb_types.specs.declared.change.Change.{Change}
 use Rattle.vb_types.specs.declared.change.Pend.{Pend}
 use Rattle.vb_types.specs.declared.position.Position.{Position}
-use Rattle.branch_model.specs.Requests.{fork_of}
 use Rattle.vb_calls.specs.Settling.{left_prepare, left_prepares}
 use Rattle.vb_calls.specs.State.{complete_position}
 use Rattle.ckpt_list.specs.Lists.{sealed_list}
 use Rattle.vbucket.specs.Kept.{Kept}
-use Rattle.vbucket.specs.Promoting.{led_by, turned_active, with_left}
+use Rattle.vbucket.specs.Promoting.{risen_by, turned_active, unfed, with_left}
 use Rattle.vbucket.specs.Settling.{waiting_behind, with_made, with_own}
 use Rattle.vbucket.proofs.Carrying.{made_all, own_all, own_position, own_queued}
 
@@ -76,13 +75,22 @@ position_same : (p : Position) (cs : List Change) → complete_position (own_pos
 position_same p [] = refl
 position_same p (c ∷ cs) = position_same (complete_position c.seq) cs
 
-pub turned_all : (k : Kept) (uuid : ℕ) (left : Known) (cs : List Change) → turned_active (fold with_made (record k { list = sealed_list k.list }) cs) uuid (fork_of k.rest.position) left cs ≡ fold with_own (led_by k uuid left) cs
-turned_all k uuid left cs =
+-- and feeds no stream
+abbrev no_streams : Kept → Kept
+no_streams k = record k { list = unfed k.list }
+
+pub turned_all : (k : Kept) (left : Known) (cs : List Change)
+    → turned_active (fold with_made (record k { list = sealed_list k.list }) cs) left cs ≡ record { rest = (fold with_own (risen_by k left) cs).rest; list = unfed (fold with_own (risen_by k left) cs).list }
+turned_all k left cs =
     let sealed : Kept = record k { list = sealed_list k.list } in
-    let led : Kept = led_by k uuid left in
-    ap (λ (m : Kept). turned_active m uuid (fork_of k.rest.position) left cs) (made_all sealed cs)
+    let risen : Kept = risen_by k left in
+    ap (λ (m : Kept). turned_active m left cs) (made_all sealed cs)
     ∙ (λ i. let m : Kept = record {
-      rest = record led.rest { base = fold applied k.rest.base cs; position = position_same k.rest.position cs i; waiting = fold waiting_behind left.waiting cs };
-      list = own_queued (sealed_list k.list) cs;
+      rest = record risen.rest { base = fold applied k.rest.base cs; position = position_same k.rest.position cs i; waiting = fold waiting_behind left.waiting cs };
+      list = unfed (own_queued (sealed_list k.list) cs);
     } in m)
-    ∙ sym (own_all led cs)
+    ∙ ap no_streams (sym (own_all risen cs))
+
+-- the failover log stays
+pub log_stays : (k : Kept) (left : Known) (cs : List Change) → (fold with_own (risen_by k left) cs).rest.log ≡ k.rest.log
+log_stays k left cs = ap (λ (m : Kept). m.rest.log) (own_all (risen_by k left) cs)

@@ -24,7 +24,7 @@ use Rattle.vbucket.proofs.Backing.{none_idle}
 use Rattle.vbucket.proofs.Committing.{none_rests, settled_rests}
 use Rattle.vbucket.proofs.Dues.{at_key, pend_at}
 use Rattle.vbucket.proofs.Receiving.{follower_of, not_follower}
-use Rattle.vbucket.proofs.RowIs.{RowIs, Receives, Rolls, Settles, Turns, Writes, row_is}
+use Rattle.vbucket.proofs.RowIs.{RowIs, Receives, Rolls, Settles, Turns, Writes, Yields, row_is}
 use Rattle.vbucket.proofs.Soundness.{follows_idle, start_sound}
 use Rattle.vbucket.proofs.Turns.{fork_inside, fork_whole}
 
@@ -53,6 +53,7 @@ row_rests vb {made = made} (Receives c a f next is) s t r = none_rests made.0 (f
 row_rests vb (Settles c start is) s t r = settled_rests start.0 (start_sound vb is s t)
 row_rests vb {made = made} (Rolls at image cas f) s t r = none_rests made.0 (follows_none vb s f)
 row_rests vb {made = made} (Turns c new loud idle) s t r = none_rests made.0 refl
+row_rests vb {made = made} (Yields id kept on at) s t r = none_rests made.0 refl
 row_rests vb other s t r = r
 
 pub stays_at_rest : StaysAtRest

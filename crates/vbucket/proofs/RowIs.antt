@@ -29,7 +29,7 @@ use Rattle.vb_calls.specs.Durable.{Wish, durable_outcome, durable_refusal, expir
 use Rattle.vb_calls.specs.Flushing.{batch_of, flush_from, unflushed_span}
 use Rattle.vb_calls.specs.Following.{completed_act, is_answerable, is_follower, is_next, marked_vb, marker_fits, receive_as, rolled_vb, with_received_change}
 use Rattle.vb_calls.specs.Plain.{Plain, plain_step}
-use Rattle.vb_calls.specs.Roles.{ending_reply, in_role, is_role, led, parent_of, promote_refusal, promoted}
+use Rattle.vb_calls.specs.Roles.{ending_reply, in_role, is_role, led, own_refusal, owned, parent_of, promote_refusal, promoted, risen, yielded}
 use Rattle.vb_calls.specs.Settling.{also_resolved, and_settled}
 use Rattle.vb_calls.specs.Spans.{all_spans, with_seal}
 use Rattle.vb_calls.specs.State.{doc_at, get_reply, is_active, is_left, newest_branch, pending_of, quiet_reply, refusal_reply}
@@ -47,13 +47,17 @@ Appends c = Unit {0}
 abbrev pub leading : Plain → ℕ → Plain × VbReply
 leading vb uuid = (led vb uuid, ending_reply vb (answer.Branch uuid (parent_of vb.log) (fork_of vb.position) vb.position.at))
 
+-- a takeover, before anything is committed
+abbrev pub inheriting : Plain → Plain × VbReply
+inheriting vb = (risen vb, ending_reply vb answer.Done)
+
 -- how a call leaves the streams: with a new one, with one that is fed a snapshot, or without one
 pub data StreamsAre (vb : Plain) : VbCall → List Stream → VbAnswer → Type 0 where
   Opens : (id : ℕ) (ask : StreamAsk) (sync : Bool) → StreamsAre vb (call.OpenStream id ask sync) (vb.streams ++ new_stream id ask sync ∷ []) (answer.Asked ask_answer.Go vb.log vb.position.at)
   Feeds : (id : ℕ) (s : Stream) (w : Span) → StreamsAre vb (call.Take id) (map (moved_on s.id w.last) vb.streams) (answer.Taken (snapshot_of s (items_to s (all_spans vb.spans) vb.held w.last)))
   Closes : (id : ℕ) → StreamsAre vb (call.CloseStream id) (without_stream id vb.streams) (answer.Flag (is_some (stream_at id vb.streams)))
 
--- how a call begins after which all is committed that may be: it prepares a write, sets the chain, counts an acknowledgement or what is saved, gives up what is late, or leads a branch
+-- how a call begins after which all is committed that may be: it prepares a write, sets the chain, counts an acknowledgement or what is saved, gives up what is late, leads a branch, or takes one over
 pub data StartIs (vb : Plain) : VbCall → Plain × VbReply → Type 0 where
   Prepares : (write : Write) (clock : ℕ) (wish : Wish) → durable_refusal vb write ≡ None
       → StartIs vb (call.Durable write clock wish.level wish.deadline wish.waiter)
@@ -63,9 +67,10 @@ pub data StartIs (vb : Plain) : VbCall → Plain × VbReply → Type 0 where
   Expires : (clock : ℕ) → is_active vb.role ≡ true → StartIs vb (call.Tick clock) (also_resolved (quiet_reply answer.Done) (expired clock vb))
   Saves : (seq : ℕ) → StartIs vb (call.FlushDone seq) (record vb { saved = max vb.saved seq }, quiet_reply (answer.Num (max vb.saved seq)))
   Leads : (uuid : ℕ) → promote_refusal vb uuid ≡ None → StartIs vb (call.Promote uuid) (leading vb uuid)
+  Inherits : own_refusal vb ≡ None → StartIs vb call.Own (inheriting vb)
 
 -- what a call makes of a vBucket, and its reply: it tells something, or why it is refused, and changes nothing; it changes the streams alone; it takes a log over; it begins a snapshot; it seals the open span; it takes the rest of a span to be written down; it writes or receives one change;
--- it begins something and all is committed that may be; it goes back to a seqno; or it takes another role, in which nothing is outstanding
+-- it begins something and all is committed that may be; it goes back to a seqno; it takes another role, in which nothing is outstanding; or it is given up for one of its streams
 pub data RowIs (vb : Plain) : VbCall → Plain × VbReply → Type 0 where
   Tells : (c : VbCall) (said : VbAnswer) → RowIs vb c (vb, quiet_reply said)
   Streams : (c : VbCall) (streams : List Stream) (said : VbAnswer) → StreamsAre vb c streams said → RowIs vb c (record vb { streams = streams }, quiet_reply said)
@@ -80,6 +85,7 @@ pub data RowIs (vb : Plain) : VbCall → Plain × VbReply → Type 0 where
   Settles : (c : VbCall) (start : Plain × VbReply) → StartIs vb c start → RowIs vb c (and_settled start)
   Rolls : (at : ℕ) (image : Picture) (cas : ℕ) → is_follower vb.role ≡ true → RowIs vb (call.RollTo at image cas) (rolled_vb vb at image cas, quiet_reply (answer.Num at))
   Turns : (c : VbCall) (new : Role) → (IsQuiet c → ⊥) → is_active new ≡ false → RowIs vb c (in_role vb new, ending_reply vb answer.Done)
+  Yields : (id : ℕ) (s : Stream) → is_active vb.role ≡ true → stream_at id vb.streams ≡ Some s → RowIs vb (call.Yield id) (yielded (Some s) vb)
 
 -- a call that leaves the streams so is no rollback, and answers no refusal
 pub restreams : (vb : Plain) {c : VbCall} {streams : List Stream} {said : VbAnswer} → StreamsAre vb c streams said → (is_refusal said ≡ false) × Appends c
@@ -152,6 +158,14 @@ module _ (vb : Plain) where
   promoting uuid (Some st) e = Tells _ _
   promoting uuid None e = Settles _ _ (Leads uuid e)
 
+  owning : (why : Option Status) → own_refusal vb ≡ why → RowIs vb call.Own (owned why vb)
+  owning (Some st) e = Tells _ _
+  owning None e = Settles _ _ (Inherits e)
+
+  yielding : (id : ℕ) (o : Option Stream) → is_active vb.role ≡ true → stream_at id vb.streams ≡ o → RowIs vb (call.Yield id) (yielded o vb)
+  yielding id None on e = Tells _ _
+  yielding id (Some s) on e = Yields id s on e
+
   flushed : (o : Option Span) → unflushed_span vb ≡ o → RowIs vb call.FlushTake (flush_from o vb)
   flushed None e = Tells _ _
   flushed (Some w) e = Flushes w e
@@ -176,6 +190,9 @@ module _ (vb : Plain) where
   row_is (call.Promote uuid) = promoting uuid (promote_refusal vb uuid) refl
   row_is call.Follow = made_unless _ (is_role vb.role role.Replica) (Turns _ role.Replica (λ q. q) refl)
   row_is call.Dead = made_unless _ (is_role vb.role role.Dead) (Turns _ role.Dead (λ q. q) refl)
+  row_is call.Pend = made_if _ (is_follower vb.role) (λ f. Turns _ role.Pending (λ q. q) refl)
+  row_is call.Own = owning (own_refusal vb) refl
+  row_is (call.Yield id) = made_if _ (is_active vb.role) (λ on. yielding id (stream_at id vb.streams) on refl)
   row_is call.Seal = Seals _
   row_is call.FlushTake = flushed (unflushed_span vb) refl
   row_is (call.FlushDone seq) = Settles _ _ (Saves seq)

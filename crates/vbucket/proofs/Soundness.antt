@@ -1,6 +1,6 @@
 -- a vBucket stays sound
 use Rattle.std.proofs.Common.{◌≡◌, ◌≢◌, ℕ, ◌^◌, ◌<◌, ◌≤◌, Bool, true, false, List, [], ◌∷◌, refl, subst, arith}
-use Rattle.std.specs.Prelude.{take, Option, Some, None, if◌then◌else◌, nat_le, nat_lt, max, ◌&&◌, ◌||◌, ◌==◌}
+use Rattle.std.specs.Prelude.{take, Option, Some, None, is_some, if◌then◌else◌, nat_le, nat_lt, max, ◌&&◌, ◌||◌, ◌==◌}
 use Rattle.std.specs.FinMap as finite
 use Rattle.std.proofs.lemmas.Bool.Decides.{nat_tests}
 use Rattle.vb_types.specs.Images.{Picture, nothing}
@@ -16,14 +16,15 @@ use Rattle.vb_types.specs.declared.role.Role.{Role}
 use Rattle.vb_types.specs.declared.role.Role.TheVariants as role
 use Rattle.vb_types.specs.declared.status.Status.{Status}
 use Rattle.vb_types.specs.declared.status.Status.TheVariants as status
-use Rattle.branch_model.specs.Logs.{kept_to}
+use Rattle.branch_model.specs.Logs.{front, kept_to}
 use Rattle.branch_model.specs.Requests.{fork_of}
 use Rattle.vb_calls.specs.declared.calls.VbCall.{VbCall}
 use Rattle.vb_calls.specs.declared.calls.VbReply.{VbReply}
 use Rattle.vb_calls.specs.declared.span.Span.{Span}
+use Rattle.vb_calls.specs.declared.stream.Stream.{Stream}
 use Rattle.vb_calls.specs.Flushing.{unflushed_span}
 use Rattle.vb_calls.specs.Following.{cas_of, committed_act, completed_act, is_follower, is_next, marked_vb, marker_fits, rolled_vb, with_received_change}
-use Rattle.vb_calls.specs.Roles.{in_role, led}
+use Rattle.vb_calls.specs.Roles.{in_role_with, is_heir, is_role, led, own_refusal, risen}
 use Rattle.vb_calls.specs.Spans.{all_spans}
 use Rattle.vb_calls.specs.State.{Plain, complete_position, image_in, is_active, new_vb, pending_of, refusal_reply}
 use Rattle.vbucket.specs.Laws.{IsOwn, IsTimely, PendSeqsUpTo, PendsDiffer, PendsUpTo, Sound, StartsSound, StaysSound}
@@ -31,7 +32,7 @@ use Rattle.vbucket.proofs.Backing.{backed_idle, backed_left, backed_new, backed_
 use Rattle.vbucket.proofs.Parts.{found}
 use Rattle.vbucket.proofs.Pending.{pends_fold, pends_more, pends_nothing}
 use Rattle.vbucket.proofs.Preparing.{ack_sound, aborts_sound, chain_sound, prepared_sound}
-use Rattle.vbucket.proofs.RowIs.{RowIs, StartIs, Adopts, Chains, Counts, Expires, Flushes, Leads, Marks, Prepares, Receives, Rolls, Saves, Seals, Settles, Streams, Tells, Turns, Writes, row_is}
+use Rattle.vbucket.proofs.RowIs.{RowIs, StartIs, Adopts, Chains, Counts, Expires, Flushes, Inherits, Leads, Marks, Prepares, Receives, Rolls, Saves, Seals, Settles, Streams, Tells, Turns, Writes, Yields, row_is}
 use Rattle.vbucket.proofs.Settling.{settled_sound}
 use Rattle.vbucket.proofs.Spanned.{received_spanned, sealed_spanned, spanned_none, taken_spanned}
 use Rattle.vbucket.proofs.Storing.{casses_push, differ_at, stored_sound}
@@ -108,8 +109,8 @@ received_sound vb c a f next is s k =
     next_of : (at seq se : ℕ) → (nat_lt at seq && nat_le seq se) ≡ true → (at < seq) × (seq ≤ se)
     next_of at seq se e = (grind (arith, nat_tests), grind (arith, nat_tests))
 
-turned_sound : (vb : Plain) (new : Role) → is_active new ≡ false → Sound vb → Sound (in_role vb new)
-turned_sound vb new e s = record {
+turned_sound : (vb : Plain) (new : Role) (streams : List Stream) → is_active new ≡ false → Sound vb → Sound (in_role_with vb new streams)
+turned_sound vb new streams e s = record {
   spanned = sealed_spanned new s.spanned;
   placed = record { capped = s.capped; within = s.within; own = idle_own new vb.position vb.log e };
   stamped = s.stamped;
@@ -121,19 +122,41 @@ turned_sound vb new e s = record {
 has_front : (e : LogEntry) (older : List LogEntry) → e ∷ older ≢ []
 has_front e older q = cc
 
--- a vBucket that becomes active, before anything is committed
-pub led_sound : (vb : Plain) (uuid : ℕ) → Sound vb → Sound (led vb uuid)
-led_sound vb uuid s =
+-- a vBucket that becomes active with this failover log, before anything is committed
+risen_sound : (vb : Plain) (log : List LogEntry) → log ≢ [] → Sound vb → Sound (record (risen vb) { log = log })
+risen_sound vb log some s =
     let top : vb.position.at ≤ vb.position.se = s.within.1 in
     let cap : vb.position.se ≤ 2 ^ 48 = s.capped in
     record {
       spanned = sealed_spanned role.Active s.spanned;
-      placed = record { capped = omega arith; within = (omega arith, omega arith); own = (refl, has_front (record { uuid = uuid; seq = fork_of vb.position }) (take 24 (kept_to (fork_of vb.position) vb.log))) };
+      placed = record { capped = omega arith; within = (omega arith, omega arith); own = (refl, some) };
       stamped = s.stamped;
       based = s.based;
       saved = s.saved;
       counted = record { waits = backed_left (image_in vb) vb.position.at (differ_at vb s); links = linked_new role.Active };
     }
+
+pub led_sound : (vb : Plain) (uuid : ℕ) → Sound vb → Sound (led vb uuid)
+led_sound vb uuid s = risen_sound vb (led vb uuid).log (has_front (record { uuid = uuid; seq = fork_of vb.position }) (take 24 (kept_to (fork_of vb.position) vb.log))) s
+
+-- an heir is on a branch
+heir_log : (vb : Plain) → own_refusal vb ≡ None → vb.log ≢ []
+heir_log vb free none = pending (is_role vb.role role.Pending) free
+  where
+    branchless : (log : List LogEntry) (b : Bool) → log ≡ [] → (is_some (front log) && b) ≡ true → ⊥
+    branchless [] b e f = cc
+    branchless (x ∷ xs) b e f = cc
+
+    heir : (b : Bool) → is_heir vb ≡ b → (if b then None else Some status.Einval) ≡ None → ⊥
+    heir true e f = branchless vb.log (vb.position.at == vb.position.se) none e
+    heir false e f = cc
+
+    pending : (p : Bool) → (if p then (if is_heir vb then None else Some status.Einval) else Some status.NotMyVbucket) ≡ None → ⊥
+    pending true f = heir (is_heir vb) refl f
+    pending false f = cc
+
+pub inherited_sound : (vb : Plain) → own_refusal vb ≡ None → Sound vb → Sound (risen vb)
+inherited_sound vb free s = risen_sound vb vb.log (heir_log vb free) s
 
 rolled_sound : (vb : Plain) (at : ℕ) (image : Picture) (cas : ℕ) → is_follower vb.role ≡ true → Sound vb → (at ≤ 2 ^ 48) × (cas < 2 ^ 64) × PendsUpTo cas image × PendSeqsUpTo at image × PendsDiffer image → Sound (rolled_vb vb at image cas)
 rolled_sound vb at image cas f s t =
@@ -167,6 +190,7 @@ start_sound vb (Counts member seq on) s t = ack_sound vb member seq on s
 start_sound vb (Expires clock on) s t = aborts_sound vb clock on s
 start_sound vb (Saves seq) s t = saved_sound vb seq s
 start_sound vb (Leads uuid free) s t = led_sound vb uuid s
+start_sound vb (Inherits free) s t = inherited_sound vb free s
 
 row_sound : (vb : Plain) {c : VbCall} {made : Plain × VbReply} → RowIs vb c made → Sound vb → IsTimely c → Sound made.0
 row_sound vb (Tells c said) s t = s
@@ -180,7 +204,8 @@ row_sound vb (Writes write clock free) s t = stored_sound vb write clock free s 
 row_sound vb (Receives c a f next is) s t = received_sound vb c a f next is s t
 row_sound vb (Settles c start is) s t = settled_sound start.0 (start_sound vb is s t)
 row_sound vb (Rolls at image cas f) s t = rolled_sound vb at image cas f s t
-row_sound vb (Turns c new loud idle) s t = turned_sound vb new idle s
+row_sound vb (Turns c new loud idle) s t = turned_sound vb new [] idle s
+row_sound vb (Yields id kept on at) s t = turned_sound vb role.Dead (kept ∷ []) refl s
 
 pub stays : StaysSound
 stays vb call s t = row_sound vb (row_is vb call) s t

@@ -14,6 +14,7 @@ use Rattle.vb_types.specs.Histories.{Rises}
 use Rattle.branch_model.specs.Logs.{kept_to}
 use Rattle.vb_types.specs.declared.role.LogEntry.{LogEntry}
 use Rattle.vb_types.specs.declared.role.Role.{Role}
+use Rattle.vb_types.specs.declared.role.Role.TheVariants as role
 use Rattle.vb_types.specs.declared.status.Status.{Status}
 use Rattle.vb_types.specs.declared.status.Status.TheVariants as status
 use Rattle.vb_types.specs.declared.stream.StreamAsk.{StreamAsk}
@@ -28,7 +29,7 @@ use Rattle.vb_calls.specs.declared.span.Origin.{Origin}
 use Rattle.vb_calls.specs.declared.span.Origin.TheVariants.{Own, Received}
 use Rattle.vb_calls.specs.declared.stream.Stream.{Stream}
 use Rattle.vb_calls.specs.Following.{adopt_row, ask_row, cas_of, completed_act, is_answerable, is_follower, is_next, marked_vb, marker_fits, marker_row, receive_as, receive_row, roll_row, rolled_vb, with_received_change}
-use Rattle.vb_calls.specs.Roles.{ending_reply, in_role, is_role, seal_row, turn_row}
+use Rattle.vb_calls.specs.Roles.{ending_reply, in_role, is_role, pend_row, seal_row, turn_row, yield_row, yielded}
 use Rattle.vb_calls.specs.Flushing.{flush_from, flush_row, stat_row, unflushed_span}
 use Rattle.vb_calls.specs.State.{Plain, complete_position, get_row, newest_branch, pending_of, is_active, loaded_role, loaded_vb, log_row, new_vb, quiet_reply, refusal_reply, show_row}
 use Rattle.vb_calls.specs.Spans.{Spans, all_spans, live_in, no_spans, span_position, with_seal}
@@ -89,7 +90,7 @@ kept_as k' t l x lies a r e =
     let now : Lies l (lie_of t) = subst (Lies l) (sym a) lies in
     record { spanned = now.0; rest = r; list = same_list l k'.list t.spans t.held t.position.at e now.1; floor = ap (λ (y : Ckpts). y.floor) e.rest ∙ now.2; zero = e.zero ∙ now.3 }
 
-kept_same : (k k' : Kept) (s t : Plain) → IsKept k s → Alike s t → k'.rest ≡ folded t → SameChanges k.list k'.list → IsKept k' t
+pub kept_same : (k k' : Kept) (s t : Plain) → IsKept k s → Alike s t → k'.rest ≡ folded t → SameChanges k.list k'.list → IsKept k' t
 kept_same k k' s t is a r e = kept_as k' t k.list (lie_of s) (is.spanned, is.list, is.floor, is.zero) a r e
 
 -- the open checkpoint is sealed
@@ -226,6 +227,31 @@ role_stands k s is k' reply new e l = by (is_role s.role new) (e ∙ ap (λ vb. 
     by : (b : Bool) → (k'.rest, reply) ≡ made b (folded s) → SealedIf (not b) k.list k'.list → Stands k' reply (made b s)
     by true q m = (kept_same k k' s s is refl (ap (λ p. p.0) q) (loaded_role_same k.list k'.list m), ap (λ p. p.1) q)
     by false q m = (kept_sealed k k' s (in_role s new) is refl (ap (λ p. p.0) q) m, ap (λ p. p.1) q)
+
+-- the vBucket is to take over
+pub pend_stands : (k : Kept) (s : Plain) → IsKept k s → (k' : Kept) (reply : VbReply) → (k'.rest, reply) ≡ pend_row k.rest → SealedIf (is_follower k.rest.role) k.list k'.list → Stands k' reply (pend_row s)
+pend_stands k s is k' reply e l = by (is_follower s.role) (e ∙ ap pend_row is.rest) (subst (λ vb. SealedIf (is_follower vb.role) k.list k'.list) is.rest l)
+  where
+    made : Bool → Plain → Plain × VbReply
+    made b vb = if b then (in_role vb role.Pending, ending_reply vb answer.Done) else (vb, refusal_reply status.NotMyVbucket)
+
+    by : (b : Bool) → (k'.rest, reply) ≡ made b (folded s) → SealedIf b k.list k'.list → Stands k' reply (made b s)
+    by true q m = (kept_sealed k k' s (in_role s role.Pending) is refl (ap (λ p. p.0) q) m, ap (λ p. p.1) q)
+    by false q m = (kept_same k k' s s is refl (ap (λ p. p.0) q) (loaded_role_same k.list k'.list m), ap (λ p. p.1) q)
+
+-- or is given up for a stream
+pub yield_stands : (k : Kept) (s : Plain) → IsKept k s → (k' : Kept) (reply : VbReply) (id : ℕ) → (k'.rest, reply) ≡ yield_row k.rest id
+    → SealedIf (is_active k.rest.role && is_some (stream_at id k.rest.streams)) k.list k'.list → Stands k' reply (yield_row s id)
+yield_stands k s is k' reply id e l =
+    by (is_active s.role) (stream_at id s.streams) (e ∙ ap (λ vb. yield_row vb id) is.rest) (subst (λ vb. SealedIf (is_active vb.role && is_some (stream_at id vb.streams)) k.list k'.list) is.rest l)
+  where
+    made : Bool → Option Stream → Plain → Plain × VbReply
+    made b o vb = if b then yielded o vb else (vb, refusal_reply status.NotMyVbucket)
+
+    by : (b : Bool) (o : Option Stream) → (k'.rest, reply) ≡ made b o (folded s) → SealedIf (b && is_some o) k.list k'.list → Stands k' reply (made b o s)
+    by true (Some t) q m = (kept_sealed k k' s (yielded (Some t) s).0 is refl (ap (λ p. p.0) q) m, ap (λ p. p.1) q)
+    by true None q m = (kept_same k k' s s is refl (ap (λ p. p.0) q) (loaded_role_same k.list k'.list m), ap (λ p. p.1) q)
+    by false o q m = (kept_same k k' s s is refl (ap (λ p. p.0) q) (loaded_role_same k.list k'.list m), ap (λ p. p.1) q)
 
 pub seal_stands : (k : Kept) (s : Plain) → IsKept k s → (k' : Kept) (reply : VbReply) → k' ≡ record k { list = sealed_list k.list } → reply ≡ quiet_reply (answer.Flag (is_some (ckpt_span k.list.newest))) → Stands k' reply (seal_row s)
 seal_stands k s is k' reply e q = (

@@ -1,11 +1,12 @@
 -- what is kept stays steady
-use Rattle.std.proofs.Common.{◌≡◌, ℕ, ◌<◌, ◌≤◌, Bool, true, false, cond, List, [], ◌∷◌, ◌++◌, map, refl, ap, sym, subst, ◌∙◌, arith}
+use Rattle.std.proofs.Common.{◌≡◌, ℕ, suc, ◌<◌, ◌≤◌, length, Bool, true, false, cond, List, [], ◌∷◌, ◌++◌, map, refl, ap, sym, subst, ◌∙◌, arith}
 use Rattle.std.specs.Prelude.{◌==◌, not, nat_le, nat_lt, ◌&&◌, ◌||◌, if◌then◌else◌, Option, Some, None}
 use Rattle.std.specs.List.{filter, find, list_any}
 use Rattle.std.specs.Str.{bytes_eq}
 use Rattle.std.specs.FinMap as finite
 use Rattle.std.specs.Cmp.{nat_cmp_total}
 use Rattle.std.proofs.lemmas.Bool.Decides.{nat_tests}
+use Rattle.std.proofs.lemmas.List.{length-map}
 use Rattle.vb_types.specs.declared.change.Change.{Change}
 use Rattle.branch_model.specs.Histories.{last_seq}
 use Rattle.vb_calls.specs.declared.span.Origin.{Origin}
@@ -24,7 +25,7 @@ use Rattle.vb_calls.specs.declared.calls.VbReply.{VbReply}
 use Rattle.vb_calls.specs.State.{Plain, is_active, quiet_reply}
 use Rattle.vb_calls.specs.Following.{is_follower}
 use Rattle.vbucket.specs.Kept.{Kept, SameChanges, kept_take, kept_take_from, kept_take_to, sent_items}
-use Rattle.vbucket.specs.Steady.{stream_place, with_cursor, CursorsAreStreams, IsSteady}
+use Rattle.vbucket.specs.Steady.{stream_place, with_cursor, CursorsAreStreams, IsSteady, MayFeed}
 use Rattle.vb_types.specs.declared.role.Role.{Role}
 use Rattle.vbucket.proofs.Feeding.{fed_moved, fed_none, fed_opened, tie}
 
@@ -79,6 +80,46 @@ queued_high l origin c = by (ckpt_span l.newest)
         fits true = last_pushed l.newest.above (filter (λ d. not (bytes_eq d.key c.key)) l.newest.items) c
         fits false = refl
 
+-- which streams a vBucket may have in a role
+
+pub none_few : (r : Role) → MayFeed r []
+none_few roles.Active = tt
+none_few roles.Replica = refl
+none_few roles.Pending = refl
+none_few roles.Dead = omega arith
+
+any_few : (r : Role) (streams : List Stream) → is_active r ≡ true → MayFeed r streams
+any_few roles.Active streams e = tt
+any_few roles.Replica streams e = cc
+any_few roles.Pending streams e = cc
+any_few roles.Dead streams e = cc
+
+follows_none : (r : Role) (streams : List Stream) → is_follower r ≡ true → MayFeed r streams → streams ≡ []
+follows_none roles.Active streams e f = cc
+follows_none roles.Replica streams e f = f
+follows_none roles.Pending streams e f = f
+follows_none roles.Dead streams e f = cc
+
+fewer : (id : ℕ) (streams : List Stream) → length (without_stream id streams) ≤ length streams
+fewer id [] = omega arith
+fewer id (s ∷ ss) = by (s.id == id) (fewer id ss)
+  where
+    by : (b : Bool) → length (without_stream id ss) ≤ length ss → length (cond (not b) (s ∷ without_stream id ss) (without_stream id ss)) ≤ suc (length ss)
+    by true l = omega arith
+    by false l = omega arith
+
+few_closed : (r : Role) (id : ℕ) (streams : List Stream) → MayFeed r streams → MayFeed r (without_stream id streams)
+few_closed roles.Active id streams f = tt
+few_closed roles.Replica id streams f = ap (without_stream id) f
+few_closed roles.Pending id streams f = ap (without_stream id) f
+few_closed roles.Dead id streams f = let l = fewer id streams in omega arith
+
+few_moved : (r : Role) (id end : ℕ) (streams : List Stream) → MayFeed r streams → MayFeed r (map (moved_on id end) streams)
+few_moved roles.Active id end streams f = tt
+few_moved roles.Replica id end streams f = ap (map (moved_on id end)) f
+few_moved roles.Pending id end streams f = ap (map (moved_on id end)) f
+few_moved roles.Dead id end streams f = subst (λ n. n ≤ 1) (sym (length-map streams (moved_on id end))) f
+
 -- a change moves no cursor, nor the floor
 abbrev Marked : Ckpts → Ckpts → Type 0
 Marked m l = (m.places ≡ l.places) × (m.floor ≡ l.floor)
@@ -106,23 +147,17 @@ queued_steady role at l streams origin c m n is e seq = record {
   fed =
       let k = queued_marked l origin c in
       subst (λ p. CursorsAreStreams p m.floor streams) (sym (ap (λ (x : Ckpts). x.places) e ∙ k.0)) (subst (λ f. CursorsAreStreams l.places f streams) (sym (ap (λ (x : Ckpts). x.floor) e ∙ k.1)) is.fed);
-  idle = is.idle;
+  few = is.few;
 }
 
 -- nothing above a seqno
 alone_steady : (role : Role) (m : Ckpts) (at n : ℕ) (origin : Origin) → m ≡ ckpts_at at origin → n ≡ at → IsSteady role n m []
-alone_steady role m at n origin e z = subst (λ (x : Ckpts). IsSteady role n x []) (sym e) (record { high = sym z; fed = fed_none at at; idle = λ _. refl })
+alone_steady role m at n origin e z = subst (λ (x : Ckpts). IsSteady role n x []) (sym e) (record { high = sym z; fed = fed_none at at; few = none_few role })
 
 pub rolled_steady : (role : Role) (at : ℕ) (l : Ckpts) (streams : List Stream) (m : Ckpts) (to n : ℕ) (origin : Origin) → IsSteady role at l streams → is_follower role ≡ true → m ≡ ckpts_at to origin → n ≡ to → IsSteady role n m streams
 rolled_steady role at l streams m to n origin is follows e z =
-    let none : streams ≡ [] = is.idle (passive role follows) in
+    let none : streams ≡ [] = follows_none role streams follows is.few in
     subst (λ ss. IsSteady role n m ss) (sym none) (alone_steady role m to n origin e z)
-  where
-    passive : (r : Role) → is_follower r ≡ true → is_active r ≡ false
-    passive roles.Active f = cc
-    passive roles.Replica f = refl
-    passive roles.Pending f = refl
-    passive roles.Dead f = cc
 
 pub made_steady : (role : Role) (l : Ckpts) (streams : List Stream) (at n : ℕ) (origin : Origin) → l ≡ ckpts_at at origin → streams ≡ [] → n ≡ at → IsSteady role n l streams
 made_steady role l streams at n origin e none z = subst (λ ss. IsSteady role n l ss) (sym none) (alone_steady role l at n origin e z)
@@ -141,14 +176,14 @@ opened_steady role at l streams id s m ss is active some none same e f =
     subst (λ xs. IsSteady role at m xs) (sym f) (subst (λ (x : Ckpts). IsSteady role at x (streams ++ s ∷ [])) (sym e) (record {
       high = is.high;
       fed = fed_opened l.places l.floor streams id s is.fed (omega (arith, some)) none same;
-      idle = λ passive. let bad : true ≡ false = sym active ∙ passive in cc;
+      few = any_few role (streams ++ s ∷ []) active;
     }))
 
 pub closed_steady : (role : Role) (at : ℕ) (l : Ckpts) (streams : List Stream) (m : Ckpts) (ss : List Stream) (id : ℕ) → IsSteady role at l streams → SameChanges l m → CursorsAreStreams m.places m.floor ss → ss ≡ without_stream id streams → IsSteady role at m ss
 closed_steady role at l streams m ss id is e fed f = record {
   high = ap high_of e.rest ∙ is.high;
   fed = fed;
-  idle = λ passive. f ∙ ap (without_stream id) (is.idle passive);
+  few = subst (MayFeed role) (sym f) (few_closed role id streams is.few);
 }
 
 pub moved_steady : (role : Role) (at : ℕ) (l : Ckpts) (streams : List Stream) (id end : ℕ) (s : Stream) (m : Ckpts) (ss : List Stream) → IsSteady role at l streams → stream_at id streams ≡ Some s → l.floor ≤ end → m ≡ moved_cursor l id end → ss ≡ map (moved_on id end) streams → IsSteady role at m ss
@@ -156,7 +191,7 @@ moved_steady role at l streams id end s m ss is there reach e f =
     subst (λ xs. IsSteady role at m xs) (sym f) (subst (λ (x : Ckpts). IsSteady role at x (map (moved_on id end) streams)) (sym e) (record {
       high = is.high;
       fed = fed_moved l.places l.floor streams id end s is.fed there reach;
-      idle = λ passive. ap (map (moved_on id end)) (is.idle passive);
+      few = few_moved role id end streams is.few;
     }))
 
 -- the cursor 0 moves on
@@ -164,7 +199,7 @@ pub flushed_steady : (role : Role) (at : ℕ) (l : Ckpts) (streams : List Stream
 flushed_steady role at l streams m n is e = subst (λ (x : Ckpts). IsSteady role at x streams) (sym e) (record {
   high = is.high;
   fed = record { cursors = λ q. is.fed.cursors q ∙ sym (same q); apart = is.fed.apart };
-  idle = is.idle;
+  few = is.few;
 })
   where
     same : (q : ℕ) → stream_place (finite.insert l.places 0 n) q ≡ stream_place l.places q

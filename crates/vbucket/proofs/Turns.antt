@@ -1,28 +1,35 @@
 -- what a change of role comes to
-use Rattle.std.proofs.Common.{◌≡◌, ◌≢◌, ◌⊎◌, inl, inr, ⊎_elim, ℕ, ◌<◌, Bool, true, false, refl, sym, ap, subst, ◌∙◌, arith}
+use Rattle.std.proofs.Common.{◌≡◌, ◌≢◌, ◌⊎◌, inl, inr, ⊎_elim, ℕ, ◌<◌, Bool, true, false, List, refl, sym, ap, subst, ◌∙◌, arith}
 use Rattle.std.specs.Prelude.{Some, None, if◌then◌else◌, ◌==◌}
 use Rattle.std.proofs.lemmas.List.{append-nil, length-take}
 use Rattle.std.proofs.lemmas.Bool.Decides.{nat_tests}
+use Rattle.vb_types.specs.declared.role.LogEntry.{LogEntry}
 use Rattle.vb_types.specs.declared.role.Role.{Role}
 use Rattle.vb_types.specs.declared.role.Role.TheVariants as role
 use Rattle.vb_types.specs.declared.status.Status.TheVariants as status
 use Rattle.branch_model.specs.Requests.{effective_ss, fork_of}
+use Rattle.vb_calls.specs.declared.calls.VbAnswer.{VbAnswer}
 use Rattle.vb_calls.specs.declared.calls.VbAnswer.TheVariants as answer
 use Rattle.vb_calls.specs.declared.calls.VbCall.{VbCall}
 use Rattle.vb_calls.specs.declared.calls.VbReply.{VbReply}
+use Rattle.vb_calls.specs.declared.stream.Stream.{Stream}
 use Rattle.vb_calls.specs.Durable.{expired}
 use Rattle.vb_calls.specs.Following.{log_lacks}
-use Rattle.vb_calls.specs.Roles.{ending_reply, in_role, is_role, promote_refusal, promoted}
+use Rattle.vb_calls.specs.Roles.{ending_reply, in_role, is_role, led, promote_refusal, promoted, risen, yielded}
 use Rattle.vb_calls.specs.Settling.{also_resolved, and_settled}
 use Rattle.vb_calls.specs.Spans.{all_spans}
 use Rattle.vb_calls.specs.State.{Plain, is_active, quiet_reply, refusal_reply}
+use Rattle.vb_calls.specs.Streams.{stream_at, without_stream}
+use Rattle.vbucket.specs.Closing.{AreOthers}
 use Rattle.vbucket.specs.Settles.{Settles}
-use Rattle.vbucket.specs.Turns.{Turned, Steady, Leads, RolesEndStreams, MayLead, Led, PromotionsLead, PromotesAs, PromotesExactly, TurnsAs, TurnsExactly}
+use Rattle.vbucket.specs.Turns.{HandsOver, Turned, Steady, Leads, Yields, RolesEndStreams, MayLead, Led, PromotionsLead, PromotesAs, PromotesExactly, TurnsAs, TurnsExactly}
 use Rattle.vbucket.proofs.Adopting.{lacks_of, lacks_tested}
 use Rattle.vbucket.proofs.Asks.{role_of, not_role, zero_of, not_zero}
 use Rattle.vbucket.proofs.Receiving.{never}
-use Rattle.vbucket.proofs.RowIs.{RowIs, StartIs, Expires, Turns, leading, row_is}
+use Rattle.vbucket.proofs.Closing.{are_others}
+use Rattle.vbucket.proofs.RowIs.{RowIs, StartIs, Expires, Inherits, Turns, inheriting, leading, row_is}
 use Rattle.vbucket.proofs.Settling.{expires, settles}
+use Rattle.vbucket.proofs.Steadying.{named}
 
 -- calls that leave the role
 
@@ -32,21 +39,38 @@ then_steady vb start s = let k = settles start in (ap (λ (x : Plain). x.role) k
 
 -- calls that change it
 
-abbrev Ends : Plain → Plain × VbReply → Type 0
-Ends vb after = Steady vb after ⊎ (Turned vb after ⊎ Leads vb after)
+abbrev Ends : Plain → VbCall → Plain × VbReply → Type 0
+Ends vb c after = Steady vb after ⊎ (Turned vb after ⊎ (Leads vb after ⊎ Yields vb c after))
 
-turned_led : (vb : Plain) (uuid : ℕ) → Turned vb (leading vb uuid)
-turned_led vb uuid = record { ended = refl; none = refl; sealed = refl; spans = append-nil (all_spans vb.spans); base = refl; held = refl; at = refl; cas = refl; first = refl; node = refl; marks = (refl, refl, refl); alone = (refl, refl); made = refl }
+pub turned_risen : (vb : Plain) (log : List LogEntry) (said : VbAnswer) → Turned vb (record (risen vb) { log = log }, ending_reply vb said)
+turned_risen vb log said = record { ended = refl; none = refl; sealed = refl; spans = append-nil (all_spans vb.spans); base = refl; held = refl; at = refl; cas = refl; first = refl; node = refl; marks = (refl, refl, refl); alone = (refl, refl); made = refl }
 
-start_ends : (vb : Plain) {c : VbCall} {start : Plain × VbReply} → StartIs vb c start → Ends vb (and_settled start)
+pub turned_in : (vb : Plain) (new : Role) → Turned vb (in_role vb new, ending_reply vb answer.Done)
+turned_in vb new =
+    record { ended = refl; none = refl; sealed = refl; spans = append-nil (all_spans vb.spans); base = refl; held = refl; at = refl; cas = refl; first = refl; node = refl; marks = (refl, refl, refl); alone = (refl, refl); made = refl }
+
+pub hands_over : (vb : Plain) (id : ℕ) (s : Stream) → stream_at id vb.streams ≡ Some s → HandsOver vb id (yielded (Some s) vb)
+hands_over vb id s at = record {
+  dead = refl;
+  one = (s, at, refl);
+  others = (without_stream s.id vb.streams, subst (λ n. AreOthers id vb.streams (without_stream n vb.streams)) (sym (named id vb.streams s at)) (are_others id vb.streams), refl);
+  sealed = refl;
+  spans = append-nil (all_spans vb.spans);
+  alone = (refl, refl, refl);
+  made = refl;
+  stays = refl;
+}
+
+start_ends : (vb : Plain) {c : VbCall} {start : Plain × VbReply} → StartIs vb c start → Ends vb c (and_settled start)
 start_ends vb (Expires clock on) = inl (then_steady vb (also_resolved (quiet_reply answer.Done) (expired clock vb)) (ap (λ (x : Plain). x.role) (expires vb clock).gives.1.stays, refl))
-start_ends vb (StartIs.Leads uuid free) = let k = settles (leading vb uuid) in inr (inr (ap (λ (x : Plain). x.role) k.commits.2.stays, (leading vb uuid, turned_led vb uuid, k)))
+start_ends vb (StartIs.Leads uuid free) = let k = settles (leading vb uuid) in inr (inr (inl (ap (λ (x : Plain). x.role) k.commits.2.stays, (leading vb uuid, turned_risen vb (led vb uuid).log (leading vb uuid).1.answer, k))))
+start_ends vb (Inherits free) = let k = settles (inheriting vb) in inr (inr (inl (ap (λ (x : Plain). x.role) k.commits.2.stays, (inheriting vb, turned_risen vb vb.log answer.Done, k))))
 start_ends vb {start = start} other = inl (then_steady vb start (refl, refl))
 
-row_ends : (vb : Plain) {c : VbCall} {made : Plain × VbReply} → RowIs vb c made → Ends vb made
+row_ends : (vb : Plain) {c : VbCall} {made : Plain × VbReply} → RowIs vb c made → Ends vb c made
 row_ends vb (RowIs.Settles c start is) = start_ends vb is
-row_ends vb (Turns c new loud idle) =
-    inr (inl (record { ended = refl; none = refl; sealed = refl; spans = append-nil (all_spans vb.spans); base = refl; held = refl; at = refl; cas = refl; first = refl; node = refl; marks = (refl, refl, refl); alone = (refl, refl); made = refl }))
+row_ends vb (Turns c new loud idle) = inr (inl (turned_in vb new))
+row_ends vb (RowIs.Yields id s on at) = inr (inr (inr (id, refl, hands_over vb id s at)))
 row_ends vb other = inl (refl, refl)
 
 pub roles_end : RolesEndStreams
@@ -93,7 +117,7 @@ leads vb uuid = record {
   position = refl;
   log = refl;
   short = simp length-take (omega arith);
-  turned = turned_led vb uuid;
+  turned = turned_risen vb (led vb uuid).log (leading vb uuid).1.answer;
 }
 
 pub promotions_lead : PromotionsLead

@@ -1,8 +1,8 @@
 -- what holds of every vBucket as it is kept
-use Rattle.std.specs.Prelude.{◌≡◌, ◌≢◌, ℕ, ◌==◌, nat_le, false, if◌then◌else◌, List, [], ◌∷◌, Option, Some, None}
+use Rattle.std.specs.Prelude.{◌≡◌, ◌≢◌, ℕ, ◌≤◌, ◌==◌, nat_le, if◌then◌else◌, List, [], ◌∷◌, length, Option, Some, None}
 use Rattle.vb_types.specs.declared.role.Role.{Role}
+use Rattle.vb_types.specs.declared.role.Role.TheVariants as role
 use Rattle.vb_calls.specs.declared.stream.Stream.{Stream}
-use Rattle.vb_calls.specs.State.{is_active}
 use Rattle.vb_calls.specs.Streams.{is_in_memory, stream_at}
 use Rattle.cursor_set.specs.Cursors.{Places, place_of, registered}
 use Rattle.ckpt_list.specs.Lists.{Ckpts, high_of}
@@ -34,8 +34,15 @@ pub record CursorsAreStreams (places : Places) (floor : ℕ) (streams : List Str
   pub cursors : (id : ℕ) → cursor_in floor id streams ≡ stream_place places id
   pub apart : AreApart streams
 
--- the list ends at the last seqno, its cursors are those of the streams that are fed from it, and only an active vBucket has streams
+-- an active vBucket feeds any streams, and a dead one at most the one that it was given up for
+abbrev pub MayFeed : Role → List Stream → Type 0
+MayFeed role.Active streams = Unit {0}
+MayFeed role.Replica streams = streams ≡ []
+MayFeed role.Pending streams = streams ≡ []
+MayFeed role.Dead streams = length streams ≤ 1
+
+-- the list ends at the last seqno, its cursors are those of the streams that are fed from it, and they are streams that a vBucket in this role may have
 pub record IsSteady (role : Role) (at : ℕ) (l : Ckpts) (streams : List Stream) : Type 0 where
   pub high : high_of l ≡ at
   pub fed : CursorsAreStreams l.places l.floor streams
-  pub idle : is_active role ≡ false → streams ≡ []
+  pub few : MayFeed role streams

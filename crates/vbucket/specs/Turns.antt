@@ -1,18 +1,21 @@
 -- what a change of role comes to
-use Rattle.std.specs.Prelude.{◌≡◌, ◌≢◌, ◌↔◌, ◌⊎◌, ℕ, ◌<◌, ◌≤◌, [], ◌∷◌, take, length, None}
+use Rattle.std.specs.Prelude.{◌≡◌, ◌≢◌, ◌↔◌, ◌⊎◌, ℕ, ◌<◌, ◌≤◌, List, [], ◌∷◌, take, length, Some, None}
 use Rattle.vb_types.specs.declared.role.Role.{Role}
 use Rattle.vb_types.specs.declared.role.Role.TheVariants as role
 use Rattle.vb_types.specs.declared.status.Status.TheVariants as status
 use Rattle.branch_model.specs.Logs.{log_limit, kept_to, Lacks}
 use Rattle.vb_calls.specs.declared.calls.VbCall.{VbCall}
-use Rattle.vb_calls.specs.declared.calls.VbCall.TheVariants.{Promote, Follow, Dead}
+use Rattle.vb_calls.specs.declared.calls.VbCall.TheVariants.{Promote, Follow, Dead, Yield}
 use Rattle.vb_calls.specs.declared.calls.VbAnswer.TheVariants as answer
 use Rattle.vb_calls.specs.declared.calls.VbReply.{VbReply}
+use Rattle.vb_calls.specs.declared.stream.Stream.{Stream}
 use Rattle.vb_calls.specs.Plain.{Plain, plain_step}
 use Rattle.vb_calls.specs.State.{complete_position}
 use Rattle.vb_calls.specs.Spans.{all_spans}
 use Rattle.vb_calls.specs.Roles.{parent_of, stream_ids}
+use Rattle.vb_calls.specs.Streams.{stream_at}
 use Rattle.durability.specs.Outstanding.{no_acks}
+use Rattle.vbucket.specs.Closing.{AreOthers}
 use Rattle.vbucket.specs.Settles.{Settles}
 
 -- all streams are ended and named, the open span is sealed, the chain is of the node alone and nobody has acknowledged anything; the changes stay, and so do the last CAS, whether the next marker is the first, and what is saved
@@ -39,9 +42,24 @@ Steady vb after = (after.0.role ≡ vb.role) × (after.1.ended ≡ [])
 abbrev pub Leads : Plain → Plain × VbReply → Type 0
 Leads vb after = (after.0.role ≡ role.Active) × ((made : Plain × VbReply) × Turned vb made × Settles made after)
 
--- a call that changes the role ends all streams, and any other ends none
+-- the vBucket is dead, and feeds one of the streams as before; all others are ended and named, in their order. The open span is sealed, and nothing is outstanding, in a chain of the node alone; all else stays
+pub record HandsOver (vb : Plain) (id : ℕ) (after : Plain × VbReply) : Type 0 where
+  pub dead : after.0.role ≡ role.Dead
+  pub one : (s : Stream) × (stream_at id vb.streams ≡ Some s) × (after.0.streams ≡ s ∷ [])
+  pub others : (others : List Stream) × AreOthers id vb.streams others × (after.1.ended ≡ stream_ids others)
+  pub sealed : after.0.spans.current ≡ None
+  pub spans : all_spans after.0.spans ≡ all_spans vb.spans
+  pub alone : (after.0.others ≡ []) × (after.0.acks ≡ no_acks) × (after.0.waiting ≡ [])
+  pub made : after.1.changes ≡ []
+  pub stays : after.0 ≡ record vb { role = after.0.role; streams = after.0.streams; spans = after.0.spans; others = after.0.others; acks = after.0.acks; waiting = after.0.waiting }
+
+-- it was given up for the stream that the call names
+abbrev pub Yields : Plain → VbCall → Plain × VbReply → Type 0
+Yields vb call after = (id : ℕ) × (call ≡ Yield id) × HandsOver vb id after
+
+-- a call that changes the role ends all streams but one for which the vBucket is given up, and any other ends none
 abbrev pub RolesEndStreams : Type 0
-RolesEndStreams = (vb : Plain) (call : VbCall) → Steady vb (plain_step vb call) ⊎ (Turned vb (plain_step vb call) ⊎ Leads vb (plain_step vb call))
+RolesEndStreams = (vb : Plain) (call : VbCall) → Steady vb (plain_step vb call) ⊎ (Turned vb (plain_step vb call) ⊎ (Leads vb (plain_step vb call) ⊎ Yields vb call (plain_step vb call)))
 
 -- the vBucket is not active, and the branch is one that its log lacks
 pub record MayLead (vb : Plain) (uuid : ℕ) : Type 0 where

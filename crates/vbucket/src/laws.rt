@@ -75,8 +75,8 @@ pub fn requests_are_told()
 {}
 
 /// A change of role ends every stream, which the reply names, and seals the open span; the changes
-/// stay, as do the last CAS and whether the next marker is the first. No other call ends a stream in
-/// this way.
+/// stay, as do the last CAS and whether the next marker is the first. One stream is kept where the
+/// vBucket is given up for it. No other call ends a stream in this way.
 pub fn roles_end_streams()
     ensures ends { RolesEndStreams }
     ensures exactly { TurnsExactly }

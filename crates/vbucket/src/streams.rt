@@ -6,6 +6,7 @@ ghost use Rattle.branch_model.specs.Histories.{last_seq};
 ghost use Rattle.ckpt_list.specs.Lists.{between, held_of, high_of};
 ghost use Rattle.vbucket.specs.Kept.{sent_items};
 ghost use Rattle.vbucket.specs.Steady.{with_cursor};
+ghost use Rattle.vbucket.specs.Turning.{only_stream};
 ghost use Rattle.vb_calls.specs.Roles.{stream_ids};
 ghost use Rattle.vb_types.specs.declared.change.Act.TheVariants.{Remove, Set};
 ghost use Rattle.vb_calls.specs.Streams as spec;
@@ -24,11 +25,26 @@ pub fn stream_of(streams: &[Stream], id: u64) -> Option<&Stream>
 }
 
 /// The numbers of the open streams.
-pub fn ids_of(alloc: Global, streams: &[Stream]) -> Result<Listed<u64>, AllocError>
-    ensures { IfOk result (λ ids. ids ≡ stream_ids streams.now) }
+fn ids_of(alloc: Global, streams: &[Stream]) -> Result<Vec<u64>, AllocError>
+    ensures { IfOk result (λ ids. ids.items ≡ stream_ids streams.now) }
 {
-    let ids: Vec<u64> = streams.iter().map(|stream| stream.id).collect(alloc)?;
+    streams.iter().map(|stream| stream.id).collect(alloc)
+}
+
+/// The numbers of the open streams but one.
+pub fn ids_but(alloc: Global, streams: &[Stream], id: u64) -> Result<Listed<u64>, AllocError>
+    ensures { IfOk result (λ ids. ids ≡ stream_ids (spec.without_stream id streams.now)) }
+{
+    let mut ids = ids_of(alloc, streams)?;
+    ids.retain(|open| *open != id);
     Ok(Listed::from_vec(ids))
+}
+
+/// Takes away all open streams but the one of a number.
+pub fn keep(streams: &mut Vec<Stream>, id: u64)
+    ensures { streams.new.items ≡ only_stream id streams.old.items }
+{
+    streams.retain(|stream| stream.id == id);
 }
 
 /// Takes away the open stream of a number, if there is one.

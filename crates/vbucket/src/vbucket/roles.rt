@@ -1,16 +1,19 @@
 //! How a vBucket changes its role, seals its checkpoint and closes streams.
-ghost use Rattle.std.specs.Prelude.{◌≡◌, ◌<◌, true, false, not, is_some, [], IfOk, OnOk, OnErr, None};
+ghost use Rattle.std.specs.Prelude.{◌≡◌, ◌≢◌, ◌<◌, ◌&&◌, not, is_some, [], IfOk, OnOk, OnErr, Some, None};
 ghost use Rattle.std.specs.List.{fold};
 ghost use Rattle.durability.specs.Chains.{committed_now};
 ghost use Rattle.durability.specs.Outstanding.{acked, no_acks};
-ghost use Rattle.vb_calls.specs.Streams.{close_row, without_stream};
+ghost use Rattle.vb_types.specs.declared.role.Role.TheVariants.{Dead as DeadRole};
+ghost use Rattle.vb_calls.specs.Following.{is_follower};
+ghost use Rattle.vb_calls.specs.Streams.{close_row, stream_at, without_stream};
 ghost use Rattle.branch_model.specs.Logs.{Lacks};
 ghost use Rattle.vb_calls.specs.declared.calls.VbAnswer.TheVariants.{Flag};
-ghost use Rattle.vb_calls.specs.declared.calls.VbCall.TheVariants.{Promote};
+ghost use Rattle.vb_calls.specs.declared.calls.VbCall.TheVariants.{Own, Pend as PendCall, Promote, Yield};
+ghost use Rattle.vb_calls.specs.declared.stream.Stream.{Stream as TheStream};
 ghost use Rattle.vb_calls.specs.Forms.{HasForm};
 ghost use Rattle.vb_calls.specs.Settling.{left_prepare, left_prepares};
 ghost use Rattle.vb_calls.specs.State.{is_active, quiet_reply};
-ghost use Rattle.vb_calls.specs.Roles.{promote_refusal, is_role, turn_row, stream_ids};
+ghost use Rattle.vb_calls.specs.Roles.{is_role, own_refusal, pend_row, promote_refusal, stream_ids, turn_row, yield_row, yielded};
 ghost use Rattle.checkpoint.specs.Checkpoints.{ckpt_span};
 ghost use Rattle.ckpt_list.specs.Lists.{sealed_list};
 ghost use Rattle.ckpt_list.specs.Windows.{ArePartsAbove};
@@ -18,8 +21,9 @@ ghost use Rattle.vbucket.specs.Kept.{SameChanges, SealedIf};
 ghost use Rattle.vbucket.specs.Promoting as spec;
 ghost use Rattle.vbucket.specs.Settling.{with_commits, with_made};
 ghost use Rattle.vbucket.specs.Steady.{CursorsAreStreams};
+ghost use Rattle.vbucket.specs.Turning.{only_stream, turned_idle, turned_to};
 
-use super::settling::{Plan, ambiguous, resolve_all};
+use super::settling::{Plan, ambiguous, branch_if, resolve_all};
 use super::{VBucket, complete_at, entering};
 use crate::writes::takes_writes;
 use crate::{following, streams};
@@ -36,7 +40,6 @@ impl VBucket {
         ensures first { result ≡ promote_refusal self.now.rest uuid }
         ensures lacks { result ≡ None → Lacks self.now.rest.log uuid }
         ensures branch { result ≡ None → 0 < uuid }
-        ensures idle { result ≡ None → is_active self.now.rest.role ≡ false }
     {
         if takes_writes(self.role) {
             Some(Status::NotMyVbucket)
@@ -47,9 +50,21 @@ impl VBucket {
         }
     }
 
+    /// Why the vBucket does not take over, the first of the reasons.
+    fn unfit(&self) -> Option<Status>
+        ensures { result ≡ own_refusal self.now.rest }
+    {
+        if self.role != Role::Pending {
+            Some(Status::NotMyVbucket)
+        } else if self.log.front().is_some() && self.position.at == self.position.se {
+            None
+        } else {
+            Some(Status::Einval)
+        }
+    }
+
     /// Becomes active on a new branch, where it may. That leaves the old one at the last seqno of a
-    /// complete snapshot, and else at the snapshot's start. The prepares that wait are outstanding then,
-    /// and what may be committed is. An `Err` changes nothing.
+    /// complete snapshot, and else at the snapshot's start. An `Err` changes nothing.
     pub(super) fn promote(&mut self, uuid: u64) -> Result<VbReply, AllocError>
         ensures ok { IfOk result (λ reply. (self.new, reply) ≡ spec.kept_promote self.old uuid) }
         ensures form { IfOk result (λ reply. HasForm (Promote uuid) reply.answer) }
@@ -58,9 +73,44 @@ impl VBucket {
         if let Some(status) = self.unready(uuid) {
             return Ok(self.told(VbAnswer::Status(status)));
         }
+        let parent = self.branch();
+        let Position { ss, se, at: high } = self.position;
+        let (fork, _) = effective(high, ss, se);
+        let answer = VbAnswer::Branch {
+            uuid,
+            parent,
+            fork,
+            high,
+        };
+        let reply = self.rise(uuid, answer)?;
+        self.log.add(uuid, fork);
+        Ok(reply)
+    }
+
+    /// Becomes active on the branch that it is on, where it may. An `Err` changes nothing.
+    pub(super) fn own(&mut self) -> Result<VbReply, AllocError>
+        ensures ok { IfOk result (λ reply. (self.new, reply) ≡ spec.kept_own self.old) }
+        ensures form { IfOk result (λ reply. HasForm Own reply.answer) }
+        ensures err { OnErr result (self.new ≡ self.old) }
+    {
+        if let Some(status) = self.unfit() {
+            return Ok(self.told(VbAnswer::Status(status)));
+        }
+        let uuid = self.branch().unwrap_or(0);
+        self.rise(uuid, VbAnswer::Done)
+    }
+
+    /// Becomes active. The prepares that wait are outstanding then, and what may be committed is, on the
+    /// branch `uuid`. The failover log stays. An `Err` changes nothing.
+    fn rise(&mut self, uuid: u64, answer: VbAnswer) -> Result<VbReply, AllocError>
+        ensures ok { IfOk result (λ reply. (self.new, reply) ≡ spec.kept_rise self.old uuid answer) }
+        ensures answer { IfOk result (λ reply. reply.answer ≡ answer) }
+        ensures log { OnOk result (self.new.rest.log ≡ self.old.rest.log) }
+        ensures err { OnErr result (self.new ≡ self.old) }
+    {
         let left = self.left()?;
         let plan = self.commits_on(uuid, &left)?;
-        self.lead(uuid, left, plan)
+        self.lead(uuid, answer, left, plan)
     }
 
     /// The prepares that wait, as outstanding ones that are to be committed again.
@@ -86,30 +136,25 @@ impl VBucket {
         Ok(plan)
     }
 
-    /// Becomes active on a branch, with these prepares outstanding, and makes the changes of a plan. An
-    /// `Err` changes nothing.
-    fn lead(&mut self, uuid: u64, left: Active, plan: Plan) -> Result<VbReply, AllocError>
-        requires lacks { Lacks self.old.rest.log uuid }
-        requires branch { 0 < uuid }
-        requires idle { is_active self.old.rest.role ≡ false }
-        requires parts { ArePartsAbove self.old.rest.position.at plan.changes }
-        ensures ok { IfOk result (λ reply. (self.new, reply) ≡ spec.led_with self.old uuid left plan) }
-        ensures answer { IfOk result (λ reply. reply.answer ≡ spec.lead_answer self.old.rest uuid) }
+    /// Becomes active, with these prepares outstanding, and makes the changes of a plan, on the branch
+    /// `uuid`. An `Err` changes nothing.
+    fn lead(
+        &mut self,
+        uuid: u64,
+        answer: VbAnswer,
+        left: Active,
+        plan: Plan,
+    ) -> Result<VbReply, AllocError>
+        requires { ArePartsAbove self.old.rest.position.at plan.changes }
+        ensures ok { IfOk result (λ reply. (self.new, reply) ≡ spec.led_with self.old uuid answer left plan) }
+        ensures answer { IfOk result (λ reply. reply.answer ≡ answer) }
+        ensures log { OnOk result (self.new.rest.log ≡ self.old.rest.log) }
         ensures err { OnErr result (self.new ≡ self.old) }
     {
-        let parent = self.branch();
-        let Position { ss, se, at: high } = self.position;
-        let (fork, _) = effective(high, ss, se);
-        let ended = streams::ids_of(self.alloc, &self.streams)?;
+        let ended = streams::ids_but(self.alloc, &self.streams, 0)?;
         self.seal_and_make(plan.changes.as_slice())?;
-        self.turn_active(uuid, fork, left, plan.changes.as_slice());
-        let branch = self.branch_of(plan.changes.as_slice());
-        let answer = VbAnswer::Branch {
-            uuid,
-            parent,
-            fork,
-            high,
-        };
+        self.turn_active(left, plan.changes.as_slice());
+        let branch = branch_if(uuid, plan.changes.as_slice());
         Ok(VbReply {
             answer,
             resolved: plan.resolved,
@@ -133,18 +178,15 @@ impl VBucket {
     }
 
     /// Is active from now on, where these prepares are outstanding but for those that the changes
-    /// resolve. Only an active vBucket has streams, so none is left to end. Takes no memory.
-    fn turn_active(&mut self, uuid: u64, fork: u64, left: Active, changes: &[Change])
-        requires lacks { Lacks self.old.rest.log uuid }
-        requires branch { 0 < uuid }
-        requires idle { is_active self.old.rest.role ≡ false }
-        ensures { self.new ≡ spec.turned_active self.old uuid fork left changes.now }
+    /// resolve, and feeds no stream any more. Takes no memory.
+    fn turn_active(&mut self, left: Active, changes: &[Change])
+        ensures { self.new ≡ spec.turned_active self.old left changes.now }
     {
         let mut left = left;
         resolve_all(&mut left, changes);
-        self.log.add(uuid, fork);
         self.role = Role::Active;
         self.position = complete_at(self.position.at);
+        drop_cursors(&mut self.list, &self.streams, 0);
         self.streams.clear();
         self.durable = left;
     }
@@ -158,10 +200,51 @@ impl VBucket {
         if self.role == role {
             return Ok(self.told(VbAnswer::Status(Status::NotMyVbucket)));
         }
+        self.turn(role, 0)
+    }
+
+    /// Is to take over from the vBucket that it follows, and follows it still. An `Err` changes nothing.
+    pub(super) fn pend(&mut self) -> Result<VbReply, AllocError>
+        ensures ok { IfOk result (λ reply. (self.new.rest, reply) ≡ pend_row self.old.rest) }
+        ensures list { OnOk result (SealedIf (is_follower self.old.rest.role) self.old.list self.new.list) }
+        ensures form { IfOk result (λ reply. HasForm PendCall reply.answer) }
+        ensures err { OnErr result (self.new ≡ self.old) }
+    {
+        if !following::follows(self.role) {
+            return Ok(self.told(VbAnswer::Status(Status::NotMyVbucket)));
+        }
+        self.turn(Role::Pending, 0)
+    }
+
+    /// Is dead from now on, and goes on to feed the stream of a number alone. An `Err` changes nothing.
+    pub(super) fn hand_over(&mut self, id: u64) -> Result<VbReply, AllocError>
+        ensures ok { IfOk result (λ reply. (self.new.rest, reply) ≡ yield_row self.old.rest id) }
+        ensures list { OnOk result (SealedIf (is_active self.old.rest.role && is_some (stream_at id self.old.rest.streams)) self.old.list self.new.list) }
+        ensures form { IfOk result (λ reply. HasForm (Yield id) reply.answer) }
+        ensures err { OnErr result (self.new ≡ self.old) }
+    {
+        if !takes_writes(self.role) {
+            return Ok(self.told(VbAnswer::Status(Status::NotMyVbucket)));
+        }
+        if streams::stream_of(&self.streams, id).is_none() {
+            return Ok(self.told(VbAnswer::Absent));
+        }
+        self.turn(Role::Dead, id)
+    }
+
+    /// Takes another role. It goes on to feed the stream of a number, where that is not 0, and ends all
+    /// others. An `Err` changes nothing.
+    fn turn(&mut self, role: Role, kept: u64) -> Result<VbReply, AllocError>
+        requires { kept ≢ 0 → role ≡ DeadRole }
+        ensures ok { IfOk result (λ reply. (self.new.rest, reply) ≡ turned_to self.old.rest role kept) }
+        ensures none { kept ≡ 0 → IfOk result (λ reply. (self.new.rest, reply) ≡ turned_idle self.old.rest role) }
+        ensures one { (s : TheStream) → stream_at kept self.old.rest.streams ≡ Some s → role ≡ DeadRole → IfOk result (λ reply. (self.new.rest, reply) ≡ yielded (Some s) self.old.rest) }
+        ensures list { OnOk result (SameChanges (sealed_list self.old.list) self.new.list) }
+        ensures err { OnErr result (self.new ≡ self.old) }
+    {
         let resolved = ambiguous(self.alloc, self.durable.waiting())?;
-        let ended = self.end_streams()?;
+        let ended = self.end_streams(role, kept)?;
         self.durable.clear();
-        self.role = role;
         Ok(VbReply {
             answer: VbAnswer::Done,
             resolved,
@@ -171,17 +254,20 @@ impl VBucket {
         })
     }
 
-    /// Seals the open checkpoint and ends all streams. Their numbers; an `Err` changes nothing.
-    fn end_streams(&mut self) -> Result<Listed<u64>, AllocError>
-        ensures rest { OnOk result (self.new.rest ≡ record self.old.rest { streams = [] }) }
+    /// Seals the open checkpoint, takes a role, and ends all streams but the one of a number, where that
+    /// is not 0. Their numbers; an `Err` changes nothing.
+    fn end_streams(&mut self, role: Role, kept: u64) -> Result<Listed<u64>, AllocError>
+        requires { kept ≢ 0 → role ≡ DeadRole }
+        ensures rest { OnOk result (self.new.rest ≡ record self.old.rest { role = role; streams = only_stream kept self.old.rest.streams }) }
         ensures list { OnOk result (SameChanges (sealed_list self.old.list) self.new.list) }
-        ensures ended { IfOk result (λ ended. ended ≡ stream_ids self.old.rest.streams) }
+        ensures ended { IfOk result (λ ended. ended ≡ stream_ids (without_stream kept self.old.rest.streams)) }
         ensures err { OnErr result (self.new ≡ self.old) }
     {
-        let ended = streams::ids_of(self.alloc, &self.streams)?;
+        let ended = streams::ids_but(self.alloc, &self.streams, kept)?;
         self.list.seal()?;
-        drop_cursors(&mut self.list, &self.streams);
-        self.streams.clear();
+        drop_cursors(&mut self.list, &self.streams, kept);
+        streams::keep(&mut self.streams, kept);
+        self.role = role;
         Ok(ended)
     }
 
@@ -244,13 +330,15 @@ fn close(list: &mut CkptList, streams: &mut Vec<Stream>, id: u64)
     list.drop_cursor(id);
 }
 
-/// Takes the cursors of these streams away.
-fn drop_cursors(list: &mut CkptList, streams: &[Stream])
+/// Takes the cursors of these streams away, but for that of the one of a number, where that is not 0.
+fn drop_cursors(list: &mut CkptList, streams: &[Stream], kept: u64)
     requires { CursorsAreStreams list.old.places list.old.floor streams.now }
     ensures changes { SameChanges list.old list.new }
-    ensures none { CursorsAreStreams list.new.places list.new.floor [] }
+    ensures fed { CursorsAreStreams list.new.places list.new.floor (only_stream kept streams.now) }
 {
     for stream in streams {
-        list.drop_cursor(stream.id);
+        if stream.id != kept {
+            list.drop_cursor(stream.id);
+        }
     }
 }

@@ -107,6 +107,13 @@ fn tell(resolved: &mut Listed<Resolved>, waiter: u64, how: Resolution) -> Result
     resolved.push(Resolved { waiter, how })
 }
 
+/// A branch where there are changes, and else 0.
+pub(super) fn branch_if(uuid: u64, changes: &[Change]) -> u64
+    ensures { result ≡ spec.own_branch uuid changes.now }
+{
+    if changes.is_empty() { 0 } else { uuid }
+}
+
 /// That nobody knows whether these stand.
 pub(super) fn ambiguous(
     alloc: Global,
@@ -287,14 +294,10 @@ impl VBucket {
     }
 
     /// The branch of these changes of the vBucket's own; 0 where there is none.
-    pub(super) fn branch_of(&self, changes: &[Change]) -> u64
+    fn branch_of(&self, changes: &[Change]) -> u64
         ensures { result ≡ spec.own_branch (newest_branch self.now.rest.log) changes.now }
     {
-        if changes.is_empty() {
-            0
-        } else {
-            self.branch().unwrap_or(0)
-        }
+        branch_if(self.branch().unwrap_or(0), changes)
     }
 
     /// Makes the changes of a plan, and answers. An `Err` changes nothing.

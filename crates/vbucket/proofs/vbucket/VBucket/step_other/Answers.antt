@@ -10,9 +10,9 @@ use Rattle.vb_calls.specs.Plain.{Plain}
 use Rattle.vbucket.specs.Kept.{Kept}
 use Rattle.vbucket.specs.Settling.{kept_flushed}
 use Rattle.vbucket.specs.Stands.{MayFail, StandsFor}
-use Rattle.vbucket.proofs.Standing.{adopt_stands, flush_stands, mark_stands, receive_stands, role_stands, roll_stands}
+use Rattle.vbucket.proofs.Standing.{adopt_stands, flush_stands, mark_stands, pend_stands, receive_stands, role_stands, roll_stands, yield_stands}
 use Rattle.vbucket.proofs.Keeping.{flushed_stands}
-use Rattle.vbucket.proofs.Promoted.{promote_stands}
+use Rattle.vbucket.proofs.Promoted.{own_stands, promote_stands}
 use Rattle.vbucket.proofs.Stepping.{both, told}
 use Rattle.vbucket.proofs.vbucket.VBucket.step_other.Goals as goal
 
@@ -47,6 +47,19 @@ pub returns-in-Dead-clause-ok : goal.returns-in-Dead-clause-ok
 returns-in-Dead-clause-ok c =
     both c.set_role-in-Dead.result _ _ _ c.set_role-in-Dead.ensures.ok c.set_role-in-Dead.ensures.list
     (λ reply e l. told c.args.self.now c.args.call _ c.in-Dead.is c.set_role-in-Dead.new.self reply (λ s kept. role_stands c.args.self.now s kept c.set_role-in-Dead.new.self reply Dead e l))
+
+pub returns-in-Pend-clause-ok : goal.returns-in-Pend-clause-ok
+returns-in-Pend-clause-ok c =
+    both c.pend.result _ _ _ c.pend.ensures.ok c.pend.ensures.list (λ reply e l. told c.args.self.now c.args.call _ c.in-Pend.is c.pend.new.self reply (λ s kept. pend_stands c.args.self.now s kept c.pend.new.self reply e l))
+
+pub returns-in-Own-clause-ok : goal.returns-in-Own-clause-ok
+returns-in-Own-clause-ok c =
+    IfOk-weaker c.own.result _ _ (λ reply e. told c.args.self.now c.args.call _ c.in-Own.is c.own.new.self reply (λ s kept. own_stands c.args.self.now s kept c.own.new.self reply e)) c.own.ensures.ok
+
+pub returns-in-Yield-clause-ok : goal.returns-in-Yield-clause-ok
+returns-in-Yield-clause-ok c =
+    both c.hand_over.result _ _ _ c.hand_over.ensures.ok c.hand_over.ensures.list
+    (λ reply e l. told c.args.self.now c.args.call _ c.in-Yield.is c.hand_over.new.self reply (λ s kept. yield_stands c.args.self.now s kept c.hand_over.new.self reply c.in-Yield.id e l))
 
 pub returns-in-FlushTake-clause-ok : goal.returns-in-FlushTake-clause-ok
 returns-in-FlushTake-clause-ok c =

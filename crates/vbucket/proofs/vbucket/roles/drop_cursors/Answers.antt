@@ -1,14 +1,21 @@
 use Rattle.std.proofs.Common.{◌≡◌, ◌+◌, suc, false, ap, refl, sym, subst, get_or, drop, arith}
+use Rattle.std.proofs.lemmas.List.{drop_all}
 use Rattle.vb_calls.specs.declared.stream.Stream.{Stream}
+use Rattle.cursor_set.specs.Cursors.{Places}
 use Rattle.ckpt_list.specs.Lists.{Ckpts}
-use Rattle.vbucket.proofs.Feeding.{AreGone, dropped_same, first_stream_gone, gone_next, numbered_at, same_more}
+use Rattle.vbucket.specs.Kept.{SameChanges}
+use Rattle.vbucket.specs.Steady.{CursorsAreStreams}
+use Rattle.vbucket.specs.Turning.{only_stream}
+use Rattle.vbucket.proofs.Dropping.{AreGone, first_gone, gone_next, gone_past, gone_last}
+use Rattle.vbucket.proofs.Feeding.{dropped_same, numbered_at, same_more}
 use Rattle.vbucket.proofs.vbucket.roles.drop_cursors.Goals as goal
+use Rattle.vbucket.proofs.vbucket.roles.drop_cursors.Goals.{then-stream-kept, else-stream-kept}
 
 abbrev none : Stream
 none = record { id = 0; ask = record { flags = 0; start = 0; end = 0; uuid = 0; ss = 0; se = 0 }; sync = false; place = 0; taken = false }
 
 pub loop-stream-init : goal.loop-stream-init
-loop-stream-init c = (record { rest = refl; zero = refl }, first_stream_gone c.args.list.now.places c.args.list.now.floor c.args.streams.now c.requires)
+loop-stream-init c = (record { rest = refl; zero = refl }, first_gone c.args.list.now.places c.args.list.now.floor c.args.streams.now c.args.kept c.requires)
 
 pub drop_cursor-requires : goal.drop_cursor-requires
 drop_cursor-requires c =
@@ -16,12 +23,32 @@ drop_cursor-requires c =
 
 pub loop-stream-preserved : goal.loop-stream-preserved
 loop-stream-preserved c =
+    let first : Ckpts = c.args.list.now in
+    let streams = c.args.streams.now in
+    let kept = c.args.kept in
     let i = c.loop-stream.stream-index in
-    let s = get_or c.args.streams.now i none in
+    let s : Stream = get_or streams i none in
     let next : suc i ≡ i + 1 = omega arith in
-    let named = numbered_at c.args.list.now.places c.args.list.now.floor c.args.streams.now i none s c.requires c.loop-stream-test.true refl in
-    let places = ap (λ (l : Ckpts). l.places) c.drop_cursor.ensures.places in (
-      same_more c.args.list.now c.loop-stream.list c.drop_cursor.new.self c.loop-stream.invariant.0 (dropped_same c.loop-stream.list c.drop_cursor.new.self s.id named c.drop_cursor.ensures.places),
-      subst (λ n. AreGone c.drop_cursor.new.self.places (drop n c.args.streams.now)) next
-          (subst (λ p. AreGone p (drop (suc i) c.args.streams.now)) (sym places) (gone_next c.loop-stream.list.places c.args.streams.now i none s c.loop-stream-test.true refl c.loop-stream.invariant.1)),
-    )
+    let was = c.loop-stream.invariant in
+    let named = numbered_at first.places first.floor streams i none s c.requires c.loop-stream-test.true refl in
+    elim c.if-stream-kept.branch [
+      | then-stream-kept w ↦
+          let places = w.drop_cursor.ensures.places in
+          subst (λ (l : Ckpts). SameChanges first l × AreGone first.places kept l.places (drop (i + 1) streams)) (sym w.list-is) (
+            same_more first c.loop-stream.list w.drop_cursor.new.self was.0 (dropped_same c.loop-stream.list w.drop_cursor.new.self s.id named places),
+            subst (λ n. AreGone first.places kept w.drop_cursor.new.self.places (drop n streams)) next
+                (subst (λ (p : Places). AreGone first.places kept p (drop (suc i) streams)) (sym (ap (λ (l : Ckpts). l.places) places)) (gone_next first.places kept c.loop-stream.list.places streams i none s c.loop-stream-test.true refl w.if-stream-kept.true was.1)),
+          )
+      | else-stream-kept w ↦ subst (λ (l : Ckpts). SameChanges first l × AreGone first.places kept l.places (drop (i + 1) streams)) (sym w.list-is) (
+        was.0,
+        subst (λ n. AreGone first.places kept c.loop-stream.list.places (drop n streams)) next (gone_past first.places kept c.loop-stream.list.places streams i none s c.loop-stream-test.true refl w.if-stream-kept.false was.1),
+      )
+    ]
+
+pub returns-clause-fed : goal.returns-clause-fed
+returns-clause-fed c =
+    let l : Ckpts = c.loop-stream.list in
+    let was = c.loop-stream.invariant in
+    let all = drop_all c.loop-stream.stream-index c.args.streams.now c.loop-stream-test.false in
+    subst (λ n. CursorsAreStreams l.places n (only_stream c.args.kept c.args.streams.now)) (sym (ap (λ (m : Ckpts). m.floor) was.0.rest))
+    (gone_last c.args.list.now.places c.args.list.now.floor c.args.streams.now c.args.kept l.places c.requires (subst (AreGone c.args.list.now.places c.args.kept l.places) all was.1))
