@@ -1,0 +1,3 @@
+pub mod GivingUp
+pub mod TakingOver
+pub mod Laws
