@@ -1,15 +1,13 @@
 -- what is left where the changes above a seqno go
 use Rattle.std.proofs.Common.{◌≡◌, ℕ, ◌+◌, ◌-◌, ◌<◌, ◌≤◌, Bool, true, false, cond, List, [], ◌∷◌, ◌++◌, refl, ap, sym, ◌∙◌, subst, arith, append-nil}
-use Rattle.std.specs.Prelude.{Option, Some, None, nat_le, not, ◌&&◌, length}
-use Rattle.std.specs.List.{fold, All}
-use Rattle.std.specs.Map.{keys_of, values_of}
-use Rattle.std.specs.Ordering.{is_lt, nat_cmp}
+use Rattle.std.specs.Prelude.{Option, Some, None, nat_le, not, ◌&&◌}
+use Rattle.std.specs.List.{fold}
 use Rattle.std.proofs.lemmas.Slice.Eq.{bytes_eq-Decides}
 use Rattle.vb_calls.specs.declared.span.TheConstants.{MAX_WEIGHT}
 use Rattle.std.specs.Option.{option_map}
 use Rattle.std.specs.Str.{bytes_eq}
 use Rattle.std.proofs.lemmas.Bool.Decides.{nat_tests}
-use Rattle.std.proofs.lemmas.List.Elements.{All-head, All-tail, filter-append}
+use Rattle.std.proofs.lemmas.List.Elements.{filter-append}
 use Rattle.std.proofs.lemmas.List.Sums.{sum_by-cons, sum_by-append}
 use Rattle.vb_types.specs.Histories.{Rises, upto}
 use Rattle.vb_types.specs.declared.change.Change.{Change}
@@ -17,7 +15,7 @@ use Rattle.vb_calls.specs.Spans.{change_weight, is_durable}
 use Rattle.branch_model.specs.Histories.{last_seq}
 use Rattle.branch_model.proofs.Lasts.{rises_filter}
 use Rattle.checkpoint.specs.Checkpoints.{Ckpt, ckpt_last, ckpt_with, cut_to, entered, fits_by, fits_in, item_at, items_weight}
-use Rattle.checkpoint.specs.Finds.{AreNumbered, AreDistinct, Finds, IsMeasured, entries_to}
+use Rattle.checkpoint.specs.Finds.{AreDistinct, Finds, IsMeasured}
 use Rattle.checkpoint.specs.Laws.{CutsTakeBack, FitInTurn}
 use Rattle.checkpoint.proofs.Entered.{entered_last, none_goes, rises_le, same_key}
 
@@ -27,21 +25,8 @@ le_yes a b l = grind (arith, nat_tests)
 le_no : (a b : ℕ) → b < a → nat_le a b ≡ false
 le_no a b l = grind (arith, nat_tests)
 
-not_below : (a b : ℕ) → is_lt (nat_cmp a b) ≡ false → b ≤ a
-not_below a b e = grind (arith, nat_tests)
-
 itself : (a : List ℕ) → bytes_eq a a ≡ true
 itself a = (bytes_eq-Decides a a).1 refl
-
--- the entry behind others goes
-module _ (e : ℕ × Change) where
-  pub values_behind : (es : List (ℕ × Change)) → values_of (es ++ e ∷ []) ≡ values_of es ++ e.1 ∷ []
-  values_behind [] = refl
-  values_behind (x ∷ es) = ap (λ xs. x.1 ∷ xs) (values_behind es)
-
-  numbered_before : (es : List (ℕ × Change)) → AreNumbered (es ++ e ∷ []) → AreNumbered es
-  numbered_before [] h = tt
-  numbered_before (x ∷ es) h = (h.0, numbered_before es h.1)
 
 at_before : (key : List ℕ) (c : Change) (cs : List Change) → item_at key (cs ++ c ∷ []) ≡ None → item_at key cs ≡ None
 at_before key c [] h = refl
@@ -84,69 +69,42 @@ seqs_without : (b : Bool) (o : Option Change) → cond b None (option_map (λ (d
 seqs_without true o = refl
 seqs_without false o = refl
 
--- the finder without the last entry
-pub finds_before : (es fs : List (ℕ × Change)) (e : ℕ × Change) (seqs then : List ℕ → Option ℕ) → Finds fs seqs → fs ≡ es ++ e ∷ [] → ((q : List ℕ) → then q ≡ cond (bytes_eq e.1.key q) None (seqs q)) → Finds es then
-finds_before es fs e seqs then f same told =
-    let values : values_of fs ≡ values_of es ++ e.1 ∷ [] = ap values_of same ∙ values_behind e es in
-    let apart : AreDistinct (values_of es ++ e.1 ∷ []) = subst AreDistinct values f.distinct in
+-- the finder without the last change
+pub finds_before : (cs ds : List Change) (c : Change) (seqs then : List ℕ → Option ℕ) → Finds ds seqs → ds ≡ cs ++ c ∷ [] → ((q : List ℕ) → then q ≡ cond (bytes_eq c.key q) None (seqs q)) → Finds cs then
+finds_before cs ds c seqs then f same told =
+    let apart : AreDistinct (cs ++ c ∷ []) = subst AreDistinct same f.distinct in
     record {
-      numbered = numbered_before e es (subst AreNumbered same f.numbered);
-      distinct = distinct_before e.1 (values_of es) apart;
-      found = λ q. told q ∙ ap (cond (bytes_eq e.1.key q) None) (f.found q ∙ ap (λ cs. option_map (λ (d : Change). d.seq) (item_at q cs)) values)
-          ∙ seqs_without (bytes_eq e.1.key q) (item_at q (values_of es ++ e.1 ∷ [])) ∙ ap (option_map (λ (d : Change). d.seq)) (at_without e.1 q (values_of es) apart);
+      distinct = distinct_before c cs apart;
+      found = λ q. told q ∙ ap (cond (bytes_eq c.key q) None) (f.found q ∙ ap (λ xs. option_map (λ (d : Change). d.seq) (item_at q xs)) same)
+          ∙ seqs_without (bytes_eq c.key q) (item_at q (cs ++ c ∷ [])) ∙ ap (option_map (λ (d : Change). d.seq)) (at_without c q cs apart);
     }
 
--- what the last entry weighs goes
-pub weighs_before : (es fs : List (ℕ × Change)) (e : ℕ × Change) → fs ≡ es ++ e ∷ [] → items_weight (values_of fs) ≡ items_weight (values_of es) + change_weight e.1
-weighs_before es fs e same =
-    let all = ap (λ xs. items_weight (values_of xs)) same ∙ ap items_weight (values_behind e es) in
-    omega (arith, all, sum_by-append change_weight (values_of es) (e.1 ∷ []), sum_by-cons change_weight e.1 [])
+-- what the last change weighs goes
+pub weighs_before : (cs ds : List Change) (c : Change) → ds ≡ cs ++ c ∷ [] → items_weight ds ≡ items_weight cs + change_weight c
+weighs_before cs ds c same =
+    let all = ap items_weight same in
+    omega (arith, all, sum_by-append change_weight cs (c ∷ []), sum_by-cons change_weight c [])
 
--- an entry above a seqno is none of those up to it
-pub to_before : (last : ℕ) (es fs : List (ℕ × Change)) (e : ℕ × Change) → fs ≡ es ++ e ∷ [] → last < e.0 → entries_to last es ≡ entries_to last fs
-to_before last es fs e same l =
+-- a change above a seqno is none of those up to it
+pub to_before : (last : ℕ) (cs ds : List Change) (c : Change) → ds ≡ cs ++ c ∷ [] → last < c.seq → upto cs last ≡ upto ds last
+to_before last cs ds c same l =
     sym (
-    ap (entries_to last) same ∙ filter-append (λ x. nat_le x.0 last) es (e ∷ [])
-    ∙ ap (λ b. entries_to last es ++ cond b (e ∷ []) []) (le_no e.0 last l) ∙ append-nil (entries_to last es)
+    ap (λ xs. upto xs last) same ∙ filter-append (λ x. nat_le x.seq last) cs (c ∷ [])
+    ∙ ap (λ b. upto cs last ++ cond b (c ∷ []) []) (le_no c.seq last l) ∙ append-nil (upto cs last)
     )
-
--- all entries are up to a seqno that no key is above
-pub all_stay : (last s : ℕ) (es : List (ℕ × Change)) → All (λ q. is_lt (nat_cmp s q) ≡ false) (keys_of es) → s ≤ last → entries_to last es ≡ es
-all_stay last s [] h l = refl
-all_stay last s (e ∷ es) h l =
-    let up : e.0 ≤ s = not_below s e.0 (All-head (λ q. is_lt (nat_cmp s q) ≡ false) e.0 (keys_of es) h) in
-    ap (λ b. cond b (e ∷ entries_to last es) (entries_to last es)) (le_yes e.0 last (omega arith))
-    ∙ ap (λ xs. e ∷ xs) (all_stay last s es (All-tail (λ q. is_lt (nat_cmp s q) ≡ false) e.0 (keys_of es) h) l)
-
-pub none_stay : (last : ℕ) (es : List (ℕ × Change)) → (0 < length es → false ≡ true) → entries_to last es ≡ es
-none_stay last [] h = refl
-none_stay last (x ∷ es) h = let z : false ≡ true = h (omega arith) in absurd (cc)
-
-pub values_to : (last : ℕ) (es : List (ℕ × Change)) → AreNumbered es → values_of (entries_to last es) ≡ upto (values_of es) last
-values_to last [] h = refl
-values_to last (e ∷ es) h =
-    let rest = values_to last es h.1 in
-    ap (λ n. values_of (cond (nat_le n last) (e ∷ entries_to last es) (entries_to last es))) h.0
-    ∙ elim (nat_le e.1.seq last) as (λ v. values_of (cond v (e ∷ entries_to last es) (entries_to last es)) ≡ cond v (e.1 ∷ upto (values_of es) last) (upto (values_of es) last)) [
-      | true ↦ ap (λ xs. e.1 ∷ xs) rest
-      | false ↦ rest
-    ]
 
 rises_end : (low high : ℕ) (cs : List Change) → Rises low high cs → Rises low (last_seq low cs) cs
 rises_end low high [] r = omega arith
 rises_end low high (d ∷ ds) r = (r.0, rises_end d.seq high ds r.1)
 
 -- what is kept of what stays
-pub measured_to : (low high w freed last : ℕ) (es fs : List (ℕ × Change)) → AreNumbered es → IsMeasured low high w (values_of es) → fs ≡ entries_to last es → freed + items_weight (values_of fs) ≡ items_weight (values_of es)
-    → last_seq low (upto (values_of es) last) ≡ last → IsMeasured low last (w - freed) (values_of fs)
-measured_to low high w freed last es fs h m same less ends =
-    let values : values_of fs ≡ upto (values_of es) last = ap values_of same ∙ values_to last es h in
-    let all : w ≡ items_weight (values_of es) = m.weighs in
+pub measured_to : (low high w freed last : ℕ) (cs ds : List Change) → IsMeasured low high w cs → ds ≡ upto cs last → freed + items_weight ds ≡ items_weight cs → last_seq low (upto cs last) ≡ last → IsMeasured low last (w - freed) ds
+measured_to low high w freed last cs ds m same less ends =
+    let all : w ≡ items_weight cs = m.weighs in
     let small : w ≤ MAX_WEIGHT = m.light in
     record {
-      ends = sym (ap (last_seq low) values ∙ ends);
-      rises = subst (λ n. Rises low n (values_of fs)) (ap (last_seq low) values ∙ ends)
-          (subst (λ cs. Rises low (last_seq low cs) cs) (sym values) (rises_end low high (upto (values_of es) last) (rises_filter (λ c. nat_le c.seq last) low high (values_of es) m.rises)));
+      ends = sym (ap (last_seq low) same ∙ ends);
+      rises = subst (λ n. Rises low n ds) (ap (last_seq low) same ∙ ends) (subst (λ xs. Rises low (last_seq low xs) xs) (sym same) (rises_end low high (upto cs last) (rises_filter (λ c. nat_le c.seq last) low high cs m.rises)));
       weighs = omega (arith, all, less);
       light = omega (arith, small);
     }

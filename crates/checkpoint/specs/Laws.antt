@@ -1,5 +1,5 @@
 -- what a checkpoint takes in and keeps, in other words
-use Rattle.std.specs.Prelude.{◌≡◌, ◌≢◌, ◌↔◌, ℕ, Bool, true, false, ◌+◌, ◌<◌, ◌≤◌, List, [], ◌∷◌, length}
+use Rattle.std.specs.Prelude.{◌≡◌, ◌≢◌, ◌↔◌, ℕ, Bool, true, false, ◌+◌, ◌<◌, ◌≤◌, List, [], ◌∷◌, ◌++◌, length, Option, None, Some, ◌⊎◌}
 use Rattle.std.specs.List.{fold}
 use Rattle.vb_types.specs.declared.change.Act.{Act}
 use Rattle.vb_types.specs.declared.change.Act.TheVariants as act
@@ -9,6 +9,7 @@ use Rattle.vb_types.specs.declared.doc.Doc.{Doc}
 use Rattle.vb_types.specs.Histories.{Rises, IsIn}
 use Rattle.vb_calls.specs.Spans.{change_weight, is_durable}
 use Rattle.checkpoint.specs.Checkpoints.{Ckpt, ckpt_last, ckpt_with, cut_to, entered, fits_in, items_above}
+use Rattle.checkpoint.specs.Runs.{change_at, changes_there, closed_up, lacking}
 
 -- what a change of this key with this act weighs
 abbrev pub Weighs : List ℕ → Act → ℕ → Type 0
@@ -73,3 +74,30 @@ FitInTurn k (c ∷ cs) = (is_durable c.act ≡ true) × (fits_in true k.items c 
 -- whoever takes parts of durable writes in and cuts back to the last seqno of before has what was there before
 abbrev pub CutsTakeBack : Type 0
 CutsTakeBack = (k : Ckpt) (cs : List Change) → Rises k.above (ckpt_last k) k.items → FitInTurn k cs → cut_to (ckpt_last k) (fold ckpt_with k cs) ≡ k
+
+-- one of these entries has the change
+abbrev pub HasEntry : Change → List (ℕ × Option Change) → Type 0
+HasEntry c [] = ⊥
+HasEntry c (e ∷ es) = (e.1 ≡ Some c) ⊎ HasEntry c es
+
+-- of entries the changes are seen, in their order, and no hole between them; closed up they have no hole, and the same is seen
+pub record SeenAs (es : List (ℕ × Option Change)) : Type 0 where
+  pub seen : (c : Change) → IsIn c (changes_there es) ↔ HasEntry c es
+  pub hole : (seq : ℕ) (fs : List (ℕ × Option Change)) → changes_there (es ++ (seq, None) ∷ fs) ≡ changes_there es ++ changes_there fs
+  pub change : (seq : ℕ) (c : Change) (fs : List (ℕ × Option Change)) → changes_there (es ++ (seq, Some c) ∷ fs) ≡ changes_there es ++ c ∷ changes_there fs
+  pub closed : changes_there (closed_up es) ≡ changes_there es
+  pub full : length (closed_up es) ≡ length (changes_there es)
+
+-- of all entries
+abbrev pub SeenExactly : Type 0
+SeenExactly = (es : List (ℕ × Option Change)) → SeenAs es
+
+-- the one with a seqno is taken, and the others are left; to take it and to put another one behind goes in either order
+pub record TakesAs (seq : ℕ) (cs : List Change) : Type 0 where
+  pub taken : (c : Change) → (change_at seq cs ≡ Some c) ↔ (IsIn c cs × (c.seq ≡ seq))
+  pub left : (c : Change) → IsIn c (lacking seq cs) ↔ (IsIn c cs × (c.seq ≢ seq))
+  pub either : (c : Change) → c.seq ≢ seq → lacking seq (cs ++ c ∷ []) ≡ lacking seq cs ++ c ∷ []
+
+-- from changes that rise
+abbrev pub TakesExactly : Type 0
+TakesExactly = (seq low high : ℕ) (cs : List Change) → Rises low high cs → TakesAs seq cs

@@ -5,10 +5,11 @@ ghost use Rattle.vb_types.specs.Histories.{Rises};
 ghost use Rattle.vb_calls.specs.Spans.{change_weight};
 ghost use Rattle.checkpoint.specs.Checkpoints.{empty_ckpt, ckpt_last, ckpt_with, cut_to, fits_in, item_at, items_above, items_weight, has_seen};
 
-use crate::entries::{copy_after, cut, enter, move_out, replace, sees_after};
+use crate::entries::{cut, enter, replace};
+use crate::run::Run;
 use crate::weights::{is_part_of_durable, weight_of};
 use std::alloc::{AllocError, Global};
-use std::collections::{BTreeMap, HashMap};
+use std::collections::HashMap;
 use std::marker::Model;
 use vb_calls::{MAX_ITEMS, MAX_WEIGHT, Origin};
 use vb_types::{Change, Key, Listed};
@@ -21,7 +22,7 @@ pub struct Checkpoint {
     last: u64,
     origin: Origin,
     /// The changes by their seqnos.
-    changes: BTreeMap<u64, Change>,
+    changes: Run,
     /// The seqno of each key's change.
     seqs: HashMap<Key, u64>,
     /// What the changes weigh.
@@ -30,7 +31,6 @@ pub struct Checkpoint {
 
 impl Model for Checkpoint {
     ghost use Rattle.std.specs.HashMap as hash;
-    ghost use Rattle.std.specs.BTreeMap as tree;
     ghost use Rattle.std.specs.Str.{bytes_eq};
     ghost use Rattle.checkpoint.specs.Checkpoints.{Ckpt};
     ghost use Rattle.checkpoint.specs.Codes.{ckpt_code};
@@ -40,9 +40,9 @@ impl Model for Checkpoint {
 
     ghost coded = { ckpt_code };
 
-    ghost view = { λ k. record { above = k.above; origin = k.origin; items = tree.values k.changes } };
+    ghost view = { λ k. record { above = k.above; origin = k.origin; items = k.changes } };
 
-    ghost invariant = { λ k. Finds k.changes.entries (hash.get bytes_eq k.seqs) × IsMeasured k.above k.last k.weight (tree.values k.changes) };
+    ghost invariant = { λ k. Finds k.changes (hash.get bytes_eq k.seqs) × IsMeasured k.above k.last k.weight k.changes };
 }
 
 impl Checkpoint {
@@ -55,7 +55,7 @@ impl Checkpoint {
             above,
             last: above,
             origin,
-            changes: BTreeMap::new(alloc),
+            changes: Run::new(alloc),
             seqs: HashMap::new(alloc),
             weight: 0,
         }
@@ -94,7 +94,7 @@ impl Checkpoint {
         ensures { option_copied result ≡ item_at key.now self.now.items }
     {
         match self.seqs.get(key) {
-            Some(seq) => self.changes.get(seq),
+            Some(seq) => self.changes.get(*seq),
             None => None,
         }
     }
@@ -151,14 +151,14 @@ impl Checkpoint {
     pub fn items_after(&self, place: u64, items: &mut Listed<Change>) -> Result<(), AllocError>
         ensures { OnOk result (items.new ≡ items.old ++ items_above place self.now.items) }
     {
-        copy_after(&self.changes, place, items)
+        self.changes.copy_after(place, items)
     }
 
     /// Whether a stream at a place sees one of the changes, a `sync` one any and another one sets, removals and commits.
     pub fn has_seen(&self, place: u64, sync: bool) -> bool
         ensures { result ≡ has_seen sync place self.now.items }
     {
-        sees_after(&self.changes, place, sync)
+        self.changes.sees_after(place, sync)
     }
 
     /// Moves all changes behind those of `sealed`. The checkpoint is empty then, above its last change. An `Err` changes nothing.
@@ -181,8 +181,7 @@ impl Checkpoint {
         ensures empty { self.new ≡ empty_ckpt (ckpt_last self.old) self.old.origin }
         ensures light { items_weight self.old.items ≤ MAX_WEIGHT }
     {
-        let changes = std::mem::replace(&mut self.changes, BTreeMap::new(self.alloc));
-        move_out(changes, sealed);
+        self.changes.move_out(sealed);
         self.seqs.clear();
         self.above = self.last;
         self.weight = 0;

@@ -1,5 +1,5 @@
 //! What holds of every checkpoint by its rules, each the contract of a function that does nothing.
-ghost use Rattle.checkpoint.specs.Laws.{AboveExactly, CutsTakeBack, FitsExactly, PutsExactly, WeighsInNumbers};
+ghost use Rattle.checkpoint.specs.Laws.{AboveExactly, CutsTakeBack, FitsExactly, PutsExactly, SeenExactly, TakesExactly, WeighsInNumbers};
 
 /// Which changes enter a checkpoint, and what they weigh.
 pub fn changes_fit()
@@ -20,4 +20,11 @@ pub fn places_are_read()
 /// Parts of durable writes replace nothing, so to cut them off again leaves what was there before them.
 pub fn cuts_take_back()
     ensures { CutsTakeBack }
+{}
+
+/// A hole is not seen, and to close a run up changes nothing that is seen; whoever is taken away is the one
+/// with the seqno, and no other.
+pub fn holes_are_unseen()
+    ensures seen { SeenExactly }
+    ensures taken { TakesExactly }
 {}
