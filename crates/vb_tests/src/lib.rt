@@ -3,6 +3,8 @@
 #![tactic(auto)]
 
 #[cfg(test)]
+mod backfills;
+#[cfg(test)]
 mod durable;
 #[cfg(test)]
 mod keys;

@@ -4,11 +4,11 @@ use std::alloc::{AllocError, Global};
 use std::test::Fail;
 use vb_types::{Act, Change, Doc, Key, Level, Value};
 
-fn key(alloc: Global, bytes: &[u8]) -> Result<Key, Fail> {
+pub fn key(alloc: Global, bytes: &[u8]) -> Result<Key, Fail> {
     Ok(Key::new(alloc, bytes)?.ok_or("key")?)
 }
 
-fn doc(alloc: Global, cas: u64) -> Result<Doc, Fail> {
+pub fn doc(alloc: Global, cas: u64) -> Result<Doc, Fail> {
     Ok(Doc {
         value: Value::new(alloc, b"v")?.ok_or("value")?,
         cas,
@@ -19,7 +19,7 @@ fn doc(alloc: Global, cas: u64) -> Result<Doc, Fail> {
     })
 }
 
-fn prepare(alloc: Global, level: Level, cas: u64) -> Result<Act, Fail> {
+pub fn prepare(alloc: Global, level: Level, cas: u64) -> Result<Act, Fail> {
     Ok(Act::Prepare {
         level,
         doc: doc(alloc, cas)?,
@@ -27,7 +27,7 @@ fn prepare(alloc: Global, level: Level, cas: u64) -> Result<Act, Fail> {
     })
 }
 
-fn commit(alloc: Global, prepared: u64, cas: u64) -> Result<Act, Fail> {
+pub fn commit(alloc: Global, prepared: u64, cas: u64) -> Result<Act, Fail> {
     Ok(Act::Commit {
         prepared,
         doc: doc(alloc, cas)?,

@@ -3,6 +3,7 @@ mod calls;
 mod durable;
 mod refused;
 mod roles;
+mod takeovers;
 
 use calls::{At, Do, Step, Talk, Told, first_other, first_other_of};
 use std::test::Fail;

@@ -55,6 +55,10 @@ pub enum Do {
     Promote(u64),
     Follow,
     Dead,
+    Pend,
+    Own,
+    /// To be given up for the stream of this number.
+    Yield(u64),
     Seal,
     Log,
     Show,
@@ -67,6 +71,8 @@ pub enum Told {
     Absent,
     Nothing,
     Done,
+    /// The call was made, and ended this stream.
+    EndedOne(u64),
     /// The call was made, and ended these two streams.
     Ended(u64, u64),
     /// A durable write was prepared: its seqno, and how many changes were made in all.
@@ -298,6 +304,9 @@ fn plain_call(what: Do) -> VbCall {
         Do::Promote(uuid) => VbCall::Promote { uuid },
         Do::Follow => VbCall::Follow,
         Do::Dead => VbCall::Dead,
+        Do::Pend => VbCall::Pend,
+        Do::Own => VbCall::Own,
+        Do::Yield(id) => VbCall::Yield { id },
         Do::Seal => VbCall::Seal,
         Do::Log => VbCall::Log,
         // `Show`: what takes memory to make has its arm above.
@@ -307,8 +316,10 @@ fn plain_call(what: Do) -> VbCall {
 
 /// What a call told that was made.
 fn done(reply: &VbReply) -> Told {
-    if let [one, other] = reply.ended.as_slice() {
-        return Told::Ended(*one, *other);
+    match reply.ended.as_slice() {
+        [one] => return Told::EndedOne(*one),
+        [one, other] => return Told::Ended(*one, *other),
+        _ => {}
     }
     if let Some(first) = reply.resolved.as_slice().first() {
         return Told::Resolved(reply.changes.as_slice().len(), first.how);

@@ -1,0 +1,3 @@
+pub mod Disks
+pub mod Lasts
+pub mod Views

@@ -1,0 +1,3 @@
+pub mod Backfills
+pub mod Laws
+pub mod Rows
