@@ -19,6 +19,7 @@ use Rattle.branch_model.proofs.Lists.{upto-append, upto_none, rises_le}
 use Rattle.branch_model.proofs.Lasts.{in_filter, kept_in_filter}
 use Rattle.branch_model.proofs.Following.{follows_grow, remains_same, covers_same}
 use Rattle.branch_model.proofs.Branches.{shared_down}
+use Rattle.cluster_model.proofs.Having.{all_below}
 
 -- what lies above a number
 
@@ -198,10 +199,11 @@ stands_carried top g v e n s =
       comes = comes_carried top g v e n n.coming s.comes;
       linked = linked_carried top g v e n n.coming n.link s.linked;
       named = subst (λ x. HasPrepares (x ++ above n.held n.position.ss)) (sym (e.fronts n.br n.position.ss (settled_down g n.br n.position.ss n.position.at b s.settled))) s.named;
+      forked = all_below (hist g.tree n.br) (hist v.tree n.br) n.held (member_fork n) n.position.at (fork_le n b) (sym (e.fronts n.br n.position.at s.settled)) s.forked;
       points = λ p i. let k = s.points p i in let f = fork_le n b in let o : p ≤ member_fork n = k.0 in
-          (k.0, k.1 ∙ ap image_of (sym (e.fronts n.br p (settled_down g n.br p n.position.at (omega arith) s.settled))));
+          (k.0, all_below (hist g.tree n.br) (hist v.tree n.br) n.held p n.position.at (omega arith) (sym (e.fronts n.br n.position.at s.settled)) k.1);
     }
 
 -- a node with other links, or none
 pub stands_unlinked : (g : Ground) (n : Member) (active : Bool) → Stands g n → Stands g (record n { active = active; coming = None; link = None })
-stands_unlinked g n active t = record { rises = t.rises; follows = t.follows; settled = t.settled; ancestry = t.ancestry; comes = tt; linked = tt; named = t.named; points = t.points }
+stands_unlinked g n active t = record { rises = t.rises; follows = t.follows; settled = t.settled; ancestry = t.ancestry; comes = tt; linked = tt; named = t.named; forked = t.forked; points = t.points }

@@ -14,10 +14,11 @@ use Rattle.branch_model.specs.Logs.{AncestryBy, IsFront}
 use Rattle.branch_model.specs.Requests.{fork_of, reach_of}
 use Rattle.branch_model.specs.Journals.{batches, last_log, log_of, place_of, end_of, complete_points, IsPoint}
 use Rattle.cluster_model.specs.Clusters.{Ground, Feed, Member, Disk, above, seated, loaded, front_or, spanned, Settled, Kin, Stands, Exact, Near, Fits, Told, Kept}
-use Rattle.branch_model.proofs.Lists.{upto-upto, upto_down, upto_all, rises_le, rises_upto, from_upto, upto_in, last_in}
+use Rattle.branch_model.proofs.Lists.{upto_down, upto_all, rises_le, rises_upto, from_upto, upto_in, last_in}
 use Rattle.branch_model.proofs.Following.{follows_grow, follows_reach, of_same}
 use Rattle.branch_model.proofs.Journaling.{covered_same, ends_below, no_log}
-use Rattle.cluster_model.proofs.Carrying.{in_above, still_above, settled_down, Extends, stands_carried, start_cases, ss_fork, whole_reach}
+use Rattle.cluster_model.proofs.Carrying.{in_above, still_above, settled_down, Extends, stands_carried, start_cases, fork_at, ss_fork, whole_reach}
+use Rattle.cluster_model.proofs.Having.{all_below, all_kept, all_front}
 use Rattle.branch_model.proofs.Ruling.{reach_cases}
 use Rattle.vb_types.specs.declared.journal.Record.{Record}
 use Rattle.vb_types.specs.declared.journal.Record.TheVariants as noted
@@ -56,6 +57,7 @@ fits_carried top g v e br held p points q st f =
       follows = follows_grow top (hist g.tree br) (hist v.tree br) (above (upto held q.at) q.ss) q.ss q.se q.at (image_of (upto held q.at)) (e.low br) (e.high br) (sym (e.fronts br q.at sq)) (λ c i. e.grown br q.at c sq i) f.follows;
       named = subst (λ x. HasPrepares (x ++ above (upto held q.at) q.ss)) (sym (e.fronts br q.ss (settled_down g br q.ss q.at b sq))) f.named;
       near = near_carried top g v e br held p q sq f.near;
+      forked = all_below (hist g.tree br) (hist v.tree br) held (fork_of q) q.at (fork_at q b) (sym (e.fronts br q.at sq)) f.forked;
       below = f.below;
       marked = f.marked;
     }
@@ -76,6 +78,7 @@ pub fits_moved : (g : Ground) (br : ℕ) (held more : List Change) (p r : Positi
 fits_moved g br held more p r points marks q same la lf lr cases old new f =
     let l : q.at ≤ p.at = f.reached in
     let s : q.ss ≤ fork_of p = f.starts in
+    let b : q.ss ≤ q.at = rises_le q.ss q.at (above (upto held q.at) q.ss) f.follows.rises in
     let e = same q.at l in
     record {
       reached = omega arith;
@@ -83,6 +86,7 @@ fits_moved g br held more p r points marks q same la lf lr cases old new f =
       follows = subst (λ x. Follows (hist g.tree br) q (above x q.ss) (image_of x)) e f.follows;
       named = subst (λ x. HasPrepares (upto (hist g.tree br) q.ss ++ above x q.ss)) e f.named;
       near = near_moved (hist g.tree br) held more p r q e lf lr cases f.near;
+      forked = all_kept (hist g.tree br) held more (fork_of q) (same (fork_of q) (let y = fork_at q b in omega arith)) f.forked;
       below = λ x i m. ⊎_elim (λ j. f.below x j m) (λ j. absurd (omega arith)) (new x i);
       marked = λ c. old q.at (f.marked c);
     }
@@ -114,6 +118,8 @@ pub fits_turned : (g : Ground) (br u : ℕ) (held : List Change) (p : Position) 
     → Fits g br held p points q → Fits g u held p points q
 fits_turned g br u held p points q e lf la f =
     let s : q.ss ≤ fork_of p = f.starts in
+    let l : q.at ≤ p.at = f.reached in
+    let b : q.ss ≤ q.at = rises_le q.ss q.at (above (upto held q.at) q.ss) f.follows.rises in
     let k = turned_follows g br u held p q e lf la f.reached f.starts f.near f.follows in
     record {
       reached = f.reached;
@@ -121,6 +127,7 @@ fits_turned g br u held p points q e lf la f =
       follows = k.0;
       named = subst (λ x. HasPrepares (x ++ above (upto held q.at) q.ss)) (upto_down (hist g.tree br) (hist g.tree u) q.ss (reach_of p) (omega arith) e) f.named;
       near = k.1;
+      forked = all_below (hist g.tree br) (hist g.tree u) held (fork_of q) (reach_of p) (let y = fork_at q b in omega arith) e f.forked;
       below = f.below;
       marked = f.marked;
     }
@@ -140,9 +147,17 @@ fits_self g n t m =
           (λ c. Near.Before (let k = whole_reach p c.0 in let i : fork_of p ≡ p.at = c.1 in omega arith))
           (λ c. Near.Inside (sym c.1) (omega arith))
           (start_cases p.ss p.se p.at);
+      forked = t.forked;
       below = λ x i l. (t.points x i).0;
       marked = m;
     }
+
+-- one that is less far leaves its branch no later
+pub fits_fork : (g : Ground) (n : Member) (q : Position) → Stands g n → Fits g n.br n.held n.position n.points q → fork_of q ≤ fork_of n.position
+fits_fork g n q t f = ⊎_elim
+    (λ c. let e : fork_of q ≡ q.at = c.1 in let l : q.at ≤ fork_of n.position = (t.points q.at (f.marked c.0)).0 in omega arith)
+    (λ c. let e : fork_of q ≡ q.ss = c.1 in let s : q.ss ≤ fork_of n.position = f.starts in omega arith)
+    (start_cases q.ss q.se q.at)
 
 -- a node stands where it could
 pub seat_stands : (g : Ground) (n : Member) (js : List Record) → Stands g n → Fits g n.br n.held n.position n.points (place_of js) → ((x : ℕ) → IsPoint x (complete_points js) → IsPoint x n.points × (x ≤ (place_of js).at))
@@ -150,6 +165,7 @@ pub seat_stands : (g : Ground) (n : Member) (js : List Record) → Stands g n �
 seat_stands g n js t f ps a =
     let q = place_of js in
     let l : q.at ≤ n.position.at = f.reached in
+    let b : q.ss ≤ q.at = rises_le q.ss q.at (above (upto n.held q.at) q.ss) f.follows.rises in
     record {
       rises = rises_upto 0 n.position.at q.at n.held (omega arith) t.rises;
       follows = f.follows;
@@ -158,7 +174,8 @@ seat_stands g n js t f ps a =
       comes = tt;
       linked = tt;
       named = f.named;
-      points = λ x i. let k = ps x i in (f.below x k.0 k.1, ap image_of (upto-upto n.held x q.at k.1) ∙ (t.points x k.0).1);
+      forked = all_front (hist g.tree n.br) n.held (fork_of q) q.at (fork_at q b) f.forked;
+      points = λ x i. let k = ps x i in (f.below x k.0 k.1, all_front (hist g.tree n.br) n.held x q.at k.1 (t.points x k.0).1);
     }
 
 -- a journal goes on to tell a node

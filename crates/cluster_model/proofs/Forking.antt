@@ -14,16 +14,17 @@ use Rattle.branch_model.specs.Trees.{Branch, hist, branch, Shared, Grows}
 use Rattle.vb_types.specs.declared.role.LogEntry.{LogEntry}
 use Rattle.branch_model.specs.Logs.{AncestryBy, Traces, kept_to, with_entry, Lacks}
 use Rattle.branch_model.specs.Requests.{fork_of, reach_of}
-use Rattle.cluster_model.specs.Clusters.{Ground, Feed, Member, Cluster, ground, put, above, member_reach, member_fork, promoted, made, front_or, Move, happens, May, IsGiven, HasRight, Writes, Settled, Kin, Linked, Stands, Exact, Near, Fits, Kept, Leads, SoundCluster}
+use Rattle.cluster_model.specs.Clusters.{Ground, Feed, Member, Cluster, ground, put, above, member_reach, member_fork, promoted, made, front_or, Move, happens, May, IsGiven, HasRight, Writes, Settled, Kin, Linked, HasAll, Stands, Exact, Near, Fits, Kept, Leads, SoundCluster}
 use Rattle.branch_model.proofs.Lists.{in_append, in_left, in_right, from_upto, upto_in, upto-upto, upto-append, upto_none, upto_all, rises_le, rises_higher, rises_upto, rises_append}
 use Rattle.branch_model.proofs.Following.{follows_complete, follows_reach, same_start}
 use Rattle.branch_model.proofs.Images.{plain_stands}
 use Rattle.branch_model.proofs.Branches.{hist_rises, new_from_none, fork_shared, hist_here, hist_there}
 use Rattle.cluster_model.proofs.Prepares.{prepared_upto}
+use Rattle.cluster_model.proofs.Having.{all_same, all_forked, all_of}
 use Rattle.branch_model.proofs.Ruling.{traces_base, traces_keep, reach_cases}
 use Rattle.branch_model.proofs.Lasts.{rises_above}
-use Rattle.cluster_model.proofs.Carrying.{above_none, in_above, still_above, settled_down, kin_down, kin_trans, kin_refl, kin_shared, kin_settled, kin_known, kin_carried, traces_map, Extends, at_forks_carried, at_le, fork_le, whole_fork, whole_reach, start_cases, stands_carried}
-use Rattle.cluster_model.proofs.Fitting.{follows_whole, kept_on}
+use Rattle.cluster_model.proofs.Carrying.{above_none, in_above, still_above, settled_down, kin_down, kin_trans, kin_refl, kin_shared, kin_settled, kin_known, kin_carried, traces_map, Extends, at_forks_carried, at_le, fork_le, ss_le, whole_fork, whole_reach, start_cases, stands_carried}
+use Rattle.cluster_model.proofs.Fitting.{follows_whole, fits_fork, kept_on}
 use Rattle.cluster_model.proofs.Keeping.{put_all, put_both, all_rise}
 use Rattle.cluster_model.proofs.Receiving.{marked_named}
 use Rattle.cluster_model.proofs.Making.{put_here, put_there, forks_carried, leads_carried, kept_carried}
@@ -81,9 +82,9 @@ module _ (h k held : List Change) (p : Position) (l : fork_of p ≤ p.at) (e : k
   promoted_follows q s (Near.Inside a b) f = let x = new_exact q a in (follows_whole h k held q (image_of (upto held q.at)) f (new_front q.ss s) x (new_of q f.of), inr x)
   promoted_follows q s (Near.Whole y) f = let x = keep_exact q y in (follows_whole h k held q (image_of (upto held q.at)) f (new_front q.ss s) x (new_of q f.of), inr x)
 
-pub fits_promoted : (g v : Ground) (br id : ℕ) (held : List Change) (p : Position) (points : List ℕ) (q : Position) → fork_of p ≤ p.at → hist v.tree id ≡ upto (hist g.tree br) (fork_of p) ++ above held (fork_of p) → Rises (fork_of p) p.at (above held (fork_of p))
+pub fits_promoted : (g v : Ground) (br id : ℕ) (held : List Change) (p : Position) (points : List ℕ) (q : Position) → fork_of p ≤ p.at → hist v.tree id ≡ upto (hist g.tree br) (fork_of p) ++ above held (fork_of p) → Rises (fork_of p) p.at (above held (fork_of p)) → fork_of q ≤ fork_of p
     → Fits g br held p points q → Fits v id held (record { ss = p.at; se = p.at; at = p.at }) points q
-fits_promoted g v br id held p points q l e rh f =
+fits_promoted g v br id held p points q l e rh lq f =
     let r : Position = record { ss = p.at; se = p.at; at = p.at } in
     let s : q.ss ≤ fork_of p = f.starts in
     let k = promoted_follows (hist g.tree br) (hist v.tree id) held p l e rh q s f.near f.follows in
@@ -94,6 +95,7 @@ fits_promoted g v br id held p points q l e rh f =
       follows = k.0;
       named = subst (λ x. HasPrepares (x ++ above (upto held q.at) q.ss)) (new_front (hist g.tree br) (hist v.tree id) held p l e rh q.ss s) f.named;
       near = ⊎_elim (λ a. Near.Before (omega arith)) (λ x. Near.Whole x) k.1;
+      forked = all_same (hist g.tree br) (hist v.tree id) held (fork_of q) (new_front (hist g.tree br) (hist v.tree id) held p l e rh (fork_of q) lq) f.forked;
       below = f.below;
       marked = f.marked;
     }
@@ -230,6 +232,16 @@ module _ (top : ℕ) (w : Cluster) (k id : ℕ) (s : SoundCluster top w) (m : Ma
   new_prepared : HasPrepares (hist (made (w.nodes k) id ∷ w.tree) id)
   new_prepared = subst HasPrepares (sym new_hist) (marked_named (ground w) (w.nodes k) (s.stands k) (s.prepared (w.nodes k).br) (member_fork (w.nodes k)) (start_cases (w.nodes k).position.ss (w.nodes k).position.se (w.nodes k).position.at))
 
+  -- it holds all of its branch
+  new_all : HasAll (hist (made (w.nodes k) id ∷ w.tree) id) (w.nodes k).held (w.nodes k).position.at
+  new_all =
+      let n = w.nodes k in
+      let t = s.stands k in
+      let h = hist w.tree n.br in
+      let b : n.position.ss ≤ n.position.at = rises_le n.position.ss n.position.at (above n.held n.position.ss) t.follows.rises in
+      subst (λ x. HasAll x n.held n.position.at) (sym new_hist)
+      (all_forked top n.position.at (member_fork n) h n.held (hist_rises top w.tree n.br s.grows) t.rises fork_at (all_of (member_fork n) n.position.ss h n.held (ss_le n b) t.forked t.follows.of) t.forked)
+
   new_stands : Stands (ground new_world) (promoted (w.nodes k) id)
   unfolding new_world
   new_stands =
@@ -251,9 +263,10 @@ module _ (top : ℕ) (w : Cluster) (k id : ℕ) (s : SoundCluster top w) (m : Ma
         linked = tt;
         named = subst (λ x. HasPrepares (upto (hist tree id) n.position.at ++ x)) (sym (above_none 0 n.position.at n.position.at n.held t.rises (omega arith)))
             (subst HasPrepares (sym (append-nil (upto (hist tree id) n.position.at))) (prepared_upto (hist tree id) n.position.at new_prepared));
+        forked = subst (HasAll (hist tree id) n.held) (sym fv) new_all;
         points = λ p i. let q = t.points p i in let pl : p ≤ f = q.0 in (
           omega arith,
-          q.1 ∙ ap image_of (new_front (hist w.tree n.br) (hist tree id) n.held n.position fork_at new_hist own_rises p pl),
+          all_same (hist w.tree n.br) (hist tree id) n.held p (new_front (hist w.tree n.br) (hist tree id) n.held n.position fork_at new_hist own_rises p pl) q.1,
         );
       }
 
@@ -262,7 +275,7 @@ module _ (top : ℕ) (w : Cluster) (k id : ℕ) (s : SoundCluster top w) (m : Ma
   new_kept =
       let n = w.nodes k in
       kept_on top (ground w) (ground new_world) new_extends n (promoted n id) (s.stands k) new_stands (λ x l. refl) (λ x i. i)
-      (λ q f. fits_promoted (ground w) (ground new_world) n.br id n.held n.position n.points q fork_at new_hist own_rises f)
+      (λ q f. fits_promoted (ground w) (ground new_world) n.br id n.held n.position n.points q fork_at new_hist own_rises (fits_fork (ground w) n q (s.stands k) f) f)
       (λ f. refl) (w.disks k) (s.kept k)
 
   new_leads : Leads (ground new_world) (promoted (w.nodes k) id)

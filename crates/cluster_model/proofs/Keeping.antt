@@ -1,5 +1,5 @@
 -- what a change of one node keeps sound, and what a producer does for a consumer does
-use Rattle.std.proofs.Common.{◌≡◌, ℕ, ◌<◌, ◌≤◌, Bool, true, false, cond, List, [], ◌∷◌, ◌++◌, eqb, refl, ap, sym, ◌∙◌, subst, inl, inr, ⊎_elim, arith}
+use Rattle.std.proofs.Common.{◌≡◌, ℕ, ◌<◌, ◌≤◌, Bool, true, false, cond, List, [], ◌∷◌, ◌++◌, eqb, refl, sym, ◌∙◌, subst, inl, inr, ⊎_elim, arith}
 use Rattle.std.specs.Prelude.{Option, Some, None}
 use Rattle.std.proofs.lemmas.Bool.{cases_lt, eqb-true}
 use Rattle.vb_types.specs.Images.{image_of}
@@ -21,6 +21,7 @@ use Rattle.branch_model.proofs.Ruling.{reach_cases, reach_zero, upper_le, contin
 use Rattle.cluster_model.proofs.Carrying.{settled_down, kin_shared, ancestry_front, at_le, fork_le, stands_unlinked}
 use Rattle.cluster_model.proofs.Fitting.{fits_turned, kept_on, kept_unlinked, stays}
 use Rattle.cluster_model.proofs.Kinship.{kin_adopt}
+use Rattle.cluster_model.proofs.Having.{all_below}
 
 -- another node at k
 
@@ -129,6 +130,7 @@ grant_keeps top w k p s m =
       comes = tt;
       linked = ((kin, lp.front, ancestry_front g b.log b.br b.position.at (member_reach n) b.position.at lp.front tp.settled an, settled_down g b.br n.position.at b.position.at (omega arith) tp.settled), tt, tt);
       named = t.named;
+      forked = t.forked;
       points = t.points;
     })
     (kept_unlinked g n (w.disks k) n.active None v.link (s.kept k)) m.0 (λ u x r. let z : None ≡ Some x = r.0 in cc)
@@ -167,6 +169,7 @@ sent_stands w n p (Some l) items end e tp t m =
       comes = t.comes;
       linked = sent_linked w n p (Some l) items end tp (subst (λ k. Linked (ground w) n n.coming k) e t.linked) m;
       named = t.named;
+      forked = t.forked;
       points = t.points;
     }
 
@@ -208,7 +211,8 @@ adopted_stands g n (Some l) t lk =
       comes = (j.1, inl refl);
       linked = (refl, lk.1, lk.2);
       named = subst (λ x. HasPrepares (x ++ above n.held n.position.ss)) (upto_down (hist g.tree n.br) h n.position.ss (member_reach n) (omega arith) sh) t.named;
-      points = λ x i. let y = t.points x i in let z : x ≤ member_fork n = y.0 in let zf = fork_le n b in (y.0, y.1 ∙ ap image_of (upto_down (hist g.tree n.br) h x (member_reach n) (omega arith) sh));
+      forked = all_below (hist g.tree n.br) h n.held (member_fork n) (member_reach n) (let zf = fork_le n b in omega arith) sh t.forked;
+      points = λ x i. let y = t.points x i in let z : x ≤ member_fork n = y.0 in let zf = fork_le n b in (y.0, all_below (hist g.tree n.br) h n.held x (member_reach n) (omega arith) sh y.1);
     }
 
 adopted_kept : (top : ℕ) (g : Ground) (n : Member) (d : Disk) (k : Option Feed) → ((u : ℕ) → Rises 0 top (hist g.tree u)) → Stands g n → Kept g n d → Linked g n None k → Stands g (adopted n k) → Kept g (adopted n k) d

@@ -1,4 +1,5 @@
 pub mod Prepares
+pub mod Having
 pub mod Taking
 pub mod Backfilling
 pub mod Carrying
@@ -11,5 +12,6 @@ pub mod Making
 pub mod Forking
 pub mod Rising
 pub mod Runs
+pub mod Held
 pub mod Writers
 pub mod Rehearsals

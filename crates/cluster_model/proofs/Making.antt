@@ -10,11 +10,12 @@ use Rattle.branch_model.specs.Histories.{HasPrepares}
 use Rattle.branch_model.specs.Trees.{Branch, hist, longer, grow, Grows, ForksBelow, branch}
 use Rattle.vb_types.specs.declared.role.LogEntry.{LogEntry}
 use Rattle.branch_model.specs.Logs.{Falls}
-use Rattle.cluster_model.specs.Clusters.{Ground, Member, Disk, Cluster, ground, put, above, member_reach, member_fork, owned, spanned, Move, happens, May, IsGiven, Writes, Settled, Fulfils, Stands, Kept, Leads, Forks, SoundCluster}
+use Rattle.cluster_model.specs.Clusters.{Ground, Member, Disk, Cluster, ground, put, above, member_reach, member_fork, owned, spanned, Move, happens, May, IsGiven, Writes, Settled, Fulfils, HasAll, Stands, Kept, Leads, Forks, SoundCluster}
 use Rattle.branch_model.proofs.Lists.{in_left, upto_all, rises_le, rises_push, rises_end}
 use Rattle.branch_model.proofs.Following.{follows_complete, same_start}
 use Rattle.branch_model.proofs.Branches.{hist_rises, grow_below, hist_grow_own, hist_grow_other, branch_grow, grows_grow, differ_grown, hist_end, branch_rises}
 use Rattle.cluster_model.proofs.Prepares.{prepared_push}
+use Rattle.cluster_model.proofs.Having.{all_same, all_kept, all_push}
 use Rattle.cluster_model.proofs.Carrying.{above_none, upto_push, image_push, ancestry_front, Extends, ancestry_carried, fork_le, whole_fork, whole_reach, stands_carried}
 use Rattle.cluster_model.proofs.Fitting.{fits_carried, fits_moved, fits_self, kept_on, kept_spanned}
 use Rattle.cluster_model.proofs.Keeping.{put_all, put_both, writes_put, all_rise}
@@ -151,6 +152,8 @@ module _ (top : ℕ) (w : Cluster) (k : ℕ) (c : Change) (s : SoundCluster top 
       image_push n.held c ∙ ap (λ p. applied p c) own_old ∙ sym (image_push h c) ∙ ap image_of (sym up) in
       let rs = rises_push 0 n.position.at n.held c t.rises (omega arith) in
       let b : n.position.ss ≤ n.position.at = rises_le n.position.ss n.position.at (above n.held n.position.ss) t.follows.rises in
+      let al : HasAll (hist tree n.br) (n.held ++ c ∷ []) c.seq = subst (λ x. HasAll x (n.held ++ c ∷ []) c.seq) (sym own_longer)
+      (all_push n.position.at h n.held c (subst (λ x. Rises 0 x h) (sym lead.tip) (s.tops n.br)) t.rises (omega arith) (subst (HasAll h n.held) (whole_fork n.position (sym lead.se_at)) t.forked)) in
       record {
         rises = rs;
         follows = same_start (hist tree n.br) (above (n.held ++ c ∷ []) c.seq) c.seq c.seq c.seq (image_of (n.held ++ c ∷ [])) (omega arith) refl (above_none 0 c.seq c.seq (n.held ++ c ∷ []) rs (omega arith)) im;
@@ -160,13 +163,11 @@ module _ (top : ℕ) (w : Cluster) (k : ℕ) (c : Change) (s : SoundCluster top 
         linked = tt;
         named = subst (λ x. HasPrepares (upto (hist tree n.br) c.seq ++ x)) (sym (above_none 0 c.seq c.seq (n.held ++ c ∷ []) rs (omega arith)))
             (subst HasPrepares (sym (append-nil (upto (hist tree n.br) c.seq) ∙ up)) own_prepared);
+        forked = subst (HasAll (hist tree n.br) (n.held ++ c ∷ [])) (sym fv) al;
         points = λ p i. ⊎_elim
-            (λ e. (
-              let x : p ≡ c.seq = e in omega arith,
-              ap (λ x. image_of (upto (n.held ++ c ∷ []) x)) e ∙ ap image_of (upto_all 0 c.seq c.seq (n.held ++ c ∷ []) rs (omega arith)) ∙ im ∙ ap (λ x. image_of (upto (hist tree n.br) x)) (sym e),
-            ))
+            (λ e. (let x : p ≡ c.seq = e in omega arith, subst (HasAll (hist tree n.br) (n.held ++ c ∷ [])) (sym e) al))
             (λ j. let q = t.points p j in let pl : p ≤ member_fork n = q.0 in let fl = fork_le n b in
-            (omega arith, ap image_of (upto_push n.held c p (omega arith)) ∙ q.1 ∙ ap image_of (sym (grow_below w.tree n.br c n.br p (omega arith)))))
+            (omega arith, all_kept (hist tree n.br) n.held (n.held ++ c ∷ []) p (sym (upto_push n.held c p (omega arith))) (all_same h (hist tree n.br) n.held p (sym (grow_below w.tree n.br c n.br p (omega arith))) q.1)))
             i;
       }
 

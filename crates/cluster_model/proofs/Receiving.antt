@@ -8,15 +8,16 @@ use Rattle.vb_types.specs.declared.change.Change.{Change}
 use Rattle.vb_types.specs.declared.position.Position.{Position}
 use Rattle.branch_model.specs.Histories.{last_seq, HasPrepares}
 use Rattle.vb_types.specs.Histories.{upto, Rises}
-use Rattle.branch_model.specs.Snapshots.{Remains, Follows, IsComplete}
+use Rattle.branch_model.specs.Snapshots.{HasLast, Remains, Follows, IsComplete}
 use Rattle.branch_model.specs.Trees.{hist}
 use Rattle.branch_model.specs.Logs.{IsFront}
 use Rattle.branch_model.specs.Requests.{effective_se, reach_of, fork_of}
 use Rattle.branch_model.specs.Journals.{IsPoint}
-use Rattle.cluster_model.specs.Clusters.{Ground, Feed, Disk, ground, also_at, marked_by, flight_from, FirstReaches, Linked, Member, Cluster, above, member_reach, member_fork, marked_member, received, spanned_by, Move, happens, IsOpen, IsGiven, May, Settled, Comes, Names, Fulfils, NextNames, Stands, Kept, Flight, SoundCluster}
-use Rattle.branch_model.proofs.Lists.{upto_all, rises_le, rises_upto, rises_append, rises_push}
+use Rattle.cluster_model.specs.Clusters.{Ground, Feed, Disk, ground, also_at, marked_by, flight_from, FirstReaches, Linked, Member, Cluster, above, member_reach, member_fork, marked_member, received, spanned_by, Move, happens, IsOpen, IsGiven, May, Settled, Comes, Names, Fulfils, NextNames, HasAll, Stands, Kept, Flight, SoundCluster}
+use Rattle.branch_model.proofs.Lists.{rises_le, rises_upto, rises_append, rises_push}
 use Rattle.branch_model.proofs.Following.{place, image_append, follows_complete, follows_larger, follows_step, follows_at_start, same_start, nothing_got, remains_step}
 use Rattle.branch_model.proofs.Branches.{hist_rises}
+use Rattle.cluster_model.proofs.Having.{all_kept, all_joined, all_of}
 use Rattle.cluster_model.proofs.Prepares.{prepared_upto, prepared_push, next_fulfils}
 use Rattle.branch_model.proofs.Ruling.{reach_cases}
 use Rattle.cluster_model.proofs.Carrying.{above_none, above_push, upto_push, image_push, settled_down, ancestry_front, start_cases, end_cases, fork_at, ss_fork, whole_fork, fork_le, ss_le}
@@ -73,26 +74,41 @@ old_of_also p points x m l = also_case (eqb p.at p.se)
 also_here : (p : Position) (points : List ℕ) → IsComplete p → IsPoint p.at (also_at p points)
 also_here p points e = subst (λ b. IsPoint p.at (cond b (p.at ∷ points) points)) (sym (eq-eqb p.at p.se e)) (inl refl)
 
-received_points : (top : ℕ) (w : Cluster) (n : Member) (c : Change) → SoundCluster top w → Stands (ground w) n → n.position.at < c.seq → c.seq ≤ n.position.se
+-- what is held where the node would fork then
+received_forked : (top : ℕ) (w : Cluster) (n : Member) (c : Change) → SoundCluster top w → Stands (ground w) n → n.position.at < c.seq → c.seq ≤ n.position.se
     → Follows (hist w.tree n.br) (place n.position.ss n.position.se c.seq) (above (n.held ++ c ∷ []) n.position.ss) (image_of (n.held ++ c ∷ []))
-    → (p : ℕ) → (b : Bool) → eqb c.seq n.position.se ≡ b → IsPoint p (cond b (c.seq ∷ n.points) n.points) → (p ≤ fork_of (place n.position.ss n.position.se c.seq)) × (image_of (upto (n.held ++ c ∷ []) p) ≡ image_of (upto (hist w.tree n.br) p))
-received_points top w n c s t l m f p b e i =
-    let g : Rises 0 top (hist w.tree n.br) = hist_rises top w.tree n.br s.grows in
-    let ss : n.position.ss ≤ n.position.at = rises_le n.position.ss n.position.at (above n.held n.position.ss) t.follows.rises in
-    go b e i (λ j. let k = t.points p j in let pl : p ≤ member_fork n = k.0 in let fl = fork_le n ss in let fs : member_fork n ≡ n.position.ss = not_complete n (omega arith) in let sl = ss_fork (place n.position.ss n.position.se c.seq) (omega arith) in
-    (omega arith, ap image_of (upto_push n.held c p (omega arith)) ∙ k.1))
-    (λ q. follows_complete top (hist w.tree n.br) (above (n.held ++ c ∷ []) n.position.ss) n.position.ss n.position.se c.seq (image_of (n.held ++ c ∷ [])) g f q)
+    → HasAll (hist w.tree n.br) (n.held ++ c ∷ []) (fork_of (place n.position.ss n.position.se c.seq))
+received_forked top w n c s t l m f =
+    let h = hist w.tree n.br in
+    let ss = n.position.ss in
+    let more = n.held ++ c ∷ [] in
+    let low : ss ≤ n.position.at = rises_le ss n.position.at (above n.held ss) t.follows.rises in
+    let before : HasAll h more ss = all_kept h n.held more ss (sym (upto_push n.held c ss (omega arith))) (subst (HasAll h n.held) (not_complete n (omega arith)) t.forked) in
+    ⊎_elim
+    (λ d. subst (HasAll h more) (sym (d.1 ∙ d.0))
+    (all_joined top ss n.position.se h more (hist_rises top w.tree n.br s.grows) (subst (λ x. Rises 0 x more) d.0 (rises_push 0 n.position.at n.held c t.rises l)) (omega arith) (all_of ss ss h more (omega arith) before f.of) before
+    (subst (λ x. HasLast (above more ss) h ss x n.position.se) d.0 f.has)))
+    (λ d. subst (HasAll h more) (sym d.1) before)
+    (start_cases ss n.position.se c.seq)
+
+received_points : (top : ℕ) (w : Cluster) (n : Member) (c : Change) → SoundCluster top w → Stands (ground w) n → n.position.at < c.seq → c.seq ≤ n.position.se → HasAll (hist w.tree n.br) (n.held ++ c ∷ []) (fork_of (place n.position.ss n.position.se c.seq))
+    → (p : ℕ) → (b : Bool) → eqb c.seq n.position.se ≡ b → IsPoint p (cond b (c.seq ∷ n.points) n.points) → (p ≤ fork_of (place n.position.ss n.position.se c.seq)) × HasAll (hist w.tree n.br) (n.held ++ c ∷ []) p
+received_points top w n c s t l m f p b e i = go b e i
   where
-    go : (b : Bool) → eqb c.seq n.position.se ≡ b → IsPoint p (cond b (c.seq ∷ n.points) n.points)
-        → (IsPoint p n.points → (p ≤ fork_of (place n.position.ss n.position.se c.seq)) × (image_of (upto (n.held ++ c ∷ []) p) ≡ image_of (upto (hist w.tree n.br) p)))
-        → (c.seq ≡ n.position.se → image_of (n.held ++ c ∷ []) ≡ image_of (upto (hist w.tree n.br) n.position.se))
-        → (p ≤ fork_of (place n.position.ss n.position.se c.seq)) × (image_of (upto (n.held ++ c ∷ []) p) ≡ image_of (upto (hist w.tree n.br) p))
-    go false e j old new = old j
-    go true e j old new = ⊎_elim
-        (λ x. let q : c.seq ≡ n.position.se = eqb-true c.seq n.position.se e in
-        let fk : fork_of (place n.position.ss n.position.se c.seq) ≡ c.seq = whole_fork (place n.position.ss n.position.se c.seq) q in
-        let y : p ≡ c.seq = x in
-        (omega arith, ap image_of (upto_all 0 c.seq p (n.held ++ c ∷ []) (rises_push 0 n.position.at n.held c t.rises l) (omega arith)) ∙ new q ∙ ap (λ z. image_of (upto (hist w.tree n.br) z)) (sym (y ∙ q))))
+    h : List Change
+    h = hist w.tree n.br
+
+    old : IsPoint p n.points → (p ≤ fork_of (place n.position.ss n.position.se c.seq)) × HasAll h (n.held ++ c ∷ []) p
+    old j =
+        let ss : n.position.ss ≤ n.position.at = rises_le n.position.ss n.position.at (above n.held n.position.ss) t.follows.rises in
+        let k = t.points p j in let pl : p ≤ member_fork n = k.0 in let fl = fork_le n ss in let fs : member_fork n ≡ n.position.ss = not_complete n (omega arith) in let sl = ss_fork (place n.position.ss n.position.se c.seq) (omega arith) in
+        (omega arith, all_kept h n.held (n.held ++ c ∷ []) p (sym (upto_push n.held c p (omega arith))) k.1)
+
+    go : (b : Bool) → eqb c.seq n.position.se ≡ b → IsPoint p (cond b (c.seq ∷ n.points) n.points) → (p ≤ fork_of (place n.position.ss n.position.se c.seq)) × HasAll h (n.held ++ c ∷ []) p
+    go false e j = old j
+    go true e j = ⊎_elim
+        (λ x. let fk : fork_of (place n.position.ss n.position.se c.seq) ≡ c.seq = whole_fork (place n.position.ss n.position.se c.seq) (eqb-true c.seq n.position.se e) in
+        let y : p ≡ c.seq = x in (omega arith, subst (HasAll h (n.held ++ c ∷ [])) (fk ∙ sym x) f))
         old j
 
 received_stands : (top : ℕ) (w : Cluster) (n : Member) (c : Change) (rest : List Change) → SoundCluster top w → Stands (ground w) n → IsFront n.log n.br → Remains (c ∷ rest) (hist w.tree n.br) n.position.at n.position.se → Settled (ground w) n.br n.position.se → last_seq n.position.at (c ∷ rest) ≡ n.position.se → Linked (ground w) n (Some (c ∷ rest)) n.link → Names (image_of n.held) c
@@ -108,6 +124,7 @@ received_stands top w n c rest so s f r se la lk nm =
     subst (λ x. Follows (hist w.tree n.br) (place n.position.ss n.position.se c.seq) x (image_of (n.held ++ c ∷ []))) (sym (above_push n.held c n.position.ss (omega arith)))
     (subst (λ i. Follows (hist w.tree n.br) (place n.position.ss n.position.se c.seq) (above n.held n.position.ss ++ c ∷ []) i) (sym (image_push n.held c))
     (follows_step c rest (hist w.tree n.br) (above n.held n.position.ss) n.position.ss n.position.se n.position.at (image_of n.held) s.follows r)) in
+    let fk = received_forked top w n c so s l m fo in
     record {
       rises = rises_push 0 n.position.at n.held c s.rises l;
       follows = fo;
@@ -116,7 +133,8 @@ received_stands top w n c rest so s f r se la lk nm =
       comes = (f, inr (remains_step c rest (hist w.tree n.br) n.position.at n.position.se r, se, la));
       linked = received_linked g n c rest n.link la q lk;
       named = received_named top w n c rest so s r nm;
-      points = λ p i. received_points top w n c so s l m fo p (eqb c.seq n.position.se) refl i;
+      forked = fk;
+      points = λ p i. received_points top w n c so s l m fk p (eqb c.seq n.position.se) refl i;
     }
 
 receive_moves : (p : Position) (s : ℕ) → p.ss ≤ p.at → p.at < s → s ≤ p.se → (fork_of p ≤ fork_of (record p { at = s })) × (reach_of p ≤ reach_of (record p { at = s })) × ((fork_of (record p { at = s }) ≡ fork_of p) ⊎ (reach_of p ≤ fork_of (record p { at = s })))
@@ -216,6 +234,7 @@ marked_stands top w n l x more s t f e fl re =
     let le : n.position.at ≤ x.0 = rises_le n.position.at x.0 x.1 r.rises in
     let la : last_seq n.position.at x.1 ≡ x.0 = fl.0.reaches in
     let se : Settled g n.br x.0 = subst (λ y. Settled g y x.0) (sym e) fl.1 in
+    let fv : member_fork v ≡ member_fork n = not_complete v fl.0.goes_on in
     let q : member_reach v ≤ x.0 = ⊎_elim (λ c. let y : member_reach v ≡ n.position.at = c.1 in omega arith) (λ c. let y : member_reach v ≡ x.0 = c in omega arith) (reach_cases v.position.ss x.0 n.position.at) in
     record {
       rises = t.rises;
@@ -225,6 +244,7 @@ marked_stands top w n l x more s t f e fl re =
       comes = (f, inr (r, se, la));
       linked = (e, marked_from g l.u n v x.1 x.0 more la refl refl fl.2, first_above g l.u x.0 (member_reach v) more fl.2 q);
       named = marked_named g n t (s.prepared n.br) v.position.ss (start_cases n.position.ss n.position.se n.position.at);
+      forked = subst (HasAll (hist w.tree n.br) n.held) (sym fv) t.forked;
       points = λ p i. let y = t.points p i in let z : p ≤ member_fork n = y.0 in let zf = fork_le n (rises_le n.position.ss n.position.at (above n.held n.position.ss) t.follows.rises) in let o : member_fork n ≤ member_fork v = ss_le v zf in (omega arith, y.1);
     }
 

@@ -1,9 +1,18 @@
 -- runs that may happen, so that what is proved of runs is proved of something
-use Rattle.std.proofs.Common.{◌≡◌, [], ◌∷◌, refl, subst, inl, arith}
+use Rattle.std.proofs.Common.{◌≡◌, ℕ, Bool, true, false, List, [], ◌∷◌, refl, ap, sym, ◌∙◌, subst, inl, ⊎_elim, arith}
+use Rattle.std.specs.Prelude.{Some, None, if◌then◌else◌, ◌&&◌}
+use Rattle.std.specs.Option.{option_or}
+use Rattle.std.specs.Str.{bytes_eq}
+use Rattle.vb_types.specs.Histories.{Slot, last_of}
+use Rattle.vb_types.specs.Images.{image_of}
+unfoldable use Rattle.vb_types.specs.Lasts.{doc_by_last, doc_left}
+use Rattle.vb_types.specs.declared.change.Change.{Change}
 use Rattle.branch_model.specs.Snapshots.{Remains, Covers, slot_lasts}
 use Rattle.branch_model.specs.Trees.{hist}
 use Rattle.cluster_model.specs.Rehearsal.{one, two, three, four, early, later, batch, last, back, handed}
-use Rattle.cluster_model.specs.Clusters.{Cluster, ground, Settled, member_reach, MayAll, run, start}
+use Rattle.cluster_model.specs.Clusters.{Cluster, ground, HasAll, Settled, member_reach, MayAll, run, start}
+use Rattle.vb_types.proofs.Folds.{docs_by_last}
+use Rattle.branch_model.proofs.Images.{plain_stands, same_maps}
 use Rattle.branch_model.proofs.Lasts.{slot_lasts_remain}
 
 pub may_early : MayAll 100 start early
@@ -78,3 +87,34 @@ came_to = (refl, refl)
 -- so nobody may ask that what a position means to reach is there, and settled, on its branch
 pub reach_open : Settled (ground (run (run (run start early) later) back)) 6 (member_reach ((run (run (run start early) later) back).nodes 2)) → ⊥
 reach_open s = let e = came_to in let l = s.1 in omega (arith, e, l)
+
+-- what is held of a small branch
+
+pub enough : HasAll (one ∷ two ∷ three ∷ []) (two ∷ three ∷ []) 3
+unfolding one two three
+enough = slot_lasts_remain 3 (one ∷ two ∷ three ∷ []) 0 3 (omega arith, (omega arith, (omega arith, omega arith))) (omega arith)
+
+-- a removal leaves no document
+none_left : (q : List ℕ) (b : Bool) → bytes_eq (7 ∷ []) q ≡ b → doc_by_last (last_of (Slot.Committed q) (one ∷ two ∷ [])) None ≡ None
+unfolding one two doc_by_last doc_left
+none_left q b e = ap (λ x. doc_by_last (option_or (option_or None (if x && true then Some two else None)) (if x && true then Some one else None)) None) e ∙ by b
+  where
+    by : (x : Bool) → doc_by_last (option_or (option_or None (if x && true then Some two else None)) (if x && true then Some one else None)) None ≡ None
+    by true = refl
+    by false = refl
+
+pub same_documents : (image_of []).docs ≡ (image_of (one ∷ two ∷ [])).docs
+unfolding doc_by_last
+same_documents = same_maps (image_of []).docs (image_of (one ∷ two ∷ [])).docs (λ q. docs_by_last [] q ∙ sym (docs_by_last (one ∷ two ∷ []) q ∙ none_left q (bytes_eq (7 ∷ []) q) refl))
+
+pub too_few : HasAll (one ∷ two ∷ []) [] 2 → ⊥
+unfolding one two
+too_few a = (a.has (Slot.Pending (7 ∷ [])) two refl (omega arith) (omega arith)).1
+
+pub another : HasAll (two ∷ []) (one ∷ two ∷ []) 2 → ⊥
+unfolding one two
+another a =
+    let o = a.of one (inl refl) in
+    let stands : one.seq ≡ o.0.seq = ap (λ (x : Change). x.seq) (plain_stands one o.0 o.2) in
+    let there : 2 ≡ o.0.seq = ⊎_elim (λ e. ap (λ (x : Change). x.seq) (sym e)) (λ none. absurd none) o.1 in
+    omega arith

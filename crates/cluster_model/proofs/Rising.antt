@@ -8,7 +8,7 @@ use Rattle.vb_types.specs.Histories.{upto}
 use Rattle.branch_model.specs.Trees.{Branch, hist, branch}
 use Rattle.vb_types.specs.declared.role.LogEntry.{LogEntry}
 use Rattle.branch_model.specs.Logs.{Falls, FallsByAge, AtForks, IsFront}
-use Rattle.cluster_model.specs.Clusters.{Ground, Feed, Member, Disk, Cluster, ground, put, above, member_reach, member_fork, yielded, risen, ceded, Move, happens, May, IsFedOf, IsGiven, Writes, Joined, Linked, Stands, Kept, Leads, SoundCluster}
+use Rattle.cluster_model.specs.Clusters.{Ground, Feed, Member, Disk, Cluster, ground, put, above, member_reach, member_fork, yielded, risen, ceded, Move, happens, May, IsFedOf, IsGiven, Writes, Joined, Linked, HasAll, Stands, Kept, Leads, SoundCluster}
 use Rattle.branch_model.proofs.Lists.{rises_le}
 use Rattle.branch_model.proofs.Following.{follows_complete, same_start}
 use Rattle.branch_model.proofs.Branches.{hist_rises}
@@ -30,6 +30,7 @@ ceded_stands g n (Some l) high e t =
       comes = t.comes;
       linked = let lk : Linked g n n.coming (Some l) = subst (λ k. Linked g n n.coming k) e t.linked in (joined n.coming lk.0, lk.1, lk.2);
       named = t.named;
+      forked = t.forked;
       points = t.points;
     }
   where
@@ -114,6 +115,7 @@ risen_stands top w n s t f e =
       comes = tt;
       linked = tt;
       named = complete_named g n n.position.at t (s.prepared n.br) (omega arith);
+      forked = subst (HasAll h n.held) (whole_fork n.position e ∙ sym fv) t.forked;
       points = λ x i. let q = t.points x i in let pl : x ≤ member_fork n = q.0 in let fl = fork_le n (rises_le n.position.ss n.position.at (above n.held n.position.ss) t.follows.rises) in (omega arith, q.1);
     }
 

@@ -7,7 +7,7 @@ use Rattle.vb_types.specs.Histories.{upto, Rises}
 use Rattle.branch_model.specs.Histories.{HasPrepares}
 use Rattle.branch_model.specs.Trees.{hist, Grows, Shared, Branch}
 use Rattle.branch_model.specs.Journals.{batches, place_of, end_of, items_of, complete_points, image_at, IsPoint}
-use Rattle.cluster_model.specs.Clusters.{IsBranch, Ground, Member, Cluster, ground, Move, happens, above, member_reach, fresh, blank, loaded, Forks, May, MayAll, run, start, root, Settled, Kin, Stands, Fits, Told, Kept, SoundCluster}
+use Rattle.cluster_model.specs.Clusters.{IsBranch, Ground, Member, Cluster, ground, Move, happens, above, member_reach, fresh, blank, loaded, Forks, May, MayAll, run, start, root, Settled, Kin, HasAll, Stands, Fits, Told, Kept, SoundCluster}
 use Rattle.branch_model.specs.Journals.{found}
 use Rattle.branch_model.specs.Snapshots.{IsComplete, Follows}
 use Rattle.branch_model.specs.Requests.{rule, effective_se}
@@ -17,6 +17,7 @@ use Rattle.branch_model.specs.Logs.{Ancestry, AncestryBy, entry_for}
 use Rattle.vb_types.specs.declared.role.LogEntry.{LogEntry}
 use Rattle.branch_model.proofs.Lists.{upto_none}
 use Rattle.branch_model.proofs.Following.{place, follows_complete, follows_start}
+use Rattle.cluster_model.proofs.Having.{all_none, all_image}
 use Rattle.branch_model.proofs.Branches.{hist_rises}
 use Rattle.branch_model.proofs.Ruling.{named_shared, continue_shared, roll_shared}
 use Rattle.branch_model.proofs.Journaling.{image_at_point, items_image, all_stay}
@@ -88,7 +89,8 @@ start_stands top g gr st =
       comes = tt;
       linked = tt;
       named = subst HasPrepares (sym (ap (λ x. x ++ []) none)) (λ c number doc deleted i e. absurd i);
-      points = λ p i. ⊎_elim (λ e. (omega arith, ap (λ l. image_of l) (sym none ∙ ap (λ x. upto (hist g.tree 0) x) (sym e)))) (λ n. absurd n) i;
+      forked = all_none 0 (hist g.tree 0) [] (omega arith);
+      points = λ p i. ⊎_elim (λ e. (omega arith, subst (HasAll (hist g.tree 0) []) (sym e) (all_none 0 (hist g.tree 0) [] (omega arith)))) (λ n. absurd n) i;
     }
 
 start_kept : (top : ℕ) (g : Ground) → Stands g fresh → Kept g fresh blank
@@ -181,7 +183,8 @@ module _ (top : ℕ) (w : Cluster) (s : SoundCluster top w) where
   point_shown k p i =
       let n = w.nodes k in
       let d = (s.kept k).book in
-      image_at_point n.position.at n.held (w.disks k).book p (s.stands k).rises d.covered i ∙ ((s.stands k).points p (d.among p i)).1
+      image_at_point n.position.at n.held (w.disks k).book p (s.stands k).rises d.covered i
+      ∙ all_image top (hist w.tree n.br) n.held p (hist_rises top w.tree n.br s.grows) ((s.stands k).points p (d.among p i)).1
 
   -- and the image of what was held, at the position that it tells
   place_image : (g : Ground) (n : Member) (js : List Record) → Stands g n → Told g n.br n.held n.position n.points js → image_at js (place_of js).at ≡ image_of (upto n.held (place_of js).at)

@@ -1,5 +1,5 @@
 -- batches, records, rollbacks and crashes keep a cluster sound
-use Rattle.std.proofs.Common.{◌≡◌, ℕ, ◌≤◌, Bool, true, false, cond, List, [], ◌∷◌, ◌++◌, leb, eqb, refl, ap, sym, ◌∙◌, subst, inl, ⊎_elim, arith}
+use Rattle.std.proofs.Common.{◌≡◌, ℕ, ◌≤◌, Bool, true, false, cond, List, [], ◌∷◌, ◌++◌, leb, eqb, refl, ap, sym, subst, inl, ⊎_elim, arith}
 use Rattle.std.specs.Prelude.{Option, Some, None}
 use Rattle.std.specs.List.{filter}
 use Rattle.std.proofs.lemmas.List.{append-nil}
@@ -16,7 +16,7 @@ use Rattle.branch_model.specs.Trees.{hist}
 use Rattle.branch_model.specs.Logs.{AncestryBy, Traces, IsFront, kept_to}
 use Rattle.branch_model.specs.Requests.{fork_of, reach_of}
 use Rattle.branch_model.specs.Journals.{batches, last_log, place_of, end_of, complete_points, IsPoint, Covered}
-use Rattle.cluster_model.specs.Clusters.{Ground, Feed, Member, Disk, Cluster, ground, above, member_reach, member_fork, rolled, seated, loaded, opened, appended, front_or, set_node, Move, happens, MayAppend, MayStand, May, Settled, Kin, Linked, Stands, Near, Fits, Told, Kept, SoundCluster}
+use Rattle.cluster_model.specs.Clusters.{Ground, Feed, Member, Disk, Cluster, ground, above, member_reach, member_fork, rolled, seated, loaded, opened, appended, front_or, set_node, Move, happens, MayAppend, MayStand, May, Settled, Kin, Linked, HasAll, Stands, Near, Fits, Told, Kept, SoundCluster}
 use Rattle.branch_model.specs.Journals.{found}
 use Rattle.branch_model.proofs.Lists.{upto-upto, rises_le, rises_upto}
 use Rattle.branch_model.proofs.Following.{place, same_start}
@@ -24,6 +24,7 @@ use Rattle.branch_model.proofs.Entries.{length_kept, distinct_kept, forks_kept, 
 use Rattle.branch_model.proofs.Ruling.{traces_keep}
 use Rattle.branch_model.proofs.Journaling.{covered_same, covered_cut, cut_below, ends_below, ends_cut, ends_uncut, cut_end, point_in, in_points}
 use Rattle.cluster_model.proofs.Prepares.{prepared_upto}
+use Rattle.cluster_model.proofs.Having.{all_front, all_image}
 use Rattle.cluster_model.proofs.Carrying.{above_none, settled_down, kin_down, kin_trans, kin_refl, kin_sym, kin_shared, kin_settled, ancestry_front, at_le, fork_le, whole_fork, whole_reach, stands_unlinked}
 use Rattle.cluster_model.proofs.Fitting.{fits_self, fits_turned, seat_stands, points_within, stays}
 use Rattle.cluster_model.proofs.Keeping.{node_sound, idle_sound, all_rise, adopted_stands, no_right}
@@ -33,12 +34,12 @@ use Rattle.vb_types.specs.declared.journal.Record.TheVariants as noted
 
 -- fewer numbers
 stands_fewer : (g : Ground) (n : Member) (ps : List ℕ) → ((x : ℕ) → IsPoint x ps → IsPoint x n.points) → Stands g n → Stands g (record n { points = ps })
-stands_fewer g n ps h t = record { rises = t.rises; follows = t.follows; settled = t.settled; ancestry = t.ancestry; comes = t.comes; linked = t.linked; named = t.named; points = λ x i. t.points x (h x i) }
+stands_fewer g n ps h t = record { rises = t.rises; follows = t.follows; settled = t.settled; ancestry = t.ancestry; comes = t.comes; linked = t.linked; named = t.named; forked = t.forked; points = λ x i. t.points x (h x i) }
 
 -- where a node rolls back to
 
-fits_point : (top : ℕ) (g : Ground) (n : Member) (to : ℕ) → ((u : ℕ) → HasPrepares (hist g.tree u)) → Stands g n → IsPoint to n.points → Fits g n.br n.held n.position n.points (place to to to)
-fits_point top g n to pr t i =
+fits_point : (top : ℕ) (g : Ground) (n : Member) (to : ℕ) → ((u : ℕ) → HasPrepares (hist g.tree u)) → ((u : ℕ) → Rises 0 top (hist g.tree u)) → Stands g n → IsPoint to n.points → Fits g n.br n.held n.position n.points (place to to to)
+fits_point top g n to pr r t i =
     let k = t.points to i in
     let l : to ≤ member_fork n = k.0 in
     let b : n.position.ss ≤ n.position.at = rises_le n.position.ss n.position.at (above n.held n.position.ss) t.follows.rises in
@@ -50,17 +51,18 @@ fits_point top g n to pr t i =
     record {
       reached = omega arith;
       starts = l;
-      follows = same_start (hist g.tree n.br) (above (upto n.held to) to) to to to (image_of (upto n.held to)) (omega arith) refl none k.1;
+      follows = same_start (hist g.tree n.br) (above (upto n.held to) to) to to to (image_of (upto n.held to)) (omega arith) refl none (all_image top (hist g.tree n.br) n.held to (r n.br) k.1);
       named = subst (λ x. HasPrepares (upto (hist g.tree n.br) to ++ x)) (sym none) (subst HasPrepares (sym (append-nil (upto (hist g.tree n.br) to))) (prepared_upto (hist g.tree n.br) to (pr n.br)));
       near = Near.Before (omega arith);
+      forked = subst (HasAll (hist g.tree n.br) n.held) (sym fk) k.1;
       below = λ x j m. omega arith;
       marked = λ c. i;
     }
 
-pub rolled_stands : (top : ℕ) (g : Ground) (n : Member) (to : ℕ) → ((u : ℕ) → HasPrepares (hist g.tree u)) → Stands g n → IsPoint to n.points → Stands g (rolled n to)
-rolled_stands top g n to pr t i =
+pub rolled_stands : (top : ℕ) (g : Ground) (n : Member) (to : ℕ) → ((u : ℕ) → HasPrepares (hist g.tree u)) → ((u : ℕ) → Rises 0 top (hist g.tree u)) → Stands g n → IsPoint to n.points → Stands g (rolled n to)
+rolled_stands top g n to pr rs t i =
     let v = rolled n to in
-    let f = fits_point top g n to pr t i in
+    let f = fits_point top g n to pr rs t i in
     let l : to ≤ n.position.at = f.reached in
     let al = at_le n t.follows.within in
     let r : member_reach v ≡ to = whole_reach v.position refl in
@@ -80,8 +82,9 @@ rolled_stands top g n to pr t i =
       comes = tt;
       linked = tt;
       named = f.named;
+      forked = subst (HasAll (hist g.tree n.br) (upto n.held to)) (sym fv) (all_front (hist g.tree n.br) n.held to to (omega arith) (t.points to i).1);
       points = λ x j. let y = point_in to x n.points j in let yl : x ≤ to = y.1 in
-          (omega arith, ap image_of (upto-upto n.held x to yl) ∙ (t.points x y.0).1);
+          (omega arith, all_front (hist g.tree n.br) n.held x to yl (t.points x y.0).1);
     }
 
 module _ (top : ℕ) (g : Ground) (pr : (u : ℕ) → HasPrepares (hist g.tree u)) (r : (u : ℕ) → Rises 0 top (hist g.tree u)) (n : Member) (t : Stands g n) (js : List Record) (d : Told g n.br n.held n.position n.points js) where
@@ -98,11 +101,11 @@ module _ (top : ℕ) (g : Ground) (pr : (u : ℕ) → HasPrepares (hist g.tree u
       record {
         covered = (covered_cut n.held to (batches js) d.covered).0;
         ends = sym (cut_end n.held to (batches js) d.covered i);
-        spot = fits_point top g n to pr t (d.among to i);
+        spot = fits_point top g n to pr r t (d.among to i);
         loads = subst (λ h. Stands g (seated b h (noted.Roll to ∷ js))) (upto-upto n.held to (place_of js).at l)
             (stands_fewer g (rolled (loaded n.br n.held js) to) (complete_points (noted.Roll to ∷ js))
             (λ x j. in_points to x (complete_points js) (ends_uncut to x (batches js) j) (le x j))
-            (rolled_stands top g (loaded n.br n.held js) to pr d.loads i));
+            (rolled_stands top g (loaded n.br n.held js) to pr r d.loads i));
         among = λ x j. d.among x (ends_uncut to x (batches js) j);
         whole = λ c. ends_cut to to (batches js) i (omega arith);
       }
@@ -113,7 +116,7 @@ module _ (top : ℕ) (g : Ground) (pr : (u : ℕ) → HasPrepares (hist g.tree u
       let w = told_rolled to i in
       let m = rolled n to in
       let p = d.among to i in
-      let tv = rolled_stands top g n to pr t p in
+      let tv = rolled_stands top g n to pr r t p in
       record {
         covered = covered_same n.held (upto n.held to) (batches (noted.Roll to ∷ js)) to (λ x q. sym (upto-upto n.held x to q)) (cut_below to (batches js)) w.covered;
         ends = w.ends;
@@ -282,7 +285,7 @@ roll_keeps top w k to s m =
     let kp = s.kept k in
     let v = rolled n to in
     let r = all_rise top w s in
-    idle_sound top w k v (appended d (noted.Roll to)) s (rolled_stands top g n to s.prepared (s.stands k) (kp.book.among to m.1))
+    idle_sound top w k v (appended d (noted.Roll to)) s (rolled_stands top g n to s.prepared r (s.stands k) (kp.book.among to m.1))
     (record {
       book = told_after top g s.prepared r n (s.stands k) d.book kp.book to m.1;
       late = nothing_late g v (noted.Roll to ∷ d.book);

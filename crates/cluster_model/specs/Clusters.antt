@@ -359,6 +359,10 @@ abbrev pub Linked : Ground → Member → Option (List Change) → Option Feed �
 Linked g n o None = Unit {0}
 Linked g n o (Some l) = Joined g n l o × Flight g l.u (flight_from n o) l.flight × FirstReaches (member_reach n) l.flight
 
+-- what is held up to n is a snapshot of h from nothing: only changes of h, and of each slot the last one up to n
+abbrev pub HasAll : List Change → List Change → ℕ → Type 0
+HasAll h held n = Remains (upto held n) h 0 n
+
 -- a node stands on its branch
 pub record Stands (g : Ground) (n : Member) : Type 0 where
   pub rises : Rises 0 n.position.at n.held
@@ -368,7 +372,8 @@ pub record Stands (g : Ground) (n : Member) : Type 0 where
   pub comes : Comes g n n.coming
   pub linked : Linked g n n.coming n.link
   pub named : HasPrepares (upto (hist g.tree n.br) n.position.ss ++ above n.held n.position.ss)
-  pub points : (p : ℕ) → IsPoint p n.points → (p ≤ member_fork n) × (image_of (upto n.held p) ≡ image_of (upto (hist g.tree n.br) p))
+  pub forked : HasAll (hist g.tree n.br) n.held (member_fork n)
+  pub points : (p : ℕ) → IsPoint p n.points → (p ≤ member_fork n) × HasAll (hist g.tree n.br) n.held p
 
 -- all changes of h within the position's snapshot, up to where it got, are held
 abbrev pub Exact : List Change → List Change → Position → Type 0
@@ -387,6 +392,7 @@ pub record Fits (g : Ground) (br : ℕ) (held : List Change) (p : Position) (poi
   pub follows : Follows (hist g.tree br) q (above (upto held q.at) q.ss) (image_of (upto held q.at))
   pub named : HasPrepares (upto (hist g.tree br) q.ss ++ above (upto held q.at) q.ss)
   pub near : Near (hist g.tree br) held p q
+  pub forked : HasAll (hist g.tree br) held (fork_of q)
   pub below : (x : ℕ) → IsPoint x points → x ≤ q.at → x ≤ fork_of q
   pub marked : IsComplete q → IsPoint q.at points
 
