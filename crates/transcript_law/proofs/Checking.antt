@@ -1,6 +1,7 @@
 -- each lawful transcript passes a checker, line by line
 use Rattle.std.proofs.Common.{Bool, List, [], ap, append-nil, arith, false, inl, inr, length, map, refl, subst, sym, true, ℕ, ⊎_elim, ◌+◌, ◌<◌, ◌∙◌, ◌∷◌, ◌≡◌, ◌≤◌}
 use Rattle.std.proofs.lemmas.Bool.Decides.{nat_tests}
+use Rattle.std.proofs.lemmas.Bool.{cases_lt}
 use Rattle.std.specs.FinMap.{get}
 use Rattle.std.specs.Prelude.{◌==◌, if◌then◌else◌, ◌⊎◌, ◌^◌, ◌||◌, Option, Some, None}
 use Rattle.client_session.specs.declared.session.Settings.{Settings}
@@ -33,10 +34,10 @@ use Rattle.vb_types.specs.declared.write.Op.TheVariants as op
 use Rattle.vb_types.specs.declared.write.Write.{Write}
 use Rattle.branch_model.specs.Histories.{last_seq}
 use Rattle.transcript_law.specs.Checked.{AllPass, Checked, CheckedAck, CheckedChange, CheckedCount, CheckedEnd, CheckedFrom, CheckedItem, CheckedLine, CheckedMark, CheckedReply, CheckedShow, IsBacked, OfClient, OfLink, complete_number}
-use Rattle.transcript_law.specs.Chronicles.{Chronicle, Conns, CountsKnown, ItemLine, after_group, after_line, ahead, conns_line, empty_chronicle}
+use Rattle.transcript_law.specs.Chronicles.{Chronicle, Conns, CountsKnown, ItemLine, after_group, after_line, ahead, at_line, conns_line, empty_chronicle}
 use Rattle.transcript_law.specs.ClientStreams.{ClientKnown, ClientStream, stream_view}
 use Rattle.transcript_law.specs.Clients.{Heard}
-use Rattle.transcript_law.specs.LawfulAnswers.{Answers, AnswersFault, FitsBy, FitsDurable, FitsFrame, FitsRequest, IsCommitted, IsStatus, IsWhyRefused, LacksMajority, LawfulReply}
+use Rattle.transcript_law.specs.LawfulAnswers.{serving, Answers, AnswersFault, FitsBy, FitsDurable, FitsFrame, FitsNumbered, FitsRequest, IsCommitted, IsStatus, IsWhyRefused, LacksMajority, LawfulReply}
 use Rattle.transcript_law.specs.LawfulClients.{IsActive, IsPut, LawfulClientEnd, LawfulClientItem, LawfulClientMark, ReachesMeant, StartsAt}
 use Rattle.transcript_law.specs.LawfulMessages.{moment_of}
 use Rattle.transcript_law.specs.Lawfulness.{Fulfils, IsHeldIfCommitted, Lawful, LawfulAcknowledged, LawfulChange, LawfulCounted, LawfulFinish, LawfulFrom, LawfulGroups, LawfulItem, LawfulLine, LawfulMark, LawfulShown, LinesFrom, ShownLine, next_marker_start, reach_after, stream_history}
@@ -45,6 +46,7 @@ use Rattle.transcript_law.specs.Questions.{Question, question_of}
 use Rattle.transcript_law.specs.StreamLaws.{LawfulSaid}
 use Rattle.transcript_law.specs.StreamsTold.{Asking}
 use Rattle.transcript_law.specs.Unanswered.{AsksDurably}
+use Rattle.transcript_law.specs.LinesTold.{OwnChange}
 
 -- ---- changes
 
@@ -176,32 +178,37 @@ of_role (Some (Some role.Replica)) = inr (λ e. cc)
 of_role (Some (Some role.Pending)) = inr (λ e. cc)
 of_role (Some (Some role.Dead)) = inr (λ e. cc)
 
-module _ (Besides : Status → Type 0) (known : Option (Option Role)) (image : Picture) (write : Write) (st : Status) (why : IsWhyRefused Besides known image write st) (besides : Besides st → status_code st ≡ 0 → ⊥) (z : status_code st ≡ 0) where
+module _ (Besides : Status → Type 0) (known : Option (Option Role)) (risen : ℕ) (image : Picture) (write : Write) (st : Status) (why : IsWhyRefused Besides known risen image write st) (besides : Besides st → status_code st ≡ 0 → ⊥) (z : status_code st ≡ 0) where
   of_key : IsActive known → (p : Option Pend) → get image.pending write.key ≡ p → ⊥
-  of_key active (Some p) e = ⊎_elim (λ (one : st ≡ status.SyncWriteInProgress). is_other st status.SyncWriteInProgress (λ q. omega (arith, q)) one z)
-      (λ other. ⊎_elim (λ (two : st ≡ status.SyncWriteReCommitInProgress). is_other st status.SyncWriteReCommitInProgress (λ q. omega (arith, q)) two z) (λ b. besides b z) other) (why.locked active (p, e))
+  of_key active (Some p) e = ⊎_elim
+      (λ own. ⊎_elim (λ (one : st ≡ status.SyncWriteInProgress). is_other st status.SyncWriteInProgress (λ q. omega (arith, q)) one z) (λ b. besides b z) (why.locked active (p, e, own)))
+      (λ left. ⊎_elim (λ (one : st ≡ status.SyncWriteReCommitInProgress). is_other st status.SyncWriteReCommitInProgress (λ q. omega (arith, q)) one z) (λ b. besides b z) (why.left active (p, e, left)))
+      (cases_lt risen p.seq)
   of_key active None e = ⊎_elim (λ d. of_doc write.op write.cas (get image.docs write.key) st d z) (λ b. besides b z) (why.unfit active e)
 
   refused : ⊥
   refused = ⊎_elim (λ active. of_key active (get image.pending write.key) refl) (λ off. is_other st status.NotMyVbucket (λ q. omega (arith, q)) (why.away off) z) (of_role known)
 
 -- of what fits a durable write Success is its commit alone
-module _ (r : Chronicle) (n v : ℕ) (settings : Settings) (write : Write) (f g : Frame) (bytes : List ℕ) (spelled : bytes ≡ spelling g) (success : big_16_at bytes 6 ≡ status_code status.Success) where
+module _ (served : Option (List OwnChange)) (r : Chronicle) (n v : ℕ) (settings : Settings) (write : Write) (f g : Frame) (bytes : List ℕ) (spelled : bytes ≡ spelling g) (success : big_16_at bytes 6 ≡ status_code status.Success) where
   of_status : (st : Status) → (status_code st ≡ 0 → ⊥) → IsStatus f g st → ⊥
   of_status st other is = other (no_success bytes f g st spelled is success)
 
-  committed : FitsDurable r n v settings write f g → IsCommitted n r.made settings f g
-  committed fits = ⊎_elim (λ spent. absurd (of_status status.Etmpfail (λ q. omega (arith, q)) spent)) (λ x. ⊎_elim (λ no.
-      let (st, is, why, first) = no in absurd (refused (LacksMajority (r.counts_at n v).chain (r.held n v)) (r.role_at n v) (image_of (r.held n v)) write st why (of_chain (r.counts_at n v).chain (r.held n v) st) (no_success bytes f g st spelled is success))) (λ y. ⊎_elim (λ is. is) (λ nobody. absurd (of_status status.SyncWriteAmbiguous (λ q. omega (arith, q)) nobody)) y) x) fits
+  committed : FitsDurable served r n v settings write f g → IsCommitted n v served r.made settings write f g
+  committed fits = ⊎_elim (λ no.
+      let (st, is, why, first) = no in absurd (refused (LacksMajority (r.counts_at n v).chain (r.held n v)) (r.role_at n v) (r.counts_at n v).risen (image_of (r.held n v)) write st why (of_chain (r.counts_at n v).chain (r.held n v) st) (no_success bytes f g st spelled is success))) (λ y. ⊎_elim (λ is. is) (λ nobody. absurd (of_status status.SyncWriteAmbiguous (λ q. omega (arith, q)) nobody)) y) fits
 
-answered : (r : Chronicle) (n c : ℕ) (asking : Asking) (bytes : List ℕ) (q : Question) → question_of asking ≡ Some q → AsksDurably asking.settings q.frame → big_16_at bytes 6 ≡ status_code status.Success → Answers r n c asking bytes
-    → (answer : Frame) × (bytes ≡ spelling answer) × IsCommitted n r.made asking.settings q.frame answer
+  with_number : (count : ℕ) → FitsNumbered count f g (FitsDurable served r n v settings write f g) → IsCommitted n v served r.made settings write f g
+  with_number count fits = ⊎_elim (λ spent. absurd (of_status status.Etmpfail (λ q. omega (arith, q)) spent.1)) (λ left. committed left.1) fits
+
+answered : (r : Chronicle) (n c : ℕ) (asking : Asking) (bytes : List ℕ) (q : Question) → question_of asking ≡ Some q → (asks : AsksDurably asking.settings q.frame) → big_16_at bytes 6 ≡ status_code status.Success → Answers r n c asking bytes
+    → (answer : Frame) × (bytes ≡ spelling answer) × IsCommitted n q.frame.vb_or_status (serving r n c asking) r.made asking.settings asks.write q.frame answer
 answered r n c asking bytes q next asks success a =
     let both : Some a.question ≡ Some q = sym a.next ∙ next in let same : a.question ≡ q = cc in
-    let fits : FitsFrame r n (moment_of (r.clients_at n c) asking q) asking.settings q.frame a.answer = subst (λ (p : Question). FitsFrame r n (moment_of (r.clients_at n c) asking p) asking.settings p.frame a.answer) same a.fits in
-    let of_kv : FitsRequest r n asking.settings q.frame a.answer (request_of asking.settings.json q.frame) = subst (λ b. FitsBy b r n (moment_of (r.clients_at n c) asking q) asking.settings q.frame a.answer) asks.own fits in
-    let durable : FitsDurable r n q.frame.vb_or_status asking.settings asks.write q.frame a.answer = subst (FitsRequest r n asking.settings q.frame a.answer) asks.asks of_kv in
-    (a.answer, a.spelled, committed r n q.frame.vb_or_status asking.settings asks.write q.frame a.answer bytes a.spelled success durable)
+    let fits : FitsFrame (serving r n c asking) r n (moment_of (r.clients_at n c) asking q) asking.settings q.frame a.answer = subst (λ (p : Question). FitsFrame (serving r n c asking) r n (moment_of (r.clients_at n c) asking p) asking.settings p.frame a.answer) same a.fits in
+    let of_kv : FitsRequest (serving r n c asking) r n asking.durables asking.settings q.frame a.answer (request_of asking.settings.json q.frame) = subst (λ b. FitsBy b (serving r n c asking) r n (moment_of (r.clients_at n c) asking q) asking.settings q.frame a.answer) asks.own fits in
+    let durable : FitsNumbered asking.durables q.frame a.answer (FitsDurable (serving r n c asking) r n q.frame.vb_or_status asking.settings asks.write q.frame a.answer) = subst (FitsRequest (serving r n c asking) r n asking.durables asking.settings q.frame a.answer) asks.asks of_kv in
+    (a.answer, a.spelled, with_number (serving r n c asking) r n q.frame.vb_or_status asking.settings asks.write q.frame a.answer bytes a.spelled success asking.durables durable)
 
 reply : (r : Chronicle) (n c : ℕ) (bytes : List ℕ) (behind : List Event) → ((r.clients_at n c).told ≡ None → LawfulReply r n c (r.clients_at n c).asking bytes behind) → CheckedReply r n c bytes
 reply r n c bytes behind l question s = ⊎_elim (answered r n c (r.clients_at n c).asking bytes question s.next s.asks s.success)
@@ -262,13 +269,13 @@ all_pass : (r : Chronicle) (script : List ScriptLine) (groups : List Group) → 
 all_pass r [] [] l = tt
 all_pass r (line ∷ lines) [] l = tt
 all_pass r [] (group ∷ groups) l = tt
-all_pass r (line ∷ lines) (group ∷ groups) l = (lines_heard (ahead r line.verb group.answer) r.conn_at group.events l.0.0, all_pass (after_group r line.verb group.events group.answer) lines groups l.1)
+all_pass r (line ∷ lines) (group ∷ groups) l = (lines_heard (ahead (at_line r line.line) line.verb group.answer) r.conn_at group.events l.0.0, all_pass (after_group (at_line r line.line) line.verb group.events group.answer) lines groups l.1)
 
 numbered : (r : Chronicle) (script : List ScriptLine) (groups : List Group) → LawfulGroups r script groups → map (λ (group : Group). group.line) groups ≡ map (λ (line : ScriptLine). line.line) script
 numbered r [] [] l = refl
 numbered r (line ∷ lines) [] l = absurd l
 numbered r [] (group ∷ groups) l = absurd l
-numbered r (line ∷ lines) (group ∷ groups) l = (λ i. l.0.3 i ∷ numbered (after_group r line.verb group.events group.answer) lines groups l.1 i)
+numbered r (line ∷ lines) (group ∷ groups) l = (λ i. l.0.3 i ∷ numbered (after_group (at_line r line.line) line.verb group.events group.answer) lines groups l.1 i)
 
 pub passes : (script : List ScriptLine) (groups : List Group) → Lawful script groups → Checked script groups
 passes script groups l = record { numbered = numbered empty_chronicle script groups l; passes = all_pass empty_chronicle script groups l }

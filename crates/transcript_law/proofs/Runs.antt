@@ -1,20 +1,20 @@
 -- each script's transcript is lawful
 use Rattle.std.specs.Prelude.{◌≡◌, ◌∷◌, ◌++◌, ◌==◌, if◌then◌else◌}
-use Rattle.{branch_model.specs.Journals.{place_of}, transcript_law.specs.Chronicles.{Dial, DiskKnown, Flushing, after_group, after_lines, ahead, conns_lines, conns_verb}, vb_calls.specs.Shelves.{Flush, Idle, Out, Written, Shelf}, vb_types.specs.declared.journal.Batch.{Batch}}
+use Rattle.{branch_model.specs.Journals.{place_of}, transcript_law.specs.Chronicles.{LastLine, Dial, DiskKnown, Flushing, after_group, at_line, after_lines, ahead, conns_lines, conns_verb}, vb_calls.specs.Shelves.{Flush, Idle, Out, Written, Shelf}, vb_types.specs.declared.journal.Batch.{Batch}}
 use Rattle.node_world.specs.{Nodes.{shelf_or_blank}, Rests.{Rests, RestsIf}, Worlds.{arm_in}}
 use Rattle.transcript_law.proofs.{invariant.Agreement.{DiskIsIf, IsArm, PowerIsIf, shelf_of, vb_of}, disks.ArmedSteps.{shut_in}, disks.Disks.{FlushIs, ShelfIs, parts_of, power_in}, disks.Flushed.{told_flush}, verbs.LineAnswers.{AllTold, ArmKnown, DisksTold, ShutTold}}
-use Rattle.transcript_law.proofs.Words.{ℕ, Bool, true, false, List, [], refl, ap, sym, ◌∙◌, subst, arith, Option, Some, None, ne_eqb, All-nil, All-head, All-tail, ScriptLine, Verb}
+use Rattle.transcript_law.proofs.Words.{ℕ, Bool, true, false, List, [], refl, ap, sym, ◌∙◌, subst, arith, Option, Some, None, ne_eqb, All-nil, All-head, All-tail, Answer, Event, ScriptLine, Verb}
 use Rattle.transcript_law.proofs.Words.{VerbFits, ScriptFits, Change, Plain, PlainNode, hist, PlainWorld, empty_world}
 use Rattle.transcript_law.proofs.Words.{with_branches, verb_step, world_step, groups_from, groups, Chronicle, empty_chronicle, after_verb, LawfulGroups, Lawful, RefusedLinesKeep, start_sound}
 use Rattle.transcript_law.proofs.Words.{consumer_node, option_map}
 use Rattle.transcript_law.proofs.{invariant.Seats.{seat}}
 use Rattle.transcript_law.proofs.invariant.Agreement.{ChangeFits, EntryFits, AgreesAt, top, Agrees}
-use Rattle.transcript_law.proofs.{verbs.FiredLines.{DialsTold}, verbs.NodeRows.{client_row_of, link_row, link_row_of, node_row, node_row_of}, verbs.AskingLines.{line_asked}, verbs.Undone.{leaves_none}, verbs.Rows.{AsTold, Row}, verbs.VbRows.{vb_row_of}, invariant.LinkRows.{found_is_link}}
+use Rattle.transcript_law.proofs.{verbs.FiredLines.{DialsTold}, verbs.NodeRows.{client_row_of, link_row, link_row_of, node_row, node_row_of}, verbs.AskingLines.{line_asked}, verbs.BreakLines.{line_breaks}, verbs.StoredLines.{line_next}, verbs.Undone.{leaves_none}, verbs.Rows.{AsTold, Row}, verbs.VbRows.{vb_row_of}, invariant.LinkRows.{found_is_link}}
 use Rattle.transcript_law.proofs.invariant.Ranged.{IsRanged, start_ranged}
 use Rattle.transcript_law.proofs.Words.{StreamName}
 use Rattle.transcript_law.specs.Feeding.{HasFed}
 use Rattle.transcript_law.proofs.{invariant.ClientWorlds.{ConnsAre, start_conns}, invariant.Clients.{line_heard}, lines.Heard.{lines_heard}}
-use Rattle.transcript_law.proofs.{answers.Rests.{all_answered}, indexers.Beside.{beside}}
+use Rattle.transcript_law.proofs.{answers.Rests.{all_answered}, answers.Ended.{group_ended, serves_open}, indexers.Beside.{numbered}, invariant.Begun.{ServesOpen}, indexers.Closing.{begins_of}}
 use Rattle.cluster_model.specs.Clusters as cluster
 use Rattle.transcript_law.specs.LawfulAnswers.{AllDurable}
 
@@ -51,9 +51,10 @@ start = (
     };
     links = λ x i. absurd i;
     differ = tt;
-    clients = record { each = λ n c client e. cc; apart = λ n c v id who has other. let (client, is, opens) = has.1 in cc };
+    clients = record { each = λ n c client e. cc; apart = λ n c v id who has other. let (client, is, opens) = has.1 in cc; owed = record { low = λ n v x p o. absurd o; each = λ n c client e. cc; apart = λ n c d client other is has same. cc } };
     rests = record {
       powers = λ n. refl;
+      clocks = λ n. refl;
       aways = λ n v none. record { position = refl; log = refl; role = refl; book = (refl, refl) };
       downs = λ n v. record { vb_none = λ e. refl; shelf_none = λ e. refl };
       ends = λ link i. absurd i;
@@ -122,46 +123,58 @@ row_of w number (Verb.AtVb n v what) = vb_row_of w n v what
 row_of w number (Verb.AtClient n c what) = client_row_of w number n c what
 row_of w number (Verb.AtLink l what) = link_row_of w l what
 
--- and behind the whole group of a line all agrees
-pub group_agrees : (w : PlainWorld) (r : Chronicle) (number : ℕ) (line : Verb) → VerbFits line → IsRanged w → AllDurable r.made → Agrees w r
-    → (let o = verb_step w number line in Agrees (with_branches o.1.events o.0) (after_group r line o.1.events o.1.answer))
-group_agrees w r number line fits ranged calm a =
-    let o = verb_step w number line in let row : Row w line o = row_of w number line in
-    let went = (row.goes r fits ranged calm a).1 in (
+-- and behind the whole group of a line, which is read behind its number, all agrees
+pub group_agrees : (w : PlainWorld) (r : Chronicle) (number : ℕ) (line : Verb) → VerbFits line → IsRanged w → ConnsAre w r.conn_at → ServesOpen r.last r.conn_at → AllDurable r.made → Agrees w r
+    → (let o = verb_step w number line in Agrees (with_branches o.1.events o.0) (after_group (at_line r number) line o.1.events o.1.answer))
+group_agrees w r number line fits ranged are serves calm a =
+    let o = verb_step w number line in let row : Row w line o = row_of w number line in let r0 : Chronicle = at_line r number in
+    let went = (row.goes r0 fits ranged calm (begins_of w number line r are serves a.1.clients.owed) (numbered w r number a)).1 in (
       went.0,
-      beside (with_branches o.1.events o.0) (after_verb r (after_lines (ahead r line o.1.answer) o.1.events) line o.1.events o.1.answer) (conns_verb (conns_lines r.conn_at o.1.events) line o.1.answer) [] went.0 went.1,
+      group_ended (with_branches o.1.events o.0) (after_verb r0 (after_lines (ahead r0 line o.1.answer) o.1.events) line o.1.events o.1.answer) (conns_verb (conns_lines r.conn_at o.1.events) line o.1.answer) (row.ranged fits ranged) (line_heard r.conn_at w number are line fits).1 went.0 went.1,
     )
+
+-- nothing is entered then but for a connection that is open
+pub group_serves : (r : Chronicle) (number : ℕ) (line : Verb) (lines : List Event) (said : Answer) → (let told = after_group (at_line r number) line lines said in ServesOpen told.last told.conn_at)
+group_serves r number line lines said =
+    let r0 : Chronicle = at_line r number in let read : Chronicle = after_verb r0 (after_lines (ahead r0 line said) lines) line lines said in
+    serves_open read.last read.clients_at read.made (conns_verb (conns_lines r.conn_at lines) line said)
+
+pub start_serves : ServesOpen empty_chronicle.last empty_chronicle.conn_at
+start_serves line e n c shut = let same : record { number = 0; served = λ m d. None } ≡ line = cc in ap (λ (l : LastLine). l.served n c) (sym same)
 
 pub refused_keep : RefusedLinesKeep
 refused_keep w number line why rests said standing = let x = (row_of w number line).keeps rests why said standing in (x.0.0, x.0.1, x.0.2, x.1)
 
-lawful_from : (w : PlainWorld) (r : Chronicle) (script : List ScriptLine) → ScriptFits script → IsRanged w → ConnsAre w r.conn_at → AllDurable r.made → Agrees w r → LawfulGroups r script (groups_from w script)
+lawful_from : (w : PlainWorld) (r : Chronicle) (script : List ScriptLine) → ScriptFits script → IsRanged w → ConnsAre w r.conn_at → ServesOpen r.last r.conn_at → AllDurable r.made → Agrees w r → LawfulGroups r script (groups_from w script)
 unfolding world_step
-lawful_from w r [] fits ranged are calm a = tt
-lawful_from w r (line ∷ lines) fits ranged are calm a =
+lawful_from w r [] fits ranged are serves calm a = tt
+lawful_from w r (line ∷ lines) fits ranged are serves calm a =
     let fit = All-head (λ (x : ScriptLine). VerbFits x.verb) line lines fits in
     let outcome = verb_step w line.line line.verb in
     let row : Row w line.verb outcome = row_of w line.line line.verb in
-    let told : AsTold w r = as_told_of w r are ranged a in
-    let went = row.goes r fit ranged calm a in let heard = line_heard r.conn_at w line.line are line.verb fit in
+    let r0 : Chronicle = at_line r line.line in let a0 : Agrees w r0 = numbered w r line.line a in
+    let told : AsTold w r0 = as_told_of w r0 are ranged a0 in
+    let went = row.goes r0 fit ranged calm (begins_of w line.line line.verb r are serves a.1.clients.owed) a0 in let heard = line_heard r.conn_at w line.line are line.verb fit in
     let later : PlainWorld = with_branches outcome.1.events outcome.0 in
-    let known : Chronicle = after_group r line.verb outcome.1.events outcome.1.answer in
+    let known : Chronicle = after_group r0 line.verb outcome.1.events outcome.1.answer in
     let later_ranged : IsRanged later = row.ranged fit ranged in
-    let later_agrees : Agrees later known = group_agrees w r line.line line.verb fit ranged calm a in (
+    let later_agrees : Agrees later known = group_agrees w r line.line line.verb fit ranged are serves calm a in (
       (
-        lines_heard (ahead r line.verb outcome.1.answer) r.conn_at outcome.1.events went.0 heard.0,
-        row.bound r a (row.told r fit told).0,
-        (row.told r fit told).1,
+        lines_heard (ahead r0 line.verb outcome.1.answer) r.conn_at outcome.1.events went.0 heard.0,
+        row.bound r0 a0 (row.told r0 fit told).0,
+        (row.told r0 fit told).1,
         refl,
         λ why said standing. (row.keeps told.rests why said standing).1,
         row.tells ranged,
-        line_asked w r line.line line.verb ranged a,
-        leaves_none w line.line line.verb r ranged a,
+        line_asked w r0 line.line line.verb ranged a0,
+        leaves_none w line.line line.verb r0 ranged a0,
         all_answered later known later_agrees later_ranged heard.1,
+        line_next w r0 line.line line.verb (row.tells ranged) (line_asked w r0 line.line line.verb ranged a0),
+        line_breaks w r0 ranged a0 line.line line.verb (row.tells ranged) (line_asked w r0 line.line line.verb ranged a0),
       ),
-      lawful_from later known lines (All-tail (λ (x : ScriptLine). VerbFits x.verb) line lines fits) later_ranged heard.1 tt later_agrees,
+      lawful_from later known lines (All-tail (λ (x : ScriptLine). VerbFits x.verb) line lines fits) later_ranged heard.1 (group_serves r line.line line.verb outcome.1.events outcome.1.answer) tt later_agrees,
     )
 
 -- the transcript of a script is lawful
 pub lawful : (script : List ScriptLine) → ScriptFits script → Lawful script (groups script)
-lawful script fits = lawful_from empty_world empty_chronicle script fits start_ranged start_conns tt start
+lawful script fits = lawful_from empty_world empty_chronicle script fits start_ranged start_conns start_serves tt start

@@ -1,5 +1,6 @@
 -- what happens in a client's connection that has streams
 pub mod Known
+pub mod Outcomes
 pub mod Questions
 pub mod Beside
 pub mod Messages
@@ -26,6 +27,7 @@ pub mod Pulled
 pub mod Closing
 pub mod Asked
 pub mod Asking
+pub mod Requests
 pub mod Documents
 pub mod Granting
 pub mod Hands

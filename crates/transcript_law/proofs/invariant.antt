@@ -1,6 +1,10 @@
 pub mod Wholes
+pub mod Lefts
 pub mod Holdings
 pub mod OpenStreams
+pub mod Owing
+pub mod Owed
+pub mod Begun
 pub mod ClientsTold
 pub mod ClientsKept
 pub mod ClientsWritten
@@ -10,6 +14,7 @@ pub mod Agreement
 pub mod AtRest
 pub mod CallsKept
 pub mod Carried
+pub mod Forked
 pub mod Carrying
 pub mod Entering
 pub mod JobSteps
@@ -17,6 +22,7 @@ pub mod Known
 pub mod LinkFeeds
 pub mod LinkRows
 pub mod OneLink
+pub mod Clocking
 pub mod Prefixes
 pub mod Ranged
 pub mod Rearming

@@ -12,3 +12,7 @@ pub mod LinkLines
 pub mod LinkTold
 pub mod DialTold
 pub mod SessionLines
+pub mod Risen
+pub mod Stored
+pub mod StoredSessions
+pub mod Broken

@@ -4,11 +4,14 @@ pub mod AnswerQuestions
 pub mod AnswerReads
 pub mod AnswerWrites
 pub mod AnswerRefusals
+pub mod AnswerLefts
 pub mod AnswerDurables
 pub mod AnswerCommits
 pub mod AnswerGreetings
 pub mod AnswerFaults
 pub mod AnswerLines
+pub mod AnswerNumbers
+pub mod AbortRows
 pub mod Contrary
 pub mod ClosedRows
 pub mod ChangeRows
@@ -60,3 +63,6 @@ pub mod ClientStreamStories
 pub mod ClientStreamTellings
 pub mod ClientStreamVerdicts
 pub mod ClientStreams
+pub mod StoredRows
+pub mod StoredJudged
+pub mod BreakRows

@@ -22,6 +22,7 @@ pub mod Saving
 pub mod Showing
 pub mod Ups
 pub mod Writing
+pub mod Times
 pub mod StartTold
 pub mod RestartCalls
 pub mod Restarting
@@ -42,3 +43,5 @@ pub mod Asking
 pub mod AskingStarts
 pub mod AskingLines
 pub mod Undone
+pub mod StoredLines
+pub mod BreakLines

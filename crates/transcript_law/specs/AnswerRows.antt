@@ -1,5 +1,6 @@
 -- answers to clients, to be judged by hand
-use Rattle.std.specs.Prelude.{ℕ, true, false, List, [], ◌∷◌, Some, None}
+use Rattle.std.specs.Prelude.{ℕ, true, false, List, [], ◌∷◌, map, Some, None}
+use Rattle.branch_model.specs.Histories.{last_seq}
 use Rattle.client_session.specs.declared.session.Settings.{Settings}
 use Rattle.durability.specs.Chains.{Members}
 use Rattle.mcbp_dcp.specs.declared.message.DcpMsg.TheVariants as msg
@@ -19,6 +20,7 @@ use Rattle.vb_events.specs.declared.event.Event.TheVariants as event
 use Rattle.vb_types.specs.declared.change.Act.TheVariants as act
 use Rattle.vb_types.specs.declared.change.Change.{Change}
 use Rattle.vb_types.specs.declared.doc.Doc.{Doc}
+use Rattle.vb_types.specs.declared.role.Role.TheVariants as role
 use Rattle.vb_types.specs.declared.status.Status.{Status}
 use Rattle.transcript_law.specs.BoundRows.{LawfulHere}
 use Rattle.transcript_law.specs.ClientStreamRows.{prepared}
@@ -27,6 +29,7 @@ use Rattle.transcript_law.specs.ClientRows.{nooped}
 use Rattle.transcript_law.specs.ClientStreams.{ClientKnown}
 use Rattle.transcript_law.specs.Crashes.{Said, groups_from_number, numbered}
 use Rattle.transcript_law.specs.Lawfulness.{LawfulFrom, LawfulGroups}
+use Rattle.transcript_law.specs.LinesTold.{Chronicle, OwnChange, after_line, after_lines, known_down}
 use Rattle.transcript_law.specs.Transcripts.{first_doc, one_change, set_frame}
 
 -- ---- what a client asks, with the opaque 9
@@ -49,6 +52,10 @@ writes opcode cas key value = spelling (record (set_frame (key ∷ []) (value �
 -- a SET that is to be durable, at the level of this number
 abbrev pub durably : ℕ → ℕ → ℕ → List ℕ
 durably level key value = spelling (record (set_frame (key ∷ []) (value ∷ [])) { magic = FRAMED_REQUEST; framing = 17 ∷ level ∷ [] })
+
+-- and a DELETE
+abbrev pub durably_removes : ℕ → ℕ → List ℕ
+durably_removes level key = spelling (record (bare_request DELETE 0) { magic = FRAMED_REQUEST; framing = 17 ∷ level ∷ []; key = key ∷ [] })
 
 -- HELLO
 abbrev pub greets : List Feature → List ℕ
@@ -138,6 +145,10 @@ set_at seq = record one_change { seq = seq } ∷ []
 abbrev pub prepared_at : ℕ → List Change
 prepared_at seq = record prepared { seq = seq } ∷ []
 
+-- the prepare of the key 7 waits behind that set
+abbrev pub changing : List Change
+changing = one_change ∷ record prepared { key = 7 ∷ [] } ∷ []
+
 abbrev pub newer_doc : Doc
 newer_doc = record (first_doc 2 (4 ∷ [])) { rev = 2 }
 
@@ -174,9 +185,33 @@ for_seqnos = record { json = false; seqnos = true }
 abbrev pub LawfulTo : List Change → List ℕ → List Event → Type 0
 LawfulTo changes bytes lines = LawfulFrom (serving changes (unopened bytes)) lines
 
+-- its question was so first in an earlier group, which told this prepare of a set of the key 9
+abbrev pub prepared_line : OwnChange
+prepared_line = record { node = 0; vb = 0; branch = 5; change = prepared }
+
+abbrev pub awaiting : Chronicle → Chronicle
+awaiting chronicle = record chronicle { last = Some (record { number = 0; served = λ n c. Some (0, prepared_line ∷ []) }) }
+
+abbrev pub LawfulAwaited : List Change → List ℕ → List Event → Type 0
+LawfulAwaited changes bytes lines = LawfulFrom (awaiting (serving changes (unopened bytes))) lines
+
+abbrev pub LawfulAwaitedBy : Settings → List Change → List ℕ → List Event → Type 0
+LawfulAwaitedBy settings changes bytes lines = LawfulFrom (awaiting (serving changes (with_settings settings bytes))) lines
+
 -- where HELLO set this
 abbrev pub LawfulBy : Settings → List Change → List ℕ → List Event → Type 0
 LawfulBy settings changes bytes lines = LawfulFrom (serving changes (with_settings settings bytes)) lines
+
+-- where so many durable writes of its connection were answered before
+abbrev pub with_count : ℕ → List ℕ → ClientKnown
+with_count count bytes = record (unopened bytes) { asking = record ((unopened bytes).asking) { durables = count } }
+
+abbrev pub LawfulBehind : ℕ → List Change → List ℕ → List Event → Type 0
+LawfulBehind count changes bytes lines = LawfulFrom (serving changes (with_count count bytes)) lines
+
+-- and each vBucket is dead
+abbrev pub LawfulFar : ℕ → List ℕ → List Event → Type 0
+LawfulFar count bytes lines = LawfulFrom (resting [] (with_count count bytes)) lines
 
 -- where its connection was opened for a producer
 abbrev pub LawfulOver : List ℕ → List Event → Type 0
@@ -191,7 +226,20 @@ LawfulUnmade bytes lines = LawfulFrom (record (serving once (unopened bytes)) { 
 
 -- where the chain of each has these other members
 abbrev pub LawfulAmong : Members → List Change → List ℕ → List Event → Type 0
-LawfulAmong others changes bytes lines = LawfulFrom (record (serving changes (unopened bytes)) { counts_at = λ n v. record { chain = others; acks = [] } }) lines
+LawfulAmong others changes bytes lines = LawfulFrom (record (serving changes (unopened bytes)) { counts_at = λ n v. record { chain = others; acks = []; risen = 0; times = [] } }) lines
+
+-- what was read once the vBucket 0 became active on the branch 6 with the first of these changes, and made the others since
+abbrev pub risen_known : List Change → List Change → ClientKnown → Chronicle
+risen_known left since known = record (after_lines (serving left known) (event.Branch 0 0 6 (Some 5) (last_seq 0 left) (last_seq 0 left) ∷ event.Role 0 0 role.Active ∷ map (event.Changed 0 0 6) since)) { made = [] }
+
+-- there the lines are lawful, where its connection sent these bytes
+abbrev pub LawfulRisen : List Change → List Change → List ℕ → List Event → Type 0
+LawfulRisen left since bytes lines = LawfulFrom (risen_known left since (unopened bytes)) lines
+
+-- and where its node started with these changes, which tells of the branch alone
+abbrev pub LawfulStarted : List Change → List ℕ → List Event → Type 0
+LawfulStarted left bytes lines =
+    LawfulFrom (after_line (record (serving left (unopened bytes)) { role_at = λ n v. Some (Some role.Dead); arm_at = λ n. known_down }) (event.Branch 0 0 6 (Some 5) (last_seq 0 left) (last_seq 0 left))) lines
 
 -- ---- whole lines of a script
 
@@ -202,6 +250,9 @@ comes bytes = verb.AtClient 0 1 (client_verb.Bytes bytes)
 -- where each vBucket holds these changes, and the connection sent these bytes before, this line comes, of which this is told
 abbrev pub LawfulNext : List Change → List ℕ → Verb → Said → Type 0
 LawfulNext changes bytes line said = LawfulHere (serving changes (unopened bytes)) line said
+
+abbrev pub LawfulStill : List Change → List ℕ → Verb → Said → Type 0
+LawfulStill changes bytes line said = LawfulHere (awaiting (serving changes (unopened bytes))) line said
 
 -- so do two lines behind which a wait may be over
 abbrev pub LawfulTicks : List Change → List ℕ → List Said → Type 0

@@ -1,5 +1,9 @@
 -- changes that a vBucket makes of its own, to be judged, by what was read before them
-use Rattle.std.specs.Prelude.{ℕ, ◌-◌, ◌^◌, Bool, true, List, [], ◌∷◌}
+use Rattle.std.specs.Prelude.{ℕ, ◌-◌, ◌^◌, Bool, true, List, [], ◌∷◌, Option}
+use Rattle.script_text.specs.declared.verb.NodeVerb.TheVariants as node_verb
+use Rattle.script_text.specs.declared.verb.VbVerb.TheVariants as vb_verb
+use Rattle.script_text.specs.declared.verb.Verb.{Verb}
+use Rattle.script_text.specs.declared.verb.Verb.TheVariants as verb
 use Rattle.vb_events.specs.declared.event.Event.{Event}
 use Rattle.vb_events.specs.declared.event.Event.TheVariants as event
 use Rattle.vb_types.specs.declared.change.Act.{Act}
@@ -7,8 +11,10 @@ use Rattle.vb_types.specs.declared.change.Act.TheVariants as act
 use Rattle.vb_types.specs.declared.change.Change.{Change}
 use Rattle.vb_types.specs.declared.change.Level.TheVariants as level
 use Rattle.vb_types.specs.declared.doc.Doc.{Doc}
-use Rattle.transcript_law.specs.Chronicles.{Chronicle, after_lines}
+use Rattle.transcript_law.specs.Chronicles.{Chronicle, after_lines, alone}
 use Rattle.transcript_law.specs.Commits.{prepared_known}
+use Rattle.transcript_law.specs.Crashes.{groups_from_number, numbered, ok}
+use Rattle.transcript_law.specs.Lawfulness.{LawfulFrom, LawfulGroups}
 use Rattle.transcript_law.specs.Rollbacks.{after_active}
 use Rattle.transcript_law.specs.Transcripts.{change_line}
 
@@ -35,7 +41,28 @@ removed_known = after_lines set_known (own_lines 2 7 (act.Remove 2 2))
 abbrev pub waiting_known : Chronicle
 waiting_known = prepared_known level.Majority
 
--- and when it gave that prepare up
+-- when a line gives up the prepares of a vBucket, while its node's clock shows so much, and that prepare was made when it showed this
+abbrev pub given_known : Option (ℕ × ℕ) → ℕ → ℕ → Chronicle
+given_known ticks before clock = record waiting_known { ticks = ticks; clock_at = λ n. clock; counts_at = λ n v. record (alone 0) { times = (1, before) ∷ [] } }
+
+-- the prepare is given up then
+abbrev pub abort_lines : List Event
+abort_lines = own_lines 2 9 (act.Abort 1)
+
+abbrev pub Aborts : Option (ℕ × ℕ) → ℕ → ℕ → Type 0
+Aborts ticks before clock = LawfulFrom (given_known ticks before clock) abort_lines
+
+-- the vBucket v of the node 0 gives up what waits too long, behind a line that sets the clock of the node n
+abbrev pub clocks : ℕ → ℕ → Verb
+clocks n nanos = verb.AtNode n (node_verb.Clock nanos)
+
+abbrev pub gives_up : ℕ → Verb
+gives_up v = verb.AtVb 0 v vb_verb.Tick
+
+abbrev pub AbortsBehind : ℕ → ℕ → ℕ → Type 0
+AbortsBehind n nanos v = LawfulGroups waiting_known (numbered 1 (clocks n nanos ∷ gives_up v ∷ [])) (groups_from_number 1 (ok [] ∷ ok abort_lines ∷ []))
+
+-- when it gave that prepare up
 abbrev pub aborted_known : Chronicle
 aborted_known = after_lines waiting_known (own_lines 2 9 (act.Abort 1))
 

@@ -23,9 +23,9 @@ use Rattle.vb_types.specs.declared.stream.StreamAsk.{StreamAsk}
 use Rattle.branch_model.specs.Histories.{last_seq}
 use Rattle.branch_model.specs.Snapshots.{Covers}
 use Rattle.branch_model.specs.Trees.{IsNew}
-use Rattle.transcript_law.specs.Chronicles.{Begun, Chronicle, CountsKnown, Granted, ItemLine, after_group, after_line, ahead, empty_chronicle, stood, stream_branch}
+use Rattle.transcript_law.specs.Chronicles.{Begun, Chronicle, CountsKnown, Granted, ItemLine, after_group, after_line, ahead, at_line, empty_chronicle, stood, stream_branch}
 use Rattle.transcript_law.specs.ClientStreams.{ClientKnown, ClientStream, stream_view, vb_in_header}
-use Rattle.transcript_law.specs.LawfulAnswers.{IsCommitted}
+use Rattle.transcript_law.specs.LawfulAnswers.{IsCommitted, serving}
 use Rattle.transcript_law.specs.LawfulClients.{ReachesFor, StandsBehind}
 use Rattle.transcript_law.specs.Lawfulness.{FollowsStream, IsFarthest, IsFed, IsStream, IsWriter, LawfulAdopt, SavesThirds, SharesWith, branch_image, shown_lines, stream_history}
 use Rattle.transcript_law.specs.Majorities.{IsHeldByMost}
@@ -112,11 +112,11 @@ pub record SaysDurable (known : ClientKnown) (bytes : List ℕ) (question : Ques
   pub long : HEADER_LEN ≤ length bytes
   pub success : big_16_at bytes 6 ≡ status_code status.Success
 
--- such a one tells a commit of its group, with its CAS
+-- such a one tells a commit of its group, with its CAS, which is the commit of that write where the numbers of the script's lines rise
 abbrev pub CheckedReply : Chronicle → ℕ → ℕ → List ℕ → Type 0
 CheckedReply chronicle n c bytes =
-    (question : Question) → SaysDurable (chronicle.clients_at n c) bytes question
-    → (answer : Frame) × (bytes ≡ spelling answer) × IsCommitted n chronicle.made (chronicle.clients_at n c).asking.settings question.frame answer
+    (question : Question) → (says : SaysDurable (chronicle.clients_at n c) bytes question)
+    → (answer : Frame) × (bytes ≡ spelling answer) × IsCommitted n question.frame.vb_or_status (serving chronicle n c (chronicle.clients_at n c).asking) chronicle.made (chronicle.clients_at n c).asking.settings says.asks.write question.frame answer
 
 -- ---- lines
 
@@ -149,7 +149,7 @@ CheckedFrom chronicle (line ∷ behind) = CheckedLine chronicle line behind × C
 
 -- those of each group, as long as there are groups and lines of the script
 abbrev pub AllPass : Chronicle → List ScriptLine → List Group → Type 0
-AllPass chronicle (line ∷ lines) (group ∷ groups) = CheckedFrom (ahead chronicle line.verb group.answer) group.events × AllPass (after_group chronicle line.verb group.events group.answer) lines groups
+AllPass chronicle (line ∷ lines) (group ∷ groups) = CheckedFrom (ahead (at_line chronicle line.line) line.verb group.answer) group.events × AllPass (after_group (at_line chronicle line.line) line.verb group.events group.answer) lines groups
 AllPass chronicle script groups = Unit {0}
 
 -- a whole transcript passes: its groups are as many as the script's lines, and have their numbers; and each of its lines passes

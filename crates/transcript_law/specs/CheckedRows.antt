@@ -9,6 +9,7 @@ use Rattle.vb_types.specs.declared.role.Role.TheVariants as role
 use Rattle.transcript_law.specs.Alone.{first_groups}
 use Rattle.transcript_law.specs.Checked.{CheckedFrom}
 use Rattle.transcript_law.specs.Chronicles.{after_lines}
+use Rattle.transcript_law.specs.AnswerRows.{awaiting}
 use Rattle.transcript_law.specs.ClientAskRows.{serving, unopened}
 use Rattle.transcript_law.specs.ClientStreamRows.{holding, knows, with_streams}
 use Rattle.transcript_law.specs.ClientStreams.{ClientStream}
@@ -30,3 +31,6 @@ PassesPut changes streams lines = CheckedFrom (record (holding changes changes) 
 -- where the client sent these bytes, too
 abbrev pub PassesTo : List Change → List ℕ → List Event → Type 0
 PassesTo changes bytes lines = CheckedFrom (serving changes (unopened bytes)) lines
+
+abbrev pub PassesAwaited : List Change → List ℕ → List Event → Type 0
+PassesAwaited changes bytes lines = CheckedFrom (awaiting (serving changes (unopened bytes))) lines

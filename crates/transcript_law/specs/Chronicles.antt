@@ -29,7 +29,7 @@ pub use Rattle.transcript_law.specs.LinesTold.{ItemLine, Begun, Granted, Dial, O
 pub use Rattle.transcript_law.specs.Clients.{conns_line, conns_lines, conns_verb}
 use Rattle.transcript_law.specs.ClientStreams.{with_client, with_sent_bytes}
 pub use Rattle.transcript_law.specs.ClientStreams.{ClientsKnown, blank_client, clients_line}
-pub use Rattle.transcript_law.specs.LinesTold.{Chronicle, empty_chronicle, with_at, with_id, parent_branch, changes_between, uncounted, after_branch, snap_in_role, after_role, held_more, after_change, is_name, with_stream, is_dial_of, is_stream_of, with_changed}
+pub use Rattle.transcript_law.specs.LinesTold.{Chronicle, LastLine, at_line, with_served, empty_chronicle, with_at, with_id, parent_branch, changes_between, uncounted, after_branch, snap_in_role, after_role, held_more, after_change, is_name, with_stream, is_dial_of, is_stream_of, with_changed}
 pub use Rattle.transcript_law.specs.LinesTold.{with_point, is_dial_at, is_stream_at, after_end, granted, after_ask, stream_branch, with_begun, more_items, with_item, finished, past_next, past_mark, acknowledging, after_take, after_adopt}
 pub use Rattle.transcript_law.specs.LinesTold.{is_dial_for, is_feed_of, after_range, spent, calls_of_append, after_calls, late_record, finds, disk_back, after_roll, with_disk, known_log, after_batch, after_count, after_line, after_lines}
 
@@ -97,8 +97,9 @@ after_crash chronicle n out =
       open_at = with_row chronicle.open_at n (λ v. false);
       snap_at = with_row chronicle.snap_at n (λ v. Some ((place_of (left v).book).ss, (place_of (left v).book).se));
       disk_at = with_row chronicle.disk_at n left;
-      counts_at = with_row chronicle.counts_at n (λ v. alone);
+      counts_at = with_row chronicle.counts_at n (λ v. alone 0);
       arm_at = with_id chronicle.arm_at n known_down;
+      clock_at = with_id chronicle.clock_at n 0;
       dial_of = λ l. if is_dial_at n (chronicle.dial_of l) then None else chronicle.dial_of l;
       stream_of = λ s w. if is_stream_at chronicle n s then None else chronicle.stream_of s w;
       point_of = λ l. if is_dial_at n (chronicle.dial_of l) then None else chronicle.point_of l;
@@ -257,6 +258,11 @@ abbrev pub after_armed : Chronicle → ℕ → ArmKnown → Answer → Chronicle
 after_armed chronicle n arm answer.Ok = record chronicle { arm_at = with_id chronicle.arm_at n (record arm { down = (chronicle.arm_at n).down }) }
 after_armed chronicle n arm other = chronicle
 
+-- a node's clock shows this, unless the line was refused
+abbrev pub after_clock : Chronicle → ℕ → ℕ → Answer → Chronicle
+after_clock chronicle n nanos answer.Ok = record chronicle { clock_at = with_id chronicle.clock_at n nanos }
+after_clock chronicle n nanos other = chronicle
+
 -- a node stops, unless the line was refused
 abbrev pub after_crashed : Chronicle → ℕ → Outcome → Answer → Chronicle
 after_crashed chronicle n out answer.Ok = after_crash chronicle n out
@@ -277,14 +283,15 @@ abbrev pub after_blank : Chronicle → ℕ → ℕ → Answer → Chronicle
 after_blank chronicle n c answer.Ok = record chronicle { clients_at = with_client chronicle.clients_at n c blank_client }
 after_blank chronicle n c other = chronicle
 
--- what a line of the script tells by its answer, before the lines of its group are read, which rest on it: who is a vBucket's chain, what counts as saved, and what a client sent
+-- what a line of the script tells by its answer, before the lines of its group are read, which rest on it: who is a vBucket's chain, what counts as saved, what a client sent, and whose prepares are given up
 abbrev pub ahead : Chronicle → Verb → Answer → Chronicle
 ahead chronicle (verb.AtVb n v (vb_verb.Chain others)) said = after_chain chronicle n v others said
 ahead chronicle (verb.AtVb n v vb_verb.Done) said = after_done chronicle n v said
+ahead chronicle (verb.AtVb n v vb_verb.Tick) said = record chronicle { ticks = Some (n, v) }
 ahead chronicle (verb.AtClient n c (client_verb.Bytes bytes)) said = after_bytes chronicle n c bytes said
 ahead chronicle other said = chronicle
 
--- what a line of the script tells, by the lines of its group and its answer, behind those lines: who dials, which connections of clients begin anew, who is sealed, what was written down, what is to befall a node, and who stops and starts. What was read before the line comes first
+-- what a line of the script tells, by the lines of its group and its answer, behind those lines: who dials, which connections of clients begin anew, who is sealed, what was written down, what is to befall a node, what its clock shows, and who stops and starts. What was read before the line comes first
 abbrev pub after_verb : Chronicle → Chronicle → Verb → List Event → Answer → Chronicle
 after_verb before chronicle (verb.AtVb n v (vb_verb.MakeActive uuid)) lines said = after_made chronicle n v role.Active said
 after_verb before chronicle (verb.AtVb n v vb_verb.MakeReplica) lines said = after_made chronicle n v role.Replica said
@@ -295,6 +302,7 @@ after_verb before chronicle (verb.AtVb n v vb_verb.Follow) lines said = after_no
 after_verb before chronicle (verb.AtVb n v vb_verb.Dead) lines said = after_noted chronicle n v role.Dead said
 after_verb before chronicle (verb.AtVb n v vb_verb.Seal) lines said = after_seal chronicle n v said
 after_verb before chronicle (verb.AtVb n v vb_verb.Save) lines said = after_append chronicle n v (saving (chronicle.disk_at n v)) said
+after_verb before chronicle (verb.AtNode n (node_verb.Clock nanos)) lines said = after_clock chronicle n nanos said
 after_verb before chronicle (verb.AtNode n (node_verb.Stop call out)) lines said = after_armed chronicle n (known_stop call out) said
 after_verb before chronicle (verb.AtNode n (node_verb.Fail call)) lines said = after_armed chronicle n (known_fail call) said
 after_verb before chronicle (verb.AtNode n (node_verb.Crash out)) lines said = after_crashed chronicle n out said
@@ -305,7 +313,7 @@ after_verb before chronicle other lines said = chronicle
 
 -- what is read with a whole group of a line; of the connections of clients and their streams its lines tell, and then the line; and the next group has made no changes yet
 abbrev pub after_group : Chronicle → Verb → List Event → Answer → Chronicle
-after_group chronicle line lines said = record (after_verb chronicle (after_lines (ahead chronicle line said) lines) line lines said) {
-  conn_at = conns_verb (conns_lines chronicle.conn_at lines) line said;
-  made = [];
-}
+after_group chronicle line lines said =
+    let read = after_verb chronicle (after_lines (ahead chronicle line said) lines) line lines said in
+    let conns = conns_verb (conns_lines chronicle.conn_at lines) line said in
+    record read { last = with_served read.last read.clients_at conns read.made; conn_at = conns; made = []; ticks = None }

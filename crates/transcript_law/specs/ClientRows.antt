@@ -27,6 +27,10 @@ opens c = verb.AtClient 0 c client_verb.Open
 abbrev pub sends : ℕ → Verb
 sends c = verb.AtClient 0 c (client_verb.Bytes [])
 
+-- no frame begins so, and the connection closes
+abbrev pub breaks : ℕ → Verb
+breaks c = verb.AtClient 0 c (client_verb.Bytes (1 ∷ []))
+
 -- NOOP of this opaque, and its answer
 abbrev pub noop : ℕ → List ℕ
 noop opaque = spelling (record { magic = REQUEST; opcode = NOOP; datatype = 0; vb_or_status = 0; opaque = opaque; cas = 0; framing = []; extras = []; key = []; value = [] })

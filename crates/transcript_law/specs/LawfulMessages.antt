@@ -29,11 +29,12 @@ IsStatus f g st = IsBare g f.opcode (status_code st) f.opaque
 
 -- ---- when a frame is asked
 
--- what the frames before it set; its connection's stream of the vBucket in its header, as the last line told of it, unless one of those frames closed it; and whether a line told of the frame itself
+-- what the frames before it set; its connection's stream of the vBucket in its header, as the last line told of it, unless one of those frames closed it; whether a line told of the frame itself; and how many durable writes were answered before
 pub record Moment : Type 0 where
   pub setup : Setup
   pub stream : Option ClientStream
   pub told : Bool
+  pub durables : ℕ
 
 -- the bytes from a question on
 abbrev pub bytes_from : Question → List ℕ → List ℕ
@@ -49,6 +50,7 @@ moment_of known asking q = record {
   setup = setup_after asking.setup q.before;
   stream = unclosed (frames_in (in_front (bytes_from q asking.bytes) known.bytes)) known.streams q.frame.vb_or_status;
   told = nat_lt (length known.bytes) (length (bytes_from q asking.bytes));
+  durables = asking.durables;
 }
 
 -- ---- OPEN

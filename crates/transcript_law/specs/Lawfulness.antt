@@ -1,5 +1,5 @@
 -- which transcripts are lawful
-use Rattle.std.specs.Prelude.{◌≡◌, ◌≢◌, ℕ, ◌<◌, ◌≤◌, ◌⊎◌, ◌^◌, ◌-◌, min, Bool, true, false, List, [], ◌∷◌, ◌++◌, length, map, Option, Some, None}
+use Rattle.std.specs.Prelude.{◌≡◌, ◌≢◌, ℕ, ◌<◌, ◌≤◌, ◌⊎◌, ◌+◌, ◌^◌, ◌-◌, min, Bool, true, false, List, [], ◌∷◌, ◌++◌, length, map, Option, Some, None}
 use Rattle.std.specs.FinMap as finite
 use Rattle.std.specs.Option.{option_map}
 use Rattle.vb_types.specs.declared.change.Act.TheVariants as act
@@ -35,6 +35,7 @@ use Rattle.transcript_law.specs.Standing.{TellsIfBegun}
 use Rattle.transcript_law.specs.Tellings.{TellsOf}
 use Rattle.transcript_law.specs.Asked.{TellsAsAsked}
 use Rattle.transcript_law.specs.Undone.{LeavesNone}
+use Rattle.transcript_law.specs.{AnsweredWrites.{AllToldNext}, Breaks.{ClosesAsBroken}}
 use Rattle.transcript_law.specs.Unanswered.{AllAnswered}
 use Rattle.transcript_law.specs.LawfulAnswers.{LawfulReply}
 use Rattle.transcript_law.specs.LawfulClients.{LawfulClientAsk, LawfulClientEnd, LawfulClientItem, LawfulClientMark}
@@ -44,7 +45,7 @@ use Rattle.transcript_law.specs.Clients.{Heard}
 use Rattle.durability.specs.Laws.{HasOne}
 use Rattle.transcript_law.specs.Majorities.{IsHeldByMost}
 use Rattle.transcript_law.specs.OwnChanges.{IsNextChange}
-use Rattle.transcript_law.specs.Chronicles.{Conns, CountsKnown, ahead, conns_line, alone, ItemLine, Begun, Dial, Granted, Idle, Chronicle, empty_chronicle, is_stream_of, stood, stream_branch, after_line, after_group}
+use Rattle.transcript_law.specs.Chronicles.{Conns, CountsKnown, ahead, at_line, conns_line, alone, ItemLine, Begun, Dial, Granted, Idle, Chronicle, empty_chronicle, is_stream_of, stood, stream_branch, after_line, after_group}
 
 -- the history of a branch, if it is known
 abbrev pub known_history : List Branch → Option ℕ → List Change
@@ -125,8 +126,24 @@ Fulfils image c = (prepared : ℕ) (doc : Doc) (deleted : Bool) → c.act ≡ ac
 abbrev pub IsHeldIfCommitted : CountsKnown → ℕ → Picture → Change → Type 0
 IsHeldIfCommitted counts saved image c = (prepared : ℕ) (doc : Doc) (deleted : Bool) → c.act ≡ act.Commit prepared doc deleted → (e : Pend) → finite.get image.pending c.key ≡ Some e → IsHeldByMost counts saved e.seq e.level
 
+-- the time of a durable write may be up, where the clock showed one number as it was prepared, and shows another now: a millisecond is over, or it shows its last number
+abbrev pub IsUp : ℕ → ℕ → Type 0
+IsUp before now = (before + 1000000 ≤ now) ⊎ (now ≡ 2 ^ 64 - 1)
+
+-- a change with this seqno was made when the clock showed so much
+abbrev pub IsMadeAt : ℕ → ℕ → List (ℕ × ℕ) → Type 0
+IsMadeAt seq clock [] = ⊥
+IsMadeAt seq clock (one ∷ more) = ((seq ≡ one.0) × (clock ≡ one.1)) ⊎ IsMadeAt seq clock more
+
+-- a vBucket gives up the prepare of this seqno: the line of the group gives up those of this vBucket whose time is up, and the vBucket made it since it is active, and so long ago that its time may be
+pub record IsGivenUp (chronicle : Chronicle) (n v prepared : ℕ) : Type 0 where
+  pub asked : chronicle.ticks ≡ Some (n, v)
+  pub before : ℕ
+  pub made : IsMadeAt prepared before (chronicle.counts_at n v).times
+  pub up : IsUp before (chronicle.clock_at n)
+
 -- a change is made by its branch's writer, which is not known to be other than active, above all that the branch has, and where any branch was made from this one; it is the next one behind what the vBucket
--- holds; and a commit is of what the vBucket prepared, and a majority of its chain holds
+-- holds; a commit is of what the vBucket prepared, and a majority of its chain holds; and an abort is of what it prepared, and has to give up
 pub record LawfulChange (chronicle : Chronicle) (n v uuid : ℕ) (change : Change) : Type 0 where
   pub active : IsIfKnown (chronicle.role_at n v) (Some Active)
   pub writer : IsWriter chronicle n v uuid
@@ -135,6 +152,7 @@ pub record LawfulChange (chronicle : Chronicle) (n v uuid : ℕ) (change : Chang
   pub made : IsNextChange (chronicle.held n v) change
   pub fulfils : Fulfils (image_of (chronicle.held n v)) change
   pub backed : IsHeldIfCommitted (chronicle.counts_at n v) (chronicle.disk_at n v).saved (image_of (chronicle.held n v)) change
+  pub aborts : (prepared : ℕ) → change.act ≡ act.Abort prepared → IsGivenUp chronicle n v prepared
 
 -- the newest branch of a log, if it has one
 abbrev pub newest_of : List LogEntry → Option ℕ
@@ -151,10 +169,10 @@ pub record LawfulBranch (chronicle : Chronicle) (n v uuid : ℕ) (parent : Optio
   pub last : high ≡ last_seq 0 (chronicle.held n v)
   pub leaves : IsIfKnown (option_map (fork_in high) (chronicle.snap_at n v)) fork
 
--- a vBucket gets a role that it was not known to have, and becomes active where its node alone is the chain, and nothing was counted yet
+-- a vBucket gets a role that it was not known to have, and becomes active where its node alone is the chain, and nothing was counted yet, at the end of what it holds
 pub record LawfulRole (chronicle : Chronicle) (n v : ℕ) (role : Role) : Type 0 where
   pub another : chronicle.role_at n v ≢ Some (Some role)
-  pub anew : role ≡ Active → chronicle.counts_at n v ≡ alone
+  pub anew : role ≡ Active → chronicle.counts_at n v ≡ alone (last_seq 0 (chronicle.held n v))
 
 -- the link l was dialed to the node n for the vBucket v, and for no other
 abbrev pub IsDialed : Chronicle → ℕ → ℕ → ℕ → Type 0
@@ -356,14 +374,18 @@ abbrev pub LinesFrom : Chronicle → Conns → List Event → Type 0
 LinesFrom chronicle conns [] = Unit {0}
 LinesFrom chronicle conns (line ∷ behind) = Heard conns line behind (LawfulLine chronicle line behind) × LinesFrom (after_line chronicle line) (conns_line conns line) behind
 
--- the groups of the lines of a script that come next, one for each, with its number: its lines, its answer, and what both say of arms that fired and of vBuckets that went back; one that was refused where it stood tells of nothing; none tells of anything else than its line may; each tells what its line asked for; none leaves undone what it is for; and none leaves a client without an answer
+-- the group of a line of a script: its number, its lines, its answer, and what both say of arms that fired and of vBuckets that went back; one that was refused where it stood tells of nothing; none tells of anything else than its line may; each tells what its line asked for; none leaves undone what it is for; none leaves a client without an answer; behind each set and each removal its answer stands; and none closes a client's connection but where its bytes break off, or its node ends
+abbrev pub LawfulGroup : Chronicle → ScriptLine → Group → Type 0
+LawfulGroup chronicle line group =
+    LinesFrom (ahead chronicle line.verb group.answer) chronicle.conn_at group.events × IsAnswered chronicle line.verb group.events group.answer × FiresInLine chronicle line.verb group.events group.answer × (group.line ≡ line.line) × TellsIfBegun group.events group.answer × TellsOf line.verb group.events × TellsAsAsked chronicle line.verb group.events group.answer × LeavesNone chronicle line.verb group.events group.answer × AllAnswered (after_group chronicle line.verb group.events group.answer) × AllToldNext group.events × ClosesAsBroken chronicle line.verb group.events
+
+-- the groups of the lines of a script that come next, one for each, read behind the number of its line
 abbrev pub LawfulGroups : Chronicle → List ScriptLine → List Group → Type 0
 LawfulGroups chronicle [] [] = Unit {0}
 LawfulGroups chronicle (line ∷ lines) [] = ⊥
 LawfulGroups chronicle [] (group ∷ groups) = ⊥
 LawfulGroups chronicle (line ∷ lines) (group ∷ groups) =
-    (LinesFrom (ahead chronicle line.verb group.answer) chronicle.conn_at group.events × IsAnswered chronicle line.verb group.events group.answer × FiresInLine chronicle line.verb group.events group.answer × (group.line ≡ line.line) × TellsIfBegun group.events group.answer × TellsOf line.verb group.events × TellsAsAsked chronicle line.verb group.events group.answer × LeavesNone chronicle line.verb group.events group.answer × AllAnswered (after_group chronicle line.verb group.events group.answer))
-    × LawfulGroups (after_group chronicle line.verb group.events group.answer) lines groups
+    LawfulGroup (at_line chronicle line.line) line group × LawfulGroups (after_group (at_line chronicle line.line) line.verb group.events group.answer) lines groups
 
 -- a whole transcript of a script
 abbrev pub Lawful : List ScriptLine → List Group → Type 0

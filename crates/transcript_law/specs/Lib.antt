@@ -6,6 +6,7 @@ pub mod ClientFrames
 pub mod ClientStreams
 pub mod ClientStreamRows
 pub mod ClientAskRows
+pub mod LastLines
 pub mod LawfulClients
 pub mod Pulls
 pub mod Questions
@@ -53,3 +54,7 @@ pub mod Asked
 pub mod AskedRows
 pub mod FeedingRows
 pub mod Balance
+pub mod AnsweredWrites
+pub mod StoredRows
+pub mod Breaks
+pub mod BreakRows

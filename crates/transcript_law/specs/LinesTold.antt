@@ -2,8 +2,6 @@
 use Rattle.std.specs.Prelude.{ℕ, ◌==◌, ◌-◌, ◌&&◌, ◌||◌, if◌then◌else◌, nat_le, nat_lt, Bool, true, false, List, [], ◌∷◌, ◌++◌, drop, Option, Some, None}
 use Rattle.std.specs.Option.{option_map}
 use Rattle.std.specs.List.{filter}
-use Rattle.vb_types.specs.declared.change.Act.{Act}
-use Rattle.vb_types.specs.declared.change.Act.TheVariants as act
 use Rattle.vb_types.specs.declared.change.Change.{Change}
 use Rattle.vb_types.specs.declared.stream.AskAnswer.{AskAnswer}
 use Rattle.vb_types.specs.declared.stream.AskAnswer.TheVariants as ask_answer
@@ -29,6 +27,8 @@ use Rattle.branch_model.specs.Journals.{points}
 use Rattle.durability.specs.Chains.{Members}
 use Rattle.branch_model.specs.Logs.{front, uuid_of, with_entry, kept_to}
 use Rattle.branch_model.specs.Trees.{Branch, grow, hist}
+pub use Rattle.vb_calls.specs.Spans.{is_durable}
+pub use Rattle.transcript_law.specs.LastLines.{Conns, LastLine, OwnChange, number_of, numbered, risen_through, risen_to, served_then, told_for, with_served}
 pub use Rattle.transcript_law.specs.StreamsTold.{Begun, ClientsKnown, ItemLine, blank_client, more_items, with_at, with_id}
 use Rattle.transcript_law.specs.ClientStreams.{clients_line, past_turn, with_clients_of}
 
@@ -50,14 +50,16 @@ pub record Dial : Type 0 where
   pub node : ℕ
   pub vb : ℕ
 
--- what counts where an active vBucket commits: the other members of its chain, and what it counted since it is active there, each of a node, up to a seqno
+-- what counts where an active vBucket commits or gives up: the other members of its chain; what it counted since it is active there, each of a node, up to a seqno; and the last seqno that it held when it became active, up to where the prepares that wait were left by a former active node; and which changes it made of its own since, each by its seqno, and what its node's clock showed then
 pub record CountsKnown : Type 0 where
   pub chain : Members
   pub acks : List (ℕ × ℕ)
+  pub risen : ℕ
+  pub times : List (ℕ × ℕ)
 
--- nobody else does, and nothing was counted
-abbrev pub alone : CountsKnown
-alone = record { chain = []; acks = [] }
+-- nobody else does, nothing was counted and no change was made, of a vBucket that held this seqno last
+abbrev pub alone : ℕ → CountsKnown
+alone at = record { chain = []; acks = []; risen = at; times = [] }
 
 -- a batch of a vBucket: none is on its way; this one was taken, of which lines tell the position and the failover log; one that ends at a seqno was written down, and the vBucket does not count it as saved yet
 pub data Flushing : Type 0 where
@@ -93,25 +95,6 @@ pub record ArmKnown : Type 0 where
   pub out : Outcome
   pub down : Bool
 
--- a change that the vBucket v of the node n made of its own, on its branch
-pub record OwnChange : Type 0 where
-  pub node : ℕ
-  pub vb : ℕ
-  pub branch : ℕ
-  pub change : Change
-
--- a change of a durable write: its client may be answered behind other answers
-abbrev pub is_durable : Act → Bool
-is_durable (act.Set doc) = false
-is_durable (act.Remove cas rev) = false
-is_durable (act.Prepare level doc deleted) = true
-is_durable (act.Commit prepared doc deleted) = true
-is_durable (act.Abort prepared) = true
-
--- the connections of clients that are open, by their nodes and their numbers
-abbrev pub Conns : Type 0
-Conns = ℕ → ℕ → Bool
-
 -- nothing is, and the node is not down
 abbrev pub no_arm : ArmKnown
 no_arm = record { fuse = Off; out = Old; down = false }
@@ -120,13 +103,14 @@ no_arm = record { fuse = Off; out = Old; down = false }
 abbrev pub known_down : ArmKnown
 known_down = record { fuse = Off; out = Old; down = true }
 
--- the branches, the newest first; the role of a vBucket of a node, where it is known, which is none before it is made; the changes that it holds, the
+-- the line that was read last, as long as the numbers of lines rise and are below 2^32, and none for good once they did not; the branches, the newest first; the role of a vBucket of a node, where it is known, which is none before it is made; the changes that it holds, the
 -- branch that it is on, and its failover log, where that is known; for each branch id, the node and the vBucket that made the branch or took it over
 -- last; for each link that is not over, its dial; for each stream's name and vBucket, the stream; and for each link the point that its last request was
 -- sent back to, until its consumer went back; whether a vBucket changed since it was sealed last, took a marker, got a role or went back;
--- the start and end of the snapshot that it is in, where that is known; what it wrote down; and what counts where it commits; the connections of
--- clients that are open; what is known of each of them and of its streams; and the changes that vBuckets made of their own in this group, the last first, but for sets and removals before its last answer
+-- the start and end of the snapshot that it is in, where that is known; what it wrote down; and what counts where it commits; what each node's clock shows; the connections of
+-- clients that are open; what is known of each of them and of its streams; the changes that vBuckets made of their own in this group, the last first, but for sets and removals before its last answer; and the vBucket, with its node, whose prepares the line of this group gives up, where it is such a line
 pub record Chronicle : Type 0 where
+  pub last : Option LastLine
   pub tree : List Branch
   pub role_at : ℕ → ℕ → Option (Option Role)
   pub held : ℕ → ℕ → List Change
@@ -141,13 +125,20 @@ pub record Chronicle : Type 0 where
   pub disk_at : ℕ → ℕ → DiskKnown
   pub counts_at : ℕ → ℕ → CountsKnown
   pub arm_at : ℕ → ArmKnown
+  pub clock_at : ℕ → ℕ
   pub conn_at : Conns
   pub clients_at : ClientsKnown
   pub made : List OwnChange
+  pub ticks : Option (ℕ × ℕ)
+
+-- a line of the script with this number begins
+abbrev pub at_line : Chronicle → ℕ → Chronicle
+at_line chronicle number = record chronicle { last = numbered chronicle.last number }
 
 -- before the first line it is known that there is no vBucket
 abbrev pub empty_chronicle : Chronicle
 empty_chronicle = record {
+  last = Some (record { number = 0; served = λ n c. None });
   tree = [];
   role_at = λ n v. Some None;
   held = λ n v. [];
@@ -160,11 +151,13 @@ empty_chronicle = record {
   open_at = λ n v. false;
   snap_at = λ n v. Some (0, 0);
   disk_at = λ n v. blank_disk;
-  counts_at = λ n v. alone;
+  counts_at = λ n v. alone 0;
   arm_at = λ n. no_arm;
+  clock_at = λ n. 0;
   conn_at = λ n c. false;
   clients_at = λ n c. blank_client;
   made = [];
+  ticks = None;
 }
 
 -- the branch that a new one was made from: the one named, or, where none is and the new one begins above 0, the one that
@@ -177,9 +170,9 @@ parent_branch None fork before = if nat_lt 0 fork then before else None
 abbrev pub changes_between : ℕ → ℕ → List Change → List Change
 changes_between low high changes = filter (λ c. nat_lt low c.seq) (upto changes high)
 
--- a vBucket whose node alone is its chain, and which counted nothing yet
+-- a vBucket whose node alone is its chain, and which counted nothing yet: what it makes of its own comes above what it holds
 abbrev pub uncounted : Chronicle → ℕ → ℕ → Chronicle
-uncounted chronicle n v = record chronicle { counts_at = with_at chronicle.counts_at n v alone }
+uncounted chronicle n v = record chronicle { counts_at = with_at chronicle.counts_at n v (alone (last_seq 0 (chronicle.held n v))) }
 
 -- a new branch at a vBucket, which is its writer; its own changes so far are those that the vBucket holds above the fork. Nothing was counted on it yet
 abbrev pub after_branch : Chronicle → ℕ → ℕ → ℕ → Option ℕ → ℕ → ℕ → Chronicle
@@ -216,6 +209,10 @@ after_role chronicle n v role = record (uncounted chronicle n v) {
 abbrev pub held_more : Chronicle → ℕ → ℕ → Change → ℕ → ℕ → List Change
 held_more chronicle n v change = with_at chronicle.held n v (chronicle.held n v ++ change ∷ [])
 
+-- one more change that a vBucket made when its node's clock showed so much
+abbrev pub timed : ℕ → ℕ → CountsKnown → CountsKnown
+timed seq clock counts = record counts { times = (seq, clock) ∷ counts.times }
+
 -- one more change on a branch, which the vBucket that made it holds
 abbrev pub after_change : Chronicle → ℕ → ℕ → ℕ → Change → Chronicle
 after_change chronicle n v uuid change = record chronicle {
@@ -224,6 +221,7 @@ after_change chronicle n v uuid change = record chronicle {
   open_at = with_at chronicle.open_at n v true;
   snap_at = with_at chronicle.snap_at n v (Some (change.seq, change.seq));
   made = record { node = n; vb = v; branch = uuid; change = change } ∷ chronicle.made;
+  counts_at = with_at chronicle.counts_at n v (timed change.seq (chronicle.clock_at n) (chronicle.counts_at n v));
 }
 
 -- two streams have the same name

@@ -26,14 +26,14 @@ use Rattle.transcript_law.specs.StreamsTold.{Setup}
 
 -- before OPEN
 abbrev pub fresh : Moment
-fresh = record { setup = no_setup; stream = None; told = false }
+fresh = record { setup = no_setup; stream = None; told = false; durables = 0 }
 
 -- over an open connection that has this stream of the vBucket, or none
 abbrev pub open_setup : Setup
 open_setup = record { opened = true; sync = false; named = false }
 
 abbrev pub over_with : Option ClientStream → Moment
-over_with stream = record { setup = open_setup; stream = stream; told = false }
+over_with stream = record { setup = open_setup; stream = stream; told = false; durables = 0 }
 
 abbrev pub over : Moment
 over = over_with None
@@ -59,9 +59,9 @@ typed = record (asks msg.Noop) { datatype = 1 }
 abbrev pub formless : Frame
 formless = record (asks msg.Noop) { value = 1 ∷ [] }
 
--- a frame of an opcode of DCP of which no request is
-abbrev pub unused : Frame
-unused = record (asks msg.Noop) { opcode = 0x5b }
+-- SET_VBUCKET_STATE, which no producer takes
+abbrev pub stated : Frame
+stated = asks (msg.SetVbucketState Dead)
 
 -- ---- answers
 
@@ -109,7 +109,7 @@ FitsAway g = FitsDcp (knowing (Some None) (Some [])) 0 over (asks msg.GetFailove
 
 -- of a connection that is open for a producer, with a stream of the vBucket 0, these bytes are known behind its last request for a stream, and these behind its last answer
 abbrev pub sent_behind : List ℕ → List ℕ → ClientKnown
-sent_behind request answer = record (with_streams (one put_two)) { bytes = request; asking = record { bytes = answer; setup = open_setup; settings = (unopened []).asking.settings } }
+sent_behind request answer = record (with_streams (one put_two)) { bytes = request; asking = record { bytes = answer; answered = 0; setup = open_setup; settings = (unopened []).asking.settings; durables = 0 } }
 
 -- what is asked next finds this stream, and a line told of it or did not
 abbrev pub Finds : ClientKnown → Option ClientStream → Type 0

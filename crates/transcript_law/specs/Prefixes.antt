@@ -17,7 +17,7 @@ use Rattle.vb_calls.specs.Shelves.{Shelf}
 use Rattle.vb_calls.specs.State.{is_active, image_in}
 use Rattle.node_world.specs.World.{PlainNode, PlainWorld, empty_world, shelf_in, vb_in, world_step, groups}
 use Rattle.vbucket.specs.{Laws.{Sound}, Settles.{IsSettled}}
-use Rattle.transcript_law.specs.Chronicles.{Chronicle, empty_chronicle, after_group}
+use Rattle.transcript_law.specs.Chronicles.{Chronicle, at_line, empty_chronicle, after_group}
 use Rattle.transcript_law.specs.Lawfulness.{IsIfKnown, known_history, branch_image, IsWriter}
 use Rattle.transcript_law.specs.Majorities.{IsHeldByMost}
 use Rattle.transcript_law.specs.Plainness.{AreOwnIf}
@@ -33,7 +33,7 @@ world_after w (line ∷ lines) = world_after (world_step w line).0 lines
 abbrev pub known_after : Chronicle → List ScriptLine → List Group → Chronicle
 known_after chronicle [] told = chronicle
 known_after chronicle (line ∷ lines) [] = chronicle
-known_after chronicle (line ∷ lines) (group ∷ told) = known_after (after_group chronicle line.verb group.events group.answer) lines told
+known_after chronicle (line ∷ lines) (group ∷ told) = known_after (after_group (at_line chronicle line.line) line.verb group.events group.answer) lines told
 
 -- the world after a script, and what its transcript tells
 abbrev pub world_of : List ScriptLine → PlainWorld

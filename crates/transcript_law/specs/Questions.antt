@@ -53,6 +53,15 @@ settings_by other settings = settings
 abbrev pub settings_after : Settings → Frame → Settings
 settings_after settings f = if is_dcp f.opcode then settings else settings_by (request_of settings.json f) settings
 
+-- a durable write is one more
+abbrev pub durables_by : Result KvRequest Status → ℕ → ℕ
+durables_by (Ok (request.Write write (Some wish))) count = count + 1
+durables_by other count = count
+
+-- so many durable writes were asked for, with a frame
+abbrev pub durables_after : Settings → Frame → ℕ → ℕ
+durables_after settings f count = if is_dcp f.opcode then count else durables_by (request_of settings.json f) count
+
 -- so many bytes are all up to the end of its frame
 abbrev pub question_end : Question → ℕ
 question_end q = sum_by frame_len q.before + frame_len q.frame
@@ -63,6 +72,8 @@ past_question q k = record {
   bytes = drop (question_end q) k.bytes;
   setup = setup_after k.setup (q.before ++ q.frame ∷ []);
   settings = settings_after k.settings q.frame;
+  durables = durables_after k.settings q.frame k.durables;
+  answered = k.answered + 1;
 }
 
 -- the same, where there is a question

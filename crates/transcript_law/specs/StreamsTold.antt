@@ -42,11 +42,13 @@ pub data StreamLine : Type 0 where
   Sends : (item : ItemLine) → StreamLine
   Ends : StreamLine
 
--- what a client asked: the bytes that it sent behind the last frame that was answered, and what the frames up to there set, for its streams and for its answers
+-- what a client asked: the bytes that it sent behind the last frame that was answered, what the frames up to there set, for its streams and for its answers, and how many of them asked for a durable write
 pub record Asking : Type 0 where
   pub bytes : List ℕ
   pub setup : Setup
   pub settings : Settings
+  pub durables : ℕ
+  pub answered : ℕ
 
 -- a client's connection: the bytes that it sent behind the last request for a stream that was answered, what the frames before those set, its streams by their vBuckets, what was told of one whose frame comes next, and what it asked
 pub record ClientKnown : Type 0 where
@@ -66,7 +68,7 @@ no_setup = record { opened = false; sync = false; named = false }
 
 -- a client that sent nothing asked nothing
 abbrev pub blank_asking : Asking
-blank_asking = record { bytes = []; setup = no_setup; settings = no_settings }
+blank_asking = record { bytes = []; setup = no_setup; settings = no_settings; durables = 0; answered = 0 }
 
 -- one that has just been opened, or is not open: it sent nothing, and has no stream
 abbrev pub blank_client : ClientKnown

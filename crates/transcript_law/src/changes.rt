@@ -1,7 +1,12 @@
 //! Which changes a vBucket may make of its own next, by what the lines before them tell.
 
-ghost use Rattle.std.specs.Prelude.{true, false, [], ◌∷◌, ◌+◌};
-ghost use Rattle.transcript_law.specs.ChangeRows.{aborted_known, greatest, greatest_known, own_lines, prepares, removed_known, removing_known, set_known, stamped, waiting_known};
+ghost use Rattle.std.specs.Prelude.{true, false, [], ◌∷◌, ◌+◌, ◌-◌, ◌^◌, Some, None};
+ghost use Rattle.script_text.specs.declared.verb.VbVerb.TheVariants.{Chain};
+ghost use Rattle.script_text.specs.declared.verb.Verb.TheVariants.{AtVb};
+ghost use Rattle.transcript_law.specs.BoundRows.{LawfulHere};
+ghost use Rattle.transcript_law.specs.ChangeRows.{Aborts, AbortsBehind, abort_lines, aborted_known, given_known, gives_up, greatest, greatest_known, own_lines, prepares, removed_known, removing_known, set_known, stamped, waiting_known};
+ghost use Rattle.transcript_law.specs.Chronicles.{alone};
+ghost use Rattle.transcript_law.specs.Crashes.{ok};
 ghost use Rattle.transcript_law.specs.Lawfulness.{LawfulFrom};
 ghost use Rattle.transcript_law.specs.Transcripts.{first_doc};
 ghost use Rattle.vb_types.specs.declared.change.Act.TheVariants.{Abort, Commit, Remove, Set};
@@ -21,10 +26,32 @@ pub fn judged_next_changes()
     ensures commits { LawfulFrom waiting_known (own_lines 2 9 (Commit 1 (first_doc 1 (6 ∷ [])) false)) }
     ensures commits_other { LawfulFrom waiting_known (own_lines 2 9 (Commit 2 (first_doc 1 (6 ∷ [])) false)) → ⊥ }
     ensures commits_none { LawfulFrom waiting_known (own_lines 2 7 (Commit 1 (first_doc 1 (6 ∷ [])) false)) → ⊥ }
-    ensures aborts { LawfulFrom waiting_known (own_lines 2 9 (Abort 1)) }
+    ensures aborts { Aborts (Some (0, 0)) 0 1000000 }
     ensures aborts_other { LawfulFrom waiting_known (own_lines 2 9 (Abort 2)) → ⊥ }
     ensures aborts_none { LawfulFrom waiting_known (own_lines 2 7 (Abort 1)) → ⊥ }
     ensures aborts_set { LawfulFrom set_known (own_lines 2 7 (Abort 1)) → ⊥ }
+{}
+
+/// A prepare is given up in the group of the vBucket's own `tick`, once its node's clock shows 1,000,000
+/// nanoseconds more than when the vBucket made it, or its last number. Not lawful are an abort a
+/// nanosecond early, or at once; in the group of another line, or of another vBucket's `tick`; one of a
+/// prepare that the vBucket did not make since it is active; and behind another node's clock, or none.
+pub fn judged_aborts()
+    ensures up { Aborts (Some (0, 0)) 5 1000005 }
+    ensures early { Aborts (Some (0, 0)) 5 1000004 → ⊥ }
+    ensures at_once { Aborts (Some (0, 0)) 5 5 → ⊥ }
+    ensures last { Aborts (Some (0, 0)) (2 ^ 64 - 2) (2 ^ 64 - 1) }
+    ensures before_last { Aborts (Some (0, 0)) (2 ^ 64 - 3) (2 ^ 64 - 2) → ⊥ }
+    ensures unasked { Aborts None 5 1000005 → ⊥ }
+    ensures other_vb { Aborts (Some (0, 1)) 5 1000005 → ⊥ }
+    ensures other_node { Aborts (Some (1, 0)) 5 1000005 → ⊥ }
+    ensures unmade { LawfulFrom (record (given_known (Some (0, 0)) 5 1000005) { counts_at = λ n v. alone 0 }) abort_lines → ⊥ }
+    ensures behind { AbortsBehind 0 1000000 0 }
+    ensures behind_early { AbortsBehind 0 999999 0 → ⊥ }
+    ensures behind_other { AbortsBehind 1 1000000 0 → ⊥ }
+    ensures tick_other { AbortsBehind 0 1000000 1 → ⊥ }
+    ensures without_clock { LawfulHere waiting_known (gives_up 0) (ok abort_lines) → ⊥ }
+    ensures chained { LawfulHere (record waiting_known { clock_at = λ n. 1000000 }) (AtVb 0 0 (Chain [])) (ok abort_lines) → ⊥ }
 {}
 
 /// A set, a removal and a prepare have a CAS above each that their vBucket holds, of whichever key and

@@ -12,7 +12,7 @@ ghost use Rattle.vb_types.specs.declared.stream.AskAnswer.TheVariants as ask_ans
 ghost use Rattle.transcript_law.specs.Alone.{first_groups, first_lines};
 ghost use Rattle.transcript_law.specs.AnswerRows.{durably, makes, once, stores};
 ghost use Rattle.transcript_law.specs.Checked.{Checked, CheckedFrom};
-ghost use Rattle.transcript_law.specs.CheckedRows.{PassesCommit, PassesPut, PassesTo, last_numbered};
+ghost use Rattle.transcript_law.specs.CheckedRows.{PassesAwaited, PassesCommit, PassesPut, PassesTo, last_numbered};
 ghost use Rattle.transcript_law.specs.Chronicles.{Chronicle};
 ghost use Rattle.transcript_law.specs.ClientStreamRows.{all_changes, asks_for, committed, durable, ended, first_item, for_another, fresh, inside, marked, next_item, one, pending, prepared, sent, three, two, unframed, up_to};
 ghost use Rattle.transcript_law.specs.Contrary.{acknowledged_lines, counted_lines, dialed_itself, done_lines, first_lost, inside_got, new_branch_lines, on_another, sent_known, third_held};
@@ -125,7 +125,7 @@ pub fn judged_checked_commits()
     ensures twice { PassesCommit Majority (Some 1 ∷ Some 2 ∷ Some 3 ∷ []) 0 ((1, 1) ∷ (1, 2) ∷ []) → ⊥ }
     ensures saved { PassesCommit PersistMajority [] 1 [] }
     ensures unsaved { PassesCommit PersistMajority [] 0 [] → ⊥ }
-    ensures told { PassesTo pending (durably 1 9 6) (makes committed ∷ stores SET 2 [] ∷ []) }
+    ensures told { PassesAwaited pending (durably 1 9 6) (makes committed ∷ stores SET 2 [] ∷ []) }
     ensures uncommitted { PassesTo durable (durably 1 9 6) (stores SET 2 [] ∷ []) → ⊥ }
     ensures prepared { PassesTo once (durably 1 9 6) (makes prepared ∷ stores SET 2 [] ∷ []) → ⊥ }
     ensures cas { PassesTo pending (durably 1 9 6) (makes committed ∷ stores SET 3 [] ∷ []) → ⊥ }

@@ -3,30 +3,31 @@
 ghost use Rattle.std.specs.Prelude.{◌≡◌, ℕ, List, [], ◌∷◌};
 ghost use Rattle.script_text.specs.declared.verb.Verb.TheVariants as verb;
 ghost use Rattle.script_text.specs.declared.verb.NodeVerb.TheVariants as node_verb;
-ghost use Rattle.transcript_law.specs.ClientRows.{LawfulOpened, asks, closes, hangs, nooped, opens, refused, replies, sends, waits};
+ghost use Rattle.transcript_law.specs.ClientRows.{LawfulOpened, asks, breaks, closes, hangs, nooped, opens, refused, replies, sends, waits};
 ghost use Rattle.transcript_law.specs.Crashes.{LawfulAfter, Said, ok, save_under, save_under_groups, stopped_behind};
 ghost use Rattle.vb_disk.specs.declared.made.Outcome.TheVariants.{Old};
 ghost use Rattle.vb_events.specs.declared.event.Answer.TheVariants as answer;
 ghost use Rattle.vb_events.specs.declared.event.Cause.TheVariants as cause;
 ghost use Rattle.vb_events.specs.declared.event.Event.TheVariants as event;
 
-/// A connection that is open is told closed, or answered what its client asked. Not lawful is that of one
-/// that was never opened, of one of that number at another node, and of one that is not open any more: it
-/// was told closed before, in the same group or in an earlier one, or its client hung up. Nor is an
-/// answer lawful that comes with a later line, as the first one leaves its client without it.
+/// A connection that is open is told closed where its bytes break off, or answered what its client asked.
+/// Not lawful is that of one that was never opened, of one of that number at another node, and of one that
+/// is not open any more: it was told closed before, in the same group or in an earlier one, or its client
+/// hung up. Nor is it that a later line closes a connection whose client waits for nothing, and an answer
+/// that comes with a later line, as the first one leaves its client without it.
 pub fn judged_client_lines()
-    ensures closed { LawfulOpened (sends 1 ∷ []) (ok (closes 0 1 ∷ []) ∷ []) }
-    ensures closed_other { LawfulOpened (sends 1 ∷ []) (ok (closes 0 2 ∷ []) ∷ []) → ⊥ }
-    ensures closed_elsewhere { LawfulOpened (sends 1 ∷ []) (ok (closes 1 1 ∷ []) ∷ []) → ⊥ }
-    ensures closed_twice { LawfulOpened (sends 1 ∷ []) (ok (closes 0 1 ∷ closes 0 1 ∷ []) ∷ []) → ⊥ }
-    ensures closed_later { LawfulOpened (sends 1 ∷ waits ∷ []) (ok [] ∷ ok (closes 0 1 ∷ []) ∷ []) }
-    ensures closed_again { LawfulOpened (sends 1 ∷ waits ∷ []) (ok (closes 0 1 ∷ []) ∷ ok (closes 0 1 ∷ []) ∷ []) → ⊥ }
+    ensures closed { LawfulOpened (breaks 1 ∷ []) (ok (closes 0 1 ∷ []) ∷ []) }
+    ensures closed_other { LawfulOpened (breaks 1 ∷ []) (ok (closes 0 2 ∷ []) ∷ []) → ⊥ }
+    ensures closed_elsewhere { LawfulOpened (breaks 1 ∷ []) (ok (closes 1 1 ∷ []) ∷ []) → ⊥ }
+    ensures closed_twice { LawfulOpened (breaks 1 ∷ []) (ok (closes 0 1 ∷ closes 0 1 ∷ []) ∷ []) → ⊥ }
+    ensures closed_later { LawfulOpened (sends 1 ∷ waits ∷ []) (ok [] ∷ ok (closes 0 1 ∷ []) ∷ []) → ⊥ }
+    ensures closed_again { LawfulOpened (breaks 1 ∷ waits ∷ []) (ok (closes 0 1 ∷ []) ∷ ok (closes 0 1 ∷ []) ∷ []) → ⊥ }
     ensures closed_hung { LawfulOpened (hangs 1 ∷ waits ∷ []) (ok [] ∷ ok (closes 0 1 ∷ []) ∷ []) → ⊥ }
     ensures hung { LawfulOpened (hangs 1 ∷ waits ∷ []) (ok [] ∷ ok [] ∷ []) }
-    ensures reply { LawfulOpened (asks 1 ∷ []) (ok (replies 0 1 (nooped 9) ∷ closes 0 1 ∷ []) ∷ []) }
-    ensures reply_unasked { (bytes : List ℕ) → LawfulOpened (sends 1 ∷ []) (ok (replies 0 1 bytes ∷ closes 0 1 ∷ []) ∷ []) → ⊥ }
-    ensures reply_other { (bytes : List ℕ) → LawfulOpened (asks 1 ∷ []) (ok (replies 0 2 bytes ∷ closes 0 1 ∷ []) ∷ []) → ⊥ }
-    ensures reply_elsewhere { (bytes : List ℕ) → LawfulOpened (asks 1 ∷ []) (ok (replies 1 1 bytes ∷ closes 0 1 ∷ []) ∷ []) → ⊥ }
+    ensures reply { LawfulOpened (asks 1 ∷ []) (ok (replies 0 1 (nooped 9) ∷ []) ∷ []) }
+    ensures reply_unasked { (bytes : List ℕ) → LawfulOpened (sends 1 ∷ []) (ok (replies 0 1 bytes ∷ []) ∷ []) → ⊥ }
+    ensures reply_other { (bytes : List ℕ) → LawfulOpened (asks 1 ∷ []) (ok (replies 0 2 bytes ∷ []) ∷ []) → ⊥ }
+    ensures reply_elsewhere { (bytes : List ℕ) → LawfulOpened (asks 1 ∷ []) (ok (replies 1 1 bytes ∷ []) ∷ []) → ⊥ }
     ensures reply_behind { (bytes : List ℕ) → LawfulOpened (asks 1 ∷ []) (ok (closes 0 1 ∷ replies 0 1 bytes ∷ []) ∷ []) → ⊥ }
     ensures reply_later { LawfulOpened (asks 1 ∷ waits ∷ []) (ok [] ∷ ok (replies 0 1 (nooped 9) ∷ []) ∷ []) → ⊥ }
     ensures reply_closed { (bytes : List ℕ) → LawfulOpened (asks 1 ∷ waits ∷ []) (ok (closes 0 1 ∷ []) ∷ ok (replies 0 1 bytes ∷ []) ∷ []) → ⊥ }
@@ -54,8 +55,8 @@ pub fn judged_client_answers()
     ensures hung_closed { LawfulOpened (hangs 1 ∷ hangs 1 ∷ []) (ok [] ∷ refused cause.LinkClosed ∷ []) }
     ensures sent_hung { LawfulOpened (hangs 1 ∷ sends 1 ∷ []) (ok [] ∷ ok [] ∷ []) → ⊥ }
     ensures sent_anew { LawfulOpened (hangs 1 ∷ opens 1 ∷ sends 1 ∷ []) (ok [] ∷ ok [] ∷ ok [] ∷ []) }
-    ensures sent_closed { LawfulOpened (sends 1 ∷ sends 1 ∷ []) (ok (closes 0 1 ∷ []) ∷ ok [] ∷ []) → ⊥ }
-    ensures closed_anew { LawfulOpened (sends 1 ∷ opens 1 ∷ []) (ok (closes 0 1 ∷ []) ∷ ok [] ∷ []) }
+    ensures sent_closed { LawfulOpened (breaks 1 ∷ sends 1 ∷ []) (ok (closes 0 1 ∷ []) ∷ ok [] ∷ []) → ⊥ }
+    ensures closed_anew { LawfulOpened (breaks 1 ∷ opens 1 ∷ []) (ok (closes 0 1 ∷ []) ∷ ok [] ∷ []) }
 {}
 
 /// Where a node stops each of its connections is told closed, once, in that group: where it crashes,

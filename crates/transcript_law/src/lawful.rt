@@ -1,15 +1,17 @@
 //! What the lines of a script tell.
 
-ghost use Rattle.std.specs.Prelude.{ℕ, ◌≡◌, List, Option, Some};
+ghost use Rattle.std.specs.Prelude.{ℕ, ◌≡◌, ◌<◌, ◌^◌, List, Option, Some, length};
 ghost use Rattle.branch_model.specs.Logs.{kept_to, with_entry};
 ghost use Rattle.node_world.specs.World.{groups};
 ghost use Rattle.transcript_law.specs.Chronicles.{Chronicle, after_line};
 ghost use Rattle.transcript_law.specs.Followers.{two_followed};
 ghost use Rattle.transcript_law.specs.Lawfulness.{AllKnown, Lawful};
+ghost use Rattle.transcript_law.specs.LinesTold.{number_of, risen_through};
 ghost use Rattle.transcript_law.specs.Prefixes.{known_of};
 ghost use Rattle.transcript_law.specs.Transcripts.{one_set, SetLinesAsk};
 ghost use Rattle.script_text.specs.declared.verb.ScriptLine.{ScriptLine};
 ghost use Rattle.script_text.specs.Fitting.{ScriptFits};
+ghost use Rattle.script_text.specs.Scripts.{verb_lines};
 ghost use Rattle.vb_events.specs.declared.event.Event.{Event};
 ghost use Rattle.vb_events.specs.declared.event.Event.TheVariants as event;
 ghost use Rattle.vb_types.specs.declared.role.LogEntry.{LogEntry};
@@ -30,6 +32,13 @@ pub fn groups_are_lawful()
     ensures all { (script : List ScriptLine) → ScriptFits script → Lawful script (groups script) }
     ensures one { Lawful one_set (groups one_set) }
     ensures followed { Lawful two_followed (groups two_followed) }
+{}
+
+/// The lines of a script that is shorter than 2^32 bytes have numbers that rise below 2^32: a transcript
+/// of it knows the number of its last line, so what it tells of the commits of durable writes is judged.
+pub fn numbers_rise()
+    ensures rise { (bytes : List ℕ) → length bytes < 2 ^ 32 → (line : ℕ) × (risen_through (Some 0) (verb_lines bytes) ≡ Some line) }
+    ensures known { (script : List ScriptLine) → number_of (known_of script).last ≡ risen_through (Some 0) script }
 {}
 
 /// The lines of those scripts that set a key each send one frame, and it asks for that write.

@@ -6,7 +6,7 @@ ghost use Rattle.mcbp_frame.specs.declared.frame.Frame.{Frame as FrameData};
 ghost use Rattle.vb_types.specs.declared.status.Status.TheVariants as status;
 ghost use Rattle.transcript_law.specs.ClientAskRows.{bytes_of, closing, closing_typed, requesting};
 ghost use Rattle.transcript_law.specs.ClientStreamRows.{all_changes, finished, put_two};
-ghost use Rattle.transcript_law.specs.MessageRows.{Finds, Fits, FitsAway, FitsUnknown, IsTold, IsToldOf, LawfulClosed, asks, formless, fresh, log_refused, log_to, named, opens, over, over_with, sent_behind, sets, status_to, told_of, typed, unused, value_to};
+ghost use Rattle.transcript_law.specs.MessageRows.{Finds, Fits, FitsAway, FitsUnknown, IsTold, IsToldOf, LawfulClosed, asks, formless, fresh, log_refused, log_to, named, opens, over, over_with, sent_behind, sets, stated, status_to, told_of, typed, value_to};
 
 /// OPEN for a producer is answered Success before anything was opened, and with Einval and NotSupported
 /// in no such case; for a consumer it is NotSupported, and Einval with other flags. Over an open
@@ -75,8 +75,8 @@ pub fn judged_controls()
 
 /// Over an open connection NOOP is answered Success, and an acknowledgement of a seqno NotSupported;
 /// before OPEN both are Einval, and so is an acknowledgement of bytes. A message that is none for a
-/// producer is Einval, and so are one with a datatype, one with a part that its row does not have, and
-/// an opcode without a row. The answer has the opaque of its question, and no value.
+/// producer is Einval, as one that names a role, and so are one with a datatype, and one with a part
+/// that its row does not have. The answer has the opaque of its question, and no value.
 pub fn judged_messages()
     ensures noop { IsTold over (asks msg.Noop) status.Success }
     ensures noop_refused { IsTold over (asks msg.Noop) status.Einval → ⊥ }
@@ -95,9 +95,9 @@ pub fn judged_messages()
     ensures typed_succeeds { IsTold over typed status.Success → ⊥ }
     ensures formless { IsTold over formless status.Einval }
     ensures formless_succeeds { IsTold over formless status.Success → ⊥ }
-    ensures unused { IsTold over unused status.Einval }
-    ensures unused_succeeds { IsTold over unused status.Success → ⊥ }
-    ensures unused_unknown { IsTold over unused status.UnknownCommand → ⊥ }
+    ensures stated { IsTold over stated status.Einval }
+    ensures stated_succeeds { IsTold over stated status.Success → ⊥ }
+    ensures stated_unknown { IsTold over stated status.UnknownCommand → ⊥ }
     ensures other_opaque { Fits over (asks msg.Noop) (status_to (asks msg.Noop) 8 status.Success) → ⊥ }
     ensures value { Fits over (asks msg.Noop) (value_to (asks msg.Noop)) → ⊥ }
 {}

@@ -7,7 +7,7 @@ ghost use Rattle.mcbp_kv.specs.Replies.{reply_frame};
 ghost use Rattle.mcbp_kv.specs.declared.feature.Feature.TheVariants as feature;
 ghost use Rattle.mcbp_kv.specs.declared.opcodes.TheConstants.{ADD, DELETE, GET, HELLO, NOOP, REPLACE, SET};
 ghost use Rattle.mcbp_frame.specs.declared.frame.TheConstants.{REQUEST};
-ghost use Rattle.transcript_law.specs.AnswerRows.{LawfulAmong, LawfulAway, LawfulBy, LawfulNext, LawfulOver, LawfulTicks, LawfulTo, LawfulUnmade, acknowledges, answers, broken, comes, durably, finds, finds_raw, for_json, for_seqnos, formless, gets, greets, json_doc, json_once, makes, makes_elsewhere, makes_far, newer, newer_doc, once, over_prepare, prepared_at, removal, removes, responds, says, sends, set_at, shuts, shuts_other, stores, strange, unknown, vast, welcomes, writes};
+ghost use Rattle.transcript_law.specs.AnswerRows.{LawfulAmong, LawfulAwaited, LawfulAwaitedBy, LawfulAway, LawfulBehind, LawfulBy, LawfulFar, LawfulNext, LawfulOver, LawfulRisen, LawfulStarted, LawfulStill, LawfulTicks, LawfulTo, LawfulUnmade, acknowledges, answers, broken, changing, comes, durably, durably_removes, finds, finds_raw, for_json, for_seqnos, formless, gets, greets, json_doc, json_once, makes, makes_elsewhere, makes_far, newer, newer_doc, once, over_prepare, prepared_at, removal, removes, responds, says, sends, set_at, shuts, shuts_other, stores, strange, unknown, vast, welcomes, writes};
 ghost use Rattle.transcript_law.specs.ClientAskRows.{opening, replies as replied, sends_none, ticks};
 ghost use Rattle.transcript_law.specs.ClientRows.{LawfulOpened, asks, hangs, noop, nooped, opens, replies, waits};
 ghost use Rattle.transcript_law.specs.ClientStreamRows.{committed, durable, pending, prepared};
@@ -43,7 +43,7 @@ pub fn judged_questions()
 /// GET gets the document that its vBucket holds, whole: not another value or CAS, not the document before
 /// the last change, and not that of a prepare. KeyEnoent is for a key without one, and NotMyVbucket for a
 /// vBucket that is not active, and each is for nothing else. A document is told to be JSON to a client that
-/// asked for this, and to no other. At a key whose prepare waits it may be refused as left undone. None is
+/// asked for this, and to no other. At a key where nothing waits it is not refused as left undone. None is
 /// answered behind a set that waits for its answer.
 pub fn judged_reads()
     ensures found { LawfulTo once (gets 0 7) (finds (first_doc 1 (8 ∷ [])) ∷ []) }
@@ -54,7 +54,6 @@ pub fn judged_reads()
     ensures older { LawfulTo (one_change ∷ newer ∷ []) (gets 0 7) (finds (first_doc 1 (8 ∷ [])) ∷ []) → ⊥ }
     ensures prepare { LawfulTo pending (gets 0 9) (finds (first_doc 2 (6 ∷ [])) ∷ []) → ⊥ }
     ensures beside_prepare { LawfulTo pending (gets 0 9) (says GET status.KeyEnoent ∷ []) }
-    ensures left_undone { LawfulTo pending (gets 0 9) (says GET status.SyncWriteReCommitInProgress ∷ []) }
     ensures nothing_undone { LawfulTo once (gets 0 7) (says GET status.SyncWriteReCommitInProgress ∷ []) → ⊥ }
     ensures none { LawfulTo once (gets 0 9) (says GET status.KeyEnoent ∷ []) }
     ensures not_none { LawfulTo once (gets 0 7) (says GET status.KeyEnoent ∷ []) → ⊥ }
@@ -101,7 +100,7 @@ pub fn judged_writes()
 {}
 
 /// A write is refused for its own reason alone: KeyEexists and KeyEnoent where the key's document, or that
-/// there is none, does not let it; SyncWriteInProgress, or as left undone, where a prepare waits there; NotMyVbucket, and
+/// there is none, does not let it; SyncWriteInProgress where a prepare waits there; NotMyVbucket, and
 /// nothing else, where its vBucket is not active; and Etmpfail where an active one has no seqno left for it,
 /// beside one for each prepare that waits: the last is 2^48. One that is refused made no change.
 pub fn judged_refused_writes()
@@ -120,7 +119,6 @@ pub fn judged_refused_writes()
     ensures away_other { LawfulAway once (writes ADD 0 7 4) (says ADD status.KeyEexists ∷ []) → ⊥ }
     ensures away_full { LawfulAway [] (writes SET 0 7 8) (says SET status.Etmpfail ∷ []) → ⊥ }
     ensures locked { LawfulTo pending (writes SET 0 9 4) (says SET status.SyncWriteInProgress ∷ []) }
-    ensures left_undone { LawfulTo pending (writes SET 0 9 4) (says SET status.SyncWriteReCommitInProgress ∷ []) }
     ensures locked_other { LawfulTo pending (writes REPLACE 0 9 4) (says REPLACE status.KeyEnoent ∷ []) → ⊥ }
     ensures unlocked { LawfulTo pending (writes SET 0 7 4) (says SET status.SyncWriteInProgress ∷ []) → ⊥ }
     ensures full { LawfulTo (set_at (2 ^ 48)) (writes SET 0 9 8) (says SET status.Etmpfail ∷ []) }
@@ -131,9 +129,40 @@ pub fn judged_refused_writes()
     ensures removed { LawfulTo once (removes 7) (makes removal ∷ says DELETE status.Etmpfail ∷ []) → ⊥ }
 {}
 
+/// Where a prepare waits at a key that stood there when its vBucket became active, by a promotion or a
+/// start, a read is refused as left undone, SyncWriteReCommitInProgress, and told neither the document nor
+/// that there is none, until it is committed again; and so is a write refused, also a durable one, and not
+/// as SyncWriteInProgress. At other keys, and where the vBucket made the prepare since, the read is told
+/// the document before it, or that there is none; and the write is refused as SyncWriteInProgress, and
+/// neither as left undone.
+pub fn judged_left_prepares()
+    ensures left { LawfulRisen pending [] (gets 0 9) (says GET status.SyncWriteReCommitInProgress ∷ []) }
+    ensures left_none { LawfulRisen pending [] (gets 0 9) (says GET status.KeyEnoent ∷ []) → ⊥ }
+    ensures left_over { LawfulRisen changing [] (gets 0 7) (says GET status.SyncWriteReCommitInProgress ∷ []) }
+    ensures left_found { LawfulRisen changing [] (gets 0 7) (finds (first_doc 1 (8 ∷ [])) ∷ []) → ⊥ }
+    ensures beside_left { LawfulRisen pending [] (gets 0 7) (finds (first_doc 1 (8 ∷ [])) ∷ []) }
+    ensures since_none { LawfulRisen once (prepared ∷ []) (gets 0 9) (says GET status.KeyEnoent ∷ []) }
+    ensures since { LawfulRisen once (prepared ∷ []) (gets 0 9) (says GET status.SyncWriteReCommitInProgress ∷ []) → ⊥ }
+    ensures own_none { LawfulTo pending (gets 0 9) (says GET status.SyncWriteReCommitInProgress ∷ []) → ⊥ }
+    ensures own_found { LawfulTo changing (gets 0 7) (finds (first_doc 1 (8 ∷ [])) ∷ []) }
+    ensures own_over { LawfulTo changing (gets 0 7) (says GET status.SyncWriteReCommitInProgress ∷ []) → ⊥ }
+    ensures again_found { LawfulRisen pending (committed ∷ []) (gets 0 9) (finds (first_doc 2 (6 ∷ [])) ∷ []) }
+    ensures again { LawfulRisen pending (committed ∷ []) (gets 0 9) (says GET status.SyncWriteReCommitInProgress ∷ []) → ⊥ }
+    ensures started { LawfulStarted pending (gets 0 9) (says GET status.SyncWriteReCommitInProgress ∷ []) }
+    ensures started_none { LawfulStarted pending (gets 0 9) (says GET status.KeyEnoent ∷ []) → ⊥ }
+    ensures left_set { LawfulRisen pending [] (writes SET 0 9 4) (says SET status.SyncWriteReCommitInProgress ∷ []) }
+    ensures left_locked { LawfulRisen pending [] (writes SET 0 9 4) (says SET status.SyncWriteInProgress ∷ []) → ⊥ }
+    ensures since_set { LawfulRisen once (prepared ∷ []) (writes SET 0 9 4) (says SET status.SyncWriteReCommitInProgress ∷ []) → ⊥ }
+    ensures since_locked { LawfulRisen once (prepared ∷ []) (writes SET 0 9 4) (says SET status.SyncWriteInProgress ∷ []) }
+    ensures own_set { LawfulTo pending (writes SET 0 9 4) (says SET status.SyncWriteReCommitInProgress ∷ []) → ⊥ }
+    ensures left_durable { LawfulRisen pending [] (durably 1 9 4) (says SET status.SyncWriteReCommitInProgress ∷ []) }
+    ensures left_durable_locked { LawfulRisen pending [] (durably 1 9 4) (says SET status.SyncWriteInProgress ∷ []) → ⊥ }
+    ensures own_durable { LawfulTo pending (durably 1 9 4) (says SET status.SyncWriteReCommitInProgress ∷ []) → ⊥ }
+{}
+
 /// A durable write is refused as impossible where its chain can have no majority, before any reason of
-/// its key, and only there; its outcome may be that nobody knows. No other write is answered so. It may
-/// be refused with Etmpfail at any vBucket, where its connection has no number left for it.
+/// its key, and only there; its outcome may be that nobody knows. No other write is answered so. The
+/// first one of a connection is not refused with Etmpfail, at whatever vBucket.
 pub fn judged_durables()
     ensures impossible { LawfulAmong (None ∷ []) [] (durably 1 7 8) (says SET status.DurabilityImpossible ∷ []) }
     ensures possible { LawfulTo [] (durably 1 7 8) (says SET status.DurabilityImpossible ∷ []) → ⊥ }
@@ -147,27 +176,55 @@ pub fn judged_durables()
     ensures away { LawfulAway [] (durably 1 7 8) (says SET status.NotMyVbucket ∷ []) }
     ensures active { LawfulTo [] (durably 1 7 8) (says SET status.NotMyVbucket ∷ []) → ⊥ }
     ensures other { LawfulTo [] (durably 1 7 8) (says SET status.KeyEnoent ∷ []) → ⊥ }
-    ensures spent { LawfulTo [] (durably 1 7 8) (says SET status.Etmpfail ∷ []) }
-    ensures spent_away { LawfulAway [] (durably 1 7 8) (says SET status.Etmpfail ∷ []) }
+    ensures early { LawfulTo [] (durably 1 7 8) (says SET status.Etmpfail ∷ []) → ⊥ }
+    ensures early_away { LawfulAway [] (durably 1 7 8) (says SET status.Etmpfail ∷ []) → ⊥ }
     ensures no_level { LawfulTo [] (durably 4 7 8) (says SET status.DurabilityInvalidLevel ∷ []) }
     ensures level { LawfulTo [] (durably 3 7 8) (says SET status.DurabilityInvalidLevel ∷ []) → ⊥ }
 {}
 
+/// A connection has a number for each of 4,294,967,295 durable writes. Those before it are not refused
+/// with Etmpfail for want of one, and the next one is, at whatever vBucket and whatever else there is to
+/// refuse it for. Each durable write counts, however it is answered; no other frame does.
+pub fn judged_numbers()
+    ensures last { LawfulBehind (2 ^ 32 - 2) [] (durably 1 7 8) (says SET status.SyncWriteAmbiguous ∷ []) }
+    ensures last_spent { LawfulBehind (2 ^ 32 - 2) [] (durably 1 7 8) (says SET status.Etmpfail ∷ []) → ⊥ }
+    ensures spent { LawfulBehind (2 ^ 32 - 1) [] (durably 1 7 8) (says SET status.Etmpfail ∷ []) }
+    ensures spent_unsure { LawfulBehind (2 ^ 32 - 1) [] (durably 1 7 8) (says SET status.SyncWriteAmbiguous ∷ []) → ⊥ }
+    ensures spent_locked { LawfulBehind (2 ^ 32 - 1) pending (durably 1 9 4) (says SET status.SyncWriteInProgress ∷ []) → ⊥ }
+    ensures spent_far { LawfulFar (2 ^ 32 - 1) (durably 1 7 8) (says SET status.Etmpfail ∷ []) }
+    ensures spent_away { LawfulFar (2 ^ 32 - 1) (durably 1 7 8) (says SET status.NotMyVbucket ∷ []) → ⊥ }
+    ensures plain { LawfulFar (2 ^ 32 - 1) (writes SET 0 7 8) (says SET status.NotMyVbucket ∷ []) }
+    ensures next { LawfulBehind (2 ^ 32 - 2) [] (durably 1 7 8 ++ durably 1 7 8) (says SET status.SyncWriteAmbiguous ∷ says SET status.Etmpfail ∷ []) }
+    ensures next_unsure { LawfulBehind (2 ^ 32 - 2) [] (durably 1 7 8 ++ durably 1 7 8) (says SET status.SyncWriteAmbiguous ∷ says SET status.SyncWriteAmbiguous ∷ []) → ⊥ }
+    ensures refused { LawfulBehind (2 ^ 32 - 2) pending (durably 1 9 4 ++ durably 1 9 4) (says SET status.SyncWriteInProgress ∷ says SET status.Etmpfail ∷ []) }
+    ensures noop { LawfulBehind (2 ^ 32 - 2) [] (noop 9 ++ durably 1 7 8) (answers 9 ∷ says SET status.SyncWriteAmbiguous ∷ []) }
+    ensures noop_spent { LawfulBehind (2 ^ 32 - 2) [] (noop 9 ++ durably 1 7 8) (answers 9 ∷ says SET status.Etmpfail ∷ []) → ⊥ }
+    ensures plain_counts { LawfulBehind (2 ^ 32 - 2) pending (writes SET 0 9 4 ++ durably 1 9 4) (says SET status.SyncWriteInProgress ∷ says SET status.SyncWriteInProgress ∷ []) }
+{}
+
 /// A durable write is told stored behind a commit of its node alone, with its CAS, and with its branch and
-/// seqno to a client that asked for these, and to no other; other answers may come in between. Neither a
-/// prepare alone is one, nor is a commit that of a write that is not durable.
+/// seqno to a client that asked for these, and to no other. That commit is of the write that the client
+/// asked for: of its key at its vBucket, and of its value or removal; what another write was committed as
+/// is none, whatever its CAS. And it names a prepare of the group in which that was to be answered first:
+/// not that of an equal write before, nor one that was told before the answer in front. Neither a prepare
+/// alone is one, nor is a commit that of a write that is not durable.
 pub fn judged_outcomes()
-    ensures committed { LawfulTo pending (durably 1 9 6) (makes committed ∷ stores SET 2 [] ∷ []) }
+    ensures committed { LawfulAwaited pending (durably 1 9 6) (makes committed ∷ stores SET 2 [] ∷ []) }
     ensures uncommitted { LawfulTo durable (durably 1 9 6) (stores SET 2 [] ∷ []) → ⊥ }
     ensures prepared { LawfulTo once (durably 1 9 6) (makes prepared ∷ stores SET 2 [] ∷ []) → ⊥ }
-    ensures cas { LawfulTo pending (durably 1 9 6) (makes committed ∷ stores SET 3 [] ∷ []) → ⊥ }
-    ensures far { LawfulTo pending (durably 1 9 6) (makes_far committed ∷ stores SET 2 [] ∷ []) → ⊥ }
-    ensures later { LawfulTo pending (noop 9 ++ durably 1 9 6) (makes committed ∷ answers 9 ∷ stores SET 2 [] ∷ []) }
-    ensures seqnos { LawfulBy for_seqnos pending (durably 1 9 6) (makes committed ∷ stores SET 2 (seqno_extras 5 3) ∷ []) }
-    ensures untold { LawfulBy for_seqnos pending (durably 1 9 6) (makes committed ∷ stores SET 2 [] ∷ []) → ⊥ }
-    ensures branch { LawfulBy for_seqnos pending (durably 1 9 6) (makes committed ∷ stores SET 2 (seqno_extras 6 3) ∷ []) → ⊥ }
-    ensures seqno { LawfulBy for_seqnos pending (durably 1 9 6) (makes committed ∷ stores SET 2 (seqno_extras 5 2) ∷ []) → ⊥ }
-    ensures unasked { LawfulTo pending (durably 1 9 6) (makes committed ∷ stores SET 2 (seqno_extras 5 3) ∷ []) → ⊥ }
+    ensures cas { LawfulAwaited pending (durably 1 9 6) (makes committed ∷ stores SET 3 [] ∷ []) → ⊥ }
+    ensures far { LawfulAwaited pending (durably 1 9 6) (makes_far committed ∷ stores SET 2 [] ∷ []) → ⊥ }
+    ensures later { LawfulAwaited pending (noop 9 ++ durably 1 9 6) (makes committed ∷ answers 9 ∷ stores SET 2 [] ∷ []) → ⊥ }
+    ensures seqnos { LawfulAwaitedBy for_seqnos pending (durably 1 9 6) (makes committed ∷ stores SET 2 (seqno_extras 5 3) ∷ []) }
+    ensures untold { LawfulAwaitedBy for_seqnos pending (durably 1 9 6) (makes committed ∷ stores SET 2 [] ∷ []) → ⊥ }
+    ensures branch { LawfulAwaitedBy for_seqnos pending (durably 1 9 6) (makes committed ∷ stores SET 2 (seqno_extras 6 3) ∷ []) → ⊥ }
+    ensures seqno { LawfulAwaitedBy for_seqnos pending (durably 1 9 6) (makes committed ∷ stores SET 2 (seqno_extras 5 2) ∷ []) → ⊥ }
+    ensures unasked { LawfulAwaited pending (durably 1 9 6) (makes committed ∷ stores SET 2 (seqno_extras 5 3) ∷ []) → ⊥ }
+    ensures other_key { LawfulAwaited pending (durably 1 7 6) (makes committed ∷ stores SET 2 [] ∷ []) → ⊥ }
+    ensures other_vb { LawfulAwaited pending (durably 1 9 6) (makes_elsewhere committed ∷ stores SET 2 [] ∷ []) → ⊥ }
+    ensures other_value { LawfulAwaited pending (durably 1 9 7) (makes committed ∷ stores SET 2 [] ∷ []) → ⊥ }
+    ensures removal { LawfulAwaited pending (durably_removes 1 9) (makes committed ∷ stores DELETE 2 [] ∷ []) → ⊥ }
+    ensures other_prepare { LawfulTo pending (durably 1 9 6) (makes committed ∷ stores SET 2 [] ∷ []) → ⊥ }
     ensures plain { LawfulTo pending (writes SET 0 9 6) (makes committed ∷ stores SET 2 [] ∷ []) → ⊥ }
     ensures plain_uncommitted { LawfulTo durable (writes SET 0 9 6) (stores SET 2 [] ∷ []) → ⊥ }
 {}
@@ -220,7 +277,7 @@ pub fn judged_answer_lines()
     ensures again { LawfulTicks [] (noop 9) (ok (answers 9 ∷ []) ∷ ok (answers 9 ∷ []) ∷ []) → ⊥ }
     ensures made { LawfulNext [] [] (comes (writes SET 0 7 8)) (ok (makes one_change ∷ stores SET 1 [] ∷ [])) }
     ensures made_before { LawfulTicks [] (writes SET 0 7 8) (ok (makes one_change ∷ []) ∷ ok (stores SET 1 [] ∷ []) ∷ []) → ⊥ }
-    ensures committed { LawfulNext pending (durably 1 9 6) ticks (ok (makes committed ∷ stores SET 2 [] ∷ [])) }
+    ensures committed { LawfulStill pending (durably 1 9 6) ticks (ok (makes committed ∷ stores SET 2 [] ∷ [])) }
     ensures committed_before { LawfulTicks pending (durably 1 9 6) (ok (makes committed ∷ []) ∷ ok (stores SET 2 [] ∷ []) ∷ []) → ⊥ }
     ensures anew { LawfulOpened (asks 1 ∷ hangs 1 ∷ opens 1 ∷ waits ∷ []) (ok [] ∷ ok [] ∷ ok [] ∷ ok (replies 0 1 (nooped 9) ∷ []) ∷ []) → ⊥ }
 {}

@@ -12,7 +12,9 @@ use Rattle.vb_calls.specs.Settling.{Resolving, and_settled, has_seqno, outcome_f
 use Rattle.vb_calls.specs.State.{pending_of}
 use Rattle.vb_calls.specs.Writes.{doc_refusal, key_refusal, lacks_seqnos, store_refusal}
 use Rattle.vb_calls.specs.declared.calls.Resolution.TheVariants as resolution
+use Rattle.vb_calls.specs.declared.calls.Resolution.{Resolution}
 use Rattle.vb_calls.specs.declared.calls.Resolved.{Resolved}
+use Rattle.vb_types.specs.declared.change.Act.{Act}
 use Rattle.vb_calls.specs.declared.calls.VbCall.TheVariants as call
 use Rattle.vb_types.proofs.Laws.{get-insert_same, get-remove_other, get-remove_same}
 use Rattle.vb_types.specs.declared.change.Act.TheVariants as act
@@ -20,7 +22,7 @@ use Rattle.vbucket.proofs.Backing.{are_left, none_idle}
 use Rattle.vbucket.proofs.Committing.{commits}
 use Rattle.vbucket.proofs.Prepares.{gone, pend_stays, put}
 use Rattle.vbucket.proofs.Preparing.{durable_free, in_late}
-use Rattle.vbucket.proofs.RowIs.{RowIs, StartIs, Adopts, Chains, Counts, Expires, Flushes, Leads, Marks, Prepares, Receives, Rolls, Saves, Seals, Settles, Streams, Tells, Turns, Writes, row_is}
+use Rattle.vbucket.proofs.RowIs.{RowIs, StartIs, Adopts, Chains, Counts, Expires, Flushes, Inherits, Leads, Marks, Prepares, Receives, Rolls, Saves, Seals, Settles, Streams, Tells, Turns, Writes, Yields, row_is}
 use Rattle.vbucket.proofs.Soundness.{follows_idle, start_sound, stays}
 use Rattle.vbucket.proofs.Storing.{differ_at, image_pushed, nothing_waits, said_none, seqs_at}
 use Rattle.vbucket.specs.Committing.{CommitsAll, IsCommitted}
@@ -61,13 +63,13 @@ pushed_elsewhere vb c key n = ap (λ (image : Picture). get image.pending key) (
 at_other : (vb : Plain) (s : Sound vb) (key : List ℕ) (w : Waiting) → pending_of vb key ≡ None → Waits w vb.waiting → key ≢ w.key
 at_other vb s key w none i e = let b = s.waits.backed w i in let z : None ≡ Some b.0 = sym none ∙ ap (pending_of vb) e ∙ b.1 in cc
 
-written_stood : (vb : Plain) (write : Write) (clock : ℕ) → store_refusal vb write ≡ None → Sound vb → (w : Waiting) (p : Pend) → IsOutstanding (growth vb (write_change vb write (new_cas clock vb.last_cas)) (new_cas clock vb.last_cas)).0 w p → IsOutstanding vb w p
+pub written_stood : (vb : Plain) (write : Write) (clock : ℕ) → store_refusal vb write ≡ None → Sound vb → (w : Waiting) (p : Pend) → IsOutstanding (growth vb (write_change vb write (new_cas clock vb.last_cas)) (new_cas clock vb.last_cas)).0 w p → IsOutstanding vb w p
 written_stood vb write clock free s w p o =
     let none = (nothing_waits vb.waiting (pending_of vb write.key) (doc_refusal write.op write.cas (doc_at vb write.key)) (said_none vb.role (lacks_seqnos vb 1) (key_refusal vb write) free)).0 in
     record { among = o.among; entry = sym (pushed_elsewhere vb (write_change vb write (new_cas clock vb.last_cas)) w.key (at_other vb s write.key w none o.among)) ∙ o.entry; same = o.same }
 
 -- a durable write's own prepare, or one from before
-prepared_stood : (vb : Plain) (write : Write) (clock : ℕ) (wish : Wish) → durable_refusal vb write ≡ None → Sound vb → (w : Waiting) (p : Pend) → IsOutstanding (prepared_vb vb write wish (new_cas clock vb.last_cas)) w p
+pub prepared_stood : (vb : Plain) (write : Write) (clock : ℕ) (wish : Wish) → durable_refusal vb write ≡ None → Sound vb → (w : Waiting) (p : Pend) → IsOutstanding (prepared_vb vb write wish (new_cas clock vb.last_cas)) w p
     → Stood vb (call.Durable write clock wish.level wish.deadline wish.waiter) w p
 prepared_stood vb write clock wish free s w p o = ⊎_elim own older ((put new vb.waiting s.waits.ascend low).was w o.among)
   where
@@ -122,6 +124,18 @@ was_there pending key q p true e = by (bytes_eq key q) refl
         let there : get (remove pending key) key ≡ Some p = subst (λ x. get (remove pending key) x ≡ Some p) (sym ((bytes_eq-Decides key q).0 k)) e in
         let none : None ≡ Some p = sym (get-remove_same pending key) ∙ there in cc
     by false k = sym (get-remove_other pending key q (λ s. let same = (bytes_eq-Decides key q).1 s in cc)) ∙ e
+
+-- so it did before a prepare was resolved by a change that takes its key's entry away
+pub resolved_stood : (s : Resolving) (w : Waiting) (a : Act) (how : Resolution) → Ascend s.vb.waiting
+    → (applied (image_in s.vb) (resolving_change s.vb w a)).pending ≡ (if is_older (s.vb.position.at + 1) (get (image_in s.vb).pending w.key) then remove (image_in s.vb).pending w.key else (image_in s.vb).pending)
+    → (v : Waiting) (p : Pend) → IsOutstanding (resolved_by a how w s).vb v p → IsOutstanding s.vb v p
+resolved_stood s w a how ascend left v p o =
+    let pushed : get (applied (image_in s.vb) (resolving_change s.vb w a)).pending v.key ≡ Some p = sym (ap (λ (image : Picture). get image.pending v.key) (image_pushed s.vb (resolving_change s.vb w a))) ∙ o.entry in
+    record {
+      among = ((gone w.seq s.vb.waiting ascend).was v o.among).0;
+      entry = was_there (image_in s.vb).pending w.key v.key p (is_older (s.vb.position.at + 1) (get (image_in s.vb).pending w.key)) (sym (ap (λ m. get m v.key) left) ∙ pushed);
+      same = o.same;
+    }
 
 -- an outcome that nobody knows, of a prepare of these
 pub record IsLost (Among : Waiting → Type 0) (o : Resolved) : Type 0 where
@@ -184,11 +198,11 @@ gave_late vb clock s = gave_all vb (late clock vb.waiting) (unresolved vb) (λ w
 -- ---- each call
 
 -- a vBucket that follows has none
-idle_none : (vb : Plain) (w : Waiting) → Sound vb → is_follower vb.role ≡ true → Waits w vb.waiting → ⊥
+pub idle_none : (vb : Plain) (w : Waiting) → Sound vb → is_follower vb.role ≡ true → Waits w vb.waiting → ⊥
 idle_none vb w s f i = subst (Waits w) (none_idle vb.role vb.waiting (follows_idle vb.role f) s.waits.only) i
 
 -- one that a former active node left is awaited by nobody
-left_none : (vb : Plain) (uuid : ℕ) (w : Waiting) → Sound vb → Waits w (led vb uuid).waiting → w.waiter ≡ 0
+pub left_none : (vb : Plain) (uuid : ℕ) (w : Waiting) → Sound vb → Waits w (led vb uuid).waiting → w.waiter ≡ 0
 left_none vb uuid w s i = let k = (are_left (image_in vb) (differ_at vb s)).was w i in ap (λ (x : Waiting). x.waiter) k.3
 
 -- how a call begins
@@ -199,6 +213,7 @@ start_stood vb (Counts member seq on) s w p some o = inl (record { among = o.amo
 start_stood vb (Expires clock on) s w p some o = inl ((gave_late vb clock s).stood w p o)
 start_stood vb (Saves seq) s w p some o = inl (record { among = o.among; entry = o.entry; same = o.same })
 start_stood vb (Leads uuid free) s w p some o = absurd (some (left_none vb uuid w s o.among))
+start_stood vb (Inherits free) s w p some o = absurd (some (left_none vb 0 w s o.among))
 
 row_stood : (vb : Plain) {made : VbCall} {after : Plain × VbReply} → RowIs vb made after → Sound vb → IsTimely made → (w : Waiting) (p : Pend) → w.waiter ≢ 0 → IsOutstanding after.0 w p → Stood vb made w p
 row_stood vb (Tells c said) s t w p some o = inl o
@@ -214,6 +229,7 @@ row_stood vb (Settles c start is) s t w p some o =
     start_stood vb is s w p some (committed_stood start.0 (and_settled start).0 k.0 k.1 k.2 w p o)
 row_stood vb (Rolls at image cas f) s t w p some o = absurd (idle_none vb w s f o.among)
 row_stood vb (Turns c new loud idle) s t w p some o = absurd o.among
+row_stood vb (Yields id stream on at) s t w p some o = absurd o.among
 
 -- of what is awaited behind a call each was outstanding before it, with the same entry, or the call placed it
 pub awaited : (vb : Plain) (made : VbCall) → Sound vb → IsTimely made → (w : Waiting) (p : Pend) → w.waiter ≢ 0 → IsOutstanding (plain_step vb made).0 w p → Stood vb made w p

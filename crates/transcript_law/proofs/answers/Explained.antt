@@ -15,7 +15,7 @@ use Rattle.vb_calls.specs.declared.calls.VbCall.TheVariants as call
 use Rattle.vb_types.specs.declared.change.Act.TheVariants.{Commit}
 use Rattle.vb_types.specs.declared.change.Level.{Level}
 use Rattle.vbucket.proofs.Committing.{commits}
-use Rattle.vbucket.proofs.RowIs.{RowIs, StartIs, Adopts, Chains, Counts, Expires, Flushes, Leads, Marks, Prepares, Receives, Rolls, Saves, Seals, Settles, Streams, Tells, Turns, Writes, row_is}
+use Rattle.vbucket.proofs.RowIs.{RowIs, StartIs, Adopts, Chains, Counts, Expires, Flushes, Inherits, Leads, Marks, Prepares, Receives, Rolls, Saves, Seals, Settles, Streams, Tells, Turns, Writes, Yields, row_is}
 use Rattle.vbucket.proofs.Soundness.{start_sound}
 use Rattle.vbucket.specs.Committing.{Commits, CommitsAll}
 use Rattle.vbucket.specs.Laws.{IsTimely}
@@ -59,6 +59,7 @@ start_lost vb (Counts member seq on) s = All-nil (IsLost (λ w. Waits w vb.waiti
 start_lost vb (Expires clock on) s = (gave_late vb clock s).told
 start_lost vb (Saves seq) s = All-nil (IsLost (λ w. Waits w vb.waiting))
 start_lost vb (Leads uuid free) s = lost_all (λ w. Waits w vb.waiting) vb.waiting (λ w i. i)
+start_lost vb (Inherits free) s = lost_all (λ w. Waits w vb.waiting) vb.waiting (λ w i. i)
 
 -- ---- commits behind a call
 
@@ -172,6 +173,7 @@ row_explained vb (Receives c a f next is) s t = All-nil (IsExplained vb _ _ _)
 row_explained vb (Settles c start is) s t = settled_explained vb c start s (start_sound vb is s t) (start_stood vb is s) (start_lost vb is s)
 row_explained vb (Rolls at image cas f) s t = All-nil (IsExplained vb _ _ _)
 row_explained vb (Turns c new loud idle) s t = All-weaker (IsLost (λ w. Waits w vb.waiting)) (IsExplained vb c 0 []) (lost_explained vb c 0 [] s) (given_up vb.waiting) (lost_all (λ w. Waits w vb.waiting) vb.waiting (λ w i. i))
+row_explained vb (Yields id stream on at) s t = All-weaker (IsLost (λ w. Waits w vb.waiting)) (IsExplained vb _ 0 []) (lost_explained vb _ 0 [] s) (given_up vb.waiting) (lost_all (λ w. Waits w vb.waiting) vb.waiting (λ w i. i))
 
 -- each outcome of a call
 pub explained : (vb : Plain) (made : VbCall) → Sound vb → IsTimely made → All (IsExplained vb made (plain_step vb made).1.branch (plain_step vb made).1.changes) (plain_step vb made).1.resolved

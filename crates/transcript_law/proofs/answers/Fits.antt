@@ -1,17 +1,18 @@
 -- what a client's session answers fits what the lines tell of the vBucket that was asked
-use Rattle.std.specs.Prelude.{◌≡◌, ◌<◌, ◌+◌, ◌^◌, ◌∷◌, ◌++◌, ◌⊎◌, if◌then◌else◌, length, nat_lt, not}
+use Rattle.std.specs.Prelude.{◌≡◌, ◌<◌, ◌≤◌, ◌+◌, ◌^◌, ◌∷◌, ◌++◌, if◌then◌else◌, length, nat_lt, not}
 use Rattle.std.specs.FinMap as finite
 use Rattle.transcript_law.proofs.Words.{ℕ, Bool, true, false, List, [], refl, ap, sym, ◌∙◌, subst, inl, inr, arith, nat_tests, Option, Some, None, Ok, Frame, RESPONSE, KvRequest, Change, Doc, Pend, Picture, Plain, PlainWorld, Role, Status, Write, Chronicle, VbAnswer}
 use Rattle.transcript_law.proofs.Words.{doc_at, image_in, image_of, is_active, new_rev, refusal_reply, write_change}
 use Rattle.client_session.specs.Rows.{seqno_part}
-use Rattle.transcript_law.proofs.{answers.Committed.{CommitTold, HowTold}, disks.Absent.{nothing_here}, invariant.Agreement.{Agrees, AgreesAt, VbAgrees, active_counts, image_is, is_down, power_of, vb_of}, invariant.Seats.{seat}}
-use Rattle.transcript_law.specs.{Chronicles.{rested, resting}, LawfulAnswers.{AllDurable, IsImpossibleFirst, IsOutcome, FitsBy, FitsDurable, FitsFrame, FitsGet, FitsRequest, FitsWrite, IsCommitted, IsMade, IsRefused, IsStatus, IsWhyRefused, LacksMajority, LacksSeqnos}, LawfulClients.{IsActive}, LawfulMessages.{Moment}, LinesTold.{OwnChange}}
+use Rattle.transcript_law.proofs.{answers.{Committed.{CommitTold, HowTold}, Explained.{IsPrepareOf}}, disks.Absent.{nothing_here}, invariant.Agreement.{Agrees, AgreesAt, VbAgrees, active_counts, image_is, is_down, power_of, vb_of}, invariant.Lefts.{AreLeftExactly, left_exactly}, invariant.Seats.{seat}}
+use Rattle.transcript_law.specs.{Chronicles.{rested, resting}, LawfulAnswers.{AllDurable, IsImpossibleFirst, IsOutcome, FitsBy, FitsDurable, FitsFrame, FitsGet, FitsRequest, FitsWrite, IsCommitted, IsLeftUndone, IsLocked, IsMade, IsRefused, IsStatus, IsWhyRefused, LacksMajority, LacksSeqnos}, LawfulClients.{IsActive}, LawfulMessages.{Moment}, LinesTold.{OwnChange}}
 use Rattle.branch_model.specs.{Histories.{last_seq}, Journals.{role_of}}
 use Rattle.client_session.specs.Answers.{found_reply, reply_to, status_reply, stored_reply, value_reply}
 use Rattle.client_session.specs.Serving.{is_dcp, outcome_reply}
 use Rattle.client_session.specs.declared.session.{Awaited.{Awaited}, Settings.{Settings}}
 use Rattle.durability.specs.Chains.{Members, is_possible}
 use Rattle.durability.specs.declared.waiting.Waiting.{Waiting}
+use Rattle.vb_types.specs.declared.change.Act.TheVariants as act
 use Rattle.mcbp_kv.proofs.{Asked.{passed}, Shapes.{each_code}}
 use Rattle.mcbp_kv.specs.{Answers.{IsFound, IsWelcome}, Features.{feature_bytes}, Replies.{reply_frame}, Requests.{request_by, request_of}}
 use Rattle.mcbp_kv.specs.declared.feature.Feature.{Feature}
@@ -20,22 +21,24 @@ use Rattle.mcbp_kv.specs.declared.reply.KvReply.{KvReply}
 use Rattle.mcbp_kv.specs.declared.request.KvRequest.TheVariants as request
 use Rattle.mcbp_kv.specs.declared.durable.Durability.{Durability}
 use Rattle.vb_calls.specs.{Durable.{durable_refusal}, State.{get_reply, get_row, is_left, pending_of}}
-use Rattle.vb_calls.specs.Writes.{doc_refusal, key_refusal, lacks_seqnos, or_else, pending_refusal, store_refusal}
+use Rattle.vb_calls.specs.Writes.{doc_refusal, key_refusal, lacks_seqnos, or_else, pending_refusal, store_refusal, written_doc}
 use Rattle.vb_calls.specs.declared.calls.Resolution.{Resolution}
 use Rattle.vb_calls.specs.declared.calls.Resolution.TheVariants as resolution
 use Rattle.vb_types.specs.declared.journal.Record.{Record}
 use Rattle.vb_types.specs.declared.position.TheConstants.{MAX_SEQ}
 use Rattle.vbucket.{proofs.Storing.{nothing_waits, said_none}, specs.Laws.{AreBacked, IsBacked}}
+use Rattle.transcript_law.proofs.invariant.Owing.{IsToldIn}
 
 -- ---- a vBucket as the lines tell it
 
--- its role, what it holds with the prepares that wait, and, where it may commit, its chain
+-- its role, what it holds with the prepares that wait, and, where it may commit, its chain and which of them were left
 pub record KnownAs (r : Chronicle) (n v : ℕ) (vb : Plain) : Type 0 where
   pub role : r.role_at n v ≡ Some (Some vb.role)
   pub image : image_of (r.held n v) ≡ image_in vb
   pub chain : is_active vb.role ≡ true → (r.counts_at n v).chain ≡ vb.others
   pub high : last_seq 0 (r.held n v) ≡ vb.position.at
   pub waits : AreBacked vb.role (image_in vb) vb.position.at vb.waiting
+  pub lefts : is_active vb.role ≡ true → AreLeftExactly (r.counts_at n v).risen (image_in vb) vb.waiting
 
 -- so is each that is there
 pub known_as : (w : PlainWorld) (r : Chronicle) (n v : ℕ) (vb : Plain) → Agrees w r → vb_of w n v ≡ Some vb → KnownAs r n v vb
@@ -46,6 +49,7 @@ known_as w r n v vb (k, a) there =
       chain = λ active. (active_counts active it.counts).chain;
       high = ap (last_seq 0) it.held ∙ it.kept.high;
       waits = it.kept.sound.counted.waits;
+      lefts = λ active. left_exactly (r.counts_at n v).risen vb it.kept.sound active (it.lefts active);
     }
 
 -- one that is not there, at a node that is running
@@ -164,79 +168,100 @@ found_fits settings f doc code = record {
 }
 
 -- one of a vBucket that is not active
-pub get_away : (role : Option (Option Role)) (image : Picture) (json : Bool) (key : List ℕ) (f : Frame) → (IsActive role → ⊥) → FitsGet role image json key f (reply_frame (status_reply f Status.NotMyVbucket))
-get_away role image json key f off = record { away = λ o. status_fits f Status.NotMyVbucket; found = λ on doc has. absurd (off on); none = λ on has. absurd (off on) }
+pub get_away : (role : Option (Option Role)) (risen : ℕ) (image : Picture) (json : Bool) (key : List ℕ) (f : Frame) → (IsActive role → ⊥) → FitsGet role risen image json key f (reply_frame (status_reply f Status.NotMyVbucket))
+get_away role risen image json key f off = record { away = λ o. status_fits f Status.NotMyVbucket; left = λ on l. absurd (off on); found = λ on free doc has. absurd (off on); none = λ on free has. absurd (off on) }
 
-module _ (settings : Settings) (f : Frame) (key : List ℕ) (x : Role) (image : Picture) where
+-- what waits at a key was left, or was not
+module _ (risen : ℕ) (image : Picture) (waiting : List Waiting) (exact : AreLeftExactly risen image waiting) (key : List ℕ) where
+  not_left : (o : Option Pend) → finite.get image.pending key ≡ o → is_left waiting o ≡ false → IsLeftUndone risen image key → ⊥
+  not_left None none l left = let z : None ≡ Some left.0 = sym none ∙ left.1 in cc
+  not_left (Some p) there l left =
+      let both : Some p ≡ Some left.0 = sym there ∙ left.1 in let seq : p.seq ≡ left.0.seq = ap (λ (q : Pend). q.seq) (same p left.0 both) in
+      let above : risen < p.seq = (exact key p there).own l in let low : left.0.seq ≤ risen = left.2 in omega arith
+
+  not_own : (p : Pend) → finite.get image.pending key ≡ Some p → is_left waiting (Some p) ≡ true → IsLocked risen image key → ⊥
+  not_own p there l locked =
+      let both : Some p ≡ Some locked.0 = sym there ∙ locked.1 in let seq : p.seq ≡ locked.0.seq = ap (λ (q : Pend). q.seq) (same p locked.0 both) in
+      let low : p.seq ≤ risen = (exact key p there).left l in let above : risen < locked.0.seq = locked.2 in omega arith
+
+module _ (settings : Settings) (f : Frame) (key : List ℕ) (x : Role) (risen : ℕ) (image : Picture) where
   -- a frame fits
   abbrev Fits : KvReply → Type 0
-  Fits reply = FitsGet (Some (Some x)) image settings.json key f (reply_frame reply)
+  Fits reply = FitsGet (Some (Some x)) risen image settings.json key f (reply_frame reply)
 
   -- by what the vBucket has at the key
-  read_by : f.opcode ≡ GET → (waiting : List Waiting) (a : Bool) → is_active x ≡ a → (o : Option Pend) → finite.get image.pending key ≡ o → (left : Bool) → is_left waiting o ≡ left
+  read_by : f.opcode ≡ GET → (waiting : List Waiting) → (is_active x ≡ true → AreLeftExactly risen image waiting) → (a : Bool) → is_active x ≡ a → (o : Option Pend) → finite.get image.pending key ≡ o → (left : Bool) → is_left waiting o ≡ left
       → (d : Option Doc) → finite.get image.docs key ≡ d → (reply : KvReply) → reply_to settings f (if a then get_reply left d else refusal_reply Status.NotMyVbucket).answer ≡ Some reply → Fits reply
-  read_by code waiting false off o p left l d has reply e =
-      subst Fits (same (status_reply f Status.NotMyVbucket) reply e) (get_away (Some (Some x)) image settings.json key f (follows x off))
-  read_by code waiting true on None p true l d has reply e = cc
-  read_by code waiting true on (Some pend) p true l d has reply e = subst Fits (same (status_reply f Status.SyncWriteReCommitInProgress) reply e) (record {
+  read_by code waiting exact false off o p left l d has reply e =
+      subst Fits (same (status_reply f Status.NotMyVbucket) reply e) (get_away (Some (Some x)) risen image settings.json key f (follows x off))
+  read_by code waiting exact true on None p true l d has reply e = cc
+  read_by code waiting exact true on (Some pend) p true l d has reply e = subst Fits (same (status_reply f Status.SyncWriteReCommitInProgress) reply e) (record {
     away = λ off. absurd (off (leads x on));
-    found = λ active doc is. inr ((pend, p), status_fits f Status.SyncWriteReCommitInProgress);
-    none = λ active is. inr ((pend, p), status_fits f Status.SyncWriteReCommitInProgress);
+    left = λ active left. status_fits f Status.SyncWriteReCommitInProgress;
+    found = λ active free doc is. absurd (free (pend, p, (exact on key pend p).left l));
+    none = λ active free is. absurd (free (pend, p, (exact on key pend p).left l));
   })
-  read_by code waiting true on o p false l None has reply e = subst Fits (same (status_reply f Status.KeyEnoent) reply e) (record {
+  read_by code waiting exact true on o p false l None has reply e = subst Fits (same (status_reply f Status.KeyEnoent) reply e) (record {
     away = λ off. absurd (off (leads x on));
-    found = λ active doc is. (let z : None ≡ Some doc = sym has ∙ is in cc);
-    none = λ active is. inl (status_fits f Status.KeyEnoent);
+    left = λ active left. absurd (not_left risen image waiting (exact on) key o p l left);
+    found = λ active free doc is. (let z : None ≡ Some doc = sym has ∙ is in cc);
+    none = λ active free is. status_fits f Status.KeyEnoent;
   })
-  read_by code waiting true on o p false l (Some doc) has reply e = subst Fits (same (found_reply settings f doc) reply e) (record {
+  read_by code waiting exact true on o p false l (Some doc) has reply e = subst Fits (same (found_reply settings f doc) reply e) (record {
     away = λ off. absurd (off (leads x on));
-    found = λ active other is. inl (subst (IsFound settings.json (reply_frame (found_reply settings f doc)) f.opaque) (same doc other (sym has ∙ is)) (found_fits settings f doc code));
-    none = λ active is. (let z : None ≡ Some doc = sym is ∙ has in cc);
+    left = λ active left. absurd (not_left risen image waiting (exact on) key o p l left);
+    found = λ active free other is. subst (IsFound settings.json (reply_frame (found_reply settings f doc)) f.opaque) (same doc other (sym has ∙ is)) (found_fits settings f doc code);
+    none = λ active free is. (let z : None ≡ Some doc = sym is ∙ has in cc);
   })
 
 -- ---- why a write is refused
 
 -- as its vBucket is not active
-why_away : (Besides : Status → Type 0) (role : Option (Option Role)) (image : Picture) (write : Write) (st : Status) → (IsActive role → ⊥) → st ≡ Status.NotMyVbucket → IsWhyRefused Besides role image write st
-why_away Besides role image write st off is = record { away = λ o. is; locked = λ on l. absurd (off on); unfit = λ on free. absurd (off on) }
+why_away : (Besides : Status → Type 0) (role : Option (Option Role)) (risen : ℕ) (image : Picture) (write : Write) (st : Status) → (IsActive role → ⊥) → st ≡ Status.NotMyVbucket → IsWhyRefused Besides role risen image write st
+why_away Besides role risen image write st off is = record { away = λ o. is; left = λ on l. absurd (off on); locked = λ on l. absurd (off on); unfit = λ on free. absurd (off on) }
 
-module _ (Besides : Status → Type 0) (x : Role) (image : Picture) (write : Write) (st : Status) (on : is_active x ≡ true) where
+module _ (Besides : Status → Type 0) (x : Role) (risen : ℕ) (image : Picture) (write : Write) (st : Status) (on : is_active x ≡ true) where
   abbrev Why : Type 0
-  Why = IsWhyRefused Besides (Some (Some x)) image write st
+  Why = IsWhyRefused Besides (Some (Some x)) risen image write st
 
   -- at any key
   why_besides : Besides st → Why
-  why_besides b = record { away = λ off. absurd (off (leads x on)); locked = λ active l. inr (inr b); unfit = λ active free. inr b }
+  why_besides b = record { away = λ off. absurd (off (leads x on)); left = λ active l. inr b; locked = λ active l. inr b; unfit = λ active free. inr b }
 
   -- by the prepare that waits at its key, or by the key's document
-  why_key : (waiting : List Waiting) (o : Option Pend) → finite.get image.pending write.key ≡ o
+  why_key : (waiting : List Waiting) → AreLeftExactly risen image waiting → (o : Option Pend) → finite.get image.pending write.key ≡ o
       → or_else (pending_refusal waiting o) (doc_refusal write.op write.cas (finite.get image.docs write.key)) ≡ Some st → Why
-  why_key waiting None none e = record {
+  why_key waiting exact None none e = record {
     away = λ off. absurd (off (leads x on));
+    left = λ active l. (let z : None ≡ Some l.0 = sym none ∙ l.1 in cc);
     locked = λ active l. (let z : None ≡ Some l.0 = sym none ∙ l.1 in cc);
     unfit = λ active free. inl e;
   }
-  why_key waiting (Some p) waits e = record {
+  why_key waiting exact (Some p) waits e = record {
     away = λ off. absurd (off (leads x on));
-    locked = λ active l. by (is_left waiting (Some p)) e;
+    left = λ active l. inl (left (is_left waiting (Some p)) refl e l);
+    locked = λ active l. inl (own (is_left waiting (Some p)) refl e l);
     unfit = λ active free. (let z : None ≡ Some p = sym free ∙ waits in cc);
   }
     where
-      by : (b : Bool) → Some (if b then Status.SyncWriteReCommitInProgress else Status.SyncWriteInProgress) ≡ Some st
-          → (st ≡ Status.SyncWriteInProgress) ⊎ (st ≡ Status.SyncWriteReCommitInProgress) ⊎ Besides st
-      by true s = inr (inl (sym (same Status.SyncWriteReCommitInProgress st s)))
-      by false s = inl (sym (same Status.SyncWriteInProgress st s))
+      left : (b : Bool) → is_left waiting (Some p) ≡ b → Some (if b then Status.SyncWriteReCommitInProgress else Status.SyncWriteInProgress) ≡ Some st → IsLeftUndone risen image write.key → st ≡ Status.SyncWriteReCommitInProgress
+      left true t s l = sym (same Status.SyncWriteReCommitInProgress st s)
+      left false t s l = absurd (not_left risen image waiting exact write.key (Some p) waits t l)
 
-module _ (vb : Plain) (write : Write) (st : Status) where
+      own : (b : Bool) → is_left waiting (Some p) ≡ b → Some (if b then Status.SyncWriteReCommitInProgress else Status.SyncWriteInProgress) ≡ Some st → IsLocked risen image write.key → st ≡ Status.SyncWriteInProgress
+      own true t s l = absurd (not_own risen image waiting exact write.key p waits t l)
+      own false t s l = sym (same Status.SyncWriteInProgress st s)
+
+module _ (vb : Plain) (risen : ℕ) (exact : is_active vb.role ≡ true → AreLeftExactly risen (image_in vb) vb.waiting) (write : Write) (st : Status) where
   -- by what its vBucket is
-  why_store : (held : List Change) → (lacks_seqnos vb 1 ≡ true → LacksSeqnos held 1 Status.Etmpfail) → store_refusal vb write ≡ Some st → IsWhyRefused (LacksSeqnos held 1) (Some (Some vb.role)) (image_in vb) write st
+  why_store : (held : List Change) → (lacks_seqnos vb 1 ≡ true → LacksSeqnos held 1 Status.Etmpfail) → store_refusal vb write ≡ Some st → IsWhyRefused (LacksSeqnos held 1) (Some (Some vb.role)) risen (image_in vb) write st
   why_store held lacks e = by (is_active vb.role) refl (lacks_seqnos vb 1) refl e
     where
       by : (a : Bool) → is_active vb.role ≡ a → (full : Bool) → lacks_seqnos vb 1 ≡ full → (if a then (if full then Some Status.Etmpfail else key_refusal vb write) else Some Status.NotMyVbucket) ≡ Some st
-          → IsWhyRefused (LacksSeqnos held 1) (Some (Some vb.role)) (image_in vb) write st
-      by false off full l s = why_away (LacksSeqnos held 1) (Some (Some vb.role)) (image_in vb) write st (follows vb.role off) (sym (same Status.NotMyVbucket st s))
-      by true on true l s = why_besides (LacksSeqnos held 1) vb.role (image_in vb) write st on (subst (LacksSeqnos held 1) (same Status.Etmpfail st s) (lacks l))
-      by true on false l s = why_key (LacksSeqnos held 1) vb.role (image_in vb) write st on vb.waiting (pending_of vb write.key) refl s
+          → IsWhyRefused (LacksSeqnos held 1) (Some (Some vb.role)) risen (image_in vb) write st
+      by false off full l s = why_away (LacksSeqnos held 1) (Some (Some vb.role)) risen (image_in vb) write st (follows vb.role off) (sym (same Status.NotMyVbucket st s))
+      by true on true l s = why_besides (LacksSeqnos held 1) vb.role risen (image_in vb) write st on (subst (LacksSeqnos held 1) (same Status.Etmpfail st s) (lacks l))
+      by true on false l s = why_key (LacksSeqnos held 1) vb.role risen (image_in vb) write st on vb.waiting (exact on) (pending_of vb write.key) refl s
 
   -- one that can have no majority comes first
   first_durable : (chain : Members) → (is_active vb.role ≡ true → chain ≡ vb.others) → durable_refusal vb write ≡ Some st → IsImpossibleFirst (Some (Some vb.role)) chain st
@@ -250,20 +275,20 @@ module _ (vb : Plain) (write : Write) (st : Status) where
 
   -- and by its chain
   why_durable : (chain : Members) (held : List Change) → (is_active vb.role ≡ true → chain ≡ vb.others) → (lacks_seqnos vb 2 ≡ true → LacksSeqnos held 2 Status.Etmpfail) → durable_refusal vb write ≡ Some st
-      → IsWhyRefused (LacksMajority chain held) (Some (Some vb.role)) (image_in vb) write st
+      → IsWhyRefused (LacksMajority chain held) (Some (Some vb.role)) risen (image_in vb) write st
   why_durable chain held is lacks e = by (is_active vb.role) refl (is_possible vb.others) refl (lacks_seqnos vb 2) refl e
     where
       by : (a : Bool) → is_active vb.role ≡ a → (p : Bool) → is_possible vb.others ≡ p → (full : Bool) → lacks_seqnos vb 2 ≡ full
           → (if not a then Some Status.NotMyVbucket else if not p then Some Status.DurabilityImpossible else if full then Some Status.Etmpfail else key_refusal vb write) ≡ Some st
-          → IsWhyRefused (LacksMajority chain held) (Some (Some vb.role)) (image_in vb) write st
-      by false off p few full l s = why_away (LacksMajority chain held) (Some (Some vb.role)) (image_in vb) write st (follows vb.role off) (sym (same Status.NotMyVbucket st s))
-      by true on false few full l s = why_besides (LacksMajority chain held) vb.role (image_in vb) write st on (inr (ap is_possible (is on) ∙ few, sym (same Status.DurabilityImpossible st s)))
-      by true on true few true l s = why_besides (LacksMajority chain held) vb.role (image_in vb) write st on (inl (subst (LacksSeqnos held 2) (same Status.Etmpfail st s) (lacks l)))
-      by true on true few false l s = why_key (LacksMajority chain held) vb.role (image_in vb) write st on vb.waiting (pending_of vb write.key) refl s
+          → IsWhyRefused (LacksMajority chain held) (Some (Some vb.role)) risen (image_in vb) write st
+      by false off p few full l s = why_away (LacksMajority chain held) (Some (Some vb.role)) risen (image_in vb) write st (follows vb.role off) (sym (same Status.NotMyVbucket st s))
+      by true on false few full l s = why_besides (LacksMajority chain held) vb.role risen (image_in vb) write st on (inr (ap is_possible (is on) ∙ few, sym (same Status.DurabilityImpossible st s)))
+      by true on true few true l s = why_besides (LacksMajority chain held) vb.role risen (image_in vb) write st on (inl (subst (LacksSeqnos held 2) (same Status.Etmpfail st s) (lacks l)))
+      by true on true few false l s = why_key (LacksMajority chain held) vb.role risen (image_in vb) write st on vb.waiting (exact on) (pending_of vb write.key) refl s
 
 -- so it is refused where its vBucket is not active
-pub refused_away : (Besides : Status → Type 0) (role : Option (Option Role)) (image : Picture) (write : Write) (f : Frame) → (IsActive role → ⊥) → IsRefused Besides role image write f (reply_frame (status_reply f Status.NotMyVbucket))
-refused_away Besides role image write f off = (Status.NotMyVbucket, status_fits f Status.NotMyVbucket, why_away Besides role image write Status.NotMyVbucket off refl)
+pub refused_away : (Besides : Status → Type 0) (role : Option (Option Role)) (risen : ℕ) (image : Picture) (write : Write) (f : Frame) → (IsActive role → ⊥) → IsRefused Besides role risen image write f (reply_frame (status_reply f Status.NotMyVbucket))
+refused_away Besides role risen image write f off = (Status.NotMyVbucket, status_fits f Status.NotMyVbucket, why_away Besides role risen image write Status.NotMyVbucket off refl)
 
 -- ---- writes that were made
 
@@ -299,15 +324,35 @@ made_fits n v held made settings f vb write cas branch older before last alone b
 -- ---- outcomes of durable writes
 
 module _ (settings : Settings) (f : Frame) (a : Awaited) (code : a.opcode ≡ f.opcode) (number : a.opaque ≡ f.opaque) where
-  pub committed_fits : (n : ℕ) (made : List OwnChange) (branch seq cas : ℕ) → CommitTold n made branch seq cas → IsCommitted n made settings f (reply_frame (outcome_reply settings a (resolution.Committed branch seq cas)))
-  committed_fits n made branch seq cas t = record {
+  pub committed_fits : (n v : ℕ) (served : Option (List OwnChange)) (made : List OwnChange) (write : Write) (Claim : ℕ → Waiting → Pend → Type 0) (branch seq cas : ℕ) → ((told : List OwnChange) (u : ℕ) (x : Waiting) (p : Pend) → served ≡ Some told → x.waiter ≡ a.waiter → Claim u x p → (u ≡ v) × IsPrepareOf write x p × IsToldIn n u x p told)
+      → CommitTold n made Claim a.waiter branch seq cas → IsCommitted n v served made settings write f (reply_frame (outcome_reply settings a (resolution.Committed branch seq cas)))
+  committed_fits n v served made write Claim branch seq cas owns t = record {
     one = t.one;
     told_before = t.among;
     here = t.here;
-    prepared = t.prepared;
-    doc = t.doc;
-    deleted = t.deleted;
+    prepared = t.x.seq;
+    doc = t.p.doc;
+    deleted = t.p.deleted;
     commits = t.commits;
+    own = λ told rises.
+        let (at, is, named) = owns told t.one.vb t.x t.p rises t.number t.claim in record {
+          at = at;
+          key = t.key_is ∙ is.key_is;
+          prepared = t.x.seq;
+          cas = is.cas;
+          rev = is.rev;
+          commits = t.commits ∙ ap (λ d. act.Commit t.x.seq d t.p.deleted) is.doc_is ∙ ap (act.Commit t.x.seq (written_doc write is.cas is.rev)) is.deleted_is;
+          names = record {
+            first = named.first;
+            among = named.among;
+            node = named.node;
+            vb = named.vb ∙ at;
+            seq = named.seq;
+            key = named.key ∙ is.key_is;
+            level = named.level;
+            act = named.act ∙ ap (λ d. act.Prepare named.level d t.p.deleted) is.doc_is ∙ ap (act.Prepare named.level (written_doc write is.cas is.rev)) is.deleted_is;
+          };
+        };
     told = record {
       header = record { magic = refl; opcode = code; key = refl; datatype = refl; status = refl; opaque = number; framing = refl };
       cas = sym t.cas_is;
@@ -327,26 +372,23 @@ module _ (settings : Settings) (f : Frame) (a : Awaited) (code : a.opcode ≡ f.
 -- ---- each by what the lines tell
 
 -- a frame that is none of DCP's fits where its request does
-pub frame_fits : (r : Chronicle) (n : ℕ) (at : Moment) (settings : Settings) (f g : Frame) → is_dcp f.opcode ≡ false → FitsRequest r n settings f g (request_of settings.json f) → FitsFrame r n at settings f g
-frame_fits r n at settings f g own fits = subst (λ b. FitsBy b r n at settings f g) (sym own) fits
+pub frame_fits : (served : Option (List OwnChange)) (r : Chronicle) (n : ℕ) (at : Moment) (settings : Settings) (f g : Frame) → is_dcp f.opcode ≡ false → FitsRequest served r n at.durables settings f g (request_of settings.json f) → FitsFrame served r n at settings f g
+frame_fits served r n at settings f g own fits = subst (λ b. FitsBy b served r n at settings f g) (sym own) fits
 
 module _ (r : Chronicle) (n v : ℕ) (settings : Settings) (f : Frame) (write : Write) where
   -- a vBucket that is not active, or is not there, refuses each write
   pub write_away : (IsActive (r.role_at n v) → ⊥) → FitsWrite r n v settings write f (reply_frame (status_reply f Status.NotMyVbucket))
-  write_away off = inl (refused_away (LacksSeqnos (r.held n v) 1) (r.role_at n v) (image_of (r.held n v)) write f off)
+  write_away off = inl (refused_away (LacksSeqnos (r.held n v) 1) (r.role_at n v) (r.counts_at n v).risen (image_of (r.held n v)) write f off)
 
-  pub durable_away : (IsActive (r.role_at n v) → ⊥) → FitsDurable r n v settings write f (reply_frame (status_reply f Status.NotMyVbucket))
-  durable_away off =
-      let x = refused_away (LacksMajority (r.counts_at n v).chain (r.held n v)) (r.role_at n v) (image_of (r.held n v)) write f off in inr (inl (x.0, x.1, x.2, λ on few. absurd (off on)))
-
-  -- so does a connection that has no number left for a durable one, whatever its vBucket is
-  pub durable_over : FitsDurable r n v settings write f (reply_frame (status_reply f Status.Etmpfail))
-  durable_over = inl (status_fits f Status.Etmpfail)
+  pub durable_away : (served : Option (List OwnChange)) → (IsActive (r.role_at n v) → ⊥) → FitsDurable served r n v settings write f (reply_frame (status_reply f Status.NotMyVbucket))
+  durable_away served off =
+      let x = refused_away (LacksMajority (r.counts_at n v).chain (r.held n v)) (r.role_at n v) (r.counts_at n v).risen (image_of (r.held n v)) write f off in inl (x.0, x.1, x.2, λ on few. absurd (off on))
 
   -- its outcome
-  pub outcome_fits : (a : Awaited) (how : Resolution) → a.opcode ≡ f.opcode → a.opaque ≡ f.opaque → HowTold n r.made how → FitsDurable r n v settings write f (reply_frame (outcome_reply settings a how))
-  outcome_fits a (resolution.Committed branch seq cas) code number told = inr (inr (inl (committed_fits settings f a code number n r.made branch seq cas (told branch seq cas refl))))
-  outcome_fits a resolution.Ambiguous code number told = inr (inr (inr (ambiguous_fits settings f a code number)))
+  pub outcome_fits : (a : Awaited) (how : Resolution) (Claim : ℕ → Waiting → Pend → Type 0) → a.opcode ≡ f.opcode → a.opaque ≡ f.opaque → (served : Option (List OwnChange)) → ((told : List OwnChange) (u : ℕ) (x : Waiting) (p : Pend) → served ≡ Some told → x.waiter ≡ a.waiter → Claim u x p → (u ≡ v) × IsPrepareOf write x p × IsToldIn n u x p told)
+      → HowTold n r.made Claim (record { waiter = a.waiter; how = how }) → FitsDurable served r n v settings write f (reply_frame (outcome_reply settings a how))
+  outcome_fits a (resolution.Committed branch seq cas) Claim code number served owns told = inr (inl (committed_fits settings f a code number n v served r.made write Claim branch seq cas owns (told branch seq cas refl)))
+  outcome_fits a resolution.Ambiguous Claim code number served owns told = inr (inr (ambiguous_fits settings f a code number))
 
 -- an outcome refuses nothing
 pub is_outcome : (settings : Settings) (f : Frame) (a : Awaited) (write : Write) (wish : Durability) → request_of settings.json f ≡ Ok (request.Write write (Some wish)) → (how : Resolution) → IsOutcome settings f (reply_frame (outcome_reply settings a how))
@@ -358,6 +400,10 @@ beyond : (n : ℕ) → nat_lt MAX_SEQ n ≡ true → 2 ^ 48 < n
 beyond n e = grind (arith, nat_tests)
 
 module _ (r : Chronicle) (n v : ℕ) (vb : Plain) (known : KnownAs r n v vb) where
+  -- up to where the prepares that wait there were left
+  abbrev risen : ℕ
+  risen = (r.counts_at n v).risen
+
   -- what fits the vBucket fits what is told of it
   as_told : (P : Option (Option Role) → Picture → Type 0) → P (Some (Some vb.role)) (image_in vb) → P (r.role_at n v) (image_of (r.held n v))
   as_told P x = subst (λ o. P o (image_of (r.held n v))) (sym known.role) (subst (P (Some (Some vb.role))) (sym known.image) x)
@@ -374,14 +420,14 @@ module _ (r : Chronicle) (n v : ℕ) (vb : Plain) (known : KnownAs r n v vb) whe
 
   module _ (settings : Settings) (f : Frame) where
     pub get_fits : (key : List ℕ) → f.opcode ≡ GET → (reply : KvReply) → reply_to settings f (get_row vb key).answer ≡ Some reply
-        → FitsGet (r.role_at n v) (image_of (r.held n v)) settings.json key f (reply_frame reply)
-    get_fits key code reply e = as_told (λ role image. FitsGet role image settings.json key f (reply_frame reply))
-        (read_by settings f key vb.role (image_in vb) code vb.waiting (is_active vb.role) refl (pending_of vb key) refl (is_left vb.waiting (pending_of vb key)) refl (doc_at vb key) refl reply e)
+        → FitsGet (r.role_at n v) risen (image_of (r.held n v)) settings.json key f (reply_frame reply)
+    get_fits key code reply e = as_told (λ role image. FitsGet role risen image settings.json key f (reply_frame reply))
+        (read_by settings f key vb.role risen (image_in vb) code vb.waiting known.lefts (is_active vb.role) refl (pending_of vb key) refl (is_left vb.waiting (pending_of vb key)) refl (doc_at vb key) refl reply e)
 
     pub refused_fits : (write : Write) (st : Status) → store_refusal vb write ≡ Some st → FitsWrite r n v settings write f (reply_frame (status_reply f st))
-    refused_fits write st e = inl (st, status_fits f st, as_told (λ role image. IsWhyRefused (LacksSeqnos (r.held n v) 1) role image write st) (why_store vb write st (r.held n v) (lacks 1) e))
+    refused_fits write st e = inl (st, status_fits f st, as_told (λ role image. IsWhyRefused (LacksSeqnos (r.held n v) 1) role risen image write st) (why_store vb risen known.lefts write st (r.held n v) (lacks 1) e))
 
-    pub durable_refused_fits : (write : Write) (st : Status) → durable_refusal vb write ≡ Some st → FitsDurable r n v settings write f (reply_frame (status_reply f st))
-    durable_refused_fits write st e =
+    pub durable_refused_fits : (served : Option (List OwnChange)) (write : Write) (st : Status) → durable_refusal vb write ≡ Some st → FitsDurable served r n v settings write f (reply_frame (status_reply f st))
+    durable_refused_fits served write st e =
         let chain : Members = (r.counts_at n v).chain in
-        inr (inl (st, status_fits f st, as_told (λ role image. IsWhyRefused (LacksMajority chain (r.held n v)) role image write st) (why_durable vb write st chain (r.held n v) known.chain (lacks 2) e), subst (λ o. IsImpossibleFirst o chain st) (sym known.role) (first_durable vb write st chain known.chain e)))
+        inl (st, status_fits f st, as_told (λ role image. IsWhyRefused (LacksMajority chain (r.held n v)) role risen image write st) (why_durable vb risen known.lefts write st chain (r.held n v) known.chain (lacks 2) e), subst (λ o. IsImpossibleFirst o chain st) (sym known.role) (first_durable vb risen known.lefts write st chain known.chain e))

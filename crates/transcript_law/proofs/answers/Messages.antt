@@ -94,7 +94,7 @@ IsOfOpcode o None = Unit {0}
 IsOfOpcode o (Some row) = row_opcode row ≡ o
 
 opcode_rows : (o : Opcode) → IsOfOpcode o (row_of_opcode o false)
-opcode_rows op.SetVbucketState = tt
+opcode_rows op.SetVbucketState = refl
 opcode_rows other = refl
 
 -- so the request has its row's number

@@ -18,7 +18,7 @@ module _ (n c : ℕ) (w : PlainWorld) (r : Chronicle) (client : PlainClient) (a 
   session = client.session
 
   -- nothing: all frames were served, each is answered that wants to be, and behind them no fault stands
-  none_asked : session.awaited ≡ None → (question_of asking ≡ None) × (front_fault (behind_frames asking.bytes) ≡ None)
+  pub none_asked : session.awaited ≡ None → (question_of asking ≡ None) × (front_fault (behind_frames asking.bytes) ≡ None)
   none_asked free =
       let rest = ranged.rests a.alive free in
       let left = rest_asks asking session client.producer.handshake a.asks free (ap frame_in rest) in (left.0, ap front_fault left.1 ∙ ap fault_in rest)

@@ -285,12 +285,14 @@ module _ (f : Frame) (small : f.opaque < 2 ^ 32) where
     message_served msg.GetFailoverLog s = log_served f small s states short
     message_served msg.Noop s = refused f small _ s
     message_served (msg.BufferAcknowledgement bytes) s = bytes_served f small bytes s (is_open s.end.handshake)
+    message_served (msg.SetVbucketState to) s = refused f small status.Einval s
     message_served (msg.OpenAnswer st) s = refused f small status.Einval s
     message_served (msg.ControlAnswer st) s = refused f small status.Einval s
     message_served (msg.StreamAnswer told) s = refused f small status.Einval s
     message_served (msg.CloseAnswer st) s = refused f small status.Einval s
     message_served (msg.NoopAnswer st) s = refused f small status.Einval s
     message_served (msg.LogAnswer st log) s = refused f small status.Einval s
+    message_served (msg.StateAnswer st) s = refused f small status.Einval s
 
 -- the window after a frame that was read so
 abbrev window_of : Frame → Option (Result DcpMsg DcpFault) → Handshake → Room → Room

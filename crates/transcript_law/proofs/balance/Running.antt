@@ -6,10 +6,11 @@ use Rattle.node_core.specs.Dials.{dial_due}
 use Rattle.node_world.specs.{Arms.{empty_node, fail_arm, placed, stop_arm}, Cuts.{own_link}, Dues.{done_step, due_at, due_of, is_counted, with_acknowledged, with_due}, Links.{feeds, left_unless, with_down}, Nodes.{arm_at, chain_line, clock_at, done, flush_line, if_up, replica_at, save_line, tick_line, vb_at}}
 use Rattle.node_world.specs.{Power.{crash_causes, down_lines, dropped, start_at, start_causes}, Turns.{admin_line, promote_causes, promote_step, role_outcome, turn_causes, turn_step}, World.{client_verb_at, cut_outcome, cut_step, down_in, down_outcome, down_step, link_verb_step, node_verb_step, relinked, vb_verb_step}, Worlds.{on_made, with_node_at}}
 use Rattle.vb_types.specs.declared.journal.FlushPart.TheVariants as part
-use Rattle.transcript_law.specs.{Balance.{AreBalanced}, Chronicles.{after_group}, Prefixes.{world_after}}
-use Rattle.transcript_law.proofs.{Runs.{group_agrees, row_of, start}, invariant.Agreement.{Agrees, IsLink}, invariant.LinkRows.{found_is_link}, invariant.Ranged.{IsRanged, NodeRangedIf, start_ranged}, verbs.NodeLines.{on_link_by}, verbs.Settling.{steady}, verbs.Rows.{Row}}
+use Rattle.transcript_law.specs.{Balance.{AreBalanced}, Chronicles.{after_group, at_line}, Prefixes.{world_after}}
+use Rattle.transcript_law.proofs.{Runs.{group_agrees, group_serves, row_of, start, start_serves}, invariant.Agreement.{Agrees, IsLink}, invariant.LinkRows.{found_is_link}, invariant.Ranged.{IsRanged, NodeRangedIf, start_ranged}, verbs.NodeLines.{on_link_by}, verbs.Settling.{steady}, verbs.Rows.{Row}}
 use Rattle.transcript_law.proofs.balance.{Downing.{Writing, down_level, due_level, told, writing_of}, Hearing.{dued}, Leaving.{among_on, arm_on, dropped_among, found_among, made_links, node_links, out_among, put_among, refused_on, role_on, same_on, with_broken_among}, Levels.{AllLevel, FlowOn, Level, level_on}, Measures.{acknowledged_is, counted_is}, Opening.{link_level}, Pumping.{pump_holds}, Upping.{up_holds}}
 use Rattle.transcript_law.specs.LawfulAnswers.{AllDurable}
+use Rattle.transcript_law.proofs.invariant.{Begun.{ServesOpen}, ClientWorlds.{ConnsAre, start_conns}, Clients.{line_heard}}
 
 -- the consumers of links have opaques
 abbrev SmallAfter : List PlainLink → Type 0
@@ -171,16 +172,16 @@ module _ (w : PlainWorld) (r : Chronicle) (ranged : IsRanged w) (a : Agrees w r)
 small_after : (w : PlainWorld) (r : Chronicle) → Agrees w r → SmallAfter w.links
 small_after w r (c, a) x i = (writing_of w r c x (a.links x i)).opaque
 
-levels_from : (w : PlainWorld) (r : Chronicle) (script : List ScriptLine) → ScriptFits script → IsRanged w → AllDurable r.made → Agrees w r → AllLevel w → AllLevel (world_after w script)
+levels_from : (w : PlainWorld) (r : Chronicle) (script : List ScriptLine) → ScriptFits script → IsRanged w → ConnsAre w r.conn_at → ServesOpen r.last r.conn_at → AllDurable r.made → Agrees w r → AllLevel w → AllLevel (world_after w script)
 unfolding world_step
-levels_from w r [] fits ranged calm a all = all
-levels_from w r (line ∷ lines) fits ranged calm a all =
+levels_from w r [] fits ranged are serves calm a all = all
+levels_from w r (line ∷ lines) fits ranged are serves calm a all =
     let fit = All-head (λ (x : ScriptLine). VerbFits x.verb) line lines fits in
     let outcome = verb_step w line.line line.verb in
     let row : Row w line.verb outcome = row_of w line.line line.verb in
-    let r' : Chronicle = after_group r line.verb outcome.1.events outcome.1.answer in
-    let now = group_agrees w r line.line line.verb fit ranged calm a in
-    levels_from (with_branches outcome.1.events outcome.0) r' lines (All-tail (λ (x : ScriptLine). VerbFits x.verb) line lines fits) (row.ranged fit ranged) tt now
+    let r' : Chronicle = after_group (at_line r line.line) line.verb outcome.1.events outcome.1.answer in
+    let now = group_agrees w r line.line line.verb fit ranged are serves calm a in
+    levels_from (with_branches outcome.1.events outcome.0) r' lines (All-tail (λ (x : ScriptLine). VerbFits x.verb) line lines fits) (row.ranged fit ranged) (line_heard r.conn_at w line.line are line.verb fit).1 (group_serves r line.line line.verb outcome.1.events outcome.1.answer) tt now
     (line_goes w r ranged a all line.line line.verb fit (small_after (with_branches outcome.1.events outcome.0) r' now))
 
 balanced : (w : PlainWorld) → AllLevel w → AreBalanced w
@@ -190,4 +191,4 @@ balanced w all l link found some fits =
 
 -- behind all of it
 pub scripts_balance : (script : List ScriptLine) → ScriptFits script → AreBalanced (world_of script)
-scripts_balance script fits = balanced (world_of script) (levels_from empty_world empty_chronicle script fits start_ranged tt start (λ x i. absurd i))
+scripts_balance script fits = balanced (world_of script) (levels_from empty_world empty_chronicle script fits start_ranged start_conns start_serves tt start (λ x i. absurd i))

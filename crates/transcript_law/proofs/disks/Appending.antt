@@ -3,8 +3,8 @@ use Rattle.std.specs.Prelude.{◌≡◌, ◌<◌, ◌≤◌, ◌^◌, ◌∷◌,
 use Rattle.transcript_law.proofs.Words.{ℕ, Bool, true, false, List, refl, ap, sym, ◌∙◌, subst, arith, inl, ⊎_elim, Option, Some, None, Answer, Cause, Chronicle, Cluster, Move, Plain, PlainNode, PlainWorld, Role, LogEntry, SoundCluster, with_id}
 use Rattle.transcript_law.proofs.Words.{Member, consumer_node, eq-eqb, eqb-true, happens, is_some, keeps, link_number, ne_eqb, not, producer_node, shelf_in, vb_in, with_node_at}
 use Rattle.std.specs.Prelude.{◌==◌}
-use Rattle.transcript_law.proofs.{invariant.{Carried.{all_there}, Carrying.{SameClients}, ClientsKept.{ConnsKept, Every, clients_kept, goes_same, spot_at}, LinkFeeds.{feeds_same}}, verbs.NodeLines.{clients_again}}
-use Rattle.transcript_law.proofs.{invariant.Agreement.{AgreesAt, AgreesIn, Agrees, Busy, DiskIsIf, IsArm, IsLink, LinksDiffer, Power, PowerIs, PowerIsIf, RestsIn, VbAgrees, VbIsIf, consumer_seat, idle, power_of, producer_seat, shelf_of, top, vb_of, vb_row}, disks.ArmedLines.{ArmedCame}}
+use Rattle.transcript_law.proofs.{invariant.{Carried.{all_there}, Carrying.{SameClients}, Owed.{fewer_same}, ClientsKept.{ConnsKept, Every, clients_kept, every_owed, goes_same, spot_at}, LinkFeeds.{feeds_same}}, verbs.NodeLines.{clients_again}}
+use Rattle.transcript_law.proofs.{invariant.Agreement.{clock_of, AgreesAt, AgreesIn, Agrees, Busy, DiskIsIf, IsArm, IsLink, LinksDiffer, Power, PowerIs, PowerIsIf, RestsIn, VbAgrees, VbIsIf, consumer_seat, idle, power_of, producer_seat, shelf_of, top, vb_of, vb_row}, disks.ArmedLines.{ArmedCame}}
 use Rattle.transcript_law.proofs.{disks.Burning.{BreaksUnder, breaks_under, late_bare, quiet_same, stands_under}, invariant.Carried.{branches_again, ids_same, kept_same, link_carried, numbers, places}, invariant.Carrying.{SameOffs, off_of}}
 use Rattle.transcript_law.proofs.{disks.Disks.{FlushIs, Parts, SameParts, ShelfIs, bare, disk_same, parts_of, power_in, same_parts}, invariant.OneLink.{disk_here, disk_there}, invariant.Resting.{ends_off, rests_with}, invariant.Seats.{seat, seats_apart}, invariant.Tables.{at_here, at_there, id_here, id_there}, links.Turning.{put_itself}}
 use Rattle.{branch_model.specs.Journals.{cas_of_last, place_of}, cluster_model.specs.Clusters.{Disk, MayAppend, MayStand, appended}, disk_journals.specs.Arms.{under}, node_core.specs.Admin.{noted_answer}}
@@ -18,6 +18,7 @@ use Rattle.vb_journal.specs.UnderArms.{all_pass, burnt_noting, stands}
 use Rattle.vb_types.specs.declared.journal.Batch.{Batch}
 use Rattle.vb_types.specs.declared.journal.Record.{Record}
 use Rattle.vb_types.specs.declared.journal.Record.TheVariants as noted
+use Rattle.transcript_law.proofs.invariant.Owing.{later_same}
 
 -- ---- the journal
 
@@ -180,11 +181,12 @@ row_there r n v told m q o i = record (vb_row r m q) { disk = at_there r.disk_at
 -- what was written down of a vBucket that is there is no part of what it holds
 pub told_disk : (r : Chronicle) (n v : ℕ) (told : DiskKnown) (m q : ℕ) (k : Member) (o : Option Plain) → (o ≡ None → m ≡ n → q ≡ v → ⊥) → AgreesAt r m q k o → AgreesAt (with_disk r n v told) m q k o
 told_disk r n v told m q k None apart x = subst (λ t. VbIsIf r.tree r.writer_of t m q k None) (sym (row_there r n v told m q (apart refl))) x
-told_disk r n v told m q k (Some y) apart x = record { kept = x.kept; role = x.role; opened = x.opened; writes = x.writes; counts = x.counts }
+told_disk r n v told m q k (Some y) apart x = record { kept = x.kept; role = x.role; opened = x.opened; writes = x.writes; counts = x.counts; lefts = x.lefts; times = x.times }
 
 -- the journal of the vBucket v of the node n is another, and all else as it was, but for arms
 pub record Renoted (w w' : PlainWorld) (n v : ℕ) (shelf : Shelf) : Type 0 where
   pub offs : SameOffs w w'
+  pub clocks : (m : ℕ) → clock_of (power_of w' m) ≡ clock_of (power_of w m)
   pub clients : SameClients w w'
   pub vbs : (m q : ℕ) → vb_of w' m q ≡ vb_of w m q
   pub stands : shelf_of w' n v ≡ Some shelf
@@ -222,7 +224,7 @@ module _ (busy : Busy) (w w' : PlainWorld) (r : Chronicle) (arms : ℕ → ArmKn
       (places n v m q)
 
   rests : RestsIn w' r' kept.now
-  rests = rests_with w w' r r' c kept.now a.rests same.offs powers
+  rests = rests_with w w' r r' c kept.now a.rests same.offs powers (λ m. a.clocks m ∙ sym (same.clocks m))
       (λ m q none. let o = one_there m q (sym (same.vbs m q) ∙ none) in record {
         vb = sym (same.vbs m q) ∙ none;
         shelf = same.shelves m q o;
@@ -253,7 +255,8 @@ module _ (busy : Busy) (w w' : PlainWorld) (r : Chronicle) (arms : ℕ → ArmKn
         (kept.nodes (consumer_seat x)) (λ p k s e active opened has. (p, same.vbs (producer_node x) x.consumer.dialed.vb ∙ e, active, opened, ap (λ (m : Member). m.br) (kept.nodes (producer_seat x))))
         (a.links x (subst (IsLink x) same.linked i));
     differ = subst LinksDiffer (sym same.linked) a.differ;
-    clients = clients_kept w w' r r' 0 a.clients (all_there busy w r c a) conns (λ l m q id has. inl (feeds_same w w' same.linked l m q id has));
+    clients = clients_kept w w' r r' 0 a.clients (all_there busy w r c a) conns (λ l m q id has. inl (feeds_same w w' same.linked l m q id has))
+        (every_owed w w' r r' conns (later_same _ _ refl refl) (λ m q. fewer_same (vb_of w m q) (vb_of w' m q) (same.vbs m q)) a.clients.owed);
     rests = rests;
   }
 
@@ -291,7 +294,7 @@ flush_kept f shelf r = by_fate f shelf r (λ y. y.0.flush ≡ shelf.flush) (λ e
 -- a node that is running
 up_is : (o : Option PlainNode) (p : Power) → power_in o ≡ Some p → p.off ≡ None → is_up o ≡ true
 up_is None p e off = cc
-up_is (Some node) p e off = let q : record { arm = node.arm; off = node.off } ≡ p = cc in ap (λ o. not (is_some o)) (ap (λ (x : Power). x.off) q ∙ off)
+up_is (Some node) p e off = let q : record { arm = node.arm; off = node.off; clock = node.clock } ≡ p = cc in ap (λ o. not (is_some o)) (ap (λ (x : Power). x.off) q ∙ off)
 
 module _ (w w' : PlainWorld) (r : Chronicle) (n v : ℕ) (power : Power) (vb : Plain) (shelf : Shelf) (c : Cluster) (a : AgreesIn idle w r c) (known : vb_of w n v ≡ Some vb) (kept : shelf_of w n v ≡ Some shelf) (runs : power.off ≡ None) where
   abbrev k : ℕ
@@ -325,8 +328,11 @@ module _ (w w' : PlainWorld) (r : Chronicle) (n v : ℕ) (power : Power) (vb : P
       offs : SameOffs w w'
       offs m = ⊎_elim (λ e. ap (λ j. off_of (power_of w' j)) e ∙ ap off_of noted.after ∙ ap off_of (sym noted.before) ∙ ap (λ j. off_of (power_of w j)) (sym e)) (λ ne. ap off_of (noted.others m ne)) (numbers m n)
 
+      clocks_same : (m : ℕ) → clock_of (power_of w' m) ≡ clock_of (power_of w m)
+      clocks_same m = ⊎_elim (λ e. ap (λ j. clock_of (power_of w' j)) e ∙ ap clock_of noted.after ∙ ap clock_of (sym noted.before) ∙ ap (λ j. clock_of (power_of w j)) (sym e)) (λ ne. ap clock_of (noted.others m ne)) (numbers m n)
+
       same : Renoted w w' n v shelf'
-      same = record { offs = offs; clients = noted.clients; vbs = noted.vbs; stands = noted.stands; shelves = noted.shelves; uuids = noted.uuids; linked = noted.linked }
+      same = record { offs = offs; clocks = clocks_same; clients = noted.clients; vbs = noted.vbs; stands = noted.stands; shelves = noted.shelves; uuids = noted.uuids; linked = noted.linked }
 
       was : PowerIs (r.arm_at n) power
       was = subst (PowerIsIf (r.arm_at n)) noted.before (a.powers n)
@@ -343,7 +349,7 @@ module _ (w w' : PlainWorld) (r : Chronicle) (n v : ℕ) (power : Power) (vb : P
 
       -- the arm behind the calls of an append
       spent_powers : left ≡ spent calls_of_append f → IsArm left → (m : ℕ) → PowerIsIf (with_id r.arm_at n spent_arm m) (power_of w' m)
-      spent_powers is fires = powers spent_arm (record { fuse = ap (spent calls_of_append) was.fuse ∙ sym is; out = was.out; down = was.down; may_fire = fires; listed_so = was.listed_so })
+      spent_powers is fires = powers spent_arm (record { fuse = ap (spent calls_of_append) was.fuse ∙ sym is; out = was.out; down = was.down; zero = was.zero; may_fire = fires; listed_so = was.listed_so })
 
       -- the arm as it was
       same_powers : left ≡ f → (m : ℕ) → PowerIsIf (r.arm_at m) (power_of w' m)
@@ -432,7 +438,7 @@ module _ (w w' : PlainWorld) (r : Chronicle) (n v : ℕ) (power : Power) (vb : P
 
 -- a node whose journal of v is another, under another arm
 pub noted_node : (w : PlainWorld) (n v : ℕ) (node : PlainNode) (shelf : Shelf) (left : Fuse) → w.nodes n ≡ Some node
-    → Noted w (with_node_at w n (record node { shelves = with_shelf_at node.shelves v shelf; arm = record node.arm { fuse = left } })) n v (record { arm = node.arm; off = node.off }) shelf left
+    → Noted w (with_node_at w n (record node { shelves = with_shelf_at node.shelves v shelf; arm = record node.arm { fuse = left } })) n v (record { arm = node.arm; off = node.off; clock = node.clock }) shelf left
 noted_node w n v node shelf left known = record {
   before = ap power_in known;
   after = ap (λ b. power_in (if b then Some node' else w.nodes n)) (eq-eqb n n refl);

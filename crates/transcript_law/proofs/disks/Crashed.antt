@@ -163,7 +163,7 @@ crashed_row out row = record {
     snap = Some ((place_of (crashed_disk out row.disk).book).ss, (place_of (crashed_disk out row.disk).book).se);
   };
   disk = crashed_disk out row.disk;
-  counts = alone;
+  counts = alone 0;
 }
 
 module _ (out : Outcome) (row : VbRow) (m m' : Member) (d d' : Disk) (shelf : Option Shelf) (x : Written row.disk row.contents m d shelf) (l : Loads (finds out) m d m' d') where

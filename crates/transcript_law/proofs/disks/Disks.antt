@@ -13,14 +13,15 @@ use Rattle.transcript_law.proofs.invariant.Wholes.{IsSpanIn, all_sealed, in_firs
 abbrev pub shelf_of : PlainWorld → ℕ → ℕ → Option Shelf
 shelf_of w n v = shelf_in (w.nodes n) v
 
--- a node's arm, and, where it is down, the records on its disks
+-- a node's arm, where it is down the records on its disks, and what its clock shows
 pub record Power : Type 0 where
   pub arm : Arm
   pub off : Option (List Book)
+  pub clock : ℕ
 
 abbrev pub power_in : Option PlainNode → Option Power
 power_in None = None
-power_in (Some node) = Some (record { arm = node.arm; off = node.off })
+power_in (Some node) = Some (record { arm = node.arm; off = node.off; clock = node.clock })
 
 abbrev pub power_of : PlainWorld → ℕ → Option Power
 power_of w n = power_in (w.nodes n)
@@ -32,7 +33,7 @@ pub record Beside : Type 0 where
 
 abbrev pub beside_in : Option PlainNode → Option Beside
 beside_in None = None
-beside_in (Some node) = Some (record { power = record { arm = node.arm; off = node.off }; clients = node.clients })
+beside_in (Some node) = Some (record { power = record { arm = node.arm; off = node.off; clock = node.clock }; clients = node.clients })
 
 pub beside_power : (o o' : Option PlainNode) → beside_in o' ≡ beside_in o → power_in o' ≡ power_in o
 beside_power None None e = refl
@@ -42,10 +43,10 @@ beside_power (Some node) (Some node') e = ap (option_map (λ (b : Beside). b.pow
 
 pub beside_by : (o o' : Option PlainNode) → power_in o' ≡ power_in o → ((c : ℕ) → client_in o' c ≡ client_in o c) → beside_in o' ≡ beside_in o
 beside_by None None e clients = refl
-beside_by None (Some node) e clients = let p : Power = record { arm = node.arm; off = node.off } in let z : Some p ≡ None = e in cc
-beside_by (Some node) None e clients = let p : Power = record { arm = node.arm; off = node.off } in let z : None ≡ Some p = e in cc
+beside_by None (Some node) e clients = let p : Power = record { arm = node.arm; off = node.off; clock = node.clock } in let z : Some p ≡ None = e in cc
+beside_by (Some node) None e clients = let p : Power = record { arm = node.arm; off = node.off; clock = node.clock } in let z : None ≡ Some p = e in cc
 beside_by (Some node) (Some node') e clients =
-    let p : Power = record { arm = node.arm; off = node.off } in let q : Power = record { arm = node'.arm; off = node'.off } in let z : Some q ≡ Some p = e in let same : q ≡ p = cc in
+    let p : Power = record { arm = node.arm; off = node.off; clock = node.clock } in let q : Power = record { arm = node'.arm; off = node'.off; clock = node'.clock } in let z : Some q ≡ Some p = e in let same : q ≡ p = cc in
     λ i. Some (record { power = same i; clients = λ c. clients c i })
 
 pub beside_clients : (o o' : Option PlainNode) → beside_in o' ≡ beside_in o → (c : ℕ) → client_in o' c ≡ client_in o c

@@ -5,9 +5,10 @@ use Rattle.transcript_law.proofs.Words.{Cluster, Move, happens, StaysSound, row_
 use Rattle.node_world.specs.Power.{all_cut, all_unlinked, closed_line, closed_lines, down_lines, end_line, end_lines, has_client, is_this_number, is_touched, touches, all_numbers}
 use Rattle.transcript_law.proofs.{invariant.Agreement.{Agrees, AgreesIn, Busy, DifferFrom, IsLink, LinksDiffer, consumer_seat, idle, producer_seat, vb_of}, disks.ArmedLines.{AreEnds}, lines.Lines.{AreQuiet}}
 use Rattle.transcript_law.proofs.{invariant.Carrying.{BecameOver, SamePowers}, invariant.Carried.{kept_same, link_carried, stays_same, told_of_same}, links.Cutting.{closable, unlinking}, invariant.LinkRows.{differ_in, found_is_link, out_links, row_found}, invariant.OneLink.{carries_over}}
-use Rattle.transcript_law.proofs.invariant.{Carried.{all_there}, ClientsKept.{all_kept, clients_kept}, Tables.{at_there, id_there, ended_there}}
+use Rattle.transcript_law.proofs.invariant.{Carried.{all_there}, ClientsKept.{all_kept, clients_kept, every_owed}, Tables.{at_there, id_there, ended_there}}
 use Rattle.transcript_law.specs.StreamsTold.{ClientsKnown, blank_client}
 use Rattle.{disk_journals.specs.Books.{below}, node_world.specs.Power.{numbers}, std.proofs.lemmas.Grind.{flat_map-append}}
+use Rattle.transcript_law.proofs.invariant.Owing.{later_same}
 
 -- lines that tell of what ends
 
@@ -288,9 +289,10 @@ retold w r c dials streams points a still = record {
       link_carried w w r (with_ends r dials streams points) c c x [] [] (λ f e. (f, e, kept_same f)) s.dial (s.stream x.consumer.dialed.vb) s.point refl
       (stays_same (vb_of w (producer_node x) x.consumer.dialed.vb) (c.nodes (producer_seat x)) x) (a.links x i);
   differ = a.differ;
-  clients = clients_kept w w r (with_ends r dials streams points) 0 a.clients (all_there idle w r c a)
-      (all_kept w w r (with_ends r dials streams points) (λ m d. refl) (λ m d. refl) refl (λ n v. refl) (λ n v. refl)) (λ l n v id has. inl has);
-  rests = record { powers = a.powers; aways = a.aways; downs = a.downs; ends = a.ends; small = a.small };
+  clients = let kept = all_kept w w r (with_ends r dials streams points) (λ m d. refl) (λ m d. refl) refl (λ n v. refl) (λ n v. refl) in
+      clients_kept w w r (with_ends r dials streams points) 0 a.clients (all_there idle w r c a) kept (λ l n v id has. inl has)
+      (every_owed w w r (with_ends r dials streams points) kept (later_same _ _ refl refl) (λ n v x p o. o) a.clients.owed);
+  rests = record { powers = a.powers; clocks = a.clocks; aways = a.aways; downs = a.downs; ends = a.ends; small = a.small };
 }
 
 -- the world in which no link has an end at the node n any more, with what was told of those that had; its clients are told closed later

@@ -1,7 +1,7 @@
 -- a node that is loaded: what agreed while it was down agrees
 use Rattle.std.specs.Prelude.{◌≡◌, ◌∷◌, if◌then◌else◌, option_map}
 use Rattle.transcript_law.proofs.Words.{ℕ, Bool, true, false, List, [], refl, ap, sym, ◌∙◌, subst, ⊎_elim, Option, Some, None, eq-eqb, ne_eqb, is_some, length, Cluster, Plain, PlainLink, PlainNode, PlainWorld, consumer_node, producer_node, shelf_in, vb_in, with_node_at, Chronicle}
-use Rattle.transcript_law.proofs.{invariant.Agreement.{AgreesAt, AgreesIn, AwayAt, BookBy, BookAgrees, DiskIsIf, DownHolds, IsArm, IsLink, LinkAgrees, PowerIs, PowerIsIf, RestsIn, book_in, idle, is_down, power_of, shelf_of, vb_of}, disks.Burning.{burns, opened_all}, invariant.Carried.{kept_same, link_carried, numbers}}
+use Rattle.transcript_law.proofs.{invariant.Agreement.{clock_of, AgreesAt, AgreesIn, AwayAt, BookBy, BookAgrees, DiskIsIf, DownHolds, IsArm, IsLink, LinkAgrees, PowerIs, PowerIsIf, RestsIn, book_in, idle, is_down, power_of, shelf_of, vb_of}, disks.Burning.{burns, opened_all}, invariant.Carried.{kept_same, link_carried, numbers}}
 use Rattle.transcript_law.proofs.{disks.Disks.{AwayAgrees, power_in}, disks.Reloading.{loaded_is, loaded_shelf}, invariant.Seats.{seat}, disks.Shelving.{count_listed, loaded_at, loaded_of, opened_at_number}, invariant.Tables.{id_here, id_there}}
 use Rattle.cluster_model.specs.Clusters.{Disk}
 use Rattle.disk_journals.specs.Arms.{opens_all}
@@ -12,8 +12,9 @@ use Rattle.node_world.specs.declared.arm.Arm.{Arm}
 use Rattle.transcript_law.specs.Chronicles.{ArmKnown, after_calls, after_up, disks_of, spent}
 use Rattle.vb_calls.specs.Shelves.{Shelf, blank_shelf, open_shelf}
 use Rattle.vb_types.specs.declared.journal.Record.{Record}
-use Rattle.transcript_law.proofs.invariant.{Carried.{all_there as all_fed}, ClientsKept.{ConnsKept, OfOthers, clients_gone, goes_same, spot_at, spot_same}}
+use Rattle.transcript_law.proofs.invariant.{Carried.{all_there as all_fed}, ClientsKept.{ConnsKept, OfOthers, clients_gone, goes_same, others_owed, spot_at, spot_same}, Owed.{Fewer}}
 use Rattle.transcript_law.specs.Feeding.{client_in}
+use Rattle.transcript_law.proofs.invariant.Owing.{later_same}
 
 module _ (w : PlainWorld) (r : Chronicle) (c : Cluster) (n : ℕ) (node : PlainNode) (books : List Book) (a : AgreesIn idle w r c) (known : w.nodes n ≡ Some node) (down : node.off ≡ Some books) where
   abbrev count : ℕ
@@ -41,13 +42,13 @@ module _ (w : PlainWorld) (r : Chronicle) (c : Cluster) (n : ℕ) (node : PlainN
   by_node : (P : ℕ → Option PlainNode → Type 0) → P n (Some node') → ((m : ℕ) → (m ≡ n → ⊥) → P m (w.nodes m)) → (m : ℕ) → P m (w'.nodes m)
   by_node P at others m = ⊎_elim (λ e. subst (λ k. P k (w'.nodes k)) (sym e) (subst (P n) (sym here) at)) (λ ne. subst (P m) (sym (there m ne)) (others m ne)) (numbers m n)
 
-  power : power_of w n ≡ Some (record { arm = node.arm; off = Some books })
-  power = ap power_in known ∙ ap (λ o. Some (record { arm = node.arm; off = o })) down
+  power : power_of w n ≡ Some (record { arm = node.arm; off = Some books; clock = node.clock })
+  power = ap power_in known ∙ ap (λ o. Some (record { arm = node.arm; off = o; clock = node.clock })) down
 
   pub was_down : is_down (power_of w n) ≡ true
   was_down = ap is_down power
 
-  pub arm_is : PowerIs (r.arm_at n) (record { arm = node.arm; off = Some books })
+  pub arm_is : PowerIs (r.arm_at n) (record { arm = node.arm; off = Some books; clock = node.clock })
   arm_is = subst (PowerIsIf (r.arm_at n)) power (a.powers n)
 
   pub so : books ≡ listed (book_in books)
@@ -141,6 +142,7 @@ module _ (w : PlainWorld) (r : Chronicle) (c : Cluster) (n : ℕ) (node : PlainN
       fuse = ap (spent count) arm_is.fuse ∙ sym (burns count node.arm.fuse arm_is.may_fire);
       out = arm_is.out;
       down = refl;
+      zero = λ bs e. refl;
       may_fire = subst IsArm (sym (burns count node.arm.fuse arm_is.may_fire)) (opened_all count node.arm.fuse arm_is.may_fire opens).arm;
       listed_so = λ bs e. cc;
     })
@@ -149,6 +151,7 @@ module _ (w : PlainWorld) (r : Chronicle) (c : Cluster) (n : ℕ) (node : PlainN
     rests = record {
       powers = by_node (λ m o. PowerIsIf (r'.arm_at m) (power_in o)) power_now
           (λ m ne. subst (λ t. PowerIsIf t (power_of w m)) (sym (arm_there m ne)) (a.powers m));
+      clocks = by_node (λ m o. r'.clock_at m ≡ clock_of (power_in o)) (a.clocks n ∙ ap clock_of power ∙ arm_is.zero books refl) (λ m ne. a.clocks m);
       aways = λ m v. by_node (λ m o. vb_in o v ≡ None → AwayAt (power_in o) v (shelf_in o v) (r.role_at m v) (r.disk_at m v) (c.nodes (seat m v)) (c.disks (seat m v))) (loads v).away (λ m ne. a.aways m v) m;
       downs = λ m v. by_node (λ m o. DownHolds (power_in o) (vb_in o v) (shelf_in o v)) (record { vb_none = λ e. cc; shelf_none = λ e. cc }) (λ m ne. a.downs m v) m;
       ends = λ x i. let e = a.ends x i in let p = apart x i in
@@ -164,6 +167,15 @@ module _ (w : PlainWorld) (r : Chronicle) (c : Cluster) (n : ℕ) (node : PlainN
       opens = λ m d v id ne has. goes_same (spot_at w r m v) (spot_at w' r' m v) id (spot_same w w' r r' m v refl refl (vb_there m v ne));
     }
 
+    -- and nothing waits at what is loaded
+    loaded_fewer : (o : Option Plain) (b : Option (List Record)) → Fewer o (loaded_of n b)
+    loaded_fewer o None x p owing = absurd owing
+    loaded_fewer o (Some []) x p owing = absurd owing
+    loaded_fewer o (Some (last ∷ older)) x p owing = absurd owing.1.among
+
+    fewer : (m v : ℕ) → Fewer (vb_of w m v) (vb_of w' m v)
+    fewer m v = by_node (λ k o. Fewer (vb_of w k v) (vb_in o v)) (subst (Fewer (vb_of w n v)) (sym (loaded_at n books so v)) (loaded_fewer (vb_of w n v) (book_in books v))) (λ k ne x p o. o) m
+
     -- the node runs again, and no link has an end at it
     pub reloaded : AgreesIn idle w' r' c
     reloaded = record {
@@ -173,7 +185,8 @@ module _ (w : PlainWorld) (r : Chronicle) (c : Cluster) (n : ℕ) (node : PlainN
       branches = a.branches;
       links = linked;
       differ = a.differ;
-      clients = clients_gone w w' r r' n a.clients (all_fed idle w r c a) conns (λ d. ap (λ o. client_in o d) here) (λ l m v id has. has);
+      clients = clients_gone w w' r r' n a.clients (all_fed idle w r c a) conns (λ d. ap (λ o. client_in o d) here) (λ l m v id has. has)
+          (others_owed w w' r r' n conns (λ d. ap (λ o. client_in o d) here) (later_same _ _ refl refl) fewer a.clients.owed);
       rests = rests;
     }
 

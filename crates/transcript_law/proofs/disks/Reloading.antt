@@ -1,14 +1,18 @@
 -- a vBucket that is loaded, where what it wrote down agreed with what the lines tell
 use Rattle.transcript_law.proofs.invariant.Waiting.{pends_apart, pends_low, pends_weigh}
 use Rattle.std.specs.Prelude.{◌≡◌, ◌<◌, ◌≤◌, ◌∷◌, ◌^◌}
-use Rattle.transcript_law.proofs.Words.{ℕ, true, false, List, refl, ap, sym, ◌∙◌, subst, arith, Option, Some, None, All, append-nil, take, ground, Cluster, Member, Plain, PlainWorld, is_active, no_spans, Chronicle, Role, Position, LogEntry, Picture, image_of, fork_of, Rises, length, map, Pend}
-use Rattle.transcript_law.proofs.{invariant.Agreement.{AgreesIn, AgreesAt, AwayAt, DiskIsIf, IsAway, EntryFits, VbAgrees, no_counts, VbTold, idle, own_history, power_of, shelf_of, top, vb_contents, vb_of, vb_row}, disks.Disks.{AwayAgrees, ShelfIs, bare, no_spots, parts_of}}
-use Rattle.transcript_law.proofs.{invariant.Bounded.{Bounded, Reads, Weighs}, links.Followed.{fork_low, no_writes, own_is}, invariant.Seats.{seat}, invariant.Wholes.{WholeTo, spanned_none}}
+use Rattle.transcript_law.proofs.Words.{All, Chronicle, Cluster, List, LogEntry, Member, None, Option, Pend, Picture, Plain, PlainWorld, Position, Rises, Role, Some, ap, append-nil, arith, false, fork_of, ground, holds_fewer, image_of, is_active, length, map, no_spans, refl, subst, sym, take, true, ℕ, ◌∙◌}
+use Rattle.transcript_law.proofs.disks.Disks.{AwayAgrees, ShelfIs, bare, no_spots, parts_of}
+use Rattle.transcript_law.proofs.invariant.Agreement.{AgreesAt, AgreesIn, AwayAt, DiskIsIf, EntryFits, IsAway, VbAgrees, VbTold, idle, no_counts, no_lefts, no_times, own_history, power_of, shelf_of, top, vb_contents, vb_of, vb_row}
+use Rattle.transcript_law.proofs.invariant.Bounded.{Bounded, Reads, Weighs}
+use Rattle.transcript_law.proofs.invariant.Forked.{fork_holds}
+use Rattle.transcript_law.proofs.invariant.Seats.{seat}
+use Rattle.transcript_law.proofs.invariant.Wholes.{WholeTo, spanned_none}
+use Rattle.transcript_law.proofs.links.Followed.{fork_low, no_writes, own_is}
 use Rattle.transcript_law.specs.Chronicles.{DiskKnown, rested, resting}
-use Rattle.branch_model.proofs.{Holding.{holds_low}, Journaling.{items_image}, Lists.{rises_in, rises_le, upto_all, upto_in}}
+use Rattle.branch_model.proofs.{Journaling.{items_image}, Lists.{rises_in, rises_le, upto_all, upto_in}}
 use Rattle.branch_model.specs.Journals.{batches, cas_of_last, end_of, items_of, log_of, place_of, role_of}
-use Rattle.branch_model.specs.Snapshots.{AllOf}
-use Rattle.cluster_model.specs.Clusters.{Disk, Told, above}
+use Rattle.cluster_model.specs.Clusters.{Disk, Told, above, member_fork}
 use Rattle.journal_points.specs.Points.{or_dead, saved}
 use Rattle.node_core.specs.Loading.{loaded_by}
 use Rattle.std.proofs.lemmas.List.{take_all}
@@ -77,7 +81,7 @@ module _ (w : PlainWorld) (r : Chronicle) (c : Cluster) (n v : ℕ) (a : AgreesI
       let at : m.position.at ≡ (place_of js).at = ap (λ (p : Position). p.at) position in let end : (place_of js).at ≡ end_of (batches js) = written.ends in
       items_image m.position.at m.held (batches js) (a.sound.stands k).rises written.covered ∙ ap image_of (upto_all 0 m.position.at (end_of (batches js)) m.held (a.sound.stands k).rises (omega arith))
 
-  bounded : Bounded top (ground c) m d
+  bounded : Bounded top m d
   bounded = a.sound.bounded k
 
   within : ((place_of js).ss ≤ (place_of js).at) × ((place_of js).at ≤ (place_of js).se) × ((place_of js).se ≤ 2 ^ 48)
@@ -87,7 +91,7 @@ module _ (w : PlainWorld) (r : Chronicle) (c : Cluster) (n v : ℕ) (a : AgreesI
   -- no change that the member holds has a CAS above the last one that its journal tells
   heavy : Weighs (cas_of_last js) m.held
   heavy x i =
-      let reads : Reads top (ground c) m js = subst (Reads top (ground c) m) is bounded.book in
+      let reads : Reads top m js = subst (Reads top m) is bounded.book in
       let at : x.seq ≤ m.position.at = (rises_in 0 m.position.at m.held x (a.sound.stands k).rises i).1 in
       let level : m.position.at ≡ (place_of js).at = ap (λ (p : Position). p.at) position in
       reads.weighs x (upto_in x m.held (place_of js).at i (omega arith))
@@ -122,14 +126,21 @@ module _ (w : PlainWorld) (r : Chronicle) (c : Cluster) (n v : ℕ) (a : AgreesI
       told = subst (λ l. VbTold (vb_contents r n v) m.held l (place_of js)) log (subst (VbTold (vb_contents r n v) m.held m.log) position away.told);
       member = record { active = away.active ∙ sym (loaded_rests (or_dead (role_of js))); position = position; log = log };
       branch = away.branch;
-      holds = holds_low (place_of js).at (WholeTo (place_of js).at no_spans (place_of js)) m.held (own_history r n v)
-          (subst (AllOf m.held) (own_is r c n v m a.hists a.rootless away.branch) bounded.of)
-          (λ i x. let low : fork_of (place_of js) ≤ (place_of js).at = fork_low (place_of js) within.0 in let l : i ≤ fork_of (place_of js) = x.1 in omega arith);
+      holds = holds_fewer 0 (WholeTo (place_of js).at no_spans (place_of js)) (λ i. i ≡ member_fork m) m.held (own_history r n v)
+          (λ i x.
+          let same : member_fork m ≡ fork_of (place_of js) = ap fork_of position in
+          let low : fork_of (place_of js) ≤ (place_of js).at = fork_low (place_of js) within.0 in
+          let most : i ≤ fork_of (place_of js) = x.1 in
+          let least : (place_of js).at ≤ i = x.2 in
+          omega arith)
+          (fork_holds c k (own_history r n v) a.sound (own_is r c n v m a.hists a.rootless away.branch));
     };
     role = rest.role ∙ ap (λ b. Some (resting b)) is ∙ ap (λ (x : Role). Some (Some x)) (rested_is (role_of js));
     opened = away.opened;
     writes = no_writes r n v m.br vb.role (loaded_rests (or_dead (role_of js)));
     counts = no_counts vb.role (r.counts_at n v) vb.others vb.acks (loaded_rests (or_dead (role_of js)));
+    lefts = no_lefts vb.role (r.counts_at n v).risen vb.position.at vb.waiting (loaded_rests (or_dead (role_of js)));
+    times = no_times vb.role (r.counts_at n v).times vb.waiting (loaded_rests (or_dead (role_of js)));
   }
 
   late : d.late ≡ None

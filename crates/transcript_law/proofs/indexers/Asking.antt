@@ -1,6 +1,6 @@
 -- a request for a stream of a client is answered: what is known then, and that its line is lawful
 use Rattle.std.specs.Prelude.{◌≡◌, ◌∷◌, ◌++◌, take, drop}
-use Rattle.transcript_law.proofs.Words.{ℕ, true, false, List, [], refl, sym, ap, ◌∙◌, subst, inl, inr, append-nil, Option, Some, None, Cluster, Event, Frame, LogEntry, StreamAsk, AskAnswer, States, PlainNode, PlainWorld, PlainProducer, PlainStream, Chronicle, after_line, after_lines, begun, spelling, with_at}
+use Rattle.transcript_law.proofs.Words.{ℕ, true, false, List, [], refl, sym, ap, ◌∙◌, subst, inl, inr, arith, append-nil, Option, Some, None, Cluster, Event, Frame, LogEntry, StreamAsk, AskAnswer, States, PlainNode, PlainWorld, PlainProducer, PlainStream, Chronicle, after_line, after_lines, begun, spelling, with_at}
 use Rattle.dcp_producer.proofs.{ClientAnswers.{ask_short}, Headers.{front_cut, front_left}}
 use Rattle.dcp_producer.specs.{Clients.{IsShortLog}, Cuts.{IsShort}, Producers.{Served, is_open, stream_at as kept_at}, Serving.{ask_line}}
 unfoldable use Rattle.dcp_producer.specs.Serving.{stream_answered}
@@ -11,14 +11,15 @@ unfoldable use Rattle.node_core.specs.Clients.{with_replies}
 use Rattle.mcbp_dcp.specs.declared.message.DcpMsg.TheVariants as msg
 use Rattle.transcript_law.proofs.answers.Messages.{IsAnswerTo, asks_stream, stream_answer_to, stream_wants}
 use Rattle.transcript_law.proofs.indexers.{Hands.{Goes, HandedUp, answered_agrees, answered_as, question_told, reply_lawful}, Known.{bytes_left, next_request, no_frames}, Moments.{told_is}, Passing.{agrees, before, behind, bytes_behind, cluster, own, same_settings, so_far}}
-use Rattle.transcript_law.proofs.indexers.Questions.{hand_asks, hand_if, in_hand, next_is}
-use Rattle.transcript_law.proofs.indexers.{Serving.{agrees_as, kept_past}, Steps.{ClientStep}, Streams.{AreOne}, Worlds.{OpensOwn, stepped, world_with}}
-use Rattle.transcript_law.proofs.invariant.{Agreement.{AgreesIn, answer_frame, idle}, ClientsTold.{ClientAgrees, KeptIs, setup_of}, Holdings.{vb_of}, OpenStreams.{Among, AreKept}, Tables.{at_here}}
+use Rattle.transcript_law.proofs.indexers.Questions.{dcp_numbers, free_numbers, hand_asks, hand_if, hand_zero, in_hand, next_is}
+use Rattle.transcript_law.proofs.indexers.{Serving.{agrees_as, kept_past}, Steps.{ClientStep}, Streams.{AreOne}, Worlds.{OpensOwn, stepped, waited, world_with}}
+use Rattle.transcript_law.proofs.invariant.{Agreement.{AgreesIn, answer_frame, idle}, ClientsTold.{ClientAgrees, HasUsed, KeptIs, setup_of}, Holdings.{vb_of}, OpenStreams.{Among, AreKept}, Owed.{idle_free, waits_hand}, Tables.{at_here}}
 use Rattle.transcript_law.proofs.lines.Telling.{LawfulBefore, before_more, told_more}
 use Rattle.transcript_law.specs.{ClientFrames.{Request, ask_of, is_closed_by, message_of, request_in, set_by}, ClientStreams.{past_asked, past_request, unclosed}}
 use Rattle.transcript_law.proofs.answers.Calm.{durable_left}
 use Rattle.transcript_law.specs.{LawfulAnswers.{AllDurable, FitsBy, FitsFrame, LawfulReply}, LawfulClients.{RefusesBy, RefusesOwn}, LawfulMessages.{FitsMessage, Moment, moment_of}, Questions.{Question, past_question, question_of, wants_answer}, StreamLaws.{LawfulSaid}, StreamsTold.{ClientKnown, ClientStream}}
 use Rattle.vb_events.specs.declared.event.StreamName.TheVariants as name
+use Rattle.transcript_law.specs.LawfulAnswers.{serving}
 
 module _ (w : PlainWorld) (n c : ℕ) (node : PlainNode) (r : Chronicle) (f : Frame) (states : States) (lines : List Event) (client : PlainClient) (up : HandedUp w n c node r f states lines client) (ask : StreamAsk) (asks : ask_of f ≡ Some ask) where
   abbrev pub p : PlainProducer
@@ -139,7 +140,7 @@ module _ (w : PlainWorld) (n c : ℕ) (node : PlainNode) (r : Chronicle) (f : Fr
         opened = λ stream i. ap is_open a.shaken ∙ a.opened stream i;
         silent = refl;
         heard = record { served = []; front = []; bytes = left_bytes; frames = no_frames; none = refl; sets = mine.heard.sets ∙ ap setup_of (sym a.shaken) };
-        asks = hand_asks known.asking was.session now.session p.handshake end.handshake f up.goes.bytes up.first mine.asks up.free (ap (λ m. set_by m (setup_of p.handshake)) message_is ∙ ap setup_of (sym a.shaken)) up.behind refl
+        asks = hand_asks known.asking was.session now.session p.handshake end.handshake f up.goes.bytes up.first mine.asks up.free (ap (λ m. set_by m (setup_of p.handshake)) message_is ∙ ap setup_of (sym a.shaken)) up.behind refl (λ none. refl)
             (sym (ap (λ b. hand_if b f) wanting));
         streams = a.streams;
       })
@@ -198,8 +199,8 @@ module _ (w : PlainWorld) (n c : ℕ) (node : PlainNode) (r : Chronicle) (f : Fr
               ap (λ (k : ClientKnown). (moment_of k k.asking question).told) past_here
               ∙ told_is known.asking was.session p.handshake mine.asks f past up.goes.bytes up.first (left_bytes ∙ up.behind)
 
-          fits : (g : Frame) → FitsFrame told_then n at (told_then.clients_at n c).asking.settings f g
-          fits g = subst (λ b. FitsBy b told_then n at (told_then.clients_at n c).asking.settings f g) (sym up.dcp) (subst (FitsMessage (told_then.role_at n v) (told_then.log_at n v) at f g) (sym message_is) told_by_line)
+          fits : (g : Frame) → FitsFrame (serving told_then n c (told_then.clients_at n c).asking) told_then n at (told_then.clients_at n c).asking.settings f g
+          fits g = subst (λ b. FitsBy b (serving told_then n c (told_then.clients_at n c).asking) told_then n at (told_then.clients_at n c).asking.settings f g) (sym up.dcp) (subst (FitsMessage (told_then.role_at n v) (told_then.log_at n v) at f g) (sym message_is) told_by_line)
 
           answer_lawful : LawfulReply told_then n c (told_then.clients_at n c).asking bytes more
           answer_lawful =
@@ -227,8 +228,9 @@ module _ (w : PlainWorld) (n c : ℕ) (node : PlainNode) (r : Chronicle) (f : Fr
         agrees = (
           k,
           subst (λ x. AgreesIn idle (world_with w n c node st (Some (record client { producer = end }))) x k) (sym (ap (λ es. after_lines r (lines ++ es)) is_delivered ∙ told_more r lines (line ∷ Event.Reply n c bytes ∷ []) ∙ both_told))
-              (answered_agrees w n c node st now told_then k (stepped w n c node states st was now told past k (agrees w n c node r f states lines client up) a.step a.opens agrees_now) client.session refl refl refl
-              (in_hand f) refl question asked_next up.free (same_settings w n c node r f states lines client up)),
+              (answered_agrees w n c node st now told_then k (stepped w n c node states st was now told past k (agrees w n c node r f states lines client up) a.step a.opens agrees_now
+              (waited w n c node states st was now told past k (agrees w n c node r f states lines client up) a.step (waits_hand known.asking past.asking was.session now.session refl (omega arith) (λ l. l) (λ x e. hand_zero true f x e) refl (idle_free was.session up.free)))) client.session refl refl refl
+              (in_hand f) refl question asked_next up.free (same_settings w n c node r f states lines client up) (omega arith) (λ l. l) (dcp_numbers (told_then.clients_at n c).asking question up.dcp (subst (λ (k : ClientKnown). HasUsed client.session.used k.asking.durables) (sym past_here) (free_numbers known.asking was.session p.handshake mine.asks up.free)))),
         );
         bytes = bytes_behind w n c node r f states lines client up;
         calm = subst (λ (x : Chronicle). AllDurable x.made) (sym (ap (λ es. after_lines r (lines ++ es)) is_delivered ∙ told_more r lines (line ∷ Event.Reply n c bytes ∷ []) ∙ both_told)) (durable_left told_then.made);

@@ -1,73 +1,35 @@
 -- requests of a client for documents: all lines are lawful, each answer fits what the lines tell, and after them all agrees, with the connection as the session left it
-use Rattle.std.specs.Prelude.{◌≡◌, ◌⊎◌, ◌<◌, ◌+◌, ◌∷◌, ◌++◌, ◌==◌, ◌^◌, if◌then◌else◌, nat_le}
-use Rattle.transcript_law.proofs.Words.{ℕ, Bool, true, false, List, [], refl, ap, sym, ◌∙◌, subst, inl, inr, All-cons, append_assoc, append-nil, All, AreBytes, Option, Some, None, Result, Ok, Err, length, image_of, eq-eqb, Op, Frame, WriteFits, KvRequest, Change, Doc}
-use Rattle.transcript_law.proofs.Words.{Event, PlainProducer, Status, Write, Member, Move, happens, VbReply, VbCall, Plain, plain_step, Done, after, newest_branch, is_active, doc_at, refusal_reply, States, with_vb_at, call_at, growth, write_change, new_cas}
+use Rattle.std.specs.Prelude.{◌≡◌, ◌≢◌, ◌⊎◌, ◌<◌, ◌≤◌, ◌*◌, ◌+◌, ◌∷◌, ◌++◌, ◌==◌, ◌^◌, if◌then◌else◌, nat_le}
+use Rattle.transcript_law.proofs.Words.{ℕ, Bool, true, false, List, [], refl, ap, sym, ◌∙◌, subst, inl, inr, ⊎_elim, arith, nat_tests, ne_eqb, Pend, All-cons, append_assoc, append-nil, All, AreBytes, Option, Some, None, Result, Ok, Err, length, image_of, eq-eqb, Op, Frame, WriteFits, KvRequest, Change}
+use Rattle.transcript_law.proofs.Words.{Event, Status, Write, Member, Move, happens, VbReply, VbCall, Plain, plain_step, Done, after, newest_branch, is_active, doc_at, refusal_reply, States, with_vb_at, call_at, growth, write_change, new_cas}
 use Rattle.transcript_law.proofs.Words.{Sound, StaysSound, PlainSession, request_handled, told, PlainNode, PlainWorld, with_node_at, with_client, with_states, spelling, Chronicle, after_lines, after_change}
-use Rattle.transcript_law.proofs.{Words.{LawfulFrom}, invariant.Seats.{seat}, invariant.Agreement.{Agrees, AgreesIn, idle}, invariant.Carrying.{Changed}, lines.Lines.{lawful_more}, verbs.NodeLines.{agrees_same, node_again, node_grown, put_same, shelves_again}}
-use Rattle.transcript_law.proofs.answers.{Calm.{OfDurable, durable_settled, durable_told}, Committed.{HowTold, all_told}, Explained.{IsExplained, explained, outcome_in}}
-use Rattle.transcript_law.proofs.answers.Fits.{KnownAs, Repeats, durable_away, durable_over, durable_refused_fits, frame_fits, is_outcome, get_away, get_fits, has_opcode, known_as, made_fits, not_here, outcome_fits, outcome_repeats, refused_fits, reply_repeats, status_fits, status_repeats, stored_repeats, value_repeats, welcome_fits, write_away}
-use Rattle.transcript_law.proofs.{invariant.Sessions.{Received}, invariant.Tables.{at_here}, indexers.{Hands.{Goes, Standing, answered_goes, calmly, session_goes, stands}, Questions.{awaited_asks, awaited_next, in_hand}, Worlds.{vb_here}}, verbs.Settling.{SettlesOn, Steady, changes_quiet, changes_told, settles}}
-use Rattle.transcript_law.proofs.{lines.Telling.{LawfulBefore, before_more, told_more}, verbs.Writing.{change_fits, has_room, is_lawful, mine as mine_vb, newest, prepare_fits, prepare_fulfils, prepare_unheld, room_for_two, store_taken, write_fulfils, write_unheld, written}}
+use Rattle.transcript_law.proofs.{Words.{LawfulFrom}, invariant.Seats.{seat}, invariant.Agreement.{Agrees, AgreesIn, clock_of, idle}, invariant.Carrying.{Changed}, lines.Lines.{lawful_more}, verbs.NodeLines.{agrees_same, node_again, node_grown, put_same, shelves_again}}
+use Rattle.transcript_law.proofs.answers.{Awaited.{IsOutstanding, Stood, awaited, prepared_stood, written_stood}, Calm.{OfDurable, durable_settled, durable_told}, Claims.{OwnClaim, changes_last, serves_line}, Committed.{HowTold, all_told, change_told}, Explained.{IsExplained, IsPrepareOf, explained, outcome_in, placed_of}}
+use Rattle.{durability.specs.declared.waiting.Waiting.{Waiting}, std.proofs.lemmas.Bool.{cases_eq}, transcript_law.proofs.invariant.{Carrying.{same_clients}, Holdings.{vb_of}, Owed.{IsWaitOf, Owed, Owing, fewer_some, owed_placed}}, transcript_law.specs.StreamsTold.{Asking}}
+use Rattle.transcript_law.proofs.answers.Fits.{KnownAs, Repeats, durable_away, durable_refused_fits, frame_fits, is_outcome, get_away, get_fits, has_opcode, known_as, made_fits, not_here, outcome_fits, outcome_repeats, refused_fits, reply_repeats, status_fits, status_repeats, stored_repeats, value_repeats, welcome_fits, write_away}
+use Rattle.transcript_law.proofs.{invariant.ClientsTold.{HasUsed}, invariant.Lefts.{left_on, left_placed}, invariant.Sessions.{Received}, invariant.Tables.{at_here}, indexers.{Hands.{Goes, Standing, answered_goes, calmly, session_goes, stands}, Questions.{awaited_asks, hand_zero, in_hand, used_as}, Worlds.{client_here, step_quiet, vb_here, waited_else_same, world_with}}, verbs.Settling.{SettlesOn, Steady, changes_quiet, changes_told, settles}}
+use Rattle.transcript_law.proofs.{lines.Telling.{LawfulBefore, before_more, told_more}, verbs.Writing.{change_fits, fewer_written, has_room, is_lawful, mine as mine_vb, newest, prepare_fits, prepare_fulfils, prepare_unheld, room_for_two, store_taken, write_aborts, write_fulfils, write_unheld, written}, verbs.Times.{fewer_times, placed_times, up_at_end}}
 use Rattle.client_session.specs.Answers.{status_reply, stored_reply, value_reply, reply_to, reply_line, reply_lines, change_lines, request_lines}
-use Rattle.client_session.specs.Serving.{MOST_DURABLE, Served, awaited_by, deadline_of, durable_called, durable_replied, next_waiter, outcome_of, outcome_reply, outcome_answered, answered_or_awaited, refused, served, settings_of, with_lines, with_used}
-use Rattle.client_session.{proofs.Conduct.{either}, specs.Serving.{is_dcp}, specs.declared.session.{Awaited.{Awaited}, Settings.{Settings}}}
-use Rattle.{mcbp_kv.proofs.Asked.{passed}, mcbp_kv.proofs.Commands.{read_fits}, mcbp_kv.proofs.Shapes.{each_code}, mcbp_kv.specs.Features.{feature_bytes}}
-use Rattle.{mcbp_kv.specs.Fitting.{RequestFits}, mcbp_kv.specs.Requests.{request_by, op_of, request_of}, mcbp_kv.specs.declared.reply.KvReply.{KvReply}, mcbp_kv.specs.declared.opcodes.TheConstants.{ADD, REPLACE, SET}}
-use Rattle.vb_calls.specs.{Durable.{Wish, durable_outcome, durable_refusal, outstanding, prepare_change, prepared_vb}, Settling.{is_empty, settled, unresolved}, State.{get_reply, get_row, is_left, pending_of}, States.{stepped_at}}
+use Rattle.client_session.specs.Serving.{MOST_DURABLE, Served, awaited_by, deadline_of, durable_called, durable_replied, next_waiter, outcome_of, outcome_reply, answered_or_awaited, refused, served, settings_of, with_lines, with_used}
+use Rattle.client_session.{specs.Serving.{is_dcp}, specs.declared.session.{Awaited.{Awaited}, Settings.{Settings}, Who.{Who}}}
+use Rattle.transcript_law.proofs.disks.Disks.{power_in}
+use Rattle.{mcbp_kv.proofs.Commands.{read_fits, timeouts_fit}, mcbp_kv.specs.Features.{feature_bytes}, mcbp_kv.specs.Requests.{request_of}, mcbp_kv.specs.declared.reply.KvReply.{KvReply}}
+use Rattle.transcript_law.proofs.indexers.Requests.{AskedFits, IsUncounted, no_change, removes_alone, some_reply}
+use Rattle.vb_calls.specs.{Durable.{Wish, durable_outcome, durable_refusal, outstanding, prepare_change, prepared_vb}, Settling.{is_empty, settled, unresolved}, State.{get_row, is_left, pending_of}, States.{stepped_at}}
 use Rattle.vb_calls.specs.Writes.{store_refusal, store_outcome, key_refusal, lacks_seqnos}
 use Rattle.vb_calls.specs.declared.calls.{Resolution.{Resolution}}
 use Rattle.vb_calls.specs.declared.calls.VbCall.TheVariants.{Durable, Get, Store}
 use Rattle.node_core.specs.Clients.{PlainClient}
 use Rattle.mcbp_kv.specs.declared.durable.Durability.{Durability}
-use Rattle.transcript_law.specs.{LawfulAnswers.{AllDurable, FitsFrame, FitsRequest, IsOutcome}, LawfulClients.{IsActive}, LawfulMessages.{Moment, moment_of}, Questions.{Question, question_of, settings_after, settings_by}, LinesTold.{OwnChange}, StreamsTold.{ClientsKnown, with_at}, Unanswered.{AsksDurably}}
+use Rattle.transcript_law.specs.{LawfulAnswers.{AllDurable, FitsFrame, FitsRequest, HasNumber, IsOutcome, WRITE_NUMBERS}, LawfulClients.{IsActive}, LawfulMessages.{Moment, moment_of}, Lawfulness.{IsUp}, Questions.{Question, durables_after, durables_by, question_of, settings_after, settings_by}, LinesTold.{OwnChange}, StreamsTold.{ClientsKnown, with_at}, Unanswered.{AsksDurably}}
 use Rattle.mcbp_kv.specs.Replies.{reply_frame}
 use Rattle.vb_types.specs.declared.status.Status.TheVariants.{Etmpfail, NotMyVbucket, Success}
 use Rattle.mcbp_kv.specs.declared.request.KvRequest.TheVariants as request
 use Rattle.durability.specs.{Chains.{is_possible}, Outstanding.{placed}}
 use Rattle.{transcript_law.proofs.verbs.Making.{prepare_is_next, write_is_next}, vbucket.proofs.{Preparing.{durable_free, prepared_sound}, Soundness.{cas_rises}, Storing.{said_none}}}
-
--- ---- what a frame asks
-
--- a removal has no value
-abbrev RemovesAlone : KvRequest → Type 0
-RemovesAlone (request.Write write durable) = write.op ≡ Op.Delete → write.value ≡ []
-RemovesAlone other = Unit {0}
-
--- nor is a write one that is of another opcode
-stores : (o : Op) (code opcode : ℕ) → opcode ≡ code → op_of code ≡ o → (o ≡ Op.Delete → ⊥) → op_of opcode ≡ Op.Delete → ⊥
-stores o code opcode e is other d = other (sym is ∙ ap op_of (sym e) ∙ d)
-
-removes_alone : (json : Bool) (f : Frame) (r : KvRequest) → request_of json f ≡ Ok r → RemovesAlone r
-removes_alone json f r e =
-    let p = passed json f r e in
-    each_code (λ n. f.opcode ≡ n → request_by n p.durable f ≡ r → RemovesAlone r)
-    (λ c a. subst RemovesAlone a tt)
-    (λ c a. subst RemovesAlone a (λ d. absurd (stores Op.Set SET f.opcode c refl (λ z. cc) d)))
-    (λ c a. subst RemovesAlone a (λ d. absurd (stores Op.Add ADD f.opcode c refl (λ z. cc) d)))
-    (λ c a. subst RemovesAlone a (λ d. absurd (stores Op.Replace REPLACE f.opcode c refl (λ z. cc) d)))
-    (λ c a. subst RemovesAlone a (λ d. refl))
-    (λ c a. subst RemovesAlone a tt)
-    (λ c a. subst RemovesAlone a tt)
-    f.opcode p.code refl p.asks
-
--- its numbers fit
-abbrev AskedFits : KvRequest → Type 0
-AskedFits asked = RequestFits asked × RemovesAlone asked
-
--- ---- what a vBucket answers
-
-no_change : (n v : ℕ) (active again : Bool) (o : Option Doc) → change_lines n v (if active then get_reply again o else refusal_reply NotMyVbucket).answer (if active then get_reply again o else refusal_reply NotMyVbucket).changes ≡ []
-no_change n v true true o = refl
-no_change n v true false None = refl
-no_change n v true false (Some doc) = refl
-no_change n v false again o = refl
-
--- a read is answered
-some_reply : (settings : Settings) (f : Frame) (active again : Bool) (o : Option Doc) → reply_to settings f (if active then get_reply again o else refusal_reply NotMyVbucket).answer ≡ None → ⊥
-some_reply settings f true true o e = cc
-some_reply settings f true false None e = cc
-some_reply settings f true false (Some doc) e = cc
-some_reply settings f false again o e = cc
+use Rattle.transcript_law.proofs.invariant.Owing.{IsToldIn, OwedIf, OwedIn}
+use Rattle.transcript_law.specs.{LawfulAnswers.{IsMadeIn, serving}, LinesTold.{LastLine, told_for}}
+use Rattle.vb_types.specs.declared.change.Act.TheVariants as act
 
 -- changes tell nothing of clients
 clients_past : (r : Chronicle) (n v uuid : ℕ) (cs : List Change) → (after_lines r (changes_told n v uuid cs)).clients_at ≡ r.clients_at
@@ -91,7 +53,7 @@ one_branch : (b : Bool) (u other : ℕ) → other ≡ u → (if b then u else ot
 one_branch true u other e = refl
 one_branch false u other e = e
 
-module _ (stays : StaysSound) (steady : Steady) (w : PlainWorld) (r : Chronicle) (n c clock : ℕ) (base : PlainNode) (client : PlainClient) (before : List Event) (small : clock < 2 ^ 64) where
+module _ (stays : StaysSound) (steady : Steady) (w : PlainWorld) (r : Chronicle) (n c clock : ℕ) (base : PlainNode) (client : PlainClient) (before : List Event) (small : clock < 2 ^ 64) (shows : base.clock ≡ clock) where
   -- the node with this connection
   abbrev node : PlainNode
   node = with_client base c (Some client)
@@ -107,6 +69,10 @@ module _ (stays : StaysSound) (steady : Steady) (w : PlainWorld) (r : Chronicle)
   -- a session of this connection
   abbrev pub AtConn : PlainSession → Type 0
   AtConn session = (session.who.node ≡ n) × (session.who.client ≡ c)
+
+  -- the durable changes of the group in which its question was so first
+  abbrev serving_at : States × Served → Option (List OwnChange)
+  serving_at x = serving (so_far x) n c ((so_far x).clients_at n c).asking
 
   -- so far all is lawful and agrees, at a session of the connection
   abbrev pub Now : States × Served → Type 0
@@ -132,8 +98,8 @@ module _ (stays : StaysSound) (steady : Steady) (w : PlainWorld) (r : Chronicle)
   abbrev pub Ends : States × Served → Type 0
   Ends x = Goes w n c base r x.0 (before ++ x.1.events) (record client { session = x.1.session })
 
-  -- the frame f is to be answered, and is in hand
-  module _ (bytes : AreBytes client.session.reader) (f : Frame) (ahead : List Frame) (hand : client.session.awaited ≡ Some (in_hand f)) (own : is_dcp f.opcode ≡ false) where
+  -- the frame f is to be answered, and is in hand; so many durable writes were answered before
+  module _ (bytes : AreBytes client.session.reader) (f : Frame) (ahead : List Frame) (hand : client.session.awaited ≡ Some (in_hand f)) (own : is_dcp f.opcode ≡ false) (count : ℕ) where
     abbrev v : ℕ
     v = f.vb_or_status
 
@@ -144,26 +110,26 @@ module _ (stays : StaysSound) (steady : Steady) (w : PlainWorld) (r : Chronicle)
     pub record Held (x : States × Served) : Type 0 where
       pub now : Now x
       pub next : question_of ((so_far x).clients_at n c).asking ≡ Some question
+      pub count_is : ((so_far x).clients_at n c).asking.durables ≡ count
       pub who : x.1.session.who ≡ client.session.who
       pub closed : x.1.session.closed ≡ client.session.closed
       pub reader : x.1.session.reader ≡ client.session.reader
       pub free : x.1.session.awaited ≡ None
       pub settings : x.1.session.settings ≡ client.session.settings
-
-    -- its session may have another number
-    used : (x : States × Served) → Held x → Held (x.0, with_used x.1)
-    used x held = record { now = (held.now.0, held.now.1, held.now.2); next = held.next; who = held.who; closed = held.closed; reader = held.reader; free = held.free; settings = held.settings }
+      pub used : x.1.session.used ≡ client.session.used
 
     -- changes were told
     changed : (x : States × Served) (states : States) (m q u : ℕ) (changes : List Change) → Held x → Now (states, with_lines x.1 (changes_told m q u changes)) → Held (states, with_lines x.1 (changes_told m q u changes))
     changed x states m q u changes held now = record {
       now = now;
       next = ap (λ (k : Chronicle). question_of (k.clients_at n c).asking) (reads x states (changes_told m q u changes)) ∙ ap (λ (t : ClientsKnown). question_of (t n c).asking) (clients_past (so_far x) m q u changes) ∙ held.next;
+      count_is = ap (λ (k : Chronicle). (k.clients_at n c).asking.durables) (reads x states (changes_told m q u changes)) ∙ ap (λ (t : ClientsKnown). (t n c).asking.durables) (clients_past (so_far x) m q u changes) ∙ held.count_is;
       who = held.who;
       closed = held.closed;
       reader = held.reader;
       free = held.free;
       settings = held.settings;
+      used = held.used;
     }
 
     goes_of : (x : States × Served) (states : States) → ((q : ℕ) → states q ≡ x.0 q) → Now x → Standing w n c base r states (before ++ x.1.events) client
@@ -179,74 +145,126 @@ module _ (stays : StaysSound) (steady : Steady) (w : PlainWorld) (r : Chronicle)
       settings = x.1.session.settings
 
       answered : (asked : Result KvRequest Status) → request_of settings.json f ≡ asked → (session : PlainSession) → session.who ≡ x.1.session.who → session.closed ≡ x.1.session.closed → session.reader ≡ x.1.session.reader → session.awaited ≡ None
-          → session.settings ≡ settings_by asked settings → (reply : KvReply) → Repeats f (reply_frame reply) → FitsRequest (so_far x) n settings f (reply_frame reply) asked → IsOutcome settings f (reply_frame reply) ⊎ AllDurable (so_far x).made
+          → session.settings ≡ settings_by asked settings → session.used ≡ x.1.session.used → HasUsed session.used (durables_by asked count) → (reply : KvReply) → Repeats f (reply_frame reply) → FitsRequest (serving_at x) (so_far x) n count settings f (reply_frame reply) asked → IsOutcome settings f (reply_frame reply) ⊎ AllDurable (so_far x).made
           → Ends (states, served session (x.1.events ++ reply_line x.1.session.who.node x.1.session.who.client reply ∷ []))
       unfolding reply_line
-      answered asked is session who closed reader free set reply repeats fits calm =
+      answered asked is session who closed reader free set same_used numbers reply repeats fits calm =
           let g : Standing w n c base r states (before ++ x.1.events) client = goes_of x states same held.now in
           let known = (stands w n c base r g).asks.settings in
           let frame : Frame = reply_frame reply in
           let moment : Moment = moment_of ((so_far x).clients_at n c) ((so_far x).clients_at n c).asking question in
-          let at : FitsFrame (so_far x) n moment settings f frame = frame_fits (so_far x) n moment settings f frame own (subst (FitsRequest (so_far x) n settings f frame) (sym is) fits) in
+          let at : FitsFrame (serving_at x) (so_far x) n moment settings f frame = frame_fits (serving_at x) (so_far x) n moment settings f frame own (subst (λ k. FitsRequest (serving_at x) (so_far x) n k settings f frame (request_of settings.json f)) (sym held.count_is) (subst (FitsRequest (serving_at x) (so_far x) n count settings f frame) (sym is) fits)) in
           let after : settings_after settings f ≡ settings_by asked settings = (λ i. if own i then settings else settings_by (is i) settings) in
+          let counted : durables_after settings f count ≡ durables_by asked count = (λ i. if own i then count else durables_by (is i) count) in
           subst (λ es. Goes w n c base r states es (record client { session = session }))
           (append_assoc before x.1.events (Event.Reply n c (spelling frame) ∷ []) ∙ (λ i. before ++ (x.1.events ++ Event.Reply (sym held.now.2.0 i) (sym held.now.2.1 i) (spelling frame) ∷ [])))
           (answered_goes w n c base r g session (who ∙ held.who) (closed ∙ held.closed) (reader ∙ held.reader) (in_hand f) hand question held.next free
-          (set ∙ sym after ∙ ap (λ (s : Settings). settings_after s f) held.settings) frame repeats.response repeats.opcode repeats.opaque
-          (subst (λ s. FitsFrame (so_far x) n moment s f frame) (held.settings ∙ sym known) at) (subst (λ s. IsOutcome s f frame ⊎ AllDurable (so_far x).made) (held.settings ∙ sym known) calm))
+          (set ∙ sym after ∙ ap (λ (s : Settings). settings_after s f) held.settings) (let u = same_used ∙ held.used in omega (arith, u)) (λ l. subst (λ k. k < 2 ^ 32) (sym (same_used ∙ held.used)) l)
+          (subst (λ k. HasUsed session.used (durables_after ((so_far x).clients_at n c).asking.settings f k)) (sym held.count_is) (subst (λ s. HasUsed session.used (durables_after s f count)) (held.settings ∙ sym known) (used_as refl (sym counted) numbers))) frame repeats.response repeats.opcode repeats.opaque
+          (subst (λ s. FitsFrame (serving_at x) (so_far x) n moment s f frame) (held.settings ∙ sym known) at) (subst (λ s. IsOutcome s f frame ⊎ AllDurable (so_far x).made) (held.settings ∙ sym known) calm))
 
       -- with a status alone
-      status_goes : (asked : Result KvRequest Status) (st : Status) → request_of settings.json f ≡ asked → settings ≡ settings_by asked settings → FitsRequest (so_far x) n settings f (reply_frame (status_reply f st)) asked → AllDurable (so_far x).made → Ends (states, refused f st x.1)
-      status_goes asked st is set fits calm = answered asked is x.1.session refl refl refl held.free set (status_reply f st) (status_repeats f st) fits (inr calm)
+      status_goes : (asked : Result KvRequest Status) (st : Status) → request_of settings.json f ≡ asked → settings ≡ settings_by asked settings → HasUsed x.1.session.used (durables_by asked count) → FitsRequest (serving_at x) (so_far x) n count settings f (reply_frame (status_reply f st)) asked → AllDurable (so_far x).made → Ends (states, refused f st x.1)
+      status_goes asked st is set numbers fits calm = answered asked is x.1.session refl refl refl held.free set refl numbers (status_reply f st) (status_repeats f st) fits (inr calm)
 
-    -- a durable write is awaited
-    awaits : (x : States × Served) → Held x → AllDurable (so_far x).made → (a : Awaited) → a.opcode ≡ f.opcode → a.opaque ≡ f.opaque → AsksDurably x.1.session.settings f → Ends (x.0, record x.1 { session = record x.1.session { awaited = Some a } })
-    awaits x held calm a code number durable =
+    -- nothing was entered for the question in hand
+    unserved_at : (x : States × Served) (held : Held x) (line : LastLine) → (so_far x).last ≡ Some line → told_for (line.served n c) ((so_far x).clients_at n c).asking.answered (so_far x).made ≡ (so_far x).made
+    unserved_at x held line rises =
+        let here : PlainWorld = world_with w n c base x.0 (Some client) in
+        let all : OwedIn line here (so_far x) = subst (λ l. OwedIf l here (so_far x)) rises held.now.1.1.clients.owed in
+        (all.each n c client (client_here w n c base x.0 (Some client))).unserved (λ b e. hand_zero true f b (sym hand ∙ e)) (so_far x).made
+
+    -- a durable write is awaited, of which it is known what waits under its number
+    awaits : (x : States × Served) → Held x → AllDurable (so_far x).made → (a : Awaited) → a.opcode ≡ f.opcode → a.opaque ≡ f.opaque → (write : Write) (wish : Durability) → request_of x.1.session.settings.json f ≡ Ok (request.Write write (Some wish))
+        → a.waiter ≡ x.1.session.who.base * 2 ^ 32 + x.1.session.used → ((line : LastLine) (u : ℕ) (y : Waiting) (p : Pend) → (so_far x).last ≡ Some line → Owing (x.0 u) y p → y.waiter ≡ a.waiter → (u ≡ v) × IsPrepareOf write y p × IsToldIn n u y p (so_far x).made)
+        → (a.waiter ≡ 0 → ⊥) → HasNumber count → HasUsed x.1.session.used (count + 1) → Ends (x.0, record x.1 { session = record x.1.session { awaited = Some a } })
+    awaits x held calm a code number write wish is last owns some left numbers =
         let g : Standing w n c base r x.0 (before ++ x.1.events) client = goes_of x x.0 (λ q. refl) held.now in
         let session : PlainSession = record x.1.session { awaited = Some a } in
+        let client' : PlainClient = record client { session = session } in
+        let so : Chronicle = so_far x in
+        let durable : AsksDurably x.1.session.settings f = record { own = own; write = write; wish = wish; asks = is } in
+        let asking : Asking = (so.clients_at n c).asking in
+        let step = step_quiet w n c base x.0 x.0 (Some client) (Some client') (λ q. refl) in
+        let back : (u : ℕ) (y : Waiting) (p : Pend) → Owing (vb_of (world_with w n c base x.0 (Some client')) n u) y p → Owing (x.0 u) y p = λ u y p owing. subst (λ o. Owing o y p) (vb_here w n c base x.0 (Some client') u) owing in
+        let again : (u : ℕ) (y : Waiting) (p : Pend) → Owing (x.0 u) y p → Owing (vb_of (world_with w n c base x.0 (Some client)) n u) y p = λ u y p owing. subst (λ o. Owing o y p) (sym (vb_here w n c base x.0 (Some client) u)) owing in
+        let same : asking.settings ≡ x.1.session.settings = (stands w n c base r g).asks.settings ∙ sym held.settings in
+        let owed : Owed (world_with w n c base x.0 (Some client')) so = waited_else_same w n c base x.0 x.0 client client' so g.agrees.0 g.agrees.1 step held.who (λ line rises k. record {
+          base = subst (λ who. who.base ≤ line.number) (sym held.who) k.base;
+          used = subst (λ u. u < 2 ^ 32) (sym held.used) k.used;
+          number = λ b e. let one : a ≡ b = cc in inr (ap (λ (t : Awaited). t.waiter) (sym one) ∙ last);
+          unserved = λ idle. k.unserved (λ b e. hand_zero true f b (sym hand ∙ e));
+          upto = k.upto;
+          past = λ u y p owing. subst (λ (t : Who × ℕ). t.0.base * 2 ^ 32 + t.1 < y.waiter → y.waiter < (t.0.base + 1) * 2 ^ 32 → ⊥) (λ i. (sym held.who i, sym held.used i)) (k.past u y p (again u y p (back u y p owing)));
+          own = λ b q u y p e asks owing number.
+              let one : a ≡ b = cc in
+              let at = owns line u y p rises (back u y p owing) (number ∙ ap (λ (t : Awaited). t.waiter) (sym one)) in
+              let both : Some question ≡ Some q = sym held.next ∙ asks in
+              let frame : f ≡ q.frame = cc in (
+                subst (λ g. IsWaitOf asking.settings g u y p) frame (record { at = sym at.0; write = write; wish = wish; asks = subst (λ (t : Settings). request_of t.json f ≡ Ok (request.Write write (Some wish))) (sym same) is; prepares = at.1 }),
+                subst (IsToldIn n u y p) (sym (k.unserved (λ b e. hand_zero true f b (sym hand ∙ e)) so.made)) at.2,
+              );
+        }) in
         calmly w n c base r (session_goes w n c base r g session held.who held.closed held.reader
-        (awaited_asks ((so_far x).clients_at n c).asking client.session session client.producer.handshake (stands w n c base r g).asks f a ahead hand held.next held.reader held.settings refl code number (subst (λ s. AsksDurably s f) held.settings durable))) calm
+        (awaited_asks asking client.session session client.producer.handshake (stands w n c base r g).asks f a ahead hand held.next held.reader held.settings refl code number (subst (λ s. AsksDurably s f) held.settings durable)
+        some (subst HasNumber (sym held.count_is) left) (subst (λ k. HasUsed x.1.session.used (k + 1)) (sym held.count_is) numbers)) owed) calm
 
     -- its outcome is told at once, or awaited
     prepared_goes : (x : States × Served) → Held x → AllDurable (so_far x).made → (a : Awaited) → a.opcode ≡ f.opcode → a.opaque ≡ f.opaque → (write : Write) (wish : Durability) → request_of x.1.session.settings.json f ≡ Ok (request.Write write (Some wish)) → (how : Option Resolution)
-        → ((said : Resolution) → how ≡ Some said → HowTold n (so_far x).made said) → Ends (x.0, answered_or_awaited a how x.1)
-    prepared_goes x held calm a code number write wish is None told = awaits x held calm a code number (record { own = own; write = write; wish = wish; asks = is })
-    prepared_goes x held calm a code number write wish is (Some how) told =
-        answered x held x.0 (λ q. refl) (Ok (request.Write write (Some wish))) is (record x.1.session { awaited = None }) refl refl refl refl refl (outcome_reply x.1.session.settings a how) (outcome_repeats x.1.session.settings f a how code number)
-        (outcome_fits (so_far x) n v x.1.session.settings f write a how code number (told how refl)) (inl (is_outcome x.1.session.settings f a write wish is how))
+        → a.waiter ≡ x.1.session.who.base * 2 ^ 32 + x.1.session.used → ((line : LastLine) (u : ℕ) (y : Waiting) (p : Pend) → (so_far x).last ≡ Some line → Owing (x.0 u) y p → y.waiter ≡ a.waiter → (u ≡ v) × IsPrepareOf write y p × IsToldIn n u y p (so_far x).made)
+        → ((said : Resolution) → how ≡ Some said → HowTold n (so_far x).made (OwnClaim (so_far x).last (so_far x).made a.waiter n v write) (record { waiter = a.waiter; how = said })) → (a.waiter ≡ 0 → ⊥) → HasNumber count → HasUsed x.1.session.used (count + 1) → Ends (x.0, answered_or_awaited a how x.1)
+    prepared_goes x held calm a code number write wish is None last owns told_so some left numbers = awaits x held calm a code number write wish is last owns some left numbers
+    prepared_goes x held calm a code number write wish is (Some how) last owns told_so some left numbers =
+        answered x held x.0 (λ q. refl) (Ok (request.Write write (Some wish))) is (record x.1.session { awaited = None }) refl refl refl refl refl refl numbers (outcome_reply x.1.session.settings a how) (outcome_repeats x.1.session.settings f a how code number)
+        (inr (
+          left,
+          outcome_fits (so_far x) n v x.1.session.settings f write a how (OwnClaim (so_far x).last (so_far x).made a.waiter n v write) code number (serving_at x) (λ told u y p served same claim.
+              let (line, rises, told_is) = serves_line (so_far x).last (λ l. told_for (l.served n c) ((so_far x).clients_at n c).asking.answered (so_far x).made) told served in
+              let k = claim line rises same in
+              (k.0, k.1, subst (IsToldIn n u y p) (sym (unserved_at x held line rises) ∙ told_is) k.2)) (told_so how refl),
+        )) (inl (is_outcome x.1.session.settings f a write wish is how))
 
-    -- a request that a vBucket was asked
+    -- what is known of what is asked of a vBucket
+    module _ (x : States × Served) (held : Held x) where
+      -- that is not there
+      off : x.0 v ≡ None → IsActive ((so_far x).role_at n v) → ⊥
+      off none = not_here (world_at x.0) (so_far x) n v held.now.1 (vb_here w n c base x.0 (Some client) v ∙ none)
 
-    module _ (x : States × Served) (held : Held x) (calm : AllDurable (so_far x).made) where
+      -- or is
+      known : (world_at x.0).nodes n ≡ Some (with_states node x.0)
+      known = ap (λ b. if b then Some (with_states node x.0) else w.nodes n) (eq-eqb n n refl)
+
+      known_vb : (vb : Plain) → x.0 v ≡ Some vb → KnownAs (so_far x) n v vb
+      known_vb vb has = known_as (world_at x.0) (so_far x) n v vb held.now.1 (vb_here w n c base x.0 (Some client) v ∙ has)
+
+    -- a request that a vBucket was asked, by a session that used its numbers for the writes before
+    module _ (x : States × Served) (held : Held x) (calm : AllDurable (so_far x).made) (fresh : HasUsed x.1.session.used count) where
       abbrev now : Now x
       now = held.now
 
-      -- what is asked of a vBucket that is not there
-      off : x.0 v ≡ None → IsActive ((so_far x).role_at n v) → ⊥
-      off none = not_here (world_at x.0) (so_far x) n v now.1 (vb_here w n c base x.0 (Some client) v ∙ none)
+      -- no number is left
+      spent : WRITE_NUMBERS ≤ x.1.session.used → WRITE_NUMBERS < count + 1
+      spent full = let most = fresh.most in omega (arith, most, full)
 
-      away : (asked : Result KvRequest Status) → request_of x.1.session.settings.json f ≡ asked → x.1.session.settings ≡ settings_by asked x.1.session.settings → FitsRequest (so_far x) n x.1.session.settings f (reply_frame (status_reply f NotMyVbucket)) asked → Ends (answered_by f x.1 (x.0, None))
-      away asked is set fits = status_goes x held x.0 (λ q. refl) asked NotMyVbucket is set fits calm
+      unnumbered : WRITE_NUMBERS ≤ x.1.session.used → HasUsed x.1.session.used (count + 1)
+      unnumbered full = let most = fresh.most in record { most = omega (arith, most); each = λ few. absurd (omega (arith, few, full)) }
+
+      away : (asked : Result KvRequest Status) → request_of x.1.session.settings.json f ≡ asked → x.1.session.settings ≡ settings_by asked x.1.session.settings → HasUsed x.1.session.used (durables_by asked count) → FitsRequest (serving_at x) (so_far x) n count x.1.session.settings f (reply_frame (status_reply f NotMyVbucket)) asked → Ends (answered_by f x.1 (x.0, None))
+      away asked is set numbers fits = status_goes x held x.0 (λ q. refl) asked NotMyVbucket is set numbers fits calm
 
       module _ (vb : Plain) (has : x.0 v ≡ Some vb) where
         abbrev there0 : PlainNode
         there0 = with_states node x.0
 
-        known : (world_at x.0).nodes n ≡ Some there0
-        known = ap (λ b. if b then Some there0 else w.nodes n) (eq-eqb n n refl)
-
-        known_vb : KnownAs (so_far x) n v vb
-        known_vb = known_as (world_at x.0) (so_far x) n v vb now.1 (vb_here w n c base x.0 (Some client) v ∙ has)
-
         abbrev cas : ℕ
         cas = new_cas clock vb.last_cas
 
         -- a reply without changes
-        unchanged : (asked : KvRequest) → request_of x.1.session.settings.json f ≡ Ok asked → x.1.session.settings ≡ settings_by (Ok asked) x.1.session.settings → (reply : VbReply) → change_lines x.1.session.who.node v reply.answer reply.changes ≡ [] → (kv : KvReply)
-            → reply_to x.1.session.settings f reply.answer ≡ Some kv → FitsRequest (so_far x) n x.1.session.settings f (reply_frame kv) (Ok asked) → Ends (answered_by f x.1 (with_vb_at x.0 v vb, Some reply))
-        unchanged asked is set reply none kv said fits =
+        unchanged : (asked : KvRequest) → request_of x.1.session.settings.json f ≡ Ok asked → x.1.session.settings ≡ settings_by (Ok asked) x.1.session.settings → HasUsed x.1.session.used (durables_by (Ok asked) count) → (reply : VbReply) → change_lines x.1.session.who.node v reply.answer reply.changes ≡ [] → (kv : KvReply)
+            → reply_to x.1.session.settings f reply.answer ≡ Some kv → FitsRequest (serving_at x) (so_far x) n count x.1.session.settings f (reply_frame kv) (Ok asked) → Ends (answered_by f x.1 (with_vb_at x.0 v vb, Some reply))
+        unchanged asked is set numbers reply none kv said fits =
             subst (λ es. Ends (with_vb_at x.0 v vb, with_lines x.1 es)) (sym (λ i. none i ++ reply_lines x.1.session.who.node x.1.session.who.client (said i)))
-            (answered x held (with_vb_at x.0 v vb) (put_same x.0 v vb has) (Ok asked) is x.1.session refl refl refl held.free set kv (reply_repeats x.1.session.settings f reply.answer kv said) fits (inr calm))
+            (answered x held (with_vb_at x.0 v vb) (put_same x.0 v vb has) (Ok asked) is x.1.session refl refl refl held.free set refl numbers kv (reply_repeats x.1.session.settings f reply.answer kv said) fits (inr calm))
 
         -- the write is made
         store_goes : (write : Write) → WriteFits write → request_of x.1.session.settings.json f ≡ Ok (request.Write write None) → store_refusal vb write ≡ None → Ends (answered_by f x.1 (stepped_at x.0 v (growth vb (write_change vb write cas) cas)))
@@ -254,15 +272,20 @@ module _ (stays : StaysSound) (steady : Steady) (w : PlainWorld) (r : Chronicle)
             let (cl, in_it) = now.1 in let change : Change = write_change vb write cas in
             let member : Member = cl.nodes (seat n v) in
             let taken = store_taken vb.role (lacks_seqnos vb 1) (key_refusal vb write) free in
-            let room = has_room vb.position.at (length vb.waiting) taken.1 in let here = mine_vb (world_at x.0) (so_far x) cl n v there0 vb in_it known has in
+            let room = has_room vb.position.at (length vb.waiting) taken.1 in let here = mine_vb (world_at x.0) (so_far x) cl n v there0 vb in_it (known x held) has in
             let sound : Sound (growth vb change cas).0 = subst (λ o. Sound (store_outcome o vb write cas).0) free (stays vb (Store write clock) here.sound small) in
             let named = write_fulfils (image_of member.held) vb write cas in
             let change_is = change_fits vb write clock fits small room in let states : States = with_vb_at x.0 v (growth vb change cas).0 in
             let grown : Changed (world_at x.0) (world_at states) n v (growth vb change cas).0 w.links = node_grown w n v there0 (with_states node states) (growth vb change cas).0 (λ q. refl) (λ q o. refl) refl in
+            let lefts = left_on ((so_far x).counts_at n v).risen vb.position.at vb.waiting (here.lefts taken.0) in
             let made = told_each_change x now states x.1.session.who.node v (newest_branch vb.log) member.br (change ∷ []) now.2.0
-            (newest (world_at x.0) (so_far x) cl n v there0 vb in_it known has change cas taken.0 refl room change_is named vb.waiting sound)
-            (is_lawful (world_at x.0) (so_far x) cl n v there0 vb in_it known has change cas taken.0 refl room change_is named vb.waiting sound (write_is_next vb here.kept write clock small (said_none vb.role (lacks_seqnos vb 1) (key_refusal vb write) free)) (write_unheld ((so_far x).counts_at n v) ((so_far x).disk_at n v).saved (image_of member.held) vb write cas), tt)
-            (happens cl (Move.Own (seat n v) change), written (world_at x.0) (so_far x) cl n v there0 vb in_it known has change cas taken.0 refl room change_is named vb.waiting sound (world_at states) grown (shelves_again w n (with_states node x.0) (with_states node states) (λ q. refl) n v) (cas_rises clock vb.last_cas here.sound.last_cas)) in
+            (newest (world_at x.0) (so_far x) cl n v there0 vb in_it (known x held) has change cas taken.0 refl room change_is named vb.waiting sound)
+            (is_lawful (world_at x.0) (so_far x) cl n v there0 vb in_it (known x held) has change cas taken.0 refl room change_is named vb.waiting sound (write_is_next vb here.kept write clock small (said_none vb.role (lacks_seqnos vb 1) (key_refusal vb write) free)) (write_unheld ((so_far x).counts_at n v) ((so_far x).disk_at n v).saved (image_of member.held) vb write cas) (λ prepared e. absurd (write_aborts vb write cas prepared e)), tt) (
+              happens cl (Move.Own (seat n v) change),
+              written (world_at x.0) (so_far x) cl n v there0 vb in_it (known x held) has change cas taken.0 refl room change_is named vb.waiting sound (world_at states) grown (shelves_again w n (with_states node x.0) (with_states node states) (λ q. refl) n v) (cas_rises clock vb.last_cas here.sound.last_cas) lefts (λ t. fewer_times change.seq ((so_far x).clock_at n) (λ y i. i) t)
+                  (fewer_written (world_at x.0) (so_far x) cl n v there0 vb in_it (known x held) has change cas taken.0 refl room change_is named vb.waiting sound (world_at states) grown (shelves_again w n (with_states node x.0) (with_states node states) (λ q. refl) n v) (cas_rises clock vb.last_cas here.sound.last_cas) lefts (λ t. fewer_times change.seq ((so_far x).clock_at n) (λ y i. i) t)
+                  (fewer_some vb (growth vb change cas).0 (λ y p some o. written_stood vb write clock free here.sound y p o))),
+            ) in
             let lines : List Event = changes_told x.1.session.who.node v (newest_branch vb.log) (change ∷ []) in
             let then_held : Held (states, with_lines x.1 lines) = changed x states x.1.session.who.node v (newest_branch vb.log) (change ∷ []) held made in
             let settings : Settings = x.1.session.settings in
@@ -271,138 +294,201 @@ module _ (stays : StaysSound) (steady : Steady) (w : PlainWorld) (r : Chronicle)
             let made_is = made_fits n v (so.held n v) so.made settings f vb write cas (newest_branch vb.log) (so_far x).made ((so_far x).held n v)
             (ap (λ (k : Chronicle). k.made) read ∙ (λ i. record { node = now.2.0 i; vb = v; branch = newest_branch vb.log; change = change } ∷ (so_far x).made)) calm
             (ap (λ (k : Chronicle). k.held n v) read ∙ (λ i. with_at (so_far x).held (now.2.0 i) v ((so_far x).held (now.2.0 i) v ++ change ∷ []) n v) ∙ at_here (so_far x).held n v ((so_far x).held n v ++ change ∷ []))
-            known_vb.image free in
+            (known_vb x held vb has).image free in
             subst (λ es. Ends (states, served x.1.session es)) (append_assoc x.1.events lines (reply_line x.1.session.who.node x.1.session.who.client (stored_reply settings f (newest_branch vb.log) change.seq cas) ∷ []))
-            (answered (states, with_lines x.1 lines) then_held states (λ q. refl) (Ok (request.Write write None)) is x.1.session refl refl refl held.free refl (stored_reply settings f (newest_branch vb.log) change.seq cas)
+            (answered (states, with_lines x.1 lines) then_held states (λ q. refl) (Ok (request.Write write None)) is x.1.session refl refl refl held.free refl refl fresh (stored_reply settings f (newest_branch vb.log) change.seq cas)
             (stored_repeats settings f (newest_branch vb.log) change.seq cas) (inr made_is) (inl (write, None, is, inl refl)))
 
         stored : (write : Write) → WriteFits write → request_of x.1.session.settings.json f ≡ Ok (request.Write write None) → (said : Option Status) → store_refusal vb write ≡ said → Ends (answered_by f x.1 (stepped_at x.0 v (store_outcome said vb write cas)))
-        stored write fits is (Some st) e = unchanged (request.Write write None) is refl (refusal_reply st) refl (status_reply f st) refl (refused_fits (so_far x) n v vb known_vb x.1.session.settings f write st e)
+        stored write fits is (Some st) e = unchanged (request.Write write None) is refl fresh (refusal_reply st) refl (status_reply f st) refl (refused_fits (so_far x) n v vb (known_vb x held vb has) x.1.session.settings f write st e)
         stored write fits is None e = store_goes write fits is e
 
-        -- an outcome that is known at once is told by the changes before it
-        outcome_told : (write : Write) (wish : Wish) (so : List OwnChange) → durable_refusal vb write ≡ None → (let made : Plain = prepared_vb vb write wish cas in let s = settled made in
-            let branch : ℕ = if is_empty s.changes then newest_branch vb.log else newest_branch s.vb.log in
-            so ≡ (after_lines (so_far x) (changes_told n v branch (prepare_change vb write wish.level cas ∷ s.changes))).made → Sound vb → (said : Resolution) → outcome_of (next_waiter x.1.session) s.resolved ≡ Some said → HowTold n so said)
-        outcome_told write wish so free is sound said out =
-            let made : Plain = prepared_vb vb write wish cas in let s = settled made in
-            let branch : ℕ = if is_empty s.changes then newest_branch vb.log else newest_branch s.vb.log in
-            let call : VbCall = Durable write clock wish.level wish.deadline wish.waiter in
-            let all = subst (λ (o : Option Status). All (IsExplained vb call (durable_outcome o vb write wish cas).1.branch (durable_outcome o vb write wish cas).1.changes) (durable_outcome o vb write wish cas).1.resolved) free (explained vb call sound small) in
-            let told = all_told (so_far x) n v branch (prepare_change vb write wish.level cas ∷ s.changes) vb call s.resolved all in
-            let o = outcome_in (λ o. HowTold n (after_lines (so_far x) (changes_told n v branch (prepare_change vb write wish.level cas ∷ s.changes))).made o.how) (next_waiter x.1.session) said s.resolved told out in
-            subst (λ m. HowTold n m said) (sym is) (subst (λ how. HowTold n (after_lines (so_far x) (changes_told n v branch (prepare_change vb write wish.level cas ∷ s.changes))).made how) o.how_is o.is)
-
-        -- a durable write is prepared, and what may be committed then is
-        durable_goes : (write : Write) (wish : Wish) (asked : Durability) → WriteFits write → (write.op ≡ Op.Delete → write.value ≡ []) → request_of x.1.session.settings.json f ≡ Ok (request.Write write (Some asked)) → durable_refusal vb write ≡ None
-            → Ends (durably_by f x.1 (stepped_at x.0 v (durable_outcome None vb write wish cas)))
-        unfolding durable_replied
-        durable_goes write wish asked fits alone is free =
-            let (cl, in_it) = now.1 in let change : Change = prepare_change vb write wish.level cas in let made : Plain = prepared_vb vb write wish cas in
-            let member : Member = cl.nodes (seat n v) in let left = placed (outstanding write wish (vb.position.at + 1)) vb.waiting in
-            let taken = durable_free vb.role (is_possible vb.others) (lacks_seqnos vb 2) (key_refusal vb write) free in
-            let room = room_for_two vb.position.at (length vb.waiting) taken.2 in let here = mine_vb (world_at x.0) (so_far x) cl n v there0 vb in_it known has in
-            let sound : Sound made = prepared_sound vb write clock wish free here.sound small in
-            let named = prepare_fulfils (image_of member.held) vb write wish.level cas in
-            let change_is = prepare_fits vb write clock wish.level fits alone small room in
-            let states1 : States = with_vb_at x.0 v made in let there1 : PlainNode = with_states node states1 in
-            let grown : Changed (world_at x.0) (world_at states1) n v made w.links = node_grown w n v there0 there1 made (λ q. refl) (λ q o. refl) refl in
-            let r1 : Chronicle = after_change (so_far x) n v member.br change in
-            let agrees1 : AgreesIn idle (world_at states1) r1 (happens cl (Move.Own (seat n v) change)) =
-            written (world_at x.0) (so_far x) cl n v there0 vb in_it known has change cas taken.0 refl room change_is named left sound (world_at states1) grown (shelves_again w n there0 there1 (λ q. refl) n v) (cas_rises clock vb.last_cas here.sound.last_cas) in
-            let later : SettlesOn (world_at states1) r1 n v (unresolved made) (settled made) =
-            settles steady.commits n v (world_at states1) r1 (happens cl (Move.Own (seat n v) change)) there1 made agrees1
-            (ap (λ b. if b then Some there1 else w.nodes n) (eq-eqb n n refl)) (ap (λ b. if b then Some made else x.0 v) (eq-eqb v v refl)) in
-            let states2 : States = with_vb_at x.0 v (settled made).vb in let there2 : PlainNode = with_states node states2 in
-            let changed_to : Changed (world_at states1) (world_at states2) n v (settled made).vb w.links = node_grown w n v there1 there2 (settled made).vb (λ q. put_twice x.0 v made (settled made).vb q) (λ q o. refl) refl in
-            let on : newest_branch vb.log ≡ member.br = newest (world_at x.0) (so_far x) cl n v there0 vb in_it known has change cas taken.0 refl room change_is named left sound in
-            let gone = told_each_change (x.0, with_used x.1) (used x held).now states2 x.1.session.who.node v (if is_empty (settled made).changes then newest_branch vb.log else newest_branch (settled made).vb.log) member.br (change ∷ later.cs) now.2.0
-            (one_branch (is_empty (settled made).changes) (newest_branch vb.log) (newest_branch (settled made).vb.log) (ap newest_branch later.log) ∙ on)
-            (is_lawful (world_at x.0) (so_far x) cl n v there0 vb in_it known has change cas taken.0 refl room change_is named left sound (prepare_is_next vb here.kept write wish.level clock small taken.3) (prepare_unheld ((so_far x).counts_at n v) ((so_far x).disk_at n v).saved (image_of member.held) vb write wish.level cas), subst (λ u. LawfulFrom r1 (changes_told n v u later.cs)) on later.lawful)
-            (subst (λ u. Agrees (world_at states2) (after_lines r1 (changes_told n v u later.cs))) on (later.agrees (world_at states2) changed_to (shelves_again w n there1 there2 (λ q. refl) n v))) in
-            let branch : ℕ = if is_empty (settled made).changes then newest_branch vb.log else newest_branch (settled made).vb.log in
-            let told_now = subst (λ cs. Now (states2, with_lines (with_used x.1) (changes_told x.1.session.who.node v branch (change ∷ cs)))) (sym later.changes) gone in
-            prepared_goes (states2, with_lines (with_used x.1) (changes_told x.1.session.who.node v branch (change ∷ (settled made).changes)))
-            (changed (x.0, with_used x.1) states2 x.1.session.who.node v branch (change ∷ (settled made).changes) (used x held) told_now)
-            (subst (λ (k : Chronicle). AllDurable k.made) (sym (reads (x.0, with_used x.1) states2 (changes_told x.1.session.who.node v branch (change ∷ (settled made).changes))))
-            (durable_told (so_far x) x.1.session.who.node v branch (change ∷ (settled made).changes) (All-cons OfDurable change (settled made).changes refl (durable_settled made)) calm))
-            (awaited_by (next_waiter x.1.session) f) refl refl write asked is (outcome_of (next_waiter x.1.session) (settled made).resolved)
-            (outcome_told write wish (so_far (states2, with_lines (with_used x.1) (changes_told x.1.session.who.node v branch (change ∷ (settled made).changes)))).made free (ap (λ (k : Chronicle). k.made) (reads (x.0, with_used x.1) states2 (changes_told x.1.session.who.node v branch (change ∷ (settled made).changes))) ∙ ap (λ m. (after_lines (so_far x) (changes_told m v branch (change ∷ (settled made).changes))).made) now.2.0) here.sound)
-
-        durably : (write : Write) (wish : Wish) (asked : Durability) → WriteFits write → (write.op ≡ Op.Delete → write.value ≡ []) → request_of x.1.session.settings.json f ≡ Ok (request.Write write (Some asked)) → (said : Option Status) → durable_refusal vb write ≡ said
-            → Ends (durably_by f x.1 (stepped_at x.0 v (durable_outcome said vb write wish cas)))
-        unfolding durable_replied
-        durably write wish asked fits alone is (Some st) e =
-            subst (λ es. Ends (with_vb_at x.0 v vb, served (with_used x.1).session (es ++ reply_line x.1.session.who.node x.1.session.who.client (status_reply f st) ∷ []))) (sym (append-nil x.1.events))
-            (status_goes (x.0, with_used x.1) (used x held) (with_vb_at x.0 v vb) (put_same x.0 v vb has) (Ok (request.Write write (Some asked))) st is refl (durable_refused_fits (so_far x) n v vb known_vb x.1.session.settings f write st e) calm)
-        durably write wish asked fits alone is None e = durable_goes write wish asked fits alone is e
-
       got : (key : List ℕ) → request_of x.1.session.settings.json f ≡ Ok (request.Get key) → (o : Option Plain) → x.0 v ≡ o → Ends (answered_by f x.1 (call_at x.0 v (Get key) o))
-      got key is None none = away (Ok (request.Get key)) is refl (get_away ((so_far x).role_at n v) (image_of ((so_far x).held n v)) x.1.session.settings.json key f (off none))
+      got key is None none = away (Ok (request.Get key)) is refl fresh (get_away ((so_far x).role_at n v) ((so_far x).counts_at n v).risen (image_of ((so_far x).held n v)) x.1.session.settings.json key f (off x held none))
       got key is (Some vb) has =
           let row : VbReply = get_row vb key in
           by (reply_to x.1.session.settings f row.answer) refl
         where
           by : (o : Option KvReply) → reply_to x.1.session.settings f (get_row vb key).answer ≡ o → Ends (answered_by f x.1 (call_at x.0 v (Get key) (Some vb)))
-          by (Some kv) said = unchanged vb has (request.Get key) is refl (plain_step vb (Get key)).1 (no_change x.1.session.who.node v (is_active vb.role) (is_left vb.waiting (pending_of vb key)) (doc_at vb key)) kv said
-              (get_fits (so_far x) n v vb (known_vb vb has) x.1.session.settings f key (has_opcode x.1.session.settings.json f (request.Get key) is) kv said)
+          by (Some kv) said = unchanged vb has (request.Get key) is refl fresh (plain_step vb (Get key)).1 (no_change x.1.session.who.node v (is_active vb.role) (is_left vb.waiting (pending_of vb key)) (doc_at vb key)) kv said
+              (get_fits (so_far x) n v vb (known_vb x held vb has) x.1.session.settings f key (has_opcode x.1.session.settings.json f (request.Get key) is) kv said)
           by None said = absurd (some_reply x.1.session.settings f (is_active vb.role) (is_left vb.waiting (pending_of vb key)) (doc_at vb key) said)
 
       wrote : (write : Write) → WriteFits write → request_of x.1.session.settings.json f ≡ Ok (request.Write write None) → (o : Option Plain) → x.0 v ≡ o → Ends (answered_by f x.1 (call_at x.0 v (Store write clock) o))
-      wrote write fits is None none = away (Ok (request.Write write None)) is refl (write_away (so_far x) n v x.1.session.settings f write (off none))
+      wrote write fits is None none = away (Ok (request.Write write None)) is refl fresh (write_away (so_far x) n v x.1.session.settings f write (off x held none))
       wrote write fits is (Some vb) has = stored vb has write fits is (store_refusal vb write) refl
 
-      prepared : (write : Write) (wish : Wish) (asked : Durability) → WriteFits write → (write.op ≡ Op.Delete → write.value ≡ []) → request_of x.1.session.settings.json f ≡ Ok (request.Write write (Some asked)) → (o : Option Plain) → x.0 v ≡ o
+      -- a request
+      asked_goes : (q : Result KvRequest Status) → request_of x.1.session.settings.json f ≡ q → ((asked : KvRequest) → q ≡ Ok asked → AskedFits asked) → IsUncounted x.1.session.used q → Ends (after (request_handled clock f q x.1) x.0)
+      unfolding request_handled told
+      asked_goes (Err st) is fits none = status_goes x held x.0 (λ q. refl) (Err st) st is refl fresh (status_fits f st) calm
+      asked_goes (Ok request.Noop) is fits none = status_goes x held x.0 (λ q. refl) (Ok request.Noop) Success is refl fresh (status_fits f Success) calm
+      asked_goes (Ok (request.Hello features)) is fits none =
+          answered x held x.0 (λ q. refl) (Ok (request.Hello features)) is (record x.1.session { settings = settings_of features }) refl refl refl held.free refl refl fresh (value_reply f (feature_bytes features)) (value_repeats f (feature_bytes features))
+          (welcome_fits f features (has_opcode x.1.session.settings.json f (request.Hello features) is)) (inr calm)
+      asked_goes (Ok (request.Get key)) is fits none = got key is (x.0 v) refl
+      asked_goes (Ok (request.Write write None)) is fits none = wrote write (fits (request.Write write None) refl).0 is (x.0 v) refl
+      asked_goes (Ok (request.Write write (Some wish))) is fits none =
+          let full : WRITE_NUMBERS ≤ x.1.session.used = grind (arith, nat_tests, none) in
+          subst (λ b. Ends (after (if b then Done (refused f Etmpfail x.1) else durable_called f (Durable write clock wish.level (deadline_of clock wish.timeout) (next_waiter x.1.session)) x.1) x.0)) (sym none)
+          (status_goes x held x.0 (λ q. refl) (Ok (request.Write write (Some wish))) Etmpfail is refl (unnumbered full) (inl (spent full, status_fits f Etmpfail)) calm)
+
+      -- so a request goes on that counts for none
+      pub request_goes : Received f → IsUncounted x.1.session.used (request_of x.1.session.settings.json f) → Ends (after (request_handled clock f (request_of x.1.session.settings.json f) x.1) x.0)
+      request_goes good none = asked_goes (request_of x.1.session.settings.json f) refl (λ asked e. ((read_fits x.1.session.settings.json f asked good.readable good.extras e).0, removes_alone x.1.session.settings.json f asked e)) none
+
+    -- a durable write, of a session that counts it, while nothing waits under the number that it gets
+    module _ (x : States × Served) (held : Held (x.0, with_used x.1)) (calm : AllDurable (so_far x).made) (unowed : (line : LastLine) (u : ℕ) (y : Waiting) (p : Pend) → (so_far x).last ≡ Some line → Owing (x.0 u) y p → y.waiter ≡ next_waiter x.1.session → ⊥) (fresh : HasUsed x.1.session.used count) where
+      abbrev counted : States × Served
+      counted = (x.0, with_used x.1)
+
+      -- what is told of the node's clock is what it shows
+      clock_is : (so_far x).clock_at n ≡ clock
+      clock_is = held.now.1.1.clocks n ∙ ap (λ b. clock_of (power_in (if b then Some (with_states node x.0) else w.nodes n))) (eq-eqb n n refl) ∙ shows
+
+      -- where a number is left it has that
+      one_left : x.1.session.used < WRITE_NUMBERS → HasNumber count
+      one_left few = let all = fresh.each few in omega (arith, few, all)
+
+      numbers_on : x.1.session.used < WRITE_NUMBERS → HasUsed (x.1.session.used + 1) (count + 1)
+      numbers_on few = let all = fresh.each few in let most = fresh.most in record { most = omega (arith, most); each = λ more. omega (arith, all) }
+
+      module _ (vb : Plain) (has : x.0 v ≡ Some vb) where
+        abbrev node0 : PlainNode
+        node0 = with_states node x.0
+
+        abbrev stamp : ℕ
+        stamp = new_cas clock vb.last_cas
+
+        -- its prepare, on this branch
+        abbrev prepare_line : Write → Wish → ℕ → OwnChange
+        prepare_line write wish branch = record { node = n; vb = v; branch = branch; change = prepare_change vb write wish.level stamp }
+
+        -- what waits behind the call under its number is its own prepare, which is among what is told then
+        own_placed : (write : Write) (wish : Wish) (so : List OwnChange) (branch : ℕ) → IsMadeIn (prepare_line write wish branch) so → (y : Waiting) (p : Pend) (line : LastLine) → y.waiter ≢ 0 → (so_far x).last ≡ Some line → y.waiter ≡ next_waiter x.1.session → Stood vb (Durable write clock wish.level wish.deadline wish.waiter) y p → IsPrepareOf write y p × IsToldIn n v y p so
+        own_placed write wish so branch there y p line some rises same stood = ⊎_elim (λ o. absurd (unowed line v y p rises (subst (λ k. Owing k y p) (sym has) (some, o)) same))
+            (λ k. (
+              (placed_of vb write clock wish.level wish.deadline wish.waiter y p k).0,
+              record {
+                first = prepare_line write wish branch;
+                among = there;
+                node = refl;
+                vb = refl;
+                seq = sym (ap (λ (w : Waiting). w.seq) k.1);
+                key = sym (ap (λ (w : Waiting). w.key) k.1);
+                level = wish.level;
+                act = sym (λ i. act.Prepare wish.level (ap (λ (q : Pend). q.doc) k.2 i) (ap (λ (q : Pend). q.deleted) k.2 i));
+              },
+            )) stood
+
+        -- once it is prepared, what waits waited before, or has that number
+        newly : (write : Write) (wish : Wish) → wish.waiter ≡ next_waiter x.1.session → durable_refusal vb write ≡ None → Sound vb → (made : Plain) → made ≡ prepared_vb vb write wish stamp → (y : Waiting) (p : Pend) → Owing (Some made) y p
+            → Owing (vb_of (world_at x.0) n v) y p ⊎ (y.waiter ≡ client.session.who.base * 2 ^ 32 + client.session.used)
+        newly write wish numbered free sound made is y p owing = ⊎_elim
+            (λ o. inl (subst (λ k. Owing k y p) (sym (vb_here w n c base x.0 (Some client) v ∙ has)) (owing.0, o)))
+            (λ k. inr ((placed_of vb write clock wish.level wish.deadline wish.waiter y p k).1 ∙ numbered ∙ (λ i. (held.who i).base * 2 ^ 32 + held.used i)))
+            (prepared_stood vb write clock wish free sound y p (subst (λ (k : Plain). IsOutstanding k y p) is owing.1))
+
+        -- and once all is committed that may be
+        own_there : (write : Write) (wish : Wish) (so : List OwnChange) (branch : ℕ) → IsMadeIn (prepare_line write wish branch) so → durable_refusal vb write ≡ None → Sound vb → (after_all : Plain) → after_all ≡ (durable_outcome None vb write wish stamp).0 → (line : LastLine) (u : ℕ) (y : Waiting) (p : Pend) → (so_far x).last ≡ Some line → Owing (with_vb_at x.0 v after_all u) y p → y.waiter ≡ next_waiter x.1.session → (u ≡ v) × IsPrepareOf write y p × IsToldIn n u y p so
+        own_there write wish so branch there free sound after_all is line u y p rises owing same = ⊎_elim
+            (λ e.
+            let call : VbCall = Durable write clock wish.level wish.deadline wish.waiter in
+            let here : Owing (Some after_all) y p = subst (λ b. Owing (if b then Some after_all else x.0 u) y p) (eq-eqb u v e) owing in
+            let stood : Stood vb call y p = subst (λ (o : Option Status). IsOutstanding (durable_outcome o vb write wish stamp).0 y p → Stood vb call y p) free (awaited vb call sound small y p here.0) (subst (λ (k : Plain). IsOutstanding k y p) is here.1) in
+            let k = own_placed write wish so branch there y p line here.0 rises same stood in (e, k.0, subst (λ q. IsToldIn n q y p so) (sym e) k.1))
+            (λ ne. absurd (unowed line u y p rises (subst (λ b. Owing (if b then Some after_all else x.0 u) y p) (ne_eqb u v ne) owing) same)) (cases_eq u v)
+
+        -- an outcome that is known at once is told by the changes before it, and is of this write
+        outcome_told : (write : Write) (wish : Wish) (so : List OwnChange) → wish.waiter ≡ next_waiter x.1.session → durable_refusal vb write ≡ None → (let made : Plain = prepared_vb vb write wish stamp in let s = settled made in
+            let branch : ℕ = if is_empty s.changes then newest_branch vb.log else newest_branch s.vb.log in
+            so ≡ (after_lines (so_far x) (changes_told n v branch (prepare_change vb write wish.level stamp ∷ s.changes))).made → Sound vb → (said : Resolution) → outcome_of (next_waiter x.1.session) s.resolved ≡ Some said
+            → HowTold n so (OwnClaim (so_far x).last so (next_waiter x.1.session) n v write) (record { waiter = next_waiter x.1.session; how = said }))
+        outcome_told write wish so numbered free is sound said out =
+            let made : Plain = prepared_vb vb write wish stamp in let s = settled made in
+            let branch : ℕ = if is_empty s.changes then newest_branch vb.log else newest_branch s.vb.log in
+            let call : VbCall = Durable write clock wish.level wish.deadline wish.waiter in
+            let there : IsMadeIn (prepare_line write wish branch) so = subst (IsMadeIn (prepare_line write wish branch)) (sym is) (change_told (so_far x) n v branch (prepare_change vb write wish.level stamp ∷ s.changes) (prepare_change vb write wish.level stamp) (inl refl)) in
+            let Claim : ℕ → Waiting → Pend → Type 0 = OwnClaim (so_far x).last so (next_waiter x.1.session) n v write in
+            let lines : List Event = changes_told n v branch (prepare_change vb write wish.level stamp ∷ s.changes) in
+            let all = subst (λ (o : Option Status). All (IsExplained vb call (durable_outcome o vb write wish stamp).1.branch (durable_outcome o vb write wish stamp).1.changes) (durable_outcome o vb write wish stamp).1.resolved) free (explained vb call sound small) in
+            let told = all_told (so_far x) n v branch Claim (prepare_change vb write wish.level stamp ∷ s.changes) vb call s.resolved (λ y p some stood line rises same. let k = own_placed write wish so branch there y p line some rises same stood in (refl, k.0, k.1)) all in
+            let o = outcome_in (HowTold n (after_lines (so_far x) lines).made Claim) (next_waiter x.1.session) said s.resolved told out in
+            subst (λ m. HowTold n m Claim (record { waiter = next_waiter x.1.session; how = said })) (sym is) (subst (HowTold n (after_lines (so_far x) lines).made Claim) (λ i. record { waiter = o.number i; how = o.how_is i }) o.is)
+
+        -- a durable write is prepared, and what may be committed then is
+        durable_goes : (write : Write) (wish : Wish) (asked : Durability) → wish.waiter ≡ next_waiter x.1.session → WriteFits write → (write.op ≡ Op.Delete → write.value ≡ []) → request_of x.1.session.settings.json f ≡ Ok (request.Write write (Some asked)) → durable_refusal vb write ≡ None → x.1.session.used < WRITE_NUMBERS → IsUp ((so_far x).clock_at n) wish.deadline
+            → Ends (durably_by f x.1 (stepped_at x.0 v (durable_outcome None vb write wish stamp)))
+        unfolding durable_replied
+        durable_goes write wish asked numbered fits alone is free few timely =
+            let (cl, in_it) = held.now.1 in let change : Change = prepare_change vb write wish.level stamp in let made : Plain = prepared_vb vb write wish stamp in
+            let member : Member = cl.nodes (seat n v) in let left = placed (outstanding write wish (vb.position.at + 1)) vb.waiting in
+            let taken = durable_free vb.role (is_possible vb.others) (lacks_seqnos vb 2) (key_refusal vb write) free in
+            let room = room_for_two vb.position.at (length vb.waiting) taken.2 in let here = mine_vb (world_at x.0) (so_far x) cl n v node0 vb in_it (known counted held) has in
+            let sound : Sound made = prepared_sound vb write clock wish free here.sound small in
+            let named = prepare_fulfils (image_of member.held) vb write wish.level stamp in
+            let change_is = prepare_fits vb write clock wish.level fits alone small room in
+            let states1 : States = with_vb_at x.0 v made in let there1 : PlainNode = with_states node states1 in
+            let grown : Changed (world_at x.0) (world_at states1) n v made w.links = node_grown w n v node0 there1 made (λ q. refl) (λ q o. refl) refl in
+            let r1 : Chronicle = after_change (so_far x) n v member.br change in
+            let agrees1 : AgreesIn idle (world_at states1) r1 (happens cl (Move.Own (seat n v) change)) =
+            written (world_at x.0) (so_far x) cl n v node0 vb in_it (known counted held) has change stamp taken.0 refl room change_is named left sound (world_at states1) grown (shelves_again w n node0 there1 (λ q. refl) n v) (cas_rises clock vb.last_cas here.sound.last_cas)
+            (left_placed ((so_far x).counts_at n v).risen vb write wish here.sound (here.lefts taken.0))
+            (placed_times (outstanding write wish (vb.position.at + 1)) vb.waiting ((so_far x).clock_at n) wish.deadline refl timely)
+            (owed_placed (world_at x.0) (world_at states1) (so_far x) r1 n c v client (client_here w n c base x.0 (Some client)) (λ a e. hand_zero true f a (sym hand ∙ e)) (record { last = refl; grows = λ one durable i. inr i }) (same_clients (world_at x.0) (world_at states1) grown.powers) (λ m d. refl) grown.there
+            (λ y p owing. newly write wish numbered free here.sound made refl y p (subst (λ o. Owing o y p) grown.here owing)) in_it.clients.owed) in
+            let later : SettlesOn (world_at states1) r1 n v (unresolved made) (settled made) =
+            settles steady.commits n v (world_at states1) r1 (happens cl (Move.Own (seat n v) change)) there1 made agrees1
+            (ap (λ b. if b then Some there1 else w.nodes n) (eq-eqb n n refl)) (ap (λ b. if b then Some made else x.0 v) (eq-eqb v v refl)) in
+            let states2 : States = with_vb_at x.0 v (settled made).vb in let there2 : PlainNode = with_states node states2 in
+            let changed_to : Changed (world_at states1) (world_at states2) n v (settled made).vb w.links = node_grown w n v there1 there2 (settled made).vb (λ q. put_twice x.0 v made (settled made).vb q) (λ q o. refl) refl in
+            let on : newest_branch vb.log ≡ member.br = newest (world_at x.0) (so_far x) cl n v node0 vb in_it (known counted held) has change stamp taken.0 refl room change_is named left sound in
+            let gone = told_each_change (x.0, with_used x.1) held.now states2 x.1.session.who.node v (if is_empty (settled made).changes then newest_branch vb.log else newest_branch (settled made).vb.log) member.br (change ∷ later.cs) held.now.2.0
+            (one_branch (is_empty (settled made).changes) (newest_branch vb.log) (newest_branch (settled made).vb.log) (ap newest_branch later.log) ∙ on)
+            (is_lawful (world_at x.0) (so_far x) cl n v node0 vb in_it (known counted held) has change stamp taken.0 refl room change_is named left sound (prepare_is_next vb here.kept write wish.level clock small taken.3) (prepare_unheld ((so_far x).counts_at n v) ((so_far x).disk_at n v).saved (image_of member.held) vb write wish.level stamp) (λ prepared e. cc), subst (λ u. LawfulFrom r1 (changes_told n v u later.cs)) on later.lawful)
+            (subst (λ u. Agrees (world_at states2) (after_lines r1 (changes_told n v u later.cs))) on (later.agrees (world_at states2) changed_to (shelves_again w n there1 there2 (λ q. refl) n v))) in
+            let branch : ℕ = if is_empty (settled made).changes then newest_branch vb.log else newest_branch (settled made).vb.log in
+            let told_now = subst (λ cs. Now (states2, with_lines (with_used x.1) (changes_told x.1.session.who.node v branch (change ∷ cs)))) (sym later.changes) gone in
+            let lines : List Event = changes_told x.1.session.who.node v branch (change ∷ (settled made).changes) in
+            let y2 : States × Served = (states2, with_lines (with_used x.1) lines) in
+            let made_same : (so_far y2).made ≡ (after_lines (so_far x) (changes_told n v branch (change ∷ (settled made).changes))).made = ap (λ (k : Chronicle). k.made) (reads counted states2 lines) ∙ ap (λ m. (after_lines (so_far x) (changes_told m v branch (change ∷ (settled made).changes))).made) held.now.2.0 in
+            let there_told : IsMadeIn (prepare_line write wish branch) (so_far y2).made = subst (IsMadeIn (prepare_line write wish branch)) (sym made_same) (change_told (so_far x) n v branch (change ∷ (settled made).changes) change (inl refl)) in
+            let last_same : (so_far y2).last ≡ (so_far x).last = ap (λ (k : Chronicle). k.last) (reads counted states2 lines) ∙ changes_last (so_far x) x.1.session.who.node v branch (change ∷ (settled made).changes) in
+            let next : ℕ = next_waiter x.1.session in
+            prepared_goes y2
+            (changed counted states2 x.1.session.who.node v branch (change ∷ (settled made).changes) held told_now)
+            (subst (λ (k : Chronicle). AllDurable k.made) (sym (reads counted states2 lines))
+            (durable_told (so_far x) x.1.session.who.node v branch (change ∷ (settled made).changes) (All-cons OfDurable change (settled made).changes refl (durable_settled made)) calm))
+            (awaited_by next f) refl refl write asked is (outcome_of next (settled made).resolved) refl
+            (λ line u y p rises owing number. own_there write wish (so_far y2).made branch there_told free here.sound (settled made).vb refl line u y p (sym last_same ∙ rises) owing number)
+            (λ said out. subst (λ l. HowTold n (so_far y2).made (OwnClaim l (so_far y2).made next n v write) (record { waiter = next; how = said })) (sym last_same)
+            (outcome_told write wish (so_far y2).made numbered free made_same here.sound said out))
+            (λ z. omega (arith, z)) (one_left few) (numbers_on few)
+
+        durably : (write : Write) (wish : Wish) (asked : Durability) → wish.waiter ≡ next_waiter x.1.session → WriteFits write → (write.op ≡ Op.Delete → write.value ≡ []) → request_of x.1.session.settings.json f ≡ Ok (request.Write write (Some asked)) → (said : Option Status) → durable_refusal vb write ≡ said → x.1.session.used < WRITE_NUMBERS → IsUp ((so_far x).clock_at n) wish.deadline
+            → Ends (durably_by f x.1 (stepped_at x.0 v (durable_outcome said vb write wish stamp)))
+        unfolding durable_replied
+        durably write wish asked numbered fits alone is (Some st) e few timely =
+            subst (λ es. Ends (with_vb_at x.0 v vb, served (with_used x.1).session (es ++ reply_line x.1.session.who.node x.1.session.who.client (status_reply f st) ∷ []))) (sym (append-nil x.1.events))
+            (status_goes (x.0, with_used x.1) held (with_vb_at x.0 v vb) (put_same x.0 v vb has) (Ok (request.Write write (Some asked))) st is refl (numbers_on few) (inr (one_left few, durable_refused_fits (so_far x) n v vb (known_vb counted held vb has) x.1.session.settings f (serving_at counted) write st e)) calm)
+        durably write wish asked numbered fits alone is None e few timely = durable_goes write wish asked numbered fits alone is e few timely
+
+      prepared : (write : Write) (wish : Wish) (asked : Durability) → wish.waiter ≡ next_waiter x.1.session → WriteFits write → (write.op ≡ Op.Delete → write.value ≡ []) → request_of x.1.session.settings.json f ≡ Ok (request.Write write (Some asked)) → x.1.session.used < WRITE_NUMBERS → IsUp ((so_far x).clock_at n) wish.deadline → (o : Option Plain) → x.0 v ≡ o
           → Ends (durably_by f x.1 (call_at x.0 v (Durable write clock wish.level wish.deadline wish.waiter) o))
       unfolding durable_replied
-      prepared write wish asked fits alone is None none =
-          status_goes (x.0, with_used x.1) (used x held) x.0 (λ q. refl) (Ok (request.Write write (Some asked))) NotMyVbucket is refl (durable_away (so_far x) n v x.1.session.settings f write (off none)) calm
-      prepared write wish asked fits alone is (Some vb) has = durably vb has write wish asked fits alone is (durable_refusal vb write) refl
+      prepared write wish asked numbered fits alone is few timely None none =
+          status_goes counted held x.0 (λ q. refl) (Ok (request.Write write (Some asked))) NotMyVbucket is refl (numbers_on few) (inr (one_left few, durable_away (so_far x) n v x.1.session.settings f write (serving_at counted) (off counted held none))) calm
+      prepared write wish asked numbered fits alone is few timely (Some vb) has = durably vb has write wish asked numbered fits alone is (durable_refusal vb write) refl few timely
 
-      -- a request
-      asked_goes : (q : Result KvRequest Status) → request_of x.1.session.settings.json f ≡ q → ((asked : KvRequest) → q ≡ Ok asked → AskedFits asked) → Ends (after (request_handled clock f q x.1) x.0)
+      -- so it goes on
+      pub durable_request_goes : Received f → (write : Write) (wish : Durability) → request_of x.1.session.settings.json f ≡ Ok (request.Write write (Some wish)) → nat_le MOST_DURABLE x.1.session.used ≡ false → Ends (after (request_handled clock f (request_of x.1.session.settings.json f) x.1) x.0)
       unfolding request_handled told
-      asked_goes (Err st) is fits = status_goes x held x.0 (λ q. refl) (Err st) st is refl (status_fits f st) calm
-      asked_goes (Ok request.Noop) is fits = status_goes x held x.0 (λ q. refl) (Ok request.Noop) Success is refl (status_fits f Success) calm
-      asked_goes (Ok (request.Hello features)) is fits =
-          answered x held x.0 (λ q. refl) (Ok (request.Hello features)) is (record x.1.session { settings = settings_of features }) refl refl refl held.free refl (value_reply f (feature_bytes features)) (value_repeats f (feature_bytes features))
-          (welcome_fits f features (has_opcode x.1.session.settings.json f (request.Hello features) is)) (inr calm)
-      asked_goes (Ok (request.Get key)) is fits = got key is (x.0 v) refl
-      asked_goes (Ok (request.Write write None)) is fits = wrote write (fits (request.Write write None) refl).0 is (x.0 v) refl
-      asked_goes (Ok (request.Write write (Some wish))) is fits =
-          let asking : VbCall = Durable write clock wish.level (deadline_of clock wish.timeout) (next_waiter x.1.session) in
-          let fit = fits (request.Write write (Some wish)) refl in
-          either (λ p. Ends (after p x.0)) (nat_le MOST_DURABLE x.1.session.used) (Done (refused f Etmpfail x.1)) (durable_called f asking x.1)
-          (status_goes x held x.0 (λ q. refl) (Ok (request.Write write (Some wish))) Etmpfail is refl (durable_over (so_far x) n v x.1.session.settings f write) calm)
-          (prepared write (record { level = wish.level; deadline = deadline_of clock wish.timeout; waiter = next_waiter x.1.session }) wish fit.0 fit.1 is (x.0 v) refl)
-
-      -- so a request goes on
-      pub request_goes : Received f → Ends (after (request_handled clock f (request_of x.1.session.settings.json f) x.1) x.0)
-      request_goes good = asked_goes (request_of x.1.session.settings.json f) refl (λ asked e. ((read_fits x.1.session.settings.json f asked good.readable good.extras e).0, removes_alone x.1.session.settings.json f asked e))
-
--- ---- an outcome
-
--- what became of a durable write that is awaited under a number is told to its client
-pub outcome_goes : (w : PlainWorld) (n c : ℕ) (base : PlainNode) (r : Chronicle) (a : Awaited) (how : Resolution) (states : States) (before : List Event) (producer : PlainProducer) (s : Served) → s.session.awaited ≡ Some a → (a.waiter ≡ 0 → ⊥)
-    → HowTold n (after_lines r (before ++ s.events)).made how → Standing w n c base r states (before ++ s.events) (record { session = s.session; producer = producer })
-    → Goes w n c base r states (before ++ (outcome_answered a how s).events) (record { session = (outcome_answered a how s).session; producer = producer })
-unfolding reply_line
-outcome_goes w n c base r a how states before producer s waits some told g =
-    let so : Chronicle = after_lines r (before ++ s.events) in
-    let own = stands w n c base r g in
-    let (o, next) = awaited_next (so.clients_at n c).asking s.session producer.handshake own.asks a waits in
-    let f : Frame = o.question.frame in
-    let settings : Settings = (so.clients_at n c).asking.settings in
-    let same : settings ≡ s.session.settings = own.asks.settings in
-    let durable : AsksDurably settings f = o.durable some in
-    let reply : KvReply = outcome_reply s.session.settings a how in
-    let repeats : Repeats f (reply_frame reply) = outcome_repeats s.session.settings f a how o.opcode o.opaque in
-    let moment : Moment = moment_of (so.clients_at n c) (so.clients_at n c).asking o.question in
-    let fits : FitsFrame so n moment settings f (reply_frame reply) =
-    subst (λ x. FitsFrame so n moment settings f (reply_frame (outcome_reply x a how))) same
-    (frame_fits so n moment settings f (reply_frame (outcome_reply settings a how)) durable.own (subst (FitsRequest so n settings f (reply_frame (outcome_reply settings a how))) (sym durable.asks) (outcome_fits so n f.vb_or_status settings f durable.write a how o.opcode o.opaque told))) in
-    let after : settings_after settings f ≡ settings = (λ i. if durable.own i then settings else settings_by (durable.asks i) settings) in
-    subst (λ es. Goes w n c base r states es (record { session = record s.session { awaited = None }; producer = producer }))
-    (append_assoc before s.events (Event.Reply n c (spelling (reply_frame reply)) ∷ []) ∙ (λ i. before ++ (s.events ++ Event.Reply (sym own.conn.node i) (sym own.conn.number i) (spelling (reply_frame reply)) ∷ [])))
-    (answered_goes w n c base r g (record s.session { awaited = None }) refl refl refl a waits o.question next refl (sym (subst (λ x. settings_after x f ≡ x) same after)) (reply_frame reply) repeats.response repeats.opcode repeats.opaque fits
-    (inl (subst (λ x. IsOutcome settings f (reply_frame (outcome_reply x a how))) same (is_outcome settings f a durable.write durable.wish durable.asks how))))
+      durable_request_goes good write wish is room =
+          let fit = (read_fits x.1.session.settings.json f (request.Write write (Some wish)) good.readable good.extras is).0 in
+          let alone = removes_alone x.1.session.settings.json f (request.Write write (Some wish)) is in
+          let call : VbCall = Durable write clock wish.level (deadline_of clock wish.timeout) (next_waiter x.1.session) in
+          let few : x.1.session.used < WRITE_NUMBERS = grind (arith, nat_tests, room) in
+          subst (λ q. Ends (after (request_handled clock f q x.1) x.0)) (sym is)
+          (subst (λ b. Ends (after (if b then Done (refused f Etmpfail x.1) else durable_called f call x.1) x.0)) (sym room)
+          (prepared write (record { level = wish.level; deadline = deadline_of clock wish.timeout; waiter = next_waiter x.1.session }) wish refl fit alone is few
+          (subst (λ k. IsUp k (deadline_of clock wish.timeout)) (sym clock_is) (up_at_end clock wish.timeout (timeouts_fit x.1.session.settings.json f write wish good.framing is).0)) (x.0 v) refl))

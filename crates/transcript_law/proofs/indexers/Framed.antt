@@ -6,10 +6,12 @@ use Rattle.dcp_producer.specs.Cuts.{IsShort}
 use Rattle.dcp_producer.specs.Producers.{replaced, stream_at as kept_at, without_id}
 use Rattle.dcp_producer.specs.Pulling.{Pulling, QuietOnes, with_quiet}
 use Rattle.node_core.specs.Clients.{PlainClient}
-use Rattle.transcript_law.proofs.indexers.{Beside.{beside}, Owning.{IsKnown, SameHeard, over_owned, owned, went_owned, with_streams}, Replacing.{open_replaced}, Replied.{LawfulTo, TellsAs, after_more_pair, after_pair, lawful_pair, pairs_more, known_behind, tells_more, with_frame}, Steps.{ClientStep}, Streams.{open_without}, Worlds.{client_here, step_quiet, stepped, vb_here, world_with}}
-use Rattle.transcript_law.proofs.invariant.{Agreement.{AgreesIn, idle, vb_of}, ClientsKept.{among_open}, ClientsTold.{ClientAgrees, KeptIs, StreamIs}, OpenStreams.{Among}, Tables.{at_here}}
+use Rattle.transcript_law.proofs.indexers.{Beside.{beside}, Owning.{IsKnown, SameHeard, over_owned, owned, went_owned, with_streams}, Replacing.{open_replaced}, Replied.{LawfulTo, TellsAs, after_more_pair, after_pair, lawful_pair, pairs_more, known_behind, tells_more, with_frame}, Steps.{ClientStep}, Streams.{open_without}, Worlds.{client_here, step_quiet, stepped, vb_here, waited, world_with}}
+use Rattle.transcript_law.proofs.invariant.{Agreement.{AgreesIn, idle, vb_of}, ClientsKept.{among_open}, ClientsTold.{ClientAgrees, KeptIs, StreamIs}, OpenStreams.{Among}, Owed.{Owed, waits_same}, Tables.{at_here}}
 use Rattle.transcript_law.specs.{Asked.{ArePairs}, ClientFrames.{is_closed_by}, ClientStreams.{past_frame, told_of, vb_in_header, with_told}, LawfulClients.{IsQuiet}, Feeding.{HasOpen}, LinesTold.{made_line}, StreamsTold.{ClientKnown, ClientStream, StreamLine, with_at}}
 use Rattle.vb_events.specs.declared.event.Event.TheVariants as event
+use Rattle.transcript_law.proofs.answers.Committed.{kept_made}
+use Rattle.transcript_law.specs.LinesTold.{OwnChange, is_durable}
 
 -- a table with what it has
 pub table_again : {A : Type 0} (table : ℕ → ℕ → A) (n c m d : ℕ) → with_at table n c (table n c) m d ≡ table m d
@@ -133,10 +135,15 @@ module _ (w : PlainWorld) (r : Chronicle) (cl : Cluster) (n c : ℕ) (node : Pla
       put' = with_frame read n c bytes line
 
       behind : AgreesIn idle new read' cl → AgreesIn idle new put' cl
-      behind a = beside new read' read'.conn_at (made_line read.made (event.Reply n c bytes)) cl a
+      behind a = beside new read' read'.conn_at (made_line read.made (event.Reply n c bytes)) read.ticks cl (λ one durable i. kept_made (λ (m : OwnChange). is_durable m.change.act) one read.made durable i) a
 
       others : (q : ℕ) → (q ≡ t.vb → ⊥) → (read'.tree ≡ read.tree) × (read'.branch_at n q ≡ read.branch_at n q) × (read'.held n q ≡ read.held n q) × (vb_of new n q ≡ vb_of now n q) × ((read'.clients_at n c).streams q ≡ (read.clients_at n c).streams q)
       others q ne = (refl, refl, refl, vb_here w n c node states' (Some (client_of s')) q ∙ same q ne ∙ sym (vb_here w n c node states (Some (client_of s)) q), framed_there read n c bytes line t.vb header q ne)
+
+      -- its session is as it was, and what it asked is
+      still_waits : {streams : List PlainStream} → client_of s' ≡ with_streams (client_of s) streams s'.end → Owed new read'
+      still_waits is = waited w n c node states states' (client_of s) (client_of s') read (past_frame read.tree bytes line (read.clients_at n c)) cl g.agrees step
+          (waits_same (read.clients_at n c).asking (client_of s).session (client_of s').session (ap (λ (y : PlainClient). y.session) is))
 
       -- its stream goes on
       pub went_agrees : client_of s' ≡ with_streams (client_of s) (replaced left s.end.streams) s'.end → left.ended ≡ t.ended → (x : IsKnown now now read read n c (client_of s) mine t)
@@ -145,7 +152,8 @@ module _ (w : PlainWorld) (r : Chronicle) (cl : Cluster) (n c : ℕ) (node : Pla
           (λ v k has. inl (⊎_elim (λ o. had v k o) (λ h. h) (open_replaced left v k s.end.streams (subst (λ (y : PlainClient). HasOpen v k y.producer.streams) is has))))
           (subst (ClientAgrees new read' n c) (sym is)
           (went_owned now new read read' n c (client_of s) mine t left i id vb s'.end (framed_heard read n c bytes line t.vb header now new (client_of s) mine) others (told_of read.tree line x.g) (framed_here read n c bytes line t.vb header x.g x.known) x.unclosed
-          (subst (λ o. StreamIs read.tree (read.branch_at n t.vb) (read.held n t.vb) o (told_of read.tree line x.g) left) (sym (vb_here w n c node states' (Some (client_of s')) t.vb)) stands))))
+          (subst (λ o. StreamIs read.tree (read.branch_at n t.vb) (read.held n t.vb) o (told_of read.tree line x.g) left) (sym (vb_here w n c node states' (Some (client_of s')) t.vb)) stands)))
+          (still_waits is))
         where
           had : (v k : ℕ) → (left.vb ≡ v) × (left.id ≡ k) × (left.ended ≡ false) → HasOpen v k s.end.streams
           had v k o = subst (λ q. HasOpen q k s.end.streams) (sym vb ∙ o.0) (subst (λ q. HasOpen t.vb q s.end.streams) (sym id ∙ o.1) (among_open t s.end.streams i (sym ended ∙ o.2)))
@@ -155,7 +163,8 @@ module _ (w : PlainWorld) (r : Chronicle) (cl : Cluster) (n c : ℕ) (node : Pla
       over_agrees is x over = behind (stepped w n c node states states' (client_of s) (client_of s') read (past_frame read.tree bytes line (read.clients_at n c)) cl g.agrees step
           (λ v k has. inl (open_without v k t.id s.end.streams (subst (λ (y : PlainClient). HasOpen v k y.producer.streams) is has)))
           (subst (ClientAgrees new read' n c) (sym is)
-          (over_owned now new read read' n c (client_of s) mine t left i id vb s'.end (framed_heard read n c bytes line t.vb header now new (client_of s) mine) others (told_of read.tree line x.g) (framed_here read n c bytes line t.vb header x.g x.known) over)))
+          (over_owned now new read read' n c (client_of s) mine t left i id vb s'.end (framed_heard read n c bytes line t.vb header now new (client_of s) mine) others (told_of read.tree line x.g) (framed_here read n c bytes line t.vb header x.g x.known) over))
+          (still_waits is))
 
     -- ---- nothing was put
 
@@ -174,7 +183,9 @@ module _ (w : PlainWorld) (r : Chronicle) (cl : Cluster) (n c : ℕ) (node : Pla
             (owned now (world_of states s') read read n c (client_of s) mine s.end.streams s'.end (record { ids = refl; rise = mine.kept.rise; numbered = mine.kept.numbered; turn = mine.kept.turn }) mine.one mine.opened
             (record { bytes = refl; setup = refl; told = mine.silent; asking = refl })
             (λ q. subst (λ o. KeptIs read.tree (read.branch_at n q) (read.held n q) o (is_closed_by mine.heard.served q) ((read.clients_at n c).streams q) (kept_at q s.end.streams))
-            (vb_here w n c node states (Some (client_of s)) q ∙ sym (vb_here w n c node states (Some (client_of s')) q)) (mine.streams q))))));
+            (vb_here w n c node states (Some (client_of s)) q ∙ sym (vb_here w n c node states (Some (client_of s')) q)) (mine.streams q)))))
+            (waited w n c node states states (client_of s) (client_of s') read (read.clients_at n c) cl g.agrees (step_quiet w n c node states states (Some (client_of s)) (Some (client_of s')) (λ q. refl))
+            (waits_same (read.clients_at n c).asking (client_of s).session (client_of s').session (ap (λ (y : PlainClient). y.session) is))));
       },
       refl,
     )

@@ -1,17 +1,19 @@
 -- a client's connection in the middle of a call: it goes on, a frame of it is to be answered, or it is over
-use Rattle.std.specs.Prelude.{◌≡◌, ◌⊎◌, ◌∷◌, ◌++◌, ◌==◌}
+use Rattle.std.specs.Prelude.{◌≡◌, ◌<◌, ◌≤◌, ◌^◌, ◌⊎◌, ◌∷◌, ◌++◌, ◌==◌}
 use Rattle.transcript_law.proofs.answers.Calm.{durable_left}
-use Rattle.transcript_law.proofs.Words.{ℕ, true, false, List, [], drop, refl, sym, ap, ◌∙◌, subst, inl, Some, None, Ok, Event, Frame, RESPONSE, AreBytes, States, PlainNode, PlainWorld, Cluster, Chronicle, after_line, after_lines}
+use Rattle.transcript_law.proofs.Words.{arith, ℕ, true, false, List, [], drop, refl, sym, ap, ◌∙◌, subst, inl, Some, None, Ok, Event, Frame, RESPONSE, AreBytes, States, PlainNode, PlainWorld, Cluster, Chronicle, after_line, after_lines}
 use Rattle.client_session.specs.{Serving.{PlainSession, is_dcp}}
 use Rattle.client_session.specs.declared.session.Awaited.{Awaited}
 use Rattle.mcbp_frame.specs.Frames.{first_frame, frame_len}
 use Rattle.node_core.specs.Clients.{Handling, PlainClient}
-use Rattle.transcript_law.proofs.invariant.{Agreement.{Agrees, AgreesIn, idle}, ClientsTold.{AskingIs, ClientAgrees}, Tables.{at_here}}
-use Rattle.transcript_law.proofs.indexers.{Beside.{beside}, Questions.{past_asks}, Serving.{session_agrees}, Steps.{ClientStep}, Worlds.{client_here, step_quiet, stepped, stepped_same, vb_here, world_with}}
+use Rattle.transcript_law.proofs.invariant.{Agreement.{Agrees, AgreesIn, idle}, ClientsTold.{AskingIs, ClientAgrees, HasUsed}, Owed.{Owed, waits_none}, Tables.{at_here}}
+use Rattle.transcript_law.proofs.indexers.{Beside.{beside}, Questions.{past_asks}, Serving.{session_agrees}, Steps.{ClientStep}, Worlds.{client_here, step_quiet, stepped, stepped_same, vb_here, waited, world_with}}
 use Rattle.transcript_law.proofs.lines.Telling.{LawfulBefore, before_more, told_more}
 use Rattle.mcbp_frame.specs.Spelling.{spelling}
 use Rattle.transcript_law.specs.{ClientStreams.{clients_frame}, Feeding.{HasFed, HasOpen}, LawfulAnswers.{AllDurable, FitsFrame, IsOutcome, LawfulReply}, LawfulMessages.{moment_of}, LinesTold.{made_line}, Questions.{Question, past_answer, past_question, past_question_if, question_of, settings_after}, StreamsTold.{ClientKnown, with_at}}
 use Rattle.vb_events.specs.declared.event.StreamName.{StreamName}
+use Rattle.transcript_law.proofs.answers.Committed.{kept_made}
+use Rattle.transcript_law.specs.{LawfulAnswers.{serving}, LinesTold.{OwnChange, is_durable}}
 
 -- ---- an answer
 
@@ -46,27 +48,28 @@ module _ (w : PlainWorld) (n c : ℕ) (node : PlainNode) (states : States) (clie
   -- it has the bytes that it had
   module _ (who : session.who ≡ client.session.who) (closed : session.closed ≡ client.session.closed) (reader : session.reader ≡ client.session.reader) where
     -- and as much is known of what it asked
-    pub session_kept : AskingIs (r.clients_at n c).asking session client.producer.handshake → AgreesIn idle (world_with w n c node states (Some with_session)) r k
-    session_kept asks =
+    pub session_kept : AskingIs (r.clients_at n c).asking session client.producer.handshake → Owed (world_with w n c node states (Some with_session)) r → AgreesIn idle (world_with w n c node states (Some with_session)) r k
+    session_kept asks owed =
         stepped_same w n c node states states client with_session r k a step (λ v id has. inl has)
         (session_agrees (world_with w n c node states (Some client)) (world_with w n c node states (Some with_session)) r r n c client session own (r.clients_at n c) refl refl (refl, refl) who closed
-        (own.heard.bytes ∙ ap (λ l. own.heard.front ++ l) (sym reader)) asks refl refl refl (λ v. vb_here w n c node states (Some with_session) v ∙ sym (vb_here w n c node states (Some client) v)))
+        (own.heard.bytes ∙ ap (λ l. own.heard.front ++ l) (sym reader)) asks refl refl refl (λ v. vb_here w n c node states (Some with_session) v ∙ sym (vb_here w n c node states (Some client) v))) owed
 
     -- or what it awaited was answered
-    pub answered_agrees : (o : Awaited) → client.session.awaited ≡ Some o → (q : Question) → question_of (r.clients_at n c).asking ≡ Some q → session.awaited ≡ None → session.settings ≡ settings_after client.session.settings q.frame
-        → AgreesIn idle (world_with w n c node states (Some with_session)) (answered_as r n c (record (r.clients_at n c) { asking = past_question q (r.clients_at n c).asking })) k
-    answered_agrees o waits q next free settings =
+    pub answered_agrees : (o : Awaited) → client.session.awaited ≡ Some o → (q : Question) → question_of (r.clients_at n c).asking ≡ Some q → session.awaited ≡ None → session.settings ≡ settings_after client.session.settings q.frame → client.session.used ≤ session.used → (client.session.used < 2 ^ 32 → session.used < 2 ^ 32)
+        → HasUsed session.used (past_question q (r.clients_at n c).asking).durables → AgreesIn idle (world_with w n c node states (Some with_session)) (answered_as r n c (record (r.clients_at n c) { asking = past_question q (r.clients_at n c).asking })) k
+    answered_agrees o waits q next free settings used few numbers =
         let known : ClientKnown = record (r.clients_at n c) { asking = past_question q (r.clients_at n c).asking } in
         let table : Chronicle = record r { clients_at = with_at r.clients_at n c known } in
-        beside (world_with w n c node states (Some with_session)) table table.conn_at (made_line r.made (Event.Reply n c [])) k
+        beside (world_with w n c node states (Some with_session)) table table.conn_at (made_line r.made (Event.Reply n c [])) r.ticks k (λ one durable i. kept_made (λ (m : OwnChange). is_durable m.change.act) one r.made durable i)
         (stepped w n c node states states client with_session r known k a step (λ v id has. inl has)
         (session_agrees (world_with w n c node states (Some client)) (world_with w n c node states (Some with_session)) r table n c client session own known (at_here r.clients_at n c known) refl (refl, refl) who closed
-        (own.heard.bytes ∙ ap (λ l. own.heard.front ++ l) (sym reader)) (past_asks (r.clients_at n c).asking client.session session client.producer.handshake own.asks o q waits next reader free settings)
-        refl refl refl (λ v. vb_here w n c node states (Some with_session) v ∙ sym (vb_here w n c node states (Some client) v))))
+        (own.heard.bytes ∙ ap (λ l. own.heard.front ++ l) (sym reader)) (past_asks (r.clients_at n c).asking client.session session client.producer.handshake own.asks o q waits next reader free settings numbers)
+        refl refl refl (λ v. vb_here w n c node states (Some with_session) v ∙ sym (vb_here w n c node states (Some client) v)))
+        (waited w n c node states states client with_session r known k a step (waits_none (r.clients_at n c).asking known.asking client.session session who used few free (omega arith))))
 
 -- an answer that fits, and does not pass over a change, is lawful
 pub reply_lawful : (r : Chronicle) (n c : ℕ) (q : Question) (answer : Frame) (behind : List Event) → question_of (r.clients_at n c).asking ≡ Some q → answer.magic ≡ RESPONSE → answer.opcode ≡ q.frame.opcode → answer.opaque ≡ q.frame.opaque
-    → FitsFrame r n (moment_of (r.clients_at n c) (r.clients_at n c).asking q) (r.clients_at n c).asking.settings q.frame answer → IsOutcome (r.clients_at n c).asking.settings q.frame answer ⊎ AllDurable r.made → LawfulReply r n c (r.clients_at n c).asking (spelling answer) behind
+    → FitsFrame (serving r n c (r.clients_at n c).asking) r n (moment_of (r.clients_at n c) (r.clients_at n c).asking q) (r.clients_at n c).asking.settings q.frame answer → IsOutcome (r.clients_at n c).asking.settings q.frame answer ⊎ AllDurable r.made → LawfulReply r n c (r.clients_at n c).asking (spelling answer) behind
 reply_lawful r n c q answer behind next response code number fits calm = inl (record { question = q; next = next; answer = answer; spelled = refl; response = response; opcode = code; opaque = number; fits = fits; calm = calm })
 
 -- ---- the connection
@@ -134,18 +137,18 @@ module _ (w : PlainWorld) (n c : ℕ) (node : PlainNode) (r : Chronicle) where
     -- the session alone is another one, that has the bytes that it had
     module _ (session : PlainSession) (who : session.who ≡ client.session.who) (closed : session.closed ≡ client.session.closed) (reader : session.reader ≡ client.session.reader) where
       -- while as much is known of what it asked
-      pub session_goes : AskingIs (so_far.clients_at n c).asking session client.producer.handshake → Standing states lines (record client { session = session })
-      session_goes asks = record {
+      pub session_goes : AskingIs (so_far.clients_at n c).asking session client.producer.handshake → Owed (world_with w n c node states (Some (record client { session = session }))) so_far → Standing states lines (record client { session = session })
+      session_goes asks owed = record {
         lawful = g.lawful;
-        agrees = (g.agrees.0, session_kept w n c node states client so_far g.agrees.0 g.agrees.1 session who closed reader asks);
+        agrees = (g.agrees.0, session_kept w n c node states client so_far g.agrees.0 g.agrees.1 session who closed reader asks owed);
         bytes = subst AreBytes (sym reader) g.bytes;
       }
 
       -- or what was awaited is answered
-      pub answered_goes : (o : Awaited) → client.session.awaited ≡ Some o → (q : Question) → question_of (so_far.clients_at n c).asking ≡ Some q → session.awaited ≡ None → session.settings ≡ settings_after client.session.settings q.frame
-          → (answer : Frame) → answer.magic ≡ RESPONSE → answer.opcode ≡ q.frame.opcode → answer.opaque ≡ q.frame.opaque → FitsFrame so_far n (moment_of (so_far.clients_at n c) (so_far.clients_at n c).asking q) (so_far.clients_at n c).asking.settings q.frame answer
+      pub answered_goes : (o : Awaited) → client.session.awaited ≡ Some o → (q : Question) → question_of (so_far.clients_at n c).asking ≡ Some q → session.awaited ≡ None → session.settings ≡ settings_after client.session.settings q.frame → client.session.used ≤ session.used → (client.session.used < 2 ^ 32 → session.used < 2 ^ 32)
+          → HasUsed session.used (past_question q (so_far.clients_at n c).asking).durables → (answer : Frame) → answer.magic ≡ RESPONSE → answer.opcode ≡ q.frame.opcode → answer.opaque ≡ q.frame.opaque → FitsFrame (serving so_far n c (so_far.clients_at n c).asking) so_far n (moment_of (so_far.clients_at n c) (so_far.clients_at n c).asking q) (so_far.clients_at n c).asking.settings q.frame answer
           → IsOutcome (so_far.clients_at n c).asking.settings q.frame answer ⊎ AllDurable so_far.made → Goes states (lines ++ Event.Reply n c (spelling answer) ∷ []) (record client { session = session })
-      answered_goes o waits q next free settings answer response code number fits calm =
+      answered_goes o waits q next free settings used few numbers answer response code number fits calm =
           let line : Event = Event.Reply n c (spelling answer) in
           let told : after_lines r (lines ++ line ∷ []) ≡ answered_as so_far n c (record (so_far.clients_at n c) { asking = past_question q (so_far.clients_at n c).asking }) = told_more r lines (line ∷ []) ∙ question_told n c (spelling answer) so_far q stands.silent next in
           record {
@@ -153,7 +156,7 @@ module _ (w : PlainWorld) (n c : ℕ) (node : PlainNode) (r : Chronicle) where
             agrees = (
               g.agrees.0,
               subst (λ x. AgreesIn idle (world_with w n c node states (Some (record client { session = session }))) x g.agrees.0) (sym told)
-                  (answered_agrees w n c node states client so_far g.agrees.0 g.agrees.1 session who closed reader o waits q next free settings),
+                  (answered_agrees w n c node states client so_far g.agrees.0 g.agrees.1 session who closed reader o waits q next free settings used few numbers),
             );
             bytes = subst AreBytes (sym reader) g.bytes;
             calm = subst (λ (k : Chronicle). AllDurable k.made) (sym told) (durable_left so_far.made);

@@ -52,6 +52,7 @@ answer_plain f op.Control = row_plain (shape_fault DcpRow.ControlAnswer f) (mess
 answer_plain f op.CloseStream = row_plain (shape_fault DcpRow.CloseAnswer f) (message_in DcpRow.CloseAnswer f) (record { asks = refl; sets = λ s. refl; closes = refl; counts = refl })
 answer_plain f op.GetFailoverLog = row_plain (shape_fault DcpRow.LogAnswer f) (message_in DcpRow.LogAnswer f) (record { asks = refl; sets = λ s. refl; closes = refl; counts = refl })
 answer_plain f op.Noop = row_plain (shape_fault DcpRow.NoopAnswer f) (message_in DcpRow.NoopAnswer f) (record { asks = refl; sets = λ s. refl; closes = refl; counts = refl })
+answer_plain f op.SetVbucketState = row_plain (shape_fault DcpRow.StateAnswer f) (message_in DcpRow.StateAnswer f) (record { asks = refl; sets = λ s. refl; closes = refl; counts = refl })
 answer_plain f other = none_plain
 
 pub response_plain : (f : Frame) → (f.magic == RESPONSE) ≡ true → IsPlain (message_of f)

@@ -55,8 +55,8 @@ module _ (known : ClientKnown) (asking : Asking) (session : PlainSession) (set :
       ap (λ end. frames_in (in_front end known.bytes)) (rest_is asking session set asks f) ∙ ap frames_in (front_is heard.front session.reader known.bytes heard.bytes ∙ sym (append-nil heard.front))
       ∙ heard.frames.cut [] ∙ ap (λ fs. heard.served ++ fs) no_frame ∙ append-nil heard.served
 
-  pub moment_is : moment_of known asking its ≡ record { setup = setup_of set; stream = unclosed heard.served known.streams f.vb_or_status; told = (moment_of known asking its).told }
-  moment_is = (λ i. record { setup = asks.sets i; stream = unclosed (before_is i) known.streams f.vb_or_status; told = (moment_of known asking its).told })
+  pub moment_is : moment_of known asking its ≡ record { setup = setup_of set; stream = unclosed heard.served known.streams f.vb_or_status; told = (moment_of known asking its).told; durables = asking.durables }
+  moment_is = (λ i. record { setup = asks.sets i; stream = unclosed (before_is i) known.streams f.vb_or_status; told = (moment_of known asking its).told; durables = asking.durables })
 
 -- ---- CLOSE_STREAM
 

@@ -1,17 +1,18 @@
 -- a frame that a client's session handed up is answered, and no line tells of it
 use Rattle.std.specs.Prelude.{◌≡◌, ◌<◌, ◌++◌, ◌∷◌, if◌then◌else◌}
 use Rattle.std.proofs.lemmas.List.Elements.{All-drop}
-use Rattle.transcript_law.proofs.Words.{ℕ, Bool, true, false, List, [], refl, sym, ap, ◌∙◌, subst, append-nil, inl, inr, Option, Some, None, DcpMsg, Event, Frame, AreBytes, States, PlainNode, PlainWorld, PlainProducer, Cluster, Chronicle, after_lines}
+use Rattle.transcript_law.proofs.Words.{ℕ, Bool, true, false, List, [], refl, sym, ap, ◌∙◌, subst, append-nil, inl, inr, arith, Option, Some, None, DcpMsg, Event, Frame, AreBytes, States, PlainNode, PlainWorld, PlainProducer, Cluster, Chronicle, after_lines}
 use Rattle.dcp_producer.specs.Producers.{Served}
 use Rattle.mcbp_frame.specs.Frames.{frame_len}
 use Rattle.node_core.specs.Clients.{PlainClient, delivered, reply_alone}
 unfoldable use Rattle.node_core.specs.Clients.{with_replies}
 use Rattle.transcript_law.proofs.answers.Messages.{IsAnswerTo}
-use Rattle.transcript_law.proofs.indexers.{Hands.{Goes, HandedUp, answered_goes, mine, standing}, Questions.{hand_asks, hand_if, in_hand, next_is}, Quiet.{IsTold, Quietly}, Moments.{moment_is}, Serving.{IsBehind, served_plain}, Steps.{ClientStep}, Worlds.{OpensOwn, step_quiet, stepped_same, vb_here, world_with}}
-use Rattle.transcript_law.proofs.{answers.Fits.{away}, invariant.{Agreement.{AgreesAt, AgreesIn, VbAgrees, idle, is_down, power_of}, ClientsTold.{AskingIs, ClientAgrees, setup_of}, OpenStreams.{AreKept}, Seats.{seat}, Tables.{if_known}}}
+use Rattle.transcript_law.proofs.invariant.Owed.{idle_free, waits_hand}
+use Rattle.transcript_law.proofs.indexers.{Hands.{Goes, HandedUp, answered_goes, mine, standing}, Questions.{dcp_numbers, free_numbers, hand_asks, hand_if, hand_zero, in_hand, next_is}, Quiet.{IsTold, Quietly}, Moments.{moment_is}, Serving.{IsBehind, served_plain}, Steps.{ClientStep}, Worlds.{OpensOwn, step_quiet, stepped_same, vb_here, waited_same, world_with}}
+use Rattle.transcript_law.proofs.{answers.Fits.{away}, invariant.{Agreement.{AgreesAt, AgreesIn, VbAgrees, idle, is_down, power_of}, ClientsTold.{AskingIs, ClientAgrees, HasUsed, setup_of}, OpenStreams.{AreKept}, Seats.{seat}, Tables.{if_known}}}
 use Rattle.mcbp_frame.specs.Spelling.{spelling}
 use Rattle.mcbp_kv.specs.Requests.{request_of}
-use Rattle.transcript_law.specs.{ClientFrames.{ask_of, is_close, message_of, set_by}, ClientStreams.{unclosed}, Feeding.{HasOpen}, LawfulAnswers.{FitsBy, FitsFrame}, LawfulMessages.{FitsDcp, FitsMessage, moment_of}, StreamsTold.{ClientStream}, Questions.{Question, question_of, settings_after, settings_by, wants_answer}}
+use Rattle.transcript_law.specs.{ClientFrames.{ask_of, is_close, message_of, set_by}, ClientStreams.{unclosed}, Feeding.{HasOpen}, LawfulAnswers.{FitsBy, FitsFrame, serving}, LawfulMessages.{FitsDcp, FitsMessage, moment_of}, StreamsTold.{ClientStream}, Questions.{Question, past_question, question_of, settings_after, settings_by, wants_answer}}
 
 -- what is kept of a producer hangs on its numbers and its streams
 pub kept_as : (p q : PlainProducer) → q.desk ≡ p.desk → q.asked ≡ p.asked → q.streams ≡ p.streams → AreKept p → AreKept q
@@ -60,7 +61,7 @@ module _ (w : PlainWorld) (n c : ℕ) (node : PlainNode) (r : Chronicle) (f : Fr
   is_behind world' s desk = record { who = refl; alive = own.alive; reader = up.behind; desk = desk }
 
   pub asks_in_hand : (s : Served) → set_by (message_of f) (setup_of client.producer.handshake) ≡ setup_of s.end.handshake → AskingIs (so_far.clients_at n c).asking (hand s).session s.end.handshake
-  asks_in_hand s sets = hand_asks (so_far.clients_at n c).asking before.session (hand s).session client.producer.handshake s.end.handshake f up.goes.bytes up.first own.asks up.free sets up.behind refl refl
+  asks_in_hand s sets = hand_asks (so_far.clients_at n c).asking before.session (hand s).session client.producer.handshake s.end.handshake f up.goes.bytes up.first own.asks up.free sets up.behind refl (λ none. refl) refl
 
   -- it is to be answered next
   abbrev pub question : Question
@@ -79,11 +80,11 @@ module _ (w : PlainWorld) (n c : ℕ) (node : PlainNode) (r : Chronicle) (f : Fr
 
   -- a frame of DCP is judged by that, and by what is known of its vBucket, and sets no feature
   abbrev pub FitsNow : Option DcpMsg → Frame → Type 0
-  FitsNow m answer = FitsMessage (so_far.role_at n f.vb_or_status) (so_far.log_at n f.vb_or_status) (record { setup = setup_of client.producer.handshake; stream = stream; told = is_told }) f answer m
+  FitsNow m answer = FitsMessage (so_far.role_at n f.vb_or_status) (so_far.log_at n f.vb_or_status) (record { setup = setup_of client.producer.handshake; stream = stream; told = is_told; durables = (so_far.clients_at n c).asking.durables }) f answer m
 
-  pub fits_dcp : (answer : Frame) → FitsNow (message_of f) answer → FitsFrame so_far n (moment_of (so_far.clients_at n c) (so_far.clients_at n c).asking question) (so_far.clients_at n c).asking.settings f answer
+  pub fits_dcp : (answer : Frame) → FitsNow (message_of f) answer → FitsFrame (serving so_far n c (so_far.clients_at n c).asking) so_far n (moment_of (so_far.clients_at n c) (so_far.clients_at n c).asking question) (so_far.clients_at n c).asking.settings f answer
   fits_dcp answer fits =
-      subst (λ b. FitsBy b so_far n (moment_of (so_far.clients_at n c) (so_far.clients_at n c).asking question) (so_far.clients_at n c).asking.settings f answer) (sym up.dcp)
+      subst (λ b. FitsBy b (serving so_far n c (so_far.clients_at n c).asking) so_far n (moment_of (so_far.clients_at n c) (so_far.clients_at n c).asking question) (so_far.clients_at n c).asking.settings f answer) (sym up.dcp)
       (subst (λ at. FitsDcp so_far n at f answer) (sym (moment_is (so_far.clients_at n c) (so_far.clients_at n c).asking before.session client.producer.handshake own.heard own.asks f)) fits)
 
   -- what is known of its vBucket is what the node has of it
@@ -98,6 +99,10 @@ module _ (w : PlainWorld) (n c : ℕ) (node : PlainNode) (r : Chronicle) (f : Fr
   pub same_settings : client.session.settings ≡ settings_after client.session.settings f
   same_settings = sym (ap (λ b. if b then client.session.settings else settings_by (request_of client.session.settings.json f) client.session.settings) up.dcp)
 
+  -- and it asks for no durable write
+  same_numbers : HasUsed client.session.used (past_question question (so_far.clients_at n c).asking).durables
+  same_numbers = dcp_numbers (so_far.clients_at n c).asking question up.dcp (free_numbers (so_far.clients_at n c).asking before.session client.producer.handshake own.asks up.free)
+
   -- its answer, where no line tells of it
   is_alone : (s : Served) → s.events ≡ [] → delivered client.session.who s ≡ reply_alone n c s.out
   unfolding with_replies
@@ -109,7 +114,16 @@ module _ (w : PlainWorld) (n c : ℕ) (node : PlainNode) (r : Chronicle) (f : Fr
       → Goes w n c node r x.0 (lines ++ delivered client.session.who x.1) (behind x.1)
   passed_step x none is step opens told =
       subst (λ es. Goes w n c node r x.0 (lines ++ es) (behind x.1)) (sym (is_alone x.1 none))
-      (by wants refl is (record { lawful = up.goes.lawful; agrees = (cluster, stepped_same w n c node states x.0 before (hand x.1) so_far cluster agrees step opens told); bytes = bytes_behind; calm = up.goes.calm }))
+      (by wants refl is (record {
+        lawful = up.goes.lawful;
+        agrees = (
+          cluster,
+          stepped_same w n c node states x.0 before (hand x.1) so_far cluster agrees step opens told
+              (waited_same w n c node states x.0 before (hand x.1) so_far cluster agrees step (waits_hand (so_far.clients_at n c).asking (so_far.clients_at n c).asking before.session (hand x.1).session refl (omega arith) (λ l. l) (λ a e. hand_zero wants f a e) refl (idle_free before.session up.free))),
+        );
+        bytes = bytes_behind;
+        calm = up.goes.calm;
+      }))
     where
       by : (b : Bool) → wants ≡ b → IsAnswerTo (FitsNow (message_of f)) f b x.1.out → Goes w n c node r x.0 lines (record client { session = record client.session { awaited = hand_if b f }; producer = x.1.end }) → Goes w n c node r x.0 (lines ++ reply_alone n c x.1.out) (behind x.1)
       by false unasked quiet g =
@@ -117,7 +131,7 @@ module _ (w : PlainWorld) (n c : ℕ) (node : PlainNode) (r : Chronicle) (f : Fr
           (subst (λ o. Goes w n c node r x.0 lines (record client { session = record client.session { awaited = o }; producer = x.1.end })) (sym up.free) g)
       by true asked (answer, out, response, code, number, fits) g =
           subst (λ es. Goes w n c node r x.0 (lines ++ es) (behind x.1)) (sym (ap (reply_alone n c) out ∙ spelled_alone n c answer))
-          (answered_goes w n c node r (standing w n c node r g) client.session refl refl refl (in_hand f) refl question (is_asked asked) up.free same_settings answer response code number (fits_dcp answer fits) (inr up.goes.calm))
+          (answered_goes w n c node r (standing w n c node r g) client.session refl refl refl (in_hand f) refl question (is_asked asked) up.free same_settings (omega arith) (λ l. l) same_numbers answer response code number (fits_dcp answer fits) (inr up.goes.calm))
 
   pub passed_quiet : (x : States × Served) → ask_of f ≡ None → is_close (message_of f) ≡ false → Quietly FitsNow f (message_of f) states client.producer x → Goes w n c node r x.0 (lines ++ delivered client.session.who x.1) (behind x.1)
   passed_quiet x none open_still q =

@@ -5,16 +5,18 @@ use Rattle.std.specs.Option.{option_map}
 use Rattle.std.proofs.Math.Seq.{drop-append_seam}
 use Rattle.std.proofs.lemmas.List.Sums.{sum_by-append, sum_by-cons}
 use Rattle.transcript_law.proofs.Words.{ℕ, Bool, true, false, List, [], length, drop, refl, sym, ap, ◌∙◌, subst, arith, append_assoc, append-nil, Option, Some, None, Ok, Err, Frame, FrameFault, AreBytes, spelling}
-use Rattle.client_session.specs.Serving.{PlainSession}
+use Rattle.client_session.specs.Serving.{PlainSession, is_dcp}
 use Rattle.client_session.specs.declared.session.Awaited.{Awaited}
 use Rattle.client_session.specs.declared.session.Settings.{Settings}
 use Rattle.dcp_producer.specs.declared.desk.Handshake.{Handshake}
 use Rattle.mcbp_frame.proofs.{Cases.{front, length-spelling}, Pieces.{first-spelling}, Cutting.{frames-none, frames-one}}
 use Rattle.mcbp_frame.specs.{Cutting.{frame_in, frames_in}, Frames.{first_frame, frame_len}}
+use Rattle.mcbp_kv.specs.Requests.{request_of}
 use Rattle.transcript_law.proofs.indexers.Known.{frames_more, no_frames, setup_more}
-use Rattle.transcript_law.proofs.invariant.ClientsTold.{AreAnswered, AskingIs, IsOpenQuestion, setup_of}
+use Rattle.transcript_law.proofs.invariant.ClientsTold.{AreAnswered, AreUsed, AskingIs, HasUsed, IsOpenQuestion, setup_of}
 use Rattle.transcript_law.specs.ClientFrames.{message_of, set_by, setup_after}
-use Rattle.transcript_law.specs.Questions.{Question, behind_frames, behind_other, first_question, past_question, question_end, question_of, settings_after, wants_answer}
+use Rattle.transcript_law.specs.LawfulAnswers.{HasNumber}
+use Rattle.transcript_law.specs.Questions.{Question, behind_frames, behind_other, durables_by, first_question, past_question, question_end, question_of, settings_after, wants_answer}
 use Rattle.transcript_law.specs.StreamsTold.{Asking, Setup}
 use Rattle.transcript_law.specs.Unanswered.{AsksDurably}
 
@@ -73,6 +75,27 @@ abbrev pub hand_if : Bool → Frame → Option Awaited
 hand_if true f = Some (in_hand f)
 hand_if false f = None
 
+-- that is under no number
+pub hand_zero : (b : Bool) (f : Frame) (a : Awaited) → hand_if b f ≡ Some a → a.waiter ≡ 0
+hand_zero true f a e = let same : in_hand f ≡ a = cc in ap (λ (x : Awaited). x.waiter) (sym same)
+hand_zero false f a e = cc
+
+-- numbers that were used for so many writes, counted otherwise
+pub used_as : {used used' count count' : ℕ} → used' ≡ used → count ≡ count' → HasUsed used count → HasUsed used' count'
+used_as {used = used} {count' = count'} same is x = subst (λ n. HasUsed n count') (sym same) (subst (HasUsed used) is x)
+
+-- where nothing is awaited a number was used for each write that was answered
+pub free_numbers : (k : Asking) (session : PlainSession) (set : Handshake) → AskingIs k session set → session.awaited ≡ None → HasUsed session.used k.durables
+free_numbers k session set x free = subst (λ o. AreUsed o session.used k.durables) free x.numbers
+
+-- and one more for what is awaited under a number
+pub owed_numbers : (o : Option Awaited) (a : Awaited) (used count : ℕ) → o ≡ Some a → (a.waiter ≡ 0 → ⊥) → AreUsed o used count → HasUsed used (count + 1)
+owed_numbers o a used count is some x = subst (λ k. AreUsed k used count) is x some
+
+-- a frame of DCP asks for no durable write
+pub dcp_numbers : (k : Asking) (q : Question) {used : ℕ} → is_dcp q.frame.opcode ≡ true → HasUsed used k.durables → HasUsed used (past_question q k).durables
+dcp_numbers k q dcp x = used_as refl (sym (ap (λ b. if b then k.durables else durables_by (request_of k.settings.json q.frame) k.durables) dcp)) x
+
 -- the frames of its bytes are those that were served, and those that the session keeps
 pub all_frames : (k : Asking) (session : PlainSession) (set : Handshake) (x : AskingIs k session set) → frames_in k.bytes ≡ x.served ++ frames_in session.reader
 all_frames k session set x = ap frames_in x.bytes ∙ x.frames.cut session.reader
@@ -99,8 +122,8 @@ module _ (k : Asking) (session after : PlainSession) (set set' : Handshake) (f :
       ∙ first_then k.setup x.served f (frames_in (drop (frame_len f) session.reader)) (none_open k session set x free) (ap (λ s. wants_answer s f) x.sets ∙ wants)
 
   -- and so it is once it is taken off the session's bytes
-  pub hand_asks : set_by (message_of f) (setup_of set) ≡ setup_of set' → after.reader ≡ drop (frame_len f) session.reader → after.settings ≡ session.settings → after.awaited ≡ hand_if (wants_answer (setup_of set) f) f → AskingIs k after set'
-  hand_asks sets behind same now =
+  pub hand_asks : set_by (message_of f) (setup_of set) ≡ setup_of set' → after.reader ≡ drop (frame_len f) session.reader → after.settings ≡ session.settings → (wants_answer (setup_of set) f ≡ false → after.used ≡ session.used) → after.awaited ≡ hand_if (wants_answer (setup_of set) f) f → AskingIs k after set'
+  hand_asks sets behind same used now =
       let is = front session.reader f bytes first in record {
         served = x.served ++ f ∷ [];
         front = x.front ++ spelling f;
@@ -109,8 +132,13 @@ module _ (k : Asking) (session after : PlainSession) (set set' : Handshake) (f :
         sets = setup_more k.setup x.served f ∙ ap (set_by (message_of f)) x.sets ∙ sets;
         settings = x.settings ∙ sym same;
         answered = subst (λ o. AreAnswered o k (x.served ++ f ∷ [])) (sym now) (by (wants_answer (setup_of set) f) refl);
+        numbers = subst (λ o. AreUsed o after.used k.durables) (sym now) (counted (wants_answer (setup_of set) f) refl);
       }
     where
+      counted : (b : Bool) → wants_answer (setup_of set) f ≡ b → AreUsed (hand_if b f) after.used k.durables
+      counted true wants = λ some. absurd (some refl)
+      counted false wants = used_as (used wants) refl (free_numbers k session set x free)
+
       by : (b : Bool) → wants_answer (setup_of set) f ≡ b → AreAnswered (hand_if b f) k (x.served ++ f ∷ [])
       by true wants = record {
         question = record { before = x.served; frame = f };
@@ -119,13 +147,14 @@ module _ (k : Asking) (session after : PlainSession) (set set' : Handshake) (f :
         opcode = refl;
         opaque = refl;
         durable = λ some. absurd (some refl);
+        numbered = λ some. absurd (some refl);
       }
       by false wants = none_more k.setup x.served f (none_open k session set x free) (ap (λ s. wants_answer s f) x.sets ∙ wants)
 
 -- what was awaited is answered
 pub past_asks : (k : Asking) (session after : PlainSession) (set : Handshake) (x : AskingIs k session set) (a : Awaited) (q : Question) → session.awaited ≡ Some a → question_of k ≡ Some q → after.reader ≡ session.reader → after.awaited ≡ None
-    → after.settings ≡ settings_after session.settings q.frame → AskingIs (past_question q k) after set
-past_asks k session after set x a q waits next reader free settings =
+    → after.settings ≡ settings_after session.settings q.frame → HasUsed after.used (past_question q k).durables → AskingIs (past_question q k) after set
+past_asks k session after set x a q waits next reader free settings used =
     let (o, is) = awaited_next k session set x a waits in
     let both : Some o.question ≡ Some q = sym is ∙ next in
     let same : o.question ≡ q = cc in
@@ -140,6 +169,7 @@ past_asks k session after set x a q waits next reader free settings =
       sets = ap (setup_after k.setup) (sym last) ∙ x.sets;
       settings = ap (λ (s : Settings). settings_after s q.frame) x.settings ∙ sym settings;
       answered = subst (λ o. AreAnswered o (past_question q k) []) (sym free) refl;
+      numbers = subst (λ o. AreUsed o after.used (past_question q k).durables) (sym free) used;
     }
 
 -- more bytes came
@@ -152,16 +182,26 @@ more_asks k session set piece x = record {
   sets = x.sets;
   settings = x.settings;
   answered = by session.awaited x.answered;
+  numbers = x.numbers;
 }
   where
     by : (o : Option Awaited) → AreAnswered o k x.served → AreAnswered o (record k { bytes = k.bytes ++ piece }) x.served
     by None none = none
-    by (Some a) x = record { question = x.question; next = x.next; last = x.last; opcode = x.opcode; opaque = x.opaque; durable = x.durable }
+    by (Some a) x = record { question = x.question; next = x.next; last = x.last; opcode = x.opcode; opaque = x.opaque; durable = x.durable; numbered = x.numbered }
+
+-- and what is asked next is still what is awaited
+pub more_next : (k : Asking) (session : PlainSession) (set : Handshake) (piece : List ℕ) (x : AskingIs k session set) (a : Awaited) → session.awaited ≡ Some a → (q : Question) → question_of (record k { bytes = k.bytes ++ piece }) ≡ Some q → question_of k ≡ Some q
+unfolding more_asks
+more_next k session set piece x a waits q asks =
+    let (o, is) = awaited_next k session set x a waits in
+    let after : AskingIs (record k { bytes = k.bytes ++ piece }) (record session { reader = session.reader ++ piece }) set = more_asks k session set piece x in
+    let (o', is') = awaited_next (record k { bytes = k.bytes ++ piece }) (record session { reader = session.reader ++ piece }) set after a waits in
+    is ∙ sym o.next ∙ o'.next ∙ sym is' ∙ asks
 
 -- a durable write that was being answered is awaited
 pub awaited_asks : (k : Asking) (session after : PlainSession) (set : Handshake) (x : AskingIs k session set) (f : Frame) (a : Awaited) (before : List Frame) → session.awaited ≡ Some (in_hand f) → question_of k ≡ Some (record { before = before; frame = f })
-    → after.reader ≡ session.reader → after.settings ≡ session.settings → after.awaited ≡ Some a → a.opcode ≡ f.opcode → a.opaque ≡ f.opaque → AsksDurably session.settings f → AskingIs k after set
-awaited_asks k session after set x f a before hand next reader settings waits code number durable =
+    → after.reader ≡ session.reader → after.settings ≡ session.settings → after.awaited ≡ Some a → a.opcode ≡ f.opcode → a.opaque ≡ f.opaque → AsksDurably session.settings f → (a.waiter ≡ 0 → ⊥) → HasNumber k.durables → HasUsed after.used (k.durables + 1) → AskingIs k after set
+awaited_asks k session after set x f a before hand next reader settings waits code number durable some left used =
     let (o, is) = awaited_next k session set x (in_hand f) hand in
     let both : Some o.question ≡ Some (record { before = before; frame = f }) = sym is ∙ next in
     let same : o.question.frame ≡ f = cc in
@@ -178,8 +218,10 @@ awaited_asks k session after set x f a before hand next reader settings waits co
         last = o.last;
         opcode = code ∙ ap (λ (g : Frame). g.opcode) (sym same);
         opaque = number ∙ ap (λ (g : Frame). g.opaque) (sym same);
+        numbered = λ some. left;
         durable = λ some. subst (AsksDurably k.settings) (sym same) (subst (λ s. AsksDurably s f) (sym x.settings) durable);
       });
+      numbers = subst (λ o. AreUsed o after.used k.durables) (sym waits) (λ z. used);
     }
 
 -- where no frame is left each is answered, and the session's bytes stand behind them

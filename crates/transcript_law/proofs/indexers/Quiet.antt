@@ -102,12 +102,12 @@ pub record IsTold (role : Option (Option Role)) (known : Option (List LogEntry))
   pub away : o ≡ None → role ≡ Some None
   pub there : (vb : Plain) → o ≡ Some vb → (role ≡ Some None → ⊥) × IsIfKnown known vb.log
 
-module _ (role : Option (Option Role)) (known : Option (List LogEntry)) (stream : Option ClientStream) (told : Bool) (f : Frame) (states : States) (p : PlainProducer) where
+module _ (role : Option (Option Role)) (known : Option (List LogEntry)) (stream : Option ClientStream) (told : Bool) (count : ℕ) (f : Frame) (states : States) (p : PlainProducer) where
   abbrev s : Served
   s = begun p
 
   abbrev pub now : Moment
-  now = record { setup = setup_of p.handshake; stream = stream; told = told }
+  now = record { setup = setup_of p.handshake; stream = stream; told = told; durables = count }
 
   -- what fits a message
   abbrev pub FitsHere : Option DcpMsg → Frame → Type 0

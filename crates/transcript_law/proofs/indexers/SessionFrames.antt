@@ -1,27 +1,31 @@
 -- what a client's session does with a frame, a fault and an outcome: all agrees behind it
-use Rattle.std.specs.Prelude.{◌≡◌, ◌<◌, ◌^◌, ◌∷◌, ◌++◌, ◌==◌, ◌&&◌, ◌||◌, not, if◌then◌else◌}
+use Rattle.std.specs.Prelude.{◌≡◌, ◌<◌, ◌≤◌, ◌+◌, ◌^◌, nat_le, ◌∷◌, ◌++◌, ◌==◌, ◌&&◌, ◌||◌, not, if◌then◌else◌}
 use Rattle.std.proofs.lemmas.List.Elements.{All-drop}
-use Rattle.transcript_law.proofs.Words.{ℕ, Bool, true, false, List, [], drop, refl, sym, ap, ◌∙◌, subst, inl, inr, append_assoc, Option, Some, None, is_some, Ok, Err, Event, Frame, FrameFault, RESPONSE, AreBytes, StaysSound, PlainProducer, States, PlainNode, PlainWorld, Chronicle, after_line, after_lines, after, Done, with_at}
+use Rattle.transcript_law.proofs.Words.{ℕ, Bool, true, false, List, [], drop, refl, sym, ap, ◌∙◌, subst, inl, inr, ⊎_elim, arith, nat_tests, append_assoc, Option, Some, None, is_some, Ok, Err, Event, Frame, FrameFault, Pend, RESPONSE, AreBytes, StaysSound, PlainProducer, States, PlainNode, PlainWorld, Chronicle, after_line, after_lines, after, Done, with_at}
 use Rattle.client_session.proofs.{Handing.{others_answered}, Keeping.{front_of}, Turns.{handed_holds}}
-use Rattle.client_session.specs.Serving.{PlainSession, Served, ended_at, frame_answered, handed, is_dcp, is_held, outcome_answered}
+use Rattle.client_session.specs.Serving.{MOST_DURABLE, PlainSession, Served, next_waiter, ended_at, frame_answered, handed, is_dcp, is_held, outcome_answered}
 unfoldable use Rattle.client_session.specs.Serving.{frame_handled}
 use Rattle.client_session.specs.Answers.{fault_lines}
 unfoldable use Rattle.client_session.specs.Answers.{reply_line}
 use Rattle.client_session.specs.declared.session.Awaited.{Awaited}
+use Rattle.durability.specs.declared.waiting.Waiting.{Waiting}
 use Rattle.mcbp_frame.specs.Frames.{faulty_head, frame_len}
 unfoldable use Rattle.mcbp_frame.specs.Frames.{first_frame}
 use Rattle.mcbp_frame.specs.declared.frame.FaultyHead.{FaultyHead}
 use Rattle.node_core.specs.Clients.{PlainClient, went_on}
 use Rattle.mcbp_frame.specs.{Cutting.{fault_in, front_fault}, Spelling.{spelling}}
-use Rattle.mcbp_kv.specs.{Answers.{bare_answer}, Replies.{reply_frame}}
-use Rattle.transcript_law.proofs.indexers.{Beside.{beside}, Hands.{Goes, InHand, Standing, frame_told, mine}, Messages.{IsPlain, other_plain, response_plain}, Questions.{fault_asks, hand_asks, hand_if, in_hand, next_is}, Replied.{table_put_twice}, Shutting.{Shut, gone_shut}, Serving.{served_plain}, Worlds.{step_quiet, stepped_same, vb_here, world_with}}
-use Rattle.transcript_law.proofs.invariant.{Agreement.{Agrees}, ClientsTold.{ClientAgrees, setup_of}, Sessions.{first_received}}
-use Rattle.transcript_law.proofs.{answers.Committed.{HowTold}, answers.Messages.{message_wants}, lines.Telling.{LawfulBefore, before_more, told_more}, indexers.Documents.{Ends, outcome_goes, request_goes}, verbs.Settling.{Steady}}
+use Rattle.mcbp_kv.specs.{Answers.{bare_answer}, Replies.{reply_frame}, Requests.{request_of}}
+use Rattle.transcript_law.proofs.indexers.{Beside.{beside}, Hands.{Goes, InHand, Standing, frame_told, mine}, Messages.{IsPlain, other_plain, response_plain}, Questions.{fault_asks, free_numbers, hand_asks, hand_if, hand_zero, in_hand, next_is}, Replied.{table_put_twice}, Shutting.{Shut, gone_shut}, Serving.{served_plain}, Worlds.{client_here, step_quiet, stepped_same, vb_here, waited_same, world_with}}
+use Rattle.transcript_law.proofs.invariant.{Agreement.{Agrees}, ClientsTold.{ClientAgrees, setup_of}, Owed.{OwedIf, OwedIn, Owing, idle_free, waits_hand}, Sessions.{first_received}}
+use Rattle.transcript_law.proofs.{answers.{Claims.{IsOf}, Committed.{HowTold}, Messages.{message_wants}}, lines.Telling.{LawfulBefore, before_more, told_more}, indexers.{Documents.{durable_request_goes, request_goes}, Outcomes.{outcome_goes}, Requests.{counts}}, verbs.Settling.{Steady}}
 use Rattle.transcript_law.specs.{ClientFrames.{message_of}, ClientStreams.{blank_client}, LawfulAnswers.{AllDurable, LawfulReply}, LinesTold.{made_line}, Questions.{behind_frames, is_acknowledgement, past_answer, question_of, wants_answer}, StreamsTold.{ClientKnown}}
 use Rattle.vb_types.specs.declared.status.Status.TheVariants.{Einval}
 use Rattle.vb_calls.proofs.Conduct.{after_always}
 use Rattle.vb_calls.specs.Programs.{AnyCall}
 use Rattle.vb_calls.specs.declared.calls.Resolution.{Resolution}
+use Rattle.transcript_law.specs.LinesTold.{LastLine}
+use Rattle.transcript_law.proofs.{answers.Committed.{kept_made}, invariant.Owing.{Grows}}
+use Rattle.transcript_law.specs.LinesTold.{OwnChange, is_durable}
 
 -- no bytes begin with a frame
 no_first : (f : Frame) (reader : List ℕ) → reader ≡ [] → first_frame reader ≡ Some (Ok f) → ⊥
@@ -31,6 +35,10 @@ no_first f reader empty e = let z : None ≡ Some (Ok f) = ap first_frame (sym e
 no_fault : (fault : FrameFault) (reader : List ℕ) → reader ≡ [] → first_frame reader ≡ Some (Err fault) → ⊥
 unfolding first_frame
 no_fault fault reader empty e = let z : None ≡ Some (Err fault) = ap first_frame (sym empty) ∙ e in cc
+
+-- a session that counts one more
+few_of : (used : ℕ) → nat_le MOST_DURABLE used ≡ false → used + 1 < 2 ^ 32
+few_of used room = grind (arith, nat_tests, room)
 
 -- a session that serves awaits nothing
 free_of : (s : Served) → is_held s ≡ false → s.session.awaited ≡ None
@@ -52,25 +60,38 @@ fault_lawful r n c fault head more none stands named calm = inr (record { none =
 module _ (w : PlainWorld) (n c : ℕ) (node : PlainNode) (r : Chronicle) where
   -- the session goes on behind a frame that says nothing of streams
   behind_goes : (states : States) (lines : List Event) (client : PlainClient) (f : Frame) (session : PlainSession) → Goes w n c node r states lines client → first_frame client.session.reader ≡ Some (Ok f) → IsPlain (message_of f) → client.session.awaited ≡ None
-      → session.who ≡ client.session.who → session.closed ≡ client.session.closed → session.reader ≡ drop (frame_len f) client.session.reader → session.settings ≡ client.session.settings → session.awaited ≡ hand_if (wants_answer (setup_of client.producer.handshake) f) f
+      → session.who ≡ client.session.who → session.closed ≡ client.session.closed → session.reader ≡ drop (frame_len f) client.session.reader → session.settings ≡ client.session.settings → client.session.used ≤ session.used → (client.session.used < 2 ^ 32 → session.used < 2 ^ 32) → (wants_answer (setup_of client.producer.handshake) f ≡ false → session.used ≡ client.session.used) → session.awaited ≡ hand_if (wants_answer (setup_of client.producer.handshake) f) f
       → Goes w n c node r states lines (record client { session = session })
-  behind_goes states lines client f session g first plain free who closed reader settings awaits =
+  behind_goes states lines client f session g first plain free who closed reader settings used few same awaits =
       let client' : PlainClient = record client { session = session } in
       let old : PlainWorld = world_with w n c node states (Some client) in let new : PlainWorld = world_with w n c node states (Some client') in
       let so_far : Chronicle = after_lines r lines in
       let own : ClientAgrees old so_far n c client = mine w n c node r g in
       let told : ClientAgrees new so_far n c client' =
       served_plain old new so_far n c client client' f own g.bytes first (record { who = who; alive = closed ∙ own.alive; reader = reader; desk = refl }) plain.asks (plain.sets (setup_of client.producer.handshake))
-      (hand_asks (so_far.clients_at n c).asking client.session session client.producer.handshake client.producer.handshake f g.bytes first own.asks free (plain.sets (setup_of client.producer.handshake)) reader settings awaits)
+      (hand_asks (so_far.clients_at n c).asking client.session session client.producer.handshake client.producer.handshake f g.bytes first own.asks free (plain.sets (setup_of client.producer.handshake)) reader settings same awaits)
       plain.closes own.kept refl (λ e. e) (λ v. vb_here w n c node states (Some client') v ∙ sym (vb_here w n c node states (Some client) v)) in
       record {
         lawful = g.lawful;
-        agrees = (g.agrees.0, stepped_same w n c node states states client client' so_far g.agrees.0 g.agrees.1 (step_quiet w n c node states states (Some client) (Some client') (λ q. refl)) (λ v id has. inl has) told);
+        agrees = (
+          g.agrees.0,
+          stepped_same w n c node states states client client' so_far g.agrees.0 g.agrees.1 (step_quiet w n c node states states (Some client) (Some client') (λ q. refl)) (λ v id has. inl has) told
+              (waited_same w n c node states states client client' so_far g.agrees.0 g.agrees.1 (step_quiet w n c node states states (Some client) (Some client') (λ q. refl))
+              (waits_hand (so_far.clients_at n c).asking (so_far.clients_at n c).asking client.session session who used few (λ a e. hand_zero (wants_answer (setup_of client.producer.handshake) f) f a (sym awaits ∙ e)) refl (idle_free client.session free))),
+        );
         bytes = subst AreBytes (sym reader) (All-drop (λ b. b < 256) (frame_len f) client.session.reader g.bytes);
         calm = g.calm;
       }
 
-  module _ (stays : StaysSound) (steady : Steady) (clock : ℕ) (small : clock < 2 ^ 64) (before : List Event) (producer : PlainProducer) where
+  -- nothing waits under the next number of the connection
+  unowed_next : (states : States) (lines : List Event) (client : PlainClient) → Goes w n c node r states lines client → client.session.used + 1 < 2 ^ 32
+      → (line : LastLine) (v : ℕ) (x : Waiting) (p : Pend) → (after_lines r lines).last ≡ Some line → Owing (states v) x p → x.waiter ≡ next_waiter client.session → ⊥
+  unowed_next states lines client g few line v x p rises owing same =
+      let so_far : Chronicle = after_lines r lines in let here : PlainWorld = world_with w n c node states (Some client) in
+      let all : OwedIn line here so_far = subst (λ l. OwedIf l here so_far) rises g.agrees.1.clients.owed in
+      (all.each n c client (client_here w n c node states (Some client))).past v x p (subst (λ o. Owing o x p) (sym (vb_here w n c node states (Some client) v)) owing) (omega (arith, same)) (omega (arith, same, few))
+
+  module _ (stays : StaysSound) (steady : Steady) (clock : ℕ) (small : clock < 2 ^ 64) (shows : node.clock ≡ clock) (before : List Event) (producer : PlainProducer) where
     abbrev client_of : Served → PlainClient
     client_of s = record { session = s.session; producer = producer }
 
@@ -81,18 +102,32 @@ module _ (w : PlainWorld) (n c : ℕ) (node : PlainNode) (r : Chronicle) where
     request_served f states s first other asks free none g =
         let at : ClientAgrees (world_with w n c node states (Some (client_of s))) (after_lines r (before ++ s.events)) n c (client_of s) = mine w n c node r g in
         let wants : wants_answer (setup_of producer.handshake) f ≡ true = message_wants (setup_of producer.handshake) f (message_of f) asks refl (other_plain f other).counts in
-        let hand : PlainSession = record (front_of f s).session { awaited = Some (in_hand f) } in
-        let held : Goes w n c node r states (before ++ s.events) (record { session = hand; producer = producer }) =
-        behind_goes states (before ++ s.events) (client_of s) f hand g first (other_plain f other) free refl refl refl refl (sym (ap (λ b. hand_if b f) wants)) in
+        let front : Served = front_of f s in
+        let x : States × Served = after (frame_handled clock f front) states in
+        let unhanded : x.1.dcp ≡ s.dcp = after_always AnyCall (λ t. t.dcp ≡ s.dcp) (frame_handled clock f front) states (others_answered clock f front other) in
+        let is : frame_handled clock f front ≡ frame_answered clock f front =
+        (λ i. if asks i then Done front else if other i then Done (handed f front) else frame_answered clock f front) in
         let next = next_is ((after_lines r (before ++ s.events)).clients_at n c).asking s.session s.session producer.handshake producer.handshake f g.bytes first at.asks free wants in
-        let x : States × Served = after (frame_handled clock f (front_of f s)) states in
-        let unhanded : x.1.dcp ≡ s.dcp = after_always AnyCall (λ t. t.dcp ≡ s.dcp) (frame_handled clock f (front_of f s)) states (others_answered clock f (front_of f s) other) in
-        let is : frame_handled clock f (front_of f s) ≡ frame_answered clock f (front_of f s) =
-        (λ i. if asks i then Done (front_of f s) else if other i then Done (handed f (front_of f s)) else frame_answered clock f (front_of f s)) in
-        let ends : Ends stays steady w r n c clock node (record { session = hand; producer = producer }) before small x =
-        subst (λ prog. Ends stays steady w r n c clock node (record { session = hand; producer = producer }) before small (after prog states)) (sym is)
-        (request_goes stays steady w r n c clock node (record { session = hand; producer = producer }) before small held.bytes f at.asks.served refl other (states, front_of f s)
-        (record { now = (held.lawful, held.agrees, (at.conn.node, at.conn.number)); next = next; who = refl; closed = refl; reader = refl; free = free; settings = refl }) held.calm (first_received s.session.reader f g.bytes first)) in
+        let hand : ℕ → PlainClient = λ used. record { session = record front.session { awaited = Some (in_hand f); used = used }; producer = producer } in
+        let held : (used : ℕ) → s.session.used ≤ used → (s.session.used < 2 ^ 32 → used < 2 ^ 32) → Goes w n c node r states (before ++ s.events) (hand used) =
+        λ used le few. behind_goes states (before ++ s.events) (client_of s) f (hand used).session g first (other_plain f other) free refl refl refl refl le few (λ none. let z : true ≡ false = sym wants ∙ none in absurd cc) (sym (ap (λ b. hand_if b f) wants)) in
+        let count : ℕ = ((after_lines r (before ++ s.events)).clients_at n c).asking.durables in
+        let fresh = free_numbers ((after_lines r (before ++ s.events)).clients_at n c).asking s.session producer.handshake at.asks free in
+        let good = first_received s.session.reader f g.bytes first in
+        let ends : Goes w n c node r x.0 (before ++ x.1.events) (client_of x.1) =
+        subst (λ prog. let y = after prog states in Goes w n c node r y.0 (before ++ y.1.events) (client_of y.1)) (sym is)
+        (⊎_elim
+        (λ none.
+        let g' = held s.session.used (omega arith) (λ l. l) in
+        request_goes stays steady w r n c clock node (hand s.session.used) before small shows g'.bytes f at.asks.served refl other count (states, front)
+        (record { now = (g'.lawful, g'.agrees, (at.conn.node, at.conn.number)); next = next; count_is = refl; who = refl; closed = refl; reader = refl; free = free; settings = refl; used = refl }) g'.calm fresh good none)
+        (λ (write, wish, is, room).
+        let few = few_of s.session.used room in
+        let g' = held (s.session.used + 1) (omega arith) (λ l. few) in
+        durable_request_goes stays steady w r n c clock node (hand (s.session.used + 1)) before small shows g'.bytes f at.asks.served refl other count (states, front)
+        (record { now = (g'.lawful, g'.agrees, (at.conn.node, at.conn.number)); next = next; count_is = refl; who = refl; closed = refl; reader = refl; free = free; settings = refl; used = refl }) g'.calm
+        (unowed_next states (before ++ s.events) (client_of s) g few) fresh good write wish is room)
+        (counts front.session.used (request_of front.session.settings.json f))) in
         InHand.IsOpen (unhanded ∙ none) ends
 
     -- by whether it is a response, and whether DCP has its opcode
@@ -101,7 +136,7 @@ module _ (w : PlainWorld) (n c : ℕ) (node : PlainNode) (r : Chronicle) where
     unfolding frame_handled
     frame_by f states s first free none g true b response dcp =
         subst (λ e. let x = after (if e then Done (front_of f s) else if is_dcp f.opcode then Done (handed f (front_of f s)) else frame_answered clock f (front_of f s)) states in InHand w n c node r x.0 (went_on before producer x.1)) (sym response)
-        (InHand.IsOpen none (behind_goes states (before ++ s.events) (client_of s) f (front_of f s).session g first (response_plain f response) free refl refl refl refl (free ∙ sym (ap (λ b. hand_if (not b && not ((setup_of producer.handshake).opened && is_acknowledgement (message_of f))) f) response))))
+        (InHand.IsOpen none (behind_goes states (before ++ s.events) (client_of s) f (front_of f s).session g first (response_plain f response) free refl refl refl refl (omega arith) (λ l. l) (λ none. refl) (free ∙ sym (ap (λ b. hand_if (not b && not ((setup_of producer.handshake).opened && is_acknowledgement (message_of f))) f) response))))
     frame_by f states s first free none g false true asks dcp =
         subst (λ e. let x = after (if e then Done (front_of f s) else if is_dcp f.opcode then Done (handed f (front_of f s)) else frame_answered clock f (front_of f s)) states in InHand w n c node r x.0 (went_on before producer x.1)) (sym asks)
         (subst (λ e. let x = after (if e then Done (handed f (front_of f s)) else frame_answered clock f (front_of f s)) states in InHand w n c node r x.0 (went_on before producer x.1)) (sym dcp)
@@ -115,10 +150,10 @@ module _ (w : PlainWorld) (n c : ℕ) (node : PlainNode) (r : Chronicle) where
     framed f states s free first (InHand.IsOver none over) = absurd (no_first f s.session.reader over.empty first)
 
     -- what became of a durable write, which is awaited under a number
-    pub outcome_framed : (a : Awaited) (how : Resolution) (states : States) (s : Served) → s.session.awaited ≡ Some a → (a.waiter ≡ 0 → ⊥) → HowTold n (after_lines r (before ++ s.events)).made how → Standing w n c node r states (before ++ s.events) (client_of s) → s.dcp ≡ None
-        → InHand w n c node r states (went_on before producer (outcome_answered a how s))
-    outcome_framed a how states s waits some told g unhanded =
-        InHand.IsOpen unhanded (outcome_goes w n c node r a how states before producer s waits some told g)
+    pub outcome_framed : (a : Awaited) (how : Resolution) (Claim : ℕ → Waiting → Pend → Type 0) (states : States) (s : Served) → s.session.awaited ≡ Some a → (a.waiter ≡ 0 → ⊥) → IsOf (after_lines r (before ++ s.events)) n c a Claim → HowTold n (after_lines r (before ++ s.events)).made Claim (record { waiter = a.waiter; how = how })
+        → Standing w n c node r states (before ++ s.events) (client_of s) → s.dcp ≡ None → InHand w n c node r states (went_on before producer (outcome_answered a how s))
+    outcome_framed a how Claim states s waits some owns told g unhanded =
+        InHand.IsOpen unhanded (outcome_goes w n c node r a how Claim states before producer s waits some owns told g)
 
   -- a fault: the connection is over, and told so
   abbrev over_told : List Event → Bool → Chronicle
@@ -155,12 +190,16 @@ module _ (w : PlainWorld) (n c : ℕ) (node : PlainNode) (r : Chronicle) where
         let head : Option FaultyHead = faulty_head fault client.session.reader in
         subst (λ es. LawfulBefore r es × (after_lines r es ≡ over_told lines (is_some head))) (sym (is ∙ (λ i. lines ++ fault_lines (s i) (t i) head))) (head_lines head refl)
 
+    over_grows : (answered : Bool) → Grows so_far.made (if answered then made_line so_far.made (Event.Reply n c []) else so_far.made)
+    over_grows true one durable i = kept_made (λ (m : OwnChange). is_durable m.change.act) one so_far.made durable i
+    over_grows false one durable i = i
+
     -- nothing is left of it
     over_agrees : (answered : Bool) → Shut w n c node (over_told lines answered) client.producer.streams states
     over_agrees answered =
         let shut = gone_shut w n c node so_far states client g.agrees in
         let q : Chronicle = record so_far { clients_at = with_at so_far.clients_at n c blank_client } in
-        record { agrees = (shut.agrees.0, beside (world_with w n c node states None) q q.conn_at (if answered then made_line so_far.made (Event.Reply n c []) else so_far.made) shut.agrees.0 shut.agrees.1); nobody = shut.nobody }
+        record { agrees = (shut.agrees.0, beside (world_with w n c node states None) q q.conn_at (if answered then made_line so_far.made (Event.Reply n c []) else so_far.made) so_far.ticks shut.agrees.0 (over_grows answered) shut.agrees.1); nobody = shut.nobody }
 
   pub faulty : (before : List Event) (producer : PlainProducer) (fault : FrameFault) (states : States) (s : Served) → is_held s ≡ false → first_frame s.session.reader ≡ Some (Err fault) → InHand w n c node r states (went_on before producer s)
       → InHand w n c node r states (went_on before producer (ended_at (Some fault) s))

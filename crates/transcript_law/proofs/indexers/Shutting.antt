@@ -3,8 +3,8 @@ use Rattle.std.specs.Prelude.{◌≡◌, ◌∷◌, if◌then◌else◌}
 use Rattle.transcript_law.proofs.Words.{with_at, ℕ, Bool, true, false, List, [], refl, sym, ◌∙◌, subst, inl, inr, Option, Some, None, States, Plain, PlainNode, PlainWorld, PlainStream, PlainProducer, Chronicle, after_lines, Call, after, with_vb_at, call_at, close_row, streams_closed}
 unfoldable use Rattle.dcp_producer.specs.Ending.{end_closed}
 use Rattle.node_core.specs.Clients.{Handling, PlainClient}
-use Rattle.transcript_law.proofs.indexers.{Hands.{InHand, mine}, Quiet.{put_here, put_there}, Steps.{ClientStep, apart_less, client_carried, clients_told, fed_less}, Worlds.{client_here, free_own, step_at, step_quiet, vb_here, world_with}}
-use Rattle.transcript_law.proofs.invariant.{Agreement.{Agrees, AgreesAt, VbAgrees}, Carried.{sound_streams}, Seats.{seat}, Tables.{at_there}}
+use Rattle.transcript_law.proofs.indexers.{Hands.{InHand, mine}, Quiet.{put_here, put_there}, Steps.{ClientStep, apart_less, client_carried, clients_told, fed_less, step_one}, Worlds.{client_here, free_own, step_at, step_quiet, vb_here, world_with}}
+use Rattle.transcript_law.proofs.invariant.{Agreement.{Agrees, AgreesAt, VbAgrees}, Carried.{sound_streams}, Owed.{owed_gone}, Seats.{seat}, Tables.{at_there}}
 use Rattle.transcript_law.proofs.links.Cutting.{closed_others}
 use Rattle.transcript_law.specs.{ClientStreams.{blank_client}, Feeding.{HasFed, HasOpen, client_in}}
 use Rattle.vb_calls.specs.declared.calls.VbCall.TheVariants as call
@@ -31,7 +31,8 @@ module _ (w : PlainWorld) (n c : ℕ) (node : PlainNode) (r : Chronicle) where
         agrees = (
           s.agrees.0,
           client_carried (gone states) (gone states') r s.agrees.0 n c step s.agrees.1 r.clients_at
-              (clients_told (gone states) (gone states') r r.clients_at n c step s.agrees.1.clients (λ m d o. refl) (λ other is. no_more states' other is) (apart_less (gone states) (gone states') n c step less s.agrees.1.clients.apart)),
+              (clients_told (gone states) (gone states') r r.clients_at n c step s.agrees.1.clients (λ m d o. refl) (λ other is. no_more states' other is) (apart_less (gone states) (gone states') n c step less s.agrees.1.clients.apart)
+              (owed_gone (gone states) (gone states') r r n c (step_one (gone states) (gone states') r r.clients_at n c step s.agrees.1.clients (λ m d o. refl)) (client_here w n c node states' None) s.agrees.1.clients.owed)),
         );
         nobody = λ v id has who fed. s.nobody v id has who (fed_less (gone states) (gone states') n c step less who n v id fed);
       }
@@ -85,7 +86,8 @@ module _ (w : PlainWorld) (n c : ℕ) (node : PlainNode) (r : Chronicle) (states
       a.0,
       client_carried old (gone w n c node r states) r a.0 n c step a.1 (with_at r.clients_at n c blank_client)
           (clients_told old (gone w n c node r states) r (with_at r.clients_at n c blank_client) n c step a.1.clients (λ m d o. at_there r.clients_at n c blank_client m d o) (λ other is. no_more w n c node r states other is)
-          (apart_less old (gone w n c node r states) n c step less a.1.clients.apart)),
+          (apart_less old (gone w n c node r states) n c step less a.1.clients.apart)
+          (owed_gone old (gone w n c node r states) r blanked n c (step_one old (gone w n c node r states) r (with_at r.clients_at n c blank_client) n c step a.1.clients (λ m d o. at_there r.clients_at n c blank_client m d o)) (client_here w n c node states None) a.1.clients.owed)),
     );
     nobody = λ v id has who fed.
         let own : HasFed old (name.Client n c) n v id = (refl, (client, client_here w n c node states (Some client), has)) in

@@ -76,12 +76,12 @@ module _ (w : PlainWorld) (r : Chronicle) (cl : Cluster) (a : AgreesIn idle w r 
   rises_hist : Rises 0 top (hist r.tree g.branch)
   rises_hist = subst (Rises 0 top) (own_is r cl n v leader a.hists a.rootless agrees.branch ∙ own_known) (hist_rises top cl.tree leader.br a.sound.grows)
 
-  holds : HoldsAt p.floor (WholeTo p.floor p.spans p.position) leader.held (hist r.tree g.branch)
-  holds = subst (HoldsAt p.floor (WholeTo p.floor p.spans p.position) leader.held) own_known agrees.holds
+  holds : HoldsAt 0 (WholeTo p.floor p.spans p.position) leader.held (hist r.tree g.branch)
+  holds = subst (HoldsAt 0 (WholeTo p.floor p.spans p.position) leader.held) own_known agrees.holds
 
   -- what is shown of what is held
-  pub shown_holds : HoldsAt p.floor (WholeTo p.floor p.spans p.position) (view g.sync leader.held) h
-  shown_holds = view_holds g.sync p.floor (WholeTo p.floor p.spans p.position) top leader.held (hist r.tree g.branch) rises_hist holds
+  pub shown_holds : HoldsAt 0 (WholeTo p.floor p.spans p.position) (view g.sync leader.held) h
+  shown_holds = view_holds g.sync 0 (WholeTo p.floor p.spans p.position) top leader.held (hist r.tree g.branch) rises_hist holds
 
   fork_at : fork_of p.position ≡ p.position.at
   fork_at = subst (λ (q : Position). fork_of q ≡ q.at) agrees.member.position
@@ -98,7 +98,7 @@ module _ (w : PlainWorld) (r : Chronicle) (cl : Cluster) (a : AgreesIn idle w r 
   pub none_shown : (low stop : ℕ) → p.floor ≤ low → WholeTo p.floor p.spans p.position stop → (b : Bool) → g.sync ≡ b → b ≡ false → NoneWithin (view b p.held) low stop → NoneWithin (view b (hist r.tree g.branch)) low stop
   none_shown low stop floor whole true is e none = cc
   none_shown low stop floor whole false is e none =
-      plain_none p.floor (WholeTo p.floor p.spans p.position) top leader.held (hist r.tree g.branch) low stop rises_hist holds whole floor
+      plain_none 0 (WholeTo p.floor p.spans p.position) top leader.held (hist r.tree g.branch) low stop rises_hist holds whole (omega arith)
       (view_none_more false p.floor agrees.below p.held leader.held low stop agrees.parts agrees.low floor none)
 
   -- a snapshot that it is given
@@ -126,7 +126,7 @@ module _ (w : PlainWorld) (r : Chronicle) (cl : Cluster) (a : AgreesIn idle w r 
 
     pub covers_told : Covers items h o.place end
     covers_told =
-        covers_held p.floor (WholeTo p.floor p.spans p.position) (view g.sync leader.held) h items o.place end stop (view_rises g.sync 0 top leader.held rises_held) (view_rises g.sync 0 top (hist r.tree g.branch) rises_hist)
-        shown_holds whole near is.within.0 between
+        covers_held 0 (WholeTo p.floor p.spans p.position) (view g.sync leader.held) h items o.place end stop (view_rises g.sync 0 top leader.held rises_held) (view_rises g.sync 0 top (hist r.tree g.branch) rises_hist)
+        shown_holds whole (omega arith) is.within.0 between
         (covers_more p.floor (view g.sync agrees.below) (view g.sync p.held) (view g.sync leader.held) items o.place end (ap (view g.sync) agrees.parts ∙ view_append g.sync agrees.below p.held)
         (view_rises g.sync 0 p.floor agrees.below agrees.low) near covers_shown)

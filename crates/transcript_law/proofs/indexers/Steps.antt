@@ -4,16 +4,18 @@ use Rattle.transcript_law.proofs.Words.{ℕ, true, List, [], refl, ap, sym, ◌�
 use Rattle.transcript_law.proofs.Words.{PlainLink, link_number, producer_node, consumer_node, PlainWorld, Chronicle}
 use Rattle.node_core.specs.Clients.{PlainClient}
 use Rattle.transcript_law.proofs.disks.Disks.{SameParts, disk_same, parts_of, same_parts}
-use Rattle.transcript_law.proofs.invariant.Agreement.{AgreesAt, AgreesIn, ClientAgrees, ClientsApart, ClientsTold, IsLink, LinkAgrees, LinksDiffer, PowerIsIf, RestsIn, idle, power_of, producer_seat, shelf_of, vb_of}
+use Rattle.transcript_law.proofs.invariant.Agreement.{clock_of, AgreesAt, AgreesIn, ClientAgrees, ClientsApart, ClientsTold, IsLink, LinkAgrees, LinksDiffer, PowerIsIf, RestsIn, idle, power_of, producer_seat, shelf_of, vb_of}
 use Rattle.transcript_law.proofs.invariant.Carried.{KeptVb, StaysProducer, branches_again, fed_same, ids_same, kept_same, kept_streams, link_carried, places, vb_carried}
 use Rattle.transcript_law.proofs.invariant.Carrying.{StreamsChanged, off_of}
-use Rattle.transcript_law.proofs.invariant.ClientsKept.{GoesOver, agrees_over, goes_same, goes_still, spot_at}
+use Rattle.transcript_law.proofs.invariant.ClientsKept.{GoesOver, agrees_over, fewer_now, fewer_streams, goes_same, goes_still, spot_at}
 use Rattle.transcript_law.proofs.invariant.LinkRows.{differ_in}
+use Rattle.transcript_law.proofs.invariant.Owed.{OneOwed, Owed, fewer_same}
 use Rattle.transcript_law.proofs.invariant.Resting.{ends_off, rests_with}
 use Rattle.transcript_law.proofs.invariant.Seats.{seat}
 use Rattle.transcript_law.specs.Feeding.{HasFed, HasOpen, client_in}
-use Rattle.transcript_law.specs.StreamsTold.{ClientsKnown}
+use Rattle.transcript_law.specs.StreamsTold.{ClientKnown, ClientsKnown}
 use Rattle.vb_events.specs.declared.event.StreamName.TheVariants as name
+use Rattle.transcript_law.proofs.invariant.Owing.{later_same}
 
 -- the vBucket q of the node m changed its stream of one number alone, which is of no link and of no client but c
 pub record VbStep (w w' : PlainWorld) (n c m q : ℕ) : Type 0 where
@@ -108,7 +110,7 @@ module _ (w w' : PlainWorld) (r : Chronicle) (cl : Cluster) (n c : ℕ) (step : 
   stays_absent m q none = ⊎_elim (λ e. e ∙ none) (λ x. let z : Some x.pv ≡ None = sym x.before ∙ none in cc) (step.vbs m q)
 
   rests : RestsIn w' r cl
-  rests = rests_with w w' r r cl cl a.rests (λ m. ap off_of (step.powers m)) (λ m. subst (PowerIsIf (r.arm_at m)) (sym (step.powers m)) (a.powers m))
+  rests = rests_with w w' r r cl cl a.rests (λ m. ap off_of (step.powers m)) (λ m. subst (PowerIsIf (r.arm_at m)) (sym (step.powers m)) (a.powers m)) (λ m. a.clocks m ∙ sym (ap clock_of (step.powers m)))
       (λ m q none. record { vb = absent m q none; shelf = step.shelves m q; row = refl; member = refl; disk = refl })
       (λ m q down. (stays_absent m q ((a.downs m q).vb_none down), step.shelves m q ∙ (a.downs m q).shelf_none down))
       (λ m q e. e)
@@ -124,7 +126,7 @@ module _ (w w' : PlainWorld) (r : Chronicle) (cl : Cluster) (n c : ℕ) (step : 
     links = λ x i. let l = link_agrees x (subst (IsLink x) step.linked i) in record { follower = l.follower; follower_is = l.follower_is; follows = l.follows; dial = l.dial; acks = l.acks; talk = l.talk };
     differ = subst LinksDiffer (sym step.linked) a.differ;
     clients = told;
-    rests = record { powers = rests.powers; aways = rests.aways; downs = rests.downs; ends = rests.ends; small = rests.small };
+    rests = record { powers = rests.powers; clocks = rests.clocks; aways = rests.aways; downs = rests.downs; ends = rests.ends; small = rests.small };
   }
 
 -- ---- connections of clients
@@ -142,14 +144,24 @@ module _ (w w' : PlainWorld) (r : Chronicle) (known : ClientsKnown) (n c : ℕ) 
       refl (λ y i. i) (λ u e. refl))
       (step.vbs m v)
 
+  -- nothing is owed that was not, and all other connections wait as they did
+  pub step_one : OneOwed w w' r r' n c
+  step_one = record {
+    later = later_same _ _ refl refl;
+    fewer = λ m q. ⊎_elim (λ e. fewer_same (vb_of w m q) (vb_of w' m q) e) (λ x. fewer_now w w' m q x.pv x.pv' x.before x.after (fewer_streams x.id x.pv x.pv' x.changed)) (step.vbs m q);
+    others = step.others;
+    known = λ m d ne. ap (λ (k : ClientKnown). k.asking) (others m d ne);
+  }
+
   -- the connection itself, and the others
-  pub clients_told : ((client : PlainClient) → client_in (w'.nodes n) c ≡ Some client → ClientAgrees w' r' n c client) → ClientsApart w' → ClientsTold w' r'
-  clients_told own apart = record {
+  pub clients_told : ((client : PlainClient) → client_in (w'.nodes n) c ≡ Some client → ClientAgrees w' r' n c client) → ClientsApart w' → Owed w' r' → ClientsTold w' r'
+  clients_told own apart owed = record {
     each = λ m d client e. ⊎_elim
         (λ s. subst (λ k. ClientAgrees w' r' k d client) (sym s.0) (subst (λ k. ClientAgrees w' r' n k client) (sym s.1) (own client (ap (λ k. client_in (w'.nodes k) c) (sym s.0) ∙ ap (client_in (w'.nodes m)) (sym s.1) ∙ e))))
         (λ ne. let there = sym (step.others m d ne) ∙ e in agrees_over w w' r r' m d client (others m d ne) (λ v id has. goes m d v id client ne there has) (told.each m d client there))
         (places n c m d);
     apart = apart;
+    owed = owed;
   }
 
 -- no connection has an open stream that it had not

@@ -3,11 +3,12 @@ use Rattle.std.specs.Prelude.{◌≡◌, ◌⊎◌, ◌==◌, if◌then◌else�
 use Rattle.transcript_law.proofs.Words.{ℕ, Bool, true, false, refl, ap, sym, ◌∙◌, subst, inl, inr, ⊎_elim, Option, Some, eq-eqb, eqb-true, Plain, States, PlainNode, PlainWorld, with_node_at, with_client, with_states, vb_in, shelf_in, Cluster, Chronicle, PlainLink, producer_node}
 use Rattle.node_core.specs.Clients.{PlainClient}
 use Rattle.transcript_law.proofs.disks.Disks.{power_in}
-use Rattle.transcript_law.proofs.invariant.{Agreement.{AgreesIn, IsLink, LinksDiffer, idle, shelf_of, vb_of}, Carried.{all_there, numbers, places}, Carrying.{StreamsChanged}, ClientsKept.{FewNew, IsFree, apart_over}, ClientsTold.{ClientAgrees}, Tables.{at_here, at_there}}
-use Rattle.transcript_law.proofs.indexers.{Steps.{ClientStep, VbStep, client_carried, clients_told, found_link, no_link, no_other}}
+use Rattle.transcript_law.proofs.invariant.{Agreement.{AgreesIn, IsLink, LinksDiffer, idle, shelf_of, vb_of}, Carried.{all_there, numbers, places}, Carrying.{StreamsChanged}, ClientsKept.{FewNew, IsFree, apart_over}, ClientsTold.{ClientAgrees}, Owed.{ConnOwed, Owed, WaitsOn, owed_await, owed_one}, Tables.{at_here, at_there}}
+use Rattle.transcript_law.proofs.indexers.{Steps.{ClientStep, VbStep, client_carried, clients_told, step_one, found_link, no_link, no_other}}
 use Rattle.transcript_law.specs.{Feeding.{HasFed, HasOpen, client_in}, StreamsTold.{ClientKnown, with_at}}
 use Rattle.vb_events.specs.declared.event.StreamName.{StreamName}
 use Rattle.vb_events.specs.declared.event.StreamName.TheVariants as name
+use Rattle.transcript_law.specs.LinesTold.{LastLine}
 
 module _ (w : PlainWorld) (n c : ℕ) (node : PlainNode) where
   abbrev pub node_with : States → Option PlainClient → PlainNode
@@ -140,13 +141,27 @@ module _ (w : PlainWorld) (n c : ℕ) (node : PlainNode) where
         (λ o. inl (same, (other, sym (client_there states states' (Some client) (Some client') x d (λ e f. o (same ∙ e) f)) ∙ is, has)))
         (places n c m d)
 
-    pub stepped : OpensOwn → ClientAgrees new with_known n c client' → AgreesIn idle new with_known k
-    stepped opens mine =
+    -- what it waits for is owed as it was
+    pub waited : WaitsOn (r.clients_at n c).asking known.asking client.session client'.session → Owed new with_known
+    waited waits =
+        let table = with_at r.clients_at n c known in
+        owed_one old new r with_known n c (step_one old new r table n c step a.clients (λ m d o. at_there r.clients_at n c known m d o)) client client' (client_here states (Some client)) (client_here states' (Some client'))
+        (subst (λ (t : ClientKnown). WaitsOn (r.clients_at n c).asking t.asking client.session client'.session) (sym (at_here r.clients_at n c known)) waits) a.clients.owed
+
+    -- or it waits for something else
+    pub waited_else : client'.session.who ≡ client.session.who → ((line : LastLine) → r.last ≡ Some line → ConnOwed line n c r.made (vb_of old n) (r.clients_at n c).asking client.session → ConnOwed line n c r.made (vb_of new n) known.asking client'.session) → Owed new with_known
+    waited_else who goes =
+        let table = with_at r.clients_at n c known in
+        owed_await old new r with_known n c (step_one old new r table n c step a.clients (λ m d o. at_there r.clients_at n c known m d o)) client client' (client_here states (Some client)) (client_here states' (Some client')) who
+        (λ line rises x. subst (λ (t : ClientKnown). ConnOwed line n c r.made (vb_of new n) t.asking client'.session) (sym (at_here r.clients_at n c known)) (goes line rises x)) a.clients.owed
+
+    pub stepped : OpensOwn → ClientAgrees new with_known n c client' → Owed new with_known → AgreesIn idle new with_known k
+    stepped opens mine owed =
         let table = with_at r.clients_at n c known in
         client_carried old new r k n c step a table
         (clients_told old new r table n c step a.clients (λ m d o. at_there r.clients_at n c known m d o)
         (λ other is. subst (ClientAgrees new with_known n c) (sym (is_new n c other refl refl is)) mine)
-        (apart_over (name.Client n c) old new (all_there idle old r k a) (was_had opens) a.clients.apart))
+        (apart_over (name.Client n c) old new (all_there idle old r k a) (was_had opens) a.clients.apart) owed)
 
   -- as much is known as before
   module _ (states states' : States) (client client' : PlainClient) (r : Chronicle) (k : Cluster) (a : AgreesIn idle (world_with states (Some client)) r k)
@@ -161,8 +176,16 @@ module _ (w : PlainWorld) (n c : ℕ) (node : PlainNode) where
             (λ o. at_there r.clients_at n c (r.clients_at n c) m d o)
             (places n c m d)
 
-    pub stepped_same : OpensOwn states states' client client' r (r.clients_at n c) k a step → ClientAgrees (world_with states' (Some client')) r n c client' → AgreesIn idle (world_with states' (Some client')) r k
-    stepped_same opens mine =
+    -- what it waits for
+    pub waited_same : WaitsOn (r.clients_at n c).asking (r.clients_at n c).asking client.session client'.session → Owed (world_with states' (Some client')) r
+    waited_same waits = subst (λ t. Owed (world_with states' (Some client')) (record r { clients_at = t })) known_same (waited states states' client client' r (r.clients_at n c) k a step waits)
+
+    pub waited_else_same : client'.session.who ≡ client.session.who → ((line : LastLine) → r.last ≡ Some line → ConnOwed line n c r.made (vb_of (world_with states (Some client)) n) (r.clients_at n c).asking client.session → ConnOwed line n c r.made (vb_of (world_with states' (Some client')) n) (r.clients_at n c).asking client'.session)
+        → Owed (world_with states' (Some client')) r
+    waited_else_same who goes = subst (λ t. Owed (world_with states' (Some client')) (record r { clients_at = t })) known_same (waited_else states states' client client' r (r.clients_at n c) k a step who goes)
+
+    pub stepped_same : OpensOwn states states' client client' r (r.clients_at n c) k a step → ClientAgrees (world_with states' (Some client')) r n c client' → Owed (world_with states' (Some client')) r → AgreesIn idle (world_with states' (Some client')) r k
+    stepped_same opens mine owed =
         let new : PlainWorld = world_with states' (Some client') in
         subst (λ t. AgreesIn idle new (record r { clients_at = t }) k) known_same
-        (stepped states states' client client' r (r.clients_at n c) k a step opens (subst (λ t. ClientAgrees new (record r { clients_at = t }) n c client') (sym known_same) mine))
+        (stepped states states' client client' r (r.clients_at n c) k a step opens (subst (λ t. ClientAgrees new (record r { clients_at = t }) n c client') (sym known_same) mine) (subst (λ t. Owed new (record r { clients_at = t })) (sym known_same) owed))

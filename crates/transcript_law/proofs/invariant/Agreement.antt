@@ -15,7 +15,7 @@ use Rattle.mcbp_dcp.specs.declared.message.DcpMsg.TheVariants as msg
 use Rattle.vb_types.specs.declared.stream.AskAnswer.TheVariants as ask_answer
 pub use Rattle.transcript_law.proofs.disks.Disks.{DiskIsIf, Power, book_in, power_of, shelf_of}
 pub use Rattle.transcript_law.proofs.invariant.ClientsTold.{ClientAgrees, ClientsApart, ClientsTold}
-pub use Rattle.transcript_law.proofs.invariant.Holdings.{vb_of, DocFits, ActFits, ChangeFits, MemberAgrees, BranchAgrees, IsWriter, IsWriterIf, Writes, WritesIf, EntryFits, own_history, VbContents, vb_contents, VbRow, vb_row, Keeps, VbTold, VbHeld, VbHolds, VbRowIs, VbAgrees, CountsAre, CountsIf, no_counts, active_counts, counts_if, IsAway, VbIsIf, AgreesAt, all_rise, image_is}
+pub use Rattle.transcript_law.proofs.invariant.Holdings.{vb_of, DocFits, ActFits, ChangeFits, MemberAgrees, BranchAgrees, IsWriter, IsWriterIf, Writes, WritesIf, EntryFits, own_history, NodeKnown, node_known, VbContents, vb_contents, VbRow, vb_row, Keeps, VbTold, VbHeld, VbHolds, VbRowIs, VbAgrees, CountsAre, CountsIf, no_counts, active_counts, counts_if, no_lefts, TimesAre, TimesIf, no_times, active_times, times_if, IsAway, VbIsIf, AgreesAt, all_rise, image_is}
 
 -- the frame of the answer to a request for a stream
 abbrev pub answer_frame : ℕ → List LogEntry → AskAnswer → Frame
@@ -377,11 +377,12 @@ IsArm Off = Unit {0}
 IsArm (Stop k) = 0 < k
 IsArm (Fail k) = 0 < k
 
--- what the lines tell of a node's arm, and whether it is down; and the disks of one that is down are those that are listed by their numbers
+-- what the lines tell of a node's arm, and whether it is down; the clock of one that is down stands at 0, and its disks are those that are listed by their numbers
 pub record PowerIs (told : ArmKnown) (power : Power) : Type 0 where
   pub fuse : told.fuse ≡ power.arm.fuse
   pub out : told.out ≡ power.arm.out
   pub down : told.down ≡ is_some power.off
+  pub zero : (books : List Book) → power.off ≡ Some books → power.clock ≡ 0
   pub may_fire : IsArm power.arm.fuse
   pub listed_so : (books : List Book) → power.off ≡ Some books → books ≡ listed (book_in books)
 
@@ -422,9 +423,15 @@ pub record EndsUp (w : PlainWorld) (link : PlainLink) : Type 0 where
   pub consumer : is_down (power_of w (consumer_node link)) ≡ false
   pub number : link_number link < 1000
 
--- what rests, and what is to befall the nodes
+-- what a node's clock shows; that of one which was not made stands at 0
+abbrev pub clock_of : Option Power → ℕ
+clock_of None = 0
+clock_of (Some power) = power.clock
+
+-- what rests, what is to befall the nodes, and their clocks
 pub record RestsIn (w : PlainWorld) (r : Chronicle) (c : Cluster) : Type 0 where
   pub powers : (n : ℕ) → PowerIsIf (r.arm_at n) (power_of w n)
+  pub clocks : (n : ℕ) → r.clock_at n ≡ clock_of (power_of w n)
   pub aways : (n v : ℕ) → vb_of w n v ≡ None → AwayAt (power_of w n) v (shelf_of w n v) (r.role_at n v) (r.disk_at n v) (c.nodes (seat n v)) (c.disks (seat n v))
   pub downs : (n v : ℕ) → DownHolds (power_of w n) (vb_of w n v) (shelf_of w n v)
   pub ends : (link : PlainLink) → IsLink link w.links → EndsUp w link

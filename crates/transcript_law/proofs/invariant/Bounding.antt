@@ -1,34 +1,26 @@
 -- what holds besides in a sound cluster holds at its start and after each move
-use Rattle.std.proofs.Common.{◌≡◌, ℕ, ◌<◌, ◌≤◌, ◌+◌, Bool, true, false, cond, List, [], ◌∷◌, ◌++◌, eqb, refl, ap, sym, subst, inl, ⊎_elim, arith}
-use Rattle.std.specs.Prelude.{Option, Some, None, nat_lt}
-use Rattle.std.proofs.lemmas.Bool.{cases_lt, eqb-true, lt-ltb}
+use Rattle.std.proofs.Common.{◌≡◌, ℕ, ◌<◌, ◌≤◌, ◌+◌, Bool, true, false, cond, List, [], ◌∷◌, eqb, refl, sym, subst, ⊎_elim, arith}
+use Rattle.std.specs.Prelude.{Option, Some, None}
+use Rattle.std.proofs.lemmas.Bool.{eqb-true}
 use Rattle.vb_types.specs.declared.change.Change.{Change}
 use Rattle.vb_types.specs.declared.journal.Record.{Record}
 use Rattle.vb_types.specs.declared.journal.Record.TheVariants as noted
 use Rattle.vb_types.specs.declared.position.Position.{Position}
-use Rattle.vb_types.specs.declared.role.LogEntry.{LogEntry}
 use Rattle.vb_types.specs.declared.stream.StreamAsk.{StreamAsk}
 use Rattle.vb_types.specs.declared.stream.Verdict.TheVariants.{Continue, Roll}
-use Rattle.vb_types.specs.Histories.{IsIn, upto}
+use Rattle.vb_types.specs.Histories.{upto}
 use Rattle.vb_types.specs.Images.{image_of}
-use Rattle.branch_model.specs.Histories.{IsOf}
-use Rattle.branch_model.specs.Journals.{IsPoint, cas_of_last, complete_points, found, last_log, place_of}
+use Rattle.branch_model.specs.Journals.{IsPoint, cas_of_last, complete_points, found, place_of}
 use Rattle.branch_model.specs.Logs.{Ancestry}
 use Rattle.branch_model.specs.Requests.{effective_se, rule}
-use Rattle.branch_model.specs.Snapshots.{AllOf, IsComplete}
+use Rattle.branch_model.specs.Snapshots.{IsComplete}
 use Rattle.branch_model.specs.Trees.{Shared, hist}
-use Rattle.branch_model.proofs.Branches.{hist_grow_own, hist_here}
-use Rattle.branch_model.proofs.Following.{of_same}
-use Rattle.branch_model.proofs.Images.{plain_stands}
-use Rattle.branch_model.proofs.Lasts.{kept_in_filter}
-use Rattle.branch_model.proofs.Lists.{in_append, in_left, in_right, rises_in, upto_in}
-use Rattle.cluster_model.specs.Clusters.{Cluster, Comes, Disk, Feed, Ground, IsSpot, Linked, May, Member, Move, Stands, Told, above, adopted, appended, blank, ceded, front_or, ground, happens, loaded, made, marked_by, marked_member, member_fork, member_reach, opened, owned, promoted, put, received, rolled, spanned, spanned_by, start, yielded}
+use Rattle.cluster_model.specs.Clusters.{Cluster, Comes, Disk, Feed, Ground, Linked, May, Member, Move, Told, adopted, appended, ceded, ground, happens, loaded, marked_by, marked_member, member_reach, opened, owned, promoted, put, received, rolled, spanned, spanned_by, start, yielded}
 use Rattle.cluster_model.specs.Clusters as cluster
-use Rattle.cluster_model.proofs.Carrying.{Extends, at_le, kin_shared, upto_push}
-use Rattle.cluster_model.proofs.Fitting.{stays}
-use Rattle.cluster_model.proofs.Keeping.{all_rise, put_all, put_both}
+use Rattle.cluster_model.proofs.Carrying.{upto_push}
+use Rattle.cluster_model.proofs.Keeping.{put_all}
 use Rattle.cluster_model.proofs.Runs as runs
-use Rattle.transcript_law.proofs.invariant.Bounded.{Allows, Bounded, Reads, SoundCluster, appended_bounded, at_capped, bounded_carried, broken_bounded, front_of, put_here, reads_moved, rolled_reads, taken_bounded, turned_bounded, up_to, may_of, weighs_upto, within}
+use Rattle.transcript_law.proofs.invariant.Bounded.{Allows, Bounded, Reads, SoundCluster, appended_bounded, at_capped, broken_bounded, put_here, reads_moved, rolled_reads, taken_bounded, turned_bounded, may_of, weighs_upto}
 
 module _ (top : ℕ) (w : Cluster) (k : ℕ) (s : SoundCluster top w) where
   abbrev n : Member
@@ -40,16 +32,12 @@ module _ (top : ℕ) (w : Cluster) (k : ℕ) (s : SoundCluster top w) where
   abbrev g : Ground
   g = ground w
 
-  same : Extends top g g
-  same = stays top g (all_rise top w s.still)
-
-  -- it holds more, or is on another branch, on this ground or a later one
-  moved_bounded : (v : Ground) (e : Extends top g v) (m : Member) → AllOf m.held (hist v.tree m.br) → m.position.se ≤ top → ((p : ℕ) → p ≤ n.position.at → upto m.held p ≡ upto n.held p) → Bounded top v m d
-  moved_bounded v e m of capped below =
+  -- it holds more
+  moved_bounded : (m : Member) → m.position.se ≤ top → ((p : ℕ) → p ≤ n.position.at → upto m.held p ≡ upto n.held p) → Bounded top m d
+  moved_bounded m capped below =
       let kept = s.kept k in let b = s.bounded k in
-      let reads : (js : List Record) → Told g n.br n.held n.position n.points js → Reads top g n js → Reads top v m js =
-      λ js t r. reads_moved top g v e n m js t of (below (place_of js).at t.spot.reached) r in record {
-        of = of;
+      let reads : (js : List Record) → Told g n.br n.held n.position n.points js → Reads top n js → Reads top m js =
+      λ js t r. reads_moved top n m js (below (place_of js).at t.spot.reached) r in record {
         capped = capped;
         book = reads d.book kept.book b.book;
         late = λ r q. reads (r ∷ d.book) (kept.late r q) (b.late r q);
@@ -57,120 +45,81 @@ module _ (top : ℕ) (w : Cluster) (k : ℕ) (s : SoundCluster top w) where
         stood = b.stood;
       }
 
-  spanned_bounded : (v : Ground) (m : Member) (q : Position) → q.se ≤ top → Bounded top v m d → Bounded top v m (spanned d q)
-  spanned_bounded v m q l b = record { of = b.of; capped = b.capped; book = b.book; late = b.late; batch = b.batch; stood = λ p i. ⊎_elim (λ e. subst (λ (x : Position). x.se ≤ top) (sym e) l) (λ j. b.stood p j) i }
+  spanned_bounded : (m : Member) (q : Position) → q.se ≤ top → Bounded top m d → Bounded top m (spanned d q)
+  spanned_bounded m q l b = record { capped = b.capped; book = b.book; late = b.late; batch = b.batch; stood = λ p i. ⊎_elim (λ e. subst (λ (x : Position). x.se ≤ top) (sym e) l) (λ j. b.stood p j) i }
 
-  -- all others on a later ground
-  pub others : (v : Ground) → Extends top g v → (m : Member) (e : Disk) → Bounded top v m e → (j : ℕ) → Bounded top v (put w.nodes k m j) (put w.disks k e j)
-  others v x m e b = put_both (Bounded top v) w.nodes w.disks k m e b (λ j. bounded_carried top g v x (w.nodes j) (w.disks j) (s.stands j) (s.kept j) (s.bounded j))
-
-  -- more was received
-  more_of : (c : Change) (v : Ground) → Extends top g v → IsOf (hist v.tree n.br) c → AllOf (n.held ++ c ∷ []) (hist v.tree n.br)
-  more_of c v e o x i = ⊎_elim
-      (λ j. let p = (s.bounded k).of x j in (p.0, e.grown n.br n.position.at p.0 (s.stands k).settled p.1, p.2))
-      (λ j. ⊎_elim (λ q. subst (IsOf (hist v.tree n.br)) (sym q) o) (λ none. absurd none) j)
-      (in_append x n.held (c ∷ []) i)
-
-  received_bounded : (o : Option (List Change)) → Comes g n o → n.coming ≡ o → Bounded top g (received n o) (spanned_by d n o)
-  received_bounded None t e = s.bounded k
-  received_bounded (Some []) t e = s.bounded k
-  received_bounded (Some (c ∷ rest)) t e = ⊎_elim (λ q. let z : c ∷ rest ≡ [] = q in cc) (λ x.
+  received_bounded : (o : Option (List Change)) → Comes g n o → Bounded top (received n o) (spanned_by d n o)
+  received_bounded None t = s.bounded k
+  received_bounded (Some []) t = s.bounded k
+  received_bounded (Some (c ∷ rest)) t = ⊎_elim (λ q. let z : c ∷ rest ≡ [] = q in cc) (λ x.
       let up : n.position.at < c.seq = x.0.rises.0 in
-      spanned_bounded g (received n (Some (c ∷ rest))) (record n.position { at = c.seq }) (s.bounded k).capped
-      (moved_bounded g same (received n (Some (c ∷ rest))) (more_of c g same (x.0.of c (inl refl))) (s.bounded k).capped (λ p l. upto_push n.held c p (omega arith)))) t.1
+      spanned_bounded (received n (Some (c ∷ rest))) (record n.position { at = c.seq }) (s.bounded k).capped
+      (moved_bounded (received n (Some (c ∷ rest))) (s.bounded k).capped (λ p l. upto_push n.held c p (omega arith)))) t.1
 
-  marked_bounded : (o : Option Feed) → n.link ≡ o → Bounded top g (marked_member n o) d
+  marked_bounded : (o : Option Feed) → n.link ≡ o → Bounded top (marked_member n o) d
   marked_bounded None e = s.bounded k
   marked_bounded (Some l) e = by l.flight refl
     where
-      by : (xs : List (ℕ × List Change)) → l.flight ≡ xs → Bounded top g (marked_by n l xs) d
+      by : (xs : List (ℕ × List Change)) → l.flight ≡ xs → Bounded top (marked_by n l xs) d
       by [] q = s.bounded k
       by (x ∷ more) q =
           let linked : Linked g n n.coming (Some l) = subst (Linked g n n.coming) e (s.stands k).linked in
           let flown = subst (cluster.Flight g l.u (cluster.flight_from n n.coming)) q linked.1 in
           let low : x.0 ≤ w.tips l.u = flown.1.1 in let high = s.tips_capped l.u in
-          turned_bounded top w k s (marked_by n l (x ∷ more)) refl refl (omega arith)
+          turned_bounded top w k s (marked_by n l (x ∷ more)) refl (omega arith)
 
-  adopted_bounded : (o : Option Feed) → n.link ≡ o → n.coming ≡ None → Bounded top g (adopted n o) d
-  adopted_bounded None e none = s.bounded k
-  adopted_bounded (Some l) e none =
-      let linked : Linked g n None (Some l) = subst (λ c. Linked g n c (Some l)) none (subst (Linked g n n.coming) e (s.stands k).linked) in
-      moved_bounded g same (adopted n (Some l)) (λ y i.
-      let at : y.seq ≤ n.position.at = (rises_in 0 n.position.at n.held y (s.stands k).rises i).1 in
-      let reach = at_le n (within top w k s).1 in
-      of_same (hist w.tree n.br) (hist w.tree l.u) (member_reach n) y (kin_shared g n.br l.u (member_reach n) linked.0.0) ((s.bounded k).of y i) (omega arith))
-      (s.bounded k).capped (λ p l. refl)
+  adopted_bounded : (o : Option Feed) → Bounded top (adopted n o) d
+  adopted_bounded None = s.bounded k
+  adopted_bounded (Some l) = turned_bounded top w k s (adopted n (Some l)) refl (s.bounded k).capped
 
-  ceded_bounded : (o : Option Feed) (high : ℕ) → Bounded top g (ceded n o high) d
+  ceded_bounded : (o : Option Feed) (high : ℕ) → Bounded top (ceded n o high) d
   ceded_bounded None high = s.bounded k
-  ceded_bounded (Some l) high = turned_bounded top w k s (ceded n (Some l) high) refl refl (s.bounded k).capped
+  ceded_bounded (Some l) high = turned_bounded top w k s (ceded n (Some l) high) refl (s.bounded k).capped
 
-  sent_bounded : (o : Option Feed) (items : List Change) (end : ℕ) → Bounded top g (cluster.sent n o items end) d
+  sent_bounded : (o : Option Feed) (items : List Change) (end : ℕ) → Bounded top (cluster.sent n o items end) d
   sent_bounded None items end = s.bounded k
-  sent_bounded (Some l) items end = turned_bounded top w k s (cluster.sent n (Some l) items end) refl refl (s.bounded k).capped
+  sent_bounded (Some l) items end = turned_bounded top w k s (cluster.sent n (Some l) items end) refl (s.bounded k).capped
 
-  rolled_bounded : (to : ℕ) → IsPoint to (complete_points d.book) → Bounded top g (rolled n to) (appended d (noted.Roll to))
+  rolled_bounded : (to : ℕ) → IsPoint to (complete_points d.book) → Bounded top (rolled n to) (appended d (noted.Roll to))
   rolled_bounded to i =
-      let b = s.bounded k in
       let reads = rolled_reads top w k s to i in record {
-        of = up_to n.held (hist w.tree n.br) to b.of;
         capped = reads.capped;
-        book = record { of = up_to (upto n.held to) (hist w.tree (front_or n.br (last_log d.book))) to reads.of; capped = reads.capped; weighs = weighs_upto (cas_of_last d.book) to (upto n.held to) reads.weighs };
+        book = record { capped = reads.capped; weighs = weighs_upto (cas_of_last d.book) to (upto n.held to) reads.weighs };
         late = λ r q. cc;
         batch = λ x q. cc;
         stood = λ q j. absurd j;
       }
 
-  loaded_bounded : (js : List Record) → Reads top g n js → Bounded top g (loaded n.br n.held js) (opened js)
+  loaded_bounded : (js : List Record) → Reads top n js → Bounded top (loaded n.br n.held js) (opened js)
   loaded_bounded js r = record {
-    of = r.of;
     capped = r.capped;
-    book = record { of = subst (λ u. AllOf (upto (upto n.held (place_of js).at) (place_of js).at) (hist w.tree u)) (twice (last_log js)) (up_to (upto n.held (place_of js).at) (hist w.tree (front_or n.br (last_log js))) (place_of js).at r.of); capped = r.capped; weighs = weighs_upto (cas_of_last js) (place_of js).at (upto n.held (place_of js).at) r.weighs };
+    book = record { capped = r.capped; weighs = weighs_upto (cas_of_last js) (place_of js).at (upto n.held (place_of js).at) r.weighs };
     late = λ x q. cc;
     batch = λ x q. cc;
     stood = λ q j. absurd j;
   }
-    where
-      twice : (l : List LogEntry) → front_or n.br l ≡ front_or (front_or n.br l) l
-      twice [] = refl
-      twice (x ∷ xs) = refl
 
-  found_reads : (o : Option Record) → d.late ≡ o → (stood : Bool) → Reads top g n (found d.book o stood)
+  found_reads : (o : Option Record) → d.late ≡ o → (stood : Bool) → Reads top n (found d.book o stood)
   found_reads None e stood = (s.bounded k).book
   found_reads (Some r) e true = (s.bounded k).late r e
   found_reads (Some r) e false = (s.bounded k).book
-
-  promoted_of : (id : ℕ) → AllOf n.held (hist (made n id ∷ w.tree) id)
-  promoted_of id x i = subst (λ h. IsOf h x) (sym (hist_here (made n id) w.tree id refl)) (⊎_elim
-      (λ up. (x, in_right x (upto (hist w.tree (front_or n.br n.log)) (member_fork n)) (above n.held (member_fork n)) (kept_in_filter (λ c. nat_lt (member_fork n) c.seq) x n.held i (lt-ltb (member_fork n) x.seq up)), inl refl))
-      (λ down. let o = front_of top w k s n.log refl x i in
-      let level : x.seq ≡ o.0.seq = ap (λ (y : Change). y.seq) (plain_stands x o.0 o.2) in
-      (o.0, in_left o.0 (upto (hist w.tree (front_or n.br n.log)) (member_fork n)) (above n.held (member_fork n)) (upto_in o.0 (hist w.tree (front_or n.br n.log)) (member_fork n) o.1 (omega arith)), o.2))
-      (cases_lt (member_fork n) x.seq))
 
   tips_put : (u m : ℕ) → m ≤ top → (x : ℕ) → put w.tips u m x ≤ top
   tips_put u m l = put_all (λ t. t ≤ top) w.tips u m l s.tips_capped
 
 -- what a move makes of them
-moves : (top : ℕ) (w : Cluster) (e : Move) → (s : SoundCluster top w) → Allows top w e → (j : ℕ) → Bounded top (ground (happens w e)) ((happens w e).nodes j) ((happens w e).disks j)
+moves : (top : ℕ) (w : Cluster) (e : Move) → (s : SoundCluster top w) → Allows top w e → (j : ℕ) → Bounded top ((happens w e).nodes j) ((happens w e).disks j)
 moves top w (Move.Own k c) s m =
     let n = w.nodes k in
-    let lead = s.leads k m.0 in
-    let next : c.seq ≡ n.position.at + 1 = m.1 in let tip : n.position.at ≡ w.tips n.br = lead.tip in
-    let e = runs.extends_by top w (Move.Own k c) s.still m in
-    let found = (s.stands k).settled.0 in
-    let v : Ground = ground (happens w (Move.Own k c)) in
-    let longer : hist v.tree n.br ≡ hist w.tree n.br ++ c ∷ [] = hist_grow_own w.tree n.br c found.0 found.1 (let l : found.0.fork ≤ w.tips n.br = s.floors n.br found.0 found.1 in omega arith) in
-    let is : IsOf (hist v.tree n.br) c = (c, subst (IsIn c) (sym longer) (in_right c (hist w.tree n.br) (c ∷ []) (inl refl)), inl refl) in
-    others top w k s v e (owned n c) (spanned (w.disks k) (owned n c).position)
-    (spanned_bounded top w k s v (owned n c) (owned n c).position m.2
-    (moved_bounded top w k s v e (owned n c) (more_of top w k s c v e is) m.2 (λ p l. upto_push n.held c p (omega arith))))
-moves top w (Move.Grant k p) s m = put_here top w k s (cluster.answered (w.nodes k) (w.nodes p)) (w.disks k) (turned_bounded top w k s (cluster.answered (w.nodes k) (w.nodes p)) refl refl (s.bounded k).capped)
+    let next : c.seq ≡ n.position.at + 1 = m.1 in
+    put_here top w k s (owned n c) (spanned (w.disks k) (owned n c).position)
+    (spanned_bounded top w k s (owned n c) (owned n c).position m.2 (moved_bounded top w k s (owned n c) m.2 (λ p l. upto_push n.held c p (omega arith))))
+moves top w (Move.Grant k p) s m = put_here top w k s (cluster.answered (w.nodes k) (w.nodes p)) (w.disks k) (turned_bounded top w k s (cluster.answered (w.nodes k) (w.nodes p)) refl (s.bounded k).capped)
 moves top w (Move.Send k p items end) s m = put_here top w k s (cluster.sent (w.nodes k) (w.nodes k).link items end) (w.disks k) (sent_bounded top w k s (w.nodes k).link items end)
-moves top w (Move.Adopt k) s m = put_here top w k s (adopted (w.nodes k) (w.nodes k).link) (w.disks k) (adopted_bounded top w k s (w.nodes k).link refl m.1)
+moves top w (Move.Adopt k) s m = put_here top w k s (adopted (w.nodes k) (w.nodes k).link) (w.disks k) (adopted_bounded top w k s (w.nodes k).link)
 moves top w (Move.Marker k) s m = put_here top w k s (marked_member (w.nodes k) (w.nodes k).link) (w.disks k) (marked_bounded top w k s (w.nodes k).link refl)
-moves top w (Move.Receive k) s m = put_here top w k s (received (w.nodes k) (w.nodes k).coming) (spanned_by (w.disks k) (w.nodes k) (w.nodes k).coming) (received_bounded top w k s (w.nodes k).coming (s.stands k).comes refl)
-moves top w (Move.Cut k) s m = put_here top w k s (cluster.cut (w.nodes k)) (w.disks k) (turned_bounded top w k s (cluster.cut (w.nodes k)) refl refl (s.bounded k).capped)
+moves top w (Move.Receive k) s m = put_here top w k s (received (w.nodes k) (w.nodes k).coming) (spanned_by (w.disks k) (w.nodes k) (w.nodes k).coming) (received_bounded top w k s (w.nodes k).coming (s.stands k).comes)
+moves top w (Move.Cut k) s m = put_here top w k s (cluster.cut (w.nodes k)) (w.disks k) (turned_bounded top w k s (cluster.cut (w.nodes k)) refl (s.bounded k).capped)
 moves top w (Move.Take k position cas items) s m =
     put_here top w k s (w.nodes k) (record (w.disks k) { batch = Some (record { position = position; cas = cas; log = (w.nodes k).log; items = items }) }) (taken_bounded top w k s position cas items m.0.0 m.1)
 moves top w (Move.Append k r) s m = put_here top w k s (w.nodes k) (appended (w.disks k) r) (appended_bounded top w k s r m)
@@ -179,27 +128,23 @@ moves top w (Move.Break k r) s m = put_here top w k s (w.nodes k) (record (w.dis
 moves top w (Move.Crash k stood) s m =
     let js = found (w.disks k).book (w.disks k).late stood in
     put_here top w k s (loaded (w.nodes k).br (w.nodes k).held js) (opened js) (loaded_bounded top w k s js (found_reads top w k s (w.disks k).late refl stood))
-moves top w (Move.Promote k id) s m =
-    let n = w.nodes k in
-    let v : Ground = ground (happens w (Move.Promote k id)) in
-    let e = runs.extends_by top w (Move.Promote k id) s.still m in
-    others top w k s v e (promoted n id) (w.disks k) (moved_bounded top w k s v e (promoted n id) (promoted_of top w k s id) m.2 (λ p l. refl))
-moves top w (Move.Yield k) s m = put_here top w k s (yielded (w.nodes k)) (w.disks k) (turned_bounded top w k s (yielded (w.nodes k)) refl refl (s.bounded k).capped)
+moves top w (Move.Promote k id) s m = put_here top w k s (promoted (w.nodes k) id) (w.disks k) (turned_bounded top w k s (promoted (w.nodes k) id) refl m.2)
+moves top w (Move.Yield k) s m = put_here top w k s (yielded (w.nodes k)) (w.disks k) (turned_bounded top w k s (yielded (w.nodes k)) refl (s.bounded k).capped)
 moves top w (Move.Cede k p) s m = λ j. ceded_case j
   where
     -- the producer rests, and the consumer is given its branch
-    rests : (j : ℕ) → Bounded top (ground w) (put w.nodes p (yielded (w.nodes p)) j) (w.disks j)
-    rests j = elim (eqb j p) as (λ b. eqb j p ≡ b → Bounded top (ground w) (cond b (yielded (w.nodes p)) (w.nodes j)) (w.disks j)) [
-      | true ↦ λ e. subst (λ x. Bounded top (ground w) (yielded (w.nodes p)) (w.disks x)) (sym (eqb-true j p e)) (turned_bounded top w p s (yielded (w.nodes p)) refl refl (s.bounded p).capped)
+    rests : (j : ℕ) → Bounded top (put w.nodes p (yielded (w.nodes p)) j) (w.disks j)
+    rests j = elim (eqb j p) as (λ b. eqb j p ≡ b → Bounded top (cond b (yielded (w.nodes p)) (w.nodes j)) (w.disks j)) [
+      | true ↦ λ e. subst (λ x. Bounded top (yielded (w.nodes p)) (w.disks x)) (sym (eqb-true j p e)) (turned_bounded top w p s (yielded (w.nodes p)) refl (s.bounded p).capped)
       | false ↦ λ e. s.bounded j
     ] refl
 
-    ceded_case : (j : ℕ) → Bounded top (ground w) (put (put w.nodes p (yielded (w.nodes p))) k (ceded (w.nodes k) (w.nodes k).link (w.nodes p).position.at) j) (w.disks j)
-    ceded_case j = elim (eqb j k) as (λ b. eqb j k ≡ b → Bounded top (ground w) (cond b (ceded (w.nodes k) (w.nodes k).link (w.nodes p).position.at) (put w.nodes p (yielded (w.nodes p)) j)) (w.disks j)) [
-      | true ↦ λ e. subst (λ x. Bounded top (ground w) (ceded (w.nodes k) (w.nodes k).link (w.nodes p).position.at) (w.disks x)) (sym (eqb-true j k e)) (ceded_bounded top w k s (w.nodes k).link (w.nodes p).position.at)
+    ceded_case : (j : ℕ) → Bounded top (put (put w.nodes p (yielded (w.nodes p))) k (ceded (w.nodes k) (w.nodes k).link (w.nodes p).position.at) j) (w.disks j)
+    ceded_case j = elim (eqb j k) as (λ b. eqb j k ≡ b → Bounded top (cond b (ceded (w.nodes k) (w.nodes k).link (w.nodes p).position.at) (put w.nodes p (yielded (w.nodes p)) j)) (w.disks j)) [
+      | true ↦ λ e. subst (λ x. Bounded top (ceded (w.nodes k) (w.nodes k).link (w.nodes p).position.at) (w.disks x)) (sym (eqb-true j k e)) (ceded_bounded top w k s (w.nodes k).link (w.nodes p).position.at)
       | false ↦ λ e. rests j
     ] refl
-moves top w (Move.Rise k) s m = put_here top w k s (cluster.risen (w.nodes k)) (w.disks k) (turned_bounded top w k s (cluster.risen (w.nodes k)) refl refl (at_capped top w k s))
+moves top w (Move.Rise k) s m = put_here top w k s (cluster.risen (w.nodes k)) (w.disks k) (turned_bounded top w k s (cluster.risen (w.nodes k)) refl (at_capped top w k s))
 
 tips_moved : (top : ℕ) (w : Cluster) (e : Move) → (s : SoundCluster top w) → May top w e → (u : ℕ) → (happens w e).tips u ≤ top
 tips_moved top w (Move.Own k c) s m = tips_put top w k s (w.nodes k).br c.seq m.2
@@ -223,13 +168,13 @@ pub keeps : (top : ℕ) (w : Cluster) (e : Move) → SoundCluster top w → Allo
 keeps top w e s m = let may = may_of top w e m in record { still = runs.keeps top w e s.still may; bounded = moves top w e s m; tips_capped = tips_moved top w e s may }
 
 -- as it starts
-start_reads : (top : ℕ) → Reads top (ground start) cluster.fresh []
-start_reads top = record { of = λ x i. absurd i; capped = omega arith; weighs = λ x i. absurd i }
+start_reads : (top : ℕ) → Reads top cluster.fresh []
+start_reads top = record { capped = omega arith; weighs = λ x i. absurd i }
 
 pub start_sound : (top : ℕ) → SoundCluster top start
 start_sound top = record {
   still = runs.start_sound top;
-  bounded = λ k. record { of = λ x i. absurd i; capped = omega arith; book = start_reads top; late = λ r q. cc; batch = λ x q. cc; stood = λ q i. absurd i };
+  bounded = λ k. record { capped = omega arith; book = start_reads top; late = λ r q. cc; batch = λ x q. cc; stood = λ q i. absurd i };
   tips_capped = λ u. omega arith;
 }
 

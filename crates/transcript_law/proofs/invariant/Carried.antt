@@ -4,12 +4,13 @@ use Rattle.transcript_law.proofs.Words.{ℕ, Bool, true, false, List, refl, ap, 
 use Rattle.transcript_law.proofs.Words.{Plain, is_active, is_follower, stream_at, Sound, row_at, row_put, PlainStream, PlainLink, link_number, producer_node, consumer_node, PlainWorld, is_one_of, Granted, Chronicle}
 use Rattle.transcript_law.proofs.{Words.{Branch, Covers, PlainProducer, PlainConsumer, Begun, item_of_change, map, drop, take, after_end, if◌then◌else◌, eq-eqb, ne_eqb, []}, invariant.Seats.{seat, seat_one}, invariant.Trees.{IsTold}}
 use Rattle.transcript_law.proofs.Words.{HoldsAt}
-use Rattle.transcript_law.proofs.invariant.Wholes.{WholeTo}
-use Rattle.transcript_law.proofs.invariant.Agreement.{AckedIs, Keeps, VbTold, own_history, vb_of, ChangeFits, BranchAgrees, CountsIf, WritesIf, VbAgrees, IsAway, AgreesAt, RestsIn, IsLow, kept_stream, spoken, Streaming, Talk, consumer_seat, producer_seat, LinkAgrees, IsLink, Differ, LinksDiffer}
+use Rattle.transcript_law.proofs.{invariant.Lefts.{LeftUpTo}, invariant.Wholes.{WholeTo}}
+use Rattle.transcript_law.proofs.invariant.Agreement.{TimesIf, AckedIs, Keeps, VbTold, own_history, vb_of, ChangeFits, BranchAgrees, CountsIf, WritesIf, VbAgrees, IsAway, AgreesAt, RestsIn, IsLow, kept_stream, spoken, Streaming, Talk, consumer_seat, producer_seat, LinkAgrees, IsLink, Differ, LinksDiffer}
 use Rattle.transcript_law.proofs.{invariant.Agreement.{DiskIsIf, shelf_of, top, Busy, AgreesIn, BranchesAgree, Wants, wants_of, EndsStand, Open, BegunAgrees, items_frames, VbRow, vb_row, vb_contents, VbHeld, idle, DialAgrees}, invariant.Carrying.{SameEnds}}
 use Rattle.transcript_law.proofs.{invariant.Carrying.{ToldOf, TakenOf, FedMember, FeedChanged, BusyBut, StreamsChanged}, invariant.LinkRows.{found_is_link, links_apart, put_links, differ_put}, invariant.Tables.{id_there, ended_there}}
-use Rattle.{dcp_producer.specs.Producers.{Rising}, transcript_law.proofs.invariant.OpenStreams.{AreKept}, transcript_law.proofs.invariant.ClientsKept.{ConnsKept, Every, FedAreThere, IsFree, clients_kept, fed_there}, transcript_law.proofs.invariant.LinkFeeds.{feeds_put}, transcript_law.specs.Feeding.{HasFed, HasOpen, IsOpenAt}, vb_events.specs.declared.event.StreamName.TheVariants.{Link}, vb_types.specs.declared.role.Role.TheVariants.{Active}}
+use Rattle.{dcp_producer.specs.Producers.{Rising}, transcript_law.proofs.invariant.OpenStreams.{AreKept}, transcript_law.proofs.invariant.ClientsKept.{ConnsKept, Every, FedAreThere, IsFree, clients_kept, fed_there, fewer_streams}, transcript_law.proofs.invariant.LinkFeeds.{feeds_put}, transcript_law.proofs.invariant.Owing.{Fewer, Owed}, transcript_law.specs.Feeding.{HasFed, HasOpen, IsOpenAt}, vb_events.specs.declared.event.StreamName.TheVariants.{Link}, vb_types.specs.declared.role.Role.TheVariants.{Active}}
 pub use Rattle.std.proofs.lemmas.Bool.{cases_eq as numbers}
+use Rattle.transcript_law.proofs.invariant.Owing.{later_same}
 
 -- one place or another
 pub places : (n v m q : ℕ) → ((m ≡ n) × (q ≡ v)) ⊎ (m ≡ n → q ≡ v → ⊥)
@@ -34,11 +35,12 @@ branches_again {known} {told' = told'} {ids' = ids'} same same_told free a = sub
 
 -- lines that tell nothing of what all agrees on
 pub told_of_same : (l : ℕ) (r : Chronicle) → ToldOf l r r
-told_of_same l r = record { tree = refl; writer_of = λ u. refl; rows = λ n v. refl; arms = λ n. refl; clients = λ n c. refl; dials = λ j ne. refl; streams = λ k q ne. refl; points = λ k ne. refl }
+told_of_same l r = record { last = later_same _ _ refl refl; tree = refl; writer_of = λ u. refl; rows = λ n v. refl; arms = λ n. refl; clients = λ n c. refl; dials = λ j ne. refl; streams = λ k q ne. refl; points = λ k ne. refl }
 
 -- the end of a link tells of that link
 pub stream_end_lines : (r : Chronicle) (l : ℕ) → ToldOf l r (after_end r l)
 stream_end_lines r l = record {
+  last = later_same _ _ refl refl;
   tree = refl;
   writer_of = λ u. refl;
   rows = λ n v. refl;
@@ -95,16 +97,17 @@ disks_all k c c' f j = ⊎_elim (λ e. subst (λ x. c'.disks x ≡ c.disks x) (s
 pub fed_all : (k : ℕ) (c c' : Cluster) → FeedChanged k c c' → (j : ℕ) → FedMember (c.nodes j) (c'.nodes j)
 fed_all k c c' f j = ⊎_elim (λ e. subst (λ x. FedMember (c.nodes x) (c'.nodes x)) (sym e) f.fed) (λ ne. subst (λ x. FedMember (c.nodes j) x) (sym (f.changed.others j ne)) (fed_same (c.nodes j))) (numbers j k)
 
--- a vBucket's parts that its links speak of
+-- a vBucket's parts that its links speak of; and it owes no more
 pub record KeptVb (vb vb' : Plain) : Type 0 where
   pub role : vb'.role ≡ vb.role
   pub wants : wants_of vb' ≡ wants_of vb
+  pub fewer : Fewer (Some vb) (Some vb')
 
 pub kept_same : (vb : Plain) → KeptVb vb vb
-kept_same vb = record { role = refl; wants = refl }
+kept_same vb = record { role = refl; wants = refl; fewer = λ x p o. o }
 
 pub kept_streams : (id : ℕ) (vb vb' : Plain) → StreamsChanged id vb vb' → KeptVb vb vb'
-kept_streams id vb vb' c = record { role = ap (λ (p : Plain). p.role) c.alone; wants = ap wants_of c.alone }
+kept_streams id vb vb' c = record { role = ap (λ (p : Plain). p.role) c.alone; wants = ap wants_of c.alone; fewer = fewer_streams id vb vb' c }
 
 -- what the lines tell of a vBucket is the same
 pub record ToldAt (r r' : Chronicle) (n v : ℕ) : Type 0 where
@@ -138,12 +141,14 @@ module _ (r r' : Chronicle) (n v : ℕ) (m m' : Member) (told : ToldAt r r' n v)
       told = subst (λ h. VbTold (vb_contents r n v) h vb.log vb.position) (sym fed.held) a.told;
       member = record { active = fed.active ∙ a.member.active; position = fed.position ∙ a.member.position; log = fed.log ∙ a.member.log };
       branch = subst (BranchAgrees (r.branch_at n v)) (sym fed.br) a.branch;
-      holds = subst (λ h. HoldsAt vb.floor (WholeTo vb.floor vb.spans vb.position) h (own_history r n v)) (sym fed.held) a.holds;
+      holds = subst (λ h. HoldsAt 0 (WholeTo vb.floor vb.spans vb.position) h (own_history r n v)) (sym fed.held) a.holds;
     }));
     role = ap (λ (t : VbRow). t.role) told.row ∙ a.role;
     opened = ap (λ (t : VbRow). t.opened) told.row ∙ a.opened;
     writes = writes_carried (is_active vb.role) a.writes;
     counts = subst (λ (t : VbRow). CountsIf (is_active vb.role) t.counts vb.others vb.acks) (sym told.row) a.counts;
+    lefts = subst (λ (t : VbRow). is_active vb.role ≡ true → LeftUpTo t.counts.risen vb.position.at vb.waiting) (sym told.row) a.lefts;
+    times = subst (λ (t : VbRow). TimesIf (is_active vb.role) t.counts.times vb.waiting) (sym told.row) a.times;
   }
 
   pub vb_carried : (id : ℕ) (vb vb' : Plain) → StreamsChanged id vb vb' → VbAgrees r n v m vb → VbAgrees r' n v m' vb'
@@ -357,8 +362,8 @@ pub carried : (busy busy' : Busy) (w w' : PlainWorld) (r r' : Chronicle) (c c' :
     → ((x : PlainLink) → IsLink x w.links → Differ link x → LinkAgrees w' r' c' x (busy (link_number x)).0 (busy (link_number x)).1)
     → ((y : PlainLink) → IsLink y w.links → Differ link y → (v id : ℕ) → HasOpen v id link'.server.streams → HasOpen v id y.server.streams → producer_node link ≡ producer_node y → ⊥)
     → ConnsKept Every w w' r r' → ((v id : ℕ) → HasOpen v id link'.server.streams → HasOpen v id link.server.streams ⊎ IsFree id (vb_of w (producer_node link) v))
-    → RestsIn w' r' c' → LinkAgrees w' r' c' link' (busy' l).0 (busy' l).1 → AgreesIn busy' w' r' c'
-carried busy busy' w w' r r' c c' l link link' a found same vbs disks ctree rtree uuids links sound but others streams conns few rests agrees = record {
+    → RestsIn w' r' c' → LinkAgrees w' r' c' link' (busy' l).0 (busy' l).1 → Owed w' r' → AgreesIn busy' w' r' c'
+carried busy busy' w w' r r' c c' l link link' a found same vbs disks ctree rtree uuids links sound but others streams conns few rests agrees owed = record {
   sound = sound;
   vbs = vbs;
   disks = disks;
@@ -367,7 +372,7 @@ carried busy busy' w w' r r' c c' l link link' a found same vbs disks ctree rtre
   links = λ x i. each x (subst (IsLink x) links i);
   differ = subst LinksDiffer (sym links)
       (differ_put l w.links link link' number a.differ (λ y i ne. let d = apart y i ne in differ_ends link link' y same d (streams y i d)) found);
-  clients = clients_kept w w' r r' l a.clients (all_there busy w r c a) conns (feeds_put w w' l link link' a.differ found same links few);
+  clients = clients_kept w w' r r' l a.clients (all_there busy w r c a) conns (feeds_put w w' l link link' a.differ found same links few) owed;
 }
   where
     is_link : IsLink link w.links × (link_number link ≡ l)

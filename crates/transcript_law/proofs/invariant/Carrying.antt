@@ -2,10 +2,11 @@
 use Rattle.std.specs.Prelude.{◌≡◌, ◌⊎◌}
 use Rattle.transcript_law.proofs.Words.{ℕ, List, Option, Some, None, Plain, stream_at, Sound, row_at, row_put, row_out, Member, Cluster, PlainLink, link_number, producer_node, PlainWorld, Dial}
 use Rattle.{disk_journals.specs.Books.{Book}, node_world.specs.declared.arm.Arm.{Arm}, std.specs.Prelude.{option_map}}
-use Rattle.transcript_law.proofs.{Words.{Chronicle}, invariant.Agreement.{Power, vb_of, power_of, shelf_of, IsLink, LinksDiffer, Busy, vb_row}}
+use Rattle.transcript_law.proofs.{Words.{Chronicle}, invariant.Agreement.{node_known, Power, vb_of, power_of, shelf_of, IsLink, LinksDiffer, Busy, vb_row}}
 use Rattle.transcript_law.proofs.disks.Disks.{beside_clients, beside_in, beside_power}
 use Rattle.transcript_law.specs.Feeding.{HasOpen, client_in}
 use Rattle.vb_events.specs.declared.event.StreamName.TheVariants.{Link}
+use Rattle.transcript_law.proofs.invariant.Owing.{Later}
 
 -- a link is between the ends that it was between
 pub record SameEnds (before after : PlainLink) : Type 0 where
@@ -41,6 +42,17 @@ SameOffs w w' = (m : ℕ) → off_of (power_of w' m) ≡ off_of (power_of w m)
 pub record Rearmed (w w' : PlainWorld) (n : ℕ) (power : Power) (arm : Arm) : Type 0 where
   pub before : power_of w n ≡ Some power
   pub armed : power_of w' n ≡ Some (record power { arm = arm })
+  pub others : (m : ℕ) → (m ≡ n → ⊥) → power_of w' m ≡ power_of w m
+  pub vbs : (m v : ℕ) → vb_of w' m v ≡ vb_of w m v
+  pub shelves : (m v : ℕ) → shelf_of w' m v ≡ shelf_of w m v
+  pub clients : SameClients w w'
+  pub uuids : w'.uuids ≡ w.uuids
+  pub linked : w'.links ≡ w.links
+
+-- the world in which the clock of the node n shows this
+pub record Reclocked (w w' : PlainWorld) (n : ℕ) (power : Power) (nanos : ℕ) : Type 0 where
+  pub before : power_of w n ≡ Some power
+  pub shows : power_of w' n ≡ Some (record power { clock = nanos })
   pub others : (m : ℕ) → (m ≡ n → ⊥) → power_of w' m ≡ power_of w m
   pub vbs : (m v : ℕ) → vb_of w' m v ≡ vb_of w m v
   pub shelves : (m v : ℕ) → shelf_of w' m v ≡ shelf_of w m v
@@ -88,10 +100,11 @@ Became w w' n v vb l link = Changed w w' n v vb (row_put link_number l link w.li
 
 -- lines that tell of the link l and its stream at most
 pub record ToldOf (l : ℕ) (r r' : Chronicle) : Type 0 where
+  pub last : Later r r'
   pub tree : r'.tree ≡ r.tree
   pub writer_of : (u : ℕ) → r'.writer_of u ≡ r.writer_of u
   pub rows : (n v : ℕ) → vb_row r' n v ≡ vb_row r n v
-  pub arms : (n : ℕ) → r'.arm_at n ≡ r.arm_at n
+  pub arms : (n : ℕ) → node_known r' n ≡ node_known r n
   pub clients : (n c : ℕ) → r'.clients_at n c ≡ r.clients_at n c
   pub dials : (k : ℕ) → (k ≡ l → ⊥) → r'.dial_of k ≡ r.dial_of k
   pub streams : (k q : ℕ) → (k ≡ l → ⊥) → r'.stream_of (Link k) q ≡ r.stream_of (Link k) q
@@ -104,6 +117,7 @@ IsApart n v (Some dial) = dial.node ≡ n → dial.vb ≡ v → ⊥
 
 -- lines that tell of the link l and its stream, and of what the vBucket v of the node n, which it feeds, holds and of its log, at most
 pub record TakenOf (l n v : ℕ) (r r' : Chronicle) : Type 0 where
+  pub last : Later r r'
   pub tree : r'.tree ≡ r.tree
   pub writer_of : (u : ℕ) → r'.writer_of u ≡ r.writer_of u
   pub rows : (m q : ℕ) → (m ≡ n → q ≡ v → ⊥) → vb_row r' m q ≡ vb_row r m q

@@ -21,7 +21,7 @@ use Rattle.transcript_law.proofs.lines.{Calm.{either}, LinkLines.{peer_mute}, Se
 use Rattle.transcript_law.proofs.verbs.AdminLines.{flush_mute, role_mute, settled_mute}
 use Rattle.transcript_law.proofs.verbs.NodeLines.{on_link_by, on_made_by, on_node_by}
 use Rattle.transcript_law.specs.Chronicles.{Conns, conns_lines, with_at}
-use Rattle.transcript_law.specs.Clients.{AllClosed}
+use Rattle.transcript_law.specs.{Clients.{AllClosed}, Feeding.{client_in}}
 use Rattle.vb_calls.specs.declared.calls.Resolved.{Resolved}
 use Rattle.vb_disk.specs.declared.made.Outcome.{Outcome as Left}
 use Rattle.vb_types.specs.declared.journal.FlushPart.{FlushPart}
@@ -54,6 +54,22 @@ came conns o g = (all_heard conns o.1.events g.0, g.1)
 
 pub told_at : (w : PlainWorld) (conns : Conns) (n : ℕ) (node : PlainNode) → w.nodes n ≡ Some node → ConnsAre w conns → NodeTold (conns n) n node
 told_at w conns n node e are = subst (NodeToldIf (conns n) n) e (are n)
+
+-- one that is not there is not told open
+pub shut_then : (w : PlainWorld) (conns : Conns) (n c : ℕ) → ConnsAre w conns → client_in (w.nodes n) c ≡ None → conns n c ≡ false
+shut_then w conns n c are none = by (w.nodes n) (are n) none
+  where
+    by : (o : Option PlainNode) → NodeToldIf (conns n) n o → client_in o c ≡ None → conns n c ≡ false
+    by None closed e = closed c
+    by (Some node) told e = told.told c ∙ ap is_some e
+
+-- and one that is there is
+pub open_then : (w : PlainWorld) (conns : Conns) (n c : ℕ) → ConnsAre w conns → (client : PlainClient) → client_in (w.nodes n) c ≡ Some client → conns n c ≡ true
+open_then w conns n c are client is = by (w.nodes n) (are n) is
+  where
+    by : (o : Option PlainNode) → NodeToldIf (conns n) n o → client_in o c ≡ Some client → conns n c ≡ true
+    by None closed e = let z : None ≡ Some client = e in absurd cc
+    by (Some node) told e = told.told c ∙ ap is_some e
 
 -- a node is put
 pub put_node : (w : PlainWorld) (conns conns' : Conns) (n : ℕ) (node : PlainNode) → ConnsAre w conns → NodeTold (conns' n) n node → ((m : ℕ) → (m ≡ n → ⊥) → conns' m ≡ conns m) → ConnsAre (with_node_at w n node) conns'

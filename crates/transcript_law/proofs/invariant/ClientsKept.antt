@@ -8,6 +8,7 @@ use Rattle.transcript_law.proofs.invariant.ClientsTold.{AskingIs, BegunIs, Clien
 use Rattle.transcript_law.proofs.invariant.Agreement.{AgreesAt, VbAgrees, VbRow, Writes, WritesIf, vb_of, vb_row}
 use Rattle.transcript_law.proofs.invariant.Carrying.{Changed, SameClients, StreamsChanged, same_clients}
 use Rattle.transcript_law.proofs.invariant.OpenStreams.{Among, at_among}
+use Rattle.transcript_law.proofs.invariant.Owed.{Fewer, Owed, fewer_same, fewer_some, owed_kept}
 use Rattle.transcript_law.specs.ClientFrames.{is_closed_by, setup_after}
 use Rattle.transcript_law.specs.ClientStreams.{stream_view, view}
 use Rattle.std.proofs.lemmas.Bool.{cases_eq}
@@ -16,6 +17,7 @@ use Rattle.transcript_law.specs.LawfulClients.{IsSentOf}
 use Rattle.transcript_law.specs.StreamsTold.{ClientKnown, ClientStream}
 use Rattle.vb_events.specs.declared.event.StreamName.{StreamName}
 use Rattle.vb_events.specs.declared.event.StreamName.TheVariants as name
+use Rattle.transcript_law.proofs.invariant.Owing.{Later}
 
 -- what an open stream of a client at a vBucket stands on: the branches, the vBucket's branch, the changes that it holds, and the vBucket
 pub record Spot : Type 0 where
@@ -265,10 +267,11 @@ AllBut n c m d = m ≡ n → d ≡ c → ⊥
 
 -- a step that leaves all of them alone; a link may have new streams
 pub clients_kept : (w w' : PlainWorld) (r r' : Chronicle) (l : ℕ) → ClientsTold w r → FedAreThere w → ConnsKept Every w w' r r'
-    → ((k n v id : ℕ) → HasFed w' (name.Link k) n v id → HasFed w (name.Link k) n v id ⊎ ((k ≡ l) × IsFree id (vb_of w n v))) → ClientsTold w' r'
-clients_kept w w' r r' l told there kept links = record {
+    → ((k n v id : ℕ) → HasFed w' (name.Link k) n v id → HasFed w (name.Link k) n v id ⊎ ((k ≡ l) × IsFree id (vb_of w n v))) → Owed w' r' → ClientsTold w' r'
+clients_kept w w' r r' l told there kept links owed = record {
   each = λ n c client is. agrees_kept Every w w' r r' told kept n c client tt is;
   apart = apart_over (name.Link l) w w' there new told.apart;
+  owed = owed;
 }
   where
     new : FewNew (name.Link l) w w'
@@ -277,11 +280,12 @@ clients_kept w w' r r' l told there kept links = record {
 
 -- a step of the client c of the node n, which leaves the others alone; it may have new streams
 pub clients_one : (w w' : PlainWorld) (r r' : Chronicle) (n c : ℕ) → ClientsTold w r → FedAreThere w → ConnsKept (AllBut n c) w w' r r' → ((l m v id : ℕ) → HasFed w' (name.Link l) m v id → HasFed w (name.Link l) m v id)
-    → ((client : PlainClient) → client_in (w'.nodes n) c ≡ Some client → ClientAgrees w' r' n c client) → ((v id : ℕ) → IsOfClient w' n c v id → IsOfClient w n c v id ⊎ IsFree id (vb_of w n v)) → ClientsTold w' r'
-clients_one w w' r r' n c told there kept links own few = record {
+    → ((client : PlainClient) → client_in (w'.nodes n) c ≡ Some client → ClientAgrees w' r' n c client) → ((v id : ℕ) → IsOfClient w' n c v id → IsOfClient w n c v id ⊎ IsFree id (vb_of w n v)) → Owed w' r' → ClientsTold w' r'
+clients_one w w' r r' n c told there kept links own few owed = record {
   each = λ m d client is. ⊎_elim (λ s. subst (λ k. ClientAgrees w' r' k d client) (sym s.0) (subst (λ k. ClientAgrees w' r' n k client) (sym s.1) (own client (ap (λ k. client_in (w'.nodes k) c) (sym s.0) ∙ ap (client_in (w'.nodes m)) (sym s.1) ∙ is))))
       (λ o. agrees_kept (AllBut n c) w w' r r' told kept m d client o is) (is_it m d);
   apart = apart_over (name.Client n c) w w' there new told.apart;
+  owed = owed;
 }
   where
     is_it : (m d : ℕ) → ((m ≡ n) × (d ≡ c)) ⊎ AllBut n c m d
@@ -304,10 +308,11 @@ abbrev pub OfOthers : ℕ → ℕ → ℕ → Type 0
 OfOthers n m c = m ≡ n → ⊥
 
 pub clients_gone : (w w' : PlainWorld) (r r' : Chronicle) (n : ℕ) → ClientsTold w r → FedAreThere w → ConnsKept (OfOthers n) w w' r r' → ((c : ℕ) → client_in (w'.nodes n) c ≡ None)
-    → ((l m v id : ℕ) → HasFed w' (name.Link l) m v id → HasFed w (name.Link l) m v id) → ClientsTold w' r'
-clients_gone w w' r r' n told there kept none links = record {
+    → ((l m v id : ℕ) → HasFed w' (name.Link l) m v id → HasFed w (name.Link l) m v id) → Owed w' r' → ClientsTold w' r'
+clients_gone w w' r r' n told there kept none links owed = record {
   each = λ m c client is. agrees_kept (OfOthers n) w w' r r' told kept m c client (off m c client is) is;
   apart = apart_over (name.Link 0) w w' there new told.apart;
+  owed = owed;
 }
   where
     off : (m c : ℕ) (client : PlainClient) → client_in (w'.nodes m) c ≡ Some client → m ≡ n → ⊥
@@ -316,6 +321,43 @@ clients_gone w w' r r' n told there kept none links = record {
     new : FewNew (name.Link 0) w w'
     new (name.Link k) m v id has = inl (links k m v id has)
     new (name.Client k c) m v id has = let (client, is, opens) = has.1 in inl (had_before (OfOthers n) w w' r r' told kept k c m v id (off m c client is) has)
+
+-- ---- what is owed to them
+
+-- where no vBucket owes more, and as much is known of the last line
+pub every_owed : (w w' : PlainWorld) (r r' : Chronicle) → ConnsKept Every w w' r r' → Later r r' → ((n v : ℕ) → Fewer (vb_of w n v) (vb_of w' n v)) → Owed w r → Owed w' r'
+every_owed w w' r r' kept last fewer = owed_kept w w' r r' (record {
+  later = last;
+  fewer = fewer;
+  conns = λ n c client' is. (client', sym (kept.conns n c tt) ∙ is, refl, ap (λ (k : ClientKnown). k.asking) (kept.known n c tt));
+})
+
+-- also where a node has no clients any more
+pub others_owed : (w w' : PlainWorld) (r r' : Chronicle) (n : ℕ) → ConnsKept (OfOthers n) w w' r r' → ((c : ℕ) → client_in (w'.nodes n) c ≡ None) → Later r r' → ((m v : ℕ) → Fewer (vb_of w m v) (vb_of w' m v)) → Owed w r → Owed w' r'
+others_owed w w' r r' n kept none last fewer = owed_kept w w' r r' (record {
+  later = last;
+  fewer = fewer;
+  conns = λ m c client' is. let ne = off m c client' is in (client', sym (kept.conns m c ne) ∙ is, refl, ap (λ (k : ClientKnown). k.asking) (kept.known m c ne));
+})
+  where
+    off : (m c : ℕ) (client : PlainClient) → client_in (w'.nodes m) c ≡ Some client → m ≡ n → ⊥
+    off m c client is e = let z : Some client ≡ None = sym is ∙ ap (λ k. client_in (w'.nodes k) c) e ∙ none c in cc
+
+-- where one vBucket alone is another one, which owes no more
+pub fewer_at : (w w' : PlainWorld) (n v : ℕ) → ((m q : ℕ) → (m ≡ n → q ≡ v → ⊥) → vb_of w' m q ≡ vb_of w m q) → Fewer (vb_of w n v) (vb_of w' n v) → (m q : ℕ) → Fewer (vb_of w m q) (vb_of w' m q)
+fewer_at w w' n v there here m q = ⊎_elim
+    (λ e. ⊎_elim
+    (λ f. subst (λ k. Fewer (vb_of w k q) (vb_of w' k q)) (sym e) (subst (λ k. Fewer (vb_of w n k) (vb_of w' n k)) (sym f) here))
+    (λ ne. fewer_same (vb_of w m q) (vb_of w' m q) (there m q (λ s t. ne t))) (cases_eq q v))
+    (λ ne. fewer_same (vb_of w m q) (vb_of w' m q) (there m q (λ s t. ne s))) (cases_eq m n)
+
+-- it is this one then
+pub fewer_now : (w w' : PlainWorld) (n v : ℕ) (vb vb' : Plain) → vb_of w n v ≡ Some vb → vb_of w' n v ≡ Some vb' → Fewer (Some vb) (Some vb') → Fewer (vb_of w n v) (vb_of w' n v)
+fewer_now w w' n v vb vb' there there' fewer = subst (λ o. Fewer o (vb_of w' n v)) (sym there) (subst (Fewer (Some vb)) (sym there') fewer)
+
+-- other streams of it do not matter
+pub fewer_streams : (id : ℕ) (vb vb' : Plain) → StreamsChanged id vb vb' → Fewer (Some vb) (Some vb')
+fewer_streams id vb vb' changed = subst (λ k. Fewer (Some vb) (Some k)) (sym changed.alone) (fewer_some vb (record vb { streams = vb'.streams }) (λ x p some o. record { among = o.among; entry = o.entry; same = o.same }))
 
 -- ---- steps at one vBucket
 

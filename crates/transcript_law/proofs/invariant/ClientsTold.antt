@@ -1,5 +1,5 @@
 -- what is known of a client's connection agrees with its session and its producer, and its streams are those of its node's vBuckets
-use Rattle.std.specs.Prelude.{◌≡◌, ◌≤◌, ◌<◌, ◌^◌, ◌++◌, ◌⊎◌, ℕ, Bool, true, false, List, [], ◌∷◌, length, map, take, Option, Some, None, is_some}
+use Rattle.std.specs.Prelude.{◌≡◌, ◌≤◌, ◌<◌, ◌^◌, ◌+◌, ◌++◌, ◌⊎◌, ℕ, Bool, true, false, List, [], ◌∷◌, length, map, take, Option, Some, None, is_some}
 use Rattle.std.specs.List.{All, sum_by}
 use Rattle.client_session.specs.Serving.{PlainSession}
 use Rattle.client_session.specs.declared.session.Awaited.{Awaited}
@@ -21,9 +21,11 @@ use Rattle.branch_model.specs.Snapshots.{Covers}
 use Rattle.branch_model.specs.Trees.{Branch}
 use Rattle.transcript_law.proofs.invariant.Holdings.{ChangeFits, vb_of}
 use Rattle.transcript_law.proofs.invariant.OpenStreams.{AreKept, Among}
+use Rattle.transcript_law.proofs.invariant.Owing.{Owed}
 use Rattle.transcript_law.specs.ClientFrames.{first_request, is_closed_by, setup_after}
 use Rattle.transcript_law.specs.ClientStreams.{stream_view}
 use Rattle.transcript_law.specs.Feeding.{HasFed, client_in}
+use Rattle.transcript_law.specs.LawfulAnswers.{HasNumber, WRITE_NUMBERS}
 use Rattle.transcript_law.specs.LawfulClients.{IsSentOf, NoneWithin}
 use Rattle.transcript_law.specs.LinesTold.{Chronicle}
 use Rattle.transcript_law.specs.StreamLaws.{item_of_change}
@@ -56,7 +58,7 @@ pub record HeardIs (known : ClientKnown) (session : PlainSession) (set : Handsha
   pub none : first_request served ≡ None
   pub sets : setup_after known.setup served ≡ setup_of set
 
--- what an awaited outcome answers: the last one of these frames, which is the first that wants an answer, by its opcode and opaque. One that a session waits for is a durable write; a frame that is being answered is awaited under no number
+-- what an awaited outcome answers: the last one of these frames, which is the first that wants an answer, by its opcode and opaque. One that a session waits for is a durable write, for which a number was left; a frame that is being answered is awaited under no number
 pub record IsOpenQuestion (k : Asking) (served : List Frame) (a : Awaited) : Type 0 where
   pub question : Question
   pub next : first_question k.setup served ≡ Some question
@@ -64,13 +66,24 @@ pub record IsOpenQuestion (k : Asking) (served : List Frame) (a : Awaited) : Typ
   pub opcode : a.opcode ≡ question.frame.opcode
   pub opaque : a.opaque ≡ question.frame.opaque
   pub durable : (a.waiter ≡ 0 → ⊥) → AsksDurably k.settings question.frame
+  pub numbered : (a.waiter ≡ 0 → ⊥) → HasNumber k.durables
 
 -- of these frames none wants an answer, but one that is awaited
 abbrev pub AreAnswered : Option Awaited → Asking → List Frame → Type 0
 AreAnswered None k served = first_question k.setup served ≡ None
 AreAnswered (Some a) k served = IsOpenQuestion k served a
 
--- of the bytes that came behind the last answer the front was served, and set what the handshake is; behind it stand those that the session keeps; and each frame was answered that wants to be, but one that is awaited
+-- a session used so many numbers for so many durable writes: one for each, as long as there are any
+pub record HasUsed (used count : ℕ) : Type 0 where
+  pub most : used ≤ count
+  pub each : used < WRITE_NUMBERS → count ≤ used
+
+-- one that is awaited under a number is not answered yet; a frame that is in hand may have its number already
+abbrev pub AreUsed : Option Awaited → ℕ → ℕ → Type 0
+AreUsed None used count = HasUsed used count
+AreUsed (Some a) used count = (a.waiter ≡ 0 → ⊥) → HasUsed used (count + 1)
+
+-- of the bytes that came behind the last answer the front was served, and set what the handshake is; behind it stand those that the session keeps; each frame was answered that wants to be, but one that is awaited; and each durable write has its number
 pub record AskingIs (k : Asking) (session : PlainSession) (set : Handshake) : Type 0 where
   pub served : List Frame
   pub front : List ℕ
@@ -79,6 +92,7 @@ pub record AskingIs (k : Asking) (session : PlainSession) (set : Handshake) : Ty
   pub sets : setup_after k.setup served ≡ setup_of set
   pub settings : k.settings ≡ session.settings
   pub answered : AreAnswered session.awaited k served
+  pub numbers : AreUsed session.awaited session.used k.durables
 
 -- the last snapshot that is known is the one that the producer took last, of which so many items were put
 abbrev pub BegunIs : ClientStream → List Change → Option Begun → PlainStream → Type 0
@@ -147,7 +161,8 @@ pub record ClientAgrees (w : PlainWorld) (r : Chronicle) (n c : ℕ) (client : P
 abbrev pub ClientsApart : PlainWorld → Type 0
 ClientsApart w = (n c v id : ℕ) (who : StreamName) → HasFed w (name.Client n c) n v id → HasFed w who n v id → who ≡ name.Client n c
 
--- all open connections of clients
+-- all open connections of clients, and what is owed to them
 pub record ClientsTold (w : PlainWorld) (r : Chronicle) : Type 0 where
   pub each : (n c : ℕ) (client : PlainClient) → client_in (w.nodes n) c ≡ Some client → ClientAgrees w r n c client
   pub apart : ClientsApart w
+  pub owed : Owed w r

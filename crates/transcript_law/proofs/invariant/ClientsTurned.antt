@@ -8,12 +8,13 @@ use Rattle.std.proofs.lemmas.Bool.{cases_eq}
 use Rattle.transcript_law.proofs.invariant.Carried.{SameStream, stream_same}
 use Rattle.transcript_law.proofs.invariant.ClientsKept.{FedAreThere, FewNew, GoesOver, Spot, agrees_over, among_open, apart_over, at_vb, found_open, open_known, spot_at, stream_over}
 use Rattle.transcript_law.proofs.invariant.ClientsTold.{AskingIs, BegunIs, ClientAgrees, ClientsTold, KeptIs, StartedAt, StreamIs}
-use Rattle.transcript_law.proofs.invariant.{Holdings.{ChangeFits, vb_of}, OpenStreams.{Among, at_among, kept_went}}
+use Rattle.transcript_law.proofs.invariant.{Holdings.{ChangeFits, vb_of}, OpenStreams.{Among, at_among, kept_went}, Owed.{Fewer, owed_kept}}
 use Rattle.transcript_law.specs.ClientFrames.{is_closed_by, setup_after}
 use Rattle.transcript_law.specs.ClientStreams.{past_turn, with_clients_of, with_turn}
 use Rattle.transcript_law.specs.Feeding.{HasFed, HasOpen, IsOfClient, client_in}
 use Rattle.transcript_law.specs.StreamsTold.{ClientKnown, ClientStream}
 use Rattle.vb_events.specs.declared.event.StreamName.TheVariants as name
+use Rattle.transcript_law.proofs.invariant.Owing.{Later}
 
 -- what a change of role at the vBucket v makes of a connection's stream
 pub ended_same : (v : ℕ) (ids : List ℕ) (stream : PlainStream) → SameStream stream (ended_in v ids stream)
@@ -170,10 +171,24 @@ module _ (w w' : PlainWorld) (r r' : Chronicle) (n v : ℕ) (told : ClientsTold 
       let (client, was, ended) = turned.here c client' is in
       (client, was, open_before ended.ends ended.same client.producer.streams q id (subst (λ (x : PlainClient). HasOpen q id x.producer.streams) ended.is has))
 
-  pub clients_turned : FedAreThere w → ((l m q id : ℕ) → HasFed w' (name.Link l) m q id → HasFed w (name.Link l) m q id) → ClientsTold w' r'
-  clients_turned there links = record {
+  pub clients_turned : FedAreThere w → ((l m q id : ℕ) → HasFed w' (name.Link l) m q id → HasFed w (name.Link l) m q id) → Later r r' → ((m q : ℕ) → Fewer (vb_of w m q) (vb_of w' m q)) → ClientsTold w' r'
+  clients_turned there links last fewer = record {
     each = λ m c client' is. ⊎_elim (λ e. subst (λ k. ClientAgrees w' r' k c client') (sym e) (each_here c client' (ap (λ k. client_in (w'.nodes k) c) (sym e) ∙ is))) (λ ne. each_there m c client' ne is) (cases_eq m n);
     apart = apart_over (name.Link 0) w w' there few told.apart;
+    owed = owed_kept w w' r r' (record {
+      later = last;
+      fewer = fewer;
+      conns = λ m c client' is. ⊎_elim
+          (λ e.
+          let (client, was, ended) = turned.here c client' (ap (λ k. client_in (w'.nodes k) c) (sym e) ∙ is) in (
+            client,
+            ap (λ k. client_in (w.nodes k) c) e ∙ was,
+            ap (λ (x : PlainClient). x.session) ended.is,
+            ap (λ k. (r'.clients_at k c).asking) e ∙ ap (λ (x : ClientKnown). x.asking) (known_here c) ∙ ap (λ k. (r.clients_at k c).asking) (sym e),
+          ))
+          (λ ne. (client', sym (turned.there m c ne) ∙ is, refl, ap (λ (x : ClientKnown). x.asking) (known_there m c ne)))
+          (cases_eq m n);
+    }) told.owed;
   }
     where
       few : FewNew (name.Link 0) w w'

@@ -1,12 +1,13 @@
 -- a vBucket that has another chain or other acknowledgements, where the lines tell so, agrees as before
 use Rattle.std.specs.Prelude.{◌≡◌}
-use Rattle.transcript_law.proofs.Words.{ℕ, List, refl, sym, subst, Some, Plain, Sound, Cluster, PlainWorld, Chronicle, with_at}
-use Rattle.transcript_law.proofs.{invariant.Agreement.{AgreesAt, AgreesIn, CountsAre, VbAgrees, VbIsIf, counts_if, idle, shelf_of, vb_of, vb_row}, invariant.Carrying.{Changed}, disks.Disks.{disk_same}, verbs.NodeLines.{changed_agrees}, invariant.Seats.{seat}, invariant.Tables.{at_here, at_there}}
+use Rattle.transcript_law.proofs.Words.{ℕ, List, is_active, refl, ap, sym, ◌∙◌, subst, Some, Plain, Sound, Cluster, PlainWorld, Chronicle, with_at}
+use Rattle.transcript_law.proofs.{invariant.Agreement.{TimesIf, AgreesAt, AgreesIn, CountsAre, VbAgrees, VbIsIf, counts_if, idle, shelf_of, vb_of, vb_row}, invariant.Carrying.{Changed}, invariant.Lefts.{LeftUpTo}, disks.Disks.{disk_same}, verbs.NodeLines.{changed_agrees}, invariant.Seats.{seat}, invariant.Tables.{at_here, at_there}}
 use Rattle.durability.specs.Chains.{Members}
 use Rattle.transcript_law.specs.Chronicles.{CountsKnown}
+use Rattle.transcript_law.proofs.invariant.Owing.{later_same}
 
 module _ (w w' : PlainWorld) (r : Chronicle) (c : Cluster) (n v : ℕ) (vb : Plain) (others : Members) (acks : List ℕ) (told : CountsKnown) (a : AgreesIn idle w r c) (known : vb_of w n v ≡ Some vb) (sound : Sound (record vb { others = others; acks = acks }))
-    (counts : CountsAre told others acks) (became : Changed w w' n v (record vb { others = others; acks = acks }) w.links) (shelf : shelf_of w' n v ≡ shelf_of w n v) where
+    (counts : CountsAre told others acks) (same_risen : told.risen ≡ (r.counts_at n v).risen) (same_times : told.times ≡ (r.counts_at n v).times) (became : Changed w w' n v (record vb { others = others; acks = acks }) w.links) (shelf : shelf_of w' n v ≡ shelf_of w n v) where
   abbrev counting : Plain
   counting = record vb { others = others; acks = acks }
 
@@ -31,6 +32,8 @@ module _ (w w' : PlainWorld) (r : Chronicle) (c : Cluster) (n v : ℕ) (vb : Pla
     opened = old.opened;
     writes = old.writes;
     counts = counts_if (λ e. subst (λ t. CountsAre t others acks) (sym (at_here r.counts_at n v told)) counts);
+    lefts = λ e. subst (λ k. LeftUpTo k vb.position.at vb.waiting) (sym (ap (λ (t : CountsKnown). t.risen) (at_here r.counts_at n v told) ∙ same_risen)) (old.lefts e);
+    times = subst (λ (t : CountsKnown). TimesIf (is_active vb.role) t.times vb.waiting) (sym (at_here r.counts_at n v told)) (subst (λ t. TimesIf (is_active vb.role) t vb.waiting) (sym same_times) old.times);
   }
 
   rows : (m q : ℕ) → (m ≡ n → q ≡ v → ⊥) → vb_row counted m q ≡ vb_row r m q
@@ -40,5 +43,5 @@ module _ (w w' : PlainWorld) (r : Chronicle) (c : Cluster) (n v : ℕ) (vb : Pla
   elsewhere m q other = subst (λ t. VbIsIf r.tree r.writer_of t m q (c.nodes (seat m q)) (vb_of w m q)) (sym (rows m q other)) (a.vbs m q)
 
   pub counts_agree : AgreesIn idle w' counted c
-  counts_agree = changed_agrees w w' r counted c n v vb counting a known became (record { role = refl; wants = refl }) refl (λ k. refl) (λ k q. refl) (λ k. refl) (λ x i k has s. refl) here elsewhere (λ m q. refl) shelf
-      (disk_same (Some vb) (Some counting) refl refl refl refl) (λ m. refl) rows (λ m d. refl) (λ d k has. refl)
+  counts_agree = changed_agrees w w' r counted c n v vb counting a known became (record { role = refl; wants = refl; fewer = λ x p o. (o.0, record { among = o.1.among; entry = o.1.entry; same = o.1.same }) }) refl (λ k. refl) (λ k q. refl) (λ k. refl) (λ x i k has s. refl) here elsewhere (λ m q. refl) shelf
+      (disk_same (Some vb) (Some counting) refl refl refl refl) (λ m. refl) rows (λ m d. refl) (λ d k has. refl) (later_same _ _ refl refl)

@@ -9,8 +9,8 @@ use Rattle.script_text.specs.declared.verb.VbVerb.TheVariants as vb_verb
 use Rattle.transcript_law.proofs.Words.{ℕ, Bool, true, false, List, [], refl, ap, sym, ◌∙◌, subst, Option, Some, None, LogEntry, Branch, eq-eqb, ne_eqb, Verb, Change, AskAnswer, Event, StreamName, StreamAsk, Role, Answer, AtForks, kept_to, with_entry, IsNew, branch, grow, longer, branch_grow, Granted, Chronicle, empty_chronicle, after_lines}
 use Rattle.transcript_law.proofs.Words.{with_at, with_changed, granted, parent_branch, changes_between, after_branch, with_begun, with_item, finished, after_line, held_more, past_next, past_mark, IsIfKnown, LawfulLine, LawfulFrom, LawfulAsk}
 use Rattle.transcript_law.proofs.{invariant.Tables.{pick}, invariant.Trees.{IsTold, new_untold}}
-use Rattle.transcript_law.specs.Chronicles.{Appending, ArmKnown, after_armed, after_blank, after_crashed, after_dial, after_seal, ahead, Dial, DiskKnown, Flushing, Idle, Taken, Written, after_append, after_calls, after_crash, after_made, after_noted, after_openings, after_restart, after_restarts, after_rollback, after_start, after_starts, after_up, appending, batch_record, batch_stands, broken_by, calls_of_append, crashed_disk, disk_back}
-use Rattle.transcript_law.specs.Chronicles.{acknowledging, disks_of, finds, is_feed_of, is_made, is_name, is_off, is_rollback, is_stream_at, is_stream_of, known_log, late_record, rollback_of, saving, spent, state_of, known_batch, with_disk, with_disk_there, with_record, with_row}
+use Rattle.transcript_law.specs.Chronicles.{after_clock, Appending, ArmKnown, after_armed, after_blank, after_crashed, after_dial, after_seal, ahead, Dial, DiskKnown, Flushing, Idle, Taken, Written, after_append, after_calls, after_crash, after_made, after_noted, after_openings, after_restart, after_restarts, after_rollback, after_start, after_starts, after_up, appending, batch_record, batch_stands, broken_by, calls_of_append, crashed_disk, disk_back}
+use Rattle.transcript_law.specs.Chronicles.{acknowledging, known_down, with_id, disks_of, finds, is_feed_of, is_made, is_name, is_off, is_rollback, is_stream_at, is_stream_of, known_log, late_record, rollback_of, saving, spent, state_of, known_batch, with_disk, with_disk_there, with_record, with_row}
 use Rattle.transcript_law.specs.Lawfulness.{LawfulAdopt}
 use Rattle.vb_disk.specs.declared.fuse.Fuse.{Fuse}
 use Rattle.vb_disk.specs.declared.fuse.Fuse.TheVariants.{Off, Stop, Fail}
@@ -362,7 +362,7 @@ if_entered true x y one other = one
 if_entered false x y one other = other
 
 openings_entered : (before : Fuse) (r : Chronicle) (n : ℕ) (lines : List Event) (said : Answer) → Entered r → Entered (after_openings before r n lines said)
-openings_entered before r n lines said old = if_entered _ _ _ (record { disks = old.disks; logs = old.logs; streams = old.streams })
+openings_entered before r n lines said old = if_entered (is_off (r.arm_at n).fuse && not (is_off before)) (record r { arm_at = with_id r.arm_at n known_down }) _ (record { disks = old.disks; logs = old.logs; streams = old.streams })
     (if_entered _ _ _ old (starts_entered (after_restarts (after_up n r) lines) n said (restarts_entered (after_up n r) lines (record { disks = old.disks; logs = old.logs; streams = old.streams }))))
 
 pub start_line_entered : (r : Chronicle) (n : ℕ) (lines : List Event) (said : Answer) → Entered r → Entered (after_start r n lines said)
@@ -384,6 +384,7 @@ start_line_entered r n lines said old = by said
 pub ahead_entered : (r : Chronicle) (line : Verb) (said : Answer) → Entered r → Entered (ahead r line said)
 ahead_entered r (verb.AtVb n v (vb_verb.Chain others)) answer.Ok old = record { disks = old.disks; logs = old.logs; streams = old.streams }
 ahead_entered r (verb.AtVb n v vb_verb.Done) (answer.Number saved) old = disk_entered r n v (record (r.disk_at n v) { flushing = Idle; saved = saved }) old (record { book = (old.disks n v).book; late = (old.disks n v).late; flushing = tt })
+ahead_entered r (verb.AtVb n v vb_verb.Tick) said old = record { disks = old.disks; logs = old.logs; streams = old.streams }
 ahead_entered r (verb.AtClient n c (client_verb.Bytes bytes)) answer.Ok old = record { disks = old.disks; logs = old.logs; streams = old.streams }
 ahead_entered r other said old = old
 
@@ -403,6 +404,10 @@ seal_entered r n v other old = old
 pub armed_entered : (r : Chronicle) (n : ℕ) (arm : ArmKnown) (said : Answer) → Entered r → Entered (after_armed r n arm said)
 armed_entered r n arm answer.Ok old = record { disks = old.disks; logs = old.logs; streams = old.streams }
 armed_entered r n arm other old = old
+
+pub clock_entered : (r : Chronicle) (n nanos : ℕ) (said : Answer) → Entered r → Entered (after_clock r n nanos said)
+clock_entered r n nanos answer.Ok old = record { disks = old.disks; logs = old.logs; streams = old.streams }
+clock_entered r n nanos other old = old
 
 pub crashed_entered : (r : Chronicle) (n : ℕ) (out : Outcome) (said : Answer) → Entered r → Entered (after_crashed r n out said)
 crashed_entered r n out answer.Ok old = crash_entered r n out old

@@ -1,10 +1,10 @@
 -- a vBucket agrees with what the lines tell of it, and with its member of the cluster
 use Rattle.std.specs.Prelude.{◌≡◌, ◌<◌, ◌≤◌, ◌^◌, ◌++◌}
 use Rattle.transcript_law.proofs.Words.{ℕ, Bool, true, false, List, [], Option, Some, None, is_some, All, Act, Change, Doc, Position, LogEntry, IsKey, IsValue, last_seq, image_of, Rises, Branch, HoldsAt}
-use Rattle.transcript_law.proofs.{Words.{Member, Plain, is_active, Sound, PlainWorld, vb_in, Chronicle, known_history, Role, Picture}, invariant.Trees.{IsTold}, invariant.Wholes.{WholeTo, Spanned}}
+use Rattle.transcript_law.proofs.{Words.{Member, Plain, is_active, Sound, PlainWorld, vb_in, Chronicle, known_history, Role, Picture}, invariant.Trees.{IsTold}, invariant.Wholes.{WholeTo, Spanned}, invariant.Lefts.{LeftUpTo}}
 use Rattle.transcript_law.proofs.Words.{refl, sym, ap, ◌∙◌, subst, fold, applied, nothing, image_in}
-use Rattle.transcript_law.specs.{Chronicles.{CountsKnown, DiskKnown}, Majorities.{HasAcknowledged}}
-use Rattle.durability.specs.{Chains.{Members}, Outstanding.{acked}}
+use Rattle.transcript_law.specs.{Chronicles.{ArmKnown, CountsKnown, DiskKnown}, Lawfulness.{IsMadeAt, IsUp}, Majorities.{HasAcknowledged}}
+use Rattle.durability.specs.{Chains.{Members}, Laws.{Waits}, Outstanding.{acked}, declared.waiting.Waiting.{Waiting}}
 use Rattle.branch_model.proofs.Lists.{rises_append}
 use Rattle.std.proofs.lemmas.List.Sums.{fold-append}
 use Rattle.transcript_law.proofs.invariant.Bounded.{Weighs}
@@ -72,6 +72,14 @@ EntryFits e = (e.uuid < 2 ^ 64) × (e.seq < 2 ^ 64)
 abbrev pub own_history : Chronicle → ℕ → ℕ → List Change
 own_history r n v = known_history r.tree (r.branch_at n v)
 
+-- what the lines tell of a node: its arm, and its clock
+pub record NodeKnown : Type 0 where
+  pub arm : ArmKnown
+  pub clock : ℕ
+
+abbrev pub node_known : Chronicle → ℕ → NodeKnown
+node_known r n = record { arm = r.arm_at n; clock = r.clock_at n }
+
 -- what the lines tell of what a vBucket holds
 pub record VbContents : Type 0 where
   pub held : List Change
@@ -104,9 +112,32 @@ abbrev pub CountsIf : Bool → CountsKnown → Members → List ℕ → Type 0
 CountsIf false told others acks = Unit {0}
 CountsIf true told others acks = CountsAre told others acks
 
+-- of each prepare that waits and has a deadline the lines tell when it was made, and that its deadline is so long behind that
+pub record TimesAre (times : List (ℕ × ℕ)) (waiting : List Waiting) : Type 0 where
+  pub each : (w : Waiting) → Waits w waiting → (deadline : ℕ) → w.deadline ≡ Some deadline → (before : ℕ) × IsMadeAt w.seq before times × IsUp before deadline
+
+-- the same where it may be given up
+abbrev pub TimesIf : Bool → List (ℕ × ℕ) → List Waiting → Type 0
+TimesIf false times waiting = Unit {0}
+TimesIf true times waiting = TimesAre times waiting
+
+pub no_times : (b : Role) (times : List (ℕ × ℕ)) (waiting : List Waiting) → is_active b ≡ false → TimesIf (is_active b) times waiting
+no_times b times waiting e = subst (λ x. TimesIf x times waiting) (sym e) tt
+
+pub active_times : {b : Bool} {times : List (ℕ × ℕ)} {waiting : List Waiting} → b ≡ true → TimesIf b times waiting → TimesAre times waiting
+active_times {times = times} {waiting = waiting} e x = subst (λ b. TimesIf b times waiting) e x
+
+pub times_if : {b : Bool} {times : List (ℕ × ℕ)} {waiting : List Waiting} → (b ≡ true → TimesAre times waiting) → TimesIf b times waiting
+times_if {b = true} x = x refl
+times_if {b = false} x = tt
+
 -- one that is not active commits nothing
 pub no_counts : (b : Role) (told : CountsKnown) (others : Members) (acks : List ℕ) → is_active b ≡ false → CountsIf (is_active b) told others acks
 no_counts b told others acks e = subst (λ x. CountsIf x told others acks) (sym e) tt
+
+-- and was left nothing
+pub no_lefts : (b : Role) (risen at : ℕ) (waiting : List Waiting) → is_active b ≡ false → is_active b ≡ true → LeftUpTo risen at waiting
+no_lefts b risen at waiting off on = let z : false ≡ true = sym off ∙ on in cc
 
 -- one that is active
 pub active_counts : {b : Bool} {told : CountsKnown} {others : Members} {acks : List ℕ} → b ≡ true → CountsIf b told others acks → CountsAre told others acks
@@ -134,7 +165,7 @@ pub record VbTold (told : VbContents) (changes : List Change) (names : List LogE
   pub snap : told.snap ≡ Some (p.ss, p.se)
   pub unlogged : told.branch ≡ None → names ≡ []
 
--- a vBucket, whatever its role is and whatever it may write: it is its member of the cluster, and where a snapshot may end, it holds its branch
+-- a vBucket, whatever its role is and whatever it may write: it is its member of the cluster, and where a snapshot may end, it holds its branch from the start
 pub record VbHeld (tree : List Branch) (contents : VbContents) (m : Member) (vb : Plain) : Type 0 where
   pub sound : Sound vb
   pub spanned : Spanned vb.role vb.spans vb.position
@@ -144,7 +175,7 @@ pub record VbHeld (tree : List Branch) (contents : VbContents) (m : Member) (vb 
   pub open told use *
   pub member : MemberAgrees m vb
   pub branch : BranchAgrees contents.branch m.br
-  pub holds : HoldsAt vb.floor (WholeTo vb.floor vb.spans vb.position) m.held (known_history tree contents.branch)
+  pub holds : HoldsAt 0 (WholeTo vb.floor vb.spans vb.position) m.held (known_history tree contents.branch)
 
 abbrev pub VbHolds : Chronicle → ℕ → ℕ → Member → Plain → Type 0
 VbHolds r n v m vb = VbHeld r.tree (vb_contents r n v) m vb
@@ -157,6 +188,8 @@ pub record VbRowIs (tree : List Branch) (writer_of : ℕ → Option (ℕ × ℕ)
   pub opened : row.opened ≡ is_some vb.spans.current
   pub writes : IsWriterIf (is_active vb.role) tree (writer_of m.br) row.contents.branch n v m.br
   pub counts : CountsIf (is_active vb.role) row.counts vb.others vb.acks
+  pub lefts : is_active vb.role ≡ true → LeftUpTo row.counts.risen vb.position.at vb.waiting
+  pub times : TimesIf (is_active vb.role) row.counts.times vb.waiting
 
 abbrev pub VbAgrees : Chronicle → ℕ → ℕ → Member → Plain → Type 0
 VbAgrees r n v m vb = VbRowIs r.tree r.writer_of (vb_row r n v) n v m vb

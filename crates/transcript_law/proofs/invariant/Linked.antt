@@ -3,7 +3,7 @@ use Rattle.std.specs.Prelude.{◌≡◌, ◌∷◌, ◌⊎◌, ◌==◌, if◌th
 use Rattle.transcript_law.proofs.Words.{ℕ, true, false, List, [], refl, ap, sym, ◌∙◌, subst, inl, inr, ⊎_elim, Option, Some, None, not, eqb-true, All-head, All-tail, ScriptLine, VerbFits, ScriptFits, Stream, Plain, stream_at}
 use Rattle.transcript_law.proofs.Words.{Cluster, PlainNode, PlainWorld, PlainLink, link_number, producer_node, consumer_node, vb_in, with_branches, verb_step, world_step, empty_world, Chronicle, empty_chronicle, world_of}
 use Rattle.transcript_law.proofs.{invariant.Agreement.{Agrees, AgreesIn, IsLink, idle, is_down, vb_of}, invariant.Carried.{link_kept, numbers, stream_opened}, disks.Disks.{power_in}, invariant.Feeding.{AllFed, AllKept}, invariant.LinkRows.{found_is_link, links_apart}, invariant.Numbered.{numbered, numbers_of}}
-use Rattle.transcript_law.proofs.{invariant.Ranged.{IsRanged, start_ranged}, Runs.{group_agrees, row_of, start}, verbs.Rows.{Row}}
+use Rattle.transcript_law.proofs.{invariant.Ranged.{IsRanged, start_ranged}, Runs.{group_agrees, group_serves, row_of, start, start_serves}, verbs.Rows.{Row}}
 use Rattle.transcript_law.specs.Feeding.{Has, HasFed, HasIn, HasOpen, HasStream, IsOf, IsOfClient, IsOpenAt, LinksAreFed, StreamsAreFed, client_in}
 use Rattle.transcript_law.proofs.invariant.{ClientsTold.{ClientAgrees, KeptIs}, OpenStreams.{Among}}
 use Rattle.transcript_law.specs.ClientFrames.{is_closed_by}
@@ -12,10 +12,11 @@ use Rattle.dcp_producer.specs.Producers.{PlainStream, stream_at as kept_at}
 use Rattle.node_core.specs.Clients.{PlainClient}
 use Rattle.vb_events.specs.declared.event.StreamName.{StreamName}
 use Rattle.vb_events.specs.declared.event.StreamName.TheVariants as name
-use Rattle.transcript_law.specs.Chronicles.{after_group}
+use Rattle.transcript_law.specs.Chronicles.{after_group, at_line}
 use Rattle.transcript_law.specs.Prefixes.{world_after}
 use Rattle.node_world.specs.Worlds.{is_off, is_up}
 use Rattle.transcript_law.specs.LawfulAnswers.{AllDurable}
+use Rattle.transcript_law.proofs.invariant.{Begun.{ServesOpen}, ClientWorlds.{ConnsAre, start_conns}, Clients.{line_heard}}
 
 found_has : (id : ℕ) (ss : List Stream) (s : Stream) → stream_at id ss ≡ Some s → Has ss id
 found_has id [] s e = cc
@@ -113,15 +114,15 @@ module _ (w : PlainWorld) (r : Chronicle) (c : Cluster) (a : AgreesIn idle w r c
   }
 
 -- after more lines
-linked_from : (w : PlainWorld) (r : Chronicle) (script : List ScriptLine) → ScriptFits script → IsRanged w → AllDurable r.made → Agrees w r → AllFed w → StreamsAreFed (world_after w script) × LinksAreFed (world_after w script)
+linked_from : (w : PlainWorld) (r : Chronicle) (script : List ScriptLine) → ScriptFits script → IsRanged w → ConnsAre w r.conn_at → ServesOpen r.last r.conn_at → AllDurable r.made → Agrees w r → AllFed w → StreamsAreFed (world_after w script) × LinksAreFed (world_after w script)
 unfolding world_step
-linked_from w r [] fits ranged calm a fed = (streams_are_fed w r a.0 a.1 fed, links_are_fed w r a.0 a.1)
-linked_from w r (line ∷ lines) fits ranged calm a fed =
+linked_from w r [] fits ranged are serves calm a fed = (streams_are_fed w r a.0 a.1 fed, links_are_fed w r a.0 a.1)
+linked_from w r (line ∷ lines) fits ranged are serves calm a fed =
     let fit = All-head (λ (x : ScriptLine). VerbFits x.verb) line lines fits in let outcome = verb_step w line.line line.verb in let row : Row w line.verb outcome = row_of w line.line line.verb in
-    linked_from (with_branches outcome.1.events outcome.0) (after_group r line.verb outcome.1.events outcome.1.answer) lines (All-tail (λ (x : ScriptLine). VerbFits x.verb) line lines fits)
-    (row.ranged fit ranged) tt (group_agrees w r line.line line.verb fit ranged calm a)
+    linked_from (with_branches outcome.1.events outcome.0) (after_group (at_line r line.line) line.verb outcome.1.events outcome.1.answer) lines (All-tail (λ (x : ScriptLine). VerbFits x.verb) line lines fits)
+    (row.ranged fit ranged) (line_heard r.conn_at w line.line are line.verb fit).1 (group_serves r line.line line.verb outcome.1.events outcome.1.answer) tt (group_agrees w r line.line line.verb fit ranged are serves calm a)
     (row.fed (record { numbers = numbers_of w.links a.1.differ; fed = fed }) (all_kept w r a.0 a.1))
 
 -- after a script
 pub streams_linked : (script : List ScriptLine) → ScriptFits script → StreamsAreFed (world_of script) × LinksAreFed (world_of script)
-streams_linked script fits = linked_from empty_world empty_chronicle script fits start_ranged tt start (λ n node is. cc)
+streams_linked script fits = linked_from empty_world empty_chronicle script fits start_ranged start_conns start_serves tt start (λ n node is. cc)

@@ -4,7 +4,7 @@ use Rattle.std.specs.List.{filter}
 use Rattle.std.proofs.lemmas.List.{get_or-set_same}
 use Rattle.std.proofs.lemmas.Bool.{le-leb}
 use Rattle.vb_types.specs.declared.change.Level.{Level}
-use Rattle.transcript_law.proofs.Words.{ℕ, Bool, zero, suc, true, false, List, [], length, refl, ap, sym, ◌∙◌, subst, inl, inr, ⊎_elim, arith, cases_lt, Chronicle, with_at}
+use Rattle.transcript_law.proofs.Words.{ℕ, last_seq, Bool, zero, suc, true, false, List, [], length, refl, ap, sym, ◌∙◌, subst, inl, inr, ⊎_elim, arith, cases_lt, Chronicle, with_at}
 use Rattle.durability.specs.{Chains.{Members, has_enough, holders, majority, chain_length, named}, Laws.{Differ, Each, HasMajority, HasOne}, Outstanding.{acked, no_acks, with_ack}, declared.waiting.Waiting.{Waiting}}
 use Rattle.durability.proofs.Counts.{each_map, enough_saved, held_by, none_acked}
 use Rattle.transcript_law.proofs.{invariant.Holdings.{CountsAre}, invariant.Tables.{at_here}}
@@ -69,8 +69,8 @@ most_have_it told others acks saved p level counts held =
     let most : majority (chain_length others) ≤ length held.members + 1 = half_more (chain_length others) (length held.members) (subst (λ ms. 1 + length ms < 2 * (1 + length held.members)) counts.chain held.most) in omega arith
 
 -- an active vBucket on a new branch is alone
-pub alone_counts : (r : Chronicle) (n v : ℕ) → CountsAre (with_at r.counts_at n v alone n v) [] no_acks
-alone_counts r n v = subst (λ t. CountsAre t [] no_acks) (sym (at_here r.counts_at n v alone)) (record {
+pub alone_counts : (r : Chronicle) (n v : ℕ) → CountsAre (with_at r.counts_at n v (alone (last_seq 0 (r.held n v))) n v) [] no_acks
+alone_counts r n v = subst (λ t. CountsAre t [] no_acks) (sym (at_here r.counts_at n v (alone (last_seq 0 (r.held n v))))) (record {
   chain = refl;
   counted = λ m p some most. let none : acked no_acks m ≡ 0 = none_acked 256 m in let z : 0 < p = some in let k : p ≤ acked no_acks m = most in absurd (not_both p (acked no_acks m) z k none);
   alone = λ m p told. absurd told;

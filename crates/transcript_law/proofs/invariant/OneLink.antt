@@ -8,9 +8,10 @@ use Rattle.transcript_law.proofs.{invariant.LinkRows.{found_is_link, links_apart
 use Rattle.transcript_law.proofs.invariant.Carried.{StaysProducer, link_carried, stream_opened, carried, consumer_made, consumers_apart, branches_again, ids_same, kept_streams, no_writer, all_vbs}
 use Rattle.cluster_model.specs.Clusters.{Disk, cut}
 use Rattle.transcript_law.proofs.{invariant.Agreement.{DiskIsIf, EndsUp, RestsIn, VbRow, power_of, shelf_of}, disks.Disks.{SameParts, disk_same, parts_of, same_parts}}
-use Rattle.transcript_law.proofs.{invariant.Agreement.{IsArm, Power, PowerIs, PowerIsIf}, invariant.Carrying.{Rearmed, SameOffs, SamePowers, off_of}, invariant.LinkRows.{put_links}, invariant.Resting.{StillAt, ends_again, ends_off, ends_same, rests_by, rests_with}, invariant.Tables.{id_here, id_there}}
-use Rattle.transcript_law.proofs.invariant.{Carried.{all_there}, Carrying.{SameClients, same_clients}, ClientsKept.{ConnsKept, Every, IsFree, all_kept, changed_only, clients_kept, free_none, goes_follower, link_none, only_kept, spot_at, streams_kept}, LinkFeeds.{feeds_out, feeds_same, link_feeds}}
+use Rattle.transcript_law.proofs.{invariant.Agreement.{IsArm, Power, PowerIs, PowerIsIf, clock_of, node_known}, invariant.Carrying.{Rearmed, SameOffs, SamePowers, off_of}, invariant.LinkRows.{put_links}, invariant.Resting.{StillAt, ends_again, ends_off, ends_same, rests_by, rests_with}, invariant.Tables.{id_here, id_there}}
+use Rattle.transcript_law.proofs.invariant.{Carried.{all_there}, Carrying.{SameClients, same_clients}, ClientsKept.{ConnsKept, Every, IsFree, all_kept, changed_only, clients_kept, every_owed, fewer_at, fewer_now, fewer_streams, free_none, goes_follower, link_none, only_kept, spot_at, streams_kept}, LinkFeeds.{feeds_out, feeds_same, link_feeds}, Owed.{Fewer, Owed, fewer_idle, fewer_same}}
 use Rattle.{node_world.specs.declared.arm.Arm.{Arm}, transcript_law.specs.Feeding.{HasOpen}, transcript_law.proofs.invariant.Carried.{numbers}, transcript_law.proofs.Words.{with_id}, transcript_law.specs.Chronicles.{ArmKnown}}
+use Rattle.transcript_law.proofs.invariant.Owing.{later_same}
 
 -- the cluster with another member at k
 
@@ -73,6 +74,9 @@ module _ (busy : Busy) (w : PlainWorld) (r r' : Chronicle) (c c' : Cluster) (l :
     quiet_conns : (w' : PlainWorld) → SamePowers w w' → ((n v : ℕ) → vb_of w' n v ≡ vb_of w n v) → ConnsKept Every w w' r r'
     quiet_conns w' powers same = all_kept w w' r r' (same_clients w w' powers) told.clients told.tree told.rows same
 
+    quiet_owed : (w' : PlainWorld) → SamePowers w w' → ((n v : ℕ) → vb_of w' n v ≡ vb_of w n v) → Owed w' r'
+    quiet_owed w' powers same = every_owed w w' r r' (quiet_conns w' powers same) told.last (λ n v. fewer_same (vb_of w n v) (vb_of w' n v) (same n v)) a.clients.owed
+
     quiet_link : (w' : PlainWorld) → ((n v : ℕ) → vb_of w' n v ≡ vb_of w n v) → (x : PlainLink) → IsLink x w.links → Differ link x
         → LinkAgrees w' r' c' x (busy (link_number x)).0 (busy (link_number x)).1
     quiet_link w' same x i d = link_carried w w' r r' c c' x (busy (link_number x)).0 (busy (link_number x)).1
@@ -120,6 +124,10 @@ module _ (busy : Busy) (w : PlainWorld) (r r' : Chronicle) (c c' : Cluster) (l :
           (λ opens. let is = found_is_link l w.links link found in link_none w a.clients.apart l (producer_node link) link.consumer.dialed.vb id (link_feeds w a.differ l (producer_node link) link.consumer.dialed.vb id link is.0 is.1 refl opens) d)
           (λ none. free_none w (all_there busy w r c a) (producer_node link) link.consumer.dialed.vb id (subst (IsFree id) (sym known) none) d)
           free)
+
+      producer_owed : Owed w' r'
+      producer_owed = every_owed w w' r r' producer_conns told.last
+          (fewer_at w w' (producer_node link) link.consumer.dialed.vb became.there (fewer_now w w' (producer_node link) link.consumer.dialed.vb pv pv' known became.here (fewer_streams id pv pv' changed))) a.clients.owed
 
       -- no other link's stream is open there under its number
       clash : (y : PlainLink) (k : ℕ) (s : Stream) → Differ link y → producer_node y ≡ producer_node link → stream_at k pv.streams ≡ Some s → HasOpen link.consumer.dialed.vb k y.server.streams → k ≡ id → ⊥
@@ -199,7 +207,7 @@ carries_producer busy busy' w w' r r' c c' l link link' id pv pv' a found same k
     subst (λ q. HasOpen q k link.server.streams ⊎ IsFree k (vb_of w (producer_node link) q)) (sym is.0) (subst (λ j. HasOpen link.consumer.dialed.vb j link.server.streams ⊎ IsFree j (vb_of w (producer_node link) link.consumer.dialed.vb)) (sym is.1)
     (⊎_elim (λ opens. inl opens) (λ none. inr (subst (IsFree id) (sym known) none)) free)))
     (producer_rests busy w r r' c c' l link a found told fed w' (row_put link_number l link' w.links) id pv pv' known changed became free (put_ends busy w w' r c l link link' a found same became.powers became.linked))
-    agrees
+    agrees (producer_owed busy w r r' c c' l link a found told fed w' (row_put link_number l link' w.links) id pv pv' known changed became free)
 
 fed_none : (k : ℕ) (c : Cluster) → FeedChanged k c c
 fed_none k c = record { changed = record { tree = refl; others = λ j ne. refl; disks = λ j ne. refl }; fed = fed_same (c.nodes k); disk = refl }
@@ -218,7 +226,7 @@ carries_link busy busy' w w' r r' c l link link' a found same became less told b
     (λ y i d v id s. d.stream v id (less v id s))
     (quiet_conns busy w r r' c c l link a found told (fed_none (consumer_seat link) c) w' became.powers became.vbs) (λ v id s. inl (less v id s))
     (quiet_rests busy w r r' c c l link a found told (fed_none (consumer_seat link) c) w' became.powers became.vbs became.shelves (put_ends busy w w' r c l link link' a found same became.powers became.linked))
-    agrees
+    agrees (quiet_owed busy w r r' c c l link a found told (fed_none (consumer_seat link) c) w' became.powers became.vbs)
 
 -- the cluster without what was on its way to a member
 pub cut_changed : (k : ℕ) (c : Cluster) → FeedChanged k c (happens c (Move.Cut k))
@@ -242,8 +250,8 @@ module _ (busy busy' : Busy) (w w' : PlainWorld) (r r' : Chronicle) (c c' : Clus
   left_is = found_is_link l w.links link found
 
   pub left_out : ((n v : ℕ) → AgreesAt r' n v (c'.nodes (seat n v)) (vb_of w' n v)) → ((n v : ℕ) → DiskIsIf (r'.disk_at n v) (c'.disks (seat n v)) (shelf_of w' n v) (vb_of w' n v)) → w'.uuids ≡ w.uuids → w'.links ≡ row_out link_number (link_number link) w.links
-      → ((x : PlainLink) → IsLink x w.links → Differ link x → LinkAgrees w' r' c' x (busy (link_number x)).0 (busy (link_number x)).1) → ConnsKept Every w w' r r' → RestsIn w' r' c' → AgreesIn busy' w' r' c'
-  left_out vbs disks uuids linked others conns rests =
+      → ((x : PlainLink) → IsLink x w.links → Differ link x → LinkAgrees w' r' c' x (busy (link_number x)).0 (busy (link_number x)).1) → ConnsKept Every w w' r r' → RestsIn w' r' c' → Owed w' r' → AgreesIn busy' w' r' c'
+  left_out vbs disks uuids linked others conns rests owed =
       let links : w'.links ≡ row_out link_number l w.links = linked ∙ ap (λ k. row_out link_number k w.links) left_is.1 in
       record {
         sound = sound;
@@ -255,7 +263,7 @@ module _ (busy busy' : Busy) (w w' : PlainWorld) (r r' : Chronicle) (c c' : Clus
             let p = out_links l w.links link x a.differ found (subst (IsLink x) links i) in
             subst (λ b. LinkAgrees w' r' c' x b.0 b.1) (sym (but (link_number x) p.1)) (others x p.0 (links_apart link x w.links a.differ left_is.0 p.0 (λ e. p.1 (sym e ∙ left_is.1))));
         differ = subst LinksDiffer (sym links) (differ_out l w.links link a.differ found);
-        clients = clients_kept w w' r r' l a.clients (all_there busy w r c a) conns (λ k n v id has. inl (feeds_out w w' l link a.differ found links k n v id has));
+        clients = clients_kept w w' r r' l a.clients (all_there busy w r c a) conns (λ k n v id has. inl (feeds_out w w' l link a.differ found links k n v id has)) owed;
       }
 
 module _ (busy busy' : Busy) (w w' : PlainWorld) (r r' : Chronicle) (c : Cluster) (l : ℕ) (link : PlainLink) (a : AgreesIn busy w r c) (found : row_at link_number l w.links ≡ Some link)
@@ -279,6 +287,7 @@ module _ (busy busy' : Busy) (w w' : PlainWorld) (r r' : Chronicle) (c : Cluster
       (quiet_link busy w r r' c gone l link a found told fed w' became.vbs)
       (quiet_conns busy w r r' c gone l link a found told fed w' became.powers became.vbs)
       (quiet_rests busy w r r' c gone l link a found told fed w' became.powers became.vbs became.shelves (out_ends busy w w' r c l link a found became.powers became.linked))
+      (quiet_owed busy w r r' c gone l link a found told fed w' became.powers became.vbs)
 
   -- the link's stream was closed
   closed_over : Closed w w' link → AgreesIn busy' w' r' gone
@@ -288,6 +297,7 @@ module _ (busy busy' : Busy) (w w' : PlainWorld) (r r' : Chronicle) (c : Cluster
       (producer_other busy w r r' c gone l link a found told fed w' links id pv pv' known changed became (inl opens))
       (producer_conns busy w r r' c gone l link a found told fed w' links id pv pv' known changed became (inl opens))
       (producer_rests busy w r r' c gone l link a found told fed w' links id pv pv' known changed became (inl opens) (out_ends busy w w' r c l link a found became.powers became.linked))
+      (producer_owed busy w r r' c gone l link a found told fed w' links id pv pv' known changed became (inl opens))
 
 -- a link is over: its consumer is cut off
 pub carries_over : (busy busy' : Busy) (w w' : PlainWorld) (r r' : Chronicle) (c : Cluster) (l : ℕ) (link : PlainLink)
@@ -297,27 +307,28 @@ carries_over busy busy' w w' r r' c l link a found became told but =
     ⊎_elim (λ same. same_over busy busy' w w' r r' c l link a found told but same) (λ closed. closed_over busy busy' w w' r r' c l link a found told but closed) became
 
 -- a world that is the same everywhere, but for its nodes' arms
-pub carries_rests : (busy busy' : Busy) (w w' : PlainWorld) (r : Chronicle) (arms : ℕ → ArmKnown) (c : Cluster)
+pub carries_rests : (busy busy' : Busy) (w w' : PlainWorld) (r : Chronicle) (arms : ℕ → ArmKnown) (clocks : ℕ → ℕ) (c : Cluster)
     → AgreesIn busy w r c → SameClients w w' → ((n v : ℕ) → vb_of w' n v ≡ vb_of w n v) → ((n v : ℕ) → shelf_of w' n v ≡ shelf_of w n v) → w'.uuids ≡ w.uuids → w'.links ≡ w.links
-    → RestsIn w' (record r { arm_at = arms }) c → ((k : ℕ) → busy' k ≡ busy k) → AgreesIn busy' w' (record r { arm_at = arms }) c
-carries_rests busy busy' w w' r arms c a conns vbs shelves uuids linked rests but = record {
+    → RestsIn w' (record r { arm_at = arms; clock_at = clocks }) c → ((k : ℕ) → busy' k ≡ busy k) → AgreesIn busy' w' (record r { arm_at = arms; clock_at = clocks }) c
+carries_rests busy busy' w w' r arms clocks c a conns vbs shelves uuids linked rests but = record {
   sound = a.sound;
   vbs = λ n v. subst (AgreesAt r n v (c.nodes (seat n v))) (sym (vbs n v)) (a.vbs n v);
   disks = λ n v. disk_same (vb_of w n v) (vb_of w' n v) refl refl (shelves n v) (subst (SameParts (vb_of w n v)) (sym (vbs n v)) (same_parts (vb_of w n v))) (a.disks n v);
   branches = branches_again refl refl (ids_same uuids) a.branches;
-  links = λ x i. subst (λ b. LinkAgrees w' (record r { arm_at = arms }) c x b.0 b.1) (sym (but (link_number x)))
-      (link_carried w w' r (record r { arm_at = arms }) c c x (busy (link_number x)).0 (busy (link_number x)).1 (λ fv e. (fv, vbs (consumer_node x) x.consumer.dialed.vb ∙ e, kept_same fv)) refl refl refl refl
+  links = λ x i. subst (λ b. LinkAgrees w' (record r { arm_at = arms; clock_at = clocks }) c x b.0 b.1) (sym (but (link_number x)))
+      (link_carried w w' r (record r { arm_at = arms; clock_at = clocks }) c c x (busy (link_number x)).0 (busy (link_number x)).1 (λ fv e. (fv, vbs (consumer_node x) x.consumer.dialed.vb ∙ e, kept_same fv)) refl refl refl refl
       (λ p id s e active opened has. (p, vbs (producer_node x) x.consumer.dialed.vb ∙ e, active, opened, refl)) (a.links x (subst (IsLink x) linked i)));
   differ = subst LinksDiffer (sym linked) a.differ;
-  clients = clients_kept w w' r (record r { arm_at = arms }) 0 a.clients (all_there busy w r c a) (all_kept w w' r (record r { arm_at = arms }) conns (λ m d. refl) refl (λ n v. refl) vbs)
-      (λ k n v id has. inl (feeds_same w w' linked k n v id has));
+  clients = let kept = all_kept w w' r (record r { arm_at = arms; clock_at = clocks }) conns (λ m d. refl) refl (λ n v. refl) vbs in
+      clients_kept w w' r (record r { arm_at = arms; clock_at = clocks }) 0 a.clients (all_there busy w r c a) kept (λ k n v id has. inl (feeds_same w w' linked k n v id has))
+      (every_owed w w' r (record r { arm_at = arms; clock_at = clocks }) kept (later_same _ _ refl refl) (λ n v. fewer_same (vb_of w n v) (vb_of w' n v) (vbs n v)) a.clients.owed);
   rests = rests;
 }
 
 -- and for nothing
 pub carries_same : (busy busy' : Busy) (w w' : PlainWorld) (r : Chronicle) (c : Cluster)
     → AgreesIn busy w r c → Relinked w w' w.links → ((k : ℕ) → busy' k ≡ busy k) → AgreesIn busy' w' r c
-carries_same busy busy' w w' r c a same but = carries_rests busy busy' w w' r r.arm_at c a (same_clients w w' same.powers) same.vbs same.shelves same.uuids same.linked
+carries_same busy busy' w w' r c a same but = carries_rests busy busy' w w' r r.arm_at r.clock_at c a (same_clients w w' same.powers) same.vbs same.shelves same.uuids same.linked
     (rests_by w w' r r c c a.rests same.powers (λ n. refl)
     (λ n v none. record { vb = sym (same.vbs n v) ∙ none; shelf = same.shelves n v; row = refl; member = refl; disk = refl })
     (λ n v down. (same.vbs n v ∙ (a.downs n v).vb_none down, same.shelves n v ∙ (a.downs n v).shelf_none down))
@@ -327,8 +338,8 @@ carries_same busy busy' w w' r c a same but = carries_rests busy busy' w w' r r.
 pub carries_armed : (busy : Busy) (w w' : PlainWorld) (r : Chronicle) (c : Cluster) (n : ℕ) (power : Power) (arm : Arm)
     → AgreesIn busy w r c → Rearmed w w' n power arm → IsArm arm.fuse → AgreesIn busy w' (record r { arm_at = with_id r.arm_at n (record { fuse = arm.fuse; out = arm.out; down = (r.arm_at n).down }) }) c
 carries_armed busy w w' r c n power arm a same fires =
-    carries_rests busy busy w w' r arms c a same.clients same.vbs same.shelves same.uuids same.linked
-    (rests_with w w' r r' c c a.rests offs powers
+    carries_rests busy busy w w' r arms r.clock_at c a same.clients same.vbs same.shelves same.uuids same.linked
+    (rests_with w w' r r' c c a.rests offs powers clocks
     (λ m v none. record { vb = sym (same.vbs m v) ∙ none; shelf = same.shelves m v; row = refl; member = refl; disk = refl })
     (λ m v down. (same.vbs m v ∙ (a.downs m v).vb_none down, same.shelves m v ∙ (a.downs m v).shelf_none down))
     (λ m v e. e) (λ x i. ends_off w w' x x offs (record { dialed = refl; desk = refl }) (a.ends x (subst (IsLink x) same.linked i)))) (λ k. refl)
@@ -348,13 +359,19 @@ carries_armed busy w w' r c n power arm a same fires =
         (λ ne. ap off_of (same.others m ne))
         (numbers m n)
 
+    clocks : (m : ℕ) → r.clock_at m ≡ clock_of (power_of w' m)
+    clocks m = a.clocks m ∙ ⊎_elim
+        (λ e. ap (λ k. clock_of (power_of w k)) e ∙ ap clock_of same.before ∙ sym (ap clock_of same.armed) ∙ ap (λ k. clock_of (power_of w' k)) (sym e))
+        (λ ne. ap clock_of (sym (same.others m ne)))
+        (numbers m n)
+
     was : PowerIs (r.arm_at n) power
     was = subst (PowerIsIf (r.arm_at n)) same.before (a.powers n)
 
     powers : (m : ℕ) → PowerIsIf (arms m) (power_of w' m)
     powers m = ⊎_elim
         (λ e. subst (λ k. PowerIsIf (arms k) (power_of w' k)) (sym e) (subst (λ t. PowerIsIf t (power_of w' n)) (sym (id_here r.arm_at n told))
-        (subst (PowerIsIf told) (sym same.armed) (record { fuse = refl; out = refl; down = was.down; may_fire = fires; listed_so = was.listed_so }))))
+        (subst (PowerIsIf told) (sym same.armed) (record { fuse = refl; out = refl; down = was.down; zero = was.zero; may_fire = fires; listed_so = was.listed_so }))))
         (λ ne. subst (λ t. PowerIsIf t (power_of w' m)) (sym (id_there r.arm_at n told m (λ e. ne (sym e)))) (subst (PowerIsIf (r.arm_at m)) (sym (same.others m ne)) (a.powers m)))
         (numbers m n)
 
@@ -389,7 +406,7 @@ module _ (busy : Busy) (w w' : PlainWorld) (r r' : Chronicle) (c c' : Cluster) (
   consumer_disks = all_vbs w w' (consumer_node link) link.consumer.dialed.vb fv' (λ n v o. DiskIsIf (r'.disk_at n v) (c'.disks (seat n v)) (shelf_of w' n v) o) became.here became.there disk other_disk
 
   -- what rests beside it, where the arms are as they were
-  pub consumer_rests : ((m : ℕ) → r'.arm_at m ≡ r.arm_at m) → (r'.disk_at (consumer_node link) link.consumer.dialed.vb).there ≡ (r.disk_at (consumer_node link) link.consumer.dialed.vb).there
+  pub consumer_rests : ((m : ℕ) → node_known r' m ≡ node_known r m) → (r'.disk_at (consumer_node link) link.consumer.dialed.vb).there ≡ (r.disk_at (consumer_node link) link.consumer.dialed.vb).there
       → ((x : PlainLink) → IsLink x w'.links → EndsUp w' x) → RestsIn w' r' c'
   consumer_rests arms same ends = rests_by w w' r r' c c' a.rests became.powers arms
       (λ n v none. ⊎_elim (λ s. let z : Some fv' ≡ None = sym (moved_vb w' (consumer_node link) link.consumer.dialed.vb n v fv' became.here s.0 s.1) ∙ none in cc)
@@ -412,6 +429,12 @@ module _ (busy : Busy) (w w' : PlainWorld) (r r' : Chronicle) (c c' : Cluster) (
   consumer_conns = only_kept Every w w' r r' (consumer_node link) link.consumer.dialed.vb
       (changed_only w w' r r' (consumer_node link) link.consumer.dialed.vb fv' links became taken.clients taken.tree taken.rows)
       (λ d id left has. goes_follower (spot_at w r (consumer_node link) link.consumer.dialed.vb) (spot_at w' r' (consumer_node link) link.consumer.dialed.vb) id fv known (no_writer fv.role follows))
+
+  -- nor does it owe anything
+  consumer_owed : Owed w' r'
+  consumer_owed = every_owed w w' r r' consumer_conns taken.last
+      (fewer_at w w' (consumer_node link) link.consumer.dialed.vb became.there (subst (Fewer (vb_of w (consumer_node link) link.consumer.dialed.vb)) (sym became.here)
+      (fewer_idle (vb_of w (consumer_node link) link.consumer.dialed.vb) fv' agrees.sound (ap is_follower role_is ∙ follows)))) a.clients.owed
 
   apart_dial : (x : PlainLink) → IsLink x w.links → Differ link x → IsApart (consumer_node link) link.consumer.dialed.vb (r.dial_of (link_number x))
   apart_dial x i d = subst (IsApart (consumer_node link) link.consumer.dialed.vb) (sym (a.links x i).dialed) (λ s t. d.follower (sym s) (sym t))
@@ -442,6 +465,7 @@ carries_consumer busy busy' w w' r r' c c' l link link' fv fv' a found same know
     (consumer_conns busy w w' r r' c c' l link fv fv' (row_put link_number l link' w.links) a found known role_is streams_are became taken changed vb disk) (λ v id s. inl (less v id s))
     rests
     agrees
+    (consumer_owed busy w w' r r' c c' l link fv fv' (row_put link_number l link' w.links) a found known role_is streams_are became taken changed vb disk)
 
 -- a step at a link's consumer, with which the link is over; it has no stream that is open
 pub carries_left : (busy busy' : Busy) (w w' : PlainWorld) (r r' : Chronicle) (c c' : Cluster) (l : ℕ) (link : PlainLink) (fv fv' : Plain)
@@ -457,3 +481,4 @@ carries_left busy busy' w w' r r' c c' l link fv fv' a found known role_is strea
     (consumer_disks busy w w' r r' c c' l link fv fv' links a found known role_is streams_are became taken changed vb disk) became.uuids became.linked
     (consumer_other busy w w' r r' c c' l link fv fv' links a found known role_is streams_are became taken changed vb disk)
     (consumer_conns busy w w' r r' c c' l link fv fv' links a found known role_is streams_are became taken changed vb disk) rests
+    (consumer_owed busy w w' r r' c c' l link fv fv' links a found known role_is streams_are became taken changed vb disk)

@@ -1,5 +1,5 @@
 -- what a script leaves: lawful lines tell failover logs whose entries stand where the lines tell that their branches were made, and each vBucket follows its branch
-use Rattle.transcript_law.specs.Chronicles.{ahead}
+use Rattle.transcript_law.specs.Chronicles.{ahead, at_line}
 use Rattle.std.specs.Prelude.{◌≡◌, ◌+◌, ◌<◌, ◌≤◌, ◌∷◌, if◌then◌else◌}
 use Rattle.{branch_model.specs.Journals.{IsPoint, complete_points, image_at}, cluster_model.proofs.Runs.{point_shown}, vb_calls.specs.Shelves.{Shelf}, transcript_law.specs.Prefixes.{PointsAreBranch}}
 use Rattle.{vbucket.specs.{Settles.{IsSettled}}}
@@ -15,14 +15,16 @@ use Rattle.transcript_law.proofs.Words.{PlainWorld, empty_world, with_branches, 
 use Rattle.transcript_law.proofs.Words.{PlainNode, is_some, world_of, known_of, FollowsBranch, AreFollowed, Bool, false}
 use Rattle.transcript_law.proofs.Words.{branch}
 use Rattle.transcript_law.proofs.{invariant.Agreement.{vb_of, BranchAgrees, Writes, WritesIf, VbAgrees, AgreesAt, top}}
-use Rattle.transcript_law.proofs.{invariant.Agreement.{idle, AgreesIn, Agrees}, invariant.AtRest.{AreAtRest, line_rests, start_rests}, invariant.Ranged.{IsRanged, NodeRangedIf, start_ranged}, lines.SessionLines.{IsKept}, Runs.{group_agrees, row_of, start}, verbs.Rows.{Row}, invariant.Seats.{seat}, invariant.Agreement.{image_is}, verbs.Showing.{history_by, same_image}}
+use Rattle.transcript_law.proofs.{invariant.Agreement.{idle, AgreesIn, Agrees}, invariant.AtRest.{AreAtRest, line_rests, start_rests}, invariant.Ranged.{IsRanged, NodeRangedIf, start_ranged}, lines.SessionLines.{IsKept}, Runs.{group_agrees, group_serves, row_of, start, start_serves}, verbs.Rows.{Row}, invariant.Seats.{seat}, invariant.Agreement.{image_is}, verbs.Showing.{history_by, same_image}}
 use Rattle.transcript_law.proofs.{invariant.Tables.{if_known}, invariant.Trees.{told_below}, verbs.Writing.{forks_below}}
 use Rattle.{branch_model.specs.Snapshots.{Follows}, cluster_model.specs.Clusters.{IsBranch}}
 use Rattle.{transcript_law.specs.Lawfulness.{IsWriter}, transcript_law.specs.Prefixes.{world_after}}
 use Rattle.{transcript_law.specs.Prefixes.{known_after, ComesFrom, IsActiveOn}}
 use Rattle.transcript_law.specs.LawfulAnswers.{AllDurable}
 use Rattle.transcript_law.proofs.{disks.Disks.{saved_so}, invariant.Agreement.{active_counts}, invariant.Majorities.{most_have_it}}
+use Rattle.transcript_law.proofs.indexers.{Beside.{numbered}, Closing.{begins_of}}
 use Rattle.vbucket.proofs.Committing.{rests}
+use Rattle.transcript_law.proofs.invariant.{Begun.{ServesOpen}, ClientWorlds.{ConnsAre, start_conns}, Clients.{line_heard}}
 
 -- a connection of a node is told as the one that it is
 own_at : (n : ℕ) (o : Option PlainNode) → NodeRangedIf n o → AreOwnIf n o
@@ -162,19 +164,20 @@ module _ (w : PlainWorld) (r : Chronicle) (c : Cluster) (a : AgreesIn idle w r c
   }
 
 -- after more lines
-followed_from : (w : PlainWorld) (r : Chronicle) (script : List ScriptLine) → ScriptFits script → IsRanged w → AreAtRest w → AllDurable r.made → Agrees w r → Entered r
+followed_from : (w : PlainWorld) (r : Chronicle) (script : List ScriptLine) → ScriptFits script → IsRanged w → ConnsAre w r.conn_at → ServesOpen r.last r.conn_at → AreAtRest w → AllDurable r.made → Agrees w r → Entered r
     → AreFollowed (known_after r script (groups_from w script)) (world_after w script)
 unfolding world_step
-followed_from w r [] fits ranged rest calm a entered = are_followed w r a.0 a.1 entered rest ranged
-followed_from w r (line ∷ lines) fits ranged rest calm a entered =
+followed_from w r [] fits ranged are serves rest calm a entered = are_followed w r a.0 a.1 entered rest ranged
+followed_from w r (line ∷ lines) fits ranged are serves rest calm a entered =
     let fit = All-head (λ (x : ScriptLine). VerbFits x.verb) line lines fits in let outcome = verb_step w line.line line.verb in let row : Row w line.verb outcome = row_of w line.line line.verb in
-    let went = row.goes r fit ranged calm a in
-    let r' : Chronicle = after_group r line.verb outcome.1.events outcome.1.answer in let now = group_agrees w r line.line line.verb fit ranged calm a in
-    let entries = row.entered r (after_lines (ahead r line.verb outcome.1.answer) outcome.1.events) (lines_entered (ahead r line.verb outcome.1.answer) outcome.1.events (ahead_entered r line.verb outcome.1.answer entered) went.0) in
-    followed_from (with_branches outcome.1.events outcome.0) r' lines (All-tail (λ (x : ScriptLine). VerbFits x.verb) line lines fits) (row.ranged fit ranged)
+    let r0 : Chronicle = at_line r line.line in let a0 : Agrees w r0 = numbered w r line.line a in
+    let went = row.goes r0 fit ranged calm (begins_of w line.line line.verb r are serves a.1.clients.owed) a0 in
+    let r' : Chronicle = after_group r0 line.verb outcome.1.events outcome.1.answer in let now = group_agrees w r line.line line.verb fit ranged are serves calm a in
+    let entries = row.entered r0 (after_lines (ahead r0 line.verb outcome.1.answer) outcome.1.events) (lines_entered (ahead r0 line.verb outcome.1.answer) outcome.1.events (ahead_entered r0 line.verb outcome.1.answer (record { disks = entered.disks; logs = entered.logs; streams = entered.streams })) went.0) in
+    followed_from (with_branches outcome.1.events outcome.0) r' lines (All-tail (λ (x : ScriptLine). VerbFits x.verb) line lines fits) (row.ranged fit ranged) (line_heard r.conn_at w line.line are line.verb fit).1 (group_serves r line.line line.verb outcome.1.events outcome.1.answer)
     (line_rests w r outcome (row.rests r ranged a) a rest (with_branches outcome.1.events outcome.0) r' refl now) tt now
     (record { disks = entries.disks; logs = entries.logs; streams = entries.streams })
 
 -- after a script
 pub branches_followed : (script : List ScriptLine) → ScriptFits script → AreFollowed (known_of script) (world_of script)
-branches_followed script fits = followed_from empty_world empty_chronicle script fits start_ranged (start_rests empty_world (λ n. refl)) tt start start_entered
+branches_followed script fits = followed_from empty_world empty_chronicle script fits start_ranged start_conns start_serves (start_rests empty_world (λ n. refl)) tt start start_entered

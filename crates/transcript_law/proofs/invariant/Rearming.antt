@@ -14,4 +14,4 @@ with_arm_told r n told = record r { arm_at = with_id r.arm_at n (record told { d
 
 -- all agrees as before
 pub rearmed : (w : PlainWorld) (r : Chronicle) (n : ℕ) (node : PlainNode) (arm : Arm) → w.nodes n ≡ Some node → IsArm arm.fuse → Agrees w r → Agrees (with_node_at w n (record node { arm = arm })) (with_arm_told r n (told_arm arm))
-rearmed w r n node arm known ok (c, a) = (c, carries_armed idle w (with_node_at w n (record node { arm = arm })) r c n (record { arm = node.arm; off = node.off }) arm a (rearmed_node w n node arm known) ok)
+rearmed w r n node arm known ok (c, a) = (c, carries_armed idle w (with_node_at w n (record node { arm = arm })) r c n (record { arm = node.arm; off = node.off; clock = node.clock }) arm a (rearmed_node w n node arm known) ok)

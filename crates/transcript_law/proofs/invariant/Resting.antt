@@ -2,7 +2,7 @@
 use Rattle.std.specs.Prelude.{◌≡◌, ◌<◌}
 use Rattle.transcript_law.proofs.Words.{ℕ, true, List, refl, sym, ap, ◌∙◌, subst, Option, Some, None, Member, Cluster, Chronicle, PlainLink, PlainWorld, producer_node, consumer_node}
 use Rattle.{branch_model.specs.Journals.{log_of, place_of}, cluster_model.specs.Clusters.{Disk}, vb_calls.specs.Shelves.{Shelf}, transcript_law.specs.Chronicles.{DiskKnown, resting}}
-use Rattle.transcript_law.proofs.{invariant.Agreement.{AwayAt, BookBy, BookAgrees, EndsUp, IsLink, Power, PowerIsIf, RestsIn, is_down, power_of, shelf_of, vb_of, vb_row, VbRow}, invariant.Carrying.{SameArms, SameEnds, SameOffs, SamePowers, off_of, same_arms}, invariant.Seats.{seat}}
+use Rattle.transcript_law.proofs.{invariant.Agreement.{AwayAt, BookBy, BookAgrees, EndsUp, IsLink, NodeKnown, Power, PowerIsIf, RestsIn, clock_of, is_down, node_known, power_of, shelf_of, vb_of, vb_row, VbRow}, invariant.Carrying.{SameArms, SameEnds, SameOffs, SamePowers, off_of, same_arms}, invariant.Seats.{seat}}
 use Rattle.{disk_journals.specs.Books.{Book}, node_world.specs.Worlds.{is_off}, transcript_law.proofs.{disks.Disks.{power_in}, Words.{PlainNode, is_some}}}
 
 -- a place at which no vBucket is, and at which nothing changed
@@ -50,12 +50,13 @@ module _ (w w' : PlainWorld) (r r' : Chronicle) (c c' : Cluster) (a : RestsIn w 
       }
 
   -- what rests, where nodes are running or down as they were, and the lines tell of their arms
-  pub rests_with : SameOffs w w' → ((n : ℕ) → PowerIsIf (r'.arm_at n) (power_of w' n)) → ((n v : ℕ) → vb_of w' n v ≡ None → StillAt w w' r r' c c' n v)
+  pub rests_with : SameOffs w w' → ((n : ℕ) → PowerIsIf (r'.arm_at n) (power_of w' n)) → ((n : ℕ) → r'.clock_at n ≡ clock_of (power_of w' n)) → ((n v : ℕ) → vb_of w' n v ≡ None → StillAt w w' r r' c c' n v)
       → ((n v : ℕ) → is_down (power_of w n) ≡ true → (vb_of w' n v ≡ None) × (shelf_of w' n v ≡ None)) → ((n v : ℕ) → (r'.disk_at n v).there ≡ true → (r.disk_at n v).there ≡ true)
       → ((link : PlainLink) → IsLink link w'.links → EndsUp w' link) → RestsIn w' r' c'
-  rests_with offs powers still downs there ends =
+  rests_with offs powers clocks still downs there ends =
       let was : (n : ℕ) → is_down (power_of w' n) ≡ true → is_down (power_of w n) ≡ true = λ n d. sym (down_same w w' offs n) ∙ d in record {
         powers = powers;
+        clocks = clocks;
         aways = λ n v none. away_still offs n v (still n v none);
         downs = λ n v. record { vb_none = λ d. (downs n v (was n d)).0; shelf_none = λ d. (downs n v (was n d)).1 };
         ends = ends;
@@ -63,13 +64,14 @@ module _ (w w' : PlainWorld) (r r' : Chronicle) (c c' : Cluster) (a : RestsIn w 
       }
 
   -- and where arms are as they were
-  pub rests_arms : SameArms w w' → ((n : ℕ) → r'.arm_at n ≡ r.arm_at n) → ((n v : ℕ) → vb_of w' n v ≡ None → StillAt w w' r r' c c' n v)
+  pub rests_arms : SameArms w w' → ((n : ℕ) → node_known r' n ≡ node_known r n) → ((n v : ℕ) → vb_of w' n v ≡ None → StillAt w w' r r' c c' n v)
       → ((n v : ℕ) → is_down (power_of w n) ≡ true → (vb_of w' n v ≡ None) × (shelf_of w' n v ≡ None)) → ((n v : ℕ) → (r'.disk_at n v).there ≡ true → (r.disk_at n v).there ≡ true)
       → ((link : PlainLink) → IsLink link w'.links → EndsUp w' link) → RestsIn w' r' c'
-  rests_arms powers arms = rests_with (offs_arms w w' powers) (λ n. subst (PowerIsIf (r'.arm_at n)) (sym (powers n)) (subst (λ t. PowerIsIf t (power_of w n)) (sym (arms n)) (a.powers n)))
+  rests_arms powers arms = rests_with (offs_arms w w' powers) (λ n. subst (PowerIsIf (r'.arm_at n)) (sym (powers n)) (subst (λ (k : NodeKnown). PowerIsIf k.arm (power_of w n)) (sym (arms n)) (a.powers n)))
+      (λ n. ap (λ (k : NodeKnown). k.clock) (arms n) ∙ a.clocks n ∙ sym (ap clock_of (powers n)))
 
   -- and clients are too
-  pub rests_by : SamePowers w w' → ((n : ℕ) → r'.arm_at n ≡ r.arm_at n) → ((n v : ℕ) → vb_of w' n v ≡ None → StillAt w w' r r' c c' n v)
+  pub rests_by : SamePowers w w' → ((n : ℕ) → node_known r' n ≡ node_known r n) → ((n v : ℕ) → vb_of w' n v ≡ None → StillAt w w' r r' c c' n v)
       → ((n v : ℕ) → is_down (power_of w n) ≡ true → (vb_of w' n v ≡ None) × (shelf_of w' n v ≡ None)) → ((n v : ℕ) → (r'.disk_at n v).there ≡ true → (r.disk_at n v).there ≡ true)
       → ((link : PlainLink) → IsLink link w'.links → EndsUp w' link) → RestsIn w' r' c'
   rests_by powers arms = rests_arms (same_arms w w' powers) arms

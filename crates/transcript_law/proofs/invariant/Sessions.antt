@@ -22,6 +22,7 @@ use Rattle.vb_calls.{proofs.Conduct.{after_always}, specs.Programs.{Always, AnyC
 pub record Received (f : Frame) : Type 0 where
   pub readable : Readable f
   pub extras : AreBytes f.extras
+  pub framing : AreBytes f.framing
 
 parted : (xs ys : List ℕ) → AreBytes (xs ++ ys) → AreBytes xs × AreBytes ys
 parted [] ys h = (All-nil (λ b. b < 256), h)
@@ -29,18 +30,20 @@ parted (x ∷ xs) ys h =
     let p = parted xs ys (All-tail (λ b. b < 256) x (xs ++ ys) h) in
     (All-cons (λ b. b < 256) x xs (All-head (λ b. b < 256) x (xs ++ ys) h) p.0, p.1)
 
-extras_are : (f : Frame) → AreBytes (spelling f) → AreBytes f.extras
+extras_are : (f : Frame) → AreBytes (spelling f) → AreBytes f.extras × AreBytes f.framing
 unfolding spelling
 extras_are f h =
     let before_value = (parted (header_spelling f ++ f.framing ++ f.extras ++ f.key) f.value h).0 in
     let before_key = (parted (header_spelling f ++ f.framing ++ f.extras) f.key before_value).0 in
-    (parted (header_spelling f ++ f.framing) f.extras before_key).1
+    let before_extras = parted (header_spelling f ++ f.framing) f.extras before_key in
+    (before_extras.1, (parted (header_spelling f) f.framing before_extras.0).1)
 
 -- a frame that bytes begin with is one
 pub first_received : (bytes : List ℕ) (f : Frame) → AreBytes bytes → first_frame bytes ≡ Some (Ok f) → Received f
 first_received bytes f h e =
     let is = front bytes f h e in
-    record { readable = is.0; extras = extras_are f (parted (spelling f) (drop (frame_len f) bytes) (subst AreBytes is.1 h)).0 }
+    let parts = extras_are f (parted (spelling f) (drop (frame_len f) bytes) (subst AreBytes is.1 h)).0 in
+    record { readable = is.0; extras = parts.0; framing = parts.1 }
 
 -- what is awaited is awaited under a number
 abbrev pub IsNumbered : Option Awaited → Type 0

@@ -13,10 +13,11 @@ use Rattle.vb_calls.specs.Settling.{Resolving, and_settled, committed_by, has_se
 use Rattle.vb_calls.specs.State.{pending_of}
 use Rattle.vb_calls.specs.Shelves.{Ask, Got, Shelves, shelves_step}
 use Rattle.vb_calls.specs.States.{call_at, states_step}
-use Rattle.vb_calls.specs.Streams.{moved_on}
+use Rattle.vb_calls.specs.Roles.{risen}
+use Rattle.vb_calls.specs.Streams.{moved_on, stream_at}
 use Rattle.vb_calls.specs.declared.calls.Resolution.{Resolution}
 use Rattle.vb_calls.specs.declared.calls.VbCall.TheVariants as call
-use Rattle.vbucket.proofs.RowIs.{RowIs, StartIs, StreamsAre, Closes, Expires, Feeds, Leads, Opens, Settles, Streams, Turns, row_is}
+use Rattle.vbucket.proofs.RowIs.{RowIs, StartIs, StreamsAre, Closes, Expires, Feeds, Inherits, Leads, Opens, Settles, Streams, Turns, Yields, row_is}
 
 -- any call but that
 abbrev pub OpensNone : ℕ → VbCall → Type 0
@@ -79,6 +80,22 @@ settled_less vb new e = same_more vb (settled new).vb (after_settled new ∙ e)
 pub led_none : (vb : Plain) (uuid id : ℕ) → Has (settled (led vb uuid)).vb.streams id → ⊥
 led_none vb uuid id h = subst (λ ss. Has ss id) (after_settled (led vb uuid)) h
 
+inherits_none : (vb : Plain) (id : ℕ) → Has (settled (risen vb)).vb.streams id → ⊥
+inherits_none vb id h = subst (λ ss. Has ss id) (after_settled (risen vb)) h
+
+-- one that is given up keeps a stream that it had
+found_has : (id : ℕ) (ss : List Stream) (s : Stream) → stream_at id ss ≡ Some s → Has ss s.id
+found_has id [] s e = absurd (cc)
+found_has id (x ∷ xs) s e = by (found_has id xs s) (x.id == id) e
+  where
+    named : Option Stream → ℕ
+    named None = x.id
+    named (Some y) = y.id
+
+    by : (stream_at id xs ≡ Some s → Has xs s.id) → (b : Bool) → cond b (Some x) (stream_at id xs) ≡ Some s → Has (x ∷ xs) s.id
+    by more true e = inl (ap named e)
+    by more false e = inr (more e)
+
 module _ (vb : Plain) where
   streams_less : (v : ℕ) {c : VbCall} {streams : List Stream} {said : VbAnswer} → StreamsAre vb c streams said → OpensNone v c → NoMore vb (record vb { streams = streams })
   streams_less v (Opens id ask sync) q = absurd q
@@ -88,12 +105,14 @@ module _ (vb : Plain) where
   start_less : {c : VbCall} {start : Plain × VbReply} → StartIs vb c start → NoMore vb (and_settled start).0
   start_less {start = start} (Expires clock on) = settled_less vb start.0 (aborts_streams (late clock vb.waiting) (unresolved vb))
   start_less (Leads uuid free) = λ id h. absurd (led_none vb uuid id h)
+  start_less (Inherits free) = λ id h. absurd (inherits_none vb id h)
   start_less {start = start} other = settled_less vb start.0 refl
 
   row_less : (v : ℕ) {c : VbCall} {made : Plain × VbReply} → RowIs vb c made → OpensNone v c → NoMore vb made.0
   row_less v (Streams c streams said is) q = streams_less v is q
   row_less v (Settles c start is) q = start_less is
   row_less v (Turns c new loud idle) q = λ id h. absurd h
+  row_less v (Yields i s on at) q = λ id h. ⊎_elim (λ e. subst (Has vb.streams) e (found_has i vb.streams s at)) (λ none. absurd none) h
   row_less v other q = λ id h. h
 
   -- a call that opens no stream

@@ -1,8 +1,8 @@
 -- where a snapshot of a vBucket may end, by its spans
 use Rattle.std.specs.Prelude.{◌≡◌, ◌<◌, ◌≤◌, ◌∷◌, ◌++◌, ◌⊎◌, ◌&&◌}
 use Rattle.transcript_law.proofs.Words.{ℕ, Bool, true, false, List, [], refl, ap, sym, ◌∙◌, subst, inl, inr, ⊎_elim, arith, is_some, Option, Some, None, not, nat_lt, and_parts}
-use Rattle.transcript_law.proofs.Words.{ltb-true, nat_tests, Position, Role, fork_of, start_cases, Own, Received, Span, is_active, complete_position, Spans, no_spans, all_spans, with_seal, with_change, is_whole}
-use Rattle.transcript_law.proofs.Words.{Change, Grown, HasLast, HoldsAt, cases_lt}
+use Rattle.transcript_law.proofs.Words.{ltb-true, Position, Role, fork_of, start_cases, Own, Received, Span, is_active, complete_position, Spans, no_spans, all_spans, with_seal, with_change, is_whole}
+use Rattle.transcript_law.proofs.Words.{Grown}
 use Rattle.{std.proofs.lemmas.Bool.{false_from_ne_true, and_from, lt-ltb}, std.specs.Prelude.{option_to_list}, vb_calls.specs.Spans.{starts_below}, vb_calls.specs.declared.span.Origin.{Origin}}
 use Rattle.vbucket.specs.Laws.{Follow}
 
@@ -70,34 +70,9 @@ no_cut : (a b : Bool) → (a ≡ true → b ≡ false) → (a && b) ≡ false
 no_cut true b f = f refl
 no_cut false b f = refl
 
-starts_at : (ss : ℕ) (o : Origin) → IsFrom ss o → starts_below ss o ≡ false
-starts_at ss Own f = absurd f
-starts_at ss (Received from to) f = let e : from ≡ ss = f in grind (arith, nat_tests)
-
 starts_before : (ss n : ℕ) (o : Origin) → IsFrom ss o → ss < n → starts_below n o ≡ true
 starts_before ss n Own f l = absurd f
 starts_before ss n (Received from to) f l = lt-ltb from n (let e : from ≡ ss = f in omega arith)
-
--- a snapshot may end where a vBucket would leave its branch
-pub whole_fork : (role : Role) (floor : ℕ) (ws : Spans) (p : Position) → Spanned role ws p → Follow floor (all_spans ws) p.at → floor ≤ fork_of p → WholeTo floor ws p (fork_of p)
-whole_fork role floor ws p i f above_floor = (
-  whole_from (fork_of p) (all_spans ws) (λ w j. no_cut (nat_lt (fork_of p) w.last) (starts_below (fork_of p) w.origin) (λ above.
-      let up : fork_of p < w.last = ltb-true (fork_of p) w.last above in
-      let low : w.last ≤ p.at = follow_last floor p.at (all_spans ws) w f j in
-      ⊎_elim
-      (λ c. let e : fork_of p ≡ p.at = c.1 in absurd (omega arith))
-      (λ c. subst (λ n. starts_below n w.origin ≡ false) (sym c.1) (starts_at p.ss w.origin (i.inside w j (let e : fork_of p ≡ p.ss = c.1 in omega arith))))
-      (start_cases p.ss p.se p.at))),
-  omega arith,
-  above_floor,
-)
-
--- what is held there of the changes above the floor; where the floor is above it there are none
-pub fork_held : (role : Role) (floor : ℕ) (ws : Spans) (p : Position) (xs h : List Change) → Spanned role ws p → Follow floor (all_spans ws) p.at → HoldsAt floor (WholeTo floor ws p) xs h → HasLast xs h floor (fork_of p) (fork_of p)
-fork_held role floor ws p xs h i f holds = ⊎_elim
-    (λ l slot c e a b. let z : fork_of p < floor = l in absurd (omega arith))
-    (λ l. holds.has (fork_of p) (whole_fork role floor ws p i f l))
-    (cases_lt (fork_of p) floor)
 
 -- the spans before a change go on no further than those after it, in the same snapshots
 

@@ -8,18 +8,20 @@ use Rattle.transcript_law.specs.{ClientFrames.{message_of, setup_after}, ClientS
 use Rattle.client_session.specs.{Serving.{is_dcp}, declared.session.Settings.{Settings}}
 use Rattle.mcbp_kv.specs.Requests.{request_of}
 use Rattle.mcbp_kv.specs.declared.request.KvRequest.TheVariants as request
-use Rattle.transcript_law.specs.LawfulAnswers.{AllDurable, AnswersFault, FitsBy, FitsFrame, FitsGet, FitsRequest, IsCommitted, IsMade, IsRefused, IsRefusedDurably, LacksSeqnos, LawfulReply}
+use Rattle.transcript_law.specs.LawfulAnswers.{serving, AllDurable, AnswersFault, FitsBy, FitsFrame, FitsGet, FitsRequest, IsCommitted, IsMade, IsRefused, IsRefusedDurably, LacksSeqnos, LawfulReply}
 use Rattle.transcript_law.specs.LawfulClients.{LawfulClientAsk, RefusesBy}
 use Rattle.transcript_law.specs.LawfulMessages.{FitsMessage, Moment, moment_of}
-use Rattle.transcript_law.specs.LinesTold.{after_client_line, made_line}
+use Rattle.transcript_law.specs.LinesTold.{after_client_line, made_line, timed}
 use Rattle.transcript_law.specs.StreamLaws.{GrantsAs, LawfulSaid, LawfulVerdict}
 use Rattle.transcript_law.specs.StreamsTold.{ClientsKnown}
 use Rattle.vb_types.specs.declared.stream.{AskAnswer.{AskAnswer}, StreamAsk.{StreamAsk}}
-use Rattle.transcript_law.specs.{Lawfulness.{Fulfils, IsHeldIfCommitted, LawfulBranch, fork_in, newest_of}, OwnChanges.{IsNextChange}}
+use Rattle.transcript_law.specs.{Lawfulness.{Fulfils, IsHeldIfCommitted, IsMadeAt, IsUp, LawfulBranch, fork_in, newest_of}, OwnChanges.{IsNextChange}}
 use Rattle.vb_types.specs.declared.role.Role.TheVariants.{Active}
+use Rattle.transcript_law.specs.LinesTold.{LastLine, OwnChange, told_for}
 
 -- what such a line and that of a branch read is the same in both
 pub record Reads (q r : Chronicle) : Type 0 where
+  pub last : r.last ≡ q.last
   pub tree : r.tree ≡ q.tree
   pub branch : r.branch_at ≡ q.branch_at
   pub held : r.held ≡ q.held
@@ -31,9 +33,11 @@ pub record Reads (q r : Chronicle) : Type 0 where
   pub saved : (n v : ℕ) → (r.disk_at n v).saved ≡ (q.disk_at n v).saved
   pub clients : r.clients_at ≡ q.clients_at
   pub made : r.made ≡ q.made
+  pub clock : r.clock_at ≡ q.clock_at
+  pub ticks : r.ticks ≡ q.ticks
 
 pub reads_same : (r : Chronicle) → Reads r r
-reads_same r = record { tree = refl; branch = refl; held = refl; writer = refl; role = refl; counts = refl; log = refl; snap = refl; saved = λ n v. refl; clients = refl; made = refl }
+reads_same r = record { last = refl; tree = refl; branch = refl; held = refl; writer = refl; role = refl; counts = refl; log = refl; snap = refl; saved = λ n v. refl; clients = refl; made = refl; clock = refl; ticks = refl }
 
 -- it reads of a disk what counts as saved alone
 pub saved_at : (disks : ℕ → ℕ → DiskKnown) (n v : ℕ) (d : DiskKnown) → d.saved ≡ (disks n v).saved → (m q : ℕ) → (with_at disks n v d m q).saved ≡ (disks m q).saved
@@ -43,25 +47,28 @@ saved_at disks n v d same m q = ⊎_elim
     (places n v m q)
 
 pub disk_reads : (r : Chronicle) (n v : ℕ) (d : DiskKnown) → d.saved ≡ (r.disk_at n v).saved → Reads r (with_disk r n v d)
-disk_reads r n v d same = record { tree = refl; branch = refl; held = refl; writer = refl; role = refl; counts = refl; log = refl; snap = refl; saved = saved_at r.disk_at n v d same; clients = refl; made = refl }
+disk_reads r n v d same = record { last = refl; tree = refl; branch = refl; held = refl; writer = refl; role = refl; counts = refl; log = refl; snap = refl; saved = saved_at r.disk_at n v d same; clients = refl; made = refl; clock = refl; ticks = refl }
 
 -- and nothing of device calls
 pub calls_read : {q r : Chronicle} (calls n : ℕ) → Reads q r → Reads q (after_calls calls n r)
-calls_read calls n s = record { tree = s.tree; branch = s.branch; held = s.held; writer = s.writer; role = s.role; counts = s.counts; log = s.log; snap = s.snap; saved = s.saved; clients = s.clients; made = s.made }
+calls_read calls n s = record { last = s.last; tree = s.tree; branch = s.branch; held = s.held; writer = s.writer; role = s.role; counts = s.counts; log = s.log; snap = s.snap; saved = s.saved; clients = s.clients; made = s.made; clock = s.clock; ticks = s.ticks }
 
 pub reads_change : (q r : Chronicle) (n v uuid : ℕ) (change : Change) → Reads q r → Reads (after_change q n v uuid change) (after_change r n v uuid change)
 reads_change q r n v uuid change s = record {
+  last = s.last;
   tree = ap (λ t. grow t uuid change) s.tree;
   branch = s.branch;
   held = ap (λ (h : ℕ → ℕ → List Change). with_at h n v (h n v ++ change ∷ [])) s.held;
   writer = s.writer;
   role = s.role;
-  counts = s.counts;
+  counts = λ i. with_at (s.counts i) n v (timed change.seq (s.clock i n) (s.counts i n v));
   log = s.log;
   snap = ap (λ (t : ℕ → ℕ → Option (ℕ × ℕ)). with_at t n v (Some (change.seq, change.seq))) s.snap;
   saved = s.saved;
   clients = s.clients;
   made = ap (λ made. record { node = n; vb = v; branch = uuid; change = change } ∷ made) s.made;
+  clock = s.clock;
+  ticks = s.ticks;
 }
 
 pub change_read : (q r : Chronicle) (n v uuid : ℕ) (change : Change) → Reads q r → LawfulChange r n v uuid change → LawfulChange q n v uuid change
@@ -74,11 +81,18 @@ change_read q r n v uuid change s l = record {
   fulfils = subst (λ (h : ℕ → ℕ → List Change). Fulfils (image_of (h n v)) change) s.held l.fulfils;
   backed = subst (λ (f : ℕ → ℕ → CountsKnown). IsHeldIfCommitted (f n v) (q.disk_at n v).saved (image_of (q.held n v)) change) s.counts
       (subst (λ k. IsHeldIfCommitted (r.counts_at n v) k (image_of (q.held n v)) change) (s.saved n v) (subst (λ (h : ℕ → ℕ → List Change). IsHeldIfCommitted (r.counts_at n v) (r.disk_at n v).saved (image_of (h n v)) change) s.held l.backed));
+  aborts = λ prepared e. let x = l.aborts prepared e in record {
+    asked = sym s.ticks ∙ x.asked;
+    before = x.before;
+    made = subst (λ (f : ℕ → ℕ → CountsKnown). IsMadeAt prepared x.before (f n v).times) s.counts x.made;
+    up = subst (λ (f : ℕ → ℕ). IsUp x.before (f n)) s.clock x.up;
+  };
 }
 
 -- a line that tells of clients alone reads the branches and what is known of clients
 pub reads_client : (q r : Chronicle) (line : Event) → Reads q r → Reads (after_client_line q line) (after_client_line r line)
 reads_client q r line s = record {
+  last = s.last;
   tree = s.tree;
   branch = s.branch;
   held = s.held;
@@ -90,6 +104,8 @@ reads_client q r line s = record {
   saved = s.saved;
   clients = λ i. clients_line (s.tree i) (s.clients i) line;
   made = ap (λ made. made_line made line) s.made;
+  clock = s.clock;
+  ticks = s.ticks;
 }
 
 -- an answer to a request
@@ -118,8 +134,10 @@ reply_read q r n c bytes behind s l = ⊎_elim
       response = x.response;
       opcode = x.opcode;
       opaque = x.opaque;
-      fits = subst (λ (k : ClientsKnown). FitsFrame q n (moment_of (k n c) (q.clients_at n c).asking x.question) (q.clients_at n c).asking.settings x.question.frame x.answer) s.clients
-          (frame_read x.question.frame x.answer (moment_of (r.clients_at n c) (q.clients_at n c).asking x.question) (q.clients_at n c).asking.settings x.fits);
+      fits = subst (λ (k : ClientsKnown). FitsFrame (serving q n c (q.clients_at n c).asking) q n (moment_of (k n c) (q.clients_at n c).asking x.question) (q.clients_at n c).asking.settings x.question.frame x.answer) s.clients
+          (frame_read (serving q n c (q.clients_at n c).asking) x.question.frame x.answer (moment_of (r.clients_at n c) (q.clients_at n c).asking x.question) (q.clients_at n c).asking.settings
+          (subst (λ served. FitsFrame served r n (moment_of (r.clients_at n c) (q.clients_at n c).asking x.question) (q.clients_at n c).asking.settings x.question.frame x.answer)
+          (λ i. option_map (λ (l : LastLine). told_for (l.served n c) (q.clients_at n c).asking.answered (s.made i)) (s.last i)) x.fits));
       calm = ⊎_elim (λ y. inl y) (λ y. inr (subst AllDurable s.made y)) x.calm;
     }))
     (λ x. inr (subst (λ made. AnswersFault n c made (q.clients_at n c).asking bytes behind) s.made x)) (subst (λ (k : ClientsKnown). LawfulReply r n c (k n c).asking bytes behind) s.clients l)
@@ -128,35 +146,41 @@ reply_read q r n c bytes behind s l = ⊎_elim
     at : {A : Type 0} {f g : ℕ → ℕ → A} (P : A → Type 0) (v : ℕ) → g ≡ f → P (g n v) → P (f n v)
     at P v e x = subst (λ t. P (t n v)) e x
 
-    request_read : (f g : Frame) (settings : Settings) (asked : Result KvRequest Status) → FitsRequest r n settings f g asked → FitsRequest q n settings f g asked
-    request_read f g settings (Err st) x = x
-    request_read f g settings (Ok request.Noop) x = x
-    request_read f g settings (Ok (request.Hello features)) x = x
-    request_read f g settings (Ok (request.Get key)) x =
-        at (λ role. FitsGet role (image_of (q.held n f.vb_or_status)) settings.json key f g) f.vb_or_status s.role
-        (at (λ held. FitsGet (r.role_at n f.vb_or_status) (image_of held) settings.json key f g) f.vb_or_status s.held x)
-    request_read f g settings (Ok (request.Write write None)) x = ⊎_elim
-        (λ y. inl (at (λ role. IsRefused (LacksSeqnos (q.held n f.vb_or_status) 1) role (image_of (q.held n f.vb_or_status)) write f g) f.vb_or_status s.role
-        (at (λ held. IsRefused (LacksSeqnos held 1) (r.role_at n f.vb_or_status) (image_of held) write f g) f.vb_or_status s.held y)))
+    request_read : (served : Option (List OwnChange)) (count : ℕ) (f g : Frame) (settings : Settings) (asked : Result KvRequest Status) → FitsRequest served r n count settings f g asked → FitsRequest served q n count settings f g asked
+    request_read served count f g settings (Err st) x = x
+    request_read served count f g settings (Ok request.Noop) x = x
+    request_read served count f g settings (Ok (request.Hello features)) x = x
+    request_read served count f g settings (Ok (request.Get key)) x =
+        at (λ (counts : CountsKnown). FitsGet (q.role_at n f.vb_or_status) counts.risen (image_of (q.held n f.vb_or_status)) settings.json key f g) f.vb_or_status s.counts
+        (at (λ role. FitsGet role (r.counts_at n f.vb_or_status).risen (image_of (q.held n f.vb_or_status)) settings.json key f g) f.vb_or_status s.role
+        (at (λ held. FitsGet (r.role_at n f.vb_or_status) (r.counts_at n f.vb_or_status).risen (image_of held) settings.json key f g) f.vb_or_status s.held x))
+    request_read served count f g settings (Ok (request.Write write None)) x = ⊎_elim
+        (λ y. inl (at (λ (counts : CountsKnown). IsRefused (LacksSeqnos (q.held n f.vb_or_status) 1) (q.role_at n f.vb_or_status) counts.risen (image_of (q.held n f.vb_or_status)) write f g) f.vb_or_status s.counts
+        (at (λ role. IsRefused (LacksSeqnos (q.held n f.vb_or_status) 1) role (r.counts_at n f.vb_or_status).risen (image_of (q.held n f.vb_or_status)) write f g) f.vb_or_status s.role
+        (at (λ held. IsRefused (LacksSeqnos held 1) (r.role_at n f.vb_or_status) (r.counts_at n f.vb_or_status).risen (image_of held) write f g) f.vb_or_status s.held y))))
         (λ y. inr (subst (λ made. IsMade n f.vb_or_status (q.held n f.vb_or_status) made settings write f g) s.made (at (λ held. IsMade n f.vb_or_status held r.made settings write f g) f.vb_or_status s.held y)))
         x
-    request_read f g settings (Ok (request.Write write (Some wish))) x = ⊎_elim
+    request_read served count f g settings (Ok (request.Write write (Some wish))) x = ⊎_elim
         (λ y. inl y)
-        (⊎_elim
-        (λ y. inr (inl (at (λ (counts : CountsKnown). IsRefusedDurably counts.chain (q.role_at n f.vb_or_status) (q.held n f.vb_or_status) write f g) f.vb_or_status s.counts
-        (at (λ role. IsRefusedDurably (r.counts_at n f.vb_or_status).chain role (q.held n f.vb_or_status) write f g) f.vb_or_status s.role
-        (at (λ held. IsRefusedDurably (r.counts_at n f.vb_or_status).chain (r.role_at n f.vb_or_status) held write f g) f.vb_or_status s.held y)))))
-        (⊎_elim (λ y. inr (inr (inl (subst (λ made. IsCommitted n made settings f g) s.made y)))) (λ y. inr (inr (inr y)))))
+        (λ y. inr (
+          y.0,
+          ⊎_elim
+              (λ z. inl (at (λ (counts : CountsKnown). IsRefusedDurably counts (q.role_at n f.vb_or_status) (q.held n f.vb_or_status) write f g) f.vb_or_status s.counts
+              (at (λ role. IsRefusedDurably (r.counts_at n f.vb_or_status) role (q.held n f.vb_or_status) write f g) f.vb_or_status s.role
+              (at (λ held. IsRefusedDurably (r.counts_at n f.vb_or_status) (r.role_at n f.vb_or_status) held write f g) f.vb_or_status s.held z))))
+              (⊎_elim (λ z. inr (inl (subst (λ made. IsCommitted n f.vb_or_status served made settings write f g) s.made z))) (λ z. inr (inr z)))
+              y.1,
+        ))
         x
 
-    frame_read : (f g : Frame) (moment : Moment) (settings : Settings) → FitsFrame r n moment settings f g → FitsFrame q n moment settings f g
-    frame_read f g moment settings x = by (is_dcp f.opcode) x
+    frame_read : (served : Option (List OwnChange)) (f g : Frame) (moment : Moment) (settings : Settings) → FitsFrame served r n moment settings f g → FitsFrame served q n moment settings f g
+    frame_read served f g moment settings x = by (is_dcp f.opcode) x
       where
-        by : (b : Bool) → FitsBy b r n moment settings f g → FitsBy b q n moment settings f g
+        by : (b : Bool) → FitsBy b served r n moment settings f g → FitsBy b served q n moment settings f g
         by true y =
             at (λ log. FitsMessage (q.role_at n f.vb_or_status) log moment f g (message_of f)) f.vb_or_status s.log
             (at (λ role. FitsMessage role (r.log_at n f.vb_or_status) moment f g (message_of f)) f.vb_or_status s.role y)
-        by false y = request_read f g settings (request_of settings.json f) y
+        by false y = request_read served moment.durables f g settings (request_of settings.json f) y
 
 pub branch_read : (q r : Chronicle) (n v uuid : ℕ) (parent : Option ℕ) (fork high : ℕ) → Reads q r → LawfulBranch r n v uuid parent fork high → LawfulBranch q n v uuid parent fork high
 branch_read q r n v uuid parent fork high s l = record {

@@ -6,7 +6,7 @@ use Rattle.transcript_law.proofs.Words.{ne_eqb}
 use Rattle.transcript_law.proofs.{disks.Disks.{beside_by}, invariant.Carrying.{SamePowers, same_arms, same_clients}, invariant.Resting.{offs_same}}
 use Rattle.transcript_law.proofs.Words.{Cluster, Move, happens, after_job, after_job_bind, lift}
 use Rattle.transcript_law.proofs.Words.{DialResult, roll_back, unlinked}
-use Rattle.transcript_law.proofs.{Words.{Chronicle, after_lines}, invariant.Agreement.{vb_of, IsArm, PowerIsIf, Power, power_of}}
+use Rattle.transcript_law.proofs.{Words.{Chronicle, after_lines}, invariant.Agreement.{clock_of, vb_of, IsArm, PowerIsIf, Power, power_of}}
 use Rattle.transcript_law.proofs.invariant.Agreement.{Agrees, LinkAgrees, consumer_seat, AgreesIn, idle}
 use Rattle.transcript_law.proofs.{invariant.OneLink.{disk_here, carries_same}}
 use Rattle.transcript_law.proofs.{links.Downing.{Line, put_kept, so_far, link_now}}
@@ -52,7 +52,7 @@ module _ (line : Line) (back : Back line) where
   fuse = node.arm.fuse
 
   abbrev power : Power
-  power = record { arm = node.arm; off = node.off }
+  power = record { arm = node.arm; off = node.off; clock = node.clock }
 
   abbrev shelf : Shelf
   shelf = retreat.shelf line back
@@ -98,6 +98,7 @@ module _ (line : Line) (back : Back line) where
       let a = unlinks line back (there line asked_kept) in let b = unlinks line back (there line (shut_kept x)) in
       record {
         offs = offs_same (gone line asked_kept) (gone line (shut_kept x)) (same_beside x);
+        clocks = λ m. ap clock_of (same_arms (gone line asked_kept) (gone line (shut_kept x)) (same_beside x) m);
         clients = same_clients (gone line asked_kept) (gone line (shut_kept x)) (same_beside x);
         vbs = λ m q. b.vbs m q ∙ elim (m == n) as (λ t. vb_in (if t then Some (with_kept node (unarmed v (shut_kept x))) else w.nodes m) q ≡ vb_in (if t then Some (with_kept node (unarmed v asked_kept)) else w.nodes m) q) [ true ↦ refl | false ↦ refl ] ∙ sym (a.vbs m q);
         stands = b.shelves n v ∙ shelf_now line (shut_kept x) x (shelf_found states.1 v x);

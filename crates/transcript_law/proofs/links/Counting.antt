@@ -12,7 +12,8 @@ use Rattle.transcript_law.proofs.invariant.Agreement.{active_counts, Agrees, Agr
 use Rattle.transcript_law.proofs.{invariant.Counts.{counts_agree}, invariant.Majorities.{counts_more}}
 use Rattle.transcript_law.specs.Chronicles.{after_count}
 use Rattle.transcript_law.proofs.{invariant.Carried.{talk_same, told_of_same}, lines.ClientLines.{clients_quiet}, disks.Disks.{beside_in}, invariant.JobSteps.{put_over}, invariant.LinkRows.{put_is_found, put_twice}, lines.Lines.{AreQuiet, after_more, lawful_more, quiet_more}}
-use Rattle.transcript_law.proofs.answers.{Committed.{AllHowTold, all_told}, Explained.{IsExplained, explained}}
+use Rattle.transcript_law.proofs.answers.{Claims.{ClaimAt, call_claims, changes_claim}, Committed.{AllHowTold, all_claimed, all_told}, Explained.{IsExplained, explained}}
+use Rattle.{durability.specs.declared.waiting.Waiting.{Waiting}, transcript_law.specs.Feeding.{client_in}, vb_types.specs.declared.change.Pend.{Pend}}
 use Rattle.transcript_law.proofs.{verbs.NodeLines.{node_changed, node_grown, put_same, shelves_again, shelves_put}, links.Posting.{posts_go, posts_of_clients, posts_ranged}, invariant.Ranged.{NodeRanged}, links.Requests.{ack_answered, all_set, bytes_answered, passed_end}, links.Windows.{streaming_served}, invariant.Seats.{seat}}
 use Rattle.transcript_law.proofs.verbs.Settling.{SettlesOn, Steady, changes_quiet, changes_told, settled_told, settles}
 use Rattle.transcript_law.proofs.{links.Spoken.{spoken_pushed}, invariant.Tables.{if_known}, links.Talks.{come, more_down, next_up}, lines.Telling.{LawfulBefore, before_more, none_before, told_more}, links.Unread.{answering, heard_link, readable_up, reread, unread}}
@@ -291,7 +292,7 @@ module _ (stays : StaysSound) (steady : Steady) (w0 : PlainWorld) (r0 : Chronicl
 
         agrees3 : AgreesIn idle w3 r3 told_now.cluster
         agrees3 = counts_agree w2 w3 r told_now.cluster m v pv pv.others (with_ack pv.acks member seq) (record (r.counts_at m v) { acks = (member, seq) ∷ (r.counts_at m v).acks }) agrees2 (ap (λ o. vb_in o v) found2 ∙ known)
-            (ack_sound pv member seq active producer.sound) (counts_more (r.counts_at m v) pv.others pv.acks member seq (subst (λ k. member < k) (sym producer.sound.links.each) few) (active_counts active producer.counts))
+            (ack_sound pv member seq active producer.sound) (counts_more (r.counts_at m v) pv.others pv.acks member seq (subst (λ k. member < k) (sym producer.sound.links.each) few) (active_counts active producer.counts)) refl refl
             (node_changed w2 m v told_x.0 acked_node acked_vb found2 (λ q. refl) (λ q o. refl) refl) (shelves_again w2 m told_x.0 acked_node (λ q. refl) m v ∙ shelves_put w2 m told_x.0 found2 m v)
 
         -- and commits what it may
@@ -326,16 +327,18 @@ module _ (stays : StaysSound) (steady : Steady) (w0 : PlainWorld) (r0 : Chronicl
         posts = all_posted reply.resolved last_node
 
         -- each outcome that is a commit was told with it
-        paid : AllHowTold m r4.made reply.resolved
+        paid : AllHowTold m r4.made (ClaimAt r4 m last_node.clients) reply.resolved
         paid =
             let asked : VbCall = VbCall.Ack member seq in
             let refused : Plain × VbReply = (pv, refusal_reply Status.NotMyVbucket) in
             let beyond : Plain × VbReply = (pv, refusal_reply Status.Erange) in
             let settling : Plain × VbReply = also_resolved (quiet_reply VbAnswer.Done) (settled acked_vb) in
             let is_so : Plain × VbReply → Type 0 = λ x. All (IsExplained pv asked x.1.branch x.1.changes) x.1.resolved in
-            subst (λ ls. AllHowTold m (after_lines r3 ls).made reply.resolved) (settled_told m v (quiet_reply VbAnswer.Done) acked_vb (newest_branch acked_vb.log) settles_on.cs refl settles_on.changes (ap newest_branch settles_on.log))
-            (all_told r3 m v reply.branch reply.changes pv asked reply.resolved
-            (subst (λ b. is_so (if b then beyond else settling)) within (subst (λ b. is_so (if b then (if nat_lt pv.position.at seq then beyond else settling) else refused)) active (explained pv asked before.sound tt))))
+            let claim : ℕ → Waiting → Pend → Type 0 = ClaimAt r3 m x.0.clients in
+            all_claimed m r4.made claim (ClaimAt r4 m last_node.clients) reply.resolved (changes_claim r3 m v (newest_branch acked_vb.log) settles_on.cs x.0.clients)
+            (subst (λ ls. AllHowTold m (after_lines r3 ls).made claim reply.resolved) (settled_told m v (quiet_reply VbAnswer.Done) acked_vb (newest_branch acked_vb.log) settles_on.cs refl settles_on.changes (ap newest_branch settles_on.log))
+            (all_told r3 m v reply.branch claim reply.changes pv asked reply.resolved (call_claims w2 r m v pv asked x.0.clients tt agrees2.clients.owed (ap (λ o. vb_in o v) found2 ∙ known) (λ d. ap (λ o. client_in o d) found2))
+            (subst (λ b. is_so (if b then beyond else settling)) within (subst (λ b. is_so (if b then (if nat_lt pv.position.at seq then beyond else settling) else refused)) active (explained pv asked before.sound tt)))))
 
         went : LawfulFrom r4 posts.1 × Agrees (with_node_at w2 m posts.0) (after_lines r4 posts.1)
         went = posts_go stays steady w2 r4 m last_node reply.resolved ranged4 paid agrees4

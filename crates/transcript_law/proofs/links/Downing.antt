@@ -21,7 +21,7 @@ use Rattle.node_world.specs.declared.arm.Fired.TheVariants as fired
 use Rattle.transcript_law.specs.LineAnswers.{FailsIn, IsNoted, StopsIn, rollbacks_in_lines}
 use Rattle.vb_disk.specs.declared.fuse.Fuse.{Fuse}
 use Rattle.vb_disk.specs.declared.fuse.Fuse.TheVariants.{Off}
-use Rattle.{transcript_law.specs.Chronicles.{ArmKnown, DiskKnown, after_append, after_calls, appending, calls_of_append, is_rollback, rollback_of}, vb_events.specs.declared.event.Answer.{Answer}, vb_types.specs.declared.journal.Record.{Record}}
+use Rattle.{transcript_law.specs.Chronicles.{DiskKnown, after_append, after_calls, appending, calls_of_append, is_rollback, rollback_of}, vb_events.specs.declared.event.Answer.{Answer}, vb_types.specs.declared.journal.Record.{Record}}
 use Rattle.vb_events.specs.declared.event.Answer.TheVariants as answer
 use Rattle.vb_events.specs.declared.event.Cause.TheVariants as cause
 use Rattle.transcript_law.proofs.{disks.ArmedLines.{ArmedCame}, invariant.Agreement.{Agrees, RestsIn}, invariant.Carrying.{Changed, SamePowers}, disks.Disks.{beside_in}, verbs.NodeLines.{shelves_again, shelves_there}, invariant.OneLink.{consumer_rests, put_ends}}
@@ -331,7 +331,7 @@ module _ (line : Line) where
   -- the vBucket and its journal are others, of which one line tells
   module _ (f : Frame) (rest : List Frame) (states : Kept) (shelves : Shelves) (at at' : Asker) (events : List Event) (fv fv' : Plain) (told : Event) (c' : Cluster) (g : Going (f ∷ rest) states at events)
       (journals : (q : ℕ) → (q ≡ v → ⊥) → shelves q ≡ states.1 q) (known : vb_of (now states at) n v ≡ Some fv) (role : fv'.role ≡ fv.role) (streams : fv'.streams ≡ fv.streams)
-      (arms : (after_line (after_lines r events) told).arm_at ≡ (after_lines r events).arm_at) (stays : ((after_line (after_lines r events) told).disk_at n v).there ≡ ((after_lines r events).disk_at n v).there)
+      (arms : (after_line (after_lines r events) told).arm_at ≡ (after_lines r events).arm_at) (clocks : (after_line (after_lines r events) told).clock_at ≡ (after_lines r events).clock_at) (stays : ((after_line (after_lines r events) told).disk_at n v).there ≡ ((after_lines r events).disk_at n v).there)
       (taken : TakenOf l n v (after_lines r events) (after_line (after_lines r events) told)) (member : MemberChanged k g.cluster c') (sound : SoundCluster top c')
       (vb : VbAgrees (after_line (after_lines r events) told) n v (c'.nodes k) fv')
       (disk : DiskIsIf ((after_line (after_lines r events) told).disk_at n v) (c'.disks k) (shelf_of (now (put_kept states shelves v fv') at') n v) (Some fv')) where
@@ -353,7 +353,7 @@ module _ (line : Line) where
 
     rests : RestsIn (now states' at') (after_line before told) c'
     rests = consumer_rests (busy_at (f ∷ rest)) (now states at) (now states' at') before (after_line before told) g.cluster c' l (link_now at) fv fv' (row_put link_number l (link_now at') (now states at).links)
-        g.agrees (found_now states at) known role streams changed taken member vb disk (λ m. ap (λ (t : ℕ → ArmKnown). t m) arms) stays
+        g.agrees (found_now states at) known role streams changed taken member vb disk (λ m i. record { arm = arms i m; clock = clocks i m }) stays
         (put_ends (busy_at (f ∷ rest)) (now states at) (now states' at') before g.cluster l (link_now at) (link_now at') g.agrees (found_now states at) (record { dialed = refl; desk = refl }) changed.powers changed.linked)
 
     -- with these frames to come
@@ -379,7 +379,7 @@ module _ (line : Line) where
         quiet = quiet_more events (told ∷ []) g.quiet (quiet, tt);
         onward = record { arm = g.onward.arm; lines = onward_more events told g.onward.lines onward };
         cluster = c';
-        agrees = moved_agrees f rest states states.1 at at' events fv fv' told c' g (λ q o. refl) known role streams same.arms (ap (λ (t : ℕ → ℕ → DiskKnown). (t n v).there) same.disks) taken member sound vb disk rest a;
+        agrees = moved_agrees f rest states states.1 at at' events fv fv' told c' g (λ q o. refl) known role streams same.arms same.clocks (ap (λ (t : ℕ → ℕ → DiskKnown). (t n v).there) same.disks) taken member sound vb disk rest a;
       }
 
   -- the dial of the link

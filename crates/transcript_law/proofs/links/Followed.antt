@@ -7,8 +7,9 @@ use Rattle.transcript_law.proofs.Words.{nat_tests, All, All-append, All-nil, All
 use Rattle.transcript_law.proofs.Words.{append_assoc, holds_fewer, holds_same, front, uuid_of, fork_of, Feed, Member, Cluster, above, member_reach, adopted, marked_by, received, start_cases, at_le, Received, Span, with_seal}
 use Rattle.transcript_law.proofs.Words.{with_change, span_of, last_at, Grown, DialResult, States, with_vb_at, call_at, Call, Prog, after, VbReply, VbCall, Plain, plain_step, is_active, quiet_reply, refusal_reply}
 use Rattle.transcript_law.proofs.{Words.{is_follower, is_answerable, marker_fits, marked_vb, is_next, with_received_change, Sound, StaysSound, Chronicle, held_more, with_at, known_history}, invariant.Tables.{at_here}}
-use Rattle.transcript_law.proofs.{invariant.Wholes.{joined_opens, WholeTo, fork_held, whole_before, whole_sealed, not_inside, spanned_marked, spanned_received, from_is}, invariant.Agreement.{ActFits, ChangeFits, EntryFits, BranchAgrees, WritesIf}}
-use Rattle.transcript_law.proofs.{invariant.Agreement.{all_rise, no_counts, own_history, VbAgrees, marker_start, top}, invariant.Carried.{no_writer}}
+use Rattle.transcript_law.proofs.invariant.Agreement.{ActFits, BranchAgrees, ChangeFits, EntryFits, VbAgrees, WritesIf, all_rise, marker_start, no_counts, no_lefts, no_times, own_history, top}
+use Rattle.transcript_law.proofs.invariant.Carried.{no_writer}
+use Rattle.transcript_law.proofs.invariant.Wholes.{WholeTo, from_is, joined_opens, not_inside, spanned_marked, spanned_received, whole_before, whole_sealed}
 use Rattle.{branch_model.proofs.Holding.{holds_received, holds_whole}, branch_model.proofs.Lists.{in_left}, branch_model.specs.Requests.{marked}, std.proofs.Math.Nat.{min-eq_left, min-eq_right}}
 use Rattle.{std.specs.Prelude.{max, min, option_map}, transcript_law.specs.Chronicles.{after_adopt}, vb_calls.specs.Following.{cas_of, completed_act, receive_as}, vb_calls.specs.Spans.{received_joined}}
 use Rattle.{vb_calls.specs.State.{pending_of}, vb_types.specs.declared.change.Act.TheVariants.{Abort, Commit, Prepare, Remove, Set}, vbucket.proofs.Grown.{received_grown}}
@@ -78,13 +79,15 @@ module _ (stays : StaysSound) (r : Chronicle) (c : Cluster) (hists : (u : ℕ) �
       };
       member = record { active = x.member.active; position = x.member.position; log = refl };
       branch = new_branch;
-      holds = holds_same fv.floor (WholeTo fv.floor fv.spans fv.position) fv.position.at m.held (own_history r n v) (own_history adopting n v) (all_rise x.kept) same_front
+      holds = holds_same 0 (WholeTo fv.floor fv.spans fv.position) fv.position.at m.held (own_history r n v) (own_history adopting n v) (all_rise x.kept) same_front
           (λ i w. let low : fork_of fv.position ≤ fv.position.at = fork_low fv.position x.sound.within.0 in let k : i ≤ fork_of fv.position = w.1 in omega arith) x.holds;
     };
     role = x.role;
     opened = x.opened;
     writes = no_writes adopting n v feed.u fv.role (no_writer fv.role f);
     counts = no_counts fv.role (r.counts_at n v) fv.others fv.acks (no_writer fv.role f);
+    lefts = no_lefts fv.role (r.counts_at n v).risen fv.position.at fv.waiting (no_writer fv.role f);
+    times = no_times fv.role (r.counts_at n v).times fv.waiting (no_writer fv.role f);
   }
 
 -- a snapshot that begins
@@ -124,7 +127,7 @@ marked_agrees stays r n v m fv feed x more start a f fits e above =
         told = record { held = a.held; log = a.log; snap = at_here r.snap_at n v (Some (min start fv.position.at, x.0)); unlogged = a.unlogged };
         member = record { active = a.member.active; position = ap (λ s. record { ss = s; se = x.0; at = m.position.at }) (sym e) ∙ ap (λ p. marked p start x.0) a.member.position; log = a.member.log };
         branch = a.branch;
-        holds = holds_fewer fv.floor (WholeTo fv.floor (with_seal fv.spans) p') (WholeTo fv.floor fv.spans fv.position) m.held (own_history r n v) (λ i w. (
+        holds = holds_fewer 0 (WholeTo fv.floor (with_seal fv.spans) p') (WholeTo fv.floor fv.spans fv.position) m.held (own_history r n v) (λ i w. (
           whole_sealed fv.spans i w.0,
           (let k : i ≤ fork_of p' = w.1 in ⊎_elim
               (λ c. let z : fv.position.at ≡ x.0 = c.0 in absurd (omega arith))
@@ -137,6 +140,8 @@ marked_agrees stays r n v m fv feed x more start a f fits e above =
       opened = at_here r.open_at n v false;
       writes = no_writes (ranged_told r n v (min start fv.position.at) x.0) n v m.br fv.role (no_writer fv.role f);
       counts = no_counts fv.role (r.counts_at n v) fv.others fv.acks (no_writer fv.role f);
+      lefts = no_lefts fv.role (r.counts_at n v).risen fv.position.at fv.waiting (no_writer fv.role f);
+      times = no_times fv.role (r.counts_at n v).times fv.waiting (no_writer fv.role f);
     }
 
 -- a change that comes next
@@ -180,7 +185,7 @@ received_shelf {d = d} fv c rests i x =
 
 module _ (stays : StaysSound) (r : Chronicle) (n v : ℕ) (m : Member) (fv : Plain) (c : Change) (later : List Change) (a : VbAgrees r n v m fv) (f : is_follower fv.role ≡ true) (next : is_next fv.position c.seq ≡ true)
     (fits : ChangeFits c) (done : completed_act (pending_of fv c.key) (act_told c.act) ≡ Some c.act) (points_of_branch : IsOf (own_history r n v) c) (rises_h : Rises 0 top (own_history r n v))
-    (followed : HasLast (above (m.held ++ c ∷ []) m.position.ss) (own_history r n v) m.position.ss c.seq m.position.se) where
+    (forked : HasLast m.held (own_history r n v) 0 (fork_of fv.position) (fork_of fv.position)) (followed : HasLast (above (m.held ++ c ∷ []) m.position.ss) (own_history r n v) m.position.ss c.seq m.position.se) where
   abbrev p : Position
   p = fv.position
 
@@ -206,11 +211,11 @@ module _ (stays : StaysSound) (r : Chronicle) (n v : ℕ) (m : Member) (fv : Pla
   fork_ss : fork_of p ≡ p.ss
   fork_ss = ⊎_elim (λ q. let z : p.at ≡ p.se = q.0 in let on = goes_on in let low : c.seq ≤ p.se = grind (arith, nat_tests, next) in absurd (omega arith)) (λ q. q.1) (start_cases p.ss p.se p.at)
 
-  at_start : HasLast m.held (own_history r n v) fv.floor p.ss p.ss
-  at_start = subst (λ i. HasLast m.held (own_history r n v) fv.floor i i) fork_ss (fork_held fv.role fv.floor fv.spans p m.held (own_history r n v) a.spanned a.sound.spans a.holds)
+  at_start : HasLast m.held (own_history r n v) 0 p.ss p.ss
+  at_start = subst (λ i. HasLast m.held (own_history r n v) 0 i i) fork_ss forked
 
   -- once the snapshot is whole
-  at_end : c.seq ≡ p.se → HasLast (m.held ++ c ∷ []) (own_history r n v) fv.floor c.seq c.seq
+  at_end : c.seq ≡ p.se → HasLast (m.held ++ c ∷ []) (own_history r n v) 0 c.seq c.seq
   at_end q =
       let level : m.position.ss ≡ p.ss = ap (λ (y : Position). y.ss) a.member.position in
       let level_se : m.position.se ≡ p.se = ap (λ (y : Position). y.se) a.member.position in let within : p.ss ≤ p.at = a.sound.within.0 in
@@ -218,16 +223,16 @@ module _ (stays : StaysSound) (r : Chronicle) (n v : ℕ) (m : Member) (fv : Pla
       let got : HasLast (above (m.held ++ c ∷ []) m.position.ss) (own_history r n v) p.ss c.seq c.seq =
       subst (λ i. HasLast (above (m.held ++ c ∷ []) m.position.ss) (own_history r n v) i c.seq c.seq) level
       (subst (λ i. HasLast (above (m.held ++ c ∷ []) m.position.ss) (own_history r n v) m.position.ss c.seq i) (level_se ∙ sym q) followed) in
-      holds_whole fv.floor top p.ss c.seq (m.held ++ c ∷ []) (above (m.held ++ c ∷ []) m.position.ss) (own_history r n v) rises_h (omega arith)
+      holds_whole 0 top p.ss c.seq (m.held ++ c ∷ []) (above (m.held ++ c ∷ []) m.position.ss) (own_history r n v) rises_h (omega arith)
       (λ slot d e l k. let o = at_start slot d e l k in (o.0, in_left o.0 m.held (c ∷ []) o.1, o.2)) got
       (λ y i. (in_filter (λ d. nat_lt m.position.ss d.seq) y (m.held ++ c ∷ []) i).0)
 
-  split : (i : ℕ) → WholeTo fv.floor (with_change fv.spans joined alone) p' i → WholeTo fv.floor fv.spans p i ⊎ HasLast (m.held ++ c ∷ []) (own_history r n v) fv.floor i i
+  split : (i : ℕ) → WholeTo fv.floor (with_change fv.spans joined alone) p' i → WholeTo fv.floor fv.spans p i ⊎ HasLast (m.held ++ c ∷ []) (own_history r n v) 0 i i
   split i w = ⊎_elim (λ inside. ⊎_elim (λ q.
       let z : c.seq ≡ p.se = q.0 in let k : fork_of p' ≡ c.seq = q.1 in let most : i ≤ fork_of p' = w.1 in
       ⊎_elim
       (λ below. absurd (not_inside i c.seq p.ss fv.spans joined alone grown refl refl (λ x e. from_is x.origin p.ss p.se (a.spanned.current x rests e)) inside below w.0))
-      (λ reached. inr (let same : i ≡ c.seq = omega arith in subst (λ y. HasLast (m.held ++ c ∷ []) (own_history r n v) fv.floor y y) (sym same) (at_end z)))
+      (λ reached. inr (let same : i ≡ c.seq = omega arith in subst (λ y. HasLast (m.held ++ c ∷ []) (own_history r n v) 0 y y) (sym same) (at_end z)))
       (cases_lt i c.seq))
       (λ q. let k : fork_of p' ≡ p.ss = q.1 in let most : i ≤ fork_of p' = w.1 in absurd (omega arith))
       (start_cases p'.ss p'.se p'.at))
@@ -252,10 +257,12 @@ module _ (stays : StaysSound) (r : Chronicle) (n v : ℕ) (m : Member) (fv : Pla
       told = record { held = at_here r.held n v (r.held n v ++ c ∷ []) ∙ ap (λ h. h ++ c ∷ []) a.held; log = a.log; snap = a.snap; unlogged = a.unlogged };
       member = record { active = a.member.active; position = ap (λ y. record { ss = y.ss; se = y.se; at = c.seq }) a.member.position; log = a.member.log };
       branch = a.branch;
-      holds = holds_received fv.floor (WholeTo fv.floor fv.spans p) (WholeTo fv.floor (with_change fv.spans joined alone) p') m.held (own_history r n v) c points_of_branch split a.holds;
+      holds = holds_received 0 (WholeTo fv.floor fv.spans p) (WholeTo fv.floor (with_change fv.spans joined alone) p') m.held (own_history r n v) c points_of_branch split a.holds;
     };
     role = a.role;
     opened = at_here r.open_at n v true ∙ sym (joined_opens fv.spans joined alone);
     writes = no_writes (record r { held = held_more r n v c; open_at = with_at r.open_at n v true }) n v m.br fv.role rests;
     counts = no_counts fv.role (r.counts_at n v) fv.others fv.acks rests;
+    lefts = no_lefts fv.role (r.counts_at n v).risen c.seq fv.waiting rests;
+    times = no_times fv.role (r.counts_at n v).times fv.waiting rests;
   }

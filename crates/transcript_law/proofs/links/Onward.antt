@@ -38,21 +38,22 @@ AreOnward (line ∷ lines) = IsOnward line × AreOnward lines
 pub record SameBeside (r r' : Chronicle) : Type 0 where
   pub dials : r'.dial_of ≡ r.dial_of
   pub arms : r'.arm_at ≡ r.arm_at
+  pub clocks : r'.clock_at ≡ r.clock_at
   pub disks : r'.disk_at ≡ r.disk_at
   pub points : r'.point_of ≡ r.point_of
 
 pub onward_same : (r : Chronicle) (line : Event) → IsOnward line → SameBeside r (after_line r line)
-onward_same r (Event.Adopted n v log) x = record { dials = refl; arms = refl; disks = refl; points = refl }
-onward_same r (Event.Ranged n v ss se) x = record { dials = refl; arms = refl; disks = refl; points = refl }
-onward_same r (Event.Got n v stream change) x = record { dials = refl; arms = refl; disks = refl; points = refl }
-onward_same r (Event.Acknowledged stream n v seq saved) x = record { dials = refl; arms = refl; disks = refl; points = refl }
+onward_same r (Event.Adopted n v log) x = record { dials = refl; arms = refl; clocks = refl; disks = refl; points = refl }
+onward_same r (Event.Ranged n v ss se) x = record { dials = refl; arms = refl; clocks = refl; disks = refl; points = refl }
+onward_same r (Event.Got n v stream change) x = record { dials = refl; arms = refl; clocks = refl; disks = refl; points = refl }
+onward_same r (Event.Acknowledged stream n v seq saved) x = record { dials = refl; arms = refl; clocks = refl; disks = refl; points = refl }
 onward_same r other x = absurd x
 
 pub onward_all : (r : Chronicle) (lines : List Event) → AreOnward lines → SameBeside r (after_lines r lines)
-onward_all r [] x = record { dials = refl; arms = refl; disks = refl; points = refl }
+onward_all r [] x = record { dials = refl; arms = refl; clocks = refl; disks = refl; points = refl }
 onward_all r (line ∷ lines) x =
     let a = onward_same r line x.0 in let b = onward_all (after_line r line) lines x.1 in
-    record { dials = b.dials ∙ a.dials; arms = b.arms ∙ a.arms; disks = b.disks ∙ a.disks; points = b.points ∙ a.points }
+    record { dials = b.dials ∙ a.dials; arms = b.arms ∙ a.arms; clocks = b.clocks ∙ a.clocks; disks = b.disks ∙ a.disks; points = b.points ∙ a.points }
 
 -- and tells of no rollback
 pub onward_none : (lines : List Event) → AreOnward lines → list_any is_rollback lines ≡ false

@@ -9,6 +9,7 @@ use Rattle.transcript_law.proofs.lines.Lines.{IsQuiet, AreQuiet, after_more, law
 use Rattle.transcript_law.proofs.invariant.Tables.{changed_there}
 use Rattle.{dcp_producer.specs.Pulling.{Pulling, none_quiet}, transcript_law.specs.Undone.{AllPut}}
 use Rattle.transcript_law.proofs.invariant.Carrying.{SamePowers, ToldOf}
+use Rattle.transcript_law.proofs.invariant.Owing.{later_same}
 
 -- the link with this end at its producer, and with what that wrote
 abbrev pub served_link : PlainLink → Served → PlainLink
@@ -84,6 +85,7 @@ so_far_more w r l link node states states' s end out count line told g is quiet 
 -- a line about the link's stream
 pub told_stream : (r : Chronicle) (l : ℕ) (f : Granted → Granted) → ToldOf l r (with_changed r (StreamName.Link l) f)
 told_stream r l f = record {
+  last = later_same _ _ refl refl;
   tree = refl;
   writer_of = λ u. refl;
   rows = λ m q. refl;

@@ -11,7 +11,7 @@ use Rattle.transcript_law.proofs.Words.{nat_lt, concat, eq-eqb, ne_eqb, nat_test
 use Rattle.transcript_law.proofs.Words.{StreamAsk, request_of, Cluster, Move, SoundCluster, happens, keeps, Plain, quiet_reply, refusal_reply, after_job, after_job_bind, after_job_lift, lift, Position}
 use Rattle.transcript_law.proofs.Words.{with_vb_at, call_at, row_out, row_put, DialResult, with_line, roll_back, named_ask, link_number, PlainLink, StreamName, PlainWorld, with_links, unlinked}
 use Rattle.transcript_law.proofs.{Words.{Chronicle, after_end, after_lines, LawfulLine}, invariant.Tables.{at_here}, invariant.Agreement.{shelf_of, DiskIsIf, IsArm, PowerIs, PowerIsIf, Power, power_of}}
-use Rattle.transcript_law.proofs.invariant.Agreement.{AgreesAt, Agrees, VbAgrees, UpIs, DownAgrees, ServerIs, LinkAgrees, is_refused_ack, spoken, top, consumer_seat, AgreesIn, Busy, idle, EndsStand}
+use Rattle.transcript_law.proofs.invariant.Agreement.{AgreesAt, Agrees, VbAgrees, UpIs, DownAgrees, ServerIs, LinkAgrees, is_refused_ack, spoken, top, consumer_seat, AgreesIn, Busy, idle, own_history, EndsStand}
 use Rattle.transcript_law.proofs.{invariant.LinkRows.{put_out}, invariant.Carrying.{MemberChanged, Changed, BecameOver, Rearmed, Relinked}, links.Cutting.{unlinking}, invariant.OneLink.{put_here, put_there, disk_here, disk_there, consumer_quiet, carries_armed, carries_left, carries_same, consumer_rests, out_ends}}
 use Rattle.transcript_law.proofs.{lines.Lines.{lawful_more, quiet_more, after_more}, links.Verdicts.{asks_in_range}, links.Frames.{spelled_more}, links.Firsts.{first_count}, links.Requests.{answers_past, ask_readable, request_last, waits_asking}, links.Downing.{Asker, Line, put_kept, so_far, link_now}}
 use Rattle.transcript_law.proofs.{links.Downing.{there, now, gone, lifted_at, busy_at, Before, Reached, linked, moved_agrees, same_powers, shelf_now, shelves_but, found_now, vb_here, vb_put, vb_others}, invariant.Carried.{none_open, one_idle, one_none}, disks.Disks.{ShelfIs, disk_same, parts_of, power_in}}
@@ -31,7 +31,8 @@ use Rattle.vb_disk.specs.declared.fuse.Fuse.TheVariants.{Off}
 use Rattle.transcript_law.proofs.invariant.JobSteps.{put_over, shelf_found}
 use Rattle.vb_types.specs.declared.journal.Record.TheVariants as noted
 use Rattle.dcp_consumer.specs.declared.handshake.Handshake.TheVariants as waiting
-use Rattle.transcript_law.proofs.invariant.Bounded.{Weighs, rolled_reads}
+use Rattle.transcript_law.proofs.{invariant.Bounded.{Weighs, rolled_reads}, links.Followed.{own_is}}
+use Rattle.cluster_model.{proofs.Held.{held_at}, specs.Clusters.{HasAll}}
 use Rattle.transcript_law.proofs.Words.{upto}
 use Rattle.transcript_law.{proofs.invariant.Carrying.{same_arms, same_clients}, specs.Feeding.{client_in}}
 
@@ -100,7 +101,7 @@ module _ (line : Line) (back : Back line) where
   fuse = node.arm.fuse
 
   abbrev pub power : Power
-  power = record { arm = node.arm; off = node.off }
+  power = record { arm = node.arm; off = node.off; clock = node.clock }
 
   pub power_here : (states : Kept) → power_of (there line states) n ≡ Some power
   power_here states = ap (λ b. power_in (if b then Some (with_kept node (unarmed v states)) else w.nodes n)) (eq-eqb n n refl)
@@ -226,6 +227,10 @@ module _ (line : Line) (back : Back line) where
   heavy : Weighs (cas_of_last shelf.book) (upto (c.nodes k).held to)
   heavy = subst (λ b. Weighs (cas_of_last b) (upto (c.nodes k).held to)) written.book (rolled_reads top c k going.agrees.sound to point_there).weighs
 
+  -- its member holds the branch there
+  all_there : HasAll (own_history told n v) (c.nodes k).held to
+  all_there = subst (λ h. HasAll h (c.nodes k).held to) (own_is told c n v (c.nodes k) going.agrees.hists going.agrees.rootless agrees.branch) (held_at top c going.agrees.sound.still k to (inl point_there))
+
   abbrev pub s : DialResult
   s = so_far line at None events
 
@@ -272,7 +277,7 @@ module _ (line : Line) (back : Back line) where
     told' = after_roll told n v to
 
     agrees' : VbAgrees told' n v (c'.nodes k) fv'
-    agrees' = subst (λ m. VbAgrees told' n v m fv') (sym (put_here c.nodes k (rolled (c.nodes k) to))) (rolled_agrees stays told n v (c.nodes k) fv shelf.book to agrees mine.follows covered is_point held_there small heavy)
+    agrees' = subst (λ m. VbAgrees told' n v m fv') (sym (put_here c.nodes k (rolled (c.nodes k) to))) (rolled_agrees stays told n v (c.nodes k) fv shelf.book to agrees mine.follows covered is_point held_there small heavy all_there)
 
     changed : MemberChanged k c c'
     changed = record { tree = refl; others = λ j ne. put_there c.nodes k (rolled (c.nodes k) to) j ne; disks = λ j ne. disk_there c.disks k (appended (c.disks k) (noted.Roll to)) j ne }
@@ -418,7 +423,7 @@ module _ (line : Line) (back : Back line) where
                 burnt states' left_is fires (busy_at line []) (now line states' again) (with_links (lifted_at line states') (row_put link_number l (link_now line again) w.links)) (after_lines r events') c'
                     (lifts states' (row_put link_number l (link_now line again) w.links))
                     (ap (λ (t : Chronicle). t.arm_at) (after_more r events (rolled_line ∷ [])))
-                    (moved_agrees line f rest states shelves' at again events fv fv' rolled_line c' going journals mine.follower_is refl refl refl there_still (roll_taken_of l n v to told) changed sound agrees' (disk' (shelf_of (now line states' again) n v) shelf_there) [] (link_agrees low))
+                    (moved_agrees line f rest states shelves' at again events fv fv' rolled_line c' going journals mine.follower_is refl refl refl refl there_still (roll_taken_of l n v to told) changed sound agrees' (disk' (shelf_of (now line states' again) n v) shelf_there) [] (link_agrees low))
                     (one_none l),
                 (told_closed ∙ opens, (stands_under fuse was.may_fire passes).answers),
                 one_back events n v named to going.onward.lines,

@@ -3,13 +3,18 @@ use Rattle.transcript_law.proofs.{invariant.Bounded.{Weighs}, invariant.Waiting.
 use Rattle.std.specs.Prelude.{◌≡◌, ◌<◌, ◌≤◌, ◌∷◌, ◌==◌, ◌&&◌, ◌^◌, if◌then◌else◌}
 use Rattle.transcript_law.proofs.Words.{ℕ, Bool, true, false, cond, List, [], map, filter, refl, ap, sym, ◌∙◌, subst, arith, inl, inr, ⊎_elim, append-nil, Option, Some, None, fork_of, start_cases, image_of, Picture}
 use Rattle.transcript_law.proofs.Words.{nat_le, All, option_map, eq-eqb, eqb-true, All-nil, All-cons, All-head, All-tail, IsIn, Rises}
-use Rattle.transcript_law.proofs.Words.{LogEntry, upto, kept_to, request_of, Member, Plain, plain_step, quiet_reply, refusal_reply, after_job, Ended}
-use Rattle.transcript_law.proofs.Words.{complete_position, is_follower, no_spans, States, with_vb_at, Sound, StaysSound, Dial, Change}
-use Rattle.transcript_law.proofs.{Words.{Chronicle, is_dial_for, after_end}, invariant.Tables.{at_here, at_there, id_there, ended_there}, invariant.Wholes.{WholeTo, spanned_none}, invariant.Agreement.{ChangeFits, all_rise}}
-use Rattle.transcript_law.proofs.{invariant.Agreement.{EntryFits, own_history, VbAgrees, no_counts, vb_row, vb_contents}, invariant.Carrying.{IsApart, TakenOf}, links.Followed.{no_writes}, invariant.Carried.{no_writer}, disks.Disks.{ShelfIs, bare, no_spots, parts_of}}
-use Rattle.branch_model.proofs.{Holding.{holds_low}, Journaling.{image_at_point, point_seq, rolls_farthest, rolls_to}, Lists.{from_upto, rises_upto}}
+use Rattle.branch_model.proofs.Journaling.{image_at_point, point_seq, rolls_farthest, rolls_to}
+use Rattle.branch_model.proofs.Lists.{from_upto, rises_upto}
+use Rattle.transcript_law.proofs.Words.{Change, Chronicle, Dial, Ended, HasLast, LogEntry, Member, Plain, Sound, States, StaysSound, after_end, after_job, complete_position, is_dial_for, is_follower, kept_to, plain_step, quiet_reply, refusal_reply, request_of, upto, with_vb_at}
+use Rattle.transcript_law.proofs.disks.Disks.{ShelfIs, bare, no_spots, parts_of}
+use Rattle.transcript_law.proofs.invariant.Agreement.{ChangeFits, EntryFits, VbAgrees, all_rise, no_counts, no_lefts, no_times, own_history, vb_contents, vb_row}
+use Rattle.transcript_law.proofs.invariant.Carried.{no_writer}
+use Rattle.transcript_law.proofs.invariant.Carrying.{IsApart, TakenOf}
+use Rattle.transcript_law.proofs.invariant.Tables.{at_here, at_there, ended_there, id_there}
+use Rattle.transcript_law.proofs.invariant.Wholes.{spanned_none}
+use Rattle.transcript_law.proofs.links.Followed.{no_writes}
 use Rattle.branch_model.specs.Journals.{Covered, IsPoint, batches, cas_of_last, complete_ends, complete_points, greatest, image_at, points, roll_point}
-use Rattle.{cluster_model.specs.Clusters.{Disk, appended, rolled}, disk_journals.specs.Arms.{under}, std.proofs.lemmas.List.Elements.{All-filter}}
+use Rattle.{cluster_model.specs.Clusters.{Disk, HasAll, appended, rolled}, disk_journals.specs.Arms.{under}, std.proofs.lemmas.List.Elements.{All-filter}}
 use Rattle.std.specs.FinMap as finite
 use Rattle.{std.proofs.lemmas.Bool.{false_from_ne_true, and_parts}, transcript_law.specs.Chronicles.{DiskKnown, after_roll, disk_back, known_batch}, transcript_law.specs.Lawfulness.{IsFarthest, IsSavedEnd}, vb_calls.specs.Following.{cas_of, rolled_vb}}
 use Rattle.{vb_calls.specs.declared.calls.VbAnswer.TheVariants.{Named, Num}, vb_calls.specs.declared.calls.VbCall.TheVariants.{Ask, RollTo}}
@@ -23,6 +28,7 @@ use Rattle.transcript_law.proofs.invariant.JobSteps.{ask_on, call_on, put_found,
 use Rattle.vb_types.specs.declared.journal.Batch.{Batch}
 use Rattle.vb_types.specs.declared.journal.Record.{Record}
 use Rattle.vb_types.specs.declared.journal.Record.TheVariants as noted
+use Rattle.transcript_law.proofs.invariant.Owing.{later_same}
 
 -- entries of a log that are kept have room in their fields, as all had
 pub kept_fit : (n : ℕ) (log : List LogEntry) → All EntryFits log → All EntryFits (kept_to n log)
@@ -42,9 +48,9 @@ fork_complete n = ⊎_elim (λ y. y.1) (λ y. y.1) (start_cases n n n)
 
 -- a vBucket that went back to a complete point of its journal holds what it held up to there, and keeps the entries that were made up to there
 pub rolled_agrees : (stays : StaysSound) (r : Chronicle) (n v : ℕ) (m : Member) (fv : Plain) (book : List Record) (to : ℕ) → VbAgrees r n v m fv → is_follower fv.role ≡ true
-    → Covered m.held (batches book) → IsPoint to (complete_points book) → to ≤ fv.position.at → cas_of_last book < 2 ^ 64 → Weighs (cas_of_last book) (upto m.held to)
+    → Covered m.held (batches book) → IsPoint to (complete_points book) → to ≤ fv.position.at → cas_of_last book < 2 ^ 64 → Weighs (cas_of_last book) (upto m.held to) → HasAll (own_history r n v) m.held to
     → VbAgrees (after_roll r n v to) n v (rolled m to) (rolled_vb fv to (image_at book to) (cas_of_last book))
-rolled_agrees stays r n v m fv book to a f covered point low small heavy =
+rolled_agrees stays r n v m fv book to a f covered point low small heavy all =
     let image : Picture = image_at book to in let cas : ℕ = cas_of_last book in
     let after : Plain = rolled_vb fv to image cas in
     let done : plain_step fv (RollTo to image cas) ≡ (after, quiet_reply (Num to)) = ap (λ b. if b then (after, quiet_reply (Num to)) else (fv, refusal_reply NotMyVbucket)) f in
@@ -82,12 +88,18 @@ rolled_agrees stays r n v m fv book to a f covered point low small heavy =
         };
         member = record { active = a.member.active; position = refl; log = ap (kept_to to) a.member.log };
         branch = a.branch;
-        holds = holds_low to (WholeTo to no_spans (complete_position to)) (upto m.held to) (own_history r n v) (λ x i. a.holds.of x (from_upto x m.held to i).0) (λ i w. let k : i ≤ fork_of (complete_position to) = w.1 in omega arith);
+        holds = record {
+          of = all.of;
+          has = λ i w. let most : i ≤ fork_of (complete_position to) = w.1 in let least : to ≤ i = w.2 in let same : to ≡ i = omega arith in
+              subst (λ z. HasLast (upto m.held to) (own_history r n v) 0 z z) same all.has;
+        };
       };
       role = a.role;
       opened = at_here r.open_at n v false;
       writes = no_writes (after_roll r n v to) n v m.br fv.role (no_writer fv.role f);
       counts = no_counts fv.role (r.counts_at n v) fv.others fv.acks (no_writer fv.role f);
+      lefts = no_lefts fv.role (r.counts_at n v).risen to fv.waiting (no_writer fv.role f);
+      times = no_times fv.role (r.counts_at n v).times fv.waiting (no_writer fv.role f);
     }
 
 -- batches as lines tell them end where they end
@@ -149,6 +161,7 @@ not_for n v (Some d) apart = false_from_ne_true (d.node == n && d.vb == v) (λ t
 -- what is told of a rollback of the vBucket that the link l feeds
 pub roll_taken_of : (l n v to : ℕ) (r : Chronicle) → TakenOf l n v r (after_roll r n v to)
 roll_taken_of l n v to r = record {
+  last = later_same _ _ refl refl;
   tree = refl;
   writer_of = λ u. refl;
   rows = λ m q ne i. record (vb_row r m q) {
@@ -171,6 +184,7 @@ pub roll_end_of : (l n v to : ℕ) (r : Chronicle) → TakenOf l n v r (after_en
 roll_end_of l n v to r =
     let t = roll_taken_of l n v to r in let x : Chronicle = after_roll r n v to in
     record {
+      last = later_same _ _ refl refl;
       tree = refl;
       writer_of = t.writer_of;
       rows = t.rows;

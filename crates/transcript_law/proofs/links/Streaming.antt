@@ -25,10 +25,12 @@ use Rattle.vb_events.specs.declared.event.Event.TheVariants as event
 use Rattle.vb_calls.specs.declared.calls.VbCall.TheVariants as call
 use Rattle.dcp_consumer.specs.declared.handshake.Handshake.TheVariants as waiting
 use Rattle.cluster_model.proofs.Prepares.{next_fulfils}
+use Rattle.transcript_law.proofs.invariant.Forked.{fork_held}
 use Rattle.std.specs.FinMap.{get}
 use Rattle.transcript_law.proofs.{invariant.Waiting.{commit_of}, Words.{Act, Doc, Pend, Picture}}
 use Rattle.vb_calls.specs.{Following.{completed_act}, State.{pending_of}}
 use Rattle.vb_types.specs.declared.change.Act.TheVariants.{Commit}
+use Rattle.transcript_law.proofs.invariant.Owing.{later_same}
 
 -- a link with a stream that was granted, before its next frame is taken
 pub record Course (line : Line) : Type 0 where
@@ -191,6 +193,7 @@ module _ (line : Line) (course : Course line) where
       ∙ ap (λ h. after_job (lift (due_requested (with_line (with_consumer s (with_handshake s.dial.consumer (streaming_after h))) (event.Adopted n v feed.log)))) (put_vb states v fv').0 states.1) asks) tt tt
       (l, p, streaming.granted_is, mine.dialed, streaming.told, sym streaming.streams.log_lines)
       (record {
+        last = later_same _ _ refl refl;
         tree = refl;
         writer_of = λ u. refl;
         clients = λ m c. refl;
@@ -269,7 +272,7 @@ module _ (line : Line) (course : Course line) where
       (came_on (call.Marker start x.0) (message_result s) fv' _ (marker_is fv start x.0 true mine.follows a)) tt tt
       (range_is_lawful (busy_at line (f ∷ rest)) (now line states at) told c k feed going.agrees streaming.fed n v l p fv.position.at streaming.granted_is mine.dialed streaming.told streaming.streams.front_is
       (ap (last_seq 0) vb.held ∙ vb.high) (on_it (ap is_some none)) start x later streaming.streams.marks flight (subst (λ (q : Position). q.at < x.0) vb.member.position above))
-      (record { tree = refl; writer_of = λ u. refl; clients = λ m c. refl; rows = λ m q ne i. record (vb_row told m q) { opened = at_there told.open_at n v false m q ne i; contents = record (vb_contents told m q) { snap = at_there told.snap_at n v (Some (min start fv.position.at, x.0)) m q ne i } }; dials = λ j ne. refl; streams = λ j q ne other. range_there told n v (min start fv.position.at) x.0 j q (not_for n v (told.dial_of j) other); points = λ j ne other. refl })
+      (record { last = later_same _ _ refl refl; tree = refl; writer_of = λ u. refl; clients = λ m c. refl; rows = λ m q ne i. record (vb_row told m q) { opened = at_there told.open_at n v false m q ne i; contents = record (vb_contents told m q) { snap = at_there told.snap_at n v (Some (min start fv.position.at, x.0)) m q ne i } }; dials = λ j ne. refl; streams = λ j q ne other. range_there told n v (min start fv.position.at) x.0 j q (not_for n v (told.dial_of j) other); points = λ j ne other. refl })
       (c.disks k)
       (subst (λ xs. SoundCluster top (set_node c k (marked_by kn feed xs) (c.disks k))) flight
       (subst (λ y. SoundCluster top (set_node c k (marked_member kn y) (c.disks k))) streaming.fed (keeps top c (Move.Marker k) going.agrees.sound (quiet, none))))
@@ -346,10 +349,10 @@ module _ (line : Line) (course : Course line) where
       (came_on (call.Receive (change_line x)) (message_result s) fv' _ (receive_is fv x true (Some x.act) mine.follows a done)) tt tt
       (got_is_lawful (busy_at line (f ∷ rest)) (now line states at) told c k feed going.agrees streaming.fed n v l p fv.position.at streaming.granted_is mine.dialed streaming.told streaming.streams.front_is
       (ap (last_seq 0) vb.held ∙ vb.high) (on_it (ap is_some coming)) x later coming up next.0 next.1)
-      (record { tree = refl; writer_of = λ u. refl; clients = λ m c. refl; rows = λ m q ne i. record (vb_row told m q) { opened = at_there told.open_at n v true m q ne i; contents = record (vb_contents told m q) { held = at_there told.held n v (told.held n v ++ x ∷ []) m q ne i } }; dials = λ j ne. refl; streams = λ j q ne other. changed_there told' l past_next j q ne; points = λ j ne other. refl })
+      (record { last = later_same _ _ refl refl; tree = refl; writer_of = λ u. refl; clients = λ m c. refl; rows = λ m q ne i. record (vb_row told m q) { opened = at_there told.open_at n v true m q ne i; contents = record (vb_contents told m q) { held = at_there told.held n v (told.held n v ++ x ∷ []) m q ne i } }; dials = λ j ne. refl; streams = λ j q ne other. changed_there told' l past_next j q ne; points = λ j ne other. refl })
       disk
       kept
-      (received_agrees stays told n v kn fv x later vb mine.follows a fits done points_of_branch (subst (Rises 0 top) own (hist_rises top c.tree kn.br going.agrees.sound.grows)) followed)
+      (received_agrees stays told n v kn fv x later vb mine.follows a fits done points_of_branch (subst (Rises 0 top) own (hist_rises top c.tree kn.br going.agrees.sound.grows)) (fork_held c k (own_history told n v) fv.position going.agrees.sound own vb.member.position) followed)
       (λ shelf y. subst (λ q. ShelfIs (told.disk_at n v) (spanned (c.disks k) q) shelf (parts_of fv')) (λ i. record { ss = (sym vb.member.position i).ss; se = (sym vb.member.position i).se; at = x.seq }) (received_shelf fv x (no_writer fv.role mine.follows) vb.spanned y))
       mine.talk.ups
       (record {

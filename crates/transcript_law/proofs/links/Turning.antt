@@ -1,7 +1,7 @@
 -- a vBucket in another role: its streams are ended, at all links
 use Rattle.std.specs.Prelude.{◌≡◌, ◌∷◌, ◌==◌, ◌&&◌, if◌then◌else◌}
 use Rattle.transcript_law.proofs.{disks.Disks.{disk_same, parts_of, same_parts, sealed_disk}, Words.{IsIn, eq-eqb, eqb-true, hist, ne_eqb, option_map, put, with_seal}, invariant.Carried.{all_vbs}}
-use Rattle.transcript_law.proofs.{invariant.Agreement.{DiskIsIf, shelf_of}}
+use Rattle.transcript_law.proofs.{invariant.Agreement.{node_known, DiskIsIf, shelf_of}}
 use Rattle.transcript_law.proofs.Words.{ℕ, Bool, true, false, List, refl, ap, sym, ◌∙◌, subst, inl, inr, ⊎_elim, map, Option, Some, None}
 use Rattle.transcript_law.proofs.Words.{eqb-true, eqb-false, Frame, Feed, Member, Cluster, SoundCluster, Plain, is_follower, stream_ids, stream_at, ended_in, PlainStream, PlainLink}
 use Rattle.transcript_law.proofs.Words.{link_number, producer_node, consumer_node, PlainWorld, link_ended, links_ended, Granted, Chronicle, [], list_any, StreamName, ended_by}
@@ -10,8 +10,9 @@ use Rattle.transcript_law.specs.Feeding.{HasFed, HasOpen, client_in}
 use Rattle.transcript_law.proofs.invariant.Agreement.{AckedIs, vb_of, AgreesAt, Open, kept_stream, Talk, consumer_seat, producer_seat, LinkAgrees, IsLink, Differ, DifferFrom, LinksDiffer, top, idle, AgreesIn, BranchesAgree, Wants, EndsStand, DialAgrees}
 use Rattle.transcript_law.proofs.invariant.Carried.{places, stream_same, streaming_again, talk_same}
 use Rattle.transcript_law.proofs.{invariant.Agreement.{EndsUp, RestsIn, VbRow, vb_row}, invariant.Carrying.{NoNewStream, SameArms}, invariant.Resting.{ends_off, offs_arms, rests_arms}}
-use Rattle.transcript_law.proofs.invariant.{Carried.{all_there}, ClientsKept.{goes_agreed_at}, ClientsTurned.{RoleTold, StreamsEnded, all_ended, clients_turned, ended_same, id_listed}, LinkFeeds.{link_feeds}, LinkRows.{found_is_link}, Trees.{IsTold}}
+use Rattle.transcript_law.proofs.invariant.{Carried.{all_there}, ClientsKept.{fewer_at, fewer_now, goes_agreed_at}, Owed.{Fewer}, ClientsTurned.{RoleTold, StreamsEnded, all_ended, clients_turned, ended_same, id_listed}, LinkFeeds.{link_feeds}, LinkRows.{found_is_link}, Trees.{IsTold}}
 use Rattle.{node_core.specs.Clients.{PlainClient, client_ended}, transcript_law.specs.ClientStreams.{past_turn, with_clients_of}}
+use Rattle.transcript_law.proofs.invariant.Owing.{Later}
 
 -- a link whose producer keeps other streams
 abbrev pub restreamed : PlainLink → List PlainStream → PlainLink
@@ -181,7 +182,7 @@ module _ (w w' : PlainWorld) (r r' : Chronicle) (c c' : Cluster) (n v : ℕ) (vb
       subst (EndsUp w') (sym is) (ends_off w w' x (link_ended n v ids x) (offs_arms w w' became.powers) (record { dialed = same.dialed; desk = same.desk }) (a.ends x j))
 
   -- what rests beside it
-  pub turned_rests : ((m : ℕ) → r'.arm_at m ≡ r.arm_at m) → (r'.disk_at n v).there ≡ (r.disk_at n v).there → ((m q : ℕ) → (m ≡ n → q ≡ v → ⊥) → vb_row r' m q ≡ vb_row r m q) → ((j : ℕ) → (j ≡ seat n v → ⊥) → c'.disks j ≡ c.disks j) → RestsIn w' r' c'
+  pub turned_rests : ((m : ℕ) → node_known r' m ≡ node_known r m) → (r'.disk_at n v).there ≡ (r.disk_at n v).there → ((m q : ℕ) → (m ≡ n → q ≡ v → ⊥) → vb_row r' m q ≡ vb_row r m q) → ((j : ℕ) → (j ≡ seat n v → ⊥) → c'.disks j ≡ c.disks j) → RestsIn w' r' c'
   turned_rests arms same rows disks = rests_arms w w' r r' c c' a.rests became.powers arms
       (λ m q none. ⊎_elim (λ s. let z : Some vb' ≡ None = sym (ap (λ k. vb_of w' k q) s.0 ∙ ap (vb_of w' n) s.1 ∙ became.here) ∙ none in cc)
       (λ o. let apart = seats_apart m q n v o in record { vb = sym (became.there m q o) ∙ none; shelf = became.shelves m q; row = rows m q o; member = members (seat m q) apart; disk = disks (seat m q) apart }) (places n v m q))
@@ -221,8 +222,8 @@ module _ (w w' : PlainWorld) (r r' : Chronicle) (c c' : Cluster) (n v : ℕ) (vb
 
   -- what is left of the agreement is the vBuckets, the branches and what rests
   pub turned_agrees : SoundCluster top c' → ((m q : ℕ) → AgreesAt r' m q (c'.nodes (seat m q)) (vb_of w' m q)) → ((m q : ℕ) → DiskIsIf (r'.disk_at m q) (c'.disks (seat m q)) (shelf_of w' m q) (vb_of w' m q)) → BranchesAgree c'.tree r'.tree w'.uuids
-      → RestsIn w' r' c' → ((m d : ℕ) → r'.clients_at m d ≡ with_clients_of r.clients_at n (past_turn v) m d) → ((u : ℕ) → IsTold r.tree u → hist r'.tree u ≡ hist r.tree u) → AgreesIn idle w' r' c'
-  turned_agrees sound vbs disks branches rests clients same = record {
+      → RestsIn w' r' c' → ((m d : ℕ) → r'.clients_at m d ≡ with_clients_of r.clients_at n (past_turn v) m d) → ((u : ℕ) → IsTold r.tree u → hist r'.tree u ≡ hist r.tree u) → Later r r' → Fewer (Some vb) (Some vb') → AgreesIn idle w' r' c'
+  turned_agrees sound vbs disks branches rests clients same last fewer = record {
     sound = sound;
     vbs = vbs;
     disks = disks;
@@ -230,7 +231,7 @@ module _ (w w' : PlainWorld) (r r' : Chronicle) (c c' : Cluster) (n v : ℕ) (vb
     rests = rests;
     links = λ y i. let (x, j, is) = told_is_link n v ids w.links y (subst (IsLink y) became.linked i) in subst (λ k. LinkAgrees w' r' c' k [] []) (sym is) (link_told x j);
     differ = subst LinksDiffer (sym became.linked) (differ_told n v ids w.links a.differ);
-    clients = clients_turned w w' r r' n v a.clients (turned_told clients vbs same) (all_there idle w r c a) turned_feeds;
+    clients = clients_turned w w' r r' n v a.clients (turned_told clients vbs same) (all_there idle w r c a) turned_feeds last (fewer_at w w' n v became.there (fewer_now w w' n v vb vb' known became.here fewer));
   }
 
 -- a family with what it has at k is the same

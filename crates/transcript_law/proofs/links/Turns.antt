@@ -7,13 +7,13 @@ use Rattle.transcript_law.proofs.Words.{STATE_CHANGED, Halt, PlainStream, Served
 use Rattle.transcript_law.proofs.Words.{Begun, Chronicle, is_dial_of, with_item, finished, after_lines, item_of_change, IsNextItem, Readable, inl, ⊎_elim, arith, nat_tests, is_some, not, eq-eqb, ne_eqb}
 use Rattle.transcript_law.proofs.Words.{Position, Snapshot, Covers, fork_of, hist, hist_rises, Rises, ground, Move, SoundCluster, Linked, happens, flight_from, flight_end, start_cases, keeps, VbReply, Stream, Span}
 use Rattle.transcript_law.proofs.Words.{Plain, all_spans, stream_at, end_span, take_to, take_from, with_vb_at, call_at, stream_branch, with_begun, IsMarker, LawfulMark}
-use Rattle.transcript_law.proofs.invariant.Agreement.{acked_still, DownAgrees, vb_of, is_granted, is_refused_ack, spoken, Wants, BegunAgrees, kept_stream, Streaming, consumer_seat, producer_seat, LinkAgrees, IsLow, idle, AgreesIn, wants_of, EndsStand, own_history, VbAgrees, all_rise}
+use Rattle.transcript_law.proofs.invariant.Agreement.{acked_still, DownAgrees, vb_of, is_granted, is_refused_ack, spoken, Wants, BegunAgrees, kept_stream, Streaming, consumer_seat, producer_seat, LinkAgrees, IsLow, idle, AgreesIn, wants_of, EndsStand, own_history, VbAgrees}
 use Rattle.transcript_law.proofs.{invariant.Agreement.{AgreesAt, Open, top}, invariant.Tables.{is_dialed, changed_here}, invariant.LinkRows.{found_is_link, put_is_found, put_twice}, invariant.OneLink.{carries_link, carries_producer, carries_same}}
 use Rattle.transcript_law.proofs.{links.Sent.{not_found, end_readable, marker_readable}, links.Putting.{next_item_of, item_streaming, end_streaming, item_readable}, links.Marking.{whole_if, items_fit, moved_there}}
 use Rattle.transcript_law.proofs.{links.Marking.{covers_more, moved_vb, sent_member, taken_stream, start_is, reaches, marker_lawful, marker_streaming, SnapshotTaken, taken_is, span_snapshot}, links.PumpWorlds.{pumped_shelves, served_link, pumped, SoFar}}
-use Rattle.transcript_law.proofs.{links.Spoken.{message_spoken, spoken_push}, links.PumpWorlds.{TurnsSoFar, told_stream, so_far_more, pumped_here, pumped_powers, pumped_where, once_same, twice_here, twice_there, twice_same}, links.Talks.{more_down}, links.Windows.{so_far_turned, streaming_served}, lines.Pulling.{lets_through}, invariant.Seats.{seat_one}, invariant.Wholes.{WholeTo}}
-use Rattle.transcript_law.proofs.{links.Followed.{own_is}, invariant.Carrying.{Changed, Became, FedMember, FeedChanged, NoNewStream}, invariant.Carried.{sound_streams, no_writer, talk_same}}
-use Rattle.{branch_model.proofs.Holding.{holds_covers}, branch_model.proofs.Lists.{rises_higher}, cluster_model.specs.Clusters.{MaySend, sent}, dcp_producer.specs.Frames.{Next, act_sent, close_sent, item_next, marker_flags, marker_next, next_by, next_frame, over, place_requested, place_said, placed_next, quiet, reaches_end, take_answered, taken_next}}
+use Rattle.transcript_law.proofs.{links.Spoken.{message_spoken, spoken_push}, links.PumpWorlds.{TurnsSoFar, told_stream, so_far_more, pumped_here, pumped_powers, pumped_where, once_same, twice_here, twice_there, twice_same}, links.Talks.{more_down}, links.Windows.{so_far_turned, streaming_served}, lines.Pulling.{lets_through}, invariant.Seats.{seat_one}}
+use Rattle.transcript_law.proofs.{links.Followed.{own_is}, invariant.Forked.{held_covers}, invariant.Carrying.{Changed, Became, FedMember, FeedChanged, NoNewStream}, invariant.Carried.{sound_streams, no_writer, talk_same}}
+use Rattle.{cluster_model.specs.Clusters.{MaySend, sent}, dcp_producer.specs.Frames.{Next, act_sent, close_sent, item_next, marker_flags, marker_next, next_by, next_frame, over, place_requested, place_said, placed_next, quiet, reaches_end, take_answered, taken_next}}
 use Rattle.dcp_producer.{proofs.OneStream.{no_frame_of, one_came, one_frame_of, shut_frame_of}, specs.Pulling.{Pulling, frame_put, none_quiet, one_frame, pull_of}}
 use Rattle.{dcp_producer.specs.declared.desk.Desk.{Desk}, mcbp_dcp.specs.declared.message.DcpMsg.TheVariants.{SnapshotMarker, StreamEnd}, std.proofs.lemmas.Bool.{cases_Bool, false_from_ne_true}}
 use Rattle.{transcript_law.specs.Chronicles.{with_changed}, transcript_law.specs.Lawfulness.{line_act}, vb_calls.specs.Streams.{is_in_memory, place_reply}, vb_types.specs.declared.stream.Place.TheVariants.{Memory, WaitSaved}, vb_calls.specs.declared.calls.VbCall.TheVariants.{Place, Take}}
@@ -250,12 +250,9 @@ module _ (w : PlainWorld) (r : Chronicle) (l : ℕ) (link : PlainLink) (node : P
 
         covers_own : Covers snapshot.items (own_history read (producer_node here) vb) o.place end
         covers_own =
-            let x = producer_agrees.sound in let most : p.position.se ≤ 2 ^ 48 = x.capped in
-            let within : p.position.at ≤ p.position.se = x.within.1 in
-            holds_covers p.floor (WholeTo p.floor p.spans p.position) top leader.held (own_history read (producer_node here) vb) snapshot.items o.place end (rises_higher 0 p.position.at top leader.held (omega arith) (all_rise producer_agrees.kept))
-            (subst (Rises 0 top) own_told (hist_rises top c.tree leader.br a.sound.grows)) producer_agrees.holds
+            held_covers read (producer_node here) vb leader p snapshot.items o.place end producer_agrees (subst (Rises 0 top) own_told (hist_rises top c.tree leader.br a.sound.grows))
             ((taken.whole, (let low : end ≤ p.position.at = taken.below in let same = fork_at in omega (arith, low, same)), (let goes : o.place < end = taken.covers.goes_on in let fed = taken.fed in omega (arith, goes, fed))))
-            taken.fed covers_all
+            covers_all
 
         covers_told : Covers snapshot.items (hist read.tree (stream_branch t.granted_is)) o.place end
         covers_told = subst (λ h. Covers snapshot.items h o.place end) (sym own_told ∙ a.hists leader.br ∙ ap (hist read.tree) (at.leads ∙ sym t.streams.front_is)) covers_own

@@ -16,6 +16,7 @@ use Rattle.transcript_law.proofs.{links.Firsts.{ServedAt, Succeeds, asks_from, f
 use Rattle.transcript_law.proofs.links.Answered.{told_line, refused_told, StatesAre, granted_lines, absent_asked, refused_asked, rolled_asked, granted_asked, refused_talk, asked_opened, granted_talk, streams_opened}
 use Rattle.transcript_law.specs.Lawfulness.{GrantsAs}
 use Rattle.transcript_law.proofs.links.Verdicts.{active_vb_lines, asks_in_range, roll_low, refusal_named, opens_active, opens_free, absent_lawful, own_lawful, ruled_there, go_lawful, roll_lawful}
+use Rattle.transcript_law.proofs.invariant.Owing.{later_same}
 
 -- an answer that grants nothing tells of no stream
 unasked : (r : Chronicle) (l v q : ℕ) (ask : StreamAsk) (log : List LogEntry) (said : AskAnswer) → IsRefused said → (after_ask r l v ask log said).stream_of (StreamName.Link l) q ≡ r.stream_of (StreamName.Link l) q
@@ -28,7 +29,7 @@ refused_told_of : (l v : ℕ) (r : Chronicle) (ask : StreamAsk) (log : List LogE
     → (let r' = after_ask r l v ask log said in ToldOf l r r' × (r'.dial_of l ≡ r.dial_of l) × PointAgrees said (r'.point_of l))
 refused_told_of l v r ask log AskAnswer.Go refused = absurd refused
 refused_told_of l v r ask log (AskAnswer.Roll to) refused = (
-  record { tree = refl; writer_of = λ u. refl; rows = λ m q. refl; arms = λ m. refl; clients = λ m c. refl; dials = λ j ne. refl; streams = λ k q ne. refl; points = λ k ne. id_there r.point_of l (Some to) k (λ e. ne (sym e)) },
+  record { last = later_same _ _ refl refl; tree = refl; writer_of = λ u. refl; rows = λ m q. refl; arms = λ m. refl; clients = λ m c. refl; dials = λ j ne. refl; streams = λ k q ne. refl; points = λ k ne. id_there r.point_of l (Some to) k (λ e. ne (sym e)) },
   refl,
   id_here r.point_of l (Some to),
 )
@@ -333,7 +334,7 @@ module _ (w0 : PlainWorld) (r0 : Chronicle) (n : ℕ) (link0 : PlainLink) (found
           }
 
           known_of : ToldOf l r r'
-          known_of = record { tree = refl; writer_of = λ u. refl; rows = λ m q. refl; arms = λ m. refl; clients = λ m c. refl; dials = λ j ne. refl; streams = λ j q ne. stream_there r l v (Some (granted ask pv.log)) j q ne; points = λ j ne. refl }
+          known_of = record { last = later_same _ _ refl refl; tree = refl; writer_of = λ u. refl; rows = λ m q. refl; arms = λ m. refl; clients = λ m c. refl; dials = λ j ne. refl; streams = λ j q ne. stream_there r l v (Some (granted ask pv.log)) j q ne; points = λ j ne. refl }
 
           vb_opened : vb_of (world_at came) mp v ≡ Some opened
           vb_opened = ap (λ d. vb_of (world_at came) d.node v) now.desk ∙ vb_here came v ∙ are.here

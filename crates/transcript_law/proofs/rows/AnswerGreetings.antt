@@ -13,10 +13,11 @@ use Rattle.mcbp_kv.specs.Answers.{bare_answer, found_answer, welcome_answer}
 use Rattle.mcbp_kv.specs.Replies.{reply_frame}
 use Rattle.mcbp_kv.specs.declared.feature.Feature.TheVariants as feature
 use Rattle.mcbp_kv.specs.declared.opcodes.TheConstants.{NOOP}
+use Rattle.vb_types.specs.Images.{image_of}
 use Rattle.vb_types.specs.declared.status.Status.TheVariants as status
 use Rattle.transcript_law.specs.AnswerRows.{LawfulBy, LawfulTo, finds, finds_raw, for_json, formless, gets, greets, json_doc, json_once, says, unknown, welcomes}
 use Rattle.transcript_law.specs.ClientRows.{noop}
-use Rattle.transcript_law.proofs.rows.AnswerReads.{get_found, is_found}
+use Rattle.transcript_law.proofs.rows.AnswerReads.{free, get_found, is_found}
 use Rattle.transcript_law.proofs.rows.Answering.{asked_so, bare_bytes, bare_so, byte_at, found_bytes, found_so, kv_answer, welcome_bytes, welcome_so}
 use Rattle.transcript_law.proofs.rows.NextRows.{seven_pending, seven_there}
 
@@ -34,7 +35,7 @@ fewer l = let (g, s, fits) = asked_so (l.0 refl) refl refl refl in let e : ◌�
 
 pub sets : LawfulTo json_once (greets (feature.Json ∷ []) ++ gets 0 7) (welcomes (feature.Json ∷ []) ∷ finds json_doc ∷ [])
 unfolding spelling frames_in first_frame frame_of read_of frame_row shape_fault request_of requirement_of accepted feature_bytes
-sets = (λ z. kv_answer (reply_frame (welcome_answer 9 (feature.Json ∷ []))) refl refl refl refl refl refl (welcome_so 9 (feature.Json ∷ [])) (inr tt), (λ z. kv_answer (reply_frame (found_answer true 9 json_doc)) refl refl refl refl refl refl (get_found json_doc refl (seven_there json_doc) (found_so true 9 json_doc)) (inr tt), tt))
+sets = (λ z. kv_answer (reply_frame (welcome_answer 9 (feature.Json ∷ []))) refl refl refl refl refl refl (welcome_so 9 (feature.Json ∷ [])) (inr tt), (λ z. kv_answer (reply_frame (found_answer true 9 json_doc)) refl refl refl refl refl refl (get_found json_doc refl (free 0 (image_of json_once) (7 ∷ []) (seven_pending json_doc (7 ∷ []))) (seven_there json_doc) (found_so true 9 json_doc)) (inr tt), tt))
 
 pub sets_raw : LawfulTo json_once (greets (feature.Json ∷ []) ++ gets 0 7) (welcomes (feature.Json ∷ []) ∷ finds_raw json_doc ∷ []) → ⊥
 unfolding spelling frames_in first_frame frame_of read_of frame_row shape_fault request_of requirement_of accepted feature_bytes
@@ -42,7 +43,7 @@ sets_raw l = let (g, s, fits) = asked_so (l.1.0 refl) refl refl refl in let e : 
 
 pub sets_back : LawfulBy for_json json_once (greets [] ++ gets 0 7) (welcomes [] ∷ finds_raw json_doc ∷ [])
 unfolding spelling frames_in first_frame frame_of read_of frame_row shape_fault request_of requirement_of accepted feature_bytes
-sets_back = (λ z. kv_answer (reply_frame (welcome_answer 9 ([]))) refl refl refl refl refl refl (welcome_so 9 []) (inr tt), (λ z. kv_answer (reply_frame (found_answer false 9 json_doc)) refl refl refl refl refl refl (get_found json_doc refl (seven_there json_doc) (found_so false 9 json_doc)) (inr tt), tt))
+sets_back = (λ z. kv_answer (reply_frame (welcome_answer 9 ([]))) refl refl refl refl refl refl (welcome_so 9 []) (inr tt), (λ z. kv_answer (reply_frame (found_answer false 9 json_doc)) refl refl refl refl refl refl (get_found json_doc refl (free 0 (image_of json_once) (7 ∷ []) (seven_pending json_doc (7 ∷ []))) (seven_there json_doc) (found_so false 9 json_doc)) (inr tt), tt))
 
 pub nooping : LawfulTo [] (noop 9) (says NOOP status.Success ∷ [])
 unfolding spelling frames_in first_frame frame_of read_of frame_row shape_fault request_of requirement_of

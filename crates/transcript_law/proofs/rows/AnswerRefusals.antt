@@ -1,7 +1,7 @@
 -- writes that are refused, judged by hand
 use Rattle.std.proofs.Common.{true, false, List, [], ap, arith, inl, inr, refl, subst, sym, ℕ, ⊎_elim, ◌∙◌, ◌∷◌, ◌≡◌}
 use Rattle.std.specs.FinMap.{get}
-use Rattle.std.specs.Prelude.{◌⊎◌, ◌<◌, ◌+◌, ◌^◌, Option, Some, None, length}
+use Rattle.std.specs.Prelude.{◌⊎◌, ◌<◌, ◌≤◌, ◌+◌, ◌^◌, Option, Some, None, length}
 unfoldable use Rattle.mcbp_dcp.specs.Messages.{read_of}
 unfoldable use Rattle.mcbp_dcp.specs.Rows.{frame_row}
 unfoldable use Rattle.mcbp_dcp.specs.Shapes.{shape_fault}
@@ -22,6 +22,7 @@ use Rattle.vb_types.proofs.Laws.{get-insert_same}
 use Rattle.vb_types.specs.Images.{Picture, image_of, nothing}
 use Rattle.vb_types.specs.declared.change.Change.{Change}
 use Rattle.vb_types.specs.declared.change.Level.TheVariants.{Majority}
+use Rattle.vb_types.specs.declared.change.Pend.{Pend}
 use Rattle.vbucket.specs.Laws.{IsBacked}
 use Rattle.vb_types.specs.Statuses.{status_code}
 use Rattle.vb_types.specs.declared.doc.Doc.{Doc}
@@ -32,51 +33,54 @@ use Rattle.vb_types.specs.declared.write.Op.TheVariants as op
 use Rattle.vb_types.specs.declared.write.Write.{Write}
 use Rattle.transcript_law.specs.AnswerRows.{LawfulAway, LawfulTo, makes, once, prepared_at, removal, removes, says, set_at, writes}
 use Rattle.transcript_law.specs.ClientStreamRows.{pending}
-use Rattle.transcript_law.specs.LawfulAnswers.{IsLocked, IsWhyRefused, LacksSeqnos}
+use Rattle.transcript_law.specs.LawfulAnswers.{IsWhyRefused, LacksSeqnos}
 use Rattle.transcript_law.specs.LawfulClients.{IsActive}
 use Rattle.transcript_law.specs.Transcripts.{first_doc, one_change}
 use Rattle.transcript_law.proofs.rows.AnswerWrites.{no_made}
 use Rattle.transcript_law.proofs.rows.Answering.{asked_calm, asked_so, bare_bytes, bare_so, byte_at, response_of, stored_bytes}
 use Rattle.transcript_law.proofs.rows.ClientStreamVerdicts.{no_active}
 use Rattle.transcript_law.proofs.rows.NextRows.{left_none, nine_none, none_pending, none_stored, seven_pending, seven_there}
-use Rattle.transcript_law.proofs.rows.WaitingKeys.{nine_waits, seven_free, waits}
+use Rattle.transcript_law.proofs.rows.WaitingKeys.{left_waits, nine_waits, own_waits, seven_free, waits}
 
 -- ---- why a write is refused
 
-module _ {Besides : Status → Type 0} {role : Option (Option Role)} {image : Picture} {write : Write} where
+module _ {Besides : Status → Type 0} {role : Option (Option Role)} {risen : ℕ} {image : Picture} {write : Write} where
   -- for its key's document, or that there is none
-  pub why_unfit : {st : Status} → IsActive role → get image.pending write.key ≡ None → (doc_refusal write.op write.cas (get image.docs write.key) ≡ Some st) ⊎ Besides st → IsWhyRefused Besides role image write st
+  pub why_unfit : {st : Status} → IsActive role → get image.pending write.key ≡ None → (doc_refusal write.op write.cas (get image.docs write.key) ≡ Some st) ⊎ Besides st → IsWhyRefused Besides role risen image write st
   why_unfit active none x = record {
     away = λ off. absurd (off active);
+    left = λ a waiting. let e : None ≡ Some waiting.0 = sym none ∙ waiting.1 in cc;
     locked = λ a waiting. let e : None ≡ Some waiting.0 = sym none ∙ waiting.1 in cc;
     unfit = λ a e. x;
   }
 
-  -- for a prepare that waits there
-  pub why_locked : IsActive role → IsLocked image write.key → IsWhyRefused Besides role image write status.SyncWriteInProgress
-  why_locked active waiting = record {
+  -- for a prepare that waits there, made since its vBucket became active, or left
+  pub why_locked : {p : Pend} → IsActive role → get image.pending write.key ≡ Some p → risen < p.seq → IsWhyRefused Besides role risen image write status.SyncWriteInProgress
+  why_locked {p} active there above = record {
     away = λ off. absurd (off active);
+    left = λ a l. absurd (own_waits image write.key p risen there above l);
     locked = λ a w. inl refl;
-    unfit = λ a none. let e : None ≡ Some waiting.0 = sym none ∙ waiting.1 in cc;
+    unfit = λ a none. let e : None ≡ Some p = sym none ∙ there in cc;
   }
 
-  pub why_left : IsActive role → IsLocked image write.key → IsWhyRefused Besides role image write status.SyncWriteReCommitInProgress
-  why_left active waiting = record {
+  pub why_left : {p : Pend} → IsActive role → get image.pending write.key ≡ Some p → p.seq ≤ risen → IsWhyRefused Besides role risen image write status.SyncWriteReCommitInProgress
+  why_left {p} active there low = record {
     away = λ off. absurd (off active);
-    locked = λ a w. inr (inl refl);
-    unfit = λ a none. let e : None ≡ Some waiting.0 = sym none ∙ waiting.1 in cc;
+    left = λ a l. inl refl;
+    locked = λ a w. absurd (left_waits image write.key p risen there low w);
+    unfit = λ a none. let e : None ≡ Some p = sym none ∙ there in cc;
   }
 
   -- for a further reason
-  pub why_besides : {st : Status} → IsActive role → Besides st → IsWhyRefused Besides role image write st
-  why_besides active b = record { away = λ off. absurd (off active); locked = λ a w. inr (inr b); unfit = λ a e. inr b }
+  pub why_besides : {st : Status} → IsActive role → Besides st → IsWhyRefused Besides role risen image write st
+  why_besides active b = record { away = λ off. absurd (off active); left = λ a l. inr b; locked = λ a w. inr b; unfit = λ a e. inr b }
 
   -- for its vBucket
-  pub why_away : (IsActive role → ⊥) → IsWhyRefused Besides role image write status.NotMyVbucket
-  why_away off = record { away = λ o. refl; locked = λ a w. absurd (off a); unfit = λ a e. absurd (off a) }
+  pub why_away : (IsActive role → ⊥) → IsWhyRefused Besides role risen image write status.NotMyVbucket
+  why_away off = record { away = λ o. refl; left = λ a l. absurd (off a); locked = λ a w. absurd (off a); unfit = λ a e. absurd (off a) }
 
   -- where no prepare waits
-  pub unfit_is : {st : Status} {there : Option Doc} → IsWhyRefused Besides role image write st → IsActive role → get image.pending write.key ≡ None → get image.docs write.key ≡ there → (doc_refusal write.op write.cas there ≡ Some st) ⊎ Besides st
+  pub unfit_is : {st : Status} {there : Option Doc} → IsWhyRefused Besides role risen image write st → IsActive role → get image.pending write.key ≡ None → get image.docs write.key ≡ there → (doc_refusal write.op write.cas there ≡ Some st) ⊎ Besides st
   unfit_is w active none at = ⊎_elim (λ e. inl (ap (doc_refusal write.op write.cas) (sym at) ∙ e)) (λ b. inr b) (w.unfit active none)
 
 -- the status of an answer, once it is known
@@ -143,22 +147,18 @@ away_full l = let (g, s, fits) = asked_so (l.0 refl) refl refl refl in ⊎_elim 
 
 pub locked : LawfulTo pending (writes SET 0 9 4) (says SET status.SyncWriteInProgress ∷ [])
 unfolding spelling frames_in first_frame frame_of read_of frame_row shape_fault request_of requirement_of
-locked = (λ z. inl (record { question = _; next = refl; answer = reply_frame (bare_answer SET status.SyncWriteInProgress 9); spelled = refl; response = refl; opcode = refl; opaque = refl; calm = inr tt; fits = inl (status.SyncWriteInProgress, bare_so SET 9 status.SyncWriteInProgress, why_locked refl (waits, nine_waits)) }), tt)
-
-pub left_undone : LawfulTo pending (writes SET 0 9 4) (says SET status.SyncWriteReCommitInProgress ∷ [])
-unfolding spelling frames_in first_frame frame_of read_of frame_row shape_fault request_of requirement_of
-left_undone = (λ z. inl (record { question = _; next = refl; answer = reply_frame (bare_answer SET status.SyncWriteReCommitInProgress 9); spelled = refl; response = refl; opcode = refl; opaque = refl; calm = inr tt; fits = inl (status.SyncWriteReCommitInProgress, bare_so SET 9 status.SyncWriteReCommitInProgress, why_left refl (waits, nine_waits)) }), tt)
+locked = (λ z. inl (record { question = _; next = refl; answer = reply_frame (bare_answer SET status.SyncWriteInProgress 9); spelled = refl; response = refl; opcode = refl; opaque = refl; calm = inr tt; fits = inl (status.SyncWriteInProgress, bare_so SET 9 status.SyncWriteInProgress, why_locked {p = waits} refl nine_waits (omega arith)) }), tt)
 
 pub locked_other : LawfulTo pending (writes REPLACE 0 9 4) (says REPLACE status.KeyEnoent ∷ []) → ⊥
 unfolding spelling frames_in first_frame frame_of read_of frame_row shape_fault request_of requirement_of
-locked_other l = let (g, s, fits) = asked_so (l.0 refl) refl refl refl in ⊎_elim (λ r. ⊎_elim (λ w. let e : ◌≡◌ {A = ℕ} 1 162 = status_byte status.SyncWriteInProgress r.1 s w in omega (arith, e)) (λ x. ⊎_elim (λ w. let e : ◌≡◌ {A = ℕ} 1 164 = status_byte status.SyncWriteReCommitInProgress r.1 s w in omega (arith, e)) (λ full. let e : ◌≡◌ {A = ℕ} 1 134 = status_byte status.Etmpfail r.1 s full.said in omega (arith, e)) x) (r.2.locked refl (waits, nine_waits))) (λ m. no_made m) fits
+locked_other l = let (g, s, fits) = asked_so (l.0 refl) refl refl refl in ⊎_elim (λ r. ⊎_elim (λ w. let e : ◌≡◌ {A = ℕ} 1 162 = status_byte status.SyncWriteInProgress r.1 s w in omega (arith, e)) (λ full. let e : ◌≡◌ {A = ℕ} 1 134 = status_byte status.Etmpfail r.1 s full.said in omega (arith, e)) (r.2.locked refl (waits, nine_waits, omega arith))) (λ m. no_made m) fits
 
 pub unlocked : LawfulTo pending (writes SET 0 7 4) (says SET status.SyncWriteInProgress ∷ []) → ⊥
 unfolding spelling frames_in first_frame frame_of read_of frame_row shape_fault request_of requirement_of
 unlocked l = let (g, s, fits) = asked_so (l.0 refl) refl refl refl in ⊎_elim (λ r. ⊎_elim (λ d. let z : None ≡ Some r.0 = d in cc) (λ full. let e : ◌≡◌ {A = ℕ} 162 134 = status_byte status.Etmpfail r.1 s full.said in omega (arith, e)) (unfit_is r.2 refl seven_free (seven_there (first_doc 1 (8 ∷ []))))) (λ m. no_made m) fits
 
 -- where none waits at any key, no more seqnos are lacking than the changes took
-none_waits : (held : List Change) → ((key : List ℕ) → get (image_of held).pending key ≡ None) → (count : ℕ) (st : Status) → LacksSeqnos held count st → 2 ^ 48 < last_seq 0 held + count
+pub none_waits : (held : List Change) → ((key : List ℕ) → get (image_of held).pending key ≡ None) → (count : ℕ) (st : Status) → LacksSeqnos held count st → 2 ^ 48 < last_seq 0 held + count
 none_waits held none count st l = by l.waiting l.backed l.above
   where
     by : (ws : List Waiting) → ((w : Waiting) → Waits w ws → IsBacked (image_of held) w) → 2 ^ 48 < last_seq 0 held + length ws + count → 2 ^ 48 < last_seq 0 held + count

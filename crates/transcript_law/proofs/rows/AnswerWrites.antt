@@ -1,7 +1,7 @@
 -- writes that are told made, judged by hand
 use Rattle.std.proofs.Common.{Bool, List, [], ap, arith, inl, inr, refl, sym, ℕ, ⊎_elim, ◌++◌, ◌∙◌, ◌∷◌, ◌≡◌}
 use Rattle.std.specs.FinMap.{get}
-use Rattle.std.specs.Prelude.{Some, None, option_map}
+use Rattle.std.specs.Prelude.{Option, Some, None, option_map}
 unfoldable use Rattle.mcbp_dcp.specs.Messages.{read_of}
 unfoldable use Rattle.mcbp_dcp.specs.Rows.{frame_row}
 unfoldable use Rattle.mcbp_dcp.specs.Shapes.{shape_fault}
@@ -41,6 +41,7 @@ use Rattle.transcript_law.specs.Transcripts.{first_doc, one_change}
 use Rattle.transcript_law.proofs.rows.Answering.{asked_so, bare_bytes, byte_at, first_byte, response_of, stored_bytes, stored_so}
 use Rattle.transcript_law.proofs.rows.NextRows.{first_next, nine_none, none_stored, second_next, seven_next, seven_there}
 use Rattle.transcript_law.proofs.rows.WaitingKeys.{nine_waits, waits}
+use Rattle.transcript_law.specs.LinesTold.{LastLine}
 
 -- ---- what a write that was made is
 
@@ -116,8 +117,8 @@ value_of other = []
 
 -- ---- changes that are made
 
-pub makes_one : (clients : ClientsKnown) → LawfulChange (record (serving [] blank_client) { clients_at = clients }) 0 0 5 one_change
-makes_one clients = record {
+pub makes_one : (l : Option LastLine) (clients : ClientsKnown) → LawfulChange (record (serving [] blank_client) { last = l; clients_at = clients }) 0 0 5 one_change
+makes_one l clients = record {
   active = refl;
   writer = record { made_or_took = refl; on_branch = refl };
   above_branch = omega arith;
@@ -125,10 +126,11 @@ makes_one clients = record {
   made = first_next;
   fulfils = λ prepared doc deleted e. cc;
   backed = λ prepared doc deleted e. cc;
+  aborts = λ prepared e. cc;
 }
 
-makes_more : (clients : ClientsKnown) (a : Act) → ((prepared : ℕ) (doc : Doc) (deleted : Bool) → a ≡ act.Commit prepared doc deleted → ⊥) → IsNextChange once (record { seq = 2; key = 7 ∷ []; act = a }) → LawfulChange (record (serving once blank_client) { clients_at = clients }) 0 0 5 (record { seq = 2; key = 7 ∷ []; act = a })
-makes_more clients a none next = record {
+makes_more : (clients : ClientsKnown) (a : Act) → ((prepared : ℕ) (doc : Doc) (deleted : Bool) → a ≡ act.Commit prepared doc deleted → ⊥) → ((prepared : ℕ) → a ≡ act.Abort prepared → ⊥) → IsNextChange once (record { seq = 2; key = 7 ∷ []; act = a }) → LawfulChange (record (serving once blank_client) { clients_at = clients }) 0 0 5 (record { seq = 2; key = 7 ∷ []; act = a })
+makes_more clients a none stays next = record {
   active = refl;
   writer = record { made_or_took = refl; on_branch = refl };
   above_branch = omega arith;
@@ -136,19 +138,20 @@ makes_more clients a none next = record {
   made = next;
   fulfils = λ prepared doc deleted e. absurd (none prepared doc deleted e);
   backed = λ prepared doc deleted e. absurd (none prepared doc deleted e);
+  aborts = λ prepared e. absurd (stays prepared e);
 }
 
 makes_newer : (clients : ClientsKnown) → LawfulChange (record (serving once blank_client) { clients_at = clients }) 0 0 5 newer
-makes_newer clients = makes_more clients (act.Set newer_doc) (λ prepared doc deleted e. cc) (seven_next (act.Set newer_doc) refl refl refl)
+makes_newer clients = makes_more clients (act.Set newer_doc) (λ prepared doc deleted e. cc) (λ prepared e. cc) (seven_next (act.Set newer_doc) refl refl refl)
 
 makes_removal : (clients : ClientsKnown) → LawfulChange (record (serving once blank_client) { clients_at = clients }) 0 0 5 removal
-makes_removal clients = makes_more clients (act.Remove 2 2) (λ prepared doc deleted e. cc) (seven_next (act.Remove 2 2) refl refl refl)
+makes_removal clients = makes_more clients (act.Remove 2 2) (λ prepared doc deleted e. cc) (λ prepared e. cc) (seven_next (act.Remove 2 2) refl refl refl)
 
 -- ---- transcripts
 
 pub made : LawfulTo [] (writes SET 0 7 8) (makes one_change ∷ stores SET 1 [] ∷ [])
 unfolding spelling frames_in first_frame frame_of read_of frame_row shape_fault request_of requirement_of
-made = (makes_one _, (λ z. inl (record { question = _; next = refl; answer = reply_frame (stored_answer SET 9 1 []); spelled = refl; response = refl; opcode = refl; opaque = refl; calm = inl (_, _, refl, inl refl); fits = inr (record { branch = 5; change = one_change; older = []; alone = tt; last = refl; key = refl; cas = 1; rev = 1; act = refl; before = []; behind = refl; fits = ap (doc_refusal op.Set 0) (none_stored (7 ∷ [])); told = stored_so SET 9 1 [] }) }), tt))
+made = (makes_one _ _, (λ z. inl (record { question = _; next = refl; answer = reply_frame (stored_answer SET 9 1 []); spelled = refl; response = refl; opcode = refl; opaque = refl; calm = inl (_, _, refl, inl refl); fits = inr (record { branch = 5; change = one_change; older = []; alone = tt; last = refl; key = refl; cas = 1; rev = 1; act = refl; before = []; behind = refl; fits = ap (doc_refusal op.Set 0) (none_stored (7 ∷ [])); told = stored_so SET 9 1 [] }) }), tt))
 
 pub unmade : LawfulTo [] (writes SET 0 7 8) (stores SET 1 [] ∷ []) → ⊥
 unfolding spelling frames_in first_frame frame_of read_of frame_row shape_fault request_of requirement_of
@@ -180,7 +183,7 @@ twice l = let (g, s, fits) = asked_so (l.1.1.0 refl) refl refl refl in ⊎_elim 
 
 pub each : LawfulTo [] (writes SET 0 7 8 ++ writes SET 0 9 6) (makes one_change ∷ stores SET 1 [] ∷ makes next_change ∷ stores SET 2 [] ∷ [])
 unfolding spelling frames_in first_frame frame_of read_of frame_row shape_fault request_of requirement_of
-each = (makes_one _, (λ z. inl (record { question = _; next = refl; answer = reply_frame (stored_answer SET 9 1 []); spelled = refl; response = refl; opcode = refl; opaque = refl; calm = inl (_, _, refl, inl refl); fits = inr (record { branch = 5; change = one_change; older = []; alone = tt; last = refl; key = refl; cas = 1; rev = 1; act = refl; before = []; behind = refl; fits = ap (doc_refusal op.Set 0) (none_stored (7 ∷ [])); told = stored_so SET 9 1 [] }) }), (record { active = refl; writer = record { made_or_took = refl; on_branch = refl }; above_branch = omega arith; above_forks = (λ e. omega arith, tt); made = second_next; fulfils = λ prepared doc deleted e. cc; backed = λ prepared doc deleted e. cc }, (λ z. inl (record { question = _; next = refl; answer = reply_frame (stored_answer SET 9 2 []); spelled = refl; response = refl; opcode = refl; opaque = refl; calm = inl (_, _, refl, inl refl); fits = inr (record { branch = 5; change = next_change; older = []; alone = tt; last = refl; key = refl; cas = 2; rev = 1; act = refl; before = once; behind = refl; fits = ap (doc_refusal op.Set 0) (nine_none (first_doc 1 (8 ∷ []))); told = stored_so SET 9 2 [] }) }), tt))))
+each = (makes_one _ _, (λ z. inl (record { question = _; next = refl; answer = reply_frame (stored_answer SET 9 1 []); spelled = refl; response = refl; opcode = refl; opaque = refl; calm = inl (_, _, refl, inl refl); fits = inr (record { branch = 5; change = one_change; older = []; alone = tt; last = refl; key = refl; cas = 1; rev = 1; act = refl; before = []; behind = refl; fits = ap (doc_refusal op.Set 0) (none_stored (7 ∷ [])); told = stored_so SET 9 1 [] }) }), (record { active = refl; writer = record { made_or_took = refl; on_branch = refl }; above_branch = omega arith; above_forks = (λ e. omega arith, tt); made = second_next; fulfils = λ prepared doc deleted e. cc; backed = λ prepared doc deleted e. cc; aborts = λ prepared e. cc }, (λ z. inl (record { question = _; next = refl; answer = reply_frame (stored_answer SET 9 2 []); spelled = refl; response = refl; opcode = refl; opaque = refl; calm = inl (_, _, refl, inl refl); fits = inr (record { branch = 5; change = next_change; older = []; alone = tt; last = refl; key = refl; cas = 2; rev = 1; act = refl; before = once; behind = refl; fits = ap (doc_refusal op.Set 0) (nine_none (first_doc 1 (8 ∷ []))); told = stored_so SET 9 2 [] }) }), tt))))
 
 pub late : LawfulTo [] (writes SET 0 7 8 ++ writes SET 0 9 6) (makes one_change ∷ makes next_change ∷ stores SET 1 [] ∷ []) → ⊥
 unfolding spelling frames_in first_frame frame_of read_of frame_row shape_fault request_of requirement_of
@@ -188,7 +191,7 @@ late l = let (g, s, fits) = asked_so (l.1.1.0 refl) refl refl refl in ⊎_elim (
 
 pub seqnos : LawfulBy for_seqnos [] (writes SET 0 7 8) (makes one_change ∷ stores SET 1 (seqno_extras 5 1) ∷ [])
 unfolding spelling frames_in first_frame frame_of read_of frame_row shape_fault request_of requirement_of
-seqnos = (makes_one _, (λ z. inl (record { question = _; next = refl; answer = reply_frame (stored_answer SET 9 1 (seqno_extras 5 1)); spelled = refl; response = refl; opcode = refl; opaque = refl; calm = inl (_, _, refl, inl refl); fits = inr (record { branch = 5; change = one_change; older = []; alone = tt; last = refl; key = refl; cas = 1; rev = 1; act = refl; before = []; behind = refl; fits = ap (doc_refusal op.Set 0) (none_stored (7 ∷ [])); told = stored_so SET 9 1 (seqno_extras 5 1) }) }), tt))
+seqnos = (makes_one _ _, (λ z. inl (record { question = _; next = refl; answer = reply_frame (stored_answer SET 9 1 (seqno_extras 5 1)); spelled = refl; response = refl; opcode = refl; opaque = refl; calm = inl (_, _, refl, inl refl); fits = inr (record { branch = 5; change = one_change; older = []; alone = tt; last = refl; key = refl; cas = 1; rev = 1; act = refl; before = []; behind = refl; fits = ap (doc_refusal op.Set 0) (none_stored (7 ∷ [])); told = stored_so SET 9 1 (seqno_extras 5 1) }) }), tt))
 
 pub untold : LawfulBy for_seqnos [] (writes SET 0 7 8) (makes one_change ∷ stores SET 1 [] ∷ []) → ⊥
 unfolding spelling frames_in first_frame frame_of read_of frame_row shape_fault request_of requirement_of
@@ -216,7 +219,7 @@ unfit l = let (g, s, fits) = asked_so (l.1.0 refl) refl refl refl in ⊎_elim (�
 
 pub adds : LawfulTo [] (writes ADD 0 7 8) (makes one_change ∷ stores ADD 1 [] ∷ [])
 unfolding spelling frames_in first_frame frame_of read_of frame_row shape_fault request_of requirement_of
-adds = (makes_one _, (λ z. inl (record { question = _; next = refl; answer = reply_frame (stored_answer ADD 9 1 []); spelled = refl; response = refl; opcode = refl; opaque = refl; calm = inl (_, _, refl, inl refl); fits = inr (record { branch = 5; change = one_change; older = []; alone = tt; last = refl; key = refl; cas = 1; rev = 1; act = refl; before = []; behind = refl; fits = ap (doc_refusal op.Add 0) (none_stored (7 ∷ [])); told = stored_so ADD 9 1 [] }) }), tt))
+adds = (makes_one _ _, (λ z. inl (record { question = _; next = refl; answer = reply_frame (stored_answer ADD 9 1 []); spelled = refl; response = refl; opcode = refl; opaque = refl; calm = inl (_, _, refl, inl refl); fits = inr (record { branch = 5; change = one_change; older = []; alone = tt; last = refl; key = refl; cas = 1; rev = 1; act = refl; before = []; behind = refl; fits = ap (doc_refusal op.Add 0) (none_stored (7 ∷ [])); told = stored_so ADD 9 1 [] }) }), tt))
 
 pub adds_again : LawfulTo once (writes ADD 0 7 4) (makes newer ∷ stores ADD 2 [] ∷ []) → ⊥
 unfolding spelling frames_in first_frame frame_of read_of frame_row shape_fault request_of requirement_of

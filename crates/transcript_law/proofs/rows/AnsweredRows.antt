@@ -15,9 +15,9 @@ use Rattle.mcbp_kv.specs.declared.opcodes.TheConstants.{NOOP, SET}
 use Rattle.vb_types.specs.declared.status.Status.TheVariants as status
 use Rattle.script_text.specs.declared.verb.ClientVerb.TheVariants as client_verb
 use Rattle.script_text.specs.declared.verb.Verb.TheVariants as verb
-use Rattle.transcript_law.proofs.rows.{Groups.{AreParts, in_order, whole as whole_groups}, Sets.{heard_then}, Silent.{AreHeard, heard_all, heard_by, none_next, one_answered, shut_answered, silent_start}}
+use Rattle.transcript_law.proofs.rows.{Answering.{first_number}, Groups.{AreParts, in_place, whole as whole_groups}, Sets.{heard_then}, Silent.{AreHeard, heard_all, heard_by, none_next, one_answered, shut_answered, silent_start}}
 use Rattle.transcript_law.specs.AnsweredRows.{brings, broken_bytes, durable_bytes, durable_frame, durable_unknown, noop_answered, noop_bytes, noop_frame, response_bytes, sent_alone, sent_shut, set_bytes}
-use Rattle.transcript_law.specs.{ClientRows.{LawfulOpened, hangs, waits}, Crashes.{Said, groups_from_number, numbered, ok}, LawfulAnswers.{AllDurable, FitsFrame, LawfulReply}, Prefixes.{known_after}}
+use Rattle.transcript_law.specs.{ClientRows.{LawfulOpened, hangs, waits}, Crashes.{Said, groups_from_number, numbered, ok}, LawfulAnswers.{serving, AllDurable, FitsFrame, LawfulReply}, Prefixes.{known_after}}
 use Rattle.transcript_law.specs.Questions.{Question, question_of}
 use Rattle.transcript_law.specs.StreamsTold.{Asking}
 use Rattle.transcript_law.specs.Transcripts.{set_frame}
@@ -125,7 +125,7 @@ no_more : (lines : List Verb) (told : List Said) → ((n c : ℕ) → (n == 0 &&
 no_more lines told others none whole = one_answered (behind lines told) others (none_next ((behind lines told).clients_at 0 1).asking none whole)
 
 -- these lines are lawful where those that tell of the connection are
-from_opened : (lines : List Verb) (told : List Said) → in_order empty_chronicle (numbered 1 (verb.Node 0 ∷ verb.AtClient 0 1 client_verb.Open ∷ lines)) (groups_from_number 1 (ok [] ∷ ok [] ∷ told)) ≡ true
+from_opened : (lines : List Verb) (told : List Said) → in_place empty_chronicle (numbered 1 (verb.Node 0 ∷ verb.AtClient 0 1 client_verb.Open ∷ lines)) (groups_from_number 1 (ok [] ∷ ok [] ∷ told)) ≡ true
     → AreParts (behind [] []) (numbered 3 lines) (groups_from_number 3 told) → AreHeard (behind [] []) (numbered 3 lines) (groups_from_number 3 told) → LawfulOpened lines told
 from_opened lines told o parts heard =
     whole_groups empty_chronicle (numbered 1 (verb.Node 0 ∷ verb.AtClient 0 1 client_verb.Open ∷ lines)) (groups_from_number 1 (ok [] ∷ ok [] ∷ told)) o ((tt, tt, refl), ((tt, refl, refl), parts))
@@ -142,7 +142,7 @@ noop_lawful r k more next same calm = inl (record {
   response = refl;
   opcode = refl;
   opaque = refl;
-  fits = subst (λ s. FitsFrame r 0 (moment_of (r.clients_at 0 1) k (record { before = []; frame = noop_frame })) s noop_frame (reply_frame (bare_answer NOOP status.Success 9))) (sym same) (record { header = record { magic = refl; opcode = refl; key = refl; datatype = refl; status = refl; opaque = refl; framing = refl }; cas = refl; extras = refl; value = refl });
+  fits = subst (λ s. FitsFrame (serving r 0 1 k) r 0 (moment_of (r.clients_at 0 1) k (record { before = []; frame = noop_frame })) s noop_frame (reply_frame (bare_answer NOOP status.Success 9))) (sym same) (record { header = record { magic = refl; opcode = refl; key = refl; datatype = refl; status = refl; opaque = refl; framing = refl }; cas = refl; extras = refl; value = refl });
   calm = inr calm;
 })
 
@@ -201,7 +201,7 @@ durable_later = from_opened (brings durable_bytes ∷ waits ∷ []) (ok [] ∷ o
             response = refl;
             opcode = refl;
             opaque = refl;
-            fits = inr (inr (inr (record { header = record { magic = refl; opcode = refl; key = refl; datatype = refl; status = refl; opaque = refl; framing = refl }; cas = refl; extras = refl; value = refl })));
+            fits = inr (first_number, inr (inr (record { header = record { magic = refl; opcode = refl; key = refl; datatype = refl; status = refl; opaque = refl; framing = refl }; cas = refl; extras = refl; value = refl })));
             calm = inr tt;
           }),
         ),

@@ -1,5 +1,5 @@
 -- answers to clients, and the questions that they answer
-use Rattle.std.proofs.Common.{Bool, List, [], ap, inl, inr, refl, subst, sym, true, false, ℕ, ⊎_elim, ◌∙◌, ◌∷◌, ◌≡◌}
+use Rattle.std.proofs.Common.{Bool, List, [], ap, arith, inl, inr, refl, subst, sym, true, false, ℕ, ⊎_elim, ◌∙◌, ◌∷◌, ◌≡◌}
 use Rattle.std.specs.Prelude.{Ok, Result, Some, None, slice_index}
 use Rattle.client_session.specs.Serving.{is_dcp}
 use Rattle.mcbp_frame.specs.Cutting.{front_fault}
@@ -24,13 +24,14 @@ use Rattle.vb_types.specs.Statuses.{status_code}
 use Rattle.vb_types.specs.declared.doc.Doc.{Doc}
 use Rattle.vb_types.specs.declared.status.Status.{Status}
 use Rattle.vb_types.specs.declared.status.Status.TheVariants as status
-use Rattle.std.specs.Prelude.{◌⊎◌}
+use Rattle.std.specs.Prelude.{◌⊎◌, ◌<◌, ◌+◌}
 use Rattle.transcript_law.specs.ClientRows.{nooped}
-use Rattle.transcript_law.specs.LawfulAnswers.{AllDurable, Answers, AnswersFault, FitsBy, FitsFrame, FitsRequest, IsOutcome, LawfulReply}
+use Rattle.transcript_law.specs.LawfulAnswers.{AllDurable, Answers, AnswersFault, FitsBy, FitsFrame, FitsRequest, HasNumber, IsOutcome, LawfulReply, WRITE_NUMBERS}
 use Rattle.transcript_law.specs.LawfulMessages.{FitsDcp, moment_of}
 use Rattle.transcript_law.specs.LinesTold.{Chronicle, OwnChange}
 use Rattle.transcript_law.specs.Questions.{Question, behind_frames, question_of}
 use Rattle.transcript_law.specs.StreamsTold.{Asking}
+use Rattle.transcript_law.specs.LawfulAnswers.{serving}
 
 -- ---- answers that are lawful
 
@@ -45,12 +46,12 @@ module _ {chronicle : Chronicle} {asking : Asking} {behind : List Event} {q : Qu
     response = response;
     opcode = opcode;
     opaque = opaque;
-    fits = subst (λ b. FitsBy b chronicle 0 (moment_of (chronicle.clients_at 0 1) asking q) asking.settings q.frame g) (sym dcp) fits;
+    fits = subst (λ b. FitsBy b (serving chronicle 0 1 asking) chronicle 0 (moment_of (chronicle.clients_at 0 1) asking q) asking.settings q.frame g) (sym dcp) fits;
     calm = inr calm;
   })
 
   -- to any other
-  pub kv_answer : {r : Result KvRequest Status} → is_dcp q.frame.opcode ≡ false → request_of asking.settings.json q.frame ≡ r → FitsRequest chronicle 0 asking.settings q.frame g r → IsOutcome asking.settings q.frame g ⊎ AllDurable chronicle.made
+  pub kv_answer : {r : Result KvRequest Status} → is_dcp q.frame.opcode ≡ false → request_of asking.settings.json q.frame ≡ r → FitsRequest (serving chronicle 0 1 asking) chronicle 0 asking.durables asking.settings q.frame g r → IsOutcome asking.settings q.frame g ⊎ AllDurable chronicle.made
       → LawfulReply chronicle 0 1 asking (spelling g) behind
   kv_answer {r} dcp asks fits calm = inl (record {
     question = q;
@@ -61,7 +62,7 @@ module _ {chronicle : Chronicle} {asking : Asking} {behind : List Event} {q : Qu
     opcode = opcode;
     opaque = opaque;
     calm = calm;
-    fits = subst (λ b. FitsBy b chronicle 0 (moment_of (chronicle.clients_at 0 1) asking q) asking.settings q.frame g) (sym dcp) (subst (FitsRequest chronicle 0 asking.settings q.frame g) (sym asks) fits);
+    fits = subst (λ b. FitsBy b (serving chronicle 0 1 asking) chronicle 0 (moment_of (chronicle.clients_at 0 1) asking q) asking.settings q.frame g) (sym dcp) (subst (FitsRequest (serving chronicle 0 1 asking) chronicle 0 asking.durables asking.settings q.frame g) (sym asks) fits);
   })
 
 -- a status alone
@@ -75,6 +76,14 @@ found_so json opaque doc = record { header = record { magic = refl; opcode = ref
 -- a write that was made
 pub stored_so : (code opaque cas : ℕ) (told : List ℕ) → IsStored (reply_frame (stored_answer code opaque cas told)) code opaque cas told
 stored_so code opaque cas told = record { header = record { magic = refl; opcode = refl; key = refl; datatype = refl; status = refl; opaque = refl; framing = refl }; cas = refl; extras = refl; value = refl }
+
+-- a durable write of a connection that has asked for none before
+pub first_number : HasNumber 0
+first_number = omega arith
+
+-- it lacks no number
+pub none_lacks : WRITE_NUMBERS < 0 + 1 → ⊥
+none_lacks over = omega (arith, over)
 
 -- features
 pub welcome_so : (opaque : ℕ) (features : List Feature) → IsWelcome (reply_frame (welcome_answer opaque features)) opaque features
@@ -101,7 +110,7 @@ pub record Told (chronicle : Chronicle) (asking : Asking) (bytes : List ℕ) (q 
   pub response : frame.magic ≡ RESPONSE
   pub opcode : frame.opcode ≡ q.frame.opcode
   pub opaque : frame.opaque ≡ q.frame.opaque
-  pub fits : FitsFrame chronicle 0 (moment_of (chronicle.clients_at 0 1) asking q) asking.settings q.frame frame
+  pub fits : FitsFrame (serving chronicle 0 1 asking) chronicle 0 (moment_of (chronicle.clients_at 0 1) asking q) asking.settings q.frame frame
   pub calm : IsOutcome asking.settings q.frame frame ⊎ AllDurable chronicle.made
 
 pub answered : {chronicle : Chronicle} {asking : Asking} {bytes : List ℕ} {behind : List Event} {q : Question} → LawfulReply chronicle 0 1 asking bytes behind → question_of asking ≡ Some q → Told chronicle asking bytes q
@@ -116,22 +125,22 @@ answered {chronicle} {asking} {bytes} {behind} {q} l is = ⊎_elim by (λ (f : A
           response = a.response;
           opcode = a.opcode ∙ ap (λ (p : Question). p.frame.opcode) same;
           opaque = a.opaque ∙ ap (λ (p : Question). p.frame.opaque) same;
-          fits = subst (λ (p : Question). FitsFrame chronicle 0 (moment_of (chronicle.clients_at 0 1) asking p) asking.settings p.frame a.answer) same a.fits;
+          fits = subst (λ (p : Question). FitsFrame (serving chronicle 0 1 asking) chronicle 0 (moment_of (chronicle.clients_at 0 1) asking p) asking.settings p.frame a.answer) same a.fits;
           calm = subst (λ (p : Question). IsOutcome asking.settings p.frame a.answer ⊎ AllDurable chronicle.made) same a.calm;
         }
 
 -- where it is none of DCP, it fits what was asked
-pub asked_so : {chronicle : Chronicle} {asking : Asking} {bytes : List ℕ} {behind : List Event} {q : Question} {r : Result KvRequest Status} → LawfulReply chronicle 0 1 asking bytes behind → question_of asking ≡ Some q → is_dcp q.frame.opcode ≡ false → request_of asking.settings.json q.frame ≡ r → (g : Frame) × (bytes ≡ spelling g) × FitsRequest chronicle 0 asking.settings q.frame g r
+pub asked_so : {chronicle : Chronicle} {asking : Asking} {bytes : List ℕ} {behind : List Event} {q : Question} {r : Result KvRequest Status} → LawfulReply chronicle 0 1 asking bytes behind → question_of asking ≡ Some q → is_dcp q.frame.opcode ≡ false → request_of asking.settings.json q.frame ≡ r → (g : Frame) × (bytes ≡ spelling g) × FitsRequest (serving chronicle 0 1 asking) chronicle 0 asking.durables asking.settings q.frame g r
 asked_so {chronicle} {asking} {bytes} {behind} {q} {r} l is dcp asks =
     let told : Told chronicle asking bytes q = answered l is in
-    (told.frame, told.spelled, subst (FitsRequest chronicle 0 asking.settings q.frame told.frame) asks (subst (λ b. FitsBy b chronicle 0 (moment_of (chronicle.clients_at 0 1) asking q) asking.settings q.frame told.frame) dcp told.fits))
+    (told.frame, told.spelled, subst (FitsRequest (serving chronicle 0 1 asking) chronicle 0 asking.durables asking.settings q.frame told.frame) asks (subst (λ b. FitsBy b (serving chronicle 0 1 asking) chronicle 0 (moment_of (chronicle.clients_at 0 1) asking q) asking.settings q.frame told.frame) dcp told.fits))
 
 -- and it stands behind no set and no removal but its own
 pub asked_calm : {chronicle : Chronicle} {asking : Asking} {bytes : List ℕ} {behind : List Event} {q : Question} {r : Result KvRequest Status} → LawfulReply chronicle 0 1 asking bytes behind → question_of asking ≡ Some q → is_dcp q.frame.opcode ≡ false → request_of asking.settings.json q.frame ≡ r
-    → (g : Frame) × (bytes ≡ spelling g) × FitsRequest chronicle 0 asking.settings q.frame g r × (IsOutcome asking.settings q.frame g ⊎ AllDurable chronicle.made)
+    → (g : Frame) × (bytes ≡ spelling g) × FitsRequest (serving chronicle 0 1 asking) chronicle 0 asking.durables asking.settings q.frame g r × (IsOutcome asking.settings q.frame g ⊎ AllDurable chronicle.made)
 asked_calm {chronicle} {asking} {bytes} {behind} {q} {r} l is dcp asks =
     let told : Told chronicle asking bytes q = answered l is in
-    (told.frame, told.spelled, subst (FitsRequest chronicle 0 asking.settings q.frame told.frame) asks (subst (λ b. FitsBy b chronicle 0 (moment_of (chronicle.clients_at 0 1) asking q) asking.settings q.frame told.frame) dcp told.fits), told.calm)
+    (told.frame, told.spelled, subst (FitsRequest (serving chronicle 0 1 asking) chronicle 0 asking.durables asking.settings q.frame told.frame) asks (subst (λ b. FitsBy b (serving chronicle 0 1 asking) chronicle 0 (moment_of (chronicle.clients_at 0 1) asking q) asking.settings q.frame told.frame) dcp told.fits), told.calm)
 
 -- where nothing was asked, it answers a fault
 pub faulted : {chronicle : Chronicle} {asking : Asking} {bytes : List ℕ} {behind : List Event} → LawfulReply chronicle 0 1 asking bytes behind → question_of asking ≡ None → AnswersFault 0 1 chronicle.made asking bytes behind

@@ -10,12 +10,12 @@ use Rattle.vb_types.specs.Histories.{IsIn}
 use Rattle.vb_types.specs.declared.change.Act.TheVariants.{Abort, Commit, Remove, Set, Prepare}
 use Rattle.vb_types.specs.declared.change.Level.TheVariants.{Majority}
 
--- an act that commits nothing
-abbrev NoCommit : Act → Type 0
-NoCommit a = (prepared : ℕ) (doc : Doc) (deleted : Bool) → a ≡ Commit prepared doc deleted → ⊥
+-- an act that commits nothing, and gives nothing up
+abbrev ResolvesNone : Act → Type 0
+ResolvesNone a = ((prepared : ℕ) (doc : Doc) (deleted : Bool) → a ≡ Commit prepared doc deleted → ⊥) × ((prepared : ℕ) → a ≡ Abort prepared → ⊥)
 
 -- what the vBucket that set the key 7 may make next
-pub after_set : (a : Act) (key : ℕ) → NoCommit a → IsNextChange (one_change ∷ []) (own_change 2 key a) → LawfulFrom set_known (own_lines 2 key a)
+pub after_set : (a : Act) (key : ℕ) → ResolvesNone a → IsNextChange (one_change ∷ []) (own_change 2 key a) → LawfulFrom set_known (own_lines 2 key a)
 after_set a key none made = (
   record {
     active = refl;
@@ -23,8 +23,9 @@ after_set a key none made = (
     above_branch = omega arith;
     above_forks = (λ e. omega arith, tt);
     made = made;
-    fulfils = λ prepared doc deleted e. absurd (none prepared doc deleted e);
-    backed = λ prepared doc deleted e. absurd (none prepared doc deleted e);
+    fulfils = λ prepared doc deleted e. absurd (none.0 prepared doc deleted e);
+    backed = λ prepared doc deleted e. absurd (none.0 prepared doc deleted e);
+    aborts = λ prepared e. absurd (none.1 prepared e);
   },
   tt,
 )
@@ -33,7 +34,7 @@ after_set a key none made = (
 abbrev pub full : Doc
 full = stamped greatest greatest
 
-pub after_greatest : (a : Act) (key : ℕ) → NoCommit a → IsNextChange (seven full ∷ []) (own_change 2 key a) → LawfulFrom greatest_known (own_lines 2 key a)
+pub after_greatest : (a : Act) (key : ℕ) → ResolvesNone a → IsNextChange (seven full ∷ []) (own_change 2 key a) → LawfulFrom greatest_known (own_lines 2 key a)
 after_greatest a key none made = (
   record {
     active = refl;
@@ -41,8 +42,9 @@ after_greatest a key none made = (
     above_branch = omega arith;
     above_forks = (λ e. omega arith, tt);
     made = made;
-    fulfils = λ prepared doc deleted e. absurd (none prepared doc deleted e);
-    backed = λ prepared doc deleted e. absurd (none prepared doc deleted e);
+    fulfils = λ prepared doc deleted e. absurd (none.0 prepared doc deleted e);
+    backed = λ prepared doc deleted e. absurd (none.0 prepared doc deleted e);
+    aborts = λ prepared e. absurd (none.1 prepared e);
   },
   tt,
 )
@@ -52,7 +54,7 @@ greatest_next key rev there found behind = write_next (seven full ∷ []) (own_c
     (λ n e. let same : greatest ≡ n = cc in (omega (arith, same), inl (sym same))) (λ n e. (let same : rev ≡ n = cc in sym same ∙ behind)) (λ e. cc)
 
 -- what the one whose prepare waits may make next
-pub after_waiting : (a : Act) (key : ℕ) → NoCommit a → IsNextChange (prepare_of Majority ∷ []) (own_change 2 key a) → LawfulFrom waiting_known (own_lines 2 key a)
+pub after_waiting : (a : Act) (key : ℕ) → ResolvesNone a → IsNextChange (prepare_of Majority ∷ []) (own_change 2 key a) → LawfulFrom waiting_known (own_lines 2 key a)
 after_waiting a key none made = (
   record {
     active = refl;
@@ -60,8 +62,9 @@ after_waiting a key none made = (
     above_branch = omega arith;
     above_forks = (λ e. omega arith, tt);
     made = made;
-    fulfils = λ prepared doc deleted e. absurd (none prepared doc deleted e);
-    backed = λ prepared doc deleted e. absurd (none prepared doc deleted e);
+    fulfils = λ prepared doc deleted e. absurd (none.0 prepared doc deleted e);
+    backed = λ prepared doc deleted e. absurd (none.0 prepared doc deleted e);
+    aborts = λ prepared e. absurd (none.1 prepared e);
   },
   tt,
 )
@@ -75,8 +78,8 @@ waits_there = get-insert_same nothing.pending (9 ∷ []) waits
 pub none_beside : get (image_of (prepare_of Majority ∷ [])).pending (7 ∷ []) ≡ None
 none_beside = get-insert_other nothing.pending (9 ∷ []) waits (7 ∷ []) (keys_differ 9 7 (λ e. omega arith)) ∙ get-empty key_cmp (7 ∷ [])
 
-pub aborted : LawfulFrom waiting_known (own_lines 2 9 (Abort 1))
-aborted = after_waiting (Abort 1) 9 (λ prepared doc deleted e. cc) (resolving_next (prepare_of Majority ∷ []) (own_change 2 9 (Abort 1)) waits refl waits_there refl refl refl refl)
+pub abort_next : IsNextChange (prepare_of Majority ∷ []) (own_change 2 9 (Abort 1))
+abort_next = resolving_next (prepare_of Majority ∷ []) (own_change 2 9 (Abort 1)) waits refl waits_there refl refl refl refl
 
 -- the prepare waits, so no change of its key does other than resolve it
 pub must_resolve : (a : Act) → LawfulFrom waiting_known (own_lines 2 9 a) → resolved_seq a ≡ Some 1
@@ -138,6 +141,7 @@ after_removed = (
         (λ n e. let q : 3 ≡ n = cc in above_two one_change (own_change 2 7 (Remove 2 2)) n (omega (arith, q)) (omega (arith, q)) (omega (arith, q))) (λ n e. cc) (λ e. cc);
     fulfils = λ prepared doc deleted e. cc;
     backed = λ prepared doc deleted e. cc;
+    aborts = λ prepared e. cc;
   },
   tt,
 )

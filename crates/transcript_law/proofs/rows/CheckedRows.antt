@@ -51,9 +51,9 @@ use Rattle.transcript_law.proofs.rows.Rollbacks.{none_put}
 use Rattle.transcript_law.proofs.rows.Transcripts as whole
 use Rattle.transcript_law.proofs.rows.Transcripts.{lines, two_writers}
 use Rattle.transcript_law.specs.Alone.{first_groups, first_lines}
-use Rattle.transcript_law.specs.AnswerRows.{durably, makes, once, stores}
+use Rattle.transcript_law.specs.AnswerRows.{awaiting, durably, makes, once, stores}
 use Rattle.transcript_law.specs.Checked.{Checked, CheckedFrom, CheckedItem, CheckedMark, OfClient, OfLink}
-use Rattle.transcript_law.specs.CheckedRows.{PassesCommit, PassesPut, PassesTo, last_numbered}
+use Rattle.transcript_law.specs.CheckedRows.{PassesAwaited, PassesCommit, PassesPut, PassesTo, last_numbered}
 use Rattle.transcript_law.specs.Chronicles.{Begun, Chronicle, Dial, Granted, ItemLine, after_lines, granted}
 use Rattle.transcript_law.specs.ClientStreamRows.{all_changes, asks_for, committed, durable, ended, first_item, for_another, frame_of as frame_for, fresh, holding, inside, knows, marked, next_item, one, pending, prepared, sent, snapshot, third_change, three, tree_of, two, unframed, up_to, with_streams}
 use Rattle.transcript_law.specs.ClientStreams.{ClientKnown, ClientStream, stream_view, vb_in_header}
@@ -297,8 +297,8 @@ commit_unsaved l =
     let both : Some (waits PersistMajority) ≡ Some e = sym (waits_there PersistMajority) ∙ there in let same : waits PersistMajority ≡ e = cc in
     let few : ◌≤◌ 1 0 = held.saved_for (subst (λ (p : Pend). WantsSaved p.level) same tt) in omega (arith, few)
 
-pub told : PassesTo pending (durably 1 9 6) (makes committed ∷ stores SET 2 [] ∷ [])
-told = lines_pass (serving pending (unopened (durably 1 9 6))) (makes committed ∷ stores SET 2 [] ∷ []) commits.committed
+pub told : PassesAwaited pending (durably 1 9 6) (makes committed ∷ stores SET 2 [] ∷ [])
+told = lines_pass (awaiting (serving pending (unopened (durably 1 9 6)))) (makes committed ∷ stores SET 2 [] ∷ []) commits.committed
 
 pub uncommitted : PassesTo durable (durably 1 9 6) (stores SET 2 [] ∷ []) → ⊥
 unfolding spelling frames_in first_frame frame_of read_of frame_row shape_fault request_of requirement_of

@@ -1,8 +1,8 @@
 -- connections of clients, judged by hand
 use Rattle.std.specs.Prelude.{◌≡◌, ◌∷◌, ◌==◌, ◌&&◌, if◌then◌else◌}
-use Rattle.transcript_law.proofs.Words.{ℕ, true, false, List, [], refl, arith, and_parts, Answer, Cause, Event, Chronicle, Verb, NodeVerb, empty_chronicle}
-use Rattle.transcript_law.proofs.{rows.CrashRows.{stops}, rows.Groups.{AreParts, in_order, whole}, rows.Sets.{heard_then}, rows.Silent.{AreHeard, Silent, all_silent, heard_all, heard_by, here_answered, silent_heard, silent_start}}
-use Rattle.transcript_law.specs.{ClientRows.{LawfulOpened, asks, closes, hangs, nooped, opens, refused, replies, sends, waits}, Clients.{AllClosed, IsOpened, IsReached}, Chronicles.{conns_lines}, Prefixes.{known_after}}
+use Rattle.transcript_law.proofs.Words.{ℕ, true, false, List, [], refl, arith, and_parts, None, Some, LawfulGroups, Answer, Cause, Event, Chronicle, Verb, NodeVerb, empty_chronicle}
+use Rattle.transcript_law.proofs.{rows.CrashRows.{stops}, rows.Groups.{AreParts, in_place, whole}, rows.Sets.{heard_then}, rows.Silent.{AreHeard, Silent, all_silent, heard_all, heard_by, here_answered, silent_heard, silent_start}}
+use Rattle.transcript_law.specs.{ClientRows.{LawfulOpened, asks, breaks, closes, hangs, nooped, opens, refused, replies, sends, waits}, Clients.{AllClosed, IsOpened, IsReached}, Chronicles.{after_group, conns_lines}, Prefixes.{known_after}}
 use Rattle.transcript_law.specs.Crashes.{LawfulAfter, Said, numbered, ok, save_under, save_under_groups, stopped_behind, groups_from_number}
 unfoldable use Rattle.mcbp_dcp.specs.Messages.{read_of}
 unfoldable use Rattle.mcbp_dcp.specs.Rows.{frame_row}
@@ -11,6 +11,7 @@ unfoldable use Rattle.mcbp_frame.specs.Frames.{first_frame, frame_of}
 unfoldable use Rattle.mcbp_frame.specs.Spelling.{spelling}
 unfoldable use Rattle.mcbp_kv.specs.Framing.{requirement_of}
 unfoldable use Rattle.mcbp_kv.specs.Requests.{request_of}
+use Rattle.mcbp_frame.specs.declared.frame.FrameFault.TheVariants.{BadMagic}
 use Rattle.vb_disk.specs.declared.made.Outcome.TheVariants.{Old}
 use Rattle.transcript_law.proofs.rows.Answering.{no_question, noop_answer}
 
@@ -19,14 +20,14 @@ abbrev read : Chronicle
 read = known_after empty_chronicle (numbered 1 (Verb.Node 0 ∷ opens 1 ∷ [])) (groups_from_number 1 (ok [] ∷ ok [] ∷ []))
 
 -- a transcript is lawful that is so from there on
-from_heard : (more : List Verb) (told : List Said) → in_order read (numbered 3 more) (groups_from_number 3 told) ≡ true → AreParts read (numbered 3 more) (groups_from_number 3 told) → (Silent read.clients_at → AreHeard read (numbered 3 more) (groups_from_number 3 told)) → LawfulOpened more told
+from_heard : (more : List Verb) (told : List Said) → in_place read (numbered 3 more) (groups_from_number 3 told) ≡ true → AreParts read (numbered 3 more) (groups_from_number 3 told) → (Silent read.clients_at → AreHeard read (numbered 3 more) (groups_from_number 3 told)) → LawfulOpened more told
 from_heard more told o l heard =
     whole empty_chronicle (numbered 1 (Verb.Node 0 ∷ opens 1 ∷ more)) (groups_from_number 1 (ok [] ∷ ok [] ∷ told)) o ((tt, tt, refl), ((tt, refl, refl), l)) (heard_then _ _ _ _ _ refl silent_start (λ s. heard_then _ _ _ _ _ refl s heard))
 
 -- where no client sends anything, none is left without an answer
-from_opened : (more : List Verb) (told : List Said) → (in_order read (numbered 3 more) (groups_from_number 3 told) && all_silent (numbered 3 more)) ≡ true → AreParts read (numbered 3 more) (groups_from_number 3 told) → LawfulOpened more told
+from_opened : (more : List Verb) (told : List Said) → (in_place read (numbered 3 more) (groups_from_number 3 told) && all_silent (numbered 3 more)) ≡ true → AreParts read (numbered 3 more) (groups_from_number 3 told) → LawfulOpened more told
 from_opened more told o l =
-    let both = and_parts (in_order read (numbered 3 more) (groups_from_number 3 told)) (all_silent (numbered 3 more)) o in
+    let both = and_parts (in_place read (numbered 3 more) (groups_from_number 3 told)) (all_silent (numbered 3 more)) o in
     from_heard more told both.0 l (λ s. silent_heard read (numbered 3 more) (groups_from_number 3 told) s both.1)
 
 -- it is one thing or the other
@@ -38,22 +39,32 @@ not_other e = cc
 
 -- ---- lines
 
-pub closed : LawfulOpened (sends 1 ∷ []) (ok (closes 0 1 ∷ []) ∷ [])
-closed = from_opened (sends 1 ∷ []) (ok (closes 0 1 ∷ []) ∷ []) refl (((refl, tt), refl, refl), tt)
+-- the lines in front, as they are where none sends anything
+in_front : LawfulOpened (sends 1 ∷ []) (ok [] ∷ [])
+in_front = from_opened (sends 1 ∷ []) (ok [] ∷ []) refl ((tt, refl, refl), tt)
 
-pub closed_other : LawfulOpened (sends 1 ∷ []) (ok (closes 0 2 ∷ []) ∷ []) → ⊥
+-- the group in which the connection closes
+breaks_off : LawfulGroups read (numbered 3 (breaks 1 ∷ [])) (groups_from_number 3 (ok (closes 0 1 ∷ []) ∷ []))
+unfolding spelling frames_in first_frame frame_of
+breaks_off = (((refl, tt), refl, refl, refl, λ w no standing. cc, refl, tt, tt, here_answered read (breaks 1) (closes 0 1 ∷ []) Answer.Ok (λ n c e. rw e refl) refl refl, tt, λ e. record { fault = BadMagic; stands = refl; front = []; last = refl; alone = refl }), tt)
+
+pub closed : LawfulOpened (breaks 1 ∷ []) (ok (closes 0 1 ∷ []) ∷ [])
+closed = (in_front.0, (in_front.1.0, breaks_off))
+
+pub closed_other : LawfulOpened (breaks 1 ∷ []) (ok (closes 0 2 ∷ []) ∷ []) → ⊥
 closed_other l = not_both l.1.1.0.0.0
 
-pub closed_elsewhere : LawfulOpened (sends 1 ∷ []) (ok (closes 1 1 ∷ []) ∷ []) → ⊥
+pub closed_elsewhere : LawfulOpened (breaks 1 ∷ []) (ok (closes 1 1 ∷ []) ∷ []) → ⊥
 closed_elsewhere l = not_both l.1.1.0.0.0
 
-pub closed_twice : LawfulOpened (sends 1 ∷ []) (ok (closes 0 1 ∷ closes 0 1 ∷ []) ∷ []) → ⊥
+pub closed_twice : LawfulOpened (breaks 1 ∷ []) (ok (closes 0 1 ∷ closes 0 1 ∷ []) ∷ []) → ⊥
 closed_twice l = not_both l.1.1.0.0.1.0
 
-pub closed_later : LawfulOpened (sends 1 ∷ waits ∷ []) (ok [] ∷ ok (closes 0 1 ∷ []) ∷ [])
-closed_later = from_opened (sends 1 ∷ waits ∷ []) (ok [] ∷ ok (closes 0 1 ∷ []) ∷ []) refl ((tt, refl, refl), (((refl, tt), tt, refl), tt))
+pub closed_later : LawfulOpened (sends 1 ∷ waits ∷ []) (ok [] ∷ ok (closes 0 1 ∷ []) ∷ []) → ⊥
+unfolding frames_in first_frame
+closed_later l = let b = l.1.1.1.0.10.0 in let e : None ≡ Some b.fault = b.stands in cc
 
-pub closed_again : LawfulOpened (sends 1 ∷ waits ∷ []) (ok (closes 0 1 ∷ []) ∷ ok (closes 0 1 ∷ []) ∷ []) → ⊥
+pub closed_again : LawfulOpened (breaks 1 ∷ waits ∷ []) (ok (closes 0 1 ∷ []) ∷ ok (closes 0 1 ∷ []) ∷ []) → ⊥
 closed_again l = not_both l.1.1.1.0.0.0
 
 pub closed_hung : LawfulOpened (hangs 1 ∷ waits ∷ []) (ok [] ∷ ok (closes 0 1 ∷ []) ∷ []) → ⊥
@@ -62,24 +73,24 @@ closed_hung l = not_both l.1.1.1.0.0.0
 pub hung_then : LawfulOpened (hangs 1 ∷ waits ∷ []) (ok [] ∷ ok [] ∷ [])
 hung_then = from_opened (hangs 1 ∷ waits ∷ []) (ok [] ∷ ok [] ∷ []) refl ((tt, refl, refl), ((tt, tt, refl), tt))
 
-pub reply : LawfulOpened (asks 1 ∷ []) (ok (replies 0 1 (nooped 9) ∷ closes 0 1 ∷ []) ∷ [])
+pub reply : LawfulOpened (asks 1 ∷ []) (ok (replies 0 1 (nooped 9) ∷ []) ∷ [])
 unfolding spelling frames_in first_frame frame_of read_of frame_row request_of requirement_of
-reply = from_heard (asks 1 ∷ []) (ok (replies 0 1 (nooped 9) ∷ closes 0 1 ∷ []) ∷ []) refl ((((refl, λ z. noop_answer 9 refl refl refl refl tt), (refl, tt)), refl, refl), tt)
-    (λ s. heard_by _ _ _ _ _ (here_answered read (asks 1) (replies 0 1 (nooped 9) ∷ closes 0 1 ∷ []) Answer.Ok (λ n c e. rw e refl) refl refl) (heard_all _))
+reply = from_heard (asks 1 ∷ []) (ok (replies 0 1 (nooped 9) ∷ []) ∷ []) refl ((((refl, λ z. noop_answer 9 refl refl refl refl tt), tt), refl, refl), tt)
+    (λ s. heard_by _ _ _ _ _ (here_answered read (asks 1) (replies 0 1 (nooped 9) ∷ []) Answer.Ok (λ n c e. rw e refl) refl refl) (heard_all _))
 
 pub reply_later : LawfulOpened (asks 1 ∷ waits ∷ []) (ok [] ∷ ok (replies 0 1 (nooped 9) ∷ []) ∷ []) → ⊥
 unfolding spelling frames_in first_frame frame_of read_of frame_row request_of requirement_of
 reply_later l = let a = (l.1.1.0.8 0 1 refl).asks _ refl in let e = a.asks in cc
 
 module _ (bytes : List ℕ) where
-  pub reply_unasked : LawfulOpened (sends 1 ∷ []) (ok (replies 0 1 bytes ∷ closes 0 1 ∷ []) ∷ []) → ⊥
+  pub reply_unasked : LawfulOpened (sends 1 ∷ []) (ok (replies 0 1 bytes ∷ []) ∷ []) → ⊥
   unfolding frames_in first_frame
   reply_unasked l = no_question (l.1.1.0.0.0.1 refl) refl refl
 
-  pub reply_other : LawfulOpened (asks 1 ∷ []) (ok (replies 0 2 bytes ∷ closes 0 1 ∷ []) ∷ []) → ⊥
+  pub reply_other : LawfulOpened (asks 1 ∷ []) (ok (replies 0 2 bytes ∷ []) ∷ []) → ⊥
   reply_other l = not_both l.1.1.0.0.0.0
 
-  pub reply_elsewhere : LawfulOpened (asks 1 ∷ []) (ok (replies 1 1 bytes ∷ closes 0 1 ∷ []) ∷ []) → ⊥
+  pub reply_elsewhere : LawfulOpened (asks 1 ∷ []) (ok (replies 1 1 bytes ∷ []) ∷ []) → ⊥
   reply_elsewhere l = not_both l.1.1.0.0.0.0
 
   pub reply_behind : LawfulOpened (asks 1 ∷ []) (ok (closes 0 1 ∷ replies 0 1 bytes ∷ []) ∷ []) → ⊥
@@ -165,11 +176,12 @@ sent_hung l = not_both l.1.1.1.0.1
 pub sent_anew : LawfulOpened (hangs 1 ∷ opens 1 ∷ sends 1 ∷ []) (ok [] ∷ ok [] ∷ ok [] ∷ [])
 sent_anew = from_opened (hangs 1 ∷ opens 1 ∷ sends 1 ∷ []) (ok [] ∷ ok [] ∷ ok [] ∷ []) refl ((tt, refl, refl), ((tt, refl, refl), ((tt, refl, refl), tt)))
 
-pub sent_closed : LawfulOpened (sends 1 ∷ sends 1 ∷ []) (ok (closes 0 1 ∷ []) ∷ ok [] ∷ []) → ⊥
+pub sent_closed : LawfulOpened (breaks 1 ∷ sends 1 ∷ []) (ok (closes 0 1 ∷ []) ∷ ok [] ∷ []) → ⊥
 sent_closed l = not_both l.1.1.1.0.1
 
-pub closed_anew : LawfulOpened (sends 1 ∷ opens 1 ∷ []) (ok (closes 0 1 ∷ []) ∷ ok [] ∷ [])
-closed_anew = from_opened (sends 1 ∷ opens 1 ∷ []) (ok (closes 0 1 ∷ []) ∷ ok [] ∷ []) refl (((refl, tt), refl, refl), ((tt, refl, refl), tt))
+pub closed_anew : LawfulOpened (breaks 1 ∷ opens 1 ∷ []) (ok (closes 0 1 ∷ []) ∷ ok [] ∷ [])
+unfolding spelling frames_in first_frame frame_of
+closed_anew = (in_front.0, (in_front.1.0, (breaks_off.0, ((tt, refl, refl, refl, λ w no standing. cc, refl, tt, tt, here_answered (after_group read (breaks 1) (closes 0 1 ∷ []) Answer.Ok) (opens 1) [] Answer.Ok (λ n c e. rw e refl) refl refl, tt, tt), tt))))
 
 -- ---- nodes that stop
 

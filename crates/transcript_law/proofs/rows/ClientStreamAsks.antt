@@ -36,6 +36,7 @@ use Rattle.transcript_law.specs.StreamLaws.{LawfulSaid}
 use Rattle.transcript_law.proofs.rows.ClientStreams.{◌▹◌, all_between}
 use Rattle.transcript_law.proofs.rows.Silent.{here_answered}
 use Rattle.vb_events.specs.declared.event.Answer.TheVariants as answer
+use Rattle.transcript_law.specs.LinesTold.{LastLine}
 
 -- ---- requests that are answered as they are to be
 
@@ -44,8 +45,8 @@ abbrev pub answer_of : AskAnswer → Frame
 answer_of said = dcp_frame (msg.StreamAnswer (stream_verdict (log_of 5) said)) 9 0
 
 -- the vBucket lets all changes be sent, or refuses
-pub goes : (known : ClientKnown) → LawfulSaid (serving two known) 0 0 all_changes 2 (log_of 5) ask_answer.Go
-goes known = record { own_log = refl; own_high = refl; verdict = (refl, λ z. absurd (omega (arith, z))); active = refl }
+pub goes : (l : Option LastLine) (known : ClientKnown) → LawfulSaid (record (serving two known) { last = l }) 0 0 all_changes 2 (log_of 5) ask_answer.Go
+goes l known = record { own_log = refl; own_high = refl; verdict = (refl, λ z. absurd (omega (arith, z))); active = refl }
 
 pub refuses : (known : ClientKnown) (ask : StreamAsk) (code : ℕ) → 0 < code → LawfulSaid (serving two known) 0 0 ask 2 (log_of 5) (ask_answer.Refuse code)
 refuses known ask code some = record { own_log = refl; own_high = refl; verdict = λ e. omega (arith, some, e); active = tt }
@@ -66,7 +67,7 @@ all_order = (omega arith, omega arith, omega arith)
 
 pub go : LawfulAsked (that_sent none (requesting 0 all_changes)) (asked all_changes ask_answer.Go)
 unfolding spelling dcp_frame frames_in first_frame frame_of read_of frame_row shape_fault
-go = record { own_node = refl; request = _; next = refl; numbers = refl; vb = refl; answered = goes _; own = free open_setup refl; reason = fair open_setup None no_stream all_changes all_order; frame = ([], refl) } ▹ (λ z. dcp_answer (answer_of ask_answer.Go) refl refl refl refl refl refl tt) ▹ tt
+go = record { own_node = refl; request = _; next = refl; numbers = refl; vb = refl; answered = goes _ _; own = free open_setup refl; reason = fair open_setup None no_stream all_changes all_order; frame = ([], refl) } ▹ (λ z. dcp_answer (answer_of ask_answer.Go) refl refl refl refl refl refl tt) ▹ tt
 
 pub opened : LawfulAsked (unopened (opening 1 ++ requesting 0 all_changes)) (opens_first ∷ asked all_changes ask_answer.Go)
 unfolding spelling dcp_frame frames_in first_frame frame_of read_of frame_row shape_fault
@@ -94,7 +95,7 @@ over_one g e o = let same : finished put_two ≡ g = cc in let z : true ≡ fals
 
 pub over : LawfulAsked (that_sent (one (finished put_two)) (requesting 0 all_changes)) (asked all_changes ask_answer.Go)
 unfolding spelling dcp_frame frames_in first_frame frame_of read_of frame_row shape_fault
-over = record { own_node = refl; request = _; next = refl; numbers = refl; vb = refl; answered = goes _; own = record { unopened = λ e. cc; unknown = λ e. absurd (omega (arith, e)); takeover = λ o e. absurd (omega (arith, e)); held = λ g e o. absurd (over_one g e o) }; reason = fair open_setup (Some (finished put_two)) over_one all_changes all_order; frame = ([], refl) } ▹ (λ z. dcp_answer (answer_of ask_answer.Go) refl refl refl refl refl refl tt) ▹ tt
+over = record { own_node = refl; request = _; next = refl; numbers = refl; vb = refl; answered = goes _ _; own = record { unopened = λ e. cc; unknown = λ e. absurd (omega (arith, e)); takeover = λ o e. absurd (omega (arith, e)); held = λ g e o. absurd (over_one g e o) }; reason = fair open_setup (Some (finished put_two)) over_one all_changes all_order; frame = ([], refl) } ▹ (λ z. dcp_answer (answer_of ask_answer.Go) refl refl refl refl refl refl tt) ▹ tt
 
 -- ---- requests that are not
 
@@ -215,6 +216,8 @@ pieces = (
     tt,
     tt,
     here_answered (serving two (that_sent none (take 30 (requesting 0 all_changes)))) (sends_rest 30 (requesting 0 all_changes)) (asked all_changes ask_answer.Go) answer.Ok (λ n c e. rw e refl) refl refl,
+    tt,
+    λ e. cc,
   ),
   tt,
 )

@@ -18,7 +18,7 @@ use Rattle.transcript_law.specs.ClientFrames.{is_closed_by}
 use Rattle.transcript_law.specs.ClientStreamRows.{all_changes, finished, first_item, fresh, inside, marked, next_item, one, pending, prepared, put_two, snapshot, third_change, three, two, unframed, untold, up_to, with_streams}
 use Rattle.transcript_law.specs.ClientStreams.{Begun, ClientKnown, ClientStream, ItemLine}
 use Rattle.transcript_law.specs.Followers.{next_change}
-use Rattle.transcript_law.specs.LawfulClients.{AllQuiet, IsQuiet, NoneWithin}
+use Rattle.transcript_law.specs.{LawfulClients.{AllQuiet, IsQuiet, NoneWithin}, LinesTold.{at_line}}
 use Rattle.transcript_law.specs.Undone.{EndsThere}
 use Rattle.transcript_law.specs.Transcripts.{one_change}
 use Rattle.transcript_law.proofs.rows.ClientStreamVerdicts.{no_active}
@@ -28,22 +28,22 @@ use Rattle.vb_events.specs.declared.event.Why.TheVariants as why
 -- ---- idle pulls
 
 -- an idle pull is lawful where each stream is quiet
-idles : (changes : List Change) (known : ClientKnown) → known.asking.bytes ≡ [] → AllQuiet (serving changes known) 0 known → LawfulPulled changes known idle
-idles changes known silent quiet = ((tt, (refl, record { told = refl; most = omega arith; all = λ e. cc; only = λ e. absurd (omega (arith, e)) }), refl, refl, (λ w no standing. cc), refl, (refl, refl), quiet, here_answered (serving changes known) pulls [] (answer.Pulled 0 why.Idle) (λ n c e. rw e refl) (none_of known.asking silent) (unbroken_of known.asking silent)), tt)
+idles : (changes : List Change) (known : ClientKnown) → known.asking.bytes ≡ [] → AllQuiet (at_line (serving changes known) 1) 0 known → LawfulPulled changes known idle
+idles changes known silent quiet = ((tt, (refl, record { told = refl; most = omega arith; all = λ e. cc; only = λ e. absurd (omega (arith, e)) }), refl, refl, (λ w no standing. cc), refl, (refl, refl), quiet, here_answered (serving changes known) pulls [] (answer.Pulled 0 why.Idle) (λ n c e. rw e refl) (none_of known.asking silent) (unbroken_of known.asking silent), tt, tt), tt)
 
 -- of one stream it is enough that this one is
-one_quiet : (changes : List Change) (g : ClientStream) → IsQuiet (serving changes (with_streams (one g))) 0 0 g → AllQuiet (serving changes (with_streams (one g))) 0 (with_streams (one g))
+one_quiet : (changes : List Change) (g : ClientStream) → IsQuiet (at_line (serving changes (with_streams (one g))) 1) 0 0 g → AllQuiet (at_line (serving changes (with_streams (one g))) 1) 0 (with_streams (one g))
 one_quiet changes g quiet v h is opens unclosed = by v (v == 0) refl is
   where
-    by : (v : ℕ) (b : Bool) → (v == 0) ≡ b → (if v == 0 then Some g else None) ≡ Some h → IsQuiet (serving changes (with_streams (one g))) 0 v h
+    by : (v : ℕ) (b : Bool) → (v == 0) ≡ b → (if v == 0 then Some g else None) ≡ Some h → IsQuiet (at_line (serving changes (with_streams (one g))) 1) 0 v h
     by v true at is =
         let there : (if true then Some g else None) ≡ Some h = ap (λ (c : Bool). if c then Some g else None) (sym at) ∙ is in let same : g ≡ h = cc in
         let zero : v ≡ 0 = eqb-true v 0 at in
-        subst (λ w. IsQuiet (serving changes (with_streams (one g))) 0 w h) (sym zero) (subst (IsQuiet (serving changes (with_streams (one g))) 0 0) same quiet)
+        subst (λ w. IsQuiet (at_line (serving changes (with_streams (one g))) 1) 0 w h) (sym zero) (subst (IsQuiet (at_line (serving changes (with_streams (one g))) 1) 0 0) same quiet)
     by v false at is = let none : None ≡ Some h = ap (λ (c : Bool). if c then Some g else None) (sym at) ∙ is in cc
 
 -- and the one stream is quiet where it is lawful
-is_quiet : (changes : List Change) (g : ClientStream) → LawfulPulled changes (with_streams (one g)) idle → g.over ≡ false → IsQuiet (serving changes (with_streams (one g))) 0 0 g
+is_quiet : (changes : List Change) (g : ClientStream) → LawfulPulled changes (with_streams (one g)) idle → g.over ≡ false → IsQuiet (at_line (serving changes (with_streams (one g))) 1) 0 0 g
 unfolding frames_in
 is_quiet changes g l opens = l.0.7 0 g refl opens refl
 

@@ -38,6 +38,7 @@ use Rattle.vb_events.specs.declared.event.Event.{Event}
 use Rattle.vb_events.specs.declared.event.Why.TheVariants as why
 use Rattle.transcript_law.specs.{Chronicles.{Chronicle, after_group}, StreamsTold.{Asking}}
 use Rattle.transcript_law.proofs.rows.Silent.{here_answered, none_of, unbroken_of}
+use Rattle.transcript_law.specs.LinesTold.{LastLine}
 
 -- ---- a pull
 
@@ -94,6 +95,8 @@ counted = (
     (refl, refl),
     λ v g is opens stays. absurd (all_over g (v == 0) (sym (streams_behind (one granted) (λ w. refl) v) ∙ is) opens),
     here_answered (serving two (with_streams (one granted))) pulls all_lines (answer.Pulled 4 why.Idle) (λ n c e. rw e refl) (none_of blank_now refl) (unbroken_of blank_now refl),
+    tt,
+    tt,
   ),
   tt,
 )
@@ -119,8 +122,8 @@ granted_one fs v = ap (λ o. if v == 0 then Some granted else o) (none_closed fs
 abbrev sent_frames : List Frame
 sent_frames = dcp_frame (msg.Open 0 1 (120 ∷ [])) 1 0 ∷ dcp_frame (msg.Control (codes "enable_sync_writes") (codes "true")) 2 0 ∷ dcp_frame (msg.Control (codes "consumer_name") (codes "x")) 3 0 ∷ []
 
-asked_right : (clients : ClientsKnown) → LawfulSaid (record (serving two blank_client) { clients_at = clients }) 0 0 (up_to 2) 2 (log_of 5) ask_answer.Go
-asked_right clients = record { own_log = refl; own_high = refl; verdict = (refl, λ z. absurd (omega (arith, z))); active = refl }
+asked_right : (l : Option LastLine) (clients : ClientsKnown) → LawfulSaid (record (serving two blank_client) { last = l; clients_at = clients }) 0 0 (up_to 2) 2 (log_of 5) ask_answer.Go
+asked_right l clients = record { own_log = refl; own_high = refl; verdict = (refl, λ z. absurd (omega (arith, z))); active = refl }
 
 refuses_none : RefusesOwn (record { opened = true; sync = true; named = true }) None (up_to 2) ask_answer.Go
 refuses_none = record { unopened = λ e. cc; unknown = λ e. absurd (omega (arith, e)); takeover = λ o e. absurd (omega (arith, e)); held = λ g e o. cc }
@@ -140,7 +143,7 @@ story = (
   (refl, λ z. dcp_answer (dcp_frame (msg.OpenAnswer 0) 1 0) refl refl refl refl refl (bare_so 80 1 status.Success) tt)
       ▹ (refl, λ z. dcp_answer (dcp_frame (msg.ControlAnswer 0) 2 0) refl refl refl refl refl (bare_so 94 2 status.Success) tt)
       ▹ (refl, λ z. dcp_answer (dcp_frame (msg.ControlAnswer 0) 3 0) refl refl refl refl refl (bare_so 94 3 status.Success) tt)
-      ▹ record { own_node = refl; request = _; next = refl; numbers = refl; vb = refl; answered = asked_right _; own = refuses_none; reason = fair (record { opened = true; sync = true; named = true }) None no_stream (up_to 2) (omega arith, omega arith, omega arith); frame = ([], refl) } ▹ (refl, λ z. dcp_answer (answer_of ask_answer.Go) refl refl refl refl refl refl tt) ▹ tt,
+      ▹ record { own_node = refl; request = _; next = refl; numbers = refl; vb = refl; answered = asked_right _ _; own = refuses_none; reason = fair (record { opened = true; sync = true; named = true }) None no_stream (up_to 2) (omega arith, omega arith, omega arith); frame = ([], refl) } ▹ (refl, λ z. dcp_answer (answer_of ask_answer.Go) refl refl refl refl refl refl tt) ▹ tt,
   refl,
   refl,
   refl,
@@ -149,6 +152,8 @@ story = (
   tt,
   tt,
   here_answered (serving two blank_client) asks_first first_lines answer.Ok (λ n c e. rw e refl) refl refl,
+  tt,
+  λ e. cc,
 )
     ▹ (
       mark_put _ _ 0 0 2 granted _ refl refl refl two_next ▹ (refl, λ z. cc)
@@ -163,6 +168,8 @@ story = (
       (refl, refl),
       λ v g is opens stays. absurd (all_over g (v == 0) (sym (streams_behind (with_id (unclosed sent_frames nothing) 0 (Some granted)) (granted_one sent_frames) v) ∙ is) opens),
       here_answered story_asked pulls all_lines (answer.Pulled 4 why.Idle) (λ n c e. rw e refl) refl refl,
+      tt,
+      tt,
     )
     ▹ tt
 

@@ -107,7 +107,7 @@ pub tick_ask : LawfulHere (serving two (that_sent none (requesting 0 all_changes
 unfolding spelling dcp_frame frames_in first_frame frame_of read_of frame_row shape_fault
 tick_ask = (
   (
-    (record { own_node = refl; request = _; next = refl; numbers = refl; vb = refl; answered = goes _; own = free open_setup refl; reason = fair open_setup None no_stream all_changes all_order; frame = ([], refl) }, ((refl, λ z. dcp_answer (answer_of ask_answer.Go) refl refl refl refl refl refl tt), tt)),
+    (record { own_node = refl; request = _; next = refl; numbers = refl; vb = refl; answered = (let x = goes None (that_sent none (requesting 0 all_changes)) in record { own_log = x.own_log; own_high = x.own_high; verdict = x.verdict; active = x.active }); own = free open_setup refl; reason = fair open_setup None no_stream all_changes all_order; frame = ([], refl) }, ((refl, λ z. dcp_answer (answer_of ask_answer.Go) refl refl refl refl refl refl tt), tt)),
     tt,
     refl,
     refl,
@@ -116,6 +116,8 @@ tick_ask = (
     tt,
     tt,
     here_answered (serving two (that_sent none (requesting 0 all_changes))) ticks (asked all_changes ask_answer.Go) answer.Ok (λ n c e. rw e refl) refl refl,
+    tt,
+    tt,
   ),
   tt,
 )

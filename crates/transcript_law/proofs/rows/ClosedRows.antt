@@ -1,7 +1,7 @@
 -- appends that close a journal, judged by hand
 use Rattle.std.specs.Prelude.{◌≡◌, ◌<◌, ◌≤◌, ◌∷◌}
 use Rattle.transcript_law.proofs.Words.{ℕ, Bool, true, false, List, [], refl, sym, arith, inl, Some, None, Cause, Event, Role, Lawful, LawfulAnswer, LawfulGroups, next_change}
-use Rattle.transcript_law.proofs.{rows.CrashRows.{first, lawful_from_heard, lawful_from_made, no_role, one_closed, read, taken}, rows.{Groups.{whole}, NextRows.{second_next}, Sets.{heard_then, next_told, nine_sent, nine_then, seven_past}, Silent.{shut_heard, silent_heard}}}
+use Rattle.transcript_law.proofs.{rows.CrashRows.{first, lawful_from_heard, lawful_from_made, no_role, one_closed, read, taken}, rows.{Groups.{whole}, StoredRows.{made_stored}, NextRows.{second_next}, Sets.{heard_then, next_told, nine_sent, nine_then, seven_past}, Silent.{shut_heard, silent_heard}}}
 use Rattle.transcript_law.specs.ClosedJournals.{back_line, dead_after_start, dead_after_start_groups, dialed_for, down_under, down_under_groups, fails_down, follow_after_crash, follow_after_crash_groups, follow_line, found_closed, save_again, save_again_groups, save_given_up, save_given_up_groups, save_none, save_none_groups, save_twice, save_twice_groups, sent_back_for, sent_back_under}
 use Rattle.transcript_law.specs.Crashes.{LawfulAfter, branch_line, dead_line, dead_under, dead_under_groups, failed_behind, numbered, ok, groups_from_number}
 use Rattle.transcript_law.specs.{Chronicles.{Idle, Taken}, Downs.{refused}, LineAnswers.{Back, IsBack}}
@@ -34,7 +34,7 @@ unmade lines l = is_shut (sym l.1.0.1)
 
 pub again : LawfulAfter save_again (save_again_groups (found_closed []))
 again = lawful_from_heard save_again (save_again_groups (found_closed [])) refl (
-  taken,
+  taken _,
   (
     (tt, tt, refl),
     (
@@ -46,7 +46,7 @@ again = lawful_from_heard save_again (save_again_groups (found_closed [])) refl 
     ),
   ),
 )
-    (λ s e. heard_then _ _ _ _ _ refl s (λ s. heard_then _ _ _ _ _ refl s (λ s. heard_then _ _ _ _ _ refl s (λ s. nine_then _ 8 8 5 _ next_change _ _ refl e s (λ s e. silent_heard _ _ _ s refl)))))
+    (λ s e. heard_then _ _ _ _ _ refl s (λ s. heard_then _ _ _ _ _ refl s (λ s. heard_then _ _ _ _ _ refl s (λ s. nine_then _ 8 8 5 _ next_change _ _ refl e s (λ s e. silent_heard _ _ _ s refl))))) (tt, (tt, (tt, (made_stored 5 2 next_change refl, (tt, (tt, tt))))))
 
 pub again_ok : LawfulAfter save_again (save_again_groups (ok [])) → ⊥
 again_ok l = is_shut l.1.1.1.1.1.1.1.1.1.0.1.0.0
@@ -70,7 +70,7 @@ none_stopped lines l = let taken = l.1.1.1.1.1.0.1.1 in untaken taken.0 taken.1
 
 pub given_up : LawfulAfter save_given_up (save_given_up_groups (refused cause.NothingTaken))
 given_up = lawful_from_made save_given_up (save_given_up_groups (refused cause.NothingTaken)) refl
-    (taken, ((tt, tt, refl), (((omega arith, tt), ((refl, (omega arith, omega arith)), (_, refl)), refl), ((tt, (tt, tt), refl), tt))))
+    (taken _, ((tt, tt, refl), (((omega arith, tt), ((refl, (omega arith, omega arith)), (_, refl)), refl), ((tt, (tt, tt), refl), tt))))
 
 pub given_up_closed : (lines : List Event) → LawfulAfter save_given_up (save_given_up_groups (found_closed lines)) → ⊥
 given_up_closed lines l = let taken = l.1.1.1.1.1.1.1.0.1.1 in untaken taken.0 taken.1

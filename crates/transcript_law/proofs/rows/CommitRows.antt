@@ -33,6 +33,7 @@ may how f d held = record {
   fulfils = λ number doc deleted e. let t = named_so how number doc deleted e in (waits how, waits_there how, t.0, t.1, t.2);
   backed = λ number doc deleted e p there.
       let found : Some (waits how) ≡ Some p = sym (waits_there how) ∙ there in let same : waits how ≡ p = cc in subst (λ (q : Pend). IsHeldByMost (f 0 0) (d 0 0).saved q.seq q.level) same held;
+  aborts = λ prepared e. cc;
 }
 
 pub must : (how : Level) (f : ℕ → ℕ → CountsKnown) (d : ℕ → ℕ → DiskKnown) → LawfulChange (record (prepared_known how) { counts_at = f; disk_at = d }) 0 0 5 the_commit → IsHeldByMost (f 0 0) (d 0 0).saved 1 how
@@ -66,6 +67,7 @@ anew_lawful f d held = record {
   made = (may Majority f d held).made;
   fulfils = (may Majority f d held).fulfils;
   backed = (may Majority f d held).backed;
+  aborts = λ prepared e. cc;
 }
 
 pub anew_held : (f : ℕ → ℕ → CountsKnown) (d : ℕ → ℕ → DiskKnown) → LawfulChange (record risen_anew { counts_at = f; disk_at = d }) 0 0 7 the_commit → IsHeldByMost (f 0 0) (d 0 0).saved 1 Majority
@@ -81,6 +83,7 @@ again_lawful f d held = record {
   made = (may Majority f d held).made;
   fulfils = (may Majority f d held).fulfils;
   backed = (may Majority f d held).backed;
+  aborts = λ prepared e. cc;
 }
 
 pub again_held : (f : ℕ → ℕ → CountsKnown) (d : ℕ → ℕ → DiskKnown) → LawfulChange (record (risen_again []) { counts_at = f; disk_at = d }) 0 0 5 the_commit → IsHeldByMost (f 0 0) (d 0 0).saved 1 Majority

@@ -3,9 +3,9 @@ use Rattle.transcript_law.specs.{Chronicles.{alone}, Majorities.{IsHeldByMost}}
 use Rattle.std.specs.Prelude.{◌≡◌, ◌<◌, ◌≤◌, ◌∷◌, ◌==◌, ◌&&◌, if◌then◌else◌}
 use Rattle.transcript_law.proofs.Words.{ℕ, Bool, true, false, List, [], refl, ap, sym, ◌∙◌, subst, arith, inl, ⊎_elim, and_parts, eqb-true, ne_eqb, Option, Some, None, Event, Answer, Role, front, uuid_of, Chronicle}
 use Rattle.transcript_law.proofs.Words.{empty_chronicle, Lawful, LawfulFrom, LawfulGroups, LawfulAnswer, nothing, image_of, one_change, next_change, log_of, made_log}
-use Rattle.transcript_law.proofs.{links.PumpAnswers.{two_numbers}, rows.NextRows.{nine_next, resolving_next, second_next}, rows.Transcripts.{first_change, shown, as_made, as_set}, rows.Groups.{AreParts, in_order, whole}, rows.Sets.{first_told, heard_then, next_told, nine_then, seven_then}, rows.Silent.{AreHeard, Silent, all_silent, shut_heard, silent_heard, silent_start}}
+use Rattle.transcript_law.proofs.{links.PumpAnswers.{two_numbers}, rows.NextRows.{nine_next, resolving_next, second_next}, rows.Transcripts.{first_change, shown, as_made, as_set}, rows.Groups.{AreParts, AreStored, all_stored, in_order, in_place, none_stored, whole, whole_stored}, rows.StoredRows.{made_stored}, rows.Sets.{first_told, heard_then, next_told, nine_then, seven_then}, rows.Silent.{AreHeard, Silent, all_silent, shut_heard, silent_heard, silent_start}}
 use Rattle.transcript_law.specs.Firings.{FiresAsSaid}
-use Rattle.transcript_law.specs.StreamsTold.{blank_asking}
+use Rattle.transcript_law.proofs.rows.Sets.{blank_after}
 use Rattle.transcript_law.specs.Clients.{AllClosed}
 use Rattle.transcript_law.specs.{Chronicles.{conns_lines, Idle, Taken, Written, no_arm, known_fail, known_stop}, Prefixes.{known_after}, LineAnswers.{MakesBranch, FailsIn, StopsIn}}
 use Rattle.transcript_law.specs.Crashes.{Said, LawfulAfter, ok, numbered, groups_from_number, one_made, one_made_groups, took, stopped_behind, failed_behind, branch_line, restarted, dead_line, none_shown, one_shown, stat_of}
@@ -28,6 +28,7 @@ use Rattle.vb_events.specs.declared.event.Answer.TheVariants as answer
 use Rattle.vb_events.specs.declared.event.Cause.TheVariants as cause
 use Rattle.vb_events.specs.declared.event.Event.TheVariants as event
 use Rattle.vb_types.specs.declared.journal.Batch.{Batch}
+use Rattle.transcript_law.specs.LinesTold.{LastLine}
 
 -- what was read when the change was made
 abbrev pub read : Chronicle
@@ -35,24 +36,25 @@ read = known_after empty_chronicle (one_made []) (one_made_groups [])
 
 -- a transcript is lawful that is so from there on
 pub lawful_from_heard : (more : List Verb) (told : List Said) → in_order read (numbered 5 more) (groups_from_number 5 told) ≡ true → AreParts read (numbered 5 more) (groups_from_number 5 told)
-    → (Silent read.clients_at → (read.clients_at 0 1).asking ≡ blank_asking → AreHeard read (numbered 5 more) (groups_from_number 5 told)) → LawfulAfter more told
-lawful_from_heard more told o l heard = whole empty_chronicle (one_made more) (one_made_groups told) o
-    ((tt, tt, refl), ((tt, refl, refl), (((record { new = tt; newest = refl; last = refl; leaves = refl }, (record { another = λ e. cc; anew = λ e. refl }, tt)), (refl, tt), refl), (((first_change _ _ _ _, ((refl, λ z. first_told _ _ _ refl refl refl), tt)), refl, refl), l))))
-    (heard_then _ _ _ _ _ refl silent_start (λ s. heard_then _ _ _ _ _ refl s (λ s. heard_then _ _ _ _ _ refl s (λ s. seven_then _ 4 4 5 _ one_change _ _ refl refl s heard))))
+    → (Silent read.clients_at → (read.clients_at 0 1).asking ≡ blank_after 1 → AreHeard read (numbered 5 more) (groups_from_number 5 told)) → AreStored (groups_from_number 5 told) → LawfulAfter more told
+lawful_from_heard more told o l heard stored = whole_stored empty_chronicle (one_made more) (one_made_groups told) o
+    ((tt, tt, refl), ((tt, refl, refl), (((record { new = tt; newest = refl; last = refl; leaves = refl }, (record { another = λ e. cc; anew = λ e. refl }, tt)), (refl, tt), refl), (((first_change _ _ _ _ _, ((refl, λ z. first_told _ _ _ refl refl refl), tt)), refl, refl), l))))
+    (heard_then _ _ _ _ _ refl silent_start (λ s. heard_then _ _ _ _ _ refl s (λ s. heard_then _ _ _ _ _ refl s (λ s. seven_then _ 4 4 5 _ one_change _ _ refl refl s heard)))) (tt, (tt, (tt, (made_stored 5 1 one_change refl, stored))))
 
 -- where no client sends more, none is left without an answer
-pub lawful_from_made : (more : List Verb) (told : List Said) → (in_order read (numbered 5 more) (groups_from_number 5 told) && all_silent (numbered 5 more)) ≡ true → AreParts read (numbered 5 more) (groups_from_number 5 told) → LawfulAfter more told
+pub lawful_from_made : (more : List Verb) (told : List Said) → (in_place read (numbered 5 more) (groups_from_number 5 told) && all_silent (numbered 5 more)) ≡ true → AreParts read (numbered 5 more) (groups_from_number 5 told) → LawfulAfter more told
 lawful_from_made more told o l =
-    let both = and_parts (in_order read (numbered 5 more) (groups_from_number 5 told)) (all_silent (numbered 5 more)) o in
-    lawful_from_heard more told both.0 l (λ s e. silent_heard read (numbered 5 more) (groups_from_number 5 told) s both.1)
+    let both = and_parts (in_place read (numbered 5 more) (groups_from_number 5 told)) (all_silent (numbered 5 more)) o in
+    let placed = and_parts (in_order read (numbered 5 more) (groups_from_number 5 told)) (none_stored (groups_from_number 5 told)) both.0 in
+    lawful_from_heard more told placed.0 l (λ s e. silent_heard read (numbered 5 more) (groups_from_number 5 told) s both.1) (all_stored (groups_from_number 5 told) placed.1)
 
 -- the one connection of a client is told closed
 pub one_closed : AllClosed (conns_lines read.conn_at (event.Closed 0 1 ∷ [])) 0
 one_closed c = elim (c == 1) as (λ b. (if b then false else (if b then true else false)) ≡ false) [ true ↦ refl | false ↦ refl ]
 
 -- the change is taken
-pub taken : LawfulFrom read took.0 × LawfulAnswer read (verb.AtVb 0 0 vb_verb.Take) took.0 took.1 × FiresAsSaid None took.0 took.1
-taken = ((record { idle = refl; goes_on = omega arith; held = omega arith; starts = omega arith; ends = omega arith; some = omega arith; most = omega arith }, tt), refl, refl)
+pub taken : (l : Option LastLine) → LawfulFrom (record read { last = l }) took.0 × LawfulAnswer (record read { last = l }) (verb.AtVb 0 0 vb_verb.Take) took.0 took.1 × FiresAsSaid None took.0 took.1
+taken l = ((record { idle = refl; goes_on = omega arith; held = omega arith; starts = omega arith; ends = omega arith; some = omega arith; most = omega arith }, tt), refl, refl)
 
 -- roles
 pub no_role : (r : Role) → ◌≡◌ {A = Option Role} None (Some r) → ⊥
@@ -84,7 +86,7 @@ stop_fails : (calls k : ℕ) → FailsIn calls (known_stop k Old).fuse → ⊥
 stop_fails calls k = elim (k == 0) as (λ b. FailsIn calls (if b then no_arm else record { fuse = Stop k; out = Old; down = false }).fuse → ⊥) [ true ↦ λ x. x | false ↦ λ x. x ]
 
 pub passed : LawfulAfter (save_under (verb.AtNode 0 (node_verb.Fail 5))) (save_under_groups (ok []))
-passed = lawful_from_made (save_under (verb.AtNode 0 (node_verb.Fail 5))) (save_under_groups (ok [])) refl (taken, ((tt, tt, refl), ((tt, ((refl, omega arith), (_, refl)), refl), tt)))
+passed = lawful_from_made (save_under (verb.AtNode 0 (node_verb.Fail 5))) (save_under_groups (ok [])) refl (taken _, ((tt, tt, refl), ((tt, ((refl, omega arith), (_, refl)), refl), tt)))
 
 pub passed_failed : LawfulAfter (save_under (verb.AtNode 0 (node_verb.Fail 5))) (save_under_groups (failed_behind [])) → ⊥
 passed_failed l = let e : 5 ≤ 4 = l.1.1.1.1.1.1.0.1.0.1.1 in omega (arith, e)
@@ -94,14 +96,14 @@ passed_stopped l = let e : 5 ≤ 4 = l.1.1.1.1.1.1.0.1.0.1.1 in omega (arith, e)
 
 pub fails : (k : ℕ) → 0 < k → k ≤ 4 → LawfulAfter (save_under (verb.AtNode 0 (node_verb.Fail k))) (save_under_groups (failed_behind []))
 fails k low high = let z = above_zero k low in
-    lawful_from_made (save_under (verb.AtNode 0 (node_verb.Fail k))) (save_under_groups (failed_behind [])) refl (taken, ((tt, tt, refl), (((rw z low, tt), ((refl, rw z (low, high)), (_, refl)), refl), tt)))
+    lawful_from_made (save_under (verb.AtNode 0 (node_verb.Fail k))) (save_under_groups (failed_behind [])) refl (taken _, ((tt, tt, refl), (((rw z low, tt), ((refl, rw z (low, high)), (_, refl)), refl), tt)))
 
 pub fails_ok : (k : ℕ) (lines : List Event) → 0 < k → k ≤ 4 → LawfulAfter (save_under (verb.AtNode 0 (node_verb.Fail k))) (save_under_groups (ok lines)) → ⊥
 fails_ok k lines low high l = let z = above_zero k low in let e : 4 < k = rw z at l.1.1.1.1.1.1.0.1.0.1 in omega (arith, high, e)
 
 pub stops : (k : ℕ) → 0 < k → k ≤ 4 → LawfulAfter (save_under (verb.AtNode 0 (node_verb.Stop k Old))) (save_under_groups (stopped_behind []))
 stops k low high = let z = above_zero k low in
-    lawful_from_made (save_under (verb.AtNode 0 (node_verb.Stop k Old))) (save_under_groups (stopped_behind [])) refl (taken, ((tt, tt, refl), ((((rw z low, one_closed), (refl, tt)), ((refl, rw z (low, high)), (_, refl)), refl), tt)))
+    lawful_from_made (save_under (verb.AtNode 0 (node_verb.Stop k Old))) (save_under_groups (stopped_behind [])) refl (taken _, ((tt, tt, refl), ((((rw z low, one_closed), (refl, tt)), ((refl, rw z (low, high)), (_, refl)), refl), tt)))
 
 pub stops_ok : (k : ℕ) (lines : List Event) → 0 < k → k ≤ 4 → LawfulAfter (save_under (verb.AtNode 0 (node_verb.Stop k Old))) (save_under_groups (ok lines)) → ⊥
 stops_ok k lines low high l = let z = above_zero k low in let e : 4 < k = rw z at l.1.1.1.1.1.1.0.1.0.1 in omega (arith, high, e)
@@ -130,7 +132,7 @@ elsewhere said l = l.1.1.1.1.1.1.0.0.0
 -- calls are counted from the arm on, and it fires once
 pub counted : LawfulAfter save_and_dead (save_and_dead_groups (failed_behind (dead_line ∷ [])))
 counted = lawful_from_made save_and_dead (save_and_dead_groups (failed_behind (dead_line ∷ []))) refl
-    (taken, ((tt, tt, refl), ((tt, ((refl, omega arith), (_, refl)), refl), (((record { another = λ e. cc; anew = λ e. cc }, (omega arith, tt)), (refl, (omega arith, omega arith)), refl), tt))))
+    (taken _, ((tt, tt, refl), ((tt, ((refl, omega arith), (_, refl)), refl), (((record { another = λ e. cc; anew = λ e. cc }, (omega arith, tt)), (refl, (omega arith, omega arith)), refl), tt))))
 
 pub counted_ok : LawfulAfter save_and_dead (save_and_dead_groups (ok (dead_line ∷ []))) → ⊥
 counted_ok l = let e : 4 < 1 = l.1.1.1.1.1.1.1.0.1.1 in omega (arith, e)
@@ -166,42 +168,42 @@ stop_survives l = l.1.1.1.1.1.1.0.0.0.0
 
 pub old : LawfulAfter (stopped_in 3 Old (verb.AtVb 0 0 vb_verb.Show)) (stopped_in_groups 0 (none_shown Role.Active 7))
 old = lawful_from_made (stopped_in 3 Old (verb.AtVb 0 0 vb_verb.Show)) (stopped_in_groups 0 (none_shown Role.Active 7)) refl
-    (taken, ((tt, tt, refl), ((((omega arith, one_closed), (refl, tt)), ((refl, (omega arith, omega arith)), (_, refl)), refl), (((record { new = (λ e. omega arith, tt); newest = refl; last = refl; leaves = refl }, tt), ((λ v e. first v (branch_line 0 0 ∷ []) (λ f. no_role Role.Active (rw f at e)) (inl (refl, refl))), tt), refl), (((shown _ _ _ refl refl refl refl nothing refl refl as_made (λ _. refl) (λ _. refl), tt), tt, refl), tt)))))
+    (taken _, ((tt, tt, refl), ((((omega arith, one_closed), (refl, tt)), ((refl, (omega arith, omega arith)), (_, refl)), refl), (((record { new = (λ e. omega arith, tt); newest = refl; last = refl; leaves = refl }, tt), ((λ v e. first v (branch_line 0 0 ∷ []) (λ f. no_role Role.Active (rw f at e)) (inl (refl, refl))), tt), refl), (((shown _ _ _ refl refl refl refl nothing refl refl as_made (λ _. refl) (λ _. refl), tt), tt, refl), tt)))))
 
 pub old_shown : (at : ℕ) → LawfulAfter (stopped_in 3 Old (verb.AtVb 0 0 vb_verb.Show)) (stopped_in_groups at (one_shown Role.Active 7)) → ⊥
 old_shown at l = two_numbers 0 1 (omega arith) (sym l.1.1.1.1.1.1.1.1.0.0.0.at)
 
 pub new : LawfulAfter (stopped_in 3 New (verb.AtVb 0 0 vb_verb.Show)) (stopped_in_groups 1 (one_shown Role.Active 7))
 new = lawful_from_made (stopped_in 3 New (verb.AtVb 0 0 vb_verb.Show)) (stopped_in_groups 1 (one_shown Role.Active 7)) refl
-    (taken, ((tt, tt, refl), ((((omega arith, one_closed), (refl, tt)), ((refl, (omega arith, omega arith)), (_, refl)), refl), (((record { new = (λ e. omega arith, tt); newest = refl; last = refl; leaves = refl }, tt), ((λ v e. first v (branch_line 0 1 ∷ []) (λ f. no_role Role.Active (rw f at e)) (inl (refl, refl))), tt), refl), (((shown _ _ _ refl refl refl refl (image_of (one_change ∷ [])) refl refl as_set (λ _. refl) (λ _. refl), (tt, tt)), tt, refl), tt)))))
+    (taken _, ((tt, tt, refl), ((((omega arith, one_closed), (refl, tt)), ((refl, (omega arith, omega arith)), (_, refl)), refl), (((record { new = (λ e. omega arith, tt); newest = refl; last = refl; leaves = refl }, tt), ((λ v e. first v (branch_line 0 1 ∷ []) (λ f. no_role Role.Active (rw f at e)) (inl (refl, refl))), tt), refl), (((shown _ _ _ refl refl refl refl (image_of (one_change ∷ [])) refl refl as_set (λ _. refl) (λ _. refl), (tt, tt)), tt, refl), tt)))))
 
 pub new_lost : (at : ℕ) → LawfulAfter (stopped_in 3 New (verb.AtVb 0 0 vb_verb.Show)) (stopped_in_groups at (none_shown Role.Active 7)) → ⊥
 new_lost at l = two_numbers 0 1 (omega arith) l.1.1.1.1.1.1.1.1.0.0.0.at
 
 pub old_stat : LawfulAfter (stopped_in 3 Old (verb.AtVb 0 0 vb_verb.Stat)) (stopped_in_groups 0 (stat_of 0 0))
 old_stat = lawful_from_made (stopped_in 3 Old (verb.AtVb 0 0 vb_verb.Stat)) (stopped_in_groups 0 (stat_of 0 0)) refl
-    (taken, ((tt, tt, refl), ((((omega arith, one_closed), (refl, tt)), ((refl, (omega arith, omega arith)), (_, refl)), refl), (((record { new = (λ e. omega arith, tt); newest = refl; last = refl; leaves = refl }, tt), ((λ v e. first v (branch_line 0 0 ∷ []) (λ f. no_role Role.Active (rw f at e)) (inl (refl, refl))), tt), refl), (((record { saved_as_known = refl; high_held = refl; flusher = omega arith; filled = omega arith }, tt), tt, refl), tt)))))
+    (taken _, ((tt, tt, refl), ((((omega arith, one_closed), (refl, tt)), ((refl, (omega arith, omega arith)), (_, refl)), refl), (((record { new = (λ e. omega arith, tt); newest = refl; last = refl; leaves = refl }, tt), ((λ v e. first v (branch_line 0 0 ∷ []) (λ f. no_role Role.Active (rw f at e)) (inl (refl, refl))), tt), refl), (((record { saved_as_known = refl; high_held = refl; flusher = omega arith; filled = omega arith }, tt), tt, refl), tt)))))
 
 pub old_counted : (at high : ℕ) → LawfulAfter (stopped_in 3 Old (verb.AtVb 0 0 vb_verb.Stat)) (stopped_in_groups at (stat_of 1 high)) → ⊥
 old_counted at high l = two_numbers 0 1 (omega arith) (sym l.1.1.1.1.1.1.1.1.0.0.0.saved_as_known)
 
 pub new_stat : LawfulAfter (stopped_in 3 New (verb.AtVb 0 0 vb_verb.Stat)) (stopped_in_groups 1 (stat_of 1 1))
 new_stat = lawful_from_made (stopped_in 3 New (verb.AtVb 0 0 vb_verb.Stat)) (stopped_in_groups 1 (stat_of 1 1)) refl
-    (taken, ((tt, tt, refl), ((((omega arith, one_closed), (refl, tt)), ((refl, (omega arith, omega arith)), (_, refl)), refl), (((record { new = (λ e. omega arith, tt); newest = refl; last = refl; leaves = refl }, tt), ((λ v e. first v (branch_line 0 1 ∷ []) (λ f. no_role Role.Active (rw f at e)) (inl (refl, refl))), tt), refl), (((record { saved_as_known = refl; high_held = refl; flusher = omega arith; filled = omega arith }, tt), tt, refl), tt)))))
+    (taken _, ((tt, tt, refl), ((((omega arith, one_closed), (refl, tt)), ((refl, (omega arith, omega arith)), (_, refl)), refl), (((record { new = (λ e. omega arith, tt); newest = refl; last = refl; leaves = refl }, tt), ((λ v e. first v (branch_line 0 1 ∷ []) (λ f. no_role Role.Active (rw f at e)) (inl (refl, refl))), tt), refl), (((record { saved_as_known = refl; high_held = refl; flusher = omega arith; filled = omega arith }, tt), tt, refl), tt)))))
 
 pub new_uncounted : (at high : ℕ) → LawfulAfter (stopped_in 3 New (verb.AtVb 0 0 vb_verb.Stat)) (stopped_in_groups at (stat_of 0 high)) → ⊥
 new_uncounted at high l = two_numbers 0 1 (omega arith) l.1.1.1.1.1.1.1.1.0.0.0.saved_as_known
 
 pub early : LawfulAfter (stopped_in 2 New (verb.AtVb 0 0 vb_verb.Show)) (stopped_in_groups 0 (none_shown Role.Active 7))
 early = lawful_from_made (stopped_in 2 New (verb.AtVb 0 0 vb_verb.Show)) (stopped_in_groups 0 (none_shown Role.Active 7)) refl
-    (taken, ((tt, tt, refl), ((((omega arith, one_closed), (refl, tt)), ((refl, (omega arith, omega arith)), (_, refl)), refl), (((record { new = (λ e. omega arith, tt); newest = refl; last = refl; leaves = refl }, tt), ((λ v e. first v (branch_line 0 0 ∷ []) (λ f. no_role Role.Active (rw f at e)) (inl (refl, refl))), tt), refl), (((shown _ _ _ refl refl refl refl nothing refl refl as_made (λ _. refl) (λ _. refl), tt), tt, refl), tt)))))
+    (taken _, ((tt, tt, refl), ((((omega arith, one_closed), (refl, tt)), ((refl, (omega arith, omega arith)), (_, refl)), refl), (((record { new = (λ e. omega arith, tt); newest = refl; last = refl; leaves = refl }, tt), ((λ v e. first v (branch_line 0 0 ∷ []) (λ f. no_role Role.Active (rw f at e)) (inl (refl, refl))), tt), refl), (((shown _ _ _ refl refl refl refl nothing refl refl as_made (λ _. refl) (λ _. refl), tt), tt, refl), tt)))))
 
 pub early_shown : (at : ℕ) → LawfulAfter (stopped_in 2 New (verb.AtVb 0 0 vb_verb.Show)) (stopped_in_groups at (one_shown Role.Active 7)) → ⊥
 early_shown at l = two_numbers 0 1 (omega arith) (sym l.1.1.1.1.1.1.1.1.0.0.0.at)
 
 pub filled : LawfulAfter (stopped_in 4 (Fill 1) (verb.AtVb 0 0 vb_verb.Show)) (stopped_in_groups 1 (one_shown Role.Active 7))
 filled = lawful_from_made (stopped_in 4 (Fill 1) (verb.AtVb 0 0 vb_verb.Show)) (stopped_in_groups 1 (one_shown Role.Active 7)) refl
-    (taken, ((tt, tt, refl), ((((omega arith, one_closed), (refl, tt)), ((refl, (omega arith, omega arith)), (_, refl)), refl), (((record { new = (λ e. omega arith, tt); newest = refl; last = refl; leaves = refl }, tt), ((λ v e. first v (branch_line 0 1 ∷ []) (λ f. no_role Role.Active (rw f at e)) (inl (refl, refl))), tt), refl), (((shown _ _ _ refl refl refl refl (image_of (one_change ∷ [])) refl refl as_set (λ _. refl) (λ _. refl), (tt, tt)), tt, refl), tt)))))
+    (taken _, ((tt, tt, refl), ((((omega arith, one_closed), (refl, tt)), ((refl, (omega arith, omega arith)), (_, refl)), refl), (((record { new = (λ e. omega arith, tt); newest = refl; last = refl; leaves = refl }, tt), ((λ v e. first v (branch_line 0 1 ∷ []) (λ f. no_role Role.Active (rw f at e)) (inl (refl, refl))), tt), refl), (((shown _ _ _ refl refl refl refl (image_of (one_change ∷ [])) refl refl as_set (λ _. refl) (λ _. refl), (tt, tt)), tt, refl), tt)))))
 
 pub filled_otherwise : (at : ℕ) → LawfulAfter (stopped_in 4 (Fill 2) (verb.AtVb 0 0 vb_verb.Show)) (stopped_in_groups at (one_shown Role.Active 7)) → ⊥
 filled_otherwise at l = two_numbers 0 1 (omega arith) (sym l.1.1.1.1.1.1.1.1.0.0.0.at)
@@ -220,21 +222,21 @@ taken_shown at l = two_numbers 0 1 (omega arith) (sym l.1.1.1.1.1.1.1.0.0.0.at)
 
 pub written : LawfulAfter (crash_behind to_save Old (7 ∷ []) (verb.AtVb 0 0 vb_verb.Show)) (crash_behind_groups saved_groups (restarted 1) (one_shown Role.Active 7))
 written = lawful_from_made (crash_behind to_save Old (7 ∷ []) (verb.AtVb 0 0 vb_verb.Show)) (crash_behind_groups saved_groups (restarted 1) (one_shown Role.Active 7)) refl
-    (taken, ((tt, ((refl, tt), (_, refl)), refl), (((refl, tt), one_closed, refl), (((record { new = (λ e. omega arith, tt); newest = refl; last = refl; leaves = refl }, tt), ((λ v e. first v (branch_line 0 1 ∷ []) (λ f. no_role Role.Active (rw f at e)) (inl (refl, refl))), tt), refl), (((shown _ _ _ refl refl refl refl (image_of (one_change ∷ [])) refl refl as_set (λ _. refl) (λ _. refl), (tt, tt)), tt, refl), tt)))))
+    (taken _, ((tt, ((refl, tt), (_, refl)), refl), (((refl, tt), one_closed, refl), (((record { new = (λ e. omega arith, tt); newest = refl; last = refl; leaves = refl }, tt), ((λ v e. first v (branch_line 0 1 ∷ []) (λ f. no_role Role.Active (rw f at e)) (inl (refl, refl))), tt), refl), (((shown _ _ _ refl refl refl refl (image_of (one_change ∷ [])) refl refl as_set (λ _. refl) (λ _. refl), (tt, tt)), tt, refl), tt)))))
 
 pub written_lost : (at : ℕ) → LawfulAfter (crash_behind to_save Old (7 ∷ []) (verb.AtVb 0 0 vb_verb.Show)) (crash_behind_groups saved_groups (restarted at) (none_shown Role.Active 7)) → ⊥
 written_lost at l = two_numbers 0 1 (omega arith) l.1.1.1.1.1.1.1.1.0.0.0.at
 
 pub saved : LawfulAfter (crash_behind to_done Old (7 ∷ []) (verb.AtVb 0 0 vb_verb.Stat)) (crash_behind_groups counted_groups (restarted 1) (stat_of 1 1))
 saved = lawful_from_made (crash_behind to_done Old (7 ∷ []) (verb.AtVb 0 0 vb_verb.Stat)) (crash_behind_groups counted_groups (restarted 1) (stat_of 1 1)) refl
-    (taken, ((tt, ((refl, tt), (_, refl)), refl), ((tt, (1, refl, refl), refl), (((refl, tt), one_closed, refl), (((record { new = (λ e. omega arith, tt); newest = refl; last = refl; leaves = refl }, tt), ((λ v e. first v (branch_line 0 1 ∷ []) (λ f. no_role Role.Active (rw f at e)) (inl (refl, refl))), tt), refl), (((record { saved_as_known = refl; high_held = refl; flusher = omega arith; filled = omega arith }, tt), tt, refl), tt))))))
+    (taken _, ((tt, ((refl, tt), (_, refl)), refl), ((tt, (1, refl, refl), refl), (((refl, tt), one_closed, refl), (((record { new = (λ e. omega arith, tt); newest = refl; last = refl; leaves = refl }, tt), ((λ v e. first v (branch_line 0 1 ∷ []) (λ f. no_role Role.Active (rw f at e)) (inl (refl, refl))), tt), refl), (((record { saved_as_known = refl; high_held = refl; flusher = omega arith; filled = omega arith }, tt), tt, refl), tt))))))
 
 pub saved_forgotten : (at : ℕ) → LawfulAfter (crash_behind to_done Old (7 ∷ []) (verb.AtVb 0 0 vb_verb.Stat)) (crash_behind_groups counted_groups (restarted at) (stat_of 0 1)) → ⊥
 saved_forgotten at l = two_numbers 0 1 (omega arith) l.1.1.1.1.1.1.1.1.1.0.0.0.saved_as_known
 
 pub undone : LawfulAfter (crash_behind to_save Old (7 ∷ []) (verb.AtVb 0 0 vb_verb.Stat)) (crash_behind_groups saved_groups (restarted 1) (stat_of 1 1))
 undone = lawful_from_made (crash_behind to_save Old (7 ∷ []) (verb.AtVb 0 0 vb_verb.Stat)) (crash_behind_groups saved_groups (restarted 1) (stat_of 1 1)) refl
-    (taken, ((tt, ((refl, tt), (_, refl)), refl), (((refl, tt), one_closed, refl), (((record { new = (λ e. omega arith, tt); newest = refl; last = refl; leaves = refl }, tt), ((λ v e. first v (branch_line 0 1 ∷ []) (λ f. no_role Role.Active (rw f at e)) (inl (refl, refl))), tt), refl), (((record { saved_as_known = refl; high_held = refl; flusher = omega arith; filled = omega arith }, tt), tt, refl), tt)))))
+    (taken _, ((tt, ((refl, tt), (_, refl)), refl), (((refl, tt), one_closed, refl), (((record { new = (λ e. omega arith, tt); newest = refl; last = refl; leaves = refl }, tt), ((λ v e. first v (branch_line 0 1 ∷ []) (λ f. no_role Role.Active (rw f at e)) (inl (refl, refl))), tt), refl), (((record { saved_as_known = refl; high_held = refl; flusher = omega arith; filled = omega arith }, tt), tt, refl), tt)))))
 
 pub undone_forgotten : (at : ℕ) → LawfulAfter (crash_behind to_save Old (7 ∷ []) (verb.AtVb 0 0 vb_verb.Stat)) (crash_behind_groups saved_groups (restarted at) (stat_of 0 1)) → ⊥
 undone_forgotten at l = two_numbers 0 1 (omega arith) l.1.1.1.1.1.1.1.1.0.0.0.saved_as_known
@@ -247,7 +249,7 @@ idle_not_written n e = cc
 
 pub taken_lost : LawfulAfter (crash_behind (verb.AtVb 0 0 vb_verb.Take ∷ []) New (7 ∷ []) (verb.AtVb 0 0 vb_verb.Save)) (crash_behind_groups (took ∷ []) (restarted 0) ([], answer.No cause.NothingTaken))
 taken_lost = lawful_from_made (crash_behind (verb.AtVb 0 0 vb_verb.Take ∷ []) New (7 ∷ []) (verb.AtVb 0 0 vb_verb.Save)) (crash_behind_groups (took ∷ []) (restarted 0) ([], answer.No cause.NothingTaken)) refl
-    (taken, (((refl, tt), one_closed, refl), (((record { new = (λ e. omega arith, tt); newest = refl; last = refl; leaves = refl }, tt), ((λ v e. first v (branch_line 0 0 ∷ []) (λ f. no_role Role.Active (rw f at e)) (inl (refl, refl))), tt), refl), ((tt, (tt, tt), refl), tt))))
+    (taken _, (((refl, tt), one_closed, refl), (((record { new = (λ e. omega arith, tt); newest = refl; last = refl; leaves = refl }, tt), ((λ v e. first v (branch_line 0 0 ∷ []) (λ f. no_role Role.Active (rw f at e)) (inl (refl, refl))), tt), refl), ((tt, (tt, tt), refl), tt))))
 
 pub taken_survives : (at : ℕ) → LawfulAfter (crash_behind (verb.AtVb 0 0 vb_verb.Take ∷ []) New (7 ∷ []) (verb.AtVb 0 0 vb_verb.Save)) (crash_behind_groups (took ∷ []) (restarted at) (ok [])) → ⊥
 taken_survives at l = let (b, e) = l.1.1.1.1.1.1.1.0.1.1 in idle_taken b e
@@ -257,7 +259,7 @@ written_survives at n l = let (end, e, said) = l.1.1.1.1.1.1.1.1.0.1 in idle_not
 
 pub own_log : LawfulAfter (crash_behind to_save Old (7 ∷ []) (verb.AtVb 0 0 vb_verb.Log)) (crash_behind_groups saved_groups (restarted 1) (ok (event.Logged 0 0 made_log ∷ [])))
 own_log = lawful_from_made (crash_behind to_save Old (7 ∷ []) (verb.AtVb 0 0 vb_verb.Log)) (crash_behind_groups saved_groups (restarted 1) (ok (event.Logged 0 0 made_log ∷ []))) refl
-    (taken, ((tt, ((refl, tt), (_, refl)), refl), (((refl, tt), one_closed, refl), (((record { new = (λ e. omega arith, tt); newest = refl; last = refl; leaves = refl }, tt), ((λ v e. first v (branch_line 0 1 ∷ []) (λ f. no_role Role.Active (rw f at e)) (inl (refl, refl))), tt), refl), (((refl, tt), tt, refl), tt)))))
+    (taken _, ((tt, ((refl, tt), (_, refl)), refl), (((refl, tt), one_closed, refl), (((record { new = (λ e. omega arith, tt); newest = refl; last = refl; leaves = refl }, tt), ((λ v e. first v (branch_line 0 1 ∷ []) (λ f. no_role Role.Active (rw f at e)) (inl (refl, refl))), tt), refl), (((refl, tt), tt, refl), tt)))))
 
 pub log_lost : (at : ℕ) → LawfulAfter (crash_behind to_save Old (7 ∷ []) (verb.AtVb 0 0 vb_verb.Log)) (crash_behind_groups saved_groups (restarted at) (ok (event.Logged 0 0 (log_of 5) ∷ []))) → ⊥
 log_lost at l = let e : ◌≡◌ {A = ℕ} 7 5 = ap (λ es. uuid_of (front es)) l.1.1.1.1.1.1.1.1.0.0.0 in omega arith
@@ -322,8 +324,8 @@ found_active l = not_active l.1.1.1.1.1.1.1.1.0.0.0.role
 
 pub on_new : LawfulAfter set_restarted (set_restarted_groups 7)
 on_new = lawful_from_heard set_restarted (set_restarted_groups 7) refl
-    (taken, ((tt, ((refl, tt), (_, refl)), refl), (((refl, tt), one_closed, refl), (((record { new = (λ e. omega arith, tt); newest = refl; last = refl; leaves = refl }, tt), ((λ v e. first v (branch_line 0 1 ∷ []) (λ f. no_role Role.Active (rw f at e)) (inl (refl, refl))), tt), refl), ((tt, refl, refl), (((search (arith, second_next), ((refl, λ z. next_told _ _ _ refl refl refl), tt)), refl, refl), tt))))))
-    (λ s e. heard_then _ _ _ _ _ refl s (λ s. heard_then _ _ _ _ _ refl s (λ s. heard_then _ _ _ _ _ refl s (λ s. heard_then _ _ _ _ _ refl s (λ s. heard_then _ _ _ _ _ refl s (λ s. nine_then _ 10 10 7 _ next_change _ _ refl refl s (λ s e. silent_heard _ _ _ s refl)))))))
+    (taken _, ((tt, ((refl, tt), (_, refl)), refl), (((refl, tt), one_closed, refl), (((record { new = (λ e. omega arith, tt); newest = refl; last = refl; leaves = refl }, tt), ((λ v e. first v (branch_line 0 1 ∷ []) (λ f. no_role Role.Active (rw f at e)) (inl (refl, refl))), tt), refl), ((tt, refl, refl), (((search (arith, second_next), ((refl, λ z. next_told _ _ _ refl refl refl), tt)), refl, refl), tt))))))
+    (λ s e. heard_then _ _ _ _ _ refl s (λ s. heard_then _ _ _ _ _ refl s (λ s. heard_then _ _ _ _ _ refl s (λ s. heard_then _ _ _ _ _ refl s (λ s. heard_then _ _ _ _ _ refl s (λ s. nine_then _ 10 10 7 _ next_change _ _ refl refl s (λ s e. silent_heard _ _ _ s refl))))))) (tt, (tt, (tt, (tt, (tt, (made_stored 7 2 next_change refl, tt))))))
 
 pub on_old : LawfulAfter set_restarted (set_restarted_groups 5) → ⊥
 on_old l = let e : ◌≡◌ {A = Option ℕ} (Some 7) (Some 5) = l.1.1.1.1.1.1.1.1.1.0.0.0.writer.on_branch in cc
@@ -340,10 +342,10 @@ waits_there : get (image_of (one_change ∷ prepared ∷ [])).pending (9 ∷ [])
 waits_there = get-insert_same (image_of (one_change ∷ [])).pending (9 ∷ []) waits
 
 -- its node is a majority, as it is the whole chain
-waits_held : (saved : ℕ) (p : Pend) → get (image_of (one_change ∷ prepared ∷ [])).pending (9 ∷ []) ≡ Some p → IsHeldByMost alone saved p.seq p.level
+waits_held : (saved : ℕ) (p : Pend) → get (image_of (one_change ∷ prepared ∷ [])).pending (9 ∷ []) ≡ Some p → IsHeldByMost (alone 2) saved p.seq p.level
 waits_held saved p there =
     let found : Some waits ≡ Some p = sym waits_there ∙ there in let same : waits ≡ p = cc in
-    subst (λ (q : Pend). IsHeldByMost alone saved q.seq q.level) same (record { members = []; differ = tt; each = tt; most = omega arith; saved_for = λ w. absurd w })
+    subst (λ (q : Pend). IsHeldByMost (alone 2) saved q.seq q.level) same (record { members = []; differ = tt; each = tt; most = omega arith; saved_for = λ w. absurd w })
 
 -- a commit of it
 of_waiting : (number : ℕ) (doc : Doc) (deleted : Bool) → (commit_of 2).act ≡ Commit number doc deleted → (waits.seq ≡ number) × (waits.doc ≡ doc) × (waits.deleted ≡ deleted)
@@ -364,6 +366,7 @@ commits = lawful_from_made seal_restarted (seal_restarted_groups commits_told) r
         made = nine_next prepared.act 2 (omega arith) (omega arith) refl refl refl refl;
         fulfils = λ number doc deleted e. absurd (no_commit number doc deleted e);
         backed = λ number doc deleted e. absurd (no_commit number doc deleted e);
+        aborts = λ prepared e. cc;
       },
       tt,
     ),
@@ -389,6 +392,7 @@ commits = lawful_from_made seal_restarted (seal_restarted_groups commits_told) r
                   made = resolving_next (one_change ∷ prepared ∷ []) (commit_of 2) waits refl waits_there refl refl refl refl;
                   fulfils = λ number doc deleted e. let t = of_waiting number doc deleted e in (waits, waits_there, t.0, t.1, t.2);
                   backed = λ number doc deleted e. waits_held _;
+                  aborts = λ prepared e. cc;
                 },
                 tt,
               ),

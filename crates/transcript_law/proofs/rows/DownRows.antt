@@ -1,6 +1,6 @@
 -- lines for a node that is down, and over a link that ended with its node, judged by hand
 use Rattle.std.specs.Prelude.{◌≡◌, ◌<◌, ◌∷◌, ◌++◌}
-use Rattle.transcript_law.proofs.Words.{ℕ, List, [], refl, inl, ⊎_elim, arith, Event, Role, LawfulFrom, LawfulGroups, granted_inside}
+use Rattle.transcript_law.proofs.Words.{ℕ, true, false, List, [], refl, inl, ⊎_elim, arith, Event, Role, LawfulFrom, LawfulGroups, granted_inside}
 use Rattle.transcript_law.proofs.{rows.CrashRows.{first, lawful_from_made, no_role, one_closed}, rows.Followers.{begun, next_covers}, rows.Groups.{whole}, rows.Silent.{shut_heard}}
 use Rattle.transcript_law.specs.Crashes.{LawfulAfter, Said, ok, branch_line, restarted}
 use Rattle.transcript_law.specs.Downs.{refused, crash_and, crash_and_groups, start_and, start_and_groups, begun_and_crashed, crash_under_link, crash_under_link_groups}
@@ -63,7 +63,7 @@ crashes_again = lawful_from_made (start_and (verb.AtNode 0 (node_verb.Crash Old)
 
 -- one that is down is not refused as one that runs, nor as one that is down; and where it stays down for want of ids it tells of nothing
 pub starts_down : LawfulAfter (crash_and (verb.AtNode 0 (node_verb.Start (7 ∷ [])))) (crash_and_groups (refused cause.NodeUp)) → ⊥
-starts_down l = let e = l.1.1.1.1.1.0.1.1 in cc
+starts_down l = let e : true ≡ false = l.1.1.1.1.1.0.1.1 in cc
 
 pub stays_down : LawfulAfter (crash_and (verb.AtNode 0 (node_verb.Start (7 ∷ [])))) (crash_and_groups (refused cause.NodeDown)) → ⊥
 stays_down l = l.1.1.1.1.1.0.1

@@ -1,14 +1,18 @@
 -- the groups of a transcript that is judged by hand: their lines, then their answers, and then what they say of arms
 use Rattle.std.specs.Prelude.{◌≡◌, ◌∷◌, ◌==◌, ◌&&◌}
-use Rattle.transcript_law.proofs.Words.{Bool, not, true, false, List, [], refl, ap, sym, ◌∙◌, subst, list_any, and_parts, eqb-true, Answer, Cause, Event, ScriptLine, Verb, Chronicle, IsAnswered, LawfulGroups, Group}
-use Rattle.transcript_law.specs.{Chronicles.{after_group, ahead}, Firings.{FiresInLine}, Lawfulness.{LinesFrom}, Standing.{IsStanding, TellsIfBegun}, Tellings.{are_all, may_tell as may_tell_of}, Undone.{LeavesNone, NoneToAcknowledge, NoneToPut, NoneToTake, is_taking}, LinesTold.{after_lines}}
+use Rattle.transcript_law.proofs.Words.{Bool, not, true, false, List, [], refl, ap, sym, ◌∙◌, subst, list_any, and_parts, eqb-true, Option, Some, None, Answer, Cause, Event, ScriptLine, Verb, Chronicle, IsAnswered, LawfulGroups, Group}
+use Rattle.transcript_law.specs.{Chronicles.{after_group, ahead, at_line}, Firings.{FiresInLine}, Lawfulness.{LinesFrom}, Standing.{IsStanding, TellsIfBegun}, Tellings.{are_all, may_tell as may_tell_of}, Undone.{LeavesNone, NoneToAcknowledge, NoneToPut, NoneToTake, is_taking}, LinesTold.{after_lines}}
 use Rattle.vb_events.specs.declared.event.Why.TheVariants as why
 use Rattle.script_text.specs.declared.verb.Verb.TheVariants as verb
 use Rattle.script_text.specs.declared.verb.VbVerb.TheVariants as vb_verb
 use Rattle.script_text.specs.declared.verb.ClientVerb.TheVariants as client_verb
 use Rattle.script_text.specs.declared.verb.LinkVerb.TheVariants as link_verb
+use Rattle.script_text.specs.declared.verb.NodeVerb.TheVariants as node_verb
 use Rattle.transcript_law.proofs.rows.AskedTests.{asked_so, is_asked_so}
 unfoldable use Rattle.transcript_law.proofs.rows.Silent.{AreHeard}
+use Rattle.transcript_law.proofs.lines.Stored.{is_settled, settled_next}
+use Rattle.transcript_law.specs.{AnsweredWrites.{AllToldNext}, Breaks.{AllBreak, ClosesAsBroken, is_closing}, StreamsTold.{ClientsKnown}}
+use Rattle.vb_events.specs.declared.event.Event.TheVariants as event
 use Rattle.vb_events.specs.declared.event.Answer.TheVariants as answer
 use Rattle.vb_events.specs.declared.event.Cause.TheVariants as cause
 
@@ -17,7 +21,7 @@ abbrev pub AreTold : Chronicle → List ScriptLine → List Group → Type 0
 AreTold chronicle [] [] = Unit {0}
 AreTold chronicle (line ∷ lines) [] = ⊥
 AreTold chronicle [] (group ∷ groups) = ⊥
-AreTold chronicle (line ∷ lines) (group ∷ groups) = LinesFrom (ahead chronicle line.verb group.answer) chronicle.conn_at group.events × AreTold (after_group chronicle line.verb group.events group.answer) lines groups
+AreTold chronicle (line ∷ lines) (group ∷ groups) = LinesFrom (ahead (at_line chronicle line.line) line.verb group.answer) chronicle.conn_at group.events × AreTold (after_group (at_line chronicle line.line) line.verb group.events group.answer) lines groups
 
 -- their answers
 abbrev pub AreAnswered : Chronicle → List ScriptLine → List Group → Type 0
@@ -25,7 +29,7 @@ AreAnswered chronicle [] [] = Unit {0}
 AreAnswered chronicle (line ∷ lines) [] = ⊥
 AreAnswered chronicle [] (group ∷ groups) = ⊥
 AreAnswered chronicle (line ∷ lines) (group ∷ groups) =
-    IsAnswered chronicle line.verb group.events group.answer × AreAnswered (after_group chronicle line.verb group.events group.answer) lines groups
+    IsAnswered (at_line chronicle line.line) line.verb group.events group.answer × AreAnswered (after_group (at_line chronicle line.line) line.verb group.events group.answer) lines groups
 
 -- what both say of arms that fired
 abbrev pub AreFired : Chronicle → List ScriptLine → List Group → Type 0
@@ -33,7 +37,7 @@ AreFired chronicle [] [] = Unit {0}
 AreFired chronicle (line ∷ lines) [] = ⊥
 AreFired chronicle [] (group ∷ groups) = ⊥
 AreFired chronicle (line ∷ lines) (group ∷ groups) =
-    FiresInLine chronicle line.verb group.events group.answer × AreFired (after_group chronicle line.verb group.events group.answer) lines groups
+    FiresInLine (at_line chronicle line.line) line.verb group.events group.answer × AreFired (after_group (at_line chronicle line.line) line.verb group.events group.answer) lines groups
 
 -- whether a take takes changes, a down takes nothing, and no pump or pull is idle
 abbrev pub takes_some : Answer → Bool
@@ -77,13 +81,42 @@ abbrev pub is_answered_so : List Event → Answer → Bool
 is_answered_so lines (answer.No why) = may_tell lines why
 is_answered_so lines other = true
 
+-- a line closes no connection, but of a node that ends
+abbrev pub is_unclosed : List Event → Bool
+is_unclosed [] = true
+is_unclosed (event.Closed n c ∷ lines) = false
+is_unclosed (event.NodeStopped n ∷ lines) = true
+is_unclosed (line ∷ lines) = is_unclosed lines
+
+abbrev pub closes_none : Verb → List Event → Bool
+closes_none (verb.AtClient n c (client_verb.Bytes bytes)) lines = not (list_any is_closing lines)
+closes_none (verb.AtNode n (node_verb.Crash out)) lines = true
+closes_none other lines = is_unclosed lines
+
+unclosed : (clients : ClientsKnown) (before : Option Event) (lines : List Event) → is_unclosed lines ≡ true → AllBreak clients before lines
+unclosed clients before [] e = tt
+unclosed clients before (event.Closed n c ∷ lines) e = cc
+unclosed clients before (event.NodeStopped n ∷ lines) e = tt
+unclosed clients before (line ∷ lines) e = unclosed clients (Some line) lines e
+
+breaks_so : (chronicle : Chronicle) (asked : Verb) (lines : List Event) → closes_none asked lines ≡ true → ClosesAsBroken chronicle asked lines
+breaks_so chronicle (verb.AtClient n c (client_verb.Bytes bytes)) lines e = λ closes. let z : false ≡ true = ap not (sym closes) ∙ e in cc
+breaks_so chronicle (verb.AtNode n (node_verb.Crash out)) lines e = tt
+breaks_so chronicle other lines e = unclosed chronicle.clients_at None lines e
+
+-- and where a line tells nothing
+pub nothing_closed : (chronicle : Chronicle) (asked : Verb) → ClosesAsBroken chronicle asked []
+nothing_closed chronicle (verb.AtClient n c (client_verb.Bytes bytes)) = λ e. cc
+nothing_closed chronicle (verb.AtNode n (node_verb.Crash out)) = tt
+nothing_closed chronicle other = tt
+
 abbrev pub in_line : Chronicle → List ScriptLine → List Group → Bool
 in_line chronicle [] [] = true
 in_line chronicle (line ∷ lines) [] = false
 in_line chronicle [] (group ∷ groups) = false
 in_line chronicle (line ∷ lines) (group ∷ groups) =
     group.line == line.line
-    && (is_answered_so group.events group.answer && (are_all (may_tell_of line.verb) group.events && (is_asked_so chronicle line.verb group.events group.answer && in_line (after_group chronicle line.verb group.events group.answer) lines groups)))
+    && (is_answered_so group.events group.answer && (are_all (may_tell_of line.verb) group.events && (is_asked_so (at_line chronicle line.line) line.verb group.events group.answer && (closes_none line.verb group.events && in_line (after_group (at_line chronicle line.line) line.verb group.events group.answer) lines groups))))
 
 -- and leaves nothing undone, by its line alone
 abbrev pub all_done : List ScriptLine → List Group → Bool
@@ -111,46 +144,71 @@ AreParts chronicle [] [] = Unit {0}
 AreParts chronicle (line ∷ lines) [] = ⊥
 AreParts chronicle [] (group ∷ groups) = ⊥
 AreParts chronicle (line ∷ lines) (group ∷ groups) =
-    (LinesFrom (ahead chronicle line.verb group.answer) chronicle.conn_at group.events × IsAnswered chronicle line.verb group.events group.answer × FiresInLine chronicle line.verb group.events group.answer)
-    × AreParts (after_group chronicle line.verb group.events group.answer) lines groups
+    (LinesFrom (ahead (at_line chronicle line.line) line.verb group.answer) chronicle.conn_at group.events × IsAnswered (at_line chronicle line.line) line.verb group.events group.answer × FiresInLine (at_line chronicle line.line) line.verb group.events group.answer)
+    × AreParts (after_group (at_line chronicle line.line) line.verb group.events group.answer) lines groups
 
 -- what they leave undone
 abbrev pub AreLeft : Chronicle → List ScriptLine → List Group → Type 0
-AreLeft chronicle (line ∷ lines) (group ∷ groups) = LeavesNone chronicle line.verb group.events group.answer × AreLeft (after_group chronicle line.verb group.events group.answer) lines groups
+AreLeft chronicle (line ∷ lines) (group ∷ groups) = LeavesNone (at_line chronicle line.line) line.verb group.events group.answer × AreLeft (after_group (at_line chronicle line.line) line.verb group.events group.answer) lines groups
 AreLeft chronicle lines groups = Unit {0}
 
 all_left : (chronicle : Chronicle) (script : List ScriptLine) (told : List Group) → all_done script told ≡ true → AreLeft chronicle script told
 all_left chronicle (line ∷ lines) (group ∷ groups) o =
-    let one = and_parts (is_done line.verb group.events group.answer) (all_done lines groups) o in (done_so chronicle line.verb group.events group.answer one.0, all_left (after_group chronicle line.verb group.events group.answer) lines groups one.1)
+    let one = and_parts (is_done line.verb group.events group.answer) (all_done lines groups) o in (done_so (at_line chronicle line.line) line.verb group.events group.answer one.0, all_left (after_group (at_line chronicle line.line) line.verb group.events group.answer) lines groups one.1)
 all_left chronicle [] groups o = tt
 all_left chronicle (line ∷ lines) [] o = tt
 
+-- which answers stand behind their sets and removals
+abbrev pub AreStored : List Group → Type 0
+AreStored [] = Unit {0}
+AreStored (group ∷ groups) = AllToldNext group.events × AreStored groups
+
+-- none has to, where none is told
+abbrev pub none_stored : List Group → Bool
+none_stored [] = true
+none_stored (group ∷ groups) = are_all is_settled group.events && none_stored groups
+
+pub all_stored : (told : List Group) → none_stored told ≡ true → AreStored told
+all_stored [] o = tt
+all_stored (group ∷ groups) o = let both = and_parts (are_all is_settled group.events) (none_stored groups) o in (settled_next group.events both.0, all_stored groups both.1)
+
+-- with all of these in order, too
+abbrev pub in_place : Chronicle → List ScriptLine → List Group → Bool
+in_place chronicle script told = in_order chronicle script told && none_stored told
+
 -- and all of it
-pub whole_left : (chronicle : Chronicle) (script : List ScriptLine) (told : List Group) → in_line chronicle script told ≡ true → AreParts chronicle script told → AreLeft chronicle script told → AreHeard chronicle script told → LawfulGroups chronicle script told
+pub whole_left : (chronicle : Chronicle) (script : List ScriptLine) (told : List Group) → in_line chronicle script told ≡ true → AreParts chronicle script told → AreLeft chronicle script told → AreHeard chronicle script told → AreStored told → LawfulGroups chronicle script told
 unfolding AreHeard
-whole_left chronicle [] [] o p d h = tt
-whole_left chronicle (line ∷ lines) [] o p d h = absurd p
-whole_left chronicle [] (group ∷ groups) o p d h = absurd p
-whole_left chronicle (line ∷ lines) (group ∷ groups) o p d h =
-    let next : Chronicle = after_group chronicle line.verb group.events group.answer in
+whole_left chronicle [] [] o p d h s = tt
+whole_left chronicle (line ∷ lines) [] o p d h s = absurd p
+whole_left chronicle [] (group ∷ groups) o p d h s = absurd p
+whole_left chronicle (line ∷ lines) (group ∷ groups) o p d h s =
+    let next : Chronicle = after_group (at_line chronicle line.line) line.verb group.events group.answer in
     let one = and_parts (group.line == line.line) _ o in
     let two = and_parts (is_answered_so group.events group.answer) _ one.1 in
     let three = and_parts (are_all (may_tell_of line.verb) group.events) _ two.1 in
-    let four = and_parts (is_asked_so chronicle line.verb group.events group.answer) (in_line next lines groups) three.1 in
-    ((p.0.0, p.0.1, p.0.2, eqb-true group.line line.line one.0, tells_so group.events group.answer two.0, three.0, asked_so chronicle line.verb group.events group.answer four.0, d.0, h.0), whole_left next lines groups four.1 p.1 d.1 h.1)
+    let four = and_parts (is_asked_so (at_line chronicle line.line) line.verb group.events group.answer) _ three.1 in
+    let five = and_parts (closes_none line.verb group.events) (in_line next lines groups) four.1 in
+    ((p.0.0, p.0.1, p.0.2, eqb-true group.line line.line one.0, tells_so group.events group.answer two.0, three.0, asked_so (at_line chronicle line.line) line.verb group.events group.answer four.0, d.0, h.0, s.0, breaks_so (at_line chronicle line.line) line.verb group.events five.0), whole_left next lines groups five.1 p.1 d.1 h.1 s.1)
 
-pub whole : (chronicle : Chronicle) (script : List ScriptLine) (told : List Group) → in_order chronicle script told ≡ true → AreParts chronicle script told → AreHeard chronicle script told → LawfulGroups chronicle script told
-whole chronicle script told o p h = let two = and_parts (in_line chronicle script told) (all_done script told) o in whole_left chronicle script told two.0 p (all_left chronicle script told two.1) h
+pub whole_stored : (chronicle : Chronicle) (script : List ScriptLine) (told : List Group) → in_order chronicle script told ≡ true → AreParts chronicle script told → AreHeard chronicle script told → AreStored told → LawfulGroups chronicle script told
+whole_stored chronicle script told o p h s = let two = and_parts (in_line chronicle script told) (all_done script told) o in whole_left chronicle script told two.0 p (all_left chronicle script told two.1) h s
+
+pub whole : (chronicle : Chronicle) (script : List ScriptLine) (told : List Group) → in_place chronicle script told ≡ true → AreParts chronicle script told → AreHeard chronicle script told → LawfulGroups chronicle script told
+whole chronicle script told o p h = let two = and_parts (in_order chronicle script told) (none_stored told) o in whole_stored chronicle script told two.0 p h (all_stored told two.1)
 
 -- the parts, each by itself
 pub parts : (chronicle : Chronicle) (script : List ScriptLine) (told : List Group) → AreTold chronicle script told → AreAnswered chronicle script told → AreFired chronicle script told → AreParts chronicle script told
 parts chronicle [] [] t a f = tt
 parts chronicle (line ∷ lines) [] t a f = absurd t
 parts chronicle [] (group ∷ groups) t a f = absurd t
-parts chronicle (line ∷ lines) (group ∷ groups) t a f = ((t.0, a.0, f.0), parts (after_group chronicle line.verb group.events group.answer) lines groups t.1 a.1 f.1)
+parts chronicle (line ∷ lines) (group ∷ groups) t a f = ((t.0, a.0, f.0), parts (after_group (at_line chronicle line.line) line.verb group.events group.answer) lines groups t.1 a.1 f.1)
 
-pub both_left : (chronicle : Chronicle) (script : List ScriptLine) (told : List Group) → in_line chronicle script told ≡ true → AreTold chronicle script told → AreAnswered chronicle script told → AreFired chronicle script told → AreLeft chronicle script told → AreHeard chronicle script told → LawfulGroups chronicle script told
-both_left chronicle script told o t a f d h = whole_left chronicle script told o (parts chronicle script told t a f) d h
+pub both_left : (chronicle : Chronicle) (script : List ScriptLine) (told : List Group) → in_line chronicle script told ≡ true → AreTold chronicle script told → AreAnswered chronicle script told → AreFired chronicle script told → AreLeft chronicle script told → AreHeard chronicle script told → AreStored told → LawfulGroups chronicle script told
+both_left chronicle script told o t a f d h s = whole_left chronicle script told o (parts chronicle script told t a f) d h s
 
-pub both : (chronicle : Chronicle) (script : List ScriptLine) (told : List Group) → in_order chronicle script told ≡ true → AreTold chronicle script told → AreAnswered chronicle script told → AreFired chronicle script told → AreHeard chronicle script told → LawfulGroups chronicle script told
+pub both_stored : (chronicle : Chronicle) (script : List ScriptLine) (told : List Group) → in_order chronicle script told ≡ true → AreTold chronicle script told → AreAnswered chronicle script told → AreFired chronicle script told → AreHeard chronicle script told → AreStored told → LawfulGroups chronicle script told
+both_stored chronicle script told o t a f h s = whole_stored chronicle script told o (parts chronicle script told t a f) h s
+
+pub both : (chronicle : Chronicle) (script : List ScriptLine) (told : List Group) → in_place chronicle script told ≡ true → AreTold chronicle script told → AreAnswered chronicle script told → AreFired chronicle script told → AreHeard chronicle script told → LawfulGroups chronicle script told
 both chronicle script told o t a f h = whole chronicle script told o (parts chronicle script told t a f) h

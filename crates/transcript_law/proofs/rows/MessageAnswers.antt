@@ -27,6 +27,7 @@ use Rattle.transcript_law.specs.LawfulMessages.{FitsLog, IsStatus, moment_of}
 use Rattle.transcript_law.specs.MessageRows.{Finds, Fits, FitsAway, FitsUnknown, IsTold, IsToldOf, LawfulClosed, asks, fresh, knowing, log_refused, log_to, named, over, over_with, sent_behind, status_to, told_of}
 use Rattle.transcript_law.specs.Questions.{Question, question_of}
 use Rattle.transcript_law.specs.StreamLaws.{IsIfKnown}
+use Rattle.transcript_law.specs.LawfulAnswers.{serving}
 
 -- ---- logs
 
@@ -147,7 +148,7 @@ abbrev known_there : ClientKnown → Chronicle
 known_there known = record (knowing (Some (Some Dead)) None) { clients_at = knows known }
 
 abbrev FitsClosed : ClientKnown → Question → Frame → Type 0
-FitsClosed known q g = FitsFrame (known_there known) 0 (moment_of known known.asking q) known.asking.settings q.frame g
+FitsClosed known q g = FitsFrame (serving (known_there known) 0 1 known.asking) (known_there known) 0 (moment_of known known.asking q) known.asking.settings q.frame g
 
 -- where this status fits alone, it is answered in its bytes
 closed_bytes : (known : ClientKnown) (st said : Status) → question_of known.asking ≡ Some close_question → ((g : Frame) → FitsClosed known close_question g → IsStatus close_frame g said) → LawfulClosed known st

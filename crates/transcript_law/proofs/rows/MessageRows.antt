@@ -13,7 +13,7 @@ use Rattle.vb_types.specs.declared.status.Status.{Status}
 use Rattle.vb_types.specs.declared.status.Status.TheVariants as status
 use Rattle.transcript_law.proofs.answers.Statuses.{alone}
 use Rattle.transcript_law.specs.LawfulMessages.{IsStatus}
-use Rattle.transcript_law.specs.MessageRows.{Fits, IsTold, asks, formless, fresh, opens, over, sets, status_to, typed, unused, value_to}
+use Rattle.transcript_law.specs.MessageRows.{Fits, IsTold, asks, formless, fresh, opens, over, sets, stated, status_to, typed, value_to}
 
 -- a status is no other
 pub never : (f : Frame) (st said : Status) → (status_code st == status_code said) ≡ false → IsStatus f (status_to f f.opaque st) said → ⊥
@@ -305,17 +305,17 @@ pub messages_formless_succeeds : IsTold over formless status.Success → ⊥
 unfolding dcp_frame read_of frame_row shape_fault
 messages_formless_succeeds l = never formless status.Success status.Einval refl l
 
-pub messages_unused : IsTold over unused status.Einval
+pub messages_stated : IsTold over stated status.Einval
 unfolding dcp_frame read_of frame_row shape_fault
-messages_unused = alone unused status.Einval
+messages_stated = alone stated status.Einval
 
-pub messages_unused_succeeds : IsTold over unused status.Success → ⊥
+pub messages_stated_succeeds : IsTold over stated status.Success → ⊥
 unfolding dcp_frame read_of frame_row shape_fault
-messages_unused_succeeds l = never unused status.Success status.Einval refl l
+messages_stated_succeeds l = never stated status.Success status.Einval refl l
 
-pub messages_unused_unknown : IsTold over unused status.UnknownCommand → ⊥
+pub messages_stated_unknown : IsTold over stated status.UnknownCommand → ⊥
 unfolding dcp_frame read_of frame_row shape_fault
-messages_unused_unknown l = never unused status.UnknownCommand status.Einval refl l
+messages_stated_unknown l = never stated status.UnknownCommand status.Einval refl l
 
 pub messages_other_opaque : Fits over (asks msg.Noop) (status_to (asks msg.Noop) 8 status.Success) → ⊥
 unfolding dcp_frame read_of frame_row shape_fault

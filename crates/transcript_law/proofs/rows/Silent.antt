@@ -18,7 +18,7 @@ use Rattle.vb_events.specs.declared.event.Event.TheVariants as event
 use Rattle.vb_events.specs.declared.event.StreamName.TheVariants as name
 use Rattle.vb_types.specs.declared.journal.Record.{Record}
 use Rattle.vb_types.specs.declared.stream.AskAnswer.TheVariants as ask_answer
-use Rattle.transcript_law.specs.Chronicles.{Appending, Conns, after_append, after_calls, after_group, after_line, after_lines, after_made, after_openings, after_restart, after_restarts, after_rollback, after_start, after_starts, after_up, after_verb, ahead, appending, calls_of_append, conns_lines, conns_verb, disks_of, is_made, is_off, is_rollback, known_down, rollback_of, saving, state_of, with_disk, with_at, with_disk_there, with_id}
+use Rattle.transcript_law.specs.Chronicles.{Appending, Conns, after_append, after_calls, after_group, after_line, after_lines, after_made, after_openings, after_restart, after_restarts, after_rollback, after_start, after_starts, after_up, after_verb, ahead, at_line, appending, calls_of_append, conns_lines, conns_verb, disks_of, is_made, is_off, is_rollback, known_down, rollback_of, saving, state_of, with_disk, with_at, with_disk_there, with_id}
 use Rattle.transcript_law.specs.ClientFrames.{Request, request_in}
 use Rattle.transcript_law.specs.ClientStreams.{ClientKnown, ClientsKnown, StreamLine, blank_client, clients_frame, past_asked, past_turn, with_client}
 use Rattle.transcript_law.specs.Questions.{behind_frames, first_question, past_answer, past_question_if, question_of}
@@ -174,6 +174,8 @@ verb_silent before r (verb.AtNode n (node_verb.Stop call out)) lines answer.Ok s
 verb_silent before r (verb.AtNode n (node_verb.Stop call out)) lines other silent = silent
 verb_silent before r (verb.AtNode n (node_verb.Fail call)) lines answer.Ok silent = silent
 verb_silent before r (verb.AtNode n (node_verb.Fail call)) lines other silent = silent
+verb_silent before r (verb.AtNode n (node_verb.Clock nanos)) lines answer.Ok silent = silent
+verb_silent before r (verb.AtNode n (node_verb.Clock nanos)) lines other silent = silent
 verb_silent before r (verb.AtNode n (node_verb.Crash out)) lines answer.Ok silent = silent
 verb_silent before r (verb.AtNode n (node_verb.Crash out)) lines other silent = silent
 verb_silent before r (verb.AtNode n (node_verb.Start uuids)) lines said silent = same_silent _ _ (start_same r n lines said) silent
@@ -200,7 +202,7 @@ refused_shut r line why shut = shut_answered (after_group r line [] (answer.No w
 
 -- behind each group no client is left without an answer
 unfoldable pub AreHeard : Chronicle → List ScriptLine → List Group → Type 0
-AreHeard r (line ∷ lines) (group ∷ groups) = let next : Chronicle = after_group r line.verb group.events group.answer in AllAnswered next × AreHeard next lines groups
+AreHeard r (line ∷ lines) (group ∷ groups) = let next : Chronicle = after_group (at_line r line.line) line.verb group.events group.answer in AllAnswered next × AreHeard next lines groups
 AreHeard r lines groups = Unit {0}
 
 -- so it is where none sends anything
@@ -214,11 +216,11 @@ silent_heard r [] told silent o = tt
 silent_heard r (line ∷ lines) [] silent o = tt
 silent_heard r (line ∷ lines) (group ∷ groups) silent o =
     let one = and_parts (sends_none line.verb) (all_silent lines) o in
-    let next : Silent (after_group r line.verb group.events group.answer).clients_at = group_silent r line.verb group.events group.answer one.0 silent in
-    (silent_answered (after_group r line.verb group.events group.answer) next, silent_heard (after_group r line.verb group.events group.answer) lines groups next one.1)
+    let next : Silent (after_group (at_line r line.line) line.verb group.events group.answer).clients_at = group_silent (at_line r line.line) line.verb group.events group.answer one.0 silent in
+    (silent_answered (after_group (at_line r line.line) line.verb group.events group.answer) next, silent_heard (after_group (at_line r line.line) line.verb group.events group.answer) lines groups next one.1)
 
 -- and where it is so behind a line and behind those that come then
-pub heard_by : (r : Chronicle) (line : ScriptLine) (lines : List ScriptLine) (group : Group) (groups : List Group) → (let next : Chronicle = after_group r line.verb group.events group.answer in AllAnswered next → AreHeard next lines groups → AreHeard r (line ∷ lines) (group ∷ groups))
+pub heard_by : (r : Chronicle) (line : ScriptLine) (lines : List ScriptLine) (group : Group) (groups : List Group) → (let next : Chronicle = after_group (at_line r line.line) line.verb group.events group.answer in AllAnswered next → AreHeard next lines groups → AreHeard r (line ∷ lines) (group ∷ groups))
 unfolding AreHeard
 heard_by r line lines group groups here more = (here, more)
 
@@ -271,4 +273,4 @@ shut_heard r (line ∷ lines) [] shut o = tt
 shut_heard r (line ∷ lines) (group ∷ groups) shut o =
     let one = and_parts (opens_none line.verb) (all_shut lines) o in
     let next = verb_shut (conns_lines r.conn_at group.events) line.verb group.answer one.0 (conns_shut r.conn_at group.events shut) in
-    (shut_answered (after_group r line.verb group.events group.answer) next, shut_heard (after_group r line.verb group.events group.answer) lines groups next one.1)
+    (shut_answered (after_group (at_line r line.line) line.verb group.events group.answer) next, shut_heard (after_group (at_line r line.line) line.verb group.events group.answer) lines groups next one.1)

@@ -3,7 +3,7 @@ use Rattle.std.specs.Prelude.{◌≡◌, ◌≤◌, ◌<◌, ◌∷◌}
 use Rattle.transcript_law.proofs.Words.{ℕ, Bool, true, false, List, [], refl, ap, sym, ◌∙◌, subst, arith, inl, inr, ⊎_elim, Option, Some, None, Begun, Chronicle, Dial, Event, frames_in_lines, Granted, ItemLine, Role, after_lines, both_sent_lines, granted_inside, item_of_change}
 use Rattle.transcript_law.proofs.links.{Idling.{all_put_by}, PumpAnswers.{pumped_right}}
 use Rattle.transcript_law.proofs.rows.Followers.{◌▹◌, begun, both_cover, changes, first_item, next_item, own_dial, own_stream, streamed}
-use Rattle.transcript_law.specs.{Contrary.{after_both_dead}, LineAnswers.{PutsAsTold}, Undone.{AllPut, EndsThere, HasNoMore, IsDue}}
+use Rattle.transcript_law.specs.{Contrary.{after_both_dead}, LineAnswers.{PutsAsTold}, LinesTold.{at_line}, Undone.{AllPut, EndsThere, HasNoMore, IsDue}}
 use Rattle.std.specs.FinMap.{get, get-empty, get-insert}
 use Rattle.transcript_law.proofs.{Words.{cond, image_of, last_seq, nat_list_cmp_total, key_cmp, nothing, log_of, Pend}, invariant.Waiting.{pends_low}, rows.CommitRows.{waits, waits_there}}
 use Rattle.transcript_law.specs.{Commits.{prepare_of}, Followers.{ask_above}, Undone.{newest}}
@@ -59,8 +59,10 @@ all_put = (
     λ w no standing. cc,
     refl,
     refl,
-    put_whole (after_lines granted_both both_sent_lines) (streamed (begun 0 2 (first_item ∷ next_item ∷ []))) refl refl (record { whole = (first_item ∷ [], next_item, refl, refl); active = refl; none = inl (omega arith) }),
+    put_whole (after_lines (at_line granted_both 1) both_sent_lines) (streamed (begun 0 2 (first_item ∷ next_item ∷ []))) refl refl (record { whole = (first_item ∷ [], next_item, refl, refl); active = refl; none = inl (omega arith) }),
     λ n c opens. cc,
+    tt,
+    tt,
   ),
   tt,
 )
@@ -75,9 +77,11 @@ put_before = (
     λ w no standing. refl,
     refl,
     refl,
-    all_put_by after_both 1 own_dial (after_both.stream_of (name.Link 1) 0) refl refl (λ g is over.
-        let one : _ ≡ g = some_one is in subst (HasNoMore after_both 0 0) one (record { whole = (first_item ∷ [], next_item, refl, refl); active = refl; none = inl (omega arith) })),
+    all_put_by (at_line after_both 1) 1 own_dial ((at_line after_both 1).stream_of (name.Link 1) 0) refl refl (λ g is over.
+        let one : _ ≡ g = some_one is in subst (HasNoMore (at_line after_both 1) 0 0) one (record { whole = (first_item ∷ [], next_item, refl, refl); active = refl; none = inl (omega arith) })),
     λ n c opens. cc,
+    tt,
+    tt,
   ),
   tt,
 )
@@ -112,13 +116,15 @@ ended = (
     λ w no standing. cc,
     refl,
     refl,
-    all_put_by (after_lines (after_both_dead after_both) puts_end.0) 1 own_dial ((after_lines (after_both_dead after_both) puts_end.0).stream_of (name.Link 1) 0) refl refl (λ g is over. absurd (ended_over g is over)),
+    all_put_by (after_lines (at_line (after_both_dead after_both) 1) puts_end.0) 1 own_dial ((after_lines (at_line (after_both_dead after_both) 1) puts_end.0).stream_of (name.Link 1) 0) refl refl (λ g is over. absurd (ended_over g is over)),
     λ n c opens. cc,
+    tt,
+    tt,
   ),
   tt,
 )
   where
-    ended_over : (g : Granted) → (after_lines (after_both_dead after_both) puts_end.0).stream_of (name.Link 1) 0 ≡ Some g → g.over ≡ false → ⊥
+    ended_over : (g : Granted) → (after_lines (at_line (after_both_dead after_both) 1) puts_end.0).stream_of (name.Link 1) 0 ≡ Some g → g.over ≡ false → ⊥
     ended_over g is over = let z : true ≡ false = ap over_in is ∙ over in cc
       where
         over_in : Option Granted → Bool

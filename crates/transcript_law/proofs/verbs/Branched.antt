@@ -1,6 +1,6 @@
 -- other vBuckets, after a branch was made
 use Rattle.std.specs.Prelude.{◌≡◌, ◌∷◌, ◌==◌}
-use Rattle.transcript_law.proofs.Words.{ℕ, Bool, true, false, refl, ap, sym, ◌∙◌, subst, Option, Some, None, All, eqb-true, eqb-false, option_map, upto, is_one_of, Branch, branch, hist, hist_there, with_entry, Cluster, Plain, PlainWorld, Chronicle, List}
+use Rattle.transcript_law.proofs.Words.{ℕ, last_seq, Bool, true, false, refl, ap, sym, ◌∙◌, subst, Option, Some, None, All, eqb-true, eqb-false, option_map, upto, is_one_of, Branch, branch, hist, hist_there, with_entry, Cluster, Plain, PlainWorld, Chronicle, List}
 use Rattle.transcript_law.proofs.Words.{parent_branch, changes_between, after_branch, known_history}
 use Rattle.transcript_law.proofs.invariant.Agreement.{AgreesAt, AgreesIn, BranchAgrees, ChangeFits, WritesIf, idle, own_history, vb_contents, vb_row}
 use Rattle.transcript_law.proofs.{invariant.Seats.{seat}, invariant.Tables.{at_there, id_there}, invariant.Trees.{IsTold, is_told_there, new_untold}, verbs.NodeLines.{vb_told}}
@@ -50,7 +50,7 @@ module _ (w : PlainWorld) (r : Chronicle) (c : Cluster) (n v uuid : ℕ) (parent
       log = at_there r.log_at n v (option_map (with_entry uuid fork) (r.log_at n v)) m q other i;
       snap = at_there r.snap_at n v (Some (high, high)) m q other i;
     };
-    counts = at_there r.counts_at n v alone m q other i;
+    counts = at_there r.counts_at n v (alone (last_seq 0 (r.held n v))) m q other i;
   }
 
   pub branch_there : (m q : ℕ) (o : Option Plain) → (m ≡ n → q ≡ v → ⊥) → AgreesAt r m q (c.nodes (seat m q)) o → AgreesAt branching m q (c.nodes (seat m q)) o

@@ -5,12 +5,12 @@ use Rattle.transcript_law.proofs.Words.{IsIn, IsNew, with_entry, fork_of, last_s
 use Rattle.transcript_law.proofs.Words.{Outcome, PlainLink, PlainNode, PlainWorld, with_node_at, on_node, first_cause, refused_or, is_one_of, vb_causes, with_vb, vb_at, replica_causes, replica_at, vb_in, shelf_in, with_branches}
 use Rattle.transcript_law.proofs.Words.{Chronicle, changes_between, after_branch, after_lines, after_role, LawfulFrom, LawfulRole, StaysSound, StreamName, upto_none, vb_step}
 use Rattle.transcript_law.proofs.{disks.Absent.{NothingHere, nothing_here}, disks.Appending.{noted_node, state_came, told_disk}, disks.ArmedLines.{ArmedCame}, invariant.JobSteps.{put_found, shelf_found, shelf_over}, lines.Lines.{AreQuiet}, disks.Firing.{made_noting}, disks.Noting.{LineCame, came_as, came_goes, caused, kept_came, refused_came}}
-use Rattle.transcript_law.proofs.invariant.Agreement.{AgreesAt, AgreesIn, Agrees, AwayAt, BranchAgrees, LinkAgrees, ChangeFits, DiskIsIf, EntryFits, IsLink, LineGoes, PowerIsIf, RestsIn, VbAgrees, VbHolds, Writes, idle, is_down, own_history, power_of, shelf_of, top, vb_of, vb_row}
+use Rattle.transcript_law.proofs.invariant.Agreement.{node_known, AgreesAt, AgreesIn, Agrees, AwayAt, BranchAgrees, LinkAgrees, ChangeFits, DiskIsIf, EntryFits, IsLink, LineGoes, PowerIsIf, RestsIn, VbAgrees, VbHolds, Writes, idle, is_down, own_history, power_of, shelf_of, top, vb_of, vb_row}
 use Rattle.transcript_law.proofs.{invariant.Carried.{all_vbs, places}, invariant.Carrying.{Changed}, disks.Disks.{AwayAgrees, ShelfIs, bare as bare_record, disk_same, no_spots, parts_of, power_in, same_parts}, invariant.OneLink.{put_here, put_there}, invariant.Resting.{ends_again, rests_by}, invariant.Seats.{seat, seats_apart}, links.Turning.{put_itself}}
-use Rattle.transcript_law.proofs.invariant.{Agreement.{ClientsTold}, Carried.{all_there}, Carrying.{same_clients}, ClientsKept.{goes_agreed_at}, ClientsTurned.{RoleTold, clients_turned, none_opened}}
+use Rattle.transcript_law.proofs.invariant.{Agreement.{ClientsTold}, Carried.{all_there}, Carrying.{same_clients}, ClientsKept.{fewer_at, goes_agreed_at}, ClientsTurned.{RoleTold, clients_turned, none_opened}, Owed.{Fewer}}
 use Rattle.transcript_law.specs.{ClientStreams.{past_turn, with_clients_of}, Feeding.{client_in}}
 use Rattle.transcript_law.proofs.lines.Telling.{branch_line}
-use Rattle.transcript_law.proofs.{invariant.Majorities.{alone_counts}, verbs.NodeLines.{node_changed, on_node_by, more_used, new_links, role_row, role_there, role_here}}
+use Rattle.transcript_law.proofs.{invariant.Lefts.{left_none}, invariant.Majorities.{alone_counts}, verbs.NodeLines.{node_changed, on_node_by, more_used, new_links, role_row, role_there, role_here}}
 use Rattle.transcript_law.specs.{Chronicles.{alone}, Lawfulness.{LawfulBranch, fork_in, newest_of}}
 use Rattle.transcript_law.proofs.{invariant.Tables.{at_here, at_there, if_known, id_here, unused, none_there, none_hold}, invariant.Trees.{IsTold, is_told_here, new_untold}, invariant.Wholes.{WholeTo, spanned_none}}
 use Rattle.{branch_model.proofs.Holding.{holds_none}, branch_model.specs.Journals.{place_of}, cluster_model.specs.Clusters.{Disk, blank, front_or, member_fork, opened, promoted}, disk_journals.specs.Arms.{armed_at, under}, node_core.specs.Admin.{noted_answer}}
@@ -23,6 +23,8 @@ use Rattle.vb_calls.specs.Shelves.{Append, DiskFailed, Fate, Shelf, Stood, WasCl
 use Rattle.vb_types.specs.declared.journal.Record.TheVariants as noted
 use Rattle.transcript_law.proofs.invariant.Bounded.{Weighs}
 pub use Rattle.transcript_law.proofs.verbs.Branched.{branch_row, branch_there, new_fits}
+use Rattle.transcript_law.proofs.invariant.Owing.{Later}
+use Rattle.transcript_law.proofs.invariant.Owing.{later_same}
 
 -- ---- a vBucket that was just made, before its role is written down
 
@@ -83,7 +85,7 @@ module _ (w : PlainWorld) (r : Chronicle) (c : Cluster) (n v uuid : ℕ) (role :
   vb = new_vb n role uuid
 
   -- the world with that node, in which these ids were used; what the lines tell, and the cluster, may have changed at this place alone
-  module _ (uuids : List ℕ) (q : Chronicle) (c' : Cluster) (disks_told : (m p : ℕ) → q.disk_at m p ≡ r.disk_at m p) (arms : (m : ℕ) → q.arm_at m ≡ r.arm_at m) (rows : (m p : ℕ) → (m ≡ n → p ≡ v → ⊥) → vb_row q m p ≡ vb_row r m p)
+  module _ (uuids : List ℕ) (q : Chronicle) (c' : Cluster) (disks_told : (m p : ℕ) → q.disk_at m p ≡ r.disk_at m p) (arms : (m : ℕ) → node_known q m ≡ node_known r m) (rows : (m p : ℕ) → (m ≡ n → p ≡ v → ⊥) → vb_row q m p ≡ vb_row r m p)
       (nodes : (j : ℕ) → (j ≡ seat n v → ⊥) → c'.nodes j ≡ c.nodes j) (disks : (j : ℕ) → c'.disks j ≡ c.disks j) where
     abbrev world : PlainWorld
     world = record { nodes = (with_node_at w n first).nodes; uuids = uuids; links = w.links }
@@ -122,6 +124,7 @@ module _ (w : PlainWorld) (r : Chronicle) (c : Cluster) (n v uuid : ℕ) (role :
     new_rests : RestsIn world told c'
     new_rests = record {
       powers = rests_bare.powers;
+      clocks = rests_bare.clocks;
       aways = λ m p e. ⊎_elim (λ s. let z : Some vb ≡ None = sym (ap (λ k. vb_of world k p) s.0 ∙ ap (vb_of world n) s.1 ∙ changed.here) ∙ e in cc)
           (λ o. subst (λ t. AwayAt (power_of world m) p (shelf_of world m p) (q.role_at m p) t (c'.nodes (seat m p)) (c'.disks (seat m p))) (sym (at_there q.disk_at n v there_now m p o)) (rests_bare.aways m p e))
           (places n v m p);
@@ -141,9 +144,10 @@ module _ (w : PlainWorld) (r : Chronicle) (c : Cluster) (n v uuid : ℕ) (role :
     made_links dials streams points x i = new_links w world r told c c' n v x [] [] not_made changed.there dials streams points nodes (a.links x i)
 
     -- clients have no open stream of it
-    made_clients : ((m d : ℕ) → q.clients_at m d ≡ with_clients_of r.clients_at n (past_turn v) m d) → ((m p : ℕ) → (m ≡ n → p ≡ v → ⊥) → AgreesAt q m p (c'.nodes (seat m p)) (vb_of w m p)) → ((u : ℕ) → IsTold r.tree u → hist q.tree u ≡ hist r.tree u)
+    made_clients : ((m d : ℕ) → q.clients_at m d ≡ with_clients_of r.clients_at n (past_turn v) m d) → ((m p : ℕ) → (m ≡ n → p ≡ v → ⊥) → AgreesAt q m p (c'.nodes (seat m p)) (vb_of w m p)) → ((u : ℕ) → IsTold r.tree u → hist q.tree u ≡ hist r.tree u) → Later r q
         → ClientsTold world told
-    made_clients clients there same = clients_turned w world r told n v a.clients turned (all_there idle w r c a) (λ l m p id has. has)
+    made_clients clients there same last = clients_turned w world r told n v a.clients turned (all_there idle w r c a) (λ l m p id has. has) (record { last = last.last; grows = last.grows })
+        (fewer_at w world n v changed.there (subst (Fewer (vb_of w n v)) (sym changed.here) (λ x p o. absurd o.1.among)))
       where
         turned : RoleTold w world r told n v
         turned = record {
@@ -203,7 +207,7 @@ module _ (n v uuid : ℕ) (role : Role) (node : PlainNode) where
       let is : w1.nodes n ≡ Some bare_node = ap (λ b. if b then Some bare_node else w.nodes n) (eq-eqb n n refl) in
       let made : vb_of w1 n v ≡ Some (new_vb n role uuid) = ap (λ o. vb_in o v) is ∙ put_found node.vbs v (new_vb n role uuid) in
       let kept : shelf_of w1 n v ≡ Some blank_shelf = ap (λ o. shelf_in o v) is ∙ shelf_found node.shelves v blank_shelf in
-      let came = state_came w1 (with_node_at w1 n noted_with) told n v (record { arm = node.arm; off = node.off }) (new_vb n role uuid) blank_shelf c a made kept (none_there node.off runs) role
+      let came = state_came w1 (with_node_at w1 n noted_with) told n v (record { arm = node.arm; off = node.off; clock = node.clock }) (new_vb n role uuid) blank_shelf c a made kept (none_there node.off runs) role
       (noted_node w1 n v bare_node (under Off wrote.0) wrote.0.fuse is) in
       subst (λ nodes. ArmedCame n (λ said t. after_made t n v role said) (fired_by node.arm.fuse wrote.0.fuse) q (record { nodes = nodes; uuids = uuids; links = w.links }) (noted_answer (wrote_of wrote.1) Answer.Ok)) twice
       (came_as n (λ said t. after_noted t n v role said) (λ said t. after_made t n v role said) (fired_by node.arm.fuse wrote.0.fuse) told q (with_node_at w1 n noted_with) (noted_answer (wrote_of wrote.1) Answer.Ok) (same wrote.1) came)
@@ -255,7 +259,7 @@ module _ (starts : StartsSound) (w : PlainWorld) (r : Chronicle) (c : Cluster) (
         links = made_links w r c n v 0 Role.Replica node a known runs none small w.uuids q c (λ m p. refl) (λ m. refl) rows (λ j ne. refl) (λ j. refl) (λ k. refl) (λ k p. refl) (λ k. refl);
         differ = a.differ;
         clients = made_clients w r c n v 0 Role.Replica node a known runs none small w.uuids q c (λ m p. refl) (λ m. refl) rows (λ j ne. refl) (λ j. refl) (λ m d. refl)
-            (λ m p o. role_there r n v Role.Replica m p (c.nodes (seat m p)) (vb_of w m p) o (a.vbs m p)) (λ u t. refl);
+            (λ m p o. role_there r n v Role.Replica m p (c.nodes (seat m p)) (vb_of w m p) o (a.vbs m p)) (λ u t. refl) (later_same _ _ refl refl);
         rests = new_rests w r c n v 0 Role.Replica node a known runs none small w.uuids q c (λ m p. refl) (λ m. refl) rows (λ j ne. refl) (λ j. refl);
       }
 
@@ -376,7 +380,7 @@ module _ (starts : StartsSound) (w : PlainWorld) (r : Chronicle) (c : Cluster) (
   active_bare = record {
     sound = is_sound;
     vbs = made_vbs w r c n v uuid Role.Active node a known runs none small uuids after risen (λ j p. refl) (λ j. refl) rows others same_disks
-        (subst (λ x. VbAgrees after n v x (new_vb n Role.Active uuid)) (sym promoted_is) (role_here branched n v Role.Active (promoted m uuid) (new_vb n Role.Active uuid) refl refl (λ e. (writes_here, alone_counts branched n v, refl)) active_holds))
+        (subst (λ x. VbAgrees after n v x (new_vb n Role.Active uuid)) (sym promoted_is) (role_here branched n v Role.Active (promoted m uuid) (new_vb n Role.Active uuid) refl refl (λ e. (writes_here, alone_counts branched n v, refl, left_none 0, record { each = λ x i. absurd i })) active_holds))
         active_there;
     disks = new_disks w r c n v uuid Role.Active node a known runs none small uuids after risen (λ j p. refl) (λ j. refl) rows others same_disks;
     branches = record {
@@ -391,7 +395,7 @@ module _ (starts : StartsSound) (w : PlainWorld) (r : Chronicle) (c : Cluster) (
     links = made_links w r c n v uuid Role.Active node a known runs none small uuids after risen (λ j p. refl) (λ j. refl) rows others same_disks (λ j. refl) (λ j p. refl) (λ j. refl);
     differ = a.differ;
     clients = made_clients w r c n v uuid Role.Active node a known runs none small uuids after risen (λ j p. refl) (λ j. refl) rows others same_disks (λ j p. refl) active_there
-        (λ u t. hist_there told_branch r.tree u (λ e. new_untold uuid r.tree (a.fresh uuid unused_yet) (subst (IsTold r.tree) (sym e) t)));
+        (λ u t. hist_there told_branch r.tree u (λ e. new_untold uuid r.tree (a.fresh uuid unused_yet) (subst (IsTold r.tree) (sym e) t))) (later_same _ _ refl refl);
     rests = new_rests w r c n v uuid Role.Active node a known runs none small uuids after risen (λ j p. refl) (λ j. refl) rows others same_disks;
   }
 
@@ -452,7 +456,7 @@ module _ (starts : StartsSound) (w : PlainWorld) (r : Chronicle) (n v : ℕ) (sm
           let here = unmade starts w r agrees.0 n v uuid node agrees.1 known runs free small p.1.1.1.0 named fits in
           let up : (r.arm_at n).down ≡ false = (subst (PowerIsIf (r.arm_at n)) (ap power_in known) (agrees.1.powers n)).down ∙ runs in
           let read = branch_line r n v uuid None 0 0 up in
-          made_came Role.Active uuid node known runs free (first_branch r n v uuid (agrees.0.nodes (seat n v)) (agrees.0.disks (seat n v)) (agrees.1.fresh uuid p.1.1.1.0) here, (subst (λ b. LawfulRole b n v Role.Active) (sym read) (record { another = role_new (after_branch r n v uuid None 0 0) n v Role.Active here.role; anew = λ is. at_here r.counts_at n v alone }), tt)) (tt, (tt, tt))
+          made_came Role.Active uuid node known runs free (first_branch r n v uuid (agrees.0.nodes (seat n v)) (agrees.0.disks (seat n v)) (agrees.1.fresh uuid p.1.1.1.0) here, (subst (λ b. LawfulRole b n v Role.Active) (sym read) (record { another = role_new (after_branch r n v uuid None 0 0) n v Role.Active here.role; anew = λ is. at_here r.counts_at n v (alone (last_seq 0 (r.held n v))) }), tt)) (tt, (tt, tt))
           (subst (λ b. Agrees (with_branches (Event.Branch n v uuid None 0 0 ∷ Event.Role n v Role.Active ∷ []) (with_node_at w n (bare node n v Role.Active uuid))) (told_disk_at (after_role b n v Role.Active) n v (record ((after_role b n v Role.Active).disk_at n v) { there = true }))) (sym read)
           (risen starts w r agrees.0 n v uuid node agrees.1 known runs free small p.1.1.1.0 named fits, active_bare starts w r agrees.0 n v uuid node agrees.1 known runs free small p.1.1.1.0 named fits))
 

@@ -9,11 +9,12 @@ use Rattle.{disk_journals.specs.Books.{Book, below, book_at, listed, listed_belo
 use Rattle.{node_world.specs.Arms.{no_arm as unarmed}, node_world.specs.Power.{all_cut, books_left, crash_causes, crash_step, down_lines, dropped, is_this_number, stopped_node, touches}, node_world.specs.Worlds.{is_up, node_if}}
 use Rattle.{vb_calls.specs.Shelves.{Shelf, left_book}, vb_disk.specs.declared.made.Outcome.{Outcome}}
 use Rattle.transcript_law.specs.Chronicles.{after_crash, after_crashed, alone, crashed_disk, known_down, finds, is_dial_at, newest_or, resting}
-use Rattle.transcript_law.proofs.{invariant.Agreement.{Agrees, AgreesAt, AgreesIn, AwayAt, BookAgrees, DiskIsIf, DownHolds, GoesOn, IsAway, IsLink, LinkAgrees, Power, PowerIsIf, VbIsIf, VbRow, book_in, idle, is_down, power_of, shelf_of, top, vb_contents, vb_of, vb_row}, disks.ArmedLines.{AreEnds}}
+use Rattle.transcript_law.proofs.{invariant.Agreement.{clock_of, Agrees, AgreesAt, AgreesIn, AwayAt, BookAgrees, DiskIsIf, DownHolds, GoesOn, IsAway, IsLink, LinkAgrees, Power, PowerIsIf, VbIsIf, VbRow, book_in, idle, is_down, power_of, shelf_of, top, vb_contents, vb_of, vb_row}, disks.ArmedLines.{AreEnds}}
 use Rattle.transcript_law.proofs.{invariant.Carried.{branches_again, kept_same, link_carried, numbers}, disks.Crashed.{Loads, UnmadeIf, Written, are_written, away_late, crash_all, crash_here, crash_sound, crash_there, crash_tree, crashed_away, crashed_disk_is, crashed_rests, crashed_row, logs_fit, stood_end}}
 use Rattle.transcript_law.proofs.{disks.Disks.{AwayAgrees, power_in}, disks.Downed.{AreDialed, Downed, IsFree, down_dialed, down_ends, downed, ends_lawful, none_free, with_known}, invariant.Seats.{seat, seat_one}, invariant.Tables.{id_here, id_there, none_hold}, invariant.Trees.{IdsFit}}
-use Rattle.transcript_law.proofs.invariant.{Carried.{all_there}, Carrying.{same_arms}, ClientsKept.{ConnsKept, OfOthers, clients_gone, goes_same, spot_at, spot_same}}
+use Rattle.transcript_law.proofs.invariant.{Carried.{all_there}, Carrying.{same_arms}, ClientsKept.{ConnsKept, OfOthers, clients_gone, goes_same, others_owed, spot_at, spot_same}, Owed.{Fewer, fewer_none, fewer_same}}
 use Rattle.transcript_law.specs.{Feeding.{client_in}, StreamsTold.{ClientsKnown}}
+use Rattle.transcript_law.proofs.invariant.Owing.{later_same}
 
 -- the books that a crash leaves
 
@@ -55,7 +56,7 @@ row_if b out row = record {
     snap = if b then (crashed_row out row).contents.snap else row.contents.snap;
   };
   disk = if b then (crashed_row out row).disk else row.disk;
-  counts = if b then alone else row.counts;
+  counts = if b then alone 0 else row.counts;
 }
 
 row_here : (r : Chronicle) (n : ℕ) (out : Outcome) (v : ℕ) → vb_row (after_crash r n out) n v ≡ crashed_row out (vb_row r n v)
@@ -73,7 +74,7 @@ row_there r n out m v ne =
         snap = if b then Some ((place_of (crashed_disk out (r.disk_at n v)).book).ss, (place_of (crashed_disk out (r.disk_at n v)).book).se) else r.snap_at m v;
       };
       disk = if b then crashed_disk out (r.disk_at n v) else r.disk_at m v;
-      counts = if b then alone else r.counts_at m v;
+      counts = if b then alone 0 else r.counts_at m v;
     }) (ne_eqb m n ne)
 
 -- what holds of one node and of the others
@@ -110,7 +111,7 @@ module _ (w : PlainWorld) (r : Chronicle) (c : Cluster) (n : ℕ) (node : PlainN
   -- what stands of the node's vBuckets
 
   unmade : (v : ℕ) (o : Option Plain) → vb_of w n v ≡ o → UnmadeIf o (r.disk_at n v) (c.disks (seat n v)) (shelf_of w n v)
-  unmade v None e = subst (λ p. BookAgrees p v (shelf_of w n v) (r.disk_at n v) (c.disks (seat n v))) (ap power_in at ∙ ap (λ o. Some (record { arm = node.arm; off = o })) on) (a.aways n v e).book
+  unmade v None e = subst (λ p. BookAgrees p v (shelf_of w n v) (r.disk_at n v) (c.disks (seat n v))) (ap power_in at ∙ ap (λ o. Some (record { arm = node.arm; off = o; clock = node.clock })) on) (a.aways n v e).book
   unmade v (Some vb) e = tt
 
   written : (v : ℕ) → Written (r.disk_at n v) (vb_contents r n v) (c.nodes (seat n v)) (c.disks (seat n v)) (shelf_of w n v)
@@ -231,11 +232,11 @@ module _ (w : PlainWorld) (r : Chronicle) (c : Cluster) (n : ℕ) (node : PlainN
           listed_out (λ q. option_map (left_book out) (node.shelves q)) v (subst (λ k. k ≤ v) (sym lists_all.numbers) high)
           ∙ sym ((written v).left out ∙ ap (λ b. if b then Some (found (c.disks (seat n v)).book (c.disks (seat n v)).late (finds out)) else None) (not_there v high))
 
-  power_here : power_of w' n ≡ Some (record { arm = unarmed; off = Some books })
+  power_here : power_of w' n ≡ Some (record { arm = unarmed; off = Some books; clock = 0 })
   power_here = ap power_in here
 
   abbrev down : Power
-  down = record { arm = unarmed; off = Some books }
+  down = record { arm = unarmed; off = Some books; clock = 0 }
 
   rests_now : (v : ℕ) → AwayAt (power_of w' n) v (shelf_of w' n v) (r'.role_at n v) (r'.disk_at n v) (c'.nodes (seat n v)) (c'.disks (seat n v))
   rests_now v =
@@ -279,8 +280,8 @@ module _ (w : PlainWorld) (r : Chronicle) (c : Cluster) (n : ℕ) (node : PlainN
 
   powers_are : (m : ℕ) → PowerIsIf (r'.arm_at m) (power_of w' m)
   powers_are = by_node (λ m. PowerIsIf (r'.arm_at m) (power_of w' m)) n
-      (subst (PowerIsIf (r'.arm_at n)) (sym power_here) (subst (λ t. PowerIsIf t (Some (record { arm = unarmed; off = Some books }))) (sym (id_here r.arm_at n known_down))
-      (record { fuse = refl; out = refl; down = refl; may_fire = tt; listed_so = λ b e. let same : books ≡ b = cc in subst (λ x. x ≡ listed (book_in x)) same (listed_again (λ v. option_map (left_book out) (node.shelves v))) })))
+      (subst (PowerIsIf (r'.arm_at n)) (sym power_here) (subst (λ t. PowerIsIf t (Some (record { arm = unarmed; off = Some books; clock = 0 }))) (sym (id_here r.arm_at n known_down))
+      (record { fuse = refl; out = refl; down = refl; zero = λ b e. refl; may_fire = tt; listed_so = λ b e. let same : books ≡ b = cc in subst (λ x. x ≡ listed (book_in x)) same (listed_again (λ v. option_map (left_book out) (node.shelves v))) })))
       (λ m ne. subst (λ o. PowerIsIf (r'.arm_at m) (power_in o)) (sym (there m ne)) (subst (λ t. PowerIsIf t (power_of w m)) (sym (id_there r.arm_at n known_down m (λ e. ne (sym e)))) (a.powers m)))
 
   aways_are : (m v : ℕ) → vb_of w' m v ≡ None → AwayAt (power_of w' m) v (shelf_of w' m v) (r'.role_at m v) (r'.disk_at m v) (c'.nodes (seat m v)) (c'.disks (seat m v))
@@ -310,6 +311,10 @@ module _ (w : PlainWorld) (r : Chronicle) (c : Cluster) (n : ℕ) (node : PlainN
     opens = λ m d v id ne has. goes_same (spot_at w r m v) (spot_at w' r' m v) id (spot_same w w' r r' m v refl (row_there r n out m v ne) (ap (λ o. vb_in o v) (there m ne)));
   }
 
+  -- and none of its vBuckets is there
+  fewer : (m v : ℕ) → Fewer (vb_of w m v) (vb_of w' m v)
+  fewer = by_node (λ m. (v : ℕ) → Fewer (vb_of w m v) (vb_of w' m v)) n (λ v. fewer_none (vb_of w n v) (vb_of w' n v) (ap (λ o. vb_in o v) here)) (λ m ne v. fewer_same (vb_of w m v) (vb_of w' m v) (ap (λ o. vb_in o v) (there m ne)))
+
   pub stopped_agrees : AgreesIn idle w' r' c'
   stopped_agrees = record {
     sound = sound;
@@ -318,9 +323,11 @@ module _ (w : PlainWorld) (r : Chronicle) (c : Cluster) (n : ℕ) (node : PlainN
     branches = branches_again (crash_tree n (finds out) 1024 c) refl (λ u e. e) a.branches;
     links = links_are;
     differ = a.differ;
-    clients = clients_gone w w' r r' n a.clients (all_there idle w r c a) conns (λ d. ap (λ o. client_in o d) here) (λ l m v id has. has);
+    clients = clients_gone w w' r r' n a.clients (all_there idle w r c a) conns (λ d. ap (λ o. client_in o d) here) (λ l m v id has. has)
+        (others_owed w w' r r' n conns (λ d. ap (λ o. client_in o d) here) (later_same _ _ refl refl) fewer a.clients.owed);
     rests = record {
       powers = powers_are;
+      clocks = by_node (λ m. r'.clock_at m ≡ clock_of (power_of w' m)) n (id_here r.clock_at n 0 ∙ sym (ap clock_of power_here)) (λ m ne. id_there r.clock_at n 0 m (λ e. ne (sym e)) ∙ a.clocks m ∙ sym (ap (λ o. clock_of (power_in o)) (there m ne)));
       aways = aways_are;
       downs = downs_are;
       ends = λ x i. let ne = both_apart x i in let e = a.ends x i in record {

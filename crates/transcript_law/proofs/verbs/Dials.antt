@@ -14,8 +14,9 @@ use Rattle.{node_world.specs.Worlds.{is_off}, transcript_law.proofs.{invariant.A
 use Rattle.{dcp_consumer.specs.Dialing.{numbered, stream_opaque}, dcp_consumer.specs.declared.handshake.Dialed.{Dialed}, transcript_law.proofs.links.Firsts.{asks_from, firsts, request_frames}}
 use Rattle.transcript_law.proofs.links.Requests.{dials_waiting, first_asked, opaque_small, opaque_some, requests_readable}
 use Rattle.transcript_law.proofs.links.Verdicts.{asks_in_range}
-use Rattle.transcript_law.proofs.invariant.{Carried.{all_there}, ClientsKept.{all_kept, clients_kept}, LinkFeeds.{link_feeds}, LinkRows.{found_is_link}}
+use Rattle.transcript_law.proofs.invariant.{Carried.{all_there}, ClientsKept.{all_kept, clients_kept, every_owed}, LinkFeeds.{link_feeds}, LinkRows.{found_is_link}}
 use Rattle.transcript_law.specs.Feeding.{HasFed, HasOpen}
+use Rattle.transcript_law.proofs.invariant.Owing.{later_same}
 
 -- what a consumer writes is the spelling of its requests
 requests_spelled : (d : Dialed) (ask : StreamAsk) → requests d ask ≡ concat (map spelling (request_frames (stream_opaque d.buffer) d ask))
@@ -123,6 +124,7 @@ module _ (w : PlainWorld) (r : Chronicle) (line l m n v buffer : ℕ) (small : (
     branches = a.branches;
     rests = record {
       powers = a.powers;
+      clocks = a.clocks;
       aways = a.aways;
       downs = a.downs;
       ends = λ x i. ⊎_elim
@@ -137,7 +139,8 @@ module _ (w : PlainWorld) (r : Chronicle) (line l m n v buffer : ℕ) (small : (
       follower = (free_links w.links l n v free x i).1;
       stream = λ q id e f z. absurd f;
     });
-    clients = clients_kept w dialed r r' 0 a.clients (all_there idle w r c a) (all_kept w dialed r r' (λ i d. refl) (λ i d. refl) refl (λ i q. refl) (λ i q. refl)) (λ k j q id has. inl (dialed_feeds k j q id has));
+    clients = let kept = all_kept w dialed r r' (λ i d. refl) (λ i d. refl) refl (λ i q. refl) (λ i q. refl) in
+        clients_kept w dialed r r' 0 a.clients (all_there idle w r c a) kept (λ k j q id has. inl (dialed_feeds k j q id has)) (every_owed w dialed r r' kept (later_same _ _ refl refl) (λ i q x p o. o) a.clients.owed);
   }
 
 no_ask : {A : Type 0} (ask : StreamAsk) → None ≡ Some ask → A

@@ -1,11 +1,12 @@
 -- the prepares whose time is up are given up: the lines of that are lawful, and after them all agrees
-use Rattle.transcript_law.specs.Lawfulness.{IsHeldIfCommitted}
-use Rattle.std.specs.Prelude.{◌≡◌, ◌<◌, ◌∷◌, ◌++◌, ◌^◌, if◌then◌else◌}
-use Rattle.transcript_law.proofs.Words.{ℕ, true, false, List, [], fold, refl, ap, sym, ◌∙◌, subst, arith, inl, append_assoc, eq-eqb, Some, Change, Event, Member, Cluster, Move, happens, Pend, Plain, is_active, newest_branch, image_of, Sound}
+use Rattle.transcript_law.specs.Lawfulness.{IsGivenUp, IsHeldIfCommitted, IsUp}
+use Rattle.std.specs.Prelude.{◌≡◌, ◌<◌, ◌≤◌, ◌∷◌, ◌++◌, ◌^◌, if◌then◌else◌}
+use Rattle.transcript_law.proofs.Words.{ℕ, true, false, List, [], fold, refl, ap, sym, ◌∙◌, subst, arith, inl, inr, append_assoc, eq-eqb, Some, Change, Event, Member, Cluster, Move, happens, Pend, Plain, is_active, newest_branch, image_of, Sound}
 use Rattle.transcript_law.proofs.Words.{PlainNode, PlainWorld, with_node_at, with_states, with_vb_at, vb_in, Chronicle, after_change, after_lines, LawfulChange, LawfulFrom}
-use Rattle.transcript_law.proofs.{invariant.Agreement.{Agrees, AgreesIn, ChangeFits, VbAgrees, idle, image_is, shelf_of}, invariant.Carrying.{Changed}, lines.Lines.{after_more, lawful_more}}
-use Rattle.transcript_law.proofs.{verbs.NodeLines.{node_changed, shelves_again, shelves_put}, invariant.Seats.{seat}, verbs.Settling.{CommitsSound, SettlesOn, changed_on, changes_quiet, changes_told, has_seq, none_settles, settles}, invariant.Waiting.{pends_fit}, verbs.Writing.{is_lawful, mine, newest, written}}
+use Rattle.transcript_law.proofs.{invariant.Agreement.{Agrees, AgreesIn, active_times, ChangeFits, VbAgrees, idle, image_is, shelf_of}, invariant.Carrying.{Changed}, invariant.Lefts.{left_without}, lines.Lines.{after_more, lawful_more}}
+use Rattle.transcript_law.proofs.{verbs.NodeLines.{node_changed, shelves_again, shelves_put}, invariant.Seats.{seat}, verbs.Settling.{CommitsSound, SettlesOn, changed_on, changes_quiet, changes_told, has_seq, none_settles, settles}, invariant.Waiting.{pends_fit}, verbs.Writing.{fewer_written, is_lawful, mine, newest, written}, answers.Awaited.{resolved_stood}, invariant.Owed.{fewer_some}}
 use Rattle.cluster_model.specs.Clusters.{Fulfils}
+use Rattle.transcript_law.proofs.verbs.Times.{fewer_times, up_later, without_was}
 use Rattle.durability.specs.{Laws.{Waits}, Outstanding.{late, without}, declared.waiting.Waiting.{Waiting}}
 use Rattle.node_core.specs.Calls.{own_lines}
 use Rattle.std.specs.FinMap.{get}
@@ -15,13 +16,22 @@ use Rattle.vb_calls.specs.State.{quiet_reply}
 use Rattle.vb_calls.specs.declared.calls.Resolution.TheVariants as resolution
 use Rattle.vb_calls.specs.declared.calls.VbAnswer.{VbAnswer}
 use Rattle.vb_types.specs.declared.change.Act.TheVariants.{Abort}
-use Rattle.vbucket.proofs.Preparing.{AreTimed, abort_sound, ascend_late, late_timed, may_abort, timed_rest}
+use Rattle.vbucket.proofs.Preparing.{AreTimed, abort_sound, ascend_late, in_late, late_timed, may_abort, timed_rest}
 use Rattle.{transcript_law.proofs.verbs.Making.{resolving_is_next}, vbucket.specs.Laws.{Ascend}}
 
 -- the lines of changes, and of others behind them
 told_more : (n v uuid : ℕ) (cs ds : List Change) → changes_told n v uuid (cs ++ ds) ≡ changes_told n v uuid cs ++ changes_told n v uuid ds
 told_more n v uuid [] ds = refl
 told_more n v uuid (c ∷ cs) ds = ap (λ ls. Event.Changed n v uuid c ∷ ls) (told_more n v uuid cs ds)
+
+-- they tell nothing of clocks, nor of the line that they are told by
+ticks_past : (r : Chronicle) (n v uuid : ℕ) (cs : List Change) → (after_lines r (changes_told n v uuid cs)).ticks ≡ r.ticks
+ticks_past r n v uuid [] = refl
+ticks_past r n v uuid (c ∷ cs) = ticks_past (after_change r n v uuid c) n v uuid cs
+
+clocks_past : (r : Chronicle) (n v uuid : ℕ) (cs : List Change) → (after_lines r (changes_told n v uuid cs)).clock_at ≡ r.clock_at
+clocks_past r n v uuid [] = refl
+clocks_past r n v uuid (c ∷ cs) = clocks_past (after_change r n v uuid c) n v uuid cs
 
 -- what was made on from t
 abbrev pub both : Resolving → Resolving → Resolving
@@ -49,11 +59,11 @@ module _ (n v : ℕ) (s t u : Resolving) (w : PlainWorld) (r : Chronicle) (node 
   abbrev read : List Change → Chronicle
   read cs = after_lines r (changes_told n v branch_is cs)
 
-  pub settles_then : SettlesOn w r n v s t → ((r' : Chronicle) (cl : Cluster) → AgreesIn idle w1 r' cl → w1.nodes n ≡ Some node1 → node1.vbs v ≡ Some t.vb → SettlesOn w1 r' n v t u) → SettlesOn w r n v s u
+  pub settles_then : SettlesOn w r n v s t → ((r' : Chronicle) (cl : Cluster) → (r'.ticks ≡ r.ticks) × (r'.clock_at ≡ r.clock_at) → AgreesIn idle w1 r' cl → w1.nodes n ≡ Some node1 → node1.vbs v ≡ Some t.vb → SettlesOn w1 r' n v t u) → SettlesOn w r n v s u
   settles_then first next =
       let now : Agrees w1 (read first.cs) = first.agrees w1 changed shelf_is in
       let more : SettlesOn w1 (read first.cs) n v t u =
-      next (read first.cs) now.0 now.1 (ap (λ b. if b then Some node1 else w.nodes n) (eq-eqb n n refl)) (ap (λ b. if b then Some t.vb else node.vbs v) (eq-eqb v v refl)) in
+      next (read first.cs) now.0 (ticks_past r n v branch_is first.cs, clocks_past r n v branch_is first.cs) now.1 (ap (λ b. if b then Some node1 else w.nodes n) (eq-eqb n n refl)) (ap (λ b. if b then Some t.vb else node.vbs v) (eq-eqb v v refl)) in
       let same : newest_branch t.vb.log ≡ branch_is = ap newest_branch first.log in
       let a : List Event = changes_told n v branch_is first.cs in let b : List Event = changes_told n v branch_is more.cs in
       let lines : changes_told n v branch_is (first.cs ++ more.cs) ≡ a ++ b = told_more n v branch_is first.cs more.cs in
@@ -75,7 +85,7 @@ settles_both w r n v t u more = record { cs = more.cs; changes = ap (λ cs. t.ch
 -- one prepare is given up
 
 module _ (n v : ℕ) (x : Waiting) (s : Resolving) (w : PlainWorld) (r : Chronicle) (cl : Cluster) (node : PlainNode) (agrees : AgreesIn idle w r cl) (known : w.nodes n ≡ Some node) (has : node.vbs v ≡ Some s.vb)
-    (active : is_active s.vb.role ≡ true) (here : Waits x s.vb.waiting) (free : has_seqno s.vb ≡ true) where
+    (active : is_active s.vb.role ≡ true) (here : Waits x s.vb.waiting) (free : has_seqno s.vb ≡ true) (given : IsGivenUp r n v x.seq) where
   abbrev member : Member
   member = cl.nodes (seat n v)
 
@@ -113,9 +123,14 @@ module _ (n v : ℕ) (x : Waiting) (s : Resolving) (w : PlainWorld) (r : Chronic
 
   lawful : LawfulChange r n v member.br change
   lawful = is_lawful w r cl n v node s.vb agrees known has change s.vb.last_cas active refl room fits named (without x.seq s.vb.waiting) sound (resolving_is_next s.vb own.kept x (Abort x.seq) waits.0 waits.1 waits.2 refl refl refl refl) unheld
+      (λ prepared e. let z : Abort x.seq ≡ Abort prepared = e in let same : x.seq ≡ prepared = cc in subst (IsGivenUp r n v) same given)
 
   agrees_in : (w' : PlainWorld) → Changed w w' n v given_up.vb w.links → shelf_of w' n v ≡ shelf_of w n v → AgreesIn idle w' (after_change r n v member.br change) (happens cl (Move.Own (seat n v) change))
-  agrees_in w' changes shelf = written w r cl n v node s.vb agrees known has change s.vb.last_cas active refl room fits named (without x.seq s.vb.waiting) sound w' changes shelf (omega arith)
+  agrees_in w' changes shelf =
+      let lefts = left_without (r.counts_at n v).risen s.vb.position.at x.seq s.vb.waiting own.sound.waits.ascend (own.lefts active) in
+      written w r cl n v node s.vb agrees known has change s.vb.last_cas active refl room fits named (without x.seq s.vb.waiting) sound w' changes shelf (omega arith) lefts (λ t. fewer_times change.seq (r.clock_at n) (λ y i. without_was x.seq s.vb.waiting y i) t)
+      (fewer_written w r cl n v node s.vb agrees known has change s.vb.last_cas active refl room fits named (without x.seq s.vb.waiting) sound w' changes shelf (omega arith) lefts (λ t. fewer_times change.seq (r.clock_at n) (λ y i. without_was x.seq s.vb.waiting y i) t)
+      (fewer_some s.vb given_up.vb (λ y p some o. resolved_stood s x (Abort x.seq) resolution.Ambiguous own.sound.waits.ascend refl y p o)))
 
   pub one_aborts : SettlesOn w r n v s given_up
   one_aborts = record {
@@ -126,30 +141,41 @@ module _ (n v : ℕ) (x : Waiting) (s : Resolving) (w : PlainWorld) (r : Chronic
     agrees = λ w' changes shelf. subst (λ u. Agrees w' (after_lines r (changes_told n v u (change ∷ [])))) (sym newest_is) (happens cl (Move.Own (seat n v) change), agrees_in w' changes shelf);
   }
 
+-- the time of these is up
+abbrev AreUp : ℕ → List Waiting → Type 0
+AreUp clock todo = (x : Waiting) → Waits x todo → (deadline : ℕ) × (x.deadline ≡ Some deadline) × (deadline ≤ clock)
+
+-- so one of them is to be given up, where a line asks for that
+gives_up : (n v clock deadline : ℕ) (x : Waiting) (s : Resolving) (w : PlainWorld) (r : Chronicle) (cl : Cluster) (node : PlainNode) (agrees : AgreesIn idle w r cl) (known : w.nodes n ≡ Some node) (has : node.vbs v ≡ Some s.vb)
+    → is_active s.vb.role ≡ true → Waits x s.vb.waiting → x.deadline ≡ Some deadline → deadline ≤ clock → clock < 2 ^ 64 → r.clock_at n ≡ clock → r.ticks ≡ Some (n, v) → IsGivenUp r n v x.seq
+gives_up n v clock deadline x s w r cl node agrees known has active here is low small shows ticks =
+    let k = (active_times active (mine w r cl n v node s.vb agrees known has).times).each x here deadline is in
+    record { asked = ticks; before = k.0; made = k.1; up = subst (IsUp k.0) (sym shows) (up_later k.0 deadline clock low small k.2) }
+
 -- those of a list, the first one first, which are outstanding, and for each of which a seqno is left
-module _ (n v : ℕ) where
-  expires_from : (todo : List Waiting) (s : Resolving) (node : PlainNode) (w : PlainWorld) (r : Chronicle) (cl : Cluster) → AgreesIn idle w r cl → w.nodes n ≡ Some node → node.vbs v ≡ Some s.vb → is_active s.vb.role ≡ true
+module _ (n v clock : ℕ) (small : clock < 2 ^ 64) where
+  expires_from : (todo : List Waiting) (s : Resolving) (node : PlainNode) (w : PlainWorld) (r : Chronicle) (cl : Cluster) → r.ticks ≡ Some (n, v) → r.clock_at n ≡ clock → AreUp clock todo → AgreesIn idle w r cl → w.nodes n ≡ Some node → node.vbs v ≡ Some s.vb → is_active s.vb.role ≡ true
       → Ascend todo → AreTimed todo s.vb.waiting → SettlesOn w r n v s (fold aborted s todo)
-  expires_from [] s node w r cl agrees known has active rises timed = none_settles w r n v s (cl, agrees) (ap (λ o. vb_in o v) known ∙ has)
-  expires_from (x ∷ todo) s node w r cl agrees known has active rises timed =
-      let k = timed x (inl refl) in
+  expires_from [] s node w r cl ticks shows due agrees known has active rises timed = none_settles w r n v s (cl, agrees) (ap (λ o. vb_in o v) known ∙ has)
+  expires_from (x ∷ todo) s node w r cl ticks shows due agrees known has active rises timed =
+      let k = timed x (inl refl) in let up = due x (inl refl) in
       let sound : Sound s.vb = (mine w r cl n v node s.vb agrees known has).sound in
       let free : has_seqno s.vb ≡ true = may_abort s.vb x k.1.0 sound k.0 k.1.1 in
       let next : Resolving = resolved_by (Abort x.seq) resolution.Ambiguous x s in
       subst (λ b. SettlesOn w r n v s (fold aborted (if b then next else s) todo)) (sym free)
-      (settles_then n v s next (fold aborted next todo) w r node known has (one_aborts n v x s w r cl node agrees known has active k.0 free)
-      (λ r' cl' agrees' known' has'. expires_from todo next (with_states node (with_vb_at node.vbs v next.vb)) (with_node_at w n (with_states node (with_vb_at node.vbs v next.vb))) r' cl' agrees' known' has' active rises.1
+      (settles_then n v s next (fold aborted next todo) w r node known has (one_aborts n v x s w r cl node agrees known has active k.0 free (gives_up n v clock up.0 x s w r cl node agrees known has active k.0 up.1 up.2 small shows ticks))
+      (λ r' cl' same agrees' known' has'. expires_from todo next (with_states node (with_vb_at node.vbs v next.vb)) (with_node_at w n (with_states node (with_vb_at node.vbs v next.vb))) r' cl' (same.0 ∙ ticks) (ap (λ f. f n) same.1 ∙ shows) (λ y i. due y (inr i)) agrees' known' has' active rises.1
       (timed_rest x todo s.vb.waiting rises sound.waits.ascend timed)))
 
   -- those that are late, and then all is committed that may be
-  pub expires : CommitsSound → (clock : ℕ) (w : PlainWorld) (r : Chronicle) (cl : Cluster) (node : PlainNode) (vb : Plain) → AgreesIn idle w r cl → w.nodes n ≡ Some node → node.vbs v ≡ Some vb → is_active vb.role ≡ true
+  pub expires : CommitsSound → (w : PlainWorld) (r : Chronicle) (cl : Cluster) (node : PlainNode) (vb : Plain) → r.ticks ≡ Some (n, v) → r.clock_at n ≡ clock → AgreesIn idle w r cl → w.nodes n ≡ Some node → node.vbs v ≡ Some vb → is_active vb.role ≡ true
       → SettlesOn w r n v (unresolved vb) (both (expired clock vb) (settled (expired clock vb).vb))
-  expires commits clock w r cl node vb agrees known has active =
+  expires commits w r cl node vb ticks shows agrees known has active =
       let t : Resolving = expired clock vb in let u : Resolving = settled t.vb in
       let node1 : PlainNode = with_states node (with_vb_at node.vbs v t.vb) in
       settles_then n v (unresolved vb) t (both t u) w r node known has
-      (expires_from (late clock vb.waiting) (unresolved vb) node w r cl agrees known has active (ascend_late clock vb.waiting (mine w r cl n v node vb agrees known has).sound.waits.ascend) (late_timed clock vb.waiting))
-      (λ r' cl' agrees' known' has'. settles_both (with_node_at w n node1) r' n v t u (settles commits n v (with_node_at w n node1) r' cl' node1 t.vb agrees' known' has'))
+      (expires_from (late clock vb.waiting) (unresolved vb) node w r cl ticks shows (λ y i. (in_late clock vb.waiting y i).1) agrees known has active (ascend_late clock vb.waiting (mine w r cl n v node vb agrees known has).sound.waits.ascend) (late_timed clock vb.waiting))
+      (λ r' cl' same agrees' known' has'. settles_both (with_node_at w n node1) r' n v t u (settles commits n v (with_node_at w n node1) r' cl' node1 t.vb agrees' known' has'))
 
 -- the failover log stays
 aborts_log : (todo : List Waiting) (s : Resolving) → (fold aborted s todo).vb.log ≡ s.vb.log

@@ -9,7 +9,8 @@ use Rattle.transcript_law.proofs.{invariant.OneLink.{disk_here, disk_there}, inv
 use Rattle.{branch_model.specs.Journals.{place_of}, cluster_model.specs.Clusters.{Disk, Fits, IsSpot}, node_core.specs.Flushing.{FlushResult, flush_if, flush_result}, node_world.specs.Nodes.{flush_line, with_kept, with_posts, written}}
 use Rattle.{transcript_law.specs.Chronicles.{DiskKnown, Flushing, after_batch, after_done, known_log, known_batch, with_disk}, transcript_law.specs.Lawfulness.{LawfulBatch}, std.specs.Prelude.{max, nat_le, nat_lt}, std.specs.Str.{bytes_eq}}
 use Rattle.node_core.specs.Calls.{own_lines}
-use Rattle.transcript_law.proofs.answers.{Committed.{AllHowTold, all_told}, Explained.{explained}}
+use Rattle.transcript_law.proofs.answers.{Claims.{ClaimAt, call_claims, changes_claim}, Committed.{AllHowTold, all_claimed, all_told}, Explained.{explained}}
+use Rattle.{durability.specs.declared.waiting.Waiting.{Waiting}, transcript_law.specs.Feeding.{client_in}, vb_types.specs.declared.change.Pend.{Pend}}
 use Rattle.transcript_law.proofs.{links.Behind.{nothing_beside, posts_behind}, invariant.Ranged.{IsRanged, NodeRanged, NodeRangedIf}, verbs.Settling.{SettlesOn, Steady, changes_quiet, changes_told, settled_told, settles}}
 use Rattle.vb_calls.specs.Settling.{Resolving, also_resolved, settled, unresolved}
 use Rattle.vb_calls.specs.Flushes.{batch_of_reply, finish_job, take_job, taken_job, took, took_nothing}
@@ -24,6 +25,7 @@ use Rattle.vbucket.specs.{Laws.{AllSpans, Follow}, Wholes.{BatchesAreWhole}}
 use Rattle.branch_model.proofs.{Images.{plain_stands}, Lasts.{kept_in_filter, rises_filter}}
 use Rattle.std.proofs.lemmas.Bool.{and_from, le-leb, lt-ltb}
 use Rattle.transcript_law.proofs.{disks.Batches.{at_end, fewer, saved_sound, some_items, span_found}, invariant.Bounded.{weighs_upto}}
+use Rattle.transcript_law.proofs.invariant.Owing.{later_same}
 
 -- a vBucket that is there, at a node that is running, and its journal
 pub record There (w : PlainWorld) (r : Chronicle) (n v : ℕ) : Type 0 where
@@ -74,21 +76,23 @@ module _ (w : PlainWorld) (r : Chronicle) (n v : ℕ) (there : There w r n v) wh
   step_agrees states shelves taken saved d s =
       let node' : PlainNode = with_kept node (states, shelves) in let w' : PlainWorld = with_node_at w n node' in let r' : Chronicle = with_disk r n v d in let vb' : Plain = moved taken saved in let now : Cluster = s.cluster.now in
       let became = node_changed w n v node node' vb' at s.vbs s.others refl in
-      written_agrees w w' r r' c now n v vb vb' a vb_is became (record { role = refl; wants = refl }) s.cluster.nodes refl (λ j. refl) (λ j q. refl) (λ j. refl) (λ x i k has s. refl)
+      written_agrees w w' r r' c now n v vb vb' a vb_is became (record { role = refl; wants = refl; fewer = λ x p o. (o.0, record { among = o.1.among; entry = o.1.entry; same = o.1.same }) }) s.cluster.nodes refl (λ j. refl) (λ j q. refl) (λ j. refl) (λ x i k has s. refl)
       s.cluster.sound s.cluster.tree (subst (λ m. VbAgrees r' n v m vb') (sym (s.cluster.nodes k)) (record {
         kept = record { sound = s.sound; spanned = mine.spanned; keeps = mine.keeps; told = mine.told; member = record { active = mine.member.active; position = mine.member.position; log = mine.member.log }; branch = mine.branch; holds = mine.holds };
         role = mine.role;
         opened = mine.opened;
         writes = mine.writes;
         counts = mine.counts;
+        lefts = mine.lefts;
+        times = mine.times;
       }))
       (λ m q o. subst (λ x. AgreesAt r' m q x (vb_of w m q)) (sym (s.cluster.nodes (seat m q))) (told_disk r n v d m q (c.nodes (seat m q)) (vb_of w m q) (λ e. o) (a.vbs m q)))
       (subst (λ y. DiskIsIf y (now.disks k) (shelf_of w' n v) (Some vb')) (sym (at_here r.disk_at n v d)) (subst (λ y. DiskIsIf d y (shelf_of w' n v) (Some vb')) (sym s.cluster.here)
       (subst (λ y. DiskIsIf d s.disk y (Some vb')) (sym (ap (λ b. shelf_in (if b then Some node' else w.nodes n) v) (eq-eqb n n refl) ∙ s.stands)) s.written)))
       (λ m q o. (at_there r.disk_at n v d m q o, s.cluster.there (seat m q) (seats_apart m q n v o)))
-      (written_rests w w' r r' c now n v vb vb' a vb_is became (record { role = refl; wants = refl }) s.cluster.nodes refl (λ j. refl) (λ j q. refl) (λ j. refl) (λ x i k has s. refl) (λ j. refl)
+      (written_rests w w' r r' c now n v vb vb' a vb_is became (record { role = refl; wants = refl; fewer = λ x p o. (o.0, record { among = o.1.among; entry = o.1.entry; same = o.1.same }) }) s.cluster.nodes refl (λ j. refl) (λ j q. refl) (λ j. refl) (λ x i k has s. refl) (λ j. refl)
       (ap (λ (t : DiskKnown). t.there) (at_here r.disk_at n v d) ∙ s.written.there ∙ sym disk.there) (λ m q o. (row_there r n v d m q o, s.cluster.there (seat m q) (seats_apart m q n v o))))
-      (λ m d. refl) (λ d k has. refl)
+      (λ m d. refl) (λ d k has. refl) (later_same _ _ refl refl)
 
 module _ (stays : StaysSound) (steady : Steady) (wholes : BatchesAreWhole) (w : PlainWorld) (r : Chronicle) (n v : ℕ) (there : There w r n v) (ranged : NodeRanged n there.node) where
   open there use {c, a, node, at, vb, known, shelf, kept}
@@ -381,11 +385,17 @@ module _ (stays : StaysSound) (steady : Steady) (wholes : BatchesAreWhole) (w : 
     abbrev done_lines : List Event → FlushResult
     done_lines lines = record { events = lines; answer = Answer.Number saved_now; resolved = done_reply.resolved }
 
+    abbrev Claim : ℕ → Waiting → Pend → Type 0
+    Claim = ClaimAt r n node.clients
+
     done_agrees : GoesOn saved_as_known as_told (outcome ((last_states, with_shelf_at sh0 v done_shelf), Flushed.Done (Some done_reply)))
     done_agrees = subst (λ (lines : List Event). let x = with_posts (done_lines lines) last_node in GoesOn saved_as_known as_told (with_node_at w n x.0, x.1)) (sym told_is)
         (posts_behind stays steady w saved_as_known n last_node (done_lines (changes_told n v branch_is settles_on.cs)) as_told nothing_beside (record { clock = ranged.clock; clients = ranged.clients; own = ranged.own; runs = ranged.runs })
-        (subst (λ ls. AllHowTold n (after_lines saved_as_known ls).made done_reply.resolved) told_is
-        (all_told saved_as_known n v done_reply.branch done_reply.changes vb (VbCall.FlushDone seq) done_reply.resolved (explained vb (VbCall.FlushDone seq) (mine w r n v there).sound tt)))
+        (all_claimed n (after_lines saved_as_known (changes_told n v branch_is settles_on.cs)).made Claim (ClaimAt (after_lines saved_as_known (changes_told n v branch_is settles_on.cs)) n node.clients) done_reply.resolved
+        (changes_claim saved_as_known n v branch_is settles_on.cs node.clients)
+        (subst (λ ls. AllHowTold n (after_lines saved_as_known ls).made Claim done_reply.resolved) told_is
+        (all_told saved_as_known n v done_reply.branch Claim done_reply.changes vb (VbCall.FlushDone seq) done_reply.resolved (call_claims w r n v vb (VbCall.FlushDone seq) node.clients tt a.clients.owed (ap (λ o. vb_in o v) at ∙ known) (λ q. ap (λ o. client_in o q) at))
+        (explained vb (VbCall.FlushDone seq) (mine w r n v there).sound tt))))
         (changes_quiet n v branch_is settles_on.cs) done_goes_on)
 
   done_by : (flush : Flush) → shelf.flush ≡ flush → (let y = outcome (after_job (finish_job v flush) st0 sh0) in GoesOn (done_from y.1.answer) as_told y)

@@ -9,6 +9,7 @@ use Rattle.transcript_law.proofs.{invariant.Agreement.{shelf_of}, disks.Disks.{d
 use Rattle.transcript_law.proofs.{invariant.OneLink.{carries_over, carries_same}, links.Cutting.{IsClosable, closable, unlinking}, verbs.NodeLines.{as_told, at_node, changed_agrees}, links.Turning.{NoneFeeds, not_ended, told_by}}
 use Rattle.transcript_law.proofs.{invariant.{ClientsKept.{link_none}, LinkFeeds.{link_feeds}}, links.Turning.{told_alike, differ_told}}
 use Rattle.{node_world.specs.World.{cut_step}, transcript_law.specs.Feeding.{HasOpen, IsOfClient}, vb_events.specs.declared.event.EndReason.TheVariants.{Cut}, vb_events.specs.declared.event.Event.TheVariants.{Ended}}
+use Rattle.transcript_law.proofs.invariant.Owing.{later_same}
 
 -- a link is cut
 
@@ -107,7 +108,7 @@ module _ (w w' : PlainWorld) (r : Chronicle) (c : Cluster) (n v id : ℕ) (pv pv
   streams_agree = changed_agrees w w' r r c n v pv pv' a known became (kept_streams id pv pv' changed) refl (λ k. refl) (λ k q. refl) (λ k. refl)
       (λ x i k has s. changed.others k (λ e. apart x i (subst (λ j. HasOpen v j x.server.streams) e has) s)) here (λ m q other. a.vbs m q) (λ m q. refl) shelf
       (disk_same (Some pv) (Some pv') refl refl refl (ap parts_of changed.alone)) (λ m. refl) (λ m q other. refl)
-      (λ m d. refl) (λ d k has. changed.others k (λ e. alone d (subst (IsOfClient w n d v) e has)))
+      (λ m d. refl) (λ d k has. changed.others k (λ e. alone d (subst (IsOfClient w n d v) e has))) (later_same _ _ refl refl)
 
 -- links that are told which streams ended, without one of them
 out_told : (n v : ℕ) (ids : List ℕ) (k : ℕ) (links : List PlainLink) → row_out link_number k (links_ended n v ids links) ≡ links_ended n v ids (row_out link_number k links)

@@ -1,25 +1,28 @@
 -- lines of one node that tell of no branch
 use Rattle.std.specs.Prelude.{◌≡◌, ◌≤◌, ◌∷◌, ◌++◌, ◌==◌, if◌then◌else◌}
+use Rattle.transcript_law.proofs.invariant.Clocking.{carries_clock}
 use Rattle.transcript_law.proofs.Words.{ℕ, Bool, true, false, List, refl, ap, sym, ◌∙◌, subst, inl, arith, IsIn, hist, Option, Some, None, is_some, flat_map, eqb-true}
 use Rattle.transcript_law.proofs.Words.{eqb-false, eq-eqb, ne_eqb, Frame, Cause, Member, Cluster, VbReply, Plain, is_active, States, with_vb_at, AdminCall, admin_result, Told, PlainLink}
 use Rattle.transcript_law.proofs.Words.{link_number, producer_node, consumer_node, PlainNode, PlainWorld, Outcome, with_node_at, with_states, branch_of_line, empty_node, done, refusal, first_cause}
 use Rattle.transcript_law.proofs.Words.{refused_or, node_outcome, on_node, clock_at, vb_in, Role, Chronicle, after_role, after_lines, upto, fork_of, holds_same, [], IsNew, Position, complete_position, last_seq, option_map, parent_of, with_at}
 use Rattle.transcript_law.proofs.Words.{stream_at, ⊎_elim, row_at, row_put, with_link, on_link, link_outcome, with_links, LinkResult, StreamName, call_told, node_step, front, told}
-use Rattle.transcript_law.proofs.invariant.Tables.{at_here, at_there, if_known, used_before}
+use Rattle.transcript_law.proofs.invariant.Tables.{none_there, at_here, at_there, if_known, used_before}
 use Rattle.transcript_law.specs.Lawfulness.{LawfulBranch, fork_in, newest_of}
-use Rattle.transcript_law.proofs.invariant.Wholes.{WholeTo}
+use Rattle.transcript_law.proofs.{invariant.Lefts.{LeftUpTo}, invariant.Wholes.{WholeTo}}
 use Rattle.transcript_law.proofs.links.Followed.{fork_low}
 use Rattle.transcript_law.proofs.invariant.Seats.{seat, seats_apart}
-use Rattle.transcript_law.proofs.invariant.Agreement.{all_rise, CountsAre, CountsIf, counts_if, vb_of, Writes, WritesIf, own_history, VbHeld, VbHolds, VbAgrees, AgreesAt, consumer_seat, producer_seat, LinkAgrees, Agrees, GoesOn, LineGoes, idle, vb_contents, vb_row, VbRow, VbTold, VbIsIf, BranchAgrees, IsLink, LinksDiffer, AgreesIn}
+use Rattle.transcript_law.proofs.invariant.Agreement.{clock_of, node_known, TimesAre, TimesIf, times_if, all_rise, CountsAre, CountsIf, counts_if, vb_of, Writes, WritesIf, own_history, VbHeld, VbHolds, VbAgrees, AgreesAt, consumer_seat, producer_seat, LinkAgrees, Agrees, GoesOn, LineGoes, idle, vb_contents, vb_row, VbRow, VbTold, VbIsIf, BranchAgrees, IsLink, LinksDiffer, AgreesIn}
 use Rattle.transcript_law.specs.Feeding.{HasOpen, IsOfClient, client_in}
-use Rattle.transcript_law.proofs.invariant.{Agreement.{Wants}, Carried.{all_there}, ClientsKept.{AllIn, ConnsKept, Every, GoesOver, all_kept, clients_kept, goes_agreed, goes_agreed_at, spot_at}, LinkFeeds.{feeds_same}}
-use Rattle.transcript_law.proofs.invariant.Carrying.{Relinked, Changed}
+use Rattle.transcript_law.proofs.invariant.{Agreement.{Wants}, Carried.{all_there}, ClientsKept.{AllIn, ConnsKept, Every, GoesOver, all_kept, clients_kept, every_owed, fewer_at, fewer_now, goes_agreed, goes_agreed_at, spot_at}, LinkFeeds.{feeds_same}}
+use Rattle.transcript_law.proofs.invariant.Carrying.{Reclocked, Relinked, Changed}
 use Rattle.transcript_law.proofs.invariant.Carried.{kept_same, link_carried, consumer_made, branches_again, KeptVb, places, all_vbs, ids_same}
 use Rattle.transcript_law.proofs.invariant.LinkRows.{found_is_link, put_same as put_link_same}
 use Rattle.transcript_law.proofs.{invariant.OneLink.{carries_rests, carries_same}, invariant.Resting.{ends_again, rests_by}}
-use Rattle.{node_world.specs.Nodes.{if_up}, node_world.specs.Worlds.{on_made}, node_world.specs.declared.arm.Arm.{Arm}, transcript_law.specs.Chronicles.{DiskKnown, alone, no_arm, snap_in_role}}
+use Rattle.{node_world.specs.Nodes.{if_up}, node_world.specs.Worlds.{on_made}, node_world.specs.declared.arm.Arm.{Arm}, transcript_law.specs.Chronicles.{CountsKnown, after_clock, DiskKnown, alone, no_arm, snap_in_role}}
 use Rattle.transcript_law.proofs.{invariant.Agreement.{AwayAt, BookAgrees, IsAway, Power, PowerIsIf, RestsIn, is_down, power_of}, invariant.Carrying.{Rearmed, SameClients, SamePowers, same_clients}, disks.Disks.{beside_in, power_in}}
 use Rattle.transcript_law.proofs.{invariant.Agreement.{DiskIsIf, shelf_of, top}, disks.Disks.{disk_same, same_parts}, Words.{SoundCluster, shelf_in}}
+use Rattle.transcript_law.proofs.invariant.Owing.{Later}
+use Rattle.transcript_law.proofs.invariant.Owing.{later_same}
 
 -- a line that tells nothing beside its lines
 abbrev pub as_told : Chronicle → Chronicle
@@ -96,7 +99,7 @@ node_of_same_vbs w n node node' known same shelves power =
     }
 
 -- a node with another arm
-pub rearmed_node : (w : PlainWorld) (n : ℕ) (node : PlainNode) (arm : Arm) → w.nodes n ≡ Some node → Rearmed w (with_node_at w n (record node { arm = arm })) n (record { arm = node.arm; off = node.off }) arm
+pub rearmed_node : (w : PlainWorld) (n : ℕ) (node : PlainNode) (arm : Arm) → w.nodes n ≡ Some node → Rearmed w (with_node_at w n (record node { arm = arm })) n (record { arm = node.arm; off = node.off; clock = node.clock }) arm
 rearmed_node w n node arm known = record {
   before = ap power_in known;
   armed = ap (λ b. power_in (if b then Some (record node { arm = arm }) else w.nodes n)) (eq-eqb n n refl);
@@ -104,6 +107,19 @@ rearmed_node w n node arm known = record {
   vbs = λ m q. at_node w n (record node { arm = arm }) (λ i j o. o ≡ vb_of w i j) (λ j. ap (λ o. vb_in o j) (sym known)) (λ i j ne. refl) m q;
   shelves = λ m q. shelves_again w n node (record node { arm = arm }) (λ j. refl) m q ∙ shelves_put w n node known m q;
   clients = clients_again w n node (record node { arm = arm }) known (λ c. refl);
+  uuids = refl;
+  linked = refl;
+}
+
+-- a node whose clock shows another time
+reclocked_node : (w : PlainWorld) (n : ℕ) (node : PlainNode) (nanos : ℕ) → w.nodes n ≡ Some node → Reclocked w (with_node_at w n (record node { clock = nanos })) n (record { arm = node.arm; off = node.off; clock = node.clock }) nanos
+reclocked_node w n node nanos known = record {
+  before = ap power_in known;
+  shows = ap (λ b. power_in (if b then Some (record node { clock = nanos }) else w.nodes n)) (eq-eqb n n refl);
+  others = λ m ne. ap (λ b. power_in (if b then Some (record node { clock = nanos }) else w.nodes m)) (ne_eqb m n ne);
+  vbs = λ m q. at_node w n (record node { clock = nanos }) (λ i j o. o ≡ vb_of w i j) (λ j. ap (λ o. vb_in o j) (sym known)) (λ i j ne. refl) m q;
+  shelves = λ m q. shelves_again w n node (record node { clock = nanos }) (λ j. refl) m q ∙ shelves_put w n node known m q;
+  clients = clients_again w n node (record node { clock = nanos }) known (λ c. refl);
   uuids = refl;
   linked = refl;
 }
@@ -165,7 +181,7 @@ module _ (w : PlainWorld) (r : Chronicle) (n : ℕ) (c : Cluster) (a : AgreesIn 
       [ true ↦ λ e. ap (λ o. client_in o d) (sym none ∙ ap w.nodes (sym (eqb-true m n e))) | false ↦ λ e. refl ] refl
 
   abbrev new_power : Power
-  new_power = record { arm = empty_node.arm; off = None }
+  new_power = record { arm = empty_node.arm; off = None; clock = 0 }
 
   -- the power of a node, by whether it is the one that is made
   power_by : (P : ℕ → Option Power → Type 0) → P n (Some new_power) → ((m : ℕ) → P m (power_of w m)) → (m : ℕ) → P m (power_of made m)
@@ -181,7 +197,7 @@ module _ (w : PlainWorld) (r : Chronicle) (n : ℕ) (c : Cluster) (a : AgreesIn 
   made_power : PowerIsIf (r.arm_at n) (Some new_power)
   made_power =
       let told : r.arm_at n ≡ no_arm = subst (PowerIsIf (r.arm_at n)) no_power (a.powers n) in
-      record { fuse = ap (λ t. t.fuse) told; out = ap (λ t. t.out) told; down = ap (λ t. t.down) told; may_fire = tt; listed_so = λ books e. let z : None ≡ Some books = e in cc }
+      record { fuse = ap (λ t. t.fuse) told; out = ap (λ t. t.out) told; down = ap (λ t. t.down) told; zero = λ books e. refl; may_fire = tt; listed_so = λ books e. let z : None ≡ Some books = e in cc }
 
   made_aways : (m q : ℕ) → vb_of made m q ≡ None → AwayAt (power_of made m) q (shelf_of made m q) (r.role_at m q) (r.disk_at m q) (c.nodes (seat m q)) (c.disks (seat m q))
   made_aways m q e = let x = a.aways m q (sym (made_vbs m q) ∙ e) in record {
@@ -197,9 +213,10 @@ module _ (w : PlainWorld) (r : Chronicle) (n : ℕ) (c : Cluster) (a : AgreesIn 
   }
 
   made_agrees : AgreesIn idle made r c
-  made_agrees = carries_rests idle idle w made r r.arm_at c a made_clients made_vbs made_shelves refl refl
+  made_agrees = carries_rests idle idle w made r r.arm_at r.clock_at c a made_clients made_vbs made_shelves refl refl
       (record {
         powers = power_by (λ m p. PowerIsIf (r.arm_at m) p) made_power a.powers;
+        clocks = power_by (λ m p. r.clock_at m ≡ clock_of p) (a.clocks n ∙ ap clock_of no_power) a.clocks;
         aways = made_aways;
         downs = λ m q. record {
           vb_none = λ d. made_vbs m q ∙ (a.downs m q).vb_none (sym (made_down m) ∙ d);
@@ -213,15 +230,6 @@ module _ (w : PlainWorld) (r : Chronicle) (n : ℕ) (c : Cluster) (a : AgreesIn 
 pub node_goes : (w : PlainWorld) (r : Chronicle) (n : ℕ) → Agrees w r → GoesOn r as_told (node_step w n)
 node_goes w r n a = elim (w.nodes n) as (λ o. w.nodes n ≡ o → GoesOn r as_told (refused_or (first_cause ((is_some o, Cause.NodeExists) ∷ [])) w (with_node_at w n empty_node, done [])))
     [ Some node ↦ λ e. (tt, a) | None ↦ λ e. (tt, (a.0, made_agrees w r n a.0 a.1 e)) ] refl
-
--- a line of a node that changes no vBucket
-pub kept_on : (w : PlainWorld) (r : Chronicle) (n : ℕ) (node node' : PlainNode) → Agrees w r → w.nodes n ≡ Some node → ((q : ℕ) → node'.vbs q ≡ node.vbs q) → ((q : ℕ) → node'.shelves q ≡ node.shelves q)
-    → beside_in (Some node') ≡ beside_in (Some node) → GoesOn r as_told (with_node_at w n node', done [])
-kept_on w r n node node' a known same shelves power = (tt, agrees_same w (with_node_at w n node') r a (node_of_same_vbs w n node node' known same shelves power))
-
--- its clock shows another time
-pub clock_goes : (w : PlainWorld) (r : Chronicle) (n nanos : ℕ) (node : PlainNode) → Agrees w r → w.nodes n ≡ Some node → GoesOn r as_told (with_node_at w n (clock_at nanos node).0, (clock_at nanos node).1)
-clock_goes w r n nanos node a known = kept_on w r n node (clock_at nanos node).0 a known (λ q. refl) (λ q. refl) refl
 
 -- a line of a node, by whether the node is made
 pub on_made_by : (P : Outcome → Type 0) (w : PlainWorld) (n : ℕ) (f : PlainNode → PlainNode × Told) → P (w, refusal Cause.UnknownNode)
@@ -240,6 +248,11 @@ on_node_by P w n f none down there = on_made_by P w n (if_up f) none (λ node e.
 pub on_node_goes : (w : PlainWorld) (r : Chronicle) (n : ℕ) (f : PlainNode → PlainNode × Told) → Agrees w r
     → ((node : PlainNode) → w.nodes n ≡ Some node → is_some node.off ≡ false → GoesOn r as_told (with_node_at w n (f node).0, (f node).1)) → GoesOn r as_told (on_node w n f)
 on_node_goes w r n f a there = on_node_by (GoesOn r as_told) w n f (tt, a) (λ node e. refused_on w r n node Cause.NodeDown a e) there
+
+-- a node's clock shows another time
+pub clock_goes : (w : PlainWorld) (r : Chronicle) (n nanos : ℕ) → Agrees w r → GoesOn r (λ told. after_clock told n nanos (on_node w n (clock_at nanos)).1.answer) (on_node w n (clock_at nanos))
+clock_goes w r n nanos a = on_node_by (λ x. GoesOn r (λ told. after_clock told n nanos x.1.answer) x) w n (clock_at nanos) (tt, a) (λ node e. refused_on w r n node Cause.NodeDown a e)
+    (λ node e up. (tt, (a.0, carries_clock idle w (with_node_at w n (record node { clock = nanos })) r a.0 n nanos (record { arm = node.arm; off = node.off; clock = node.clock }) a.1 (reclocked_node w n node nanos e) (none_there node.off up))))
 
 -- a line for a link, by whether it is open, and by whether the node at one of its ends, which carries it out, is made
 pub on_link_by : (P : Outcome → Type 0) (w : PlainWorld) (l : ℕ) (end : PlainLink → ℕ) (f : PlainLink → PlainNode → PlainNode × LinkResult) → P (w, refusal Cause.LinkClosed)
@@ -276,9 +289,9 @@ more_used w r more (c, a) = (
     branches = branches_again refl refl (λ u e. used_before u w.uuids more e) a.branches;
     links = λ x i. let l = a.links x i in record { follower = l.follower; follower_is = l.follower_is; follows = l.follows; acks = l.acks; dial = l.dial; talk = l.talk };
     differ = a.differ;
-    clients = clients_kept w (record { nodes = w.nodes; uuids = w.uuids ++ more; links = w.links }) r r 0 a.clients (all_there idle w r c a)
-        (all_kept w (record { nodes = w.nodes; uuids = w.uuids ++ more; links = w.links }) r r (λ m d. refl) (λ m d. refl) refl (λ n v. refl) (λ n v. refl)) (λ k n v id has. inl has);
-    rests = record { powers = a.powers; aways = a.aways; downs = a.downs; ends = λ x i. let e = a.ends x i in record { producer = e.producer; consumer = e.consumer; number = e.number }; small = a.small };
+    clients = let used : PlainWorld = record { nodes = w.nodes; uuids = w.uuids ++ more; links = w.links } in let kept = all_kept w used r r (λ m d. refl) (λ m d. refl) refl (λ n v. refl) (λ n v. refl) in
+        clients_kept w used r r 0 a.clients (all_there idle w r c a) kept (λ k n v id has. inl has) (every_owed w used r r kept (later_same _ _ refl refl) (λ n v x p o. o) a.clients.owed);
+    rests = record { powers = a.powers; clocks = a.clocks; aways = a.aways; downs = a.downs; ends = λ x i. let e = a.ends x i in record { producer = e.producer; consumer = e.consumer; number = e.number }; small = a.small };
   },
 )
 
@@ -326,13 +339,15 @@ vb_told r r' n v m (Some vb) row writes front a = record {
     told = subst (λ (t : VbRow). VbTold t.contents m.held vb.log vb.position) (sym row) a.told;
     member = a.member;
     branch = subst (λ (t : VbRow). BranchAgrees t.contents.branch m.br) (sym row) a.branch;
-    holds = holds_same vb.floor (WholeTo vb.floor vb.spans vb.position) vb.position.at m.held (own_history r n v) (own_history r' n v) (all_rise a.kept) (front vb a)
+    holds = holds_same 0 (WholeTo vb.floor vb.spans vb.position) vb.position.at m.held (own_history r n v) (own_history r' n v) (all_rise a.kept) (front vb a)
         (λ i w. let low : fork_of vb.position ≤ vb.position.at = fork_low vb.position a.sound.within.0 in let k : i ≤ fork_of vb.position = w.1 in omega arith) a.holds;
   };
   role = ap (λ (t : VbRow). t.role) row ∙ a.role;
   opened = ap (λ (t : VbRow). t.opened) row ∙ a.opened;
   writes = writes (is_active vb.role) a.writes;
   counts = subst (λ (t : VbRow). CountsIf (is_active vb.role) t.counts vb.others vb.acks) (sym row) a.counts;
+  lefts = subst (λ (t : VbRow). is_active vb.role ≡ true → LeftUpTo t.counts.risen vb.position.at vb.waiting) (sym row) a.lefts;
+  times = subst (λ (t : VbRow). TimesIf (is_active vb.role) t.counts.times vb.waiting) (sym row) a.times;
 }
 
 -- a line that tells of a vBucket's role tells nothing of another one
@@ -341,7 +356,7 @@ role_row r n v role m q other i = record (vb_row r m q) {
   role = at_there r.role_at n v (Some (Some role)) m q other i;
   opened = at_there r.open_at n v false m q other i;
   contents = record (vb_contents r m q) { snap = at_there r.snap_at n v (snap_in_role role (r.held n v) (r.snap_at n v)) m q other i };
-  counts = at_there r.counts_at n v alone m q other i;
+  counts = at_there r.counts_at n v (alone (last_seq 0 (r.held n v))) m q other i;
 }
 
 pub role_there : (r : Chronicle) (n v : ℕ) (role : Role) (m q : ℕ) (k : Member) (o : Option Plain) → (m ≡ n → q ≡ v → ⊥) → AgreesAt r m q k o → AgreesAt (after_role r n v role) m q k o
@@ -367,9 +382,9 @@ branch_of r n v uuid m vb new a = record {
   leaves = if_known (option_map (fork_in vb.position.at) (r.snap_at n v)) (fork_of vb.position) (ap (option_map (fork_in vb.position.at)) a.snap);
 }
 
--- a vBucket in the role that was told: where it is active its node alone is the chain
+-- a vBucket in the role that was told: where it is active its node alone is the chain, and the prepares that wait were left
 pub role_here : (r : Chronicle) (n v : ℕ) (role : Role) (m : Member) (vb : Plain) → vb.role ≡ role → vb.spans.current ≡ None
-    → (is_active role ≡ true → Writes r n v m.br × CountsAre (with_at r.counts_at n v alone n v) vb.others vb.acks × (vb.position ≡ complete_position vb.position.at)) → VbHolds r n v m vb
+    → (is_active role ≡ true → Writes r n v m.br × CountsAre (with_at r.counts_at n v (alone (last_seq 0 (r.held n v))) n v) vb.others vb.acks × (vb.position ≡ complete_position vb.position.at) × LeftUpTo vb.position.at vb.position.at vb.waiting × TimesAre (with_at r.counts_at n v (alone (last_seq 0 (r.held n v))) n v).times vb.waiting) → VbHolds r n v m vb
     → VbAgrees (after_role r n v role) n v m vb
 role_here r n v role m vb is sealed leads a = record {
   kept = subst (λ s. VbHeld r.tree (record (vb_contents r n v) { snap = s }) m vb) (sym (snap_here r n v role m vb a (λ e. (leads e).2))) a;
@@ -377,6 +392,9 @@ role_here r n v role m vb is sealed leads a = record {
   opened = at_here r.open_at n v false ∙ sym (ap is_some sealed);
   writes = elim (is_active vb.role) as (λ b. b ≡ is_active role → WritesIf b r n v m.br) [ true ↦ λ e. (leads (sym e)).0 | false ↦ λ e. tt ] (ap is_active is);
   counts = counts_if (λ e. (leads (sym (ap is_active is) ∙ e)).1);
+  lefts = λ e. subst (λ (t : CountsKnown). LeftUpTo t.risen vb.position.at vb.waiting) (sym (at_here r.counts_at n v (alone (last_seq 0 (r.held n v)))))
+      (subst (λ k. LeftUpTo k vb.position.at vb.waiting) (sym (ap (last_seq 0) a.held ∙ a.high)) (leads (sym (ap is_active is) ∙ e)).3);
+  times = times_if (λ e. (leads (sym (ap is_active is) ∙ e)).4);
 }
 
 -- a vBucket that changed at links that are as they were: it keeps what its links speak of, and the streams that they have open
@@ -410,7 +428,7 @@ module _ (w w' : PlainWorld) (r r' : Chronicle) (c c' : Cluster) (n v : ℕ) (vb
       (a.links x i)
 
   -- what rests beside it
-  pub written_rests : ((m : ℕ) → r'.arm_at m ≡ r.arm_at m) → (r'.disk_at n v).there ≡ (r.disk_at n v).there → ((m q : ℕ) → (m ≡ n → q ≡ v → ⊥) → (vb_row r' m q ≡ vb_row r m q) × (c'.disks (seat m q) ≡ c.disks (seat m q))) → RestsIn w' r' c'
+  pub written_rests : ((m : ℕ) → node_known r' m ≡ node_known r m) → (r'.disk_at n v).there ≡ (r.disk_at n v).there → ((m q : ℕ) → (m ≡ n → q ≡ v → ⊥) → (vb_row r' m q ≡ vb_row r m q) × (c'.disks (seat m q) ≡ c.disks (seat m q))) → RestsIn w' r' c'
   written_rests arms same rows = rests_by w w' r r' c c' a.rests became.powers arms
       (λ m q none. ⊎_elim (λ s. let z : Some vb' ≡ None = sym (put_is m q s.0 s.1) ∙ none in cc)
       (λ o. record { vb = sym (became.there m q o) ∙ none; shelf = became.shelves m q o; row = (rows m q o).0; member = nodes (seat m q); disk = (rows m q o).1 }) (places n v m q))
@@ -446,8 +464,8 @@ module _ (w w' : PlainWorld) (r r' : Chronicle) (c c' : Cluster) (n v : ℕ) (vb
 
   pub written_agrees : SoundCluster top c' → c'.tree ≡ c.tree → VbAgrees r' n v (c'.nodes (seat n v)) vb' → ((m q : ℕ) → (m ≡ n → q ≡ v → ⊥) → AgreesAt r' m q (c'.nodes (seat m q)) (vb_of w m q))
       → DiskIsIf (r'.disk_at n v) (c'.disks (seat n v)) (shelf_of w' n v) (Some vb') → ((m q : ℕ) → (m ≡ n → q ≡ v → ⊥) → (r'.disk_at m q ≡ r.disk_at m q) × (c'.disks (seat m q) ≡ c.disks (seat m q))) → RestsIn w' r' c'
-      → ((m d : ℕ) → r'.clients_at m d ≡ r.clients_at m d) → ((d k : ℕ) → IsOfClient w n d v k → stream_at k vb'.streams ≡ stream_at k vb.streams) → AgreesIn idle w' r' c'
-  written_agrees sound ctree here elsewhere disk disks rests clients stands = record {
+      → ((m d : ℕ) → r'.clients_at m d ≡ r.clients_at m d) → ((d k : ℕ) → IsOfClient w n d v k → stream_at k vb'.streams ≡ stream_at k vb.streams) → Later r r' → AgreesIn idle w' r' c'
+  written_agrees sound ctree here elsewhere disk disks rests clients stands last = record {
     rests = rests;
     sound = sound;
     vbs = all_vbs w w' n v vb' (λ m q o. AgreesAt r' m q (c'.nodes (seat m q)) o) became.here became.there here elsewhere;
@@ -456,7 +474,8 @@ module _ (w w' : PlainWorld) (r r' : Chronicle) (c c' : Cluster) (n v : ℕ) (vb
     branches = branches_again ctree tree (ids_same became.uuids) a.branches;
     links = λ x i. linked x (subst (IsLink x) became.linked i);
     differ = subst LinksDiffer (sym became.linked) a.differ;
-    clients = clients_kept w w' r r' 0 a.clients (all_there idle w r c a) (written_conns clients stands here elsewhere) (λ k m q id has. inl (feeds_same w w' became.linked k m q id has));
+    clients = clients_kept w w' r r' 0 a.clients (all_there idle w r c a) (written_conns clients stands here elsewhere) (λ k m q id has. inl (feeds_same w w' became.linked k m q id has))
+        (every_owed w w' r r' (written_conns clients stands here elsewhere) last (fewer_at w w' n v became.there (fewer_now w w' n v vb vb' known became.here kept.fewer)) a.clients.owed);
   }
 
 -- the same, where the cluster is as it was, and nothing was written down
@@ -464,11 +483,11 @@ pub changed_agrees : (w w' : PlainWorld) (r r' : Chronicle) (c : Cluster) (n v :
     → r'.tree ≡ r.tree → ((k : ℕ) → r'.dial_of k ≡ r.dial_of k) → ((k q : ℕ) → r'.stream_of (StreamName.Link k) q ≡ r.stream_of (StreamName.Link k) q) → ((k : ℕ) → r'.point_of k ≡ r.point_of k)
     → ((x : PlainLink) → IsLink x w.links → (k : ℕ) → HasOpen v k x.server.streams → producer_node x ≡ n → stream_at k vb'.streams ≡ stream_at k vb.streams)
     → VbAgrees r' n v (c.nodes (seat n v)) vb' → ((m q : ℕ) → (m ≡ n → q ≡ v → ⊥) → AgreesAt r' m q (c.nodes (seat m q)) (vb_of w m q))
-    → ((m q : ℕ) → r'.disk_at m q ≡ r.disk_at m q) → shelf_of w' n v ≡ shelf_of w n v → (DiskIsIf (r.disk_at n v) (c.disks (seat n v)) (shelf_of w n v) (Some vb) → DiskIsIf (r.disk_at n v) (c.disks (seat n v)) (shelf_of w n v) (Some vb')) → ((m : ℕ) → r'.arm_at m ≡ r.arm_at m)
+    → ((m q : ℕ) → r'.disk_at m q ≡ r.disk_at m q) → shelf_of w' n v ≡ shelf_of w n v → (DiskIsIf (r.disk_at n v) (c.disks (seat n v)) (shelf_of w n v) (Some vb) → DiskIsIf (r.disk_at n v) (c.disks (seat n v)) (shelf_of w n v) (Some vb')) → ((m : ℕ) → node_known r' m ≡ node_known r m)
     → ((m q : ℕ) → (m ≡ n → q ≡ v → ⊥) → vb_row r' m q ≡ vb_row r m q)
-    → ((m d : ℕ) → r'.clients_at m d ≡ r.clients_at m d) → ((d k : ℕ) → IsOfClient w n d v k → stream_at k vb'.streams ≡ stream_at k vb.streams) → AgreesIn idle w' r' c
-changed_agrees w w' r r' c n v vb vb' a known became kept tree dials streams points opens here elsewhere disks shelf parts arms rows clients stands =
+    → ((m d : ℕ) → r'.clients_at m d ≡ r.clients_at m d) → ((d k : ℕ) → IsOfClient w n d v k → stream_at k vb'.streams ≡ stream_at k vb.streams) → Later r r' → AgreesIn idle w' r' c
+changed_agrees w w' r r' c n v vb vb' a known became kept tree dials streams points opens here elsewhere disks shelf parts arms rows clients stands last =
     written_agrees w w' r r' c c n v vb vb' a known became kept (λ j. refl) tree dials streams points opens a.sound refl here elsewhere
     (disk_same (Some vb') (Some vb') (disks n v) refl shelf refl (parts (subst (DiskIsIf (r.disk_at n v) (c.disks (seat n v)) (shelf_of w n v)) known (a.disks n v))))
     (λ m q o. (disks m q, refl))
-    (written_rests w w' r r' c c n v vb vb' a known became kept (λ j. refl) tree dials streams points opens arms (ap (λ (d : DiskKnown). d.there) (disks n v)) (λ m q o. (rows m q o, refl))) clients stands
+    (written_rests w w' r r' c c n v vb vb' a known became kept (λ j. refl) tree dials streams points opens arms (ap (λ (d : DiskKnown). d.there) (disks n v)) (λ m q o. (rows m q o, refl))) clients stands last

@@ -3,12 +3,12 @@ use Rattle.std.specs.Prelude.{◌≡◌, ◌∷◌, ◌||◌, ◌&&◌, if◌the
 use Rattle.transcript_law.proofs.Words.{ℕ, true, false, [], refl, ap, sym, subst, ◌∙◌, arith, Option, Some, None, is_some, not, Answer, Cause, Chronicle, Verb, NodeVerb, ClientVerb, LinkVerb, PlainLink, PlainNode, PlainWorld, Outcome, Told, IsAnswered, IsMoved, IsPumped, LawfulAnswer, after_verb, stays, take_snapshots}
 use Rattle.transcript_law.proofs.Words.{ask_in, bytes_at, client_at, clock_at, consumer_node, cut_outcome, done, drop, empty_node, bytes_if, first_cause, hang_at, link_causes, link_number, node_causes, node_step, on_link, on_node, peer_of, peer_pulled, producer_node, pump_at, refusal, row_at, unlinked, up_at, with_client, with_dialed, with_links, with_node_at}
 use Rattle.node_world.specs.{Arms.{fail_arm, stop_arm}, Nodes.{arm_at, hung_if, pull_at, pull_if}, Power.{crash_causes, crash_step, down_lines, dropped, start_at, start_causes, start_step}, World.{base_of, client_verb_at, cut_step, down_in, down_outcome, down_step, link_step, link_verb_step, node_verb_step}, Worlds.{is_off, on_made}, declared.arm.Arm.{Arm}}
-use Rattle.transcript_law.proofs.invariant.{AtRest.{RestsIf, Still, bytes_still, down_rests, either_node, hang_still, link_still, pull_still, start_still, still_put, still_ran, still_steps, up_still, weaker}, CallsKept.{InWorld, dropped_all, none_at, on_made_all, unless_all, unlinked_all}, Agreement.{Agrees, GoesOn}, Entering.{Entered, armed_entered, blank_entered, crashed_entered, dial_entered, down_entered, start_line_entered}}
+use Rattle.transcript_law.proofs.invariant.{AtRest.{RestsIf, Still, bytes_still, down_rests, either_node, hang_still, link_still, pull_still, start_still, still_put, still_ran, still_steps, up_still, weaker}, CallsKept.{InWorld, dropped_all, none_at, on_made_all, unless_all, unlinked_all}, Agreement.{Agrees, GoesOn}, Entering.{Entered, armed_entered, blank_entered, clock_entered, crashed_entered, dial_entered, down_entered, start_line_entered}}
 use Rattle.transcript_law.proofs.invariant.{FedClients.{bytes_keeps, client_keeps, hang_keeps, pull_keeps}, FedLines.{broken_line, cut_fine, dialed_fed, down_fine, pump_fed, same_keeps, start_keeps, unless_fed, up_fed}, Feeding.{dropped_fine, made_fine, with_node as fed_node}, TimelyCalls.{pulled_tame}}
 use Rattle.transcript_law.proofs.invariant.Ranged.{IsRanged, NodeRanged, NodeRangedIf, bytes_ranged, client_ranged, down_ranged, dropped_ranged, hang_ranged, kept_ranged, on_link_ranged, on_made_ranged, pull_ranged, same_ranged, start_at_ranged, unless_ranged, unlinked_ranged, up_ranged, with_node}
 use Rattle.transcript_law.proofs.{invariant.Clients.{client_answered, crash_answered}, disks.AppendLines.{start_says}, disks.Fired.{ends_calm}, lines.Calm.{Spared, bytes_calm, pump_calm, up_calm}, lines.PullTold.{pull_calm, pull_made}, lines.Refusals.{Same, Says, on_link_says, on_node_says, refused_says, unchanged}, links.PumpAnswers.{moved_few, pump_says}}
 use Rattle.transcript_law.proofs.verbs.{BoundAnswers.{bound, bound_at, bound_down, closed_link_refused, crash_refused, link_refused, node_exists, off_as_power, one, over, start_refused}, FiredLines.{down_fires, rows_fire}, LineAnswers.{IsOk, down_line_says, no_ok}}
-use Rattle.transcript_law.proofs.verbs.{ArmLines.{fail_goes, stop_goes}, Crashing.{crash_goes}, Dials.{link_goes}, DownLine.{down_answered, down_goes}, Leaving.{cut_goes}, NodeLines.{as_told, clock_goes, node_goes, on_link_by, on_made_by, on_node_by, on_node_goes, refused_on}}
+use Rattle.transcript_law.proofs.verbs.{ArmLines.{fail_goes, stop_goes}, Crashing.{crash_goes}, Dials.{link_goes}, DownLine.{down_answered, down_goes}, Leaving.{cut_goes}, NodeLines.{as_told, clock_goes, node_goes, on_link_by, on_made_by, on_node_by, refused_on}}
 use Rattle.transcript_law.proofs.verbs.{Pumping.{pump_goes}, Requesting.{bytes_goes}, Rows.{Goes, Row, alone_row, answered_row, told_goes}, Settling.{steady}, Starting.{start_answered, start_fires, start_goes}, ClientTellings.{bytes_tells, pull_tells}, Tellings.{all_pass, are_unless, crash_tells, cut_tells, start_tells}, Ups.{up_goes}}
 use Rattle.transcript_law.specs.{Bound.{is_told_down}, Chronicles.{after_bytes, known_fail, known_stop}, Firings.{FiresInLine}, Tellings.{TellsOf, is_none}}
 use Rattle.node_core.specs.Clients.{new_client}
@@ -30,7 +30,7 @@ node_row w n =
       told = λ r fits t. (says.0, rows_fire (node_causes w n) w x (tt, tt) refl);
       entered = λ before r old. old;
       bound = λ r a rule. bound (is_told_down r n) Cause.NodeExists [] _ told rule (λ e. one Cause.NodeExists told (node_exists w (w.nodes n) x (sym (off_as_power w r a n) ∙ e)));
-      goes = λ r fits ranged calm a. told_goes (Verb.Node n) r (node_step w n) (node_goes w r n a);
+      goes = λ r fits ranged calm begins a. told_goes (Verb.Node n) r (node_step w n) (node_goes w r n a);
     }
 
 -- an arm of a node, whether it runs or not
@@ -49,13 +49,13 @@ arm_row w n what arm bound told entered goes =
       tells = λ all. on_made_by (λ o. TellsOf (Verb.AtNode n what) o.1.events) w n f refl (λ node known. refl);
       told = λ r fits t. told r (says.0, on_made_by (λ o. Spared o.1) w n f refl (λ node known. refl));
       entered = λ before r old. entered before r came.1.answer old;
-      goes = λ r fits ranged calm a. told_goes (Verb.AtNode n what) r came (goes r a);
+      goes = λ r fits ranged calm begins a. told_goes (Verb.AtNode n what) r came (goes r a);
     }
 
 pub node_row_of : (w : PlainWorld) (n : ℕ) (what : NodeVerb) → Row w (Verb.AtNode n what) (node_verb_step w n what)
-node_row_of w n (NodeVerb.Clock nanos) = alone_row w (Verb.AtNode n (NodeVerb.Clock nanos)) n (clock_at nanos) (λ r. (refl, λ told s. s)) (λ before r lines said old. old)
+node_row_of w n (NodeVerb.Clock nanos) = alone_row w (Verb.AtNode n (NodeVerb.Clock nanos)) n (clock_at nanos) (λ r. (refl, λ told s. s)) (λ before r lines said old. clock_entered r n nanos said old)
     (λ fits node up r. record { clock = fits.1; clients = r.clients; own = r.own; runs = r.runs }) (λ node here there. there) same_keeps (λ node r. refl) (λ node r. refl) (λ r told. on_node_says IsOk w n (clock_at nanos) no_ok (λ node known. (tt, λ why e s. cc)))
-    (λ r fits ranged calm a. on_node_goes w r n (clock_at nanos) a (λ node e up. clock_goes w r n nanos node a e))
+    (λ r fits ranged calm begins a. clock_goes w r n nanos a)
 node_row_of w n (NodeVerb.Stop k out) = arm_row w n (NodeVerb.Stop k out) (stop_arm k out) (λ r rule. rule) (λ r said. said) (λ before r said old. armed_entered r n (known_stop k out) said old) (λ r a. stop_goes w r n k out a)
 node_row_of w n (NodeVerb.Fail k) = arm_row w n (NodeVerb.Fail k) (fail_arm k) (λ r rule. rule) (λ r said. said) (λ before r said old. armed_entered r n (known_fail k) said old) (λ r a. fail_goes w r n k a)
 node_row_of w n (NodeVerb.Crash out) =
@@ -69,7 +69,7 @@ node_row_of w n (NodeVerb.Crash out) =
       told = λ r fits t. (crash_answered r.conn_at w 0 t.conns n out, rows_fire (crash_causes w n) w x (tt, (tt, tt)) (ends_calm n None w));
       bound = λ r a rule. bound_at w r a n _ came.1 rule (crash_refused w n (w.nodes n) x);
       entered = λ before r old. crashed_entered r n out came.1.answer old;
-      goes = λ r fits ranged calm a. told_goes (Verb.AtNode n (NodeVerb.Crash out)) r came (crash_goes stays w r n out a);
+      goes = λ r fits ranged calm begins a. told_goes (Verb.AtNode n (NodeVerb.Crash out)) r came (crash_goes stays w r n out a);
     }
 node_row_of w n (NodeVerb.Start uuids) = let x : Outcome = on_made w n (start_at n uuids) in let why : Option Cause = first_cause (start_causes w n uuids) in let told : Told = (start_step w n uuids).1 in record {
   ranged = λ fits r. unless_ranged w x why r (on_made_ranged w n (start_at n uuids) r (λ node here. start_at_ranged n uuids node here));
@@ -80,7 +80,7 @@ node_row_of w n (NodeVerb.Start uuids) = let x : Outcome = on_made w n (start_at
   tells = λ all. start_tells w n uuids;
   told = λ r fits t. (start_answered steady w r n uuids fits.1.1 t.agrees, start_fires steady w r n uuids fits.1.1 t.agrees);
   entered = λ before r old. start_line_entered r n told.events told.answer old;
-  goes = λ r fits ranged calm a. start_goes steady w r n uuids fits.1.1 a;
+  goes = λ r fits ranged calm begins a. start_goes steady w r n uuids fits.1.1 a;
 }
 
 -- ---- clients
@@ -96,24 +96,24 @@ client_row_of w number n c ClientVerb.Open =
     (λ r told. on_node_says IsOk w n (client_at n (base_of number) c) no_ok (λ node known.
     elim (is_some (node.clients c)) as (λ b. Says IsOk (λ k. k ≡ node) (if b then closed node else opened node)) [ true ↦ (tt, λ why e s. (refl, refl)) | false ↦ (tt, λ why e s. cc) ]))
     (λ r t ok. client_answered r.conn_at w number t.conns n c ClientVerb.Open)
-    (λ r fits ranged calm a. open_line_goes w r n (base_of number) c a)
+    (λ r fits ranged calm begins a. open_line_goes w r n (base_of number) c begins a)
 client_row_of w number n c (ClientVerb.Bytes bytes) = answered_row (λ r. IsOk) w (Verb.AtClient n c (ClientVerb.Bytes bytes)) n (bytes_at c bytes) (λ r. (refl, λ told s. s)) (λ before r lines said old. old)
     (λ fits node up r. bytes_ranged n c bytes node fits.2 r) (bytes_still n c bytes) (bytes_keeps c bytes) (λ node r. bytes_calm n c bytes node r.own) (λ node r. bytes_tells n c bytes node r.own)
     (λ r told. on_node_says IsOk w n (bytes_at c bytes) no_ok (λ node known. elim (node.clients c) as (λ o. Says IsOk (λ k. k ≡ node) (bytes_if c bytes node o)) [ None ↦ (tt, λ why e s. (refl, refl)) | Some session ↦ (tt, λ why e s. cc) ]))
     (λ r t ok. client_answered r.conn_at w number t.conns n c (ClientVerb.Bytes bytes))
-    (λ r fits ranged calm a. on_node_by (λ x. GoesOn (after_bytes r n c bytes x.1.answer) as_told x) w n (bytes_at c bytes) (tt, a) (λ node known. refused_on w r n node Cause.NodeDown a known) (λ node known up. bytes_goes stays steady w r n c bytes node fits.2 (subst (NodeRangedIf n) known (ranged n)) calm a known))
+    (λ r fits ranged calm begins a. on_node_by (λ x. GoesOn (after_bytes r n c bytes x.1.answer) as_told x) w n (bytes_at c bytes) (tt, a) (λ node known. refused_on w r n node Cause.NodeDown a known) (λ node known up. bytes_goes stays steady w r n c bytes node fits.2 (subst (NodeRangedIf n) known (ranged n)) calm a known))
 client_row_of w number n c (ClientVerb.Pull wanted) = answered_row (λ r told. Unit {0}) w (Verb.AtClient n c (ClientVerb.Pull wanted)) n (pull_at c wanted) (λ r. (refl, λ told s. s)) (λ before r lines said old. old)
     (λ fits node up r. pull_ranged n c wanted node r) (pull_still n c wanted) (pull_keeps c wanted) (λ node r. pull_calm n c wanted node (r.own c)) (λ node r. pull_tells n c wanted node r.own)
     (λ r told. on_node_says (λ told. Unit {0}) w n (pull_at c wanted) (λ why. tt) (λ node known. elim (node.clients c) as (λ o. Says (λ told. Unit {0}) (λ k. k ≡ node) (pull_if c wanted node o)) [ None ↦ (tt, λ why e s. (refl, refl)) | Some client ↦ (tt, λ why e s. absurd (pull_made c wanted node client why e s)) ]))
     (λ r t ok. client_answered r.conn_at w number t.conns n c (ClientVerb.Pull wanted))
-    (λ r fits ranged calm a. pull_goes take_snapshots takes_exactly w r n c wanted a)
+    (λ r fits ranged calm begins a. pull_goes take_snapshots takes_exactly w r n c wanted a)
 client_row_of w number n c ClientVerb.Hang = answered_row (λ r. IsOk) w (Verb.AtClient n c ClientVerb.Hang) n (hang_at c) (λ r. (refl, λ told s. s)) (λ before r lines said old. blank_entered r n c said old)
     (λ fits node up r. hang_ranged n c node r) (hang_still n c) (hang_keeps c)
     (λ node r. elim (node.clients c) as (λ o. Spared (hung_if c node o).1) [ None ↦ refl | Some client ↦ refl ])
     (λ node r. elim (node.clients c) as (λ o. TellsOf (Verb.AtClient n c ClientVerb.Hang) (hung_if c node o).1.events) [ None ↦ refl | Some client ↦ refl ])
     (λ r told. on_node_says IsOk w n (hang_at c) no_ok (λ node known. elim (node.clients c) as (λ o. Says IsOk (λ k. k ≡ node) (hung_if c node o)) [ None ↦ (tt, λ why e s. (refl, refl)) | Some client ↦ (tt, λ why e s. cc) ]))
     (λ r t ok. client_answered r.conn_at w number t.conns n c ClientVerb.Hang)
-    (λ r fits ranged calm a. hang_line_goes w r n c a)
+    (λ r fits ranged calm begins a. hang_line_goes w r n c a)
 
 -- ---- links
 
@@ -130,7 +130,7 @@ link_row w number l m n v buffer =
       entered = λ before r old. dial_entered r l m n v came.1.answer old;
       bound = λ r a rule. bound (is_told_down r m || is_told_down r n) Cause.NodeDown (Cause.UnknownNode ∷ []) _ came.1 rule (λ e.
           link_refused w (not (is_some (w.nodes m) && is_some (w.nodes n))) (is_off (w.nodes m) || is_off (w.nodes n)) (drop 2 (link_causes w l m n v)) x ((λ i. sym (off_as_power w r a m) i || sym (off_as_power w r a n) i) ∙ e));
-      goes = λ r fits ranged calm a. told_goes (Verb.Link l m n v buffer) r came (link_goes w r number l m n v buffer fits a);
+      goes = λ r fits ranged calm begins a. told_goes (Verb.Link l m n v buffer) r came (link_goes w r number l m n v buffer fits a);
     }
 
 pub link_row_of : (w : PlainWorld) (l : ℕ) (what : LinkVerb) → Row w (Verb.AtLink l what) (link_verb_step w l what)
@@ -144,7 +144,7 @@ link_row_of w l (LinkVerb.Up wanted) = let f = up_at wanted in let came : Outcom
       entered = λ before r old. old;
       tells = λ all. all_pass came.1.events;
       told = λ r fits t. (says.0, on_link_by (λ o. Spared o.1) w l producer_node f refl (λ link found. refl) (λ link node found known. let here : NodeRanged (producer_node link) node = subst (NodeRangedIf (producer_node link)) known (t.ranged (producer_node link)) in up_calm (producer_node link) wanted link node here.own));
-      goes = λ r fits ranged calm a. told_goes (Verb.AtLink l (LinkVerb.Up wanted)) r came (up_goes stays steady w r l wanted ranged a);
+      goes = λ r fits ranged calm begins a. told_goes (Verb.AtLink l (LinkVerb.Up wanted)) r came (up_goes stays steady w r l wanted ranged a);
     }
 link_row_of w l (LinkVerb.Down wanted) = let o : Outcome = on_link w l consumer_node (down_in wanted) in let came : Outcome = down_step w l wanted in let found : Option PlainLink = row_at link_number l w.links in record {
   ranged = λ fits r. down_ranged w l found o (on_link_ranged w l consumer_node (down_in wanted) r (λ link n node here. kept_ranged n node (down_in wanted link node).0 refl (λ c. refl) refl here));
@@ -155,7 +155,7 @@ link_row_of w l (LinkVerb.Down wanted) = let o : Outcome = on_link w l consumer_
   told = λ r fits t. (down_answered stays w r l wanted t.agrees, down_fires w r l wanted t.dials);
   bound = λ r a rule. over w r l _ came.1 a rule (λ none. ap (λ k. (down_outcome w l k o).1) none ∙ closed_link_refused w l consumer_node (down_in wanted) none);
   entered = λ before r old. down_entered before r (before.dial_of l) (before.point_of l) came.1.events came.1.answer old;
-  goes = λ r fits ranged calm a. told_goes (Verb.AtLink l (LinkVerb.Down wanted)) r came (down_goes stays w r l wanted a);
+  goes = λ r fits ranged calm begins a. told_goes (Verb.AtLink l (LinkVerb.Down wanted)) r came (down_goes stays w r l wanted a);
 }
 link_row_of w l (LinkVerb.Pump frames) = let f = pump_at frames in let came : Outcome = on_link w l producer_node f in
     let says : Says (λ told. IsPumped frames told.events told.answer) (Same w) came = on_link_says (λ told. IsPumped frames told.events told.answer) w l producer_node f (λ why. tt) (pump_says frames) in record {
@@ -167,7 +167,7 @@ link_row_of w l (LinkVerb.Pump frames) = let f = pump_at frames in let came : Ou
       entered = λ before r old. old;
       tells = λ all. all_pass came.1.events;
       told = λ r fits t. (says.0, on_link_by (λ o. Spared o.1) w l producer_node f refl (λ link found. refl) (λ link node found known. pump_calm frames link node));
-      goes = λ r fits ranged calm a. told_goes (Verb.AtLink l (LinkVerb.Pump frames)) r came (pump_goes take_snapshots w r l frames a);
+      goes = λ r fits ranged calm begins a. told_goes (Verb.AtLink l (LinkVerb.Pump frames)) r came (pump_goes take_snapshots w r l frames a);
     }
 link_row_of w l LinkVerb.Cut = let found : Option PlainLink = row_at link_number l w.links in
     let says : Says IsOk (Same w) (cut_outcome w found) = elim found as (λ o. Says IsOk (Same w) (cut_outcome w o)) [ None ↦ (tt, λ why e s. (unchanged w, refl)) | Some link ↦ (tt, λ why e s. cc) ] in record {
@@ -179,5 +179,5 @@ link_row_of w l LinkVerb.Cut = let found : Option PlainLink = row_at link_number
       entered = λ before r old. old;
       tells = λ all. cut_tells w l;
       told = λ r fits t. (says.0, elim found as (λ o. Spared (cut_outcome w o).1) [ None ↦ refl | Some link ↦ refl ]);
-      goes = λ r fits ranged calm a. told_goes (Verb.AtLink l LinkVerb.Cut) r (cut_step w l) (cut_goes stays w r l a);
+      goes = λ r fits ranged calm begins a. told_goes (Verb.AtLink l LinkVerb.Cut) r (cut_step w l) (cut_goes stays w r l a);
     }

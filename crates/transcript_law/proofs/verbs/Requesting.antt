@@ -1,12 +1,13 @@
 -- lines that send a client's bytes, and outcomes that are posted to it: all lines are lawful, and after them all agree
 use Rattle.std.specs.Prelude.{◌≡◌, ◌<◌, ◌^◌, ◌++◌, ◌==◌, if◌then◌else◌}
-use Rattle.transcript_law.proofs.Words.{ℕ, Bool, true, false, List, [], refl, ap, sym, ◌∙◌, subst, inl, append_assoc, All-append, Option, Some, None, is_some, eq-eqb, eqb-true, Answer, AreBytes, StaysSound, States, after, left_open, PlainNode, PlainWorld, with_node_at, bytes_if, bytes_at, Chronicle, after_lines}
+use Rattle.transcript_law.proofs.Words.{ℕ, Bool, true, false, List, [], refl, ap, sym, ◌∙◌, subst, inl, inr, arith, append_assoc, All-append, Option, Some, None, Pend, is_some, eq-eqb, eqb-true, Answer, AreBytes, StaysSound, States, after, left_open, PlainNode, PlainWorld, with_node_at, bytes_if, bytes_at, Chronicle, after_lines}
 use Rattle.client_session.specs.Serving.{PlainSession, served}
 use Rattle.client_session.specs.declared.session.Awaited.{Awaited}
 use Rattle.node_core.specs.Clients.{Handling, PlainClient, client_fed, client_posted}
 use Rattle.transcript_law.proofs.disks.Disks.{beside_in, power_in}
-use Rattle.transcript_law.proofs.answers.Committed.{HowTold}
-use Rattle.transcript_law.proofs.indexers.{Hands.{Goes, InHand, Standing, Over, by_hand, mine}, Passed.{passed}, Questions.{more_asks}, Serving.{session_agrees}, SessionFrames.{faulty, framed, outcome_framed}, Shutting.{over}, Turns.{fed_goes, posted_goes}, Worlds.{client_here, node_with, step_quiet, stepped, vb_here, world_with}}
+use Rattle.durability.specs.declared.waiting.Waiting.{Waiting}
+use Rattle.transcript_law.proofs.answers.{Claims.{IsOf}, Committed.{HowTold}}
+use Rattle.transcript_law.proofs.indexers.{Hands.{Goes, InHand, Standing, Over, by_hand, mine}, Passed.{passed}, Questions.{more_asks, more_next}, Serving.{session_agrees}, SessionFrames.{faulty, framed, outcome_framed}, Shutting.{over}, Turns.{fed_goes, posted_goes}, Worlds.{client_here, node_with, step_quiet, stepped, vb_here, waited, world_with}}
 use Rattle.transcript_law.proofs.invariant.{Agreement.{Agrees, GoesOn, is_down, power_of}, ClientsTold.{ClientAgrees}, Ranged.{NodeRanged, SessionRangedIf}, Sessions.{IsNumbered, awaited_numbered}, Tables.{at_here}}
 use Rattle.transcript_law.proofs.{lines.Telling.{LawfulBefore, before_all, none_before}, verbs.{NodeLines.{agrees_same, as_told, node_again, node_of_same_vbs, refused_on}, Settling.{Steady}}}
 use Rattle.transcript_law.specs.{Chronicles.{after_bytes}, LawfulAnswers.{AllDurable}, ClientStreams.{with_sent_bytes}, StreamsTold.{ClientKnown}}
@@ -15,7 +16,7 @@ use Rattle.vb_events.specs.declared.event.Cause.TheVariants.{LinkClosed}
 
 -- the node with its connection put again is as it was
 beside_put : (w : PlainWorld) (n c : ℕ) (node : PlainNode) (client : PlainClient) → node.clients c ≡ Some client → beside_in (Some (node_with w n c node node.vbs (Some client))) ≡ beside_in (Some node)
-beside_put w n c node client there = λ i. Some (record { power = record { arm = node.arm; off = node.off }; clients = λ d. same d i })
+beside_put w n c node client there = λ i. Some (record { power = record { arm = node.arm; off = node.off; clock = node.clock }; clients = λ d. same d i })
   where
     same : (d : ℕ) → (if d == c then Some client else node.clients d) ≡ node.clients d
     same d = elim (d == c) as (λ b. (d == c) ≡ b → (if b then Some client else node.clients d) ≡ node.clients d) [ true ↦ λ e. sym there ∙ ap node.clients (sym (eqb-true d c e)) | false ↦ λ e. refl ] refl
@@ -67,16 +68,16 @@ module _ (stays : StaysSound) (steady : Steady) (w : PlainWorld) (n c : ℕ) (no
     pub fed_comes : (client : PlainClient) (bytes : List ℕ) → client.session.closed ≡ false → Goes w n c node r node.vbs [] (record client { session = record client.session { reader = client.session.reader ++ bytes } })
         → Comes (after (client_fed node.clock bytes client) node.vbs)
     fed_comes client bytes alive g =
-        let rests = fed_goes P node.clock (λ before producer f states s. framed w n c node r stays steady node.clock small before producer f states s) (λ before producer fault states s. faulty w n c node r before producer fault states s)
+        let rests = fed_goes P node.clock (λ before producer f states s. framed w n c node r stays steady node.clock small refl before producer f states s) (λ before producer fault states s. faulty w n c node r before producer fault states s)
         (λ f states h. passed w n c node r running f states h) (λ states h. over w n c node r states h) bytes client node.vbs alive (InHand.IsOpen refl g) in
         let x = after (client_fed node.clock bytes client) node.vbs in came x.0 x.1 rests.1 rests.0
 
     -- an outcome
-    pub posted_comes : (client : PlainClient) (o : Resolved) (a : Awaited) → client.session.awaited ≡ Some a → (a.waiter == o.waiter) ≡ true → IsNumbered client.session.awaited → HowTold n r.made o.how → Standing w n c node r node.vbs [] client → Comes (after (client_posted node.clock o client) node.vbs)
-    posted_comes client o a waits same numbered told g =
-        let rests = posted_goes P node.clock (λ before producer f states s. framed w n c node r stays steady node.clock small before producer f states s) (λ before producer fault states s. faulty w n c node r before producer fault states s)
+    pub posted_comes : (client : PlainClient) (o : Resolved) (Claim : ℕ → Waiting → Pend → Type 0) (a : Awaited) → client.session.awaited ≡ Some a → (a.waiter == o.waiter) ≡ true → IsNumbered client.session.awaited → IsOf r n c a Claim → HowTold n r.made Claim o → Standing w n c node r node.vbs [] client → Comes (after (client_posted node.clock o client) node.vbs)
+    posted_comes client o Claim a waits same numbered owns told g =
+        let rests = posted_goes P node.clock (λ before producer f states s. framed w n c node r stays steady node.clock small refl before producer f states s) (λ before producer fault states s. faulty w n c node r before producer fault states s)
         (λ f states h. passed w n c node r running f states h) (λ states h. over w n c node r states h) o client node.vbs a waits same
-        (outcome_framed w n c node r stays steady node.clock small [] client.producer a o.how node.vbs (served client.session []) waits (awaited_numbered client.session a numbered waits) told g refl) in
+        (outcome_framed w n c node r stays steady node.clock small refl [] client.producer a o.how Claim node.vbs (served client.session []) waits (awaited_numbered client.session a numbered waits) owns (subst (λ k. HowTold n r.made Claim (record { waiter = k; how = o.how })) (sym (eqb-true a.waiter o.waiter same)) told) g refl) in
         let x = after (client_posted node.clock o client) node.vbs in came x.0 x.1 rests.1 rests.0
 
 -- more bytes came, and are known
@@ -94,7 +95,11 @@ more_goes w r n c node client bytes kept more calm a =
     (ap (λ l. l ++ bytes) own.heard.bytes ∙ append_assoc own.heard.front client.session.reader bytes) (more_asks (r.clients_at n c).asking client.session client.producer.handshake bytes own.asks) refl refl refl (λ v. vb_here w n c node node.vbs (Some client') v ∙ sym (vb_here w n c node node.vbs (Some client) v)) in
     record {
       lawful = none_before (after_bytes r n c bytes Answer.Ok);
-      agrees = (a.0, stepped w n c node node.vbs node.vbs client client' r known a.0 a.1 step (λ v id has. inl has) told);
+      agrees = (
+        a.0,
+        stepped w n c node node.vbs node.vbs client client' r known a.0 a.1 step (λ v id has. inl has) told
+            (waited w n c node node.vbs node.vbs client client' r known a.0 a.1 step (record { who = refl; used = omega arith; few = λ l. l; waits = λ x e. inr (e, (λ q asks. more_next (r.clients_at n c).asking client.session client.producer.handshake bytes own.asks x e q asks), refl, refl, refl); answered = inl (refl, λ idle. idle) })),
+      );
       bytes = All-append (λ b. b < 256) client.session.reader bytes kept more;
       calm = calm;
     }

@@ -162,7 +162,7 @@ module _ (steady : Steady) (w : PlainWorld) (n : ℕ) (free : NoEnds n w.links) 
     w2 = world node2 (used ++ uuid ∷ [])
 
     abbrev power : Power
-    power = record { arm = node.arm; off = node.off }
+    power = record { arm = node.arm; off = node.off; clock = node.clock }
 
     known1 : vb_of w1 n v ≡ Some vb'
     known1 = changed.here
@@ -184,15 +184,15 @@ module _ (steady : Steady) (w : PlainWorld) (n : ℕ) (free : NoEnds n w.links) 
     not_open : with_at branched.open_at n v false ≡ branched.open_at
     not_open = at_same branched.open_at n v false (mine.opened ∙ ap is_some sealed)
 
-    -- with its branch it was told to be at the end of what it holds, and to have counted nothing
+    -- with its branch it was told to be at the end of what it holds, and to have counted nothing since
     abbrev last : ℕ
     last = last_seq 0 (r.held n v)
 
     same_snap : with_at branched.snap_at n v (Some (last, last)) ≡ branched.snap_at
     same_snap = at_same branched.snap_at n v (Some (last, last)) (at_here r.snap_at n v (Some (vb.position.at, vb.position.at)) ∙ ap (λ k. Some (k, k)) (sym (ap (last_seq 0) mine.held ∙ mine.high)))
 
-    same_counts : with_at branched.counts_at n v alone ≡ branched.counts_at
-    same_counts = at_same branched.counts_at n v alone (at_here r.counts_at n v alone)
+    same_counts : with_at branched.counts_at n v (alone last) ≡ branched.counts_at
+    same_counts = at_same branched.counts_at n v (alone last) (at_here r.counts_at n v (alone last))
 
     -- so its role tells no more than that
     pub active_as : active ≡ record branched { role_at = with_at branched.role_at n v (Some (Some role.Active)); open_at = with_at branched.open_at n v false }

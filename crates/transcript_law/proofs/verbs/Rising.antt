@@ -1,21 +1,22 @@
 -- changes of role: a vBucket that rests, and one that becomes active on a new branch
 use Rattle.std.specs.Prelude.{◌≡◌, ◌<◌, ◌≤◌, ◌∷◌, ◌++◌, ◌⊎◌, ◌==◌, ◌^◌, ◌&&◌, if◌then◌else◌}
-use Rattle.transcript_law.proofs.Words.{ℕ, Bool, true, false, List, refl, ap, sym, ◌∙◌, subst, inl, inr, ⊎_elim, arith, Option, Some, None, not, nat_lt, nat_le}
-use Rattle.transcript_law.proofs.Words.{All, filter, eqb-true, eqb-false, ne_eqb, cases_lt, ltb-false, All-nil, All-cons, All-append, Change, Position, LogEntry, Role, upto, Rises, with_entry}
+use Rattle.transcript_law.proofs.verbs.Times.{untimed, left_untimed}
+use Rattle.transcript_law.proofs.Words.{ℕ, last_seq, Bool, true, false, List, refl, ap, sym, ◌∙◌, subst, inl, inr, ⊎_elim, arith, Option, Some, None, not, nat_lt, nat_le}
+use Rattle.transcript_law.proofs.Words.{All, filter, image_in, with_at, eqb-true, eqb-false, ne_eqb, cases_lt, ltb-false, All-nil, All-cons, All-append, Change, Position, LogEntry, Role, upto, Rises, with_entry}
 use Rattle.transcript_law.proofs.Words.{kept_to, Traces, AtForks, fork_of, Branch, branch, hist, hist_here, hist_there, hist_rises, HoldsAt, holds_fewer, upto_none, upto_down, in_filter, ground, Member, Cluster}
 use Rattle.transcript_law.proofs.Words.{Move, SoundCluster, happens, member_reach, made, at_le, kin_shared, keeps, VbCall, Plain, plain_step, is_active, complete_position, stream_ids, in_role, ending_reply}
 use Rattle.transcript_law.proofs.Words.{parent_of, promoted, led, is_role, with_seal, Sound, StaysSound, PlainWorld, is_one_of, Chronicle, parent_branch, changes_between, after_branch, after_role}
-use Rattle.transcript_law.proofs.{Words.{known_history, []}, invariant.Seats.{seat, seats_apart}, invariant.Tables.{at_here, at_there, id_here, unused}, invariant.Trees.{IsTold, is_told_here, new_untold}, invariant.Wholes.{WholeTo, whole_fork, whole_sealed}}
+use Rattle.transcript_law.proofs.{Words.{known_history, []}, invariant.Seats.{seat, seats_apart}, invariant.Tables.{at_here, at_there, id_here, unused}, invariant.Trees.{IsTold, is_told_here, new_untold}, invariant.Forked.{fork_held}, invariant.Wholes.{WholeTo, whole_sealed}}
 use Rattle.transcript_law.proofs.{invariant.Wholes.{spanned_sealed, spanned_active}, invariant.Agreement.{all_rise, vb_of, ChangeFits, EntryFits, BranchAgrees, own_history, VbHolds, VbAgrees, AgreesAt, top, idle, AgreesIn, vb_contents, vb_row}, invariant.OneLink.{put_here}}
-use Rattle.transcript_law.proofs.{invariant.OneLink.{put_there}, links.Sent.{all_in, all_by_each}, links.Followed.{own_is, fork_low}, links.Rolling.{kept_fit}, verbs.NodeLines.{branch_of, role_row, role_there, role_here}, verbs.Branching.{branch_there, new_fits}, invariant.Majorities.{alone_counts}}
+use Rattle.transcript_law.proofs.{invariant.OneLink.{put_there}, links.Sent.{all_in, all_by_each}, links.Followed.{own_is, fork_low}, links.Rolling.{kept_fit}, verbs.NodeLines.{branch_of, role_row, role_there, role_here}, verbs.Branching.{branch_there, new_fits}, invariant.Lefts.{left_risen}, invariant.Majorities.{alone_counts}}
+use Rattle.transcript_law.proofs.answers.Awaited.{left_none}
 use Rattle.transcript_law.specs.Chronicles.{alone}
 use Rattle.transcript_law.proofs.{links.Turning.{NoneFeeds, Turned, put_itself, turned_agrees, turned_disks, turned_rests}, invariant.Carried.{branches_again, ids_same, all_vbs}}
-use Rattle.branch_model.proofs.{Images.{plain_stands}, Lasts.{kept_in_filter}, Lists.{in_append, in_left, in_right, from_upto, last_in, upto_in}}
-use Rattle.{std.proofs.lemmas.Bool.{lt-ltb}, vb_types.specs.Histories.{touches}}
 use Rattle.{branch_model.proofs.Holding.{holds_forked}, branch_model.proofs.Lists.{upto_all}, branch_model.specs.Trees.{inherited}, cluster_model.specs.Clusters.{Kin, member_fork, front_or, promoted as raised}}
 use Rattle.{cluster_model.specs.Clusters.{yielded}, std.proofs.lemmas.List.Elements.{All-take}, std.specs.Prelude.{option_map}, transcript_law.specs.Lawfulness.{LawfulBranch}, vb_calls.specs.Following.{log_lacks}}
 use Rattle.{transcript_law.proofs.verbs.Settling.{Steady}, vb_calls.specs.Settling.{and_settled}, vb_calls.specs.declared.calls.VbCall.TheVariants.{Promote}, vb_types.specs.declared.role.Role.TheVariants.{Active}, vb_types.specs.declared.status.Status.TheVariants.{Einval, NotMyVbucket}}
 use Rattle.vb_calls.specs.declared.calls.VbAnswer.TheVariants as answer
+use Rattle.transcript_law.proofs.invariant.Owing.{later_same}
 
 -- two roles that differ are not one
 pub other_role : (x y : Role) → is_role x y ≡ false → x ≡ y → ⊥
@@ -52,7 +53,7 @@ module _ (stays : StaysSound) (w w' : PlainWorld) (r : Chronicle) (c : Cluster) 
         told = before.told;
         member = record { active = sym rests; position = before.member.position; log = before.member.log };
         branch = before.branch;
-        holds = holds_fewer vb.floor (WholeTo vb.floor (with_seal vb.spans) vb.position) (WholeTo vb.floor vb.spans vb.position) (c.nodes seated).held (own_history r n v) (λ i x. (whole_sealed vb.spans i x.0, x.1, x.2)) before.holds;
+        holds = holds_fewer 0 (WholeTo vb.floor (with_seal vb.spans) vb.position) (WholeTo vb.floor vb.spans vb.position) (c.nodes seated).held (own_history r n v) (λ i x. (whole_sealed vb.spans i x.0, x.1, x.2)) before.holds;
       }))
 
   rest_there : (m q : ℕ) → (m ≡ n → q ≡ v → ⊥) → AgreesAt rest_lines m q (rest_cluster.nodes (seat m q)) (vb_of w m q)
@@ -67,7 +68,7 @@ module _ (stays : StaysSound) (w w' : PlainWorld) (r : Chronicle) (c : Cluster) 
       (turned_disks w w' r rest_lines c rest_cluster n v vb (in_role vb new) (stream_ids vb.streams) a known became (λ m q. refl) (put_itself c.disks seated) refl)
       (branches_again refl refl (ids_same uuids) a.branches)
       (turned_rests w w' r rest_lines c rest_cluster n v vb (in_role vb new) a known free became (λ j ne. put_there c.nodes seated (yielded (c.nodes seated)) j ne) (λ i. refl) (λ i q. refl) (λ i. refl)
-      (λ m. refl) refl (role_row r n v new) (λ j ne. put_itself c.disks seated j)) (λ m d. refl) (λ u t. refl)
+      (λ m. refl) refl (role_row r n v new) (λ j ne. put_itself c.disks seated j)) (λ m d. refl) (λ u t. refl) (later_same _ _ refl refl) (λ x p o. absurd o.1.among)
 
 -- a vBucket that becomes active on a new branch
 
@@ -77,25 +78,6 @@ lacks_new tree [] u f none = refl
 lacks_new tree (e ∷ older) u f none =
     let apart : e.uuid ≡ u → ⊥ = λ q. let z : None ≡ Some e.seq = sym (ap (option_map (λ (b : Branch). b.fork)) (ap (branch tree) q ∙ none)) ∙ f.0 in cc in
     ap (λ b. not b && log_lacks older u) (ne_eqb e.uuid u apart) ∙ lacks_new tree older u f.1 none
-
--- a history that leaves h at f below `low`, with what is held above: nothing more need be held
-holds_above : (low : ℕ) (W V : ℕ → Type 0) (f : ℕ) (xs h : List Change) → f < low → HoldsAt low W xs h → HoldsAt low V xs (upto h f ++ filter (λ c. nat_lt f c.seq) xs)
-holds_above low W V f xs h below holds = record {
-  of = λ x i. ⊎_elim
-      (λ m. (x, in_right x (upto h f) own (kept_in_filter (λ c. nat_lt f c.seq) x xs i (lt-ltb f x.seq m)), inl refl))
-      (λ m.
-      let o = holds.of x i in
-      let level : x.seq ≡ o.0.seq = ap (λ (y : Change). y.seq) (plain_stands x o.0 o.2) in
-      (o.0, in_left o.0 (upto h f) own (upto_in o.0 h f o.1 (omega arith)), o.2))
-      (cases_lt f x.seq);
-  has = λ n v slot c e a b. ⊎_elim
-      (λ j. let most : c.seq ≤ f = (from_upto c h f j).1 in absurd (omega arith))
-      (λ j. (c, (in_filter (λ x. nat_lt f x.seq) c xs j).0, inl refl))
-      (in_append c (upto h f) own (from_upto c (upto h f ++ own) n (last_in (touches slot) (upto (upto h f ++ own) n) c e).0).0);
-}
-  where
-    own : List Change
-    own = filter (λ c. nat_lt f c.seq) xs
 
 module _ (steady : Steady) (w w' : PlainWorld) (r : Chronicle) (c : Cluster) (n v uuid : ℕ) (vb : Plain) (a : AgreesIn idle w r c) (known : vb_of w n v ≡ Some vb) (free : NoneFeeds n v w.links)
     (rests : is_active vb.role ≡ false) (unused_yet : is_one_of uuid w.uuids ≡ false) (named : uuid ≡ 0 → ⊥) (small : uuid < 2 ^ 64) where
@@ -215,12 +197,9 @@ module _ (steady : Steady) (w w' : PlainWorld) (r : Chronicle) (c : Cluster) (n 
   split : (i : ℕ) → Then i → (WholeTo vb.floor vb.spans vb.position i × (i ≤ fork)) ⊎ (fork < i)
   split i x = ⊎_elim (λ up. inr up) (λ down. inl ((whole_sealed vb.spans i x.0, down, x.2), down)) (cases_lt fork i)
 
-  -- where its image ends at the fork at most, and where that goes on inside the snapshot in which it was loaded
-  left : HoldsAt vb.floor Then m.held (upto (own_history r n v) fork ++ own)
-  left = ⊎_elim (λ above. holds_above vb.floor (WholeTo vb.floor vb.spans vb.position) Then fork m.held (own_history r n v) above old.holds)
-      (λ up. holds_forked vb.floor (WholeTo vb.floor vb.spans vb.position) Then top high fork m.held (own_history r n v) (subst (Rises 0 top) history (hist_rises top c.tree m.br a.sound.grows)) (all_rise old.kept) low
-      (old.holds.has fork (whole_fork vb.role vb.floor vb.spans vb.position old.spanned old.sound.spans up)) split old.holds)
-      (cases_lt fork vb.floor)
+  left : HoldsAt 0 Then m.held (upto (own_history r n v) fork ++ own)
+  left = holds_forked 0 (WholeTo vb.floor vb.spans vb.position) Then top high fork m.held (own_history r n v) (subst (Rises 0 top) history (hist_rises top c.tree m.br a.sound.grows)) (all_rise old.kept) low
+      (fork_held c k (own_history r n v) vb.position a.sound history old.member.position) split old.holds
 
   branch_here : branched.branch_at n v ≡ Some uuid
   branch_here = at_here r.branch_at n v (Some uuid)
@@ -255,7 +234,7 @@ module _ (steady : Steady) (w w' : PlainWorld) (r : Chronicle) (c : Cluster) (n 
       log = (λ i. with_entry uuid (fork_same i) (old.member.log i));
     };
     branch = subst (λ o. BranchAgrees o uuid) (sym branch_here) refl;
-    holds = subst (HoldsAt vb.floor Then m.held) (sym (ap (known_history branched.tree) branch_here ∙ new_told)) left;
+    holds = subst (HoldsAt 0 Then m.held) (sym (ap (known_history branched.tree) branch_here ∙ new_told)) left;
   }
 
   there : (i q : ℕ) → (i ≡ n → q ≡ v → ⊥) → AgreesAt r' i q (c'.nodes (seat i q)) (vb_of w i q)
@@ -270,7 +249,7 @@ module _ (steady : Steady) (w w' : PlainWorld) (r : Chronicle) (c : Cluster) (n 
       log = at_there r.log_at n v (option_map (with_entry uuid fork) (r.log_at n v)) i q other t;
       snap = at_there r.snap_at n v (Some (high, high)) i q other t;
     };
-    counts = at_there r.counts_at n v alone i q other t;
+    counts = at_there r.counts_at n v (alone (last_seq 0 (r.held n v))) i q other t;
   }
 
   branch_fits : All ChangeFits (hist branched.tree uuid)
@@ -287,7 +266,7 @@ module _ (steady : Steady) (w w' : PlainWorld) (r : Chronicle) (c : Cluster) (n 
   rose became uuids = turned_agrees w w' r r' c c' n v vb vb' a known free became (λ j ne. put_there c.nodes k (raised m uuid) j ne) (λ i. refl) (λ i q. refl) (λ i. refl) is_sound
       (all_vbs w w' n v vb' (λ i q o. AgreesAt r' i q (c'.nodes (seat i q)) o) became.here became.there
       (subst (λ x. VbAgrees r' n v x vb') (sym (put_here c.nodes k (raised m uuid))) (role_here branched n v Active (raised m uuid) vb' refl refl (λ e.
-      (record { branch = branch_here; is_told = is_told_here new r.tree; writer = id_here r.writer_of uuid (Some (n, v)); named = named }, alone_counts branched n v, refl)) holds)) there)
+      (record { branch = branch_here; is_told = is_told_here new r.tree; writer = id_here r.writer_of uuid (Some (n, v)); named = named }, alone_counts branched n v, refl, left_risen vb old.sound, untimed (with_at branched.counts_at n v (alone (last_seq 0 (branched.held n v))) n v).times vb'.waiting (left_untimed (image_in vb)))) holds)) there)
       (turned_disks w w' r r' c c' n v vb vb' (stream_ids vb.streams) a known became (λ m q. refl) (put_itself c.disks k) refl)
       (record {
         hists = λ u. same_hist u (uuid == u) refl;
@@ -300,7 +279,7 @@ module _ (steady : Steady) (w w' : PlainWorld) (r : Chronicle) (c : Cluster) (n 
       })
       (turned_rests w w' r r' c c' n v vb vb' a known free became (λ j ne. put_there c.nodes k (raised m uuid) j ne) (λ i. refl) (λ i q. refl) (λ i. refl)
       (λ i. refl) refl (λ i q other. role_row branched n v Active i q other ∙ branch_row i q other) (λ j ne. put_itself c.disks k j))
-      (λ m d. refl) (λ u t. hist_there new r.tree u (λ e. new_untold uuid r.tree (a.fresh uuid unused_yet) (subst (IsTold r.tree) (sym e) t)))
+      (λ m d. refl) (λ u t. hist_there new r.tree u (λ e. new_untold uuid r.tree (a.fresh uuid unused_yet) (subst (IsTold r.tree) (sym e) t))) (later_same _ _ refl refl) (λ x p o. absurd (o.0 (left_none vb uuid x old.sound o.1.among)))
 
   -- its branch is a new one, and leaves where it stands
   pub branch_lawful : LawfulBranch r n v uuid (parent_of vb.log) fork high

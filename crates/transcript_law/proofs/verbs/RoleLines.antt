@@ -2,16 +2,17 @@
 use Rattle.transcript_law.specs.Chronicles.{alone}
 use Rattle.{node_world.specs.Nodes.{with_clients_ended}, transcript_law.specs.Feeding.{IsOfClient, client_in}}
 use Rattle.std.specs.Prelude.{◌≡◌, ◌<◌, ◌∷◌, ◌++◌, ◌==◌, ◌^◌, if◌then◌else◌, not}
-use Rattle.transcript_law.proofs.Words.{ℕ, All, Bool, true, false, List, refl, ap, sym, ◌∙◌, subst, append-nil, Option, Some, None, is_some, flat_map, option_map, eqb-false, eqb-true, eq-eqb, ne_eqb}
+use Rattle.transcript_law.proofs.Words.{ℕ, last_seq, All, Bool, true, false, List, refl, ap, sym, ◌∙◌, subst, append-nil, Option, Some, None, is_some, flat_map, option_map, eqb-false, eqb-true, eq-eqb, ne_eqb}
 use Rattle.transcript_law.proofs.Words.{Cause, Event, Role, Cluster, Move, happens, Plain, plain_step, is_active, refusal_reply, with_vb_at, call_at, stream_ids, in_role, ending_reply, parent_of, led}
 use Rattle.transcript_law.proofs.Words.{is_role, with_seal, fork_of, holds_fewer, Sound, StaysSound, AdminCall, AdminResult, admin_call, admin_replied, PlainLink, PlainNode, PlainWorld, Outcome, with_branches}
 use Rattle.transcript_law.proofs.Words.{with_node_at, with_links, with_states, node_outcome, vb_in, first_cause, refused_or, is_one_of, branch_of_line, on_node, own_link, cut_off, link_ended, links_ended, unlinked, with_ended}
 use Rattle.transcript_law.proofs.Words.{admin_line, no_node, turned_after, role_outcome, turn_causes, turn_step, Chronicle, after_lines, with_at, LawfulFrom, [], EndReason, VbAnswer, VbReply, producer_node, node_if}
 use Rattle.transcript_law.proofs.Words.{LawfulRole, States, VbCall, after_branch, after_line, after_role, newest_branch, Status, turn_row, seal_row, role_changed, after_cuts, promote_step, after_seal, uuid_causes, role_causes, shelf_in}
 use Rattle.transcript_law.proofs.{invariant.Agreement.{DiskIsIf, PowerIsIf, is_down, power_of, shelf_of}, disks.Appending.{Noted, state_came}, disks.ArmedLines.{ArmedCame}, disks.Burning.{quiet_same}, disks.Disks.{Power, power_in, sealed_disk}, disks.Firing.{line_fires, role_noting}, invariant.JobSteps.{put_found, put_over, shelf_found}, lines.Lines.{AreQuiet}, verbs.NodeLines.{shelves_again, shelves_put, shelves_there}}
-use Rattle.transcript_law.proofs.answers.{Committed.{AllHowTold, all_told, lost_told}, Explained.{IsExplained, explained}}
+use Rattle.transcript_law.proofs.answers.{Claims.{ClaimAt, asked_at, call_claims, changes_asked, changes_last, claim_read, claim_sessions}, Committed.{AllHowTold, all_claimed, all_told, lost_told}, Explained.{IsExplained, explained}}
+use Rattle.{durability.specs.declared.waiting.Waiting.{Waiting}, transcript_law.specs.{ClientStreams.{past_turn, with_clients_of}, StreamsTold.{ClientsKnown}}, vb_types.specs.declared.change.Pend.{Pend}}
 use Rattle.transcript_law.proofs.{links.Behind.{NotingGoes, noted_beside, posts_come}, invariant.Ranged.{IsRanged, NodeRanged, NodeRangedIf, ended_ranged, kept_ranged, unlinked_ranged, with_node}, verbs.ClientsEnded.{node_turned, open_was, told_world, turned_node}, verbs.RoleCalls.{changed_told, fate, left, node', not_stopped, role_came, said_of}}
-use Rattle.{disk_journals.specs.Arms.{under}, node_core.specs.Admin.{admin_job, role_at}, node_world.specs.Arms.{fired_by}, node_world.specs.Cuts.{closed_at}, node_world.specs.Power.{with_arm}, node_world.specs.Turns.{posted_in, role_called}, node_world.specs.Worlds.{arm_in, is_up}}
+use Rattle.{disk_journals.specs.Arms.{under}, node_core.specs.{Admin.{admin_job, role_at}, Clients.{PlainClient, client_ended}}, node_world.specs.Arms.{fired_by}, node_world.specs.Cuts.{closed_at}, node_world.specs.Power.{with_arm}, node_world.specs.Turns.{posted_in, role_called}, node_world.specs.Worlds.{arm_in, is_up}}
 use Rattle.{node_world.specs.declared.arm.Arm.{Arm}, node_world.specs.declared.arm.Fired.{Fired}, transcript_law.specs.Chronicles.{after_noted}, vb_calls.specs.Flushes.{is_refusal, role_of_call}}
 use Rattle.{vb_calls.specs.Shelves.{Fate, Shelf}, vb_disk.specs.declared.fuse.Fuse.TheVariants.{Off}, vb_events.specs.declared.event.Answer.{Answer}}
 use Rattle.node_world.specs.declared.arm.Fired.TheVariants as fired
@@ -30,6 +31,8 @@ use Rattle.transcript_law.proofs.verbs.Rising.{other_role_known, rested, rose, p
 use Rattle.transcript_law.proofs.verbs.Settling.{Steady, changes_quiet, changes_told, none_branched, settled_told, settles}
 use Rattle.transcript_law.proofs.lines.Telling.{branch_line}
 use Rattle.vb_calls.specs.Settling.{Resolving, also_resolved, settled}
+use Rattle.transcript_law.proofs.invariant.Owing.{Later, later_on, later_same}
+use Rattle.transcript_law.proofs.answers.Committed.{made_on}
 
 -- the node of a vBucket that is there
 pub node_of : (w : PlainWorld) (n v : ℕ) (vb : Plain) → vb_of w n v ≡ Some vb → (node : PlainNode) × (w.nodes n ≡ Some node) × (node.vbs v ≡ Some vb)
@@ -86,13 +89,26 @@ unlinked_power link w m = by (w.nodes (producer_node link)) refl
 
 power_arm : (o : Option PlainNode) (p : Power) → power_in o ≡ Some p → (arm_in o ≡ p.arm) × (is_up o ≡ not (is_some p.off))
 power_arm None p e = cc
-power_arm (Some node) p e = let same : record { arm = node.arm; off = node.off } ≡ p = cc in (ap (λ (x : Power). x.arm) same, ap (λ (x : Power). not (is_some x.off)) same)
+power_arm (Some node) p e = let same : record { arm = node.arm; off = node.off; clock = node.clock } ≡ p = cc in (ap (λ (x : Power). x.arm) same, ap (λ (x : Power). not (is_some x.off)) same)
+
+-- the end of a link leaves the connections of clients
+unlinked_client : (link : PlainLink) (w : PlainWorld) (m c : ℕ) → client_in ((unlinked link w).nodes m) c ≡ client_in (w.nodes m) c
+unlinked_client link w m c = by (w.nodes (producer_node link)) refl
+  where
+    by : (o : Option PlainNode) → w.nodes (producer_node link) ≡ o → client_in ((node_if (producer_node link) (closed_at link) w o).nodes m) c ≡ client_in (w.nodes m) c
+    by None e = refl
+    by (Some x) e = elim (m == producer_node link) as (λ b. (m == producer_node link) ≡ b → client_in (if b then Some (closed_at link x) else w.nodes m) c ≡ client_in (w.nodes m) c)
+        [ true ↦ λ t. ap (λ o. client_in o c) (sym e ∙ ap w.nodes (sym (eqb-true m (producer_node link) t))) | false ↦ λ t. refl ] refl
+
+-- nor does a change of role leave out what clients asked
+turn_asked : (clients : ClientsKnown) (n v m c : ℕ) → (with_clients_of clients n (past_turn v) m c).asking ≡ (clients m c).asking
+turn_asked clients n v m c = elim (m == n) as (λ b. (if b then past_turn v (clients m c) else clients m c).asking ≡ (clients m c).asking) [ true ↦ refl | false ↦ refl ]
 
 -- an operator's call that changes a vBucket's role, which is then written down under the node's arm
 
 module _ (stays : StaysSound) (steady : Steady) (w : PlainWorld) (r : Chronicle) (n v : ℕ) (asked : AdminCall) (vb vb' : Plain) (a : Agrees w r) (known : vb_of w n v ≡ Some vb) (ranged : IsRanged w) (reply : VbReply)
     (is : plain_step vb (admin_call asked) ≡ (vb', reply)) (ends : reply.ended ≡ stream_ids vb.streams) (lines : List Event) (line_is : admin_replied n v asked reply ≡ role_changed reply lines)
-    (job_is : admin_job n v asked ≡ role_at n v asked) (made : is_refusal reply.answer ≡ false) (paid : (q : Chronicle) → AllHowTold n (after_lines q lines).made reply.resolved) where
+    (job_is : admin_job n v asked ≡ role_at n v asked) (made : is_refusal reply.answer ≡ false) (paid : (q : Chronicle) → Later r q → ((c : ℕ) → asked_at q n c ≡ asked_at r n c) → AllHowTold n (after_lines q lines).made (ClaimAt (after_lines q lines) n (client_in (w.nodes n))) reply.resolved) where
   abbrev node : PlainNode
   node = (node_of w n v vb known).0
 
@@ -163,10 +179,28 @@ module _ (stays : StaysSound) (steady : Steady) (w : PlainWorld) (r : Chronicle)
   fewer : (m d q id : ℕ) → IsOfClient (with_node_at w n last) m d q id → IsOfClient w m d q id
   fewer = open_was w n v ids node last at (λ c. refl)
 
+  -- the connections of the node are those that it had, with streams that ended
+  clients_are : (own : Option PlainLink) (c : ℕ) → client_in ((came_with own).0.nodes n) c ≡ option_map (client_ended v ids) (node.clients c)
+  clients_are None c = ap (λ b. client_in (if b then Some last else w.nodes n) c) (eq-eqb n n refl)
+  clients_are (Some link) c = unlinked_client (link_ended n v ids link) ended n c ∙ ap (λ b. client_in (if b then Some last else w.nodes n) c) (eq-eqb n n refl)
+
+  had_before : (own : Option PlainLink) (x : PlainNode) → (came_with own).0.nodes n ≡ Some x → (c : ℕ) (client' : PlainClient) → x.clients c ≡ Some client' → (client : PlainClient) × (client_in (w.nodes n) c ≡ Some client) × (client'.session ≡ client.session)
+  had_before own x there c client' is = by (node.clients c) (ap (λ o. client_in o c) at) (sym (clients_are own c) ∙ ap (λ o. client_in o c) there ∙ is)
+    where
+      by : (o : Option PlainClient) → client_in (w.nodes n) c ≡ o → option_map (client_ended v ids) o ≡ Some client' → (client : PlainClient) × (client_in (w.nodes n) c ≡ Some client) × (client'.session ≡ client.session)
+      by None e z = cc
+      by (Some client) e z = let same : client_ended v ids client ≡ client' = cc in (client, e, ap (λ (k : PlainClient). k.session) (sym same))
+
+  paid_at : (own : Option PlainLink) (q : Chronicle) → Later r q → ((c : ℕ) → asked_at q n c ≡ asked_at r n c) → (x : PlainNode) → (came_with own).0.nodes n ≡ Some x → AllHowTold n (after_lines q lines).made (ClaimAt (after_lines q lines) n x.clients) reply.resolved
+  paid_at own q same alike x there =
+      let told : Chronicle = after_lines q lines in
+      all_claimed n told.made (ClaimAt told n (client_in (w.nodes n))) (ClaimAt told n x.clients) reply.resolved (claim_sessions told n (client_in (w.nodes n)) x.clients (had_before own x there)) (paid q same alike)
+
   -- once they are
   posted_goes : (own : Option PlainLink) → NotingGoes n (role_noted_so n v new) w r (came_with own) → NotingGoes n (role_noted_so n v new) w r (posted_in n reply.resolved (came_with own))
-  posted_goes None so = posts_come stays steady n (role_noted_so n v new) w r reply.resolved (came_with None) so (noted_beside n v new (said_of fated) (not_stopped fated)) last_ranged (paid r)
-  posted_goes (Some link) so = posts_come stays steady n (role_noted_so n v new) w r reply.resolved (came_with (Some link)) so (noted_beside n v new (said_of fated) (not_stopped fated)) (unlinked_ranged ended (link_ended n v ids link) last_ranged) (paid (after_lines r (cut_lines (Some (link_ended n v ids link)))))
+  posted_goes None so = posts_come stays steady n (role_noted_so n v new) w r reply.resolved (came_with None) so (noted_beside n v new (said_of fated) (not_stopped fated)) last_ranged (paid_at None r (later_same r r refl refl) (λ c. refl))
+  posted_goes (Some link) so = posts_come stays steady n (role_noted_so n v new) w r reply.resolved (came_with (Some link)) so (noted_beside n v new (said_of fated) (not_stopped fated)) (unlinked_ranged ended (link_ended n v ids link) last_ranged)
+      (paid_at (Some link) (after_lines r (cut_lines (Some (link_ended n v ids link)))) (record { last = refl; grows = made_on r (cut_lines (Some (link_ended n v ids link))) }) (λ c. refl))
 
   -- the world in which these links were told, and nothing was written down
   abbrev called : PlainNode
@@ -183,7 +217,7 @@ module _ (stays : StaysSound) (steady : Steady) (w : PlainWorld) (r : Chronicle)
   last_with links more = record { nodes = (with_node_at w n last).nodes; uuids = w.uuids ++ more; links = links_ended n v ids links }
 
   abbrev power : Power
-  power = record { arm = node.arm; off = node.off }
+  power = record { arm = node.arm; off = node.off; clock = node.clock }
 
   is_noted : (links : List PlainLink) (more : List ℕ) → Noted (turned_with links more) (last_with links more) n v power (under Off left_shelf) left_shelf.fuse
   is_noted links more = record {
@@ -209,7 +243,7 @@ module _ (stays : StaysSound) (steady : Steady) (w : PlainWorld) (r : Chronicle)
       → ArmedCame n (role_noted_so n v new) (fired_by node.arm.fuse left_shelf.fuse) told (last_with links more) (said_of fated)
       → ArmedCame n (role_noted_so n v new) (fired_by (arm_in (w.nodes n)).fuse (arm_in (x.nodes n)).fuse) told (record { nodes = x.nodes; uuids = x.uuids ++ more; links = x.links }) (said_of fated)
   came_so x more links told same go b =
-      let q : Power = record { arm = last.arm; off = node.off } in
+      let q : Power = record { arm = last.arm; off = node.off; clock = node.clock } in
       let there : power_of ended n ≡ Some q = ap (λ t. power_in (if t then Some last else w.nodes n)) (eq-eqb n n refl) in
       let p = power_arm (x.nodes n) q (same ∙ there) in
       let now : PlainWorld = record { nodes = x.nodes; uuids = x.uuids ++ more; links = x.links } in
@@ -298,11 +332,11 @@ module _ (stays : StaysSound) (steady : Steady) (r : Chronicle) (n v : ℕ) (new
       let line : List Event = Event.Role n v new ∷ [] in
       let old : VbAgrees r1 n v (x.cluster.nodes (seat n v)) vb = subst (AgreesAt r1 n v (x.cluster.nodes (seat n v))) known (x.agrees.vbs n v) in
       subst (λ k. NotingGoes n (role_noted_so n v k) w r (role_outcome n v asked w)) new_is
-      (role_goes stays steady w r n v asked vb (in_role vb new) a known ranged (ending_reply vb VbAnswer.Done) is refl line (line_is vb) job_is refl (λ q. lost_told n (after_lines q line).made vb.waiting) own e
+      (role_goes stays steady w r n v asked vb (in_role vb new) a known ranged (ending_reply vb VbAnswer.Done) is refl line (line_is vb) job_is refl (λ q same alike. lost_told n (after_lines q line).made (ClaimAt (after_lines q line) n (client_in (w.nodes n))) vb.waiting) own e
       (record { another = other_role_known r1 n v (x.cluster.nodes (seat n v)) vb new old other; anew = λ is. let active : is_active new ≡ true = ap is_active is in cc }, tt) (tt, tt) (
         happens x.cluster (Move.Yield (seat n v)),
-        rested stays w0 (turned_with stays steady w r n v asked vb (in_role vb new) a known ranged (ending_reply vb VbAnswer.Done) is refl line (line_is vb) job_is refl (λ q. lost_told n (after_lines q line).made vb.waiting) links []) r1 x.cluster n v vb new (admin_call asked) x.agrees known x.free rests is (timely vb)
-            (turn_became stays steady w r n v asked vb (in_role vb new) a known ranged (ending_reply vb VbAnswer.Done) is refl line (line_is vb) job_is refl (λ q. lost_told n (after_lines q line).made vb.waiting) links []) (append-nil w.uuids),
+        rested stays w0 (turned_with stays steady w r n v asked vb (in_role vb new) a known ranged (ending_reply vb VbAnswer.Done) is refl line (line_is vb) job_is refl (λ q same alike. lost_told n (after_lines q line).made (ClaimAt (after_lines q line) n (client_in (w.nodes n))) vb.waiting) links []) r1 x.cluster n v vb new (admin_call asked) x.agrees known x.free rests is (timely vb)
+            (turn_became stays steady w r n v asked vb (in_role vb new) a known ranged (ending_reply vb VbAnswer.Done) is refl line (line_is vb) job_is refl (λ q same alike. lost_told n (after_lines q line).made (ClaimAt (after_lines q line) n (client_in (w.nodes n))) vb.waiting) links []) (append-nil w.uuids),
       ))
 
   pub turn_goes : (w : PlainWorld) → IsRanged w → Agrees w r → NotingGoes n (role_noted_so n v new) w r (turn_step w n v new asked)
@@ -358,15 +392,18 @@ module _ (stays : StaysSound) (steady : Steady) (r : Chronicle) (n v uuid : ℕ)
       let read : after_line r1 (Event.Branch n v uuid parent fork high) ≡ branched = branch_line r1 n v uuid parent fork high runs in
       let ids_told : uuid ∷ [] ≡ flat_map branch_of_line line = ap (λ us. uuid ∷ us) (sym (none_branched n v uuid s.cs)) in
       let now : Agrees (turned_at w n v node made.vb ids links (uuid ∷ [])) (after_lines active own_lines_are) = s.agrees (turned_at w n v node made.vb ids links (uuid ∷ [])) again.0 again.1 in
-      let paid : (q : Chronicle) → AllHowTold n (after_lines q line).made (also_resolved reply made).1.resolved = λ q.
+      let paid : (q : Chronicle) → Later r q → ((d : ℕ) → asked_at q n d ≡ asked_at r n d) → AllHowTold n (after_lines q line).made (ClaimAt (after_lines q line) n (client_in (w.nodes n))) (also_resolved reply made).1.resolved = λ q same alike.
       let q2 : Chronicle = after_lines q (Event.Branch n v uuid parent fork high ∷ Event.Role n v Role.Active ∷ []) in
       let rep : VbReply = (also_resolved reply made).1 in
-      subst (λ ls. AllHowTold n (after_lines q2 ls).made rep.resolved) (settled_told n v reply led_vb uuid s.cs refl s.changes (ap newest_branch s.log))
-      (all_told q2 n v rep.branch rep.changes vb (VbCall.Promote uuid) rep.resolved
+      let claim : ℕ → Waiting → Pend → Type 0 = ClaimAt (after_lines q line) n (client_in (w.nodes n)) in
+      let read : (y : Waiting) (p : Pend) → ClaimAt r n (client_in (w.nodes n)) v y p → claim v y p = claim_read r (after_lines q line) n (client_in (w.nodes n)) (later_on r q (after_lines q line) same (record { last = changes_last q2 n v uuid s.cs; grows = made_on q line }))
+      (λ d. changes_asked q2 n v uuid s.cs n d ∙ turn_asked q.clients_at n v n d ∙ alike d) v in
+      subst (λ ls. AllHowTold n (after_lines q2 ls).made claim rep.resolved) (settled_told n v reply led_vb uuid s.cs refl s.changes (ap newest_branch s.log))
+      (all_told q2 n v rep.branch claim rep.changes vb (VbCall.Promote uuid) rep.resolved (λ y p some stood. read y p (call_claims w r n v vb (VbCall.Promote uuid) (client_in (w.nodes n)) tt a.1.clients.owed known (λ d. refl) y p some stood))
       (subst (λ (y : Plain × VbReply). All (IsExplained vb (VbCall.Promote uuid) y.1.branch y.1.changes) y.1.resolved) is (explained vb (VbCall.Promote uuid) old.sound tt))) in
       role_goes stays steady w r n v (AdminCall.Promote uuid) vb made.vb a known ranged (also_resolved reply made).1 is refl line line_is refl refl paid own e (
         branch_lawful steady w0 w0 r1 c1 n v uuid vb x.agrees known x.free rests unused named small,
-        subst (λ b. LawfulRole b n v Role.Active × LawfulFrom (after_role b n v Role.Active) own_lines_are) (sym read) (record { another = other_role_known r1 n v (c1.nodes (seat n v)) vb Role.Active old other; anew = λ is. at_here r1.counts_at n v alone }, s.lawful),
+        subst (λ b. LawfulRole b n v Role.Active × LawfulFrom (after_role b n v Role.Active) own_lines_are) (sym read) (record { another = other_role_known r1 n v (c1.nodes (seat n v)) vb Role.Active old other; anew = λ is. at_here r1.counts_at n v (alone (last_seq 0 (r1.held n v))) }, s.lawful),
       )
       (tt, (tt, changes_quiet n v uuid s.cs))
       (subst (λ b. Agrees (turned_at w n v node made.vb ids links (flat_map branch_of_line line)) (after_lines (after_role b n v Role.Active) own_lines_are)) (sym read)
@@ -413,12 +450,14 @@ module _ (stays : StaysSound) (w w' : PlainWorld) (r : Chronicle) (c : Cluster) 
       told = old.told;
       member = record { active = old.member.active; position = old.member.position; log = old.member.log };
       branch = old.branch;
-      holds = holds_fewer vb.floor (WholeTo vb.floor (with_seal vb.spans) vb.position) (WholeTo vb.floor vb.spans vb.position) (c.nodes (seat n v)).held (own_history r n v) (λ i x. (whole_sealed vb.spans i x.0, x.1, x.2)) old.holds;
+      holds = holds_fewer 0 (WholeTo vb.floor (with_seal vb.spans) vb.position) (WholeTo vb.floor vb.spans vb.position) (c.nodes (seat n v)).held (own_history r n v) (λ i x. (whole_sealed vb.spans i x.0, x.1, x.2)) old.holds;
     };
     role = old.role;
     opened = at_here r.open_at n v false;
     writes = old.writes;
     counts = old.counts;
+    lefts = old.lefts;
+    times = old.times;
   }
 
   elsewhere_row : (m q : ℕ) → (m ≡ n → q ≡ v → ⊥) → vb_row sealed m q ≡ vb_row r m q
@@ -430,8 +469,8 @@ module _ (stays : StaysSound) (w w' : PlainWorld) (r : Chronicle) (c : Cluster) 
       (record { tree = refl; writer_of = λ u. refl; row = elsewhere_row m q other }) (fed_same (c.nodes (seat m q))) (vb_of w m q) (λ none. refl) (a.vbs m q)
 
   pub seal_agrees : AgreesIn idle w' sealed c
-  seal_agrees = changed_agrees w w' r sealed c n v vb vb' a known became (record { role = refl; wants = refl }) refl (λ k. refl) (λ k q. refl) (λ k. refl) (λ x i k has s. refl) here elsewhere (λ m q. refl) shelf
-      (sealed_disk (r.disk_at n v) (c.disks (seat n v)) (shelf_of w n v) vb vb' refl) (λ m. refl) elsewhere_row (λ m d. refl) (λ d k has. refl)
+  seal_agrees = changed_agrees w w' r sealed c n v vb vb' a known became (record { role = refl; wants = refl; fewer = λ x p o. (o.0, record { among = o.1.among; entry = o.1.entry; same = o.1.same }) }) refl (λ k. refl) (λ k q. refl) (λ k. refl) (λ x i k has s. refl) here elsewhere (λ m q. refl) shelf
+      (sealed_disk (r.disk_at n v) (c.disks (seat n v)) (shelf_of w n v) vb vb' refl) (λ m. refl) elsewhere_row (λ m d. refl) (λ d k has. refl) (later_same _ _ refl refl)
 
 node_sealed : StaysSound → (w : PlainWorld) (r : Chronicle) (n v : ℕ) (node : PlainNode) → Agrees w r → w.nodes n ≡ Some node
     → GoesOn r (λ q. after_seal q n v (admin_line n v AdminCall.Seal node).1.answer) (with_node_at w n (admin_line n v AdminCall.Seal node).0, (admin_line n v AdminCall.Seal node).1)

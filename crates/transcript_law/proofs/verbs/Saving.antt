@@ -127,7 +127,7 @@ module _ (w : PlainWorld) (r : Chronicle) (n v : ℕ) (there : There w r n v) wh
       tt,
       tt,
       subst (λ how. ArmedCame n (saves n v) how r (with_branches [] (with_node_at w n node')) said.answer) (sym arms_are) (came_used n (saves n v) (fired_by node.arm.fuse wrote.0.fuse) r (with_node_at w n node') said.answer []
-          (batch_came w (with_node_at w n node') r n v (record { arm = node.arm; off = node.off }) vb shelf c a (vb_is w r n v there) (shelf_is w r n v there) (none_there node.off runs) b out
+          (batch_came w (with_node_at w n node') r n v (record { arm = node.arm; off = node.off; clock = node.clock }) vb shelf c a (vb_is w r n v there) (shelf_is w r n v there) (none_there node.off runs) b out
           (noted_node w n v node (under Off left) wrote.0.fuse at))),
     )
 

@@ -1,9 +1,10 @@
 -- what a vBucket commits of its own behind a call: the lines of it are lawful, and after them all agrees
 use Rattle.std.specs.Prelude.{◌≡◌, ◌+◌, ◌<◌, ◌∷◌, ◌++◌, ◌&&◌, ◌^◌, if◌then◌else◌, nat_lt}
+use Rattle.transcript_law.proofs.verbs.Times.{fewer_times, without_was}
 use Rattle.transcript_law.proofs.Words.{ℕ, Bool, true, false, List, [], map, refl, ap, sym, ◌∙◌, subst, arith, inl, nat_tests, ⊎_elim, append-nil, append_assoc, eq-eqb, Option, Some, None, Act, Change, Event, MAX_SEQ, Member, Cluster, Move, happens, Plain, is_active, newest_branch, image_of, Sound, led}
 use Rattle.transcript_law.proofs.Words.{PlainNode, PlainWorld, with_node_at, with_states, with_vb_at, vb_in, Chronicle, after_change, after_lines, LawfulChange, LawfulFrom, VbReply, branch_of_line, flat_map}
-use Rattle.transcript_law.proofs.{invariant.Agreement.{ActFits, Agrees, AgreesIn, ChangeFits, DiskIsIf, VbAgrees, active_counts, all_rise, idle, image_is, shelf_of, vb_of}, invariant.Carried.{places}, invariant.Carrying.{Changed, Relinked}, lines.Lines.{AreQuiet}}
-use Rattle.transcript_law.proofs.{verbs.NodeLines.{agrees_same, node_changed, shelves_again, shelves_put}, invariant.Seats.{seat}, invariant.Waiting.{IsCommit, commit_of, pends_above, pends_fit}, verbs.Writing.{is_lawful, mine, newest, written}}
+use Rattle.transcript_law.proofs.{invariant.Agreement.{ActFits, Agrees, AgreesIn, ChangeFits, DiskIsIf, VbAgrees, active_counts, all_rise, idle, image_is, shelf_of, vb_of}, invariant.Carried.{places}, invariant.Carrying.{Changed, Relinked}, invariant.Lefts.{left_without}, lines.Lines.{AreQuiet}}
+use Rattle.transcript_law.proofs.{verbs.NodeLines.{agrees_same, node_changed, shelves_again, shelves_put}, invariant.Seats.{seat}, invariant.Waiting.{IsCommit, commit_of, pends_above, pends_fit}, verbs.Writing.{fewer_written, is_lawful, mine, newest, written}, answers.Awaited.{IsOutstanding, resolved_stood}, invariant.Owed.{fewer_some}}
 use Rattle.cluster_model.specs.Clusters.{Fulfils}
 use Rattle.durability.specs.{Chains.{has_enough, named as named_of}, Laws.{Waits}, Outstanding.{acked, without}, declared.waiting.Waiting.{Waiting}}
 use Rattle.{durability.proofs.Counts.{differ_true}, transcript_law.proofs.{disks.Disks.{saved_so}, invariant.Majorities.{held_by_most}}, transcript_law.specs.{Lawfulness.{IsHeldIfCommitted}, Majorities.{IsHeldByMost}}, vb_types.specs.declared.change.Pend.{Pend}}
@@ -14,7 +15,7 @@ use Rattle.vb_calls.specs.Settling.{Resolving, also_resolved, branch_of, committ
 use Rattle.vb_calls.specs.State.{pending_of}
 use Rattle.vb_calls.specs.declared.calls.Resolution.{Resolution}
 use Rattle.vb_calls.specs.declared.calls.Resolution.TheVariants as resolution
-use Rattle.vb_types.specs.declared.change.Act.TheVariants.{Commit}
+use Rattle.vb_types.specs.declared.change.Act.TheVariants.{Abort, Commit}
 use Rattle.{transcript_law.{proofs.verbs.Making.{resolving_is_next}, specs.OwnChanges.{IsNextChange}}, vbucket.proofs.{Settling.{commit_sound}, Soundness.{led_sound}}}
 
 -- the lines of changes that a vBucket made of its own
@@ -178,11 +179,18 @@ module _ (commits : CommitsSound) (n v : ℕ) (x : Waiting) (more : List Waiting
   shelf_is : shelf_of w1 n v ≡ shelf_of w n v
   shelf_is = shelves_again w n node node1 (λ q. refl) n v ∙ shelves_put w n node known n v
 
+  -- each other prepare was outstanding before
+  stood : (y : Waiting) (p : Pend) → IsOutstanding one.vb y p → IsOutstanding s.vb y p
+  stood = subst (λ b. (y : Waiting) (p : Pend) → IsOutstanding (resolved_by b (outcome a s) x s).vb y p → IsOutstanding s.vb y p) of.commits (resolved_stood s x (Commit x.seq of.pend.doc of.pend.deleted) (outcome a s) own.sound.waits.ascend refl)
+
   agrees1 : AgreesIn idle w1 r1 (happens cl (Move.Own (seat n v) change))
-  agrees1 = written w r cl n v node s.vb agrees known has change s.vb.last_cas active refl room fits named (without x.seq s.vb.waiting) sound.0 w1 changed shelf_is (omega arith)
+  agrees1 =
+      let lefts = left_without (r.counts_at n v).risen s.vb.position.at x.seq s.vb.waiting own.sound.waits.ascend (own.lefts active) in
+      written w r cl n v node s.vb agrees known has change s.vb.last_cas active refl room fits named (without x.seq s.vb.waiting) sound.0 w1 changed shelf_is (omega arith) lefts (λ t. fewer_times change.seq (r.clock_at n) (λ y i. without_was x.seq s.vb.waiting y i) t)
+      (fewer_written w r cl n v node s.vb agrees known has change s.vb.last_cas active refl room fits named (without x.seq s.vb.waiting) sound.0 w1 changed shelf_is (omega arith) lefts (λ t. fewer_times change.seq (r.clock_at n) (λ y i. without_was x.seq s.vb.waiting y i) t) (fewer_some s.vb one.vb (λ y p some o. stood y p o)))
 
   lawful1 : LawfulChange r n v member.br change
-  lawful1 = is_lawful w r cl n v node s.vb agrees known has change s.vb.last_cas active refl room fits named (without x.seq s.vb.waiting) sound.0 next_one backed
+  lawful1 = is_lawful w r cl n v node s.vb agrees known has change s.vb.last_cas active refl room fits named (without x.seq s.vb.waiting) sound.0 next_one backed (λ prepared e. let z : Commit x.seq of.pend.doc of.pend.deleted ≡ Abort prepared = of.commits ∙ e in cc)
 
   newest_is : newest_branch s.vb.log ≡ member.br
   newest_is = newest w r cl n v node s.vb agrees known has change s.vb.last_cas active refl room fits named (without x.seq s.vb.waiting) sound.0

@@ -1,6 +1,6 @@
 -- the vBuckets that were active start one after the other
 use Rattle.std.specs.Prelude.{◌≡◌, ◌<◌, ◌∷◌, ◌++◌, ◌^◌, ◌⊎◌, ◌||◌, if◌then◌else◌, ◌+◌, ◌*◌, ◌≤◌}
-use Rattle.transcript_law.proofs.Words.{ℕ, true, false, List, [], refl, ap, sym, ◌∙◌, subst, arith, inl, inr, ⊎_elim, append-nil, append_assoc, filter-append, flat_map, Some, None, eq-eqb, ne_eqb, Answer, Chronicle, Cluster, Event, Plain, PlainLink, PlainNode, PlainWorld, LawfulFrom, Bool, Change, after_branch, after_lines, option_map, with_entry, with_id, length}
+use Rattle.transcript_law.proofs.Words.{ℕ, last_seq, true, false, List, [], refl, ap, sym, ◌∙◌, subst, arith, inl, inr, ⊎_elim, append-nil, append_assoc, filter-append, flat_map, Some, None, eq-eqb, ne_eqb, Answer, Chronicle, Cluster, Event, Plain, PlainLink, PlainNode, PlainWorld, LawfulFrom, Bool, Change, after_branch, after_lines, option_map, with_entry, with_id, length}
 use Rattle.transcript_law.proofs.Words.{after_line, branch_of_line, consumer_node, fork_of, producer_node, is_active, is_one_of, parent_of, with_node_at, with_at, changes_between, ending_reply, led, parent_branch, plain_step, VbAnswer, VbCall}
 use Rattle.transcript_law.proofs.{invariant.Agreement.{Agrees, AgreesIn, IsLink, PowerIs, idle}, lines.Calm.{Calm, calm_map, calm_more, fires_once}, lines.Changes.{Reads, arms_same, branch_read, changes_read, reads_changes, restart_past, restart_saved, roles_past, roles_same}, lines.Lines.{lawful_more}, verbs.NodeLines.{branch_of}, invariant.Seats.{seat}, verbs.Settling.{Steady, changes_quiet, changes_told}, verbs.RestartCalls.{fate, left, node', start_came}, verbs.RoleCalls.{said_of}, verbs.Restarting.{IsFresh, NoEnds, Restarted, active_as, arm_is, call_is, cs, mine, restarted, settles_on, told_is, twice, world, fails_to, stops_to}, verbs.StartTold.{Apart, AreStarts, apart_changes, starts_changes, told_by, told_each_change}, invariant.Tables.{id_here}}
 use Rattle.node_world.specs.Power.{Starting, first_no, started_by, starts_from, stopped_node, touches}
@@ -180,7 +180,7 @@ module _ (steady : Steady) (crashes : Crashes) (w : PlainWorld) (n : ℕ) (free 
     abbrev said : Answer
     said = said_of (fate node n v uuid vb ready.shelf ready.there ready.kept is)
 
-    power : PowerIs (r.arm_at n) (record { arm = node.arm; off = node.off })
+    power : PowerIs (r.arm_at n) (record { arm = node.arm; off = node.off; clock = node.clock })
     power = arm_is steady w n free node used r c a up v uuid vb ready.there ready.rests ready.sealed ready.shelf ready.kept ready.opens unused named small
 
     -- its changes tell of no arm
@@ -205,17 +205,20 @@ module _ (steady : Steady) (crashes : Crashes) (w : PlainWorld) (n : ℕ) (free 
 
     reads_branch : (opened : ℕ → ℕ → Bool) → Reads q0 (active_vb_lines opened)
     reads_branch opened = record {
+      last = alike.reads.last;
       tree = λ i. record { id = uuid; parent = parent_branch (parent_of vb.log) (fork_of vb.position) (alike.reads.branch i n v); fork = fork_of vb.position; own = changes_between (fork_of vb.position) vb.position.at (alike.reads.held i n v) } ∷ alike.reads.tree i;
       branch = λ i. with_at (alike.reads.branch i) n v (Some uuid);
       held = alike.reads.held;
       writer = λ i. with_id (alike.reads.writer i) uuid (Some (n, v));
       role = ap (λ t. with_at t n v (Some (Some role.Active))) alike.reads.role ∙ sym (ap (λ b. roles_from b q.role_at n v) alike.down);
-      counts = ap (λ t. with_at t n v alone) alike.reads.counts;
+      counts = λ i. with_at (alike.reads.counts i) n v (alone (last_seq 0 (alike.reads.held i n v)));
       log = λ i. with_at (alike.reads.log i) n v (option_map (with_entry uuid (fork_of vb.position)) (alike.reads.log i n v));
       snap = ap (λ t. with_at t n v (Some (vb.position.at, vb.position.at))) alike.reads.snap;
       saved = alike.reads.saved;
       clients = alike.reads.clients;
       made = alike.reads.made;
+      clock = alike.reads.clock;
+      ticks = alike.reads.ticks;
     }
 
     -- and so are its changes
@@ -224,7 +227,7 @@ module _ (steady : Steady) (crashes : Crashes) (w : PlainWorld) (n : ℕ) (free 
         let there = reads_changes q0 (active_vb_lines r0.open_at) n v uuid (cs steady w n free node used r c a up v uuid vb ready.there ready.rests ready.sealed ready.shelf ready.kept ready.opens unused named small) (reads_branch r0.open_at) in
         let same : after_lines (active_vb_lines r0.open_at) changes ≡ record (after_lines r0 changes) { role_at = with_at r.role_at n v (Some (Some role.Active)) } = roles_past (with_at r.role_at n v (Some (Some role.Active))) r0 n v uuid (cs steady w n free node used r c a up v uuid vb ready.there ready.rests ready.sealed ready.shelf ready.kept ready.opens unused named small) in
         let found : Reads q1 (record (after_lines r0 changes) { role_at = with_at r.role_at n v (Some (Some role.Active)) }) = subst (Reads q1) same there in
-        record { tree = found.tree; branch = found.branch; held = found.held; writer = found.writer; counts = found.counts; log = found.log; snap = found.snap; saved = λ m p. restart_saved (after_lines r0 changes) n v m p ∙ found.saved m p; clients = found.clients; made = found.made; role = ap (λ t. with_at t n v (Some (Some role.Active))) (roles_same r0 n v uuid (cs steady w n free node used r c a up v uuid vb ready.there ready.rests ready.sealed ready.shelf ready.kept ready.opens unused named small)) ∙ found.role }
+        record { last = found.last; tree = found.tree; branch = found.branch; held = found.held; writer = found.writer; counts = found.counts; log = found.log; snap = found.snap; saved = λ m p. restart_saved (after_lines r0 changes) n v m p ∙ found.saved m p; clients = found.clients; made = found.made; clock = found.clock; ticks = found.ticks; role = ap (λ t. with_at t n v (Some (Some role.Active))) (roles_same r0 n v uuid (cs steady w n free node used r c a up v uuid vb ready.there ready.rests ready.sealed ready.shelf ready.kept ready.opens unused named small)) ∙ found.role }
 
     changes_lawful : LawfulFrom q0 changes
     changes_lawful = changes_read q0 (active_vb_lines (with_at r0.open_at n v false)) n v uuid (cs steady w n free node used r c a up v uuid vb ready.there ready.rests ready.sealed ready.shelf ready.kept ready.opens unused named small) (reads_branch (with_at r0.open_at n v false))

@@ -124,7 +124,7 @@ module _ (steady : Steady) (crashes : Crashes) (w : PlainWorld) (r : Chronicle) 
     abbrev fuse : Fuse
     fuse = node.arm.fuse
 
-    power : PowerIs (r.arm_at n) (record { arm = node.arm; off = Some books })
+    power : PowerIs (r.arm_at n) (record { arm = node.arm; off = Some books; clock = node.clock })
     power = arm_is w r c n node books a known down
 
     disks : disks_of r n ≡ count
@@ -280,7 +280,7 @@ module _ (steady : Steady) (crashes : Crashes) (w : PlainWorld) (r : Chronicle) 
           (apart_zip (active_ones books) uuids (subst (λ bs. AllDiffer (active_ones bs)) (sym books_so) (differ_active (book_in books))))
           (free_zip w.uuids (active_ones books) uuids free nonzero small)
           (record {
-            reads = record { tree = refl; branch = refl; held = refl; writer = refl; role = refl; counts = refl; log = refl; snap = refl; saved = λ m q. refl; clients = refl; made = refl };
+            reads = record { last = refl; tree = refl; branch = refl; held = refl; writer = refl; role = refl; counts = refl; log = refl; snap = refl; saved = λ m q. refl; clients = refl; made = refl; clock = refl; ticks = refl };
             down = power.down;
             spends = ap (λ (t : ArmKnown). t.fuse) (arm_here w r c n node books a known down opens);
           })

@@ -1,5 +1,6 @@
 -- what the law needs of each line for a vBucket
 use Rattle.std.specs.Prelude.{◌≡◌, ◌∷◌, ◌++◌, if◌then◌else◌}
+use Rattle.transcript_law.proofs.indexers.Beside.{beside}
 use Rattle.transcript_law.proofs.Words.{ℕ, Bool, false, List, refl, ap, sym, subst, Option, Some, None, is_some, not, Answer, Cause, Event, Role, Chronicle, Verb, VbVerb, VerbFits, AdminCall, VbAnswer, VbCall, PlainNode, PlainWorld, Outcome, Told, LawfulAnswer, EndsWith, IsPromotion, IsTurn, IsSealed}
 use Rattle.transcript_law.proofs.Words.{admin_call, admin_line, after_job, after_verb, called_at, first_cause, on_node, lift, quiet_reply, refused_or, promote_causes, turn_causes, replica_causes, role_causes, role_outcome, uuid_causes, vb_causes, vb_in, starts, stays, wholes}
 use Rattle.{node_core.specs.Admin.{admin_at, admin_job, role_at}, vb_calls.specs.Durable.{expired, then_settled}, vb_calls.specs.Settling.{also_resolved, settled}}
@@ -26,7 +27,7 @@ module _ (w : PlainWorld) (n v : ℕ) where
   EntersBy what = (before r : Chronicle) (lines : List Event) (said : Answer) → Entered r → Entered (after_verb before r (Verb.AtVb n v what) lines said)
 
   abbrev GoesBy : VbVerb → Outcome → Type 0
-  GoesBy what x = (r : Chronicle) → VerbFits (Verb.AtVb n v what) → IsRanged w → AllDurable r.made → Agrees w r → LineGoes (ahead r (Verb.AtVb n v what) x.1.answer) (λ told. after_verb r told (Verb.AtVb n v what) x.1.events x.1.answer) x
+  GoesBy what x = (r : Chronicle) → VerbFits (Verb.AtVb n v what) → IsRanged w → AllDurable r.made → Unit {0} → Agrees w r → LineGoes (ahead r (Verb.AtVb n v what) x.1.answer) (λ told. after_verb r told (Verb.AtVb n v what) x.1.events x.1.answer) x
 
   -- how a line is answered that appends a role, and what it tells of arms that fired
   noted_told : (what : VbVerb) → vb_kind what ≡ kind.Notes → (x : Told) (r : Chronicle) → KindAnswer r n v kind.Notes x.events x.answer → FiresAsSaid (Some n) x.events x.answer
@@ -82,36 +83,36 @@ module _ (w : PlainWorld) (n v : ℕ) where
       → ((r : Chronicle) → Agrees w r → Goes (Verb.AtVb n v what) r (on_node w n (admin_line n v asked))) → Row w (Verb.AtVb n v what) (on_node w n (admin_line n v asked))
   admin_row what asked calm job none entered tells says goes = alone_row w (Verb.AtVb n v what) n (admin_line n v asked)
       (λ r. (refl, λ told s. subst (λ b. FiresAsSaid (if b then Some n else None) told.events told.answer) (sym calm) s)) entered (λ fits node up r. admin_ranged n v asked node r) (λ node here. admin_still n v asked node)
-      (λ node. less_keeps node (admin_line n v asked node).0 (subst (λ j. NoNew node.vbs (after_job j node.vbs node.shelves).0.0) (sym job) (step_new node.vbs v (admin_call asked) none)) (λ c. refl)) (λ node r. admin_spared n v asked job node) (λ node r. tells node) says (λ r fits ranged calm a. goes r a)
+      (λ node. less_keeps node (admin_line n v asked node).0 (subst (λ j. NoNew node.vbs (after_job j node.vbs node.shelves).0.0) (sym job) (step_new node.vbs v (admin_call asked) none)) (λ c. refl)) (λ node r. admin_spared n v asked job node) (λ node r. tells node) says (λ r fits ranged calm begins a. goes r a)
 
   -- each verb
   pub vb_row_of : (what : VbVerb) → Row w (Verb.AtVb n v what) (vb_verb_step w n v what)
   vb_row_of (VbVerb.MakeActive uuid) = make_row Role.Active uuid (λ node. vb_causes w.uuids node v uuid) (VbVerb.MakeActive uuid) refl (λ closed shut. vb_came closed w n v shut uuid)
-      (λ before r lines said old. made_entered r n v Role.Active said old) (λ r fits ranged calm a. vb_goes starts stays w r n v fits.1 a uuid fits.2) (λ ranged. made_tells w n v Role.Active uuid (λ node. vb_causes w.uuids node v uuid))
+      (λ before r lines said old. made_entered r n v Role.Active said old) (λ r fits ranged calm begins a. vb_goes starts stays w r n v fits.1 a uuid fits.2) (λ ranged. made_tells w n v Role.Active uuid (λ node. vb_causes w.uuids node v uuid))
   vb_row_of VbVerb.MakeReplica = make_row Role.Replica 0 (λ node. replica_causes node v) VbVerb.MakeReplica refl (λ closed shut. replica_came closed w n v shut)
-      (λ before r lines said old. made_entered r n v Role.Replica said old) (λ r fits ranged calm a. replica_goes starts stays w r n v fits.1 a) (λ ranged. made_tells w n v Role.Replica 0 (λ node. replica_causes node v))
+      (λ before r lines said old. made_entered r n v Role.Replica said old) (λ r fits ranged calm begins a. replica_goes starts stays w r n v fits.1 a) (λ ranged. made_tells w n v Role.Replica 0 (λ node. replica_causes node v))
   vb_row_of (VbVerb.Chain others) = let c : VbCall = VbCall.Chain (record { active = n; others = others }) in alone_row w (Verb.AtVb n v (VbVerb.Chain others)) n (chain_line n v others)
       (λ r. (refl, λ told s. s)) (λ before r lines said old. old) (λ fits node up r. chain_ranged n v others node r) (chain_still n v others) (chain_keeps n v others)
       (λ node r. rows_fire (chain_causes n v others node) node (chain_made n v others node) (tt, (tt, (tt, tt))) (settled_fires n v c node r.own)) (λ node r. chain_tells w n v others node r.own)
       (λ r told. on_node_says IsOk w n (chain_line n v others) no_ok (λ node known. refused_says IsOk (λ k. k ≡ node) node (chain_made n v others node) (first_cause (chain_causes n v others node)) no_ok refl
-      (settled_says n v c node (λ vb. also_resolved (quiet_reply VbAnswer.Done) (settled (record vb { others = others }))) (λ vb. refl) (λ vb. refl)))) (λ r fits ranged calm a. chain_line_goes stays steady w r n v others ranged a)
+      (settled_says n v c node (λ vb. also_resolved (quiet_reply VbAnswer.Done) (settled (record vb { others = others }))) (λ vb. refl) (λ vb. refl)))) (λ r fits ranged calm begins a. chain_line_goes stays steady w r n v others ranged a)
   vb_row_of (VbVerb.Promote uuid) = role_row (AdminCall.Promote uuid) (role_causes Role.Active (vb_in (w.nodes n) v) ++ uuid_causes w.uuids uuid) (VbVerb.Promote uuid) refl refl (λ node. promote_ends n v uuid (placed v node).vbs (placed v node).shelves)
       (EndsWith (AndPosts AnyPosts (IsPromotion n v uuid))) (λ closed shut. promote_came AnyPosts tt closed w n v (λ node e rs x same. tt) shut uuid) (λ before r lines said old. noted_entered r n v Role.Active said old)
-      (λ r fits ranged calm a. promote_line stays steady w r n v uuid fits.2 ranged a) (promote_tells w n v uuid (first_cause (promote_causes w n v uuid)))
+      (λ r fits ranged calm begins a. promote_line stays steady w r n v uuid fits.2 ranged a) (promote_tells w n v uuid (first_cause (promote_causes w n v uuid)))
   vb_row_of VbVerb.Follow = role_row AdminCall.Follow (role_causes Role.Replica (vb_in (w.nodes n) v)) VbVerb.Follow refl refl (λ node. follow_ends n v (placed v node).vbs (placed v node).shelves)
       (EndsWith (AndPosts AnyPosts (IsTurn n v Role.Replica))) (λ closed shut. follow_came AnyPosts tt closed w n v (λ node e rs x same. tt) shut) (λ before r lines said old. noted_entered r n v Role.Replica said old)
-      (λ r fits ranged calm a. follow_line stays steady w r n v ranged a) (follow_tells w n v (first_cause (turn_causes w n v Role.Replica)))
+      (λ r fits ranged calm begins a. follow_line stays steady w r n v ranged a) (follow_tells w n v (first_cause (turn_causes w n v Role.Replica)))
   vb_row_of VbVerb.Dead = role_row AdminCall.Dead (role_causes Role.Dead (vb_in (w.nodes n) v)) VbVerb.Dead refl refl (λ node. dead_ends n v (placed v node).vbs (placed v node).shelves)
       (EndsWith (AndPosts AnyPosts (IsTurn n v Role.Dead))) (λ closed shut. dead_came AnyPosts tt closed w n v (λ node e rs x same. tt) shut) (λ before r lines said old. noted_entered r n v Role.Dead said old)
-      (λ r fits ranged calm a. dead_line stays steady w r n v ranged a) (dead_tells w n v (first_cause (turn_causes w n v Role.Dead)))
+      (λ r fits ranged calm begins a. dead_line stays steady w r n v ranged a) (dead_tells w n v (first_cause (turn_causes w n v Role.Dead)))
   vb_row_of VbVerb.Tick = alone_row w (Verb.AtVb n v VbVerb.Tick) n (tick_line n v) (λ r. (refl, λ told s. s)) (λ before r lines said old. old) (λ fits node up r. tick_ranged n v node r) (tick_still n v) (tick_keeps n v)
       (λ node r. settled_fires n v (VbCall.Tick node.clock) node r.own) (λ node r. tick_tells w n v node r.own)
       (λ r told. on_node_says IsOk w n (tick_line n v) no_ok (λ node known. settled_says n v (VbCall.Tick node.clock) node (λ vb. then_settled (expired node.clock vb)) (λ vb. refl) (λ vb. refl)))
-      (λ r fits ranged calm a. tick_line_goes stays steady w r n v ranged a)
+      (λ r fits ranged calm begins a. tick_line_goes stays steady w (record r { ticks = Some (n, v) }) n v refl ranged (a.0, beside w r r.conn_at r.made (Some (n, v)) a.0 (λ one durable i. i) a.1))
   vb_row_of VbVerb.Seal = admin_row VbVerb.Seal AdminCall.Seal refl refl tt (λ before r lines said old. seal_entered r n v said old) (seal_tells w n v)
       (λ r told. admin_says (λ x. IsSealed (r.open_at n v) x.answer) w n v AdminCall.Seal refl (λ why. tt) (λ vb has. (ap (λ b. if b then 1 else 0) (sym (told.0 n v vb has)), λ why e s. cc))) (λ r a. seal_goes stays w r n v a)
   vb_row_of VbVerb.Take = answered_row (λ r told. KeptIn w n → IsTaken n v told.events told.answer) w (Verb.AtVb n v VbVerb.Take) n (flush_line n v part.Take) (λ r. (refl, λ told s. s)) (λ before r lines said old. old) (λ fits node up r. flush_ranged n v part.Take node r)
-      (flush_still n v part.Take) (flush_keeps n v part.Take) (λ node r. flush_spared n v part.Take (take_taken v) node r.own) (λ node r. take_tells w n v node) (λ r told. take_line_says w n v) (λ r t answered. answered (kept_in w n t.ranged)) (λ r fits ranged calm a. take_goes stays steady wholes w r n v ranged a)
+      (flush_still n v part.Take) (flush_keeps n v part.Take) (λ node r. flush_spared n v part.Take (take_taken v) node r.own) (λ node r. take_tells w n v node) (λ r told. take_line_says w n v) (λ r t answered. answered (kept_in w n t.ranged)) (λ r fits ranged calm begins a. take_goes stays steady wholes w r n v ranged a)
   vb_row_of VbVerb.Save = let o : Outcome = on_node w n (save_line n v) in let x : Told = (with_arm n w o).1 in record {
     ranged = λ fits here. armed_ranged n w o (on_node_ranged w n (save_line n v) here (λ node up r. save_ranged n v node r));
     rests = λ r here a all. weaker (with_arm n w o).0 (armed_all Still IsTimely still_steps (λ id. tt) n w o (node_still w here all n (save_line n v) (λ node at there. flush_still n v part.Save (placed v node) (kept_ranged n node (placed v node) refl (λ c. refl) refl at) there)));
@@ -124,7 +125,7 @@ module _ (w : PlainWorld) (n v : ℕ) where
     );
     tells = λ ranged. save_tells w n v;
     entered = λ before r old. save_entered r n v x.answer old;
-    goes = λ r fits ranged calm a. save_goes stays w r n v a;
+    goes = λ r fits ranged calm begins a. save_goes stays w r n v a;
   }
   vb_row_of VbVerb.Done = let o : Outcome = on_node w n (flush_line n v part.Done) in record {
     ranged = λ fits here. due_ranged n v o (on_node_ranged w n (flush_line n v part.Done) here (λ node up r. flush_ranged n v part.Done node r));
@@ -135,7 +136,7 @@ module _ (w : PlainWorld) (n v : ℕ) where
     told = λ r fits t. ((done_line_says w r n v t.disks).0, due_fires n v o (node_spared w n (flush_line n v part.Done) t.ranged (λ node r. flush_spared n v part.Done (done_taken v) node r.own)));
     tells = done_tells w n v;
     entered = λ before r old. old;
-    goes = λ r fits ranged calm a. told_goes (Verb.AtVb n v VbVerb.Done) r (done_step w n v) (done_goes stays steady wholes w r n v ranged a);
+    goes = λ r fits ranged calm begins a. told_goes (Verb.AtVb n v VbVerb.Done) r (done_step w n v) (done_goes stays steady wholes w r n v ranged a);
   }
   vb_row_of VbVerb.Stat = admin_row VbVerb.Stat AdminCall.Stat refl refl tt (λ before r lines said old. old) (stat_tells w n v) (λ r told. admin_says IsOk w n v AdminCall.Stat refl no_ok (λ vb has. (tt, λ why e s. cc)))
       (λ r a. on_node_goes w r n (admin_line n v AdminCall.Stat) a (λ node e up. stat_goes w r n v node a e up))

@@ -1,6 +1,7 @@
 -- lines that send a request
 use Rattle.std.specs.Prelude.{◌≡◌, ◌+◌, ◌<◌, ◌≤◌, ◌∷◌, ◌++◌, ◌⊎◌, ◌^◌, if◌then◌else◌}
-use Rattle.{branch_model.specs.Journals.{place_of}, cluster_model.specs.Clusters.{Fulfils, spanned}, durability.specs.declared.waiting.Waiting.{Waiting}, vb_calls.specs.Shelves.{Shelf}, vbucket.specs.Laws.{CasUpTo, OpensOwn}, vb_calls.specs.{Durable.{is_delete, prepare_change}, Following.{cas_of}}, vb_types.specs.declared.change.Level.{Level}, transcript_law.proofs.invariant.Bounded.{weighs_push}, transcript_law.specs.Chronicles.{CountsKnown}, transcript_law.specs.{Lawfulness.{IsHeldIfCommitted}, OwnChanges.{IsNextChange}}}
+use Rattle.transcript_law.specs.LinesTold.{timed}
+use Rattle.{branch_model.specs.Journals.{place_of}, cluster_model.specs.Clusters.{Fulfils, spanned}, durability.specs.declared.waiting.Waiting.{Waiting}, vb_calls.specs.Shelves.{Shelf}, vbucket.specs.Laws.{CasUpTo, OpensOwn}, vb_calls.specs.{Durable.{is_delete, prepare_change}, Following.{cas_of}}, vb_types.specs.declared.change.Level.{Level}, transcript_law.proofs.invariant.Bounded.{weighs_push}, transcript_law.specs.Chronicles.{CountsKnown}, transcript_law.specs.{Lawfulness.{IsGivenUp, IsHeldIfCommitted}, OwnChanges.{IsNextChange}}}
 use Rattle.transcript_law.proofs.{invariant.Agreement.{DiskIsIf, shelf_of}, disks.Disks.{ShelfIs, disk_same, grown_spots, parts_of, same_parts, shelf_spanned}, invariant.OneLink.{disk_here, disk_there}}
 use Rattle.transcript_law.proofs.Words.{ℕ, Bool, true, false, List, [], refl, ap, sym, ◌∙◌, subst, inl, inr, ⊎_elim, arith, Option, Some, None}
 use Rattle.transcript_law.proofs.Words.{nat_lt, All, cases_lt, nat_tests, All-push, WriteFits, Change, Doc, MAX_SEQ, LogEntry, Picture, image_of, Role, Status, Write, Position, upto, Rises, last_seq, fork_of, HasLast}
@@ -8,12 +9,18 @@ use Rattle.transcript_law.proofs.Words.{append_assoc, HoldsAt, IsFront, Branch, 
 use Rattle.transcript_law.proofs.Words.{last_at, span_of, keeps, is_follower, stream_at, Sound, Plain, newest_branch, is_active, doc_at, growth, write_change, written_doc, new_cas, new_rev, PlainLink}
 use Rattle.transcript_law.proofs.Words.{producer_node, consumer_node, PlainNode, PlainWorld, vb_in, is_one_of, Chronicle, after_change, known_history, LawfulChange, option_map, Act, IsIn, Op, holds_push}
 use Rattle.transcript_law.proofs.Words.{last_seq_le, grow_below, hist_grow_own, hist_grow_other, Forks, owned, own_joined, own_grown, act_of}
-use Rattle.transcript_law.proofs.invariant.Seats.{seat, seats_apart}
+use Rattle.transcript_law.proofs.{invariant.Lefts.{LeftUpTo}, invariant.Seats.{seat, seats_apart}}
 use Rattle.transcript_law.proofs.invariant.Tables.{at_here, at_there, if_known}
 use Rattle.transcript_law.proofs.invariant.Trees.{ids_grow, told_grow, told_below, told_found, new_grow, is_told_grow}
-use Rattle.transcript_law.proofs.invariant.Wholes.{joined_opens, WholeTo, fork_held, whole_before, spanned_active}
-use Rattle.transcript_law.proofs.invariant.Agreement.{vb_of, DocFits, ActFits, ChangeFits, BranchAgrees, Writes, WritesIf, own_history, VbAgrees, AgreesAt, consumer_seat, producer_seat, LinkAgrees, IsLink, LinksDiffer, top, idle, AgreesIn, vb_row, vb_contents}
-use Rattle.transcript_law.proofs.invariant.{Carried.{all_there}, Carrying.{Changed, same_clients}, ClientsKept.{ConnsKept, Every, GoesOver, clients_kept, goes_agreed_at, spot_at}, ClientsWritten.{goes_written}, LinkFeeds.{feeds_same}}
+use Rattle.transcript_law.proofs.invariant.Agreement.{ActFits, AgreesAt, AgreesIn, BranchAgrees, ChangeFits, CountsIf, DocFits, IsLink, LinkAgrees, LinksDiffer, TimesAre, TimesIf, VbAgrees, Writes, WritesIf, active_counts, active_times, consumer_seat, counts_if, idle, own_history, producer_seat, times_if, top, vb_contents, vb_of, vb_row}
+use Rattle.transcript_law.proofs.invariant.Carried.{all_there}
+use Rattle.transcript_law.proofs.invariant.Carrying.{Changed, same_clients}
+use Rattle.transcript_law.proofs.invariant.ClientsKept.{ConnsKept, Every, GoesOver, clients_kept, every_owed, fewer_at, fewer_now, goes_agreed_at, spot_at}
+use Rattle.transcript_law.proofs.invariant.ClientsWritten.{goes_written}
+use Rattle.transcript_law.proofs.invariant.Forked.{fork_held}
+use Rattle.transcript_law.proofs.invariant.LinkFeeds.{feeds_same}
+use Rattle.transcript_law.proofs.invariant.Owed.{Fewer, Owed}
+use Rattle.transcript_law.proofs.invariant.Wholes.{WholeTo, joined_opens, spanned_active, whole_before}
 use Rattle.transcript_law.proofs.invariant.Carried.{places, numbers, not_both, kept_same, link_carried, StaysProducer, all_vbs}
 use Rattle.transcript_law.proofs.invariant.OneLink.{put_here, put_there}
 use Rattle.transcript_law.proofs.{invariant.Agreement.{RestsIn}, verbs.NodeLines.{vb_told}, invariant.Resting.{ends_again, rests_by}}
@@ -31,6 +38,14 @@ no_commit o doc number committed deleted e = cc
 -- a write is no commit
 pub write_fulfils : (image : Picture) (vb : Plain) (write : Write) (cas : ℕ) → Fulfils image (write_change vb write cas)
 write_fulfils image vb write cas number committed deleted e = absurd (no_commit write.op (written_doc write cas (new_rev (doc_at vb write.key))) number committed deleted e)
+
+-- nor an abort
+no_abort : (o : Op) (doc : Doc) (number : ℕ) → act_of o doc ≡ Act.Abort number → ⊥
+no_abort Op.Set doc number e = cc
+no_abort o doc number e = cc
+
+pub write_aborts : (vb : Plain) (write : Write) (cas number : ℕ) → (write_change vb write cas).act ≡ Act.Abort number → ⊥
+write_aborts vb write cas number e = no_abort write.op (written_doc write cas (new_rev (doc_at vb write.key))) number e
 
 -- so nobody has to hold it
 pub write_unheld : (counts : CountsKnown) (saved : ℕ) (image : Picture) (vb : Plain) (write : Write) (cas : ℕ) → IsHeldIfCommitted counts saved image (write_change vb write cas)
@@ -154,8 +169,8 @@ module _ (w : PlainWorld) (r : Chronicle) (cl : Cluster) (n v : ℕ) (node : Pla
     told_below_it : ForksBelow member.br change.seq r.tree
     told_below_it = told_below cl.tree r.tree member.br change.seq a.are_told below
 
-    pub is_lawful : IsNextChange member.held change → IsHeldIfCommitted (r.counts_at n v) (r.disk_at n v).saved (image_of member.held) change → LawfulChange r n v member.br change
-    is_lawful next_one backed = record {
+    pub is_lawful : IsNextChange member.held change → IsHeldIfCommitted (r.counts_at n v) (r.disk_at n v).saved (image_of member.held) change → ((prepared : ℕ) → change.act ≡ Act.Abort prepared → IsGivenUp r n v prepared) → LawfulChange r n v member.br change
+    is_lawful next_one backed aborts = record {
       active = if_known (r.role_at n v) (Some Role.Active) (mine.role ∙ ap (λ (x : Role). Some (Some x)) (is_active_role vb.role active));
       writer = record { made_or_took = writer.writer; on_branch = writer.branch };
       above_branch = (let most : last_seq 0 (hist r.tree member.br) ≤ vb.position.at = last_seq_le 0 vb.position.at 0 (hist r.tree member.br) (omega arith) branch_rises in omega arith);
@@ -163,6 +178,7 @@ module _ (w : PlainWorld) (r : Chronicle) (cl : Cluster) (n v : ℕ) (node : Pla
       made = subst (λ h. IsNextChange h change) (sym mine.held) next_one;
       fulfils = subst (λ h. Fulfils (image_of h) change) (sym mine.held) named;
       backed = subst (λ h. IsHeldIfCommitted (r.counts_at n v) (r.disk_at n v).saved (image_of h) change) (sym mine.held) backed;
+      aborts = aborts;
     }
 
     -- the branch that the lines tell is one of the cluster's, made at or below where the vBucket is
@@ -192,9 +208,8 @@ module _ (w : PlainWorld) (r : Chronicle) (cl : Cluster) (n v : ℕ) (node : Pla
     fork_at : fork_of vb.position ≡ vb.position.at
     fork_at = subst (λ (q : Position). fork_of q ≡ q.at) mine.member.position (⊎_elim (λ y. y.1) (λ y. y.1 ∙ lead.ss_at) (start_cases member.position.ss member.position.se member.position.at))
 
-    at_end : HasLast member.held (hist r.tree member.br) vb.floor vb.position.at vb.position.at
-    at_end = subst (λ h. HasLast member.held h vb.floor vb.position.at vb.position.at) own_branch
-        (subst (λ i. HasLast member.held (own_history r n v) vb.floor i i) fork_at (fork_held vb.role vb.floor vb.spans vb.position member.held (own_history r n v) mine.spanned mine.sound.spans mine.holds))
+    at_end : HasLast member.held (hist r.tree member.br) 0 vb.position.at vb.position.at
+    at_end = subst (λ i. HasLast member.held (hist r.tree member.br) 0 i i) fork_at (fork_held cl (seat n v) (hist r.tree member.br) vb.position a.sound (a.hists member.br) mine.member.position)
 
     split : (i : ℕ) → WholeTo vb.floor grown.spans grown.position i → (WholeTo vb.floor vb.spans vb.position i × (i ≤ vb.position.at)) ⊎ (i ≡ change.seq)
     split i w =
@@ -206,13 +221,20 @@ module _ (w : PlainWorld) (r : Chronicle) (cl : Cluster) (n v : ℕ) (node : Pla
         (λ low. inl ((whole_before vb.floor i vb.position.at change.seq vb.spans joined alone mine.sound.spans (omega arith) (own_grown vb.held vb.spans.current (last_at vb.held change.key) change) w.0, omega arith, w.2), low))
         (cases_lt vb.position.at i)
 
+    abbrev now_timed : CountsKnown
+    now_timed = timed change.seq (r.clock_at n) (r.counts_at n v)
+
     -- its CAS is not above the last one
     weighed : (xs : List Change) → CasUpTo cas (xs ++ change ∷ []) → cas_of change.act ≤ cas
     weighed [] c = c.0
     weighed (x ∷ xs) c = weighed xs c.1
 
-    here : vb.last_cas ≤ cas → VbAgrees after n v (owned member change) grown
-    here rises = record {
+    -- the prepares that wait then have their times
+    abbrev pub KeepsTimes : Type 0
+    KeepsTimes = TimesAre (r.counts_at n v).times vb.waiting → TimesAre ((change.seq, r.clock_at n) ∷ (r.counts_at n v).times) left
+
+    here : vb.last_cas ≤ cas → LeftUpTo (r.counts_at n v).risen change.seq left → KeepsTimes → VbAgrees after n v (owned member change) grown
+    here rises lefts keeps_times = record {
       kept = record {
         sound = sound;
         spanned = spanned_active vb.role vb.floor grown.spans change.seq active sound.spans;
@@ -234,9 +256,9 @@ module _ (w : PlainWorld) (r : Chronicle) (cl : Cluster) (n v : ℕ) (node : Pla
         };
         member = record { active = mine.member.active; position = refl; log = mine.member.log };
         branch = mine.branch;
-        holds = subst (HoldsAt vb.floor (WholeTo vb.floor grown.spans grown.position) (member.held ++ change ∷ [])) (sym (ap (known_history after.tree) writer.branch ∙ grown_branch))
-            (holds_push vb.floor (WholeTo vb.floor vb.spans vb.position) (WholeTo vb.floor grown.spans grown.position) vb.position.at member.held (hist r.tree member.br) change branch_rises (omega arith) at_end split
-            (subst (HoldsAt vb.floor (WholeTo vb.floor vb.spans vb.position) member.held) own_branch mine.holds));
+        holds = subst (HoldsAt 0 (WholeTo vb.floor grown.spans grown.position) (member.held ++ change ∷ [])) (sym (ap (known_history after.tree) writer.branch ∙ grown_branch))
+            (holds_push 0 (WholeTo vb.floor vb.spans vb.position) (WholeTo vb.floor grown.spans grown.position) vb.position.at member.held (hist r.tree member.br) change branch_rises (omega arith) at_end split
+            (subst (HoldsAt 0 (WholeTo vb.floor vb.spans vb.position) member.held) own_branch mine.holds));
       };
       role = mine.role;
       opened = at_here r.open_at n v true ∙ sym (joined_opens vb.spans joined alone);
@@ -246,7 +268,9 @@ module _ (w : PlainWorld) (r : Chronicle) (cl : Cluster) (n v : ℕ) (node : Pla
         writer = writer.writer;
         named = writer.named;
       });
-      counts = mine.counts;
+      counts = subst (λ (t : CountsKnown). CountsIf (is_active vb.role) t vb.others vb.acks) (sym (at_here r.counts_at n v now_timed)) (counts_if (λ e. let x = active_counts e mine.counts in record { chain = x.chain; counted = x.counted; alone = x.alone }));
+      times = subst (λ (t : CountsKnown). TimesIf (is_active vb.role) t.times left) (sym (at_here r.counts_at n v now_timed)) (times_if (λ e. keeps_times (active_times e mine.times)));
+      lefts = λ on. subst (λ (t : CountsKnown). LeftUpTo t.risen change.seq left) (sym (at_here r.counts_at n v now_timed)) lefts;
     }
 
     writes_there : (m q br : ℕ) (b : Bool) → WritesIf b r m q br → WritesIf b after m q br
@@ -276,6 +300,7 @@ module _ (w : PlainWorld) (r : Chronicle) (cl : Cluster) (n v : ℕ) (node : Pla
     row_there : (m q : ℕ) → (m ≡ n → q ≡ v → ⊥) → vb_row after m q ≡ vb_row r m q
     row_there m q other = λ i. record (vb_row r m q) {
       opened = at_there r.open_at n v true m q other i;
+      counts = at_there r.counts_at n v now_timed m q other i;
       contents = record (vb_contents r m q) { held = at_there r.held n v (r.held n v ++ change ∷ []) m q other i; snap = at_there r.snap_at n v (Some (change.seq, change.seq)) m q other i };
     }
 
@@ -315,7 +340,7 @@ module _ (w : PlainWorld) (r : Chronicle) (cl : Cluster) (n v : ℕ) (node : Pla
         (shelf_spanned grown.spans x refl refl refl (grown_spots (place_of (cl.disks (seat n v)).book).at change.seq vb.spans joined alone Own (cl.disks (seat n v)).stood
         (own_grown vb.held vb.spans.current (last_at vb.held change.key) change) refl refl (λ x e. own_current vb.role vb.spans.current active mine.sound.current x e) x.spots))
 
-    module _ (w' : PlainWorld) (changed : Changed w w' n v grown w.links) (shelf : shelf_of w' n v ≡ shelf_of w n v) (rises : vb.last_cas ≤ cas) where
+    module _ (w' : PlainWorld) (changed : Changed w w' n v grown w.links) (shelf : shelf_of w' n v ≡ shelf_of w n v) (rises : vb.last_cas ≤ cas) (lefts : LeftUpTo (r.counts_at n v).risen change.seq left) (keeps_times : KeepsTimes) where
       one_of : (m q : ℕ) (x : Plain) → vb_of w m q ≡ Some x → m ≡ n → q ≡ v → x ≡ vb
       one_of m q x e s t = let z : vb_of w m q ≡ Some vb = ap (λ k. vb_of w k q) s ∙ ap (vb_of w n) t ∙ there_is in cc
 
@@ -393,12 +418,16 @@ module _ (w : PlainWorld) (r : Chronicle) (cl : Cluster) (n v : ℕ) (node : Pla
             (places n v m q);
       }
 
-      pub written : AgreesIn idle w' after later
-      written = record {
+      -- where the vBucket owes no more
+      pub fewer_written : Fewer (Some vb) (Some grown) → Owed w' after
+      fewer_written fewer = every_owed w w' r after conns (record { last = refl; grows = λ one durable i. inr i }) (fewer_at w w' n v changed.there (fewer_now w w' n v vb grown there_is changed.here fewer)) a.clients.owed
+
+      pub written : Owed w' after → AgreesIn idle w' after later
+      written owed = record {
         sound = still_sound;
         rests = rest;
         vbs = all_vbs w w' n v grown (λ m q o. AgreesAt after m q (later.nodes (seat m q)) o) changed.here changed.there
-            (subst (λ m. VbAgrees after n v m grown) (sym (put_here cl.nodes (seat n v) (owned member change))) (here rises)) there;
+            (subst (λ m. VbAgrees after n v m grown) (sym (put_here cl.nodes (seat n v) (owned member change))) (here rises lefts keeps_times)) there;
         disks = all_vbs w w' n v grown (λ m q o. DiskIsIf (after.disk_at m q) (later.disks (seat m q)) (shelf_of w' m q) o) changed.here changed.there
             (subst (λ o. DiskIsIf (after.disk_at n v) (later.disks (seat n v)) o (Some grown)) (sym shelf) (disk_here_is (shelf_of w n v) (subst (DiskIsIf (r.disk_at n v) (cl.disks (seat n v)) (shelf_of w n v)) there_is (a.disks n v))))
             (λ m q o. disk_same (vb_of w m q) (vb_of w m q) refl (disk_there cl.disks (seat n v) (spanned (cl.disks (seat n v)) (owned member change).position) (seat m q) (seats_apart m q n v o)) (changed.shelves m q o) (same_parts (vb_of w m q)) (a.disks m q));
@@ -413,5 +442,5 @@ module _ (w : PlainWorld) (r : Chronicle) (cl : Cluster) (n v : ℕ) (node : Pla
         };
         links = λ x i. linked x (subst (IsLink x) changed.linked i);
         differ = subst LinksDiffer (sym changed.linked) a.differ;
-        clients = clients_kept w w' r after 0 a.clients (all_there idle w r cl a) conns (λ k m q id has. inl (feeds_same w w' changed.linked k m q id has));
+        clients = clients_kept w w' r after 0 a.clients (all_there idle w r cl a) conns (λ k m q id has. inl (feeds_same w w' changed.linked k m q id has)) owed;
       }

@@ -1,5 +1,5 @@
 use Rattle.transcript_law.proofs.messages.judged_messages.Goals as goal
-use Rattle.transcript_law.proofs.rows.MessageRows.{messages_early_bytes, messages_early_bytes_succeed, messages_early_noop, messages_early_noop_succeeds, messages_early_seqno, messages_early_seqno_unsupported, messages_end, messages_end_succeeds, messages_formless, messages_formless_succeeds, messages_noop, messages_noop_refused, messages_other_opaque, messages_seqno, messages_seqno_refused, messages_seqno_succeeds, messages_typed, messages_typed_succeeds, messages_unused, messages_unused_succeeds, messages_unused_unknown, messages_value}
+use Rattle.transcript_law.proofs.rows.MessageRows.{messages_early_bytes, messages_early_bytes_succeed, messages_early_noop, messages_early_noop_succeeds, messages_early_seqno, messages_early_seqno_unsupported, messages_end, messages_end_succeeds, messages_formless, messages_formless_succeeds, messages_noop, messages_noop_refused, messages_other_opaque, messages_seqno, messages_seqno_refused, messages_seqno_succeeds, messages_typed, messages_typed_succeeds, messages_stated, messages_stated_succeeds, messages_stated_unknown, messages_value}
 
 pub returns : goal.returns
 returns c = record {
@@ -20,9 +20,9 @@ returns c = record {
   typed_succeeds = messages_typed_succeeds;
   formless = messages_formless;
   formless_succeeds = messages_formless_succeeds;
-  unused = messages_unused;
-  unused_succeeds = messages_unused_succeeds;
-  unused_unknown = messages_unused_unknown;
+  stated = messages_stated;
+  stated_succeeds = messages_stated_succeeds;
+  stated_unknown = messages_stated_unknown;
   other_opaque = messages_other_opaque;
   value = messages_value;
 }

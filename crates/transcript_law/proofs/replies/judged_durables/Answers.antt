@@ -15,8 +15,8 @@ returns c = record {
   away = rows.away;
   active = rows.active;
   other = rows.other;
-  spent = rows.spent;
-  spent_away = rows.spent_away;
+  early = rows.early;
+  early_away = rows.early_away;
   no_level = rows.no_level;
   level = rows.level;
 }

@@ -14,6 +14,11 @@ returns c = record {
   branch = rows.branch;
   seqno = rows.seqno;
   unasked = rows.unasked;
+  other_key = rows.other_key;
+  other_vb = rows.other_vb;
+  other_value = rows.other_value;
+  removal = rows.removal;
+  other_prepare = rows.other_prepare;
   plain = rows.plain;
   plain_uncommitted = rows.plain_uncommitted;
 }

@@ -11,7 +11,6 @@ returns c = record {
   older = rows.older;
   prepare = rows.prepare;
   beside_prepare = rows.beside_prepare;
-  left_undone = rows.left_undone;
   nothing_undone = rows.nothing_undone;
   none = rows.none;
   not_none = rows.not_none;

@@ -18,7 +18,6 @@ returns c = record {
   away_other = rows.away_other;
   away_full = rows.away_full;
   locked = rows.locked;
-  left_undone = rows.left_undone;
   locked_other = rows.locked_other;
   unlocked = rows.unlocked;
   full = rows.full;

@@ -1,0 +1,412 @@
+-- each line of a script answers the sets and removals that it tells of where it tells of them
+use Rattle.std.specs.Prelude.{◌≡◌, ◌∷◌, ◌++◌, if◌then◌else◌}
+use Rattle.transcript_law.proofs.Words.{ℕ, Bool, true, false, List, [], refl, sym, subst, map, take, length, and_parts, All, Option, Some, None, is_some, Answer, Cause, Chronicle, Event, Frame, Role, Verb, VbVerb, NodeVerb, LinkVerb, ClientVerb, AdminCall, AdminResult, PlainLink, PlainNode, PlainWorld, Outcome, Told, VbAnswer, VbCall, VbReply, States, after, after_job, with_states}
+use Rattle.transcript_law.proofs.Words.{admin_call, admin_result, call_at, called_at, cut_off, done, first_cause, moved_len, no_node, node_outcome, on_link, on_node, own_link, peer_of, producer_node, refusal, refused_or, role_outcome, turned_after, turned_if, up_at, verb_step, with_ended, with_node_at}
+use Rattle.disk_journals.specs.{Arms.{opens_all}, Books.{Book}}
+use Rattle.{durability.specs.Chains.{Links, Members}, vb_calls.specs.States.{states_step}}
+use Rattle.node_core.specs.{Admin.{admin_refused, promote_result, role_at, role_noted, role_result}, Calls.{own_lines_if}, Dials.{DialResult, acknowledged_line, dial_due, untold}, Flushing.{FlushResult, flush_at, flush_if, flush_result, settled_by, settled_result}, Loading.{are_short, branch_in, branch_lines_of_reply, start_job, start_result, starts_of}, Peers.{PeerResult, PlainPeer, peer_answered, peer_frames, peer_heard}}
+use Rattle.node_world.specs.{Arms.{fired_by, no_arm, placed, under_arm}, Dues.{due_at, due_in, due_of, is_counted}, Links.{dial_of, frame_posted, frame_up, frames_up, untold_peer}, Nodes.{all_posted, bytes_at, chain_causes, chain_line, chain_made, flush_line, tick_line, with_kept, with_posts}}
+use Rattle.node_world.specs.{Power.{Starting, after_fire, burnt_arm, down_lines, first_no, loaded_node, not_opened, opened_at, opening_told, start_at, start_causes, start_if, start_one, start_step, started_by, starts_from, with_arm}, Turns.{posted_at, posted_in, promote_causes, role_called, turn_causes}, Worlds.{arm_in, on_made}}
+use Rattle.node_world.specs.declared.arm.Fired.{Fired}
+use Rattle.node_world.specs.declared.arm.Fired.TheVariants as fired
+use Rattle.transcript_law.proofs.{lines.Calm.{due_keeps}, lines.Stored.{Gives, durable_settled_lines, gives, is_no_change, next_behind, settled_next, unchanged_next}, lines.StoredSessions.{bytes_next, peer_calm, posts_next}, verbs.NodeLines.{on_made_by, on_node_by}, verbs.Tellings.{Are, are_cons, are_down}}
+use Rattle.transcript_law.proofs.{answers.Calm.{OfDurable}, verbs.NodeLines.{on_link_by}}
+use Rattle.transcript_law.specs.{AnsweredWrites.{AllToldNext}, Asked.{IsShowLine, TellsAsAsked, TellsIfDone, is_of_down, is_of_image, is_of_pump}, Tellings.{TellsOf, are_all, at_link, at_node, at_vb, is_none, is_of_pulls}}
+use Rattle.vb_calls.proofs.{Conduct.{after_always}, JobConduct.{always_bind_job}}
+use Rattle.vb_calls.specs.Flushes.{flush_job, is_refusal, note_role_job, part_job, role_job, role_of_call, role_told_job}
+use Rattle.vb_calls.specs.Jobs.{AlwaysJob, Ended, Job, Call as AsksCall, Request}
+use Rattle.vb_calls.specs.Programs.{AnyCall}
+use Rattle.vb_calls.specs.Shelves.{Ask, Flush, Got, Idle, Out, Shelves, Written, shelves_step}
+use Rattle.vb_calls.specs.declared.calls.Resolved.{Resolved}
+use Rattle.vb_calls.specs.declared.calls.VbAnswer.TheVariants as answer
+use Rattle.vb_calls.specs.declared.journals.{Flushed.{Flushed}}
+use Rattle.vb_calls.specs.declared.journals.Flushed.TheVariants as flushed
+use Rattle.vb_calls.specs.declared.journals.Wrote.TheVariants.{NotAsked}
+use Rattle.vb_types.specs.declared.journal.FlushPart.TheVariants as part
+
+-- ---- lines that tell of no change
+
+-- as their test passes none
+unchanged : (q : Event → Bool) → ((line : Event) → q line ≡ true → is_no_change line ≡ true) → (lines : List Event) → Are q lines → AllToldNext lines
+unchanged q none lines a = unchanged_next lines (by lines a)
+  where
+    by : (lines : List Event) → Are q lines → Are is_no_change lines
+    by [] a = refl
+    by (line ∷ lines) a = let p = and_parts (q line) (are_all q lines) a in are_cons is_no_change line lines (none line p.0) (by lines p.1)
+
+-- of an arm that fired
+armed : (n : ℕ) (w : PlainWorld) (came : Outcome) → AllToldNext came.1.events → AllToldNext (with_arm n w came).1.events
+armed n w came t = by (fired_by (arm_in (w.nodes n)).fuse (arm_in (came.0.nodes n)).fuse)
+  where
+    by : (f : Fired) → AllToldNext (after_fire n (arm_in (w.nodes n)).out f came).1.events
+    by fired.No = t
+    by fired.Failed = next_behind came.1.events (Event.CallFailed n ∷ []) t tt
+    by fired.Stopped = next_behind came.1.events (Event.NodeStopped n ∷ down_lines n None came.0) t (unchanged_next (down_lines n None came.0) (are_down is_no_change n None came.0 (λ l. refl) (λ c. refl)))
+
+-- a line that is refused tells of nothing
+unless_next : {A : Type 0} (why : Option Cause) (before : A) (x : A × Told) → AllToldNext x.1.events → AllToldNext (refused_or why before x).1.events
+unless_next (Some why) before x t = tt
+unless_next None before x t = t
+
+-- a line for a running node
+on_next : (w : PlainWorld) (n : ℕ) (f : PlainNode → PlainNode × Told) → ((node : PlainNode) → AllToldNext (f node).1.events) → AllToldNext (on_node w n f).1.events
+on_next w n f each = on_node_by (λ o. AllToldNext o.1.events) w n f tt (λ node known. tt) (λ node known up. each node)
+
+-- ---- changes that a vBucket makes of its own
+
+-- those of a reply, if there is one, are durable writes'
+abbrev AreDurable : Option VbReply → Type 0
+AreDurable None = Unit {0}
+AreDurable (Some reply) = All OfDurable reply.changes
+
+own_next : (n v : ℕ) (o : Option VbReply) → AreDurable o → AllToldNext (own_lines_if n v o)
+own_next n v None d = tt
+own_next n v (Some reply) d = settled_next (map (Event.Changed n v reply.branch) reply.changes) (durable_settled_lines n v reply.branch reply.changes d)
+
+-- what is told, and behind it what is posted
+posted_next : (told : FlushResult) (node : PlainNode) → AllToldNext told.events → AllToldNext (with_posts told node).1.events
+posted_next told node t = next_behind told.events (all_posted told.resolved node).1 t (posts_next told.resolved node)
+
+settled_is : (n v : ℕ) (o : Option VbReply) → AreDurable o → AllToldNext (settled_result n v o).events
+settled_is n v None d = tt
+settled_is n v (Some reply) d = by reply.answer
+  where
+    by : (a : VbAnswer) → AllToldNext (settled_by n v reply a).events
+    by answer.Done = own_next n v (Some reply) d
+    by other = tt
+
+-- a call of a chain
+settles_next : (n v : ℕ) (c : VbCall) (node : PlainNode) → (let x = call_at node.vbs v c (node.vbs v) in AreDurable x.1 → AllToldNext (with_posts (settled_result n v x.1) (with_states node x.0)).1.events)
+settles_next n v c node d = let x = call_at node.vbs v c (node.vbs v) in posted_next (settled_result n v x.1) (with_states node x.0) (settled_is n v x.1 d)
+
+-- a call that makes no write of a client gives no other changes
+chain_gives : (links : Links) (o : Option VbReply) → Gives (VbCall.Chain links) o → AreDurable o
+chain_gives links None g = tt
+chain_gives links (Some reply) g = g
+
+tick_gives : (clock : ℕ) (o : Option VbReply) → Gives (VbCall.Tick clock) o → AreDurable o
+tick_gives clock None g = tt
+tick_gives clock (Some reply) g = g
+
+done_gives : (seq : ℕ) (o : Option VbReply) → Gives (VbCall.FlushDone seq) o → AreDurable o
+done_gives seq None g = tt
+done_gives seq (Some reply) g = g
+
+promote_gives : (uuid : ℕ) (o : Option VbReply) → Gives (VbCall.Promote uuid) o → AreDurable o
+promote_gives uuid None g = tt
+promote_gives uuid (Some reply) g = g
+
+chain_next : (n v : ℕ) (others : Members) (node : PlainNode) → AllToldNext (chain_line n v others node).1.events
+chain_next n v others node =
+    let links : Links = record { active = n; others = others } in let c : VbCall = VbCall.Chain links in
+    unless_next (first_cause (chain_causes n v others node)) node (chain_made n v others node) (settles_next n v c node (chain_gives links (call_at node.vbs v c (node.vbs v)).1 (gives node.vbs v c)))
+
+tick_next : (n v : ℕ) (node : PlainNode) → AllToldNext (tick_line n v node).1.events
+tick_next n v node = settles_next n v (VbCall.Tick node.clock) node (tick_gives node.clock (call_at node.vbs v (VbCall.Tick node.clock) (node.vbs v)).1 (gives node.vbs v (VbCall.Tick node.clock)))
+
+-- ---- jobs
+
+abbrev AnyRequest : ℕ → Ask → Type 0
+AnyRequest v ask = Unit {0}
+
+abbrev Comes : {A : Type 0} → (A → Type 0) → Job A → Type 0
+Comes P job = AlwaysJob Gives AnyCall AnyRequest P job
+
+it_comes : {A : Type 0} (P : A → Type 0) (job : Job A) (states : States) (shelves : Shelves) → Comes P job → P (after_job job states shelves).1
+it_comes P (Ended a) states shelves comes = comes
+it_comes P (AsksCall v c next) states shelves comes =
+    let step : States × Option VbReply = states_step states v c in it_comes P (next step.1) step.0 shelves (comes.1 step.1 (gives states v c))
+it_comes P (Request v ask next) states shelves comes = let step : Shelves × Got ask = shelves_step shelves v ask in it_comes P (next step.1) states step.0 (comes.1 step.1)
+
+-- `done`: its vBucket may commit
+abbrev DoneSo : Flushed → Type 0
+DoneSo (flushed.Done reply) = AreDurable reply
+DoneSo flushed.NothingTaken = Unit {0}
+DoneSo other = ⊥
+
+done_steps : (v : ℕ) (flush : Flush) → Comes DoneSo (part_job v part.Done flush)
+done_steps v Idle = tt
+done_steps v (Out batch) = tt
+done_steps v (Written seq) = (tt, λ kept. (tt, λ reply may. done_gives seq reply may))
+
+flush_next : (n v : ℕ) (node : PlainNode) → AllToldNext (flush_line n v part.Done node).1.events
+unfolding flush_job
+flush_next n v node =
+    let y = after_job (flush_at n v part.Done) node.vbs node.shelves in
+    posted_next y.1 (with_kept node y.0) (it_comes (λ (told : FlushResult). AllToldNext told.events) (flush_at n v part.Done) node.vbs node.shelves (tt, λ reply may. by (is_some reply)))
+  where
+    came : (x : Flushed) → DoneSo x → AllToldNext (flush_result n v x).events
+    came (flushed.Done reply) d = own_next n v reply d
+    came flushed.NothingTaken d = tt
+    came other d = absurd d
+
+    by : (b : Bool) → Comes (λ (told : FlushResult). AllToldNext told.events) (flush_if n v part.Done b)
+    by true = always_bind_job Gives AnyCall AnyRequest DoneSo (λ (told : FlushResult). AllToldNext told.events) (flush_job v part.Done) (λ x. Ended (flush_result n v x)) (tt, done_steps v) came
+    by false = tt
+
+-- and then acknowledge
+due_next : (n v : ℕ) (came : Outcome) → AllToldNext came.1.events → AllToldNext (due_in n v came).1.events
+due_next n v came t = by (is_counted came.1.answer)
+  where
+    acks : (link : PlainLink) (node : PlainNode) → AllToldNext (after (dial_due (dial_of link)) node.vbs).1.events
+    acks link node = after_always AnyCall (λ (x : DialResult). AllToldNext x.events) (dial_due (dial_of link)) node.vbs
+        (due_keeps AllToldNext (λ lines d seq saved so. next_behind lines (acknowledged_line d seq saved ∷ []) so tt) (untold (dial_of link)) tt)
+
+    at : (link : PlainLink) (o : Option PlainNode) → AllToldNext (due_at n link came.0 came.1 o).1.events
+    at link None = t
+    at link (Some node) = next_behind came.1.events (after (dial_due (dial_of link)) node.vbs).1.events t (acks link node)
+
+    of : (o : Option PlainLink) → AllToldNext (due_of n came.0 came.1 o).1.events
+    of None = t
+    of (Some link) = at link (came.0.nodes n)
+
+    by : (b : Bool) → AllToldNext (let x : Outcome = if b then due_of n came.0 came.1 (own_link n v came.0.links) else came in x.1.events)
+    by true = of (own_link n v came.0.links)
+    by false = t
+
+-- a change of role, which is written down
+role_comes : (v : ℕ) (c : VbCall) → Comes (λ made. Gives c made.0) (role_job v c)
+unfolding role_job
+role_comes v c = (tt, told)
+  where
+    noted : (b : Bool) (reply : VbReply) → Gives c (Some reply) → Comes (λ made. Gives c made.0) (if b then Ended (Some reply, NotAsked) else AsksCall v VbCall.Log (note_role_job v (role_of_call c) reply))
+    noted true reply may = may
+    noted false reply may = (tt, λ logged any. (tt, λ fate. may))
+
+    told : (o : Option VbReply) → Gives c o → Comes (λ made. Gives c made.0) (role_told_job v c o)
+    told None may = tt
+    told (Some reply) may = noted (is_refusal reply.answer) reply may
+
+module _ (n v : ℕ) (asked : AdminCall) (calls : (o : Option VbReply) → Gives (admin_call asked) o → AllToldNext (admin_result n v asked o).events) where
+  at_once : (node : PlainNode) → AllToldNext (after_job (role_at n v asked) node.vbs node.shelves).1.events
+  at_once node = it_comes (λ (told : AdminResult). AllToldNext told.events) (role_at n v asked) node.vbs node.shelves
+      (always_bind_job Gives AnyCall AnyRequest (λ made. Gives (admin_call asked) made.0) (λ (told : AdminResult). AllToldNext told.events) (role_job v (admin_call asked)) (λ made. Ended (role_noted n v asked made)) (role_comes v (admin_call asked)) (λ made may. calls made.0 may))
+
+  cut_next : (o : Option PlainLink) (w1 : PlainWorld) → AllToldNext (cut_off o w1).1
+  cut_next None w1 = tt
+  cut_next (Some link) w1 = tt
+
+  posts_in : (w3 : PlainWorld) (t : Told) (rs : List Resolved) → AllToldNext t.events → AllToldNext (posted_in n rs (w3, t)).1.events
+  posts_in w3 t rs so = by (w3.nodes n)
+    where
+      by : (o : Option PlainNode) → AllToldNext (posted_at n rs w3 t o).1.events
+      by None = so
+      by (Some node) = next_behind t.events (all_posted rs node).1 so (posts_next rs node)
+
+  by_ended : (w : PlainWorld) (o : Option (List ℕ)) (w1 : PlainWorld) (told : AdminResult) → AllToldNext told.events → AllToldNext (turned_if n v w o (w1, told)).1.events
+  by_ended w None w1 told so = so
+  by_ended w (Some ids) w1 told so =
+      let w2 : PlainWorld = with_ended n v ids w1 in let own = own_link n v w2.links in
+      posts_in (cut_off own w2).0 (record { events = (cut_off own w2).1 ++ told.events; answer = told.answer }) told.resolved (next_behind (cut_off own w2).1 told.events (cut_next own w2) so)
+
+  module _ (called : (node : PlainNode) → AllToldNext (called_at n v asked node).1.events) where
+    called_next : (node : PlainNode) → AllToldNext (role_called n v asked node).1.events
+    called_next node = by (is_some node.off)
+      where
+        by : (b : Bool) → AllToldNext (let x : PlainNode × AdminResult = if b then (node, admin_refused Cause.NodeDown) else under_arm v (called_at n v asked) node in x.1.events)
+        by true = tt
+        by false = called (placed v node)
+
+    role_next : (w : PlainWorld) (why : Option Cause) → AllToldNext (with_arm n w (refused_or why w (role_outcome n v asked w))).1.events
+    role_next w why = armed n w (refused_or why w (role_outcome n v asked w)) (unless_next why w (role_outcome n v asked w) (by (w.nodes n)))
+      where
+        by : (o : Option PlainNode) → AllToldNext (turned_after n v w (node_outcome w n no_node o (role_called n v asked))).1.events
+        by None = tt
+        by (Some node) = let x = role_called n v asked node in by_ended w x.1.ended (with_node_at w n x.0) x.1 (called_next node)
+
+module _ (n v : ℕ) where
+  rises : (uuid : ℕ) (o : Option VbReply) → AreDurable o → AllToldNext (admin_result n v (AdminCall.Promote uuid) o).events
+  rises uuid None d = tt
+  rises uuid (Some reply) d = by reply.answer
+    where
+      by : (a : VbAnswer) → AllToldNext (promote_result n v reply a).events
+      by (answer.Branch u parent fork high) = own_next n v (Some reply) d
+      by (answer.Status st) = tt
+      by other = tt
+
+  turned : (r : Role) (reply : VbReply) (a : VbAnswer) → AllToldNext (role_result n v r reply a).events
+  turned r reply answer.Done = tt
+  turned r reply other = tt
+
+  follows : (o : Option VbReply) → AllToldNext (admin_result n v AdminCall.Follow o).events
+  follows None = tt
+  follows (Some reply) = turned Role.Replica reply reply.answer
+
+  dies : (o : Option VbReply) → AllToldNext (admin_result n v AdminCall.Dead o).events
+  dies None = tt
+  dies (Some reply) = turned Role.Dead reply reply.answer
+
+  promote_next : (w : PlainWorld) (uuid : ℕ) (why : Option Cause) → AllToldNext (with_arm n w (refused_or why w (role_outcome n v (AdminCall.Promote uuid) w))).1.events
+  promote_next w uuid why = let call = λ (o : Option VbReply) (may : Gives (VbCall.Promote uuid) o). rises uuid o (promote_gives uuid o may) in
+      role_next n v (AdminCall.Promote uuid) call (at_once n v (AdminCall.Promote uuid) call) w why
+
+  follow_next : (w : PlainWorld) (why : Option Cause) → AllToldNext (with_arm n w (refused_or why w (role_outcome n v AdminCall.Follow w))).1.events
+  follow_next w why = role_next n v AdminCall.Follow (λ o may. follows o) (at_once n v AdminCall.Follow (λ o may. follows o)) w why
+
+  dead_next : (w : PlainWorld) (why : Option Cause) → AllToldNext (with_arm n w (refused_or why w (role_outcome n v AdminCall.Dead w))).1.events
+  dead_next w why = role_next n v AdminCall.Dead (λ o may. dies o) (at_once n v AdminCall.Dead (λ o may. dies o)) w why
+
+-- ---- a node that starts
+
+starts_next : (n v uuid : ℕ) (node : PlainNode) → AllToldNext (after_job (start_job n v uuid) node.vbs node.shelves).1.events
+starts_next n v uuid node = it_comes (λ (told : FlushResult). AllToldNext told.events) (start_job n v uuid) node.vbs node.shelves
+    (always_bind_job Gives AnyCall AnyRequest (λ made. Gives (VbCall.Promote uuid) made.0) (λ (told : FlushResult). AllToldNext told.events) (role_job v (VbCall.Promote uuid)) (λ made. Ended (start_result n v made)) (role_comes v (VbCall.Promote uuid)) (λ made may. by made.0 (promote_gives uuid made.0 may)))
+  where
+    in_answer : (a : VbAnswer) → AllToldNext (branch_in n v a)
+    in_answer (answer.Branch u parent fork high) = tt
+    in_answer other = tt
+
+    by : (o : Option VbReply) → AreDurable o → AllToldNext (branch_lines_of_reply n v o)
+    by None d = tt
+    by (Some reply) d = next_behind (branch_in n v reply.answer) (own_lines_if n v (Some reply)) (in_answer reply.answer) (own_next n v (Some reply) d)
+
+module _ (n : ℕ) where
+  starts_are : (starts : List (ℕ × ℕ)) (so_far : Starting) → AllToldNext so_far.1.events → AllToldNext (starts_from n starts so_far).1.events
+  starts_are [] so_far t = t
+  starts_are (start ∷ starts) so_far t = by (fired_by so_far.0.arm.fuse (start_one n start so_far.0).0.arm.fuse) (starts_are starts)
+    where
+      one : FlushResult
+      one = (start_one n start so_far.0).1
+
+      more : AllToldNext (so_far.1.events ++ one.events)
+      more = next_behind so_far.1.events one.events t (starts_next n start.0 start.1 (placed start.0 so_far.0))
+
+      behind : (line : Event) → AllToldNext (line ∷ []) → AllToldNext (so_far.1.events ++ one.events ++ line ∷ [])
+      behind line e = next_behind (so_far.1.events ++ one.events) (line ∷ []) more e
+
+      by : (f : Fired) → ((x : Starting) → AllToldNext x.1.events → AllToldNext (starts_from n starts x).1.events)
+          → AllToldNext (started_by n so_far.0.arm f (start_one n start so_far.0).1 so_far.1 (start_one n start so_far.0).0 (starts_from n starts)).1.events
+      by fired.No later = later ((start_one n start so_far.0).0, record { events = so_far.1.events ++ one.events; answer = first_no so_far.1.answer one.answer }) more
+      by fired.Failed later = later ((start_one n start so_far.0).0, record { events = so_far.1.events ++ one.events ++ Event.CallFailed n ∷ []; answer = first_no so_far.1.answer one.answer }) (behind (Event.CallFailed n) tt)
+      by fired.Stopped later = behind (Event.NodeStopped n) tt
+
+  start_are : (uuids : List ℕ) (node : PlainNode) → AllToldNext (start_at n uuids node).1.events
+  start_are uuids node = by node.off
+    where
+      opening : (f : Fired) → AllToldNext (opening_told n f).events
+      opening fired.No = tt
+      opening fired.Failed = tt
+      opening fired.Stopped = tt
+
+      shorts : (books : List Book) (b : Bool)
+          → (let x : PlainNode × Told = if b then (record node { arm = burnt_arm (length books) node.arm }, refusal Cause.IdsShort) else starts_from n (starts_of books uuids) (loaded_node n books (burnt_arm (length books) node.arm), done []) in AllToldNext x.1.events)
+      shorts books true = tt
+      shorts books false = starts_are (starts_of books uuids) (loaded_node n books (burnt_arm (length books) node.arm), done []) tt
+
+      opens : (books : List Book) (b : Bool) → (let x : PlainNode × Told = if b then opened_at n uuids books node else not_opened n node in AllToldNext x.1.events)
+      opens books true = shorts books (are_short books uuids)
+      opens books false = opening (fired_by node.arm.fuse no_arm.fuse)
+
+      by : (o : Option (List Book)) → AllToldNext (start_if n uuids node o).1.events
+      by None = tt
+      by (Some books) = opens books (opens_all node.arm.fuse (length books))
+
+start_next : (w : PlainWorld) (n : ℕ) (uuids : List ℕ) → AllToldNext (start_step w n uuids).1.events
+start_next w n uuids = unless_next (first_cause (start_causes w n uuids)) w (on_made w n (start_at n uuids)) (on_made_by (λ o. AllToldNext o.1.events) w n (start_at n uuids) tt (λ node known. start_are n uuids node))
+
+-- ---- what comes up a link
+
+one_up : (f : Frame) (peer : PlainPeer) (node : PlainNode) → AllToldNext (frame_posted f peer node).1.events
+one_up f peer node =
+    let x = after (peer_answered f peer) node.vbs in
+    next_behind x.1.events (all_posted x.1.resolved (with_states node x.0)).1 (settled_next x.1.events (peer_calm f peer node.vbs)) (posts_next x.1.resolved (with_states node x.0))
+
+frames_next : (fs : List Frame) (came : PlainNode × PeerResult) → AllToldNext came.1.events → AllToldNext (frames_up fs came).1.events
+frames_next [] came t = t
+frames_next (f ∷ fs) came t = frames_next fs (frame_up f came) (next_behind came.1.events (frame_posted f came.1.peer came.0).1.events t (one_up f came.1.peer came.0))
+
+up_next : (w : PlainWorld) (l wanted : ℕ) → AllToldNext (on_link w l producer_node (up_at wanted)).1.events
+up_next w l wanted = on_link_by (λ o. AllToldNext o.1.events) w l producer_node (up_at wanted) tt (λ link found. tt) (λ link node found known. let piece : List ℕ = take (moved_len wanted link.up) link.up in
+    frames_next (peer_frames piece (peer_of link)) (node, untold_peer (peer_heard piece (peer_of link))) tt)
+
+-- ---- each line
+
+-- none of these tests passes a change
+role_test : (n v : ℕ) (line : Event) → at_vb n v VbVerb.MakeReplica line ≡ true → is_no_change line ≡ true
+role_test n v (Event.Changed m u uuid change) e = e
+role_test n v other e = refl
+
+save_test : (n v : ℕ) (line : Event) → at_vb n v VbVerb.Save line ≡ true → is_no_change line ≡ true
+save_test n v (Event.Changed m u uuid change) e = e
+save_test n v other e = refl
+
+take_test : (n v : ℕ) (line : Event) → at_vb n v VbVerb.Take line ≡ true → is_no_change line ≡ true
+take_test n v (Event.Changed m u uuid change) e = e
+take_test n v other e = refl
+
+stat_test : (n v : ℕ) (line : Event) → at_vb n v VbVerb.Stat line ≡ true → is_no_change line ≡ true
+stat_test n v (Event.Changed m u uuid change) e = e
+stat_test n v other e = refl
+
+log_test : (n v : ℕ) (line : Event) → at_vb n v VbVerb.Log line ≡ true → is_no_change line ≡ true
+log_test n v (Event.Changed m u uuid change) e = e
+log_test n v other e = refl
+
+none_test : (line : Event) → is_none line ≡ true → is_no_change line ≡ true
+none_test (Event.Changed m u uuid change) e = e
+none_test other e = refl
+
+image_test : (line : Event) → is_of_image line ≡ true → is_no_change line ≡ true
+image_test (Event.Changed m u uuid change) e = e
+image_test other e = refl
+
+end_test : (n : ℕ) (out : _) (line : Event) → at_node n (NodeVerb.Crash out) line ≡ true → is_no_change line ≡ true
+end_test n out (Event.Changed m u uuid change) e = e
+end_test n out other e = refl
+
+pulls_test : (line : Event) → is_of_pulls line ≡ true → is_no_change line ≡ true
+pulls_test (Event.Changed m u uuid change) e = e
+pulls_test other e = refl
+
+down_test : (dial : _) (l : ℕ) (line : Event) → is_of_down dial l line ≡ true → is_no_change line ≡ true
+down_test dial l (Event.Changed m u uuid change) e = e
+down_test dial l other e = refl
+
+pump_test : (l : ℕ) (line : Event) → is_of_pump l line ≡ true → is_no_change line ≡ true
+pump_test l (Event.Changed m u uuid change) e = e
+pump_test l other e = refl
+
+cut_test : (l : ℕ) (line : Event) → at_link l LinkVerb.Cut line ≡ true → is_no_change line ≡ true
+cut_test l (Event.Changed m u uuid change) e = e
+cut_test l other e = refl
+
+-- what is shown
+shown_next : (n v : ℕ) (lines : List Event) (said : Answer) → TellsIfDone (IsShowLine n v) lines said → AllToldNext lines
+shown_next n v lines Answer.Ok (role, uuid, at, ss, se, docs, preps, image, is, all) = subst AllToldNext (sym is) (unchanged is_of_image image_test image all)
+shown_next n v lines (Answer.Number count) t = absurd t
+shown_next n v lines (Answer.Pulled count why) t = absurd t
+shown_next n v lines (Answer.No why) none = subst AllToldNext (sym none) tt
+
+vb_next : (w : PlainWorld) (r : Chronicle) (number n v : ℕ) (what : VbVerb) → (let x = (verb_step w number (Verb.AtVb n v what)).1 in TellsOf (Verb.AtVb n v what) x.events → TellsAsAsked r (Verb.AtVb n v what) x.events x.answer → AllToldNext x.events)
+vb_next w r number n v (VbVerb.MakeActive uuid) t a = unchanged (at_vb n v VbVerb.MakeReplica) (role_test n v) (verb_step w number (Verb.AtVb n v (VbVerb.MakeActive uuid))).1.events t
+vb_next w r number n v VbVerb.MakeReplica t a = unchanged (at_vb n v VbVerb.MakeReplica) (role_test n v) (verb_step w number (Verb.AtVb n v VbVerb.MakeReplica)).1.events t
+vb_next w r number n v (VbVerb.Chain others) t a = on_next w n (chain_line n v others) (chain_next n v others)
+vb_next w r number n v (VbVerb.Promote uuid) t a = promote_next n v w uuid (first_cause (promote_causes w n v uuid))
+vb_next w r number n v VbVerb.Follow t a = follow_next n v w (first_cause (turn_causes w n v Role.Replica))
+vb_next w r number n v VbVerb.Dead t a = dead_next n v w (first_cause (turn_causes w n v Role.Dead))
+vb_next w r number n v VbVerb.Tick t a = on_next w n (tick_line n v) (tick_next n v)
+vb_next w r number n v VbVerb.Seal t a = unchanged is_none none_test _ t
+vb_next w r number n v VbVerb.Take t a = unchanged (at_vb n v VbVerb.Take) (take_test n v) _ t
+vb_next w r number n v VbVerb.Save t a = unchanged (at_vb n v VbVerb.Save) (save_test n v) (verb_step w number (Verb.AtVb n v VbVerb.Save)).1.events t
+vb_next w r number n v VbVerb.Done t a = due_next n v (on_node w n (flush_line n v part.Done)) (on_next w n (flush_line n v part.Done) (flush_next n v))
+vb_next w r number n v VbVerb.Stat t a = unchanged (at_vb n v VbVerb.Stat) (stat_test n v) _ t
+vb_next w r number n v VbVerb.Log t a = unchanged (at_vb n v VbVerb.Log) (log_test n v) _ t
+vb_next w r number n v VbVerb.Show t a = shown_next n v _ _ a
+
+pub line_next : (w : PlainWorld) (r : Chronicle) (number : ℕ) (line : Verb) → (let x = (verb_step w number line).1 in TellsOf line x.events → TellsAsAsked r line x.events x.answer → AllToldNext x.events)
+line_next w r number (Verb.Node n) t a = unchanged is_none none_test _ t
+line_next w r number (Verb.Link l m n v buffer) t a = unchanged is_none none_test _ t
+line_next w r number (Verb.AtNode n (NodeVerb.Clock nanos)) t a = unchanged is_none none_test _ t
+line_next w r number (Verb.AtNode n (NodeVerb.Stop call out)) t a = unchanged is_none none_test _ t
+line_next w r number (Verb.AtNode n (NodeVerb.Fail call)) t a = unchanged is_none none_test _ t
+line_next w r number (Verb.AtNode n (NodeVerb.Crash out)) t a = unchanged (at_node n (NodeVerb.Crash out)) (end_test n out) (verb_step w number (Verb.AtNode n (NodeVerb.Crash out))).1.events t
+line_next w r number (Verb.AtNode n (NodeVerb.Start uuids)) t a = start_next w n uuids
+line_next w r number (Verb.AtVb n v what) t a = vb_next w r number n v what t a
+line_next w r number (Verb.AtClient n c ClientVerb.Open) t a = unchanged is_none none_test _ t
+line_next w r number (Verb.AtClient n c (ClientVerb.Bytes bytes)) t a = on_next w n (bytes_at c bytes) (bytes_next c bytes)
+line_next w r number (Verb.AtClient n c (ClientVerb.Pull wanted)) t a = unchanged is_of_pulls pulls_test (verb_step w number (Verb.AtClient n c (ClientVerb.Pull wanted))).1.events t
+line_next w r number (Verb.AtClient n c ClientVerb.Hang) t a = unchanged is_none none_test _ t
+line_next w r number (Verb.AtLink l (LinkVerb.Up wanted)) t a = up_next w l wanted
+line_next w r number (Verb.AtLink l (LinkVerb.Down wanted)) t a = unchanged (is_of_down (r.dial_of l) l) (down_test (r.dial_of l) l) (verb_step w number (Verb.AtLink l (LinkVerb.Down wanted))).1.events a
+line_next w r number (Verb.AtLink l (LinkVerb.Pump wanted)) t a = unchanged (is_of_pump l) (pump_test l) (verb_step w number (Verb.AtLink l (LinkVerb.Pump wanted))).1.events a
+line_next w r number (Verb.AtLink l LinkVerb.Cut) t a = unchanged (at_link l LinkVerb.Cut) (cut_test l) (verb_step w number (Verb.AtLink l LinkVerb.Cut)).1.events t
