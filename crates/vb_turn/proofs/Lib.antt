@@ -1,0 +1,11 @@
+pub mod Totals
+pub mod Fronts
+pub mod Histories
+pub mod Keeps
+pub mod Steps
+pub mod Wholes
+pub mod Saying
+pub mod Owning
+pub mod Learning
+pub mod Sharing
+pub mod Rows

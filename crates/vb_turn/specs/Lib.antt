@@ -1,0 +1,6 @@
+pub mod History
+pub mod Turning
+pub mod Seats
+pub mod Words
+pub mod Laws
+pub mod Rows
