@@ -8,7 +8,7 @@ use Rattle.mcbp_dcp.specs.declared.message.DcpMsg.TheVariants as msg
 use Rattle.mcbp_dcp.specs.DcpFrames.{dcp_frame}
 use Rattle.vb_types.specs.declared.stream.StreamAsk.{StreamAsk}
 use Rattle.dcp_consumer.specs.declared.handshake.Dialed.{Dialed}
-use Rattle.dcp_consumer.specs.Dialing.{open_request, buffer_request, buffer_requests, sync_request, name_request, numbered, stream_opaque, requests}
+use Rattle.dcp_consumer.specs.Dialing.{open_request, buffer_request, buffer_requests, sync_request, name_request, flagged, numbered, stream_opaque, requests}
 
 -- the messages that a buffer adds, and the opaque of the request for a stream
 abbrev asked_by : Bool → ℕ → List DcpMsg
@@ -29,6 +29,6 @@ pub requests_behind : (dialed : Dialed) (ask : StreamAsk) (before : List ℕ)
     → before ++ requests dialed ask
     ≡ before ++ spelling (dcp_frame (open_request dialed.node) 1 0) ++ concat (map spelling (numbered 2 (buffer_requests dialed.buffer)))
     ++ spelling (dcp_frame sync_request (stream_opaque dialed.buffer - 2) 0) ++ spelling (dcp_frame (name_request dialed.node) (stream_opaque dialed.buffer - 1) 0)
-    ++ spelling (dcp_frame (msg.StreamRequest ask) (stream_opaque dialed.buffer) dialed.vb)
+    ++ spelling (dcp_frame (msg.StreamRequest (flagged dialed.takeover ask)) (stream_opaque dialed.buffer) dialed.vb)
 unfolding requests
-requests_behind dialed ask before = parts_by (dialed.buffer == 0) dialed.node dialed.buffer dialed.vb ask before
+requests_behind dialed ask before = parts_by (dialed.buffer == 0) dialed.node dialed.buffer dialed.vb (flagged dialed.takeover ask) before

@@ -1,6 +1,7 @@
 pub mod Names
 pub mod Answering
 pub mod Steps
+pub mod States
 pub mod Moves
 pub mod Reasons
 mod Receiving
@@ -11,3 +12,4 @@ pub mod Counted
 pub mod Noops
 mod Ordered
 mod DialBytes
+mod StateBytes

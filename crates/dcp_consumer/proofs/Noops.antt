@@ -25,16 +25,18 @@ use Rattle.mcbp_dcp.specs.MessageRows.{bare_bytes, answer_head}
 use Rattle.mcbp_dcp.proofs.DcpBack.{message_back}
 use Rattle.mcbp_dcp.proofs.Opcodes.{number_of}
 use Rattle.vb_events.specs.declared.event.EndReason.TheVariants as reason
-use Rattle.dcp_consumer.specs.Conduct.{Reads, IsOfStream, Comes}
+use Rattle.vb_types.specs.declared.role.Role.{Role}
+use Rattle.dcp_consumer.specs.Conduct.{Reads, IsOfStream}
+use Rattle.dcp_consumer.specs.States.{ComesTo}
 use Rattle.dcp_consumer.specs.Counting.{is_stream_opcode, Counts, counted_bytes}
 use Rattle.dcp_consumer.specs.PassiveStreams.{call_of_message}
 use Rattle.dcp_consumer.specs.Noops.{noop_answered, IsNoop, IsNoopAnswer, BytesAreAnswered}
-use Rattle.dcp_consumer.specs.Machine.{PlainConsumer, over_why, with_handshake, moved_by, frame_step, consumer_step, ended_for}
+use Rattle.dcp_consumer.specs.Machine.{PlainConsumer, over_why, frame_step, state_of, stepped, consumer_step, ended_for}
 use Rattle.dcp_consumer.specs.declared.handshake.ConsumerStep.{ConsumerStep}
 use Rattle.dcp_consumer.specs.declared.handshake.ConsumerStep.TheVariants as step
 use Rattle.dcp_consumer.specs.declared.passive_stream.Passive.TheVariants as passive
 use Rattle.dcp_consumer.proofs.Counted.{counts, one_does_not}
-use Rattle.dcp_consumer.proofs.Steps.{comes_so, comes_itself}
+use Rattle.dcp_consumer.proofs.States.{comes_to_so, comes_to_itself}
 
 -- ---- which frames are a NOOP
 
@@ -98,15 +100,15 @@ read_is f e =
 
 -- ---- what becomes of them
 
-stepped : (c : PlainConsumer) (f : Frame) (s : ConsumerStep) → frame_step c f ≡ s → consumer_step c f ≡ (with_handshake c (moved_by c.dialed.buffer s c.handshake), s)
-stepped c f s e = ap (λ (t : ConsumerStep). (with_handshake c (moved_by c.dialed.buffer t c.handshake), t)) e
+took : (c : PlainConsumer) (f : Frame) (s : ConsumerStep) → frame_step c f ≡ s → consumer_step c f ≡ (stepped s c, s)
+took c f s e = ap (λ (t : ConsumerStep). (stepped t c, t)) e
 
 pub answered : (c : PlainConsumer) (f : Frame) → over_why c.handshake ≡ None → IsNoop f → consumer_step c f ≡ (c, step.Noop f.opaque)
-answered c f live is = stepped c f (step.Noop f.opaque) (comes_so c f (step.Noop f.opaque) ((is.0, live), is_read f is, refl))
+answered c f live is = took c f (step.Noop f.opaque) (comes_to_so c f (step.Noop f.opaque) ((is.0, live), is_read f is, refl))
 
 pub only : (c : PlainConsumer) (f : Frame) (opaque : ℕ) → (consumer_step c f).1 ≡ step.Noop opaque → (over_why c.handshake ≡ None) × IsNoop f × (f.opaque ≡ opaque)
 only c f opaque e =
-    let p : Comes c.dialed.buffer c.handshake c.asked f (step.Noop opaque) = subst (Comes c.dialed.buffer c.handshake c.asked f) e (comes_itself c f) in
+    let p : ComesTo c f (step.Noop opaque) = subst (ComesTo c f) e (comes_to_itself c f) in
     (p.0.1, read_is f p.1, p.2)
 
 -- a frame of its opcode says nothing else, and no stream has a NOOP
@@ -115,12 +117,17 @@ unfolding call_of_message
 not_of_stream (Some fault) m e of = cc
 not_of_stream None m e of = let same : msg.Noop ≡ m = cc in subst IsOfStream (sym same) of refl
 
+no_state : (fault : Option DcpFault) (to : Role) → Some (unless_fault fault msg.Noop) ≡ Some (Ok (msg.SetVbucketState to)) → ⊥
+no_state (Some fault) to e = cc
+no_state None to e = cc
+
 pub strange : (c : PlainConsumer) (f : Frame) → over_why c.handshake ≡ None → f.magic ≢ 0x81 → f.opcode ≡ 0x5c → (IsNoop f → ⊥) → consumer_step c f ≡ (ended_for reason.Protocol c, step.Passive passive.Protocol)
 unfolding read_of
 strange c f live magic opcode never =
     let says : read_of f ≡ Some (unless_fault (shape_fault row.Noop f) msg.Noop) = ap (option_map (read_as f)) (noop_at f magic opcode) in
-    stepped c f (step.Passive passive.Protocol)
-    (comes_so c f (step.Passive passive.Protocol) ((magic, live), λ r. never (read_is f r), λ streams m r. not_of_stream (shape_fault row.Noop f) m (sym says ∙ r)))
+    took c f (step.Passive passive.Protocol)
+    (comes_to_so c f (step.Passive passive.Protocol)
+    (((magic, live), λ r. never (read_is f r), λ streams m r. not_of_stream (shape_fault row.Noop f) m (sym says ∙ r)), λ take obeys. no_state (shape_fault row.Noop f) (state_of take) (sym says ∙ obeys.2)))
 
 counts_not : (f : Frame) → IsNoop f → Counts f → ⊥
 counts_not f is p =

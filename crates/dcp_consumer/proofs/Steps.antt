@@ -1,4 +1,4 @@
--- which frame comes to which step
+-- which frame comes to which step that tells no state which is in order
 use Rattle.std.proofs.Common.{◌≡◌, ◌≢◌, ℕ, Bool, true, false, refl, sym, ap, ◌∙◌, subst, inl, inr, ⊎_elim, Option, Some, None, Result, Ok, Err}
 use Rattle.std.specs.Prelude.{◌⊎◌, ◌==◌, if◌then◌else◌, is_some}
 use Rattle.std.proofs.lemmas.Bool.{eq-eqb, ne_eqb}
@@ -17,7 +17,7 @@ use Rattle.vb_events.specs.declared.event.EndReason.TheVariants as reason
 use Rattle.vb_calls.specs.declared.calls.VbCall.{VbCall}
 use Rattle.dcp_consumer.specs.PassiveStreams.{call_of_message, called, passive_of, passive_read}
 use Rattle.dcp_consumer.specs.Conduct.{Awaits, IsMessage, Reads, IsOfStream, Comes}
-use Rattle.dcp_consumer.specs.Machine.{PlainConsumer, over_why, is_awaited, status_step, answered_with, stream_step, answer_step, response_step, is_noop, passive_step, message_step, frame_step}
+use Rattle.dcp_consumer.specs.Machine.{PlainConsumer, over_why, is_awaited, status_step, answered_with, stream_step, answer_step, response_step, is_noop, passive_step, message_step, unstated_step}
 use Rattle.dcp_consumer.specs.declared.handshake.Handshake.{Handshake}
 use Rattle.dcp_consumer.specs.declared.handshake.Handshake.TheVariants as handshake
 use Rattle.dcp_consumer.specs.declared.handshake.ConsumerStep.{ConsumerStep}
@@ -27,18 +27,18 @@ use Rattle.dcp_consumer.proofs.Answering.{awaited_so, awaited_back, awaited_magi
 
 -- ---- the step, by what came
 
-over_by : (c : PlainConsumer) (f : Frame) (over : Option EndReason) → over_why c.handshake ≡ over → over ≢ None → frame_step c f ≡ step.Dropped
-unfolding frame_step
+over_by : (c : PlainConsumer) (f : Frame) (over : Option EndReason) → over_why c.handshake ≡ over → over ≢ None → unstated_step c f ≡ step.Dropped
+unfolding unstated_step
 over_by c f None e ne = absurd (ne refl)
 over_by c f (Some why) e ne =
     ap (λ o. if is_some o then step.Dropped else if f.magic == RESPONSE then response_step c.dialed.buffer c.handshake c.asked f else message_step c.handshake f) e
 
-pub over_step : (c : PlainConsumer) (f : Frame) → over_why c.handshake ≢ None → frame_step c f ≡ step.Dropped
+pub over_step : (c : PlainConsumer) (f : Frame) → over_why c.handshake ≢ None → unstated_step c f ≡ step.Dropped
 over_step c f over = over_by c f (over_why c.handshake) refl over
 
 live_step : (c : PlainConsumer) (f : Frame) (b : Bool) → over_why c.handshake ≡ None → (f.magic == RESPONSE) ≡ b
-    → frame_step c f ≡ (if b then response_step c.dialed.buffer c.handshake c.asked f else message_step c.handshake f)
-unfolding frame_step
+    → unstated_step c f ≡ (if b then response_step c.dialed.buffer c.handshake c.asked f else message_step c.handshake f)
+unfolding unstated_step
 live_step c f b live magic =
     ap (λ o. if is_some o then step.Dropped else if f.magic == RESPONSE then response_step c.dialed.buffer c.handshake c.asked f else message_step c.handshake f) live
     ∙ ap (λ x. if x then response_step c.dialed.buffer c.handshake c.asked f else message_step c.handshake f) magic
@@ -47,21 +47,21 @@ pub awaits_live : (buffer : ℕ) (h : Handshake) (n : ℕ) (f : Frame) → Await
 awaits_live buffer (handshake.Over why) n f a = absurd a
 awaits_live buffer other n f a = refl
 
-pub awaited_step : (c : PlainConsumer) (f : Frame) → Awaits c.dialed.buffer c.handshake c.asked f → frame_step c f ≡ answer_step c.handshake f
+pub awaited_step : (c : PlainConsumer) (f : Frame) → Awaits c.dialed.buffer c.handshake c.asked f → unstated_step c f ≡ answer_step c.handshake f
 awaited_step c f a =
     live_step c f true (awaits_live c.dialed.buffer c.handshake c.asked f a) (eq-eqb f.magic RESPONSE (awaited_magic c.dialed.buffer c.handshake c.asked f a))
     ∙ ap (λ b. if b then answer_step c.handshake f else step.Dropped) (awaited_so c.dialed.buffer c.handshake c.asked f a)
 
 unawaited_by : (c : PlainConsumer) (f : Frame) (b : Bool) → over_why c.handshake ≡ None → f.magic ≡ 0x81 → (Awaits c.dialed.buffer c.handshake c.asked f → ⊥) → is_awaited c.dialed.buffer c.handshake c.asked f ≡ b
-    → frame_step c f ≡ step.Dropped
+    → unstated_step c f ≡ step.Dropped
 unawaited_by c f true live magic never e = absurd (never (awaited_back c.dialed.buffer c.handshake c.asked f magic e))
 unawaited_by c f false live magic never e = live_step c f true live (eq-eqb f.magic RESPONSE magic) ∙ ap (λ b. if b then answer_step c.handshake f else step.Dropped) e
 
-unawaited_at : (c : PlainConsumer) (f : Frame) (over : Option EndReason) → over_why c.handshake ≡ over → f.magic ≡ 0x81 → (Awaits c.dialed.buffer c.handshake c.asked f → ⊥) → frame_step c f ≡ step.Dropped
+unawaited_at : (c : PlainConsumer) (f : Frame) (over : Option EndReason) → over_why c.handshake ≡ over → f.magic ≡ 0x81 → (Awaits c.dialed.buffer c.handshake c.asked f → ⊥) → unstated_step c f ≡ step.Dropped
 unawaited_at c f None live magic never = unawaited_by c f (is_awaited c.dialed.buffer c.handshake c.asked f) live magic never refl
 unawaited_at c f (Some why) over magic never = over_by c f (Some why) over (λ e. cc)
 
-message_met : (c : PlainConsumer) (f : Frame) → IsMessage c.handshake f → frame_step c f ≡ message_step c.handshake f
+message_met : (c : PlainConsumer) (f : Frame) → IsMessage c.handshake f → unstated_step c f ≡ message_step c.handshake f
 message_met c f m = live_step c f false m.1 (ne_eqb f.magic RESPONSE m.0)
 
 -- ---- answers
@@ -87,18 +87,18 @@ misread_by : (f : Frame) → (f.vb_or_status ≡ 0) ⊎ (f.vb_or_status ≡ 0x23
 misread_by f code none (inl r) = absurd (none r.0 r.1)
 misread_by f code none (inr r) = ap stream_step r.1 ∙ ap step.Over (misread_back f.vb_or_status code)
 
-asking_step : (c : PlainConsumer) (f : Frame) → c.handshake ≡ handshake.Asking → Awaits c.dialed.buffer handshake.Asking c.asked f → frame_step c f ≡ stream_step (answered_with f.vb_or_status (read_of f))
+asking_step : (c : PlainConsumer) (f : Frame) → c.handshake ≡ handshake.Asking → Awaits c.dialed.buffer handshake.Asking c.asked f → unstated_step c f ≡ stream_step (answered_with f.vb_or_status (read_of f))
 asking_step c f asks a = awaited_step c f (subst (λ h. Awaits c.dialed.buffer h c.asked f) (sym asks) a) ∙ ap (λ h. answer_step h f) asks
 
 -- ---- messages
 
-noop_step : (c : PlainConsumer) (f : Frame) → IsMessage c.handshake f → Reads f msg.Noop → frame_step c f ≡ step.Noop f.opaque
+noop_step : (c : PlainConsumer) (f : Frame) → IsMessage c.handshake f → Reads f msg.Noop → unstated_step c f ≡ step.Noop f.opaque
 noop_step c f m r = message_met c f m ∙ ap (λ x. if is_noop x then step.Noop f.opaque else passive_step c.handshake x) r
 
-other_step : (c : PlainConsumer) (f : Frame) → IsMessage c.handshake f → is_noop (read_of f) ≡ false → frame_step c f ≡ passive_step c.handshake (read_of f)
+other_step : (c : PlainConsumer) (f : Frame) → IsMessage c.handshake f → is_noop (read_of f) ≡ false → unstated_step c f ≡ passive_step c.handshake (read_of f)
 other_step c f m other = message_met c f m ∙ ap (λ b. if b then step.Noop f.opaque else passive_step c.handshake (read_of f)) other
 
-streaming_step : (c : PlainConsumer) (f : Frame) → IsMessage c.handshake f → is_noop (read_of f) ≡ false → c.handshake ≡ handshake.Streaming → frame_step c f ≡ step.Passive (passive_read (read_of f))
+streaming_step : (c : PlainConsumer) (f : Frame) → IsMessage c.handshake f → is_noop (read_of f) ≡ false → c.handshake ≡ handshake.Streaming → unstated_step c f ≡ step.Passive (passive_read (read_of f))
 streaming_step c f m other streams = other_step c f m other ∙ ap (λ h. passive_step h (read_of f)) streams
 
 no_noop : (read : Option (Result DcpMsg DcpFault)) → (read ≡ Some (Ok msg.Noop) → ⊥) → is_noop read ≡ false
@@ -134,11 +134,11 @@ strange_at other f never = refl
 
 -- ---- each step comes where it is said to
 
-dropped_so : (c : PlainConsumer) (f : Frame) → Comes c.dialed.buffer c.handshake c.asked f step.Dropped → frame_step c f ≡ step.Dropped
+dropped_so : (c : PlainConsumer) (f : Frame) → Comes c.dialed.buffer c.handshake c.asked f step.Dropped → unstated_step c f ≡ step.Dropped
 dropped_so c f (inl over) = over_step c f over
 dropped_so c f (inr p) = unawaited_at c f (over_why c.handshake) refl p.0 p.1
 
-pub comes_so : (c : PlainConsumer) (f : Frame) (s : ConsumerStep) → Comes c.dialed.buffer c.handshake c.asked f s → frame_step c f ≡ s
+pub comes_so : (c : PlainConsumer) (f : Frame) (s : ConsumerStep) → Comes c.dialed.buffer c.handshake c.asked f s → unstated_step c f ≡ s
 comes_so c f step.Answered p = awaited_step c f p.0 ∙ status_met c.dialed.buffer c.handshake c.asked f p.0 p.1 ∙ ap status_step p.2
 comes_so c f (step.Adopt log) p = asking_step c f p.0 p.1 ∙ ap (λ r. stream_step (answered_with f.vb_or_status r)) p.2
 comes_so c f (step.Roll point) p = asking_step c f p.0 p.1 ∙ ap (λ r. stream_step (answered_with f.vb_or_status r)) p.2
@@ -154,6 +154,7 @@ comes_so c f (step.Passive (passive.End reason.State)) p =
 comes_so c f (step.Passive (passive.End other)) p = absurd p
 comes_so c f (step.Passive passive.Protocol) p = other_step c f p.0 (no_noop (read_of f) p.1) ∙ strange_at c.handshake f p.2
 comes_so c f (step.Noop opaque) p = noop_step c f p.0 p.1 ∙ ap step.Noop p.2
+comes_so c f (step.State take opaque) p = absurd p
 comes_so c f step.Dropped p = dropped_so c f p
 
 -- ---- and each frame comes to one of them
@@ -239,7 +240,7 @@ any_comes buffer h n f (inl magic) = awaited_comes buffer h n f magic.1 (is_awai
 any_comes buffer h n f (inr magic) = sent_comes buffer h n f magic.1
 
 -- what the step of a frame needs
-pub comes_itself : (c : PlainConsumer) (f : Frame) → Comes c.dialed.buffer c.handshake c.asked f (frame_step c f)
+pub comes_itself : (c : PlainConsumer) (f : Frame) → Comes c.dialed.buffer c.handshake c.asked f (unstated_step c f)
 comes_itself c f =
     let coming = any_comes c.dialed.buffer c.handshake c.asked f (eqb_tells f.magic 0x81) in
     subst (Comes c.dialed.buffer c.handshake c.asked f) (sym (comes_so c f coming.0 coming.1)) coming.1

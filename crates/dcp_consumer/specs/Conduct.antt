@@ -64,7 +64,7 @@ abbrev pub IsOfStream : DcpMsg → Type 0
 IsOfStream (msg.StreamEnd why) = Unit {0}
 IsOfStream m = call_of_message m ≢ None
 
--- when a frame comes to which step; the status 0 is Success and 0x23 is Rollback
+-- when a frame comes to which step that tells no state which is in order; the status 0 is Success and 0x23 is Rollback
 abbrev pub Comes : ℕ → Handshake → ℕ → Frame → ConsumerStep → Type 0
 Comes buffer h asked f step.Answered = Awaits buffer h asked f × (h ≢ handshake.Asking) × (f.vb_or_status ≡ 0)
 Comes buffer h asked f (step.Adopt log) = (h ≡ handshake.Asking) × AnswersTo asked 0x53 f × Reads f (msg.StreamAnswer (told.Go log))
@@ -83,6 +83,7 @@ Comes buffer h asked f (step.Passive (passive.End other)) = ⊥
 Comes buffer h asked f (step.Passive passive.Protocol) =
     IsMessage h f × (Reads f msg.Noop → ⊥) × (h ≡ handshake.Streaming → (m : DcpMsg) → Reads f m → IsOfStream m → ⊥)
 Comes buffer h asked f (step.Noop opaque) = IsMessage h f × Reads f msg.Noop × (f.opaque ≡ opaque)
+Comes buffer h asked f (step.State take opaque) = ⊥
 Comes buffer h asked f step.Dropped = (over_why h ≢ None) ⊎ ((f.magic ≡ 0x81) × (Awaits buffer h asked f → ⊥))
 
 -- OPEN is asked first, then the CONTROLs, and then the stream; the buffer is asked for exactly where it is not 0
@@ -103,7 +104,7 @@ Ends reason.Done s = s ≡ step.Passive (passive.End reason.Done)
 Ends reason.State s = s ≡ step.Passive (passive.End reason.State)
 Ends reason.Disk s = ⊥
 
--- For which frames a link ends, and why. A status but 0 refuses; 0x23, Rollback, does not refuse a stream. A log or a point that cannot be read, and a message that no stream has or before one is granted,
+-- For which frames a link ends that tell no state which is in order, and why. A status but 0 refuses; 0x23, Rollback, does not refuse a stream. A log or a point that cannot be read, and a message that no stream has or before one is granted,
 -- is none of the protocol's, but that a NOOP may come at any time. The stream's end tells with 0 that all was sent, and with any other number that the producer's vBucket changed.
 abbrev pub EndsBy : EndReason → ℕ → Handshake → ℕ → Frame → Type 0
 EndsBy reason.Cut buffer h asked f = ⊥
@@ -143,7 +144,7 @@ pub record IsAcknowledgement (seq n v : ℕ) (bytes : List ℕ) : Type 0 where
 
 -- all of a consumer is as it was, but that it acknowledged up to this seqno
 abbrev pub HasAcknowledged : ℕ → PlainConsumer → PlainConsumer → Type 0
-HasAcknowledged seq c after = (after.dialed ≡ c.dialed) × (after.handshake ≡ c.handshake) × (after.asked ≡ c.asked) × (after.acked ≡ seq)
+HasAcknowledged seq c after = (after.dialed ≡ c.dialed) × (after.handshake ≡ c.handshake) × (after.asked ≡ c.asked) × (after.acked ≡ seq) × (after.taking ≡ c.taking)
 
 -- whatever else becomes of a consumer, by frames, by the grant, by one more request and by its end, leaves what it acknowledged
 pub record LeavesAcknowledged (c : PlainConsumer) : Type 0 where

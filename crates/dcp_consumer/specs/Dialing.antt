@@ -1,5 +1,5 @@
 -- what a consumer writes when it dials
-use Rattle.std.specs.Prelude.{ℕ, ◌+◌, ◌==◌, if◌then◌else◌, List, [], ◌∷◌, ◌++◌, map, codes, decimal}
+use Rattle.std.specs.Prelude.{ℕ, ◌+◌, ◌==◌, Bool, if◌then◌else◌, List, [], ◌∷◌, ◌++◌, map, codes, decimal}
 use Rattle.std.specs.List.{concat}
 use Rattle.mcbp_frame.specs.declared.frame.Frame.{Frame}
 use Rattle.mcbp_frame.specs.Spelling.{spelling}
@@ -46,19 +46,23 @@ numbered n (m ∷ ms) = dcp_frame m n 0 ∷ numbered (n + 1) ms
 abbrev pub stream_opaque : ℕ → ℕ
 stream_opaque buffer = if buffer == 0 then 4 else 5
 
+-- a request for a stream has the flags 1 where its link takes the vBucket over, and else 0
+abbrev pub flagged : Bool → StreamAsk → StreamAsk
+flagged takeover ask = record ask { flags = if takeover then 1 else 0 }
+
 -- what goes out when a consumer dials, with opaques from 1; the request for the stream alone names its vBucket
 unfoldable pub requests : Dialed → StreamAsk → List ℕ
 requests dialed ask =
     concat (map spelling (numbered 1 (first_requests dialed.node dialed.buffer)))
-    ++ spelling (dcp_frame (msg.StreamRequest ask) (stream_opaque dialed.buffer) dialed.vb)
+    ++ spelling (dcp_frame (msg.StreamRequest (flagged dialed.takeover ask)) (stream_opaque dialed.buffer) dialed.vb)
 
--- a request of which no two numbers are alike
+-- a request of which no two numbers are alike; its own flags are not those that go out
 abbrev pub ask_row : StreamAsk
-ask_row = record { flags = 0; start = 0x1112131415161718; end = 0x2122232425262728; uuid = 0x3132333435363738; ss = 0x4142434445464748; se = 0x5152535455565758 }
+ask_row = record { flags = 0x61626364; start = 0x1112131415161718; end = 0x2122232425262728; uuid = 0x3132333435363738; ss = 0x4142434445464748; se = 0x5152535455565758 }
 
--- the node 12 dials on this link for the vBucket 0x0102, with this buffer
-abbrev pub dialed_row : ℕ → ℕ → Dialed
-dialed_row link buffer = record { link = link; node = 12; vb = 0x0102; buffer = buffer }
+-- the node 12 dials on this link for the vBucket 0x0102, with this buffer, to follow it or to take it over
+abbrev pub dialed_row : ℕ → ℕ → Bool → Dialed
+dialed_row link buffer takeover = record { link = link; node = 12; vb = 0x0102; buffer = buffer; takeover = takeover }
 
 -- what it writes then, byte by byte: OPEN as n12, with number 0 and flags 1
 abbrev pub open_bytes : List ℕ
@@ -89,11 +93,11 @@ name_bytes opaque =
     ∷ 0x00 ∷ 0x00 ∷ 0x00 ∷ 0x00 ∷ 0x00 ∷ 0x00 ∷ 0x00 ∷ 0x00 ∷ 0x63 ∷ 0x6f ∷ 0x6e ∷ 0x73 ∷ 0x75 ∷ 0x6d ∷ 0x65 ∷ 0x72
     ∷ 0x5f ∷ 0x6e ∷ 0x61 ∷ 0x6d ∷ 0x65 ∷ 0x6e ∷ 0x31 ∷ 0x32 ∷ []
 
--- STREAM_REQUEST: flags, four bytes of 0, start, end, branch, and the snapshot's start and end
-abbrev pub request_bytes : ℕ → List ℕ
-request_bytes opaque =
+-- STREAM_REQUEST: flags, of which the last byte is left open, four bytes of 0, start, end, branch, and the snapshot's start and end
+abbrev pub request_bytes : ℕ → ℕ → List ℕ
+request_bytes flags opaque =
     0x80 ∷ 0x53 ∷ 0x00 ∷ 0x00 ∷ 0x30 ∷ 0x00 ∷ 0x01 ∷ 0x02 ∷ 0x00 ∷ 0x00 ∷ 0x00 ∷ 0x30 ∷ 0x00 ∷ 0x00 ∷ 0x00 ∷ opaque
-    ∷ 0x00 ∷ 0x00 ∷ 0x00 ∷ 0x00 ∷ 0x00 ∷ 0x00 ∷ 0x00 ∷ 0x00 ∷ 0x00 ∷ 0x00 ∷ 0x00 ∷ 0x00 ∷ 0x00 ∷ 0x00 ∷ 0x00 ∷ 0x00
+    ∷ 0x00 ∷ 0x00 ∷ 0x00 ∷ 0x00 ∷ 0x00 ∷ 0x00 ∷ 0x00 ∷ 0x00 ∷ 0x00 ∷ 0x00 ∷ 0x00 ∷ flags ∷ 0x00 ∷ 0x00 ∷ 0x00 ∷ 0x00
     ∷ 0x11 ∷ 0x12 ∷ 0x13 ∷ 0x14 ∷ 0x15 ∷ 0x16 ∷ 0x17 ∷ 0x18 ∷ 0x21 ∷ 0x22 ∷ 0x23 ∷ 0x24 ∷ 0x25 ∷ 0x26 ∷ 0x27 ∷ 0x28
     ∷ 0x31 ∷ 0x32 ∷ 0x33 ∷ 0x34 ∷ 0x35 ∷ 0x36 ∷ 0x37 ∷ 0x38 ∷ 0x41 ∷ 0x42 ∷ 0x43 ∷ 0x44 ∷ 0x45 ∷ 0x46 ∷ 0x47 ∷ 0x48
     ∷ 0x51 ∷ 0x52 ∷ 0x53 ∷ 0x54 ∷ 0x55 ∷ 0x56 ∷ 0x57 ∷ 0x58 ∷ []

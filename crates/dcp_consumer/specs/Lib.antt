@@ -5,3 +5,4 @@ pub mod Machine
 pub mod Conduct
 pub mod Counting
 pub mod Noops
+pub mod States

@@ -1,19 +1,20 @@
 //! A consumer, a machine that makes no call.
 ghost use Rattle.std.specs.Prelude.{◌≡◌, ◌++◌, ◌+◌, ◌<◌, ◌^◌, false, true, IfOk, OnOk, OnErr};
-ghost use Rattle.{dcp_consumer.specs.Dialing.{requests}, dcp_consumer.specs.Machine.{dialed_consumer, ended_for, over_why, frame_step, consumer_step, granted, request_again, again, is_streaming, may_acknowledge, acknowledged}};
-ghost use Rattle.dcp_consumer.specs.{Counting.{bytes_acknowledged}, Noops.{noop_answered}};
+ghost use Rattle.{dcp_consumer.specs.Dialing.{requests}, dcp_consumer.specs.Machine.{dialed_consumer, ended_for, over_why, frame_step, consumer_step, granted, request_again, again, is_streaming, may_acknowledge, acknowledged, state_of, taking_after, taking_of}};
+ghost use Rattle.dcp_consumer.specs.{Counting.{bytes_acknowledged}, Noops.{noop_answered}, States.{state_answered}};
 
 use crate::answers::response_step;
 use crate::messages::message_step;
-use crate::requests::{send, stream_opaque, write_requests};
+use crate::requests::{flagged, send, stream_opaque, write_requests};
 use crate::{Alloc, ConsumerStep, Dialed, Handshake};
 use bytes::BytesMut;
 use mcbp_dcp::DcpMsg;
 use mcbp_frame::{Frame, RESPONSE};
 use std::alloc::{AllocError, Global};
 use std::marker::Model;
+use takeover::{TakeOver, TakeStep};
 use vb_events::EndReason;
-use vb_types::{Status, StreamAsk};
+use vb_types::{Role, Status, StreamAsk};
 
 /// A consumer of a link. After want of memory it is spent: it takes no frame, and asks nothing.
 #[derive(Drop)]
@@ -23,7 +24,18 @@ pub struct Consumer {
     handshake: Handshake,
     asked: u32,
     acked: u64,
+    taking: TakeOver,
     spent: bool,
+}
+
+/// The state that asks for a step of a takeover.
+fn state_of(take: TakeStep) -> Role
+    ensures { result ≡ state_of take }
+{
+    match take {
+        TakeStep::Pend => Role::Pending,
+        TakeStep::Own => Role::Active,
+    }
 }
 
 impl Model for Consumer {
@@ -31,7 +43,7 @@ impl Model for Consumer {
 
     ghost Value = { KeptConsumer };
 
-    ghost view = { λ c. record { plain = record { dialed = c.dialed; handshake = c.handshake; asked = c.asked; acked = c.acked }; spent = c.spent } };
+    ghost view = { λ c. record { plain = record { dialed = c.dialed; handshake = c.handshake; asked = c.asked; acked = c.acked; taking = c.taking }; spent = c.spent } };
 }
 
 impl Consumer {
@@ -47,6 +59,7 @@ impl Consumer {
             handshake: Handshake::Opening,
             asked: stream_opaque(dialed.buffer),
             acked: 0,
+            taking: TakeOver::new(),
             spent: false,
         })
     }
@@ -76,8 +89,19 @@ impl Consumer {
         Ok(())
     }
 
+    /// How far it is, if it takes states: its stream was granted, and its link takes the vBucket over.
+    fn taking(&self) -> Option<TakeOver>
+        ensures { result ≡ taking_of self.now.plain }
+    {
+        if self.is_streaming() && self.dialed.takeover {
+            Some(self.taking)
+        } else {
+            None
+        }
+    }
+
     /// What a frame comes to: nothing once the link is over.
-    #[tactic(auto, unfolding(crate::specs::Machine::frame_step))]
+    #[tactic(auto, unfolding(crate::specs::Machine::frame_step, crate::specs::Machine::unstated_step))]
     fn step_of(&self, frame: &Frame) -> Alloc<ConsumerStep>
         ensures { IfOk result (λ step. step ≡ frame_step self.now.plain frame.now) }
     {
@@ -88,11 +112,21 @@ impl Consumer {
             let buffer = self.dialed.buffer;
             return response_step(self.alloc, buffer, self.handshake, self.asked, frame);
         }
-        message_step(self.alloc, self.handshake, frame)
+        message_step(self.alloc, self.handshake, self.taking(), frame)
+    }
+
+    /// Notes the state that a step obeys.
+    fn note_state(&mut self, step: &ConsumerStep)
+        ensures { self.new ≡ record self.old { plain = record self.old.plain { taking = taking_after step.now self.old.plain.taking } } }
+    {
+        if let ConsumerStep::State { take, .. } = step {
+            let _ = self.taking.state(state_of(*take));
+        }
     }
 
     /// Takes a frame, and says what it comes to. One that asks for a log to be taken over, or for a
-    /// rollback, is followed by `granted` or `roll_done`, or by `end`, and a NOOP by `answer_noop`.
+    /// rollback, is followed by `granted` or `roll_done`, or by `end`, a NOOP by `answer_noop`, and a
+    /// state by `answer_state` or `end`.
     pub fn feed(&mut self, frame: &Frame) -> Alloc<ConsumerStep>
         ensures step { IfOk result (λ step. step ≡ (consumer_step self.old.plain frame.now).1) }
         ensures ok { OnOk result (self.new ≡ record self.old { plain = (consumer_step self.old.plain frame.now).0 }) }
@@ -102,6 +136,7 @@ impl Consumer {
         self.begin()?;
         let step = self.step_of(frame)?;
         self.spent = false;
+        self.note_state(&step);
         self.handshake = self.handshake.after(self.dialed.buffer, &step);
         Ok(step)
     }
@@ -121,6 +156,7 @@ impl Consumer {
         ensures err { OnErr result (self.new ≡ self.old) }
     {
         let opaque = self.asked + 1;
+        let ask = flagged(self.dialed.takeover, ask);
         send(DcpMsg::StreamRequest { ask }, opaque, self.dialed.vb, out)?;
         self.asked = opaque;
         Ok(())
@@ -200,6 +236,21 @@ impl Consumer {
         self.begin()?;
         let status = Status::Success.code();
         send(DcpMsg::NoopAnswer { status }, opaque, 0, out)?;
+        self.spent = false;
+        Ok(())
+    }
+
+    /// Answers the state with this opaque, which the vBucket obeyed: appends Success, with the same
+    /// opaque.
+    pub fn answer_state(&mut self, opaque: u32, out: &mut BytesMut) -> Alloc<()>
+        ensures ok { OnOk result (self.new ≡ self.old) }
+        ensures answer { OnOk result (out.new.items ≡ out.old.items ++ state_answered opaque) }
+        ensures whole { OnOk result (self.old.spent ≡ false) }
+        ensures err { OnErr result (self.new ≡ record self.old { spent = true }) }
+    {
+        self.begin()?;
+        let status = Status::Success.code();
+        send(DcpMsg::StateAnswer { status }, opaque, 0, out)?;
         self.spent = false;
         Ok(())
     }

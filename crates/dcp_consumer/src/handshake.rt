@@ -3,6 +3,7 @@ ghost use Rattle.std.specs.Prelude.{◌≡◌};
 ghost use Rattle.dcp_consumer.specs.Machine.{over_why, answered, moved_by, streaming};
 
 use crate::Passive;
+use takeover::TakeStep;
 use vb_events::EndReason;
 use vb_types::{Listed, LogEntry};
 
@@ -15,6 +16,8 @@ pub struct Dialed {
     /// The size of the producer's window: a frame goes only while fewer bytes than this are not
     /// acknowledged; 0 for no window.
     pub buffer: u32,
+    /// Whether the link takes the vBucket over from its producer, and does not follow it alone.
+    pub takeover: bool,
 }
 
 /// What a consumer asked last and was not answered yet, or how its link stands.
@@ -49,6 +52,9 @@ pub enum ConsumerStep {
     Passive(Passive),
     /// A NOOP, which `answer_noop` answers with this opaque.
     Noop(u32),
+    /// A state that is in order: the vBucket is to make this step of its takeover, and then
+    /// `answer_state` answers with this opaque.
+    State { take: TakeStep, opaque: u32 },
     /// An answer ended the link.
     Over(EndReason),
     /// Nothing waits for such an answer, or the link was over.

@@ -1,5 +1,5 @@
 //! Laws of a consumer. Each is a function with no work to do, and its clauses are the law.
-ghost use Rattle.std.specs.Prelude.{◌≡◌, ◌≢◌, ◌↔◌, ◌⊎◌, ◌+◌, ◌++◌, ◌^◌, ◌<◌, ◌≤◌, ◌∷◌, ℕ, List, true, false, [], None, Some, IsTrue, IsFalse, length, map, min};
+ghost use Rattle.std.specs.Prelude.{◌≡◌, ◌≢◌, ◌↔◌, ◌⊎◌, ◌+◌, ◌++◌, ◌^◌, ◌<◌, ◌≤◌, ◌∷◌, ℕ, List, true, false, [], None, Some, Ok, IsTrue, IsFalse, length, map, min};
 ghost use Rattle.{std.specs.List.{All, concat}, mcbp_dcp.specs.DcpFrames.{dcp_frame}, mcbp_frame.specs.Spelling.{spelling}};
 ghost use Rattle.{dcp_consumer.specs.PassiveStreams.{passive_of}, dcp_consumer.specs.Receiving.{BytesCome, IsPrepared, IsRemoved, IsResolved, IsStored, IsUnfit, committed, durable_call, durable_doc, typed_bytes, typed_call}};
 ghost use Rattle.{dcp_consumer.specs.declared.passive_stream.Passive.TheVariants.{Call, End, Protocol as Strange}, mcbp_dcp.specs.DurableRows.{no_cas, no_times, prepare_bytes, resolution_bytes, some_cas, some_value}};
@@ -7,16 +7,17 @@ ghost use Rattle.mcbp_dcp.specs.declared.message.DcpMsg.{DcpMsg as MessageData};
 ghost use Rattle.{mcbp_dcp.specs.declared.message.Deletion.{Deletion as RemovalData}, mcbp_dcp.specs.declared.message.Mutation.{Mutation as PutData}};
 ghost use Rattle.{mcbp_dcp.specs.declared.message.Prepare.{Prepare as PreparedData}, mcbp_dcp.specs.declared.message.Resolution.{Resolution as ResolvedData}};
 ghost use Rattle.mcbp_dcp.specs.declared.message.DcpMsg.TheVariants as msg;
-ghost use Rattle.mcbp_dcp.specs.MessageRows.{answer_head, bare_bytes, deletion_bytes, end_bytes, four_bytes, marker_bytes, mutation_bytes, no_four};
+ghost use Rattle.mcbp_dcp.specs.MessageRows.{answer_head, bare_bytes, deletion_bytes, end_bytes, four_bytes, marker_bytes, mutation_bytes, no_four, state_bytes};
 ghost use Rattle.{vb_calls.specs.declared.calls.VbCall.TheVariants.{Marker, Receive}, vb_types.specs.Limits.{IsKey, IsValue}};
 ghost use Rattle.{vb_types.specs.declared.change.Act.TheVariants.{Abort, Prepare, Remove, Set}, vb_types.specs.declared.change.Change.{Change as ChangeData}};
 ghost use Rattle.vb_types.specs.declared.change.Level.TheVariants.{MajorityPersistActive, PersistMajority};
-ghost use Rattle.dcp_consumer.specs.Conduct.{Awaits, awaited, answer_numbers, Comes, IsNext, Ends, EndsBy, IsRequest, Acknowledges, IsAcknowledgement, HasAcknowledged, LeavesAcknowledged, acknowledgement_bytes};
+ghost use Rattle.dcp_consumer.specs.Conduct.{Awaits, awaited, answer_numbers, IsNext, Ends, IsRequest, Acknowledges, IsAcknowledgement, HasAcknowledged, LeavesAcknowledged, acknowledgement_bytes};
 ghost use Rattle.dcp_consumer.specs.Counting.{is_counted, counted_bytes, bytes_acknowledged, Counts, CountsAsMessage, IsBufferAcknowledgement, buffer_acknowledgement_bytes};
+ghost use Rattle.{mcbp_dcp.specs.Messages.{read_of}, dcp_consumer.specs.States.{state_answered, BytesAreObeyed, ComesTo, EndsAt, IsNextOf, IsStateAnswer, Obeys}, takeover.specs.declared.take_over.TakeStep.{TakeStep as TakeData}, takeover.specs.declared.take_over.TakeStep.TheVariants.{Pend, Own}};
 ghost use Rattle.dcp_consumer.specs.Noops.{noop_answered, IsNoop, IsNoopAnswer, BytesAreAnswered};
-ghost use Rattle.dcp_consumer.specs.Dialing.{member_name, first_requests, numbered, requests, ask_row, dialed_row, open_bytes, buffer_bytes, sync_bytes, name_bytes, request_bytes};
+ghost use Rattle.dcp_consumer.specs.Dialing.{member_name, first_requests, flagged, numbered, requests, ask_row, dialed_row, open_bytes, buffer_bytes, sync_bytes, name_bytes, request_bytes};
 ghost use Rattle.dcp_consumer.specs.Machine.{PlainConsumer, dialed_consumer, over_why, consumer_step, IsDue, granted, again, ended_for, is_streaming, may_acknowledge, acknowledged};
-ghost use Rattle.{dcp_consumer.specs.declared.handshake.ConsumerStep.{ConsumerStep as StepData}, dcp_consumer.specs.declared.handshake.ConsumerStep.TheVariants.{Dropped, Noop, Passive}};
+ghost use Rattle.{dcp_consumer.specs.declared.handshake.ConsumerStep.{ConsumerStep as StepData}, dcp_consumer.specs.declared.handshake.ConsumerStep.TheVariants.{Dropped, Noop, Passive, State as StateStep}};
 ghost use Rattle.{dcp_consumer.specs.declared.handshake.Dialed.{Dialed as DialedData}, dcp_consumer.specs.declared.handshake.Handshake.{Handshake as HandshakeData}};
 ghost use Rattle.{dcp_consumer.specs.declared.handshake.Handshake.TheVariants.{Opening, Buffering, SyncWrites, Naming, Asking, Streaming, Over}, mcbp_frame.specs.declared.frame.Frame.{Frame as FrameData}};
 ghost use Rattle.{vb_events.specs.declared.event.EndReason.{EndReason as ReasonData}, vb_events.specs.declared.event.EndReason.TheVariants.{Done, Protocol, State}};
@@ -25,15 +26,16 @@ ghost use Rattle.{vb_types.specs.declared.role.Role.{Role as RoleData}, vb_types
 /// What a consumer writes when it dials, byte by byte: it opens under its node's name as a member,
 /// asks for the buffer where there is one, asks for durable writes, says under which name it
 /// acknowledges, and requests the stream, with the opaques 1 to 4, or 1 to 5 with a buffer. Only the
-/// request names the vBucket.
+/// request names the vBucket, and it has the flags 1 where the link takes the vBucket over, and else 0.
 pub fn dials_in_bytes()
-    ensures plain { (link : ℕ) → requests (dialed_row link 0) ask_row ≡ open_bytes ++ sync_bytes 2 ++ name_bytes 3 ++ request_bytes 4 }
-    ensures buffered { (link : ℕ) → requests (dialed_row link 0x01020304) ask_row ≡ open_bytes ++ buffer_bytes ++ sync_bytes 3 ++ name_bytes 4 ++ request_bytes 5 }
+    ensures plain { (link : ℕ) → requests (dialed_row link 0 false) ask_row ≡ open_bytes ++ sync_bytes 2 ++ name_bytes 3 ++ request_bytes 0 4 }
+    ensures buffered { (link : ℕ) → requests (dialed_row link 0x01020304 false) ask_row ≡ open_bytes ++ buffer_bytes ++ sync_bytes 3 ++ name_bytes 4 ++ request_bytes 0 5 }
+    ensures takeover { (link : ℕ) → requests (dialed_row link 0 true) ask_row ≡ open_bytes ++ sync_bytes 2 ++ name_bytes 3 ++ request_bytes 1 4 }
 {}
 
 /// Which frame comes to which step, in both directions.
 pub fn frames_come_to_steps()
-    ensures { (c : PlainConsumer) (f : FrameData) (s : StepData) → ((consumer_step c f).1 ≡ s) ↔ Comes c.dialed.buffer c.handshake c.asked f s }
+    ensures { (c : PlainConsumer) (f : FrameData) (s : StepData) → ((consumer_step c f).1 ≡ s) ↔ ComesTo c f s }
 {}
 
 /// A frame moves the handshake one on exactly where it is the awaited answer with Success, and no
@@ -74,7 +76,7 @@ pub fn requests_are_answered()
 /// Which frames end a link for which reason, in both directions.
 pub fn reasons_are_told()
     ensures { (c : PlainConsumer) (f : FrameData) (why : ReasonData) → over_why c.handshake ≡ None
-        → ((consumer_step c f).0.handshake ≡ Over why) ↔ EndsBy why c.dialed.buffer c.handshake c.asked f }
+        → ((consumer_step c f).0.handshake ≡ Over why) ↔ EndsAt why c f }
 {}
 
 /// A prepare, a commit and an abort are taken in as the changes that they are, and no other message of
@@ -89,8 +91,8 @@ pub fn durable_writes_are_taken()
 {}
 
 /// A MUTATION and a DELETION are taken in as the changes that they are, with all bits of each field, and
-/// as no other: `protocol` exactly where key or value is none that a change can have. A role is
-/// `protocol` always.
+/// as no other: `protocol` exactly where key or value is none that a change can have. A state makes no
+/// such call.
 pub fn changes_are_taken()
     ensures stored { (m : PutData) (c : ChangeData) → (passive_of (msg.Mutation m) ≡ Call (Receive c)) ↔ IsStored m c }
     ensures removed { (d : RemovalData) (c : ChangeData) → (passive_of (msg.Deletion d) ≡ Call (Receive c)) ↔ IsRemoved d c }
@@ -122,13 +124,15 @@ pub fn changes_from_bytes()
 {}
 
 /// The first request for a stream has the opaque 4, or 5 with a buffer. A consumer asks again only
-/// where it went back, each time with the next opaque; where none is left, its link is over.
+/// where it went back, each time with the next opaque, and with the flags of its link, 1 for a takeover
+/// and else 0; where none is left, its link is over.
 pub fn asks_again_once_back()
     ensures first { (dialed : DialedData) → (dialed.buffer ≡ 0 → (dialed_consumer dialed).asked ≡ 4) × (dialed.buffer ≢ 0 → (dialed_consumer dialed).asked ≡ 5) }
-    ensures fed { (c : PlainConsumer) (f : FrameData) → (consumer_step c f).0 ≡ record c { handshake = (consumer_step c f).0.handshake } }
+    ensures fed { (c : PlainConsumer) (f : FrameData) → (consumer_step c f).0 ≡ record c { handshake = (consumer_step c f).0.handshake; taking = (consumer_step c f).0.taking } }
     ensures granted { (c : PlainConsumer) → granted c ≡ record c { handshake = (granted c).handshake } }
     ensures back { (c : PlainConsumer) (ask : AskData) → c.handshake ≡ Asking → c.asked < 4294967295
-        → ((again ask c).0 ≡ record c { asked = c.asked + 1 }) × IsRequest ask (c.asked + 1) c.dialed.vb (again ask c).1 }
+        → ((again ask c).0 ≡ record c { asked = c.asked + 1 }) × IsRequest (flagged c.dialed.takeover ask) (c.asked + 1) c.dialed.vb (again ask c).1 }
+    ensures flags { (ask : AskData) → (flagged true ask ≡ record ask { flags = 1 }) × (flagged false ask ≡ record ask { flags = 0 }) }
     ensures last { (c : PlainConsumer) (ask : AskData) → c.handshake ≡ Asking → c.asked ≡ 4294967295 → again ask c ≡ (ended_for Protocol c, []) }
     ensures others { (c : PlainConsumer) (ask : AskData) → c.handshake ≢ Asking → again ask c ≡ (c, []) }
 {}
@@ -181,6 +185,30 @@ pub fn noops_are_answered()
     ensures written { (opaque : ℕ) → IsNoopAnswer opaque (noop_answered opaque) }
     ensures bytes { BytesAreAnswered (bare_bytes 0x5c 0 no_cas) (answer_head 0x5c 0x00 0x00 0x00) }
     ensures heads { BytesAreAnswered (bare_bytes 0x5c 1 some_cas) (answer_head 0x5c 0x00 0x00 0x00) }
+{}
+
+/// A consumer obeys a state exactly where its link takes the vBucket over, its stream was granted and
+/// goes on, and the state is in order: pending is the first that the link is told, and active comes
+/// right behind it. Nothing else of the consumer changes. Any other state ends the link: replica and
+/// dead, active first, a second pending, and each one before the grant or on a link that follows alone.
+/// Nothing but a state that it obeys changes how far it is.
+pub fn states_are_obeyed()
+    ensures obeyed { (c : PlainConsumer) (f : FrameData) (take : TakeData) → Obeys c f take → consumer_step c f ≡ (record c { taking = record { last = Some take } }, StateStep take f.opaque) }
+    ensures only { (c : PlainConsumer) (f : FrameData) (take : TakeData) (opaque : ℕ) → (consumer_step c f).1 ≡ StateStep take opaque → Obeys c f take × (f.opaque ≡ opaque) }
+    ensures strange { (c : PlainConsumer) (f : FrameData) (to : RoleData) → over_why c.handshake ≡ None → f.magic ≢ 0x81 → read_of f ≡ Some (Ok (msg.SetVbucketState to)) → ((take : TakeData) → Obeys c f take → ⊥)
+        → consumer_step c f ≡ (ended_for Protocol c, Passive Strange) }
+    ensures stays { (c : PlainConsumer) (f : FrameData) → ((take : TakeData) → Obeys c f take → ⊥) → (consumer_step c f).0.taking ≡ c.taking }
+    ensures first { (dialed : DialedData) → IsNextOf (dialed_consumer dialed).taking.last Pend }
+    ensures written { (opaque : ℕ) → IsStateAnswer opaque (state_answered opaque) }
+{}
+
+/// The states and their answers, byte by byte: the byte 3 has a consumer pend, and the byte 1 own the
+/// branch. Each counts with 25 bytes, and is answered with Success and its opaque. Datatype, vBucket
+/// and CAS are not read.
+pub fn states_from_bytes()
+    ensures pending { BytesAreObeyed Pend (state_bytes 0 no_cas 3) (answer_head 0x5b 0x00 0x00 0x00) }
+    ensures active { BytesAreObeyed Own (state_bytes 0 no_cas 1) (answer_head 0x5b 0x00 0x00 0x00) }
+    ensures heads { BytesAreObeyed Pend (state_bytes 1 some_cas 3) (answer_head 0x5b 0x00 0x00 0x00) }
 {}
 
 /// Under which name a node acknowledges: an `n` and its number, with no zero in front.

@@ -19,8 +19,10 @@ pub use laws::{
     bytes_are_counted, changes_are_taken, changes_from_bytes, dials_in_bytes,
     durable_writes_are_taken, durable_writes_from_bytes, frames_come_to_steps, handshakes_move_on,
     links_end, names_in_letters, noops_are_answered, reasons_are_told, requests_are_answered,
+    states_are_obeyed, states_from_bytes,
 };
 pub use passive_stream::Passive;
+pub use takeover::TakeStep;
 
 /// What a call gives that needs memory, or that memory was short.
 type Alloc<T> = Result<T, std::alloc::AllocError>;

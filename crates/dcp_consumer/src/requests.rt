@@ -1,7 +1,7 @@
 //! What a consumer writes when it dials.
 ghost use Rattle.std.specs.Prelude.{◌≡◌, ◌≤◌, ◌++◌, length, map, decimal, IfOk, OnOk};
 ghost use Rattle.{std.specs.List.{concat}, mcbp_dcp.specs.DcpFrames.{dcp_frame, IsSpelled}};
-ghost use Rattle.dcp_consumer.specs.Dialing.{member_name, open_request, buffer_request, buffer_requests, sync_request, name_request, numbered, stream_opaque, requests};
+ghost use Rattle.dcp_consumer.specs.Dialing.{member_name, open_request, buffer_request, buffer_requests, sync_request, name_request, numbered, flagged, stream_opaque, requests};
 ghost use Rattle.mcbp_frame.specs.Spelling.{spelling};
 
 use crate::{Alloc, Dialed};
@@ -16,6 +16,16 @@ pub fn stream_opaque(buffer: u32) -> u32
     ensures { result ≡ stream_opaque buffer }
 {
     if buffer == 0 { 4 } else { 5 }
+}
+
+/// A request for a stream, with the flags of its link: 1 where it takes the vBucket over, and else 0.
+pub fn flagged(takeover: bool, ask: StreamAsk) -> StreamAsk
+    ensures { result ≡ flagged takeover ask }
+{
+    StreamAsk {
+        flags: u32::from(takeover),
+        ..ask
+    }
 }
 
 /// The name of a node as a member.
@@ -117,5 +127,6 @@ pub fn write_requests(dialed: Dialed, ask: StreamAsk, out: &mut BytesMut) -> All
     ask_for_buffer(dialed.buffer, out)?;
     send(sync_request(alloc)?, opaque - 2, 0, out)?;
     send(name_request(alloc, dialed.node)?, opaque - 1, 0, out)?;
+    let ask = flagged(dialed.takeover, ask);
     send(DcpMsg::StreamRequest { ask }, opaque, dialed.vb, out)
 }

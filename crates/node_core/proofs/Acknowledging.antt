@@ -15,6 +15,9 @@ use Rattle.vb_events.specs.declared.event.EndReason.{EndReason}
 use Rattle.vb_events.specs.declared.event.EndReason.TheVariants as reason
 use Rattle.vb_types.specs.declared.journal.Record.{Record}
 use Rattle.vb_types.specs.declared.role.LogEntry.{LogEntry}
+use Rattle.vb_types.specs.declared.role.Role.TheVariants as role
+use Rattle.takeover.specs.declared.take_over.TakeStep.{TakeStep}
+use Rattle.takeover.specs.declared.take_over.TakeStep.TheVariants.{Pend, Own}
 use Rattle.vb_types.specs.declared.stream.StreamAsk.{StreamAsk}
 use Rattle.vb_calls.specs.declared.calls.VbCall.{VbCall}
 use Rattle.vb_calls.specs.declared.calls.VbCall.TheVariants as call
@@ -23,7 +26,9 @@ use Rattle.vb_calls.specs.declared.calls.VbAnswer.TheVariants as answer
 use Rattle.vb_calls.specs.declared.calls.VbReply.{VbReply}
 use Rattle.vb_calls.specs.declared.journals.Rolled.{Rolled}
 use Rattle.vb_calls.specs.declared.journals.Rolled.TheVariants as rolled
-use Rattle.vb_calls.specs.Flushes.{rolled_job, read_job, may_roll_job, rollable_job, roll_job}
+use Rattle.vb_calls.specs.declared.journals.Wrote.{Wrote}
+use Rattle.vb_calls.specs.declared.journals.Wrote.TheVariants as wrote
+use Rattle.vb_calls.specs.Flushes.{is_refusal, note_role_job, role_of_call, role_told_job, role_job, rolled_job, read_job, may_roll_job, rollable_job, roll_job}
 use Rattle.vb_calls.specs.Jobs.{Job, Ended, Call, Request, bind_job, next_job, lift}
 use Rattle.vb_calls.specs.Programs.{Done}
 use Rattle.vb_calls.specs.Programs as prog
@@ -34,12 +39,15 @@ use Rattle.dcp_consumer.specs.declared.handshake.Handshake.{Handshake}
 use Rattle.dcp_consumer.specs.declared.handshake.Handshake.TheVariants as handshake
 use Rattle.dcp_consumer.specs.declared.handshake.Dialed.{Dialed}
 use Rattle.dcp_consumer.specs.declared.passive_stream.Passive.TheVariants as passive
-use Rattle.dcp_consumer.specs.Machine.{PlainConsumer, with_handshake, over_why, moved_by, frame_step, granted, streaming, ended_for, request_again, again_by, is_streaming, may_acknowledge, acknowledged}
+use Rattle.dcp_consumer.specs.Dialing.{flagged}
+use Rattle.dcp_consumer.specs.States.{state_answered}
+use Rattle.dcp_consumer.specs.Machine.{PlainConsumer, with_handshake, over_why, stepped, frame_step, granted, streaming, ended_for, request_again, again_by, is_streaming, may_acknowledge, acknowledged}
 use Rattle.dcp_consumer.specs.Noops.{noop_answered, IsNoop}
 use Rattle.dcp_consumer.proofs.Noops.{answered as noop_answers, only as noop_only}
-use Rattle.node_core.specs.Conduct.{Asks, Acknowledges, AnswersNoop, AnswersNoops, AreNoopsOf, noop_written, bytes_written, IsOfDial, KeepsLink, AnyOther, DueNext, StatNext, Dues, said, log_behind, message_behind, due_behind, stat_behind, behind, CallsAs, seqno_written, seqnos_of_line, Acknowledged, begins}
-use Rattle.node_core.specs.Dials.{PlainDial, DialResult, untold, is_over, with_consumer, with_line, with_left, over_for, adopted_line, granted_with, is_done_answer, adopt_result, acknowledged_line, acknowledged_result, saved_in, saved_of_reply, due_in, due_of_reply, due_met, due_requested, dial_due, go_on_with, follower_ask, again_with, again_result, requested_once_more, rolled_line, rolled_back, roll_back, got_line, taken_as, message_result, call_made, noop_met, step_made, frame_taken, frames_taken, fault_met}
-use Rattle.node_core.proofs.Conduct.{skipped, either, FollowsIf, Follows, IsMessage, step_follows, over_keeps, lines_keep, wrote_keeps, silent_keeps, one_own, got_own}
+use Rattle.node_core.specs.Calls.{own_lines}
+use Rattle.node_core.specs.Conduct.{Asks, Acknowledges, AnswersNoop, AnswersState, MayWrite, AnswersNoops, AreNoopsOf, noop_written, bytes_written, IsOfDial, KeepsLink, AnyOther, DueNext, StatNext, Dues, said, log_behind, message_behind, due_behind, stat_behind, behind, CallsAs, seqno_written, seqnos_of_line, Acknowledged, begins}
+use Rattle.node_core.specs.Dials.{PlainDial, DialResult, untold, is_over, with_consumer, with_line, with_left, over_for, adopted_line, granted_with, is_done_answer, adopt_result, acknowledged_line, acknowledged_result, saved_in, saved_of_reply, due_in, due_of_reply, due_met, due_requested, dial_due, go_on_with, follower_ask, again_with, again_result, requested_once_more, rolled_line, rolled_back, roll_back, got_line, taken_as, message_result, call_made, noop_met, is_done, is_pending, role_line, state_met, pend_result, pended, heir_told, noted_for, own_result, owned, state_made, step_made, frame_taken, frames_taken, fault_met}
+use Rattle.node_core.proofs.Conduct.{skipped, either, FollowsIf, Follows, Goes, IsMessage, step_goes, changed_own, role_told, over_keeps, lines_keep, wrote_keeps, silent_keeps, one_own, got_own}
 
 -- one job after the other
 pub calls_bind : {A B : Type 0} (between : Dues → A → Type 0) (ends : Dues → B → Type 0) (d : Dues) (job : Job A) (k : A → Job B)
@@ -107,6 +115,18 @@ moved_told old s d h m = record {
   heard = m.heard;
 }
 
+stepped_told : {noops : List ℕ} (old s : DialResult) (d : Dues) (t : ConsumerStep) → Acknowledged [] noops old d s → Acknowledged [] noops old d (with_consumer s (stepped t s.dial.consumer))
+stepped_told old s d t m = record {
+  next = m.next;
+  last = m.last;
+  link = record { dialed = m.link.dialed; writes = m.link.writes; lines = m.link.lines };
+  written = m.written;
+  told = m.told;
+  counted = m.counted;
+  answered = m.answered;
+  heard = m.heard;
+}
+
 -- with one more request
 asked_told : {noops : List ℕ} (old s : DialResult) (d : Dues) (ask : StreamAsk) → Acknowledged [] noops old d s → Acknowledged [] noops old d (again_with s (request_again ask s.dial.consumer))
 asked_told old s d ask m =
@@ -114,11 +134,11 @@ asked_told old s d ask m =
     record {
       next = m.next;
       last = m.last;
-      link = wrote_keeps old s (request_again ask c).0 (Asks ask) (request_again ask c).1 refl (omega arith) (sym (append-nil (request_again ask c).1)) m.link;
-      written = filter_map-append seqno_written m.link.writes.0 (Asks ask ∷ []) ∙ append-nil (filter_map seqno_written m.link.writes.0) ∙ m.written;
+      link = wrote_keeps old s (request_again ask c).0 (Asks (flagged c.dialed.takeover ask)) (request_again ask c).1 tt refl (omega arith) (sym (append-nil (request_again ask c).1)) m.link;
+      written = filter_map-append seqno_written m.link.writes.0 (Asks (flagged c.dialed.takeover ask) ∷ []) ∙ append-nil (filter_map seqno_written m.link.writes.0) ∙ m.written;
       told = m.told;
-      counted = filter_map-append bytes_written m.link.writes.0 (Asks ask ∷ []) ∙ append-nil (filter_map bytes_written m.link.writes.0) ∙ m.counted;
-      answered = filter_map-append noop_written m.link.writes.0 (Asks ask ∷ []) ∙ append-nil (filter_map noop_written m.link.writes.0) ∙ m.answered;
+      counted = filter_map-append bytes_written m.link.writes.0 (Asks (flagged c.dialed.takeover ask) ∷ []) ∙ append-nil (filter_map bytes_written m.link.writes.0) ∙ m.counted;
+      answered = filter_map-append noop_written m.link.writes.0 (Asks (flagged c.dialed.takeover ask) ∷ []) ∙ append-nil (filter_map noop_written m.link.writes.0) ∙ m.answered;
       heard = m.heard;
     }
 
@@ -146,7 +166,7 @@ met_told old s last met seq saved m =
       next = refl;
       last = refl;
       link = lines_keep old (again_with s (acknowledged seq c)) (line ∷ []) (one_own c.dialed line (refl, refl, refl))
-          (wrote_keeps old s (acknowledged seq c).0 (Acknowledges seq) wrote refl (omega arith) (sym (append-nil wrote)) m.link);
+          (wrote_keeps old s (acknowledged seq c).0 (Acknowledges seq) wrote tt refl (omega arith) (sym (append-nil wrote)) m.link);
       written = filter_map-append seqno_written m.link.writes.0 (Acknowledges seq ∷ []) ∙ ap (λ l. l ++ seq ∷ []) m.written
           ∙ sym (map-append (λ (p : ℕ × ℕ). p.0) met ((seq, saved) ∷ []));
       told = filter_map-append seqnos_of_line m.link.lines.0 (line ∷ []) ∙ ap (λ l. l ++ (seq, saved) ∷ []) m.told;
@@ -160,11 +180,24 @@ noop_told : {noops : List ℕ} (old s : DialResult) (d : Dues) (opaque : ℕ) �
 noop_told old s d opaque m = record {
   next = m.next;
   last = m.last;
-  link = wrote_keeps old s s.dial.consumer (AnswersNoop opaque) (noop_answered opaque) refl (omega arith) (sym (append-nil (noop_answered opaque))) m.link;
+  link = wrote_keeps old s s.dial.consumer (AnswersNoop opaque) (noop_answered opaque) tt refl (omega arith) (sym (append-nil (noop_answered opaque))) m.link;
   written = filter_map-append seqno_written m.link.writes.0 (AnswersNoop opaque ∷ []) ∙ append-nil (filter_map seqno_written m.link.writes.0) ∙ m.written;
   told = m.told;
   counted = filter_map-append bytes_written m.link.writes.0 (AnswersNoop opaque ∷ []) ∙ append-nil (filter_map bytes_written m.link.writes.0) ∙ m.counted;
   answered = filter_map-append noop_written m.link.writes.0 (AnswersNoop opaque ∷ []) ∙ ap (λ l. l ++ opaque ∷ []) m.answered;
+  heard = m.heard;
+}
+
+-- with one more answer to a state
+state_told : {noops : List ℕ} (old s : DialResult) (d : Dues) (opaque : ℕ) → old.dial.consumer.dialed.takeover ≡ true → Acknowledged [] noops old d s → Acknowledged [] noops old d (state_met opaque s)
+state_told old s d opaque takes m = record {
+  next = m.next;
+  last = m.last;
+  link = wrote_keeps old s s.dial.consumer (AnswersState opaque) (state_answered opaque) takes refl (omega arith) (sym (append-nil (state_answered opaque))) m.link;
+  written = filter_map-append seqno_written m.link.writes.0 (AnswersState opaque ∷ []) ∙ append-nil (filter_map seqno_written m.link.writes.0) ∙ m.written;
+  told = m.told;
+  counted = filter_map-append bytes_written m.link.writes.0 (AnswersState opaque ∷ []) ∙ append-nil (filter_map bytes_written m.link.writes.0) ∙ m.counted;
+  answered = filter_map-append noop_written m.link.writes.0 (AnswersState opaque ∷ []) ∙ append-nil (filter_map noop_written m.link.writes.0) ∙ m.answered;
   heard = m.heard;
 }
 
@@ -324,6 +357,69 @@ module _ (v last : ℕ) (met : List (ℕ × ℕ)) where
   unfolding Rolls roll_job
   rolls named = (tt, λ reply. goes_back named reply)
 
+-- a takeover leaves where the calls stand
+Turned : Dues → Dues → Option VbReply × Wrote → Type 0
+Turned d e made = e ≡ d
+
+module _ (v last : ℕ) (met : List (ℕ × ℕ)) where
+  turned_by : (reply : VbReply) (b : Bool) → CallsAs (Turned (free last met)) (free last met) (if b then Ended (Some reply, wrote.NotAsked) else Call v call.Log (note_role_job v (role_of_call call.Own) reply))
+  unfolding Turned
+  turned_by reply true = refl
+  turned_by reply false = (tt, λ logged fate. refl)
+
+  turned : (reply : Option VbReply) → CallsAs (Turned (free last met)) (free last met) (role_told_job v call.Own reply)
+  unfolding Turned
+  turned None = refl
+  turned (Some reply) = turned_by reply (is_refusal reply.answer)
+
+  turns : CallsAs (Turned (free last met)) (free last met) (role_job v call.Own)
+  unfolding role_job
+  turns = (tt, λ reply. turned reply)
+
+none_changed : (n v uuid : ℕ) (changes : List Change) → filter_map seqnos_of_line (map (event.Changed n v uuid) changes) ≡ []
+none_changed n v uuid [] = refl
+none_changed n v uuid (c ∷ changes) = none_changed n v uuid changes
+
+module _ {noops : List ℕ} (old s : DialResult) (last : ℕ) (met : List (ℕ × ℕ)) (opaque : ℕ) (takes : s.dial.consumer.dialed.takeover ≡ true) (m : Acknowledged [] noops old (free last met) s) where
+  takes_old : old.dial.consumer.dialed.takeover ≡ true
+  takes_old = ap (λ d. d.takeover) (sym m.link.dialed) ∙ takes
+
+  pend_told : (before : Bool) (reply : Option VbReply) → Acknowledged [] noops old (free last met) (pend_result opaque before s reply)
+  pend_told before reply =
+      let line : Event = role_line s.dial.consumer.dialed role.Pending in
+      either (Acknowledged [] noops old (free last met)) (is_done reply) (state_met opaque (if before then s else with_line s line)) (over_for reason.Protocol s)
+      (state_told old (if before then s else with_line s line) (free last met) opaque takes_old
+      (either (Acknowledged [] noops old (free last met)) before s (with_line s line) m (lines_told old s (free last met) (line ∷ []) (role_told s.dial.consumer.dialed role.Pending takes (inl refl)) refl m)))
+      (over_told old s (free last met) reason.Protocol m)
+
+  noted_told : (t : DialResult) (came : Wrote) → Acknowledged [] noops old (free last met) t → Acknowledged [] noops old (free last met) (noted_for came t)
+  noted_told t wrote.Stood m = m
+  noted_told t wrote.NotAsked m = m
+  noted_told t wrote.Closed m = over_told old t (free last met) reason.Disk m
+  noted_told t wrote.DiskFailed m = over_told old t (free last met) reason.Disk m
+
+  heir_is_told : (reply : VbReply) → Acknowledged [] noops old (free last met) (heir_told reply s)
+  heir_is_told reply =
+      let d : Dialed = s.dial.consumer.dialed in
+      let line : Event = role_line d role.Active in
+      lines_told old (with_line s line) (free last met) (own_lines d.node d.vb reply) (changed_own d reply.branch reply.changes takes) (none_changed d.node d.vb reply.branch reply.changes)
+      (lines_told old s (free last met) (line ∷ []) (role_told d role.Active takes (inr refl)) refl m)
+
+  own_told : (came : Wrote) (reply : Option VbReply) → Acknowledged [] noops old (free last met) (own_result opaque s reply came)
+  own_told came None = over_told old s (free last met) reason.Protocol m
+  own_told came (Some reply) =
+      let told : DialResult = state_met opaque (heir_told reply s) in
+      either (Acknowledged [] noops old (free last met)) (is_done_answer reply.answer) (noted_for came told) (over_for reason.Protocol s)
+      (noted_told told came (state_told old (heir_told reply s) (free last met) opaque takes_old (heir_is_told reply))) (over_told old s (free last met) reason.Protocol m)
+
+  state_calls : (take : TakeStep) → CallsAs (Acknowledged [] noops old) (free last met) (state_made take opaque s)
+  unfolding pended owned Turned
+  state_calls Pend = (tt, λ shown. (tt, λ reply. pend_told (is_pending shown) reply))
+  state_calls Own =
+      calls_bind (Turned (free last met)) (Acknowledged [] noops old) (free last met) (role_job s.dial.consumer.dialed.vb call.Own) (λ made. Ended (own_result opaque s made.0 made.1))
+      (turns s.dial.consumer.dialed.vb last met)
+      (λ e made same. subst (λ d. Acknowledged [] noops old d (own_result opaque s made.0 made.1)) (sym same) (own_told made.1 made.0))
+
 module _ {noops : List ℕ} (old s : DialResult) (last : ℕ) (met : List (ℕ × ℕ)) (m : Acknowledged [] noops old (free last met) s) where
   rolled_calls : (point : ℕ) (came : Rolled) → CallsAs (Acknowledged [] noops old) (free last met) (lift (rolled_back point s came))
   rolled_calls point (rolled.To to) =
@@ -342,15 +438,17 @@ module _ {noops : List ℕ} (old s : DialResult) (last : ℕ) (met : List (ℕ �
       (λ e came same. subst (λ d. CallsAs (Acknowledged [] noops old) d (lift (rolled_back point s came))) (sym same) (rolled_calls point came))
 
   -- a frame
-  step_calls : (t : ConsumerStep) → Follows s.dial.consumer.handshake t
-      → CallsAs (Acknowledged [] (with_noop t noops) old) (free last met) (step_made t (with_consumer s (with_handshake s.dial.consumer (moved_by s.dial.consumer.dialed.buffer t s.dial.consumer.handshake))))
-  unfolding Follows FollowsIf
+  step_calls : (t : ConsumerStep) → Goes s.dial.consumer t → CallsAs (Acknowledged [] (with_noop t noops) old) (free last met) (step_made t (with_consumer s (stepped t s.dial.consumer)))
+  unfolding Goes Follows FollowsIf
   step_calls (step.Adopt log) asks = log_calls old s last met m asks log
   step_calls (step.Roll point) follows = roll_calls point
   step_calls (step.Passive (passive.Call c)) follows = message_calls old s last met m follows.0 c follows.1
-  step_calls (step.Passive p) follows = moved_told old s (free last met) (moved_by s.dial.consumer.dialed.buffer (step.Passive p) s.dial.consumer.handshake) m
+  step_calls (step.Passive p) follows = stepped_told old s (free last met) (step.Passive p) m
+  step_calls (step.State take opaque) takes =
+      let t : ConsumerStep = step.State take opaque in
+      state_calls old (with_consumer s (stepped t s.dial.consumer)) last met opaque takes (stepped_told old s (free last met) t m) take
   step_calls (step.Noop opaque) follows = noop_told old s (free last met) opaque m
-  step_calls t follows = moved_told old s (free last met) (moved_by s.dial.consumer.dialed.buffer t s.dial.consumer.handshake) m
+  step_calls t follows = stepped_told old s (free last met) t m
 
 -- a frame of a link that is not over
 going_calls : (old : DialResult) (noops : List ℕ) (f : Frame) (d : Dues) (s : DialResult) → Acknowledged [] noops old d s
@@ -359,8 +457,8 @@ unfolding frame_taken
 going_calls old noops f d s m =
     let free_there : free d.last d.met ≡ d = λ i. record { next = sym m.next i; last = d.last; met = d.met } in
     let c = s.dial.consumer in
-    subst (λ e. CallsAs (Acknowledged [] (with_noop (frame_step c f) noops) old) e (step_made (frame_step c f) (with_consumer s (with_handshake c (moved_by c.dialed.buffer (frame_step c f) c.handshake))))) free_there
-    (step_calls old s d.last d.met (subst (λ e. Acknowledged [] noops old e s) (sym free_there) m) (frame_step c f) (step_follows c f))
+    subst (λ e. CallsAs (Acknowledged [] (with_noop (frame_step c f) noops) old) e (step_made (frame_step c f) (with_consumer s (stepped (frame_step c f) c)))) free_there
+    (step_calls old s d.last d.met (subst (λ e. Acknowledged [] noops old e s) (sym free_there) m) (frame_step c f) (step_goes c f))
 
 -- ---- which NOOPs are answered
 
@@ -409,7 +507,7 @@ pub frames_acknowledge : (bytes : List ℕ) (dial : PlainDial)
 unfolding frames_taken
 frames_acknowledge bytes dial =
     let old : DialResult = with_left (untold dial) bytes in
-    let link : KeepsLink old old = record { dialed = refl; writes = ([], refl, omega arith); lines = ([], refl, All-nil (IsOfDial dial.consumer.dialed)) } in
+    let link : KeepsLink old old = record { dialed = refl; writes = ([], refl, omega arith, All-nil (MayWrite dial.consumer.dialed)); lines = ([], refl, All-nil (IsOfDial dial.consumer.dialed)) } in
     let start : Acknowledged [] [] old (begins AnyOther dial) old = record { next = refl; last = refl; link = link; written = refl; told = refl; counted = refl; answered = refl; heard = refl } in
     calls_each (λ before. Taken before old) frame_taken (λ before f d s taken. taken_by old before f s d (is_over s.dial) refl taken) (begins AnyOther dial) [] (frames_in bytes) (Ended old)
     ([], start, ([], [], refl, refl, λ any. refl))
@@ -418,7 +516,7 @@ frames_acknowledge bytes dial =
 pub due_acknowledges : (dial : PlainDial) → dial.consumer.handshake ≡ handshake.Streaming → CallsAs (Acknowledged [] [] (untold dial)) (begins DueNext dial) (lift (dial_due dial))
 due_acknowledges dial streams =
     let old : DialResult = untold dial in
-    let link : KeepsLink old old = record { dialed = refl; writes = ([], refl, omega arith); lines = ([], refl, All-nil (IsOfDial dial.consumer.dialed)) } in
+    let link : KeepsLink old old = record { dialed = refl; writes = ([], refl, omega arith, All-nil (MayWrite dial.consumer.dialed)); lines = ([], refl, All-nil (IsOfDial dial.consumer.dialed)) } in
     asks_due old old dial.consumer.acked [] (record { next = refl; last = refl; link = link; written = refl; told = refl; counted = refl; answered = refl; heard = refl }) streams
 
 not_streaming : (h : Handshake) → (h ≡ handshake.Streaming → ⊥) → is_streaming h ≡ false

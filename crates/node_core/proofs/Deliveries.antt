@@ -105,7 +105,7 @@ module _ {noops : List ℕ} (old s : DialResult) (d : Dues) (frames : List Frame
     record {
       next = m.next;
       last = m.last;
-      link = wrote_keeps old s s.dial.consumer (AcknowledgesBytes most) wrote refl (omega arith) (sym (append-nil wrote)) m.link;
+      link = wrote_keeps old s s.dial.consumer (AcknowledgesBytes most) wrote tt refl (omega arith) (sym (append-nil wrote)) m.link;
       written = filter_map-append seqno_written m.link.writes.0 (AcknowledgesBytes most ∷ []) ∙ append-nil (filter_map seqno_written m.link.writes.0) ∙ m.written;
       told = m.told;
       counted = filter_map-append bytes_written m.link.writes.0 (AcknowledgesBytes most ∷ []) ∙ ap (λ l. l ++ most ∷ []) m.counted;

@@ -82,11 +82,11 @@ done_answer_is : (r : VbReply) (a : VbAnswer) → r.answer ≡ a → is_done_ans
 done_answer_is r answer.Done is done = (r, refl, is)
 done_answer_is r other is done = cc
 
-made_is : (reply : Option VbReply) → is_done reply ≡ true → IsMade reply
+pub made_is : (reply : Option VbReply) → is_done reply ≡ true → IsMade reply
 made_is None done = cc
 made_is (Some r) done = done_answer_is r r.answer refl done
 
-made_tested : (reply : Option VbReply) → IsMade reply → is_done reply ≡ true
+pub made_tested : (reply : Option VbReply) → IsMade reply → is_done reply ≡ true
 made_tested reply made = ap is_done made.1 ∙ ap is_done_answer made.2
 
 log_refused : (log : List LogEntry) (s : DialResult) (reply : Option VbReply) → (IsMade reply → ⊥) → IsOverFor reason.Protocol (adopt_result log s reply)

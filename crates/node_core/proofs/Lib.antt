@@ -12,6 +12,7 @@ pub mod LoadSteps
 pub mod Noting
 pub mod Resolving
 pub mod Endings
+pub mod Taking
 pub mod Pieces
 pub mod Refusing
 pub mod Turning

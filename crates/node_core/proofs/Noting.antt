@@ -82,11 +82,11 @@ failed_so Stood said quiet = (λ is. absurd (not_failed said quiet is), λ is. c
 failed_so WasClosed said quiet = (λ is. cc, λ is. cc)
 failed_so DiskFailed said quiet = (λ is. refl, λ is. refl)
 
-is_status : (a : VbAnswer) → is_refusal a ≡ true → (st : Status) × (a ≡ answer.Status st)
+pub is_status : (a : VbAnswer) → is_refusal a ≡ true → (st : Status) × (a ≡ answer.Status st)
 is_status (answer.Status st) is = (st, refl)
 is_status other is = cc
 
-no_status : (a : VbAnswer) → is_refusal a ≡ false → ((st : Status) × (a ≡ answer.Status st)) → ⊥
+pub no_status : (a : VbAnswer) → is_refusal a ≡ false → ((st : Status) × (a ≡ answer.Status st)) → ⊥
 no_status a is said = let z : false ≡ true = sym is ∙ ap is_refusal said.1 in cc
 
 given_after : (asked : AdminCall) (new : Role) → Gives asked new → role_of_call (admin_call asked) ≡ new

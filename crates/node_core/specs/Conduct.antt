@@ -1,5 +1,5 @@
 -- what a dial may do, whatever its vBucket replies and its journal answers
-use Rattle.std.specs.Prelude.{◌≡◌, ◌<◌, ◌⊎◌, ℕ, ◌+◌, nat_lt, min, if◌then◌else◌, List, [], ◌∷◌, ◌++◌, map, Option, Some, None, IsTrue}
+use Rattle.std.specs.Prelude.{◌≡◌, ◌<◌, ◌⊎◌, ℕ, ◌+◌, true, nat_lt, min, if◌then◌else◌, List, [], ◌∷◌, ◌++◌, map, Option, Some, None, IsTrue}
 use Rattle.std.specs.List.{All, filter_map}
 use Rattle.mcbp_frame.specs.Spelling.{spelling}
 use Rattle.mcbp_frame.specs.declared.frame.Frame.{Frame}
@@ -18,9 +18,11 @@ use Rattle.vb_calls.specs.declared.calls.VbReply.{VbReply}
 use Rattle.vb_calls.specs.Jobs.{Job, Ended, Call, Request}
 use Rattle.vb_calls.specs.Shelves.{Ask, Got, Append, Read, Keep, Idle}
 use Rattle.vb_types.specs.declared.journal.Record.TheVariants as noted
+use Rattle.vb_types.specs.declared.role.Role.TheVariants as role
 use Rattle.dcp_consumer.specs.Counting.{counted_bytes, is_counted}
 use Rattle.dcp_consumer.specs.Machine.{over_why}
 use Rattle.dcp_consumer.specs.Noops.{noop_answered, IsNoop}
+use Rattle.dcp_consumer.specs.States.{state_answered}
 use Rattle.dcp_consumer.specs.declared.handshake.Dialed.{Dialed}
 use Rattle.node_core.specs.Dials.{PlainDial, DialResult}
 
@@ -35,9 +37,17 @@ IsFollowing call.Due = Unit {0}
 IsFollowing call.Stat = Unit {0}
 IsFollowing other = ⊥
 
--- a call to this vBucket, as a follower
-abbrev pub FollowsAt : ℕ → ℕ → VbCall → Type 0
-FollowsAt vb v call = (v ≡ vb) × IsFollowing call
+-- the calls of one that takes over: it tells its role, is to take over, takes over, and tells its failover log
+abbrev pub IsTakingOver : VbCall → Type 0
+IsTakingOver call.Show = Unit {0}
+IsTakingOver call.Pend = Unit {0}
+IsTakingOver call.Own = Unit {0}
+IsTakingOver call.Log = Unit {0}
+IsTakingOver other = ⊥
+
+-- a call to the vBucket of this link, as a follower, or as one that takes over, where the link is for that
+abbrev pub FollowsAt : Dialed → ℕ → VbCall → Type 0
+FollowsAt dialed v call = (v ≡ dialed.vb) × (IsFollowing call ⊎ ((dialed.takeover ≡ true) × IsTakingOver call))
 
 -- what a rollback asks of a journal: its records, that the rollback is written down, and that no batch is on its way
 abbrev pub IsOfRoll : Ask → Type 0
@@ -46,16 +56,27 @@ IsOfRoll (Append (noted.Roll to)) = Unit {0}
 IsOfRoll (Keep Idle) = Unit {0}
 IsOfRoll other = ⊥
 
--- a request to the journal of this vBucket, for a rollback
-abbrev pub RollsAt : ℕ → ℕ → Ask → Type 0
-RollsAt vb v ask = (v ≡ vb) × IsOfRoll ask
+-- what a takeover asks of a journal: that the vBucket is active is written down
+abbrev pub IsOfTakeover : Ask → Type 0
+IsOfTakeover (Append (noted.State role.Active log)) = Unit {0}
+IsOfTakeover other = ⊥
 
--- what a dial writes to its producer behind its first requests: a request for a stream, an acknowledgement of all up to a seqno, one of so many bytes, or the answer to the NOOP of an opaque
+-- a request to the journal of the vBucket of this link, for a rollback, or for a takeover, where the link is for that
+abbrev pub RollsAt : Dialed → ℕ → Ask → Type 0
+RollsAt dialed v ask = (v ≡ dialed.vb) × (IsOfRoll ask ⊎ ((dialed.takeover ≡ true) × IsOfTakeover ask))
+
+-- what a dial writes to its producer behind its first requests: a request for a stream, an acknowledgement of all up to a seqno, one of so many bytes, the answer to the NOOP of an opaque, or the answer to the state of one
 pub data Writes : Type 0 where
   Asks : StreamAsk → Writes
   Acknowledges : ℕ → Writes
   AcknowledgesBytes : ℕ → Writes
   AnswersNoop : ℕ → Writes
+  AnswersState : ℕ → Writes
+
+-- what may be written on a link: an answer to a state only where it takes the vBucket over
+abbrev pub MayWrite : Dialed → Writes → Type 0
+MayWrite dialed (AnswersState opaque) = dialed.takeover ≡ true
+MayWrite dialed other = Unit {0}
 
 -- how many of these are requests for a stream
 abbrev pub asks_in : List Writes → ℕ
@@ -64,16 +85,18 @@ asks_in (Asks ask ∷ more) = 1 + asks_in more
 asks_in (Acknowledges seq ∷ more) = asks_in more
 asks_in (AcknowledgesBytes bytes ∷ more) = asks_in more
 asks_in (AnswersNoop opaque ∷ more) = asks_in more
+asks_in (AnswersState opaque ∷ more) = asks_in more
 
--- requests for a stream of the vBucket vb, acknowledgements and answers as bytes: each request with the opaque that follows that of the one before, the first with the one that follows `asked`, and each acknowledgement with that of the last request; one of bytes is of the connection, and names the vBucket 0. An answer has the opaque of its NOOP
+-- requests for a stream of the vBucket vb, acknowledgements and answers as bytes: each request with the opaque that follows that of the one before, the first with the one that follows `asked`, and each acknowledgement with that of the last request; one of bytes is of the connection, and names the vBucket 0. An answer has the opaque of its NOOP or state
 abbrev pub writes_past : ℕ → ℕ → List Writes → List ℕ
 writes_past vb asked [] = []
 writes_past vb asked (Asks ask ∷ more) = spelling (dcp_frame (msg.StreamRequest ask) (asked + 1) vb) ++ writes_past vb (asked + 1) more
 writes_past vb asked (Acknowledges seq ∷ more) = spelling (dcp_frame (msg.SeqnoAcknowledged seq) asked vb) ++ writes_past vb asked more
 writes_past vb asked (AcknowledgesBytes bytes ∷ more) = spelling (dcp_frame (msg.BufferAcknowledgement bytes) asked 0) ++ writes_past vb asked more
 writes_past vb asked (AnswersNoop opaque ∷ more) = noop_answered opaque ++ writes_past vb asked more
+writes_past vb asked (AnswersState opaque ∷ more) = state_answered opaque ++ writes_past vb asked more
 
--- a line of a dial names its vBucket and node, or its link: a log that was taken over, a rollback, a snapshot that begins, a change that was taken, what was acknowledged, or the link's end
+-- a line of a dial names its vBucket and node, or its link: a log that was taken over, a rollback, a snapshot that begins, a change that was taken, what was acknowledged, or the link's end; and where the link takes the vBucket over, that this is pending or active, and a change that it makes then
 abbrev pub IsOfDial : Dialed → Event → Type 0
 IsOfDial dialed (event.Adopted n v log) = (n ≡ dialed.node) × (v ≡ dialed.vb)
 IsOfDial dialed (event.Rolled n v point to) = (n ≡ dialed.node) × (v ≡ dialed.vb)
@@ -81,12 +104,14 @@ IsOfDial dialed (event.Ranged n v ss se) = (n ≡ dialed.node) × (v ≡ dialed.
 IsOfDial dialed (event.Got n v stream change) = (n ≡ dialed.node) × (v ≡ dialed.vb) × (stream ≡ name.Link dialed.link)
 IsOfDial dialed (event.Acknowledged stream n v seq saved) = (n ≡ dialed.node) × (v ≡ dialed.vb) × (stream ≡ name.Link dialed.link)
 IsOfDial dialed (event.Ended link why) = link ≡ dialed.link
+IsOfDial dialed (event.Role n v new) = (dialed.takeover ≡ true) × (n ≡ dialed.node) × (v ≡ dialed.vb) × ((new ≡ role.Pending) ⊎ (new ≡ role.Active))
+IsOfDial dialed (event.Changed n v uuid change) = (dialed.takeover ≡ true) × (n ≡ dialed.node) × (v ≡ dialed.vb)
 IsOfDial dialed other = ⊥
 
--- the same link, for the producer nothing new but requests for a stream, each with the next opaque, acknowledgements, and answers to NOOPs, and behind the earlier lines only such as are the dial's own
+-- the same link, for the producer nothing new but requests for a stream, each with the next opaque, acknowledgements, answers to NOOPs, and to states where the link takes the vBucket over, and behind the earlier lines only such as are the dial's own
 pub record KeepsLink (old new : DialResult) : Type 0 where
   pub dialed : new.dial.consumer.dialed ≡ old.dial.consumer.dialed
-  pub writes : (more : List Writes) × (new.out ≡ old.out ++ writes_past old.dial.consumer.dialed.vb old.dial.consumer.asked more) × (new.dial.consumer.asked ≡ old.dial.consumer.asked + asks_in more)
+  pub writes : (more : List Writes) × (new.out ≡ old.out ++ writes_past old.dial.consumer.dialed.vb old.dial.consumer.asked more) × (new.dial.consumer.asked ≡ old.dial.consumer.asked + asks_in more) × All (MayWrite old.dial.consumer.dialed) more
   pub lines : (more : List Event) × (new.events ≡ old.events ++ more) × All (IsOfDial old.dial.consumer.dialed) more
 
 -- the call of a dial that comes next: any but Due and Stat; Due; or Stat, as this seqno is to be acknowledged
@@ -162,6 +187,7 @@ seqno_written (Asks ask) = None
 seqno_written (Acknowledges seq) = Some seq
 seqno_written (AcknowledgesBytes bytes) = None
 seqno_written (AnswersNoop opaque) = None
+seqno_written (AnswersState opaque) = None
 
 -- the number of an acknowledgement of bytes that is written
 abbrev pub bytes_written : Writes → Option ℕ
@@ -169,6 +195,7 @@ bytes_written (Asks ask) = None
 bytes_written (Acknowledges seq) = None
 bytes_written (AcknowledgesBytes bytes) = Some bytes
 bytes_written (AnswersNoop opaque) = None
+bytes_written (AnswersState opaque) = None
 
 -- the opaque of an answer to a NOOP that is written
 abbrev pub noop_written : Writes → Option ℕ
@@ -176,6 +203,7 @@ noop_written (Asks ask) = None
 noop_written (Acknowledges seq) = None
 noop_written (AcknowledgesBytes bytes) = None
 noop_written (AnswersNoop opaque) = Some opaque
+noop_written (AnswersState opaque) = None
 
 -- the two seqnos of a line that tells of one
 abbrev pub seqnos_of_line : Event → Option (ℕ × ℕ)

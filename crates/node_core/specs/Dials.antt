@@ -10,12 +10,16 @@ use Rattle.vb_events.specs.declared.event.EndReason.{EndReason}
 use Rattle.vb_events.specs.declared.event.EndReason.TheVariants as reason
 use Rattle.vb_events.specs.declared.event.StreamName.TheVariants as name
 use Rattle.vb_types.specs.declared.role.LogEntry.{LogEntry}
+use Rattle.vb_types.specs.declared.role.Role.{Role}
+use Rattle.vb_types.specs.declared.role.Role.TheVariants as role
 use Rattle.vb_types.specs.declared.stream.StreamAsk.{StreamAsk}
-use Rattle.vb_calls.specs.Flushes.{roll_job}
+use Rattle.vb_calls.specs.Flushes.{role_job, roll_job}
 use Rattle.vb_calls.specs.Jobs.{Job, Ended, bind_job, each_job, lift}
 use Rattle.vb_calls.specs.Programs.{Prog, Done, Call}
 use Rattle.vb_calls.specs.declared.journals.Rolled.{Rolled}
 use Rattle.vb_calls.specs.declared.journals.Rolled.TheVariants as rolled
+use Rattle.vb_calls.specs.declared.journals.Wrote.{Wrote}
+use Rattle.vb_calls.specs.declared.journals.Wrote.TheVariants as wrote
 use Rattle.vb_calls.specs.declared.calls.VbCall.{VbCall}
 use Rattle.vb_calls.specs.declared.calls.VbCall.TheVariants as call
 use Rattle.vb_calls.specs.declared.calls.VbAnswer.{VbAnswer}
@@ -28,8 +32,11 @@ use Rattle.dcp_consumer.specs.declared.passive_stream.Passive.{Passive}
 use Rattle.dcp_consumer.specs.declared.passive_stream.Passive.TheVariants as passive
 use Rattle.dcp_consumer.specs.Counting.{counted_bytes, bytes_acknowledged}
 use Rattle.dcp_consumer.specs.Noops.{noop_answered}
+use Rattle.dcp_consumer.specs.States.{state_answered}
+use Rattle.takeover.specs.declared.take_over.TakeStep.{TakeStep}
+use Rattle.takeover.specs.declared.take_over.TakeStep.TheVariants.{Pend, Own}
 use Rattle.dcp_consumer.specs.Machine.{PlainConsumer, dialed_consumer, over_why, ended_for, granted, again, consumer_step, is_streaming, may_acknowledge, acknowledged}
-use Rattle.node_core.specs.Calls.{named_ask}
+use Rattle.node_core.specs.Calls.{named_ask, own_lines}
 
 -- a dial: the bytes that came and are no whole frame yet, and the consumer of the link
 pub record PlainDial : Type 0 where
@@ -197,6 +204,68 @@ abbrev pub passive_made : Passive → DialResult → Prog DialResult
 passive_made (passive.Call c) s = call_made c s
 passive_made other s = Done s
 
+-- a vBucket tells that it is to take over
+abbrev pub is_pending_answer : VbAnswer → Bool
+is_pending_answer (answer.Shown role.Pending uuid ss se at image) = true
+is_pending_answer other = false
+
+-- the same of a reply
+abbrev pub is_pending : Option VbReply → Bool
+is_pending None = false
+is_pending (Some reply) = is_pending_answer reply.answer
+
+-- the line of a role that the vBucket took
+abbrev pub role_line : Dialed → Role → Event
+role_line dialed new = event.Role dialed.node dialed.vb new
+
+-- a state that the vBucket obeyed was answered
+abbrev pub state_met : ℕ → DialResult → DialResult
+state_met opaque s = record s { out = s.out ++ state_answered opaque }
+
+-- the vBucket is to take over, of which a line tells unless it was to already; or it refused, and the link is over
+abbrev pub pend_result : ℕ → Bool → DialResult → Option VbReply → DialResult
+pend_result opaque before s reply =
+    if is_done reply then state_met opaque (if before then s else with_line s (role_line s.dial.consumer.dialed role.Pending)) else over_for reason.Protocol s
+
+-- the vBucket is to take over, which it was to already or was not
+abbrev pub pend_called : ℕ → Bool → DialResult → Prog DialResult
+pend_called opaque before s = Call s.dial.consumer.dialed.vb call.Pend (λ reply. Done (pend_result opaque before s reply))
+
+-- the vBucket is asked whether it is to take over already, and then it is to
+unfoldable pub pended : ℕ → DialResult → Prog DialResult
+pended opaque s = Call s.dial.consumer.dialed.vb call.Show (λ shown. pend_called opaque (is_pending shown) s)
+
+-- the vBucket took over: a line tells its role, and then one each change that it made at once
+abbrev pub heir_told : VbReply → DialResult → DialResult
+heir_told reply s =
+    let told : DialResult = with_line s (role_line s.dial.consumer.dialed role.Active) in
+    record told { events = told.events ++ own_lines s.dial.consumer.dialed.node s.dial.consumer.dialed.vb reply }
+
+-- where its role could not be written down, the link is over
+abbrev pub noted_for : Wrote → DialResult → DialResult
+noted_for wrote.Stood s = s
+noted_for wrote.NotAsked s = s
+noted_for wrote.Closed s = over_for reason.Disk s
+noted_for wrote.DiskFailed s = over_for reason.Disk s
+
+-- a vBucket that took over did so whatever became of its record; one that refused ends the link
+abbrev pub own_replied : ℕ → DialResult → Wrote → VbReply → DialResult
+own_replied opaque s came reply = if is_done_answer reply.answer then noted_for came (state_met opaque (heir_told reply s)) else over_for reason.Protocol s
+
+-- where there is no such vBucket, the link is over
+abbrev pub own_result : ℕ → DialResult → Option VbReply → Wrote → DialResult
+own_result opaque s None came = over_for reason.Protocol s
+own_result opaque s (Some reply) came = own_replied opaque s came reply
+
+-- the vBucket is to take over now, which is written down
+unfoldable pub owned : ℕ → DialResult → Job DialResult
+owned opaque s = bind_job (role_job s.dial.consumer.dialed.vb call.Own) (λ made. Ended (own_result opaque s made.0 made.1))
+
+-- what a state asks for that is obeyed
+abbrev pub state_made : TakeStep → ℕ → DialResult → Job DialResult
+state_made Pend opaque s = lift (pended opaque s)
+state_made Own opaque s = owned opaque s
+
 -- the producer's NOOP was answered, of which no line tells
 abbrev pub noop_met : ℕ → DialResult → DialResult
 noop_met opaque s = record s { out = s.out ++ noop_answered opaque }
@@ -207,6 +276,7 @@ step_made (step.Adopt log) s = lift (go_on_with log s)
 step_made (step.Roll point) s = roll_back point s
 step_made (step.Passive p) s = lift (passive_made p s)
 step_made (step.Noop opaque) s = Ended (noop_met opaque s)
+step_made (step.State take opaque) s = state_made take opaque s
 step_made other s = Ended s
 
 -- a frame: the consumer's step, and then what the step asks for
@@ -232,7 +302,7 @@ bytes_counted frames s =
     if is_over s.dial || s.dial.consumer.dialed.buffer == 0 || counted_bytes frames == 0 then s
     else record s { out = s.out ++ bytes_acknowledged (counted_bytes frames) s.dial.consumer }
 
--- the link is over, as a rollback could not be written down
+-- the link is over, as a rollback or a takeover could not be written down
 abbrev pub is_broken : Option EndReason → Bool
 is_broken (Some reason.Disk) = true
 is_broken other = false

@@ -19,3 +19,4 @@ pub mod LoadRows
 pub mod Loads
 pub mod Noting
 pub mod Resolving
+pub mod Taking

@@ -350,11 +350,11 @@ module _ {W J : Type 0} (step : W → ℕ → VbCall → Option VbReply → W �
     pub dials : Renumbered old.dials new.dials v (Some left)
     pub rest : new ≡ record old { vbs = new.vbs; dials = new.dials }
 
-  -- the vBucket v dials as the consumer of a link with this buffer, unless it dialed already, or the link is not free
-  pub record Dialed (v link buffer : ℕ) (is_free : Bool) (old : Node W J) (out : NodeOut) (new : Node W J) : Type 0 where
+  -- the vBucket v dials as the consumer of a link with this buffer, to follow it or to take it over, unless it dialed already, or the link is not free
+  pub record Dialed (v link buffer : ℕ) (takeover is_free : Bool) (old : Node W J) (out : NodeOut) (new : Node W J) : Type 0 where
     pub said : Result StreamAsk Cause
     pub ran : Ran step (dial_requested v (is_free && not (is_some (value_at old.dials v)))) old.vbs said new.vbs
-    pub dials : DialedAs (record { link = link; node = old.number; vb = v; buffer = buffer }) said old.dials out new.dials
+    pub dials : DialedAs (record { link = link; node = old.number; vb = v; buffer = buffer; takeover = takeover }) said old.dials out new.dials
     pub rest : new ≡ record old { vbs = new.vbs; dials = new.dials }
 
 module _ {W J : Type 0} (step : W → ℕ → VbCall → Option VbReply → W → Type 0) (asks : J → ℕ → (ask : Ask) → Got ask → J → Type 0) where

@@ -7,6 +7,7 @@ ghost use Rattle.vb_events.specs.declared.event.Event.TheVariants.{Ended};
 
 mod deliveries;
 mod replies;
+mod states;
 
 use crate::out::bytes_of;
 use crate::{Alloc, NodeOut};
@@ -315,6 +316,7 @@ impl DialTurn {
             ConsumerStep::Roll(point) => self.roll_back(vbs, disks, point),
             ConsumerStep::Passive(Passive::Call(call)) => self.make_call(vbs, call),
             ConsumerStep::Noop(opaque) => self.answer_noop(opaque),
+            ConsumerStep::State { take, opaque } => self.obey(vbs, disks, take, opaque),
             _ => Ok(()),
         }
     }

@@ -33,12 +33,13 @@ pub fn node_limits()
 {}
 
 /// A dial calls its own vBucket alone, and only as a follower, and asks its own journal alone, and only
-/// to roll back. It hands out nothing but requests for a stream, each with the next opaque,
-/// acknowledgements of seqnos and of bytes, and answers to NOOPs, tells lines of its own vBucket and
-/// link alone, and stays that of its link.
+/// to roll back; where its link takes the vBucket over, also as one that does. It hands out nothing but
+/// requests for a stream, each with the next opaque, acknowledgements of seqnos and of bytes, and
+/// answers to NOOPs and states, tells lines of its own vBucket and link alone, and stays that of its
+/// link.
 pub fn dials_follow()
     ensures { (piece : List ℕ) (dial : PlainDial)
-        → AlwaysJob AnyReply (FollowsAt dial.consumer.dialed.vb) (RollsAt dial.consumer.dialed.vb) (KeepsLink (untold dial)) (dial_bytes piece dial) }
+        → AlwaysJob AnyReply (FollowsAt dial.consumer.dialed) (RollsAt dial.consumer.dialed) (KeepsLink (untold dial)) (dial_bytes piece dial) }
 {}
 
 /// Whatever is replied, a dial asks what is due right behind each log and each message that is taken, as

@@ -21,6 +21,7 @@ mod piece_laws;
 mod readings;
 mod roles;
 mod show;
+mod state_laws;
 
 pub use admin::AdminCall;
 pub use call_laws::{operators_call_by_name, others_are_refused};
@@ -46,6 +47,7 @@ pub use numbered::Numbered;
 pub use out::NodeOut;
 pub use peer::Peer;
 pub use piece_laws::{faults_are_not_answered, pieces_are_joined};
+pub use state_laws::states_are_taken;
 
 /// What a call gives that needs memory, or that memory was short.
 type Alloc<T> = Result<T, std::alloc::AllocError>;

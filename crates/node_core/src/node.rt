@@ -309,11 +309,19 @@ impl<A: VbAccess, J: Journals> Node<A, J> {
 
     /// Dials for a vBucket, as the consumer of the link of this number, and hands out the requests
     /// for its producer. `buffer` is the size of the producer's window: a frame goes only while fewer
-    /// bytes than this are not acknowledged; 0 for no window. The call is refused where there is no
+    /// bytes than this are not acknowledged; 0 for no window. A `takeover` asks for the vBucket's branch
+    /// too, and any other link follows it alone. The call is refused where there is no
     /// such vBucket or it does not follow, and then where it dialed already or the link's number is
     /// not free. An `Err` dials nothing.
-    pub fn dial(&mut self, v: u16, link: u32, buffer: u32, is_free: bool) -> Alloc<NodeOut>
-        ensures ok { IfOk result (λ out. Dialed A.step v link buffer is_free self.old out self.new) }
+    pub fn dial(
+        &mut self,
+        v: u16,
+        link: u32,
+        buffer: u32,
+        takeover: bool,
+        is_free: bool,
+    ) -> Alloc<NodeOut>
+        ensures ok { IfOk result (λ out. Dialed A.step v link buffer takeover is_free self.old out self.new) }
         ensures err { OnErr result (self.new ≡ record self.old { vbs = self.new.vbs }) }
         ensures began { OnErr result (Began A.step (dial_requested v is_free) self.old.vbs self.new.vbs) }
     {
@@ -325,6 +333,7 @@ impl<A: VbAccess, J: Journals> Node<A, J> {
             node: self.number,
             vb: v,
             buffer,
+            takeover,
         };
         match asked {
             Err(why) => Ok(NodeOut::refused(self.alloc, why)),

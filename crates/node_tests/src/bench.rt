@@ -46,6 +46,8 @@ pub enum Do {
     Dial,
     /// Dials so, with this buffer.
     DialWith(u32),
+    /// Dials for the vBucket 3 over link 9, to take it over.
+    TakeOver,
     /// Gives the dial of the vBucket 3 these bytes.
     Down(&'static [u8]),
     CutDial,
@@ -161,8 +163,9 @@ impl Bench {
             Do::Acknowledge => self.node.acknowledge(3),
             Do::Pull(key, frames) => self.node.pull(key, frames),
             Do::Shut(key) => Ok(self.node.shut(key)),
-            Do::Dial => self.node.dial(3, 9, 0, true),
-            Do::DialWith(buffer) => self.node.dial(3, 9, buffer, true),
+            Do::Dial => self.node.dial(3, 9, 0, false, true),
+            Do::DialWith(buffer) => self.node.dial(3, 9, buffer, false, true),
+            Do::TakeOver => self.node.dial(3, 9, 0, true, true),
             Do::Down(piece) => self.node.feed_dial(3, piece),
             Do::CutDial => self.node.shut_dial(3),
             Do::Flush(part) => self.node.flush(3, part),

@@ -28,6 +28,32 @@ pub const DIAL_ABOVE: &[u8] = b"\x80\x50\0\x02\x08\0\0\0\0\0\0\x0a\0\0\0\x01\0\0
     \0\0\0\0\0\0\0\0\0\0\0\0\0\0\0\x02\xff\xff\xff\xff\xff\xff\xff\xff\
     \0\0\0\0\0\0\0\x07\0\0\0\0\0\0\0\0\0\0\0\0\0\0\0\x02";
 
+// What n1 writes when it dials to take the vBucket over.
+pub const DIAL_TO_TAKE: &[u8] = b"\x80\x50\0\x02\x08\0\0\0\0\0\0\x0a\0\0\0\x01\0\0\0\0\0\0\0\0\
+    \0\0\0\0\0\0\0\x01n1\
+    \x80\x5e\0\x12\0\0\0\0\0\0\0\x16\0\0\0\x02\0\0\0\0\0\0\0\0enable_sync_writestrue\
+    \x80\x5e\0\x0d\0\0\0\0\0\0\0\x0f\0\0\0\x03\0\0\0\0\0\0\0\0consumer_namen1\
+    \x80\x53\0\0\x30\0\0\x03\0\0\0\x30\0\0\0\x04\0\0\0\0\0\0\0\0\
+    \0\0\0\x01\0\0\0\0\0\0\0\0\0\0\0\0\xff\xff\xff\xff\xff\xff\xff\xff\
+    \0\0\0\0\0\0\0\0\0\0\0\0\0\0\0\0\0\0\0\0\0\0\0\0";
+
+// The same where the vBucket has the snapshot from 0 to 2 whole, on branch 7.
+pub const DIAL_TO_TAKE_ABOVE: &[u8] =
+    b"\x80\x50\0\x02\x08\0\0\0\0\0\0\x0a\0\0\0\x01\0\0\0\0\0\0\0\0\
+    \0\0\0\0\0\0\0\x01n1\
+    \x80\x5e\0\x12\0\0\0\0\0\0\0\x16\0\0\0\x02\0\0\0\0\0\0\0\0enable_sync_writestrue\
+    \x80\x5e\0\x0d\0\0\0\0\0\0\0\x0f\0\0\0\x03\0\0\0\0\0\0\0\0consumer_namen1\
+    \x80\x53\0\0\x30\0\0\x03\0\0\0\x30\0\0\0\x04\0\0\0\0\0\0\0\0\
+    \0\0\0\x01\0\0\0\0\0\0\0\0\0\0\0\x02\xff\xff\xff\xff\xff\xff\xff\xff\
+    \0\0\0\0\0\0\0\x07\0\0\0\0\0\0\0\0\0\0\0\0\0\0\0\x02";
+
+// The states pending and active, and the answer to either.
+pub const PENDING: &[u8] = b"\x80\x5b\0\0\x01\0\0\x03\0\0\0\x01\0\0\0\x04\0\0\0\0\0\0\0\0\x03";
+
+pub const ACTIVE: &[u8] = b"\x80\x5b\0\0\x01\0\0\x03\0\0\0\x01\0\0\0\x04\0\0\0\0\0\0\0\0\x01";
+
+pub const STATE_ANSWER: &[u8] = b"\x81\x5b\0\0\0\0\0\0\0\0\0\0\0\0\0\x04\0\0\0\0\0\0\0\0";
+
 // The request that follows a rollback to 0, on branch 7.
 pub const ASK_AGAIN: &[u8] = b"\x80\x53\0\0\x30\0\0\x03\0\0\0\x30\0\0\0\x05\0\0\0\0\0\0\0\0\
     \0\0\0\0\0\0\0\0\0\0\0\0\0\0\0\0\xff\xff\xff\xff\xff\xff\xff\xff\

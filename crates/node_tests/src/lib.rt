@@ -18,3 +18,5 @@ mod lines;
 mod nodes;
 #[cfg(test)]
 mod producers;
+#[cfg(test)]
+mod takeovers;

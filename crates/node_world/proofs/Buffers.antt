@@ -106,10 +106,10 @@ module _ (n buffer : ℕ) (small : n < 16) (within : buffer < 4294967296) where
   parted : (a b x y z : List ℕ) → (a ++ (b ++ (x ++ (y ++ [])))) ++ z ≡ (a ++ b) ++ (x ++ (y ++ z))
   parted a b x y z = simp (append_assoc, append-nil)
 
-  front : (l v : ℕ) (ask : StreamAsk) → 0 < buffer → (rest : List ℕ) × (requests (record { link = l; node = n; vb = v; buffer = buffer }) ask ≡ first ++ rest)
+  front : (l v : ℕ) (ask : StreamAsk) → 0 < buffer → (rest : List ℕ) × (requests (record { link = l; node = n; vb = v; buffer = buffer; takeover = false }) ask ≡ first ++ rest)
   unfolding requests
   front l v ask some =
-      let last = spelling (dcp_frame (msg.StreamRequest ask) (stream_opaque buffer) v) in
+      let last = spelling (dcp_frame (msg.StreamRequest (record ask { flags = 0 })) (stream_opaque buffer) v) in
       let sync = spelling (dcp_frame sync_request 3 0) in
       let name = spelling (dcp_frame (name_request n) 4 0) in (
         sync ++ (name ++ last),

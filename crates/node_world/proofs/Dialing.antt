@@ -216,7 +216,7 @@ module _ (kept : Kept) (w : PlainWorld) (line l m n v buffer at m_at : ℕ) (old
   free = is_free && not (is_some (dial_under old v))
 
   abbrev named_dial : Dialed
-  named_dial = record { link = l; node = node_number old; vb = v; buffer = buffer }
+  named_dial = record { link = l; node = node_number old; vb = v; buffer = buffer; takeover = false }
 
   dial_is : ends.dials n v ≡ dial_under old v
   dial_is = dial_here kept.nodes n at old new placed is v
@@ -358,8 +358,8 @@ module _ (kept : Kept) (w : PlainWorld) (line l m n v buffer at m_at : ℕ) (old
         node = refl;
         vb = refl;
         server = peer_put nodes' m m_at m_old m_new m_placed' m_old_is m_puts.number key _ m_puts ∙ ap (λ k. Some (live_peer (new_peer (record { stream = name.Link l; node = k; base = base_of line })))) m_number;
-        consumer = dials_after n v ∙ dial_put kept.nodes n at old new placed is puts.number v _ puts ∙ ap (λ k. Some (live_dial (new_dial (record { link = l; node = k; vb = v; buffer = buffer })))) n_number;
-        up = up_is ∙ ap (λ (x : NodeOut). x.out) handed ∙ ap (λ k. requests (record { link = l; node = k; vb = v; buffer = buffer }) asks) n_number;
+        consumer = dials_after n v ∙ dial_put kept.nodes n at old new placed is puts.number v _ puts ∙ ap (λ k. Some (live_dial (new_dial (record { link = l; node = k; vb = v; buffer = buffer; takeover = false })))) n_number;
+        up = up_is ∙ ap (λ (x : NodeOut). x.out) handed ∙ ap (λ k. requests (record { link = l; node = k; vb = v; buffer = buffer; takeover = false }) asks) n_number;
         down = refl;
       }
 

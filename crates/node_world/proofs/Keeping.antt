@@ -28,7 +28,10 @@ use Rattle.vb_calls.specs.declared.calls.VbCall.TheVariants as call
 use Rattle.vb_calls.specs.declared.calls.VbReply.{VbReply}
 use Rattle.vb_calls.specs.declared.journals.Rolled.{Rolled}
 use Rattle.vb_calls.specs.declared.journals.Rolled.TheVariants as rolled
-use Rattle.vb_calls.specs.Flushes.{roll_job}
+use Rattle.vb_calls.specs.declared.journals.Wrote.{Wrote}
+use Rattle.vb_calls.specs.declared.journals.Wrote.TheVariants as wrote
+use Rattle.vb_calls.specs.Flushes.{role_job, roll_job}
+use Rattle.vb_types.specs.declared.role.Role.TheVariants as role
 use Rattle.vb_calls.specs.Jobs.{Job, Ended, Request, lift, after_job, AlwaysJob}
 use Rattle.vb_calls.specs.Jobs.{Call as JobCall}
 use Rattle.vb_calls.specs.Shelves.{Ask, Shelves}
@@ -45,6 +48,8 @@ use Rattle.dcp_producer.specs.Frames.{Next, next_frame}
 use Rattle.dcp_producer.specs.Producers.{PlainStream, Served, begun, is_open, stream_at, without_stream}
 use Rattle.dcp_producer.specs.Serving.{bytes_acknowledged as bytes_taken_back, status_sent, open_refusal, opened_unless, control_answered, controlled, controlled_as, sized, sized_as, ask_verdict, next_stream, opens, with_asked, with_granted, stream_answered, opening_requested, refusal_requested, stream_request, once_open, closed_sent, stream_closed, log_given, log_sent, log_answered, log_requested, message_answered, row_answered, read_answered, frame_answered, counted_by, count_answered, count_requested, acknowledged}
 use Rattle.dcp_producer.specs.Pulling.{QuietOnes, Pulling, pull_of, none_quiet, is_quiet, past_turn, stream_in_turn, came, stream_asked, turn_had, one_turn, turns_came, one_frame, pulled, frames_put}
+use Rattle.takeover.specs.declared.take_over.TakeStep.{TakeStep}
+use Rattle.takeover.specs.declared.take_over.TakeStep.TheVariants.{Pend, Own}
 use Rattle.dcp_consumer.specs.declared.handshake.ConsumerStep.{ConsumerStep}
 use Rattle.dcp_consumer.specs.declared.handshake.ConsumerStep.TheVariants as step
 use Rattle.dcp_consumer.specs.declared.handshake.Dialed.{Dialed}
@@ -54,7 +59,7 @@ use Rattle.dcp_consumer.specs.declared.passive_stream.Passive.{Passive}
 use Rattle.dcp_consumer.specs.declared.passive_stream.Passive.TheVariants as passive
 use Rattle.dcp_consumer.specs.Counting.{bytes_acknowledged, counted_bytes}
 use Rattle.dcp_consumer.specs.Machine.{over_why, ended_for, request_again, again_by, consumer_step, is_streaming, may_acknowledge}
-use Rattle.node_core.specs.Dials.{PlainDial, DialResult, acknowledged_result, adopt_result, due_requested, due_met, due_of_reply, dial_due, saved_of_reply, untold, is_broken, is_over, with_line, over_for, granted_with, is_done, go_on_with, follower_ask, again_with, again_result, rolled_back, roll_back, taken_as, message_result, call_made, passive_made, step_made, frame_taken, frames_taken, with_left, fault_met, with_end_line, bytes_counted, rest_met, bytes_taken, dial_bytes}
+use Rattle.node_core.specs.Dials.{PlainDial, DialResult, heir_told, is_done_answer, is_pending, noted_for, own_result, owned, pended, role_line, state_made, state_met, acknowledged_result, adopt_result, due_requested, due_met, due_of_reply, dial_due, saved_of_reply, untold, is_broken, is_over, with_line, over_for, granted_with, is_done, go_on_with, follower_ask, again_with, again_result, rolled_back, roll_back, taken_as, message_result, call_made, passive_made, step_made, frame_taken, frames_taken, with_left, fault_met, with_end_line, bytes_counted, rest_met, bytes_taken, dial_bytes}
 use Rattle.node_core.specs.Peers.{PlainPeer, PeerResult, PullResult, peer_result, peer_heard, peer_frames, peer_answered, pull_result, peer_pulled}
 use Rattle.node_world.specs.Links.{frame_up, frames_up, peer_given, untold_peer}
 use Rattle.node_world.specs.Nodes.{PlainNode}
@@ -378,10 +383,44 @@ module _ (dialed : Dialed) where
   passive_stays (passive.Call c) s e = call_stays c s e
   passive_stays other s e = e
 
+  pend_stays : (opaque : ℕ) (s : DialResult) → Still s → Stays (pended opaque s)
+  unfolding pended
+  pend_stays opaque s e = (tt, λ shown formed. (tt, λ reply formed. by (is_pending shown) (is_done reply)))
+    where
+      by : (before b : Bool) → Still (if b then state_met opaque (if before then s else with_line s (role_line s.dial.consumer.dialed role.Pending)) else over_for reason.Protocol s)
+      by true true = e
+      by false true = e
+      by before false = e
+
+  noted_stays : (came : Wrote) (s : DialResult) → Still s → Still (noted_for came s)
+  noted_stays wrote.Stood s e = e
+  noted_stays wrote.NotAsked s e = e
+  noted_stays wrote.Closed s e = e
+  noted_stays wrote.DiskFailed s e = e
+
+  own_result_stays : (opaque : ℕ) (s : DialResult) (reply : Option VbReply) (came : Wrote) → Still s → Still (own_result opaque s reply came)
+  own_result_stays opaque s None came e = e
+  own_result_stays opaque s (Some reply) came e = by (is_done_answer reply.answer)
+    where
+      by : (b : Bool) → Still (if b then noted_for came (state_met opaque (heir_told reply s)) else over_for reason.Protocol s)
+      by true = noted_stays came (state_met opaque (heir_told reply s)) e
+      by false = e
+
+  own_stays : (opaque : ℕ) (s : DialResult) → Still s → Holds (owned opaque s)
+  unfolding owned
+  own_stays opaque s e =
+      always_bind_job AnyReply AnyCall EachAsk (λ (made : Option VbReply × Wrote). Unit {0}) Still (role_job s.dial.consumer.dialed.vb call.Own) (λ made. Ended (own_result opaque s made.0 made.1))
+      (any_job (role_job s.dial.consumer.dialed.vb call.Own)) (λ made any. own_result_stays opaque s made.0 made.1 e)
+
+  state_stays : (take : TakeStep) (opaque : ℕ) (s : DialResult) → Still s → Holds (state_made take opaque s)
+  state_stays Pend opaque s e = lifted (pended opaque s) (pend_stays opaque s e)
+  state_stays Own opaque s e = own_stays opaque s e
+
   step_stays : (a : ConsumerStep) (s : DialResult) → Still s → Holds (step_made a s)
   step_stays (step.Adopt log) s e = lifted (go_on_with log s) (adopt_stays log s e)
   step_stays (step.Roll point) s e = roll_stays point s e
   step_stays (step.Passive p) s e = lifted (passive_made p s) (passive_stays p s e)
+  step_stays (step.State take opaque) s e = state_stays take opaque s e
   step_stays other s e = e
 
   frame_stays : (f : Frame) (s : DialResult) → Still s → Holds (frame_taken f s)

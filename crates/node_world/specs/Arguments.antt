@@ -1,5 +1,5 @@
 -- what lines that make, open, dial and arm make of their arguments
-use Rattle.std.specs.Prelude.{◌≡◌, ◌≢◌, ◌<◌, ◌+◌, ◌%◌, ℕ, [], ◌∷◌, ◌++◌, Some, None}
+use Rattle.std.specs.Prelude.{◌≡◌, ◌≢◌, ◌<◌, ◌+◌, ◌%◌, ℕ, [], ◌∷◌, ◌++◌, Some, None, false}
 use Rattle.dcp_producer.specs.Ending.{end_closed}
 use Rattle.node_core.specs.Clients.{PlainClient, client_pulled}
 use Rattle.dcp_consumer.specs.Dialing.{requests}
@@ -70,9 +70,9 @@ pub record PassesVbs (w : PlainWorld) (n : ℕ) (node : PlainNode) : Type 0 wher
 
 -- a link that is dialed has both its ends as its line says: a consumer of the vBucket v of the node n, which asks for a window of this size, and a producer at the node m, whose streams are numbered by the line's number; and what that vBucket asks for goes up
 pub record DialsAs (number l m n v buffer : ℕ) (ask : StreamAsk) (link : PlainLink) : Type 0 where
-  pub consumer : link.consumer.dialed ≡ record { link = l; node = n; vb = v; buffer = buffer }
+  pub consumer : link.consumer.dialed ≡ record { link = l; node = n; vb = v; buffer = buffer; takeover = false }
   pub producer : link.server.desk ≡ record { stream = name.Link l; node = m; base = number % 4294967296 }
-  pub up : link.up ≡ requests (record { link = l; node = n; vb = v; buffer = buffer }) ask
+  pub up : link.up ≡ requests (record { link = l; node = n; vb = v; buffer = buffer; takeover = false }) ask
   pub down : link.down ≡ []
 
 abbrev pub PassesDials : PlainWorld → ℕ → ℕ → PlainNode → Plain → Type 0

@@ -177,7 +177,7 @@ DialCame dialed (Ok ask) old out new = (out ≡ done_out [] (requests dialed ask
 abbrev pub DialsFor : ℕ → ℕ → ℕ → Bool → ScriptNode → NodeOut → ScriptNode → Type 0
 DialsFor v link buffer is_free old out new = (plain : PlainNode) → NodeMatch old plain → plain.off ≡ None →
     let (states, said) = after (dial_requested v (is_free && not (is_some (dial_under old v)))) plain.vbs in
-    NodeMatch new (with_states plain states) × DialCame (record { link = link; node = node_number old; vb = v; buffer = buffer }) said old out new
+    NodeMatch new (with_states plain states) × DialCame (record { link = link; node = node_number old; vb = v; buffer = buffer; takeover = false }) said old out new
 
 -- a node after bytes for a dial of it
 abbrev pub dial_given : List ℕ → PlainDial → PlainNode → PlainNode × DialResult

@@ -1,5 +1,5 @@
 -- links between nodes: a consumer's end at one, the producer's end at another, and the bytes between them
-use Rattle.std.specs.Prelude.{ℕ, ◌%◌, ◌^◌, ◌==◌, ◌&&◌, ◌||◌, if◌then◌else◌, Bool, min, List, [], ◌∷◌, ◌++◌, length, take, drop, Option, Some, None}
+use Rattle.std.specs.Prelude.{ℕ, ◌%◌, ◌^◌, ◌==◌, ◌&&◌, ◌||◌, if◌then◌else◌, Bool, min, List, [], ◌∷◌, ◌++◌, length, take, drop, Option, Some, None, false}
 use Rattle.std.specs.List.{list_any}
 use Rattle.vb_events.specs.declared.event.Event.{Event}
 use Rattle.vb_events.specs.declared.event.StreamName.TheVariants as name
@@ -73,9 +73,9 @@ base_of line = line % 2 ^ 32
 abbrev pub new_link : ℕ → ℕ → ℕ → ℕ → ℕ → ℕ → StreamAsk → PlainLink
 new_link line l m n v buffer ask = record {
   server = new_end (record { stream = name.Link l; node = m; base = base_of line });
-  consumer = dialed_consumer (record { link = l; node = n; vb = v; buffer = buffer });
+  consumer = dialed_consumer (record { link = l; node = n; vb = v; buffer = buffer; takeover = false });
   up_heard = [];
-  up = requests (record { link = l; node = n; vb = v; buffer = buffer }) ask;
+  up = requests (record { link = l; node = n; vb = v; buffer = buffer; takeover = false }) ask;
   down_heard = [];
   down = [];
 }

@@ -460,7 +460,7 @@ impl ScriptNode {
     pub fn dial(&mut self, v: u16, link: u32, buffer: u32, is_free: bool) -> Alloc<NodeOut>
         ensures { IfOk result (λ out. DialsFor v link buffer is_free self.old out self.new) }
     {
-        self.node.dial(v, link, buffer, is_free)
+        self.node.dial(v, link, buffer, false, is_free)
     }
 
     /// Gives a link's consumer the next bytes from its producer, under the arm: its vBucket may have

@@ -1,9 +1,9 @@
 //! What a vBucket's replies say to a dial.
 ghost use Rattle.std.specs.Prelude.{◌≡◌};
-ghost use Rattle.node_core.specs.Dials.{is_done, follower_ask, due_of_reply, saved_of_reply};
+ghost use Rattle.node_core.specs.Dials.{is_done, is_pending, follower_ask, due_of_reply, saved_of_reply};
 
 use vb_calls::{VbAnswer, VbReply};
-use vb_types::StreamAsk;
+use vb_types::{Role, StreamAsk};
 
 /// Whether there is such a vBucket, and it made the call.
 pub fn is_done(reply: &Option<VbReply>) -> bool
@@ -11,6 +11,19 @@ pub fn is_done(reply: &Option<VbReply>) -> bool
 {
     match reply {
         Some(made) => matches!(made.answer, VbAnswer::Done),
+        None => false,
+    }
+}
+
+/// Whether there is such a vBucket, and it tells that it is to take over.
+pub fn is_pending(reply: &Option<VbReply>) -> bool
+    ensures { result ≡ is_pending reply.now }
+{
+    match reply {
+        Some(made) => match made.answer {
+            VbAnswer::Shown { role, .. } => role == Role::Pending,
+            _ => false,
+        },
         None => false,
     }
 }

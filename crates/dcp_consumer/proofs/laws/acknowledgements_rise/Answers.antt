@@ -9,7 +9,7 @@ returns c = record {
   first = λ dialed. refl;
   written = written;
   past = past;
-  same = λ consumer seq. (refl, refl, refl, refl);
+  same = λ consumer seq. (refl, refl, refl, refl, refl);
   others = others;
   bytes = bytes;
 }

@@ -8,6 +8,7 @@ returns c = record {
   fed = λ consumer f. refl;
   granted = λ consumer. refl;
   back = back;
+  flags = λ ask. (refl, refl);
   last = none_left;
   others = unasked;
 }
