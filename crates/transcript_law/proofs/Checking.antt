@@ -12,7 +12,7 @@ use Rattle.mcbp_frame.specs.Frames.{big_16_at, body_size}
 use Rattle.mcbp_frame.specs.Spelling.{spelling}
 use Rattle.mcbp_frame.specs.declared.frame.Frame.{Frame}
 use Rattle.mcbp_frame.specs.declared.frame.TheConstants.{HEADER_LEN}
-use Rattle.mcbp_kv.specs.Requests.{request_of}
+use Rattle.mcbp_kv.specs.{Requests.{request_of}, declared.durable.Durability.{Durability}}
 use Rattle.script_text.specs.declared.verb.ScriptLine.{ScriptLine}
 use Rattle.durability.specs.Chains.{Members}
 use Rattle.vb_calls.specs.Writes.{doc_refusal}
@@ -190,29 +190,29 @@ module _ (Besides : Status → Type 0) (known : Option (Option Role)) (risen : �
   refused = ⊎_elim (λ active. of_key active (get image.pending write.key) refl) (λ off. is_other st status.NotMyVbucket (λ q. omega (arith, q)) (why.away off) z) (of_role known)
 
 -- of what fits a durable write Success is its commit alone
-module _ (served : Option (List OwnChange)) (r : Chronicle) (n v : ℕ) (settings : Settings) (write : Write) (f g : Frame) (bytes : List ℕ) (spelled : bytes ≡ spelling g) (success : big_16_at bytes 6 ≡ status_code status.Success) where
+module _ (served : Option (List OwnChange)) (r : Chronicle) (n v : ℕ) (settings : Settings) (write : Write) (wish : Durability) (f g : Frame) (bytes : List ℕ) (spelled : bytes ≡ spelling g) (success : big_16_at bytes 6 ≡ status_code status.Success) where
   of_status : (st : Status) → (status_code st ≡ 0 → ⊥) → IsStatus f g st → ⊥
   of_status st other is = other (no_success bytes f g st spelled is success)
 
-  committed : FitsDurable served r n v settings write f g → IsCommitted n v served r.made settings write f g
+  committed : FitsDurable served r n v settings write wish f g → IsCommitted n v served r.made settings write wish f g
   committed fits = ⊎_elim (λ no.
-      let (st, is, why, first) = no in absurd (refused (LacksMajority (r.counts_at n v).chain (r.held n v)) (r.role_at n v) (r.counts_at n v).risen (image_of (r.held n v)) write st why (of_chain (r.counts_at n v).chain (r.held n v) st) (no_success bytes f g st spelled is success))) (λ y. ⊎_elim (λ is. is) (λ nobody. absurd (of_status status.SyncWriteAmbiguous (λ q. omega (arith, q)) nobody)) y) fits
+      let (st, is, why, first) = no in absurd (refused (LacksMajority (r.counts_at n v).chain (r.held n v)) (r.role_at n v) (r.counts_at n v).risen (image_of (r.held n v)) write st why (of_chain (r.counts_at n v).chain (r.held n v) st) (no_success bytes f g st spelled is success))) (λ y. ⊎_elim (λ is. is) (λ nobody. absurd (of_status status.SyncWriteAmbiguous (λ q. omega (arith, q)) nobody.said)) y) fits
 
-  with_number : (count : ℕ) → FitsNumbered count f g (FitsDurable served r n v settings write f g) → IsCommitted n v served r.made settings write f g
+  with_number : (count : ℕ) → FitsNumbered count f g (FitsDurable served r n v settings write wish f g) → IsCommitted n v served r.made settings write wish f g
   with_number count fits = ⊎_elim (λ spent. absurd (of_status status.Etmpfail (λ q. omega (arith, q)) spent.1)) (λ left. committed left.1) fits
 
 answered : (r : Chronicle) (n c : ℕ) (asking : Asking) (bytes : List ℕ) (q : Question) → question_of asking ≡ Some q → (asks : AsksDurably asking.settings q.frame) → big_16_at bytes 6 ≡ status_code status.Success → Answers r n c asking bytes
-    → (answer : Frame) × (bytes ≡ spelling answer) × IsCommitted n q.frame.vb_or_status (serving r n c asking) r.made asking.settings asks.write q.frame answer
+    → (answer : Frame) × (bytes ≡ spelling answer) × IsCommitted n q.frame.vb_or_status (serving r n c asking) r.made asking.settings asks.write asks.wish q.frame answer
 answered r n c asking bytes q next asks success a =
     let both : Some a.question ≡ Some q = sym a.next ∙ next in let same : a.question ≡ q = cc in
     let fits : FitsFrame (serving r n c asking) r n (moment_of (r.clients_at n c) asking q) asking.settings q.frame a.answer = subst (λ (p : Question). FitsFrame (serving r n c asking) r n (moment_of (r.clients_at n c) asking p) asking.settings p.frame a.answer) same a.fits in
     let of_kv : FitsRequest (serving r n c asking) r n asking.durables asking.settings q.frame a.answer (request_of asking.settings.json q.frame) = subst (λ b. FitsBy b (serving r n c asking) r n (moment_of (r.clients_at n c) asking q) asking.settings q.frame a.answer) asks.own fits in
-    let durable : FitsNumbered asking.durables q.frame a.answer (FitsDurable (serving r n c asking) r n q.frame.vb_or_status asking.settings asks.write q.frame a.answer) = subst (FitsRequest (serving r n c asking) r n asking.durables asking.settings q.frame a.answer) asks.asks of_kv in
-    (a.answer, a.spelled, with_number (serving r n c asking) r n q.frame.vb_or_status asking.settings asks.write q.frame a.answer bytes a.spelled success asking.durables durable)
+    let durable : FitsNumbered asking.durables q.frame a.answer (FitsDurable (serving r n c asking) r n q.frame.vb_or_status asking.settings asks.write asks.wish q.frame a.answer) = subst (FitsRequest (serving r n c asking) r n asking.durables asking.settings q.frame a.answer) asks.asks of_kv in
+    (a.answer, a.spelled, with_number (serving r n c asking) r n q.frame.vb_or_status asking.settings asks.write asks.wish q.frame a.answer bytes a.spelled success asking.durables durable)
 
 reply : (r : Chronicle) (n c : ℕ) (bytes : List ℕ) (behind : List Event) → ((r.clients_at n c).told ≡ None → LawfulReply r n c (r.clients_at n c).asking bytes behind) → CheckedReply r n c bytes
 reply r n c bytes behind l question s = ⊎_elim (answered r n c (r.clients_at n c).asking bytes question s.next s.asks s.success)
-    (λ (fault : AnswersFault n c r.made (r.clients_at n c).asking bytes behind). let e : None ≡ Some question = sym fault.none ∙ s.next in cc) (l s.own)
+    (λ (fault : AnswersFault n c r (r.clients_at n c).asking bytes behind). let e : None ≡ Some question = sym fault.none ∙ s.next in cc) (l s.own)
 
 -- ---- lines
 

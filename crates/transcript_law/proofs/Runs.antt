@@ -16,7 +16,7 @@ use Rattle.transcript_law.specs.Feeding.{HasFed}
 use Rattle.transcript_law.proofs.{invariant.ClientWorlds.{ConnsAre, start_conns}, invariant.Clients.{line_heard}, lines.Heard.{lines_heard}}
 use Rattle.transcript_law.proofs.{answers.Rests.{all_answered}, answers.Ended.{group_ended, serves_open}, indexers.Beside.{numbered}, invariant.Begun.{ServesOpen}, indexers.Closing.{begins_of}}
 use Rattle.cluster_model.specs.Clusters as cluster
-use Rattle.transcript_law.specs.LawfulAnswers.{AllDurable}
+use Rattle.transcript_law.specs.LawfulAnswers.{IsStill}
 
 -- before the first line
 start_hist : (u : ℕ) → hist cluster.start.tree u ≡ []
@@ -124,7 +124,7 @@ row_of w number (Verb.AtClient n c what) = client_row_of w number n c what
 row_of w number (Verb.AtLink l what) = link_row_of w l what
 
 -- and behind the whole group of a line, which is read behind its number, all agrees
-pub group_agrees : (w : PlainWorld) (r : Chronicle) (number : ℕ) (line : Verb) → VerbFits line → IsRanged w → ConnsAre w r.conn_at → ServesOpen r.last r.conn_at → AllDurable r.made → Agrees w r
+pub group_agrees : (w : PlainWorld) (r : Chronicle) (number : ℕ) (line : Verb) → VerbFits line → IsRanged w → ConnsAre w r.conn_at → ServesOpen r.last r.conn_at → IsStill r → Agrees w r
     → (let o = verb_step w number line in Agrees (with_branches o.1.events o.0) (after_group (at_line r number) line o.1.events o.1.answer))
 group_agrees w r number line fits ranged are serves calm a =
     let o = verb_step w number line in let row : Row w line o = row_of w number line in let r0 : Chronicle = at_line r number in
@@ -145,7 +145,7 @@ start_serves line e n c shut = let same : record { number = 0; served = λ m d. 
 pub refused_keep : RefusedLinesKeep
 refused_keep w number line why rests said standing = let x = (row_of w number line).keeps rests why said standing in (x.0.0, x.0.1, x.0.2, x.1)
 
-lawful_from : (w : PlainWorld) (r : Chronicle) (script : List ScriptLine) → ScriptFits script → IsRanged w → ConnsAre w r.conn_at → ServesOpen r.last r.conn_at → AllDurable r.made → Agrees w r → LawfulGroups r script (groups_from w script)
+lawful_from : (w : PlainWorld) (r : Chronicle) (script : List ScriptLine) → ScriptFits script → IsRanged w → ConnsAre w r.conn_at → ServesOpen r.last r.conn_at → IsStill r → Agrees w r → LawfulGroups r script (groups_from w script)
 unfolding world_step
 lawful_from w r [] fits ranged are serves calm a = tt
 lawful_from w r (line ∷ lines) fits ranged are serves calm a =
@@ -165,16 +165,16 @@ lawful_from w r (line ∷ lines) fits ranged are serves calm a =
         (row.told r0 fit told).1,
         refl,
         λ why said standing. (row.keeps told.rests why said standing).1,
-        row.tells ranged,
+        row.tells r0 told,
         line_asked w r0 line.line line.verb ranged a0,
         leaves_none w line.line line.verb r0 ranged a0,
         all_answered later known later_agrees later_ranged heard.1,
-        line_next w r0 line.line line.verb (row.tells ranged) (line_asked w r0 line.line line.verb ranged a0),
-        line_breaks w r0 ranged a0 line.line line.verb (row.tells ranged) (line_asked w r0 line.line line.verb ranged a0),
+        line_next w r0 line.line line.verb (row.tells r0 told),
+        line_breaks w r0 ranged a0 line.line line.verb (row.tells r0 told),
       ),
-      lawful_from later known lines (All-tail (λ (x : ScriptLine). VerbFits x.verb) line lines fits) later_ranged heard.1 (group_serves r line.line line.verb outcome.1.events outcome.1.answer) tt later_agrees,
+      lawful_from later known lines (All-tail (λ (x : ScriptLine). VerbFits x.verb) line lines fits) later_ranged heard.1 (group_serves r line.line line.verb outcome.1.events outcome.1.answer) (tt, refl) later_agrees,
     )
 
 -- the transcript of a script is lawful
 pub lawful : (script : List ScriptLine) → ScriptFits script → Lawful script (groups script)
-lawful script fits = lawful_from empty_world empty_chronicle script fits start_ranged start_conns start_serves tt start
+lawful script fits = lawful_from empty_world empty_chronicle script fits start_ranged start_conns start_serves (tt, refl) start

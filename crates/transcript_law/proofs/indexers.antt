@@ -6,6 +6,7 @@ pub mod Beside
 pub mod Messages
 pub mod Moments
 pub mod Setting
+pub mod Flows
 pub mod Steps
 pub mod Views
 pub mod Shown
@@ -28,6 +29,7 @@ pub mod Closing
 pub mod Asked
 pub mod Asking
 pub mod Requests
+pub mod Answering
 pub mod Documents
 pub mod Granting
 pub mod Hands

@@ -26,6 +26,7 @@ pub mod Talks
 pub mod Turning
 pub mod Turns
 pub mod Unread
+pub mod Unstated
 pub mod Upward
 pub mod Counting
 pub mod Verdicts

@@ -39,6 +39,10 @@ pub mod Rows
 pub mod VbRows
 pub mod AdminLines
 pub mod Tellings
+pub mod StopTellings
+pub mod VbTellings
+pub mod NodeTellings
+pub mod LinkTellings
 pub mod Asking
 pub mod AskingStarts
 pub mod AskingLines

@@ -187,10 +187,13 @@ LawfulTo changes bytes lines = LawfulFrom (serving changes (unopened bytes)) lin
 
 -- its question was so first in an earlier group, which told this prepare of a set of the key 9
 abbrev pub prepared_line : OwnChange
-prepared_line = record { node = 0; vb = 0; branch = 5; change = prepared }
+prepared_line = record { node = 0; vb = 0; branch = 5; change = prepared; clock = 0 }
+
+abbrev pub awaiting_by : OwnChange → Chronicle → Chronicle
+awaiting_by line chronicle = record chronicle { last = Some (record { number = 0; served = λ n c. Some (0, line ∷ []) }) }
 
 abbrev pub awaiting : Chronicle → Chronicle
-awaiting chronicle = record chronicle { last = Some (record { number = 0; served = λ n c. Some (0, prepared_line ∷ []) }) }
+awaiting chronicle = awaiting_by prepared_line chronicle
 
 abbrev pub LawfulAwaited : List Change → List ℕ → List Event → Type 0
 LawfulAwaited changes bytes lines = LawfulFrom (awaiting (serving changes (unopened bytes))) lines
@@ -230,7 +233,7 @@ LawfulAmong others changes bytes lines = LawfulFrom (record (serving changes (un
 
 -- what was read once the vBucket 0 became active on the branch 6 with the first of these changes, and made the others since
 abbrev pub risen_known : List Change → List Change → ClientKnown → Chronicle
-risen_known left since known = record (after_lines (serving left known) (event.Branch 0 0 6 (Some 5) (last_seq 0 left) (last_seq 0 left) ∷ event.Role 0 0 role.Active ∷ map (event.Changed 0 0 6) since)) { made = [] }
+risen_known left since known = record (after_lines (serving left known) (event.Branch 0 0 6 (Some 5) (last_seq 0 left) (last_seq 0 left) ∷ event.Role 0 0 role.Active ∷ map (event.Changed 0 0 6) since)) { made = []; changed = false }
 
 -- there the lines are lawful, where its connection sent these bytes
 abbrev pub LawfulRisen : List Change → List Change → List ℕ → List Event → Type 0

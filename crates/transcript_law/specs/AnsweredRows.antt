@@ -55,6 +55,10 @@ noop_answered = event.Reply 0 1 (spelling (reply_frame (bare_answer NOOP status.
 abbrev pub durable_unknown : Event
 durable_unknown = event.Reply 0 1 (spelling (reply_frame (bare_answer SET status.SyncWriteAmbiguous 9)))
 
+-- or it is refused, as its vBucket is not there
+abbrev pub durable_refused : Event
+durable_refused = event.Reply 0 1 (spelling (reply_frame (bare_answer SET status.NotMyVbucket 9)))
+
 -- ---- what was read
 
 -- the connection is open, and sent these bytes, of which none was answered

@@ -1,5 +1,5 @@
 -- that each line of a script tells what it was asked for
-use Rattle.std.specs.Prelude.{◌≡◌, ◌⊎◌, ℕ, ◌*◌, ◌==◌, ◌&&◌, Bool, true, false, List, [], ◌∷◌, ◌++◌, length, Option, Some, None}
+use Rattle.std.specs.Prelude.{◌≡◌, ◌⊎◌, ℕ, ◌*◌, Bool, true, false, List, [], ◌∷◌, ◌++◌, length, Option}
 use Rattle.std.specs.List.{filter, flat_map}
 use Rattle.script_text.specs.declared.verb.Verb.{Verb}
 use Rattle.script_text.specs.declared.verb.Verb.TheVariants as verb
@@ -7,8 +7,6 @@ use Rattle.script_text.specs.declared.verb.VbVerb.{VbVerb}
 use Rattle.script_text.specs.declared.verb.VbVerb.TheVariants as vb_verb
 use Rattle.script_text.specs.declared.verb.NodeVerb.{NodeVerb}
 use Rattle.script_text.specs.declared.verb.NodeVerb.TheVariants as node_verb
-use Rattle.script_text.specs.declared.verb.LinkVerb.{LinkVerb}
-use Rattle.script_text.specs.declared.verb.LinkVerb.TheVariants as link_verb
 use Rattle.script_text.specs.declared.verb.ClientVerb.{ClientVerb}
 use Rattle.script_text.specs.declared.verb.ClientVerb.TheVariants as client_verb
 use Rattle.vb_events.specs.declared.event.Answer.{Answer}
@@ -16,22 +14,14 @@ use Rattle.vb_events.specs.declared.event.Answer.TheVariants as answer
 use Rattle.vb_events.specs.declared.event.Cause.{Cause}
 use Rattle.vb_events.specs.declared.event.Event.{Event}
 use Rattle.vb_events.specs.declared.event.Event.TheVariants as event
-use Rattle.vb_events.specs.declared.event.StreamName.TheVariants as name
 use Rattle.vb_types.specs.declared.role.LogEntry.{LogEntry}
 use Rattle.vb_types.specs.declared.role.Role.{Role}
 use Rattle.vb_types.specs.declared.role.Role.TheVariants as role
-use Rattle.transcript_law.specs.Chronicles.{Chronicle, Dial}
 use Rattle.transcript_law.specs.Pulls.{frames_in_lines}
 use Rattle.transcript_law.specs.Standing.{IsStanding}
-use Rattle.transcript_law.specs.Tellings.{are_all}
+use Rattle.transcript_law.specs.Tellings.{are_all, is_of_image}
 
 -- ---- what a vBucket shows
-
--- a document that is shown, or a prepare that waits
-abbrev pub is_of_image : Event → Bool
-is_of_image (event.Document key doc) = true
-is_of_image (event.Prepared key seq level) = true
-is_of_image other = false
 
 -- the vBucket v of the node n is shown once, and behind that what it has
 abbrev pub IsShowLine : ℕ → ℕ → List Event → Type 0
@@ -102,64 +92,7 @@ AreAmong [] words = Unit {0}
 AreAmong (id ∷ ids) [] = ⊥
 AreAmong (id ∷ ids) (word ∷ words) = ((id ≡ word) × AreAmong ids words) ⊎ AreAmong (id ∷ ids) words
 
--- ---- what a vBucket acknowledges
-
--- an acknowledgement is of the vBucket v of the node n
-abbrev pub is_ack_of : ℕ → ℕ → Event → Bool
-is_ack_of n v (event.Acknowledged stream m u seq saved) = m == n && u == v
-is_ack_of n v other = true
-
--- ---- the ends of a link
-
--- the link was dialed for the vBucket v of the node n
-abbrev pub is_dialed_for : Option Dial → ℕ → ℕ → Bool
-is_dialed_for None n v = false
-is_dialed_for (Some dial) n v = dial.node == n && dial.vb == v
-
--- it was dialed by the node n
-abbrev pub is_dialed_by : Option Dial → ℕ → Bool
-is_dialed_by None n = false
-is_dialed_by (Some dial) n = dial.node == n
-
--- what comes up the link l: a request that is answered, an acknowledgement that is counted, and what clients ask and are told then
-abbrev pub is_of_up : ℕ → Event → Bool
-is_of_up l (event.Asked (name.Link k) n v ask high log said) = k == l
-is_of_up l (event.Asked (name.Client m c) n v ask high log said) = true
-is_of_up l (event.Counted (name.Link k) n v member seq) = k == l
-is_of_up l (event.Changed n v uuid change) = true
-is_of_up l (event.Reply n c bytes) = true
-is_of_up l (event.Closed n c) = true
-is_of_up l other = false
-
--- frames of its stream
-abbrev pub is_of_pump : ℕ → Event → Bool
-is_of_pump l (event.Marked (name.Link k) start end flags) = k == l
-is_of_pump l (event.Item (name.Link k) seq act key) = k == l
-is_of_pump l (event.Finished (name.Link k) reason) = k == l
-is_of_pump l other = false
-
--- what its vBucket takes, and writes back; its end; and, where the node's disk is hit, what ends with the node
-abbrev pub is_of_down : Option Dial → ℕ → Event → Bool
-is_of_down dial l (event.Adopted n v log) = is_dialed_for dial n v
-is_of_down dial l (event.Ranged n v ss se) = is_dialed_for dial n v
-is_of_down dial l (event.Got n v (name.Link k) change) = k == l && is_dialed_for dial n v
-is_of_down dial l (event.Rolled n v named to) = is_dialed_for dial n v
-is_of_down dial l (event.Acknowledged (name.Link k) n v seq saved) = k == l && is_dialed_for dial n v
-is_of_down dial l (event.CallFailed n) = is_dialed_by dial n
-is_of_down dial l (event.NodeStopped n) = is_dialed_by dial n
-is_of_down dial l (event.Closed n c) = is_dialed_by dial n
-is_of_down dial l (event.Ended k reason) = true
-is_of_down dial l other = false
-
 -- ---- what a client is sent
-
--- frames of a stream of the client c of the node n, and what it is sent
-abbrev pub is_of_pull : ℕ → ℕ → Event → Bool
-is_of_pull n c (event.Marked (name.Client m d) start end flags) = m == n && d == c
-is_of_pull n c (event.Item (name.Client m d) seq act key) = m == n && d == c
-is_of_pull n c (event.Finished (name.Client m d) reason) = m == n && d == c
-is_of_pull n c (event.Reply m d bytes) = m == n && d == c
-is_of_pull n c other = false
 
 -- each frame of a stream has its line and its reply, and nothing else is sent
 abbrev pub ArePairs : List Event → Type 0
@@ -185,28 +118,22 @@ AskedOfVb n v vb_verb.Tick lines said = Unit {0}
 AskedOfVb n v vb_verb.Seal lines said = Unit {0}
 AskedOfVb n v vb_verb.Take lines said = Unit {0}
 AskedOfVb n v vb_verb.Save lines said = Unit {0}
-AskedOfVb n v vb_verb.Done lines said = are_all (is_ack_of n v) lines ≡ true
+AskedOfVb n v vb_verb.Done lines said = Unit {0}
 AskedOfVb n v vb_verb.Stat lines said = TellsIfDone (IsStatLine n v) lines said
 AskedOfVb n v vb_verb.Log lines said = TellsIfDone (IsLogLine n v) lines said
 AskedOfVb n v vb_verb.Show lines said = TellsIfDone (IsShowLine n v) lines said
 
-abbrev pub AskedOfClient : ℕ → ℕ → ClientVerb → List Event → Type 0
-AskedOfClient n c client_verb.Open lines = Unit {0}
-AskedOfClient n c (client_verb.Bytes bytes) lines = Unit {0}
-AskedOfClient n c (client_verb.Pull wanted) lines = (are_all (is_of_pull n c) lines ≡ true) × ArePairs lines
-AskedOfClient n c client_verb.Hang lines = Unit {0}
+abbrev pub AskedOfClient : ClientVerb → List Event → Type 0
+AskedOfClient client_verb.Open lines = Unit {0}
+AskedOfClient (client_verb.Bytes bytes) lines = Unit {0}
+AskedOfClient (client_verb.Pull wanted) lines = ArePairs lines
+AskedOfClient client_verb.Hang lines = Unit {0}
 
-abbrev pub AskedOfLink : Option Dial → ℕ → LinkVerb → List Event → Type 0
-AskedOfLink dial l (link_verb.Up wanted) lines = are_all (is_of_up l) lines ≡ true
-AskedOfLink dial l (link_verb.Down wanted) lines = are_all (is_of_down dial l) lines ≡ true
-AskedOfLink dial l (link_verb.Pump frames) lines = are_all (is_of_pump l) lines ≡ true
-AskedOfLink dial l link_verb.Cut lines = Unit {0}
-
--- a line tells what it was asked for, and of the vBucket, the ids, the client and the link that it names
-abbrev pub TellsAsAsked : Chronicle → Verb → List Event → Answer → Type 0
-TellsAsAsked chronicle (verb.Node n) lines said = Unit {0}
-TellsAsAsked chronicle (verb.Link l m n v buffer) lines said = Unit {0}
-TellsAsAsked chronicle (verb.AtNode n what) lines said = AskedOfNode what lines
-TellsAsAsked chronicle (verb.AtVb n v what) lines said = AskedOfVb n v what lines said
-TellsAsAsked chronicle (verb.AtClient n c what) lines said = AskedOfClient n c what lines
-TellsAsAsked chronicle (verb.AtLink l what) lines said = AskedOfLink (chronicle.dial_of l) l what lines
+-- a line tells what it was asked for, and of the vBucket and the ids that it names
+abbrev pub TellsAsAsked : Verb → List Event → Answer → Type 0
+TellsAsAsked (verb.Node n) lines said = Unit {0}
+TellsAsAsked (verb.Link l m n v buffer) lines said = Unit {0}
+TellsAsAsked (verb.AtNode n what) lines said = AskedOfNode what lines
+TellsAsAsked (verb.AtVb n v what) lines said = AskedOfVb n v what lines said
+TellsAsAsked (verb.AtClient n c what) lines said = AskedOfClient what lines
+TellsAsAsked (verb.AtLink l what) lines said = Unit {0}

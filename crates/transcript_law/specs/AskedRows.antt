@@ -4,7 +4,6 @@ use Rattle.script_text.specs.declared.verb.Verb.{Verb}
 use Rattle.script_text.specs.declared.verb.Verb.TheVariants as verb
 use Rattle.script_text.specs.declared.verb.VbVerb.{VbVerb}
 use Rattle.script_text.specs.declared.verb.LinkVerb.TheVariants as link_verb
-use Rattle.vb_events.specs.declared.event.Answer.{Answer}
 use Rattle.vb_events.specs.declared.event.Answer.TheVariants as answer
 use Rattle.vb_events.specs.declared.event.Cause.TheVariants as cause
 use Rattle.vb_events.specs.declared.event.Event.{Event}
@@ -15,9 +14,10 @@ use Rattle.vb_types.specs.declared.role.Role.{Role}
 use Rattle.vb_types.specs.declared.role.Role.TheVariants as role
 use Rattle.vb_types.specs.declared.stream.StreamAsk.{StreamAsk}
 use Rattle.vb_types.specs.declared.stream.AskAnswer.TheVariants as ask_answer
-use Rattle.transcript_law.specs.BoundRows.{LawfulHere, one_dialed}
+use Rattle.transcript_law.specs.BoundRows.{LawfulHere}
 use Rattle.transcript_law.specs.Chronicles.{Chronicle, after_lines, empty_chronicle}
 use Rattle.transcript_law.specs.Followers.{log_of, next_change}
+use Rattle.transcript_law.specs.TellingRows.{NotFirst}
 use Rattle.transcript_law.specs.Transcripts.{active_vb_lines}
 
 -- whatever was read before, these lines are not those of a line that is carried out
@@ -88,7 +88,7 @@ counts_of l = event.Counted (name.Link l) 0 0 1 2
 
 -- where the link 1 was dialed for the vBucket 0 of the node 1, its bytes do not tell of this first, however they are answered
 abbrev pub NotTaken : Event → Type 0
-NotTaken wrong = (lines : List Event) (said : Answer) → LawfulHere one_dialed down_one (wrong ∷ lines, said) → ⊥
+NotTaken wrong = NotFirst down_one wrong
 
 -- an item of the link l
 abbrev pub item_of : ℕ → Event

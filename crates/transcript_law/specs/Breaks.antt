@@ -1,5 +1,5 @@
 -- for what a line closes a connection of a client
-use Rattle.std.specs.Prelude.{◌≡◌, ◌==◌, ◌&&◌, ℕ, Bool, true, false, List, [], ◌∷◌, ◌++◌, Option, Some, None}
+use Rattle.std.specs.Prelude.{◌≡◌, ℕ, Bool, true, false, List, [], ◌∷◌, ◌++◌, Option, Some, None}
 use Rattle.std.specs.List.{list_any}
 use Rattle.mcbp_frame.specs.Cutting.{front_fault}
 use Rattle.mcbp_frame.specs.Frames.{faulty_head}
@@ -19,7 +19,6 @@ use Rattle.transcript_law.specs.LinesTold.{Chronicle}
 use Rattle.transcript_law.specs.Questions.{behind_frames}
 use Rattle.transcript_law.specs.ClientStreams.{with_sent_bytes}
 use Rattle.transcript_law.specs.StreamsTold.{Asking, ClientsKnown}
-use Rattle.transcript_law.specs.Tellings.{are_all}
 
 -- a line tells that a connection closed
 abbrev pub is_closing : Event → Bool
@@ -31,18 +30,12 @@ abbrev pub break_told : ℕ → ℕ → Option FaultyHead → List Event
 break_told n c None = event.Closed n c ∷ []
 break_told n c (Some head) = event.Reply n c (spelling (reply_frame (bare_answer head.opcode Einval head.opaque))) ∷ event.Closed n c ∷ []
 
--- no other connection is told closed
-abbrev pub closes_alone : ℕ → ℕ → Event → Bool
-closes_alone n c (event.Closed m d) = m == n && d == c
-closes_alone n c other = true
-
--- of the bytes that a client sent, and was not answered, those behind the whole frames break the rules of a header; these lines end with what is told of that, and tell of no other connection that closed
+-- of the bytes that a client sent, and was not answered, those behind the whole frames break the rules of a header; these lines end with what is told of that
 pub record BreaksOff (n c : ℕ) (k : Asking) (lines : List Event) : Type 0 where
   pub fault : FrameFault
   pub stands : front_fault (behind_frames k.bytes) ≡ Some fault
   pub front : List Event
   pub last : lines ≡ front ++ break_told n c (faulty_head fault (behind_frames k.bytes))
-  pub alone : are_all (closes_alone n c) lines ≡ true
 
 -- a connection closed for such a fault, directly behind this line: the answer to the fault, if it has one
 pub record ClosesThere (n c : ℕ) (k : Asking) (before : Option Event) : Type 0 where
@@ -57,7 +50,7 @@ AllBreak clients before (event.Closed n c ∷ behind) = ClosesThere n c (clients
 AllBreak clients before (event.NodeStopped n ∷ behind) = Unit {0}
 AllBreak clients before (line ∷ behind) = AllBreak clients (Some line) behind
 
--- a line that brings bytes closes only the connection that it brings them over, and only so; and any other line but a crash closes only connections of clients that wait with such bytes for an outcome
+-- a line that brings bytes closes their connection only so; and any other line but a crash closes only connections of clients that wait with such bytes for an outcome
 abbrev pub ClosesAsBroken : Chronicle → Verb → List Event → Type 0
 ClosesAsBroken chronicle (verb.AtClient n c (client_verb.Bytes bytes)) lines = list_any is_closing lines ≡ true → BreaksOff n c (with_sent_bytes bytes (chronicle.clients_at n c)).asking lines
 ClosesAsBroken chronicle (verb.AtNode n (node_verb.Crash out)) lines = Unit {0}

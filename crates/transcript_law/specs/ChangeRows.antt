@@ -1,5 +1,7 @@
 -- changes that a vBucket makes of its own, to be judged, by what was read before them
-use Rattle.std.specs.Prelude.{ℕ, ◌-◌, ◌^◌, Bool, true, List, [], ◌∷◌, Option}
+use Rattle.std.specs.Prelude.{ℕ, ◌-◌, ◌^◌, Bool, true, false, if◌then◌else◌, List, [], ◌∷◌, Option}
+use Rattle.mcbp_frame.specs.Spelling.{spelling}
+use Rattle.mcbp_frame.specs.declared.frame.TheConstants.{FRAMED_REQUEST}
 use Rattle.script_text.specs.declared.verb.NodeVerb.TheVariants as node_verb
 use Rattle.script_text.specs.declared.verb.VbVerb.TheVariants as vb_verb
 use Rattle.script_text.specs.declared.verb.Verb.{Verb}
@@ -16,7 +18,9 @@ use Rattle.transcript_law.specs.Commits.{prepared_known}
 use Rattle.transcript_law.specs.Crashes.{groups_from_number, numbered, ok}
 use Rattle.transcript_law.specs.Lawfulness.{LawfulFrom, LawfulGroups}
 use Rattle.transcript_law.specs.Rollbacks.{after_active}
-use Rattle.transcript_law.specs.Transcripts.{change_line}
+use Rattle.transcript_law.specs.ClientStreams.{blank_client, with_client, with_sent_bytes}
+use Rattle.transcript_law.specs.StreamsTold.{blank_asking}
+use Rattle.transcript_law.specs.Transcripts.{change_line, set_frame}
 
 -- a document with this CAS and this revision
 abbrev pub stamped : ℕ → ℕ → Doc
@@ -80,4 +84,28 @@ greatest_known = record set_known { held = λ n v. own_change 1 7 (act.Set (stam
 
 -- a prepare of a set, and of a removal, with this CAS and this revision
 abbrev pub prepares : ℕ → ℕ → Bool → Act
-prepares cas rev deleted = act.Prepare level.Majority (stamped cas rev) deleted
+prepares cas rev deleted = act.Prepare level.Majority (record (stamped cas rev) { value = if deleted then [] else 6 ∷ [] }) deleted
+
+-- while the connection 1 of the node 0 asks by these bytes, of which none was answered, and each set that was told is
+abbrev pub asking : List ℕ → Chronicle → Chronicle
+asking bytes chronicle = record chronicle { clients_at = with_client chronicle.clients_at 0 1 (with_sent_bytes bytes blank_client); made = []; changed = false }
+
+-- and so many durable writes of it were answered before
+abbrev pub asking_behind : ℕ → List ℕ → Chronicle → Chronicle
+asking_behind count bytes chronicle = record (asking bytes chronicle) { clients_at = with_client chronicle.clients_at 0 1 (record (with_sent_bytes bytes blank_client) { asking = record blank_asking { bytes = bytes; durables = count } }) }
+
+-- or the same connection of the node 1 does
+abbrev pub asking_far : List ℕ → Chronicle → Chronicle
+asking_far bytes chronicle = record chronicle { clients_at = with_client chronicle.clients_at 1 1 (with_sent_bytes bytes blank_client) }
+
+-- the key 7 is prepared to be set to 6
+abbrev pub sets_seven : List Event
+sets_seven = own_lines 2 7 (prepares 2 2 false)
+
+-- a durable SET of the key 7 to 6 with the CAS 2, which its document does not have
+abbrev pub durably_unfit : List ℕ
+durably_unfit = spelling (record (set_frame (7 ∷ []) (6 ∷ [])) { magic = FRAMED_REQUEST; cas = 2; framing = 17 ∷ 1 ∷ [] })
+
+-- a durable SET of the key 7 to 6 at the vBucket 1
+abbrev pub durably_beside : List ℕ
+durably_beside = spelling (record (set_frame (7 ∷ []) (6 ∷ [])) { magic = FRAMED_REQUEST; vb_or_status = 1; framing = 17 ∷ 1 ∷ [] })

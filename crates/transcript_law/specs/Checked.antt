@@ -116,7 +116,7 @@ pub record SaysDurable (known : ClientKnown) (bytes : List ℕ) (question : Ques
 abbrev pub CheckedReply : Chronicle → ℕ → ℕ → List ℕ → Type 0
 CheckedReply chronicle n c bytes =
     (question : Question) → (says : SaysDurable (chronicle.clients_at n c) bytes question)
-    → (answer : Frame) × (bytes ≡ spelling answer) × IsCommitted n question.frame.vb_or_status (serving chronicle n c (chronicle.clients_at n c).asking) chronicle.made (chronicle.clients_at n c).asking.settings says.asks.write question.frame answer
+    → (answer : Frame) × (bytes ≡ spelling answer) × IsCommitted n question.frame.vb_or_status (serving chronicle n c (chronicle.clients_at n c).asking) chronicle.made (chronicle.clients_at n c).asking.settings says.asks.write says.asks.wish question.frame answer
 
 -- ---- lines
 

@@ -25,7 +25,7 @@ use Rattle.vb_disk.specs.declared.made.Outcome.TheVariants.{Old}
 use Rattle.disk_journals.specs.Books.{below}
 use Rattle.durability.specs.Chains.{Members}
 use Rattle.branch_model.specs.Journals.{found, last_log, log_of, place_of, role_of, roll_point}
-pub use Rattle.transcript_law.specs.LinesTold.{ItemLine, Begun, Granted, Dial, OwnChange, CountsKnown, alone, Flushing, Idle, Taken, Written, DiskKnown, blank_disk, stood, known_batch, ArmKnown, Conns, no_arm, known_down}
+pub use Rattle.transcript_law.specs.LinesTold.{ItemLine, Begun, Granted, Dial, OwnChange, CountsKnown, alone, Flushing, Idle, Taken, Written, DiskKnown, blank_disk, stood, known_batch, ArmKnown, Conns, no_arm, known_down, without_node}
 pub use Rattle.transcript_law.specs.Clients.{conns_line, conns_lines, conns_verb}
 use Rattle.transcript_law.specs.ClientStreams.{with_client, with_sent_bytes}
 pub use Rattle.transcript_law.specs.ClientStreams.{ClientsKnown, blank_client, clients_line}
@@ -283,12 +283,18 @@ abbrev pub after_blank : Chronicle → ℕ → ℕ → Answer → Chronicle
 after_blank chronicle n c answer.Ok = record chronicle { clients_at = with_client chronicle.clients_at n c blank_client }
 after_blank chronicle n c other = chronicle
 
--- what a line of the script tells by its answer, before the lines of its group are read, which rest on it: who is a vBucket's chain, what counts as saved, what a client sent, and whose prepares are given up
+-- a node crashes, unless the line was refused: its connections end with it
+abbrev pub after_ending : Chronicle → ℕ → Answer → Chronicle
+after_ending chronicle n answer.Ok = record chronicle { conn_at = without_node chronicle.conn_at n }
+after_ending chronicle n other = chronicle
+
+-- what a line of the script tells by its answer, before the lines of its group are read, which rest on it: who is a vBucket's chain, what counts as saved, what a client sent, whose prepares are given up, and whose connections end with their node
 abbrev pub ahead : Chronicle → Verb → Answer → Chronicle
 ahead chronicle (verb.AtVb n v (vb_verb.Chain others)) said = after_chain chronicle n v others said
 ahead chronicle (verb.AtVb n v vb_verb.Done) said = after_done chronicle n v said
 ahead chronicle (verb.AtVb n v vb_verb.Tick) said = record chronicle { ticks = Some (n, v) }
 ahead chronicle (verb.AtClient n c (client_verb.Bytes bytes)) said = after_bytes chronicle n c bytes said
+ahead chronicle (verb.AtNode n (node_verb.Crash out)) said = after_ending chronicle n said
 ahead chronicle other said = chronicle
 
 -- what a line of the script tells, by the lines of its group and its answer, behind those lines: who dials, which connections of clients begin anew, who is sealed, what was written down, what is to befall a node, what its clock shows, and who stops and starts. What was read before the line comes first
@@ -316,4 +322,4 @@ abbrev pub after_group : Chronicle → Verb → List Event → Answer → Chroni
 after_group chronicle line lines said =
     let read = after_verb chronicle (after_lines (ahead chronicle line said) lines) line lines said in
     let conns = conns_verb (conns_lines chronicle.conn_at lines) line said in
-    record read { last = with_served read.last read.clients_at conns read.made; conn_at = conns; made = []; ticks = None }
+    record read { last = with_served read.last read.clients_at conns read.made; conn_at = conns; made = []; ticks = None; changed = false }

@@ -21,6 +21,7 @@ use Rattle.vb_events.specs.declared.event.Event.{Event}
 use Rattle.vb_events.specs.declared.event.Event.TheVariants as event
 use Rattle.vb_events.specs.declared.event.StreamName.TheVariants as name
 use Rattle.vb_events.specs.declared.event.Why.TheVariants as why
+use Rattle.transcript_law.specs.AnsweredRows.{durable_bytes}
 use Rattle.transcript_law.specs.BoundRows.{LawfulHere}
 use Rattle.transcript_law.specs.Chronicles.{Chronicle}
 use Rattle.transcript_law.specs.ClientFrames.{Request, is_sync, request_in, setup_after}
@@ -29,6 +30,7 @@ use Rattle.transcript_law.specs.ClientStreams.{ClientKnown, ClientStream, blank_
 use Rattle.transcript_law.specs.Crashes.{Said, groups_from_number, numbered, ok}
 use Rattle.transcript_law.specs.Followers.{log_of, next_change}
 use Rattle.transcript_law.specs.Lawfulness.{LawfulFrom, LawfulGroups}
+use Rattle.transcript_law.specs.LinesTold.{blank_disk}
 use Rattle.transcript_law.specs.Pulls.{frames_in_lines}
 use Rattle.transcript_law.specs.StreamsTold.{blank_asking}
 use Rattle.transcript_law.specs.Transcripts.{one_change}
@@ -97,6 +99,25 @@ that_asked streams bytes = record (with_streams streams) { bytes = bytes }
 abbrev pub none : ℕ → Option ClientStream
 none v = None
 
+-- an open connection with no stream, that asked vBuckets to open so many before, and sent these bytes
+abbrev pub that_opened : ℕ → List ℕ → ClientKnown
+that_opened count bytes = record (that_sent none bytes) { opened = count }
+
+-- BUFFER_ACKNOWLEDGEMENT of so many bytes, and CONTROL of the window's size
+abbrev pub acking : ℕ → List ℕ
+acking count = bytes_of 5 0 (msg.BufferAcknowledgement count)
+
+abbrev pub sizing : List ℕ → List ℕ
+sizing value = bytes_of 6 0 (msg.Control (codes "connection_buffer_size") value)
+
+-- an open connection with these streams, whose window has this size, and so much outstanding; these bytes, which are counted into it next, were answered
+abbrev pub with_window : ℕ → ℕ → List ℕ → (ℕ → Option ClientStream) → ClientKnown
+with_window size out bytes streams = record (with_streams streams) { flow = record { bytes = bytes; setup = open_setup; window = record { size = size; outstanding = out } } }
+
+-- the same, of one that waits for a durable write
+abbrev pub with_window_waiting : ℕ → ℕ → List ℕ → (ℕ → Option ClientStream) → ClientKnown
+with_window_waiting size out bytes streams = record (with_window size out (durable_bytes ++ bytes) streams) { asking = record blank_asking { bytes = durable_bytes ++ bytes; setup = open_setup } }
+
 -- a message is the answer to a frame of this opaque
 abbrev pub replies : DcpMsg → ℕ → Event
 replies m opaque = event.Reply 0 1 (spelling (dcp_frame m opaque 0))
@@ -157,6 +178,22 @@ resting changes known = record (serving changes known) { role_at = λ n v. Some 
 -- nothing is put, as if there was nothing
 abbrev pub idle : Said
 idle = ([], answer.Pulled 0 why.Idle)
+
+-- or as if a stream waited
+abbrev pub waiting_now : Said
+waiting_now = ([], answer.Pulled 0 why.WaitSaved)
+
+-- or as if the window was shut
+abbrev pub full_now : Said
+full_now = ([], answer.Pulled 0 why.Full)
+
+-- each vBucket counts the changes up to this seqno as saved
+abbrev pub saved_to : ℕ → Chronicle → Chronicle
+saved_to seq read = record read { disk_at = λ n v. record blank_disk { saved = seq } }
+
+-- so a pull over the connection is answered then
+abbrev pub LawfulWaits : ℕ → List Change → (ℕ → Option ClientStream) → Type 0
+LawfulWaits seq changes streams = LawfulHere (saved_to seq (serving changes (with_streams streams))) (verb.AtClient 0 1 (client_verb.Pull 9)) waiting_now
 
 -- so many frames are put, as these lines tell, and there is no more
 abbrev pub puts : ℕ → List Event → Said

@@ -74,7 +74,7 @@ up_to end = asks_for 0 0 0 end
 
 -- a stream of the branch 5 that has just been granted, which is shown durable writes or not
 abbrev pub fresh : Bool → StreamAsk → ClientStream
-fresh sync ask = record { ask = ask; opaque = 9; sync = sync; branch = 5; place = ask.start; last = None; over = false; turned = false }
+fresh sync ask = record { ask = ask; opaque = 9; sync = sync; branch = 5; place = ask.start; last = None; over = false; turned = false; left = [] }
 
 -- a snapshot of these changes, of which these were put
 abbrev pub snapshot : List Change → ℕ → ℕ → List ItemLine → Begun
@@ -179,6 +179,10 @@ put_three ask = inside true ask three 0 2 (first_item ∷ next_item ∷ [])
 
 abbrev pub put_two : ClientStream
 put_two = put_three all_changes
+
+-- one whose vBucket got a role, and held this before
+abbrev pub left_with : List Change → ClientStream → ClientStream
+left_with held g = record g { turned = true; left = held }
 
 -- one whose end was put
 abbrev pub finished : ClientStream → ClientStream

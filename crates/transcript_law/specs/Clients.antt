@@ -32,10 +32,10 @@ conns_verb conns other said = conns
 abbrev pub AllClosed : Conns → ℕ → Type 0
 AllClosed conns n = (c : ℕ) → conns n c ≡ false
 
--- what a line says of them, in front of those behind it: one is answered, by what else rules answers, and told closed, where it is open; and of a node that stopped each is told closed behind that. Any other line is ruled by what else was read alone
+-- what a line says of them, in front of those behind it: one is answered, by what else rules answers, and told closed, by what else rules that, where it is open; and of a node that stopped each is told closed behind that. Any other line is ruled by what else was read alone
 abbrev pub Heard : Conns → Event → List Event → Type 0 → Type 0
 Heard conns (event.Reply n c bytes) behind ruled = (conns n c ≡ true) × ruled
-Heard conns (event.Closed n c) behind ruled = conns n c ≡ true
+Heard conns (event.Closed n c) behind ruled = (conns n c ≡ true) × ruled
 Heard conns (event.NodeStopped n) behind ruled = ruled × AllClosed (conns_lines conns behind) n
 Heard conns other behind ruled = ruled
 

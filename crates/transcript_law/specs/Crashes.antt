@@ -7,6 +7,8 @@ use Rattle.script_text.specs.declared.verb.VbVerb.TheVariants as vb_verb
 use Rattle.script_text.specs.declared.verb.NodeVerb.TheVariants as node_verb
 use Rattle.script_text.specs.declared.verb.ClientVerb.TheVariants as client_verb
 use Rattle.mcbp_frame.specs.Spelling.{spelling}
+use Rattle.mcbp_frame.specs.declared.frame.Frame.{Frame}
+use Rattle.mcbp_frame.specs.declared.frame.TheConstants.{FRAMED_REQUEST}
 use Rattle.vb_disk.specs.declared.made.Outcome.{Outcome}
 use Rattle.vb_disk.specs.declared.made.Outcome.TheVariants.{Old}
 use Rattle.vb_types.specs.declared.change.Act.TheVariants as act
@@ -200,9 +202,13 @@ prepared = record { seq = 2; key = 9 ∷ []; act = act.Prepare level.Majority (f
 abbrev pub commit_of : ℕ → Change
 commit_of n = record { seq = 3; key = 9 ∷ []; act = act.Commit n (first_doc 2 (6 ∷ [])) false }
 
+-- a durable write of the key 9 asks for it
+abbrev pub durable_nine : Frame
+durable_nine = record (set_frame (9 ∷ []) (6 ∷ [])) { magic = FRAMED_REQUEST; framing = 17 ∷ 1 ∷ [] }
+
 -- the vBucket wrote a prepare down, and comes back; then it is sealed
 abbrev pub seal_restarted : List Verb
-seal_restarted = verb.AtClient 0 1 (client_verb.Bytes []) ∷ to_save ++ verb.AtNode 0 (node_verb.Crash Old) ∷ verb.AtNode 0 (node_verb.Start (7 ∷ [])) ∷ verb.AtVb 0 0 vb_verb.Seal ∷ []
+seal_restarted = verb.AtClient 0 1 (client_verb.Bytes (spelling durable_nine)) ∷ to_save ++ verb.AtNode 0 (node_verb.Crash Old) ∷ verb.AtNode 0 (node_verb.Start (7 ∷ [])) ∷ verb.AtVb 0 0 vb_verb.Seal ∷ []
 
 -- these lines are told as its node starts
 abbrev pub seal_restarted_groups : List Event → List Said

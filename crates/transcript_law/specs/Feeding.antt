@@ -5,7 +5,7 @@ use Rattle.node_core.specs.Clients.{PlainClient}
 use Rattle.node_world.specs.Links.{PlainLink, link_number, producer_node, consumer_node}
 use Rattle.node_world.specs.Nodes.{PlainNode}
 use Rattle.node_world.specs.World.{PlainWorld, vb_in}
-use Rattle.node_world.specs.Worlds.{is_off, is_up}
+use Rattle.node_world.specs.Worlds.{is_up}
 use Rattle.vb_events.specs.declared.event.StreamName.{StreamName}
 use Rattle.vb_events.specs.declared.event.StreamName.TheVariants as name
 use Rattle.vb_calls.specs.Following.{is_follower}
@@ -66,9 +66,9 @@ pub record StreamsAreFed (w : PlainWorld) : Type 0 where
   pub dialed : (l n v id : ℕ) (link : PlainLink) → IsLinked w l link → IsOf n v id link → link.consumer.dialed.vb ≡ v
   pub apart : (who other : StreamName) (n v id : ℕ) → HasFed w who n v id → HasFed w other n v id → who ≡ other
 
--- each open link has its number, and feeds a vBucket that is there and follows, at a node that runs; the node at its other end is not down; and no two links feed one vBucket
+-- each open link has its number, and feeds a vBucket that is there and follows; the nodes at both its ends are made, and run; and no two links feed one vBucket
 pub record LinksAreFed (w : PlainWorld) : Type 0 where
   pub number : (l : ℕ) (link : PlainLink) → IsLinked w l link → link_number link ≡ l
   pub follows : (l : ℕ) (link : PlainLink) → IsLinked w l link → (vb : Plain) × (vb_in (w.nodes (consumer_node link)) link.consumer.dialed.vb ≡ Some vb) × (is_follower vb.role ≡ true)
-  pub runs : (l : ℕ) (link : PlainLink) → IsLinked w l link → (is_up (w.nodes (consumer_node link)) ≡ true) × (is_off (w.nodes (producer_node link)) ≡ false)
+  pub runs : (l : ℕ) (link : PlainLink) → IsLinked w l link → (is_up (w.nodes (consumer_node link)) ≡ true) × (is_up (w.nodes (producer_node link)) ≡ true)
   pub apart : (l k : ℕ) (link other : PlainLink) → IsLinked w l link → IsLinked w k other → consumer_node link ≡ consumer_node other → link.consumer.dialed.vb ≡ other.consumer.dialed.vb → l ≡ k

@@ -16,6 +16,10 @@ use Rattle.node_world.specs.Worlds.{PlainWorld}
 abbrev pub two_nodes : PlainNode → PlainNode → List PlainLink → PlainWorld
 two_nodes producer consumer links = record { nodes = λ n. if n == 0 then Some producer else if n == 1 then Some consumer else None; uuids = []; links = links }
 
+-- the node 1 alone, and these links
+abbrev pub one_node : PlainNode → List PlainLink → PlainWorld
+one_node consumer links = record { nodes = λ n. if n == 1 then Some consumer else None; uuids = []; links = links }
+
 -- a node that runs and one that is down, each with no vBucket
 abbrev pub up : PlainNode
 up = empty_node

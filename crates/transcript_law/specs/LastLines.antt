@@ -6,12 +6,13 @@ use Rattle.script_text.specs.declared.verb.ScriptLine.{ScriptLine}
 use Rattle.transcript_law.specs.Questions.{question_of}
 use Rattle.transcript_law.specs.StreamsTold.{Asking, ClientsKnown}
 
--- a change that the vBucket v of the node n made of its own, on its branch
+-- a change that the vBucket v of the node n made of its own, on its branch, and what its node's clock showed then
 pub record OwnChange : Type 0 where
   pub node : ℕ
   pub vb : ℕ
   pub branch : ℕ
   pub change : Change
+  pub clock : ℕ
 
 -- the connections of clients that are open, by their nodes and their numbers
 abbrev pub Conns : Type 0

@@ -1,5 +1,5 @@
 -- which answers a client may be sent: each answers the next frame that it asked something by, and says what the lines tell of that
-use Rattle.std.specs.Prelude.{◌≡◌, ◌<◌, ◌≤◌, ◌+◌, ◌-◌, ◌^◌, ◌⊎◌, ℕ, Bool, length, true, false, List, [], ◌∷◌, ◌++◌, Option, Some, None, Result, Ok, Err}
+use Rattle.std.specs.Prelude.{◌≡◌, ◌<◌, ◌≤◌, ◌+◌, ◌-◌, ◌*◌, ◌^◌, ◌⊎◌, ℕ, Bool, length, true, false, List, [], ◌∷◌, ◌++◌, Option, Some, None, Result, Ok, Err}
 use Rattle.std.specs.FinMap as finite
 use Rattle.client_session.specs.Rows.{seqno_part}
 use Rattle.client_session.specs.Serving.{is_dcp}
@@ -19,6 +19,7 @@ use Rattle.mcbp_kv.specs.declared.durable.Durability.{Durability}
 use Rattle.mcbp_kv.specs.Answers.{IsFound, IsStored, IsWelcome, bare_answer}
 use Rattle.mcbp_kv.specs.Replies.{reply_frame}
 use Rattle.mcbp_kv.specs.Requests.{request_of}
+use Rattle.mcbp_kv.specs.declared.durable.Durability.{Durability}
 use Rattle.mcbp_kv.specs.declared.request.KvRequest.{KvRequest}
 use Rattle.mcbp_kv.specs.declared.request.KvRequest.TheVariants as request
 use Rattle.vb_calls.specs.Durable.{is_delete}
@@ -93,8 +94,9 @@ LacksMajority chain held st = LacksSeqnos held 2 st ⊎ ((is_possible chain ≡ 
 pub record IsMade (n v : ℕ) (held : List Change) (made : List OwnChange) (settings : Settings) (write : Write) (f g : Frame) : Type 0 where
   pub branch : ℕ
   pub change : Change
+  pub clock : ℕ
   pub older : List OwnChange
-  pub last : made ≡ record { node = n; vb = v; branch = branch; change = change } ∷ older
+  pub last : made ≡ record { node = n; vb = v; branch = branch; change = change; clock = clock } ∷ older
   pub alone : AllDurable older
   pub key : change.key ≡ write.key
   pub cas : ℕ
@@ -114,29 +116,28 @@ abbrev pub IsMadeIn : OwnChange → List OwnChange → Type 0
 IsMadeIn one [] = ⊥
 IsMadeIn one (other ∷ older) = (one ≡ other) ⊎ IsMadeIn one older
 
--- a prepare of this number, key and document, at the vBucket v of the node n, is among these changes
-pub record PreparesIn (n v number : ℕ) (name : List ℕ) (doc : Doc) (deleted : Bool) (told : List OwnChange) : Type 0 where
+-- a prepare of this number, key, level and document, at the vBucket v of the node n, is among these changes
+pub record PreparesIn (n v number : ℕ) (name : List ℕ) (level : Level) (doc : Doc) (deleted : Bool) (told : List OwnChange) : Type 0 where
   pub first : OwnChange
   pub among : IsMadeIn first told
   pub node : first.node ≡ n
   pub vb : first.vb ≡ v
   pub seq : first.change.seq ≡ number
   pub key : first.change.key ≡ name
-  pub level : Level
   pub act : first.change.act ≡ act.Prepare level doc deleted
 
--- a change commits this write of the vBucket v: it is made there, at the write's key, and its document is the one that the write asked for, or its removal; and it names the prepare that was told among these changes
-pub record CommitsOf (n v : ℕ) (write : Write) (told : List OwnChange) (one : OwnChange) : Type 0 where
+-- a change commits this write of the vBucket v: it is made there, at the write's key, and its document is the one that the write asked for, or its removal; and it names the prepare that was told among these changes, at the level that the write asked for
+pub record CommitsOf (n v : ℕ) (write : Write) (level : Level) (told : List OwnChange) (one : OwnChange) : Type 0 where
   pub at : one.vb ≡ v
   pub key : one.change.key ≡ write.key
   pub prepared : ℕ
   pub cas : ℕ
   pub rev : ℕ
   pub commits : one.change.act ≡ act.Commit prepared (written_doc write cas rev) (is_delete write.op)
-  pub names : PreparesIn n v prepared write.key (written_doc write cas rev) (is_delete write.op) told
+  pub names : PreparesIn n v prepared write.key level (written_doc write cas rev) (is_delete write.op) told
 
 -- a durable write is told as this commit, which was told before in this group, at a vBucket of the node: with its CAS, and its branch and seqno where the client asked for these; and it is the commit of this write, by its prepare of the group in which it was the next question, where the numbers of the script's lines rise, which number who waits
-pub record IsCommitted (n v : ℕ) (served : Option (List OwnChange)) (made : List OwnChange) (settings : Settings) (write : Write) (f g : Frame) : Type 0 where
+pub record IsCommitted (n v : ℕ) (served : Option (List OwnChange)) (made : List OwnChange) (settings : Settings) (write : Write) (wish : Durability) (f g : Frame) : Type 0 where
   pub one : OwnChange
   pub told_before : IsMadeIn one made
   pub here : one.node ≡ n
@@ -145,7 +146,34 @@ pub record IsCommitted (n v : ℕ) (served : Option (List OwnChange)) (made : Li
   pub deleted : Bool
   pub commits : one.change.act ≡ act.Commit prepared doc deleted
   pub told : IsStored g f.opcode f.opaque doc.cas (seqno_part settings one.branch one.change.seq)
-  pub own : (told : List OwnChange) → served ≡ Some told → CommitsOf n v write told one
+  pub own : (told : List OwnChange) → served ≡ Some told → CommitsOf n v write wish.level told one
+
+-- so many milliseconds have passed on a clock since it showed this, or it shows its last number
+abbrev pub HavePassed : ℕ → ℕ → ℕ → Type 0
+HavePassed millis since now = (since + millis * 1000000 ≤ now) ⊎ (2 ^ 64 - 1 ≤ now)
+
+-- the prepare of this number and key was given up so long after it was made: the vBucket v of the node n made its abort, which is among these changes
+pub record AbortsIn (n v prepared : ℕ) (name : List ℕ) (millis since : ℕ) (made : List OwnChange) : Type 0 where
+  pub one : OwnChange
+  pub told_before : IsMadeIn one made
+  pub node : one.node ≡ n
+  pub vb : one.vb ≡ v
+  pub key : one.change.key ≡ name
+  pub aborts : one.change.act ≡ act.Abort prepared
+  pub late : HavePassed millis since one.clock
+
+-- the prepare of this write of the vBucket v was told among these changes, at the level that was asked for, and waits no more for its outcome: its vBucket is not active any more, or gave it up, once the time was over that was asked for
+pub record LostOf (n v : ℕ) (role : Option (Option Role)) (made : List OwnChange) (write : Write) (wish : Durability) (told : List OwnChange) : Type 0 where
+  pub prepared : ℕ
+  pub cas : ℕ
+  pub rev : ℕ
+  pub names : PreparesIn n v prepared write.key wish.level (written_doc write cas rev) (is_delete write.op) told
+  pub lost : (IsActive role → ⊥) ⊎ AbortsIn n v prepared write.key wish.timeout names.first.clock made
+
+-- of a durable write it is told that nobody knows what became of it; and so it is of this write, by its prepare of the group in which it was the next question, where the numbers of the script's lines rise
+pub record IsUnsure (n v : ℕ) (served : Option (List OwnChange)) (role : Option (Option Role)) (made : List OwnChange) (write : Write) (wish : Durability) (f g : Frame) : Type 0 where
+  pub said : IsStatus f g status.SyncWriteAmbiguous
+  pub own : (told : List OwnChange) → served ≡ Some told → LostOf n v role made write wish told
 
 -- a connection has a number for each of so many durable writes
 abbrev pub WRITE_NUMBERS : ℕ
@@ -172,10 +200,10 @@ abbrev pub IsRefusedDurably : CountsKnown → Option (Option Role) → List Chan
 IsRefusedDurably counts role held write f g = (st : Status) × IsStatus f g st × IsWhyRefused (LacksMajority counts.chain held) role counts.risen (image_of held) write st × IsImpossibleFirst role counts.chain st
 
 -- it is refused, or its outcome is told: it was committed, or nobody knows
-abbrev pub FitsDurable : Option (List OwnChange) → Chronicle → ℕ → ℕ → Settings → Write → Frame → Frame → Type 0
-FitsDurable served chronicle n v settings write f g =
-    IsRefusedDurably (chronicle.counts_at n v) (chronicle.role_at n v) (chronicle.held n v) write f g ⊎ IsCommitted n v served chronicle.made settings write f g
-    ⊎ IsStatus f g status.SyncWriteAmbiguous
+abbrev pub FitsDurable : Option (List OwnChange) → Chronicle → ℕ → ℕ → Settings → Write → Durability → Frame → Frame → Type 0
+FitsDurable served chronicle n v settings write wish f g =
+    IsRefusedDurably (chronicle.counts_at n v) (chronicle.role_at n v) (chronicle.held n v) write f g ⊎ IsCommitted n v served chronicle.made settings write wish f g
+    ⊎ IsUnsure n v served (chronicle.role_at n v) chronicle.made write wish f g
 
 -- each request, by what its frame asks, where so many durable writes were answered before
 abbrev pub FitsRequest : Option (List OwnChange) → Chronicle → ℕ → ℕ → Settings → Frame → Frame → Result KvRequest Status → Type 0
@@ -184,7 +212,7 @@ FitsRequest served chronicle n count settings f g (Ok request.Noop) = IsStatus f
 FitsRequest served chronicle n count settings f g (Ok (request.Hello features)) = IsWelcome g f.opaque features
 FitsRequest served chronicle n count settings f g (Ok (request.Get key)) = FitsGet (chronicle.role_at n f.vb_or_status) (chronicle.counts_at n f.vb_or_status).risen (image_of (chronicle.held n f.vb_or_status)) settings.json key f g
 FitsRequest served chronicle n count settings f g (Ok (request.Write write None)) = FitsWrite chronicle n f.vb_or_status settings write f g
-FitsRequest served chronicle n count settings f g (Ok (request.Write write (Some wish))) = FitsNumbered count f g (FitsDurable served chronicle n f.vb_or_status settings write f g)
+FitsRequest served chronicle n count settings f g (Ok (request.Write write (Some wish))) = FitsNumbered count f g (FitsDurable served chronicle n f.vb_or_status settings write wish f g)
 
 -- or, where DCP has its opcode, by what message it is
 abbrev pub FitsBy : Bool → Option (List OwnChange) → Chronicle → ℕ → Moment → Settings → Frame → Frame → Type 0
@@ -196,16 +224,28 @@ FitsFrame served chronicle n at settings f g = FitsBy (is_dcp f.opcode) served c
 
 -- ---- the answer to the next question
 
--- a write's answer that is no refusal: it was made, or nobody knows
+-- a write that is not to be durable is told as made
+abbrev pub IsStoring : Settings → Frame → Frame → Type 0
+IsStoring settings f g = (write : Write) × (request_of settings.json f ≡ Ok (request.Write write None)) × (g.vb_or_status ≡ status_code status.Success)
+
+-- the outcome of a durable write is told: it was committed, or nobody knows
 abbrev pub IsOutcome : Settings → Frame → Frame → Type 0
 IsOutcome settings f g =
-    (write : Write) × (durable : Option Durability) × (request_of settings.json f ≡ Ok (request.Write write durable)) × ((g.vb_or_status ≡ status_code status.Success) ⊎ (g.vb_or_status ≡ status_code status.SyncWriteAmbiguous))
+    (write : Write) × (wish : Durability) × (request_of settings.json f ≡ Ok (request.Write write (Some wish))) × ((g.vb_or_status ≡ status_code status.Success) ⊎ (g.vb_or_status ≡ status_code status.SyncWriteAmbiguous))
+
+-- nothing waits to be answered, and nothing was changed in the group since a client was sent a frame in it
+abbrev pub IsStill : Chronicle → Type 0
+IsStill chronicle = AllDurable chronicle.made × (chronicle.changed ≡ false)
 
 -- the durable changes of the group in which the next question of the connection was so first, where the numbers of lines rise
 abbrev pub serving : Chronicle → ℕ → ℕ → Asking → Option (List OwnChange)
 serving chronicle n c asking = option_map (λ (l : LastLine). told_for (l.served n c) asking.answered chronicle.made) chronicle.last
 
--- these bytes are a response to it, with its opcode and opaque, and fit it; and where it is refused, or asked for no write, it changed nothing: no set and no removal waits to be answered
+-- an answer comes in its time: it tells that a write was made which is not to be durable; or the outcome of a durable write, while no set and no removal waits to be answered; or nothing was changed since the answer before
+abbrev pub IsTimely : Chronicle → Settings → Frame → Frame → Type 0
+IsTimely chronicle settings f g = IsStoring settings f g ⊎ (IsOutcome settings f g × AllDurable chronicle.made) ⊎ IsStill chronicle
+
+-- these bytes are a response to it, with its opcode and opaque, fit it, and come in their time
 pub record Answers (chronicle : Chronicle) (n c : ℕ) (asking : Asking) (bytes : List ℕ) : Type 0 where
   pub question : Question
   pub next : question_of asking ≡ Some question
@@ -215,10 +255,10 @@ pub record Answers (chronicle : Chronicle) (n c : ℕ) (asking : Asking) (bytes 
   pub opcode : answer.opcode ≡ question.frame.opcode
   pub opaque : answer.opaque ≡ question.frame.opaque
   pub fits : FitsFrame (serving chronicle n c asking) chronicle n (moment_of (chronicle.clients_at n c) asking question) asking.settings question.frame answer
-  pub calm : IsOutcome asking.settings question.frame answer ⊎ AllDurable chronicle.made
+  pub calm : IsTimely chronicle asking.settings question.frame answer
 
 -- no question is left, a fault stands behind the frames, and the answer to what its header names is Einval, which changed nothing; the connection closes
-pub record AnswersFault (n c : ℕ) (made : List OwnChange) (asking : Asking) (bytes : List ℕ) (behind : List Event) : Type 0 where
+pub record AnswersFault (n c : ℕ) (chronicle : Chronicle) (asking : Asking) (bytes : List ℕ) (behind : List Event) : Type 0 where
   pub none : question_of asking ≡ None
   pub fault : FrameFault
   pub stands : front_fault (behind_frames asking.bytes) ≡ Some fault
@@ -226,8 +266,8 @@ pub record AnswersFault (n c : ℕ) (made : List OwnChange) (asking : Asking) (b
   pub named : faulty_head fault (behind_frames asking.bytes) ≡ Some head
   pub spelled : bytes ≡ spelling (reply_frame (bare_answer head.opcode status.Einval head.opaque))
   pub closes : (more : List Event) × (behind ≡ event.Closed n c ∷ more)
-  pub calm : AllDurable made
+  pub calm : IsStill chronicle
 
 -- what a client is sent, but for frames of its streams
 abbrev pub LawfulReply : Chronicle → ℕ → ℕ → Asking → List ℕ → List Event → Type 0
-LawfulReply chronicle n c asking bytes behind = Answers chronicle n c asking bytes ⊎ AnswersFault n c chronicle.made asking bytes behind
+LawfulReply chronicle n c asking bytes behind = Answers chronicle n c asking bytes ⊎ AnswersFault n c chronicle asking bytes behind

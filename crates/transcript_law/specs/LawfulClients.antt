@@ -3,10 +3,10 @@ use Rattle.std.specs.Prelude.{◌≡◌, ◌⊎◌, ℕ, ◌<◌, ◌≤◌, ◌
 use Rattle.mcbp_dcp.specs.DcpFrames.{dcp_frame}
 use Rattle.mcbp_dcp.specs.declared.message.DcpMsg.{DcpMsg}
 use Rattle.mcbp_dcp.specs.declared.message.DcpMsg.TheVariants as msg
-use Rattle.mcbp_frame.specs.Cutting.{frames_in}
 use Rattle.mcbp_frame.specs.Spelling.{spelling}
 use Rattle.dcp_producer.specs.Frames.{ALL_SENT, STATE_CHANGED, act_message}
 use Rattle.dcp_producer.specs.Serving.{stream_verdict}
+use Rattle.flow_control.specs.Windows.{is_open as lets_through}
 use Rattle.vb_events.specs.declared.event.Event.{Event}
 use Rattle.vb_events.specs.declared.event.Event.TheVariants as event
 use Rattle.vb_types.specs.Histories.{IsIn, plain}
@@ -24,7 +24,8 @@ use Rattle.branch_model.specs.Snapshots.{Covers}
 use Rattle.branch_model.specs.Trees.{Branch}
 use Rattle.transcript_law.specs.LinesTold.{Chronicle}
 use Rattle.transcript_law.specs.ClientFrames.{Request, is_closed_by, request_in, setup_after}
-use Rattle.transcript_law.specs.ClientStreams.{Begun, ClientKnown, ClientStream, ItemLine, Setup, stream_view, unclosed, vb_in_header, view}
+use Rattle.transcript_law.specs.Questions.{flow_now, served_frames}
+use Rattle.transcript_law.specs.ClientStreams.{Begun, ClientKnown, ClientStream, ItemLine, STREAM_NUMBERS, Setup, held_for, stream_view, unclosed, vb_in_header, view}
 use Rattle.transcript_law.specs.StreamLaws.{FROM_MEMORY, IsNextItem, IsPutWhole, IsWholeIf, LawfulSaid, item_of_change, meant_end, meant_start}
 
 -- ---- the frame behind a line
@@ -33,13 +34,15 @@ use Rattle.transcript_law.specs.StreamLaws.{FROM_MEMORY, IsNextItem, IsPutWhole,
 abbrev pub StandsBehind : ℕ → ℕ → List ℕ → List Event → Type 0
 StandsBehind n c bytes behind = (more : List Event) × (behind ≡ event.Reply n c bytes ∷ more)
 
--- there stands this message, with the opaque of the connection's stream of the vBucket that its header names
+-- there stands this message, with the opaque of the connection's stream of the vBucket that its header names, which no frame closed that was served behind the last request for a stream; and the connection's window lets it through
 pub record IsPut (n c : ℕ) (known : ClientKnown) (m : DcpMsg) (behind : List Event) : Type 0 where
   pub bytes : List ℕ
   pub stands : StandsBehind n c bytes behind
   pub stream : ClientStream
   pub known_as : known.streams (vb_in_header bytes) ≡ Some stream
   pub spelled : bytes ≡ spelling (dcp_frame m stream.opaque (vb_in_header bytes))
+  pub unclosed : is_closed_by (served_frames known) (vb_in_header bytes) ≡ false
+  pub through : lets_through (flow_now known).window ≡ true
 
 -- ---- requests
 
@@ -72,9 +75,13 @@ pub record RefusesAs (role : Option (Option Role)) (had : Option ClientStream) (
   pub outside : IsActive role → IsFree had → (InOrder ask → ⊥) → (said ≡ ask_answer.Refuse (status_code status.Erange)) ⊎ (said ≡ ask_answer.Refuse (status_code status.KeyEexists))
   pub granted : IsActive role → IsFree had → InOrder ask → IsRefusal said → said ≡ ask_answer.Refuse (status_code status.KeyEexists)
 
--- so is one refused that its connection passes on, unless the connection has no number left for a stream
-abbrev pub RefusesBy : Setup → Option (Option Role) → Option ClientStream → StreamAsk → AskAnswer → Type 0
-RefusesBy setup role had ask said = setup.opened ≡ true → ask.flags ≡ 0 → (said ≡ ask_answer.Refuse (status_code status.Etmpfail)) ⊎ RefusesAs role had ask said
+-- a connection that asked for so many streams has no number left, and refuses a request for that
+abbrev pub LacksNumber : ℕ → AskAnswer → Type 0
+LacksNumber count said = (STREAM_NUMBERS ≤ count) × (said ≡ ask_answer.Refuse (status_code status.Etmpfail))
+
+-- so is one refused that its connection passes on, or for its vBucket's reasons while a number is left
+abbrev pub RefusesBy : Setup → ℕ → Option (Option Role) → Option ClientStream → StreamAsk → AskAnswer → Type 0
+RefusesBy setup count role had ask said = setup.opened ≡ true → ask.flags ≡ 0 → LacksNumber count said ⊎ ((count < STREAM_NUMBERS) × RefusesAs role had ask said)
 
 -- a request of a client is the next one that it sent, has the numbers of its frame, is of its own node, and is answered as each is, in a frame with its opaque
 pub record LawfulClientAsk (chronicle : Chronicle) (known : ClientKnown) (n c m v : ℕ) (ask : StreamAsk) (high : ℕ) (log : List LogEntry) (said : AskAnswer) (behind : List Event) : Type 0 where
@@ -85,7 +92,7 @@ pub record LawfulClientAsk (chronicle : Chronicle) (known : ClientKnown) (n c m 
   pub vb : request.frame.vb_or_status ≡ v
   pub answered : LawfulSaid chronicle n v ask high log said
   pub own : RefusesOwn (setup_after known.setup request.before) (unclosed request.before known.streams v) ask said
-  pub reason : RefusesBy (setup_after known.setup request.before) (chronicle.role_at n v) (unclosed request.before known.streams v) ask said
+  pub reason : RefusesBy (setup_after known.setup request.before) known.opened (chronicle.role_at n v) (unclosed request.before known.streams v) ask said
   pub frame : StandsBehind n c (spelling (dcp_frame (msg.StreamAnswer (stream_verdict log said)) request.frame.opaque 0)) behind
 
 -- ---- markers
@@ -151,7 +158,7 @@ sent_in g b c = if g.sync && not (starts_below g b) then c else plain c
 abbrev pub IsSentOf : ClientStream → Begun → List Change → Change → Type 0
 IsSentOf g b held x = (c : Change) × IsIn c held × (x ≡ sent_in g b c)
 
--- an item of a client's stream: of a change of what the stream is shown of its branch, as its vBucket holds it as long as that got no role, which goes on with the snapshot that was begun last, before the stream's end; behind it stands that change, whole
+-- an item of a client's stream: of a change of what the stream is shown of its branch, as its vBucket holds it, or, where that got a role, as it held it before, which goes on with the snapshot that was begun last, before the stream's end; behind it stands that change, whole
 pub record LawfulClientItem (chronicle : Chronicle) (known : ClientKnown) (n c : ℕ) (item : ItemLine) (behind : List Event) : Type 0 where
   pub change : Change
   pub told : item_of_change change ≡ item
@@ -160,7 +167,7 @@ pub record LawfulClientItem (chronicle : Chronicle) (known : ClientKnown) (n c :
   pub begun : Begun
   pub last : put.stream.last ≡ Some begun
   pub shown : IsOf begun.history change
-  pub held : put.stream.turned ≡ false → IsSentOf put.stream begun (chronicle.held n (vb_in_header put.bytes)) change
+  pub held : IsSentOf put.stream begun (held_for put.stream (chronicle.held n (vb_in_header put.bytes))) change
   pub next : IsNextItem begun item
 
 -- ---- ends
@@ -191,6 +198,31 @@ pub record IsQuiet (chronicle : Chronicle) (n v : ℕ) (g : ClientStream) : Type
   pub active : chronicle.role_at n v ≡ Some (Some Active)
   pub none : HasNone chronicle n v g
 
--- so is each stream of a connection that is not over, and that no frame of the client behind its last request closes
+-- a stream waits for what is to be saved: its last snapshot was put to its end, its own end is not due, and above its place its vBucket counts changes as saved, which may be on its disk alone
+pub record WaitsSaved (chronicle : Chronicle) (n v : ℕ) (g : ClientStream) : Type 0 where
+  pub whole : IsPutWhole g.last
+  pub stays : g.turned ≡ false
+  pub goes_on : HasReached g → ⊥
+  pub active : chronicle.role_at n v ≡ Some (Some Active)
+  pub saved : g.place < (chronicle.disk_at n v).saved
+
+-- this holds of each stream of a connection that is not over, and that no frame closed that was served behind its last request
+abbrev pub AllOpen : (ℕ → ClientStream → Type 0) → ClientKnown → Type 0
+AllOpen Is known = (v : ℕ) (g : ClientStream) → known.streams v ≡ Some g → g.over ≡ false → is_closed_by (served_frames known) v ≡ false → Is v g
+
+-- each of them is quiet
 abbrev pub AllQuiet : Chronicle → ℕ → ClientKnown → Type 0
-AllQuiet chronicle n known = (v : ℕ) (g : ClientStream) → known.streams v ≡ Some g → g.over ≡ false → is_closed_by (frames_in known.bytes) v ≡ false → IsQuiet chronicle n v g
+AllQuiet chronicle n known = AllOpen (IsQuiet chronicle n) known
+
+-- or each of them is quiet or waits
+abbrev pub AllRest : Chronicle → ℕ → ClientKnown → Type 0
+AllRest chronicle n known = AllOpen (λ v g. IsQuiet chronicle n v g ⊎ WaitsSaved chronicle n v g) known
+
+-- and one of them waits
+pub record OneWaits (chronicle : Chronicle) (n : ℕ) (known : ClientKnown) : Type 0 where
+  pub vb : ℕ
+  pub stream : ClientStream
+  pub known_as : known.streams vb ≡ Some stream
+  pub opens : stream.over ≡ false
+  pub unclosed : is_closed_by (served_frames known) vb ≡ false
+  pub waits : WaitsSaved chronicle n vb stream

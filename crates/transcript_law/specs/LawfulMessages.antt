@@ -1,5 +1,5 @@
 -- what a client's messages of DCP are answered; what its requests for streams are answered, lines tell
-use Rattle.std.specs.Prelude.{◌≡◌, ℕ, ◌-◌, ◌==◌, ◌&&◌, ◌||◌, Bool, true, false, if◌then◌else◌, nat_le, nat_lt, List, codes, drop, length, take, Option, Some, None, is_some}
+use Rattle.std.specs.Prelude.{◌≡◌, ℕ, ◌==◌, ◌&&◌, ◌||◌, Bool, true, false, if◌then◌else◌, nat_le, nat_lt, List, codes, drop, length, Option, Some, None, is_some}
 use Rattle.std.specs.List.{sum_by}
 use Rattle.std.specs.Str.{bytes_eq}
 use Rattle.dcp_producer.specs.Sizes.{size_of}
@@ -19,7 +19,7 @@ use Rattle.vb_types.specs.declared.status.Status.TheVariants as status
 use Rattle.transcript_law.specs.ClientFrames.{message_of, setup_after}
 use Rattle.transcript_law.specs.ClientStreams.{unclosed}
 use Rattle.transcript_law.specs.LinesTold.{Chronicle}
-use Rattle.transcript_law.specs.Questions.{Question}
+use Rattle.transcript_law.specs.Questions.{Question, in_front}
 use Rattle.transcript_law.specs.StreamLaws.{IsIfKnown}
 use Rattle.transcript_law.specs.StreamsTold.{Asking, ClientKnown, ClientStream, Setup}
 
@@ -39,10 +39,6 @@ pub record Moment : Type 0 where
 -- the bytes from a question on
 abbrev pub bytes_from : Question → List ℕ → List ℕ
 bytes_from q bytes = drop (sum_by frame_len q.before) bytes
-
--- the bytes in front of others, which are their end
-abbrev pub in_front : List ℕ → List ℕ → List ℕ
-in_front end bytes = take (length bytes - length end) bytes
 
 -- so it is for a question. Where a line told of it, it is the last request for a stream that was told, and fewer bytes are known behind that than from the question on
 abbrev pub moment_of : ClientKnown → Asking → Question → Moment

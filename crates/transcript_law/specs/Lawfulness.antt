@@ -4,6 +4,7 @@ use Rattle.std.specs.FinMap as finite
 use Rattle.std.specs.Option.{option_map}
 use Rattle.vb_types.specs.declared.change.Act.TheVariants as act
 use Rattle.vb_types.specs.declared.change.Change.{Change}
+use Rattle.vb_types.specs.declared.change.Level.{Level}
 use Rattle.vb_types.specs.declared.change.Level.TheVariants.{PersistMajority}
 use Rattle.vb_types.specs.declared.change.Pend.{Pend}
 use Rattle.vb_types.specs.declared.doc.Doc.{Doc}
@@ -23,7 +24,7 @@ use Rattle.vb_types.specs.Histories.{upto, IsIn}
 use Rattle.vb_types.specs.Images.{Picture, image_of}
 use Rattle.branch_model.specs.Histories.{last_seq, IsOf}
 use Rattle.vb_types.specs.declared.stream.StreamAsk.{StreamAsk}
-use Rattle.vb_calls.specs.{Following.{is_follower}, Spans.{stretch}}
+use Rattle.vb_calls.specs.{Durable.{is_delete}, Following.{is_follower}, Spans.{stretch}, Writes.{written_doc}}
 use Rattle.branch_model.specs.Logs.{front, uuid_of}
 use Rattle.branch_model.specs.Requests.{fork_of}
 use Rattle.branch_model.specs.Snapshots.{Covers, Follows}
@@ -36,8 +37,9 @@ use Rattle.transcript_law.specs.Tellings.{TellsOf}
 use Rattle.transcript_law.specs.Asked.{TellsAsAsked}
 use Rattle.transcript_law.specs.Undone.{LeavesNone}
 use Rattle.transcript_law.specs.{AnsweredWrites.{AllToldNext}, Breaks.{ClosesAsBroken}}
-use Rattle.transcript_law.specs.Unanswered.{AllAnswered}
-use Rattle.transcript_law.specs.LawfulAnswers.{LawfulReply}
+use Rattle.transcript_law.specs.{Questions.{Question, question_of}, StreamsTold.{ClientsKnown}}
+use Rattle.transcript_law.specs.Unanswered.{AllAnswered, AsksDurably}
+use Rattle.transcript_law.specs.LawfulAnswers.{HasNumber, LawfulReply}
 use Rattle.transcript_law.specs.LawfulClients.{LawfulClientAsk, LawfulClientEnd, LawfulClientItem, LawfulClientMark}
 pub use Rattle.transcript_law.specs.StreamLaws.{FROM_MEMORY, GrantsAs, IsFrontOf, IsIfKnown, IsNextItem, IsWholeIf, LawfulSaid, LawfulVerdict, SharesFront, item_of_change, line_act, meant_end, meant_start}
 use Rattle.transcript_law.specs.Bound.{IsAnswered}
@@ -142,14 +144,31 @@ pub record IsGivenUp (chronicle : Chronicle) (n v prepared : ℕ) : Type 0 where
   pub made : IsMadeAt prepared before (chronicle.counts_at n v).times
   pub up : IsUp before (chronicle.clock_at n)
 
+-- a vBucket prepares what the next question of a connection of its node asks for: a durable write of this key at this vBucket, with this document or for its removal, and at this level, while the connection has a number left, and nothing was changed in the group since a client was sent a frame in it. One that is not open asks nothing: nothing is known of it
+pub record IsPrepareAsked (clients : ClientsKnown) (changed : Bool) (n v : ℕ) (key : List ℕ) (level : Level) (doc : Doc) (deleted : Bool) : Type 0 where
+  pub client : ℕ
+  pub question : Question
+  pub next : question_of (clients n client).asking ≡ Some question
+  pub vb : question.frame.vb_or_status ≡ v
+  pub durable : AsksDurably (clients n client).asking.settings question.frame
+  pub key_is : key ≡ durable.write.key
+  pub level_is : level ≡ durable.wish.level
+  pub cas : ℕ
+  pub rev : ℕ
+  pub doc_is : doc ≡ written_doc durable.write cas rev
+  pub deleted_is : deleted ≡ is_delete durable.write.op
+  pub numbered : HasNumber (clients n client).asking.durables
+  pub still : changed ≡ false
+
 -- a change is made by its branch's writer, which is not known to be other than active, above all that the branch has, and where any branch was made from this one; it is the next one behind what the vBucket
--- holds; a commit is of what the vBucket prepared, and a majority of its chain holds; and an abort is of what it prepared, and has to give up
+-- holds; a prepare is of what a client asks; a commit is of what the vBucket prepared, and a majority of its chain holds; and an abort is of what it prepared, and has to give up
 pub record LawfulChange (chronicle : Chronicle) (n v uuid : ℕ) (change : Change) : Type 0 where
   pub active : IsIfKnown (chronicle.role_at n v) (Some Active)
   pub writer : IsWriter chronicle n v uuid
   pub above_branch : last_seq 0 (hist chronicle.tree uuid) < change.seq
   pub above_forks : ForksBelow uuid change.seq chronicle.tree
   pub made : IsNextChange (chronicle.held n v) change
+  pub asked : (level : Level) (doc : Doc) (deleted : Bool) → change.act ≡ act.Prepare level doc deleted → IsPrepareAsked chronicle.clients_at chronicle.changed n v change.key level doc deleted
   pub fulfils : Fulfils (image_of (chronicle.held n v)) change
   pub backed : IsHeldIfCommitted (chronicle.counts_at n v) (chronicle.disk_at n v).saved (image_of (chronicle.held n v)) change
   pub aborts : (prepared : ℕ) → change.act ≡ act.Abort prepared → IsGivenUp chronicle n v prepared
@@ -329,13 +348,13 @@ abbrev pub IsToStop : Fuse → Type 0
 IsToStop (Stop k) = 0 < k
 IsToStop other = ⊥
 
--- a line, after what was read, and in front of those behind it in its group; one for a client is judged by its connection, and one of a client's stream by what is known of that; what a client is sent is an answer, or the frame of the line before. No vBucket follows a client's stream
+-- a line, after what was read, and in front of those behind it in its group; one for a client is judged by its connection, and one of a client's stream by what is known of that; what a client is sent is an answer, or the frame of the line before; and a connection closes once none of its questions is left, but where it ends with its node. No vBucket follows a client's stream
 abbrev pub LawfulLine : Chronicle → Event → List Event → Type 0
 LawfulLine chronicle (event.Branch n v uuid parent fork high) behind = LawfulBranch chronicle n v uuid parent fork high
 LawfulLine chronicle (event.Role n v role) behind = LawfulRole chronicle n v role
 LawfulLine chronicle (event.Changed n v uuid change) behind = LawfulChange chronicle n v uuid change
 LawfulLine chronicle (event.Reply n c bytes) behind = (chronicle.clients_at n c).told ≡ None → LawfulReply chronicle n c (chronicle.clients_at n c).asking bytes behind
-LawfulLine chronicle (event.Closed n c) behind = Unit {0}
+LawfulLine chronicle (event.Closed n c) behind = chronicle.conn_at n c ≡ true → question_of (chronicle.clients_at n c).asking ≡ None
 LawfulLine chronicle (event.Asked (name.Link l) n v ask high log said) behind = LawfulAsk chronicle l n v ask high log said
 LawfulLine chronicle (event.Asked (name.Client n c) m v ask high log said) behind = LawfulClientAsk chronicle (chronicle.clients_at n c) n c m v ask high log said behind
 LawfulLine chronicle (event.Marked (name.Link l) start end flags) behind = LawfulMark chronicle (name.Link l) start end flags
@@ -377,7 +396,7 @@ LinesFrom chronicle conns (line ∷ behind) = Heard conns line behind (LawfulLin
 -- the group of a line of a script: its number, its lines, its answer, and what both say of arms that fired and of vBuckets that went back; one that was refused where it stood tells of nothing; none tells of anything else than its line may; each tells what its line asked for; none leaves undone what it is for; none leaves a client without an answer; behind each set and each removal its answer stands; and none closes a client's connection but where its bytes break off, or its node ends
 abbrev pub LawfulGroup : Chronicle → ScriptLine → Group → Type 0
 LawfulGroup chronicle line group =
-    LinesFrom (ahead chronicle line.verb group.answer) chronicle.conn_at group.events × IsAnswered chronicle line.verb group.events group.answer × FiresInLine chronicle line.verb group.events group.answer × (group.line ≡ line.line) × TellsIfBegun group.events group.answer × TellsOf line.verb group.events × TellsAsAsked chronicle line.verb group.events group.answer × LeavesNone chronicle line.verb group.events group.answer × AllAnswered (after_group chronicle line.verb group.events group.answer) × AllToldNext group.events × ClosesAsBroken chronicle line.verb group.events
+    LinesFrom (ahead chronicle line.verb group.answer) chronicle.conn_at group.events × IsAnswered chronicle line.verb group.events group.answer × FiresInLine chronicle line.verb group.events group.answer × (group.line ≡ line.line) × TellsIfBegun group.events group.answer × TellsOf chronicle line.verb group.events × TellsAsAsked line.verb group.events group.answer × LeavesNone chronicle line.verb group.events group.answer × AllAnswered (after_group chronicle line.verb group.events group.answer) × AllToldNext group.events × ClosesAsBroken chronicle line.verb group.events
 
 -- the groups of the lines of a script that come next, one for each, read behind the number of its line
 abbrev pub LawfulGroups : Chronicle → List ScriptLine → List Group → Type 0

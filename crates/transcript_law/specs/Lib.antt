@@ -16,6 +16,7 @@ pub mod StreamLaws
 pub mod StreamsTold
 pub mod ClientRows
 pub mod AnswerRows
+pub mod UnsureRows
 pub mod ClosedJournals
 pub mod Contrary
 pub mod Crashes

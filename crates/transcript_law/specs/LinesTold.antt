@@ -108,7 +108,7 @@ known_down = record { fuse = Off; out = Old; down = true }
 -- last; for each link that is not over, its dial; for each stream's name and vBucket, the stream; and for each link the point that its last request was
 -- sent back to, until its consumer went back; whether a vBucket changed since it was sealed last, took a marker, got a role or went back;
 -- the start and end of the snapshot that it is in, where that is known; what it wrote down; and what counts where it commits; what each node's clock shows; the connections of
--- clients that are open; what is known of each of them and of its streams; the changes that vBuckets made of their own in this group, the last first, but for sets and removals before its last answer; and the vBucket, with its node, whose prepares the line of this group gives up, where it is such a line
+-- clients that were open before this group, but for those of a node that stopped in it; what is known of each of them and of its streams; the changes that vBuckets made of their own in this group, the last first, but for sets and removals before its last answer; the vBucket, with its node, whose prepares the line of this group gives up, where it is such a line; and whether a change was told in this group since a client was sent a frame in it
 pub record Chronicle : Type 0 where
   pub last : Option LastLine
   pub tree : List Branch
@@ -130,6 +130,7 @@ pub record Chronicle : Type 0 where
   pub clients_at : ClientsKnown
   pub made : List OwnChange
   pub ticks : Option (ℕ × ℕ)
+  pub changed : Bool
 
 -- a line of the script with this number begins
 abbrev pub at_line : Chronicle → ℕ → Chronicle
@@ -158,6 +159,7 @@ empty_chronicle = record {
   clients_at = λ n c. blank_client;
   made = [];
   ticks = None;
+  changed = false;
 }
 
 -- the branch that a new one was made from: the one named, or, where none is and the new one begins above 0, the one that
@@ -202,7 +204,7 @@ after_role chronicle n v role = record (uncounted chronicle n v) {
   role_at = with_at chronicle.role_at n v (Some (Some role));
   open_at = with_at chronicle.open_at n v false;
   snap_at = with_at chronicle.snap_at n v (snap_in_role role (chronicle.held n v) (chronicle.snap_at n v));
-  clients_at = with_clients_of chronicle.clients_at n (past_turn v);
+  clients_at = with_clients_of chronicle.clients_at n (past_turn v (chronicle.held n v));
 }
 
 -- the changes that a vBucket holds, with one more
@@ -220,7 +222,8 @@ after_change chronicle n v uuid change = record chronicle {
   held = held_more chronicle n v change;
   open_at = with_at chronicle.open_at n v true;
   snap_at = with_at chronicle.snap_at n v (Some (change.seq, change.seq));
-  made = record { node = n; vb = v; branch = uuid; change = change } ∷ chronicle.made;
+  made = record { node = n; vb = v; branch = uuid; change = change; clock = chronicle.clock_at n } ∷ chronicle.made;
+  changed = true;
   counts_at = with_at chronicle.counts_at n v (timed change.seq (chronicle.clock_at n) (chronicle.counts_at n v));
 }
 
@@ -419,9 +422,18 @@ abbrev pub made_line : List OwnChange → Event → List OwnChange
 made_line made (event.Reply n c bytes) = filter (λ m. is_durable m.change.act) made
 made_line made other = made
 
+-- and then none was told since
+abbrev pub changed_line : Bool → Event → Bool
+changed_line changed (event.Reply n c bytes) = false
+changed_line changed other = changed
+
 -- a line that tells of clients alone: of their streams, or of a frame for one
 abbrev pub after_client_line : Chronicle → Event → Chronicle
-after_client_line chronicle line = record chronicle { clients_at = clients_line chronicle.tree chronicle.clients_at line; made = made_line chronicle.made line }
+after_client_line chronicle line = record chronicle { clients_at = clients_line chronicle.tree chronicle.clients_at line; made = made_line chronicle.made line; changed = changed_line chronicle.changed line }
+
+-- the open connections, but for those of the node n
+abbrev pub without_node : Conns → ℕ → Conns
+without_node conns n = λ m c. if m == n then false else conns m c
 
 -- what is told with one more line; a line of another kind tells nothing of branches and of links' streams
 abbrev pub after_line : Chronicle → Event → Chronicle
@@ -447,7 +459,7 @@ after_line chronicle (event.Counted stream n v member seq) = after_count chronic
 after_line chronicle (event.Batch n v ss se at count) = after_batch chronicle n v (record { ss = ss; se = se; at = at })
 after_line chronicle (event.Stat n v windows items cursors saved high) = chronicle
 after_line chronicle (event.CallFailed n) = chronicle
-after_line chronicle (event.NodeStopped n) = chronicle
+after_line chronicle (event.NodeStopped n) = record chronicle { conn_at = without_node chronicle.conn_at n }
 after_line chronicle (event.Ended l reason) = after_end chronicle l
 after_line chronicle (event.Shown n v role uuid at ss se docs preps) = chronicle
 after_line chronicle (event.Logged n v log) = chronicle

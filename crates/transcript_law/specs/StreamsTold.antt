@@ -5,6 +5,8 @@ use Rattle.vb_types.specs.declared.stream.StreamAsk.{StreamAsk}
 use Rattle.vb_events.specs.declared.event.ItemAct.{ItemAct}
 use Rattle.client_session.specs.Serving.{no_settings}
 use Rattle.client_session.specs.declared.session.Settings.{Settings}
+use Rattle.flow_control.specs.Windows.{new_window}
+use Rattle.flow_control.specs.declared.window.Window.{Window}
 
 -- what an `item` line says of a change
 pub record ItemLine : Type 0 where
@@ -25,7 +27,7 @@ pub record Setup : Type 0 where
   pub sync : Bool
   pub named : Bool
 
--- a client's stream that was let continue: the request, and its opaque; whether prepares, commits and aborts are shown; its branch; the place up to which snapshots were begun, and the last one of them; whether its end was put; and whether its vBucket got a role since
+-- a client's stream that was let continue: the request, and its opaque; whether prepares, commits and aborts are shown; its branch; the place up to which snapshots were begun, and the last one of them; whether its end was put; and whether its vBucket got a role since, and what that held before the first one
 pub record ClientStream : Type 0 where
   pub ask : StreamAsk
   pub opaque : ℕ
@@ -35,6 +37,7 @@ pub record ClientStream : Type 0 where
   pub last : Option Begun
   pub over : Bool
   pub turned : Bool
+  pub left : List Change
 
 -- what a line told of a client's stream, whose frame comes next: a marker, an item, or the stream's end
 pub data StreamLine : Type 0 where
@@ -50,13 +53,21 @@ pub record Asking : Type 0 where
   pub durables : ℕ
   pub answered : ℕ
 
--- a client's connection: the bytes that it sent behind the last request for a stream that was answered, what the frames before those set, its streams by their vBuckets, what was told of one whose frame comes next, and what it asked
+-- the window of a client's connection, through which the frames of its streams go: the bytes behind those frames of the client that are counted into it, what these set, and the window
+pub record FlowKnown : Type 0 where
+  pub bytes : List ℕ
+  pub setup : Setup
+  pub window : Window
+
+-- a client's connection: the bytes that it sent behind the last request for a stream that was answered, what the frames before those set, its streams by their vBuckets, how many it asked vBuckets to open, what was told of one whose frame comes next, what it asked, and its window
 pub record ClientKnown : Type 0 where
   pub bytes : List ℕ
   pub setup : Setup
   pub streams : ℕ → Option ClientStream
+  pub opened : ℕ
   pub told : Option StreamLine
   pub asking : Asking
+  pub flow : FlowKnown
 
 -- the connections of clients, by their nodes and their numbers
 abbrev pub ClientsKnown : Type 0
@@ -70,9 +81,13 @@ no_setup = record { opened = false; sync = false; named = false }
 abbrev pub blank_asking : Asking
 blank_asking = record { bytes = []; setup = no_setup; settings = no_settings; durables = 0; answered = 0 }
 
+-- its window holds nothing back
+abbrev pub blank_flow : FlowKnown
+blank_flow = record { bytes = []; setup = no_setup; window = new_window 0 }
+
 -- one that has just been opened, or is not open: it sent nothing, and has no stream
 abbrev pub blank_client : ClientKnown
-blank_client = record { bytes = []; setup = no_setup; streams = λ v. None; told = None; asking = blank_asking }
+blank_client = record { bytes = []; setup = no_setup; streams = λ v. None; opened = 0; told = None; asking = blank_asking; flow = blank_flow }
 
 -- a table by nodes and vBuckets, with x for the vBucket v of the node n
 abbrev pub with_at : {A : Type 0} → (ℕ → ℕ → A) → ℕ → ℕ → A → ℕ → ℕ → A

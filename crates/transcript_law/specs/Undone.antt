@@ -21,8 +21,10 @@ use Rattle.vb_types.specs.Histories.{IsIn}
 use Rattle.vb_types.specs.Images.{image_of}
 use Rattle.branch_model.specs.Histories.{last_seq}
 use Rattle.branch_model.specs.Requests.{effective_se}
+use Rattle.flow_control.specs.Windows.{is_open as lets_through}
+use Rattle.transcript_law.specs.Questions.{flow_now}
 use Rattle.transcript_law.specs.LinesTold.{Chronicle, Dial, Granted, after_lines}
-use Rattle.transcript_law.specs.LawfulClients.{AllQuiet}
+use Rattle.transcript_law.specs.LawfulClients.{AllQuiet, AllRest, OneWaits}
 pub use Rattle.transcript_law.specs.StreamLaws.{EndsThere, IsPutWhole}
 
 -- ---- what is to be written down
@@ -52,11 +54,21 @@ pub record HasNoMore (chronicle : Chronicle) (n v : ℕ) (g : Granted) : Type 0 
 abbrev pub AllPut : Chronicle → ℕ → Type 0
 AllPut chronicle l = (dial : Dial) (g : Granted) → chronicle.dial_of l ≡ Some dial → chronicle.stream_of (name.Link l) dial.vb ≡ Some g → g.over ≡ false → HasNoMore chronicle dial.producer dial.vb g
 
--- a `pump` or a `pull` that has nothing to put
+-- a `pump` or a `pull` that has nothing to put; the window of a client's connection is open then
 abbrev pub NoneToPut : Chronicle → Verb → Type 0
 NoneToPut chronicle (verb.AtLink l (link_verb.Pump wanted)) = AllPut chronicle l
-NoneToPut chronicle (verb.AtClient n c (client_verb.Pull wanted)) = AllQuiet chronicle n (chronicle.clients_at n c)
+NoneToPut chronicle (verb.AtClient n c (client_verb.Pull wanted)) = AllQuiet chronicle n (chronicle.clients_at n c) × (lets_through (flow_now (chronicle.clients_at n c)).window ≡ true)
 NoneToPut chronicle other = Unit {0}
+
+-- a `pull` that waits does so for one of its streams, the others have nothing to put, and its connection's window is open
+abbrev pub WaitsForOne : Chronicle → Verb → Type 0
+WaitsForOne chronicle (verb.AtClient n c (client_verb.Pull wanted)) = AllRest chronicle n (chronicle.clients_at n c) × OneWaits chronicle n (chronicle.clients_at n c) × (lets_through (flow_now (chronicle.clients_at n c)).window ≡ true)
+WaitsForOne chronicle other = Unit {0}
+
+-- a `pull` that is full has its connection's window shut
+abbrev pub IsShutFor : Chronicle → Verb → Type 0
+IsShutFor chronicle (verb.AtClient n c (client_verb.Pull wanted)) = lets_through (flow_now (chronicle.clients_at n c)).window ≡ false
+IsShutFor chronicle other = Unit {0}
 
 -- ---- what is to be acknowledged
 
@@ -89,8 +101,10 @@ is_taking other = false
 
 -- ---- by the answer
 
--- a line with these lines that is answered so, after what was read before it, leaves nothing undone of what it is for: a `take` takes no change only where each was taken; behind a `down` by which a vBucket took something all was acknowledged that is due; and a `pump` or a `pull` is idle only where its streams have no more to put
+-- a line with these lines that is answered so, after what was read before it, leaves nothing undone of what it is for: a `take` takes no change only where each was taken; behind a `down` by which a vBucket took something all was acknowledged that is due; a `pump` or a `pull` is idle only where its streams have no more to put; and a `pull` waits for what is to be saved only where one of its streams does, and none has a frame, and is full only where its connection's window is shut
 abbrev pub LeavesNone : Chronicle → Verb → List Event → Answer → Type 0
 LeavesNone chronicle asked lines (answer.Number n) = (n ≡ 0 → NoneToTake chronicle asked) × (list_any is_taking lines ≡ true → NoneToAcknowledge (after_lines chronicle lines) asked)
 LeavesNone chronicle asked lines (answer.Pulled n why.Idle) = NoneToPut (after_lines chronicle lines) asked
+LeavesNone chronicle asked lines (answer.Pulled n why.WaitSaved) = WaitsForOne (after_lines chronicle lines) asked
+LeavesNone chronicle asked lines (answer.Pulled n why.Full) = IsShutFor (after_lines chronicle lines) asked
 LeavesNone chronicle asked lines other = Unit {0}

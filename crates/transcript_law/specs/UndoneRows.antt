@@ -102,6 +102,25 @@ prepare_got how end = event.Ranged 1 0 0 end ∷ event.Got 1 0 (name.Link 1) (pr
 abbrev pub acknowledged_too : Level → ℕ → List Event
 acknowledged_too how seq = prepare_got how 1 ++ event.Acknowledged (name.Link 1) 1 0 seq 0 ∷ []
 
+-- it took the prepare by an earlier line, and acknowledged nothing
+abbrev pub prepare_held : Level → Chronicle
+prepare_held how = after_lines (prepare_sent how 1) (prepare_got how 1)
+
+-- it took the marker alone by an earlier line
+abbrev pub prepare_marked : Level → Chronicle
+prepare_marked how = after_lines (prepare_sent how 1) (event.Ranged 1 0 0 1 ∷ [])
+
+-- it counts so much as saved as the prepare is put
+abbrev pub prepare_saved : Level → ℕ → Chronicle
+prepare_saved how saved = record (prepare_sent how 1) { disk_at = λ n v. record blank_disk { there = true; saved = saved } }
+
+-- it takes the prepare, and a marker behind it
+abbrev pub change_got : Level → List Event
+change_got how = event.Got 1 0 (name.Link 1) (prepare_of how) ∷ []
+
+abbrev pub next_marker : List Event
+next_marker = event.Ranged 1 0 1 2 ∷ []
+
 -- a line `down` of the link that tells this leaves nothing undone
 abbrev pub DownLeavesNone : Chronicle → List Event → Type 0
 DownLeavesNone chronicle lines = LeavesNone chronicle (verb.AtLink 1 (link_verb.Down 9)) lines (answer.Number 9)

@@ -1,7 +1,7 @@
 //! What makes a transcript lawful or not by whether each client gets its answers.
 
 ghost use Rattle.std.specs.Prelude.{[], ◌∷◌, ◌++◌, take, drop};
-ghost use Rattle.transcript_law.specs.AnsweredRows.{brings, broken_bytes, durable_bytes, durable_unknown, noop_answered, noop_bytes, response_bytes, sent_alone, sent_shut, set_bytes};
+ghost use Rattle.transcript_law.specs.AnsweredRows.{brings, broken_bytes, durable_bytes, durable_refused, noop_answered, noop_bytes, response_bytes, sent_alone, sent_shut, set_bytes};
 ghost use Rattle.transcript_law.specs.ClientRows.{LawfulOpened, hangs, waits};
 ghost use Rattle.transcript_law.specs.Crashes.{ok};
 ghost use Rattle.transcript_law.specs.Unanswered.{AllAnswered};
@@ -22,7 +22,7 @@ pub fn judged_unanswered()
     ensures pieces { LawfulOpened (brings (take 23 noop_bytes) ∷ brings (drop 23 noop_bytes) ∷ []) (ok [] ∷ ok (noop_answered ∷ []) ∷ []) }
     ensures pieces_unanswered { LawfulOpened (brings (take 23 noop_bytes) ∷ brings (drop 23 noop_bytes) ∷ []) (ok [] ∷ ok [] ∷ []) → ⊥ }
     ensures hung { LawfulOpened (brings (take 23 noop_bytes) ∷ hangs 1 ∷ []) (ok [] ∷ ok [] ∷ []) }
-    ensures durable_later { LawfulOpened (brings durable_bytes ∷ waits ∷ []) (ok [] ∷ ok (durable_unknown ∷ []) ∷ []) }
+    ensures durable_later { LawfulOpened (brings durable_bytes ∷ waits ∷ []) (ok [] ∷ ok (durable_refused ∷ []) ∷ []) }
     ensures none { AllAnswered (sent_alone []) }
     ensures part { AllAnswered (sent_alone (take 23 noop_bytes)) }
     ensures whole { AllAnswered (sent_alone noop_bytes) → ⊥ }

@@ -1,15 +1,20 @@
 //! Which changes a vBucket may make of its own next, by what the lines before them tell.
 
-ghost use Rattle.std.specs.Prelude.{true, false, [], ◌∷◌, ◌+◌, ◌-◌, ◌^◌, Some, None};
+ghost use Rattle.std.specs.Prelude.{true, false, [], ◌∷◌, ◌++◌, ◌+◌, ◌-◌, ◌^◌, Some, None, take};
 ghost use Rattle.script_text.specs.declared.verb.VbVerb.TheVariants.{Chain};
 ghost use Rattle.script_text.specs.declared.verb.Verb.TheVariants.{AtVb};
+ghost use Rattle.mcbp_kv.specs.declared.opcodes.TheConstants.{SET};
+ghost use Rattle.transcript_law.specs.AnswerRows.{answers, durably, durably_removes, says, writes};
 ghost use Rattle.transcript_law.specs.BoundRows.{LawfulHere};
-ghost use Rattle.transcript_law.specs.ChangeRows.{Aborts, AbortsBehind, abort_lines, aborted_known, given_known, gives_up, greatest, greatest_known, own_lines, prepares, removed_known, removing_known, set_known, stamped, waiting_known};
+ghost use Rattle.transcript_law.specs.ChangeRows.{Aborts, AbortsBehind, abort_lines, aborted_known, asking, asking_behind, asking_far, durably_beside, durably_unfit, given_known, gives_up, greatest, greatest_known, own_lines, prepares, removed_known, removing_known, set_known, sets_seven, stamped, waiting_known};
 ghost use Rattle.transcript_law.specs.Chronicles.{alone};
 ghost use Rattle.transcript_law.specs.Crashes.{ok};
+ghost use Rattle.transcript_law.specs.ClientRows.{noop};
 ghost use Rattle.transcript_law.specs.Lawfulness.{LawfulFrom};
 ghost use Rattle.transcript_law.specs.Transcripts.{first_doc};
+ghost use Rattle.vb_events.specs.declared.event.Event.TheVariants.{Closed};
 ghost use Rattle.vb_types.specs.declared.change.Act.TheVariants.{Abort, Commit, Remove, Set};
+ghost use Rattle.vb_types.specs.declared.status.Status.TheVariants.{KeyEexists};
 
 /// A change has the seqno behind the last one that its vBucket holds, and no other. While a prepare
 /// waits at a key, the key gets its commit or its abort, by its seqno, and other keys are written. Not
@@ -21,7 +26,7 @@ pub fn judged_next_changes()
     ensures beside { LawfulFrom waiting_known (own_lines 2 7 (Set (stamped 2 1))) }
     ensures set { LawfulFrom waiting_known (own_lines 2 9 (Set (stamped 2 1))) → ⊥ }
     ensures removed { LawfulFrom waiting_known (own_lines 2 9 (Remove 2 1)) → ⊥ }
-    ensures prepared { LawfulFrom waiting_known (own_lines 2 9 (prepares 2 1 false)) → ⊥ }
+    ensures prepared { LawfulFrom (asking (durably 1 9 6) waiting_known) (own_lines 2 9 (prepares 2 1 false)) → ⊥ }
     ensures over_removal { LawfulFrom removing_known (own_lines 3 7 (Set (stamped 3 2))) → ⊥ }
     ensures commits { LawfulFrom waiting_known (own_lines 2 9 (Commit 1 (first_doc 1 (6 ∷ [])) false)) }
     ensures commits_other { LawfulFrom waiting_known (own_lines 2 9 (Commit 2 (first_doc 1 (6 ∷ [])) false)) → ⊥ }
@@ -65,8 +70,8 @@ pub fn judged_casses()
     ensures elsewhere { LawfulFrom set_known (own_lines 2 9 (Set (stamped 1 1))) → ⊥ }
     ensures waiting { LawfulFrom waiting_known (own_lines 2 7 (Set (stamped 1 1))) → ⊥ }
     ensures removal { LawfulFrom set_known (own_lines 2 7 (Remove 1 2)) → ⊥ }
-    ensures prepare { LawfulFrom set_known (own_lines 2 7 (prepares 1 2 false)) → ⊥ }
-    ensures prepare_removal { LawfulFrom set_known (own_lines 2 7 (prepares 1 2 true)) → ⊥ }
+    ensures prepare { LawfulFrom (asking (durably 1 7 6) set_known) (own_lines 2 7 (prepares 1 2 false)) → ⊥ }
+    ensures prepare_removal { LawfulFrom (asking (durably_removes 1 7) set_known) (own_lines 2 7 (prepares 1 2 true)) → ⊥ }
     ensures behind_abort { LawfulFrom aborted_known (own_lines 3 7 (Set (stamped 1 1))) → ⊥ }
     ensures removed { LawfulFrom removed_known (own_lines 3 7 (Set (stamped 2 1))) → ⊥ }
     ensures greatest { LawfulFrom greatest_known (own_lines 2 9 (Set (stamped greatest 1))) }
@@ -77,13 +82,13 @@ pub fn judged_casses()
 /// They have the revision behind that of the key's document, the first one where there is none, and none
 /// above the greatest number of 64 bits; and a removal, or the prepare of one, has a document to take.
 pub fn judged_revisions()
-    ensures prepare { LawfulFrom set_known (own_lines 2 7 (prepares 2 2 false)) }
+    ensures prepare { LawfulFrom (asking (durably 1 7 6) set_known) (own_lines 2 7 (prepares 2 2 false)) }
     ensures same { LawfulFrom set_known (own_lines 2 7 (Set (stamped 2 1))) → ⊥ }
     ensures jumps { LawfulFrom set_known (own_lines 2 7 (Set (stamped 2 3))) → ⊥ }
     ensures removal_jumps { LawfulFrom set_known (own_lines 2 7 (Remove 2 3)) → ⊥ }
-    ensures prepare_jumps { LawfulFrom set_known (own_lines 2 7 (prepares 2 3 false)) → ⊥ }
-    ensures removal_prepare_jumps { LawfulFrom set_known (own_lines 2 7 (prepares 2 3 true)) → ⊥ }
-    ensures first { LawfulFrom set_known (own_lines 2 9 (prepares 2 1 false)) }
+    ensures prepare_jumps { LawfulFrom (asking (durably 1 7 6) set_known) (own_lines 2 7 (prepares 2 3 false)) → ⊥ }
+    ensures removal_prepare_jumps { LawfulFrom (asking (durably_removes 1 7) set_known) (own_lines 2 7 (prepares 2 3 true)) → ⊥ }
+    ensures first { LawfulFrom (asking (durably 1 9 6) set_known) (own_lines 2 9 (prepares 2 1 false)) }
     ensures other_first { LawfulFrom set_known (own_lines 2 9 (Set (stamped 2 2))) → ⊥ }
     ensures anew { LawfulFrom removed_known (own_lines 3 7 (Set (stamped 3 1))) }
     ensures goes_on { LawfulFrom removed_known (own_lines 3 7 (Set (stamped 3 3))) → ⊥ }
@@ -92,6 +97,35 @@ pub fn judged_revisions()
     ensures removes { LawfulFrom set_known (own_lines 2 7 (Remove 2 2)) }
     ensures removes_none { LawfulFrom set_known (own_lines 2 9 (Remove 2 1)) → ⊥ }
     ensures removes_again { LawfulFrom removed_known (own_lines 3 7 (Remove 3 1)) → ⊥ }
-    ensures prepares_removal { LawfulFrom set_known (own_lines 2 7 (prepares 2 2 true)) }
-    ensures prepares_none { LawfulFrom set_known (own_lines 2 9 (prepares 2 1 true)) → ⊥ }
+    ensures prepares_removal { LawfulFrom (asking (durably_removes 1 7) set_known) (own_lines 2 7 (prepares 2 2 true)) }
+    ensures prepares_none { LawfulFrom (asking (durably_removes 1 9) set_known) (own_lines 2 9 (prepares 2 1 true)) → ⊥ }
+{}
+
+/// A vBucket prepares what a client of its node asks for next: a durable write of that key, at that
+/// vBucket and level, with that document or for its removal. Not lawful are a prepare that nobody asks
+/// for, or a client of another node; one that is asked for behind another question, by less than a
+/// frame, or by what was answered before it; of another key, vBucket, level or document; of a removal
+/// in place of a set; where a write is asked for that is not to be durable; once the connection
+/// closed; where that has used its 4,294,967,295 numbers; behind the commit of another prepare for
+/// it, and directly behind any other change.
+pub fn judged_asked_prepares()
+    ensures asked { LawfulFrom (asking (durably 1 7 6) set_known) sets_seven }
+    ensures unasked { LawfulFrom set_known sets_seven → ⊥ }
+    ensures elsewhere { LawfulFrom (asking_far (durably 1 7 6) set_known) sets_seven → ⊥ }
+    ensures part { LawfulFrom (asking (take 34 (durably 1 7 6)) set_known) sets_seven → ⊥ }
+    ensures behind { LawfulFrom (asking (noop 9 ++ durably 1 7 6) set_known) sets_seven → ⊥ }
+    ensures behind_answered { LawfulFrom (asking (noop 9 ++ durably 1 7 6) set_known) (answers 9 ∷ sets_seven) }
+    ensures refused { LawfulFrom (asking durably_unfit set_known) (says SET KeyEexists ∷ []) }
+    ensures answered { LawfulFrom (asking durably_unfit set_known) (says SET KeyEexists ∷ sets_seven) → ⊥ }
+    ensures other_key { LawfulFrom (asking (durably 1 9 6) set_known) sets_seven → ⊥ }
+    ensures other_vb { LawfulFrom (asking durably_beside set_known) sets_seven → ⊥ }
+    ensures other_level { LawfulFrom (asking (durably 2 7 6) set_known) sets_seven → ⊥ }
+    ensures other_value { LawfulFrom (asking (durably 1 7 5) set_known) sets_seven → ⊥ }
+    ensures removal { LawfulFrom (asking (durably_removes 1 7) set_known) sets_seven → ⊥ }
+    ensures plain { LawfulFrom (asking (writes SET 0 7 6) set_known) sets_seven → ⊥ }
+    ensures shut { LawfulFrom (asking (durably 1 7 6) set_known) (Closed 0 1 ∷ sets_seven) → ⊥ }
+    ensures last_number { LawfulFrom (asking_behind (2 ^ 32 - 2) (durably 1 7 6) set_known) sets_seven }
+    ensures spent { LawfulFrom (asking_behind (2 ^ 32 - 1) (durably 1 7 6) set_known) sets_seven → ⊥ }
+    ensures again { LawfulFrom (asking (durably 1 7 6) set_known) (sets_seven ++ own_lines 3 7 (Commit 2 (stamped 2 2) false) ++ own_lines 4 7 (prepares 4 3 false)) → ⊥ }
+    ensures behind_change { LawfulFrom (record (asking (durably 1 7 6) set_known) { changed = true }) sets_seven → ⊥ }
 {}

@@ -116,7 +116,8 @@ pub fn judged_checked_acknowledgements()
 /// A durable write is committed once a majority of its chain holds it, and at level 3 it is saved; and
 /// it is answered with Success behind that commit, with its CAS. Not so where nobody acknowledged it,
 /// or only up to below it, or one that is not of the chain, or one twice in place of two; where it is
-/// not saved; and not Success without a commit, behind a prepare, or with another CAS.
+/// not saved; and not Success without a commit, behind a prepare, with another CAS, or of a prepare of
+/// another level.
 pub fn judged_checked_commits()
     ensures of_two { PassesCommit Majority (Some 1 ∷ []) 0 ((1, 1) ∷ []) }
     ensures lacking { PassesCommit Majority (Some 1 ∷ []) 0 [] → ⊥ }
@@ -129,6 +130,7 @@ pub fn judged_checked_commits()
     ensures uncommitted { PassesTo durable (durably 1 9 6) (stores SET 2 [] ∷ []) → ⊥ }
     ensures prepared { PassesTo once (durably 1 9 6) (makes prepared ∷ stores SET 2 [] ∷ []) → ⊥ }
     ensures cas { PassesTo pending (durably 1 9 6) (makes committed ∷ stores SET 3 [] ∷ []) → ⊥ }
+    ensures level { PassesAwaited pending (durably 2 9 6) (makes committed ∷ stores SET 2 [] ∷ []) → ⊥ }
 {}
 
 /// So it is of a client's stream, by the frame directly behind each line. Not so a line without one,

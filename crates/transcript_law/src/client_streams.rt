@@ -1,12 +1,14 @@
 //! What a transcript tells of the streams of clients, lawfully or not.
 
-ghost use Rattle.std.specs.Prelude.{ℕ, List, [], ◌∷◌, ◌++◌, codes, take, true, false, replicate};
-ghost use Rattle.transcript_law.specs.ClientAskRows.{AsksSync, LawfulAsked, LawfulPulled, LawfulStory, all_lines, asked, asked_at, asked_by, bytes_of, client_asks, client_counts, client_ends, client_gives, client_hears, client_marks, closes_first, closing, closing_typed, flagged, goes_as, hangs_up, idle, indexed, moved, naming, none, opening, opens_first, other_marked, past_both, pulls, puts, requesting, requesting_typed, resting, sends_none, serving, syncing, taking_over, that_asked, that_sent, ticks, typed_close_refused, typed_refused, unanswered, unopened, asked_forked, forked, sends_rest};
+ghost use Rattle.std.specs.Prelude.{◌≡◌, ℕ, ◌-◌, ◌^◌, List, [], ◌∷◌, ◌++◌, codes, take, true, false, replicate, Some, None};
+ghost use Rattle.transcript_law.specs.ClientAskRows.{AsksSync, LawfulAsked, LawfulPulled, LawfulStory, LawfulWaits, acking, all_lines, asked, asked_at, asked_by, bytes_of, client_asks, client_counts, client_ends, client_gives, client_hears, client_marks, closes_first, closing, closing_typed, flagged, full_now, goes_as, hangs_up, idle, indexed, moved, naming, none, opening, opens_first, other_marked, past_both, pulls, puts, requesting, requesting_typed, resting, sends_none, serving, sizing, syncing, taking_over, that_asked, that_opened, that_sent, ticks, typed_close_refused, typed_refused, unanswered, unopened, waiting_now, with_window, with_window_waiting, asked_forked, forked, sends_rest};
+ghost use Rattle.transcript_law.specs.AnsweredRows.{durable_bytes};
 ghost use Rattle.transcript_law.specs.AskedRows.{marks_of, pump_one, up_one};
 ghost use Rattle.transcript_law.specs.BoundRows.{LawfulHere};
 ghost use Rattle.transcript_law.specs.Chronicles.{Chronicle};
 ghost use Rattle.transcript_law.specs.ClientRows.{closes};
-ghost use Rattle.transcript_law.specs.ClientStreamRows.{LawfulHeld, LawfulPut, all_changes, as_document, asks_for, both, closed, committed, disk_marked, durable, ended, ended_with, finished, first_item, for_another, frame_of, fresh, held_so, inside, late_marked, marked, marked_with, next_item, one, other_opaque, other_turned, other_value, pending, prepared, prepared_item, put_three, put_two, sent, sent_with, third_item, three, turned, turned_elsewhere, two, unframed, untold, up_to, waiting, with_streams};
+ghost use Rattle.transcript_law.specs.ClientStreamRows.{LawfulHeld, LawfulPut, all_changes, as_document, asks_for, both, closed, committed, disk_marked, durable, ended, ended_with, finished, first_item, for_another, frame_of, fresh, held_so, inside, late_marked, left_with, marked, marked_with, next_item, one, open_setup, other_opaque, other_turned, other_value, pending, prepared, prepared_item, put_three, put_two, sent, sent_with, third_item, three, turned, turned_elsewhere, two, unframed, untold, up_to, waiting, with_streams};
+ghost use Rattle.transcript_law.specs.ClientStreams.{no_setup, opened_after};
 ghost use Rattle.transcript_law.specs.Crashes.{ok};
 ghost use Rattle.transcript_law.specs.Lawfulness.{LawfulFrom};
 ghost use Rattle.transcript_law.specs.TellingRows.{MayNotTell, changes_here};
@@ -77,9 +79,9 @@ pub fn judged_plain_markers()
 /// A client's stream is sent the items of its snapshot, in their order, each with the change that it
 /// tells; two streams of one connection are sent theirs in turn. Not lawful is an item in a frame of
 /// another stream, of another order, before a marker or behind the stream's end; and one whose frame
-/// has another value than the branch has. An answer between two items changes nothing. Behind a role
-/// of its vBucket a stream is sent what was taken of the branch, whatever the vBucket holds then, and
-/// before that what it holds alone.
+/// has another value than the branch has. An answer between two items changes nothing. A stream is sent
+/// what its vBucket holds, and behind a role of that what it held before the first one, whatever it holds
+/// then.
 pub fn judged_client_items()
     ensures both { LawfulPut two (one (fresh true all_changes)) (marked 0 0 2 ++ sent 0 one_change ++ sent 0 next_change) }
     ensures answered { LawfulAsked (that_sent (one (fresh true all_changes)) (bytes_of 9 0 msg.Noop)) (marked 0 0 2 ++ sent 0 one_change ++ frame_of 0 (msg.NoopAnswer 0) ∷ sent 0 next_change) }
@@ -90,14 +92,18 @@ pub fn judged_client_items()
     ensures skipped { LawfulPut two (one (inside true all_changes two 0 2 [])) (sent 0 next_change) → ⊥ }
     ensures unmarked { LawfulPut two (one (fresh true all_changes)) (sent 0 one_change) → ⊥ }
     ensures over { LawfulPut two (one (finished (inside true all_changes two 0 2 []))) (sent 0 one_change) → ⊥ }
-    ensures turns { LawfulHeld [] two (one (inside true all_changes two 0 2 [])) (turned role.Dead ∷ sent 0 one_change) }
+    ensures turns { LawfulPut two (one (inside true all_changes two 0 2 [])) (turned role.Dead ∷ sent 0 one_change) }
+    ensures turns_lost { LawfulHeld [] two (one (inside true all_changes two 0 2 [])) (turned role.Dead ∷ sent 0 one_change) → ⊥ }
+    ensures turns_twice { LawfulHeld [] two (one (left_with two (inside true all_changes two 0 2 []))) (turned role.Dead ∷ sent 0 one_change) }
+    ensures left { LawfulHeld [] two (one (left_with two (inside true all_changes two 0 2 []))) (sent 0 one_change) }
+    ensures left_none { LawfulPut two (one (left_with [] (inside true all_changes two 0 2 []))) (sent 0 one_change) → ⊥ }
     ensures other_turned { LawfulPut two (one (inside true all_changes two 0 2 [])) (turned role.Dead ∷ sent_with 0 one_change other_value) → ⊥ }
     ensures lost { LawfulHeld [] two (one (inside true all_changes two 0 2 [])) (sent 0 one_change) → ⊥ }
 {}
 
 /// A stream that is shown durable writes is sent prepares and commits, and no commit as its document, but
-/// in a first snapshot from below where its request starts, and where its vBucket holds it so. Any other
-/// stream is sent no prepare, and each commit as its document.
+/// in a first snapshot from below where its request starts, and where its vBucket holds it so, or held it
+/// so before it got a role. Any other stream is sent no prepare, and each commit as its document.
 pub fn judged_durable_items()
     ensures prepare { LawfulPut durable (one (inside true all_changes durable 0 3 (first_item ∷ []))) (sent 0 prepared) }
     ensures commit { LawfulPut durable (one (inside true all_changes durable 0 3 (first_item ∷ prepared_item ∷ []))) (sent 0 committed) }
@@ -111,6 +117,10 @@ pub fn judged_durable_items()
     ensures later_commit { LawfulPut durable (one (inside true (asks_for 0 1 2 9) durable 2 3 [])) (sent 0 committed) }
     ensures held_so { LawfulHeld held_so durable (one (inside true all_changes durable 0 3 (first_item ∷ prepared_item ∷ []))) (sent 0 as_document) }
     ensures held_commit { LawfulHeld held_so durable (one (inside true all_changes durable 0 3 (first_item ∷ prepared_item ∷ []))) (sent 0 committed) → ⊥ }
+    ensures turned_commit { LawfulHeld held_so durable (one (left_with durable (inside true all_changes durable 0 3 (first_item ∷ prepared_item ∷ [])))) (sent 0 committed) }
+    ensures turned_as_document { LawfulHeld held_so durable (one (left_with durable (inside true all_changes durable 0 3 (first_item ∷ prepared_item ∷ [])))) (sent 0 as_document) → ⊥ }
+    ensures turned_document { LawfulPut durable (one (left_with held_so (inside true all_changes durable 0 3 (first_item ∷ prepared_item ∷ [])))) (sent 0 as_document) }
+    ensures turned_as_commit { LawfulPut durable (one (left_with held_so (inside true all_changes durable 0 3 (first_item ∷ prepared_item ∷ [])))) (sent 0 committed) → ⊥ }
 {}
 
 /// A client's stream ends with the reason 0 behind a whole snapshot that reaches the end that was asked
@@ -220,8 +230,8 @@ pub fn judged_client_statuses()
 /// A vBucket refuses a client's request with the status of its reason, the first of these that it has: it
 /// is not active; the connection has a stream of it; the numbers are out of order, with a start above the
 /// end, or below or above the snapshot. Such a request is let continue or sent back in no case, and one
-/// that has none of these reasons is not refused with their statuses; but any may be refused because
-/// another stream has its number, or because the connection has none left.
+/// that has none of these reasons is not refused with their statuses, nor for want of a number while the
+/// connection has one left; but any may be refused because another stream has its number.
 pub fn judged_client_refusals()
     ensures away { LawfulAsked (that_sent none (requesting 0 all_changes)) (turned role.Dead ∷ asked all_changes (ask_answer.Refuse 7)) }
     ensures away_held { LawfulAsked (that_sent (one put_two) (requesting 0 all_changes)) (turned role.Dead ∷ asked all_changes (ask_answer.Refuse 2)) → ⊥ }
@@ -239,7 +249,24 @@ pub fn judged_client_refusals()
     ensures above_rolls { LawfulAsked (that_sent none (requesting 0 (asks_for 0 4 3 9))) (asked (asks_for 0 4 3 9) (ask_answer.Roll 0)) → ⊥ }
     ensures in_order { LawfulAsked (that_sent none (requesting 0 all_changes)) (asked all_changes (ask_answer.Refuse 34)) → ⊥ }
     ensures numbered { LawfulAsked (that_sent none (requesting 0 all_changes)) (asked all_changes (ask_answer.Refuse 2)) }
-    ensures spent { LawfulAsked (that_sent none (requesting 0 all_changes)) (asked all_changes (ask_answer.Refuse 134)) }
+    ensures unspent { LawfulAsked (that_sent none (requesting 0 all_changes)) (asked all_changes (ask_answer.Refuse 134)) → ⊥ }
+{}
+
+/// A connection has numbers for 4294967295 streams: once it asked vBuckets to open as many, each further
+/// request that it would pass on is Etmpfail, and none before. A request takes one where its vBucket is
+/// asked to open a stream, also where that refuses: not where the connection refuses for its own reason,
+/// or has a stream of the vBucket that is still to end.
+pub fn judged_stream_numbers()
+    ensures spent { LawfulAsked (that_opened (2 ^ 32 - 1) (requesting 0 all_changes)) (asked all_changes (ask_answer.Refuse 134)) }
+    ensures spent_goes { LawfulAsked (that_opened (2 ^ 32 - 1) (requesting 0 all_changes)) (asked all_changes ask_answer.Go) → ⊥ }
+    ensures last { LawfulAsked (that_opened (2 ^ 32 - 2) (requesting 0 all_changes)) (asked all_changes ask_answer.Go) }
+    ensures last_refused { LawfulAsked (that_opened (2 ^ 32 - 2) (requesting 0 all_changes)) (asked all_changes (ask_answer.Refuse 134)) → ⊥ }
+    ensures takes { opened_after open_setup None all_changes 5 ≡ 6 }
+    ensures over { opened_after open_setup (Some (finished put_two)) all_changes 5 ≡ 6 }
+    ensures held { opened_after open_setup (Some put_two) all_changes 5 ≡ 5 }
+    ensures flags { opened_after open_setup None flagged 5 ≡ 5 }
+    ensures unopened { opened_after no_setup None all_changes 5 ≡ 5 }
+    ensures none_left { opened_after open_setup None all_changes (2 ^ 32 - 1) ≡ 2 ^ 32 - 1 }
 {}
 
 /// A stream is shown durable writes exactly where, before its request, the open connection asked for them
@@ -297,6 +324,57 @@ pub fn judged_client_pulls()
     ensures closed { LawfulPulled two (that_asked (one (fresh true all_changes)) (closing 0)) idle }
     ensures prepare { LawfulPulled pending (with_streams (one (inside true all_changes pending 0 1 (first_item ∷ [])))) idle → ⊥ }
     ensures plain_prepare { LawfulPulled pending (with_streams (one (inside false all_changes pending 0 1 (first_item ∷ [])))) idle }
+{}
+
+/// A client's pull waits for what is to be saved only where one of its streams does, of which the vBucket
+/// counts changes as saved above its place, and where no other one has a frame to put: each was put its
+/// snapshot to the end, and was put all or waits too.
+pub fn judged_waiting_pulls()
+    ensures waits { LawfulWaits 2 two (one (fresh true all_changes)) }
+    ensures unsaved { LawfulWaits 0 two (one (fresh true all_changes)) → ⊥ }
+    ensures all_put { LawfulWaits 2 two (one (inside true all_changes two 0 2 (first_item ∷ next_item ∷ []))) → ⊥ }
+    ensures part { LawfulWaits 3 three (one (inside true all_changes three 0 2 (first_item ∷ []))) → ⊥ }
+    ensures due { LawfulWaits 3 three (one (put_three (up_to 2))) → ⊥ }
+    ensures turns { LawfulWaits 3 three (one (moved put_two)) → ⊥ }
+    ensures over { LawfulWaits 2 two (one (finished (fresh true all_changes))) → ⊥ }
+    ensures none { LawfulWaits 2 two none → ⊥ }
+    ensures other_put { LawfulWaits 2 two (both (fresh true all_changes) (inside true all_changes two 0 2 (first_item ∷ next_item ∷ []))) }
+    ensures other_left { LawfulWaits 2 two (both (fresh true all_changes) (inside true all_changes two 0 2 (first_item ∷ []))) → ⊥ }
+{}
+
+/// A frame of a client's stream goes only while its connection's window has less outstanding than its
+/// size, or no size, and is outstanding then, whole. CONTROL of an open connection gives the window its
+/// size, and what is acknowledged is outstanding no more, once its frame was served; not while that waits
+/// behind a durable write. A pull is full only where the window is shut, and idle or waiting only where
+/// it is not.
+pub fn judged_client_windows()
+    ensures less { LawfulAsked (with_window 100 99 [] (one (fresh true all_changes))) (marked 0 0 2) }
+    ensures shut { LawfulAsked (with_window 100 100 [] (one (fresh true all_changes))) (marked 0 0 2) → ⊥ }
+    ensures no_size { LawfulAsked (with_window 0 100 [] (one (fresh true all_changes))) (marked 0 0 2) }
+    ensures counted { LawfulAsked (with_window 44 0 [] (one (fresh true all_changes))) (marked 0 0 2 ++ sent 0 one_change) → ⊥ }
+    ensures item { LawfulAsked (with_window 100 100 [] (one (inside true all_changes two 0 2 []))) (sent 0 one_change) → ⊥ }
+    ensures end { LawfulAsked (with_window 100 100 [] (one (put_three (up_to 2)))) (ended 0 0) → ⊥ }
+    ensures acked { LawfulAsked (with_window 100 100 (acking 1) (one (fresh true all_changes))) (marked 0 0 2) }
+    ensures acked_waits { LawfulAsked (with_window_waiting 100 100 (acking 1) (one (fresh true all_changes))) (marked 0 0 2) → ⊥ }
+    ensures sized { LawfulAsked (with_window 0 100 (sizing (codes "100")) (one (fresh true all_changes))) (marked 0 0 2) → ⊥ }
+    ensures no_longer { LawfulAsked (with_window 100 100 (sizing (codes "0")) (one (fresh true all_changes))) (marked 0 0 2) }
+    ensures full { LawfulPulled two (with_window 100 100 [] none) full_now }
+    ensures full_open { LawfulPulled two (with_window 100 99 [] none) full_now → ⊥ }
+    ensures idle_shut { LawfulPulled two (with_window 100 100 [] none) idle → ⊥ }
+    ensures waits_shut { LawfulPulled two (with_window 100 100 [] none) waiting_now → ⊥ }
+{}
+
+/// No frame of a stream comes once a CLOSE_STREAM of its vBucket was served: no marker, no item and no
+/// end. One of another vBucket closes nothing; and one that waits behind a durable write is not served
+/// yet: the stream's frames may go on, and a pull that leaves it something is not idle.
+pub fn judged_closed_streams()
+    ensures marker { LawfulAsked (that_asked (one (fresh true all_changes)) (closing 0)) (marked 0 0 2) → ⊥ }
+    ensures item { LawfulAsked (that_asked (one (inside true all_changes two 0 2 [])) (closing 0)) (sent 0 one_change) → ⊥ }
+    ensures end { LawfulAsked (that_asked (one (put_three (up_to 2))) (closing 0)) (ended 0 0) → ⊥ }
+    ensures behind { LawfulAsked (that_sent (one (fresh true all_changes)) (closing 0)) (closes_first ∷ marked 0 0 2) → ⊥ }
+    ensures other { LawfulAsked (that_asked (one (fresh true all_changes)) (closing 1)) (marked 0 0 2) }
+    ensures waits { LawfulAsked (that_sent (one (fresh true all_changes)) (durable_bytes ++ closing 0)) (marked 0 0 2) }
+    ensures left { LawfulPulled two (that_sent (one (fresh true all_changes)) (durable_bytes ++ closing 0)) idle → ⊥ }
 {}
 
 /// The streams of clients are those of their vBuckets: not one that a client's producer has and the vBucket

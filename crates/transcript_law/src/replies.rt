@@ -7,13 +7,15 @@ ghost use Rattle.mcbp_kv.specs.Replies.{reply_frame};
 ghost use Rattle.mcbp_kv.specs.declared.feature.Feature.TheVariants as feature;
 ghost use Rattle.mcbp_kv.specs.declared.opcodes.TheConstants.{ADD, DELETE, GET, HELLO, NOOP, REPLACE, SET};
 ghost use Rattle.mcbp_frame.specs.declared.frame.TheConstants.{REQUEST};
-ghost use Rattle.transcript_law.specs.AnswerRows.{LawfulAmong, LawfulAwaited, LawfulAwaitedBy, LawfulAway, LawfulBehind, LawfulBy, LawfulFar, LawfulNext, LawfulOver, LawfulRisen, LawfulStarted, LawfulStill, LawfulTicks, LawfulTo, LawfulUnmade, acknowledges, answers, broken, changing, comes, durably, durably_removes, finds, finds_raw, for_json, for_seqnos, formless, gets, greets, json_doc, json_once, makes, makes_elsewhere, makes_far, newer, newer_doc, once, over_prepare, prepared_at, removal, removes, responds, says, sends, set_at, shuts, shuts_other, stores, strange, unknown, vast, welcomes, writes};
+ghost use Rattle.transcript_law.specs.AnswerRows.{LawfulAmong, LawfulAwaited, LawfulAwaitedBy, LawfulAway, LawfulBehind, LawfulBy, LawfulFar, LawfulNext, LawfulOver, LawfulRisen, LawfulStarted, LawfulStill, LawfulTicks, LawfulTo, LawfulUnmade, acknowledges, answers, broken, changing, comes, durably, durably_removes, finds, finds_raw, for_json, for_seqnos, formless, gets, greets, json_doc, json_once, makes, makes_elsewhere, makes_far, newer, newer_doc, once, over_prepare, prepared_at, prepared_line, removal, removes, responds, says, sends, set_at, shuts, shuts_other, stores, strange, unknown, vast, welcomes, writes};
 ghost use Rattle.transcript_law.specs.ClientAskRows.{opening, replies as replied, sends_none, ticks};
 ghost use Rattle.transcript_law.specs.ClientRows.{LawfulOpened, asks, hangs, noop, nooped, opens, replies, waits};
-ghost use Rattle.transcript_law.specs.ClientStreamRows.{committed, durable, pending, prepared};
+ghost use Rattle.transcript_law.specs.ClientStreamRows.{committed, durable, pending, prepared, turned};
 ghost use Rattle.transcript_law.specs.Crashes.{ok};
 ghost use Rattle.transcript_law.specs.Followers.{next_change};
 ghost use Rattle.transcript_law.specs.Transcripts.{first_doc, one_change};
+ghost use Rattle.transcript_law.specs.UnsureRows.{LawfulAnew, LawfulGone, LawfulGoneBy, LawfulGoneTold, LawfulLate, LawfulTold, LawfulToldBy, aborted, durably_within, gave_up, had_committed, half_a_minute, prepared_when, unknown_set};
+ghost use Rattle.vb_types.specs.declared.role.Role.TheVariants.{Dead, Replica};
 ghost use Rattle.vb_types.specs.declared.status.Status.TheVariants as status;
 
 /// A client is answered the next frame that it sent, with its opcode and opaque, in a response, and once:
@@ -161,7 +163,7 @@ pub fn judged_left_prepares()
 {}
 
 /// A durable write is refused as impossible where its chain can have no majority, before any reason of
-/// its key, and only there; its outcome may be that nobody knows. No other write is answered so. The
+/// its key, and only there. No other write is answered so, nor that nobody knows its outcome. The
 /// first one of a connection is not refused with Etmpfail, at whatever vBucket.
 pub fn judged_durables()
     ensures impossible { LawfulAmong (None ∷ []) [] (durably 1 7 8) (says SET status.DurabilityImpossible ∷ []) }
@@ -171,7 +173,6 @@ pub fn judged_durables()
     ensures locked { LawfulTo pending (durably 1 9 4) (says SET status.SyncWriteInProgress ∷ []) }
     ensures plain_locked { LawfulAmong (None ∷ []) pending (writes SET 0 9 4) (says SET status.SyncWriteInProgress ∷ []) }
     ensures plain_impossible { LawfulAmong (None ∷ []) [] (writes SET 0 7 8) (says SET status.DurabilityImpossible ∷ []) → ⊥ }
-    ensures ambiguous { LawfulTo [] (durably 1 7 8) (says SET status.SyncWriteAmbiguous ∷ []) }
     ensures plain_ambiguous { LawfulTo [] (writes SET 0 7 8) (says SET status.SyncWriteAmbiguous ∷ []) → ⊥ }
     ensures away { LawfulAway [] (durably 1 7 8) (says SET status.NotMyVbucket ∷ []) }
     ensures active { LawfulTo [] (durably 1 7 8) (says SET status.NotMyVbucket ∷ []) → ⊥ }
@@ -186,26 +187,26 @@ pub fn judged_durables()
 /// with Etmpfail for want of one, and the next one is, at whatever vBucket and whatever else there is to
 /// refuse it for. Each durable write counts, however it is answered; no other frame does.
 pub fn judged_numbers()
-    ensures last { LawfulBehind (2 ^ 32 - 2) [] (durably 1 7 8) (says SET status.SyncWriteAmbiguous ∷ []) }
+    ensures last { LawfulGone (2 ^ 32 - 2) (durably 1 9 6) (says SET status.SyncWriteAmbiguous ∷ []) }
     ensures last_spent { LawfulBehind (2 ^ 32 - 2) [] (durably 1 7 8) (says SET status.Etmpfail ∷ []) → ⊥ }
     ensures spent { LawfulBehind (2 ^ 32 - 1) [] (durably 1 7 8) (says SET status.Etmpfail ∷ []) }
-    ensures spent_unsure { LawfulBehind (2 ^ 32 - 1) [] (durably 1 7 8) (says SET status.SyncWriteAmbiguous ∷ []) → ⊥ }
+    ensures spent_unsure { LawfulGone (2 ^ 32 - 1) (durably 1 9 6) (says SET status.SyncWriteAmbiguous ∷ []) → ⊥ }
     ensures spent_locked { LawfulBehind (2 ^ 32 - 1) pending (durably 1 9 4) (says SET status.SyncWriteInProgress ∷ []) → ⊥ }
     ensures spent_far { LawfulFar (2 ^ 32 - 1) (durably 1 7 8) (says SET status.Etmpfail ∷ []) }
     ensures spent_away { LawfulFar (2 ^ 32 - 1) (durably 1 7 8) (says SET status.NotMyVbucket ∷ []) → ⊥ }
     ensures plain { LawfulFar (2 ^ 32 - 1) (writes SET 0 7 8) (says SET status.NotMyVbucket ∷ []) }
-    ensures next { LawfulBehind (2 ^ 32 - 2) [] (durably 1 7 8 ++ durably 1 7 8) (says SET status.SyncWriteAmbiguous ∷ says SET status.Etmpfail ∷ []) }
-    ensures next_unsure { LawfulBehind (2 ^ 32 - 2) [] (durably 1 7 8 ++ durably 1 7 8) (says SET status.SyncWriteAmbiguous ∷ says SET status.SyncWriteAmbiguous ∷ []) → ⊥ }
+    ensures next { LawfulGoneTold (2 ^ 32 - 2) (durably 1 9 6 ++ durably 1 9 6) (says SET status.SyncWriteAmbiguous ∷ says SET status.Etmpfail ∷ []) }
+    ensures next_unsure { LawfulGoneTold (2 ^ 32 - 2) (durably 1 9 6 ++ durably 1 9 6) (says SET status.SyncWriteAmbiguous ∷ says SET status.SyncWriteAmbiguous ∷ []) → ⊥ }
     ensures refused { LawfulBehind (2 ^ 32 - 2) pending (durably 1 9 4 ++ durably 1 9 4) (says SET status.SyncWriteInProgress ∷ says SET status.Etmpfail ∷ []) }
-    ensures noop { LawfulBehind (2 ^ 32 - 2) [] (noop 9 ++ durably 1 7 8) (answers 9 ∷ says SET status.SyncWriteAmbiguous ∷ []) }
+    ensures noop { LawfulBehind (2 ^ 32 - 2) pending (noop 9 ++ durably 1 9 4) (answers 9 ∷ says SET status.SyncWriteInProgress ∷ []) }
     ensures noop_spent { LawfulBehind (2 ^ 32 - 2) [] (noop 9 ++ durably 1 7 8) (answers 9 ∷ says SET status.Etmpfail ∷ []) → ⊥ }
     ensures plain_counts { LawfulBehind (2 ^ 32 - 2) pending (writes SET 0 9 4 ++ durably 1 9 4) (says SET status.SyncWriteInProgress ∷ says SET status.SyncWriteInProgress ∷ []) }
 {}
 
 /// A durable write is told stored behind a commit of its node alone, with its CAS, and with its branch and
 /// seqno to a client that asked for these, and to no other. That commit is of the write that the client
-/// asked for: of its key at its vBucket, and of its value or removal; what another write was committed as
-/// is none, whatever its CAS. And it names a prepare of the group in which that was to be answered first:
+/// asked for: of its key at its vBucket, and of its value or removal, at the level that it asked for; what
+/// another write was committed as is none, whatever its CAS. And it names a prepare of the group in which that was to be answered first:
 /// not that of an equal write before, nor one that was told before the answer in front. Neither a prepare
 /// alone is one, nor is a commit that of a write that is not durable.
 pub fn judged_outcomes()
@@ -214,7 +215,7 @@ pub fn judged_outcomes()
     ensures prepared { LawfulTo once (durably 1 9 6) (makes prepared ∷ stores SET 2 [] ∷ []) → ⊥ }
     ensures cas { LawfulAwaited pending (durably 1 9 6) (makes committed ∷ stores SET 3 [] ∷ []) → ⊥ }
     ensures far { LawfulAwaited pending (durably 1 9 6) (makes_far committed ∷ stores SET 2 [] ∷ []) → ⊥ }
-    ensures later { LawfulAwaited pending (noop 9 ++ durably 1 9 6) (makes committed ∷ answers 9 ∷ stores SET 2 [] ∷ []) → ⊥ }
+    ensures later { LawfulAwaited pending (durably 1 9 6 ++ durably 1 9 6) (makes committed ∷ stores SET 2 [] ∷ stores SET 2 [] ∷ []) → ⊥ }
     ensures seqnos { LawfulAwaitedBy for_seqnos pending (durably 1 9 6) (makes committed ∷ stores SET 2 (seqno_extras 5 3) ∷ []) }
     ensures untold { LawfulAwaitedBy for_seqnos pending (durably 1 9 6) (makes committed ∷ stores SET 2 [] ∷ []) → ⊥ }
     ensures branch { LawfulAwaitedBy for_seqnos pending (durably 1 9 6) (makes committed ∷ stores SET 2 (seqno_extras 6 3) ∷ []) → ⊥ }
@@ -224,9 +225,45 @@ pub fn judged_outcomes()
     ensures other_vb { LawfulAwaited pending (durably 1 9 6) (makes_elsewhere committed ∷ stores SET 2 [] ∷ []) → ⊥ }
     ensures other_value { LawfulAwaited pending (durably 1 9 7) (makes committed ∷ stores SET 2 [] ∷ []) → ⊥ }
     ensures removal { LawfulAwaited pending (durably_removes 1 9) (makes committed ∷ stores DELETE 2 [] ∷ []) → ⊥ }
+    ensures other_level { LawfulAwaited pending (durably 2 9 6) (makes committed ∷ stores SET 2 [] ∷ []) → ⊥ }
     ensures other_prepare { LawfulTo pending (durably 1 9 6) (makes committed ∷ stores SET 2 [] ∷ []) → ⊥ }
     ensures plain { LawfulTo pending (writes SET 0 9 6) (makes committed ∷ stores SET 2 [] ∷ []) → ⊥ }
     ensures plain_uncommitted { LawfulTo durable (writes SET 0 9 6) (stores SET 2 [] ∷ []) → ⊥ }
+{}
+
+/// Of a durable write it is told that nobody knows what became of it only where its own prepare, of its
+/// key, value and level, was told in the group in which it was to be answered first, and waits no more:
+/// its vBucket is not active any more, or gave it up in this group, once the time was over that it asked
+/// for, half a minute where it asked for none. Not lawful is that of a prepare that still waits, also
+/// where its vBucket became active anew with it; of one that was committed; where another prepare was
+/// given up, at another key, vBucket or node, or too early; and of a write that was never prepared.
+pub fn judged_unsure()
+    ensures dead { LawfulAwaited pending (durably 1 9 6) (turned Dead ∷ unknown_set ∷ []) }
+    ensures follows { LawfulAwaited pending (durably 1 9 6) (turned Replica ∷ unknown_set ∷ []) }
+    ensures given_up { LawfulTold (gave_up 2 9 half_a_minute ∷ []) (durably 1 9 6) (unknown_set ∷ []) }
+    ensures timed { LawfulTold (gave_up 2 9 7000000 ∷ []) (durably_within 7 9 6) (unknown_set ∷ []) }
+    ensures last { LawfulToldBy (prepared_when (2 ^ 64 - 2)) (gave_up 2 9 (2 ^ 64 - 1) ∷ []) (durably 1 9 6) (unknown_set ∷ []) }
+    ensures waits { LawfulAwaited pending (durably 1 9 6) (unknown_set ∷ []) → ⊥ }
+    ensures anew { LawfulAnew (durably 1 9 6) (unknown_set ∷ []) → ⊥ }
+    ensures early { LawfulTold (gave_up 2 9 29999999999 ∷ []) (durably 1 9 6) (unknown_set ∷ []) → ⊥ }
+    ensures timed_early { LawfulTold (gave_up 2 9 6999999 ∷ []) (durably_within 7 9 6) (unknown_set ∷ []) → ⊥ }
+    ensures since { LawfulToldBy (prepared_when 1) (gave_up 2 9 half_a_minute ∷ []) (durably 1 9 6) (unknown_set ∷ []) → ⊥ }
+    ensures before_last { LawfulToldBy (prepared_when (2 ^ 64 - 3)) (gave_up 2 9 (2 ^ 64 - 2) ∷ []) (durably 1 9 6) (unknown_set ∷ []) → ⊥ }
+    ensures other_prepare { LawfulTold (gave_up 1 9 half_a_minute ∷ []) (durably 1 9 6) (unknown_set ∷ []) → ⊥ }
+    ensures other_key { LawfulTold (gave_up 2 7 half_a_minute ∷ []) (durably 1 9 6) (unknown_set ∷ []) → ⊥ }
+    ensures other_vb { LawfulTold (record (gave_up 2 9 half_a_minute) { vb = 1 } ∷ []) (durably 1 9 6) (unknown_set ∷ []) → ⊥ }
+    ensures other_node { LawfulTold (record (gave_up 2 9 half_a_minute) { node = 1 } ∷ []) (durably 1 9 6) (unknown_set ∷ []) → ⊥ }
+    ensures had_commit { LawfulTold (had_committed ∷ []) (durably 1 9 6) (unknown_set ∷ []) → ⊥ }
+    ensures unprepared { LawfulTo [] (durably 1 7 8) (unknown_set ∷ []) → ⊥ }
+    ensures gone_unprepared { LawfulFar 0 (durably 1 7 8) (unknown_set ∷ []) → ⊥ }
+    ensures gone_before { LawfulGone 0 (noop 9 ++ durably 1 9 6) (answers 9 ∷ unknown_set ∷ []) → ⊥ }
+    ensures gone_value { LawfulGone 0 (durably 1 9 7) (unknown_set ∷ []) → ⊥ }
+    ensures gone_key { LawfulGone 0 (durably 1 7 6) (unknown_set ∷ []) → ⊥ }
+    ensures gone_level { LawfulGone 0 (durably 2 9 6) (unknown_set ∷ []) → ⊥ }
+    ensures gone_removal { LawfulGone 0 (durably_removes 1 9) (says DELETE status.SyncWriteAmbiguous ∷ []) → ⊥ }
+    ensures gone_vb { LawfulGoneBy (record prepared_line { vb = 1 }) (unknown_set ∷ []) → ⊥ }
+    ensures gone_node { LawfulGoneBy (record prepared_line { node = 1 }) (unknown_set ∷ []) → ⊥ }
+    ensures ticked { LawfulLate (durably 1 9 6) ticks (ok (makes aborted ∷ unknown_set ∷ [])) }
 {}
 
 /// HELLO is answered with the features that it asks for and no others, and what it sets holds for the

@@ -2,11 +2,11 @@
 
 ghost use Rattle.std.specs.Prelude.{ℕ, ◌≤◌, [], ◌∷◌};
 ghost use Rattle.transcript_law.specs.BoundRows.{LawfulHere};
-ghost use Rattle.transcript_law.specs.Chronicles.{after_dial, after_lines, empty_chronicle};
+ghost use Rattle.transcript_law.specs.Chronicles.{after_dial, empty_chronicle};
 ghost use Rattle.vb_types.specs.declared.change.Level.TheVariants as level;
 ghost use Rattle.transcript_law.specs.Contrary.{after_both_dead};
-ghost use Rattle.transcript_law.specs.Followers.{after_both, both_sent_lines, granted_inside};
-ghost use Rattle.transcript_law.specs.UndoneRows.{DownLeavesNone, LawfulPump, LawfulTake, acknowledged_too, back_at_one, granted_both, is_shut, lost, prepare_got, prepare_sent, puts_end, puts_first, puts_half, puts_none, regot, stands_to, takes_none, takes_to};
+ghost use Rattle.transcript_law.specs.Followers.{adopted_lines, after_both, both_sent_lines, granted_inside};
+ghost use Rattle.transcript_law.specs.UndoneRows.{DownLeavesNone, LawfulPump, LawfulTake, acknowledged_too, back_at_one, change_got, granted_both, is_shut, lost, next_marker, prepare_got, prepare_held, prepare_marked, prepare_saved, prepare_sent, puts_end, puts_first, puts_half, puts_none, regot, stands_to, takes_none, takes_to};
 ghost use Rattle.script_text.specs.declared.verb.Verb.TheVariants as verb;
 ghost use Rattle.script_text.specs.declared.verb.VbVerb.TheVariants as vb_verb;
 ghost use Rattle.vb_events.specs.declared.event.Answer.TheVariants as answer;
@@ -58,12 +58,17 @@ pub fn judged_idle_pumps()
 
 /// A replica that takes a prepare acknowledges it behind that, all up to it. None is due inside the
 /// prepare's snapshot, nor of level 3 while it is not saved, nor where the line tells that nothing was
-/// taken.
+/// taken. One that waits is due behind a log alone, behind the marker alone of a snapshot that begins at
+/// it, and behind its change alone; and of level 3 once it is saved.
 pub fn judged_dues()
     ensures acknowledged { DownLeavesNone (prepare_sent level.Majority 1) (acknowledged_too level.Majority 1) }
     ensures unacknowledged { DownLeavesNone (prepare_sent level.Majority 1) (prepare_got level.Majority 1) → ⊥ }
     ensures less { DownLeavesNone (prepare_sent level.Majority 1) (acknowledged_too level.Majority 0) → ⊥ }
     ensures inside { DownLeavesNone (prepare_sent level.Majority 2) (prepare_got level.Majority 2) }
     ensures unsaved { DownLeavesNone (prepare_sent level.PersistMajority 1) (prepare_got level.PersistMajority 1) }
-    ensures untaken { DownLeavesNone (after_lines (prepare_sent level.Majority 1) (prepare_got level.Majority 1)) [] }
+    ensures untaken { DownLeavesNone (prepare_held level.Majority) [] }
+    ensures log { DownLeavesNone (prepare_held level.Majority) (adopted_lines 5) → ⊥ }
+    ensures marker { DownLeavesNone (prepare_held level.Majority) next_marker → ⊥ }
+    ensures change { DownLeavesNone (prepare_marked level.Majority) (change_got level.Majority) → ⊥ }
+    ensures saved { DownLeavesNone (prepare_saved level.PersistMajority 1) (prepare_got level.PersistMajority 1) → ⊥ }
 {}

@@ -1,9 +1,10 @@
 -- what is outstanding behind a call was so before it, with the same entry, or is what a durable write placed
 use Rattle.std.specs.Prelude.{◌≡◌, ◌≢◌, ◌+◌, ◌==◌, ◌∷◌, ◌++◌, ◌⊎◌, if◌then◌else◌}
-use Rattle.transcript_law.proofs.Words.{ℕ, Bool, true, false, List, [], fold, refl, ap, sym, ◌∙◌, subst, arith, inl, inr, ⊎_elim, Some, None, All, All-nil, All-cons, All-append, Change, IsIn, Pend, Picture, Plain, VbCall, VbReply, Sound, Write}
+use Rattle.transcript_law.proofs.Words.{ℕ, Bool, true, false, List, [], fold, refl, ap, sym, ◌∙◌, subst, arith, inl, inr, ⊎_elim, Some, None, All, All-nil, All-cons, All-append, All-weaker, Change, IsIn, Pend, Picture, Plain, VbCall, VbReply, Sound, Write}
 use Rattle.transcript_law.proofs.Words.{applied, doc_at, eqb-false, growth, image_in, image_of, is_follower, is_older, key_cmp, led, new_cas, new_rev, plain_step, write_change, written_doc}
 use Rattle.transcript_law.proofs.invariant.Waiting.{IsFrom, made_by}
-use Rattle.durability.specs.{Chains.{is_possible}, Laws.{Waits}, Outstanding.{late}, declared.waiting.Waiting.{Waiting}}
+use Rattle.branch_model.proofs.Lists.{in_left, in_right}
+use Rattle.durability.specs.{Chains.{is_possible}, Laws.{IsLate, Waits}, Outstanding.{late}, declared.waiting.Waiting.{Waiting}}
 use Rattle.std.proofs.lemmas.Slice.Eq.{bytes_eq-Decides}
 use Rattle.std.specs.FinMap.{FinMap, get, remove}
 use Rattle.std.specs.Str.{bytes_eq}
@@ -155,14 +156,31 @@ lost_one Among w i = by (w.waiter == 0) refl
     by true e = All-nil (IsLost Among)
     by false e = All-cons (IsLost Among) o [] (record { w = w; among = i; number = refl; some = eqb-false w.waiter 0 e; how = refl }) (All-nil (IsLost Among))
 
--- some of a vBucket's prepares were given up: what is left was outstanding, and who waited for the others is told that nobody knows
-pub record Gave (vb : Plain) (s : Resolving) : Type 0 where
+pub lost_as : (A B : Waiting → Type 0) → ((w : Waiting) → A w → B w) → (o : Resolved) → IsLost A o → IsLost B o
+lost_as A B more o k = record { w = k.w; among = more k.w k.among; number = k.number; some = k.some; how = k.how }
+
+-- one of these changes is the abort of a prepare
+pub record HasAbort (changes : List Change) (w : Waiting) : Type 0 where
+  pub change : Change
+  pub there : IsIn change changes
+  pub key_is : change.key ≡ w.key
+  pub act_is : change.act ≡ act.Abort w.seq
+
+-- a prepare whose time was up was given up by one of these changes
+abbrev pub WasLate : ℕ → List Change → Waiting → Type 0
+WasLate clock changes w = HasAbort changes w × IsLate clock w
+
+pub late_more : (clock : ℕ) (cs ds : List Change) (w : Waiting) → WasLate clock cs w → WasLate clock (cs ++ ds) w
+late_more clock cs ds w (k, late) = (record { change = k.change; there = in_left k.change cs ds k.there; key_is = k.key_is; act_is = k.act_is }, late)
+
+-- some of a vBucket's prepares were given up, as their time was up: what is left was outstanding, and who waited for the others is told that nobody knows
+pub record Gave (vb : Plain) (clock : ℕ) (s : Resolving) : Type 0 where
   pub ascend : Ascend s.vb.waiting
   pub stood : (w : Waiting) (p : Pend) → IsOutstanding s.vb w p → IsOutstanding vb w p
-  pub told : All (IsLost (λ w. Waits w vb.waiting)) s.resolved
+  pub told : All (IsLost (λ w. Waits w vb.waiting × WasLate clock s.changes w)) s.resolved
 
-gave_one : (vb : Plain) (w : Waiting) (s : Resolving) → Waits w vb.waiting → Gave vb s → Gave vb (aborted s w)
-gave_one vb w s i g = by (has_seqno s.vb)
+gave_one : (vb : Plain) (clock : ℕ) (w : Waiting) (s : Resolving) → Waits w vb.waiting → IsLate clock w → Gave vb clock s → Gave vb clock (aborted s w)
+gave_one vb clock w s i up g = by (has_seqno s.vb)
   where
     change : Change
     change = resolving_change s.vb w (act.Abort w.seq)
@@ -179,21 +197,29 @@ gave_one vb w s i g = by (has_seqno s.vb)
           same = o.same;
         })
 
-    by : (b : Bool) → Gave vb (if b then next else s)
+    Among : List Change → Waiting → Type 0
+    Among cs v = Waits v vb.waiting × WasLate clock cs v
+
+    own : WasLate clock next.changes w
+    own = (record { change = change; there = in_right change s.changes (change ∷ []) (inl refl); key_is = refl; act_is = refl }, up)
+
+    by : (b : Bool) → Gave vb clock (if b then next else s)
     by true = record {
       ascend = (gone w.seq s.vb.waiting g.ascend).ascend;
       stood = stood;
-      told = All-append (IsLost (λ x. Waits x vb.waiting)) s.resolved (outcome_for w.waiter resolution.Ambiguous) g.told (lost_one (λ x. Waits x vb.waiting) w i);
+      told = All-append (IsLost (Among next.changes)) s.resolved (outcome_for w.waiter resolution.Ambiguous)
+          (All-weaker (IsLost (Among s.changes)) (IsLost (Among next.changes)) (lost_as (Among s.changes) (Among next.changes) (λ v x. (x.0, late_more clock s.changes (change ∷ []) v x.1))) s.resolved g.told)
+          (lost_one (Among next.changes) w (i, own));
     }
     by false = g
 
-gave_all : (vb : Plain) (todo : List Waiting) (s : Resolving) → ((w : Waiting) → Waits w todo → Waits w vb.waiting) → Gave vb s → Gave vb (fold aborted s todo)
-gave_all vb [] s among g = g
-gave_all vb (w ∷ todo) s among g = gave_all vb todo (aborted s w) (λ v i. among v (inr i)) (gave_one vb w s (among w (inl refl)) g)
+gave_all : (vb : Plain) (clock : ℕ) (todo : List Waiting) (s : Resolving) → ((w : Waiting) → Waits w todo → Waits w vb.waiting × IsLate clock w) → Gave vb clock s → Gave vb clock (fold aborted s todo)
+gave_all vb clock [] s among g = g
+gave_all vb clock (w ∷ todo) s among g = let here = among w (inl refl) in gave_all vb clock todo (aborted s w) (λ v i. among v (inr i)) (gave_one vb clock w s here.0 here.1 g)
 
 -- those whose time is up
-pub gave_late : (vb : Plain) (clock : ℕ) → Sound vb → Gave vb (expired clock vb)
-gave_late vb clock s = gave_all vb (late clock vb.waiting) (unresolved vb) (λ w i. (in_late clock vb.waiting w i).0) (record { ascend = s.waits.ascend; stood = λ w p o. o; told = All-nil (IsLost (λ w. Waits w vb.waiting)) })
+pub gave_late : (vb : Plain) (clock : ℕ) → Sound vb → Gave vb clock (expired clock vb)
+gave_late vb clock s = gave_all vb clock (late clock vb.waiting) (unresolved vb) (λ w i. in_late clock vb.waiting w i) (record { ascend = s.waits.ascend; stood = λ w p o. o; told = All-nil (IsLost (λ w. Waits w vb.waiting × WasLate clock [] w)) })
 
 -- ---- each call
 

@@ -5,7 +5,7 @@ use Rattle.std.specs.Prelude.{◌≡◌, ◌≤◌, ◌&&◌, if◌then◌else�
 use Rattle.client_session.specs.declared.session.Awaited.{Awaited}
 use Rattle.node_core.specs.Clients.{PlainClient}
 use Rattle.transcript_law.proofs.answers.Rests.{none_asked}
-use Rattle.transcript_law.proofs.invariant.{Begun.{ServesOpen}, ClientWorlds.{ConnsAre, open_then}, ClientsTold.{ClientAgrees}, Holdings.{vb_of}, Owing.{ConnOwed, IsIdle, IsToldIn, Owed, OwedIf}, Ranged.{IsRanged, NodeRangedIf, SessionRangedIf}, Sessions.{SessionRanged, awaited_numbered}}
+use Rattle.transcript_law.proofs.invariant.{Begun.{ServesOpen}, ClientWorlds.{ConnsAre, open_then}, ClientsTold.{ClientAgrees}, Holdings.{vb_of}, Owing.{ConnOwed, IsIdle, IsWaitOf, Owed, OwedIf}, Ranged.{IsRanged, NodeRangedIf, SessionRangedIf}, Sessions.{SessionRanged, awaited_numbered}}
 use Rattle.transcript_law.specs.{Feeding.{client_in}, LinesTold.{ClientsKnown, Conns, LastLine, OwnChange, served_then, told_for, with_served}, Questions.{Question, question_of}, StreamsTold.{Asking}}
 
 -- a connection's session is in its limits
@@ -26,7 +26,7 @@ serves_open (Some l) clients made conns line e n c shut =
 -- a group ends, where no frame is in hand
 module _ (w : PlainWorld) (r : Chronicle) (conns : Conns) (ranged : IsRanged w) (are : ConnsAre w conns) (c : Cluster) (a : AgreesIn idle w r c) where
   abbrev ended : Chronicle
-  ended = record r { last = with_served r.last r.clients_at conns r.made; conn_at = conns; made = []; ticks = None }
+  ended = record r { last = with_served r.last r.clients_at conns r.made; conn_at = conns; made = []; ticks = None; changed = false }
 
   conn_ended : (line : LastLine) (n d : ℕ) (client : PlainClient) → client_in (w.nodes n) d ≡ Some client → ClientAgrees w r n d client → ConnOwed line n d r.made (vb_of w n) (r.clients_at n d).asking client.session
       → ConnOwed (record line { served = λ m e. served_then (conns m e) (line.served m e) (r.clients_at m e).asking r.made }) n d [] (vb_of w n) (r.clients_at n d).asking client.session
@@ -36,8 +36,8 @@ module _ (w : PlainWorld) (r : Chronicle) (conns : Conns) (ranged : IsRanged w) 
     number = x.number;
     past = x.past;
     own = λ b q v y p waits asks owing same.
-        let k = x.own b q v y p waits asks owing same in
-        (k.0, subst (λ o. IsToldIn n v y p (told_for o asking.answered [])) (sym (entered_then q asks)) (subst (λ t. IsToldIn n v y p (if t then told_for (line.served n d) asking.answered r.made else [])) (sym (eq-eqb asking.answered asking.answered refl)) k.1));
+        let Own : List OwnChange → Type 0 = IsWaitOf n asking.settings q.frame v y p in
+        subst (λ o. Own (told_for o asking.answered [])) (sym (entered_then q asks)) (subst (λ t. Own (if t then told_for (line.served n d) asking.answered r.made else [])) (sym (eq-eqb asking.answered asking.answered refl)) (x.own b q v y p waits asks owing same));
     unserved = λ none told. ap (λ o. told_for o asking.answered told) (not_asked (by client.session.awaited refl none));
     upto = λ k told e. upto (conns n d) (question_of asking) k told e;
   }

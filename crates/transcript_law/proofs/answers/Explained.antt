@@ -1,21 +1,27 @@
--- each outcome that a call tells is of a prepare that was outstanding, or is its own; and where it is committed, its commit is among the changes of the reply
-use Rattle.std.specs.Prelude.{◌≡◌, ◌≢◌, ◌+◌, ◌<◌, ◌^◌, ◌==◌, ◌∷◌, ◌++◌, cond}
-use Rattle.transcript_law.proofs.Words.{ℕ, Bool, true, false, List, [], length, refl, ap, sym, ◌∙◌, subst, arith, inl, inr, ⊎_elim, Some, All, All-nil, All-cons, All-head, All-tail, All-append, All-weaker, option_map}
-use Rattle.transcript_law.proofs.Words.{Change, Doc, IsIn, Pend, Plain, VbCall, VbReply, Sound, Write, doc_at, eqb-true, eqb-false, length-append, new_cas, new_rev, newest_branch, plain_step, written_doc}
-use Rattle.transcript_law.proofs.answers.Awaited.{IsLost, IsOutstanding, IsPlaced, Stood, committed_one, entry_of, gave_late, lost_one, start_stood}
+-- each outcome that a call tells behind which all is committed that may be is of a prepare that was outstanding, or is its own; and its commit is among the changes of the reply, or its abort, as its time was up
+use Rattle.std.specs.Prelude.{◌≡◌, ◌≢◌, ◌+◌, ◌==◌, ◌∷◌, ◌++◌, cond, if◌then◌else◌}
+use Rattle.transcript_law.proofs.Words.{ℕ, Bool, true, false, List, [], length, refl, ap, sym, ◌∙◌, subst, arith, inl, inr, Some, None, All, All-nil, All-cons, All-head, All-tail, All-append, All-weaker, option_map}
+use Rattle.transcript_law.proofs.Words.{Change, IsIn, Pend, Plain, Role, VbCall, VbReply, Sound, Write, doc_at, eqb-true, eqb-false, is_active, is_role, length-append, new_cas, new_rev, newest_branch, written_doc}
+use Rattle.transcript_law.proofs.answers.Awaited.{IsLost, IsOutstanding, IsPlaced, Stood, WasLate, committed_one, entry_of, gave_late, late_more, lost_as, start_stood}
+use Rattle.branch_model.proofs.Lists.{in_right}
 use Rattle.client_session.specs.Serving.{outcome_of}
 use Rattle.durability.specs.{Laws.{Waits}, declared.waiting.Waiting.{Waiting}}
 use Rattle.std.specs.List.{find}
 use Rattle.vb_calls.specs.Durable.{is_delete}
-use Rattle.vb_calls.specs.Settling.{and_settled, given_up, outcome_for}
+use Rattle.vb_calls.specs.Following.{log_lacks}
+use Rattle.vb_calls.specs.Roles.{is_heir, promote_refusal}
+use Rattle.vb_calls.specs.Settling.{and_settled, given_up}
 use Rattle.vb_calls.specs.declared.calls.Resolution.{Resolution}
 use Rattle.vb_calls.specs.declared.calls.Resolution.TheVariants.{Ambiguous, Committed}
 use Rattle.vb_calls.specs.declared.calls.Resolved.{Resolved}
 use Rattle.vb_calls.specs.declared.calls.VbCall.TheVariants as call
 use Rattle.vb_types.specs.declared.change.Act.TheVariants.{Commit}
 use Rattle.vb_types.specs.declared.change.Level.{Level}
+use Rattle.vb_types.specs.declared.role.Role.TheVariants.{Active, Pending}
+use Rattle.vb_types.specs.declared.status.Status.TheVariants.{Einval, NotMyVbucket}
+use Rattle.vbucket.proofs.Backing.{none_idle}
 use Rattle.vbucket.proofs.Committing.{commits}
-use Rattle.vbucket.proofs.RowIs.{RowIs, StartIs, Adopts, Chains, Counts, Expires, Flushes, Inherits, Leads, Marks, Prepares, Receives, Rolls, Saves, Seals, Settles, Streams, Tells, Turns, Writes, Yields, row_is}
+use Rattle.vbucket.proofs.RowIs.{StartIs, Chains, Counts, Expires, Inherits, Leads, Prepares, Saves}
 use Rattle.vbucket.proofs.Soundness.{start_sound}
 use Rattle.vbucket.specs.Committing.{Commits, CommitsAll}
 use Rattle.vbucket.specs.Laws.{IsTimely}
@@ -31,7 +37,12 @@ pub record HasCommit (changes : List Change) (w : Waiting) (p : Pend) (seq cas :
   pub act_is : change.act ≡ Commit w.seq p.doc p.deleted
   pub cas_is : p.doc.cas ≡ cas
 
--- an outcome of a call, with the branch and the changes of its reply: somebody waits for it, under the number of a prepare that was outstanding or that the call placed; and where it is committed, that is on this branch, and by one of these changes
+-- a call by which time goes on gave up this one, by one of these changes; any other call that leaves a vBucket active gives up none
+abbrev pub GivesUp : VbCall → List Change → Waiting → Type 0
+GivesUp (call.Tick clock) changes w = WasLate clock changes w
+GivesUp other changes w = ⊥
+
+-- an outcome of a call behind which all is committed that may be, with the branch and the changes of its reply: somebody waits for it, under the number of a prepare that was outstanding or that the call placed; and where it is committed, that is on this branch, and by one of these changes, and else it was given up
 pub record IsExplained (vb : Plain) (made : VbCall) (branch : ℕ) (changes : List Change) (o : Resolved) : Type 0 where
   pub w : Waiting
   pub p : Pend
@@ -39,27 +50,44 @@ pub record IsExplained (vb : Plain) (made : VbCall) (branch : ℕ) (changes : Li
   pub number : w.waiter ≡ o.waiter
   pub some : o.waiter ≢ 0
   pub commits : (uuid seq cas : ℕ) → o.how ≡ Committed uuid seq cas → (uuid ≡ branch) × HasCommit changes w p seq cas
+  pub lost : o.how ≡ Ambiguous → GivesUp made changes w
 
 -- ---- outcomes that nobody knows
 
-lost_explained : (vb : Plain) (made : VbCall) (branch : ℕ) (changes : List Change) → Sound vb → (o : Resolved) → IsLost (λ w. Waits w vb.waiting) o → IsExplained vb made branch changes o
+lost_explained : (vb : Plain) (made : VbCall) (branch : ℕ) (changes : List Change) → Sound vb → (o : Resolved) → IsLost (λ w. Waits w vb.waiting × GivesUp made changes w) o → IsExplained vb made branch changes o
 lost_explained vb made branch changes s o k =
-    let e = entry_of vb s k.w k.among in
-    record { w = k.w; p = e.0; stood = inl e.1; number = k.number; some = k.some; commits = λ uuid seq cas is. let z : Ambiguous ≡ Committed uuid seq cas = sym k.how ∙ is in cc }
+    let e = entry_of vb s k.w k.among.0 in
+    record { w = k.w; p = e.0; stood = inl e.1; number = k.number; some = k.some; commits = λ uuid seq cas is. (let z : Ambiguous ≡ Committed uuid seq cas = sym k.how ∙ is in cc); lost = λ is. k.among.1 }
 
-lost_all : (Among : Waiting → Type 0) (ws : List Waiting) → ((w : Waiting) → Waits w ws → Among w) → All (IsLost Among) (given_up ws)
-lost_all Among [] among = All-nil (IsLost Among)
-lost_all Among (w ∷ ws) among = All-append (IsLost Among) (outcome_for w.waiter Ambiguous) (given_up ws) (lost_one Among w (among w (inl refl))) (lost_all Among ws (λ v i. among v (inr i)))
+-- what was given up by some changes was so by more
+gives_more : (made : VbCall) (cs ds : List Change) (w : Waiting) → GivesUp made cs w → GivesUp made (cs ++ ds) w
+gives_more (call.Tick clock) cs ds w g = late_more clock cs ds w g
+gives_more other cs ds w g = absurd g
+
+-- one that becomes active was not, so nothing was outstanding
+none_led : (vb : Plain) (uuid : ℕ) → promote_refusal vb uuid ≡ None → is_active vb.role ≡ false
+none_led vb uuid free = by (is_active vb.role) refl free
+  where
+    by : (b : Bool) → is_active vb.role ≡ b → (if b then Some NotMyVbucket else if uuid == 0 then Some Einval else if log_lacks vb.log uuid then None else Some Einval) ≡ None → b ≡ false
+    by true e k = cc
+    by false e k = refl
+
+none_heir : (r : Role) (heir : Bool) → (if is_role r Pending then (if heir then None else Some Einval) else Some NotMyVbucket) ≡ None → is_active r ≡ false
+none_heir Active heir k = cc
+none_heir other heir k = refl
+
+none_lost : (A : Waiting → Type 0) (vb : Plain) → is_active vb.role ≡ false → Sound vb → All (IsLost A) (given_up vb.waiting)
+none_lost A vb off s = subst (λ ws. All (IsLost A) (given_up ws)) (sym (none_idle vb.role vb.waiting off s.waits.only)) (All-nil (IsLost A))
 
 -- how a call begins tells only such
-start_lost : (vb : Plain) {made : VbCall} {start : Plain × VbReply} → StartIs vb made start → Sound vb → All (IsLost (λ w. Waits w vb.waiting)) start.1.resolved
-start_lost vb (Prepares write clock wish free) s = All-nil (IsLost (λ w. Waits w vb.waiting))
-start_lost vb (Chains chain on) s = All-nil (IsLost (λ w. Waits w vb.waiting))
-start_lost vb (Counts member seq on) s = All-nil (IsLost (λ w. Waits w vb.waiting))
+start_lost : (vb : Plain) {made : VbCall} {start : Plain × VbReply} → StartIs vb made start → Sound vb → All (IsLost (λ w. Waits w vb.waiting × GivesUp made start.1.changes w)) start.1.resolved
+start_lost vb (Prepares write clock wish free) s = All-nil (IsLost _)
+start_lost vb (Chains chain on) s = All-nil (IsLost _)
+start_lost vb (Counts member seq on) s = All-nil (IsLost _)
 start_lost vb (Expires clock on) s = (gave_late vb clock s).told
-start_lost vb (Saves seq) s = All-nil (IsLost (λ w. Waits w vb.waiting))
-start_lost vb (Leads uuid free) s = lost_all (λ w. Waits w vb.waiting) vb.waiting (λ w i. i)
-start_lost vb (Inherits free) s = lost_all (λ w. Waits w vb.waiting) vb.waiting (λ w i. i)
+start_lost vb (Saves seq) s = All-nil (IsLost _)
+start_lost vb (Leads uuid free) s = none_lost _ vb (none_led vb uuid free) s
+start_lost vb (Inherits free) s = none_lost _ vb (none_heir vb.role (is_heir vb) free) s
 
 -- ---- commits behind a call
 
@@ -114,21 +142,17 @@ commits_tell vb after (c ∷ cs) told k = by (k.0.waiter == 0) refl (All-weaker 
 
 -- ---- each call
 
-in_behind : (c : Change) (xs cs : List Change) → IsIn c cs → IsIn c (xs ++ cs)
-in_behind c [] cs i = i
-in_behind c (x ∷ xs) cs i = inr (in_behind c xs cs i)
-
 -- with one of these behind them they are others
 longer : (c : Change) (xs cs : List Change) → IsIn c cs → xs ++ cs ≢ xs
 longer c xs [] i e = i
 longer c xs (d ∷ cs) i e = let l = length-append xs (d ∷ cs) in let k = ap length e in let m : length xs + (length cs + 1) ≡ length xs = omega arith in omega arith
 
-settled_explained : (vb : Plain) (made : VbCall) (start : Plain × VbReply) → Sound vb → Sound start.0 → ((w : Waiting) (p : Pend) → w.waiter ≢ 0 → IsOutstanding start.0 w p → Stood vb made w p) → All (IsLost (λ w. Waits w vb.waiting)) start.1.resolved
+settled_explained : (vb : Plain) (made : VbCall) (start : Plain × VbReply) → Sound vb → Sound start.0 → ((w : Waiting) (p : Pend) → w.waiter ≢ 0 → IsOutstanding start.0 w p → Stood vb made w p) → All (IsLost (λ w. Waits w vb.waiting × GivesUp made start.1.changes w)) start.1.resolved
     → All (IsExplained vb made (and_settled start).1.branch (and_settled start).1.changes) (and_settled start).1.resolved
 settled_explained vb made start s sound stood lost =
     subst (All Explained) (sym k.commits.4)
     (All-append Explained start.1.resolved k.commits.1
-    (All-weaker (IsLost (λ w. Waits w vb.waiting)) Explained (lost_explained vb made (and_settled start).1.branch (and_settled start).1.changes s) start.1.resolved lost)
+    (All-weaker (IsLost (Among start.1.changes)) Explained (λ o l. lost_explained vb made (and_settled start).1.branch (and_settled start).1.changes s o (lost_as (Among start.1.changes) (Among (and_settled start).1.changes) more o l)) start.1.resolved lost)
     (All-weaker (IsTold start.0 k.commits.0) Explained told k.commits.1 (commits_tell start.0 (and_settled start).0 k.commits.0 k.commits.1 k.commits.2)))
   where
     k : Commits start (and_settled start)
@@ -136,6 +160,12 @@ settled_explained vb made start s sound stood lost =
 
     Explained : Resolved → Type 0
     Explained = IsExplained vb made (and_settled start).1.branch (and_settled start).1.changes
+
+    Among : List Change → Waiting → Type 0
+    Among cs w = Waits w vb.waiting × GivesUp made cs w
+
+    more : (w : Waiting) → Among start.1.changes w → Among (and_settled start).1.changes w
+    more w (i, g) = (i, subst (λ cs. GivesUp made cs w) (sym k.commits.3) (gives_more made start.1.changes k.commits.0 w g))
 
     told : (o : Resolved) → IsTold start.0 k.commits.0 o → Explained o
     told o t = record {
@@ -152,32 +182,19 @@ settled_explained vb made start s sound stood lost =
             sym branch ∙ sym (k.branch.1 (λ e. longer t.commit.change start.1.changes k.commits.0 t.commit.there (sym k.commits.3 ∙ e))),
             record {
               change = t.commit.change;
-              there = subst (IsIn t.commit.change) (sym k.commits.3) (in_behind t.commit.change start.1.changes k.commits.0 t.commit.there);
+              there = subst (IsIn t.commit.change) (sym k.commits.3) (in_right t.commit.change start.1.changes k.commits.0 t.commit.there);
               seq_is = t.commit.seq_is ∙ seqno;
               key_is = t.commit.key_is;
               act_is = t.commit.act_is;
               cas_is = stamp;
             },
           );
+      lost = λ is. let z : Committed (newest_branch start.0.log) t.seq t.p.doc.cas ≡ Ambiguous = sym t.how ∙ is in cc;
     }
 
-row_explained : (vb : Plain) {made : VbCall} {after : Plain × VbReply} → RowIs vb made after → Sound vb → IsTimely made → All (IsExplained vb made after.1.branch after.1.changes) after.1.resolved
-row_explained vb (Tells c said) s t = All-nil (IsExplained vb _ _ _)
-row_explained vb (Streams c streams said is) s t = All-nil (IsExplained vb _ _ _)
-row_explained vb (Adopts log f) s t = All-nil (IsExplained vb _ _ _)
-row_explained vb (Marks start end f fits) s t = All-nil (IsExplained vb _ _ _)
-row_explained vb (Seals was) s t = All-nil (IsExplained vb _ _ _)
-row_explained vb (Flushes x e) s t = All-nil (IsExplained vb _ _ _)
-row_explained vb (Writes write clock free) s t = All-nil (IsExplained vb _ _ _)
-row_explained vb (Receives c a f next is) s t = All-nil (IsExplained vb _ _ _)
-row_explained vb (Settles c start is) s t = settled_explained vb c start s (start_sound vb is s t) (start_stood vb is s) (start_lost vb is s)
-row_explained vb (Rolls at image cas f) s t = All-nil (IsExplained vb _ _ _)
-row_explained vb (Turns c new loud idle) s t = All-weaker (IsLost (λ w. Waits w vb.waiting)) (IsExplained vb c 0 []) (lost_explained vb c 0 [] s) (given_up vb.waiting) (lost_all (λ w. Waits w vb.waiting) vb.waiting (λ w i. i))
-row_explained vb (Yields id stream on at) s t = All-weaker (IsLost (λ w. Waits w vb.waiting)) (IsExplained vb _ 0 []) (lost_explained vb _ 0 [] s) (given_up vb.waiting) (lost_all (λ w. Waits w vb.waiting) vb.waiting (λ w i. i))
-
--- each outcome of a call
-pub explained : (vb : Plain) (made : VbCall) → Sound vb → IsTimely made → All (IsExplained vb made (plain_step vb made).1.branch (plain_step vb made).1.changes) (plain_step vb made).1.resolved
-explained vb made s t = row_explained vb (row_is vb made) s t
+-- each outcome of a call behind which all is committed that may be
+pub explained : (vb : Plain) {made : VbCall} {start : Plain × VbReply} → StartIs vb made start → Sound vb → IsTimely made → All (IsExplained vb made (and_settled start).1.branch (and_settled start).1.changes) (and_settled start).1.resolved
+explained vb {made} {start} is s t = settled_explained vb made start s (start_sound vb is s t) (start_stood vb is s) (start_lost vb is s)
 
 -- ---- by what was written
 
@@ -188,31 +205,6 @@ pub record IsPrepareOf (write : Write) (w : Waiting) (p : Pend) : Type 0 where
   pub rev : ℕ
   pub doc_is : p.doc ≡ written_doc write cas rev
   pub deleted_is : p.deleted ≡ is_delete write.op
-
--- one of these changes, with this seqno, commits a write with this CAS
-pub record CommitsWrite (changes : List Change) (write : Write) (seq cas : ℕ) : Type 0 where
-  pub change : Change
-  pub there : IsIn change changes
-  pub seq_is : change.seq ≡ seq
-  pub key_is : change.key ≡ write.key
-  pub prepared : ℕ
-  pub rev : ℕ
-  pub act_is : change.act ≡ Commit prepared (written_doc write cas rev) (is_delete write.op)
-
--- what commits a write's prepare commits the write
-pub commits_write : (changes : List Change) (write : Write) (w : Waiting) (p : Pend) (seq cas : ℕ) → IsPrepareOf write w p → HasCommit changes w p seq cas → CommitsWrite changes write seq cas
-commits_write changes write w p seq cas f k =
-    let stamp : f.cas ≡ cas = sym (ap (λ (d : Doc). d.cas) f.doc_is) ∙ k.cas_is in
-    let doc : p.doc ≡ written_doc write cas f.rev = f.doc_is ∙ ap (λ n. written_doc write n f.rev) stamp in
-    record {
-      change = k.change;
-      there = k.there;
-      seq_is = k.seq_is;
-      key_is = k.key_is ∙ f.key_is;
-      prepared = w.seq;
-      rev = f.rev;
-      act_is = k.act_is ∙ ap (λ d. Commit w.seq d p.deleted) doc ∙ ap (Commit w.seq (written_doc write cas f.rev)) f.deleted_is;
-    }
 
 -- a durable write places its own prepare
 pub placed_of : (vb : Plain) (write : Write) (clock : ℕ) (level : Level) (deadline waiter : ℕ) (w : Waiting) (p : Pend) → IsPlaced vb (call.Durable write clock level deadline waiter) w p → IsPrepareOf write w p × (w.waiter ≡ waiter)
@@ -241,15 +233,3 @@ outcome_in P waiter how (o ∷ more) all e = by (o.waiter == waiter) refl e (out
     by : (b : Bool) → (o.waiter == waiter) ≡ b → option_map (λ (r : Resolved). r.how) (cond b (Some o) (find (λ r. r.waiter == waiter) more)) ≡ Some how → (outcome_of waiter more ≡ Some how → IsOutcome P waiter how) → IsOutcome P waiter how
     by true q k rest = record { o = o; is = All-head P o more all; number = eqb-true o.waiter waiter q; how_is = cc }
     by false q k rest = rest k
-
--- where a durable write's outcome is told at once, and its number was no other's, its own commit is among the changes of the reply
-pub committed_at_once : (vb : Plain) (write : Write) (clock : ℕ) (level : Level) (deadline waiter : ℕ) (uuid seq cas : ℕ) → Sound vb → clock < 2 ^ 64 → ((x : Waiting) → Waits x vb.waiting → x.waiter ≡ waiter → ⊥)
-    → outcome_of waiter (plain_step vb (call.Durable write clock level deadline waiter)).1.resolved ≡ Some (Committed uuid seq cas)
-    → (uuid ≡ (plain_step vb (call.Durable write clock level deadline waiter)).1.branch) × CommitsWrite (plain_step vb (call.Durable write clock level deadline waiter)).1.changes write seq cas
-committed_at_once vb write clock level deadline waiter uuid seq cas s t none e =
-    let made = call.Durable write clock level deadline waiter in
-    let after = (plain_step vb made).1 in
-    let k = outcome_in (IsExplained vb made after.branch after.changes) waiter (Committed uuid seq cas) after.resolved (explained vb made s t) e in
-    let c = k.is.commits uuid seq cas k.how_is in
-    let own : IsPrepareOf write k.is.w k.is.p = ⊎_elim (λ b. absurd (none k.is.w b.among (k.is.number ∙ k.number))) (λ b. (placed_of vb write clock level deadline waiter k.is.w k.is.p b).0) k.is.stood in
-    (c.0, commits_write after.changes write k.is.w k.is.p seq cas own c.1)

@@ -1,33 +1,34 @@
 -- what a client's session answers fits what the lines tell of the vBucket that was asked
 use Rattle.std.specs.Prelude.{◌≡◌, ◌<◌, ◌≤◌, ◌+◌, ◌^◌, ◌∷◌, ◌++◌, if◌then◌else◌, length, nat_lt, not}
 use Rattle.std.specs.FinMap as finite
-use Rattle.transcript_law.proofs.Words.{ℕ, Bool, true, false, List, [], refl, ap, sym, ◌∙◌, subst, inl, inr, arith, nat_tests, Option, Some, None, Ok, Frame, RESPONSE, KvRequest, Change, Doc, Pend, Picture, Plain, PlainWorld, Role, Status, Write, Chronicle, VbAnswer}
+use Rattle.transcript_law.proofs.Words.{ℕ, Bool, true, false, List, [], refl, ap, sym, ◌∙◌, subst, inl, inr, ⊎_elim, arith, nat_tests, Option, Some, None, Ok, Frame, RESPONSE, KvRequest, Change, Doc, Pend, Picture, Plain, PlainWorld, Role, Status, Write, Chronicle, VbAnswer}
 use Rattle.transcript_law.proofs.Words.{doc_at, image_in, image_of, is_active, new_rev, refusal_reply, write_change}
 use Rattle.client_session.specs.Rows.{seqno_part}
-use Rattle.transcript_law.proofs.{answers.{Committed.{CommitTold, HowTold}, Explained.{IsPrepareOf}}, disks.Absent.{nothing_here}, invariant.Agreement.{Agrees, AgreesAt, VbAgrees, active_counts, image_is, is_down, power_of, vb_of}, invariant.Lefts.{AreLeftExactly, left_exactly}, invariant.Seats.{seat}}
-use Rattle.transcript_law.specs.{Chronicles.{rested, resting}, LawfulAnswers.{AllDurable, IsImpossibleFirst, IsOutcome, FitsBy, FitsDurable, FitsFrame, FitsGet, FitsRequest, FitsWrite, IsCommitted, IsLeftUndone, IsLocked, IsMade, IsRefused, IsStatus, IsWhyRefused, LacksMajority, LacksSeqnos}, LawfulClients.{IsActive}, LawfulMessages.{Moment}, LinesTold.{OwnChange}}
+use Rattle.transcript_law.proofs.{answers.{Committed.{CommitTold, HowTold, LostTold}, Explained.{IsPrepareOf}}, disks.Absent.{nothing_here}, invariant.Agreement.{Agrees, AgreesAt, VbAgrees, active_counts, image_is, is_down, power_of, vb_of}, invariant.Lefts.{AreLeftExactly, left_exactly}, invariant.Seats.{seat}}
+use Rattle.transcript_law.specs.{Chronicles.{rested, resting}, LawfulAnswers.{AllDurable, IsImpossibleFirst, FitsBy, FitsDurable, FitsFrame, FitsGet, FitsRequest, FitsWrite, IsCommitted, IsLeftUndone, IsLocked, IsMade, IsRefused, IsStatus, IsUnsure, IsWhyRefused, LacksMajority, LacksSeqnos, HavePassed, PreparesIn, IsOutcome}, LawfulClients.{IsActive}, LawfulMessages.{Moment}, LinesTold.{OwnChange}}
 use Rattle.branch_model.specs.{Histories.{last_seq}, Journals.{role_of}}
 use Rattle.client_session.specs.Answers.{found_reply, reply_to, status_reply, stored_reply, value_reply}
-use Rattle.client_session.specs.Serving.{is_dcp, outcome_reply}
+use Rattle.client_session.specs.Serving.{deadline_of, is_dcp, outcome_reply}
 use Rattle.client_session.specs.declared.session.{Awaited.{Awaited}, Settings.{Settings}}
 use Rattle.durability.specs.Chains.{Members, is_possible}
-use Rattle.durability.specs.declared.waiting.Waiting.{Waiting}
+use Rattle.durability.specs.{Laws.{IsLate}, declared.waiting.Waiting.{Waiting}}
 use Rattle.vb_types.specs.declared.change.Act.TheVariants as act
 use Rattle.mcbp_kv.proofs.{Asked.{passed}, Shapes.{each_code}}
 use Rattle.mcbp_kv.specs.{Answers.{IsFound, IsWelcome}, Features.{feature_bytes}, Replies.{reply_frame}, Requests.{request_by, request_of}}
+use Rattle.mcbp_kv.specs.declared.durable.Durability.{Durability}
 use Rattle.mcbp_kv.specs.declared.feature.Feature.{Feature}
 use Rattle.mcbp_kv.specs.declared.opcodes.TheConstants.{GET, HELLO}
 use Rattle.mcbp_kv.specs.declared.reply.KvReply.{KvReply}
-use Rattle.mcbp_kv.specs.declared.request.KvRequest.TheVariants as request
 use Rattle.mcbp_kv.specs.declared.durable.Durability.{Durability}
-use Rattle.vb_calls.specs.{Durable.{durable_refusal}, State.{get_reply, get_row, is_left, pending_of}}
+use Rattle.mcbp_kv.specs.declared.request.KvRequest.TheVariants as request
+use Rattle.vb_calls.specs.{Durable.{durable_refusal, is_delete}, State.{get_reply, get_row, is_left, pending_of}}
 use Rattle.vb_calls.specs.Writes.{doc_refusal, key_refusal, lacks_seqnos, or_else, pending_refusal, store_refusal, written_doc}
 use Rattle.vb_calls.specs.declared.calls.Resolution.{Resolution}
 use Rattle.vb_calls.specs.declared.calls.Resolution.TheVariants as resolution
 use Rattle.vb_types.specs.declared.journal.Record.{Record}
 use Rattle.vb_types.specs.declared.position.TheConstants.{MAX_SEQ}
 use Rattle.vbucket.{proofs.Storing.{nothing_waits, said_none}, specs.Laws.{AreBacked, IsBacked}}
-use Rattle.transcript_law.proofs.invariant.Owing.{IsToldIn}
+use Rattle.transcript_law.proofs.{answers.Claims.{IsOwn}, verbs.Times.{passed_at}}
 
 -- ---- a vBucket as the lines tell it
 
@@ -297,12 +298,13 @@ let_by_doc : (vb : Plain) (write : Write) → store_refusal vb write ≡ None �
 let_by_doc vb write free =
     (nothing_waits vb.waiting (pending_of vb write.key) (doc_refusal write.op write.cas (doc_at vb write.key)) (said_none vb.role (lacks_seqnos vb 1) (key_refusal vb write) free)).1
 
-pub made_fits : (n v : ℕ) (held : List Change) (made : List OwnChange) (settings : Settings) (f : Frame) (vb : Plain) (write : Write) (cas branch : ℕ) (older : List OwnChange) (before : List Change)
-    → made ≡ record { node = n; vb = v; branch = branch; change = write_change vb write cas } ∷ older → AllDurable older → held ≡ before ++ write_change vb write cas ∷ [] → image_of before ≡ image_in vb
+pub made_fits : (n v : ℕ) (held : List Change) (made : List OwnChange) (settings : Settings) (f : Frame) (vb : Plain) (write : Write) (cas branch clock : ℕ) (older : List OwnChange) (before : List Change)
+    → made ≡ record { node = n; vb = v; branch = branch; change = write_change vb write cas; clock = clock } ∷ older → AllDurable older → held ≡ before ++ write_change vb write cas ∷ [] → image_of before ≡ image_in vb
     → store_refusal vb write ≡ None → IsMade n v held made settings write f (reply_frame (stored_reply settings f branch (write_change vb write cas).seq cas))
-made_fits n v held made settings f vb write cas branch older before last alone behind image free = record {
+made_fits n v held made settings f vb write cas branch clock older before last alone behind image free = record {
   branch = branch;
   change = write_change vb write cas;
+  clock = clock;
   older = older;
   last = last;
   alone = alone;
@@ -324,9 +326,21 @@ made_fits n v held made settings f vb write cas branch older before last alone b
 -- ---- outcomes of durable writes
 
 module _ (settings : Settings) (f : Frame) (a : Awaited) (code : a.opcode ≡ f.opcode) (number : a.opaque ≡ f.opaque) where
-  pub committed_fits : (n v : ℕ) (served : Option (List OwnChange)) (made : List OwnChange) (write : Write) (Claim : ℕ → Waiting → Pend → Type 0) (branch seq cas : ℕ) → ((told : List OwnChange) (u : ℕ) (x : Waiting) (p : Pend) → served ≡ Some told → x.waiter ≡ a.waiter → Claim u x p → (u ≡ v) × IsPrepareOf write x p × IsToldIn n u x p told)
-      → CommitTold n made Claim a.waiter branch seq cas → IsCommitted n v served made settings write f (reply_frame (outcome_reply settings a (resolution.Committed branch seq cas)))
-  committed_fits n v served made write Claim branch seq cas owns t = record {
+  -- what waits so is the prepare of the write, as it was told
+  abbrev named_of : (n v u : ℕ) (write : Write) (wish : Durability) (x : Waiting) (p : Pend) (told : List OwnChange) → u ≡ v → (is : IsPrepareOf write x p) → PreparesIn n u x.seq x.key wish.level p.doc p.deleted told → PreparesIn n v x.seq write.key wish.level (written_doc write is.cas is.rev) (is_delete write.op) told
+  named_of n v u write wish x p told at is named = record {
+    first = named.first;
+    among = named.among;
+    node = named.node;
+    vb = named.vb ∙ at;
+    seq = named.seq;
+    key = named.key ∙ is.key_is;
+    act = named.act ∙ ap (λ d. act.Prepare wish.level d p.deleted) is.doc_is ∙ ap (act.Prepare wish.level (written_doc write is.cas is.rev)) is.deleted_is;
+  }
+
+  pub committed_fits : (n v : ℕ) (served : Option (List OwnChange)) (made : List OwnChange) (write : Write) (wish : Durability) (Claim : ℕ → Waiting → Pend → Type 0) (branch seq cas : ℕ) → ((told : List OwnChange) (u : ℕ) (x : Waiting) (p : Pend) → served ≡ Some told → x.waiter ≡ a.waiter → Claim u x p → IsOwn n v write wish told u x p)
+      → CommitTold n made Claim a.waiter branch seq cas → IsCommitted n v served made settings write wish f (reply_frame (outcome_reply settings a (resolution.Committed branch seq cas)))
+  committed_fits n v served made write wish Claim branch seq cas owns t = record {
     one = t.one;
     told_before = t.among;
     here = t.here;
@@ -335,23 +349,14 @@ module _ (settings : Settings) (f : Frame) (a : Awaited) (code : a.opcode ≡ f.
     deleted = t.p.deleted;
     commits = t.commits;
     own = λ told rises.
-        let (at, is, named) = owns told t.one.vb t.x t.p rises t.number t.claim in record {
+        let (at, is, k) = owns told t.one.vb t.x t.p rises t.number t.claim in record {
           at = at;
           key = t.key_is ∙ is.key_is;
           prepared = t.x.seq;
           cas = is.cas;
           rev = is.rev;
           commits = t.commits ∙ ap (λ d. act.Commit t.x.seq d t.p.deleted) is.doc_is ∙ ap (act.Commit t.x.seq (written_doc write is.cas is.rev)) is.deleted_is;
-          names = record {
-            first = named.first;
-            among = named.among;
-            node = named.node;
-            vb = named.vb ∙ at;
-            seq = named.seq;
-            key = named.key ∙ is.key_is;
-            level = named.level;
-            act = named.act ∙ ap (λ d. act.Prepare named.level d t.p.deleted) is.doc_is ∙ ap (act.Prepare named.level (written_doc write is.cas is.rev)) is.deleted_is;
-          };
+          names = named_of n v t.one.vb write wish t.x t.p told at is k.named;
         };
     told = record {
       header = record { magic = refl; opcode = code; key = refl; datatype = refl; status = refl; opaque = number; framing = refl };
@@ -369,6 +374,29 @@ module _ (settings : Settings) (f : Frame) (a : Awaited) (code : a.opcode ≡ f.
     value = refl;
   }
 
+  -- what was given up so late was so once the time was over that was asked for
+  passed_by : (since timeout now : ℕ) (x : Waiting) → x.deadline ≡ Some (deadline_of since timeout) → IsLate now x → HavePassed timeout since now
+  passed_by since timeout now x due (deadline, is, low) =
+      let both : Some (deadline_of since timeout) ≡ Some deadline = sym due ∙ is in
+      let same : deadline_of since timeout ≡ deadline = cc in
+      passed_at since timeout now (subst (λ d. d ≤ now) (sym same) low)
+
+  pub unsure_fits : (n v : ℕ) (served : Option (List OwnChange)) (r : Chronicle) (write : Write) (wish : Durability) (Claim : ℕ → Waiting → Pend → Type 0) → ((told : List OwnChange) (u : ℕ) (x : Waiting) (p : Pend) → served ≡ Some told → x.waiter ≡ a.waiter → Claim u x p → IsOwn n v write wish told u x p)
+      → LostTold n r Claim a.waiter → IsUnsure n v served (r.role_at n v) r.made write wish f (reply_frame (outcome_reply settings a resolution.Ambiguous))
+  unsure_fits n v served r write wish Claim owns t = record {
+    said = ambiguous_fits;
+    own = λ told rises.
+        let (at, is, k) = owns told t.v t.x t.p rises t.number t.claim in record {
+          prepared = t.x.seq;
+          cas = is.cas;
+          rev = is.rev;
+          names = named_of n v t.v write wish t.x t.p told at is k.named;
+          lost = ⊎_elim
+              (λ off. inl (subst (λ u. IsActive (r.role_at n u) → ⊥) at off))
+              (λ g. inr (record { one = g.one; told_before = g.among; node = g.node; vb = g.vb ∙ at; key = g.key_is ∙ is.key_is; aborts = g.aborts; late = passed_by k.named.first.clock wish.timeout g.one.clock t.x k.due g.late })) t.lost;
+        };
+  }
+
 -- ---- each by what the lines tell
 
 -- a frame that is none of DCP's fits where its request does
@@ -380,20 +408,20 @@ module _ (r : Chronicle) (n v : ℕ) (settings : Settings) (f : Frame) (write : 
   pub write_away : (IsActive (r.role_at n v) → ⊥) → FitsWrite r n v settings write f (reply_frame (status_reply f Status.NotMyVbucket))
   write_away off = inl (refused_away (LacksSeqnos (r.held n v) 1) (r.role_at n v) (r.counts_at n v).risen (image_of (r.held n v)) write f off)
 
-  pub durable_away : (served : Option (List OwnChange)) → (IsActive (r.role_at n v) → ⊥) → FitsDurable served r n v settings write f (reply_frame (status_reply f Status.NotMyVbucket))
-  durable_away served off =
+  pub durable_away : (served : Option (List OwnChange)) (wish : Durability) → (IsActive (r.role_at n v) → ⊥) → FitsDurable served r n v settings write wish f (reply_frame (status_reply f Status.NotMyVbucket))
+  durable_away served wish off =
       let x = refused_away (LacksMajority (r.counts_at n v).chain (r.held n v)) (r.role_at n v) (r.counts_at n v).risen (image_of (r.held n v)) write f off in inl (x.0, x.1, x.2, λ on few. absurd (off on))
 
   -- its outcome
-  pub outcome_fits : (a : Awaited) (how : Resolution) (Claim : ℕ → Waiting → Pend → Type 0) → a.opcode ≡ f.opcode → a.opaque ≡ f.opaque → (served : Option (List OwnChange)) → ((told : List OwnChange) (u : ℕ) (x : Waiting) (p : Pend) → served ≡ Some told → x.waiter ≡ a.waiter → Claim u x p → (u ≡ v) × IsPrepareOf write x p × IsToldIn n u x p told)
-      → HowTold n r.made Claim (record { waiter = a.waiter; how = how }) → FitsDurable served r n v settings write f (reply_frame (outcome_reply settings a how))
-  outcome_fits a (resolution.Committed branch seq cas) Claim code number served owns told = inr (inl (committed_fits settings f a code number n v served r.made write Claim branch seq cas owns (told branch seq cas refl)))
-  outcome_fits a resolution.Ambiguous Claim code number served owns told = inr (inr (ambiguous_fits settings f a code number))
+  pub outcome_fits : (wish : Durability) (a : Awaited) (how : Resolution) (Claim : ℕ → Waiting → Pend → Type 0) → a.opcode ≡ f.opcode → a.opaque ≡ f.opaque → (served : Option (List OwnChange)) → ((told : List OwnChange) (u : ℕ) (x : Waiting) (p : Pend) → served ≡ Some told → x.waiter ≡ a.waiter → Claim u x p → IsOwn n v write wish told u x p)
+      → HowTold n r Claim (record { waiter = a.waiter; how = how }) → FitsDurable served r n v settings write wish f (reply_frame (outcome_reply settings a how))
+  outcome_fits wish a (resolution.Committed branch seq cas) Claim code number served owns told = inr (inl (committed_fits settings f a code number n v served r.made write wish Claim branch seq cas owns (told.committed branch seq cas refl)))
+  outcome_fits wish a resolution.Ambiguous Claim code number served owns told = inr (inr (unsure_fits settings f a code number n v served r write wish Claim owns (told.lost refl)))
 
 -- an outcome refuses nothing
 pub is_outcome : (settings : Settings) (f : Frame) (a : Awaited) (write : Write) (wish : Durability) → request_of settings.json f ≡ Ok (request.Write write (Some wish)) → (how : Resolution) → IsOutcome settings f (reply_frame (outcome_reply settings a how))
-is_outcome settings f a write wish asks (resolution.Committed branch seq cas) = (write, Some wish, asks, inl refl)
-is_outcome settings f a write wish asks resolution.Ambiguous = (write, Some wish, asks, inr refl)
+is_outcome settings f a write wish asks (resolution.Committed branch seq cas) = (write, wish, asks, inl refl)
+is_outcome settings f a write wish asks resolution.Ambiguous = (write, wish, asks, inr refl)
 
 -- beyond the last seqno
 beyond : (n : ℕ) → nat_lt MAX_SEQ n ≡ true → 2 ^ 48 < n
@@ -427,7 +455,7 @@ module _ (r : Chronicle) (n v : ℕ) (vb : Plain) (known : KnownAs r n v vb) whe
     pub refused_fits : (write : Write) (st : Status) → store_refusal vb write ≡ Some st → FitsWrite r n v settings write f (reply_frame (status_reply f st))
     refused_fits write st e = inl (st, status_fits f st, as_told (λ role image. IsWhyRefused (LacksSeqnos (r.held n v) 1) role risen image write st) (why_store vb risen known.lefts write st (r.held n v) (lacks 1) e))
 
-    pub durable_refused_fits : (served : Option (List OwnChange)) (write : Write) (st : Status) → durable_refusal vb write ≡ Some st → FitsDurable served r n v settings write f (reply_frame (status_reply f st))
-    durable_refused_fits served write st e =
+    pub durable_refused_fits : (served : Option (List OwnChange)) (write : Write) (wish : Durability) (st : Status) → durable_refusal vb write ≡ Some st → FitsDurable served r n v settings write wish f (reply_frame (status_reply f st))
+    durable_refused_fits served write wish st e =
         let chain : Members = (r.counts_at n v).chain in
         inl (st, status_fits f st, as_told (λ role image. IsWhyRefused (LacksMajority chain (r.held n v)) role risen image write st) (why_durable vb risen known.lefts write st chain (r.held n v) known.chain (lacks 2) e), subst (λ o. IsImpossibleFirst o chain st) (sym known.role) (first_durable vb risen known.lefts write st chain known.chain e))

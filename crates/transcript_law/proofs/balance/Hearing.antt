@@ -26,6 +26,7 @@ use Rattle.dcp_consumer.specs.declared.handshake.ConsumerStep.{ConsumerStep}
 use Rattle.dcp_consumer.specs.declared.handshake.ConsumerStep.TheVariants as step
 use Rattle.dcp_consumer.specs.declared.passive_stream.Passive.{Passive}
 use Rattle.dcp_consumer.specs.declared.passive_stream.Passive.TheVariants as passive
+use Rattle.transcript_law.proofs.lines.Calm.{state_always}
 use Rattle.dcp_consumer.specs.Counting.{counted_bytes, bytes_acknowledged}
 use Rattle.dcp_consumer.specs.Machine.{over_why, consumer_step, is_streaming, may_acknowledge}
 use Rattle.node_core.specs.Dials.{PlainDial, DialResult, untold, with_consumer, with_line, over_for, granted_with, is_done, adopt_result, acknowledged_result, saved_of_reply, due_of_reply, due_met, due_requested, go_on_with, follower_ask, again_result, rolled_line, rolled_back, roll_back, taken_as, message_result, call_made, passive_made, step_made, frame_taken, frames_taken, with_left, fault_met, is_over, bytes_counted, is_broken, with_end_line, rest_met, bytes_taken, dial_bytes, dial_due}
@@ -99,6 +100,7 @@ module _ (left : List ℕ) where
   step_keeps s (step.Roll point) kept = always_bind_job AnyReply AnyCall AnyAsk Any Keeps (roll_job s.dial.consumer.dialed.vb point) (λ came. lift (rolled_back point s came)) (any_job (roll_job s.dial.consumer.dialed.vb point))
       (λ came any. always_lift AnyReply AnyCall AnyAsk Keeps (rolled_back point s came) (rolled_keeps s point came kept))
   step_keeps s (step.Passive p) kept = always_lift AnyReply AnyCall AnyAsk Keeps (passive_made p s) (passive_keeps s p kept)
+  step_keeps s (step.State take opaque) kept = state_always Keeps (λ s new kept. kept) (λ s uuid changes kept. kept) (λ s opaque kept. kept) (λ s kept. kept) (λ s kept. kept) take opaque s kept
   step_keeps s other kept = kept
 
   frame_keeps : (f : Frame) (s : DialResult) → Keeps s → AlwaysJob AnyReply AnyCall AnyAsk Keeps (frame_taken f s)

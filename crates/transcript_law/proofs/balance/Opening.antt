@@ -4,7 +4,7 @@ use Rattle.std.specs.List.{concat, sum_by}
 use Rattle.std.proofs.lemmas.Bool.Decides.{nat_tests}
 use Rattle.transcript_law.proofs.Words.{false, refl, ap, sym, ◌∙◌, subst, inl, inr, ⊎_elim, arith, append-nil, concat-append, map, map-append, Option, Some, None, All, All-cons, All-nil, Cause, Frame, Readable, DcpMsg, dcp_frame, spelling, frames_in, StreamAsk, requests, open_request, sync_request, name_request}
 use Rattle.transcript_law.proofs.Words.{PlainWorld, new_link, link_step, link_causes, with_dialed, with_links, ask_in, first_cause, refused_or, done}
-use Rattle.dcp_consumer.specs.Dialing.{numbered, stream_opaque}
+use Rattle.dcp_consumer.specs.Dialing.{flagged, numbered, stream_opaque}
 use Rattle.dcp_consumer.specs.declared.handshake.Dialed.{Dialed}
 use Rattle.dcp_producer.specs.declared.desk.Handshake.TheVariants as shaken
 use Rattle.transcript_law.proofs.balance.Rooms.{room_of}
@@ -14,10 +14,10 @@ use Rattle.transcript_law.proofs.invariant.{LinkRows.{is_link_more}}
 use Rattle.transcript_law.proofs.links.{Firsts.{AreServed, asks_from, firsts, request_frames}, Requests.{first_asked, firsts_served, opaque_small}}
 
 -- what a consumer writes is the spelling of its requests
-requests_spelled : (d : Dialed) (ask : StreamAsk) → requests d ask ≡ spelled (request_frames (stream_opaque d.buffer) d ask)
+requests_spelled : (d : Dialed) (ask : StreamAsk) → requests d ask ≡ spelled (request_frames (stream_opaque d.buffer) d (flagged d.takeover ask))
 unfolding requests
 requests_spelled d ask =
-    let last : Frame = dcp_frame (DcpMsg.StreamRequest ask) (stream_opaque d.buffer) d.vb in let first : List Frame = asks_from 1 (firsts d) in
+    let last : Frame = dcp_frame (DcpMsg.StreamRequest (flagged d.takeover ask)) (stream_opaque d.buffer) d.vb in let first : List Frame = asks_from 1 (firsts d) in
     ap (λ ms. concat (map spelling (numbered 1 ms)) ++ spelling last) (first_asked d)
     ∙ ap (λ l. concat (map spelling first) ++ l) (sym (append-nil (spelling last)))
     ∙ sym (concat-append (map spelling first) (spelling last ∷ [])) ∙ ap concat (sym (map-append spelling first (last ∷ [])))
@@ -29,27 +29,31 @@ module _ (d : Dialed) (ask : StreamAsk) (small : (d.node < 16) × (d.vb < 1024) 
   abbrev o : ℕ
   o = stream_opaque d.buffer
 
+  -- the request as it goes out
+  abbrev out : StreamAsk
+  out = flagged d.takeover ask
+
   -- readers take them
-  requests_readable : All Readable (all_requests o d ask)
+  requests_readable : All Readable (all_requests o d out)
   requests_readable =
       let served = subst (AreServed 1 shaken.Fresh) (firsts_are d buffered) (firsts_served d small.0 small.2) in
       let few : d.vb < 2 ^ 16 = let v = small.1 in omega arith in
-      let last : Frame = dcp_frame (DcpMsg.StreamRequest ask) o d.vb in
+      let last : Frame = dcp_frame (DcpMsg.StreamRequest out) o d.vb in
       let name : Frame = dcp_frame (name_request d.node) 4 0 in
       let sync : Frame = dcp_frame sync_request 3 0 in
       let size : Frame = size_frame d.buffer in
       All-cons Readable (dcp_frame (open_request d.node) 1 0) (size ∷ sync ∷ name ∷ last ∷ []) served.0.asks
       (All-cons Readable size (sync ∷ name ∷ last ∷ []) served.1.0.asks
-      (All-cons Readable sync (name ∷ last ∷ []) served.1.1.0.asks (All-cons Readable name (last ∷ []) served.1.1.1.0.asks (All-cons Readable last [] (ask_readable d.vb few o ask (opaque_small d.buffer)) (All-nil Readable)))))
+      (All-cons Readable sync (name ∷ last ∷ []) served.1.1.0.asks (All-cons Readable name (last ∷ []) served.1.1.1.0.asks (All-cons Readable last [] (ask_readable d.vb few o out (opaque_small d.buffer)) (All-nil Readable)))))
 
-  asked : frames_in (requests d ask) ≡ all_requests o d ask
-  asked = ap frames_in (requests_spelled d ask ∙ ap spelled (requests_are o d ask buffered)) ∙ frames_back (all_requests o d ask) requests_readable
+  asked : frames_in (requests d ask) ≡ all_requests o d out
+  asked = ap frames_in (requests_spelled d ask ∙ ap spelled (requests_are o d out buffered)) ∙ frames_back (all_requests o d out) requests_readable
 
 -- nothing is outstanding yet, and its consumer asks for the window's size
 pub new_level : (line l m n v buffer : ℕ) (ask : StreamAsk) → (n < 16) × (v < 1024) × (buffer < 2 ^ 32) → Level (new_link line l m n v buffer ask)
 new_level line l m n v buffer ask small b =
-    let d : Dialed = record { link = l; node = n; vb = v; buffer = buffer } in
-    let none = requests_none (stream_opaque buffer) d ask in
+    let d : Dialed = record { link = l; node = n; vb = v; buffer = buffer; takeover = false } in
+    let none = requests_none (stream_opaque buffer) d (flagged false ask) in
     let nothing : over stream_len [] ≡ 0 = ap (sum_by stream_len) no_frames in
     subst (Holds buffer (room_of (new_link line l m n v buffer ask).server) (over stream_len [])) (sym (asked d ask small b.some)) (record {
       balance = omega arith;

@@ -9,7 +9,7 @@ use Rattle.vb_types.specs.declared.journal.FlushPart.TheVariants as part
 use Rattle.transcript_law.specs.{Balance.{AreBalanced}, Chronicles.{after_group, at_line}, Prefixes.{world_after}}
 use Rattle.transcript_law.proofs.{Runs.{group_agrees, group_serves, row_of, start, start_serves}, invariant.Agreement.{Agrees, IsLink}, invariant.LinkRows.{found_is_link}, invariant.Ranged.{IsRanged, NodeRangedIf, start_ranged}, verbs.NodeLines.{on_link_by}, verbs.Settling.{steady}, verbs.Rows.{Row}}
 use Rattle.transcript_law.proofs.balance.{Downing.{Writing, down_level, due_level, told, writing_of}, Hearing.{dued}, Leaving.{among_on, arm_on, dropped_among, found_among, made_links, node_links, out_among, put_among, refused_on, role_on, same_on, with_broken_among}, Levels.{AllLevel, FlowOn, Level, level_on}, Measures.{acknowledged_is, counted_is}, Opening.{link_level}, Pumping.{pump_holds}, Upping.{up_holds}}
-use Rattle.transcript_law.specs.LawfulAnswers.{AllDurable}
+use Rattle.transcript_law.specs.LawfulAnswers.{IsStill}
 use Rattle.transcript_law.proofs.invariant.{Begun.{ServesOpen}, ClientWorlds.{ConnsAre, start_conns}, Clients.{line_heard}}
 
 -- the consumers of links have opaques
@@ -22,7 +22,7 @@ SmallAfter links = (x : PlainLink) → IsLink x links → x.consumer.asked < 2 ^
 put_level : (w : PlainWorld) (l : ℕ) (link : PlainLink) → AllLevel w → Level link → (x : PlainLink) → IsLink x (row_put link_number l link w.links) → Level x
 put_level w l link all level x i = ⊎_elim (λ same. subst Level (sym same) level) (λ old. all x old) (put_among l link w.links x i)
 
-module _ (w : PlainWorld) (r : Chronicle) (ranged : IsRanged w) (a : Agrees w r) (all : AllLevel w) where
+module _ (w : PlainWorld) (r : Chronicle) (ranged : IsRanged w) (calm : IsStill r) (a : Agrees w r) (all : AllLevel w) where
   own_level : (link : PlainLink) → row_at link_number (link_number link) w.links ≡ Some link → Level link
   own_level link found = all link (found_is_link (link_number link) w.links link found).0
 
@@ -32,7 +32,7 @@ module _ (w : PlainWorld) (r : Chronicle) (ranged : IsRanged w) (a : Agrees w r)
   up_level : (l wanted : ℕ) → AllLevel (on_link w l producer_node (up_at wanted)).0
   up_level l wanted = on_link_by (λ came. AllLevel came.0) w l producer_node (up_at wanted) all away
       (λ link node found known. put_level w (link_number link) _ all
-      (λ b. up_holds stays steady w r (moved_len wanted link.up) link found b node known (subst (NodeRangedIf (producer_node link)) known (ranged (producer_node link))) a (own_level link found)))
+      (λ b. up_holds stays steady w r (moved_len wanted link.up) link found b node known (subst (NodeRangedIf (producer_node link)) known (ranged (producer_node link))) calm.0 a (own_level link found)))
 
   pump_level : (l frames : ℕ) → AllLevel (on_link w l producer_node (pump_at frames)).0
   pump_level l frames = on_link_by (λ came. AllLevel came.0) w l producer_node (pump_at frames) all away
@@ -172,7 +172,7 @@ module _ (w : PlainWorld) (r : Chronicle) (ranged : IsRanged w) (a : Agrees w r)
 small_after : (w : PlainWorld) (r : Chronicle) → Agrees w r → SmallAfter w.links
 small_after w r (c, a) x i = (writing_of w r c x (a.links x i)).opaque
 
-levels_from : (w : PlainWorld) (r : Chronicle) (script : List ScriptLine) → ScriptFits script → IsRanged w → ConnsAre w r.conn_at → ServesOpen r.last r.conn_at → AllDurable r.made → Agrees w r → AllLevel w → AllLevel (world_after w script)
+levels_from : (w : PlainWorld) (r : Chronicle) (script : List ScriptLine) → ScriptFits script → IsRanged w → ConnsAre w r.conn_at → ServesOpen r.last r.conn_at → IsStill r → Agrees w r → AllLevel w → AllLevel (world_after w script)
 unfolding world_step
 levels_from w r [] fits ranged are serves calm a all = all
 levels_from w r (line ∷ lines) fits ranged are serves calm a all =
@@ -181,8 +181,8 @@ levels_from w r (line ∷ lines) fits ranged are serves calm a all =
     let row : Row w line.verb outcome = row_of w line.line line.verb in
     let r' : Chronicle = after_group (at_line r line.line) line.verb outcome.1.events outcome.1.answer in
     let now = group_agrees w r line.line line.verb fit ranged are serves calm a in
-    levels_from (with_branches outcome.1.events outcome.0) r' lines (All-tail (λ (x : ScriptLine). VerbFits x.verb) line lines fits) (row.ranged fit ranged) (line_heard r.conn_at w line.line are line.verb fit).1 (group_serves r line.line line.verb outcome.1.events outcome.1.answer) tt now
-    (line_goes w r ranged a all line.line line.verb fit (small_after (with_branches outcome.1.events outcome.0) r' now))
+    levels_from (with_branches outcome.1.events outcome.0) r' lines (All-tail (λ (x : ScriptLine). VerbFits x.verb) line lines fits) (row.ranged fit ranged) (line_heard r.conn_at w line.line are line.verb fit).1 (group_serves r line.line line.verb outcome.1.events outcome.1.answer) (tt, refl) now
+    (line_goes w r ranged calm a all line.line line.verb fit (small_after (with_branches outcome.1.events outcome.0) r' now))
 
 balanced : (w : PlainWorld) → AllLevel w → AreBalanced w
 balanced w all l link found some fits =
@@ -191,4 +191,4 @@ balanced w all l link found some fits =
 
 -- behind all of it
 pub scripts_balance : (script : List ScriptLine) → ScriptFits script → AreBalanced (world_of script)
-scripts_balance script fits = balanced (world_of script) (levels_from empty_world empty_chronicle script fits start_ranged start_conns start_serves tt start (λ x i. absurd i))
+scripts_balance script fits = balanced (world_of script) (levels_from empty_world empty_chronicle script fits start_ranged start_conns start_serves (tt, refl) start (λ x i. absurd i))

@@ -9,6 +9,7 @@ use Rattle.transcript_law.proofs.balance.Rooms.{room_of}
 use Rattle.transcript_law.specs.Balance.{stream_len}
 use Rattle.transcript_law.proofs.balance.{Answering.{Answers, frame_becomes}, Levels.{Buffered, Holds, Level}, Measures.{frames_back, over, over_more, over_one, spelled}, Stepping.{stands_step}}
 use Rattle.transcript_law.proofs.invariant.{Agreement.{Agrees, AgreesAt, EndsStand, LinkAgrees, Talk, consumer_seat, idle, producer_seat, spoken, vb_of, wants_of}, Carried.{one_here, one_idle, talk_same, told_of_same}, Carrying.{Relinked}, OneLink.{carries_link, mine}, Ranged.{NodeRanged}, Seats.{seat}}
+use Rattle.transcript_law.specs.LawfulAnswers.{AllDurable}
 use Rattle.transcript_law.proofs.links.{Counting.{ack_next}, Talks.{come, read_link, read_talk}, Unread.{answering}, Upward.{Now, asking_next, came_of, frame_came, link_now, served_at, vb_here, world_at}}
 use Rattle.transcript_law.proofs.{lines.Telling.{none_before}, verbs.NodeLines.{node_of_same_vbs}, verbs.Settling.{Steady}}
 
@@ -132,8 +133,8 @@ module _ (stays : StaysSound) (steady : Steady) (w : PlainWorld) (r : Chronicle)
     same_vbs : (k q : ℕ) → vb_of (world_at w r n link found first) k q ≡ vb_of w k q
     same_vbs = same.vbs
 
-    first_now : Agrees w r → Now w r n link found (frames_in bytes) first
-    first_now (c, a) =
+    first_now : AllDurable r.made → Agrees w r → Now w r n link found (frames_in bytes) first
+    first_now calm (c, a) =
         let l : ℕ = link_number link in
         let la = mine idle w r r c c l link a found in
         let lb : LinkAgrees (world_at w r n link found first) r c (served_at w r n link found first.1) (frames_in bytes) [] = record {
@@ -151,6 +152,7 @@ module _ (stays : StaysSound) (steady : Steady) (w : PlainWorld) (r : Chronicle)
           agrees = carries_link idle (answering l (frames_in bytes)) w (world_at w r n link found first) r r c l link (served_at w r n link found first.1) a found
               (record { dialed = refl; desk = refl }) (record { powers = same.powers; vbs = same_vbs; shelves = same.shelves; uuids = refl; linked = refl }) (λ v id has. has) (told_of_same l r) (one_idle l (frames_in bytes, []))
               (subst (λ p. LinkAgrees (world_at w r n link found first) r c (served_at w r n link found first.1) p.0 p.1) (sym (one_here l (frames_in bytes, []))) lb);
+          calm = calm;
           desk = refl;
           heard = refl;
           ranged = ranged;
@@ -165,8 +167,8 @@ module _ (stays : StaysSound) (steady : Steady) (w : PlainWorld) (r : Chronicle)
         subst (λ b. Holds buffer (room_of link.server) (over stream_len (link.down_heard ++ b)) (frames_in bytes ++ later)) (sym (append-nil link.down))
         (subst (λ fs. Holds buffer (room_of link.server) (over stream_len (link.down_heard ++ link.down)) fs) (ap frames_in parted ∙ frames-append bytes (drop n link.up)) (level buffered))
 
-    pub up_holds : Agrees w r → Level link → (let y = frames_up (frames_in bytes) first in Holds buffer (room_of y.1.peer.producer) (over stream_len (down_at y.1.out)) (frames_in (y.1.peer.heard ++ drop n link.up)))
-    up_holds a level =
+    pub up_holds : AllDurable r.made → Agrees w r → Level link → (let y = frames_up (frames_in bytes) first in Holds buffer (room_of y.1.peer.producer) (over stream_len (down_at y.1.out)) (frames_in (y.1.peer.heard ++ drop n link.up)))
+    up_holds calm a level =
         let y = frames_up (frames_in bytes) first in
-        let came = all_up (frames_in bytes) first (first_now a) (first_holds level) in
+        let came = all_up (frames_in bytes) first (first_now calm a) (first_holds level) in
         subst (λ h. Holds buffer (room_of y.1.peer.producer) (over stream_len (down_at y.1.out)) (frames_in (h ++ drop n link.up))) (sym came.0.heard) came.1

@@ -19,8 +19,9 @@ use Rattle.vb_calls.specs.States.{States, states_step}
 use Rattle.dcp_consumer.specs.Counting.{counted_bytes, is_counted, counted_len}
 use Rattle.dcp_consumer.specs.Machine.{over_why}
 use Rattle.dcp_consumer.specs.Noops.{noop_answered}
+use Rattle.dcp_consumer.specs.States.{state_answered}
 use Rattle.mcbp_dcp.specs.declared.shape.TheConstants.{SUCCESS}
-use Rattle.node_core.specs.Conduct.{Writes, Asks, Acknowledges, AcknowledgesBytes, AnswersNoop, AnswersNoops, AreNoopsOf, asks_in, writes_past, Dues, CallsAs, AnyOther, behind, bytes_written, noop_written, SomeCounts, OwesBytes, Delivers, begins, said}
+use Rattle.node_core.specs.Conduct.{Writes, Asks, Acknowledges, AcknowledgesBytes, AnswersNoop, AnswersState, AnswersNoops, AreNoopsOf, MayWrite, asks_in, writes_past, Dues, CallsAs, AnyOther, behind, bytes_written, noop_written, SomeCounts, OwesBytes, Delivers, begins, said}
 use Rattle.node_core.specs.Dials.{PlainDial, DialResult, untold, dial_bytes}
 use Rattle.node_core.proofs.Deliveries.{bytes_acknowledge}
 use Rattle.transcript_law.specs.Balance.{acknowledged_by}
@@ -34,6 +35,7 @@ written vb asked (Asks ask ∷ more) = dcp_frame (msg.StreamRequest ask) (asked 
 written vb asked (Acknowledges seq ∷ more) = dcp_frame (msg.SeqnoAcknowledged seq) asked vb ∷ written vb asked more
 written vb asked (AcknowledgesBytes bytes ∷ more) = dcp_frame (msg.BufferAcknowledgement bytes) asked 0 ∷ written vb asked more
 written vb asked (AnswersNoop opaque ∷ more) = dcp_frame (msg.NoopAnswer SUCCESS) opaque 0 ∷ written vb asked more
+written vb asked (AnswersState opaque ∷ more) = dcp_frame (msg.StateAnswer SUCCESS) opaque 0 ∷ written vb asked more
 
 pub written_is : (vb asked : ℕ) (more : List Writes) → writes_past vb asked more ≡ spelled (written vb asked more)
 written_is vb asked [] = refl
@@ -41,6 +43,7 @@ written_is vb asked (Asks ask ∷ more) = ap (λ l. spelling (dcp_frame (msg.Str
 written_is vb asked (Acknowledges seq ∷ more) = ap (λ l. spelling (dcp_frame (msg.SeqnoAcknowledged seq) asked vb) ++ l) (written_is vb asked more)
 written_is vb asked (AcknowledgesBytes bytes ∷ more) = ap (λ l. spelling (dcp_frame (msg.BufferAcknowledgement bytes) asked 0) ++ l) (written_is vb asked more)
 written_is vb asked (AnswersNoop opaque ∷ more) = ap (λ l. noop_answered opaque ++ l) (written_is vb asked more)
+written_is vb asked (AnswersState opaque ∷ more) = ap (λ l. state_answered opaque ++ l) (written_is vb asked more)
 
 module _ (vb : ℕ) (few : vb < 2 ^ 16) where
   pub ask_readable : (o : ℕ) (ask : StreamAsk) → o < 2 ^ 32 → Readable (dcp_frame (msg.StreamRequest ask) o vb)
@@ -63,17 +66,31 @@ noop_readable o low = search arith
 abbrev pub Opaques : List ℕ → Type 0
 Opaques ns = All (λ n. n < 2 ^ 32) ns
 
-pub written_readable : (vb asked : ℕ) (more : List Writes) → vb < 2 ^ 16 → asked + asks_in more < 2 ^ 32 → Opaques (filter_map noop_written more) → All Readable (written vb asked more)
-written_readable vb asked [] few low noops = All-nil Readable
-written_readable vb asked (Asks ask ∷ more) few low noops =
-    All-cons Readable (dcp_frame (msg.StreamRequest ask) (asked + 1) vb) (written vb (asked + 1) more) (ask_readable vb few (asked + 1) ask (omega arith)) (written_readable vb (asked + 1) more few (omega arith) noops)
-written_readable vb asked (Acknowledges seq ∷ more) few low noops =
-    All-cons Readable (dcp_frame (msg.SeqnoAcknowledged seq) asked vb) (written vb asked more) (seqno_readable vb few asked seq (omega arith)) (written_readable vb asked more few low noops)
-written_readable vb asked (AcknowledgesBytes bytes ∷ more) few low noops =
-    All-cons Readable (dcp_frame (msg.BufferAcknowledgement bytes) asked 0) (written vb asked more) (bytes_readable asked bytes (omega arith)) (written_readable vb asked more few low noops)
-written_readable vb asked (AnswersNoop opaque ∷ more) few low noops =
+-- what is written on a link that follows alone answers no state
+abbrev pub Stateless : Writes → Type 0
+Stateless (AnswersState opaque) = ⊥
+Stateless other = Unit {0}
+
+stateless : (d : Dialed) → d.takeover ≡ false → (w : Writes) → MayWrite d w → Stateless w
+stateless d alone (AnswersState opaque) takes = let never : true ≡ false = sym takes ∙ alone in cc
+stateless d alone other may = tt
+
+all_stateless : (d : Dialed) → d.takeover ≡ false → (more : List Writes) → All (MayWrite d) more → All Stateless more
+all_stateless d alone [] all = All-nil Stateless
+all_stateless d alone (w ∷ more) all = All-cons Stateless w more (stateless d alone w (All-head (MayWrite d) w more all)) (all_stateless d alone more (All-tail (MayWrite d) w more all))
+
+pub written_readable : (vb asked : ℕ) (more : List Writes) → vb < 2 ^ 16 → asked + asks_in more < 2 ^ 32 → Opaques (filter_map noop_written more) → All Stateless more → All Readable (written vb asked more)
+written_readable vb asked [] few low noops none = All-nil Readable
+written_readable vb asked (Asks ask ∷ more) few low noops none =
+    All-cons Readable (dcp_frame (msg.StreamRequest ask) (asked + 1) vb) (written vb (asked + 1) more) (ask_readable vb few (asked + 1) ask (omega arith)) (written_readable vb (asked + 1) more few (omega arith) noops (All-tail Stateless (Asks ask) more none))
+written_readable vb asked (Acknowledges seq ∷ more) few low noops none =
+    All-cons Readable (dcp_frame (msg.SeqnoAcknowledged seq) asked vb) (written vb asked more) (seqno_readable vb few asked seq (omega arith)) (written_readable vb asked more few low noops (All-tail Stateless (Acknowledges seq) more none))
+written_readable vb asked (AcknowledgesBytes bytes ∷ more) few low noops none =
+    All-cons Readable (dcp_frame (msg.BufferAcknowledgement bytes) asked 0) (written vb asked more) (bytes_readable asked bytes (omega arith)) (written_readable vb asked more few low noops (All-tail Stateless (AcknowledgesBytes bytes) more none))
+written_readable vb asked (AnswersNoop opaque ∷ more) few low noops none =
     All-cons Readable (dcp_frame (msg.NoopAnswer SUCCESS) opaque 0) (written vb asked more) (noop_readable opaque (All-head (λ n. n < 2 ^ 32) opaque (filter_map noop_written more) noops))
-    (written_readable vb asked more few low (All-tail (λ n. n < 2 ^ 32) opaque (filter_map noop_written more) noops))
+    (written_readable vb asked more few low (All-tail (λ n. n < 2 ^ 32) opaque (filter_map noop_written more) noops) (All-tail Stateless (AnswersNoop opaque) more none))
+written_readable vb asked (AnswersState opaque ∷ more) few low noops none = absurd (All-head Stateless (AnswersState opaque) more none)
 
 -- ---- how many bytes each of them acknowledges
 
@@ -93,6 +110,10 @@ noop_names : (o : ℕ) → acknowledged_by (dcp_frame (msg.NoopAnswer SUCCESS) o
 unfolding dcp_frame
 noop_names o = refl
 
+state_names : (o : ℕ) → acknowledged_by (dcp_frame (msg.StateAnswer SUCCESS) o 0) ≡ 0
+unfolding dcp_frame
+state_names o = refl
+
 pub bytes_names : (o bytes : ℕ) → bytes < 2 ^ 32 → acknowledged_by (dcp_frame (msg.BufferAcknowledgement bytes) o 0) ≡ bytes
 unfolding dcp_frame
 bytes_names o bytes low = from_be_bytes-to_be_bytes_4 bytes low
@@ -107,6 +128,7 @@ written_names vb asked (AcknowledgesBytes bytes ∷ more) low =
     let rest = written_names vb asked more (All-tail (λ n. n < 2 ^ 32) bytes (filter_map bytes_written more) low) in
     omega (arith, sum_by-cons (λ n. n) bytes (filter_map bytes_written more)))
 written_names vb asked (AnswersNoop opaque ∷ more) low = sum_by-cons acknowledged_by (dcp_frame (msg.NoopAnswer SUCCESS) opaque 0) (written vb asked more) ∙ (let e = noop_names opaque in let rest = written_names vb asked more low in omega arith)
+written_names vb asked (AnswersState opaque ∷ more) low = sum_by-cons acknowledged_by (dcp_frame (msg.StateAnswer SUCCESS) opaque 0) (written vb asked more) ∙ (let e = state_names opaque in let rest = written_names vb asked more low in omega arith)
 
 -- ---- the opaques of the NOOPs among frames
 
@@ -168,6 +190,7 @@ pub record Delivered (frames : List Frame) (dial : PlainDial) (told : DialResult
   pub dialed : told.dial.consumer.dialed ≡ dial.consumer.dialed
   pub counts : over_why told.dial.consumer.handshake ≡ None → 0 < dial.consumer.dialed.buffer → counted_bytes frames < 2 ^ 32 → Names (counted_bytes frames) (filter_map bytes_written more)
   pub noops : All Readable frames → Opaques (filter_map noop_written more)
+  pub states : dial.consumer.dialed.takeover ≡ false → All Stateless more
 
 whole : (n : ℕ) → n < 2 ^ 32 → min n 4294967295 ≡ n
 whole n low = grind (arith, low)
@@ -196,4 +219,5 @@ delivered piece dial states shelves =
       counts = λ goes buffered low. subst (Names (counted_bytes frames)) (sym is.acknowledged.counted)
           (owed_by frames told.dial is.bytes is.owes goes (subst (λ (d : Dialed). 0 < d.buffer) (sym link.dialed) buffered) low (some_or_none frames));
       noops = λ good. subst Opaques (sym is.acknowledged.answered) (answers_low frames told.dial is.noops is.answers good);
+      states = λ alone. all_stateless dial.consumer.dialed alone link.writes.0 link.writes.3;
     }

@@ -64,13 +64,6 @@ past_end dials l (Event.Ended k reason ∷ lines) a s d = ((d.0.0, id_there dial
 past_end dials l (Event.Closed n c ∷ lines) a s d = past_end dials l lines a s d
 past_end dials l (other ∷ lines) a s d = absurd a
 
--- then they are lawful, and say nothing of those behind them
-pub ends_lawful : (r : Chronicle) (lines : List Event) → AreEnds lines → AreDialed r.dial_of lines → LawfulFrom r lines
-ends_lawful r [] a d = tt
-ends_lawful r (Event.Ended l reason ∷ lines) a d = (d.0, ends_lawful (after_end r l) lines a (past_end r.dial_of l lines a d.1 d.2))
-ends_lawful r (Event.Closed n c ∷ lines) a d = (tt, ends_lawful (after_line r (Event.Closed n c)) lines a d)
-ends_lawful r (other ∷ lines) a d = absurd a
-
 -- all links that they tell of have numbers below this one
 abbrev EndsBelow : ℕ → List Event → Type 0
 EndsBelow k [] = Unit {0}
@@ -125,6 +118,13 @@ closed_there n r [] a s m c ne = refl
 closed_there n r (Event.Ended l reason ∷ lines) a s m c ne = closed_there n (after_end r l) lines a s m c ne
 closed_there n r (Event.Closed k d ∷ lines) a s m c ne = closed_there n (after_line r (Event.Closed k d)) lines a s.1 m c ne ∙ at_there r.clients_at k d blank_client m c (λ e f. ne (e ∙ s.0))
 closed_there n r (other ∷ lines) a s m c ne = absurd a
+
+-- they are lawful, and say nothing of those behind them, where each link that they tell of is dialed, and the connections end with their node
+pub ends_lawful : (n : ℕ) (r : Chronicle) (lines : List Event) → AreEnds lines → ClosesAt n lines → ((c : ℕ) → r.conn_at n c ≡ false) → AreDialed r.dial_of lines → LawfulFrom r lines
+ends_lawful n r [] a s gone d = tt
+ends_lawful n r (Event.Ended l reason ∷ lines) a s gone d = (d.0, ends_lawful n (after_end r l) lines a s gone (past_end r.dial_of l lines a d.1 d.2))
+ends_lawful n r (Event.Closed m c ∷ lines) a s gone d = ((λ opened. let z : true ≡ false = sym opened ∙ ap (λ k. r.conn_at k c) s.0 ∙ gone c in cc), ends_lawful n (after_line r (Event.Closed m c)) lines a s.1 gone d)
+ends_lawful n r (other ∷ lines) a s gone d = absurd a
 
 -- what is told of a node that stops
 

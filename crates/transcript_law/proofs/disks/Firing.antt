@@ -1,7 +1,7 @@
 -- an arm that fires inside a line
 use Rattle.std.specs.Prelude.{◌≡◌, ◌∷◌, ◌++◌, ◌==◌, if◌then◌else◌}
 use Rattle.std.proofs.lemmas.Grind.{flat_map-append}
-use Rattle.transcript_law.proofs.Words.{ℕ, Bool, true, false, List, [], refl, ap, sym, ◌∙◌, subst, append-nil, eqb-true, Option, Some, None, Dial, filter, flat_map, Event, EndReason, StreamName, StaysSound}
+use Rattle.transcript_law.proofs.Words.{ℕ, Bool, true, false, List, [], refl, ap, sym, ◌∙◌, subst, append-nil, eqb-true, Option, Some, None, Dial, filter, flat_map, eq-eqb, Event, EndReason, StreamName, StaysSound}
 use Rattle.transcript_law.proofs.Words.{Cluster, PlainLink, link_number, PlainNode, PlainWorld, row_out, unlinked, with_links, branch_of_line, with_branches, Role, Chronicle, after_end, after_line, after_lines, LawfulFrom, with_id}
 use Rattle.node_world.specs.{Arms.{fired_by}, Cuts.{closed_at}, Power.{after_broken, after_fire, all_cut, all_unlinked, down_lines, dropped, is_this_number, stopped_node, touches, with_arm, with_broken}, Worlds.{arm_in, is_up, node_if, with_node_if}}
 use Rattle.node_world.specs.declared.arm.Fired.{Fired}
@@ -11,9 +11,9 @@ use Rattle.node_world.specs.declared.arm.Fired.TheVariants as fired
 use Rattle.vb_events.specs.declared.event.Answer.TheVariants as answer
 use Rattle.vb_types.specs.declared.stream.AskAnswer.TheVariants as ask_answer
 use Rattle.vb_events.specs.declared.event.Cause.TheVariants as cause
-use Rattle.transcript_law.specs.{Chronicles.{Appending, ArmKnown, DiskKnown, after_append, after_crash, after_made, after_noted, after_rollback, appending, broken_by, calls_of_append, known_down, saving, spent, state_of, with_disk, with_disk_there}, Lawfulness.{IsOpen, IsToFail, IsToStop}}
+use Rattle.transcript_law.specs.{Chronicles.{Appending, ArmKnown, DiskKnown, after_append, after_crash, after_made, after_noted, after_rollback, appending, broken_by, Conns, calls_of_append, known_down, saving, spent, state_of, with_disk, with_disk_there}, Lawfulness.{IsOpen, IsToFail, IsToStop}}
 use Rattle.transcript_law.proofs.{invariant.Agreement.{Agrees, AgreesIn, GoesOn, IsArm, IsLink, LineGoes, PowerIsIf, idle}, disks.ArmedLines.{AreEnds, ArmedCame, IsNoting}, verbs.Crashing.{Drops, drops}}
-use Rattle.transcript_law.proofs.{disks.Disks.{power_in}, disks.Downed.{AreDialed, IsFree, down_ends, ends_lawful, end_agrees, none_free, some_free}, lines.Lines.{AreQuiet, after_more, lawful_more}}
+use Rattle.transcript_law.proofs.{disks.Disks.{power_in}, disks.Downed.{AreDialed, IsFree, down_closes, down_ends, ends_lawful, end_agrees, none_free, some_free}, indexers.Beside.{beside}, lines.Lines.{AreQuiet, after_more, lawful_more}}
 
 -- no line tells of an arm
 
@@ -99,10 +99,12 @@ module _ (n : ℕ) (w0 : PlainWorld) (r : Chronicle) (c : Cluster) (a : AgreesIn
   stopped stays told noting w1 also free besides lawful quiet e up agrees =
       let out : Outcome = (arm_in (w0.nodes n)).out in
       let lines : List Event = down_lines n also w1 in
-      let d : Drops w1 (told (answer.No cause.Disk) r1) n out also = drops stays w1 (told (answer.No cause.Disk) r1) n out also agrees up free (λ l is. let x = besides l is in (x.0, ap (λ (f : ℕ → Option Dial). f l) (noting.dials r1) ∙ x.1)) in
-      let is : told (answer.No cause.Stopped) (after_lines r1 lines) ≡ after_crash (after_lines (told (answer.No cause.Disk) r1) lines) n out
-      = noting.stops (after_lines r1 lines) ∙ (λ i. after_crash (noting.apart r1 lines d.ends i) n (leaves_so lines i)) in (
-        lawful_more r events (Event.NodeStopped n ∷ lines) quiet lawful (stops_so e, ends_lawful r1 lines d.ends (subst (λ f. AreDialed f lines) (noting.dials r1) d.dialed)),
+      let r2 : Chronicle = after_line r1 (Event.NodeStopped n) in let failed : Chronicle = told (answer.No cause.Disk) r1 in
+      let agrees2 : Agrees w1 (told (answer.No cause.Disk) r2) = subst (Agrees w1) (sym (noting.conns r1 r2.conn_at)) (agrees.0, beside w1 failed r2.conn_at failed.made failed.ticks failed.changed agrees.0 (λ one durable i. i) agrees.1) in
+      let d : Drops w1 (told (answer.No cause.Disk) r2) n out also = drops stays w1 (told (answer.No cause.Disk) r2) n out also agrees2 up free (λ l is. let x = besides l is in (x.0, ap (λ (f : ℕ → Option Dial). f l) (noting.dials r2) ∙ x.1)) in
+      let is : told (answer.No cause.Stopped) (after_lines r2 lines) ≡ after_crash (after_lines (told (answer.No cause.Disk) r2) lines) n out
+      = noting.stops (after_lines r2 lines) ∙ (λ i. after_crash (noting.apart r2 lines d.ends i) n (leaves_so (Event.NodeStopped n ∷ lines) i)) in (
+        lawful_more r events (Event.NodeStopped n ∷ lines) quiet lawful (stops_so e, ends_lawful n r2 lines d.ends (down_closes n also w1) (λ c. ap (λ b. if b then false else r1.conn_at n c) (eq-eqb n n refl)) (subst (λ f. AreDialed f lines) (noting.dials r2) d.dialed)),
         subst (λ q. Agrees (dropped n out w1) (told (answer.No cause.Stopped) q)) (sym (after_more r events (Event.NodeStopped n ∷ lines))) (subst (Agrees (dropped n out w1)) (sym is) d.agrees),
       )
 
@@ -218,27 +220,28 @@ apart_by f h g r (Event.Closed n c ∷ lines) a = apart_by f h g (after_line r (
 apart_by f h g r (other ∷ lines) a = absurd a
 
 -- of an append of what lines tell that do not tell of what ends
-pub append_noting : (n v : ℕ) (a : Chronicle → Appending) → ((r : Chronicle) (l : ℕ) → a (after_end r l) ≡ a r) → ((r : Chronicle) (m c : ℕ) → a (after_line r (Event.Closed m c)) ≡ a r) → IsNoting n (λ said r. after_append r n v (a r) said)
-append_noting n v a same closed = record {
+pub append_noting : (n v : ℕ) (a : Chronicle → Appending) → ((r : Chronicle) (l : ℕ) → a (after_end r l) ≡ a r) → ((r : Chronicle) (m c : ℕ) → a (after_line r (Event.Closed m c)) ≡ a r) → ((r : Chronicle) (conns : Conns) → a (record r { conn_at = conns }) ≡ a r) → IsNoting n (λ said r. after_append r n v (a r) said)
+append_noting n v a same closed opened = record {
   stops = λ r.
       let d : DiskKnown = broken_by (r.arm_at n).fuse (a r).what ((a r).fails (r.disk_at n v)) in
       sym (rearmed (with_disk r n v d) n (record (r.arm_at n) { fuse = spent calls_of_append (r.arm_at n).fuse }) (r.arm_at n).out);
   apart = apart_by (λ r. after_append r n v (a r) (answer.No cause.Disk)) (λ r l. ap (λ x. after_append (after_end r l) n v x (answer.No cause.Disk)) (same r l))
       (λ r m c. ap (λ x. after_append (after_line r (Event.Closed m c)) n v x (answer.No cause.Disk)) (closed r m c));
   dials = λ r. refl;
+  conns = λ r conns. ap (λ x. after_append (record r { conn_at = conns }) n v x (answer.No cause.Disk)) (opened r conns);
 }
 
 -- of this one
 pub this_noting : (n v : ℕ) (a : Appending) → IsNoting n (λ said r. after_append r n v a said)
-this_noting n v a = append_noting n v (λ r. a) (λ r l. refl) (λ r m c. refl)
+this_noting n v a = append_noting n v (λ r. a) (λ r l. refl) (λ r m c. refl) (λ r conns. refl)
 
 -- of a role
 pub role_noting : (n v : ℕ) (role : Role) → IsNoting n (λ said r. after_noted r n v role said)
-role_noting n v role = append_noting n v (λ r. appending (state_of r n v role)) (λ r l. refl) (λ r m c. refl)
+role_noting n v role = append_noting n v (λ r. appending (state_of r n v role)) (λ r l. refl) (λ r m c. refl) (λ r conns. refl)
 
 -- of the batch that was taken
 pub save_noting : (n v : ℕ) → IsNoting n (λ said r. after_append r n v (saving (r.disk_at n v)) said)
-save_noting n v = append_noting n v (λ r. saving (r.disk_at n v)) (λ r l. refl) (λ r m c. refl)
+save_noting n v = append_noting n v (λ r. saving (r.disk_at n v)) (λ r l. refl) (λ r m c. refl) (λ r conns. refl)
 
 -- of a vBucket that is made
 pub made_noting : (n v : ℕ) (role : Role) → IsNoting n (λ said r. after_made r n v role said)
@@ -246,8 +249,9 @@ made_noting n v role = record {
   stops = λ r. (role_noting n v role).stops (with_disk_there r n v (answer.No cause.Disk));
   apart = apart_by (λ r. after_made r n v role (answer.No cause.Disk)) (λ r l. refl) (λ r m c. refl);
   dials = λ r. refl;
+  conns = λ r conns. refl;
 }
 
 -- and of a rollback, where it could not be written down
 pub rollback_noting : (n v : ℕ) (record_is : Record) (lines : List Event) → IsNoting n (λ said r. after_rollback r (Some (n, (v, record_is))) lines said)
-rollback_noting n v record_is lines = record { stops = (this_noting n v (appending record_is)).stops; apart = (this_noting n v (appending record_is)).apart; dials = λ r. refl }
+rollback_noting n v record_is lines = record { stops = (this_noting n v (appending record_is)).stops; apart = (this_noting n v (appending record_is)).apart; dials = λ r. refl; conns = λ r conns. refl }

@@ -1,7 +1,7 @@
 -- a node that is loaded: what agreed while it was down agrees
 use Rattle.std.specs.Prelude.{◌≡◌, ◌∷◌, if◌then◌else◌, option_map}
 use Rattle.transcript_law.proofs.Words.{ℕ, Bool, true, false, List, [], refl, ap, sym, ◌∙◌, subst, ⊎_elim, Option, Some, None, eq-eqb, ne_eqb, is_some, length, Cluster, Plain, PlainLink, PlainNode, PlainWorld, consumer_node, producer_node, shelf_in, vb_in, with_node_at, Chronicle}
-use Rattle.transcript_law.proofs.{invariant.Agreement.{clock_of, AgreesAt, AgreesIn, AwayAt, BookBy, BookAgrees, DiskIsIf, DownHolds, IsArm, IsLink, LinkAgrees, PowerIs, PowerIsIf, RestsIn, book_in, idle, is_down, power_of, shelf_of, vb_of}, disks.Burning.{burns, opened_all}, invariant.Carried.{kept_same, link_carried, numbers}}
+use Rattle.transcript_law.proofs.{invariant.Agreement.{clock_of, AgreesAt, AgreesIn, AwayAt, BookBy, BookAgrees, DiskIsIf, DownHolds, IsArm, IsLink, LinkAgrees, PowerIs, PowerIsIf, RestsIn, book_in, idle, is_down, is_running, power_of, shelf_of, vb_of}, disks.Burning.{burns, opened_all}, invariant.Carried.{kept_same, link_carried, numbers}}
 use Rattle.transcript_law.proofs.{disks.Disks.{AwayAgrees, power_in}, disks.Reloading.{loaded_is, loaded_shelf}, invariant.Seats.{seat}, disks.Shelving.{count_listed, loaded_at, loaded_of, opened_at_number}, invariant.Tables.{id_here, id_there}}
 use Rattle.cluster_model.specs.Clusters.{Disk}
 use Rattle.disk_journals.specs.Arms.{opens_all}
@@ -47,6 +47,9 @@ module _ (w : PlainWorld) (r : Chronicle) (c : Cluster) (n : ℕ) (node : PlainN
 
   pub was_down : is_down (power_of w n) ≡ true
   was_down = ap is_down power
+
+  was_off : is_running (power_of w n) ≡ false
+  was_off = ap is_running power
 
   pub arm_is : PowerIs (r.arm_at n) (record { arm = node.arm; off = Some books; clock = node.clock })
   arm_is = subst (PowerIsIf (r.arm_at n)) power (a.powers n)
@@ -114,7 +117,7 @@ module _ (w : PlainWorld) (r : Chronicle) (c : Cluster) (n : ℕ) (node : PlainN
     apart : (x : PlainLink) → IsLink x w.links → (producer_node x ≡ n → ⊥) × (consumer_node x ≡ n → ⊥)
     apart x i =
         let e = a.ends x i in (
-          (λ s. let z : true ≡ false = sym was_down ∙ ap (λ k. is_down (power_of w k)) (sym s) ∙ e.producer in cc),
+          (λ s. let z : false ≡ true = sym was_off ∙ ap (λ k. is_running (power_of w k)) (sym s) ∙ e.producer in cc),
           (λ s. let z : true ≡ false = sym was_down ∙ ap (λ k. is_down (power_of w k)) (sym s) ∙ e.consumer in cc),
         )
 
@@ -155,7 +158,7 @@ module _ (w : PlainWorld) (r : Chronicle) (c : Cluster) (n : ℕ) (node : PlainN
       aways = λ m v. by_node (λ m o. vb_in o v ≡ None → AwayAt (power_in o) v (shelf_in o v) (r.role_at m v) (r.disk_at m v) (c.nodes (seat m v)) (c.disks (seat m v))) (loads v).away (λ m ne. a.aways m v) m;
       downs = λ m v. by_node (λ m o. DownHolds (power_in o) (vb_in o v) (shelf_in o v)) (record { vb_none = λ e. cc; shelf_none = λ e. cc }) (λ m ne. a.downs m v) m;
       ends = λ x i. let e = a.ends x i in let p = apart x i in
-          record { producer = ap (λ o. is_down (power_in o)) (there (producer_node x) p.0) ∙ e.producer; consumer = ap (λ o. is_down (power_in o)) (there (consumer_node x) p.1) ∙ e.consumer; number = e.number };
+          record { producer = ap (λ o. is_running (power_in o)) (there (producer_node x) p.0) ∙ e.producer; consumer = ap (λ o. is_down (power_in o)) (there (consumer_node x) p.1) ∙ e.consumer; number = e.number };
       small = a.small;
     }
 

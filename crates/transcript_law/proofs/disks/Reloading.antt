@@ -19,7 +19,6 @@ use Rattle.std.proofs.lemmas.List.{take_all}
 use Rattle.std.specs.FinMap.{get}
 use Rattle.vb_calls.specs.Shelves.{open_shelf}
 use Rattle.vb_calls.specs.State.{loaded_role}
-unfoldable use Rattle.vb_types.specs.Lasts.{pend_left, pend_by_last}
 use Rattle.vb_types.specs.declared.journal.Record.{Record}
 use Rattle.vb_types.specs.declared.role.Role.TheVariants as role
 use Rattle.vbucket.proofs.Wholes.{loads_sound}

@@ -1,18 +1,18 @@
 -- STREAM_REQUEST of a client: whatever its producer and its vBucket say, the line is lawful, and all agrees
-use Rattle.std.specs.Prelude.{◌≡◌, ◌<◌, ◌≤◌, ◌++◌, ◌==◌, ◌^◌, ◌&&◌, if◌then◌else◌, not}
+use Rattle.std.specs.Prelude.{◌≡◌, ◌<◌, ◌≤◌, ◌+◌, ◌++◌, ◌==◌, ◌^◌, ◌&&◌, if◌then◌else◌, not}
 use Rattle.transcript_law.proofs.Words.{ℕ, Bool, true, false, List, [], length, refl, sym, ap, ◌∙◌, subst, arith, inl, inr, is_some, Role, ⊎_elim, eqb-false, eqb-true, Option, Some, None, Status, Event, Frame, LogEntry, StreamAsk, AskAnswer, Verdict, Continue, Roll, rule, Cluster, States, PlainNode, PlainWorld, PlainProducer, PlainStream, Plain, is_active, stream_at, open_refusal, open_outcome, judged_open, Chronicle, after, with_vb_at, call_at, with_id, refuse, request_refusal, verdict_with, is_sync}
 use Rattle.dcp_producer.specs.{Clients.{IsShortLog}, Producers.{Served, stream_at as kept_at, with_opened}, Serving.{new_stream, next_stream, opened_answered, opening_requested, opens, refusal_requested, refused_answered, with_asked}}
 unfoldable use Rattle.dcp_producer.specs.Serving.{stream_answered, stream_request}
 use Rattle.mcbp_frame.proofs.Cases.{front}
 use Rattle.node_core.specs.Clients.{PlainClient, delivered}
-use Rattle.transcript_law.proofs.indexers.{Asking.{s as asking, answer, asked_goes, held_open, known, kept_left, left, mine, none_open, old, request, served, told, was}, Hands.{Goes, HandedUp}, Passing.{agrees, behind, cluster}}
+use Rattle.transcript_law.proofs.indexers.{Asking.{s as asking, answer, asked_goes, held_open, known, kept_left, left, mine, none_known, none_open, old, request, served, told, was}, Hands.{Goes, HandedUp}, Passing.{agrees, behind, cluster}}
 use Rattle.transcript_law.proofs.{disks.Absent.{nothing_here}, indexers.Reasons.{away_as, open_reason, own_reason, reason_of, zero_reason}}
 use Rattle.transcript_law.proofs.indexers.Granting.{granted_is, log_short, opened, opened_changes, opens_ranged, ranged_order}
-use Rattle.transcript_law.proofs.indexers.{Questions.{in_hand}, Quiet.{put_again, put_here, put_there}, Refusals.{is_opened, none_kept, own_grant, own_named, own_refusal, said_away, zero_refused}, Setting.{sync_as}, Streams.{AreOne, at_opened_here, at_opened_there, one_opened, open_opened}}
+use Rattle.transcript_law.proofs.indexers.{Questions.{in_hand}, Quiet.{put_again, put_here, put_there}, Refusals.{is_left, is_opened, none_kept, own_grant, own_named, own_refusal, said_away, takes_is, zero_refused}, Setting.{sync_as}, Streams.{AreOne, at_opened_here, at_opened_there, one_opened, open_opened}}
 use Rattle.transcript_law.proofs.indexers.Worlds.{free_own, step_at, step_quiet, vb_here, world_with}
 use Rattle.transcript_law.proofs.invariant.{Carried.{all_there}, ClientsKept.{IsFree}, Agreement.{idle, AgreesAt, IsRefused, VbAgrees, is_down, power_of}, ClientsTold.{KeptIs, setup_of}, Holdings.{vb_of}, OpenStreams.{Among, AreKept, kept_asked, kept_opened}, Seats.{seat}, Tables.{id_here, id_there}}
 use Rattle.transcript_law.proofs.links.Verdicts.{active_vb_lines, go_lawful, opens_active, opens_free, refusal_named, own_said, roll_lawful}
-use Rattle.transcript_law.specs.{ClientFrames.{ask_of, is_sync as setup_sync, setup_after}, ClientStreams.{granted_if, new_stream as known_stream}, Feeding.{HasFed, HasOpen}}
+use Rattle.transcript_law.specs.{ClientFrames.{ask_of, is_sync as setup_sync, setup_after}, ClientStreams.{granted_if, new_stream as known_stream, opened_after}, Feeding.{HasFed, HasOpen}}
 use Rattle.transcript_law.specs.{LawfulClients.{IsActive, IsFree as IsFreeOf, IsRefusal, RefusesAs, RefusesBy, RefusesOwn}, StreamLaws.{GrantsAs, LawfulSaid, LawfulVerdict}, StreamsTold.{ClientStream}}
 use Rattle.vb_calls.specs.declared.calls.VbCall.TheVariants as call
 use Rattle.vb_events.specs.declared.event.StreamName.{StreamName}
@@ -85,20 +85,22 @@ module _ (w : PlainWorld) (n c : ℕ) (node : PlainNode) (r : Chronicle) (f : Fr
   said_at pv there said verdict grants = own_said so_far k (agrees w n c node r f states lines client up).sound (agrees w n c node r f states lines client up).hists n v (seat n v) pv (agrees_at pv there) ask said verdict grants
 
   -- each vBucket is as it was, and so are the producer's streams
-  quiet : (st : States) → ((q : ℕ) → st q ≡ states q) → (end : PlainProducer) → end.desk ≡ p.desk → end.handshake ≡ p.handshake → end.streams ≡ p.streams → AreKept end → (log : List LogEntry) (high : ℕ) (said : AskAnswer) → IsNoGo said
-      → LawfulSaid so_far n v ask high log said → RefusesOwn (setup_of p.handshake) (left_at v) ask said → RefusesBy (setup_of p.handshake) (so_far.role_at n v) (left_at v) ask said → IsShortLog log → Comes (st, answer w n c node r f states lines client up ask asks st end log high said)
-  quiet st same end desk shaken streams kept log high said none lawful own reason short =
+  quiet : (st : States) → ((q : ℕ) → st q ≡ states q) → (end : PlainProducer) → end.desk ≡ p.desk → end.handshake ≡ p.handshake → end.streams ≡ p.streams → end.window ≡ p.window → AreKept end → (log : List LogEntry) (high : ℕ) (said : AskAnswer) → IsNoGo said
+      → LawfulSaid so_far n v ask high log said → RefusesOwn (setup_of p.handshake) (left_at v) ask said → RefusesBy (setup_of p.handshake) p.asked (so_far.role_at n v) (left_at v) ask said → end.asked ≡ opened_after (setup_of p.handshake) (left_at v) ask p.asked → IsShortLog log → Comes (st, answer w n c node r f states lines client up ask asks st end log high said)
+  quiet st same end desk shaken streams window kept log high said none lawful own reason count short =
       let client' : PlainClient = record client { session = record client.session { awaited = Some (in_hand f) }; producer = end } in
       let new : PlainWorld = world_with w n c node st (Some client') in
       asked_goes w n c node r f states lines client up ask asks st end log high said (record {
         lawful = lawful;
         own = own;
         reason = reason;
+        count = count;
         short = short;
         step = step_quiet w n c node states st (Some (was w n c node r f states lines client up ask asks)) (Some client') same;
         opens = λ q id has. inl (subst (HasOpen q id) streams has);
         desk = desk;
         shaken = shaken;
+        window = window;
         kept = kept;
         one = subst AreOne (sym streams) (mine w n c node r f states lines client up ask asks).one;
         opened = λ stream i. (mine w n c node r f states lines client up ask asks).opened stream (subst (Among stream) streams i);
@@ -111,19 +113,23 @@ module _ (w : PlainWorld) (n c : ℕ) (node : PlainNode) (r : Chronicle) (f : Fr
             (kept_left w n c node r f states lines client up ask asks q)));
       })
 
+  -- it takes a number where the vBucket is asked to open a stream
+  counts : (b : Bool) → opens p v ask ≡ b → opened_after (setup_of p.handshake) (left_at v) ask p.asked ≡ (if b then p.asked + 1 else p.asked)
+  counts b e = ap (λ t. if t then p.asked + 1 else p.asked) (takes_is p v (left_at v) ask (none_known w n c node r f states lines client up ask asks) ∙ e)
+
   granted_no : (said : AskAnswer) → IsRefusal said → GrantsAs (so_far.role_at n v) said
   granted_no said is = subst (GrantsAs (so_far.role_at n v)) (sym is.1) tt
 
   -- ---- under no number
 
   -- it is refused, by the producer itself or by its vBucket
-  refused_with : (st : States) → ((q : ℕ) → st q ≡ states q) → (log : List LogEntry) (high : ℕ) (verdict : AskAnswer) → ((code : ℕ) → verdict ≡ AskAnswer.Refuse code → code ≡ 0 → ⊥) → IsRefusal verdict → (request_refusal p ask ≡ None → RefusesAs (so_far.role_at n v) (left_at v) ask verdict)
+  refused_with : opens p v ask ≡ false → (st : States) → ((q : ℕ) → st q ≡ states q) → (log : List LogEntry) (high : ℕ) (verdict : AskAnswer) → ((code : ℕ) → verdict ≡ AskAnswer.Refuse code → code ≡ 0 → ⊥) → IsRefusal verdict → (request_refusal p ask ≡ None → RefusesAs (so_far.role_at n v) (left_at v) ask verdict)
       → ((said : AskAnswer) → LawfulVerdict so_far.tree log high ask said → GrantsAs (so_far.role_at n v) said → LawfulSaid so_far n v ask high log said) → IsShortLog log
       → Comes (st, answer w n c node r f states lines client up ask asks st p log high (verdict_with (request_refusal p ask) verdict))
-  refused_with st same log high verdict named is given lawful short =
+  refused_with shut st same log high verdict named is given lawful short =
       let said : AskAnswer = verdict_with (request_refusal p ask) verdict in
       let good = own_named p ask verdict named is so_far.tree log high in
-      quiet st same p refl refl refl (mine w n c node r f states lines client up ask asks).kept log high said (refusal_no_go said good.1) (lawful said good.0 (granted_no said good.1)) (own_refusal p (left_at v) ask verdict is) (reason_of p (so_far.role_at n v) (left_at v) ask verdict given) short
+      quiet st same p refl refl refl refl (mine w n c node r f states lines client up ask asks).kept log high said (refusal_no_go said good.1) (lawful said good.0 (granted_no said good.1)) (own_refusal p (left_at v) ask verdict is) (reason_of p (so_far.role_at n v) (left_at v) ask verdict given) (sym (counts false shut)) short
 
   refusal_of : (why : Status) → IsRefused (refuse why) → (code : ℕ) → refuse why ≡ AskAnswer.Refuse code → code ≡ 0 → ⊥
   refusal_of why named code e z = let same : status_code why ≡ code = cc in named.0 (same ∙ z)
@@ -148,14 +154,14 @@ module _ (w : PlainWorld) (n c : ℕ) (node : PlainNode) (r : Chronicle) (f : Fr
     where
       by : (o : Option Plain) → states v ≡ o → Comes (let y = call_at states v (call.OpenStream 0 ask (is_sync p.handshake)) o in (y.0, refused_answered f ask s y.1))
       by None none =
-          refused_with states (λ q. refl) [] 0 (refuse Status.NotMyVbucket) (λ code e z. let same : 7 ≡ code = cc in omega (arith, same, z)) (status_code Status.NotMyVbucket, refl) (λ passed. away_as (so_far.role_at n v) (left_at v) ask (away_here none))
+          refused_with shut states (λ q. refl) [] 0 (refuse Status.NotMyVbucket) (λ code e z. let same : 7 ≡ code = cc in omega (arith, same, z)) (status_code Status.NotMyVbucket, refl) (λ passed. away_as (so_far.role_at n v) (left_at v) ask (away_here none))
           (λ said verdict grants. said_away so_far n v before_it k (agrees w n c node r f states lines client up) (vb_here w n c node states (Some (was w n c node r f states lines client up ask asks)) v ∙ none) running ask said verdict grants)
           (few_short [] (omega arith))
       by (Some pv) there =
           let (why, because) = zero_refused pv ask in
           let at : VbAgrees so_far n v (k.nodes (seat n v)) pv = agrees_at pv there in
           subst (λ o. Comes (with_vb_at states v (open_outcome o pv 0 ask (is_sync p.handshake)).0, refused_answered f ask s (Some (open_outcome o pv 0 ask (is_sync p.handshake)).1))) (sym because)
-          (refused_with (with_vb_at states v pv) (put_again states v pv there) pv.log pv.position.at (refuse why) (refusal_of why (refusal_named pv 0 ask why because)) (status_code why, refl)
+          (refused_with shut (with_vb_at states v pv) (put_again states v pv there) pv.log pv.position.at (refuse why) (refusal_of why (refusal_named pv 0 ask why because)) (status_code why, refl)
           (λ passed. let (g, has, over) = had_one shut passed in zero_reason so_far k n v (seat n v) pv at (left_at v) ask why because g has over)
           (λ said verdict grants. said_at pv there said verdict grants) (few_short pv.log (short_at pv there)))
 
@@ -177,14 +183,14 @@ module _ (w : PlainWorld) (n c : ℕ) (node : PlainNode) (r : Chronicle) (f : Fr
     free_left : IsFreeOf (left_at v)
     free_left g e over = none_open w n c node r f states lines client up ask asks v free_here g e over
 
-    reason_so : (said : AskAnswer) → RefusesAs (so_far.role_at n v) (left_at v) ask said → RefusesBy (setup_of p.handshake) (so_far.role_at n v) (left_at v) ask said
-    reason_so said given open_it zero = inr given
+    reason_so : (said : AskAnswer) → RefusesAs (so_far.role_at n v) (left_at v) ask said → RefusesBy (setup_of p.handshake) p.asked (so_far.role_at n v) (left_at v) ask said
+    reason_so said given over zero = inr (is_left p (left_at v) ask v open_it, given)
 
     -- it is not let continue
     not_let : (st : States) → ((q : ℕ) → st q ≡ states q) → (log : List LogEntry) (high : ℕ) (said : AskAnswer) → IsNoGo said → LawfulSaid so_far n v ask high log said → RefusesAs (so_far.role_at n v) (left_at v) ask said → IsShortLog log
         → Comes (st, answer w n c node r f states lines client up ask asks st (with_asked p) log high said)
     not_let st same log high said none lawful given short =
-        quiet st same (with_asked p) refl refl refl (kept_asked p (mine w n c node r f states lines client up ask asks).kept) log high said none lawful (own_so said) (reason_so said given) short
+        quiet st same (with_asked p) refl refl refl refl (kept_asked p (mine w n c node r f states lines client up ask asks).kept) log high said none lawful (own_so said) (reason_so said given) (sym (counts true open_it)) short
 
     module _ (pv : Plain) (there : states v ≡ Some pv) where
       at : VbAgrees so_far n v (k.nodes (seat n v)) pv
@@ -262,12 +268,14 @@ module _ (w : PlainWorld) (n c : ℕ) (node : PlainNode) (r : Chronicle) (f : Fr
               (active_vb_lines so_far k (agrees w n c node r f states lines client up).sound (agrees w n c node r f states lines client up).hists n v (seat n v) pv at ask active);
           own = own_so AskAnswer.Go;
           reason = reason_so AskAnswer.Go (open_reason so_far k n v (seat n v) pv at (left_at v) ask id free_left active (opens_ranged pv id ask opens_it) AskAnswer.Go (λ is. no_refusal AskAnswer.Go tt is));
+          count = sym (counts true open_it);
           short = few_short pv.log (short_at pv there);
           step = step_at w n c node states st (Some (was w n c node r f states lines client up ask asks)) (Some client') v id pv pv' there (put_here states v pv') (λ q other. put_there states v pv' q other)
               (opened_changes pv id ask sync at.sound) (free_own w n c node before_it (agrees w n c node r f states lines client up).differ v id nobody);
           opens = λ q j has. ⊎_elim (λ had. inl had) (λ o. inr (subst (λ x. IsFree j (vb_of before_it n x)) o.0 (subst (λ y. IsFree y (vb_of before_it n v)) o.1 free_there))) (open_opened q j stream p.streams has);
           desk = refl;
           shaken = refl;
+          window = refl;
           kept = kept_opened p stream refl (mine w n c node r f states lines client up ask asks).kept;
           one = one_opened stream p.streams free_here (mine w n c node r f states lines client up ask asks).one;
           opened = λ t i. is_opened p (left_at v) ask v open_it;

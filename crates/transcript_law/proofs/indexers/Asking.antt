@@ -1,23 +1,22 @@
 -- a request for a stream of a client is answered: what is known then, and that its line is lawful
-use Rattle.std.specs.Prelude.{◌≡◌, ◌∷◌, ◌++◌, take, drop}
+use Rattle.std.specs.Prelude.{◌≡◌, ◌∷◌, ◌++◌, is_some, not, take, drop}
 use Rattle.transcript_law.proofs.Words.{ℕ, true, false, List, [], refl, sym, ap, ◌∙◌, subst, inl, inr, arith, append-nil, Option, Some, None, Cluster, Event, Frame, LogEntry, StreamAsk, AskAnswer, States, PlainNode, PlainWorld, PlainProducer, PlainStream, Chronicle, after_line, after_lines, begun, spelling, with_at}
 use Rattle.dcp_producer.proofs.{ClientAnswers.{ask_short}, Headers.{front_cut, front_left}}
 use Rattle.dcp_producer.specs.{Clients.{IsShortLog}, Cuts.{IsShort}, Producers.{Served, is_open, stream_at as kept_at}, Serving.{ask_line}}
 unfoldable use Rattle.dcp_producer.specs.Serving.{stream_answered}
-unfoldable use Rattle.mcbp_dcp.specs.DcpFrames.{dcp_frame}
 use Rattle.dcp_producer.specs.declared.desk.Desk.{Desk}
 use Rattle.node_core.specs.Clients.{PlainClient, delivered, front_len}
 unfoldable use Rattle.node_core.specs.Clients.{with_replies}
 use Rattle.mcbp_dcp.specs.declared.message.DcpMsg.TheVariants as msg
 use Rattle.transcript_law.proofs.answers.Messages.{IsAnswerTo, asks_stream, stream_answer_to, stream_wants}
-use Rattle.transcript_law.proofs.indexers.{Hands.{Goes, HandedUp, answered_agrees, answered_as, question_told, reply_lawful}, Known.{bytes_left, next_request, no_frames}, Moments.{told_is}, Passing.{agrees, before, behind, bytes_behind, cluster, own, same_settings, so_far}}
+use Rattle.transcript_law.proofs.indexers.{Flows.{flow_more}, Hands.{Goes, HandedUp, answered_agrees, answered_as, question_told, reply_lawful}, Known.{bytes_left, next_request, no_frames}, Moments.{told_is}, Passing.{agrees, before, behind, bytes_behind, cluster, own, same_settings, so_far}}
 use Rattle.transcript_law.proofs.indexers.Questions.{dcp_numbers, free_numbers, hand_asks, hand_if, hand_zero, in_hand, next_is}
 use Rattle.transcript_law.proofs.indexers.{Serving.{agrees_as, kept_past}, Steps.{ClientStep}, Streams.{AreOne}, Worlds.{OpensOwn, stepped, waited, world_with}}
 use Rattle.transcript_law.proofs.invariant.{Agreement.{AgreesIn, answer_frame, idle}, ClientsTold.{ClientAgrees, HasUsed, KeptIs, setup_of}, Holdings.{vb_of}, OpenStreams.{Among, AreKept}, Owed.{idle_free, waits_hand}, Tables.{at_here}}
 use Rattle.transcript_law.proofs.lines.Telling.{LawfulBefore, before_more, told_more}
-use Rattle.transcript_law.specs.{ClientFrames.{Request, ask_of, is_closed_by, message_of, request_in, set_by}, ClientStreams.{past_asked, past_request, unclosed}}
+use Rattle.transcript_law.specs.{ClientFrames.{Request, ask_of, is_closed_by, message_of, request_in, set_by, setup_after}, ClientStreams.{has_none, opened_after, past_asked, past_request, unclosed}}
 use Rattle.transcript_law.proofs.answers.Calm.{durable_left}
-use Rattle.transcript_law.specs.{LawfulAnswers.{AllDurable, FitsBy, FitsFrame, LawfulReply}, LawfulClients.{RefusesBy, RefusesOwn}, LawfulMessages.{FitsMessage, Moment, moment_of}, Questions.{Question, past_question, question_of, wants_answer}, StreamLaws.{LawfulSaid}, StreamsTold.{ClientKnown, ClientStream}}
+use Rattle.transcript_law.specs.{LawfulAnswers.{AllDurable, FitsBy, FitsFrame, LawfulReply}, LawfulClients.{RefusesBy, RefusesOwn}, LawfulMessages.{FitsMessage, Moment, moment_of}, Questions.{Question, past_question, question_of, wants_answer, window_by}, StreamLaws.{LawfulSaid}, StreamsTold.{ClientKnown, ClientStream}}
 use Rattle.vb_events.specs.declared.event.StreamName.TheVariants as name
 use Rattle.transcript_law.specs.LawfulAnswers.{serving}
 
@@ -80,6 +79,17 @@ module _ (w : PlainWorld) (n c : ℕ) (node : PlainNode) (r : Chronicle) (f : Fr
   pub kept_left : (q : ℕ) → KeptIs told.tree (told.branch_at n q) (told.held n q) (vb_of old n q) false (left q) (kept_at q p.streams)
   kept_left q = kept_past told.tree (told.branch_at n q) (told.held n q) (vb_of old n q) (is_closed_by served q) (known.streams q) (kept_at q p.streams) (mine.streams q)
 
+  -- it is known of none of the vBucket exactly where the producer has none
+  pub none_known : has_none (left v) ≡ not (is_some (kept_at v p.streams))
+  none_known = by (left v) (kept_at v p.streams) (kept_left v)
+    where
+      by : (known : Option ClientStream) (kept : Option PlainStream) → KeptIs told.tree (told.branch_at n v) (told.held n v) (vb_of old n v) false known kept → has_none known ≡ not (is_some kept)
+      by None None x = refl
+      by (Some g) None (inl z) = cc
+      by (Some g) None (inr over) = over
+      by None (Some stream) x = absurd x
+      by (Some g) (Some stream) x = x.1.over
+
   -- none is open that the producer does not have
   pub none_open : (q : ℕ) → kept_at q p.streams ≡ None → (g : ClientStream) → left q ≡ Some g → g.over ≡ false → ⊥
   none_open q none g e still = by (left q) (kept_at q p.streams) none e (kept_left q)
@@ -119,12 +129,14 @@ module _ (w : PlainWorld) (n c : ℕ) (node : PlainNode) (r : Chronicle) (f : Fr
     pub record Answers : Type 0 where
       pub lawful : LawfulSaid told n v ask high log said
       pub own : RefusesOwn (setup_of p.handshake) (left v) ask said
-      pub reason : RefusesBy (setup_of p.handshake) (told.role_at n v) (left v) ask said
+      pub reason : RefusesBy (setup_of p.handshake) p.asked (told.role_at n v) (left v) ask said
+      pub count : end.asked ≡ opened_after (setup_of p.handshake) (left v) ask p.asked
       pub short : IsShortLog log
       pub step : ClientStep old new n c
       pub opens : OpensOwn w n c node states st was now told past (cluster w n c node r f states lines client up) (agrees w n c node r f states lines client up) step
       pub desk : end.desk ≡ p.desk
       pub shaken : end.handshake ≡ p.handshake
+      pub window : end.window ≡ p.window
       pub kept : AreKept end
       pub one : AreOne end.streams
       pub opened : (stream : PlainStream) → Among stream end.streams → is_open p.handshake ≡ true
@@ -138,10 +150,13 @@ module _ (w : PlainWorld) (n c : ℕ) (node : PlainNode) (r : Chronicle) (f : Fr
         kept = a.kept;
         one = a.one;
         opened = λ stream i. ap is_open a.shaken ∙ a.opened stream i;
+        asked = a.count ∙ (λ i. opened_after (sym mine.heard.sets i) (left v) ask (mine.asked i));
         silent = refl;
         heard = record { served = []; front = []; bytes = left_bytes; frames = no_frames; none = refl; sets = mine.heard.sets ∙ ap setup_of (sym a.shaken) };
         asks = hand_asks known.asking was.session now.session p.handshake end.handshake f up.goes.bytes up.first mine.asks up.free (ap (λ m. set_by m (setup_of p.handshake)) message_is ∙ ap setup_of (sym a.shaken)) up.behind refl (λ none. refl)
             (sym (ap (λ b. hand_if b f) wanting));
+        flow = flow_more known.flow was.session now.session p.handshake end.handshake p.window end.window f up.goes.bytes up.first up.behind (ap (λ m. set_by m (setup_of p.handshake)) message_is ∙ ap setup_of (sym a.shaken))
+            (ap (λ m. window_by m (setup_of p.handshake).opened p.window) message_is ∙ sym a.window) mine.flow;
         streams = a.streams;
       })
 
@@ -184,7 +199,7 @@ module _ (w : PlainWorld) (n c : ℕ) (node : PlainNode) (r : Chronicle) (f : Fr
           vb = refl;
           answered = a.lawful;
           own = subst (λ x. RefusesOwn x (left v) ask said) (sym mine.heard.sets) a.own;
-          reason = subst (λ x. RefusesBy x (told.role_at n v) (left v) ask said) (sym mine.heard.sets) a.reason;
+          reason = subst (λ k. RefusesBy (setup_after known.setup served) k (told.role_at n v) (left v) ask said) mine.asked (subst (λ x. RefusesBy x p.asked (told.role_at n v) (left v) ask said) (sym mine.heard.sets) a.reason);
           frame = (more, refl);
         },
         ((λ z. subst (λ x. LawfulReply x n c (x.clients_at n c).asking bytes more) (sym line_told) answer_lawful), rest),
@@ -207,7 +222,7 @@ module _ (w : PlainWorld) (n c : ℕ) (node : PlainNode) (r : Chronicle) (f : Fr
               let (g, out, response, code, number, said_so) = answer_is in
               subst (λ out. LawfulReply told_then n c (told_then.clients_at n c).asking out more) (sym out)
               (reply_lawful told_then n c question g more asked_next response code number
-              (fits g) (inr up.goes.calm))
+              (fits g) (inr (inr (up.goes.calm, up.goes.still up.free))))
 
       -- so they are delivered
       named_at : (d : Desk) → d ≡ record { stream = name.Client n c; node = n; base = d.base } → (x y : ℕ) → x ≡ n → y ≡ c → with_replies x y (ask_line d f ask log high said ∷ []) bytes ≡ line ∷ Event.Reply n c bytes ∷ []
@@ -234,4 +249,5 @@ module _ (w : PlainWorld) (n c : ℕ) (node : PlainNode) (r : Chronicle) (f : Fr
         );
         bytes = bytes_behind w n c node r f states lines client up;
         calm = subst (λ (x : Chronicle). AllDurable x.made) (sym (ap (λ es. after_lines r (lines ++ es)) is_delivered ∙ told_more r lines (line ∷ Event.Reply n c bytes ∷ []) ∙ both_told)) (durable_left told_then.made);
+        still = λ free. ap (λ (x : Chronicle). x.changed) (ap (λ es. after_lines r (lines ++ es)) is_delivered ∙ told_more r lines (line ∷ Event.Reply n c bytes ∷ []) ∙ both_told);
       }

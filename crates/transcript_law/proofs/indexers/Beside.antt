@@ -1,12 +1,12 @@
--- what the connections of clients are, which changes were made in a group, and whose prepares its line gives up, is no part of what agrees
-use Rattle.transcript_law.proofs.Words.{ℕ, Option, List, refl, inl, Chronicle, Cluster, PlainWorld}
+-- what the connections of clients are, which changes were made in a group, whether one was told since a client was sent a frame, and whose prepares its line gives up, is no part of what agrees
+use Rattle.transcript_law.proofs.Words.{ℕ, Bool, Option, List, refl, inl, Chronicle, Cluster, PlainWorld}
 use Rattle.transcript_law.proofs.invariant.{Agreement.{Agrees, AgreesIn, idle}, Begun.{owed_begins}, Carried.{all_there}, ClientsKept.{all_kept, clients_kept, every_owed}, Owing.{Grows}}
 use Rattle.transcript_law.specs.LinesTold.{Conns, OwnChange, at_line}
 
 -- all may be told otherwise
-pub beside : (w : PlainWorld) (r : Chronicle) (conns : Conns) (made : List OwnChange) (ticks : Option (ℕ × ℕ)) (c : Cluster) → Grows r.made made → AgreesIn idle w r c → AgreesIn idle w (record r { conn_at = conns; made = made; ticks = ticks }) c
-beside w r conns made ticks c grows a =
-    let r' : Chronicle = record r { conn_at = conns; made = made; ticks = ticks } in let kept = all_kept w w r r' (λ m d. refl) (λ m d. refl) refl (λ n v. refl) (λ n v. refl) in record {
+pub beside : (w : PlainWorld) (r : Chronicle) (conns : Conns) (made : List OwnChange) (ticks : Option (ℕ × ℕ)) (changed : Bool) (c : Cluster) → Grows r.made made → AgreesIn idle w r c → AgreesIn idle w (record r { conn_at = conns; made = made; ticks = ticks; changed = changed }) c
+beside w r conns made ticks changed c grows a =
+    let r' : Chronicle = record r { conn_at = conns; made = made; ticks = ticks; changed = changed } in let kept = all_kept w w r r' (λ m d. refl) (λ m d. refl) refl (λ n v. refl) (λ n v. refl) in record {
       sound = a.sound;
       vbs = a.vbs;
       disks = a.disks;

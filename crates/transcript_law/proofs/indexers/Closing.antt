@@ -1,12 +1,11 @@
 -- a connection of a client is opened, or closed by the client
 use Rattle.std.specs.Prelude.{◌≡◌, ◌≤◌, ◌+◌, ◌*◌, ◌^◌, if◌then◌else◌}
 use Rattle.transcript_law.proofs.Words.{ℕ, eq-eqb, [], refl, sym, ap, ◌∙◌, subst, arith, Option, Some, None, is_some, All-nil, Answer, Cause, Chronicle, ClientVerb, PlainNode, PlainStream, PlainWorld, Told, Verb, client_at, done, hang_at, on_node, refusal, verb_step, with_client, with_node_at}
-unfoldable use Rattle.dcp_producer.specs.Ending.{end_closed}
 use Rattle.dcp_producer.specs.declared.desk.Handshake.{Handshake}
 use Rattle.node_core.specs.Clients.{PlainClient, new_client}
 use Rattle.node_world.specs.{Links.{base_of}, Nodes.{hung_if}}
 use Rattle.transcript_law.proofs.indexers.{Known.{no_frames}, Pulled.{world_again}, Shutting.{Shut, shut_goes}, Steps.{ClientStep, apart_less, client_carried, clients_told, fed_less, known_with, step_one}, Worlds.{client_here, step_quiet, world_with}}
-use Rattle.transcript_law.proofs.invariant.{ClientWorlds.{ConnsAre, shut_then}, Agreement.{Agrees, AgreesIn, GoesOn, idle, vb_of}, ClientsTold.{AskingIs, ClientAgrees, KeptIs}, Owed.{OneOwed, Owed, owed_gone}, Begun.{Begins, ServesOpen, IsBegun, IsFresh, begins_fresh, owed_fresh}, Tables.{at_here, at_there}}
+use Rattle.transcript_law.proofs.invariant.{ClientWorlds.{ConnsAre, shut_then}, Agreement.{Agrees, AgreesIn, GoesOn, idle, vb_of}, ClientsTold.{AskingIs, ClientAgrees, FlowIs, KeptIs}, Owed.{OneOwed, Owed, owed_gone}, Begun.{Begins, ServesOpen, IsBegun, IsFresh, begins_fresh, owed_fresh}, Tables.{at_here, at_there}}
 use Rattle.transcript_law.proofs.verbs.NodeLines.{on_node_by, refused_on}
 use Rattle.transcript_law.specs.{Chronicles.{after_blank, at_line}, ClientFrames.{is_closed_by}, Feeding.{HasFed, HasOpen, client_in}, StreamsTold.{ClientKnown, blank_client, with_at}}
 use Rattle.vb_events.specs.declared.event.StreamName.{StreamName}
@@ -30,10 +29,13 @@ new_agrees w r n base c blank = record {
   kept = record { ids = refl; rise = tt; numbered = All-nil (λ (s : PlainStream). s.id ≤ base * 2 ^ 32 + 0); turn = omega arith };
   one = λ s i. absurd i;
   opened = λ s i. absurd i;
+  asked = sym (ap (λ (k : ClientKnown). k.opened) blank);
   silent = ap (λ (k : ClientKnown). k.told) blank;
   heard = record { served = []; front = []; bytes = ap (λ (k : ClientKnown). k.bytes) blank; frames = no_frames; none = refl; sets = ap (λ (k : ClientKnown). k.setup) blank };
   asks = subst (λ (k : ClientKnown). AskingIs k.asking (new_client (record { node = n; client = c; base = base })).session Handshake.Fresh) (sym blank)
       (record { served = []; front = []; bytes = refl; frames = no_frames; sets = refl; settings = refl; answered = refl; numbers = record { most = omega arith; each = λ few. omega arith } });
+  flow = subst (λ (k : ClientKnown). FlowIs k.flow (new_client (record { node = n; client = c; base = base })).session Handshake.Fresh (new_client (record { node = n; client = c; base = base })).producer.window) (sym blank)
+      (record { served = []; front = []; bytes = refl; frames = no_frames; sets = refl; is = refl });
   streams = λ v. subst (λ (k : ClientKnown). KeptIs r.tree (r.branch_at n v) (r.held n v) (vb_of w n v) (is_closed_by [] v) (k.streams v) None) (sym blank) tt;
 }
 

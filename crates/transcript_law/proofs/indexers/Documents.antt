@@ -1,57 +1,30 @@
 -- requests of a client for documents: all lines are lawful, each answer fits what the lines tell, and after them all agrees, with the connection as the session left it
-use Rattle.std.specs.Prelude.{◌≡◌, ◌≢◌, ◌⊎◌, ◌<◌, ◌≤◌, ◌*◌, ◌+◌, ◌∷◌, ◌++◌, ◌==◌, ◌^◌, if◌then◌else◌, nat_le}
-use Rattle.transcript_law.proofs.Words.{ℕ, Bool, true, false, List, [], refl, ap, sym, ◌∙◌, subst, inl, inr, ⊎_elim, arith, nat_tests, ne_eqb, Pend, All-cons, append_assoc, append-nil, All, AreBytes, Option, Some, None, Result, Ok, Err, length, image_of, eq-eqb, Op, Frame, WriteFits, KvRequest, Change}
+use Rattle.std.specs.Prelude.{◌≡◌, ◌≢◌, ◌⊎◌, ◌<◌, ◌≤◌, ◌*◌, ◌+◌, ◌∷◌, ◌++◌, ◌^◌, if◌then◌else◌, nat_le}
+use Rattle.transcript_law.proofs.Words.{ℕ, Bool, true, false, List, [], refl, ap, sym, ◌∙◌, subst, inl, inr, ⊎_elim, arith, nat_tests, ne_eqb, Pend, All-cons, append_assoc, append-nil, AreBytes, Option, Some, None, Result, Ok, Err, length, image_of, eq-eqb, Op, Frame, WriteFits, KvRequest, Change}
 use Rattle.transcript_law.proofs.Words.{Event, Status, Write, Member, Move, happens, VbReply, VbCall, Plain, plain_step, Done, after, newest_branch, is_active, doc_at, refusal_reply, States, with_vb_at, call_at, growth, write_change, new_cas}
 use Rattle.transcript_law.proofs.Words.{Sound, StaysSound, PlainSession, request_handled, told, PlainNode, PlainWorld, with_node_at, with_client, with_states, spelling, Chronicle, after_lines, after_change}
-use Rattle.transcript_law.proofs.{Words.{LawfulFrom}, invariant.Seats.{seat}, invariant.Agreement.{Agrees, AgreesIn, clock_of, idle}, invariant.Carrying.{Changed}, lines.Lines.{lawful_more}, verbs.NodeLines.{agrees_same, node_again, node_grown, put_same, shelves_again}}
-use Rattle.transcript_law.proofs.answers.{Awaited.{IsOutstanding, Stood, awaited, prepared_stood, written_stood}, Calm.{OfDurable, durable_settled, durable_told}, Claims.{OwnClaim, changes_last, serves_line}, Committed.{HowTold, all_told, change_told}, Explained.{IsExplained, IsPrepareOf, explained, outcome_in, placed_of}}
+use Rattle.transcript_law.proofs.{Words.{LawfulFrom}, disks.Disks.{power_in}, invariant.Seats.{seat}, invariant.Agreement.{Agrees, AgreesIn, clock_of, idle}, invariant.Carrying.{Changed}, lines.Lines.{lawful_more}, verbs.NodeLines.{agrees_same, node_again, node_grown, put_same, shelves_again}}
+use Rattle.transcript_law.proofs.answers.{Awaited.{IsOutstanding, Stood, awaited, prepared_stood, written_stood}, Calm.{OfDurable, durable_settled, durable_told}, Claims.{IsOwn, OwnClaim, changes_last, serves_line}, Committed.{HowTold, all_told, change_told}, Explained.{explained, outcome_in, placed_of}}
 use Rattle.{durability.specs.declared.waiting.Waiting.{Waiting}, std.proofs.lemmas.Bool.{cases_eq}, transcript_law.proofs.invariant.{Carrying.{same_clients}, Holdings.{vb_of}, Owed.{IsWaitOf, Owed, Owing, fewer_some, owed_placed}}, transcript_law.specs.StreamsTold.{Asking}}
 use Rattle.transcript_law.proofs.answers.Fits.{KnownAs, Repeats, durable_away, durable_refused_fits, frame_fits, is_outcome, get_away, get_fits, has_opcode, known_as, made_fits, not_here, outcome_fits, outcome_repeats, refused_fits, reply_repeats, status_fits, status_repeats, stored_repeats, value_repeats, welcome_fits, write_away}
 use Rattle.transcript_law.proofs.{invariant.ClientsTold.{HasUsed}, invariant.Lefts.{left_on, left_placed}, invariant.Sessions.{Received}, invariant.Tables.{at_here}, indexers.{Hands.{Goes, Standing, answered_goes, calmly, session_goes, stands}, Questions.{awaited_asks, hand_zero, in_hand, used_as}, Worlds.{client_here, step_quiet, vb_here, waited_else_same, world_with}}, verbs.Settling.{SettlesOn, Steady, changes_quiet, changes_told, settles}}
-use Rattle.transcript_law.proofs.{lines.Telling.{LawfulBefore, before_more, told_more}, verbs.Writing.{change_fits, fewer_written, has_room, is_lawful, mine as mine_vb, newest, prepare_fits, prepare_fulfils, prepare_unheld, room_for_two, store_taken, write_aborts, write_fulfils, write_unheld, written}, verbs.Times.{fewer_times, placed_times, up_at_end}}
-use Rattle.client_session.specs.Answers.{status_reply, stored_reply, value_reply, reply_to, reply_line, reply_lines, change_lines, request_lines}
+use Rattle.transcript_law.proofs.{lines.Telling.{LawfulBefore, before_more, told_more}, verbs.Writing.{change_fits, fewer_written, has_room, is_lawful, mine as mine_vb, newest, prepare_fits, prepare_fulfils, prepare_unheld, room_for_two, store_taken, write_aborts, write_fulfils, write_prepares, write_unheld, written}, verbs.Times.{fewer_times, placed_times, up_at_end}}
+use Rattle.client_session.specs.Answers.{status_reply, stored_reply, value_reply, reply_to, reply_line, reply_lines, change_lines}
 use Rattle.client_session.specs.Serving.{MOST_DURABLE, Served, awaited_by, deadline_of, durable_called, durable_replied, next_waiter, outcome_of, outcome_reply, answered_or_awaited, refused, served, settings_of, with_lines, with_used}
 use Rattle.client_session.{specs.Serving.{is_dcp}, specs.declared.session.{Awaited.{Awaited}, Settings.{Settings}, Who.{Who}}}
-use Rattle.transcript_law.proofs.disks.Disks.{power_in}
-use Rattle.{mcbp_kv.proofs.Commands.{read_fits, timeouts_fit}, mcbp_kv.specs.Features.{feature_bytes}, mcbp_kv.specs.Requests.{request_of}, mcbp_kv.specs.declared.reply.KvReply.{KvReply}}
-use Rattle.transcript_law.proofs.indexers.Requests.{AskedFits, IsUncounted, no_change, removes_alone, some_reply}
-use Rattle.vb_calls.specs.{Durable.{Wish, durable_outcome, durable_refusal, outstanding, prepare_change, prepared_vb}, Settling.{is_empty, settled, unresolved}, State.{get_row, is_left, pending_of}, States.{stepped_at}}
-use Rattle.vb_calls.specs.Writes.{store_refusal, store_outcome, key_refusal, lacks_seqnos}
-use Rattle.vb_calls.specs.declared.calls.{Resolution.{Resolution}}
-use Rattle.vb_calls.specs.declared.calls.VbCall.TheVariants.{Durable, Get, Store}
-use Rattle.node_core.specs.Clients.{PlainClient}
-use Rattle.mcbp_kv.specs.declared.durable.Durability.{Durability}
-use Rattle.transcript_law.specs.{LawfulAnswers.{AllDurable, FitsFrame, FitsRequest, HasNumber, IsOutcome, WRITE_NUMBERS}, LawfulClients.{IsActive}, LawfulMessages.{Moment, moment_of}, Lawfulness.{IsUp}, Questions.{Question, durables_after, durables_by, question_of, settings_after, settings_by}, LinesTold.{OwnChange}, StreamsTold.{ClientsKnown, with_at}, Unanswered.{AsksDurably}}
-use Rattle.mcbp_kv.specs.Replies.{reply_frame}
+use Rattle.{mcbp_kv.proofs.Commands.{read_fits, timeouts_fit}, mcbp_kv.specs.Features.{feature_bytes}, mcbp_kv.specs.Requests.{request_of}, mcbp_kv.specs.Replies.{reply_frame}, mcbp_kv.specs.declared.{durable.Durability.{Durability}, reply.KvReply.{KvReply}}}
+use Rattle.transcript_law.proofs.indexers.{Answering.{answered_by, clients_past, durably_by, one_branch, put_twice}, Requests.{AskedFits, IsUncounted, no_change, removes_alone, some_reply}}
+use Rattle.vb_calls.specs.{Settling.{is_empty, settled, unresolved}, State.{get_row, is_left, pending_of}, States.{stepped_at}, Durable.{Wish, durable_outcome, is_delete, durable_refusal, outstanding, prepare_change, prepared_vb}}
+use Rattle.vb_calls.specs.Writes.{store_refusal, store_outcome, key_refusal, lacks_seqnos, new_rev, written_doc}
+use Rattle.vb_calls.specs.declared.calls.{Resolution.{Resolution}, VbCall.TheVariants.{Durable, Get, Store}}
+use Rattle.transcript_law.specs.{LawfulAnswers.{AllDurable, FitsFrame, FitsRequest, HasNumber, IsMadeIn, IsStill, IsTimely, WRITE_NUMBERS, serving}, LawfulClients.{IsActive}, LawfulMessages.{Moment, moment_of}, Lawfulness.{IsPrepareAsked, IsUp}, Questions.{Question, durables_after, durables_by, question_of, settings_after, settings_by}, LinesTold.{LastLine, OwnChange, told_for}, StreamsTold.{ClientsKnown, with_at}, Unanswered.{AsksDurably}}
 use Rattle.vb_types.specs.declared.status.Status.TheVariants.{Etmpfail, NotMyVbucket, Success}
 use Rattle.mcbp_kv.specs.declared.request.KvRequest.TheVariants as request
 use Rattle.durability.specs.{Chains.{is_possible}, Outstanding.{placed}}
-use Rattle.{transcript_law.proofs.verbs.Making.{prepare_is_next, write_is_next}, vbucket.proofs.{Preparing.{durable_free, prepared_sound}, Soundness.{cas_rises}, Storing.{said_none}}}
+use Rattle.{node_core.specs.Clients.{PlainClient}, transcript_law.proofs.verbs.Making.{prepare_is_next, write_is_next}, vbucket.proofs.{Preparing.{durable_free, prepared_sound}, RowIs.{Prepares}, Soundness.{cas_rises}, Storing.{said_none}}}
 use Rattle.transcript_law.proofs.invariant.Owing.{IsToldIn, OwedIf, OwedIn}
-use Rattle.transcript_law.specs.{LawfulAnswers.{IsMadeIn, serving}, LinesTold.{LastLine, told_for}}
 use Rattle.vb_types.specs.declared.change.Act.TheVariants as act
-
--- changes tell nothing of clients
-clients_past : (r : Chronicle) (n v uuid : ℕ) (cs : List Change) → (after_lines r (changes_told n v uuid cs)).clients_at ≡ r.clients_at
-clients_past r n v uuid [] = refl
-clients_past r n v uuid (c ∷ cs) = clients_past (after_change r n v uuid c) n v uuid cs
-
--- the vBuckets and the session after a request that a vBucket answered so
-abbrev answered_by : Frame → Served → States × Option VbReply → States × Served
-answered_by f s (states, reply) = (states, with_lines s (request_lines s.session.who.node s.session.who.client s.session.settings f reply))
-
--- and after a durable one
-abbrev durably_by : Frame → Served → States × Option VbReply → States × Served
-durably_by f s (states, reply) = (states, durable_replied (next_waiter s.session) f (with_used s) reply)
-
--- a vBucket that is put twice is put once
-put_twice : (states : States) (v : ℕ) (one other : Plain) (q : ℕ) → with_vb_at states v other q ≡ with_vb_at (with_vb_at states v one) v other q
-put_twice states v one other q = elim (q == v) as (λ b. (if b then Some other else states q) ≡ (if b then Some other else (if b then Some one else states q))) [ true ↦ refl | false ↦ refl ]
-
--- the branch that is told is the vBucket's, whether any prepare was committed
-one_branch : (b : Bool) (u other : ℕ) → other ≡ u → (if b then u else other) ≡ u
-one_branch true u other e = refl
-one_branch false u other e = e
+use Rattle.vb_types.specs.declared.{change.Level.{Level}, doc.Doc.{Doc}}
 
 module _ (stays : StaysSound) (steady : Steady) (w : PlainWorld) (r : Chronicle) (n c clock : ℕ) (base : PlainNode) (client : PlainClient) (before : List Event) (small : clock < 2 ^ 64) (shows : base.clock ≡ clock) where
   -- the node with this connection
@@ -145,7 +118,7 @@ module _ (stays : StaysSound) (steady : Steady) (w : PlainWorld) (r : Chronicle)
       settings = x.1.session.settings
 
       answered : (asked : Result KvRequest Status) → request_of settings.json f ≡ asked → (session : PlainSession) → session.who ≡ x.1.session.who → session.closed ≡ x.1.session.closed → session.reader ≡ x.1.session.reader → session.awaited ≡ None
-          → session.settings ≡ settings_by asked settings → session.used ≡ x.1.session.used → HasUsed session.used (durables_by asked count) → (reply : KvReply) → Repeats f (reply_frame reply) → FitsRequest (serving_at x) (so_far x) n count settings f (reply_frame reply) asked → IsOutcome settings f (reply_frame reply) ⊎ AllDurable (so_far x).made
+          → session.settings ≡ settings_by asked settings → session.used ≡ x.1.session.used → HasUsed session.used (durables_by asked count) → (reply : KvReply) → Repeats f (reply_frame reply) → FitsRequest (serving_at x) (so_far x) n count settings f (reply_frame reply) asked → IsTimely (so_far x) settings f (reply_frame reply)
           → Ends (states, served session (x.1.events ++ reply_line x.1.session.who.node x.1.session.who.client reply ∷ []))
       unfolding reply_line
       answered asked is session who closed reader free set same_used numbers reply repeats fits calm =
@@ -161,11 +134,11 @@ module _ (stays : StaysSound) (steady : Steady) (w : PlainWorld) (r : Chronicle)
           (answered_goes w n c base r g session (who ∙ held.who) (closed ∙ held.closed) (reader ∙ held.reader) (in_hand f) hand question held.next free
           (set ∙ sym after ∙ ap (λ (s : Settings). settings_after s f) held.settings) (let u = same_used ∙ held.used in omega (arith, u)) (λ l. subst (λ k. k < 2 ^ 32) (sym (same_used ∙ held.used)) l)
           (subst (λ k. HasUsed session.used (durables_after ((so_far x).clients_at n c).asking.settings f k)) (sym held.count_is) (subst (λ s. HasUsed session.used (durables_after s f count)) (held.settings ∙ sym known) (used_as refl (sym counted) numbers))) frame repeats.response repeats.opcode repeats.opaque
-          (subst (λ s. FitsFrame (serving_at x) (so_far x) n moment s f frame) (held.settings ∙ sym known) at) (subst (λ s. IsOutcome s f frame ⊎ AllDurable (so_far x).made) (held.settings ∙ sym known) calm))
+          (subst (λ s. FitsFrame (serving_at x) (so_far x) n moment s f frame) (held.settings ∙ sym known) at) (subst (λ s. IsTimely (so_far x) s f frame) (held.settings ∙ sym known) calm))
 
       -- with a status alone
-      status_goes : (asked : Result KvRequest Status) (st : Status) → request_of settings.json f ≡ asked → settings ≡ settings_by asked settings → HasUsed x.1.session.used (durables_by asked count) → FitsRequest (serving_at x) (so_far x) n count settings f (reply_frame (status_reply f st)) asked → AllDurable (so_far x).made → Ends (states, refused f st x.1)
-      status_goes asked st is set numbers fits calm = answered asked is x.1.session refl refl refl held.free set refl numbers (status_reply f st) (status_repeats f st) fits (inr calm)
+      status_goes : (asked : Result KvRequest Status) (st : Status) → request_of settings.json f ≡ asked → settings ≡ settings_by asked settings → HasUsed x.1.session.used (durables_by asked count) → FitsRequest (serving_at x) (so_far x) n count settings f (reply_frame (status_reply f st)) asked → IsStill (so_far x) → Ends (states, refused f st x.1)
+      status_goes asked st is set numbers fits calm = answered asked is x.1.session refl refl refl held.free set refl numbers (status_reply f st) (status_repeats f st) fits (inr (inr calm))
 
     -- nothing was entered for the question in hand
     unserved_at : (x : States × Served) (held : Held x) (line : LastLine) → (so_far x).last ≡ Some line → told_for (line.served n c) ((so_far x).clients_at n c).asking.answered (so_far x).made ≡ (so_far x).made
@@ -176,7 +149,7 @@ module _ (stays : StaysSound) (steady : Steady) (w : PlainWorld) (r : Chronicle)
 
     -- a durable write is awaited, of which it is known what waits under its number
     awaits : (x : States × Served) → Held x → AllDurable (so_far x).made → (a : Awaited) → a.opcode ≡ f.opcode → a.opaque ≡ f.opaque → (write : Write) (wish : Durability) → request_of x.1.session.settings.json f ≡ Ok (request.Write write (Some wish))
-        → a.waiter ≡ x.1.session.who.base * 2 ^ 32 + x.1.session.used → ((line : LastLine) (u : ℕ) (y : Waiting) (p : Pend) → (so_far x).last ≡ Some line → Owing (x.0 u) y p → y.waiter ≡ a.waiter → (u ≡ v) × IsPrepareOf write y p × IsToldIn n u y p (so_far x).made)
+        → a.waiter ≡ x.1.session.who.base * 2 ^ 32 + x.1.session.used → ((line : LastLine) (u : ℕ) (y : Waiting) (p : Pend) → (so_far x).last ≡ Some line → Owing (x.0 u) y p → y.waiter ≡ a.waiter → IsOwn n v write wish (so_far x).made u y p)
         → (a.waiter ≡ 0 → ⊥) → HasNumber count → HasUsed x.1.session.used (count + 1) → Ends (x.0, record x.1 { session = record x.1.session { awaited = Some a } })
     awaits x held calm a code number write wish is last owns some left numbers =
         let g : Standing w n c base r x.0 (before ++ x.1.events) client = goes_of x x.0 (λ q. refl) held.now in
@@ -200,29 +173,28 @@ module _ (stays : StaysSound) (steady : Steady) (w : PlainWorld) (r : Chronicle)
               let one : a ≡ b = cc in
               let at = owns line u y p rises (back u y p owing) (number ∙ ap (λ (t : Awaited). t.waiter) (sym one)) in
               let both : Some question ≡ Some q = sym held.next ∙ asks in
-              let frame : f ≡ q.frame = cc in (
-                subst (λ g. IsWaitOf asking.settings g u y p) frame (record { at = sym at.0; write = write; wish = wish; asks = subst (λ (t : Settings). request_of t.json f ≡ Ok (request.Write write (Some wish))) (sym same) is; prepares = at.1 }),
-                subst (IsToldIn n u y p) (sym (k.unserved (λ b e. hand_zero true f b (sym hand ∙ e)) so.made)) at.2,
-              );
+              let frame : f ≡ q.frame = cc in
+              subst (λ told. IsWaitOf n asking.settings q.frame u y p told) (sym (k.unserved (λ b e. hand_zero true f b (sym hand ∙ e)) so.made))
+              (subst (λ g. IsWaitOf n asking.settings g u y p so.made) frame (record { at = sym at.0; write = write; wish = wish; asks = subst (λ (t : Settings). request_of t.json f ≡ Ok (request.Write write (Some wish))) (sym same) is; prepares = at.1; told_in = at.2 }));
         }) in
         calmly w n c base r (session_goes w n c base r g session held.who held.closed held.reader
         (awaited_asks asking client.session session client.producer.handshake (stands w n c base r g).asks f a ahead hand held.next held.reader held.settings refl code number (subst (λ s. AsksDurably s f) held.settings durable)
-        some (subst HasNumber (sym held.count_is) left) (subst (λ k. HasUsed x.1.session.used (k + 1)) (sym held.count_is) numbers)) owed) calm
+        some (subst HasNumber (sym held.count_is) left) (subst (λ k. HasUsed x.1.session.used (k + 1)) (sym held.count_is) numbers)) owed) refl calm
 
     -- its outcome is told at once, or awaited
     prepared_goes : (x : States × Served) → Held x → AllDurable (so_far x).made → (a : Awaited) → a.opcode ≡ f.opcode → a.opaque ≡ f.opaque → (write : Write) (wish : Durability) → request_of x.1.session.settings.json f ≡ Ok (request.Write write (Some wish)) → (how : Option Resolution)
-        → a.waiter ≡ x.1.session.who.base * 2 ^ 32 + x.1.session.used → ((line : LastLine) (u : ℕ) (y : Waiting) (p : Pend) → (so_far x).last ≡ Some line → Owing (x.0 u) y p → y.waiter ≡ a.waiter → (u ≡ v) × IsPrepareOf write y p × IsToldIn n u y p (so_far x).made)
-        → ((said : Resolution) → how ≡ Some said → HowTold n (so_far x).made (OwnClaim (so_far x).last (so_far x).made a.waiter n v write) (record { waiter = a.waiter; how = said })) → (a.waiter ≡ 0 → ⊥) → HasNumber count → HasUsed x.1.session.used (count + 1) → Ends (x.0, answered_or_awaited a how x.1)
+        → a.waiter ≡ x.1.session.who.base * 2 ^ 32 + x.1.session.used → ((line : LastLine) (u : ℕ) (y : Waiting) (p : Pend) → (so_far x).last ≡ Some line → Owing (x.0 u) y p → y.waiter ≡ a.waiter → IsOwn n v write wish (so_far x).made u y p)
+        → ((said : Resolution) → how ≡ Some said → HowTold n (so_far x) (OwnClaim (so_far x).last (so_far x).made a.waiter n v write wish) (record { waiter = a.waiter; how = said })) → (a.waiter ≡ 0 → ⊥) → HasNumber count → HasUsed x.1.session.used (count + 1) → Ends (x.0, answered_or_awaited a how x.1)
     prepared_goes x held calm a code number write wish is None last owns told_so some left numbers = awaits x held calm a code number write wish is last owns some left numbers
     prepared_goes x held calm a code number write wish is (Some how) last owns told_so some left numbers =
         answered x held x.0 (λ q. refl) (Ok (request.Write write (Some wish))) is (record x.1.session { awaited = None }) refl refl refl refl refl refl numbers (outcome_reply x.1.session.settings a how) (outcome_repeats x.1.session.settings f a how code number)
         (inr (
           left,
-          outcome_fits (so_far x) n v x.1.session.settings f write a how (OwnClaim (so_far x).last (so_far x).made a.waiter n v write) code number (serving_at x) (λ told u y p served same claim.
+          outcome_fits (so_far x) n v x.1.session.settings f write wish a how (OwnClaim (so_far x).last (so_far x).made a.waiter n v write wish) code number (serving_at x) (λ told u y p served same claim.
               let (line, rises, told_is) = serves_line (so_far x).last (λ l. told_for (l.served n c) ((so_far x).clients_at n c).asking.answered (so_far x).made) told served in
               let k = claim line rises same in
-              (k.0, k.1, subst (IsToldIn n u y p) (sym (unserved_at x held line rises) ∙ told_is) k.2)) (told_so how refl),
-        )) (inl (is_outcome x.1.session.settings f a write wish is how))
+              (k.0, k.1, subst (IsToldIn n u wish y p) (sym (unserved_at x held line rises) ∙ told_is) k.2)) (told_so how refl),
+        )) (inr (inl (is_outcome x.1.session.settings f a write wish is how, calm)))
 
     -- what is known of what is asked of a vBucket
     module _ (x : States × Served) (held : Held x) where
@@ -238,7 +210,7 @@ module _ (stays : StaysSound) (steady : Steady) (w : PlainWorld) (r : Chronicle)
       known_vb vb has = known_as (world_at x.0) (so_far x) n v vb held.now.1 (vb_here w n c base x.0 (Some client) v ∙ has)
 
     -- a request that a vBucket was asked, by a session that used its numbers for the writes before
-    module _ (x : States × Served) (held : Held x) (calm : AllDurable (so_far x).made) (fresh : HasUsed x.1.session.used count) where
+    module _ (x : States × Served) (held : Held x) (calm : IsStill (so_far x)) (fresh : HasUsed x.1.session.used count) where
       abbrev now : Now x
       now = held.now
 
@@ -264,7 +236,7 @@ module _ (stays : StaysSound) (steady : Steady) (w : PlainWorld) (r : Chronicle)
             → reply_to x.1.session.settings f reply.answer ≡ Some kv → FitsRequest (serving_at x) (so_far x) n count x.1.session.settings f (reply_frame kv) (Ok asked) → Ends (answered_by f x.1 (with_vb_at x.0 v vb, Some reply))
         unchanged asked is set numbers reply none kv said fits =
             subst (λ es. Ends (with_vb_at x.0 v vb, with_lines x.1 es)) (sym (λ i. none i ++ reply_lines x.1.session.who.node x.1.session.who.client (said i)))
-            (answered x held (with_vb_at x.0 v vb) (put_same x.0 v vb has) (Ok asked) is x.1.session refl refl refl held.free set refl numbers kv (reply_repeats x.1.session.settings f reply.answer kv said) fits (inr calm))
+            (answered x held (with_vb_at x.0 v vb) (put_same x.0 v vb has) (Ok asked) is x.1.session refl refl refl held.free set refl numbers kv (reply_repeats x.1.session.settings f reply.answer kv said) fits (inr (inr calm)))
 
         -- the write is made
         store_goes : (write : Write) → WriteFits write → request_of x.1.session.settings.json f ≡ Ok (request.Write write None) → store_refusal vb write ≡ None → Ends (answered_by f x.1 (stepped_at x.0 v (growth vb (write_change vb write cas) cas)))
@@ -280,7 +252,7 @@ module _ (stays : StaysSound) (steady : Steady) (w : PlainWorld) (r : Chronicle)
             let lefts = left_on ((so_far x).counts_at n v).risen vb.position.at vb.waiting (here.lefts taken.0) in
             let made = told_each_change x now states x.1.session.who.node v (newest_branch vb.log) member.br (change ∷ []) now.2.0
             (newest (world_at x.0) (so_far x) cl n v there0 vb in_it (known x held) has change cas taken.0 refl room change_is named vb.waiting sound)
-            (is_lawful (world_at x.0) (so_far x) cl n v there0 vb in_it (known x held) has change cas taken.0 refl room change_is named vb.waiting sound (write_is_next vb here.kept write clock small (said_none vb.role (lacks_seqnos vb 1) (key_refusal vb write) free)) (write_unheld ((so_far x).counts_at n v) ((so_far x).disk_at n v).saved (image_of member.held) vb write cas) (λ prepared e. absurd (write_aborts vb write cas prepared e)), tt) (
+            (is_lawful (world_at x.0) (so_far x) cl n v there0 vb in_it (known x held) has change cas taken.0 refl room change_is named vb.waiting sound (write_is_next vb here.kept write clock small (said_none vb.role (lacks_seqnos vb 1) (key_refusal vb write) free)) (λ level doc deleted e. absurd (write_prepares vb write cas level doc deleted e)) (write_unheld ((so_far x).counts_at n v) ((so_far x).disk_at n v).saved (image_of member.held) vb write cas) (λ prepared e. absurd (write_aborts vb write cas prepared e)), tt) (
               happens cl (Move.Own (seat n v) change),
               written (world_at x.0) (so_far x) cl n v there0 vb in_it (known x held) has change cas taken.0 refl room change_is named vb.waiting sound (world_at states) grown (shelves_again w n (with_states node x.0) (with_states node states) (λ q. refl) n v) (cas_rises clock vb.last_cas here.sound.last_cas) lefts (λ t. fewer_times change.seq ((so_far x).clock_at n) (λ y i. i) t)
                   (fewer_written (world_at x.0) (so_far x) cl n v there0 vb in_it (known x held) has change cas taken.0 refl room change_is named vb.waiting sound (world_at states) grown (shelves_again w n (with_states node x.0) (with_states node states) (λ q. refl) n v) (cas_rises clock vb.last_cas here.sound.last_cas) lefts (λ t. fewer_times change.seq ((so_far x).clock_at n) (λ y i. i) t)
@@ -291,13 +263,13 @@ module _ (stays : StaysSound) (steady : Steady) (w : PlainWorld) (r : Chronicle)
             let settings : Settings = x.1.session.settings in
             let so : Chronicle = so_far (states, with_lines x.1 lines) in
             let read : so ≡ after_lines (so_far x) lines = reads x states lines in
-            let made_is = made_fits n v (so.held n v) so.made settings f vb write cas (newest_branch vb.log) (so_far x).made ((so_far x).held n v)
-            (ap (λ (k : Chronicle). k.made) read ∙ (λ i. record { node = now.2.0 i; vb = v; branch = newest_branch vb.log; change = change } ∷ (so_far x).made)) calm
+            let made_is = made_fits n v (so.held n v) so.made settings f vb write cas (newest_branch vb.log) ((so_far x).clock_at n) (so_far x).made ((so_far x).held n v)
+            (ap (λ (k : Chronicle). k.made) read ∙ (λ i. record { node = now.2.0 i; vb = v; branch = newest_branch vb.log; change = change; clock = (so_far x).clock_at (now.2.0 i) } ∷ (so_far x).made)) calm.0
             (ap (λ (k : Chronicle). k.held n v) read ∙ (λ i. with_at (so_far x).held (now.2.0 i) v ((so_far x).held (now.2.0 i) v ++ change ∷ []) n v) ∙ at_here (so_far x).held n v ((so_far x).held n v ++ change ∷ []))
             (known_vb x held vb has).image free in
             subst (λ es. Ends (states, served x.1.session es)) (append_assoc x.1.events lines (reply_line x.1.session.who.node x.1.session.who.client (stored_reply settings f (newest_branch vb.log) change.seq cas) ∷ []))
             (answered (states, with_lines x.1 lines) then_held states (λ q. refl) (Ok (request.Write write None)) is x.1.session refl refl refl held.free refl refl fresh (stored_reply settings f (newest_branch vb.log) change.seq cas)
-            (stored_repeats settings f (newest_branch vb.log) change.seq cas) (inr made_is) (inl (write, None, is, inl refl)))
+            (stored_repeats settings f (newest_branch vb.log) change.seq cas) (inr made_is) (inl (write, is, refl)))
 
         stored : (write : Write) → WriteFits write → request_of x.1.session.settings.json f ≡ Ok (request.Write write None) → (said : Option Status) → store_refusal vb write ≡ said → Ends (answered_by f x.1 (stepped_at x.0 v (store_outcome said vb write cas)))
         stored write fits is (Some st) e = unchanged (request.Write write None) is refl fresh (refusal_reply st) refl (status_reply f st) refl (refused_fits (so_far x) n v vb (known_vb x held vb has) x.1.session.settings f write st e)
@@ -325,7 +297,7 @@ module _ (stays : StaysSound) (steady : Steady) (w : PlainWorld) (r : Chronicle)
       asked_goes (Ok request.Noop) is fits none = status_goes x held x.0 (λ q. refl) (Ok request.Noop) Success is refl fresh (status_fits f Success) calm
       asked_goes (Ok (request.Hello features)) is fits none =
           answered x held x.0 (λ q. refl) (Ok (request.Hello features)) is (record x.1.session { settings = settings_of features }) refl refl refl held.free refl refl fresh (value_reply f (feature_bytes features)) (value_repeats f (feature_bytes features))
-          (welcome_fits f features (has_opcode x.1.session.settings.json f (request.Hello features) is)) (inr calm)
+          (welcome_fits f features (has_opcode x.1.session.settings.json f (request.Hello features) is)) (inr (inr calm))
       asked_goes (Ok (request.Get key)) is fits none = got key is (x.0 v) refl
       asked_goes (Ok (request.Write write None)) is fits none = wrote write (fits (request.Write write None) refl).0 is (x.0 v) refl
       asked_goes (Ok (request.Write write (Some wish))) is fits none =
@@ -338,13 +310,17 @@ module _ (stays : StaysSound) (steady : Steady) (w : PlainWorld) (r : Chronicle)
       request_goes good none = asked_goes (request_of x.1.session.settings.json f) refl (λ asked e. ((read_fits x.1.session.settings.json f asked good.readable good.extras e).0, removes_alone x.1.session.settings.json f asked e)) none
 
     -- a durable write, of a session that counts it, while nothing waits under the number that it gets
-    module _ (x : States × Served) (held : Held (x.0, with_used x.1)) (calm : AllDurable (so_far x).made) (unowed : (line : LastLine) (u : ℕ) (y : Waiting) (p : Pend) → (so_far x).last ≡ Some line → Owing (x.0 u) y p → y.waiter ≡ next_waiter x.1.session → ⊥) (fresh : HasUsed x.1.session.used count) where
+    module _ (x : States × Served) (held : Held (x.0, with_used x.1)) (calm : IsStill (so_far x)) (unowed : (line : LastLine) (u : ℕ) (y : Waiting) (p : Pend) → (so_far x).last ≡ Some line → Owing (x.0 u) y p → y.waiter ≡ next_waiter x.1.session → ⊥) (fresh : HasUsed x.1.session.used count) where
       abbrev counted : States × Served
       counted = (x.0, with_used x.1)
 
       -- what is told of the node's clock is what it shows
       clock_is : (so_far x).clock_at n ≡ clock
       clock_is = held.now.1.1.clocks n ∙ ap (λ b. clock_of (power_in (if b then Some (with_states node x.0) else w.nodes n))) (eq-eqb n n refl) ∙ shows
+
+      -- the call has the level that is asked for, and the deadline
+      abbrev AsAsked : Wish → Durability → Type 0
+      AsAsked wish asked = (wish.level ≡ asked.level) × (wish.deadline ≡ deadline_of ((so_far x).clock_at n) asked.timeout)
 
       -- where a number is left it has that
       one_left : x.1.session.used < WRITE_NUMBERS → HasNumber count
@@ -362,22 +338,26 @@ module _ (stays : StaysSound) (steady : Steady) (w : PlainWorld) (r : Chronicle)
 
         -- its prepare, on this branch
         abbrev prepare_line : Write → Wish → ℕ → OwnChange
-        prepare_line write wish branch = record { node = n; vb = v; branch = branch; change = prepare_change vb write wish.level stamp }
+        prepare_line write wish branch = record { node = n; vb = v; branch = branch; change = prepare_change vb write wish.level stamp; clock = (so_far x).clock_at n }
 
         -- what waits behind the call under its number is its own prepare, which is among what is told then
-        own_placed : (write : Write) (wish : Wish) (so : List OwnChange) (branch : ℕ) → IsMadeIn (prepare_line write wish branch) so → (y : Waiting) (p : Pend) (line : LastLine) → y.waiter ≢ 0 → (so_far x).last ≡ Some line → y.waiter ≡ next_waiter x.1.session → Stood vb (Durable write clock wish.level wish.deadline wish.waiter) y p → IsPrepareOf write y p × IsToldIn n v y p so
-        own_placed write wish so branch there y p line some rises same stood = ⊎_elim (λ o. absurd (unowed line v y p rises (subst (λ k. Owing k y p) (sym has) (some, o)) same))
+        own_placed : (write : Write) (wish : Wish) (asked : Durability) (so : List OwnChange) (branch : ℕ) → AsAsked wish asked → IsMadeIn (prepare_line write wish branch) so → (y : Waiting) (p : Pend) (line : LastLine) → y.waiter ≢ 0 → (so_far x).last ≡ Some line → y.waiter ≡ next_waiter x.1.session
+            → Stood vb (Durable write clock wish.level wish.deadline wish.waiter) y p → IsOwn n v write asked so v y p
+        own_placed write wish asked so branch meant there y p line some rises same stood = ⊎_elim (λ o. absurd (unowed line v y p rises (subst (λ k. Owing k y p) (sym has) (some, o)) same))
             (λ k. (
+              refl,
               (placed_of vb write clock wish.level wish.deadline wish.waiter y p k).0,
               record {
-                first = prepare_line write wish branch;
-                among = there;
-                node = refl;
-                vb = refl;
-                seq = sym (ap (λ (w : Waiting). w.seq) k.1);
-                key = sym (ap (λ (w : Waiting). w.key) k.1);
-                level = wish.level;
-                act = sym (λ i. act.Prepare wish.level (ap (λ (q : Pend). q.doc) k.2 i) (ap (λ (q : Pend). q.deleted) k.2 i));
+                named = record {
+                  first = prepare_line write wish branch;
+                  among = there;
+                  node = refl;
+                  vb = refl;
+                  seq = sym (ap (λ (w : Waiting). w.seq) k.1);
+                  key = sym (ap (λ (w : Waiting). w.key) k.1);
+                  act = (λ i. act.Prepare (meant.0 i) (sym (ap (λ (q : Pend). q.doc) k.2) i) (sym (ap (λ (q : Pend). q.deleted) k.2) i));
+                };
+                due = ap (λ (w : Waiting). w.deadline) k.1 ∙ ap (λ d. Some d) meant.1;
               },
             )) stood
 
@@ -390,37 +370,63 @@ module _ (stays : StaysSound) (steady : Steady) (w : PlainWorld) (r : Chronicle)
             (prepared_stood vb write clock wish free sound y p (subst (λ (k : Plain). IsOutstanding k y p) is owing.1))
 
         -- and once all is committed that may be
-        own_there : (write : Write) (wish : Wish) (so : List OwnChange) (branch : ℕ) → IsMadeIn (prepare_line write wish branch) so → durable_refusal vb write ≡ None → Sound vb → (after_all : Plain) → after_all ≡ (durable_outcome None vb write wish stamp).0 → (line : LastLine) (u : ℕ) (y : Waiting) (p : Pend) → (so_far x).last ≡ Some line → Owing (with_vb_at x.0 v after_all u) y p → y.waiter ≡ next_waiter x.1.session → (u ≡ v) × IsPrepareOf write y p × IsToldIn n u y p so
-        own_there write wish so branch there free sound after_all is line u y p rises owing same = ⊎_elim
+        own_there : (write : Write) (wish : Wish) (asked : Durability) (so : List OwnChange) (branch : ℕ) → AsAsked wish asked → IsMadeIn (prepare_line write wish branch) so → durable_refusal vb write ≡ None → Sound vb → (after_all : Plain) → after_all ≡ (durable_outcome None vb write wish stamp).0 → (line : LastLine) (u : ℕ) (y : Waiting) (p : Pend) → (so_far x).last ≡ Some line → Owing (with_vb_at x.0 v after_all u) y p → y.waiter ≡ next_waiter x.1.session → IsOwn n v write asked so u y p
+        own_there write wish asked so branch meant there free sound after_all is line u y p rises owing same = ⊎_elim
             (λ e.
             let call : VbCall = Durable write clock wish.level wish.deadline wish.waiter in
             let here : Owing (Some after_all) y p = subst (λ b. Owing (if b then Some after_all else x.0 u) y p) (eq-eqb u v e) owing in
             let stood : Stood vb call y p = subst (λ (o : Option Status). IsOutstanding (durable_outcome o vb write wish stamp).0 y p → Stood vb call y p) free (awaited vb call sound small y p here.0) (subst (λ (k : Plain). IsOutstanding k y p) is here.1) in
-            let k = own_placed write wish so branch there y p line here.0 rises same stood in (e, k.0, subst (λ q. IsToldIn n q y p so) (sym e) k.1))
+            let k = own_placed write wish asked so branch meant there y p line here.0 rises same stood in (e, k.1, subst (λ q. IsToldIn n q asked y p so) (sym e) k.2))
             (λ ne. absurd (unowed line u y p rises (subst (λ b. Owing (if b then Some after_all else x.0 u) y p) (ne_eqb u v ne) owing) same)) (cases_eq u v)
 
         -- an outcome that is known at once is told by the changes before it, and is of this write
-        outcome_told : (write : Write) (wish : Wish) (so : List OwnChange) → wish.waiter ≡ next_waiter x.1.session → durable_refusal vb write ≡ None → (let made : Plain = prepared_vb vb write wish stamp in let s = settled made in
+        outcome_told : (write : Write) (wish : Wish) (asked : Durability) (so : Chronicle) → AsAsked wish asked → durable_refusal vb write ≡ None → (let made : Plain = prepared_vb vb write wish stamp in let s = settled made in
             let branch : ℕ = if is_empty s.changes then newest_branch vb.log else newest_branch s.vb.log in
-            so ≡ (after_lines (so_far x) (changes_told n v branch (prepare_change vb write wish.level stamp ∷ s.changes))).made → Sound vb → (said : Resolution) → outcome_of (next_waiter x.1.session) s.resolved ≡ Some said
-            → HowTold n so (OwnClaim (so_far x).last so (next_waiter x.1.session) n v write) (record { waiter = next_waiter x.1.session; how = said }))
-        outcome_told write wish so numbered free is sound said out =
+            so ≡ after_lines (so_far x) (changes_told n v branch (prepare_change vb write wish.level stamp ∷ s.changes)) → Sound vb → (said : Resolution) → outcome_of (next_waiter x.1.session) s.resolved ≡ Some said
+            → HowTold n so (OwnClaim (so_far x).last so.made (next_waiter x.1.session) n v write asked) (record { waiter = next_waiter x.1.session; how = said }))
+        outcome_told write wish asked so meant free is sound said out =
             let made : Plain = prepared_vb vb write wish stamp in let s = settled made in
             let branch : ℕ = if is_empty s.changes then newest_branch vb.log else newest_branch s.vb.log in
             let call : VbCall = Durable write clock wish.level wish.deadline wish.waiter in
-            let there : IsMadeIn (prepare_line write wish branch) so = subst (IsMadeIn (prepare_line write wish branch)) (sym is) (change_told (so_far x) n v branch (prepare_change vb write wish.level stamp ∷ s.changes) (prepare_change vb write wish.level stamp) (inl refl)) in
-            let Claim : ℕ → Waiting → Pend → Type 0 = OwnClaim (so_far x).last so (next_waiter x.1.session) n v write in
             let lines : List Event = changes_told n v branch (prepare_change vb write wish.level stamp ∷ s.changes) in
-            let all = subst (λ (o : Option Status). All (IsExplained vb call (durable_outcome o vb write wish stamp).1.branch (durable_outcome o vb write wish stamp).1.changes) (durable_outcome o vb write wish stamp).1.resolved) free (explained vb call sound small) in
-            let told = all_told (so_far x) n v branch Claim (prepare_change vb write wish.level stamp ∷ s.changes) vb call s.resolved (λ y p some stood line rises same. let k = own_placed write wish so branch there y p line some rises same stood in (refl, k.0, k.1)) all in
-            let o = outcome_in (HowTold n (after_lines (so_far x) lines).made Claim) (next_waiter x.1.session) said s.resolved told out in
-            subst (λ m. HowTold n m Claim (record { waiter = next_waiter x.1.session; how = said })) (sym is) (subst (HowTold n (after_lines (so_far x) lines).made Claim) (λ i. record { waiter = o.number i; how = o.how_is i }) o.is)
+            let there : IsMadeIn (prepare_line write wish branch) so.made = subst (λ (k : Chronicle). IsMadeIn (prepare_line write wish branch) k.made) (sym is) (change_told (so_far x) n v branch (prepare_change vb write wish.level stamp ∷ s.changes) (prepare_change vb write wish.level stamp) (inl refl)) in
+            let Claim : ℕ → Waiting → Pend → Type 0 = OwnClaim (so_far x).last so.made (next_waiter x.1.session) n v write asked in
+            let told = all_told (so_far x) n v branch Claim (prepare_change vb write wish.level stamp ∷ s.changes) vb call s.resolved tt (λ y p some stood line rises same. own_placed write wish asked so.made branch meant there y p line some rises same stood)
+            (explained vb (Prepares write clock wish free) sound small) in
+            let o = outcome_in (HowTold n (after_lines (so_far x) lines) Claim) (next_waiter x.1.session) said s.resolved told out in
+            subst (λ m. HowTold n m Claim (record { waiter = next_waiter x.1.session; how = said })) (sym is) (subst (HowTold n (after_lines (so_far x) lines) Claim) (λ i. record { waiter = o.number i; how = o.how_is i }) o.is)
+
+        -- its prepare is of what the question in hand asks for
+        prepare_asked : (write : Write) (wish : Wish) (asked : Durability) → wish.level ≡ asked.level → request_of x.1.session.settings.json f ≡ Ok (request.Write write (Some asked)) → x.1.session.used < WRITE_NUMBERS → (so_far x).changed ≡ false
+            → (level : Level) (doc : Doc) (deleted : Bool) → (prepare_change vb write wish.level stamp).act ≡ act.Prepare level doc deleted → IsPrepareAsked (so_far x).clients_at (so_far x).changed n v write.key level doc deleted
+        prepare_asked write wish asked leveled is few still level doc deleted e =
+            let g : Standing w n c base r x.0 (before ++ x.1.events) client = goes_of counted x.0 (λ q. refl) held.now in
+            let known : ((so_far x).clients_at n c).asking.settings ≡ x.1.session.settings = (stands w n c base r g).asks.settings ∙ sym held.settings in
+            let k : act.Prepare wish.level (written_doc write stamp (new_rev (doc_at vb write.key))) (is_delete write.op) ≡ act.Prepare level doc deleted = e in
+            let level_is : wish.level ≡ level = cc in
+            let doc_is : written_doc write stamp (new_rev (doc_at vb write.key)) ≡ doc = cc in
+            let deleted_is : is_delete write.op ≡ deleted = cc in
+            record {
+              client = c;
+              question = question;
+              next = held.next;
+              vb = refl;
+              durable = record { own = own; write = write; wish = asked; asks = subst (λ (s : Settings). request_of s.json f ≡ Ok (request.Write write (Some asked))) (sym known) is };
+              key_is = refl;
+              level_is = sym level_is ∙ leveled;
+              cas = stamp;
+              rev = new_rev (doc_at vb write.key);
+              doc_is = sym doc_is;
+              deleted_is = sym deleted_is;
+              numbered = subst HasNumber (sym held.count_is) (one_left few);
+              still = still;
+            }
 
         -- a durable write is prepared, and what may be committed then is
-        durable_goes : (write : Write) (wish : Wish) (asked : Durability) → wish.waiter ≡ next_waiter x.1.session → WriteFits write → (write.op ≡ Op.Delete → write.value ≡ []) → request_of x.1.session.settings.json f ≡ Ok (request.Write write (Some asked)) → durable_refusal vb write ≡ None → x.1.session.used < WRITE_NUMBERS → IsUp ((so_far x).clock_at n) wish.deadline
+        durable_goes : (write : Write) (wish : Wish) (asked : Durability) → wish.waiter ≡ next_waiter x.1.session → wish.level ≡ asked.level → WriteFits write → (write.op ≡ Op.Delete → write.value ≡ []) → request_of x.1.session.settings.json f ≡ Ok (request.Write write (Some asked)) → durable_refusal vb write ≡ None → x.1.session.used < WRITE_NUMBERS → IsUp ((so_far x).clock_at n) wish.deadline → AsAsked wish asked
             → Ends (durably_by f x.1 (stepped_at x.0 v (durable_outcome None vb write wish stamp)))
         unfolding durable_replied
-        durable_goes write wish asked numbered fits alone is free few timely =
+        durable_goes write wish asked numbered leveled fits alone is free few timely meant =
             let (cl, in_it) = held.now.1 in let change : Change = prepare_change vb write wish.level stamp in let made : Plain = prepared_vb vb write wish stamp in
             let member : Member = cl.nodes (seat n v) in let left = placed (outstanding write wish (vb.position.at + 1)) vb.waiting in
             let taken = durable_free vb.role (is_possible vb.others) (lacks_seqnos vb 2) (key_refusal vb write) free in
@@ -445,40 +451,40 @@ module _ (stays : StaysSound) (steady : Steady) (w : PlainWorld) (r : Chronicle)
             let on : newest_branch vb.log ≡ member.br = newest (world_at x.0) (so_far x) cl n v node0 vb in_it (known counted held) has change stamp taken.0 refl room change_is named left sound in
             let gone = told_each_change (x.0, with_used x.1) held.now states2 x.1.session.who.node v (if is_empty (settled made).changes then newest_branch vb.log else newest_branch (settled made).vb.log) member.br (change ∷ later.cs) held.now.2.0
             (one_branch (is_empty (settled made).changes) (newest_branch vb.log) (newest_branch (settled made).vb.log) (ap newest_branch later.log) ∙ on)
-            (is_lawful (world_at x.0) (so_far x) cl n v node0 vb in_it (known counted held) has change stamp taken.0 refl room change_is named left sound (prepare_is_next vb here.kept write wish.level clock small taken.3) (prepare_unheld ((so_far x).counts_at n v) ((so_far x).disk_at n v).saved (image_of member.held) vb write wish.level stamp) (λ prepared e. cc), subst (λ u. LawfulFrom r1 (changes_told n v u later.cs)) on later.lawful)
+            (is_lawful (world_at x.0) (so_far x) cl n v node0 vb in_it (known counted held) has change stamp taken.0 refl room change_is named left sound (prepare_is_next vb here.kept write wish.level clock small taken.3) (prepare_asked write wish asked leveled is few calm.1) (prepare_unheld ((so_far x).counts_at n v) ((so_far x).disk_at n v).saved (image_of member.held) vb write wish.level stamp) (λ prepared e. cc), subst (λ u. LawfulFrom r1 (changes_told n v u later.cs)) on later.lawful)
             (subst (λ u. Agrees (world_at states2) (after_lines r1 (changes_told n v u later.cs))) on (later.agrees (world_at states2) changed_to (shelves_again w n there1 there2 (λ q. refl) n v))) in
             let branch : ℕ = if is_empty (settled made).changes then newest_branch vb.log else newest_branch (settled made).vb.log in
             let told_now = subst (λ cs. Now (states2, with_lines (with_used x.1) (changes_told x.1.session.who.node v branch (change ∷ cs)))) (sym later.changes) gone in
             let lines : List Event = changes_told x.1.session.who.node v branch (change ∷ (settled made).changes) in
             let y2 : States × Served = (states2, with_lines (with_used x.1) lines) in
-            let made_same : (so_far y2).made ≡ (after_lines (so_far x) (changes_told n v branch (change ∷ (settled made).changes))).made = ap (λ (k : Chronicle). k.made) (reads counted states2 lines) ∙ ap (λ m. (after_lines (so_far x) (changes_told m v branch (change ∷ (settled made).changes))).made) held.now.2.0 in
-            let there_told : IsMadeIn (prepare_line write wish branch) (so_far y2).made = subst (IsMadeIn (prepare_line write wish branch)) (sym made_same) (change_told (so_far x) n v branch (change ∷ (settled made).changes) change (inl refl)) in
+            let read_same : so_far y2 ≡ after_lines (so_far x) (changes_told n v branch (change ∷ (settled made).changes)) = reads counted states2 lines ∙ ap (λ m. after_lines (so_far x) (changes_told m v branch (change ∷ (settled made).changes))) held.now.2.0 in
+            let there_told : IsMadeIn (prepare_line write wish branch) (so_far y2).made = subst (λ (k : Chronicle). IsMadeIn (prepare_line write wish branch) k.made) (sym read_same) (change_told (so_far x) n v branch (change ∷ (settled made).changes) change (inl refl)) in
             let last_same : (so_far y2).last ≡ (so_far x).last = ap (λ (k : Chronicle). k.last) (reads counted states2 lines) ∙ changes_last (so_far x) x.1.session.who.node v branch (change ∷ (settled made).changes) in
             let next : ℕ = next_waiter x.1.session in
             prepared_goes y2
             (changed counted states2 x.1.session.who.node v branch (change ∷ (settled made).changes) held told_now)
             (subst (λ (k : Chronicle). AllDurable k.made) (sym (reads counted states2 lines))
-            (durable_told (so_far x) x.1.session.who.node v branch (change ∷ (settled made).changes) (All-cons OfDurable change (settled made).changes refl (durable_settled made)) calm))
+            (durable_told (so_far x) x.1.session.who.node v branch (change ∷ (settled made).changes) (All-cons OfDurable change (settled made).changes refl (durable_settled made)) calm.0))
             (awaited_by next f) refl refl write asked is (outcome_of next (settled made).resolved) refl
-            (λ line u y p rises owing number. own_there write wish (so_far y2).made branch there_told free here.sound (settled made).vb refl line u y p (sym last_same ∙ rises) owing number)
-            (λ said out. subst (λ l. HowTold n (so_far y2).made (OwnClaim l (so_far y2).made next n v write) (record { waiter = next; how = said })) (sym last_same)
-            (outcome_told write wish (so_far y2).made numbered free made_same here.sound said out))
+            (λ line u y p rises owing number. own_there write wish asked (so_far y2).made branch meant there_told free here.sound (settled made).vb refl line u y p (sym last_same ∙ rises) owing number)
+            (λ said out. subst (λ l. HowTold n (so_far y2) (OwnClaim l (so_far y2).made next n v write asked) (record { waiter = next; how = said })) (sym last_same)
+            (outcome_told write wish asked (so_far y2) meant free read_same here.sound said out))
             (λ z. omega (arith, z)) (one_left few) (numbers_on few)
 
-        durably : (write : Write) (wish : Wish) (asked : Durability) → wish.waiter ≡ next_waiter x.1.session → WriteFits write → (write.op ≡ Op.Delete → write.value ≡ []) → request_of x.1.session.settings.json f ≡ Ok (request.Write write (Some asked)) → (said : Option Status) → durable_refusal vb write ≡ said → x.1.session.used < WRITE_NUMBERS → IsUp ((so_far x).clock_at n) wish.deadline
+        durably : (write : Write) (wish : Wish) (asked : Durability) → wish.waiter ≡ next_waiter x.1.session → wish.level ≡ asked.level → WriteFits write → (write.op ≡ Op.Delete → write.value ≡ []) → request_of x.1.session.settings.json f ≡ Ok (request.Write write (Some asked)) → (said : Option Status) → durable_refusal vb write ≡ said → x.1.session.used < WRITE_NUMBERS → IsUp ((so_far x).clock_at n) wish.deadline → AsAsked wish asked
             → Ends (durably_by f x.1 (stepped_at x.0 v (durable_outcome said vb write wish stamp)))
         unfolding durable_replied
-        durably write wish asked numbered fits alone is (Some st) e few timely =
+        durably write wish asked numbered leveled fits alone is (Some st) e few timely meant =
             subst (λ es. Ends (with_vb_at x.0 v vb, served (with_used x.1).session (es ++ reply_line x.1.session.who.node x.1.session.who.client (status_reply f st) ∷ []))) (sym (append-nil x.1.events))
-            (status_goes (x.0, with_used x.1) held (with_vb_at x.0 v vb) (put_same x.0 v vb has) (Ok (request.Write write (Some asked))) st is refl (numbers_on few) (inr (one_left few, durable_refused_fits (so_far x) n v vb (known_vb counted held vb has) x.1.session.settings f (serving_at counted) write st e)) calm)
-        durably write wish asked numbered fits alone is None e few timely = durable_goes write wish asked numbered fits alone is e few timely
+            (status_goes (x.0, with_used x.1) held (with_vb_at x.0 v vb) (put_same x.0 v vb has) (Ok (request.Write write (Some asked))) st is refl (numbers_on few) (inr (one_left few, durable_refused_fits (so_far x) n v vb (known_vb counted held vb has) x.1.session.settings f (serving_at counted) write asked st e)) calm)
+        durably write wish asked numbered leveled fits alone is None e few timely meant = durable_goes write wish asked numbered leveled fits alone is e few timely meant
 
-      prepared : (write : Write) (wish : Wish) (asked : Durability) → wish.waiter ≡ next_waiter x.1.session → WriteFits write → (write.op ≡ Op.Delete → write.value ≡ []) → request_of x.1.session.settings.json f ≡ Ok (request.Write write (Some asked)) → x.1.session.used < WRITE_NUMBERS → IsUp ((so_far x).clock_at n) wish.deadline → (o : Option Plain) → x.0 v ≡ o
+      prepared : (write : Write) (wish : Wish) (asked : Durability) → wish.waiter ≡ next_waiter x.1.session → wish.level ≡ asked.level → WriteFits write → (write.op ≡ Op.Delete → write.value ≡ []) → request_of x.1.session.settings.json f ≡ Ok (request.Write write (Some asked)) → x.1.session.used < WRITE_NUMBERS → IsUp ((so_far x).clock_at n) wish.deadline → AsAsked wish asked → (o : Option Plain) → x.0 v ≡ o
           → Ends (durably_by f x.1 (call_at x.0 v (Durable write clock wish.level wish.deadline wish.waiter) o))
       unfolding durable_replied
-      prepared write wish asked numbered fits alone is few timely None none =
-          status_goes counted held x.0 (λ q. refl) (Ok (request.Write write (Some asked))) NotMyVbucket is refl (numbers_on few) (inr (one_left few, durable_away (so_far x) n v x.1.session.settings f write (serving_at counted) (off counted held none))) calm
-      prepared write wish asked numbered fits alone is few timely (Some vb) has = durably vb has write wish asked numbered fits alone is (durable_refusal vb write) refl few timely
+      prepared write wish asked numbered leveled fits alone is few timely meant None none =
+          status_goes counted held x.0 (λ q. refl) (Ok (request.Write write (Some asked))) NotMyVbucket is refl (numbers_on few) (inr (one_left few, durable_away (so_far x) n v x.1.session.settings f write (serving_at counted) asked (off counted held none))) calm
+      prepared write wish asked numbered leveled fits alone is few timely meant (Some vb) has = durably vb has write wish asked numbered leveled fits alone is (durable_refusal vb write) refl few timely meant
 
       -- so it goes on
       pub durable_request_goes : Received f → (write : Write) (wish : Durability) → request_of x.1.session.settings.json f ≡ Ok (request.Write write (Some wish)) → nat_le MOST_DURABLE x.1.session.used ≡ false → Ends (after (request_handled clock f (request_of x.1.session.settings.json f) x.1) x.0)
@@ -490,5 +496,5 @@ module _ (stays : StaysSound) (steady : Steady) (w : PlainWorld) (r : Chronicle)
           let few : x.1.session.used < WRITE_NUMBERS = grind (arith, nat_tests, room) in
           subst (λ q. Ends (after (request_handled clock f q x.1) x.0)) (sym is)
           (subst (λ b. Ends (after (if b then Done (refused f Etmpfail x.1) else durable_called f call x.1) x.0)) (sym room)
-          (prepared write (record { level = wish.level; deadline = deadline_of clock wish.timeout; waiter = next_waiter x.1.session }) wish refl fit alone is few
-          (subst (λ k. IsUp k (deadline_of clock wish.timeout)) (sym clock_is) (up_at_end clock wish.timeout (timeouts_fit x.1.session.settings.json f write wish good.framing is).0)) (x.0 v) refl))
+          (prepared write (record { level = wish.level; deadline = deadline_of clock wish.timeout; waiter = next_waiter x.1.session }) wish refl refl fit alone is few
+          (subst (λ k. IsUp k (deadline_of clock wish.timeout)) (sym clock_is) (up_at_end clock wish.timeout (timeouts_fit x.1.session.settings.json f write wish good.framing is).0)) (refl, ap (λ k. deadline_of k wish.timeout) (sym clock_is)) (x.0 v) refl))

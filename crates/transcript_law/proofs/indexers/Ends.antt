@@ -5,13 +5,14 @@ use Rattle.client_session.specs.Serving.{PlainSession}
 unfoldable use Rattle.mcbp_dcp.specs.DcpFrames.{dcp_frame}
 use Rattle.mcbp_dcp.specs.declared.message.DcpMsg.TheVariants as msg
 use Rattle.dcp_producer.specs.Frames.{ALL_SENT, Next, close_sent, over, reaches_end}
-use Rattle.dcp_producer.specs.Producers.{replaced, without_id}
+use Rattle.dcp_producer.specs.Producers.{replaced, stream_at as kept_at, without_id}
 use Rattle.dcp_producer.specs.Pulling.{QuietOnes, came, end_put, stream_went}
 use Rattle.dcp_producer.specs.declared.desk.Desk.{Desk}
+use Rattle.flow_control.specs.Windows.{is_open as lets_through}
 use Rattle.node_core.specs.Clients.{PlainClient}
-use Rattle.transcript_law.proofs.indexers.{Framed.{SoFar, TurnSoFar, client_of, mine, over_agrees, put_more, read, world_of}, Marked.{reaches_so, whole_put}, Owning.{IsKnown, stream_known, with_streams}, Replacing.{replaced_same}, Replied.{end_short, end_vb, header_is, put_is}, Steps.{ClientStep}, Streams.{among_without}, Worlds.{client_here, open_own, step_at, step_quiet, vb_here, world_with}}
+use Rattle.transcript_law.proofs.indexers.{Framed.{SoFar, TurnSoFar, client_of, mine, over_agrees, put_more, read, still_open, still_through, world_of}, Marked.{reaches_so, whole_put}, Owning.{IsKnown, stream_known, with_streams}, Replacing.{replaced_same}, Replied.{end_short, end_vb, header_is, put_is}, Steps.{ClientStep}, Streams.{among_without, closed_there}, Worlds.{client_here, open_own, step_at, step_quiet, vb_here, world_with}}
 use Rattle.transcript_law.proofs.invariant.{Agreement.{AgreesAt, VbAgrees, vb_of}, Carried.{sound_streams}, Carrying.{StreamsChanged}, ClientsKept.{among_open}, ClientsTold.{IsOpenFor}, OpenStreams.{Among}, Seats.{seat}}
-use Rattle.transcript_law.specs.{LawfulClients.{EndsAs, LawfulClientEnd}, StreamsTold.{ClientKnown, ClientStream, StreamLine}}
+use Rattle.transcript_law.specs.{ClientFrames.{is_closed_by}, LawfulClients.{EndsAs, LawfulClientEnd}, Questions.{flow_now, served_frames}, StreamsTold.{ClientKnown, ClientStream, StreamLine}}
 use Rattle.vb_calls.specs.States.{call_at}
 use Rattle.vb_calls.specs.declared.calls.VbCall.TheVariants.{CloseStream}
 use Rattle.vb_events.specs.declared.event.Event.TheVariants as event
@@ -38,15 +39,15 @@ module _ (n c : ℕ) (known : ClientKnown) (g : ClientStream) (t : PlainStream) 
   abbrev Ends : ClientStream → Type 0
   Ends y = (y.over ≡ false) × IsWholeIf y.last × EndsAs y.turned y reason
 
-  pub end_lawful : t.vb < 2 ^ 16 → t.opaque ≡ g.opaque → Ends g → (more : List Event) → LawfulClientEnd known n c reason (event.Reply n c (spelling (dcp_frame (msg.StreamEnd reason) t.opaque t.vb)) ∷ more)
-  end_lawful small opaque ends more =
-      let (p, is, at) = put_is n c known (msg.StreamEnd reason) g t.opaque t.vb more (end_vb reason t.opaque t.vb) small there opaque in
+  pub end_lawful : t.vb < 2 ^ 16 → t.opaque ≡ g.opaque → is_closed_by (served_frames known) t.vb ≡ false → lets_through (flow_now known).window ≡ true → Ends g → (more : List Event) → LawfulClientEnd known n c reason (event.Reply n c (spelling (dcp_frame (msg.StreamEnd reason) t.opaque t.vb)) ∷ more)
+  end_lawful small opaque still through ends more =
+      let (p, is, at) = put_is n c known (msg.StreamEnd reason) g t.opaque t.vb more (end_vb reason t.opaque t.vb) small there opaque still through in
       let (opens, whole, cause) = subst Ends (sym is) ends in
       record { put = p; opens = opens; whole = whole; cause = cause }
 
 -- ---- its turn
 
-module _ (w : PlainWorld) (r : Chronicle) (cl : Cluster) (n c : ℕ) (node : PlainNode) (session : PlainSession) (states : States) (s : Served) (g : SoFar w r cl n c node session states s) (q : QuietOnes) (t : PlainStream) (i : Among t s.end.streams) where
+module _ (w : PlainWorld) (r : Chronicle) (cl : Cluster) (n c : ℕ) (node : PlainNode) (session : PlainSession) (states : States) (s : Served) (g : SoFar w r cl n c node session states s) (q : QuietOnes) (t : PlainStream) (i : Among t s.end.streams) (through : lets_through s.end.window ≡ true) where
   abbrev here : Chronicle
   here = read w r cl n c node session states s g
 
@@ -74,9 +75,10 @@ module _ (w : PlainWorld) (r : Chronicle) (cl : Cluster) (n c : ℕ) (node : Pla
       let si = known.is in
       let header = header_is f t.vb (end_vb reason t.opaque t.vb) si.small in (
         put_more w r cl n c node session states s g t states' s' told f StreamLine.Ends (ap (λ k. s.events ++ event.Finished k reason ∷ []) named) refl (end_short reason t.opaque t.vb) refl header
-            (λ u j ne. subst (Among u) (replaced_same s.end.streams t m.kept.rise i) (among_without u t.id (replaced t s.end.streams) j)) refl
-            (end_lawful n c (here.clients_at n c) known.g t known.known reason si.small si.opaque (si.over, whole_put known.g (here.held n t.vb) known.g.last t si.begun whole, cause))
-            (over_agrees w r cl n c node session states s g t t i refl refl (spelling f) StreamLine.Ends header states' s' step same
+            (λ u j ne. subst (Among u) (replaced_same s.end.streams t m.kept.rise i) (among_without u t.id (replaced t s.end.streams) j))
+            (λ k ne. ap (λ ss. kept_at k (without_id t.id ss)) (replaced_same s.end.streams t m.kept.rise i) ∙ closed_there t.vb t s.end.streams m.kept.rise m.one (m.one t i) k ne) refl
+            (end_lawful n c (here.clients_at n c) known.g t known.known reason si.small si.opaque (still_open w r cl n c node session states s g t known) (still_through w r cl n c node session states s g through) (si.over, whole_put known.g (here.held n t.vb) known.g.last t si.begun whole, cause))
+            (over_agrees w r cl n c node session states s g t t i refl refl (spelling f) StreamLine.Ends header states' s' step same refl
             (ap (λ xs. with_streams client (without_id t.id xs) s'.end) (replaced_same s.end.streams t m.kept.rise i)) known refl),
         refl,
       )

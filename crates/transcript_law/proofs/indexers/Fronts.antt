@@ -1,18 +1,15 @@
 -- a pull of a client's streams: each of them has its turn till none has more to put, or all were put that were asked for
-use Rattle.std.specs.Prelude.{◌≡◌, ◌≤◌, ◌<◌, ◌++◌, ◌∷◌, ◌==◌, ◌||◌, nat_lt, if◌then◌else◌}
+use Rattle.std.specs.Prelude.{◌≡◌, ◌⊎◌, ◌≤◌, ◌<◌, ◌++◌, ◌∷◌, if◌then◌else◌}
 use Rattle.transcript_law.proofs.Words.{ℕ, zero, suc, Bool, true, false, List, [], length, take, drop, refl, sym, ap, ◌∙◌, subst, arith, ⊎_elim, append-nil, append_assoc, length-append, take-append-drop, Chronicle, Cluster, Done, Halt, More, PlainNode, PlainProducer, PlainStream, PlainWorld, Served, States, Stop, TakesSnapshots, Turn, Why, after, after_bind, after_lines, bind, go_on, pulled, repeated, why_of}
 use Rattle.client_session.specs.Serving.{PlainSession}
 unfoldable use Rattle.dcp_producer.specs.Pulling.{frames_put, one_frame, one_turn}
 use Rattle.dcp_producer.specs.Pulling.{Pulling, QuietOnes, is_quiet, none_quiet, pull_of, quiet_halt, turns_came}
 use Rattle.dcp_producer.specs.Producers.{with_turn}
 use Rattle.dcp_producer.specs.Turns.{turns_of}
-use Rattle.transcript_law.proofs.indexers.{Framed.{IsQuietNow, SoFar, mine}, Pulls.{Came, Pulled, one_goes}, Rounds.{among_append, among_order, round}}
+use Rattle.flow_control.specs.Windows.{is_open as lets_through}
+use Rattle.transcript_law.proofs.indexers.{Framed.{IsQuietNow, RestsNow, SoFar, WaitsNow, mine}, Pulls.{Came, Pulled, one_goes}, Rounds.{among_append, among_order, round}}
 use Rattle.transcript_law.proofs.invariant.OpenStreams.{Among}
 use Rattle.vbucket.specs.Takes.{TakesExactly}
-
--- a connection's window lets a frame through
-abbrev lets_through : PlainProducer → Bool
-lets_through end = end.window.size == 0 || nat_lt end.window.outstanding end.window.size
 
 -- as many have their turns as there are
 order_long : (end : PlainProducer) → length (turns_of end) ≡ length end.streams
@@ -66,6 +63,7 @@ module _ (takes : TakesSnapshots) (exactly : TakesExactly) (w : PlainWorld) (r :
   record Rounded (p0 : Pulling) (k : ℕ) (states : States) (p : Pulling) : Type 0 where
     pub pulled : Goes states p
     pub streams : p.served.end.streams ≡ p0.served.end.streams
+    pub window : p.served.end.window ≡ p0.served.end.window
     pub order : Turned p0.served.end p.served.end p.quiet k
 
   abbrev Rounds : Pulling → ℕ → States × Turn Pulling Pulling → Type 0
@@ -76,6 +74,7 @@ module _ (takes : TakesSnapshots) (exactly : TakesExactly) (w : PlainWorld) (r :
   next_round p0 k states p few g (states', More p') went = record {
     pulled = went.pulled;
     streams = ap (λ (e : PlainProducer). e.streams) went.end_is ∙ g.streams;
+    window = ap (λ (e : PlainProducer). e.window) went.end_is ∙ g.window;
     order =
         let m = mine w r cl n c node session states p.served g.pulled.so in
         let long : length p.served.end.streams ≡ length p0.served.end.streams = ap (λ (xs : List PlainStream). length xs) g.streams in
@@ -85,18 +84,19 @@ module _ (takes : TakesSnapshots) (exactly : TakesExactly) (w : PlainWorld) (r :
   }
   next_round p0 k states p few g (states', Stop p') went = went
 
-  turns_go : (k : ℕ) (p0 : Pulling) (states : States) → k ≤ length p0.served.end.streams → Goes states p0 → Rounds p0 k (after (repeated k one_turn p0) states)
-  turns_go zero p0 states few g = record {
+  turns_go : (k : ℕ) (p0 : Pulling) (states : States) → k ≤ length p0.served.end.streams → lets_through p0.served.end.window ≡ true → Goes states p0 → Rounds p0 k (after (repeated k one_turn p0) states)
+  turns_go zero p0 states few through g = record {
     pulled = g;
     streams = refl;
+    window = refl;
     order = record { front = []; back = turns_of p0.served.end; order = refl; count = refl; now = sym (append-nil (turns_of p0.served.end)); quiet = λ u i. absurd i };
   }
-  turns_go (suc k) p0 states few g =
+  turns_go (suc k) p0 states few through g =
       subst (Rounds p0 (suc k)) (sym (after_bind (repeated k one_turn p0) (go_on one_turn) states))
-      (by (after (repeated k one_turn p0) states).0 (after (repeated k one_turn p0) states).1 (turns_go k p0 states (omega (arith, few)) g))
+      (by (after (repeated k one_turn p0) states).0 (after (repeated k one_turn p0) states).1 (turns_go k p0 states (omega (arith, few)) through g))
     where
       by : (states' : States) (x : Turn Pulling Pulling) → Rounds p0 k (states', x) → Rounds p0 (suc k) (after (go_on one_turn x) states')
-      by states' (More p) d = next_round p0 k states' p (omega (arith, few)) d (after (one_turn p) states') (one_goes takes exactly w r cl n c node session states' p d.pulled)
+      by states' (More p) d = next_round p0 k states' p (omega (arith, few)) d (after (one_turn p) states') (one_goes takes exactly w r cl n c node session states' p d.pulled (ap lets_through d.window ∙ through))
       by states' (Stop p) d = d
 
   -- ---- frames
@@ -105,6 +105,10 @@ module _ (takes : TakesSnapshots) (exactly : TakesExactly) (w : PlainWorld) (r :
   pub record Stopped (states : States) (s : Served) (halted : Halt) : Type 0 where
     pub so : SoFar w r cl n c node session states s
     pub idle : why_of halted ≡ Why.Idle → (u : PlainStream) → Among u s.end.streams → IsQuietNow w r cl n c node session (after_lines r so.lines) u
+    pub rest : why_of halted ≡ Why.WaitSaved → (u : PlainStream) → Among u s.end.streams → RestsNow w r cl n c node session (after_lines r so.lines) u
+    pub one : why_of halted ≡ Why.WaitSaved → WaitsNow w r cl n c node session (after_lines r so.lines) s.end.streams
+    pub full : why_of halted ≡ Why.Full → lets_through s.end.window ≡ false
+    pub opens : (why_of halted ≡ Why.Idle) ⊎ (why_of halted ≡ Why.WaitSaved) → lets_through s.end.window ≡ true
 
   abbrev Frames : States × Turn Pulling (Served × Halt) → Type 0
   Frames (states, More p) = Goes states p
@@ -117,30 +121,51 @@ module _ (takes : TakesSnapshots) (exactly : TakesExactly) (w : PlainWorld) (r :
       by true f e = cc
       by false f e = f
 
+  waits_so : (q : QuietOnes) → why_of (quiet_halt q) ≡ Why.WaitSaved → q.waits ≡ true
+  waits_so q e = by q.waits refl e
+    where
+      by : (b : Bool) → q.waits ≡ b → why_of (if b then Halt.WaitSaved else Halt.Idle) ≡ Why.WaitSaved → q.waits ≡ true
+      by true f e = f
+      by false f e = cc
+
+  not_full : (q : QuietOnes) → why_of (quiet_halt q) ≡ Why.Full → ⊥
+  not_full q e = by q.waits e
+    where
+      by : (b : Bool) → why_of (if b then Halt.WaitSaved else Halt.Idle) ≡ Why.Full → ⊥
+      by true f = cc
+      by false f = cc
+
   -- every stream had its turn
-  all_turned : (p0 : Pulling) (states : States) (p : Pulling) → Rounded p0 (length p0.served.end.streams) states p → Stopped states p.served (quiet_halt p.quiet)
-  all_turned p0 states p g = record {
+  all_turned : (p0 : Pulling) (states : States) (p : Pulling) → lets_through p0.served.end.window ≡ true → Rounded p0 (length p0.served.end.streams) states p → Stopped states p.served (quiet_halt p.quiet)
+  all_turned p0 states p through g = record {
     so = g.pulled.so;
-    idle = λ e u i.
-        let t = g.order in
-        let all : length (t.front ++ t.back) ≡ length p0.served.end.streams = ap (λ (xs : List PlainStream). length xs) (sym t.order) ∙ order_long p0.served.end in
-        let none : t.back ≡ [] = none_behind t.front t.back (length p0.served.end.streams) all t.count in
-        let there : Among u t.front = subst (Among u) (t.order ∙ ap (λ xs. t.front ++ xs) none ∙ append-nil t.front) (among_order p0.served.end u (subst (Among u) g.streams i)) in
-        g.pulled.still (waits_not p.quiet e) u i (t.quiet u there);
+    idle = λ e u i. g.pulled.still (waits_not p.quiet e) u i (asked u i);
+    rest = λ e u i. g.pulled.rest u i (asked u i);
+    one = λ e. (g.pulled.one (waits_so p.quiet e)).0;
+    full = λ e. absurd (not_full p.quiet e);
+    opens = λ e. ap lets_through g.window ∙ through;
   }
+    where
+      asked : (u : PlainStream) → Among u p.served.end.streams → is_quiet u.id p.quiet ≡ true
+      asked u i =
+          let t = g.order in
+          let all : length (t.front ++ t.back) ≡ length p0.served.end.streams = ap (λ (xs : List PlainStream). length xs) (sym t.order) ∙ order_long p0.served.end in
+          let none : t.back ≡ [] = none_behind t.front t.back (length p0.served.end.streams) all t.count in
+          let there : Among u t.front = subst (Among u) (t.order ∙ ap (λ xs. t.front ++ xs) none ∙ append-nil t.front) (among_order p0.served.end u (subst (Among u) g.streams i)) in
+          t.quiet u there
 
   frame_goes : (p : Pulling) (states : States) → Goes states p → Frames (after (one_frame p) states)
   unfolding one_frame
-  frame_goes p states g = by (lets_through p.served.end)
+  frame_goes p states g = by (lets_through p.served.end.window) refl
     where
-      came : (states' : States) (x : Turn Pulling Pulling) → Rounds p (length p.served.end.streams) (states', x) → Frames (states', turns_came x)
-      came states' (More p') d = all_turned p states' p' d
-      came states' (Stop p') d = d
+      came : lets_through p.served.end.window ≡ true → (states' : States) (x : Turn Pulling Pulling) → Rounds p (length p.served.end.streams) (states', x) → Frames (states', turns_came x)
+      came through states' (More p') d = all_turned p states' p' through d
+      came through states' (Stop p') d = d
 
-      by : (b : Bool) → Frames (after (if b then bind (repeated (length p.served.end.streams) one_turn p) (λ turns. Done (turns_came turns)) else Done (Stop (p.served, Halt.Full))) states)
-      by true = subst Frames (sym (after_bind (repeated (length p.served.end.streams) one_turn p) (λ turns. Done (turns_came turns)) states))
-          (came (after (repeated (length p.served.end.streams) one_turn p) states).0 (after (repeated (length p.served.end.streams) one_turn p) states).1 (turns_go (length p.served.end.streams) p states (omega arith) g))
-      by false = record { so = g.so; idle = λ e. cc }
+      by : (b : Bool) → lets_through p.served.end.window ≡ b → Frames (after (if b then bind (repeated (length p.served.end.streams) one_turn p) (λ turns. Done (turns_came turns)) else Done (Stop (p.served, Halt.Full))) states)
+      by true through = subst Frames (sym (after_bind (repeated (length p.served.end.streams) one_turn p) (λ turns. Done (turns_came turns)) states))
+          (came through (after (repeated (length p.served.end.streams) one_turn p) states).0 (after (repeated (length p.served.end.streams) one_turn p) states).1 (turns_go (length p.served.end.streams) p states (omega arith) through g))
+      by false shut = record { so = g.so; idle = λ e. cc; rest = λ e. cc; one = λ e. cc; full = λ e. shut; opens = λ e. ⊎_elim (λ i. cc) (λ w. cc) e }
 
   frames_go : (k : ℕ) (p : Pulling) (states : States) → Goes states p → Frames (after (repeated k one_frame p) states)
   frames_go zero p states g = g
@@ -162,8 +187,8 @@ module _ (takes : TakesSnapshots) (exactly : TakesExactly) (w : PlainWorld) (r :
   pull_ends k s states g =
       let p : Pulling = pull_of s none_quiet in
       subst Ends (sym (after_bind (repeated k one_frame p) pulled states))
-      (by (after (repeated k one_frame p) states).0 (after (repeated k one_frame p) states).1 (frames_go k p states (record { so = g; still = λ none u i quiet. let z : true ≡ false = sym quiet in cc })))
+      (by (after (repeated k one_frame p) states).0 (after (repeated k one_frame p) states).1 (frames_go k p states (record { so = g; still = λ none u i quiet. let z : true ≡ false = sym quiet in cc; rest = λ u i quiet. let z : true ≡ false = sym quiet in cc; one = λ waits. cc })))
     where
       by : (states' : States) (x : Turn Pulling (Served × Halt)) → Frames (states', x) → Ends (after (pulled x) states')
-      by states' (More p) d = record { so = d.so; idle = λ e. cc }
+      by states' (More p) d = record { so = d.so; idle = λ e. cc; rest = λ e. cc; one = λ e. cc; full = λ e. cc; opens = λ e. ⊎_elim (λ i. cc) (λ w. cc) e }
       by states' (Stop stopped) d = d

@@ -1,15 +1,16 @@
 -- a client's stream puts the next item of its snapshot
 use Rattle.std.specs.Prelude.{◌≡◌, ◌++◌, ◌∷◌, slice_get}
-use Rattle.transcript_law.proofs.Words.{ℕ, zero, suc, List, [], refl, sym, ap, ◌∙◌, subst, arith, inl, inr, Option, Some, None, option_map, is_some, map, take, map-append, Begun, Branch, Change, Chronicle, Cluster, DcpMsg, Event, Frame, IsIn, Plain, PlainNode, PlainStream, PlainWorld, Served, States, act_message, item_line, item_of_change, more_items, past_item, spelling}
+use Rattle.transcript_law.proofs.Words.{ℕ, zero, suc, true, false, List, [], refl, sym, ap, ◌∙◌, subst, arith, inl, inr, Option, Some, None, option_map, is_some, map, take, map-append, Begun, Branch, Change, Chronicle, Cluster, DcpMsg, Event, Frame, IsIn, Plain, PlainNode, PlainStream, PlainWorld, Served, States, act_message, item_line, item_of_change, more_items, past_item, spelling}
 use Rattle.client_session.specs.Serving.{PlainSession}
 unfoldable use Rattle.mcbp_dcp.specs.DcpFrames.{dcp_frame}
 use Rattle.dcp_producer.specs.Frames.{act_sent, item_next}
 use Rattle.dcp_producer.specs.Pulling.{QuietOnes, came, frame_put, stream_went}
 use Rattle.dcp_producer.specs.declared.desk.Desk.{Desk}
-use Rattle.transcript_law.proofs.indexers.{Framed.{SoFar, TurnSoFar, client_of, mine, put_more, read, went_agrees, world_of}, Owning.{IsKnown, stream_known}, Replacing.{others_replaced}, Replied.{header_is, item_short, item_vb, put_is}, Worlds.{step_quiet, vb_here}}
+use Rattle.flow_control.specs.Windows.{is_open as lets_through}
+use Rattle.transcript_law.proofs.indexers.{Framed.{SoFar, TurnSoFar, client_of, mine, put_more, read, still_open, still_through, went_agrees, world_of}, Owning.{IsKnown, stream_known}, Replacing.{at_there_replaced, others_replaced}, Replied.{header_is, item_short, item_vb, put_is}, Worlds.{step_quiet, vb_here}}
 use Rattle.transcript_law.proofs.invariant.{Agreement.{ChangeFits, vb_of}, ClientsTold.{BegunIs, IsOpenFor, StartedAt, StreamIs}, OpenStreams.{Among}}
 use Rattle.transcript_law.proofs.links.{Putting.{next_item_of}, Sent.{all_found, found_below, take_found}}
-use Rattle.transcript_law.specs.{ClientStreams.{with_sent}, LawfulClients.{IsSentOf, LawfulClientItem}, StreamLaws.{line_act}, StreamsTold.{ClientKnown, ClientStream, StreamLine}, ClientStreams.{vb_in_header}}
+use Rattle.transcript_law.specs.{ClientFrames.{is_closed_by}, ClientStreams.{held_for, with_sent}, Questions.{flow_now, served_frames}, LawfulClients.{IsSentOf, LawfulClientItem}, StreamLaws.{line_act}, StreamsTold.{ClientKnown, ClientStream, StreamLine}, ClientStreams.{vb_in_header}}
 use Rattle.vb_events.specs.declared.event.Event.TheVariants as event
 use Rattle.vb_events.specs.declared.event.StreamName.TheVariants as name
 use Rattle.vb_types.specs.declared.change.Act.{Act}
@@ -85,14 +86,14 @@ module _ (tree : List Branch) (on : Option ℕ) (held : List Change) (pv : Optio
 -- ---- the line
 
 module _ (r : Chronicle) (n c : ℕ) (known : ClientKnown) (pv : Option Plain) (g : ClientStream) (t : PlainStream) (there : known.streams t.vb ≡ Some g) (si : StreamIs r.tree (r.branch_at n t.vb) (r.held n t.vb) pv g t) (x : Change)
-    (e : slice_get t.items t.next ≡ Some x) where
+    (e : slice_get t.items t.next ≡ Some x) (still : is_closed_by (served_frames known) t.vb ≡ false) (through : lets_through (flow_now known).window ≡ true) where
   pub item_lawful : (more : List Event) → LawfulClientItem r known n c (item_of_change x) (event.Reply n c (spelling (dcp_frame (act_message x x.act) t.opaque t.vb)) ∷ more)
   item_lawful more = by g.last refl si.begun
     where
       by : (last : Option Begun) → g.last ≡ last → BegunIs g (r.held n t.vb) last t → LawfulClientItem r known n c (item_of_change x) (event.Reply n c (spelling (dcp_frame (act_message x x.act) t.opaque t.vb)) ∷ more)
       by None q begun = let z : None ≡ Some x = sym (ap (λ xs. slice_get xs t.next) begun.0) ∙ e in cc
       by (Some b) q begun =
-          let (p, is, at) = put_is n c known (act_message x x.act) g t.opaque t.vb more (item_vb x x.act t.opaque t.vb) si.small there si.opaque in record {
+          let (p, is, at) = put_is n c known (act_message x x.act) g t.opaque t.vb more (item_vb x x.act t.opaque t.vb) si.small there si.opaque still through in record {
             change = x;
             told = refl;
             put = p;
@@ -100,15 +101,15 @@ module _ (r : Chronicle) (n c : ℕ) (known : ClientKnown) (pv : Option Plain) (
             begun = b;
             last = ap (λ (y : ClientStream). y.last) is ∙ q;
             shown = begun.0.remains.of x (found_in t.items t.next x e);
-            held = λ stays.
-                let sent : IsSentOf g b (r.held n t.vb) x = all_found (IsSentOf g b (r.held n t.vb)) t.items t.next x (begun.3 (ap (λ (y : ClientStream). y.turned) (sym is) ∙ stays)) e in
-                subst (λ (y : ClientStream). IsSentOf y b (r.held n (vb_in_header p.bytes)) x) (sym is) (subst (λ v. IsSentOf g b (r.held n v) x) (sym at) sent);
+            held =
+                let sent : IsSentOf g b (held_for g (r.held n t.vb)) x = all_found (IsSentOf g b (held_for g (r.held n t.vb))) t.items t.next x begun.3 e in
+                subst (λ (y : ClientStream). IsSentOf y b (held_for y (r.held n (vb_in_header p.bytes))) x) (sym is) (subst (λ v. IsSentOf g b (held_for g (r.held n v)) x) (sym at) sent);
             next = next_item_of b t x (begun.0, begun.1) e;
           }
 
 -- ---- its turn
 
-module _ (w : PlainWorld) (r : Chronicle) (cl : Cluster) (n c : ℕ) (node : PlainNode) (session : PlainSession) (states : States) (s : Served) (g : SoFar w r cl n c node session states s) (q : QuietOnes) (t : PlainStream) (i : Among t s.end.streams) where
+module _ (w : PlainWorld) (r : Chronicle) (cl : Cluster) (n c : ℕ) (node : PlainNode) (session : PlainSession) (states : States) (s : Served) (g : SoFar w r cl n c node session states s) (q : QuietOnes) (t : PlainStream) (i : Among t s.end.streams) (through : lets_through s.end.window ≡ true) where
   abbrev here : Chronicle
   here = read w r cl n c node session states s g
 
@@ -126,10 +127,10 @@ module _ (w : PlainWorld) (r : Chronicle) (cl : Cluster) (n c : ℕ) (node : Pla
       let si = known.is in
       let header = header_is f t.vb (item_vb x x.act t.opaque t.vb) si.small in (
         put_more w r cl n c node session states s g t states s' told f (StreamLine.Sends (item_of_change x)) (ap (λ l. s.events ++ l ∷ []) line_is) refl
-            (item_short x t.opaque t.vb (all_found ChangeFits t.items t.next x si.fits e)) refl header (λ u j ne. others_replaced left s.end.streams u j ne) refl
-            (item_lawful here n c (here.clients_at n c) (vb_of (world_of w r cl n c node session states s) n t.vb) known.g t known.known si x e)
+            (item_short x t.opaque t.vb (all_found ChangeFits t.items t.next x si.fits e)) refl header (λ u j ne. others_replaced left s.end.streams u j ne) (at_there_replaced left s.end.streams t (mine w r cl n c node session states s g).kept.rise (mine w r cl n c node session states s g).one i refl refl) refl
+            (item_lawful here n c (here.clients_at n c) (vb_of (world_of w r cl n c node session states s) n t.vb) known.g t known.known si x e (still_open w r cl n c node session states s g t known) (still_through w r cl n c node session states s g through))
             (went_agrees w r cl n c node session states s g t left i refl refl (spelling f) (StreamLine.Sends (item_of_change x)) header states s' (step_quiet w n c node states states (Some (client_of w r cl n c node session s)) (Some (client_of w r cl n c node session s')) (λ k. refl))
-            (λ k ne. refl) refl refl known
+            (λ k ne. refl) refl refl refl known
             (subst (λ o. StreamIs here.tree (here.branch_at n t.vb) (here.held n t.vb) o (with_sent (item_of_change x) known.g) left) (vb_here w n c node states (Some (client_of w r cl n c node session s)) t.vb)
             (item_stream here.tree (here.branch_at n t.vb) (here.held n t.vb) (vb_of (world_of w r cl n c node session states s) n t.vb) known.g t si x e))),
         refl,

@@ -130,8 +130,8 @@ module _ (w : PlainWorld) (r : Chronicle) (cl : Cluster) (a : AgreesIn idle w r 
   abbrev pub moved : Plain
   moved = moved_vb x.vb stream.id stop
 
-  pub marked_stream : StreamIs r.tree (r.branch_at n v) (r.held n v) (Some moved) (with_mark r.tree end g) (with_snapshot stream snapshot)
-  marked_stream = record {
+  pub marked_stream : stream.ended ≡ false → StreamIs r.tree (r.branch_at n v) (r.held n v) (Some moved) (with_mark r.tree end g) (with_snapshot stream snapshot)
+  marked_stream going = record {
     opaque = si.opaque;
     small = si.small;
     until = si.until;
@@ -140,7 +140,7 @@ module _ (w : PlainWorld) (r : Chronicle) (cl : Cluster) (a : AgreesIn idle w r 
     fits = fit;
     next_in = omega arith;
     started = above_start g.last si.started;
-    begun = (covers, refl, refl, λ stays. all_by_each (IsSentOf g begun (r.held n v)) items sent);
+    begun = (covers, refl, refl, subst (λ b. All (IsSentOf g begun (if b then g.left else r.held n v)) items) (sym (sym si.ended ∙ going)) (all_by_each (IsSentOf g begun (r.held n v)) items sent));
     opens = λ going. record {
       vb = moved;
       there = refl;

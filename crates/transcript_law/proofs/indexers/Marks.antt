@@ -10,12 +10,13 @@ use Rattle.dcp_producer.specs.Pulling.{QuietOnes, frame_put, stream_went}
 use Rattle.dcp_producer.specs.declared.desk.Desk.{Desk}
 use Rattle.dcp_producer.specs.declared.next_frame.NextFrame.{NextFrame}
 use Rattle.dcp_producer.specs.declared.next_frame.NextFrame.TheVariants as next
+use Rattle.flow_control.specs.Windows.{is_open as lets_through}
 use Rattle.node_core.specs.Clients.{PlainClient}
 use Rattle.std.proofs.lemmas.Bool.{leb-true}
-use Rattle.transcript_law.proofs.indexers.{Ends.{Comes, ended_turn, has, known, moved_step, opens, reached_turn, vb_agrees}, Items.{item_turn}, Framed.{IsQuietNow, SoFar, client_of, mine, put_more, read, turned_so_far, went_agrees, world_of}, Marked.{marked_stream, marker_lawful}, Owning.{with_streams}, Stills.{quiet_stream}, Replacing.{others_replaced, replaced_same}, Replied.{header_is, marker_short, marker_vb, put_is}}
+use Rattle.transcript_law.proofs.indexers.{Ends.{Comes, ended_turn, has, known, moved_step, opens, reached_turn, vb_agrees}, Items.{item_turn}, Framed.{IsQuietNow, IsWaitingNow, SoFar, client_of, mine, put_more, read, still_open, still_through, turned_so_far, went_agrees, world_of}, Marked.{marked_stream, marker_lawful}, Owning.{with_streams}, Stills.{quiet_stream, waiting_stream}, Replacing.{at_there_replaced, others_replaced, replaced_same}, Replied.{header_is, marker_short, marker_vb, put_is}}
 use Rattle.transcript_law.proofs.invariant.{Agreement.{vb_of}, Carried.{sound_streams}, ClientsTold.{IsOpenFor, StreamIs}, OpenStreams.{Among}}
 use Rattle.transcript_law.proofs.links.{Marking.{moved_there, moved_vb, span_snapshot}, Sent.{not_found}}
-use Rattle.transcript_law.specs.{ClientStreams.{with_mark}, LawfulClients.{IsNextMarker, IsQuiet, LawfulClientMark}, StreamLaws.{FROM_MEMORY}, StreamsTold.{ClientKnown, ClientStream, StreamLine}}
+use Rattle.transcript_law.specs.{ClientFrames.{is_closed_by}, ClientStreams.{with_mark}, LawfulClients.{IsNextMarker, IsQuiet, LawfulClientMark, WaitsSaved}, Questions.{flow_now, served_frames}, StreamLaws.{FROM_MEMORY}, StreamsTold.{ClientKnown, ClientStream, StreamLine}}
 use Rattle.vb_calls.specs.Streams.{is_in_memory, place_reply}
 use Rattle.vb_calls.specs.States.{call_at}
 use Rattle.vb_calls.specs.declared.calls.VbCall.TheVariants.{Place, Take}
@@ -34,10 +35,10 @@ once_same states v p there = λ i q. at q i
 
 -- ---- the line
 
-pub mark_lawful : (r : Chronicle) (n c : ℕ) (known : ClientKnown) (g : ClientStream) (t : PlainStream) (start end : ℕ) → known.streams t.vb ≡ Some g → t.vb < 2 ^ 16 → t.opaque ≡ g.opaque → IsNextMarker r.tree g start end
+pub mark_lawful : (r : Chronicle) (n c : ℕ) (known : ClientKnown) (g : ClientStream) (t : PlainStream) (start end : ℕ) → known.streams t.vb ≡ Some g → t.vb < 2 ^ 16 → t.opaque ≡ g.opaque → is_closed_by (served_frames known) t.vb ≡ false → lets_through (flow_now known).window ≡ true → IsNextMarker r.tree g start end
     → (more : List Event) → LawfulClientMark r known n c start end FROM_MEMORY (event.Reply n c (spelling (dcp_frame (msg.SnapshotMarker start end FROM_MEMORY) t.opaque t.vb)) ∷ more)
-mark_lawful r n c known g t start end there small opaque marker more =
-    let (p, is, at) = put_is n c known (msg.SnapshotMarker start end FROM_MEMORY) g t.opaque t.vb more (marker_vb start end FROM_MEMORY t.opaque t.vb) small there opaque in
+mark_lawful r n c known g t start end there small opaque still through marker more =
+    let (p, is, at) = put_is n c known (msg.SnapshotMarker start end FROM_MEMORY) g t.opaque t.vb more (marker_vb start end FROM_MEMORY t.opaque t.vb) small there opaque still through in
     record { put = p; memory = refl; marker = subst (λ (y : ClientStream). IsNextMarker r.tree y start end) (sym is) marker }
 
 -- a marker, by where its snapshot came from
@@ -54,7 +55,7 @@ snapshot_is takes vb id o win sound found near ends =
     let both : Some o' ≡ Some o = sym found' ∙ found in let same : o' ≡ o = cc in
     (stop, subst (λ x. IsSnapshot vb x stop snapshot) same is, sym (ap (λ x. x.0) step) ∙ after)
 
-module _ (w : PlainWorld) (r : Chronicle) (cl : Cluster) (n c : ℕ) (node : PlainNode) (session : PlainSession) (states : States) (s : Served) (g : SoFar w r cl n c node session states s) (q : QuietOnes) (t : PlainStream) (i : Among t s.end.streams) where
+module _ (w : PlainWorld) (r : Chronicle) (cl : Cluster) (n c : ℕ) (node : PlainNode) (session : PlainSession) (states : States) (s : Served) (g : SoFar w r cl n c node session states s) (q : QuietOnes) (t : PlainStream) (i : Among t s.end.streams) (through : lets_through s.end.window ≡ true) where
   abbrev here : Chronicle
   here = read w r cl n c node session states s g
 
@@ -65,34 +66,35 @@ module _ (w : PlainWorld) (r : Chronicle) (cl : Cluster) (n c : ℕ) (node : Pla
   client = client_of w r cl n c node session s
 
   abbrev pub Arrives : States × Next → Type 0
-  Arrives x = Comes w r cl n c node session states s g q t i x
+  Arrives x = Comes w r cl n c node session states s g q t i through x
 
   -- nothing was put
-  quiet_turn : (waits : Bool) (states' : States) → states' ≡ states → (waits ≡ false → IsQuietNow w r cl n c node session here t) → Arrives (states', quiet waits t)
-  quiet_turn waits states' same still =
+  quiet_turn : (waits : Bool) (states' : States) → states' ≡ states → (waits ≡ false → IsQuietNow w r cl n c node session here t) → (waits ≡ true → IsWaitingNow w r cl n c node session here t) → Arrives (states', quiet waits t)
+  quiet_turn waits states' same still waiting =
       let again = replaced_same s.end.streams t (mine w r cl n c node session states s g).kept.rise i in
       subst (λ x. Arrives (x, quiet waits t)) (sym same)
-      (let (so, lines) = turned_so_far w r cl n c node session states s g (stream_went t s) refl refl (ap (λ xs. with_streams client xs (stream_went t s).end) again) in record {
+      (let (so, lines) = turned_so_far w r cl n c node session states s g (stream_went t s) refl refl (ap (λ xs. with_streams client xs (stream_went t s).end) again) refl in record {
         so = so;
         read_is = ap (after_lines r) lines;
         same = ap (λ xs. record s.end { streams = xs }) again;
         waits = waits;
         quiet_is = refl;
         quiet = still;
+        waiting = waiting;
       })
 
   module _ (going : t.ended ≡ false) where
-    abbrev x : IsOpenFor here.tree (here.branch_at n t.vb) (known w r cl n c node session states s g q t i).g t.id (vb_of now n t.vb)
-    x = opens w r cl n c node session states s g q t i going
+    abbrev x : IsOpenFor here.tree (here.branch_at n t.vb) (known w r cl n c node session states s g q t i through).g t.id (vb_of now n t.vb)
+    x = opens w r cl n c node session states s g q t i through going
 
     there_is : states t.vb ≡ Some x.vb
-    there_is = has w r cl n c node session states s g q t i going
+    there_is = has w r cl n c node session states s g q t i through going
 
     -- the marker of a snapshot
     marker_turn : (stop : ℕ) (snapshot : Snapshot) → IsSnapshot x.vb x.stream stop snapshot → x.vb.floor ≤ x.stream.place → snapshot.disk ≡ false → length t.items ≤ t.next → reaches_end t.until t.marked ≡ false
         → Arrives (with_vb_at (with_vb_at states t.vb x.vb) t.vb (moved_vb x.vb t.id stop), marker_next s.end.desk.stream t snapshot)
     marker_turn stop snapshot is near disk whole unreached =
-        let k = known w r cl n c node session states s g q t i in
+        let k = known w r cl n c node session states s g q t i through in
         let f : Frame = dcp_frame (msg.SnapshotMarker snapshot.start snapshot.end FROM_MEMORY) t.opaque t.vb in
         let left : PlainStream = with_snapshot t snapshot in
         let s' : Served = frame_put f (event.Marked s.end.desk.stream snapshot.start snapshot.end FROM_MEMORY) (stream_went left s) in
@@ -106,14 +108,14 @@ module _ (w : PlainWorld) (r : Chronicle) (cl : Cluster) (n c : ℕ) (node : Pla
         let others : (j : ℕ) → (j ≡ t.vb → ⊥) → states' j ≡ states j = λ j ne. ap (λ b. if b then Some moved else (if b then Some x.vb else states j)) (ne_eqb j t.vb ne) in
         subst (λ flag. Arrives (states', (marker_by s.end.desk.stream flag snapshot, left))) (sym disk) (
           put_more w r cl n c node session states s g t states' s' told f (StreamLine.Marks snapshot.start snapshot.end) (ap (λ y. s.events ++ event.Marked y snapshot.start snapshot.end FROM_MEMORY ∷ []) named) refl
-              (marker_short snapshot.start snapshot.end FROM_MEMORY t.opaque t.vb) refl header (λ u j ne. others_replaced left s.end.streams u j ne) refl
-              (mark_lawful here n c (here.clients_at n c) k.g t snapshot.start snapshot.end k.known k.is.small k.is.opaque (marker_lawful now here cl g.agrees n t.vb k.g t k.is x stop snapshot is near going whole unreached))
+              (marker_short snapshot.start snapshot.end FROM_MEMORY t.opaque t.vb) refl header (λ u j ne. others_replaced left s.end.streams u j ne) (at_there_replaced left s.end.streams t m.kept.rise m.one i refl refl) refl
+              (mark_lawful here n c (here.clients_at n c) k.g t snapshot.start snapshot.end k.known k.is.small k.is.opaque (still_open w r cl n c node session states s g t k) (still_through w r cl n c node session states s g through) (marker_lawful now here cl g.agrees n t.vb k.g t k.is x stop snapshot is near going whole unreached))
               (went_agrees w r cl n c node session states s g t left i refl refl (spelling f) (StreamLine.Marks snapshot.start snapshot.end) header states' s'
-              (moved_step w r cl n c node session states s g q t i going moved (Some (client_of w r cl n c node session s')) states'
-              (record { sound = sound_streams x.vb moved.streams (vb_agrees w r cl n c node session states s g q t i going).sound; alone = refl; others = λ y ne. moved_there t.id stop y x.vb.streams ne }) after_is others)
-              others refl refl k
+              (moved_step w r cl n c node session states s g q t i through going moved (Some (client_of w r cl n c node session s')) states'
+              (record { sound = sound_streams x.vb moved.streams (vb_agrees w r cl n c node session states s g q t i through going).sound; alone = refl; others = λ y ne. moved_there t.id stop y x.vb.streams ne }) after_is others)
+              others refl refl refl k
               (subst (λ o. StreamIs here.tree (here.branch_at n t.vb) (here.held n t.vb) o (with_mark here.tree snapshot.end k.g) left) (sym after_is)
-              (marked_stream now here cl g.agrees n t.vb k.g t k.is x stop snapshot is near))),
+              (marked_stream now here cl g.agrees n t.vb k.g t k.is x stop snapshot is near going))),
           refl,
         )
 
@@ -152,34 +154,41 @@ module _ (w : PlainWorld) (r : Chronicle) (cl : Cluster) (n c : ℕ) (node : Pla
     -- nothing was given: it has no more to put
     still_now : TakesExactly → length t.items ≤ t.next → reaches_end t.until t.marked ≡ false → is_in_memory x.vb.floor x.stream ≡ true → end_span x.stream (all_spans x.vb.spans) x.vb.held ≡ None → IsQuietNow w r cl n c node session here t
     still_now exactly whole unreached near ends y there =
-        let k = known w r cl n c node session states s g q t i in
+        let k = known w r cl n c node session states s g q t i through in
         let same : Some k.g ≡ Some y = sym k.known ∙ there in let one : k.g ≡ y = cc in
         subst (IsQuiet here n t.vb) one (quiet_stream now here cl g.agrees n t.vb k.g t k.is x exactly going whole unreached near ends)
+
+    -- or the stream waits
+    waits_now : TakesExactly → length t.items ≤ t.next → reaches_end t.until t.marked ≡ false → is_in_memory x.vb.floor x.stream ≡ false → IsWaitingNow w r cl n c node session here t
+    waits_now exactly whole unreached far y there =
+        let k = known w r cl n c node session states s g q t i through in
+        let same : Some k.g ≡ Some y = sym k.known ∙ there in let one : k.g ≡ y = cc in
+        subst (WaitsSaved here n t.vb) one (waiting_stream now here cl g.agrees n t.vb k.g t k.is x exactly going whole unreached far)
 
     -- what comes behind the items of the snapshot that was taken last
     place_turn : TakesSnapshots → TakesExactly → length t.items ≤ t.next → reaches_end t.until t.marked ≡ false → Arrives (after (place_requested s.end.desk.stream t) states)
     place_turn takes exactly whole unreached = in_memory (is_in_memory x.vb.floor x.stream) refl
       where
         by : is_in_memory x.vb.floor x.stream ≡ true → (o : Option Span) → end_span x.stream (all_spans x.vb.spans) x.vb.held ≡ o → Arrives (taken_turn (take_to o x.stream x.vb))
-        by near None ends = quiet_turn false (with_vb_at (with_vb_at states t.vb x.vb) t.vb x.vb) twice (λ e. still_now exactly whole unreached near ends)
+        by near None ends = quiet_turn false (with_vb_at (with_vb_at states t.vb x.vb) t.vb x.vb) twice (λ e. still_now exactly whole unreached near ends) (λ e. cc)
         by near (Some win) ends =
-            let (stop, is, moved) = snapshot_is takes x.vb t.id x.stream win (vb_agrees w r cl n c node session states s g q t i going).sound x.opened near ends in
+            let (stop, is, moved) = snapshot_is takes x.vb t.id x.stream win (vb_agrees w r cl n c node session states s g q t i through going).sound x.opened near ends in
             subst (λ vb. Arrives (with_vb_at (with_vb_at states t.vb x.vb) t.vb vb, marker_next s.end.desk.stream t (span_snapshot x.vb x.stream win))) (sym moved)
             (marker_turn stop (span_snapshot x.vb x.stream win) is (leb-true x.vb.floor x.stream.place near) refl whole unreached)
 
         in_memory : (b : Bool) → is_in_memory x.vb.floor x.stream ≡ b → Arrives (after (place_requested s.end.desk.stream t) states)
-        in_memory false far = subst Arrives (sym (waited_turn far)) (quiet_turn true (with_vb_at states t.vb x.vb) once (λ e. cc))
+        in_memory false far = subst Arrives (sym (waited_turn far)) (quiet_turn true (with_vb_at states t.vb x.vb) once (λ e. cc) (λ e. waits_now exactly whole unreached far))
         in_memory true near = subst Arrives (sym (asked_turn near)) (by near (end_span x.stream (all_spans x.vb.spans) x.vb.held) refl)
 
     -- its end, or the next marker
     going_turn : TakesSnapshots → TakesExactly → length t.items ≤ t.next → (b : Bool) → reaches_end t.until t.marked ≡ b → Arrives (after (if b then close_sent t else place_requested s.end.desk.stream t) states)
-    going_turn takes exactly whole true reached = reached_turn w r cl n c node session states s g q t i going whole reached
+    going_turn takes exactly whole true reached = reached_turn w r cl n c node session states s g q t i through going whole reached
     going_turn takes exactly whole false unreached = place_turn takes exactly whole unreached
 
   -- behind the items: the stream's end, or the next marker
   more_turn : TakesSnapshots → TakesExactly → length t.items ≤ t.next → (b : Bool) → t.ended ≡ b
       → Arrives (after (if b then Done (over STATE_CHANGED t) else if reaches_end t.until t.marked then close_sent t else place_requested s.end.desk.stream t) states)
-  more_turn takes exactly whole true ended = ended_turn w r cl n c node session states s g q t i ended whole
+  more_turn takes exactly whole true ended = ended_turn w r cl n c node session states s g q t i through ended whole
   more_turn takes exactly whole false going = going_turn going takes exactly whole (reaches_end t.until t.marked) refl
 
   -- the next frame of the stream
@@ -189,4 +198,4 @@ module _ (w : PlainWorld) (r : Chronicle) (cl : Cluster) (n c : ℕ) (node : Pla
     where
       by : (o : Option Change) → slice_get t.items t.next ≡ o → Arrives (after (next_by s.end.desk.stream t o) states)
       by None e = more_turn takes exactly (not_found t.items t.next e) t.ended refl
-      by (Some item) e = item_turn w r cl n c node session states s g q t i item e
+      by (Some item) e = item_turn w r cl n c node session states s g q t i through item e

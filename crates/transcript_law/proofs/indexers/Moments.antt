@@ -5,16 +5,17 @@ use Rattle.transcript_law.proofs.Words.{ℕ, Bool, true, false, List, [], length
 use Rattle.client_session.specs.Serving.{PlainSession}
 use Rattle.dcp_producer.specs.declared.desk.Handshake.{Handshake}
 use Rattle.mcbp_frame.proofs.Cutting.{frames-none}
-use Rattle.mcbp_frame.specs.{Cutting.{frames_in}}
+use Rattle.mcbp_frame.specs.{Cutting.{frame_in, frames_in}}
 unfoldable use Rattle.mcbp_frame.specs.Frames.{first_frame}
 use Rattle.mcbp_frame.proofs.Cases.{front, length-spelling}
 use Rattle.mcbp_frame.specs.Frames.{frame_len}
 use Rattle.mcbp_frame.specs.Spelling.{spelling}
 use Rattle.std.proofs.lemmas.Bool.{lt-ltb}
-use Rattle.transcript_law.proofs.invariant.ClientsTold.{AskingIs, HeardIs, KeptIs, setup_of}
+use Rattle.transcript_law.proofs.invariant.ClientsTold.{AreFrames, AskingIs, HeardIs, KeptIs, setup_of}
 use Rattle.transcript_law.specs.ClientStreams.{unclosed}
-use Rattle.transcript_law.specs.LawfulMessages.{bytes_from, close_status, in_front, moment_of}
-use Rattle.transcript_law.specs.Questions.{Question}
+use Rattle.transcript_law.proofs.indexers.Questions.{unserved_is}
+use Rattle.transcript_law.specs.LawfulMessages.{bytes_from, close_status, moment_of}
+use Rattle.transcript_law.specs.Questions.{Question, in_front, served_frames}
 use Rattle.transcript_law.specs.StreamsTold.{Asking, ClientKnown, ClientStream}
 
 -- ---- the moment
@@ -45,15 +46,22 @@ module _ (asking : Asking) (session : PlainSession) (set : Handshake) (asks : As
       let own : length (spelling f) ≡ frame_len f = length-spelling f in
       (λ i. nat_lt (length (behind i)) (length (rest_is i))) ∙ lt-ltb (length (drop (frame_len f) session.reader)) (length session.reader) (omega (arith, long, own))
 
+-- the frames in front of those that a session keeps are those that were served
+pub front_served : (front end all : List ℕ) (served : List Frame) → all ≡ front ++ end → AreFrames front served → frames_in (in_front end all) ≡ served
+front_served front end all served is frames =
+    ap frames_in (front_is front end all is ∙ sym (append-nil front)) ∙ frames.cut [] ∙ ap (λ fs. served ++ fs) no_frame ∙ append-nil served
+
+-- so they are told, between two calls
+pub served_is : (known : ClientKnown) (session : PlainSession) (set : Handshake) (heard : HeardIs known session set) → AskingIs known.asking session set → (session.awaited ≡ None → frame_in (first_frame session.reader) ≡ None) → served_frames known ≡ heard.served
+served_is known session set heard asks rests = ap (λ end. frames_in (in_front end known.bytes)) (unserved_is known.asking session set asks rests) ∙ front_served heard.front session.reader known.bytes heard.served heard.bytes heard.frames
+
 module _ (known : ClientKnown) (asking : Asking) (session : PlainSession) (set : Handshake) (heard : HeardIs known session set) (asks : AskingIs asking session set) (f : Frame) where
   abbrev its : Question
   its = question asking session set asks f
 
-  -- and those before it, behind the last request for a stream, are those that were served
+  -- and those before it
   before_is : frames_in (in_front (bytes_from its asking.bytes) known.bytes) ≡ heard.served
-  before_is =
-      ap (λ end. frames_in (in_front end known.bytes)) (rest_is asking session set asks f) ∙ ap frames_in (front_is heard.front session.reader known.bytes heard.bytes ∙ sym (append-nil heard.front))
-      ∙ heard.frames.cut [] ∙ ap (λ fs. heard.served ++ fs) no_frame ∙ append-nil heard.served
+  before_is = ap (λ end. frames_in (in_front end known.bytes)) (rest_is asking session set asks f) ∙ front_served heard.front session.reader known.bytes heard.served heard.bytes heard.frames
 
   pub moment_is : moment_of known asking its ≡ record { setup = setup_of set; stream = unclosed heard.served known.streams f.vb_or_status; told = (moment_of known asking its).told; durables = asking.durables }
   moment_is = (λ i. record { setup = asks.sets i; stream = unclosed (before_is i) known.streams f.vb_or_status; told = (moment_of known asking its).told; durables = asking.durables })

@@ -4,7 +4,7 @@ use Rattle.transcript_law.proofs.Words.{ℕ, true, false, List, refl, sym, ap, �
 use Rattle.dcp_producer.specs.Producers.{is_open, replaced, stream_at as kept_at, without_id}
 use Rattle.node_core.specs.Clients.{PlainClient}
 use Rattle.transcript_law.proofs.indexers.{Replacing.{at_here_replaced, at_there_replaced, one_replaced}, Streams.{AreOne, closed_here, closed_there, one_closed}}
-use Rattle.transcript_law.proofs.invariant.{Agreement.{vb_of}, Carried.{numbers}, ClientsTold.{AskingIs, ClientAgrees, HeardIs, KeptIs, StreamIs}, OpenStreams.{AreKept, Among, kept_over, kept_went, replaced_ids}}
+use Rattle.transcript_law.proofs.invariant.{Agreement.{vb_of}, Carried.{numbers}, ClientsTold.{AskingIs, ClientAgrees, FlowIs, HeardIs, KeptIs, StreamIs}, OpenStreams.{AreKept, Among, kept_over, kept_went, replaced_ids}}
 use Rattle.transcript_law.specs.ClientFrames.{is_closed_by, setup_after}
 use Rattle.transcript_law.specs.StreamsTold.{ClientKnown, ClientStream}
 
@@ -18,6 +18,7 @@ module _ (w w' : PlainWorld) (r r' : Chronicle) (n c : ℕ) (client : PlainClien
     pub bytes : known'.bytes ≡ (r.clients_at n c).bytes
     pub setup : known'.setup ≡ (r.clients_at n c).setup
     pub told : known'.told ≡ None
+    pub opened : known'.opened ≡ (r.clients_at n c).opened
     pub asking : known'.asking ≡ (r.clients_at n c).asking
 
   heard : (known' : ClientKnown) → SameHeard known' → HeardIs known' client.session client.producer.handshake
@@ -33,19 +34,21 @@ module _ (w w' : PlainWorld) (r r' : Chronicle) (n c : ℕ) (client : PlainClien
 
   -- its streams are these now
   pub owned : (streams : List PlainStream) (end : PlainProducer) → AreKept (record (client.producer) { streams = streams; turn = end.turn; window = end.window }) → AreOne streams → ((s : PlainStream) → Among s streams → is_open client.producer.handshake ≡ true)
-      → SameHeard (r'.clients_at n c)
+      → SameHeard (r'.clients_at n c) → FlowIs (r'.clients_at n c).flow client.session client.producer.handshake end.window
       → ((q : ℕ) → KeptIs r'.tree (r'.branch_at n q) (r'.held n q) (vb_of w' n q) (is_closed_by a.heard.served q) ((r'.clients_at n c).streams q) (kept_at q streams))
       → ClientAgrees w' r' n c (with_streams client streams end)
   unfolding heard
-  owned streams end kept one opened same at = record {
+  owned streams end kept one opened same flow at = record {
     conn = record { node = a.conn.node; number = a.conn.number; desk = a.conn.desk };
     alive = a.alive;
     kept = kept;
     one = one;
     opened = opened;
+    asked = a.asked ∙ sym same.opened;
     silent = same.told;
     heard = heard (r'.clients_at n c) same;
     asks = subst (λ k. AskingIs k client.session client.producer.handshake) (sym same.asking) a.asks;
+    flow = flow;
     streams = at;
   }
 
@@ -65,7 +68,7 @@ module _ (w w' : PlainWorld) (r r' : Chronicle) (n c : ℕ) (client : PlainClien
 
   -- ---- one of its streams goes on, or is over
 
-  module _ (t left : PlainStream) (i : Among t client.producer.streams) (id : left.id ≡ t.id) (vb : left.vb ≡ t.vb) (end : PlainProducer) (same : SameHeard (r'.clients_at n c))
+  module _ (t left : PlainStream) (i : Among t client.producer.streams) (id : left.id ≡ t.id) (vb : left.vb ≡ t.vb) (end : PlainProducer) (same : SameHeard (r'.clients_at n c)) (flow : FlowIs (r'.clients_at n c).flow client.session client.producer.handshake end.window)
       (others : (q : ℕ) → (q ≡ t.vb → ⊥) → (r'.tree ≡ r.tree) × (r'.branch_at n q ≡ r.branch_at n q) × (r'.held n q ≡ r.held n q) × (vb_of w' n q ≡ vb_of w n q) × ((r'.clients_at n c).streams q ≡ (r.clients_at n c).streams q)) where
     abbrev old : List PlainStream
     old = client.producer.streams
@@ -88,7 +91,7 @@ module _ (w w' : PlainWorld) (r r' : Chronicle) (n c : ℕ) (client : PlainClien
         let rise = a.kept.rise in
         let k = kept_went client.producer (replaced left old) (replaced_ids left old) a.kept in
         owned (replaced left old) end (record { ids = refl; rise = k.rise; numbered = k.numbered; turn = k.turn }) (one_replaced left old t rise a.one i id vb)
-        (λ s j. a.opened t i) same (λ q. ⊎_elim
+        (λ s j. a.opened t i) same flow (λ q. ⊎_elim
         (λ e. subst (λ v. KeptIs r'.tree (r'.branch_at n v) (r'.held n v) (vb_of w' n v) (is_closed_by a.heard.served v) ((r'.clients_at n c).streams v) (kept_at v (replaced left old))) (sym e)
         (subst (KeptIs r'.tree (r'.branch_at n t.vb) (r'.held n t.vb) (vb_of w' n t.vb) (is_closed_by a.heard.served t.vb) ((r'.clients_at n c).streams t.vb)) (sym (at_here_replaced left old t rise a.one i id vb))
         (subst (λ o. KeptIs r'.tree (r'.branch_at n t.vb) (r'.held n t.vb) (vb_of w' n t.vb) (is_closed_by a.heard.served t.vb) o (Some left)) (sym known) (unclosed, stands))))
@@ -101,7 +104,7 @@ module _ (w w' : PlainWorld) (r r' : Chronicle) (n c : ℕ) (client : PlainClien
         let rise = a.kept.rise in let found = a.one t i in
         let k = kept_over client.producer t.id a.kept in
         owned (without_id t.id old) end (record { ids = refl; rise = k.rise; numbered = k.numbered; turn = k.turn }) (one_closed t.vb t old rise a.one found)
-        (λ s j. a.opened t i) same (λ q. ⊎_elim
+        (λ s j. a.opened t i) same flow (λ q. ⊎_elim
         (λ e. subst (λ v. KeptIs r'.tree (r'.branch_at n v) (r'.held n v) (vb_of w' n v) (is_closed_by a.heard.served v) ((r'.clients_at n c).streams v) (kept_at v (without_id t.id old))) (sym e)
         (subst (KeptIs r'.tree (r'.branch_at n t.vb) (r'.held n t.vb) (vb_of w' n t.vb) (is_closed_by a.heard.served t.vb) ((r'.clients_at n c).streams t.vb)) (sym (closed_here t.vb t old rise a.one found))
         (subst (λ o. KeptIs r'.tree (r'.branch_at n t.vb) (r'.held n t.vb) (vb_of w' n t.vb) (is_closed_by a.heard.served t.vb) o None) (sym known) (inr over))))

@@ -49,7 +49,7 @@ module _ (w : PlainWorld) (n c : ℕ) (node : PlainNode) (r : Chronicle) (f : Fr
   unknown : message_of f ≡ None → Comes (Done (status_sent f Status.Einval s))
   unknown none = passed_quiet w n c node r f states lines client up (states, status_sent f Status.Einval s) (ap ask_by none) (ap is_close none)
       (subst (λ m. Quietly Fits f m states p (states, status_sent f Status.Einval s)) (sym none)
-      (status_so role known stream told (so.clients_at n c).asking.durables f states p (unknown_wants (setup_of p.handshake) f up.asks none) None Status.Einval (alone f Status.Einval) refl))
+      (status_so role known stream told (so.clients_at n c).asking.durables f states p (unknown_wants (setup_of p.handshake) f up.asks none) None Status.Einval (alone f Status.Einval) refl refl))
 
   -- or a message
   quiet : (m : DcpMsg) → message_of f ≡ Some m → ask_by (Some m) ≡ None → is_close (Some m) ≡ false → Comes (message_answered f m s)

@@ -123,6 +123,7 @@ module _ (w : PlainWorld) (n c : ℕ) (node : PlainNode) (r : Chronicle) (f : Fr
         );
         bytes = bytes_behind;
         calm = up.goes.calm;
+        still = λ none. up.goes.still up.free;
       }))
     where
       by : (b : Bool) → wants ≡ b → IsAnswerTo (FitsNow (message_of f)) f b x.1.out → Goes w n c node r x.0 lines (record client { session = record client.session { awaited = hand_if b f }; producer = x.1.end }) → Goes w n c node r x.0 (lines ++ reply_alone n c x.1.out) (behind x.1)
@@ -131,13 +132,13 @@ module _ (w : PlainWorld) (n c : ℕ) (node : PlainNode) (r : Chronicle) (f : Fr
           (subst (λ o. Goes w n c node r x.0 lines (record client { session = record client.session { awaited = o }; producer = x.1.end })) (sym up.free) g)
       by true asked (answer, out, response, code, number, fits) g =
           subst (λ es. Goes w n c node r x.0 (lines ++ es) (behind x.1)) (sym (ap (reply_alone n c) out ∙ spelled_alone n c answer))
-          (answered_goes w n c node r (standing w n c node r g) client.session refl refl refl (in_hand f) refl question (is_asked asked) up.free same_settings (omega arith) (λ l. l) same_numbers answer response code number (fits_dcp answer fits) (inr up.goes.calm))
+          (answered_goes w n c node r (standing w n c node r g) client.session refl refl refl (in_hand f) refl question (is_asked asked) up.free same_settings (omega arith) (λ l. l) same_numbers answer response code number (fits_dcp answer fits) (inr (inr (up.goes.calm, up.goes.still up.free))))
 
   pub passed_quiet : (x : States × Served) → ask_of f ≡ None → is_close (message_of f) ≡ false → Quietly FitsNow f (message_of f) states client.producer x → Goes w n c node r x.0 (lines ++ delivered client.session.who x.1) (behind x.1)
   passed_quiet x none open_still q =
       let new : PlainWorld = world_with w n c node x.0 (Some (hand x.1)) in
       let old : PlainWorld = world_with w n c node states (Some before) in
       let told : ClientAgrees new so_far n c (hand x.1) =
-      served_plain old new so_far n c before (hand x.1) f own up.goes.bytes up.first (is_behind new x.1 q.desk) none q.sets (asks_in_hand x.1 q.sets) open_still (kept_as client.producer x.1.end q.desk q.asked q.streams own.kept) q.streams q.opens
+      served_plain old new so_far n c before (hand x.1) f own up.goes.bytes up.first (is_behind new x.1 q.desk) none q.sets (asks_in_hand x.1 q.sets) q.flows open_still (kept_as client.producer x.1.end q.desk q.asked q.streams own.kept) q.asked q.streams q.opens
       (λ v. vb_here w n c node x.0 (Some (hand x.1)) v ∙ q.vbs v ∙ sym (vb_here w n c node states (Some before) v)) in
       passed_step x q.lines q.answers (step_quiet w n c node states x.0 (Some before) (Some (hand x.1)) q.vbs) (λ v id has. inl (subst (HasOpen v id) q.streams has)) told

@@ -1,16 +1,17 @@
 -- a line `pull`: its lines are lawful, all agrees behind it, and where it is idle nothing more is to be put
-use Rattle.std.specs.Prelude.{◌≡◌, ◌==◌, ◌||◌, if◌then◌else◌}
-use Rattle.transcript_law.proofs.Words.{ℕ, true, false, [], refl, sym, ap, ◌∙◌, subst, ⊎_elim, Option, Some, None, eqb-true, list_any-append, Answer, Cause, Chronicle, Cluster, Done, Halt, LawfulFrom, PlainNode, PlainStream, PlainWorld, Served, States, TakesSnapshots, Told, Why, after, after_bind, after_lines, begun, on_node, why_of, with_client, with_node_at, with_states}
+use Rattle.std.specs.Prelude.{◌≡◌, ◌⊎◌, ◌==◌, if◌then◌else◌}
+use Rattle.transcript_law.proofs.Words.{ℕ, true, false, [], refl, sym, ap, ◌∙◌, subst, inl, inr, ⊎_elim, Option, Some, None, eqb-true, Answer, Cause, Chronicle, Cluster, Done, Halt, LawfulFrom, PlainNode, PlainStream, PlainWorld, Served, States, TakesSnapshots, Told, Why, after, after_bind, after_lines, begun, on_node, why_of, with_client, with_node_at, with_states}
 unfoldable use Rattle.dcp_producer.specs.Pulling.{frames_put}
 use Rattle.dcp_producer.specs.Producers.{stream_at as kept_at}
-unfoldable use Rattle.mcbp_frame.specs.Cutting.{frames_in}
+use Rattle.flow_control.specs.Windows.{is_open as lets_through}
+use Rattle.mcbp_frame.specs.{Cutting.{frame_in}, Frames.{first_frame}}
 unfoldable use Rattle.node_core.specs.Clients.{with_replies}
 use Rattle.node_core.specs.Clients.{ClientPulled, PlainClient, client_pull, client_pulled}
 use Rattle.node_world.specs.Nodes.{pull_at, pull_if, pulled, with_conn}
-use Rattle.transcript_law.proofs.indexers.{Framed.{SoFar, mine}, Fronts.{Stopped, pull_ends}, Replied.{lawful_all, tells_all, tells_none}, Worlds.{client_here, world_with}}
-use Rattle.transcript_law.proofs.invariant.{Agreement.{Agrees, AgreesIn, GoesOn, idle, vb_of}, ClientsKept.{at_vb}, ClientsTold.{ClientAgrees, KeptIs}, OpenStreams.{at_among}}
+use Rattle.transcript_law.proofs.indexers.{Flows.{now_is}, Framed.{SoFar, WaitsNow, mine}, Fronts.{Stopped, pull_ends}, Moments.{served_is}, Owning.{stream_known}, Replied.{lawful_all, tells_all, tells_none}, Worlds.{client_here, world_with}}
+use Rattle.transcript_law.proofs.invariant.{Agreement.{Agrees, AgreesIn, GoesOn, idle, vb_of}, ClientsKept.{at_vb}, ClientsTold.{ClientAgrees, KeptIs}, OpenStreams.{Among, at_among}, Ranged.{IsRanged, NodeRanged, NodeRangedIf, SessionRangedIf}}
 use Rattle.transcript_law.proofs.verbs.NodeLines.{as_told, on_node_by, on_node_goes, refused_on}
-use Rattle.transcript_law.specs.{Asked.{ArePairs}, ClientFrames.{closes, is_closed_by}, LawfulClients.{AllQuiet, IsQuiet}, StreamsTold.{ClientStream}}
+use Rattle.transcript_law.specs.{Asked.{ArePairs}, ClientFrames.{is_closed_by}, LawfulClients.{AllOpen, AllQuiet, AllRest, IsQuiet, OneWaits, WaitsSaved}, Questions.{flow_now, served_frames}, StreamsTold.{ClientStream}}
 use Rattle.vbucket.specs.Takes.{TakesExactly}
 
 -- ---- the world with what it has
@@ -31,7 +32,7 @@ world_again w n c node o known e = λ i. record { nodes = λ m. at m i; uuids = 
     at m = elim (m == n) as (λ b. (m == n) ≡ b → (if b then Some (with_client (with_states node node.vbs) c o) else w.nodes m) ≡ w.nodes m)
         [ true ↦ λ t. ap Some same ∙ sym known ∙ ap w.nodes (sym (eqb-true m n t)) | false ↦ λ t. refl ] refl
 
-module _ (takes : TakesSnapshots) (exactly : TakesExactly) (w : PlainWorld) (r : Chronicle) (n c frames : ℕ) (node : PlainNode) (a : Agrees w r) (known : w.nodes n ≡ Some node) where
+module _ (takes : TakesSnapshots) (exactly : TakesExactly) (w : PlainWorld) (r : Chronicle) (n c frames : ℕ) (node : PlainNode) (a : Agrees w r) (known : w.nodes n ≡ Some node) (ranged : NodeRanged n node) where
   module _ (client : PlainClient) (e : node.clients c ≡ Some client) where
     abbrev cl : Cluster
     cl = a.0
@@ -42,8 +43,12 @@ module _ (takes : TakesSnapshots) (exactly : TakesExactly) (w : PlainWorld) (r :
     own : ClientAgrees (world_with w n c node node.vbs (Some client)) r n c client
     own = agrees_first.clients.each n c client (client_here w n c node node.vbs (Some client))
 
+    -- its session keeps no whole frame, but where it waits
+    resting : client.session.awaited ≡ None → frame_in (first_frame client.session.reader) ≡ None
+    resting free = ap frame_in ((subst (SessionRangedIf n) e (ranged.clients c)).rests own.alive free)
+
     first : SoFar w r cl n c node client.session node.vbs (begun client.producer)
-    first = record { lines = []; tells = tells_none n c; pairs = refl; lawful = λ more so. so; agrees = agrees_first }
+    first = record { rests = resting; lines = []; tells = tells_none n c; pairs = refl; lawful = λ more so. so; agrees = agrees_first }
 
     abbrev came : States × (Served × Halt)
     came = after (frames_put frames (begun client.producer)) node.vbs
@@ -76,7 +81,7 @@ module _ (takes : TakesSnapshots) (exactly : TakesExactly) (w : PlainWorld) (r :
     -- ---- an idle pull
 
     abbrev Leaves : States × ClientPulled → Type 0
-    Leaves x = (k : ℕ) → x.1.answer ≡ Answer.Pulled k Why.Idle → (let read = after_lines r x.1.events in AllQuiet read n (read.clients_at n c))
+    Leaves x = (k : ℕ) → x.1.answer ≡ Answer.Pulled k Why.Idle → (let read = after_lines r x.1.events in AllQuiet read n (read.clients_at n c) × (lets_through (flow_now (read.clients_at n c)).window ≡ true))
 
     abbrev read : Chronicle
     read = after_lines r ends.so.lines
@@ -88,23 +93,65 @@ module _ (takes : TakesSnapshots) (exactly : TakesExactly) (w : PlainWorld) (r :
         → KeptIs read.tree (read.branch_at n v) (read.held n v) (vb_of (world_with w n c node came.0 (Some told.1.client)) n v) (is_closed_by left.heard.served v) (Some g) (kept_at v came.1.0.end.streams)
     at v g there = subst (λ o. KeptIs read.tree (read.branch_at n v) (read.held n v) (vb_of (world_with w n c node came.0 (Some told.1.client)) n v) (is_closed_by left.heard.served v) o (kept_at v came.1.0.end.streams)) there (left.streams v)
 
-    -- a stream that a frame closed that was served is one that its bytes close
-    closed : (v : ℕ) → is_closed_by left.heard.served v ≡ true → is_closed_by (frames_in (read.clients_at n c).bytes) v ≡ true
-    closed v served =
-        ap (λ bytes. is_closed_by (frames_in bytes) v) left.heard.bytes ∙ ap (λ fs. is_closed_by fs v) (left.heard.frames.cut client.session.reader)
-        ∙ list_any-append (closes v) left.heard.served (frames_in client.session.reader) ∙ ap (λ b. b || is_closed_by (frames_in client.session.reader) v) served
+    -- the window that is told is the producer's
+    window_is : (flow_now (read.clients_at n c)).window ≡ came.1.0.end.window
+    window_is = now_is (read.clients_at n c) client.session came.1.0.end.handshake came.1.0.end.window left.flow left.asks ends.so.rests
 
-    stands : (v : ℕ) (g : ClientStream) → (read.clients_at n c).streams v ≡ Some g → g.over ≡ false → is_closed_by (frames_in (read.clients_at n c).bytes) v ≡ false → why_of came.1.1 ≡ Why.Idle → (o : Option PlainStream) → kept_at v came.1.0.end.streams ≡ o
-        → KeptIs read.tree (read.branch_at n v) (read.held n v) (vb_of (world_with w n c node came.0 (Some told.1.client)) n v) (is_closed_by left.heard.served v) (Some g) o → IsQuiet read n v g
-    stands v g there opens unclosed halted None found x = ⊎_elim (λ served. let z : true ≡ false = sym (closed v served) ∙ unclosed in cc) (λ over. let z : true ≡ false = sym over ∙ opens in cc) x
-    stands v g there opens unclosed halted (Some t) found x =
+    -- the frames that are told as served are those that were
+    served_so : served_frames (read.clients_at n c) ≡ left.heard.served
+    served_so = served_is (read.clients_at n c) client.session came.1.0.end.handshake left.heard left.asks ends.so.rests
+
+    -- what holds of each stream that the producer has holds of each that is known
+    stands : (Is : ℕ → ClientStream → Type 0) → ((t : PlainStream) → Among t came.1.0.end.streams → (y : ClientStream) → (read.clients_at n c).streams t.vb ≡ Some y → Is t.vb y)
+        → (v : ℕ) (g : ClientStream) → (read.clients_at n c).streams v ≡ Some g → g.over ≡ false → is_closed_by (served_frames (read.clients_at n c)) v ≡ false → (o : Option PlainStream) → kept_at v came.1.0.end.streams ≡ o
+        → KeptIs read.tree (read.branch_at n v) (read.held n v) (vb_of (world_with w n c node came.0 (Some told.1.client)) n v) (is_closed_by left.heard.served v) (Some g) o → Is v g
+    stands Is each v g there opens unclosed None found x = ⊎_elim (λ served. let z : true ≡ false = sym served ∙ ap (λ fs. is_closed_by fs v) (sym served_so) ∙ unclosed in cc) (λ over. let z : true ≡ false = sym over ∙ opens in cc) x
+    stands Is each v g there opens unclosed (Some t) found x =
         let vb : t.vb ≡ v = at_vb v came.1.0.end.streams t found in
-        subst (λ q. IsQuiet read n q g) vb (ends.idle halted t (at_among v came.1.0.end.streams t found) g (ap (read.clients_at n c).streams vb ∙ there))
+        subst (λ q. Is q g) vb (each t (at_among v came.1.0.end.streams t found) g (ap (read.clients_at n c).streams vb ∙ there))
+
+    all_stand : (Is : ℕ → ClientStream → Type 0) → ((t : PlainStream) → Among t came.1.0.end.streams → (y : ClientStream) → (read.clients_at n c).streams t.vb ≡ Some y → Is t.vb y) → AllOpen Is (read.clients_at n c)
+    all_stand Is each v g there opens unclosed = stands Is each v g there opens unclosed (kept_at v came.1.0.end.streams) refl (at v g there)
 
     leaves : Leaves told
     leaves k is =
         let halted : why_of came.1.1 ≡ Why.Idle = cc in
-        subst (λ lines. AllQuiet (after_lines r lines) n ((after_lines r lines).clients_at n c)) (sym lines_are) (λ v g there opens unclosed. stands v g there opens unclosed halted (kept_at v came.1.0.end.streams) refl (at v g there))
+        subst (λ lines. AllQuiet (after_lines r lines) n ((after_lines r lines).clients_at n c) × (lets_through (flow_now ((after_lines r lines).clients_at n c)).window ≡ true)) (sym lines_are)
+        (all_stand (IsQuiet read n) (λ t i y there. ends.idle halted t i y there), ap lets_through window_is ∙ ends.opens (inl halted))
+
+    -- ---- a pull that waits
+
+    abbrev Waits : States × ClientPulled → Type 0
+    Waits x = (k : ℕ) → x.1.answer ≡ Answer.Pulled k Why.WaitSaved → (let read = after_lines r x.1.events in AllRest read n (read.clients_at n c) × OneWaits read n (read.clients_at n c) × (lets_through (flow_now (read.clients_at n c)).window ≡ true))
+
+    -- one of the streams does
+    one_waits : WaitsNow w r cl n c node client.session read came.1.0.end.streams → OneWaits read n (read.clients_at n c)
+    one_waits x =
+        let k = stream_known (world_with w n c node came.0 (Some told.1.client)) (world_with w n c node came.0 (Some told.1.client)) read read n c told.1.client left x.stream (at_among x.stream.vb came.1.0.end.streams x.stream x.at) in
+        record { vb = x.stream.vb; stream = k.g; known_as = k.known; opens = k.is.over; unclosed = ap (λ fs. is_closed_by fs x.stream.vb) served_so ∙ k.unclosed; waits = x.waits k.g k.known }
+
+    waits : Waits told
+    waits k is =
+        let halted : why_of came.1.1 ≡ Why.WaitSaved = cc in
+        subst (λ lines. AllRest (after_lines r lines) n ((after_lines r lines).clients_at n c) × OneWaits (after_lines r lines) n ((after_lines r lines).clients_at n c) × (lets_through (flow_now ((after_lines r lines).clients_at n c)).window ≡ true)) (sym lines_are)
+        (all_stand (λ v g. IsQuiet read n v g ⊎ WaitsSaved read n v g) (λ t i y there. ⊎_elim (λ x. inl (x y there)) (λ x. inr (x y there)) (ends.rest halted t i)), one_waits (ends.one halted), ap lets_through window_is ∙ ends.opens (inr halted))
+
+    -- ---- a pull that is full
+
+    abbrev Shuts : States × ClientPulled → Type 0
+    Shuts x = (k : ℕ) → x.1.answer ≡ Answer.Pulled k Why.Full → (let read = after_lines r x.1.events in lets_through (flow_now (read.clients_at n c)).window ≡ false)
+
+    shuts : Shuts told
+    shuts k is =
+        let halted : why_of came.1.1 ≡ Why.Full = cc in
+        subst (λ lines. lets_through (flow_now ((after_lines r lines).clients_at n c)).window ≡ false) (sym lines_are)
+        (ap lets_through window_is ∙ ends.full halted)
+
+    pub client_shuts : Shuts (after (client_pulled frames client) node.vbs)
+    client_shuts = subst Shuts (sym told_is) shuts
+
+    pub client_waits : Waits (after (client_pulled frames client) node.vbs)
+    client_waits = subst Waits (sym told_is) waits
 
     pub client_leaves : Leaves (after (client_pulled frames client) node.vbs)
     client_leaves = subst Leaves (sym told_is) leaves
@@ -118,7 +165,27 @@ module _ (takes : TakesSnapshots) (exactly : TakesExactly) (w : PlainWorld) (r :
       by (Some client) e = client_goes_on client e
 
   abbrev pub LeavesQuiet : PlainNode × Told → Type 0
-  LeavesQuiet x = (k : ℕ) → x.1.answer ≡ Answer.Pulled k Why.Idle → (let read = after_lines r x.1.events in AllQuiet read n (read.clients_at n c))
+  LeavesQuiet x = (k : ℕ) → x.1.answer ≡ Answer.Pulled k Why.Idle → (let read = after_lines r x.1.events in AllQuiet read n (read.clients_at n c) × (lets_through (flow_now (read.clients_at n c)).window ≡ true))
+
+  abbrev pub ShutsAsTold : PlainNode × Told → Type 0
+  ShutsAsTold x = (k : ℕ) → x.1.answer ≡ Answer.Pulled k Why.Full → (let read = after_lines r x.1.events in lets_through (flow_now (read.clients_at n c)).window ≡ false)
+
+  pub pull_at_shuts : ShutsAsTold (pull_at c frames node)
+  pull_at_shuts = by (node.clients c) refl
+    where
+      by : (o : Option PlainClient) → node.clients c ≡ o → ShutsAsTold (pull_if c frames node o)
+      by None e = λ k is. cc
+      by (Some client) e = client_shuts client e
+
+  abbrev pub WaitsAsTold : PlainNode × Told → Type 0
+  WaitsAsTold x = (k : ℕ) → x.1.answer ≡ Answer.Pulled k Why.WaitSaved → (let read = after_lines r x.1.events in AllRest read n (read.clients_at n c) × OneWaits read n (read.clients_at n c) × (lets_through (flow_now (read.clients_at n c)).window ≡ true))
+
+  pub pull_at_waits : WaitsAsTold (pull_at c frames node)
+  pull_at_waits = by (node.clients c) refl
+    where
+      by : (o : Option PlainClient) → node.clients c ≡ o → WaitsAsTold (pull_if c frames node o)
+      by None e = λ k is. cc
+      by (Some client) e = client_waits client e
 
   pub pull_at_leaves : LeavesQuiet (pull_at c frames node)
   pull_at_leaves = by (node.clients c) refl
@@ -127,23 +194,40 @@ module _ (takes : TakesSnapshots) (exactly : TakesExactly) (w : PlainWorld) (r :
       by None e = λ k is. cc
       by (Some client) e = client_leaves client e
 
+at_node : (w : PlainWorld) (n : ℕ) (node : PlainNode) → IsRanged w → w.nodes n ≡ Some node → NodeRanged n node
+at_node w n node ranged known = subst (NodeRangedIf n) known (ranged n)
+
 -- a line `pull`
-pub pull_goes : TakesSnapshots → TakesExactly → (w : PlainWorld) (r : Chronicle) (n c frames : ℕ) → Agrees w r → GoesOn r as_told (on_node w n (pull_at c frames))
-pull_goes takes exactly w r n c frames a = on_node_goes w r n (pull_at c frames) a (λ node known up. pull_at_goes takes exactly w r n c frames node a known)
+pub pull_goes : TakesSnapshots → TakesExactly → (w : PlainWorld) (r : Chronicle) (n c frames : ℕ) → IsRanged w → Agrees w r → GoesOn r as_told (on_node w n (pull_at c frames))
+pull_goes takes exactly w r n c frames ranged a = on_node_goes w r n (pull_at c frames) a (λ node known up. pull_at_goes takes exactly w r n c frames node a known (at_node w n node ranged known))
 
 -- each of its frames has its line and its reply, and nothing else is sent
-pub pull_pairs : TakesSnapshots → TakesExactly → (w : PlainWorld) (r : Chronicle) (n c frames : ℕ) → Agrees w r → ArePairs (on_node w n (pull_at c frames)).1.events
-pull_pairs takes exactly w r n c frames a =
+pub pull_pairs : TakesSnapshots → TakesExactly → (w : PlainWorld) (r : Chronicle) (n c frames : ℕ) → IsRanged w → Agrees w r → ArePairs (on_node w n (pull_at c frames)).1.events
+pull_pairs takes exactly w r n c frames ranged a =
     on_node_by (λ x. ArePairs x.1.events) w n (pull_at c frames) refl (λ node known. refl)
     (λ node known up. by node known (node.clients c) refl)
   where
     by : (node : PlainNode) → w.nodes n ≡ Some node → (o : Option PlainClient) → node.clients c ≡ o → ArePairs (pull_if c frames node o).1.events
     by node known None e = refl
-    by node known (Some client) e = client_pairs takes exactly w r n c frames node a known client e
+    by node known (Some client) e = client_pairs takes exactly w r n c frames node a known (at_node w n node ranged known) client e
 
 -- one that is idle left nothing to put
-pub pull_leaves : TakesSnapshots → TakesExactly → (w : PlainWorld) (r : Chronicle) (n c frames k : ℕ) → Agrees w r
-    → (let x = on_node w n (pull_at c frames) in x.1.answer ≡ Answer.Pulled k Why.Idle → (let read = after_lines r x.1.events in AllQuiet read n (read.clients_at n c)))
-pull_leaves takes exactly w r n c frames k a =
-    on_node_by (λ x. x.1.answer ≡ Answer.Pulled k Why.Idle → (let read = after_lines r x.1.events in AllQuiet read n (read.clients_at n c))) w n (pull_at c frames) (λ z. cc) (λ node known z. cc)
-    (λ node known up. pull_at_leaves takes exactly w r n c frames node a known k)
+pub pull_leaves : TakesSnapshots → TakesExactly → (w : PlainWorld) (r : Chronicle) (n c frames k : ℕ) → IsRanged w → Agrees w r
+    → (let x = on_node w n (pull_at c frames) in x.1.answer ≡ Answer.Pulled k Why.Idle → (let read = after_lines r x.1.events in AllQuiet read n (read.clients_at n c) × (lets_through (flow_now (read.clients_at n c)).window ≡ true)))
+pull_leaves takes exactly w r n c frames k ranged a =
+    on_node_by (λ x. x.1.answer ≡ Answer.Pulled k Why.Idle → (let read = after_lines r x.1.events in AllQuiet read n (read.clients_at n c) × (lets_through (flow_now (read.clients_at n c)).window ≡ true))) w n (pull_at c frames) (λ z. cc) (λ node known z. cc)
+    (λ node known up. pull_at_leaves takes exactly w r n c frames node a known (at_node w n node ranged known) k)
+
+-- and one that waits waits for one of its streams
+pub pull_waits : TakesSnapshots → TakesExactly → (w : PlainWorld) (r : Chronicle) (n c frames k : ℕ) → IsRanged w → Agrees w r
+    → (let x = on_node w n (pull_at c frames) in x.1.answer ≡ Answer.Pulled k Why.WaitSaved → (let read = after_lines r x.1.events in AllRest read n (read.clients_at n c) × OneWaits read n (read.clients_at n c) × (lets_through (flow_now (read.clients_at n c)).window ≡ true)))
+pull_waits takes exactly w r n c frames k ranged a =
+    on_node_by (λ x. x.1.answer ≡ Answer.Pulled k Why.WaitSaved → (let read = after_lines r x.1.events in AllRest read n (read.clients_at n c) × OneWaits read n (read.clients_at n c) × (lets_through (flow_now (read.clients_at n c)).window ≡ true))) w n (pull_at c frames) (λ z. cc) (λ node known z. cc)
+    (λ node known up. pull_at_waits takes exactly w r n c frames node a known (at_node w n node ranged known) k)
+
+-- one that is full found its window shut
+pub pull_shuts : TakesSnapshots → TakesExactly → (w : PlainWorld) (r : Chronicle) (n c frames k : ℕ) → IsRanged w → Agrees w r
+    → (let x = on_node w n (pull_at c frames) in x.1.answer ≡ Answer.Pulled k Why.Full → (let read = after_lines r x.1.events in lets_through (flow_now (read.clients_at n c)).window ≡ false))
+pull_shuts takes exactly w r n c frames k ranged a =
+    on_node_by (λ x. x.1.answer ≡ Answer.Pulled k Why.Full → (let read = after_lines r x.1.events in lets_through (flow_now (read.clients_at n c)).window ≡ false)) w n (pull_at c frames) (λ z. cc) (λ node known z. cc)
+    (λ node known up. pull_at_shuts takes exactly w r n c frames node a known (at_node w n node ranged known) k)

@@ -16,7 +16,7 @@ use Rattle.transcript_law.proofs.indexers.Known.{frames_more, no_frames, setup_m
 use Rattle.transcript_law.proofs.invariant.ClientsTold.{AreAnswered, AreUsed, AskingIs, HasUsed, IsOpenQuestion, setup_of}
 use Rattle.transcript_law.specs.ClientFrames.{message_of, set_by, setup_after}
 use Rattle.transcript_law.specs.LawfulAnswers.{HasNumber}
-use Rattle.transcript_law.specs.Questions.{Question, behind_frames, behind_other, durables_by, first_question, past_question, question_end, question_of, settings_after, wants_answer}
+use Rattle.transcript_law.specs.Questions.{Question, behind_frames, behind_other, durables_by, first_question, past_question, question_end, question_of, settings_after, unserved, unserved_by, wants_answer}
 use Rattle.transcript_law.specs.StreamsTold.{Asking, Setup}
 use Rattle.transcript_law.specs.Unanswered.{AsksDurably}
 
@@ -151,6 +151,16 @@ module _ (k : Asking) (session after : PlainSession) (set set' : Handshake) (f :
       }
       by false wants = none_more k.setup x.served f (none_open k session set x free) (ap (λ s. wants_answer s f) x.sets ∙ wants)
 
+-- a question that was served last ends where the served bytes do
+open_end : (k : Asking) (session : PlainSession) (set : Handshake) (x : AskingIs k session set) (q : Question) → x.served ≡ q.before ++ q.frame ∷ [] → question_end q ≡ length x.front
+open_end k session set x q last =
+    let one : sum_by frame_len (q.frame ∷ []) ≡ frame_len q.frame + sum_by frame_len [] = sum_by-cons frame_len q.frame [] in
+    sym (x.frames.long ∙ ap (sum_by frame_len) last ∙ sum_by-append frame_len q.before (q.frame ∷ []) ∙ ap (λ n. sum_by frame_len q.before + n) (one ∙ omega arith))
+
+-- behind it stand the bytes that the session keeps
+behind_open : (k : Asking) (session : PlainSession) (set : Handshake) (x : AskingIs k session set) (q : Question) → x.served ≡ q.before ++ q.frame ∷ [] → drop (question_end q) k.bytes ≡ session.reader
+behind_open k session set x q last = ap (drop (question_end q)) x.bytes ∙ ap (λ n. drop n (x.front ++ session.reader)) (open_end k session set x q last) ∙ drop-append_seam x.front session.reader
+
 -- what was awaited is answered
 pub past_asks : (k : Asking) (session after : PlainSession) (set : Handshake) (x : AskingIs k session set) (a : Awaited) (q : Question) → session.awaited ≡ Some a → question_of k ≡ Some q → after.reader ≡ session.reader → after.awaited ≡ None
     → after.settings ≡ settings_after session.settings q.frame → HasUsed after.used (past_question q k).durables → AskingIs (past_question q k) after set
@@ -159,12 +169,10 @@ past_asks k session after set x a q waits next reader free settings used =
     let both : Some o.question ≡ Some q = sym is ∙ next in
     let same : o.question ≡ q = cc in
     let last : x.served ≡ q.before ++ q.frame ∷ [] = o.last ∙ ap (λ (p : Question). p.before ++ p.frame ∷ []) same in
-    let one : sum_by frame_len (q.frame ∷ []) ≡ frame_len q.frame + sum_by frame_len [] = sum_by-cons frame_len q.frame [] in
-    let long : question_end q ≡ length x.front = sym (x.frames.long ∙ ap (sum_by frame_len) last ∙ sum_by-append frame_len q.before (q.frame ∷ []) ∙ ap (λ n. sum_by frame_len q.before + n) (one ∙ omega arith)) in
     record {
       served = [];
       front = [];
-      bytes = ap (drop (question_end q)) x.bytes ∙ ap (λ n. drop n (x.front ++ session.reader)) long ∙ drop-append_seam x.front session.reader ∙ sym reader;
+      bytes = behind_open k session set x q last ∙ sym reader;
       frames = no_frames;
       sets = ap (setup_after k.setup) (sym last) ∙ x.sets;
       settings = ap (λ (s : Settings). settings_after s q.frame) x.settings ∙ sym settings;
@@ -231,6 +239,14 @@ rest_asks k session set x free first =
       ap (first_question k.setup) seen ∙ none_open k session set x free,
       ap (λ fs. drop (sum_by frame_len fs) k.bytes) seen ∙ ap (λ n. drop n k.bytes) (sym x.frames.long) ∙ ap (drop (length x.front)) x.bytes ∙ drop-append_seam x.front session.reader,
     )
+
+-- the session keeps what was not served, where it keeps no whole frame but behind one that it waits for
+pub unserved_is : (k : Asking) (session : PlainSession) (set : Handshake) (x : AskingIs k session set) → (session.awaited ≡ None → frame_in (first_frame session.reader) ≡ None) → unserved k ≡ session.reader
+unserved_is k session set x rests = by session.awaited refl
+  where
+    by : (o : Option Awaited) → session.awaited ≡ o → unserved k ≡ session.reader
+    by None free = let left = rest_asks k session set x free (rests free) in ap (λ o. unserved_by o k.bytes) left.0 ∙ left.1
+    by (Some a) waits = let next = awaited_next k session set x a waits in ap (λ o. unserved_by o k.bytes) next.1 ∙ behind_open k session set x next.0.question next.0.last
 
 -- so it is before a fault
 pub fault_asks : (k : Asking) (session : PlainSession) (set : Handshake) (x : AskingIs k session set) (fault : FrameFault) → session.awaited ≡ None → first_frame session.reader ≡ Some (Err fault) → (question_of k ≡ None) × (behind_frames k.bytes ≡ session.reader)

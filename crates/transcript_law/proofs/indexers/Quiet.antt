@@ -8,13 +8,14 @@ use Rattle.dcp_producer.specs.Producers.{Served, is_client, is_open, member_of, 
 use Rattle.dcp_producer.specs.Sizes.{size_of}
 use Rattle.dcp_producer.specs.declared.desk.Named.{Named}
 use Rattle.dcp_producer.specs.Serving.{as_before, flag_of, named_by, controlled, controlled_as, count_requested, fed_stream, log_answered, log_sent, message_answered, open_refusal, opened_unless, read_answered, row_answered, sized, sized_as, weighed, with_handshake}
-unfoldable use Rattle.dcp_producer.specs.Serving.{acknowledged, frame_answered, status_sent, stream_request}
+unfoldable use Rattle.dcp_producer.specs.Serving.{acknowledged, frame_answered, status_sent}
+use Rattle.flow_control.specs.Windows.{with_acked}
 use Rattle.mcbp_dcp.specs.Messages.{read_of}
 use Rattle.mcbp_dcp.specs.Rows.{dcp_opcodes}
 use Rattle.mcbp_dcp.specs.declared.message.DcpFault.{DcpFault}
 use Rattle.mcbp_dcp.specs.declared.message.DcpMsg.TheVariants as msg
-use Rattle.transcript_law.proofs.{answers.Messages.{IsAnswerTo, answer_as, bytes_want, fresh_wants, log_answer_to, message_wants, status_to}, answers.Statuses.{alone, alone_as, control_fresh, control_is, once_open, open_is, set_status, size_fresh, size_is, status_if}, indexers.Setting.{SIZE, control_sets, kept_or, open_as, open_sets, opened_as, size_sets}, invariant.ClientsTold.{setup_of}}
-use Rattle.transcript_law.specs.{ClientFrames.{ask_by, is_close, message_of, ok_of, set_by}, LawfulMessages.{FitsMessage, FitsOnceOpen, FitsOpen, IsStatus, Moment, control_status, open_status}, Questions.{is_acknowledgement, wants_answer}, StreamLaws.{IsIfKnown}, StreamsTold.{ClientStream}}
+use Rattle.transcript_law.proofs.{answers.Messages.{IsAnswerTo, answer_as, bytes_want, fresh_wants, log_answer_to, message_wants, status_to}, answers.Statuses.{alone, alone_as, control_fresh, control_is, once_open, open_is, set_status, size_fresh, size_is, status_if}, indexers.Flows.{other_flows, size_flows}, indexers.Setting.{SIZE, control_sets, kept_or, open_as, open_sets, opened_as, size_sets}, invariant.ClientsTold.{setup_of}}
+use Rattle.transcript_law.specs.{ClientFrames.{ask_by, is_close, message_of, ok_of, set_by}, LawfulMessages.{FitsMessage, FitsOnceOpen, FitsOpen, IsStatus, Moment, control_status, open_status}, Questions.{is_acknowledgement, wants_answer, window_by}, StreamLaws.{IsIfKnown}, StreamsTold.{ClientStream}}
 use Rattle.dcp_producer.specs.Serving.{status_frame}
 use Rattle.mcbp_dcp.specs.DcpFrames.{dcp_frame}
 use Rattle.mcbp_frame.specs.Spelling.{spelling}
@@ -56,6 +57,7 @@ pub record Quietly (Fits : Option DcpMsg → Frame → Type 0) (f : Frame) (m : 
   pub asked : x.1.end.asked ≡ p.asked
   pub streams : x.1.end.streams ≡ p.streams
   pub sets : set_by m (setup_of p.handshake) ≡ setup_of x.1.end.handshake
+  pub flows : window_by m (setup_of p.handshake).opened p.window ≡ x.1.end.window
   pub opens : is_open p.handshake ≡ true → is_open x.1.end.handshake ≡ true
 
 -- a vBucket that is put as it was
@@ -145,40 +147,40 @@ module _ (role : Option (Option Role)) (known : Option (List LogEntry)) (stream 
     status_is m st fits = answer_as (FitsHere m) f true (wants_answer (setup_of p.handshake) f) (spelling (status_frame f st)) wants (status_to (FitsHere m) f st fits)
 
     -- a status alone, with this handshake
-    set_so : (m : Option DcpMsg) (st : Status) (set : Handshake) → FitsHere m (status_frame f st) → set_by m (setup_of p.handshake) ≡ setup_of set → (is_open p.handshake ≡ true → is_open set ≡ true) → Quiet m (states, status_sent f st (with_handshake s set))
+    set_so : (m : Option DcpMsg) (st : Status) (set : Handshake) → FitsHere m (status_frame f st) → set_by m (setup_of p.handshake) ≡ setup_of set → window_by m (setup_of p.handshake).opened p.window ≡ p.window → (is_open p.handshake ≡ true → is_open set ≡ true) → Quiet m (states, status_sent f st (with_handshake s set))
     unfolding status_sent
-    set_so m st set fits sets opens = record { vbs = λ q. refl; lines = refl; answers = status_is m st fits; desk = refl; asked = refl; streams = refl; sets = sets; opens = opens }
+    set_so m st set fits sets flows opens = record { vbs = λ q. refl; lines = refl; answers = status_is m st fits; desk = refl; asked = refl; streams = refl; sets = sets; flows = flows; opens = opens }
 
-    pub status_so : (m : Option DcpMsg) (st : Status) → FitsHere m (status_frame f st) → set_by m (setup_of p.handshake) ≡ setup_of p.handshake → Quiet m (states, status_sent f st s)
+    pub status_so : (m : Option DcpMsg) (st : Status) → FitsHere m (status_frame f st) → set_by m (setup_of p.handshake) ≡ setup_of p.handshake → window_by m (setup_of p.handshake).opened p.window ≡ p.window → Quiet m (states, status_sent f st s)
     unfolding status_sent
-    status_so m st fits sets = record { vbs = λ q. refl; lines = refl; answers = status_is m st fits; desk = refl; asked = refl; streams = refl; sets = sets; opens = λ e. e }
+    status_so m st fits sets flows = record { vbs = λ q. refl; lines = refl; answers = status_is m st fits; desk = refl; asked = refl; streams = refl; sets = sets; flows = flows; opens = λ e. e }
 
     -- OPEN
     open_so : (number flags : ℕ) (text : List ℕ) (o : Option Status) → open_refusal p.handshake flags ≡ o → Quiet (Some (msg.Open number flags text)) (states, opened_unless o f s)
     open_so number flags text None e =
         set_so (Some (msg.Open number flags text)) Status.Success (opened_as None p.handshake) (alone_as f Status.Success (open_status (setup_of p.handshake).opened flags) (open_is p.handshake flags ∙ ap status_if e))
-        (open_sets p.handshake number flags text ∙ ap (λ o. setup_of (opened_as o p.handshake)) e) (λ is. refl)
+        (open_sets p.handshake number flags text ∙ ap (λ o. setup_of (opened_as o p.handshake)) e) refl (λ is. refl)
     open_so number flags text (Some st) e =
         status_so (Some (msg.Open number flags text)) st (alone_as f st (open_status (setup_of p.handshake).opened flags) (open_is p.handshake flags ∙ ap status_if e))
-        (open_sets p.handshake number flags text ∙ ap (λ o. setup_of (opened_as o p.handshake)) e)
+        (open_sets p.handshake number flags text ∙ ap (λ o. setup_of (opened_as o p.handshake)) e) refl
 
     -- CONTROL
     set_by_key : (key value : List ℕ) (o : Option Handshake) → bytes_eq key SIZE ≡ false → controlled p.handshake key value ≡ o → Quiet (Some (msg.Control key value)) (states, controlled_as o f s)
     set_by_key key value None other e =
         status_so (Some (msg.Control key value)) Status.Einval
         (refused_fits (msg.Control key value) (λ is. alone_as f Status.Einval (control_status key value) (control_is p.handshake key value other (shown_open is) ∙ ap (λ o. set_status (is_some o)) e)))
-        (control_sets p.handshake key value ∙ ap (λ o. setup_of (kept_or o p.handshake)) e)
+        (control_sets p.handshake key value ∙ ap (λ o. setup_of (kept_or o p.handshake)) e) (other_flows key value (setup_of p.handshake).opened p.window other)
     set_by_key key value (Some set) other e =
         set_so (Some (msg.Control key value)) Status.Success set
         (once (msg.Control key value) (status_frame f Status.Success) (λ is. alone_as f Status.Success (control_status key value) (control_is p.handshake key value other (shown_open is) ∙ ap (λ o. set_status (is_some o)) e))
         (λ shut. let z : None ≡ Some set = sym (control_fresh p.handshake key value (shown_open shut)) ∙ e in cc))
-        (control_sets p.handshake key value ∙ ap (λ o. setup_of (kept_or o p.handshake)) e) (λ is. still_open p.handshake key value set e)
+        (control_sets p.handshake key value ∙ ap (λ o. setup_of (kept_or o p.handshake)) e) (other_flows key value (setup_of p.handshake).opened p.window other) (λ is. still_open p.handshake key value set e)
 
     sized_so : (key value : List ℕ) (o : Option ℕ) → bytes_eq key SIZE ≡ true → sized p.handshake value ≡ o → Quiet (Some (msg.Control key value)) (states, sized_as o f s)
     unfolding status_sent
     sized_so key value None e is =
         status_so (Some (msg.Control key value)) Status.Einval
-        (refused_fits (msg.Control key value) (λ over. alone_as f Status.Einval (control_status key value) (size_is p.handshake key value e (shown_open over) ∙ ap (λ o. set_status (is_some o)) is))) (size_sets p.handshake key value e)
+        (refused_fits (msg.Control key value) (λ over. alone_as f Status.Einval (control_status key value) (size_is p.handshake key value e (shown_open over) ∙ ap (λ o. set_status (is_some o)) is))) (size_sets p.handshake key value e) (size_flows p.handshake key value p.window None e is)
     sized_so key value (Some size) e is = record {
       vbs = λ q. refl;
       lines = refl;
@@ -189,6 +191,7 @@ module _ (role : Option (Option Role)) (known : Option (List LogEntry)) (stream 
       asked = refl;
       streams = refl;
       sets = size_sets p.handshake key value e;
+      flows = size_flows p.handshake key value p.window (Some size) e is;
       opens = λ o. o;
     }
 
@@ -212,9 +215,9 @@ module _ (role : Option (Option Role)) (known : Option (List LogEntry)) (stream 
     ack_so is seq =
         either_so (Some (msg.SeqnoAcknowledged seq)) (is_open p.handshake) (count_requested f seq s (weighed seq (fed_stream p.desk.stream (kept_at f.vb_or_status p.streams)) (member_of p.handshake))) (Done (status_sent f Status.Einval s)) refl
         (λ over. let it : Quiet (Some (msg.SeqnoAcknowledged seq)) (after (count_requested f seq s (weighed seq None (member_of p.handshake))) states) =
-        status_so (Some (msg.SeqnoAcknowledged seq)) Status.NotSupported (over_fits (msg.SeqnoAcknowledged seq) Status.NotSupported over (alone f Status.NotSupported)) refl in
+        status_so (Some (msg.SeqnoAcknowledged seq)) Status.NotSupported (over_fits (msg.SeqnoAcknowledged seq) Status.NotSupported over (alone f Status.NotSupported)) refl refl in
         subst (λ o. Quiet (Some (msg.SeqnoAcknowledged seq)) (after (count_requested f seq s (weighed seq o (member_of p.handshake))) states)) (sym (fed_none is (kept_at f.vb_or_status p.streams))) it)
-        (λ shut. status_so (Some (msg.SeqnoAcknowledged seq)) Status.Einval (shut_fits (msg.SeqnoAcknowledged seq) shut) refl)
+        (λ shut. status_so (Some (msg.SeqnoAcknowledged seq)) Status.Einval (shut_fits (msg.SeqnoAcknowledged seq) shut) refl refl)
 
     -- GET_FAILOVER_LOG
     module _ (over : is_open p.handshake ≡ true) (says : message_of f ≡ Some msg.GetFailoverLog) (asks : (f.magic == RESPONSE) ≡ false) (is : IsTold role known (states f.vb_or_status)) where
@@ -233,20 +236,21 @@ module _ (role : Option (Option Role)) (known : Option (List LogEntry)) (stream 
             asked = refl;
             streams = refl;
             sets = refl;
+            flows = refl;
             opens = λ o. o;
           }
 
       log_so : (o : Option Plain) → states f.vb_or_status ≡ o → Quiet (Some msg.GetFailoverLog) (let y = call_at states f.vb_or_status call.Log o in (y.0, log_answered f s y.1))
       log_so None e =
           status_so (Some msg.GetFailoverLog) Status.NotMyVbucket
-          (over_fits msg.GetFailoverLog Status.NotMyVbucket over (record { away = λ off. alone f Status.NotMyVbucket; there = λ on. absurd (on (is.away e)) })) refl
+          (over_fits msg.GetFailoverLog Status.NotMyVbucket over (record { away = λ off. alone f Status.NotMyVbucket; there = λ on. absurd (on (is.away e)) })) refl refl
       log_so (Some vb) e = log_given_so (with_vb_at states f.vb_or_status vb) (put_again states f.vb_or_status vb e) vb e
 
   module _ (asks : (f.magic == RESPONSE) ≡ false) where
     -- bytes: there is no answer over an open connection
-    bytes_so : (bytes : ℕ) → message_of f ≡ Some (msg.BufferAcknowledgement bytes) → (b : Bool) → is_open p.handshake ≡ b → (end : PlainProducer) → end.desk ≡ p.desk → end.asked ≡ p.asked → end.streams ≡ p.streams → end.handshake ≡ p.handshake
+    bytes_so : (bytes : ℕ) → message_of f ≡ Some (msg.BufferAcknowledgement bytes) → (b : Bool) → is_open p.handshake ≡ b → (end : PlainProducer) → end.desk ≡ p.desk → end.asked ≡ p.asked → end.streams ≡ p.streams → end.handshake ≡ p.handshake → with_acked bytes p.window ≡ end.window
         → Quiet (Some (msg.BufferAcknowledgement bytes)) (states, if b then record s { end = end } else status_sent f Status.Einval s)
-    bytes_so bytes says true is end desk asked streams shaken = record {
+    bytes_so bytes says true is end desk asked streams shaken acked = record {
       vbs = λ q. refl;
       lines = refl;
       answers = answer_as (FitsHere (Some (msg.BufferAcknowledgement bytes))) f false (wants_answer (setup_of p.handshake) f) [] (bytes_want (setup_of p.handshake) f bytes says (open_as p.handshake ∙ is)) refl;
@@ -254,10 +258,11 @@ module _ (role : Option (Option Role)) (known : Option (List LogEntry)) (stream 
       asked = asked;
       streams = streams;
       sets = ap setup_of (sym shaken);
+      flows = ap (λ b. if b then with_acked bytes p.window else p.window) (open_as p.handshake ∙ is) ∙ acked;
       opens = λ o. ap is_open shaken ∙ o;
     }
-    bytes_so bytes says false is end desk asked streams shaken =
-        status_so (fresh_wants (setup_of p.handshake) f asks (open_as p.handshake ∙ is)) (Some (msg.BufferAcknowledgement bytes)) Status.Einval (shut_fits (msg.BufferAcknowledgement bytes) is) refl
+    bytes_so bytes says false is end desk asked streams shaken acked =
+        status_so (fresh_wants (setup_of p.handshake) f asks (open_as p.handshake ∙ is)) (Some (msg.BufferAcknowledgement bytes)) Status.Einval (shut_fits (msg.BufferAcknowledgement bytes) is) refl (ap (λ b. if b then with_acked bytes p.window else p.window) (open_as p.handshake ∙ is))
 
     module _ (is : is_client p.desk.stream ≡ true) (vb : IsTold role known (states f.vb_or_status)) where
       -- one that acknowledges no bytes wants an answer
@@ -265,8 +270,8 @@ module _ (role : Option (Option Role)) (known : Option (List LogEntry)) (stream 
       wants_so m says other = message_wants (setup_of p.handshake) f (Some m) asks says other
 
       noop_so : Wants → (b : Bool) → is_open p.handshake ≡ b → Quiet (Some msg.Noop) (states, status_sent f (if b then Status.Success else Status.Einval) s)
-      noop_so wants true e = status_so wants (Some msg.Noop) Status.Success (over_fits msg.Noop Status.Success e (alone f Status.Success)) refl
-      noop_so wants false e = status_so wants (Some msg.Noop) Status.Einval (shut_fits msg.Noop e) refl
+      noop_so wants true e = status_so wants (Some msg.Noop) Status.Success (over_fits msg.Noop Status.Success e (alone f Status.Success)) refl refl
+      noop_so wants false e = status_so wants (Some msg.Noop) Status.Einval (shut_fits msg.Noop e) refl refl
 
       -- each message but a request for a stream and CLOSE_STREAM
       pub message_so : (m : DcpMsg) → message_of f ≡ Some m → ask_by (Some m) ≡ None → is_close (Some m) ≡ false → Quiet (Some m) (after (message_answered f m s) states)
@@ -274,11 +279,11 @@ module _ (role : Option (Option Role)) (known : Option (List LogEntry)) (stream 
       message_so (msg.Control key value) says none open_still = control_so (wants_so (msg.Control key value) says refl) key value (bytes_eq key SIZE) refl
       message_so (msg.StreamRequest ask) says none open_still = cc
       message_so (msg.SeqnoAcknowledged seq) says none open_still = ack_so (wants_so (msg.SeqnoAcknowledged seq) says refl) is seq
-      message_so (msg.BufferAcknowledgement bytes) says none open_still = bytes_so bytes says (is_open p.handshake) refl _ refl refl refl refl
+      message_so (msg.BufferAcknowledgement bytes) says none open_still = bytes_so bytes says (is_open p.handshake) refl _ refl refl refl refl refl
       message_so msg.CloseStream says none open_still = cc
       message_so msg.GetFailoverLog says none open_still =
           let wants : Wants = wants_so msg.GetFailoverLog says refl in
           either_so wants (Some msg.GetFailoverLog) (is_open p.handshake) (Call f.vb_or_status call.Log (λ reply. Done (log_answered f s reply))) (Done (status_sent f Status.Einval s)) refl
-          (λ over. log_so wants over says asks vb (states f.vb_or_status) refl) (λ shut. status_so wants (Some msg.GetFailoverLog) Status.Einval (shut_fits msg.GetFailoverLog shut) refl)
+          (λ over. log_so wants over says asks vb (states f.vb_or_status) refl) (λ shut. status_so wants (Some msg.GetFailoverLog) Status.Einval (shut_fits msg.GetFailoverLog shut) refl refl)
       message_so msg.Noop says none open_still = noop_so (wants_so msg.Noop says refl) (is_open p.handshake) refl
-      message_so other says none open_still = status_so (wants_so other says refl) (Some other) Status.Einval (refused_fits other (λ over. alone f Status.Einval)) refl
+      message_so other says none open_still = status_so (wants_so other says refl) (Some other) Status.Einval (refused_fits other (λ over. alone f Status.Einval)) refl refl

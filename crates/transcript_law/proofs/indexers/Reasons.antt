@@ -1,29 +1,30 @@
 -- for what a client's request is refused, by its vBucket and by what its connection has
-use Rattle.std.specs.Prelude.{◌≡◌, ◌==◌, ◌⊎◌, ◌&&◌, if◌then◌else◌, nat_lt, nat_le, not}
+use Rattle.std.specs.Prelude.{◌≡◌, ◌≤◌, ◌<◌, ◌==◌, ◌⊎◌, ◌&&◌, if◌then◌else◌, nat_lt, nat_le, not}
 use Rattle.transcript_law.proofs.Words.{ℕ, Bool, true, false, refl, sym, ap, ◌∙◌, subst, arith, nat_tests, and_parts, inl, inr, ⊎_elim, Option, Some, None, Status, StreamAsk, AskAnswer, Plain, Role, is_active, stream_at, Stream, id_refusal, first_reason, is_ranged, open_refusal, PlainProducer, Chronicle, Cluster, refuse, request_refusal, verdict_with}
 use Rattle.dcp_producer.specs.Producers.{is_open}
 use Rattle.dcp_producer.specs.Serving.{MOST_STREAMS}
 use Rattle.transcript_law.proofs.{indexers.Setting.{open_as}, invariant.{Agreement.{VbAgrees}, ClientsTold.{setup_of}}}
-use Rattle.transcript_law.specs.{LawfulClients.{InOrder, IsActive, IsFree, IsRefusal, RefusesAs, RefusesBy}, StreamsTold.{ClientStream}}
+use Rattle.transcript_law.specs.{ClientStreams.{STREAM_NUMBERS}, LawfulClients.{InOrder, IsActive, IsFree, IsRefusal, RefusesAs, RefusesBy}, StreamsTold.{ClientStream}}
 
 -- ---- by the connection
 
 -- one that was opened passes on a request with no flag, while it has a number
-passes_on : (p : PlainProducer) (ask : StreamAsk) → is_open p.handshake ≡ true → ask.flags ≡ 0 → (request_refusal p ask ≡ Some Status.Etmpfail) ⊎ (request_refusal p ask ≡ None)
+passes_on : (p : PlainProducer) (ask : StreamAsk) → is_open p.handshake ≡ true → ask.flags ≡ 0 → ((STREAM_NUMBERS ≤ p.asked) × (request_refusal p ask ≡ Some Status.Etmpfail)) ⊎ ((p.asked < STREAM_NUMBERS) × (request_refusal p ask ≡ None))
 passes_on p ask opened zero =
     let low : nat_lt 1 ask.flags ≡ false = grind (arith, nat_tests, zero) in
     let none : (ask.flags == 1) ≡ false = ap (λ k. k == 1) zero in
     let same : request_refusal p ask ≡ (if nat_le MOST_STREAMS p.asked then Some Status.Etmpfail else None) =
     (λ i. if not (opened i) then Some Status.Einval else if low i then Some Status.Einval else if none i then Some Status.NotSupported else if nat_le MOST_STREAMS p.asked then Some Status.Etmpfail else None) in
-    by (nat_le MOST_STREAMS p.asked) same
+    by (nat_le MOST_STREAMS p.asked) refl same
   where
-    by : (b : Bool) → request_refusal p ask ≡ (if b then Some Status.Etmpfail else None) → (request_refusal p ask ≡ Some Status.Etmpfail) ⊎ (request_refusal p ask ≡ None)
-    by true e = inl e
-    by false e = inr e
+    by : (b : Bool) → nat_le MOST_STREAMS p.asked ≡ b → request_refusal p ask ≡ (if b then Some Status.Etmpfail else None)
+        → ((STREAM_NUMBERS ≤ p.asked) × (request_refusal p ask ≡ Some Status.Etmpfail)) ⊎ ((p.asked < STREAM_NUMBERS) × (request_refusal p ask ≡ None))
+    by true most e = inl (grind (arith, nat_tests, most), e)
+    by false few e = inr (grind (arith, nat_tests, few), e)
 
 pub reason_of : (p : PlainProducer) (role : Option (Option Role)) (had : Option ClientStream) (ask : StreamAsk) (verdict : AskAnswer) → (request_refusal p ask ≡ None → RefusesAs role had ask verdict)
-    → RefusesBy (setup_of p.handshake) role had ask (verdict_with (request_refusal p ask) verdict)
-reason_of p role had ask verdict given is_opened zero = ⊎_elim (λ most. inl (ap (λ o. verdict_with o verdict) most)) (λ none. inr (subst (RefusesAs role had ask) (sym (ap (λ o. verdict_with o verdict) none)) (given none)))
+    → RefusesBy (setup_of p.handshake) p.asked role had ask (verdict_with (request_refusal p ask) verdict)
+reason_of p role had ask verdict given is_opened zero = ⊎_elim (λ most. inl (most.0, ap (λ o. verdict_with o verdict) most.1)) (λ few. inr (few.0, subst (RefusesAs role had ask) (sym (ap (λ o. verdict_with o verdict) few.1)) (given few.1)))
     (passes_on p ask (sym (open_as p.handshake) ∙ is_opened) zero)
 
 -- ---- by its vBucket

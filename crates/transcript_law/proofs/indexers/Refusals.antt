@@ -1,11 +1,12 @@
 -- what a client's producer refuses by itself, and what its vBucket says to a request for a stream
 use Rattle.std.specs.Prelude.{◌≡◌, ◌<◌, ◌==◌, ◌&&◌, if◌then◌else◌, nat_le, nat_lt, not, is_some}
-use Rattle.transcript_law.proofs.Words.{ℕ, Bool, true, false, List, [], refl, sym, ap, ◌∙◌, subst, arith, nat_tests, eq-eqb, Option, Some, None, Status, LogEntry, StreamAsk, AskAnswer, Cluster, Branch, Plain, is_active, stream_at, Stream, id_refusal, first_reason, is_ranged, open_refusal, PlainProducer, PlainStream, PlainWorld, Chronicle, refuse, request_refusal, verdict_with, last_seq}
+use Rattle.transcript_law.proofs.Words.{ℕ, Bool, true, false, List, [], refl, sym, ap, ◌∙◌, subst, arith, nat_tests, eq-eqb, eqb-false, eqb-true, Option, Some, None, Status, LogEntry, StreamAsk, AskAnswer, Cluster, Branch, Plain, is_active, stream_at, Stream, id_refusal, first_reason, is_ranged, open_refusal, PlainProducer, PlainStream, PlainWorld, Chronicle, refuse, request_refusal, verdict_with, last_seq}
 use Rattle.dcp_producer.specs.Producers.{is_open, stream_at as kept_at}
 use Rattle.dcp_producer.specs.Serving.{MOST_STREAMS, opens}
+use Rattle.std.proofs.lemmas.Bool.{lt-ltb}
 use Rattle.transcript_law.proofs.{disks.Absent.{nothing_here}, indexers.Setting.{open_as}}
 use Rattle.transcript_law.proofs.invariant.{Agreement.{AgreesIn, IsRefused, idle, is_down, power_of, vb_of}, ClientsTold.{setup_of}}
-use Rattle.transcript_law.specs.{LawfulClients.{IsRefusal, RefusesOwn}, StreamLaws.{GrantsAs, IsIfKnown, LawfulSaid, LawfulVerdict}, StreamsTold.{ClientStream}}
+use Rattle.transcript_law.specs.{ClientStreams.{STREAM_NUMBERS, has_none, takes_number}, LawfulClients.{IsRefusal, RefusesOwn}, StreamLaws.{GrantsAs, IsIfKnown, LawfulSaid, LawfulVerdict}, StreamsTold.{ClientStream}}
 use Rattle.vb_types.specs.Statuses.{status_code}
 
 -- ---- by itself
@@ -53,6 +54,13 @@ module _ (p : PlainProducer) (had : Option ClientStream) (ask : StreamAsk) where
     held = λ g e over. refused_so verdict is (request_refusal p ask);
   }
 
+  spent : (a u t : Bool) → refusal_by a u t true ≡ None → ⊥
+  unfolding refusal_by
+  spent false u t e = cc
+  spent true true t e = cc
+  spent true false true e = cc
+  spent true false false e = cc
+
   -- and where it is asked to open one
   opens_none : (a : Option Status) (o : Option PlainStream) → (not (is_some a) && not (is_some o)) ≡ true → (a ≡ None) × (o ≡ None)
   opens_none None None e = (refl, refl)
@@ -77,6 +85,15 @@ module _ (p : PlainProducer) (had : Option ClientStream) (ask : StreamAsk) where
       held = λ g e over. absurd (none g e over);
     }
 
+    -- a number is left
+    pub is_left : p.asked < STREAM_NUMBERS
+    unfolding refusal_by
+    is_left = by (nat_le MOST_STREAMS p.asked) refl not_refused
+      where
+        by : (b : Bool) → nat_le MOST_STREAMS p.asked ≡ b → refusal_by (is_open p.handshake) (nat_lt 1 ask.flags) (ask.flags == 1) b ≡ None → p.asked < STREAM_NUMBERS
+        by false e none = grind (arith, nat_tests, e)
+        by true e none = absurd (spent (is_open p.handshake) (nat_lt 1 ask.flags) (ask.flags == 1) none)
+
     -- the connection is open
     pub is_opened : is_open p.handshake ≡ true
     is_opened = by (is_open p.handshake) refl
@@ -84,6 +101,52 @@ module _ (p : PlainProducer) (had : Option ClientStream) (ask : StreamAsk) where
         by : (b : Bool) → is_open p.handshake ≡ b → b ≡ true
         by true e = refl
         by false e = clash Status.Einval (unopened_so e)
+
+-- ---- numbers for streams
+
+no_other : (b : Bool) → (b && false) ≡ false
+no_other true = refl
+no_other false = refl
+
+-- no flag is neither that of a takeover nor one that is not known
+plain_flags : (k : ℕ) → (k == 0) ≡ (not (nat_lt 1 k) && not (k == 1))
+plain_flags k = by (k == 0) refl
+  where
+    one : (b : Bool) → (k == 1) ≡ b → (k ≡ 0 → ⊥) → false ≡ (not (nat_lt 1 k) && not b)
+    one true e some = sym (no_other (not (nat_lt 1 k)))
+    one false e some =
+        let differs : k ≡ 1 → ⊥ = eqb-false k 1 e in
+        let low : nat_lt 1 k ≡ true = lt-ltb 1 k (omega (arith, differs, some)) in ap (λ b. not b && true) (sym low)
+
+    by : (b : Bool) → (k == 0) ≡ b → b ≡ (not (nat_lt 1 k) && not (k == 1))
+    by true e =
+        let zero : k ≡ 0 = eqb-true k 0 e in
+        let low : nat_lt 1 k ≡ false = grind (arith, nat_tests, zero) in
+        (λ i. not (sym low i) && not (sym (ap (λ j. j == 1) zero) i))
+    by false e = one (k == 1) refl (eqb-false k 0 e)
+
+few_left : (count : ℕ) → nat_lt count STREAM_NUMBERS ≡ not (nat_le MOST_STREAMS count)
+few_left count = by (nat_le MOST_STREAMS count) refl
+  where
+    by : (b : Bool) → nat_le MOST_STREAMS count ≡ b → nat_lt count STREAM_NUMBERS ≡ not b
+    by true e = grind (arith, nat_tests, e)
+    by false e = grind (arith, nat_tests, e)
+
+-- a request takes one exactly where its vBucket is asked to open a stream
+pub takes_is : (p : PlainProducer) (v : ℕ) (had : Option ClientStream) (ask : StreamAsk) → has_none had ≡ not (is_some (kept_at v p.streams)) → takes_number (setup_of p.handshake) had ask p.asked ≡ opens p v ask
+unfolding refusal_by
+takes_is p v had ask none =
+    (λ i. open_as p.handshake i && plain_flags ask.flags i && none i && few_left p.asked i)
+    ∙ by (is_open p.handshake) (nat_lt 1 ask.flags) (ask.flags == 1) (nat_le MOST_STREAMS p.asked) (not (is_some (kept_at v p.streams)))
+  where
+    by : (a u t m f : Bool) → (a && (not u && not t) && f && not m) ≡ (not (is_some (refusal_by a u t m)) && f)
+    by false u t m f = refl
+    by true true t m f = refl
+    by true false true m f = refl
+    by true false false true true = refl
+    by true false false true false = refl
+    by true false false false true = refl
+    by true false false false false = refl
 
 -- ---- by its vBucket
 

@@ -10,7 +10,7 @@ use Rattle.transcript_law.proofs.indexers.{Hands.{Goes, HandedUp}, Moments.{clos
 use Rattle.transcript_law.proofs.indexers.{Serving.{served_close}, Steps.{ClientStep}, Streams.{among_without, closed_here, closed_there, found_is, none_at, one_closed, open_without}, Worlds.{client_here, open_own, step_at, step_quiet, vb_here, world_with}}
 use Rattle.transcript_law.proofs.invariant.{Agreement.{AgreesAt, VbAgrees}, Carried.{sound_streams}, Carrying.{StreamsChanged}, ClientsKept.{found_open, open_known}, ClientsTold.{ClientAgrees, KeptIs, setup_of}, Holdings.{vb_of}, OpenStreams.{kept_over}, Seats.{seat}}
 use Rattle.transcript_law.proofs.{answers.Messages.{close_answer_to}, answers.Statuses.{alone_as, once_open}, links.Cutting.{closed_others}}
-use Rattle.transcript_law.specs.{ClientFrames.{ask_by, ask_of, is_close, is_closed_by, message_of, set_by}, Feeding.{HasFed, HasOpen}, LawfulMessages.{close_status}, StreamsTold.{ClientStream}}
+use Rattle.transcript_law.specs.{ClientFrames.{ask_by, ask_of, is_close, is_closed_by, message_of, set_by}, Feeding.{HasFed, HasOpen}, LawfulMessages.{close_status}, Questions.{window_by}, StreamsTold.{ClientStream}}
 use Rattle.vb_calls.specs.declared.calls.VbCall.TheVariants as call
 use Rattle.vb_events.specs.declared.event.StreamName.TheVariants as name
 
@@ -46,6 +46,9 @@ module _ (w : PlainWorld) (n c : ℕ) (node : PlainNode) (r : Chronicle) (f : Fr
   sets : set_by (message_of f) (setup_of p.handshake) ≡ setup_of p.handshake
   sets = ap (λ m. set_by m (setup_of p.handshake)) says
 
+  flows : window_by (message_of f) (setup_of p.handshake).opened p.window ≡ p.window
+  flows = ap (λ m. window_by m (setup_of p.handshake).opened p.window) says
+
   -- what is known of the stream is what the producer has
   abbrev stream_known : Option ClientStream
   stream_known = stream_now w n c node r f states lines client up
@@ -69,7 +72,7 @@ module _ (w : PlainWorld) (n c : ℕ) (node : PlainNode) (r : Chronicle) (f : Fr
       let new : PlainWorld = world_with w n c node states (Some client') in
       let told : ClientAgrees new (so_far w n c node r f states lines client up) n c client' =
       served_close old new (so_far w n c node r f states lines client up) n c (before w n c node r f states lines client up) client' f mine up.goes.bytes up.first (is_behind w n c node r f states lines client up new x.1 refl) no_ask sets
-      (asks_in_hand w n c node r f states lines client up x.1 sets) closing mine.kept mine.one (λ t i. i) refl none (λ q other. (refl, vb_here w n c node states (Some client') q ∙ sym (vb_here w n c node states (Some (before w n c node r f states lines client up)) q))) in
+      (asks_in_hand w n c node r f states lines client up x.1 sets) flows closing mine.kept refl mine.one (λ t i. i) refl none (λ q other. (refl, vb_here w n c node states (Some client') q ∙ sym (vb_here w n c node states (Some (before w n c node r f states lines client up)) q))) in
       passed_step w n c node r f states lines client up x refl (close_answer_to Fits (setup_of p.handshake) f says up.asks st fits) (step_quiet w n c node states states (Some (before w n c node r f states lines client up)) (Some client') (λ q. refl)) (λ q id has. inl has) told
 
   -- there is one
@@ -94,7 +97,7 @@ module _ (w : PlainWorld) (n c : ℕ) (node : PlainNode) (r : Chronicle) (f : Fr
         let new : PlainWorld = world_with w n c node st (Some client') in
         let told : ClientAgrees new (so_far w n c node r f states lines client up) n c client' =
         served_close old new (so_far w n c node r f states lines client up) n c (before w n c node r f states lines client up) client' f mine up.goes.bytes up.first (is_behind w n c node r f states lines client up new x.1 refl) no_ask sets
-        (asks_in_hand w n c node r f states lines client up x.1 sets) closing (kept_as (record p { streams = without_id stream.id p.streams }) x.1.end refl refl refl (kept_over p stream.id mine.kept)) (one_closed v stream p.streams mine.kept.rise mine.one found) (λ t i. among_without t stream.id p.streams i) refl
+        (asks_in_hand w n c node r f states lines client up x.1 sets) flows closing (kept_as (record p { streams = without_id stream.id p.streams }) x.1.end refl refl refl (kept_over p stream.id mine.kept)) refl (one_closed v stream p.streams mine.kept.rise mine.one found) (λ t i. among_without t stream.id p.streams i) refl
         (closed_here v stream p.streams mine.kept.rise mine.one found)
         (λ q other. (closed_there v stream p.streams mine.kept.rise mine.one found q other, vb_here w n c node st (Some client') q ∙ others q other ∙ sym (vb_here w n c node states (Some (before w n c node r f states lines client up)) q))) in
         passed_step w n c node r f states lines client up x refl (close_answer_to Fits (setup_of p.handshake) f says up.asks Status.Success fits) step (λ q id has. inl (open_without q id stream.id p.streams has)) told

@@ -6,12 +6,15 @@ use Rattle.dcp_producer.proofs.Headers.{front_cut, front_left, spelled_short, vb
 use Rattle.dcp_producer.specs.Cuts.{IsShort}
 use Rattle.mcbp_dcp.specs.DcpFrames.{IsSpelled}
 use Rattle.mcbp_dcp.specs.declared.message.DcpMsg.TheVariants as msg
+use Rattle.flow_control.specs.Windows.{is_open as lets_through}
 unfoldable use Rattle.node_core.specs.Clients.{with_replies}
 use Rattle.transcript_law.proofs.invariant.{Holdings.{ActFits, ChangeFits}, Tables.{at_here}}
 use Rattle.transcript_law.specs.Asked.{ArePairs}
+use Rattle.transcript_law.specs.ClientFrames.{is_closed_by}
 use Rattle.transcript_law.specs.ClientStreams.{clients_frame, past_frame, vb_in_header, with_told}
 use Rattle.transcript_law.specs.LawfulClients.{IsPut}
 use Rattle.transcript_law.specs.LinesTold.{made_line}
+use Rattle.transcript_law.specs.Questions.{flow_now, served_frames}
 use Rattle.transcript_law.specs.StreamsTold.{ClientKnown, ClientStream, ClientsKnown, StreamLine, with_at}
 use Rattle.vb_events.specs.declared.event.Event.TheVariants as event
 use Rattle.vb_types.specs.declared.change.Act.TheVariants as act
@@ -58,9 +61,9 @@ pub header_is : (f : Frame) (v : ℕ) → f.vb_or_status ≡ v → v < 2 ^ 16 �
 header_is f v is small = ap vb_in_header (sym (append-nil (spelling f))) ∙ vb_told f [] (let e = is in omega (arith, e, small)) ∙ is
 
 -- it is what stands behind a line of the stream
-pub put_is : (n c : ℕ) (known : ClientKnown) (m : DcpMsg) (g : ClientStream) (o v : ℕ) (more : List Event) → (dcp_frame m o v).vb_or_status ≡ v → v < 2 ^ 16 → known.streams v ≡ Some g → o ≡ g.opaque
+pub put_is : (n c : ℕ) (known : ClientKnown) (m : DcpMsg) (g : ClientStream) (o v : ℕ) (more : List Event) → (dcp_frame m o v).vb_or_status ≡ v → v < 2 ^ 16 → known.streams v ≡ Some g → o ≡ g.opaque → is_closed_by (served_frames known) v ≡ false → lets_through (flow_now known).window ≡ true
     → (p : IsPut n c known m (event.Reply n c (spelling (dcp_frame m o v)) ∷ more)) × (p.stream ≡ g) × (vb_in_header p.bytes ≡ v)
-put_is n c known m g o v more is small there same =
+put_is n c known m g o v more is small there same still through =
     let header : vb_in_header (spelling (dcp_frame m o v)) ≡ v = header_is (dcp_frame m o v) v is small in (
       record {
         bytes = spelling (dcp_frame m o v);
@@ -68,6 +71,8 @@ put_is n c known m g o v more is small there same =
         stream = g;
         known_as = ap known.streams header ∙ there;
         spelled = λ i. spelling (dcp_frame m (same i) (sym header i));
+        unclosed = ap (is_closed_by (served_frames known)) header ∙ still;
+        through = through;
       },
       refl,
       header,
@@ -87,7 +92,7 @@ known_behind r n c bytes line = record r { clients_at = with_at r.clients_at n c
 
 -- and of all
 abbrev pub with_frame : Chronicle → ℕ → ℕ → List ℕ → StreamLine → Chronicle
-with_frame r n c bytes line = record (known_behind r n c bytes line) { made = made_line r.made (event.Reply n c bytes) }
+with_frame r n c bytes line = record (known_behind r n c bytes line) { made = made_line r.made (event.Reply n c bytes); changed = false }
 
 pub after_pair : (r : Chronicle) (n c : ℕ) (told : Event) (bytes : List ℕ) (line : StreamLine) → after_line r told ≡ record r { clients_at = with_at r.clients_at n c (with_told line (r.clients_at n c)) }
     → after_line (after_line r told) (event.Reply n c bytes) ≡ with_frame r n c bytes line
@@ -95,9 +100,9 @@ after_pair r n c told bytes line is =
     let k : ClientsKnown = with_at r.clients_at n c (with_told line (r.clients_at n c)) in
     let here : k n c ≡ with_told line (r.clients_at n c) = at_here r.clients_at n c (with_told line (r.clients_at n c)) in
     ap (λ r'. after_line r' (event.Reply n c bytes)) is
-    ∙ ap (λ (known : ClientKnown). record r { clients_at = clients_frame r.tree k n c bytes known.told; made = made_line r.made (event.Reply n c bytes) }) here
-    ∙ ap (λ (known : ClientKnown). record r { clients_at = with_at k n c (past_frame r.tree bytes line known); made = made_line r.made (event.Reply n c bytes) }) here
-    ∙ ap (λ table. record r { clients_at = table; made = made_line r.made (event.Reply n c bytes) }) (table_put_twice r.clients_at n c (with_told line (r.clients_at n c)) (past_frame r.tree bytes line (r.clients_at n c)))
+    ∙ ap (λ (known : ClientKnown). record r { clients_at = clients_frame r.tree k n c bytes known.told; made = made_line r.made (event.Reply n c bytes); changed = false }) here
+    ∙ ap (λ (known : ClientKnown). record r { clients_at = with_at k n c (past_frame r.tree bytes line known); made = made_line r.made (event.Reply n c bytes); changed = false }) here
+    ∙ ap (λ table. record r { clients_at = table; made = made_line r.made (event.Reply n c bytes); changed = false }) (table_put_twice r.clients_at n c (with_told line (r.clients_at n c)) (past_frame r.tree bytes line (r.clients_at n c)))
 
 -- ---- lines with their frames
 

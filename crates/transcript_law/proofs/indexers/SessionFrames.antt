@@ -15,10 +15,10 @@ use Rattle.mcbp_frame.specs.declared.frame.FaultyHead.{FaultyHead}
 use Rattle.node_core.specs.Clients.{PlainClient, went_on}
 use Rattle.mcbp_frame.specs.{Cutting.{fault_in, front_fault}, Spelling.{spelling}}
 use Rattle.mcbp_kv.specs.{Answers.{bare_answer}, Replies.{reply_frame}, Requests.{request_of}}
-use Rattle.transcript_law.proofs.indexers.{Beside.{beside}, Hands.{Goes, InHand, Standing, frame_told, mine}, Messages.{IsPlain, other_plain, response_plain}, Questions.{fault_asks, free_numbers, hand_asks, hand_if, hand_zero, in_hand, next_is}, Replied.{table_put_twice}, Shutting.{Shut, gone_shut}, Serving.{served_plain}, Worlds.{client_here, step_quiet, stepped_same, vb_here, waited_same, world_with}}
-use Rattle.transcript_law.proofs.invariant.{Agreement.{Agrees}, ClientsTold.{ClientAgrees, setup_of}, Owed.{OwedIf, OwedIn, Owing, idle_free, waits_hand}, Sessions.{first_received}}
-use Rattle.transcript_law.proofs.{answers.{Claims.{IsOf}, Committed.{HowTold}, Messages.{message_wants}}, lines.Telling.{LawfulBefore, before_more, told_more}, indexers.{Documents.{durable_request_goes, request_goes}, Outcomes.{outcome_goes}, Requests.{counts}}, verbs.Settling.{Steady}}
-use Rattle.transcript_law.specs.{ClientFrames.{message_of}, ClientStreams.{blank_client}, LawfulAnswers.{AllDurable, LawfulReply}, LinesTold.{made_line}, Questions.{behind_frames, is_acknowledgement, past_answer, question_of, wants_answer}, StreamsTold.{ClientKnown}}
+use Rattle.transcript_law.proofs.indexers.{Beside.{beside}, Hands.{Goes, InHand, frame_told, mine}, Messages.{IsPlain, other_plain, response_plain}, Questions.{fault_asks, free_numbers, hand_asks, hand_if, hand_zero, in_hand, next_is}, Replied.{table_put_twice}, Shutting.{Shut, gone_shut}, Serving.{served_plain}, Worlds.{client_here, step_quiet, stepped_same, vb_here, waited_same, world_with}}
+use Rattle.transcript_law.proofs.invariant.{Agreement.{Agrees}, ClientsTold.{ClientAgrees, setup_of}, Owed.{OwedIf, OwedIn, Owing, idle_free, waits_hand}, Sessions.{first_received}, Tables.{at_here}}
+use Rattle.transcript_law.proofs.{answers.{Calm.{durable_left}, Claims.{IsOf}, Committed.{HowTold}, Messages.{message_wants}}, lines.Telling.{LawfulBefore, before_more, told_more}, indexers.{Documents.{durable_request_goes, request_goes}, Outcomes.{outcome_goes}, Requests.{counts}}, verbs.Settling.{Steady}}
+use Rattle.transcript_law.specs.{ClientFrames.{message_of}, ClientStreams.{blank_client}, LawfulAnswers.{AllDurable, IsStill, LawfulReply}, LinesTold.{made_line}, Questions.{behind_frames, is_acknowledgement, past_answer, past_question_if, question_of, wants_answer}, StreamsTold.{ClientKnown}}
 use Rattle.vb_types.specs.declared.status.Status.TheVariants.{Einval}
 use Rattle.vb_calls.proofs.Conduct.{after_always}
 use Rattle.vb_calls.specs.Programs.{AnyCall}
@@ -54,7 +54,7 @@ free_of s = by (is_some s.dcp) s.session.awaited
 
 -- what a fault is answered stands in front of what tells that the connection closed
 fault_lawful : (r : Chronicle) (n c : ℕ) (fault : FrameFault) (head : FaultyHead) (more : List Event) → question_of (r.clients_at n c).asking ≡ None → front_fault (behind_frames (r.clients_at n c).asking.bytes) ≡ Some fault
-    → faulty_head fault (behind_frames (r.clients_at n c).asking.bytes) ≡ Some head → AllDurable r.made → LawfulReply r n c (r.clients_at n c).asking (spelling (reply_frame (bare_answer head.opcode Einval head.opaque))) (Event.Closed n c ∷ more)
+    → faulty_head fault (behind_frames (r.clients_at n c).asking.bytes) ≡ Some head → IsStill r → LawfulReply r n c (r.clients_at n c).asking (spelling (reply_frame (bare_answer head.opcode Einval head.opaque))) (Event.Closed n c ∷ more)
 fault_lawful r n c fault head more none stands named calm = inr (record { none = none; fault = fault; stands = stands; head = head; named = named; spelled = refl; closes = (more, refl); calm = calm })
 
 module _ (w : PlainWorld) (n c : ℕ) (node : PlainNode) (r : Chronicle) where
@@ -69,8 +69,8 @@ module _ (w : PlainWorld) (n c : ℕ) (node : PlainNode) (r : Chronicle) where
       let own : ClientAgrees old so_far n c client = mine w n c node r g in
       let told : ClientAgrees new so_far n c client' =
       served_plain old new so_far n c client client' f own g.bytes first (record { who = who; alive = closed ∙ own.alive; reader = reader; desk = refl }) plain.asks (plain.sets (setup_of client.producer.handshake))
-      (hand_asks (so_far.clients_at n c).asking client.session session client.producer.handshake client.producer.handshake f g.bytes first own.asks free (plain.sets (setup_of client.producer.handshake)) reader settings same awaits)
-      plain.closes own.kept refl (λ e. e) (λ v. vb_here w n c node states (Some client') v ∙ sym (vb_here w n c node states (Some client) v)) in
+      (hand_asks (so_far.clients_at n c).asking client.session session client.producer.handshake client.producer.handshake f g.bytes first own.asks free (plain.sets (setup_of client.producer.handshake)) reader settings same awaits) (plain.flows (setup_of client.producer.handshake).opened client.producer.window)
+      plain.closes own.kept refl refl (λ e. e) (λ v. vb_here w n c node states (Some client') v ∙ sym (vb_here w n c node states (Some client) v)) in
       record {
         lawful = g.lawful;
         agrees = (
@@ -81,6 +81,7 @@ module _ (w : PlainWorld) (n c : ℕ) (node : PlainNode) (r : Chronicle) where
         );
         bytes = subst AreBytes (sym reader) (All-drop (λ b. b < 256) (frame_len f) client.session.reader g.bytes);
         calm = g.calm;
+        still = λ none. g.still free;
       }
 
   -- nothing waits under the next number of the connection
@@ -120,12 +121,12 @@ module _ (w : PlainWorld) (n c : ℕ) (node : PlainNode) (r : Chronicle) where
         (λ none.
         let g' = held s.session.used (omega arith) (λ l. l) in
         request_goes stays steady w r n c clock node (hand s.session.used) before small shows g'.bytes f at.asks.served refl other count (states, front)
-        (record { now = (g'.lawful, g'.agrees, (at.conn.node, at.conn.number)); next = next; count_is = refl; who = refl; closed = refl; reader = refl; free = free; settings = refl; used = refl }) g'.calm fresh good none)
+        (record { now = (g'.lawful, g'.agrees, (at.conn.node, at.conn.number)); next = next; count_is = refl; who = refl; closed = refl; reader = refl; free = free; settings = refl; used = refl }) (g'.calm, g.still free) fresh good none)
         (λ (write, wish, is, room).
         let few = few_of s.session.used room in
         let g' = held (s.session.used + 1) (omega arith) (λ l. few) in
         durable_request_goes stays steady w r n c clock node (hand (s.session.used + 1)) before small shows g'.bytes f at.asks.served refl other count (states, front)
-        (record { now = (g'.lawful, g'.agrees, (at.conn.node, at.conn.number)); next = next; count_is = refl; who = refl; closed = refl; reader = refl; free = free; settings = refl; used = refl }) g'.calm
+        (record { now = (g'.lawful, g'.agrees, (at.conn.node, at.conn.number)); next = next; count_is = refl; who = refl; closed = refl; reader = refl; free = free; settings = refl; used = refl }) (g'.calm, g.still free)
         (unowed_next states (before ++ s.events) (client_of s) g few) fresh good write wish is room)
         (counts front.session.used (request_of front.session.settings.json f))) in
         InHand.IsOpen (unhanded ∙ none) ends
@@ -150,14 +151,14 @@ module _ (w : PlainWorld) (n c : ℕ) (node : PlainNode) (r : Chronicle) where
     framed f states s free first (InHand.IsOver none over) = absurd (no_first f s.session.reader over.empty first)
 
     -- what became of a durable write, which is awaited under a number
-    pub outcome_framed : (a : Awaited) (how : Resolution) (Claim : ℕ → Waiting → Pend → Type 0) (states : States) (s : Served) → s.session.awaited ≡ Some a → (a.waiter ≡ 0 → ⊥) → IsOf (after_lines r (before ++ s.events)) n c a Claim → HowTold n (after_lines r (before ++ s.events)).made Claim (record { waiter = a.waiter; how = how })
-        → Standing w n c node r states (before ++ s.events) (client_of s) → s.dcp ≡ None → InHand w n c node r states (went_on before producer (outcome_answered a how s))
+    pub outcome_framed : (a : Awaited) (how : Resolution) (Claim : ℕ → Waiting → Pend → Type 0) (states : States) (s : Served) → s.session.awaited ≡ Some a → (a.waiter ≡ 0 → ⊥) → IsOf (after_lines r (before ++ s.events)) n c a Claim → HowTold n (after_lines r (before ++ s.events)) Claim (record { waiter = a.waiter; how = how })
+        → Goes w n c node r states (before ++ s.events) (client_of s) → s.dcp ≡ None → InHand w n c node r states (went_on before producer (outcome_answered a how s))
     outcome_framed a how Claim states s waits some owns told g unhanded =
         InHand.IsOpen unhanded (outcome_goes w n c node r a how Claim states before producer s waits some owns told g)
 
   -- a fault: the connection is over, and told so
   abbrev over_told : List Event → Bool → Chronicle
-  over_told lines answered = let q = after_lines r lines in record q { clients_at = with_at q.clients_at n c blank_client; made = if answered then made_line q.made (Event.Reply n c []) else q.made }
+  over_told lines answered = let q = after_lines r lines in record q { clients_at = with_at q.clients_at n c blank_client; made = if answered then made_line q.made (Event.Reply n c []) else q.made; changed = if answered then false else q.changed }
 
   module _ (states : States) (lines : List Event) (client : PlainClient) (g : Goes w n c node r states lines client) (fault : FrameFault) (free : client.session.awaited ≡ None) (first : first_frame client.session.reader ≡ Some (Err fault)) where
     abbrev so_far : Chronicle
@@ -165,6 +166,13 @@ module _ (w : PlainWorld) (n c : ℕ) (node : PlainNode) (r : Chronicle) where
 
     abbrev own : ClientAgrees (world_with w n c node states (Some client)) so_far n c client
     own = mine w n c node r g
+
+    -- nor is any question left behind the answer to the fault
+    closes_none : (bytes : List ℕ) → question_of (so_far.clients_at n c).asking ≡ None → question_of ((after_line so_far (Event.Reply n c bytes)).clients_at n c).asking ≡ None
+    closes_none bytes none =
+        let known : ClientKnown = past_answer (so_far.clients_at n c) in
+        ap (λ (q : Chronicle). question_of (q.clients_at n c).asking) (frame_told n c bytes so_far own.silent) ∙ ap (λ (k : ClientKnown). question_of k.asking) (at_here so_far.clients_at n c known)
+        ∙ ap (λ o. question_of (past_question_if o (so_far.clients_at n c).asking)) none ∙ none
 
     -- its lines, by whether the header of the faulty frame is known
     both_lines : (head : FaultyHead) → faulty_head fault client.session.reader ≡ Some head → (let end : List Event = Event.Reply n c (spelling (reply_frame (bare_answer head.opcode Einval head.opaque))) ∷ Event.Closed n c ∷ [] in
@@ -175,14 +183,14 @@ module _ (w : PlainWorld) (n c : ℕ) (node : PlainNode) (r : Chronicle) where
         let left = fault_asks (so_far.clients_at n c).asking client.session client.producer.handshake own.asks fault free first in
         let known : ClientKnown = past_answer (so_far.clients_at n c) in (
           before_more r lines end g.lawful
-              (λ more rest. ((λ z. fault_lawful so_far n c fault head more left.0 (ap front_fault left.1 ∙ ap fault_in first) (ap (faulty_head fault) left.1 ∙ named) g.calm), (tt, rest))),
+              (λ more rest. ((λ z. fault_lawful so_far n c fault head more left.0 (ap front_fault left.1 ∙ ap fault_in first) (ap (faulty_head fault) left.1 ∙ named) (g.calm, g.still free)), ((λ opened. closes_none bytes left.0), rest))),
           told_more r lines end ∙ ap (λ q. after_line q (Event.Closed n c)) (frame_told n c bytes so_far own.silent)
-              ∙ ap (λ table. record so_far { clients_at = table; made = made_line so_far.made (Event.Reply n c []) }) (table_put_twice so_far.clients_at n c known blank_client),
+              ∙ ap (λ table. record so_far { clients_at = table; made = made_line so_far.made (Event.Reply n c []); changed = false }) (table_put_twice so_far.clients_at n c known blank_client),
         )
 
     head_lines : (head : Option FaultyHead) → faulty_head fault client.session.reader ≡ head → LawfulBefore r (lines ++ fault_lines n c head) × (after_lines r (lines ++ fault_lines n c head) ≡ over_told lines (is_some head))
     unfolding reply_line
-    head_lines None named = (before_more r lines (Event.Closed n c ∷ []) g.lawful (λ more rest. (tt, rest)), told_more r lines (Event.Closed n c ∷ []))
+    head_lines None named = (before_more r lines (Event.Closed n c ∷ []) g.lawful (λ more rest. ((λ opened. (fault_asks (so_far.clients_at n c).asking client.session client.producer.handshake own.asks fault free first).0), rest)), told_more r lines (Event.Closed n c ∷ []))
     head_lines (Some head) named = both_lines head named
 
     faulty_lines : (x y : ℕ) → x ≡ n → y ≡ c → (events : List Event) → events ≡ lines ++ fault_lines x y (faulty_head fault client.session.reader) → LawfulBefore r events × (after_lines r events ≡ over_told lines (is_some (faulty_head fault client.session.reader)))
@@ -194,12 +202,17 @@ module _ (w : PlainWorld) (n c : ℕ) (node : PlainNode) (r : Chronicle) where
     over_grows true one durable i = kept_made (λ (m : OwnChange). is_durable m.change.act) one so_far.made durable i
     over_grows false one durable i = i
 
+    -- no set and no removal waits to be answered
+    over_calm : (answered : Bool) → AllDurable (over_told lines answered).made
+    over_calm true = durable_left so_far.made
+    over_calm false = g.calm
+
     -- nothing is left of it
     over_agrees : (answered : Bool) → Shut w n c node (over_told lines answered) client.producer.streams states
     over_agrees answered =
         let shut = gone_shut w n c node so_far states client g.agrees in
         let q : Chronicle = record so_far { clients_at = with_at so_far.clients_at n c blank_client } in
-        record { agrees = (shut.agrees.0, beside (world_with w n c node states None) q q.conn_at (if answered then made_line so_far.made (Event.Reply n c []) else so_far.made) so_far.ticks shut.agrees.0 (over_grows answered) shut.agrees.1); nobody = shut.nobody }
+        record { agrees = (shut.agrees.0, beside (world_with w n c node states None) q q.conn_at (if answered then made_line so_far.made (Event.Reply n c []) else so_far.made) so_far.ticks (if answered then false else so_far.changed) shut.agrees.0 (over_grows answered) shut.agrees.1); nobody = shut.nobody }
 
   pub faulty : (before : List Event) (producer : PlainProducer) (fault : FrameFault) (states : States) (s : Served) → is_held s ≡ false → first_frame s.session.reader ≡ Some (Err fault) → InHand w n c node r states (went_on before producer s)
       → InHand w n c node r states (went_on before producer (ended_at (Some fault) s))
@@ -215,6 +228,7 @@ module _ (w : PlainWorld) (n c : ℕ) (node : PlainNode) (r : Chronicle) where
       InHand.IsOver none (record {
         lawful = so.0;
         agrees = subst (Agrees (world_with w n c node states None)) (sym so.1) shut.agrees;
+        calm = subst (λ (k : Chronicle). AllDurable k.made) (sym so.1) (over_calm states (before ++ s.events) client g fault (free_of s free) first (is_some head));
         empty = refl;
         closed = refl;
         nobody = shut.nobody;

@@ -102,4 +102,4 @@ over w n c node r states h none closed (InHand.IsOpen open_still g) = let z : tr
 over w n c node r states h none closed (InHand.IsAsked f asked up) = let z : None ≡ Some f = sym none ∙ asked in cc
 over w n c node r states h none closed (InHand.IsOver unhanded o) =
     let s = shut_goes w n c node (after_lines r h.events) h.client.producer states (record { agrees = o.agrees; nobody = o.nobody }) in
-    InHand.IsOver unhanded (record { lawful = o.lawful; agrees = s.agrees; empty = o.empty; closed = o.closed; nobody = s.nobody })
+    InHand.IsOver unhanded (record { lawful = o.lawful; agrees = s.agrees; calm = o.calm; empty = o.empty; closed = o.closed; nobody = s.nobody })

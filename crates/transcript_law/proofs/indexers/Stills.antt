@@ -1,4 +1,4 @@
--- a client's stream to which its vBucket gives nothing has no more to put
+-- a client's stream to which its vBucket gives nothing has no more to put, or waits for what is to be saved
 use Rattle.std.specs.Prelude.{◌≡◌, ◌⊎◌, ◌<◌, ◌≤◌, ◌++◌, ◌∷◌, nat_le, if◌then◌else◌}
 use Rattle.transcript_law.proofs.Words.{ℕ, Bool, true, false, List, [], length, map, refl, ap, sym, ◌∙◌, subst, arith, nat_tests, inl, inr, ⊎_elim, Option, Some, None, is_some, Begun, Change, Chronicle, Cluster, IsIn, ItemLine, PlainStream, PlainWorld, StreamAsk, Span, all_spans, end_span, effective_se, item_of_change, last_seq, need_of, plain_step, take_from, take_to}
 use Rattle.branch_model.proofs.Lists.{in_append, rises_in}
@@ -6,10 +6,11 @@ use Rattle.dcp_producer.specs.Frames.{reaches_end}
 use Rattle.std.proofs.lemmas.Bool.{leb-true}
 use Rattle.std.proofs.lemmas.List.{take_all}
 use Rattle.transcript_law.proofs.indexers.{Marked.{place_none, reached_is}, Shown.{plain_of_view}, Snapped.{agrees, leader, shown_holds}, Views.{none_joined, none_of}}
-use Rattle.transcript_law.proofs.invariant.{Agreement.{AgreesIn, VbAgrees, idle, vb_of}, ClientsTold.{BegunIs, IsOpenFor, StreamIs}}
+use Rattle.transcript_law.proofs.invariant.{Agreement.{AgreesIn, DiskIsIf, VbAgrees, idle, shelf_of, vb_of}, ClientsTold.{BegunIs, IsOpenFor, StreamIs}, Seats.{seat}}
 use Rattle.transcript_law.proofs.links.Idling.{active_is}
 use Rattle.transcript_law.specs.ClientStreams.{stream_view, view}
-use Rattle.transcript_law.specs.LawfulClients.{HasNone, IsQuiet, NoneWithin}
+use Rattle.transcript_law.proofs.disks.Disks.{saved_so}
+use Rattle.transcript_law.specs.LawfulClients.{HasNone, IsQuiet, NoneWithin, WaitsSaved}
 use Rattle.transcript_law.specs.StreamLaws.{IsPutWhole, meant_end}
 use Rattle.transcript_law.specs.StreamsTold.{ClientStream}
 use Rattle.vb_calls.specs.Streams.{is_in_memory}
@@ -135,4 +136,21 @@ module _ (w : PlainWorld) (r : Chronicle) (cl : Cluster) (a : AgreesIn idle w r 
     goes_on = λ reached. let z : false ≡ true = reached_is g (r.held n v) g.last t si.until si.begun false unreached reached in cc;
     active = (agrees w r cl a n v g t.id x).role ∙ ap (λ k. Some (Some k)) (active_is p.role x.active);
     none = has_none near ends;
+  }
+
+  -- what its vBucket counts as saved is what the lines tell
+  saved_told : p.saved ≡ (r.disk_at n v).saved
+  saved_told = saved_so (r.disk_at n v) (cl.disks (seat n v)) (shelf_of w n v) p (subst (DiskIsIf (r.disk_at n v) (cl.disks (seat n v)) (shelf_of w n v)) x.there (a.disks n v))
+
+  -- or it waits, where not all that it lacks is in memory
+  pub waiting_stream : t.ended ≡ false → length t.items ≤ t.next → reaches_end t.until t.marked ≡ false → is_in_memory p.floor o ≡ false → WaitsSaved r n v g
+  waiting_stream going whole unreached far = record {
+    whole = put_whole g (r.held n v) g.last t si.begun whole;
+    stays = sym si.ended ∙ going;
+    goes_on = λ reached. let z : false ≡ true = reached_is g (r.held n v) g.last t si.until si.begun false unreached reached in cc;
+    active = (agrees w r cl a n v g t.id x).role ∙ ap (λ k. Some (Some k)) (active_is p.role x.active);
+    saved =
+        let low = (place_none g.sync (stream_view r.tree g) g.place o.place x.place).0 in
+        let below : o.place < p.floor = grind (arith, nat_tests, far) in
+        let most = (agrees w r cl a n v g t.id x).sound.saved in let told = saved_told in omega (arith, low, below, most, told);
   }

@@ -313,6 +313,7 @@ pub record DialAgrees (told : Option Dial) (desk : Desk) (d : Dialed) : Type 0 w
   pub dialed : told ≡ Some (record { producer = desk.node; node = d.node; vb = d.vb })
   pub named : desk.stream ≡ Link d.link
   pub small : (d.node < 16) × (d.vb < 1024) × (d.buffer < 2 ^ 32)
+  pub alone : d.takeover ≡ false
 
 -- the last seqno that a consumer acknowledged is the last one that the lines tell of its stream, and 0 where they tell of none
 abbrev pub AckedIs : Option Granted → ℕ → Type 0
@@ -412,14 +413,19 @@ abbrev pub is_down : Option Power → Bool
 is_down None = false
 is_down (Some power) = is_some power.off
 
+-- a node is made, and runs
+abbrev pub is_running : Option Power → Bool
+is_running None = false
+is_running (Some power) = not (is_some power.off)
+
 -- one that is down has no vBucket and no journal
 pub record DownHolds (power : Option Power) (vb : Option Plain) (shelf : Option Shelf) : Type 0 where
   pub vb_none : is_down power ≡ true → vb ≡ None
   pub shelf_none : is_down power ≡ true → shelf ≡ None
 
--- nor has a link an end at it; links have numbers of three digits at most
+-- nor has a link an end at it, and the node of its producer is made; links have numbers of three digits at most
 pub record EndsUp (w : PlainWorld) (link : PlainLink) : Type 0 where
-  pub producer : is_down (power_of w (producer_node link)) ≡ false
+  pub producer : is_running (power_of w (producer_node link)) ≡ true
   pub consumer : is_down (power_of w (consumer_node link)) ≡ false
   pub number : link_number link < 1000
 

@@ -1,14 +1,15 @@
 -- no line leaves a vBucket more to commit
 use Rattle.std.specs.Prelude.{◌≡◌, ◌∷◌, if◌then◌else◌}
-use Rattle.transcript_law.proofs.Words.{Outcome, ℕ, List, [], subst, sym, ap, ◌∙◌, refl, Frame, Bool, true, false, not, Option, Some, None, is_some, Cause, Role, Act, Change, Plain, VbCall, VbReply, plain_step, after, after_job, Prog, Job, min}
+use Rattle.transcript_law.proofs.Words.{Outcome, ℕ, List, [], subst, sym, ap, ◌∙◌, refl, inl, inr, Frame, Bool, true, false, not, Option, Some, None, is_some, Cause, Role, Act, Change, Plain, VbCall, VbReply, plain_step, after, after_job, Prog, Job, min}
 use Rattle.transcript_law.proofs.Words.{States, row_at, end_closed, Told, PlainLink, LinkResult, link_number, consumer_node, up_at, AdminCall, AdminResult, own_link, cut_off, links_ended, called_at, admin_line, with_ended, turned_if, no_node, turned_after}
 use Rattle.transcript_law.proofs.Words.{role_outcome, PlainNode, PlainWorld, with_node_at, done, refusal, first_cause, refused_or, node_outcome, on_node, with_states}
 use Rattle.transcript_law.proofs.Words.{bytes_if, bytes_at, on_link, vb_in, is_active, is_follower, is_answerable, marker_fits, marked_vb, is_next, quiet_reply, refusal_reply, new_vb, Sound, Chronicle, take}
 use Rattle.transcript_law.proofs.invariant.Agreement.{Agrees, AgreesAt, book_in}
-use Rattle.transcript_law.proofs.invariant.CallsKept.{AllAt, AllIn, InWorld, put_all, ran, ran_job, put_node, on_made_all, on_node_all, unlinked_all, on_link_all, none_at, ended_all, armed_all, broken_all, unless_all, kept_or}
+use Rattle.transcript_law.proofs.invariant.CallsKept.{AllAt, AllIn, InWorld, put_all, ran, ran_job, put_node, on_made_all, on_node_all, unlinked_all, on_link_all, on_link_found, none_at, ended_all, armed_all, broken_all, unless_all, kept_or}
 use Rattle.transcript_law.proofs.invariant.Ranged.{IsRanged, NodeRanged, NodeRangedIf, kept_ranged, posted_ranged, told_stays_ranged, unlinked_ranged, with_ended_ranged, with_node}
 use Rattle.transcript_law.proofs.{disks.Reloaded.{reloaded, so}, invariant.Seats.{seat}, disks.Shelving.{loaded_at, loaded_of}}
 use Rattle.transcript_law.proofs.invariant.TimelyCalls.{Makes, MakesJob, admin_tame, chain_tame, closed_makes, due_tame, fed_tame, flush_tame, peer_tame, posted_tame, pull_tame, start_tame, tick_tame}
+use Rattle.dcp_consumer.specs.declared.handshake.Dialed.{Dialed}
 use Rattle.disk_journals.specs.{Arms.{opens_all}, Books.{Book}}
 use Rattle.durability.specs.Chains.{Links, Members, is_chain}
 use Rattle.journal_points.specs.Points.{saved}
@@ -64,9 +65,10 @@ abbrev IsAside : VbCall → Type 0
 IsAside (call.CloseStream id) = Unit {0}
 IsAside other = IsFollowing other
 
-aside : (v m : ℕ) (made : VbCall) → FollowsAt v m made → IsAside made
-aside v m (call.CloseStream id) f = tt
-aside v m other f = f.1
+aside : (d : Dialed) (m : ℕ) (made : VbCall) → d.takeover ≡ false → FollowsAt d m made → IsAside made
+aside d m (call.CloseStream id) alone f = tt
+aside d m other alone (own, inl f) = f
+aside d m other alone (own, inr f) = let never : true ≡ false = sym f.0 ∙ alone in cc
 
 -- one that follows is not active
 follows_idle : (r : Role) → is_follower r ≡ true → is_active r ≡ true → ⊥
@@ -102,13 +104,13 @@ aside_rests vb call.Due k rest = rest
 aside_rests vb call.Stat k rest = rest
 aside_rests vb other k rest = absurd k
 
-pub down_rests : (w : PlainWorld) (l wanted : ℕ) → InWorld RestsIf w → InWorld RestsIf (down_outcome w l (row_at link_number l w.links) (on_link w l consumer_node (down_in wanted))).0
-down_rests w l wanted all = by (row_at link_number l w.links)
+pub down_rests : (w : PlainWorld) (l wanted : ℕ) → ((link : PlainLink) → row_at link_number l w.links ≡ Some link → link.consumer.dialed.takeover ≡ false) → InWorld RestsIf w → InWorld RestsIf (down_outcome w l (row_at link_number l w.links) (on_link w l consumer_node (down_in wanted))).0
+down_rests w l wanted alone all = by (row_at link_number l w.links)
   where
     came : InWorld RestsIf (on_link w l consumer_node (down_in wanted)).0
-    came = on_link_all RestsIf IsAside aside_rests (λ id. tt) w l consumer_node (down_in wanted) all (λ link node e there.
-        let v = link.consumer.dialed.vb in let x = placed v node in
-        ran_job RestsIf IsAside aside_rests (λ id. tt) (FollowsAt v) (RollsAt v) (KeepsLink (untold (dial_of link))) (λ m made f. aside v m made f) (dial_bytes (take (moved_len wanted link.down) link.down) (dial_of link)) x.vbs x.shelves
+    came = on_link_found RestsIf IsAside aside_rests (λ id. tt) w l consumer_node (down_in wanted) all (λ link node found e there.
+        let d = link.consumer.dialed in let x = placed d.vb node in
+        ran_job RestsIf IsAside aside_rests (λ id. tt) (FollowsAt d) (RollsAt d) (KeepsLink (untold (dial_of link))) (λ m made f. aside d m made (alone link found) f) (dial_bytes (take (moved_len wanted link.down) link.down) (dial_of link)) x.vbs x.shelves
         (bytes_follow (take (moved_len wanted link.down) link.down) (dial_of link)) there)
 
     by : (o : Option PlainLink) → InWorld RestsIf (down_outcome w l o (on_link w l consumer_node (down_in wanted))).0

@@ -4,7 +4,7 @@ use Rattle.transcript_law.proofs.Words.{ℕ, Bool, true, false, refl, ap, sym, �
 use Rattle.durability.specs.declared.waiting.Waiting.{Waiting}
 use Rattle.node_core.specs.Clients.{PlainClient, new_client}
 use Rattle.std.proofs.{Math.Nat.{mod-eq_of_lt}, lemmas.Bool.{cases_eq}}
-use Rattle.transcript_law.proofs.invariant.{Holdings.{vb_of}, Owed.{ConnOwed, OneOwed, Owed, OwedIf, OwedIn, Owing, told_for_on}}
+use Rattle.transcript_law.proofs.invariant.{Holdings.{vb_of}, Owed.{ConnOwed, OneOwed, Owed, OwedIf, OwedIn, Owing, wait_for_on}}
 use Rattle.transcript_law.specs.{Feeding.{client_in}, LinesTold.{Conns, LastLine, at_line, numbered, told_for}, StreamsTold.{Asking}}
 
 -- nothing waits, and no connection of the node n, under this base, which is that of the last line, and nothing was entered for its connection c
@@ -41,7 +41,7 @@ fresh_in line w w' r r' n c base one none now fresh x = record {
         used = old.used;
         number = old.number;
         past = λ v y p owing. old.past v y p (one.fewer m v y p owing);
-        own = λ a q v y p waits asks owing same. let k = old.own a q v y p waits asks (one.fewer m v y p owing) same in (k.0, told_for_on m v y p (line.served m d) (r.clients_at m d).asking.answered r.made r'.made one.later.grows k.1);
+        own = λ a q v y p waits asks owing same. wait_for_on m (r.clients_at m d).asking.settings q.frame v y p (line.served m d) (r.clients_at m d).asking.answered r.made r'.made one.later.grows (old.own a q v y p waits asks (one.fewer m v y p owing) same);
         unserved = old.unserved;
         upto = old.upto;
       }))

@@ -91,17 +91,21 @@ module _ (P : Plain → Type 0) (kind : VbCall → Type 0) (keeps : (vb : Plain)
   relinked_all w before None all = unlinked_all w before all
   relinked_all w before (Some link) all = all
 
+  pub on_link_found : (w : PlainWorld) (l : ℕ) (end : PlainLink → ℕ) (f : PlainLink → PlainNode → PlainNode × LinkResult) → InWorld P w
+      → ((link : PlainLink) (node : PlainNode) → row_at link_number l w.links ≡ Some link → w.nodes (end link) ≡ Some node → AllAt P node.vbs → AllAt P (f link node).0.vbs) → InWorld P (on_link w l end f).0
+  on_link_found w l end f all kept = by (row_at link_number l w.links) refl
+    where
+      at : (link : PlainLink) → row_at link_number l w.links ≡ Some link → (o : Option PlainNode) → w.nodes (end link) ≡ o → AllIn P o → InWorld P (with_link link (node_outcome w (end link) (Some link, refusal cause.UnknownNode) o (f link))).0
+      at link found None e there = all
+      at link found (Some node) e there = relinked_all (with_node_at w (end link) (f link node).0) link (f link node).1.0 (put_node w (end link) (f link node).0 all (kept link node found e there))
+
+      by : (o : Option PlainLink) → row_at link_number l w.links ≡ o → InWorld P (link_outcome w l end f o).0
+      by None found = all
+      by (Some link) found = at link found (w.nodes (end link)) refl (all (end link))
+
   pub on_link_all : (w : PlainWorld) (l : ℕ) (end : PlainLink → ℕ) (f : PlainLink → PlainNode → PlainNode × LinkResult) → InWorld P w → ((link : PlainLink) (node : PlainNode) → w.nodes (end link) ≡ Some node → AllAt P node.vbs → AllAt P (f link node).0.vbs)
       → InWorld P (on_link w l end f).0
-  on_link_all w l end f all kept = by (row_at link_number l w.links)
-    where
-      at : (link : PlainLink) (o : Option PlainNode) → w.nodes (end link) ≡ o → AllIn P o → InWorld P (with_link link (node_outcome w (end link) (Some link, refusal cause.UnknownNode) o (f link))).0
-      at link None e there = all
-      at link (Some node) e there = relinked_all (with_node_at w (end link) (f link node).0) link (f link node).1.0 (put_node w (end link) (f link node).0 all (kept link node e there))
-
-      by : (o : Option PlainLink) → InWorld P (link_outcome w l end f o).0
-      by None = all
-      by (Some link) = at link (w.nodes (end link)) refl (all (end link))
+  on_link_all w l end f all kept = on_link_found w l end f all (λ link node found e there. kept link node e there)
 
   -- connections whose streams a change of role ended
   pub ended_all : (w : PlainWorld) (n v : ℕ) (ids : List ℕ) → InWorld P w → InWorld P (with_ended n v ids w)

@@ -1,10 +1,10 @@
 -- how what is told of clients' connections goes over from one world, and what was told of it, to another
 use Rattle.std.specs.Prelude.{◌≡◌, ◌≤◌, ◌⊎◌, ◌==◌, ◌∷◌, if◌then◌else◌}
-use Rattle.transcript_law.proofs.Words.{ℕ, Bool, true, false, List, [], refl, ap, sym, ◌∙◌, subst, inl, inr, ⊎_elim, Option, Some, None, All-weaker, Change, IsIn, Branch, Member, hist}
+use Rattle.transcript_law.proofs.Words.{ℕ, Bool, true, false, List, [], refl, ap, sym, ◌∙◌, subst, inl, inr, ⊎_elim, Option, Some, None, All, All-weaker, Change, IsIn, Branch, Member, hist}
 use Rattle.transcript_law.proofs.Words.{Plain, is_active, stream_at, eqb-true, arith, PlainLink, PlainStream, PlainWorld, Begun, Chronicle}
 use Rattle.dcp_producer.specs.Producers.{stream_at as kept_at}
 use Rattle.node_core.specs.Clients.{PlainClient}
-use Rattle.transcript_law.proofs.invariant.ClientsTold.{AskingIs, BegunIs, ClientAgrees, ClientsApart, ClientsTold, HeardIs, IsOpenFor, KeptIs, PlaceIs, StreamIs}
+use Rattle.transcript_law.proofs.invariant.ClientsTold.{AskingIs, BegunIs, ClientAgrees, ClientsApart, ClientsTold, FlowIs, HeardIs, IsOpenFor, KeptIs, PlaceIs, StreamIs}
 use Rattle.transcript_law.proofs.invariant.Agreement.{AgreesAt, VbAgrees, VbRow, Writes, WritesIf, vb_of, vb_row}
 use Rattle.transcript_law.proofs.invariant.Carrying.{Changed, SameClients, StreamsChanged, same_clients}
 use Rattle.transcript_law.proofs.invariant.OpenStreams.{Among, at_among}
@@ -84,10 +84,14 @@ stream_over s s' g stream goes x = record {
       b.0,
       b.1,
       b.2,
-      λ stays.
-          let e : stream.ended ≡ false = x.ended ∙ stays in
-          All-weaker (IsSentOf g begun s.held) (IsSentOf g begun s'.held) (λ y sent. sent_more g begun s.held s'.held (goes e g (x.opens e)).1 y sent) stream.items (b.3 stays),
+      held_on begun g.turned refl b.3,
     )
+      where
+        held_on : (begun : Begun) (t : Bool) → g.turned ≡ t → All (IsSentOf g begun (if t then g.left else s.held)) stream.items → All (IsSentOf g begun (if t then g.left else s'.held)) stream.items
+        held_on begun true e all = all
+        held_on begun false stays all =
+            let e : stream.ended ≡ false = x.ended ∙ stays in
+            All-weaker (IsSentOf g begun s.held) (IsSentOf g begun s'.held) (λ y sent. sent_more g begun s.held s'.held (goes e g (x.opens e)).1 y sent) stream.items all
 
 pub kept_over : (s s' : Spot) (closed : Bool) (known : Option ClientStream) (kept : Option PlainStream) → ((stream : PlainStream) → kept ≡ Some stream → stream.ended ≡ false → GoesOver s s' stream.id)
     → KeptIs s.tree s.on s.held s.pv closed known kept → KeptIs s'.tree s'.on s'.held s'.pv closed known kept
@@ -117,9 +121,11 @@ agrees_over w w' r r' n c client same goes a = record {
   kept = a.kept;
   one = a.one;
   opened = a.opened;
+  asked = a.asked ∙ ap (λ (k : ClientKnown). k.opened) (sym same);
   silent = ap (λ (k : ClientKnown). k.told) same ∙ a.silent;
   heard = heard_over (r.clients_at n c) (r'.clients_at n c) client same a.heard;
   asks = subst (λ (k : ClientKnown). AskingIs k.asking client.session client.producer.handshake) (sym same) a.asks;
+  flow = subst (λ (k : ClientKnown). FlowIs k.flow client.session client.producer.handshake client.producer.window) (sym same) a.flow;
   streams = λ v.
       let s = spot_at w r n v in let s' = spot_at w' r' n v in let kept = kept_at v client.producer.streams in
       subst (λ (k : ClientKnown). KeptIs s'.tree s'.on s'.held s'.pv (is_closed_by a.heard.served v) (k.streams v) kept) (sym same)

@@ -6,6 +6,7 @@ use Rattle.client_session.specs.declared.session.Awaited.{Awaited}
 use Rattle.dcp_producer.specs.Producers.{PlainStream, is_named, is_open, stream_at as kept_at}
 use Rattle.dcp_producer.specs.declared.desk.Handshake.{Handshake}
 use Rattle.dcp_producer.specs.declared.desk.Handshake.TheVariants as handshake
+use Rattle.flow_control.specs.declared.window.Window.{Window}
 use Rattle.mcbp_frame.specs.Cutting.{frames_in}
 use Rattle.mcbp_frame.specs.Frames.{frame_len}
 use Rattle.mcbp_frame.specs.declared.frame.Frame.{Frame}
@@ -23,15 +24,15 @@ use Rattle.transcript_law.proofs.invariant.Holdings.{ChangeFits, vb_of}
 use Rattle.transcript_law.proofs.invariant.OpenStreams.{AreKept, Among}
 use Rattle.transcript_law.proofs.invariant.Owing.{Owed}
 use Rattle.transcript_law.specs.ClientFrames.{first_request, is_closed_by, setup_after}
-use Rattle.transcript_law.specs.ClientStreams.{stream_view}
+use Rattle.transcript_law.specs.ClientStreams.{held_for, stream_view}
 use Rattle.transcript_law.specs.Feeding.{HasFed, client_in}
 use Rattle.transcript_law.specs.LawfulAnswers.{HasNumber, WRITE_NUMBERS}
 use Rattle.transcript_law.specs.LawfulClients.{IsSentOf, NoneWithin}
 use Rattle.transcript_law.specs.LinesTold.{Chronicle}
 use Rattle.transcript_law.specs.StreamLaws.{item_of_change}
-use Rattle.transcript_law.specs.Questions.{Question, first_question}
+use Rattle.transcript_law.specs.Questions.{Question, first_question, window_after}
 use Rattle.transcript_law.specs.Unanswered.{AsksDurably}
-use Rattle.transcript_law.specs.StreamsTold.{Asking, Begun, ClientKnown, ClientStream, Setup, no_setup}
+use Rattle.transcript_law.specs.StreamsTold.{Asking, Begun, ClientKnown, ClientStream, FlowKnown, Setup, no_setup}
 
 -- the client's session and its producer are of this connection
 pub record IsConn (n c : ℕ) (client : PlainClient) : Type 0 where
@@ -94,12 +95,21 @@ pub record AskingIs (k : Asking) (session : PlainSession) (set : Handshake) : Ty
   pub answered : AreAnswered session.awaited k served
   pub numbers : AreUsed session.awaited session.used k.durables
 
--- the last snapshot that is known is the one that the producer took last, of which so many items were put
+-- of the bytes behind those that are counted into the window the front was served, and made of it what the producer's is
+pub record FlowIs (flow : FlowKnown) (session : PlainSession) (set : Handshake) (window : Window) : Type 0 where
+  pub served : List Frame
+  pub front : List ℕ
+  pub bytes : flow.bytes ≡ front ++ session.reader
+  pub frames : AreFrames front served
+  pub sets : setup_after flow.setup served ≡ setup_of set
+  pub is : window_after flow.setup flow.window served ≡ window
+
+-- the last snapshot that is known is the one that the producer took last, of which so many items were put; each is sent of what its vBucket holds, or held before it got a role
 abbrev pub BegunIs : ClientStream → List Change → Option Begun → PlainStream → Type 0
 BegunIs g held None stream = (stream.items ≡ []) × (stream.marked ≡ None)
 BegunIs g held (Some b) stream =
     Covers stream.items b.history b.from b.end × (b.items ≡ map item_of_change (take stream.next stream.items)) × (stream.marked ≡ Some b.end)
-    × (g.turned ≡ false → All (IsSentOf g b held) stream.items)
+    × All (IsSentOf g b (held_for g held)) stream.items
 
 -- the vBucket's place is where the last snapshot ended, or, where the stream is not shown everything, above that, with nothing that it is shown in between
 abbrev pub PlaceIs : Bool → List Change → ℕ → ℕ → Type 0
@@ -152,9 +162,11 @@ pub record ClientAgrees (w : PlainWorld) (r : Chronicle) (n c : ℕ) (client : P
   pub kept : AreKept client.producer
   pub one : (stream : PlainStream) → Among stream client.producer.streams → kept_at stream.vb client.producer.streams ≡ Some stream
   pub opened : (stream : PlainStream) → Among stream client.producer.streams → is_open client.producer.handshake ≡ true
+  pub asked : client.producer.asked ≡ (r.clients_at n c).opened
   pub silent : (r.clients_at n c).told ≡ None
   pub heard : HeardIs (r.clients_at n c) client.session client.producer.handshake
   pub asks : AskingIs (r.clients_at n c).asking client.session client.producer.handshake
+  pub flow : FlowIs (r.clients_at n c).flow client.session client.producer.handshake client.producer.window
   pub streams : (v : ℕ) → KeptIs r.tree (r.branch_at n v) (r.held n v) (vb_of w n v) (is_closed_by heard.served v) ((r.clients_at n c).streams v) (kept_at v client.producer.streams)
 
 -- no stream of a client is another's too

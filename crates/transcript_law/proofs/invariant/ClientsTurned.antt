@@ -7,11 +7,12 @@ use Rattle.node_core.specs.Clients.{PlainClient, client_ended}
 use Rattle.std.proofs.lemmas.Bool.{cases_eq}
 use Rattle.transcript_law.proofs.invariant.Carried.{SameStream, stream_same}
 use Rattle.transcript_law.proofs.invariant.ClientsKept.{FedAreThere, FewNew, GoesOver, Spot, agrees_over, among_open, apart_over, at_vb, found_open, open_known, spot_at, stream_over}
-use Rattle.transcript_law.proofs.invariant.ClientsTold.{AskingIs, BegunIs, ClientAgrees, ClientsTold, KeptIs, StartedAt, StreamIs}
+use Rattle.transcript_law.proofs.invariant.ClientsTold.{AskingIs, BegunIs, ClientAgrees, ClientsTold, FlowIs, KeptIs, StartedAt, StreamIs}
 use Rattle.transcript_law.proofs.invariant.{Holdings.{ChangeFits, vb_of}, OpenStreams.{Among, at_among, kept_went}, Owed.{Fewer, owed_kept}}
 use Rattle.transcript_law.specs.ClientFrames.{is_closed_by, setup_after}
-use Rattle.transcript_law.specs.ClientStreams.{past_turn, with_clients_of, with_turn}
+use Rattle.transcript_law.specs.ClientStreams.{held_for, past_turn, with_clients_of, with_turn}
 use Rattle.transcript_law.specs.Feeding.{HasFed, HasOpen, IsOfClient, client_in}
+use Rattle.transcript_law.specs.LawfulClients.{IsSentOf}
 use Rattle.transcript_law.specs.StreamsTold.{ClientKnown, ClientStream}
 use Rattle.vb_events.specs.declared.event.StreamName.TheVariants as name
 use Rattle.transcript_law.proofs.invariant.Owing.{Later}
@@ -61,7 +62,7 @@ module _ (ends : PlainStream → PlainStream) (same : (s : PlainStream) → Same
 -- ---- one connection
 
 -- a stream of a vBucket that gets a role: its end is due
-stream_turned : (s s' : Spot) (g : ClientStream) (x y : PlainStream) → SameStream x y → y.ended ≡ true → StreamIs s.tree s.on s.held s.pv g x → StreamIs s'.tree s'.on s'.held s'.pv (with_turn g) y
+stream_turned : (s s' : Spot) (g : ClientStream) (x y : PlainStream) → SameStream x y → y.ended ≡ true → StreamIs s.tree s.on s.held s.pv g x → StreamIs s'.tree s'.on s'.held s'.pv (with_turn s.held g) y
 stream_turned s s' g x y same over a = record {
   opaque = same.opaque ∙ a.opaque;
   small = subst (λ k. k < 2 ^ 16) (sym same.vb) a.small;
@@ -75,22 +76,22 @@ stream_turned s s' g x y same over a = record {
   opens = λ e. let z : true ≡ false = sym over ∙ e in cc;
 }
   where
-    by_start : (last : Option Begun) → StartedAt last g → StartedAt last (with_turn g)
+    by_start : (last : Option Begun) → StartedAt last g → StartedAt last (with_turn s.held g)
     by_start None e = e
     by_start (Some b) e = e
 
-    by : (last : Option Begun) → BegunIs g s.held last x → BegunIs (with_turn g) s'.held last y
+    by : (last : Option Begun) → BegunIs g s.held last x → BegunIs (with_turn s.held g) s'.held last y
     by None b = (same.items ∙ b.0, same.marked ∙ b.1)
     by (Some begun) b = (
       subst (λ xs. Covers xs begun.history begun.from begun.end) (sym same.items) b.0,
       b.1 ∙ (λ i. map item_of_change (take (sym same.next i) (sym same.items i))),
       same.marked ∙ b.2,
-      λ stays. let z : true ≡ false = stays in cc,
+      subst (All (IsSentOf g begun (held_for g s.held))) (sym same.items) b.3,
     )
 
 -- so it is of what is known and kept of it, if anything is
 kept_turned : (s s' : Spot) (closed : Bool) (known : Option ClientStream) (kept : Option PlainStream) (ends : PlainStream → PlainStream) → ((x : PlainStream) → kept ≡ Some x → SameStream x (ends x) × ((ends x).ended ≡ true))
-    → KeptIs s.tree s.on s.held s.pv closed known kept → KeptIs s'.tree s'.on s'.held s'.pv closed (option_map with_turn known) (option_map ends kept)
+    → KeptIs s.tree s.on s.held s.pv closed known kept → KeptIs s'.tree s'.on s'.held s'.pv closed (option_map (with_turn s.held) known) (option_map ends kept)
 kept_turned s s' closed None None ends all a = tt
 kept_turned s s' closed (Some g) None ends all a = a
 kept_turned s s' closed None (Some x) ends all a = absurd a
@@ -104,7 +105,7 @@ kept_other s s' closed (Some g) None ends all a = a
 kept_other s s' closed None (Some x) ends all a = absurd a
 kept_other s s' closed (Some g) (Some x) ends all a = let q = all x refl in subst (λ y. KeptIs s'.tree s'.on s'.held s'.pv closed (Some g) (Some y)) (sym q.0) (a.0, stream_over s s' g x q.1 a.1)
 
-module _ (w w' : PlainWorld) (r r' : Chronicle) (n v c : ℕ) (client client' : PlainClient) (known : r'.clients_at n c ≡ past_turn v (r.clients_at n c)) (ended : StreamsEnded v client client')
+module _ (w w' : PlainWorld) (r r' : Chronicle) (n v c : ℕ) (client client' : PlainClient) (known : r'.clients_at n c ≡ past_turn v (r.held n v) (r.clients_at n c)) (ended : StreamsEnded v client client')
     (goes : (q id : ℕ) → (q ≡ v → ⊥) → HasOpen q id client.producer.streams → GoesOver (spot_at w r n q) (spot_at w' r' n q) id) (a : ClientAgrees w r n c client) where
   abbrev streams : List PlainStream
   streams = client.producer.streams
@@ -112,13 +113,13 @@ module _ (w w' : PlainWorld) (r r' : Chronicle) (n v c : ℕ) (client client' : 
   abbrev later : PlainClient
   later = record client { producer = record client.producer { streams = map ended.ends streams } }
 
-  kept_then : (q : ℕ) → let s = spot_at w' r' n q in KeptIs s.tree s.on s.held s.pv (is_closed_by a.heard.served q) ((past_turn v (r.clients_at n c)).streams q) (kept_at q later.producer.streams)
+  kept_then : (q : ℕ) → let s = spot_at w' r' n q in KeptIs s.tree s.on s.held s.pv (is_closed_by a.heard.served q) ((past_turn v (r.held n v) (r.clients_at n c)).streams q) (kept_at q later.producer.streams)
   kept_then q =
       let s = spot_at w r n q in let s' = spot_at w' r' n q in let closed = is_closed_by a.heard.served q in let known_of = (r.clients_at n c).streams q in
-      subst (λ k. KeptIs s'.tree s'.on s'.held s'.pv closed ((past_turn v (r.clients_at n c)).streams q) k) (sym (ended_at ended.ends ended.same q streams)) (⊎_elim
-      (λ e. subst (λ b. KeptIs s'.tree s'.on s'.held s'.pv closed (if b then option_map with_turn known_of else known_of) (option_map ended.ends (kept_at q streams))) (sym (eq-eqb q v e))
-      (kept_turned s s' closed known_of (kept_at q streams) ended.ends (λ x found. (ended.same x, ended.all x (at_among q streams x found) (at_vb q streams x found ∙ e))) (a.streams q)))
-      (λ ne. subst (λ b. KeptIs s'.tree s'.on s'.held s'.pv closed (if b then option_map with_turn known_of else known_of) (option_map ended.ends (kept_at q streams))) (sym (ne_eqb q v ne))
+      subst (λ k. KeptIs s'.tree s'.on s'.held s'.pv closed ((past_turn v (r.held n v) (r.clients_at n c)).streams q) k) (sym (ended_at ended.ends ended.same q streams)) (⊎_elim
+      (λ e. subst (λ b. KeptIs s'.tree s'.on s'.held s'.pv closed (if b then option_map (with_turn (r.held n v)) known_of else known_of) (option_map ended.ends (kept_at q streams))) (sym (eq-eqb q v e))
+      (subst (λ k. KeptIs s'.tree s'.on s'.held s'.pv closed (option_map (with_turn (r.held n k)) known_of) (option_map ended.ends (kept_at q streams))) e (kept_turned s s' closed known_of (kept_at q streams) ended.ends (λ x found. (ended.same x, ended.all x (at_among q streams x found) (at_vb q streams x found ∙ e))) (a.streams q))))
+      (λ ne. subst (λ b. KeptIs s'.tree s'.on s'.held s'.pv closed (if b then option_map (with_turn (r.held n v)) known_of else known_of) (option_map ended.ends (kept_at q streams))) (sym (ne_eqb q v ne))
       (kept_other s s' closed known_of (kept_at q streams) ended.ends (λ x found. (ended.others x (λ e. ne (sym (at_vb q streams x found) ∙ e)), λ opens. goes q x.id ne (found_open q streams x found opens))) (a.streams q)))
       (cases_eq q v))
 
@@ -131,9 +132,11 @@ module _ (w w' : PlainWorld) (r r' : Chronicle) (n v c : ℕ) (client client' : 
         subst (λ x. kept_at x.vb (map ended.ends streams) ≡ Some x) (sym e)
         (ap (λ u. kept_at u (map ended.ends streams)) (ended.same s).vb ∙ ended_at ended.ends ended.same s.vb streams ∙ ap (option_map ended.ends) (a.one s j));
     opened = λ t i. let (s, j, e) = ended_among ended.ends ended.same streams t i in a.opened s j;
+    asked = a.asked ∙ ap (λ (x : ClientKnown). x.opened) (sym known);
     silent = ap (λ (x : ClientKnown). x.told) known ∙ a.silent;
     heard = record { served = a.heard.served; front = a.heard.front; bytes = ap (λ (x : ClientKnown). x.bytes) known ∙ a.heard.bytes; frames = a.heard.frames; none = a.heard.none; sets = ap (λ (x : ClientKnown). setup_after x.setup a.heard.served) known ∙ a.heard.sets };
     asks = subst (λ (x : ClientKnown). AskingIs x.asking client.session client.producer.handshake) (sym known) a.asks;
+    flow = subst (λ (x : ClientKnown). FlowIs x.flow client.session client.producer.handshake client.producer.window) (sym known) a.flow;
     streams = λ q. let s = spot_at w' r' n q in subst (λ (x : ClientKnown). KeptIs s.tree s.on s.held s.pv (is_closed_by a.heard.served q) (x.streams q) (kept_at q later.producer.streams)) (sym known) (kept_then q);
   }
 
@@ -146,15 +149,15 @@ module _ (w w' : PlainWorld) (r r' : Chronicle) (n v c : ℕ) (client client' : 
 pub record RoleTold (w w' : PlainWorld) (r r' : Chronicle) (n v : ℕ) : Type 0 where
   pub here : (c : ℕ) (client' : PlainClient) → client_in (w'.nodes n) c ≡ Some client' → (client : PlainClient) × (client_in (w.nodes n) c ≡ Some client) × StreamsEnded v client client'
   pub there : (m c : ℕ) → (m ≡ n → ⊥) → client_in (w'.nodes m) c ≡ client_in (w.nodes m) c
-  pub known : (m c : ℕ) → r'.clients_at m c ≡ with_clients_of r.clients_at n (past_turn v) m c
+  pub known : (m c : ℕ) → r'.clients_at m c ≡ with_clients_of r.clients_at n (past_turn v (r.held n v)) m c
   pub goes : (m q : ℕ) → (m ≡ n → q ≡ v → ⊥) → (c id : ℕ) → IsOfClient w m c q id → GoesOver (spot_at w r m q) (spot_at w' r' m q) id
 
 module _ (w w' : PlainWorld) (r r' : Chronicle) (n v : ℕ) (told : ClientsTold w r) (turned : RoleTold w w' r r' n v) where
-  known_here : (c : ℕ) → r'.clients_at n c ≡ past_turn v (r.clients_at n c)
-  known_here c = turned.known n c ∙ ap (λ b. if b then past_turn v (r.clients_at n c) else r.clients_at n c) (eq-eqb n n refl)
+  known_here : (c : ℕ) → r'.clients_at n c ≡ past_turn v (r.held n v) (r.clients_at n c)
+  known_here c = turned.known n c ∙ ap (λ b. if b then past_turn v (r.held n v) (r.clients_at n c) else r.clients_at n c) (eq-eqb n n refl)
 
   known_there : (m c : ℕ) → (m ≡ n → ⊥) → r'.clients_at m c ≡ r.clients_at m c
-  known_there m c ne = turned.known m c ∙ ap (λ b. if b then past_turn v (r.clients_at m c) else r.clients_at m c) (ne_eqb m n ne)
+  known_there m c ne = turned.known m c ∙ ap (λ b. if b then past_turn v (r.held n v) (r.clients_at m c) else r.clients_at m c) (ne_eqb m n ne)
 
   each_here : (c : ℕ) (client' : PlainClient) → client_in (w'.nodes n) c ≡ Some client' → ClientAgrees w' r' n c client'
   each_here c client' is =

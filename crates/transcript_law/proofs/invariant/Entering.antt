@@ -5,6 +5,7 @@ use Rattle.branch_model.proofs.Entries.{forks_kept, forks_take}
 use Rattle.branch_model.specs.Journals.{found, log_of, roll_point}
 use Rattle.script_text.specs.declared.verb.Verb.TheVariants as verb
 use Rattle.script_text.specs.declared.verb.ClientVerb.TheVariants as client_verb
+use Rattle.script_text.specs.declared.verb.NodeVerb.TheVariants as node_verb
 use Rattle.script_text.specs.declared.verb.VbVerb.TheVariants as vb_verb
 use Rattle.transcript_law.proofs.Words.{ℕ, Bool, true, false, List, [], refl, ap, sym, ◌∙◌, subst, Option, Some, None, LogEntry, Branch, eq-eqb, ne_eqb, Verb, Change, AskAnswer, Event, StreamName, StreamAsk, Role, Answer, AtForks, kept_to, with_entry, IsNew, branch, grow, longer, branch_grow, Granted, Chronicle, empty_chronicle, after_lines}
 use Rattle.transcript_law.proofs.Words.{with_at, with_changed, granted, parent_branch, changes_between, after_branch, with_begun, with_item, finished, after_line, held_more, past_next, past_mark, IsIfKnown, LawfulLine, LawfulFrom, LawfulAsk}
@@ -231,6 +232,7 @@ line_entered r (event.Batch n v ss se at count) behind old lawful =
     let d = r.disk_at n v in let p : Position = record { ss = ss; se = se; at = at } in
     disk_entered r n v (record d { flushing = Taken (known_batch p (known_log (r.log_at n v))); taken = at }) old (record { book = (old.disks n v).book; late = (old.disks n v).late; flushing = known_at r n v old })
 line_entered r (event.Counted stream n v member seq) behind old lawful = record { disks = old.disks; logs = old.logs; streams = old.streams }
+line_entered r (event.NodeStopped n) behind old lawful = record { disks = old.disks; logs = old.logs; streams = old.streams }
 line_entered r other behind old lawful = old
 
 pub start_entered : Entered empty_chronicle
@@ -386,6 +388,7 @@ ahead_entered r (verb.AtVb n v (vb_verb.Chain others)) answer.Ok old = record { 
 ahead_entered r (verb.AtVb n v vb_verb.Done) (answer.Number saved) old = disk_entered r n v (record (r.disk_at n v) { flushing = Idle; saved = saved }) old (record { book = (old.disks n v).book; late = (old.disks n v).late; flushing = tt })
 ahead_entered r (verb.AtVb n v vb_verb.Tick) said old = record { disks = old.disks; logs = old.logs; streams = old.streams }
 ahead_entered r (verb.AtClient n c (client_verb.Bytes bytes)) answer.Ok old = record { disks = old.disks; logs = old.logs; streams = old.streams }
+ahead_entered r (verb.AtNode n (node_verb.Crash out)) answer.Ok old = record { disks = old.disks; logs = old.logs; streams = old.streams }
 ahead_entered r other said old = old
 
 pub blank_entered : (r : Chronicle) (n c : ℕ) (said : Answer) → Entered r → Entered (after_blank r n c said)

@@ -9,7 +9,7 @@ use Rattle.vb_types.specs.declared.stream.AskAnswer.TheVariants as ask_answer
 use Rattle.vb_events.specs.declared.event.StreamName.{StreamName}
 use Rattle.vb_events.specs.declared.event.StreamName.TheVariants as name
 use Rattle.vb_types.specs.declared.role.Role.TheVariants as role
-use Rattle.transcript_law.specs.LawfulAnswers.{AllDurable}
+use Rattle.transcript_law.specs.LawfulAnswers.{IsStill}
 use Rattle.transcript_law.proofs.invariant.{Begun.{ServesOpen}, ClientWorlds.{ConnsAre, start_conns}, Clients.{line_heard}}
 
 -- it is known, if it is something
@@ -40,17 +40,17 @@ agreed w r c a = record { role = λ n v. roles n v (vb_of w n v) refl (a.vbs n v
     snaps n v (Some vb) x = (_, x.snap)
 
 -- after more lines all agree
-agrees_from : (w : PlainWorld) (r : Chronicle) (script : List ScriptLine) → ScriptFits script → IsRanged w → ConnsAre w r.conn_at → ServesOpen r.last r.conn_at → AllDurable r.made → Agrees w r → Agrees (world_after w script) (known_after r script (groups_from w script))
+agrees_from : (w : PlainWorld) (r : Chronicle) (script : List ScriptLine) → ScriptFits script → IsRanged w → ConnsAre w r.conn_at → ServesOpen r.last r.conn_at → IsStill r → Agrees w r → Agrees (world_after w script) (known_after r script (groups_from w script))
 unfolding world_step
 agrees_from w r [] fits ranged are serves calm a = a
 agrees_from w r (line ∷ lines) fits ranged are serves calm a =
     let fit = All-head (λ (x : ScriptLine). VerbFits x.verb) line lines fits in let outcome = verb_step w line.line line.verb in let row : Row w line.verb outcome = row_of w line.line line.verb in
-    agrees_from (with_branches outcome.1.events outcome.0) (after_group (at_line r line.line) line.verb outcome.1.events outcome.1.answer) lines (All-tail (λ (x : ScriptLine). VerbFits x.verb) line lines fits) (row.ranged fit ranged) (line_heard r.conn_at w line.line are line.verb fit).1 (group_serves r line.line line.verb outcome.1.events outcome.1.answer) tt
+    agrees_from (with_branches outcome.1.events outcome.0) (after_group (at_line r line.line) line.verb outcome.1.events outcome.1.answer) lines (All-tail (λ (x : ScriptLine). VerbFits x.verb) line lines fits) (row.ranged fit ranged) (line_heard r.conn_at w line.line are line.verb fit).1 (group_serves r line.line line.verb outcome.1.events outcome.1.answer) (tt, refl)
     (group_agrees w r line.line line.verb fit ranged are serves calm a)
 
 -- behind a script
 pub script_known : (script : List ScriptLine) → ScriptFits script → AllKnown (known_of script)
-script_known script fits = let x = agrees_from empty_world empty_chronicle script fits start_ranged start_conns start_serves tt start in agreed (world_of script) (known_of script) x.0 x.1
+script_known script fits = let x = agrees_from empty_world empty_chronicle script fits start_ranged start_conns start_serves (tt, refl) start in agreed (world_of script) (known_of script) x.0 x.1
 
 -- and behind a line, where it was before it
 snap_known : (new : Role) (told : Chronicle) (n v : ℕ) → AllKnown told → IsSome (snap_in_role new (told.held n v) (told.snap_at n v))

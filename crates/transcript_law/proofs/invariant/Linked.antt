@@ -2,7 +2,7 @@
 use Rattle.std.specs.Prelude.{◌≡◌, ◌∷◌, ◌⊎◌, ◌==◌, if◌then◌else◌}
 use Rattle.transcript_law.proofs.Words.{ℕ, true, false, List, [], refl, ap, sym, ◌∙◌, subst, inl, inr, ⊎_elim, Option, Some, None, not, eqb-true, All-head, All-tail, ScriptLine, VerbFits, ScriptFits, Stream, Plain, stream_at}
 use Rattle.transcript_law.proofs.Words.{Cluster, PlainNode, PlainWorld, PlainLink, link_number, producer_node, consumer_node, vb_in, with_branches, verb_step, world_step, empty_world, Chronicle, empty_chronicle, world_of}
-use Rattle.transcript_law.proofs.{invariant.Agreement.{Agrees, AgreesIn, IsLink, idle, is_down, vb_of}, invariant.Carried.{link_kept, numbers, stream_opened}, disks.Disks.{power_in}, invariant.Feeding.{AllFed, AllKept}, invariant.LinkRows.{found_is_link, links_apart}, invariant.Numbered.{numbered, numbers_of}}
+use Rattle.transcript_law.proofs.{invariant.Agreement.{Agrees, AgreesIn, IsLink, idle, is_down, is_running, vb_of}, invariant.Carried.{link_kept, numbers, stream_opened}, disks.Disks.{power_in}, invariant.Feeding.{AllFed, AllKept}, invariant.LinkRows.{found_is_link, links_apart}, invariant.Numbered.{numbered, numbers_of}}
 use Rattle.transcript_law.proofs.{invariant.Ranged.{IsRanged, start_ranged}, Runs.{group_agrees, group_serves, row_of, start, start_serves}, verbs.Rows.{Row}}
 use Rattle.transcript_law.specs.Feeding.{Has, HasFed, HasIn, HasOpen, HasStream, IsOf, IsOfClient, IsOpenAt, LinksAreFed, StreamsAreFed, client_in}
 use Rattle.transcript_law.proofs.invariant.{ClientsTold.{ClientAgrees, KeptIs}, OpenStreams.{Among}}
@@ -14,8 +14,8 @@ use Rattle.vb_events.specs.declared.event.StreamName.{StreamName}
 use Rattle.vb_events.specs.declared.event.StreamName.TheVariants as name
 use Rattle.transcript_law.specs.Chronicles.{after_group, at_line}
 use Rattle.transcript_law.specs.Prefixes.{world_after}
-use Rattle.node_world.specs.Worlds.{is_off, is_up}
-use Rattle.transcript_law.specs.LawfulAnswers.{AllDurable}
+use Rattle.node_world.specs.Worlds.{is_up}
+use Rattle.transcript_law.specs.LawfulAnswers.{IsStill}
 use Rattle.transcript_law.proofs.invariant.{Begun.{ServesOpen}, ClientWorlds.{ConnsAre, start_conns}, Clients.{line_heard}}
 
 found_has : (id : ℕ) (ss : List Stream) (s : Stream) → stream_at id ss ≡ Some s → Has ss id
@@ -46,10 +46,10 @@ client_opened w r n c client a v id h =
         let x = k.1.opens (ap (λ t. t.ended) same ∙ o.2) in
         subst (λ p. HasIn p id) (sym x.there) (subst (Has x.vb.streams) (ap (λ t. t.id) same ∙ o.1) (found_has s.id x.vb.streams x.stream x.opened))
 
--- nodes that are not down
-not_down : (o : Option PlainNode) → is_down (power_in o) ≡ false → is_off o ≡ false
-not_down None e = refl
-not_down (Some node) e = e
+-- nodes that run
+running : (o : Option PlainNode) → is_running (power_in o) ≡ true → is_up o ≡ true
+running None e = cc
+running (Some node) e = e
 
 up_of : (o : Option PlainNode) (v : ℕ) (vb : Plain) → vb_in o v ≡ Some vb → is_down (power_in o) ≡ false → is_up o ≡ true
 up_of None v vb there e = cc
@@ -107,22 +107,22 @@ module _ (w : PlainWorld) (r : Chronicle) (c : Cluster) (a : AgreesIn idle w r c
     follows = λ l link is. let la = a.links link (found_is_link l w.links link is).0 in (la.follower, la.follower_is, la.follows);
     runs = λ l link is.
         let i = (found_is_link l w.links link is).0 in let la = a.links link i in let e = a.ends link i in
-        (up_of (w.nodes (consumer_node link)) link.consumer.dialed.vb la.follower la.follower_is e.consumer, not_down (w.nodes (producer_node link)) e.producer);
+        (up_of (w.nodes (consumer_node link)) link.consumer.dialed.vb la.follower la.follower_is e.consumer, running (w.nodes (producer_node link)) e.producer);
     apart = λ l k link other is has e f.
         let p = found_is_link l w.links link is in let q = found_is_link k w.links other has in
         ⊎_elim (λ s. s) (λ ne. absurd ((links_apart link other w.links a.differ p.0 q.0 (λ s. ne (sym p.1 ∙ s ∙ q.1))).follower e f)) (numbers l k);
   }
 
 -- after more lines
-linked_from : (w : PlainWorld) (r : Chronicle) (script : List ScriptLine) → ScriptFits script → IsRanged w → ConnsAre w r.conn_at → ServesOpen r.last r.conn_at → AllDurable r.made → Agrees w r → AllFed w → StreamsAreFed (world_after w script) × LinksAreFed (world_after w script)
+linked_from : (w : PlainWorld) (r : Chronicle) (script : List ScriptLine) → ScriptFits script → IsRanged w → ConnsAre w r.conn_at → ServesOpen r.last r.conn_at → IsStill r → Agrees w r → AllFed w → StreamsAreFed (world_after w script) × LinksAreFed (world_after w script)
 unfolding world_step
 linked_from w r [] fits ranged are serves calm a fed = (streams_are_fed w r a.0 a.1 fed, links_are_fed w r a.0 a.1)
 linked_from w r (line ∷ lines) fits ranged are serves calm a fed =
     let fit = All-head (λ (x : ScriptLine). VerbFits x.verb) line lines fits in let outcome = verb_step w line.line line.verb in let row : Row w line.verb outcome = row_of w line.line line.verb in
     linked_from (with_branches outcome.1.events outcome.0) (after_group (at_line r line.line) line.verb outcome.1.events outcome.1.answer) lines (All-tail (λ (x : ScriptLine). VerbFits x.verb) line lines fits)
-    (row.ranged fit ranged) (line_heard r.conn_at w line.line are line.verb fit).1 (group_serves r line.line line.verb outcome.1.events outcome.1.answer) tt (group_agrees w r line.line line.verb fit ranged are serves calm a)
+    (row.ranged fit ranged) (line_heard r.conn_at w line.line are line.verb fit).1 (group_serves r line.line line.verb outcome.1.events outcome.1.answer) (tt, refl) (group_agrees w r line.line line.verb fit ranged are serves calm a)
     (row.fed (record { numbers = numbers_of w.links a.1.differ; fed = fed }) (all_kept w r a.0 a.1))
 
 -- after a script
 pub streams_linked : (script : List ScriptLine) → ScriptFits script → StreamsAreFed (world_of script) × LinksAreFed (world_of script)
-streams_linked script fits = linked_from empty_world empty_chronicle script fits start_ranged start_conns start_serves tt start (λ n node is. cc)
+streams_linked script fits = linked_from empty_world empty_chronicle script fits start_ranged start_conns start_serves (tt, refl) start (λ n node is. cc)

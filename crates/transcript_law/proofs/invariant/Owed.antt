@@ -9,7 +9,7 @@ use Rattle.std.proofs.lemmas.Bool.{cases_eq}
 use Rattle.transcript_law.proofs.answers.Awaited.{IsOutstanding, idle_none}
 use Rattle.transcript_law.proofs.invariant.Holdings.{vb_of}
 use Rattle.transcript_law.specs.{Feeding.{client_in}, LinesTold.{Chronicle, LastLine, OwnChange, told_for}, Questions.{Question, question_of}, StreamsTold.{Asking}}
-pub use Rattle.transcript_law.proofs.invariant.Owing.{Grows, IsIdle, IsToldIn, Later, ConnOwed, Fewer, later_on, later_same, told_for_on, told_on, IsPast, IsWaitOf, Owed, OwedIf, OwedIn, Owing}
+pub use Rattle.transcript_law.proofs.invariant.Owing.{Grows, IsIdle, IsToldIn, Later, ConnOwed, Fewer, later_on, later_same, wait_for_on, IsPast, IsWaitOf, Owed, OwedIf, OwedIn, Owing}
 
 -- ---- vBuckets
 
@@ -42,7 +42,7 @@ conn_fewer line n c made made' vbs vbs' asking s grows fewer x = record {
   used = x.used;
   number = x.number;
   past = λ v y p owing. x.past v y p (fewer v y p owing);
-  own = λ a q v y p waits asks owing same. let k = x.own a q v y p waits asks (fewer v y p owing) same in (k.0, told_for_on n v y p (line.served n c) asking.answered made made' grows k.1);
+  own = λ a q v y p waits asks owing same. wait_for_on n asking.settings q.frame v y p (line.served n c) asking.answered made made' grows (x.own a q v y p waits asks (fewer v y p owing) same);
   unserved = x.unserved;
   upto = x.upto;
 }
@@ -102,8 +102,8 @@ conn_waits line n c made made' vbs vbs' asking asking' s s' grows fewer on x =
       own = λ a q v y p waits asks owing same. ⊎_elim
           (λ z. absurd (owing_some (vbs' v) y p owing (same ∙ z)))
           (λ k.
-          let t = x.own a q v y p k.0 (k.1 q asks) (fewer v y p owing) same in
-          (subst (λ settings. IsWaitOf settings q.frame v y p) (sym k.2) t.0, subst (λ m. IsToldIn n v y p (told_for (line.served n c) m made')) (sym k.4) (told_for_on n v y p (line.served n c) asking.answered made made' grows t.1))) (on.waits a waits);
+          subst (λ settings. IsWaitOf n settings q.frame v y p (told_for (line.served n c) asking'.answered made')) (sym k.2) (subst (λ m. IsWaitOf n asking.settings q.frame v y p (told_for (line.served n c) m made')) (sym k.4)
+          (wait_for_on n asking.settings q.frame v y p (line.served n c) asking.answered made made' grows (x.own a q v y p k.0 (k.1 q asks) (fewer v y p owing) same)))) (on.waits a waits);
       unserved = λ idle told. ⊎_elim
           (λ k. subst (λ m. told_for (line.served n c) m told ≡ told) (sym k.0) (x.unserved (k.1 idle) told))
           (λ more. told_later (line.served n c) asking.answered asking'.answered x.upto more told) on.answered;
@@ -275,7 +275,7 @@ module _ (w w' : PlainWorld) (r r' : Chronicle) (n c v : ℕ) (client : PlainCli
             used = old.used;
             number = old.number;
             past = λ q y p owing. ⊎_elim (λ o. old.past q y p o) (λ k. past_at m d other at k.0 y.waiter k.1) (was m q y p owing);
-            own = λ a q u y p waits asks owing same. ⊎_elim (λ o. let k = old.own a q u y p waits asks o same in (k.0, told_for_on m u y p (line.served m d) (r.clients_at m d).asking.answered r.made r'.made later.grows k.1)) (λ k. absurd (own_at m d other at k.0 a waits y.waiter k.1 (some_of (vb_of w' m u) y p owing) same)) (was m u y p owing);
+            own = λ a q u y p waits asks owing same. ⊎_elim (λ o. wait_for_on m (r.clients_at m d).asking.settings q.frame u y p (line.served m d) (r.clients_at m d).asking.answered r.made r'.made later.grows (old.own a q u y p waits asks o same)) (λ k. absurd (own_at m d other at k.0 a waits y.waiter k.1 (some_of (vb_of w' m u) y p owing) same)) (was m u y p owing);
             unserved = old.unserved;
             upto = old.upto;
           });

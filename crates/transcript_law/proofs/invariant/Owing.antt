@@ -1,7 +1,7 @@
 -- what waits at vBuckets under a number is of the question of the connection that awaits that number
 use Rattle.std.specs.Prelude.{◌==◌, if◌then◌else◌, ◌≡◌, ◌≢◌, ◌<◌, ◌≤◌, ◌+◌, ◌*◌, ◌^◌, ◌⊎◌}
 use Rattle.transcript_law.proofs.Words.{ℕ, true, false, List, ap, sym, ◌∙◌, subst, Option, Some, None, Ok, Pend, Plain, PlainSession, Frame, Write}
-use Rattle.client_session.specs.declared.session.{Awaited.{Awaited}, Settings.{Settings}}
+use Rattle.client_session.specs.{Serving.{deadline_of}, declared.session.{Awaited.{Awaited}, Settings.{Settings}}}
 use Rattle.durability.specs.declared.waiting.Waiting.{Waiting}
 use Rattle.mcbp_kv.specs.Requests.{request_of}
 use Rattle.mcbp_kv.specs.declared.durable.Durability.{Durability}
@@ -25,14 +25,6 @@ Fewer o o' = (x : Waiting) (p : Pend) → Owing o' x p → Owing o x p
 abbrev pub IsPast : PlainSession → ℕ → Type 0
 IsPast s k = s.who.base * 2 ^ 32 + s.used < k → k < (s.who.base + 1) * 2 ^ 32 → ⊥
 
--- what waits at the vBucket v is what this frame asked for
-pub record IsWaitOf (settings : Settings) (f : Frame) (v : ℕ) (x : Waiting) (p : Pend) : Type 0 where
-  pub at : f.vb_or_status ≡ v
-  pub write : Write
-  pub wish : Durability
-  pub asks : request_of settings.json f ≡ Ok (request.Write write (Some wish))
-  pub prepares : IsPrepareOf write x p
-
 -- durable changes that were told are told
 abbrev pub Grows : List OwnChange → List OwnChange → Type 0
 Grows made made' = (one : OwnChange) → is_durable one.change.act ≡ true → IsMadeIn one made → IsMadeIn one made'
@@ -48,17 +40,34 @@ later_same r r' last made = record { last = last; grows = λ one durable i. subs
 pub later_on : (r r1 r2 : Chronicle) → Later r r1 → Later r1 r2 → Later r r2
 later_on r r1 r2 a b = record { last = b.last ∙ a.last; grows = λ one durable i. b.grows one durable (a.grows one durable i) }
 
--- the prepare that waits so was told among these changes
-abbrev pub IsToldIn : ℕ → ℕ → Waiting → Pend → List OwnChange → Type 0
-IsToldIn n v x p told = PreparesIn n v x.seq x.key p.doc p.deleted told
+-- the prepare that waits so was told among these changes, at the level that is asked for, and until the time is over that is
+pub record IsToldIn (n v : ℕ) (wish : Durability) (x : Waiting) (p : Pend) (told : List OwnChange) : Type 0 where
+  pub named : PreparesIn n v x.seq x.key wish.level p.doc p.deleted told
+  pub due : x.deadline ≡ Some (deadline_of named.first.clock wish.timeout)
 
-pub told_on : (n v : ℕ) (x : Waiting) (p : Pend) (made made' : List OwnChange) → Grows made made' → IsToldIn n v x p made → IsToldIn n v x p made'
-told_on n v x p made made' grows t = record { first = t.first; among = grows t.first (ap is_durable t.act) t.among; node = t.node; vb = t.vb; seq = t.seq; key = t.key; level = t.level; act = t.act }
+told_on : (n v : ℕ) (wish : Durability) (x : Waiting) (p : Pend) (made made' : List OwnChange) → Grows made made' → IsToldIn n v wish x p made → IsToldIn n v wish x p made'
+told_on n v wish x p made made' grows t = record {
+  named = record { first = t.named.first; among = grows t.named.first (ap is_durable t.named.act) t.named.among; node = t.named.node; vb = t.named.vb; seq = t.named.seq; key = t.named.key; act = t.named.act };
+  due = t.due;
+}
+
+-- what waits at the vBucket v of the node n is what this frame asked for, and was told so
+pub record IsWaitOf (n : ℕ) (settings : Settings) (f : Frame) (v : ℕ) (x : Waiting) (p : Pend) (told : List OwnChange) : Type 0 where
+  pub at : f.vb_or_status ≡ v
+  pub write : Write
+  pub wish : Durability
+  pub asks : request_of settings.json f ≡ Ok (request.Write write (Some wish))
+  pub prepares : IsPrepareOf write x p
+  pub told_in : IsToldIn n v wish x p told
+
+wait_on : (n : ℕ) (settings : Settings) (f : Frame) (v : ℕ) (x : Waiting) (p : Pend) (made made' : List OwnChange) → Grows made made' → IsWaitOf n settings f v x p made → IsWaitOf n settings f v x p made'
+wait_on n settings f v x p made made' grows k = record { at = k.at; write = k.write; wish = k.wish; asks = k.asks; prepares = k.prepares; told_in = told_on n v k.wish x p made made' grows k.told_in }
 
 -- also among those that are taken for the question's
-pub told_for_on : (n v : ℕ) (x : Waiting) (p : Pend) (o : Option (ℕ × List OwnChange)) (answered : ℕ) (made made' : List OwnChange) → Grows made made' → IsToldIn n v x p (told_for o answered made) → IsToldIn n v x p (told_for o answered made')
-told_for_on n v x p None answered made made' grows t = told_on n v x p made made' grows t
-told_for_on n v x p (Some (k, told)) answered made made' grows t = elim (k == answered) as (λ b. IsToldIn n v x p (if b then told else made) → IsToldIn n v x p (if b then told else made')) [ true ↦ (λ u. u) | false ↦ told_on n v x p made made' grows ] t
+pub wait_for_on : (n : ℕ) (settings : Settings) (f : Frame) (v : ℕ) (x : Waiting) (p : Pend) (o : Option (ℕ × List OwnChange)) (answered : ℕ) (made made' : List OwnChange) → Grows made made' → IsWaitOf n settings f v x p (told_for o answered made) → IsWaitOf n settings f v x p (told_for o answered made')
+wait_for_on n settings f v x p None answered made made' grows t = wait_on n settings f v x p made made' grows t
+wait_for_on n settings f v x p (Some (k, told)) answered made made' grows t =
+    elim (k == answered) as (λ b. IsWaitOf n settings f v x p (if b then told else made) → IsWaitOf n settings f v x p (if b then told else made')) [ true ↦ (λ u. u) | false ↦ wait_on n settings f v x p made made' grows ] t
 
 -- none is awaited, or what is in hand
 abbrev pub IsIdle : PlainSession → Type 0
@@ -70,7 +79,7 @@ pub record ConnOwed (line : LastLine) (n c : ℕ) (made : List OwnChange) (vbs :
   pub used : s.used < 2 ^ 32
   pub number : (a : Awaited) → s.awaited ≡ Some a → (a.waiter ≡ 0) ⊎ (a.waiter ≡ s.who.base * 2 ^ 32 + s.used)
   pub past : (v : ℕ) (x : Waiting) (p : Pend) → Owing (vbs v) x p → IsPast s x.waiter
-  pub own : (a : Awaited) (q : Question) (v : ℕ) (x : Waiting) (p : Pend) → s.awaited ≡ Some a → question_of asking ≡ Some q → Owing (vbs v) x p → x.waiter ≡ a.waiter → IsWaitOf asking.settings q.frame v x p × IsToldIn n v x p (told_for (line.served n c) asking.answered made)
+  pub own : (a : Awaited) (q : Question) (v : ℕ) (x : Waiting) (p : Pend) → s.awaited ≡ Some a → question_of asking ≡ Some q → Owing (vbs v) x p → x.waiter ≡ a.waiter → IsWaitOf n asking.settings q.frame v x p (told_for (line.served n c) asking.answered made)
   pub unserved : IsIdle s → (told : List OwnChange) → told_for (line.served n c) asking.answered told ≡ told
   pub upto : (k : ℕ) (told : List OwnChange) → line.served n c ≡ Some (k, told) → k ≤ asking.answered
 

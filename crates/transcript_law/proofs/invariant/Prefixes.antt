@@ -20,7 +20,7 @@ use Rattle.transcript_law.proofs.{invariant.Tables.{if_known}, invariant.Trees.{
 use Rattle.{branch_model.specs.Snapshots.{Follows}, cluster_model.specs.Clusters.{IsBranch}}
 use Rattle.{transcript_law.specs.Lawfulness.{IsWriter}, transcript_law.specs.Prefixes.{world_after}}
 use Rattle.{transcript_law.specs.Prefixes.{known_after, ComesFrom, IsActiveOn}}
-use Rattle.transcript_law.specs.LawfulAnswers.{AllDurable}
+use Rattle.transcript_law.specs.LawfulAnswers.{IsStill}
 use Rattle.transcript_law.proofs.{disks.Disks.{saved_so}, invariant.Agreement.{active_counts}, invariant.Majorities.{most_have_it}}
 use Rattle.transcript_law.proofs.indexers.{Beside.{numbered}, Closing.{begins_of}}
 use Rattle.vbucket.proofs.Committing.{rests}
@@ -164,7 +164,7 @@ module _ (w : PlainWorld) (r : Chronicle) (c : Cluster) (a : AgreesIn idle w r c
   }
 
 -- after more lines
-followed_from : (w : PlainWorld) (r : Chronicle) (script : List ScriptLine) → ScriptFits script → IsRanged w → ConnsAre w r.conn_at → ServesOpen r.last r.conn_at → AreAtRest w → AllDurable r.made → Agrees w r → Entered r
+followed_from : (w : PlainWorld) (r : Chronicle) (script : List ScriptLine) → ScriptFits script → IsRanged w → ConnsAre w r.conn_at → ServesOpen r.last r.conn_at → AreAtRest w → IsStill r → Agrees w r → Entered r
     → AreFollowed (known_after r script (groups_from w script)) (world_after w script)
 unfolding world_step
 followed_from w r [] fits ranged are serves rest calm a entered = are_followed w r a.0 a.1 entered rest ranged
@@ -175,9 +175,9 @@ followed_from w r (line ∷ lines) fits ranged are serves rest calm a entered =
     let r' : Chronicle = after_group r0 line.verb outcome.1.events outcome.1.answer in let now = group_agrees w r line.line line.verb fit ranged are serves calm a in
     let entries = row.entered r0 (after_lines (ahead r0 line.verb outcome.1.answer) outcome.1.events) (lines_entered (ahead r0 line.verb outcome.1.answer) outcome.1.events (ahead_entered r0 line.verb outcome.1.answer (record { disks = entered.disks; logs = entered.logs; streams = entered.streams })) went.0) in
     followed_from (with_branches outcome.1.events outcome.0) r' lines (All-tail (λ (x : ScriptLine). VerbFits x.verb) line lines fits) (row.ranged fit ranged) (line_heard r.conn_at w line.line are line.verb fit).1 (group_serves r line.line line.verb outcome.1.events outcome.1.answer)
-    (line_rests w r outcome (row.rests r ranged a) a rest (with_branches outcome.1.events outcome.0) r' refl now) tt now
+    (line_rests w r outcome (row.rests r ranged a) a rest (with_branches outcome.1.events outcome.0) r' refl now) (tt, refl) now
     (record { disks = entries.disks; logs = entries.logs; streams = entries.streams })
 
 -- after a script
 pub branches_followed : (script : List ScriptLine) → ScriptFits script → AreFollowed (known_of script) (world_of script)
-branches_followed script fits = followed_from empty_world empty_chronicle script fits start_ranged start_conns start_serves (start_rests empty_world (λ n. refl)) tt start start_entered
+branches_followed script fits = followed_from empty_world empty_chronicle script fits start_ranged start_conns start_serves (start_rests empty_world (λ n. refl)) (tt, refl) start start_entered

@@ -1,9 +1,10 @@
 -- what a node does for the commands of its clients, for an operator and for its dials opens no stream
 use Rattle.std.specs.Prelude.{◌≡◌, ◌==◌, if◌then◌else◌}
-use Rattle.transcript_law.proofs.Words.{ℕ, Bool, true, false, List, refl, ap, sym, ◌∙◌, subst, Option, Some, None, Result, Ok, Err, is_some, nat_le, Frame, RESPONSE, Status, KvRequest, Plain, VbCall, VbReply, States}
+use Rattle.transcript_law.proofs.Words.{ℕ, Bool, true, false, List, refl, ap, sym, ◌∙◌, subst, inl, inr, Option, Some, None, Result, Ok, Err, is_some, nat_le, Frame, RESPONSE, Status, KvRequest, Plain, VbCall, VbReply, States}
 use Rattle.transcript_law.proofs.Words.{after, after_job, bind_job, Done, Job, Ended, frame_handled, request_handled, plain_step, admin_call, admin_replied, admin_result, AdminCall, AdminResult, dial_bytes, promoted, promote_refusal, is_role, role_result, turn_row, in_role, ending_reply, refusal_reply, VbAnswer, Role}
 use Rattle.transcript_law.proofs.{lines.Calm.{AnyAsk}, invariant.Unopened.{NoNew, OpensNone, after_job_new, after_new, either, found_at_own, led_none, none_new, step_new}}
 use Rattle.transcript_law.specs.Feeding.{Has, HasIn}
+use Rattle.dcp_consumer.specs.declared.handshake.Dialed.{Dialed}
 use Rattle.client_session.specs.Serving.{MOST_DURABLE, Served, deadline_of, durable_called, frame_answered, handed, is_dcp, next_waiter, refused}
 use Rattle.mcbp_kv.specs.Requests.{request_of}
 use Rattle.mcbp_kv.specs.declared.request.KvRequest.TheVariants as request
@@ -96,13 +97,14 @@ flush_quiet n v p states shelves = after_job_new OpensNone same_call AnyAsk (λ 
 
 -- ---- dials
 
-follows_quiet : (vb v : ℕ) (c : VbCall) → FollowsAt vb v c → OpensNone v c
-follows_quiet vb v (call.OpenStream id ask sync) f = f.1
-follows_quiet vb v other f = tt
+follows_quiet : (d : Dialed) (v : ℕ) (c : VbCall) → FollowsAt d v c → OpensNone v c
+follows_quiet d v (call.OpenStream id ask sync) (own, inl f) = f
+follows_quiet d v (call.OpenStream id ask sync) (own, inr f) = f.1
+follows_quiet d v other f = tt
 
 pub fed_quiet : (piece : List ℕ) (dial : PlainDial) (states : States) (shelves : Shelves) → NoNew states (after_job (dial_bytes piece dial) states shelves).0.0
 fed_quiet piece dial states shelves =
-    after_job_new (FollowsAt dial.consumer.dialed.vb) (follows_quiet dial.consumer.dialed.vb) (RollsAt dial.consumer.dialed.vb) (KeepsLink (untold dial)) (dial_bytes piece dial) states shelves (bytes_follow piece dial)
+    after_job_new (FollowsAt dial.consumer.dialed) (follows_quiet dial.consumer.dialed) (RollsAt dial.consumer.dialed) (KeepsLink (untold dial)) (dial_bytes piece dial) states shelves (bytes_follow piece dial)
 
 pub due_quiet : (dial : PlainDial) (states : States) → NoNew states (after (dial_due dial) states).0
 unfolding due_requested

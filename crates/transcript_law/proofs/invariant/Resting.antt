@@ -1,9 +1,9 @@
 -- what rests stays, whatever else happens
 use Rattle.std.specs.Prelude.{◌≡◌, ◌<◌}
-use Rattle.transcript_law.proofs.Words.{ℕ, true, List, refl, sym, ap, ◌∙◌, subst, Option, Some, None, Member, Cluster, Chronicle, PlainLink, PlainWorld, producer_node, consumer_node}
+use Rattle.transcript_law.proofs.Words.{ℕ, Bool, true, false, List, refl, sym, ap, ◌∙◌, subst, Option, Some, None, Member, Cluster, Chronicle, PlainLink, PlainWorld, producer_node, consumer_node}
 use Rattle.{branch_model.specs.Journals.{log_of, place_of}, cluster_model.specs.Clusters.{Disk}, vb_calls.specs.Shelves.{Shelf}, transcript_law.specs.Chronicles.{DiskKnown, resting}}
-use Rattle.transcript_law.proofs.{invariant.Agreement.{AwayAt, BookBy, BookAgrees, EndsUp, IsLink, NodeKnown, Power, PowerIsIf, RestsIn, clock_of, is_down, node_known, power_of, shelf_of, vb_of, vb_row, VbRow}, invariant.Carrying.{SameArms, SameEnds, SameOffs, SamePowers, off_of, same_arms}, invariant.Seats.{seat}}
-use Rattle.{disk_journals.specs.Books.{Book}, node_world.specs.Worlds.{is_off}, transcript_law.proofs.{disks.Disks.{power_in}, Words.{PlainNode, is_some}}}
+use Rattle.transcript_law.proofs.{invariant.Agreement.{AwayAt, BookBy, BookAgrees, EndsUp, IsLink, NodeKnown, Power, PowerIsIf, RestsIn, clock_of, is_down, is_running, node_known, power_of, shelf_of, vb_of, vb_row, VbRow}, invariant.Carrying.{SameArms, SameEnds, SameOffs, SamePowers, off_of, same_arms}, invariant.Seats.{seat}}
+use Rattle.{disk_journals.specs.Books.{Book}, node_world.specs.Worlds.{is_off}, transcript_law.proofs.{disks.Disks.{power_in}, Words.{PlainNode, is_some, not}}}
 
 -- a place at which no vBucket is, and at which nothing changed
 pub record StillAt (w w' : PlainWorld) (r r' : Chronicle) (c c' : Cluster) (n v : ℕ) : Type 0 where
@@ -25,6 +25,12 @@ down_by None None e = refl
 down_by None (Some q) e = let z : Some q.off ≡ None = e in cc
 down_by (Some p) None e = let z : None ≡ Some p.off = e in cc
 down_by (Some p) (Some q) e = let z : Some q.off ≡ Some p.off = e in let same : q.off ≡ p.off = cc in ap is_some same
+
+pub running_by : (p q : Option Power) → off_of q ≡ off_of p → is_running q ≡ is_running p
+running_by None None e = refl
+running_by None (Some q) e = let z : Some q.off ≡ None = e in cc
+running_by (Some p) None e = let z : None ≡ Some p.off = e in cc
+running_by (Some p) (Some q) e = let z : Some q.off ≡ Some p.off = e in let same : q.off ≡ p.off = cc in ap (λ o. not (is_some o)) same
 
 -- arms and all that they were
 pub offs_same : (w w' : PlainWorld) → SamePowers w w' → SameOffs w w'
@@ -81,12 +87,26 @@ pub off_as_power : (o : Option PlainNode) → is_down (power_in o) ≡ is_off o
 off_as_power None = refl
 off_as_power (Some node) = refl
 
+-- and one that is made and not off runs
+pub runs_as_power : (o : Option PlainNode) → is_some o ≡ true → is_off o ≡ false → is_running (power_in o) ≡ true
+runs_as_power None e off = cc
+runs_as_power (Some node) e off = ap not off
+
+-- one that runs is not down
+pub not_down : (power : Option Power) → is_running power ≡ true → is_down power ≡ false
+not_down None e = refl
+not_down (Some power) e = by (is_some power.off) e
+  where
+    by : (b : Bool) → not b ≡ true → b ≡ false
+    by true e = cc
+    by false e = refl
+
 -- a link between the same ends
 pub ends_off : (w w' : PlainWorld) (x y : PlainLink) → SameOffs w w' → SameEnds x y → EndsUp w x → EndsUp w' y
 ends_off w w' x y offs same e =
     let p : producer_node y ≡ producer_node x = ap (λ d. d.node) same.desk in let q : consumer_node y ≡ consumer_node x = ap (λ d. d.node) same.dialed in
     record {
-      producer = ap (λ n. is_down (power_of w' n)) p ∙ down_same w w' offs (producer_node x) ∙ e.producer;
+      producer = ap (λ n. is_running (power_of w' n)) p ∙ running_by (power_of w (producer_node x)) (power_of w' (producer_node x)) (offs (producer_node x)) ∙ e.producer;
       consumer = ap (λ n. is_down (power_of w' n)) q ∙ down_same w w' offs (consumer_node x) ∙ e.consumer;
       number = subst (λ k. k < 1000) (sym (ap (λ d. d.link) same.dialed)) e.number;
     }

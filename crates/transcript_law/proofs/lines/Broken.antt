@@ -17,9 +17,9 @@ use Rattle.node_core.specs.Clients.{Handling, PlainClient, client_fed, client_po
 use Rattle.transcript_law.proofs.indexers.{Questions.{all_frames, more_asks}, Turns.{fed_goes}}
 use Rattle.std.proofs.{Common.{drop-drop}, Math.Seq.{drop-append_seam}, lemmas.List.Sums.{sum_by-append}}
 use Rattle.transcript_law.proofs.invariant.{Agreement.{Agrees, ClientAgrees}, ClientsTold.{AskingIs}, Ranged.{IsRanged, NodeRangedIf}}
-use Rattle.transcript_law.proofs.verbs.{NodeLines.{on_node_by}, Tellings.{Are, are_cons, are_more, same_place}}
+use Rattle.transcript_law.proofs.verbs.NodeLines.{on_node_by}
 use Rattle.transcript_law.proofs.lines.SessionLines.{AreTo, IsKept, LeftBy, fed_at}
-use Rattle.transcript_law.specs.{Breaks.{BreaksOff, break_told, closes_alone, is_closing}, ClientStreams.{with_sent_bytes}, Feeding.{client_in}, Questions.{behind_frames}, StreamsTold.{Asking}}
+use Rattle.transcript_law.specs.{Breaks.{BreaksOff, break_told, is_closing}, ClientStreams.{with_sent_bytes}, Feeding.{client_in}, Questions.{behind_frames}, StreamsTold.{Asking}}
 use Rattle.vb_calls.proofs.Conduct.{after_always}
 use Rattle.vb_calls.specs.Programs.{AnyCall}
 use Rattle.vb_calls.specs.declared.calls.Resolved.{Resolved}
@@ -137,13 +137,6 @@ none_closes n c (Event.Reply m d bytes ∷ lines) l = none_closes n c lines l.1
 none_closes n c (Event.Asked (StreamName.Client m d) k v ask high log said ∷ lines) l = none_closes n c lines l.1
 none_closes n c (other ∷ lines) l = absurd l.0
 
-alone_in : (n c : ℕ) (lines : List Event) → AreTo n c lines → Are (closes_alone n c) lines
-alone_in n c [] l = refl
-alone_in n c (Event.Changed m v uuid change ∷ lines) l = alone_in n c lines l.1
-alone_in n c (Event.Reply m d bytes ∷ lines) l = alone_in n c lines l.1
-alone_in n c (Event.Asked (StreamName.Client m d) k v ask high log said ∷ lines) l = alone_in n c lines l.1
-alone_in n c (other ∷ lines) l = absurd l.0
-
 module _ (n c clock : ℕ) (piece : List ℕ) (client : PlainClient) (states : States) (kept : IsKept n c (Some client)) (k : Asking) (is : left_of (client.session.reader ++ piece) ≡ behind_frames k.bytes) where
   abbrev x : States × Handling
   x = after (client_fed clock piece client) states
@@ -158,7 +151,6 @@ module _ (n c clock : ℕ) (piece : List ℕ) (client : PlainClient) (states : S
         stands = b.stands;
         front = b.front;
         last = b.last ∙ ap (λ lines. b.front ++ lines) (told_so n c (faulty_head b.fault (behind_frames k.bytes)));
-        alone = subst (Are (closes_alone n c)) (sym left.2.1) (are_more (closes_alone n c) left.2.0 (Event.Closed n c ∷ []) (alone_in n c left.2.0 left.2.2) (are_cons (closes_alone n c) (Event.Closed n c) [] (same_place n c) refl));
       }
 
 -- ---- the line

@@ -5,7 +5,7 @@ use Rattle.transcript_law.proofs.Words.{Done, peer_of, dial_of, moved_len, up_at
 use Rattle.dcp_consumer.specs.declared.handshake.Dialed.{Dialed}
 use Rattle.node_core.specs.Flushing.{FlushResult}
 use Rattle.node_core.specs.Peers.{PeerResult, PlainPeer, peer_answered, peer_frames, peer_heard}
-use Rattle.node_core.specs.Dials.{DialResult, PlainDial, acknowledged_line, adopt_result, again_result, bytes_counted, with_last_line, requested_once_more, bytes_taken, call_made, dial_due, dial_bytes, due_requested, due_met, due_of_reply, with_end_line, fault_met, follower_ask, frame_taken, frames_taken, go_on_with, got_line, granted_with, is_broken, is_done, is_over, message_result, over_for, passive_made, rest_met as dial_met, roll_back, rolled_back, saved_of_reply, step_made, taken_as, untold, with_consumer}
+use Rattle.node_core.specs.Dials.{DialResult, PlainDial, acknowledged_line, adopt_result, again_result, bytes_counted, with_last_line, requested_once_more, bytes_taken, call_made, dial_due, dial_bytes, due_requested, due_met, due_of_reply, with_end_line, fault_met, follower_ask, frame_taken, frames_taken, go_on_with, got_line, granted_with, heir_told, is_broken, is_done, is_done_answer, is_over, is_pending, message_result, noted_for, own_result, owned, pended, role_line, state_made, state_met, with_line, over_for, passive_made, rest_met as dial_met, roll_back, rolled_back, saved_of_reply, step_made, taken_as, untold, with_consumer}
 use Rattle.node_core.specs.Dials.{with_left as with_heard}
 use Rattle.dcp_consumer.specs.Machine.{consumer_step, is_streaming, may_acknowledge, over_why}
 use Rattle.dcp_consumer.specs.Counting.{bytes_acknowledged, counted_bytes}
@@ -20,7 +20,15 @@ use Rattle.vb_calls.specs.declared.calls.Resolved.{Resolved}
 use Rattle.vb_calls.specs.declared.calls.VbAnswer.TheVariants as answer
 use Rattle.vb_calls.specs.declared.journals.Rolled.{Rolled}
 use Rattle.vb_calls.specs.declared.journals.Rolled.TheVariants as rolled
-use Rattle.vb_calls.specs.Flushes.{roll_job}
+use Rattle.takeover.specs.declared.take_over.TakeStep.{TakeStep}
+use Rattle.takeover.specs.declared.take_over.TakeStep.TheVariants.{Pend, Own}
+use Rattle.vb_types.specs.declared.change.Change.{Change}
+use Rattle.vb_types.specs.declared.role.Role.{Role}
+use Rattle.vb_types.specs.declared.role.Role.TheVariants as role
+use Rattle.vb_calls.specs.declared.calls.VbCall.TheVariants as call
+use Rattle.vb_calls.specs.declared.journals.Wrote.{Wrote}
+use Rattle.vb_calls.specs.declared.journals.Wrote.TheVariants as wrote
+use Rattle.vb_calls.specs.Flushes.{role_job, roll_job}
 use Rattle.vb_calls.specs.Jobs.{AlwaysJob, Job, Ended, Call as AsksCall, Request, each_job, lift}
 use Rattle.vb_calls.specs.Programs.{Always, AnyCall, AnyReply}
 use Rattle.vb_calls.specs.Shelves.{Ask}
@@ -179,6 +187,39 @@ any_job (Ended a) = tt
 any_job (AsksCall v call next) = (tt, λ reply any. any_job (next reply))
 any_job (Request v ask next) = (tt, λ got. any_job (next got))
 
+-- what a dial does at a state keeps what its lines, its answer and its end keep
+module _ (P : DialResult → Type 0)
+    (role_keeps : (s : DialResult) (new : Role) → P s → P (with_line s (role_line s.dial.consumer.dialed new)))
+    (changes_keep : (s : DialResult) (uuid : ℕ) (changes : List Change) → P s → P (record s { events = s.events ++ map (Event.Changed s.dial.consumer.dialed.node s.dial.consumer.dialed.vb uuid) changes }))
+    (answer_keeps : (s : DialResult) (opaque : ℕ) → P s → P (state_met opaque s))
+    (protocol_keeps : (s : DialResult) → P s → P (over_for EndReason.Protocol s)) (disk_keeps : (s : DialResult) → P s → P (over_for EndReason.Disk s)) where
+  pend_by : (opaque : ℕ) (s : DialResult) → P s → (before b : Bool) → P (if b then state_met opaque (if before then s else with_line s (role_line s.dial.consumer.dialed role.Pending)) else over_for EndReason.Protocol s)
+  pend_by opaque s p true true = answer_keeps s opaque p
+  pend_by opaque s p false true = answer_keeps (with_line s (role_line s.dial.consumer.dialed role.Pending)) opaque (role_keeps s role.Pending p)
+  pend_by opaque s p before false = protocol_keeps s p
+
+  noted_by : (came : Wrote) (s : DialResult) → P s → P (noted_for came s)
+  noted_by wrote.Stood s p = p
+  noted_by wrote.NotAsked s p = p
+  noted_by wrote.Closed s p = disk_keeps s p
+  noted_by wrote.DiskFailed s p = disk_keeps s p
+
+  own_by : (opaque : ℕ) (s : DialResult) (reply : VbReply) (came : Wrote) → P s → (b : Bool) → P (if b then noted_for came (state_met opaque (heir_told reply s)) else over_for EndReason.Protocol s)
+  own_by opaque s reply came p true =
+      noted_by came (state_met opaque (heir_told reply s)) (answer_keeps (heir_told reply s) opaque (changes_keep (with_line s (role_line s.dial.consumer.dialed role.Active)) reply.branch reply.changes (role_keeps s role.Active p)))
+  own_by opaque s reply came p false = protocol_keeps s p
+
+  own_is : (opaque : ℕ) (s : DialResult) (reply : Option VbReply) (came : Wrote) → P s → P (own_result opaque s reply came)
+  own_is opaque s None came p = protocol_keeps s p
+  own_is opaque s (Some reply) came p = own_by opaque s reply came p (is_done_answer reply.answer)
+
+  pub state_always : (take : TakeStep) (opaque : ℕ) (s : DialResult) → P s → AlwaysJob AnyReply AnyCall AnyAsk P (state_made take opaque s)
+  unfolding pended owned
+  state_always Pend opaque s p = (tt, λ shown any. (tt, λ reply any. pend_by opaque s p (is_pending shown) (is_done reply)))
+  state_always Own opaque s p =
+      always_bind_job AnyReply AnyCall AnyAsk (λ (made : Option VbReply × Wrote). Unit {0}) P (role_job s.dial.consumer.dialed.vb call.Own) (λ made. Ended (own_result opaque s made.0 made.1))
+      (any_job (role_job s.dial.consumer.dialed.vb call.Own)) (λ made any. own_is opaque s made.0 made.1 p)
+
 -- what it acknowledges, where no line of that matters
 module _ (P : List Event → Type 0) (acks : (lines : List Event) (d : Dialed) (seq saved : ℕ) → P lines → P (lines ++ acknowledged_line d seq saved ∷ [])) where
   pub due_keeps : (s : DialResult) → P s.events → Always AnyCall (λ (t : DialResult). P t.events) (due_requested s)
@@ -237,6 +278,8 @@ step_calm : (t : ConsumerStep) (s : DialResult) → Dial s → Takes (step_made 
 step_calm (step.Adopt log) s c = always_lift AnyReply AnyCall AnyAsk Dial (go_on_with log s) (adopted_calm log s c)
 step_calm (step.Roll point) s c = back_calm point s c
 step_calm (step.Passive p) s c = always_lift AnyReply AnyCall AnyAsk Dial (passive_made p s) (passive_calm p s c)
+step_calm (step.State take opaque) s c = state_always Dial (λ s new c. still_more s.events _ c refl)
+    (λ s uuid changes c. let d = s.dial.consumer.dialed in still_more s.events _ c (calm_still (map (Event.Changed d.node d.vb uuid) changes) (calm_map (Event.Changed d.node d.vb uuid) changes (λ x. refl)))) (λ s opaque c. c) (λ s c. c) (λ s c. c) take opaque s c
 step_calm other s c = c
 
 taken_calm : (f : Frame) (s : DialResult) → Dial s → Takes (frame_taken f s)

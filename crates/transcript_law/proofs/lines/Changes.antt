@@ -8,14 +8,14 @@ use Rattle.transcript_law.specs.{ClientFrames.{message_of, setup_after}, ClientS
 use Rattle.client_session.specs.{Serving.{is_dcp}, declared.session.Settings.{Settings}}
 use Rattle.mcbp_kv.specs.Requests.{request_of}
 use Rattle.mcbp_kv.specs.declared.request.KvRequest.TheVariants as request
-use Rattle.transcript_law.specs.LawfulAnswers.{serving, AllDurable, AnswersFault, FitsBy, FitsFrame, FitsGet, FitsRequest, IsCommitted, IsMade, IsRefused, IsRefusedDurably, LacksSeqnos, LawfulReply}
+use Rattle.transcript_law.specs.LawfulAnswers.{serving, AllDurable, FitsBy, FitsFrame, FitsGet, FitsRequest, IsCommitted, IsMade, IsRefused, IsRefusedDurably, IsUnsure, LacksSeqnos, LawfulReply, IsStill}
 use Rattle.transcript_law.specs.LawfulClients.{LawfulClientAsk, RefusesBy}
 use Rattle.transcript_law.specs.LawfulMessages.{FitsMessage, Moment, moment_of}
-use Rattle.transcript_law.specs.LinesTold.{after_client_line, made_line, timed}
+use Rattle.transcript_law.specs.LinesTold.{after_client_line, changed_line, made_line, timed}
 use Rattle.transcript_law.specs.StreamLaws.{GrantsAs, LawfulSaid, LawfulVerdict}
 use Rattle.transcript_law.specs.StreamsTold.{ClientsKnown}
 use Rattle.vb_types.specs.declared.stream.{AskAnswer.{AskAnswer}, StreamAsk.{StreamAsk}}
-use Rattle.transcript_law.specs.{Lawfulness.{Fulfils, IsHeldIfCommitted, IsMadeAt, IsUp, LawfulBranch, fork_in, newest_of}, OwnChanges.{IsNextChange}}
+use Rattle.transcript_law.specs.{Lawfulness.{Fulfils, IsHeldIfCommitted, IsMadeAt, IsPrepareAsked, IsUp, LawfulBranch, fork_in, newest_of}, OwnChanges.{IsNextChange}}
 use Rattle.vb_types.specs.declared.role.Role.TheVariants.{Active}
 use Rattle.transcript_law.specs.LinesTold.{LastLine, OwnChange, told_for}
 
@@ -35,9 +35,11 @@ pub record Reads (q r : Chronicle) : Type 0 where
   pub made : r.made ≡ q.made
   pub clock : r.clock_at ≡ q.clock_at
   pub ticks : r.ticks ≡ q.ticks
+  pub conns : r.conn_at ≡ q.conn_at
+  pub changed : r.changed ≡ q.changed
 
 pub reads_same : (r : Chronicle) → Reads r r
-reads_same r = record { last = refl; tree = refl; branch = refl; held = refl; writer = refl; role = refl; counts = refl; log = refl; snap = refl; saved = λ n v. refl; clients = refl; made = refl; clock = refl; ticks = refl }
+reads_same r = record { last = refl; tree = refl; branch = refl; held = refl; writer = refl; role = refl; counts = refl; log = refl; snap = refl; saved = λ n v. refl; clients = refl; made = refl; clock = refl; ticks = refl; conns = refl; changed = refl }
 
 -- it reads of a disk what counts as saved alone
 pub saved_at : (disks : ℕ → ℕ → DiskKnown) (n v : ℕ) (d : DiskKnown) → d.saved ≡ (disks n v).saved → (m q : ℕ) → (with_at disks n v d m q).saved ≡ (disks m q).saved
@@ -47,11 +49,11 @@ saved_at disks n v d same m q = ⊎_elim
     (places n v m q)
 
 pub disk_reads : (r : Chronicle) (n v : ℕ) (d : DiskKnown) → d.saved ≡ (r.disk_at n v).saved → Reads r (with_disk r n v d)
-disk_reads r n v d same = record { last = refl; tree = refl; branch = refl; held = refl; writer = refl; role = refl; counts = refl; log = refl; snap = refl; saved = saved_at r.disk_at n v d same; clients = refl; made = refl; clock = refl; ticks = refl }
+disk_reads r n v d same = record { last = refl; tree = refl; branch = refl; held = refl; writer = refl; role = refl; counts = refl; log = refl; snap = refl; saved = saved_at r.disk_at n v d same; clients = refl; made = refl; clock = refl; ticks = refl; conns = refl; changed = refl }
 
 -- and nothing of device calls
 pub calls_read : {q r : Chronicle} (calls n : ℕ) → Reads q r → Reads q (after_calls calls n r)
-calls_read calls n s = record { last = s.last; tree = s.tree; branch = s.branch; held = s.held; writer = s.writer; role = s.role; counts = s.counts; log = s.log; snap = s.snap; saved = s.saved; clients = s.clients; made = s.made; clock = s.clock; ticks = s.ticks }
+calls_read calls n s = record { last = s.last; tree = s.tree; branch = s.branch; held = s.held; writer = s.writer; role = s.role; counts = s.counts; log = s.log; snap = s.snap; saved = s.saved; clients = s.clients; made = s.made; clock = s.clock; ticks = s.ticks; conns = s.conns; changed = s.changed }
 
 pub reads_change : (q r : Chronicle) (n v uuid : ℕ) (change : Change) → Reads q r → Reads (after_change q n v uuid change) (after_change r n v uuid change)
 reads_change q r n v uuid change s = record {
@@ -66,9 +68,11 @@ reads_change q r n v uuid change s = record {
   snap = ap (λ (t : ℕ → ℕ → Option (ℕ × ℕ)). with_at t n v (Some (change.seq, change.seq))) s.snap;
   saved = s.saved;
   clients = s.clients;
-  made = ap (λ made. record { node = n; vb = v; branch = uuid; change = change } ∷ made) s.made;
+  made = λ i. record { node = n; vb = v; branch = uuid; change = change; clock = s.clock i n } ∷ s.made i;
   clock = s.clock;
   ticks = s.ticks;
+  conns = s.conns;
+  changed = refl;
 }
 
 pub change_read : (q r : Chronicle) (n v uuid : ℕ) (change : Change) → Reads q r → LawfulChange r n v uuid change → LawfulChange q n v uuid change
@@ -78,6 +82,7 @@ change_read q r n v uuid change s l = record {
   above_branch = subst (λ t. last_seq 0 (hist t uuid) < change.seq) s.tree l.above_branch;
   above_forks = subst (ForksBelow uuid change.seq) s.tree l.above_forks;
   made = subst (λ (h : ℕ → ℕ → List Change). IsNextChange (h n v) change) s.held l.made;
+  asked = λ level doc deleted e. subst (λ (k : ClientsKnown). IsPrepareAsked k q.changed n v change.key level doc deleted) s.clients (subst (λ b. IsPrepareAsked r.clients_at b n v change.key level doc deleted) s.changed (l.asked level doc deleted e));
   fulfils = subst (λ (h : ℕ → ℕ → List Change). Fulfils (image_of (h n v)) change) s.held l.fulfils;
   backed = subst (λ (f : ℕ → ℕ → CountsKnown). IsHeldIfCommitted (f n v) (q.disk_at n v).saved (image_of (q.held n v)) change) s.counts
       (subst (λ k. IsHeldIfCommitted (r.counts_at n v) k (image_of (q.held n v)) change) (s.saved n v) (subst (λ (h : ℕ → ℕ → List Change). IsHeldIfCommitted (r.counts_at n v) (r.disk_at n v).saved (image_of (h n v)) change) s.held l.backed));
@@ -106,6 +111,8 @@ reads_client q r line s = record {
   made = ap (λ made. made_line made line) s.made;
   clock = s.clock;
   ticks = s.ticks;
+  conns = s.conns;
+  changed = ap (λ b. changed_line b line) s.changed;
 }
 
 -- an answer to a request
@@ -121,7 +128,10 @@ pub asked_read : (q r : Chronicle) (n c m v : ℕ) (ask : StreamAsk) (high : ℕ
     → LawfulClientAsk r (r.clients_at n c) n c m v ask high log said behind → LawfulClientAsk q (q.clients_at n c) n c m v ask high log said behind
 asked_read q r n c m v ask high log said behind s l =
     let x : LawfulClientAsk r (q.clients_at n c) n c m v ask high log said behind = subst (λ (k : ClientsKnown). LawfulClientAsk r (k n c) n c m v ask high log said behind) s.clients l in
-    record { own_node = x.own_node; request = x.request; next = x.next; numbers = x.numbers; vb = x.vb; answered = said_read q r n v ask high log said s x.answered; own = x.own; reason = subst (λ (f : ℕ → ℕ → Option (Option Role)). RefusesBy (setup_after (q.clients_at n c).setup x.request.before) (f n v) (unclosed x.request.before (q.clients_at n c).streams v) ask said) s.role x.reason; frame = x.frame }
+    record { own_node = x.own_node; request = x.request; next = x.next; numbers = x.numbers; vb = x.vb; answered = said_read q r n v ask high log said s x.answered; own = x.own; reason = subst (λ (f : ℕ → ℕ → Option (Option Role)). RefusesBy (setup_after (q.clients_at n c).setup x.request.before) (q.clients_at n c).opened (f n v) (unclosed x.request.before (q.clients_at n c).streams v) ask said) s.role x.reason; frame = x.frame }
+
+still_read : (q r : Chronicle) → Reads q r → IsStill r → IsStill q
+still_read q r s still = (subst AllDurable s.made still.0, sym s.changed ∙ still.1)
 
 -- what a client is sent reads what is known of its vBucket, and the changes of the group
 pub reply_read : (q r : Chronicle) (n c : ℕ) (bytes : List ℕ) (behind : List Event) → Reads q r → LawfulReply r n c (r.clients_at n c).asking bytes behind → LawfulReply q n c (q.clients_at n c).asking bytes behind
@@ -138,9 +148,9 @@ reply_read q r n c bytes behind s l = ⊎_elim
           (frame_read (serving q n c (q.clients_at n c).asking) x.question.frame x.answer (moment_of (r.clients_at n c) (q.clients_at n c).asking x.question) (q.clients_at n c).asking.settings
           (subst (λ served. FitsFrame served r n (moment_of (r.clients_at n c) (q.clients_at n c).asking x.question) (q.clients_at n c).asking.settings x.question.frame x.answer)
           (λ i. option_map (λ (l : LastLine). told_for (l.served n c) (q.clients_at n c).asking.answered (s.made i)) (s.last i)) x.fits));
-      calm = ⊎_elim (λ y. inl y) (λ y. inr (subst AllDurable s.made y)) x.calm;
+      calm = ⊎_elim (λ y. inl y) (λ y. inr (⊎_elim (λ z. inl (z.0, subst AllDurable s.made z.1)) (λ z. inr (still_read q r s z)) y)) x.calm;
     }))
-    (λ x. inr (subst (λ made. AnswersFault n c made (q.clients_at n c).asking bytes behind) s.made x)) (subst (λ (k : ClientsKnown). LawfulReply r n c (k n c).asking bytes behind) s.clients l)
+    (λ x. inr (record { none = x.none; fault = x.fault; stands = x.stands; head = x.head; named = x.named; spelled = x.spelled; closes = x.closes; calm = still_read q r s x.calm })) (subst (λ (k : ClientsKnown). LawfulReply r n c (k n c).asking bytes behind) s.clients l)
   where
     -- of a vBucket
     at : {A : Type 0} {f g : ℕ → ℕ → A} (P : A → Type 0) (v : ℕ) → g ≡ f → P (g n v) → P (f n v)
@@ -168,7 +178,7 @@ reply_read q r n c bytes behind s l = ⊎_elim
               (λ z. inl (at (λ (counts : CountsKnown). IsRefusedDurably counts (q.role_at n f.vb_or_status) (q.held n f.vb_or_status) write f g) f.vb_or_status s.counts
               (at (λ role. IsRefusedDurably (r.counts_at n f.vb_or_status) role (q.held n f.vb_or_status) write f g) f.vb_or_status s.role
               (at (λ held. IsRefusedDurably (r.counts_at n f.vb_or_status) (r.role_at n f.vb_or_status) held write f g) f.vb_or_status s.held z))))
-              (⊎_elim (λ z. inr (inl (subst (λ made. IsCommitted n f.vb_or_status served made settings write f g) s.made z))) (λ z. inr (inr z)))
+              (⊎_elim (λ z. inr (inl (subst (λ made. IsCommitted n f.vb_or_status served made settings write wish f g) s.made z))) (λ z. inr (inr (at (λ role. IsUnsure n f.vb_or_status served role q.made write wish f g) f.vb_or_status s.role (subst (λ made. IsUnsure n f.vb_or_status served (r.role_at n f.vb_or_status) made write wish f g) s.made z)))))
               y.1,
         ))
         x

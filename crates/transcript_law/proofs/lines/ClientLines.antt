@@ -2,7 +2,7 @@
 use Rattle.std.specs.Prelude.{◌≡◌, ◌∷◌, ◌++◌, ◌==◌, if◌then◌else◌}
 use Rattle.transcript_law.proofs.Words.{ℕ, Bool, true, false, List, [], refl, ap, sym, subst, ◌∙◌, map, flat_map, eqb-true, Option, Some, None, Change, Event, StreamName, PlainNode, after, bytes_at, bytes_if, Chronicle, after_change, after_lines, branch_of_line, LawfulFrom}
 use Rattle.transcript_law.proofs.{lines.Changes.{Reads, asked_read, change_read, reply_read, reads_change, reads_client}, lines.Lines.{AreQuiet}, lines.SessionLines.{AreTo, IsKept, LeftBy, fed_at, kept_left, posted_at}}
-use Rattle.transcript_law.specs.{LinesTold.{after_client_line}, StreamsTold.{ClientsKnown}}
+use Rattle.transcript_law.specs.{LinesTold.{Conns, after_client_line}, Questions.{question_of}, StreamsTold.{ClientsKnown}}
 use Rattle.node_core.specs.Calls.{left_open}
 use Rattle.node_core.specs.Clients.{Handling, PlainClient, client_fed, client_posted}
 use Rattle.node_world.specs.Nodes.{all_posted, awaiting, posted_if, posted_to}
@@ -70,6 +70,10 @@ kept_beside f one client r (Event.Asked (StreamName.Client m k) n v ask high log
     let line : Event = Event.Asked (StreamName.Client m k) n v ask high log said in kept_beside f one client (after_client_line r line) lines c.1 ∙ client r line
 kept_beside f one client r (other ∷ lines) c = absurd c.0
 
+-- a connection that closes
+closed_read : (q r : Chronicle) (n k : ℕ) → Reads q r → (r.conn_at n k ≡ true → question_of (r.clients_at n k).asking ≡ None) → q.conn_at n k ≡ true → question_of (q.clients_at n k).asking ≡ None
+closed_read q r n k s l opened = ap (λ (f : ClientsKnown). question_of (f n k).asking) (sym s.clients) ∙ l (ap (λ (f : Conns). f n k) s.conns ∙ opened)
+
 -- they are lawful in both where what they read is the same in both
 pub clients_read : (q r : Chronicle) (lines : List Event) → AreOfClients lines → Reads q r → LawfulFrom r lines → LawfulFrom q lines
 clients_read q r [] c s l = tt
@@ -78,7 +82,7 @@ clients_read q r (Event.Changed n v uuid change ∷ lines) c s l =
 clients_read q r (Event.Reply n k bytes ∷ lines) c s l =
     let line : Event = Event.Reply n k bytes in (λ none. reply_read q r n k bytes lines s (l.0 (ap (λ (f : ClientsKnown). (f n k).told) s.clients ∙ none)), clients_read (after_client_line q line) (after_client_line r line) lines c.1 (reads_client q r line s) l.1)
 clients_read q r (Event.Closed n k ∷ lines) c s l =
-    let line : Event = Event.Closed n k in (tt, clients_read (after_client_line q line) (after_client_line r line) lines c.1 (reads_client q r line s) l.1)
+    let line : Event = Event.Closed n k in (closed_read q r n k s l.0, clients_read (after_client_line q line) (after_client_line r line) lines c.1 (reads_client q r line s) l.1)
 clients_read q r (Event.Asked (StreamName.Client m k) n v ask high log said ∷ lines) c s l =
     let line : Event = Event.Asked (StreamName.Client m k) n v ask high log said in
     (asked_read q r m k n v ask high log said lines s l.0, clients_read (after_client_line q line) (after_client_line r line) lines c.1 (reads_client q r line s) l.1)

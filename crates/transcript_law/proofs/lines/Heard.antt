@@ -33,14 +33,14 @@ say_more conns (line ∷ lines) more s m = (s.0, say_more (conns_line conns line
 pub say_heard : (conns : Conns) (lines more : List Event) → AllSay conns lines → HeardFrom (conns_lines conns lines) more → HeardFrom conns (lines ++ more)
 say_heard conns [] more s h = h
 say_heard conns (Event.Reply n c bytes ∷ lines) more s h = ((s.0, tt), say_heard conns lines more s.1 h)
-say_heard conns (Event.Closed n c ∷ lines) more s h = (s.0, say_heard (with_at conns n c false) lines more s.1 h)
+say_heard conns (Event.Closed n c ∷ lines) more s h = ((s.0, tt), say_heard (with_at conns n c false) lines more s.1 h)
 say_heard conns (Event.NodeStopped n ∷ lines) more s h = absurd s.0
 say_heard conns (other ∷ lines) more s h = (tt, say_heard conns lines more s.1 h)
 
 pub all_heard : (conns : Conns) (lines : List Event) → AllSay conns lines → HeardFrom conns lines
 all_heard conns [] s = tt
 all_heard conns (Event.Reply n c bytes ∷ lines) s = ((s.0, tt), all_heard conns lines s.1)
-all_heard conns (Event.Closed n c ∷ lines) s = (s.0, all_heard (with_at conns n c false) lines s.1)
+all_heard conns (Event.Closed n c ∷ lines) s = ((s.0, tt), all_heard (with_at conns n c false) lines s.1)
 all_heard conns (Event.NodeStopped n ∷ lines) s = absurd s.0
 all_heard conns (other ∷ lines) s = (tt, all_heard conns lines s.1)
 
@@ -48,8 +48,8 @@ all_heard conns (other ∷ lines) s = (tt, all_heard conns lines s.1)
 pub lines_heard : (r : Chronicle) (conns : Conns) (lines : List Event) → LawfulFrom r lines → HeardFrom conns lines → LinesFrom r conns lines
 lines_heard r conns [] l h = tt
 lines_heard r conns (Event.Reply n c bytes ∷ lines) l h = ((h.0.0, l.0), lines_heard (after_line r (Event.Reply n c bytes)) conns lines l.1 h.1)
-lines_heard r conns (Event.Closed n c ∷ lines) l h = (h.0, lines_heard (after_line r (Event.Closed n c)) (with_at conns n c false) lines l.1 h.1)
-lines_heard r conns (Event.NodeStopped n ∷ lines) l h = ((l.0, h.0.1), lines_heard r conns lines l.1 h.1)
+lines_heard r conns (Event.Closed n c ∷ lines) l h = ((h.0.0, l.0), lines_heard (after_line r (Event.Closed n c)) (with_at conns n c false) lines l.1 h.1)
+lines_heard r conns (Event.NodeStopped n ∷ lines) l h = ((l.0, h.0.1), lines_heard (after_line r (Event.NodeStopped n)) conns lines l.1 h.1)
 lines_heard r conns (other ∷ lines) l h = (l.0, lines_heard (after_line r other) conns lines l.1 h.1)
 
 -- ---- lines that say nothing of them

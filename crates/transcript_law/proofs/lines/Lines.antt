@@ -19,7 +19,7 @@ stands_more : (n c : ℕ) (bytes : List ℕ) (behind more : List Event) → Stan
 stands_more n c bytes behind more (rest, is) = (rest ++ more, ap (λ lines. lines ++ more) is)
 
 abbrev put_more : (n c : ℕ) (known : ClientKnown) (m : DcpMsg) (behind more : List Event) → IsPut n c known m behind → IsPut n c known m (behind ++ more)
-put_more n c known m behind more put = record { bytes = put.bytes; stands = stands_more n c put.bytes behind more put.stands; stream = put.stream; known_as = put.known_as; spelled = put.spelled }
+put_more n c known m behind more put = record { bytes = put.bytes; stands = stands_more n c put.bytes behind more put.stands; stream = put.stream; known_as = put.known_as; spelled = put.spelled; unclosed = put.unclosed; through = put.through }
 
 -- so does what tells that a connection closed, behind the answer to a fault
 reply_more : (r : Chronicle) (n c : ℕ) (asking : Asking) (bytes : List ℕ) (behind more : List Event) → LawfulReply r n c asking bytes behind → LawfulReply r n c asking bytes (behind ++ more)

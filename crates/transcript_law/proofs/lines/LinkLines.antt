@@ -19,7 +19,7 @@ use Rattle.vb_calls.specs.Flushes.{roll_job}
 use Rattle.vb_calls.specs.Jobs.{AlwaysJob, Job, Ended, each_job, lift}
 use Rattle.vb_calls.specs.Programs.{Always, AnyCall, AnyReply}
 use Rattle.vb_calls.proofs.{Conduct.{after_always}, JobConduct.{after_job_always, always_bind_job, always_each_job, always_lift}}
-use Rattle.transcript_law.proofs.lines.Calm.{AnyAsk, any_job, due_keeps, either}
+use Rattle.transcript_law.proofs.lines.Calm.{AnyAsk, any_job, due_keeps, either, state_always}
 use Rattle.transcript_law.proofs.lines.Heard.{AreMute, mute_map, mute_more}
 use Rattle.transcript_law.proofs.lines.{Answering.{Tells, peer_so}, Calm.{AnyKind, asks_any, takes_any}, Pulling.{pulled_so}}
 use Rattle.dcp_producer.specs.declared.desk.Desk.{Desk}
@@ -95,6 +95,8 @@ step_mute : (t : ConsumerStep) (s : DialResult) → Dial s → Takes (step_made 
 step_mute (step.Adopt log) s c = always_lift AnyReply AnyCall AnyAsk Dial (go_on_with log s) (adopted_mute log s c)
 step_mute (step.Roll point) s c = back_mute point s c
 step_mute (step.Passive p) s c = always_lift AnyReply AnyCall AnyAsk Dial (passive_made p s) (passive_mute p s c)
+step_mute (step.State take opaque) s c = state_always Dial (λ s new c. mute_more s.events _ c (tt, tt))
+    (λ s uuid changes c. mute_more s.events _ c (mute_map (Event.Changed s.dial.consumer.dialed.node s.dial.consumer.dialed.vb uuid) changes (λ x. tt))) (λ s opaque c. c) (λ s c. c) (λ s c. c) take opaque s c
 step_mute other s c = c
 
 taken_mute : (f : Frame) (s : DialResult) → Dial s → Takes (frame_taken f s)

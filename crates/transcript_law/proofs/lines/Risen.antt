@@ -133,6 +133,8 @@ ahead_last r (verb.AtVb n v (vb_verb.Chain others)) answer.Ok = refl
 ahead_last r (verb.AtVb n v (vb_verb.Chain others)) other = refl
 ahead_last r (verb.AtVb n v vb_verb.Done) (answer.Number saved) = refl
 ahead_last r (verb.AtVb n v vb_verb.Done) other = refl
+ahead_last r (verb.AtNode n (node_verb.Crash out)) answer.Ok = refl
+ahead_last r (verb.AtNode n (node_verb.Crash out)) other = refl
 ahead_last r other said = refl
 
 verb_last : (before r : Chronicle) (line : Verb) (lines : List Event) (said : Answer) → (after_verb before r line lines said).last ≡ r.last

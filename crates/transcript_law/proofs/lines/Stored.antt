@@ -118,7 +118,7 @@ stored_given vb write clock cas (Some st) uuid seq k e = cc
 stored_given vb write clock cas None uuid seq k e =
     let same : cas ≡ k = cc in (_, refl, act_cas write.op (written_doc write cas (new_rev (doc_at vb write.key))) ∙ ap (λ x. Some x) same)
 
-given : (vb : Plain) (c : VbCall) → IsGiven c (plain_step vb c).1
+pub given : (vb : Plain) (c : VbCall) → IsGiven c (plain_step vb c).1
 given vb (call.Store write clock) = stored_given vb write clock (new_cas clock vb.last_cas) (store_refusal vb write)
 given vb (call.Receive c) = tt
 given vb other = row_durable vb (row_is vb other) tt

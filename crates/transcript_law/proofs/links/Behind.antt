@@ -1,14 +1,14 @@
 -- outcomes that are posted to clients behind what else is told of a line
 use Rattle.std.specs.Prelude.{◌≡◌, ◌++◌, if◌then◌else◌}
 use Rattle.transcript_law.proofs.Words.{ℕ, List, refl, ap, sym, ◌∙◌, subst, Option, Some, None, is_some, not, eq-eqb, Answer, Cause, Change, Chronicle, Event, StaysSound, after_change, after_lines, flat_map, branch_of_line, with_branches, LawfulFrom, Outcome, PlainNode, PlainWorld, with_node_at}
-use Rattle.transcript_law.proofs.{answers.{Claims.{ClaimAt, claim_read}, Committed.{AllHowTold, all_claimed}}, invariant.Agreement.{Agrees, GoesOn}, disks.ArmedLines.{ArmedCame}, lines.Changes.{Reads, calls_read, disk_reads, reads_same}, lines.ClientLines.{AreOfClients, clients_branched, clients_quiet, clients_read, read_beside}, disks.Firing.{same_told}, lines.Lines.{AreQuiet, after_more, lawful_more, quiet_more}}
+use Rattle.transcript_law.proofs.{answers.{Claims.{ClaimAt, claim_read}, Committed.{AllHowTold, all_claimed, all_read}}, invariant.Agreement.{Agrees, GoesOn}, disks.ArmedLines.{ArmedCame}, lines.Changes.{Reads, calls_read, disk_reads, reads_same}, lines.ClientLines.{AreOfClients, clients_branched, clients_quiet, clients_read, read_beside}, disks.Firing.{same_told}, lines.Lines.{AreQuiet, after_more, lawful_more, quiet_more}}
 use Rattle.transcript_law.proofs.{links.Posting.{SameBeside, posts_go, posts_keep, posts_of_clients, put_agrees}, invariant.Ranged.{IsRanged, NodeRanged, NodeRangedIf}, verbs.Settling.{Steady}}
 use Rattle.node_core.specs.Flushing.{FlushResult}
 use Rattle.node_world.specs.{Arms.{fired_by}, Nodes.{all_posted, with_posts}, Turns.{posted_at, posted_in}, Worlds.{arm_in, is_up}}
 use Rattle.node_world.specs.declared.{arm.Fired.{Fired}}
 use Rattle.node_world.specs.declared.arm.Fired.TheVariants as fired
 use Rattle.node_core.specs.Clients.{PlainClient}
-use Rattle.transcript_law.specs.{LinesTold.{after_client_line}, StreamsTold.{ClientsKnown}}
+use Rattle.transcript_law.specs.{LawfulAnswers.{AllDurable}, LinesTold.{after_client_line}, StreamsTold.{ClientsKnown}}
 use Rattle.transcript_law.specs.Chronicles.{after_noted, broken_by, calls_of_append, state_of, with_record}
 use Rattle.vb_calls.specs.declared.calls.Resolved.{Resolved}
 use Rattle.vb_types.specs.declared.role.Role.{Role}
@@ -39,20 +39,20 @@ pub record NotingGoes (n : ℕ) (told : Answer → Chronicle → Chronicle) (w :
   pub came : ArmedCame n told (fired_by (arm_in (w.nodes n)).fuse (arm_in (o.0.nodes n)).fuse) (after_lines r o.1.events) (with_branches o.1.events o.0) o.1.answer
 
 -- what is claimed of outcomes is so where as much is read
-paid_beside : (q r : Chronicle) → Reads q r → (n : ℕ) (clients : ℕ → Option PlainClient) (rs : List Resolved) → AllHowTold n q.made (ClaimAt q n clients) rs → AllHowTold n r.made (ClaimAt r n clients) rs
+paid_beside : (q r : Chronicle) → Reads q r → (n : ℕ) (clients : ℕ → Option PlainClient) (rs : List Resolved) → AllHowTold n q (ClaimAt q n clients) rs → AllHowTold n r (ClaimAt r n clients) rs
 paid_beside q r reads n clients rs paid =
-    all_claimed n r.made (ClaimAt q n clients) (ClaimAt r n clients) rs
+    all_claimed n r (ClaimAt q n clients) (ClaimAt r n clients) rs
     (claim_read q r n clients (later_same q r reads.last reads.made) (λ c. ap (λ (t : ClientsKnown). (t n c).asking) reads.clients))
-    (subst (λ made. AllHowTold n made (ClaimAt q n clients) rs) (sym reads.made) paid)
+    (all_read n q r (ClaimAt q n clients) rs reads.made reads.role paid)
 
 module _ (stays : StaysSound) (steady : Steady) where
   -- outcomes behind what a line of the node n told: all goes on
-  pub posts_behind : (w : PlainWorld) (r : Chronicle) (n : ℕ) (node : PlainNode) (told : FlushResult) (beside : Chronicle → Chronicle) → IsBeside beside → NodeRanged n node → AllHowTold n (after_lines r told.events).made (ClaimAt (after_lines r told.events) n node.clients) told.resolved → AreQuiet told.events
+  pub posts_behind : (w : PlainWorld) (r : Chronicle) (n : ℕ) (node : PlainNode) (told : FlushResult) (beside : Chronicle → Chronicle) → IsBeside beside → NodeRanged n node → AllHowTold n (after_lines r told.events) (ClaimAt (after_lines r told.events) n node.clients) told.resolved → AllDurable (after_lines r told.events).made → AreQuiet told.events
       → GoesOn r beside (with_node_at w n node, record { events = told.events; answer = told.answer })
       → GoesOn r beside (with_node_at w n (with_posts told node).0, (with_posts told node).1)
-  posts_behind w r n node told beside b ranged paid quiet g =
+  posts_behind w r n node told beside b ranged paid calm quiet g =
       let r1 : Chronicle = after_lines r told.events in let lines : List Event = (all_posted told.resolved node).1 in let clients : AreOfClients lines = posts_of_clients n told.resolved node ranged.own in
-      let p = posts_go stays steady w (beside r1) n node told.resolved ranged (paid_beside r1 (beside r1) (b.reads r1) n node.clients told.resolved paid) g.1 in (
+      let p = posts_go stays steady w (beside r1) n node told.resolved ranged (paid_beside r1 (beside r1) (b.reads r1) n node.clients told.resolved paid) (subst AllDurable (sym (b.reads r1).made) calm) g.1 in (
         lawful_more r told.events lines quiet g.0 (clients_read r1 (beside r1) lines clients (b.reads r1) p.0),
         subst (Agrees (with_node_at w n (all_posted told.resolved node).0)) (sym (ap beside (after_more r told.events lines) ∙ read_beside beside b.past b.client r1 lines clients)) p.1,
       )
@@ -72,7 +72,7 @@ module _ (stays : StaysSound) (steady : Steady) where
     came_lawful fired.Failed q w said a = a.1
     came_lawful fired.Stopped q w said a = a.2
 
-    module _ (o : Outcome) (so : NotingGoes n told before r o) (b : IsBeside (told o.1.answer)) (ranged : IsRanged o.0) (paid : (node : PlainNode) → o.0.nodes n ≡ Some node → AllHowTold n (after_lines r o.1.events).made (ClaimAt (after_lines r o.1.events) n node.clients) rs) where
+    module _ (o : Outcome) (so : NotingGoes n told before r o) (b : IsBeside (told o.1.answer)) (ranged : IsRanged o.0) (paid : (node : PlainNode) → o.0.nodes n ≡ Some node → AllHowTold n (after_lines r o.1.events) (ClaimAt (after_lines r o.1.events) n node.clients) rs) (calm : AllDurable (after_lines r o.1.events).made) where
       abbrev r1 : Chronicle
       r1 = after_lines r o.1.events
 
@@ -81,7 +81,7 @@ module _ (stays : StaysSound) (steady : Steady) where
           let here : NodeRanged n node = subst (NodeRangedIf n) at (ranged n) in
           let node' : PlainNode = (all_posted rs node).0 in let lines : List Event = (all_posted rs node).1 in let clients : AreOfClients lines = posts_of_clients n rs node here.own in let kept : SameBeside node node' = posts_keep rs node in
           let w1 : PlainWorld = with_branches o.1.events o.0 in let w2 : PlainWorld = with_node_at o.0 n node' in
-          let go = posts_go stays steady w1 (told o.1.answer r1) n node rs here (paid_beside r1 (told o.1.answer r1) (b.reads r1) n node.clients rs (paid node at)) in
+          let go = posts_go stays steady w1 (told o.1.answer r1) n node rs here (paid_beside r1 (told o.1.answer r1) (b.reads r1) n node.clients rs (paid node at)) (subst AllDurable (sym (b.reads r1).made) calm) in
           let arms : fired_by (arm_in (before.nodes n)).fuse (arm_in (w2.nodes n)).fuse ≡ fired_by (arm_in (before.nodes n)).fuse (arm_in (o.0.nodes n)).fuse =
           (λ i. fired_by (arm_in (before.nodes n)).fuse (arm_in (if eq-eqb n n refl i then Some node' else o.0.nodes n)).fuse) ∙ (λ i. fired_by (arm_in (before.nodes n)).fuse (kept.arm i).fuse)
           ∙ (λ i. fired_by (arm_in (before.nodes n)).fuse (arm_in (sym at i)).fuse) in

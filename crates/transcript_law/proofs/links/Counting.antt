@@ -12,8 +12,9 @@ use Rattle.transcript_law.proofs.invariant.Agreement.{active_counts, Agrees, Agr
 use Rattle.transcript_law.proofs.{invariant.Counts.{counts_agree}, invariant.Majorities.{counts_more}}
 use Rattle.transcript_law.specs.Chronicles.{after_count}
 use Rattle.transcript_law.proofs.{invariant.Carried.{talk_same, told_of_same}, lines.ClientLines.{clients_quiet}, disks.Disks.{beside_in}, invariant.JobSteps.{put_over}, invariant.LinkRows.{put_is_found, put_twice}, lines.Lines.{AreQuiet, after_more, lawful_more, quiet_more}}
-use Rattle.transcript_law.proofs.answers.{Claims.{ClaimAt, call_claims, changes_claim}, Committed.{AllHowTold, all_claimed, all_told}, Explained.{IsExplained, explained}}
-use Rattle.{durability.specs.declared.waiting.Waiting.{Waiting}, transcript_law.specs.Feeding.{client_in}, vb_types.specs.declared.change.Pend.{Pend}}
+use Rattle.transcript_law.proofs.answers.{Claims.{ClaimAt, call_claims, changes_claim}, Committed.{AllHowTold, all_claimed, all_told}, Explained.{explained}, Calm.{OfDurable, durable_settled, durable_told}}
+use Rattle.vbucket.proofs.RowIs.{Counts}
+use Rattle.{durability.specs.declared.waiting.Waiting.{Waiting}, vb_types.specs.declared.change.Pend.{Pend}, transcript_law.specs.{Feeding.{client_in}, LawfulAnswers.{AllDurable}}}
 use Rattle.transcript_law.proofs.{verbs.NodeLines.{node_changed, node_grown, put_same, shelves_again, shelves_put}, links.Posting.{posts_go, posts_of_clients, posts_ranged}, invariant.Ranged.{NodeRanged}, links.Requests.{ack_answered, all_set, bytes_answered, passed_end}, links.Windows.{streaming_served}, invariant.Seats.{seat}}
 use Rattle.transcript_law.proofs.verbs.Settling.{SettlesOn, Steady, changes_quiet, changes_told, settled_told, settles}
 use Rattle.transcript_law.proofs.{links.Spoken.{spoken_pushed}, invariant.Tables.{if_known}, links.Talks.{come, more_down, next_up}, lines.Telling.{LawfulBefore, before_more, none_before, told_more}, links.Unread.{answering, heard_link, readable_up, reread, unread}}
@@ -174,7 +175,7 @@ module _ (stays : StaysSound) (steady : Steady) (w0 : PlainWorld) (r0 : Chronicl
         → DownAgrees (served_at w0 r0 n link0 found (answered_at w0 r0 n link0 found x st end lines out).1) [] said → So fs (answered_at w0 r0 n link0 found x st end lines out)
     left_on st same lines lawful told out said spoke downs =
         let y = answered_at w0 r0 n link0 found x st end lines out in
-        quiet_at w0 r0 n link0 found (f ∷ fs) fs x now st same end lines out refl (λ v id has. has) lawful r told (told_of_same l r) refl refl
+        quiet_at w0 r0 n link0 found (f ∷ fs) fs x now st same end lines out refl (λ v id has. has) lawful r told (told_of_same l r) refl refl refl
         (talk_same refl (same_vbs w0 r0 n link0 found x y same end.desk.node v) refl refl refl (talk_left out said spoke downs))
 
     -- it is refused
@@ -327,21 +328,21 @@ module _ (stays : StaysSound) (steady : Steady) (w0 : PlainWorld) (r0 : Chronicl
         posts = all_posted reply.resolved last_node
 
         -- each outcome that is a commit was told with it
-        paid : AllHowTold m r4.made (ClaimAt r4 m last_node.clients) reply.resolved
+        paid : AllHowTold m r4 (ClaimAt r4 m last_node.clients) reply.resolved
         paid =
             let asked : VbCall = VbCall.Ack member seq in
-            let refused : Plain × VbReply = (pv, refusal_reply Status.NotMyVbucket) in
-            let beyond : Plain × VbReply = (pv, refusal_reply Status.Erange) in
-            let settling : Plain × VbReply = also_resolved (quiet_reply VbAnswer.Done) (settled acked_vb) in
-            let is_so : Plain × VbReply → Type 0 = λ x. All (IsExplained pv asked x.1.branch x.1.changes) x.1.resolved in
             let claim : ℕ → Waiting → Pend → Type 0 = ClaimAt r3 m x.0.clients in
-            all_claimed m r4.made claim (ClaimAt r4 m last_node.clients) reply.resolved (changes_claim r3 m v (newest_branch acked_vb.log) settles_on.cs x.0.clients)
-            (subst (λ ls. AllHowTold m (after_lines r3 ls).made claim reply.resolved) (settled_told m v (quiet_reply VbAnswer.Done) acked_vb (newest_branch acked_vb.log) settles_on.cs refl settles_on.changes (ap newest_branch settles_on.log))
-            (all_told r3 m v reply.branch claim reply.changes pv asked reply.resolved (call_claims w2 r m v pv asked x.0.clients tt agrees2.clients.owed (ap (λ o. vb_in o v) found2 ∙ known) (λ d. ap (λ o. client_in o d) found2))
-            (subst (λ b. is_so (if b then beyond else settling)) within (subst (λ b. is_so (if b then (if nat_lt pv.position.at seq then beyond else settling) else refused)) active (explained pv asked before.sound tt)))))
+            all_claimed m r4 claim (ClaimAt r4 m last_node.clients) reply.resolved (changes_claim r3 m v (newest_branch acked_vb.log) settles_on.cs x.0.clients)
+            (subst (λ ls. AllHowTold m (after_lines r3 ls) claim reply.resolved) (settled_told m v (quiet_reply VbAnswer.Done) acked_vb (newest_branch acked_vb.log) settles_on.cs refl settles_on.changes (ap newest_branch settles_on.log))
+            (all_told r3 m v reply.branch claim reply.changes pv asked reply.resolved tt (call_claims w2 r m v pv asked x.0.clients tt agrees2.clients.owed (ap (λ o. vb_in o v) found2 ∙ known) (λ d. ap (λ o. client_in o d) found2))
+            (explained pv (Counts member seq active) before.sound tt)))
 
-        went : LawfulFrom r4 posts.1 × Agrees (with_node_at w2 m posts.0) (after_lines r4 posts.1)
-        went = posts_go stays steady w2 r4 m last_node reply.resolved ranged4 paid agrees4
+        -- no set and no removal waits to be answered
+        calm4 : AllDurable r4.made
+        calm4 = durable_told r3 m v (newest_branch acked_vb.log) settles_on.cs (subst (All OfDurable) settles_on.changes (durable_settled acked_vb)) now.calm
+
+        went : LawfulFrom r4 posts.1 × Agrees (with_node_at w2 m posts.0) (after_lines r4 posts.1) × AllDurable (after_lines r4 posts.1).made
+        went = posts_go stays steady w2 r4 m last_node reply.resolved ranged4 paid calm4 agrees4
 
         posts_quiet : AreQuiet posts.1
         posts_quiet = clients_quiet posts.1 (posts_of_clients m reply.resolved last_node ranged4.own)
@@ -381,11 +382,16 @@ module _ (stays : StaysSound) (steady : Steady) (w0 : PlainWorld) (r0 : Chronicl
               linked = sym (put_twice l w1.links heard there refl ∙ put_twice l w0.links there there refl);
             })
 
+        -- what was read with all of it
+        read6 : after_lines r0 (x.1.events ++ lines) ≡ after_lines r4 posts.1
+        read6 = told_more r0 x.1.events lines ∙ ap (λ z. after_lines z (changes ++ posts.1)) counted_tells ∙ after_more r3 changes posts.1
+
         counted_on : So fs y
         counted_on = record {
           cluster = went.1.0;
           lawful = before_more r0 x.1.events lines now.lawful lawful;
-          agrees = subst (λ z. AgreesIn (answering l fs) w6 z went.1.0) (sym (told_more r0 x.1.events lines ∙ ap (λ z. after_lines z (changes ++ posts.1)) counted_tells ∙ after_more r3 changes posts.1)) agrees6;
+          agrees = subst (λ z. AgreesIn (answering l fs) w6 z went.1.0) (sym read6) agrees6;
+          calm = subst (λ (k : Chronicle). AllDurable k.made) (sym read6) went.2;
           desk = now.desk;
           heard = now.heard;
           ranged = posts_ranged m reply.resolved last_node ranged4;
@@ -450,7 +456,7 @@ module _ (stays : StaysSound) (steady : Steady) (w0 : PlainWorld) (r0 : Chronicl
       let y : PlainNode × PeerResult = answered_at w0 r0 n link0 found x x.0.vbs end [] [] in
       let came : frame_answered f s ≡ Done (record s { end = end }) = ap (λ g. frame_answered g s) is ∙ bytes_answered o bytes s true named low opened in
       subst (So fs) (sym (frame_came w0 r0 n link0 found f x ∙ ap (λ p. came_of w0 r0 n link0 found x (after p x.0.vbs)) came))
-      (quiet_at w0 r0 n link0 found (f ∷ fs) fs x now x.0.vbs (λ q. refl) end [] [] refl (λ v id has. has) (none_before r) r refl (told_of_same l r) refl refl
+      (quiet_at w0 r0 n link0 found (f ∷ fs) fs x now x.0.vbs (λ q. refl) end [] [] refl (λ v id has. has) (none_before r) r refl (told_of_same l r) refl refl refl
       (talk_same refl (same_vbs w0 r0 n link0 found x y (λ q. refl) end.desk.node v) refl refl refl (record {
         asked = rest;
         said = la.talk.said;

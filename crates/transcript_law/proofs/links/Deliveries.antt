@@ -1,6 +1,6 @@
 -- what a consumer acknowledges by bytes behind a delivery
 use Rattle.std.specs.Prelude.{◌≡◌, ◌+◌, ◌<◌, ◌≤◌, ◌∷◌, ◌++◌, ◌==◌, ◌&&◌, ◌||◌, ◌-◌, ◌^◌, min, if◌then◌else◌}
-use Rattle.transcript_law.proofs.Words.{ℕ, Bool, true, false, List, [], fold, length, refl, ap, sym, ◌∙◌, subst, arith, inr, append_assoc, is_some, not, Option, Some, None, Ok, Result, All-push, Frame, RESPONSE, spelling, Readable, DcpMsg, dcp_frame, EndReason, Event, Member, Plain, PlainConsumer}
+use Rattle.transcript_law.proofs.Words.{ℕ, Bool, true, false, List, [], fold, length, refl, ap, sym, ◌∙◌, subst, arith, inr, ⊎_elim, append_assoc, is_some, not, Option, Some, None, Ok, Result, All-push, Frame, RESPONSE, spelling, Readable, DcpMsg, dcp_frame, EndReason, Event, Member, Plain, PlainConsumer}
 use Rattle.transcript_law.proofs.Words.{PlainLink, PlainWorld, Granted, Chronicle, Cluster, after_lines, link_number, consumer_node, producer_node, row_at, row_put, DialResult, with_consumer, frame_taken, frames_taken, call_made, job_stepped, after_job, after_job_fold, States, Job, Ended, Prog, Call, Done, VbReply, VbAnswer, over_why, with_links}
 use Rattle.transcript_law.proofs.Words.{eqb-false, with_handshake}
 use Rattle.std.proofs.lemmas.Bool.{false_from_ne_true}
@@ -9,10 +9,12 @@ use Rattle.mcbp_dcp.specs.declared.message.DcpFault.{DcpFault}
 use Rattle.mcbp_dcp.specs.declared.message.DcpMsg.TheVariants as msg
 use Rattle.transcript_law.specs.Chronicles.{after_calls, calls_of_append}
 use Rattle.transcript_law.proofs.invariant.Agreement.{AgreesIn, Busy, EndsStand, IsAcknowledgement, LinkAgrees, UpIs, Wants, idle, vb_of}
-use Rattle.transcript_law.proofs.{invariant.Carried.{talk_same, told_of_same}, invariant.Carrying.{Relinked}, invariant.LinkRows.{put_is_found, put_twice}, invariant.OneLink.{carries_link, mine}, lines.Calm.{AnyAsk}, links.Acknowledging.{not_before}, links.Counting.{acks_left}}
+use Rattle.transcript_law.proofs.{invariant.Carried.{talk_same, told_of_same}, invariant.Carrying.{Relinked}, invariant.LinkRows.{put_is_found, put_twice}, invariant.OneLink.{carries_link, mine}, lines.Calm.{AnyAsk, state_always}, links.Acknowledging.{not_before}, links.Counting.{acks_left}}
 use Rattle.transcript_law.proofs.{links.Downing.{Asker, Going, Line, Reached, RolledAt, Stage, busy_at, end_of, found_now, lifted_at, link_now, now, so_far}, links.Firsts.{first_count}, links.Frames.{readable, spelled_more}, links.Onward.{Kept}, links.Taken.{as_step, over_taken}}
 use Rattle.dcp_consumer.specs.Counting.{bytes_acknowledged, counted_bytes, counted_len, is_stream_opcode}
-use Rattle.dcp_consumer.specs.Machine.{frame_step, is_noop, is_streaming, message_step, moved_by, passive_step, response_step}
+use Rattle.takeover.specs.declared.take_over.TakeStep.{TakeStep}
+use Rattle.dcp_consumer.specs.Machine.{frame_step, is_noop, is_streaming, message_step, passive_step, response_step, stepped as after_step, unstated_step}
+use Rattle.dcp_consumer.proofs.States.{state_case}
 use Rattle.dcp_consumer.proofs.Noops.{read_is, uncounted}
 use Rattle.dcp_consumer.specs.declared.handshake.ConsumerStep.{ConsumerStep}
 use Rattle.dcp_consumer.specs.declared.handshake.Handshake.{Handshake as Waiting}
@@ -103,7 +105,7 @@ noop_counts f e = sym (one_len f) ∙ uncounted f (read_is f (noop_read (read_of
 
 -- what a step makes of the dial
 abbrev stepped : DialResult → ConsumerStep → Job DialResult
-stepped s x = step_made x (with_consumer s (with_handshake s.dial.consumer (moved_by s.dial.consumer.dialed.buffer x s.dial.consumer.handshake)))
+stepped s x = step_made x (with_consumer s (after_step x s.dial.consumer))
 
 module _ (f : Frame) (s : DialResult) (n : ℕ) (before : Counts n s) where
   abbrev c : PlainConsumer
@@ -112,69 +114,83 @@ module _ (f : Frame) (s : DialResult) (n : ℕ) (before : Counts n s) where
   abbrev Goes : Job DialResult → Type 0
   Goes job = AlwaysJob AnyReply AnyCall AnyAsk (Counts (n + counted_len f)) job
 
-  step_at : (h : Waiting) → c.handshake ≡ h → frame_step c f ≡ (if is_some (over_why h) then step.Dropped else if f.magic == RESPONSE then response_step c.dialed.buffer h c.asked f else message_step h f)
-  unfolding frame_step
-  step_at h e = ap (λ h. if is_some (over_why h) then step.Dropped else if f.magic == RESPONSE then response_step c.dialed.buffer h c.asked f else message_step h f) e
+  -- one frame that tells no state which is in order
+  module _ (same : frame_step c f ≡ unstated_step c f) where
+    step_at : (h : Waiting) → c.handshake ≡ h → unstated_step c f ≡ (if is_some (over_why h) then step.Dropped else if f.magic == RESPONSE then response_step c.dialed.buffer h c.asked f else message_step h f)
+    unfolding unstated_step
+    step_at h e = ap (λ h. if is_some (over_why h) then step.Dropped else if f.magic == RESPONSE then response_step c.dialed.buffer h c.asked f else message_step h f) e
 
-  goes_by : (x : ConsumerStep) → frame_step c f ≡ x → Goes (stepped s x) → Goes (frame_taken f s)
-  goes_by x e goes = subst Goes (sym (as_step f s x e)) goes
+    goes_by : (x : ConsumerStep) → unstated_step c f ≡ x → Goes (stepped s x) → Goes (frame_taken f s)
+    goes_by x e goes = subst Goes (sym (as_step f s x (same ∙ e))) goes
 
-  passes : (p : Passive) → Past s → Goes (stepped s (step.Passive p))
-  passes (passive.Call made) past =
-      let s' : DialResult = with_consumer s (with_handshake c c.handshake) in
-      always_lift AnyReply AnyCall AnyAsk (Counts (n + counted_len f)) (passive_made (passive.Call made) s') (weaker Past (Counts (n + counted_len f)) (past_counts (n + counted_len f)) (passive_made (passive.Call made) s') (passive_past (passive.Call made) s' past))
-  passes other past = λ asks. cc
+    passes : (p : Passive) → Past s → Goes (stepped s (step.Passive p))
+    passes (passive.Call made) past =
+        let s' : DialResult = with_consumer s (with_handshake c c.handshake) in
+        always_lift AnyReply AnyCall AnyAsk (Counts (n + counted_len f)) (passive_made (passive.Call made) s') (weaker Past (Counts (n + counted_len f)) (past_counts (n + counted_len f)) (passive_made (passive.Call made) s') (passive_past (passive.Call made) s' past))
+    passes other past = λ asks. cc
 
-  -- an answer counts nothing
-  none_counts : f.magic == RESPONSE ≡ true → counted_len f ≡ 0
-  none_counts e = ap (λ b. if not b && is_stream_opcode f.opcode then length (spelling f) else 0) e
+    -- an answer counts nothing
+    none_counts : f.magic == RESPONSE ≡ true → counted_len f ≡ 0
+    none_counts e = ap (λ b. if not b && is_stream_opcode f.opcode then length (spelling f) else 0) e
 
-  -- a message
-  message_at : (h : Waiting) → c.handshake ≡ h → over_why h ≡ None → f.magic == RESPONSE ≡ false → frame_step c f ≡ message_step h f
-  message_at h e still is =
-      step_at h e
-      ∙ ap (λ o. if is_some o then step.Dropped else if f.magic == RESPONSE then response_step c.dialed.buffer h c.asked f else message_step h f) still
-      ∙ ap (λ b. if b then response_step c.dialed.buffer h c.asked f else message_step h f) is
+    -- a message
+    message_at : (h : Waiting) → c.handshake ≡ h → over_why h ≡ None → f.magic == RESPONSE ≡ false → unstated_step c f ≡ message_step h f
+    message_at h e still is =
+        step_at h e
+        ∙ ap (λ o. if is_some o then step.Dropped else if f.magic == RESPONSE then response_step c.dialed.buffer h c.asked f else message_step h f) still
+        ∙ ap (λ b. if b then response_step c.dialed.buffer h c.asked f else message_step h f) is
 
-  -- a NOOP leaves what was waited for as it was
-  noop_goes : (h : Waiting) → c.handshake ≡ h → over_why h ≡ None → f.magic == RESPONSE ≡ false → is_noop (read_of f) ≡ true → Goes (frame_taken f s)
-  noop_goes h e still is noop = goes_by (step.Noop f.opaque) (message_at h e still is ∙ ap (λ b. if b then step.Noop f.opaque else passive_step h (read_of f)) noop)
-      (λ asks. let none_before : n ≡ 0 = before asks in let none_now : counted_len f ≡ 0 = noop_counts f noop in omega (arith, none_before, none_now))
+    -- a NOOP leaves what was waited for as it was
+    noop_goes : (h : Waiting) → c.handshake ≡ h → over_why h ≡ None → f.magic == RESPONSE ≡ false → is_noop (read_of f) ≡ true → Goes (frame_taken f s)
+    noop_goes h e still is noop = goes_by (step.Noop f.opaque) (message_at h e still is ∙ ap (λ b. if b then step.Noop f.opaque else passive_step h (read_of f)) noop)
+        (λ asks. let none_before : n ≡ 0 = before asks in let none_now : counted_len f ≡ 0 = noop_counts f noop in omega (arith, none_before, none_now))
 
-  asking_goes : (h : Waiting) → c.handshake ≡ h → is_asking h ≡ true → passive_step h (read_of f) ≡ step.Passive passive.Protocol → over_why h ≡ None → Goes (frame_taken f s)
-  asking_goes h e asks none still = by (f.magic == RESPONSE) refl
-    where
-      by : (b : Bool) → (f.magic == RESPONSE) ≡ b → Goes (frame_taken f s)
-      by true is =
-          let none_before : n ≡ 0 = before (ap is_asking e ∙ asks) in let none_now : counted_len f ≡ 0 = none_counts is in
-          all_answers (Counts (n + counted_len f)) (λ t asks. omega (arith, none_before, none_now)) (frame_taken f s)
-      by false is = told (is_noop (read_of f)) refl
-        where
-          told : (b : Bool) → is_noop (read_of f) ≡ b → Goes (frame_taken f s)
-          told true noop = noop_goes h e still is noop
-          told false noop = goes_by (step.Passive passive.Protocol) (message_at h e still is ∙ ap (λ b. if b then step.Noop f.opaque else passive_step h (read_of f)) noop ∙ none) (λ asks. cc)
+    asking_goes : (h : Waiting) → c.handshake ≡ h → is_asking h ≡ true → passive_step h (read_of f) ≡ step.Passive passive.Protocol → over_why h ≡ None → Goes (frame_taken f s)
+    asking_goes h e asks none still = by (f.magic == RESPONSE) refl
+      where
+        by : (b : Bool) → (f.magic == RESPONSE) ≡ b → Goes (frame_taken f s)
+        by true is =
+            let none_before : n ≡ 0 = before (ap is_asking e ∙ asks) in let none_now : counted_len f ≡ 0 = none_counts is in
+            all_answers (Counts (n + counted_len f)) (λ t asks. omega (arith, none_before, none_now)) (frame_taken f s)
+        by false is = told (is_noop (read_of f)) refl
+          where
+            told : (b : Bool) → is_noop (read_of f) ≡ b → Goes (frame_taken f s)
+            told true noop = noop_goes h e still is noop
+            told false noop = goes_by (step.Passive passive.Protocol) (message_at h e still is ∙ ap (λ b. if b then step.Noop f.opaque else passive_step h (read_of f)) noop ∙ none) (λ asks. cc)
 
-  streaming_goes : c.handshake ≡ waiting.Streaming → Goes (frame_taken f s)
-  streaming_goes e = by (f.magic == RESPONSE) refl
-    where
-      by : (b : Bool) → (f.magic == RESPONSE) ≡ b → Goes (frame_taken f s)
-      by true is = goes_by step.Dropped (step_at waiting.Streaming e ∙ ap (λ b. if b then response_step c.dialed.buffer waiting.Streaming c.asked f else message_step waiting.Streaming f) is)
-          (past_counts (n + counted_len f) (with_consumer s (with_handshake c c.handshake)) (ap is_asking e))
-      by false is = told (is_noop (read_of f)) refl
-        where
-          told : (b : Bool) → is_noop (read_of f) ≡ b → Goes (frame_taken f s)
-          told true noop = noop_goes waiting.Streaming e refl is noop
-          told false noop = goes_by (step.Passive (passive_read (read_of f))) (message_at waiting.Streaming e refl is ∙ ap (λ b. if b then step.Noop f.opaque else passive_step waiting.Streaming (read_of f)) noop)
-              (passes (passive_read (read_of f)) (ap is_asking e))
+    streaming_goes : c.handshake ≡ waiting.Streaming → Goes (frame_taken f s)
+    streaming_goes e = by (f.magic == RESPONSE) refl
+      where
+        by : (b : Bool) → (f.magic == RESPONSE) ≡ b → Goes (frame_taken f s)
+        by true is = goes_by step.Dropped (step_at waiting.Streaming e ∙ ap (λ b. if b then response_step c.dialed.buffer waiting.Streaming c.asked f else message_step waiting.Streaming f) is)
+            (past_counts (n + counted_len f) (with_consumer s (with_handshake c c.handshake)) (ap is_asking e))
+        by false is = told (is_noop (read_of f)) refl
+          where
+            told : (b : Bool) → is_noop (read_of f) ≡ b → Goes (frame_taken f s)
+            told true noop = noop_goes waiting.Streaming e refl is noop
+            told false noop = goes_by (step.Passive (passive_read (read_of f))) (message_at waiting.Streaming e refl is ∙ ap (λ b. if b then step.Noop f.opaque else passive_step waiting.Streaming (read_of f)) noop)
+                (passes (passive_read (read_of f)) (ap is_asking e))
+
+    unstated_counts : Goes (frame_taken f s)
+    unstated_counts = by c.handshake refl
+      where
+        by : (h : Waiting) → c.handshake ≡ h → Goes (frame_taken f s)
+        by waiting.Streaming e = streaming_goes e
+        by (waiting.Over why) e = subst Goes (sym (over_taken f s why (ap over_why e))) (past_counts (n + counted_len f) s (ap is_asking e))
+        by other e = asking_goes other e refl refl refl
+
+  -- a state comes on a stream that was granted alone
+  state_counts : (take : TakeStep) → c.handshake ≡ waiting.Streaming → frame_step c f ≡ step.State take f.opaque → Goes (frame_taken f s)
+  state_counts take goes e =
+      let k : ℕ = n + counted_len f in
+      let t : ConsumerStep = step.State take f.opaque in
+      subst Goes (sym (as_step f s t e))
+      (state_always (Counts k) (λ s new counts. counts) (λ s uuid changes counts. counts) (λ s opaque counts. counts) (λ s counts asks. cc) (λ s counts asks. cc) take f.opaque (with_consumer s (after_step t c))
+      (past_counts k (with_consumer s (after_step t c)) (ap is_asking goes)))
 
   -- one frame
   pub frame_counts : Goes (frame_taken f s)
-  frame_counts = by c.handshake refl
-    where
-      by : (h : Waiting) → c.handshake ≡ h → Goes (frame_taken f s)
-      by waiting.Streaming e = streaming_goes e
-      by (waiting.Over why) e = subst Goes (sym (over_taken f s why (ap over_why e))) (past_counts (n + counted_len f) s (ap is_asking e))
-      by other e = asking_goes other e refl refl refl
+  frame_counts = ⊎_elim (λ x. state_counts x.0 x.1.0.1 x.2) (λ x. unstated_counts x.1) (state_case c f)
 
 -- frames
 all_counts : (frames : List Frame) (n : ℕ) (x : Kept × DialResult) → Counts n x.1 → Counts (fold (λ m f. m + counted_len f) n frames) (fold (job_stepped frame_taken) x frames).1

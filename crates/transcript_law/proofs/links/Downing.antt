@@ -103,7 +103,7 @@ module _ (line : Line) where
 
   -- the consumer's end in the course of the line
   abbrev pub end_of : Asker → Option EndReason → PlainConsumer
-  end_of at over = record { dialed = link.consumer.dialed; handshake = waiting_unless over at.waiting; asked = at.asked; acked = at.acked }
+  end_of at over = record { dialed = link.consumer.dialed; handshake = waiting_unless over at.waiting; asked = at.asked; acked = at.acked; taking = link.consumer.taking }
 
   -- the dial then, and what was told
   abbrev pub so_far : Asker → Option EndReason → List Event → DialResult

@@ -6,15 +6,16 @@ use Rattle.node_core.specs.Clients.{Handling, PlainClient, client_posted}
 use Rattle.durability.specs.declared.waiting.Waiting.{Waiting}
 use Rattle.std.proofs.lemmas.Bool.{cases_eq}
 use Rattle.transcript_law.proofs.{invariant.{Holdings.{vb_of}, Owing.{ConnOwed, IsPast, IsWaitOf, Owed, OwedIf, OwedIn}}, lines.SessionLines.{IsKept, LeftBy, posted_at}}
-use Rattle.transcript_law.specs.{Feeding.{client_in}, Questions.{question_of}, StreamsTold.{Asking, ClientKnown}}
+use Rattle.transcript_law.specs.{Feeding.{client_in}, LawfulAnswers.{AllDurable}, Questions.{question_of}, StreamsTold.{Asking, ClientKnown}}
 use Rattle.node_world.specs.Nodes.{all_posted, awaiting_at, awaits_in, first_of, posted_if, posted_to}
 unfoldable use Rattle.node_world.specs.Nodes.{awaiting}
 use Rattle.client_session.specs.Serving.{awaits}
 use Rattle.client_session.specs.declared.session.Awaited.{Awaited}
 use Rattle.node_world.specs.declared.script_node.TheConstants.{MAX_CLIENTS}
 use Rattle.vb_calls.specs.declared.calls.Resolved.{Resolved}
-use Rattle.transcript_law.proofs.{answers.Committed.{made_on}, invariant.Owing.{IsToldIn, told_for_on}}
+use Rattle.transcript_law.proofs.{answers.Committed.{made_on}, invariant.Owing.{wait_for_on}}
 use Rattle.transcript_law.specs.LinesTold.{LastLine, told_for}
+use Rattle.transcript_law.proofs.lines.ClientLines.{posted_of}
 pub use Rattle.transcript_law.proofs.lines.ClientLines.{AreOfClients, SameBeside, posts_keep, posts_of_clients}
 pub use Rattle.transcript_law.proofs.invariant.Ranged.{posts_ranged}
 
@@ -98,8 +99,8 @@ module _ (w : PlainWorld) (n c : ℕ) (r : Chronicle) (node : PlainNode) (client
             absurd (awaits_other line x b (subst (λ (t : PlainClient). ConnOwed line n c told_then.made (vb_of (with_node_at w n later) n) (asked_at told_then n c) t.session) it mine) (sym (ap (λ (t : PlainClient). t.session.awaited) it) ∙ wait) k.some (k.past c client is) number))
             (λ ne.
             let known : asked_at told_then n d ≡ asked_at r n d = ap (λ (t : ClientKnown). t.asking) (left_past r n c d went.1.client.session.closed went.1 ne left) in
-            let t = k.own d other b q (sym (there_is d ne) ∙ e) wait (ap question_of (sym known) ∙ asks) number in
-            subst (λ (y : Asking). IsWaitOf y.settings q.frame v x p × IsToldIn n v x p (told_for (line.served n d) y.answered told_then.made)) (sym known) (t.0, told_for_on n v x p (line.served n d) (asked_at r n d).answered r.made told_then.made (made_on r went.1.events) t.1))
+            subst (λ (y : Asking). IsWaitOf n y.settings q.frame v x p (told_for (line.served n d) y.answered told_then.made)) (sym known)
+            (wait_for_on n (asked_at r n d).settings q.frame v x p (line.served n d) (asked_at r n d).answered r.made told_then.made (made_on r went.1.events) (k.own d other b q (sym (there_is d ne) ∙ e) wait (ap question_of (sym known) ∙ asks) number)))
             (cases_eq d c);
       }
     where
@@ -110,9 +111,9 @@ module _ (w : PlainWorld) (n c : ℕ) (r : Chronicle) (node : PlainNode) (client
           past (omega (arith, over, rises)) (subst (λ b. number < (b + 1) * 2 ^ 32) (ap (λ who. who.base) goes.who) below)
 
 module _ (stays : StaysSound) (steady : Steady) (w : PlainWorld) (n : ℕ) where
-  -- the node is put, and lines are read, after which all agrees
+  -- the node is put, and lines are read, after which all agrees, and no set and no removal waits to be answered
   abbrev Goes : Chronicle → PlainNode × List Event → Type 0
-  Goes r came = LawfulBefore r came.1 × Agrees (with_node_at w n came.0) (after_lines r came.1)
+  Goes r came = LawfulBefore r came.1 × Agrees (with_node_at w n came.0) (after_lines r came.1) × AllDurable (after_lines r came.1).made
 
   -- what is claimed of each prepare whose outcome is on its way
   abbrev Claim : Chronicle → PlainNode → ℕ → Waiting → Pend → Type 0
@@ -122,33 +123,34 @@ module _ (stays : StaysSound) (steady : Steady) (w : PlainWorld) (n : ℕ) where
   abbrev Posted : Chronicle → PlainNode → PlainNode × List Event → Type 0
   Posted r node came = Goes r came × ((v : ℕ) (x : Waiting) (p : Pend) → Claim r node v x p → Claim (after_lines r came.1) came.0 v x p)
 
-  posted_goes : (r : Chronicle) (node : PlainNode) (o : Resolved) (c : Option ℕ) → ((q : ℕ) → c ≡ Some q → awaits_in o.waiter (node.clients q) ≡ true) → NodeRanged n node → HowTold n r.made (Claim r node) o → Agrees (with_node_at w n node) r → Posted r node (posted_to o node c)
-  posted_goes r node o None waits ranged told a = ((none_before r, a), λ v x p claim. claim)
-  posted_goes r node o (Some c) waits ranged told a = by (node.clients c) refl (ranged.clients c) (ranged.own c)
+  posted_goes : (r : Chronicle) (node : PlainNode) (o : Resolved) (c : Option ℕ) → ((q : ℕ) → c ≡ Some q → awaits_in o.waiter (node.clients q) ≡ true) → NodeRanged n node → HowTold n r (Claim r node) o → AllDurable r.made → Agrees (with_node_at w n node) r → Posted r node (posted_to o node c)
+  posted_goes r node o None waits ranged told calm a = ((none_before r, a, calm), λ v x p claim. claim)
+  posted_goes r node o (Some c) waits ranged told calm a = by (node.clients c) refl (ranged.clients c) (ranged.own c)
     where
       by : (k : Option PlainClient) → node.clients c ≡ k → SessionRangedIf n k → IsKept n c k → Posted r node (posted_if c o node k)
-      by None none there kept = ((none_before r, a), λ v x p claim. claim)
+      by None none there kept = ((none_before r, a, calm), λ v x p claim. claim)
       by (Some client) is there kept =
           let (awaited, waiting, number) = awaited_by o.waiter client.session.awaited (sym (ap (awaits_in o.waiter) is) ∙ waits c refl) in
           let here : Agrees (world_with w n c node node.vbs (Some client)) r = client_again w r n c node client is a in
           let came = posted_comes stays steady w n c node ranged.clock (runs_with n c node client is ranged) r client o (Claim r node) awaited waiting number there.numbered
-          (λ line v x p rises same claim q asks. (claim line rises).own c client awaited q is waiting asks same) told (record { lawful = none_before r; agrees = here; bytes = there.bytes }) in
-          ((came.lawful, came.agrees), claim_posted w n c r node client is kept o awaited waiting number came.agrees.1.clients.owed)
+          (λ line v x p rises same claim q asks. (claim line rises).own c client awaited q is waiting asks same) told (record { lawful = none_before r; agrees = here; bytes = there.bytes; calm = calm; still = λ free. let z : None ≡ Some awaited = sym free ∙ waiting in cc }) in
+          ((came.lawful, came.agrees, came.calm), claim_posted w n c r node client is kept o awaited waiting number came.agrees.1.clients.owed)
 
   -- one after the other
-  all_go : (r : Chronicle) (node : PlainNode) (rs : List Resolved) → NodeRanged n node → AllHowTold n r.made (Claim r node) rs → Agrees (with_node_at w n node) r → Goes r (all_posted rs node)
-  all_go r node [] ranged told a = (none_before r, a)
-  all_go r node (o ∷ rs) ranged told a =
+  all_go : (r : Chronicle) (node : PlainNode) (rs : List Resolved) → NodeRanged n node → AllHowTold n r (Claim r node) rs → AllDurable r.made → Agrees (with_node_at w n node) r → Goes r (all_posted rs node)
+  all_go r node [] ranged told calm a = (none_before r, a, calm)
+  all_go r node (o ∷ rs) ranged told calm a =
       let c : Option ℕ = awaiting node.clients o.waiter MAX_CLIENTS in
       let one = posted_to o node c in let more = all_posted rs one.0 in
-      let (first, claims) = posted_goes r node o c (found_waits node.clients o.waiter MAX_CLIENTS) ranged (All-head (HowTold n r.made (Claim r node)) o rs told) a in
+      let (first, claims) = posted_goes r node o c (found_waits node.clients o.waiter MAX_CLIENTS) ranged (All-head (HowTold n r (Claim r node)) o rs told) calm a in
       let rest = all_go (after_lines r one.1) one.0 rs (posted_ranged n o node c ranged)
-      (all_claimed n (after_lines r one.1).made (Claim r node) (Claim (after_lines r one.1) one.0) rs claims (all_on r one.1 n (Claim r node) rs (All-tail (HowTold n r.made (Claim r node)) o rs told))) first.1 in (
+      (all_claimed n (after_lines r one.1) (Claim r node) (Claim (after_lines r one.1) one.0) rs claims (all_on r one.1 (posted_of n o node c ranged.own).0 n (Claim r node) rs (All-tail (HowTold n r (Claim r node)) o rs told))) first.2 first.1 in (
         before_more r one.1 more.1 first.0 rest.0,
         subst (Agrees (with_node_at w n more.0)) (sym (told_more r one.1 more.1)) rest.1,
+        subst (λ (k : Chronicle). AllDurable k.made) (sym (told_more r one.1 more.1)) rest.2,
       )
 
--- the node was put in the world before they were posted, and is put there again
-pub posts_go : StaysSound → Steady → (w : PlainWorld) (r : Chronicle) (n : ℕ) (node : PlainNode) (rs : List Resolved) → NodeRanged n node → AllHowTold n r.made (ClaimAt r n node.clients) rs → Agrees (with_node_at w n node) r
-    → LawfulFrom r (all_posted rs node).1 × Agrees (with_node_at w n (all_posted rs node).0) (after_lines r (all_posted rs node).1)
-posts_go stays steady w r n node rs ranged told a = let g = all_go stays steady w n r node rs ranged told a in (before_all r (all_posted rs node).1 g.0, g.1)
+-- the node was put in the world before they were posted, where no set and no removal waited to be answered, and is put there again
+pub posts_go : StaysSound → Steady → (w : PlainWorld) (r : Chronicle) (n : ℕ) (node : PlainNode) (rs : List Resolved) → NodeRanged n node → AllHowTold n r (ClaimAt r n node.clients) rs → AllDurable r.made → Agrees (with_node_at w n node) r
+    → LawfulFrom r (all_posted rs node).1 × Agrees (with_node_at w n (all_posted rs node).0) (after_lines r (all_posted rs node).1) × AllDurable (after_lines r (all_posted rs node).1).made
+posts_go stays steady w r n node rs ranged told calm a = let g = all_go stays steady w n r node rs ranged told calm a in (before_all r (all_posted rs node).1 g.0, g.1, g.2)

@@ -9,14 +9,14 @@ use Rattle.dcp_consumer.specs.Dialing.{buffer_request, first_requests, stream_op
 use Rattle.dcp_producer.proofs.{Decimals.{sizes}, Naming.{members_named}}
 use Rattle.dcp_producer.specs.declared.desk.Named.{Named}
 use Rattle.dcp_producer.specs.{Serving.{acknowledged, bytes_acknowledged, with_handshake, with_window_size, open_refusal, named_by, sized, sized_as}}
-use Rattle.dcp_consumer.specs.Machine.{answered, frame_step, is_streaming, message_step, response_step}
+use Rattle.dcp_consumer.specs.Machine.{answered, frame_step, is_streaming, message_step, response_step, unstated_step}
 use Rattle.dcp_consumer.specs.declared.handshake.Dialed.{Dialed}
 use Rattle.dcp_consumer.specs.declared.handshake.Handshake.{Handshake as Waiting}
 use Rattle.dcp_consumer.specs.declared.handshake.ConsumerStep.TheVariants as step
 use Rattle.dcp_consumer.specs.declared.handshake.Handshake.TheVariants as waiting
 use Rattle.mcbp_dcp.specs.declared.message.DcpMsg.TheVariants as msg
 use Rattle.transcript_law.proofs.links.Firsts.{AreServed, AreTaken, IsServed, IsTaken, Succeeds, First, open_first, buffer_first, sync_first, name_first, set_by, firsts, first_count, request_frames, asks_from, set_after, waits_after, first_answers, length_numbered, goes_on_short, ServedAt, first_served_at, TakenAt, first_taken_at, asks_last, has_last, none_over, streams_last}
-use Rattle.transcript_law.proofs.links.Frames.{readable}
+use Rattle.transcript_law.proofs.links.{Frames.{readable}, Unstated.{early_unstated}}
 
 -- a node's name is not empty and not long
 name_length : (node : ℕ) → node < 16 → (1 ≤ length (member_name node)) × (length (member_name node) ≤ 20)
@@ -143,22 +143,22 @@ all_set d = elim (d.buffer == 0) as (λ b. let rows : List First = open_first d.
     set_by Handshake.Fresh (length rows) rows ≡ Handshake.Open true (Named.Member d.node)) [ true ↦ refl | false ↦ refl ]
 
 -- an answer that is waited for is counted
-awaited_step : (c : PlainConsumer) (h : Waiting) (f : Frame) → c.handshake ≡ h → (if is_some (over_why h) then step.Dropped else if f.magic == RESPONSE then response_step c.dialed.buffer h c.asked f else message_step h f) ≡ step.Answered → frame_step c f ≡ step.Answered
-unfolding frame_step
-awaited_step c h f e is = ap (λ h. if is_some (over_why h) then step.Dropped else if f.magic == RESPONSE then response_step c.dialed.buffer h c.asked f else message_step h f) e ∙ is
+awaited_step : (c : PlainConsumer) (h : Waiting) (f : Frame) → c.handshake ≡ h → is_streaming h ≡ false → (if is_some (over_why h) then step.Dropped else if f.magic == RESPONSE then response_step c.dialed.buffer h c.asked f else message_step h f) ≡ step.Answered → frame_step c f ≡ step.Answered
+unfolding unstated_step
+awaited_step c h f e early is = early_unstated c f h e early ∙ ap (λ h. if is_some (over_why h) then step.Dropped else if f.magic == RESPONSE then response_step c.dialed.buffer h c.asked f else message_step h f) e ∙ is
 
 open_taken : (d : Dialed) (node : ℕ) (next : Waiting) → answered d.buffer waiting.Opening ≡ next → IsTaken d 1 next (open_first node)
 unfolding dcp_frame
-open_taken d node next goes_on = record { counted = λ c same e. awaited_step c waiting.Opening (dcp_frame (msg.OpenAnswer 0) 1 0) e refl; goes_on = goes_on; no_end = refl; no_stream = refl }
+open_taken d node next goes_on = record { counted = λ c same e. awaited_step c waiting.Opening (dcp_frame (msg.OpenAnswer 0) 1 0) e refl refl; goes_on = goes_on; no_end = refl; no_stream = refl }
 
 buffer_taken : (d : Dialed) → IsTaken d 2 waiting.SyncWrites (buffer_first d.buffer)
 unfolding dcp_frame
-buffer_taken d = record { counted = λ c same e. awaited_step c waiting.Buffering (dcp_frame (msg.ControlAnswer 0) 2 0) e refl; goes_on = refl; no_end = refl; no_stream = refl }
+buffer_taken d = record { counted = λ c same e. awaited_step c waiting.Buffering (dcp_frame (msg.ControlAnswer 0) 2 0) e refl refl; goes_on = refl; no_end = refl; no_stream = refl }
 
 sync_taken : (d : Dialed) (n : ℕ) → n ≡ stream_opaque d.buffer - 2 → IsTaken d n waiting.Naming sync_first
 unfolding dcp_frame
 sync_taken d n is = record {
-  counted = λ c same e. awaited_step c waiting.SyncWrites (dcp_frame (msg.ControlAnswer 0) n 0) e
+  counted = λ c same e. awaited_step c waiting.SyncWrites (dcp_frame (msg.ControlAnswer 0) n 0) e refl
       (ap (λ b. if b && true then step.Answered else step.Dropped) (eq-eqb n (stream_opaque c.dialed.buffer - 2) (is ∙ ap (λ x. stream_opaque x.buffer - 2) (sym same))));
   goes_on = refl;
   no_end = refl;
@@ -168,7 +168,7 @@ sync_taken d n is = record {
 name_taken : (d : Dialed) (n node : ℕ) → n ≡ stream_opaque d.buffer - 1 → IsTaken d n waiting.Asking (name_first node)
 unfolding dcp_frame
 name_taken d n node is = record {
-  counted = λ c same e. awaited_step c waiting.Naming (dcp_frame (msg.ControlAnswer 0) n 0) e
+  counted = λ c same e. awaited_step c waiting.Naming (dcp_frame (msg.ControlAnswer 0) n 0) e refl
       (ap (λ b. if b && true then step.Answered else step.Dropped) (eq-eqb n (stream_opaque c.dialed.buffer - 1) (is ∙ ap (λ x. stream_opaque x.buffer - 1) (sym same))));
   goes_on = refl;
   no_end = refl;

@@ -18,7 +18,7 @@ use Rattle.transcript_law.proofs.{links.Downing.{there, now, gone, lifted_at, bu
 use Rattle.transcript_law.proofs.{links.Onward.{Kept, one_back, onward_all, rolled_last, unarmed}, links.Rolling.{bare_point, farthest, roll_end_of, roll_taken_of, rolled_agrees, rolled_disk, rolled_shelf, stood_came}, disks.Burning.{stands_under}}
 use Rattle.branch_model.proofs.{Journaling.{ends_below, rolls_to}}
 use Rattle.branch_model.specs.Journals.{Covered, IsPoint, batches, cas_of_last, complete_points, end_of, image_at, place_of, roll_point}
-use Rattle.{cluster_model.specs.Clusters.{appended, rolled}, dcp_consumer.specs.Machine.{over_why, ended_for, request_again, again_by}, disk_journals.specs.Arms.{under}, node_world.specs.Arms.{fuse_or, lifted}, node_world.specs.Nodes.{with_kept}}
+use Rattle.{cluster_model.specs.Clusters.{appended, rolled}, dcp_consumer.specs.Dialing.{flagged}, dcp_consumer.specs.Machine.{over_why, ended_for, request_again, again_by}, disk_journals.specs.Arms.{under}, node_world.specs.Arms.{fuse_or, lifted}, node_world.specs.Nodes.{with_kept}}
 use Rattle.{mcbp_dcp.specs.declared.message.DcpMsg.TheVariants.{StreamRequest}, node_core.specs.Dials.{follower_ask, again_with, again_result, requested_once_more, rolled_back}}
 use Rattle.{transcript_law.specs.Chronicles.{ArmKnown, DiskKnown, after_calls, after_roll, calls_of_append, disk_back, rollback_of, spent}, vb_calls.specs.Following.{rolled_vb}}
 use Rattle.{vb_calls.specs.declared.calls.VbAnswer.TheVariants.{Named}, vb_calls.specs.declared.calls.VbCall.TheVariants.{Ask}, vb_events.specs.declared.event.EndReason.TheVariants.{Protocol}}
@@ -398,6 +398,10 @@ module _ (line : Line) (back : Back line) where
     rolled_dials : (after_lines r events').dial_of ≡ r.dial_of
     rolled_dials = ap (λ (x : Chronicle). x.dial_of) (after_more r events (rolled_line ∷ [])) ∙ (onward_all r events going.onward.lines).dials
 
+    -- what goes out is what it asks for: its link follows alone
+    asked_alone : (let x : Kept × DialResult = (states', again_with s' (request_again ask s'.dial.consumer)) in let y : Kept × DialResult = (states', so_far line again None events') in x ≡ y)
+    asked_alone = λ i. (states', again_with s' (record s'.dial.consumer { asked = at.asked + 1 }, spelling (dcp_frame (StreamRequest (flagged (mine.alone i) ask)) (at.asked + 1) v)))
+
     by_room : (b : Bool) → nat_lt at.asked (2 ^ 32 - 1) ≡ b → (came : Kept × DialResult) → came ≡ (states', again_with s' (if b then request_again ask s'.dial.consumer else (ended_for Protocol s'.dial.consumer, []))) → Reached line rest came
     by_room true e came q =
         let low : at.asked + 1 < 2 ^ 32 = grind (arith, nat_tests, e) in
@@ -406,7 +410,7 @@ module _ (line : Line) (back : Back line) where
           at = again;
           over = None;
           events = events';
-          same = q;
+          same = q ∙ asked_alone;
           rolled = true;
           stage = (
             none_left,

@@ -7,8 +7,8 @@ use Rattle.transcript_law.proofs.Words.{call_made, frame_taken, min, ⊎_elim, i
 use Rattle.transcript_law.proofs.Words.{ItemLine, Granted, Chronicle, stream_branch, item_of_change, stream_history, LawfulRange, LawfulGot, Bool, map, Option, Member, adopted, marked_by, received, flight_end}
 use Rattle.transcript_law.proofs.{Words.{Plain, PlainStream, past_next, past_mark}, invariant.Agreement.{answer_frame, DocFits, ActFits, ChangeFits, EntryFits, IsRefused, is_refused_ack, flight_marks, top, Busy}, links.Firsts.{first_answers, waits_after}, links.Requests.{first_counted}}
 use Rattle.transcript_law.proofs.{invariant.Agreement.{AgreesIn, coming_items, flight_items, marker_start, ComingIs, StreamAgrees}, links.Sent.{act_told, fits_of}, links.Comings.{marker_comes, taken_comes}}
-use Rattle.{branch_model.proofs.Images.{plain_stands}, cluster_model.specs.Clusters.{Comes}, dcp_consumer.specs.Machine.{verdict_step, answered_with, stream_step, is_awaited, answer_step, response_step, message_step, passive_step, is_noop, frame_step}}
-use Rattle.{dcp_consumer.specs.Dialing.{stream_opaque}, dcp_consumer.specs.Machine.{answered, moved_by}, dcp_consumer.specs.PassiveStreams.{set_change, remove_change, prepare_change, resolved_change, commit_act, call_of_message, called, passive_of}}
+use Rattle.{branch_model.proofs.Images.{plain_stands}, cluster_model.specs.Clusters.{Comes}, dcp_consumer.specs.Machine.{verdict_step, answered_with, stream_step, is_awaited, answer_step, response_step, message_step, passive_step, is_noop, frame_step, state_in, stepped, unstated_step}, transcript_law.proofs.links.Unstated.{answer_unstated, message_unstated, over_dropped}}
+use Rattle.{dcp_consumer.specs.Dialing.{stream_opaque}, dcp_consumer.specs.Machine.{answered}, dcp_consumer.specs.PassiveStreams.{set_change, remove_change, prepare_change, resolved_change, commit_act, call_of_message, called, passive_of}}
 use Rattle.{dcp_consumer.specs.declared.handshake.ConsumerStep.{ConsumerStep}, dcp_consumer.specs.declared.handshake.Handshake.{Handshake as Waiting}, dcp_consumer.specs.declared.passive_stream.Passive.{Passive}}
 use Rattle.{dcp_consumer.specs.declared.passive_stream.Passive.TheVariants.{Call, End}, mcbp_dcp.specs.declared.message.Deletion.{Deletion}, mcbp_dcp.specs.declared.message.Mutation.{Mutation}}
 use Rattle.{node_core.specs.Dials.{step_made}, std.proofs.Math.Bool.{and-false}, std.proofs.lemmas.Bool.{true_from_ne_false}, vb_calls.specs.declared.calls.VbCall.TheVariants.{Marker, Receive}, vb_types.specs.Limits.{key_of, value_of}}
@@ -29,16 +29,13 @@ use Rattle.vb_types.specs.declared.change.Level.{Level}
 
 -- what a frame comes to, by its step
 pub as_step : (f : Frame) (s : DialResult) (x : ConsumerStep) → frame_step s.dial.consumer f ≡ x
-    → frame_taken f s ≡ step_made x (with_consumer s (with_handshake s.dial.consumer (moved_by s.dial.consumer.dialed.buffer x s.dial.consumer.handshake)))
+    → frame_taken f s ≡ step_made x (with_consumer s (stepped x s.dial.consumer))
 unfolding frame_taken
-as_step f s x e = ap (λ y. step_made y (with_consumer s (with_handshake s.dial.consumer (moved_by s.dial.consumer.dialed.buffer y s.dial.consumer.handshake)))) e
+as_step f s x e = ap (λ y. step_made y (with_consumer s (stepped y s.dial.consumer))) e
 
 -- once the link is over, nothing is taken
 pub over_taken : (f : Frame) (s : DialResult) (why : EndReason) → over_why s.dial.consumer.handshake ≡ Some why → frame_taken f s ≡ Ended s
-unfolding frame_step
-over_taken f s why e =
-    let c : PlainConsumer = s.dial.consumer in
-    as_step f s step.Dropped (ap (λ o. if is_some o then step.Dropped else if f.magic == RESPONSE then response_step c.dialed.buffer c.handshake c.asked f else message_step c.handshake f) e)
+over_taken f s why e = as_step f s step.Dropped (over_dropped s.dial.consumer f why e)
 
 -- the answer to an acknowledgement that was refused is none that is waited for, so it is dropped
 
@@ -51,10 +48,11 @@ unawaited buffer waiting.Asking asked f e = ap (λ n. f.opaque == asked && n == 
 unawaited buffer other asked f e = refl
 
 dropped_step : (c : PlainConsumer) (f : Frame) → is_refused_ack f ≡ true → frame_step c f ≡ step.Dropped
-unfolding frame_step
+unfolding unstated_step
 dropped_step c f e =
     let p = and_parts (f.magic == RESPONSE) (f.opcode == 0x61) e in
-    elim (is_some (over_why c.handshake)) as (λ b. (if b then step.Dropped else if f.magic == RESPONSE then response_step c.dialed.buffer c.handshake c.asked f else message_step c.handshake f) ≡ step.Dropped) [
+    answer_unstated c f p.0
+    ∙ elim (is_some (over_why c.handshake)) as (λ b. (if b then step.Dropped else if f.magic == RESPONSE then response_step c.dialed.buffer c.handshake c.asked f else message_step c.handshake f) ≡ step.Dropped) [
       | true ↦ refl
       | false ↦ ap (λ b. if b then response_step c.dialed.buffer c.handshake c.asked f else message_step c.handshake f) p.0
           ∙ ap (λ b. if b then answer_step c.handshake f else step.Dropped) (unawaited c.dialed.buffer c.handshake c.asked f (eqb-true f.opcode 0x61 p.1))
@@ -77,17 +75,18 @@ answer_head (told.Go log) o = (refl, refl, refl)
 answer_head other o = (refl, refl, refl)
 
 answered_step : (t : StreamVerdict) (c : PlainConsumer) → IsVerdict t → VerdictInRange t → c.handshake ≡ waiting.Asking → frame_step c (dcp_frame (msg.StreamAnswer t) c.asked 0) ≡ verdict_step t
-unfolding frame_step
+unfolding unstated_step
 answered_step t c i r e =
     let n : ℕ = c.asked in let f : Frame = dcp_frame (msg.StreamAnswer t) n 0 in
-    ap (λ h. if is_some (over_why h) then step.Dropped else if f.magic == RESPONSE then response_step c.dialed.buffer h n f else message_step h f) e
+    answer_unstated c f (answer_head t n).0
+    ∙ ap (λ h. if is_some (over_why h) then step.Dropped else if f.magic == RESPONSE then response_step c.dialed.buffer h n f else message_step h f) e
     ∙ ap (λ b. if b then response_step c.dialed.buffer waiting.Asking n f else message_step waiting.Asking f) (answer_head t n).0
     ∙ ap (λ b. if b && f.opcode == 0x53 then answer_step waiting.Asking f else step.Dropped) (eq-eqb f.opaque n (answer_head t n).2)
     ∙ ap (λ b. if b then answer_step waiting.Asking f else step.Dropped) (eq-eqb f.opcode 0x53 (answer_head t n).1)
     ∙ ap (λ x. stream_step (answered_with f.vb_or_status x)) (message_back (msg.StreamAnswer t) n 0 i r)
 
 answered_taken : (t : StreamVerdict) (s : DialResult) → IsVerdict t → VerdictInRange t → s.dial.consumer.handshake ≡ waiting.Asking
-    → frame_taken (dcp_frame (msg.StreamAnswer t) s.dial.consumer.asked 0) s ≡ step_made (verdict_step t) (with_consumer s (with_handshake s.dial.consumer (moved_by s.dial.consumer.dialed.buffer (verdict_step t) s.dial.consumer.handshake)))
+    → frame_taken (dcp_frame (msg.StreamAnswer t) s.dial.consumer.asked 0) s ≡ step_made (verdict_step t) (with_consumer s (stepped (verdict_step t) s.dial.consumer))
 answered_taken t s i r w = as_step (dcp_frame (msg.StreamAnswer t) s.dial.consumer.asked 0) s (verdict_step t) (answered_step t s.dial.consumer i r w)
 
 entries_in_range : (log : List LogEntry) → All EntryFits log → All EntryInRange log
@@ -107,13 +106,14 @@ pub refused_taken : (code : ℕ) (s : DialResult) → IsRefused (ask_answer.Refu
 refused_taken code s r w = answered_taken (told.Refused code) s (r.0, r.1) r.2 w
 
 -- a message of a stream that was granted
-message_read : (m : DcpMsg) (p : Passive) (n v : ℕ) (s : DialResult) → IsSpelled m → InRange m → s.dial.consumer.handshake ≡ waiting.Streaming → ((dcp_frame m n v).magic == RESPONSE) ≡ false → is_noop (Some (Ok m)) ≡ false → passive_of m ≡ p
-    → frame_taken (dcp_frame m n v) s ≡ step_made (step.Passive p) (with_consumer s (with_handshake s.dial.consumer (moved_by s.dial.consumer.dialed.buffer (step.Passive p) s.dial.consumer.handshake)))
-unfolding frame_step
-message_read m p n v s i r w q none e =
+message_read : (m : DcpMsg) (p : Passive) (n v : ℕ) (s : DialResult) → IsSpelled m → InRange m → s.dial.consumer.handshake ≡ waiting.Streaming → ((dcp_frame m n v).magic == RESPONSE) ≡ false → is_noop (Some (Ok m)) ≡ false → state_in (Some (Ok m)) ≡ None → passive_of m ≡ p
+    → frame_taken (dcp_frame m n v) s ≡ step_made (step.Passive p) (with_consumer s (stepped (step.Passive p) s.dial.consumer))
+unfolding unstated_step
+message_read m p n v s i r w q none stateless e =
     let f : Frame = dcp_frame m n v in let c : PlainConsumer = s.dial.consumer in
     as_step f s (step.Passive p)
-    (ap (λ h. if is_some (over_why h) then step.Dropped else if f.magic == RESPONSE then response_step c.dialed.buffer h c.asked f else message_step h f) w
+    (message_unstated c f (ap state_in (message_back m n v i r) ∙ stateless)
+    ∙ ap (λ h. if is_some (over_why h) then step.Dropped else if f.magic == RESPONSE then response_step c.dialed.buffer h c.asked f else message_step h f) w
     ∙ ap (λ b. if b then response_step c.dialed.buffer waiting.Streaming c.asked f else message_step waiting.Streaming f) q
     ∙ ap (λ x. if is_noop x then step.Noop f.opaque else passive_step waiting.Streaming x) (message_back m n v i r)
     ∙ ap (λ b. if b then step.Noop f.opaque else step.Passive (passive_of m)) none
@@ -122,12 +122,12 @@ message_read m p n v s i r w q none e =
 pub marker_taken : (start end n v : ℕ) (s : DialResult) → start < 2 ^ 64 → end < 2 ^ 64 → s.dial.consumer.handshake ≡ waiting.Streaming
     → frame_taken (dcp_frame (msg.SnapshotMarker start end 1) n v) s ≡ lift (call_made (Marker start end) s)
 unfolding dcp_frame call_of_message
-marker_taken start end n v s a b w = message_read (msg.SnapshotMarker start end 1) (Call (Marker start end)) n v s tt (a, b, omega arith) w refl refl refl
+marker_taken start end n v s a b w = message_read (msg.SnapshotMarker start end 1) (Call (Marker start end)) n v s tt (a, b, omega arith) w refl refl refl refl
 
 -- the end of the stream, which a change of role at its producer's vBucket ended
 pub end_taken : (n v : ℕ) (s : DialResult) → s.dial.consumer.handshake ≡ waiting.Streaming → frame_taken (dcp_frame (msg.StreamEnd STATE_CHANGED) n v) s ≡ Ended (over_for State s)
 unfolding dcp_frame
-end_taken n v s w = message_read (msg.StreamEnd STATE_CHANGED) (End State) n v s tt (omega arith) w refl refl refl
+end_taken n v s w = message_read (msg.StreamEnd STATE_CHANGED) (End State) n v s tt (omega arith) w refl refl refl refl
 
 key_fits : (key : List ℕ) → IsKey key → key_of key ≡ Some key
 key_fits key k = let b : (nat_le 1 (length key) && nat_le (length key) 250) ≡ true = grind (arith, nat_tests) in ap (λ x. if x then Some key else None) b
@@ -179,33 +179,33 @@ change_taken c (Set doc) n v s fits e w =
     ap (λ x. option_map Receive (set_change t x (value_of doc.value))) (key_fits c.key fits.key)
     ∙ ap (λ x. option_map Receive (set_change t (Some c.key) x)) (value_fits doc.value f.value) in
     let key : length c.key ≤ 250 = fits.key.1 in let value : length doc.value ≤ 20971520 = f.value in
-    message_read (msg.Mutation t) (Call (Receive told)) n v s (omega arith, omega arith) (record { seq = fits.seq; rev = f.rev; cas = f.cas; flags = f.flags; expiry = f.expiry }) w refl refl (ap called is)
+    message_read (msg.Mutation t) (Call (Receive told)) n v s (omega arith, omega arith) (record { seq = fits.seq; rev = f.rev; cas = f.cas; flags = f.flags; expiry = f.expiry }) w refl refl refl (ap called is)
 change_taken c (Remove cas rev) n v s fits e w =
     let f : (cas < 2 ^ 64) × (rev < 2 ^ 64) = subst ActFits e fits.act in
     let t : Deletion = record { seq = c.seq; rev = rev; cas = cas; key = c.key } in
     let told : Change = record { seq = c.seq; key = c.key; act = Remove cas rev } in
     let is : call_of_message (msg.Deletion t) ≡ Some (Receive told) = ap (λ x. option_map Receive (option_map (remove_change t) x)) (key_fits c.key fits.key) in
     let key : length c.key ≤ 250 = fits.key.1 in
-    message_read (msg.Deletion t) (Call (Receive told)) n v s (omega arith) (record { seq = fits.seq; rev = f.1; cas = f.0 }) w refl refl (ap called is)
+    message_read (msg.Deletion t) (Call (Receive told)) n v s (omega arith) (record { seq = fits.seq; rev = f.1; cas = f.0 }) w refl refl refl (ap called is)
 change_taken c (Prepare level doc deleted) n v s fits e w =
     let f : ActFits (Prepare level doc deleted) = subst ActFits e fits.act in
     let told : Change = record { seq = c.seq; key = c.key; act = Prepare level doc deleted } in
     message_read (prepare_message c level doc deleted) (Call (Receive told)) n v s (prepare_spelled c level doc deleted fits.key f.0.value)
-    (record { seq = fits.seq; rev = f.0.rev; cas = f.0.cas; flags = f.0.flags; expiry = f.0.expiry }) w refl refl (ap called (prepare_read c level doc deleted fits.key f.0.value f.1))
+    (record { seq = fits.seq; rev = f.0.rev; cas = f.0.cas; flags = f.0.flags; expiry = f.0.expiry }) w refl refl refl (ap called (prepare_read c level doc deleted fits.key f.0.value f.1))
 change_taken c (Commit prepared doc deleted) n v s fits e w =
     let f : ActFits (Commit prepared doc deleted) = subst ActFits e fits.act in
     let t : Resolution = record { prepared = prepared; seq = c.seq; key = c.key } in
     let told : Change = record { seq = c.seq; key = c.key; act = commit_act prepared } in
     let is : call_of_message (msg.Commit t) ≡ Some (Receive told) = ap (λ x. option_map Receive (option_map (resolved_change t (commit_act prepared)) x)) (key_fits c.key fits.key) in
     let key : length c.key ≤ 250 = fits.key.1 in
-    message_read (msg.Commit t) (Call (Receive told)) n v s (omega arith) (record { prepared = f.0; seq = fits.seq }) w refl refl (ap called is)
+    message_read (msg.Commit t) (Call (Receive told)) n v s (omega arith) (record { prepared = f.0; seq = fits.seq }) w refl refl refl (ap called is)
 change_taken c (Abort prepared) n v s fits e w =
     let f : prepared < 2 ^ 64 = subst ActFits e fits.act in
     let t : Resolution = record { prepared = prepared; seq = c.seq; key = c.key } in
     let told : Change = record { seq = c.seq; key = c.key; act = Abort prepared } in
     let is : call_of_message (msg.Abort t) ≡ Some (Receive told) = ap (λ x. option_map Receive (option_map (resolved_change t (Abort prepared)) x)) (key_fits c.key fits.key) in
     let key : length c.key ≤ 250 = fits.key.1 in
-    message_read (msg.Abort t) (Call (Receive told)) n v s (omega arith) (record { prepared = f; seq = fits.seq }) w refl refl (ap called is)
+    message_read (msg.Abort t) (Call (Receive told)) n v s (omega arith) (record { prepared = f; seq = fits.seq }) w refl refl refl (ap called is)
 
 -- the frame that grants a stream
 abbrev pub go_frame : ℕ → Feed → Frame

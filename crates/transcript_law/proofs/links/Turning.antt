@@ -208,7 +208,7 @@ module _ (w w' : PlainWorld) (r r' : Chronicle) (c c' : Cluster) (n v : ℕ) (vb
       by None e z = cc
       by (Some client) e z = let same : client_ended v ids client ≡ client' = cc in (client, e, subst (StreamsEnded v client) same (all_ended w r n v d vb client known (a.clients.each n d client e)))
 
-  turned_told : ((m d : ℕ) → r'.clients_at m d ≡ with_clients_of r.clients_at n (past_turn v) m d) → ((m q : ℕ) → AgreesAt r' m q (c'.nodes (seat m q)) (vb_of w' m q)) → ((u : ℕ) → IsTold r.tree u → hist r'.tree u ≡ hist r.tree u)
+  turned_told : ((m d : ℕ) → r'.clients_at m d ≡ with_clients_of r.clients_at n (past_turn v (r.held n v)) m d) → ((m q : ℕ) → AgreesAt r' m q (c'.nodes (seat m q)) (vb_of w' m q)) → ((u : ℕ) → IsTold r.tree u → hist r'.tree u ≡ hist r.tree u)
       → RoleTold w w' r r' n v
   turned_told clients vbs same = record {
     here = ended_here;
@@ -222,7 +222,7 @@ module _ (w w' : PlainWorld) (r r' : Chronicle) (c c' : Cluster) (n v : ℕ) (vb
 
   -- what is left of the agreement is the vBuckets, the branches and what rests
   pub turned_agrees : SoundCluster top c' → ((m q : ℕ) → AgreesAt r' m q (c'.nodes (seat m q)) (vb_of w' m q)) → ((m q : ℕ) → DiskIsIf (r'.disk_at m q) (c'.disks (seat m q)) (shelf_of w' m q) (vb_of w' m q)) → BranchesAgree c'.tree r'.tree w'.uuids
-      → RestsIn w' r' c' → ((m d : ℕ) → r'.clients_at m d ≡ with_clients_of r.clients_at n (past_turn v) m d) → ((u : ℕ) → IsTold r.tree u → hist r'.tree u ≡ hist r.tree u) → Later r r' → Fewer (Some vb) (Some vb') → AgreesIn idle w' r' c'
+      → RestsIn w' r' c' → ((m d : ℕ) → r'.clients_at m d ≡ with_clients_of r.clients_at n (past_turn v (r.held n v)) m d) → ((u : ℕ) → IsTold r.tree u → hist r'.tree u ≡ hist r.tree u) → Later r r' → Fewer (Some vb) (Some vb') → AgreesIn idle w' r' c'
   turned_agrees sound vbs disks branches rests clients same last fewer = record {
     sound = sound;
     vbs = vbs;

@@ -8,13 +8,13 @@ use Rattle.transcript_law.proofs.Words.{Frame, spelling, left_of, dcp_frame, Ask
 use Rattle.transcript_law.proofs.Words.{Member, Cluster, Move, happens, May, keeps, answered, Handshake, PlainProducer, Served, begun, frame_answered, refuse, is_active, stream_at, open_refusal, new_stream}
 use Rattle.transcript_law.proofs.Words.{PeerResult, peer_result, PlainLink, link_number, producer_node, consumer_node, PlainNode, PlainWorld, with_states, with_node_at, with_links, with_up, vb_in, Granted, granted, Chronicle, after_ask, after_line, after_lines}
 use Rattle.transcript_law.proofs.Words.{LawfulAsk, LawfulLine, LawfulVerdict, IsDialed, with_stream, DcpMsg, Event, StreamName}
-use Rattle.transcript_law.proofs.invariant.Agreement.{AckedIs, vb_of, shelf_of, answer_frame, spoken, Asking, IsRefused, PointAgrees, Talk, consumer_seat, producer_seat, LinkAgrees, AgreesIn, wants_of, DialAgrees, VbAgrees, AgreesAt, top}
+use Rattle.transcript_law.proofs.invariant.Agreement.{AckedIs, power_of, vb_of, shelf_of, answer_frame, spoken, Asking, IsRefused, PointAgrees, Talk, consumer_seat, producer_seat, LinkAgrees, AgreesIn, wants_of, DialAgrees, VbAgrees, AgreesAt, top}
 use Rattle.transcript_law.proofs.{disks.Absent.{nothing_here}, invariant.Carried.{told_of_same, one_here, one_but, no_writer, talk_same}, invariant.Carrying.{Became, FeedChanged, SamePowers, ToldOf}, invariant.LinkRows.{found_is_link, put_is_found, put_twice}}
-use Rattle.transcript_law.proofs.{verbs.NodeLines.{powers_again, shelves_again}, invariant.OneLink.{mine, carries_link, put_here, put_there, carries_producer, disk_here, disk_there}, invariant.Ranged.{NodeRanged}, invariant.Seats.{seat}}
+use Rattle.transcript_law.proofs.{verbs.NodeLines.{powers_again, shelves_again}, invariant.OneLink.{mine, carries_link, put_here, put_there, carries_producer, disk_here, disk_there}, invariant.Ranged.{NodeRanged}, invariant.Resting.{not_down}, invariant.Seats.{seat}}
 use Rattle.transcript_law.proofs.{links.Spoken.{message_spoken}, invariant.Tables.{id_here, id_there, stream_here, stream_there}, lines.Telling.{LawfulBefore, before_more, none_before, told_more, one_before}}
 use Rattle.transcript_law.proofs.{links.Firsts.{ServedAt, Succeeds, asks_from, first_count, firsts, goes_on_before, request_frames, set_after}, links.Requests.{first_served, request_last}, links.Talks.{come, next_asking}, links.Unread.{answering}}
 use Rattle.transcript_law.proofs.links.Answered.{told_line, refused_told, StatesAre, granted_lines, absent_asked, refused_asked, rolled_asked, granted_asked, refused_talk, asked_opened, granted_talk, streams_opened}
-use Rattle.transcript_law.specs.Lawfulness.{GrantsAs}
+use Rattle.transcript_law.specs.{LawfulAnswers.{AllDurable}, Lawfulness.{GrantsAs}}
 use Rattle.transcript_law.proofs.links.Verdicts.{active_vb_lines, asks_in_range, roll_low, refusal_named, opens_active, opens_free, absent_lawful, own_lawful, ruled_there, go_lawful, roll_lawful}
 use Rattle.transcript_law.proofs.invariant.Owing.{later_same}
 
@@ -23,6 +23,12 @@ unasked : (r : Chronicle) (l v q : ℕ) (ask : StreamAsk) (log : List LogEntry) 
 unasked r l v q ask log AskAnswer.Go refused = absurd refused
 unasked r l v q ask log (AskAnswer.Roll to) refused = refl
 unasked r l v q ask log (AskAnswer.Refuse code) refused = refl
+
+-- nor does any tell of a change
+asked_made : (r : Chronicle) (l v : ℕ) (ask : StreamAsk) (log : List LogEntry) (said : AskAnswer) → (after_ask r l v ask log said).made ≡ r.made
+asked_made r l v ask log AskAnswer.Go = refl
+asked_made r l v ask log (AskAnswer.Roll to) = refl
+asked_made r l v ask log (AskAnswer.Refuse code) = refl
 
 -- an answer that grants nothing tells of the link's point at most, and that it is the one that it says
 refused_told_of : (l v : ℕ) (r : Chronicle) (ask : StreamAsk) (log : List LogEntry) (said : AskAnswer) → IsRefused said
@@ -59,11 +65,12 @@ module _ (w0 : PlainWorld) (r0 : Chronicle) (n : ℕ) (link0 : PlainLink) (found
   abbrev pub world_at : PlainNode × PeerResult → PlainWorld
   world_at x = with_links (with_node_at w0 m x.0) (row_put link_number l (served_at x.1) w0.links)
 
-  -- so far all agrees, and these frames are about to be answered
+  -- so far all agrees, no set and no removal waits to be answered, and these frames are about to be
   pub record Now (fs : List Frame) (x : PlainNode × PeerResult) : Type 0 where
     pub cluster : Cluster
     pub lawful : LawfulBefore r0 x.1.events
     pub agrees : AgreesIn (answering l fs) (world_at x) (after_lines r0 x.1.events) cluster
+    pub calm : AllDurable (after_lines r0 x.1.events).made
     pub desk : x.1.peer.producer.desk ≡ link0.server.desk
     pub heard : x.1.peer.heard ≡ left_of (come link0 n)
     pub ranged : NodeRanged m x.0
@@ -107,7 +114,7 @@ module _ (w0 : PlainWorld) (r0 : Chronicle) (n : ℕ) (link0 : PlainLink) (found
   -- a step after which each vBucket is as it was, and that tells of no stream
   module _ (fs gs : List Frame) (x : PlainNode × PeerResult) (now : Now fs x) (st : States) (same : (q : ℕ) → st q ≡ x.0.vbs q) (end : PlainProducer) (lines : List Event) (out : List ℕ) (desk : end.desk ≡ x.1.peer.producer.desk)
       (no_stream : (q id : ℕ) → HasOpen q id end.streams → HasOpen q id x.1.peer.producer.streams) (lawful : LawfulBefore (after_lines r0 x.1.events) lines) (r' : Chronicle) (told : after_lines (after_lines r0 x.1.events) lines ≡ r')
-      (known_of : ToldOf l (after_lines r0 x.1.events) r') (dial : r'.dial_of l ≡ (after_lines r0 x.1.events).dial_of l) (stream : r'.stream_of (StreamName.Link l) v ≡ (after_lines r0 x.1.events).stream_of (StreamName.Link l) v) where
+      (known_of : ToldOf l (after_lines r0 x.1.events) r') (dial : r'.dial_of l ≡ (after_lines r0 x.1.events).dial_of l) (stream : r'.stream_of (StreamName.Link l) v ≡ (after_lines r0 x.1.events).stream_of (StreamName.Link l) v) (made : r'.made ≡ (after_lines r0 x.1.events).made) where
     abbrev y : PlainNode × PeerResult
     y = answered_at x st end lines out
 
@@ -132,6 +139,7 @@ module _ (w0 : PlainWorld) (r0 : Chronicle) (n : ℕ) (link0 : PlainLink) (found
           cluster = c;
           lawful = before_more r0 x.1.events lines now.lawful lawful;
           agrees = subst (λ z. AgreesIn (answering l gs) (world_at y) z c) (sym (told_more r0 x.1.events lines ∙ told)) agrees;
+          calm = subst AllDurable (sym (ap (λ (k : Chronicle). k.made) (told_more r0 x.1.events lines ∙ told) ∙ made)) now.calm;
           desk = desk ∙ now.desk;
           heard = now.heard;
           ranged = record { clock = now.ranged.clock; clients = now.ranged.clients; own = now.ranged.own; runs = now.ranged.runs };
@@ -191,7 +199,7 @@ module _ (w0 : PlainWorld) (r0 : Chronicle) (n : ℕ) (link0 : PlainLink) (found
         let r = after_lines r0 x.1.events in
         subst (Now fs) (sym (frame_came f x ∙ ap (λ h. came_of x (after (frame_answered h s) x.0.vbs)) (sym same) ∙ ap (λ p. came_of x (after p x.0.vbs)) came.came))
         (quiet (f ∷ fs) fs x now x.0.vbs (λ q. refl) came.end [] (spelling a) came.desk (λ q id has. subst (HasOpen q id) came.streams has) (none_before r) r refl
-        (told_of_same l r) refl refl
+        (told_of_same l r) refl refl refl
         (λ kn pv leader g' told. next_asking (served_at x.1) came.end (link0.down ++ (x.1.out ++ spelling a)) a la.follower kn pv leader g' (told ∙ none) (r.point_of l) ask f g fs talk_now.asked talk_now.said k t
         talk_now.ups talk_now.downs (sym (append_assoc link0.down x.1.out (spelling a))) came.streams came.asked at.served.says (message_spoken at.row.answer (suc k) 0) is few (came.set_is ∙ sym at.set)
         (at.asked.0 ++ request, here) at.said))
@@ -207,7 +215,7 @@ module _ (w0 : PlainWorld) (r0 : Chronicle) (n : ℕ) (link0 : PlainLink) (found
         (λ behind. subst (λ nm. LawfulLine r (Event.Asked nm s.end.desk.node v ask high log said) behind) (sym la.named) lawful))
         (after_ask r l v ask log said)
         (ap (λ nm. after_line r (Event.Asked nm s.end.desk.node v ask high log said)) la.named)
-        known_of.0 known_of.1 (unasked r l v v ask log said refused)
+        known_of.0 known_of.1 (unasked r l v v ask log said refused) (asked_made r l v ask log said)
         (λ kn pv leader g told. refused_talk la.follower ask (served_at x.1) (link0.down ++ (x.1.out ++ spelling (answer_frame link0.consumer.asked [] said))) f fs talk_now.asked talk_now.said t is talk_now.ups talk_now.downs kn pv leader g (told ∙ unasked r l v v ask log said refused ∙ none) said refused
         ((after_ask r l v ask log said).point_of l) known_of.2 (sym (append_assoc link0.down x.1.out (spelling (answer_frame link0.consumer.asked [] said)))))
 
@@ -388,6 +396,7 @@ module _ (w0 : PlainWorld) (r0 : Chronicle) (n : ℕ) (link0 : PlainLink) (found
                 (record { dialed = refl; desk = refl }) (known_there (Some pv) known) (streams_opened fv ask link (link0.down ++ (x.1.out ++ spelling (answer_frame o pv.log AskAnswer.Go))) f fs talk_now.asked talk_now.said t last talk_now.ups talk_now.downs pv kn pn follower.member.position producer.member.log (now.agrees.sound.leads p leads).front
                 (now.agrees.sound.stands p).ancestry.short producer.entries active free ends_apart wrote producer.sound) became (same_shelves x came node_of_same_vbs mp v) (inr free) (λ q k has. ⊎_elim (λ o. (sym o.0, sym o.1)) (λ none. absurd none) has) known_of fed (keeps top c (Move.Grant k p) now.agrees.sound may)
                 (one_but l (f ∷ fs, []) (fs, [])) (subst (λ q. LinkAgrees (world_at came) r' c' link' q.0 q.1) (sym (one_here l (fs, []))) lb));
+            calm = subst AllDurable (sym (ap (λ (k : Chronicle). k.made) told)) now.calm;
             desk = now.desk;
             heard = now.heard;
             ranged = record { clock = now.ranged.clock; clients = now.ranged.clients; own = now.ranged.own; runs = now.ranged.runs };
@@ -412,7 +421,7 @@ module _ (w0 : PlainWorld) (r0 : Chronicle) (n : ℕ) (link0 : PlainLink) (found
       -- a running node's vBucket that is not made holds nothing, and the lines tell so
       absent : x.0.vbs v ≡ None → Now fs (frame_up f x)
       absent none =
-          let nothing = nothing_here (world_at x) r c mp v now.agrees (known_there None none) (now.agrees.ends link (found_is_link l (world_at x).links link (found_at x)).0).producer in
+          let nothing = nothing_here (world_at x) r c mp v now.agrees (known_there None none) (not_down (power_of (world_at x) mp) (now.agrees.ends link (found_is_link l (world_at x).links link (found_at x)).0).producer) in
           answered_as (x.0.vbs, refused_told s o v ask [] 0 (AskAnswer.Refuse 7)) (absent_asked o v nn ask s in_range asked_open no_flags t.no_stream numbers_left x.0.vbs none)
           (refuse_last last x.0.vbs (λ q. refl) [] 0 (AskAnswer.Refuse 7) (λ e. omega arith, λ e. omega arith, omega arith)
           (absent_lawful r l mp v ask dialed_there nothing.log nothing.held))

@@ -22,6 +22,7 @@ gives ticks before clock given = (
     made = abort_next;
     fulfils = λ prepared doc deleted e. cc;
     backed = λ prepared doc deleted e. cc;
+    asked = λ level doc deleted e. cc;
     aborts = λ prepared e. let q : 1 ≡ prepared = cc in subst (IsGivenUp (given_known ticks before clock) 0 0) q given;
   },
   tt,
@@ -85,6 +86,7 @@ behind = (
           made = abort_next;
           fulfils = λ prepared doc deleted e. cc;
           backed = λ prepared doc deleted e. cc;
+          asked = λ level doc deleted e. cc;
           aborts = λ prepared e. let q : 1 ≡ prepared = cc in record { asked = refl; before = 0; made = inl (sym q, refl); up = inl a_millisecond };
         },
         tt,

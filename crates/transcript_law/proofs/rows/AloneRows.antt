@@ -42,6 +42,7 @@ commits = (
     made = resolving_next (prepare_of Majority ∷ []) the_commit waits refl waits_there refl refl refl refl;
     fulfils = λ number doc deleted e. let t = named_so number doc deleted e in (waits, waits_there, t.0, t.1, t.2);
     backed = λ number doc deleted e p there. let found : Some waits ≡ Some p = sym waits_there ∙ there in let same : waits ≡ p = cc in subst (λ (q : Pend). IsHeldByMost (prepared.counts_at 0 0) (prepared.disk_at 0 0).saved q.seq q.level) same (held_alone 1);
+    asked = λ level doc deleted e. cc;
     aborts = λ prepared e. cc;
   },
   tt,

@@ -28,11 +28,11 @@ no_other rest more e = let n : ◌≡◌ {A = ℕ} 2 1 = cc in omega (arith, n)
 
 pub closes : LawfulTo [] broken (says NOOP status.Einval ∷ shuts ∷ [])
 unfolding spelling frames_in first_frame frame_of read_of frame_row shape_fault request_of requirement_of
-closes = (λ z. fault_answer BadLengths (record { opcode = 10; opaque = 9 }) refl refl refl tt, (tt, tt))
+closes = (λ z. fault_answer BadLengths (record { opcode = 10; opaque = 9 }) refl refl refl (tt, refl), ((λ opened. refl), tt))
 
 pub long : LawfulTo [] vast (says NOOP status.Einval ∷ shuts ∷ [])
 unfolding spelling frames_in first_frame frame_of read_of frame_row shape_fault request_of requirement_of
-long = (λ z. fault_answer BodyTooLong (record { opcode = 10; opaque = 9 }) refl refl refl tt, (tt, tt))
+long = (λ z. fault_answer BodyTooLong (record { opcode = 10; opaque = 9 }) refl refl refl (tt, refl), ((λ opened. refl), tt))
 
 pub stays : LawfulTo [] broken (says NOOP status.Einval ∷ []) → ⊥
 unfolding spelling frames_in first_frame frame_of read_of frame_row shape_fault request_of requirement_of
@@ -56,7 +56,7 @@ success l = let e : ◌≡◌ {A = ℕ} 0 4 = ap (byte_at 7) (fault_bytes (fault
 
 pub behind : LawfulTo [] (noop 9 ++ broken) (answers 9 ∷ says NOOP status.Einval ∷ shuts ∷ [])
 unfolding spelling frames_in first_frame frame_of read_of frame_row shape_fault request_of requirement_of
-behind = (λ z. noop_answer 9 refl refl refl refl tt, (λ z. fault_answer BadLengths (record { opcode = 10; opaque = 9 }) refl refl refl tt, (tt, tt)))
+behind = (λ z. noop_answer 9 refl refl refl refl (tt, refl), (λ z. fault_answer BadLengths (record { opcode = 10; opaque = 9 }) refl refl refl (tt, refl), ((λ opened. refl), tt)))
 
 pub early : LawfulTo [] (noop 9 ++ broken) (says NOOP status.Einval ∷ shuts ∷ []) → ⊥
 unfolding spelling frames_in first_frame frame_of read_of frame_row shape_fault request_of requirement_of

@@ -23,7 +23,7 @@ use Rattle.transcript_law.proofs.rows.NextRows.{seven_pending, seven_there}
 
 pub hello : LawfulTo [] (greets (feature.Json ∷ [])) (welcomes (feature.Json ∷ []) ∷ [])
 unfolding spelling frames_in first_frame frame_of read_of frame_row shape_fault request_of requirement_of accepted feature_bytes
-hello = (λ z. kv_answer (reply_frame (welcome_answer 9 (feature.Json ∷ []))) refl refl refl refl refl refl (welcome_so 9 (feature.Json ∷ [])) (inr tt), tt)
+hello = (λ z. kv_answer (reply_frame (welcome_answer 9 (feature.Json ∷ []))) refl refl refl refl refl refl (welcome_so 9 (feature.Json ∷ [])) (inr (inr (tt, refl))), tt)
 
 pub more : LawfulTo [] (greets (feature.Json ∷ [])) (welcomes (feature.Json ∷ feature.MutationSeqnos ∷ []) ∷ []) → ⊥
 unfolding spelling frames_in first_frame frame_of read_of frame_row shape_fault request_of requirement_of accepted feature_bytes
@@ -35,7 +35,7 @@ fewer l = let (g, s, fits) = asked_so (l.0 refl) refl refl refl in let e : ◌�
 
 pub sets : LawfulTo json_once (greets (feature.Json ∷ []) ++ gets 0 7) (welcomes (feature.Json ∷ []) ∷ finds json_doc ∷ [])
 unfolding spelling frames_in first_frame frame_of read_of frame_row shape_fault request_of requirement_of accepted feature_bytes
-sets = (λ z. kv_answer (reply_frame (welcome_answer 9 (feature.Json ∷ []))) refl refl refl refl refl refl (welcome_so 9 (feature.Json ∷ [])) (inr tt), (λ z. kv_answer (reply_frame (found_answer true 9 json_doc)) refl refl refl refl refl refl (get_found json_doc refl (free 0 (image_of json_once) (7 ∷ []) (seven_pending json_doc (7 ∷ []))) (seven_there json_doc) (found_so true 9 json_doc)) (inr tt), tt))
+sets = (λ z. kv_answer (reply_frame (welcome_answer 9 (feature.Json ∷ []))) refl refl refl refl refl refl (welcome_so 9 (feature.Json ∷ [])) (inr (inr (tt, refl))), (λ z. kv_answer (reply_frame (found_answer true 9 json_doc)) refl refl refl refl refl refl (get_found json_doc refl (free 0 (image_of json_once) (7 ∷ []) (seven_pending json_doc (7 ∷ []))) (seven_there json_doc) (found_so true 9 json_doc)) (inr (inr (tt, refl))), tt))
 
 pub sets_raw : LawfulTo json_once (greets (feature.Json ∷ []) ++ gets 0 7) (welcomes (feature.Json ∷ []) ∷ finds_raw json_doc ∷ []) → ⊥
 unfolding spelling frames_in first_frame frame_of read_of frame_row shape_fault request_of requirement_of accepted feature_bytes
@@ -43,11 +43,11 @@ sets_raw l = let (g, s, fits) = asked_so (l.1.0 refl) refl refl refl in let e : 
 
 pub sets_back : LawfulBy for_json json_once (greets [] ++ gets 0 7) (welcomes [] ∷ finds_raw json_doc ∷ [])
 unfolding spelling frames_in first_frame frame_of read_of frame_row shape_fault request_of requirement_of accepted feature_bytes
-sets_back = (λ z. kv_answer (reply_frame (welcome_answer 9 ([]))) refl refl refl refl refl refl (welcome_so 9 []) (inr tt), (λ z. kv_answer (reply_frame (found_answer false 9 json_doc)) refl refl refl refl refl refl (get_found json_doc refl (free 0 (image_of json_once) (7 ∷ []) (seven_pending json_doc (7 ∷ []))) (seven_there json_doc) (found_so false 9 json_doc)) (inr tt), tt))
+sets_back = (λ z. kv_answer (reply_frame (welcome_answer 9 ([]))) refl refl refl refl refl refl (welcome_so 9 []) (inr (inr (tt, refl))), (λ z. kv_answer (reply_frame (found_answer false 9 json_doc)) refl refl refl refl refl refl (get_found json_doc refl (free 0 (image_of json_once) (7 ∷ []) (seven_pending json_doc (7 ∷ []))) (seven_there json_doc) (found_so false 9 json_doc)) (inr (inr (tt, refl))), tt))
 
 pub nooping : LawfulTo [] (noop 9) (says NOOP status.Success ∷ [])
 unfolding spelling frames_in first_frame frame_of read_of frame_row shape_fault request_of requirement_of
-nooping = (λ z. kv_answer (reply_frame (bare_answer NOOP status.Success 9)) refl refl refl refl refl refl (bare_so NOOP 9 status.Success) (inr tt), tt)
+nooping = (λ z. kv_answer (reply_frame (bare_answer NOOP status.Success 9)) refl refl refl refl refl refl (bare_so NOOP 9 status.Success) (inr (inr (tt, refl))), tt)
 
 pub noop_refused : LawfulTo [] (noop 9) (says NOOP status.Einval ∷ []) → ⊥
 unfolding spelling frames_in first_frame frame_of read_of frame_row shape_fault request_of requirement_of
@@ -55,7 +55,7 @@ noop_refused l = let (g, s, fits) = asked_so (l.0 refl) refl refl refl in let e 
 
 pub formless_refused : LawfulTo [] formless (says NOOP status.Einval ∷ [])
 unfolding spelling frames_in first_frame frame_of read_of frame_row shape_fault request_of requirement_of
-formless_refused = (λ z. kv_answer (reply_frame (bare_answer NOOP status.Einval 9)) refl refl refl refl refl refl (bare_so NOOP 9 status.Einval) (inr tt), tt)
+formless_refused = (λ z. kv_answer (reply_frame (bare_answer NOOP status.Einval 9)) refl refl refl refl refl refl (bare_so NOOP 9 status.Einval) (inr (inr (tt, refl))), tt)
 
 pub formless_taken : LawfulTo [] formless (says NOOP status.Success ∷ []) → ⊥
 unfolding spelling frames_in first_frame frame_of read_of frame_row shape_fault request_of requirement_of
@@ -63,7 +63,7 @@ formless_taken l = let (g, s, fits) = asked_so (l.0 refl) refl refl refl in let 
 
 pub unknown_refused : LawfulTo [] unknown (says 200 status.UnknownCommand ∷ [])
 unfolding spelling frames_in first_frame frame_of read_of frame_row shape_fault request_of requirement_of
-unknown_refused = (λ z. kv_answer (reply_frame (bare_answer 200 status.UnknownCommand 9)) refl refl refl refl refl refl (bare_so 200 9 status.UnknownCommand) (inr tt), tt)
+unknown_refused = (λ z. kv_answer (reply_frame (bare_answer 200 status.UnknownCommand 9)) refl refl refl refl refl refl (bare_so 200 9 status.UnknownCommand) (inr (inr (tt, refl))), tt)
 
 pub unknown_other : LawfulTo [] unknown (says 200 status.Einval ∷ []) → ⊥
 unfolding spelling frames_in first_frame frame_of read_of frame_row shape_fault request_of requirement_of

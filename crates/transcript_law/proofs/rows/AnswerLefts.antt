@@ -46,7 +46,7 @@ nine_there = get-insert_same (image_of pending).docs (9 ∷ []) (first_doc 2 (6 
 
 pub left : LawfulRisen pending [] (gets 0 9) (says GET status.SyncWriteReCommitInProgress ∷ [])
 unfolding spelling frames_in first_frame frame_of read_of frame_row shape_fault request_of requirement_of
-left = (λ z. kv_answer (reply_frame (bare_answer GET status.SyncWriteReCommitInProgress 9)) refl refl refl refl refl refl (get_left refl (waits, nine_waits, omega arith) (bare_so GET 9 status.SyncWriteReCommitInProgress)) (inr tt), tt)
+left = (λ z. kv_answer (reply_frame (bare_answer GET status.SyncWriteReCommitInProgress 9)) refl refl refl refl refl refl (get_left refl (waits, nine_waits, omega arith) (bare_so GET 9 status.SyncWriteReCommitInProgress)) (inr (inr (tt, refl))), tt)
 
 pub left_none : LawfulRisen pending [] (gets 0 9) (says GET status.KeyEnoent ∷ []) → ⊥
 unfolding spelling frames_in first_frame frame_of read_of frame_row shape_fault request_of requirement_of
@@ -54,7 +54,7 @@ left_none l = let (g, s, fits) = asked_so (l.0 refl) refl refl refl in let e : �
 
 pub left_over : LawfulRisen changing [] (gets 0 7) (says GET status.SyncWriteReCommitInProgress ∷ [])
 unfolding spelling frames_in first_frame frame_of read_of frame_row shape_fault request_of requirement_of
-left_over = (λ z. kv_answer (reply_frame (bare_answer GET status.SyncWriteReCommitInProgress 9)) refl refl refl refl refl refl (get_left refl (waits, seven_waits, omega arith) (bare_so GET 9 status.SyncWriteReCommitInProgress)) (inr tt), tt)
+left_over = (λ z. kv_answer (reply_frame (bare_answer GET status.SyncWriteReCommitInProgress 9)) refl refl refl refl refl refl (get_left refl (waits, seven_waits, omega arith) (bare_so GET 9 status.SyncWriteReCommitInProgress)) (inr (inr (tt, refl))), tt)
 
 pub left_found : LawfulRisen changing [] (gets 0 7) (finds (first_doc 1 (8 ∷ [])) ∷ []) → ⊥
 unfolding spelling frames_in first_frame frame_of read_of frame_row shape_fault request_of requirement_of
@@ -62,11 +62,11 @@ left_found l = let (g, s, fits) = asked_so (l.0 refl) refl refl refl in let e : 
 
 pub beside_left : LawfulRisen pending [] (gets 0 7) (finds (first_doc 1 (8 ∷ [])) ∷ [])
 unfolding spelling frames_in first_frame frame_of read_of frame_row shape_fault request_of requirement_of
-beside_left = (λ z. kv_answer (reply_frame (found_answer true 9 (first_doc 1 (8 ∷ [])))) refl refl refl refl refl refl (get_found (first_doc 1 (8 ∷ [])) refl (free 2 (image_of pending) (7 ∷ []) seven_free) (seven_there (first_doc 1 (8 ∷ []))) (found_so false 9 (first_doc 1 (8 ∷ [])))) (inr tt), tt)
+beside_left = (λ z. kv_answer (reply_frame (found_answer true 9 (first_doc 1 (8 ∷ [])))) refl refl refl refl refl refl (get_found (first_doc 1 (8 ∷ [])) refl (free 2 (image_of pending) (7 ∷ []) seven_free) (seven_there (first_doc 1 (8 ∷ []))) (found_so false 9 (first_doc 1 (8 ∷ [])))) (inr (inr (tt, refl))), tt)
 
 pub since_none : LawfulRisen once (prepared ∷ []) (gets 0 9) (says GET status.KeyEnoent ∷ [])
 unfolding spelling frames_in first_frame frame_of read_of frame_row shape_fault request_of requirement_of
-since_none = (λ z. kv_answer (reply_frame (bare_answer GET status.KeyEnoent 9)) refl refl refl refl refl refl (get_none refl (nine_own 1 (omega arith)) (nine_none (first_doc 1 (8 ∷ []))) (bare_so GET 9 status.KeyEnoent)) (inr tt), tt)
+since_none = (λ z. kv_answer (reply_frame (bare_answer GET status.KeyEnoent 9)) refl refl refl refl refl refl (get_none refl (nine_own 1 (omega arith)) (nine_none (first_doc 1 (8 ∷ []))) (bare_so GET 9 status.KeyEnoent)) (inr (inr (tt, refl))), tt)
 
 pub since : LawfulRisen once (prepared ∷ []) (gets 0 9) (says GET status.SyncWriteReCommitInProgress ∷ []) → ⊥
 unfolding spelling frames_in first_frame frame_of read_of frame_row shape_fault request_of requirement_of
@@ -78,7 +78,7 @@ own_none l = let (g, s, fits) = asked_so (l.0 refl) refl refl refl in let e : �
 
 pub own_found : LawfulTo changing (gets 0 7) (finds (first_doc 1 (8 ∷ [])) ∷ [])
 unfolding spelling frames_in first_frame frame_of read_of frame_row shape_fault request_of requirement_of
-own_found = (λ z. kv_answer (reply_frame (found_answer true 9 (first_doc 1 (8 ∷ [])))) refl refl refl refl refl refl (get_found (first_doc 1 (8 ∷ [])) refl seven_own (seven_there (first_doc 1 (8 ∷ []))) (found_so false 9 (first_doc 1 (8 ∷ [])))) (inr tt), tt)
+own_found = (λ z. kv_answer (reply_frame (found_answer true 9 (first_doc 1 (8 ∷ [])))) refl refl refl refl refl refl (get_found (first_doc 1 (8 ∷ [])) refl seven_own (seven_there (first_doc 1 (8 ∷ []))) (found_so false 9 (first_doc 1 (8 ∷ [])))) (inr (inr (tt, refl))), tt)
 
 pub own_over : LawfulTo changing (gets 0 7) (says GET status.SyncWriteReCommitInProgress ∷ []) → ⊥
 unfolding spelling frames_in first_frame frame_of read_of frame_row shape_fault request_of requirement_of
@@ -86,7 +86,7 @@ own_over l = let (g, s, fits) = asked_so (l.0 refl) refl refl refl in let e : �
 
 pub again_found : LawfulRisen pending (committed ∷ []) (gets 0 9) (finds (first_doc 2 (6 ∷ [])) ∷ [])
 unfolding spelling frames_in first_frame frame_of read_of frame_row shape_fault request_of requirement_of
-again_found = (λ z. kv_answer (reply_frame (found_answer true 9 (first_doc 2 (6 ∷ [])))) refl refl refl refl refl refl (get_found (first_doc 2 (6 ∷ [])) refl (free 2 (image_of durable) (9 ∷ []) nine_settled) nine_there (found_so false 9 (first_doc 2 (6 ∷ [])))) (inr tt), tt)
+again_found = (λ z. kv_answer (reply_frame (found_answer true 9 (first_doc 2 (6 ∷ [])))) refl refl refl refl refl refl (get_found (first_doc 2 (6 ∷ [])) refl (free 2 (image_of durable) (9 ∷ []) nine_settled) nine_there (found_so false 9 (first_doc 2 (6 ∷ [])))) (inr (inr (tt, refl))), tt)
 
 pub again : LawfulRisen pending (committed ∷ []) (gets 0 9) (says GET status.SyncWriteReCommitInProgress ∷ []) → ⊥
 unfolding spelling frames_in first_frame frame_of read_of frame_row shape_fault request_of requirement_of
@@ -94,7 +94,7 @@ again l = let (g, s, fits) = asked_so (l.0 refl) refl refl refl in let e : ◌�
 
 pub started : LawfulStarted pending (gets 0 9) (says GET status.SyncWriteReCommitInProgress ∷ [])
 unfolding spelling frames_in first_frame frame_of read_of frame_row shape_fault request_of requirement_of
-started = (λ z. kv_answer (reply_frame (bare_answer GET status.SyncWriteReCommitInProgress 9)) refl refl refl refl refl refl (get_left refl (waits, nine_waits, omega arith) (bare_so GET 9 status.SyncWriteReCommitInProgress)) (inr tt), tt)
+started = (λ z. kv_answer (reply_frame (bare_answer GET status.SyncWriteReCommitInProgress 9)) refl refl refl refl refl refl (get_left refl (waits, nine_waits, omega arith) (bare_so GET 9 status.SyncWriteReCommitInProgress)) (inr (inr (tt, refl))), tt)
 
 pub started_none : LawfulStarted pending (gets 0 9) (says GET status.KeyEnoent ∷ []) → ⊥
 unfolding spelling frames_in first_frame frame_of read_of frame_row shape_fault request_of requirement_of
@@ -104,7 +104,7 @@ started_none l = let (g, s, fits) = asked_so (l.0 refl) refl refl refl in let e 
 
 pub left_set : LawfulRisen pending [] (writes SET 0 9 4) (says SET status.SyncWriteReCommitInProgress ∷ [])
 unfolding spelling frames_in first_frame frame_of read_of frame_row shape_fault request_of requirement_of
-left_set = (λ z. inl (record { question = _; next = refl; answer = reply_frame (bare_answer SET status.SyncWriteReCommitInProgress 9); spelled = refl; response = refl; opcode = refl; opaque = refl; calm = inr tt; fits = inl (status.SyncWriteReCommitInProgress, bare_so SET 9 status.SyncWriteReCommitInProgress, why_left {p = waits} refl nine_waits (omega arith)) }), tt)
+left_set = (λ z. inl (record { question = _; next = refl; answer = reply_frame (bare_answer SET status.SyncWriteReCommitInProgress 9); spelled = refl; response = refl; opcode = refl; opaque = refl; calm = inr (inr (tt, refl)); fits = inl (status.SyncWriteReCommitInProgress, bare_so SET 9 status.SyncWriteReCommitInProgress, why_left {p = waits} refl nine_waits (omega arith)) }), tt)
 
 pub left_locked : LawfulRisen pending [] (writes SET 0 9 4) (says SET status.SyncWriteInProgress ∷ []) → ⊥
 unfolding spelling frames_in first_frame frame_of read_of frame_row shape_fault request_of requirement_of
@@ -116,7 +116,7 @@ since_set l = let (g, s, fits) = asked_so (l.0 refl) refl refl refl in ⊎_elim 
 
 pub since_locked : LawfulRisen once (prepared ∷ []) (writes SET 0 9 4) (says SET status.SyncWriteInProgress ∷ [])
 unfolding spelling frames_in first_frame frame_of read_of frame_row shape_fault request_of requirement_of
-since_locked = (λ z. inl (record { question = _; next = refl; answer = reply_frame (bare_answer SET status.SyncWriteInProgress 9); spelled = refl; response = refl; opcode = refl; opaque = refl; calm = inr tt; fits = inl (status.SyncWriteInProgress, bare_so SET 9 status.SyncWriteInProgress, why_locked {p = waits} refl nine_waits (omega arith)) }), tt)
+since_locked = (λ z. inl (record { question = _; next = refl; answer = reply_frame (bare_answer SET status.SyncWriteInProgress 9); spelled = refl; response = refl; opcode = refl; opaque = refl; calm = inr (inr (tt, refl)); fits = inl (status.SyncWriteInProgress, bare_so SET 9 status.SyncWriteInProgress, why_locked {p = waits} refl nine_waits (omega arith)) }), tt)
 
 pub own_set : LawfulTo pending (writes SET 0 9 4) (says SET status.SyncWriteReCommitInProgress ∷ []) → ⊥
 unfolding spelling frames_in first_frame frame_of read_of frame_row shape_fault request_of requirement_of
@@ -128,12 +128,12 @@ alone e = cc
 
 pub left_durable : LawfulRisen pending [] (durably 1 9 4) (says SET status.SyncWriteReCommitInProgress ∷ [])
 unfolding spelling frames_in first_frame frame_of read_of frame_row shape_fault request_of requirement_of
-left_durable = (λ z. inl (record { question = _; next = refl; answer = reply_frame (bare_answer SET status.SyncWriteReCommitInProgress 9); spelled = refl; response = refl; opcode = refl; opaque = refl; calm = inr tt; fits = inr (first_number, inl (status.SyncWriteReCommitInProgress, bare_so SET 9 status.SyncWriteReCommitInProgress, why_left {p = waits} refl nine_waits (omega arith), λ a e. alone e)) }), tt)
+left_durable = (λ z. inl (record { question = _; next = refl; answer = reply_frame (bare_answer SET status.SyncWriteReCommitInProgress 9); spelled = refl; response = refl; opcode = refl; opaque = refl; calm = inr (inr (tt, refl)); fits = inr (first_number, inl (status.SyncWriteReCommitInProgress, bare_so SET 9 status.SyncWriteReCommitInProgress, why_left {p = waits} refl nine_waits (omega arith), λ a e. alone e)) }), tt)
 
 pub left_durable_locked : LawfulRisen pending [] (durably 1 9 4) (says SET status.SyncWriteInProgress ∷ []) → ⊥
 unfolding spelling frames_in first_frame frame_of read_of frame_row shape_fault request_of requirement_of
-left_durable_locked l = let (g, s, fits) = asked_so (l.0 refl) refl refl refl in ⊎_elim (λ a. let e : ◌≡◌ {A = ℕ} 162 134 = ap (byte_at 7) (bare_bytes a.1 s) in omega (arith, e)) (λ x. ⊎_elim (λ r. ⊎_elim (λ w. let e : ◌≡◌ {A = ℕ} 162 164 = status_byte status.SyncWriteReCommitInProgress r.1 s w in omega (arith, e)) (λ b. ⊎_elim (λ full. let e : ◌≡◌ {A = ℕ} 162 134 = status_byte status.Etmpfail r.1 s full.said in omega (arith, e)) (λ no. let z : true ≡ false = no.0 in cc) b) (r.2.left refl (waits, nine_waits, omega arith))) (λ o. ⊎_elim (λ c. absurd c.told_before) (λ a. let e : ◌≡◌ {A = ℕ} 162 163 = ap (byte_at 7) (bare_bytes a s) in omega (arith, e)) o) x.1) fits
+left_durable_locked l = let (g, s, fits) = asked_so (l.0 refl) refl refl refl in ⊎_elim (λ a. let e : ◌≡◌ {A = ℕ} 162 134 = ap (byte_at 7) (bare_bytes a.1 s) in omega (arith, e)) (λ x. ⊎_elim (λ r. ⊎_elim (λ w. let e : ◌≡◌ {A = ℕ} 162 164 = status_byte status.SyncWriteReCommitInProgress r.1 s w in omega (arith, e)) (λ b. ⊎_elim (λ full. let e : ◌≡◌ {A = ℕ} 162 134 = status_byte status.Etmpfail r.1 s full.said in omega (arith, e)) (λ no. let z : true ≡ false = no.0 in cc) b) (r.2.left refl (waits, nine_waits, omega arith))) (λ o. ⊎_elim (λ c. absurd c.told_before) (λ a. let e : ◌≡◌ {A = ℕ} 162 163 = ap (byte_at 7) (bare_bytes a.said s) in omega (arith, e)) o) x.1) fits
 
 pub own_durable : LawfulTo pending (durably 1 9 4) (says SET status.SyncWriteReCommitInProgress ∷ []) → ⊥
 unfolding spelling frames_in first_frame frame_of read_of frame_row shape_fault request_of requirement_of
-own_durable l = let (g, s, fits) = asked_so (l.0 refl) refl refl refl in ⊎_elim (λ a. let e : ◌≡◌ {A = ℕ} 164 134 = ap (byte_at 7) (bare_bytes a.1 s) in omega (arith, e)) (λ x. ⊎_elim (λ r. ⊎_elim (λ w. let e : ◌≡◌ {A = ℕ} 164 162 = status_byte status.SyncWriteInProgress r.1 s w in omega (arith, e)) (λ b. ⊎_elim (λ full. let e : ◌≡◌ {A = ℕ} 164 134 = status_byte status.Etmpfail r.1 s full.said in omega (arith, e)) (λ no. let z : true ≡ false = no.0 in cc) b) (r.2.locked refl (waits, nine_waits, omega arith))) (λ o. ⊎_elim (λ c. absurd c.told_before) (λ a. let e : ◌≡◌ {A = ℕ} 164 163 = ap (byte_at 7) (bare_bytes a s) in omega (arith, e)) o) x.1) fits
+own_durable l = let (g, s, fits) = asked_so (l.0 refl) refl refl refl in ⊎_elim (λ a. let e : ◌≡◌ {A = ℕ} 164 134 = ap (byte_at 7) (bare_bytes a.1 s) in omega (arith, e)) (λ x. ⊎_elim (λ r. ⊎_elim (λ w. let e : ◌≡◌ {A = ℕ} 164 162 = status_byte status.SyncWriteInProgress r.1 s w in omega (arith, e)) (λ b. ⊎_elim (λ full. let e : ◌≡◌ {A = ℕ} 164 134 = status_byte status.Etmpfail r.1 s full.said in omega (arith, e)) (λ no. let z : true ≡ false = no.0 in cc) b) (r.2.locked refl (waits, nine_waits, omega arith))) (λ o. ⊎_elim (λ c. absurd c.told_before) (λ a. let e : ◌≡◌ {A = ℕ} 164 163 = ap (byte_at 7) (bare_bytes a.said s) in omega (arith, e)) o) x.1) fits

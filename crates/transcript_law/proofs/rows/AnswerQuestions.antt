@@ -22,7 +22,7 @@ use Rattle.transcript_law.proofs.rows.Answering.{answered, asked_so, bare_bytes,
 
 pub next : LawfulTo [] (noop 9) (answers 9 ∷ [])
 unfolding spelling frames_in first_frame frame_of read_of frame_row shape_fault request_of requirement_of
-next = (λ z. noop_answer 9 refl refl refl refl tt, tt)
+next = (λ z. noop_answer 9 refl refl refl refl (tt, refl), tt)
 
 pub opaque : LawfulTo [] (noop 9) (answers 8 ∷ []) → ⊥
 unfolding spelling frames_in first_frame frame_of read_of frame_row shape_fault request_of requirement_of
@@ -50,7 +50,7 @@ twice l = no_question (l.1.0 refl) refl refl
 
 pub in_turn : LawfulTo [] (noop 8 ++ noop 9) (answers 8 ∷ answers 9 ∷ [])
 unfolding spelling frames_in first_frame frame_of read_of frame_row shape_fault request_of requirement_of
-in_turn = (λ z. noop_answer 8 refl refl refl refl tt, (λ z. noop_answer 9 refl refl refl refl tt, tt))
+in_turn = (λ z. noop_answer 8 refl refl refl refl (tt, refl), (λ z. noop_answer 9 refl refl refl refl (tt, refl), tt))
 
 pub out_of_turn : LawfulTo [] (noop 8 ++ noop 9) (answers 9 ∷ answers 8 ∷ []) → ⊥
 unfolding spelling frames_in first_frame frame_of read_of frame_row shape_fault request_of requirement_of
@@ -62,11 +62,11 @@ response l = no_question (l.0 refl) refl refl
 
 pub past_response : LawfulTo [] (responds ++ noop 9) (answers 9 ∷ [])
 unfolding spelling frames_in first_frame frame_of read_of frame_row shape_fault request_of requirement_of
-past_response = (λ z. noop_answer 9 refl refl refl refl tt, tt)
+past_response = (λ z. noop_answer 9 refl refl refl refl (tt, refl), tt)
 
 pub past_both : LawfulTo [] (responds ++ noop 8 ++ noop 9) (answers 8 ∷ answers 9 ∷ [])
 unfolding spelling frames_in first_frame frame_of read_of frame_row shape_fault request_of requirement_of
-past_both = (λ z. noop_answer 8 refl refl refl refl tt, (λ z. noop_answer 9 refl refl refl refl tt, tt))
+past_both = (λ z. noop_answer 8 refl refl refl refl (tt, refl), (λ z. noop_answer 9 refl refl refl refl (tt, refl), tt))
 
 pub acknowledged : LawfulOver acknowledges (replied (msg.OpenAnswer 4) 9 ∷ []) → ⊥
 unfolding spelling frames_in first_frame frame_of read_of frame_row shape_fault request_of requirement_of dcp_frame
@@ -74,11 +74,11 @@ acknowledged l = no_question (l.0 refl) refl refl
 
 pub past_acknowledged : LawfulOver (acknowledges ++ noop 9) (answers 9 ∷ [])
 unfolding spelling frames_in first_frame frame_of read_of frame_row shape_fault request_of requirement_of dcp_frame
-past_acknowledged = (λ z. noop_answer 9 refl refl refl refl tt, tt)
+past_acknowledged = (λ z. noop_answer 9 refl refl refl refl (tt, refl), tt)
 
 pub unopened : LawfulTo [] (acknowledges ++ noop 9) (says 93 status.Einval ∷ answers 9 ∷ [])
 unfolding spelling frames_in first_frame frame_of read_of frame_row shape_fault request_of requirement_of dcp_frame
-unopened = (λ z. dcp_answer (reply_frame (bare_answer 93 status.Einval 9)) refl refl refl refl refl (bare_so 93 9 status.Einval) tt, (λ z. noop_answer 9 refl refl refl refl tt, tt))
+unopened = (λ z. dcp_answer (reply_frame (bare_answer 93 status.Einval 9)) refl refl refl refl refl (bare_so 93 9 status.Einval) (tt, refl), (λ z. noop_answer 9 refl refl refl refl (tt, refl), tt))
 
 pub past_unopened : LawfulTo [] (acknowledges ++ noop 9) (answers 9 ∷ []) → ⊥
 unfolding spelling frames_in first_frame frame_of read_of frame_row shape_fault request_of requirement_of dcp_frame
@@ -86,4 +86,4 @@ past_unopened l = let t = answered (l.0 refl) refl in let e : ◌≡◌ {A = ℕ
 
 pub opened : LawfulTo [] (opening 1 ++ acknowledges ++ noop 9) (replied (msg.OpenAnswer 0) 1 ∷ answers 9 ∷ [])
 unfolding spelling frames_in first_frame frame_of read_of frame_row shape_fault request_of requirement_of dcp_frame
-opened = (λ z. dcp_answer (dcp_frame (msg.OpenAnswer 0) 1 0) refl refl refl refl refl (bare_so 80 1 status.Success) tt, (λ z. noop_answer 9 refl refl refl refl tt, tt))
+opened = (λ z. dcp_answer (dcp_frame (msg.OpenAnswer 0) 1 0) refl refl refl refl refl (bare_so 80 1 status.Success) (tt, refl), (λ z. noop_answer 9 refl refl refl refl (tt, refl), tt))

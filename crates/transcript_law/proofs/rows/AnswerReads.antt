@@ -84,7 +84,7 @@ newer_there = get-insert_same (image_of once).docs (7 ∷ []) newer_doc
 
 pub found : LawfulTo once (gets 0 7) (finds (first_doc 1 (8 ∷ [])) ∷ [])
 unfolding spelling frames_in first_frame frame_of read_of frame_row shape_fault request_of requirement_of
-found = (λ z. kv_answer (reply_frame (found_answer true 9 (first_doc 1 (8 ∷ [])))) refl refl refl refl refl refl (get_found (first_doc 1 (8 ∷ [])) refl (free 0 (image_of once) (7 ∷ []) (seven_pending (first_doc 1 (8 ∷ [])) (7 ∷ []))) (seven_there (first_doc 1 (8 ∷ []))) (found_so false 9 (first_doc 1 (8 ∷ [])))) (inr tt), tt)
+found = (λ z. kv_answer (reply_frame (found_answer true 9 (first_doc 1 (8 ∷ [])))) refl refl refl refl refl refl (get_found (first_doc 1 (8 ∷ [])) refl (free 0 (image_of once) (7 ∷ []) (seven_pending (first_doc 1 (8 ∷ [])) (7 ∷ []))) (seven_there (first_doc 1 (8 ∷ []))) (found_so false 9 (first_doc 1 (8 ∷ [])))) (inr (inr (tt, refl))), tt)
 
 pub value : LawfulTo once (gets 0 7) (finds (first_doc 1 (9 ∷ [])) ∷ []) → ⊥
 unfolding spelling frames_in first_frame frame_of read_of frame_row shape_fault request_of requirement_of
@@ -100,7 +100,7 @@ key l = let (g, s, fits) = asked_so (l.0 refl) refl refl refl in let e : ◌≡�
 
 pub newest : LawfulTo (one_change ∷ newer ∷ []) (gets 0 7) (finds newer_doc ∷ [])
 unfolding spelling frames_in first_frame frame_of read_of frame_row shape_fault request_of requirement_of
-newest = (λ z. kv_answer (reply_frame (found_answer true 9 newer_doc)) refl refl refl refl refl refl (get_found newer_doc refl (free 0 (image_of (one_change ∷ newer ∷ [])) (7 ∷ []) (twice_pending 1 (7 ∷ []) 2 (7 ∷ []) (7 ∷ []))) newer_there (found_so false 9 newer_doc)) (inr tt), tt)
+newest = (λ z. kv_answer (reply_frame (found_answer true 9 newer_doc)) refl refl refl refl refl refl (get_found newer_doc refl (free 0 (image_of (one_change ∷ newer ∷ [])) (7 ∷ []) (twice_pending 1 (7 ∷ []) 2 (7 ∷ []) (7 ∷ []))) newer_there (found_so false 9 newer_doc)) (inr (inr (tt, refl))), tt)
 
 pub older : LawfulTo (one_change ∷ newer ∷ []) (gets 0 7) (finds (first_doc 1 (8 ∷ [])) ∷ []) → ⊥
 unfolding spelling frames_in first_frame frame_of read_of frame_row shape_fault request_of requirement_of
@@ -112,7 +112,7 @@ prepare l = let (g, s, fits) = asked_so (l.0 refl) refl refl refl in let e : ◌
 
 pub beside_prepare : LawfulTo pending (gets 0 9) (says GET status.KeyEnoent ∷ [])
 unfolding spelling frames_in first_frame frame_of read_of frame_row shape_fault request_of requirement_of
-beside_prepare = (λ z. kv_answer (reply_frame (bare_answer GET status.KeyEnoent 9)) refl refl refl refl refl refl (get_none refl (nine_own 0 (omega arith)) (nine_none (first_doc 1 (8 ∷ []))) (bare_so GET 9 status.KeyEnoent)) (inr tt), tt)
+beside_prepare = (λ z. kv_answer (reply_frame (bare_answer GET status.KeyEnoent 9)) refl refl refl refl refl refl (get_none refl (nine_own 0 (omega arith)) (nine_none (first_doc 1 (8 ∷ []))) (bare_so GET 9 status.KeyEnoent)) (inr (inr (tt, refl))), tt)
 
 pub nothing_undone : LawfulTo once (gets 0 7) (says GET status.SyncWriteReCommitInProgress ∷ []) → ⊥
 unfolding spelling frames_in first_frame frame_of read_of frame_row shape_fault request_of requirement_of
@@ -120,7 +120,7 @@ nothing_undone l = let (g, s, fits) = asked_so (l.0 refl) refl refl refl in let 
 
 pub none : LawfulTo once (gets 0 9) (says GET status.KeyEnoent ∷ [])
 unfolding spelling frames_in first_frame frame_of read_of frame_row shape_fault request_of requirement_of
-none = (λ z. kv_answer (reply_frame (bare_answer GET status.KeyEnoent 9)) refl refl refl refl refl refl (get_none refl (free 0 (image_of once) (9 ∷ []) (seven_pending (first_doc 1 (8 ∷ [])) (9 ∷ []))) (nine_none (first_doc 1 (8 ∷ []))) (bare_so GET 9 status.KeyEnoent)) (inr tt), tt)
+none = (λ z. kv_answer (reply_frame (bare_answer GET status.KeyEnoent 9)) refl refl refl refl refl refl (get_none refl (free 0 (image_of once) (9 ∷ []) (seven_pending (first_doc 1 (8 ∷ [])) (9 ∷ []))) (nine_none (first_doc 1 (8 ∷ []))) (bare_so GET 9 status.KeyEnoent)) (inr (inr (tt, refl))), tt)
 
 pub not_none : LawfulTo once (gets 0 7) (says GET status.KeyEnoent ∷ []) → ⊥
 unfolding spelling frames_in first_frame frame_of read_of frame_row shape_fault request_of requirement_of
@@ -128,7 +128,7 @@ not_none l = let (g, s, fits) = asked_so (l.0 refl) refl refl refl in let e : �
 
 pub away : LawfulAway once (gets 0 7) (says GET status.NotMyVbucket ∷ [])
 unfolding spelling frames_in first_frame frame_of read_of frame_row shape_fault request_of requirement_of
-away = (λ z. kv_answer (reply_frame (bare_answer GET status.NotMyVbucket 9)) refl refl refl refl refl refl (get_away no_active (bare_so GET 9 status.NotMyVbucket)) (inr tt), tt)
+away = (λ z. kv_answer (reply_frame (bare_answer GET status.NotMyVbucket 9)) refl refl refl refl refl refl (get_away no_active (bare_so GET 9 status.NotMyVbucket)) (inr (inr (tt, refl))), tt)
 
 pub away_found : LawfulAway once (gets 0 7) (finds (first_doc 1 (8 ∷ [])) ∷ []) → ⊥
 unfolding spelling frames_in first_frame frame_of read_of frame_row shape_fault request_of requirement_of
@@ -136,7 +136,7 @@ away_found l = let (g, s, fits) = asked_so (l.0 refl) refl refl refl in let e : 
 
 pub unmade : LawfulUnmade (gets 0 7) (says GET status.NotMyVbucket ∷ [])
 unfolding spelling frames_in first_frame frame_of read_of frame_row shape_fault request_of requirement_of
-unmade = (λ z. kv_answer (reply_frame (bare_answer GET status.NotMyVbucket 9)) refl refl refl refl refl refl (get_away unmade_role (bare_so GET 9 status.NotMyVbucket)) (inr tt), tt)
+unmade = (λ z. kv_answer (reply_frame (bare_answer GET status.NotMyVbucket 9)) refl refl refl refl refl refl (get_away unmade_role (bare_so GET 9 status.NotMyVbucket)) (inr (inr (tt, refl))), tt)
 
 pub unmade_found : LawfulUnmade (gets 0 7) (finds (first_doc 1 (8 ∷ [])) ∷ []) → ⊥
 unfolding spelling frames_in first_frame frame_of read_of frame_row shape_fault request_of requirement_of
@@ -148,7 +148,7 @@ active l = let (g, s, fits) = asked_so (l.0 refl) refl refl refl in let e : ◌�
 
 pub raw : LawfulTo json_once (gets 0 7) (finds_raw json_doc ∷ [])
 unfolding spelling frames_in first_frame frame_of read_of frame_row shape_fault request_of requirement_of
-raw = (λ z. kv_answer (reply_frame (found_answer false 9 json_doc)) refl refl refl refl refl refl (get_found json_doc refl (free 0 (image_of json_once) (7 ∷ []) (seven_pending json_doc (7 ∷ []))) (seven_there json_doc) (found_so false 9 json_doc)) (inr tt), tt)
+raw = (λ z. kv_answer (reply_frame (found_answer false 9 json_doc)) refl refl refl refl refl refl (get_found json_doc refl (free 0 (image_of json_once) (7 ∷ []) (seven_pending json_doc (7 ∷ []))) (seven_there json_doc) (found_so false 9 json_doc)) (inr (inr (tt, refl))), tt)
 
 pub raw_json : LawfulTo json_once (gets 0 7) (finds json_doc ∷ []) → ⊥
 unfolding spelling frames_in first_frame frame_of read_of frame_row shape_fault request_of requirement_of
@@ -156,7 +156,7 @@ raw_json l = let (g, s, fits) = asked_so (l.0 refl) refl refl refl in let e : �
 
 pub json : LawfulBy for_json json_once (gets 0 7) (finds json_doc ∷ [])
 unfolding spelling frames_in first_frame frame_of read_of frame_row shape_fault request_of requirement_of
-json = (λ z. kv_answer (reply_frame (found_answer true 9 json_doc)) refl refl refl refl refl refl (get_found json_doc refl (free 0 (image_of json_once) (7 ∷ []) (seven_pending json_doc (7 ∷ []))) (seven_there json_doc) (found_so true 9 json_doc)) (inr tt), tt)
+json = (λ z. kv_answer (reply_frame (found_answer true 9 json_doc)) refl refl refl refl refl refl (get_found json_doc refl (free 0 (image_of json_once) (7 ∷ []) (seven_pending json_doc (7 ∷ []))) (seven_there json_doc) (found_so true 9 json_doc)) (inr (inr (tt, refl))), tt)
 
 pub json_raw : LawfulBy for_json json_once (gets 0 7) (finds_raw json_doc ∷ []) → ⊥
 unfolding spelling frames_in first_frame frame_of read_of frame_row shape_fault request_of requirement_of
@@ -166,4 +166,4 @@ pub behind_set : LawfulTo once (gets 0 7) (makes newer ∷ finds newer_doc ∷ [
 unfolding spelling frames_in first_frame frame_of read_of frame_row shape_fault request_of requirement_of
 behind_set l =
     let (g, s, fits, calm) = asked_calm (l.1.0 refl) refl refl refl in
-    ⊎_elim (λ o. let z : ◌≡◌ {A = Result KvRequest Status} (Ok (request.Get (7 ∷ []))) (Ok (request.Write o.0 o.1)) = o.2 in cc) (λ d. let z : false ≡ true = d.0 in cc) calm
+    ⊎_elim (λ o. let z : ◌≡◌ {A = Result KvRequest Status} (Ok (request.Get (7 ∷ []))) (Ok (request.Write o.0 None)) = o.1 in cc) (λ d. ⊎_elim (λ k. let z : false ≡ true = k.1.0 in cc) (λ k. let z : true ≡ false = k.1 in cc) d) calm

@@ -95,7 +95,7 @@ fits l = let (g, s, fits) = asked_so (l.0 refl) refl refl refl in ⊎_elim (λ r
 
 pub unfit : LawfulTo once (writes SET 3 7 4) (says SET status.KeyEexists ∷ [])
 unfolding spelling frames_in first_frame frame_of read_of frame_row shape_fault request_of requirement_of
-unfit = (λ z. inl (record { question = _; next = refl; answer = reply_frame (bare_answer SET status.KeyEexists 9); spelled = refl; response = refl; opcode = refl; opaque = refl; calm = inr tt; fits = inl (status.KeyEexists, bare_so SET 9 status.KeyEexists, why_unfit refl (seven_pending (first_doc 1 (8 ∷ [])) (7 ∷ [])) (inl (ap (doc_refusal op.Set 3) (seven_there (first_doc 1 (8 ∷ [])))))) }), tt)
+unfit = (λ z. inl (record { question = _; next = refl; answer = reply_frame (bare_answer SET status.KeyEexists 9); spelled = refl; response = refl; opcode = refl; opaque = refl; calm = inr (inr (tt, refl)); fits = inl (status.KeyEexists, bare_so SET 9 status.KeyEexists, why_unfit refl (seven_pending (first_doc 1 (8 ∷ [])) (7 ∷ [])) (inl (ap (doc_refusal op.Set 3) (seven_there (first_doc 1 (8 ∷ [])))))) }), tt)
 
 pub unfit_other : LawfulTo once (writes SET 3 7 4) (says SET status.KeyEnoent ∷ []) → ⊥
 unfolding spelling frames_in first_frame frame_of read_of frame_row shape_fault request_of requirement_of
@@ -107,7 +107,7 @@ adds l = let (g, s, fits) = asked_so (l.0 refl) refl refl refl in ⊎_elim (λ r
 
 pub adds_again : LawfulTo once (writes ADD 0 7 4) (says ADD status.KeyEexists ∷ [])
 unfolding spelling frames_in first_frame frame_of read_of frame_row shape_fault request_of requirement_of
-adds_again = (λ z. inl (record { question = _; next = refl; answer = reply_frame (bare_answer ADD status.KeyEexists 9); spelled = refl; response = refl; opcode = refl; opaque = refl; calm = inr tt; fits = inl (status.KeyEexists, bare_so ADD 9 status.KeyEexists, why_unfit refl (seven_pending (first_doc 1 (8 ∷ [])) (7 ∷ [])) (inl (ap (doc_refusal op.Add 0) (seven_there (first_doc 1 (8 ∷ [])))))) }), tt)
+adds_again = (λ z. inl (record { question = _; next = refl; answer = reply_frame (bare_answer ADD status.KeyEexists 9); spelled = refl; response = refl; opcode = refl; opaque = refl; calm = inr (inr (tt, refl)); fits = inl (status.KeyEexists, bare_so ADD 9 status.KeyEexists, why_unfit refl (seven_pending (first_doc 1 (8 ∷ [])) (7 ∷ [])) (inl (ap (doc_refusal op.Add 0) (seven_there (first_doc 1 (8 ∷ [])))))) }), tt)
 
 pub replaces : LawfulTo once (writes REPLACE 0 7 4) (says REPLACE status.KeyEnoent ∷ []) → ⊥
 unfolding spelling frames_in first_frame frame_of read_of frame_row shape_fault request_of requirement_of
@@ -115,11 +115,11 @@ replaces l = let (g, s, fits) = asked_so (l.0 refl) refl refl refl in ⊎_elim (
 
 pub replaces_none : LawfulTo [] (writes REPLACE 0 7 8) (says REPLACE status.KeyEnoent ∷ [])
 unfolding spelling frames_in first_frame frame_of read_of frame_row shape_fault request_of requirement_of
-replaces_none = (λ z. inl (record { question = _; next = refl; answer = reply_frame (bare_answer REPLACE status.KeyEnoent 9); spelled = refl; response = refl; opcode = refl; opaque = refl; calm = inr tt; fits = inl (status.KeyEnoent, bare_so REPLACE 9 status.KeyEnoent, why_unfit refl (none_pending (7 ∷ [])) (inl (ap (doc_refusal op.Replace 0) (none_stored (7 ∷ []))))) }), tt)
+replaces_none = (λ z. inl (record { question = _; next = refl; answer = reply_frame (bare_answer REPLACE status.KeyEnoent 9); spelled = refl; response = refl; opcode = refl; opaque = refl; calm = inr (inr (tt, refl)); fits = inl (status.KeyEnoent, bare_so REPLACE 9 status.KeyEnoent, why_unfit refl (none_pending (7 ∷ [])) (inl (ap (doc_refusal op.Replace 0) (none_stored (7 ∷ []))))) }), tt)
 
 pub removes_none : LawfulTo [] (removes 7) (says DELETE status.KeyEnoent ∷ [])
 unfolding spelling frames_in first_frame frame_of read_of frame_row shape_fault request_of requirement_of
-removes_none = (λ z. inl (record { question = _; next = refl; answer = reply_frame (bare_answer DELETE status.KeyEnoent 9); spelled = refl; response = refl; opcode = refl; opaque = refl; calm = inr tt; fits = inl (status.KeyEnoent, bare_so DELETE 9 status.KeyEnoent, why_unfit refl (none_pending (7 ∷ [])) (inl (ap (doc_refusal op.Delete 0) (none_stored (7 ∷ []))))) }), tt)
+removes_none = (λ z. inl (record { question = _; next = refl; answer = reply_frame (bare_answer DELETE status.KeyEnoent 9); spelled = refl; response = refl; opcode = refl; opaque = refl; calm = inr (inr (tt, refl)); fits = inl (status.KeyEnoent, bare_so DELETE 9 status.KeyEnoent, why_unfit refl (none_pending (7 ∷ [])) (inl (ap (doc_refusal op.Delete 0) (none_stored (7 ∷ []))))) }), tt)
 
 pub other : LawfulTo [] (writes SET 0 7 8) (says SET status.KeyEnoent ∷ []) → ⊥
 unfolding spelling frames_in first_frame frame_of read_of frame_row shape_fault request_of requirement_of
@@ -135,7 +135,7 @@ active l = let (g, s, fits) = asked_so (l.0 refl) refl refl refl in ⊎_elim (λ
 
 pub away : LawfulAway [] (writes SET 0 7 8) (says SET status.NotMyVbucket ∷ [])
 unfolding spelling frames_in first_frame frame_of read_of frame_row shape_fault request_of requirement_of
-away = (λ z. inl (record { question = _; next = refl; answer = reply_frame (bare_answer SET status.NotMyVbucket 9); spelled = refl; response = refl; opcode = refl; opaque = refl; calm = inr tt; fits = inl (status.NotMyVbucket, bare_so SET 9 status.NotMyVbucket, why_away no_active) }), tt)
+away = (λ z. inl (record { question = _; next = refl; answer = reply_frame (bare_answer SET status.NotMyVbucket 9); spelled = refl; response = refl; opcode = refl; opaque = refl; calm = inr (inr (tt, refl)); fits = inl (status.NotMyVbucket, bare_so SET 9 status.NotMyVbucket, why_away no_active) }), tt)
 
 pub away_other : LawfulAway once (writes ADD 0 7 4) (says ADD status.KeyEexists ∷ []) → ⊥
 unfolding spelling frames_in first_frame frame_of read_of frame_row shape_fault request_of requirement_of
@@ -147,7 +147,7 @@ away_full l = let (g, s, fits) = asked_so (l.0 refl) refl refl refl in ⊎_elim 
 
 pub locked : LawfulTo pending (writes SET 0 9 4) (says SET status.SyncWriteInProgress ∷ [])
 unfolding spelling frames_in first_frame frame_of read_of frame_row shape_fault request_of requirement_of
-locked = (λ z. inl (record { question = _; next = refl; answer = reply_frame (bare_answer SET status.SyncWriteInProgress 9); spelled = refl; response = refl; opcode = refl; opaque = refl; calm = inr tt; fits = inl (status.SyncWriteInProgress, bare_so SET 9 status.SyncWriteInProgress, why_locked {p = waits} refl nine_waits (omega arith)) }), tt)
+locked = (λ z. inl (record { question = _; next = refl; answer = reply_frame (bare_answer SET status.SyncWriteInProgress 9); spelled = refl; response = refl; opcode = refl; opaque = refl; calm = inr (inr (tt, refl)); fits = inl (status.SyncWriteInProgress, bare_so SET 9 status.SyncWriteInProgress, why_locked {p = waits} refl nine_waits (omega arith)) }), tt)
 
 pub locked_other : LawfulTo pending (writes REPLACE 0 9 4) (says REPLACE status.KeyEnoent ∷ []) → ⊥
 unfolding spelling frames_in first_frame frame_of read_of frame_row shape_fault request_of requirement_of
@@ -171,7 +171,7 @@ lacks_last = record { waiting = []; ascend = tt; backed = λ w none. absurd none
 
 pub full : LawfulTo (set_at 281474976710656) (writes SET 0 9 8) (says SET status.Etmpfail ∷ [])
 unfolding spelling frames_in first_frame frame_of read_of frame_row shape_fault request_of requirement_of
-full = (λ z. inl (record { question = _; next = refl; answer = reply_frame (bare_answer SET status.Etmpfail 9); spelled = refl; response = refl; opcode = refl; opaque = refl; calm = inr tt; fits = inl (status.Etmpfail, bare_so SET 9 status.Etmpfail, why_besides refl lacks_last) }), tt)
+full = (λ z. inl (record { question = _; next = refl; answer = reply_frame (bare_answer SET status.Etmpfail 9); spelled = refl; response = refl; opcode = refl; opaque = refl; calm = inr (inr (tt, refl)); fits = inl (status.Etmpfail, bare_so SET 9 status.Etmpfail, why_besides refl lacks_last) }), tt)
 
 abbrev waiting_at : Waiting
 waiting_at = record { key = 9 ∷ []; seq = 281474976710655; level = Majority; deadline = None; waiter = 0 }
@@ -187,7 +187,7 @@ lacks_beside = record {
 
 pub full_beside : LawfulTo (prepared_at 281474976710655) (writes SET 0 7 4) (says SET status.Etmpfail ∷ [])
 unfolding spelling frames_in first_frame frame_of read_of frame_row shape_fault request_of requirement_of
-full_beside = (λ z. inl (record { question = _; next = refl; answer = reply_frame (bare_answer SET status.Etmpfail 9); spelled = refl; response = refl; opcode = refl; opaque = refl; calm = inr tt; fits = inl (status.Etmpfail, bare_so SET 9 status.Etmpfail, why_besides refl lacks_beside) }), tt)
+full_beside = (λ z. inl (record { question = _; next = refl; answer = reply_frame (bare_answer SET status.Etmpfail 9); spelled = refl; response = refl; opcode = refl; opaque = refl; calm = inr (inr (tt, refl)); fits = inl (status.Etmpfail, bare_so SET 9 status.Etmpfail, why_besides refl lacks_beside) }), tt)
 
 pub full_early : LawfulTo (set_at 281474976710655) (writes SET 0 9 8) (says SET status.Etmpfail ∷ []) → ⊥
 unfolding spelling frames_in first_frame frame_of read_of frame_row shape_fault request_of requirement_of
@@ -197,8 +197,8 @@ pub full_first : LawfulTo [] (writes SET 0 7 8) (says SET status.Etmpfail ∷ []
 unfolding spelling frames_in first_frame frame_of read_of frame_row shape_fault request_of requirement_of
 full_first l = let (g, s, fits) = asked_so (l.0 refl) refl refl refl in ⊎_elim (λ r. ⊎_elim (λ d. let z : None ≡ Some r.0 = d in cc) (λ lacks. let n = none_waits [] none_pending 1 r.0 lacks in omega (arith, n)) (unfit_is r.2 refl (none_pending (7 ∷ [])) (none_stored (7 ∷ [])))) (λ m. no_made m) fits
 
--- a status that is not of an outcome was told, and no write is its own
-no_outcome : {bytes : List ℕ} {g : Frame} {code said opaque other : ℕ} → IsBare g code said opaque → bytes ≡ spelling g → g.vb_or_status ≡ other → bytes ≡ spelling (response_of code 0 other opaque 0 [] [])
+-- a status that is not of a write that was made was told
+pub no_outcome : {bytes : List ℕ} {g : Frame} {code said opaque other : ℕ} → IsBare g code said opaque → bytes ≡ spelling g → g.vb_or_status ≡ other → bytes ≡ spelling (response_of code 0 other opaque 0 [] [])
 no_outcome {bytes} {g} {code} {said} {opaque} {other} b s e = bare_bytes b s ∙ ap (λ k. spelling (response_of code 0 k opaque 0 [] [])) (sym b.header.status ∙ e)
 
 pub made : LawfulTo [] (writes SET 0 7 8) (makes one_change ∷ says SET status.Etmpfail ∷ []) → ⊥
@@ -207,9 +207,9 @@ made l =
     let (g, s, fits, calm) = asked_calm (l.1.0 refl) refl refl refl in
     ⊎_elim
     (λ o. ⊎_elim
-    (λ r. ⊎_elim (λ e. let z : ◌≡◌ {A = ℕ} 134 0 = ap (byte_at 7) (no_outcome r.1 s e) in omega (arith, z)) (λ e. let z : ◌≡◌ {A = ℕ} 134 163 = ap (byte_at 7) (no_outcome r.1 s e) in omega (arith, z)) o.3)
+    (λ r. let z : ◌≡◌ {A = ℕ} 134 0 = ap (byte_at 7) (no_outcome r.1 s o.2) in omega (arith, z))
     (λ m. let z : ◌≡◌ {A = ℕ} 134 0 = ap (byte_at 7) (stored_bytes m.told s) in omega (arith, z)) fits)
-    (λ d. let z : false ≡ true = d.0 in cc) calm
+    (λ d. ⊎_elim (λ k. let z : false ≡ true = k.1.0 in cc) (λ k. let z : true ≡ false = k.1 in cc) d) calm
 
 pub removed : LawfulTo once (removes 7) (makes removal ∷ says DELETE status.Etmpfail ∷ []) → ⊥
 unfolding spelling frames_in first_frame frame_of read_of frame_row shape_fault request_of requirement_of
@@ -217,6 +217,6 @@ removed l =
     let (g, s, fits, calm) = asked_calm (l.1.0 refl) refl refl refl in
     ⊎_elim
     (λ o. ⊎_elim
-    (λ r. ⊎_elim (λ e. let z : ◌≡◌ {A = ℕ} 134 0 = ap (byte_at 7) (no_outcome r.1 s e) in omega (arith, z)) (λ e. let z : ◌≡◌ {A = ℕ} 134 163 = ap (byte_at 7) (no_outcome r.1 s e) in omega (arith, z)) o.3)
+    (λ r. let z : ◌≡◌ {A = ℕ} 134 0 = ap (byte_at 7) (no_outcome r.1 s o.2) in omega (arith, z))
     (λ m. let z : ◌≡◌ {A = ℕ} 134 0 = ap (byte_at 7) (stored_bytes m.told s) in omega (arith, z)) fits)
-    (λ d. let z : false ≡ true = d.0 in cc) calm
+    (λ d. ⊎_elim (λ k. let z : false ≡ true = k.1.0 in cc) (λ k. let z : true ≡ false = k.1 in cc) d) calm

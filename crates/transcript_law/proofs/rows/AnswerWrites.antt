@@ -22,6 +22,7 @@ use Rattle.vb_types.specs.Images.{image_of}
 use Rattle.vb_types.specs.declared.change.Act.{Act}
 use Rattle.vb_types.specs.declared.change.Act.TheVariants as act
 use Rattle.vb_types.specs.declared.change.Change.{Change}
+use Rattle.vb_types.specs.declared.change.Level.{Level}
 use Rattle.vb_types.specs.declared.change.Pend.{Pend}
 use Rattle.vb_types.specs.declared.doc.Doc.{Doc}
 use Rattle.vb_types.specs.declared.status.Status.TheVariants as status
@@ -47,7 +48,7 @@ use Rattle.transcript_law.specs.LinesTold.{LastLine}
 
 -- no change was told
 pub no_made : {n v : ℕ} {held : List Change} {settings : Settings} {write : Write} {f g : Frame} → IsMade n v held [] settings write f g → ⊥
-no_made m = let e : [] ≡ record { node = _; vb = _; branch = m.branch; change = m.change } ∷ m.older = m.last in cc
+no_made m = let e : [] ≡ record { node = _; vb = _; branch = m.branch; change = m.change; clock = m.clock } ∷ m.older = m.last in cc
 
 -- what stands before the last change
 before_last : List Change → List Change
@@ -71,7 +72,7 @@ cas_act op.Delete write cas rev = refl
 -- the last change that was told
 module _ {n v : ℕ} {held : List Change} {own : OwnChange} {older : List OwnChange} {settings : Settings} {write : Write} {f g : Frame} (m : IsMade n v held (own ∷ older) settings write f g) where
   abbrev its_own : OwnChange
-  its_own = record { node = n; vb = v; branch = m.branch; change = m.change }
+  its_own = record { node = n; vb = v; branch = m.branch; change = m.change; clock = m.clock }
 
   own_is : own ≡ its_own
   own_is = let e : own ∷ older ≡ its_own ∷ m.older = m.last in cc
@@ -126,11 +127,12 @@ makes_one l clients = record {
   made = first_next;
   fulfils = λ prepared doc deleted e. cc;
   backed = λ prepared doc deleted e. cc;
+  asked = λ level doc deleted e. cc;
   aborts = λ prepared e. cc;
 }
 
-makes_more : (clients : ClientsKnown) (a : Act) → ((prepared : ℕ) (doc : Doc) (deleted : Bool) → a ≡ act.Commit prepared doc deleted → ⊥) → ((prepared : ℕ) → a ≡ act.Abort prepared → ⊥) → IsNextChange once (record { seq = 2; key = 7 ∷ []; act = a }) → LawfulChange (record (serving once blank_client) { clients_at = clients }) 0 0 5 (record { seq = 2; key = 7 ∷ []; act = a })
-makes_more clients a none stays next = record {
+makes_more : (clients : ClientsKnown) (a : Act) → ((prepared : ℕ) (doc : Doc) (deleted : Bool) → a ≡ act.Commit prepared doc deleted → ⊥) → ((level : Level) (doc : Doc) (deleted : Bool) → a ≡ act.Prepare level doc deleted → ⊥) → ((prepared : ℕ) → a ≡ act.Abort prepared → ⊥) → IsNextChange once (record { seq = 2; key = 7 ∷ []; act = a }) → LawfulChange (record (serving once blank_client) { clients_at = clients }) 0 0 5 (record { seq = 2; key = 7 ∷ []; act = a })
+makes_more clients a none plain stays next = record {
   active = refl;
   writer = record { made_or_took = refl; on_branch = refl };
   above_branch = omega arith;
@@ -138,20 +140,21 @@ makes_more clients a none stays next = record {
   made = next;
   fulfils = λ prepared doc deleted e. absurd (none prepared doc deleted e);
   backed = λ prepared doc deleted e. absurd (none prepared doc deleted e);
+  asked = λ level doc deleted e. absurd (plain level doc deleted e);
   aborts = λ prepared e. absurd (stays prepared e);
 }
 
 makes_newer : (clients : ClientsKnown) → LawfulChange (record (serving once blank_client) { clients_at = clients }) 0 0 5 newer
-makes_newer clients = makes_more clients (act.Set newer_doc) (λ prepared doc deleted e. cc) (λ prepared e. cc) (seven_next (act.Set newer_doc) refl refl refl)
+makes_newer clients = makes_more clients (act.Set newer_doc) (λ prepared doc deleted e. cc) (λ level doc deleted e. cc) (λ prepared e. cc) (seven_next (act.Set newer_doc) refl refl refl)
 
 makes_removal : (clients : ClientsKnown) → LawfulChange (record (serving once blank_client) { clients_at = clients }) 0 0 5 removal
-makes_removal clients = makes_more clients (act.Remove 2 2) (λ prepared doc deleted e. cc) (λ prepared e. cc) (seven_next (act.Remove 2 2) refl refl refl)
+makes_removal clients = makes_more clients (act.Remove 2 2) (λ prepared doc deleted e. cc) (λ level doc deleted e. cc) (λ prepared e. cc) (seven_next (act.Remove 2 2) refl refl refl)
 
 -- ---- transcripts
 
 pub made : LawfulTo [] (writes SET 0 7 8) (makes one_change ∷ stores SET 1 [] ∷ [])
 unfolding spelling frames_in first_frame frame_of read_of frame_row shape_fault request_of requirement_of
-made = (makes_one _ _, (λ z. inl (record { question = _; next = refl; answer = reply_frame (stored_answer SET 9 1 []); spelled = refl; response = refl; opcode = refl; opaque = refl; calm = inl (_, _, refl, inl refl); fits = inr (record { branch = 5; change = one_change; older = []; alone = tt; last = refl; key = refl; cas = 1; rev = 1; act = refl; before = []; behind = refl; fits = ap (doc_refusal op.Set 0) (none_stored (7 ∷ [])); told = stored_so SET 9 1 [] }) }), tt))
+made = (makes_one _ _, (λ z. inl (record { question = _; next = refl; answer = reply_frame (stored_answer SET 9 1 []); spelled = refl; response = refl; opcode = refl; opaque = refl; calm = inl (_, refl, refl); fits = inr (record { branch = 5; change = one_change; clock = 0; older = []; alone = tt; last = refl; key = refl; cas = 1; rev = 1; act = refl; before = []; behind = refl; fits = ap (doc_refusal op.Set 0) (none_stored (7 ∷ [])); told = stored_so SET 9 1 [] }) }), tt))
 
 pub unmade : LawfulTo [] (writes SET 0 7 8) (stores SET 1 [] ∷ []) → ⊥
 unfolding spelling frames_in first_frame frame_of read_of frame_row shape_fault request_of requirement_of
@@ -183,7 +186,7 @@ twice l = let (g, s, fits) = asked_so (l.1.1.0 refl) refl refl refl in ⊎_elim 
 
 pub each : LawfulTo [] (writes SET 0 7 8 ++ writes SET 0 9 6) (makes one_change ∷ stores SET 1 [] ∷ makes next_change ∷ stores SET 2 [] ∷ [])
 unfolding spelling frames_in first_frame frame_of read_of frame_row shape_fault request_of requirement_of
-each = (makes_one _ _, (λ z. inl (record { question = _; next = refl; answer = reply_frame (stored_answer SET 9 1 []); spelled = refl; response = refl; opcode = refl; opaque = refl; calm = inl (_, _, refl, inl refl); fits = inr (record { branch = 5; change = one_change; older = []; alone = tt; last = refl; key = refl; cas = 1; rev = 1; act = refl; before = []; behind = refl; fits = ap (doc_refusal op.Set 0) (none_stored (7 ∷ [])); told = stored_so SET 9 1 [] }) }), (record { active = refl; writer = record { made_or_took = refl; on_branch = refl }; above_branch = omega arith; above_forks = (λ e. omega arith, tt); made = second_next; fulfils = λ prepared doc deleted e. cc; backed = λ prepared doc deleted e. cc; aborts = λ prepared e. cc }, (λ z. inl (record { question = _; next = refl; answer = reply_frame (stored_answer SET 9 2 []); spelled = refl; response = refl; opcode = refl; opaque = refl; calm = inl (_, _, refl, inl refl); fits = inr (record { branch = 5; change = next_change; older = []; alone = tt; last = refl; key = refl; cas = 2; rev = 1; act = refl; before = once; behind = refl; fits = ap (doc_refusal op.Set 0) (nine_none (first_doc 1 (8 ∷ []))); told = stored_so SET 9 2 [] }) }), tt))))
+each = (makes_one _ _, (λ z. inl (record { question = _; next = refl; answer = reply_frame (stored_answer SET 9 1 []); spelled = refl; response = refl; opcode = refl; opaque = refl; calm = inl (_, refl, refl); fits = inr (record { branch = 5; change = one_change; clock = 0; older = []; alone = tt; last = refl; key = refl; cas = 1; rev = 1; act = refl; before = []; behind = refl; fits = ap (doc_refusal op.Set 0) (none_stored (7 ∷ [])); told = stored_so SET 9 1 [] }) }), (record { active = refl; writer = record { made_or_took = refl; on_branch = refl }; above_branch = omega arith; above_forks = (λ e. omega arith, tt); made = second_next; fulfils = λ prepared doc deleted e. cc; backed = λ prepared doc deleted e. cc; asked = λ level doc deleted e. cc; aborts = λ prepared e. cc }, (λ z. inl (record { question = _; next = refl; answer = reply_frame (stored_answer SET 9 2 []); spelled = refl; response = refl; opcode = refl; opaque = refl; calm = inl (_, refl, refl); fits = inr (record { branch = 5; change = next_change; clock = 0; older = []; alone = tt; last = refl; key = refl; cas = 2; rev = 1; act = refl; before = once; behind = refl; fits = ap (doc_refusal op.Set 0) (nine_none (first_doc 1 (8 ∷ []))); told = stored_so SET 9 2 [] }) }), tt))))
 
 pub late : LawfulTo [] (writes SET 0 7 8 ++ writes SET 0 9 6) (makes one_change ∷ makes next_change ∷ stores SET 1 [] ∷ []) → ⊥
 unfolding spelling frames_in first_frame frame_of read_of frame_row shape_fault request_of requirement_of
@@ -191,7 +194,7 @@ late l = let (g, s, fits) = asked_so (l.1.1.0 refl) refl refl refl in ⊎_elim (
 
 pub seqnos : LawfulBy for_seqnos [] (writes SET 0 7 8) (makes one_change ∷ stores SET 1 (seqno_extras 5 1) ∷ [])
 unfolding spelling frames_in first_frame frame_of read_of frame_row shape_fault request_of requirement_of
-seqnos = (makes_one _ _, (λ z. inl (record { question = _; next = refl; answer = reply_frame (stored_answer SET 9 1 (seqno_extras 5 1)); spelled = refl; response = refl; opcode = refl; opaque = refl; calm = inl (_, _, refl, inl refl); fits = inr (record { branch = 5; change = one_change; older = []; alone = tt; last = refl; key = refl; cas = 1; rev = 1; act = refl; before = []; behind = refl; fits = ap (doc_refusal op.Set 0) (none_stored (7 ∷ [])); told = stored_so SET 9 1 (seqno_extras 5 1) }) }), tt))
+seqnos = (makes_one _ _, (λ z. inl (record { question = _; next = refl; answer = reply_frame (stored_answer SET 9 1 (seqno_extras 5 1)); spelled = refl; response = refl; opcode = refl; opaque = refl; calm = inl (_, refl, refl); fits = inr (record { branch = 5; change = one_change; clock = 0; older = []; alone = tt; last = refl; key = refl; cas = 1; rev = 1; act = refl; before = []; behind = refl; fits = ap (doc_refusal op.Set 0) (none_stored (7 ∷ [])); told = stored_so SET 9 1 (seqno_extras 5 1) }) }), tt))
 
 pub untold : LawfulBy for_seqnos [] (writes SET 0 7 8) (makes one_change ∷ stores SET 1 [] ∷ []) → ⊥
 unfolding spelling frames_in first_frame frame_of read_of frame_row shape_fault request_of requirement_of
@@ -211,7 +214,7 @@ unasked l = let (g, s, fits) = asked_so (l.1.0 refl) refl refl refl in ⊎_elim 
 
 pub fits : LawfulTo once (writes SET 1 7 4) (makes newer ∷ stores SET 2 [] ∷ [])
 unfolding spelling frames_in first_frame frame_of read_of frame_row shape_fault request_of requirement_of
-fits = (makes_newer _, (λ z. inl (record { question = _; next = refl; answer = reply_frame (stored_answer SET 9 2 []); spelled = refl; response = refl; opcode = refl; opaque = refl; calm = inl (_, _, refl, inl refl); fits = inr (record { branch = 5; change = newer; older = []; alone = tt; last = refl; key = refl; cas = 2; rev = 2; act = refl; before = once; behind = refl; fits = ap (doc_refusal op.Set 1) (seven_there (first_doc 1 (8 ∷ []))); told = stored_so SET 9 2 [] }) }), tt))
+fits = (makes_newer _, (λ z. inl (record { question = _; next = refl; answer = reply_frame (stored_answer SET 9 2 []); spelled = refl; response = refl; opcode = refl; opaque = refl; calm = inl (_, refl, refl); fits = inr (record { branch = 5; change = newer; clock = 0; older = []; alone = tt; last = refl; key = refl; cas = 2; rev = 2; act = refl; before = once; behind = refl; fits = ap (doc_refusal op.Set 1) (seven_there (first_doc 1 (8 ∷ []))); told = stored_so SET 9 2 [] }) }), tt))
 
 pub unfit : LawfulTo once (writes SET 3 7 4) (makes newer ∷ stores SET 2 [] ∷ []) → ⊥
 unfolding spelling frames_in first_frame frame_of read_of frame_row shape_fault request_of requirement_of
@@ -219,7 +222,7 @@ unfit l = let (g, s, fits) = asked_so (l.1.0 refl) refl refl refl in ⊎_elim (�
 
 pub adds : LawfulTo [] (writes ADD 0 7 8) (makes one_change ∷ stores ADD 1 [] ∷ [])
 unfolding spelling frames_in first_frame frame_of read_of frame_row shape_fault request_of requirement_of
-adds = (makes_one _ _, (λ z. inl (record { question = _; next = refl; answer = reply_frame (stored_answer ADD 9 1 []); spelled = refl; response = refl; opcode = refl; opaque = refl; calm = inl (_, _, refl, inl refl); fits = inr (record { branch = 5; change = one_change; older = []; alone = tt; last = refl; key = refl; cas = 1; rev = 1; act = refl; before = []; behind = refl; fits = ap (doc_refusal op.Add 0) (none_stored (7 ∷ [])); told = stored_so ADD 9 1 [] }) }), tt))
+adds = (makes_one _ _, (λ z. inl (record { question = _; next = refl; answer = reply_frame (stored_answer ADD 9 1 []); spelled = refl; response = refl; opcode = refl; opaque = refl; calm = inl (_, refl, refl); fits = inr (record { branch = 5; change = one_change; clock = 0; older = []; alone = tt; last = refl; key = refl; cas = 1; rev = 1; act = refl; before = []; behind = refl; fits = ap (doc_refusal op.Add 0) (none_stored (7 ∷ [])); told = stored_so ADD 9 1 [] }) }), tt))
 
 pub adds_again : LawfulTo once (writes ADD 0 7 4) (makes newer ∷ stores ADD 2 [] ∷ []) → ⊥
 unfolding spelling frames_in first_frame frame_of read_of frame_row shape_fault request_of requirement_of
@@ -227,7 +230,7 @@ adds_again l = let (g, s, fits) = asked_so (l.1.0 refl) refl refl refl in ⊎_el
 
 pub replaces : LawfulTo once (writes REPLACE 0 7 4) (makes newer ∷ stores REPLACE 2 [] ∷ [])
 unfolding spelling frames_in first_frame frame_of read_of frame_row shape_fault request_of requirement_of
-replaces = (makes_newer _, (λ z. inl (record { question = _; next = refl; answer = reply_frame (stored_answer REPLACE 9 2 []); spelled = refl; response = refl; opcode = refl; opaque = refl; calm = inl (_, _, refl, inl refl); fits = inr (record { branch = 5; change = newer; older = []; alone = tt; last = refl; key = refl; cas = 2; rev = 2; act = refl; before = once; behind = refl; fits = ap (doc_refusal op.Replace 0) (seven_there (first_doc 1 (8 ∷ []))); told = stored_so REPLACE 9 2 [] }) }), tt))
+replaces = (makes_newer _, (λ z. inl (record { question = _; next = refl; answer = reply_frame (stored_answer REPLACE 9 2 []); spelled = refl; response = refl; opcode = refl; opaque = refl; calm = inl (_, refl, refl); fits = inr (record { branch = 5; change = newer; clock = 0; older = []; alone = tt; last = refl; key = refl; cas = 2; rev = 2; act = refl; before = once; behind = refl; fits = ap (doc_refusal op.Replace 0) (seven_there (first_doc 1 (8 ∷ []))); told = stored_so REPLACE 9 2 [] }) }), tt))
 
 pub replaces_none : LawfulTo [] (writes REPLACE 0 7 8) (makes one_change ∷ stores REPLACE 1 [] ∷ []) → ⊥
 unfolding spelling frames_in first_frame frame_of read_of frame_row shape_fault request_of requirement_of
@@ -235,7 +238,7 @@ replaces_none l = let (g, s, fits) = asked_so (l.1.0 refl) refl refl refl in ⊎
 
 pub removed : LawfulTo once (removes 7) (makes removal ∷ stores DELETE 2 [] ∷ [])
 unfolding spelling frames_in first_frame frame_of read_of frame_row shape_fault request_of requirement_of
-removed = (makes_removal _, (λ z. inl (record { question = _; next = refl; answer = reply_frame (stored_answer DELETE 9 2 []); spelled = refl; response = refl; opcode = refl; opaque = refl; calm = inl (_, _, refl, inl refl); fits = inr (record { branch = 5; change = removal; older = []; alone = tt; last = refl; key = refl; cas = 2; rev = 2; act = refl; before = once; behind = refl; fits = ap (doc_refusal op.Delete 0) (seven_there (first_doc 1 (8 ∷ []))); told = stored_so DELETE 9 2 [] }) }), tt))
+removed = (makes_removal _, (λ z. inl (record { question = _; next = refl; answer = reply_frame (stored_answer DELETE 9 2 []); spelled = refl; response = refl; opcode = refl; opaque = refl; calm = inl (_, refl, refl); fits = inr (record { branch = 5; change = removal; clock = 0; older = []; alone = tt; last = refl; key = refl; cas = 2; rev = 2; act = refl; before = once; behind = refl; fits = ap (doc_refusal op.Delete 0) (seven_there (first_doc 1 (8 ∷ []))); told = stored_so DELETE 9 2 [] }) }), tt))
 
 pub prepared_only : LawfulTo once (writes SET 0 9 6) (makes prepare_made ∷ stores SET 2 [] ∷ []) → ⊥
 unfolding spelling frames_in first_frame frame_of read_of frame_row shape_fault request_of requirement_of

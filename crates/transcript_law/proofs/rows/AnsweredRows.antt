@@ -12,12 +12,13 @@ use Rattle.client_session.specs.Serving.{no_settings}
 use Rattle.mcbp_kv.specs.Answers.{bare_answer}
 use Rattle.mcbp_kv.specs.Replies.{reply_frame}
 use Rattle.mcbp_kv.specs.declared.opcodes.TheConstants.{NOOP, SET}
+use Rattle.vb_types.specs.declared.role.Role.TheVariants.{Active}
 use Rattle.vb_types.specs.declared.status.Status.TheVariants as status
 use Rattle.script_text.specs.declared.verb.ClientVerb.TheVariants as client_verb
 use Rattle.script_text.specs.declared.verb.Verb.TheVariants as verb
-use Rattle.transcript_law.proofs.rows.{Answering.{first_number}, Groups.{AreParts, in_place, whole as whole_groups}, Sets.{heard_then}, Silent.{AreHeard, heard_all, heard_by, none_next, one_answered, shut_answered, silent_start}}
-use Rattle.transcript_law.specs.AnsweredRows.{brings, broken_bytes, durable_bytes, durable_frame, durable_unknown, noop_answered, noop_bytes, noop_frame, response_bytes, sent_alone, sent_shut, set_bytes}
-use Rattle.transcript_law.specs.{ClientRows.{LawfulOpened, hangs, waits}, Crashes.{Said, groups_from_number, numbered, ok}, LawfulAnswers.{serving, AllDurable, FitsFrame, LawfulReply}, Prefixes.{known_after}}
+use Rattle.transcript_law.proofs.rows.{AnswerRefusals.{why_away}, Answering.{bare_so, first_number}, Groups.{AreParts, in_place, whole as whole_groups}, Sets.{heard_then}, Silent.{AreHeard, heard_all, heard_by, none_next, one_answered, shut_answered, silent_start}}
+use Rattle.transcript_law.specs.AnsweredRows.{brings, broken_bytes, durable_bytes, durable_frame, durable_refused, noop_answered, noop_bytes, noop_frame, response_bytes, sent_alone, sent_shut, set_bytes}
+use Rattle.transcript_law.specs.{ClientRows.{LawfulOpened, hangs, waits}, Crashes.{Said, groups_from_number, numbered, ok}, LawfulAnswers.{serving, FitsFrame, LawfulReply, IsStill}, Prefixes.{known_after}}
 use Rattle.transcript_law.specs.Questions.{Question, question_of}
 use Rattle.transcript_law.specs.StreamsTold.{Asking}
 use Rattle.transcript_law.specs.Transcripts.{set_frame}
@@ -116,6 +117,10 @@ before_durable l = no_noop ((l 0 1 refl).asks (record { before = []; frame = noo
 
 -- ---- by whole lines
 
+-- a vBucket that was not made is not active
+pub no_vb : Some None ≡ Some (Some Active) → ⊥
+no_vb e = let one : None ≡ Some Active = cc in cc
+
 -- what was read behind these lines of an open connection
 abbrev behind : List Verb → List Said → Chronicle
 behind lines told = known_after empty_chronicle (numbered 1 (verb.Node 0 ∷ verb.AtClient 0 1 client_verb.Open ∷ lines)) (groups_from_number 1 (ok [] ∷ ok [] ∷ told))
@@ -132,7 +137,7 @@ from_opened lines told o parts heard =
     (heard_then _ _ _ _ _ refl silent_start (λ s. heard_then _ _ _ _ _ refl s (λ s. heard)))
 
 -- NOOP is answered so
-noop_lawful : (r : Chronicle) (k : Asking) (more : List Event) → question_of k ≡ Some (record { before = []; frame = noop_frame }) → k.settings ≡ no_settings → AllDurable r.made → LawfulReply r 0 1 k (spelling (reply_frame (bare_answer NOOP status.Success 9))) more
+noop_lawful : (r : Chronicle) (k : Asking) (more : List Event) → question_of k ≡ Some (record { before = []; frame = noop_frame }) → k.settings ≡ no_settings → IsStill r → LawfulReply r 0 1 k (spelling (reply_frame (bare_answer NOOP status.Success 9))) more
 unfolding request_of requirement_of
 noop_lawful r k more next same calm = inl (record {
   question = record { before = []; frame = noop_frame };
@@ -143,12 +148,12 @@ noop_lawful r k more next same calm = inl (record {
   opcode = refl;
   opaque = refl;
   fits = subst (λ s. FitsFrame (serving r 0 1 k) r 0 (moment_of (r.clients_at 0 1) k (record { before = []; frame = noop_frame })) s noop_frame (reply_frame (bare_answer NOOP status.Success 9))) (sym same) (record { header = record { magic = refl; opcode = refl; key = refl; datatype = refl; status = refl; opaque = refl; framing = refl }; cas = refl; extras = refl; value = refl });
-  calm = inr calm;
+  calm = inr (inr calm);
 })
 
 pub answered : LawfulOpened (brings noop_bytes ∷ []) (ok (noop_answered ∷ []) ∷ [])
 unfolding spelling frames_in first_frame frame_of read_of frame_row
-answered = from_opened (brings noop_bytes ∷ []) (ok (noop_answered ∷ []) ∷ []) refl ((((refl, λ z. noop_lawful _ _ _ refl refl tt), tt), refl, refl), tt)
+answered = from_opened (brings noop_bytes ∷ []) (ok (noop_answered ∷ []) ∷ []) refl ((((refl, λ z. noop_lawful _ _ _ refl refl (tt, refl)), tt), refl, refl), tt)
     (heard_by _ _ _ _ _ (no_more (brings noop_bytes ∷ []) (ok (noop_answered ∷ []) ∷ []) (λ n c e. rw e refl) refl refl) (heard_all _))
 
 pub unanswered : LawfulOpened (brings noop_bytes ∷ []) (ok [] ∷ []) → ⊥
@@ -161,7 +166,7 @@ later l = no_noop ((l.1.1.0.8 0 1 refl).asks (record { before = []; frame = noop
 
 pub each : LawfulOpened (brings (noop_bytes ++ noop_bytes) ∷ []) (ok (noop_answered ∷ noop_answered ∷ []) ∷ [])
 unfolding spelling frames_in first_frame frame_of read_of frame_row request_of requirement_of
-each = from_opened (brings (noop_bytes ++ noop_bytes) ∷ []) (ok (noop_answered ∷ noop_answered ∷ []) ∷ []) refl ((((refl, λ z. noop_lawful _ _ _ refl refl tt), ((refl, λ z. noop_lawful _ _ _ refl refl tt), tt)), refl, refl), tt)
+each = from_opened (brings (noop_bytes ++ noop_bytes) ∷ []) (ok (noop_answered ∷ noop_answered ∷ []) ∷ []) refl ((((refl, λ z. noop_lawful _ _ _ refl refl (tt, refl)), ((refl, λ z. noop_lawful _ _ _ refl refl (tt, refl)), tt)), refl, refl), tt)
     (heard_by _ _ _ _ _ (no_more (brings (noop_bytes ++ noop_bytes) ∷ []) (ok (noop_answered ∷ noop_answered ∷ []) ∷ []) (λ n c e. rw e refl) refl refl) (heard_all _))
 
 pub one_only : LawfulOpened (brings (noop_bytes ++ noop_bytes) ∷ []) (ok (noop_answered ∷ []) ∷ []) → ⊥
@@ -170,7 +175,7 @@ one_only l = no_noop ((l.1.1.0.8 0 1 refl).asks (record { before = []; frame = n
 
 pub pieces : LawfulOpened (brings (take 23 noop_bytes) ∷ brings (drop 23 noop_bytes) ∷ []) (ok [] ∷ ok (noop_answered ∷ []) ∷ [])
 unfolding spelling frames_in first_frame frame_of read_of frame_row
-pieces = from_opened (brings (take 23 noop_bytes) ∷ brings (drop 23 noop_bytes) ∷ []) (ok [] ∷ ok (noop_answered ∷ []) ∷ []) refl ((tt, refl, refl), ((((refl, λ z. noop_lawful _ _ _ refl refl tt), tt), refl, refl), tt))
+pieces = from_opened (brings (take 23 noop_bytes) ∷ brings (drop 23 noop_bytes) ∷ []) (ok [] ∷ ok (noop_answered ∷ []) ∷ []) refl ((tt, refl, refl), ((((refl, λ z. noop_lawful _ _ _ refl refl (tt, refl)), tt), refl, refl), tt))
     (heard_by _ _ _ _ _ (no_more (brings (take 23 noop_bytes) ∷ []) (ok [] ∷ []) (λ n c e. rw e refl) refl refl)
     (heard_by _ _ _ _ _ (no_more (brings (take 23 noop_bytes) ∷ brings (drop 23 noop_bytes) ∷ []) (ok [] ∷ ok (noop_answered ∷ []) ∷ []) (λ n c e. rw e refl) refl refl) (heard_all _)))
 
@@ -184,9 +189,9 @@ hung = from_opened (brings (take 23 noop_bytes) ∷ hangs 1 ∷ []) (ok [] ∷ o
     (heard_by _ _ _ _ _ (no_more (brings (take 23 noop_bytes) ∷ []) (ok [] ∷ []) (λ n c e. rw e refl) refl refl)
     (heard_by _ _ _ _ _ (no_more (brings (take 23 noop_bytes) ∷ hangs 1 ∷ []) (ok [] ∷ ok [] ∷ []) (λ n c e. rw e refl) refl refl) (heard_all _)))
 
-pub durable_later : LawfulOpened (brings durable_bytes ∷ waits ∷ []) (ok [] ∷ ok (durable_unknown ∷ []) ∷ [])
+pub durable_later : LawfulOpened (brings durable_bytes ∷ waits ∷ []) (ok [] ∷ ok (durable_refused ∷ []) ∷ [])
 unfolding spelling frames_in first_frame frame_of read_of frame_row request_of requirement_of
-durable_later = from_opened (brings durable_bytes ∷ waits ∷ []) (ok [] ∷ ok (durable_unknown ∷ []) ∷ []) refl (
+durable_later = from_opened (brings durable_bytes ∷ waits ∷ []) (ok [] ∷ ok (durable_refused ∷ []) ∷ []) refl (
   (tt, refl, refl),
   (
     (
@@ -196,13 +201,13 @@ durable_later = from_opened (brings durable_bytes ∷ waits ∷ []) (ok [] ∷ o
           λ z. inl (record {
             question = record { before = []; frame = durable_frame };
             next = refl;
-            answer = reply_frame (bare_answer SET status.SyncWriteAmbiguous 9);
+            answer = reply_frame (bare_answer SET status.NotMyVbucket 9);
             spelled = refl;
             response = refl;
             opcode = refl;
             opaque = refl;
-            fits = inr (first_number, inr (inr (record { header = record { magic = refl; opcode = refl; key = refl; datatype = refl; status = refl; opaque = refl; framing = refl }; cas = refl; extras = refl; value = refl })));
-            calm = inr tt;
+            fits = inr (first_number, inl (status.NotMyVbucket, bare_so SET 9 status.NotMyVbucket, why_away no_vb, λ on. absurd (no_vb on)));
+            calm = inr (inr (tt, refl));
           }),
         ),
         tt,
@@ -214,4 +219,4 @@ durable_later = from_opened (brings durable_bytes ∷ waits ∷ []) (ok [] ∷ o
   ),
 )
     (heard_by _ _ _ _ _ (one_answered (behind (brings durable_bytes ∷ []) (ok [] ∷ [])) (λ n c e. rw e refl) (durable_next ((behind (brings durable_bytes ∷ []) (ok [] ∷ [])).clients_at 0 1).asking [] refl refl))
-    (heard_by _ _ _ _ _ (no_more (brings durable_bytes ∷ waits ∷ []) (ok [] ∷ ok (durable_unknown ∷ []) ∷ []) (λ n c e. rw e refl) refl refl) (heard_all _)))
+    (heard_by _ _ _ _ _ (no_more (brings durable_bytes ∷ waits ∷ []) (ok [] ∷ ok (durable_refused ∷ []) ∷ []) (λ n c e. rw e refl) refl refl) (heard_all _)))

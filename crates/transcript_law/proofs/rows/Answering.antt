@@ -24,11 +24,11 @@ use Rattle.vb_types.specs.Statuses.{status_code}
 use Rattle.vb_types.specs.declared.doc.Doc.{Doc}
 use Rattle.vb_types.specs.declared.status.Status.{Status}
 use Rattle.vb_types.specs.declared.status.Status.TheVariants as status
-use Rattle.std.specs.Prelude.{◌⊎◌, ◌<◌, ◌+◌}
+use Rattle.std.specs.Prelude.{◌<◌, ◌+◌}
 use Rattle.transcript_law.specs.ClientRows.{nooped}
-use Rattle.transcript_law.specs.LawfulAnswers.{AllDurable, Answers, AnswersFault, FitsBy, FitsFrame, FitsRequest, HasNumber, IsOutcome, LawfulReply, WRITE_NUMBERS}
+use Rattle.transcript_law.specs.LawfulAnswers.{Answers, AnswersFault, FitsBy, FitsFrame, FitsRequest, HasNumber, IsStill, IsTimely, LawfulReply, WRITE_NUMBERS}
 use Rattle.transcript_law.specs.LawfulMessages.{FitsDcp, moment_of}
-use Rattle.transcript_law.specs.LinesTold.{Chronicle, OwnChange}
+use Rattle.transcript_law.specs.LinesTold.{Chronicle}
 use Rattle.transcript_law.specs.Questions.{Question, behind_frames, question_of}
 use Rattle.transcript_law.specs.StreamsTold.{Asking}
 use Rattle.transcript_law.specs.LawfulAnswers.{serving}
@@ -37,7 +37,7 @@ use Rattle.transcript_law.specs.LawfulAnswers.{serving}
 
 module _ {chronicle : Chronicle} {asking : Asking} {behind : List Event} {q : Question} (g : Frame) (next : question_of asking ≡ Some q) (response : g.magic ≡ RESPONSE) (opcode : g.opcode ≡ q.frame.opcode) (opaque : g.opaque ≡ q.frame.opaque) where
   -- to a frame of DCP
-  pub dcp_answer : is_dcp q.frame.opcode ≡ true → FitsDcp chronicle 0 (moment_of (chronicle.clients_at 0 1) asking q) q.frame g → AllDurable chronicle.made → LawfulReply chronicle 0 1 asking (spelling g) behind
+  pub dcp_answer : is_dcp q.frame.opcode ≡ true → FitsDcp chronicle 0 (moment_of (chronicle.clients_at 0 1) asking q) q.frame g → IsStill chronicle → LawfulReply chronicle 0 1 asking (spelling g) behind
   dcp_answer dcp fits calm = inl (record {
     question = q;
     next = next;
@@ -47,11 +47,11 @@ module _ {chronicle : Chronicle} {asking : Asking} {behind : List Event} {q : Qu
     opcode = opcode;
     opaque = opaque;
     fits = subst (λ b. FitsBy b (serving chronicle 0 1 asking) chronicle 0 (moment_of (chronicle.clients_at 0 1) asking q) asking.settings q.frame g) (sym dcp) fits;
-    calm = inr calm;
+    calm = inr (inr calm);
   })
 
   -- to any other
-  pub kv_answer : {r : Result KvRequest Status} → is_dcp q.frame.opcode ≡ false → request_of asking.settings.json q.frame ≡ r → FitsRequest (serving chronicle 0 1 asking) chronicle 0 asking.durables asking.settings q.frame g r → IsOutcome asking.settings q.frame g ⊎ AllDurable chronicle.made
+  pub kv_answer : {r : Result KvRequest Status} → is_dcp q.frame.opcode ≡ false → request_of asking.settings.json q.frame ≡ r → FitsRequest (serving chronicle 0 1 asking) chronicle 0 asking.durables asking.settings q.frame g r → IsTimely chronicle asking.settings q.frame g
       → LawfulReply chronicle 0 1 asking (spelling g) behind
   kv_answer {r} dcp asks fits calm = inl (record {
     question = q;
@@ -90,18 +90,18 @@ pub welcome_so : (opaque : ℕ) (features : List Feature) → IsWelcome (reply_f
 welcome_so opaque features = record { header = record { magic = refl; opcode = refl; key = refl; datatype = refl; status = refl; opaque = refl; framing = refl }; cas = refl; extras = refl; value = refl }
 
 -- to NOOP
-pub noop_answer : {chronicle : Chronicle} {asking : Asking} {behind : List Event} {q : Question} (opaque : ℕ) → question_of asking ≡ Some q → NOOP ≡ q.frame.opcode → opaque ≡ q.frame.opaque → request_of asking.settings.json q.frame ≡ Ok request.Noop → AllDurable chronicle.made → LawfulReply chronicle 0 1 asking (nooped opaque) behind
-noop_answer opaque next code at asks calm = kv_answer (reply_frame (bare_answer NOOP status.Success opaque)) next refl code at (ap is_dcp (sym code)) asks (record { header = record { magic = refl; opcode = code; key = refl; datatype = refl; status = refl; opaque = at; framing = refl }; cas = refl; extras = refl; value = refl }) (inr calm)
+pub noop_answer : {chronicle : Chronicle} {asking : Asking} {behind : List Event} {q : Question} (opaque : ℕ) → question_of asking ≡ Some q → NOOP ≡ q.frame.opcode → opaque ≡ q.frame.opaque → request_of asking.settings.json q.frame ≡ Ok request.Noop → IsStill chronicle → LawfulReply chronicle 0 1 asking (nooped opaque) behind
+noop_answer opaque next code at asks calm = kv_answer (reply_frame (bare_answer NOOP status.Success opaque)) next refl code at (ap is_dcp (sym code)) asks (record { header = record { magic = refl; opcode = code; key = refl; datatype = refl; status = refl; opaque = at; framing = refl }; cas = refl; extras = refl; value = refl }) (inr (inr calm))
 
 -- by a fault
-pub fault_answer : {chronicle : Chronicle} {asking : Asking} {more : List Event} (fault : FrameFault) (head : FaultyHead) → question_of asking ≡ None → front_fault (behind_frames asking.bytes) ≡ Some fault → faulty_head fault (behind_frames asking.bytes) ≡ Some head → AllDurable chronicle.made → LawfulReply chronicle 0 1 asking (spelling (reply_frame (bare_answer head.opcode status.Einval head.opaque))) (event.Closed 0 1 ∷ more)
+pub fault_answer : {chronicle : Chronicle} {asking : Asking} {more : List Event} (fault : FrameFault) (head : FaultyHead) → question_of asking ≡ None → front_fault (behind_frames asking.bytes) ≡ Some fault → faulty_head fault (behind_frames asking.bytes) ≡ Some head → IsStill chronicle → LawfulReply chronicle 0 1 asking (spelling (reply_frame (bare_answer head.opcode status.Einval head.opaque))) (event.Closed 0 1 ∷ more)
 fault_answer {chronicle} {asking} {more} fault head none stands named calm = inr (record { calm = calm; none = none; fault = fault; stands = stands; head = head; named = named; spelled = refl; closes = (more, refl) })
 
 -- ---- what a lawful answer is
 
 -- nothing was asked, and no fault stands there
 pub no_question : {chronicle : Chronicle} {asking : Asking} {bytes : List ℕ} {behind : List Event} → LawfulReply chronicle 0 1 asking bytes behind → question_of asking ≡ None → front_fault (behind_frames asking.bytes) ≡ None → ⊥
-no_question {chronicle} {asking} {bytes} {behind} l none whole = ⊎_elim (λ (a : Answers chronicle 0 1 asking bytes). let e : None ≡ Some a.question = sym none ∙ a.next in cc) (λ (f : AnswersFault 0 1 chronicle.made asking bytes behind). let e : None ≡ Some f.fault = sym whole ∙ f.stands in cc) l
+no_question {chronicle} {asking} {bytes} {behind} l none whole = ⊎_elim (λ (a : Answers chronicle 0 1 asking bytes). let e : None ≡ Some a.question = sym none ∙ a.next in cc) (λ (f : AnswersFault 0 1 chronicle asking bytes behind). let e : None ≡ Some f.fault = sym whole ∙ f.stands in cc) l
 
 -- the question that stands next is answered so
 pub record Told (chronicle : Chronicle) (asking : Asking) (bytes : List ℕ) (q : Question) : Type 0 where
@@ -111,10 +111,10 @@ pub record Told (chronicle : Chronicle) (asking : Asking) (bytes : List ℕ) (q 
   pub opcode : frame.opcode ≡ q.frame.opcode
   pub opaque : frame.opaque ≡ q.frame.opaque
   pub fits : FitsFrame (serving chronicle 0 1 asking) chronicle 0 (moment_of (chronicle.clients_at 0 1) asking q) asking.settings q.frame frame
-  pub calm : IsOutcome asking.settings q.frame frame ⊎ AllDurable chronicle.made
+  pub calm : IsTimely chronicle asking.settings q.frame frame
 
 pub answered : {chronicle : Chronicle} {asking : Asking} {bytes : List ℕ} {behind : List Event} {q : Question} → LawfulReply chronicle 0 1 asking bytes behind → question_of asking ≡ Some q → Told chronicle asking bytes q
-answered {chronicle} {asking} {bytes} {behind} {q} l is = ⊎_elim by (λ (f : AnswersFault 0 1 chronicle.made asking bytes behind). let e : None ≡ Some q = sym f.none ∙ is in cc) l
+answered {chronicle} {asking} {bytes} {behind} {q} l is = ⊎_elim by (λ (f : AnswersFault 0 1 chronicle asking bytes behind). let e : None ≡ Some q = sym f.none ∙ is in cc) l
   where
     by : Answers chronicle 0 1 asking bytes → Told chronicle asking bytes q
     by a =
@@ -126,7 +126,7 @@ answered {chronicle} {asking} {bytes} {behind} {q} l is = ⊎_elim by (λ (f : A
           opcode = a.opcode ∙ ap (λ (p : Question). p.frame.opcode) same;
           opaque = a.opaque ∙ ap (λ (p : Question). p.frame.opaque) same;
           fits = subst (λ (p : Question). FitsFrame (serving chronicle 0 1 asking) chronicle 0 (moment_of (chronicle.clients_at 0 1) asking p) asking.settings p.frame a.answer) same a.fits;
-          calm = subst (λ (p : Question). IsOutcome asking.settings p.frame a.answer ⊎ AllDurable chronicle.made) same a.calm;
+          calm = subst (λ (p : Question). IsTimely chronicle asking.settings p.frame a.answer) same a.calm;
         }
 
 -- where it is none of DCP, it fits what was asked
@@ -137,25 +137,25 @@ asked_so {chronicle} {asking} {bytes} {behind} {q} {r} l is dcp asks =
 
 -- and it stands behind no set and no removal but its own
 pub asked_calm : {chronicle : Chronicle} {asking : Asking} {bytes : List ℕ} {behind : List Event} {q : Question} {r : Result KvRequest Status} → LawfulReply chronicle 0 1 asking bytes behind → question_of asking ≡ Some q → is_dcp q.frame.opcode ≡ false → request_of asking.settings.json q.frame ≡ r
-    → (g : Frame) × (bytes ≡ spelling g) × FitsRequest (serving chronicle 0 1 asking) chronicle 0 asking.durables asking.settings q.frame g r × (IsOutcome asking.settings q.frame g ⊎ AllDurable chronicle.made)
+    → (g : Frame) × (bytes ≡ spelling g) × FitsRequest (serving chronicle 0 1 asking) chronicle 0 asking.durables asking.settings q.frame g r × IsTimely chronicle asking.settings q.frame g
 asked_calm {chronicle} {asking} {bytes} {behind} {q} {r} l is dcp asks =
     let told : Told chronicle asking bytes q = answered l is in
     (told.frame, told.spelled, subst (FitsRequest (serving chronicle 0 1 asking) chronicle 0 asking.durables asking.settings q.frame told.frame) asks (subst (λ b. FitsBy b (serving chronicle 0 1 asking) chronicle 0 (moment_of (chronicle.clients_at 0 1) asking q) asking.settings q.frame told.frame) dcp told.fits), told.calm)
 
 -- where nothing was asked, it answers a fault
-pub faulted : {chronicle : Chronicle} {asking : Asking} {bytes : List ℕ} {behind : List Event} → LawfulReply chronicle 0 1 asking bytes behind → question_of asking ≡ None → AnswersFault 0 1 chronicle.made asking bytes behind
-faulted {chronicle} {asking} {bytes} {behind} l none = ⊎_elim (λ (a : Answers chronicle 0 1 asking bytes). let e : None ≡ Some a.question = sym none ∙ a.next in cc) (λ (f : AnswersFault 0 1 chronicle.made asking bytes behind). f) l
+pub faulted : {chronicle : Chronicle} {asking : Asking} {bytes : List ℕ} {behind : List Event} → LawfulReply chronicle 0 1 asking bytes behind → question_of asking ≡ None → AnswersFault 0 1 chronicle asking bytes behind
+faulted {chronicle} {asking} {bytes} {behind} l none = ⊎_elim (λ (a : Answers chronicle 0 1 asking bytes). let e : None ≡ Some a.question = sym none ∙ a.next in cc) (λ (f : AnswersFault 0 1 chronicle asking bytes behind). f) l
 
 -- this one, with this header
-pub fault_bytes : {made : List OwnChange} {asking : Asking} {bytes : List ℕ} {behind : List Event} {fault : FrameFault} {head : FaultyHead} → AnswersFault 0 1 made asking bytes behind → front_fault (behind_frames asking.bytes) ≡ Some fault → faulty_head fault (behind_frames asking.bytes) ≡ Some head → bytes ≡ spelling (reply_frame (bare_answer head.opcode status.Einval head.opaque))
-fault_bytes {asking} {bytes} {behind} {fault} {head} f stands named =
+pub fault_bytes : {chronicle : Chronicle} {asking : Asking} {bytes : List ℕ} {behind : List Event} {fault : FrameFault} {head : FaultyHead} → AnswersFault 0 1 chronicle asking bytes behind → front_fault (behind_frames asking.bytes) ≡ Some fault → faulty_head fault (behind_frames asking.bytes) ≡ Some head → bytes ≡ spelling (reply_frame (bare_answer head.opcode status.Einval head.opaque))
+fault_bytes {chronicle} {asking} {bytes} {behind} {fault} {head} f stands named =
     let one : Some f.fault ≡ Some fault = sym f.stands ∙ stands in let same : f.fault ≡ fault = cc in
     let two : Some f.head ≡ Some head = sym f.named ∙ ap (λ x. faulty_head x (behind_frames asking.bytes)) same ∙ named in let at : f.head ≡ head = cc in
     f.spelled ∙ ap (λ (h : FaultyHead). spelling (reply_frame (bare_answer h.opcode status.Einval h.opaque))) at
 
 -- one that its header names nothing of is not answered
-pub unnamed_fault : {made : List OwnChange} {asking : Asking} {bytes : List ℕ} {behind : List Event} {fault : FrameFault} → AnswersFault 0 1 made asking bytes behind → front_fault (behind_frames asking.bytes) ≡ Some fault → faulty_head fault (behind_frames asking.bytes) ≡ None → ⊥
-unnamed_fault {asking} {bytes} {behind} {fault} f stands named =
+pub unnamed_fault : {chronicle : Chronicle} {asking : Asking} {bytes : List ℕ} {behind : List Event} {fault : FrameFault} → AnswersFault 0 1 chronicle asking bytes behind → front_fault (behind_frames asking.bytes) ≡ Some fault → faulty_head fault (behind_frames asking.bytes) ≡ None → ⊥
+unnamed_fault {chronicle} {asking} {bytes} {behind} {fault} f stands named =
     let one : Some f.fault ≡ Some fault = sym f.stands ∙ stands in let same : f.fault ≡ fault = cc in
     let two : None ≡ Some f.head = sym named ∙ ap (λ x. faulty_head x (behind_frames asking.bytes)) (sym same) ∙ f.named in cc
 

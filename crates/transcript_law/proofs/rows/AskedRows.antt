@@ -1,21 +1,20 @@
 -- lines that do not tell what was asked for, judged by hand
 use Rattle.std.specs.Prelude.{◌≡◌, ◌∷◌, ◌++◌, ◌==◌, ◌&&◌, ◌||◌}
-use Rattle.transcript_law.proofs.Words.{ℕ, Bool, true, false, List, [], refl, ap, sym, ◌∙◌, subst, arith, ⊎_elim, Option, Answer, Cause, Event, Role, Verb, VbVerb, Chronicle, nothing}
+use Rattle.transcript_law.proofs.Words.{ℕ, Bool, true, false, List, [], refl, sym, ◌∙◌, subst, arith, ⊎_elim, Option, Answer, Cause, Event, Role, Verb, VbVerb, Chronicle, nothing}
 use Rattle.transcript_law.proofs.rows.{AskedTests.{is_log, is_one_turn, is_show, is_stat}, Groups.{whole}, Silent.{shut_heard}, Transcripts.{as_made, shown}}
-use Rattle.transcript_law.specs.Tellings.{are_all}
-use Rattle.transcript_law.specs.Asked.{is_of_down, AreAmong, IsLogLine, IsShowLine, IsStatLine, RisesOn, TellsAsAsked, TellsOnce, TurnsTo, turns_in}
-use Rattle.transcript_law.specs.AskedRows.{NotDone, NotFailed, NotRefused, NotTaken, here, in_role, logged_here, one_active, shown_at}
-use Rattle.transcript_law.specs.BoundRows.{LawfulHere, one_dialed}
+use Rattle.transcript_law.specs.Asked.{AreAmong, IsLogLine, IsShowLine, IsStatLine, RisesOn, TellsAsAsked, TellsOnce, TurnsTo, turns_in}
+use Rattle.transcript_law.specs.AskedRows.{NotDone, NotFailed, NotRefused, here, in_role, logged_here, one_active, shown_at}
+use Rattle.transcript_law.specs.BoundRows.{LawfulHere}
 use Rattle.transcript_law.specs.Chronicles.{empty_chronicle}
 use Rattle.transcript_law.specs.Crashes.{groups_from_number, numbered}
 use Rattle.transcript_law.specs.Standing.{IsStanding}
-use Rattle.transcript_law.specs.TellingRows.{MayNotTell, stat_at}
+use Rattle.transcript_law.specs.TellingRows.{stat_at}
 use Rattle.transcript_law.specs.Transcripts.{active_vb_lines}
 
 -- ---- what is told passes the tests
 
 -- lines that are told of a line here
-asked_of : (chronicle : Chronicle) (line : Verb) (lines : List Event) (said : Answer) → LawfulHere chronicle line (lines, said) → TellsAsAsked chronicle line lines said
+asked_of : (chronicle : Chronicle) (line : Verb) (lines : List Event) (said : Answer) → LawfulHere chronicle line (lines, said) → TellsAsAsked line lines said
 asked_of chronicle line lines said l = l.0.6
 
 never : {A : Type 0} {a : Bool} → a ≡ false → a ≡ true → A
@@ -159,23 +158,3 @@ ids_order a = ⊎_elim (λ h. let e : ◌≡◌ {A = ℕ} 8 7 = h.0 in omega ari
 
 pub ids_twice : AreAmong (7 ∷ 7 ∷ []) (7 ∷ 8 ∷ []) → ⊥
 ids_twice a = ⊎_elim (λ h. ⊎_elim (λ k. let e : ◌≡◌ {A = ℕ} 7 8 = k.0 in omega arith) (λ x. x) h.1) (λ l. ⊎_elim (λ h. let e : ◌≡◌ {A = ℕ} 7 8 = h.0 in omega arith) (λ x. x) l) a
-
--- ---- the ends of a link
-
--- the first of these does not pass
-first_fails : (a b : Bool) → a ≡ false → (a && b) ≡ true → ⊥
-first_fails a b fails e = let z : false ≡ true = sym (ap (λ x. x && b) fails) ∙ e in cc
-
-second_fails : (a b c : Bool) → b ≡ false → (a && (b && c)) ≡ true → ⊥
-second_fails true b c fails e = first_fails b c fails e
-second_fails false b c fails e = cc
-
--- a line that tells of what passes a test
-pub may_not_asked : (asked : Verb) (q : Event → Bool) (wrong : Event) → ((chronicle : Chronicle) (before : Event) (lines : List Event) (said : Answer) → TellsAsAsked chronicle asked (before ∷ lines) said → (q before && are_all q lines) ≡ true) → q wrong ≡ false → MayNotTell asked wrong
-may_not_asked asked q wrong passes fails = record {
-  first = λ chronicle lines said l. first_fails (q wrong) (are_all q lines) fails (passes chronicle wrong lines said l.0.6);
-  later = λ chronicle before lines said l. second_fails (q before) (q wrong) (are_all q lines) fails (passes chronicle before (wrong ∷ lines) said l.0.6);
-}
-
-pub not_taken : (wrong : Event) → is_of_down (one_dialed.dial_of 1) 1 wrong ≡ false → NotTaken wrong
-not_taken wrong fails lines said l = first_fails (is_of_down (one_dialed.dial_of 1) 1 wrong) _ fails l.0.6

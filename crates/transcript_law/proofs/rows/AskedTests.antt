@@ -1,11 +1,10 @@
 -- what lines tell that were asked for it, by tests that can be read off
 use Rattle.std.specs.Prelude.{◌≡◌, ◌*◌, ◌∷◌, ◌==◌, ◌&&◌, ◌||◌, ◌⊎◌, if◌then◌else◌, length}
-use Rattle.transcript_law.proofs.Words.{ℕ, Bool, true, false, List, [], frames_in_lines, refl, ap, ◌∙◌, inl, inr, not, Option, and_parts, eqb-true, Answer, Cause, Event, Role, Verb, VbVerb, NodeVerb, LinkVerb, ClientVerb, Chronicle}
+use Rattle.transcript_law.proofs.Words.{ℕ, Bool, true, false, List, [], frames_in_lines, refl, ap, ◌∙◌, inl, inr, not, and_parts, eqb-true, Answer, Cause, Event, Role, Verb, VbVerb, NodeVerb, ClientVerb}
 use Rattle.transcript_law.proofs.verbs.Tellings.{Are}
-use Rattle.transcript_law.specs.Asked.{AreAmong, AskedOfClient, AskedOfLink, AskedOfNode, AskedOfVb, IsLogLine, IsRefused, IsShowLine, IsStatLine, RisesOn, TellsAsAsked, TellsIfDone, ids_in, is_ack_of, is_of_down, is_of_image, is_of_pull, is_of_pump, is_of_up, is_turn, turns_in}
-use Rattle.transcript_law.specs.Chronicles.{Dial}
+use Rattle.transcript_law.specs.Asked.{AreAmong, AskedOfClient, AskedOfNode, AskedOfVb, IsLogLine, IsRefused, IsShowLine, IsStatLine, RisesOn, TellsAsAsked, TellsIfDone, ids_in, is_turn, turns_in}
 use Rattle.transcript_law.specs.Standing.{IsStanding}
-use Rattle.transcript_law.specs.Tellings.{are_all}
+use Rattle.transcript_law.specs.Tellings.{are_all, is_of_image}
 use Rattle.vb_events.specs.declared.event.Answer.TheVariants as answer
 use Rattle.vb_events.specs.declared.event.Cause.TheVariants as cause
 
@@ -64,28 +63,20 @@ at_vb n v VbVerb.MakeReplica lines said = is_refused lines said || is_one_turn n
 at_vb n v (VbVerb.Promote uuid) lines said = is_refused lines said || rises_first n v uuid lines
 at_vb n v VbVerb.Follow lines said = is_refused lines said || is_one_turn n v Role.Replica (turns_in lines)
 at_vb n v VbVerb.Dead lines said = is_refused lines said || is_one_turn n v Role.Dead (turns_in lines)
-at_vb n v VbVerb.Done lines said = are_all (is_ack_of n v) lines
 at_vb n v VbVerb.Stat lines said = is_stat n v lines said
 at_vb n v VbVerb.Log lines said = is_log n v lines said
 at_vb n v VbVerb.Show lines said = is_show n v lines said
 at_vb n v other lines said = true
 
-abbrev at_link : Option Dial → ℕ → LinkVerb → List Event → Bool
-at_link dial l (LinkVerb.Up wanted) lines = are_all (is_of_up l) lines
-at_link dial l (LinkVerb.Down wanted) lines = are_all (is_of_down dial l) lines
-at_link dial l (LinkVerb.Pump frames) lines = are_all (is_of_pump l) lines
-at_link dial l LinkVerb.Cut lines = true
+abbrev at_client : ClientVerb → List Event → Bool
+at_client (ClientVerb.Pull wanted) lines = length lines == 2 * frames_in_lines lines
+at_client other lines = true
 
-abbrev at_client : ℕ → ℕ → ClientVerb → List Event → Bool
-at_client n c (ClientVerb.Pull wanted) lines = are_all (is_of_pull n c) lines && length lines == 2 * frames_in_lines lines
-at_client n c other lines = true
-
-abbrev pub is_asked_so : Chronicle → Verb → List Event → Answer → Bool
-is_asked_so chronicle (Verb.AtNode n what) lines said = at_node what lines
-is_asked_so chronicle (Verb.AtVb n v what) lines said = at_vb n v what lines said
-is_asked_so chronicle (Verb.AtClient n c what) lines said = at_client n c what lines
-is_asked_so chronicle (Verb.AtLink l what) lines said = at_link (chronicle.dial_of l) l what lines
-is_asked_so chronicle other lines said = true
+abbrev pub is_asked_so : Verb → List Event → Answer → Bool
+is_asked_so (Verb.AtNode n what) lines said = at_node what lines
+is_asked_so (Verb.AtVb n v what) lines said = at_vb n v what lines said
+is_asked_so (Verb.AtClient n c what) lines said = at_client what lines
+is_asked_so other lines said = true
 
 -- ---- what follows from them
 
@@ -193,30 +184,24 @@ vb_so n v VbVerb.Tick lines said e = tt
 vb_so n v VbVerb.Seal lines said e = tt
 vb_so n v VbVerb.Take lines said e = tt
 vb_so n v VbVerb.Save lines said e = tt
-vb_so n v VbVerb.Done lines said e = e
+vb_so n v VbVerb.Done lines said e = tt
 vb_so n v VbVerb.Stat lines said e = stat_so n v lines said e
 vb_so n v VbVerb.Log lines said e = log_so n v lines said e
 vb_so n v VbVerb.Show lines said e = show_so n v lines said e
 
-link_so : (dial : Option Dial) (l : ℕ) (what : LinkVerb) (lines : List Event) → at_link dial l what lines ≡ true → AskedOfLink dial l what lines
-link_so dial l (LinkVerb.Up wanted) lines e = e
-link_so dial l (LinkVerb.Down wanted) lines e = e
-link_so dial l (LinkVerb.Pump frames) lines e = e
-link_so dial l LinkVerb.Cut lines e = tt
+client_so : (what : ClientVerb) (lines : List Event) → at_client what lines ≡ true → AskedOfClient what lines
+client_so ClientVerb.Open lines e = tt
+client_so (ClientVerb.Bytes bytes) lines e = tt
+client_so (ClientVerb.Pull wanted) lines e = eqb-true (length lines) (2 * frames_in_lines lines) e
+client_so ClientVerb.Hang lines e = tt
 
-client_so : (n c : ℕ) (what : ClientVerb) (lines : List Event) → at_client n c what lines ≡ true → AskedOfClient n c what lines
-client_so n c ClientVerb.Open lines e = tt
-client_so n c (ClientVerb.Bytes bytes) lines e = tt
-client_so n c (ClientVerb.Pull wanted) lines e = let both = and_parts (are_all (is_of_pull n c) lines) (length lines == 2 * frames_in_lines lines) e in (both.0, eqb-true (length lines) (2 * frames_in_lines lines) both.1)
-client_so n c ClientVerb.Hang lines e = tt
-
-pub asked_so : (chronicle : Chronicle) (line : Verb) (lines : List Event) (said : Answer) → is_asked_so chronicle line lines said ≡ true → TellsAsAsked chronicle line lines said
-asked_so chronicle (Verb.Node n) lines said e = tt
-asked_so chronicle (Verb.Link l m n v buffer) lines said e = tt
-asked_so chronicle (Verb.AtNode n what) lines said e = node_so what lines e
-asked_so chronicle (Verb.AtVb n v what) lines said e = vb_so n v what lines said e
-asked_so chronicle (Verb.AtClient n c what) lines said e = client_so n c what lines e
-asked_so chronicle (Verb.AtLink l what) lines said e = link_so (chronicle.dial_of l) l what lines e
+pub asked_so : (line : Verb) (lines : List Event) (said : Answer) → is_asked_so line lines said ≡ true → TellsAsAsked line lines said
+asked_so (Verb.Node n) lines said e = tt
+asked_so (Verb.Link l m n v buffer) lines said e = tt
+asked_so (Verb.AtNode n what) lines said e = node_so what lines e
+asked_so (Verb.AtVb n v what) lines said e = vb_so n v what lines said e
+asked_so (Verb.AtClient n c what) lines said e = client_so what lines e
+asked_so (Verb.AtLink l what) lines said e = tt
 
 -- a line that was refused where it stood was asked for nothing more
 refused_node : (what : NodeVerb) → AskedOfNode what []
@@ -237,27 +222,21 @@ refused_vb n v VbVerb.Tick why s = tt
 refused_vb n v VbVerb.Seal why s = tt
 refused_vb n v VbVerb.Take why s = tt
 refused_vb n v VbVerb.Save why s = tt
-refused_vb n v VbVerb.Done why s = refl
+refused_vb n v VbVerb.Done why s = tt
 refused_vb n v VbVerb.Stat why s = refl
 refused_vb n v VbVerb.Log why s = refl
 refused_vb n v VbVerb.Show why s = refl
 
-refused_link : (dial : Option Dial) (l : ℕ) (what : LinkVerb) → AskedOfLink dial l what []
-refused_link dial l (LinkVerb.Up wanted) = refl
-refused_link dial l (LinkVerb.Down wanted) = refl
-refused_link dial l (LinkVerb.Pump frames) = refl
-refused_link dial l LinkVerb.Cut = tt
+refused_client : (what : ClientVerb) → AskedOfClient what []
+refused_client ClientVerb.Open = tt
+refused_client (ClientVerb.Bytes bytes) = tt
+refused_client (ClientVerb.Pull wanted) = refl
+refused_client ClientVerb.Hang = tt
 
-refused_client : (n c : ℕ) (what : ClientVerb) → AskedOfClient n c what []
-refused_client n c ClientVerb.Open = tt
-refused_client n c (ClientVerb.Bytes bytes) = tt
-refused_client n c (ClientVerb.Pull wanted) = (refl, refl)
-refused_client n c ClientVerb.Hang = tt
-
-pub refused_asked : (chronicle : Chronicle) (line : Verb) (why : Cause) → IsStanding why → TellsAsAsked chronicle line [] (answer.No why)
-refused_asked chronicle (Verb.Node n) why s = tt
-refused_asked chronicle (Verb.Link l m n v buffer) why s = tt
-refused_asked chronicle (Verb.AtNode n what) why s = refused_node what
-refused_asked chronicle (Verb.AtVb n v what) why s = refused_vb n v what why s
-refused_asked chronicle (Verb.AtClient n c what) why s = refused_client n c what
-refused_asked chronicle (Verb.AtLink l what) why s = refused_link (chronicle.dial_of l) l what
+pub refused_asked : (line : Verb) (why : Cause) → IsStanding why → TellsAsAsked line [] (answer.No why)
+refused_asked (Verb.Node n) why s = tt
+refused_asked (Verb.Link l m n v buffer) why s = tt
+refused_asked (Verb.AtNode n what) why s = refused_node what
+refused_asked (Verb.AtVb n v what) why s = refused_vb n v what why s
+refused_asked (Verb.AtClient n c what) why s = refused_client what
+refused_asked (Verb.AtLink l what) why s = tt

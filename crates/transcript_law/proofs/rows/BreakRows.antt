@@ -23,15 +23,15 @@ use Rattle.transcript_law.specs.Questions.{behind_frames}
 
 pub named : ClosesBehind broken (says NOOP Einval ∷ shuts ∷ [])
 unfolding spelling frames_in first_frame frame_of
-named e = record { fault = BadLengths; stands = refl; front = []; last = refl; alone = refl }
+named e = record { fault = BadLengths; stands = refl; front = []; last = refl }
 
 pub unnamed : ClosesBehind strange (shuts ∷ [])
 unfolding spelling frames_in first_frame frame_of
-unnamed e = record { fault = BadMagic; stands = refl; front = []; last = refl; alone = refl }
+unnamed e = record { fault = BadMagic; stands = refl; front = []; last = refl }
 
 pub behind : ClosesBehind (noop_bytes ++ strange) (noop_answered ∷ shuts ∷ [])
 unfolding spelling frames_in first_frame frame_of
-behind e = record { fault = BadMagic; stands = refl; front = noop_answered ∷ []; last = refl; alone = refl }
+behind e = record { fault = BadMagic; stands = refl; front = noop_answered ∷ []; last = refl }
 
 pub stays : ClosesBehind noop_bytes (noop_answered ∷ [])
 stays e = let z : false ≡ true = e in cc
@@ -85,10 +85,13 @@ pub early : ClosesBehind broken (shuts ∷ says NOOP Einval ∷ []) → ⊥
 early l = let b = l refl in let e : shuts ≡ says NOOP Einval = (two_lines b.front shuts (says NOOP Einval) (says NOOP Einval) shuts (told_of (shuts ∷ says NOOP Einval ∷ []) b)).0 in cc
 
 pub other : ClosesBehind strange (shuts_other ∷ []) → ⊥
-other l = let b = l refl in let e : false ≡ true = b.alone in cc
-
-pub beside : ClosesBehind strange (shuts_other ∷ shuts ∷ []) → ⊥
-beside l = let b = l refl in let e : false ≡ true = b.alone in cc
+unfolding spelling frames_in first_frame frame_of
+other l = let b = l refl in one_last b.front (b.last ∙ ap (λ fault. b.front ++ break_told 0 1 (faulty_head fault (behind_frames strange))) (sym (fault_is BadMagic b.fault b.stands)))
+  where
+    one_last : (front : List Event) → shuts_other ∷ [] ≡ front ++ shuts ∷ [] → ⊥
+    one_last [] e = cc
+    one_last (w ∷ []) e = cc
+    one_last (w ∷ v ∷ front) e = cc
 
 -- ---- behind an outcome
 

@@ -24,7 +24,7 @@ use Rattle.vb_events.specs.declared.event.StreamName.TheVariants.{Link}
 use Rattle.vb_types.specs.declared.change.Act.TheVariants as act
 use Rattle.vb_types.specs.declared.change.Change.{Change}
 use Rattle.vb_types.specs.declared.change.Level.{Level}
-use Rattle.vb_types.specs.declared.change.Level.TheVariants.{Majority, PersistMajority}
+use Rattle.vb_types.specs.declared.change.Level.TheVariants.{Majority, MajorityPersistActive, PersistMajority}
 use Rattle.vb_types.specs.declared.change.Pend.{Pend}
 use Rattle.vb_types.specs.declared.doc.Doc.{Doc}
 use Rattle.vb_types.specs.declared.role.Role.{Role}
@@ -34,7 +34,7 @@ use Rattle.transcript_law.proofs.Checking.{lines_pass, passes}
 use Rattle.transcript_law.proofs.rows.AckRows as acks
 use Rattle.transcript_law.proofs.rows.AckRows.{branch_in, lacks_first, number_in, wrote_in}
 use Rattle.transcript_law.proofs.rows.AnswerCommits as commits
-use Rattle.transcript_law.proofs.rows.AnswerCommits.{commit_bytes, commit_is}
+use Rattle.transcript_law.proofs.rows.AnswerCommits.{commit_bytes, commit_is, level_of, names_in}
 use Rattle.transcript_law.proofs.rows.Answering.{byte_at}
 use Rattle.transcript_law.proofs.rows.ClientStreamEnds as ends
 use Rattle.transcript_law.proofs.rows.ClientStreamItems as items
@@ -311,6 +311,10 @@ behind_prepare l = let (g, s, c) = l.1.0 _ (record { own = refl; next = refl; as
 pub other_cas : PassesTo pending (durably 1 9 6) (makes committed ∷ stores SET 3 [] ∷ []) → ⊥
 unfolding spelling frames_in first_frame frame_of read_of frame_row shape_fault request_of requirement_of
 other_cas l = let (g, s, c) = l.1.0 _ (record { own = refl; next = refl; asks = record { own = refl; write = _; wish = _; asks = refl }; long = omega arith; success = refl }) in let e : ◌≡◌ {A = ℕ} 3 2 = ap (byte_at 23) (commit_bytes c s) in omega (arith, e)
+
+pub other_level : PassesAwaited pending (durably 2 9 6) (makes committed ∷ stores SET 2 [] ∷ []) → ⊥
+unfolding spelling frames_in first_frame frame_of read_of frame_row shape_fault request_of requirement_of
+other_level l = let (g, s, c) = l.1.0 _ (record { own = refl; next = refl; asks = record { own = refl; write = _; wish = _; asks = refl }; long = omega arith; success = refl }) in let e : Majority ≡ MajorityPersistActive = level_of (names_in c refl) in cc
 
 -- ---- streams of clients
 

@@ -46,36 +46,36 @@ in_front = from_opened (sends 1 ∷ []) (ok [] ∷ []) refl ((tt, refl, refl), t
 -- the group in which the connection closes
 breaks_off : LawfulGroups read (numbered 3 (breaks 1 ∷ [])) (groups_from_number 3 (ok (closes 0 1 ∷ []) ∷ []))
 unfolding spelling frames_in first_frame frame_of
-breaks_off = (((refl, tt), refl, refl, refl, λ w no standing. cc, refl, tt, tt, here_answered read (breaks 1) (closes 0 1 ∷ []) Answer.Ok (λ n c e. rw e refl) refl refl, tt, λ e. record { fault = BadMagic; stands = refl; front = []; last = refl; alone = refl }), tt)
+breaks_off = ((((refl, λ opened. refl), tt), refl, refl, refl, λ w no standing. cc, refl, tt, tt, here_answered read (breaks 1) (closes 0 1 ∷ []) Answer.Ok (λ n c e. rw e refl) refl refl, tt, λ e. record { fault = BadMagic; stands = refl; front = []; last = refl }), tt)
 
 pub closed : LawfulOpened (breaks 1 ∷ []) (ok (closes 0 1 ∷ []) ∷ [])
 closed = (in_front.0, (in_front.1.0, breaks_off))
 
 pub closed_other : LawfulOpened (breaks 1 ∷ []) (ok (closes 0 2 ∷ []) ∷ []) → ⊥
-closed_other l = not_both l.1.1.0.0.0
+closed_other l = not_both l.1.1.0.0.0.0
 
 pub closed_elsewhere : LawfulOpened (breaks 1 ∷ []) (ok (closes 1 1 ∷ []) ∷ []) → ⊥
-closed_elsewhere l = not_both l.1.1.0.0.0
+closed_elsewhere l = not_both l.1.1.0.0.0.0
 
 pub closed_twice : LawfulOpened (breaks 1 ∷ []) (ok (closes 0 1 ∷ closes 0 1 ∷ []) ∷ []) → ⊥
-closed_twice l = not_both l.1.1.0.0.1.0
+closed_twice l = not_both l.1.1.0.0.1.0.0
 
 pub closed_later : LawfulOpened (sends 1 ∷ waits ∷ []) (ok [] ∷ ok (closes 0 1 ∷ []) ∷ []) → ⊥
 unfolding frames_in first_frame
 closed_later l = let b = l.1.1.1.0.10.0 in let e : None ≡ Some b.fault = b.stands in cc
 
 pub closed_again : LawfulOpened (breaks 1 ∷ waits ∷ []) (ok (closes 0 1 ∷ []) ∷ ok (closes 0 1 ∷ []) ∷ []) → ⊥
-closed_again l = not_both l.1.1.1.0.0.0
+closed_again l = not_both l.1.1.1.0.0.0.0
 
 pub closed_hung : LawfulOpened (hangs 1 ∷ waits ∷ []) (ok [] ∷ ok (closes 0 1 ∷ []) ∷ []) → ⊥
-closed_hung l = not_both l.1.1.1.0.0.0
+closed_hung l = not_both l.1.1.1.0.0.0.0
 
 pub hung_then : LawfulOpened (hangs 1 ∷ waits ∷ []) (ok [] ∷ ok [] ∷ [])
 hung_then = from_opened (hangs 1 ∷ waits ∷ []) (ok [] ∷ ok [] ∷ []) refl ((tt, refl, refl), ((tt, tt, refl), tt))
 
 pub reply : LawfulOpened (asks 1 ∷ []) (ok (replies 0 1 (nooped 9) ∷ []) ∷ [])
 unfolding spelling frames_in first_frame frame_of read_of frame_row request_of requirement_of
-reply = from_heard (asks 1 ∷ []) (ok (replies 0 1 (nooped 9) ∷ []) ∷ []) refl ((((refl, λ z. noop_answer 9 refl refl refl refl tt), tt), refl, refl), tt)
+reply = from_heard (asks 1 ∷ []) (ok (replies 0 1 (nooped 9) ∷ []) ∷ []) refl ((((refl, λ z. noop_answer 9 refl refl refl refl (tt, refl)), tt), refl, refl), tt)
     (λ s. heard_by _ _ _ _ _ (here_answered read (asks 1) (replies 0 1 (nooped 9) ∷ []) Answer.Ok (λ n c e. rw e refl) refl refl) (heard_all _))
 
 pub reply_later : LawfulOpened (asks 1 ∷ waits ∷ []) (ok [] ∷ ok (replies 0 1 (nooped 9) ∷ []) ∷ []) → ⊥
@@ -189,19 +189,19 @@ none_left : AllClosed (conns_lines read.conn_at (closes 0 1 ∷ [])) 0
 none_left c = elim (c == 1) as (λ b. (if b then false else (if b then true else false)) ≡ false) [ true ↦ refl | false ↦ refl ]
 
 pub crashed : LawfulOpened (Verb.AtNode 0 (NodeVerb.Crash Old) ∷ []) (ok (closes 0 1 ∷ []) ∷ [])
-crashed = from_opened (Verb.AtNode 0 (NodeVerb.Crash Old) ∷ []) (ok (closes 0 1 ∷ []) ∷ []) refl (((refl, tt), none_left, refl), tt)
+crashed = from_opened (Verb.AtNode 0 (NodeVerb.Crash Old) ∷ []) (ok (closes 0 1 ∷ []) ∷ []) refl ((((refl, not_both), tt), none_left, refl), tt)
 
 pub untold : LawfulOpened (Verb.AtNode 0 (NodeVerb.Crash Old) ∷ []) (ok [] ∷ []) → ⊥
 untold l = not_other (l.1.1.0.1 1)
 
 pub other : LawfulOpened (Verb.AtNode 0 (NodeVerb.Crash Old) ∷ []) (ok (closes 0 1 ∷ closes 0 2 ∷ []) ∷ []) → ⊥
-other l = not_both l.1.1.0.0.1.0
+other l = not_both l.1.1.0.0.1.0.0
 
 pub armed : LawfulOpened (Verb.AtNode 0 (NodeVerb.Crash Old) ∷ Verb.AtNode 0 (NodeVerb.Fail 1) ∷ []) (ok (closes 0 1 ∷ []) ∷ ok [] ∷ [])
-armed = from_opened (Verb.AtNode 0 (NodeVerb.Crash Old) ∷ Verb.AtNode 0 (NodeVerb.Fail 1) ∷ []) (ok (closes 0 1 ∷ []) ∷ ok [] ∷ []) refl (((refl, tt), none_left, refl), ((tt, tt, refl), tt))
+armed = from_opened (Verb.AtNode 0 (NodeVerb.Crash Old) ∷ Verb.AtNode 0 (NodeVerb.Fail 1) ∷ []) (ok (closes 0 1 ∷ []) ∷ ok [] ∷ []) refl ((((refl, not_both), tt), none_left, refl), ((tt, tt, refl), tt))
 
 pub again : LawfulOpened (Verb.AtNode 0 (NodeVerb.Crash Old) ∷ Verb.AtNode 0 (NodeVerb.Fail 1) ∷ []) (ok (closes 0 1 ∷ []) ∷ ok (closes 0 1 ∷ []) ∷ []) → ⊥
-again l = not_both l.1.1.1.0.0.0
+again l = not_both l.1.1.1.0.0.0.0
 
 pub stopped : LawfulAfter (save_under (Verb.AtNode 0 (NodeVerb.Stop 1 Old))) (save_under_groups (stopped_behind []))
 stopped = stops 1 (omega arith) (omega arith)
@@ -210,4 +210,4 @@ pub stopped_untold : LawfulAfter (save_under (Verb.AtNode 0 (NodeVerb.Stop 1 Old
 stopped_untold l = not_other (l.1.1.1.1.1.1.0.0.0.1 1)
 
 pub stopped_before : LawfulAfter (save_under (Verb.AtNode 0 (NodeVerb.Stop 1 Old))) (save_under_groups (closes 0 1 ∷ Event.NodeStopped 0 ∷ closes 0 1 ∷ [], Answer.No Cause.Stopped)) → ⊥
-stopped_before l = not_both l.1.1.1.1.1.1.0.0.1.1.0
+stopped_before l = not_both l.1.1.1.1.1.1.0.0.1.1.0.0

@@ -19,7 +19,7 @@ use Rattle.transcript_law.proofs.rows.ClientStreams.{◌▹◌}
 
 pub answer : LawfulAsked (unopened (opening 1)) (opens_first ∷ [])
 unfolding spelling dcp_frame frames_in first_frame frame_in_bytes read_of frame_row shape_fault
-answer = (λ z. dcp_answer (dcp_frame (msg.OpenAnswer 0) 1 0) refl refl refl refl refl (bare_so 80 1 status.Success) tt) ▹ tt
+answer = (λ z. dcp_answer (dcp_frame (msg.OpenAnswer 0) 1 0) refl refl refl refl refl (bare_so 80 1 status.Success) (tt, refl)) ▹ tt
 
 pub unasked : LawfulAsked (that_sent (one put_two) []) (opens_first ∷ []) → ⊥
 unfolding frames_in first_frame

@@ -28,7 +28,7 @@ use Rattle.transcript_law.specs.Chronicles.{Chronicle}
 use Rattle.transcript_law.specs.ClientAskRows.{LawfulAsked, asked, asked_at, closes_first, closing, none, opening, opens_first, requesting, serving, taking_over, that_sent, unanswered, unopened, asked_forked, forked, forked_log, sends_rest}
 use Rattle.transcript_law.specs.ClientFrames.{Request, request_in, setup_after}
 use Rattle.transcript_law.specs.ClientStreamRows.{all_changes, asks_for, finished, one, put_two, two, up_to, fresh, inside, marked, open_setup, sent, snapshot}
-use Rattle.transcript_law.specs.ClientStreams.{ClientKnown, ClientStream, Setup, unclosed}
+use Rattle.transcript_law.specs.ClientStreams.{ClientKnown, ClientStream, STREAM_NUMBERS, Setup, unclosed}
 use Rattle.transcript_law.specs.Followers.{log_of, next_change}
 use Rattle.transcript_law.specs.LawfulClients.{InOrder, IsFree, LawfulClientAsk, RefusesBy, RefusesOwn}
 use Rattle.vb_types.specs.declared.role.Role.TheVariants.{Active}
@@ -56,8 +56,12 @@ pub free : (setup : Setup) → setup.opened ≡ true → RefusesOwn setup None a
 free setup is = record { unopened = λ e. let z : true ≡ false = sym is ∙ e in cc; unknown = λ e. absurd (omega (arith, e)); takeover = λ o e. absurd (omega (arith, e)); held = λ g e o. cc }
 
 -- nothing is against such a request
-pub fair : (setup : Setup) (had : Option ClientStream) → IsFree had → (ask : StreamAsk) → InOrder ask → RefusesBy setup (Some (Some Active)) had ask ask_answer.Go
-fair setup had free ask order o z = inr (record { away = λ off. absurd (off refl); again = λ a g e x. absurd (free g e x); outside = λ a f wrong. absurd (wrong order); granted = λ a f i is. let e = is.1 in cc })
+pub fair_numbered : (setup : Setup) (had : Option ClientStream) → IsFree had → (ask : StreamAsk) → InOrder ask → (count : ℕ) → count < STREAM_NUMBERS → RefusesBy setup count (Some (Some Active)) had ask ask_answer.Go
+fair_numbered setup had free ask order count few o z = inr (few, record { away = λ off. absurd (off refl); again = λ a g e x. absurd (free g e x); outside = λ a f wrong. absurd (wrong order); granted = λ a f i is. let e = is.1 in cc })
+
+-- over a connection that asked for none before
+pub fair : (setup : Setup) (had : Option ClientStream) → IsFree had → (ask : StreamAsk) → InOrder ask → RefusesBy setup 0 (Some (Some Active)) had ask ask_answer.Go
+fair setup had free ask order = fair_numbered setup had free ask order 0 (omega arith)
 
 pub no_stream : IsFree None
 no_stream g e o = cc
@@ -67,27 +71,27 @@ all_order = (omega arith, omega arith, omega arith)
 
 pub go : LawfulAsked (that_sent none (requesting 0 all_changes)) (asked all_changes ask_answer.Go)
 unfolding spelling dcp_frame frames_in first_frame frame_of read_of frame_row shape_fault
-go = record { own_node = refl; request = _; next = refl; numbers = refl; vb = refl; answered = goes _ _; own = free open_setup refl; reason = fair open_setup None no_stream all_changes all_order; frame = ([], refl) } ▹ (λ z. dcp_answer (answer_of ask_answer.Go) refl refl refl refl refl refl tt) ▹ tt
+go = record { own_node = refl; request = _; next = refl; numbers = refl; vb = refl; answered = goes _ _; own = free open_setup refl; reason = fair open_setup None no_stream all_changes all_order; frame = ([], refl) } ▹ (λ z. dcp_answer (answer_of ask_answer.Go) refl refl refl refl refl refl (tt, refl)) ▹ tt
 
 pub opened : LawfulAsked (unopened (opening 1 ++ requesting 0 all_changes)) (opens_first ∷ asked all_changes ask_answer.Go)
 unfolding spelling dcp_frame frames_in first_frame frame_of read_of frame_row shape_fault
-opened = (λ z. dcp_answer (dcp_frame (msg.OpenAnswer 0) 1 0) refl refl refl refl refl (bare_so 80 1 status.Success) tt) ▹ record { own_node = refl; request = _; next = refl; numbers = refl; vb = refl; answered = record { own_log = refl; own_high = refl; verdict = (refl, λ z. absurd (omega (arith, z))); active = refl }; own = free (record { opened = true; sync = false; named = false }) refl; reason = fair (record { opened = true; sync = false; named = false }) None no_stream all_changes all_order; frame = ([], refl) } ▹ (λ z. dcp_answer (answer_of ask_answer.Go) refl refl refl refl refl refl tt) ▹ tt
+opened = (λ z. dcp_answer (dcp_frame (msg.OpenAnswer 0) 1 0) refl refl refl refl refl (bare_so 80 1 status.Success) (tt, refl)) ▹ record { own_node = refl; request = _; next = refl; numbers = refl; vb = refl; answered = record { own_log = refl; own_high = refl; verdict = (refl, λ z. absurd (omega (arith, z))); active = refl }; own = free (record { opened = true; sync = false; named = false }) refl; reason = fair (record { opened = true; sync = false; named = false }) None no_stream all_changes all_order; frame = ([], refl) } ▹ (λ z. dcp_answer (answer_of ask_answer.Go) refl refl refl refl refl refl (tt, refl)) ▹ tt
 
 pub refused_before : LawfulAsked (unopened (requesting 0 all_changes)) (asked all_changes (ask_answer.Refuse 4))
 unfolding spelling dcp_frame frames_in first_frame frame_of read_of frame_row shape_fault
-refused_before = record { own_node = refl; request = _; next = refl; numbers = refl; vb = refl; answered = refuses _ all_changes 4 (omega arith); own = record { unopened = λ e. refl; unknown = λ e. refl; takeover = λ o e. absurd (omega (arith, e)); held = λ g e o. cc }; reason = λ o. cc; frame = ([], refl) } ▹ (λ z. dcp_answer (answer_of (ask_answer.Refuse 4)) refl refl refl refl refl refl tt) ▹ tt
+refused_before = record { own_node = refl; request = _; next = refl; numbers = refl; vb = refl; answered = refuses _ all_changes 4 (omega arith); own = record { unopened = λ e. refl; unknown = λ e. refl; takeover = λ o e. absurd (omega (arith, e)); held = λ g e o. cc }; reason = λ o. cc; frame = ([], refl) } ▹ (λ z. dcp_answer (answer_of (ask_answer.Refuse 4)) refl refl refl refl refl refl (tt, refl)) ▹ tt
 
 pub refused_takeover : LawfulAsked (that_sent none (requesting 0 taking_over)) (asked taking_over (ask_answer.Refuse 131))
 unfolding spelling dcp_frame frames_in first_frame frame_of read_of frame_row shape_fault
-refused_takeover = record { own_node = refl; request = _; next = refl; numbers = refl; vb = refl; answered = refuses _ taking_over 131 (omega arith); own = record { unopened = λ e. cc; unknown = λ e. absurd (omega (arith, e)); takeover = λ o e. refl; held = λ g e o. cc }; reason = λ o z. absurd (omega (arith, z)); frame = ([], refl) } ▹ (λ z. dcp_answer (answer_of (ask_answer.Refuse 131)) refl refl refl refl refl refl tt) ▹ tt
+refused_takeover = record { own_node = refl; request = _; next = refl; numbers = refl; vb = refl; answered = refuses _ taking_over 131 (omega arith); own = record { unopened = λ e. cc; unknown = λ e. absurd (omega (arith, e)); takeover = λ o e. refl; held = λ g e o. cc }; reason = λ o z. absurd (omega (arith, z)); frame = ([], refl) } ▹ (λ z. dcp_answer (answer_of (ask_answer.Refuse 131)) refl refl refl refl refl refl (tt, refl)) ▹ tt
 
 pub refused_held : LawfulAsked (that_sent (one put_two) (requesting 0 all_changes)) (asked all_changes (ask_answer.Refuse 2))
 unfolding spelling dcp_frame frames_in first_frame frame_of read_of frame_row shape_fault
-refused_held = record { own_node = refl; request = _; next = refl; numbers = refl; vb = refl; answered = refuses _ all_changes 2 (omega arith); own = record { unopened = λ e. cc; unknown = λ e. absurd (omega (arith, e)); takeover = λ o e. absurd (omega (arith, e)); held = λ g e o. (2, refl) }; reason = λ o z. inr (record { away = λ off. absurd (off refl); again = λ a g e x. refl; outside = λ a f wrong. inr refl; granted = λ a f i is. refl }); frame = ([], refl) } ▹ (λ z. dcp_answer (answer_of (ask_answer.Refuse 2)) refl refl refl refl refl refl tt) ▹ tt
+refused_held = record { own_node = refl; request = _; next = refl; numbers = refl; vb = refl; answered = refuses _ all_changes 2 (omega arith); own = record { unopened = λ e. cc; unknown = λ e. absurd (omega (arith, e)); takeover = λ o e. absurd (omega (arith, e)); held = λ g e o. (2, refl) }; reason = λ o z. inr (omega arith, record { away = λ off. absurd (off refl); again = λ a g e x. refl; outside = λ a f wrong. inr refl; granted = λ a f i is. refl }); frame = ([], refl) } ▹ (λ z. dcp_answer (answer_of (ask_answer.Refuse 2)) refl refl refl refl refl refl (tt, refl)) ▹ tt
 
 pub closed : LawfulAsked (that_sent (one put_two) (closing 0 ++ requesting 0 all_changes)) (closes_first ∷ asked all_changes ask_answer.Go)
 unfolding spelling dcp_frame frames_in first_frame frame_of read_of frame_row shape_fault
-closed = (λ z. dcp_answer (dcp_frame (msg.CloseAnswer 0) 4 0) refl refl refl refl refl (bare_so 82 4 status.Success) tt) ▹ record { own_node = refl; request = _; next = refl; numbers = refl; vb = refl; answered = record { own_log = refl; own_high = refl; verdict = (refl, λ z. absurd (omega (arith, z))); active = refl }; own = free open_setup refl; reason = fair open_setup None no_stream all_changes all_order; frame = ([], refl) } ▹ (λ z. dcp_answer (answer_of ask_answer.Go) refl refl refl refl refl refl tt) ▹ tt
+closed = (λ z. dcp_answer (dcp_frame (msg.CloseAnswer 0) 4 0) refl refl refl refl refl (bare_so 82 4 status.Success) (tt, refl)) ▹ record { own_node = refl; request = _; next = refl; numbers = refl; vb = refl; answered = record { own_log = refl; own_high = refl; verdict = (refl, λ z. absurd (omega (arith, z))); active = refl }; own = free open_setup refl; reason = fair open_setup None no_stream all_changes all_order; frame = ([], refl) } ▹ (λ z. dcp_answer (answer_of ask_answer.Go) refl refl refl refl refl refl (tt, refl)) ▹ tt
 
 -- one that is over is none
 over_one : (g : ClientStream) → Some (finished put_two) ≡ Some g → g.over ≡ false → ⊥
@@ -95,7 +99,7 @@ over_one g e o = let same : finished put_two ≡ g = cc in let z : true ≡ fals
 
 pub over : LawfulAsked (that_sent (one (finished put_two)) (requesting 0 all_changes)) (asked all_changes ask_answer.Go)
 unfolding spelling dcp_frame frames_in first_frame frame_of read_of frame_row shape_fault
-over = record { own_node = refl; request = _; next = refl; numbers = refl; vb = refl; answered = goes _ _; own = record { unopened = λ e. cc; unknown = λ e. absurd (omega (arith, e)); takeover = λ o e. absurd (omega (arith, e)); held = λ g e o. absurd (over_one g e o) }; reason = fair open_setup (Some (finished put_two)) over_one all_changes all_order; frame = ([], refl) } ▹ (λ z. dcp_answer (answer_of ask_answer.Go) refl refl refl refl refl refl tt) ▹ tt
+over = record { own_node = refl; request = _; next = refl; numbers = refl; vb = refl; answered = goes _ _; own = record { unopened = λ e. cc; unknown = λ e. absurd (omega (arith, e)); takeover = λ o e. absurd (omega (arith, e)); held = λ g e o. absurd (over_one g e o) }; reason = fair open_setup (Some (finished put_two)) over_one all_changes all_order; frame = ([], refl) } ▹ (λ z. dcp_answer (answer_of ask_answer.Go) refl refl refl refl refl refl (tt, refl)) ▹ tt
 
 -- ---- requests that are not
 
@@ -187,9 +191,9 @@ other_closed l = let (code, e) = (own_of _ _ _ _ _ _ _ l.1.0 _ refl).held put_tw
 pub resumes : LawfulAsked (that_sent none (requesting 0 (asks_for 0 1 2 9))) (asked (asks_for 0 1 2 9) ask_answer.Go ++ marked 0 0 2 ++ sent 0 next_change)
 unfolding spelling dcp_frame frames_in first_frame frame_of read_of frame_row shape_fault
 resumes =
-    record { own_node = refl; request = _; next = refl; numbers = refl; vb = refl; answered = record { own_log = refl; own_high = refl; verdict = (refl, λ z. refl); active = refl }; own = record { unopened = λ e. cc; unknown = λ e. absurd (omega (arith, e)); takeover = λ o e. absurd (omega (arith, e)); held = λ g e o. cc }; reason = fair open_setup None no_stream (asks_for 0 1 2 9) (omega arith, omega arith, omega arith); frame = (_, refl) } ▹ (λ z. dcp_answer (answer_of ask_answer.Go) refl refl refl refl refl refl tt)
-    ▹ mark_put _ _ 0 0 2 (fresh true (asks_for 0 1 2 9)) _ refl refl refl (record { opens = refl; stays = refl; goes_on = λ r. r; behind = tt; starts = refl; reaches = omega arith; whole = (next_change ∷ [], all_between two 1 2 (omega arith) (omega arith, omega arith) refl) }) ▹ (λ z. cc)
-    ▹ item_put _ _ 0 next_change (inside true (asks_for 0 1 2 9) two 1 2 []) (snapshot two 1 2 []) [] refl refl refl refl refl (inr (inl refl)) (next_change, inr (inl refl), refl) ([], record { whole = next_change ∷ []; covers = all_between two 1 2 (omega arith) (omega arith, omega arith) refl; front = refl }, λ e. refl) ▹ (λ z. cc) ▹ tt
+    record { own_node = refl; request = _; next = refl; numbers = refl; vb = refl; answered = record { own_log = refl; own_high = refl; verdict = (refl, λ z. refl); active = refl }; own = record { unopened = λ e. cc; unknown = λ e. absurd (omega (arith, e)); takeover = λ o e. absurd (omega (arith, e)); held = λ g e o. cc }; reason = fair open_setup None no_stream (asks_for 0 1 2 9) (omega arith, omega arith, omega arith); frame = (_, refl) } ▹ (λ z. dcp_answer (answer_of ask_answer.Go) refl refl refl refl refl refl (tt, refl))
+    ▹ mark_put _ _ 0 0 2 (fresh true (asks_for 0 1 2 9)) _ refl refl refl refl refl (record { opens = refl; stays = refl; goes_on = λ r. r; behind = tt; starts = refl; reaches = omega arith; whole = (next_change ∷ [], all_between two 1 2 (omega arith) (omega arith, omega arith) refl) }) ▹ (λ z. cc)
+    ▹ item_put _ _ 0 next_change (inside true (asks_for 0 1 2 9) two 1 2 []) (snapshot two 1 2 []) [] refl refl refl refl refl refl refl (inr (inl refl)) (next_change, inr (inl refl), refl) ([], record { whole = next_change ∷ []; covers = all_between two 1 2 (omega arith) (omega arith, omega arith) refl; front = refl }, λ e. refl) ▹ (λ z. cc) ▹ tt
 
 -- a stream is of the newest branch, whichever was named
 forked_stream : ClientStream
@@ -198,16 +202,16 @@ forked_stream = fresh true (asks_for 1 1 1 9)
 pub newest : LawfulFrom (forked (that_sent none (requesting 0 (asks_for 1 1 1 9)))) (asked_forked ++ marked 0 1 2 ++ sent 0 next_change)
 unfolding spelling dcp_frame frames_in first_frame frame_of read_of frame_row shape_fault
 newest =
-    record { own_node = refl; request = _; next = refl; numbers = refl; vb = refl; answered = record { own_log = refl; own_high = refl; verdict = (refl, λ z. refl); active = refl }; own = record { unopened = λ e. cc; unknown = λ e. absurd (omega (arith, e)); takeover = λ o e. absurd (omega (arith, e)); held = λ g e o. cc }; reason = fair open_setup None no_stream (asks_for 1 1 1 9) (omega arith, omega arith, omega arith); frame = (_, refl) } ▹ (λ z. dcp_answer (dcp_frame (msg.StreamAnswer (stream_verdict forked_log ask_answer.Go)) 9 0) refl refl refl refl refl refl tt)
-    ▹ mark_put _ _ 0 1 2 (record (fresh true (asks_for 1 1 1 9)) { branch = 7 }) _ refl refl refl (record { opens = refl; stays = refl; goes_on = λ r. r; behind = tt; starts = refl; reaches = omega arith; whole = (next_change ∷ [], all_between two 1 2 (omega arith) (omega arith, omega arith) refl) }) ▹ (λ z. cc)
-    ▹ item_put _ _ 0 next_change (record (inside true (asks_for 1 1 1 9) two 1 2 []) { branch = 7 }) (snapshot two 1 2 []) [] refl refl refl refl refl (inr (inl refl)) (next_change, inr (inl refl), refl) ([], record { whole = next_change ∷ []; covers = all_between two 1 2 (omega arith) (omega arith, omega arith) refl; front = refl }, λ e. refl) ▹ (λ z. cc) ▹ tt
+    record { own_node = refl; request = _; next = refl; numbers = refl; vb = refl; answered = record { own_log = refl; own_high = refl; verdict = (refl, λ z. refl); active = refl }; own = record { unopened = λ e. cc; unknown = λ e. absurd (omega (arith, e)); takeover = λ o e. absurd (omega (arith, e)); held = λ g e o. cc }; reason = fair open_setup None no_stream (asks_for 1 1 1 9) (omega arith, omega arith, omega arith); frame = (_, refl) } ▹ (λ z. dcp_answer (dcp_frame (msg.StreamAnswer (stream_verdict forked_log ask_answer.Go)) 9 0) refl refl refl refl refl refl (tt, refl))
+    ▹ mark_put _ _ 0 1 2 (record (fresh true (asks_for 1 1 1 9)) { branch = 7 }) _ refl refl refl refl refl (record { opens = refl; stays = refl; goes_on = λ r. r; behind = tt; starts = refl; reaches = omega arith; whole = (next_change ∷ [], all_between two 1 2 (omega arith) (omega arith, omega arith) refl) }) ▹ (λ z. cc)
+    ▹ item_put _ _ 0 next_change (record (inside true (asks_for 1 1 1 9) two 1 2 []) { branch = 7 }) (snapshot two 1 2 []) [] refl refl refl refl refl refl refl (inr (inl refl)) (next_change, inr (inl refl), refl) ([], record { whole = next_change ∷ []; covers = all_between two 1 2 (omega arith) (omega arith, omega arith) refl; front = refl }, λ e. refl) ▹ (λ z. cc) ▹ tt
 
 -- a request that comes in two pieces is one
 pub pieces : LawfulHere (serving two (that_sent none (take 30 (requesting 0 all_changes)))) (sends_rest 30 (requesting 0 all_changes)) (ok (asked all_changes ask_answer.Go))
 unfolding spelling dcp_frame frames_in first_frame frame_of read_of frame_row shape_fault
 pieces = (
   (
-    (record { own_node = refl; request = _; next = refl; numbers = refl; vb = refl; answered = record { own_log = refl; own_high = refl; verdict = (refl, λ z. absurd (omega (arith, z))); active = refl }; own = free open_setup refl; reason = fair open_setup None no_stream all_changes all_order; frame = ([], refl) }, ((refl, λ z. dcp_answer (answer_of ask_answer.Go) refl refl refl refl refl refl tt), tt)),
+    (record { own_node = refl; request = _; next = refl; numbers = refl; vb = refl; answered = record { own_log = refl; own_high = refl; verdict = (refl, λ z. absurd (omega (arith, z))); active = refl }; own = free open_setup refl; reason = fair open_setup None no_stream all_changes all_order; frame = ([], refl) }, ((refl, λ z. dcp_answer (answer_of ask_answer.Go) refl refl refl refl refl refl (tt, refl)), tt)),
     refl,
     refl,
     refl,

@@ -12,11 +12,11 @@ use Rattle.branch_model.proofs.Lasts.{in_filter}
 use Rattle.branch_model.proofs.Lists.{last_in}
 use Rattle.branch_model.specs.Histories.{HasOf, IsOf}
 use Rattle.branch_model.specs.Snapshots.{Covers}
-use Rattle.transcript_law.specs.ClientStreamRows.{LawfulHeld, LawfulPut, all_changes, as_document, asks_for, committed, durable, first_item, held_so as held_as_document, inside, one, prepared, prepared_item, sent, snapshot, with_streams}
+use Rattle.transcript_law.specs.ClientStreamRows.{LawfulHeld, LawfulPut, all_changes, as_document, asks_for, committed, durable, first_item, held_so as held_as_document, inside, left_with, one, prepared, prepared_item, sent, snapshot, with_streams}
 use Rattle.transcript_law.specs.ClientStreams.{ClientStream, ItemLine, vb_in_header}
 use Rattle.transcript_law.specs.StreamLaws.{IsNextItem, item_of_change, line_act}
 use Rattle.transcript_law.specs.Transcripts.{one_change}
-use Rattle.transcript_law.proofs.rows.ClientStreams.{◌▹◌, all_between, put_by}
+use Rattle.transcript_law.proofs.rows.ClientStreams.{◌▹◌, all_between, none_counted, put_by}
 use Rattle.transcript_law.proofs.rows.ClientStreamItems.{held_of, item_put, shown_of}
 
 -- ---- streams, and their frames
@@ -80,14 +80,14 @@ commit_next : IsNextItem (snapshot durable 0 3 (first_item ∷ prepared_item ∷
 commit_next = ([], record { whole = durable; covers = durable_whole; front = refl }, λ e. refl)
 
 pub prepare : LawfulPut durable (one behind_first) (sent 0 prepared)
-prepare = item_put _ (with_streams (one behind_first)) 0 prepared behind_first (snapshot durable 0 3 (first_item ∷ [])) [] prepared_header refl refl refl refl (inr (inl refl)) (prepared, inr (inl refl), refl) prepare_next ▹ (λ z. cc) ▹ tt
+prepare = item_put _ (with_streams (one behind_first)) 0 prepared behind_first (snapshot durable 0 3 (first_item ∷ [])) [] prepared_header refl refl refl (none_counted (with_streams (one behind_first)) refl refl) refl refl (inr (inl refl)) (prepared, inr (inl refl), refl) prepare_next ▹ (λ z. cc) ▹ tt
 
 pub commit : LawfulPut durable (one behind_prepare) (sent 0 committed)
-commit = item_put _ (with_streams (one behind_prepare)) 0 committed behind_prepare (snapshot durable 0 3 (first_item ∷ prepared_item ∷ [])) [] commit_header refl refl refl refl (inr (inr (inl refl))) (committed, inr (inr (inl refl)), refl) commit_next ▹ (λ z. cc) ▹ tt
+commit = item_put _ (with_streams (one behind_prepare)) 0 committed behind_prepare (snapshot durable 0 3 (first_item ∷ prepared_item ∷ [])) [] commit_header refl refl refl (none_counted (with_streams (one behind_prepare)) refl refl) refl refl (inr (inr (inl refl))) (committed, inr (inr (inl refl)), refl) commit_next ▹ (λ z. cc) ▹ tt
 
 pub document : LawfulPut durable (one behind_prepare) (sent 0 as_document) → ⊥
 document l =
-    let (c, i, is) = held_of _ (with_streams (one behind_prepare)) (item_of_change as_document) (act_message as_document as_document.act) 0 [] behind_prepare document_header refl l.0 (snapshot durable 0 3 (first_item ∷ prepared_item ∷ [])) refl refl in
+    let (c, i, is) = held_of _ (with_streams (one behind_prepare)) (item_of_change as_document) (act_message as_document as_document.act) 0 [] behind_prepare document_header refl l.0 (snapshot durable 0 3 (first_item ∷ prepared_item ∷ [])) refl in
     let at : l.0.change.seq ≡ 3 = ap (λ (z : ItemLine). z.seq) l.0.told in let set : line_act l.0.change.act ≡ item_act.Set = ap (λ (z : ItemLine). z.act) l.0.told in
     let same : l.0.change ≡ c = is in let third : c ≡ committed = third_of c i (sym (ap (λ (z : Change). z.seq) same) ∙ at) in
     no_set (line_act l.0.change.act) (ap (λ (z : Change). line_act z.act) (same ∙ third)) set
@@ -98,7 +98,7 @@ plain_next : IsNextItem (snapshot shown 0 3 (first_item ∷ [])) (item_of_change
 plain_next = ([], record { whole = shown; covers = all_between shown 0 3 (omega arith) (omega arith, (omega arith, omega arith)) refl; front = refl }, λ e. refl)
 
 pub plain_document : LawfulPut durable (one plain_first) (sent 0 as_document)
-plain_document = item_put _ (with_streams (one plain_first)) 0 as_document plain_first (snapshot shown 0 3 (first_item ∷ [])) [] document_header refl refl refl refl (inr (inl refl)) (committed, inr (inr (inl refl)), refl) plain_next ▹ (λ z. cc) ▹ tt
+plain_document = item_put _ (with_streams (one plain_first)) 0 as_document plain_first (snapshot shown 0 3 (first_item ∷ [])) [] document_header refl refl refl (none_counted (with_streams (one plain_first)) refl refl) refl refl (inr (inl refl)) (committed, inr (inr (inl refl)), refl) plain_next ▹ (λ z. cc) ▹ tt
 
 pub plain_prepare : LawfulPut durable (one plain_first) (sent 0 prepared) → ⊥
 plain_prepare l =
@@ -139,12 +139,12 @@ pub below : LawfulPut durable (one from_below) (sent 0 as_document)
 below = record {
   change = as_document;
   told = refl;
-  put = put_by (with_streams (one from_below)) (act_message as_document as_document.act) 0 from_below [] document_header refl refl;
+  put = put_by (with_streams (one from_below)) (act_message as_document as_document.act) 0 from_below [] document_header refl refl refl (none_counted (with_streams (one from_below)) refl refl);
   opens = refl;
   begun = snapshot durable 2 3 [];
   last = refl;
   shown = (committed, inr (inr (inl refl)), inr refl);
-  held = λ t. (committed, inr (inr (inl refl)), refl);
+  held = (committed, inr (inr (inl refl)), refl);
   next = ([], record { whole = as_document ∷ []; covers = document_whole; front = refl }, λ e. refl);
 } ▹ (λ z. cc) ▹ tt
 
@@ -154,7 +154,7 @@ later = inside true (asks_for 0 1 2 9) durable 2 3 []
 
 pub later_document : LawfulPut durable (one later) (sent 0 as_document) → ⊥
 later_document l =
-    let (c, i, is) = held_of _ (with_streams (one later)) (item_of_change as_document) (act_message as_document as_document.act) 0 [] later document_header refl l.0 (snapshot durable 2 3 []) refl refl in
+    let (c, i, is) = held_of _ (with_streams (one later)) (item_of_change as_document) (act_message as_document as_document.act) 0 [] later document_header refl l.0 (snapshot durable 2 3 []) refl in
     let at : l.0.change.seq ≡ 3 = ap (λ (z : ItemLine). z.seq) l.0.told in let set : line_act l.0.change.act ≡ item_act.Set = ap (λ (z : ItemLine). z.act) l.0.told in
     let same : l.0.change ≡ c = is in let third : c ≡ committed = third_of c i (sym (ap (λ (z : Change). z.seq) same) ∙ at) in
     no_set (line_act l.0.change.act) (ap (λ (z : Change). line_act z.act) (same ∙ third)) set
@@ -163,12 +163,12 @@ commit_alone : IsNextItem (snapshot durable 2 3 []) (item_of_change committed)
 commit_alone = ([], record { whole = committed ∷ []; covers = all_between durable 2 3 (omega arith) (omega arith, omega arith) refl; front = refl }, λ e. refl)
 
 pub later_commit : LawfulPut durable (one later) (sent 0 committed)
-later_commit = item_put _ (with_streams (one later)) 0 committed later (snapshot durable 2 3 []) [] commit_header refl refl refl refl (inr (inr (inl refl))) (committed, inr (inr (inl refl)), refl) commit_alone ▹ (λ z. cc) ▹ tt
+later_commit = item_put _ (with_streams (one later)) 0 committed later (snapshot durable 2 3 []) [] commit_header refl refl refl (none_counted (with_streams (one later)) refl refl) refl refl (inr (inr (inl refl))) (committed, inr (inr (inl refl)), refl) commit_alone ▹ (λ z. cc) ▹ tt
 
 -- none is sent as itself
 pub below_commit : LawfulPut durable (one from_below) (sent 0 committed) → ⊥
 below_commit l =
-    let (c, i, is) = held_of _ (with_streams (one from_below)) (item_of_change committed) (act_message committed committed.act) 0 [] from_below commit_header refl l.0 (snapshot durable 2 3 []) refl refl in
+    let (c, i, is) = held_of _ (with_streams (one from_below)) (item_of_change committed) (act_message committed committed.act) 0 [] from_below commit_header refl l.0 (snapshot durable 2 3 []) refl in
     let at : l.0.change.seq ≡ 3 = ap (λ (z : ItemLine). z.seq) l.0.told in let same : l.0.change ≡ plain c = is in
     let third : c ≡ committed = third_of c i (sym (ap (λ (z : Change). z.seq) same) ∙ at) in
     no_set (line_act l.0.change.act) (ap (λ (z : ItemLine). z.act) l.0.told) (ap (λ (z : Change). line_act z.act) (same ∙ ap plain third))
@@ -184,18 +184,51 @@ pub held_so : LawfulHeld held_as_document durable (one behind_prepare) (sent 0 a
 held_so = record {
   change = as_document;
   told = refl;
-  put = put_by (with_streams (one behind_prepare)) (act_message as_document as_document.act) 0 behind_prepare [] document_header refl refl;
+  put = put_by (with_streams (one behind_prepare)) (act_message as_document as_document.act) 0 behind_prepare [] document_header refl refl refl (none_counted (with_streams (one behind_prepare)) refl refl);
   opens = refl;
   begun = snapshot durable 0 3 (first_item ∷ prepared_item ∷ []);
   last = refl;
   shown = (committed, inr (inr (inl refl)), inr refl);
-  held = λ t. (as_document, inr (inr (inl refl)), refl);
+  held = (as_document, inr (inr (inl refl)), refl);
   next = ([], record { whole = held_as_document; covers = held_whole; front = refl }, λ e. refl);
 } ▹ (λ z. cc) ▹ tt
 
 pub held_commit : LawfulHeld held_as_document durable (one behind_prepare) (sent 0 committed) → ⊥
 held_commit l =
-    let (c, i, is) = held_of _ (with_streams (one behind_prepare)) (item_of_change committed) (act_message committed committed.act) 0 [] behind_prepare commit_header refl l.0 (snapshot durable 0 3 (first_item ∷ prepared_item ∷ [])) refl refl in
+    let (c, i, is) = held_of _ (with_streams (one behind_prepare)) (item_of_change committed) (act_message committed committed.act) 0 [] behind_prepare commit_header refl l.0 (snapshot durable 0 3 (first_item ∷ prepared_item ∷ [])) refl in
+    let at : l.0.change.seq ≡ 3 = ap (λ (z : ItemLine). z.seq) l.0.told in let same : l.0.change ≡ c = is in
+    let third : c ≡ as_document = third_held c i (sym (ap (λ (z : Change). z.seq) same) ∙ at) in
+    no_set (line_act l.0.change.act) (ap (λ (z : ItemLine). z.act) l.0.told) (ap (λ (z : Change). line_act z.act) (same ∙ third))
+
+-- ---- behind a role
+
+-- as its vBucket held it before
+pub turned_commit : LawfulHeld held_as_document durable (one (left_with durable behind_prepare)) (sent 0 committed)
+turned_commit = item_put _ (with_streams (one (left_with durable behind_prepare))) 0 committed (left_with durable behind_prepare) (snapshot durable 0 3 (first_item ∷ prepared_item ∷ [])) [] commit_header refl refl refl (none_counted (with_streams (one (left_with durable behind_prepare))) refl refl) refl refl (inr (inr (inl refl))) (committed, inr (inr (inl refl)), refl) commit_next ▹ (λ z. cc) ▹ tt
+
+pub turned_as_document : LawfulHeld held_as_document durable (one (left_with durable behind_prepare)) (sent 0 as_document) → ⊥
+turned_as_document l =
+    let (c, i, is) = held_of _ (with_streams (one (left_with durable behind_prepare))) (item_of_change as_document) (act_message as_document as_document.act) 0 [] (left_with durable behind_prepare) document_header refl l.0 (snapshot durable 0 3 (first_item ∷ prepared_item ∷ [])) refl in
+    let at : l.0.change.seq ≡ 3 = ap (λ (z : ItemLine). z.seq) l.0.told in let set : line_act l.0.change.act ≡ item_act.Set = ap (λ (z : ItemLine). z.act) l.0.told in
+    let same : l.0.change ≡ c = is in let third : c ≡ committed = third_of c i (sym (ap (λ (z : Change). z.seq) same) ∙ at) in
+    no_set (line_act l.0.change.act) (ap (λ (z : Change). line_act z.act) (same ∙ third)) set
+
+pub turned_document : LawfulPut durable (one (left_with held_as_document behind_prepare)) (sent 0 as_document)
+turned_document = record {
+  change = as_document;
+  told = refl;
+  put = put_by (with_streams (one (left_with held_as_document behind_prepare))) (act_message as_document as_document.act) 0 (left_with held_as_document behind_prepare) [] document_header refl refl refl (none_counted (with_streams (one (left_with held_as_document behind_prepare))) refl refl);
+  opens = refl;
+  begun = snapshot durable 0 3 (first_item ∷ prepared_item ∷ []);
+  last = refl;
+  shown = (committed, inr (inr (inl refl)), inr refl);
+  held = (as_document, inr (inr (inl refl)), refl);
+  next = ([], record { whole = held_as_document; covers = held_whole; front = refl }, λ e. refl);
+} ▹ (λ z. cc) ▹ tt
+
+pub turned_as_commit : LawfulPut durable (one (left_with held_as_document behind_prepare)) (sent 0 committed) → ⊥
+turned_as_commit l =
+    let (c, i, is) = held_of _ (with_streams (one (left_with held_as_document behind_prepare))) (item_of_change committed) (act_message committed committed.act) 0 [] (left_with held_as_document behind_prepare) commit_header refl l.0 (snapshot durable 0 3 (first_item ∷ prepared_item ∷ [])) refl in
     let at : l.0.change.seq ≡ 3 = ap (λ (z : ItemLine). z.seq) l.0.told in let same : l.0.change ≡ c = is in
     let third : c ≡ as_document = third_held c i (sym (ap (λ (z : Change). z.seq) same) ∙ at) in
     no_set (line_act l.0.change.act) (ap (λ (z : ItemLine). z.act) l.0.told) (ap (λ (z : Change). line_act z.act) (same ∙ third))

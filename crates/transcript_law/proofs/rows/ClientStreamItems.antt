@@ -20,20 +20,23 @@ use Rattle.branch_model.specs.Histories.{IsOf}
 use Rattle.vb_types.specs.declared.status.Status.TheVariants as status
 use Rattle.transcript_law.specs.Chronicles.{Chronicle}
 use Rattle.transcript_law.specs.ClientAskRows.{LawfulAsked, bytes_of as sent_bytes, that_sent}
-use Rattle.transcript_law.specs.ClientStreamRows.{LawfulHeld, LawfulPut, all_changes, both as and_another, finished, first_item, frame_of, fresh, inside, marked, next_item, one, other_value, sent, sent_with, snapshot, turned, two, with_streams}
-use Rattle.transcript_law.specs.ClientStreams.{Begun, ClientKnown, ClientStream, ItemLine, past_turn, vb_in_header, with_turn}
+use Rattle.transcript_law.specs.ClientStreamRows.{LawfulHeld, LawfulPut, all_changes, both as and_another, finished, first_item, frame_of, fresh, inside, left_with, marked, next_item, one, other_value, sent, sent_with, snapshot, turned, two, with_streams}
+use Rattle.flow_control.specs.Windows.{is_open as lets_through}
+use Rattle.transcript_law.specs.ClientFrames.{is_closed_by}
+use Rattle.transcript_law.specs.Questions.{flow_now, served_frames}
+use Rattle.transcript_law.specs.ClientStreams.{Begun, ClientKnown, ClientStream, ItemLine, held_for, past_turn, vb_in_header, with_turn}
 use Rattle.transcript_law.specs.Followers.{next_change}
 use Rattle.transcript_law.specs.Lawfulness.{LawfulRole}
 use Rattle.transcript_law.specs.LawfulClients.{IsSentOf, LawfulClientItem}
 use Rattle.transcript_law.specs.StreamLaws.{IsNextItem, item_of_change}
 use Rattle.transcript_law.specs.Transcripts.{one_change}
 use Rattle.transcript_law.proofs.rows.Answering.{bare_so, dcp_answer}
-use Rattle.transcript_law.proofs.rows.ClientStreams.{◌▹◌, all_between, bytes_are, put_by, spelled_is, stream_is}
-use Rattle.transcript_law.proofs.rows.ClientStreamMarks.{mark_put, two_next}
+use Rattle.transcript_law.proofs.rows.ClientStreams.{◌▹◌, all_between, bytes_are, none_counted, none_served, put_still, spelled_is, stream_is}
+use Rattle.transcript_law.proofs.rows.ClientStreamMarks.{mark_put, mark_still, two_next}
 
 -- ---- items, and the streams that they are of
 
-first_header : vb_in_header (spelling (dcp_frame (act_message one_change one_change.act) 9 0)) ≡ 0
+pub first_header : vb_in_header (spelling (dcp_frame (act_message one_change one_change.act) 9 0)) ≡ 0
 unfolding spelling dcp_frame
 first_header = refl
 
@@ -44,22 +47,26 @@ first_next = (next_change ∷ [], record { whole = two; covers = all_between two
 pub both_next : IsNextItem (snapshot two 0 2 (first_item ∷ [])) next_item
 both_next = ([], record { whole = two; covers = all_between two 0 2 (omega arith) (omega arith, (omega arith, omega arith)) refl; front = refl }, λ e. refl)
 
--- an item whose change is as its vBucket holds it
-pub item_put : (chronicle : Chronicle) (known : ClientKnown) (v : ℕ) (c : Change) (g : ClientStream) (b : Begun) (more : List Event) → vb_in_header (spelling (dcp_frame (act_message c c.act) 9 v)) ≡ v → known.streams v ≡ Some g → g.opaque ≡ 9 → g.over ≡ false → g.last ≡ Some b → IsIn c b.history → IsSentOf g b (chronicle.held 0 v) c → IsNextItem b (item_of_change c) → LawfulClientItem chronicle known 0 1 (item_of_change c) (frame_of v (act_message c c.act) ∷ more)
-item_put chronicle known v c g b more header is nine opens last shown sent next = record {
+-- an item of a stream that no frame closed, whose change is as its vBucket holds it
+pub item_still : (chronicle : Chronicle) (known : ClientKnown) (v : ℕ) (c : Change) (g : ClientStream) (b : Begun) (more : List Event) → vb_in_header (spelling (dcp_frame (act_message c c.act) 9 v)) ≡ v → known.streams v ≡ Some g → g.opaque ≡ 9 → is_closed_by (served_frames known) v ≡ false → lets_through (flow_now known).window ≡ true → g.over ≡ false → g.last ≡ Some b → IsIn c b.history → IsSentOf g b (held_for g (chronicle.held 0 v)) c → IsNextItem b (item_of_change c) → LawfulClientItem chronicle known 0 1 (item_of_change c) (frame_of v (act_message c c.act) ∷ more)
+item_still chronicle known v c g b more header is nine still through opens last shown sent next = record {
   change = c;
   told = refl;
-  put = put_by known (act_message c c.act) v g more header is nine;
+  put = put_still known (act_message c c.act) v g more header is nine still through;
   opens = opens;
   begun = b;
   last = last;
   shown = (c, shown, inl refl);
-  held = λ t. subst (λ w. IsSentOf g b (chronicle.held 0 w) c) (sym header) sent;
+  held = subst (λ w. IsSentOf g b (held_for g (chronicle.held 0 w)) c) (sym header) sent;
   next = next;
 }
 
+-- where nothing was served
+pub item_put : (chronicle : Chronicle) (known : ClientKnown) (v : ℕ) (c : Change) (g : ClientStream) (b : Begun) (more : List Event) → vb_in_header (spelling (dcp_frame (act_message c c.act) 9 v)) ≡ v → known.streams v ≡ Some g → g.opaque ≡ 9 → known.bytes ≡ [] → lets_through (flow_now known).window ≡ true → g.over ≡ false → g.last ≡ Some b → IsIn c b.history → IsSentOf g b (held_for g (chronicle.held 0 v)) c → IsNextItem b (item_of_change c) → LawfulClientItem chronicle known 0 1 (item_of_change c) (frame_of v (act_message c c.act) ∷ more)
+item_put chronicle known v c g b more header is nine silent through opens last shown sent next = item_still chronicle known v c g b more header is nine (ap (λ fs. is_closed_by fs v) (none_served known silent)) through opens last shown sent next
+
 pub own : LawfulPut two (and_another (inside true all_changes two 0 2 []) (inside true all_changes two 0 2 (first_item ∷ []))) (sent 0 one_change)
-own = (item_put _ (with_streams (and_another (inside true all_changes two 0 2 []) (inside true all_changes two 0 2 (first_item ∷ [])))) 0 one_change (inside true all_changes two 0 2 []) (snapshot two 0 2 []) [] first_header refl refl refl refl (inl refl) (one_change, inl refl, refl) first_next, ((λ z. cc), tt))
+own = (item_put _ (with_streams (and_another (inside true all_changes two 0 2 []) (inside true all_changes two 0 2 (first_item ∷ [])))) 0 one_change (inside true all_changes two 0 2 []) (snapshot two 0 2 []) [] first_header refl refl refl (none_counted (with_streams (and_another (inside true all_changes two 0 2 []) (inside true all_changes two 0 2 (first_item ∷ [])))) refl refl) refl refl (inl refl) (one_change, inl refl, refl) first_next, ((λ z. cc), tt))
 
 -- the streams in a snapshot of both changes, of which none was put yet, and the first
 abbrev begun : ClientStream
@@ -69,28 +76,28 @@ abbrev first_put : ClientStream
 first_put = inside true all_changes two 0 2 (first_item ∷ [])
 
 pub both : LawfulPut two (one (fresh true all_changes)) (marked 0 0 2 ++ sent 0 one_change ++ sent 0 next_change)
-unfolding spelling dcp_frame
+unfolding spelling dcp_frame frames_in first_frame
 both =
-    mark_put _ (with_streams (one (fresh true all_changes))) 0 0 2 (fresh true all_changes) (sent 0 one_change ++ sent 0 next_change) refl refl refl two_next ▹ (λ z. cc)
-    ▹ item_put _ _ 0 one_change begun (snapshot two 0 2 []) (sent 0 next_change) refl refl refl refl refl (inl refl) (one_change, inl refl, refl) first_next ▹ (λ z. cc)
-    ▹ item_put _ _ 0 next_change first_put (snapshot two 0 2 (first_item ∷ [])) [] refl refl refl refl refl (inr (inl refl)) (next_change, inr (inl refl), refl) both_next ▹ (λ z. cc) ▹ tt
+    mark_put _ (with_streams (one (fresh true all_changes))) 0 0 2 (fresh true all_changes) (sent 0 one_change ++ sent 0 next_change) refl refl refl refl refl two_next ▹ (λ z. cc)
+    ▹ item_put _ _ 0 one_change begun (snapshot two 0 2 []) (sent 0 next_change) refl refl refl refl refl refl refl (inl refl) (one_change, inl refl, refl) first_next ▹ (λ z. cc)
+    ▹ item_put _ _ 0 next_change first_put (snapshot two 0 2 (first_item ∷ [])) [] refl refl refl refl refl refl refl (inr (inl refl)) (next_change, inr (inl refl), refl) both_next ▹ (λ z. cc) ▹ tt
 
 pub answered : LawfulAsked (that_sent (one (fresh true all_changes)) (sent_bytes 9 0 msg.Noop)) (marked 0 0 2 ++ sent 0 one_change ++ frame_of 0 (msg.NoopAnswer 0) ∷ sent 0 next_change)
 unfolding spelling dcp_frame frames_in first_frame frame_in_bytes read_of frame_row shape_fault
 answered =
-    mark_put _ _ 0 0 2 (fresh true all_changes) _ refl refl refl two_next ▹ (λ z. cc)
-    ▹ item_put _ _ 0 one_change begun (snapshot two 0 2 []) _ refl refl refl refl refl (inl refl) (one_change, inl refl, refl) first_next ▹ (λ z. cc) ▹ (λ z. dcp_answer (dcp_frame (msg.NoopAnswer 0) 9 0) refl refl refl refl refl (bare_so 92 9 status.Success) tt)
-    ▹ item_put _ _ 0 next_change first_put (snapshot two 0 2 (first_item ∷ [])) [] refl refl refl refl refl (inr (inl refl)) (next_change, inr (inl refl), refl) both_next ▹ (λ z. cc) ▹ tt
+    mark_still _ _ 0 0 2 (fresh true all_changes) _ refl refl refl refl refl two_next ▹ (λ z. cc)
+    ▹ item_still _ _ 0 one_change begun (snapshot two 0 2 []) _ refl refl refl refl refl refl refl (inl refl) (one_change, inl refl, refl) first_next ▹ (λ z. cc) ▹ (λ z. dcp_answer (dcp_frame (msg.NoopAnswer 0) 9 0) refl refl refl refl refl (bare_so 92 9 status.Success) (tt, refl))
+    ▹ item_still _ _ 0 next_change first_put (snapshot two 0 2 (first_item ∷ [])) [] refl refl refl refl refl refl refl (inr (inl refl)) (next_change, inr (inl refl), refl) both_next ▹ (λ z. cc) ▹ tt
 
 pub in_turn : LawfulPut two (and_another (fresh true all_changes) (fresh true all_changes)) (marked 0 0 2 ++ marked 1 0 2 ++ sent 1 one_change ++ sent 0 one_change ++ sent 0 next_change ++ sent 1 next_change)
-unfolding spelling dcp_frame
+unfolding spelling dcp_frame frames_in first_frame
 in_turn =
-    mark_put _ (with_streams (and_another (fresh true all_changes) (fresh true all_changes))) 0 0 2 (fresh true all_changes) _ refl refl refl two_next ▹ (λ z. cc)
-    ▹ mark_put _ _ 1 0 2 (fresh true all_changes) _ refl refl refl two_next ▹ (λ z. cc)
-    ▹ item_put _ _ 1 one_change begun (snapshot two 0 2 []) _ refl refl refl refl refl (inl refl) (one_change, inl refl, refl) first_next ▹ (λ z. cc)
-    ▹ item_put _ _ 0 one_change begun (snapshot two 0 2 []) _ refl refl refl refl refl (inl refl) (one_change, inl refl, refl) first_next ▹ (λ z. cc)
-    ▹ item_put _ _ 0 next_change first_put (snapshot two 0 2 (first_item ∷ [])) _ refl refl refl refl refl (inr (inl refl)) (next_change, inr (inl refl), refl) both_next ▹ (λ z. cc)
-    ▹ item_put _ _ 1 next_change first_put (snapshot two 0 2 (first_item ∷ [])) [] refl refl refl refl refl (inr (inl refl)) (next_change, inr (inl refl), refl) both_next ▹ (λ z. cc) ▹ tt
+    mark_put _ (with_streams (and_another (fresh true all_changes) (fresh true all_changes))) 0 0 2 (fresh true all_changes) _ refl refl refl refl refl two_next ▹ (λ z. cc)
+    ▹ mark_put _ _ 1 0 2 (fresh true all_changes) _ refl refl refl refl refl two_next ▹ (λ z. cc)
+    ▹ item_put _ _ 1 one_change begun (snapshot two 0 2 []) _ refl refl refl refl refl refl refl (inl refl) (one_change, inl refl, refl) first_next ▹ (λ z. cc)
+    ▹ item_put _ _ 0 one_change begun (snapshot two 0 2 []) _ refl refl refl refl refl refl refl (inl refl) (one_change, inl refl, refl) first_next ▹ (λ z. cc)
+    ▹ item_put _ _ 0 next_change first_put (snapshot two 0 2 (first_item ∷ [])) _ refl refl refl refl refl refl refl (inr (inl refl)) (next_change, inr (inl refl), refl) both_next ▹ (λ z. cc)
+    ▹ item_put _ _ 1 next_change first_put (snapshot two 0 2 (first_item ∷ [])) [] refl refl refl refl refl refl refl (inr (inl refl)) (next_change, inr (inl refl), refl) both_next ▹ (λ z. cc) ▹ tt
 
 -- ---- what an item is judged by
 
@@ -113,12 +120,11 @@ module _ (chronicle : Chronicle) (known : ClientKnown) (item : ItemLine) (m : Dc
       let s : spelling (dcp_frame m 9 v) ≡ spelling (dcp_frame (act_message l.change l.change.act) g.opaque (vb_in_header (spelling (dcp_frame m 9 v)))) = spelled_is known (act_message l.change l.change.act) (spelling (dcp_frame m 9 v)) g more (ap known.streams header ∙ is) l.put in
       s ∙ ap (λ o. spelling (dcp_frame (act_message l.change l.change.act) o (vb_in_header (spelling (dcp_frame m 9 v))))) nine ∙ ap (λ w. spelling (dcp_frame (act_message l.change l.change.act) 9 w)) header
 
-  -- unless its vBucket got a role, what it holds has the change
-  pub held_of : (b : Begun) → g.last ≡ Some b → g.turned ≡ false → IsSentOf g b (chronicle.held 0 v) l.change
-  held_of b last stays =
-      let there : IsSentOf l.put.stream l.begun (chronicle.held 0 (vb_in_header l.put.bytes)) l.change = l.held (ap (λ (h : ClientStream). h.turned) stream_of_item ∙ stays) in
+  -- what its vBucket holds, or held before it got a role, has the change
+  pub held_of : (b : Begun) → g.last ≡ Some b → IsSentOf g b (held_for g (chronicle.held 0 v)) l.change
+  held_of b last =
       let at : vb_in_header l.put.bytes ≡ v = ap vb_in_header (bytes_are (spelling (dcp_frame m 9 v)) more known (act_message l.change l.change.act) l.put) ∙ header in
-      subst (λ w. IsSentOf g b (chronicle.held 0 w) l.change) at (subst (λ x. IsSentOf g x (chronicle.held 0 (vb_in_header l.put.bytes)) l.change) (begun_is b last) (subst (λ h. IsSentOf h l.begun (chronicle.held 0 (vb_in_header l.put.bytes)) l.change) stream_of_item there))
+      subst (λ w. IsSentOf g b (held_for g (chronicle.held 0 w)) l.change) at (subst (λ x. IsSentOf g x (held_for g (chronicle.held 0 (vb_in_header l.put.bytes))) l.change) (begun_is b last) (subst (λ h. IsSentOf h l.begun (held_for h (chronicle.held 0 (vb_in_header l.put.bytes))) l.change) stream_of_item l.held))
 
 -- ---- items that are not lawful
 
@@ -191,33 +197,36 @@ over l =
     let is : l.0.put.stream ≡ finished begun = stream_of_item _ (with_streams (one (finished begun))) first_item (act_message one_change one_change.act) 0 [] (finished begun) first_header refl l.0 in
     let e : true ≡ false = sym (ap (λ (g : ClientStream). g.over) is) ∙ l.0.opens in cc
 
--- ---- vBuckets that do not hold the change any more
+-- ---- vBuckets that got a role, or do not hold the change
 
 -- a vBucket that was active is dead
 pub dead_now : {chronicle : Chronicle} → chronicle.role_at 0 0 ≡ Some (Some role.Active) → LawfulRole chronicle 0 0 role.Dead
 dead_now is = record { another = λ e. let z : Some (Some role.Active) ≡ Some (Some role.Dead) = sym is ∙ e in let y : role.Active ≡ role.Dead = cc in cc; anew = λ e. cc }
 
-pub turns : LawfulHeld [] two (one begun) (turned role.Dead ∷ sent 0 one_change)
-turns = dead_now refl ▹ record {
-  change = one_change;
-  told = refl;
-  put = put_by (past_turn 0 (with_streams (one begun))) (act_message one_change one_change.act) 0 (with_turn begun) [] first_header refl refl;
-  opens = refl;
-  begun = snapshot two 0 2 [];
-  last = refl;
-  shown = (one_change, inl refl, inl refl);
-  held = λ t. cc;
-  next = first_next;
-} ▹ (λ z. cc) ▹ tt
+pub turns : LawfulPut two (one begun) (turned role.Dead ∷ sent 0 one_change)
+turns = dead_now refl ▹ item_put _ (past_turn 0 two (with_streams (one begun))) 0 one_change (with_turn two begun) (snapshot two 0 2 []) [] first_header refl refl refl (none_counted (past_turn 0 two (with_streams (one begun))) refl refl) refl refl (inl refl) (one_change, inl refl, refl) first_next ▹ (λ z. cc) ▹ tt
+
+pub turns_lost : LawfulHeld [] two (one begun) (turned role.Dead ∷ sent 0 one_change) → ⊥
+turns_lost l = (held_of _ (past_turn 0 [] (with_streams (one begun))) first_item (act_message one_change one_change.act) 0 [] (with_turn [] begun) first_header refl l.1.0 (snapshot two 0 2 []) refl).1
+
+-- it was so when it was first given one
+pub turns_twice : LawfulHeld [] two (one (left_with two begun)) (turned role.Dead ∷ sent 0 one_change)
+turns_twice = dead_now refl ▹ item_put _ (past_turn 0 [] (with_streams (one (left_with two begun)))) 0 one_change (with_turn [] (left_with two begun)) (snapshot two 0 2 []) [] first_header refl refl refl (none_counted (past_turn 0 [] (with_streams (one (left_with two begun)))) refl refl) refl refl (inl refl) (one_change, inl refl, refl) first_next ▹ (λ z. cc) ▹ tt
+
+pub left : LawfulHeld [] two (one (left_with two begun)) (sent 0 one_change)
+left = item_put _ (with_streams (one (left_with two begun))) 0 one_change (left_with two begun) (snapshot two 0 2 []) [] first_header refl refl refl (none_counted (with_streams (one (left_with two begun))) refl refl) refl refl (inl refl) (one_change, inl refl, refl) first_next ▹ (λ z. cc) ▹ tt
+
+pub left_none : LawfulPut two (one (left_with [] begun)) (sent 0 one_change) → ⊥
+left_none l = (held_of _ (with_streams (one (left_with [] begun))) first_item (act_message one_change one_change.act) 0 [] (left_with [] begun) first_header refl l.0 (snapshot two 0 2 []) refl).1
 
 pub lost : LawfulHeld [] two (one begun) (sent 0 one_change) → ⊥
-lost l = (held_of _ (with_streams (one begun)) first_item (act_message one_change one_change.act) 0 [] begun first_header refl l.0 (snapshot two 0 2 []) refl refl).1
+lost l = (held_of _ (with_streams (one begun)) first_item (act_message one_change one_change.act) 0 [] begun first_header refl l.0 (snapshot two 0 2 []) refl).1
 
 pub other_turned : LawfulPut two (one begun) (turned role.Dead ∷ sent_with 0 one_change other_value) → ⊥
 unfolding value_at spelling dcp_frame
 other_turned l =
-    let known : ClientKnown = past_turn 0 (with_streams (one begun)) in
-    let shown : IsOf two l.1.0.change = shown_of _ known first_item (act_message other_value other_value.act) 0 [] (with_turn begun) other_header refl l.1.0 (snapshot two 0 2 []) refl in
+    let known : ClientKnown = past_turn 0 two (with_streams (one begun)) in
+    let shown : IsOf two l.1.0.change = shown_of _ known first_item (act_message other_value other_value.act) 0 [] (with_turn two begun) other_header refl l.1.0 (snapshot two 0 2 []) refl in
     let is : l.1.0.change ≡ one_change = first_of l.1.0.change shown (ap (λ (i : ItemLine). i.seq) l.1.0.told) in
-    let b : spelling (dcp_frame (act_message other_value other_value.act) 9 0) ≡ spelling (dcp_frame (act_message one_change one_change.act) 9 0) = bytes_of _ known first_item (act_message other_value other_value.act) 0 [] (with_turn begun) other_header refl l.1.0 refl ∙ ap (λ (x : Change). spelling (dcp_frame (act_message x x.act) 9 0)) is in
+    let b : spelling (dcp_frame (act_message other_value other_value.act) 9 0) ≡ spelling (dcp_frame (act_message one_change one_change.act) 9 0) = bytes_of _ known first_item (act_message other_value other_value.act) 0 [] (with_turn two begun) other_header refl l.1.0 refl ∙ ap (λ (x : Change). spelling (dcp_frame (act_message x x.act) 9 0)) is in
     let e : ◌≡◌ {A = ℕ} 9 8 = ap value_at b in omega (arith, e)

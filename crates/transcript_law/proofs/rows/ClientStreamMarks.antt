@@ -6,6 +6,7 @@ use Rattle.mcbp_dcp.specs.declared.message.DcpMsg.{DcpMsg}
 use Rattle.mcbp_dcp.specs.declared.message.DcpMsg.TheVariants as msg
 unfoldable use Rattle.mcbp_frame.specs.Spelling.{spelling}
 use Rattle.mcbp_frame.specs.Frames.{big_32_at}
+use Rattle.flow_control.specs.Windows.{is_open as lets_through}
 use Rattle.vb_types.specs.Histories.{IsIn}
 use Rattle.vb_types.specs.declared.change.Change.{Change}
 use Rattle.vb_types.specs.declared.role.Role.TheVariants as role
@@ -17,10 +18,12 @@ use Rattle.transcript_law.specs.Chronicles.{Chronicle}
 use Rattle.transcript_law.specs.ClientStreamRows.{LawfulPut, all_changes, asks_for, closed, disk_marked, durable, finished, first_item, for_another, frame_of, fresh, inside, late_marked, marked, next_item, one, other_opaque, put_three, put_two, snapshot, third_change, three, tree_of, turned, two, unframed, up_to, with_streams}
 use Rattle.transcript_law.specs.ClientStreams.{ClientKnown, ClientStream, ItemLine, past_turn, vb_in_header, with_turn}
 use Rattle.transcript_law.specs.Followers.{next_change}
+use Rattle.transcript_law.specs.ClientFrames.{is_closed_by}
 use Rattle.transcript_law.specs.LawfulClients.{IsNextMarker, IsPut, LawfulClientMark}
+use Rattle.transcript_law.specs.Questions.{flow_now, served_frames}
 use Rattle.transcript_law.specs.StreamLaws.{IsFrontOf, item_of_change}
 use Rattle.transcript_law.specs.Transcripts.{one_change}
-use Rattle.transcript_law.proofs.rows.ClientStreams.{all_between, bytes_are, put_by, spelled_is, stream_is}
+use Rattle.transcript_law.proofs.rows.ClientStreams.{all_between, bytes_are, none_counted, put_by, put_still, spelled_is, stream_is}
 
 -- ---- markers, and the streams that they are of
 
@@ -28,13 +31,17 @@ pub header : (start end : ℕ) → vb_in_header (spelling (dcp_frame (msg.Snapsh
 unfolding spelling dcp_frame
 header start end = refl
 
--- a marker of the stream of the vBucket v, before other lines
-abbrev pub mark_put : (chronicle : Chronicle) (known : ClientKnown) (v start end : ℕ) (g : ClientStream) (more : List Event) → vb_in_header (spelling (dcp_frame (msg.SnapshotMarker start end 1) 9 v)) ≡ v → known.streams v ≡ Some g → g.opaque ≡ 9 → IsNextMarker chronicle.tree g start end → LawfulClientMark chronicle known 0 1 start end 1 (frame_of v (msg.SnapshotMarker start end 1) ∷ more)
-mark_put chronicle known v start end g more header is nine m = record { put = put_by known (msg.SnapshotMarker start end 1) v g more header is nine; memory = refl; marker = m }
+-- a marker of the stream of the vBucket v, which no frame closed, before other lines
+pub mark_still : (chronicle : Chronicle) (known : ClientKnown) (v start end : ℕ) (g : ClientStream) (more : List Event) → vb_in_header (spelling (dcp_frame (msg.SnapshotMarker start end 1) 9 v)) ≡ v → known.streams v ≡ Some g → g.opaque ≡ 9 → is_closed_by (served_frames known) v ≡ false → lets_through (flow_now known).window ≡ true → IsNextMarker chronicle.tree g start end → LawfulClientMark chronicle known 0 1 start end 1 (frame_of v (msg.SnapshotMarker start end 1) ∷ more)
+mark_still chronicle known v start end g more header is nine still through m = record { put = put_still known (msg.SnapshotMarker start end 1) v g more header is nine still through; memory = refl; marker = m }
+
+-- where nothing was served
+abbrev pub mark_put : (chronicle : Chronicle) (known : ClientKnown) (v start end : ℕ) (g : ClientStream) (more : List Event) → vb_in_header (spelling (dcp_frame (msg.SnapshotMarker start end 1) 9 v)) ≡ v → known.streams v ≡ Some g → g.opaque ≡ 9 → known.bytes ≡ [] → lets_through (flow_now known).window ≡ true → IsNextMarker chronicle.tree g start end → LawfulClientMark chronicle known 0 1 start end 1 (frame_of v (msg.SnapshotMarker start end 1) ∷ more)
+mark_put chronicle known v start end g more header is nine silent through m = record { put = put_by known (msg.SnapshotMarker start end 1) v g more header is nine silent through; memory = refl; marker = m }
 
 -- a marker is lawful that is the next one of the stream of its vBucket
 pub marks : (changes : List Change) (g : ClientStream) (start end : ℕ) → g.opaque ≡ 9 → IsNextMarker (tree_of changes) g start end → LawfulPut changes (one g) (marked 0 start end)
-marks changes g start end nine m = (record { put = put_by (with_streams (one g)) (msg.SnapshotMarker start end 1) 0 g [] (header start end) refl nine; memory = refl; marker = m }, ((λ z. cc), tt))
+marks changes g start end nine m = (record { put = put_by (with_streams (one g)) (msg.SnapshotMarker start end 1) 0 g [] (header start end) refl nine refl (none_counted (with_streams (one g)) refl refl); memory = refl; marker = m }, ((λ z. cc), tt))
 
 -- and one that is lawful is so
 pub is_next : (changes : List Change) (g : ClientStream) (start end : ℕ) → LawfulPut changes (one g) (marked 0 start end) → IsNextMarker (tree_of changes) g start end
@@ -110,7 +117,7 @@ over l = let e : true ≡ false = (is_next three (finished put_two) 2 3 l).opens
 -- behind a role of its vBucket
 pub turns : LawfulPut three (one put_two) (turned role.Dead ∷ marked 0 2 3) → ⊥
 turns l =
-    let is : l.1.0.put.stream ≡ with_turn put_two = stream_is (past_turn 0 (with_streams (one put_two))) (msg.SnapshotMarker 2 3 1) (msg.SnapshotMarker 2 3 1) 0 (with_turn put_two) [] (header 2 3) refl l.1.0.put in
+    let is : l.1.0.put.stream ≡ with_turn three put_two = stream_is (past_turn 0 three (with_streams (one put_two))) (msg.SnapshotMarker 2 3 1) (msg.SnapshotMarker 2 3 1) 0 (with_turn three put_two) [] (header 2 3) refl l.1.0.put in
     let e : true ≡ false = sym (ap (λ (g : ClientStream). g.turned) is) ∙ l.1.0.marker.stays in cc
 
 -- from disk

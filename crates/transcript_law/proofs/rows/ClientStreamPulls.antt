@@ -19,8 +19,12 @@ use Rattle.transcript_law.specs.ClientStreamRows.{all_changes, finished, first_i
 use Rattle.transcript_law.specs.ClientStreams.{Begun, ClientKnown, ClientStream, ItemLine}
 use Rattle.transcript_law.specs.Followers.{next_change}
 use Rattle.transcript_law.specs.{LawfulClients.{AllQuiet, IsQuiet, NoneWithin}, LinesTold.{at_line}}
+use Rattle.transcript_law.specs.Questions.{served_frames}
 use Rattle.transcript_law.specs.Undone.{EndsThere}
 use Rattle.transcript_law.specs.Transcripts.{one_change}
+use Rattle.flow_control.specs.Windows.{is_open as lets_through}
+use Rattle.transcript_law.specs.StreamsTold.{FlowKnown, blank_flow}
+use Rattle.transcript_law.proofs.rows.ClientStreams.{none_counted}
 use Rattle.transcript_law.proofs.rows.ClientStreamVerdicts.{no_active}
 use Rattle.transcript_law.proofs.rows.Silent.{here_answered, none_of, unbroken_of}
 use Rattle.vb_events.specs.declared.event.Why.TheVariants as why
@@ -28,8 +32,8 @@ use Rattle.vb_events.specs.declared.event.Why.TheVariants as why
 -- ---- idle pulls
 
 -- an idle pull is lawful where each stream is quiet
-idles : (changes : List Change) (known : ClientKnown) → known.asking.bytes ≡ [] → AllQuiet (at_line (serving changes known) 1) 0 known → LawfulPulled changes known idle
-idles changes known silent quiet = ((tt, (refl, record { told = refl; most = omega arith; all = λ e. cc; only = λ e. absurd (omega (arith, e)) }), refl, refl, (λ w no standing. cc), refl, (refl, refl), quiet, here_answered (serving changes known) pulls [] (answer.Pulled 0 why.Idle) (λ n c e. rw e refl) (none_of known.asking silent) (unbroken_of known.asking silent), tt, tt), tt)
+idles : (changes : List Change) (known : ClientKnown) → known.asking.bytes ≡ [] → known.flow ≡ blank_flow → AllQuiet (at_line (serving changes known) 1) 0 known → LawfulPulled changes known idle
+idles changes known silent unflown quiet = ((tt, (refl, record { told = refl; most = omega arith; all = λ e. cc; only = λ e. absurd (omega (arith, e)) }), refl, refl, (λ w no standing. cc), refl, refl, (quiet, none_counted known (ap (λ (f : FlowKnown). f.bytes) unflown) (ap (λ (f : FlowKnown). lets_through f.window) unflown)), here_answered (serving changes known) pulls [] (answer.Pulled 0 why.Idle) (λ n c e. rw e refl) (none_of known.asking silent) (unbroken_of known.asking silent), tt, tt), tt)
 
 -- of one stream it is enough that this one is
 one_quiet : (changes : List Change) (g : ClientStream) → IsQuiet (at_line (serving changes (with_streams (one g))) 1) 0 0 g → AllQuiet (at_line (serving changes (with_streams (one g))) 1) 0 (with_streams (one g))
@@ -45,10 +49,10 @@ one_quiet changes g quiet v h is opens unclosed = by v (v == 0) refl is
 -- and the one stream is quiet where it is lawful
 is_quiet : (changes : List Change) (g : ClientStream) → LawfulPulled changes (with_streams (one g)) idle → g.over ≡ false → IsQuiet (at_line (serving changes (with_streams (one g))) 1) 0 0 g
 unfolding frames_in
-is_quiet changes g l opens = l.0.7 0 g refl opens refl
+is_quiet changes g l opens = l.0.7.0 0 g refl opens refl
 
 pub no_stream : LawfulPulled two (with_streams none) idle
-no_stream = idles two (with_streams none) refl (λ v g is. absurd (nobody g is))
+no_stream = idles two (with_streams none) refl refl (λ v g is. absurd (nobody g is))
   where
     nobody : (g : ClientStream) → None ≡ Some g → ⊥
     nobody g e = cc
@@ -61,7 +65,7 @@ nothing_above : NoneWithin two 2 2
 nothing_above x i over under = omega (arith, over, under)
 
 pub put : LawfulPulled two (with_streams (one all_put)) idle
-put = idles two (with_streams (one all_put)) refl (one_quiet two all_put (record { whole = (first_item ∷ [], next_item, refl, refl); stays = refl; goes_on = λ r. omega (arith, r); active = refl; none = inl nothing_above }))
+put = idles two (with_streams (one all_put)) refl refl (one_quiet two all_put (record { whole = (first_item ∷ [], next_item, refl, refl); stays = refl; goes_on = λ r. omega (arith, r); active = refl; none = inl nothing_above }))
 
 pub unput : LawfulPulled two (with_streams (one (fresh true all_changes))) idle → ⊥
 unput l = ⊎_elim (λ n. n next_change (inr (inl refl)) (omega arith) (omega arith)) (λ f. let e : 2 < 0 = f.1 in omega (arith, e)) (is_quiet two (fresh true all_changes) l refl).none
@@ -95,12 +99,12 @@ turns l = let e : true ≡ false = (is_quiet two (moved all_put) l refl).stays i
 
 pub inactive : LawfulHere (resting two (with_streams (one all_put))) pulls idle → ⊥
 unfolding frames_in
-inactive l = no_active (l.0.7 0 all_put refl refl refl).active
+inactive l = no_active (l.0.7.0 0 all_put refl refl refl).active
 
 -- streams that count for nothing
 
 pub over : LawfulPulled two (with_streams (one (finished (fresh true all_changes)))) idle
-over = idles two (with_streams (one (finished (fresh true all_changes)))) refl (λ v g is opens unclosed. absurd (by g (v == 0) is opens))
+over = idles two (with_streams (one (finished (fresh true all_changes)))) refl refl (λ v g is opens unclosed. absurd (by g (v == 0) is opens))
   where
     by : (g : ClientStream) (b : Bool) → (if b then Some (finished (fresh true all_changes)) else None) ≡ Some g → g.over ≡ false → ⊥
     by g true is opens = let same : finished (fresh true all_changes) ≡ g = cc in let e : true ≡ false = ap (λ (h : ClientStream). h.over) same ∙ opens in cc
@@ -108,10 +112,10 @@ over = idles two (with_streams (one (finished (fresh true all_changes)))) refl (
 
 pub closed : LawfulPulled two (that_asked (one (fresh true all_changes)) (closing 0)) idle
 unfolding spelling dcp_frame frames_in first_frame frame_of read_of frame_row shape_fault
-closed = idles two (that_asked (one (fresh true all_changes)) (closing 0)) refl (λ v g is opens unclosed. absurd (by v g (v == 0) refl is unclosed))
+closed = idles two (that_asked (one (fresh true all_changes)) (closing 0)) refl refl (λ v g is opens unclosed. absurd (by v g (v == 0) refl is unclosed))
   where
-    by : (v : ℕ) (g : ClientStream) (b : Bool) → (v == 0) ≡ b → (if v == 0 then Some (fresh true all_changes) else None) ≡ Some g → is_closed_by (frames_in (closing 0)) v ≡ false → ⊥
-    by v g true at is unclosed = let zero : v ≡ 0 = eqb-true v 0 at in let e : true ≡ false = ap (is_closed_by (frames_in (closing 0))) (sym zero) ∙ unclosed in cc
+    by : (v : ℕ) (g : ClientStream) (b : Bool) → (v == 0) ≡ b → (if v == 0 then Some (fresh true all_changes) else None) ≡ Some g → is_closed_by (served_frames (that_asked (one (fresh true all_changes)) (closing 0))) v ≡ false → ⊥
+    by v g true at is unclosed = let zero : v ≡ 0 = eqb-true v 0 at in let e : true ≡ false = ap (is_closed_by (served_frames (that_asked (one (fresh true all_changes)) (closing 0)))) (sym zero) ∙ unclosed in cc
     by v g false at is unclosed = let none : None ≡ Some g = ap (λ (c : Bool). if c then Some (fresh true all_changes) else None) (sym at) ∙ is in cc
 
 -- a prepare that is held and not put
@@ -129,7 +133,7 @@ none_shown : NoneWithin (one_change ∷ []) 1 2
 none_shown x i above under = ⊎_elim (λ e. let n : x.seq ≡ 1 = ap (λ (c : Change). c.seq) e in omega (arith, above, n)) (λ k. k) i
 
 pub plain_prepare : LawfulPulled pending (with_streams (one plain_first)) idle
-plain_prepare = idles pending (with_streams (one plain_first)) refl (one_quiet pending plain_first (record { whole = ([], first_item, refl, refl); stays = refl; goes_on = λ r. omega (arith, r); active = refl; none = inl none_shown }))
+plain_prepare = idles pending (with_streams (one plain_first)) refl refl (one_quiet pending plain_first (record { whole = ([], first_item, refl, refl); stays = refl; goes_on = λ r. omega (arith, r); active = refl; none = inl none_shown }))
 
 -- ---- answers
 
@@ -143,13 +147,13 @@ pub miscounted : LawfulPulled two (with_streams (one (fresh true (up_to 2)))) (p
 miscounted l = let e : ◌≡◌ {A = ℕ} 3 4 = l.0.1.1.told in omega (arith, e)
 
 pub other : LawfulPulled two (with_streams (one (fresh true all_changes))) (puts 1 other_marked) → ⊥
-other l = let e : false ≡ true = l.0.6.0 in cc
+other l = let e : false ≡ true = l.0.5 in cc
 
 pub more : LawfulPulled two (with_streams (one (fresh true all_changes))) (puts 1 (marked 0 0 2 ++ untold)) → ⊥
-more l = let e : ◌≡◌ {A = ℕ} 3 2 = l.0.6.1 in omega (arith, e)
+more l = let e : ◌≡◌ {A = ℕ} 3 2 = l.0.6 in omega (arith, e)
 
 pub reply : LawfulPulled two (with_streams none) (puts 0 untold) → ⊥
-reply l = let e : ◌≡◌ {A = ℕ} 1 0 = l.0.6.1 in omega (arith, e)
+reply l = let e : ◌≡◌ {A = ℕ} 1 0 = l.0.6 in omega (arith, e)
 
 pub no_reply : LawfulPulled two (with_streams (one (fresh true all_changes))) (puts 1 unframed) → ⊥
-no_reply l = let e : ◌≡◌ {A = ℕ} 1 2 = l.0.6.1 in omega (arith, e)
+no_reply l = let e : ◌≡◌ {A = ℕ} 1 2 = l.0.6 in omega (arith, e)

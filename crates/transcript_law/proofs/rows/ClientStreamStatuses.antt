@@ -66,7 +66,7 @@ held_rolls l = let (code, e) = l.0.own.held put_two (finds (one put_two) l.0.req
 
 pub typed : LawfulAsked (that_sent none (requesting_typed (up_to 3) ++ requesting 0 all_changes)) (typed_refused ∷ asked all_changes ask_answer.Go)
 unfolding spelling dcp_frame frames_in first_frame frame_of read_of frame_row shape_fault
-typed = (λ z. dcp_answer (dcp_frame (msg.StreamAnswer (stream_verdict (log_of 5) (ask_answer.Refuse 4))) 8 0) refl refl refl refl refl (bare_so 83 8 status.Einval) tt) ▹ record { own_node = refl; request = _; next = refl; numbers = refl; vb = refl; answered = record { own_log = refl; own_high = refl; verdict = (refl, λ z. absurd (omega (arith, z))); active = refl }; own = free open_setup refl; reason = fair open_setup None no_stream all_changes all_order; frame = ([], refl) } ▹ (λ z. dcp_answer (answer_of ask_answer.Go) refl refl refl refl refl refl tt) ▹ tt
+typed = (λ z. dcp_answer (dcp_frame (msg.StreamAnswer (stream_verdict (log_of 5) (ask_answer.Refuse 4))) 8 0) refl refl refl refl refl (bare_so 83 8 status.Einval) (tt, refl)) ▹ record { own_node = refl; request = _; next = refl; numbers = refl; vb = refl; answered = record { own_log = refl; own_high = refl; verdict = (refl, λ z. absurd (omega (arith, z))); active = refl }; own = free open_setup refl; reason = fair open_setup None no_stream all_changes all_order; frame = ([], refl) } ▹ (λ z. dcp_answer (answer_of ask_answer.Go) refl refl refl refl refl refl (tt, refl)) ▹ tt
 
 pub typed_alone : LawfulAsked (that_sent none (requesting_typed all_changes)) (asked all_changes ask_answer.Go) → ⊥
 unfolding spelling dcp_frame frames_in first_frame frame_of read_of frame_row shape_fault

@@ -80,20 +80,20 @@ abbrev blank_now : Asking
 blank_now = (with_streams (one granted)).asking
 
 pub counted : LawfulPulled two (with_streams (one granted)) (puts 4 all_lines)
-unfolding spelling dcp_frame
+unfolding spelling dcp_frame frames_in first_frame
 counted = (
   (
-    mark_put _ _ 0 0 2 granted _ refl refl refl two_next ▹ (refl, λ z. cc)
-        ▹ item_put _ _ 0 one_change begun (snapshot two 0 2 []) _ refl refl refl refl refl (inl refl) (one_change, inl refl, refl) first_next ▹ (refl, λ z. cc)
-        ▹ item_put _ _ 0 next_change first_put (snapshot two 0 2 (first_item ∷ [])) _ refl refl refl refl refl (inr (inl refl)) (next_change, inr (inl refl), refl) both_next ▹ (refl, λ z. cc)
-        ▹ end_put _ 0 all_put [] refl refl refl both_whole (refl, omega arith) ▹ (refl, λ z. cc) ▹ tt,
+    mark_put _ _ 0 0 2 granted _ refl refl refl refl refl two_next ▹ (refl, λ z. cc)
+        ▹ item_put _ _ 0 one_change begun (snapshot two 0 2 []) _ refl refl refl refl refl refl refl (inl refl) (one_change, inl refl, refl) first_next ▹ (refl, λ z. cc)
+        ▹ item_put _ _ 0 next_change first_put (snapshot two 0 2 (first_item ∷ [])) _ refl refl refl refl refl refl refl (inr (inl refl)) (next_change, inr (inl refl), refl) both_next ▹ (refl, λ z. cc)
+        ▹ end_put _ 0 all_put [] refl refl refl refl refl both_whole (refl, omega arith) ▹ (refl, λ z. cc) ▹ tt,
     (refl, record { told = refl; most = omega arith; all = λ e. cc; only = λ e. absurd (omega (arith, e)) }),
     refl,
     refl,
     λ w no standing. cc,
     refl,
-    (refl, refl),
-    λ v g is opens stays. absurd (all_over g (v == 0) (sym (streams_behind (one granted) (λ w. refl) v) ∙ is) opens),
+    refl,
+    (λ v g is opens stays. absurd (all_over g (v == 0) (sym (streams_behind (one granted) (λ w. refl) v) ∙ is) opens), refl),
     here_answered (serving two (with_streams (one granted))) pulls all_lines (answer.Pulled 4 why.Idle) (λ n c e. rw e refl) (none_of blank_now refl) (unbroken_of blank_now refl),
     tt,
     tt,
@@ -140,10 +140,10 @@ story_asked = after_group (serving two blank_client) asks_first first_lines answ
 pub story : LawfulStory (indexed all_lines)
 unfolding spelling dcp_frame frames_in first_frame frame_of read_of frame_row shape_fault
 story = (
-  (refl, λ z. dcp_answer (dcp_frame (msg.OpenAnswer 0) 1 0) refl refl refl refl refl (bare_so 80 1 status.Success) tt)
-      ▹ (refl, λ z. dcp_answer (dcp_frame (msg.ControlAnswer 0) 2 0) refl refl refl refl refl (bare_so 94 2 status.Success) tt)
-      ▹ (refl, λ z. dcp_answer (dcp_frame (msg.ControlAnswer 0) 3 0) refl refl refl refl refl (bare_so 94 3 status.Success) tt)
-      ▹ record { own_node = refl; request = _; next = refl; numbers = refl; vb = refl; answered = asked_right _ _; own = refuses_none; reason = fair (record { opened = true; sync = true; named = true }) None no_stream (up_to 2) (omega arith, omega arith, omega arith); frame = ([], refl) } ▹ (refl, λ z. dcp_answer (answer_of ask_answer.Go) refl refl refl refl refl refl tt) ▹ tt,
+  (refl, λ z. dcp_answer (dcp_frame (msg.OpenAnswer 0) 1 0) refl refl refl refl refl (bare_so 80 1 status.Success) (tt, refl))
+      ▹ (refl, λ z. dcp_answer (dcp_frame (msg.ControlAnswer 0) 2 0) refl refl refl refl refl (bare_so 94 2 status.Success) (tt, refl))
+      ▹ (refl, λ z. dcp_answer (dcp_frame (msg.ControlAnswer 0) 3 0) refl refl refl refl refl (bare_so 94 3 status.Success) (tt, refl))
+      ▹ record { own_node = refl; request = _; next = refl; numbers = refl; vb = refl; answered = asked_right _ _; own = refuses_none; reason = fair (record { opened = true; sync = true; named = true }) None no_stream (up_to 2) (omega arith, omega arith, omega arith); frame = ([], refl) } ▹ (refl, λ z. dcp_answer (answer_of ask_answer.Go) refl refl refl refl refl refl (tt, refl)) ▹ tt,
   refl,
   refl,
   refl,
@@ -156,17 +156,17 @@ story = (
   λ e. cc,
 )
     ▹ (
-      mark_put _ _ 0 0 2 granted _ refl refl refl two_next ▹ (refl, λ z. cc)
-          ▹ item_put _ _ 0 one_change begun (snapshot two 0 2 []) _ refl refl refl refl refl (inl refl) (one_change, inl refl, refl) first_next ▹ (refl, λ z. cc)
-          ▹ item_put _ _ 0 next_change first_put (snapshot two 0 2 (first_item ∷ [])) _ refl refl refl refl refl (inr (inl refl)) (next_change, inr (inl refl), refl) both_next ▹ (refl, λ z. cc)
-          ▹ end_put _ 0 all_put [] refl refl refl both_whole (refl, omega arith) ▹ (refl, λ z. cc) ▹ tt,
+      mark_put _ _ 0 0 2 granted _ refl refl refl refl refl two_next ▹ (refl, λ z. cc)
+          ▹ item_put _ _ 0 one_change begun (snapshot two 0 2 []) _ refl refl refl refl refl refl refl (inl refl) (one_change, inl refl, refl) first_next ▹ (refl, λ z. cc)
+          ▹ item_put _ _ 0 next_change first_put (snapshot two 0 2 (first_item ∷ [])) _ refl refl refl refl refl refl refl (inr (inl refl)) (next_change, inr (inl refl), refl) both_next ▹ (refl, λ z. cc)
+          ▹ end_put _ 0 all_put [] refl refl refl refl refl both_whole (refl, omega arith) ▹ (refl, λ z. cc) ▹ tt,
       (refl, record { told = refl; most = omega arith; all = λ e. cc; only = λ e. absurd (omega (arith, e)) }),
       refl,
       refl,
       λ w no standing. cc,
       refl,
-      (refl, refl),
-      λ v g is opens stays. absurd (all_over g (v == 0) (sym (streams_behind (with_id (unclosed sent_frames nothing) 0 (Some granted)) (granted_one sent_frames) v) ∙ is) opens),
+      refl,
+      (λ v g is opens stays. absurd (all_over g (v == 0) (sym (streams_behind (with_id (unclosed sent_frames nothing) 0 (Some granted)) (granted_one sent_frames) v) ∙ is) opens), refl),
       here_answered story_asked pulls all_lines (answer.Pulled 4 why.Idle) (λ n c e. rw e refl) refl refl,
       tt,
       tt,

@@ -1,10 +1,14 @@
 -- lines of clients' streams, and the frames behind them
-use Rattle.std.proofs.Common.{Bool, List, ap, inl, refl, sym, ℕ, ◌∙◌, ◌∷◌, ◌≡◌, ◌<◌, ◌≤◌}
+use Rattle.std.proofs.Common.{Bool, List, [], ap, false, inl, refl, suc, sym, true, zero, ℕ, ◌∙◌, ◌∷◌, ◌≡◌, ◌<◌, ◌≤◌}
 use Rattle.std.proofs.lemmas.Bool.{and_from, le-leb, lt-ltb}
-use Rattle.std.specs.Prelude.{Some, nat_le, nat_lt, ◌&&◌}
+use Rattle.std.specs.Prelude.{Some, length, nat_le, nat_lt, take, ◌&&◌, ◌-◌}
 use Rattle.vb_calls.specs.Spans.{stretch}
 use Rattle.mcbp_dcp.specs.DcpFrames.{dcp_frame}
 use Rattle.mcbp_dcp.specs.declared.message.DcpMsg.{DcpMsg}
+use Rattle.client_session.proofs.Chunks.{nothing}
+use Rattle.flow_control.specs.Windows.{is_open as lets_through}
+use Rattle.mcbp_frame.proofs.Cutting.{frames-none}
+use Rattle.mcbp_frame.specs.Cutting.{frame_in, frames_in}
 use Rattle.mcbp_frame.specs.Spelling.{spelling}
 use Rattle.vb_events.specs.declared.event.Event.{Event}
 use Rattle.vb_events.specs.declared.event.Event.TheVariants as event
@@ -15,23 +19,46 @@ use Rattle.branch_model.proofs.Lists.{last_in}
 use Rattle.branch_model.specs.Histories.{last_seq}
 use Rattle.branch_model.specs.Snapshots.{Covers}
 use Rattle.transcript_law.specs.ClientStreamRows.{frame_of}
+use Rattle.transcript_law.specs.ClientFrames.{is_closed_by}
 use Rattle.transcript_law.specs.ClientStreams.{ClientKnown, ClientStream, vb_in_header}
 use Rattle.transcript_law.specs.LawfulClients.{IsPut}
+use Rattle.transcript_law.specs.Questions.{flow_now, in_front, served_frames, unserved, window_after}
 
 infixr 2 ◌▹◌
 -- a pair
 pub ◌▹◌ : {A B : Type 0} → A → B → A × B
 a ▹ b = (a, b)
 
--- a message whose header names the vBucket v stands behind its line
-abbrev pub put_by : (known : ClientKnown) (m : DcpMsg) (v : ℕ) (g : ClientStream) (more : List Event) → vb_in_header (spelling (dcp_frame m 9 v)) ≡ v → known.streams v ≡ Some g → g.opaque ≡ 9 → IsPut 0 1 known m (frame_of v m ∷ more)
-put_by known m v g more header is nine = record {
+-- where nothing came behind a last request for a stream nothing was served behind it
+take_none : (k : ℕ) → take {A = ℕ} k [] ≡ []
+take_none zero = refl
+take_none (suc k) = refl
+
+pub none_served : (known : ClientKnown) → known.bytes ≡ [] → served_frames known ≡ []
+none_served known silent =
+    ap (λ bytes. frames_in (in_front (unserved known.asking) bytes)) silent ∙ ap frames_in (take_none (0 - length (unserved known.asking))) ∙ frames-none [] (ap frame_in nothing)
+
+-- and nothing is counted into its window
+pub none_counted : (known : ClientKnown) → known.flow.bytes ≡ [] → lets_through known.flow.window ≡ true → lets_through (flow_now known).window ≡ true
+none_counted known silent opens =
+    ap (λ fs. lets_through (window_after known.flow.setup known.flow.window fs))
+    (ap (λ bytes. frames_in (in_front (unserved known.asking) bytes)) silent ∙ ap frames_in (take_none (0 - length (unserved known.asking))) ∙ frames-none [] (ap frame_in nothing)) ∙ opens
+
+-- a message whose header names the vBucket v stands behind its line, and no frame closed its stream that was served
+abbrev pub put_still : (known : ClientKnown) (m : DcpMsg) (v : ℕ) (g : ClientStream) (more : List Event) → vb_in_header (spelling (dcp_frame m 9 v)) ≡ v → known.streams v ≡ Some g → g.opaque ≡ 9 → is_closed_by (served_frames known) v ≡ false → lets_through (flow_now known).window ≡ true → IsPut 0 1 known m (frame_of v m ∷ more)
+put_still known m v g more header is nine still through = record {
   bytes = spelling (dcp_frame m 9 v);
   stands = (more, refl);
   stream = g;
   known_as = ap known.streams header ∙ is;
   spelled = ap (λ w. spelling (dcp_frame m 9 w)) (sym header) ∙ ap (λ o. spelling (dcp_frame m o (vb_in_header (spelling (dcp_frame m 9 v))))) (sym nine);
+  unclosed = ap (is_closed_by (served_frames known)) header ∙ still;
+  through = through;
 }
+
+-- nothing was served
+abbrev pub put_by : (known : ClientKnown) (m : DcpMsg) (v : ℕ) (g : ClientStream) (more : List Event) → vb_in_header (spelling (dcp_frame m 9 v)) ≡ v → known.streams v ≡ Some g → g.opaque ≡ 9 → known.bytes ≡ [] → lets_through (flow_now known).window ≡ true → IsPut 0 1 known m (frame_of v m ∷ more)
+put_by known m v g more header is nine silent through = put_still known m v g more header is nine (ap (λ fs. is_closed_by fs v) (none_served known silent)) through
 
 -- the bytes that stand behind a line
 pub bytes_are : (bytes : List ℕ) (more : List Event) (known : ClientKnown) (m : DcpMsg) (p : IsPut 0 1 known m (event.Reply 0 1 bytes ∷ more)) → p.bytes ≡ bytes

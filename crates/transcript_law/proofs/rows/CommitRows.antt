@@ -33,6 +33,7 @@ may how f d held = record {
   fulfils = λ number doc deleted e. let t = named_so how number doc deleted e in (waits how, waits_there how, t.0, t.1, t.2);
   backed = λ number doc deleted e p there.
       let found : Some (waits how) ≡ Some p = sym (waits_there how) ∙ there in let same : waits how ≡ p = cc in subst (λ (q : Pend). IsHeldByMost (f 0 0) (d 0 0).saved q.seq q.level) same held;
+  asked = λ level doc deleted e. cc;
   aborts = λ prepared e. cc;
 }
 
@@ -67,6 +68,7 @@ anew_lawful f d held = record {
   made = (may Majority f d held).made;
   fulfils = (may Majority f d held).fulfils;
   backed = (may Majority f d held).backed;
+  asked = λ level doc deleted e. cc;
   aborts = λ prepared e. cc;
 }
 
@@ -83,6 +85,7 @@ again_lawful f d held = record {
   made = (may Majority f d held).made;
   fulfils = (may Majority f d held).fulfils;
   backed = (may Majority f d held).backed;
+  asked = λ level doc deleted e. cc;
   aborts = λ prepared e. cc;
 }
 

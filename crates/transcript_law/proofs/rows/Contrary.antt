@@ -28,6 +28,7 @@ on_new = (
     made = second_next;
     fulfils = λ number doc deleted e. cc;
     backed = λ number doc deleted e. cc;
+    asked = λ level doc deleted e. cc;
     aborts = λ prepared e. cc;
   },
   tt,

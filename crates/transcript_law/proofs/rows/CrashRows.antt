@@ -3,14 +3,16 @@ use Rattle.transcript_law.specs.{Chronicles.{alone}, Majorities.{IsHeldByMost}}
 use Rattle.std.specs.Prelude.{◌≡◌, ◌<◌, ◌≤◌, ◌∷◌, ◌==◌, ◌&&◌, if◌then◌else◌}
 use Rattle.transcript_law.proofs.Words.{ℕ, Bool, true, false, List, [], refl, ap, sym, ◌∙◌, subst, arith, inl, ⊎_elim, and_parts, eqb-true, ne_eqb, Option, Some, None, Event, Answer, Role, front, uuid_of, Chronicle}
 use Rattle.transcript_law.proofs.Words.{empty_chronicle, Lawful, LawfulFrom, LawfulGroups, LawfulAnswer, nothing, image_of, one_change, next_change, log_of, made_log}
-use Rattle.transcript_law.proofs.{links.PumpAnswers.{two_numbers}, rows.NextRows.{nine_next, resolving_next, second_next}, rows.Transcripts.{first_change, shown, as_made, as_set}, rows.Groups.{AreParts, AreStored, all_stored, in_order, in_place, none_stored, whole, whole_stored}, rows.StoredRows.{made_stored}, rows.Sets.{first_told, heard_then, next_told, nine_then, seven_then}, rows.Silent.{AreHeard, Silent, all_silent, shut_heard, silent_heard, silent_start}}
+use Rattle.transcript_law.proofs.{links.PumpAnswers.{two_numbers}, rows.NextRows.{nine_next, resolving_next, second_next}, rows.Transcripts.{first_change, shown, as_made, as_set}, rows.Groups.{AreParts, AreStored, all_stored, in_order, in_place, none_stored, whole, whole_stored}, rows.StoredRows.{made_stored}, rows.DurableSent.{durably_sent, gone_by, prepare_sent, waits_by}, rows.Sets.{first_told, heard_then, next_told, nine_then, seven_past, seven_then}, rows.Silent.{AreHeard, Silent, all_silent, shut_heard, silent_heard, silent_start, twice_silent}}
 use Rattle.transcript_law.specs.Firings.{FiresAsSaid}
 use Rattle.transcript_law.proofs.rows.Sets.{blank_after}
+use Rattle.mcbp_frame.specs.Spelling.{spelling}
 use Rattle.transcript_law.specs.Clients.{AllClosed}
+use Rattle.transcript_law.specs.ClientStreams.{ClientKnown, blank_client, with_sent_bytes}
 use Rattle.transcript_law.specs.{Chronicles.{conns_lines, Idle, Taken, Written, no_arm, known_fail, known_stop}, Prefixes.{known_after}, LineAnswers.{MakesBranch, FailsIn, StopsIn}}
 use Rattle.transcript_law.specs.Crashes.{Said, LawfulAfter, ok, numbered, groups_from_number, one_made, one_made_groups, took, stopped_behind, failed_behind, branch_line, restarted, dead_line, none_shown, one_shown, stat_of}
 use Rattle.transcript_law.specs.Crashes.{save_under, save_under_groups, dead_under, dead_under_groups, save_and_dead, save_and_dead_groups, crash_under, crash_under_groups, crash_behind, crash_behind_groups, to_save, saved_groups, to_done, counted_groups}
-use Rattle.transcript_law.specs.{Crashes.{commit_of, prepared, seal_restarted, seal_restarted_groups}, Transcripts.{first_doc}}
+use Rattle.transcript_law.specs.{Crashes.{commit_of, durable_nine, prepared, seal_restarted, seal_restarted_groups}, Transcripts.{first_doc}}
 use Rattle.std.specs.FinMap.{get}
 use Rattle.vb_types.proofs.Laws.{get-insert_same}
 use Rattle.vb_types.specs.declared.change.Act.TheVariants.{Commit}
@@ -47,6 +49,10 @@ lawful_from_made more told o l =
     let both = and_parts (in_place read (numbered 5 more) (groups_from_number 5 told)) (all_silent (numbered 5 more)) o in
     let placed = and_parts (in_order read (numbered 5 more) (groups_from_number 5 told)) (none_stored (groups_from_number 5 told)) both.0 in
     lawful_from_heard more told placed.0 l (λ s e. silent_heard read (numbered 5 more) (groups_from_number 5 told) s both.1) (all_stored (groups_from_number 5 told) placed.1)
+
+-- one that ends with its node closes whatever it asked
+pub cut_off : {P : Type 0} → false ≡ true → P
+cut_off e = cc
 
 -- the one connection of a client is told closed
 pub one_closed : AllClosed (conns_lines read.conn_at (event.Closed 0 1 ∷ [])) 0
@@ -103,7 +109,7 @@ fails_ok k lines low high l = let z = above_zero k low in let e : 4 < k = rw z a
 
 pub stops : (k : ℕ) → 0 < k → k ≤ 4 → LawfulAfter (save_under (verb.AtNode 0 (node_verb.Stop k Old))) (save_under_groups (stopped_behind []))
 stops k low high = let z = above_zero k low in
-    lawful_from_made (save_under (verb.AtNode 0 (node_verb.Stop k Old))) (save_under_groups (stopped_behind [])) refl (taken _, ((tt, tt, refl), ((((rw z low, one_closed), (refl, tt)), ((refl, rw z (low, high)), (_, refl)), refl), tt)))
+    lawful_from_made (save_under (verb.AtNode 0 (node_verb.Stop k Old))) (save_under_groups (stopped_behind [])) refl (taken _, ((tt, tt, refl), ((((rw z low, one_closed), ((refl, cut_off), tt)), ((refl, rw z (low, high)), (_, refl)), refl), tt)))
 
 pub stops_ok : (k : ℕ) (lines : List Event) → 0 < k → k ≤ 4 → LawfulAfter (save_under (verb.AtNode 0 (node_verb.Stop k Old))) (save_under_groups (ok lines)) → ⊥
 stops_ok k lines low high l = let z = above_zero k low in let e : 4 < k = rw z at l.1.1.1.1.1.1.0.1.0.1 in omega (arith, high, e)
@@ -149,14 +155,14 @@ twice l = l.1.1.1.1.1.1.0.0.1.0
 
 pub stopped_once : LawfulAfter (dead_under (verb.AtNode 0 (node_verb.Stop 1 Old)) (verb.AtNode 0 (node_verb.Start (7 ∷ [])))) (dead_under_groups (stopped_behind (dead_line ∷ [])) (restarted 0))
 stopped_once = lawful_from_made (dead_under (verb.AtNode 0 (node_verb.Stop 1 Old)) (verb.AtNode 0 (node_verb.Start (7 ∷ [])))) (dead_under_groups (stopped_behind (dead_line ∷ [])) (restarted 0)) refl
-    ((tt, tt, refl), (((record { another = λ e. cc; anew = λ e. cc }, ((omega arith, one_closed), (refl, tt))), (refl, (omega arith, omega arith)), refl), (((record { new = (λ e. omega arith, tt); newest = refl; last = refl; leaves = refl }, tt), ((λ v e. first v (branch_line 0 0 ∷ []) (λ f. no_role Role.Active (rw f at e)) (inl (refl, refl))), tt), refl), tt)))
+    ((tt, tt, refl), (((record { another = λ e. cc; anew = λ e. cc }, ((omega arith, one_closed), ((refl, cut_off), tt))), (refl, (omega arith, omega arith)), refl), (((record { new = (λ e. omega arith, tt); newest = refl; last = refl; leaves = refl }, tt), ((λ v e. first v (branch_line 0 0 ∷ []) (λ f. no_role Role.Active (rw f at e)) (inl (refl, refl))), tt), refl), tt)))
 
 pub stopped_twice : LawfulAfter (dead_under (verb.AtNode 0 (node_verb.Stop 1 Old)) (verb.AtNode 0 (node_verb.Start (7 ∷ [])))) (dead_under_groups (stopped_behind (dead_line ∷ [])) (stopped_behind (branch_line 0 0 ∷ []))) → ⊥
 stopped_twice l = l.1.1.1.1.1.1.0.0.1.0.0
 
 pub gone : LawfulAfter (crash_under (verb.AtNode 0 (node_verb.Fail 1))) (crash_under_groups (restarted 0))
 gone = lawful_from_made (crash_under (verb.AtNode 0 (node_verb.Fail 1))) (crash_under_groups (restarted 0)) refl
-    ((tt, tt, refl), (((refl, tt), one_closed, refl), (((record { new = (λ e. omega arith, tt); newest = refl; last = refl; leaves = refl }, tt), ((λ v e. first v (branch_line 0 0 ∷ []) (λ f. no_role Role.Active (rw f at e)) (inl (refl, refl))), tt), refl), tt)))
+    ((tt, tt, refl), ((((refl, cut_off), tt), one_closed, refl), (((record { new = (λ e. omega arith, tt); newest = refl; last = refl; leaves = refl }, tt), ((λ v e. first v (branch_line 0 0 ∷ []) (λ f. no_role Role.Active (rw f at e)) (inl (refl, refl))), tt), refl), tt)))
 
 pub survives : LawfulAfter (crash_under (verb.AtNode 0 (node_verb.Fail 1))) (crash_under_groups (failed_behind [])) → ⊥
 survives l = l.1.1.1.1.1.1.0.0.0
@@ -168,42 +174,42 @@ stop_survives l = l.1.1.1.1.1.1.0.0.0.0
 
 pub old : LawfulAfter (stopped_in 3 Old (verb.AtVb 0 0 vb_verb.Show)) (stopped_in_groups 0 (none_shown Role.Active 7))
 old = lawful_from_made (stopped_in 3 Old (verb.AtVb 0 0 vb_verb.Show)) (stopped_in_groups 0 (none_shown Role.Active 7)) refl
-    (taken _, ((tt, tt, refl), ((((omega arith, one_closed), (refl, tt)), ((refl, (omega arith, omega arith)), (_, refl)), refl), (((record { new = (λ e. omega arith, tt); newest = refl; last = refl; leaves = refl }, tt), ((λ v e. first v (branch_line 0 0 ∷ []) (λ f. no_role Role.Active (rw f at e)) (inl (refl, refl))), tt), refl), (((shown _ _ _ refl refl refl refl nothing refl refl as_made (λ _. refl) (λ _. refl), tt), tt, refl), tt)))))
+    (taken _, ((tt, tt, refl), ((((omega arith, one_closed), ((refl, cut_off), tt)), ((refl, (omega arith, omega arith)), (_, refl)), refl), (((record { new = (λ e. omega arith, tt); newest = refl; last = refl; leaves = refl }, tt), ((λ v e. first v (branch_line 0 0 ∷ []) (λ f. no_role Role.Active (rw f at e)) (inl (refl, refl))), tt), refl), (((shown _ _ _ refl refl refl refl nothing refl refl as_made (λ _. refl) (λ _. refl), tt), tt, refl), tt)))))
 
 pub old_shown : (at : ℕ) → LawfulAfter (stopped_in 3 Old (verb.AtVb 0 0 vb_verb.Show)) (stopped_in_groups at (one_shown Role.Active 7)) → ⊥
 old_shown at l = two_numbers 0 1 (omega arith) (sym l.1.1.1.1.1.1.1.1.0.0.0.at)
 
 pub new : LawfulAfter (stopped_in 3 New (verb.AtVb 0 0 vb_verb.Show)) (stopped_in_groups 1 (one_shown Role.Active 7))
 new = lawful_from_made (stopped_in 3 New (verb.AtVb 0 0 vb_verb.Show)) (stopped_in_groups 1 (one_shown Role.Active 7)) refl
-    (taken _, ((tt, tt, refl), ((((omega arith, one_closed), (refl, tt)), ((refl, (omega arith, omega arith)), (_, refl)), refl), (((record { new = (λ e. omega arith, tt); newest = refl; last = refl; leaves = refl }, tt), ((λ v e. first v (branch_line 0 1 ∷ []) (λ f. no_role Role.Active (rw f at e)) (inl (refl, refl))), tt), refl), (((shown _ _ _ refl refl refl refl (image_of (one_change ∷ [])) refl refl as_set (λ _. refl) (λ _. refl), (tt, tt)), tt, refl), tt)))))
+    (taken _, ((tt, tt, refl), ((((omega arith, one_closed), ((refl, cut_off), tt)), ((refl, (omega arith, omega arith)), (_, refl)), refl), (((record { new = (λ e. omega arith, tt); newest = refl; last = refl; leaves = refl }, tt), ((λ v e. first v (branch_line 0 1 ∷ []) (λ f. no_role Role.Active (rw f at e)) (inl (refl, refl))), tt), refl), (((shown _ _ _ refl refl refl refl (image_of (one_change ∷ [])) refl refl as_set (λ _. refl) (λ _. refl), (tt, tt)), tt, refl), tt)))))
 
 pub new_lost : (at : ℕ) → LawfulAfter (stopped_in 3 New (verb.AtVb 0 0 vb_verb.Show)) (stopped_in_groups at (none_shown Role.Active 7)) → ⊥
 new_lost at l = two_numbers 0 1 (omega arith) l.1.1.1.1.1.1.1.1.0.0.0.at
 
 pub old_stat : LawfulAfter (stopped_in 3 Old (verb.AtVb 0 0 vb_verb.Stat)) (stopped_in_groups 0 (stat_of 0 0))
 old_stat = lawful_from_made (stopped_in 3 Old (verb.AtVb 0 0 vb_verb.Stat)) (stopped_in_groups 0 (stat_of 0 0)) refl
-    (taken _, ((tt, tt, refl), ((((omega arith, one_closed), (refl, tt)), ((refl, (omega arith, omega arith)), (_, refl)), refl), (((record { new = (λ e. omega arith, tt); newest = refl; last = refl; leaves = refl }, tt), ((λ v e. first v (branch_line 0 0 ∷ []) (λ f. no_role Role.Active (rw f at e)) (inl (refl, refl))), tt), refl), (((record { saved_as_known = refl; high_held = refl; flusher = omega arith; filled = omega arith }, tt), tt, refl), tt)))))
+    (taken _, ((tt, tt, refl), ((((omega arith, one_closed), ((refl, cut_off), tt)), ((refl, (omega arith, omega arith)), (_, refl)), refl), (((record { new = (λ e. omega arith, tt); newest = refl; last = refl; leaves = refl }, tt), ((λ v e. first v (branch_line 0 0 ∷ []) (λ f. no_role Role.Active (rw f at e)) (inl (refl, refl))), tt), refl), (((record { saved_as_known = refl; high_held = refl; flusher = omega arith; filled = omega arith }, tt), tt, refl), tt)))))
 
 pub old_counted : (at high : ℕ) → LawfulAfter (stopped_in 3 Old (verb.AtVb 0 0 vb_verb.Stat)) (stopped_in_groups at (stat_of 1 high)) → ⊥
 old_counted at high l = two_numbers 0 1 (omega arith) (sym l.1.1.1.1.1.1.1.1.0.0.0.saved_as_known)
 
 pub new_stat : LawfulAfter (stopped_in 3 New (verb.AtVb 0 0 vb_verb.Stat)) (stopped_in_groups 1 (stat_of 1 1))
 new_stat = lawful_from_made (stopped_in 3 New (verb.AtVb 0 0 vb_verb.Stat)) (stopped_in_groups 1 (stat_of 1 1)) refl
-    (taken _, ((tt, tt, refl), ((((omega arith, one_closed), (refl, tt)), ((refl, (omega arith, omega arith)), (_, refl)), refl), (((record { new = (λ e. omega arith, tt); newest = refl; last = refl; leaves = refl }, tt), ((λ v e. first v (branch_line 0 1 ∷ []) (λ f. no_role Role.Active (rw f at e)) (inl (refl, refl))), tt), refl), (((record { saved_as_known = refl; high_held = refl; flusher = omega arith; filled = omega arith }, tt), tt, refl), tt)))))
+    (taken _, ((tt, tt, refl), ((((omega arith, one_closed), ((refl, cut_off), tt)), ((refl, (omega arith, omega arith)), (_, refl)), refl), (((record { new = (λ e. omega arith, tt); newest = refl; last = refl; leaves = refl }, tt), ((λ v e. first v (branch_line 0 1 ∷ []) (λ f. no_role Role.Active (rw f at e)) (inl (refl, refl))), tt), refl), (((record { saved_as_known = refl; high_held = refl; flusher = omega arith; filled = omega arith }, tt), tt, refl), tt)))))
 
 pub new_uncounted : (at high : ℕ) → LawfulAfter (stopped_in 3 New (verb.AtVb 0 0 vb_verb.Stat)) (stopped_in_groups at (stat_of 0 high)) → ⊥
 new_uncounted at high l = two_numbers 0 1 (omega arith) l.1.1.1.1.1.1.1.1.0.0.0.saved_as_known
 
 pub early : LawfulAfter (stopped_in 2 New (verb.AtVb 0 0 vb_verb.Show)) (stopped_in_groups 0 (none_shown Role.Active 7))
 early = lawful_from_made (stopped_in 2 New (verb.AtVb 0 0 vb_verb.Show)) (stopped_in_groups 0 (none_shown Role.Active 7)) refl
-    (taken _, ((tt, tt, refl), ((((omega arith, one_closed), (refl, tt)), ((refl, (omega arith, omega arith)), (_, refl)), refl), (((record { new = (λ e. omega arith, tt); newest = refl; last = refl; leaves = refl }, tt), ((λ v e. first v (branch_line 0 0 ∷ []) (λ f. no_role Role.Active (rw f at e)) (inl (refl, refl))), tt), refl), (((shown _ _ _ refl refl refl refl nothing refl refl as_made (λ _. refl) (λ _. refl), tt), tt, refl), tt)))))
+    (taken _, ((tt, tt, refl), ((((omega arith, one_closed), ((refl, cut_off), tt)), ((refl, (omega arith, omega arith)), (_, refl)), refl), (((record { new = (λ e. omega arith, tt); newest = refl; last = refl; leaves = refl }, tt), ((λ v e. first v (branch_line 0 0 ∷ []) (λ f. no_role Role.Active (rw f at e)) (inl (refl, refl))), tt), refl), (((shown _ _ _ refl refl refl refl nothing refl refl as_made (λ _. refl) (λ _. refl), tt), tt, refl), tt)))))
 
 pub early_shown : (at : ℕ) → LawfulAfter (stopped_in 2 New (verb.AtVb 0 0 vb_verb.Show)) (stopped_in_groups at (one_shown Role.Active 7)) → ⊥
 early_shown at l = two_numbers 0 1 (omega arith) (sym l.1.1.1.1.1.1.1.1.0.0.0.at)
 
 pub filled : LawfulAfter (stopped_in 4 (Fill 1) (verb.AtVb 0 0 vb_verb.Show)) (stopped_in_groups 1 (one_shown Role.Active 7))
 filled = lawful_from_made (stopped_in 4 (Fill 1) (verb.AtVb 0 0 vb_verb.Show)) (stopped_in_groups 1 (one_shown Role.Active 7)) refl
-    (taken _, ((tt, tt, refl), ((((omega arith, one_closed), (refl, tt)), ((refl, (omega arith, omega arith)), (_, refl)), refl), (((record { new = (λ e. omega arith, tt); newest = refl; last = refl; leaves = refl }, tt), ((λ v e. first v (branch_line 0 1 ∷ []) (λ f. no_role Role.Active (rw f at e)) (inl (refl, refl))), tt), refl), (((shown _ _ _ refl refl refl refl (image_of (one_change ∷ [])) refl refl as_set (λ _. refl) (λ _. refl), (tt, tt)), tt, refl), tt)))))
+    (taken _, ((tt, tt, refl), ((((omega arith, one_closed), ((refl, cut_off), tt)), ((refl, (omega arith, omega arith)), (_, refl)), refl), (((record { new = (λ e. omega arith, tt); newest = refl; last = refl; leaves = refl }, tt), ((λ v e. first v (branch_line 0 1 ∷ []) (λ f. no_role Role.Active (rw f at e)) (inl (refl, refl))), tt), refl), (((shown _ _ _ refl refl refl refl (image_of (one_change ∷ [])) refl refl as_set (λ _. refl) (λ _. refl), (tt, tt)), tt, refl), tt)))))
 
 pub filled_otherwise : (at : ℕ) → LawfulAfter (stopped_in 4 (Fill 2) (verb.AtVb 0 0 vb_verb.Show)) (stopped_in_groups at (one_shown Role.Active 7)) → ⊥
 filled_otherwise at l = two_numbers 0 1 (omega arith) (sym l.1.1.1.1.1.1.1.1.0.0.0.at)
@@ -212,7 +218,7 @@ filled_otherwise at l = two_numbers 0 1 (omega arith) (sym l.1.1.1.1.1.1.1.1.0.0
 
 pub unwritten : LawfulAfter (crash_behind [] New (7 ∷ []) (verb.AtVb 0 0 vb_verb.Show)) (crash_behind_groups [] (restarted 0) (none_shown Role.Active 7))
 unwritten = lawful_from_made (crash_behind [] New (7 ∷ []) (verb.AtVb 0 0 vb_verb.Show)) (crash_behind_groups [] (restarted 0) (none_shown Role.Active 7)) refl
-    (((refl, tt), one_closed, refl), (((record { new = (λ e. omega arith, tt); newest = refl; last = refl; leaves = refl }, tt), ((λ v e. first v (branch_line 0 0 ∷ []) (λ f. no_role Role.Active (rw f at e)) (inl (refl, refl))), tt), refl), (((shown _ _ _ refl refl refl refl nothing refl refl as_made (λ _. refl) (λ _. refl), tt), tt, refl), tt)))
+    ((((refl, cut_off), tt), one_closed, refl), (((record { new = (λ e. omega arith, tt); newest = refl; last = refl; leaves = refl }, tt), ((λ v e. first v (branch_line 0 0 ∷ []) (λ f. no_role Role.Active (rw f at e)) (inl (refl, refl))), tt), refl), (((shown _ _ _ refl refl refl refl nothing refl refl as_made (λ _. refl) (λ _. refl), tt), tt, refl), tt)))
 
 pub unwritten_shown : (at : ℕ) → LawfulAfter (crash_behind [] New (7 ∷ []) (verb.AtVb 0 0 vb_verb.Show)) (crash_behind_groups [] (restarted at) (one_shown Role.Active 7)) → ⊥
 unwritten_shown at l = two_numbers 0 1 (omega arith) (sym l.1.1.1.1.1.1.0.0.0.at)
@@ -222,21 +228,21 @@ taken_shown at l = two_numbers 0 1 (omega arith) (sym l.1.1.1.1.1.1.1.0.0.0.at)
 
 pub written : LawfulAfter (crash_behind to_save Old (7 ∷ []) (verb.AtVb 0 0 vb_verb.Show)) (crash_behind_groups saved_groups (restarted 1) (one_shown Role.Active 7))
 written = lawful_from_made (crash_behind to_save Old (7 ∷ []) (verb.AtVb 0 0 vb_verb.Show)) (crash_behind_groups saved_groups (restarted 1) (one_shown Role.Active 7)) refl
-    (taken _, ((tt, ((refl, tt), (_, refl)), refl), (((refl, tt), one_closed, refl), (((record { new = (λ e. omega arith, tt); newest = refl; last = refl; leaves = refl }, tt), ((λ v e. first v (branch_line 0 1 ∷ []) (λ f. no_role Role.Active (rw f at e)) (inl (refl, refl))), tt), refl), (((shown _ _ _ refl refl refl refl (image_of (one_change ∷ [])) refl refl as_set (λ _. refl) (λ _. refl), (tt, tt)), tt, refl), tt)))))
+    (taken _, ((tt, ((refl, tt), (_, refl)), refl), ((((refl, cut_off), tt), one_closed, refl), (((record { new = (λ e. omega arith, tt); newest = refl; last = refl; leaves = refl }, tt), ((λ v e. first v (branch_line 0 1 ∷ []) (λ f. no_role Role.Active (rw f at e)) (inl (refl, refl))), tt), refl), (((shown _ _ _ refl refl refl refl (image_of (one_change ∷ [])) refl refl as_set (λ _. refl) (λ _. refl), (tt, tt)), tt, refl), tt)))))
 
 pub written_lost : (at : ℕ) → LawfulAfter (crash_behind to_save Old (7 ∷ []) (verb.AtVb 0 0 vb_verb.Show)) (crash_behind_groups saved_groups (restarted at) (none_shown Role.Active 7)) → ⊥
 written_lost at l = two_numbers 0 1 (omega arith) l.1.1.1.1.1.1.1.1.0.0.0.at
 
 pub saved : LawfulAfter (crash_behind to_done Old (7 ∷ []) (verb.AtVb 0 0 vb_verb.Stat)) (crash_behind_groups counted_groups (restarted 1) (stat_of 1 1))
 saved = lawful_from_made (crash_behind to_done Old (7 ∷ []) (verb.AtVb 0 0 vb_verb.Stat)) (crash_behind_groups counted_groups (restarted 1) (stat_of 1 1)) refl
-    (taken _, ((tt, ((refl, tt), (_, refl)), refl), ((tt, (1, refl, refl), refl), (((refl, tt), one_closed, refl), (((record { new = (λ e. omega arith, tt); newest = refl; last = refl; leaves = refl }, tt), ((λ v e. first v (branch_line 0 1 ∷ []) (λ f. no_role Role.Active (rw f at e)) (inl (refl, refl))), tt), refl), (((record { saved_as_known = refl; high_held = refl; flusher = omega arith; filled = omega arith }, tt), tt, refl), tt))))))
+    (taken _, ((tt, ((refl, tt), (_, refl)), refl), ((tt, (1, refl, refl), refl), ((((refl, cut_off), tt), one_closed, refl), (((record { new = (λ e. omega arith, tt); newest = refl; last = refl; leaves = refl }, tt), ((λ v e. first v (branch_line 0 1 ∷ []) (λ f. no_role Role.Active (rw f at e)) (inl (refl, refl))), tt), refl), (((record { saved_as_known = refl; high_held = refl; flusher = omega arith; filled = omega arith }, tt), tt, refl), tt))))))
 
 pub saved_forgotten : (at : ℕ) → LawfulAfter (crash_behind to_done Old (7 ∷ []) (verb.AtVb 0 0 vb_verb.Stat)) (crash_behind_groups counted_groups (restarted at) (stat_of 0 1)) → ⊥
 saved_forgotten at l = two_numbers 0 1 (omega arith) l.1.1.1.1.1.1.1.1.1.0.0.0.saved_as_known
 
 pub undone : LawfulAfter (crash_behind to_save Old (7 ∷ []) (verb.AtVb 0 0 vb_verb.Stat)) (crash_behind_groups saved_groups (restarted 1) (stat_of 1 1))
 undone = lawful_from_made (crash_behind to_save Old (7 ∷ []) (verb.AtVb 0 0 vb_verb.Stat)) (crash_behind_groups saved_groups (restarted 1) (stat_of 1 1)) refl
-    (taken _, ((tt, ((refl, tt), (_, refl)), refl), (((refl, tt), one_closed, refl), (((record { new = (λ e. omega arith, tt); newest = refl; last = refl; leaves = refl }, tt), ((λ v e. first v (branch_line 0 1 ∷ []) (λ f. no_role Role.Active (rw f at e)) (inl (refl, refl))), tt), refl), (((record { saved_as_known = refl; high_held = refl; flusher = omega arith; filled = omega arith }, tt), tt, refl), tt)))))
+    (taken _, ((tt, ((refl, tt), (_, refl)), refl), ((((refl, cut_off), tt), one_closed, refl), (((record { new = (λ e. omega arith, tt); newest = refl; last = refl; leaves = refl }, tt), ((λ v e. first v (branch_line 0 1 ∷ []) (λ f. no_role Role.Active (rw f at e)) (inl (refl, refl))), tt), refl), (((record { saved_as_known = refl; high_held = refl; flusher = omega arith; filled = omega arith }, tt), tt, refl), tt)))))
 
 pub undone_forgotten : (at : ℕ) → LawfulAfter (crash_behind to_save Old (7 ∷ []) (verb.AtVb 0 0 vb_verb.Stat)) (crash_behind_groups saved_groups (restarted at) (stat_of 0 1)) → ⊥
 undone_forgotten at l = two_numbers 0 1 (omega arith) l.1.1.1.1.1.1.1.1.0.0.0.saved_as_known
@@ -249,7 +255,7 @@ idle_not_written n e = cc
 
 pub taken_lost : LawfulAfter (crash_behind (verb.AtVb 0 0 vb_verb.Take ∷ []) New (7 ∷ []) (verb.AtVb 0 0 vb_verb.Save)) (crash_behind_groups (took ∷ []) (restarted 0) ([], answer.No cause.NothingTaken))
 taken_lost = lawful_from_made (crash_behind (verb.AtVb 0 0 vb_verb.Take ∷ []) New (7 ∷ []) (verb.AtVb 0 0 vb_verb.Save)) (crash_behind_groups (took ∷ []) (restarted 0) ([], answer.No cause.NothingTaken)) refl
-    (taken _, (((refl, tt), one_closed, refl), (((record { new = (λ e. omega arith, tt); newest = refl; last = refl; leaves = refl }, tt), ((λ v e. first v (branch_line 0 0 ∷ []) (λ f. no_role Role.Active (rw f at e)) (inl (refl, refl))), tt), refl), ((tt, (tt, tt), refl), tt))))
+    (taken _, ((((refl, cut_off), tt), one_closed, refl), (((record { new = (λ e. omega arith, tt); newest = refl; last = refl; leaves = refl }, tt), ((λ v e. first v (branch_line 0 0 ∷ []) (λ f. no_role Role.Active (rw f at e)) (inl (refl, refl))), tt), refl), ((tt, (tt, tt), refl), tt))))
 
 pub taken_survives : (at : ℕ) → LawfulAfter (crash_behind (verb.AtVb 0 0 vb_verb.Take ∷ []) New (7 ∷ []) (verb.AtVb 0 0 vb_verb.Save)) (crash_behind_groups (took ∷ []) (restarted at) (ok [])) → ⊥
 taken_survives at l = let (b, e) = l.1.1.1.1.1.1.1.0.1.1 in idle_taken b e
@@ -259,7 +265,7 @@ written_survives at n l = let (end, e, said) = l.1.1.1.1.1.1.1.1.0.1 in idle_not
 
 pub own_log : LawfulAfter (crash_behind to_save Old (7 ∷ []) (verb.AtVb 0 0 vb_verb.Log)) (crash_behind_groups saved_groups (restarted 1) (ok (event.Logged 0 0 made_log ∷ [])))
 own_log = lawful_from_made (crash_behind to_save Old (7 ∷ []) (verb.AtVb 0 0 vb_verb.Log)) (crash_behind_groups saved_groups (restarted 1) (ok (event.Logged 0 0 made_log ∷ []))) refl
-    (taken _, ((tt, ((refl, tt), (_, refl)), refl), (((refl, tt), one_closed, refl), (((record { new = (λ e. omega arith, tt); newest = refl; last = refl; leaves = refl }, tt), ((λ v e. first v (branch_line 0 1 ∷ []) (λ f. no_role Role.Active (rw f at e)) (inl (refl, refl))), tt), refl), (((refl, tt), tt, refl), tt)))))
+    (taken _, ((tt, ((refl, tt), (_, refl)), refl), ((((refl, cut_off), tt), one_closed, refl), (((record { new = (λ e. omega arith, tt); newest = refl; last = refl; leaves = refl }, tt), ((λ v e. first v (branch_line 0 1 ∷ []) (λ f. no_role Role.Active (rw f at e)) (inl (refl, refl))), tt), refl), (((refl, tt), tt, refl), tt)))))
 
 pub log_lost : (at : ℕ) → LawfulAfter (crash_behind to_save Old (7 ∷ []) (verb.AtVb 0 0 vb_verb.Log)) (crash_behind_groups saved_groups (restarted at) (ok (event.Logged 0 0 (log_of 5) ∷ []))) → ⊥
 log_lost at l = let e : ◌≡◌ {A = ℕ} 7 5 = ap (λ es. uuid_of (front es)) l.1.1.1.1.1.1.1.1.0.0.0 in omega arith
@@ -277,7 +283,7 @@ cut_log_back l = let e : ◌≡◌ {A = ℕ} 5 7 = ap (λ es. uuid_of (front es)
 
 pub branched : LawfulAfter (crash_behind [] Old (7 ∷ []) (verb.AtVb 0 0 vb_verb.Show)) (crash_behind_groups [] (restarted 0) (none_shown Role.Active 7))
 branched = lawful_from_made (crash_behind [] Old (7 ∷ []) (verb.AtVb 0 0 vb_verb.Show)) (crash_behind_groups [] (restarted 0) (none_shown Role.Active 7)) refl
-    (((refl, tt), one_closed, refl), (((record { new = (λ e. omega arith, tt); newest = refl; last = refl; leaves = refl }, tt), ((λ v e. first v (branch_line 0 0 ∷ []) (λ f. no_role Role.Active (rw f at e)) (inl (refl, refl))), tt), refl), (((shown _ _ _ refl refl refl refl nothing refl refl as_made (λ _. refl) (λ _. refl), tt), tt, refl), tt)))
+    ((((refl, cut_off), tt), one_closed, refl), (((record { new = (λ e. omega arith, tt); newest = refl; last = refl; leaves = refl }, tt), ((λ v e. first v (branch_line 0 0 ∷ []) (λ f. no_role Role.Active (rw f at e)) (inl (refl, refl))), tt), refl), (((shown _ _ _ refl refl refl refl nothing refl refl as_made (λ _. refl) (λ _. refl), tt), tt, refl), tt)))
 
 pub no_branch : (last : List Event) (said : Answer) → LawfulAfter (crash_behind [] Old (7 ∷ []) (verb.AtVb 0 0 vb_verb.Show)) (crash_behind_groups [] (ok []) (last, said)) → ⊥
 no_branch last said l = l.1.1.1.1.1.0.1.0 0 refl
@@ -287,7 +293,7 @@ other_branch last said l = ⊎_elim (λ e. two_numbers 0 1 (omega arith) (sym e.
 
 pub short : LawfulAfter (crash_behind [] Old [] (verb.AtVb 0 0 vb_verb.Show)) (crash_behind_groups [] ([], answer.No cause.IdsShort) ([], answer.No cause.NodeDown))
 short = lawful_from_made (crash_behind [] Old [] (verb.AtVb 0 0 vb_verb.Show)) (crash_behind_groups [] ([], answer.No cause.IdsShort) ([], answer.No cause.NodeDown)) refl
-    (((refl, tt), one_closed, refl), ((tt, (refl, omega arith, tt), refl), ((tt, (refl, inl refl), refl), tt)))
+    ((((refl, cut_off), tt), one_closed, refl), ((tt, (refl, omega arith, tt), refl), ((tt, (refl, inl refl), refl), tt)))
 
 pub short_active : (uuid : ℕ) → LawfulAfter (crash_behind [] Old [] (verb.AtVb 0 0 vb_verb.Show)) (crash_behind_groups [] ([], answer.No cause.IdsShort) (none_shown Role.Active uuid)) → ⊥
 short_active uuid l = not_active l.1.1.1.1.1.1.0.0.0.role
@@ -297,7 +303,7 @@ old_branch_shown at l = let e : ◌≡◌ {A = Option ℕ} (Some 7) (Some 5) = (
 
 pub dead : LawfulAfter (crash_behind (verb.AtVb 0 0 vb_verb.Dead ∷ []) Old [] (verb.AtVb 0 0 vb_verb.Show)) (crash_behind_groups (ok (dead_line ∷ []) ∷ []) (ok []) (none_shown Role.Dead 5))
 dead = lawful_from_made (crash_behind (verb.AtVb 0 0 vb_verb.Dead ∷ []) Old [] (verb.AtVb 0 0 vb_verb.Show)) (crash_behind_groups (ok (dead_line ∷ []) ∷ []) (ok []) (none_shown Role.Dead 5)) refl
-    (((record { another = λ e. cc; anew = λ e. cc }, tt), (refl, tt), refl), (((refl, tt), one_closed, refl), ((tt, ((λ v e. either_way v (λ t. absurd (not_active (rw t at e))) (λ f. absurd (no_role Role.Active (rw f at e)))), tt), refl), (((shown _ _ _ refl refl refl refl nothing refl refl as_made (λ _. refl) (λ e. cc), tt), tt, refl), tt))))
+    (((record { another = λ e. cc; anew = λ e. cc }, tt), (refl, tt), refl), ((((refl, cut_off), tt), one_closed, refl), ((tt, ((λ v e. either_way v (λ t. absurd (not_active (rw t at e))) (λ f. absurd (no_role Role.Active (rw f at e)))), tt), refl), (((shown _ _ _ refl refl refl refl nothing refl refl as_made (λ _. refl) (λ e. cc), tt), tt, refl), tt))))
 
 pub dead_replica : LawfulAfter (crash_behind (verb.AtVb 0 0 vb_verb.Dead ∷ []) Old [] (verb.AtVb 0 0 vb_verb.Show)) (crash_behind_groups (ok (dead_line ∷ []) ∷ []) (ok []) (none_shown Role.Replica 5)) → ⊥
 dead_replica l = let e : ◌≡◌ {A = Option Role} (Some Role.Dead) (Some Role.Replica) = l.1.1.1.1.1.1.1.0.0.0.role in cc
@@ -307,7 +313,7 @@ dead_active l = not_active l.1.1.1.1.1.1.1.0.0.0.role
 
 pub unnoted : LawfulAfter (dead_unwritten Old) (dead_unwritten_groups (restarted 0) (none_shown Role.Active 7))
 unnoted = lawful_from_made (dead_unwritten Old) (dead_unwritten_groups (restarted 0) (none_shown Role.Active 7)) refl
-    ((tt, tt, refl), (((record { another = λ e. cc; anew = λ e. cc }, (omega arith, tt)), (refl, (omega arith, omega arith)), refl), (((refl, tt), one_closed, refl), (((record { new = (λ e. omega arith, tt); newest = refl; last = refl; leaves = refl }, tt), ((λ v e. first v (branch_line 0 0 ∷ []) (λ f. no_role Role.Active (rw f at e)) (inl (refl, refl))), tt), refl), (((shown _ _ _ refl refl refl refl nothing refl refl as_made (λ _. refl) (λ _. refl), tt), tt, refl), tt)))))
+    ((tt, tt, refl), (((record { another = λ e. cc; anew = λ e. cc }, (omega arith, tt)), (refl, (omega arith, omega arith)), refl), ((((refl, cut_off), tt), one_closed, refl), (((record { new = (λ e. omega arith, tt); newest = refl; last = refl; leaves = refl }, tt), ((λ v e. first v (branch_line 0 0 ∷ []) (λ f. no_role Role.Active (rw f at e)) (inl (refl, refl))), tt), refl), (((shown _ _ _ refl refl refl refl nothing refl refl as_made (λ _. refl) (λ _. refl), tt), tt, refl), tt)))))
 
 pub unnoted_dead : (at : ℕ) → LawfulAfter (dead_unwritten Old) (dead_unwritten_groups (restarted at) (none_shown Role.Dead 7)) → ⊥
 unnoted_dead at l = let e : ◌≡◌ {A = Option Role} (Some Role.Active) (Some Role.Dead) = l.1.1.1.1.1.1.1.1.0.0.0.role in cc
@@ -317,14 +323,14 @@ unnoted_silent last said l = l.1.1.1.1.1.1.1.0.1.0 0 refl
 
 pub found : LawfulAfter (dead_unwritten New) (dead_unwritten_groups (ok []) (none_shown Role.Dead 5))
 found = lawful_from_made (dead_unwritten New) (dead_unwritten_groups (ok []) (none_shown Role.Dead 5)) refl
-    ((tt, tt, refl), (((record { another = λ e. cc; anew = λ e. cc }, (omega arith, tt)), (refl, (omega arith, omega arith)), refl), (((refl, tt), one_closed, refl), ((tt, ((λ v e. either_way v (λ t. absurd (not_active (rw t at e))) (λ f. absurd (no_role Role.Active (rw f at e)))), tt), refl), (((shown _ _ _ refl refl refl refl nothing refl refl as_made (λ _. refl) (λ e. cc), tt), tt, refl), tt)))))
+    ((tt, tt, refl), (((record { another = λ e. cc; anew = λ e. cc }, (omega arith, tt)), (refl, (omega arith, omega arith)), refl), ((((refl, cut_off), tt), one_closed, refl), ((tt, ((λ v e. either_way v (λ t. absurd (not_active (rw t at e))) (λ f. absurd (no_role Role.Active (rw f at e)))), tt), refl), (((shown _ _ _ refl refl refl refl nothing refl refl as_made (λ _. refl) (λ e. cc), tt), tt, refl), tt)))))
 
 pub found_active : LawfulAfter (dead_unwritten New) (dead_unwritten_groups (ok []) (none_shown Role.Active 5)) → ⊥
 found_active l = not_active l.1.1.1.1.1.1.1.1.0.0.0.role
 
 pub on_new : LawfulAfter set_restarted (set_restarted_groups 7)
 on_new = lawful_from_heard set_restarted (set_restarted_groups 7) refl
-    (taken _, ((tt, ((refl, tt), (_, refl)), refl), (((refl, tt), one_closed, refl), (((record { new = (λ e. omega arith, tt); newest = refl; last = refl; leaves = refl }, tt), ((λ v e. first v (branch_line 0 1 ∷ []) (λ f. no_role Role.Active (rw f at e)) (inl (refl, refl))), tt), refl), ((tt, refl, refl), (((search (arith, second_next), ((refl, λ z. next_told _ _ _ refl refl refl), tt)), refl, refl), tt))))))
+    (taken _, ((tt, ((refl, tt), (_, refl)), refl), ((((refl, cut_off), tt), one_closed, refl), (((record { new = (λ e. omega arith, tt); newest = refl; last = refl; leaves = refl }, tt), ((λ v e. first v (branch_line 0 1 ∷ []) (λ f. no_role Role.Active (rw f at e)) (inl (refl, refl))), tt), refl), ((tt, refl, refl), (((search (arith, second_next), ((refl, λ z. next_told _ _ _ refl refl refl), tt)), refl, refl), tt))))))
     (λ s e. heard_then _ _ _ _ _ refl s (λ s. heard_then _ _ _ _ _ refl s (λ s. heard_then _ _ _ _ _ refl s (λ s. heard_then _ _ _ _ _ refl s (λ s. heard_then _ _ _ _ _ refl s (λ s. nine_then _ 10 10 7 _ next_change _ _ refl refl s (λ s e. silent_heard _ _ _ s refl))))))) (tt, (tt, (tt, (tt, (tt, (made_stored 7 2 next_change refl, tt))))))
 
 pub on_old : LawfulAfter set_restarted (set_restarted_groups 5) → ⊥
@@ -354,8 +360,12 @@ of_waiting number doc deleted e = (cc, cc, cc)
 abbrev commits_told : List Event
 commits_told = branch_line 0 2 ∷ event.Changed 0 0 7 (commit_of 2) ∷ []
 
+-- the client that asked for it
+abbrev waiting : ClientKnown
+waiting = with_sent_bytes (spelling durable_nine) (read.clients_at 0 1)
+
 pub commits : LawfulAfter seal_restarted (seal_restarted_groups commits_told)
-commits = lawful_from_made seal_restarted (seal_restarted_groups commits_told) refl (
+commits = lawful_from_heard seal_restarted (seal_restarted_groups commits_told) refl (
   (
     (
       record {
@@ -366,6 +376,7 @@ commits = lawful_from_made seal_restarted (seal_restarted_groups commits_told) r
         made = nine_next prepared.act 2 (omega arith) (omega arith) refl refl refl refl;
         fulfils = λ number doc deleted e. absurd (no_commit number doc deleted e);
         backed = λ number doc deleted e. absurd (no_commit number doc deleted e);
+        asked = prepare_sent _ (durably_sent (read.clients_at 0 1) seven_past);
         aborts = λ prepared e. cc;
       },
       tt,
@@ -378,7 +389,7 @@ commits = lawful_from_made seal_restarted (seal_restarted_groups commits_told) r
     (
       (tt, ((refl, tt), (_, refl)), refl),
       (
-        ((refl, tt), one_closed, refl),
+        (((refl, cut_off), tt), one_closed, refl),
         (
           (
             (
@@ -392,6 +403,7 @@ commits = lawful_from_made seal_restarted (seal_restarted_groups commits_told) r
                   made = resolving_next (one_change ∷ prepared ∷ []) (commit_of 2) waits refl waits_there refl refl refl refl;
                   fulfils = λ number doc deleted e. let t = of_waiting number doc deleted e in (waits, waits_there, t.0, t.1, t.2);
                   backed = λ number doc deleted e. waits_held _;
+                  asked = λ level doc deleted e. cc;
                   aborts = λ prepared e. cc;
                 },
                 tt,
@@ -405,7 +417,8 @@ commits = lawful_from_made seal_restarted (seal_restarted_groups commits_told) r
       ),
     ),
   ),
-)
+) (λ s e. let sent = durably_sent (read.clients_at 0 1) e in let gone = twice_silent read.clients_at 0 1 waiting blank_client s refl in
+    waits_by _ _ _ _ _ read.clients_at waiting s sent refl (waits_by _ _ _ _ _ read.clients_at waiting s sent refl (waits_by _ _ _ _ _ read.clients_at waiting s sent refl (gone_by _ _ _ _ _ gone refl)))) (all_stored (groups_from_number 5 (seal_restarted_groups commits_told)) refl)
 
 pub commits_on_old : LawfulAfter seal_restarted (seal_restarted_groups (branch_line 0 2 ∷ event.Changed 0 0 5 (commit_of 2) ∷ [])) → ⊥
 commits_on_old l = let e : ◌≡◌ {A = Option ℕ} (Some 7) (Some 5) = l.1.1.1.1.1.1.1.1.0.0.1.0.writer.on_branch in cc

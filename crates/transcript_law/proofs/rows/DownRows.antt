@@ -1,7 +1,7 @@
 -- lines for a node that is down, and over a link that ended with its node, judged by hand
 use Rattle.std.specs.Prelude.{◌≡◌, ◌<◌, ◌∷◌, ◌++◌}
 use Rattle.transcript_law.proofs.Words.{ℕ, true, false, List, [], refl, inl, ⊎_elim, arith, Event, Role, LawfulFrom, LawfulGroups, granted_inside}
-use Rattle.transcript_law.proofs.{rows.CrashRows.{first, lawful_from_made, no_role, one_closed}, rows.Followers.{begun, next_covers}, rows.Groups.{whole}, rows.Silent.{shut_heard}}
+use Rattle.transcript_law.proofs.{rows.CrashRows.{first, lawful_from_made, no_role, cut_off, one_closed}, rows.Followers.{begun, next_covers}, rows.Groups.{whole}, rows.Silent.{shut_heard}}
 use Rattle.transcript_law.specs.Crashes.{LawfulAfter, Said, ok, branch_line, restarted}
 use Rattle.transcript_law.specs.Downs.{refused, crash_and, crash_and_groups, start_and, start_and_groups, begun_and_crashed, crash_under_link, crash_under_link_groups}
 use Rattle.transcript_law.specs.Followers.{next_change, next_item_line}
@@ -17,7 +17,7 @@ use Rattle.vb_events.specs.declared.event.Cause.TheVariants as cause
 -- a node that is down
 
 pub shown_down : LawfulAfter (crash_and (verb.AtVb 0 0 vb_verb.Show)) (crash_and_groups (refused cause.NodeDown))
-shown_down = lawful_from_made (crash_and (verb.AtVb 0 0 vb_verb.Show)) (crash_and_groups (refused cause.NodeDown)) refl (((refl, tt), one_closed, refl), ((tt, (refl, inl refl), refl), tt))
+shown_down = lawful_from_made (crash_and (verb.AtVb 0 0 vb_verb.Show)) (crash_and_groups (refused cause.NodeDown)) refl ((((refl, cut_off), tt), one_closed, refl), ((tt, (refl, inl refl), refl), tt))
 
 pub shows : (lines : List Event) → LawfulAfter (crash_and (verb.AtVb 0 0 vb_verb.Show)) (crash_and_groups (ok lines)) → ⊥
 shows lines l = ⊎_elim (λ e. cc) (λ x. x) l.1.1.1.1.1.0.1.1
@@ -59,7 +59,7 @@ starts_twice at lines l = ⊎_elim (λ e. cc) (λ x. ⊎_elim (λ e. cc) (λ y. 
 
 pub crashes_again : LawfulAfter (start_and (verb.AtNode 0 (node_verb.Crash Old))) (start_and_groups (restarted 0) (ok []))
 crashes_again = lawful_from_made (start_and (verb.AtNode 0 (node_verb.Crash Old))) (start_and_groups (restarted 0) (ok [])) refl
-    (((refl, tt), one_closed, refl), (((record { new = (λ e. omega arith, tt); newest = refl; last = refl; leaves = refl }, tt), ((λ v e. first v (branch_line 0 0 ∷ []) (λ f. no_role Role.Active (rw f at e)) (inl (refl, refl))), tt), refl), ((tt, one_closed, refl), tt)))
+    ((((refl, cut_off), tt), one_closed, refl), (((record { new = (λ e. omega arith, tt); newest = refl; last = refl; leaves = refl }, tt), ((λ v e. first v (branch_line 0 0 ∷ []) (λ f. no_role Role.Active (rw f at e)) (inl (refl, refl))), tt), refl), ((tt, one_closed, refl), tt)))
 
 -- one that is down is not refused as one that runs, nor as one that is down; and where it stays down for want of ids it tells of nothing
 pub starts_down : LawfulAfter (crash_and (verb.AtNode 0 (node_verb.Start (7 ∷ [])))) (crash_and_groups (refused cause.NodeUp)) → ⊥

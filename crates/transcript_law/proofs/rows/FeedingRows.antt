@@ -5,8 +5,8 @@ use Rattle.vb_types.specs.declared.stream.StreamAsk.{StreamAsk}
 use Rattle.dcp_producer.specs.Producers.{PlainStream}
 use Rattle.vb_calls.specs.declared.stream.Stream.{Stream}
 use Rattle.transcript_law.specs.Feeding.{HasFed, IsLinked, IsOf, LinksAreFed, StreamsAreFed}
-use Rattle.transcript_law.specs.FeedingRows.{GoesOn, down, feeding, has_one, has_streams, streaming, streaming_both, two_nodes, up}
-use Rattle.node_world.specs.Worlds.{is_off, is_up}
+use Rattle.transcript_law.specs.FeedingRows.{GoesOn, down, feeding, has_one, has_streams, one_node, streaming, streaming_both, two_nodes, up}
+use Rattle.node_world.specs.Worlds.{is_up}
 use Rattle.vb_calls.specs.Following.{is_follower}
 use Rattle.vb_calls.specs.State.{new_vb}
 use Rattle.vb_events.specs.declared.event.StreamName.{StreamName}
@@ -32,12 +32,15 @@ module _ (ask : StreamAsk) where
         subst (λ (y : PlainLink). (vb : Plain) × (vb_in ((two_nodes up (has_one Role.Replica) (link ∷ [])).nodes (consumer_node y)) y.consumer.dialed.vb ≡ Some vb) × (is_follower vb.role ≡ true)) o.0 (new_vb 1 Role.Replica 5, refl, refl);
     runs = λ l x is.
         let o = only up (has_one Role.Replica) l x is in
-        subst (λ (y : PlainLink). (is_up ((two_nodes up (has_one Role.Replica) (link ∷ [])).nodes (consumer_node y)) ≡ true) × (is_off ((two_nodes up (has_one Role.Replica) (link ∷ [])).nodes (producer_node y)) ≡ false)) o.0 (refl, refl);
+        subst (λ (y : PlainLink). (is_up ((two_nodes up (has_one Role.Replica) (link ∷ [])).nodes (consumer_node y)) ≡ true) × (is_up ((two_nodes up (has_one Role.Replica) (link ∷ [])).nodes (producer_node y)) ≡ true)) o.0 (refl, refl);
     apart = λ l k x y is has e f. sym (only up (has_one Role.Replica) l x is).1 ∙ (only up (has_one Role.Replica) k y has).1;
   }
 
   pub producer_down : LinksAreFed (two_nodes down (has_one Role.Replica) (link ∷ [])) → ⊥
-  producer_down f = let e : true ≡ false = (f.runs 1 link refl).1 in cc
+  producer_down f = let e : false ≡ true = (f.runs 1 link refl).1 in cc
+
+  pub producer_unmade : LinksAreFed (one_node (has_one Role.Replica) (link ∷ [])) → ⊥
+  producer_unmade f = let e : false ≡ true = (f.runs 1 link refl).1 in cc
 
   pub consumer_down : LinksAreFed (two_nodes up down (link ∷ [])) → ⊥
   consumer_down f = let e : false ≡ true = (f.runs 1 link refl).0 in cc

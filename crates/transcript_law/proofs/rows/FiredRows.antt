@@ -1,7 +1,7 @@
 -- what a group tells of arms that fired and of rollbacks, judged by hand
 use Rattle.std.specs.Prelude.{◌≡◌, ◌<◌, ◌≤◌, ◌∷◌}
 use Rattle.transcript_law.proofs.Words.{ℕ, false, List, [], refl, ap, arith, inl, Option, Some, None, Answer, Event, Role}
-use Rattle.transcript_law.proofs.{rows.CrashRows.{fails, first, lawful_from_made, no_role, one_closed, passed, stops}, rows.Groups.{whole}, rows.Silent.{silent_heard}}
+use Rattle.transcript_law.proofs.{rows.CrashRows.{fails, first, lawful_from_made, no_role, cut_off, one_closed, passed, stops}, rows.Groups.{whole}, rows.Silent.{silent_heard}}
 use Rattle.transcript_law.specs.ClosedJournals.{back_line, dialed_for}
 use Rattle.transcript_law.specs.Crashes.{LawfulAfter, branch_line, failed_behind, numbered, ok, save_under, save_under_groups, stopped_behind, groups_from_number}
 use Rattle.transcript_law.specs.{FiredArms.{LawfulNext, both_sent_back, other_back, seal_under, seal_under_groups, start_short, start_under, start_under_groups, stopped_starting, two_armed, two_armed_groups}, Firings.{FiresAsSaid, writes_at}, Lawfulness.{LawfulRoll}, LineAnswers.{GoesBack, back_of}}
@@ -97,14 +97,14 @@ behind_one : 1 < 2
 behind_one = omega arith
 
 pub opened : LawfulAfter (start_under (verb.AtNode 0 (node_verb.Fail 1))) (start_under_groups (failed_behind []))
-opened = lawful_from_made (start_under (verb.AtNode 0 (node_verb.Fail 1))) (start_under_groups (failed_behind [])) refl (((refl, tt), one_closed, refl), ((tt, tt, refl), (((omega arith, tt), (omega arith, first_of_five), refl), tt)))
+opened = lawful_from_made (start_under (verb.AtNode 0 (node_verb.Fail 1))) (start_under_groups (failed_behind [])) refl ((((refl, cut_off), tt), one_closed, refl), ((tt, tt, refl), (((omega arith, tt), (omega arith, first_of_five), refl), tt)))
 
 pub opened_untold : LawfulAfter (start_under (verb.AtNode 0 (node_verb.Fail 1))) (start_under_groups ([], answer.No cause.Disk)) → ⊥
 opened_untold l = none_is_no_one _ _ l.1.1.1.1.1.1.0.2
 
 pub started : LawfulAfter (start_under (verb.AtNode 0 (node_verb.Fail 6))) (start_under_groups (ok (branch_line 0 0 ∷ [])))
 started = lawful_from_made (start_under (verb.AtNode 0 (node_verb.Fail 6))) (start_under_groups (ok (branch_line 0 0 ∷ []))) refl
-    (((refl, tt), one_closed, refl), ((tt, tt, refl), (((record { new = (λ e. omega arith, tt); newest = refl; last = refl; leaves = refl }, tt), ((λ v e. first v (branch_line 0 0 ∷ []) (λ f. no_role Role.Active (rw f at e)) (inl (refl, refl))), beyond_five), refl), tt)))
+    ((((refl, cut_off), tt), one_closed, refl), ((tt, tt, refl), (((record { new = (λ e. omega arith, tt); newest = refl; last = refl; leaves = refl }, tt), ((λ v e. first v (branch_line 0 0 ∷ []) (λ f. no_role Role.Active (rw f at e)) (inl (refl, refl))), beyond_five), refl), tt)))
 
 pub started_fired : LawfulAfter (start_under (verb.AtNode 0 (node_verb.Fail 6))) (start_under_groups (ok (branch_line 0 0 ∷ event.CallFailed 0 ∷ []))) → ⊥
 started_fired l = one_none _ _ l.1.1.1.1.1.1.0.2
@@ -113,7 +113,7 @@ pub opened_ok : (lines : List Event) → LawfulAfter (start_under (verb.AtNode 0
 opened_ok lines l = let e : ◌<◌ 5 1 = l.1.1.1.1.1.1.0.1.1 in omega arith
 
 pub last_failed : LawfulAfter (start_under (verb.AtNode 0 (node_verb.Fail 5))) (start_under_groups (failed_behind (branch_line 0 0 ∷ [])))
-last_failed = lawful_from_made (start_under (verb.AtNode 0 (node_verb.Fail 5))) (start_under_groups (failed_behind (branch_line 0 0 ∷ []))) refl (((refl, tt), one_closed, refl), ((tt, tt, refl), (((record { new = (λ e. omega arith, tt); newest = refl; last = refl; leaves = refl }, (omega arith, tt)), (omega arith, last_of_five), refl), tt)))
+last_failed = lawful_from_made (start_under (verb.AtNode 0 (node_verb.Fail 5))) (start_under_groups (failed_behind (branch_line 0 0 ∷ []))) refl ((((refl, cut_off), tt), one_closed, refl), ((tt, tt, refl), (((record { new = (λ e. omega arith, tt); newest = refl; last = refl; leaves = refl }, (omega arith, tt)), (omega arith, last_of_five), refl), tt)))
 
 pub last_ok : (lines : List Event) → LawfulAfter (start_under (verb.AtNode 0 (node_verb.Fail 5))) (start_under_groups (ok lines)) → ⊥
 last_ok lines l = let e : ◌<◌ 5 5 = l.1.1.1.1.1.1.0.1.1 in omega arith
@@ -122,7 +122,7 @@ pub started_far : (lines : List Event) → LawfulAfter (start_under (verb.AtNode
 started_far lines l = let e : ◌≤◌ 6 5 = l.1.1.1.1.1.1.0.1.1 in omega arith
 
 pub last_stopped : LawfulAfter (start_under (verb.AtNode 0 (node_verb.Stop 5 Old))) (start_under_groups (stopped_starting (branch_line 0 0 ∷ [])))
-last_stopped = lawful_from_made (start_under (verb.AtNode 0 (node_verb.Stop 5 Old))) (start_under_groups (stopped_starting (branch_line 0 0 ∷ []))) refl (((refl, tt), one_closed, refl), ((tt, tt, refl), (((record { new = (λ e. omega arith, tt); newest = refl; last = refl; leaves = refl }, ((omega arith, one_closed), tt)), (omega arith, last_of_five), refl), tt)))
+last_stopped = lawful_from_made (start_under (verb.AtNode 0 (node_verb.Stop 5 Old))) (start_under_groups (stopped_starting (branch_line 0 0 ∷ []))) refl ((((refl, cut_off), tt), one_closed, refl), ((tt, tt, refl), (((record { new = (λ e. omega arith, tt); newest = refl; last = refl; leaves = refl }, ((omega arith, one_closed), tt)), (omega arith, last_of_five), refl), tt)))
 
 pub last_stopped_ok : (lines : List Event) → LawfulAfter (start_under (verb.AtNode 0 (node_verb.Stop 5 Old))) (start_under_groups (ok lines)) → ⊥
 last_stopped_ok lines l = let e : ◌<◌ 5 5 = l.1.1.1.1.1.1.0.1.1 in omega arith
@@ -131,7 +131,7 @@ pub stopped_far : (lines : List Event) → LawfulAfter (start_under (verb.AtNode
 stopped_far lines l = let e : ◌≤◌ 6 5 = l.1.1.1.1.1.1.0.1.1 in omega arith
 
 pub short : LawfulAfter (start_short (verb.AtNode 0 (node_verb.Fail 2))) (start_under_groups ([], answer.No cause.IdsShort))
-short = lawful_from_made (start_short (verb.AtNode 0 (node_verb.Fail 2))) (start_under_groups ([], answer.No cause.IdsShort)) refl (((refl, tt), one_closed, refl), ((tt, tt, refl), ((tt, (refl, omega arith, behind_one), refl), tt)))
+short = lawful_from_made (start_short (verb.AtNode 0 (node_verb.Fail 2))) (start_under_groups ([], answer.No cause.IdsShort)) refl ((((refl, cut_off), tt), one_closed, refl), ((tt, tt, refl), ((tt, (refl, omega arith, behind_one), refl), tt)))
 
 pub short_unopened : LawfulAfter (start_short (verb.AtNode 0 (node_verb.Fail 1))) (start_under_groups ([], answer.No cause.IdsShort)) → ⊥
 short_unopened l = let e : ◌<◌ 1 1 = l.1.1.1.1.1.1.0.1.2 in omega arith

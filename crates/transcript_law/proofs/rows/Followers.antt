@@ -4,10 +4,10 @@ use Rattle.transcript_law.proofs.Words.{ℕ, is_some, List, [], length, map, tak
 use Rattle.transcript_law.proofs.Words.{nat_list_cmp_total, key_cmp, Change, Pend, Event, LogEntry, Continue, Roll, Rises, IsIn, Picture, image_of, is_older, last_seq, StandsAs, IsOf, front, uuid_of, Covers, Branch}
 use Rattle.transcript_law.proofs.Words.{Role, rises_in, document_line, prepare_line, image_lines, ItemLine, Begun, Granted, Dial, Chronicle, granted, is_dial_of, empty_chronicle, after_lines, item_of_change}
 use Rattle.transcript_law.proofs.Words.{IsMarker, IsNextItem, LawfulAsk, LawfulMark, LawfulItem, LawfulFrom, Lawful, frames_in_lines, first_doc, one_change, two_followed, next_change, log_of, ask_within}
-use Rattle.transcript_law.proofs.{Words.{granted_inside, after_both, made_from, marker_line, first_item_line, both_sent_lines}, rows.Transcripts.{no_entries, docs}, rows.AskedTests.{is_asked_so}, rows.Groups.{AreFired, AreTold, all_stored, both_left, is_answered_so, is_unclosed, none_stored}, rows.StoredRows.{made_stored}, rows.NextRows.{first_next, second_next}, rows.Sets.{first_told, heard_then, next_told, nine_sent, nine_then, seven_past, seven_then}, rows.Silent.{silent_heard, silent_start}, verbs.Tellings.{all_pass}}
+use Rattle.transcript_law.proofs.{Words.{granted_inside, after_both, made_from, marker_line, first_item_line, both_sent_lines}, rows.Transcripts.{no_entries, docs}, rows.AskedTests.{is_asked_so}, rows.Groups.{AreFired, AreTold, all_stored, both_left, is_answered_so, is_unclosed, none_stored}, rows.StoredRows.{made_stored}, rows.NextRows.{first_next, second_next}, rows.Sets.{first_told, heard_then, next_told, nine_sent, nine_then, seven_past, seven_then}, rows.Silent.{silent_heard, silent_start}}
 use Rattle.{std.specs.List.{list_any}, branch_model.proofs.Lists.{last_in}, std.proofs.Common.{◌⊎◌}, std.specs.Prelude.{Bool, true, false}, transcript_law.specs.Followers.{ask_above, ask_lines, other_ask_lines, late_ask_lines, granted_lines}}
 use Rattle.transcript_law.specs.Followers.{adopted_lines, stranger_lines, ended_lines, both_got, again_got, followed_groups, dialed_elsewhere, made_dead, replica_ask_lines, made_ask_lines, set_item_line, next_item_line}
-use Rattle.{transcript_law.specs.Asked.{is_of_down, is_of_pump, is_of_up}, transcript_law.specs.Tellings.{are_all}, transcript_law.specs.LineAnswers.{IsCarriedOut}, transcript_law.specs.Followers.{show_answer, replica_shown, two_docs, third_doc, ask_groups, answered_so, adopted_so, sent_so, got_so, shown_so}, transcript_law.specs.Chronicles.{at_line, is_rollback}, transcript_law.specs.Lawfulness.{IsFrontOf, IsStream}, transcript_law.specs.Prefixes.{known_after}}
+use Rattle.{transcript_law.specs.Tellings.{TellsOf, are_told, at_link, at_vb, is_of_end}, transcript_law.specs.LineAnswers.{IsCarriedOut}, transcript_law.specs.Followers.{show_answer, replica_shown, two_docs, third_doc, ask_groups, answered_so, adopted_so, sent_so, got_so, shown_so}, transcript_law.specs.Chronicles.{at_line, is_rollback}, transcript_law.specs.Lawfulness.{IsFrontOf, IsStream}, transcript_law.specs.Prefixes.{known_after}}
 use Rattle.{transcript_law.specs.Bound.{IsAnswered, IsBound, bound_by, if_down, if_over, is_told_down}, transcript_law.specs.LineAnswers.{LawfulAnswer}, script_text.specs.declared.verb.Verb.{Verb}, vb_types.specs.Histories.{Slot, touches}, vb_types.specs.Images.{settled}, vb_events.specs.declared.event.Answer.{Answer}, vb_events.specs.declared.event.Group.{Group}}
 use Rattle.{vb_events.specs.declared.event.ItemAct.TheVariants.{Set}, vb_events.specs.declared.event.StreamName.TheVariants.{Link}}
 use Rattle.std.specs.FinMap as finite
@@ -17,6 +17,7 @@ use Rattle.vb_events.specs.declared.event.Answer.TheVariants as answer
 use Rattle.vb_events.specs.declared.event.Why.TheVariants as why
 use Rattle.script_text.specs.declared.verb.Verb.TheVariants as verb
 use Rattle.script_text.specs.declared.verb.VbVerb.TheVariants as vb_verb
+use Rattle.script_text.specs.declared.verb.LinkVerb.{LinkVerb}
 use Rattle.script_text.specs.declared.verb.LinkVerb.TheVariants as link_verb
 use Rattle.transcript_law.specs.LinesTold.{LastLine}
 
@@ -128,10 +129,18 @@ unbound r line lines said e rule = subst (λ whys. IsBound whys (LawfulAnswer r 
 abbrev once_set : Chronicle
 once_set = known_after empty_chronicle (take 6 two_followed) (take 6 (ask_groups []))
 
+-- lines tell what they may, whatever ends with a node
+abbrev TellsIf : (Event → Bool) → List Event → Type 0
+TellsIf may lines = (ends : ℕ → Event → Bool) → are_told may ends lines ≡ true
+
 -- what each line asked for is told, and nothing else
 abbrev AskedSo : List Event → List Event → List Event → List Event → List Event → Type 0
-AskedSo asked adopted sent got shown = (are_all (is_of_up 1) asked ≡ true) × (are_all (is_of_down (Some own_dial) 1) adopted ≡ true) × (are_all (is_of_pump 1) sent ≡ true) × (are_all (is_of_down (Some own_dial) 1) got ≡ true)
-    × (is_asked_so empty_chronicle (verb.AtVb 1 0 vb_verb.Show) shown (show_answer shown) ≡ true)
+AskedSo asked adopted sent got shown = TellsIf (at_link (Some own_dial) 1 (link_verb.Up 1000)) asked × TellsIf (at_link (Some own_dial) 1 (link_verb.Down 1000)) adopted × TellsIf (at_link (Some own_dial) 1 (link_verb.Pump 9)) sent × TellsIf (at_link (Some own_dial) 1 (link_verb.Down 1000)) got
+    × TellsIf (at_vb empty_chronicle 1 0 vb_verb.Show) shown × (is_asked_so (verb.AtVb 1 0 vb_verb.Show) shown (show_answer shown) ≡ true)
+
+-- so it is over the link as it was dialed
+told_in : (r : Chronicle) (number : ℕ) (what : LinkVerb) (lines : List Event) → r.dial_of 1 ≡ Some own_dial → TellsIf (at_link (Some own_dial) 1 what) lines → TellsOf (at_line r number) (verb.AtLink 1 what) lines
+told_in r number what lines dialed t = subst (λ (o : Option Dial). are_told (at_link o 1 what) (is_of_end (at_line r number)) lines ≡ true) (sym dialed) (t (is_of_end (at_line r number)))
 
 -- a show is carried out or refused
 carried : (shown : List Event) → IsCarriedOut (show_answer shown)
@@ -157,7 +166,7 @@ from_asked : (asked adopted sent got shown : List Event) → frames_in_lines sen
     → AreFired before_asked (drop 8 two_followed) (drop 8 (followed_groups asked adopted sent got shown)) → (let told = followed_groups asked adopted sent got shown in
     (list_any is_taking adopted ≡ true → AllAcknowledged (after_lines (at_line (behind 9 told) 10) adopted) 1) × (list_any is_taking got ≡ true → AllAcknowledged (after_lines (at_line (behind 11 told) 12) got) 1)) → Lawful two_followed (followed_groups asked adopted sent got shown)
 from_asked asked adopted sent got shown few none shut straight sound so told_so l f acks = let told = followed_groups asked adopted sent got shown in both_left empty_chronicle two_followed (followed_groups asked adopted sent got shown)
-    (λ i. all_pass asked i && (told_so.0 i && (shut.0 i && (all_pass adopted i && ((ap (λ o. are_all (is_of_down o 1) adopted) so.0 ∙ told_so.1) i && (shut.1 i && (all_pass sent i && (told_so.2 i && (shut.2 i && (all_pass got i && ((ap (λ o. are_all (is_of_down o 1) got) so.2 ∙ told_so.3) i && (shut.3 i && (shows_so shown i && (all_pass shown i && (told_so.4 i && (shut.4 i && true))))))))))))))))
+    (λ i. told_so.0 (is_of_end (at_line before_asked 9)) i && (shut.0 i && (told_in (behind 9 told) 10 (link_verb.Down 1000) adopted so.0 told_so.1 i && (shut.1 i && (told_in (behind 10 told) 11 (link_verb.Pump 9) sent so.1 told_so.2 i && (shut.2 i && (told_in (behind 11 told) 12 (link_verb.Down 1000) got so.2 told_so.3 i && (shut.3 i && (shows_so shown i && (told_so.4 (is_of_end (at_line (behind 12 told) 13)) i && (told_so.5 i && (shut.4 i && true))))))))))))
     (tt ▹ tt ▹ tt ▹ (record { new = tt; newest = refl; last = refl; leaves = refl } ▹ record { another = λ e. cc; anew = λ e. refl } ▹ tt) ▹ (record { another = λ e. cc; anew = λ e. cc } ▹ tt) ▹ (search (arith, first_next) ▹ (refl, λ z. first_told _ _ _ refl refl refl) ▹ tt) ▹ (search (arith, second_next) ▹ (refl, λ z. next_told _ _ _ (nine_sent (once_set.clients_at 0 1) seven_past) refl refl) ▹ tt) ▹ tt ▹ l)
     (tt ▹ tt ▹ refl ▹ (refl ▹ tt) ▹ (refl ▹ tt) ▹ refl ▹ refl ▹ tt ▹ omega arith ▹ unbound (behind 9 told) (verb.AtLink 1 (link_verb.Down 1000)) adopted (answer.Number 100) (ap if_over so.0) (omega arith, λ e. absurd (straight e)) ▹ unbound (behind 10 told) (verb.AtLink 1 (link_verb.Pump 9)) sent (answer.Pulled (frames_in_lines sent) why.Full) (ap if_over so.1) (record { told = refl; most = omega (arith, few); all = λ e. cc; only = λ e. absurd (omega (arith, few, e)) }) ▹ unbound (behind 11 told) (verb.AtLink 1 (link_verb.Down 1000)) got (answer.Number 100) (ap if_over so.2) (omega arith, λ e. absurd (sound e)) ▹ unbound (behind 12 told) (verb.AtVb 1 0 vb_verb.Show) shown (show_answer shown) (ap if_down so.3) (carried shown) ▹ tt)
     (refl ▹ refl ▹ refl ▹ refl ▹ refl ▹ refl ▹ refl ▹ refl ▹ f)
@@ -170,10 +179,10 @@ own_request : (l : Option LastLine) → LawfulAsk (record before_asked { last = 
 own_request l = record { dialed = (1, refl); answered = record { own_log = refl; own_high = refl; verdict = (refl, λ z. absurd (omega arith)); active = refl } }
 
 pub asks : Lawful two_followed (ask_groups granted_lines)
-asks = from_asked granted_lines [] [] [] [] (omega arith) refl (refl, refl, refl, refl, refl) (λ e. cc) (λ e. cc) (refl, refl, refl, refl) (refl, refl, refl, refl, refl) ((own_request _, tt), (tt, (tt, (tt, (tt, tt))))) (refl ▹ refl ▹ refl ▹ refl ▹ refl ▹ tt) (λ t. cc, λ t. cc)
+asks = from_asked granted_lines [] [] [] [] (omega arith) refl (refl, refl, refl, refl, refl) (λ e. cc) (λ e. cc) (refl, refl, refl, refl) (λ e. refl, λ e. refl, λ e. refl, λ e. refl, λ e. refl, refl) ((own_request _, tt), (tt, (tt, (tt, (tt, tt))))) (refl ▹ refl ▹ refl ▹ refl ▹ refl ▹ tt) (λ t. cc, λ t. cc)
 
 pub adopts : Lawful two_followed (adopted_so 5)
-adopts = from_asked granted_lines (adopted_lines 5) [] [] [] (omega arith) refl (refl, refl, refl, refl, refl) (λ e. cc) (λ e. cc) (refl, refl, refl, refl) (refl, refl, refl, refl, refl) ((own_request _, tt), (((1, 0, own_stream, refl, refl, refl), tt), (tt, (tt, (tt, tt))))) (refl ▹ refl ▹ refl ▹ refl ▹ refl ▹ tt) (λ t. none_due _ refl (no_entries Pend), λ t. cc)
+adopts = from_asked granted_lines (adopted_lines 5) [] [] [] (omega arith) refl (refl, refl, refl, refl, refl) (λ e. cc) (λ e. cc) (refl, refl, refl, refl) (λ e. refl, λ e. refl, λ e. refl, λ e. refl, λ e. refl, refl) ((own_request _, tt), (((1, 0, own_stream, refl, refl, refl), tt), (tt, (tt, (tt, tt))))) (refl ▹ refl ▹ refl ▹ refl ▹ refl ▹ tt) (λ t. none_due _ refl (no_entries Pend), λ t. cc)
 
 -- both changes in one snapshot
 
@@ -186,10 +195,10 @@ both_sent l = (own_stream, (0, refl, refl), record { opens = refl; starts = refl
     ▹ (streamed (begun 0 2 (first_item ∷ [])), begun 0 2 (first_item ∷ []), (0, refl, refl), refl, refl, ([], record { whole = changes; covers = both_cover; front = refl }, λ e. refl)) ▹ tt
 
 pub whole : Lawful two_followed (sent_so both_sent_lines)
-whole = from_asked granted_lines (adopted_lines 5) both_sent_lines [] [] (omega arith) refl (refl, refl, refl, refl, refl) (λ e. cc) (λ e. cc) (refl, refl, refl, refl) (refl, refl, refl, refl, refl) ((own_request _, tt), (((1, 0, own_stream, refl, refl, refl), tt), (both_sent ((at_line (behind 10 (sent_so both_sent_lines)) 11).last), (tt, (tt, tt))))) (refl ▹ refl ▹ refl ▹ refl ▹ refl ▹ tt) (λ t. none_due _ refl (no_entries Pend), λ t. cc)
+whole = from_asked granted_lines (adopted_lines 5) both_sent_lines [] [] (omega arith) refl (refl, refl, refl, refl, refl) (λ e. cc) (λ e. cc) (refl, refl, refl, refl) (λ e. refl, λ e. refl, λ e. refl, λ e. refl, λ e. refl, refl) ((own_request _, tt), (((1, 0, own_stream, refl, refl, refl), tt), (both_sent ((at_line (behind 10 (sent_so both_sent_lines)) 11).last), (tt, (tt, tt))))) (refl ▹ refl ▹ refl ▹ refl ▹ refl ▹ tt) (λ t. none_due _ refl (no_entries Pend), λ t. cc)
 
 pub right : Lawful two_followed (shown_so (replica_shown 2 two_docs))
-right = from_asked granted_lines (adopted_lines 5) both_sent_lines both_got (replica_shown 2 two_docs) (omega arith) refl (refl, refl, refl, refl, refl) (λ e. cc) (λ e. cc) (refl, refl, refl, refl) (refl, refl, refl, refl, refl)
+right = from_asked granted_lines (adopted_lines 5) both_sent_lines both_got (replica_shown 2 two_docs) (omega arith) refl (refl, refl, refl, refl, refl) (λ e. cc) (λ e. cc) (refl, refl, refl, refl) (λ e. refl, λ e. refl, λ e. refl, λ e. refl, λ e. refl, refl)
     ((own_request _ ▹ tt) ▹ ((1, 0, own_stream, refl, refl, refl) ▹ tt) ▹ both_sent ((at_line (behind 10 (sent_so both_sent_lines)) 11).last)
     ▹ (record { ends = omega arith; put = (1, streamed (begun 0 2 (first_item ∷ next_item ∷ [])), (0, refl, refl, refl), (0, [], refl, refl), (next_change, inr (inl refl), refl)) }
     ▹ record { above = omega arith; put = (_, (0, refl, refl, refl), (one_change, inl refl, inl refl), (next_item ∷ [], refl)) }
@@ -199,7 +208,7 @@ right = from_asked granted_lines (adopted_lines 5) both_sent_lines both_got (rep
 
 -- each change in a snapshot of its own
 pub parts : Lawful two_followed (sent_so (marker_line 0 1 ∷ first_item_line ∷ marker_line 1 2 ∷ next_item_line ∷ []))
-parts = from_asked granted_lines (adopted_lines 5) (marker_line 0 1 ∷ first_item_line ∷ marker_line 1 2 ∷ next_item_line ∷ []) [] [] (omega arith) refl (refl, refl, refl, refl, refl) (λ e. cc) (λ e. cc) (refl, refl, refl, refl) (refl, refl, refl, refl, refl)
+parts = from_asked granted_lines (adopted_lines 5) (marker_line 0 1 ∷ first_item_line ∷ marker_line 1 2 ∷ next_item_line ∷ []) [] [] (omega arith) refl (refl, refl, refl, refl, refl) (λ e. cc) (λ e. cc) (refl, refl, refl, refl) (λ e. refl, λ e. refl, λ e. refl, λ e. refl, λ e. refl, refl)
     ((own_request _ ▹ tt) ▹ ((1, 0, own_stream, refl, refl, refl) ▹ tt)
     ▹ ((own_stream, (0, refl, refl), record { opens = refl; starts = refl; behind = tt; reaches = omega arith; whole = (one_change ∷ [], first_covers) }, refl)
     ▹ (streamed (begun 0 1 []), begun 0 1 [], (0, refl, refl), refl, refl, ([], record { whole = one_change ∷ []; covers = first_covers; front = refl }, λ e. refl))

@@ -1,7 +1,7 @@
 -- the groups of a transcript that is judged by hand: their lines, then their answers, and then what they say of arms
 use Rattle.std.specs.Prelude.{◌≡◌, ◌∷◌, ◌==◌, ◌&&◌}
 use Rattle.transcript_law.proofs.Words.{Bool, not, true, false, List, [], refl, ap, sym, ◌∙◌, subst, list_any, and_parts, eqb-true, Option, Some, None, Answer, Cause, Event, ScriptLine, Verb, Chronicle, IsAnswered, LawfulGroups, Group}
-use Rattle.transcript_law.specs.{Chronicles.{after_group, ahead, at_line}, Firings.{FiresInLine}, Lawfulness.{LinesFrom}, Standing.{IsStanding, TellsIfBegun}, Tellings.{are_all, may_tell as may_tell_of}, Undone.{LeavesNone, NoneToAcknowledge, NoneToPut, NoneToTake, is_taking}, LinesTold.{after_lines}}
+use Rattle.transcript_law.specs.{Chronicles.{after_group, ahead, at_line}, Firings.{FiresInLine}, Lawfulness.{LinesFrom}, Standing.{IsStanding, TellsIfBegun}, Tellings.{are_all, are_told, is_of_end, may_tell as may_tell_of}, LinesTold.{after_lines}, Undone.{LeavesNone, NoneToAcknowledge, NoneToPut, NoneToTake, WaitsForOne, is_taking, IsShutFor}}
 use Rattle.vb_events.specs.declared.event.Why.TheVariants as why
 use Rattle.script_text.specs.declared.verb.Verb.TheVariants as verb
 use Rattle.script_text.specs.declared.verb.VbVerb.TheVariants as vb_verb
@@ -48,6 +48,8 @@ abbrev pub is_done : Verb → List Event → Answer → Bool
 is_done (verb.AtVb n v vb_verb.Take) lines said = takes_some said
 is_done (verb.AtLink l (link_verb.Down wanted)) lines said = not (list_any is_taking lines)
 is_done other lines (answer.Pulled n why.Idle) = false
+is_done other lines (answer.Pulled n why.WaitSaved) = false
+is_done other lines (answer.Pulled n why.Full) = false
 is_done other lines said = true
 
 done_so : (chronicle : Chronicle) (asked : Verb) (lines : List Event) (said : Answer) → is_done asked lines said ≡ true → LeavesNone chronicle asked lines said
@@ -66,6 +68,16 @@ done_so chronicle asked lines (answer.Pulled n why.Idle) e = idle asked e
     idle (verb.AtLink l (link_verb.Pump wanted)) f = cc
     idle (verb.AtClient n c (client_verb.Pull wanted)) f = cc
     idle other f = tt
+done_so chronicle asked lines (answer.Pulled n why.WaitSaved) e = waits asked e
+  where
+    waits : (asked : Verb) → is_done asked lines (answer.Pulled n why.WaitSaved) ≡ true → WaitsForOne (after_lines chronicle lines) asked
+    waits (verb.AtClient n c (client_verb.Pull wanted)) f = cc
+    waits other f = tt
+done_so chronicle asked lines (answer.Pulled n why.Full) e = shut asked e
+  where
+    shut : (asked : Verb) → is_done asked lines (answer.Pulled n why.Full) ≡ true → IsShutFor (after_lines chronicle lines) asked
+    shut (verb.AtClient n c (client_verb.Pull wanted)) f = cc
+    shut other f = tt
 done_so chronicle asked lines other e = tt
 
 -- whether each has its line's number, tells of nothing where it was refused before its line was begun, of nothing else than its line may, and what its line asked for
@@ -116,7 +128,7 @@ in_line chronicle (line ∷ lines) [] = false
 in_line chronicle [] (group ∷ groups) = false
 in_line chronicle (line ∷ lines) (group ∷ groups) =
     group.line == line.line
-    && (is_answered_so group.events group.answer && (are_all (may_tell_of line.verb) group.events && (is_asked_so (at_line chronicle line.line) line.verb group.events group.answer && (closes_none line.verb group.events && in_line (after_group (at_line chronicle line.line) line.verb group.events group.answer) lines groups))))
+    && (is_answered_so group.events group.answer && (are_told (may_tell_of (at_line chronicle line.line) line.verb) (is_of_end (at_line chronicle line.line)) group.events && (is_asked_so line.verb group.events group.answer && (closes_none line.verb group.events && in_line (after_group (at_line chronicle line.line) line.verb group.events group.answer) lines groups))))
 
 -- and leaves nothing undone, by its line alone
 abbrev pub all_done : List ScriptLine → List Group → Bool
@@ -186,10 +198,10 @@ whole_left chronicle (line ∷ lines) (group ∷ groups) o p d h s =
     let next : Chronicle = after_group (at_line chronicle line.line) line.verb group.events group.answer in
     let one = and_parts (group.line == line.line) _ o in
     let two = and_parts (is_answered_so group.events group.answer) _ one.1 in
-    let three = and_parts (are_all (may_tell_of line.verb) group.events) _ two.1 in
-    let four = and_parts (is_asked_so (at_line chronicle line.line) line.verb group.events group.answer) _ three.1 in
+    let three = and_parts (are_told (may_tell_of (at_line chronicle line.line) line.verb) (is_of_end (at_line chronicle line.line)) group.events) _ two.1 in
+    let four = and_parts (is_asked_so line.verb group.events group.answer) _ three.1 in
     let five = and_parts (closes_none line.verb group.events) (in_line next lines groups) four.1 in
-    ((p.0.0, p.0.1, p.0.2, eqb-true group.line line.line one.0, tells_so group.events group.answer two.0, three.0, asked_so (at_line chronicle line.line) line.verb group.events group.answer four.0, d.0, h.0, s.0, breaks_so (at_line chronicle line.line) line.verb group.events five.0), whole_left next lines groups five.1 p.1 d.1 h.1 s.1)
+    ((p.0.0, p.0.1, p.0.2, eqb-true group.line line.line one.0, tells_so group.events group.answer two.0, three.0, asked_so line.verb group.events group.answer four.0, d.0, h.0, s.0, breaks_so (at_line chronicle line.line) line.verb group.events five.0), whole_left next lines groups five.1 p.1 d.1 h.1 s.1)
 
 pub whole_stored : (chronicle : Chronicle) (script : List ScriptLine) (told : List Group) → in_order chronicle script told ≡ true → AreParts chronicle script told → AreHeard chronicle script told → AreStored told → LawfulGroups chronicle script told
 whole_stored chronicle script told o p h s = let two = and_parts (in_line chronicle script told) (all_done script told) o in whole_left chronicle script told two.0 p (all_left chronicle script told two.1) h s

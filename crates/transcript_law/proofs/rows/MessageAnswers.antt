@@ -159,7 +159,7 @@ closed_bytes known st said next fit l = ⊎_elim
     let both : Some x.question ≡ Some close_question = sym x.next ∙ next in
     let same : x.question ≡ close_question = cc in
     x.spelled ∙ ap spelling (closed_is x.answer said (fit x.answer (subst (λ q. FitsClosed known q x.answer) same x.fits))))
-    (λ (x : AnswersFault 0 1 (known_there known).made known.asking (spelling (status_to close_frame 4 st)) []). let e : None ≡ Some close_question = sym x.none ∙ next in cc)
+    (λ (x : AnswersFault 0 1 (known_there known) known.asking (spelling (status_to close_frame 4 st)) []). let e : None ≡ Some close_question = sym x.none ∙ next in cc)
     l
 
 pub closings_closes : IsTold (over_with (Some put_two)) (asks msg.CloseStream) status.Success
@@ -224,7 +224,7 @@ closings_at_another = (_, refl, refl)
 
 pub closings_lawful : LawfulClosed (sent_behind (closing 0) (closing 0)) status.Success
 unfolding spelling dcp_frame frames_in first_frame frame_of read_of frame_row shape_fault
-closings_lawful = inl (record { question = close_question; next = refl; answer = status_to close_frame 4 status.Success; spelled = refl; response = refl; opcode = refl; opaque = refl; fits = closed_so status.Success; calm = inr tt })
+closings_lawful = inl (record { question = close_question; next = refl; answer = status_to close_frame 4 status.Success; spelled = refl; response = refl; opcode = refl; opaque = refl; fits = closed_so status.Success; calm = inr (inr (tt, refl)) })
 
 pub closings_not_lawful : LawfulClosed (sent_behind (closing 0) (closing 0)) status.KeyEnoent → ⊥
 unfolding spelling dcp_frame frames_in first_frame frame_of read_of frame_row shape_fault
@@ -232,7 +232,7 @@ closings_not_lawful l = let e : ◌≡◌ {A = ℕ} 1 0 = ap (λ bytes. slice_in
 
 pub closings_twice_lawful : LawfulClosed (sent_behind (closing 0 ++ closing 0) (closing 0)) status.KeyEnoent
 unfolding spelling dcp_frame frames_in first_frame frame_of read_of frame_row shape_fault
-closings_twice_lawful = inl (record { question = close_question; next = refl; answer = status_to close_frame 4 status.KeyEnoent; spelled = refl; response = refl; opcode = refl; opaque = refl; fits = closed_so status.KeyEnoent; calm = inr tt })
+closings_twice_lawful = inl (record { question = close_question; next = refl; answer = status_to close_frame 4 status.KeyEnoent; spelled = refl; response = refl; opcode = refl; opaque = refl; fits = closed_so status.KeyEnoent; calm = inr (inr (tt, refl)) })
 
 pub closings_twice_not : LawfulClosed (sent_behind (closing 0 ++ closing 0) (closing 0)) status.Success → ⊥
 unfolding spelling dcp_frame frames_in first_frame frame_of read_of frame_row shape_fault

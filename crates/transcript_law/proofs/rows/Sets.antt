@@ -1,5 +1,5 @@
 -- what a client is told of a set, in transcripts that are judged by hand
-use Rattle.std.specs.Prelude.{◌+◌, ◌≡◌, ◌⊎◌, ◌∷◌, ◌++◌}
+use Rattle.std.specs.Prelude.{◌+◌, ◌≡◌, ◌∷◌, ◌++◌}
 use Rattle.std.specs.FinMap.{get}
 use Rattle.std.proofs.Math.Seq.{drop-append_seam}
 use Rattle.transcript_law.proofs.Words.{ℕ, true, List, [], refl, sym, ap, ◌∙◌, subst, inl, inr, arith, append-nil, drop, length, Some, None, Branch, Change, Chronicle, Event, Group, IsKey, IsValue, ScriptLine, first_doc, grow, image_of, next_change, one_change}
@@ -19,7 +19,7 @@ use Rattle.vb_types.specs.declared.write.Op.TheVariants as op
 use Rattle.transcript_law.proofs.rows.{Fitted.{sets_ask}, NextRows.{nine_none, none_stored}, Silent.{Silent, group_silent, sends_none, silent_answered, twice_silent}}
 unfoldable use Rattle.transcript_law.proofs.rows.Silent.{AreHeard}
 use Rattle.transcript_law.specs.ClientStreams.{ClientKnown, ClientsKnown, blank_client, clients_frame, with_client, with_sent_bytes}
-use Rattle.transcript_law.specs.LawfulAnswers.{AllDurable, FitsFrame, FitsRequest, IsMade, IsOutcome, LawfulReply}
+use Rattle.transcript_law.specs.LawfulAnswers.{FitsFrame, FitsRequest, IsMade, IsTimely, LawfulReply}
 use Rattle.transcript_law.specs.Chronicles.{after_group, at_line}
 use Rattle.transcript_law.specs.Questions.{Question, durables_by, first_question, past_answer, past_question, past_question_if, question_end, question_of, settings_by}
 use Rattle.transcript_law.specs.StreamsTold.{Asking, blank_asking, no_setup}
@@ -77,7 +77,7 @@ module _ (key value : List ℕ) (k : IsKey key) (v : IsValue value) where
           opcode = refl;
           opaque = refl;
           fits = subst (λ (a : Asking). FitsFrame (serving r 0 1 (r.clients_at 0 1).asking) r 0 (moment_of (r.clients_at 0 1) a (asks_set key value)) a.settings (set_frame key value) g) (sym sent) (subst (FitsRequest (serving r 0 1 (r.clients_at 0 1).asking) r 0 0 no_settings (set_frame key value) g) (sym (sets_ask key value k v).1) (inr made));
-          calm = subst (λ (a : Asking). IsOutcome a.settings (set_frame key value) g ⊎ AllDurable r.made) (sym sent) (inl (set_write key value, None, (sets_ask key value k v).1, inl refl));
+          calm = subst (λ (a : Asking). IsTimely r a.settings (set_frame key value) g) (sym sent) (inl (set_write key value, (sets_ask key value k v).1, refl));
         })
 
   -- ---- behind its line
@@ -106,10 +106,10 @@ stored_so cas = record { header = record { magic = refl; opcode = refl; key = re
 
 -- the change is its own, of what its vBucket held before
 told_of : {m : ℕ} (r : Chronicle) (key value : List ℕ) (k : IsKey key) (v : IsValue value) (behind : List Event) (b cas : ℕ) (change : Change) (before : List Change) → (r.clients_at 0 1).asking ≡ sent_set key value m
-    → r.made ≡ record { node = 0; vb = 0; branch = b; change = change } ∷ [] → r.held 0 0 ≡ before ++ change ∷ [] → change.key ≡ key → change.act ≡ act_of op.Set (written_doc (set_write key value) cas 1) → doc_refusal op.Set 0 (get (image_of before).docs key) ≡ None
+    → r.made ≡ record { node = 0; vb = 0; branch = b; change = change; clock = r.clock_at 0 } ∷ [] → r.held 0 0 ≡ before ++ change ∷ [] → change.key ≡ key → change.act ≡ act_of op.Set (written_doc (set_write key value) cas 1) → doc_refusal op.Set 0 (get (image_of before).docs key) ≡ None
     → LawfulReply r 0 1 (r.clients_at 0 1).asking (spelling (reply_frame (stored_answer SET 9 cas []))) behind
 told_of r key value k v behind b cas change before sent made held same act free =
-    set_made key value k v r behind sent cas (record { branch = b; change = change; older = []; last = made; alone = tt; key = same; cas = cas; rev = 1; act = act; before = before; behind = held; fits = free; told = stored_so cas })
+    set_made key value k v r behind sent cas (record { branch = b; change = change; clock = r.clock_at 0; older = []; last = made; alone = tt; key = same; cas = cas; rev = 1; act = act; before = before; behind = held; fits = free; told = stored_so cas })
 
 -- the key 7 is set by a first change, and the key 9 behind that
 seven_key : IsKey (7 ∷ [])
@@ -121,11 +121,11 @@ nine_key = (omega arith, omega arith)
 one_value : (b : ℕ) → IsValue (b ∷ [])
 one_value b = omega arith
 
-pub first_told : {m : ℕ} (r : Chronicle) (behind : List Event) (b : ℕ) → (r.clients_at 0 1).asking ≡ sent_set (7 ∷ []) (8 ∷ []) m → r.made ≡ record { node = 0; vb = 0; branch = b; change = one_change } ∷ [] → r.held 0 0 ≡ one_change ∷ []
+pub first_told : {m : ℕ} (r : Chronicle) (behind : List Event) (b : ℕ) → (r.clients_at 0 1).asking ≡ sent_set (7 ∷ []) (8 ∷ []) m → r.made ≡ record { node = 0; vb = 0; branch = b; change = one_change; clock = r.clock_at 0 } ∷ [] → r.held 0 0 ≡ one_change ∷ []
     → LawfulReply r 0 1 (r.clients_at 0 1).asking (spelling (reply_frame (stored_answer SET 9 1 []))) behind
 first_told r behind b sent made held = told_of r (7 ∷ []) (8 ∷ []) seven_key (one_value 8) behind b 1 one_change [] sent made held refl refl (ap (doc_refusal op.Set 0) (none_stored (7 ∷ [])))
 
-pub next_told : {m : ℕ} (r : Chronicle) (behind : List Event) (b : ℕ) → (r.clients_at 0 1).asking ≡ sent_set (9 ∷ []) (6 ∷ []) m → r.made ≡ record { node = 0; vb = 0; branch = b; change = next_change } ∷ [] → r.held 0 0 ≡ one_change ∷ next_change ∷ []
+pub next_told : {m : ℕ} (r : Chronicle) (behind : List Event) (b : ℕ) → (r.clients_at 0 1).asking ≡ sent_set (9 ∷ []) (6 ∷ []) m → r.made ≡ record { node = 0; vb = 0; branch = b; change = next_change; clock = r.clock_at 0 } ∷ [] → r.held 0 0 ≡ one_change ∷ next_change ∷ []
     → LawfulReply r 0 1 (r.clients_at 0 1).asking (spelling (reply_frame (stored_answer SET 9 2 []))) behind
 next_told r behind b sent made held = told_of r (9 ∷ []) (6 ∷ []) nine_key (one_value 6) behind b 2 next_change (one_change ∷ []) sent made held refl refl (ap (doc_refusal op.Set 0) (nine_none (first_doc 1 (8 ∷ []))))
 

@@ -72,7 +72,7 @@ asked_silent (Some r) v log said k e = e
 -- ---- lines
 
 line_silent : (r : Chronicle) (line : Event) → Silent r.clients_at → Silent (after_line r line).clients_at
-line_silent r (event.Role n v role) silent = λ m c. elim (m == n) as (λ b. (if b then past_turn v (r.clients_at m c) else r.clients_at m c).asking.bytes ≡ []) [ true ↦ silent m c | false ↦ silent m c ]
+line_silent r (event.Role n v role) silent = λ m c. elim (m == n) as (λ b. (if b then past_turn v (r.held n v) (r.clients_at m c) else r.clients_at m c).asking.bytes ≡ []) [ true ↦ silent m c | false ↦ silent m c ]
 line_silent r (event.Reply n c bytes) silent = by (r.clients_at n c).told
   where
     by : (told : Option StreamLine) → Silent (clients_frame r.tree r.clients_at n c bytes told)
@@ -152,6 +152,8 @@ ahead_silent r (verb.AtVb n v (vb_verb.Chain others)) answer.Ok e silent = silen
 ahead_silent r (verb.AtVb n v (vb_verb.Chain others)) other e silent = silent
 ahead_silent r (verb.AtVb n v vb_verb.Done) (answer.Number saved) e silent = silent
 ahead_silent r (verb.AtVb n v vb_verb.Done) other e silent = silent
+ahead_silent r (verb.AtNode n (node_verb.Crash out)) answer.Ok e silent = silent
+ahead_silent r (verb.AtNode n (node_verb.Crash out)) other e silent = silent
 ahead_silent r other said e silent = silent
 
 -- with the connections that another has

@@ -57,7 +57,7 @@ shown r said behind role newest at snapshot left held due leaves shared active =
 
 -- transcripts of one set, whatever was written down and is to befall nodes, whichever connections are open, and whatever is known of them
 pub first_change : (l : Option LastLine) (d : ℕ → ℕ → DiskKnown) (a : ℕ → ArmKnown) (k : Conns) (q : ClientsKnown) → LawfulChange (record (after_lines empty_chronicle (active_vb_lines 0 5)) { last = l; disk_at = d; arm_at = a; conn_at = k; clients_at = q }) 0 0 5 one_change
-first_change l d a k q = record { active = refl; writer = record { made_or_took = refl; on_branch = refl }; above_branch = omega arith; above_forks = (λ e. omega arith, tt); made = first_next; fulfils = λ prepared doc deleted e. cc; backed = λ prepared doc deleted e. cc; aborts = λ prepared e. cc }
+first_change l d a k q = record { active = refl; writer = record { made_or_took = refl; on_branch = refl }; above_branch = omega arith; above_forks = (λ e. omega arith, tt); made = first_next; fulfils = λ prepared doc deleted e. cc; backed = λ prepared doc deleted e. cc; asked = λ level doc deleted e. cc; aborts = λ prepared e. cc }
 
 pub right : Lawful one_set (one_set_groups 1 0 (value_lines (8 ∷ [])))
 right = both_stored empty_chronicle one_set (one_set_groups 1 0 (value_lines (8 ∷ []))) refl
@@ -99,7 +99,7 @@ second_new l d a k q up = (
 )
 
 change_of_two : (l : Option LastLine) (d : ℕ → ℕ → DiskKnown) (a : ℕ → ArmKnown) (k : Conns) (q : ClientsKnown) → LawfulChange (record (after_lines empty_chronicle (active_vb_lines 0 5 ++ active_vb_lines 1 6)) { last = l; disk_at = d; arm_at = a; conn_at = k; clients_at = q }) 0 0 5 one_change
-change_of_two l d a k q = record { active = refl; writer = record { made_or_took = refl; on_branch = refl }; above_branch = omega arith; above_forks = (λ e. omega arith, (λ e. omega arith, tt)); made = first_next; fulfils = λ prepared doc deleted e. cc; backed = λ prepared doc deleted e. cc; aborts = λ prepared e. cc }
+change_of_two l d a k q = record { active = refl; writer = record { made_or_took = refl; on_branch = refl }; above_branch = omega arith; above_forks = (λ e. omega arith, (λ e. omega arith, tt)); made = first_next; fulfils = λ prepared doc deleted e. cc; backed = λ prepared doc deleted e. cc; asked = λ level doc deleted e. cc; aborts = λ prepared e. cc }
 
 pub two_writers : ◌≡◌ {A = Option (ℕ × ℕ)} (Some (0, 0)) (Some (0, 1)) → ⊥
 two_writers e =
@@ -118,13 +118,13 @@ pub writer : Lawful (two_vbs 6 set_one) (two_vbs_groups 6 (sets_groups (change_l
 writer l = two_writers l.1.1.1.1.0.0.0.writer.made_or_took
 
 pub maker : LawfulLine both_on_one (change_line 0) []
-maker = record { active = refl; writer = record { made_or_took = refl; on_branch = refl }; above_branch = omega arith; above_forks = (λ e. omega arith, (λ e. omega arith, tt)); made = first_next; fulfils = λ prepared doc deleted e. cc; backed = λ prepared doc deleted e. cc; aborts = λ prepared e. cc }
+maker = record { active = refl; writer = record { made_or_took = refl; on_branch = refl }; above_branch = omega arith; above_forks = (λ e. omega arith, (λ e. omega arith, tt)); made = first_next; fulfils = λ prepared doc deleted e. cc; backed = λ prepared doc deleted e. cc; asked = λ level doc deleted e. cc; aborts = λ prepared e. cc }
 
 pub follower : LawfulLine both_on_one (change_line 1) [] → ⊥
 follower l = two_writers l.writer.made_or_took
 
 pub above_fork : LawfulLine (forked_at 0) (change_line 0) []
-above_fork = record { active = refl; writer = record { made_or_took = refl; on_branch = refl }; above_branch = omega arith; above_forks = (λ e. omega arith, (λ e. omega arith, tt)); made = first_next; fulfils = λ prepared doc deleted e. cc; backed = λ prepared doc deleted e. cc; aborts = λ prepared e. cc }
+above_fork = record { active = refl; writer = record { made_or_took = refl; on_branch = refl }; above_branch = omega arith; above_forks = (λ e. omega arith, (λ e. omega arith, tt)); made = first_next; fulfils = λ prepared doc deleted e. cc; backed = λ prepared doc deleted e. cc; asked = λ level doc deleted e. cc; aborts = λ prepared e. cc }
 
 pub at_fork : LawfulLine (forked_at 1) (change_line 0) [] → ⊥
 at_fork l = let low = l.above_forks.0 refl in omega arith

@@ -6,14 +6,14 @@ use Rattle.transcript_law.proofs.rows.Followers.{◌▹◌, begun, both_cover, c
 use Rattle.transcript_law.specs.{Contrary.{after_both_dead}, LineAnswers.{PutsAsTold}, LinesTold.{at_line}, Undone.{AllPut, EndsThere, HasNoMore, IsDue}}
 use Rattle.std.specs.FinMap.{get, get-empty, get-insert}
 use Rattle.transcript_law.proofs.{Words.{cond, image_of, last_seq, nat_list_cmp_total, key_cmp, nothing, log_of, Pend}, invariant.Waiting.{pends_low}, rows.CommitRows.{waits, waits_there}}
-use Rattle.transcript_law.specs.{Commits.{prepare_of}, Followers.{ask_above}, Undone.{newest}}
+use Rattle.transcript_law.specs.{Commits.{prepare_of}, Followers.{adopted_lines, ask_above}, Undone.{newest}}
 use Rattle.vb_types.specs.declared.change.Level.{Level}
 use Rattle.vb_types.specs.declared.change.Level.TheVariants.{Majority, PersistMajority}
 use Rattle.vb_events.specs.declared.event.Answer.TheVariants as answer
 use Rattle.vb_events.specs.declared.event.StreamName.TheVariants as name
 use Rattle.vb_events.specs.declared.event.Why.TheVariants as why
 use Rattle.transcript_law.specs.Followers.{after_both, next_change}
-use Rattle.transcript_law.specs.UndoneRows.{DownLeavesNone, LawfulPump, LawfulTake, acknowledged_too, prepare_got, prepare_sent, granted_both, lost, puts_end, puts_first, puts_half, puts_none, regot, stands_to, takes_none, takes_to}
+use Rattle.transcript_law.specs.UndoneRows.{DownLeavesNone, LawfulPump, LawfulTake, acknowledged_too, change_got, next_marker, prepare_got, prepare_held, prepare_marked, prepare_saved, prepare_sent, granted_both, lost, puts_end, puts_first, puts_half, puts_none, regot, stands_to, takes_none, takes_to}
 
 -- the second change is held, and was not taken
 pub both_left : LawfulTake after_both takes_none → ⊥
@@ -58,7 +58,7 @@ all_put = (
     refl,
     λ w no standing. cc,
     refl,
-    refl,
+    tt,
     put_whole (after_lines (at_line granted_both 1) both_sent_lines) (streamed (begun 0 2 (first_item ∷ next_item ∷ []))) refl refl (record { whole = (first_item ∷ [], next_item, refl, refl); active = refl; none = inl (omega arith) }),
     λ n c opens. cc,
     tt,
@@ -76,7 +76,7 @@ put_before = (
     refl,
     λ w no standing. refl,
     refl,
-    refl,
+    tt,
     all_put_by (at_line after_both 1) 1 own_dial ((at_line after_both 1).stream_of (name.Link 1) 0) refl refl (λ g is over.
         let one : _ ≡ g = some_one is in subst (HasNoMore (at_line after_both 1) 0 0) one (record { whole = (first_item ∷ [], next_item, refl, refl); active = refl; none = inl (omega arith) })),
     λ n c opens. cc,
@@ -115,7 +115,7 @@ ended = (
     refl,
     λ w no standing. cc,
     refl,
-    refl,
+    tt,
     all_put_by (after_lines (at_line (after_both_dead after_both) 1) puts_end.0) 1 own_dial ((after_lines (at_line (after_both_dead after_both) 1) puts_end.0).stream_of (name.Link 1) 0) refl refl (λ g is over. absurd (ended_over g is over)),
     λ n c opens. cc,
     tt,
@@ -143,12 +143,12 @@ reached l = let m = l.0.7 own_dial _ refl refl refl in ⊎_elim (λ (e : 2 ≤ 1
 -- ---- acknowledgements
 
 -- behind the prepare the stream is this, on which so much was acknowledged
-abbrev prepare_stream : ℕ → List ℕ → Granted
-prepare_stream end wrote = record {
+abbrev sent_stream : Level → List ℕ → Granted
+sent_stream how wrote = record {
   ask = ask_above 0 0;
   log = log_of 5;
-  place = end;
-  last = Some (record { history = prepare_of Majority ∷ []; from = 0; end = end; items = item_of_change (prepare_of Majority) ∷ [] });
+  place = 1;
+  last = Some (record { history = prepare_of how ∷ []; from = 0; end = 1; items = item_of_change (prepare_of how) ∷ [] });
   over = false;
   marks = [];
   coming = [];
@@ -163,27 +163,60 @@ is_waits how key p e = by _ (sym (get-insert nat_list_cmp_total nothing.pending 
     by true q = cc
     by false q = let z : None ≡ Some p = sym (get-empty key_cmp key) ∙ q in cc
 
+first_of : Option (ℕ × ℕ) → ℕ
+first_of None = 0
+first_of (Some ends) = ends.0
+
 second_of : Option (ℕ × ℕ) → ℕ
 second_of None = 0
 second_of (Some ends) = ends.1
 
-not_third : Majority ≡ PersistMajority → ⊥
-not_third e = cc
+-- one of level 2 is none of level 3
+second_level : {saved : ℕ} → Majority ≡ PersistMajority → 1 ≤ saved
+second_level e = absurd (not_third e)
+  where
+    not_third : Majority ≡ PersistMajority → ⊥
+    not_third e = cc
 
--- it is due once its snapshot is whole
-prepare_due : (lines : List Event) → (let read : Chronicle = after_lines (prepare_sent Majority 1) lines in read.held 1 0 ≡ prepare_of Majority ∷ [] → read.snap_at 1 0 ≡ Some (0, 1) → IsDue read 1 0 (waits Majority))
-unfolding second_of
-prepare_due lines held snap = record {
-  waits = (9 ∷ [], subst (λ h. get (image_of h).pending (9 ∷ []) ≡ Some (waits Majority)) (sym held) (waits_there Majority));
-  complete = λ ss se is inside. absurd (inside (ap (last_seq 0) held ∙ ap second_of (sym snap ∙ is)));
-  thirds = λ key p is third low. absurd (not_third (sym (ap (λ (x : Pend). x.level) (is_waits Majority key p (subst (λ h. get (image_of h).pending key ≡ Some p) held is))) ∙ third));
+-- it is due once its snapshot is whole, and inside one that begins at it; one of level 3 once it is saved
+prepare_due : (how : Level) (read : Chronicle) (ss se : ℕ) → read.held 1 0 ≡ prepare_of how ∷ [] → read.snap_at 1 0 ≡ Some (ss, se)
+    → ((1 ≡ se → ⊥) → 1 ≤ ss) → (how ≡ PersistMajority → 1 ≤ (read.disk_at 1 0).saved) → IsDue read 1 0 (waits how)
+unfolding first_of second_of
+prepare_due how read ss se held snap inside saved = record {
+  waits = (9 ∷ [], subst (λ h. get (image_of h).pending (9 ∷ []) ≡ Some (waits how)) (sym held) (waits_there how));
+  complete = λ qs qe is part.
+      let same : ss ≡ qs = ap first_of (sym snap ∙ is) in
+      let end : se ≡ qe = ap second_of (sym snap ∙ is) in
+      let low : 1 ≤ ss = inside (λ one. part (ap (last_seq 0) held ∙ one ∙ end)) in omega (arith, same, low);
+  thirds = λ key p is third low.
+      let one : p ≡ waits how = is_waits how key p (subst (λ h. get (image_of h).pending key ≡ Some p) held is) in
+      let seq : p.seq ≡ 1 = ap (λ (x : Pend). x.seq) one in
+      let kept : 1 ≤ (read.disk_at 1 0).saved = saved (sym (ap (λ (x : Pend). x.level) one) ∙ third) in omega (arith, seq, kept);
 }
 
+-- it is whole there
+whole : {ss : ℕ} → (◌≡◌ {A = ℕ} 1 1 → ⊥) → 1 ≤ ss
+whole off = absurd (off refl)
+
 pub unacknowledged : DownLeavesNone (prepare_sent Majority 1) (prepare_got Majority 1) → ⊥
-unacknowledged l = let e : 1 ≤ 0 = l.1 refl own_dial (prepare_stream 1 []) refl refl (waits Majority) (prepare_due (prepare_got Majority 1) refl refl) in omega (arith, e)
+unacknowledged l = let e : 1 ≤ 0 = l.1 refl own_dial (sent_stream Majority []) refl refl (waits Majority) (prepare_due Majority _ 0 1 refl refl whole second_level) in omega (arith, e)
 
 pub less : DownLeavesNone (prepare_sent Majority 1) (acknowledged_too Majority 0) → ⊥
-less l = let e : 1 ≤ 0 = l.1 refl own_dial (prepare_stream 1 (0 ∷ [])) refl refl (waits Majority) (prepare_due (acknowledged_too Majority 0) refl refl) in omega (arith, e)
+less l = let e : 1 ≤ 0 = l.1 refl own_dial (sent_stream Majority (0 ∷ [])) refl refl (waits Majority) (prepare_due Majority _ 0 1 refl refl whole second_level) in omega (arith, e)
+
+-- behind a log alone, behind the marker alone of a snapshot that begins at it, and behind the change alone
+pub due_by_log : DownLeavesNone (prepare_held Majority) (adopted_lines 5) → ⊥
+due_by_log l = let e : 1 ≤ 0 = l.1 refl own_dial (sent_stream Majority []) refl refl (waits Majority) (prepare_due Majority _ 0 1 refl refl whole second_level) in omega (arith, e)
+
+pub due_by_marker : DownLeavesNone (prepare_held Majority) next_marker → ⊥
+due_by_marker l = let e : 1 ≤ 0 = l.1 refl own_dial (sent_stream Majority []) refl refl (waits Majority) (prepare_due Majority _ 1 2 refl refl (λ off. omega arith) second_level) in omega (arith, e)
+
+pub due_by_change : DownLeavesNone (prepare_marked Majority) (change_got Majority) → ⊥
+due_by_change l = let e : 1 ≤ 0 = l.1 refl own_dial (sent_stream Majority []) refl refl (waits Majority) (prepare_due Majority _ 0 1 refl refl whole second_level) in omega (arith, e)
+
+-- and one of level 3 that is saved
+pub due_saved : DownLeavesNone (prepare_saved PersistMajority 1) (prepare_got PersistMajority 1) → ⊥
+due_saved l = let e : 1 ≤ 0 = l.1 refl own_dial (sent_stream PersistMajority []) refl refl (waits PersistMajority) (prepare_due PersistMajority _ 0 1 refl refl whole (λ third. omega arith)) in omega (arith, e)
 
 -- no more than one is due
 pub acknowledged : DownLeavesNone (prepare_sent Majority 1) (acknowledged_too Majority 1)
@@ -196,8 +229,8 @@ acknowledged = (λ z. tt, λ t dial g dialed is e owed. no_more dial g (own_dial
     no_more dial g same is e owed =
         let read : Chronicle = after_lines (prepare_sent Majority 1) (acknowledged_too Majority 1) in
         let mine : IsDue read 1 0 e = subst (λ (d : Dial). IsDue read d.node d.vb e) (sym same) owed in
-        let told : Some (prepare_stream 1 (1 ∷ [])) ≡ Some g = subst (λ (d : Dial). read.stream_of (name.Link 1) d.vb ≡ Some g) (sym same) is in
-        let stream : prepare_stream 1 (1 ∷ []) ≡ g = cc in
+        let told : Some (sent_stream Majority (1 ∷ [])) ≡ Some g = subst (λ (d : Dial). read.stream_of (name.Link 1) d.vb ≡ Some g) (sym same) is in
+        let stream : sent_stream Majority (1 ∷ []) ≡ g = cc in
         let low : e.seq ≤ 1 = pends_low 0 1 (prepare_of Majority ∷ []) mine.waits.0 e (omega arith, omega arith) mine.waits.1 in
         subst (λ (x : Granted). e.seq ≤ newest x.wrote) stream low
 

@@ -9,9 +9,10 @@ use Rattle.node_world.specs.declared.arm.Fired.TheVariants as fired
 use Rattle.std.specs.FinMap as finite
 use Rattle.transcript_law.proofs.disks.{AppendAnswers.{AllStand, AndPosts, AppendCame, append_stands_not, fuse_in, fuse_same, unless_refused_came}, AppendLines.{AnyPosts, NoLines, dead_came, follow_came, promote_came, replica_came, vb_came}}
 use Rattle.transcript_law.proofs.{disks.Burning.{quiet_same}, invariant.Ranged.{IsRanged, NodeRangedIf, called_world, cut_ended_ranged}}
-use Rattle.transcript_law.proofs.lines.{Calm.{AnyAsk, any_job}, ClientLines.{AllKept, IsOfClients, posts_of_clients}, Refusals.{Same}}
-use Rattle.transcript_law.proofs.verbs.{LineAnswers.{new_shut_at, shut_at}, NodeLines.{on_node_by}, Tellings.{Are, are_clients, are_down, are_map, are_more}}
-use Rattle.transcript_law.specs.Asked.{AskedOfVb, IsLogLine, IsRefused, IsShowLine, IsStatLine, RisesOn, TellsIfDone, TellsOnce, TurnsTo, is_ack_of, is_of_image, is_turn, turns_in}
+use Rattle.transcript_law.proofs.lines.{Calm.{AnyAsk, any_job}, ClientLines.{AllKept}, Refusals.{Same}}
+use Rattle.transcript_law.proofs.verbs.{LineAnswers.{new_shut_at, shut_at}, NodeLines.{on_node_by}, Tellings.{Are, are_down, are_map, are_more, are_posts}}
+use Rattle.transcript_law.specs.Asked.{AskedOfVb, IsLogLine, IsRefused, IsShowLine, IsStatLine, RisesOn, TellsIfDone, TellsOnce, TurnsTo, is_turn, turns_in}
+use Rattle.transcript_law.specs.{Plainness.{IsOfClient}, Tellings.{is_of_image}}
 use Rattle.vb_calls.proofs.JobConduct.{after_job_always, always_bind_job}
 use Rattle.vb_calls.specs.Flushes.{role_job}
 use Rattle.vb_calls.specs.Jobs.{Job, Ended}
@@ -92,15 +93,15 @@ few_more : (k : ℕ) (xs ys : List Event) → Few k xs → Calm ys → Few k (xs
 few_more k xs ys f c =
     let s = turns_sum xs ys in let z : length (turns_in ys) ≡ 0 = ap (λ (ls : List Event). length ls) c in omega (arith, s, z, f)
 
-clients_calm : (line : Event) → IsOfClients line → is_calm line ≡ true
-clients_calm (Event.Changed m u uuid change) c = refl
-clients_calm (Event.Reply m k bytes) c = refl
-clients_calm (Event.Closed m k) c = refl
-clients_calm (Event.Asked (StreamName.Client m k) u v ask high log said) c = refl
-clients_calm other c = absurd c
+clients_calm : (n : ℕ) (line : Event) → IsOfClient n line → is_calm line ≡ true
+clients_calm n (Event.Changed m u uuid change) c = refl
+clients_calm n (Event.Reply m k bytes) c = refl
+clients_calm n (Event.Closed m k) c = refl
+clients_calm n (Event.Asked (StreamName.Client m k) u v ask high log said) c = refl
+clients_calm n other c = absurd c
 
 posts_calm : (n : ℕ) (rs : List Resolved) (node : PlainNode) → AllKept n node → Calm (all_posted rs node).1
-posts_calm n rs node kept = calm_of (all_posted rs node).1 (are_clients is_calm clients_calm (all_posted rs node).1 (posts_of_clients n rs node kept))
+posts_calm n rs node kept = calm_of (all_posted rs node).1 (are_posts is_calm n (clients_calm n) rs node kept)
 
 changes_calm : (n v : ℕ) (reply : VbReply) → Calm (own_lines n v reply)
 changes_calm n v reply = calm_of (own_lines n v reply) (are_map is_calm (Event.Changed n v reply.branch) reply.changes (λ c. refl))
@@ -112,7 +113,7 @@ armed_behind n w came = by (fired_by (arm_in (w.nodes n)).fuse (arm_in (came.0.n
     by : (f : Fired) → (behind : List Event) × ((after_fire n (arm_in (w.nodes n)).out f came).1.events ≡ came.1.events ++ behind) × Calm behind
     by fired.No = ([], sym (append-nil came.1.events), refl)
     by fired.Failed = (Event.CallFailed n ∷ [], refl, refl)
-    by fired.Stopped = (Event.NodeStopped n ∷ down_lines n None came.0, refl, calm_of (down_lines n None came.0) (are_down is_calm n None came.0 (λ l. refl) (λ c. refl)))
+    by fired.Stopped = (Event.NodeStopped n ∷ down_lines n None came.0, refl, calm_of (down_lines n None came.0) (are_down is_calm n None came.0 (λ l touched. refl) (λ c. refl)))
 
 -- where nothing was to be appended, no arm fired
 armed_refused : (n : ℕ) (w w' : PlainWorld) (told : Told) → Same w w' → IsRefused told.events told.answer → IsRefused (with_arm n w (w', told)).1.events (with_arm n w (w', told)).1.answer
@@ -277,18 +278,18 @@ module _ (w : PlainWorld) (n v : ℕ) where
       (few_more 1 o.1.events behind (turn_few n v w asked 1 job few (first_cause (turn_causes w n v role)) ranged) c))
 
   -- each verb
-  pub vb_asked : IsRanged w → Are (is_ack_of n v) (vb_verb_step w n v VbVerb.Done).1.events → (what : VbVerb) → (let x = (vb_verb_step w n v what).1 in AskedOfVb n v what x.events x.answer)
-  vb_asked ranged acks (VbVerb.MakeActive uuid) = makes_active w n v uuid
-  vb_asked ranged acks VbVerb.MakeReplica = makes_replica w n v
-  vb_asked ranged acks (VbVerb.Chain others) = tt
-  vb_asked ranged acks (VbVerb.Promote uuid) = promotes ranged uuid
-  vb_asked ranged acks VbVerb.Follow = turned ranged Role.Replica AdminCall.Follow refl (role_follows n v) (follow_came AnyPosts tt (shut_at w n v) w n v (λ node e rs x same. tt) (λ vb e. refl))
-  vb_asked ranged acks VbVerb.Dead = turned ranged Role.Dead AdminCall.Dead refl (role_dies n v) (dead_came AnyPosts tt (shut_at w n v) w n v (λ node e rs x same. tt) (λ vb e. refl))
-  vb_asked ranged acks VbVerb.Tick = tt
-  vb_asked ranged acks VbVerb.Seal = tt
-  vb_asked ranged acks VbVerb.Take = tt
-  vb_asked ranged acks VbVerb.Save = tt
-  vb_asked ranged acks VbVerb.Done = acks
-  vb_asked ranged acks VbVerb.Stat = shows n v w AdminCall.Stat (IsStatLine n v) (λ node. stat_shows n v (call_at node.vbs v VbCall.Stat (node.vbs v)).1)
-  vb_asked ranged acks VbVerb.Log = shows n v w AdminCall.Log (IsLogLine n v) (λ node. log_shows n v (call_at node.vbs v VbCall.Log (node.vbs v)).1)
-  vb_asked ranged acks VbVerb.Show = shows n v w AdminCall.Show (IsShowLine n v) (λ node. show_shows n v (call_at node.vbs v VbCall.Show (node.vbs v)).1)
+  pub vb_asked : IsRanged w → (what : VbVerb) → (let x = (vb_verb_step w n v what).1 in AskedOfVb n v what x.events x.answer)
+  vb_asked ranged (VbVerb.MakeActive uuid) = makes_active w n v uuid
+  vb_asked ranged VbVerb.MakeReplica = makes_replica w n v
+  vb_asked ranged (VbVerb.Chain others) = tt
+  vb_asked ranged (VbVerb.Promote uuid) = promotes ranged uuid
+  vb_asked ranged VbVerb.Follow = turned ranged Role.Replica AdminCall.Follow refl (role_follows n v) (follow_came AnyPosts tt (shut_at w n v) w n v (λ node e rs x same. tt) (λ vb e. refl))
+  vb_asked ranged VbVerb.Dead = turned ranged Role.Dead AdminCall.Dead refl (role_dies n v) (dead_came AnyPosts tt (shut_at w n v) w n v (λ node e rs x same. tt) (λ vb e. refl))
+  vb_asked ranged VbVerb.Tick = tt
+  vb_asked ranged VbVerb.Seal = tt
+  vb_asked ranged VbVerb.Take = tt
+  vb_asked ranged VbVerb.Save = tt
+  vb_asked ranged VbVerb.Done = tt
+  vb_asked ranged VbVerb.Stat = shows n v w AdminCall.Stat (IsStatLine n v) (λ node. stat_shows n v (call_at node.vbs v VbCall.Stat (node.vbs v)).1)
+  vb_asked ranged VbVerb.Log = shows n v w AdminCall.Log (IsLogLine n v) (λ node. log_shows n v (call_at node.vbs v VbCall.Log (node.vbs v)).1)
+  vb_asked ranged VbVerb.Show = shows n v w AdminCall.Show (IsShowLine n v) (λ node. show_shows n v (call_at node.vbs v VbCall.Show (node.vbs v)).1)

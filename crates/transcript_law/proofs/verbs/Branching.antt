@@ -144,7 +144,7 @@ module _ (w : PlainWorld) (r : Chronicle) (c : Cluster) (n v uuid : ℕ) (role :
     made_links dials streams points x i = new_links w world r told c c' n v x [] [] not_made changed.there dials streams points nodes (a.links x i)
 
     -- clients have no open stream of it
-    made_clients : ((m d : ℕ) → q.clients_at m d ≡ with_clients_of r.clients_at n (past_turn v) m d) → ((m p : ℕ) → (m ≡ n → p ≡ v → ⊥) → AgreesAt q m p (c'.nodes (seat m p)) (vb_of w m p)) → ((u : ℕ) → IsTold r.tree u → hist q.tree u ≡ hist r.tree u) → Later r q
+    made_clients : ((m d : ℕ) → q.clients_at m d ≡ with_clients_of r.clients_at n (past_turn v (r.held n v)) m d) → ((m p : ℕ) → (m ≡ n → p ≡ v → ⊥) → AgreesAt q m p (c'.nodes (seat m p)) (vb_of w m p)) → ((u : ℕ) → IsTold r.tree u → hist q.tree u ≡ hist r.tree u) → Later r q
         → ClientsTold world told
     made_clients clients there same last = clients_turned w world r told n v a.clients turned (all_there idle w r c a) (λ l m p id has. has) (record { last = last.last; grows = last.grows })
         (fewer_at w world n v changed.there (subst (Fewer (vb_of w n v)) (sym changed.here) (λ x p o. absurd o.1.among)))

@@ -1,7 +1,7 @@
 -- each line of a script closes a client's connection as it may
 use Rattle.std.specs.Prelude.{◌≡◌, ◌∷◌, ◌++◌, ◌==◌, ◌||◌, not, if◌then◌else◌}
 use Rattle.std.specs.List.{list_any}
-use Rattle.transcript_law.proofs.Words.{ℕ, Bool, true, false, List, [], map, refl, ap, sym, ◌∙◌, subst, and_parts, eqb-true, append_assoc, option_map, Option, Some, None, is_some, Answer, Cause, Change, Role, AdminCall, AdminResult, Chronicle, Event, Frame, FrameFault, Verb, VbVerb, NodeVerb, LinkVerb, ClientVerb, PlainLink, PlainNode, PlainWorld, Outcome, States, Told, VbAnswer, VbCall, VbReply, after, after_job, admin_call, admin_result, branch_lines, call_at, called_at, consumer_node, cut_off, first_cause, left_of, left_open, link_number, link_outcome, moved_len, no_node, node_outcome, on_link, on_node, own_link, peer_of, producer_node, promote_causes, refusal, refused_or, replica_at, replica_causes, role_outcome, row_at, take, turn_causes, turned_after, turned_if, up_at, vb_at, vb_causes, verb_step, with_ended, with_link, with_node_at, with_states}
+use Rattle.transcript_law.proofs.Words.{ℕ, Bool, true, false, List, [], map, refl, ap, sym, ◌∙◌, subst, and_parts, eqb-true, append_assoc, option_map, Option, Some, None, is_some, Cause, Change, Role, AdminCall, AdminResult, Chronicle, Event, Frame, FrameFault, Verb, VbVerb, NodeVerb, LinkVerb, ClientVerb, PlainLink, PlainNode, PlainWorld, Outcome, States, Told, VbAnswer, VbCall, VbReply, after, after_job, admin_call, admin_result, branch_lines, call_at, called_at, consumer_node, cut_off, first_cause, left_of, left_open, link_number, link_outcome, moved_len, no_node, node_outcome, on_link, on_node, own_link, peer_of, producer_node, promote_causes, refusal, refused_or, replica_at, replica_causes, role_outcome, row_at, take, turn_causes, turned_after, turned_if, up_at, vb_at, vb_causes, verb_step, with_ended, with_link, with_node_at, with_states}
 use Rattle.client_session.specs.Answers.{fault_lines}
 unfoldable use Rattle.client_session.specs.Answers.{reply_line}
 use Rattle.dcp_producer.specs.declared.desk.Desk.{Desk}
@@ -18,8 +18,8 @@ use Rattle.node_world.specs.{Dues.{due_at, due_in, due_of, is_counted}, Links.{d
 use Rattle.node_world.specs.declared.script_node.TheConstants.{MAX_CLIENTS}
 use Rattle.transcript_law.proofs.invariant.{Agreement.{Agrees, ClientAgrees}, Ranged.{IsRanged, NodeRangedIf}}
 use Rattle.transcript_law.proofs.lines.{Answering.{Tells, peer_so}, Broken.{Broke, So, bytes_break, left_asked, none_closes, posted_so}, Calm.{AnyAsk, AnyKind, any_job, asks_any, due_keeps}, DialTold.{down_so}, SessionLines.{IsFor, IsKept, LeftBy, posted_at}}
-use Rattle.transcript_law.proofs.verbs.{NodeLines.{on_link_by, on_node_by}, Tellings.{Are, are_cons, flush_steps}}
-use Rattle.transcript_law.specs.{Asked.{IsShowLine, TellsAsAsked, TellsIfDone, is_of_image, is_of_pump}, Breaks.{AllBreak, ClosesAsBroken, is_closing}, Tellings.{TellsOf, are_all, at_link, at_vb, is_none, is_of_pulls, is_of_start}, Feeding.{client_in}, Questions.{behind_frames}, StreamsTold.{ClientsKnown}}
+use Rattle.transcript_law.proofs.verbs.{NodeLines.{on_link_by, on_node_by}, Tellings.{Are, Tell, flush_steps}}
+use Rattle.transcript_law.specs.{Breaks.{AllBreak, ClosesAsBroken, is_closing}, LinesTold.{Dial}, Tellings.{TellsOf, are_told, at_link, at_vb, is_none, is_of_end, is_of_pull, is_of_start, may_tell}, Feeding.{client_in}, Questions.{behind_frames}, StreamsTold.{ClientsKnown}}
 use Rattle.vb_calls.proofs.{Conduct.{after_always}, JobConduct.{after_job_always, always_bind_job}}
 use Rattle.vb_calls.specs.{Flushes.{part_job, role_job}, Jobs.{Ended, Job}, Programs.{AnyCall, AnyReply}}
 use Rattle.vb_calls.specs.declared.calls.Resolved.{Resolved}
@@ -347,7 +347,7 @@ module _ (clients : ClientsKnown) where
       at : (link : PlainLink) (o : Option PlainNode) → NoneCloses (with_link link (node_outcome w (consumer_node link) (Some link, refusal Cause.UnknownNode) o (down_in wanted link))).1.events
       at link None = refl
       at link (Some node) = none_of (down_in wanted link node).1.1.events
-          (down_so is_none_closing link.consumer.dialed (λ seq saved. refl) (λ log. refl) (λ ss se. refl) (λ c. refl) (λ named to. refl) (λ k why. refl) wanted link node refl)
+          (down_so is_none_closing link.consumer.dialed (λ h. Unit {0}) (λ seq saved. refl) (record { streams = λ h k. tt; protocol = tt; disk = tt; frame = λ c f k. tt }) (λ log. refl) (λ ss se. refl) (λ c. refl) (λ named to. refl) (λ why k. refl) (λ takes new. refl) (λ takes uuid c. refl) wanted link node refl tt)
 
       by : (o : Option PlainLink) → Break (down_outcome w l o (link_outcome w l consumer_node (down_in wanted) o)).1.events
       by None = λ before. tt
@@ -372,39 +372,39 @@ none_unclosed : (line : Event) → is_none line ≡ true → is_none_closing lin
 none_unclosed (Event.Closed m c) e = e
 none_unclosed other e = refl
 
-take_unclosed : (n v : ℕ) (line : Event) → at_vb n v VbVerb.Take line ≡ true → is_none_closing line ≡ true
-take_unclosed n v (Event.Closed m c) e = e
-take_unclosed n v other e = refl
+take_unclosed : (r : Chronicle) (n v : ℕ) (line : Event) → at_vb r n v VbVerb.Take line ≡ true → is_none_closing line ≡ true
+take_unclosed r n v (Event.Closed m c) e = e
+take_unclosed r n v other e = refl
 
-stat_unclosed : (n v : ℕ) (line : Event) → at_vb n v VbVerb.Stat line ≡ true → is_none_closing line ≡ true
-stat_unclosed n v (Event.Closed m c) e = e
-stat_unclosed n v other e = refl
+stat_unclosed : (r : Chronicle) (n v : ℕ) (line : Event) → at_vb r n v VbVerb.Stat line ≡ true → is_none_closing line ≡ true
+stat_unclosed r n v (Event.Closed m c) e = e
+stat_unclosed r n v other e = refl
 
-log_unclosed : (n v : ℕ) (line : Event) → at_vb n v VbVerb.Log line ≡ true → is_none_closing line ≡ true
-log_unclosed n v (Event.Closed m c) e = e
-log_unclosed n v other e = refl
+log_unclosed : (r : Chronicle) (n v : ℕ) (line : Event) → at_vb r n v VbVerb.Log line ≡ true → is_none_closing line ≡ true
+log_unclosed r n v (Event.Closed m c) e = e
+log_unclosed r n v other e = refl
 
-pulls_unclosed : (line : Event) → is_of_pulls line ≡ true → is_none_closing line ≡ true
-pulls_unclosed (Event.Closed m c) e = e
-pulls_unclosed other e = refl
+show_unclosed : (r : Chronicle) (n v : ℕ) (line : Event) → at_vb r n v VbVerb.Show line ≡ true → is_none_closing line ≡ true
+show_unclosed r n v (Event.Closed m c) e = e
+show_unclosed r n v other e = refl
+
+pull_unclosed : (n c : ℕ) (line : Event) → is_of_pull n c line ≡ true → is_none_closing line ≡ true
+pull_unclosed n c (Event.Closed m d) e = e
+pull_unclosed n c other e = refl
+
+pump_unclosed : (dial : Option Dial) (l frames : ℕ) (line : Event) → at_link dial l (LinkVerb.Pump frames) line ≡ true → is_none_closing line ≡ true
+pump_unclosed None l frames line e = none_unclosed line e
+pump_unclosed (Some dial) l frames (Event.Closed m c) e = e
+pump_unclosed (Some dial) l frames other e = refl
+
+cut_unclosed : (dial : Option Dial) (l : ℕ) (line : Event) → at_link dial l LinkVerb.Cut line ≡ true → is_none_closing line ≡ true
+cut_unclosed None l line e = none_unclosed line e
+cut_unclosed (Some dial) l (Event.Closed m c) e = e
+cut_unclosed (Some dial) l other e = refl
 
 start_unclosed : (n : ℕ) (line : Event) → is_of_start n line ≡ true → is_none_closing line ≡ true
 start_unclosed n (Event.Closed m c) e = e
 start_unclosed n other e = refl
-
-pump_unclosed : (l : ℕ) (line : Event) → is_of_pump l line ≡ true → is_none_closing line ≡ true
-pump_unclosed l (Event.Closed m c) e = e
-pump_unclosed l other e = refl
-
-cut_unclosed : (l : ℕ) (line : Event) → at_link l LinkVerb.Cut line ≡ true → is_none_closing line ≡ true
-cut_unclosed l (Event.Closed m c) e = e
-cut_unclosed l other e = refl
-
-image_unclosed : (lines : List Event) → Are is_of_image lines → Are is_none_closing lines
-image_unclosed [] t = refl
-image_unclosed (Event.Document key doc ∷ lines) t = image_unclosed lines t
-image_unclosed (Event.Prepared key seq level ∷ lines) t = image_unclosed lines t
-image_unclosed (other ∷ lines) t = cc
 
 -- ---- each line
 
@@ -433,50 +433,46 @@ module _ (w : PlainWorld) (r : Chronicle) (ranged : IsRanged w) (a : Agrees w r)
       by None e = tt
       by (Some node) e = good_of w r n node ranged a e
 
-  -- where a test passes none that closes
-  unclosed : (q : Event → Bool) → ((line : Event) → q line ≡ true → is_none_closing line ≡ true) → (lines : List Event) → Are q lines → AllBreak r.clients_at None lines
-  unclosed q none lines t = none_break r.clients_at lines (none_of r.clients_at lines (by lines t)) None
+  -- where a line may tell of none that closes, or tells of it where its node stopped alone
+  unclosed : (asked : Verb) → ((line : Event) → may_tell r asked line ≡ true → is_none_closing line ≡ true) → (lines : List Event) → TellsOf r asked lines → AllBreak r.clients_at None lines
+  unclosed asked none lines t = by None lines t
     where
-      by : (lines : List Event) → Are q lines → Are is_none_closing lines
-      by [] t = refl
-      by (line ∷ lines) t = let p = and_parts (q line) (are_all q lines) t in are_cons is_none_closing line lines (none line p.0) (by lines p.1)
+      by : (before : Option Event) (lines : List Event) → Tell (may_tell r asked) (is_of_end r) lines → AllBreak r.clients_at before lines
+      by before [] t = tt
+      by before (Event.NodeStopped m ∷ lines) t = tt
+      by before (Event.Closed m c ∷ lines) t = let p = and_parts (may_tell r asked (Event.Closed m c)) _ t in let z : false ≡ true = none (Event.Closed m c) p.0 in cc
+      by before (line ∷ lines) t = let p = and_parts (may_tell r asked line) (are_told (may_tell r asked) (is_of_end r) lines) t in by (Some line) lines p.1
 
-  shown_breaks : (n v : ℕ) (lines : List Event) (said : Answer) → TellsIfDone (IsShowLine n v) lines said → AllBreak r.clients_at None lines
-  shown_breaks n v lines Answer.Ok (role, uuid, at, ss, se, docs, preps, image, is, all) = subst (AllBreak r.clients_at None) (sym is) (none_break r.clients_at image (none_of r.clients_at image (image_unclosed image all)) (Some (Event.Shown n v role uuid at ss se docs preps)))
-  shown_breaks n v lines (Answer.Number count) t = absurd t
-  shown_breaks n v lines (Answer.Pulled count why) t = absurd t
-  shown_breaks n v lines (Answer.No why) none = subst (AllBreak r.clients_at None) (sym none) tt
+  vb_breaks : (number n v : ℕ) (what : VbVerb) → (let y = (verb_step w number (Verb.AtVb n v what)).1 in TellsOf r (Verb.AtVb n v what) y.events → ClosesAsBroken r (Verb.AtVb n v what) y.events)
+  vb_breaks number n v (VbVerb.Chain others) t = on_break n (chain_line n v others) (chain_break r.clients_at n v others) None
+  vb_breaks number n v VbVerb.Tick t = on_break n (tick_line n v) (λ node good. settles_break r.clients_at n v (VbCall.Tick node.clock) node good) None
+  vb_breaks number n v VbVerb.Done t = due_break r.clients_at n v (on_node w n (flush_line n v part.Done)) (on_break n (flush_line n v part.Done) (flush_break r.clients_at n v part.Done)) None
+  vb_breaks number n v (VbVerb.MakeActive uuid) t = armed_break r.clients_at n w (on_node w n (vb_at w.uuids n v uuid)) (on_break n (vb_at w.uuids n v uuid) (λ node good. made_break r.clients_at n v Role.Active uuid (first_cause (vb_causes w.uuids node v uuid)) node)) None
+  vb_breaks number n v VbVerb.MakeReplica t = armed_break r.clients_at n w (on_node w n (replica_at n v)) (on_break n (replica_at n v) (λ node good. made_break r.clients_at n v Role.Replica 0 (first_cause (replica_causes node v)) node)) None
+  vb_breaks number n v (VbVerb.Promote uuid) t = role_break r.clients_at n v w (AdminCall.Promote uuid) (rises r.clients_at n v uuid) refl (first_cause (promote_causes w n v uuid)) (good_at n) None
+  vb_breaks number n v VbVerb.Follow t = role_break r.clients_at n v w AdminCall.Follow (follows r.clients_at n v) refl (first_cause (turn_causes w n v Role.Replica)) (good_at n) None
+  vb_breaks number n v VbVerb.Dead t = role_break r.clients_at n v w AdminCall.Dead (dies r.clients_at n v) refl (first_cause (turn_causes w n v Role.Dead)) (good_at n) None
+  vb_breaks number n v VbVerb.Save t = armed_break r.clients_at n w (on_node w n (save_line n v)) (on_break n (save_line n v) (λ node good. flush_break r.clients_at n v part.Save (placed v node) good)) None
+  vb_breaks number n v VbVerb.Seal t = unclosed (Verb.AtVb n v VbVerb.Seal) none_unclosed (verb_step w number (Verb.AtVb n v VbVerb.Seal)).1.events t
+  vb_breaks number n v VbVerb.Take t = unclosed (Verb.AtVb n v VbVerb.Take) (take_unclosed r n v) (verb_step w number (Verb.AtVb n v VbVerb.Take)).1.events t
+  vb_breaks number n v VbVerb.Stat t = unclosed (Verb.AtVb n v VbVerb.Stat) (stat_unclosed r n v) (verb_step w number (Verb.AtVb n v VbVerb.Stat)).1.events t
+  vb_breaks number n v VbVerb.Log t = unclosed (Verb.AtVb n v VbVerb.Log) (log_unclosed r n v) (verb_step w number (Verb.AtVb n v VbVerb.Log)).1.events t
+  vb_breaks number n v VbVerb.Show t = unclosed (Verb.AtVb n v VbVerb.Show) (show_unclosed r n v) (verb_step w number (Verb.AtVb n v VbVerb.Show)).1.events t
 
-  vb_breaks : (number n v : ℕ) (what : VbVerb) → (let y = (verb_step w number (Verb.AtVb n v what)).1 in TellsOf (Verb.AtVb n v what) y.events → TellsAsAsked r (Verb.AtVb n v what) y.events y.answer → ClosesAsBroken r (Verb.AtVb n v what) y.events)
-  vb_breaks number n v (VbVerb.Chain others) t k = on_break n (chain_line n v others) (chain_break r.clients_at n v others) None
-  vb_breaks number n v VbVerb.Tick t k = on_break n (tick_line n v) (λ node good. settles_break r.clients_at n v (VbCall.Tick node.clock) node good) None
-  vb_breaks number n v VbVerb.Done t k = due_break r.clients_at n v (on_node w n (flush_line n v part.Done)) (on_break n (flush_line n v part.Done) (flush_break r.clients_at n v part.Done)) None
-  vb_breaks number n v (VbVerb.MakeActive uuid) t k = armed_break r.clients_at n w (on_node w n (vb_at w.uuids n v uuid)) (on_break n (vb_at w.uuids n v uuid) (λ node good. made_break r.clients_at n v Role.Active uuid (first_cause (vb_causes w.uuids node v uuid)) node)) None
-  vb_breaks number n v VbVerb.MakeReplica t k = armed_break r.clients_at n w (on_node w n (replica_at n v)) (on_break n (replica_at n v) (λ node good. made_break r.clients_at n v Role.Replica 0 (first_cause (replica_causes node v)) node)) None
-  vb_breaks number n v (VbVerb.Promote uuid) t k = role_break r.clients_at n v w (AdminCall.Promote uuid) (rises r.clients_at n v uuid) refl (first_cause (promote_causes w n v uuid)) (good_at n) None
-  vb_breaks number n v VbVerb.Follow t k = role_break r.clients_at n v w AdminCall.Follow (follows r.clients_at n v) refl (first_cause (turn_causes w n v Role.Replica)) (good_at n) None
-  vb_breaks number n v VbVerb.Dead t k = role_break r.clients_at n v w AdminCall.Dead (dies r.clients_at n v) refl (first_cause (turn_causes w n v Role.Dead)) (good_at n) None
-  vb_breaks number n v VbVerb.Save t k = armed_break r.clients_at n w (on_node w n (save_line n v)) (on_break n (save_line n v) (λ node good. flush_break r.clients_at n v part.Save (placed v node) good)) None
-  vb_breaks number n v VbVerb.Seal t k = unclosed is_none none_unclosed (verb_step w number (Verb.AtVb n v VbVerb.Seal)).1.events t
-  vb_breaks number n v VbVerb.Take t k = unclosed (at_vb n v VbVerb.Take) (take_unclosed n v) (verb_step w number (Verb.AtVb n v VbVerb.Take)).1.events t
-  vb_breaks number n v VbVerb.Stat t k = unclosed (at_vb n v VbVerb.Stat) (stat_unclosed n v) (verb_step w number (Verb.AtVb n v VbVerb.Stat)).1.events t
-  vb_breaks number n v VbVerb.Log t k = unclosed (at_vb n v VbVerb.Log) (log_unclosed n v) (verb_step w number (Verb.AtVb n v VbVerb.Log)).1.events t
-  vb_breaks number n v VbVerb.Show t k = shown_breaks n v (verb_step w number (Verb.AtVb n v VbVerb.Show)).1.events (verb_step w number (Verb.AtVb n v VbVerb.Show)).1.answer k
-
-  pub line_breaks : (number : ℕ) (line : Verb) → (let y = (verb_step w number line).1 in TellsOf line y.events → TellsAsAsked r line y.events y.answer → ClosesAsBroken r line y.events)
-  line_breaks number (Verb.AtClient n c (ClientVerb.Bytes bytes)) t k = bytes_break w r n c bytes ranged a
-  line_breaks number (Verb.AtClient n c ClientVerb.Open) t k = unclosed is_none none_unclosed (verb_step w number (Verb.AtClient n c ClientVerb.Open)).1.events t
-  line_breaks number (Verb.AtClient n c ClientVerb.Hang) t k = unclosed is_none none_unclosed (verb_step w number (Verb.AtClient n c ClientVerb.Hang)).1.events t
-  line_breaks number (Verb.AtClient n c (ClientVerb.Pull wanted)) t k = unclosed is_of_pulls pulls_unclosed (verb_step w number (Verb.AtClient n c (ClientVerb.Pull wanted))).1.events t
-  line_breaks number (Verb.Node n) t k = unclosed is_none none_unclosed (verb_step w number (Verb.Node n)).1.events t
-  line_breaks number (Verb.Link l m n v buffer) t k = unclosed is_none none_unclosed (verb_step w number (Verb.Link l m n v buffer)).1.events t
-  line_breaks number (Verb.AtNode n (NodeVerb.Clock nanos)) t k = unclosed is_none none_unclosed (verb_step w number (Verb.AtNode n (NodeVerb.Clock nanos))).1.events t
-  line_breaks number (Verb.AtNode n (NodeVerb.Stop call out)) t k = unclosed is_none none_unclosed (verb_step w number (Verb.AtNode n (NodeVerb.Stop call out))).1.events t
-  line_breaks number (Verb.AtNode n (NodeVerb.Fail call)) t k = unclosed is_none none_unclosed (verb_step w number (Verb.AtNode n (NodeVerb.Fail call))).1.events t
-  line_breaks number (Verb.AtNode n (NodeVerb.Crash out)) t k = tt
-  line_breaks number (Verb.AtNode n (NodeVerb.Start uuids)) t k = unclosed (is_of_start n) (start_unclosed n) (verb_step w number (Verb.AtNode n (NodeVerb.Start uuids))).1.events t
-  line_breaks number (Verb.AtVb n v what) t k = vb_breaks number n v what t k
-  line_breaks number (Verb.AtLink l (LinkVerb.Up wanted)) t k = up_break l wanted None
-  line_breaks number (Verb.AtLink l (LinkVerb.Down wanted)) t k = down_break r.clients_at w l wanted None
-  line_breaks number (Verb.AtLink l (LinkVerb.Pump wanted)) t k = unclosed (is_of_pump l) (pump_unclosed l) (verb_step w number (Verb.AtLink l (LinkVerb.Pump wanted))).1.events k
-  line_breaks number (Verb.AtLink l LinkVerb.Cut) t k = unclosed (at_link l LinkVerb.Cut) (cut_unclosed l) (verb_step w number (Verb.AtLink l LinkVerb.Cut)).1.events t
+  pub line_breaks : (number : ℕ) (line : Verb) → (let y = (verb_step w number line).1 in TellsOf r line y.events → ClosesAsBroken r line y.events)
+  line_breaks number (Verb.AtClient n c (ClientVerb.Bytes bytes)) t = bytes_break w r n c bytes ranged a
+  line_breaks number (Verb.AtClient n c ClientVerb.Open) t = unclosed (Verb.AtClient n c ClientVerb.Open) none_unclosed (verb_step w number (Verb.AtClient n c ClientVerb.Open)).1.events t
+  line_breaks number (Verb.AtClient n c ClientVerb.Hang) t = unclosed (Verb.AtClient n c ClientVerb.Hang) none_unclosed (verb_step w number (Verb.AtClient n c ClientVerb.Hang)).1.events t
+  line_breaks number (Verb.AtClient n c (ClientVerb.Pull wanted)) t = unclosed (Verb.AtClient n c (ClientVerb.Pull wanted)) (pull_unclosed n c) (verb_step w number (Verb.AtClient n c (ClientVerb.Pull wanted))).1.events t
+  line_breaks number (Verb.Node n) t = unclosed (Verb.Node n) none_unclosed (verb_step w number (Verb.Node n)).1.events t
+  line_breaks number (Verb.Link l m n v buffer) t = unclosed (Verb.Link l m n v buffer) none_unclosed (verb_step w number (Verb.Link l m n v buffer)).1.events t
+  line_breaks number (Verb.AtNode n (NodeVerb.Clock nanos)) t = unclosed (Verb.AtNode n (NodeVerb.Clock nanos)) none_unclosed (verb_step w number (Verb.AtNode n (NodeVerb.Clock nanos))).1.events t
+  line_breaks number (Verb.AtNode n (NodeVerb.Stop call out)) t = unclosed (Verb.AtNode n (NodeVerb.Stop call out)) none_unclosed (verb_step w number (Verb.AtNode n (NodeVerb.Stop call out))).1.events t
+  line_breaks number (Verb.AtNode n (NodeVerb.Fail call)) t = unclosed (Verb.AtNode n (NodeVerb.Fail call)) none_unclosed (verb_step w number (Verb.AtNode n (NodeVerb.Fail call))).1.events t
+  line_breaks number (Verb.AtNode n (NodeVerb.Crash out)) t = tt
+  line_breaks number (Verb.AtNode n (NodeVerb.Start uuids)) t = unclosed (Verb.AtNode n (NodeVerb.Start uuids)) (start_unclosed n) (verb_step w number (Verb.AtNode n (NodeVerb.Start uuids))).1.events t
+  line_breaks number (Verb.AtVb n v what) t = vb_breaks number n v what t
+  line_breaks number (Verb.AtLink l (LinkVerb.Up wanted)) t = up_break l wanted None
+  line_breaks number (Verb.AtLink l (LinkVerb.Down wanted)) t = down_break r.clients_at w l wanted None
+  line_breaks number (Verb.AtLink l (LinkVerb.Pump wanted)) t = unclosed (Verb.AtLink l (LinkVerb.Pump wanted)) (pump_unclosed (r.dial_of l) l wanted) (verb_step w number (Verb.AtLink l (LinkVerb.Pump wanted))).1.events t
+  line_breaks number (Verb.AtLink l LinkVerb.Cut) t = unclosed (Verb.AtLink l LinkVerb.Cut) (cut_unclosed (r.dial_of l) l) (verb_step w number (Verb.AtLink l LinkVerb.Cut)).1.events t

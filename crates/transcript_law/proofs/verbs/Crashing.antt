@@ -8,13 +8,14 @@ use Rattle.{branch_model.proofs.Lists.{upto_all}, branch_model.specs.Journals.{b
 use Rattle.{disk_journals.specs.Books.{Book, below, book_at, listed, listed_below}, disk_journals.proofs.Numbers.{lists_all}, disk_journals.specs.declared.crash.TheConstants.{NUMBERS}, vb_types.specs.declared.journal.Record.{Record}}
 use Rattle.{node_world.specs.Arms.{no_arm as unarmed}, node_world.specs.Power.{all_cut, books_left, crash_causes, crash_step, down_lines, dropped, is_this_number, stopped_node, touches}, node_world.specs.Worlds.{is_up, node_if}}
 use Rattle.{vb_calls.specs.Shelves.{Shelf, left_book}, vb_disk.specs.declared.made.Outcome.{Outcome}}
-use Rattle.transcript_law.specs.Chronicles.{after_crash, after_crashed, alone, crashed_disk, known_down, finds, is_dial_at, newest_or, resting}
-use Rattle.transcript_law.proofs.{invariant.Agreement.{clock_of, Agrees, AgreesAt, AgreesIn, AwayAt, BookAgrees, DiskIsIf, DownHolds, GoesOn, IsAway, IsLink, LinkAgrees, Power, PowerIsIf, VbIsIf, VbRow, book_in, idle, is_down, power_of, shelf_of, top, vb_contents, vb_of, vb_row}, disks.ArmedLines.{AreEnds}}
+use Rattle.transcript_law.specs.Chronicles.{after_crash, after_crashed, alone, crashed_disk, known_down, finds, is_dial_at, newest_or, resting, after_ending}
+use Rattle.transcript_law.proofs.{invariant.Agreement.{clock_of, Agrees, AgreesAt, AgreesIn, AwayAt, BookAgrees, DiskIsIf, DownHolds, GoesOn, IsAway, IsLink, LinkAgrees, Power, PowerIsIf, VbIsIf, VbRow, book_in, idle, is_down, is_running, power_of, shelf_of, top, vb_contents, vb_of, vb_row}, disks.ArmedLines.{AreEnds}}
 use Rattle.transcript_law.proofs.{invariant.Carried.{branches_again, kept_same, link_carried, numbers}, disks.Crashed.{Loads, UnmadeIf, Written, are_written, away_late, crash_all, crash_here, crash_sound, crash_there, crash_tree, crashed_away, crashed_disk_is, crashed_rests, crashed_row, logs_fit, stood_end}}
-use Rattle.transcript_law.proofs.{disks.Disks.{AwayAgrees, power_in}, disks.Downed.{AreDialed, Downed, IsFree, down_dialed, down_ends, downed, ends_lawful, none_free, with_known}, invariant.Seats.{seat, seat_one}, invariant.Tables.{id_here, id_there, none_hold}, invariant.Trees.{IdsFit}}
+use Rattle.transcript_law.proofs.{disks.Disks.{AwayAgrees, power_in}, disks.Downed.{AreDialed, Downed, IsFree, down_closes, down_dialed, down_ends, downed, ends_lawful, none_free, with_known}, invariant.Seats.{seat, seat_one}, invariant.Tables.{id_here, id_there, none_hold}, invariant.Trees.{IdsFit}}
 use Rattle.transcript_law.proofs.invariant.{Carried.{all_there}, Carrying.{same_arms}, ClientsKept.{ConnsKept, OfOthers, clients_gone, goes_same, others_owed, spot_at, spot_same}, Owed.{Fewer, fewer_none, fewer_same}}
 use Rattle.transcript_law.specs.{Feeding.{client_in}, StreamsTold.{ClientsKnown}}
-use Rattle.transcript_law.proofs.invariant.Owing.{later_same}
+use Rattle.transcript_law.proofs.{indexers.Beside.{beside}, invariant.Owing.{later_same}}
+use Rattle.transcript_law.specs.LinesTold.{without_node}
 
 -- the books that a crash leaves
 
@@ -331,7 +332,7 @@ module _ (w : PlainWorld) (r : Chronicle) (c : Cluster) (n : ℕ) (node : PlainN
       aways = aways_are;
       downs = downs_are;
       ends = λ x i. let ne = both_apart x i in let e = a.ends x i in record {
-        producer = ap (λ o. is_down (power_in o)) (there (producer_node x) ne.0) ∙ e.producer;
+        producer = ap (λ o. is_running (power_in o)) (there (producer_node x) ne.0) ∙ e.producer;
         consumer = ap (λ o. is_down (power_in o)) (there (consumer_node x) ne.1) ∙ e.consumer;
         number = e.number;
       };
@@ -379,13 +380,16 @@ drops stays w r n out also (c, a) up free besides =
     }
 
 -- `crash N OUT`
-pub crash_goes : StaysSound → (w : PlainWorld) (r : Chronicle) (n : ℕ) (out : Outcome) → Agrees w r → GoesOn r (λ told. after_crashed told n out (crash_step w n out).1.answer) (crash_step w n out)
+pub crash_goes : StaysSound → (w : PlainWorld) (r : Chronicle) (n : ℕ) (out : Outcome) → Agrees w r → GoesOn (after_ending r n (crash_step w n out).1.answer) (λ told. after_crashed told n out (crash_step w n out).1.answer) (crash_step w n out)
 crash_goes stays w r n out a = by (first_cause (crash_causes w n)) refl
   where
     up : (b : Bool) → not b ≡ false → b ≡ true
     up true e = refl
     up false e = cc
 
-    by : (why : Option Cause) → first_cause (crash_causes w n) ≡ why → GoesOn r (λ told. after_crashed told n out (refused_or why w (dropped n out w, done (down_lines n None w))).1.answer) (refused_or why w (dropped n out w, done (down_lines n None w)))
+    by : (why : Option Cause) → first_cause (crash_causes w n) ≡ why → (let x = refused_or why w (dropped n out w, done (down_lines n None w)) in GoesOn (after_ending r n x.1.answer) (λ told. after_crashed told n out x.1.answer) x)
     by (Some why) e = (tt, a)
-    by None e = let clear = none_hold (crash_causes w n) e in let d = drops stays w r n out None a (up (is_up (w.nodes n)) clear.1.0) (none_free w.links) (λ l e. cc) in (ends_lawful r (down_lines n None w) d.ends d.dialed, d.agrees)
+    by None e =
+        let clear = none_hold (crash_causes w n) e in let gone : Chronicle = record r { conn_at = without_node r.conn_at n } in
+        let d = drops stays w gone n out None (a.0, beside w r gone.conn_at r.made r.ticks r.changed a.0 (λ one durable i. i) a.1) (up (is_up (w.nodes n)) clear.1.0) (none_free w.links) (λ l e. cc) in
+        (ends_lawful n gone (down_lines n None w) d.ends (down_closes n None w) (λ c. ap (λ b. if b then false else r.conn_at n c) (eq-eqb n n refl)) d.dialed, d.agrees)

@@ -10,8 +10,7 @@ use Rattle.transcript_law.proofs.invariant.Seats.{seat}
 use Rattle.transcript_law.proofs.invariant.Agreement.{vb_of, VbAgrees, AgreesAt, Talk, AckedIs, producer_seat, LinkAgrees, IsLink, idle, AgreesIn, Agrees, GoesOn, EndsStand, consumer_seat}
 use Rattle.transcript_law.proofs.invariant.LinkRows.{is_link_more, differ_more}
 use Rattle.transcript_law.proofs.invariant.Carried.{fed_same, kept_same, agrees_carried, stays_same, link_carried}
-use Rattle.{node_world.specs.Worlds.{is_off}, transcript_law.proofs.{invariant.Agreement.{EndsUp}, invariant.Resting.{off_as_power}}}
-use Rattle.{dcp_consumer.specs.Dialing.{numbered, stream_opaque}, dcp_consumer.specs.declared.handshake.Dialed.{Dialed}, transcript_law.proofs.links.Firsts.{asks_from, firsts, request_frames}}
+use Rattle.{node_world.specs.Worlds.{is_off}, transcript_law.proofs.{invariant.Agreement.{EndsUp}, invariant.Resting.{off_as_power, runs_as_power}}, dcp_consumer.specs.Dialing.{numbered, stream_opaque, flagged}, dcp_consumer.specs.declared.handshake.Dialed.{Dialed}, transcript_law.proofs.links.Firsts.{asks_from, firsts, request_frames}}
 use Rattle.transcript_law.proofs.links.Requests.{dials_waiting, first_asked, opaque_small, opaque_some, requests_readable}
 use Rattle.transcript_law.proofs.links.Verdicts.{asks_in_range}
 use Rattle.transcript_law.proofs.invariant.{Carried.{all_there}, ClientsKept.{all_kept, clients_kept, every_owed}, LinkFeeds.{link_feeds}, LinkRows.{found_is_link}}
@@ -19,10 +18,10 @@ use Rattle.transcript_law.specs.Feeding.{HasFed, HasOpen}
 use Rattle.transcript_law.proofs.invariant.Owing.{later_same}
 
 -- what a consumer writes is the spelling of its requests
-requests_spelled : (d : Dialed) (ask : StreamAsk) → requests d ask ≡ concat (map spelling (request_frames (stream_opaque d.buffer) d ask))
+requests_spelled : (d : Dialed) (ask : StreamAsk) → requests d ask ≡ concat (map spelling (request_frames (stream_opaque d.buffer) d (flagged d.takeover ask)))
 unfolding requests
 requests_spelled d ask =
-    let last : Frame = dcp_frame (DcpMsg.StreamRequest ask) (stream_opaque d.buffer) d.vb in let first : List Frame = asks_from 1 (firsts d) in
+    let last : Frame = dcp_frame (DcpMsg.StreamRequest (flagged d.takeover ask)) (stream_opaque d.buffer) d.vb in let first : List Frame = asks_from 1 (firsts d) in
     ap (λ ms. concat (map spelling (numbered 1 ms)) ++ spelling last) (first_asked d)
     ∙ ap (λ l. concat (map spelling first) ++ l) (sym (append-nil (spelling last)))
     ∙ sym (concat-append (map spelling first) (spelling last ∷ [])) ∙ ap concat (sym (map-append spelling first (last ∷ [])))
@@ -34,6 +33,10 @@ asks_as vb ask = elim (is_follower vb.role)
     [ true ↦ λ e. let same : request_of vb.log vb.position ≡ ask = cc in (refl, sym same) | false ↦ λ e. cc ]
 
 -- a number that no link has, and a vBucket that none feeds
+both_made : (a b : Bool) → not (a && b) ≡ false → a ≡ true
+both_made true b e = refl
+both_made false b e = cc
+
 neither : (a b : Bool) → (a || b) ≡ false → (a ≡ false) × (b ≡ false)
 neither true b e = cc
 neither false b e = (refl, e)
@@ -48,10 +51,14 @@ free_links (y ∷ ys) l n v e x i =
     (eqb-false (link_number y) l here.0, λ f g. never (sym (ap (λ b. b && y.consumer.dialed.vb == v) (eq-eqb (consumer_node y) n f) ∙ eq-eqb y.consumer.dialed.vb v g) ∙ here.1)))
     (λ j. free_links ys l n v both.1 x j) i
 
-module _ (w : PlainWorld) (r : Chronicle) (line l m n v buffer : ℕ) (small : (n < 16) × (v < 1024) × (buffer < 2 ^ 32)) (number : l < 1000) (up : (is_off (w.nodes m) ≡ false) × (is_off (w.nodes n) ≡ false)) (c : Cluster) (a : AgreesIn idle w r c) (fv : Plain) (ask : StreamAsk)
+module _ (w : PlainWorld) (r : Chronicle) (line l m n v buffer : ℕ) (small : (n < 16) × (v < 1024) × (buffer < 2 ^ 32)) (number : l < 1000) (made : is_some (w.nodes m) ≡ true) (up : (is_off (w.nodes m) ≡ false) × (is_off (w.nodes n) ≡ false)) (c : Cluster) (a : AgreesIn idle w r c) (fv : Plain) (ask : StreamAsk)
     (known : vb_of w n v ≡ Some fv) (asked : ask_of fv ≡ Some ask) (free : is_taken w.links l n v ≡ false) where
   abbrev new : PlainLink
   new = new_link line l m n v buffer ask
+
+  -- the request as it goes out
+  abbrev out : StreamAsk
+  out = flagged false ask
 
   abbrev dialed : PlainWorld
   dialed = with_links w (w.links ++ new ∷ [])
@@ -66,9 +73,9 @@ module _ (w : PlainWorld) (r : Chronicle) (line l m n v buffer : ℕ) (small : (
   asking =
       let asks = asks_as fv ask asked in
       record {
-        asked = request_frames new.consumer.asked new.consumer.dialed ask;
+        asked = request_frames new.consumer.asked new.consumer.dialed out;
         said = [];
-        stands = EndsStand.IsAsking ask (ap (λ b. if b then None else r.stream_of (StreamName.Link l) v) (eq-eqb l l refl)) (record {
+        stands = EndsStand.IsAsking out (ap (λ b. if b then None else r.stream_of (StreamName.Link l) v) (eq-eqb l l refl)) (record {
           no_stream = refl;
           fewer = opaque_some buffer;
           asking = record {
@@ -78,16 +85,16 @@ module _ (w : PlainWorld) (r : Chronicle) (line l m n v buffer : ℕ) (small : (
             not_more = omega arith;
             server = refl;
             consumer = record { waits = dials_waiting new.consumer.dialed; small = opaque_small buffer };
-            asks = asks.1;
+            asks = ap (flagged false) asks.1;
             asked_is = refl;
             said_is = refl;
           };
         });
         ups = record {
-          behind = request_frames new.consumer.asked new.consumer.dialed ask;
+          behind = request_frames new.consumer.asked new.consumer.dialed out;
           joined = refl;
           bytes = requests_spelled new.consumer.dialed ask;
-          readable = requests_readable new.consumer.asked new.consumer.dialed ask (opaque_small buffer) small (subst AskInRange (sym asks.1) (asks_in_range fv follower.sound follower.entries));
+          readable = requests_readable new.consumer.asked new.consumer.dialed out (opaque_small buffer) small (subst AskInRange (sym (ap (flagged false) asks.1)) (asks_in_range fv follower.sound follower.entries));
         };
         downs = record { behind = []; joined = refl; bytes = refl; readable = All-nil Readable };
       }
@@ -98,7 +105,7 @@ module _ (w : PlainWorld) (r : Chronicle) (line l m n v buffer : ℕ) (small : (
     follower_is = known;
     follows = (asks_as fv ask asked).0;
     acks = subst (λ o. AckedIs o 0) (sym (ap (λ b. if b then None else r.stream_of (StreamName.Link l) v) (eq-eqb l l refl))) refl;
-    dial = record { dialed = id_here r.dial_of l (Some (record { producer = m; node = n; vb = v })); named = refl; small = small };
+    dial = record { dialed = id_here r.dial_of l (Some (record { producer = m; node = n; vb = v })); named = refl; small = small; alone = refl };
     talk = asking;
   }
 
@@ -128,7 +135,7 @@ module _ (w : PlainWorld) (r : Chronicle) (line l m n v buffer : ℕ) (small : (
       aways = a.aways;
       downs = a.downs;
       ends = λ x i. ⊎_elim
-          (λ e. subst (EndsUp dialed) (sym e) (record { producer = off_as_power (w.nodes m) ∙ up.0; consumer = off_as_power (w.nodes n) ∙ up.1; number = number }))
+          (λ e. subst (EndsUp dialed) (sym e) (record { producer = runs_as_power (w.nodes m) made up.0; consumer = off_as_power (w.nodes n) ∙ up.1; number = number }))
           (λ j. let e = a.ends x j in record { producer = e.producer; consumer = e.consumer; number = e.number })
           (is_link_more x new w.links i);
       small = a.small;
@@ -154,16 +161,16 @@ module _ (w : PlainWorld) (r : Chronicle) (line l m n v buffer : ℕ) where
   abbrev Goes : Option Cause → Option StreamAsk → Type 0
   Goes why ask = GoesOn r (λ told. after_dial told l m n v (outcome why ask).1.answer) (outcome why ask)
 
-  opened : Agrees w r → (n < 16) × (v < 1024) × (buffer < 2 ^ 32) → l < 1000 → (is_off (w.nodes m) || is_off (w.nodes n)) ≡ false → (o : Option Plain) → vb_of w n v ≡ o → (q : Option StreamAsk) → option_and_then ask_of o ≡ q
+  opened : Agrees w r → (n < 16) × (v < 1024) × (buffer < 2 ^ 32) → l < 1000 → not (is_some (w.nodes m) && is_some (w.nodes n)) ≡ false → (is_off (w.nodes m) || is_off (w.nodes n)) ≡ false → (o : Option Plain) → vb_of w n v ≡ o → (q : Option StreamAsk) → option_and_then ask_of o ≡ q
       → not (is_some q) ≡ false → is_taken w.links l n v ≡ false → Goes None q
-  opened a small number up o known None e some free = never some
-  opened a small number up None none (Some ask) e some free = no_ask ask e
-  opened a small number up (Some fv) known (Some ask) e some free = (tt, (a.0, dialed_agrees w r line l m n v buffer small number (neither (is_off (w.nodes m)) (is_off (w.nodes n)) up) a.0 a.1 fv ask known e free))
+  opened a small number there up o known None e some free = never some
+  opened a small number there up None none (Some ask) e some free = no_ask ask e
+  opened a small number there up (Some fv) known (Some ask) e some free = (tt, (a.0, dialed_agrees w r line l m n v buffer small number (both_made (is_some (w.nodes m)) (is_some (w.nodes n)) there) (neither (is_off (w.nodes m)) (is_off (w.nodes n)) up) a.0 a.1 fv ask known e free))
 
   by_cause : Agrees w r → (n < 16) × (v < 1024) × (buffer < 2 ^ 32) → l < 1000 → (why : Option Cause) → first_cause (link_causes w l m n v) ≡ why → Goes why (ask_in w n v)
   by_cause a small number (Some why) e = (tt, a)
   by_cause a small number None e =
-      let clear = none_hold (link_causes w l m n v) e in opened a small number clear.1.0 (vb_of w n v) refl (ask_in w n v) refl clear.1.1.1.0 clear.1.1.1.1.0
+      let clear = none_hold (link_causes w l m n v) e in opened a small number clear.0 clear.1.0 (vb_of w n v) refl (ask_in w n v) refl clear.1.1.1.0 clear.1.1.1.1.0
 
 -- `link L M N V BUF`
 pub link_goes : (w : PlainWorld) (r : Chronicle) (line l m n v buffer : ℕ) → VerbFits (Verb.Link l m n v buffer) → Agrees w r

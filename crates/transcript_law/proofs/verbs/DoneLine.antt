@@ -5,7 +5,7 @@ use Rattle.node_core.specs.{Calls.{own_lines_if}, Flushing.{flush_at, flush_resu
 use Rattle.node_world.specs.{Dues.{done_step, due_at, due_in, due_of, is_counted}, Nodes.{all_posted, flush_line, with_kept}}
 use Rattle.transcript_law.proofs.{invariant.Agreement.{Agrees, GoesOn}, lines.ClientLines.{clients_quiet, posts_of_clients}, verbs.DueLines.{due_goes}, verbs.FiredLines.{flush_steps}, verbs.FlushLines.{done_node_goes}, lines.Lines.{AreQuiet, quiet_more}, verbs.NodeLines.{as_told, on_node_by}, invariant.Ranged.{IsRanged, NodeRanged, NodeRangedIf}, verbs.Settling.{Steady, changes_quiet}}
 use Rattle.transcript_law.proofs.lines.Calm.{any_job}
-use Rattle.transcript_law.specs.Chronicles.{after_done}
+use Rattle.transcript_law.specs.{Chronicles.{after_done}, LawfulAnswers.{AllDurable}}
 use Rattle.vb_calls.specs.Flushes.{part_job}
 use Rattle.vb_calls.specs.declared.journals.Flushed.{Flushed}
 use Rattle.vb_types.specs.declared.journal.FlushPart.TheVariants as part
@@ -43,8 +43,8 @@ due_answer n v o = by_counted (is_counted o.1.answer)
     by_counted true = by_link (own_link n v o.0.links)
     by_counted false = refl
 
-pub done_goes : StaysSound → Steady → BatchesAreWhole → (w : PlainWorld) (r : Chronicle) (n v : ℕ) → IsRanged w → Agrees w r → GoesOn (after_done r n v (done_step w n v).1.answer) as_told (done_step w n v)
-done_goes stays steady wholes w r n v ranged a =
+pub done_goes : StaysSound → Steady → BatchesAreWhole → (w : PlainWorld) (r : Chronicle) (n v : ℕ) → IsRanged w → AllDurable r.made → Agrees w r → GoesOn (after_done r n v (done_step w n v).1.answer) as_told (done_step w n v)
+done_goes stays steady wholes w r n v ranged calm a =
     let o : Outcome = on_node w n (flush_line n v part.Done) in
     subst (λ said. GoesOn (after_done r n v said) as_told (due_in n v o)) (sym (due_answer n v o))
-    (due_goes o.0 (after_done r n v o.1.answer) n v o.1 (done_quiet w n v ranged) (done_node_goes stays steady wholes w r n v ranged a))
+    (due_goes o.0 (after_done r n v o.1.answer) n v o.1 (done_quiet w n v ranged) (done_node_goes stays steady wholes w r n v ranged a calm))

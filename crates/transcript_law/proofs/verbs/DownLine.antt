@@ -119,7 +119,7 @@ module _ (stays : StaysSound) (line : Line) where
   frames_reached frames states s x = subst (Reached line []) (sym (after_job_fold frame_taken frames (Ended s) states.0 states.1)) (all_frames frames (states, s) x)
 
 -- a link is not over while an answer or its stream is waited for
-open_of : {fv : Wants} {kn : Member} {pv : Option Plain} {leader : Member} {g : Option Granted} {point : Option ℕ} {served : PlainProducer} {asker : PlainConsumer} {asked said : List Frame} → EndsStand fv kn pv leader g point served asker asked said
+pub open_of : {fv : Wants} {kn : Member} {pv : Option Plain} {leader : Member} {g : Option Granted} {point : Option ℕ} {served : PlainProducer} {asker : PlainConsumer} {asked said : List Frame} → EndsStand fv kn pv leader g point served asker asked said
     → over_why asker.handshake ≡ None
 open_of {asker = asker} (EndsStand.IsAsking ask none x) = ap over_why x.consumer.waits ∙ waits_open asker.dialed x.seen
 open_of {asker = asker} (EndsStand.IsRefusedYet none x) = ap over_why x.consumer.waits ∙ waits_open asker.dialed x.seen

@@ -122,7 +122,7 @@ module _ (n v : ℕ) (x : Waiting) (s : Resolving) (w : PlainWorld) (r : Chronic
   newest_is = newest w r cl n v node s.vb agrees known has change s.vb.last_cas active refl room fits named (without x.seq s.vb.waiting) sound
 
   lawful : LawfulChange r n v member.br change
-  lawful = is_lawful w r cl n v node s.vb agrees known has change s.vb.last_cas active refl room fits named (without x.seq s.vb.waiting) sound (resolving_is_next s.vb own.kept x (Abort x.seq) waits.0 waits.1 waits.2 refl refl refl refl) unheld
+  lawful = is_lawful w r cl n v node s.vb agrees known has change s.vb.last_cas active refl room fits named (without x.seq s.vb.waiting) sound (resolving_is_next s.vb own.kept x (Abort x.seq) waits.0 waits.1 waits.2 refl refl refl refl) (λ level doc deleted e. cc) unheld
       (λ prepared e. let z : Abort x.seq ≡ Abort prepared = e in let same : x.seq ≡ prepared = cc in subst (IsGivenUp r n v) same given)
 
   agrees_in : (w' : PlainWorld) → Changed w w' n v given_up.vb w.links → shelf_of w' n v ≡ shelf_of w n v → AgreesIn idle w' (after_change r n v member.br change) (happens cl (Move.Own (seat n v) change))

@@ -1,6 +1,6 @@
 -- the lines `take`, `done` and `stat`
 use Rattle.std.specs.Prelude.{◌≡◌, ◌+◌, ◌<◌, ◌≤◌, ◌∷◌, ◌++◌, ◌&&◌, if◌then◌else◌}
-use Rattle.transcript_law.proofs.Words.{ℕ, after_lines, Bool, true, false, List, [], length, refl, ap, sym, ◌∙◌, subst, arith, inl, Option, Some, None, eq-eqb, ne_eqb, Answer, Cause, Event, Plain, States, with_vb_at, VbCall, Span, after_job, PlainNode, PlainWorld}
+use Rattle.transcript_law.proofs.Words.{ℕ, after_lines, All, Bool, true, false, List, [], length, refl, ap, sym, ◌∙◌, subst, arith, inl, Option, Some, None, eq-eqb, ne_eqb, Answer, Cause, Event, Plain, States, with_vb_at, VbCall, Span, after_job, PlainNode, PlainWorld}
 use Rattle.transcript_law.proofs.Words.{with_node_at, vb_in, shelf_in, Chronicle, Cluster, Move, happens, keeps, Sound, StaysSound, Position, Change, last_seq, Covers, IsIn, Rises, on_node, admin_line, AdminCall, call_at, Outcome, ground, rises_in, rises_le, upto, above, Own, Received}
 use Rattle.transcript_law.proofs.Words.{VbAnswer, VbReply, newest_branch, quiet_reply, flat_map, is_some, length-append, list_any, with_states}
 use Rattle.transcript_law.proofs.{invariant.Agreement.{AgreesAt, AgreesIn, Agrees, DiskIsIf, GoesOn, VbAgrees, all_rise, idle, shelf_of, top, vb_of}, disks.Appending.{Rewritten, row_there, told_disk, unwritten}, disks.Disks.{FlushIs, ShelfIs, parts_of}, disks.Flushed.{flush_came}}
@@ -9,8 +9,9 @@ use Rattle.transcript_law.proofs.{invariant.OneLink.{disk_here, disk_there}, inv
 use Rattle.{branch_model.specs.Journals.{place_of}, cluster_model.specs.Clusters.{Disk, Fits, IsSpot}, node_core.specs.Flushing.{FlushResult, flush_if, flush_result}, node_world.specs.Nodes.{flush_line, with_kept, with_posts, written}}
 use Rattle.{transcript_law.specs.Chronicles.{DiskKnown, Flushing, after_batch, after_done, known_log, known_batch, with_disk}, transcript_law.specs.Lawfulness.{LawfulBatch}, std.specs.Prelude.{max, nat_le, nat_lt}, std.specs.Str.{bytes_eq}}
 use Rattle.node_core.specs.Calls.{own_lines}
-use Rattle.transcript_law.proofs.answers.{Claims.{ClaimAt, call_claims, changes_claim}, Committed.{AllHowTold, all_claimed, all_told}, Explained.{explained}}
-use Rattle.{durability.specs.declared.waiting.Waiting.{Waiting}, transcript_law.specs.Feeding.{client_in}, vb_types.specs.declared.change.Pend.{Pend}}
+use Rattle.transcript_law.proofs.answers.{Claims.{ClaimAt, call_claims, changes_claim}, Committed.{AllHowTold, all_claimed, all_told}, Explained.{explained}, Calm.{OfDurable, durable_settled, durable_told}}
+use Rattle.vbucket.proofs.RowIs.{Saves}
+use Rattle.{durability.specs.declared.waiting.Waiting.{Waiting}, vb_types.specs.declared.change.Pend.{Pend}, transcript_law.specs.{Feeding.{client_in}, LawfulAnswers.{AllDurable}}}
 use Rattle.transcript_law.proofs.{links.Behind.{nothing_beside, posts_behind}, invariant.Ranged.{IsRanged, NodeRanged, NodeRangedIf}, verbs.Settling.{SettlesOn, Steady, changes_quiet, changes_told, settled_told, settles}}
 use Rattle.vb_calls.specs.Settling.{Resolving, also_resolved, settled, unresolved}
 use Rattle.vb_calls.specs.Flushes.{batch_of_reply, finish_job, take_job, taken_job, took, took_nothing}
@@ -388,23 +389,24 @@ module _ (stays : StaysSound) (steady : Steady) (wholes : BatchesAreWhole) (w : 
     abbrev Claim : ℕ → Waiting → Pend → Type 0
     Claim = ClaimAt r n node.clients
 
-    done_agrees : GoesOn saved_as_known as_told (outcome ((last_states, with_shelf_at sh0 v done_shelf), Flushed.Done (Some done_reply)))
-    done_agrees = subst (λ (lines : List Event). let x = with_posts (done_lines lines) last_node in GoesOn saved_as_known as_told (with_node_at w n x.0, x.1)) (sym told_is)
+    done_agrees : AllDurable r.made → GoesOn saved_as_known as_told (outcome ((last_states, with_shelf_at sh0 v done_shelf), Flushed.Done (Some done_reply)))
+    done_agrees calm = subst (λ (lines : List Event). let x = with_posts (done_lines lines) last_node in GoesOn saved_as_known as_told (with_node_at w n x.0, x.1)) (sym told_is)
         (posts_behind stays steady w saved_as_known n last_node (done_lines (changes_told n v branch_is settles_on.cs)) as_told nothing_beside (record { clock = ranged.clock; clients = ranged.clients; own = ranged.own; runs = ranged.runs })
-        (all_claimed n (after_lines saved_as_known (changes_told n v branch_is settles_on.cs)).made Claim (ClaimAt (after_lines saved_as_known (changes_told n v branch_is settles_on.cs)) n node.clients) done_reply.resolved
+        (all_claimed n (after_lines saved_as_known (changes_told n v branch_is settles_on.cs)) Claim (ClaimAt (after_lines saved_as_known (changes_told n v branch_is settles_on.cs)) n node.clients) done_reply.resolved
         (changes_claim saved_as_known n v branch_is settles_on.cs node.clients)
-        (subst (λ ls. AllHowTold n (after_lines saved_as_known ls).made Claim done_reply.resolved) told_is
-        (all_told saved_as_known n v done_reply.branch Claim done_reply.changes vb (VbCall.FlushDone seq) done_reply.resolved (call_claims w r n v vb (VbCall.FlushDone seq) node.clients tt a.clients.owed (ap (λ o. vb_in o v) at ∙ known) (λ q. ap (λ o. client_in o q) at))
-        (explained vb (VbCall.FlushDone seq) (mine w r n v there).sound tt))))
+        (subst (λ ls. AllHowTold n (after_lines saved_as_known ls) Claim done_reply.resolved) told_is
+        (all_told saved_as_known n v done_reply.branch Claim done_reply.changes vb (VbCall.FlushDone seq) done_reply.resolved tt (call_claims w r n v vb (VbCall.FlushDone seq) node.clients tt a.clients.owed (ap (λ o. vb_in o v) at ∙ known) (λ q. ap (λ o. client_in o q) at))
+        (explained vb (Saves seq) (mine w r n v there).sound tt))))
+        (durable_told saved_as_known n v branch_is settles_on.cs (subst (All OfDurable) settles_on.changes (durable_settled saved_vb)) calm)
         (changes_quiet n v branch_is settles_on.cs) done_goes_on)
 
-  done_by : (flush : Flush) → shelf.flush ≡ flush → (let y = outcome (after_job (finish_job v flush) st0 sh0) in GoesOn (done_from y.1.answer) as_told y)
-  done_by Idle e = (tt, once)
-  done_by (Out b) e = (tt, once)
-  done_by (Written seq) e = subst (λ y. GoesOn (done_from (outcome y).1.answer) as_told (outcome y)) (sym (done_came seq e)) (done_agrees seq e)
+  done_by : AllDurable r.made → (flush : Flush) → shelf.flush ≡ flush → (let y = outcome (after_job (finish_job v flush) st0 sh0) in GoesOn (done_from y.1.answer) as_told y)
+  done_by calm Idle e = (tt, once)
+  done_by calm (Out b) e = (tt, once)
+  done_by calm (Written seq) e = subst (λ y. GoesOn (done_from (outcome y).1.answer) as_told (outcome y)) (sym (done_came seq e)) (done_agrees seq e calm)
 
-  pub done_there : GoesOn (done_from (flush_line n v part.Done node).1.answer) as_told (with_node_at w n (flush_line n v part.Done node).0, (flush_line n v part.Done node).1)
-  done_there = subst (λ y. let x = written node y in GoesOn (done_from x.1.answer) as_told (with_node_at w n x.0, x.1)) (sym (flush_came n v part.Done node.vbs node.shelves vb (Some shelf) known kept)) (done_by shelf.flush refl)
+  pub done_there : AllDurable r.made → GoesOn (done_from (flush_line n v part.Done node).1.answer) as_told (with_node_at w n (flush_line n v part.Done node).0, (flush_line n v part.Done node).1)
+  done_there calm = subst (λ y. let x = written node y in GoesOn (done_from x.1.answer) as_told (with_node_at w n x.0, x.1)) (sym (flush_came n v part.Done node.vbs node.shelves vb (Some shelf) known kept)) (done_by calm shelf.flush refl)
 
 -- the vBucket of a line, and its journal
 pub there_is : (w : PlainWorld) (r : Chronicle) (n v : ℕ) (c : Cluster) (a : AgreesIn idle w r c) (node : PlainNode) (at : w.nodes n ≡ Some node) (vb : Plain) (known : node.vbs v ≡ Some vb) (o : Option Shelf) → node.shelves v ≡ o
@@ -443,8 +445,8 @@ module _ (stays : StaysSound) (steady : Steady) (wholes : BatchesAreWhole) (w : 
   take_goes = steps_go (λ said. r) w r n v part.Take (λ why. refl) a (λ t. take_there stays steady wholes w r n v t (there_ranged t))
 
   -- `done`, before what feeds the vBucket acknowledges what is due
-  pub done_node_goes : GoesOn (after_done r n v (on_node w n (flush_line n v part.Done)).1.answer) as_told (on_node w n (flush_line n v part.Done))
-  done_node_goes = steps_go (λ said. after_done r n v said) w r n v part.Done (λ why. refl) a (λ t. done_there stays steady wholes w r n v t (there_ranged t))
+  pub done_node_goes : AllDurable r.made → GoesOn (after_done r n v (on_node w n (flush_line n v part.Done)).1.answer) as_told (on_node w n (flush_line n v part.Done))
+  done_node_goes calm = steps_go (λ said. after_done r n v said) w r n v part.Done (λ why. refl) a (λ t. done_there stays steady wholes w r n v t (there_ranged t) calm)
 
 -- `stat`
 

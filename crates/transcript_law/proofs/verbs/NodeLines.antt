@@ -19,7 +19,7 @@ use Rattle.transcript_law.proofs.invariant.Carried.{kept_same, link_carried, con
 use Rattle.transcript_law.proofs.invariant.LinkRows.{found_is_link, put_same as put_link_same}
 use Rattle.transcript_law.proofs.{invariant.OneLink.{carries_rests, carries_same}, invariant.Resting.{ends_again, rests_by}}
 use Rattle.{node_world.specs.Nodes.{if_up}, node_world.specs.Worlds.{on_made}, node_world.specs.declared.arm.Arm.{Arm}, transcript_law.specs.Chronicles.{CountsKnown, after_clock, DiskKnown, alone, no_arm, snap_in_role}}
-use Rattle.transcript_law.proofs.{invariant.Agreement.{AwayAt, BookAgrees, IsAway, Power, PowerIsIf, RestsIn, is_down, power_of}, invariant.Carrying.{Rearmed, SameClients, SamePowers, same_clients}, disks.Disks.{beside_in, power_in}}
+use Rattle.transcript_law.proofs.{invariant.Agreement.{AwayAt, BookAgrees, IsAway, Power, PowerIsIf, RestsIn, is_down, is_running, power_of}, invariant.Carrying.{Rearmed, SameClients, SamePowers, same_clients}, disks.Disks.{beside_in, power_in}}
 use Rattle.transcript_law.proofs.{invariant.Agreement.{DiskIsIf, shelf_of, top}, disks.Disks.{disk_same, same_parts}, Words.{SoundCluster, shelf_in}}
 use Rattle.transcript_law.proofs.invariant.Owing.{Later}
 use Rattle.transcript_law.proofs.invariant.Owing.{later_same}
@@ -222,7 +222,7 @@ module _ (w : PlainWorld) (r : Chronicle) (n : ℕ) (c : Cluster) (a : AgreesIn 
           vb_none = λ d. made_vbs m q ∙ (a.downs m q).vb_none (sym (made_down m) ∙ d);
           shelf_none = λ d. made_shelves m q ∙ (a.downs m q).shelf_none (sym (made_down m) ∙ d);
         };
-        ends = λ x i. let e = a.ends x i in record { producer = made_down (producer_node x) ∙ e.producer; consumer = made_down (consumer_node x) ∙ e.consumer; number = e.number };
+        ends = λ x i. let e = a.ends x i in record { producer = power_by (λ m p. is_running (power_of w m) ≡ true → is_running p ≡ true) (λ ran. refl) (λ m ran. ran) (producer_node x) e.producer; consumer = made_down (consumer_node x) ∙ e.consumer; number = e.number };
         small = a.small;
       })
       (λ k. refl)

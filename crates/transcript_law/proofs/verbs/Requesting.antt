@@ -7,10 +7,10 @@ use Rattle.node_core.specs.Clients.{Handling, PlainClient, client_fed, client_po
 use Rattle.transcript_law.proofs.disks.Disks.{beside_in, power_in}
 use Rattle.durability.specs.declared.waiting.Waiting.{Waiting}
 use Rattle.transcript_law.proofs.answers.{Claims.{IsOf}, Committed.{HowTold}}
-use Rattle.transcript_law.proofs.indexers.{Hands.{Goes, InHand, Standing, Over, by_hand, mine}, Passed.{passed}, Questions.{more_asks, more_next}, Serving.{session_agrees}, SessionFrames.{faulty, framed, outcome_framed}, Shutting.{over}, Turns.{fed_goes, posted_goes}, Worlds.{client_here, node_with, step_quiet, stepped, vb_here, waited, world_with}}
+use Rattle.transcript_law.proofs.indexers.{Hands.{Goes, InHand, Over, by_hand, mine}, Passed.{passed}, Questions.{more_asks, more_next}, Serving.{session_agrees}, SessionFrames.{faulty, framed, outcome_framed}, Shutting.{over}, Turns.{fed_goes, posted_goes}, Worlds.{client_here, node_with, step_quiet, stepped, vb_here, waited, world_with}, Flows.{flow_bytes}}
 use Rattle.transcript_law.proofs.invariant.{Agreement.{Agrees, GoesOn, is_down, power_of}, ClientsTold.{ClientAgrees}, Ranged.{NodeRanged, SessionRangedIf}, Sessions.{IsNumbered, awaited_numbered}, Tables.{at_here}}
 use Rattle.transcript_law.proofs.{lines.Telling.{LawfulBefore, before_all, none_before}, verbs.{NodeLines.{agrees_same, as_told, node_again, node_of_same_vbs, refused_on}, Settling.{Steady}}}
-use Rattle.transcript_law.specs.{Chronicles.{after_bytes}, LawfulAnswers.{AllDurable}, ClientStreams.{with_sent_bytes}, StreamsTold.{ClientKnown}}
+use Rattle.transcript_law.specs.{Chronicles.{after_bytes}, LawfulAnswers.{AllDurable, IsStill}, ClientStreams.{with_sent_bytes}, StreamsTold.{ClientKnown}}
 use Rattle.vb_calls.specs.declared.calls.Resolved.{Resolved}
 use Rattle.vb_events.specs.declared.event.Cause.TheVariants.{LinkClosed}
 
@@ -44,21 +44,24 @@ module _ (stays : StaysSound) (steady : Steady) (w : PlainWorld) (n c : ℕ) (no
     abbrev P : States × Handling → Type 0
     P x = InHand w n c node r x.0 x.1
 
-    -- what it comes to: the node is left with the connection, where that is open
+    -- what it comes to: the node is left with the connection, where that is open, and no set and no removal waits to be answered
     pub record Comes (x : States × Handling) : Type 0 where
       pub lawful : LawfulBefore r x.1.events
       pub agrees : Agrees (world_with w n c node x.0 (left_open x.1.client)) (after_lines r x.1.events)
+      pub calm : AllDurable (after_lines r x.1.events).made
 
     open_came : (states : States) (h : Handling) → Goes w n c node r states h.events h.client → Comes (states, h)
     open_came states h g = record {
       lawful = g.lawful;
       agrees = subst (λ b. Agrees (world_with w n c node states (if b then None else Some h.client)) (after_lines r h.events)) (sym (mine w n c node r g).alive) g.agrees;
+      calm = g.calm;
     }
 
     over_came : (states : States) (h : Handling) → Over w n c node r states h.events h.client → Comes (states, h)
     over_came states h o = record {
       lawful = o.lawful;
       agrees = subst (λ b. Agrees (world_with w n c node states (if b then None else Some h.client)) (after_lines r h.events)) (sym o.closed) o.agrees;
+      calm = o.calm;
     }
 
     came : (states : States) (h : Handling) → h.dcp ≡ None → InHand w n c node r states h → Comes (states, h)
@@ -73,15 +76,15 @@ module _ (stays : StaysSound) (steady : Steady) (w : PlainWorld) (n c : ℕ) (no
         let x = after (client_fed node.clock bytes client) node.vbs in came x.0 x.1 rests.1 rests.0
 
     -- an outcome
-    pub posted_comes : (client : PlainClient) (o : Resolved) (Claim : ℕ → Waiting → Pend → Type 0) (a : Awaited) → client.session.awaited ≡ Some a → (a.waiter == o.waiter) ≡ true → IsNumbered client.session.awaited → IsOf r n c a Claim → HowTold n r.made Claim o → Standing w n c node r node.vbs [] client → Comes (after (client_posted node.clock o client) node.vbs)
+    pub posted_comes : (client : PlainClient) (o : Resolved) (Claim : ℕ → Waiting → Pend → Type 0) (a : Awaited) → client.session.awaited ≡ Some a → (a.waiter == o.waiter) ≡ true → IsNumbered client.session.awaited → IsOf r n c a Claim → HowTold n r Claim o → Goes w n c node r node.vbs [] client → Comes (after (client_posted node.clock o client) node.vbs)
     posted_comes client o Claim a waits same numbered owns told g =
         let rests = posted_goes P node.clock (λ before producer f states s. framed w n c node r stays steady node.clock small refl before producer f states s) (λ before producer fault states s. faulty w n c node r before producer fault states s)
         (λ f states h. passed w n c node r running f states h) (λ states h. over w n c node r states h) o client node.vbs a waits same
-        (outcome_framed w n c node r stays steady node.clock small refl [] client.producer a o.how Claim node.vbs (served client.session []) waits (awaited_numbered client.session a numbered waits) owns (subst (λ k. HowTold n r.made Claim (record { waiter = k; how = o.how })) (sym (eqb-true a.waiter o.waiter same)) told) g refl) in
+        (outcome_framed w n c node r stays steady node.clock small refl [] client.producer a o.how Claim node.vbs (served client.session []) waits (awaited_numbered client.session a numbered waits) owns (subst (λ k. HowTold n r Claim (record { waiter = k; how = o.how })) (sym (eqb-true a.waiter o.waiter same)) told) g refl) in
         let x = after (client_posted node.clock o client) node.vbs in came x.0 x.1 rests.1 rests.0
 
 -- more bytes came, and are known
-more_goes : (w : PlainWorld) (r : Chronicle) (n c : ℕ) (node : PlainNode) (client : PlainClient) (bytes : List ℕ) → AreBytes client.session.reader → AreBytes bytes → AllDurable r.made → Agrees (world_with w n c node node.vbs (Some client)) r
+more_goes : (w : PlainWorld) (r : Chronicle) (n c : ℕ) (node : PlainNode) (client : PlainClient) (bytes : List ℕ) → AreBytes client.session.reader → AreBytes bytes → IsStill r → Agrees (world_with w n c node node.vbs (Some client)) r
     → Goes w n c node (after_bytes r n c bytes Answer.Ok) node.vbs [] (record client { session = record client.session { reader = client.session.reader ++ bytes } })
 more_goes w r n c node client bytes kept more calm a =
     let session : PlainSession = record client.session { reader = client.session.reader ++ bytes } in
@@ -91,8 +94,8 @@ more_goes w r n c node client bytes kept more calm a =
     let own : ClientAgrees old r n c client = a.1.clients.each n c client (client_here w n c node node.vbs (Some client)) in
     let step = step_quiet w n c node node.vbs node.vbs (Some client) (Some client') (λ q. refl) in
     let told : ClientAgrees new (after_bytes r n c bytes Answer.Ok) n c client' =
-    session_agrees old new r (after_bytes r n c bytes Answer.Ok) n c client session own known (at_here r.clients_at n c known) refl (refl, refl) refl refl
-    (ap (λ l. l ++ bytes) own.heard.bytes ∙ append_assoc own.heard.front client.session.reader bytes) (more_asks (r.clients_at n c).asking client.session client.producer.handshake bytes own.asks) refl refl refl (λ v. vb_here w n c node node.vbs (Some client') v ∙ sym (vb_here w n c node node.vbs (Some client) v)) in
+    session_agrees old new r (after_bytes r n c bytes Answer.Ok) n c client session own known (at_here r.clients_at n c known) refl (refl, refl, refl) refl refl
+    (ap (λ l. l ++ bytes) own.heard.bytes ∙ append_assoc own.heard.front client.session.reader bytes) (more_asks (r.clients_at n c).asking client.session client.producer.handshake bytes own.asks) (flow_bytes (r.clients_at n c).flow client.session client.producer.handshake client.producer.window bytes own.flow) refl refl refl (λ v. vb_here w n c node node.vbs (Some client') v ∙ sym (vb_here w n c node node.vbs (Some client) v)) in
     record {
       lawful = none_before (after_bytes r n c bytes Answer.Ok);
       agrees = (
@@ -101,11 +104,12 @@ more_goes w r n c node client bytes kept more calm a =
             (waited w n c node node.vbs node.vbs client client' r known a.0 a.1 step (record { who = refl; used = omega arith; few = λ l. l; waits = λ x e. inr (e, (λ q asks. more_next (r.clients_at n c).asking client.session client.producer.handshake bytes own.asks x e q asks), refl, refl, refl); answered = inl (refl, λ idle. idle) })),
       );
       bytes = All-append (λ b. b < 256) client.session.reader bytes kept more;
-      calm = calm;
+      calm = calm.0;
+      still = λ free. calm.1;
     }
 
 -- `bytes N C HEX`
-pub bytes_goes : StaysSound → Steady → (w : PlainWorld) (r : Chronicle) (n c : ℕ) (bytes : List ℕ) (node : PlainNode) → AreBytes bytes → NodeRanged n node → AllDurable r.made → Agrees w r → w.nodes n ≡ Some node
+pub bytes_goes : StaysSound → Steady → (w : PlainWorld) (r : Chronicle) (n c : ℕ) (bytes : List ℕ) (node : PlainNode) → AreBytes bytes → NodeRanged n node → IsStill r → Agrees w r → w.nodes n ≡ Some node
     → GoesOn (after_bytes r n c bytes (bytes_at c bytes node).1.answer) as_told (with_node_at w n (bytes_at c bytes node).0, (bytes_at c bytes node).1)
 bytes_goes stays steady w r n c bytes node are ranged calm a known = by (node.clients c) refl (ranged.clients c)
   where

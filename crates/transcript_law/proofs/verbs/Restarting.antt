@@ -116,7 +116,7 @@ module _ (steady : Steady) (w : PlainWorld) (n : ℕ) (free : NoEnds n w.links) 
 
     led_agrees : AgreesIn idle w0 active (happens c (Move.Promote (seat n v) uuid))
     led_agrees = known_apart idle w0 turned_role (happens c (Move.Promote (seat n v) uuid)) n branched.clients_at (rose steady (world node used) w0 r c n v uuid vb a known none_feeds rests unused named small became refl)
-        (λ d. ap (λ o. client_in o d) (here led_node) ∙ up.1 d) (λ m d ne. sym (ap (λ b. if b then past_turn v (branched.clients_at m d) else branched.clients_at m d) (ne_eqb m n ne)))
+        (λ d. ap (λ o. client_in o d) (here led_node) ∙ up.1 d) (λ m d ne. sym (ap (λ b. if b then past_turn v (branched.held n v) (branched.clients_at m d) else branched.clients_at m d) (ne_eqb m n ne)))
 
     -- and commits what may be committed
     pub settles_on : SettlesOn w0 active n v (unresolved led_vb) (settled led_vb)

@@ -5,7 +5,7 @@ use Rattle.transcript_law.proofs.Words.{ℕ, last_seq, Bool, true, false, List, 
 use Rattle.transcript_law.proofs.Words.{All, filter, image_in, with_at, eqb-true, eqb-false, ne_eqb, cases_lt, ltb-false, All-nil, All-cons, All-append, Change, Position, LogEntry, Role, upto, Rises, with_entry}
 use Rattle.transcript_law.proofs.Words.{kept_to, Traces, AtForks, fork_of, Branch, branch, hist, hist_here, hist_there, hist_rises, HoldsAt, holds_fewer, upto_none, upto_down, in_filter, ground, Member, Cluster}
 use Rattle.transcript_law.proofs.Words.{Move, SoundCluster, happens, member_reach, made, at_le, kin_shared, keeps, VbCall, Plain, plain_step, is_active, complete_position, stream_ids, in_role, ending_reply}
-use Rattle.transcript_law.proofs.Words.{parent_of, promoted, led, is_role, with_seal, Sound, StaysSound, PlainWorld, is_one_of, Chronicle, parent_branch, changes_between, after_branch, after_role}
+use Rattle.transcript_law.proofs.Words.{parent_of, promote_refusal, promoted, led, is_role, with_seal, Sound, StaysSound, PlainWorld, is_one_of, Chronicle, parent_branch, changes_between, after_branch, after_role}
 use Rattle.transcript_law.proofs.{Words.{known_history, []}, invariant.Seats.{seat, seats_apart}, invariant.Tables.{at_here, at_there, id_here, unused}, invariant.Trees.{IsTold, is_told_here, new_untold}, invariant.Forked.{fork_held}, invariant.Wholes.{WholeTo, whole_sealed}}
 use Rattle.transcript_law.proofs.{invariant.Wholes.{spanned_sealed, spanned_active}, invariant.Agreement.{all_rise, vb_of, ChangeFits, EntryFits, BranchAgrees, own_history, VbHolds, VbAgrees, AgreesAt, top, idle, AgreesIn, vb_contents, vb_row}, invariant.OneLink.{put_here}}
 use Rattle.transcript_law.proofs.{invariant.OneLink.{put_there}, links.Sent.{all_in, all_by_each}, links.Followed.{own_is, fork_low}, links.Rolling.{kept_fit}, verbs.NodeLines.{branch_of, role_row, role_there, role_here}, verbs.Branching.{branch_there, new_fits}, invariant.Lefts.{left_risen}, invariant.Majorities.{alone_counts}}
@@ -114,11 +114,15 @@ module _ (steady : Steady) (w w' : PlainWorld) (r : Chronicle) (c : Cluster) (n 
   absent : branch c.tree uuid ≡ None
   absent = a.used uuid unused_yet named
 
-  -- the call is made, and what may be committed then is
-  pub promote_is : plain_step vb (Promote uuid) ≡ and_settled (vb', ending_reply vb (answer.Branch uuid (parent_of vb.log) fork high))
-  promote_is = ap (λ o. promoted o vb uuid) (ap (λ b. if b then Some NotMyVbucket else if uuid == 0 then Some Einval else if log_lacks vb.log uuid then None else Some Einval) rests
+  -- nothing refuses the call
+  pub promote_free : promote_refusal vb uuid ≡ None
+  promote_free = ap (λ b. if b then Some NotMyVbucket else if uuid == 0 then Some Einval else if log_lacks vb.log uuid then None else Some Einval) rests
       ∙ ap (λ b. if b then Some Einval else if log_lacks vb.log uuid then None else Some Einval) (ne_eqb uuid 0 named)
-      ∙ ap (λ b. if b then None else Some Einval) (subst (λ l. log_lacks l uuid ≡ true) old.member.log (lacks_new c.tree m.log uuid (a.sound.stands k).ancestry.at_forks absent)))
+      ∙ ap (λ b. if b then None else Some Einval) (subst (λ l. log_lacks l uuid ≡ true) old.member.log (lacks_new c.tree m.log uuid (a.sound.stands k).ancestry.at_forks absent))
+
+  -- it is made, and what may be committed then is
+  pub promote_is : plain_step vb (Promote uuid) ≡ and_settled (vb', ending_reply vb (answer.Branch uuid (parent_of vb.log) fork high))
+  promote_is = ap (λ o. promoted o vb uuid) promote_free
 
   -- the fork, and what the branch inherits
 

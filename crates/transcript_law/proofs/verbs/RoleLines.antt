@@ -1,16 +1,13 @@
 -- the lines `promote`, `follow`, `dead`, `seal` and `log`
-use Rattle.transcript_law.specs.Chronicles.{alone}
-use Rattle.{node_world.specs.Nodes.{with_clients_ended}, transcript_law.specs.Feeding.{IsOfClient, client_in}}
+use Rattle.{node_world.specs.Nodes.{with_clients_ended}, transcript_law.specs.{Chronicles.{alone}, Feeding.{IsOfClient, client_in}}}
 use Rattle.std.specs.Prelude.{◌≡◌, ◌<◌, ◌∷◌, ◌++◌, ◌==◌, ◌^◌, if◌then◌else◌, not}
-use Rattle.transcript_law.proofs.Words.{ℕ, last_seq, All, Bool, true, false, List, refl, ap, sym, ◌∙◌, subst, append-nil, Option, Some, None, is_some, flat_map, option_map, eqb-false, eqb-true, eq-eqb, ne_eqb}
-use Rattle.transcript_law.proofs.Words.{Cause, Event, Role, Cluster, Move, happens, Plain, plain_step, is_active, refusal_reply, with_vb_at, call_at, stream_ids, in_role, ending_reply, parent_of, led}
+use Rattle.transcript_law.proofs.Words.{ℕ, last_seq, All, Bool, true, false, List, refl, ap, sym, ◌∙◌, subst, append-nil, Option, Some, None, is_some, flat_map, option_map, eqb-false, eqb-true, eq-eqb, ne_eqb, Cause, Event, Role, Cluster, Move, happens, Plain, plain_step, is_active, refusal_reply, with_vb_at, call_at, stream_ids, in_role, ending_reply, parent_of, led, Change}
 use Rattle.transcript_law.proofs.Words.{is_role, with_seal, fork_of, holds_fewer, Sound, StaysSound, AdminCall, AdminResult, admin_call, admin_replied, PlainLink, PlainNode, PlainWorld, Outcome, with_branches}
 use Rattle.transcript_law.proofs.Words.{with_node_at, with_links, with_states, node_outcome, vb_in, first_cause, refused_or, is_one_of, branch_of_line, on_node, own_link, cut_off, link_ended, links_ended, unlinked, with_ended}
-use Rattle.transcript_law.proofs.Words.{admin_line, no_node, turned_after, role_outcome, turn_causes, turn_step, Chronicle, after_lines, with_at, LawfulFrom, [], EndReason, VbAnswer, VbReply, producer_node, node_if}
-use Rattle.transcript_law.proofs.Words.{LawfulRole, States, VbCall, after_branch, after_line, after_role, newest_branch, Status, turn_row, seal_row, role_changed, after_cuts, promote_step, after_seal, uuid_causes, role_causes, shelf_in}
+use Rattle.transcript_law.proofs.Words.{admin_line, no_node, turned_after, role_outcome, turn_causes, turn_step, Chronicle, after_lines, with_at, LawfulFrom, [], EndReason, VbAnswer, VbReply, producer_node, node_if, LawfulRole, States, VbCall, after_branch, after_line, after_role, newest_branch, Status, turn_row, seal_row, role_changed, after_cuts, promote_step, after_seal, uuid_causes, role_causes, shelf_in}
 use Rattle.transcript_law.proofs.{invariant.Agreement.{DiskIsIf, PowerIsIf, is_down, power_of, shelf_of}, disks.Appending.{Noted, state_came}, disks.ArmedLines.{ArmedCame}, disks.Burning.{quiet_same}, disks.Disks.{Power, power_in, sealed_disk}, disks.Firing.{line_fires, role_noting}, invariant.JobSteps.{put_found, put_over, shelf_found}, lines.Lines.{AreQuiet}, verbs.NodeLines.{shelves_again, shelves_put, shelves_there}}
-use Rattle.transcript_law.proofs.answers.{Claims.{ClaimAt, asked_at, call_claims, changes_asked, changes_last, claim_read, claim_sessions}, Committed.{AllHowTold, all_claimed, all_told, lost_told}, Explained.{IsExplained, explained}}
-use Rattle.{durability.specs.declared.waiting.Waiting.{Waiting}, transcript_law.specs.{ClientStreams.{past_turn, with_clients_of}, StreamsTold.{ClientsKnown}}, vb_types.specs.declared.change.Pend.{Pend}}
+use Rattle.transcript_law.proofs.answers.{Claims.{ClaimAt, asked_at, call_claims, changes_asked, changes_last, claim_read, claim_sessions, waiting_claims}, Committed.{AllHowTold, all_claimed, all_told, lost_told, made_on}, Explained.{explained}, Calm.{OfDurable, durable_settled, durable_told}}
+use Rattle.{durability.specs.declared.waiting.Waiting.{Waiting}, vb_types.specs.declared.change.Pend.{Pend}, vbucket.proofs.RowIs.{Leads}, transcript_law.specs.{ClientStreams.{past_turn, with_clients_of}, LawfulAnswers.{AllDurable}, StreamsTold.{ClientsKnown}}}
 use Rattle.transcript_law.proofs.{links.Behind.{NotingGoes, noted_beside, posts_come}, invariant.Ranged.{IsRanged, NodeRanged, NodeRangedIf, ended_ranged, kept_ranged, unlinked_ranged, with_node}, verbs.ClientsEnded.{node_turned, open_was, told_world, turned_node}, verbs.RoleCalls.{changed_told, fate, left, node', not_stopped, role_came, said_of}}
 use Rattle.{disk_journals.specs.Arms.{under}, node_core.specs.{Admin.{admin_job, role_at}, Clients.{PlainClient, client_ended}}, node_world.specs.Arms.{fired_by}, node_world.specs.Cuts.{closed_at}, node_world.specs.Power.{with_arm}, node_world.specs.Turns.{posted_in, role_called}, node_world.specs.Worlds.{arm_in, is_up}}
 use Rattle.{node_world.specs.declared.arm.Arm.{Arm}, node_world.specs.declared.arm.Fired.{Fired}, transcript_law.specs.Chronicles.{after_noted}, vb_calls.specs.Flushes.{is_refusal, role_of_call}}
@@ -27,12 +24,11 @@ use Rattle.transcript_law.proofs.verbs.NodeLines.{as_told, node_changed, node_gr
 use Rattle.transcript_law.proofs.verbs.Writing.{mine as own_vb}
 use Rattle.transcript_law.proofs.links.Turning.{Turned}
 use Rattle.transcript_law.proofs.verbs.Leaving.{links_left, cut_lines, cut_off_goes, own_told, same_number, over_agrees, own_found}
-use Rattle.transcript_law.proofs.verbs.Rising.{other_role_known, rested, rose, promote_is, branch_lawful}
+use Rattle.transcript_law.proofs.verbs.Rising.{other_role_known, rested, rose, promote_free, promote_is, branch_lawful}
 use Rattle.transcript_law.proofs.verbs.Settling.{Steady, changes_quiet, changes_told, none_branched, settled_told, settles}
 use Rattle.transcript_law.proofs.lines.Telling.{branch_line}
-use Rattle.vb_calls.specs.Settling.{Resolving, also_resolved, settled}
+use Rattle.vb_calls.specs.Settling.{Resolving, also_resolved, given_up, settled}
 use Rattle.transcript_law.proofs.invariant.Owing.{Later, later_on, later_same}
-use Rattle.transcript_law.proofs.answers.Committed.{made_on}
 
 -- the node of a vBucket that is there
 pub node_of : (w : PlainWorld) (n v : ℕ) (vb : Plain) → vb_of w n v ≡ Some vb → (node : PlainNode) × (w.nodes n ≡ Some node) × (node.vbs v ≡ Some vb)
@@ -101,14 +97,15 @@ unlinked_client link w m c = by (w.nodes (producer_node link)) refl
         [ true ↦ λ t. ap (λ o. client_in o c) (sym e ∙ ap w.nodes (sym (eqb-true m (producer_node link) t))) | false ↦ λ t. refl ] refl
 
 -- nor does a change of role leave out what clients asked
-turn_asked : (clients : ClientsKnown) (n v m c : ℕ) → (with_clients_of clients n (past_turn v) m c).asking ≡ (clients m c).asking
-turn_asked clients n v m c = elim (m == n) as (λ b. (if b then past_turn v (clients m c) else clients m c).asking ≡ (clients m c).asking) [ true ↦ refl | false ↦ refl ]
+turn_asked : (clients : ClientsKnown) (n v : ℕ) (held : List Change) (m c : ℕ) → (with_clients_of clients n (past_turn v held) m c).asking ≡ (clients m c).asking
+turn_asked clients n v held m c = elim (m == n) as (λ b. (if b then past_turn v held (clients m c) else clients m c).asking ≡ (clients m c).asking) [ true ↦ refl | false ↦ refl ]
 
 -- an operator's call that changes a vBucket's role, which is then written down under the node's arm
 
 module _ (stays : StaysSound) (steady : Steady) (w : PlainWorld) (r : Chronicle) (n v : ℕ) (asked : AdminCall) (vb vb' : Plain) (a : Agrees w r) (known : vb_of w n v ≡ Some vb) (ranged : IsRanged w) (reply : VbReply)
     (is : plain_step vb (admin_call asked) ≡ (vb', reply)) (ends : reply.ended ≡ stream_ids vb.streams) (lines : List Event) (line_is : admin_replied n v asked reply ≡ role_changed reply lines)
-    (job_is : admin_job n v asked ≡ role_at n v asked) (made : is_refusal reply.answer ≡ false) (paid : (q : Chronicle) → Later r q → ((c : ℕ) → asked_at q n c ≡ asked_at r n c) → AllHowTold n (after_lines q lines).made (ClaimAt (after_lines q lines) n (client_in (w.nodes n))) reply.resolved) where
+    (job_is : admin_job n v asked ≡ role_at n v asked) (made : is_refusal reply.answer ≡ false) (paid : (q : Chronicle) → Later r q → ((c : ℕ) → asked_at q n c ≡ asked_at r n c) → AllHowTold n (after_lines q lines) (ClaimAt (after_lines q lines) n (client_in (w.nodes n))) reply.resolved)
+    (calm : (q : Chronicle) → q.made ≡ r.made → AllDurable (after_lines q lines).made) where
   abbrev node : PlainNode
   node = (node_of w n v vb known).0
 
@@ -191,16 +188,16 @@ module _ (stays : StaysSound) (steady : Steady) (w : PlainWorld) (r : Chronicle)
       by None e z = cc
       by (Some client) e z = let same : client_ended v ids client ≡ client' = cc in (client, e, ap (λ (k : PlainClient). k.session) (sym same))
 
-  paid_at : (own : Option PlainLink) (q : Chronicle) → Later r q → ((c : ℕ) → asked_at q n c ≡ asked_at r n c) → (x : PlainNode) → (came_with own).0.nodes n ≡ Some x → AllHowTold n (after_lines q lines).made (ClaimAt (after_lines q lines) n x.clients) reply.resolved
+  paid_at : (own : Option PlainLink) (q : Chronicle) → Later r q → ((c : ℕ) → asked_at q n c ≡ asked_at r n c) → (x : PlainNode) → (came_with own).0.nodes n ≡ Some x → AllHowTold n (after_lines q lines) (ClaimAt (after_lines q lines) n x.clients) reply.resolved
   paid_at own q same alike x there =
       let told : Chronicle = after_lines q lines in
-      all_claimed n told.made (ClaimAt told n (client_in (w.nodes n))) (ClaimAt told n x.clients) reply.resolved (claim_sessions told n (client_in (w.nodes n)) x.clients (had_before own x there)) (paid q same alike)
+      all_claimed n told (ClaimAt told n (client_in (w.nodes n))) (ClaimAt told n x.clients) reply.resolved (claim_sessions told n (client_in (w.nodes n)) x.clients (had_before own x there)) (paid q same alike)
 
   -- once they are
   posted_goes : (own : Option PlainLink) → NotingGoes n (role_noted_so n v new) w r (came_with own) → NotingGoes n (role_noted_so n v new) w r (posted_in n reply.resolved (came_with own))
-  posted_goes None so = posts_come stays steady n (role_noted_so n v new) w r reply.resolved (came_with None) so (noted_beside n v new (said_of fated) (not_stopped fated)) last_ranged (paid_at None r (later_same r r refl refl) (λ c. refl))
+  posted_goes None so = posts_come stays steady n (role_noted_so n v new) w r reply.resolved (came_with None) so (noted_beside n v new (said_of fated) (not_stopped fated)) last_ranged (paid_at None r (later_same r r refl refl) (λ c. refl)) (calm r refl)
   posted_goes (Some link) so = posts_come stays steady n (role_noted_so n v new) w r reply.resolved (came_with (Some link)) so (noted_beside n v new (said_of fated) (not_stopped fated)) (unlinked_ranged ended (link_ended n v ids link) last_ranged)
-      (paid_at (Some link) (after_lines r (cut_lines (Some (link_ended n v ids link)))) (record { last = refl; grows = made_on r (cut_lines (Some (link_ended n v ids link))) }) (λ c. refl))
+      (paid_at (Some link) (after_lines r (cut_lines (Some (link_ended n v ids link)))) (record { last = refl; grows = made_on r (cut_lines (Some (link_ended n v ids link))) }) (λ c. refl)) (calm (after_lines r (cut_lines (Some (link_ended n v ids link)))) refl)
 
   -- the world in which these links were told, and nothing was written down
   abbrev called : PlainNode
@@ -322,8 +319,8 @@ module _ (stays : StaysSound) (steady : Steady) (r : Chronicle) (n v : ℕ) (new
     (timely : (vb : Plain) → Sound vb → Sound (plain_step vb (admin_call asked)).0)
     (line_is : (vb : Plain) → admin_replied n v asked (ending_reply vb VbAnswer.Done) ≡ role_changed (ending_reply vb VbAnswer.Done) (Event.Role n v new ∷ []))
     (job_is : admin_job n v asked ≡ role_at n v asked) (new_is : role_of_call (admin_call asked) ≡ new) where
-  turned_goes : (w : PlainWorld) (vb : Plain) → IsRanged w → Agrees w r → vb_of w n v ≡ Some vb → is_role vb.role new ≡ false → (own : Option PlainLink) → own_link n v w.links ≡ own → NotingGoes n (role_noted_so n v new) w r (role_outcome n v asked w)
-  turned_goes w vb ranged a known other own e =
+  turned_goes : (w : PlainWorld) (vb : Plain) → IsRanged w → AllDurable r.made → Agrees w r → vb_of w n v ≡ Some vb → is_role vb.role new ≡ false → (own : Option PlainLink) → own_link n v w.links ≡ own → NotingGoes n (role_noted_so n v new) w r (role_outcome n v asked w)
+  turned_goes w vb ranged calm a known other own e =
       let x = cut_off_goes w r n v a own e in
       let links : List PlainLink = links_left own w.links in
       let w0 : PlainWorld = with_links w links in
@@ -331,23 +328,28 @@ module _ (stays : StaysSound) (steady : Steady) (r : Chronicle) (n v : ℕ) (new
       let is = row vb ∙ turn_done vb new other in
       let line : List Event = Event.Role n v new ∷ [] in
       let old : VbAgrees r1 n v (x.cluster.nodes (seat n v)) vb = subst (AgreesAt r1 n v (x.cluster.nodes (seat n v))) known (x.agrees.vbs n v) in
+      let conns : ℕ → Option PlainClient = client_in (w.nodes n) in
+      let paid : (q : Chronicle) → Later r q → ((d : ℕ) → asked_at q n d ≡ asked_at r n d) → AllHowTold n (after_lines q line) (ClaimAt (after_lines q line) n conns) (given_up vb.waiting) = λ q same alike.
+      let q1 : Chronicle = after_lines q line in
+      lost_told n v q1 (ClaimAt q1 n conns) new (at_here q.role_at n v (Some (Some new))) rests vb.waiting
+      (λ y some i. let (p, k) = waiting_claims w r n v vb conns old.sound a.1.clients.owed known (λ d. refl) y some i in (p, claim_read r q1 n conns (later_on r q q1 same (later_same q q1 refl refl)) (λ d. turn_asked q.clients_at n v (q.held n v) n d ∙ alike d) v y p k)) in
       subst (λ k. NotingGoes n (role_noted_so n v k) w r (role_outcome n v asked w)) new_is
-      (role_goes stays steady w r n v asked vb (in_role vb new) a known ranged (ending_reply vb VbAnswer.Done) is refl line (line_is vb) job_is refl (λ q same alike. lost_told n (after_lines q line).made (ClaimAt (after_lines q line) n (client_in (w.nodes n))) vb.waiting) own e
+      (role_goes stays steady w r n v asked vb (in_role vb new) a known ranged (ending_reply vb VbAnswer.Done) is refl line (line_is vb) job_is refl paid (λ q same. subst AllDurable (sym same) calm) own e
       (record { another = other_role_known r1 n v (x.cluster.nodes (seat n v)) vb new old other; anew = λ is. let active : is_active new ≡ true = ap is_active is in cc }, tt) (tt, tt) (
         happens x.cluster (Move.Yield (seat n v)),
-        rested stays w0 (turned_with stays steady w r n v asked vb (in_role vb new) a known ranged (ending_reply vb VbAnswer.Done) is refl line (line_is vb) job_is refl (λ q same alike. lost_told n (after_lines q line).made (ClaimAt (after_lines q line) n (client_in (w.nodes n))) vb.waiting) links []) r1 x.cluster n v vb new (admin_call asked) x.agrees known x.free rests is (timely vb)
-            (turn_became stays steady w r n v asked vb (in_role vb new) a known ranged (ending_reply vb VbAnswer.Done) is refl line (line_is vb) job_is refl (λ q same alike. lost_told n (after_lines q line).made (ClaimAt (after_lines q line) n (client_in (w.nodes n))) vb.waiting) links []) (append-nil w.uuids),
+        rested stays w0 (turned_with stays steady w r n v asked vb (in_role vb new) a known ranged (ending_reply vb VbAnswer.Done) is refl line (line_is vb) job_is refl paid (λ q same. subst AllDurable (sym same) calm) links []) r1 x.cluster n v vb new (admin_call asked) x.agrees known x.free rests is (timely vb)
+            (turn_became stays steady w r n v asked vb (in_role vb new) a known ranged (ending_reply vb VbAnswer.Done) is refl line (line_is vb) job_is refl paid (λ q same. subst AllDurable (sym same) calm) links []) (append-nil w.uuids),
       ))
 
-  pub turn_goes : (w : PlainWorld) → IsRanged w → Agrees w r → NotingGoes n (role_noted_so n v new) w r (turn_step w n v new asked)
-  turn_goes w ranged a = unless_refused w r n v new asked [] a tt (λ vb e other none. turned_goes w vb ranged a e other (own_link n v w.links) refl)
+  pub turn_goes : (w : PlainWorld) → IsRanged w → AllDurable r.made → Agrees w r → NotingGoes n (role_noted_so n v new) w r (turn_step w n v new asked)
+  turn_goes w ranged calm a = unless_refused w r n v new asked [] a tt (λ vb e other none. turned_goes w vb ranged calm a e other (own_link n v w.links) refl)
 
 -- `follow N V` and `dead N V`, before it is asked whether the arm fired
-pub follow_goes : StaysSound → Steady → (w : PlainWorld) (r : Chronicle) (n v : ℕ) → IsRanged w → Agrees w r → NotingGoes n (role_noted_so n v Role.Replica) w r (turn_step w n v Role.Replica AdminCall.Follow)
-follow_goes stays steady w r n v ranged a = turn_goes stays steady r n v Role.Replica AdminCall.Follow refl (λ vb. refl) (λ vb s. stays vb VbCall.Follow s tt) (λ vb. refl) refl refl w ranged a
+pub follow_goes : StaysSound → Steady → (w : PlainWorld) (r : Chronicle) (n v : ℕ) → IsRanged w → AllDurable r.made → Agrees w r → NotingGoes n (role_noted_so n v Role.Replica) w r (turn_step w n v Role.Replica AdminCall.Follow)
+follow_goes stays steady w r n v ranged calm a = turn_goes stays steady r n v Role.Replica AdminCall.Follow refl (λ vb. refl) (λ vb s. stays vb VbCall.Follow s tt) (λ vb. refl) refl refl w ranged calm a
 
-pub dead_goes : StaysSound → Steady → (w : PlainWorld) (r : Chronicle) (n v : ℕ) → IsRanged w → Agrees w r → NotingGoes n (role_noted_so n v Role.Dead) w r (turn_step w n v Role.Dead AdminCall.Dead)
-dead_goes stays steady w r n v ranged a = turn_goes stays steady r n v Role.Dead AdminCall.Dead refl (λ vb. refl) (λ vb s. stays vb VbCall.Dead s tt) (λ vb. refl) refl refl w ranged a
+pub dead_goes : StaysSound → Steady → (w : PlainWorld) (r : Chronicle) (n v : ℕ) → IsRanged w → AllDurable r.made → Agrees w r → NotingGoes n (role_noted_so n v Role.Dead) w r (turn_step w n v Role.Dead AdminCall.Dead)
+dead_goes stays steady w r n v ranged calm a = turn_goes stays steady r n v Role.Dead AdminCall.Dead refl (λ vb. refl) (λ vb s. stays vb VbCall.Dead s tt) (λ vb. refl) refl refl w ranged calm a
 
 -- `promote N V U`
 not_active : (x : Role) → is_role x Role.Active ≡ false → is_active x ≡ false
@@ -355,9 +357,9 @@ not_active Role.Active e = cc
 not_active x e = refl
 
 module _ (stays : StaysSound) (steady : Steady) (r : Chronicle) (n v uuid : ℕ) (small : uuid < 2 ^ 64) where
-  promoted_goes : (w : PlainWorld) (vb : Plain) → IsRanged w → Agrees w r → vb_of w n v ≡ Some vb → is_role vb.role Role.Active ≡ false → (uuid == 0) ≡ false → is_one_of uuid w.uuids ≡ false
+  promoted_goes : (w : PlainWorld) (vb : Plain) → IsRanged w → AllDurable r.made → Agrees w r → vb_of w n v ≡ Some vb → is_role vb.role Role.Active ≡ false → (uuid == 0) ≡ false → is_one_of uuid w.uuids ≡ false
       → (own : Option PlainLink) → own_link n v w.links ≡ own → NotingGoes n (role_noted_so n v Role.Active) w r (role_outcome n v (AdminCall.Promote uuid) w)
-  promoted_goes w vb ranged a known other nonzero unused own e =
+  promoted_goes w vb ranged calm a known other nonzero unused own e =
       let x = cut_off_goes w r n v a own e in
       let links : List PlainLink = links_left own w.links in
       let ids : List ℕ = stream_ids vb.streams in
@@ -392,16 +394,17 @@ module _ (stays : StaysSound) (steady : Steady) (r : Chronicle) (n v uuid : ℕ)
       let read : after_line r1 (Event.Branch n v uuid parent fork high) ≡ branched = branch_line r1 n v uuid parent fork high runs in
       let ids_told : uuid ∷ [] ≡ flat_map branch_of_line line = ap (λ us. uuid ∷ us) (sym (none_branched n v uuid s.cs)) in
       let now : Agrees (turned_at w n v node made.vb ids links (uuid ∷ [])) (after_lines active own_lines_are) = s.agrees (turned_at w n v node made.vb ids links (uuid ∷ [])) again.0 again.1 in
-      let paid : (q : Chronicle) → Later r q → ((d : ℕ) → asked_at q n d ≡ asked_at r n d) → AllHowTold n (after_lines q line).made (ClaimAt (after_lines q line) n (client_in (w.nodes n))) (also_resolved reply made).1.resolved = λ q same alike.
+      let paid : (q : Chronicle) → Later r q → ((d : ℕ) → asked_at q n d ≡ asked_at r n d) → AllHowTold n (after_lines q line) (ClaimAt (after_lines q line) n (client_in (w.nodes n))) (also_resolved reply made).1.resolved = λ q same alike.
       let q2 : Chronicle = after_lines q (Event.Branch n v uuid parent fork high ∷ Event.Role n v Role.Active ∷ []) in
       let rep : VbReply = (also_resolved reply made).1 in
       let claim : ℕ → Waiting → Pend → Type 0 = ClaimAt (after_lines q line) n (client_in (w.nodes n)) in
       let read : (y : Waiting) (p : Pend) → ClaimAt r n (client_in (w.nodes n)) v y p → claim v y p = claim_read r (after_lines q line) n (client_in (w.nodes n)) (later_on r q (after_lines q line) same (record { last = changes_last q2 n v uuid s.cs; grows = made_on q line }))
-      (λ d. changes_asked q2 n v uuid s.cs n d ∙ turn_asked q.clients_at n v n d ∙ alike d) v in
-      subst (λ ls. AllHowTold n (after_lines q2 ls).made claim rep.resolved) (settled_told n v reply led_vb uuid s.cs refl s.changes (ap newest_branch s.log))
-      (all_told q2 n v rep.branch claim rep.changes vb (VbCall.Promote uuid) rep.resolved (λ y p some stood. read y p (call_claims w r n v vb (VbCall.Promote uuid) (client_in (w.nodes n)) tt a.1.clients.owed known (λ d. refl) y p some stood))
-      (subst (λ (y : Plain × VbReply). All (IsExplained vb (VbCall.Promote uuid) y.1.branch y.1.changes) y.1.resolved) is (explained vb (VbCall.Promote uuid) old.sound tt))) in
-      role_goes stays steady w r n v (AdminCall.Promote uuid) vb made.vb a known ranged (also_resolved reply made).1 is refl line line_is refl refl paid own e (
+      (λ d. changes_asked q2 n v uuid s.cs n d ∙ turn_asked q.clients_at n v (q.held n v) n d ∙ alike d) v in
+      subst (λ ls. AllHowTold n (after_lines q2 ls) claim rep.resolved) (settled_told n v reply led_vb uuid s.cs refl s.changes (ap newest_branch s.log))
+      (all_told q2 n v rep.branch claim rep.changes vb (VbCall.Promote uuid) rep.resolved tt (λ y p some stood. read y p (call_claims w r n v vb (VbCall.Promote uuid) (client_in (w.nodes n)) tt a.1.clients.owed known (λ d. refl) y p some stood))
+      (explained vb (Leads uuid (promote_free steady w0 w0 r1 c1 n v uuid vb x.agrees known x.free rests unused named small)) old.sound tt)) in
+      role_goes stays steady w r n v (AdminCall.Promote uuid) vb made.vb a known ranged (also_resolved reply made).1 is refl line line_is refl refl paid
+      (λ q same. durable_told (after_lines q (Event.Branch n v uuid parent fork high ∷ Event.Role n v Role.Active ∷ [])) n v uuid s.cs (subst (All OfDurable) s.changes (durable_settled led_vb)) (subst AllDurable (sym same) calm)) own e (
         branch_lawful steady w0 w0 r1 c1 n v uuid vb x.agrees known x.free rests unused named small,
         subst (λ b. LawfulRole b n v Role.Active × LawfulFrom (after_role b n v Role.Active) own_lines_are) (sym read) (record { another = other_role_known r1 n v (c1.nodes (seat n v)) vb Role.Active old other; anew = λ is. at_here r1.counts_at n v (alone (last_seq 0 (r1.held n v))) }, s.lawful),
       )
@@ -409,25 +412,25 @@ module _ (stays : StaysSound) (steady : Steady) (r : Chronicle) (n v uuid : ℕ)
       (subst (λ b. Agrees (turned_at w n v node made.vb ids links (flat_map branch_of_line line)) (after_lines (after_role b n v Role.Active) own_lines_are)) (sym read)
       (subst (λ us. Agrees (turned_at w n v node made.vb ids links us) (after_lines active own_lines_are)) ids_told now))
 
-  pub promote_goes : (w : PlainWorld) → IsRanged w → Agrees w r → NotingGoes n (role_noted_so n v Role.Active) w r (promote_step w n v uuid)
-  promote_goes w ranged a = unless_refused w r n v Role.Active (AdminCall.Promote uuid) (uuid_causes w.uuids uuid) a (tt, (tt, tt))
-      (λ vb e other none. promoted_goes w vb ranged a e other none.0 none.1.0 (own_link n v w.links) refl)
+  pub promote_goes : (w : PlainWorld) → IsRanged w → AllDurable r.made → Agrees w r → NotingGoes n (role_noted_so n v Role.Active) w r (promote_step w n v uuid)
+  promote_goes w ranged calm a = unless_refused w r n v Role.Active (AdminCall.Promote uuid) (uuid_causes w.uuids uuid) a (tt, (tt, tt))
+      (λ vb e other none. promoted_goes w vb ranged calm a e other none.0 none.1.0 (own_link n v w.links) refl)
 
 -- these lines, once it was asked whether the arm fired
 role_fires : StaysSound → (w : PlainWorld) (r : Chronicle) (n v : ℕ) (role : Role) (o : Outcome) → Agrees w r → NotingGoes n (role_noted_so n v role) w r o → LineGoes r (role_noted_so n v role (with_arm n w o).1.answer) (with_arm n w o)
 role_fires stays w r n v role o a g = line_fires stays n (role_noted_so n v role) (role_noting n v role) w o.0 r o.1.events o.1.answer a g.lawful g.quiet g.came
 
-pub promote_line : StaysSound → Steady → (w : PlainWorld) (r : Chronicle) (n v uuid : ℕ) → uuid < 2 ^ 64 → IsRanged w → Agrees w r
+pub promote_line : StaysSound → Steady → (w : PlainWorld) (r : Chronicle) (n v uuid : ℕ) → uuid < 2 ^ 64 → IsRanged w → AllDurable r.made → Agrees w r
     → LineGoes r (role_noted_so n v Role.Active (with_arm n w (promote_step w n v uuid)).1.answer) (with_arm n w (promote_step w n v uuid))
-promote_line stays steady w r n v uuid small ranged a = role_fires stays w r n v Role.Active (promote_step w n v uuid) a (promote_goes stays steady r n v uuid small w ranged a)
+promote_line stays steady w r n v uuid small ranged calm a = role_fires stays w r n v Role.Active (promote_step w n v uuid) a (promote_goes stays steady r n v uuid small w ranged calm a)
 
-pub follow_line : StaysSound → Steady → (w : PlainWorld) (r : Chronicle) (n v : ℕ) → IsRanged w → Agrees w r
+pub follow_line : StaysSound → Steady → (w : PlainWorld) (r : Chronicle) (n v : ℕ) → IsRanged w → AllDurable r.made → Agrees w r
     → (let o = with_arm n w (turn_step w n v Role.Replica AdminCall.Follow) in LineGoes r (role_noted_so n v Role.Replica o.1.answer) o)
-follow_line stays steady w r n v ranged a = role_fires stays w r n v Role.Replica (turn_step w n v Role.Replica AdminCall.Follow) a (follow_goes stays steady w r n v ranged a)
+follow_line stays steady w r n v ranged calm a = role_fires stays w r n v Role.Replica (turn_step w n v Role.Replica AdminCall.Follow) a (follow_goes stays steady w r n v ranged calm a)
 
-pub dead_line : StaysSound → Steady → (w : PlainWorld) (r : Chronicle) (n v : ℕ) → IsRanged w → Agrees w r
+pub dead_line : StaysSound → Steady → (w : PlainWorld) (r : Chronicle) (n v : ℕ) → IsRanged w → AllDurable r.made → Agrees w r
     → (let o = with_arm n w (turn_step w n v Role.Dead AdminCall.Dead) in LineGoes r (role_noted_so n v Role.Dead o.1.answer) o)
-dead_line stays steady w r n v ranged a = role_fires stays w r n v Role.Dead (turn_step w n v Role.Dead AdminCall.Dead) a (dead_goes stays steady w r n v ranged a)
+dead_line stays steady w r n v ranged calm a = role_fires stays w r n v Role.Dead (turn_step w n v Role.Dead AdminCall.Dead) a (dead_goes stays steady w r n v ranged calm a)
 
 -- `seal N V`: the open span is sealed
 

@@ -15,7 +15,7 @@ use Rattle.vb_calls.specs.Settling.{Resolving, also_resolved, branch_of, committ
 use Rattle.vb_calls.specs.State.{pending_of}
 use Rattle.vb_calls.specs.declared.calls.Resolution.{Resolution}
 use Rattle.vb_calls.specs.declared.calls.Resolution.TheVariants as resolution
-use Rattle.vb_types.specs.declared.change.Act.TheVariants.{Abort, Commit}
+use Rattle.vb_types.specs.declared.change.Act.TheVariants.{Abort, Commit, Prepare}
 use Rattle.{transcript_law.{proofs.verbs.Making.{resolving_is_next}, specs.OwnChanges.{IsNextChange}}, vbucket.proofs.{Settling.{commit_sound}, Soundness.{led_sound}}}
 
 -- the lines of changes that a vBucket made of its own
@@ -190,7 +190,7 @@ module _ (commits : CommitsSound) (n v : ℕ) (x : Waiting) (more : List Waiting
       (fewer_written w r cl n v node s.vb agrees known has change s.vb.last_cas active refl room fits named (without x.seq s.vb.waiting) sound.0 w1 changed shelf_is (omega arith) lefts (λ t. fewer_times change.seq (r.clock_at n) (λ y i. without_was x.seq s.vb.waiting y i) t) (fewer_some s.vb one.vb (λ y p some o. stood y p o)))
 
   lawful1 : LawfulChange r n v member.br change
-  lawful1 = is_lawful w r cl n v node s.vb agrees known has change s.vb.last_cas active refl room fits named (without x.seq s.vb.waiting) sound.0 next_one backed (λ prepared e. let z : Commit x.seq of.pend.doc of.pend.deleted ≡ Abort prepared = of.commits ∙ e in cc)
+  lawful1 = is_lawful w r cl n v node s.vb agrees known has change s.vb.last_cas active refl room fits named (without x.seq s.vb.waiting) sound.0 next_one (λ level doc deleted e. let z : Commit x.seq of.pend.doc of.pend.deleted ≡ Prepare level doc deleted = of.commits ∙ e in cc) backed (λ prepared e. let z : Commit x.seq of.pend.doc of.pend.deleted ≡ Abort prepared = of.commits ∙ e in cc)
 
   newest_is : newest_branch s.vb.log ≡ member.br
   newest_is = newest w r cl n v node s.vb agrees known has change s.vb.last_cas active refl room fits named (without x.seq s.vb.waiting) sound.0

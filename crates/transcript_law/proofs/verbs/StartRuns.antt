@@ -18,7 +18,8 @@ use Rattle.vb_calls.specs.Shelves.{Shelf}
 use Rattle.vb_disk.specs.declared.fuse.Fuse.{Fuse}
 use Rattle.vb_disk.specs.declared.fuse.Fuse.TheVariants.{Off}
 use Rattle.vb_disk.specs.declared.made.Outcome.{Outcome}
-use Rattle.transcript_law.specs.LinesTold.{roles_from}
+use Rattle.transcript_law.proofs.indexers.Beside.{beside}
+use Rattle.transcript_law.specs.LinesTold.{roles_from, without_node}
 use Rattle.vb_calls.specs.Settling.{and_settled, settled}
 use Rattle.vb_types.specs.declared.role.Role.TheVariants as role
 use Rattle.vb_events.specs.declared.event.Answer.TheVariants as answer
@@ -219,6 +220,8 @@ module _ (steady : Steady) (crashes : Crashes) (w : PlainWorld) (n : ℕ) (free 
       made = alike.reads.made;
       clock = alike.reads.clock;
       ticks = alike.reads.ticks;
+      conns = alike.reads.conns;
+      changed = alike.reads.changed;
     }
 
     -- and so are its changes
@@ -227,7 +230,7 @@ module _ (steady : Steady) (crashes : Crashes) (w : PlainWorld) (n : ℕ) (free 
         let there = reads_changes q0 (active_vb_lines r0.open_at) n v uuid (cs steady w n free node used r c a up v uuid vb ready.there ready.rests ready.sealed ready.shelf ready.kept ready.opens unused named small) (reads_branch r0.open_at) in
         let same : after_lines (active_vb_lines r0.open_at) changes ≡ record (after_lines r0 changes) { role_at = with_at r.role_at n v (Some (Some role.Active)) } = roles_past (with_at r.role_at n v (Some (Some role.Active))) r0 n v uuid (cs steady w n free node used r c a up v uuid vb ready.there ready.rests ready.sealed ready.shelf ready.kept ready.opens unused named small) in
         let found : Reads q1 (record (after_lines r0 changes) { role_at = with_at r.role_at n v (Some (Some role.Active)) }) = subst (Reads q1) same there in
-        record { last = found.last; tree = found.tree; branch = found.branch; held = found.held; writer = found.writer; counts = found.counts; log = found.log; snap = found.snap; saved = λ m p. restart_saved (after_lines r0 changes) n v m p ∙ found.saved m p; clients = found.clients; made = found.made; clock = found.clock; ticks = found.ticks; role = ap (λ t. with_at t n v (Some (Some role.Active))) (roles_same r0 n v uuid (cs steady w n free node used r c a up v uuid vb ready.there ready.rests ready.sealed ready.shelf ready.kept ready.opens unused named small)) ∙ found.role }
+        record { last = found.last; tree = found.tree; branch = found.branch; held = found.held; writer = found.writer; counts = found.counts; log = found.log; snap = found.snap; saved = λ m p. restart_saved (after_lines r0 changes) n v m p ∙ found.saved m p; clients = found.clients; made = found.made; clock = found.clock; ticks = found.ticks; conns = found.conns; changed = found.changed; role = ap (λ t. with_at t n v (Some (Some role.Active))) (roles_same r0 n v uuid (cs steady w n free node used r c a up v uuid vb ready.there ready.rests ready.sealed ready.shelf ready.kept ready.opens unused named small)) ∙ found.role }
 
     changes_lawful : LawfulFrom q0 changes
     changes_lawful = changes_read q0 (active_vb_lines (with_at r0.open_at n v false)) n v uuid (cs steady w n free node used r c a up v uuid vb ready.there ready.rests ready.sealed ready.shelf ready.kept ready.opens unused named small) (reads_branch (with_at r0.open_at n v false))
@@ -355,7 +358,7 @@ module _ (steady : Steady) (crashes : Crashes) (w : PlainWorld) (n : ℕ) (free 
     stopped = (stopped_node node.arm.out after, record { events = before.events ++ one.events ++ Event.NodeStopped n ∷ []; answer = answer.No cause.Stopped })
 
     pub stops_here : SoFar q r n calls before → StopsIn 4 node.arm.fuse → Agrees (with_it after (used ++ uuid ∷ [])) r1 → Started ((v, uuid) ∷ starts) used before calls q r stopped
-    stops_here so_far to_stop now = let more : List Event = Event.NodeStopped n ∷ [] in record {
+    stops_here so_far to_stop now = let more : List Event = Event.NodeStopped n ∷ [] in let ends : Chronicle = after_line r1 (Event.NodeStopped n) in record {
       lines = all_lines ++ more;
       events = append_assoc before.events all_lines more;
       lawful = behind_lawful more (to_q1 IsToStop (stops_to (calls + 4) (q.arm_at n).fuse (stops_so to_stop)), tt);
@@ -365,10 +368,10 @@ module _ (steady : Steady) (crashes : Crashes) (w : PlainWorld) (n : ℕ) (free 
       fires = ⊎_elim (λ p. fires_once (before.events ++ all_lines) (Event.NodeStopped n) [] (calm_more before.events all_lines p.1 lines_calm) refl refl) (λ p. absurd (none_stops p.3 to_stop)) so_far;
       ended = subst (λ ids. Ended q n (calls_behind (calls + 4) starts) (answer.No cause.Stopped) (with_it stopped.0 ids) (told_by r (all_lines ++ more))) (still_used more)
           (subst (Ended q n (calls_behind (calls + 4) starts) (answer.No cause.Stopped) (with_it stopped.0 ((used ++ uuid ∷ []) ++ []))) (told_on more)
-          (subst (λ ids. Ended q n (calls_behind (calls + 4) starts) (answer.No cause.Stopped) (with_it stopped.0 ids) r1) (sym (append-nil (used ++ uuid ∷ [])))
-          (Ended.Stops refl (stops_more (calls + 4) (calls_behind (calls + 4) starts) (q.arm_at n).fuse (behind_more (calls + 4) starts) (stops_so to_stop)) (subst (λ o. Agrees (with_it (stopped_node node.arm.out after) (used ++ uuid ∷ [])) (after_crash r1 n o)) (sym out_so)
-          (subst (λ x. Agrees x (after_crash r1 n node.arm.out)) (twice steady w n free after (stopped_node node.arm.out after) (used ++ uuid ∷ []))
-          (crashes (with_it after (used ++ uuid ∷ [])) r1 n after node.arm.out now (ap (λ b. if b then Some after else w.nodes n) (eq-eqb n n refl)) up.0
+          (subst (λ ids. Ended q n (calls_behind (calls + 4) starts) (answer.No cause.Stopped) (with_it stopped.0 ids) ends) (sym (append-nil (used ++ uuid ∷ [])))
+          (Ended.Stops refl (stops_more (calls + 4) (calls_behind (calls + 4) starts) (q.arm_at n).fuse (behind_more (calls + 4) starts) (stops_so to_stop)) (subst (λ o. Agrees (with_it (stopped_node node.arm.out after) (used ++ uuid ∷ [])) (after_crash ends n o)) (sym out_so)
+          (subst (λ x. Agrees x (after_crash ends n node.arm.out)) (twice steady w n free after (stopped_node node.arm.out after) (used ++ uuid ∷ []))
+          (crashes (with_it after (used ++ uuid ∷ [])) ends n after node.arm.out (now.0, beside (with_it after (used ++ uuid ∷ [])) r1 (without_node r1.conn_at n) r1.made r1.ticks r1.changed now.0 (λ one durable i. i) now.1) (ap (λ b. if b then Some after else w.nodes n) (eq-eqb n n refl)) up.0
           (λ x i. (λ j. (ne_eqb (producer_node x) n (free x i).0 j) || (ne_eqb (consumer_node x) n (free x i).1 j)))))))));
     }
 

@@ -8,11 +8,12 @@ use Rattle.vb_disk.specs.declared.fuse.Fuse.{Fuse}
 use Rattle.vb_types.specs.declared.journal.Record.TheVariants as noted
 use Rattle.vb_types.specs.declared.role.Role.TheVariants as role
 
--- with each branch its vBucket takes writes again, and that is written down; and with each change it holds one more
+-- with each branch its vBucket takes writes again, and that is written down; with each change it holds one more; and where the node stops its connections end
 abbrev pub told_by : Chronicle → List Event → Chronicle
 told_by r [] = r
 told_by r (Event.Branch n v uuid parent fork high ∷ lines) = told_by (after_restart (after_branch r n v uuid parent fork high) n v) lines
 told_by r (Event.Changed n v uuid change ∷ lines) = told_by (after_change r n v uuid change) lines
+told_by r (Event.NodeStopped n ∷ lines) = told_by (after_line r (Event.NodeStopped n)) lines
 told_by r (other ∷ lines) = told_by r lines
 
 -- no branch of a vBucket of this number is told; such lines tell of branches, of changes, and of calls that were hit
@@ -109,7 +110,7 @@ past r n v (Event.Branch m q uuid parent fork high ∷ lines) apart =
     past (after_line r (Event.Branch m q uuid parent fork high)) n v lines apart.1 ∙ ap (λ x. after_lines x lines) (past_branch r n v m q uuid parent fork high apart.0)
 past r n v (Event.Changed m q uuid change ∷ lines) apart = past (after_change r m q uuid change) n v lines apart
 past r n v (Event.CallFailed m ∷ lines) apart = past r n v lines apart
-past r n v (Event.NodeStopped m ∷ lines) apart = past r n v lines apart
+past r n v (Event.NodeStopped m ∷ lines) apart = past (after_line r (Event.NodeStopped m)) n v lines apart
 past r n v (other ∷ lines) apart = absurd apart
 
 -- that a node runs is told before or after a vBucket takes its branch
@@ -159,7 +160,7 @@ up_each n r (Event.Branch m v uuid parent fork high ∷ lines) are =
     ∙ ap (λ x. told_by x lines) (sym (restart_up (after_branch r m v uuid parent fork high) n m v))
 up_each n r (Event.Changed m q uuid change ∷ lines) are = up_each n (after_change r m q uuid change) lines are
 up_each n r (Event.CallFailed m ∷ lines) are = up_each n r lines are
-up_each n r (Event.NodeStopped m ∷ lines) are = up_each n r lines are
+up_each n r (Event.NodeStopped m ∷ lines) are = up_each n (after_line r (Event.NodeStopped m)) lines are
 up_each n r (other ∷ lines) are = absurd are
 
 -- device calls are told before or after such lines
@@ -170,7 +171,7 @@ calls_before calls n r (Event.Branch m v uuid parent fork high ∷ lines) are =
     ∙ (λ i. after_lines (record (after_branch (after_calls calls n r) m v uuid parent fork high) { role_at = roles_from (sym (down_same r.arm_at n m (spent calls (r.arm_at n).fuse)) i) r.role_at m v }) lines)
 calls_before calls n r (Event.Changed m q uuid change ∷ lines) are = calls_before calls n (after_change r m q uuid change) lines are
 calls_before calls n r (Event.CallFailed m ∷ lines) are = calls_before calls n r lines are
-calls_before calls n r (Event.NodeStopped m ∷ lines) are = calls_before calls n r lines are
+calls_before calls n r (Event.NodeStopped m ∷ lines) are = calls_before calls n (after_line r (Event.NodeStopped m)) lines are
 calls_before calls n r (other ∷ lines) are = absurd are
 
 -- such lines tell nothing of disks and of arms
@@ -179,7 +180,7 @@ same_disks r [] are = refl
 same_disks r (Event.Branch m v uuid parent fork high ∷ lines) are = same_disks (after_line r (Event.Branch m v uuid parent fork high)) lines are.1
 same_disks r (Event.Changed m q uuid change ∷ lines) are = same_disks (after_change r m q uuid change) lines are
 same_disks r (Event.CallFailed m ∷ lines) are = same_disks r lines are
-same_disks r (Event.NodeStopped m ∷ lines) are = same_disks r lines are
+same_disks r (Event.NodeStopped m ∷ lines) are = same_disks (after_line r (Event.NodeStopped m)) lines are
 same_disks r (other ∷ lines) are = absurd are
 
 pub arms_behind_starts : (r : Chronicle) (lines : List Event) → AreStarts lines → (after_lines r lines).arm_at ≡ r.arm_at
@@ -187,5 +188,5 @@ arms_behind_starts r [] are = refl
 arms_behind_starts r (Event.Branch m v uuid parent fork high ∷ lines) are = arms_behind_starts (after_line r (Event.Branch m v uuid parent fork high)) lines are.1
 arms_behind_starts r (Event.Changed m q uuid change ∷ lines) are = arms_behind_starts (after_change r m q uuid change) lines are
 arms_behind_starts r (Event.CallFailed m ∷ lines) are = arms_behind_starts r lines are
-arms_behind_starts r (Event.NodeStopped m ∷ lines) are = arms_behind_starts r lines are
+arms_behind_starts r (Event.NodeStopped m ∷ lines) are = arms_behind_starts (after_line r (Event.NodeStopped m)) lines are
 arms_behind_starts r (other ∷ lines) are = absurd are

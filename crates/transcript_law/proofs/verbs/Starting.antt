@@ -1,10 +1,11 @@
 -- the line `start`: a node that is down opens its disks, loads, and each vBucket that was active takes a new branch
 use Rattle.std.specs.Prelude.{◌≡◌, ◌+◌, ◌*◌, ◌<◌, ◌≤◌, ◌∷◌, ◌==◌, ◌&&◌, ◌^◌, if◌then◌else◌, nat_lt, option_map}
 use Rattle.transcript_law.proofs.Words.{ℕ, Bool, true, false, List, [], refl, ap, sym, ◌∙◌, subst, arith, inl, ⊎_elim, All, Option, Some, None, not, is_some, length, map, filter, ltb-false, Answer, Role, Cause, Chronicle, Cluster, Event, PlainNode, PlainWorld, Outcome, LawfulFrom}
-use Rattle.transcript_law.proofs.Words.{after_lines, first_cause, is_active, is_one_of, done, refusal, refused_or, with_branches, with_id, with_node_at, node_outcome}
+use Rattle.transcript_law.proofs.Words.{after_line, after_lines, first_cause, is_active, is_one_of, done, refusal, refused_or, with_branches, with_id, with_node_at, node_outcome}
 use Rattle.transcript_law.proofs.{invariant.Agreement.{Agrees, AgreesIn, IsArm, LineGoes, PowerIs, PowerIsIf, book_in, idle}, disks.Burning.{Fires, Passes, burns, fails_more, opened_all, opened_hit, stops_more}, verbs.NodeLines.{more_used}, invariant.Rearming.{rearmed, told_arm, with_arm_told}, disks.Crashed.{crash_all}, verbs.Crashing.{stopped_agrees}, disks.Disks.{bare, power_in}, disks.Reloaded.{all_there, arm_here, arm_is, away_disk, book, no_ends, reloaded, so}, invariant.Seats.{seat}, verbs.Settling.{Steady}}
 use Rattle.transcript_law.proofs.{disks.Reloading.{loaded_rests}, verbs.Restarting.{fails_to, stops_to}, disks.Shelving.{loaded_at, loaded_of, opened_at_number}, verbs.StartIds.{active_at, active_listed, apart_zip, differ_active, each_active, free_zip, made_zip, ready_zip, was_active_in, zip_long, Each, AllDiffer}}
 use Rattle.transcript_law.proofs.{verbs.StartRuns.{AllMake, Crashes, Ended, Ready, Started, all_start, behind_is, calls_behind}, verbs.StartTold.{AreStarts, calls_before, arms_behind_starts, same_disks, told_by, up_each}, invariant.Tables.{id_here}}
+use Rattle.transcript_law.proofs.indexers.Beside.{beside}
 use Rattle.branch_model.specs.Journals.{role_of}
 use Rattle.disk_journals.specs.Arms.{opens_all}
 use Rattle.cluster_model.specs.Clusters.{Disk}
@@ -162,8 +163,15 @@ module _ (steady : Steady) (crashes : Crashes) (w : PlainWorld) (r : Chronicle) 
       failed_so : after_start r n (Event.CallFailed n ∷ []) (answer.No cause.Disk) ≡ hit_all
       failed_so = ap (λ b. if b then hit_all else after_restarts (after_up n (after_calls (disks_of r n) n r)) (Event.CallFailed n ∷ [])) off_now
 
-      stopped_so : after_start r n (Event.NodeStopped n ∷ []) (answer.No cause.Stopped) ≡ hit_all
-      stopped_so = ap (λ b. if b then hit_all else after_stop (after_restarts (after_up n (after_calls (disks_of r n) n r)) (Event.NodeStopped n ∷ [])) n) off_now
+      -- its connections end with it
+      abbrev ends : Chronicle
+      ends = after_line r (Event.NodeStopped n)
+
+      abbrev hit_ends : Chronicle
+      hit_ends = record hit_all { conn_at = ends.conn_at }
+
+      stopped_so : after_start ends n (Event.NodeStopped n ∷ []) (answer.No cause.Stopped) ≡ hit_ends
+      stopped_so = ap (λ b. if b then hit_ends else after_stop (after_restarts (after_up n (after_calls (disks_of r n) n ends)) (Event.NodeStopped n ∷ [])) n) off_now
 
       missed_failed : FailsIn count fuse → Missed fired.Failed
       missed_failed h = (
@@ -179,7 +187,8 @@ module _ (steady : Steady) (crashes : Crashes) (w : PlainWorld) (r : Chronicle) 
       missed_stopped h = (
         (
           (subst IsToStop (sym power.fuse) (stops_to count fuse h), tt),
-          more_used (with_node_at w n still_down) (after_start r n (Event.NodeStopped n ∷ []) (answer.No cause.Stopped)) [] (subst (Agrees (with_node_at w n still_down)) (sym stopped_so) down_again),
+          more_used (with_node_at w n still_down) (after_start ends n (Event.NodeStopped n ∷ []) (answer.No cause.Stopped)) []
+              (subst (Agrees (with_node_at w n still_down)) (sym stopped_so) (down_again.0, beside (with_node_at w n still_down) hit_all ends.conn_at hit_all.made hit_all.ticks hit_all.changed down_again.0 (λ one durable i. i) down_again.1)),
         ),
         stops_more count (calls_of_start r n) (r.arm_at n).fuse first_calls (subst (StopsIn count) (sym power.fuse) h),
         refl,
@@ -280,7 +289,7 @@ module _ (steady : Steady) (crashes : Crashes) (w : PlainWorld) (r : Chronicle) 
           (apart_zip (active_ones books) uuids (subst (λ bs. AllDiffer (active_ones bs)) (sym books_so) (differ_active (book_in books))))
           (free_zip w.uuids (active_ones books) uuids free nonzero small)
           (record {
-            reads = record { last = refl; tree = refl; branch = refl; held = refl; writer = refl; role = refl; counts = refl; log = refl; snap = refl; saved = λ m q. refl; clients = refl; made = refl; clock = refl; ticks = refl };
+            reads = record { last = refl; tree = refl; branch = refl; held = refl; writer = refl; role = refl; counts = refl; log = refl; snap = refl; saved = λ m q. refl; clients = refl; made = refl; clock = refl; ticks = refl; conns = refl; changed = refl };
             down = power.down;
             spends = ap (λ (t : ArmKnown). t.fuse) (arm_here w r c n node books a known down opens);
           })

@@ -1,6 +1,6 @@
 -- each line of a script answers the sets and removals that it tells of where it tells of them
 use Rattle.std.specs.Prelude.{◌≡◌, ◌∷◌, ◌++◌, if◌then◌else◌}
-use Rattle.transcript_law.proofs.Words.{ℕ, Bool, true, false, List, [], refl, sym, subst, map, take, length, and_parts, All, Option, Some, None, is_some, Answer, Cause, Chronicle, Event, Frame, Role, Verb, VbVerb, NodeVerb, LinkVerb, ClientVerb, AdminCall, AdminResult, PlainLink, PlainNode, PlainWorld, Outcome, Told, VbAnswer, VbCall, VbReply, States, after, after_job, with_states}
+use Rattle.transcript_law.proofs.Words.{ℕ, Bool, true, false, List, [], refl, map, take, length, All, Option, Some, None, is_some, Cause, Chronicle, Event, Frame, Role, Verb, VbVerb, NodeVerb, LinkVerb, ClientVerb, AdminCall, AdminResult, PlainLink, PlainNode, PlainWorld, Outcome, Told, VbAnswer, VbCall, VbReply, States, after, after_job, with_states}
 use Rattle.transcript_law.proofs.Words.{admin_call, admin_result, call_at, called_at, cut_off, done, first_cause, moved_len, no_node, node_outcome, on_link, on_node, own_link, peer_of, producer_node, refusal, refused_or, role_outcome, turned_after, turned_if, up_at, verb_step, with_ended, with_node_at}
 use Rattle.disk_journals.specs.{Arms.{opens_all}, Books.{Book}}
 use Rattle.{durability.specs.Chains.{Links, Members}, vb_calls.specs.States.{states_step}}
@@ -9,9 +9,9 @@ use Rattle.node_world.specs.{Arms.{fired_by, no_arm, placed, under_arm}, Dues.{d
 use Rattle.node_world.specs.{Power.{Starting, after_fire, burnt_arm, down_lines, first_no, loaded_node, not_opened, opened_at, opening_told, start_at, start_causes, start_if, start_one, start_step, started_by, starts_from, with_arm}, Turns.{posted_at, posted_in, promote_causes, role_called, turn_causes}, Worlds.{arm_in, on_made}}
 use Rattle.node_world.specs.declared.arm.Fired.{Fired}
 use Rattle.node_world.specs.declared.arm.Fired.TheVariants as fired
-use Rattle.transcript_law.proofs.{lines.Calm.{due_keeps}, lines.Stored.{Gives, durable_settled_lines, gives, is_no_change, next_behind, settled_next, unchanged_next}, lines.StoredSessions.{bytes_next, peer_calm, posts_next}, verbs.NodeLines.{on_made_by, on_node_by}, verbs.Tellings.{Are, are_cons, are_down}}
+use Rattle.transcript_law.proofs.{lines.Calm.{due_keeps}, lines.Stored.{Gives, durable_settled_lines, gives, is_no_change, next_behind, settled_next, unchanged_next}, lines.StoredSessions.{bytes_next, peer_calm, posts_next}, verbs.NodeLines.{on_made_by, on_node_by}, verbs.Tellings.{are_down, each_told}}
 use Rattle.transcript_law.proofs.{answers.Calm.{OfDurable}, verbs.NodeLines.{on_link_by}}
-use Rattle.transcript_law.specs.{AnsweredWrites.{AllToldNext}, Asked.{IsShowLine, TellsAsAsked, TellsIfDone, is_of_down, is_of_image, is_of_pump}, Tellings.{TellsOf, are_all, at_link, at_node, at_vb, is_none, is_of_pulls}}
+use Rattle.transcript_law.specs.{AnsweredWrites.{AllToldNext}, LinesTold.{Dial}, Tellings.{TellsOf, at_link, at_vb, is_none, is_of_end, is_of_pull, may_tell}}
 use Rattle.vb_calls.proofs.{Conduct.{after_always}, JobConduct.{always_bind_job}}
 use Rattle.vb_calls.specs.Flushes.{flush_job, is_refusal, note_role_job, part_job, role_job, role_of_call, role_told_job}
 use Rattle.vb_calls.specs.Jobs.{AlwaysJob, Ended, Job, Call as AsksCall, Request}
@@ -26,14 +26,6 @@ use Rattle.vb_types.specs.declared.journal.FlushPart.TheVariants as part
 
 -- ---- lines that tell of no change
 
--- as their test passes none
-unchanged : (q : Event → Bool) → ((line : Event) → q line ≡ true → is_no_change line ≡ true) → (lines : List Event) → Are q lines → AllToldNext lines
-unchanged q none lines a = unchanged_next lines (by lines a)
-  where
-    by : (lines : List Event) → Are q lines → Are is_no_change lines
-    by [] a = refl
-    by (line ∷ lines) a = let p = and_parts (q line) (are_all q lines) a in are_cons is_no_change line lines (none line p.0) (by lines p.1)
-
 -- of an arm that fired
 armed : (n : ℕ) (w : PlainWorld) (came : Outcome) → AllToldNext came.1.events → AllToldNext (with_arm n w came).1.events
 armed n w came t = by (fired_by (arm_in (w.nodes n)).fuse (arm_in (came.0.nodes n)).fuse)
@@ -41,7 +33,7 @@ armed n w came t = by (fired_by (arm_in (w.nodes n)).fuse (arm_in (came.0.nodes 
     by : (f : Fired) → AllToldNext (after_fire n (arm_in (w.nodes n)).out f came).1.events
     by fired.No = t
     by fired.Failed = next_behind came.1.events (Event.CallFailed n ∷ []) t tt
-    by fired.Stopped = next_behind came.1.events (Event.NodeStopped n ∷ down_lines n None came.0) t (unchanged_next (down_lines n None came.0) (are_down is_no_change n None came.0 (λ l. refl) (λ c. refl)))
+    by fired.Stopped = next_behind came.1.events (Event.NodeStopped n ∷ down_lines n None came.0) t (unchanged_next (down_lines n None came.0) (are_down is_no_change n None came.0 (λ l touched. refl) (λ c. refl)))
 
 -- a line that is refused tells of nothing
 unless_next : {A : Type 0} (why : Option Cause) (before : A) (x : A × Told) → AllToldNext x.1.events → AllToldNext (refused_or why before x).1.events
@@ -321,92 +313,97 @@ up_next w l wanted = on_link_by (λ o. AllToldNext o.1.events) w l producer_node
 
 -- ---- each line
 
--- none of these tests passes a change
-role_test : (n v : ℕ) (line : Event) → at_vb n v VbVerb.MakeReplica line ≡ true → is_no_change line ≡ true
-role_test n v (Event.Changed m u uuid change) e = e
-role_test n v other e = refl
+-- where a line may tell of no change
+no_change : (r : Chronicle) (asked : Verb) → ((line : Event) → may_tell r asked line ≡ true → is_no_change line ≡ true) → (lines : List Event) → TellsOf r asked lines → AllToldNext lines
+no_change r asked none lines t = unchanged_next lines (each_told (may_tell r asked) (is_of_end r) is_no_change none (λ m stops line e. ended m line e) lines t)
+  where
+    ended : (m : ℕ) (line : Event) → is_of_end r m line ≡ true → is_no_change line ≡ true
+    ended m (Event.Changed k u uuid change) e = e
+    ended m other e = refl
 
-save_test : (n v : ℕ) (line : Event) → at_vb n v VbVerb.Save line ≡ true → is_no_change line ≡ true
-save_test n v (Event.Changed m u uuid change) e = e
-save_test n v other e = refl
+-- none of these lines may
+role_test : (r : Chronicle) (n v : ℕ) (line : Event) → at_vb r n v VbVerb.MakeReplica line ≡ true → is_no_change line ≡ true
+role_test r n v (Event.Changed m u uuid change) e = e
+role_test r n v other e = refl
 
-take_test : (n v : ℕ) (line : Event) → at_vb n v VbVerb.Take line ≡ true → is_no_change line ≡ true
-take_test n v (Event.Changed m u uuid change) e = e
-take_test n v other e = refl
+save_test : (r : Chronicle) (n v : ℕ) (line : Event) → at_vb r n v VbVerb.Save line ≡ true → is_no_change line ≡ true
+save_test r n v (Event.Changed m u uuid change) e = e
+save_test r n v other e = refl
 
-stat_test : (n v : ℕ) (line : Event) → at_vb n v VbVerb.Stat line ≡ true → is_no_change line ≡ true
-stat_test n v (Event.Changed m u uuid change) e = e
-stat_test n v other e = refl
+take_test : (r : Chronicle) (n v : ℕ) (line : Event) → at_vb r n v VbVerb.Take line ≡ true → is_no_change line ≡ true
+take_test r n v (Event.Changed m u uuid change) e = e
+take_test r n v other e = refl
 
-log_test : (n v : ℕ) (line : Event) → at_vb n v VbVerb.Log line ≡ true → is_no_change line ≡ true
-log_test n v (Event.Changed m u uuid change) e = e
-log_test n v other e = refl
+stat_test : (r : Chronicle) (n v : ℕ) (line : Event) → at_vb r n v VbVerb.Stat line ≡ true → is_no_change line ≡ true
+stat_test r n v (Event.Changed m u uuid change) e = e
+stat_test r n v other e = refl
+
+log_test : (r : Chronicle) (n v : ℕ) (line : Event) → at_vb r n v VbVerb.Log line ≡ true → is_no_change line ≡ true
+log_test r n v (Event.Changed m u uuid change) e = e
+log_test r n v other e = refl
+
+show_test : (r : Chronicle) (n v : ℕ) (line : Event) → at_vb r n v VbVerb.Show line ≡ true → is_no_change line ≡ true
+show_test r n v (Event.Changed m u uuid change) e = e
+show_test r n v other e = refl
 
 none_test : (line : Event) → is_none line ≡ true → is_no_change line ≡ true
 none_test (Event.Changed m u uuid change) e = e
 none_test other e = refl
 
-image_test : (line : Event) → is_of_image line ≡ true → is_no_change line ≡ true
-image_test (Event.Changed m u uuid change) e = e
-image_test other e = refl
+end_test : (r : Chronicle) (n : ℕ) (line : Event) → is_of_end r n line ≡ true → is_no_change line ≡ true
+end_test r n (Event.Changed m u uuid change) e = e
+end_test r n other e = refl
 
-end_test : (n : ℕ) (out : _) (line : Event) → at_node n (NodeVerb.Crash out) line ≡ true → is_no_change line ≡ true
-end_test n out (Event.Changed m u uuid change) e = e
-end_test n out other e = refl
+pull_test : (n c : ℕ) (line : Event) → is_of_pull n c line ≡ true → is_no_change line ≡ true
+pull_test n c (Event.Changed m u uuid change) e = e
+pull_test n c other e = refl
 
-pulls_test : (line : Event) → is_of_pulls line ≡ true → is_no_change line ≡ true
-pulls_test (Event.Changed m u uuid change) e = e
-pulls_test other e = refl
+-- nor may any line for a link but `up`
+down_test : (dial : Option Dial) (l wanted : ℕ) (line : Event) → at_link dial l (LinkVerb.Down wanted) line ≡ true → is_no_change line ≡ true
+down_test None l wanted line e = none_test line e
+down_test (Some dial) l wanted (Event.Changed m u uuid change) e = e
+down_test (Some dial) l wanted other e = refl
 
-down_test : (dial : _) (l : ℕ) (line : Event) → is_of_down dial l line ≡ true → is_no_change line ≡ true
-down_test dial l (Event.Changed m u uuid change) e = e
-down_test dial l other e = refl
+pump_test : (dial : Option Dial) (l frames : ℕ) (line : Event) → at_link dial l (LinkVerb.Pump frames) line ≡ true → is_no_change line ≡ true
+pump_test None l frames line e = none_test line e
+pump_test (Some dial) l frames (Event.Changed m u uuid change) e = e
+pump_test (Some dial) l frames other e = refl
 
-pump_test : (l : ℕ) (line : Event) → is_of_pump l line ≡ true → is_no_change line ≡ true
-pump_test l (Event.Changed m u uuid change) e = e
-pump_test l other e = refl
+cut_test : (dial : Option Dial) (l : ℕ) (line : Event) → at_link dial l LinkVerb.Cut line ≡ true → is_no_change line ≡ true
+cut_test None l line e = none_test line e
+cut_test (Some dial) l (Event.Changed m u uuid change) e = e
+cut_test (Some dial) l other e = refl
 
-cut_test : (l : ℕ) (line : Event) → at_link l LinkVerb.Cut line ≡ true → is_no_change line ≡ true
-cut_test l (Event.Changed m u uuid change) e = e
-cut_test l other e = refl
+vb_next : (w : PlainWorld) (r : Chronicle) (number n v : ℕ) (what : VbVerb) → (let x = (verb_step w number (Verb.AtVb n v what)).1 in TellsOf r (Verb.AtVb n v what) x.events → AllToldNext x.events)
+vb_next w r number n v (VbVerb.MakeActive uuid) t = no_change r (Verb.AtVb n v (VbVerb.MakeActive uuid)) (role_test r n v) (verb_step w number (Verb.AtVb n v (VbVerb.MakeActive uuid))).1.events t
+vb_next w r number n v VbVerb.MakeReplica t = no_change r (Verb.AtVb n v VbVerb.MakeReplica) (role_test r n v) (verb_step w number (Verb.AtVb n v VbVerb.MakeReplica)).1.events t
+vb_next w r number n v (VbVerb.Chain others) t = on_next w n (chain_line n v others) (chain_next n v others)
+vb_next w r number n v (VbVerb.Promote uuid) t = promote_next n v w uuid (first_cause (promote_causes w n v uuid))
+vb_next w r number n v VbVerb.Follow t = follow_next n v w (first_cause (turn_causes w n v Role.Replica))
+vb_next w r number n v VbVerb.Dead t = dead_next n v w (first_cause (turn_causes w n v Role.Dead))
+vb_next w r number n v VbVerb.Tick t = on_next w n (tick_line n v) (tick_next n v)
+vb_next w r number n v VbVerb.Seal t = no_change r (Verb.AtVb n v VbVerb.Seal) none_test (verb_step w number (Verb.AtVb n v VbVerb.Seal)).1.events t
+vb_next w r number n v VbVerb.Take t = no_change r (Verb.AtVb n v VbVerb.Take) (take_test r n v) (verb_step w number (Verb.AtVb n v VbVerb.Take)).1.events t
+vb_next w r number n v VbVerb.Save t = no_change r (Verb.AtVb n v VbVerb.Save) (save_test r n v) (verb_step w number (Verb.AtVb n v VbVerb.Save)).1.events t
+vb_next w r number n v VbVerb.Done t = due_next n v (on_node w n (flush_line n v part.Done)) (on_next w n (flush_line n v part.Done) (flush_next n v))
+vb_next w r number n v VbVerb.Stat t = no_change r (Verb.AtVb n v VbVerb.Stat) (stat_test r n v) (verb_step w number (Verb.AtVb n v VbVerb.Stat)).1.events t
+vb_next w r number n v VbVerb.Log t = no_change r (Verb.AtVb n v VbVerb.Log) (log_test r n v) (verb_step w number (Verb.AtVb n v VbVerb.Log)).1.events t
+vb_next w r number n v VbVerb.Show t = no_change r (Verb.AtVb n v VbVerb.Show) (show_test r n v) (verb_step w number (Verb.AtVb n v VbVerb.Show)).1.events t
 
--- what is shown
-shown_next : (n v : ℕ) (lines : List Event) (said : Answer) → TellsIfDone (IsShowLine n v) lines said → AllToldNext lines
-shown_next n v lines Answer.Ok (role, uuid, at, ss, se, docs, preps, image, is, all) = subst AllToldNext (sym is) (unchanged is_of_image image_test image all)
-shown_next n v lines (Answer.Number count) t = absurd t
-shown_next n v lines (Answer.Pulled count why) t = absurd t
-shown_next n v lines (Answer.No why) none = subst AllToldNext (sym none) tt
-
-vb_next : (w : PlainWorld) (r : Chronicle) (number n v : ℕ) (what : VbVerb) → (let x = (verb_step w number (Verb.AtVb n v what)).1 in TellsOf (Verb.AtVb n v what) x.events → TellsAsAsked r (Verb.AtVb n v what) x.events x.answer → AllToldNext x.events)
-vb_next w r number n v (VbVerb.MakeActive uuid) t a = unchanged (at_vb n v VbVerb.MakeReplica) (role_test n v) (verb_step w number (Verb.AtVb n v (VbVerb.MakeActive uuid))).1.events t
-vb_next w r number n v VbVerb.MakeReplica t a = unchanged (at_vb n v VbVerb.MakeReplica) (role_test n v) (verb_step w number (Verb.AtVb n v VbVerb.MakeReplica)).1.events t
-vb_next w r number n v (VbVerb.Chain others) t a = on_next w n (chain_line n v others) (chain_next n v others)
-vb_next w r number n v (VbVerb.Promote uuid) t a = promote_next n v w uuid (first_cause (promote_causes w n v uuid))
-vb_next w r number n v VbVerb.Follow t a = follow_next n v w (first_cause (turn_causes w n v Role.Replica))
-vb_next w r number n v VbVerb.Dead t a = dead_next n v w (first_cause (turn_causes w n v Role.Dead))
-vb_next w r number n v VbVerb.Tick t a = on_next w n (tick_line n v) (tick_next n v)
-vb_next w r number n v VbVerb.Seal t a = unchanged is_none none_test _ t
-vb_next w r number n v VbVerb.Take t a = unchanged (at_vb n v VbVerb.Take) (take_test n v) _ t
-vb_next w r number n v VbVerb.Save t a = unchanged (at_vb n v VbVerb.Save) (save_test n v) (verb_step w number (Verb.AtVb n v VbVerb.Save)).1.events t
-vb_next w r number n v VbVerb.Done t a = due_next n v (on_node w n (flush_line n v part.Done)) (on_next w n (flush_line n v part.Done) (flush_next n v))
-vb_next w r number n v VbVerb.Stat t a = unchanged (at_vb n v VbVerb.Stat) (stat_test n v) _ t
-vb_next w r number n v VbVerb.Log t a = unchanged (at_vb n v VbVerb.Log) (log_test n v) _ t
-vb_next w r number n v VbVerb.Show t a = shown_next n v _ _ a
-
-pub line_next : (w : PlainWorld) (r : Chronicle) (number : ℕ) (line : Verb) → (let x = (verb_step w number line).1 in TellsOf line x.events → TellsAsAsked r line x.events x.answer → AllToldNext x.events)
-line_next w r number (Verb.Node n) t a = unchanged is_none none_test _ t
-line_next w r number (Verb.Link l m n v buffer) t a = unchanged is_none none_test _ t
-line_next w r number (Verb.AtNode n (NodeVerb.Clock nanos)) t a = unchanged is_none none_test _ t
-line_next w r number (Verb.AtNode n (NodeVerb.Stop call out)) t a = unchanged is_none none_test _ t
-line_next w r number (Verb.AtNode n (NodeVerb.Fail call)) t a = unchanged is_none none_test _ t
-line_next w r number (Verb.AtNode n (NodeVerb.Crash out)) t a = unchanged (at_node n (NodeVerb.Crash out)) (end_test n out) (verb_step w number (Verb.AtNode n (NodeVerb.Crash out))).1.events t
-line_next w r number (Verb.AtNode n (NodeVerb.Start uuids)) t a = start_next w n uuids
-line_next w r number (Verb.AtVb n v what) t a = vb_next w r number n v what t a
-line_next w r number (Verb.AtClient n c ClientVerb.Open) t a = unchanged is_none none_test _ t
-line_next w r number (Verb.AtClient n c (ClientVerb.Bytes bytes)) t a = on_next w n (bytes_at c bytes) (bytes_next c bytes)
-line_next w r number (Verb.AtClient n c (ClientVerb.Pull wanted)) t a = unchanged is_of_pulls pulls_test (verb_step w number (Verb.AtClient n c (ClientVerb.Pull wanted))).1.events t
-line_next w r number (Verb.AtClient n c ClientVerb.Hang) t a = unchanged is_none none_test _ t
-line_next w r number (Verb.AtLink l (LinkVerb.Up wanted)) t a = up_next w l wanted
-line_next w r number (Verb.AtLink l (LinkVerb.Down wanted)) t a = unchanged (is_of_down (r.dial_of l) l) (down_test (r.dial_of l) l) (verb_step w number (Verb.AtLink l (LinkVerb.Down wanted))).1.events a
-line_next w r number (Verb.AtLink l (LinkVerb.Pump wanted)) t a = unchanged (is_of_pump l) (pump_test l) (verb_step w number (Verb.AtLink l (LinkVerb.Pump wanted))).1.events a
-line_next w r number (Verb.AtLink l LinkVerb.Cut) t a = unchanged (at_link l LinkVerb.Cut) (cut_test l) (verb_step w number (Verb.AtLink l LinkVerb.Cut)).1.events t
+pub line_next : (w : PlainWorld) (r : Chronicle) (number : ℕ) (line : Verb) → (let x = (verb_step w number line).1 in TellsOf r line x.events → AllToldNext x.events)
+line_next w r number (Verb.AtNode n (NodeVerb.Start uuids)) t = start_next w n uuids
+line_next w r number (Verb.AtVb n v what) t = vb_next w r number n v what t
+line_next w r number (Verb.AtClient n c (ClientVerb.Bytes bytes)) t = on_next w n (bytes_at c bytes) (bytes_next c bytes)
+line_next w r number (Verb.AtLink l (LinkVerb.Up wanted)) t = up_next w l wanted
+line_next w r number (Verb.Node n) t = no_change r (Verb.Node n) none_test (verb_step w number (Verb.Node n)).1.events t
+line_next w r number (Verb.Link l m n v buffer) t = no_change r (Verb.Link l m n v buffer) none_test (verb_step w number (Verb.Link l m n v buffer)).1.events t
+line_next w r number (Verb.AtNode n (NodeVerb.Clock nanos)) t = no_change r (Verb.AtNode n (NodeVerb.Clock nanos)) none_test (verb_step w number (Verb.AtNode n (NodeVerb.Clock nanos))).1.events t
+line_next w r number (Verb.AtNode n (NodeVerb.Stop k out)) t = no_change r (Verb.AtNode n (NodeVerb.Stop k out)) none_test (verb_step w number (Verb.AtNode n (NodeVerb.Stop k out))).1.events t
+line_next w r number (Verb.AtNode n (NodeVerb.Fail k)) t = no_change r (Verb.AtNode n (NodeVerb.Fail k)) none_test (verb_step w number (Verb.AtNode n (NodeVerb.Fail k))).1.events t
+line_next w r number (Verb.AtNode n (NodeVerb.Crash out)) t = no_change r (Verb.AtNode n (NodeVerb.Crash out)) (end_test r n) (verb_step w number (Verb.AtNode n (NodeVerb.Crash out))).1.events t
+line_next w r number (Verb.AtClient n c ClientVerb.Open) t = no_change r (Verb.AtClient n c ClientVerb.Open) none_test (verb_step w number (Verb.AtClient n c ClientVerb.Open)).1.events t
+line_next w r number (Verb.AtClient n c (ClientVerb.Pull wanted)) t = no_change r (Verb.AtClient n c (ClientVerb.Pull wanted)) (pull_test n c) (verb_step w number (Verb.AtClient n c (ClientVerb.Pull wanted))).1.events t
+line_next w r number (Verb.AtClient n c ClientVerb.Hang) t = no_change r (Verb.AtClient n c ClientVerb.Hang) none_test (verb_step w number (Verb.AtClient n c ClientVerb.Hang)).1.events t
+line_next w r number (Verb.AtLink l (LinkVerb.Down wanted)) t = no_change r (Verb.AtLink l (LinkVerb.Down wanted)) (down_test (r.dial_of l) l wanted) (verb_step w number (Verb.AtLink l (LinkVerb.Down wanted))).1.events t
+line_next w r number (Verb.AtLink l (LinkVerb.Pump frames)) t = no_change r (Verb.AtLink l (LinkVerb.Pump frames)) (pump_test (r.dial_of l) l frames) (verb_step w number (Verb.AtLink l (LinkVerb.Pump frames))).1.events t
+line_next w r number (Verb.AtLink l LinkVerb.Cut) t = no_change r (Verb.AtLink l LinkVerb.Cut) (cut_test (r.dial_of l) l) (verb_step w number (Verb.AtLink l LinkVerb.Cut)).1.events t

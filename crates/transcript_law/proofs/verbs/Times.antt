@@ -7,7 +7,7 @@ use Rattle.transcript_law.proofs.Words.{ℕ, Bool, true, false, List, [], drop, 
 use Rattle.durability.specs.{Laws.{Waits}, Outstanding.{above, at_seq, below, placed, upto, without}, declared.waiting.Waiting.{Waiting}}
 use Rattle.std.specs.FinMap as finite
 use Rattle.transcript_law.proofs.invariant.Agreement.{TimesAre}
-use Rattle.transcript_law.specs.Lawfulness.{IsUp}
+use Rattle.transcript_law.specs.{LawfulAnswers.{HavePassed}, Lawfulness.{IsUp}}
 use Rattle.vb_calls.specs.Settling.{left_prepare, left_prepares}
 
 -- ---- which wait
@@ -67,6 +67,13 @@ up_at_end clock timeout some = ⊎_elim
     (λ over. inr (min_comm (clock + timeout * 1000000) (2 ^ 64 - 1) ∙ min-eq_left (omega (arith, over))))
     (λ within. inl (let is = min-eq_left within in omega (arith, some, is)))
     (cases_lt (2 ^ 64 - 1) (clock + timeout * 1000000))
+
+-- by its deadline the time that is asked for is over
+pub passed_at : (since timeout now : ℕ) → deadline_of since timeout ≤ now → HavePassed timeout since now
+passed_at since timeout now low = ⊎_elim
+    (λ over. inr (let is : deadline_of since timeout ≡ 2 ^ 64 - 1 = min_comm (since + timeout * 1000000) (2 ^ 64 - 1) ∙ min-eq_left (omega (arith, over)) in omega (arith, low, is)))
+    (λ within. inl (let is : deadline_of since timeout ≡ since + timeout * 1000000 = min-eq_left within in omega (arith, low, is)))
+    (cases_lt (2 ^ 64 - 1) (since + timeout * 1000000))
 
 -- what is up at a deadline is up behind it
 pub up_later : (before deadline now : ℕ) → deadline ≤ now → now < 2 ^ 64 → IsUp before deadline → IsUp before now

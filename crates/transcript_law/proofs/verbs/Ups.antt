@@ -6,6 +6,7 @@ use Rattle.transcript_law.proofs.Words.{PlainNode, PlainWorld, with_node_at, wit
 use Rattle.transcript_law.proofs.invariant.Agreement.{vb_of, consumer_seat, producer_seat, Talk, LinkAgrees, idle, Agrees, EndsStand, GoesOn, spoken, wants_of}
 use Rattle.transcript_law.proofs.{invariant.Carried.{told_of_same, one_here, one_idle, one_none, talk_same}, invariant.Carrying.{Relinked}, links.Counting.{ack_next}, verbs.NodeLines.{as_told, on_link_goes, node_of_same_vbs}, invariant.OneLink.{mine, carries_link, carries_same}}
 use Rattle.transcript_law.proofs.{invariant.Ranged.{IsRanged, NodeRanged, NodeRangedIf}, verbs.Settling.{Steady}, links.Talks.{come, read_link, read_talk}, lines.Telling.{none_before, before_all}, links.Unread.{answering}}
+use Rattle.transcript_law.specs.LawfulAnswers.{AllDurable}
 use Rattle.transcript_law.proofs.links.Upward.{Now, asking_next, link_now, served_at, world_at}
 
 no_frames : {A : Type 0} (f : Frame) (fs : List Frame) → [] ≡ f ∷ fs → A
@@ -48,8 +49,8 @@ module _ (stays : StaysSound) (steady : Steady) (w : PlainWorld) (r : Chronicle)
     same_vbs : (k q : ℕ) → vb_of (world_at w r n link found first) k q ≡ vb_of w k q
     same_vbs = same.vbs
 
-    begun : Agrees w r → Now w r n link found (frames_in bytes) first
-    begun (c, a) =
+    begun : AllDurable r.made → Agrees w r → Now w r n link found (frames_in bytes) first
+    begun calm (c, a) =
         let la = mine idle w r r c c l link a found in
         let lb : LinkAgrees (world_at w r n link found first) r c (served_at w r n link found first.1) (frames_in bytes) [] = record {
           follower = la.follower;
@@ -66,6 +67,7 @@ module _ (stays : StaysSound) (steady : Steady) (w : PlainWorld) (r : Chronicle)
           agrees = carries_link idle (answering l (frames_in bytes)) w (world_at w r n link found first) r r c l link (served_at w r n link found first.1) a found
               (record { dialed = refl; desk = refl }) (record { powers = same.powers; vbs = same_vbs; shelves = same.shelves; uuids = refl; linked = refl }) (λ v id has. has) (told_of_same l r) (one_idle l (frames_in bytes, []))
               (subst (λ p. LinkAgrees (world_at w r n link found first) r c (served_at w r n link found first.1) p.0 p.1) (sym (one_here l (frames_in bytes, []))) lb);
+          calm = calm;
           desk = refl;
           heard = refl;
           ranged = ranged;
@@ -82,10 +84,10 @@ module _ (stays : StaysSound) (steady : Steady) (w : PlainWorld) (r : Chronicle)
       ),
     )
 
-    moved_up : Agrees w r → GoesOn r as_told (with_link link (with_node_at w (producer_node link) (up_moved link n node).0, (up_moved link n node).1))
-    moved_up a = ended (frames_up (frames_in bytes) first) (all_answered (frames_in bytes) first (begun a))
+    moved_up : AllDurable r.made → Agrees w r → GoesOn r as_told (with_link link (with_node_at w (producer_node link) (up_moved link n node).0, (up_moved link n node).1))
+    moved_up calm a = ended (frames_up (frames_in bytes) first) (all_answered (frames_in bytes) first (begun calm a))
 
 -- `up L B`
-pub up_goes : StaysSound → Steady → (w : PlainWorld) (r : Chronicle) (l wanted : ℕ) → IsRanged w → Agrees w r → GoesOn r as_told (on_link w l producer_node (up_at wanted))
-up_goes stays steady w r l wanted ranged a = on_link_goes w r l producer_node (up_at wanted) a
-    (λ link node found known. moved_up stays steady w r (moved_len wanted link.up) link found node known (subst (NodeRangedIf (producer_node link)) known (ranged (producer_node link))) a)
+pub up_goes : StaysSound → Steady → (w : PlainWorld) (r : Chronicle) (l wanted : ℕ) → IsRanged w → AllDurable r.made → Agrees w r → GoesOn r as_told (on_link w l producer_node (up_at wanted))
+up_goes stays steady w r l wanted ranged calm a = on_link_goes w r l producer_node (up_at wanted) a
+    (λ link node found known. moved_up stays steady w r (moved_len wanted link.up) link found node known (subst (NodeRangedIf (producer_node link)) known (ranged (producer_node link))) calm a)

@@ -1,7 +1,7 @@
 -- lines that send a request
 use Rattle.std.specs.Prelude.{◌≡◌, ◌+◌, ◌<◌, ◌≤◌, ◌∷◌, ◌++◌, ◌⊎◌, ◌^◌, if◌then◌else◌}
 use Rattle.transcript_law.specs.LinesTold.{timed}
-use Rattle.{branch_model.specs.Journals.{place_of}, cluster_model.specs.Clusters.{Fulfils, spanned}, durability.specs.declared.waiting.Waiting.{Waiting}, vb_calls.specs.Shelves.{Shelf}, vbucket.specs.Laws.{CasUpTo, OpensOwn}, vb_calls.specs.{Durable.{is_delete, prepare_change}, Following.{cas_of}}, vb_types.specs.declared.change.Level.{Level}, transcript_law.proofs.invariant.Bounded.{weighs_push}, transcript_law.specs.Chronicles.{CountsKnown}, transcript_law.specs.{Lawfulness.{IsGivenUp, IsHeldIfCommitted}, OwnChanges.{IsNextChange}}}
+use Rattle.{branch_model.specs.Journals.{place_of}, cluster_model.specs.Clusters.{Fulfils, spanned}, durability.specs.declared.waiting.Waiting.{Waiting}, vb_calls.specs.Shelves.{Shelf}, vbucket.specs.Laws.{CasUpTo, OpensOwn}, vb_calls.specs.{Durable.{is_delete, prepare_change}, Following.{cas_of}}, vb_types.specs.declared.change.Level.{Level}, transcript_law.proofs.invariant.Bounded.{weighs_push}, transcript_law.specs.Chronicles.{CountsKnown}, transcript_law.specs.{Lawfulness.{IsGivenUp, IsHeldIfCommitted, IsPrepareAsked}, OwnChanges.{IsNextChange}}}
 use Rattle.transcript_law.proofs.{invariant.Agreement.{DiskIsIf, shelf_of}, disks.Disks.{ShelfIs, disk_same, grown_spots, parts_of, same_parts, shelf_spanned}, invariant.OneLink.{disk_here, disk_there}}
 use Rattle.transcript_law.proofs.Words.{ℕ, Bool, true, false, List, [], refl, ap, sym, ◌∙◌, subst, inl, inr, ⊎_elim, arith, Option, Some, None}
 use Rattle.transcript_law.proofs.Words.{nat_lt, All, cases_lt, nat_tests, All-push, WriteFits, Change, Doc, MAX_SEQ, LogEntry, Picture, image_of, Role, Status, Write, Position, upto, Rises, last_seq, fork_of, HasLast}
@@ -46,6 +46,14 @@ no_abort o doc number e = cc
 
 pub write_aborts : (vb : Plain) (write : Write) (cas number : ℕ) → (write_change vb write cas).act ≡ Act.Abort number → ⊥
 write_aborts vb write cas number e = no_abort write.op (written_doc write cas (new_rev (doc_at vb write.key))) number e
+
+-- nor a prepare
+no_prepare : (o : Op) (doc : Doc) (level : Level) (prepared : Doc) (deleted : Bool) → act_of o doc ≡ Act.Prepare level prepared deleted → ⊥
+no_prepare Op.Set doc level prepared deleted e = cc
+no_prepare o doc level prepared deleted e = cc
+
+pub write_prepares : (vb : Plain) (write : Write) (cas : ℕ) (level : Level) (doc : Doc) (deleted : Bool) → (write_change vb write cas).act ≡ Act.Prepare level doc deleted → ⊥
+write_prepares vb write cas level doc deleted e = no_prepare write.op (written_doc write cas (new_rev (doc_at vb write.key))) level doc deleted e
 
 -- so nobody has to hold it
 pub write_unheld : (counts : CountsKnown) (saved : ℕ) (image : Picture) (vb : Plain) (write : Write) (cas : ℕ) → IsHeldIfCommitted counts saved image (write_change vb write cas)
@@ -169,13 +177,14 @@ module _ (w : PlainWorld) (r : Chronicle) (cl : Cluster) (n v : ℕ) (node : Pla
     told_below_it : ForksBelow member.br change.seq r.tree
     told_below_it = told_below cl.tree r.tree member.br change.seq a.are_told below
 
-    pub is_lawful : IsNextChange member.held change → IsHeldIfCommitted (r.counts_at n v) (r.disk_at n v).saved (image_of member.held) change → ((prepared : ℕ) → change.act ≡ Act.Abort prepared → IsGivenUp r n v prepared) → LawfulChange r n v member.br change
-    is_lawful next_one backed aborts = record {
+    pub is_lawful : IsNextChange member.held change → ((level : Level) (doc : Doc) (deleted : Bool) → change.act ≡ Act.Prepare level doc deleted → IsPrepareAsked r.clients_at r.changed n v change.key level doc deleted) → IsHeldIfCommitted (r.counts_at n v) (r.disk_at n v).saved (image_of member.held) change → ((prepared : ℕ) → change.act ≡ Act.Abort prepared → IsGivenUp r n v prepared) → LawfulChange r n v member.br change
+    is_lawful next_one asked backed aborts = record {
       active = if_known (r.role_at n v) (Some Role.Active) (mine.role ∙ ap (λ (x : Role). Some (Some x)) (is_active_role vb.role active));
       writer = record { made_or_took = writer.writer; on_branch = writer.branch };
       above_branch = (let most : last_seq 0 (hist r.tree member.br) ≤ vb.position.at = last_seq_le 0 vb.position.at 0 (hist r.tree member.br) (omega arith) branch_rises in omega arith);
       above_forks = told_below_it;
       made = subst (λ h. IsNextChange h change) (sym mine.held) next_one;
+      asked = asked;
       fulfils = subst (λ h. Fulfils (image_of h) change) (sym mine.held) named;
       backed = subst (λ h. IsHeldIfCommitted (r.counts_at n v) (r.disk_at n v).saved (image_of h) change) (sym mine.held) backed;
       aborts = aborts;

@@ -1,4 +1,4 @@
-use Rattle.transcript_law.proofs.rows.BreakRows.{behind, beside, early, idle, named, no_reason, other, other_answer, outcome, outcome_later, outcome_named, outcome_other, outcome_silent, outcome_whole, part, silent, stays, stopped, ticked, unnamed, whole}
+use Rattle.transcript_law.proofs.rows.BreakRows.{behind, early, idle, named, no_reason, other, other_answer, outcome, outcome_later, outcome_named, outcome_other, outcome_silent, outcome_whole, part, silent, stays, stopped, ticked, unnamed, whole}
 use Rattle.transcript_law.proofs.breaks.judged_breaks.Goals as goal
 
 pub returns : goal.returns
@@ -13,7 +13,6 @@ returns c = record {
   other_answer = other_answer;
   early = early;
   other = other;
-  beside = beside;
   outcome = outcome;
   outcome_named = outcome_named;
   outcome_whole = outcome_whole;

@@ -14,4 +14,5 @@ returns c = record {
   uncommitted = rows.uncommitted;
   prepared = rows.behind_prepare;
   cas = rows.other_cas;
+  level = rows.other_level;
 }

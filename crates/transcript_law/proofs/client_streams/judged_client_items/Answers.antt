@@ -13,6 +13,10 @@ returns c = record {
   unmarked = rows.unmarked;
   over = rows.over;
   turns = rows.turns;
+  turns_lost = rows.turns_lost;
+  turns_twice = rows.turns_twice;
+  left = rows.left;
+  left_none = rows.left_none;
   other_turned = rows.other_turned;
   lost = rows.lost;
 }

@@ -19,5 +19,5 @@ returns c = record {
   above_rolls = rows.above_rolls;
   in_order = rows.in_order;
   numbered = rows.numbered;
-  spent = rows.spent;
+  unspent = rows.unspent;
 }

@@ -15,4 +15,8 @@ returns c = record {
   later_commit = rows.later_commit;
   held_so = rows.held_so;
   held_commit = rows.held_commit;
+  turned_commit = rows.turned_commit;
+  turned_as_document = rows.turned_as_document;
+  turned_document = rows.turned_document;
+  turned_as_commit = rows.turned_as_commit;
 }

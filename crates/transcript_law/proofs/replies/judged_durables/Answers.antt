@@ -10,7 +10,6 @@ returns c = record {
   locked = rows.locked;
   plain_locked = rows.plain_locked;
   plain_impossible = rows.plain_impossible;
-  ambiguous = rows.ambiguous;
   plain_ambiguous = rows.plain_ambiguous;
   away = rows.away;
   active = rows.active;

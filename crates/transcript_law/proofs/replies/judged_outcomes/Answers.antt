@@ -18,6 +18,7 @@ returns c = record {
   other_vb = rows.other_vb;
   other_value = rows.other_value;
   removal = rows.removal;
+  other_level = rows.other_level;
   other_prepare = rows.other_prepare;
   plain = rows.plain;
   plain_uncommitted = rows.plain_uncommitted;
