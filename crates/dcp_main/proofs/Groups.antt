@@ -1,5 +1,8 @@
 -- writing group by group
 use Rattle.std.proofs.Common.{◌≡◌, ℕ, ◌<◌, Bool, true, false, List, [], ◌∷◌, ◌++◌, length, Result, Ok, Err, refl, ap, sym, ◌∙◌, subst, append-nil, append_assoc, arith}
+use Rattle.std.proofs.lemmas.List.Elements.{All-cons}
+use Rattle.std.specs.List.{All}
+use Rattle.std.specs.Prelude.{IfOk}
 use Rattle.std.specs.Result.{IsErrAnd}
 use Rattle.std.specs.Io.KnownBytes.{Appends}
 use Rattle.std.proofs.KnownBytes.{Appends-nil, Appends-trans}
@@ -10,6 +13,7 @@ use Rattle.dcp_io.proofs.Stopping.{stopped_after}
 use Rattle.node_world.specs.World.{PlainWorld, world_step, groups_from}
 use Rattle.node_world.specs.Rests.{Rests}
 use Rattle.node_world.specs.Stands.{Kept, WorldStands}
+use Rattle.script_text.specs.Held.{IsGroupHeld}
 use Rattle.script_text.specs.Transcript.{group_text, print_of}
 use Rattle.script_text.specs.declared.verb.ScriptLine.{ScriptLine}
 use Rattle.dcp_main.specs.Writes.{to_write, IsLess, LineTold, LineWrote, PieceWrote, WroteBut}
@@ -43,6 +47,7 @@ told_wrote w lines left before kept waited told waits old new true stands rests 
       line.2,
       line.3,
       omega (arith, ap length line.1),
+      λ held. subst (λ ls. All IsGroupHeld (groups_from w ls)) (sym line.1) (All-cons IsGroupHeld (world_step w line.0).1 (groups_from after left) line.5 held),
       (part, wrote, sym (append_assoc part waits (print_of (groups_from after left))) ∙ ap (λ t. t ++ print_of (groups_from after left)) is ∙ next),
     )
 told_wrote w lines left before kept waited told waits old new false stands rests none (part, wrote, is) = (
@@ -50,6 +55,7 @@ told_wrote w lines left before kept waited told waits old new false stands rests
   subst (λ k. WorldStands k w) (sym none.2) stands,
   rests,
   none.1,
+  λ held. subst (λ ls. All IsGroupHeld (groups_from w ls)) (none.1 ∙ sym none.0) held,
   (
     part,
     wrote,
@@ -69,3 +75,12 @@ pub line_stop : (w : PlainWorld) (lines left : List ScriptLine) (kept : Kept) (w
     → IsErrAnd r (λ passed. passed ≡ stop) → Stopped old new (to_write waited w lines) stop → LineWrote w lines left kept waited waits old new r
 line_stop w lines left kept waited waits old new (Ok more) stop passed stopped = absurd passed
 line_stop w lines left kept waited waits old new (Err why) stop passed stopped = subst (λ s. Stopped old new (to_write waited w lines) s) (sym passed) stopped
+
+-- what holds anyway holds at an Ok, and anything does of a stop
+pub if_ok : {P : Type 0} (r : Result (Unit {0}) Status) → P → IfOk r (λ u. P)
+if_ok (Ok u) p = p
+if_ok (Err stop) p = tt
+
+pub never_ok : (P : Type 0) (r : Result (Unit {0}) Status) (stop : Status) → IsErrAnd r (λ passed. passed ≡ stop) → IfOk r (λ u. P)
+never_ok P (Ok u) stop passed = absurd passed
+never_ok P (Err why) stop passed = tt

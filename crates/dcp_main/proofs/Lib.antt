@@ -9,3 +9,4 @@ pub mod Newlines
 pub mod Showing
 pub mod TellLines
 pub mod Wanting
+pub mod EventKinds

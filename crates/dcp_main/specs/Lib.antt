@@ -5,3 +5,4 @@ pub mod Runs
 pub mod Summaries
 pub mod Sums
 pub mod Showing
+pub mod EventKinds

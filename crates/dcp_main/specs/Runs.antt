@@ -1,6 +1,7 @@
 -- what a run read and wrote, by the status that it answers
 use Rattle.std.specs.Prelude.{◌≡◌, ℕ, ◌+◌, ◌<◌, ◌⊎◌, List, codes}
 use Rattle.std.specs.Io.KnownBytes.{Consumes}
+use Rattle.std.specs.List.{All}
 use Rattle.dcp_io.specs.Counts.{raised, Rose}
 use Rattle.dcp_io.specs.Moves.{Intake, Outlet, WrotePart}
 use Rattle.dcp_io.specs.Reads.{ReadAll, ReadFailed, ReadMore, ReadSome}
@@ -10,6 +11,7 @@ use Rattle.node_world.specs.World.{groups}
 use Rattle.script_gen.specs.Scripts.{gen_script}
 use Rattle.transcript_law.specs.{Checked.{Checked}, Lawfulness.{Lawful}}
 use Rattle.transcript_law.specs.Prefixes.{AreFollowed, known_of, world_of}
+use Rattle.script_text.specs.Held.{IsGroupHeld}
 use Rattle.script_text.specs.Scripts.{IsScript, FirstBad}
 use Rattle.script_text.specs.Transcript.{print_of}
 use Rattle.script_text.specs.declared.verb.ScriptLine.{ScriptLine}
@@ -18,7 +20,7 @@ use Rattle.dcp_io.specs.declared.status.Status.{Status}
 use Rattle.dcp_io.specs.declared.status.Status.TheVariants as status
 use Rattle.dcp_main.specs.Summaries.{summary_text}
 
--- the whole script was read, each line is in the grammar, and the print of its groups, which are lawful and pass a checker, was written; what the script leaves is what they tell, and each vBucket follows its branch
+-- the whole script was read, each line is in the grammar, and the print of its groups, which are lawful, pass a checker and are held, so that it is read back, was written; what the script leaves is what they tell, and each vBucket follows its branch
 pub record Completed (old new : Intake) (before after : Outlet) : Type 0 where
   pub bytes : List ℕ
   pub script : List ScriptLine
@@ -27,6 +29,7 @@ pub record Completed (old new : Intake) (before after : Outlet) : Type 0 where
   pub lawful : Lawful script (groups script)
   pub checked : Checked script (groups script)
   pub followed : AreFollowed (known_of script) (world_of script)
+  pub held : All IsGroupHeld (groups script)
   pub wrote : WroteAll before after (print_of (groups script))
 
 -- the whole script was read, a line is outside the grammar, and the message on the first such line was written

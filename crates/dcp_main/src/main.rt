@@ -2,6 +2,7 @@
 //! on that of a script that is made.
 #![tactic(auto)]
 
+mod held;
 mod laws;
 mod output;
 mod summary;

@@ -1,7 +1,9 @@
 //! Runs a script line by line, and writes each line's group.
+ghost use Rattle.std.specs.List.{All};
 ghost use Rattle.std.specs.Prelude.{◌≡◌, IfOk, OnErr};
-ghost use Rattle.{dcp_io.specs.Writes.{Wrote}, dcp_main.specs.Writes.{LineTold, LineWrote, PieceWrote}, node_world.specs.Rests.{Rests}, node_world.specs.Stands.{WorldStands}, node_world.specs.World.{PlainWorld, groups}, script_text.specs.Transcript.{print_of}};
+ghost use Rattle.{dcp_io.specs.Writes.{Wrote}, dcp_main.specs.Writes.{LineTold, LineWrote, PieceWrote}, node_world.specs.Rests.{Rests}, node_world.specs.Stands.{WorldStands}, node_world.specs.World.{PlainWorld, groups}, script_text.specs.Held.{IsGroupHeld}, script_text.specs.Transcript.{print_of}};
 
+use crate::held::hold;
 use bytes::BytesMut;
 use dcp_io::{Sink, Status, put_text};
 use node_world::World;
@@ -11,8 +13,8 @@ use std::alloc::{AllocError, Global};
 /// The text of groups waits until it has this many bytes, and is then written in one piece.
 const PIECE: usize = 65_536;
 
-/// Carries out the next line, and appends its group to the text that waits. Answers whether there
-/// was one. An `Err` appends nothing.
+/// Carries out the next line, and appends its group, which is held, to the text that waits. Answers
+/// whether there was one. An `Err` appends nothing.
 fn tell_line(
     alloc: Global,
     lines: &mut ScriptLines,
@@ -28,7 +30,9 @@ fn tell_line(
     };
     let stepped = world.step(&line);
     drop(line);
-    print(alloc, &stepped?, text)?;
+    let group = stepped?;
+    hold(&group);
+    print(alloc, &group, text)?;
     Ok(true)
 }
 
@@ -69,13 +73,15 @@ fn run_line<O: Sink>(
     }
 }
 
-/// Carries out the lines of a script one after the other, and writes the group of each.
+/// Carries out the lines of a script one after the other, and writes the group of each. Where all are
+/// carried out, each group is held, so that what is written is read back.
 pub fn run_script<O: Sink>(
     alloc: Global,
     mut lines: ScriptLines,
     output: &mut O,
 ) -> Result<(), Status>
-    ensures { Wrote (O.outlet output.old) (O.outlet output.new) (print_of (groups lines.entry)) result }
+    ensures wrote { Wrote (O.outlet output.old) (O.outlet output.new) (print_of (groups lines.entry)) result }
+    ensures held { IfOk result (λ u. All IsGroupHeld (groups lines.entry)) }
 {
     let mut world = World::new(alloc);
     let mut text = BytesMut::new(alloc);
