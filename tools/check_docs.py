@@ -23,11 +23,11 @@ LINE, CELL = 100, 200
 LENGTHS = {
     "README.md": 150,
     "CHANGELOG.md": 135,
-    "docs/ARCHITECTURE.md": 340,
-    "docs/GUARANTEES.md": 395,
+    "docs/ARCHITECTURE.md": 344,
+    "docs/GUARANTEES.md": 403,
     "docs/KV_ENGINE.md": 100,
-    "docs/PROOFS.md": 480,
-    "docs/TWINS.md": 228,
+    "docs/PROOFS.md": 490,
+    "docs/TWINS.md": 280,
 }
 PAGES = ["README.md", "CONTRIBUTING.md", "CHANGELOG.md", "corpus/README.md", "docs/*.md", "crates/*/README.md"]
 
