@@ -11,3 +11,4 @@ pub mod disks
 pub mod verbs
 pub mod lines
 pub mod balance
+pub mod awaiting

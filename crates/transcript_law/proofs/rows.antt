@@ -76,3 +76,4 @@ pub mod StoredOutcomes
 pub mod KeptRows
 pub mod BreakRows
 pub mod ClosingRows
+pub mod WaitRows

@@ -55,6 +55,7 @@ pub mod Asked
 pub mod AskedRows
 pub mod FeedingRows
 pub mod Balance
+pub mod Waits
 pub mod AnsweredWrites
 pub mod StoredRows
 pub mod Breaks

@@ -31,6 +31,7 @@ mod streams;
 mod tellings;
 mod undone;
 mod untold;
+mod waits;
 
 pub use alone::judged_single_changes;
 pub use alone::judged_single_links;
@@ -155,3 +156,7 @@ pub use undone::judged_takes;
 pub use untold::judged_mishaps;
 pub use untold::judged_next_markers;
 pub use untold::judged_refusals;
+pub use waits::calls_forget_none;
+pub use waits::judged_forgotten_waits;
+pub use waits::judged_vain_waits;
+pub use waits::settling_leaves_none_in_vain;
