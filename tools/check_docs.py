@@ -24,10 +24,10 @@ LENGTHS = {
     "README.md": 150,
     "CHANGELOG.md": 135,
     "docs/ARCHITECTURE.md": 344,
-    "docs/GUARANTEES.md": 403,
+    "docs/GUARANTEES.md": 412,
     "docs/KV_ENGINE.md": 100,
-    "docs/PROOFS.md": 490,
-    "docs/TWINS.md": 280,
+    "docs/PROOFS.md": 494,
+    "docs/TWINS.md": 282,
 }
 PAGES = ["README.md", "CONTRIBUTING.md", "CHANGELOG.md", "corpus/README.md", "docs/*.md", "crates/*/README.md"]
 
