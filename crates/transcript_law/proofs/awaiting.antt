@@ -9,3 +9,8 @@ pub mod Nodes
 pub mod Peers
 pub mod Roles
 pub mod Scripts
+pub mod Stays
+pub mod Idles
+pub mod Turns
+pub mod Running
+pub mod Owns

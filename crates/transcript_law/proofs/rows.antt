@@ -77,3 +77,4 @@ pub mod KeptRows
 pub mod BreakRows
 pub mod ClosingRows
 pub mod WaitRows
+pub mod OwnWaitRows

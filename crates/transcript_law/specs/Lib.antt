@@ -56,6 +56,7 @@ pub mod AskedRows
 pub mod FeedingRows
 pub mod Balance
 pub mod Waits
+pub mod OwnWaits
 pub mod AnsweredWrites
 pub mod StoredRows
 pub mod Breaks

@@ -20,6 +20,7 @@ use Rattle.vbucket.specs.{Laws.{Sound}, Settles.{IsSettled}}
 use Rattle.transcript_law.specs.Chronicles.{Chronicle, at_line, empty_chronicle, after_group}
 use Rattle.transcript_law.specs.Lawfulness.{IsIfKnown, known_history, branch_image, IsWriter}
 use Rattle.transcript_law.specs.Majorities.{IsHeldByMost}
+use Rattle.transcript_law.specs.OwnWaits.{AwaitTheirOwnIf}
 use Rattle.transcript_law.specs.Plainness.{AreOwnIf}
 use Rattle.durability.specs.declared.waiting.Waiting.{Waiting}
 use Rattle.vb_types.specs.declared.position.TheConstants.{MAX_SEQ}
@@ -84,7 +85,7 @@ pub record IsActiveOn (chronicle : Chronicle) (w : PlainWorld) (n v uuid : ℕ) 
   pub on_branch : chronicle.branch_at n v ≡ Some uuid
 
 -- what the lines tell of each vBucket is so, and it follows its branch, at each complete point that its journal tells too, also on the disk of a node that is down; a branch has one active vBucket at most, and that has all that any branch made
--- from it shares: it never again changes what is at or below a fork. Each connection of a node is told as one of its own
+-- from it shares: it never again changes what is at or below a fork. Each connection of a node is told as one of its own, and, as long as the numbers of lines rise, awaits no outcome but that of its own durable write, whose prepare alone is outstanding under its number
 pub record AreFollowed (chronicle : Chronicle) (w : PlainWorld) : Type 0 where
   pub each : (n v : ℕ) (vb : Plain) → vb_in (w.nodes n) v ≡ Some vb → FollowsBranch chronicle n v vb
   pub points : (n v : ℕ) (shelf : Shelf) → shelf_in (w.nodes n) v ≡ Some shelf → PointsAreBranch chronicle n v shelf.book
@@ -93,3 +94,4 @@ pub record AreFollowed (chronicle : Chronicle) (w : PlainWorld) : Type 0 where
   pub forks : (n v uuid : ℕ) (vb : Plain) (branch : Branch) → IsActiveOn chronicle w n v uuid vb → IsBranch branch chronicle.tree → branch.parent ≡ Some uuid
       → branch.fork ≤ vb.position.at
   pub own : (n : ℕ) → AreOwnIf n (w.nodes n)
+  pub awaited : AwaitTheirOwnIf chronicle.last chronicle w

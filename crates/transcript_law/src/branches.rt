@@ -10,7 +10,8 @@ ghost use Rattle.script_text.specs.Fitting.{ScriptFits};
 /// from, and with a complete snapshot it has the branch's documents and prepares there. Each is
 /// sound, and no prepare is left at it that may be committed. A branch has at most one active
 /// vBucket, and that is at or above every fork made from the branch. Each connection of a node is
-/// told as its own.
+/// told as its own; and as long as the numbers of lines rise, each that awaits an outcome awaits that of
+/// its own durable write, whose prepare alone is outstanding under its number.
 pub fn branches_are_followed()
     ensures { (script : List ScriptLine) → ScriptFits script → AreFollowed (known_of script) (world_of script) }
 {}

@@ -76,7 +76,7 @@ commits_told made after c w some x =
 -- ---- each call
 
 -- two of them with one seqno are one
-one_each : (ws : List Waiting) (v w : Waiting) → Ascend ws → Waits v ws → Waits w ws → v.seq ≡ w.seq → v ≡ w
+pub one_each : (ws : List Waiting) (v w : Waiting) → Ascend ws → Waits v ws → Waits w ws → v.seq ≡ w.seq → v ≡ w
 one_each [] v w a i j e = absurd i
 one_each (x ∷ ws) v w a i j e = ⊎_elim
     (λ s. ⊎_elim (λ t. s ∙ sym t) (λ k. let l = waits_above x.seq ws w a.0 k in let n : v.seq ≡ x.seq = ap (λ (y : Waiting). y.seq) s in absurd (omega (arith, l, n, e))) j)

@@ -6,11 +6,10 @@ use Rattle.node_core.specs.Admin.{admin_job, changes_role, role_noted}
 use Rattle.node_core.specs.Flushing.{resolved_in}
 use Rattle.node_core.specs.declared.admin.AdminCall.TheVariants as admin
 use Rattle.node_world.specs.Nodes.{all_posted}
-use Rattle.transcript_law.proofs.awaiting.{Jobs.{Ends, KeptOr, SettlesOnce, settles_once}, Nodes.{bind_once, told_waits}, Posts.{Good}}
+use Rattle.transcript_law.proofs.awaiting.{Jobs.{Ends, KeptOr, SettlesOnce, settles_once}, Nodes.{bind_once, told_good, waits_of}, Posts.{Good, posts_good}}
 use Rattle.transcript_law.proofs.invariant.{AtRest.{Still, still_steps}, CallsKept.{ran_job}, TimelyCalls.{admin_tame}}
 use Rattle.transcript_law.specs.Waits.{NoneWaitsInVain}
 use Rattle.vb_calls.specs.Flushes.{is_refusal, note_role_job, role_job, role_of_call, role_told_job, wrote_of}
-use Rattle.vb_calls.specs.Jobs.{Job}
 use Rattle.vb_calls.specs.Jobs as job
 use Rattle.vb_calls.specs.declared.calls.Resolved.{Resolved}
 use Rattle.vb_calls.specs.declared.calls.VbAnswer.{VbAnswer}
@@ -54,10 +53,16 @@ module _ (n v : ℕ) where
   role_once admin.Dead e = bind_once Gave (role_noted n v admin.Dead) (role_job v call.Dead) (once admin.Dead call.Dead (λ r w. died r.ended r.resolved r.branch r.changes r.answer w) tt)
   role_once other e = cc
 
-  pub role_waits : (asked : AdminCall) (ids : List ℕ) (node : PlainNode) → Good n [] node → changes_role asked ≡ true → (called_at n v asked node).1.ended ≡ Some ids → NoneWaitsInVain (all_posted (called_at n v asked node).1.resolved (called_at n v asked node).0).0
-  role_waits asked ids node g role gave =
+  -- behind such a call who waits is about to be told
+  pub role_good : (asked : AdminCall) (ids : List ℕ) (node : PlainNode) → Good n [] node → changes_role asked ≡ true → (called_at n v asked node).1.ended ≡ Some ids → Good n (called_at n v asked node).1.resolved (called_at n v asked node).0
+  role_good asked ids node g role gave =
       let x = after_job (admin_job n v asked) node.vbs node.shelves in
       let k = settles_once Gave (admin_job n v asked) node.vbs node.shelves (role_once asked role) g.still in
-      told_waits n x.1.resolved node (called_at n v asked node).0 refl (λ c. refl) refl
+      told_good n x.1.resolved node (called_at n v asked node).0 refl (λ c. refl) refl
       (ran_job Still IsTimely still_steps (λ id. tt) (λ u made. IsTimely made) (λ u ask. Unit {0}) (λ a. Unit {0}) (λ u made t. t) (admin_job n v asked) node.vbs node.shelves (admin_tame n v asked) g.still)
       (⊎_elim (λ none. let z : None ≡ Some ids = sym none ∙ gave in absurd (cc z)) (λ same. subst (λ rs. KeptOr rs node.vbs x.0.0) (sym same) k.1) k.2) g
+
+  pub role_waits : (asked : AdminCall) (ids : List ℕ) (node : PlainNode) → Good n [] node → changes_role asked ≡ true → (called_at n v asked node).1.ended ≡ Some ids → NoneWaitsInVain (all_posted (called_at n v asked node).1.resolved (called_at n v asked node).0).0
+  role_waits asked ids node g role gave =
+      let x = called_at n v asked node in
+      waits_of n (all_posted x.1.resolved x.0).0 (posts_good n x.1.resolved x.0 (role_good asked ids node g role gave))

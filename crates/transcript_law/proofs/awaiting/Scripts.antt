@@ -29,7 +29,7 @@ known_from w r (line ∷ lines) fits ranged are serves rest calm a =
     known_from (with_branches outcome.1.events outcome.0) r' lines (All-tail (λ (x : ScriptLine). VerbFits x.verb) line lines fits) (row.ranged fit ranged) (line_heard r.conn_at w line.line are line.verb fit).1 (group_serves r line.line line.verb outcome.1.events outcome.1.answer)
     (line_rests w r outcome (row.rests r ranged a) a rest (with_branches outcome.1.events outcome.0) r' refl now) (tt, refl) now
 
-known : (script : List ScriptLine) → ScriptFits script → Known (world_of script) (known_of script)
+pub known : (script : List ScriptLine) → ScriptFits script → Known (world_of script) (known_of script)
 known script fits = known_from empty_world empty_chronicle script fits start_ranged start_conns start_serves (start_rests empty_world (λ n. refl)) (tt, refl) start
 
 -- a node of it, where the numbers of lines rise

@@ -61,11 +61,11 @@ RestsIf vb = is_active vb.role ≡ true → IsSettled vb
 -- ---- a vBucket that follows, and one that is made
 
 -- the calls of a follower, and the end of a stream
-abbrev IsAside : VbCall → Type 0
+abbrev pub IsAside : VbCall → Type 0
 IsAside (call.CloseStream id) = Unit {0}
 IsAside other = IsFollowing other
 
-aside : (d : Dialed) (m : ℕ) (made : VbCall) → d.takeover ≡ false → FollowsAt d m made → IsAside made
+pub aside : (d : Dialed) (m : ℕ) (made : VbCall) → d.takeover ≡ false → FollowsAt d m made → IsAside made
 aside d m (call.CloseStream id) alone f = tt
 aside d m other alone (own, inl f) = f
 aside d m other alone (own, inr f) = let never : true ≡ false = sym f.0 ∙ alone in cc
@@ -238,7 +238,7 @@ posts_in_still n rs o ranged all = by (o.0.nodes n) (ranged n) (all n)
     by (Some node) r there = still_put o.0 n (all_posted rs node).0 all (posts_still n rs node r there)
 
 -- the world without the vBucket's own link, where it has one
-cut_still : (o : Option PlainLink) (w : PlainWorld) → IsRanged w → InWorld Still w → IsRanged (cut_off o w).0 × InWorld Still (cut_off o w).0
+pub cut_still : (o : Option PlainLink) (w : PlainWorld) → IsRanged w → InWorld Still w → IsRanged (cut_off o w).0 × InWorld Still (cut_off o w).0
 cut_still None w ranged all = (ranged, all)
 cut_still (Some link) w ranged all = (unlinked_ranged w link ranged, unlinked_all Still IsTimely still_steps (λ id. tt) w link all)
 
@@ -350,7 +350,7 @@ found (Some node) v vb all e = all v vb e
 sound_of : (w : PlainWorld) (r : Chronicle) → Agrees w r → (n v : ℕ) (vb : Plain) → vb_in (w.nodes n) v ≡ Some vb → Sound vb
 sound_of w r (c, a) n v vb there = (subst (AgreesAt r n v (c.nodes (seat n v))) there (a.vbs n v)).sound
 
-still_world : (w : PlainWorld) (r : Chronicle) → Agrees w r → AreAtRest w → InWorld Still w
+pub still_world : (w : PlainWorld) (r : Chronicle) → Agrees w r → AreAtRest w → InWorld Still w
 still_world w r a rest n = by (w.nodes n) refl
   where
     by : (o : Option PlainNode) → w.nodes n ≡ o → AllIn Still o

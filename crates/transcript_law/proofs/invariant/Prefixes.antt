@@ -8,6 +8,8 @@ use Rattle.node_core.specs.Clients.{PlainClient}
 use Rattle.transcript_law.proofs.{invariant.Agreement.{BookBy, BookAgrees, book_in, is_down}, disks.Disks.{power_in}, invariant.Entering.{Entered, ahead_entered, lines_entered, log_entered, start_entered}}
 use Rattle.transcript_law.specs.{Chronicles.{after_group}, Plainness.{AreOwnIf, IsOwnIf}, Prefixes.{off_of_node}}
 use Rattle.vb_types.specs.declared.journal.Record.{Record}
+use Rattle.transcript_law.proofs.awaiting.Owns.{script_awaits}
+use Rattle.transcript_law.specs.OwnWaits.{AwaitTheirOwnIf}
 use Rattle.transcript_law.proofs.{invariant.Agreement.{AgreesAt, DiskIsIf, shelf_of, top}, links.Followed.{own_is}}
 use Rattle.transcript_law.proofs.Words.{ℕ, true, List, [], refl, ap, sym, ◌∙◌, subst, ⊎_elim, arith, Option, Some, None, All-head, All-tail, ScriptLine, VerbFits, ScriptFits, LogEntry, upto}
 use Rattle.transcript_law.proofs.Words.{image_of, Ancestry, Traces, IsFront, reach_of, Branch, hist, Shared, ForksBelow, Member, Cluster, above, tells, Plain, is_active}
@@ -153,22 +155,27 @@ module _ (w : PlainWorld) (r : Chronicle) (c : Cluster) (a : AgreesIn idle w r c
       by None x = x.1 ∙ ap (λ (s : Shelf). s.book) (sym x.2)
       by (Some vb) x = x.book
 
-  pub are_followed : AreAtRest w → IsRanged w → AreFollowed r w
-  are_followed rest ranged = record {
+  pub are_followed : AreAtRest w → IsRanged w → AwaitTheirOwnIf r.last r w → AreFollowed r w
+  are_followed rest ranged awaited = record {
     points = points_told;
     disks = disks_told;
     each = λ n v vb there. follows_branch n v vb there (rest n v vb there);
     alone = one_writer;
     forks = λ n v uuid vb branch on is from. low_fork uuid vb.position.at branch r.tree (forks_low n v vb on.there uuid on.active on.on_branch) is from;
     own = λ n. own_at n (w.nodes n) (ranged n);
+    awaited = awaited;
   }
 
+-- what is awaited behind more lines
+abbrev AwaitedAfter : PlainWorld → Chronicle → List ScriptLine → Type 0
+AwaitedAfter w r script = let told : Chronicle = known_after r script (groups_from w script) in AwaitTheirOwnIf told.last told (world_after w script)
+
 -- after more lines
-followed_from : (w : PlainWorld) (r : Chronicle) (script : List ScriptLine) → ScriptFits script → IsRanged w → ConnsAre w r.conn_at → ServesOpen r.last r.conn_at → AreAtRest w → IsStill r → Agrees w r → Entered r
+followed_from : (w : PlainWorld) (r : Chronicle) (script : List ScriptLine) → ScriptFits script → IsRanged w → ConnsAre w r.conn_at → ServesOpen r.last r.conn_at → AreAtRest w → IsStill r → Agrees w r → Entered r → AwaitedAfter w r script
     → AreFollowed (known_after r script (groups_from w script)) (world_after w script)
 unfolding world_step
-followed_from w r [] fits ranged are serves rest calm a entered = are_followed w r a.0 a.1 entered rest ranged
-followed_from w r (line ∷ lines) fits ranged are serves rest calm a entered =
+followed_from w r [] fits ranged are serves rest calm a entered awaited = are_followed w r a.0 a.1 entered rest ranged awaited
+followed_from w r (line ∷ lines) fits ranged are serves rest calm a entered awaited =
     let fit = All-head (λ (x : ScriptLine). VerbFits x.verb) line lines fits in let outcome = verb_step w line.line line.verb in let row : Row w line.verb outcome = row_of w line.line line.verb in
     let r0 : Chronicle = at_line r line.line in let a0 : Agrees w r0 = numbered w r line.line a in
     let went = row.goes r0 fit ranged calm (begins_of w line.line line.verb r are serves a.1.clients.owed) a0 in
@@ -176,8 +183,8 @@ followed_from w r (line ∷ lines) fits ranged are serves rest calm a entered =
     let entries = row.entered r0 (after_lines (ahead r0 line.verb outcome.1.answer) outcome.1.events) (lines_entered (ahead r0 line.verb outcome.1.answer) outcome.1.events (ahead_entered r0 line.verb outcome.1.answer (record { disks = entered.disks; logs = entered.logs; streams = entered.streams })) went.0) in
     followed_from (with_branches outcome.1.events outcome.0) r' lines (All-tail (λ (x : ScriptLine). VerbFits x.verb) line lines fits) (row.ranged fit ranged) (line_heard r.conn_at w line.line are line.verb fit).1 (group_serves r line.line line.verb outcome.1.events outcome.1.answer)
     (line_rests w r outcome (row.rests r ranged a) a rest (with_branches outcome.1.events outcome.0) r' refl now) (tt, refl) now
-    (record { disks = entries.disks; logs = entries.logs; streams = entries.streams })
+    (record { disks = entries.disks; logs = entries.logs; streams = entries.streams }) awaited
 
 -- after a script
 pub branches_followed : (script : List ScriptLine) → ScriptFits script → AreFollowed (known_of script) (world_of script)
-branches_followed script fits = followed_from empty_world empty_chronicle script fits start_ranged start_conns start_serves (start_rests empty_world (λ n. refl)) (tt, refl) start start_entered
+branches_followed script fits = followed_from empty_world empty_chronicle script fits start_ranged start_conns start_serves (start_rests empty_world (λ n. refl)) (tt, refl) start start_entered (script_awaits script fits)

@@ -135,7 +135,7 @@ bytes_ranged n c bytes node are ranged = by (node.clients c) refl (ranged.client
         (kept_left n c y.1.client (fed_at n c node.clock client node.vbs kept bytes).0)
 
 -- a pull leaves the session, and its producer at its desk
-pull_same : (frames : ℕ) (client : PlainClient) (vbs : States) → let x = (after (client_pulled frames client) vbs).1.client in (x.session ≡ client.session) × (x.producer.desk ≡ client.producer.desk)
+pub pull_same : (frames : ℕ) (client : PlainClient) (vbs : States) → let x = (after (client_pulled frames client) vbs).1.client in (x.session ≡ client.session) × (x.producer.desk ≡ client.producer.desk)
 pull_same frames client vbs =
     let put : Prog (Served × Halt) = frames_put frames (begun client.producer) in
     subst (λ (y : States × ClientPulled). (y.1.client.session ≡ client.session) × (y.1.client.producer.desk ≡ client.producer.desk)) (sym (after_bind put (λ p. Done (client_pull client.session p)) vbs))

@@ -105,15 +105,20 @@ peer_tame f peer = tame_bind (frame_answered f (begun peer.producer)) (λ s. Don
 
 -- ---- a producer that puts frames
 
-puts_tame : (k : ℕ) (s : Served) → Tame (frames_put k s)
-puts_tame k s =
-    let takes : Takes IsTimely = record { places = λ id. tt; takes = λ id. tt; closes = λ id. tt } in
+puts_make : (kind : VbCall → Type 0) → Takes kind → (k : ℕ) (s : Served) → Makes kind (frames_put k s)
+puts_make kind takes k s =
     let lines : Lines AnyLine = record { items = λ name c. tt; markers = λ name start end flags. tt; ends = λ name reason. tt } in
-    always_so AnyReply (λ v made. IsTimely made) (Puts IsTimely AnyLine takes lines (λ n t. Unit {0}) (λ n t end same c. tt) (λ n t f line is c. tt) k) (λ a. Unit {0}) (frames_put k s) (λ t c. tt)
-    (pull_so IsTimely AnyLine takes lines (λ n t. Unit {0}) (λ n t end same c. tt) (λ n t f line is c. tt) k s tt)
+    always_so AnyReply (λ v made. kind made) (Puts kind AnyLine takes lines (λ n t. Unit {0}) (λ n t end same c. tt) (λ n t f line is c. tt) k) (λ a. Unit {0}) (frames_put k s) (λ t c. tt)
+    (pull_so kind AnyLine takes lines (λ n t. Unit {0}) (λ n t end same c. tt) (λ n t f line is c. tt) k s tt)
+
+pub pulled_makes : (kind : VbCall → Type 0) → Takes kind → (k : ℕ) (peer : PlainPeer) → Makes kind (peer_pulled k peer)
+pulled_makes kind takes k peer = always_bind AnyReply (λ v made. kind made) (λ a. Unit {0}) (λ b. Unit {0}) (frames_put k (begun peer.producer)) (λ put. Done (pull_result peer.heard put)) (puts_make kind takes k (begun peer.producer)) (λ put any. tt)
+
+timely_takes : Takes IsTimely
+timely_takes = record { places = λ id. tt; takes = λ id. tt; closes = λ id. tt }
 
 pub pulled_tame : (k : ℕ) (peer : PlainPeer) → Tame (peer_pulled k peer)
-pulled_tame k peer = tame_bind (frames_put k (begun peer.producer)) (λ put. Done (pull_result peer.heard put)) (puts_tame k (begun peer.producer)) (λ put. tt)
+pulled_tame k peer = pulled_makes IsTimely timely_takes k peer
 
 -- ---- a client's connection: what it sends, what it is told of a durable write, and the frames of its streams
 
@@ -129,19 +134,26 @@ module _ (clock : ℕ) (small : clock < 2 ^ 64) where
   posted_tame r client = posted_keeps AnyReply (λ v made. IsTimely made) AnyHandling clock (λ before producer f s e p. served_tame clock small f (front_of f s)) (λ before producer fault s e p. tt) (λ f h e p. answered_tame f (begun h.client.producer))
       (λ h e p. closed_makes IsTimely (λ id. tt) h.client.producer) r client tt (λ a e. tt)
 
+pub pull_makes : (kind : VbCall → Type 0) → Takes kind → (k : ℕ) (client : PlainClient) → Makes kind (client_pulled k client)
+pull_makes kind takes k client = always_bind AnyReply (λ v made. kind made) (λ a. Unit {0}) (λ b. Unit {0}) (frames_put k (begun client.producer)) (λ put. Done (client_pull client.session put)) (puts_make kind takes k (begun client.producer)) (λ put any. tt)
+
 pub pull_tame : (k : ℕ) (client : PlainClient) → Tame (client_pulled k client)
-pull_tame k client = tame_bind (frames_put k (begun client.producer)) (λ put. Done (client_pull client.session put)) (puts_tame k (begun client.producer)) (λ put. tt)
+pull_tame k client = pull_makes IsTimely timely_takes k client
 
 -- ---- a dial whose vBucket has more written down
 
-met_tame : (s : DialResult) (seq : ℕ) → Tame (due_met s seq)
-met_tame s seq = either (λ (p : Prog DialResult). Tame p) (may_acknowledge seq s.dial.consumer) (Call s.dial.consumer.dialed.vb call.Stat (λ reply. Done (acknowledged_result seq s (saved_of_reply reply)))) (Done s) (tt, λ reply any. tt) tt
+module _ (kind : VbCall → Type 0) (stats : kind call.Stat) (dues : kind call.Due) where
+  met_makes : (s : DialResult) (seq : ℕ) → Makes kind (due_met s seq)
+  met_makes s seq = either (λ (p : Prog DialResult). Makes kind p) (may_acknowledge seq s.dial.consumer) (Call s.dial.consumer.dialed.vb call.Stat (λ reply. Done (acknowledged_result seq s (saved_of_reply reply)))) (Done s) (stats, λ reply any. tt) tt
+
+  pub due_makes : (dial : PlainDial) → Makes kind (dial_due dial)
+  unfolding due_requested
+  due_makes dial =
+      let s : DialResult = untold dial in
+      either (λ (p : Prog DialResult). Makes kind p) (is_streaming s.dial.consumer.handshake) (Call s.dial.consumer.dialed.vb call.Due (λ reply. due_met s (due_of_reply reply))) (Done s) (dues, λ reply any. met_makes s (due_of_reply reply)) tt
 
 pub due_tame : (dial : PlainDial) → Tame (dial_due dial)
-unfolding due_requested
-due_tame dial =
-    let s : DialResult = untold dial in
-    either (λ (p : Prog DialResult). Tame p) (is_streaming s.dial.consumer.handshake) (Call s.dial.consumer.dialed.vb call.Due (λ reply. due_met s (due_of_reply reply))) (Done s) (tt, λ reply any. met_tame s (due_of_reply reply)) tt
+due_tame dial = due_makes IsTimely tt tt dial
 
 -- ---- chains and clocks
 

@@ -1,7 +1,7 @@
 -- the numbers of a script's lines rise, and nothing else that is read tells of them
 use Rattle.std.specs.List.{onto_first}
 use Rattle.std.specs.Prelude.{◌≡◌, ◌⊎◌, ◌<◌, ◌≤◌, ◌+◌, ◌^◌, ◌∷◌, ◌++◌, ◌==◌, ◌&&◌, nat_lt, if◌then◌else◌}
-use Rattle.transcript_law.proofs.Words.{Role, list_any, not, verb_step, with_branches, ℕ, Bool, true, false, List, [], length, flat_map, refl, ap, ◌∙◌, inl, inr, ⊎_elim, arith, nat_tests, Option, Some, None, Answer, Chronicle, Event, ScriptLine, Verb, empty_chronicle, empty_world, groups_from, world_step, PlainWorld, known_of}
+use Rattle.transcript_law.proofs.Words.{Role, list_any, not, verb_step, with_branches, ℕ, Bool, true, false, List, [], length, flat_map, refl, ap, sym, ◌∙◌, inl, inr, ⊎_elim, arith, nat_tests, Option, Some, None, Answer, Chronicle, Event, ScriptLine, Verb, empty_chronicle, empty_world, groups_from, world_step, PlainWorld, known_of}
 use Rattle.script_text.specs.{Grammar.{verb_of}, Lines.{lines_of, words_of}, Scripts.{is_blank, said_from, verb_line_in, verb_lines}}
 unfoldable use Rattle.script_text.specs.Scripts.{line_said}
 use Rattle.script_text.specs.declared.verb.Verb.TheVariants as verb
@@ -34,6 +34,16 @@ lines_few (b ∷ bytes) = let few = lines_few bytes in let one = onto_count b (l
 risen_on : (before number : ℕ) → before < number → number < 2 ^ 32 → risen_to (Some before) number ≡ Some number
 risen_on before number above small = let a : nat_lt before number ≡ true = grind (arith, nat_tests, above) in let b : nat_lt number (2 ^ 32) ≡ true = grind (arith, nat_tests, small) in
     λ i. if a i && b i then Some number else None
+
+-- behind a front of the lines it rose as well
+none_through : (lines : List ScriptLine) → risen_through None lines ≡ None
+none_through [] = refl
+none_through (line ∷ lines) = none_through lines
+
+pub front_rises : (last : Option ℕ) (front rest : List ScriptLine) (line : ℕ) → risen_through last (front ++ rest) ≡ Some line → (before : ℕ) × (risen_through last front ≡ Some before)
+front_rises None [] rest line e = let z : None ≡ Some line = sym (none_through rest) ∙ e in absurd (cc z)
+front_rises (Some before) [] rest line e = (before, refl)
+front_rises last (first ∷ front) rest line e = front_rises (risen_to last first.line) front rest line e
 
 -- what a line says is no verb, or one with its number
 abbrev line_in : ℕ → List ℕ → List ScriptLine
@@ -170,12 +180,12 @@ served_number None clients conns made = refl
 served_number (Some line) clients conns made = refl
 
 -- so it is behind a whole group
-group_last : (r : Chronicle) (line : Verb) (lines : List Event) (said : Answer) → number_of (after_group r line lines said).last ≡ number_of r.last
+pub group_last : (r : Chronicle) (line : Verb) (lines : List Event) (said : Answer) → number_of (after_group r line lines said).last ≡ number_of r.last
 group_last r line lines said =
     let read : Chronicle = after_verb r (after_lines (ahead r line said) lines) line lines said in
     served_number read.last read.clients_at (conns_verb (conns_lines r.conn_at lines) line said) read.made ∙ ap number_of (verb_last r (after_lines (ahead r line said) lines) line lines said ∙ lines_last (ahead r line said) lines ∙ ahead_last r line said)
 
-line_number : (o : Option LastLine) (number : ℕ) → number_of (numbered o number) ≡ risen_to (number_of o) number
+pub line_number : (o : Option LastLine) (number : ℕ) → number_of (numbered o number) ≡ risen_to (number_of o) number
 line_number None number = refl
 line_number (Some before) number = elim (nat_lt before.number number && nat_lt number (2 ^ 32)) as (λ (b : Bool). number_of (if b then Some (record before { number = number }) else None) ≡ (if b then Some number else None)) [ true ↦ refl | false ↦ refl ]
 

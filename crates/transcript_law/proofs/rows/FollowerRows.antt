@@ -2,13 +2,13 @@
 use Rattle.std.specs.Prelude.{◌≡◌, ◌∷◌, ◌==◌, if◌then◌else◌}
 use Rattle.node_core.specs.Clients.{PlainClient, new_client}
 use Rattle.vb_events.specs.declared.event.StreamName.TheVariants.{Client}
-use Rattle.transcript_law.proofs.Words.{ℕ, true, false, List, [], refl, ap, sym, ◌∙◌, subst, arith, eqb-true, Option, Some, None, Change, Plain, PlainNode, Role, empty_chronicle, nothing, new_vb, one_change, empty_in, based, empty_node, after_got}
+use Rattle.transcript_law.proofs.Words.{ℕ, Bool, true, false, List, [], refl, ap, sym, ◌∙◌, subst, arith, eqb-true, Option, Some, None, Change, Plain, PlainNode, Role, empty_chronicle, nothing, new_vb, one_change, empty_in, based, empty_node, after_got}
 use Rattle.transcript_law.proofs.Words.{Sound, FollowsBranch, AreFollowed, starts, stays, vb_in, shelf_in}
 use Rattle.std.specs.FinMap.{get-empty}
 use Rattle.disk_journals.specs.Books.{Book}
 use Rattle.durability.specs.declared.waiting.Waiting.{Waiting}
 use Rattle.transcript_law.proofs.rows.CommitRows.{one_at_least}
-use Rattle.transcript_law.specs.{Commits.{chained_known}, Contrary.{after_prepare}, Followers.{client_world, prepared_in, unbounded}, Plainness.{AreOwnIf, IsOwnIf}, Prefixes.{off_of_node}, Transcripts.{set_write}}
+use Rattle.transcript_law.specs.{Commits.{chained_known}, Contrary.{after_prepare}, Feeding.{client_in}, Followers.{client_world, prepared_in, unbounded}, OwnWaits.{AllAwaitTheirOwn}, Plainness.{AreOwnIf, IsOwnIf}, Prefixes.{off_of_node}, Transcripts.{set_write}}
 use Rattle.vb_calls.specs.Durable.{durable_refusal, outstanding}
 use Rattle.vb_calls.specs.Settling.{may_commit}
 use Rattle.vb_calls.specs.Shelves.{Shelf}
@@ -122,6 +122,17 @@ own_at n = elim (n == 0) as (λ b. (n == 0) ≡ b → AreOwnIf n (if b then Some
   | false ↦ λ e. tt
 ] refl
 
+none_awaited : AllAwaitTheirOwn empty_chronicle (client_world 0)
+none_awaited n c client a lt is has = absurd (by (n == 0) is)
+  where
+    at : (b : Bool) → (if b then Some (client_of 0) else None) ≡ Some client → ⊥
+    at true e = let same : client_of 0 ≡ client = cc in let z : None ≡ Some a = ap (λ (k : PlainClient). k.session.awaited) same ∙ has in cc
+    at false e = cc
+
+    by : (b : Bool) → client_in (if b then Some (holder 0) else None) c ≡ Some client → ⊥
+    by true e = at (c == 1) e
+    by false e = cc
+
 pub own_client : AreFollowed empty_chronicle (client_world 0)
 own_client = record {
   each = λ n v vb e. absurd (no_vb n 0 v vb e);
@@ -130,6 +141,7 @@ own_client = record {
   alone = λ n v m q uuid vb other one second. absurd (no_vb n 0 v vb one.there);
   forks = λ n v uuid vb branch one is from. absurd (no_vb n 0 v vb one.there);
   own = own_at;
+  awaited = none_awaited;
 }
 
 pub strange_client : AreFollowed empty_chronicle (client_world 1) → ⊥

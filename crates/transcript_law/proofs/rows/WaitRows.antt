@@ -49,7 +49,7 @@ module _ (node : PlainNode) (client : PlainClient) where
       by true k = cc
       by false k = absurd (cc k)
 
-  no_one : (v : ℕ) (x : Plain) → (with_only node client None).vbs v ≡ Some x → ⊥
+  pub no_one : (v : ℕ) (x : Plain) → (with_only node client None).vbs v ≡ Some x → ⊥
   no_one v x e = by (v == 0) e
     where
       by : (b : Bool) → (if b then None else None) ≡ Some x → ⊥

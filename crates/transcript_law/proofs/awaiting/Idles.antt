@@ -1,0 +1,190 @@
+-- lines of a node and of a link that no prepare hears of: who waited waits on
+use Rattle.std.specs.Prelude.{◌≡◌, ◌<◌, ◌∷◌, ◌==◌, if◌then◌else◌}
+use Rattle.transcript_law.proofs.Words.{ℕ, Bool, true, false, List, [], refl, ap, sym, ◌∙◌, ⊎_elim, eq-eqb, ne_eqb, length, take, Option, Some, None, is_some, Act, Cause, Outcome, Plain, PlainLink, PlainNode, Role, States, Told, VbCall, VbReply, AdminCall}
+use Rattle.transcript_law.proofs.Words.{admin_line, after, client_at, dial_bytes, dial_of, done, end_closed, first_cause, hang_at, is_follower, is_next, moved_len, new_vb, own_link, peer_of, plain_step, pump_at, peer_pulled, quiet_reply, refusal, refusal_reply, refused_or, with_client, with_states}
+use Rattle.client_session.specs.declared.session.Awaited.{Awaited}
+use Rattle.disk_journals.specs.{Arms.{opens_all}, Books.{Book}}
+use Rattle.durability.specs.{Laws.{Waits}, declared.waiting.Waiting.{Waiting}}
+use Rattle.node_core.proofs.Conduct.{bytes_follow}
+use Rattle.node_core.specs.Admin.{admin_job}
+use Rattle.node_core.specs.Clients.{ClientPulled, PlainClient, client_ended, client_pulled, new_client}
+use Rattle.node_core.specs.Conduct.{FollowsAt, KeepsLink, RollsAt}
+use Rattle.node_core.specs.Dials.{dial_due, untold}
+use Rattle.node_core.specs.Loading.{are_short, starts_of}
+use Rattle.node_world.specs.{Arms.{fired_by, placed}, Dues.{due_at, due_in, due_of, is_counted}, Nodes.{hung_if, pull_at, pull_if, vb_made, with_clients_ended}, Power.{burnt_arm, loaded_node, not_opened, start_at, start_if, start_one, started_by, starts_from}, World.{down_in}}
+use Rattle.node_world.specs.declared.arm.Fired.{Fired}
+use Rattle.node_world.specs.declared.arm.Fired.TheVariants as fired
+use Rattle.node_world.specs.declared.script_node.TheConstants.{MAX_CLIENTS}
+use Rattle.std.proofs.lemmas.Bool.{cases_eq}
+use Rattle.std.specs.Option.{option_map}
+use Rattle.transcript_law.proofs.awaiting.{Jobs.{IsIdle, idle_leaves, job_idle, ran_idle}, States.{Kept, job_leaves}, Stays.{NoneIn, NoneWaits, Stays, none_on, put_none, stays_kept, stays_none, stays_same}}
+use Rattle.transcript_law.proofs.invariant.{AtRest.{IsAside, aside}, Ranged.{pull_same}, TimelyCalls.{MakesJob, closed_makes, due_makes, pull_makes, pulled_makes}}
+use Rattle.transcript_law.proofs.lines.Pulling.{Takes}
+use Rattle.transcript_law.specs.Waits.{IsOutstandingAt, LeavesOthers, NoneWaitsInVain}
+use Rattle.vb_calls.specs.Following.{completed_act, receive_as, rolled_vb}
+use Rattle.vb_calls.specs.State.{pending_of}
+use Rattle.vb_calls.specs.declared.calls.VbAnswer.TheVariants as answer
+use Rattle.vb_calls.specs.declared.calls.VbCall.TheVariants as call
+use Rattle.vb_events.specs.declared.event.Cause.TheVariants as cause
+use Rattle.vb_types.specs.declared.change.Change.{Change}
+use Rattle.vb_types.specs.declared.status.Status.TheVariants as status
+
+-- ---- clients' connections
+
+-- one that opens awaits nothing
+pub open_waits : (n base c : ℕ) (node : PlainNode) → NoneWaitsInVain node → NoneWaitsInVain (client_at n base c node).0
+open_waits n base c node none = by (is_some (node.clients c))
+  where
+    new : PlainClient
+    new = new_client (record { node = n; client = c; base = base })
+
+    at : (x : PlainClient) (a : Awaited) (d : ℕ) → d < MAX_CLIENTS → x.session.awaited ≡ Some a → (b : Bool) → (if b then Some new else node.clients d) ≡ Some x → IsOutstandingAt a.waiter node.vbs
+    at x a d lt has true e = let same : new ≡ x = cc in let z : None ≡ Some a = ap (λ (k : PlainClient). k.session.awaited) same ∙ has in absurd (cc z)
+    at x a d lt has false e = none d x a lt e has
+
+    by : (b : Bool) → let x : PlainNode × Told = if b then (node, refusal cause.LinkOpen) else (with_client node c (Some new), done []) in NoneWaitsInVain x.0
+    by true d x a lt is has = none d x a lt is has
+    by false d x a lt is has = at x a d lt has (d == c) is
+
+pub hang_stays : (c : ℕ) (node : PlainNode) → Stays (Some node) (Some (hang_at c node).0)
+hang_stays c node = by (node.clients c)
+  where
+    left : (d : ℕ) (other : PlainClient) (b : Bool) → (if b then None else node.clients d) ≡ Some other → node.clients d ≡ Some other
+    left d other true e = absurd (cc e)
+    left d other false e = e
+
+    by : (o : Option PlainClient) → Stays (Some node) (Some (hung_if c node o).0)
+    by None d other is = stays_same (Some node) d other is
+    by (Some client) d other is = (other, left d other (d == c) is, refl, ran_idle (end_closed client.producer) node.vbs (closed_makes IsIdle (λ id. tt) client.producer))
+
+-- frames of streams are taken from vBuckets
+idle_takes : Takes IsIdle
+idle_takes = record { places = λ id. tt; takes = λ id. tt; closes = λ id. tt }
+
+pub pull_stays : (c frames : ℕ) (node : PlainNode) → Stays (Some node) (Some (pull_at c frames node).0)
+pull_stays c frames node = by (node.clients c) refl
+  where
+    by : (o : Option PlainClient) → node.clients c ≡ o → Stays (Some node) (Some (pull_if c frames node o).0)
+    by None there d other is = stays_same (Some node) d other is
+    by (Some client) there d other is =
+        let x : States × ClientPulled = after (client_pulled frames client) node.vbs in
+        let kept : Kept node.vbs x.0 = ran_idle (client_pulled frames client) node.vbs (pull_makes IsIdle idle_takes frames client) in
+        ⊎_elim
+        (λ same.
+        let z : Some x.1.client ≡ Some other = sym (ap (λ b. if b then Some x.1.client else node.clients d) (eq-eqb d c same)) ∙ is in let one : x.1.client ≡ other = cc in
+        (client, ap node.clients same ∙ there, ap (λ (k : PlainClient). k.session) (sym one) ∙ (pull_same frames client node.vbs).0, kept))
+        (λ ne. (other, sym (ap (λ b. if b then Some x.1.client else node.clients d) (ne_eqb d c ne)) ∙ is, refl, kept))
+        (cases_eq d c)
+
+-- streams that a change of role ended
+pub ended_stays : (v : ℕ) (ids : List ℕ) (node : PlainNode) → Stays (Some node) (Some (with_clients_ended v ids node))
+ended_stays v ids node c client' is = by (node.clients c) refl is
+  where
+    by : (o : Option PlainClient) → node.clients c ≡ o → option_map (client_ended v ids) o ≡ Some client' → (client : PlainClient) × (node.clients c ≡ Some client) × (client'.session ≡ client.session) × Kept node.vbs node.vbs
+    by None e k = absurd (cc k)
+    by (Some client) e k = let same : client_ended v ids client ≡ client' = cc in (client, e, ap (λ (x : PlainClient). x.session) (sym same), λ m o. o)
+
+-- ---- vBuckets
+
+-- one is made, where there is none
+pub made_stays : (n v : ℕ) (role : Role) (uuid : ℕ) (node : PlainNode) (rest : List (Bool × Cause)) → Stays (Some node) (Some (refused_or (first_cause ((is_some (node.vbs v), cause.VbExists) ∷ rest)) node (vb_made n v role uuid node)).0)
+made_stays n v role uuid node rest = by (node.vbs v) refl
+  where
+    made : node.vbs v ≡ None → Stays (Some node) (Some (vb_made n v role uuid node).0)
+    made none = stays_kept node (vb_made n v role uuid node).0 (λ c. refl) (λ k o. record {
+      v = o.v;
+      vb = o.vb;
+      there = ap (λ b. if b then Some (new_vb n role uuid) else node.vbs o.v) (ne_eqb o.v v (λ same. let z : None ≡ Some o.vb = sym none ∙ ap node.vbs (sym same) ∙ o.there in cc)) ∙ o.there;
+      w = o.w;
+      among = o.among;
+      number = o.number;
+    })
+
+    unless : (why : Option Cause) → Stays (Some node) (Some (vb_made n v role uuid node).0) → Stays (Some node) (Some (refused_or why node (vb_made n v role uuid node)).0)
+    unless None s = s
+    unless (Some why) s = stays_same (Some node)
+
+    by : (o : Option Plain) → node.vbs v ≡ o → Stays (Some node) (Some (refused_or (first_cause ((is_some o, cause.VbExists) ∷ rest)) node (vb_made n v role uuid node)).0)
+    by None e = unless (first_cause rest) (made e)
+    by (Some vb) e = stays_same (Some node)
+
+pub admin_stays : (n v : ℕ) (asked : AdminCall) (node : PlainNode) → MakesJob IsIdle (admin_job n v asked) → Stays (Some node) (Some (admin_line n v asked node).0)
+admin_stays n v asked node makes = stays_kept node (admin_line n v asked node).0 (λ c. refl) (job_idle (admin_job n v asked) node.vbs node.shelves makes)
+
+-- the calls of a follower leave what waits
+module _ (vb : Plain) where
+  received : (w : Waiting) (c : Change) (refused other : VbReply) → Waits w vb.waiting → (b d : Bool) (a : Option Act) → let x : Plain × VbReply = if b then (if d then receive_as a vb c else (vb, other)) else (vb, refused) in Waits w x.0.waiting
+  received w c refused other i false d a = i
+  received w c refused other i true false a = i
+  received w c refused other i true true None = i
+  received w c refused other i true true (Some a) = i
+
+  rolled : (w : Waiting) (back : Plain) (said refused : VbReply) → Waits w vb.waiting → Waits w back.waiting → (b : Bool) → let x : Plain × VbReply = if b then (back, said) else (vb, refused) in Waits w x.0.waiting
+  rolled w back said refused i j true = j
+  rolled w back said refused i j false = i
+
+  aside_leaves : (made : VbCall) → IsAside made → LeavesOthers vb (plain_step vb made)
+  aside_leaves (call.CloseStream id) k w i = idle_leaves vb (call.CloseStream id) tt w i
+  aside_leaves (call.Adopt log) k w i = idle_leaves vb (call.Adopt log) tt w i
+  aside_leaves (call.Marker start end) k w i = idle_leaves vb (call.Marker start end) tt w i
+  aside_leaves (call.Receive c) k w i = received w c (refusal_reply status.NotMyVbucket) (refusal_reply status.Erange) i (is_follower vb.role) (is_next vb.position c.seq) (completed_act (pending_of vb c.key) c.act)
+  aside_leaves (call.RollTo at image cas) k w i = rolled w (rolled_vb vb at image cas) (quiet_reply (answer.Num at)) (refusal_reply status.NotMyVbucket) i i (is_follower vb.role)
+  aside_leaves call.Ask k w i = i
+  aside_leaves call.Due k w i = i
+  aside_leaves call.Stat k w i = i
+  aside_leaves other k w i = absurd k
+
+-- ---- links
+
+pub down_stays : (wanted : ℕ) (link : PlainLink) (node : PlainNode) → link.consumer.dialed.takeover ≡ false → Stays (Some node) (Some (down_in wanted link node).0)
+down_stays wanted link node alone =
+    let d = link.consumer.dialed in let x = placed d.vb node in
+    stays_kept node (down_in wanted link node).0 (λ c. refl)
+    (job_leaves (λ vb. Unit {0}) IsAside (λ vb made k u. tt) (λ id. tt) (λ vb made k u. aside_leaves vb made k) (FollowsAt d) (RollsAt d) (KeepsLink (untold (dial_of link))) (λ m made f. aside d m made alone f)
+    (dial_bytes (take (moved_len wanted link.down) link.down) (dial_of link)) x.vbs x.shelves (bytes_follow (take (moved_len wanted link.down) link.down) (dial_of link)) (λ v vb e. tt))
+
+pub pump_stays : (frames : ℕ) (link : PlainLink) (node : PlainNode) → Stays (Some node) (Some (pump_at frames link node).0)
+pump_stays frames link node = stays_kept node (pump_at frames link node).0 (λ c. refl) (ran_idle (peer_pulled frames (peer_of link)) node.vbs (pulled_makes IsIdle idle_takes frames (peer_of link)))
+
+-- what is due behind a batch
+pub due_none : (n v : ℕ) (o : Outcome) → NoneWaits o.0 → NoneWaits (due_in n v o).0
+due_none n v o all = by (is_counted o.1.answer)
+  where
+    at : (link : PlainLink) (k : Option PlainNode) → NoneIn k → NoneWaits (due_at n link o.0 o.1 k).0
+    at link None there = all
+    at link (Some node) there =
+        let next : PlainNode = with_states node (after (dial_due (dial_of link)) node.vbs).0 in
+        put_none o.0 n next all (none_on (Some node) (Some next) (stays_kept node next (λ c. refl) (ran_idle (dial_due (dial_of link)) node.vbs (due_makes IsIdle tt tt (dial_of link)))) there)
+
+    of : (l : Option PlainLink) → NoneWaits (due_of n o.0 o.1 l).0
+    of None = all
+    of (Some link) = at link (o.0.nodes n) (all n)
+
+    by : (b : Bool) → NoneWaits (let x : Outcome = if b then due_of n o.0 o.1 (own_link n v o.0.links) else o in x.0)
+    by true = of (own_link n v o.0.links)
+    by false = all
+
+-- ---- a node that starts has no connection
+
+starts_none : (n : ℕ) (starts : List (ℕ × ℕ)) (node : PlainNode) (told : Told) → ((c : ℕ) → node.clients c ≡ None) → (c : ℕ) → (starts_from n starts (node, told)).0.clients c ≡ None
+starts_none n [] node told none c = none c
+starts_none n (start ∷ starts) node told none c = by (λ t. starts_none n starts (start_one n start node).0 t none c) (fired_by node.arm.fuse (start_one n start node).0.arm.fuse)
+  where
+    by : ((t : Told) → (starts_from n starts ((start_one n start node).0, t)).0.clients c ≡ None) → (f : Fired) → (started_by n node.arm f (start_one n start node).1 told (start_one n start node).0 (starts_from n starts)).0.clients c ≡ None
+    by rest fired.No = rest _
+    by rest fired.Failed = rest _
+    by rest fired.Stopped = refl
+
+pub start_stays : (n : ℕ) (uuids : List ℕ) (node : PlainNode) → Stays (Some node) (Some (start_at n uuids node).0)
+start_stays n uuids node = by node.off
+  where
+    opened : (books : List Book) (opens short : Bool) → let x : PlainNode × Told = if opens then (if short then (record node { arm = burnt_arm (length books) node.arm }, refusal cause.IdsShort) else starts_from n (starts_of books uuids) (loaded_node n books (burnt_arm (length books) node.arm), done [])) else not_opened n node in Stays (Some node) (Some x.0)
+    opened books true true = stays_kept node (record node { arm = burnt_arm (length books) node.arm }) (λ c. refl) (λ k o. o)
+    opened books true false =
+        let x : PlainNode × Told = starts_from n (starts_of books uuids) (loaded_node n books (burnt_arm (length books) node.arm), done []) in
+        stays_none (Some node) (Some x.0) (starts_none n (starts_of books uuids) (loaded_node n books (burnt_arm (length books) node.arm)) (done []) (λ c. refl))
+    opened books false short = stays_kept node (not_opened n node).0 (λ c. refl) (λ k o. o)
+
+    by : (o : Option (List Book)) → Stays (Some node) (Some (start_if n uuids node o).0)
+    by None = stays_same (Some node)
+    by (Some books) = opened books (opens_all node.arm.fuse (length books)) (are_short books uuids)
