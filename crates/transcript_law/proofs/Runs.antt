@@ -3,13 +3,13 @@ use Rattle.std.specs.Prelude.{◌≡◌, ◌∷◌, ◌++◌, ◌==◌, if◌the
 use Rattle.{branch_model.specs.Journals.{place_of}, transcript_law.specs.Chronicles.{LastLine, Dial, DiskKnown, Flushing, after_group, at_line, after_lines, ahead, conns_lines, conns_verb}, vb_calls.specs.Shelves.{Flush, Idle, Out, Written, Shelf}, vb_types.specs.declared.journal.Batch.{Batch}}
 use Rattle.node_world.specs.{Nodes.{shelf_or_blank}, Rests.{Rests, RestsIf}, Worlds.{arm_in}}
 use Rattle.transcript_law.proofs.{invariant.Agreement.{DiskIsIf, IsArm, PowerIsIf, shelf_of, vb_of}, disks.ArmedSteps.{shut_in}, disks.Disks.{FlushIs, ShelfIs, parts_of, power_in}, disks.Flushed.{told_flush}, verbs.LineAnswers.{AllTold, ArmKnown, DisksTold, ShutTold}}
-use Rattle.transcript_law.proofs.Words.{ℕ, Bool, true, false, List, [], refl, ap, sym, ◌∙◌, subst, arith, Option, Some, None, ne_eqb, All-nil, All-head, All-tail, Answer, Event, ScriptLine, Verb}
+use Rattle.transcript_law.proofs.Words.{ℕ, Bool, true, false, List, [], refl, ap, sym, ◌∙◌, subst, arith, Option, Some, None, ne_eqb, All-nil, All-head, All-tail, Answer, Event, ScriptLine, Verb, VbVerb}
 use Rattle.transcript_law.proofs.Words.{VerbFits, ScriptFits, Change, Plain, PlainNode, hist, PlainWorld, empty_world}
 use Rattle.transcript_law.proofs.Words.{with_branches, verb_step, world_step, groups_from, groups, Chronicle, empty_chronicle, after_verb, LawfulGroups, Lawful, RefusedLinesKeep, start_sound}
 use Rattle.transcript_law.proofs.Words.{consumer_node, option_map}
 use Rattle.transcript_law.proofs.{invariant.Seats.{seat}}
 use Rattle.transcript_law.proofs.invariant.Agreement.{ChangeFits, EntryFits, AgreesAt, top, Agrees}
-use Rattle.transcript_law.proofs.{verbs.FiredLines.{DialsTold}, verbs.NodeRows.{client_row_of, link_row, link_row_of, node_row, node_row_of}, verbs.AskingLines.{line_asked}, verbs.BreakLines.{line_breaks}, verbs.StoredLines.{line_next}, verbs.Undone.{leaves_none}, verbs.Rows.{AsTold, Row}, verbs.VbRows.{vb_row_of}, invariant.LinkRows.{found_is_link}}
+use Rattle.transcript_law.proofs.{verbs.FiredLines.{DialsTold}, verbs.NodeRows.{client_row_of, link_row, link_row_of, node_row, node_row_of}, verbs.AskingLines.{line_asked}, verbs.BreakLines.{line_breaks}, verbs.StoredLines.{line_next}, verbs.Undone.{leaves_none}, verbs.Rows.{AsTold, Row}, verbs.VbRows.{seal_told, vb_row_of}, verbs.Handing.{SealsKnown, hands_none}, invariant.LinkRows.{found_is_link}}
 use Rattle.transcript_law.proofs.invariant.Ranged.{IsRanged, start_ranged}
 use Rattle.transcript_law.proofs.Words.{StreamName}
 use Rattle.transcript_law.specs.Feeding.{HasFed}
@@ -114,6 +114,11 @@ opens_told w r (c, a) = (λ n v vb known. (subst (AgreesAt r n v (c.nodes (seat 
 as_told_of : (w : PlainWorld) (r : Chronicle) → ConnsAre w r.conn_at → IsRanged w → Agrees w r → AsTold w r
 as_told_of w r are ranged a = record { agrees = a; conns = are; ranged = ranged; rests = rests_told w r a; disks = opens_told w r a; shut = shut_told w r a; arms = arms_told w r a; dials = dials_told w r a }
 
+-- it is told of each vBucket that is sealed whether it changed
+seals_known : (w : PlainWorld) (r : Chronicle) (number : ℕ) (line : Verb) → AllTold w r → SealsKnown r line (verb_step w number line).1.answer
+seals_known w r number (Verb.AtVb n v VbVerb.Seal) told = (seal_told w r n v None told).0
+seals_known w r number other told = tt
+
 -- what the law needs of each line, by what it names
 pub row_of : (w : PlainWorld) (number : ℕ) (line : Verb) → Row w line (verb_step w number line)
 row_of w number (Verb.Node n) = node_row w n
@@ -165,7 +170,7 @@ lawful_from w r (line ∷ lines) fits ranged are serves calm a =
         (row.told r0 fit told).1,
         refl,
         λ why said standing. (row.keeps told.rests why said standing).1,
-        row.tells r0 told,
+        hands_none r0 line.verb outcome.1.events outcome.1.answer (row.tells r0 told) (seals_known w r0 line.line line.verb told.disks),
         line_asked w r0 line.line line.verb ranged a0,
         leaves_none w line.line line.verb r0 ranged a0,
         all_answered later known later_agrees later_ranged heard.1,

@@ -12,6 +12,7 @@ pub mod LinkLines
 pub mod LinkTold
 pub mod DialTold
 pub mod SessionLines
+pub mod Rises
 pub mod Risen
 pub mod Stored
 pub mod StoredSessions

@@ -47,6 +47,7 @@ pub mod MessageAnswers
 pub mod EffectRows
 pub mod RefusalRows
 pub mod FeedingRows
+pub mod TakeoverRows
 pub mod TellingRows
 pub mod UndoneRows
 pub mod ClientStreamAnswers

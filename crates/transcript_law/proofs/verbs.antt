@@ -9,6 +9,7 @@ pub mod Dials
 pub mod DownLine
 pub mod DueLines
 pub mod FlushLines
+pub mod Handing
 pub mod Leaving
 pub mod Making
 pub mod LineAnswers

@@ -30,7 +30,7 @@ pub use Rattle.transcript_law.specs.Clients.{conns_line, conns_lines, conns_verb
 use Rattle.transcript_law.specs.ClientStreams.{with_client, with_sent_bytes}
 pub use Rattle.transcript_law.specs.ClientStreams.{ClientsKnown, blank_client, clients_line}
 pub use Rattle.transcript_law.specs.LinesTold.{Chronicle, LastLine, at_line, with_served, empty_chronicle, with_at, with_id, parent_branch, changes_between, uncounted, after_branch, snap_in_role, after_role, held_more, after_change, is_name, with_stream, is_dial_of, is_stream_of, with_changed}
-pub use Rattle.transcript_law.specs.LinesTold.{with_point, is_dial_at, is_stream_at, after_end, granted, after_ask, stream_branch, with_begun, more_items, with_item, finished, past_next, past_mark, acknowledging, after_take, after_adopt}
+pub use Rattle.transcript_law.specs.LinesTold.{with_point, is_dial_at, is_stream_at, after_end, after_state, fed_branch, is_branch, granted, after_ask, stream_branch, with_begun, more_items, with_item, finished, past_next, past_mark, acknowledging, after_take, after_adopt}
 pub use Rattle.transcript_law.specs.LinesTold.{is_dial_for, is_feed_of, after_range, spent, calls_of_append, after_calls, late_record, finds, disk_back, after_roll, with_disk, known_log, after_batch, after_count, after_line, after_lines}
 
 -- ---- what is written down
@@ -103,6 +103,7 @@ after_crash chronicle n out =
       dial_of = λ l. if is_dial_at n (chronicle.dial_of l) then None else chronicle.dial_of l;
       stream_of = λ s w. if is_stream_at chronicle n s then None else chronicle.stream_of s w;
       point_of = λ l. if is_dial_at n (chronicle.dial_of l) then None else chronicle.point_of l;
+      stated_of = λ l. if is_dial_at n (chronicle.dial_of l) then None else chronicle.stated_of l;
     }
 
 -- a crash inside a line, which leaves what the arm says
@@ -171,6 +172,27 @@ abbrev pub after_rollback : Chronicle → Option (ℕ × (ℕ × Record)) → Li
 after_rollback chronicle None lines said = chronicle
 after_rollback chronicle (Some (n, (v, r))) lines (answer.No why) = after_append chronicle n v (appending r) (answer.No why)
 after_rollback chronicle (Some (n, (v, r))) lines said = if list_any is_rollback lines then after_calls calls_of_append n chronicle else chronicle
+
+-- a line tells that a vBucket is active. Among those of a link's bytes such a one tells that its vBucket took its branch over
+abbrev pub is_rise : Event → Bool
+is_rise (event.Role n v role.Active) = true
+is_rise other = false
+
+-- the first such vBucket that lines tell of, with its node
+abbrev pub heir_in : List Event → Option (ℕ × ℕ)
+heir_in [] = None
+heir_in (event.Role n v role.Active ∷ lines) = Some (n, v)
+heir_in (line ∷ lines) = heir_in lines
+
+-- a line that moved bytes has written down what it had to, by its answer
+abbrev pub as_noted : Answer → Answer
+as_noted (answer.Number moved) = answer.Ok
+as_noted other = other
+
+-- where a link's bytes were taken one record is written down at most: that a vBucket which took its branch over is active; or else the rollback that it made
+abbrev pub after_moved : Chronicle → Option (ℕ × ℕ) → Option (ℕ × (ℕ × Record)) → List Event → Answer → Chronicle
+after_moved chronicle None back lines said = after_rollback chronicle back lines said
+after_moved chronicle (Some (n, v)) back lines said = after_noted chronicle n v role.Active (as_noted said)
 
 -- ---- a node that starts
 
@@ -302,7 +324,7 @@ abbrev pub after_verb : Chronicle → Chronicle → Verb → List Event → Answ
 after_verb before chronicle (verb.AtVb n v (vb_verb.MakeActive uuid)) lines said = after_made chronicle n v role.Active said
 after_verb before chronicle (verb.AtVb n v vb_verb.MakeReplica) lines said = after_made chronicle n v role.Replica said
 after_verb before chronicle (verb.Link l m n v buffer) lines said = after_dial chronicle l m n v said
-after_verb before chronicle (verb.AtLink l (link_verb.Down wanted)) lines said = after_rollback chronicle (rollback_of before (before.dial_of l) (before.point_of l)) lines said
+after_verb before chronicle (verb.AtLink l (link_verb.Down wanted)) lines said = after_moved chronicle (heir_in lines) (rollback_of before (before.dial_of l) (before.point_of l)) lines said
 after_verb before chronicle (verb.AtVb n v (vb_verb.Promote uuid)) lines said = after_noted chronicle n v role.Active said
 after_verb before chronicle (verb.AtVb n v vb_verb.Follow) lines said = after_noted chronicle n v role.Replica said
 after_verb before chronicle (verb.AtVb n v vb_verb.Dead) lines said = after_noted chronicle n v role.Dead said

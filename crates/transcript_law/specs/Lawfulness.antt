@@ -33,7 +33,8 @@ use Rattle.branch_model.specs.Trees.{Branch, hist, Shared, IsNew, ForksBelow}
 use Rattle.script_text.specs.declared.verb.ScriptLine.{ScriptLine}
 use Rattle.transcript_law.specs.Firings.{FiresInLine}
 use Rattle.transcript_law.specs.Standing.{TellsIfBegun}
-use Rattle.transcript_law.specs.Tellings.{TellsOf}
+use Rattle.transcript_law.specs.Takeovers.{NoTakeover}
+pub use Rattle.transcript_law.specs.Heirs.{IsFed, IsWriter, LawfulRole, stream_history}
 use Rattle.transcript_law.specs.Asked.{TellsAsAsked}
 use Rattle.transcript_law.specs.Undone.{LeavesNone}
 use Rattle.transcript_law.specs.{AnsweredWrites.{AllToldNext}, Breaks.{ClosesAsBroken}}
@@ -47,7 +48,7 @@ use Rattle.transcript_law.specs.Clients.{Heard}
 use Rattle.durability.specs.Laws.{HasOne}
 use Rattle.transcript_law.specs.Majorities.{IsHeldByMost}
 use Rattle.transcript_law.specs.OwnChanges.{IsNextChange}
-use Rattle.transcript_law.specs.Chronicles.{Conns, CountsKnown, ahead, at_line, conns_line, alone, ItemLine, Begun, Dial, Granted, Idle, Chronicle, empty_chronicle, is_stream_of, stood, stream_branch, after_line, after_group}
+use Rattle.transcript_law.specs.Chronicles.{Conns, CountsKnown, ahead, at_line, conns_line, ItemLine, Begun, Dial, Granted, Idle, Chronicle, empty_chronicle, is_stream_of, stood, stream_branch, after_line, after_group}
 
 -- the history of a branch, if it is known
 abbrev pub known_history : List Branch → Option ℕ → List Change
@@ -114,11 +115,6 @@ pub record LawfulShown (chronicle : Chronicle) (said : ShownLine) (behind : List
   pub docs_left : said.docs ≡ length (finite.entries (image_of (chronicle.held said.node said.vb)).docs)
   pub preps_left : said.preps ≡ length (finite.entries (image_of (chronicle.held said.node said.vb)).pending)
   pub complete : said.at ≡ said.se → LawfulShow chronicle said behind
-
--- the vBucket v of the node n is the branch's writer, and is on that branch
-pub record IsWriter (chronicle : Chronicle) (n v uuid : ℕ) : Type 0 where
-  pub made_or_took : chronicle.writer_of uuid ≡ Some (n, v)
-  pub on_branch : chronicle.branch_at n v ≡ Some uuid
 
 -- a commit names the prepare that waits at its key, and has its document
 abbrev pub Fulfils : Picture → Change → Type 0
@@ -188,11 +184,6 @@ pub record LawfulBranch (chronicle : Chronicle) (n v uuid : ℕ) (parent : Optio
   pub last : high ≡ last_seq 0 (chronicle.held n v)
   pub leaves : IsIfKnown (option_map (fork_in high) (chronicle.snap_at n v)) fork
 
--- a vBucket gets a role that it was not known to have, and becomes active where its node alone is the chain, and nothing was counted yet, at the end of what it holds
-pub record LawfulRole (chronicle : Chronicle) (n v : ℕ) (role : Role) : Type 0 where
-  pub another : chronicle.role_at n v ≢ Some (Some role)
-  pub anew : role ≡ Active → chronicle.counts_at n v ≡ alone (last_seq 0 (chronicle.held n v))
-
 -- the link l was dialed to the node n for the vBucket v, and for no other
 abbrev pub IsDialed : Chronicle → ℕ → ℕ → ℕ → Type 0
 IsDialed chronicle l n v = (node : ℕ) × (chronicle.dial_of l ≡ Some (record { producer = n; node = node; vb = v }))
@@ -248,14 +239,6 @@ pub record LawfulStat (chronicle : Chronicle) (n v windows items cursors saved h
 -- a vBucket's failover log is as the lines so far tell it, where they do
 abbrev pub LawfulLog : Chronicle → ℕ → ℕ → List LogEntry → Type 0
 LawfulLog chronicle n v log = IsIfKnown (chronicle.log_at n v) log
-
--- the link l was dialed for the vBucket v of the node n, and has this stream, of the branch that the vBucket is on
-abbrev pub IsFed : Chronicle → ℕ → ℕ → ℕ → Granted → Type 0
-IsFed chronicle l n v g = (m : ℕ) × (chronicle.dial_of l ≡ Some (record { producer = m; node = n; vb = v })) × (chronicle.stream_of (name.Link l) v ≡ Some g) × (chronicle.branch_at n v ≡ Some (stream_branch g))
-
--- the history of a stream's branch
-abbrev pub stream_history : Chronicle → Granted → List Change
-stream_history chronicle g = hist chronicle.tree (stream_branch g)
 
 -- a vBucket takes the next marker of its link's stream that was put and not taken: it is inside this snapshot from the marker's start, or from what it holds where that is less, up to the
 -- marker's end, which is not below that and stands at a change of the stream's branch
@@ -396,7 +379,7 @@ LinesFrom chronicle conns (line ∷ behind) = Heard conns line behind (LawfulLin
 -- the group of a line of a script: its number, its lines, its answer, and what both say of arms that fired and of vBuckets that went back; one that was refused where it stood tells of nothing; none tells of anything else than its line may; each tells what its line asked for; none leaves undone what it is for; none leaves a client without an answer; behind each set and each removal its answer stands; and none closes a client's connection but where its bytes break off, or its node ends
 abbrev pub LawfulGroup : Chronicle → ScriptLine → Group → Type 0
 LawfulGroup chronicle line group =
-    LinesFrom (ahead chronicle line.verb group.answer) chronicle.conn_at group.events × IsAnswered chronicle line.verb group.events group.answer × FiresInLine chronicle line.verb group.events group.answer × (group.line ≡ line.line) × TellsIfBegun group.events group.answer × TellsOf chronicle line.verb group.events × TellsAsAsked line.verb group.events group.answer × LeavesNone chronicle line.verb group.events group.answer × AllAnswered (after_group chronicle line.verb group.events group.answer) × AllToldNext group.events × ClosesAsBroken chronicle line.verb group.events
+    LinesFrom (ahead chronicle line.verb group.answer) chronicle.conn_at group.events × IsAnswered chronicle line.verb group.events group.answer × FiresInLine chronicle line.verb group.events group.answer × (group.line ≡ line.line) × TellsIfBegun group.events group.answer × NoTakeover chronicle line.verb group.events group.answer × TellsAsAsked line.verb group.events group.answer × LeavesNone chronicle line.verb group.events group.answer × AllAnswered (after_group chronicle line.verb group.events group.answer) × AllToldNext group.events × ClosesAsBroken chronicle line.verb group.events
 
 -- the groups of the lines of a script that come next, one for each, read behind the number of its line
 abbrev pub LawfulGroups : Chronicle → List ScriptLine → List Group → Type 0

@@ -28,6 +28,9 @@ pub mod Journals
 pub mod LinesTold
 pub mod Majorities
 pub mod OwnChanges
+pub mod Heirs
+pub mod Takeovers
+pub mod TakeoverRows
 pub mod Lawfulness
 pub mod Commits
 pub mod Checked

@@ -22,7 +22,7 @@ use Rattle.vb_disk.specs.declared.fuse.Fuse.{Fuse}
 use Rattle.vb_disk.specs.declared.fuse.Fuse.TheVariants.{Off, Stop, Fail}
 use Rattle.transcript_law.specs.Clients.{ClientAnswer, IsCrashed}
 pub use Rattle.transcript_law.specs.Pulls.{PutsAsTold, frames_in_lines, is_frame}
-use Rattle.transcript_law.specs.Chronicles.{Chronicle, Dial, DiskKnown, Taken, Written, calls_of_append, conns_lines, disks_of, is_rollback, rollback_of, vb_numbers}
+use Rattle.transcript_law.specs.Chronicles.{Chronicle, Dial, DiskKnown, Taken, Written, calls_of_append, conns_lines, disks_of, is_rise, is_rollback, rollback_of, vb_numbers}
 
 -- it was carried out, with nothing to count
 abbrev pub IsCarriedOut : Answer → Type 0
@@ -45,12 +45,17 @@ IsPumped wanted lines (answer.Number n) = ⊥
 IsPumped wanted lines (answer.Pulled n said) = PutsAsTold wanted lines n said
 IsPumped wanted lines (answer.No cause) = Unit {0}
 
--- a vBucket was sealed: 1 where it changed since it was sealed last, took a marker, got a role or went back, and 0 where it did not
-abbrev pub IsSealed : Bool → Answer → Type 0
-IsSealed changed answer.Ok = ⊥
-IsSealed changed (answer.Number n) = n ≡ (if changed then 1 else 0)
-IsSealed changed (answer.Pulled n said) = ⊥
-IsSealed changed (answer.No cause) = Unit {0}
+-- so many were sealed of one vBucket: 1 where it changed since it was sealed last, took a marker, got a role or went back, and 0 where it did not. Of one that is pending it is not known whether it changed, as that may be sealed with no line, where another state pending comes
+abbrev pub SealsAs : Option (Option Role) → Bool → ℕ → Type 0
+SealsAs (Some (Some role.Pending)) changed n = n ≤ 1
+SealsAs other changed n = n ≡ (if changed then 1 else 0)
+
+-- a vBucket was sealed
+abbrev pub IsSealed : Option (Option Role) → Bool → Answer → Type 0
+IsSealed at changed answer.Ok = ⊥
+IsSealed at changed (answer.Number n) = SealsAs at changed n
+IsSealed at changed (answer.Pulled n said) = ⊥
+IsSealed at changed (answer.No cause) = Unit {0}
 
 -- of these batches the lines tell: the node, the vBucket and the count of changes of each
 abbrev pub batches_in_lines : List Event → List (ℕ × (ℕ × ℕ))
@@ -136,12 +141,16 @@ Back = Option (ℕ × (ℕ × Record))
 abbrev pub IsBack : Back → Type 0
 IsBack back = (what : ℕ × (ℕ × Record)) × (back ≡ Some what)
 
--- there is, where its append fails, stops the node, or finds the journal closed
-abbrev pub IsBroken : Back → Answer → Type 0
-IsBroken back (answer.No cause.Closed) = IsBack back
-IsBroken back (answer.No cause.Disk) = IsBack back
-IsBroken back (answer.No cause.Stopped) = IsBack back
-IsBroken back other = Unit {0}
+-- a record is to be written down where a link's bytes are taken: of such a rollback, or of a vBucket of which these lines tell that it took its branch over
+abbrev pub IsOwed : Back → List Event → Type 0
+IsOwed back lines = IsBack back ⊎ (list_any is_rise lines ≡ true)
+
+-- there is one, where its append fails, stops the node, or finds the journal closed
+abbrev pub IsBroken : Back → List Event → Answer → Type 0
+IsBroken back lines (answer.No cause.Closed) = IsOwed back lines
+IsBroken back lines (answer.No cause.Disk) = IsOwed back lines
+IsBroken back lines (answer.No cause.Stopped) = IsOwed back lines
+IsBroken back lines other = Unit {0}
 
 -- of these rollbacks the lines tell: the node and the vBucket that went back, and where to
 abbrev pub rollbacks_in_lines : List Event → List (ℕ × (ℕ × Record))
@@ -153,12 +162,13 @@ rollbacks_in_lines (line ∷ lines) = rollbacks_in_lines lines
 abbrev pub GoesBack : Back → List Event → Type 0
 GoesBack back lines = (what : ℕ × (ℕ × Record)) × (back ≡ Some what) × (rollbacks_in_lines lines ≡ what ∷ [])
 
--- so many bytes were moved, and where the lines tell of a rollback it is the one for which the link's request had been sent back, once, and that could be written down; or it could not, the answer says why, and no line tells that it went back
+-- so many bytes were moved. Where the lines tell of a rollback it is the one for which the link's request had been sent back, once, and that could be written down; where they tell that a vBucket took its branch over, that could be, and none went back beside it. Or it could not, the answer says why, and no line tells that a vBucket went back
 abbrev pub IsTakenDown : ℕ → Back → Bool → Fuse → List Event → Answer → Type 0
 IsTakenDown wanted back closed f lines answer.Ok = ⊥
-IsTakenDown wanted back closed f lines (answer.Number n) = (n ≤ wanted) × (list_any is_rollback lines ≡ true → GoesBack back lines × IsNoted closed f answer.Ok)
+IsTakenDown wanted back closed f lines (answer.Number n) =
+    (n ≤ wanted) × (list_any is_rollback lines ≡ true → GoesBack back lines × IsNoted closed f answer.Ok) × (list_any is_rise lines ≡ true → (list_any is_rollback lines ≡ false) × IsNoted closed f answer.Ok)
 IsTakenDown wanted back closed f lines (answer.Pulled n said) = ⊥
-IsTakenDown wanted back closed f lines (answer.No why) = IsNoted closed f (answer.No why) × IsBroken back (answer.No why) × (list_any is_rollback lines ≡ false)
+IsTakenDown wanted back closed f lines (answer.No why) = IsNoted closed f (answer.No why) × IsBroken back lines (answer.No why) × (list_any is_rollback lines ≡ false)
 
 -- the arm of the node that a link's dial is at, and whether the journal of the vBucket that it is for is closed, where that is known
 abbrev pub arm_of_dial : Chronicle → Option Dial → Fuse
@@ -243,7 +253,7 @@ vb_kind vb_verb.Show = Plain
 abbrev pub KindAnswer : Chronicle → ℕ → ℕ → VbKind → List Event → Answer → Type 0
 KindAnswer chronicle n v Plain lines said = IsCarriedOut said
 KindAnswer chronicle n v Notes lines said = IsNotedAt chronicle n v said
-KindAnswer chronicle n v Seals lines said = IsSealed (chronicle.open_at n v) said
+KindAnswer chronicle n v Seals lines said = IsSealed (chronicle.role_at n v) (chronicle.open_at n v) said
 KindAnswer chronicle n v Takes lines said = IsTaken n v lines said
 KindAnswer chronicle n v Saves lines said = IsNotedAt chronicle n v said × IsAppended (chronicle.disk_at n v) said
 KindAnswer chronicle n v Counts lines said = IsSaved (chronicle.disk_at n v) said

@@ -27,6 +27,7 @@ use Rattle.branch_model.specs.Journals.{points}
 use Rattle.durability.specs.Chains.{Members}
 use Rattle.branch_model.specs.Logs.{front, uuid_of, with_entry, kept_to}
 use Rattle.branch_model.specs.Trees.{Branch, grow, hist}
+use Rattle.vb_calls.specs.State.{is_active}
 pub use Rattle.vb_calls.specs.Spans.{is_durable}
 pub use Rattle.transcript_law.specs.LastLines.{Conns, LastLine, OwnChange, number_of, numbered, risen_through, risen_to, served_then, told_for, with_served}
 pub use Rattle.transcript_law.specs.StreamsTold.{Begun, ClientsKnown, ItemLine, blank_client, more_items, with_at, with_id}
@@ -106,7 +107,7 @@ known_down = record { fuse = Off; out = Old; down = true }
 -- the line that was read last, as long as the numbers of lines rise and are below 2^32, and none for good once they did not; the branches, the newest first; the role of a vBucket of a node, where it is known, which is none before it is made; the changes that it holds, the
 -- branch that it is on, and its failover log, where that is known; for each branch id, the node and the vBucket that made the branch or took it over
 -- last; for each link that is not over, its dial; for each stream's name and vBucket, the stream; and for each link the point that its last request was
--- sent back to, until its consumer went back; whether a vBucket changed since it was sealed last, took a marker, got a role or went back;
+-- sent back to, until its consumer went back; and for each link the state that was put last on its stream, if one was; whether a vBucket changed since it was sealed last, took a marker, got a role or went back;
 -- the start and end of the snapshot that it is in, where that is known; what it wrote down; and what counts where it commits; what each node's clock shows; the connections of
 -- clients that were open before this group, but for those of a node that stopped in it; what is known of each of them and of its streams; the changes that vBuckets made of their own in this group, the last first, but for sets and removals before its last answer; the vBucket, with its node, whose prepares the line of this group gives up, where it is such a line; and whether a change was told in this group since a client was sent a frame in it
 pub record Chronicle : Type 0 where
@@ -120,6 +121,7 @@ pub record Chronicle : Type 0 where
   pub dial_of : ℕ → Option Dial
   pub stream_of : StreamName → ℕ → Option Granted
   pub point_of : ℕ → Option ℕ
+  pub stated_of : ℕ → Option Role
   pub open_at : ℕ → ℕ → Bool
   pub snap_at : ℕ → ℕ → Option (ℕ × ℕ)
   pub disk_at : ℕ → ℕ → DiskKnown
@@ -149,6 +151,7 @@ empty_chronicle = record {
   dial_of = λ l. None;
   stream_of = λ s v. None;
   point_of = λ l. None;
+  stated_of = λ l. None;
   open_at = λ n v. false;
   snap_at = λ n v. Some (0, 0);
   disk_at = λ n v. blank_disk;
@@ -198,10 +201,16 @@ snap_in_role Replica held before = before
 snap_in_role Pending held before = before
 snap_in_role Dead held before = before
 
--- a vBucket in another role, in which nothing was counted yet
+-- this is the branch that a vBucket is on, if it is on one
+abbrev pub is_branch : Option ℕ → ℕ → Bool
+is_branch None u = false
+is_branch (Some uuid) u = uuid == u
+
+-- a vBucket in another role, in which nothing was counted yet; one that is active is the writer of its branch
 abbrev pub after_role : Chronicle → ℕ → ℕ → Role → Chronicle
 after_role chronicle n v role = record (uncounted chronicle n v) {
   role_at = with_at chronicle.role_at n v (Some (Some role));
+  writer_of = λ u. if is_active role && is_branch (chronicle.branch_at n v) u then Some (n, v) else chronicle.writer_of u;
   open_at = with_at chronicle.open_at n v false;
   snap_at = with_at chronicle.snap_at n v (snap_in_role role (chronicle.held n v) (chronicle.snap_at n v));
   clients_at = with_clients_of chronicle.clients_at n (past_turn v (chronicle.held n v));
@@ -268,12 +277,25 @@ abbrev pub is_stream_at : Chronicle → ℕ → StreamName → Bool
 is_stream_at chronicle n (name.Link l) = is_dial_at n (chronicle.dial_of l)
 is_stream_at chronicle n (name.Client m c) = false
 
--- a link that ended is between nobody, has no stream, and sends nobody back
+-- a link that ended is between nobody, has no stream and no state on it, and sends nobody back
 abbrev pub after_end : Chronicle → ℕ → Chronicle
 after_end chronicle l = record chronicle {
   dial_of = with_id chronicle.dial_of l None;
   stream_of = λ s w. if is_name s (name.Link l) then None else chronicle.stream_of s w;
   point_of = with_id chronicle.point_of l None;
+  stated_of = with_id chronicle.stated_of l None;
+}
+
+-- the branch that the producer's vBucket of a link is on, if the link is dialed
+abbrev pub fed_branch : Chronicle → Option Dial → Option ℕ
+fed_branch chronicle None = None
+fed_branch chronicle (Some dial) = chronicle.branch_at dial.producer dial.vb
+
+-- a state was put on the stream of the link l: where it is active, nobody writes on the branch of the vBucket that feeds the link, until another takes it over
+abbrev pub after_state : Chronicle → ℕ → Role → Chronicle
+after_state chronicle l role = record chronicle {
+  stated_of = with_id chronicle.stated_of l (Some role);
+  writer_of = λ u. if is_active role && is_branch (fed_branch chronicle (chronicle.dial_of l)) u then None else chronicle.writer_of u;
 }
 
 -- a stream that was let continue begins where was asked, with no snapshot

@@ -5,6 +5,7 @@ ghost use Rattle.script_text.specs.declared.verb.Verb.TheVariants as verb;
 ghost use Rattle.script_text.specs.declared.verb.VbVerb.TheVariants as vb_verb;
 ghost use Rattle.script_text.specs.declared.verb.NodeVerb.TheVariants as node_verb;
 ghost use Rattle.script_text.specs.declared.verb.LinkVerb.TheVariants as link_verb;
+ghost use Rattle.transcript_law.specs.BoundRows.{LawfulHere};
 ghost use Rattle.transcript_law.specs.ClosedJournals.{back_line, dead_after_start, dead_after_start_groups, dialed_for, down_under, down_under_groups, fails_down, follow_after_crash, follow_after_crash_groups, follow_line, found_closed, save_again, save_again_groups, save_given_up, save_given_up_groups, save_none, save_none_groups, save_twice, save_twice_groups, sent_back_for, sent_back_under};
 ghost use Rattle.transcript_law.specs.Crashes.{LawfulAfter, dead_line, dead_under, dead_under_groups, failed_behind, numbered, ok, groups_from_number};
 ghost use Rattle.transcript_law.specs.Downs.{refused};
@@ -52,6 +53,6 @@ pub fn judged_closed()
     ensures back_fails { LawfulGroups (sent_back_for false) (down_under (verb.AtNode 1 (node_verb.Fail 1))) (down_under_groups fails_down) }
     ensures unsent_failed { (lines : List Event) → LawfulGroups (dialed_for false) (down_under (verb.AtNode 1 (node_verb.Fail 1))) (down_under_groups (lines, answer.No cause.Disk)) → ⊥ }
     ensures unsent_stopped { (lines : List Event) → LawfulGroups (dialed_for false) (down_under (verb.AtNode 1 (node_verb.Stop 1 Old))) (down_under_groups (lines, answer.No cause.Stopped)) → ⊥ }
-    ensures unsent_closed { (lines : List Event) → LawfulAnswer (dialed_for true) (verb.AtLink 1 (link_verb.Down 10)) lines (answer.No cause.Closed) → ⊥ }
+    ensures unsent_closed { (lines : List Event) → LawfulHere (dialed_for true) (verb.AtLink 1 (link_verb.Down 10)) (lines, answer.No cause.Closed) → ⊥ }
     ensures unsent_back { (closed : Bool) → LawfulAnswer (dialed_for closed) (verb.AtLink 1 (link_verb.Down 10)) (back_line ∷ []) (answer.Number 10) → ⊥ }
 {}

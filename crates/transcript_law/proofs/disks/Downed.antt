@@ -1,7 +1,7 @@
 -- the links of a node that stops are cut, and what is told of that changes nothing else
 use Rattle.std.specs.Prelude.{◌≡◌, ◌<◌, ◌≤◌, ◌∷◌, ◌++◌, ◌==◌, ◌||◌, if◌then◌else◌, cond}
 use Rattle.transcript_law.proofs.Words.{ℕ, zero, suc, arith, with_id, Bool, true, false, List, [], refl, ap, sym, ◌∙◌, subst, inl, inr, ⊎_elim, Option, Some, None, filter, flat_map, eqb-true, ne_eqb, Event, StreamName, EndReason}
-use Rattle.transcript_law.proofs.Words.{Cluster, Move, happens, StaysSound, row_at, row_out, PlainLink, link_number, producer_node, PlainNode, PlainWorld, unlinked, Dial, Granted, Chronicle, after_end, after_line, after_lines, LawfulFrom}
+use Rattle.transcript_law.proofs.Words.{Cluster, Role, Move, happens, StaysSound, row_at, row_out, PlainLink, link_number, producer_node, PlainNode, PlainWorld, unlinked, Dial, Granted, Chronicle, after_end, after_line, after_lines, LawfulFrom}
 use Rattle.node_world.specs.Power.{all_cut, all_unlinked, closed_line, closed_lines, down_lines, end_line, end_lines, has_client, is_this_number, is_touched, touches, all_numbers}
 use Rattle.transcript_law.proofs.{invariant.Agreement.{Agrees, AgreesIn, Busy, DifferFrom, IsLink, LinksDiffer, consumer_seat, idle, producer_seat, vb_of}, disks.ArmedLines.{AreEnds}, lines.Lines.{AreQuiet}}
 use Rattle.transcript_law.proofs.{invariant.Carrying.{BecameOver, SamePowers}, invariant.Carried.{kept_same, link_carried, stays_same, told_of_same}, links.Cutting.{closable, unlinking}, invariant.LinkRows.{differ_in, found_is_link, out_links, row_found}, invariant.OneLink.{carries_over}}
@@ -24,16 +24,16 @@ ends_quiet (Event.Ended l reason ∷ lines) a = (tt, ends_quiet lines a)
 ends_quiet (Event.Closed n c ∷ lines) a = (tt, ends_quiet lines a)
 ends_quiet (other ∷ lines) a = absurd a
 
--- what is read with other dials, streams and points
-abbrev pub with_ends : Chronicle → (ℕ → Option Dial) → (StreamName → ℕ → Option Granted) → (ℕ → Option ℕ) → Chronicle
-with_ends r dials streams points = record r { dial_of = dials; stream_of = streams; point_of = points }
+-- what is read with other dials, streams, points and states
+abbrev pub with_ends : Chronicle → (ℕ → Option Dial) → (StreamName → ℕ → Option Granted) → (ℕ → Option ℕ) → (ℕ → Option Role) → Chronicle
+with_ends r dials streams points states = record r { dial_of = dials; stream_of = streams; point_of = points; stated_of = states }
 
 -- and of other clients
 abbrev pub with_known : Chronicle → ClientsKnown → Chronicle
 with_known r clients = record r { clients_at = clients }
 
--- and tell of dials, streams and points alone, and of clients
-pub ends_told : (r : Chronicle) (lines : List Event) → AreEnds lines → after_lines r lines ≡ with_known (with_ends r (after_lines r lines).dial_of (after_lines r lines).stream_of (after_lines r lines).point_of) (after_lines r lines).clients_at
+-- and tell of dials, streams, points and states alone, and of clients
+pub ends_told : (r : Chronicle) (lines : List Event) → AreEnds lines → after_lines r lines ≡ with_known (with_ends r (after_lines r lines).dial_of (after_lines r lines).stream_of (after_lines r lines).point_of (after_lines r lines).stated_of) (after_lines r lines).clients_at
 ends_told r [] a = refl
 ends_told r (Event.Ended l reason ∷ lines) a = ends_told (after_end r l) lines a
 ends_told r (Event.Closed n c ∷ lines) a = ends_told (after_line r (Event.Closed n c)) lines a
@@ -278,20 +278,20 @@ module _ (stays : StaysSound) (r : Chronicle) where
       }
 
 -- what is told of links that are gone does not matter
-retold : (w : PlainWorld) (r : Chronicle) (c : Cluster) (dials : ℕ → Option Dial) (streams : StreamName → ℕ → Option Granted) (points : ℕ → Option ℕ) → AgreesIn idle w r c
-    → ((x : PlainLink) → IsLink x w.links → StillTold (link_number x) r (with_ends r dials streams points)) → AgreesIn idle w (with_ends r dials streams points) c
-retold w r c dials streams points a still = record {
+retold : (w : PlainWorld) (r : Chronicle) (c : Cluster) (dials : ℕ → Option Dial) (streams : StreamName → ℕ → Option Granted) (points : ℕ → Option ℕ) (states : ℕ → Option Role) → AgreesIn idle w r c
+    → ((x : PlainLink) → IsLink x w.links → StillTold (link_number x) r (with_ends r dials streams points states)) → AgreesIn idle w (with_ends r dials streams points states) c
+retold w r c dials streams points states a still = record {
   sound = a.sound;
   vbs = a.vbs;
   disks = a.disks;
   branches = a.branches;
   links = λ x i. let s = still x i in
-      link_carried w w r (with_ends r dials streams points) c c x [] [] (λ f e. (f, e, kept_same f)) s.dial (s.stream x.consumer.dialed.vb) s.point refl
+      link_carried w w r (with_ends r dials streams points states) c c x [] [] (λ f e. (f, e, kept_same f)) s.dial (s.stream x.consumer.dialed.vb) s.point refl
       (stays_same (vb_of w (producer_node x) x.consumer.dialed.vb) (c.nodes (producer_seat x)) x) (a.links x i);
   differ = a.differ;
-  clients = let kept = all_kept w w r (with_ends r dials streams points) (λ m d. refl) (λ m d. refl) refl (λ n v. refl) (λ n v. refl) in
-      clients_kept w w r (with_ends r dials streams points) 0 a.clients (all_there idle w r c a) kept (λ l n v id has. inl has)
-      (every_owed w w r (with_ends r dials streams points) kept (later_same _ _ refl refl) (λ n v x p o. o) a.clients.owed);
+  clients = let kept = all_kept w w r (with_ends r dials streams points states) (λ m d. refl) (λ m d. refl) refl (λ n v. refl) (λ n v. refl) in
+      clients_kept w w r (with_ends r dials streams points states) 0 a.clients (all_there idle w r c a) kept (λ l n v id has. inl has)
+      (every_owed w w r (with_ends r dials streams points states) kept (later_same _ _ refl refl) (λ n v x p o. o) a.clients.owed);
   rests = record { powers = a.powers; clocks = a.clocks; aways = a.aways; downs = a.downs; ends = a.ends; small = a.small };
 }
 
@@ -350,7 +350,7 @@ module _ (stays : StaysSound) (w : PlainWorld) (r : Chronicle) (c : Cluster) (n 
       record {
         cluster = were_cut.cluster;
         agrees = subst (λ q. AgreesIn idle (all_cut n w) q were_cut.cluster) (sym (ap (λ q. with_known q r.clients_at) same))
-            (retold (all_cut n w) r were_cut.cluster (after_lines r lines).dial_of (after_lines r lines).stream_of (after_lines r lines).point_of were_cut.agrees
+            (retold (all_cut n w) r were_cut.cluster (after_lines r lines).dial_of (after_lines r lines).stream_of (after_lines r lines).point_of (after_lines r lines).stated_of were_cut.agrees
             (λ x i. let s = spared (link_number x) r lines ends (spares x i) in record { dial = s.dial; stream = s.stream; point = s.point }));
         others = closed_there n r lines ends (down_closes n also w);
         apart = untouched;
@@ -359,4 +359,4 @@ module _ (stays : StaysSound) (w : PlainWorld) (r : Chronicle) (c : Cluster) (n 
 
 -- the end of a link that is no more
 pub end_agrees : (w : PlainWorld) (r : Chronicle) (l : ℕ) → Agrees w r → ((x : PlainLink) → IsLink x w.links → link_number x ≡ l → ⊥) → Agrees w (after_end r l)
-end_agrees w r l (c, a) other = (c, retold w r c (after_end r l).dial_of (after_end r l).stream_of (after_end r l).point_of a (λ x i. spared (link_number x) r (Event.Ended l EndReason.Disk ∷ []) tt (other x i, tt)))
+end_agrees w r l (c, a) other = (c, retold w r c (after_end r l).dial_of (after_end r l).stream_of (after_end r l).point_of (after_end r l).stated_of a (λ x i. spared (link_number x) r (Event.Ended l EndReason.Disk ∷ []) tt (other x i, tt)))

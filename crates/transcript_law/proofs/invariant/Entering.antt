@@ -10,7 +10,7 @@ use Rattle.script_text.specs.declared.verb.VbVerb.TheVariants as vb_verb
 use Rattle.transcript_law.proofs.Words.{ℕ, Bool, true, false, List, [], refl, ap, sym, ◌∙◌, subst, Option, Some, None, LogEntry, Branch, eq-eqb, ne_eqb, Verb, Change, AskAnswer, Event, StreamName, StreamAsk, Role, Answer, AtForks, kept_to, with_entry, IsNew, branch, grow, longer, branch_grow, Granted, Chronicle, empty_chronicle, after_lines}
 use Rattle.transcript_law.proofs.Words.{with_at, with_changed, granted, parent_branch, changes_between, after_branch, with_begun, with_item, finished, after_line, held_more, past_next, past_mark, IsIfKnown, LawfulLine, LawfulFrom, LawfulAsk}
 use Rattle.transcript_law.proofs.{invariant.Tables.{pick}, invariant.Trees.{IsTold, new_untold}}
-use Rattle.transcript_law.specs.Chronicles.{after_clock, Appending, ArmKnown, after_armed, after_blank, after_crashed, after_dial, after_seal, ahead, Dial, DiskKnown, Flushing, Idle, Taken, Written, after_append, after_calls, after_crash, after_made, after_noted, after_openings, after_restart, after_restarts, after_rollback, after_start, after_starts, after_up, appending, batch_record, batch_stands, broken_by, calls_of_append, crashed_disk, disk_back}
+use Rattle.transcript_law.specs.Chronicles.{after_clock, Appending, ArmKnown, after_armed, after_blank, after_crashed, after_dial, after_seal, ahead, Dial, DiskKnown, Flushing, Idle, Taken, Written, after_append, after_calls, after_crash, after_made, after_moved, after_noted, after_openings, after_restart, after_restarts, after_rollback, after_start, after_starts, after_up, appending, as_noted, batch_record, batch_stands, broken_by, calls_of_append, crashed_disk, disk_back}
 use Rattle.transcript_law.specs.Chronicles.{acknowledging, known_down, with_id, disks_of, finds, is_feed_of, is_made, is_name, is_off, is_rollback, is_stream_at, is_stream_of, known_log, late_record, rollback_of, saving, spent, state_of, known_batch, with_disk, with_disk_there, with_record, with_row}
 use Rattle.transcript_law.specs.Lawfulness.{LawfulAdopt}
 use Rattle.vb_disk.specs.declared.fuse.Fuse.{Fuse}
@@ -322,7 +322,7 @@ save_entered r n v said old =
     let d = r.disk_at n v in let at = old.disks n v in let b = batch_at r.tree d.flushing d at.flushing at in
     append_entered r n v (saving d) said old (record { stands = b.0; fails = record { book = at.book; late = at.late; flushing = tt }; what = b.1 })
 
-pub down_entered : (before r : Chronicle) (dial : Option Dial) (named : Option ℕ) (lines : List Event) (said : Answer) → Entered r → Entered (after_rollback r (rollback_of before dial named) lines said)
+down_entered : (before r : Chronicle) (dial : Option Dial) (named : Option ℕ) (lines : List Event) (said : Answer) → Entered r → Entered (after_rollback r (rollback_of before dial named) lines said)
 down_entered before r None named lines said old = old
 down_entered before r (Some dial) None lines said old = old
 down_entered before r (Some dial) (Some named) lines said old = by said
@@ -338,6 +338,11 @@ down_entered before r (Some dial) (Some named) lines said old = by said
     by answer.Ok = moved
     by (answer.Number count) = moved
     by (answer.Pulled count why) = moved
+
+-- or that it took its branch over
+pub moved_entered : (before r : Chronicle) (dial : Option Dial) (named : Option ℕ) (heir : Option (ℕ × ℕ)) (lines : List Event) (said : Answer) → Entered r → Entered (after_moved r heir (rollback_of before dial named) lines said)
+moved_entered before r dial named None lines said old = down_entered before r dial named lines said old
+moved_entered before r dial named (Some (n, v)) lines said old = noted_entered r n v role.Active (as_noted said) old
 
 -- a start
 restart_entered : (r : Chronicle) (n v : ℕ) → Entered r → Entered (after_restart r n v)

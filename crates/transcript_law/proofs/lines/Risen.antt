@@ -16,7 +16,7 @@ use Rattle.vb_events.specs.declared.event.Event.TheVariants as event
 use Rattle.vb_events.specs.declared.event.StreamName.TheVariants as name
 use Rattle.vb_types.specs.declared.journal.Record.{Record}
 use Rattle.vb_types.specs.declared.stream.AskAnswer.TheVariants as ask_answer
-use Rattle.transcript_law.specs.Chronicles.{Appending, Conns, after_append, after_calls, after_group, after_line, after_lines, after_made, after_openings, after_restart, after_restarts, after_rollback, after_start, after_starts, after_up, after_verb, ahead, at_line, appending, calls_of_append, conns_lines, conns_verb, disks_of, is_made, is_off, is_rollback, known_down, rollback_of, saving, state_of, with_disk, with_disk_there, with_id}
+use Rattle.transcript_law.specs.Chronicles.{Appending, Conns, after_append, after_calls, after_group, after_line, after_lines, after_made, after_moved, after_openings, after_restart, after_restarts, after_rollback, after_start, after_starts, after_up, after_verb, ahead, as_noted, at_line, appending, calls_of_append, conns_lines, conns_verb, disks_of, heir_in, is_made, is_off, is_rollback, known_down, rollback_of, saving, state_of, with_disk, with_disk_there, with_id}
 use Rattle.transcript_law.specs.{LinesTold.{ClientsKnown, LastLine, OwnChange, number_of, numbered, risen_through, risen_to, with_served}, Prefixes.{known_after}}
 
 -- ---- numbers
@@ -114,6 +114,10 @@ rollback_same r None lines said = refl
 rollback_same r (Some (n, (v, x))) lines (answer.No why) = append_same r n v (appending x) (answer.No why)
 rollback_same r (Some (n, (v, x))) lines other = pick (list_any is_rollback lines) (after_calls calls_of_append n r) r r.last refl refl
 
+moved_same : (r : Chronicle) (heir : Option (ℕ × ℕ)) (back : Option (ℕ × (ℕ × Record))) (lines : List Event) (said : Answer) → (after_moved r heir back lines said).last ≡ r.last
+moved_same r None back lines said = rollback_same r back lines said
+moved_same r (Some (n, v)) back lines said = append_same r n v (appending (state_of r n v Role.Active)) (as_noted said)
+
 restarts_same : (r : Chronicle) (lines : List Event) → (after_restarts r lines).last ≡ r.last
 restarts_same r [] = refl
 restarts_same r (event.Branch n v uuid parent fork high ∷ lines) = restarts_same (after_restart r n v) lines
@@ -152,7 +156,7 @@ verb_last before r (verb.AtVb n v (vb_verb.MakeActive uuid)) lines said = made_s
 verb_last before r (verb.AtVb n v vb_verb.MakeReplica) lines said = made_same r n v Role.Replica said
 verb_last before r (verb.Link l m n v buffer) lines answer.Ok = refl
 verb_last before r (verb.Link l m n v buffer) lines other = refl
-verb_last before r (verb.AtLink l (link_verb.Down wanted)) lines said = rollback_same r (rollback_of before (before.dial_of l) (before.point_of l)) lines said
+verb_last before r (verb.AtLink l (link_verb.Down wanted)) lines said = moved_same r (heir_in lines) (rollback_of before (before.dial_of l) (before.point_of l)) lines said
 verb_last before r (verb.AtVb n v (vb_verb.Promote uuid)) lines said = append_same r n v (appending (state_of r n v Role.Active)) said
 verb_last before r (verb.AtVb n v vb_verb.Follow) lines said = append_same r n v (appending (state_of r n v Role.Replica)) said
 verb_last before r (verb.AtVb n v vb_verb.Dead) lines said = append_same r n v (appending (state_of r n v Role.Dead)) said

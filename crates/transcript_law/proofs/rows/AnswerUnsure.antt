@@ -178,11 +178,11 @@ abort_number a b e = cc
 
 pub dead : LawfulAwaited pending (durably 1 9 6) (turned role.Dead ∷ unknown_set ∷ [])
 unfolding spelling frames_in first_frame frame_of read_of frame_row shape_fault request_of requirement_of
-dead = (record { another = λ e. cc; anew = λ e. cc }, (λ z. inl (record { question = _; next = refl; answer = reply_frame (bare_answer SET status.SyncWriteAmbiguous 9); spelled = refl; response = refl; opcode = refl; opaque = refl; calm = inr (inl ((_, _, refl, inr refl), tt)); fits = inr (first_number, inr (inr (record { said = bare_so SET 9 status.SyncWriteAmbiguous; own = gone }))) }), tt))
+dead = (record { another = λ e. cc; anew = λ e. cc; pending = λ e. cc }, (λ z. inl (record { question = _; next = refl; answer = reply_frame (bare_answer SET status.SyncWriteAmbiguous 9); spelled = refl; response = refl; opcode = refl; opaque = refl; calm = inr (inl ((_, _, refl, inr refl), tt)); fits = inr (first_number, inr (inr (record { said = bare_so SET 9 status.SyncWriteAmbiguous; own = gone }))) }), tt))
 
 pub follows : LawfulAwaited pending (durably 1 9 6) (turned role.Replica ∷ unknown_set ∷ [])
 unfolding spelling frames_in first_frame frame_of read_of frame_row shape_fault request_of requirement_of
-follows = (record { another = λ e. cc; anew = λ e. cc }, (λ z. inl (record { question = _; next = refl; answer = reply_frame (bare_answer SET status.SyncWriteAmbiguous 9); spelled = refl; response = refl; opcode = refl; opaque = refl; calm = inr (inl ((_, _, refl, inr refl), tt)); fits = inr (first_number, inr (inr (record { said = bare_so SET 9 status.SyncWriteAmbiguous; own = followed }))) }), tt))
+follows = (record { another = λ e. cc; anew = λ e. cc; pending = λ e. cc }, (λ z. inl (record { question = _; next = refl; answer = reply_frame (bare_answer SET status.SyncWriteAmbiguous 9); spelled = refl; response = refl; opcode = refl; opaque = refl; calm = inr (inl ((_, _, refl, inr refl), tt)); fits = inr (first_number, inr (inr (record { said = bare_so SET 9 status.SyncWriteAmbiguous; own = followed }))) }), tt))
 
 pub given_up : LawfulTold (gave_up 2 9 half_a_minute ∷ []) (durably 1 9 6) (unknown_set ∷ [])
 unfolding spelling frames_in first_frame frame_of read_of frame_row shape_fault request_of requirement_of

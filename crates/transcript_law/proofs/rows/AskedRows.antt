@@ -10,6 +10,7 @@ use Rattle.transcript_law.specs.Crashes.{groups_from_number, numbered}
 use Rattle.transcript_law.specs.Standing.{IsStanding}
 use Rattle.transcript_law.specs.TellingRows.{stat_at}
 use Rattle.transcript_law.specs.Transcripts.{active_vb_lines}
+use Rattle.transcript_law.proofs.lines.Rises.{made_here}
 
 -- ---- what is told passes the tests
 
@@ -139,11 +140,11 @@ right_log = whole one_active (numbered 1 (here VbVerb.Log ∷ [])) (groups_from_
 
 pub right_made : LawfulHere empty_chronicle (here (VbVerb.MakeActive 5)) (active_vb_lines 0 5, Answer.Ok)
 right_made = whole empty_chronicle (numbered 1 (here (VbVerb.MakeActive 5) ∷ [])) (groups_from_number 1 ((active_vb_lines 0 5, Answer.Ok) ∷ [])) refl
-    (((record { new = tt; newest = refl; last = refl; leaves = refl }, (record { another = λ e. cc; anew = λ e. refl }, tt)), (refl, tt), refl), tt) (shut_heard empty_chronicle (numbered 1 (here (VbVerb.MakeActive 5) ∷ [])) (groups_from_number 1 ((active_vb_lines 0 5, Answer.Ok) ∷ [])) (λ n c. refl) refl)
+    (((record { new = tt; newest = refl; last = refl; leaves = refl }, (record { another = λ e. cc; anew = λ e. made_here _ _ _ 5 refl refl refl; pending = λ e. cc }, tt)), (refl, tt), refl), tt) (shut_heard empty_chronicle (numbered 1 (here (VbVerb.MakeActive 5) ∷ [])) (groups_from_number 1 ((active_vb_lines 0 5, Answer.Ok) ∷ [])) (λ n c. refl) refl)
 
 pub right_replica : LawfulHere empty_chronicle (here VbVerb.MakeReplica) (in_role 0 0 Role.Replica ∷ [], Answer.Ok)
 right_replica = whole empty_chronicle (numbered 1 (here VbVerb.MakeReplica ∷ [])) (groups_from_number 1 ((in_role 0 0 Role.Replica ∷ [], Answer.Ok) ∷ [])) refl
-    (((record { another = λ e. cc; anew = λ e. cc }, tt), (refl, tt), refl), tt) (shut_heard empty_chronicle (numbered 1 (here VbVerb.MakeReplica ∷ [])) (groups_from_number 1 ((in_role 0 0 Role.Replica ∷ [], Answer.Ok) ∷ [])) (λ n c. refl) refl)
+    (((record { another = λ e. cc; anew = λ e. cc; pending = λ e. cc }, tt), (refl, tt), refl), tt) (shut_heard empty_chronicle (numbered 1 (here VbVerb.MakeReplica ∷ [])) (groups_from_number 1 ((in_role 0 0 Role.Replica ∷ [], Answer.Ok) ∷ [])) (λ n c. refl) refl)
 
 -- ---- the ids of a start
 

@@ -201,7 +201,7 @@ over l =
 
 -- a vBucket that was active is dead
 pub dead_now : {chronicle : Chronicle} → chronicle.role_at 0 0 ≡ Some (Some role.Active) → LawfulRole chronicle 0 0 role.Dead
-dead_now is = record { another = λ e. let z : Some (Some role.Active) ≡ Some (Some role.Dead) = sym is ∙ e in let y : role.Active ≡ role.Dead = cc in cc; anew = λ e. cc }
+dead_now is = record { another = λ e. let z : Some (Some role.Active) ≡ Some (Some role.Dead) = sym is ∙ e in let y : role.Active ≡ role.Dead = cc in cc; anew = λ e. cc; pending = λ e. cc }
 
 pub turns : LawfulPut two (one begun) (turned role.Dead ∷ sent 0 one_change)
 turns = dead_now refl ▹ item_put _ (past_turn 0 two (with_streams (one begun))) 0 one_change (with_turn two begun) (snapshot two 0 2 []) [] first_header refl refl refl (none_counted (past_turn 0 two (with_streams (one begun))) refl refl) refl refl (inl refl) (one_change, inl refl, refl) first_next ▹ (λ z. cc) ▹ tt

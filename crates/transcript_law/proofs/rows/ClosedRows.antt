@@ -1,10 +1,10 @@
 -- appends that close a journal, judged by hand
 use Rattle.std.specs.Prelude.{◌≡◌, ◌<◌, ◌≤◌, ◌∷◌}
-use Rattle.transcript_law.proofs.Words.{ℕ, Bool, true, false, List, [], refl, sym, arith, inl, Some, None, Cause, Event, Role, Lawful, LawfulAnswer, LawfulGroups, next_change}
+use Rattle.transcript_law.proofs.Words.{ℕ, Bool, true, false, List, [], refl, sym, ◌∙◌, arith, inl, ⊎_elim, list_any, Some, None, Cause, Chronicle, NodeVerb, Event, Role, Lawful, LawfulAnswer, LawfulGroups, next_change}
 use Rattle.transcript_law.proofs.{rows.CrashRows.{first, lawful_from_heard, lawful_from_made, no_role, cut_off, one_closed, read, taken}, rows.{Groups.{whole}, StoredRows.{made_stored}, NextRows.{second_next}, Sets.{heard_then, next_told, nine_sent, nine_then, seven_past}, Silent.{shut_heard, silent_heard}}}
 use Rattle.transcript_law.specs.ClosedJournals.{back_line, dead_after_start, dead_after_start_groups, dialed_for, down_under, down_under_groups, fails_down, follow_after_crash, follow_after_crash_groups, follow_line, found_closed, save_again, save_again_groups, save_given_up, save_given_up_groups, save_none, save_none_groups, save_twice, save_twice_groups, sent_back_for, sent_back_under}
 use Rattle.transcript_law.specs.Crashes.{LawfulAfter, branch_line, dead_line, dead_under, dead_under_groups, failed_behind, numbered, ok, groups_from_number}
-use Rattle.transcript_law.specs.{Chronicles.{Idle, Taken}, Downs.{refused}, LineAnswers.{Back, IsBack}}
+use Rattle.transcript_law.specs.{BoundRows.{LawfulHere}, Chronicles.{Idle, Taken, after_group, at_line, is_rise}, Downs.{refused}, LineAnswers.{Back, IsBack, IsOwed}}
 use Rattle.script_text.specs.declared.verb.Verb.TheVariants as verb
 use Rattle.script_text.specs.declared.verb.VbVerb.TheVariants as vb_verb
 use Rattle.script_text.specs.declared.verb.NodeVerb.TheVariants as node_verb
@@ -14,6 +14,7 @@ use Rattle.vb_disk.specs.declared.made.Outcome.TheVariants.{Old}
 use Rattle.vb_events.specs.declared.event.Answer.TheVariants as answer
 use Rattle.vb_events.specs.declared.event.Cause.TheVariants as cause
 use Rattle.vb_types.specs.declared.journal.Batch.{Batch}
+use Rattle.transcript_law.proofs.verbs.Handing.{no_rise}
 
 is_shut : true ≡ false → ⊥
 is_shut e = cc
@@ -24,7 +25,7 @@ pub follows : (k : ℕ) (lines : List Event) → LawfulAfter (dead_under (verb.A
 follows k lines l = is_shut l.1.1.1.1.1.1.0.1.0
 
 pub stands : LawfulAfter (verb.AtVb 0 0 vb_verb.Dead ∷ []) (ok (dead_line ∷ []) ∷ [])
-stands = lawful_from_made (verb.AtVb 0 0 vb_verb.Dead ∷ []) (ok (dead_line ∷ []) ∷ []) refl (((record { another = λ e. cc; anew = λ e. cc }, tt), (refl, tt), refl), tt)
+stands = lawful_from_made (verb.AtVb 0 0 vb_verb.Dead ∷ []) (ok (dead_line ∷ []) ∷ []) refl (((record { another = λ e. cc; anew = λ e. cc; pending = λ e. cc }, tt), (refl, tt), refl), tt)
 
 pub unfailed : (lines : List Event) → LawfulAfter (verb.AtVb 0 0 vb_verb.Dead ∷ []) (found_closed lines ∷ []) → ⊥
 unfailed lines l = is_shut (sym l.1.1.1.1.0.1)
@@ -81,10 +82,10 @@ pub opened : LawfulAfter follow_after_crash (follow_after_crash_groups (ok (foll
 opened = lawful_from_made follow_after_crash (follow_after_crash_groups (ok (follow_line ∷ []))) refl (
   (tt, tt, refl),
   (
-    ((record { another = λ e. cc; anew = λ e. cc }, (omega arith, tt)), (refl, (omega arith, omega arith)), refl),
+    ((record { another = λ e. cc; anew = λ e. cc; pending = λ e. cc }, (omega arith, tt)), (refl, (omega arith, omega arith)), refl),
     (
       (((refl, cut_off), tt), one_closed, refl),
-      (((record { new = (λ e. omega arith, tt); newest = refl; last = refl; leaves = refl }, tt), ((λ v e. first v (branch_line 0 0 ∷ []) (λ f. no_role Role.Active (rw f at e)) (inl (refl, refl))), tt), refl), (((record { another = λ e. cc; anew = λ e. cc }, tt), (refl, tt), refl), tt)),
+      (((record { new = (λ e. omega arith, tt); newest = refl; last = refl; leaves = refl }, tt), ((λ v e. first v (branch_line 0 0 ∷ []) (λ f. no_role Role.Active (rw f at e)) (inl (refl, refl))), tt), refl), (((record { another = λ e. cc; anew = λ e. cc; pending = λ e. cc }, tt), (refl, tt), refl), tt)),
     ),
   ),
 )
@@ -99,7 +100,7 @@ two_of_five = omega arith
 
 pub started : LawfulAfter dead_after_start (dead_after_start_groups (found_closed (dead_line ∷ [])))
 started = lawful_from_made dead_after_start (dead_after_start_groups (found_closed (dead_line ∷ []))) refl
-    ((((refl, cut_off), tt), one_closed, refl), ((tt, tt, refl), (((record { new = (λ e. omega arith, tt); newest = refl; last = refl; leaves = refl }, (omega arith, tt)), (omega arith, two_of_five), refl), (((record { another = λ e. cc; anew = λ e. cc }, tt), refl, refl), tt))))
+    ((((refl, cut_off), tt), one_closed, refl), ((tt, tt, refl), (((record { new = (λ e. omega arith, tt); newest = refl; last = refl; leaves = refl }, (omega arith, tt)), (omega arith, two_of_five), refl), (((record { another = λ e. cc; anew = λ e. cc; pending = λ e. cc }, tt), refl, refl), tt))))
 
 pub started_ok : (lines : List Event) → LawfulAfter dead_after_start (dead_after_start_groups (ok lines)) → ⊥
 started_ok lines l = is_shut l.1.1.1.1.1.1.1.0.1.0
@@ -107,13 +108,13 @@ started_ok lines l = is_shut l.1.1.1.1.1.1.1.0.1.0
 -- a rollback
 
 pub back : LawfulAnswer (sent_back_for false) (verb.AtLink 1 (link_verb.Down 10)) (back_line ∷ []) (answer.Number 10)
-back = (omega arith, λ e. ((_, refl, refl), (refl, tt)))
+back = (omega arith, λ e. ((_, refl, refl), (refl, tt)), λ e. cc)
 
 pub back_stands : LawfulAnswer (sent_back_for true) (verb.AtLink 1 (link_verb.Down 10)) (back_line ∷ []) (answer.Number 10) → ⊥
 back_stands l = is_shut (l.1 refl).1.0
 
 pub back_passes : LawfulAnswer (sent_back_under (Fail 5)) (verb.AtLink 1 (link_verb.Down 10)) (back_line ∷ []) (answer.Number 10)
-back_passes = (omega arith, λ e. ((_, refl, refl), (refl, omega arith)))
+back_passes = (omega arith, λ e. ((_, refl, refl), (refl, omega arith)), λ e. cc)
 
 pub back_failed : (k : ℕ) → k ≤ 4 → LawfulAnswer (sent_back_under (Fail k)) (verb.AtLink 1 (link_verb.Down 10)) (back_line ∷ []) (answer.Number 10) → ⊥
 back_failed k few l = let passed : 4 < k = (l.1 refl).1.1 in omega (arith, few, passed)
@@ -122,7 +123,7 @@ pub back_stopped : (k : ℕ) → k ≤ 4 → LawfulAnswer (sent_back_under (Stop
 back_stopped k few l = let passed : 4 < k = (l.1 refl).1.1 in omega (arith, few, passed)
 
 pub back_shut : LawfulAnswer (sent_back_for true) (verb.AtLink 1 (link_verb.Down 10)) [] (answer.No cause.Closed)
-back_shut = (refl, (_, refl), refl)
+back_shut = (refl, inl (_, refl), refl)
 
 pub back_closed : LawfulAnswer (sent_back_for false) (verb.AtLink 1 (link_verb.Down 10)) [] (answer.No cause.Closed) → ⊥
 back_closed l = is_shut (sym l.0)
@@ -131,7 +132,7 @@ pub back_refused : (closed : Bool) (why : Cause) → LawfulAnswer (sent_back_for
 back_refused closed why l = is_shut l.2
 
 pub back_fails : LawfulGroups (sent_back_for false) (down_under (verb.AtNode 1 (node_verb.Fail 1))) (down_under_groups fails_down)
-back_fails = whole (sent_back_for false) (down_under (verb.AtNode 1 (node_verb.Fail 1))) (down_under_groups fails_down) refl ((tt, tt, refl), (((omega arith, ((_, refl), tt)), ((refl, (omega arith, omega arith)), (_, refl), refl), refl), tt))
+back_fails = whole (sent_back_for false) (down_under (verb.AtNode 1 (node_verb.Fail 1))) (down_under_groups fails_down) refl ((tt, tt, refl), (((omega arith, ((_, refl), tt)), ((refl, (omega arith, omega arith)), inl (_, refl), refl), refl), tt))
     (shut_heard (sent_back_for false) (down_under (verb.AtNode 1 (node_verb.Fail 1))) (down_under_groups fails_down) (λ n c. refl) refl)
 
 -- where the link was not sent back there is none
@@ -139,14 +140,22 @@ back_fails = whole (sent_back_for false) (down_under (verb.AtNode 1 (node_verb.F
 none_back : IsBack None → ⊥
 none_back b = let e : ◌≡◌ {A = Back} None (Some b.0) = b.1 in cc
 
+-- nor is a record owed, where no vBucket takes its branch over
+unowed : (lines : List Event) → IsOwed None lines → list_any is_rise lines ≡ false → ⊥
+unowed lines owed level = ⊎_elim none_back (λ rises. let z : false ≡ true = sym level ∙ rises in cc) owed
+
+-- what was read when the node 1 has this arm
+abbrev behind : NodeVerb → Chronicle
+behind arm = at_line (after_group (at_line (dialed_for false) 1) (verb.AtNode 1 arm) [] answer.Ok) 2
+
 pub unsent_failed : (lines : List Event) → LawfulGroups (dialed_for false) (down_under (verb.AtNode 1 (node_verb.Fail 1))) (down_under_groups (lines, answer.No cause.Disk)) → ⊥
-unsent_failed lines l = none_back l.1.0.1.1
+unsent_failed lines l = unowed lines l.1.0.1.1 (no_rise (behind (node_verb.Fail 1)) 1 10 lines l.1.0.5)
 
 pub unsent_stopped : (lines : List Event) → LawfulGroups (dialed_for false) (down_under (verb.AtNode 1 (node_verb.Stop 1 Old))) (down_under_groups (lines, answer.No cause.Stopped)) → ⊥
-unsent_stopped lines l = none_back l.1.0.1.1
+unsent_stopped lines l = unowed lines l.1.0.1.1 (no_rise (behind (node_verb.Stop 1 Old)) 1 10 lines l.1.0.5)
 
-pub unsent_closed : (lines : List Event) → LawfulAnswer (dialed_for true) (verb.AtLink 1 (link_verb.Down 10)) lines (answer.No cause.Closed) → ⊥
-unsent_closed lines l = none_back l.1
+pub unsent_closed : (lines : List Event) → LawfulHere (dialed_for true) (verb.AtLink 1 (link_verb.Down 10)) (lines, answer.No cause.Closed) → ⊥
+unsent_closed lines l = unowed lines l.0.1.1 (no_rise (at_line (dialed_for true) 1) 1 10 lines l.0.5)
 
 pub unsent_back : (closed : Bool) → LawfulAnswer (dialed_for closed) (verb.AtLink 1 (link_verb.Down 10)) (back_line ∷ []) (answer.Number 10) → ⊥
 unsent_back closed l = let b = (l.1 refl).0 in none_back (b.0, b.1)

@@ -11,6 +11,7 @@ use Rattle.vb_types.proofs.Laws.{get-insert_other, get-insert_same}
 use Rattle.vb_types.specs.Images.{settled}
 use Rattle.vb_events.specs.declared.event.Event.TheVariants as event
 use Rattle.vb_types.specs.declared.role.Role.TheVariants as role
+use Rattle.transcript_law.proofs.lines.Rises.{made_here}
 
 -- a change below one that its vBucket holds
 pub later : LawfulLine later_held (change_line 0) [] → ⊥
@@ -147,7 +148,7 @@ back_known told n v named to log e = at_here told.log_at n v (option_map (kept_t
 
 -- a vBucket that is sealed twice behind a change
 pub seals_twice : Lawful set_and_sealed (sealed_groups 1 0)
-seals_twice = both_stored empty_chronicle set_and_sealed (sealed_groups 1 0) refl (tt, (tt, ((record { new = tt; newest = refl; last = refl; leaves = refl }, (record { another = λ e. cc; anew = λ e. refl }, tt)), ((search (arith, first_next), ((refl, λ z. first_told _ _ _ refl refl refl), tt)), (tt, (tt, tt)))))) (tt, (refl, ((refl, tt), (refl, (refl, (refl, tt)))))) (refl, (refl, (refl, (refl, (refl, (refl, tt))))))
+seals_twice = both_stored empty_chronicle set_and_sealed (sealed_groups 1 0) refl (tt, (tt, ((record { new = tt; newest = refl; last = refl; leaves = refl }, (record { another = λ e. cc; anew = λ e. made_here _ _ _ 5 refl refl refl; pending = λ e. cc }, tt)), ((search (arith, first_next), ((refl, λ z. first_told _ _ _ refl refl refl), tt)), (tt, (tt, tt)))))) (tt, (refl, ((refl, tt), (refl, (refl, (refl, tt)))))) (refl, (refl, (refl, (refl, (refl, (refl, tt))))))
     (heard_then _ _ _ _ _ refl silent_start (λ s. heard_then _ _ _ _ _ refl s (λ s. heard_then _ _ _ _ _ refl s (λ s. seven_then _ 4 4 5 _ one_change _ _ refl refl s (λ s e. silent_heard _ _ _ s refl))))) (tt, (tt, (tt, (made_stored 5 1 one_change refl, (tt, (tt, tt))))))
 
 first_byte : List ℕ → ℕ

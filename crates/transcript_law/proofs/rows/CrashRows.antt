@@ -31,6 +31,7 @@ use Rattle.vb_events.specs.declared.event.Cause.TheVariants as cause
 use Rattle.vb_events.specs.declared.event.Event.TheVariants as event
 use Rattle.vb_types.specs.declared.journal.Batch.{Batch}
 use Rattle.transcript_law.specs.LinesTold.{LastLine}
+use Rattle.transcript_law.proofs.lines.Rises.{made_here}
 
 -- what was read when the change was made
 abbrev pub read : Chronicle
@@ -40,7 +41,7 @@ read = known_after empty_chronicle (one_made []) (one_made_groups [])
 pub lawful_from_heard : (more : List Verb) (told : List Said) → in_order read (numbered 5 more) (groups_from_number 5 told) ≡ true → AreParts read (numbered 5 more) (groups_from_number 5 told)
     → (Silent read.clients_at → (read.clients_at 0 1).asking ≡ blank_after 1 → AreHeard read (numbered 5 more) (groups_from_number 5 told)) → AreStored (groups_from_number 5 told) → LawfulAfter more told
 lawful_from_heard more told o l heard stored = whole_stored empty_chronicle (one_made more) (one_made_groups told) o
-    ((tt, tt, refl), ((tt, refl, refl), (((record { new = tt; newest = refl; last = refl; leaves = refl }, (record { another = λ e. cc; anew = λ e. refl }, tt)), (refl, tt), refl), (((first_change _ _ _ _ _, ((refl, λ z. first_told _ _ _ refl refl refl), tt)), refl, refl), l))))
+    ((tt, tt, refl), ((tt, refl, refl), (((record { new = tt; newest = refl; last = refl; leaves = refl }, (record { another = λ e. cc; anew = λ e. made_here _ _ _ 5 refl refl refl; pending = λ e. cc }, tt)), (refl, tt), refl), (((first_change _ _ _ _ _, ((refl, λ z. first_told _ _ _ refl refl refl), tt)), refl, refl), l))))
     (heard_then _ _ _ _ _ refl silent_start (λ s. heard_then _ _ _ _ _ refl s (λ s. heard_then _ _ _ _ _ refl s (λ s. seven_then _ 4 4 5 _ one_change _ _ refl refl s heard)))) (tt, (tt, (tt, (made_stored 5 1 one_change refl, stored))))
 
 -- where no client sends more, none is left without an answer
@@ -138,7 +139,7 @@ elsewhere said l = l.1.1.1.1.1.1.0.0.0
 -- calls are counted from the arm on, and it fires once
 pub counted : LawfulAfter save_and_dead (save_and_dead_groups (failed_behind (dead_line ∷ [])))
 counted = lawful_from_made save_and_dead (save_and_dead_groups (failed_behind (dead_line ∷ []))) refl
-    (taken _, ((tt, tt, refl), ((tt, ((refl, omega arith), (_, refl)), refl), (((record { another = λ e. cc; anew = λ e. cc }, (omega arith, tt)), (refl, (omega arith, omega arith)), refl), tt))))
+    (taken _, ((tt, tt, refl), ((tt, ((refl, omega arith), (_, refl)), refl), (((record { another = λ e. cc; anew = λ e. cc; pending = λ e. cc }, (omega arith, tt)), (refl, (omega arith, omega arith)), refl), tt))))
 
 pub counted_ok : LawfulAfter save_and_dead (save_and_dead_groups (ok (dead_line ∷ []))) → ⊥
 counted_ok l = let e : 4 < 1 = l.1.1.1.1.1.1.1.0.1.1 in omega (arith, e)
@@ -148,14 +149,14 @@ followed = (event.Role 0 0 Role.Replica ∷ [], answer.No cause.Closed)
 
 pub once : LawfulAfter (dead_under (verb.AtNode 0 (node_verb.Fail 1)) (verb.AtVb 0 0 vb_verb.Follow)) (dead_under_groups (failed_behind (dead_line ∷ [])) followed)
 once = lawful_from_made (dead_under (verb.AtNode 0 (node_verb.Fail 1)) (verb.AtVb 0 0 vb_verb.Follow)) (dead_under_groups (failed_behind (dead_line ∷ [])) followed) refl
-    ((tt, tt, refl), (((record { another = λ e. cc; anew = λ e. cc }, (omega arith, tt)), (refl, (omega arith, omega arith)), refl), (((record { another = λ e. cc; anew = λ e. cc }, tt), refl, refl), tt)))
+    ((tt, tt, refl), (((record { another = λ e. cc; anew = λ e. cc; pending = λ e. cc }, (omega arith, tt)), (refl, (omega arith, omega arith)), refl), (((record { another = λ e. cc; anew = λ e. cc; pending = λ e. cc }, tt), refl, refl), tt)))
 
 pub twice : LawfulAfter (dead_under (verb.AtNode 0 (node_verb.Fail 1)) (verb.AtVb 0 0 vb_verb.Follow)) (dead_under_groups (failed_behind (dead_line ∷ [])) (failed_behind (event.Role 0 0 Role.Replica ∷ []))) → ⊥
 twice l = l.1.1.1.1.1.1.0.0.1.0
 
 pub stopped_once : LawfulAfter (dead_under (verb.AtNode 0 (node_verb.Stop 1 Old)) (verb.AtNode 0 (node_verb.Start (7 ∷ [])))) (dead_under_groups (stopped_behind (dead_line ∷ [])) (restarted 0))
 stopped_once = lawful_from_made (dead_under (verb.AtNode 0 (node_verb.Stop 1 Old)) (verb.AtNode 0 (node_verb.Start (7 ∷ [])))) (dead_under_groups (stopped_behind (dead_line ∷ [])) (restarted 0)) refl
-    ((tt, tt, refl), (((record { another = λ e. cc; anew = λ e. cc }, ((omega arith, one_closed), ((refl, cut_off), tt))), (refl, (omega arith, omega arith)), refl), (((record { new = (λ e. omega arith, tt); newest = refl; last = refl; leaves = refl }, tt), ((λ v e. first v (branch_line 0 0 ∷ []) (λ f. no_role Role.Active (rw f at e)) (inl (refl, refl))), tt), refl), tt)))
+    ((tt, tt, refl), (((record { another = λ e. cc; anew = λ e. cc; pending = λ e. cc }, ((omega arith, one_closed), ((refl, cut_off), tt))), (refl, (omega arith, omega arith)), refl), (((record { new = (λ e. omega arith, tt); newest = refl; last = refl; leaves = refl }, tt), ((λ v e. first v (branch_line 0 0 ∷ []) (λ f. no_role Role.Active (rw f at e)) (inl (refl, refl))), tt), refl), tt)))
 
 pub stopped_twice : LawfulAfter (dead_under (verb.AtNode 0 (node_verb.Stop 1 Old)) (verb.AtNode 0 (node_verb.Start (7 ∷ [])))) (dead_under_groups (stopped_behind (dead_line ∷ [])) (stopped_behind (branch_line 0 0 ∷ []))) → ⊥
 stopped_twice l = l.1.1.1.1.1.1.0.0.1.0.0
@@ -303,7 +304,7 @@ old_branch_shown at l = let e : ◌≡◌ {A = Option ℕ} (Some 7) (Some 5) = (
 
 pub dead : LawfulAfter (crash_behind (verb.AtVb 0 0 vb_verb.Dead ∷ []) Old [] (verb.AtVb 0 0 vb_verb.Show)) (crash_behind_groups (ok (dead_line ∷ []) ∷ []) (ok []) (none_shown Role.Dead 5))
 dead = lawful_from_made (crash_behind (verb.AtVb 0 0 vb_verb.Dead ∷ []) Old [] (verb.AtVb 0 0 vb_verb.Show)) (crash_behind_groups (ok (dead_line ∷ []) ∷ []) (ok []) (none_shown Role.Dead 5)) refl
-    (((record { another = λ e. cc; anew = λ e. cc }, tt), (refl, tt), refl), ((((refl, cut_off), tt), one_closed, refl), ((tt, ((λ v e. either_way v (λ t. absurd (not_active (rw t at e))) (λ f. absurd (no_role Role.Active (rw f at e)))), tt), refl), (((shown _ _ _ refl refl refl refl nothing refl refl as_made (λ _. refl) (λ e. cc), tt), tt, refl), tt))))
+    (((record { another = λ e. cc; anew = λ e. cc; pending = λ e. cc }, tt), (refl, tt), refl), ((((refl, cut_off), tt), one_closed, refl), ((tt, ((λ v e. either_way v (λ t. absurd (not_active (rw t at e))) (λ f. absurd (no_role Role.Active (rw f at e)))), tt), refl), (((shown _ _ _ refl refl refl refl nothing refl refl as_made (λ _. refl) (λ e. cc), tt), tt, refl), tt))))
 
 pub dead_replica : LawfulAfter (crash_behind (verb.AtVb 0 0 vb_verb.Dead ∷ []) Old [] (verb.AtVb 0 0 vb_verb.Show)) (crash_behind_groups (ok (dead_line ∷ []) ∷ []) (ok []) (none_shown Role.Replica 5)) → ⊥
 dead_replica l = let e : ◌≡◌ {A = Option Role} (Some Role.Dead) (Some Role.Replica) = l.1.1.1.1.1.1.1.0.0.0.role in cc
@@ -313,7 +314,7 @@ dead_active l = not_active l.1.1.1.1.1.1.1.0.0.0.role
 
 pub unnoted : LawfulAfter (dead_unwritten Old) (dead_unwritten_groups (restarted 0) (none_shown Role.Active 7))
 unnoted = lawful_from_made (dead_unwritten Old) (dead_unwritten_groups (restarted 0) (none_shown Role.Active 7)) refl
-    ((tt, tt, refl), (((record { another = λ e. cc; anew = λ e. cc }, (omega arith, tt)), (refl, (omega arith, omega arith)), refl), ((((refl, cut_off), tt), one_closed, refl), (((record { new = (λ e. omega arith, tt); newest = refl; last = refl; leaves = refl }, tt), ((λ v e. first v (branch_line 0 0 ∷ []) (λ f. no_role Role.Active (rw f at e)) (inl (refl, refl))), tt), refl), (((shown _ _ _ refl refl refl refl nothing refl refl as_made (λ _. refl) (λ _. refl), tt), tt, refl), tt)))))
+    ((tt, tt, refl), (((record { another = λ e. cc; anew = λ e. cc; pending = λ e. cc }, (omega arith, tt)), (refl, (omega arith, omega arith)), refl), ((((refl, cut_off), tt), one_closed, refl), (((record { new = (λ e. omega arith, tt); newest = refl; last = refl; leaves = refl }, tt), ((λ v e. first v (branch_line 0 0 ∷ []) (λ f. no_role Role.Active (rw f at e)) (inl (refl, refl))), tt), refl), (((shown _ _ _ refl refl refl refl nothing refl refl as_made (λ _. refl) (λ _. refl), tt), tt, refl), tt)))))
 
 pub unnoted_dead : (at : ℕ) → LawfulAfter (dead_unwritten Old) (dead_unwritten_groups (restarted at) (none_shown Role.Dead 7)) → ⊥
 unnoted_dead at l = let e : ◌≡◌ {A = Option Role} (Some Role.Active) (Some Role.Dead) = l.1.1.1.1.1.1.1.1.0.0.0.role in cc
@@ -323,7 +324,7 @@ unnoted_silent last said l = l.1.1.1.1.1.1.1.0.1.0 0 refl
 
 pub found : LawfulAfter (dead_unwritten New) (dead_unwritten_groups (ok []) (none_shown Role.Dead 5))
 found = lawful_from_made (dead_unwritten New) (dead_unwritten_groups (ok []) (none_shown Role.Dead 5)) refl
-    ((tt, tt, refl), (((record { another = λ e. cc; anew = λ e. cc }, (omega arith, tt)), (refl, (omega arith, omega arith)), refl), ((((refl, cut_off), tt), one_closed, refl), ((tt, ((λ v e. either_way v (λ t. absurd (not_active (rw t at e))) (λ f. absurd (no_role Role.Active (rw f at e)))), tt), refl), (((shown _ _ _ refl refl refl refl nothing refl refl as_made (λ _. refl) (λ e. cc), tt), tt, refl), tt)))))
+    ((tt, tt, refl), (((record { another = λ e. cc; anew = λ e. cc; pending = λ e. cc }, (omega arith, tt)), (refl, (omega arith, omega arith)), refl), ((((refl, cut_off), tt), one_closed, refl), ((tt, ((λ v e. either_way v (λ t. absurd (not_active (rw t at e))) (λ f. absurd (no_role Role.Active (rw f at e)))), tt), refl), (((shown _ _ _ refl refl refl refl nothing refl refl as_made (λ _. refl) (λ e. cc), tt), tt, refl), tt)))))
 
 pub found_active : LawfulAfter (dead_unwritten New) (dead_unwritten_groups (ok []) (none_shown Role.Active 5)) → ⊥
 found_active l = not_active l.1.1.1.1.1.1.1.1.0.0.0.role
@@ -434,13 +435,13 @@ commits_other l =
     two_numbers 1 2 (omega arith) (sym (ap (λ (p : Pend). p.seq) same ∙ x.2))
 
 pub unmade : Lawful (made_under 1 New) (made_under_groups (ok []) ([], answer.No cause.UnknownVb))
-unmade = whole empty_chronicle (made_under 1 New) (made_under_groups (ok []) ([], answer.No cause.UnknownVb)) refl ((tt, tt, refl), ((tt, tt, refl), (((record { new = tt; newest = refl; last = refl; leaves = refl }, (record { another = λ e. cc; anew = λ e. refl }, (omega arith, tt))), (refl, (omega arith, omega arith)), refl), ((tt, (λ c. refl), refl), ((tt, ((λ v e. either_way v (λ t. absurd (no_role Role.Active (rw t at e))) (λ f. absurd (no_role Role.Active (rw f at e)))), tt), refl), ((tt, tt, refl), tt)))))) (silent_heard empty_chronicle (made_under 1 New) (made_under_groups (ok []) ([], answer.No cause.UnknownVb)) silent_start refl)
+unmade = whole empty_chronicle (made_under 1 New) (made_under_groups (ok []) ([], answer.No cause.UnknownVb)) refl ((tt, tt, refl), ((tt, tt, refl), (((record { new = tt; newest = refl; last = refl; leaves = refl }, (record { another = λ e. cc; anew = λ e. made_here _ _ _ 5 refl refl refl; pending = λ e. cc }, (omega arith, tt))), (refl, (omega arith, omega arith)), refl), ((tt, (λ c. refl), refl), ((tt, ((λ v e. either_way v (λ t. absurd (no_role Role.Active (rw t at e))) (λ f. absurd (no_role Role.Active (rw f at e)))), tt), refl), ((tt, tt, refl), tt)))))) (silent_heard empty_chronicle (made_under 1 New) (made_under_groups (ok []) ([], answer.No cause.UnknownVb)) silent_start refl)
 
 pub unmade_shown : (said : Role) (uuid : ℕ) → Lawful (made_under 1 New) (made_under_groups (ok []) (none_shown said uuid)) → ⊥
 unmade_shown said uuid l = no_role said l.1.1.1.1.1.0.0.0.role
 
 pub late : Lawful (made_under 4 New) (made_under_groups (restarted 0) (none_shown Role.Active 7))
-late = whole empty_chronicle (made_under 4 New) (made_under_groups (restarted 0) (none_shown Role.Active 7)) refl ((tt, tt, refl), ((tt, tt, refl), (((record { new = tt; newest = refl; last = refl; leaves = refl }, (record { another = λ e. cc; anew = λ e. refl }, (omega arith, tt))), (refl, (omega arith, omega arith)), refl), ((tt, (λ c. refl), refl), (((record { new = (λ e. omega arith, tt); newest = refl; last = refl; leaves = refl }, tt), ((λ v e. first v (branch_line 0 0 ∷ []) (λ f. no_role Role.Active (rw f at e)) (inl (refl, refl))), tt), refl), (((shown _ _ _ refl refl refl refl nothing refl refl as_made (λ _. refl) (λ _. refl), tt), tt, refl), tt)))))) (silent_heard empty_chronicle (made_under 4 New) (made_under_groups (restarted 0) (none_shown Role.Active 7)) silent_start refl)
+late = whole empty_chronicle (made_under 4 New) (made_under_groups (restarted 0) (none_shown Role.Active 7)) refl ((tt, tt, refl), ((tt, tt, refl), (((record { new = tt; newest = refl; last = refl; leaves = refl }, (record { another = λ e. cc; anew = λ e. made_here _ _ _ 5 refl refl refl; pending = λ e. cc }, (omega arith, tt))), (refl, (omega arith, omega arith)), refl), ((tt, (λ c. refl), refl), (((record { new = (λ e. omega arith, tt); newest = refl; last = refl; leaves = refl }, tt), ((λ v e. first v (branch_line 0 0 ∷ []) (λ f. no_role Role.Active (rw f at e)) (inl (refl, refl))), tt), refl), (((shown _ _ _ refl refl refl refl nothing refl refl as_made (λ _. refl) (λ _. refl), tt), tt, refl), tt)))))) (silent_heard empty_chronicle (made_under 4 New) (made_under_groups (restarted 0) (none_shown Role.Active 7)) silent_start refl)
 
 pub late_shown : (said : Role) (uuid : ℕ) → Lawful (made_under 4 Old) (made_under_groups (ok []) (none_shown said uuid)) → ⊥
 late_shown said uuid l = no_role said l.1.1.1.1.1.0.0.0.role

@@ -153,10 +153,10 @@ roll_other : LawfulRoll both_sent_back 1 1 1 0
 roll_other = ((2, 0, refl, refl), record { saved = refl; below = omega arith; farthest = λ n s most. omega (arith, s) })
 
 pub own : LawfulNext (verb.AtLink 1 (link_verb.Down 10)) (back_line ∷ [], answer.Number 10)
-own = whole both_sent_back (numbered 1 (verb.AtLink 1 (link_verb.Down 10) ∷ [])) (groups_from_number 1 ((back_line ∷ [], answer.Number 10) ∷ [])) refl (((roll_one, tt), (omega arith, λ e. ((_, refl, refl), (refl, tt))), refl), tt) (silent_heard both_sent_back (numbered 1 (verb.AtLink 1 (link_verb.Down 10) ∷ [])) (groups_from_number 1 ((back_line ∷ [], answer.Number 10) ∷ [])) (λ n c. refl) refl)
+own = whole both_sent_back (numbered 1 (verb.AtLink 1 (link_verb.Down 10) ∷ [])) (groups_from_number 1 ((back_line ∷ [], answer.Number 10) ∷ [])) refl (((roll_one, tt), (omega arith, λ e. ((_, refl, refl), (refl, tt)), λ e. cc), refl), tt) (silent_heard both_sent_back (numbered 1 (verb.AtLink 1 (link_verb.Down 10) ∷ [])) (groups_from_number 1 ((back_line ∷ [], answer.Number 10) ∷ [])) (λ n c. refl) refl)
 
 pub other_own : LawfulNext (verb.AtLink 2 (link_verb.Down 10)) (other_back ∷ [], answer.Number 10)
-other_own = whole both_sent_back (numbered 1 (verb.AtLink 2 (link_verb.Down 10) ∷ [])) (groups_from_number 1 ((other_back ∷ [], answer.Number 10) ∷ [])) refl (((roll_other, tt), (omega arith, λ e. ((_, refl, refl), (refl, tt))), refl), tt) (silent_heard both_sent_back (numbered 1 (verb.AtLink 2 (link_verb.Down 10) ∷ [])) (groups_from_number 1 ((other_back ∷ [], answer.Number 10) ∷ [])) (λ n c. refl) refl)
+other_own = whole both_sent_back (numbered 1 (verb.AtLink 2 (link_verb.Down 10) ∷ [])) (groups_from_number 1 ((other_back ∷ [], answer.Number 10) ∷ [])) refl (((roll_other, tt), (omega arith, λ e. ((_, refl, refl), (refl, tt)), λ e. cc), refl), tt) (silent_heard both_sent_back (numbered 1 (verb.AtLink 2 (link_verb.Down 10) ∷ [])) (groups_from_number 1 ((other_back ∷ [], answer.Number 10) ∷ [])) (λ n c. refl) refl)
 
 -- what is told is what the link waits for
 same_one : (x y what : ℕ × (ℕ × Record)) → Some x ≡ Some what → y ∷ [] ≡ what ∷ [] → x ≡ y

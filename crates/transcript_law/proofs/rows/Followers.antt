@@ -20,6 +20,9 @@ use Rattle.script_text.specs.declared.verb.VbVerb.TheVariants as vb_verb
 use Rattle.script_text.specs.declared.verb.LinkVerb.{LinkVerb}
 use Rattle.script_text.specs.declared.verb.LinkVerb.TheVariants as link_verb
 use Rattle.transcript_law.specs.LinesTold.{LastLine}
+use Rattle.transcript_law.proofs.lines.Rises.{made_here}
+use Rattle.transcript_law.proofs.verbs.Handing.{no_rise}
+use Rattle.transcript_law.specs.Chronicles.{is_rise}
 
 infixr 2 ◌▹◌
 -- a pair
@@ -142,6 +145,10 @@ AskedSo asked adopted sent got shown = TellsIf (at_link (Some own_dial) 1 (link_
 told_in : (r : Chronicle) (number : ℕ) (what : LinkVerb) (lines : List Event) → r.dial_of 1 ≡ Some own_dial → TellsIf (at_link (Some own_dial) 1 what) lines → TellsOf (at_line r number) (verb.AtLink 1 what) lines
 told_in r number what lines dialed t = subst (λ (o : Option Dial). are_told (at_link o 1 what) (is_of_end (at_line r number)) lines ≡ true) (sym dialed) (t (is_of_end (at_line r number)))
 
+-- and by its bytes no vBucket becomes active
+level_in : (r : Chronicle) (number : ℕ) (lines : List Event) → r.dial_of 1 ≡ Some own_dial → TellsIf (at_link (Some own_dial) 1 (link_verb.Down 1000)) lines → list_any is_rise lines ≡ true → ⊥
+level_in r number lines dialed t rises = let z : false ≡ true = sym (no_rise (at_line r number) 1 1000 lines (told_in r number (link_verb.Down 1000) lines dialed t)) ∙ rises in cc
+
 -- a show is carried out or refused
 carried : (shown : List Event) → IsCarriedOut (show_answer shown)
 carried [] = tt
@@ -167,8 +174,8 @@ from_asked : (asked adopted sent got shown : List Event) → frames_in_lines sen
     (list_any is_taking adopted ≡ true → AllAcknowledged (after_lines (at_line (behind 9 told) 10) adopted) 1) × (list_any is_taking got ≡ true → AllAcknowledged (after_lines (at_line (behind 11 told) 12) got) 1)) → Lawful two_followed (followed_groups asked adopted sent got shown)
 from_asked asked adopted sent got shown few none shut straight sound so told_so l f acks = let told = followed_groups asked adopted sent got shown in both_left empty_chronicle two_followed (followed_groups asked adopted sent got shown)
     (λ i. told_so.0 (is_of_end (at_line before_asked 9)) i && (shut.0 i && (told_in (behind 9 told) 10 (link_verb.Down 1000) adopted so.0 told_so.1 i && (shut.1 i && (told_in (behind 10 told) 11 (link_verb.Pump 9) sent so.1 told_so.2 i && (shut.2 i && (told_in (behind 11 told) 12 (link_verb.Down 1000) got so.2 told_so.3 i && (shut.3 i && (shows_so shown i && (told_so.4 (is_of_end (at_line (behind 12 told) 13)) i && (told_so.5 i && (shut.4 i && true))))))))))))
-    (tt ▹ tt ▹ tt ▹ (record { new = tt; newest = refl; last = refl; leaves = refl } ▹ record { another = λ e. cc; anew = λ e. refl } ▹ tt) ▹ (record { another = λ e. cc; anew = λ e. cc } ▹ tt) ▹ (search (arith, first_next) ▹ (refl, λ z. first_told _ _ _ refl refl refl) ▹ tt) ▹ (search (arith, second_next) ▹ (refl, λ z. next_told _ _ _ (nine_sent (once_set.clients_at 0 1) seven_past) refl refl) ▹ tt) ▹ tt ▹ l)
-    (tt ▹ tt ▹ refl ▹ (refl ▹ tt) ▹ (refl ▹ tt) ▹ refl ▹ refl ▹ tt ▹ omega arith ▹ unbound (behind 9 told) (verb.AtLink 1 (link_verb.Down 1000)) adopted (answer.Number 100) (ap if_over so.0) (omega arith, λ e. absurd (straight e)) ▹ unbound (behind 10 told) (verb.AtLink 1 (link_verb.Pump 9)) sent (answer.Pulled (frames_in_lines sent) why.Full) (ap if_over so.1) (record { told = refl; most = omega (arith, few); all = λ e. cc; only = λ e. absurd (omega (arith, few, e)) }) ▹ unbound (behind 11 told) (verb.AtLink 1 (link_verb.Down 1000)) got (answer.Number 100) (ap if_over so.2) (omega arith, λ e. absurd (sound e)) ▹ unbound (behind 12 told) (verb.AtVb 1 0 vb_verb.Show) shown (show_answer shown) (ap if_down so.3) (carried shown) ▹ tt)
+    (tt ▹ tt ▹ tt ▹ (record { new = tt; newest = refl; last = refl; leaves = refl } ▹ record { another = λ e. cc; anew = λ e. made_here _ _ _ 5 refl refl refl; pending = λ e. cc } ▹ tt) ▹ (record { another = λ e. cc; anew = λ e. cc; pending = λ e. cc } ▹ tt) ▹ (search (arith, first_next) ▹ (refl, λ z. first_told _ _ _ refl refl refl) ▹ tt) ▹ (search (arith, second_next) ▹ (refl, λ z. next_told _ _ _ (nine_sent (once_set.clients_at 0 1) seven_past) refl refl) ▹ tt) ▹ tt ▹ l)
+    (tt ▹ tt ▹ refl ▹ (refl ▹ tt) ▹ (refl ▹ tt) ▹ refl ▹ refl ▹ tt ▹ omega arith ▹ unbound (behind 9 told) (verb.AtLink 1 (link_verb.Down 1000)) adopted (answer.Number 100) (ap if_over so.0) (omega arith, λ e. absurd (straight e), λ e. absurd (level_in (behind 9 told) 10 adopted so.0 told_so.1 e)) ▹ unbound (behind 10 told) (verb.AtLink 1 (link_verb.Pump 9)) sent (answer.Pulled (frames_in_lines sent) why.Full) (ap if_over so.1) (record { told = refl; most = omega (arith, few); all = λ e. cc; only = λ e. absurd (omega (arith, few, e)) }) ▹ unbound (behind 11 told) (verb.AtLink 1 (link_verb.Down 1000)) got (answer.Number 100) (ap if_over so.2) (omega arith, λ e. absurd (sound e), λ e. absurd (level_in (behind 11 told) 12 got so.2 told_so.3 e)) ▹ unbound (behind 12 told) (verb.AtVb 1 0 vb_verb.Show) shown (show_answer shown) (ap if_down so.3) (carried shown) ▹ tt)
     (refl ▹ refl ▹ refl ▹ refl ▹ refl ▹ refl ▹ refl ▹ refl ▹ f)
     (tt ▹ tt ▹ tt ▹ tt ▹ tt ▹ tt ▹ tt ▹ tt ▹ (λ z. tt, λ t. tt) ▹ (λ z. tt, acks.0) ▹ tt ▹ (λ z. tt, acks.1) ▹ shows_left (behind 12 told) shown ▹ tt)
     (heard_then _ _ _ _ _ refl silent_start (λ s. heard_then _ _ _ _ _ refl s (λ s. heard_then _ _ _ _ _ refl s (λ s. heard_then _ _ _ _ _ refl s (λ s. heard_then _ _ _ _ _ refl s (λ s. seven_then _ 6 6 5 _ one_change _ _ refl refl s (λ s e. nine_then _ 7 7 5 _ next_change _ _ refl e s (λ s e. silent_heard _ _ _ s refl))))))))

@@ -1,5 +1,5 @@
 -- the groups of a transcript that is judged by hand: their lines, then their answers, and then what they say of arms
-use Rattle.std.specs.Prelude.{◌≡◌, ◌∷◌, ◌==◌, ◌&&◌}
+use Rattle.std.specs.Prelude.{◌≡◌, ◌∷◌, ◌==◌, ◌&&◌, if◌then◌else◌}
 use Rattle.transcript_law.proofs.Words.{Bool, not, true, false, List, [], refl, ap, sym, ◌∙◌, subst, list_any, and_parts, eqb-true, Option, Some, None, Answer, Cause, Event, ScriptLine, Verb, Chronicle, IsAnswered, LawfulGroups, Group}
 use Rattle.transcript_law.specs.{Chronicles.{after_group, ahead, at_line}, Firings.{FiresInLine}, Lawfulness.{LinesFrom}, Standing.{IsStanding, TellsIfBegun}, Tellings.{are_all, are_told, is_of_end, may_tell as may_tell_of}, LinesTold.{after_lines}, Undone.{LeavesNone, NoneToAcknowledge, NoneToPut, NoneToTake, WaitsForOne, is_taking, IsShutFor}}
 use Rattle.vb_events.specs.declared.event.Why.TheVariants as why
@@ -9,6 +9,7 @@ use Rattle.script_text.specs.declared.verb.ClientVerb.TheVariants as client_verb
 use Rattle.script_text.specs.declared.verb.LinkVerb.TheVariants as link_verb
 use Rattle.script_text.specs.declared.verb.NodeVerb.TheVariants as node_verb
 use Rattle.transcript_law.proofs.rows.AskedTests.{asked_so, is_asked_so}
+use Rattle.transcript_law.proofs.verbs.Handing.{SealsKnown, hands_none}
 unfoldable use Rattle.transcript_law.proofs.rows.Silent.{AreHeard}
 use Rattle.transcript_law.proofs.lines.Stored.{is_settled, settled_next}
 use Rattle.transcript_law.specs.{AnsweredWrites.{AllToldNext}, Breaks.{AllBreak, ClosesAsBroken, is_closing}, StreamsTold.{ClientsKnown}}
@@ -122,13 +123,27 @@ nothing_closed chronicle (verb.AtClient n c (client_verb.Bytes bytes)) = λ e. c
 nothing_closed chronicle (verb.AtNode n (node_verb.Crash out)) = tt
 nothing_closed chronicle other = tt
 
+-- and seals as it is known
+abbrev pub seals_so : Chronicle → Verb → Answer → Bool
+seals_so chronicle (verb.AtVb n v vb_verb.Seal) answer.Ok = false
+seals_so chronicle (verb.AtVb n v vb_verb.Seal) (answer.Number count) = count == (if chronicle.open_at n v then 1 else 0)
+seals_so chronicle (verb.AtVb n v vb_verb.Seal) (answer.Pulled count said) = false
+seals_so chronicle asked said = true
+
+sealed_so : (chronicle : Chronicle) (asked : Verb) (said : Answer) → seals_so chronicle asked said ≡ true → SealsKnown chronicle asked said
+sealed_so chronicle (verb.AtVb n v vb_verb.Seal) answer.Ok e = cc
+sealed_so chronicle (verb.AtVb n v vb_verb.Seal) (answer.Number count) e = eqb-true count (if chronicle.open_at n v then 1 else 0) e
+sealed_so chronicle (verb.AtVb n v vb_verb.Seal) (answer.Pulled count said) e = cc
+sealed_so chronicle (verb.AtVb n v vb_verb.Seal) (answer.No why) e = tt
+sealed_so chronicle other said e = tt
+
 abbrev pub in_line : Chronicle → List ScriptLine → List Group → Bool
 in_line chronicle [] [] = true
 in_line chronicle (line ∷ lines) [] = false
 in_line chronicle [] (group ∷ groups) = false
 in_line chronicle (line ∷ lines) (group ∷ groups) =
     group.line == line.line
-    && (is_answered_so group.events group.answer && (are_told (may_tell_of (at_line chronicle line.line) line.verb) (is_of_end (at_line chronicle line.line)) group.events && (is_asked_so line.verb group.events group.answer && (closes_none line.verb group.events && in_line (after_group (at_line chronicle line.line) line.verb group.events group.answer) lines groups))))
+    && (is_answered_so group.events group.answer && (are_told (may_tell_of (at_line chronicle line.line) line.verb) (is_of_end (at_line chronicle line.line)) group.events && (is_asked_so line.verb group.events group.answer && (closes_none line.verb group.events && (seals_so (at_line chronicle line.line) line.verb group.answer && in_line (after_group (at_line chronicle line.line) line.verb group.events group.answer) lines groups)))))
 
 -- and leaves nothing undone, by its line alone
 abbrev pub all_done : List ScriptLine → List Group → Bool
@@ -200,8 +215,9 @@ whole_left chronicle (line ∷ lines) (group ∷ groups) o p d h s =
     let two = and_parts (is_answered_so group.events group.answer) _ one.1 in
     let three = and_parts (are_told (may_tell_of (at_line chronicle line.line) line.verb) (is_of_end (at_line chronicle line.line)) group.events) _ two.1 in
     let four = and_parts (is_asked_so line.verb group.events group.answer) _ three.1 in
-    let five = and_parts (closes_none line.verb group.events) (in_line next lines groups) four.1 in
-    ((p.0.0, p.0.1, p.0.2, eqb-true group.line line.line one.0, tells_so group.events group.answer two.0, three.0, asked_so line.verb group.events group.answer four.0, d.0, h.0, s.0, breaks_so (at_line chronicle line.line) line.verb group.events five.0), whole_left next lines groups five.1 p.1 d.1 h.1 s.1)
+    let five = and_parts (closes_none line.verb group.events) _ four.1 in
+    let six = and_parts (seals_so (at_line chronicle line.line) line.verb group.answer) (in_line next lines groups) five.1 in
+    ((p.0.0, p.0.1, p.0.2, eqb-true group.line line.line one.0, tells_so group.events group.answer two.0, hands_none (at_line chronicle line.line) line.verb group.events group.answer three.0 (sealed_so (at_line chronicle line.line) line.verb group.answer six.0), asked_so line.verb group.events group.answer four.0, d.0, h.0, s.0, breaks_so (at_line chronicle line.line) line.verb group.events five.0), whole_left next lines groups six.1 p.1 d.1 h.1 s.1)
 
 pub whole_stored : (chronicle : Chronicle) (script : List ScriptLine) (told : List Group) → in_order chronicle script told ≡ true → AreParts chronicle script told → AreHeard chronicle script told → AreStored told → LawfulGroups chronicle script told
 whole_stored chronicle script told o p h s = let two = and_parts (in_line chronicle script told) (all_done script told) o in whole_left chronicle script told two.0 p (all_left chronicle script told two.1) h s

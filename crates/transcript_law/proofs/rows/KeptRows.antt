@@ -64,7 +64,7 @@ unfolding spelling frames_in first_frame frame_of read_of frame_row shape_fault 
 unsure = (
   nine_asked,
   (
-    record { another = λ e. cc; anew = λ e. cc },
+    record { another = λ e. cc; anew = λ e. cc; pending = λ e. cc },
     (
       λ z. inl (record {
         question = _;

@@ -113,7 +113,7 @@ pub any_log : LawfulFrom forgotten (log_lines (log_of 6))
 any_log = (tt, tt)
 
 pub any_role : LawfulFrom forgotten (Event.Role 0 0 Role.Dead ∷ [])
-any_role = (record { another = λ e. cc; anew = λ e. cc }, tt)
+any_role = (record { another = λ e. cc; anew = λ e. cc; pending = λ e. cc }, tt)
 
 pub any_change : LawfulFrom forgotten (change_line 0 ∷ [])
 any_change = (record { active = tt; writer = record { made_or_took = refl; on_branch = refl }; above_branch = omega arith; above_forks = (λ e. omega arith, tt); made = first_next; fulfils = λ prepared doc deleted e. cc; backed = λ prepared doc deleted e. cc; asked = λ level doc deleted e. cc; aborts = λ prepared e. cc }, tt)

@@ -75,7 +75,7 @@ unasked_before l =
 pub unsure : LawfulBeside (durably 1 9 6) (turned role.Dead ∷ says SET status.SyncWriteAmbiguous ∷ [])
 unfolding spelling frames_in first_frame frame_of read_of frame_row shape_fault request_of requirement_of
 unsure = (
-  record { another = λ e. cc; anew = λ e. cc },
+  record { another = λ e. cc; anew = λ e. cc; pending = λ e. cc },
   (
     λ z. inl (record {
       question = _;

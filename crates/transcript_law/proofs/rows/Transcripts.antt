@@ -10,6 +10,7 @@ use Rattle.transcript_law.specs.{Contrary.{after_dead_changed, branch_inside, br
 use Rattle.transcript_law.{proofs.rows.{Groups.{both, both_stored}, StoredRows.{made_stored}, NextRows.{first_next}, Sets.{first_told, heard_then, seven_then}, Silent.{AreHeard, Silent, silent_heard, silent_start}}, specs.{Chronicles.{ArmKnown, ClientsKnown, Conns, DiskKnown}, LinesTold.{roles_from}, Prefixes.{known_after}}}
 use Rattle.std.specs.FinMap as finite
 use Rattle.transcript_law.specs.LinesTold.{LastLine}
+use Rattle.transcript_law.proofs.lines.Rises.{made_here}
 
 none_of : {X : Type 0} (xs : List X) → length xs ≡ 0 → xs ≡ []
 none_of [] e = refl
@@ -61,7 +62,7 @@ first_change l d a k q = record { active = refl; writer = record { made_or_took 
 
 pub right : Lawful one_set (one_set_groups 1 0 (value_lines (8 ∷ [])))
 right = both_stored empty_chronicle one_set (one_set_groups 1 0 (value_lines (8 ∷ []))) refl
-    (tt, (tt, ((record { new = tt; newest = refl; last = refl; leaves = refl }, (record { another = λ e. cc; anew = λ e. refl }, tt)), ((first_change _ _ _ _ _, ((refl, λ z. first_told _ _ _ refl refl refl), tt)), ((shown _ _ _ refl refl refl refl image refl refl as_set (λ _. refl) (λ _. refl), (tt, tt)), tt)))))
+    (tt, (tt, ((record { new = tt; newest = refl; last = refl; leaves = refl }, (record { another = λ e. cc; anew = λ e. made_here _ _ _ 5 refl refl refl; pending = λ e. cc }, tt)), ((first_change _ _ _ _ _, ((refl, λ z. first_told _ _ _ refl refl refl), tt)), ((shown _ _ _ refl refl refl refl image refl refl as_set (λ _. refl) (λ _. refl), (tt, tt)), tt)))))
     (tt, (refl, ((refl, tt), (refl, (tt, tt))))) (refl, (refl, (refl, (refl, (refl, tt)))))
     (heard_then _ _ _ _ _ refl silent_start (λ s. heard_then _ _ _ _ _ refl s (λ s. heard_then _ _ _ _ _ refl s (λ s. seven_then _ 4 4 5 _ one_change _ _ refl refl s (λ s e. silent_heard _ _ _ s refl))))) (tt, (tt, (tt, (made_stored 5 1 one_change refl, (tt, tt)))))
 
@@ -95,7 +96,7 @@ seqno l = let e = l.1.1.1.1.0.0.1.0.above_branch in omega arith
 second_new : (l : Option LastLine) (d : ℕ → ℕ → DiskKnown) (a : ℕ → ArmKnown) (k : Conns) (q : ClientsKnown) → (a 0).down ≡ false → LawfulFrom (record (after_lines empty_chronicle (active_vb_lines 0 5)) { last = l; disk_at = d; arm_at = a; conn_at = k; clients_at = q }) (active_vb_lines 1 6)
 second_new l d a k q up = (
   record { new = (λ e. omega arith, tt); newest = refl; last = refl; leaves = refl },
-  (record { another = λ e. let z : ◌≡◌ {A = Option (Option Role)} (Some None) (Some (Some Role.Active)) = sym (ap (λ b. roles_from b (after_lines empty_chronicle (active_vb_lines 0 5)).role_at 0 1 0 1) up) ∙ e in cc; anew = λ e. refl }, tt),
+  (record { another = λ e. let z : ◌≡◌ {A = Option (Option Role)} (Some None) (Some (Some Role.Active)) = sym (ap (λ b. roles_from b (after_lines empty_chronicle (active_vb_lines 0 5)).role_at 0 1 0 1) up) ∙ e in cc; anew = λ e. made_here _ _ _ 6 refl refl refl; pending = λ e. cc }, tt),
 )
 
 change_of_two : (l : Option LastLine) (d : ℕ → ℕ → DiskKnown) (a : ℕ → ArmKnown) (k : Conns) (q : ClientsKnown) → LawfulChange (record (after_lines empty_chronicle (active_vb_lines 0 5 ++ active_vb_lines 1 6)) { last = l; disk_at = d; arm_at = a; conn_at = k; clients_at = q }) 0 0 5 one_change
@@ -112,7 +113,7 @@ from_two : (more : List ScriptLine) (groups : List Group) → (let read : Chroni
 from_two more groups heard = heard_then _ _ _ _ _ refl silent_start (λ s. heard_then _ _ _ _ _ refl s (λ s. heard_then _ _ _ _ _ refl s (λ s. heard_then _ _ _ _ _ refl s heard)))
 
 pub own : Lawful (two_vbs 6 set_one) (two_vbs_groups 6 (sets_groups (change_line 0 ∷ [])))
-own = both_stored empty_chronicle (two_vbs 6 set_one) (two_vbs_groups 6 (sets_groups (change_line 0 ∷ []))) refl (tt, (tt, ((record { new = tt; newest = refl; last = refl; leaves = refl }, (record { another = λ e. cc; anew = λ e. refl }, tt)), (second_new _ _ _ _ _ refl, ((change_of_two _ _ _ _ _, ((refl, λ z. first_told _ _ _ refl refl refl), tt)), tt))))) (tt, (refl, ((refl, tt), ((refl, tt), (refl, tt))))) (refl, (refl, (refl, (refl, (refl, tt))))) (from_two _ _ (λ s. seven_then _ 5 5 5 _ one_change _ _ refl refl s (λ s e. silent_heard _ _ _ s refl))) (tt, (tt, (tt, (tt, (made_stored 5 1 one_change refl, tt)))))
+own = both_stored empty_chronicle (two_vbs 6 set_one) (two_vbs_groups 6 (sets_groups (change_line 0 ∷ []))) refl (tt, (tt, ((record { new = tt; newest = refl; last = refl; leaves = refl }, (record { another = λ e. cc; anew = λ e. made_here _ _ _ 5 refl refl refl; pending = λ e. cc }, tt)), (second_new _ _ _ _ _ refl, ((change_of_two _ _ _ _ _, ((refl, λ z. first_told _ _ _ refl refl refl), tt)), tt))))) (tt, (refl, ((refl, tt), ((refl, tt), (refl, tt))))) (refl, (refl, (refl, (refl, (refl, tt))))) (from_two _ _ (λ s. seven_then _ 5 5 5 _ one_change _ _ refl refl s (λ s e. silent_heard _ _ _ s refl))) (tt, (tt, (tt, (tt, (made_stored 5 1 one_change refl, tt)))))
 
 pub writer : Lawful (two_vbs 6 set_one) (two_vbs_groups 6 (sets_groups (change_line 1 ∷ []))) → ⊥
 writer l = two_writers l.1.1.1.1.0.0.0.writer.made_or_took
@@ -131,7 +132,7 @@ at_fork l = let low = l.above_forks.0 refl in omega arith
 
 pub same : Lawful (two_vbs 6 set_dead_and_show) (two_vbs_groups 6 (shown_after_change 5))
 same = both_stored empty_chronicle (two_vbs 6 set_dead_and_show) (two_vbs_groups 6 (shown_after_change 5)) refl
-    (tt, (tt, ((record { new = tt; newest = refl; last = refl; leaves = refl }, (record { another = λ e. cc; anew = λ e. refl }, tt)), (second_new _ _ _ _ _ refl, ((change_of_two _ _ _ _ _, ((refl, λ z. first_told _ _ _ refl refl refl), tt)), ((record { another = λ e. cc; anew = λ e. cc }, tt), ((shown _ _ _ refl refl refl refl image refl refl as_set (λ _. refl) (λ e. cc), (tt, tt)), tt)))))))
+    (tt, (tt, ((record { new = tt; newest = refl; last = refl; leaves = refl }, (record { another = λ e. cc; anew = λ e. made_here _ _ _ 5 refl refl refl; pending = λ e. cc }, tt)), (second_new _ _ _ _ _ refl, ((change_of_two _ _ _ _ _, ((refl, λ z. first_told _ _ _ refl refl refl), tt)), ((record { another = λ e. cc; anew = λ e. cc; pending = λ e. cc }, tt), ((shown _ _ _ refl refl refl refl image refl refl as_set (λ _. refl) (λ e. cc), (tt, tt)), tt)))))))
     (tt, (refl, ((refl, tt), ((refl, tt), (refl, ((refl, tt), (tt, tt))))))) (refl, (refl, (refl, (refl, (refl, (refl, (refl, tt)))))))
     (from_two _ _ (λ s. seven_then _ 5 5 5 _ one_change _ _ refl refl s (λ s e. silent_heard _ _ _ s refl))) (tt, (tt, (tt, (tt, (made_stored 5 1 one_change refl, (tt, (tt, tt)))))))
 
@@ -140,7 +141,7 @@ history l = let e : ◌≡◌ {A = List Change} [] (one_change ∷ []) = (l.1.1.
 
 pub dead : Lawful (two_vbs 6 dead_and_show) (two_vbs_groups 6 (shown_dead 5))
 dead = both empty_chronicle (two_vbs 6 dead_and_show) (two_vbs_groups 6 (shown_dead 5)) refl
-    (tt, (tt, ((record { new = tt; newest = refl; last = refl; leaves = refl }, (record { another = λ e. cc; anew = λ e. refl }, tt)), (second_new _ _ _ _ _ refl, ((record { another = λ e. cc; anew = λ e. cc }, tt), ((shown _ _ _ refl refl refl refl nothing refl refl as_made (λ _. refl) (λ e. cc), tt), tt))))))
+    (tt, (tt, ((record { new = tt; newest = refl; last = refl; leaves = refl }, (record { another = λ e. cc; anew = λ e. made_here _ _ _ 5 refl refl refl; pending = λ e. cc }, tt)), (second_new _ _ _ _ _ refl, ((record { another = λ e. cc; anew = λ e. cc; pending = λ e. cc }, tt), ((shown _ _ _ refl refl refl refl nothing refl refl as_made (λ _. refl) (λ e. cc), tt), tt))))))
     (tt, (refl, ((refl, tt), ((refl, tt), ((refl, tt), (tt, tt)))))) (refl, (refl, (refl, (refl, (refl, (refl, tt))))))
     (from_two _ _ (λ s. silent_heard _ _ _ s refl))
 

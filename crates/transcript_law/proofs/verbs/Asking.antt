@@ -201,7 +201,7 @@ module _ (n v : ℕ) (w : PlainWorld) (asked : AdminCall) (k : ℕ) (job : admin
   turn_few (Some why) ranged = omega arith
 
 -- what is between is all that there is
-none_beside : (k : ℕ) (front own behind : List Event) → Few k (front ++ (own ++ behind)) → length (turns_in own) ≡ k → Calm front × Calm behind
+pub none_beside : (k : ℕ) (front own behind : List Event) → Few k (front ++ (own ++ behind)) → length (turns_in own) ≡ k → Calm front × Calm behind
 none_beside k front own behind f e =
     let s = turns_sum front (own ++ behind) in let t = turns_sum own behind in
     (empty (turns_in front) (omega (arith, s, t, f, e)), empty (turns_in behind) (omega (arith, s, t, f, e)))

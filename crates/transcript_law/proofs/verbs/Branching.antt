@@ -1,6 +1,6 @@
 -- lines that make a vBucket
 use Rattle.std.specs.Prelude.{◌≡◌, ◌<◌, ◌≤◌, ◌∷◌, ◌++◌, ◌==◌, ◌^◌, if◌then◌else◌}
-use Rattle.transcript_law.proofs.Words.{ℕ, Bool, true, false, List, [], refl, ap, sym, ◌∙◌, subst, arith, ⊎_elim, Option, Some, None, All, option_map, is_some, eqb-true, eqb-false, eq-eqb, ne_eqb, All-nil, All-cons, Answer, Cause, Event, Role, upto}
+use Rattle.transcript_law.proofs.Words.{ℕ, Bool, true, false, List, [], refl, ap, sym, ◌∙◌, subst, arith, inl, ⊎_elim, Option, Some, None, All, option_map, is_some, eqb-true, eqb-false, eq-eqb, ne_eqb, All-nil, All-cons, Answer, Cause, Event, Role, upto}
 use Rattle.transcript_law.proofs.Words.{IsIn, IsNew, with_entry, fork_of, last_seq, map, Position, Branch, branch, hist, hist_here, hist_there, HoldsAt, complete_position, no_spans, Cluster, Member, Move, SoundCluster, happens, made, above, keeps, StartsSound, Plain, new_vb, branch_lines}
 use Rattle.transcript_law.proofs.Words.{Outcome, PlainLink, PlainNode, PlainWorld, with_node_at, on_node, first_cause, refused_or, is_one_of, vb_causes, with_vb, vb_at, replica_causes, replica_at, vb_in, shelf_in, with_branches}
 use Rattle.transcript_law.proofs.Words.{Chronicle, changes_between, after_branch, after_lines, after_role, LawfulFrom, LawfulRole, StaysSound, StreamName, upto_none, vb_step}
@@ -10,7 +10,7 @@ use Rattle.transcript_law.proofs.{invariant.Carried.{all_vbs, places}, invariant
 use Rattle.transcript_law.proofs.invariant.{Agreement.{ClientsTold}, Carried.{all_there}, Carrying.{same_clients}, ClientsKept.{fewer_at, goes_agreed_at}, ClientsTurned.{RoleTold, clients_turned, none_opened}, Owed.{Fewer}}
 use Rattle.transcript_law.specs.{ClientStreams.{past_turn, with_clients_of}, Feeding.{client_in}}
 use Rattle.transcript_law.proofs.lines.Telling.{branch_line}
-use Rattle.transcript_law.proofs.{invariant.Lefts.{left_none}, invariant.Majorities.{alone_counts}, verbs.NodeLines.{node_changed, on_node_by, more_used, new_links, role_row, role_there, role_here}}
+use Rattle.transcript_law.proofs.{invariant.Lefts.{left_none}, invariant.Majorities.{alone_counts}, verbs.NodeLines.{node_changed, on_node_by, risen_anew, more_used, new_links, role_row, role_there, writers_branched, writers_rest, role_here}}
 use Rattle.transcript_law.specs.{Chronicles.{alone}, Lawfulness.{LawfulBranch, fork_in, newest_of}}
 use Rattle.transcript_law.proofs.{invariant.Tables.{at_here, at_there, if_known, id_here, unused, none_there, none_hold}, invariant.Trees.{IsTold, is_told_here, new_untold}, invariant.Wholes.{WholeTo, spanned_none}}
 use Rattle.{branch_model.proofs.Holding.{holds_none}, branch_model.specs.Journals.{place_of}, cluster_model.specs.Clusters.{Disk, blank, front_or, member_fork, opened, promoted}, disk_journals.specs.Arms.{armed_at, under}, node_core.specs.Admin.{noted_answer}}
@@ -253,13 +253,13 @@ module _ (starts : StartsSound) (w : PlainWorld) (r : Chronicle) (c : Cluster) (
         sound = a.sound;
         vbs = made_vbs w r c n v 0 Role.Replica node a known runs none small w.uuids q c (λ m p. refl) (λ m. refl) rows (λ j ne. refl) (λ j. refl)
             (role_here r n v Role.Replica (c.nodes (seat n v)) (new_vb n Role.Replica 0) refl refl (λ e. cc) replica_holds)
-            (λ m p o. role_there r n v Role.Replica m p (c.nodes (seat m p)) (vb_of w m p) o (a.vbs m p));
+            (λ m p o. role_there r n v Role.Replica m p (c.nodes (seat m p)) (vb_of w m p) o (writers_rest r n v Role.Replica refl) (a.vbs m p));
         disks = new_disks w r c n v 0 Role.Replica node a known runs none small w.uuids q c (λ m p. refl) (λ m. refl) rows (λ j ne. refl) (λ j. refl);
         branches = a.branches;
         links = made_links w r c n v 0 Role.Replica node a known runs none small w.uuids q c (λ m p. refl) (λ m. refl) rows (λ j ne. refl) (λ j. refl) (λ k. refl) (λ k p. refl) (λ k. refl);
         differ = a.differ;
         clients = made_clients w r c n v 0 Role.Replica node a known runs none small w.uuids q c (λ m p. refl) (λ m. refl) rows (λ j ne. refl) (λ j. refl) (λ m d. refl)
-            (λ m p o. role_there r n v Role.Replica m p (c.nodes (seat m p)) (vb_of w m p) o (a.vbs m p)) (λ u t. refl) (later_same _ _ refl refl);
+            (λ m p o. role_there r n v Role.Replica m p (c.nodes (seat m p)) (vb_of w m p) o (writers_rest r n v Role.Replica refl) (a.vbs m p)) (λ u t. refl) (later_same _ _ refl refl);
         rests = new_rests w r c n v 0 Role.Replica node a known runs none small w.uuids q c (λ m p. refl) (λ m. refl) rows (λ j ne. refl) (λ j. refl);
       }
 
@@ -374,7 +374,7 @@ module _ (starts : StartsSound) (w : PlainWorld) (r : Chronicle) (c : Cluster) (
 
   active_there : (j p : ℕ) → (j ≡ n → p ≡ v → ⊥) → AgreesAt after j p (risen.nodes (seat j p)) (vb_of w j p)
   active_there j p o = subst (λ x. AgreesAt after j p x (vb_of w j p)) (sym (others (seat j p) (seats_apart j p n v o)))
-      (role_there branched n v Role.Active j p (c.nodes (seat j p)) (vb_of w j p) o (branch_there w r c n v uuid None 0 0 a unused_yet named j p (vb_of w j p) o (a.vbs j p)))
+      (role_there branched n v Role.Active j p (c.nodes (seat j p)) (vb_of w j p) o (writers_branched r n v uuid None 0 0 Role.Active) (branch_there w r c n v uuid None 0 0 a unused_yet named j p (vb_of w j p) o (a.vbs j p)))
 
   active_bare : AgreesIn idle active_world (told_disk_at after n v (record (r.disk_at n v) { there = true })) risen
   active_bare = record {
@@ -440,7 +440,7 @@ module _ (starts : StartsSound) (w : PlainWorld) (r : Chronicle) (n v : ℕ) (sm
       by node known runs None e =
           let free = none_there (node.vbs v) (none_hold (replica_causes node v) e).0 in
           let here = here_is starts w r agrees.0 n v node agrees.1 known runs free small in
-          made_came Role.Replica 0 node known runs free (record { another = role_new r n v Role.Replica here.role; anew = λ is. cc }, tt) (tt, tt)
+          made_came Role.Replica 0 node known runs free (record { another = role_new r n v Role.Replica here.role; anew = λ is. cc; pending = λ is. cc }, tt) (tt, tt)
           (more_used (with_node_at w n (bare node n v Role.Replica 0)) (replica_told starts w r agrees.0 n v node agrees.1 known runs free small) [] (agrees.0, replica_bare starts w r agrees.0 n v node agrees.1 known runs free small))
 
   pub vb_came : (uuid : ℕ) → uuid < 2 ^ 64 → MadeCame Role.Active (on_node w n (vb_at w.uuids n v uuid))
@@ -456,7 +456,7 @@ module _ (starts : StartsSound) (w : PlainWorld) (r : Chronicle) (n v : ℕ) (sm
           let here = unmade starts w r agrees.0 n v uuid node agrees.1 known runs free small p.1.1.1.0 named fits in
           let up : (r.arm_at n).down ≡ false = (subst (PowerIsIf (r.arm_at n)) (ap power_in known) (agrees.1.powers n)).down ∙ runs in
           let read = branch_line r n v uuid None 0 0 up in
-          made_came Role.Active uuid node known runs free (first_branch r n v uuid (agrees.0.nodes (seat n v)) (agrees.0.disks (seat n v)) (agrees.1.fresh uuid p.1.1.1.0) here, (subst (λ b. LawfulRole b n v Role.Active) (sym read) (record { another = role_new (after_branch r n v uuid None 0 0) n v Role.Active here.role; anew = λ is. at_here r.counts_at n v (alone (last_seq 0 (r.held n v))) }), tt)) (tt, (tt, tt))
+          made_came Role.Active uuid node known runs free (first_branch r n v uuid (agrees.0.nodes (seat n v)) (agrees.0.disks (seat n v)) (agrees.1.fresh uuid p.1.1.1.0) here, (subst (λ b. LawfulRole b n v Role.Active) (sym read) (record { another = role_new (after_branch r n v uuid None 0 0) n v Role.Active here.role; anew = λ is. inl (risen_anew r n v uuid None 0 0); pending = λ is. cc }), tt)) (tt, (tt, tt))
           (subst (λ b. Agrees (with_branches (Event.Branch n v uuid None 0 0 ∷ Event.Role n v Role.Active ∷ []) (with_node_at w n (bare node n v Role.Active uuid))) (told_disk_at (after_role b n v Role.Active) n v (record ((after_role b n v Role.Active).disk_at n v) { there = true }))) (sym read)
           (risen starts w r agrees.0 n v uuid node agrees.1 known runs free small p.1.1.1.0 named fits, active_bare starts w r agrees.0 n v uuid node agrees.1 known runs free small p.1.1.1.0 named fits))
 

@@ -1,10 +1,10 @@
 -- the line `down`, from what agrees before it to what agrees after it
-use Rattle.std.specs.Prelude.{◌≡◌, ◌∷◌, ◌++◌}
+use Rattle.std.specs.Prelude.{◌≡◌, ◌≤◌, ◌∷◌, ◌++◌}
 use Rattle.transcript_law.proofs.links.Downing.{Met}
 use Rattle.transcript_law.proofs.links.Downing.{answered_streams}
 use Rattle.transcript_law.proofs.{invariant.Tables.{id_here}, links.Owing.{all_acked}}
 use Rattle.transcript_law.specs.Undone.{AllAcknowledged, is_taking}
-use Rattle.transcript_law.proofs.Words.{List, [], refl, ap, sym, subst, Option, Some, None, Frame, EndReason, Event, StaysSound, Ended, after_job, after_job_fold, job_stepped, DialResult, frame_taken}
+use Rattle.transcript_law.proofs.Words.{List, [], refl, ap, sym, subst, inl, Option, Some, None, Frame, EndReason, Event, StaysSound, Ended, after_job, after_job_fold, job_stepped, DialResult, frame_taken}
 use Rattle.transcript_law.proofs.Words.{frames_taken, after_lines, ℕ, drop, take, ◌∙◌, append-nil, All, frames_in, left_of, Readable, pieces_of_frames, Member, Plain, row_at, after_job_bind, over_why}
 use Rattle.transcript_law.proofs.Words.{dial_bytes, PlainLink, link_number, producer_node, consumer_node, dial_of, moved_len, down_result, StreamName, PlainWorld, Outcome, with_node_at, with_link, Chronicle, Dial}
 use Rattle.transcript_law.proofs.{Words.{Granted, PlainProducer, PlainConsumer}, links.Downing.{RolledAt, broken_answer, lifted_at, StandsAt, StandsWith, Asker, past, Line, so_far, link_now, now, Going, Stage, Reached, linked, counted, ended, asking_next, RefusedNext}}
@@ -24,14 +24,16 @@ use Rattle.{node_world.specs.declared.arm.Arm.{Arm}, node_world.specs.declared.a
 use Rattle.node_world.specs.declared.arm.Fired.TheVariants as fired
 use Rattle.script_text.specs.declared.verb.Verb.TheVariants as verb
 use Rattle.script_text.specs.declared.verb.LinkVerb.TheVariants as link_verb
-use Rattle.{transcript_law.specs.Chronicles.{after_append, after_calls, after_rollback, after_verb, appending, calls_of_append, is_rollback}, vb_calls.specs.Shelves.{Shelf}}
+use Rattle.{transcript_law.specs.Chronicles.{after_append, after_calls, after_moved, after_rollback, after_verb, appending, calls_of_append, is_rise, is_rollback}, vb_calls.specs.Shelves.{Shelf}}
 use Rattle.transcript_law.proofs.{invariant.Agreement.{PowerIsIf}, disks.Disks.{power_in}, links.Downing.{FiredIn}, links.PumpAnswers.{moved_few}}
-use Rattle.transcript_law.specs.{Lawfulness.{IsOpen}, LineAnswers.{GoesBack, IsNoted, IsTakenDown, arm_of_dial, back_of, closed_of_dial}}
+use Rattle.transcript_law.specs.{Lawfulness.{IsOpen}, LineAnswers.{Back, GoesBack, IsBack, IsBroken, IsNoted, IsTakenDown, arm_of_dial, back_of, closed_of_dial}}
 use Rattle.vb_disk.specs.declared.fuse.Fuse.{Fuse}
 use Rattle.vb_disk.specs.declared.fuse.Fuse.TheVariants.{Off}
 use Rattle.vb_events.specs.declared.event.Answer.{Answer}
 use Rattle.vb_events.specs.declared.event.Answer.TheVariants as answer
+use Rattle.vb_events.specs.declared.event.Cause.{Cause}
 use Rattle.vb_events.specs.declared.event.Cause.TheVariants as cause
+use Rattle.transcript_law.proofs.lines.Rises.{no_heir}
 use Rattle.vb_types.specs.declared.journal.Record.{Record}
 
 -- the frames that come whole are taken one after another
@@ -148,14 +150,28 @@ told_of_one : (x : Chronicle) (rolls : Option (ℕ × (ℕ × Record))) (n v : �
     → after_rollback x rolls lines (answer.Number moved) ≡ after_calls calls_of_append n x
 told_of_one x rolls n v what lines moved e f = ap (λ o. after_rollback x o lines (answer.Number moved)) e ∙ ap (λ b. if b then after_calls calls_of_append n x else x) f
 
+-- a rollback is owed where its append fails, stops the node, or finds the journal closed
+abbrev IsOwedBack : Back → Answer → Type 0
+IsOwedBack back (answer.No cause.Closed) = IsBack back
+IsOwedBack back (answer.No cause.Disk) = IsBack back
+IsOwedBack back (answer.No cause.Stopped) = IsBack back
+IsOwedBack back other = Unit {0}
+
 -- where its lines tell that something was taken, all was acknowledged that is due, unless it is refused
 abbrev pub Acknowledges : Chronicle → ℕ → List Event → Answer → Type 0
 Acknowledges r l lines (answer.Number n) = list_any is_taking lines ≡ true → AllAcknowledged (after_lines r lines) l
 Acknowledges r l lines other = Unit {0}
 
+-- its answer, where no vBucket takes its branch over
+abbrev IsRolledDown : ℕ → Back → Bool → Fuse → List Event → Answer → Type 0
+IsRolledDown wanted back closed f lines answer.Ok = ⊥
+IsRolledDown wanted back closed f lines (answer.Number n) = (n ≤ wanted) × (list_any is_rollback lines ≡ true → GoesBack back lines × IsNoted closed f answer.Ok)
+IsRolledDown wanted back closed f lines (answer.Pulled n said) = ⊥
+IsRolledDown wanted back closed f lines (answer.No why) = IsNoted closed f (answer.No why) × IsOwedBack back (answer.No why) × (list_any is_rollback lines ≡ false)
+
 -- a line `down` for the link l
 abbrev DownGoes : Chronicle → ℕ → ℕ → Bool → Fuse → Outcome → Type 0
-DownGoes r l wanted closed f x = GoesOn r (λ told. after_verb r told (verb.AtLink l (link_verb.Down wanted)) x.1.events x.1.answer) x × IsTakenDown wanted (back_of r l) closed f x.1.events x.1.answer × Acknowledges r l x.1.events x.1.answer
+DownGoes r l wanted closed f x = GoesOn r (λ told. after_rollback told (back_of r l) x.1.events x.1.answer) x × IsRolledDown wanted (back_of r l) closed f x.1.events x.1.answer × Acknowledges r l x.1.events x.1.answer
 
 -- one that is refused
 refused_closed : (x : Chronicle) (rolls : Option (ℕ × (ℕ × Record))) → after_rollback x rolls [] (answer.No cause.LinkClosed) ≡ x
@@ -378,7 +394,7 @@ module _ (stays : StaysSound) (w : PlainWorld) (r : Chronicle) (link : PlainLink
     broken_came = came_by how (subst (λ (g : Arm). let f = fired_by g.fuse (arm_in (left.nodes n)).fuse in ArmedCame n noting f (after_lines r events) left (broken_answer f)) (sym (ap arm_in known)) x.came.0)
 
     -- the arm says how
-    answered : (f : Fired) → FiredIn f closed fuse → IsTakenDown wanted (back_of r l) closed fuse (out f).1.events (out f).1.answer
+    answered : (f : Fired) → FiredIn f closed fuse → IsRolledDown wanted (back_of r l) closed fuse (out f).1.events (out f).1.answer
     answered fired.No i = (i, (_, x.rolls), behind_none events (disk_end l) x.came.2 refl)
     answered fired.Failed i = (i, (_, x.rolls), behind_none events (event.CallFailed n ∷ disk_end l) x.came.2 refl)
     answered fired.Stopped i = (i, (_, x.rolls), behind_none events (event.NodeStopped n ∷ down_lines n (Some l) left) x.came.2 (ends_none (down_lines n (Some l) left) (down_ends n (Some l) left)))
@@ -443,11 +459,27 @@ down_came stays w r l wanted a = by (row_at link_number l w.links) refl
         subst (λ j. DownGoes r j wanted (closed_of_dial r (r.dial_of j)) (arm_of_dial r (r.dial_of j)) (with_broken (consumer_node link) j w (at_end w (consumer_node link) link (down_in wanted link)))) is
         (at_node link (subst (λ k. row_at link_number k w.links ≡ Some link) (sym is) e) (w.nodes (consumer_node link)) refl)
 
-pub down_goes : (stays : StaysSound) (w : PlainWorld) (r : Chronicle) (l wanted : ℕ) → Agrees w r → let x = down_step w l wanted in GoesOn r (λ told. after_verb r told (verb.AtLink l (link_verb.Down wanted)) x.1.events x.1.answer) x
-down_goes stays w r l wanted a = (down_came stays w r l wanted a).0
+-- where its lines tell of no vBucket that is active, none took its branch over
+pub down_goes : (stays : StaysSound) (w : PlainWorld) (r : Chronicle) (l wanted : ℕ) → Agrees w r → (let x = down_step w l wanted in list_any is_rise x.1.events ≡ false → GoesOn r (λ told. after_verb r told (verb.AtLink l (link_verb.Down wanted)) x.1.events x.1.answer) x)
+down_goes stays w r l wanted a level = let x : Outcome = down_step w l wanted in let went = (down_came stays w r l wanted a).0 in
+    (went.0, subst (λ heir. Agrees x.0 (after_moved (after_lines r x.1.events) heir (back_of r l) x.1.events x.1.answer)) (sym (no_heir x.1.events level)) went.1)
 
-pub down_answered : (stays : StaysSound) (w : PlainWorld) (r : Chronicle) (l wanted : ℕ) → Agrees w r → IsTakenDown wanted (back_of r l) (closed_of_dial r (r.dial_of l)) (arm_of_dial r (r.dial_of l)) (down_step w l wanted).1.events (down_step w l wanted).1.answer
-down_answered stays w r l wanted a = (down_came stays w r l wanted a).1
+-- so the record is of a rollback, if there is one
+rolled_down : (wanted : ℕ) (back : Back) (closed : Bool) (f : Fuse) (lines : List Event) (said : Answer) → list_any is_rise lines ≡ false → IsRolledDown wanted back closed f lines said → IsTakenDown wanted back closed f lines said
+rolled_down wanted back closed f lines answer.Ok level x = absurd x
+rolled_down wanted back closed f lines (answer.Number n) level x = (x.0, x.1, λ rises. let z : false ≡ true = sym level ∙ rises in cc)
+rolled_down wanted back closed f lines (answer.Pulled n said) level x = absurd x
+rolled_down wanted back closed f lines (answer.No why) level x = (x.0, owed why x.1, x.2)
+  where
+    owed : (why : Cause) → IsOwedBack back (answer.No why) → IsBroken back lines (answer.No why)
+    owed cause.Closed y = inl y
+    owed cause.Disk y = inl y
+    owed cause.Stopped y = inl y
+    owed other y = tt
+
+pub down_answered : (stays : StaysSound) (w : PlainWorld) (r : Chronicle) (l wanted : ℕ) → Agrees w r → (let x = down_step w l wanted in list_any is_rise x.1.events ≡ false → IsTakenDown wanted (back_of r l) (closed_of_dial r (r.dial_of l)) (arm_of_dial r (r.dial_of l)) x.1.events x.1.answer)
+down_answered stays w r l wanted a level = let x : Outcome = down_step w l wanted in
+    rolled_down wanted (back_of r l) (closed_of_dial r (r.dial_of l)) (arm_of_dial r (r.dial_of l)) x.1.events x.1.answer level (down_came stays w r l wanted a).1
 
 pub down_leaves : (stays : StaysSound) (w : PlainWorld) (r : Chronicle) (l wanted n : ℕ) → Agrees w r → (let x = down_step w l wanted in x.1.answer ≡ answer.Number n → list_any is_taking x.1.events ≡ true → AllAcknowledged (after_lines r x.1.events) l)
 down_leaves stays w r l wanted n a e takes = let x : Outcome = down_step w l wanted in subst (Acknowledges r l x.1.events) e (down_came stays w r l wanted a).2 takes

@@ -1,13 +1,13 @@
 -- lines of one node that tell of no branch
-use Rattle.std.specs.Prelude.{◌≡◌, ◌≤◌, ◌∷◌, ◌++◌, ◌==◌, if◌then◌else◌}
+use Rattle.std.specs.Prelude.{◌≡◌, ◌≤◌, ◌∷◌, ◌++◌, ◌==◌, ◌&&◌, if◌then◌else◌}
 use Rattle.transcript_law.proofs.invariant.Clocking.{carries_clock}
 use Rattle.transcript_law.proofs.Words.{ℕ, Bool, true, false, List, refl, ap, sym, ◌∙◌, subst, inl, arith, IsIn, hist, Option, Some, None, is_some, flat_map, eqb-true}
 use Rattle.transcript_law.proofs.Words.{eqb-false, eq-eqb, ne_eqb, Frame, Cause, Member, Cluster, VbReply, Plain, is_active, States, with_vb_at, AdminCall, admin_result, Told, PlainLink}
 use Rattle.transcript_law.proofs.Words.{link_number, producer_node, consumer_node, PlainNode, PlainWorld, Outcome, with_node_at, with_states, branch_of_line, empty_node, done, refusal, first_cause}
 use Rattle.transcript_law.proofs.Words.{refused_or, node_outcome, on_node, clock_at, vb_in, Role, Chronicle, after_role, after_lines, upto, fork_of, holds_same, [], IsNew, Position, complete_position, last_seq, option_map, parent_of, with_at}
 use Rattle.transcript_law.proofs.Words.{stream_at, ⊎_elim, row_at, row_put, with_link, on_link, link_outcome, with_links, LinkResult, StreamName, call_told, node_step, front, told}
-use Rattle.transcript_law.proofs.invariant.Tables.{none_there, at_here, at_there, if_known, used_before}
-use Rattle.transcript_law.specs.Lawfulness.{LawfulBranch, fork_in, newest_of}
+use Rattle.transcript_law.proofs.invariant.Tables.{none_there, at_here, at_there, id_here, if_known, used_before}
+use Rattle.transcript_law.specs.{Heirs.{IsRisen}, Lawfulness.{LawfulBranch, fork_in, newest_of}}
 use Rattle.transcript_law.proofs.{invariant.Lefts.{LeftUpTo}, invariant.Wholes.{WholeTo}}
 use Rattle.transcript_law.proofs.links.Followed.{fork_low}
 use Rattle.transcript_law.proofs.invariant.Seats.{seat, seats_apart}
@@ -18,7 +18,7 @@ use Rattle.transcript_law.proofs.invariant.Carrying.{Reclocked, Relinked, Change
 use Rattle.transcript_law.proofs.invariant.Carried.{kept_same, link_carried, consumer_made, branches_again, KeptVb, places, all_vbs, ids_same}
 use Rattle.transcript_law.proofs.invariant.LinkRows.{found_is_link, put_same as put_link_same}
 use Rattle.transcript_law.proofs.{invariant.OneLink.{carries_rests, carries_same}, invariant.Resting.{ends_again, rests_by}}
-use Rattle.{node_world.specs.Nodes.{if_up}, node_world.specs.Worlds.{on_made}, node_world.specs.declared.arm.Arm.{Arm}, transcript_law.specs.Chronicles.{CountsKnown, after_clock, DiskKnown, alone, no_arm, snap_in_role}}
+use Rattle.{node_world.specs.Nodes.{if_up}, node_world.specs.Worlds.{on_made}, node_world.specs.declared.arm.Arm.{Arm}, transcript_law.specs.Chronicles.{CountsKnown, after_branch, after_clock, DiskKnown, alone, is_branch, no_arm, snap_in_role}}
 use Rattle.transcript_law.proofs.{invariant.Agreement.{AwayAt, BookAgrees, IsAway, Power, PowerIsIf, RestsIn, is_down, is_running, power_of}, invariant.Carrying.{Rearmed, SameClients, SamePowers, same_clients}, disks.Disks.{beside_in, power_in}}
 use Rattle.transcript_law.proofs.{invariant.Agreement.{DiskIsIf, shelf_of, top}, disks.Disks.{disk_same, same_parts}, Words.{SoundCluster, shelf_in}}
 use Rattle.transcript_law.proofs.invariant.Owing.{Later}
@@ -359,9 +359,39 @@ role_row r n v role m q other i = record (vb_row r m q) {
   counts = at_there r.counts_at n v (alone (last_seq 0 (r.held n v))) m q other i;
 }
 
-pub role_there : (r : Chronicle) (n v : ℕ) (role : Role) (m q : ℕ) (k : Member) (o : Option Plain) → (m ≡ n → q ≡ v → ⊥) → AgreesAt r m q k o → AgreesAt (after_role r n v role) m q k o
-role_there r n v role m q k o other a =
-    subst (λ t. VbIsIf r.tree r.writer_of t m q k o) (λ i. sym (role_row r n v role m q other) i) a
+-- nor of who writes, where a vBucket that gets active is the writer of its branch already
+pub writers_same : (r : Chronicle) (n v : ℕ) (role : Role) → (is_active role ≡ true → (u : ℕ) → is_branch (r.branch_at n v) u ≡ true → r.writer_of u ≡ Some (n, v)) → (u : ℕ) → (after_role r n v role).writer_of u ≡ r.writer_of u
+writers_same r n v role wrote u = by (is_active role) (is_branch (r.branch_at n v) u) (λ e f. wrote e u f)
+  where
+    by : (a b : Bool) → (a ≡ true → b ≡ true → r.writer_of u ≡ Some (n, v)) → (if a && b then Some (n, v) else r.writer_of u) ≡ r.writer_of u
+    by true true w = sym (w refl refl)
+    by true false w = refl
+    by false b w = refl
+
+-- so it is of one that does not
+pub writers_rest : (r : Chronicle) (n v : ℕ) (role : Role) → is_active role ≡ false → (u : ℕ) → (after_role r n v role).writer_of u ≡ r.writer_of u
+writers_rest r n v role rests = writers_same r n v role (λ active u on. let z : false ≡ true = sym rests ∙ active in cc)
+
+-- and of one that made a branch
+pub writers_branched : (r : Chronicle) (n v uuid : ℕ) (parent : Option ℕ) (fork high : ℕ) (role : Role) (u : ℕ) → (after_role (after_branch r n v uuid parent fork high) n v role).writer_of u ≡ (after_branch r n v uuid parent fork high).writer_of u
+writers_branched r n v uuid parent fork high role = writers_same (after_branch r n v uuid parent fork high) n v role (λ active u on.
+    let same : uuid ≡ u = eqb-true uuid u (sym (ap (λ o. is_branch o u) (at_here r.branch_at n v (Some uuid))) ∙ on) in
+    ap (after_branch r n v uuid parent fork high).writer_of (sym same) ∙ id_here r.writer_of uuid (Some (n, v)))
+
+-- which made it for itself alone
+pub risen_anew : (r : Chronicle) (n v uuid : ℕ) (parent : Option ℕ) (fork high : ℕ) → IsRisen (after_branch r n v uuid parent fork high) n v
+risen_anew r n v uuid parent fork high = record {
+  uuid = uuid;
+  writer = record { made_or_took = id_here r.writer_of uuid (Some (n, v)); on_branch = at_here r.branch_at n v (Some uuid) };
+  anew = at_here r.counts_at n v (alone (last_seq 0 (r.held n v)));
+}
+
+pub role_there : (r : Chronicle) (n v : ℕ) (role : Role) (m q : ℕ) (k : Member) (o : Option Plain) → (m ≡ n → q ≡ v → ⊥) → ((u : ℕ) → (after_role r n v role).writer_of u ≡ r.writer_of u) → AgreesAt r m q k o → AgreesAt (after_role r n v role) m q k o
+role_there r n v role m q k o other same a = vb_told r (after_role r n v role) m q k o (λ i. role_row r n v role m q other i) writes (λ vb x. refl) a
+  where
+    writes : (b : Bool) → WritesIf b r m q k.br → WritesIf b (after_role r n v role) m q k.br
+    writes false x = tt
+    writes true x = record { branch = x.branch; is_told = x.is_told; writer = same k.br ∙ x.writer; named = x.named }
 
 -- it is in its snapshot, also where it is active, which is at the end of all that it holds
 snap_here : (r : Chronicle) (n v : ℕ) (role : Role) (m : Member) (vb : Plain) → VbHolds r n v m vb → (is_active role ≡ true → vb.position ≡ complete_position vb.position.at) → (after_role r n v role).snap_at n v ≡ r.snap_at n v
@@ -390,12 +420,20 @@ role_here r n v role m vb is sealed leads a = record {
   kept = subst (λ s. VbHeld r.tree (record (vb_contents r n v) { snap = s }) m vb) (sym (snap_here r n v role m vb a (λ e. (leads e).2))) a;
   role = at_here r.role_at n v (Some (Some role)) ∙ ap (λ (x : Role). Some (Some x)) (sym is);
   opened = at_here r.open_at n v false ∙ sym (ap is_some sealed);
-  writes = elim (is_active vb.role) as (λ b. b ≡ is_active role → WritesIf b r n v m.br) [ true ↦ λ e. (leads (sym e)).0 | false ↦ λ e. tt ] (ap is_active is);
+  writes = elim (is_active vb.role) as (λ b. b ≡ is_active role → WritesIf b (after_role r n v role) n v m.br) [ true ↦ λ e. writes_led (leads (sym e)).0 | false ↦ λ e. tt ] (ap is_active is);
   counts = counts_if (λ e. (leads (sym (ap is_active is) ∙ e)).1);
   lefts = λ e. subst (λ (t : CountsKnown). LeftUpTo t.risen vb.position.at vb.waiting) (sym (at_here r.counts_at n v (alone (last_seq 0 (r.held n v)))))
       (subst (λ k. LeftUpTo k vb.position.at vb.waiting) (sym (ap (last_seq 0) a.held ∙ a.high)) (leads (sym (ap is_active is) ∙ e)).3);
   times = times_if (λ e. (leads (sym (ap is_active is) ∙ e)).4);
 }
+  where
+    -- who wrote does, also where the line says so once more
+    either : (b : Bool) → r.writer_of m.br ≡ Some (n, v) → (if b then Some (n, v) else r.writer_of m.br) ≡ Some (n, v)
+    either true e = refl
+    either false e = e
+
+    writes_led : Writes r n v m.br → Writes (after_role r n v role) n v m.br
+    writes_led x = record { branch = x.branch; is_told = x.is_told; writer = either (is_active role && is_branch (r.branch_at n v) m.br) x.writer; named = x.named }
 
 -- a vBucket that changed at links that are as they were: it keeps what its links speak of, and the streams that they have open
 module _ (w w' : PlainWorld) (r r' : Chronicle) (c c' : Cluster) (n v : ℕ) (vb vb' : Plain) (a : AgreesIn idle w r c) (known : vb_of w n v ≡ Some vb) (became : Changed w w' n v vb' w.links) (kept : KeptVb vb vb')

@@ -4,14 +4,14 @@ use Rattle.transcript_law.proofs.Words.{ℕ, true, false, [], refl, ap, sym, sub
 use Rattle.transcript_law.proofs.Words.{ask_in, bytes_at, client_at, clock_at, consumer_node, cut_outcome, done, drop, empty_node, bytes_if, first_cause, hang_at, link_causes, link_number, node_causes, node_step, on_link, on_node, peer_of, peer_pulled, producer_node, pump_at, refusal, row_at, unlinked, up_at, with_client, with_dialed, with_links, with_node_at}
 use Rattle.node_world.specs.{Arms.{fail_arm, stop_arm}, Nodes.{arm_at, hung_if, pull_at, pull_if}, Power.{crash_causes, crash_step, down_lines, dropped, start_at, start_causes, start_step}, World.{base_of, client_verb_at, cut_step, down_in, down_outcome, down_step, link_step, link_verb_step, node_verb_step}, Worlds.{is_off, on_made}, declared.arm.Arm.{Arm}}
 use Rattle.transcript_law.proofs.invariant.LinkRows.{found_is_link}
-use Rattle.transcript_law.proofs.invariant.{AtRest.{RestsIf, Still, bytes_still, down_rests, either_node, hang_still, link_still, pull_still, start_still, still_put, still_ran, still_steps, up_still, weaker}, CallsKept.{InWorld, dropped_all, none_at, on_made_all, unless_all, unlinked_all}, Agreement.{Agrees, GoesOn}, Entering.{Entered, armed_entered, blank_entered, clock_entered, crashed_entered, dial_entered, down_entered, start_line_entered}}
+use Rattle.transcript_law.proofs.invariant.{AtRest.{RestsIf, Still, bytes_still, down_rests, either_node, hang_still, link_still, pull_still, start_still, still_put, still_ran, still_steps, up_still, weaker}, CallsKept.{InWorld, dropped_all, none_at, on_made_all, unless_all, unlinked_all}, Agreement.{Agrees, GoesOn}, Entering.{Entered, armed_entered, blank_entered, clock_entered, crashed_entered, dial_entered, moved_entered, start_line_entered}}
 use Rattle.transcript_law.proofs.invariant.{FedClients.{bytes_keeps, client_keeps, hang_keeps, pull_keeps}, FedLines.{broken_line, cut_fine, dialed_fed, down_fine, pump_fed, same_keeps, start_keeps, unless_fed, up_fed}, Feeding.{dropped_fine, made_fine, with_node as fed_node}, TimelyCalls.{pulled_tame}}
 use Rattle.transcript_law.proofs.invariant.Ranged.{IsRanged, NodeRanged, NodeRangedIf, bytes_ranged, client_ranged, down_ranged, dropped_ranged, hang_ranged, kept_ranged, on_link_ranged, on_made_ranged, pull_ranged, same_ranged, start_at_ranged, unless_ranged, unlinked_ranged, up_ranged, with_node}
 use Rattle.transcript_law.proofs.{invariant.Clients.{client_answered, crash_answered}, disks.AppendLines.{start_says}, disks.Fired.{ends_calm}, lines.Calm.{Spared, bytes_calm, pump_calm, up_calm}, lines.PullTold.{pull_calm, pull_made}, lines.Refusals.{Same, Says, on_link_says, on_node_says, refused_says, unchanged}, links.PumpAnswers.{moved_few, pump_says}}
 use Rattle.transcript_law.proofs.verbs.{BoundAnswers.{bound, bound_at, bound_down, closed_link_refused, crash_refused, link_refused, node_exists, off_as_power, one, over, start_refused}, FiredLines.{down_fires, rows_fire}, LineAnswers.{IsOk, down_line_says, no_ok}}
-use Rattle.transcript_law.proofs.verbs.{ArmLines.{fail_goes, stop_goes}, Crashing.{crash_goes}, Dials.{link_goes}, DownLine.{down_answered, down_goes}, Leaving.{cut_goes}, NodeLines.{as_told, clock_goes, node_goes, on_link_by, on_made_by, on_node_by, refused_on}}
+use Rattle.transcript_law.proofs.verbs.{ArmLines.{fail_goes, stop_goes}, Crashing.{crash_goes}, Dials.{link_goes}, DownLine.{down_answered, down_goes}, Handing.{no_rise}, Leaving.{cut_goes}, NodeLines.{as_told, clock_goes, node_goes, on_link_by, on_made_by, on_node_by, refused_on}}
 use Rattle.transcript_law.proofs.verbs.{Pumping.{pump_goes}, Requesting.{bytes_goes}, Rows.{Goes, Row, alone_row, answered_row, told_goes}, Settling.{steady}, Starting.{start_answered, start_fires, start_goes}, ClientTellings.{bytes_tells, pull_tells}, LinkTellings.{link_tells}, NodeTellings.{crash_tells, start_tells}, StopTellings.{world_dialed}, Tellings.{tell_unless}, Ups.{up_goes}}
-use Rattle.transcript_law.specs.{Bound.{is_told_down}, Chronicles.{after_bytes, known_fail, known_stop}, Firings.{FiresInLine}, Tellings.{TellsOf, is_none, is_of_end}}
+use Rattle.transcript_law.specs.{Bound.{is_told_down}, Chronicles.{after_bytes, heir_in, known_fail, known_stop}, Firings.{FiresInLine}, Tellings.{TellsOf, is_none, is_of_end}}
 use Rattle.node_core.specs.Clients.{new_client}
 use Rattle.transcript_law.proofs.indexers.{Closing.{hang_line_goes, open_line_goes}, Pulled.{pull_goes}}
 use Rattle.vbucket.proofs.Ending.{takes_exactly}
@@ -153,10 +153,10 @@ link_row_of w l (LinkVerb.Down wanted) = let o : Outcome = on_link w l consumer_
   fed = λ fine kept. (broken_line w l found o (down_fine w fine l wanted)).fed;
   keeps = λ rests. (down_line_says w l wanted).1;
   tells = λ r t. link_tells w r t.agrees l t.ranged (LinkVerb.Down wanted);
-  told = λ r fits t. (down_answered stays w r l wanted t.agrees, down_fires w r l wanted t.dials);
+  told = λ r fits t. (down_answered stays w r l wanted t.agrees (no_rise r l wanted came.1.events (link_tells w r t.agrees l t.ranged (LinkVerb.Down wanted))), down_fires w r l wanted t.dials);
   bound = λ r a rule. over w r l _ came.1 a rule (λ none. ap (λ k. (down_outcome w l k o).1) none ∙ closed_link_refused w l consumer_node (down_in wanted) none);
-  entered = λ before r old. down_entered before r (before.dial_of l) (before.point_of l) came.1.events came.1.answer old;
-  goes = λ r fits ranged calm begins a. told_goes (Verb.AtLink l (LinkVerb.Down wanted)) r came (down_goes stays w r l wanted a);
+  entered = λ before r old. moved_entered before r (before.dial_of l) (before.point_of l) (heir_in came.1.events) came.1.events came.1.answer old;
+  goes = λ r fits ranged calm begins a. told_goes (Verb.AtLink l (LinkVerb.Down wanted)) r came (down_goes stays w r l wanted a (no_rise r l wanted came.1.events (link_tells w r a l ranged (LinkVerb.Down wanted))));
 }
 link_row_of w l (LinkVerb.Pump frames) = let f = pump_at frames in let came : Outcome = on_link w l producer_node f in
     let says : Says (λ told. IsPumped frames told.events told.answer) (Same w) came = on_link_says (λ told. IsPumped frames told.events told.answer) w l producer_node f (λ why. tt) (pump_says frames) in record {

@@ -3,7 +3,7 @@ use Rattle.std.specs.Prelude.{◌≡◌, ◌<◌, ◌∷◌, ◌++◌, ◌==◌,
 use Rattle.transcript_law.proofs.Words.{ℕ, Bool, true, false, List, [], refl, ap, sym, ◌∙◌, subst, inl, inr, ⊎_elim, Some, None, not, is_some, eq-eqb, eqb-true, ne_eqb, Answer, Cause, Chronicle, Cluster, Event, Move, Plain, PlainLink, PlainNode, PlainWorld, Change, States, after_lines, newest_branch}
 use Rattle.transcript_law.proofs.Words.{VbAnswer, VbCall, ending_reply, plain_step, after_branch, after_role, consumer_node, fork_of, happens, is_active, is_one_of, led, links_ended, parent_of, producer_node, ended_by, shelf_in, last_seq, stream_ids, vb_in, with_at, with_node_at, with_vb_at}
 use Rattle.transcript_law.proofs.{invariant.Agreement.{Agrees, AgreesAt, AgreesIn, IsLink, Power, PowerIs, PowerIsIf, VbAgrees, idle, shelf_of, vb_of}, disks.Appending.{Noted, noted_node, state_came}, disks.ArmedLines.{ArmedCame}, disks.Burning.{BreaksUnder, StandsUnder, breaks_under, stands_under}}
-use Rattle.transcript_law.proofs.{disks.Disks.{power_in}, verbs.NodeLines.{node_grown, shelves_again}, verbs.RestartCalls.{fate, left, node', reply, what}, verbs.Rising.{promote_is, rose}, verbs.RoleCalls.{said_of}, invariant.Seats.{seat}, invariant.Tables.{at_here}, links.Turning.{NoneFeeds, Turned}}
+use Rattle.transcript_law.proofs.{disks.Disks.{power_in}, verbs.NodeLines.{node_grown, shelves_again, writers_branched}, verbs.RestartCalls.{fate, left, node', reply, what}, verbs.Rising.{promote_is, rose}, verbs.RoleCalls.{said_of}, invariant.Seats.{seat}, invariant.Tables.{at_here}, links.Turning.{NoneFeeds, Turned}}
 use Rattle.transcript_law.proofs.invariant.{Carrying.{same_arms}, Clientless.{known_apart}}
 use Rattle.{node_core.specs.Clients.{client_ended}, std.specs.Option.{option_map}, transcript_law.specs.{ClientStreams.{past_turn}, Feeding.{client_in}}}
 use Rattle.disk_journals.specs.Arms.{under}
@@ -196,7 +196,7 @@ module _ (steady : Steady) (w : PlainWorld) (n : ℕ) (free : NoEnds n w.links) 
 
     -- so its role tells no more than that
     pub active_as : active ≡ record branched { role_at = with_at branched.role_at n v (Some (Some role.Active)); open_at = with_at branched.open_at n v false }
-    active_as = λ i. record branched { role_at = with_at branched.role_at n v (Some (Some role.Active)); open_at = with_at branched.open_at n v false; snap_at = same_snap i; counts_at = same_counts i }
+    active_as = λ i. record branched { role_at = with_at branched.role_at n v (Some (Some role.Active)); open_at = with_at branched.open_at n v false; writer_of = λ u. writers_branched r n v uuid (parent_of vb.log) (fork_of vb.position) vb.position.at role.Active u i; snap_at = same_snap i; counts_at = same_counts i }
 
     pub arm_is : PowerIs (r.arm_at n) power
     arm_is = subst (PowerIsIf (r.arm_at n)) (ap power_in (here node)) (a.powers n)

@@ -8,7 +8,7 @@ use Rattle.transcript_law.proofs.Words.{Move, SoundCluster, happens, member_reac
 use Rattle.transcript_law.proofs.Words.{parent_of, promote_refusal, promoted, led, is_role, with_seal, Sound, StaysSound, PlainWorld, is_one_of, Chronicle, parent_branch, changes_between, after_branch, after_role}
 use Rattle.transcript_law.proofs.{Words.{known_history, []}, invariant.Seats.{seat, seats_apart}, invariant.Tables.{at_here, at_there, id_here, unused}, invariant.Trees.{IsTold, is_told_here, new_untold}, invariant.Forked.{fork_held}, invariant.Wholes.{WholeTo, whole_sealed}}
 use Rattle.transcript_law.proofs.{invariant.Wholes.{spanned_sealed, spanned_active}, invariant.Agreement.{all_rise, vb_of, ChangeFits, EntryFits, BranchAgrees, own_history, VbHolds, VbAgrees, AgreesAt, top, idle, AgreesIn, vb_contents, vb_row}, invariant.OneLink.{put_here}}
-use Rattle.transcript_law.proofs.{invariant.OneLink.{put_there}, links.Sent.{all_in, all_by_each}, links.Followed.{own_is, fork_low}, links.Rolling.{kept_fit}, verbs.NodeLines.{branch_of, role_row, role_there, role_here}, verbs.Branching.{branch_there, new_fits}, invariant.Lefts.{left_risen}, invariant.Majorities.{alone_counts}}
+use Rattle.transcript_law.proofs.{invariant.OneLink.{put_there}, links.Sent.{all_in, all_by_each}, links.Followed.{own_is, fork_low}, links.Rolling.{kept_fit}, verbs.NodeLines.{branch_of, writers_branched, writers_rest, role_row, role_there, role_here}, verbs.Branching.{branch_there, new_fits}, invariant.Lefts.{left_risen}, invariant.Majorities.{alone_counts}}
 use Rattle.transcript_law.proofs.answers.Awaited.{left_none}
 use Rattle.transcript_law.specs.Chronicles.{alone}
 use Rattle.transcript_law.proofs.{links.Turning.{NoneFeeds, Turned, put_itself, turned_agrees, turned_disks, turned_rests}, invariant.Carried.{branches_again, ids_same, all_vbs}}
@@ -58,7 +58,7 @@ module _ (stays : StaysSound) (w w' : PlainWorld) (r : Chronicle) (c : Cluster) 
 
   rest_there : (m q : ℕ) → (m ≡ n → q ≡ v → ⊥) → AgreesAt rest_lines m q (rest_cluster.nodes (seat m q)) (vb_of w m q)
   rest_there m q other = subst (λ x. AgreesAt rest_lines m q x (vb_of w m q)) (sym (put_there c.nodes seated (yielded (c.nodes seated)) (seat m q) (seats_apart m q n v other)))
-      (role_there r n v new m q (c.nodes (seat m q)) (vb_of w m q) other (a.vbs m q))
+      (role_there r n v new m q (c.nodes (seat m q)) (vb_of w m q) other (writers_rest r n v new rests) (a.vbs m q))
 
   -- the vBucket rests, and all agrees
   pub rested : AgreesIn idle w' rest_lines rest_cluster
@@ -243,7 +243,7 @@ module _ (steady : Steady) (w w' : PlainWorld) (r : Chronicle) (c : Cluster) (n 
 
   there : (i q : ℕ) → (i ≡ n → q ≡ v → ⊥) → AgreesAt r' i q (c'.nodes (seat i q)) (vb_of w i q)
   there i q other = subst (λ x. AgreesAt r' i q x (vb_of w i q)) (sym (put_there c.nodes k (raised m uuid) (seat i q) (seats_apart i q n v other)))
-      (role_there branched n v Active i q (c.nodes (seat i q)) (vb_of w i q) other (branch_there w r c n v uuid (parent_of vb.log) fork high a unused_yet named i q (vb_of w i q) other (a.vbs i q)))
+      (role_there branched n v Active i q (c.nodes (seat i q)) (vb_of w i q) other (writers_branched r n v uuid (parent_of vb.log) fork high Active) (branch_there w r c n v uuid (parent_of vb.log) fork high a unused_yet named i q (vb_of w i q) other (a.vbs i q)))
 
   -- the lines tell nothing of another vBucket
   branch_row : (i q : ℕ) → (i ≡ n → q ≡ v → ⊥) → vb_row branched i q ≡ vb_row r i q

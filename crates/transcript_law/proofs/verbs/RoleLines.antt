@@ -1,7 +1,7 @@
 -- the lines `promote`, `follow`, `dead`, `seal` and `log`
 use Rattle.{node_world.specs.Nodes.{with_clients_ended}, transcript_law.specs.{Chronicles.{alone}, Feeding.{IsOfClient, client_in}}}
 use Rattle.std.specs.Prelude.{◌≡◌, ◌<◌, ◌∷◌, ◌++◌, ◌==◌, ◌^◌, if◌then◌else◌, not}
-use Rattle.transcript_law.proofs.Words.{ℕ, last_seq, All, Bool, true, false, List, refl, ap, sym, ◌∙◌, subst, append-nil, Option, Some, None, is_some, flat_map, option_map, eqb-false, eqb-true, eq-eqb, ne_eqb, Cause, Event, Role, Cluster, Move, happens, Plain, plain_step, is_active, refusal_reply, with_vb_at, call_at, stream_ids, in_role, ending_reply, parent_of, led, Change}
+use Rattle.transcript_law.proofs.Words.{ℕ, last_seq, inl, All, Bool, true, false, List, refl, ap, sym, ◌∙◌, subst, append-nil, Option, Some, None, is_some, flat_map, option_map, eqb-false, eqb-true, eq-eqb, ne_eqb, Cause, Event, Role, Cluster, Move, happens, Plain, plain_step, is_active, refusal_reply, with_vb_at, call_at, stream_ids, in_role, ending_reply, parent_of, led, Change}
 use Rattle.transcript_law.proofs.Words.{is_role, with_seal, fork_of, holds_fewer, Sound, StaysSound, AdminCall, AdminResult, admin_call, admin_replied, PlainLink, PlainNode, PlainWorld, Outcome, with_branches}
 use Rattle.transcript_law.proofs.Words.{with_node_at, with_links, with_states, node_outcome, vb_in, first_cause, refused_or, is_one_of, branch_of_line, on_node, own_link, cut_off, link_ended, links_ended, unlinked, with_ended}
 use Rattle.transcript_law.proofs.Words.{admin_line, no_node, turned_after, role_outcome, turn_causes, turn_step, Chronicle, after_lines, with_at, LawfulFrom, [], EndReason, VbAnswer, VbReply, producer_node, node_if, LawfulRole, States, VbCall, after_branch, after_line, after_role, newest_branch, Status, turn_row, seal_row, role_changed, after_cuts, promote_step, after_seal, uuid_causes, role_causes, shelf_in}
@@ -20,7 +20,7 @@ use Rattle.transcript_law.proofs.invariant.Wholes.{WholeTo, whole_sealed, spanne
 use Rattle.transcript_law.proofs.invariant.Agreement.{vb_of, own_history, VbAgrees, AgreesAt, idle, AgreesIn, Agrees, GoesOn, LineGoes, vb_row}
 use Rattle.transcript_law.proofs.invariant.Carrying.{Changed}
 use Rattle.transcript_law.proofs.invariant.Carried.{agrees_carried, fed_same}
-use Rattle.transcript_law.proofs.verbs.NodeLines.{as_told, node_changed, node_grown, refused_on, agrees_same, node_of_same_vbs, put_same, more_used, admin_by, changed_agrees, on_node_by}
+use Rattle.transcript_law.proofs.verbs.NodeLines.{as_told, risen_anew, node_changed, node_grown, refused_on, agrees_same, node_of_same_vbs, put_same, more_used, admin_by, changed_agrees, on_node_by}
 use Rattle.transcript_law.proofs.verbs.Writing.{mine as own_vb}
 use Rattle.transcript_law.proofs.links.Turning.{Turned}
 use Rattle.transcript_law.proofs.verbs.Leaving.{links_left, cut_lines, cut_off_goes, own_told, same_number, over_agrees, own_found}
@@ -318,7 +318,7 @@ turn_done vb new e = ap (λ b. if b then (vb, refusal_reply Status.NotMyVbucket)
 module _ (stays : StaysSound) (steady : Steady) (r : Chronicle) (n v : ℕ) (new : Role) (asked : AdminCall) (rests : is_active new ≡ false) (row : (vb : Plain) → plain_step vb (admin_call asked) ≡ turn_row vb new)
     (timely : (vb : Plain) → Sound vb → Sound (plain_step vb (admin_call asked)).0)
     (line_is : (vb : Plain) → admin_replied n v asked (ending_reply vb VbAnswer.Done) ≡ role_changed (ending_reply vb VbAnswer.Done) (Event.Role n v new ∷ []))
-    (job_is : admin_job n v asked ≡ role_at n v asked) (new_is : role_of_call (admin_call asked) ≡ new) where
+    (job_is : admin_job n v asked ≡ role_at n v asked) (new_is : role_of_call (admin_call asked) ≡ new) (settled_in : new ≡ Role.Pending → ⊥) where
   turned_goes : (w : PlainWorld) (vb : Plain) → IsRanged w → AllDurable r.made → Agrees w r → vb_of w n v ≡ Some vb → is_role vb.role new ≡ false → (own : Option PlainLink) → own_link n v w.links ≡ own → NotingGoes n (role_noted_so n v new) w r (role_outcome n v asked w)
   turned_goes w vb ranged calm a known other own e =
       let x = cut_off_goes w r n v a own e in
@@ -335,7 +335,7 @@ module _ (stays : StaysSound) (steady : Steady) (r : Chronicle) (n v : ℕ) (new
       (λ y some i. let (p, k) = waiting_claims w r n v vb conns old.sound a.1.clients.owed known (λ d. refl) y some i in (p, claim_read r q1 n conns (later_on r q q1 same (later_same q q1 refl refl)) (λ d. turn_asked q.clients_at n v (q.held n v) n d ∙ alike d) v y p k)) in
       subst (λ k. NotingGoes n (role_noted_so n v k) w r (role_outcome n v asked w)) new_is
       (role_goes stays steady w r n v asked vb (in_role vb new) a known ranged (ending_reply vb VbAnswer.Done) is refl line (line_is vb) job_is refl paid (λ q same. subst AllDurable (sym same) calm) own e
-      (record { another = other_role_known r1 n v (x.cluster.nodes (seat n v)) vb new old other; anew = λ is. let active : is_active new ≡ true = ap is_active is in cc }, tt) (tt, tt) (
+      (record { another = other_role_known r1 n v (x.cluster.nodes (seat n v)) vb new old other; anew = λ is. let active : is_active new ≡ true = ap is_active is in let z : false ≡ true = sym rests ∙ active in cc; pending = λ is. absurd (settled_in is) }, tt) (tt, tt) (
         happens x.cluster (Move.Yield (seat n v)),
         rested stays w0 (turned_with stays steady w r n v asked vb (in_role vb new) a known ranged (ending_reply vb VbAnswer.Done) is refl line (line_is vb) job_is refl paid (λ q same. subst AllDurable (sym same) calm) links []) r1 x.cluster n v vb new (admin_call asked) x.agrees known x.free rests is (timely vb)
             (turn_became stays steady w r n v asked vb (in_role vb new) a known ranged (ending_reply vb VbAnswer.Done) is refl line (line_is vb) job_is refl paid (λ q same. subst AllDurable (sym same) calm) links []) (append-nil w.uuids),
@@ -346,10 +346,10 @@ module _ (stays : StaysSound) (steady : Steady) (r : Chronicle) (n v : ℕ) (new
 
 -- `follow N V` and `dead N V`, before it is asked whether the arm fired
 pub follow_goes : StaysSound → Steady → (w : PlainWorld) (r : Chronicle) (n v : ℕ) → IsRanged w → AllDurable r.made → Agrees w r → NotingGoes n (role_noted_so n v Role.Replica) w r (turn_step w n v Role.Replica AdminCall.Follow)
-follow_goes stays steady w r n v ranged calm a = turn_goes stays steady r n v Role.Replica AdminCall.Follow refl (λ vb. refl) (λ vb s. stays vb VbCall.Follow s tt) (λ vb. refl) refl refl w ranged calm a
+follow_goes stays steady w r n v ranged calm a = turn_goes stays steady r n v Role.Replica AdminCall.Follow refl (λ vb. refl) (λ vb s. stays vb VbCall.Follow s tt) (λ vb. refl) refl refl (λ e. cc) w ranged calm a
 
 pub dead_goes : StaysSound → Steady → (w : PlainWorld) (r : Chronicle) (n v : ℕ) → IsRanged w → AllDurable r.made → Agrees w r → NotingGoes n (role_noted_so n v Role.Dead) w r (turn_step w n v Role.Dead AdminCall.Dead)
-dead_goes stays steady w r n v ranged calm a = turn_goes stays steady r n v Role.Dead AdminCall.Dead refl (λ vb. refl) (λ vb s. stays vb VbCall.Dead s tt) (λ vb. refl) refl refl w ranged calm a
+dead_goes stays steady w r n v ranged calm a = turn_goes stays steady r n v Role.Dead AdminCall.Dead refl (λ vb. refl) (λ vb s. stays vb VbCall.Dead s tt) (λ vb. refl) refl refl (λ e. cc) w ranged calm a
 
 -- `promote N V U`
 not_active : (x : Role) → is_role x Role.Active ≡ false → is_active x ≡ false
@@ -406,7 +406,7 @@ module _ (stays : StaysSound) (steady : Steady) (r : Chronicle) (n v uuid : ℕ)
       role_goes stays steady w r n v (AdminCall.Promote uuid) vb made.vb a known ranged (also_resolved reply made).1 is refl line line_is refl refl paid
       (λ q same. durable_told (after_lines q (Event.Branch n v uuid parent fork high ∷ Event.Role n v Role.Active ∷ [])) n v uuid s.cs (subst (All OfDurable) s.changes (durable_settled led_vb)) (subst AllDurable (sym same) calm)) own e (
         branch_lawful steady w0 w0 r1 c1 n v uuid vb x.agrees known x.free rests unused named small,
-        subst (λ b. LawfulRole b n v Role.Active × LawfulFrom (after_role b n v Role.Active) own_lines_are) (sym read) (record { another = other_role_known r1 n v (c1.nodes (seat n v)) vb Role.Active old other; anew = λ is. at_here r1.counts_at n v (alone (last_seq 0 (r1.held n v))) }, s.lawful),
+        subst (λ b. LawfulRole b n v Role.Active × LawfulFrom (after_role b n v Role.Active) own_lines_are) (sym read) (record { another = other_role_known r1 n v (c1.nodes (seat n v)) vb Role.Active old other; anew = λ is. inl (risen_anew r1 n v uuid parent fork high); pending = λ is. cc }, s.lawful),
       )
       (tt, (tt, changes_quiet n v uuid s.cs))
       (subst (λ b. Agrees (turned_at w n v node made.vb ids links (flat_map branch_of_line line)) (after_lines (after_role b n v Role.Active) own_lines_are)) (sym read)

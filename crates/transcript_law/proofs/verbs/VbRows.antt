@@ -1,7 +1,7 @@
 -- what the law needs of each line for a vBucket
 use Rattle.std.specs.Prelude.{◌≡◌, ◌∷◌, ◌++◌, if◌then◌else◌}
 use Rattle.transcript_law.proofs.indexers.Beside.{beside}
-use Rattle.transcript_law.proofs.Words.{ℕ, Bool, false, List, refl, ap, sym, subst, Option, Some, None, is_some, not, Answer, Cause, Event, Role, Chronicle, Verb, VbVerb, VerbFits, AdminCall, VbAnswer, VbCall, PlainNode, PlainWorld, Outcome, Told, LawfulAnswer, EndsWith, IsPromotion, IsTurn, IsSealed}
+use Rattle.transcript_law.proofs.Words.{ℕ, Bool, true, false, arith, List, refl, ap, sym, subst, Option, Some, None, is_some, not, Answer, Cause, Event, Role, Chronicle, Verb, VbVerb, VerbFits, AdminCall, VbAnswer, VbCall, PlainNode, PlainWorld, Outcome, Told, LawfulAnswer, EndsWith, IsPromotion, IsTurn, IsSealed}
 use Rattle.transcript_law.proofs.Words.{admin_call, admin_line, after_job, after_verb, called_at, first_cause, on_node, lift, quiet_reply, refused_or, promote_causes, turn_causes, replica_causes, role_causes, role_outcome, uuid_causes, vb_causes, vb_in, starts, stays, wholes}
 use Rattle.{node_core.specs.Admin.{admin_at, admin_job, role_at}, vb_calls.specs.Durable.{expired, then_settled}, vb_calls.specs.Settling.{also_resolved, settled}}
 use Rattle.node_world.specs.{Arms.{placed}, Dues.{done_step}, Nodes.{chain_causes, chain_line, chain_made, flush_line, save_line, tick_line, vb_made}, Power.{with_arm}, World.{vb_verb_step}, Worlds.{is_off}}
@@ -16,10 +16,20 @@ use Rattle.transcript_law.proofs.verbs.{Branching.{replica_goes, vb_goes}, Chain
 use Rattle.transcript_law.specs.LawfulAnswers.{IsStill}
 use Rattle.transcript_law.proofs.verbs.{Rows.{Goes, Row, alone_row, answered_row, node_spared, told_goes}, Saving.{save_goes}, Settling.{steady}, Showing.{show_goes}}
 use Rattle.transcript_law.proofs.verbs.{StopTellings.{AreDialed, world_dialed}, VbTellings.{chain_tells, dead_tells, done_tells, follow_tells, log_tells, made_tells, promote_tells, save_tells, seal_tells, show_tells, stat_tells, take_tells, tick_tells}}
-use Rattle.transcript_law.specs.{Chronicles.{ahead}, Firings.{FiresAsSaid, FiresInLine, may_write}, LineAnswers.{IsTaken, KindAnswer, vb_kind}, Tellings.{TellsOf}}
+use Rattle.transcript_law.specs.{Chronicles.{ahead}, Firings.{FiresAsSaid, FiresInLine, may_write}, LineAnswers.{IsTaken, KindAnswer, SealsAs, vb_kind}, Tellings.{TellsOf}}
 use Rattle.transcript_law.specs.LineAnswers as kind
 use Rattle.vb_types.specs.declared.journal.FlushPart.TheVariants as part
 use Rattle.vbucket.specs.Laws.{IsTimely}
+
+-- so many are sealed as of a vBucket of any role
+sealed_as : (at : Option (Option Role)) (changed : Bool) (count : ℕ) → count ≡ (if changed then 1 else 0) → SealsAs at changed count
+sealed_as (Some (Some Role.Pending)) true count e = omega (arith, e)
+sealed_as (Some (Some Role.Pending)) false count e = omega (arith, e)
+sealed_as other changed count e = e
+
+-- the answer to a line `seal`, where the vBucket may have been told in any role
+pub seal_told : (w : PlainWorld) (r : Chronicle) (n v : ℕ) (at : Option (Option Role)) → AllTold w r → Says (λ told. IsSealed at (r.open_at n v) told.answer) (Same w) (on_node w n (admin_line n v AdminCall.Seal))
+seal_told w r n v at told = admin_says (λ x. IsSealed at (r.open_at n v) x.answer) w n v AdminCall.Seal refl (λ why. tt) (λ vb has. (sealed_as at (r.open_at n v) _ (ap (λ b. if b then 1 else 0) (sym (told.0 n v vb has))), λ why e s. cc))
 
 module _ (w : PlainWorld) (n v : ℕ) where
   -- what is told of logs behind a line, and that it goes on
@@ -110,7 +120,7 @@ module _ (w : PlainWorld) (n v : ℕ) where
       (λ r told. on_node_says IsOk w n (tick_line n v) no_ok (λ node known. settled_says n v (VbCall.Tick node.clock) node (λ vb. then_settled (expired node.clock vb)) (λ vb. refl) (λ vb. refl)))
       (λ r fits ranged calm begins a. tick_line_goes stays steady w (record r { ticks = Some (n, v) }) n v refl ranged calm.0 (a.0, beside w r r.conn_at r.made (Some (n, v)) r.changed a.0 (λ one durable i. i) a.1))
   vb_row_of VbVerb.Seal = admin_row VbVerb.Seal AdminCall.Seal refl refl tt (λ before r lines said old. seal_entered r n v said old) (λ told. seal_tells told w n v)
-      (λ r told. admin_says (λ x. IsSealed (r.open_at n v) x.answer) w n v AdminCall.Seal refl (λ why. tt) (λ vb has. (ap (λ b. if b then 1 else 0) (sym (told.0 n v vb has)), λ why e s. cc))) (λ r a. seal_goes stays w r n v a)
+      (λ r told. seal_told w r n v (r.role_at n v) told) (λ r a. seal_goes stays w r n v a)
   vb_row_of VbVerb.Take = answered_row (λ r told. KeptIn w n → IsTaken n v told.events told.answer) w (Verb.AtVb n v VbVerb.Take) n (flush_line n v part.Take) (λ r. (refl, λ told s. s)) (λ before r lines said old. old) (λ fits node up r. flush_ranged n v part.Take node r)
       (flush_still n v part.Take) (flush_keeps n v part.Take) (λ node r. flush_spared n v part.Take (take_taken v) node r.own) (λ told node r. take_tells told w n v node) (λ r told. take_line_says w n v) (λ r t answered. answered (kept_in w n t.ranged)) (λ r fits ranged calm begins a. take_goes stays steady wholes w r n v ranged a)
   vb_row_of VbVerb.Save = let o : Outcome = on_node w n (save_line n v) in let x : Told = (with_arm n w o).1 in record {

@@ -7,6 +7,7 @@ use Rattle.transcript_law.specs.Contrary.{promoted_groups, promotes_dead, risen_
 use Rattle.transcript_law.specs.TellingRows.{ends_at}
 use Rattle.transcript_law.specs.Transcripts.{active_vb_lines}
 use Rattle.vb_events.specs.declared.event.Answer.TheVariants as answer
+use Rattle.transcript_law.proofs.lines.Rises.{made_here}
 
 pub returns : goal.returns
 returns c = record {
@@ -23,7 +24,7 @@ returns c = record {
   made_twice = not_made (made_at 0 0 5 ∷ in_role 0 0 Role.Active ∷ in_role 0 0 Role.Active ∷ []) refl;
   made_failed = not_failed [] refl;
   promoted = whole after_dead promotes_dead (promoted_groups 1 risen_lines answer.Ok) refl
-      (((record { new = (λ e. omega arith, tt); newest = refl; last = refl; leaves = refl }, (record { another = λ e. cc; anew = λ e. refl }, tt)), (refl, tt), refl), tt) (shut_heard after_dead promotes_dead (promoted_groups 1 risen_lines answer.Ok) (λ n c. refl) refl);
+      (((record { new = (λ e. omega arith, tt); newest = refl; last = refl; leaves = refl }, (record { another = λ e. cc; anew = λ e. made_here _ _ _ 7 refl refl refl; pending = λ e. cc }, tt)), (refl, tt), refl), tt) (shut_heard after_dead promotes_dead (promoted_groups 1 risen_lines answer.Ok) (λ n c. refl) refl);
   promoted_no_branch = not_promoted (in_role 0 0 Role.Active ∷ []) refl;
   promoted_other_id = not_promoted (made_at 0 0 6 ∷ in_role 0 0 Role.Active ∷ []) refl;
   promoted_round = not_promoted (in_role 0 0 Role.Active ∷ made_at 0 0 7 ∷ []) refl;

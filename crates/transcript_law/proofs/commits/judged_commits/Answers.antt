@@ -1,9 +1,10 @@
 use Rattle.std.specs.Prelude.{◌≡◌, ◌≤◌, ◌∷◌}
-use Rattle.transcript_law.proofs.Words.{ℕ, [], length, ap, sym, ◌∙◌, refl, inl, inr, ⊎_elim, arith}
+use Rattle.transcript_law.proofs.Words.{ℕ, [], length, ap, sym, ◌∙◌, refl, inl, inr, ⊎_elim, arith, Option, Some, Role}
 use Rattle.transcript_law.specs.Chronicles.{CountsKnown}
 use Rattle.transcript_law.proofs.rows.CommitRows.{again_held, again_lawful, anew_held, anew_lawful, started_held, may, must, one_at_least, two_at_least}
 use Rattle.vb_types.specs.declared.change.Level.TheVariants.{Majority, MajorityPersistActive, PersistMajority}
 use Rattle.transcript_law.proofs.commits.judged_commits.Goals as goal
+use Rattle.transcript_law.proofs.lines.Rises.{made_here}
 
 pub returns : goal.returns
 returns c = record {
@@ -40,9 +41,9 @@ returns c = record {
   again = (again_lawful _ _ (record { members = []; differ = tt; each = tt; most = omega arith; saved_for = λ w. absurd w }), tt);
   again_chained = λ l. let x = one_at_least (again_held _ _ l.0) (omega arith) in absurd x.2;
   again_counted = (again_lawful _ _ (record { members = 1 ∷ []; differ = (λ i. i, tt); each = ((inl refl, inl (refl, omega arith)), tt); most = omega arith; saved_for = λ w. absurd w }), tt);
-  alone_again = (record { another = λ e. cc; anew = λ e. refl }, tt);
-  chained_active = λ l. let same : ◌≡◌ {A = ℕ} 1 0 = ap (λ (t : CountsKnown). length t.chain) (l.0.anew refl) in absurd (omega (arith, same));
-  crashed = (record { another = λ e. cc; anew = λ e. refl }, tt);
+  alone_again = (record { another = λ e. cc; anew = λ e. made_here _ _ _ 5 refl refl refl; pending = λ e. cc }, tt);
+  chained_active = λ l. ⊎_elim (λ risen. let same : ◌≡◌ {A = ℕ} 1 0 = ap (λ (t : CountsKnown). length t.chain) risen.anew in absurd (omega (arith, same))) (λ heir. let z : ◌≡◌ {A = Option (Option Role)} (Some (Some Role.Dead)) (Some (Some Role.Pending)) = heir.pending in cc) (l.0.anew refl);
+  crashed = (record { another = λ e. cc; anew = λ e. made_here _ _ _ 5 refl refl refl; pending = λ e. cc }, tt);
   anew = (anew_lawful _ _ (record { members = []; differ = tt; each = tt; most = omega arith; saved_for = λ w. absurd w }), tt);
   anew_chained = λ l. let x = one_at_least (anew_held _ _ l.0) (omega arith) in absurd x.2;
 }
